@@ -1,0 +1,17 @@
+//! The types that every part of the gateway shares: octets, addresses, suites, keys and faults.
+#![tactic(auto)]
+
+mod addresses;
+mod faults;
+mod keys;
+mod octets;
+mod suites;
+
+pub use addresses::{Address, CallId, Kind, Side};
+pub use faults::{
+    DropCause, Failed, HeadFault, IndexFault, MikeyFault, NoMemory, ScriptFault, SdesFault,
+    SdpFault,
+};
+pub use keys::{CipherKey, HalfKeys, MasterKey, SessionKeys};
+pub use octets::Octets;
+pub use suites::Suite;
