@@ -1,4 +1,5 @@
 pub mod Faults
+pub mod Identities
 pub mod Keys
 pub mod Octets
 pub mod Suites

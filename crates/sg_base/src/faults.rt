@@ -2,7 +2,7 @@
 //! no octet of a key.
 
 ghost use Rattle.std.specs.Prelude.{◌≡◌};
-ghost use Rattle.sg_base.specs.Faults.{drop_cause_number};
+ghost use Rattle.sg_base.specs.Faults.{drop_cause_number, psk_fault_number, refusal_number};
 
 use std::alloc::{AllocError, AllocFailed};
 
@@ -134,6 +134,94 @@ impl DropCause {
             DropCause::NotLive => 16,
             DropCause::TooLong => 17,
             DropCause::SourceUnknown => 18,
+        }
+    }
+}
+
+/// Why a pre-shared-key exchange is refused (RFC 3830).
+#[derive(Clone, Copy, Debug, PartialEq, Eq)]
+pub enum PskFault {
+    IdUnknown,
+    BadMac,
+    Skew { stamp: i64, now: u64 },
+    Repeated,
+    Algorithm,
+    KeyType,
+    CacheFull,
+    OtherSession,
+}
+
+/// Why a message's crypto sessions don't fit the media (RFC 3830, RFC 4567).
+#[derive(Clone, Copy, Debug, PartialEq, Eq)]
+pub enum CsFault {
+    CsCount = 1,
+    PolicyMissing = 2,
+    PolicyValue = 3,
+}
+
+/// Why a signal is refused. A medium counts from 0, and 255 is the session level.
+#[derive(Clone, Copy, Debug, PartialEq, Eq)]
+pub enum Refusal {
+    Sdp { line: u32, fault: SdpFault },
+    Sdes { medium: u8, fault: SdesFault },
+    Mikey { medium: u8, offset: u32, fault: MikeyFault },
+    Psk { medium: u8, fault: PskFault },
+    Cs { medium: u8, fault: CsFault },
+    KeyMgmt { medium: u8 },
+    KeyReused { number: u32 },
+    RingFull,
+    NoMedia,
+    MediaCount,
+    TableFull,
+    CallKnown,
+    CallUnknown,
+    PskKnown,
+    PskFull,
+    TickBack { last: u64 },
+    State,
+}
+
+impl PskFault {
+    /// The fault's number, from 1.
+    pub fn number(self) -> u8
+        ensures { result ≡ psk_fault_number self }
+    {
+        match self {
+            PskFault::IdUnknown => 1,
+            PskFault::BadMac => 2,
+            PskFault::Skew { .. } => 3,
+            PskFault::Repeated => 4,
+            PskFault::Algorithm => 5,
+            PskFault::KeyType => 6,
+            PskFault::CacheFull => 7,
+            PskFault::OtherSession => 8,
+        }
+    }
+}
+
+impl Refusal {
+    /// The refusal's number, from 1; 17 to 19 aren't used.
+    pub fn number(self) -> u8
+        ensures { result ≡ refusal_number self }
+    {
+        match self {
+            Refusal::Sdp { .. } => 1,
+            Refusal::Sdes { .. } => 2,
+            Refusal::Mikey { .. } => 3,
+            Refusal::Psk { .. } => 4,
+            Refusal::Cs { .. } => 5,
+            Refusal::KeyMgmt { .. } => 6,
+            Refusal::KeyReused { .. } => 7,
+            Refusal::RingFull => 8,
+            Refusal::NoMedia => 9,
+            Refusal::MediaCount => 10,
+            Refusal::TableFull => 11,
+            Refusal::CallKnown => 12,
+            Refusal::CallUnknown => 13,
+            Refusal::PskKnown => 14,
+            Refusal::PskFull => 15,
+            Refusal::TickBack { .. } => 16,
+            Refusal::State => 20,
         }
     }
 }

@@ -3,15 +3,17 @@
 
 mod addresses;
 mod faults;
+mod identities;
 mod keys;
 mod octets;
 mod suites;
 
 pub use addresses::{Address, CallId, Kind, Side};
 pub use faults::{
-    DropCause, Failed, HeadFault, IndexFault, MikeyFault, NoMemory, ScriptFault, SdesFault,
-    SdpFault,
+    CsFault, DropCause, Failed, HeadFault, IndexFault, MikeyFault, NoMemory, PskFault, Refusal,
+    ScriptFault, SdesFault, SdpFault,
 };
+pub use identities::{Identity, Noise304};
 pub use keys::{CipherKey, HalfKeys, MasterKey, SessionKeys};
 pub use octets::Octets;
 pub use suites::Suite;
