@@ -5,6 +5,7 @@ mod addresses;
 mod faults;
 mod identities;
 mod keys;
+mod numbers;
 mod octets;
 mod suites;
 
@@ -15,5 +16,6 @@ pub use faults::{
 };
 pub use identities::{Identity, Noise304};
 pub use keys::{CipherKey, HalfKeys, MasterKey, SessionKeys};
+pub use numbers::{octets_of_u32, read_u16, read_u32};
 pub use octets::Octets;
 pub use suites::Suite;

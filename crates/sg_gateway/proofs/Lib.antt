@@ -1,0 +1,5 @@
+pub mod RawArrivals
+pub mod RawDatagrams
+pub mod RawKept
+pub mod RawOpenedAndPut
+pub mod RawPutOut

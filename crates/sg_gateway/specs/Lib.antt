@@ -1,0 +1,4 @@
+pub mod RawHeadline
+pub mod RawRuns
+pub mod RawStep
+pub mod RawWorld

@@ -1,0 +1,18 @@
+//! What a run of the gateway means: worlds, their steps, and the laws over every list of events.
+#![tactic(auto)]
+
+ghost use Rattle.std.specs.Prelude.{List};
+ghost use Rattle.sg_session.specs.RawPacket.{Sealed};
+ghost use Rattle.sg_gateway.specs.RawStep.{Event};
+ghost use Rattle.sg_gateway.specs.RawHeadline.{AreSealed, Unforged, EachOpeningIsSealed, OnlyOpeningsGoOut, NoneTwice, NoneTwiceUnderKey, EachArrivingIsPutOut};
+
+/// Nothing forged, nothing twice, nothing within reach lost, for every list of events and every list
+/// of sealed packets, over worlds of one call under raw keys.
+pub fn raw_headline()
+    ensures sealed { (events : List Event) (sealed : List Sealed) → Unforged sealed events → EachOpeningIsSealed sealed events }
+    ensures only { (events : List Event) → OnlyOpeningsGoOut events }
+    ensures session { (events : List Event) → NoneTwice events }
+    ensures key { (events : List Event) → NoneTwiceUnderKey events }
+    ensures put_out { (events : List Event) (sealed : List Sealed) → AreSealed sealed → EachArrivingIsPutOut sealed events }
+{
+}

@@ -1,0 +1,4 @@
+pub mod RawPacket
+pub mod RawSession
+pub mod RawStandsFor
+pub mod Stages
