@@ -1,0 +1,3 @@
+pub mod DoneLists
+pub mod MarkLists
+pub mod RowBits

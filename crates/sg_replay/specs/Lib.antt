@@ -1,0 +1,4 @@
+pub mod Freshness
+pub mod Marks
+pub mod Row
+pub mod Seen

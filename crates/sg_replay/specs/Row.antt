@@ -1,0 +1,15 @@
+-- A row of 1,024 bits in words of 64, which keeps the mark of an index at its place modulo 1,024.
+use Rattle.std.specs.Prelude.{ℕ, ◌/◌, ◌%◌, Bool, false, ◌==◌, nat_lt, if◌then◌else◌, List, slice_index, Option, Some, None}
+use Rattle.std.specs.Int.{bit_at}
+
+unfoldable pub bit_in : List ℕ → ℕ → Bool
+bit_in row k = bit_at (slice_index row (k / 64)) (k % 64) == 1
+
+-- the mark of an index
+abbrev pub mark_of : List ℕ → ℕ → Bool
+mark_of row i = bit_in row (i % 1024)
+
+-- the mark of an index, where none above the highest counts
+abbrev pub mark_up_to : Option ℕ → List ℕ → ℕ → Bool
+mark_up_to None row i = false
+mark_up_to (Some h) row i = if nat_lt h i then false else mark_of row i
