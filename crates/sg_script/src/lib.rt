@@ -3,6 +3,13 @@
 
 mod lines;
 mod outcomes;
+mod printing;
+mod raw_faults;
+mod raw_fields;
+mod raw_lines;
 
 pub use lines::{Line, Signal};
 pub use outcomes::{Outcome, Why};
+pub use printing::print_outcome;
+pub use raw_faults::ReadLineFault;
+pub use raw_lines::read_raw_line;

@@ -1,0 +1,3 @@
+pub mod RawLasts
+pub mod RawNumbers
+pub mod RawPairs

@@ -1,0 +1,4 @@
+pub mod OutcomeText
+pub mod RawFields
+pub mod RawGives
+pub mod RawLine
