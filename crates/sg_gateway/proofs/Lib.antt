@@ -3,3 +3,4 @@ pub mod RawDatagrams
 pub mod RawKept
 pub mod RawOpenedAndPut
 pub mod RawPutOut
+pub mod RawSteps

@@ -1,3 +1,4 @@
+pub mod RawEvents
 pub mod RawHeadline
 pub mod RawRuns
 pub mod RawStep

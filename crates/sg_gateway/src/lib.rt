@@ -1,6 +1,10 @@
 //! What a run of the gateway means: worlds, their steps, and the laws over every list of events.
 #![tactic(auto)]
 
+mod raw_table;
+
+pub use raw_table::{RawCall, RawTable};
+
 ghost use Rattle.std.specs.Prelude.{List};
 ghost use Rattle.sg_session.specs.RawPacket.{Sealed};
 ghost use Rattle.sg_gateway.specs.RawStep.{Event};
