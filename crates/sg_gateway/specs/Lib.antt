@@ -1,5 +1,6 @@
 pub mod RawEvents
 pub mod RawHeadline
+pub mod RawReplayed
 pub mod RawRuns
 pub mod RawStep
 pub mod RawWorld

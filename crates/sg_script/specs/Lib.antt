@@ -2,3 +2,4 @@ pub mod OutcomeText
 pub mod RawFields
 pub mod RawGives
 pub mod RawLine
+pub mod ScriptLines

@@ -1,0 +1,3 @@
+pub mod Complete
+pub mod Feeds
+pub mod Goes

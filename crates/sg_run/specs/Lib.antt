@@ -1,0 +1,4 @@
+pub mod Fed
+pub mod Played
+pub mod Run
+pub mod Words

@@ -1,0 +1,65 @@
+-- What a run answers, and what it has written by then.
+use Rattle.std.specs.Prelude.{◌≡◌, ◌⊎◌, ◌≤◌, ◌+◌, ◌^◌, length, ℕ, List, [], ◌++◌, Option, Some, None}
+use Rattle.std.specs.List.{flat_map}
+use Rattle.sg_base.specs.declared.faults.ScriptFault.{ScriptFault}
+use Rattle.sg_base.specs.declared.faults.ScriptFault.TheVariants.{Unended}
+use Rattle.sg_script.specs.declared.outcomes.Outcome.{Outcome}
+use Rattle.sg_script.specs.OutcomeText.{outcome_line}
+use Rattle.sg_edge.specs.Told.{TookIn, Wrote, AtEnd}
+use Rattle.sg_session.specs.RawPacket.{Sealed}
+use Rattle.sg_gateway.specs.RawHeadline.{AreSealed, Unforged, EachOpeningIsSealed, OnlyOpeningsGoOut, NoneTwice, NoneTwiceUnderKey, EachArrivingIsPutOut}
+use Rattle.sg_gateway.specs.RawReplayed.{Replayed, replayed}
+use Rattle.sg_gateway.specs.RawRuns.{outcomes, turns_from}
+use Rattle.sg_gateway.specs.RawStep.{Event}
+use Rattle.sg_gateway.specs.RawWorld.{World}
+use Rattle.sg_run.specs.declared.status.Status.{Status}
+use Rattle.sg_run.specs.declared.status.Status.TheVariants.{Done, Usage, Script, Read, Write, NoMemory}
+
+-- the lines of outcomes, joined
+abbrev pub text : List Outcome → List ℕ
+text outcomes = flat_map outcome_line outcomes
+
+-- what the events tell
+abbrev pub output : List Event → List ℕ
+output events = text (outcomes events)
+
+-- the output of the events from a world on
+unfoldable pub output_from : World → List Event → List ℕ
+output_from w events = text (flat_map (λ t. t.outcomes) (turns_from w events))
+
+abbrev pub IsPrefixOf : List ℕ → List ℕ → Type 0
+IsPrefixOf front all = (rest : List ℕ) × (all ≡ front ++ rest)
+
+-- The status, by the octets read, the octets written and what the source has left. With Done all is
+-- handled and the source is at its end. With Script the lines before the named one are handled, and the
+-- named line is the first outside the grammar, with its first fault, whatever would come behind what was
+-- read; Unended comes only at the source's end. With every other status a prefix was written.
+abbrev pub Ends : Status → List ℕ → List ℕ → Option (List ℕ) → Type 0
+Ends Done octets out left = ((replayed octets).fault ≡ None) × (out ≡ output (replayed octets).events) × AtEnd left
+Ends (Script n fault) octets out left =
+    ((replayed octets).fault ≡ Some (n, fault)) × (out ≡ output (replayed octets).events) × (fault ≡ Unended → AtEnd left)
+    × (¬ (fault ≡ Unended) → (more : List ℕ) → (replayed (octets ++ more)).fault ≡ Some (n, fault))
+Ends Usage octets out left = (octets ≡ []) × (out ≡ [])
+Ends Read octets out left = IsPrefixOf out (output (replayed octets).events)
+Ends Write octets out left = IsPrefixOf out (output (replayed octets).events)
+Ends NoMemory octets out left = IsPrefixOf out (output (replayed octets).events)
+
+-- The run read these octets, of which there are at most 2^30 + 1, and wrote those.
+pub record IsRun (status : Status) (left left' written written' : Option (List ℕ)) (octets out : List ℕ) : Type 0 where
+  pub took : TookIn left left' octets
+  pub wrote : Wrote written written' out
+  pub ends : Ends status octets out left'
+  pub bound : length octets ≤ 2 ^ 30 + 1
+
+-- The headline, over the events of the octets read, for every list of sealed packets.
+pub record Headline (events : List Event) : Type 0 where
+  pub each_sealed : (sealed : List Sealed) → Unforged sealed events → EachOpeningIsSealed sealed events
+  pub only : OnlyOpeningsGoOut events
+  pub none_twice : NoneTwice events
+  pub none_twice_under_key : NoneTwiceUnderKey events
+  pub each_put_out : (sealed : List Sealed) → AreSealed sealed → EachArrivingIsPutOut sealed events
+
+-- Where the source's octets are a whole script in the grammar, the run handles it to its end, or memory is wanting.
+abbrev pub IsComplete : Status → Option (List ℕ) → Option (List ℕ) → Type 0
+IsComplete status left left' =
+    (all rest : List ℕ) → left ≡ Some all → left' ≡ Some rest → (replayed all).fault ≡ None → (status ≡ Done) ⊎ (status ≡ NoMemory)

@@ -1,0 +1,44 @@
+//! The top call.
+
+ghost use Rattle.std.specs.Prelude.{◌≡◌, ◌↔◌, false, true, ℕ, List};
+ghost use Rattle.sg_edge.specs.Told.{Rose, Tells};
+ghost use Rattle.sg_gateway.specs.RawReplayed.{replayed};
+ghost use Rattle.sg_run.specs.Run.{IsRun, IsComplete, Headline};
+ghost use Rattle.sg_run.specs.Words.{IsNoCommand};
+
+use crate::replaying::replay;
+use crate::status::Status;
+use sg_edge::{Sink, Source};
+use std::alloc::Global;
+
+/// Runs the command that the words name over the source and the sink. The one command of now is
+/// `replay`: the source is a script, whose outcomes are written in order.
+pub fn run<S: Source, K: Sink>(
+    alloc: Global,
+    words: &[String],
+    source: &mut S,
+    sink: &mut K,
+) -> Status
+    ensures ran { (octets out : List ℕ)
+        × IsRun result (S.left source.old) (S.left source.new) (K.written sink.old) (K.written sink.new) octets out
+        × Headline (replayed octets).events }
+    ensures usage { result ≡ Status.Usage ↔ IsNoCommand words.now }
+    ensures complete { ¬ IsNoCommand words.now → ¬ Rose (S.faults source.old) (S.faults source.new) → ¬ Rose (K.faults sink.old) (K.faults sink.new)
+        → IsComplete result (S.left source.old) (S.left source.new) }
+    ensures read { result ≡ Status.Read → Rose (S.faults source.old) (S.faults source.new) }
+    ensures read_told { result ≡ Status.Read → Tells (S.failed source.new) true }
+    ensures write { result ≡ Status.Write → Rose (K.faults sink.old) (K.faults sink.new) }
+    ensures write_told { result ≡ Status.Write → Tells (K.failed sink.new) true }
+{
+    sg_gateway::raw_headline();
+    if !is_replay(words) {
+        return Status::Usage;
+    }
+    replay(alloc, source, sink)
+}
+
+fn is_replay(words: &[String]) -> bool
+    ensures { result ≡ false ↔ IsNoCommand words.now }
+{
+    words.len() == 1 && words[0].as_str() == "replay"
+}
