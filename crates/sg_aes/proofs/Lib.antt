@@ -1,0 +1,5 @@
+pub mod Octets
+pub mod LaneLemmas
+pub mod KeyLemmas
+pub mod CipherLemmas
+pub mod PlainLemmas

@@ -1,0 +1,13 @@
+//! AES, encryption alone, with keys of 16, 24 and 32 octets (FIPS 197).
+#![tactic(auto)]
+
+mod keys;
+mod lanes;
+pub mod laws;
+pub mod plain;
+mod schedule;
+
+pub use schedule::Schedule;
+
+#[cfg(test)]
+mod tests;
