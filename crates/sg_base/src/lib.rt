@@ -5,8 +5,10 @@ mod addresses;
 mod faults;
 mod identities;
 mod keys;
+mod mkis;
 mod numbers;
 mod octets;
+mod pad;
 mod suites;
 
 pub use addresses::{Address, CallId, Kind, Side};
@@ -16,6 +18,8 @@ pub use faults::{
 };
 pub use identities::{Identity, Noise304};
 pub use keys::{CipherKey, HalfKeys, MasterKey, SessionKeys};
+pub use mkis::Mki;
 pub use numbers::{octets_of_u32, read_u16, read_u32};
 pub use octets::Octets;
+pub use pad::{NOISE, PAD_MOST, PLAIN_MOST, PROTECTED_MOST, Pad, TooLong};
 pub use suites::Suite;

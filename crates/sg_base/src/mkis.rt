@@ -1,0 +1,128 @@
+//! Master key identifiers (RFC 3711, 3.1; RFC 4568, 6.1).
+
+ghost use Rattle.std.specs.Prelude.{◌≡◌, ◌<◌, ◌≤◌, ◌^◌, ◌↔◌, length, IsSome, IfSome, IsTrue};
+ghost use Rattle.sg_base.specs.Mkis.{IsMki, mki_octets, mki_of};
+ghost use Rattle.sg_base.specs.Octets.{be};
+
+use arrayvec::ArrayVec;
+use std::marker::Model;
+
+/// A master key identifier, seen as its value and its length in octets. The length is 1 to 128, and the value fits it.
+#[derive(Clone, Copy, Debug, PartialEq, Eq)]
+pub struct Mki {
+    value: u128,
+    length: u8,
+}
+
+impl Model for Mki {
+    ghost use Rattle.sg_base.specs.Mkis.{MkiValue, IsMki};
+
+    ghost Value = { MkiValue };
+
+    ghost view = { λ m. record { value = m.value; length = m.length } };
+
+    ghost invariant = { λ m. IsMki m.value m.length };
+
+    ghost inverse = { λ m. record { value = m.value; length = m.length } };
+}
+
+// Writes a number over these octets, the highest first.
+fn write_number(number: u128, part: &mut [u8])
+    ensures { part.new ≡ be number (length part.old) }
+{
+    let mut rest = number;
+    let mut left = part.len();
+    while left > 0 {
+        left -= 1;
+        part[left] = (rest % 256) as u8;
+        rest /= 256;
+    }
+}
+
+impl Mki {
+    /// None exactly where the length is 0 or above 128, or the value doesn't fit it.
+    pub fn new(value: u128, length: u8) -> Option<Mki>
+        ensures valid { IsSome result ↔ IsMki value length }
+        ensures value { IfSome result (λ m. m ≡ mki_of value length) }
+    {
+        if length == 0 || length > 128 {
+            return None;
+        }
+        if let Some(limit) = 256u128.checked_pow(u32::from(length)) {
+            if value >= limit {
+                return None;
+            }
+        }
+        Some(Mki { value, length })
+    }
+
+    /// The value.
+    pub fn value(&self) -> u128
+        ensures same { result ≡ self.now.value }
+        ensures valid { IsMki self.now.value self.now.length }
+    {
+        self.value
+    }
+
+    /// How many octets it has.
+    pub fn len(&self) -> u8
+        ensures same { result ≡ self.now.length }
+        ensures valid { IsMki self.now.value self.now.length }
+    {
+        self.length
+    }
+
+    /// Its octets, the highest first, with zeros in front beyond 16.
+    pub fn octets(&self) -> ArrayVec<u8, 128>
+        ensures same { result.items ≡ mki_octets self.now }
+        ensures sized { length result.items ≡ self.now.length }
+    {
+        let mut octets = [0; 128];
+        let count = usize::from(self.length);
+        write_number(self.value, &mut octets[..count]);
+        let mut list = ArrayVec::new();
+        let _ = list.try_extend_from_slice(&octets[..count]);
+        list
+    }
+}
+
+#[cfg(test)]
+mod tests {
+    use super::Mki;
+    use std::test::Fail;
+
+    // A value and a length, and whether they are an MKI.
+    #[test]
+    fn takes_what_fits(rt: HostRuntime) {
+        for (value, length, fits) in [
+            (0, 0, false),
+            (0, 1, true),
+            (255, 1, true),
+            (256, 1, false),
+            (256, 2, true),
+            (u128::MAX, 15, false),
+            (u128::MAX, 16, true),
+            (u128::MAX, 128, true),
+            (0, 128, true),
+            (0, 129, false),
+        ] {
+            assert_eq!(rt;
+                Mki::new(value, length).is_some(),
+                fits,
+                "{value} in {length}"
+            );
+        }
+    }
+
+    #[test]
+    fn has_the_highest_octet_first(rt: HostRuntime) -> Result<(), Fail> {
+        let short = Mki::new(0x0102, 4).ok_or("258 fits four octets")?;
+        assert_eq!(rt; short.octets().as_slice(), [0, 0, 1, 2].as_slice());
+        let long = Mki::new(u128::MAX, 18).ok_or("16 octets fit 18")?;
+        let octets = long.octets();
+        assert_eq!(rt; octets.len(), 18);
+        assert_eq!(rt; &octets.as_slice()[..3], [0, 0, 255].as_slice());
+        assert_eq!(rt; (long.value(), long.len()), (u128::MAX, 18));
+        Ok(())
+    }
+}

@@ -1,0 +1,135 @@
+//! The one buffer that a datagram lives in.
+
+ghost use Rattle.std.specs.Prelude.{◌≡◌, ◌+◌, ◌<◌, ◌≤◌, [], ◌++◌, length, take, IfOk, OnOk, OnErr, IsErr, ◌↔◌};
+ghost use Rattle.std.specs.Borrow.{sem};
+ghost use Rattle.sg_base.specs.Pads.{LendsOctets};
+
+use crate::NoMemory;
+use std::alloc::Global;
+use std::marker::Model;
+
+/// How many octets a pad can hold.
+pub const PAD_MOST: usize = 4352;
+
+/// How many octets a plain packet has at most.
+pub const PLAIN_MOST: usize = 4096;
+
+/// How many octets a protected packet has at most: a plain one with an MKI of 128, the word of an SRTCP index, and a
+/// tag of 10.
+pub const PROTECTED_MOST: usize = 4238;
+
+/// How many octets of noise a signal draws.
+pub const NOISE: usize = 304;
+
+/// A datagram has more octets than a pad can hold.
+#[derive(Clone, Copy, Debug, PartialEq, Eq)]
+pub struct TooLong;
+
+/// One buffer of 4,352 octets, seen as its used octets. Only `make` takes memory.
+#[derive(Drop)]
+pub struct Pad {
+    octets: Vec<u8>,
+}
+
+impl Model for Pad {
+    ghost use Rattle.std.specs.Prelude.{ℕ, List, ◌≤◌, vec_capacity, vec_len};
+
+    ghost Value = { List ℕ };
+
+    ghost view = { λ p. p.octets.items };
+
+    ghost invariant = { λ p. (4352 ≤ vec_capacity p.octets) × (vec_len p.octets ≤ 4352) };
+}
+
+impl Pad {
+    /// An empty pad. Whether there is memory for it is left open.
+    pub fn make(alloc: Global) -> Result<Pad, NoMemory>
+        ensures { IfOk result (λ pad. pad ≡ []) }
+    {
+        Ok(Pad {
+            octets: Vec::with_capacity(alloc, PAD_MOST)?,
+        })
+    }
+
+    /// The used octets become these. A longer datagram leaves the pad as it is.
+    pub fn fill(&mut self, octets: &[u8]) -> Result<(), TooLong>
+        ensures too_long { IsErr result ↔ (4352 < length octets.now) }
+        ensures ok { OnOk result (self.new ≡ octets.now) }
+        ensures err { OnErr result (self.new ≡ self.old) }
+    {
+        if octets.len() > PAD_MOST {
+            return Err(TooLong);
+        }
+        self.cut_to(0);
+        self.append(octets);
+        Ok(())
+    }
+
+    /// The used octets.
+    pub fn octets(&self) -> &[u8]
+        ensures same { result.now ≡ self.now }
+        ensures most { length self.now ≤ 4352 }
+    {
+        self.octets.as_slice()
+    }
+
+    /// The used octets, to be edited in place; their number stays.
+    pub fn octets_mut(&mut self) -> &mut [u8]
+        ensures* writes_back { sem 𝓛 (LendsOctets self.entry result) }
+        ensures same { result.now ≡ self.old }
+        ensures most { length self.old ≤ 4352 }
+    {
+        self.octets.as_mut_slice()
+    }
+
+    /// Puts octets behind the used ones.
+    pub fn append(&mut self, octets: &[u8])
+        requires { length self.old + length octets.now ≤ 4352 }
+        ensures { self.new ≡ self.old ++ octets.now }
+    {
+        let _ = self.octets.extend_from_slice(octets);
+    }
+
+    /// Keeps the first octets alone.
+    pub fn cut_to(&mut self, count: usize)
+        requires { count ≤ length self.old }
+        ensures { self.new ≡ take count self.old }
+    {
+        self.octets.truncate(count);
+    }
+}
+
+#[cfg(test)]
+mod tests {
+    use super::{PAD_MOST, Pad, TooLong};
+    use std::test::Fail;
+
+    #[test]
+    fn holds_a_datagram(rt: HostRuntime) -> Result<(), Fail> {
+        let mut pad = Pad::make(rt.alloc())?;
+        let long = vec![in rt.alloc(); 7u8; PAD_MOST + 1]?;
+        assert_eq!(rt; long.len(), PAD_MOST + 1);
+        for count in [0, 5, PAD_MOST] {
+            assert!(rt; count <= long.len());
+            assert_eq!(rt; pad.fill(&long[..count]), Ok(()), "{count} octets");
+            assert_eq!(rt; pad.octets().len(), count);
+        }
+        assert_eq!(rt; pad.fill(&long), Err(TooLong));
+        assert_eq!(rt; pad.octets().len(), PAD_MOST);
+        Ok(())
+    }
+
+    #[test]
+    fn edits_in_place(rt: HostRuntime) -> Result<(), Fail> {
+        let mut pad = Pad::make(rt.alloc())?;
+        assert_eq!(rt; pad.fill(&[1, 2, 3]), Ok(()));
+        pad.append(&[4, 5]);
+        assert_eq!(rt; pad.octets(), [1, 2, 3, 4, 5].as_slice());
+        if let Some(octet) = pad.octets_mut().first_mut() {
+            *octet = 9;
+        }
+        pad.cut_to(2);
+        assert_eq!(rt; pad.octets(), [9, 2].as_slice());
+        Ok(())
+    }
+}

@@ -1,0 +1,162 @@
+ghost use Rattle.std.specs.Prelude.{◌≡◌, ◌↔◌, ◌+◌, ◌<◌, ◌≤◌, Ok, IfOk, IfSome, IsNone, IsTrue, length};
+ghost use Rattle.sg_rtp.specs.Fields.{u16_at, u32_at};
+ghost use Rattle.sg_rtp.specs.Heads.{rtp_head, rtcp_head, IsRtpHead, IsRtcpHead, listed_of, has_extension, extension_of};
+
+use sg_base::HeadFault;
+
+/// What an RTP packet's head says. Its length counts the CSRC list and the extension too, in octets.
+#[derive(Clone, Copy, Debug, PartialEq, Eq)]
+pub struct RtpHead {
+    pub length: usize,
+    pub seq: u16,
+    pub ssrc: u32,
+}
+
+/// What an RTCP packet's head says: the SSRC of its sender.
+#[derive(Clone, Copy, Debug, PartialEq, Eq)]
+pub struct RtcpHead {
+    pub ssrc: u32,
+}
+
+fn read_u16(octets: &[u8], place: usize) -> u16
+    requires { place + 2 ≤ length octets.now }
+    ensures { result ≡ u16_at octets.now place }
+{
+    u16::from(octets[place]) * 256 + u16::from(octets[place + 1])
+}
+
+fn read_u32(octets: &[u8], place: usize) -> u32
+    requires { place + 4 ≤ length octets.now }
+    ensures { result ≡ u32_at octets.now place }
+{
+    u32::from(read_u16(octets, place)) * 65536 + u32::from(read_u16(octets, place + 2))
+}
+
+/// Reads the head of an RTP packet (RFC 3550, 5.1 and 5.3.1). The padding bit isn't looked at.
+///
+/// The first fault is told: `Short` below 12 octets, `Version` where it isn't 2, `CsrcCut` where the list passes the
+/// end, `ExtensionCut` where the extension does.
+pub fn read_rtp(octets: &[u8]) -> Result<RtpHead, HeadFault>
+    ensures value { result ≡ rtp_head octets.now }
+    ensures head { (head : RtpHead) → (result ≡ Ok head) ↔ IsRtpHead octets.now head }
+    ensures bounds { IfOk result (λ head. (12 ≤ head.length) × (head.length ≤ length octets.now)) }
+{
+    if octets.len() < 12 {
+        return Err(HeadFault::Short);
+    }
+    if octets[0] / 64 != 2 {
+        return Err(HeadFault::Version);
+    }
+    let listed = 12 + 4 * usize::from(octets[0] % 16);
+    if octets.len() < listed {
+        return Err(HeadFault::CsrcCut);
+    }
+    let length = listed + extension_length(octets, listed).ok_or(HeadFault::ExtensionCut)?;
+    if octets.len() < length {
+        return Err(HeadFault::ExtensionCut);
+    }
+    Ok(RtpHead {
+        length,
+        seq: read_u16(octets, 2),
+        ssrc: read_u32(octets, 8),
+    })
+}
+
+// How many octets the extension behind the list has with its own four; none where these four are cut.
+fn extension_length(octets: &[u8], listed: usize) -> Option<usize>
+    requires there { 0 < length octets.now }
+    requires size { listed ≡ listed_of octets.now }
+    requires inside { listed ≤ length octets.now }
+    ensures cut { IsNone result ↔ (IsTrue (has_extension octets.now) × (length octets.now < listed + 4)) }
+    ensures size { IfSome result (λ n. n ≡ extension_of octets.now) }
+{
+    if octets[0] / 16 % 2 == 0 {
+        return Some(0);
+    }
+    if octets.len() - listed < 4 {
+        return None;
+    }
+    Some(4 + 4 * usize::from(read_u16(octets, listed + 2)))
+}
+
+/// Reads the head of an RTCP packet (RFC 3550, 6.1): `Short` below 8 octets, `Version` where it isn't 2.
+pub fn read_rtcp(octets: &[u8]) -> Result<RtcpHead, HeadFault>
+    ensures value { result ≡ rtcp_head octets.now }
+    ensures head { (head : RtcpHead) → (result ≡ Ok head) ↔ IsRtcpHead octets.now head }
+{
+    if octets.len() < 8 {
+        return Err(HeadFault::Short);
+    }
+    if octets[0] / 64 != 2 {
+        return Err(HeadFault::Version);
+    }
+    Ok(RtcpHead {
+        ssrc: read_u32(octets, 4),
+    })
+}
+
+#[cfg(test)]
+mod tests {
+    use super::{RtcpHead, RtpHead, read_rtcp, read_rtp};
+    use sg_base::HeadFault::{CsrcCut, ExtensionCut, Short, Version};
+    use std::test::Fail;
+
+    // A first octet, how many words the extension says, how many octets there are, and the head's length.
+    #[test]
+    fn measures_heads(rt: HostRuntime) -> Result<(), Fail> {
+        for (first, words, count, length) in [
+            (0x80, 0, 11, Err(Short)),
+            (0x80, 0, 12, Ok(12)),
+            (0x40, 0, 24, Err(Version)),
+            (0xc0, 0, 24, Err(Version)),
+            (0x80, 0, 24, Ok(12)),
+            (0x81, 0, 12, Err(CsrcCut)),
+            (0x81, 0, 15, Err(CsrcCut)),
+            (0x81, 0, 16, Ok(16)),
+            (0x8f, 0, 71, Err(CsrcCut)),
+            (0x8f, 0, 72, Ok(72)),
+            (0x90, 0, 12, Err(ExtensionCut)),
+            (0x90, 0, 15, Err(ExtensionCut)),
+            (0x90, 0, 16, Ok(16)),
+            (0x90, 2, 23, Err(ExtensionCut)),
+            (0x90, 2, 24, Ok(24)),
+            (0x9f, 0, 12, Err(CsrcCut)),
+            (0x9f, 1, 79, Err(ExtensionCut)),
+            (0x9f, 1, 80, Ok(80)),
+            (0x90, 65535, 262155, Err(ExtensionCut)),
+            (0x90, 65535, 262156, Ok(262156)),
+            (0xb0, 0, 16, Ok(16)),
+        ] {
+            let mut packet = vec![in rt.alloc(); 0u8; count]?;
+            let place = 14 + 4 * (first as usize % 16);
+            if place + 2 <= packet.len() {
+                packet[place] = (words / 256) as u8;
+                packet[place + 1] = (words % 256) as u8;
+            }
+            if let Some(octet) = packet.first_mut() {
+                *octet = first;
+            }
+            let found = read_rtp(&packet).map(|head| head.length);
+            assert_eq!(rt; found, length, "{first:x} with {count} octets");
+        }
+        Ok(())
+    }
+
+    // The head of RFC 3550's layout with version 2, no list, number 1234 hex and SSRC cafebabe hex.
+    #[test]
+    fn reads_number_and_source(rt: HostRuntime) {
+        let packet = [
+            0x80, 0x0f, 0x12, 0x34, 0xde, 0xca, 0xfb, 0xad, 0xca, 0xfe, 0xba, 0xbe,
+        ];
+        let head = RtpHead {
+            length: 12,
+            seq: 0x1234,
+            ssrc: 0xcafe_babe,
+        };
+        assert_eq!(rt; read_rtp(&packet), Ok(head));
+        let sender = RtcpHead { ssrc: 0xdeca_fbad };
+        assert_eq!(rt; read_rtcp(&packet[..8]), Ok(sender));
+        assert_eq!(rt; read_rtcp(&packet[..7]), Err(Short));
+        assert_eq!(rt; read_rtcp(&packet[4..]), Err(Version));
+    }
+}
