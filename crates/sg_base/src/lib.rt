@@ -3,10 +3,15 @@
 
 mod addresses;
 mod faults;
+#[cfg(test)]
+mod field_tests;
+mod fields;
 mod identities;
 mod keys;
 mod numbers;
 mod octets;
+mod spellings;
+mod suite_names;
 mod suites;
 
 pub use addresses::{Address, CallId, Kind, Side};
@@ -14,8 +19,13 @@ pub use faults::{
     CsFault, DropCause, Failed, HeadFault, IndexFault, MikeyFault, NoMemory, PskFault, Refusal,
     ScriptFault, SdesFault, SdpFault,
 };
+pub use fields::{cut, read_address, read_four, read_number, read_octets};
 pub use identities::{Identity, Noise304};
 pub use keys::{CipherKey, HalfKeys, MasterKey, SessionKeys};
 pub use numbers::{octets_of_u32, read_u16, read_u32};
 pub use octets::Octets;
+pub use spellings::{
+    address_spelling, cut_spelling, four_spelling, number_spelling, octets_spelling,
+};
+pub use suite_names::{read_suite, suite_spelling};
 pub use suites::Suite;
