@@ -1,5 +1,5 @@
 -- How many octets a number is written in.
-use Rattle.std.proofs.Common.{◌≡◌, ℕ, zero, suc, ◌/◌, ◌%◌, [], ◌∷◌, length, refl, ◌∙◌, arith, length-append}
+use Rattle.std.proofs.Common.{◌≡◌, ℕ, zero, suc, ◌/◌, length, refl, ◌∙◌, arith, length-append}
 use Rattle.sg_base.specs.Octets.{be}
 
 pub length-be : (n l : ℕ) → length (be n l) ≡ l

@@ -1,7 +1,9 @@
 pub mod Faults
+pub mod Fields
 pub mod Identities
 pub mod Keys
 pub mod Mkis
 pub mod Octets
 pub mod Pads
+pub mod SuiteNames
 pub mod Suites

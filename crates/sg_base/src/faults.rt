@@ -162,13 +162,33 @@ pub enum CsFault {
 /// Why a signal is refused. A medium counts from 0, and 255 is the session level.
 #[derive(Clone, Copy, Debug, PartialEq, Eq)]
 pub enum Refusal {
-    Sdp { line: u32, fault: SdpFault },
-    Sdes { medium: u8, fault: SdesFault },
-    Mikey { medium: u8, offset: u32, fault: MikeyFault },
-    Psk { medium: u8, fault: PskFault },
-    Cs { medium: u8, fault: CsFault },
-    KeyMgmt { medium: u8 },
-    KeyReused { number: u32 },
+    Sdp {
+        line: u32,
+        fault: SdpFault,
+    },
+    Sdes {
+        medium: u8,
+        fault: SdesFault,
+    },
+    Mikey {
+        medium: u8,
+        offset: u32,
+        fault: MikeyFault,
+    },
+    Psk {
+        medium: u8,
+        fault: PskFault,
+    },
+    Cs {
+        medium: u8,
+        fault: CsFault,
+    },
+    KeyMgmt {
+        medium: u8,
+    },
+    KeyReused {
+        number: u32,
+    },
     RingFull,
     NoMedia,
     MediaCount,
@@ -177,7 +197,9 @@ pub enum Refusal {
     CallUnknown,
     PskKnown,
     PskFull,
-    TickBack { last: u64 },
+    TickBack {
+        last: u64,
+    },
     State,
 }
 

@@ -3,12 +3,17 @@
 
 mod addresses;
 mod faults;
+#[cfg(test)]
+mod field_tests;
+mod fields;
 mod identities;
 mod keys;
 mod mkis;
 mod numbers;
 mod octets;
 mod pad;
+mod spellings;
+mod suite_names;
 mod suites;
 
 pub use addresses::{Address, CallId, Kind, Side};
@@ -16,10 +21,15 @@ pub use faults::{
     CsFault, DropCause, Failed, HeadFault, IndexFault, MikeyFault, NoMemory, PskFault, Refusal,
     ScriptFault, SdesFault, SdpFault,
 };
+pub use fields::{cut, read_address, read_four, read_number, read_octets};
 pub use identities::{Identity, Noise304};
 pub use keys::{CipherKey, HalfKeys, MasterKey, SessionKeys};
 pub use mkis::Mki;
 pub use numbers::{octets_of_u32, read_u16, read_u32};
 pub use octets::Octets;
 pub use pad::{NOISE, PAD_MOST, PLAIN_MOST, PROTECTED_MOST, Pad, TooLong};
+pub use spellings::{
+    address_spelling, cut_spelling, four_spelling, number_spelling, octets_spelling,
+};
+pub use suite_names::{read_suite, suite_spelling};
 pub use suites::Suite;
