@@ -5,6 +5,8 @@ mod feed;
 mod line_reader;
 mod replaying;
 mod status;
+#[cfg(test)]
+mod tests;
 mod top;
 
 pub use status::Status;

@@ -67,12 +67,7 @@ pub fn replay<S: Source, K: Sink>(alloc: Global, source: &mut S, sink: &mut K) -
 }
 
 /// The line of this number, which begins at this offset of the script.
-fn read_line_at(
-    alloc: Global,
-    number: u64,
-    at: u64,
-    line: &[u8],
-) -> Result<Line, ReadLineFault>
+fn read_line_at(alloc: Global, number: u64, at: u64, line: &[u8]) -> Result<Line, ReadLineFault>
     requires { at ≤ 2 ^ 30 }
     ensures { Gives events_of result (said number at line.now) }
 {
@@ -83,12 +78,7 @@ fn read_line_at(
 }
 
 /// Handles the events of a line, and writes the text of their outcomes.
-fn play<K: Sink>(
-    alloc: Global,
-    table: &mut RawTable,
-    said: Line,
-    sink: &mut K,
-) -> Result<(), Halt>
+fn play<K: Sink>(alloc: Global, table: &mut RawTable, said: Line, sink: &mut K) -> Result<(), Halt>
     ensures played { (w : World) → StandsFor table.old w
         → IsPlayed result w (events_of said) table.new (K.written sink.old) (K.written sink.new) }
     ensures later { K.faults sink.old ≤ K.faults sink.new }

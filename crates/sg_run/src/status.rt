@@ -1,6 +1,10 @@
 //! What a run answers.
 
+ghost use Rattle.std.specs.Prelude.{◌≡◌, Some};
+ghost use Rattle.sg_run.specs.StatusText.{script_fault_name, status_number, status_text};
+
 use sg_base::ScriptFault;
+use std::fmt;
 
 /// How a run has ended. It holds no octet of a key.
 #[derive(Clone, Copy, Debug, PartialEq, Eq)]
@@ -17,4 +21,52 @@ pub enum Status {
     Write,
     /// Memory is wanting.
     NoMemory,
+}
+
+fn fault_name(fault: ScriptFault) -> &'static str
+    ensures { result.now ≡ script_fault_name fault }
+{
+    match fault {
+        ScriptFault::Word => "Word",
+        ScriptFault::Number => "Number",
+        ScriptFault::Hex => "Hex",
+        ScriptFault::Length => "Length",
+        ScriptFault::Version => "Version",
+        ScriptFault::Unended => "Unended",
+    }
+}
+
+impl Status {
+    /// The number with which the program ends.
+    pub fn number(self) -> u8
+        ensures { result ≡ status_number self }
+    {
+        match self {
+            Status::Done => 0,
+            Status::Usage => 1,
+            Status::Script { .. } => 2,
+            Status::Read => 3,
+            Status::Write => 4,
+            Status::NoMemory => 6,
+        }
+    }
+}
+
+/// What the program says on standard error; nothing where all is done.
+impl fmt::Display for Status {
+    ghost output = { λ s. Some (status_text s) };
+
+    fn fmt<W: fmt::Write>(&self, f: &mut fmt::Formatter<W>) -> fmt::Result {
+        match *self {
+            Status::Done => write!(f, ""),
+            Status::Usage => write!(f, "srtpgw: usage"),
+            Status::Script { line, fault } => {
+                let name = fault_name(fault);
+                write!(f, "srtpgw: script line {line}: {name}")
+            }
+            Status::Read => write!(f, "srtpgw: read failed"),
+            Status::Write => write!(f, "srtpgw: write failed"),
+            Status::NoMemory => write!(f, "srtpgw: no memory"),
+        }
+    }
 }

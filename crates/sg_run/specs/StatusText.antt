@@ -1,0 +1,31 @@
+-- The number and the text of a status.
+use Rattle.std.specs.Prelude.{ℕ, List, [], ◌++◌, codes}
+use Rattle.std.specs.Fmt.{decimal}
+use Rattle.sg_base.specs.declared.faults.ScriptFault.{ScriptFault}
+use Rattle.sg_base.specs.declared.faults.ScriptFault.TheVariants.{Word, Number, Hex, Length, Version, Unended}
+use Rattle.sg_run.specs.declared.status.Status.{Status}
+use Rattle.sg_run.specs.declared.status.Status.TheVariants.{Done, Usage, Script, Read, Write, NoMemory}
+
+abbrev pub script_fault_name : ScriptFault → List ℕ
+script_fault_name Word = codes "Word"
+script_fault_name Number = codes "Number"
+script_fault_name Hex = codes "Hex"
+script_fault_name Length = codes "Length"
+script_fault_name Version = codes "Version"
+script_fault_name Unended = codes "Unended"
+
+abbrev pub status_number : Status → ℕ
+status_number Done = 0
+status_number Usage = 1
+status_number (Script line fault) = 2
+status_number Read = 3
+status_number Write = 4
+status_number NoMemory = 6
+
+abbrev pub status_text : Status → List ℕ
+status_text Done = []
+status_text Usage = codes "srtpgw: usage"
+status_text (Script line fault) = codes "srtpgw: script line " ++ decimal line ++ codes ": " ++ script_fault_name fault
+status_text Read = codes "srtpgw: read failed"
+status_text Write = codes "srtpgw: write failed"
+status_text NoMemory = codes "srtpgw: no memory"
