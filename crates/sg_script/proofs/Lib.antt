@@ -1,3 +1,9 @@
+pub mod Dense
+pub mod FaultLaws
+pub mod FieldLaws
+pub mod Joins
+pub mod Lengths
+pub mod LineLaws
 pub mod RawEnds
 pub mod RawLasts
 pub mod RawNumbers

@@ -1,3 +1,7 @@
+pub mod Fields
+pub mod LineFaults
+pub mod LineOf
+pub mod LineText
 pub mod OutcomeText
 pub mod RawFields
 pub mod RawGives

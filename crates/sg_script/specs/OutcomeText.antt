@@ -1,8 +1,8 @@
 -- The one spelling of each outcome: its word, its fields behind single spaces, and a line end.
-use Rattle.std.specs.Prelude.{ℕ, List, [], ◌∷◌, ◌++◌, Option, Some, None, codes, slice_index}
+use Rattle.std.specs.Prelude.{ℕ, List, [], ◌∷◌, ◌++◌, Option, Some, None, codes}
 use Rattle.std.specs.Fmt.{decimal, signed_decimal}
 use Rattle.hex.specs.Hex.{encode_lower}
-use Rattle.sg_base.specs.declared.addresses.Address.{Address}
+use Rattle.sg_base.specs.Fields.{address_text}
 use Rattle.sg_base.specs.declared.addresses.CallId.{CallId}
 use Rattle.sg_base.specs.declared.addresses.Side.{Side}
 use Rattle.sg_base.specs.declared.addresses.Side.TheVariants.{Secure, Plain}
@@ -33,12 +33,6 @@ abbrev pub why_name : Why → List ℕ
 why_name Bye = codes "bye"
 why_name Rejected = codes "rejected"
 why_name Idle = codes "idle"
-
--- four numbers joined by dots, a colon and the port
-abbrev pub address_text : Address → List ℕ
-address_text a =
-    decimal (slice_index a.ip 0) ++ codes "." ++ decimal (slice_index a.ip 1) ++ codes "." ++ decimal (slice_index a.ip 2) ++ codes "."
-    ++ decimal (slice_index a.ip 3) ++ codes ":" ++ decimal a.port
 
 -- pairs of lower-case digits, or a dash for no octets
 abbrev pub hex_text : List ℕ → List ℕ

@@ -1,15 +1,22 @@
 //! Script lines and outcome lines: what the gateway is told, and what it tells.
 #![tactic(auto)]
 
+mod fields;
+mod laws;
+mod line_printing;
 mod lines;
 mod outcomes;
 mod printing;
 mod raw_faults;
 mod raw_fields;
 mod raw_lines;
+mod reading;
 
+pub use laws::{lines_are_framed, lines_have_one_spelling};
+pub use line_printing::print_line;
 pub use lines::{Line, Signal};
 pub use outcomes::{Outcome, Why};
 pub use printing::print_outcome;
 pub use raw_faults::ReadLineFault;
 pub use raw_lines::read_raw_line;
+pub use reading::read_line;

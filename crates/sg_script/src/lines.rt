@@ -21,7 +21,9 @@ pub enum Line {
 #[derive(Drop)]
 pub enum Signal {
     /// The moment, in milliseconds since 1970-01-01 UTC.
-    Tick { now: u64 },
+    Tick {
+        now: u64,
+    },
     /// A pre-shared key of 16 to 64 octets between the gateway's own name and a peer's.
     Psk {
         own: Identity,
@@ -64,7 +66,11 @@ pub enum Signal {
         text: Octets,
     },
     /// The open offer is rejected.
-    Reject { call: CallId },
+    Reject {
+        call: CallId,
+    },
     /// The call ends.
-    Bye { call: CallId },
+    Bye {
+        call: CallId,
+    },
 }

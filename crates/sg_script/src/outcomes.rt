@@ -14,9 +14,15 @@ pub enum Why {
 #[derive(Drop)]
 pub enum Outcome {
     /// A call has a slot and so many media.
-    Made { call: CallId, slot: u8, media: u8 },
+    Made {
+        call: CallId,
+        slot: u8,
+        media: u8,
+    },
     /// A call has sessions.
-    Live { call: CallId },
+    Live {
+        call: CallId,
+    },
     /// A session description for one side.
     Sdp {
         call: CallId,
@@ -42,7 +48,13 @@ pub enum Outcome {
         octets: Octets,
     },
     /// The datagram that arrived at this port is dropped.
-    Dropped { port: u16, cause: DropCause },
+    Dropped {
+        port: u16,
+        cause: DropCause,
+    },
     /// A packet couldn't be sent.
-    Unsent { port: u16, to: Address },
+    Unsent {
+        port: u16,
+        to: Address,
+    },
 }

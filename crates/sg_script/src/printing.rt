@@ -3,12 +3,13 @@
 ghost use Rattle.std.specs.Prelude.{◌≡◌, ◌++◌, OnOk, IfOk, codes};
 ghost use Rattle.std.specs.Fmt.{decimal, signed_decimal};
 ghost use Rattle.sg_script.specs.declared.outcomes.Outcome.TheVariants.{Made, Live, Sdp, Refused, Ended, Out, Dropped, Unsent};
-ghost use Rattle.sg_script.specs.OutcomeText.{side_name, why_name, address_text, hex_text, drop_cause_name, drop_cause_numbers, sdp_fault_name, sdes_fault_name, mikey_fault_name, psk_fault_text, cs_fault_name, refusal_text, call_text, outcome_line};
+ghost use Rattle.sg_base.specs.Fields.{address_text};
+ghost use Rattle.sg_script.specs.OutcomeText.{side_name, why_name, hex_text, drop_cause_name, drop_cause_numbers, sdp_fault_name, sdes_fault_name, mikey_fault_name, psk_fault_text, cs_fault_name, refusal_text, call_text, outcome_line};
 
 use crate::{Outcome, Why};
 use sg_base::{
-    Address, CallId, CsFault, DropCause, MikeyFault, NoMemory, Octets, PskFault, Refusal, SdesFault,
-    SdpFault, Side,
+    Address, CallId, CsFault, DropCause, MikeyFault, NoMemory, Octets, PskFault, Refusal,
+    SdesFault, SdpFault, Side,
 };
 use std::alloc::Global;
 
@@ -32,7 +33,7 @@ fn push_signed(alloc: Global, out: &mut Vec<u8>, n: i64) -> Result<(), NoMemory>
     push(out, text.as_str().as_bytes())
 }
 
-fn push_address(alloc: Global, out: &mut Vec<u8>, a: &Address) -> Result<(), NoMemory>
+pub(crate) fn push_address(alloc: Global, out: &mut Vec<u8>, a: &Address) -> Result<(), NoMemory>
     ensures { OnOk result (out.new.items ≡ out.old.items ++ address_text a.now) }
 {
     let [first, second, third, fourth] = a.ip;
@@ -47,7 +48,7 @@ fn push_address(alloc: Global, out: &mut Vec<u8>, a: &Address) -> Result<(), NoM
     push_number(alloc, out, a.port as u64)
 }
 
-fn push_hex(alloc: Global, out: &mut Vec<u8>, octets: &[u8]) -> Result<(), NoMemory>
+pub(crate) fn push_hex(alloc: Global, out: &mut Vec<u8>, octets: &[u8]) -> Result<(), NoMemory>
     ensures { OnOk result (out.new.items ≡ out.old.items ++ hex_text octets.now) }
 {
     match octets {
@@ -250,12 +251,7 @@ fn push_mikey_fault(
     push(out, mikey_fault_word(fault))
 }
 
-fn push_psk(
-    alloc: Global,
-    out: &mut Vec<u8>,
-    medium: u64,
-    fault: PskFault,
-) -> Result<(), NoMemory>
+fn push_psk(alloc: Global, out: &mut Vec<u8>, medium: u64, fault: PskFault) -> Result<(), NoMemory>
     ensures { OnOk result (out.new.items ≡ out.old.items ++ codes "Psk " ++ decimal medium ++ codes " " ++ psk_fault_text fault) }
 {
     push(out, b"Psk ")?;
@@ -264,7 +260,12 @@ fn push_psk(
     push_psk_fault(alloc, out, fault)
 }
 
-fn push_word_number(alloc: Global, out: &mut Vec<u8>, word: &[u8], number: u64) -> Result<(), NoMemory>
+fn push_word_number(
+    alloc: Global,
+    out: &mut Vec<u8>,
+    word: &[u8],
+    number: u64,
+) -> Result<(), NoMemory>
     ensures { OnOk result (out.new.items ≡ out.old.items ++ word.now ++ decimal number) }
 {
     push(out, word)?;
@@ -328,11 +329,7 @@ fn push_made(
 }
 
 #[tactic(auto, unfolding(crate::specs::OutcomeText::outcome_line))]
-fn push_live(
-    alloc: Global,
-    out: &mut Vec<u8>,
-    call: CallId,
-) -> Result<(), NoMemory>
+fn push_live(alloc: Global, out: &mut Vec<u8>, call: CallId) -> Result<(), NoMemory>
     ensures { OnOk result (out.new.items ≡ out.old.items ++ outcome_line (Live call)) }
 {
     push(out, b"live ")?;
@@ -375,12 +372,7 @@ fn push_refused(
     push(out, b"\n")
 }
 
-fn push_slot(
-    alloc: Global,
-    out: &mut Vec<u8>,
-    slot: u8,
-    media: u8,
-) -> Result<(), NoMemory>
+fn push_slot(alloc: Global, out: &mut Vec<u8>, slot: u8, media: u8) -> Result<(), NoMemory>
     ensures { OnOk result (out.new.items ≡ out.old.items ++ codes " " ++ decimal slot ++ codes " " ++ decimal media ++ codes " ") }
 {
     push(out, b" ")?;
@@ -445,12 +437,7 @@ fn push_dropped(
 }
 
 #[tactic(auto, unfolding(crate::specs::OutcomeText::outcome_line))]
-fn push_unsent(
-    alloc: Global,
-    out: &mut Vec<u8>,
-    port: u16,
-    to: &Address,
-) -> Result<(), NoMemory>
+fn push_unsent(alloc: Global, out: &mut Vec<u8>, port: u16, to: &Address) -> Result<(), NoMemory>
     ensures { OnOk result (out.new.items ≡ out.old.items ++ outcome_line (Unsent port to.now)) }
 {
     push(out, b"unsent ")?;

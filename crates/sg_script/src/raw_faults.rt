@@ -1,10 +1,10 @@
 //! What a reader of lines may answer in place of a line.
 
-use sg_base::ScriptFault;
-use std::alloc::AllocError;
-
 ghost use Rattle.sg_script.specs.declared.raw_faults.ReadLineFault.TheVariants.{NoMemory, Script};
 ghost use Rattle.std.specs.Prelude.{◌≡◌};
+
+use sg_base::ScriptFault;
+use std::alloc::{AllocError, AllocFailed};
 
 /// The first fault of a line, or memory is wanting.
 #[derive(Clone, Copy, Debug, PartialEq, Eq)]
@@ -17,6 +17,22 @@ impl From<AllocError> for ReadLineFault {
     ghost from_gives = { λ _ e. e ≡ NoMemory };
 
     fn from(_: AllocError) -> Self {
+        ReadLineFault::NoMemory
+    }
+}
+
+impl<T: Drop> From<AllocFailed<T>> for ReadLineFault {
+    ghost from_gives = { λ _ e. e ≡ NoMemory };
+
+    fn from(_: AllocFailed<T>) -> Self {
+        ReadLineFault::NoMemory
+    }
+}
+
+impl From<sg_base::NoMemory> for ReadLineFault {
+    ghost from_gives = { λ _ e. e ≡ NoMemory };
+
+    fn from(_: sg_base::NoMemory) -> Self {
         ReadLineFault::NoMemory
     }
 }

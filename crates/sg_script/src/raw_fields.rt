@@ -61,4 +61,3 @@ pub fn read_number(field: &[u8], most: u64) -> Result<u64, ScriptFault>
         Err(ScriptFault::Number)
     }
 }
-

@@ -8,8 +8,8 @@ ghost use Rattle.sg_script.specs.RawLine.{short_in, address_in, address_of, quad
 ghost use Rattle.std.specs.List.{slice_split};
 ghost use Rattle.sg_script.specs.RawLine.{is_lower, nibble, pairs_in, key_in, key_of, window_in, roc_in, manual_of, manual_under, manual_more, manual_line, header_line, content};
 
-use crate::raw_fields::{at_colons, at_dots, fields_of, read_number};
 use crate::raw_faults::ReadLineFault;
+use crate::raw_fields::{at_colons, at_dots, fields_of, read_number};
 use crate::{Line, Signal};
 use sg_base::{Address, CallId, MasterKey, Octets, ScriptFault, Suite};
 use std::alloc::Global;
@@ -175,12 +175,7 @@ fn read_call(field: &[u8]) -> Result<CallId, ReadLineFault>
 }
 
 #[tactic(auto, unfolding(crate::specs::RawLine::arrival_of))]
-fn read_arrival(
-    alloc: Global,
-    port: u16,
-    from: &[u8],
-    octets: &[u8],
-) -> Result<Line, ReadLineFault>
+fn read_arrival(alloc: Global, port: u16, from: &[u8], octets: &[u8]) -> Result<Line, ReadLineFault>
     ensures { Gives (λ x. x) result (arrival_of port from.now octets.now) }
 {
     if port != 20000 {

@@ -1,0 +1,27 @@
+//! The laws of script lines, over the definitions alone.
+
+ghost use Rattle.std.specs.Prelude.{◌≡◌, ◌≢◌, ◌↔◌, ◌<◌, ◌≤◌, ◌++◌, ◌∷◌, [], ℕ, List, length, false, Ok, Err};
+ghost use Rattle.sg_base.specs.declared.ScriptFault.{ScriptFault};
+ghost use Rattle.sg_base.specs.declared.ScriptFault.TheVariants.{Length, Unended};
+ghost use Rattle.sg_base.specs.Fields.{Lacks};
+ghost use Rattle.sg_script.specs.declared.lines.Line.{Line};
+ghost use Rattle.sg_script.specs.LineFaults.{IsFieldFault};
+ghost use Rattle.sg_script.specs.LineOf.{is_ended, line_of, said_by};
+ghost use Rattle.sg_script.specs.LineText.{FitsLine, line_text};
+
+/// What is spelled so is read, and what is read is spelled so; no line that fits is too long.
+pub fn lines_have_one_spelling()
+    ensures again { (number : ℕ) (l : Line) → FitsLine number l → line_of number (line_text l) ≡ Ok l }
+    ensures takes { (number : ℕ) (octets : List ℕ) (l : Line) → line_of number octets ≡ Ok l → (octets ≡ line_text l) × FitsLine number l }
+    ensures short { (number : ℕ) (l : Line) → FitsLine number l → length (line_text l) ≤ 70000 }
+{}
+
+/// The frame of a line: it ends with its only line end, has at most 70,000 octets, and its fields
+/// answer no fault of the frame.
+pub fn lines_are_framed()
+    ensures whole { (number : ℕ) (octets : List ℕ) (l : Line) → line_of number octets ≡ Ok l
+        → ((front : List ℕ) × (octets ≡ front ++ 10 ∷ []) × Lacks 10 front) × (length octets ≤ 70000) }
+    ensures unended { (number : ℕ) (octets : List ℕ) → (line_of number octets ≡ Err Unended) ↔ ((length octets ≤ 70000) × (is_ended octets ≡ false)) }
+    ensures too_long { (number : ℕ) (octets : List ℕ) → 70000 < length octets → line_of number octets ≡ Err Length }
+    ensures fields { (fields : List (List ℕ)) (fault : ScriptFault) → said_by fields ≡ Err fault → IsFieldFault fault }
+{}
