@@ -2,6 +2,8 @@ pub mod Fields
 pub mod LineFaults
 pub mod LineOf
 pub mod LineText
+pub mod OutcomeFields
+pub mod OutcomeOf
 pub mod OutcomeText
 pub mod RawFields
 pub mod RawGives

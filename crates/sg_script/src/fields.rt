@@ -42,7 +42,7 @@ pub(crate) fn address(text: &[u8]) -> Result<Address, ScriptFault>
 
 /// Pairs of digits, one pair or more, or a hyphen for no octets.
 #[tactic(auto, unfolding(crate::specs::Fields::hex_in))]
-fn hex_octets(alloc: Global, text: &[u8]) -> Result<Octets, ReadLineFault>
+pub(crate) fn hex_octets(alloc: Global, text: &[u8]) -> Result<Octets, ReadLineFault>
     ensures { Gives result (hex_in text.now) }
 {
     if text == b"-".as_slice() {

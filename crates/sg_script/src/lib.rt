@@ -1,10 +1,13 @@
 //! Script lines and outcome lines: what the gateway is told, and what it tells.
 #![tactic(auto)]
 
+mod causes;
 mod fields;
 mod laws;
 mod line_printing;
 mod lines;
+mod outcome_names;
+mod outcome_reading;
 mod outcomes;
 mod printing;
 mod raw_faults;

@@ -60,7 +60,7 @@ pub(crate) fn push_hex(alloc: Global, out: &mut Vec<u8>, octets: &[u8]) -> Resul
     }
 }
 
-fn side_word(side: Side) -> &'static [u8]
+pub(crate) fn side_word(side: Side) -> &'static [u8]
     ensures { result.now ≡ side_name side }
 {
     match side {
@@ -69,7 +69,7 @@ fn side_word(side: Side) -> &'static [u8]
     }
 }
 
-fn why_word(why: Why) -> &'static [u8]
+pub(crate) fn why_word(why: Why) -> &'static [u8]
     ensures { result.now ≡ why_name why }
 {
     match why {
@@ -79,7 +79,7 @@ fn why_word(why: Why) -> &'static [u8]
     }
 }
 
-fn drop_cause_word(cause: DropCause) -> &'static [u8]
+pub(crate) fn drop_cause_word(cause: DropCause) -> &'static [u8]
     ensures { result.now ≡ drop_cause_name cause }
 {
     match cause {
@@ -118,7 +118,7 @@ fn push_drop_numbers(alloc: Global, out: &mut Vec<u8>, cause: DropCause) -> Resu
     }
 }
 
-fn sdp_fault_word(fault: SdpFault) -> &'static [u8]
+pub(crate) fn sdp_fault_word(fault: SdpFault) -> &'static [u8]
     ensures { result.now ≡ sdp_fault_name fault }
 {
     match fault {
@@ -130,7 +130,7 @@ fn sdp_fault_word(fault: SdpFault) -> &'static [u8]
     }
 }
 
-fn sdes_fault_word(fault: SdesFault) -> &'static [u8]
+pub(crate) fn sdes_fault_word(fault: SdesFault) -> &'static [u8]
     ensures { result.now ≡ sdes_fault_name fault }
 {
     match fault {
@@ -144,7 +144,7 @@ fn sdes_fault_word(fault: SdesFault) -> &'static [u8]
     }
 }
 
-fn mikey_fault_word(fault: MikeyFault) -> &'static [u8]
+pub(crate) fn mikey_fault_word(fault: MikeyFault) -> &'static [u8]
     ensures { result.now ≡ mikey_fault_name fault }
 {
     match fault {
@@ -182,7 +182,7 @@ fn push_psk_fault(alloc: Global, out: &mut Vec<u8>, fault: PskFault) -> Result<(
     }
 }
 
-fn cs_fault_word(fault: CsFault) -> &'static [u8]
+pub(crate) fn cs_fault_word(fault: CsFault) -> &'static [u8]
     ensures { result.now ≡ cs_fault_name fault }
 {
     match fault {
