@@ -1,0 +1,120 @@
+-- A chain that is read is the chain that was written, and what was written is read again.
+use Rattle.std.proofs.Common.{◌≡◌, ℕ, zero, suc, ◌<◌, ◌≤◌, Bool, true, false, ◌&&◌, cond, nat_eq, List, [], ◌∷◌, ◌++◌, length, map, Option, Some, None, Result, Ok, refl, sym, ap, subst, ◌∙◌, append_assoc, length-append, arith, ◌⊎◌, inl, inr}
+use Rattle.std.specs.List.{AllByRecursion}
+use Rattle.std.proofs.lemmas.Bool.{eqb-true}
+use Rattle.sg_mikey.specs.declared.chain.Stage.{Stage}
+use Rattle.sg_mikey.specs.declared.faults.Stop.{Stop}
+use Rattle.sg_mikey.specs.declared.payload.Payload.{Payload}
+use Rattle.sg_mikey.specs.declared.payload.Payload.TheVariants.{Time, Random, Id, Sp, Extension, Kemac, Verify}
+use Rattle.sg_mikey.specs.Chain.{stage_after, is_over}
+use Rattle.sg_mikey.specs.Spelling.{payload_number, next_number, body_octets, chain_octets, IsPayload}
+use Rattle.sg_mikey.specs.Reading.{◌>>=◌, Link, is_number, in_place, payload_at, chain_at}
+use Rattle.sg_mikey.proofs.FieldLaws.{IsOctets, bind_ok, ok_is, Takes, Takes-then}
+use Rattle.sg_mikey.proofs.Orders.{Accepts, placed_of}
+use Rattle.sg_mikey.proofs.PayloadLaws.{TakesLink, payload_takes, payload_again}
+
+-- what the reader of a chain took
+pub record TakesChain (octets : List ℕ) (kind : ℕ) (stage : Stage) (next : ℕ) (ps : List Payload) (rest : List ℕ) : Type 0 where
+  pub takes : Takes octets (chain_octets ps) rest
+  pub payloads : AllByRecursion IsPayload ps
+  pub first : next ≡ next_number ps
+  pub accepted : Accepts kind stage (map payload_number ps)
+
+and_parts : (a b : Bool) → (a && b) ≡ true → (a ≡ true) × (b ≡ true)
+and_parts true b e = (refl, e)
+and_parts false b e = absurd cc
+
+chosen : {A : Type 0} (b : Bool) (x y z : Result A Stop) → cond b x y ≡ z → ((b ≡ true) × (x ≡ z)) ⊎ ((b ≡ false) × (y ≡ z))
+chosen true x y z e = inl (refl, e)
+chosen false x y z e = inr (refl, e)
+
+place_ok : (o : Option Stage) (octets : List ℕ) (behind : Stage) → in_place o octets ≡ Ok behind → o ≡ Some behind
+place_ok None octets behind e = absurd cc
+place_ok (Some s) octets behind e = ap Some (ok_is s behind e)
+
+-- one payload, and a chain behind it
+linked : (octets : List ℕ) (kind : ℕ) (stage behind : Stage) (next : ℕ) (link : Link) (ps : List Payload) (rest : List ℕ) → stage_after kind stage next ≡ Some behind
+    → TakesLink octets next link → TakesChain link.2 kind behind link.1 ps rest → TakesChain octets kind stage next (link.0 ∷ ps) rest
+linked octets kind stage behind next link ps rest here first others =
+    let named : Takes octets (next_number ps ∷ body_octets link.0) link.2 = subst (λ (n : ℕ). Takes octets (n ∷ body_octets link.0) link.2) others.first first.takes in
+    record {
+      takes = Takes-then octets (next_number ps ∷ body_octets link.0) link.2 (chain_octets ps) rest named others.takes;
+      payloads = (first.payload, others.payloads);
+      first = sym first.number_is;
+      accepted = (behind, rw first.number_is here, others.accepted);
+    }
+
+pub chain_takes : (fuel kind : ℕ) (stage : Stage) (next : ℕ) (octets : List ℕ) (y : List Payload × List ℕ) → IsOctets octets → chain_at fuel kind stage next octets ≡ Ok y
+    → TakesChain octets kind stage next y.0 y.1
+unfolding chain_at
+chain_takes zero kind stage next octets y fits e = absurd cc
+chain_takes (suc fuel) kind stage next octets y fits e =
+    elim (chosen (is_over stage && nat_eq next 0) (Ok ([], octets)) (in_place (stage_after kind stage next) octets >>= λ behind. payload_at next octets >>= λ link. chain_at fuel kind behind link.1 link.2 >>= λ others. Ok (link.0 ∷ others.0, others.1)) (Ok y) e) [
+      | inl over ↦
+          (let parts = and_parts (is_over stage) (nat_eq next 0) over.0 in
+          let none : List Payload × List ℕ = ([], octets) in
+          subst (λ (z : List Payload × List ℕ). TakesChain octets kind stage next z.0 z.1) (ok_is none y over.1)
+          (record { takes = record { parts = refl; rest_fits = fits }; payloads = tt; first = eqb-true next 0 parts.1; accepted = parts.0 }))
+      | inr going ↦
+          (let a = bind_ok (in_place (stage_after kind stage next) octets) (λ behind. payload_at next octets >>= λ link. chain_at fuel kind behind link.1 link.2 >>= λ others. Ok (link.0 ∷ others.0, others.1)) y going.1 in
+          let b = bind_ok (payload_at next octets) (λ link. chain_at fuel kind a.0 link.1 link.2 >>= λ others. Ok (link.0 ∷ others.0, others.1)) y a.2 in
+          let c = bind_ok (chain_at fuel kind a.0 b.0.1 b.0.2) (λ others. Ok (b.0.0 ∷ others.0, others.1)) y b.2 in
+          let here = place_ok (stage_after kind stage next) octets a.0 a.1 in
+          let first = payload_takes next octets b.0 (placed_of kind next stage a.0 here) fits b.1 in
+          let others = chain_takes fuel kind a.0 b.0.1 b.0.2 c.0 first.takes.rest_fits c.1 in
+          let made : List Payload × List ℕ = (b.0.0 ∷ c.0.0, c.0.1) in
+          subst (λ (z : List Payload × List ℕ). TakesChain octets kind stage next z.0 z.1) (ok_is made y c.2)
+          (linked octets kind stage a.0 next b.0 c.0.0 c.0.1 here first others))
+    ]
+
+-- ---- and back
+
+number_known : (p : Payload) → is_number (payload_number p) ≡ true
+number_known (Kemac cipher inner mac tag) = refl
+number_known (Time form stamp) = refl
+number_known (Id form name) = refl
+number_known (Verify mac tag) = refl
+number_known (Sp policy) = refl
+number_known (Random inner) = refl
+number_known (Extension form inner) = refl
+
+pub next_known : (ps : List Payload) → is_number (next_number ps) ≡ true
+next_known [] = refl
+next_known (p ∷ ps) = number_known p
+
+and_false : (b : Bool) → (b && false) ≡ false
+and_false true = refl
+and_false false = refl
+
+-- a payload's number isn't 0
+not_over : (stage : Stage) (p : Payload) → (is_over stage && nat_eq (payload_number p) 0) ≡ false
+not_over stage (Kemac cipher inner mac tag) = and_false (is_over stage)
+not_over stage (Time form stamp) = and_false (is_over stage)
+not_over stage (Id form name) = and_false (is_over stage)
+not_over stage (Verify mac tag) = and_false (is_over stage)
+not_over stage (Sp policy) = and_false (is_over stage)
+not_over stage (Random inner) = and_false (is_over stage)
+not_over stage (Extension form inner) = and_false (is_over stage)
+
+pub chain_again : (ps : List Payload) (fuel kind : ℕ) (stage : Stage) (rest : List ℕ) → AllByRecursion IsPayload ps → Accepts kind stage (map payload_number ps) → length ps < fuel
+    → chain_at fuel kind stage (next_number ps) (chain_octets ps ++ rest) ≡ Ok (ps, rest)
+unfolding chain_at
+chain_again ps zero kind stage rest fit accepted lt = absurd (omega arith)
+chain_again [] (suc fuel) kind stage rest fit accepted lt = rw accepted refl
+chain_again (p ∷ ps) (suc fuel) kind stage rest fit accepted lt =
+    let regrouped : chain_octets (p ∷ ps) ++ rest ≡ next_number ps ∷ (body_octets p ++ (chain_octets ps ++ rest)) =
+    ap (λ (l : List ℕ). next_number ps ∷ l) (append_assoc (body_octets p) (chain_octets ps) rest) in
+    ap (chain_at (suc fuel) kind stage (payload_number p)) regrouped
+    ∙ rw (
+      not_over stage p,
+      accepted.1,
+      payload_again p (next_number ps) (chain_octets ps ++ rest) fit.0 (next_known ps),
+      chain_again ps fuel kind accepted.0 rest fit.1 accepted.2 (omega arith),
+    ) refl
+
+-- each payload has an octet at least
+pub length-chain_octets : (ps : List Payload) → length ps ≤ length (chain_octets ps)
+length-chain_octets [] = omega arith
+length-chain_octets (p ∷ ps) =
+    let others = length-chain_octets ps in
+    omega (arith, length-append (body_octets p) (chain_octets ps))

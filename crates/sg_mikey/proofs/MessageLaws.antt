@@ -1,0 +1,209 @@
+-- A message that is read is spelled so, and what is spelled so is read.
+use Rattle.std.proofs.Common.{◌≡◌, ℕ, zero, suc, ◌+◌, ◌^◌, ◌<◌, ◌≤◌, Bool, true, cond, nat_eq, List, [], ◌∷◌, ◌++◌, length, map, Result, Ok, Err, refl, sym, ap, subst, ◌∙◌, append_assoc, arith}
+use Rattle.std.specs.List.{flat_map, AllByRecursion}
+use Rattle.std.proofs.lemmas.Bool.{eqb-true}
+use Rattle.std.proofs.lemmas.List.{append-nil, nil_from_length}
+use Rattle.std.proofs.lemmas.List.Concat.{flat_map-cons}
+use Rattle.sg_base.specs.Octets.{be}
+use Rattle.sg_base.specs.declared.MikeyFault.TheVariants as faults
+use Rattle.sg_mikey.specs.declared.chain.Stage.TheVariants.{BeforeTime}
+use Rattle.sg_mikey.specs.declared.faults.Stop.{Stop}
+use Rattle.sg_mikey.specs.declared.message.CsEntry.{CsEntry}
+use Rattle.sg_mikey.specs.declared.message.Header.{Header}
+use Rattle.sg_mikey.specs.declared.message.Message.{Message}
+use Rattle.sg_mikey.specs.declared.payload.Payload.{Payload}
+use Rattle.sg_mikey.specs.Spelling.{payload_number, next_number, chain_octets, entry_octets, message_octets, FitsLengths, HasSpelling, IsEntry, IsPayload, IsMessage}
+use Rattle.sg_mikey.specs.Reading.{◌>>=◌, stop, is_number, octet_at, up_to_at, number_at, next_at, version_at, verify_bit_at, chain_at, entry_at, entries_at, header_at, whole_at, message_of, placed}
+use Rattle.sg_mikey.proofs.FieldLaws.{IsOctets, bind_ok, pass_ok, ok_is, Takes, Takes-then, octet_takes, octet_again, up_to_takes, up_to_again, wide_four, number_takes, number_again, next_takes, next_again, version_takes, version_again, verify_octet, verify_takes, verify_again}
+use Rattle.sg_mikey.proofs.Orders.{chain_of, accepts_chain}
+use Rattle.sg_mikey.proofs.ChainLaws.{TakesChain, chain_takes, chain_again, next_known, length-chain_octets}
+
+-- ---- crypto sessions
+
+entry_takes : (octets : List ℕ) (y : CsEntry × List ℕ) → IsOctets octets → entry_at octets ≡ Ok y → Takes octets (entry_octets y.0) y.1 × IsEntry y.0
+unfolding entry_at
+entry_takes octets y fits e =
+    let a = bind_ok (octet_at octets) (λ policy. number_at 4 policy.1 >>= λ ssrc. number_at 4 ssrc.1 >>= λ roc. Ok (record { policy = policy.0; ssrc = ssrc.0; roc = roc.0 }, roc.1)) y e in
+    let b = bind_ok (number_at 4 a.0.1) (λ ssrc. number_at 4 ssrc.1 >>= λ roc. Ok (record { policy = a.0.0; ssrc = ssrc.0; roc = roc.0 }, roc.1)) y a.2 in
+    let c = bind_ok (number_at 4 b.0.1) (λ roc. Ok (record { policy = a.0.0; ssrc = b.0.0; roc = roc.0 }, roc.1)) y b.2 in
+    let ta = octet_takes octets a.0 fits a.1 in
+    let tb = number_takes 4 (2 ^ 32) wide_four a.0.1 b.0 ta.0.rest_fits b.1 in
+    let tc = number_takes 4 (2 ^ 32) wide_four b.0.1 c.0 tb.0.rest_fits c.1 in
+    let e1 = Takes-then a.0.1 (be b.0.0 4) b.0.1 (be c.0.0 4) c.0.1 tb.0 tc.0 in
+    let e2 = Takes-then octets (a.0.0 ∷ []) a.0.1 (be b.0.0 4 ++ be c.0.0 4) c.0.1 ta.0 e1 in
+    let made : CsEntry × List ℕ = (record { policy = a.0.0; ssrc = b.0.0; roc = c.0.0 }, c.0.1) in
+    subst (λ (z : CsEntry × List ℕ). Takes octets (entry_octets z.0) z.1 × IsEntry z.0) (ok_is made y c.2) (e2, (tb.1, tc.1))
+
+entry_again : (x : CsEntry) (rest : List ℕ) → IsEntry x → entry_at (entry_octets x ++ rest) ≡ Ok (x, rest)
+unfolding entry_at
+entry_again x rest fits =
+    rw (
+      octet_again x.policy (be x.ssrc 4 ++ (be x.roc 4 ++ rest)),
+      number_again 4 (2 ^ 32) wide_four x.ssrc (be x.roc 4 ++ rest) fits.0,
+      number_again 4 (2 ^ 32) wide_four x.roc rest fits.1,
+    ) refl
+
+entries_take : (count : ℕ) (octets : List ℕ) (y : List CsEntry × List ℕ) → IsOctets octets → entries_at count octets ≡ Ok y
+    → Takes octets (flat_map entry_octets y.0) y.1 × (length y.0 ≡ count) × AllByRecursion IsEntry y.0
+unfolding entries_at
+entries_take zero octets y fits e =
+    let none : List CsEntry × List ℕ = ([], octets) in
+    subst (λ (z : List CsEntry × List ℕ). Takes octets (flat_map entry_octets z.0) z.1 × (length z.0 ≡ 0) × AllByRecursion IsEntry z.0) (ok_is none y e)
+    (record { parts = refl; rest_fits = fits }, refl, tt)
+entries_take (suc count) octets y fits e =
+    let a = bind_ok (entry_at octets) (λ first. entries_at count first.1 >>= λ others. Ok (first.0 ∷ others.0, others.1)) y e in
+    let b = bind_ok (entries_at count a.0.1) (λ others. Ok (a.0.0 ∷ others.0, others.1)) y a.2 in
+    let first = entry_takes octets a.0 fits a.1 in
+    let second = entries_take count a.0.1 b.0 first.0.rest_fits b.1 in
+    let both = Takes-then octets (entry_octets a.0.0) a.0.1 (flat_map entry_octets b.0.0) b.0.1 first.0 second.0 in
+    let made : List CsEntry × List ℕ = (a.0.0 ∷ b.0.0, b.0.1) in
+    subst (λ (z : List CsEntry × List ℕ). Takes octets (flat_map entry_octets z.0) z.1 × (length z.0 ≡ suc count) × AllByRecursion IsEntry z.0) (ok_is made y b.2)
+    (rw flat_map-cons both, ap suc second.1, (first.1, second.2))
+
+entries_again : (xs : List CsEntry) (rest : List ℕ) → AllByRecursion IsEntry xs → entries_at (length xs) (flat_map entry_octets xs ++ rest) ≡ Ok (xs, rest)
+unfolding entries_at
+entries_again [] rest fits = refl
+entries_again (x ∷ xs) rest fits =
+    let regrouped : flat_map entry_octets (x ∷ xs) ++ rest ≡ entry_octets x ++ (flat_map entry_octets xs ++ rest) =
+    ap (λ (l : List ℕ). l ++ rest) (flat_map-cons entry_octets x xs) ∙ append_assoc (entry_octets x) (flat_map entry_octets xs) rest in
+    ap (entries_at (suc (length xs))) regrouped
+    ∙ rw (entry_again x (flat_map entry_octets xs ++ rest) fits.0, entries_again xs rest fits.1) refl
+
+-- ---- the common header
+
+-- the header's octets, up to the map
+abbrev header_octets : Header → List ℕ
+header_octets h = 1 ∷ h.kind ∷ h.next ∷ verify_octet h.verify ∷ (be h.csb 4 ++ h.count ∷ 0 ∷ [])
+
+record IsHeader (h : Header) : Type 0 where
+  kind : h.kind ≤ 1
+  csb : h.csb < 2 ^ 32
+  count : h.count < 2 ^ 8
+
+abbrev header_ok : Header × List ℕ → Result (Header × List ℕ) Stop
+header_ok x = Ok x
+
+-- the parts of a header, put together
+header_made : (octets a : List ℕ) (b c : ℕ × List ℕ) (d : Bool × List ℕ) (f g h : ℕ × List ℕ) (y : Header × List ℕ)
+    → Takes octets (1 ∷ []) a → Takes a (b.0 ∷ []) b.1 → b.0 ≤ 1 → Takes b.1 (c.0 ∷ []) c.1 → Takes c.1 (verify_octet d.0 ∷ []) d.1
+    → Takes d.1 (be f.0 4) f.1 → f.0 < 2 ^ 32 → Takes f.1 (g.0 ∷ []) g.1 → g.0 < 256 → Takes g.1 (h.0 ∷ []) h.1 → h.0 ≤ 0
+    → header_ok (record { kind = b.0; next = c.0; verify = d.0; csb = f.0; count = g.0 }, h.1) ≡ header_ok y → Takes octets (header_octets y.0) y.1 × IsHeader y.0
+header_made octets a b c d f g h y ta tb kind tc td tf csb tg count th least e =
+    let zero_is : h.0 ≡ 0 = omega arith in
+    let form : Takes g.1 (0 ∷ []) h.1 = subst (λ (n : ℕ). Takes g.1 (n ∷ []) h.1) zero_is th in
+    let e1 = Takes-then f.1 (g.0 ∷ []) g.1 (0 ∷ []) h.1 tg form in
+    let e2 = Takes-then d.1 (be f.0 4) f.1 (g.0 ∷ 0 ∷ []) h.1 tf e1 in
+    let e3 = Takes-then c.1 (verify_octet d.0 ∷ []) d.1 (be f.0 4 ++ g.0 ∷ 0 ∷ []) h.1 td e2 in
+    let e4 = Takes-then b.1 (c.0 ∷ []) c.1 (verify_octet d.0 ∷ (be f.0 4 ++ g.0 ∷ 0 ∷ [])) h.1 tc e3 in
+    let e5 = Takes-then a (b.0 ∷ []) b.1 (c.0 ∷ verify_octet d.0 ∷ (be f.0 4 ++ g.0 ∷ 0 ∷ [])) h.1 tb e4 in
+    let e6 = Takes-then octets (1 ∷ []) a (b.0 ∷ c.0 ∷ verify_octet d.0 ∷ (be f.0 4 ++ g.0 ∷ 0 ∷ [])) h.1 ta e5 in
+    let made : Header × List ℕ = (record { kind = b.0; next = c.0; verify = d.0; csb = f.0; count = g.0 }, h.1) in
+    subst (λ (z : Header × List ℕ). Takes octets (header_octets z.0) z.1 × IsHeader z.0) (ok_is made y e)
+    (e6, record { kind = kind; csb = csb; count = count })
+
+header_takes : (octets : List ℕ) (y : Header × List ℕ) → IsOctets octets → header_at octets ≡ Ok y → Takes octets (header_octets y.0) y.1 × IsHeader y.0
+unfolding header_at
+header_takes octets y fits e =
+    let a = bind_ok (version_at octets) (λ version. up_to_at 1 faults.DataType version.1 >>= λ kind. next_at kind.1 >>= λ next. verify_bit_at next.1 >>= λ verify. number_at 4 verify.1 >>= λ csb. octet_at csb.1 >>= λ count. up_to_at 0 faults.Value count.1 >>= λ form. Ok (record { kind = kind.0; next = next.0; verify = verify.0; csb = csb.0; count = count.0 }, form.1)) y e in
+    let b = bind_ok (up_to_at 1 faults.DataType a.0.1) (λ kind. next_at kind.1 >>= λ next. verify_bit_at next.1 >>= λ verify. number_at 4 verify.1 >>= λ csb. octet_at csb.1 >>= λ count. up_to_at 0 faults.Value count.1 >>= λ form. Ok (record { kind = kind.0; next = next.0; verify = verify.0; csb = csb.0; count = count.0 }, form.1)) y a.2 in
+    let c = bind_ok (next_at b.0.1) (λ next. verify_bit_at next.1 >>= λ verify. number_at 4 verify.1 >>= λ csb. octet_at csb.1 >>= λ count. up_to_at 0 faults.Value count.1 >>= λ form. Ok (record { kind = b.0.0; next = next.0; verify = verify.0; csb = csb.0; count = count.0 }, form.1)) y b.2 in
+    let d = bind_ok (verify_bit_at c.0.1) (λ verify. number_at 4 verify.1 >>= λ csb. octet_at csb.1 >>= λ count. up_to_at 0 faults.Value count.1 >>= λ form. Ok (record { kind = b.0.0; next = c.0.0; verify = verify.0; csb = csb.0; count = count.0 }, form.1)) y c.2 in
+    let f = bind_ok (number_at 4 d.0.1) (λ csb. octet_at csb.1 >>= λ count. up_to_at 0 faults.Value count.1 >>= λ form. Ok (record { kind = b.0.0; next = c.0.0; verify = d.0.0; csb = csb.0; count = count.0 }, form.1)) y d.2 in
+    let g = bind_ok (octet_at f.0.1) (λ count. up_to_at 0 faults.Value count.1 >>= λ form. Ok (record { kind = b.0.0; next = c.0.0; verify = d.0.0; csb = f.0.0; count = count.0 }, form.1)) y f.2 in
+    let h = bind_ok (up_to_at 0 faults.Value g.0.1) (λ form. Ok (record { kind = b.0.0; next = c.0.0; verify = d.0.0; csb = f.0.0; count = g.0.0 }, form.1)) y g.2 in
+    let ta = version_takes octets a.0 fits a.1 in
+    let tb = up_to_takes 1 faults.DataType a.0.1 b.0 ta.rest_fits b.1 in
+    let tc = next_takes b.0.1 c.0 tb.0.rest_fits c.1 in
+    let td = verify_takes c.0.1 d.0 tc.0.rest_fits d.1 in
+    let tf = number_takes 4 (2 ^ 32) wide_four d.0.1 f.0 td.rest_fits f.1 in
+    let tg = octet_takes f.0.1 g.0 tf.0.rest_fits g.1 in
+    let th = up_to_takes 0 faults.Value g.0.1 h.0 tg.0.rest_fits h.1 in
+    header_made octets a.0.1 b.0 c.0 d.0 f.0 g.0 h.0 y ta tb.0 tb.1 tc.0 td tf.0 tf.1 tg.0 tg.1 th.0 th.1 h.2
+
+-- ---- the whole message
+
+-- the parts of a message, put together
+whole_made : (octets : List ℕ) (h : Header) (behind : List ℕ) (map' : List CsEntry) (rest : List ℕ) (ps : List Payload) (left : List ℕ)
+    → Takes octets (header_octets h) behind → IsHeader h → Takes behind (flat_map entry_octets map') rest → length map' ≡ h.count → AllByRecursion IsEntry map'
+    → TakesChain rest h.kind BeforeTime h.next ps left → left ≡ []
+    → IsMessage (record { kind = h.kind; verify = h.verify; csb = h.csb; map = map'; payloads = ps })
+    × (octets ≡ message_octets (record { kind = h.kind; verify = h.verify; csb = h.csb; map = map'; payloads = ps }))
+whole_made octets h behind map' rest ps left ta is tb count entries tc nothing =
+    let named : Takes octets (header_octets (record { kind = h.kind; next = next_number ps; verify = h.verify; csb = h.csb; count = length map' })) behind =
+    subst (λ (n : ℕ). Takes octets (1 ∷ h.kind ∷ n ∷ verify_octet h.verify ∷ (be h.csb 4 ++ length map' ∷ 0 ∷ [])) behind) tc.first
+    (subst (λ (n : ℕ). Takes octets (1 ∷ h.kind ∷ h.next ∷ verify_octet h.verify ∷ (be h.csb 4 ++ n ∷ 0 ∷ [])) behind) (sym count) ta) in
+    let chain : rest ≡ chain_octets ps = tc.takes.parts ∙ ap (λ (l : List ℕ). chain_octets ps ++ l) nothing ∙ append-nil (chain_octets ps) in
+    let inner : behind ≡ flat_map entry_octets map' ++ chain_octets ps = tb.parts ∙ ap (λ (l : List ℕ). flat_map entry_octets map' ++ l) chain in (
+      record {
+        kind = is.kind;
+        csb = is.csb;
+        count = rw count is.count;
+        entries = entries;
+        payloads = tc.payloads;
+        order = chain_of h.kind (map payload_number ps) tc.accepted;
+      },
+      named.parts ∙ ap (λ (l : List ℕ). header_octets (record { kind = h.kind; next = next_number ps; verify = h.verify; csb = h.csb; count = length map' }) ++ l) inner,
+    )
+
+pub whole_takes : (octets : List ℕ) (m : Message) → IsOctets octets → whole_at octets ≡ Ok m → IsMessage m × (octets ≡ message_octets m)
+unfolding whole_at
+whole_takes octets m fits e =
+    let a = bind_ok (header_at octets) (λ header. entries_at header.0.count header.1 >>= λ map. chain_at (length map.1 + 1) header.0.kind BeforeTime header.0.next map.1 >>= λ chain. cond (nat_eq (length chain.1) 0) (Ok (record { kind = header.0.kind; verify = header.0.verify; csb = header.0.csb; map = map.0; payloads = chain.0 })) (Err (stop chain.1 faults.Trailing))) m e in
+    let b = bind_ok (entries_at a.0.0.count a.0.1) (λ map. chain_at (length map.1 + 1) a.0.0.kind BeforeTime a.0.0.next map.1 >>= λ chain. cond (nat_eq (length chain.1) 0) (Ok (record { kind = a.0.0.kind; verify = a.0.0.verify; csb = a.0.0.csb; map = map.0; payloads = chain.0 })) (Err (stop chain.1 faults.Trailing))) m a.2 in
+    let c = bind_ok (chain_at (length b.0.1 + 1) a.0.0.kind BeforeTime a.0.0.next b.0.1) (λ chain. cond (nat_eq (length chain.1) 0) (Ok (record { kind = a.0.0.kind; verify = a.0.0.verify; csb = a.0.0.csb; map = b.0.0; payloads = chain.0 })) (Err (stop chain.1 faults.Trailing))) m b.2 in
+    let made : Message = record { kind = a.0.0.kind; verify = a.0.0.verify; csb = a.0.0.csb; map = b.0.0; payloads = c.0.0 } in
+    let g = pass_ok (nat_eq (length c.0.1) 0) (stop c.0.1 faults.Trailing) made m c.2 in
+    let ta = header_takes octets a.0 fits a.1 in
+    let tb = entries_take a.0.0.count a.0.1 b.0 ta.0.rest_fits b.1 in
+    let tc = chain_takes (length b.0.1 + 1) a.0.0.kind BeforeTime a.0.0.next b.0.1 c.0 tb.0.rest_fits c.1 in
+    let nothing : c.0.1 ≡ [] = nil_from_length c.0.1 (eqb-true _ _ g.0) in
+    subst (λ (z : Message). IsMessage z × (octets ≡ message_octets z)) g.1
+    (whole_made octets a.0.0 a.0.1 b.0.0 b.0.1 c.0.0 c.0.1 ta.0 ta.1 tb.0 tb.1 tb.2 tc nothing)
+
+header_again : (h : Header) (rest : List ℕ) → IsHeader h → is_number h.next ≡ true → header_at (header_octets h ++ rest) ≡ Ok (h, rest)
+unfolding header_at
+header_again h rest fits known =
+    rw (
+      version_again (h.kind ∷ h.next ∷ verify_octet h.verify ∷ (be h.csb 4 ++ h.count ∷ 0 ∷ rest)),
+      up_to_again 1 faults.DataType h.kind (h.next ∷ verify_octet h.verify ∷ (be h.csb 4 ++ h.count ∷ 0 ∷ rest)) fits.kind,
+      next_again h.next (verify_octet h.verify ∷ (be h.csb 4 ++ h.count ∷ 0 ∷ rest)) known,
+      verify_again h.verify (be h.csb 4 ++ h.count ∷ 0 ∷ rest),
+      number_again 4 (2 ^ 32) wide_four h.csb (h.count ∷ 0 ∷ rest) fits.csb,
+      octet_again h.count (0 ∷ rest),
+      up_to_again 0 faults.Value 0 rest (omega arith),
+    ) refl
+
+abbrev header_of : Message → Header
+header_of m = record { kind = m.kind; next = next_number m.payloads; verify = m.verify; csb = m.csb; count = length m.map }
+
+pub whole_again : (m : Message) → IsMessage m → whole_at (message_octets m) ≡ Ok m
+unfolding whole_at
+whole_again m is =
+    let header : header_at (message_octets m) ≡ Ok (header_of m, flat_map entry_octets m.map ++ chain_octets m.payloads) =
+    header_again (header_of m) (flat_map entry_octets m.map ++ chain_octets m.payloads) (record { kind = is.kind; csb = is.csb; count = is.count }) (next_known m.payloads) in
+    let chain : chain_at (length (chain_octets m.payloads) + 1) m.kind BeforeTime (next_number m.payloads) (chain_octets m.payloads) ≡ Ok (m.payloads, []) =
+    ap (chain_at (length (chain_octets m.payloads) + 1) m.kind BeforeTime (next_number m.payloads)) (sym (append-nil (chain_octets m.payloads)))
+    ∙ chain_again m.payloads (length (chain_octets m.payloads) + 1) m.kind BeforeTime [] is.payloads (accepts_chain m.kind (map payload_number m.payloads) is.order) (let long = length-chain_octets m.payloads in omega arith) in
+    rw (header, entries_again m.map (chain_octets m.payloads) is.entries, chain) refl
+
+-- ---- what `read` says
+
+pub placed_ok : (size : ℕ) (r : Result Message Stop) (m : Message) → placed size r ≡ Ok m → r ≡ Ok m
+placed_ok size (Ok x) m e = let same : x ≡ m = cc in ap Ok same
+placed_ok size (Err s) m e = absurd cc
+
+-- what is read is spelled so
+pub found : (octets : List ℕ) (m : Message) → IsOctets octets → message_of octets ≡ Ok m → IsMessage m × (octets ≡ message_octets m)
+found octets m fits e = whole_takes octets m fits (placed_ok (length octets) (whole_at octets) m e)
+
+-- what is spelled so is read
+pub message_again : (m : Message) → IsMessage m → message_of (message_octets m) ≡ Ok m
+message_again m is = ap (placed (length (message_octets m))) (whole_again m is)
+
+lengths_fit : (ps : List Payload) → AllByRecursion IsPayload ps → AllByRecursion FitsLengths ps
+lengths_fit [] fits = tt
+lengths_fit (p ∷ ps) fits = (fits.0.0, lengths_fit ps fits.1)
+
+-- a message has a spelling
+pub has_spelling : (m : Message) → IsMessage m → HasSpelling m
+has_spelling m is = (is.count, lengths_fit m.payloads is.payloads)

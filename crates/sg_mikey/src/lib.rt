@@ -1,0 +1,26 @@
+//! MIKEY messages of the pre-shared-key method, read and printed (RFC 3830).
+#![tactic(auto)]
+
+mod chain;
+mod faults;
+mod fields;
+mod items;
+mod laws;
+mod message;
+mod payload;
+mod payloads;
+mod policy;
+mod printing;
+mod reading;
+
+pub use faults::ReadMikeyFault;
+pub use items::Items;
+pub use laws::message_law;
+pub use message::{CsEntry, Message, Tgk, Tgks};
+pub use payload::Payload;
+pub use policy::Policy;
+pub use printing::print;
+pub use reading::read;
+
+#[cfg(test)]
+mod tests;
