@@ -17,6 +17,7 @@ pub mod RawOpenedAndPut
 pub mod RawPutOut
 pub mod RawSayings
 pub mod RawSteps
+pub mod Reached
 pub mod Signals
 pub mod Sound
 pub mod Used

@@ -1,5 +1,5 @@
 -- Each event keeps the order of calls and the difference of names.
-use Rattle.std.proofs.Common.{◌≡◌, ℕ, ◌<◌, Bool, true, false, cond, ◌&&◌, List, [], ◌∷◌, ◌++◌, length, Option, Some, None, Result, Ok, Err, refl, sym, ap, ◌∙◌, subst, arith}
+use Rattle.std.proofs.Common.{◌≤◌, ◌≡◌, ℕ, ◌<◌, Bool, true, false, cond, ◌&&◌, List, [], ◌∷◌, ◌++◌, length, Option, Some, None, Result, Ok, Err, refl, sym, ap, ◌∙◌, subst, arith}
 use Rattle.std.proofs.lemmas.Bool.{eqb-false, ltb-true, not-false}
 use Rattle.std.specs.List.{AllByRecursion, Any, filter}
 use Rattle.std.specs.Option.{is_some}
@@ -35,6 +35,7 @@ AreNamed c = Pairs DifferInName c.sessions
 pub record Ordered (w : World) : Type 0 where
   pub calls : Pairs IsBefore w.calls
   pub slots : AllByRecursion (λ c. c.slot < 256) w.calls
+  pub media : AllByRecursion (λ c. c.media ≤ 4) w.calls
   pub names : AllByRecursion AreNamed w.calls
 
 -- what a call settles is that call
@@ -42,13 +43,14 @@ record IsOf (c : Call) (r : Settled) : Type 0 where
   serial : r.call.serial ≡ c.serial
   slot : r.call.slot ≡ c.slot
   id : r.call.id ≡ c.id
+  media : r.call.media ≤ 4
   names : AreNamed r.call
 
 abbrev AreOlder : Call → Type 0
 AreOlder c = AllByRecursion (λ s. s.name.owner.generation < c.generations) c.sessions
 
-keyed_of : (now : ℕ) (books : Books) (c : Call) (media : List (Option Medium)) (r : Settled) → AreNamed c → AreOlder c → keyed now books c media ≡ Ok r → IsOf c r
-keyed_of now books c media r names older e =
+keyed_of : (now : ℕ) (books : Books) (c : Call) (media : List (Option Medium)) (r : Settled) → c.media ≤ 4 → AreNamed c → AreOlder c → keyed now books c media ≡ Ok r → IsOf c r
+keyed_of now books c media r few names older e =
     let a = after_ok_is (install books.ring (keys_for c media)) _ r e in
     let news : List Session = sessions_from c.serial c.generations 0 (length books.ring) media in
     let olds : List Session = filter (λ s. is_opening s && is_current c s) c.sessions in
@@ -57,6 +59,7 @@ keyed_of now books c media r names older e =
       serial = refl;
       slot = refl;
       id = refl;
+      media = few;
       names = pairs_append DifferInName news olds (generation_differ c.serial c.generations 0 (length books.ring) media) (pairs_filter DifferInName (λ s. is_opening s && is_current c s) c.sessions names)
           (each_weaker _ (λ s. AllByRecursion (DifferInName s) olds) (λ s (p : InGeneration c.generations 0 s). each_weaker _ (DifferInName s)
           (λ t (lt : t.name.owner.generation < c.generations) same. let at = p.0 in let moved : s.name.owner.generation ≡ t.name.owner.generation = ap (λ (n : Name). n.owner.generation) same in omega (arith, lt, at, moved)) olds older')
@@ -66,8 +69,8 @@ keyed_of now books c media r names older e =
 hand_of : (now : ℕ) (books : Books) (c : Call) (x : Medium) (r : Settled) → AreNamed c → AreOlder c → keyed_by_hand now books c x ≡ Ok r → IsOf c r
 hand_of now books c x r names older e =
     let a = stop_if_is (has_begun c) State (keyed now books (record c { media = 1 }) (Some x ∷ [])) r e in
-    let is = keyed_of now books (record c { media = 1 }) (Some x ∷ []) r names older a.1 in
-    record { serial = is.serial; slot = is.slot; id = is.id; names = is.names }
+    let is = keyed_of now books (record c { media = 1 }) (Some x ∷ []) r (omega arith) names older a.1 in
+    record { serial = is.serial; slot = is.slot; id = is.id; media = is.media; names = is.names }
 
 module _ (Extra : Session → Type 0) (past : List Entry) (w : World) (kept : IsKept Extra past w) (ordered : Ordered w) where
   same : (id : Option CallId) (cause : Refusal) → Ordered (refused w id cause).world
@@ -83,10 +86,11 @@ module _ (Extra : Session → Type 0) (past : List Entry) (w : World) (kept : Is
   older c a = each_weaker _ _ (λ s k. k.of_generation) c.sessions (each_at_this (CallKept Extra past w.books.ring w.made) w.calls c kept.calls a).sessions
 
   -- a call in its place
-  in_place : (c d : Call) (books : Books) → Of c → d.serial ≡ c.serial → d.slot ≡ c.slot → d.id ≡ c.id → AreNamed d → Ordered (record w { calls = with_call d w.calls; books = books })
-  in_place c d books a serial slot id names = record {
+  in_place : (c d : Call) (books : Books) → Of c → d.serial ≡ c.serial → d.slot ≡ c.slot → d.id ≡ c.id → d.media ≡ c.media → AreNamed d → Ordered (record w { calls = with_call d w.calls; books = books })
+  in_place c d books a serial slot id media names = record {
     calls = pairs_with_call c d w.calls serial slot id ordered.calls a;
     slots = each_with_call (λ c. c.slot < 256) d w.calls (subst (λ n. n < 256) (sym slot) (each_at_this (λ c. c.slot < 256) w.calls c ordered.slots a)) ordered.slots;
+    media = each_with_call (λ c. c.media ≤ 4) d w.calls (subst (λ n. n ≤ 4) (sym media) (each_at_this (λ c. c.media ≤ 4) w.calls c ordered.media a)) ordered.media;
     names = each_with_call AreNamed d w.calls names ordered.names;
   }
 
@@ -102,6 +106,7 @@ module _ (Extra : Session → Type 0) (past : List Entry) (w : World) (kept : Is
             (λ c lt differ. ((λ e. let at : c.serial ≡ w.made = e ∙ is.serial in omega (arith, lt, at)), (λ e. eqb-false c.id.0 id.0 differ (ap (λ (n : CallId). n.0) (e ∙ is.id)))))
             w.calls (each_weaker _ _ (λ c k. k.older) w.calls kept.calls) (not_found (λ c. same_id c.id id) w.calls none));
         slots = each_and_call (λ c. c.slot < 256) r.call w.calls (subst (λ n. n < 256) (sym is.slot) low) ordered.slots;
+        media = each_and_call (λ c. c.media ≤ 4) r.call w.calls is.media ordered.media;
         names = each_and_call AreNamed r.call w.calls is.names ordered.names;
       }
 
@@ -117,7 +122,7 @@ module _ (Extra : Session → Type 0) (past : List Entry) (w : World) (kept : Is
   answer_ordered (Manual h) = hand_ordered h (call_of w h.id) refl (is_full w) refl
 
   put_ordered : (port : ℕ) (c : Call) (s : Session) (t : Taken) (octets : List ℕ) → Of c → Ordered (given_to w port (put w.moment c s t octets)).world
-  put_ordered port c s t octets a = in_place c (call_after w.moment c s t) w.books a refl refl refl
+  put_ordered port c s t octets a = in_place c (call_after w.moment c s t) w.books a refl refl refl refl
       (pairs_map DifferInName (λ x. Unit {0}) DifferInName (with_done s.name t.done)
       (λ x y u v differ e. differ (sym (name x (same_name x.name s.name)) ∙ e ∙ name y (same_name y.name s.name))) c.sessions (named c a) (each_of _ (λ x. tt) c.sessions))
     where

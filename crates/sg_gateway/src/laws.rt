@@ -1,19 +1,19 @@
 //! The laws of every run: nothing forged, nothing twice, nothing within reach lost, no counter block
 //! sealed twice.
 
-ghost use Rattle.std.specs.Prelude.{◌≡◌, List, map};
-ghost use Rattle.std.specs.List.{All, AllPairs};
+ghost use Rattle.std.specs.Prelude.{List};
+ghost use Rattle.std.specs.List.{All};
 ghost use Rattle.sg_session.specs.Reach.{Sealed, AreSealed};
 ghost use Rattle.sg_gateway.specs.Arriving.{EachArrivingIsPutOut};
-ghost use Rattle.sg_gateway.specs.Batch.{Arrived, event_of, drained, own, told, given_after, AreApart};
+ghost use Rattle.sg_gateway.specs.Batch.{Arrived, AreDrained, IsToldAlone};
 ghost use Rattle.sg_gateway.specs.Order.{IsOrderly};
 ghost use Rattle.sg_gateway.specs.PeersPackets.{EachOpeningIsSealed, EachHighestIsSealed, OnlyOpeningsGoOut};
 ghost use Rattle.sg_gateway.specs.Runs.{world_after};
-ghost use Rattle.sg_gateway.specs.Step.{Event, step};
+ghost use Rattle.sg_gateway.specs.Step.{Event};
 ghost use Rattle.sg_gateway.specs.Twice.{NoneTwice, NoneTwiceUnderKey, KeysHaveOneOwner};
 ghost use Rattle.sg_gateway.specs.Unforged.{Unforged};
 ghost use Rattle.sg_gateway.specs.Used.{NoBlockTwice, IsOfOctets};
-ghost use Rattle.sg_gateway.specs.World.{World, empty};
+ghost use Rattle.sg_gateway.specs.World.{empty};
 
 /// Where no tag is forged, each packet put out on a plain leg is bit for bit one that its session's peer
 /// sealed, at the index at which it was sealed, and each opened stream's highest index is that of a packet
@@ -41,15 +41,14 @@ pub fn no_counter_block_twice()
     ensures { (events : List Event) → All IsOfOctets events → NoBlockTwice events }
 {}
 
-/// The calls stand by rising slot, below 256, and no two sessions have one name.
+/// The calls stand by rising slot, below 256, with four media at most, and no two sessions have one name.
 pub fn calls_in_order()
     ensures { (events : List Event) → IsOrderly (world_after empty events) }
 {}
 
-/// Datagrams in order leave each call as those at its own ports do, and each gives what it gives there.
+/// In every world of a run, datagrams in order leave each call as those at its own ports do, and each gives
+/// what it gives there: the calls can be shared out among workers.
 pub fn each_call_by_itself()
-    ensures calls { (w : World) (arrived : List Arrived) → AllPairs AreApart w.calls
-        → (world_after w (map event_of arrived)).calls ≡ map (λ c. drained w.moment c (own c arrived)) w.calls }
-    ensures told { (w : World) (before : List Arrived) (a : Arrived) → AllPairs AreApart w.calls
-        → (step (world_after w (map event_of before)) (event_of a)).outcomes ≡ told a.port (given_after w before a) }
+    ensures calls { (events : List Event) (arrived : List Arrived) → AreDrained (world_after empty events) arrived }
+    ensures told { (events : List Event) (before : List Arrived) (a : Arrived) → IsToldAlone (world_after empty events) before a }
 {}

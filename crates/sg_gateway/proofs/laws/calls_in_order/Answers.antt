@@ -1,9 +1,10 @@
-use Rattle.std.proofs.Common.{◌≡◌, ◌<◌, [], ◌∷◌, Some, length, arith, sym, ap, ◌∙◌}
+use Rattle.std.proofs.Common.{◌≡◌, ◌<◌, ◌≤◌, [], ◌∷◌, Some, length, arith, sym, ap, ◌∙◌}
 use Rattle.std.specs.List.{AllByRecursion, flat_map}
 use Rattle.std.proofs.lemmas.List.Elements.{All-from_recursion}
-use Rattle.sg_gateway.proofs.Datagrams.{journal_kept, run_keeps, empty_kept}
+use Rattle.sg_gateway.proofs.Datagrams.{journal_kept}
+use Rattle.sg_gateway.proofs.Reached.{ordered_after}
 use Rattle.sg_gateway.proofs.Kept.{IsKept, CallKept}
-use Rattle.sg_gateway.proofs.Orderly.{Ordered, AreNamed, event_ordered}
+use Rattle.sg_gateway.proofs.Orderly.{Ordered, AreNamed}
 use Rattle.sg_gateway.proofs.Pairs.{pairs_to, pairs_flat_map, each_two}
 use Rattle.sg_gateway.specs.Datagrams.{Entry}
 use Rattle.sg_gateway.specs.Generations.{sessions_from}
@@ -26,12 +27,7 @@ record IsNamed (c : Call) : Type 0 where
 pub returns : goal.returns
 returns c = λ es.
     let w : World = world_after empty es in
-    let ordered : Ordered w = run_keeps Any (λ n d s u. tt)
-    (λ h call generation n. each_of Any (λ s. tt) (sessions_from call generation 0 n (Some (medium_by_hand h) ∷ [])))
-    Ordered (λ past w e kept o. event_ordered Any past w kept o e) [] empty es
-    (empty_kept Any (λ n d s u. tt)
-    (λ h call generation n. each_of Any (λ s. tt) (sessions_from call generation 0 n (Some (medium_by_hand h) ∷ []))))
-    (λ i j d below lt. absurd (let none : j < length {A = Entry} [] = lt in omega arith)) (record { calls = tt; slots = tt; names = tt }) in
+    let ordered : Ordered w = ordered_after es in
     let kept : IsKept Any (journal es) w = (journal_kept Any (λ n d s u. tt)
     (λ h call generation n. each_of Any (λ s. tt) (sessions_from call generation 0 n (Some (medium_by_hand h) ∷ []))) es).1 in
     let named : AllByRecursion IsNamed w.calls = each_two AreNamed (CallKept Any (journal es) w.books.ring w.made) IsNamed
@@ -39,6 +35,7 @@ returns c = λ es.
     record {
       rising = pairs_to IsBefore w.calls ordered.calls;
       slots = All-from_recursion (λ c. c.slot < 256) w.calls ordered.slots;
+      media = All-from_recursion (λ c. c.media ≤ 4) w.calls ordered.media;
       names = pairs_to DifferInName (flat_map (λ c. c.sessions) w.calls)
           (pairs_flat_map IsBefore IsNamed DifferInName (λ c. c.sessions) (λ c n. n.names)
           (λ c d of_c of_d before. each_weaker (λ s. s.name.owner.call ≡ c.serial) (λ s. AllByRecursion (DifferInName s) d.sessions)
