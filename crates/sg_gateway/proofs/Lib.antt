@@ -1,3 +1,15 @@
+pub mod Arrivals
+pub mod Datagrams
+pub mod Growth
+pub mod Highest
+pub mod InTurn
+pub mod Kept
+pub mod OpenedAndPut
+pub mod Ordered
+pub mod Orderly
+pub mod Owners
+pub mod Pairs
+pub mod PutOut
 pub mod RawArrivals
 pub mod RawDatagrams
 pub mod RawKept
@@ -5,3 +17,7 @@ pub mod RawOpenedAndPut
 pub mod RawPutOut
 pub mod RawSayings
 pub mod RawSteps
+pub mod Reached
+pub mod Signals
+pub mod Sound
+pub mod Used

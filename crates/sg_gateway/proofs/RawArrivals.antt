@@ -1,6 +1,6 @@
 -- What a datagram gives: a drop, an opening or a seal.
-use Rattle.std.proofs.Common.{◌≡◌, ℕ, ◌≤◌, Bool, true, false, cond, List, [], ◌∷◌, length, Option, Some, None, Result, Ok, Err, refl, sym, ap, ◌∙◌, subst, arith, eqb, ltb}
-use Rattle.std.proofs.lemmas.Bool.{eqb-true, ltb-false}
+use Rattle.std.proofs.Common.{◌≡◌, ℕ, Bool, true, false, cond, List, [], ◌∷◌, Result, Ok, Err, refl, sym, ap, ◌∙◌, subst, arith, eqb}
+use Rattle.std.proofs.lemmas.Bool.{eqb-true}
 use Rattle.std.specs.List.{AllByRecursion, Any, filter}
 use Rattle.std.specs.Result.{is_ok}
 use Rattle.sg_base.specs.declared.addresses.Address.{Address}
@@ -10,8 +10,8 @@ use Rattle.sg_base.specs.declared.addresses.Kind.{Kind}
 use Rattle.sg_base.specs.declared.addresses.Kind.TheVariants.{Rtp, Rtcp}
 use Rattle.sg_session.specs.RawPacket.{Taken, opens}
 use Rattle.sg_session.specs.RawSession.{Direction, Opening, Sealing, Session}
-use Rattle.sg_gateway.specs.RawWorld.{Call, World, call_at, sessions_at, tried, port_in, port_at, leg_of}
-use Rattle.sg_gateway.specs.RawStep.{Given, Drops, Puts, put, opened_or, opened_in, cause_of, arrived_towards, arrived_among, arrived_in}
+use Rattle.sg_gateway.specs.RawWorld.{Call, sessions_at, tried, port_in, port_at, leg_of}
+use Rattle.sg_gateway.specs.RawStep.{Given, Drops, put, opened_or, opened_in, cause_of, arrived_towards, arrived_among, arrived_in}
 use Rattle.sg_session.proofs.Lists.{each_weaker, any_here, any_there}
 
 abbrev pub Is : Session → Session → Type 0

@@ -1,22 +1,20 @@
 -- An event adds an entry apart from those of the past, or nothing.
-use Rattle.std.proofs.Common.{◌≡◌, ℕ, zero, suc, ◌+◌, ◌<◌, ◌≤◌, Bool, true, false, cond, List, [], ◌∷◌, ◌++◌, length, map, Option, Some, None, Result, Ok, Err, refl, sym, ap, ◌∙◌, subst, arith, eqb, append_assoc}
+use Rattle.std.proofs.Common.{◌≡◌, ℕ, suc, ◌<◌, Bool, true, false, cond, List, [], ◌∷◌, ◌++◌, length, Option, Some, None, refl, sym, ap, ◌∙◌, subst, arith, eqb, append_assoc}
 use Rattle.std.proofs.lemmas.Bool.{false≢true, eqb-false, false_from_ne_true}
 use Rattle.std.proofs.lemmas.List.{append-nil}
 use Rattle.std.proofs.lemmas.List.Elements.{All-from_recursion}
 use Rattle.std.proofs.lemmas.List.Quantifiers.{all_pairs_push}
 use Rattle.std.specs.List.{AllByRecursion, AllPairs, Any, flat_map}
 use Rattle.sg_base.specs.declared.addresses.Address.{Address}
-use Rattle.sg_base.specs.declared.faults.DropCause.{DropCause}
-use Rattle.sg_base.specs.declared.faults.DropCause.TheVariants.{PortUnused}
 use Rattle.sg_session.specs.RawPacket.{Taken}
 use Rattle.sg_gateway.specs.RawRuns.{Turn, turn_of, turns_from, world_after}
-use Rattle.sg_session.specs.RawSession.{Direction, Opening, Sealing, Name, Key, Done, Session, same_name, has_done, with_done}
+use Rattle.sg_session.specs.RawSession.{Opening, Name, Session, same_name, has_done, with_done}
 use Rattle.sg_gateway.specs.RawWorld.{Call, World, empty, find_call, call_at, has_port, with_call}
-use Rattle.sg_gateway.specs.RawStep.{ByHand, Event, Signalled, Datagram, Entry, Happening, Given, Drops, Puts, put, call_after, call_by_hand, answer_at, given_to, dropped, arrived_in, arrived_at, step}
+use Rattle.sg_gateway.specs.RawStep.{ByHand, Event, Signalled, Datagram, Entry, Happening, Given, put, call_after, answer_at, given_to, arrived_in, arrived_at, step}
 use Rattle.sg_gateway.specs.RawHeadline.{IsSamePlace}
 use Rattle.sg_gateway.proofs.RawArrivals.{Arrival, IsDrop, IsOpening, arrival}
-use Rattle.sg_gateway.proofs.RawKept.{name_at, SessionKept, CallKept, EntryKept, IsKept, done_of, done_of_none, done_of-append, done_of_has, same_name_is, same_name_itself}
-use Rattle.sg_session.proofs.Lists.{each_weaker, each_append, each_map, each_at_this, both, any_here, any_there}
+use Rattle.sg_gateway.proofs.RawKept.{name_at, SessionKept, CallKept, IsKept, done_of, done_of_none, done_of-append, done_of_has, same_name_is}
+use Rattle.sg_session.proofs.Lists.{each_weaker, each_append, each_map, each_at_this, any_here, any_there}
 use Rattle.sg_session.proofs.RawTaking.{opened_new}
 
 abbrev pub Apart : Entry → Entry → Type 0

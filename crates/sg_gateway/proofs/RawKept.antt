@@ -1,10 +1,10 @@
 -- What every world of a run keeps.
-use Rattle.std.proofs.Common.{◌≤◌, ◌≡◌, ℕ, ◌<◌, Bool, true, false, cond, List, [], ◌∷◌, ◌++◌, length, get_or, refl, sym, ap, ◌∙◌, eq-eqb}
+use Rattle.std.proofs.Common.{◌≤◌, ◌≡◌, ℕ, ◌<◌, Bool, true, false, cond, List, [], ◌∷◌, ◌++◌, length, refl, sym, ap, ◌∙◌, eq-eqb}
 use Rattle.std.proofs.lemmas.Bool.{and_parts, and_from, eqb-true, eqb-false, false≢true, false_from_ne_true}
-use Rattle.std.specs.List.{AllByRecursion, AllPairs}
+use Rattle.std.specs.List.{AllByRecursion}
 use Rattle.sg_base.specs.declared.addresses.Kind.{Kind}
 use Rattle.sg_base.specs.declared.addresses.Kind.TheVariants.{Rtp, Rtcp}
-use Rattle.sg_session.specs.RawSession.{Direction, Opening, Sealing, Owner, Name, Key, Done, Session, same_direction, same_kind, same_name, has_done}
+use Rattle.sg_session.specs.RawSession.{Direction, Opening, Sealing, Name, Key, Done, Session, same_direction, same_kind, same_name, has_done}
 use Rattle.sg_gateway.specs.RawStep.{Entry, owner_at}
 use Rattle.sg_gateway.specs.RawWorld.{Call, World}
 use Rattle.sg_session.proofs.Lists.{each_weaker}

@@ -1,9 +1,9 @@
 -- Each opening is of a packet that was sealed, and nothing else goes out on a plain port.
-use Rattle.std.proofs.Common.{◌≡◌, ℕ, ◌≤◌, Bool, List, [], ◌∷◌, Option, Some, None, Ok, refl, sym, ap, ◌∙◌, subst}
+use Rattle.std.proofs.Common.{◌≡◌, ℕ, List, [], ◌∷◌, Option, Some, None, Ok, refl, sym, ap, ◌∙◌, subst}
 use Rattle.std.specs.List.{AllByRecursion, Any}
 use Rattle.sg_base.specs.declared.addresses.Address.{Address}
 use Rattle.sg_script.specs.declared.outcomes.Outcome.TheVariants.{Out}
-use Rattle.sg_session.specs.RawPacket.{Taken, Check, checked, opens, before_tag, Sealed}
+use Rattle.sg_session.specs.RawPacket.{Taken, checked, opens, before_tag, Sealed}
 use Rattle.sg_gateway.specs.RawRuns.{Turn, turn_of}
 use Rattle.sg_session.specs.RawSession.{Direction, Opening, Sealing, Session}
 use Rattle.sg_gateway.specs.RawWorld.{Call, World, call_at, has_port, sessions_at, tried, port_out, address_out}

@@ -6,8 +6,8 @@ use Rattle.std.specs.Result.{is_ok}
 use Rattle.sg_base.specs.declared.addresses.Address.{Address}
 use Rattle.sg_base.specs.declared.faults.DropCause.{DropCause}
 use Rattle.sg_session.specs.RawPacket.{Taken, opens, Sealed, IsSealed}
-use Rattle.sg_gateway.specs.RawRuns.{Turn, turn_of}
-use Rattle.sg_session.specs.RawSession.{Direction, Opening, Sealing, Key, Session}
+use Rattle.sg_gateway.specs.RawRuns.{turn_of}
+use Rattle.sg_session.specs.RawSession.{Opening, Key, Session}
 use Rattle.sg_gateway.specs.RawWorld.{Call, World, has_port, sessions_at, tried, port_in}
 use Rattle.sg_gateway.specs.RawStep.{Event, Datagram, Entry, Happening, Given, Drops, put, given_to, opened_or, opened_in, cause_of, arrived_towards, arrived_among, arrived_at, step}
 use Rattle.sg_gateway.specs.RawHeadline.{Arrives, IsPutOut}

@@ -1,5 +1,5 @@
 -- A datagram on the secure port of the one call.
-use Rattle.std.proofs.Common.{◌≡◌, ℕ, Bool, true, false, List, [], ◌∷◌, ◌++◌, map, Option, Some, None, Result, Ok, Err, IfOk, refl, sym, ap, ◌∙◌, subst}
+use Rattle.std.proofs.Common.{◌≡◌, ℕ, List, [], ◌∷◌, ◌++◌, map, Result, Ok, Err, IfOk, refl, sym, ap, ◌∙◌, subst}
 use Rattle.sg_base.specs.Keys.{Master}
 use Rattle.sg_base.specs.declared.addresses.Address.{Address}
 use Rattle.sg_base.specs.declared.faults.DropCause.{DropCause}
@@ -10,7 +10,7 @@ use Rattle.sg_session.specs.RawSession.{Key, Done, Session, Opening}
 use Rattle.sg_session.specs.RawStandsFor.{Kept, place, StandsFor as SessionStandsFor, IsOpened}
 use Rattle.sg_gateway.specs.RawEvents.{outcomes_from, hand_of, world_of, CallStandsFor}
 use Rattle.sg_gateway.specs.RawRuns.{world_after}
-use Rattle.sg_gateway.specs.RawStep.{ByHand, Datagram, Happening, Drops, Given, given_to, opened_or, cause_of, session_by_hand, step}
+use Rattle.sg_gateway.specs.RawStep.{ByHand, Datagram, Happening, Drops, given_to, opened_or, cause_of, session_by_hand, step}
 use Rattle.sg_gateway.specs.RawWorld.{Call, World}
 use Rattle.sg_gateway.specs.declared.raw_table.RawCall.{RawCall}
 

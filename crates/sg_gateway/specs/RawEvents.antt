@@ -1,15 +1,13 @@
 -- The events of lines, and what a table stands for.
-use Rattle.std.specs.Prelude.{◌≡◌, ℕ, List, [], ◌∷◌, ◌++◌, map, Option, Some, None}
+use Rattle.std.specs.Prelude.{◌≡◌, List, [], ◌∷◌, map, Option, Some, None}
 use Rattle.std.specs.List.{flat_map}
-use Rattle.sg_base.specs.Keys.{Master}
-use Rattle.sg_base.specs.declared.addresses.Kind.TheVariants.{Rtp}
 use Rattle.sg_script.specs.declared.lines.Line.{Line}
 use Rattle.sg_script.specs.declared.lines.Line.TheVariants as lines
 use Rattle.sg_script.specs.declared.lines.Signal.{Signal}
 use Rattle.sg_script.specs.declared.lines.Signal.TheVariants.{Tick, Psk, Manual, OfferSecure, OfferSdes, OfferMikey, Answer, Reject, Bye}
 use Rattle.sg_script.specs.declared.outcomes.Outcome.{Outcome}
-use Rattle.sg_session.specs.RawSession.{Done, Session, Opening, Sealing}
-use Rattle.sg_session.specs.RawStandsFor.{Kept, place}
+use Rattle.sg_session.specs.RawSession.{Done, Opening, Sealing}
+use Rattle.sg_session.specs.RawStandsFor.{place}
 use Rattle.sg_gateway.specs.RawRuns.{turns_from}
 use Rattle.sg_gateway.specs.RawStep.{ByHand, Event, Signalled, Datagram, session_by_hand, keys_by_hand}
 use Rattle.sg_gateway.specs.RawWorld.{World, empty}

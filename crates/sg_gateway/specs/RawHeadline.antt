@@ -1,16 +1,15 @@
 -- The premise that no tag is forged, and the first three parts of the headline.
-use Rattle.std.specs.Prelude.{◌≡◌, ℕ, ◌+◌, ◌-◌, ◌*◌, ◌%◌, ◌<◌, ◌≤◌, Bool, true, false, List, [], ◌∷◌, length, Option, Some, None, Result, Ok, Err}
+use Rattle.std.specs.Prelude.{◌≡◌, ℕ, ◌-◌, ◌%◌, ◌≤◌, true, false, List, [], ◌∷◌, Option, Some, None, Result, Ok, Err}
 use Rattle.std.specs.List.{All, Any, AllPairs, Contains, AllByRecursion}
 use Rattle.sg_base.specs.declared.addresses.Address.{Address}
 use Rattle.sg_base.specs.declared.faults.DropCause.{DropCause}
 use Rattle.sg_base.specs.declared.addresses.Kind.{Kind}
-use Rattle.sg_base.specs.declared.addresses.Kind.TheVariants.{Rtp}
 use Rattle.sg_base.specs.Keys.{Master}
 use Rattle.sg_script.specs.declared.outcomes.Outcome.{Outcome}
 use Rattle.sg_script.specs.declared.outcomes.Outcome.TheVariants.{Made, Live, Sdp, Refused, Ended, Out, Dropped, Unsent}
 use Rattle.sg_session.specs.RawPacket.{Check, checked, tag_fits, Sealed, IsSealed, text_of}
 use Rattle.sg_gateway.specs.RawRuns.{Turn, turns, journal}
-use Rattle.sg_session.specs.RawSession.{Direction, Opening, Sealing, Name, Owner, Key, Done, Session, has_done}
+use Rattle.sg_session.specs.RawSession.{Opening, Sealing, Key, Session, has_done}
 use Rattle.sg_gateway.specs.RawStep.{Event, Signalled, Datagram, Entry}
 use Rattle.sg_gateway.specs.RawWorld.{Call, World, call_at, sessions_at, tried, port_out, address_out}
 

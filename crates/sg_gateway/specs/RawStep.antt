@@ -1,19 +1,17 @@
 -- What an event gives, and the world after it.
-use Rattle.std.specs.Prelude.{◌≡◌, ℕ, ◌+◌, Bool, true, false, nat_lt, if◌then◌else◌, List, [], ◌∷◌, ◌++◌, length, map, Option, Some, None, Result, Ok, Err}
+use Rattle.std.specs.Prelude.{ℕ, ◌+◌, List, [], ◌∷◌, ◌++◌, length, map, Option, Some, None, Result, Ok, Err}
 use Rattle.sg_base.specs.declared.addresses.Address.{Address}
 use Rattle.sg_base.specs.declared.addresses.CallId.{CallId}
 use Rattle.sg_base.specs.declared.faults.DropCause.{DropCause}
 use Rattle.sg_base.specs.declared.faults.DropCause.TheVariants.{PortUnused}
-use Rattle.sg_base.specs.declared.addresses.Kind.{Kind}
 use Rattle.sg_base.specs.declared.addresses.Kind.TheVariants.{Rtp}
 use Rattle.sg_base.specs.Keys.{Master}
 use Rattle.sg_script.specs.declared.outcomes.Outcome.{Outcome}
 use Rattle.sg_script.specs.declared.outcomes.Outcome.TheVariants.{Made, Live, Refused, Out, Dropped}
-use Rattle.sg_base.specs.declared.faults.Refusal.{Refusal}
 use Rattle.sg_base.specs.declared.faults.Refusal.TheVariants.{TableFull}
 use Rattle.sg_session.specs.RawPacket.{Taken, opens}
 use Rattle.sg_session.specs.RawSession.{Direction, Opening, Sealing, Owner, Name, Key, Done, Session, with_done}
-use Rattle.sg_gateway.specs.RawWorld.{Call, World, Installed, Books, call_at, sessions_at, with_call, port_out, address_out}
+use Rattle.sg_gateway.specs.RawWorld.{Call, World, Installed, call_at, sessions_at, with_call, port_out, address_out}
 
 -- A signal of the first stage: a call that is keyed by hand.
 pub record ByHand : Type 0 where

@@ -1,12 +1,12 @@
 -- Calls and worlds, and the plan of ports.
-use Rattle.std.specs.Prelude.{◌≡◌, ℕ, ◌+◌, ◌*◌, Bool, true, false, ◌&&◌, ◌==◌, nat_lt, nat_le, if◌then◌else◌, List, [], ◌∷◌, map, filter, Option, Some, None, is_ok}
+use Rattle.std.specs.Prelude.{ℕ, ◌+◌, ◌*◌, Bool, ◌&&◌, ◌==◌, nat_lt, nat_le, if◌then◌else◌, List, [], ◌∷◌, map, filter, Option, Some, None, is_ok}
 use Rattle.sg_base.specs.declared.addresses.Address.{Address}
 use Rattle.sg_base.specs.declared.addresses.CallId.{CallId}
 use Rattle.sg_base.specs.declared.addresses.Kind.{Kind}
 use Rattle.sg_base.specs.declared.addresses.Kind.TheVariants.{Rtp, Rtcp}
 use Rattle.sg_base.specs.Keys.{Master}
 use Rattle.sg_session.specs.RawPacket.{opens}
-use Rattle.sg_session.specs.RawSession.{Direction, Opening, Sealing, Owner, Name, Key, Session}
+use Rattle.sg_session.specs.RawSession.{Direction, Opening, Sealing, Owner, Session}
 
 -- a key in use, and whose it is
 pub record Installed : Type 0 where

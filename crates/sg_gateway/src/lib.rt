@@ -1,8 +1,13 @@
 //! What a run of the gateway means: worlds, their steps, and the laws over every list of events.
 #![tactic(auto)]
 
+mod laws;
 mod raw_table;
 
+pub use laws::{
+    calls_in_order, each_call_by_itself, no_counter_block_twice, nothing_forged, nothing_twice,
+    nothing_within_reach_lost,
+};
 pub use raw_table::{RawCall, RawTable};
 
 ghost use Rattle.std.specs.Prelude.{List};

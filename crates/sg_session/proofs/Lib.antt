@@ -1,6 +1,11 @@
 pub mod Inversions
+pub mod Leaves
 pub mod Lists
+pub mod NoneTwice
 pub mod RawOpens
 pub mod RawReadBack
 pub mod RawTaking
+pub mod ReadBack
 pub mod SameOctets
+pub mod Taking
+pub mod Texts

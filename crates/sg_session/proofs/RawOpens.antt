@@ -1,17 +1,16 @@
 -- The definition's answer at each way out of the code.
-use Rattle.std.proofs.Common.{◌≡◌, ◌<◌, ◌≤◌, ◌-◌, ◌*◌, ◌/◌, ◌^◌, ℕ, Bool, true, false, not, cond, ◌&&◌, ◌||◌, List, [], ◌∷◌, ◌++◌, length, map, get_or, take, drop, Option, Some, None, Result, Ok, Err, refl, sym, ap, ◌∙◌, subst, arith, eqb, ltb, eq-eqb}
+use Rattle.std.proofs.Common.{◌≡◌, ◌<◌, ◌≤◌, ◌-◌, ◌/◌, ℕ, Bool, true, false, not, ◌&&◌, ◌||◌, List, [], ◌∷◌, ◌++◌, length, map, get_or, take, drop, Ok, Err, refl, sym, ap, ◌∙◌, subst, arith, eqb, eq-eqb}
 use Rattle.std.specs.Prelude.{◌==◌, nat_lt, slice_index}
 use Rattle.std.specs.List.{list_any}
 use Rattle.std.proofs.lemmas.Bool.{false_from_ne_true, false≢true, le-ltb}
 use Rattle.std.proofs.lemmas.List.{map_push, get_or-take, length-take-le}
 use Rattle.sg_base.specs.Octets.{be, number_of, same_octets}
-use Rattle.sg_base.specs.declared.faults.DropCause.{DropCause}
 use Rattle.sg_base.specs.declared.faults.DropCause.TheVariants.{Short, Version, Repeat, BadTag}
 use Rattle.sg_session.specs.RawPacket.{Head, Check, Taken, taken_by, rtp_head, before_tag, tag_in, tag_of, head_in, first_key, fresh_index, checked, tag_fits, opened_if, opens}
-use Rattle.sg_session.specs.RawSession.{Key, Done, Session, has_done}
-use Rattle.sg_session.specs.RawStandsFor.{Kept, place, StandsFor, IsOpened, Tells}
+use Rattle.sg_session.specs.RawSession.{Done, Session, has_done}
+use Rattle.sg_session.specs.RawStandsFor.{Kept, place, StandsFor}
 use Rattle.sg_session.specs.Stages.{after_ok, stop_if}
-use Rattle.sg_session.proofs.Inversions.{stop_if_of, after_ok_of, ok_is}
+use Rattle.sg_session.proofs.Inversions.{stop_if_of, after_ok_of}
 use Rattle.sg_session.proofs.SameOctets.{same_octets_true, same_octets_is}
 
 -- a test that holds exactly where two lists are the same

@@ -3,13 +3,12 @@ use Rattle.std.proofs.Common.{◌≡◌, ℕ, ◌+◌, ◌-◌, ◌*◌, ◌/◌
 use Rattle.std.proofs.lemmas.Bool.{le-ltb, ltb-false}
 use Rattle.std.proofs.lemmas.List.{take_at, drop_at, length-take-le}
 use Rattle.std.specs.List.{Any}
-use Rattle.sg_base.specs.Octets.{be, number_of, same_octets}
-use Rattle.sg_base.specs.declared.faults.DropCause.TheVariants.{Short, Version, Repeat, BadTag}
-use Rattle.sg_hmac.specs.Hmac.{hmac_sha1}
+use Rattle.sg_base.specs.Octets.{be}
+use Rattle.sg_base.specs.declared.faults.DropCause.TheVariants.{Short, Repeat, BadTag}
 use Rattle.sg_hmac.proofs.Sizes.{length-hmac_sha1}
-use Rattle.sg_session.specs.RawPacket.{Head, Check, Taken, taken_by, rtp_head, before_tag, tag_in, tag_of, sealed_rtp, head_in, first_key, fresh_index, checked, tag_fits, opened_if, opens, Sealed, IsSealed, text_of}
+use Rattle.sg_session.specs.RawPacket.{Head, Check, taken_by, rtp_head, before_tag, tag_in, tag_of, head_in, first_key, fresh_index, checked, tag_fits, opened_if, opens, Sealed, IsSealed, text_of}
 use Rattle.sg_session.specs.RawSession.{Key, Session, has_done}
-use Rattle.sg_session.proofs.Inversions.{stop_if_is, stop_if_of, after_ok_of, ok_is}
+use Rattle.sg_session.proofs.Inversions.{stop_if_is, stop_if_of, after_ok_of}
 use Rattle.sg_session.proofs.Lists.{any_cases, any_none}
 use Rattle.sg_session.proofs.SameOctets.{same_octets_true}
 

@@ -1,9 +1,9 @@
 -- What a session opens is new in it, and under its key.
-use Rattle.std.proofs.Common.{◌≡◌, ℕ, Bool, true, false, not, List, Result, Ok, Err, refl, sym, ap, ◌∙◌, subst}
+use Rattle.std.proofs.Common.{◌≡◌, ℕ, true, false, not, List, Ok, refl, sym, subst}
 use Rattle.std.proofs.lemmas.Bool.{not-false}
 use Rattle.sg_base.specs.declared.faults.DropCause.TheVariants.{BadTag, Repeat}
-use Rattle.sg_session.specs.RawSession.{Key, Done, Session, has_done}
-use Rattle.sg_session.specs.RawPacket.{Head, Check, Taken, taken_by, checked, opened_if, opens, tag_fits, first_key, head_in, fresh_index}
+use Rattle.sg_session.specs.RawSession.{Session, has_done}
+use Rattle.sg_session.specs.RawPacket.{Check, Taken, taken_by, checked, opens, tag_fits, first_key, head_in, fresh_index}
 use Rattle.sg_session.proofs.Inversions.{after_ok_is, stop_if_is, ok_is}
 
 pub record IsCheckOf (s : Session) (d : List ℕ) (k : Check) : Type 0 where

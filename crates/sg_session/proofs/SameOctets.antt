@@ -1,5 +1,5 @@
 -- Equal lists pass the test, and lists that pass it are equal.
-use Rattle.std.proofs.Common.{◌∙◌, ◌≡◌, ℕ, Bool, true, false, ◌&&◌, List, [], ◌∷◌, refl, sym, ap, eqb, eq-eqb}
+use Rattle.std.proofs.Common.{◌∙◌, ◌≡◌, ℕ, true, List, [], ◌∷◌, refl, sym, ap, eq-eqb}
 use Rattle.std.proofs.lemmas.Bool.{and_from, and_parts, eqb-true, false≢true}
 use Rattle.sg_base.specs.Octets.{same_octets}
 

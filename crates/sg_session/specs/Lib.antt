@@ -1,4 +1,13 @@
+pub mod Halves
+pub mod OneSession
+pub mod Opening
 pub mod RawPacket
 pub mod RawSession
 pub mod RawStandsFor
+pub mod Reach
+pub mod Ring
+pub mod Sealed
+pub mod Sealing
+pub mod Session
 pub mod Stages
+pub mod StandIns

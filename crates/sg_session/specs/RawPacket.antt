@@ -1,6 +1,6 @@
 -- Sealed packets under raw keys, and opening them (RFC 3711, 3.1 and 3.3). Of a packet's head only the
 -- plainest form is read here: no list of sources, no extension, no padding, and the number is the index.
-use Rattle.std.specs.Prelude.{◌≡◌, ℕ, ◌+◌, ◌-◌, ◌*◌, ◌/◌, ◌≤◌, ◌<◌, Bool, not, ◌==◌, nat_lt, if◌then◌else◌, List, [], ◌∷◌, ◌++◌, length, take, drop, slice_index, Result, Ok, Err}
+use Rattle.std.specs.Prelude.{◌≡◌, ℕ, ◌-◌, ◌/◌, ◌<◌, Bool, not, ◌==◌, nat_lt, List, [], ◌∷◌, ◌++◌, length, take, drop, slice_index, Result, Ok, Err}
 use Rattle.sg_base.specs.Octets.{be, same_octets, number_of}
 use Rattle.sg_base.specs.Keys.{Master}
 use Rattle.sg_base.specs.declared.addresses.Kind.{Kind}

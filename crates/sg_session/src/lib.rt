@@ -1,6 +1,10 @@
-//! Sessions: what they open and why they don't (RFC 3711, 3.3).
+//! Sessions: what they open and seal, and why they don't (RFC 3711, 3.3).
 #![tactic(auto)]
 
+mod laws;
 mod raw;
+mod sources;
 
+pub use laws::{none_twice_in_a_session, sealed_is_opened};
 pub use raw::RawSession;
+pub use sources::Admit;

@@ -1,14 +1,14 @@
-use Rattle.std.proofs.Common.{◌≡◌, ℕ, ◌<◌, ◌≤◌, List, [], ◌∷◌, length, get_or, arith, sym, ap, ◌∙◌}
-use Rattle.std.specs.List.{AllByRecursion, All, AllPairs}
+use Rattle.std.proofs.Common.{◌≡◌, ℕ, ◌<◌, List, [], ◌∷◌, length, get_or, arith, sym, ap, ◌∙◌}
+use Rattle.std.specs.List.{AllByRecursion, All}
 use Rattle.std.proofs.lemmas.List.Elements.{All-from_recursion, recursion_from_All, All-contains}
-use Rattle.sg_session.specs.RawSession.{Direction, Opening, Sealing}
+use Rattle.sg_session.specs.RawSession.{Opening, Sealing}
 use Rattle.sg_gateway.specs.RawStep.{Event, Signalled, Datagram, Entry}
 use Rattle.sg_gateway.specs.RawRuns.{Turn, turn_of, turns, journal, world_after}
 use Rattle.sg_gateway.specs.RawWorld.{World, empty, call_at}
 use Rattle.sg_session.specs.RawPacket.{IsSealed}
-use Rattle.sg_gateway.specs.RawHeadline.{IsUnforgedIn, OpeningsAreSealed, ArrivingArePutOut, IsOutPlain, IsSamePlace, IsSameUnderKey}
-use Rattle.sg_gateway.proofs.RawDatagrams.{Apart, journal_kept, every_turn}
-use Rattle.sg_gateway.proofs.RawKept.{IsKept, EntryKept, name_at}
+use Rattle.sg_gateway.specs.RawHeadline.{IsUnforgedIn, OpeningsAreSealed, ArrivingArePutOut, IsOutPlain}
+use Rattle.sg_gateway.proofs.RawDatagrams.{journal_kept, every_turn}
+use Rattle.sg_gateway.proofs.RawKept.{EntryKept, name_at}
 use Rattle.sg_session.proofs.Lists.{each_of}
 use Rattle.sg_gateway.proofs.RawOpenedAndPut.{openings_at, quiet_arrival}
 use Rattle.sg_gateway.proofs.RawPutOut.{put_out_at}

@@ -1,8 +1,7 @@
-use Rattle.std.proofs.Common.{◌≡◌, ◌≤◌, ◌-◌, ◌/◌, ℕ, Bool, true, List, [], ◌∷◌, ◌++◌, length, take, drop, ap, sym, ◌∙◌, subst, arith}
+use Rattle.std.proofs.Common.{◌≡◌, ◌/◌, [], ◌∷◌, ◌++◌, length, take, drop, ap, sym, ◌∙◌, arith}
 use Rattle.std.proofs.lemmas.List.{take_at, take-append-drop}
-use Rattle.sg_base.specs.Octets.{be, same_octets}
+use Rattle.sg_base.specs.Octets.{be}
 use Rattle.sg_hmac.specs.Hmac.{hmac_sha1}
-use Rattle.sg_hmac.proofs.Sizes.{length-hmac_sha1}
 use Rattle.sg_session.specs.RawPacket.{before_tag, tag_in, tag_of}
 use Rattle.sg_session.proofs.RawOpens.{is_same_octets, first_block}
 use Rattle.sg_session.proofs.raw.is_authentic.Goals as goal

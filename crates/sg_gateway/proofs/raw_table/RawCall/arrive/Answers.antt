@@ -1,4 +1,4 @@
-use Rattle.std.proofs.Common.{◌≡◌, ℕ, List, [], ◌∷◌, Ok, Err, refl, sym, ap, ◌∙◌, subst}
+use Rattle.std.proofs.Common.{◌∙◌, subst}
 use Rattle.sg_session.specs.RawPacket.{opens}
 use Rattle.sg_session.specs.RawStandsFor.{IsOpened}
 use Rattle.sg_gateway.specs.RawEvents.{hand_of}

@@ -1,4 +1,4 @@
-use Rattle.std.proofs.Common.{◌≡◌, Ok, Err, refl, sym, ap, ◌∙◌, subst}
+use Rattle.std.proofs.Common.{Ok, Err, refl, sym, subst}
 use Rattle.sg_session.proofs.RawOpens.{marked}
 use Rattle.sg_session.specs.RawStandsFor.{IsOpened}
 use Rattle.sg_session.proofs.raw.RawSession.receive.Goals as goal

@@ -1,0 +1,51 @@
+-- The calls of every world of a run are in order, and so no port is of two of them.
+use Rattle.std.proofs.Common.{◌≡◌, ℕ, ◌+◌, ◌*◌, ◌<◌, ◌≤◌, Bool, true, false, ◌&&◌, List, [], ◌∷◌, Some, length, sym, ap, ◌∙◌, arith, leb, ltb}
+use Rattle.std.proofs.lemmas.Bool.{and_parts, lt-leb, ltb-true}
+use Rattle.std.specs.List.{AllByRecursion, AllPairs}
+use Rattle.sg_session.proofs.Lists.{each_of, each_both}
+use Rattle.sg_session.specs.Session.{Session}
+use Rattle.sg_gateway.proofs.Datagrams.{run_keeps, empty_kept}
+use Rattle.sg_gateway.proofs.Orderly.{Ordered, event_ordered}
+use Rattle.sg_gateway.proofs.Pairs.{Pairs, pairs_map, pairs_to}
+use Rattle.sg_gateway.specs.Batch.{AreApart}
+use Rattle.sg_gateway.specs.Datagrams.{Entry}
+use Rattle.sg_gateway.specs.Generations.{sessions_from}
+use Rattle.sg_gateway.specs.Order.{IsBefore}
+use Rattle.sg_gateway.specs.Ports.{has_port, port_at}
+use Rattle.sg_gateway.specs.Runs.{world_after}
+use Rattle.sg_gateway.specs.Signals.{ByHand, medium_by_hand}
+use Rattle.sg_gateway.specs.Step.{Event}
+use Rattle.sg_gateway.specs.World.{Call, World, empty}
+
+abbrev Any : Session → Type 0
+Any s = Unit {0}
+
+by_hand : (h : ByHand) (call generation n : ℕ) → AllByRecursion Any (sessions_from call generation 0 n (Some (medium_by_hand h) ∷ []))
+by_hand h call generation n = each_of Any (λ s. tt) (sessions_from call generation 0 n (Some (medium_by_hand h) ∷ []))
+
+pub ordered_after : (es : List Event) → Ordered (world_after empty es)
+ordered_after es = run_keeps Any (λ n d s u. tt) by_hand
+    Ordered (λ past w e kept o. event_ordered Any past w kept o e) [] empty es
+    (empty_kept Any (λ n d s u. tt) by_hand)
+    (λ i j d below lt. absurd (let none : j < length {A = Entry} [] = lt in omega arith)) (record { calls = tt; slots = tt; media = tt; names = tt })
+
+before_apart : (c d : Call) → c.media ≤ 4 → IsBefore c d → AreApart c d
+before_apart c d few before = record {
+  serial = before.serial;
+  ports = λ port at.
+      let high = ltb-true port (port_at c.slot c.media 0) (and_parts (leb (port_at c.slot 0 0) port) (ltb port (port_at c.slot c.media 0)) at).1 in
+      let slot = before.slot in
+      let low : leb (port_at d.slot 0 0) port ≡ false = lt-leb _ _ (omega (arith, high, slot, few)) in
+      ap (λ b. b && ltb port (port_at d.slot d.media 0)) low;
+}
+
+apart_from : (cs : List Call) → AllByRecursion (λ c. c.media ≤ 4) cs → Pairs IsBefore cs → Pairs AreApart cs
+apart_from [] few p = tt
+apart_from (c ∷ cs) few p = (each_before cs p.0, apart_from cs few.1 p.1)
+  where
+    each_before : (ds : List Call) → AllByRecursion (IsBefore c) ds → AllByRecursion (AreApart c) ds
+    each_before [] q = tt
+    each_before (d ∷ ds) q = (before_apart c d few.0 q.0, each_before ds q.1)
+
+pub apart_after : (es : List Event) → Pairs AreApart (world_after empty es).calls
+apart_after es = let is = ordered_after es in apart_from (world_after empty es).calls is.media is.calls
