@@ -98,6 +98,7 @@ module _ (Extra : Session → Type 0) (past : List Entry) (ring : List Installed
       keys_are : (kind : Kind) → AllByRecursion (IsKeyOf ring (owner_at call generation m dir)) (keys_of kind keys)
       keys_are Rtp = keyed
       keys_are Rtcp = each_map (IsKeyOf ring (owner_at call generation m dir)) (IsKeyOf ring (owner_at call generation m dir)) for_rtcp (λ k is. is) keys keyed
+
       one : (kind : Kind) (on : Bool) (tag_len : ℕ) → IsNewKept (stream_session (owner_at call generation m dir) keys s window x kind on tag_len)
       one kind on tag_len extra = record {
         of_call = refl;

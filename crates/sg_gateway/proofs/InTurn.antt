@@ -52,7 +52,7 @@ after_call now a c = after_is now a.port a.octets c (given_by now c a) (arrival 
 
 same_ports : (c d : Call) → IsSameCall c d → (port : ℕ) → has_port port d ≡ has_port port c
 same_ports c d is port = let slot = is.slot in let media = is.media in
-  (λ i. Rattle.std.proofs.Common.leb (20000 + 16 * slot i + 4 * 0 + 0) port && Rattle.std.proofs.Common.ltb port (20000 + 16 * slot i + 4 * media i + 0))
+    (λ i. Rattle.std.proofs.Common.leb (20000 + 16 * slot i + 4 * 0 + 0) port && Rattle.std.proofs.Common.ltb port (20000 + 16 * slot i + 4 * media i + 0))
 
 -- a call's turn
 abbrev turn : ℕ → Arrived → Call → Call
@@ -72,6 +72,7 @@ apart_from port c (x ∷ xs) at p a = go (λ r. apart_from port c xs at p.1 r) (
   where
     before : (AreApart x c) → (has_port port x ≡ true → ⊥)
     before apart has = false≢true (sym (apart.ports port has) ∙ at)
+
     go : (Any (λ x. x ≡ c) xs → AllByRecursion (λ x. (x ≡ c) ⊎ ((x.serial ≡ c.serial → ⊥) × (has_port port x ≡ false))) xs) → (x ≡ c) ⊎ Any (λ x. x ≡ c) xs
         → AllByRecursion (λ x. (x ≡ c) ⊎ ((x.serial ≡ c.serial → ⊥) × (has_port port x ≡ false))) (x ∷ xs)
     go rest (inl same) = (inl same, each_weaker _ _ (λ y apart. let from_c = subst (λ x. AreApart x y) same apart in inr ((λ e. from_c.serial (sym e)), from_c.ports port at)) xs p.0)
@@ -84,17 +85,17 @@ module _ (w : World) (a : Arrived) where
   now = w.moment
 
   given_calls : (c : Call) → call_at w a.port ≡ Some c → Pairs AreApart w.calls → (g : Given) → given_by w.moment c a ≡ g → (given_to w a.port g).world.calls ≡ map (turn w.moment a) w.calls
-  given_calls c is p (Drops cause) gives = sym (map_same (turn w.moment a) (λ x. x) w.calls (each_weaker _ _ (λ x how. elim how [ | inl same ↦ at_c x same | inr other ↦ cond-false _ _ _ other.1 ]) w.calls
-        (apart_from a.port c w.calls (found_passes _ w.calls c is) p (is_found _ w.calls c is))) ∙ map_id w.calls)
+  given_calls c is p (Drops cause) gives = sym (map_same (turn w.moment a) (λ x. x) w.calls (each_weaker _ _ (λ x how. elim how [ inl same ↦ at_c x same | inr other ↦ cond-false _ _ _ other.1 ]) w.calls
+      (apart_from a.port c w.calls (found_passes _ w.calls c is) p (is_found _ w.calls c is))) ∙ map_id w.calls)
     where
       at_c : (x : Call) → x ≡ c → turn w.moment a x ≡ x
       at_c x same = ap (turn w.moment a) same ∙ cond-true _ _ _ (found_passes _ w.calls c is) ∙ ap (λ g. after g c) gives ∙ sym same
   given_calls c is p (Puts q) gives = map_same (λ x. cond (eqb x.serial q.call.serial) q.call x) (turn w.moment a) w.calls
       (each_weaker _ _ (λ x how. elim how [
-          | inl same ↦ cond-true (eqb x.serial q.call.serial) q.call x (eq-eqb _ _ (ap (λ (c : Call). c.serial) same ∙ sym of_q))
+        | inl same ↦ cond-true (eqb x.serial q.call.serial) q.call x (eq-eqb _ _ (ap (λ (c : Call). c.serial) same ∙ sym of_q))
             ∙ sym (ap (turn w.moment a) same ∙ cond-true _ _ _ (found_passes _ w.calls c is) ∙ ap (λ g. after g c) gives)
-          | inr other ↦ cond-false (eqb x.serial q.call.serial) q.call x (ne_eqb _ _ (λ e. other.0 (e ∙ of_q))) ∙ sym (cond-false _ _ _ other.1)
-        ]) w.calls (apart_from a.port c w.calls (found_passes _ w.calls c is) p (is_found _ w.calls c is)))
+        | inr other ↦ cond-false (eqb x.serial q.call.serial) q.call x (ne_eqb _ _ (λ e. other.0 (e ∙ of_q))) ∙ sym (cond-false _ _ _ other.1)
+      ]) w.calls (apart_from a.port c w.calls (found_passes _ w.calls c is) p (is_found _ w.calls c is)))
     where
       of_q : q.call.serial ≡ c.serial
       of_q = subst (λ g. (after g c).serial ≡ c.serial) gives (after_call w.moment a c).serial
@@ -114,12 +115,12 @@ module _ (w : World) (a : Arrived) where
 apart_turn : (now : ℕ) (a : Arrived) (cs : List Call) → Pairs AreApart cs → Pairs AreApart (map (turn now a) cs)
 apart_turn now a cs p = pairs_map AreApart (λ c. Unit {0}) AreApart (turn now a)
     (λ c d u v apart.
-      let of_c = turn_same now a c in
-      let of_d = turn_same now a d in
-      record {
-        serial = (λ e. apart.serial (sym of_c.serial ∙ e ∙ of_d.serial));
-        ports = (λ port has. same_ports d (turn now a d) of_d port ∙ apart.ports port (sym (same_ports c (turn now a c) of_c port) ∙ has));
-      }) cs p (Rattle.sg_session.proofs.Lists.each_of _ (λ c. tt) cs)
+    let of_c = turn_same now a c in
+    let of_d = turn_same now a d in
+    record {
+      serial = (λ e. apart.serial (sym of_c.serial ∙ e ∙ of_d.serial));
+      ports = (λ port has. same_ports d (turn now a d) of_d port ∙ apart.ports port (sym (same_ports c (turn now a c) of_c port) ∙ has));
+    }) cs p (Rattle.sg_session.proofs.Lists.each_of _ (λ c. tt) cs)
 
 abbrev mine : Call → List Arrived → List Arrived
 mine c later = filter (λ a. has_port a.port c) later
@@ -186,6 +187,6 @@ told_in_turn w before a p =
     told_is v a (call_at v a.port)
     ∙ (λ i. told a.port (option_map (λ c. given_by (moment i) c a) (find_call (has_port a.port) (calls i))))
     ∙ ap (λ o. told a.port (option_map (λ c. given_by w.moment c a) o))
-      (find_map (has_port a.port) (λ c. drained w.moment c (filter (λ b. has_port b.port c) before))
-        (λ c. same_ports c (drained w.moment c (filter (λ b. has_port b.port c) before)) (drained_same w.moment c (filter (λ b. has_port b.port c) before)) a.port) w.calls)
+    (find_map (has_port a.port) (λ c. drained w.moment c (filter (λ b. has_port b.port c) before))
+    (λ c. same_ports c (drained w.moment c (filter (λ b. has_port b.port c) before)) (drained_same w.moment c (filter (λ b. has_port b.port c) before)) a.port) w.calls)
     ∙ ap (told a.port) (mapped w.moment before a (call_at w a.port))

@@ -12,6 +12,7 @@ pub mod Pairs
 pub mod PutOut
 pub mod RawArrivals
 pub mod RawDatagrams
+pub mod RawGoesOut
 pub mod RawKept
 pub mod RawOpenedAndPut
 pub mod RawPutOut

@@ -45,15 +45,15 @@ hand_of c = record { call = c.id; secure = c.secure; plain = c.plain; from_peer 
 abbrev pub world_of : ByHand → List Done → World
 world_of h done = record {
   calls =
-    record {
-      serial = 0;
-      id = h.call;
-      slot = 0;
-      media = 1;
-      generations = 1;
-      sessions = record (session_by_hand 0 Opening 0 h.from_peer h) { done = done } ∷ session_by_hand 0 Sealing 1 h.to_peer h ∷ [];
-    }
-    ∷ [];
+      record {
+        serial = 0;
+        id = h.call;
+        slot = 0;
+        media = 1;
+        generations = 1;
+        sessions = record (session_by_hand 0 Opening 0 h.from_peer h) { done = done } ∷ session_by_hand 0 Sealing 1 h.to_peer h ∷ [];
+      }
+      ∷ [];
   made = 1;
   books = record { ring = keys_by_hand empty h };
 }

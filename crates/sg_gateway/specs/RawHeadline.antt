@@ -51,6 +51,16 @@ OpeningsAreSealed sealed t = All (λ e. e.session.owner.direction ≡ Opening �
 abbrev pub EachOpeningIsSealed : List Sealed → List Event → Type 0
 EachOpeningIsSealed sealed events = All (OpeningsAreSealed sealed) (turns events)
 
+-- what is opened is what goes out, by the plain port of its session and to its plain address, and
+-- nothing else of that event does
+abbrev pub OpeningsGoOut : Turn → Type 0
+OpeningsGoOut t =
+    All (λ e. e.session.owner.direction ≡ Opening
+    → Any (λ c. Any (λ s. (s.name ≡ e.session) × (t.outcomes ≡ Out (port_out c s) (address_out s) e.done.packet ∷ [])) c.sessions) t.before.calls) t.entries
+
+abbrev pub EachOpeningGoesOut : List Event → Type 0
+EachOpeningGoesOut events = All OpeningsGoOut (turns events)
+
 -- it goes out on a plain port
 abbrev pub IsOutPlain : Outcome → Type 0
 IsOutPlain (Out port to octets) = 2 ≤ (port - 20000) % 4

@@ -7,7 +7,7 @@ use Rattle.sg_script.specs.declared.outcomes.Outcome.{Outcome}
 use Rattle.sg_script.specs.OutcomeText.{outcome_line}
 use Rattle.sg_edge.specs.Told.{TookIn, Wrote, AtEnd}
 use Rattle.sg_session.specs.RawPacket.{Sealed}
-use Rattle.sg_gateway.specs.RawHeadline.{AreSealed, Unforged, EachOpeningIsSealed, OnlyOpeningsGoOut, NoneTwice, NoneTwiceUnderKey, EachArrivingIsPutOut}
+use Rattle.sg_gateway.specs.RawHeadline.{AreSealed, Unforged, EachOpeningIsSealed, EachOpeningGoesOut, OnlyOpeningsGoOut, NoneTwice, NoneTwiceUnderKey, EachArrivingIsPutOut}
 use Rattle.sg_gateway.specs.RawReplayed.{Replayed, replayed}
 use Rattle.sg_gateway.specs.RawRuns.{outcomes, turns_from}
 use Rattle.sg_gateway.specs.RawStep.{Event}
@@ -54,6 +54,7 @@ pub record IsRun (status : Status) (left left' written written' : Option (List �
 -- The headline, over the events of the octets read, for every list of sealed packets.
 pub record Headline (events : List Event) : Type 0 where
   pub each_sealed : (sealed : List Sealed) → Unforged sealed events → EachOpeningIsSealed sealed events
+  pub each_goes_out : EachOpeningGoesOut events
   pub only : OnlyOpeningsGoOut events
   pub none_twice : NoneTwice events
   pub none_twice_under_key : NoneTwiceUnderKey events

@@ -23,6 +23,7 @@ pub fn run<S: Source, K: Sink>(
         × IsRun result (S.left source.old) (S.left source.new) (K.written sink.old) (K.written sink.new) octets out
         × Headline (replayed octets).events }
     ensures usage { result ≡ Status.Usage ↔ IsNoCommand words.now }
+    ensures untouched { result ≡ Status.Usage → (source.new ≡ source.old) × (sink.new ≡ sink.old) }
     ensures complete { ¬ IsNoCommand words.now → ¬ Rose (S.faults source.old) (S.faults source.new) → ¬ Rose (K.faults sink.old) (K.faults sink.new)
         → IsComplete result (S.left source.old) (S.left source.new) }
     ensures read { result ≡ Status.Read → Rose (S.faults source.old) (S.faults source.new) }

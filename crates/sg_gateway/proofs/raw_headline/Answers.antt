@@ -6,11 +6,12 @@ use Rattle.sg_gateway.specs.RawStep.{Event, Signalled, Datagram, Entry}
 use Rattle.sg_gateway.specs.RawRuns.{Turn, turn_of, turns, journal, world_after}
 use Rattle.sg_gateway.specs.RawWorld.{World, empty, call_at}
 use Rattle.sg_session.specs.RawPacket.{IsSealed}
-use Rattle.sg_gateway.specs.RawHeadline.{IsUnforgedIn, OpeningsAreSealed, ArrivingArePutOut, IsOutPlain}
+use Rattle.sg_gateway.specs.RawHeadline.{IsUnforgedIn, OpeningsGoOut, OpeningsAreSealed, ArrivingArePutOut, IsOutPlain}
 use Rattle.sg_gateway.proofs.RawDatagrams.{journal_kept, every_turn}
 use Rattle.sg_gateway.proofs.RawKept.{EntryKept, name_at}
 use Rattle.sg_session.proofs.Lists.{each_of}
 use Rattle.sg_gateway.proofs.RawOpenedAndPut.{openings_at, quiet_arrival}
+use Rattle.sg_gateway.proofs.RawGoesOut.{leaves_at}
 use Rattle.sg_gateway.proofs.RawPutOut.{put_out_at}
 use Rattle.sg_gateway.proofs.raw_headline.Goals as goal
 
@@ -33,6 +34,11 @@ quiet_at w (Datagram port from d) = λ none. All-from_recursion _ _ (quiet_arriv
 pub returns-clause-only : goal.returns-clause-only
 returns-clause-only c = λ events.
     All-from_recursion IsQuiet (turns events) (every_turn (λ t. Unit {0}) IsQuiet (λ past w e kept u. quiet_at w e) events (each_of (λ t. Unit {0}) (λ t. tt) (turns events)))
+
+pub returns-clause-goes_out : goal.returns-clause-goes_out
+returns-clause-goes_out c = λ events.
+    All-from_recursion OpeningsGoOut (turns events)
+    (every_turn (λ t. Unit {0}) OpeningsGoOut (λ past w e kept u. All-from_recursion _ _ (leaves_at w e)) events (each_of (λ t. Unit {0}) (λ t. tt) (turns events)))
 
 pub returns-clause-session : goal.returns-clause-session
 returns-clause-session c = λ es. (journal_kept es).0

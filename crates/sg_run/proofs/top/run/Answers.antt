@@ -12,6 +12,7 @@ returns-clause-ran g c =
       ran.2,
       record {
         each_sealed = c.raw_headline.ensures.sealed events;
+        each_goes_out = c.raw_headline.ensures.goes_out events;
         only = c.raw_headline.ensures.only events;
         none_twice = c.raw_headline.ensures.session events;
         none_twice_under_key = c.raw_headline.ensures.key events;
