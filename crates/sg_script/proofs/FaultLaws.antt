@@ -1,6 +1,6 @@
 -- No field of a line answers a fault of the line's frame.
-use Rattle.std.proofs.Common.{◌≡◌, ℕ, suc, ◌<◌, ◌≤◌, Bool, true, false, cond, eqb, ltb, leb, List, [], ◌∷◌, ◌++◌, length, Option, Some, None, Result, Ok, Err, refl, sym, ap, subst, ◌∙◌, arith, inl, inr}
-use Rattle.std.specs.Prelude.{◌⊎◌, codes, not, ◌&&◌}
+use Rattle.std.proofs.Common.{◌≡◌, ℕ, ◌<◌, ◌≤◌, Bool, true, false, cond, eqb, ltb, leb, List, [], ◌∷◌, ◌++◌, length, Option, Some, None, Result, Ok, Err, refl, subst, inl, inr}
+use Rattle.std.specs.Prelude.{codes, not, ◌&&◌}
 use Rattle.std.specs.Bool.{beq}
 use Rattle.std.specs.List.{list_all, join_with_byte}
 use Rattle.std.specs.Int.{w32, from_be_bytes}
@@ -16,9 +16,9 @@ use Rattle.sg_script.specs.declared.lines.Line.TheVariants as lines
 use Rattle.sg_script.specs.Fields.{◌>>=◌, or_fault, number_in, call_in, port_in, address_in, hex_in, octets_in, rollover_in, window_in, noise_in, key_in, identity_in, is_raw}
 use Rattle.sg_script.specs.LineFaults.{IsFieldFault}
 use Rattle.sg_script.specs.LineOf.{tick_in, reject_in, bye_in, datagram_in, psk_in, offer_secure_in, offer_sdes_in, offer_mikey_in, answer_in, manual_in, two_fields, four_fields, five_fields, six_fields, eight_fields, more_fields, said_by, fields_of, body_of, is_ended, header_in, line_of}
-use Rattle.sg_script.specs.LineText.{line_fields, line_text, FitsLine}
+use Rattle.sg_script.specs.LineText.{line_fields}
 use Rattle.sg_script.proofs.Dense.{joined_lacks}
-use Rattle.sg_script.proofs.FieldLaws.{chosen, err_ok}
+use Rattle.sg_script.proofs.FieldLaws.{chosen}
 use Rattle.sg_script.proofs.LineLaws.{dense_line, line_takes}
 
 abbrev Keeps : {A : Type 0} → Result A ScriptFault → Type 0

@@ -1,12 +1,12 @@
 -- Each field has one spelling: what is spelled so is read, and what is read is spelled so.
-use Rattle.std.proofs.Common.{◌≡◌, ℕ, zero, suc, ◌+◌, ◌/◌, ◌%◌, ◌^◌, ◌<◌, ◌≤◌, Bool, true, false, cond, eqb, ltb, leb, List, [], ◌∷◌, ◌++◌, length, take, drop, Option, Some, None, Result, Ok, Err, refl, sym, ap, subst, ◌∙◌, arith, inl, inr, append_assoc, lit<, length-append, take-append-drop}
-use Rattle.std.specs.Prelude.{◌&&◌, ◌⊎◌, slice_index, codes}
+use Rattle.std.proofs.Common.{◌≡◌, ℕ, zero, suc, ◌+◌, ◌/◌, ◌^◌, ◌<◌, ◌≤◌, Bool, true, false, cond, eqb, ltb, leb, List, [], ◌∷◌, ◌++◌, length, take, drop, Option, Some, None, Result, Ok, Err, refl, sym, ap, subst, ◌∙◌, arith, inl, inr, append_assoc, lit<, length-append, take-append-drop}
+use Rattle.std.specs.Prelude.{◌&&◌, ◌⊎◌, slice_index}
 use Rattle.std.specs.Int.{w32, to_be_bytes, from_be_bytes}
 use Rattle.std.specs.Fmt.{decimal}
 use Rattle.std.specs.List.{list_all}
 use Rattle.std.specs.Str.{bytes_eq}
 use Rattle.std.proofs.Math.Bool.{and-false}
-use Rattle.std.proofs.lemmas.Bool.{ne_eqb, eq-eqb, eqb-true, eqb-false, le-leb, leb-true, le-ltb, ltb-false}
+use Rattle.std.proofs.lemmas.Bool.{ne_eqb, eqb-true, eqb-false, le-leb, leb-true, le-ltb, ltb-false}
 use Rattle.std.proofs.lemmas.Nat.{be_bytes_4, from_be_bytes-to_be_bytes_4}
 use Rattle.std.proofs.lemmas.List.{take_at, length-take, length-drop}
 use Rattle.std.proofs.lemmas.Slice.Eq.{bytes_eq-Decides}
@@ -16,7 +16,6 @@ use Rattle.sg_base.specs.declared.CallId.{CallId}
 use Rattle.sg_base.specs.declared.Noise304.{Noise304}
 use Rattle.sg_base.specs.declared.ScriptFault.{ScriptFault}
 use Rattle.sg_base.specs.declared.ScriptFault.TheVariants.{Word, Number, Hex, Length}
-use Rattle.sg_base.specs.declared.Suite.{Suite}
 use Rattle.sg_base.specs.Fields.{number_at, cut_at, octets_at, address_at, address_text, IsAddress}
 use Rattle.sg_base.specs.Identities.{is_printing, is_identity}
 use Rattle.sg_base.specs.Keys.{Master, master_of}
@@ -116,7 +115,7 @@ unfolding encode_with
 some_hex t [] some e = absurd (some (ap length e))
 some_hex t (b ∷ octets) some e = e
 
-hex_again : (octets : List ℕ) → IsBytes octets → hex_in (hex_text octets) ≡ Ok octets
+pub hex_again : (octets : List ℕ) → IsBytes octets → hex_in (hex_text octets) ≡ Ok octets
 unfolding hex_in
 hex_again [] fits = refl
 hex_again (b ∷ octets) fits =
@@ -124,7 +123,7 @@ hex_again (b ∷ octets) fits =
     let some : eqb (length (encode_lower (b ∷ octets))) 0 ≡ false = not_empty b octets in
     rw (longer, some, octets_again (b ∷ octets) fits) refl
 
-hex_takes : (t octets : List ℕ) → hex_in t ≡ Ok octets → (t ≡ hex_text octets) × IsBytes octets
+pub hex_takes : (t octets : List ℕ) → hex_in t ≡ Ok octets → (t ≡ hex_text octets) × IsBytes octets
 unfolding hex_in
 hex_takes t octets e =
     elim (chosen (bytes_eq t (45 ∷ [])) _ _ (Ok octets) e) [

@@ -1,6 +1,6 @@
 -- No line that fits is too long.
-use Rattle.std.proofs.Common.{◌≡◌, ℕ, zero, suc, ◌+◌, ◌*◌, ◌^◌, ◌<◌, ◌≤◌, List, [], ◌∷◌, ◌++◌, length, Option, Some, None, refl, sym, ap, ◌∙◌, arith, length-append}
-use Rattle.std.specs.Prelude.{slice_index, codes, IsTrue, ◌&&◌, true, Bool}
+use Rattle.std.proofs.Common.{◌≡◌, ℕ, ◌+◌, ◌*◌, ◌^◌, ◌<◌, ◌≤◌, List, [], ◌∷◌, ◌++◌, length, Option, Some, None, arith, length-append}
+use Rattle.std.specs.Prelude.{slice_index, IsTrue}
 use Rattle.std.specs.List.{join_with_byte, list_all}
 use Rattle.std.specs.Fmt.{decimal}
 use Rattle.std.specs.Int.{w32, to_be_bytes}
@@ -21,7 +21,7 @@ use Rattle.sg_script.specs.declared.lines.Line.{Line}
 use Rattle.sg_script.specs.declared.lines.Line.TheVariants as lines
 use Rattle.sg_script.specs.declared.lines.Signal.{Signal}
 use Rattle.sg_script.specs.declared.lines.Signal.TheVariants.{Tick, Psk, Manual, OfferSecure, OfferSdes, OfferMikey, Answer, Reject, Bye}
-use Rattle.sg_script.specs.LineText.{key_text, rollover_text, noise_text, signal_fields, line_fields, line_text, FitsKey, FitsNoise, FitsOctets, FitsSignal, FitsLine}
+use Rattle.sg_script.specs.LineText.{key_text, noise_text, signal_fields, line_fields, line_text, FitsKey, FitsNoise, FitsSignal, FitsLine}
 use Rattle.sg_script.specs.OutcomeText.{hex_text}
 use Rattle.sg_script.proofs.Dense.{and_both}
 

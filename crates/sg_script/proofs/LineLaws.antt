@@ -1,8 +1,8 @@
 -- Each line has one spelling: what is spelled so is read, and what is read is spelled so.
-use Rattle.std.proofs.Common.{◌≡◌, ℕ, zero, suc, ◌+◌, ◌-◌, ◌^◌, ◌<◌, ◌≤◌, Bool, true, false, cond, eqb, ltb, List, [], ◌∷◌, ◌++◌, length, take, Option, Some, None, Result, Ok, Err, refl, sym, ap, subst, ◌∙◌, arith, inl, inr, lit<}
-use Rattle.std.specs.Prelude.{◌&&◌, ◌⊎◌, slice_index, codes, not, IfOk}
+use Rattle.std.proofs.Common.{◌≡◌, ℕ, suc, ◌-◌, ◌^◌, ◌<◌, ◌≤◌, Bool, true, false, cond, eqb, ltb, List, [], ◌∷◌, ◌++◌, length, Option, Some, None, Result, Ok, Err, refl, sym, ap, subst, ◌∙◌, arith, inl, inr, lit<}
+use Rattle.std.specs.Prelude.{◌&&◌, slice_index, codes, not, IfOk}
 use Rattle.std.specs.Bool.{beq}
-use Rattle.std.specs.List.{AllByRecursion, All, slice_split, join_with_byte}
+use Rattle.std.specs.List.{AllByRecursion, All, join_with_byte}
 use Rattle.std.specs.Fmt.{decimal}
 use Rattle.std.specs.Int.{w32, to_be_bytes}
 use Rattle.std.specs.Str.{bytes_eq}
@@ -12,11 +12,9 @@ use Rattle.std.proofs.Math.Seq.{get_or-append_seam}
 use Rattle.std.proofs.lemmas.List.{length-append, take_at}
 use Rattle.std.proofs.lemmas.List.Splits.{slice_split_none, slice_split_at, join_with_byte-slice_split}
 use Rattle.std.proofs.lemmas.List.Elements.{All-from_recursion}
-use Rattle.hex.specs.Hex.{IsBytes}
 use Rattle.sg_base.specs.declared.Noise304.{Noise304}
-use Rattle.sg_base.specs.declared.ScriptFault.{ScriptFault}
-use Rattle.sg_base.specs.declared.ScriptFault.TheVariants.{Word, Number, Hex, Length, Version, Unended}
-use Rattle.sg_base.specs.Fields.{Lacks, address_text}
+use Rattle.sg_base.specs.declared.ScriptFault.TheVariants.{Word, Length, Version, Unended}
+use Rattle.sg_base.specs.Fields.{Lacks}
 use Rattle.sg_base.specs.Keys.{Master}
 use Rattle.sg_base.specs.SuiteNames.{suite_name}
 use Rattle.sg_script.specs.declared.lines.Line.{Line}
@@ -24,11 +22,11 @@ use Rattle.sg_script.specs.declared.lines.Line.TheVariants as lines
 use Rattle.sg_script.specs.declared.lines.Signal.{Signal}
 use Rattle.sg_script.specs.declared.lines.Signal.TheVariants.{Tick, Psk, Manual, OfferSecure, OfferSdes, OfferMikey, Answer, Reject, Bye}
 use Rattle.sg_script.specs.declared.raw_faults.ReadLineFault.{ReadLineFault}
-use Rattle.sg_script.specs.Fields.{◌>>=◌, Gives, number_in, call_in, port_in, address_in, octets_in, rollover_in, window_in, noise_in, key_in, identity_in, is_raw}
+use Rattle.sg_script.specs.Fields.{Gives, number_in, call_in, port_in, address_in, octets_in, rollover_in, window_in, noise_in, key_in, identity_in, is_raw}
 use Rattle.sg_script.specs.LineOf.{tick_in, reject_in, bye_in, datagram_in, psk_in, offer_secure_in, offer_sdes_in, offer_mikey_in, answer_in, manual_in, two_fields, four_fields, five_fields, six_fields, eight_fields, more_fields, said_by, fields_of, body_of, is_ended, header_in, line_of}
-use Rattle.sg_script.specs.LineText.{key_text, rollover_text, noise_text, signal_fields, line_fields, line_text, FitsKey, FitsNoise, FitsOctets, FitsSignal, FitsBody, FitsLine}
+use Rattle.sg_script.specs.LineText.{key_text, noise_text, signal_fields, line_fields, line_text, FitsKey, FitsNoise, FitsSignal, FitsBody, FitsLine}
 use Rattle.sg_script.specs.OutcomeText.{hex_text}
-use Rattle.sg_script.proofs.Dense.{IsDense, AreDense, dense_test, dense_append, dense_decimal, dense_address, dense_encoded, dense_hex, dense_suite, dense_identity, lack_spaces, joined_lacks, and_both}
+use Rattle.sg_script.proofs.Dense.{IsDense, AreDense, dense_test, dense_append, dense_decimal, dense_address, dense_encoded, dense_hex, dense_suite, dense_identity, lack_spaces, and_both}
 use Rattle.sg_script.proofs.FieldLaws
 
 -- ---- no field has a space or a line end
@@ -141,7 +139,7 @@ some_fields (lines.Signal (Answer call noise text)) = (_, _, refl)
 some_fields (lines.Signal (Reject call)) = (_, _, refl)
 some_fields (lines.Signal (Bye call)) = (_, _, refl)
 
-cut_some : (gs : List (List ℕ)) (f : List ℕ) (fs : List (List ℕ)) → gs ≡ f ∷ fs → AreDense gs → fields_of (join_with_byte 32 gs) ≡ gs
+pub cut_some : (gs : List (List ℕ)) (f : List ℕ) (fs : List (List ℕ)) → gs ≡ f ∷ fs → AreDense gs → fields_of (join_with_byte 32 gs) ≡ gs
 cut_some gs f fs e dense =
     let lack : AllByRecursion (Lacks 32) (f ∷ fs) = subst (λ (l : List (List ℕ)). AllByRecursion (Lacks 32) l) e (lack_spaces gs dense) in
     rw e (cut_fields f fs lack)

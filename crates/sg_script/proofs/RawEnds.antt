@@ -1,17 +1,13 @@
 -- Where a line ends: what is said of lines that are too long, unended or whole.
-use Rattle.std.proofs.Common.{◌≡◌, ◌⊎◌, ℕ, ◌*◌, ◌+◌, Bool, true, false, cond, ◌&&◌, List, [], ◌∷◌, ◌++◌, ◌-◌, ◌<◌, ◌≤◌, length, take, Option, Some, None, Result, Ok, Err, refl, sym, ap, ◌∙◌, eqb, ltb, leb}
+use Rattle.std.proofs.Common.{◌≡◌, ℕ, Bool, true, false, cond, List, [], ◌∷◌, ◌++◌, ◌-◌, ◌<◌, ◌≤◌, length, take, Result, Ok, Err, refl, sym, ap, ◌∙◌, eqb, ltb}
 use Rattle.std.proofs.lemmas.Bool.{cond-true, cond-false, ne_eqb, lt-ltb, le-ltb}
 use Rattle.sg_script.specs.declared.lines.Line.{Line}
 use Rattle.std.specs.List.{slice_split}
-use Rattle.std.specs.Str.{bytes_eq}
-use Rattle.std.proofs.Common.{codes}
-use Rattle.sg_base.specs.declared.addresses.Address.{Address}
-use Rattle.sg_base.specs.declared.addresses.CallId.{CallId}
 use Rattle.sg_script.specs.ScriptLines.{NoEnd, IsWhole}
 use Rattle.sg_base.specs.declared.faults.ScriptFault.{ScriptFault}
 use Rattle.sg_base.specs.declared.faults.ScriptFault.TheVariants.{Word, Number, Hex, Length, Version, Unended}
-use Rattle.sg_script.specs.RawFields.{number_in, is_plain, value_of}
-use Rattle.sg_script.specs.RawLine.{◌>>=◌, short_in, quad_of, quad_in, address_of, address_in, is_lower, nibble, pairs_in, hex_in, raw_key_of, key_of, key_in, call_in, datagram_with, arrival_of, last_is_end, raw_line_of, window_in, roc_in, manual_of, manual_under, manual_more, manual_line, datagram_of, in_line, header_line, content}
+use Rattle.sg_script.specs.RawFields.{number_in}
+use Rattle.sg_script.specs.RawLine.{◌>>=◌, short_in, quad_of, quad_in, address_of, address_in, pairs_in, hex_in, raw_key_of, key_of, key_in, call_in, arrival_of, last_is_end, raw_line_of, window_in, roc_in, manual_of, manual_under, manual_more, manual_line, datagram_of, in_line, header_line, content}
 
 pub record Never {A : Type 0} (r : Result A ScriptFault) : Type 0 where
   pub never : r ≡ Err Unended → ⊥

@@ -1,5 +1,5 @@
 -- The last octet of a line.
-use Rattle.std.proofs.Common.{◌≡◌, ◌<◌, ◌-◌, ℕ, List, [], ◌∷◌, length, get_or, refl, sym, ap, ◌∙◌, arith, eqb, suc}
+use Rattle.std.proofs.Common.{◌≡◌, ◌<◌, ◌-◌, ℕ, List, [], ◌∷◌, length, get_or, refl, ap, ◌∙◌, arith, eqb, suc}
 use Rattle.sg_script.specs.RawLine.{last_is_end}
 
 pub last_is : (xs : List ℕ) → 0 < length xs → last_is_end xs ≡ eqb (get_or xs (length xs - 1) 0) 10

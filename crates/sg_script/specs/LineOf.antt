@@ -4,7 +4,7 @@ use Rattle.std.specs.Bool.{beq}
 use Rattle.std.specs.List.{slice_split}
 use Rattle.std.specs.Str.{bytes_eq}
 use Rattle.sg_base.specs.declared.ScriptFault.{ScriptFault}
-use Rattle.sg_base.specs.declared.ScriptFault.TheVariants.{Word, Number, Hex, Length, Version, Unended}
+use Rattle.sg_base.specs.declared.ScriptFault.TheVariants.{Word, Length, Version, Unended}
 use Rattle.sg_script.specs.declared.lines.Line.{Line}
 use Rattle.sg_script.specs.declared.lines.Line.TheVariants as lines
 use Rattle.sg_script.specs.declared.lines.Signal.TheVariants.{Tick, Psk, Manual, OfferSecure, OfferSdes, OfferMikey, Answer, Reject, Bye}

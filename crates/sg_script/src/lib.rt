@@ -14,10 +14,13 @@ mod raw_faults;
 mod raw_fields;
 mod raw_lines;
 mod reading;
+#[cfg(test)]
+mod tests;
 
-pub use laws::{lines_are_framed, lines_have_one_spelling};
+pub use laws::{lines_are_framed, lines_have_one_spelling, outcomes_have_one_spelling};
 pub use line_printing::print_line;
 pub use lines::{Line, Signal};
+pub use outcome_reading::read_outcome;
 pub use outcomes::{Outcome, Why};
 pub use printing::print_outcome;
 pub use raw_faults::ReadLineFault;

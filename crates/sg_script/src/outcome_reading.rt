@@ -2,6 +2,9 @@
 
 ghost use Rattle.std.specs.Prelude.{◌≡◌, ◌≤◌, ◌++◌, map, length, IfOk};
 ghost use Rattle.sg_script.specs.Fields.{Gives};
+ghost use Rattle.sg_script.specs.OutcomeText.{outcome_line};
+ghost use Rattle.sg_script.specs.OutcomeFields.{FitsOutcome};
+ghost use Rattle.sg_script.specs.declared.outcomes.Outcome.{Outcome};
 ghost use Rattle.sg_script.specs.OutcomeOf.{described_by, described_in, dropped_in, ended_by, ended_in, live_by, live_in, made_by, made_in, out_by, out_in, outcome_by, outcome_in, outcome_of, refused_in, some_call_in, unsent_by, unsent_in};
 
 use crate::causes::{drop_cause, refusal};
@@ -221,4 +224,17 @@ fn outcome(alloc: Global, octets: &[u8]) -> Result<Outcome, ReadLineFault>
     };
     let fields = fields(alloc, body)?;
     outcome_of_fields(alloc, &fields)
+}
+
+/// The outcome that the line is, its end among the octets. The first fault is Length above 70,000 octets,
+/// Unended without a line end, Word for an unknown word or another number of fields than it has, and
+/// then that of the first field from the left; a cause is judged where it stands.
+pub fn read_outcome(alloc: Global, octets: &[u8]) -> Result<Outcome, ReadLineFault>
+    ensures exact { Gives result (outcome_of octets.now) }
+    // What is read is spelled so.
+    ensures found { IfOk result (λ o. FitsOutcome o × (octets.now ≡ outcome_line o)) }
+    // What is spelled so is read, unless memory runs out.
+    ensures only { (o : Outcome) → FitsOutcome o → length (outcome_line o) ≤ 70000 → octets.now ≡ outcome_line o → Gives result (Ok o) }
+{
+    outcome(alloc, octets)
 }

@@ -1,4 +1,4 @@
-use Rattle.std.proofs.Common.{rules, ◌≡◌, ◌≤◌, length, take, ◌-◌, sym, ap, ◌∙◌, arith}
+use Rattle.std.proofs.Common.{◌≤◌, length, take, ◌-◌, ◌∙◌, arith}
 use Rattle.sg_script.proofs.Joins.{goes_on, ends}
 use Rattle.sg_script.proofs.line_printing.joined.Goals as goal
 

@@ -1,4 +1,4 @@
-use Rattle.std.proofs.Common.{◌≡◌, ap, subst, ◌∙◌, Ok}
+use Rattle.std.proofs.Common.{ap, subst, ◌∙◌}
 use Rattle.sg_script.specs.Fields.{Gives}
 use Rattle.sg_script.specs.LineOf.{line_of}
 use Rattle.sg_script.proofs.Lengths.{line_short}
