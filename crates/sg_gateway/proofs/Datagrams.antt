@@ -24,7 +24,8 @@ use Rattle.sg_session.proofs.Taking.{IsNewIn, opened_new, seals_is}
 use Rattle.sg_session.specs.Opening.{Taken}
 use Rattle.sg_session.specs.Ring.{Installed}
 use Rattle.sg_session.specs.Sealing.{datagram_of}
-use Rattle.sg_session.specs.Session.{Name, Done, Session, same_name, has_done, with_done}
+use Rattle.sg_session.specs.declared.names.Name.{Name}
+use Rattle.sg_session.specs.Session.{Done, Session, same_name, has_done, with_done}
 
 abbrev pub Apart : Entry → Entry → Type 0
 Apart a b = IsSamePlace a b → ⊥

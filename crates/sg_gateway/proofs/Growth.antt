@@ -16,7 +16,11 @@ use Rattle.sg_gateway.specs.World.{Call}
 use Rattle.sg_session.proofs.Inversions.{after_ok_is, stop_if_is, ok_is}
 use Rattle.sg_session.proofs.Lists.{each_weaker, each_append, each_map}
 use Rattle.sg_session.specs.Ring.{Installed, clash, clashes_with_itself, first_clash, with_key, with_keys, install}
-use Rattle.sg_session.specs.Session.{Direction, Opening, Sealing, Owner, Name, Key, Session}
+use Rattle.sg_session.specs.declared.names.Direction.{Direction}
+use Rattle.sg_session.specs.declared.names.Direction.TheVariants.{Opening, Sealing}
+use Rattle.sg_session.specs.declared.names.Owner.{Owner}
+use Rattle.sg_session.specs.declared.names.Name.{Name}
+use Rattle.sg_session.specs.Session.{Key, Session}
 
 no_clash : (n : ℕ) (ring : List Installed) (m : Master) → first_clash n ring m ≡ None → AllByRecursion (λ r. clash r.master m ≡ false) ring
 no_clash n [] m e = tt

@@ -9,7 +9,11 @@ use Rattle.sg_gateway.specs.World.{Call, World}
 use Rattle.sg_session.proofs.Lists.{each_weaker}
 use Rattle.sg_session.proofs.NoneTwice.{done_here, done_there}
 use Rattle.sg_session.specs.Ring.{Installed, clash, clashes_with_itself}
-use Rattle.sg_session.specs.Session.{Direction, Opening, Sealing, Owner, Name, Key, Done, Session, same_direction, same_kind, same_name, has_done}
+use Rattle.sg_session.specs.declared.names.Direction.{Direction}
+use Rattle.sg_session.specs.declared.names.Direction.TheVariants.{Opening, Sealing}
+use Rattle.sg_session.specs.declared.names.Owner.{Owner}
+use Rattle.sg_session.specs.declared.names.Name.{Name}
+use Rattle.sg_session.specs.Session.{Key, Done, Session, same_direction, same_kind, same_name, has_done}
 
 pub same_direction_is : (a b : Direction) → same_direction a b ≡ true → a ≡ b
 same_direction_is Opening Opening e = refl

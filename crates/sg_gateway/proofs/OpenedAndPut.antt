@@ -21,7 +21,9 @@ use Rattle.sg_session.proofs.ReadBack.{reads_as_sealed}
 use Rattle.sg_session.proofs.Taking.{IsOpened, opens_is}
 use Rattle.sg_session.specs.Opening.{Taken, checked, opens, packet_of}
 use Rattle.sg_session.specs.Reach.{Sealed, IsSealed, IsAt, IsSound}
-use Rattle.sg_session.specs.Session.{Direction, Opening, Sealing, Session}
+use Rattle.sg_session.specs.declared.names.Direction.{Direction}
+use Rattle.sg_session.specs.declared.names.Direction.TheVariants.{Opening, Sealing}
+use Rattle.sg_session.specs.Session.{Session}
 
 -- the session of an arrival is of the kept world
 pub held_kept : (Extra : Session → Type 0) (past : List Entry) (w : World) → IsKept Extra past w → (port : ℕ) (c : Call) (s : Session) → call_at w port ≡ Some c → Any (Is s) c.sessions

@@ -10,7 +10,11 @@ use Rattle.sg_gateway.specs.Media.{Medium, Stream}
 use Rattle.sg_gateway.specs.Order.{IsBefore, DifferInName}
 use Rattle.sg_gateway.specs.World.{Call, find_call, with_call, and_call, free_slot}
 use Rattle.sg_session.proofs.Lists.{each_weaker, each_append, each_filter, each_at_this, any_cases}
-use Rattle.sg_session.specs.Session.{Direction, Opening, Sealing, Owner, Name, Key, Session}
+use Rattle.sg_session.specs.declared.names.Direction.{Direction}
+use Rattle.sg_session.specs.declared.names.Direction.TheVariants.{Opening, Sealing}
+use Rattle.sg_session.specs.declared.names.Owner.{Owner}
+use Rattle.sg_session.specs.declared.names.Name.{Name}
+use Rattle.sg_session.specs.Session.{Key, Session}
 
 pub pairs_filter : {X : Type 0} (R : X → X → Type 0) (test : X → Bool) (xs : List X) → Pairs R xs → Pairs R (filter test xs)
 pairs_filter R test [] p = tt

@@ -12,7 +12,8 @@ use Rattle.sg_script.specs.declared.outcomes.Outcome.TheVariants.{Live}
 use Rattle.sg_session.specs.Opening.{Taken}
 use Rattle.sg_session.specs.Ring.{install}
 use Rattle.sg_session.specs.Sealing.{datagram_of}
-use Rattle.sg_session.specs.Session.{Name, Session, same_name, with_done}
+use Rattle.sg_session.specs.declared.names.Name.{Name}
+use Rattle.sg_session.specs.Session.{Session, same_name, with_done}
 use Rattle.sg_session.proofs.Inversions.{after_ok_is, stop_if_is, ok_is}
 use Rattle.sg_session.proofs.Lists.{each_weaker, each_filter, each_at_this, each_of}
 use Rattle.sg_gateway.specs.Datagrams.{Entry, Given, put, call_after, given_to, arrived_in, arrived_at}

@@ -19,7 +19,8 @@ use Rattle.sg_session.proofs.ReadBack.{opens_within}
 use Rattle.sg_session.proofs.Lists.{any_cases, any_none, any_here, any_there, any_weaker, each_at_this}
 use Rattle.sg_session.specs.Opening.{Taken, opens}
 use Rattle.sg_session.specs.Reach.{Sealed, IsSealed, IsSound, taken_of}
-use Rattle.sg_session.specs.Session.{Opening, Key, Session}
+use Rattle.sg_session.specs.declared.names.Direction.TheVariants.{Opening}
+use Rattle.sg_session.specs.Session.{Key, Session}
 
 -- a session in which the datagram is tried is at the port
 tried_held : (ss : List Session) (d : List ℕ) (s : Session) → Any (Is s) (tried ss d) → Any (Is s) ss

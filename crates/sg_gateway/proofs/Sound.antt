@@ -11,9 +11,12 @@ use Rattle.sg_gateway.specs.Media.{AgreedKey, Medium, Stream}
 use Rattle.sg_gateway.specs.Signals.{ByHand, medium_by_hand}
 use Rattle.sg_base.specs.Suites.{tag_len_of}
 use Rattle.sg_session.proofs.Lists.{each_append, each_map, both}
-use Rattle.sg_session.specs.Halves.{is_raw}
+use Rattle.sg_kdf.specs.SessionKeys.{is_raw}
 use Rattle.sg_session.specs.Reach.{IsSound, HasTags, AreMkis}
-use Rattle.sg_session.specs.Session.{Opening, Sealing, Owner, Name, Key, Done, Session, same_name, with_done}
+use Rattle.sg_session.specs.declared.names.Direction.TheVariants.{Opening, Sealing}
+use Rattle.sg_session.specs.declared.names.Owner.{Owner}
+use Rattle.sg_session.specs.declared.names.Name.{Name}
+use Rattle.sg_session.specs.Session.{Key, Done, Session, same_name, with_done}
 
 abbrev AreNotRaw : Stream → Type 0
 AreNotRaw s = AllByRecursion (λ k. is_raw k.master.suite ≡ false) s.keys

@@ -28,14 +28,17 @@ use Rattle.sg_rtp.specs.declared.heads.RtcpHead.{RtcpHead}
 use Rattle.sg_session.proofs.Lists.{each_at_this, each_map, each_of}
 use Rattle.sg_session.proofs.SameOctets.{same_octets_true}
 use Rattle.sg_session.proofs.Taking.{seals_is}
-use Rattle.sg_session.specs.Halves.{half_of, is_raw}
+use Rattle.sg_session.specs.Halves.{half_of}
+use Rattle.sg_kdf.specs.SessionKeys.{is_raw}
 use Rattle.sg_session.specs.Opening.{Taken, Head}
 use Rattle.sg_session.specs.Reach.{IsSound}
 use Rattle.sg_session.specs.Ring.{Installed, clash, clashes_with_itself, same_secret}
 use Rattle.sg_session.specs.Sealed.{head_size}
 use Rattle.sg_session.specs.Sealing.{head_out_of_kind, seals, datagram_of}
-use Rattle.sg_session.specs.Session.{Direction, Opening, Sealing, Session, same_direction}
-use Rattle.sg_session.specs.StandIns.{session_keys}
+use Rattle.sg_session.specs.declared.names.Direction.{Direction}
+use Rattle.sg_session.specs.declared.names.Direction.TheVariants.{Opening, Sealing}
+use Rattle.sg_session.specs.Session.{Session, same_direction}
+use Rattle.sg_kdf.specs.SessionKeys.{session_keys}
 use Rattle.sg_ctr.specs.Keystream.{counter_value}
 use Rattle.sg_rtp.specs.Heads.{rtp_head, rtcp_head}
 

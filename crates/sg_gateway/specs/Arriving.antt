@@ -3,7 +3,8 @@ use Rattle.std.specs.Prelude.{◌≡◌, ℕ, ◌≤◌, true, List, length, Som
 use Rattle.std.specs.List.{All, Any, Contains}
 use Rattle.sg_base.specs.declared.addresses.Address.{Address}
 use Rattle.sg_session.specs.Reach.{Sealed, IsWithinReach, text_in}
-use Rattle.sg_session.specs.Session.{Opening, Key, Session, is_live}
+use Rattle.sg_session.specs.declared.names.Direction.TheVariants.{Opening}
+use Rattle.sg_session.specs.Session.{Key, Session, is_live}
 use Rattle.sg_gateway.specs.Datagrams.{tried}
 use Rattle.sg_gateway.specs.Ports.{call_at, sessions_at}
 use Rattle.sg_gateway.specs.Runs.{Turn, turns}

@@ -8,7 +8,10 @@ use Rattle.sg_script.specs.declared.outcomes.Outcome.{Outcome}
 use Rattle.sg_script.specs.declared.outcomes.Outcome.TheVariants.{Out, Dropped}
 use Rattle.sg_session.specs.Opening.{Taken, opens}
 use Rattle.sg_session.specs.Sealing.{seals, datagram_of}
-use Rattle.sg_session.specs.Session.{Direction, Opening, Sealing, Name, Key, Done, Session, with_done}
+use Rattle.sg_session.specs.declared.names.Direction.{Direction}
+use Rattle.sg_session.specs.declared.names.Direction.TheVariants.{Opening, Sealing}
+use Rattle.sg_session.specs.declared.names.Name.{Name}
+use Rattle.sg_session.specs.Session.{Key, Done, Session, with_done}
 use Rattle.sg_gateway.specs.Ports.{port_out, address_out, sessions_at}
 use Rattle.sg_gateway.specs.World.{Call, World, with_call}
 

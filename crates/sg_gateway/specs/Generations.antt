@@ -4,7 +4,10 @@ use Rattle.sg_base.specs.declared.addresses.Kind.{Kind}
 use Rattle.sg_base.specs.declared.addresses.Kind.TheVariants.{Rtp, Rtcp}
 use Rattle.sg_base.specs.declared.faults.Refusal.{Refusal}
 use Rattle.sg_session.specs.Ring.{Installed, install}
-use Rattle.sg_session.specs.Session.{Direction, Opening, Sealing, Owner, Key, Session, same_direction}
+use Rattle.sg_session.specs.declared.names.Direction.{Direction}
+use Rattle.sg_session.specs.declared.names.Direction.TheVariants.{Opening, Sealing}
+use Rattle.sg_session.specs.declared.names.Owner.{Owner}
+use Rattle.sg_session.specs.Session.{Key, Session, same_direction}
 use Rattle.sg_session.specs.Stages.{after_ok}
 use Rattle.sg_gateway.specs.Media.{AgreedKey, Stream, Medium}
 use Rattle.sg_gateway.specs.World.{Books, Call}

@@ -4,7 +4,8 @@ use Rattle.std.specs.List.{All, Any, AllByRecursion}
 use Rattle.sg_script.specs.declared.outcomes.Outcome.{Outcome}
 use Rattle.sg_script.specs.declared.outcomes.Outcome.TheVariants.{Made, Live, Sdp, Refused, Ended, Out, Dropped, Unsent}
 use Rattle.sg_session.specs.Reach.{Sealed, IsAt}
-use Rattle.sg_session.specs.Session.{Opening, Sealing, Session, highest_in}
+use Rattle.sg_session.specs.declared.names.Direction.TheVariants.{Opening, Sealing}
+use Rattle.sg_session.specs.Session.{Session, highest_in}
 use Rattle.sg_gateway.specs.Datagrams.{Entry}
 use Rattle.sg_gateway.specs.Ports.{port_out, address_out}
 use Rattle.sg_gateway.specs.Runs.{Turn, turns, world_after}

@@ -9,7 +9,7 @@ use Rattle.sg_base.specs.declared.faults.Refusal.TheVariants.{TableFull, CallKno
 use Rattle.sg_script.specs.declared.outcomes.Outcome.{Outcome}
 use Rattle.sg_script.specs.declared.outcomes.Outcome.TheVariants.{Made, Live, Refused}
 use Rattle.sg_session.specs.declared.sources.Admit.TheVariants as admit
-use Rattle.sg_session.specs.Halves.{is_raw}
+use Rattle.sg_kdf.specs.SessionKeys.{is_raw}
 use Rattle.sg_session.specs.Stages.{stop_if}
 use Rattle.sg_gateway.specs.Generations.{Settled, keyed}
 use Rattle.sg_gateway.specs.Media.{Stream, Medium}

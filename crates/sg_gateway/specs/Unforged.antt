@@ -4,7 +4,8 @@ use Rattle.std.specs.List.{All, Any, AllByRecursion}
 use Rattle.sg_base.specs.declared.faults.DropCause.{DropCause}
 use Rattle.sg_session.specs.Opening.{Check, checked, tag_fits}
 use Rattle.sg_session.specs.Reach.{Sealed, IsAt, text_in, without_mki}
-use Rattle.sg_session.specs.Session.{Opening, Session}
+use Rattle.sg_session.specs.declared.names.Direction.TheVariants.{Opening}
+use Rattle.sg_session.specs.Session.{Session}
 use Rattle.sg_gateway.specs.Datagrams.{tried}
 use Rattle.sg_gateway.specs.Ports.{call_at, sessions_at}
 use Rattle.sg_gateway.specs.Runs.{turns}

@@ -4,9 +4,10 @@ use Rattle.std.specs.List.{All, AllPairs, flat_map}
 use Rattle.sg_base.specs.declared.keys.HalfKeys.{HalfKeys}
 use Rattle.sg_session.specs.Halves.{half_of}
 use Rattle.sg_session.specs.Sealed.{head_size}
-use Rattle.sg_session.specs.Session.{Sealing, same_direction}
+use Rattle.sg_session.specs.declared.names.Direction.TheVariants.{Sealing}
+use Rattle.sg_session.specs.Session.{same_direction}
 use Rattle.sg_ctr.specs.Keystream.{counter_value}
-use Rattle.sg_session.specs.StandIns.{session_keys}
+use Rattle.sg_kdf.specs.SessionKeys.{session_keys}
 use Rattle.sg_gateway.specs.Datagrams.{Entry}
 use Rattle.sg_gateway.specs.Runs.{journal}
 use Rattle.sg_gateway.specs.Step.{Event, Signalled, Datagram}

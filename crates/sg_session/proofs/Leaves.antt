@@ -6,10 +6,10 @@ use Rattle.std.specs.List.{AllByRecursion}
 use Rattle.sg_base.specs.Keys.{Master}
 use Rattle.sg_base.specs.declared.addresses.Kind.{Kind}
 use Rattle.sg_base.specs.declared.addresses.Kind.TheVariants.{Rtp, Rtcp}
-use Rattle.sg_base.specs.declared.suites.Suite.{Suite}
-use Rattle.sg_base.specs.declared.suites.Suite.TheVariants.{Raw80, Cm128Tag80, Cm128Tag32, Cm192Tag80, Cm192Tag32, Cm256Tag80, Cm256Tag32}
-use Rattle.sg_session.specs.Halves.{half_of, is_raw}
+use Rattle.sg_session.specs.Halves.{half_of}
+use Rattle.sg_kdf.specs.SessionKeys.{is_raw}
 use Rattle.sg_base.specs.declared.faults.IndexFault.TheVariants as index_fault
+use Rattle.sg_kdf.proofs.KdfLemmas.{rtp_keys, rtcp_keys, some_octets}
 use Rattle.sg_ctr.proofs.CounterLemmas.{counters_differ}
 use Rattle.sg_rtp.proofs.HeadFronts.{rtp_head_again}
 use Rattle.sg_session.proofs.Inversions.{ok_is, stop_if_is, stop_if_of}
@@ -24,7 +24,7 @@ use Rattle.sg_rtp.specs.Fields.{u16_at, u32_at}
 use Rattle.sg_rtp.specs.Heads.{version_of, listed_of, extension_of, rtp_head, rtcp_head}
 use Rattle.sg_index.specs.Nearest.{nearest_index, within_life}
 use Rattle.sg_ctr.specs.Keystream.{counter_value}
-use Rattle.sg_session.specs.StandIns.{cipher_of, session_keys}
+use Rattle.sg_kdf.specs.SessionKeys.{session_keys}
 
 -- heads
 abbrev head_of : List ℕ → RtpHead
@@ -140,35 +140,6 @@ fresh_parts window done i e = go (is_behind window (highest_of done) i) (is_in d
     go false true e = absurd cc
     go false false e = (refl, refl)
 
-pub none_done : (done : List ℕ) → highest_of done ≡ None → done ≡ []
-none_done [] e = refl
-none_done (x ∷ xs) e = absurd cc
-
-pub above_highest : (done : List ℕ) (h : ℕ) → highest_of done ≡ Some h → (i : ℕ) → h < i → is_in done i ≡ false
-above_highest [] h e i lt = absurd cc
-above_highest (x ∷ xs) h e i lt = go (λ g is lt'. above_highest xs g is i lt') (highest_of xs) refl e
-  where
-    go : ((g : ℕ) → highest_of xs ≡ Some g → g < i → is_in xs i ≡ false) → (o : Option ℕ) → highest_of xs ≡ o → Some (highest_with o x) ≡ Some h → (eqb x i || is_in xs i) ≡ false
-    go rest None is e =
-        let at : x ≡ h = cc in
-        or_from _ _ (ne_eqb x i (λ same. omega (arith, at, same))) (ap (λ l. is_in l i) (none_done xs is))
-    go rest (Some g) is e =
-        let at : max g x ≡ h = cc in
-        or_from _ _ (ne_eqb x i (λ same. omega (arith, at, same))) (rest g is (omega (arith, at, lt)))
-
-pub highest_is_in : (done : List ℕ) (h : ℕ) → highest_of done ≡ Some h → is_in done h ≡ true
-highest_is_in [] h e = absurd cc
-highest_is_in (x ∷ xs) h e = go (λ g is. highest_is_in xs g is) (highest_of xs) refl e
-  where
-    go : ((g : ℕ) → highest_of xs ≡ Some g → is_in xs g ≡ true) → (o : Option ℕ) → highest_of xs ≡ o → Some (highest_with o x) ≡ Some h → (eqb x h || is_in xs h) ≡ true
-    go rest None is e = let at : x ≡ h = cc in or_left _ _ (eq-eqb x h at)
-    go rest (Some g) is e =
-        let at : max g x ≡ h = cc in
-        elim (cases_lt g x) [
-          | inl lt ↦ or_left _ _ (eq-eqb x h (omega (arith, lt, at)))
-          | inr le ↦ or_right _ _ (subst (λ n. is_in xs n ≡ true) (omega (arith, le, at)) (rest g is))
-        ]
-
 -- keystreams
 pub one_counter : (m : Master) (kind : Kind) (ssrc index j ssrc' index' j' : ℕ)
     → ssrc < 4294967296 → index < 281474976710656 → j < 65536 → ssrc' < 4294967296 → index' < 281474976710656 → j' < 65536
@@ -176,16 +147,6 @@ pub one_counter : (m : Master) (kind : Kind) (ssrc index j ssrc' index' j' : ℕ
     → (ssrc ≡ ssrc') × (index ≡ index') × (j ≡ j')
 one_counter m kind ssrc index j ssrc' index' j' a b c a' b' c' e = counters_differ (half_of kind (session_keys m)).salt ssrc index j ssrc' index' j' a b c a' b' c' e
 
-some_cipher : (s : Suite) (x : ℕ) → is_raw s ≡ false → length (cipher_of s x) ≡ 0 → ⊥
-some_cipher Raw80 x raw none = absurd cc
-some_cipher Cm128Tag80 x raw none = absurd (omega (arith, none))
-some_cipher Cm128Tag32 x raw none = absurd (omega (arith, none))
-some_cipher Cm192Tag80 x raw none = absurd (omega (arith, none))
-some_cipher Cm192Tag32 x raw none = absurd (omega (arith, none))
-some_cipher Cm256Tag80 x raw none = absurd (omega (arith, none))
-some_cipher Cm256Tag32 x raw none = absurd (omega (arith, none))
-
 pub has_cipher_key : (m : Master) (kind : Kind) → is_raw m.suite ≡ false → length (half_of kind (session_keys m)).encrypt ≡ 0 → ⊥
-unfolding session_keys
-has_cipher_key m Rtp raw none = some_cipher m.suite 1 raw none
-has_cipher_key m Rtcp raw none = some_cipher m.suite 2 raw none
+has_cipher_key m Rtp raw none = omega (arith, (rtp_keys m).encrypt_length, some_octets m.suite raw, none)
+has_cipher_key m Rtcp raw none = omega (arith, (rtcp_keys m).encrypt_length, some_octets m.suite raw, none)

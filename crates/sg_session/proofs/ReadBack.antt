@@ -22,7 +22,7 @@ use Rattle.sg_rtp.specs.declared.heads.RtpHead.{RtpHead}
 use Rattle.sg_rtp.specs.declared.heads.RtcpHead.{RtcpHead}
 use Rattle.sg_rtp.specs.Heads.{rtp_head, rtcp_head}
 use Rattle.sg_index.specs.Nearest.{within_life}
-use Rattle.sg_session.specs.StandIns.{session_keys}
+use Rattle.sg_kdf.specs.SessionKeys.{session_keys}
 use Rattle.sg_session.proofs.Inversions.{stop_if_is, stop_if_of, after_ok_of, ok_is}
 use Rattle.sg_session.proofs.Leaves.{rtp_size, rtp_stays, rtcp_size, rtcp_stays, nearest_reaches, fresh_parts}
 use Rattle.sg_session.proofs.Lists.{any_none, any_cases, each_at_this}

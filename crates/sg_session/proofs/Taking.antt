@@ -14,7 +14,8 @@ use Rattle.sg_replay.specs.Freshness.{freshness, highest_of, is_in}
 use Rattle.sg_replay.specs.declared.seen.Freshness.{Freshness}
 use Rattle.sg_replay.specs.declared.seen.Freshness.TheVariants.{New, Repeat, TooOld}
 use Rattle.sg_session.proofs.Inversions.{after_ok_is, stop_if_is, ok_is}
-use Rattle.sg_session.proofs.Leaves.{fresh_parts, none_done, above_highest, life_below, nearest_below}
+use Rattle.sg_replay.proofs.DoneLists.{highest_of-none, is_in-above_highest}
+use Rattle.sg_session.proofs.Leaves.{fresh_parts, life_below, nearest_below}
 use Rattle.sg_session.proofs.Lists.{any_here, any_there}
 
 pub if_new_is : (i j : ℕ) (f : Freshness) → if_new i f ≡ Ok j → (f ≡ New) × (i ≡ j)
@@ -117,14 +118,14 @@ index_below roc seq o j e = go o (nearest_from roc seq o) refl e
     go o (Err fault) is e = absurd cc
 
 next_is : (done : List ℕ) (o : Option ℕ) (j : ℕ) → highest_of done ≡ o → next_after o ≡ Ok j → (is_in done j ≡ false) × (j < 281474976710656)
-next_is done None j is e = (ap (λ l. is_in l j) (none_done done is), let zero : 0 ≡ j = ok_is 0 j e in omega (arith, zero))
+next_is done None j is e = (ap (λ l. is_in l j) (highest_of-none done is), let zero : 0 ≡ j = ok_is 0 j e in omega (arith, zero))
 next_is done (Some h) j is e = go (ltb h 2147483647) refl e
   where
     go : (b : Bool) → ltb h 2147483647 ≡ b → cond b (Ok (h + 1)) (Err cause.RtcpIndexSpent) ≡ Ok j → (is_in done j ≡ false) × (j < 281474976710656)
     go true low e =
         let next : h + 1 ≡ j = ok_is (h + 1) j e in
         let lt = ltb-true _ _ low in
-        (above_highest done h is j (omega (arith, next)), omega (arith, next, lt))
+        (is_in-above_highest done h j is (omega (arith, next)), omega (arith, next, lt))
     go false low e = absurd cc
 
 number_is : (kind : Kind) (s : Session) (h : Head) (j : ℕ) → number_of_kind kind s h ≡ Ok j → (has_done s.done h.ssrc j ≡ false) × (j < 281474976710656)

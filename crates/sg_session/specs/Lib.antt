@@ -10,4 +10,3 @@ pub mod Sealed
 pub mod Sealing
 pub mod Session
 pub mod Stages
-pub mod StandIns

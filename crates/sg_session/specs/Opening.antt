@@ -19,7 +19,7 @@ use Rattle.sg_replay.specs.declared.seen.Freshness.TheVariants.{New, Repeat, Too
 use Rattle.sg_rtp.specs.declared.heads.RtpHead.{RtpHead}
 use Rattle.sg_rtp.specs.declared.heads.RtcpHead.{RtcpHead}
 use Rattle.sg_rtp.specs.Heads.{rtp_head, rtcp_head}
-use Rattle.sg_session.specs.StandIns.{session_keys}
+use Rattle.sg_kdf.specs.SessionKeys.{session_keys}
 
 -- A datagram is a packet, of RTCP its index word behind it, then an MKI and a tag. All keys of a session
 -- have MKIs of one length.

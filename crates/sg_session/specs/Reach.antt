@@ -4,7 +4,8 @@ use Rattle.std.specs.List.{All, AllByRecursion}
 use Rattle.sg_base.specs.Keys.{Master}
 use Rattle.sg_base.specs.declared.addresses.Kind.{Kind}
 use Rattle.sg_base.specs.declared.addresses.Kind.TheVariants.{Rtp, Rtcp}
-use Rattle.sg_session.specs.Halves.{half_of, is_raw}
+use Rattle.sg_session.specs.Halves.{half_of}
+use Rattle.sg_kdf.specs.SessionKeys.{is_raw}
 use Rattle.sg_session.specs.Opening.{Taken, before_mki, tag_in}
 use Rattle.sg_session.specs.Sealed.{sealed_text}
 use Rattle.sg_session.specs.Session.{Key, Session, indices_of, highest_in, admits, has_room}
@@ -13,7 +14,7 @@ use Rattle.sg_replay.specs.declared.seen.Freshness.TheVariants.{New}
 use Rattle.sg_rtp.specs.declared.heads.RtpHead.{RtpHead}
 use Rattle.sg_rtp.specs.declared.heads.RtcpHead.{RtcpHead}
 use Rattle.sg_rtp.specs.Heads.{rtp_head, rtcp_head}
-use Rattle.sg_session.specs.StandIns.{session_keys}
+use Rattle.sg_kdf.specs.SessionKeys.{session_keys}
 
 -- a packet that someone sealed: under which master key, as which kind, of which source, at which index,
 -- the plain packet, and of RTCP whether it was encrypted; no tag covers an MKI

@@ -4,9 +4,9 @@ use Rattle.sg_base.specs.Keys.{Master}
 use Rattle.sg_base.specs.Octets.{same_octets}
 use Rattle.sg_base.specs.declared.faults.Refusal.{Refusal}
 use Rattle.sg_base.specs.declared.faults.Refusal.TheVariants.{KeyReused, RingFull}
-use Rattle.sg_session.specs.Session.{Owner}
+use Rattle.sg_session.specs.declared.names.Owner.{Owner}
 use Rattle.sg_session.specs.Stages.{after_ok, stop_if}
-use Rattle.sg_session.specs.StandIns.{session_keys}
+use Rattle.sg_kdf.specs.SessionKeys.{session_keys}
 
 -- a key in use, and whose it is
 pub record Installed : Type 0 where

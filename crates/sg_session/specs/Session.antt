@@ -8,28 +8,14 @@ use Rattle.sg_base.specs.declared.faults.DropCause.{DropCause}
 use Rattle.sg_base.specs.declared.faults.DropCause.TheVariants as cause
 use Rattle.sg_base.specs.declared.faults.IndexFault.{IndexFault}
 use Rattle.sg_base.specs.declared.faults.IndexFault.TheVariants as index_fault
+use Rattle.sg_session.specs.declared.names.Direction.{Direction}
+use Rattle.sg_session.specs.declared.names.Direction.TheVariants.{Opening, Sealing}
+use Rattle.sg_session.specs.declared.names.Name.{Name}
+use Rattle.sg_session.specs.declared.names.Owner.{Owner}
 use Rattle.sg_session.specs.declared.sources.Admit.{Admit}
 use Rattle.sg_session.specs.declared.sources.Admit.TheVariants as admit
 use Rattle.sg_index.specs.Nearest.{nearest_index, within_life}
 use Rattle.sg_replay.specs.Freshness.{highest_of, is_in}
-
--- whether a session opens what the peer has sealed or seals for the peer
-pub data Direction : Type 0 where
-  Opening : Direction
-  Sealing : Direction
-
--- Whose a key is: the number of calls that were made before its call, the medium, the generation and
--- the direction. The call's id isn't a name, since an id may be used again.
-pub record Owner : Type 0 where
-  pub call : ℕ
-  pub medium : ℕ
-  pub generation : ℕ
-  pub direction : Direction
-
--- A session is named by the owner of its keys and by its kind.
-pub record Name : Type 0 where
-  pub owner : Owner
-  pub kind : Kind
 
 -- A key of a session: its number in the ring, its MKI's octets, none where it has no MKI, and how many
 -- packets it may serve (3.2.1 and 9.2).

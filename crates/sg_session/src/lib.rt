@@ -2,9 +2,12 @@
 #![tactic(auto)]
 
 mod laws;
+mod names;
+pub mod plain;
 mod raw;
 mod sources;
 
 pub use laws::{none_twice_in_a_session, sealed_is_opened};
+pub use names::{Direction, Name, Owner};
 pub use raw::RawSession;
 pub use sources::Admit;

@@ -13,7 +13,8 @@ use Rattle.sg_gateway.specs.Runs.{journal, world_after}
 use Rattle.sg_gateway.specs.Signals.{medium_by_hand}
 use Rattle.sg_gateway.specs.World.{Call, World, empty}
 use Rattle.sg_session.proofs.Lists.{each_of, each_weaker}
-use Rattle.sg_session.specs.Session.{Name, Session}
+use Rattle.sg_session.specs.declared.names.Name.{Name}
+use Rattle.sg_session.specs.Session.{Session}
 use Rattle.sg_gateway.proofs.laws.calls_in_order.Goals as goal
 
 abbrev Any : Session → Type 0

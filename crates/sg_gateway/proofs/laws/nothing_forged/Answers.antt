@@ -18,7 +18,8 @@ use Rattle.sg_gateway.specs.Unforged.{IsUnforgedIn}
 use Rattle.sg_gateway.specs.World.{empty, World}
 use Rattle.sg_session.proofs.Lists.{each_of, each_weaker, each_flat_map, any_weaker}
 use Rattle.sg_session.specs.Reach.{Sealed, IsSealed, IsSound}
-use Rattle.sg_session.specs.Session.{Session, Opening, Sealing}
+use Rattle.sg_session.specs.declared.names.Direction.TheVariants.{Opening, Sealing}
+use Rattle.sg_session.specs.Session.{Session}
 use Rattle.sg_gateway.proofs.laws.nothing_forged.Goals as goal
 
 pub returns-clause-sealed : goal.returns-clause-sealed
