@@ -78,7 +78,7 @@ identity t = either (list_all is_printing t) _ _ (either (leb 1 (length t) && le
 two : (w a : List ℕ) → Keeps (two_fields w a)
 unfolding two_fields tick_in reject_in bye_in
 two w a =
-    either (bytes_eq w (codes "tick")) _ _ (bound (number_in 18446744073709551615 a) _ (number 18446744073709551615 a) (λ x. tt))
+    either (bytes_eq w (codes "tick")) _ _ (bound (number_in 2085978495999 a) _ (number 2085978495999 a) (λ x. tt))
     (either (bytes_eq w (codes "reject")) _ _ (bound (call_in a) _ (call a) (λ x. tt))
     (either (bytes_eq w (codes "bye")) _ _ (bound (call_in a) _ (call a) (λ x. tt)) tt))
 

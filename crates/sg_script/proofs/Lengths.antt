@@ -124,7 +124,7 @@ call n fits = number n (omega (arith, fits))
 
 signal : (s : Signal) → FitsSignal s → size (signal_fields s) ≤ 69000
 unfolding size
-signal (Tick now) fits = let n = number now fits in omega (arith, n)
+signal (Tick now) fits = let n = number now (omega (arith, fits)) in omega (arith, n)
 signal (Psk own peer k) fits =
     let a = identity own fits.0 in let b = identity peer fits.1 in let c = hex k in let d = fits.2.high in omega (arith, a, b, c, d)
 signal (Manual c secure plain rollover window from_peer to_peer) fits =

@@ -85,7 +85,7 @@ beq-refl false = refl
 
 signal_again : (s : Signal) → FitsSignal s → said_by (signal_fields s) ≡ Ok (lines.Signal s)
 unfolding two_fields four_fields five_fields six_fields eight_fields tick_in reject_in bye_in psk_in offer_secure_in offer_sdes_in offer_mikey_in answer_in manual_in
-signal_again (Tick now) fits = rw (FieldLaws.number_in_again 18446744073709551615 now (omega (arith, fits)) (lit< tt)) refl
+signal_again (Tick now) fits = rw (FieldLaws.number_in_again 2085978495999 now (omega (arith, fits)) (lit< tt)) refl
 signal_again (Psk own peer key) fits =
     rw (FieldLaws.identity_again own fits.0, FieldLaws.identity_again peer fits.1, FieldLaws.octets_in_again 16 64 key fits.2) refl
 signal_again (Manual call secure plain rollover window from_peer to_peer) fits =
@@ -206,8 +206,8 @@ eight_same w a b c d e f g w' a' b' c' d' e' f' g' p0 p1 p2 p3 p4 p5 p6 p7 = rw 
 tick_takes : (w a : List ℕ) (l : Line) → w ≡ codes "tick" → tick_in a ≡ Ok l → Reads (w ∷ a ∷ []) l
 unfolding tick_in Reads
 tick_takes w a l word e =
-    let n = FieldLaws.bind_ok (number_in 18446744073709551615 a) (λ now. Ok (lines.Signal (Tick now))) l e in
-    let p = FieldLaws.number_in_takes 18446744073709551615 a n.0 n.1 in
+    let n = FieldLaws.bind_ok (number_in 2085978495999 a) (λ now. Ok (lines.Signal (Tick now))) l e in
+    let p = FieldLaws.number_in_takes 2085978495999 a n.0 n.1 in
     let small = p.1 in
     subst (Reads (w ∷ a ∷ [])) (FieldLaws.ok_is (lines.Signal (Tick n.0)) l n.2) (two_same w a _ _ word p.0, omega (arith, small))
 

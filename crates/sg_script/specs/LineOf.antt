@@ -12,7 +12,7 @@ use Rattle.sg_script.specs.Fields.{◌>>=◌, number_in, call_in, port_in, addre
 
 unfoldable pub tick_in : List ℕ → Result Line ScriptFault
 tick_in now = do
-  now ← number_in 18446744073709551615 now
+  now ← number_in 2085978495999 now
   Ok (lines.Signal (Tick now))
 
 unfoldable pub reject_in : List ℕ → Result Line ScriptFault

@@ -66,7 +66,7 @@ pub record FitsOctets (least most : ℕ) (octets : List ℕ) : Type 0 where
 
 -- the signals that have a line
 abbrev pub FitsSignal : Signal → Type 0
-FitsSignal (Tick now) = now < 2 ^ 64
+FitsSignal (Tick now) = now ≤ 2085978495999
 FitsSignal (Psk own peer key) = IsTrue (is_identity own) × IsTrue (is_identity peer) × FitsOctets 16 64 key
 FitsSignal (Manual call secure plain rollover window from_peer to_peer) =
     (call.0 < 2 ^ 32) × IsAddress secure × IsAddress plain × (rollover < 2 ^ 32) × (64 ≤ window) × (window ≤ 1024) × FitsKey from_peer × FitsKey to_peer

@@ -28,7 +28,7 @@ const WORD: ReadLineFault = ReadLineFault::Script(ScriptFault::Word);
 fn tick(now: &[u8]) -> Result<Line, ScriptFault>
     ensures { result ≡ tick_in now.now }
 {
-    let now = number(18446744073709551615, now)? as u64;
+    let now = number(2085978495999, now)? as u64;
     Ok(Line::Signal(Signal::Tick { now }))
 }
 
