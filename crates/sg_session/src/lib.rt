@@ -6,6 +6,8 @@ mod names;
 pub mod plain;
 mod raw;
 mod sources;
+#[cfg(test)]
+mod tests;
 
 pub use laws::{none_twice_in_a_session, sealed_is_opened};
 pub use names::{Direction, Name, Owner};

@@ -10,8 +10,8 @@ entries-preserved c =
     let before = c.entries.invariant.0 in
     let more = take_entry c.args.done.now c.entries.entry-index e c.entries-test.true c.entry-item.is in (
       c.highest_with-highest.ensures.value
-      ∙ (λ i. cond (eqb e.ssrc c.args.ssrc) (Some (highest_with (before i) e.index)) (before i))
-      ∙ sym (highest_push (take c.entries.entry-index c.args.done.now) e c.args.ssrc)
-      ∙ ap (λ l. highest_of (indices_of l c.args.ssrc)) (sym more),
+          ∙ (λ i. cond (eqb e.ssrc c.args.ssrc) (Some (highest_with (before i) e.index)) (before i))
+          ∙ sym (highest_push (take c.entries.entry-index c.args.done.now) e c.args.ssrc)
+          ∙ ap (λ l. highest_of (indices_of l c.args.ssrc)) (sym more),
       c.highest_with-highest.ensures.bound,
     )
