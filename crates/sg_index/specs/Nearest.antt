@@ -1,5 +1,5 @@
 -- The index of a packet, which carries only its last 16 bits (RFC 3711, 3.3.1 and appendix A).
-use Rattle.std.specs.Prelude.{◌≡◌, ℕ, ◌+◌, ◌-◌, ◌*◌, ◌/◌, ◌%◌, ◌^◌, ◌≤◌, nat_lt, nat_le, if◌then◌else◌, Result, Ok, Err}
+use Rattle.std.specs.Prelude.{◌≡◌, ℕ, ◌+◌, ◌-◌, ◌*◌, ◌/◌, ◌%◌, ◌^◌, ◌<◌, ◌≤◌, nat_lt, nat_le, if◌then◌else◌, Result, Ok, Err}
 use Rattle.sg_base.specs.declared.IndexFault.{IndexFault}
 use Rattle.sg_base.specs.declared.IndexFault.TheVariants.{BeforeFirst, IndexSpent}
 
@@ -13,6 +13,14 @@ pub record IsNearest (h seq n : ℕ) : Type 0 where
   pub number : n % 2 ^ 16 ≡ seq
   pub near : apart h n ≤ 2 ^ 15
   pub tie : apart h n ≡ 2 ^ 15 → n / 2 ^ 16 ≡ h / 2 ^ 16
+
+-- the nearest index is below 0; a turn higher it is a number too
+abbrev pub IsBeforeFirst : ℕ → ℕ → Type 0
+IsBeforeFirst h seq = (n : ℕ) × IsNearest (h + 2 ^ 16) seq n × (n < 2 ^ 16)
+
+-- the nearest index has more than 48 bits
+abbrev pub IsSpent : ℕ → ℕ → Type 0
+IsSpent h seq = (n : ℕ) × IsNearest h seq n × (2 ^ 48 ≤ n)
 
 -- an index has 48 bits
 abbrev pub within_life : ℕ → Result ℕ IndexFault

@@ -1,4 +1,4 @@
-//! The index of an SRTP packet, found from its number and the highest index so far (RFC 3711, 3.3.1).
+//! The index of an SRTP packet, found from its number and the highest index (RFC 3711, 3.3.1).
 #![tactic(auto)]
 
 mod laws;

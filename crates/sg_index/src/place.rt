@@ -1,5 +1,5 @@
-ghost use Rattle.std.specs.Prelude.{◌≡◌, ℕ, ◌+◌, ◌*◌, ◌<◌, ◌≤◌, ◌^◌, ◌↔◌, max, Ok};
-ghost use Rattle.sg_index.specs.Nearest.{nearest_index, IsNearest};
+ghost use Rattle.std.specs.Prelude.{◌≡◌, ℕ, ◌+◌, ◌*◌, ◌<◌, ◌^◌, ◌↔◌, max, Ok};
+ghost use Rattle.sg_index.specs.Nearest.{nearest_index, IsNearest, IsBeforeFirst, IsSpent};
 
 use sg_base::IndexFault;
 use std::marker::Model;
@@ -44,15 +44,13 @@ impl Place {
         u64::from(self.rollover) * TURN + u64::from(self.number)
     }
 
-    /// The index of the packet with this number that is nearest to the highest (RFC 3711, 3.3.1 and appendix A).
+    /// The index that has this number and is nearest to the highest (RFC 3711, 3.3.1 and appendix A).
     /// `BeforeFirst` where it would be below 0, and `IndexSpent` where it would be 2^48 or more.
     pub fn guess(&self, seq: u16) -> Result<u64, IndexFault>
         ensures value { result ≡ nearest_index self.now seq }
         ensures nearest { (n : ℕ) → (result ≡ Ok n) ↔ (IsNearest self.now seq n × (n < 2 ^ 48)) }
-
-        // A turn higher, so that an index below 0 is a number too.
-        ensures before_first { (result ≡ Err IndexFault.BeforeFirst) ↔ ((n : ℕ) × IsNearest (self.now + 2 ^ 16) seq n × (n < 2 ^ 16)) }
-        ensures spent { (result ≡ Err IndexFault.IndexSpent) ↔ ((n : ℕ) × IsNearest self.now seq n × (2 ^ 48 ≤ n)) }
+        ensures before_first { (result ≡ Err IndexFault.BeforeFirst) ↔ IsBeforeFirst self.now seq }
+        ensures spent { (result ≡ Err IndexFault.IndexSpent) ↔ IsSpent self.now seq }
     {
         let same = u64::from(self.rollover) * TURN + u64::from(seq);
         if self.number < HALF && seq > self.number && seq - self.number > HALF {

@@ -1,7 +1,7 @@
 -- A chain that is read is the chain that was written, and what was written is read again.
-use Rattle.std.proofs.Common.{◌≡◌, ℕ, zero, suc, ◌<◌, ◌≤◌, Bool, true, false, ◌&&◌, cond, nat_eq, List, [], ◌∷◌, ◌++◌, length, map, Option, Some, None, Result, Ok, refl, sym, ap, subst, ◌∙◌, append_assoc, length-append, arith, ◌⊎◌, inl, inr}
+use Rattle.std.proofs.Common.{◌≡◌, ℕ, zero, suc, ◌+◌, ◌<◌, ◌≤◌, Bool, true, false, ◌&&◌, cond, nat_eq, List, [], ◌∷◌, ◌++◌, length, map, Option, Some, None, Result, Ok, Err, refl, sym, ap, subst, ◌∙◌, append_assoc, length-append, arith, ◌⊎◌, inl, inr}
 use Rattle.std.specs.List.{AllByRecursion}
-use Rattle.std.proofs.lemmas.Bool.{eqb-true}
+use Rattle.std.proofs.lemmas.Bool.{cases_Bool, eqb-true}
 use Rattle.sg_mikey.specs.declared.chain.Stage.{Stage}
 use Rattle.sg_mikey.specs.declared.faults.Stop.{Stop}
 use Rattle.sg_mikey.specs.declared.payload.Payload.{Payload}
@@ -118,3 +118,37 @@ length-chain_octets [] = omega arith
 length-chain_octets (p ∷ ps) =
     let others = length-chain_octets ps in
     omega (arith, length-append (body_octets p) (chain_octets ps))
+
+-- ---- as many steps as octets are enough
+
+shrinks : (octets : List ℕ) (number : ℕ) (link : Link) → TakesLink octets number link → length link.2 < length octets
+shrinks octets number link t =
+    let whole : length octets ≡ length (link.1 ∷ (body_octets link.0 ++ link.2)) = ap length t.takes.parts in
+    omega (arith, whole, length-append (body_octets link.0) link.2)
+
+abbrev with_payload : Payload → List Payload × List ℕ → Result (List Payload × List ℕ) Stop
+with_payload p others = Ok (p ∷ others.0, others.1)
+
+enough_behind : (fuel more kind : ℕ) (stage : Stage) (next : ℕ) (octets : List ℕ) (o : Option Stage) (r : Result Link Stop) → stage_after kind stage next ≡ o → payload_at next octets ≡ r → IsOctets octets
+    → ((s : Stage) (n : ℕ) (rest : List ℕ) → IsOctets rest → length rest < fuel → chain_at (fuel + more) kind s n rest ≡ chain_at fuel kind s n rest)
+    → length octets < suc fuel
+    → (in_place o octets >>= λ behind. r >>= λ link. chain_at (fuel + more) kind behind link.1 link.2 >>= λ others. with_payload link.0 others)
+    ≡ (in_place o octets >>= λ behind. r >>= λ link. chain_at fuel kind behind link.1 link.2 >>= λ others. with_payload link.0 others)
+enough_behind fuel more kind stage next octets None r here read fits again lt = refl
+enough_behind fuel more kind stage next octets (Some behind) (Err s) here read fits again lt = refl
+enough_behind fuel more kind stage next octets (Some behind) (Ok link) here read fits again lt =
+    let took = payload_takes next octets link (placed_of kind next stage behind here) fits read in
+    let less = shrinks octets next link took in
+    rw (again behind link.1 link.2 took.takes.rest_fits (omega arith)) refl
+
+-- A chain is read alike with more steps than octets.
+pub chain_enough : (fuel more kind : ℕ) (stage : Stage) (next : ℕ) (octets : List ℕ) → IsOctets octets → length octets < fuel
+    → chain_at (fuel + more) kind stage next octets ≡ chain_at fuel kind stage next octets
+unfolding chain_at
+chain_enough zero more kind stage next octets fits lt = absurd (omega arith)
+chain_enough (suc fuel) more kind stage next octets fits lt =
+    let k : suc fuel + more ≡ suc (fuel + more) = omega arith in
+    rw k (elim (cases_Bool (is_over stage && nat_eq next 0)) [
+      | inl over ↦ rw over refl
+      | inr going ↦ rw going (enough_behind fuel more kind stage next octets (stage_after kind stage next) (payload_at next octets) refl refl fits (λ s n o f l. chain_enough fuel more kind s n o f l) lt)
+    ])

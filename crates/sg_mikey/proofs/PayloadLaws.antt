@@ -1,5 +1,5 @@
 -- A payload that is read is the payload that was written, and what was written is read again.
-use Rattle.std.proofs.Common.{◌≡◌, ℕ, zero, suc, ◌+◌, ◌-◌, ◌^◌, ◌<◌, ◌≤◌, true, List, [], ◌∷◌, ◌++◌, length, Result, Ok, refl, sym, ap, subst, ◌∙◌, append_assoc, length-append, arith, ◌⊎◌, inl, inr}
+use Rattle.std.proofs.Common.{◌≡◌, ℕ, zero, suc, ◌+◌, ◌-◌, ◌^◌, ◌<◌, ◌≤◌, true, List, [], ◌∷◌, ◌++◌, length, Result, Ok, Err, refl, sym, ap, subst, ◌∙◌, append_assoc, length-append, arith, ◌⊎◌, inl, inr}
 use Rattle.std.specs.List.{flat_map, AllByRecursion}
 use Rattle.std.proofs.lemmas.List.Concat.{flat_map-cons}
 use Rattle.sg_base.specs.Octets.{be}
@@ -253,6 +253,36 @@ items_again (item ∷ items) fuel rest le =
     let regrouped : flat_map item_octets (item ∷ items) ++ rest ≡ item_octets item ++ (flat_map item_octets items ++ rest) =
     ap (λ (x : List ℕ). x ++ rest) (flat_map-cons item_octets item items) ∙ append_assoc (item_octets item) (flat_map item_octets items) rest in
     items_step item items fuel rest (length (flat_map item_octets (item ∷ items))) (flat_map item_octets (item ∷ items) ++ rest) size regrouped (λ f h. items_again items f rest h) le
+
+abbrev with_item : Item → List Item × List ℕ → Result (List Item × List ℕ) Stop
+with_item item others = Ok (item ∷ others.0, others.1)
+
+enough_items : (fuel more room : ℕ) (r : Result (Item × List ℕ) Stop) → ((s : ℕ) (o : List ℕ) → s ≤ fuel → items_at (fuel + more) s o ≡ items_at fuel s o) → suc room ≤ suc fuel
+    → (r >>= λ item. items_at (fuel + more) (suc room - (2 + length item.0.1)) item.1 >>= λ others. with_item item.0 others)
+    ≡ (r >>= λ item. items_at fuel (suc room - (2 + length item.0.1)) item.1 >>= λ others. with_item item.0 others)
+enough_items fuel more room (Err s) again le = refl
+enough_items fuel more room (Ok item) again le = rw (again (suc room - (2 + length item.0.1)) item.1 (omega arith)) refl
+
+items_enough_step : (fuel more room : ℕ) (octets : List ℕ) → ((r : ℕ) (o : List ℕ) → r ≤ fuel → items_at (fuel + more) r o ≡ items_at fuel r o) → room ≤ suc fuel
+    → items_at (suc (fuel + more)) room octets ≡ items_at (suc fuel) room octets
+unfolding items_at
+items_enough_step fuel more zero octets again le = refl
+items_enough_step fuel more (suc room) octets again le =
+    enough_items fuel more room (item_at (suc room) octets) again le
+
+items_none : (fuel : ℕ) (octets : List ℕ) → items_at fuel 0 octets ≡ Ok ([], octets)
+unfolding items_at
+items_none zero octets = refl
+items_none (suc fuel) octets = refl
+
+-- Items are read alike with more steps than octets.
+pub items_enough : (fuel more room : ℕ) (octets : List ℕ) → room ≤ fuel → items_at (fuel + more) room octets ≡ items_at fuel room octets
+unfolding items_at
+items_enough zero more zero octets le = items_none (0 + more) octets ∙ sym (items_none 0 octets)
+items_enough zero more (suc room) octets le = absurd (omega arith)
+items_enough (suc fuel) more room octets le =
+    let k : suc fuel + more ≡ suc (fuel + more) = omega arith in
+    rw k (items_enough_step fuel more room octets (λ r o l. items_enough fuel more r o l) le)
 
 -- ---- SP
 

@@ -1,5 +1,5 @@
 -- MIKEY messages of the pre-shared-key method and the octets that spell them (RFC 3830, 6).
-use Rattle.std.specs.Prelude.{◌≡◌, ℕ, ◌<◌, ◌≤◌, ◌^◌, ◌==◌, ◌&&◌, ◌||◌, Bool, true, if◌then◌else◌, List, [], ◌∷◌, ◌++◌, length, map, count_by}
+use Rattle.std.specs.Prelude.{◌≡◌, ℕ, ◌<◌, ◌≤◌, ◌^◌, ◌==◌, ◌&&◌, ◌||◌, Bool, true, if◌then◌else◌, List, [], ◌∷◌, ◌++◌, length, map, count_by, slice_index}
 use Rattle.std.specs.List.{flat_map, list_all, AllByRecursion}
 use Rattle.sg_base.specs.Octets.{be}
 use Rattle.sg_mikey.specs.declared.message.CsEntry.{CsEntry}
@@ -76,6 +76,10 @@ FitsLengths (Extension form octets) = length octets < 2 ^ 16
 
 abbrev pub HasSpelling : Message → Type 0
 HasSpelling m = (length m.map < 2 ^ 8) × AllByRecursion FitsLengths m.payloads
+
+-- numbers that octets can have
+abbrev pub AreOctets : List ℕ → Type 0
+AreOctets octets = (i : ℕ) → slice_index octets i < 2 ^ 8
 
 -- ---- what a message is
 

@@ -6,8 +6,8 @@ ghost use Rattle.sg_mikey.specs.declared.faults.Halt.TheVariants as halts;
 use sg_base::{MikeyFault, NoMemory};
 use std::alloc::{AllocError, AllocFailed};
 
-/// Why a message isn't read: its first fault, with the offset of the first octet of the field that shows it, or
-/// memory is wanting.
+/// Why a message isn't read: its first fault, with the offset of the first octet of the field that
+/// shows it, or memory is wanting.
 #[derive(Clone, Copy, Debug, PartialEq, Eq)]
 pub enum ReadMikeyFault {
     Mikey { offset: u32, fault: MikeyFault },

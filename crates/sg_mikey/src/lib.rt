@@ -15,7 +15,7 @@ mod reading;
 
 pub use faults::ReadMikeyFault;
 pub use items::Items;
-pub use laws::message_law;
+pub use laws::{message_law, steps_law};
 pub use message::{CsEntry, Message, Tgk, Tgks};
 pub use payload::Payload;
 pub use policy::Policy;

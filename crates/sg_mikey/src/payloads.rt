@@ -1,5 +1,5 @@
-//! Payloads of a message (RFC 3830, 6): each reader answers the payload, the next one's number, and the octets
-//! behind it.
+//! Payloads of a message (RFC 3830, 6): each reader answers the payload, the next one's number, and
+//! the octets behind it.
 
 ghost use Rattle.std.specs.Prelude.{◌≡◌};
 ghost use Rattle.sg_mikey.specs.Spelling.{tag_length};
@@ -25,7 +25,7 @@ fn tag_size(mac: u8) -> usize
 
 // Key data transport (6.2):
 //
-//   | next payload: 8 | cipher: 8 | length: 16 | key data under the cipher | MAC: 8 | MAC: 0 or 160 |
+//   | next payload: 8 | cipher: 8 | length: 16 | key data, encrypted | MAC: 8 | MAC: 0 or 160 |
 #[tactic(auto, unfolding(crate::specs::Reading::kemac_at))]
 fn read_kemac(alloc: Global, octets: &[u8]) -> Result<Link<'_>, Halt>
     ensures { Gives (λ x. (x.0, x.1, x.2.now)) result (kemac_at octets.now) }

@@ -127,7 +127,7 @@ fn put_entries(out: &mut Vec<u8>, entries: &[CsEntry]) -> Result<(), NoMemory>
     Ok(())
 }
 
-/// The one spelling of a message whose lengths fit their fields. Whether there is memory for it is left open.
+/// The one spelling of a message whose lengths fit their fields. Whether there is memory is left open.
 pub fn print(alloc: Global, message: &Message) -> Result<Octets, NoMemory>
     requires { HasSpelling message.now }
     ensures { IfOk result (λ o. o ≡ message_octets message.now) }

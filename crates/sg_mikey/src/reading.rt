@@ -23,7 +23,8 @@ fn read_chain(
     kind: u8,
     first: u8,
 ) -> Result<(Items<Payload>, &[u8]), Halt>
-    ensures { Gives (λ x. (x.0, x.1.now)) result (chain_at (length octets.now + 1) kind BeforeTime first octets.now) }
+    ensures { Gives (λ x. (x.0, x.1.now)) result
+        (chain_at (length octets.now + 1) kind BeforeTime first octets.now) }
 {
     let mut payloads = Vec::new(alloc);
     let mut rest = octets;
@@ -74,7 +75,8 @@ fn read_entries(alloc: Global, octets: &[u8], count: u8) -> Result<(Items<CsEntr
 
 // Common header (RFC 3830, 6.1), up to the map:
 //
-//   | version: 8 | data type: 8 | next payload: 8 | V: 1 | PRF: 7 | CSB ID: 32 | #CS: 8 | map type: 8 |
+//   | version: 8 | data type: 8 | next payload: 8 | V: 1 | PRF: 7 |
+//   | CSB ID: 32 | number of crypto sessions: 8 | map type: 8 |
 #[tactic(auto, unfolding(crate::specs::Reading::header_at))]
 fn read_header(octets: &[u8]) -> Result<(Header, &[u8]), Halt>
     ensures { Gives (λ x. (x.0, x.1.now)) result (header_at octets.now) }
@@ -118,9 +120,9 @@ fn read_whole(alloc: Global, octets: &[u8]) -> Result<Message, Halt>
 
 /// The message that the octets spell, all of the octets.
 ///
-/// Of several faults the one with the least offset is told, which is that of the first octet of the field that shows
-/// it, and for `Cut` the octets' number. A payload in a wrong place is `Order` where it would begin, also where the
-/// octets end there.
+/// Of several faults the one with the least offset is told, which is that of the first octet of the
+/// field that shows it, and for `Cut` the octets' number. A payload in a wrong place is `Order` where it
+/// would begin, also where the octets end there.
 pub fn read(alloc: Global, octets: &[u8]) -> Result<Message, ReadMikeyFault>
     requires { length octets.now < 2 ^ 32 }
 

@@ -2,7 +2,8 @@ ghost use Rattle.std.specs.Prelude.{◌≡◌, ℕ, ◌<◌, List, [], ◌∷◌
 ghost use Rattle.sg_replay.specs.declared.seen.Freshness.TheVariants.{New};
 ghost use Rattle.sg_replay.specs.Freshness.{freshness, highest_of, highest_with, is_in};
 
-/// The highest of a list is in it, nothing above it is, only an empty list has none, and it grows with the list.
+/// The highest of a list is in it and nothing above it is, only an empty list has none, and it grows
+/// with the list.
 pub fn highest_law()
     ensures pushed { (done : List ℕ) (i : ℕ) → highest_of (done ++ i ∷ []) ≡ Some (highest_with (highest_of done) i) }
     ensures member { (done : List ℕ) (h : ℕ) → highest_of done ≡ Some h → is_in done h ≡ true }

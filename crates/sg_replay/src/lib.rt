@@ -1,4 +1,5 @@
-//! The replay list of a stream (RFC 3711, 3.3.2): the indices that were done, kept as far back as its window goes.
+//! The replay list of a stream (RFC 3711, 3.3.2): the indices that were done, as far back as its
+//! window goes.
 #![tactic(auto)]
 
 mod laws;

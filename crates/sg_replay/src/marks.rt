@@ -1,6 +1,6 @@
-ghost use Rattle.std.specs.Prelude.{◌≡◌, ◌≢◌, ℕ, ◌+◌, ◌%◌, ◌<◌, ◌≤◌, Some, true};
+ghost use Rattle.std.specs.Prelude.{◌≡◌, ◌+◌, ◌%◌, ◌<◌, Some, true};
 ghost use Rattle.sg_replay.specs.Freshness.{highest_with};
-ghost use Rattle.sg_replay.specs.Row.{mark_of, mark_up_to};
+ghost use Rattle.sg_replay.specs.Row.{mark_of, KeepsUpTo, KeepsOthersUpTo};
 
 use crate::row::{ROW, Row, clear, is_set, set};
 
@@ -14,7 +14,7 @@ fn place_of(index: u64) -> usize
 // Clears the marks of the indices after `from`, up to `to`.
 fn advance(row: &mut Row, from: u64, to: u64)
     requires { from < to }
-    ensures { (i : ℕ) → to < i + 1024 → i ≤ to → mark_of row.new i ≡ mark_up_to (Some from) row.old i }
+    ensures { KeepsUpTo to (Some from) row.old row.new }
 {
     if to - from >= ROW {
         *row = [0; 16];
@@ -37,7 +37,7 @@ pub fn later(highest: Option<u64>, index: u64) -> u64
 
 // Makes room for an index above the highest so far.
 fn make_room(row: &mut Row, highest: Option<u64>, index: u64)
-    ensures { (i : ℕ) → highest_with highest index < i + 1024 → i ≤ highest_with highest index → mark_of row.new i ≡ mark_up_to highest row.old i }
+    ensures { KeepsUpTo (highest_with highest index) highest row.old row.new }
 {
     match highest {
         None => *row = [0; 16],
@@ -53,7 +53,7 @@ fn make_room(row: &mut Row, highest: Option<u64>, index: u64)
 pub fn mark(row: &mut Row, highest: Option<u64>, index: u64)
     requires { highest_with highest index < index + 1024 }
     ensures here { mark_of row.new index ≡ true }
-    ensures others { (i : ℕ) → highest_with highest index < i + 1024 → i ≤ highest_with highest index → i ≢ index → mark_of row.new i ≡ mark_up_to highest row.old i }
+    ensures others { KeepsOthersUpTo (highest_with highest index) highest index row.old row.new }
 {
     make_room(row, highest, index);
     set(row, place_of(index));

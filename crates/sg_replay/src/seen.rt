@@ -32,7 +32,11 @@ impl Model for Seen {
 
     ghost Value = { Marks };
 
-    ghost view = { λ s. record { window = s.window; highest = s.highest; inside = marks_inside s.window s.highest s.row } };
+    ghost view = { λ s. record {
+      window = s.window;
+      highest = s.highest;
+      inside = marks_inside s.window s.highest s.row;
+    } };
 
     ghost invariant = { λ s. (64 ≤ s.window) × (s.window ≤ 1024) };
 }
@@ -51,10 +55,11 @@ impl Seen {
         }
     }
 
-    /// How this index stands to those that were marked. An index behind the window is too old, marked or not.
+    /// How this index stands to those that were marked. Behind the window it is too old, marked or not.
     pub fn test(&self, index: u64) -> Freshness
         ensures value { result ≡ freshness_at self.now index }
-        ensures fresh { (window : ℕ) (done : List ℕ) → StandsFor self.now window done → result ≡ freshness window done index }
+        ensures fresh { (window : ℕ) (done : List ℕ) → StandsFor self.now window done
+            → result ≡ freshness window done index }
     {
         let Some(highest) = self.highest else {
             return Freshness::New;
@@ -73,7 +78,8 @@ impl Seen {
     /// Marks an index that `test` finds new.
     pub fn mark(&mut self, index: u64)
         requires { freshness_at self.old index ≡ New }
-        ensures { (window : ℕ) (done : List ℕ) → StandsFor self.old window done → StandsFor self.new window (done ++ index ∷ []) }
+        ensures { (window : ℕ) (done : List ℕ) → StandsFor self.old window done
+            → StandsFor self.new window (done ++ index ∷ []) }
     {
         mark(&mut self.row, self.highest, index);
         self.highest = Some(later(self.highest, index));

@@ -4,7 +4,7 @@ ghost use Rattle.sg_rtp.specs.Heads.{rtp_head, rtcp_head, IsRtpHead, IsRtcpHead,
 
 use sg_base::HeadFault;
 
-/// What an RTP packet's head says. Its length counts the CSRC list and the extension too, in octets.
+/// What an RTP packet's head says. Its length in octets counts the CSRC list and the extension too.
 #[derive(Clone, Copy, Debug, PartialEq, Eq)]
 pub struct RtpHead {
     pub length: usize,
@@ -34,8 +34,8 @@ fn read_u32(octets: &[u8], place: usize) -> u32
 
 /// Reads the head of an RTP packet (RFC 3550, 5.1 and 5.3.1). The padding bit isn't looked at.
 ///
-/// The first fault is told: `Short` below 12 octets, `Version` where it isn't 2, `CsrcCut` where the list passes the
-/// end, `ExtensionCut` where the extension does.
+/// The first fault is told: `Short` below 12 octets, `Version` where it isn't 2, `CsrcCut` where the
+/// list passes the end, `ExtensionCut` where the extension does.
 pub fn read_rtp(octets: &[u8]) -> Result<RtpHead, HeadFault>
     ensures value { result ≡ rtp_head octets.now }
     ensures head { (head : RtpHead) → (result ≡ Ok head) ↔ IsRtpHead octets.now head }
@@ -62,7 +62,7 @@ pub fn read_rtp(octets: &[u8]) -> Result<RtpHead, HeadFault>
     })
 }
 
-// How many octets the extension behind the list has with its own four; none where these four are cut.
+// How many octets the extension has with its own first four; none where these four are cut.
 fn extension_length(octets: &[u8], listed: usize) -> Option<usize>
     requires there { 0 < length octets.now }
     requires size { listed ≡ listed_of octets.now }
@@ -79,7 +79,8 @@ fn extension_length(octets: &[u8], listed: usize) -> Option<usize>
     Some(4 + 4 * usize::from(read_u16(octets, listed + 2)))
 }
 
-/// Reads the head of an RTCP packet (RFC 3550, 6.1): `Short` below 8 octets, `Version` where it isn't 2.
+/// Reads the head of an RTCP packet (RFC 3550, 6.1): `Short` below 8 octets, `Version` where it
+/// isn't 2.
 pub fn read_rtcp(octets: &[u8]) -> Result<RtcpHead, HeadFault>
     ensures value { result ≡ rtcp_head octets.now }
     ensures head { (head : RtcpHead) → (result ≡ Ok head) ↔ IsRtcpHead octets.now head }
@@ -101,7 +102,7 @@ mod tests {
     use sg_base::HeadFault::{CsrcCut, ExtensionCut, Short, Version};
     use std::test::Fail;
 
-    // A first octet, how many words the extension says, how many octets there are, and the head's length.
+    // A first octet, how many words the extension says, how many octets there are, and the length.
     #[test]
     fn measures_heads(rt: HostRuntime) -> Result<(), Fail> {
         for (first, words, count, length) in [
