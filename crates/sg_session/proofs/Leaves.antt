@@ -1,6 +1,6 @@
 -- What is used of the definitions of the layers below.
-use Rattle.std.proofs.Common.{◌≡◌, inl, inr, ℕ, zero, suc, ◌+◌, ◌-◌, ◌*◌, ◌/◌, ◌%◌, ◌<◌, ◌≤◌, Bool, true, false, cond, not, ◌||◌, List, [], ◌∷◌, length, get_or, take, max, Option, Some, None, Result, Ok, Err, refl, sym, ap, ◌∙◌, subst, arith, eqb, ltb, eq-eqb}
-use Rattle.std.proofs.lemmas.Bool.{or_left, or_right, or_from, ne_eqb, cases_lt, ltb-true, ltb-false}
+use Rattle.std.proofs.Common.{◌≡◌, ℕ, zero, suc, ◌+◌, ◌-◌, ◌*◌, ◌/◌, ◌%◌, ◌<◌, ◌≤◌, Bool, true, false, cond, not, List, [], ◌∷◌, length, get_or, take, Result, Ok, Err, refl, sym, ap, ◌∙◌, subst, arith, eqb, ltb}
+use Rattle.std.proofs.lemmas.Bool.{ltb-true, ltb-false}
 use Rattle.std.proofs.lemmas.Bool.Decides.{nat_tests}
 use Rattle.std.specs.List.{AllByRecursion}
 use Rattle.sg_base.specs.Keys.{Master}
@@ -16,7 +16,7 @@ use Rattle.sg_session.proofs.Inversions.{ok_is, stop_if_is, stop_if_of}
 use Rattle.sg_base.specs.declared.faults.HeadFault.{HeadFault}
 use Rattle.sg_base.specs.declared.faults.HeadFault.TheVariants as head_fault
 use Rattle.std.proofs.lemmas.List.{get_or-take}
-use Rattle.sg_replay.specs.Freshness.{highest_of, highest_with, is_in, is_behind, freshness}
+use Rattle.sg_replay.specs.Freshness.{highest_of, is_in, is_behind, freshness}
 use Rattle.sg_replay.specs.declared.seen.Freshness.TheVariants.{New, Repeat, TooOld}
 use Rattle.sg_rtp.specs.declared.heads.RtpHead.{RtpHead}
 use Rattle.sg_rtp.specs.declared.heads.RtcpHead.{RtcpHead}

@@ -1,6 +1,7 @@
 pub mod Halves
 pub mod OneSession
 pub mod Opening
+pub mod Plain
 pub mod RawPacket
 pub mod RawSession
 pub mod RawStandsFor

@@ -3,8 +3,12 @@
 
 mod done;
 mod keys;
+mod ring;
+mod session;
 mod texts;
 
 pub use done::PlainDone;
 pub use keys::PlainKey;
+pub use ring::{InstalledKey, PlainRing};
+pub use session::PlainSession;
 pub use texts::{sealed_rtcp, sealed_rtp};

