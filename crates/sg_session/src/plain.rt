@@ -2,7 +2,9 @@
 //! compare the fast sides with, and for a first gateway.
 
 mod done;
+mod heads;
 mod keys;
+mod parts;
 mod ring;
 mod session;
 mod texts;
