@@ -5,6 +5,7 @@ mod checks;
 mod done;
 mod heads;
 mod keys;
+mod opening;
 mod parts;
 mod ring;
 mod session;

@@ -33,6 +33,14 @@ impl<'a> Model for PlainCheck<'a> {
 }
 
 impl<'a> PlainCheck<'a> {
+    /// What is to be compared.
+    pub fn new(key: &'a PlainKey, head: PlainHead, index: u64) -> PlainCheck<'a>
+        requires { index < 2 ^ 48 }
+        ensures { result ≡ record { key = key.now; head = head; index = index } }
+    {
+        PlainCheck { key, head, index }
+    }
+
     /// The key.
     pub fn key(&self) -> &PlainKey
         ensures { result.now ≡ self.now.key }
@@ -56,7 +64,8 @@ impl<'a> PlainCheck<'a> {
     }
 }
 
-fn is_same(a: &[u8], b: &[u8]) -> bool
+/// Whether two lists of octets are the same.
+pub fn is_same(a: &[u8], b: &[u8]) -> bool
     ensures { result ≡ same_octets a.now b.now }
 {
     a == b
