@@ -2,6 +2,7 @@ pub mod Inversions
 pub mod Leaves
 pub mod Lists
 pub mod NoneTwice
+pub mod PlainAnswers
 pub mod PlainKeys
 pub mod PlainLists
 pub mod RawOpens

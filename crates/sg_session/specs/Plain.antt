@@ -48,3 +48,17 @@ done_in (Err cause) = Err cause
 abbrev pub NumberFits : Kind → ℕ → Type 0
 NumberFits Rtp number = number < 65536
 NumberFits Rtcp number = number < 2147483648
+
+-- an index of RTP has 48 bits, one of RTCP 31
+abbrev pub IndexFits : Kind → ℕ → Type 0
+IndexFits Rtp index = index < 281474976710656
+IndexFits Rtcp index = index < 2147483648
+
+-- the entry of what is sealed, and the datagram
+pub record Sealing : Type 0 where
+  pub done : Done
+  pub datagram : List ℕ
+
+abbrev pub sealing_in : Session → Result Taken DropCause → Result Sealing DropCause
+sealing_in s (Ok t) = Ok (record { done = t.done; datagram = datagram_of s t })
+sealing_in s (Err cause) = Err cause

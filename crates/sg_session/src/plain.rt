@@ -8,6 +8,7 @@ mod keys;
 mod opening;
 mod parts;
 mod ring;
+mod sealing;
 mod session;
 mod texts;
 

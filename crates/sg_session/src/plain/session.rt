@@ -6,7 +6,7 @@ ghost use Rattle.sg_session.specs.Opening.{opens};
 ghost use Rattle.sg_session.specs.Plain.{NoneRaw, datagram_in, may_encrypt, packet_in};
 ghost use Rattle.sg_session.specs.Sealing.{seals};
 
-use crate::plain::{PlainDone, PlainKey};
+use crate::plain::{PlainDone, PlainKey, opening, sealing};
 use crate::{Admit, Name};
 use sg_base::{Address, DropCause, Kind, NoMemory, Octets};
 use std::alloc::Global;
@@ -184,9 +184,14 @@ impl PlainSession {
         ensures after { OnOk result (self.new ≡ after self.old (opens self.old datagram.now)) }
         ensures err { OnErr result (self.new ≡ self.old) }
     {
-        let _ = alloc;
-        let _ = datagram.len();
-        Err(NoMemory)
+        match opening::opened(alloc, self, datagram)? {
+            Err(cause) => Ok(Err(cause)),
+            Ok(done) => {
+                let packet = Octets::copy_of(alloc, done.packet())?;
+                self.add(done)?;
+                Ok(Ok(packet))
+            }
+        }
     }
 
     /// Seals a packet, or tells the first cause why not (RFC 3711, 3.3 and 3.4): the datagram. What is
@@ -201,8 +206,13 @@ impl PlainSession {
         ensures after { OnOk result (self.new ≡ after self.old (seals self.old packet.now)) }
         ensures err { OnErr result (self.new ≡ self.old) }
     {
-        let _ = alloc;
-        let _ = packet.len();
-        Err(NoMemory)
+        match sealing::sealed(alloc, self, packet)? {
+            Err(cause) => Ok(Err(cause)),
+            Ok(sealing) => {
+                let (done, datagram) = sealing.parts();
+                self.add(done)?;
+                Ok(Ok(datagram))
+            }
+        }
     }
 }
