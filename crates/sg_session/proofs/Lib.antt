@@ -9,6 +9,7 @@ pub mod RawOpens
 pub mod RawReadBack
 pub mod RawTaking
 pub mod ReadBack
+pub mod Reused
 pub mod SameOctets
 pub mod Taking
 pub mod Texts

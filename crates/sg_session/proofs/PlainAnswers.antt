@@ -1,5 +1,5 @@
 -- What an entry, or a sealing, says of what was taken.
-use Rattle.std.proofs.Common.{◌≡◌, List, ℕ, [], ◌∷◌, ◌++◌, Result, Ok, Err, refl, ap}
+use Rattle.std.proofs.Common.{◌≡◌, List, ℕ, [], ◌∷◌, ◌++◌, Result, Ok, Err, refl}
 use Rattle.sg_base.specs.declared.faults.DropCause.{DropCause}
 use Rattle.sg_session.specs.OneSession.{after}
 use Rattle.sg_session.specs.Opening.{Taken}

@@ -1,4 +1,4 @@
-use Rattle.std.proofs.Common.{◌≡◌, length, sym, subst, ap, ◌∙◌}
+use Rattle.std.proofs.Common.{length, sym, subst, ap, ◌∙◌}
 use Rattle.sg_aes.specs.Schedule.{IsKeyLength}
 use Rattle.sg_base.specs.declared.keys.SessionKeys.{SessionKeys}
 use Rattle.sg_kdf.proofs.KdfLemmas.{rtp_keys, rtcp_keys}

@@ -1,7 +1,7 @@
 use Rattle.std.proofs.Common.{◌≡◌, ◌≤◌, ◌+◌, ◌-◌, length, ℕ, take, drop, ap, ◌∙◌, arith, List}
 use Rattle.std.proofs.lemmas.List.{length-take-le, length-drop, take_all}
 use Rattle.sg_base.specs.Octets.{number_of}
-use Rattle.sg_session.specs.Opening.{before_mki, end_len}
+use Rattle.sg_session.specs.Opening.{end_len}
 use Rattle.sg_session.proofs.plain.parts.index_word.Goals as goal
 
 -- the last four octets of a front

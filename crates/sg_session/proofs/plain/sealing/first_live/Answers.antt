@@ -1,4 +1,4 @@
-use Rattle.std.proofs.Common.{◌≡◌, ◌+◌, ◌<◌, ◌≤◌, drop, sym, ◌∙◌, arith}
+use Rattle.std.proofs.Common.{◌+◌, ◌<◌, ◌≤◌, drop, sym, ◌∙◌, arith}
 use Rattle.sg_base.specs.declared.faults.DropCause.TheVariants as cause
 use Rattle.sg_session.specs.Session.{Key, Session, count_of}
 use Rattle.sg_session.proofs.PlainKeys.{sealing_key_from, first_live_from, first_live_here, first_live_later}
