@@ -48,7 +48,7 @@ after_is now port d c g (IsOpening o) = subst (λ g. IsSameCall c (after g c)) (
 after_is now port d c g (IsSeal o) = subst (λ g. IsSameCall c (after g c)) (sym o.gives) (record { serial = refl; slot = refl; media = refl })
 
 after_call : (now : ℕ) (a : Arrived) (c : Call) → IsSameCall c (after (given_by now c a) c)
-after_call now a c = after_is now a.port a.octets c (given_by now c a) (arrival now a.port a.from a.octets c)
+after_call now a c = after_is now a.port a.octets.items c (given_by now c a) (arrival now a.port a.from a.octets.items c)
 
 same_ports : (c d : Call) → IsSameCall c d → (port : ℕ) → has_port port d ≡ has_port port c
 same_ports c d is port = let slot = is.slot in let media = is.media in
@@ -100,11 +100,11 @@ module _ (w : World) (a : Arrived) where
       of_q : q.call.serial ≡ c.serial
       of_q = subst (λ g. (after g c).serial ≡ c.serial) gives (after_call w.moment a c).serial
 
-  one_turn : Pairs AreApart w.calls → (o : Option Call) → call_at w a.port ≡ o → (arrived_at w a.port a.from a.octets o).world.calls ≡ map (turn w.moment a) w.calls
+  one_turn : Pairs AreApart w.calls → (o : Option Call) → call_at w a.port ≡ o → (arrived_at w a.port a.from a.octets.items o).world.calls ≡ map (turn w.moment a) w.calls
   one_turn p None is = sym (map_same (turn w.moment a) (λ x. x) w.calls (each_weaker _ _ (λ x no. cond-false _ _ _ no) w.calls (not_found _ w.calls is)) ∙ map_id w.calls)
   one_turn p (Some c) is = given_calls c is p (given_by w.moment c a) refl
 
-  same_moment : (o : Option Call) → (arrived_at w a.port a.from a.octets o).world.moment ≡ w.moment
+  same_moment : (o : Option Call) → (arrived_at w a.port a.from a.octets.items o).world.moment ≡ w.moment
   same_moment None = refl
   same_moment (Some c) = go (given_by w.moment c a)
     where
@@ -164,7 +164,7 @@ drained_same now c (a ∷ later) =
     let rest = drained_same now (after (given_by now c a) c) later in
     record { serial = rest.serial ∙ first.serial; slot = rest.slot ∙ first.slot; media = rest.media ∙ first.media }
 
-told_is : (w : World) (a : Arrived) (o : Option Call) → (arrived_at w a.port a.from a.octets o).outcomes ≡ told a.port (option_map (λ c. given_by w.moment c a) o)
+told_is : (w : World) (a : Arrived) (o : Option Call) → (arrived_at w a.port a.from a.octets.items o).outcomes ≡ told a.port (option_map (λ c. given_by w.moment c a) o)
 told_is w a None = refl
 told_is w a (Some c) = go (given_by w.moment c a)
   where

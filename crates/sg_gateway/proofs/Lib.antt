@@ -1,5 +1,6 @@
 pub mod Arrivals
 pub mod Datagrams
+pub mod GoesOut
 pub mod Growth
 pub mod Highest
 pub mod InTurn

@@ -1,5 +1,5 @@
 -- What is opened goes out.
-use Rattle.std.proofs.Common.{◌≡◌, ℕ, List, [], ◌∷◌, Option, Some, None, Ok, refl, sym, ap, ◌∙◌, subst}
+use Rattle.std.proofs.Common.{◌≡◌, ℕ, List, [], ◌∷◌, Option, Some, None, refl, sym, subst}
 use Rattle.std.specs.List.{AllByRecursion, Any}
 use Rattle.sg_base.specs.declared.addresses.Address.{Address}
 use Rattle.sg_script.specs.declared.outcomes.Outcome.TheVariants.{Out}

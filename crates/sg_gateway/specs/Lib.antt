@@ -3,6 +3,7 @@ pub mod Batch
 pub mod Datagrams
 pub mod Generations
 pub mod Media
+pub mod Octets
 pub mod Order
 pub mod PeersPackets
 pub mod Ports
