@@ -10,6 +10,11 @@ pub mod Ordered
 pub mod Orderly
 pub mod Owners
 pub mod Pairs
+pub mod PlainArrivals
+pub mod PlainCalls
+pub mod PlainHands
+pub mod PlainPassing
+pub mod PlainTables
 pub mod PutOut
 pub mod RawArrivals
 pub mod RawDatagrams

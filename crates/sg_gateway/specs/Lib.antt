@@ -1,11 +1,14 @@
 pub mod Arriving
 pub mod Batch
 pub mod Datagrams
+pub mod Events
 pub mod Generations
 pub mod Media
 pub mod Octets
 pub mod Order
 pub mod PeersPackets
+pub mod Passed
+pub mod Plain
 pub mod Ports
 pub mod RawEvents
 pub mod RawHeadline

@@ -1,7 +1,11 @@
 //! What a run of the gateway means: worlds, their steps, and the laws over every list of events.
 #![tactic(auto)]
 
+mod gateway;
+mod hand;
 mod laws;
+mod plain_call;
+mod plain_table;
 mod raw_table;
 
 ghost use Rattle.std.specs.Prelude.{List};
@@ -9,10 +13,14 @@ ghost use Rattle.sg_session.specs.RawPacket.{Sealed};
 ghost use Rattle.sg_gateway.specs.RawStep.{Event};
 ghost use Rattle.sg_gateway.specs.RawHeadline.{AreSealed, Unforged, EachOpeningIsSealed, EachOpeningGoesOut, OnlyOpeningsGoOut, NoneTwice, NoneTwiceUnderKey, EachArrivingIsPutOut};
 
+pub use gateway::Gateway;
+pub use hand::Hand;
 pub use laws::{
     calls_in_order, each_call_by_itself, no_counter_block_twice, nothing_forged, nothing_twice,
     nothing_within_reach_lost,
 };
+pub use plain_call::{Passage, PlainCall};
+pub use plain_table::PlainTable;
 pub use raw_table::{RawCall, RawTable};
 
 /// Nothing forged, nothing twice, nothing within reach lost, for every list of events and every list
