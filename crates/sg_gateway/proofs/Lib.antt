@@ -16,15 +16,8 @@ pub mod PlainHands
 pub mod PlainPassing
 pub mod PlainTables
 pub mod PutOut
-pub mod RawArrivals
-pub mod RawDatagrams
-pub mod RawGoesOut
-pub mod RawKept
-pub mod RawOpenedAndPut
-pub mod RawPutOut
-pub mod RawSayings
-pub mod RawSteps
 pub mod Reached
+pub mod Sayings
 pub mod Signals
 pub mod Sound
 pub mod Used

@@ -10,12 +10,7 @@ pub mod PeersPackets
 pub mod Passed
 pub mod Plain
 pub mod Ports
-pub mod RawEvents
-pub mod RawHeadline
-pub mod RawReplayed
-pub mod RawRuns
-pub mod RawStep
-pub mod RawWorld
+pub mod Replayed
 pub mod Runs
 pub mod Signals
 pub mod Step
