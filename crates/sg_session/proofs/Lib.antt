@@ -2,11 +2,14 @@ pub mod Inversions
 pub mod Leaves
 pub mod Lists
 pub mod NoneTwice
+pub mod PlainAnswers
+pub mod PlainKeys
 pub mod PlainLists
 pub mod RawOpens
 pub mod RawReadBack
 pub mod RawTaking
 pub mod ReadBack
+pub mod Reused
 pub mod SameOctets
 pub mod Taking
 pub mod Texts

@@ -2,6 +2,7 @@ pub mod Halves
 pub mod OneSession
 pub mod Opening
 pub mod Plain
+pub mod PlainRing
 pub mod RawPacket
 pub mod RawSession
 pub mod RawStandsFor

@@ -1,27 +1,35 @@
 //! The ring of all keys that came into use.
 
-ghost use Rattle.std.specs.Prelude.{◌≡◌, ◌≤◌, [], length, IfOk, OnErr};
+ghost use Rattle.std.specs.Prelude.{◌≡◌, ◌≤◌, ◌<◌, ◌+◌, ◌^◌, ◌++◌, ◌||◌, [], length, IfOk, IfSome, OnErr};
+ghost use Rattle.sg_kdf.specs.SessionKeys.{session_keys};
 ghost use Rattle.sg_session.specs.Plain.{answer_in, ring_after};
-ghost use Rattle.sg_session.specs.Ring.{install};
+ghost use Rattle.sg_session.specs.PlainRing.{reused, told_of};
+ghost use Rattle.sg_session.specs.Ring.{clash, clashes_with_itself, first_clash, install, same_secret};
 
 use crate::Owner;
-use sg_base::{MasterKey, NoMemory, Refusal};
+use crate::plain::checks;
+use sg_base::{CipherKey, MasterKey, NoMemory, Refusal, SessionKeys};
 use std::alloc::Global;
 use std::marker::Model;
 
-/// A key in use, and whose it is.
+/// A key in use, and whose it is. Its session keys are kept, to be compared.
 #[derive(Drop)]
 pub struct InstalledKey {
     master: MasterKey,
     owner: Owner,
+    keys: SessionKeys,
 }
 
 impl Model for InstalledKey {
+    ghost use Rattle.std.specs.Prelude.{◌≡◌};
+    ghost use Rattle.sg_kdf.specs.SessionKeys.{session_keys};
     ghost use Rattle.sg_session.specs.Ring.{Installed};
 
     ghost Value = { Installed };
 
     ghost view = { λ k. record { master = k.master; owner = k.owner } };
+
+    ghost invariant = { λ k. k.keys ≡ session_keys k.master };
 }
 
 impl InstalledKey {
@@ -29,7 +37,12 @@ impl InstalledKey {
     pub fn new(master: MasterKey, owner: Owner) -> InstalledKey
         ensures { result ≡ record { master = master; owner = owner } }
     {
-        InstalledKey { master, owner }
+        let keys = sg_kdf::derive(&master);
+        InstalledKey {
+            master,
+            owner,
+            keys,
+        }
     }
 
     /// The master key.
@@ -45,6 +58,90 @@ impl InstalledKey {
     {
         self.owner
     }
+
+    /// Its session keys.
+    pub fn keys(&self) -> &SessionKeys
+        ensures { result.now ≡ session_keys self.now.master }
+    {
+        &self.keys
+    }
+}
+
+fn is_same_secret(a: &CipherKey, b: &CipherKey) -> bool
+    ensures { result ≡ same_secret a.now b.now }
+{
+    !a.as_slice().is_empty() && checks::is_same(a.as_slice(), b.as_slice())
+}
+
+fn shares(a: &SessionKeys, b: &SessionKeys) -> bool
+    ensures { result ≡ ((same_secret a.now.rtp.encrypt b.now.rtp.encrypt || same_secret a.now.rtp.encrypt b.now.rtcp.encrypt)
+        || (same_secret a.now.rtcp.encrypt b.now.rtp.encrypt || same_secret a.now.rtcp.encrypt b.now.rtcp.encrypt)) }
+{
+    is_same_secret(&a.rtp.encrypt, &b.rtp.encrypt)
+        || is_same_secret(&a.rtp.encrypt, &b.rtcp.encrypt)
+        || is_same_secret(&a.rtcp.encrypt, &b.rtp.encrypt)
+        || is_same_secret(&a.rtcp.encrypt, &b.rtcp.encrypt)
+}
+
+/// Whether two keys clash.
+fn clash(a: &InstalledKey, b: &InstalledKey) -> bool
+    ensures { result ≡ clash a.now.master b.now.master }
+{
+    checks::is_same(a.master().key(), b.master().key()) || shares(a.keys(), b.keys())
+}
+
+fn clashes_with_itself(key: &InstalledKey) -> bool
+    ensures { result ≡ clashes_with_itself key.now.master }
+{
+    is_same_secret(&key.keys().rtp.encrypt, &key.keys().rtcp.encrypt)
+}
+
+/// The least number of a key that clashes with this one, where these are numbered from `start` on.
+fn first_clash(start: usize, ring: &[InstalledKey], key: &InstalledKey) -> Option<usize>
+    requires { start + length ring.now < 2 ^ 32 }
+    ensures value { result ≡ first_clash start ring.now key.now.master }
+    ensures bound { IfSome result (λ n. n < start + length ring.now) }
+{
+    for (i, other) in ring.iter().enumerate() {
+        if clash(other, key) {
+            return Some(start + i);
+        }
+    }
+    None
+}
+
+/// The number that is told of a key after those of the ring and some more.
+fn told(ring: &[InstalledKey], more: &[InstalledKey], key: &InstalledKey) -> Option<usize>
+    requires { length ring.now + length more.now < 2 ^ 32 }
+    ensures value { result ≡ told_of (ring.now ++ more.now) key.now }
+    ensures bound { IfSome result (λ n. n ≤ length ring.now + length more.now) }
+{
+    if let Some(number) = first_clash(0, ring, key) {
+        return Some(number);
+    }
+    if let Some(number) = first_clash(ring.len(), more, key) {
+        return Some(number);
+    }
+    if clashes_with_itself(key) {
+        Some(ring.len() + more.len())
+    } else {
+        None
+    }
+}
+
+/// The number that is told of the first of the keys that is reused.
+fn first_reused(ring: &[InstalledKey], keys: &[InstalledKey]) -> Option<usize>
+    requires { length ring.now + length keys.now < 2 ^ 32 }
+    ensures value { result ≡ reused ring.now keys.now }
+    ensures bound { IfSome result (λ n. n < 2 ^ 32) }
+{
+    for i in 0..keys.len() {
+        let key = &keys[i];
+        if let Some(number) = told(ring, &keys[..i], key) {
+            return Some(number);
+        }
+    }
+    None
 }
 
 /// All keys that came into use, at most 65,536, in the order in which they came. A key's place is its
@@ -85,17 +182,25 @@ impl PlainRing {
 
     /// Takes these keys in, all or none. A key that is already there is refused with the least number of
     /// the keys that it clashes with, and then a ring that would pass 65,536 keys. With a refusal, and
-    /// where memory is wanting, nothing changes.
-    pub fn install(
-        &mut self,
-        alloc: Global,
-        keys: Vec<InstalledKey>,
-    ) -> Result<Result<(), Refusal>, NoMemory>
+    /// where memory is wanting, nothing changes. More than 65,536 keys at once count as want of memory.
+    pub fn install(&mut self, mut keys: Vec<InstalledKey>) -> Result<Result<(), Refusal>, NoMemory>
         ensures answer { IfOk result (λ r. r ≡ answer_in (install self.old keys.items)) }
         ensures after { IfOk result (λ r. self.new ≡ ring_after self.old (install self.old keys.items)) }
         ensures err { OnErr result (self.new ≡ self.old) }
     {
-        let _ = (alloc, keys);
-        Err(NoMemory)
+        if keys.len() > 65536 {
+            return Err(NoMemory);
+        }
+        if let Some(number) = first_reused(self.keys.as_slice(), keys.as_slice()) {
+            let number = number as u32;
+            return Ok(Err(Refusal::KeyReused { number }));
+        }
+        if self.keys.len() + keys.len() > 65536 {
+            return Ok(Err(Refusal::RingFull));
+        }
+        match self.keys.append(&mut keys) {
+            Ok(()) => Ok(Ok(())),
+            Err(_) => Err(NoMemory),
+        }
     }
 }

@@ -1,14 +1,14 @@
 //! One session: what it opens and what it seals (RFC 3711, 3.3 and 3.4).
 
-ghost use Rattle.std.specs.Prelude.{◌≡◌, ◌≤◌, true, length, [], IfOk, OnOk, OnErr};
+ghost use Rattle.std.specs.Prelude.{◌≡◌, ◌≤◌, true, length, [], ◌∷◌, ◌++◌, IfOk, OnOk, OnErr};
 ghost use Rattle.sg_session.specs.OneSession.{after};
 ghost use Rattle.sg_session.specs.Opening.{opens};
 ghost use Rattle.sg_session.specs.Plain.{NoneRaw, datagram_in, may_encrypt, packet_in};
 ghost use Rattle.sg_session.specs.Sealing.{seals};
 
-use crate::plain::{PlainDone, PlainKey};
+use crate::plain::{PlainDone, PlainKey, opening, sealing};
 use crate::{Admit, Name};
-use sg_base::{Address, DropCause, NoMemory, Octets};
+use sg_base::{Address, DropCause, Kind, NoMemory, Octets};
 use std::alloc::Global;
 use std::marker::Model;
 
@@ -104,6 +104,74 @@ impl PlainSession {
         self.plain
     }
 
+    /// The kind.
+    pub fn kind(&self) -> Kind
+        ensures { result ≡ self.now.name.kind }
+    {
+        self.name.kind
+    }
+
+    /// The keys. None is raw where something may be encrypted.
+    pub fn keys(&self) -> &[PlainKey]
+        ensures value { result.now ≡ self.now.keys }
+        ensures secret { may_encrypt self.now.name.kind self.now.encrypts ≡ true → NoneRaw self.now.keys }
+    {
+        self.keys.as_slice()
+    }
+
+    /// The starting rollover counter.
+    pub fn roc(&self) -> u32
+        ensures { result ≡ self.now.roc }
+    {
+        self.roc
+    }
+
+    /// The length of the replay window.
+    pub fn window(&self) -> u16
+        ensures { result ≡ self.now.window }
+    {
+        self.window
+    }
+
+    /// The sources that are admitted.
+    pub fn admit(&self) -> Admit
+        ensures { result ≡ self.now.admit }
+    {
+        self.admit
+    }
+
+    /// Whether packets are encrypted.
+    pub fn encrypts(&self) -> bool
+        ensures { result ≡ self.now.encrypts }
+    {
+        self.encrypts
+    }
+
+    /// The octets of a tag, at most 20.
+    pub fn tag_len(&self) -> usize
+        ensures value { result ≡ self.now.tag_len }
+        ensures most { result ≤ 20 }
+    {
+        self.tag_len
+    }
+
+    /// All that is done, in its order.
+    pub fn done(&self) -> &[PlainDone]
+        ensures { result.now ≡ self.now.done }
+    {
+        self.done.as_slice()
+    }
+
+    fn add(&mut self, done: PlainDone) -> Result<(), NoMemory>
+        ensures ok { OnOk result (self.new ≡ record self.old { done = self.old.done ++ done ∷ [] }) }
+        ensures err { OnErr result (self.new ≡ self.old) }
+    {
+        match self.done.push(done) {
+            Err(_) => Err(NoMemory),
+            Ok(()) => Ok(()),
+        }
+    }
+
     /// Opens a datagram, or tells the first cause why not (RFC 3711, 3.3 and 3.4): the plain packet. What
     /// is opened is done from then on. With a cause, and where memory is wanting, nothing changes.
     pub fn open(
@@ -116,9 +184,14 @@ impl PlainSession {
         ensures after { OnOk result (self.new ≡ after self.old (opens self.old datagram.now)) }
         ensures err { OnErr result (self.new ≡ self.old) }
     {
-        let _ = alloc;
-        let _ = datagram.len();
-        Err(NoMemory)
+        match opening::opened(alloc, self, datagram)? {
+            Err(cause) => Ok(Err(cause)),
+            Ok(done) => {
+                let packet = Octets::copy_of(alloc, done.packet())?;
+                self.add(done)?;
+                Ok(Ok(packet))
+            }
+        }
     }
 
     /// Seals a packet, or tells the first cause why not (RFC 3711, 3.3 and 3.4): the datagram. What is
@@ -133,8 +206,13 @@ impl PlainSession {
         ensures after { OnOk result (self.new ≡ after self.old (seals self.old packet.now)) }
         ensures err { OnErr result (self.new ≡ self.old) }
     {
-        let _ = alloc;
-        let _ = packet.len();
-        Err(NoMemory)
+        match sealing::sealed(alloc, self, packet)? {
+            Err(cause) => Ok(Err(cause)),
+            Ok(sealing) => {
+                let (done, datagram) = sealing.parts();
+                self.add(done)?;
+                Ok(Ok(datagram))
+            }
+        }
     }
 }
