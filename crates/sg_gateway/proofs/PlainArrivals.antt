@@ -1,5 +1,5 @@
 -- What becomes of a datagram among the sessions of a call is what it gives in that call.
-use Rattle.std.proofs.Common.{◌≡◌, ℕ, Bool, true, false, cond, List, [], ◌∷◌, length, map, Option, Some, None, Result, Ok, Err, refl, sym, ap, ◌∙◌, subst, eqb, ltb}
+use Rattle.std.proofs.Common.{◌≡◌, ℕ, Bool, true, false, cond, List, [], ◌∷◌, length, Some, Result, Ok, Err, refl, sym, ap, ◌∙◌, subst, eqb, ltb}
 use Rattle.sg_base.specs.declared.addresses.Address.{Address}
 use Rattle.sg_base.specs.declared.faults.DropCause.{DropCause}
 use Rattle.sg_base.specs.declared.faults.DropCause.TheVariants.{PortUnused, NotLive, TooLong, SourceUnknown}
@@ -12,8 +12,8 @@ use Rattle.sg_session.specs.declared.names.Direction.TheVariants.{Opening, Seali
 use Rattle.sg_session.specs.Session.{Session}
 use Rattle.sg_gateway.specs.Batch.{after, told}
 use Rattle.sg_gateway.specs.Datagrams.{Given, Drops, put, drop_of, opened_or, sealed_or, same_ip, arrived_towards, arrived_among, arrived_in}
-use Rattle.sg_gateway.specs.Passed.{sessions_in, IsPassed}
-use Rattle.sg_gateway.specs.Plain.{taken_towards, taken_from, sent_towards, sent_by}
+use Rattle.sg_gateway.specs.Passed.{IsPassed}
+use Rattle.sg_gateway.specs.Plain.{taken_towards, taken_from, sent_towards}
 use Rattle.sg_gateway.specs.Ports.{sessions_at}
 use Rattle.sg_gateway.specs.World.{Call}
 use Rattle.sg_gateway.specs.declared.plain_call.Passage.{Passage}

@@ -1,23 +1,20 @@
 -- A call that is keyed by hand, in the world of a plain table.
-use Rattle.std.proofs.Common.{◌≡◌, ℕ, ◌+◌, ◌<◌, ◌≤◌, Bool, true, false, cond, not, ◌&&◌, List, [], ◌∷◌, ◌++◌, length, length-append, map, Option, Some, None, Result, Ok, Err, refl, sym, ap, ◌∙◌, subst, arith, ltb}
-use Rattle.std.proofs.lemmas.Bool.{le-ltb, lt-ltb, cond-true, cond-false, and_parts, ltb-true, not-true}
+use Rattle.std.proofs.Common.{◌≡◌, ℕ, ◌+◌, ◌<◌, ◌≤◌, Bool, true, false, not, List, [], ◌∷◌, ◌++◌, length, length-append, Some, Result, Ok, Err, refl, sym, ap, ◌∙◌, subst, arith}
+use Rattle.std.proofs.lemmas.Bool.{le-ltb, lt-ltb, cond-true, cond-false, and_parts, ltb-true}
 use Rattle.std.proofs.lemmas.List.{append-nil}
 use Rattle.std.specs.List.{AllByRecursion, list_any}
-use Rattle.sg_base.specs.declared.addresses.CallId.{CallId}
-use Rattle.sg_base.specs.declared.addresses.Kind.{Kind}
 use Rattle.sg_base.specs.declared.addresses.Kind.TheVariants.{Rtp, Rtcp}
 use Rattle.sg_base.specs.declared.faults.Refusal.{Refusal}
 use Rattle.sg_base.specs.declared.faults.Refusal.TheVariants.{CallKnown, TableFull}
 use Rattle.sg_script.specs.declared.outcomes.Outcome.{Outcome}
 use Rattle.sg_script.specs.declared.outcomes.Outcome.TheVariants.{Made, Live, Refused}
-use Rattle.sg_kdf.specs.SessionKeys.{is_raw}
 use Rattle.sg_session.specs.Plain.{answer_in, ring_after}
 use Rattle.sg_session.specs.Ring.{Installed, install}
 use Rattle.sg_session.specs.Session.{Session}
 use Rattle.sg_gateway.proofs.PlainCalls.{any_is_found, free_is, and_call_is, from_push}
 use Rattle.sg_gateway.specs.Generations.{keys_from, sessions_from}
-use Rattle.sg_gateway.specs.Plain.{AreFrom, HaveOwnPorts, HasNextPorts, place_of}
-use Rattle.sg_gateway.specs.Signals.{ByHand, Answer, medium_by_hand, by_hand, in_new, refused, new_call, keyed_by_hand}
+use Rattle.sg_gateway.specs.Plain.{AreFrom, HaveOwnPorts, HasNextPorts}
+use Rattle.sg_gateway.specs.Signals.{ByHand, Answer, medium_by_hand, by_hand, in_new, new_call, keyed_by_hand}
 use Rattle.sg_gateway.specs.World.{Call, Books, World, call_of, same_id, is_full}
 
 -- the answer has these outcomes and leaves this world

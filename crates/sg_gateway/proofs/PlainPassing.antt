@@ -1,5 +1,5 @@
 -- A datagram among the sessions of a call of which each has a port of its own.
-use Rattle.std.proofs.Common.{◌≡◌, ℕ, zero, suc, ◌+◌, ◌<◌, Bool, true, false, cond, List, [], ◌∷◌, ◌++◌, length, get_or, map, Option, Some, None, Result, Ok, Err, refl, sym, ap, ◌∙◌, subst, arith, eqb, eq-eqb}
+use Rattle.std.proofs.Common.{◌≡◌, ℕ, zero, suc, ◌+◌, ◌<◌, Bool, true, false, cond, List, [], ◌∷◌, ◌++◌, length, get_or, map, Some, None, Result, Ok, Err, refl, sym, ap, ◌∙◌, subst, arith, eqb}
 use Rattle.std.proofs.Math.ListN.{set}
 use Rattle.std.proofs.Math.Seq.{map-set_same}
 use Rattle.std.proofs.lemmas.Bool.{eqb-true, false_from_ne_true, cond-true, cond-false}
@@ -15,7 +15,7 @@ use Rattle.sg_session.specs.OneSession.{after}
 use Rattle.sg_session.specs.declared.names.Direction.{Direction}
 use Rattle.sg_session.specs.declared.names.Direction.TheVariants.{Opening, Sealing}
 use Rattle.sg_session.specs.declared.names.Name.{Name}
-use Rattle.sg_session.specs.Session.{Done, Session, same_name, with_done}
+use Rattle.sg_session.specs.Session.{Done, Session, with_done}
 use Rattle.sg_gateway.proofs.Kept.{same_name_is, same_name_itself}
 use Rattle.sg_gateway.specs.Passed.{sessions_in, IsPassed}
 use Rattle.sg_gateway.specs.Plain.{AreDistinct, place_of, HaveOwnPorts, HasNextPorts, taken_from, sent_towards, sent_by}

@@ -1,5 +1,5 @@
 -- What becomes of a datagram among the sessions of a call.
-use Rattle.std.specs.Prelude.{◌≡◌, ℕ, ◌==◌, List, [], ◌∷◌, map, filter, Result, Ok, Err}
+use Rattle.std.specs.Prelude.{◌≡◌, ℕ, ◌==◌, List, [], ◌∷◌, map, filter, Ok, Err}
 use Rattle.sg_base.specs.declared.addresses.Address.{Address}
 use Rattle.sg_session.specs.Opening.{Taken}
 use Rattle.sg_session.specs.Session.{Session, with_done}

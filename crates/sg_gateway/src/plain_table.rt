@@ -136,7 +136,7 @@ impl PlainTable {
         let slot = self.calls.len() as u8;
         let number = self.ring.count();
         let keys = hand.keys(alloc, u64::from(slot))?;
-        match self.ring.install(alloc, keys)? {
+        match self.ring.install(keys)? {
             Err(cause) => refused(alloc, id, cause),
             Ok(()) => {
                 let call = PlainCall::by_hand(alloc, slot, number, self.moment, &hand)?;

@@ -1,4 +1,4 @@
-use Rattle.std.proofs.Common.{◌≡◌, ◌≤◌, ◌∙◌, List, ◌∷◌, [], Some, refl, sym, ap, subst, length, arith}
+use Rattle.std.proofs.Common.{◌≤◌, ◌∙◌, List, ◌∷◌, [], Some, refl, sym, ap, subst, length, arith}
 use Rattle.std.specs.List.{list_any}
 use Rattle.sg_base.specs.declared.faults.Refusal.TheVariants.{CallKnown, TableFull}
 use Rattle.sg_script.specs.declared.outcomes.Outcome.{Outcome}
