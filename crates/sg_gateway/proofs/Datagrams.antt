@@ -136,7 +136,7 @@ module _ (Extra : Session → Type 0)
     (by_hand : (h : ByHand) (call generation n : ℕ) → AllByRecursion Extra (sessions_from call generation 0 n (Some (medium_by_hand h) ∷ []))) where
   at_event : (past : List Entry) (w : World) (kept : IsKept Extra past w) (apart : AllPairs Apart past) (e : Event) → GoesOn Extra kept_on past w kept apart (step w e)
   at_event past w kept apart (Signalled signal) = nothing_new Extra kept_on past w kept apart _ (signal_fits Extra by_hand past w kept signal).1
-  at_event past w kept apart (Datagram port from d) = arrived_goes Extra kept_on past w kept apart port from d (call_at w port) refl
+  at_event past w kept apart (Datagram port from d) = arrived_goes Extra kept_on past w kept apart port from d.items (call_at w port) refl
 
   -- the journal so far, and all that is kept, at the end of a run
   pub run_kept : (past : List Entry) (w : World) (es : List Event) → IsKept Extra past w → AllPairs Apart past

@@ -142,4 +142,4 @@ module _ (Extra : Session → Type 0) (past : List Entry) (w : World) (kept : Is
 
   pub event_ordered : (e : Event) → Ordered (step w e).world
   event_ordered (Signalled signal) = answer_ordered signal
-  event_ordered (Datagram port from d) = arrived_ordered port from d (call_at w port) refl
+  event_ordered (Datagram port from d) = arrived_ordered port from d.items (call_at w port) refl

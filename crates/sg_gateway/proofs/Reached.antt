@@ -1,21 +1,21 @@
 -- The calls of every world of a run are in order, and so no port is of two of them.
-use Rattle.std.proofs.Common.{◌≡◌, ℕ, ◌+◌, ◌*◌, ◌<◌, ◌≤◌, Bool, true, false, ◌&&◌, List, [], ◌∷◌, Some, length, sym, ap, ◌∙◌, arith, leb, ltb}
+use Rattle.std.proofs.Common.{◌≡◌, ℕ, ◌<◌, ◌≤◌, false, ◌&&◌, List, [], ◌∷◌, Some, length, ap, arith, leb, ltb}
 use Rattle.std.proofs.lemmas.Bool.{and_parts, lt-leb, ltb-true}
-use Rattle.std.specs.List.{AllByRecursion, AllPairs}
-use Rattle.sg_session.proofs.Lists.{each_of, each_both}
+use Rattle.std.specs.List.{AllByRecursion}
+use Rattle.sg_session.proofs.Lists.{each_of}
 use Rattle.sg_session.specs.Session.{Session}
 use Rattle.sg_gateway.proofs.Datagrams.{run_keeps, empty_kept}
 use Rattle.sg_gateway.proofs.Orderly.{Ordered, event_ordered}
-use Rattle.sg_gateway.proofs.Pairs.{Pairs, pairs_map, pairs_to}
+use Rattle.sg_gateway.proofs.Pairs.{Pairs}
 use Rattle.sg_gateway.specs.Batch.{AreApart}
 use Rattle.sg_gateway.specs.Datagrams.{Entry}
 use Rattle.sg_gateway.specs.Generations.{sessions_from}
 use Rattle.sg_gateway.specs.Order.{IsBefore}
-use Rattle.sg_gateway.specs.Ports.{has_port, port_at}
+use Rattle.sg_gateway.specs.Ports.{port_at}
 use Rattle.sg_gateway.specs.Runs.{world_after}
 use Rattle.sg_gateway.specs.Signals.{ByHand, medium_by_hand}
 use Rattle.sg_gateway.specs.Step.{Event}
-use Rattle.sg_gateway.specs.World.{Call, World, empty}
+use Rattle.sg_gateway.specs.World.{Call, empty}
 
 abbrev Any : Session → Type 0
 Any s = Unit {0}

@@ -5,6 +5,7 @@ use Rattle.sg_script.specs.declared.outcomes.Outcome.TheVariants.{Out, Dropped}
 use Rattle.sg_base.specs.declared.faults.DropCause.TheVariants.{PortUnused}
 use Rattle.sg_base.specs.declared.addresses.Address.{Address}
 use Rattle.sg_gateway.specs.World.{Call, World}
+use Rattle.sg_gateway.specs.Octets.{Octets}
 use Rattle.sg_gateway.specs.Ports.{call_at, has_port}
 use Rattle.sg_gateway.specs.Runs.{world_after}
 use Rattle.sg_gateway.specs.Step.{Event, Datagram, step}
@@ -13,7 +14,7 @@ use Rattle.sg_gateway.specs.Datagrams.{Given, Drops, Puts, arrived_in}
 pub record Arrived : Type 0 where
   pub port : ℕ
   pub from : Address
-  pub octets : List ℕ
+  pub octets : Octets
 
 abbrev pub event_of : Arrived → Event
 event_of a = Datagram a.port a.from a.octets
@@ -24,7 +25,7 @@ after (Drops cause) c = c
 after (Puts p) c = p.call
 
 abbrev pub given_by : ℕ → Call → Arrived → Given
-given_by now c a = arrived_in now a.port a.from a.octets c
+given_by now c a = arrived_in now a.port a.from a.octets.items c
 
 -- the call after it has handled these in order
 abbrev pub drained : ℕ → Call → List Arrived → Call

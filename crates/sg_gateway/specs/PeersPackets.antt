@@ -25,6 +25,16 @@ OpeningsAreSealed sealed t = All (λ e. e.session.owner.direction ≡ Opening �
 abbrev pub EachOpeningIsSealed : List Sealed → List Event → Type 0
 EachOpeningIsSealed sealed events = All (OpeningsAreSealed sealed) (turns events)
 
+-- What is opened is what goes out, from the plain port of a session of that name to its plain address, and
+-- nothing else of that event does.
+abbrev pub OpeningsGoOut : Turn → Type 0
+OpeningsGoOut t =
+    All (λ e. e.session.owner.direction ≡ Opening
+    → Any (λ c. Any (λ s. (s.name ≡ e.session) × (t.outcomes ≡ Out (port_out c s) (address_out s) e.done.packet ∷ [])) c.sessions) t.before.calls) t.entries
+
+abbrev pub EachOpeningGoesOut : List Event → Type 0
+EachOpeningGoesOut events = All OpeningsGoOut (turns events)
+
 -- the session's highest index of each source is that of a sealed packet
 abbrev pub HasSealedHighest : List Sealed → Session → Type 0
 HasSealedHighest sealed s =

@@ -2,25 +2,25 @@
 //! sealed twice.
 
 ghost use Rattle.std.specs.Prelude.{List};
-ghost use Rattle.std.specs.List.{All};
 ghost use Rattle.sg_session.specs.Reach.{Sealed, AreSealed};
 ghost use Rattle.sg_gateway.specs.Arriving.{EachArrivingIsPutOut};
 ghost use Rattle.sg_gateway.specs.Batch.{Arrived, AreDrained, IsToldAlone};
 ghost use Rattle.sg_gateway.specs.Order.{IsOrderly};
-ghost use Rattle.sg_gateway.specs.PeersPackets.{EachOpeningIsSealed, EachHighestIsSealed, OnlyOpeningsGoOut};
+ghost use Rattle.sg_gateway.specs.PeersPackets.{EachOpeningIsSealed, EachOpeningGoesOut, EachHighestIsSealed, OnlyOpeningsGoOut};
 ghost use Rattle.sg_gateway.specs.Runs.{world_after};
 ghost use Rattle.sg_gateway.specs.Step.{Event};
 ghost use Rattle.sg_gateway.specs.Twice.{NoneTwice, NoneTwiceUnderKey, KeysHaveOneOwner};
 ghost use Rattle.sg_gateway.specs.Unforged.{Unforged};
-ghost use Rattle.sg_gateway.specs.Used.{NoBlockTwice, IsOfOctets};
+ghost use Rattle.sg_gateway.specs.Used.{NoBlockTwice};
 ghost use Rattle.sg_gateway.specs.World.{empty};
 
 /// Where no tag is forged, each packet put out on a plain leg is bit for bit one that its session's peer
 /// sealed, at the index at which it was sealed, and each opened stream's highest index is that of a packet
-/// that was sealed. Forged or not, nothing else goes out on a plain port.
+/// that was sealed. Forged or not, what is opened goes out, and nothing else goes out on a plain port.
 pub fn nothing_forged()
     ensures sealed { (events : List Event) (sealed : List Sealed) → AreSealed sealed → Unforged sealed events → EachOpeningIsSealed sealed events }
     ensures highest { (events : List Event) (sealed : List Sealed) → AreSealed sealed → Unforged sealed events → EachHighestIsSealed sealed events }
+    ensures goes_out { (events : List Event) → EachOpeningGoesOut events }
     ensures only { (events : List Event) → OnlyOpeningsGoOut events }
 {}
 
@@ -38,7 +38,7 @@ pub fn nothing_within_reach_lost()
 
 /// No block of a keystream is sealed with twice.
 pub fn no_counter_block_twice()
-    ensures { (events : List Event) → All IsOfOctets events → NoBlockTwice events }
+    ensures { (events : List Event) → NoBlockTwice events }
 {}
 
 /// The calls stand by rising slot, below 256, with four media at most, and no two sessions have one name.

@@ -5,7 +5,7 @@ use Rattle.sg_base.specs.declared.faults.ScriptFault.{ScriptFault}
 use Rattle.sg_base.specs.declared.faults.ScriptFault.TheVariants.{Word, Number, Hex, Length, Version, Unended}
 use Rattle.sg_run.specs.declared.status.Status.{Status}
 use Rattle.sg_run.specs.declared.status.Status.TheVariants.{Done, Usage, Script, Read, Write, NoMemory}
-use Rattle.sg_gateway.specs.RawReplayed.{replayed}
+use Rattle.sg_gateway.specs.Replayed.{replayed}
 use Rattle.sg_edge.specs.Told.{AtEnd}
 use Rattle.sg_run.specs.Run.{IsRun, IsComplete}
 

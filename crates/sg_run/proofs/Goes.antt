@@ -2,31 +2,32 @@
 use Rattle.std.proofs.Common.{◌≡◌, ◌+◌, ℕ, Bool, false, List, [], ◌∷◌, ◌++◌, length, Option, Some, None, Result, Ok, Err, refl, sym, ap, ◌∙◌, subst, append_assoc, length-append, arith, ◌<◌, ◌≤◌, ◌^◌}
 use Rattle.std.specs.List.{flat_map}
 use Rattle.std.proofs.lemmas.List.{append-nil}
-use Rattle.sg_gateway.specs.RawStep.{Event}
+use Rattle.sg_gateway.specs.Step.{Event}
 use Rattle.sg_base.specs.declared.faults.ScriptFault.{ScriptFault}
 use Rattle.sg_base.specs.declared.faults.ScriptFault.TheVariants.{Unended}
 use Rattle.sg_script.specs.declared.outcomes.Outcome.{Outcome}
 use Rattle.sg_edge.specs.Told.{TookIn, Wrote}
 use Rattle.sg_edge.proofs.Passed.{took_more, wrote_more}
-use Rattle.sg_gateway.specs.RawRuns.{Turn, turn_of, turns_from, turns, outcomes, world_after}
-use Rattle.sg_gateway.specs.RawEvents.{outcomes_from}
-use Rattle.sg_gateway.specs.RawStep.{step}
-use Rattle.sg_gateway.specs.RawWorld.{World, empty}
+use Rattle.sg_gateway.specs.Runs.{Turn, turn_of, turns_from, turns, outcomes, world_after}
+use Rattle.sg_gateway.specs.Events.{outcomes_from}
+use Rattle.sg_gateway.specs.Step.{step}
+use Rattle.sg_gateway.specs.World.{World, empty}
 use Rattle.sg_run.specs.Fed.{IsLine}
-use Rattle.sg_gateway.specs.RawReplayed.{said as says}
+use Rattle.sg_gateway.specs.Replayed.{said as says}
 use Rattle.sg_script.specs.ScriptLines.{lines_of, IsWhole}
-use Rattle.sg_gateway.specs.RawReplayed.{Replayed, with_front, after_line, replayed_from, replayed}
+use Rattle.sg_gateway.specs.Replayed.{Replayed, with_front, after_line, replayed_from, replayed}
 use Rattle.sg_run.specs.Run.{output, output_from, IsPrefixOf}
 use Rattle.sg_run.specs.Run.{text}
 use Rattle.sg_script.specs.OutcomeText.{outcome_line as text_of}
 use Rattle.std.proofs.lemmas.Bool.{cond-false}
 use Rattle.sg_script.specs.declared.lines.Line.{Line}
-use Rattle.sg_script.specs.declared.raw_faults.ReadLineFault.{ReadLineFault}
-use Rattle.sg_script.specs.declared.raw_faults.ReadLineFault.TheVariants as faults
-use Rattle.sg_script.specs.RawGives.{Gives}
-use Rattle.sg_script.specs.RawLine.{raw_line_of}
-use Rattle.sg_gateway.specs.RawEvents.{events_of}
-use Rattle.sg_gateway.proofs.RawSayings.{FirstFails, first_fails, still_fails, said_is, too_far, events_at}
+use Rattle.sg_script.specs.declared.ReadLineFault.{ReadLineFault}
+use Rattle.sg_script.specs.declared.ReadLineFault.TheVariants as faults
+use Rattle.sg_run.specs.Played.{Says}
+use Rattle.sg_script.specs.Fields.{Gives}
+use Rattle.sg_script.specs.ServedLine.{served_line_of}
+use Rattle.sg_gateway.specs.Events.{events_of}
+use Rattle.sg_gateway.proofs.Sayings.{FirstFails, first_fails, still_fails, said_is, too_far, events_at}
 use Rattle.sg_script.proofs.Splits.{lines_of_whole}
 
 flat_map-append : {X A : Type 0} (f : X → List A) (xs ys : List X) → flat_map f (xs ++ ys) ≡ flat_map f xs ++ flat_map f ys
@@ -144,7 +145,7 @@ module _ (left0 left left' written0 written : Option (List ℕ)) (taken waits : 
           )
 
 -- what a reader of a line gives, as its events
-pub gives_events : (n at : ℕ) (line : List ℕ) (r : Result Line ReadLineFault) → too_far at line ≡ false → Gives (λ x. x) r (raw_line_of n line) → Gives events_of r (says n at line)
+pub gives_events : (n at : ℕ) (line : List ℕ) (r : Result Line ReadLineFault) → too_far at line ≡ false → Gives r (served_line_of n line) → Says r (says n at line)
 gives_events n at line (Ok l) near is = said_is n at line ∙ cond-false _ _ _ near ∙ ap events_at is
 gives_events n at line (Err faults.NoMemory) near is = tt
 gives_events n at line (Err (faults.Script f)) near is = said_is n at line ∙ cond-false _ _ _ near ∙ ap events_at is

@@ -6,12 +6,16 @@ use Rattle.sg_base.specs.declared.faults.ScriptFault.TheVariants.{Unended}
 use Rattle.sg_script.specs.declared.outcomes.Outcome.{Outcome}
 use Rattle.sg_script.specs.OutcomeText.{outcome_line}
 use Rattle.sg_edge.specs.Told.{TookIn, Wrote, AtEnd}
-use Rattle.sg_session.specs.RawPacket.{Sealed}
-use Rattle.sg_gateway.specs.RawHeadline.{AreSealed, Unforged, EachOpeningIsSealed, EachOpeningGoesOut, OnlyOpeningsGoOut, NoneTwice, NoneTwiceUnderKey, EachArrivingIsPutOut}
-use Rattle.sg_gateway.specs.RawReplayed.{Replayed, replayed}
-use Rattle.sg_gateway.specs.RawRuns.{outcomes, turns_from}
-use Rattle.sg_gateway.specs.RawStep.{Event}
-use Rattle.sg_gateway.specs.RawWorld.{World}
+use Rattle.sg_session.specs.Reach.{Sealed, AreSealed}
+use Rattle.sg_gateway.specs.Arriving.{EachArrivingIsPutOut}
+use Rattle.sg_gateway.specs.PeersPackets.{EachOpeningIsSealed, EachOpeningGoesOut, EachHighestIsSealed, OnlyOpeningsGoOut}
+use Rattle.sg_gateway.specs.Replayed.{Replayed, replayed}
+use Rattle.sg_gateway.specs.Runs.{outcomes, turns_from}
+use Rattle.sg_gateway.specs.Step.{Event}
+use Rattle.sg_gateway.specs.Twice.{NoneTwice, NoneTwiceUnderKey, KeysHaveOneOwner}
+use Rattle.sg_gateway.specs.Unforged.{Unforged}
+use Rattle.sg_gateway.specs.Used.{NoBlockTwice}
+use Rattle.sg_gateway.specs.World.{World}
 use Rattle.sg_run.specs.declared.status.Status.{Status}
 use Rattle.sg_run.specs.declared.status.Status.TheVariants.{Done, Usage, Script, Read, Write, NoMemory}
 
@@ -51,14 +55,18 @@ pub record IsRun (status : Status) (left left' written written' : Option (List �
   pub ends : Ends status octets out left'
   pub bound : length octets ≤ 2 ^ 30 + 1
 
--- The headline, over the events of the octets read, for every list of sealed packets.
+-- The headline, over the events of the octets read, for every list of sealed packets: nothing forged, and
+-- nothing else goes out; nothing twice; nothing within reach lost; no counter block sealed twice.
 pub record Headline (events : List Event) : Type 0 where
-  pub each_sealed : (sealed : List Sealed) → Unforged sealed events → EachOpeningIsSealed sealed events
+  pub each_sealed : (sealed : List Sealed) → AreSealed sealed → Unforged sealed events → EachOpeningIsSealed sealed events
+  pub highest : (sealed : List Sealed) → AreSealed sealed → Unforged sealed events → EachHighestIsSealed sealed events
   pub each_goes_out : EachOpeningGoesOut events
   pub only : OnlyOpeningsGoOut events
   pub none_twice : NoneTwice events
   pub none_twice_under_key : NoneTwiceUnderKey events
+  pub one_owner : KeysHaveOneOwner events
   pub each_put_out : (sealed : List Sealed) → AreSealed sealed → EachArrivingIsPutOut sealed events
+  pub no_block_twice : NoBlockTwice events
 
 -- Where the source's octets are a whole script in the grammar, the run handles it to its end, or memory is wanting.
 abbrev pub IsComplete : Status → Option (List ℕ) → Option (List ℕ) → Type 0

@@ -2,20 +2,19 @@
 
 ghost use Rattle.std.specs.Prelude.{◌≡◌, ◌≢◌, ◌≤◌, ◌^◌, ℕ, List, IsErrOf, IfOk, true};
 ghost use Rattle.sg_edge.specs.Told.{Rose, Tells};
-ghost use Rattle.sg_gateway.specs.RawEvents.{events_of, StandsFor};
-ghost use Rattle.sg_gateway.specs.RawReplayed.{said};
-ghost use Rattle.sg_gateway.specs.RawWorld.{World};
-ghost use Rattle.sg_run.specs.Played.{IsPlayed, status_at};
+ghost use Rattle.sg_gateway.specs.Events.{events_of};
+ghost use Rattle.sg_gateway.specs.Replayed.{said};
+ghost use Rattle.sg_gateway.specs.World.{World, empty};
+ghost use Rattle.sg_run.specs.Played.{IsPlayed, Says, status_at};
 ghost use Rattle.sg_run.specs.Run.{IsRun, text};
-ghost use Rattle.sg_script.specs.RawGives.{Gives};
 
 use crate::feed::Feed;
 use crate::line_reader::{Stop, next_line};
 use crate::status::Status;
 use sg_base::{Failed, NoMemory, Octets, ScriptFault};
 use sg_edge::{Sink, Source, write_all};
-use sg_gateway::RawTable;
-use sg_script::{Line, Outcome, ReadLineFault, print_outcome, read_raw_line};
+use sg_gateway::Gateway;
+use sg_script::{Line, Outcome, ReadLineFault, print_outcome, read_served_line};
 use std::alloc::Global;
 
 /// The octets of a script end within these.
@@ -28,8 +27,15 @@ enum Halt {
     NoMemory,
 }
 
-/// Handles the lines of the source in order, and writes their outcomes.
-pub fn replay<S: Source, K: Sink>(alloc: Global, source: &mut S, sink: &mut K) -> Status
+/// Has the gateway handle the lines of the source in order, and writes their outcomes. The gateway begins as
+/// the empty world.
+pub fn replay<G: Gateway, S: Source, K: Sink>(
+    alloc: Global,
+    gateway: &mut G,
+    source: &mut S,
+    sink: &mut K,
+) -> Status
+    requires { G.stands_for gateway.old empty }
     ensures ran { (octets out : List ℕ)
         × IsRun result (S.left source.old) (S.left source.new) (K.written sink.old) (K.written sink.new) octets out }
     ensures command { result ≢ Status.Usage }
@@ -39,7 +45,6 @@ pub fn replay<S: Source, K: Sink>(alloc: Global, source: &mut S, sink: &mut K) -
     ensures write_told { result ≡ Status.Write → Tells (K.failed sink.new) true }
 {
     let mut feed = Feed::new();
-    let mut table = RawTable::new();
     let mut line = Vec::new(alloc);
     let mut number: u64 = 1;
     let mut at: u64 = 0;
@@ -56,7 +61,7 @@ pub fn replay<S: Source, K: Sink>(alloc: Global, source: &mut S, sink: &mut K) -
             Err(error) => return refused(number, error),
             Ok(said) => said,
         };
-        match play(alloc, &mut table, said, sink) {
+        match play(alloc, gateway, said, sink) {
             Err(Halt::Write) => return Status::Write,
             Err(Halt::NoMemory) => return Status::NoMemory,
             Ok(()) => {}
@@ -69,23 +74,28 @@ pub fn replay<S: Source, K: Sink>(alloc: Global, source: &mut S, sink: &mut K) -
 /// The line of this number, which begins at this offset of the script.
 fn read_line_at(alloc: Global, number: u64, at: u64, line: &[u8]) -> Result<Line, ReadLineFault>
     requires { at ≤ 2 ^ 30 }
-    ensures { Gives events_of result (said number at line.now) }
+    ensures { Says result (said number at line.now) }
 {
     if line.len() as u64 > SCRIPT_MOST - at {
         return Err(ReadLineFault::Script(ScriptFault::Length));
     }
-    read_raw_line(alloc, number, line)
+    read_served_line(alloc, number, line)
 }
 
 /// Handles the events of a line, and writes the text of their outcomes.
-fn play<K: Sink>(alloc: Global, table: &mut RawTable, said: Line, sink: &mut K) -> Result<(), Halt>
-    ensures played { (w : World) → StandsFor table.old w
-        → IsPlayed result w (events_of said) table.new (K.written sink.old) (K.written sink.new) }
+fn play<G: Gateway, K: Sink>(
+    alloc: Global,
+    gateway: &mut G,
+    said: Line,
+    sink: &mut K,
+) -> Result<(), Halt>
+    ensures played { (w : World) → G.stands_for gateway.old w
+        → IsPlayed result w (events_of said) (G.stands_for gateway.new) (K.written sink.old) (K.written sink.new) }
     ensures later { K.faults sink.old ≤ K.faults sink.new }
     ensures write { IsErrOf result Halt.Write → Rose (K.faults sink.old) (K.faults sink.new) }
     ensures told { IsErrOf result Halt.Write → Tells (K.failed sink.new) true }
 {
-    let outcomes = match table.handle(alloc, said) {
+    let outcomes = match gateway.handle(alloc, said) {
         Err(NoMemory) => return Err(Halt::NoMemory),
         Ok(outcomes) => outcomes,
     };

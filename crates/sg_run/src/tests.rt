@@ -1,3 +1,5 @@
+mod calls;
+
 use crate::{Status, run};
 use sg_base::{Octets, ScriptFault};
 use sg_edge::{MemSink, MemSource};

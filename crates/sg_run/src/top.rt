@@ -2,13 +2,14 @@
 
 ghost use Rattle.std.specs.Prelude.{◌≡◌, ◌↔◌, false, true, ℕ, List};
 ghost use Rattle.sg_edge.specs.Told.{Rose, Tells};
-ghost use Rattle.sg_gateway.specs.RawReplayed.{replayed};
+ghost use Rattle.sg_gateway.specs.Replayed.{replayed};
 ghost use Rattle.sg_run.specs.Run.{IsRun, IsComplete, Headline};
 ghost use Rattle.sg_run.specs.Words.{IsNoCommand};
 
 use crate::replaying::replay;
 use crate::status::Status;
 use sg_edge::{Sink, Source};
+use sg_gateway::PlainTable;
 use std::alloc::Global;
 
 /// Runs the command that the words name over the source and the sink. The one command of now is
@@ -31,11 +32,15 @@ pub fn run<S: Source, K: Sink>(
     ensures write { result ≡ Status.Write → Rose (K.faults sink.old) (K.faults sink.new) }
     ensures write_told { result ≡ Status.Write → Tells (K.failed sink.new) true }
 {
-    sg_gateway::raw_headline();
+    sg_gateway::nothing_forged();
+    sg_gateway::nothing_twice();
+    sg_gateway::nothing_within_reach_lost();
+    sg_gateway::no_counter_block_twice();
     if !is_replay(words) {
         return Status::Usage;
     }
-    replay(alloc, source, sink)
+    let mut table = PlainTable::new(alloc);
+    replay(alloc, &mut table, source, sink)
 }
 
 fn is_replay(words: &[String]) -> bool

@@ -21,11 +21,11 @@ use Rattle.sg_script.proofs.Dense.{joined_lacks}
 use Rattle.sg_script.proofs.FieldLaws.{chosen}
 use Rattle.sg_script.proofs.LineLaws.{dense_line, line_takes}
 
-abbrev Keeps : {A : Type 0} → Result A ScriptFault → Type 0
+abbrev pub Keeps : {A : Type 0} → Result A ScriptFault → Type 0
 Keeps (Ok x) = Unit {0}
 Keeps (Err fault) = IsFieldFault fault
 
-bound : {A B : Type 0} (r : Result A ScriptFault) (f : A → Result B ScriptFault) → Keeps r → ((x : A) → Keeps (f x)) → Keeps (r >>= f)
+pub bound : {A B : Type 0} (r : Result A ScriptFault) (f : A → Result B ScriptFault) → Keeps r → ((x : A) → Keeps (f x)) → Keeps (r >>= f)
 bound (Ok x) f k next = next x
 bound (Err d) f k next = k
 
@@ -33,11 +33,11 @@ found : {A : Type 0} (d : ScriptFault) (o : Option A) → IsFieldFault d → Kee
 found d (Some x) k = tt
 found d None k = k
 
-either : {A : Type 0} (b : Bool) (x y : Result A ScriptFault) → Keeps x → Keeps y → Keeps (cond b x y)
+pub either : {A : Type 0} (b : Bool) (x y : Result A ScriptFault) → Keeps x → Keeps y → Keeps (cond b x y)
 either true x y p q = p
 either false x y p q = q
 
-number : (most : ℕ) (t : List ℕ) → Keeps (number_in most t)
+pub number : (most : ℕ) (t : List ℕ) → Keeps (number_in most t)
 number most t = found Number (number_at most t) tt
 
 call : (t : List ℕ) → Keeps (call_in t)
@@ -82,10 +82,17 @@ two w a =
     (either (bytes_eq w (codes "reject")) _ _ (bound (call_in a) _ (call a) (λ x. tt))
     (either (bytes_eq w (codes "bye")) _ _ (bound (call_in a) _ (call a) (λ x. tt)) tt))
 
+pub port : (t : List ℕ) → Keeps (port_in t)
+port t = number 65535 t
+
+pub datagram : (a b c : List ℕ) → Keeps (datagram_in a b c)
+unfolding datagram_in
+datagram a b c = bound (port_in a) _ (port a) (λ x. bound (address_in b) _ (address b) (λ y. bound (octets_in 0 4352 c) _ (octets 0 4352 c) (λ z. tt)))
+
 four : (w a b c : List ℕ) → Keeps (four_fields w a b c)
-unfolding four_fields datagram_in psk_in offer_secure_in answer_in
+unfolding four_fields psk_in offer_secure_in answer_in
 four w a b c =
-    either (bytes_eq w (codes "in")) _ _ (bound (port_in a) _ (number 65535 a) (λ x. bound (address_in b) _ (address b) (λ y. bound (octets_in 0 4352 c) _ (octets 0 4352 c) (λ z. tt))))
+    either (bytes_eq w (codes "in")) _ _ (datagram a b c)
     (either (bytes_eq w (codes "psk")) _ _ (bound (identity_in a) _ (identity a) (λ x. bound (identity_in b) _ (identity b) (λ y. bound (octets_in 16 64 c) _ (octets 16 64 c) (λ z. tt))))
     (either (bytes_eq w (codes "offer-secure")) _ _ (bound (call_in a) _ (call a) (λ x. bound (noise_in b) _ (noise b) (λ y. bound (octets_in 0 32768 c) _ (octets 0 32768 c) (λ z. tt))))
     (either (bytes_eq w (codes "answer")) _ _ (bound (call_in a) _ (call a) (λ x. bound (noise_in b) _ (noise b) (λ y. bound (octets_in 0 32768 c) _ (octets 0 32768 c) (λ z. tt)))) tt)))
@@ -117,14 +124,14 @@ more w a b c (d ∷ e ∷ f ∷ []) = tt
 more w a b c (d ∷ e ∷ f ∷ g ∷ []) = eight w a b c d e f g
 more w a b c (d ∷ e ∷ f ∷ g ∷ h ∷ fs) = tt
 
-said : (fs : List (List ℕ)) → Keeps (said_by fs)
+pub said : (fs : List (List ℕ)) → Keeps (said_by fs)
 said [] = tt
 said (w ∷ []) = tt
 said (w ∷ a ∷ []) = two w a
 said (w ∷ a ∷ b ∷ []) = tt
 said (w ∷ a ∷ b ∷ c ∷ fs) = more w a b c fs
 
-kept : {A : Type 0} (r : Result A ScriptFault) (d : ScriptFault) → Keeps r → r ≡ Err d → IsFieldFault d
+pub kept : {A : Type 0} (r : Result A ScriptFault) (d : ScriptFault) → Keeps r → r ≡ Err d → IsFieldFault d
 kept (Ok x) d k e = absurd cc
 kept (Err f) d k e = let same : f ≡ d = cc in subst IsFieldFault same k
 
@@ -135,7 +142,7 @@ said_fault fs fault e = kept (said_by fs) fault (said fs) e
 abbrev fails : ScriptFault → Result Line ScriptFault
 fails fault = Err fault
 
-header_not : (body : List ℕ) → header_in body ≡ Err Unended → ⊥
+pub header_not : (body : List ℕ) → header_in body ≡ Err Unended → ⊥
 header_not body e = elim (chosen (bytes_eq body (codes "srtpgw 1")) _ _ (Err Unended) e) [ inl p ↦ cc_line p.1 | inr p ↦ other p.1 ]
   where
     cc_line : Ok lines.Header ≡ fails Unended → ⊥
@@ -144,11 +151,11 @@ header_not body e = elim (chosen (bytes_eq body (codes "srtpgw 1")) _ _ (Err Une
     other : fails Version ≡ fails Unended → ⊥
     other e = cc
 
-not_is : (b : Bool) → not b ≡ true → b ≡ false
+pub not_is : (b : Bool) → not b ≡ true → b ≡ false
 not_is true e = absurd cc
 not_is false e = refl
 
-length_not : fails Length ≡ fails Unended → ⊥
+pub length_not : fails Length ≡ fails Unended → ⊥
 length_not e = cc
 
 -- a line of at most 70,000 octets is Unended where its last octet isn't a line end, and nowhere else

@@ -11,4 +11,5 @@ pub mod RawEnds
 pub mod RawLasts
 pub mod RawNumbers
 pub mod RawPairs
+pub mod ServedLaws
 pub mod Splits

@@ -9,3 +9,4 @@ pub mod RawFields
 pub mod RawGives
 pub mod RawLine
 pub mod ScriptLines
+pub mod ServedLine

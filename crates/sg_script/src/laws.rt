@@ -11,6 +11,8 @@ ghost use Rattle.sg_script.specs.LineText.{FitsLine, line_text};
 ghost use Rattle.sg_script.specs.OutcomeFields.{FitsOutcome};
 ghost use Rattle.sg_script.specs.OutcomeOf.{outcome_of};
 ghost use Rattle.sg_script.specs.OutcomeText.{outcome_line};
+ghost use Rattle.sg_script.specs.ScriptLines.{IsWhole, NoEnd};
+ghost use Rattle.sg_script.specs.ServedLine.{IsServed, served_line_of};
 ghost use Rattle.sg_script.specs.declared.outcomes.Outcome.{Outcome};
 
 /// What is spelled so is read, and what is read is spelled so; no line that fits is too long.
@@ -28,6 +30,26 @@ pub fn lines_are_framed()
     ensures unended { (number : ℕ) (octets : List ℕ) → (line_of number octets ≡ Err Unended) ↔ ((length octets ≤ 70000) × (is_ended octets ≡ false)) }
     ensures too_long { (number : ℕ) (octets : List ℕ) → 70000 < length octets → line_of number octets ≡ Err Length }
     ensures fields { (fields : List (List ℕ)) (fault : ScriptFault) → said_by fields ≡ Err fault → IsFieldFault fault }
+{}
+
+/// The lines that are served are lines of the grammar: what is read of them is what the whole grammar
+/// reads, and each line of the grammar that is served is read.
+pub fn served_lines_are_lines()
+    ensures takes { (number : ℕ) (octets : List ℕ) (l : Line) → served_line_of number octets ≡ Ok l → (line_of number octets ≡ Ok l) × IsServed number l }
+    ensures again { (number : ℕ) (octets : List ℕ) (l : Line) → line_of number octets ≡ Ok l → IsServed number l → served_line_of number octets ≡ Ok l }
+{}
+
+/// The frame of a line that is served: what is read is one whole line of at most 70,000 octets; Unended
+/// is told of octets without a line end alone; and what is told of such octets, other than that, stays
+/// whatever comes behind them.
+pub fn served_lines_are_framed()
+    ensures whole { (number : ℕ) (octets : List ℕ) (l : Line) → served_line_of number octets ≡ Ok l → IsWhole octets × (length octets ≤ 70000) }
+    ensures unended { (number : ℕ) (octets : List ℕ) → (served_line_of number octets ≡ Err Unended) ↔ ((length octets ≤ 70000) × (is_ended octets ≡ false)) }
+    ensures without_end { (number : ℕ) (octets : List ℕ) → NoEnd octets → length octets ≤ 70000 → served_line_of number octets ≡ Err Unended }
+    ensures with_end { (number : ℕ) (octets : List ℕ) → IsWhole octets → served_line_of number octets ≢ Err Unended }
+    ensures too_long { (number : ℕ) (octets : List ℕ) → 70000 < length octets → served_line_of number octets ≡ Err Length }
+    ensures stays { (number : ℕ) (octets : List ℕ) (more : List ℕ) (fault : ScriptFault) → NoEnd octets → served_line_of number octets ≡ Err fault → fault ≢ Unended
+        → served_line_of number (octets ++ more) ≡ Err fault }
 {}
 
 /// What is spelled so is read, in lines of at most 70,000 octets, and what is read is spelled so.

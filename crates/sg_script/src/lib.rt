@@ -14,10 +14,14 @@ mod raw_faults;
 mod raw_fields;
 mod raw_lines;
 mod reading;
+mod served_lines;
 #[cfg(test)]
 mod tests;
 
-pub use laws::{lines_are_framed, lines_have_one_spelling, outcomes_have_one_spelling};
+pub use laws::{
+    lines_are_framed, lines_have_one_spelling, outcomes_have_one_spelling, served_lines_are_framed,
+    served_lines_are_lines,
+};
 pub use line_printing::print_line;
 pub use lines::{Line, Signal};
 pub use outcome_reading::read_outcome;
@@ -26,3 +30,4 @@ pub use printing::print_outcome;
 pub use raw_faults::ReadLineFault;
 pub use raw_lines::read_raw_line;
 pub use reading::read_line;
+pub use served_lines::read_served_line;

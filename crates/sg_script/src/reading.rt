@@ -4,7 +4,7 @@ ghost use Rattle.std.specs.Prelude.{◌≡◌, ◌==◌, ◌≤◌, ◌++◌, �
 ghost use Rattle.sg_script.specs.Fields.{Gives};
 ghost use Rattle.sg_script.specs.LineText.{FitsLine, line_text};
 ghost use Rattle.sg_script.specs.declared.lines.Line.{Line};
-ghost use Rattle.sg_script.specs.LineOf.{answer_in, bye_in, datagram_in, eight_fields, fields_of, five_fields, four_fields, line_of, manual_in, more_fields, offer_mikey_in, offer_sdes_in, offer_secure_in, psk_in, reject_in, said_by, six_fields, tick_in, two_fields};
+ghost use Rattle.sg_script.specs.LineOf.{answer_in, bye_in, datagram_in, eight_fields, fields_of, five_fields, four_fields, header_in, line_of, manual_in, more_fields, offer_mikey_in, offer_sdes_in, offer_secure_in, psk_in, reject_in, said_by, six_fields, tick_in, two_fields};
 
 use crate::fields::{
     address, call, identity, is_raw, key, noise, number, octets, port, rollover, window,
@@ -20,7 +20,7 @@ const TEXT_MOST: usize = 32_768;
 const DATAGRAM_MOST: usize = 4_352;
 
 /// The most octets of a line, its end among them.
-const LINE_MOST: usize = 70_000;
+pub(crate) const LINE_MOST: usize = 70_000;
 
 const WORD: ReadLineFault = ReadLineFault::Script(ScriptFault::Word);
 
@@ -49,7 +49,12 @@ fn bye(text: &[u8]) -> Result<Line, ScriptFault>
 }
 
 #[tactic(auto, unfolding(crate::specs::LineOf::datagram_in))]
-fn datagram(alloc: Global, to: &[u8], from: &[u8], hex: &[u8]) -> Result<Line, ReadLineFault>
+pub(crate) fn datagram(
+    alloc: Global,
+    to: &[u8],
+    from: &[u8],
+    hex: &[u8],
+) -> Result<Line, ReadLineFault>
     ensures { Gives result (datagram_in to.now from.now hex.now) }
 {
     let port = port(to)?;
@@ -269,7 +274,7 @@ fn of_more(
 }
 
 /// The line of its fields, the first one the word.
-fn line_of_fields(alloc: Global, fields: &[&[u8]]) -> Result<Line, ReadLineFault>
+pub(crate) fn line_of_fields(alloc: Global, fields: &[&[u8]]) -> Result<Line, ReadLineFault>
     ensures { Gives result (said_by (map (λ x. x.now) fields.now)) }
 {
     match fields {
@@ -286,6 +291,16 @@ pub(crate) fn fields(alloc: Global, body: &[u8]) -> Result<Vec<&[u8]>, AllocErro
     body.split(|octet| *octet == b' ').collect(alloc)
 }
 
+/// The first line.
+pub(crate) fn header(body: &[u8]) -> Result<Line, ScriptFault>
+    ensures { result ≡ header_in body.now }
+{
+    if body != b"srtpgw 1".as_slice() {
+        return Err(ScriptFault::Version);
+    }
+    Ok(Line::Header)
+}
+
 #[tactic(auto, unfolding(crate::specs::LineOf::line_of))]
 fn line(alloc: Global, number: u64, octets: &[u8]) -> Result<Line, ReadLineFault>
     ensures { Gives result (line_of number octets.now) }
@@ -297,10 +312,7 @@ fn line(alloc: Global, number: u64, octets: &[u8]) -> Result<Line, ReadLineFault
         return Err(ReadLineFault::Script(ScriptFault::Unended));
     };
     if number == 1 {
-        if body != b"srtpgw 1".as_slice() {
-            return Err(ReadLineFault::Script(ScriptFault::Version));
-        }
-        return Ok(Line::Header);
+        return Ok(header(body)?);
     }
     let fields = fields(alloc, body)?;
     line_of_fields(alloc, &fields)

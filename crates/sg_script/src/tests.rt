@@ -1,2 +1,3 @@
 mod lines;
 mod outcomes;
+mod served;

@@ -1,4 +1,4 @@
-use Rattle.std.proofs.Common.{◌≡◌, ◌<◌, ◌≤◌, [], ◌∷◌, Some, length, arith, sym, ap, ◌∙◌}
+use Rattle.std.proofs.Common.{◌≡◌, ◌<◌, ◌≤◌, [], ◌∷◌, Some, sym, ap, ◌∙◌}
 use Rattle.std.specs.List.{AllByRecursion, flat_map}
 use Rattle.std.proofs.lemmas.List.Elements.{All-from_recursion}
 use Rattle.sg_gateway.proofs.Datagrams.{journal_kept}
@@ -6,7 +6,6 @@ use Rattle.sg_gateway.proofs.Reached.{ordered_after}
 use Rattle.sg_gateway.proofs.Kept.{IsKept, CallKept}
 use Rattle.sg_gateway.proofs.Orderly.{Ordered, AreNamed}
 use Rattle.sg_gateway.proofs.Pairs.{pairs_to, pairs_flat_map, each_two}
-use Rattle.sg_gateway.specs.Datagrams.{Entry}
 use Rattle.sg_gateway.specs.Generations.{sessions_from}
 use Rattle.sg_gateway.specs.Order.{IsBefore, DifferInName}
 use Rattle.sg_gateway.specs.Runs.{journal, world_after}

@@ -2,6 +2,7 @@ use Rattle.std.proofs.Common.{◌≡◌, ℕ, List, [], ◌∷◌, Ok}
 use Rattle.std.specs.List.{AllByRecursion, All, flat_map}
 use Rattle.std.proofs.lemmas.List.Elements.{All-from_recursion, recursion_from_All}
 use Rattle.sg_gateway.proofs.Datagrams.{every_turn, journal_kept}
+use Rattle.sg_gateway.proofs.GoesOut.{leaves_at}
 use Rattle.sg_gateway.proofs.Highest.{IsOfSealed, sealed_highest}
 use Rattle.sg_gateway.proofs.Kept.{IsKept}
 use Rattle.sg_gateway.proofs.OpenedAndPut.{openings_at, quiet_arrival}
@@ -9,7 +10,7 @@ use Rattle.sg_gateway.proofs.Signals.{signal_fits}
 use Rattle.sg_gateway.proofs.Sound.{sound_on, hand_sound}
 use Rattle.sg_gateway.specs.Datagrams.{Entry}
 use Rattle.sg_gateway.specs.Generations.{sessions_from}
-use Rattle.sg_gateway.specs.PeersPackets.{IsOpeningOf, OpeningsAreSealed, IsOutPlain}
+use Rattle.sg_gateway.specs.PeersPackets.{IsOpeningOf, OpeningsAreSealed, OpeningsGoOut, IsOutPlain}
 use Rattle.sg_gateway.specs.Ports.{call_at}
 use Rattle.sg_gateway.specs.Runs.{Turn, turn_of, turns, journal, world_after}
 use Rattle.sg_gateway.specs.Signals.{medium_by_hand}
@@ -33,13 +34,19 @@ returns-clause-sealed c = λ events sealed are unforged.
 abbrev Anything : Session → Type 0
 Anything s = Unit {0}
 
+pub returns-clause-goes_out : goal.returns-clause-goes_out
+returns-clause-goes_out c = λ events.
+    All-from_recursion OpeningsGoOut (turns events)
+    (every_turn IsSound sound_on hand_sound
+    (λ t. Unit {0}) OpeningsGoOut (λ past w e kept u. All-from_recursion _ _ (leaves_at w e)) events (each_of (λ t. Unit {0}) (λ t. tt) (turns events)))
+
 abbrev IsQuiet : Turn → Type 0
 IsQuiet t = AllByRecursion (λ e. e.session.owner.direction ≡ Sealing) t.entries → All (λ o. ¬ IsOutPlain o) t.outcomes
 
 quiet_at : (past : List Entry) (w : World) (e : Event) → IsKept Anything past w → IsQuiet (turn_of w e)
 quiet_at past w (Signalled signal) kept = λ none. All-from_recursion _ _
     (signal_fits Anything (λ h call generation n. each_of Anything (λ s. tt) (sessions_from call generation 0 n (Rattle.std.proofs.Common.Some (medium_by_hand h) ∷ []))) past w kept signal).0
-quiet_at past w (Datagram port from d) kept = λ none. All-from_recursion _ _ (quiet_arrival w port from d (call_at w port) none)
+quiet_at past w (Datagram port from d) kept = λ none. All-from_recursion _ _ (quiet_arrival w port from d.items (call_at w port) none)
 
 pub returns-clause-only : goal.returns-clause-only
 returns-clause-only c = λ events.

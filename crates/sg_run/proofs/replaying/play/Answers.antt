@@ -1,6 +1,6 @@
 use Rattle.std.proofs.Common.{◌≡◌, ℕ, List, ◌++◌, Option, ap, sym, ◌∙◌, subst, refl}
 use Rattle.sg_edge.specs.Told.{Wrote}
-use Rattle.sg_gateway.specs.RawEvents.{events_of, outcomes_from}
+use Rattle.sg_gateway.specs.Events.{events_of, outcomes_from}
 use Rattle.sg_run.specs.Run.{output_from, text}
 use Rattle.sg_run.proofs.Goes.{output_from_is}
 use Rattle.sg_run.proofs.replaying.play.Goals as goal

@@ -1,24 +1,22 @@
-use Rattle.std.proofs.Common.{◌≡◌, ◌<◌, ◌≤◌, ◌+◌, ◌-◌, ◌^◌, ℕ, Bool, true, false, List, [], ◌∷◌, ◌++◌, length, Option, Some, None, Result, Ok, Err, ap, sym, ◌∙◌, subst, refl, arith, inl, inr, ◌⊎◌, length-append}
-use Rattle.sg_gateway.specs.RawStep.{Event}
+use Rattle.std.proofs.Common.{rules, ◌≡◌, ◌<◌, ◌≤◌, ◌+◌, ◌-◌, ◌^◌, ℕ, Bool, true, false, List, [], ◌∷◌, ◌++◌, length, Option, Some, None, Result, Ok, Err, ap, sym, ◌∙◌, subst, refl, arith, inl, inr, ◌⊎◌, length-append}
+use Rattle.sg_gateway.specs.Step.{Event}
 use Rattle.sg_base.specs.declared.faults.ScriptFault.TheVariants.{Unended}
 use Rattle.sg_edge.specs.Told.{TookIn, Wrote}
 use Rattle.sg_edge.proofs.Passed.{wrote_more}
-use Rattle.sg_gateway.specs.RawRuns.{world_after}
-use Rattle.sg_gateway.specs.RawWorld.{World, empty}
-use Rattle.sg_script.specs.declared.raw_faults.ReadLineFault.{ReadLineFault}
-use Rattle.sg_script.specs.declared.raw_faults.ReadLineFault.TheVariants.{Script as AScript, NoMemory as ANoMemory}
+use Rattle.sg_gateway.specs.Runs.{world_after}
+use Rattle.sg_gateway.specs.World.{World, empty}
+use Rattle.sg_script.specs.declared.ReadLineFault.{ReadLineFault}
+use Rattle.sg_script.specs.declared.ReadLineFault.TheVariants.{Script as AScript, NoMemory as ANoMemory}
 use Rattle.sg_run.specs.declared.line_reader.Stop.{Stop}
 use Rattle.sg_run.specs.Fed.{GivesLine, IsLine}
-use Rattle.sg_gateway.specs.RawReplayed.{said as says}
-use Rattle.sg_run.specs.Played.{status_at}
-use Rattle.sg_gateway.specs.RawReplayed.{replayed}
+use Rattle.sg_gateway.specs.Replayed.{said as says}
+use Rattle.sg_run.specs.Played.{Says, status_at}
+use Rattle.sg_gateway.specs.Replayed.{replayed}
 use Rattle.sg_edge.specs.Told.{AtEnd}
 use Rattle.sg_run.specs.Run.{IsRun, IsPrefixOf, Ends, output, output_from}
-use Rattle.sg_script.specs.RawGives.{Gives}
-use Rattle.sg_gateway.specs.RawEvents.{StandsFor as Stands}
 use Rattle.sg_run.proofs.Goes.{IsGoing, bounded, took_all, is_front, at_end, at_fault, at_fault_still, after, in_part, world_after-append, whole_some}
-use Rattle.sg_gateway.specs.RawEvents.{events_of}
-use Rattle.sg_gateway.proofs.RawSayings.{said_whole, unended_at_end}
+use Rattle.sg_gateway.specs.Events.{events_of}
+use Rattle.sg_gateway.proofs.Sayings.{said_whole, unended_at_end}
 use Rattle.sg_script.specs.declared.lines.Line.{Line}
 use Rattle.sg_run.proofs.replaying.replay.Goals as goal
 
@@ -83,7 +81,7 @@ ended_so n at line rest left budget is spent said =
     end_so last.1 (λ zero. let far = spent zero last.0 in let near = last.2 in omega (arith, far, near))
 
 -- at an error of a line
-ends_so : (n at : ℕ) (error : ReadLineFault) (line rest octets out : List ℕ) (left : Option (List ℕ)) (budget : ℕ) → IsLine line rest left budget → (budget ≡ 0 → rest ≡ [] → 2 ^ 30 < at + length line) → Gives events_of (Err error) (says n at line)
+ends_so : (n at : ℕ) (error : ReadLineFault) (line rest octets out : List ℕ) (left : Option (List ℕ)) (budget : ℕ) → IsLine line rest left budget → (budget ≡ 0 → rest ≡ [] → 2 ^ 30 < at + length line) → Says (Err error) (says n at line)
     → ((f : _) → says n at line ≡ Err f → ((replayed octets).fault ≡ Some (n, f)) × (out ≡ output (replayed octets).events))
     → ((f : _) → says n at line ≡ Err f → ¬ (f ≡ Unended) → (more : List ℕ) → (replayed (octets ++ more)).fault ≡ Some (n, f))
     → IsPrefixOf out (output (replayed octets).events) → Ends (status_at n error) octets out left
@@ -108,7 +106,7 @@ returns-in-Err-clause-ran g c =
         ends = subst (λ s. Ends s octets (output so_far.1) (g.S.Source.left c.next_line.new.source)) (sym c.refused.ensures)
             (ends_so c.lines.number c.lines.at c.in-Err.error line c.next_line.new.feed octets (output so_far.1) (g.S.Source.left c.next_line.new.source) c.next_line.new.budget given.1
             (λ zero none. omega (arith, zero, got.3, c.lines.invariant.1, length-append c.lines.feed got.0, ap length given.0, length-append line c.next_line.new.feed, ap length none))
-            (subst (λ (l : List ℕ). Gives events_of (Err c.in-Err.error) (says c.lines.number c.lines.at l)) c.deref.ensures.value c.in-Err.ensures)
+            (subst (λ (l : List ℕ). Says (Err c.in-Err.error) (says c.lines.number c.lines.at l)) c.deref.ensures.value c.in-Err.ensures)
             (λ f fails. at_fault _ _ _ _ _ so_far.0 c.lines.feed so_far.1 _ _ so_far.2 got.0 got.1 line c.next_line.new.feed given.0 c.next_line.new.budget f given.1 fails)
             (λ f fails. at_fault_still _ _ _ _ _ so_far.0 c.lines.feed so_far.1 _ _ so_far.2 got.0 got.1 line c.next_line.new.feed given.0 c.next_line.new.budget f given.1 fails)
             (is_front _ _ _ _ _ so_far.0 c.lines.feed so_far.1 _ _ so_far.2 got.0 got.1));
@@ -186,11 +184,24 @@ lines-preserved g c =
         so_far.1 ++ events_of c.in-Ok.said,
         subst (λ (n : ℕ). IsGoing (g.S.Source.left c.args.source.now) (g.S.Source.left c.next_line.new.source) (g.K.Sink.written c.args.sink.now) (g.K.Sink.written c.play.new.sink) (so_far.0 ++ line) c.next_line.new.feed (so_far.1 ++ events_of c.in-Ok.said) (c.lines.number + 1) (c.lines.at + n)) (sym long) going,
         omega (arith, so_far.3, long, length-append so_far.0 line),
-        subst (Stands c.play.new.table) (sym (world_after-append empty so_far.1 (events_of c.in-Ok.said))) played.1,
+        subst (g.G.Gateway.stands_for c.play.new.gateway) (sym (world_after-append empty so_far.1 (events_of c.in-Ok.said))) played.1,
       ),
       omega (arith, long, got.3, c.lines.invariant.1, length-append c.lines.feed got.0, ap length given.0, length-append line c.next_line.new.feed),
       omega (arith, some, long, c.lines.invariant.2),
       omega (arith, whole.1, long),
       omega (arith, c.lines.invariant.4, c.next_line.ensures.later),
       omega (arith, c.lines.invariant.5, c.play.ensures.later),
+    )
+
+-- nothing is read, handled or written yet
+pub lines-init : goal.lines-init
+lines-init g c =
+    let taken : List ℕ = [] in
+    let es : List Event = [] in (
+      (taken, es, record { took = search rules; wrote = search rules; goes = λ rest. refl }, search rules, c.requires),
+      search rules,
+      search rules,
+      search rules,
+      search rules,
+      search rules,
     )

@@ -1,4 +1,4 @@
-use Rattle.sg_gateway.specs.RawReplayed.{replayed}
+use Rattle.sg_gateway.specs.Replayed.{replayed}
 use Rattle.sg_run.specs.Run.{Headline}
 use Rattle.sg_run.proofs.Complete.{complete}
 use Rattle.sg_run.proofs.top.run.Goals as goal
@@ -11,12 +11,15 @@ returns-clause-ran g c =
       ran.1,
       ran.2,
       record {
-        each_sealed = c.raw_headline.ensures.sealed events;
-        each_goes_out = c.raw_headline.ensures.goes_out events;
-        only = c.raw_headline.ensures.only events;
-        none_twice = c.raw_headline.ensures.session events;
-        none_twice_under_key = c.raw_headline.ensures.key events;
-        each_put_out = c.raw_headline.ensures.put_out events;
+        each_sealed = c.nothing_forged.ensures.sealed events;
+        highest = c.nothing_forged.ensures.highest events;
+        each_goes_out = c.nothing_forged.ensures.goes_out events;
+        only = c.nothing_forged.ensures.only events;
+        none_twice = c.nothing_twice.ensures.session events;
+        none_twice_under_key = c.nothing_twice.ensures.key events;
+        one_owner = c.nothing_twice.ensures.owner events;
+        each_put_out = c.nothing_within_reach_lost.ensures events;
+        no_block_twice = c.no_counter_block_twice.ensures events;
       },
     )
 

@@ -1,0 +1,214 @@
+//! A call that is keyed by hand: its keys and its sessions.
+
+ghost use Rattle.std.specs.Prelude.{◌≡◌, ◌≤◌, ◌++◌, true, false, [], ◌∷◌, Some, IfOk, OnOk};
+ghost use Rattle.sg_kdf.specs.SessionKeys.{is_raw};
+ghost use Rattle.sg_gateway.specs.Generations.{keys_from, owner_at, sessions_from};
+ghost use Rattle.sg_gateway.specs.Plain.{session_by_hand, sessions_by_hand};
+ghost use Rattle.sg_gateway.specs.Signals.{medium_by_hand};
+
+use sg_base::{Address, CallId, Kind, MasterKey, NoMemory, Octets, Suite};
+use sg_session::plain::{InstalledKey, PlainKey, PlainSession};
+use sg_session::{Admit, Direction, Name, Owner};
+use std::alloc::Global;
+use std::marker::Model;
+
+/// How many RTP packets a master key serves: 2^48 (RFC 3711, 9.2).
+const RTP_LIFE: u64 = 281474976710656;
+
+/// How many SRTCP packets a master key serves: 2^31 (RFC 3711, 9.2).
+const RTCP_LIFE: u64 = 2147483648;
+
+/// The octets of an SRTCP tag in every suite (RFC 4568, 6.2).
+const RTCP_TAG: usize = 10;
+
+/// The window of a sealing session, in packets.
+const SEALING_WINDOW: u16 = 1024;
+
+/// What a line says of a call that is keyed by hand, seen as the definition's record.
+#[derive(Drop)]
+pub struct Hand {
+    id: CallId,
+    secure: Address,
+    plain: Address,
+    roc: u32,
+    window: u16,
+    from_peer: MasterKey,
+    to_peer: MasterKey,
+}
+
+impl Model for Hand {
+    ghost use Rattle.sg_gateway.specs.Signals.{ByHand};
+
+    ghost Value = { ByHand };
+
+    ghost view = { λ h. record {
+      id = h.id;
+      secure = h.secure;
+      plain = h.plain;
+      roc = h.roc;
+      window = h.window;
+      from_peer = h.from_peer;
+      to_peer = h.to_peer;
+    } };
+}
+
+impl Hand {
+    /// What the line says.
+    pub fn new(
+        id: CallId,
+        secure: Address,
+        plain: Address,
+        roc: u32,
+        window: u16,
+        from_peer: MasterKey,
+        to_peer: MasterKey,
+    ) -> Hand
+        ensures { result ≡ record { id = id; secure = secure; plain = plain; roc = roc; window = window; from_peer = from_peer; to_peer = to_peer } }
+    {
+        Hand {
+            id,
+            secure,
+            plain,
+            roc,
+            window,
+            from_peer,
+            to_peer,
+        }
+    }
+
+    /// The call's id.
+    pub fn id(&self) -> CallId
+        ensures { result ≡ self.now.id }
+    {
+        self.id
+    }
+
+    /// The keys that come into use with the call of this serial number.
+    pub fn keys(&self, alloc: Global, call: u64) -> Result<Vec<InstalledKey>, NoMemory>
+        ensures { IfOk result (λ keys. keys.items ≡ keys_from call 0 0 (Some (medium_by_hand self.now) ∷ [])) }
+    {
+        let mut keys = Vec::new(alloc);
+        keys.push(InstalledKey::new(self.from_peer.again(), owner_at(call, Direction::Opening)))?;
+        keys.push(InstalledKey::new(self.to_peer.again(), owner_at(call, Direction::Sealing)))?;
+        Ok(keys)
+    }
+
+    /// The sessions of the call of this serial number, whose keys have the two numbers from `number` on.
+    pub fn sessions(
+        &self,
+        alloc: Global,
+        call: u64,
+        number: u32,
+    ) -> Result<Vec<PlainSession>, NoMemory>
+        requires { number ≤ 65536 }
+        ensures value { IfOk result (λ ss. ss.items ≡ sessions_from call 0 0 number (Some (medium_by_hand self.now) ∷ [])) }
+    {
+        let mut sessions = Vec::new(alloc);
+        let opening = owner_at(call, Direction::Opening);
+        let sealing = owner_at(call, Direction::Sealing);
+        let window = self.window.clamp(64, 1024);
+        self.add(
+            alloc,
+            &mut sessions,
+            opening,
+            number,
+            &self.from_peer,
+            window,
+        )?;
+        self.add(
+            alloc,
+            &mut sessions,
+            sealing,
+            number + 1,
+            &self.to_peer,
+            SEALING_WINDOW,
+        )?;
+        Ok(sessions)
+    }
+
+    /// Adds the sessions of what one side sends: RTP, and RTCP where there is some.
+    fn add(
+        &self,
+        alloc: Global,
+        sessions: &mut Vec<PlainSession>,
+        owner: Owner,
+        number: u32,
+        master: &MasterKey,
+        window: u16,
+    ) -> Result<(), NoMemory>
+        requires { (medium_by_hand self.now).has_rtcp ≡ true → is_raw master.now.suite ≡ false }
+        ensures { OnOk result (sessions.new.items ≡ sessions.old.items ++ sessions_by_hand self.now owner number master.now window) }
+    {
+        let rtp = self.session(alloc, owner, Kind::Rtp, number, master, window)?;
+        sessions.push(rtp)?;
+        if self.has_rtcp() {
+            let rtcp = self.session(alloc, owner, Kind::Rtcp, number, master, window)?;
+            sessions.push(rtcp)?;
+        }
+        Ok(())
+    }
+
+    /// Whether there is RTCP: not under raw keys, nor where no port follows the RTP port of a side.
+    fn has_rtcp(&self) -> bool
+        ensures { result ≡ (medium_by_hand self.now).has_rtcp }
+    {
+        let secret = !is_raw(self.from_peer.suite()) && !is_raw(self.to_peer.suite());
+        secret && self.secure.port < 65535 && self.plain.port < 65535
+    }
+
+    /// The session of one kind of what one side sends, with nothing done.
+    fn session(
+        &self,
+        alloc: Global,
+        owner: Owner,
+        kind: Kind,
+        number: u32,
+        master: &MasterKey,
+        window: u16,
+    ) -> Result<PlainSession, NoMemory>
+        requires { kind ≡ Kind.Rtcp → is_raw master.now.suite ≡ false }
+        ensures { IfOk result (λ s. s ≡ session_by_hand self.now owner kind number master.now window) }
+    {
+        let suite = master.suite();
+        let (life, encrypts, tag_len) = match kind {
+            Kind::Rtp => (RTP_LIFE, !is_raw(suite), suite.tag_len()),
+            Kind::Rtcp => (RTCP_LIFE, true, RTCP_TAG),
+        };
+        let mut keys = Vec::new(alloc);
+        let no_mki = Octets::from_vec(Vec::new(alloc));
+        keys.push(PlainKey::new(number, master.again(), no_mki, life))?;
+        Ok(PlainSession::new(
+            alloc,
+            Name { owner, kind },
+            keys,
+            self.roc,
+            window,
+            Admit::Any,
+            encrypts,
+            tag_len,
+            self.secure,
+            self.plain,
+        ))
+    }
+}
+
+fn is_raw(suite: Suite) -> bool
+    ensures { result ≡ is_raw suite }
+{
+    match suite {
+        Suite::Raw80 => true,
+        _other => false,
+    }
+}
+
+/// The owner of the keys of the one medium in the first generation.
+fn owner_at(call: u64, direction: Direction) -> Owner
+    ensures { result ≡ owner_at call 0 0 direction }
+{
+    Owner {
+        call,
+        medium: 0,
+        generation: 0,
+        direction,
+    }
+}
