@@ -7,9 +7,5 @@ pub mod Lengths
 pub mod LineLaws
 pub mod NameLaws
 pub mod OutcomeLaws
-pub mod RawEnds
-pub mod RawLasts
-pub mod RawNumbers
-pub mod RawPairs
 pub mod ServedLaws
 pub mod Splits

@@ -20,7 +20,7 @@ use Rattle.sg_base.specs.Fields.{Lacks, address_text}
 use Rattle.sg_base.proofs.FourNumbers.{decimal_lacks}
 use Rattle.sg_script.specs.declared.outcomes.Outcome.{Outcome}
 use Rattle.sg_script.specs.declared.outcomes.Outcome.TheVariants.{Made, Live, Sdp, Refused, Ended, Out, Dropped, Unsent}
-use Rattle.sg_script.specs.declared.raw_faults.ReadLineFault.{ReadLineFault}
+use Rattle.sg_script.specs.declared.faults.ReadLineFault.{ReadLineFault}
 use Rattle.sg_script.specs.Fields.{Gives, or_fault, call_in, port_in, address_in, hex_in}
 use Rattle.sg_script.specs.LineOf.{fields_of, body_of, is_ended}
 use Rattle.sg_script.specs.OutcomeText.{hex_text, drop_cause_name, drop_cause_numbers, psk_fault_text, refusal_text, call_text, outcome_line}

@@ -10,7 +10,7 @@ use Rattle.sg_base.specs.Fields.{Lacks, address_text}
 use Rattle.sg_script.specs.declared.lines.Line.{Line}
 use Rattle.sg_script.specs.declared.lines.Line.TheVariants as lines
 use Rattle.sg_script.specs.declared.lines.Signal.TheVariants.{Tick, Psk, Manual, OfferSecure, OfferSdes, OfferMikey, Answer, Reject, Bye}
-use Rattle.sg_script.specs.declared.raw_faults.ReadLineFault.{ReadLineFault}
+use Rattle.sg_script.specs.declared.faults.ReadLineFault.{ReadLineFault}
 use Rattle.sg_script.specs.Fields.{Gives, port_in, address_in, octets_in}
 use Rattle.sg_script.specs.LineOf.{datagram_in, four_fields, said_by, fields_of, body_of, is_ended, header_in, line_of}
 use Rattle.sg_script.specs.LineText.{line_fields, line_text, FitsLine}

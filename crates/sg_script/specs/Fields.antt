@@ -15,8 +15,8 @@ use Rattle.sg_base.specs.Identities.{is_printing}
 use Rattle.sg_base.specs.Keys.{Master, master_of}
 use Rattle.sg_base.specs.Suites.{key_len_of, salt_len_of}
 use Rattle.sg_base.specs.SuiteNames.{suite_at}
-use Rattle.sg_script.specs.declared.raw_faults.ReadLineFault.{ReadLineFault}
-use Rattle.sg_script.specs.declared.raw_faults.ReadLineFault.TheVariants as errors
+use Rattle.sg_script.specs.declared.faults.ReadLineFault.{ReadLineFault}
+use Rattle.sg_script.specs.declared.faults.ReadLineFault.TheVariants as errors
 
 infixl 10 ◌>>=◌
 abbrev pub ◌>>=◌ : {A B : Type 0} → Result A ScriptFault → (A → Result B ScriptFault) → Result B ScriptFault

@@ -5,8 +5,5 @@ pub mod LineText
 pub mod OutcomeFields
 pub mod OutcomeOf
 pub mod OutcomeText
-pub mod RawFields
-pub mod RawGives
-pub mod RawLine
 pub mod ScriptLines
 pub mod ServedLine

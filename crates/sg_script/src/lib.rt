@@ -2,6 +2,7 @@
 #![tactic(auto)]
 
 mod causes;
+mod faults;
 mod fields;
 mod laws;
 mod line_printing;
@@ -10,14 +11,12 @@ mod outcome_names;
 mod outcome_reading;
 mod outcomes;
 mod printing;
-mod raw_faults;
-mod raw_fields;
-mod raw_lines;
 mod reading;
 mod served_lines;
 #[cfg(test)]
 mod tests;
 
+pub use faults::ReadLineFault;
 pub use laws::{
     lines_are_framed, lines_have_one_spelling, outcomes_have_one_spelling, served_lines_are_framed,
     served_lines_are_lines,
@@ -27,7 +26,5 @@ pub use lines::{Line, Signal};
 pub use outcome_reading::read_outcome;
 pub use outcomes::{Outcome, Why};
 pub use printing::print_outcome;
-pub use raw_faults::ReadLineFault;
-pub use raw_lines::read_raw_line;
 pub use reading::read_line;
 pub use served_lines::read_served_line;

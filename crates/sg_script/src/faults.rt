@@ -1,6 +1,6 @@
 //! What a reader of lines may answer in place of a line.
 
-ghost use Rattle.sg_script.specs.declared.raw_faults.ReadLineFault.TheVariants.{NoMemory, Script};
+ghost use Rattle.sg_script.specs.declared.faults.ReadLineFault.TheVariants.{NoMemory, Script};
 ghost use Rattle.std.specs.Prelude.{◌≡◌};
 
 use sg_base::ScriptFault;
