@@ -1,3 +1,4 @@
 pub mod Complete
 pub mod Feeds
 pub mod Goes
+pub mod LineParts
