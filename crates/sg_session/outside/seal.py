@@ -61,6 +61,11 @@ def srtcp(master, index, packet, mki=b"", on=True):
     return sealed + mki + code(master, 3, sealed)[:10]
 
 
+def raw(key, rollover, packet):
+    """This project's form for tests: the key is the authentication key itself, and nothing is encrypted."""
+    return packet + hmac.new(key, packet + rollover.to_bytes(4, "big"), hashlib.sha1).digest()[:10]
+
+
 def rtp(number, ssrc=0xCAFEBABE, first="800f", rest="", body="ab" * 16):
     head = bytes.fromhex(first) + number.to_bytes(2, "big") + bytes.fromhex("decafbad") + ssrc.to_bytes(4, "big")
     return head + bytes.fromhex(rest + body)
@@ -84,6 +89,7 @@ def main():
     row("large4mki", rtp(0xFFFF), srtp(LARGE, 2, rtp(0xFFFF), 4, bytes.fromhex("0102030405")))
     row("large", rtp(7, body=""), srtp(LARGE, 0, rtp(7, body="")))
     row("clear", rtp(0x1234), srtp(SMALL, 3, rtp(0x1234), on=False))
+    row("raw", rtp(1), raw(bytes(range(20)), 5, rtp(1)))
     for name, master in (("rtcp", SMALL), ("rtcp_middle", MIDDLE), ("rtcp_large", LARGE)):
         for index in (0, 1):
             row(name, rtcp(), srtcp(master, index, rtcp(), mki if master == MIDDLE else b""))

@@ -1,10 +1,11 @@
 //! Sealed packets of a program that was written from RFC 3711's text (`outside/seal.py`, over another library's
 //! AES and HMAC-SHA-1), both ways: a session seals the packets as those datagrams, and another opens them.
 
+use crate::plain::PlainKey;
 use crate::test_help::{
-    KeyRow, LARGE, MIDDLE, ONE_KEY, RTCP, RTP, Rules, SMALL, opens, seals, session,
+    KeyRow, LARGE, MIDDLE, RTCP, RTP, Rules, SMALL, clear_session, octets_of, opens, seals, session,
 };
-use sg_base::Suite;
+use sg_base::{MasterKey, Suite};
 use std::alloc::Global;
 use std::process::Abort;
 use std::test::Fail;
@@ -204,4 +205,21 @@ fn rtcp_both_ways(rt: HostRuntime) -> Result<(), Fail> {
         )],
     )?;
     Ok(())
+}
+
+#[test]
+fn under_a_raw_key(rt: HostRuntime) -> Result<(), Fail> {
+    let alloc = rt.alloc();
+    let octets = octets_of(alloc, "000102030405060708090a0b0c0d0e0f10111213")?;
+    let master = MasterKey::new(Suite::Raw80, octets.as_slice()).ok_or("length")?;
+    let mut keys = Vec::new(alloc);
+    keys.push(PlainKey::new(0, master, octets_of(alloc, "")?, 10))?;
+    let mut opening = clear_session(alloc, keys);
+    opens(
+        &rt,
+        alloc,
+        &mut opening,
+        "800f0001decafbadcafebabeabababababababababababababababab49429d9af2520da29b10",
+        Ok("800f0001decafbadcafebabeabababababababababababababababab"),
+    )
 }

@@ -86,6 +86,18 @@ fn keys_of(rt: &impl Abort, alloc: Global, rows: &[KeyRow]) -> Result<Vec<PlainK
     Ok(keys)
 }
 
+const OWNER: Owner = Owner {
+    call: 0,
+    medium: 0,
+    generation: 0,
+    direction: Direction::Opening,
+};
+
+const ADDRESS: Address = Address {
+    ip: [192, 0, 2, 1],
+    port: 5004,
+};
+
 /// A session of these keys with a window of 64.
 pub fn session(
     rt: &impl Abort,
@@ -94,30 +106,37 @@ pub fn session(
     rows: &[KeyRow],
 ) -> Result<PlainSession, Fail> {
     let keys = keys_of(rt, alloc, rows)?;
-    let owner = Owner {
-        call: 0,
-        medium: 0,
-        generation: 0,
-        direction: Direction::Opening,
-    };
     let kind = rules.kind;
-    let address = Address {
-        ip: [192, 0, 2, 1],
-        port: 5004,
-    };
     assert!(rt; rules.tag_len <= 10);
     Ok(PlainSession::new(
         alloc,
-        Name { owner, kind },
+        Name { owner: OWNER, kind },
         keys,
         rules.roc,
         64,
         rules.admit,
         rules.encrypts,
         rules.tag_len,
-        address,
-        address,
+        ADDRESS,
+        ADDRESS,
     ))
+}
+
+/// RTP from rollover 5 that nobody encrypts, with tags of 10 octets.
+pub fn clear_session(alloc: Global, keys: Vec<PlainKey>) -> PlainSession {
+    let kind = Kind::Rtp;
+    PlainSession::new(
+        alloc,
+        Name { owner: OWNER, kind },
+        keys,
+        5,
+        64,
+        Admit::Any,
+        false,
+        10,
+        ADDRESS,
+        ADDRESS,
+    )
 }
 
 /// Opens the datagram and compares the packet, or the cause.
