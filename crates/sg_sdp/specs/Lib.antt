@@ -1,0 +1,6 @@
+pub mod Addresses
+pub mod Carrying
+pub mod Descriptions
+pub mod LineForm
+pub mod Parts
+pub mod Reading
