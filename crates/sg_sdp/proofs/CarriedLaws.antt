@@ -25,7 +25,7 @@ pub starts_not : (c d : ℕ) (l : List ℕ) → is_letter c l ≡ false → star
 starts_not c d [] other = refl
 starts_not c d (x ∷ l) other = rw (ne_eqb c x (λ e. eqb-false x c other (sym e))) refl
 
-letter_differs : (c k : ℕ) (l : List ℕ) → is_letter c l ≡ true → (c ≡ k → ⊥) → is_letter k l ≡ false
+pub letter_differs : (c k : ℕ) (l : List ℕ) → is_letter c l ≡ true → (c ≡ k → ⊥) → is_letter k l ≡ false
 letter_differs c k l is other = ne_eqb (slice_index l 0) k (λ e. other (sym (eqb-true (slice_index l 0) c is) ∙ e))
 
 -- a line of another letter than a is on both sides
@@ -76,8 +76,14 @@ front_kept (v ∷ []) front = absurd front
 front_kept (v ∷ o ∷ []) front = absurd front
 front_kept (v ∷ o ∷ s ∷ rest) front =
     let version : is_letter 118 v ≡ true = rw front.0 refl in
-    rw (two_sided_unless v (letter_differs 118 97 v version (λ e. omega (arith, e))), two_sided_unless o (letter_differs 111 97 o front.1 (λ e. omega (arith, e))), two_sided_unless s (letter_differs 115 97 s front.2 (λ e. omega (arith, e))),
-        same_unless v (letter_differs 118 99 v version (λ e. omega (arith, e))), same_unless o (letter_differs 111 99 o front.1 (λ e. omega (arith, e))), same_unless s (letter_differs 115 99 s front.2 (λ e. omega (arith, e)))) front
+    rw (
+      two_sided_unless v (letter_differs 118 97 v version (λ e. omega (arith, e))),
+      two_sided_unless o (letter_differs 111 97 o front.1 (λ e. omega (arith, e))),
+      two_sided_unless s (letter_differs 115 97 s front.2 (λ e. omega (arith, e))),
+      same_unless v (letter_differs 118 99 v version (λ e. omega (arith, e))),
+      same_unless o (letter_differs 111 99 o front.1 (λ e. omega (arith, e))),
+      same_unless s (letter_differs 115 99 s front.2 (λ e. omega (arith, e))),
+    ) front
 
 -- ---- media
 
@@ -141,9 +147,10 @@ unfolding carried_medium
 media_two_sided [] ps ms = tt
 media_two_sided (port ∷ ports) [] ms = tt
 media_two_sided (port ∷ ports) (p ∷ ps) [] = tt
-media_two_sided (port ∷ ports) (p ∷ ps) (m ∷ ms) =
-    (two_sided_unless (medium_line (carried_medium port p m)) refl,
-     all_append TwoSided (carried_lines m.lines) (flat_map medium_lines (carried_media ports ps ms)) (lines_two_sided m.lines) (media_two_sided ports ps ms))
+media_two_sided (port ∷ ports) (p ∷ ps) (m ∷ ms) = (
+  two_sided_unless (medium_line (carried_medium port p m)) refl,
+  all_append TwoSided (carried_lines m.lines) (flat_map medium_lines (carried_media ports ps ms)) (lines_two_sided m.lines) (media_two_sided ports ps ms),
+)
 
 pub carried_two_sided : (ports : List ℕ) (ps : List Profile) (s : Sdp) → AllByRecursion TwoSided (all_lines (carried ports ps s))
 carried_two_sided ports ps s =

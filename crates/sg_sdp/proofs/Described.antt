@@ -10,7 +10,8 @@ use Rattle.sg_sdp.specs.declared.medium.Medium.{Medium}
 use Rattle.sg_sdp.specs.declared.sdp.Sdp.{Sdp}
 use Rattle.sg_sdp.specs.Addresses.{addressed, first_address, medium_address, with_address}
 use Rattle.sg_sdp.specs.Descriptions.{HasFront, IsAddressed, IsMedium, IsSdp, IsShort, IsWithinLimits, Spells, all_lines, medium_lines, spelling}
-use Rattle.sg_sdp.specs.Reading.{Fault, Gives, description_of, description_within, lines_of}
+use Rattle.sg_sdp.specs.Faults.{Fault}
+use Rattle.sg_sdp.specs.Reading.{Gives, description_of, description_within, lines_of}
 use Rattle.sg_sdp.proofs.Cases.{bind_ok, chosen, err_ok, ok_is}
 use Rattle.sg_sdp.proofs.Fronts.{front_takes}
 use Rattle.sg_sdp.proofs.Prints.{spells_again}
@@ -38,8 +39,13 @@ each_addressed session (m ∷ ms) = (refl, each_addressed session ms)
 -- with its addresses it is a description
 pub addressed_is : (s : Sdp) → Good s → HasFront s.session → IsSdp (addressed s)
 addressed_is s good front =
-    record { front = front; session = good.session; media = media_addressed (first_address s.session) s.media good.media;
-      few = omega (arith, length-map s.media (with_address (first_address s.session)), good.few); addresses = each_addressed s.session s.media }
+    record {
+      front = front;
+      session = good.session;
+      media = media_addressed (first_address s.session) s.media good.media;
+      few = omega (arith, length-map s.media (with_address (first_address s.session)), good.few);
+      addresses = each_addressed s.session s.media;
+    }
 
 addressed_again : (session : List (List ℕ)) (ms : List Medium) → AllByRecursion (IsAddressed session) ms → map (with_address (first_address session)) (map bare_medium ms) ≡ ms
 addressed_again session [] is = refl
@@ -63,7 +69,8 @@ within_takes most text s e =
     subst (IsRead most text) same (record {
       is = addressed_is b.0 t.good (front_takes b.0.session b.0.media t.order t.three);
       spelled = subst (λ (ls : List (List ℕ)). Spells ls text) lines t.spelled;
-      short = subst (AllByRecursion (IsShort most)) lines t.short })
+      short = subst (AllByRecursion (IsShort most)) lines t.short;
+    })
 
 pub within_again : (most : ℕ) (text : List ℕ) (s : Sdp) → IsSdp s → Spells (all_lines s) text → AllByRecursion (IsShort most) (all_lines s) → description_within most text ≡ Ok s
 unfolding description_within

@@ -6,7 +6,7 @@ use Rattle.std.proofs.lemmas.Bool.{ne_eqb}
 use Rattle.std.proofs.lemmas.Slice.Eq.{bytes_eq-Decides}
 use Rattle.sg_sdp.specs.declared.medium.Medium.{Medium}
 use Rattle.sg_sdp.specs.Descriptions.{HasFront, IsShort, medium_lines}
-use Rattle.sg_sdp.specs.Reading.{is_in_order}
+use Rattle.sg_sdp.specs.Faults.{is_in_order}
 
 -- the lines from this number on stand in order
 abbrev pub InOrder : ℕ → List (List ℕ) → Type 0

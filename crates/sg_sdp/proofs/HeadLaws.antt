@@ -42,10 +42,15 @@ pub head_again : (h : HeadParts) → FitsHead h → head_of (head_text h) ≡ So
 unfolding head_of
 head_again h fits =
     let some : eqb (length h.formats) 0 ≡ false = ne_eqb (length h.formats) 0 (λ e. omega (arith, fits.formats)) in
-    rw (cut_again 32 h.word (decimal h.port ++ 32 ∷ (h.proto ++ 32 ∷ h.formats)) (word_lacks h.word fits.word),
-        cut_again 32 (decimal h.port) (h.proto ++ 32 ∷ h.formats) (decimal_lacks 32 h.port (omega (arith, fits.port)) (inl (omega arith))),
-        cut_again 32 h.proto h.formats (word_lacks h.proto fits.proto),
-        number_again 65535 h.port fits.port (lit< tt), fits.word, fits.proto, some) refl
+    rw (
+      cut_again 32 h.word (decimal h.port ++ 32 ∷ (h.proto ++ 32 ∷ h.formats)) (word_lacks h.word fits.word),
+      cut_again 32 (decimal h.port) (h.proto ++ 32 ∷ h.formats) (decimal_lacks 32 h.port (omega (arith, fits.port)) (inl (omega arith))),
+      cut_again 32 h.proto h.formats (word_lacks h.proto fits.proto),
+      number_again 65535 h.port fits.port (lit< tt),
+      fits.word,
+      fits.proto,
+      some,
+    ) refl
 
 same_text : (t w t1 n t2 p f n' : List ℕ) → t ≡ w ++ 32 ∷ t1 → t1 ≡ n ++ 32 ∷ t2 → t2 ≡ p ++ 32 ∷ f → n ≡ n' → t ≡ w ++ 32 ∷ (n' ++ 32 ∷ (p ++ 32 ∷ f))
 same_text t w t1 n t2 p f n' a b c d = rw (a, b, c, d) refl
@@ -63,9 +68,10 @@ head_takes t h e =
     let w = and_both (is_word p.0.0) (is_word r.0.0) b.0 in
     let number = number_takes 65535 q.0.0 n.0 n.1 in
     let some : 0 < length r.0.1 = above_zero (length r.0.1) (not_is (eqb (length r.0.1) 0) b.1) in
-    subst (λ (x : HeadParts). (t ≡ head_text x) × FitsHead x) g.1
-      (same_text t p.0.0 p.0.1 q.0.0 q.0.1 r.0.0 r.0.1 (decimal n.0) (cut_takes 32 t p.0.0 p.0.1 p.1) (cut_takes 32 p.0.1 q.0.0 q.0.1 q.1) (cut_takes 32 q.0.1 r.0.0 r.0.1 r.1) number.0,
-       record { word = w.0; port = number.1; proto = w.1; formats = some })
+    subst (λ (x : HeadParts). (t ≡ head_text x) × FitsHead x) g.1 (
+      same_text t p.0.0 p.0.1 q.0.0 q.0.1 r.0.0 r.0.1 (decimal n.0) (cut_takes 32 t p.0.0 p.0.1 p.1) (cut_takes 32 p.0.1 q.0.0 q.0.1 q.1) (cut_takes 32 q.0.1 r.0.0 r.0.1 r.1) number.0,
+      record { word = w.0; port = number.1; proto = w.1; formats = some },
+    )
 
 -- ---- the form of an `m=` line
 

@@ -10,3 +10,4 @@ pub mod TextAgain
 pub mod Described
 pub mod AddedLaws
 pub mod CarriedLaws
+pub mod FaultLaws

@@ -8,7 +8,8 @@ use Rattle.sg_sdp.specs.declared.faults.ReadSdpFault.{ReadSdpFault}
 use Rattle.sg_sdp.specs.declared.faults.ReadSdpFault.TheVariants as errors
 use Rattle.sg_sdp.specs.declared.sdp.Sdp.{Sdp}
 use Rattle.sg_sdp.specs.LineForm.{without_cr}
-use Rattle.sg_sdp.specs.Reading.{Fault, ◌>>=◌, Gives, Changes, at_line, step, steps, end_of, none_yet, last_part, lines_of}
+use Rattle.sg_sdp.specs.Faults.{Fault, last_part}
+use Rattle.sg_sdp.specs.Reading.{◌>>=◌, Gives, Changes, at_line, step, steps, end_of, none_yet, lines_of}
 
 abbrev pub texts : List (Bor (List ℕ)) → List (List ℕ)
 texts xs = map (λ x. x.now) xs

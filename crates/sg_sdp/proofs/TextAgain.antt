@@ -15,7 +15,8 @@ use Rattle.sg_sdp.specs.declared.sdp.Sdp.{Sdp}
 use Rattle.sg_sdp.specs.Descriptions.{IsKept, IsMedium, IsSdp, IsShort, Spells, all_lines, medium_line, medium_lines}
 use Rattle.sg_sdp.specs.LineForm.{HeadParts, connection_of, has_form, head_of, is_inner, is_letter, without_cr}
 use Rattle.sg_sdp.specs.Parts.{with_last_line, with_line_at, with_medium}
-use Rattle.sg_sdp.specs.Reading.{Fault, ◌>>=◌, at_line, end_of, form_of, is_in_order, last_part, lines_of, none_yet, opened, placed, step, steps}
+use Rattle.sg_sdp.specs.Faults.{Fault, is_in_order, last_part}
+use Rattle.sg_sdp.specs.Reading.{◌>>=◌, at_line, end_of, form_of, lines_of, none_yet, opened, placed, step, steps}
 use Rattle.sg_sdp.proofs.Cases.{all_append, and_both, none_is, not_is}
 use Rattle.sg_sdp.proofs.Fronts.{InOrder, front_again, front_three}
 use Rattle.sg_sdp.proofs.HeadLaws.{FitsHead, head_again, head_text, medium_form}
@@ -146,7 +147,7 @@ run_media most n session before (m ∷ ms) is few stands =
     let fits : length (before ++ bare_medium m ∷ []) + length ms ≤ 4 = omega (arith, length-append before (bare_medium m ∷ [])) in
     let last = run_media most rest.from session (before ++ bare_medium m ∷ []) ms is.1 fits rest.stands in
     let whole : run most (n + 1) t (m.lines ++ flat_map medium_lines ms) ≡ Ok (record { session = session; media = before ++ bare_medium m ∷ map bare_medium ms }) =
-        rest.same ∙ last ∙ ap (λ (x : List Medium). Ok (record { session = session; media = x })) (append_assoc before (bare_medium m ∷ []) (map bare_medium ms)) in
+    rest.same ∙ last ∙ ap (λ (x : List Medium). Ok (record { session = session; media = x })) (append_assoc before (bare_medium m ∷ []) (map bare_medium ms)) in
     rw one whole
 
 run_all : (most : ℕ) (s : Sdp) → IsSdp s → AllByRecursion (IsShort most) (all_lines s) → run most 1 none_yet (all_lines s) ≡ Ok (bare s)

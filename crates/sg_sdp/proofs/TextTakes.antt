@@ -13,7 +13,8 @@ use Rattle.sg_sdp.specs.declared.sdp.Sdp.{Sdp}
 use Rattle.sg_sdp.specs.Descriptions.{IsKept, IsMedium, IsShort, Spells, all_lines, medium_line, medium_lines}
 use Rattle.sg_sdp.specs.LineForm.{HeadParts, connection_of, has_form, head_of, is_inner, is_letter, without_cr}
 use Rattle.sg_sdp.specs.Parts.{with_last_line, with_line_at, with_medium}
-use Rattle.sg_sdp.specs.Reading.{Fault, ◌>>=◌, at_line, end_of, form_of, is_in_order, last_part, lines_of, none_yet, opened, placed, some_head, step, steps}
+use Rattle.sg_sdp.specs.Faults.{Fault, is_in_order, last_part}
+use Rattle.sg_sdp.specs.Reading.{◌>>=◌, at_line, end_of, form_of, lines_of, none_yet, opened, placed, some_head, step, steps}
 use Rattle.sg_sdp.proofs.Cases.{all_append, and_both, at_line_ok, bind_ok, chosen, err_ok, guard_false, none_some, not_true, ok_is}
 use Rattle.sg_sdp.proofs.Fronts.{InOrder}
 use Rattle.sg_sdp.proofs.HeadLaws.{FitsHead, head_takes, head_text, inner_end}
@@ -44,7 +45,7 @@ lines_more s l = more_so s.session s.media l
 lines_opened : (s : Sdp) (m : Medium) → m.lines ≡ [] → all_lines (with_medium m s) ≡ all_lines s ++ medium_line m ∷ []
 lines_opened s m none =
     ap (λ (t : List (List ℕ)). s.session ++ t) (flat-append s.media m ∙ ap (λ (x : List (List ℕ)). flat_map medium_lines s.media ++ medium_line m ∷ x) none)
-      ∙ sym (append_assoc s.session (flat_map medium_lines s.media) (medium_line m ∷ []))
+    ∙ sym (append_assoc s.session (flat_map medium_lines s.media) (medium_line m ∷ []))
 
 -- what is true of a description so far
 pub record Good (s : Sdp) : Type 0 where
@@ -84,7 +85,7 @@ add_opened s m is room good = record { session = good.session; media = all_appen
 -- ---- one line
 
 -- what a form says of the line
-abbrev HeadIs : List ℕ → Option HeadParts → Type 0
+abbrev pub HeadIs : List ℕ → Option HeadParts → Type 0
 HeadIs l None = is_letter 109 l ≡ false
 HeadIs l (Some p) = (l ≡ codes "m=" ++ head_text p) × FitsHead p
 
@@ -107,11 +108,11 @@ head_case l (Some p) h form letter was e =
     subst (HeadIs l) same (begins l form letter ∙ ap (λ (x : List ℕ). 109 ∷ 61 ∷ x) t.0, t.1)
 
 -- a line of the form, of at most so many octets
-record IsLine (most : ℕ) (l : List ℕ) : Type 0 where
-  form : has_form l ≡ true
-  short : length l ≤ most
+pub record IsLine (most : ℕ) (l : List ℕ) : Type 0 where
+  pub form : has_form l ≡ true
+  pub short : length l ≤ most
 
-form_takes : (most : ℕ) (l : List ℕ) (h : Option HeadParts) → form_of most l ≡ Ok h → IsLine most l × HeadIs l h
+pub form_takes : (most : ℕ) (l : List ℕ) (h : Option HeadParts) → form_of most l ≡ Ok h → IsLine most l × HeadIs l h
 unfolding form_of
 form_takes most l h e =
     elim (chosen (ltb most (length l)) _ _ (Ok h) e) [
@@ -133,7 +134,7 @@ form_takes most l h e =
 record Steps (most n : ℕ) (s t : Sdp) (l : List ℕ) : Type 0 where
   lines : all_lines t ≡ all_lines s ++ l ∷ []
   order : is_in_order n l ≡ true
-  short : length l ≤ most
+  pub short : length l ≤ most
   good : Good t
 
 address_of : (a b : Bool) → (a && b) ≡ false → a ≡ true → b ≡ false
@@ -197,7 +198,8 @@ steps_take most n s t (raw ∷ raws) good e =
       lines = more.lines ∙ ap (λ (x : List (List ℕ)). x ++ map without_cr raws) one.lines ∙ append_assoc (all_lines s) (without_cr raw ∷ []) (map without_cr raws);
       order = (one.order, more.order);
       short = (one.short, more.short);
-      good = more.good }
+      good = more.good;
+    }
 
 -- ---- whole texts
 
@@ -223,12 +225,14 @@ spells_parts p (q ∷ ps) last =
     let k : length (p ∷ q ∷ ps) - 1 ≡ suc (length (q ∷ ps) - 1) = omega arith in
     let f : length (last_part (q ∷ ps)) ≡ 0 = rw k at last in
     let more = spells_parts q ps f in
-    rw k (join_with_byte 10 (q ∷ ps),
+    rw k (
+      join_with_byte 10 (q ∷ ps),
       elim (cr_cases p) [
         | inl e ↦ inl (ap (λ (x : List ℕ). x ++ 10 ∷ join_with_byte 10 (q ∷ ps)) e ∙ append_assoc (without_cr p) (13 ∷ []) (10 ∷ join_with_byte 10 (q ∷ ps)))
         | inr e ↦ inr (ap (λ (x : List ℕ). x ++ 10 ∷ join_with_byte 10 (q ∷ ps)) e)
       ],
-      more)
+      more,
+    )
 
 none_good : Good none_yet
 none_good = record { session = tt; media = tt; few = omega arith }
@@ -274,7 +278,8 @@ whole_takes most text p ps s parts e =
       order = subst (InOrder 1) (sym lines) read.order;
       three = omega (arith, count, fine.1);
       short = subst (AllByRecursion (IsShort most)) (sym lines) read.short;
-      spelled = subst (λ (x : List ℕ). Spells (all_lines a.0) x) text_is (subst (λ (x : List (List ℕ)). Spells x (join_with_byte 10 (p ∷ ps))) (sym lines) (spells_parts p ps fine.0)) })
+      spelled = subst (λ (x : List ℕ). Spells (all_lines a.0) x) text_is (subst (λ (x : List (List ℕ)). Spells x (join_with_byte 10 (p ∷ ps))) (sym lines) (spells_parts p ps fine.0));
+    })
 
 split_some : (most : ℕ) (text : List ℕ) (parts : List (List ℕ)) (s : Sdp) → slice_split (λ b. eqb b 10) text ≡ parts → lines_of most parts ≡ Ok s → Read most text s
 split_some most text [] s parts e = absurd (omega (arith, length-slice_split (λ b. eqb b 10) text, ap length parts))

@@ -51,7 +51,8 @@ carried_medium port profile m = record {
   proto = carried_proto profile m.proto;
   formats = m.formats;
   address = None;
-  lines = carried_lines m.lines }
+  lines = carried_lines m.lines;
+}
 
 -- each medium at its own port, of its own profile
 abbrev pub carried_media : List ℕ → List Profile → List Medium → List Medium

@@ -1,4 +1,4 @@
--- Reading line by line, with the first fault and its line.
+-- Reading line by line: what a text is read as, or its first fault and that line's number.
 use Rattle.std.specs.Prelude.{◌≡◌, ℕ, ◌+◌, ◌-◌, List, [], ◌∷◌, length, take, drop, Bool, true, not, Option, Some, None, Result, Ok, Err, nat_le, nat_lt, ◌==◌, ◌&&◌, if◌then◌else◌, slice_index_or, codes, is_none, option_map}
 use Rattle.std.specs.List.{slice_split}
 use Rattle.std.specs.Str.{bytes_eq}
@@ -10,12 +10,9 @@ use Rattle.sg_sdp.specs.declared.form.Head.{Head}
 use Rattle.sg_sdp.specs.declared.medium.Medium.{Medium}
 use Rattle.sg_sdp.specs.declared.sdp.Sdp.{Sdp}
 use Rattle.sg_sdp.specs.Addresses.{addressed}
+use Rattle.sg_sdp.specs.Faults.{Fault, is_in_order, last_part}
 use Rattle.sg_sdp.specs.LineForm.{HeadParts, connection_of, has_form, head_of, is_letter, profile_of, view_head, without_cr}
 use Rattle.sg_sdp.specs.Parts.{with_last_line, with_medium}
-
--- a line, counted from 1, and what is wrong with it
-abbrev pub Fault : Type 0
-Fault = ℕ × SdpFault
 
 infixl 10 ◌>>=◌
 abbrev pub ◌>>=◌ : {A B F : Type 0} → Result A F → (A → Result B F) → Result B F
@@ -37,14 +34,6 @@ form_of most line =
     else if not (has_form line) then Err Form
     else if is_letter 109 line then some_head (head_of (drop 2 line))
     else Ok None
-
--- `v=0`, `o=` and `s=` are the first three lines
-unfoldable pub is_in_order : ℕ → List ℕ → Bool
-is_in_order number line =
-    if number == 1 then bytes_eq line (codes "v=0")
-    else if number == 2 then is_letter 111 line
-    else if number == 3 then is_letter 115 line
-    else true
 
 -- a medium with no line yet
 unfoldable pub opened : HeadParts → Medium
@@ -78,9 +67,6 @@ end_of most number rest =
 
 abbrev pub none_yet : Sdp
 none_yet = record { session = []; media = [] }
-
-abbrev pub last_part : List (List ℕ) → List ℕ
-last_part parts = slice_index_or parts (length parts - 1) []
 
 -- all parts between line ends
 unfoldable pub lines_of : ℕ → List (List ℕ) → Result Sdp Fault

@@ -99,7 +99,12 @@ fn carried_proto(profile: Profile, proto: &[u8]) -> &[u8]
 
 // A medium at that port, of that profile, before its address.
 #[tactic(auto, unfolding(crate::specs::Carrying::carried_medium))]
-fn carried_medium(alloc: Global, port: u16, profile: Profile, medium: &Medium) -> Result<Medium, NoMemory>
+fn carried_medium(
+    alloc: Global,
+    port: u16,
+    profile: Profile,
+    medium: &Medium,
+) -> Result<Medium, NoMemory>
     ensures { IfOk result (λ m. m ≡ carried_medium port profile medium.now) }
 {
     let proto = carried_proto(profile, medium.proto.as_slice());
@@ -114,7 +119,12 @@ fn carried_medium(alloc: Global, port: u16, profile: Profile, medium: &Medium) -
     })
 }
 
-fn carried_media(alloc: Global, ports: &[u16], profiles: &[Profile], media: &[Medium]) -> Result<Media, NoMemory>
+fn carried_media(
+    alloc: Global,
+    ports: &[u16],
+    profiles: &[Profile],
+    media: &[Medium],
+) -> Result<Media, NoMemory>
     requires ports { length ports.now ≡ length media.now }
     requires profiles { length profiles.now ≡ length media.now }
     ensures { IfOk result (λ ms. ms ≡ carried_media ports.now profiles.now media.now) }

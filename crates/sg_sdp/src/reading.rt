@@ -3,8 +3,9 @@
 ghost use Rattle.std.specs.Prelude.{◌≡◌, ◌≤◌, ◌<◌, ◌^◌, ◌==◌, length, map, IfOk, Ok};
 ghost use Rattle.std.specs.List.{slice_split};
 ghost use Rattle.sg_sdp.specs.Descriptions.{IsSdp, IsWithinLimits, Spells, all_lines};
+ghost use Rattle.sg_sdp.specs.Faults.{Tells, fault_of, is_in_order};
 ghost use Rattle.sg_sdp.specs.LineForm.{view_head, without_cr};
-ghost use Rattle.sg_sdp.specs.Reading.{Changes, Gives, at_line, description_of, description_within, end_of, form_of, is_in_order, lines_of, opened, step, view_form};
+ghost use Rattle.sg_sdp.specs.Reading.{Changes, Gives, at_line, description_of, description_within, end_of, form_of, lines_of, opened, step, view_form};
 ghost use Rattle.sg_sdp.specs.declared.sdp.Sdp.{Sdp};
 
 use crate::addresses::first_address;
@@ -39,7 +40,7 @@ fn form(line: &[u8]) -> Result<Option<Head<'_>>, SdpFault>
 }
 
 // Whether the line may stand there.
-#[tactic(auto, unfolding(crate::specs::Reading::is_in_order))]
+#[tactic(auto, unfolding(crate::specs::Faults::is_in_order))]
 fn is_in_order(number: u32, line: &[u8]) -> bool
     ensures { result ≡ is_in_order number line.now }
 {
@@ -74,7 +75,10 @@ fn add(alloc: Global, sdp: &mut Sdp, number: u32, line: &[u8]) -> Result<(), Rea
 {
     let head = match form(line) {
         Ok(head) => head,
-        Err(fault) => return Err(ReadSdpFault::Sdp { line: number, fault }),
+        Err(fault) => return Err(ReadSdpFault::Sdp {
+            line: number,
+            fault,
+        }),
     };
     if !is_in_order(number, line) {
         return Err(ReadSdpFault::Sdp {
@@ -192,8 +196,11 @@ pub fn read(alloc: Global, text: &[u8]) -> Result<Sdp, ReadSdpFault>
     // Such a text is read as that description, unless memory is wanting.
     ensures only { (s : Sdp) → IsSdp s → IsWithinLimits s text.now → Spells (all_lines s) text.now → Gives result (Ok s) }
 
-    // Which fault it is, and in which line.
-    ensures first_fault { Gives result (description_of text.now) }
+    // Every other text is refused, with its first fault and that line's number.
+    ensures first_fault { Tells result (fault_of text.now) }
+
+    // What is read of each text, in one definition.
+    ensures exact { Gives result (description_of text.now) }
 {
     limited(alloc, text)
 }

@@ -18,10 +18,10 @@ pub returns-in-Ok : goal.returns-in-Ok
 returns-in-Ok c =
     let here : c.loop-line.number ≡ length c.args.parts.now = omega (arith, length-take (length c.args.parts.now - 1) c.args.parts.now) in
     finished 2048 c.args.parts.now _ c.loop-line.line-index c.loop-line.number c.loop-line.sdp _ refl c.loop-line-test.false refl here c.loop-line.invariant.1
-      ∙ ap (λ (r : Result (Unit {0}) SdpFault). at_line c.loop-line.number r >>= λ u. Ok c.loop-line.sdp) (sym c.in-Ok.ensures)
+    ∙ ap (λ (r : Result (Unit {0}) SdpFault). at_line c.loop-line.number r >>= λ u. Ok c.loop-line.sdp) (sym c.in-Ok.ensures)
 
 pub returns-in-Err : goal.returns-in-Err
 returns-in-Err c =
     let here : c.loop-line.number ≡ length c.args.parts.now = omega (arith, length-take (length c.args.parts.now - 1) c.args.parts.now) in
     finished 2048 c.args.parts.now _ c.loop-line.line-index c.loop-line.number c.loop-line.sdp _ refl c.loop-line-test.false refl here c.loop-line.invariant.1
-      ∙ ap (λ (r : Result (Unit {0}) SdpFault). at_line c.loop-line.number r >>= λ u. Ok c.loop-line.sdp) (sym c.in-Err.ensures)
+    ∙ ap (λ (r : Result (Unit {0}) SdpFault). at_line c.loop-line.number r >>= λ u. Ok c.loop-line.sdp) (sym c.in-Err.ensures)
