@@ -1,6 +1,6 @@
 -- What is carried is a description, and holds nothing of one side alone.
-use Rattle.std.proofs.Common.{◌≡◌, ℕ, zero, suc, Some, lit≤, ◌+◌, ◌<◌, ◌≤◌, Bool, true, false, cond, eqb, List, [], ◌∷◌, ◌++◌, length, map, refl, sym, ap, subst, ◌∙◌, arith, inl, inr}
-use Rattle.std.specs.Prelude.{◌⊎◌, codes, filter, nat_eq, not, slice_index}
+use Rattle.std.proofs.Common.{◌≡◌, ℕ, zero, suc, Some, lit≤, ◌≤◌, Bool, true, false, cond, List, [], ◌∷◌, length, map, refl, sym, ap, subst, ◌∙◌, arith, inl, inr}
+use Rattle.std.specs.Prelude.{codes, filter, nat_eq, not, slice_index}
 use Rattle.std.specs.Fmt.{digits}
 use Rattle.std.specs.List.{AllByRecursion, flat_map, starts_with}
 use Rattle.std.proofs.lemmas.Bool.{eqb-true, eqb-false, ne_eqb}
@@ -15,9 +15,8 @@ use Rattle.sg_sdp.specs.Addresses.{first_address}
 use Rattle.sg_sdp.specs.Carrying.{carried, carried_line, carried_lines, carried_media, carried_medium, carried_proto, is_one_sided}
 use Rattle.sg_sdp.specs.Descriptions.{HasFront, IsKept, IsMedium, IsSdp, all_lines, medium_line, medium_lines}
 use Rattle.sg_sdp.specs.LineForm.{connection_of, has_form, is_letter, is_word}
-use Rattle.sg_sdp.proofs.Cases.{all_append, not_true}
+use Rattle.sg_sdp.proofs.Cases.{all_append}
 use Rattle.sg_sdp.proofs.Described.{addressed_is, lines_addressed}
-use Rattle.sg_sdp.proofs.TextTakes.{Good}
 
 -- ---- beginnings of lines
 
@@ -117,6 +116,13 @@ carried_is ports ps s is small =
     addressed_is (record { session = carried_lines s.session; media = carried_media ports ps s.media })
     (record { session = lines_kept s.session is.session; media = media_are ports ps s.media small is.media; few = omega (arith, no_more ports ps s.media, is.few) })
     (front_kept s.session is.front)
+
+pub media_count : (ports : List ℕ) (ps : List Profile) (ms : List Medium) → length ports ≡ length ms → length ps ≡ length ms → length (carried_media ports ps ms) ≡ length ms
+media_count [] ps [] a b = refl
+media_count [] ps (m ∷ ms) a b = absurd (omega arith)
+media_count (port ∷ ports) ps [] a b = absurd (omega arith)
+media_count (port ∷ ports) [] (m ∷ ms) a b = absurd (omega arith)
+media_count (port ∷ ports) (p ∷ ps) (m ∷ ms) a b = ap suc (media_count ports ps ms (omega arith) (omega arith))
 
 -- ---- nothing of one side alone
 

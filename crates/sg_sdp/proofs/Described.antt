@@ -1,6 +1,6 @@
 -- Descriptions with their addresses, and their texts.
-use Rattle.std.proofs.Common.{◌≡◌, ℕ, ◌+◌, ◌<◌, ◌≤◌, List, [], ◌∷◌, ◌++◌, length, map, Option, Result, Ok, Err, eqb, ltb, refl, sym, ap, subst, ◌∙◌, arith, inl, inr, append_assoc}
-use Rattle.std.specs.Prelude.{IfOk, ◌⊎◌}
+use Rattle.std.proofs.Common.{◌≡◌, ℕ, ◌+◌, ◌≤◌, List, [], ◌∷◌, ◌++◌, length, map, Option, Result, Ok, Err, eqb, ltb, refl, sym, ap, subst, ◌∙◌, arith, inl, inr, append_assoc}
+use Rattle.std.specs.Prelude.{IfOk}
 use Rattle.std.specs.List.{AllByRecursion, flat_map, slice_split}
 use Rattle.std.proofs.lemmas.Bool.{le-ltb, ltb-false}
 use Rattle.std.proofs.lemmas.List.{length-append, length-map}
@@ -8,7 +8,7 @@ use Rattle.sg_base.specs.declared.SdpFault.TheVariants.{TooLong}
 use Rattle.sg_sdp.specs.declared.faults.ReadSdpFault.{ReadSdpFault}
 use Rattle.sg_sdp.specs.declared.medium.Medium.{Medium}
 use Rattle.sg_sdp.specs.declared.sdp.Sdp.{Sdp}
-use Rattle.sg_sdp.specs.Addresses.{addressed, first_address, medium_address, with_address}
+use Rattle.sg_sdp.specs.Addresses.{addressed, first_address, with_address}
 use Rattle.sg_sdp.specs.Descriptions.{HasFront, IsAddressed, IsMedium, IsSdp, IsShort, IsWithinLimits, Spells, all_lines, medium_lines, spelling}
 use Rattle.sg_sdp.specs.Faults.{Fault}
 use Rattle.sg_sdp.specs.Reading.{Gives, description_of, description_within, lines_of}
@@ -16,7 +16,7 @@ use Rattle.sg_sdp.proofs.Cases.{bind_ok, chosen, err_ok, ok_is}
 use Rattle.sg_sdp.proofs.Fronts.{front_takes}
 use Rattle.sg_sdp.proofs.Prints.{spells_again}
 use Rattle.sg_sdp.proofs.TextAgain.{bare, bare_medium, lines_again}
-use Rattle.sg_sdp.proofs.TextTakes.{Good, Read, lines_take}
+use Rattle.sg_sdp.proofs.TextTakes.{Good, lines_take}
 
 -- addresses are in no line
 pub lines_addressed : (a : Option (List ℕ)) (ms : List Medium) → flat_map medium_lines (map (with_address a) ms) ≡ flat_map medium_lines ms

@@ -1,6 +1,6 @@
 -- What is refused has the first fault of the text, and what is read has none.
-use Rattle.std.proofs.Common.{◌≡◌, ℕ, ◌+◌, ◌-◌, ◌<◌, ◌≤◌, Bool, true, false, cond, eqb, ltb, List, [], ◌∷◌, ◌++◌, length, take, drop, map, Option, Some, None, Result, Ok, Err, refl, sym, ap, subst, ◌∙◌, arith, inl, inr}
-use Rattle.std.specs.Prelude.{◌&&◌, ◌||◌, ◌⊎◌, codes, is_none, is_some, not, option_map, slice_index}
+use Rattle.std.proofs.Common.{◌≡◌, ℕ, ◌+◌, ◌-◌, Bool, true, false, cond, eqb, ltb, List, [], ◌∷◌, ◌++◌, length, take, drop, map, Option, Some, None, Result, Ok, Err, refl, sym, ap, subst, ◌∙◌, arith, inl, inr}
+use Rattle.std.specs.Prelude.{◌&&◌, ◌||◌, codes, is_none, is_some, not}
 use Rattle.std.specs.List.{slice_split}
 use Rattle.std.specs.Option.{option_or}
 use Rattle.std.specs.Result.{result_err}
@@ -18,7 +18,7 @@ use Rattle.sg_sdp.specs.LineForm.{HeadParts, connection_of, has_form, head_of, i
 use Rattle.sg_sdp.specs.Parts.{with_last_line, with_medium}
 use Rattle.sg_sdp.specs.Reading.{◌>>=◌, Gives, at_line, description_of, description_within, end_of, form_of, lines_of, none_yet, opened, placed, some_head, step, steps}
 use Rattle.sg_sdp.proofs.CarriedLaws.{letter_differs}
-use Rattle.sg_sdp.proofs.Cases.{bind_ok, chosen, err_ok, guard_false, ok_is}
+use Rattle.sg_sdp.proofs.Cases.{bind_ok, chosen, err_ok, guard_false}
 use Rattle.sg_sdp.proofs.TextTakes.{HeadIs, form_takes, length-with_line_at}
 
 -- ---- one line
@@ -58,7 +58,7 @@ step_fault most n s line =
     let medium = is_letter 109 line in
     let bad = is_letter 99 line && is_none (connection_of (drop 2 line)) in
     let apart : is_letter 109 line ≡ true → (is_letter 99 line && is_none (connection_of (drop 2 line))) ≡ false =
-      λ e. no_address (is_letter 99 line) (is_none (connection_of (drop 2 line))) (letter_differs 109 99 line e (λ same. omega (arith, same))) in
+    λ e. no_address (is_letter 99 line) (is_none (connection_of (drop 2 line))) (letter_differs 109 99 line e (λ same. omega (arith, same))) in
     simp places (step_cases (ltb most (length line)) (has_form line) (is_letter 109 line) (is_in_order n line) (eqb (length s.media) 4) (is_letter 99 line && is_none (connection_of (drop 2 line))) (head_of (drop 2 line)) (λ h. with_medium (opened h) s) (with_last_line line s) apart)
 
 -- ---- many lines

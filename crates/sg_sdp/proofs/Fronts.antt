@@ -1,11 +1,11 @@
 -- The first three lines.
 use Rattle.std.proofs.Common.{◌≡◌, ℕ, ◌+◌, ◌<◌, ◌≤◌, true, List, [], ◌∷◌, ◌++◌, length, refl, arith}
 use Rattle.std.specs.Prelude.{codes}
-use Rattle.std.specs.List.{AllByRecursion, flat_map}
+use Rattle.std.specs.List.{flat_map}
 use Rattle.std.proofs.lemmas.Bool.{ne_eqb}
 use Rattle.std.proofs.lemmas.Slice.Eq.{bytes_eq-Decides}
 use Rattle.sg_sdp.specs.declared.medium.Medium.{Medium}
-use Rattle.sg_sdp.specs.Descriptions.{HasFront, IsShort, medium_lines}
+use Rattle.sg_sdp.specs.Descriptions.{HasFront, medium_lines}
 use Rattle.sg_sdp.specs.Faults.{is_in_order}
 
 -- the lines from this number on stand in order

@@ -1,7 +1,6 @@
 -- The loop over the media.
-use Rattle.std.proofs.Common.{◌≡◌, ℕ, zero, suc, ◌+◌, ◌<◌, ◌≤◌, List, [], ◌∷◌, ◌++◌, length, get_or, take, drop, map, refl, sym, ap, ◌∙◌, arith, add-one}
+use Rattle.std.proofs.Common.{◌≡◌, ℕ, zero, suc, ◌+◌, ◌<◌, List, [], ◌∷◌, ◌++◌, length, get_or, take, drop, map, refl, ap, ◌∙◌, arith, add-one}
 use Rattle.std.specs.Prelude.{slice_set}
-use Rattle.std.proofs.lemmas.List.{length-append, length-map, length-take, length-drop}
 use Rattle.sg_sdp.specs.declared.medium.Medium.{Medium}
 
 same_at : (f : Medium → Medium) (xs : List Medium) (i : ℕ) (d : Medium) → i < length xs → get_or (map f (take i xs) ++ drop i xs) i d ≡ get_or xs i d

@@ -1,10 +1,7 @@
 -- Lines printed one after the other.
-use Rattle.std.proofs.Common.{◌≡◌, ℕ, ◌+◌, ◌<◌, List, [], ◌∷◌, ◌++◌, length, get_or, take, refl, sym, ap, ◌∙◌, append_assoc, arith, inl}
+use Rattle.std.proofs.Common.{◌≡◌, ℕ, List, [], ◌∷◌, ◌++◌, refl, append_assoc, inl}
 use Rattle.std.specs.List.{flat_map}
-use Rattle.std.proofs.lemmas.Grind.{flat_map-append, take_at_read}
-use Rattle.std.proofs.lemmas.List.{append-nil}
-use Rattle.sg_sdp.specs.declared.medium.Medium.{Medium}
-use Rattle.sg_sdp.specs.Descriptions.{ended, medium_line, medium_lines, Spells}
+use Rattle.sg_sdp.specs.Descriptions.{ended, Spells}
 
 pub head_put : (o w d p f x1 x2 x3 x4 x5 x6 x7 x8 x9 w' d' p' f' : List ℕ) → x1 ≡ o ++ 109 ∷ 61 ∷ [] → x2 ≡ x1 ++ w' → x3 ≡ x2 ++ 32 ∷ [] → x4 ≡ x3 ++ d' → x5 ≡ x4 ++ 32 ∷ []
     → x6 ≡ x5 ++ p' → x7 ≡ x6 ++ 32 ∷ [] → x8 ≡ x7 ++ f' → x9 ≡ x8 ++ 13 ∷ 10 ∷ [] → w' ≡ w → d' ≡ d → p' ≡ p → f' ≡ f

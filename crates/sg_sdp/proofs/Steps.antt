@@ -1,14 +1,12 @@
 -- The loop over the lines.
-use Rattle.std.proofs.Common.{◌≡◌, ℕ, zero, suc, ◌+◌, ◌-◌, ◌<◌, ◌≤◌, List, [], ◌∷◌, ◌++◌, length, get_or, take, drop, map, Result, Ok, Err, refl, sym, ap, subst, ◌∙◌, arith, Bor, add-one, drop-cons}
-use Rattle.std.specs.Prelude.{slice_index_or}
+use Rattle.std.proofs.Common.{◌≡◌, ℕ, ◌+◌, ◌-◌, ◌<◌, ◌≤◌, List, [], ◌∷◌, length, get_or, take, drop, map, Result, Ok, Err, refl, sym, ap, ◌∙◌, Bor, add-one, drop-cons}
 use Rattle.std.proofs.lemmas.List.{take-map, length-map}
 use Rattle.std.proofs.Math.ListN.{get_or-map, drop_of_length-le}
-use Rattle.sg_base.specs.declared.SdpFault.{SdpFault}
 use Rattle.sg_sdp.specs.declared.faults.ReadSdpFault.{ReadSdpFault}
 use Rattle.sg_sdp.specs.declared.faults.ReadSdpFault.TheVariants as errors
 use Rattle.sg_sdp.specs.declared.sdp.Sdp.{Sdp}
 use Rattle.sg_sdp.specs.LineForm.{without_cr}
-use Rattle.sg_sdp.specs.Faults.{Fault, last_part}
+use Rattle.sg_sdp.specs.Faults.{Fault}
 use Rattle.sg_sdp.specs.Reading.{◌>>=◌, Gives, Changes, at_line, step, steps, end_of, none_yet, lines_of}
 
 abbrev pub texts : List (Bor (List ℕ)) → List (List ℕ)

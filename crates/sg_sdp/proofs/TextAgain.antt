@@ -1,6 +1,6 @@
 -- What a text spells is read of it.
-use Rattle.std.proofs.Common.{◌≡◌, ℕ, zero, suc, ◌+◌, ◌-◌, ◌<◌, ◌≤◌, Bool, true, false, eqb, ltb, leb, List, [], ◌∷◌, ◌++◌, length, get_or, take, drop, map, Option, Some, None, Result, Ok, Err, refl, sym, ap, subst, ◌∙◌, arith, inl, inr, append_assoc}
-use Rattle.std.specs.Prelude.{◌&&◌, ◌⊎◌, not, is_none, nat_le, slice_index}
+use Rattle.std.proofs.Common.{◌≡◌, ℕ, zero, suc, ◌+◌, ◌-◌, ◌<◌, ◌≤◌, Bool, true, false, eqb, leb, List, [], ◌∷◌, ◌++◌, length, take, drop, map, Some, None, Result, Ok, Err, refl, sym, ap, subst, ◌∙◌, arith, inl, inr, append_assoc}
+use Rattle.std.specs.Prelude.{◌&&◌, not, is_none, nat_le, slice_index}
 use Rattle.std.specs.List.{list_all, flat_map, slice_split, AllByRecursion}
 use Rattle.std.proofs.lemmas.Bool.{eqb-true, eqb-false, eq-eqb, ne_eqb, le-ltb, leb-true}
 use Rattle.std.proofs.lemmas.List.{length-append, append-nil, length-map, take_at}
@@ -19,7 +19,7 @@ use Rattle.sg_sdp.specs.Faults.{Fault, is_in_order, last_part}
 use Rattle.sg_sdp.specs.Reading.{◌>>=◌, at_line, end_of, form_of, lines_of, none_yet, opened, placed, step, steps}
 use Rattle.sg_sdp.proofs.Cases.{all_append, and_both, none_is, not_is}
 use Rattle.sg_sdp.proofs.Fronts.{InOrder, front_again, front_three}
-use Rattle.sg_sdp.proofs.HeadLaws.{FitsHead, head_again, head_text, medium_form}
+use Rattle.sg_sdp.proofs.HeadLaws.{head_again, head_text, medium_form}
 
 -- ---- one line
 

@@ -1,5 +1,5 @@
 -- What is read of a text is spelled by it.
-use Rattle.std.proofs.Common.{◌≡◌, ℕ, zero, suc, ◌+◌, ◌-◌, ◌<◌, ◌≤◌, Bool, true, false, eqb, ltb, leb, List, [], ◌∷◌, ◌++◌, length, take, drop, map, Option, Some, None, Result, Ok, refl, sym, ap, subst, ◌∙◌, arith, inl, inr, append_assoc}
+use Rattle.std.proofs.Common.{◌≡◌, ℕ, zero, suc, ◌+◌, ◌-◌, ◌<◌, ◌≤◌, Bool, true, false, eqb, ltb, leb, List, [], ◌∷◌, ◌++◌, length, take, drop, map, Option, Some, None, Ok, refl, sym, ap, subst, ◌∙◌, arith, inl, inr, append_assoc}
 use Rattle.std.specs.Prelude.{◌&&◌, ◌⊎◌, not, is_none, nat_le, codes, decimal, slice_index}
 use Rattle.std.specs.List.{list_all, flat_map, slice_split, join_with_byte, AllByRecursion}
 use Rattle.std.proofs.lemmas.Bool.{cases_eq, cases_lt, eqb-true, eqb-false, eq-eqb, ne_eqb, ltb-false, leb-false}
@@ -14,7 +14,7 @@ use Rattle.sg_sdp.specs.Descriptions.{IsKept, IsMedium, IsShort, Spells, all_lin
 use Rattle.sg_sdp.specs.LineForm.{HeadParts, connection_of, has_form, head_of, is_inner, is_letter, without_cr}
 use Rattle.sg_sdp.specs.Parts.{with_last_line, with_line_at, with_medium}
 use Rattle.sg_sdp.specs.Faults.{Fault, is_in_order, last_part}
-use Rattle.sg_sdp.specs.Reading.{◌>>=◌, at_line, end_of, form_of, lines_of, none_yet, opened, placed, some_head, step, steps}
+use Rattle.sg_sdp.specs.Reading.{at_line, end_of, form_of, lines_of, none_yet, opened, placed, some_head, step, steps}
 use Rattle.sg_sdp.proofs.Cases.{all_append, and_both, at_line_ok, bind_ok, chosen, err_ok, guard_false, none_some, not_true, ok_is}
 use Rattle.sg_sdp.proofs.Fronts.{InOrder}
 use Rattle.sg_sdp.proofs.HeadLaws.{FitsHead, head_takes, head_text, inner_end}

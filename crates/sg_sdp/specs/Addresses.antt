@@ -1,5 +1,5 @@
 -- The address of a medium (RFC 4566, 5.7).
-use Rattle.std.specs.Prelude.{ℕ, List, [], ◌∷◌, drop, map, Option, Some, None, if◌then◌else◌, nat_eq, codes}
+use Rattle.std.specs.Prelude.{ℕ, List, [], ◌∷◌, drop, map, Option, None, if◌then◌else◌, nat_eq, codes}
 use Rattle.std.specs.List.{starts_with}
 use Rattle.std.specs.Option.{option_or}
 use Rattle.sg_sdp.specs.declared.medium.Medium.{Medium}

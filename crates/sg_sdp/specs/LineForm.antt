@@ -1,5 +1,5 @@
 -- The form of one line of a session description, without its end (RFC 4566, 5).
-use Rattle.std.specs.Prelude.{◌≡◌, ℕ, ◌+◌, ◌-◌, List, [], ◌∷◌, length, take, drop, Bool, true, false, not, Option, Some, None, option_and_then, nat_le, ◌==◌, ◌&&◌, if◌then◌else◌, slice_index, codes, nat_eq}
+use Rattle.std.specs.Prelude.{ℕ, ◌-◌, List, [], ◌∷◌, length, take, drop, Bool, false, not, Option, Some, None, nat_le, ◌==◌, ◌&&◌, if◌then◌else◌, slice_index, codes, nat_eq}
 use Rattle.std.specs.List.{list_all, starts_with}
 use Rattle.std.specs.Str.{bytes_eq}
 use Rattle.sg_base.specs.Fields.{◌>>=◌, cut_at, four_at, number_at}

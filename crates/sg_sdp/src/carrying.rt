@@ -145,7 +145,8 @@ impl Sdp {
     pub fn carry(&self, alloc: Global, ports: &[u16], profiles: &[Profile]) -> Result<Sdp, NoMemory>
         requires ports { length ports.now ≡ length self.now.media }
         requires profiles { length profiles.now ≡ length self.now.media }
-        ensures { IfOk result (λ s. s ≡ carried ports.now profiles.now self.now) }
+        ensures value { IfOk result (λ s. s ≡ carried ports.now profiles.now self.now) }
+        ensures count { IfOk result (λ s. length s.media ≡ length self.now.media) }
     {
         let session = carried_lines(alloc, self.session.as_slice())?;
         let mut media = carried_media(alloc, ports, profiles, self.media.as_slice())?;

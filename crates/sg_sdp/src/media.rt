@@ -72,6 +72,7 @@ impl Media {
         requires { medium < length self.old }
         ensures ok { OnOk result (self.new ≡ with_line_at medium line.now self.old) }
         ensures err { OnErr result (self.new ≡ self.old) }
+        ensures count { length self.new ≡ length self.old }
     {
         self.media[medium].lines.push_copy(line)
     }

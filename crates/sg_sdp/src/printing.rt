@@ -10,13 +10,15 @@ use itoa::Buffer;
 use sg_base::{NoMemory, Octets};
 use std::alloc::Global;
 
+const LINE_END: &[u8] = b"\r\n";
+
 // Lines, each with its end.
 fn put_lines(out: &mut Vec<u8>, lines: &[Octets]) -> Result<(), NoMemory>
     ensures { OnOk result (out.new.items ≡ out.old.items ++ flat_map ended lines.now) }
 {
     for line in lines {
         out.extend_from_slice(line.as_slice())?;
-        out.extend_from_slice(b"\r\n")?;
+        out.extend_from_slice(LINE_END)?;
     }
     Ok(())
 }
@@ -33,7 +35,7 @@ fn put_head(out: &mut Vec<u8>, medium: &Medium) -> Result<(), NoMemory>
     out.extend_from_slice(medium.proto.as_slice())?;
     out.push(b' ')?;
     out.extend_from_slice(medium.formats.as_slice())?;
-    out.extend_from_slice(b"\r\n")?;
+    out.extend_from_slice(LINE_END)?;
     Ok(())
 }
 

@@ -19,6 +19,7 @@ impl Sdp {
     pub fn add_session_line(&mut self, line: &[u8]) -> Result<(), NoMemory>
         ensures ok { OnOk result (self.new ≡ with_session_line line.now self.old) }
         ensures err { OnErr result (self.new ≡ self.old) }
+        ensures count { length self.new.media ≡ length self.old.media }
     {
         self.session.push_copy(line)
     }
@@ -28,6 +29,7 @@ impl Sdp {
         requires { medium < length self.old.media }
         ensures ok { OnOk result (self.new ≡ with_media_line medium line.now self.old) }
         ensures err { OnErr result (self.new ≡ self.old) }
+        ensures count { length self.new.media ≡ length self.old.media }
     {
         self.media.push_line(medium, line)
     }

@@ -1,4 +1,4 @@
-use Rattle.std.proofs.Common.{rules, ◌≡◌, sym, ap, ◌∙◌, arith, ℕ, List, Option, get_or}
+use Rattle.std.proofs.Common.{ap, ◌∙◌, ℕ, List, Option, get_or}
 use Rattle.sg_sdp.specs.Addresses.{with_address, first_address}
 use Rattle.std.specs.Option.{option_or}
 use Rattle.sg_sdp.proofs.MediaLoops.{fills}

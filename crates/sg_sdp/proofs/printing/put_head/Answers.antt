@@ -1,4 +1,4 @@
-use Rattle.std.proofs.Common.{◌≡◌, ◌∙◌, refl}
+use Rattle.std.proofs.Common.{◌∙◌}
 use Rattle.std.specs.Fmt.{decimal}
 use Rattle.sg_sdp.proofs.Prints.{head_put}
 use Rattle.sg_sdp.proofs.printing.put_head.Goals as goal
