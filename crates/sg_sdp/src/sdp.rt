@@ -15,7 +15,7 @@ impl Sdp {
     ghost use Rattle.std.specs.Prelude.{◌≡◌, ◌<◌, length, OnOk, OnErr};
     ghost use Rattle.sg_sdp.specs.Parts.{with_last_line, with_media_line, with_session_line};
 
-    /// Puts a copy of the line last in the session part.
+    /// Puts a copy of the line last in the session part. No address changes, whatever the line is.
     pub fn add_session_line(&mut self, line: &[u8]) -> Result<(), NoMemory>
         ensures ok { OnOk result (self.new ≡ with_session_line line.now self.old) }
         ensures err { OnErr result (self.new ≡ self.old) }
@@ -24,7 +24,8 @@ impl Sdp {
         self.session.push_copy(line)
     }
 
-    /// Puts a copy of the line last in that medium. Media count from 0.
+    /// Puts a copy of the line last in that medium. Media count from 0. No address changes, whatever the
+    /// line is.
     pub fn add_media_line(&mut self, medium: usize, line: &[u8]) -> Result<(), NoMemory>
         requires { medium < length self.old.media }
         ensures ok { OnOk result (self.new ≡ with_media_line medium line.now self.old) }
