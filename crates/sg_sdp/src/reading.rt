@@ -18,13 +18,21 @@ use crate::sdp::Sdp;
 use sg_base::{NoMemory, Octets, SdpFault};
 use std::alloc::{AllocError, Global};
 
+// The most octets of a line, its end not counted.
+const LINE_MOST: usize = 2_048;
+
+// The most octets of a text.
+const TEXT_MOST: usize = 16_384;
+
+const MEDIA_MOST: usize = 4;
+
 // The head of a medium at an `m=` line, and nothing at another.
 #[tactic(auto, unfolding(crate::specs::Reading::form_of))]
 fn form(line: &[u8]) -> Result<Option<Head<'_>>, SdpFault>
     ensures value { view_form result ≡ form_of 2048 line.now }
     ensures long { IfOk result (λ _. 2 ≤ length line.now) }
 {
-    if line.len() > 2048 {
+    if line.len() > LINE_MOST {
         return Err(SdpFault::TooLong);
     }
     if !has_form(line) {
@@ -96,7 +104,7 @@ fn add(alloc: Global, sdp: &mut Sdp, number: u32, line: &[u8]) -> Result<(), Rea
         sdp.add_last_line(line)?;
         return Ok(());
     };
-    if sdp.media.len() == 4 {
+    if sdp.media.len() == MEDIA_MOST {
         return Err(ReadSdpFault::Sdp {
             line: number,
             fault: SdpFault::TooManyMedia,
@@ -111,7 +119,7 @@ fn add(alloc: Global, sdp: &mut Sdp, number: u32, line: &[u8]) -> Result<(), Rea
 fn end(number: u32, rest: &[u8]) -> Result<(), SdpFault>
     ensures { result ≡ end_of 2048 number rest.now }
 {
-    if rest.len() > 2048 {
+    if rest.len() > LINE_MOST {
         return Err(SdpFault::TooLong);
     }
     if !rest.is_empty() {
@@ -174,7 +182,7 @@ fn described(alloc: Global, text: &[u8]) -> Result<Sdp, ReadSdpFault>
 fn limited(alloc: Global, text: &[u8]) -> Result<Sdp, ReadSdpFault>
     ensures { Gives result (description_of text.now) }
 {
-    if text.len() > 16_384 {
+    if text.len() > TEXT_MOST {
         return Err(ReadSdpFault::Sdp {
             line: 0,
             fault: SdpFault::TooLong,

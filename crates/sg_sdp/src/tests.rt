@@ -5,7 +5,7 @@ use std::alloc::Global;
 use std::process::Abort;
 use std::test::Fail;
 
-// The texts were given with the task, as those of a call between two phones.
+// An offer and its answer, and what each is carried as, written by hand.
 const OFFER: &[u8] = b"v=0\r
 o=alice 2890844526 2890844526 IN IP4 127.0.0.1\r
 s=-\r
