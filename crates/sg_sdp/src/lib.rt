@@ -1,0 +1,27 @@
+//! Session descriptions, read, printed and carried to the other side (RFC 4566).
+#![tactic(auto)]
+
+mod addresses;
+mod carrying;
+mod faults;
+mod form;
+mod laws;
+mod lines;
+mod media;
+mod medium;
+mod printing;
+mod reading;
+mod sdp;
+
+pub use faults::ReadSdpFault;
+pub use laws::{
+    a_carried_text_is_a_description, a_description_stays_one, descriptions_have_one_value,
+};
+pub use lines::Lines;
+pub use media::Media;
+pub use medium::{Medium, Profile};
+pub use reading::read;
+pub use sdp::Sdp;
+
+#[cfg(test)]
+mod tests;
