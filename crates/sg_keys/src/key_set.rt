@@ -160,9 +160,10 @@ impl KeySet {
 
     /// The place of the first key that may serve a packet more; where none may, the last key is told.
     pub fn choose_seal(&self) -> Result<usize, Spent>
-        ensures { MatchResult result
+        ensures choice { MatchResult result
             (λ place. (k : Live) × (slice_get self.now place ≡ Some k) × (chosen_seal self.now ≡ Ok k))
             (λ spent. chosen_seal self.now ≡ Err spent) }
+        ensures some { 0 < length self.now }
     {
         match find_alive(self.keys.as_slice()) {
             Some(place) => Ok(place),
