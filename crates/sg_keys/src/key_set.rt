@@ -97,6 +97,15 @@ impl KeySet {
         KeySet { keys: kept }
     }
 
+    /// How many keys there are, one to eight.
+    pub fn count(&self) -> usize
+        ensures same { result ≡ length self.now }
+        ensures some { 0 < length self.now }
+        ensures most { result ≤ 8 }
+    {
+        self.keys.len()
+    }
+
     /// The octets of the first key's MKI, 0 where it has none.
     pub fn mki_len(&self) -> usize
         ensures value { result ≡ mki_len self.now }
@@ -160,10 +169,9 @@ impl KeySet {
 
     /// The place of the first key that may serve a packet more; where none may, the last key is told.
     pub fn choose_seal(&self) -> Result<usize, Spent>
-        ensures choice { MatchResult result
+        ensures { MatchResult result
             (λ place. (k : Live) × (slice_get self.now place ≡ Some k) × (chosen_seal self.now ≡ Ok k))
             (λ spent. chosen_seal self.now ≡ Err spent) }
-        ensures some { 0 < length self.now }
     {
         match find_alive(self.keys.as_slice()) {
             Some(place) => Ok(place),
