@@ -5,9 +5,6 @@ pub mod NoneTwice
 pub mod PlainAnswers
 pub mod PlainKeys
 pub mod PlainLists
-pub mod RawOpens
-pub mod RawReadBack
-pub mod RawTaking
 pub mod ReadBack
 pub mod Reused
 pub mod SameOctets

@@ -3,9 +3,6 @@ pub mod OneSession
 pub mod Opening
 pub mod Plain
 pub mod PlainRing
-pub mod RawPacket
-pub mod RawSession
-pub mod RawStandsFor
 pub mod Reach
 pub mod Ring
 pub mod Sealed

@@ -6,7 +6,6 @@ mod cause_tests;
 mod laws;
 mod names;
 pub mod plain;
-mod raw;
 #[cfg(test)]
 mod ring_tests;
 #[cfg(test)]
@@ -19,5 +18,4 @@ mod tests;
 
 pub use laws::{none_twice_in_a_session, sealed_is_opened};
 pub use names::{Direction, Name, Owner};
-pub use raw::RawSession;
 pub use sources::Admit;
