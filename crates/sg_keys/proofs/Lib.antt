@@ -1,0 +1,4 @@
+pub mod Choosing
+pub mod MkiTests
+pub mod Reusing
+pub mod Spending

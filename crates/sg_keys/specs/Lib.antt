@@ -1,0 +1,7 @@
+pub mod Held
+pub mod Installing
+pub mod Kept
+pub mod KeySet
+pub mod Live
+pub mod Reused
+pub mod Stands

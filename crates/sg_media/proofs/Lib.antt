@@ -1,0 +1,7 @@
+pub mod Accepted
+pub mod Admitted
+pub mod OpeningSteps
+pub mod SealingSteps
+pub mod SideSteps
+pub mod Sources
+pub mod Standing

@@ -1,0 +1,151 @@
+-- From a side to the sessions that it stands for.
+use Rattle.std.proofs.Common.{◌≡◌, ℕ, zero, suc, ◌+◌, ◌<◌, Bool, true, false, cond, nat_eq, List, [], ◌∷◌, ◌++◌, length, map, count_by, slice_get, Some, Result, Ok, Err, IfOk, OnErr, refl, ap, subst, sym, ◌∙◌, inl, inr, add-zero}
+use Rattle.std.proofs.lemmas.Bool.{cases_eq, eq-eqb, ne_eqb}
+use Rattle.std.proofs.lemmas.List.{length-map}
+use Rattle.std.proofs.lemmas.List.Sums.{sum_by-append}
+use Rattle.sg_base.specs.declared.addresses.Kind.{Kind}
+use Rattle.sg_base.specs.declared.faults.DropCause.{DropCause}
+use Rattle.sg_base.specs.declared.keys.HalfKeys.{HalfKeys}
+use Rattle.sg_keys.specs.Live.{Live, mki_len as live_mki_len, served, spent, spent_if}
+use Rattle.sg_keys.specs.Stands.{live, live_key}
+use Rattle.sg_keys.proofs.Spending.{same_half}
+use Rattle.sg_session.specs.OneSession.{after}
+use Rattle.sg_session.specs.Opening.{head_in, mki_in, mki_len, opens}
+use Rattle.sg_session.specs.Session.{Key, Done, Session, admits}
+use Rattle.sg_states.specs.Choosing.{chosen_for}
+use Rattle.sg_states.specs.Inbound.{Heading, Keying, IsHeaded, IsKeyed}
+use Rattle.sg_states.specs.Parts.{heading, mki_of}
+use Rattle.sg_states.specs.StreamValues.{StreamValue}
+use Rattle.sg_states.specs.declared.inbound.Opened.{Opened}
+use Rattle.sg_media.specs.Accepting.{IsAccepted, heading_in}
+use Rattle.sg_media.specs.Answers.{entry_of, opened_of}
+use Rattle.sg_media.specs.Ciphers.{HaveCiphers}
+use Rattle.sg_media.specs.Sides.{SideValue, StandsFor}
+use Rattle.sg_media.specs.Standing.{StreamsStand}
+use Rattle.sg_media.proofs.Accepted.{heading_is, mki_len_is, chosen_key, unchosen_key, unkeyed, opened_ok, opened_err}
+
+-- ---- heads and keys
+pub record IsHeadIn (s : Session) (d : List ℕ) (h : Heading) : Type 0 where
+  pub reads : head_in s d ≡ Ok h.head
+  pub same : h ≡ heading_in s d h.head
+
+pub headed_in : (side : SideValue) (s : Session) (d arrived : List ℕ) (m : ℕ) (h : Heading) → StandsFor side s → arrived ≡ d → m ≡ live_mki_len side.keys
+    → IsHeaded arrived side.kind side.encrypts m side.tag_len h → IsHeadIn s d h
+headed_in side s d arrived m h st e_d e_m is =
+    let size : m ≡ mki_len s = e_m ∙ ap live_mki_len st.same_keys ∙ mki_len_is s s.keys in
+    record {
+      reads = sym (heading_is s d) ∙ sym (λ i. heading (st.same_kind i) (st.same_encrypts i) (size i) (st.same_tag_len i) (e_d i)) ∙ is.reads;
+      same = λ i. record {
+        pad = (is.same_pad ∙ e_d) i;
+        kind = (is.same_kind ∙ st.same_kind) i;
+        mki_len = (is.same_mki_len ∙ size) i;
+        tag_len = (is.same_tag_len ∙ st.same_tag_len) i;
+        head = h.head;
+      };
+    }
+
+pub unheaded_in : (side : SideValue) (s : Session) (d arrived : List ℕ) (m : ℕ) (c : DropCause) → StandsFor side s → arrived ≡ d → m ≡ live_mki_len side.keys
+    → heading side.kind side.encrypts m side.tag_len arrived ≡ Err c → head_in s d ≡ Err c
+unheaded_in side s d arrived m c st e_d e_m e =
+    let size : m ≡ mki_len s = e_m ∙ ap live_mki_len st.same_keys ∙ mki_len_is s s.keys in
+    sym (heading_is s d) ∙ sym (λ i. heading (st.same_kind i) (st.same_encrypts i) (size i) (st.same_tag_len i) (e_d i)) ∙ e
+
+chosen_in : (s : Session) (d : List ℕ) (h : Heading) (keys : List Live) (r : Result Live DropCause) → IsHeadIn s d h → keys ≡ live s
+    → chosen_for keys (mki_of h.mki_len h.tag_len h.pad) ≡ r → chosen_for (live s) (mki_in s d) ≡ r
+chosen_in s d h keys r is e choice =
+    sym (ap (λ ks. chosen_for ks (mki_in s d)) e) ∙ sym (ap (λ (g : Heading). chosen_for keys (mki_of g.mki_len g.tag_len g.pad)) is.same) ∙ choice
+
+pub accepted : (s : Session) (d : List ℕ) (h : Heading) (keys : List Live) (k : Keying) → IsHeadIn s d h → keys ≡ live s → admits s h.head.ssrc ≡ true → IsKeyed h keys k → IsAccepted s d k
+accepted s d h keys k is e adm keyed =
+    let choice = chosen_key s (mki_in s d) keyed.key (chosen_in s d h keys (Ok keyed.key) is e keyed.choice) in
+    record {
+      head = h.head;
+      reads = is.reads;
+      same = keyed.same ∙ is.same;
+      admitted = adm;
+      key = choice.0;
+      chosen = choice.1;
+      at = ap (λ (ks : List Live). slice_get ks k.place) (sym e) ∙ keyed.at ∙ ap (λ (x : Live). Some x) (sym (choice.2));
+    }
+
+pub unaccepted : (s : Session) (d : List ℕ) (h : Heading) (keys : List Live) (c : DropCause) → IsHeadIn s d h → keys ≡ live s → admits s h.head.ssrc ≡ true
+    → chosen_for keys (mki_of h.mki_len h.tag_len h.pad) ≡ Err c → opens s d ≡ Err c
+unaccepted s d h keys c is e adm choice = unkeyed s d h.head c is.reads adm (unchosen_key s (mki_in s d) c (chosen_in s d h keys (Err c) is e choice))
+
+-- ---- keys that serve
+count-push : (n : ℕ) (done : List Done) (d : Done) → nat_eq d.key n ≡ true → count_by (λ (x : Done). nat_eq x.key n) (done ++ d ∷ []) ≡ count_by (λ (x : Done). nat_eq x.key n) done + 1
+count-push n done d e = sum_by-append (λ (x : Done). cond (nat_eq x.key n) 1 0) done (d ∷ []) ∙ ap (λ m. count_by (λ (x : Done). nat_eq x.key n) done + m) (rw e refl)
+
+count-push_other : (n : ℕ) (done : List Done) (d : Done) → nat_eq d.key n ≡ false → count_by (λ (x : Done). nat_eq x.key n) (done ++ d ∷ []) ≡ count_by (λ (x : Done). nat_eq x.key n) done
+count-push_other n done d e =
+    sum_by-append (λ (x : Done). cond (nat_eq x.key n) 1 0) done (d ∷ []) ∙ ap (λ m. count_by (λ (x : Done). nat_eq x.key n) done + m) (rw e refl)
+    ∙ add-zero (count_by (λ (x : Done). nat_eq x.key n) done)
+
+abbrev pub done_more : Session → Done → Session
+done_more s d = record s { done = s.done ++ d ∷ [] }
+
+live_key-push : (s : Session) (d : Done) (k : Key) → spent_if d.key (live_key s k) ≡ live_key (done_more s d) k
+live_key-push s d k =
+    elim (cases_eq d.key k.number) [
+      | inl e ↦ rw (eq-eqb k.number d.key (sym e), count-push k.number s.done d (eq-eqb d.key k.number e)) refl
+      | inr ne ↦ rw (ne_eqb k.number d.key (λ e. ne (sym e)), count-push_other k.number s.done d (ne_eqb d.key k.number ne)) refl
+    ]
+
+lives-push : (s : Session) (d : Done) (keys : List Key) → spent d.key (map (live_key s) keys) ≡ map (live_key (done_more s d)) keys
+lives-push s d [] = refl
+lives-push s d (k ∷ ks) = λ i. live_key-push s d k i ∷ lives-push s d ks i
+
+pub live-push : (s : Session) (d : Done) → spent d.key (live s) ≡ live (done_more s d)
+live-push s d = lives-push s d s.keys
+
+pub spent_ciphers : (n : ℕ) (keys : List Live) (kind : Kind) (encrypts : Bool) → HaveCiphers keys kind encrypts → HaveCiphers (spent n keys) kind encrypts
+spent_ciphers n [] kind encrypts c i k e on = cc
+spent_ciphers n (x ∷ xs) kind encrypts c zero k e on =
+    let same : spent_if n x ≡ k = cc in
+    subst (λ (y : Live). 0 < length y.half.encrypt) same (subst (λ (h : HalfKeys). 0 < length h.encrypt) (sym (same_half n x)) (c zero x refl on))
+spent_ciphers n (x ∷ xs) kind encrypts c (suc i) k e on = spent_ciphers n xs kind encrypts (λ j. c (suc j)) i k e on
+
+pub ciphers_after : (A E : Type 0) (r : Result Opened E) (new old : List Live) (kind : Kind) (encrypts : Bool) → IfOk r (λ o. new ≡ spent o.key old) → OnErr r (A × (new ≡ old))
+    → HaveCiphers old kind encrypts → HaveCiphers new kind encrypts
+ciphers_after A E (Ok o) new old kind encrypts ok err c = subst (λ keys. HaveCiphers keys kind encrypts) (sym ok) (spent_ciphers o.key old kind encrypts c)
+ciphers_after A E (Err e) new old kind encrypts ok err c = subst (λ keys. HaveCiphers keys kind encrypts) (sym (err.1)) c
+
+pub some_after : (A E : Type 0) (r : Result Opened E) (new old : List Live) → IfOk r (λ o. new ≡ spent o.key old) → OnErr r (A × (new ≡ old)) → 0 < length old → 0 < length new
+some_after A E (Ok o) new old ok err some = subst (λ n. 0 < n) (sym (ap length ok ∙ length-map old (spent_if o.key))) some
+some_after A E (Err e) new old ok err some = subst (λ (ks : List Live). 0 < length ks) (sym (err.1)) some
+
+-- ---- the side afterwards
+pub stands_with : (side : SideValue) (s : Session) (d : Done) (keys : List Live) (streams : List StreamValue) → StandsFor side s → keys ≡ spent d.key side.keys
+    → StreamsStand streams side.roc side.window (s.done ++ d ∷ []) → StandsFor (record side { keys = keys; streams = streams }) (done_more s d)
+stands_with side s d keys streams st e new = record {
+  same_kind = st.same_kind;
+  same_keys = e ∙ ap (spent d.key) st.same_keys ∙ live-push s d;
+  same_roc = st.same_roc;
+  same_window = st.same_window;
+  same_admit = st.same_admit;
+  same_encrypts = st.same_encrypts;
+  same_tag_len = st.same_tag_len;
+  streams = subst (λ r. StreamsStand streams r s.window (s.done ++ d ∷ [])) st.same_roc (subst (λ w. StreamsStand streams side.roc w (s.done ++ d ∷ [])) st.same_window new);
+}
+
+pub streams_in : (side : SideValue) (s : Session) → StandsFor side s → StreamsStand side.streams side.roc side.window s.done
+streams_in side s st =
+    subst (λ r. StreamsStand side.streams r side.window s.done) (sym (st.same_roc)) (subst (λ w. StreamsStand side.streams s.roc w s.done) (sym (st.same_window)) st.streams)
+
+pub stands_same : (side : SideValue) (s : Session) (keys : List Live) (streams : List StreamValue) → StandsFor side s → keys ≡ side.keys → streams ≡ side.streams
+    → StandsFor (record side { keys = keys; streams = streams }) s
+stands_same side s keys streams st e f = subst (λ (ks : List Live). StandsFor (record side { keys = ks; streams = streams }) s) (sym e) (subst (λ (ts : List StreamValue). StandsFor (record side { streams = ts }) s) (sym f) st)
+
+pub stands_after : (side : SideValue) (s : Session) (d : List ℕ) (r : Result Opened (List ℕ × DropCause)) (keys : List Live) (streams : List StreamValue) → StandsFor side s
+    → r ≡ opened_of s.name.kind d (opens s d)
+    → IfOk r (λ o. (done : List Done) → StreamsStand side.streams side.roc side.window done → StreamsStand streams side.roc side.window (done ++ entry_of o ∷ []))
+    → IfOk r (λ o. keys ≡ spent o.key side.keys) → OnErr r ((streams ≡ side.streams) × (keys ≡ side.keys))
+    → StandsFor (record side { keys = keys; streams = streams }) (after s (opens s d))
+stands_after side s d (Ok o) keys streams st e grown served stays =
+    let told = opened_ok s.name.kind d (opens s d) o e in
+    subst (λ r. StandsFor (record side { keys = keys; streams = streams }) (after s r)) (sym (told.1))
+    (subst (λ x. StandsFor (record side { keys = keys; streams = streams }) (done_more s x)) told.2
+    (stands_with side s (entry_of o) keys streams st served (grown s.done (streams_in side s st))))
+stands_after side s d (Err x) keys streams st e grown served stays =
+    let told = opened_err s.name.kind d (opens s d) x e in
+    subst (λ r. StandsFor (record side { keys = keys; streams = streams }) (after s r)) (sym (told.1)) (stands_same side s keys streams st stays.1 stays.0)

@@ -1,0 +1,120 @@
+-- Streams after one datagram more.
+use Rattle.std.proofs.Common.{◌≡◌, ◌≢◌, ℕ, zero, suc, ◌+◌, ◌<◌, ◌≤◌, true, false, not, nat_eq, nat_lt, List, [], ◌∷◌, ◌++◌, length, map, take, get_or, slice_get, slice_set, Some, None, refl, arith, ap, subst, sym, ◌∙◌, ◌⊎◌, inl, inr}
+use Rattle.std.proofs.lemmas.Bool.{cases_eq, both_ways, ne_eqb, lt-ltb}
+use Rattle.std.proofs.lemmas.List.{map-append, length-map, take_more}
+use Rattle.std.proofs.lemmas.Option.{get_or_from_slice_get}
+use Rattle.std.proofs.Math.Seq.{map-set_same}
+use Rattle.sg_replay.specs.Freshness.{is_in}
+use Rattle.sg_states.specs.StreamValues.{StreamValue}
+use Rattle.sg_session.specs.Session.{Done, sources, is_first, indices_of}
+use Rattle.sg_states.specs.Streams.{StreamStands}
+use Rattle.sg_media.specs.Standing.{source_of, StreamsStand, IsAt, room_in}
+use Rattle.sg_media.proofs.Sources.{sources_from-push, indices_of-push_same, indices_of-push_other, none_of, first_source, first_is, Distinct, distinct_sources, is_in-map, is_in-push, distinct_places}
+
+module _ {X : Type 0} where
+  get_set_same : (xs : List X) (i : ℕ) (x y : X) → slice_get (slice_set xs i x) i ≡ Some y → x ≡ y
+  get_set_same [] i x y e = cc
+  get_set_same (z ∷ zs) zero x y e = cc
+  get_set_same (z ∷ zs) (suc i) x y e = get_set_same zs i x y e
+
+  get_set_other : (xs : List X) (i j : ℕ) (x : X) → j ≢ i → slice_get (slice_set xs i x) j ≡ slice_get xs j
+  get_set_other [] i j x ne = refl
+  get_set_other (z ∷ zs) zero zero x ne = absurd (ne refl)
+  get_set_other (z ∷ zs) zero (suc j) x ne = refl
+  get_set_other (z ∷ zs) (suc i) zero x ne = refl
+  get_set_other (z ∷ zs) (suc i) (suc j) x ne = get_set_other zs i j x (λ e. ne (ap suc e))
+
+  get_push : (xs : List X) (i : ℕ) (x y : X) → slice_get (xs ++ x ∷ []) i ≡ Some y → (slice_get xs i ≡ Some y) ⊎ (x ≡ y)
+  get_push [] zero x y e = inr cc
+  get_push [] (suc i) x y e = cc
+  get_push (z ∷ zs) zero x y e = inl e
+  get_push (z ∷ zs) (suc i) x y e = get_push zs i x y e
+
+-- a stream that was found
+pub known_in : (streams : List StreamValue) (roc window : ℕ) (done : List Done) (ssrc at : ℕ) → StreamsStand streams roc window done → IsAt streams ssrc at → is_in (sources done) ssrc ≡ true
+known_in streams roc window done ssrc at s f =
+    subst (λ n. is_in (sources done) n ≡ true) f.source
+    (subst (λ ns. is_in ns (f.stream).ssrc ≡ true) s.each_source (is_in-map source_of streams at f.stream f.here))
+
+pub known_stream : (streams : List StreamValue) (roc window : ℕ) (done : List Done) (ssrc at : ℕ) → StreamsStand streams roc window done → (f : IsAt streams ssrc at) → StreamStands f.stream ssrc roc window (indices_of done ssrc)
+known_stream streams roc window done ssrc at s f = subst (λ n. StreamStands f.stream n roc window (indices_of done n)) f.source (s.each_stream at f.stream f.here)
+
+pub known_stands : (streams : List StreamValue) (roc window : ℕ) (done : List Done) (at : ℕ) (t : StreamValue) (d : Done) → StreamsStand streams roc window done → IsAt streams d.ssrc at
+    → StreamStands t d.ssrc roc window (indices_of done d.ssrc ++ d.index ∷ [])
+    → StreamsStand (slice_set streams at t) roc window (done ++ d ∷ [])
+known_stands streams roc window done at t d s f new = record {
+  each_source =
+      map-set_same source_of streams at t t (new.source ∙ sym (f.source) ∙ ap source_of (sym (get_or_from_slice_get streams at f.stream t f.here)))
+      ∙ s.each_source
+      ∙ sym (sources_from-push [] done d ∙ rw (known_in streams roc window done d.ssrc at s f) refl);
+  each_stream = λ i u e.
+      elim (cases_eq i at) [
+        | inl here ↦
+            (let same : t ≡ u = get_set_same streams at t u (subst (λ j. slice_get (slice_set streams at t) j ≡ Some u) here e) in
+            subst (λ (v : StreamValue). StreamStands v v.ssrc roc window (indices_of (done ++ d ∷ []) v.ssrc)) same
+            (subst (λ n. StreamStands t n roc window (indices_of (done ++ d ∷ []) n)) (sym (new.source))
+            (subst (StreamStands t d.ssrc roc window) (sym (indices_of-push_same done d)) new)))
+        | inr ne ↦
+            (let old : slice_get streams i ≡ Some u = sym (get_set_other streams at i t ne) ∙ e in
+            let apart : d.ssrc ≢ u.ssrc = λ n. ne (distinct_places source_of streams i at u f.stream (subst Distinct (sym (s.each_source)) (distinct_sources [] done tt)) old f.here (sym n ∙ sym (f.source))) in
+            subst (StreamStands u u.ssrc roc window) (sym (indices_of-push_other u.ssrc done d apart)) (s.each_stream i u old))
+      ];
+}
+
+pub new_in : (streams : List StreamValue) (roc window : ℕ) (done : List Done) (ssrc : ℕ) → StreamsStand streams roc window done → is_in (map source_of streams) ssrc ≡ false → is_in (sources done) ssrc ≡ false
+new_in streams roc window done ssrc s h = subst (λ ns. is_in ns ssrc ≡ false) s.each_source h
+
+pub new_indices : (streams : List StreamValue) (roc window : ℕ) (done : List Done) (ssrc : ℕ) → StreamsStand streams roc window done → is_in (map source_of streams) ssrc ≡ false → indices_of done ssrc ≡ []
+new_indices streams roc window done ssrc s h = none_of [] done ssrc (new_in streams roc window done ssrc s h)
+
+pub new_stands : (streams : List StreamValue) (roc window : ℕ) (done : List Done) (t : StreamValue) (d : Done) → StreamsStand streams roc window done → is_in (map source_of streams) d.ssrc ≡ false
+    → StreamStands t d.ssrc roc window (indices_of done d.ssrc ++ d.index ∷ [])
+    → StreamsStand (streams ++ t ∷ []) roc window (done ++ d ∷ [])
+new_stands streams roc window done t d s h new = record {
+  each_source =
+      map-append source_of streams (t ∷ [])
+      ∙ ap (λ n. map source_of streams ++ n ∷ []) new.source
+      ∙ ap (λ ns. ns ++ d.ssrc ∷ []) s.each_source
+      ∙ sym (sources_from-push [] done d ∙ rw (new_in streams roc window done d.ssrc s h) refl);
+  each_stream = λ i u e.
+      elim (get_push streams i t u e) [
+        | inl old ↦
+            (let apart : d.ssrc ≢ u.ssrc = λ n. both_ways _ h (subst (λ m. is_in (map source_of streams) m ≡ true) (sym n) (is_in-map source_of streams i u old)) in
+            subst (StreamStands u u.ssrc roc window) (sym (indices_of-push_other u.ssrc done d apart)) (s.each_stream i u old))
+        | inr same ↦
+            subst (λ (v : StreamValue). StreamStands v v.ssrc roc window (indices_of (done ++ d ∷ []) v.ssrc)) same
+            (subst (λ n. StreamStands t n roc window (indices_of (done ++ d ∷ []) n)) (sym (new.source))
+            (subst (StreamStands t d.ssrc roc window) (sym (indices_of-push_same done d)) new))
+      ];
+}
+
+-- one stream more that isn't of this source
+pub not_yet : (streams : List StreamValue) (i : ℕ) (t : StreamValue) (n : ℕ) → i < length streams → t ≡ get_or streams i t → t.ssrc ≢ n
+    → is_in (map source_of (take i streams)) n ≡ false → is_in (map source_of (take (i + 1) streams)) n ≡ false
+not_yet streams i t n h e ne f =
+    ap (λ xs. is_in (map source_of xs) n) (take_more streams i t h)
+    ∙ ap (λ xs. is_in xs n) (map-append source_of (take i streams) (get_or streams i t ∷ []))
+    ∙ is_in-push (map source_of (take i streams)) (get_or streams i t).ssrc n
+    ∙ rw (f, ← e, ne_eqb t.ssrc n ne) refl
+
+not_full : (n : ℕ) → n ≤ 16 → nat_lt n 16 ≡ not (nat_eq n 16)
+not_full n h =
+    elim (cases_eq n 16) [
+      | inl e ↦ rw e refl
+      | inr ne ↦ rw (lt-ltb n 16 (omega arith), ne_eqb n 16 ne) refl
+    ]
+
+-- a source that isn't there has room where a place is free
+pub new_room : (streams : List StreamValue) (roc window : ℕ) (done : List Done) (ssrc : ℕ) → StreamsStand streams roc window done → is_in (map source_of streams) ssrc ≡ false → length streams ≤ 16
+    → room_in done ssrc ≡ not (nat_eq (length streams) 16)
+new_room streams roc window done ssrc s h fits =
+    let count : length (sources done) ≡ length streams = ap length (sym (s.each_source)) ∙ length-map streams source_of in
+    rw (new_in streams roc window done ssrc s h, count) (not_full (length streams) fits)
+
+pub no_first : (streams : List StreamValue) (done : List Done) (ssrc : ℕ) → None ≡ slice_get streams 0 → map source_of streams ≡ sources done → true ≡ is_first done ssrc
+no_first [] done ssrc e s = sym (first_source done ssrc ∙ ap (λ ns. first_is ns ssrc) (sym s))
+no_first (t ∷ ts) done ssrc e s = cc
+
+pub some_first : (streams : List StreamValue) (t : StreamValue) (done : List Done) (ssrc : ℕ) → Some t ≡ slice_get streams 0 → map source_of streams ≡ sources done → nat_eq t.ssrc ssrc ≡ is_first done ssrc
+some_first [] t done ssrc e s = cc
+some_first (u ∷ us) t done ssrc e s = let same : t ≡ u = cc in ap (λ (v : StreamValue). nat_eq v.ssrc ssrc) same ∙ sym (first_source done ssrc ∙ ap (λ ns. first_is ns ssrc) (sym s))

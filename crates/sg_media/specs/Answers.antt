@@ -1,0 +1,69 @@
+-- What a side answers, by the definitions of one session.
+use Rattle.std.specs.Prelude.{ℕ, Bool, not, List, Result, Ok, Err}
+use Rattle.sg_base.specs.declared.addresses.Kind.{Kind}
+use Rattle.sg_base.specs.declared.faults.DropCause.{DropCause}
+use Rattle.sg_base.specs.declared.faults.DropCause.TheVariants.{BadTag, StreamsFull}
+use Rattle.sg_keys.specs.Live.{Live}
+use Rattle.sg_session.specs.Opening.{Taken}
+use Rattle.sg_session.specs.Sealing.{datagram_of}
+use Rattle.sg_session.specs.Session.{Done, Session}
+use Rattle.sg_session.specs.Stages.{after_ok, stop_if}
+use Rattle.sg_states.specs.Choosing.{chosen_to_seal}
+use Rattle.sg_states.specs.Inbound.{Keying, fits_under, packet_at}
+use Rattle.sg_states.specs.Outbound.{Outgoing, datagram_at}
+use Rattle.sg_states.specs.declared.inbound.Opened.{Opened}
+use Rattle.sg_states.specs.declared.outbound.Sealed.{Sealed}
+
+-- what is handed out of a datagram: the packet that it opens as, or the datagram and the first cause
+abbrev pub opened_of : Kind → List ℕ → Result Taken DropCause → Result Opened (List ℕ × DropCause)
+opened_of kind d (Ok t) = Ok (record { pad = t.done.packet; kind = kind; ssrc = t.done.ssrc; index = t.done.index; key = t.done.key })
+opened_of kind d (Err cause) = Err (d, cause)
+
+-- what is handed out of a packet: its datagram, or the packet and the first cause
+abbrev pub sealed_of : Session → List ℕ → Result Taken DropCause → Result Sealed (List ℕ × DropCause)
+sealed_of s p (Ok t) = Ok (record { pad = datagram_of s t; kind = s.name.kind; ssrc = t.done.ssrc; index = t.done.index; key = t.done.key })
+sealed_of s p (Err cause) = Err (p, cause)
+
+-- the entry of what is opened under a key at an index
+abbrev pub entry_at : Keying → Live → ℕ → Done
+entry_at k key i = record { ssrc = k.headed.head.ssrc; index = i; key = key.number; packet = packet_at k.headed key.half i }
+
+-- what is opened of a datagram whose key is chosen, where its source may have room
+abbrev pub opened_at : Keying → Live → Bool → Result ℕ DropCause → Result Done DropCause
+opened_at k key room (Err cause) = Err cause
+opened_at k key room (Ok i) =
+    stop_if (not (fits_under (record { keyed = k; index = i }) key)) BadTag (stop_if (not room) StreamsFull (Ok (entry_at k key i)))
+
+abbrev pub answer_at : Kind → List ℕ → Result Done DropCause → Result Opened (List ℕ × DropCause)
+answer_at kind d (Ok done) = Ok (record { pad = done.packet; kind = kind; ssrc = done.ssrc; index = done.index; key = done.key })
+answer_at kind d (Err cause) = Err (d, cause)
+
+-- the entry of what was opened
+abbrev pub entry_of : Opened → Done
+entry_of o = record { ssrc = o.ssrc; index = o.index; key = o.key; packet = o.pad }
+
+-- what is sealed of a packet: its datagram and its entry
+pub record Closed : Type 0 where
+  pub text : List ℕ
+  pub done : Done
+
+abbrev pub closed_at : Outgoing → ℕ → Live → ℕ → Closed
+closed_at h tag_len key i = record {
+  text = datagram_at (record { headed = h; place = 0; index = i }) key tag_len;
+  done = record { ssrc = h.head.ssrc; index = i; key = key.number; packet = h.pad };
+}
+
+-- what is sealed of a packet whose source has room
+abbrev pub sealed_at : Outgoing → List Live → ℕ → Result ℕ DropCause → Result Closed DropCause
+sealed_at h keys tag_len r = after_ok (chosen_to_seal keys) (λ key. after_ok r (λ i. Ok (closed_at h tag_len key i)))
+
+abbrev pub roomed : Bool → Result Closed DropCause → Result Closed DropCause
+roomed room r = stop_if (not room) StreamsFull r
+
+abbrev pub told_of : Kind → List ℕ → Result Closed DropCause → Result Sealed (List ℕ × DropCause)
+told_of kind p (Ok x) = Ok (record { pad = x.text; kind = kind; ssrc = x.done.ssrc; index = x.done.index; key = x.done.key })
+told_of kind p (Err cause) = Err (p, cause)
+
+-- the entry of what was sealed of a packet
+abbrev pub entry_out : List ℕ → Sealed → Done
+entry_out p o = record { ssrc = o.ssrc; index = o.index; key = o.key; packet = p }

@@ -1,0 +1,39 @@
+-- What a side shows, and the sessions that it stands for.
+use Rattle.std.specs.Prelude.{◌≡◌, ℕ, ◌<◌, ◌≤◌, Bool, List, length}
+use Rattle.sg_base.specs.declared.addresses.Kind.{Kind}
+use Rattle.sg_keys.specs.Live.{Live}
+use Rattle.sg_keys.specs.Stands.{live}
+use Rattle.sg_session.specs.Session.{Session}
+use Rattle.sg_session.specs.declared.sources.Admit.{Admit}
+use Rattle.sg_states.specs.StreamValues.{StreamValue}
+use Rattle.sg_media.specs.Ciphers.{HaveCiphers}
+use Rattle.sg_media.specs.Standing.{StreamsStand}
+
+pub record SideValue : Type 0 where
+  pub kind : Kind
+  pub keys : List Live
+  pub streams : List StreamValue
+  pub roc : ℕ
+  pub window : ℕ
+  pub admit : Admit
+  pub encrypts : Bool
+  pub tag_len : ℕ
+
+-- what is always true of a side
+pub record IsSide (keys : List Live) (kind : Kind) (window : ℕ) (encrypts : Bool) (tag_len : ℕ) : Type 0 where
+  pub at_least : 64 ≤ window
+  pub at_most : window ≤ 1024
+  pub tag : tag_len ≤ 10
+  pub some : 0 < length keys
+  pub ciphers : HaveCiphers keys kind encrypts
+
+-- A side stands for a session: it has its keys with their counts, and its streams stand for what is done.
+pub record StandsFor (side : SideValue) (s : Session) : Type 0 where
+  pub same_kind : side.kind ≡ s.name.kind
+  pub same_keys : side.keys ≡ live s
+  pub same_roc : side.roc ≡ s.roc
+  pub same_window : side.window ≡ s.window
+  pub same_admit : side.admit ≡ s.admit
+  pub same_encrypts : side.encrypts ≡ s.encrypts
+  pub same_tag_len : side.tag_len ≡ s.tag_len
+  pub streams : StreamsStand side.streams s.roc s.window s.done

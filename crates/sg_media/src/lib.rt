@@ -1,0 +1,15 @@
+//! The two sides of a session: what opens its datagrams and what seals its packets. No call takes memory.
+#![tactic(auto)]
+
+mod among;
+mod open_side;
+mod opening;
+mod seal_side;
+mod sealing;
+mod side;
+mod streams;
+
+pub use open_side::OpenSide;
+pub use seal_side::SealSide;
+pub use sg_states::inbound::Opened;
+pub use sg_states::outbound::Sealed;

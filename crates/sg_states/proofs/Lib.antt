@@ -1,0 +1,4 @@
+pub mod Alive
+pub mod Placings
+pub mod Tags
+pub mod Words

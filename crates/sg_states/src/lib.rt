@@ -1,0 +1,13 @@
+//! Typed states that open and seal protected packets of both kinds, RTP and RTCP, over one pad (RFC
+//! 3711, 3.3 and 3.4). No call takes memory.
+#![tactic(auto)]
+
+mod code;
+mod head;
+pub mod inbound;
+mod mask;
+pub mod outbound;
+mod stream;
+
+pub use head::Head;
+pub use stream::Stream;
