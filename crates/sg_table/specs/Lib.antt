@@ -1,0 +1,3 @@
+pub mod Handling
+pub mod Keying
+pub mod Standing

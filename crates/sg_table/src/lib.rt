@@ -1,0 +1,12 @@
+//! The table of calls that the gateway runs on: it keeps what the definitions need of all that is done, and
+//! a datagram takes no memory.
+#![tactic(auto)]
+
+mod call;
+mod handled;
+mod leg;
+mod manual;
+mod table;
+
+pub use handled::{End, Handled};
+pub use table::Table;

@@ -1,0 +1,285 @@
+//! A call that is keyed by hand.
+
+ghost use Rattle.std.specs.Prelude.{◌≡◌, ◌≤◌, ◌<◌, ◌++◌, true, false, [], ◌∷◌, Some, length, List, ℕ, IfOk, OnOk};
+ghost use Rattle.sg_base.specs.declared.addresses.Kind.TheVariants as kind;
+ghost use Rattle.sg_session.specs.declared.names.Direction.TheVariants as direction;
+ghost use Rattle.sg_session.specs.declared.names.Owner.{Owner};
+ghost use Rattle.sg_kdf.specs.SessionKeys.{is_raw, session_keys};
+ghost use Rattle.sg_keys.specs.Live.{is_cipher_len};
+ghost use Rattle.sg_keys.specs.Reused.{IsDerived};
+ghost use Rattle.sg_session.specs.Halves.{half_of};
+ghost use Rattle.sg_session.specs.Session.{Session};
+ghost use Rattle.sg_gateway.specs.Generations.{owner_at, sessions_from};
+ghost use Rattle.sg_gateway.specs.Plain.{session_by_hand, sessions_by_hand};
+ghost use Rattle.sg_gateway.specs.Ports.{leg_of, next_port, port_at};
+ghost use Rattle.sg_gateway.specs.Signals.{medium_by_hand};
+ghost use Rattle.sg_table.specs.Keying.{by_hand_of, CanBeMade};
+ghost use Rattle.sg_media.specs.Accepting.{IsMadeOf};
+ghost use Rattle.sg_table.specs.Standing.{EachStands, LegStandsFor};
+
+use crate::leg::{Leg, MediaSide};
+use arrayvec::ArrayVec;
+use sg_base::{
+    Address, CallId, CipherKey, HalfKeys, Kind, MasterKey, NoMemory, SessionKeys, Suite,
+};
+use sg_keys::{KeySet, LiveKey, SessionSpec};
+use sg_media::{OpenSide, SealSide};
+use sg_session::{Admit, Direction};
+use std::alloc::Global;
+
+/// How many RTP packets a master key serves: 2^48 (RFC 3711, 9.2).
+const RTP_LIFE: u64 = 281474976710656;
+
+/// How many SRTCP packets a master key serves: 2^31 (RFC 3711, 9.2).
+const RTCP_LIFE: u64 = 2147483648;
+
+/// The octets of an SRTCP tag in every suite (RFC 4568, 6.2).
+const RTCP_TAG: u8 = 10;
+
+/// The window of a sealing session, in packets.
+const SEALING_WINDOW: u16 = 1024;
+
+/// What a line says of a call that is keyed by hand.
+#[derive(Drop)]
+pub struct Manual {
+    pub id: CallId,
+    pub secure: Address,
+    pub plain: Address,
+    pub roc: u32,
+    pub window: u16,
+    pub from_peer: MasterKey,
+    pub to_peer: MasterKey,
+}
+
+/// A master key with its session keys.
+pub type Derived = (MasterKey, SessionKeys);
+
+/// The key with its session keys.
+pub fn derived(master: &MasterKey) -> Derived
+    ensures master { result.0 ≡ master.now }
+    ensures derived { IsDerived result }
+{
+    (master.again(), sg_kdf::derive(master))
+}
+
+impl Manual {
+    /// The legs of the call in this slot, whose keys have the two numbers from `number` on.
+    pub fn legs(
+        &self,
+        alloc: Global,
+        slot: u8,
+        number: u32,
+        from_peer: &Derived,
+        to_peer: &Derived,
+    ) -> Result<Vec<Leg>, NoMemory>
+        requires number { number ≤ 65536 }
+        requires from_peer { from_peer.now.0 ≡ self.now.from_peer }
+        requires from_derived { IsDerived from_peer.now }
+        requires to_peer { to_peer.now.0 ≡ self.now.to_peer }
+        requires to_derived { IsDerived to_peer.now }
+        ensures { IfOk result (λ legs. EachStands (LegStandsFor slot) legs.items (sessions_from slot 0 0 number (Some (medium_by_hand (by_hand_of self.now)) ∷ []))) }
+    {
+        let mut legs = Vec::new(alloc);
+        let window = self.window.clamp(64, 1024);
+        self.add_opening(&mut legs, slot, number, from_peer, window)?;
+        self.add_sealing(&mut legs, slot, number + 1, to_peer)?;
+        Ok(legs)
+    }
+
+    /// Adds the legs of what the peer sends: RTP, and RTCP where there is some.
+    fn add_opening(
+        &self,
+        legs: &mut Vec<Leg>,
+        slot: u8,
+        number: u32,
+        keys: &Derived,
+        window: u16,
+    ) -> Result<(), NoMemory>
+        requires at_least { 64 ≤ window }
+        requires at_most { window ≤ 1024 }
+        requires key { keys.now.0 ≡ self.now.from_peer }
+        requires derived { IsDerived keys.now }
+        ensures { OnOk result ((ss : List Session) → EachStands (LegStandsFor slot) legs.old.items ss
+            → EachStands (LegStandsFor slot) legs.new.items (ss ++ sessions_by_hand (by_hand_of self.now) (owner_at slot 0 0 direction.Opening) number keys.now.0 window)) }
+    {
+        let rtp = self.opening(Kind::Rtp, slot, number, keys, window);
+        legs.push(rtp)?;
+        if self.has_rtcp() {
+            let rtcp = self.opening(Kind::Rtcp, slot, number, keys, window);
+            legs.push(rtcp)?;
+        }
+        Ok(())
+    }
+
+    /// Adds the legs of what the gateway sends to the peer.
+    fn add_sealing(
+        &self,
+        legs: &mut Vec<Leg>,
+        slot: u8,
+        number: u32,
+        keys: &Derived,
+    ) -> Result<(), NoMemory>
+        requires key { keys.now.0 ≡ self.now.to_peer }
+        requires derived { IsDerived keys.now }
+        ensures { OnOk result ((ss : List Session) → EachStands (LegStandsFor slot) legs.old.items ss
+            → EachStands (LegStandsFor slot) legs.new.items (ss ++ sessions_by_hand (by_hand_of self.now) (owner_at slot 0 0 direction.Sealing) number keys.now.0 1024)) }
+    {
+        let rtp = self.sealing(Kind::Rtp, slot, number, keys);
+        legs.push(rtp)?;
+        if self.has_rtcp() {
+            let rtcp = self.sealing(Kind::Rtcp, slot, number, keys);
+            legs.push(rtcp)?;
+        }
+        Ok(())
+    }
+
+    /// Whether there is RTCP: not under raw keys, nor where no port follows the RTP port of a side.
+    fn has_rtcp(&self) -> bool
+        ensures value { result ≡ (medium_by_hand (by_hand_of self.now)).has_rtcp }
+        ensures from_peer { result ≡ true → is_raw self.now.from_peer.suite ≡ false }
+        ensures to_peer { result ≡ true → is_raw self.now.to_peer.suite ≡ false }
+        ensures secure { result ≡ true → self.now.secure.port < 65535 }
+        ensures plain { result ≡ true → self.now.plain.port < 65535 }
+    {
+        let secret = !is_raw(self.from_peer.suite()) && !is_raw(self.to_peer.suite());
+        secret && self.secure.port < 65535 && self.plain.port < 65535
+    }
+
+    /// The leg of one kind of what the peer sends.
+    fn opening(&self, kind: Kind, slot: u8, number: u32, keys: &Derived, window: u16) -> Leg
+        requires at_least { 64 ≤ window }
+        requires at_most { window ≤ 1024 }
+        requires derived { IsDerived keys.now }
+        requires secret { kind ≡ Kind.Rtcp → is_raw keys.now.0.suite ≡ false }
+        requires port { kind ≡ Kind.Rtcp → self.now.plain.port < 65535 }
+        ensures { LegStandsFor slot result (session_by_hand (by_hand_of self.now) (owner_at slot 0 0 direction.Opening) kind number keys.now.0 window) }
+    {
+        let spec = self.spec(kind, number, keys, window);
+        Leg {
+            port: port_at(slot, leg_of(Direction::Opening, kind)),
+            out: port_at(slot, leg_of(Direction::Sealing, kind)),
+            to: next_port(kind, self.plain),
+            plain: self.plain,
+            side: MediaSide::Opens(OpenSide::make(spec)),
+        }
+    }
+
+    /// The leg of one kind of what the gateway sends to the peer.
+    fn sealing(&self, kind: Kind, slot: u8, number: u32, keys: &Derived) -> Leg
+        requires derived { IsDerived keys.now }
+        requires secret { kind ≡ Kind.Rtcp → is_raw keys.now.0.suite ≡ false }
+        requires port { kind ≡ Kind.Rtcp → self.now.secure.port < 65535 }
+        ensures { LegStandsFor slot result (session_by_hand (by_hand_of self.now) (owner_at slot 0 0 direction.Sealing) kind number keys.now.0 1024) }
+    {
+        let spec = self.spec(kind, number, keys, SEALING_WINDOW);
+        Leg {
+            port: port_at(slot, leg_of(Direction::Sealing, kind)),
+            out: port_at(slot, leg_of(Direction::Opening, kind)),
+            to: next_port(kind, self.secure),
+            plain: self.plain,
+            side: MediaSide::Seals(SealSide::make(spec)),
+        }
+    }
+
+    /// What a side of one kind is made of: one key, of which nothing is served.
+    fn spec(&self, kind: Kind, number: u32, keys: &Derived, window: u16) -> SessionSpec
+        requires at_least { 64 ≤ window }
+        requires at_most { window ≤ 1024 }
+        requires derived { IsDerived keys.now }
+        requires secret { kind ≡ Kind.Rtcp → is_raw keys.now.0.suite ≡ false }
+        ensures can { CanBeMade result }
+        ensures made { (owner : Owner) → IsMadeOf (session_by_hand (by_hand_of self.now) owner kind number keys.now.0 window) result }
+    {
+        sg_kdf::laws::keys_have_their_lengths();
+        sg_kdf::laws::encryption_keys_are_not_empty();
+        let suite = keys.0.suite();
+        match kind {
+            Kind::Rtp => SessionSpec {
+                kind,
+                keys: key_set(number, again(&keys.1.rtp), RTP_LIFE),
+                roc: self.roc,
+                window,
+                admit: Admit::Any,
+                encrypt: !is_raw(suite),
+                tag_len: suite.tag_len() as u8,
+            },
+            Kind::Rtcp => SessionSpec {
+                kind,
+                keys: key_set(number, again(&keys.1.rtcp), RTCP_LIFE),
+                roc: self.roc,
+                window,
+                admit: Admit::Any,
+                encrypt: true,
+                tag_len: RTCP_TAG,
+            },
+        }
+    }
+}
+
+/// One key without an MKI, of which nothing is served.
+fn key_set(number: u32, half: HalfKeys, life: u64) -> KeySet
+    requires { is_cipher_len (length half.encrypt) ≡ true }
+    ensures { result ≡ record { number = number; mki = []; half = half; life = life; count = 0 } ∷ [] }
+{
+    let mut keys = ArrayVec::new();
+    keys.push(LiveKey {
+        number,
+        mki: None,
+        half,
+        life,
+        count: 0,
+    });
+    KeySet::make(keys)
+}
+
+/// The same keys again, without memory.
+fn again(half: &HalfKeys) -> HalfKeys
+    ensures { result ≡ half.now }
+{
+    HalfKeys {
+        encrypt: CipherKey::new(half.encrypt.as_slice()),
+        auth: half.auth,
+        salt: half.salt,
+    }
+}
+
+fn is_raw(suite: Suite) -> bool
+    ensures { result ≡ is_raw suite }
+{
+    match suite {
+        Suite::Raw80 => true,
+        _other => false,
+    }
+}
+
+/// A peer's RTCP port is the one after its RTP port.
+fn next_port(kind: Kind, rtp: Address) -> Address
+    requires { kind ≡ Kind.Rtcp → rtp.port < 65535 }
+    ensures { result ≡ next_port kind rtp }
+{
+    let mut address = rtp;
+    match kind {
+        Kind::Rtp => {}
+        Kind::Rtcp => address.port += 1,
+    }
+    address
+}
+
+fn port_at(slot: u8, leg: u8) -> u16
+    requires { leg ≤ 3 }
+    ensures { result ≡ port_at slot 0 leg }
+{
+    20000 + 16 * u16::from(slot) + u16::from(leg)
+}
+
+fn leg_of(direction: Direction, kind: Kind) -> u8
+    ensures value { result ≡ leg_of direction kind }
+    ensures most { result ≤ 3 }
+{
+    match (direction, kind) {
+        (Direction::Opening, Kind::Rtp) => 0,
+        (Direction::Opening, Kind::Rtcp) => 1,
+        (Direction::Sealing, Kind::Rtp) => 2,
+        (Direction::Sealing, Kind::Rtcp) => 3,
+    }
+}
