@@ -8,13 +8,16 @@
 #include <time.h>
 #include <srtp2/srtp.h>
 
-#define PACKETS 2000
+/* A round has batches of packets that stay in the processor's caches. */
+#define COUNT 128
+#define BATCHES 16
+#define PACKETS (COUNT * BATCHES)
 #define ROUNDS 9
 #define ROOM 4352
 
 /* libsrtp reads words of four octets. */
-static uint8_t octets[PACKETS][ROOM] __attribute__((aligned(16)));
-static int lengths[PACKETS];
+static uint8_t octets[COUNT][ROOM] __attribute__((aligned(16)));
+static int lengths[COUNT];
 
 struct suite {
     const char *name;
@@ -59,18 +62,19 @@ static srtp_t session(const struct suite *suite, srtp_ssrc_type_t way, uint8_t *
     return srtp_create(&made, &policy) == srtp_err_status_ok ? made : NULL;
 }
 
-/* The packets of the numbers from 0 on: a head, whose time stamp goes on by 160 a packet, and octets that
+/* The packets of the numbers from `first` on: a head, whose time stamp goes on by 160 a packet, and octets that
    count up from the number. */
-static void fill(int size) {
-    for (int n = 0; n < PACKETS; n++) {
-        uint8_t *o = octets[n];
+static void fill(int first, int size) {
+    for (int place = 0; place < COUNT; place++) {
+        int n = first + place;
+        uint8_t *o = octets[place];
         uint32_t stamp = (uint32_t)n * 160;
         for (int i = 12; i < size; i++) o[i] = (uint8_t)(i + n);
         uint8_t head[12] = {0x80, 0, (uint8_t)(n >> 8), (uint8_t)n,
                             (uint8_t)(stamp >> 24), (uint8_t)(stamp >> 16), (uint8_t)(stamp >> 8), (uint8_t)stamp,
                             0xca, 0xfe, 0xba, 0xbe};
         memcpy(o, head, sizeof head);
-        lengths[n] = size;
+        lengths[place] = size;
     }
 }
 
@@ -80,11 +84,11 @@ static void check(srtp_err_status_t status) {
     exit(1);
 }
 
-/* What the opened packets are, and that they are those which were sealed. */
-static void check_opened(int size) {
-    for (int n = 0; n < PACKETS; n++)
-        if (lengths[n] != size || octets[n][size - 1] != (uint8_t)(size - 1 + n)) {
-            fprintf(stderr, "libsrtp: packet %d is changed\n", n);
+/* The opened packets are those that were sealed, by their lengths and last octets. */
+static void check_opened(int first, int size) {
+    for (int n = 0; n < COUNT; n++)
+        if (lengths[n] != size || octets[n][size - 1] != (uint8_t)(size - 1 + first + n)) {
+            fprintf(stderr, "libsrtp: packet %d is changed\n", first + n);
             exit(1);
         }
 }
@@ -97,15 +101,21 @@ static int measure(const char *name, const struct suite *suite, int size) {
         for (int i = 0; i < 46; i++) key[i] = (uint8_t)(i + round);
         srtp_t out = session(suite, ssrc_any_outbound, key), in = session(suite, ssrc_any_inbound, key);
         if (!out || !in) return 0;
-        fill(size);
-        uint64_t start = now();
-        for (int n = 0; n < PACKETS; n++) check(srtp_protect(out, octets[n], &lengths[n]));
-        uint64_t sealed = now();
-        for (int n = 0; n < PACKETS; n++) check(srtp_unprotect(in, octets[n], &lengths[n]));
-        uint64_t opened = now();
-        check_opened(size);
-        sealing[round] = (sealed - start) / PACKETS;
-        opening[round] = (opened - sealed) / PACKETS;
+        uint64_t seal = 0, open = 0;
+        for (int batch = 0; batch < BATCHES; batch++) {
+            int first = batch * COUNT;
+            fill(first, size);
+            uint64_t start = now();
+            for (int n = 0; n < COUNT; n++) check(srtp_protect(out, octets[n], &lengths[n]));
+            uint64_t sealed = now();
+            for (int n = 0; n < COUNT; n++) check(srtp_unprotect(in, octets[n], &lengths[n]));
+            uint64_t opened = now();
+            check_opened(first, size);
+            seal += sealed - start;
+            open += opened - sealed;
+        }
+        sealing[round] = seal / PACKETS;
+        opening[round] = open / PACKETS;
         check(srtp_dealloc(out));
         check(srtp_dealloc(in));
     }

@@ -38,26 +38,28 @@ pub fn packet(alloc: Global, number: u16, size: usize) -> Result<Pad, Fault>
     }
 }
 
-/// Pads with the packets of the numbers from 0 on.
-pub fn packets(alloc: Global, count: u16, size: usize) -> Result<Vec<Pad>, Fault>
+/// Pads with the packets of so many numbers from `first` on.
+pub fn packets(alloc: Global, first: u16, count: u16, size: usize) -> Result<Vec<Pad>, Fault>
     requires { size ≤ 1400 }
 {
     let mut pads = Vec::with_capacity(alloc, usize::from(count))?;
-    for number in 0..count {
-        pads.push(packet(alloc, number, size)?)
+    for place in 0..count {
+        pads.push(packet(alloc, first.wrapping_add(place), size)?)
             .map_err(|_| Fault::NoMemory)?;
     }
     Ok(pads)
 }
 
-/// Whether each pad has the packet of its number.
-pub fn are_packets(pads: &[Pad], size: usize) -> bool
+/// Whether the pads have the packets of the numbers from `first` on.
+pub fn are_packets(pads: &[Pad], first: u16, size: usize) -> bool
     requires { size ≤ 1400 }
 {
-    for (place, pad) in pads.iter().enumerate() {
-        if pad.octets() != &octets((place % 65536) as u16)[..size] {
+    let mut number = first;
+    for pad in pads {
+        if pad.octets() != &octets(number)[..size] {
             return false;
         }
+        number = number.wrapping_add(1);
     }
     true
 }

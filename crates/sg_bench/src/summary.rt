@@ -46,12 +46,12 @@ pub fn seal_and_open(alloc: Global, suite: Suite, size: usize) -> Result<Summary
     let Some(Sides { mut seal, mut open }) = make_sides(suite, 0) else {
         return Err(Fault::Suite);
     };
-    let datagrams = seal_each(alloc, &mut seal, packets(alloc, COUNT, size)?)?;
+    let datagrams = seal_each(alloc, &mut seal, packets(alloc, 0, COUNT, size)?)?;
     let sealed = datagrams.len();
     let octets = length_of(&datagrams);
     let sha1 = sha1_of(&datagrams);
     let opened = open_each(alloc, &mut open, datagrams)?;
-    if !are_packets(&opened, size) {
+    if !are_packets(&opened, 0, size) {
         return Err(Fault::Changed);
     }
     Ok(Summary {
