@@ -58,7 +58,7 @@ fn good_lines(rt: HostRuntime) {
 #[test]
 fn bad_lines(rt: HostRuntime) {
     use ScriptFault::{Hex, Length, Number, Unended, Word};
-    let rows: [(&[u8], ScriptFault); 66] = [
+    let rows: [(&[u8], ScriptFault); 67] = [
         (b"", Unended),
         (b"tick 1", Unended),
         (b"frob", Unended),
@@ -111,6 +111,8 @@ fn bad_lines(rt: HostRuntime) {
         (b"psk a \x80 zz\n", Word),
         (b"psk a b 000102030405060708090a0b0c0d0e\n", Length),
         (b"psk a b -\n", Length),
+        // No name holds a space.
+        (b"psk a b c 000102030405060708090a0b0c0d0e0f\n", Word),
         (b"psk a b 0001020304050607080g0a0b0c0d0e0f\n", Hex),
         (
             b"manual 1 1.1.1.1:1 1.1.1.1:1 0000000 64 RAW80:- RAW80:-\n",

@@ -1,5 +1,4 @@
-use Rattle.std.proofs.Common.{◌≡◌, ℕ, List, [], ◌++◌, ap, ◌∙◌}
-use Rattle.sg_edge.proofs.Passed.{took_none}
+use Rattle.std.proofs.Common.{ℕ, List, ◌++◌, ap}
 use Rattle.sg_run.proofs.Feeds.{refilled}
 use Rattle.sg_run.proofs.feed.Feed.next.Goals as goal
 
