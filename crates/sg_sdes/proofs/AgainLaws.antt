@@ -1,24 +1,23 @@
 -- What is spelled of a line with a spelling is read as that line.
-use Rattle.std.proofs.Common.{◌≡◌, ℕ, ◌+◌, ◌-◌, ◌^◌, ◌<◌, ◌≤◌, Bool, true, false, cond, eqb, leb, List, [], ◌∷◌, ◌++◌, length, take, drop, map, Option, Some, None, Result, Ok, Err, refl, sym, ap, ◌∙◌, subst, arith, inl, inr, append_assoc, length-append}
-use Rattle.std.specs.Prelude.{◌&&◌, ◌⊎◌, codes, IfSome}
+use Rattle.std.proofs.Common.{◌≡◌, ℕ, ◌+◌, ◌-◌, ◌^◌, ◌<◌, ◌≤◌, Bool, true, false, cond, eqb, List, [], ◌∷◌, ◌++◌, length, take, drop, map, Option, Some, None, Result, Ok, refl, sym, ap, ◌∙◌, arith, append_assoc, length-append}
+use Rattle.std.specs.Prelude.{◌&&◌, codes, IfSome}
 use Rattle.std.specs.Char.{is_ascii_digit}
 use Rattle.std.specs.List.{AllByRecursion, All, join_with_byte, list_all, slice_split, starts_with}
 use Rattle.std.specs.Fmt.{decimal}
-use Rattle.std.specs.Str.Parse.{digits_value}
 use Rattle.std.specs.Prelude.{nat_eq}
-use Rattle.std.proofs.lemmas.Bool.{ne_eqb, eq-eqb, eqb-true, eqb-false, le-leb, lt-ltb, cases_eq}
+use Rattle.std.proofs.lemmas.Bool.{ne_eqb, eq-eqb, eqb-true, eqb-false, le-leb, lt-ltb}
 use Rattle.std.proofs.lemmas.Fmt.{digits_decimal, digits_value-decimal, decimal_nonempty, length-decimal-le}
 use Rattle.std.proofs.lemmas.List.{append-nil, take_at}
 use Rattle.std.proofs.lemmas.List.Elements.{All-from_recursion}
 use Rattle.std.proofs.lemmas.List.Splits.{slice_split_none, slice_split_at}
-use Rattle.base64.specs.GeneralPurpose.{encode_of, IsBytes}
+use Rattle.base64.specs.GeneralPurpose.{encode_of}
 use Rattle.base64.specs.Engines.{standard}
 use Rattle.sg_base.specs.declared.SdesFault.{SdesFault}
 use Rattle.sg_base.specs.declared.Suite.{Suite}
 use Rattle.sg_base.specs.declared.Suite.TheVariants.{Raw80, Cm128Tag80, Cm128Tag32, Cm192Tag80, Cm192Tag32, Cm256Tag80, Cm256Tag32}
 use Rattle.sg_base.specs.Fields.{Lacks, cut_at}
 use Rattle.sg_base.specs.Keys.{Master, master_of}
-use Rattle.sg_base.specs.Mkis.{MkiValue, mki_of, IsMki}
+use Rattle.sg_base.specs.Mkis.{MkiValue, IsMki}
 use Rattle.sg_base.specs.Suites.{key_len_of, salt_len_of}
 use Rattle.sg_base.specs.SuiteNames.{suite_name, suite_at}
 use Rattle.sg_base.proofs.Cuts.{cut_again}
@@ -26,12 +25,11 @@ use Rattle.sg_base.proofs.Decimals.{number_again}
 use Rattle.sg_base.proofs.SuiteLemmas.{suite_again}
 use Rattle.sg_sdes.specs.declared.lines.CryptoLine.{CryptoLine}
 use Rattle.sg_sdes.specs.declared.lines.InlineKey.{InlineKey}
-use Rattle.sg_sdes.specs.declared.parameters.Parameters.{Parameters}
 use Rattle.sg_sdes.specs.CryptoOf.{crypto_by, crypto_parts, crypto_of}
 use Rattle.sg_sdes.specs.CryptoText.{lifetime_text, mki_text, inline_text, keys_text, plain_rtp_words, plain_rtcp_words, window_words, mark_words, crypto_words, crypto_text, IsInlineKey, IsCryptoLine}
-use Rattle.sg_sdes.specs.Keys.{inline_at, keys_from, keys_of, at_bar, behind_bar, alone, with_one, with_both}
-use Rattle.sg_sdes.specs.KeyTexts.{digits_at, is_raw, crypto_suite_at, key_at, lifetime_at, is_mki, mki_at}
-use Rattle.sg_sdes.specs.Parameters.{unsaid, with_window, with_parameter, parameters_from}
+use Rattle.sg_sdes.specs.Keys.{inline_at, keys_from, keys_of, at_bar, behind_bar, with_one, with_both}
+use Rattle.sg_sdes.specs.KeyTexts.{digits_at, crypto_suite_at, key_at, lifetime_at, is_mki, mki_at}
+use Rattle.sg_sdes.specs.Parameters.{unsaid, with_parameter, parameters_from}
 use Rattle.sg_sdes.specs.Words.{words_of, without_spaces}
 use Rattle.sg_sdes.proofs.Base64Laws.{base64_padded}
 use Rattle.sg_sdes.proofs.DigitLaws.{own, digits_are, digits_read}
@@ -107,9 +105,13 @@ small_length m is = let n = is.most in omega (arith, n)
 mki_again : (m : MkiValue) → IsMki m.value m.length → m.value < 2 ^ 128 → mki_at (mki_part m) ≡ Some m
 unfolding mki_at
 mki_again m is small =
-    rw (cut_again 58 (decimal m.value) (decimal m.length) (decimal_without 58 m.value small (omega arith)), number_again (2 ^ 128 - 1) m.value (omega (arith, small)) (omega arith),
-        number_again 128 m.length is.most (omega arith), mki_step m is)
-        refl
+    rw (
+      cut_again 58 (decimal m.value) (decimal m.length) (decimal_without 58 m.value small (omega arith)),
+      number_again (2 ^ 128 - 1) m.value (omega (arith, small)) (omega arith),
+      number_again 128 m.length is.most (omega arith),
+      mki_step m is,
+    )
+    refl
 
 -- the parts behind a key's first bar, by which of them are there
 neither : (suite : Suite) (b : List ℕ) (k : Master) → Lacks 124 b → key_at suite b ≡ Some k → at_bar suite b (cut_at 124 b) ≡ Ok (record { key = k; lifetime = 2 ^ 48; mki = None })
@@ -166,15 +168,15 @@ some_mki suite k b n m true lacks e least most is_mki value is =
     let plain : b ++ [] ≡ b = append-nil b in
     let bars : Lacks 124 (mki_part m) = mki_lacks 124 m (decimal_without 124 m.value value (omega arith)) refl (decimal_without 124 m.length (small_length m is_mki) (omega arith)) in
     rw (plain, longest) (one_part suite b (mki_part m) lacks bars
-        ∙ an_mki suite b (decimal m.value) (decimal m.length) k m e (decimal_without 58 m.value value (omega arith)) (mki_again m is_mki value))
+    ∙ an_mki suite b (decimal m.value) (decimal m.length) k m e (decimal_without 58 m.value value (omega arith)) (mki_again m is_mki value))
 some_mki suite k b n m false lacks e least most is_mki value is =
     let d : List ℕ = decimal n in
     let small : n < 2 ^ 128 = omega (arith, most) in
     let bars : Lacks 124 (mki_part m) = mki_lacks 124 m (decimal_without 124 m.value value (omega arith)) refl (decimal_without 124 m.length (small_length m is_mki) (omega arith)) in
     let plain : b ++ 124 ∷ d ++ 124 ∷ mki_part m ≡ b ++ 124 ∷ (d ++ 124 ∷ mki_part m) = append_assoc b (124 ∷ d) (124 ∷ mki_part m) in
     rw plain (two_parts suite b d (mki_part m) lacks (decimal_without 124 n small (omega arith))
-        ∙ both_there suite b d (decimal m.value) (decimal m.length) k n m e (decimal_without 58 n small (omega arith)) (lifetime_again n least most) bars
-            (decimal_without 58 m.value value (omega arith)) (mki_again m is_mki value))
+    ∙ both_there suite b d (decimal m.value) (decimal m.length) k n m e (decimal_without 58 n small (omega arith)) (lifetime_again n least most) bars
+    (decimal_without 58 m.value value (omega arith)) (mki_again m is_mki value))
 
 mki_case : (suite : Suite) (k : InlineKey) (mki : Option MkiValue) → IsInlineKey suite k → k.mki ≡ mki
     → inline_with suite (encode_of standard (k.key.key ++ k.key.salt)) (lifetime_text k.lifetime) (mki_text mki) ≡ Ok (record { key = k.key; lifetime = k.lifetime; mki = mki })
@@ -183,8 +185,8 @@ mki_case suite k None fits is =
 mki_case suite k (Some m) fits is =
     let both = rw is at fits.mki in
     rw (mki_text_is m)
-        (some_mki suite k.key (encode_of standard (k.key.key ++ k.key.salt)) k.lifetime m (eqb k.lifetime (2 ^ 48)) (base64_lacks_bar (k.key.key ++ k.key.salt)) (key_again suite k fits) fits.least fits.most
-            both.0 both.1 refl)
+    (some_mki suite k.key (encode_of standard (k.key.key ++ k.key.salt)) k.lifetime m (eqb k.lifetime (2 ^ 48)) (base64_lacks_bar (k.key.key ++ k.key.salt)) (key_again suite k fits) fits.least fits.most
+    both.0 both.1 refl)
 
 pub inline_again : (suite : Suite) (k : InlineKey) → IsInlineKey suite k → inline_at suite (inline_text k) ≡ Ok k
 unfolding inline_at

@@ -1,12 +1,12 @@
 -- What base64 decodes to are octets.
-use Rattle.std.proofs.Common.{◌≡◌, ◌⊎◌, ℕ, zero, suc, ◌+◌, ◌*◌, ◌/◌, ◌%◌, ◌<◌, ◌≤◌, Bool, true, false, eqb, List, [], ◌∷◌, ◌++◌, length, take, drop, Option, Some, None, Result, Ok, Err, refl, sym, ap, ◌∙◌, subst, arith, inl, inr}
+use Rattle.std.proofs.Common.{◌≡◌, ◌⊎◌, ℕ, zero, suc, ◌+◌, ◌*◌, ◌/◌, ◌<◌, List, [], ◌∷◌, ◌++◌, length, take, drop, Option, Some, None, Result, Ok, Err, refl, ap, subst, arith, inl, inr}
 use Rattle.std.specs.Prelude.{slice_index, slice_set, ◌==◌, nat_lt}
 use Rattle.std.proofs.lemmas.Bool.{cases_Bool, cases_lt, cases_eq}
 use Rattle.std.proofs.lemmas.List.{get_or-set_same, get_or-set_other, set_past, get_or_past}
 use Rattle.base64.specs.declared.decode.DecodeError.{DecodeError}
 use Rattle.base64.specs.declared.engine.general_purpose.GeneralPurpose.{GeneralPurpose}
 use Rattle.base64.specs.GeneralPurpose.{IsBytes, decode_of, decoded_bytes_of}
-use Rattle.base64.specs.Decode.{or_else, symbol_error, group_error, group_bytes, groups_error, groups_bytes, groups_before_last, decode_group, decode_outcome, IsDecodeTable, scan_steps, scan, scan_last, scan_error, scan_bytes, suffix_error, suffix_bytes, lone_error, push_leftover, leftover_bytes, no_leftover}
+use Rattle.base64.specs.Decode.{or_else, symbol_error, group_error, group_bytes, groups_error, groups_bytes, groups_before_last, decode_group, decode_outcome, IsDecodeTable, scan_steps, scan, scan_last, scan_bytes, suffix_bytes, lone_error, push_leftover, no_leftover}
 use Rattle.base64.proofs.Decoding.{ok_value}
 use Rattle.base64.proofs.Tables.{are_tables_inverse, IsDecodeTable_from}
 
@@ -15,11 +15,16 @@ append_bytes [] b p q i = q i
 append_bytes (x ∷ a) b p q zero = p 0
 append_bytes (x ∷ a) b p q (suc i) = append_bytes a b (λ k. p (suc k)) q i
 
-take_bytes : (n : ℕ) (a : List ℕ) → IsBytes a → IsBytes (take n a)
+pub take_bytes : (n : ℕ) (a : List ℕ) → IsBytes a → IsBytes (take n a)
 take_bytes zero a p i = omega arith
 take_bytes (suc n) [] p i = omega arith
 take_bytes (suc n) (x ∷ a) p zero = p 0
 take_bytes (suc n) (x ∷ a) p (suc i) = take_bytes n a (λ k. p (suc k)) i
+
+pub drop_bytes : (n : ℕ) (a : List ℕ) → IsBytes a → IsBytes (drop n a)
+drop_bytes zero a p = p
+drop_bytes (suc n) [] p = p
+drop_bytes (suc n) (x ∷ a) p = drop_bytes n a (λ k. p (suc k))
 
 group_is : (a b c d : ℕ) → a < 64 → b < 64 → c < 64 → d < 64 → IsBytes (decode_group a b c d)
 group_is a b c d p q r s zero = omega arith
@@ -54,8 +59,8 @@ groups_are dec s (suc q) table e =
     let p1 = neither (symbol_error dec s (i + 1)) _ p0.1 in
     let p2 = neither (symbol_error dec s (i + 2)) (symbol_error dec s (i + 3)) p1.1 in
     append_bytes (groups_bytes dec s q) (group_bytes dec s i) (groups_are dec s q table parts.0)
-        (group_is _ _ _ _ (symbol_is dec s i table p0.0) (symbol_is dec s (i + 1) table p1.0) (symbol_is dec s (i + 2) table p2.0)
-            (symbol_is dec s (i + 3) table p2.1))
+    (group_is _ _ _ _ (symbol_is dec s i table p0.0) (symbol_is dec s (i + 1) table p1.0) (symbol_is dec s (i + 2) table p2.0)
+    (symbol_is dec s (i + 3) table p2.1))
 
 result_cases : {A E : Type 0} (r : Result A E) → ((x : A) × (r ≡ Ok x)) ⊎ ((e : E) × (r ≡ Err e))
 result_cases (Ok x) = inl (x, refl)

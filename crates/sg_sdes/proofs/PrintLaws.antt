@@ -1,12 +1,12 @@
 -- What is printed, piece by piece, is the spelling.
-use Rattle.std.proofs.Common.{◌≡◌, ℕ, ◌<◌, ◌≤◌, List, [], ◌∷◌, ◌++◌, ◌-◌, length, take, drop, get_or, map, refl, sym, ap, ◌∙◌, arith, append_assoc}
+use Rattle.std.proofs.Common.{◌≡◌, ℕ, ◌≤◌, List, [], ◌∷◌, ◌++◌, ◌-◌, length, take, drop, get_or, refl, sym, ap, ◌∙◌, arith, append_assoc}
 use Rattle.std.specs.List.{flat_map, join_with_byte}
 use Rattle.std.proofs.lemmas.List.{append-nil}
 use Rattle.std.specs.Fmt.{decimal}
 use Rattle.sg_base.specs.SuiteNames.{suite_name}
 use Rattle.sg_sdes.specs.declared.lines.CryptoLine.{CryptoLine}
 use Rattle.sg_sdes.specs.declared.lines.InlineKey.{InlineKey}
-use Rattle.sg_sdes.specs.CryptoText.{inline_text, keys_text, next_key, next_words, plain_rtp_words, plain_rtcp_words, window_words, mark_words, crypto_words, crypto_text}
+use Rattle.sg_sdes.specs.CryptoText.{inline_text, keys_text, next_key, next_words, plain_rtp_words, plain_rtcp_words, window_words, crypto_text}
 
 -- ---- keys
 
@@ -56,5 +56,5 @@ pub printed : (l : CryptoLine) (n : ℕ) (s : List ℕ) (ks : List InlineKey) (o
 unfolding crypto_text
 printed l n s ks o0 o1 o2 o3 o4 o5 o6 o7 o8 n_is s_is ks_is e0 e1 e2 e3 e4 e5 e6 e7 e8 =
     pieces (decimal l.tag) (suite_name l.suite) (keys_text l.keys) (next_words (plain_rtp_words l.plain_rtp)) (next_words (plain_rtcp_words l.plain_rtcp)) (next_words (window_words l.window))
-        o0 o1 o2 o3 o4 o5 o6 o7 o8 e0 (e1 ∙ ap (λ m. o0 ++ decimal m) n_is) e2 (e3 ∙ ap (λ (t : List ℕ). o2 ++ t) s_is) e4 (e5 ∙ ap (λ (k : List InlineKey). o4 ++ keys_text k) ks_is) e6 e7 e8
+    o0 o1 o2 o3 o4 o5 o6 o7 o8 e0 (e1 ∙ ap (λ m. o0 ++ decimal m) n_is) e2 (e3 ∙ ap (λ (t : List ℕ). o2 ++ t) s_is) e4 (e5 ∙ ap (λ (k : List InlineKey). o4 ++ keys_text k) ks_is) e6 e7 e8
     ∙ sym (three_words (decimal l.tag) (suite_name l.suite) (keys_text l.keys) (plain_rtp_words l.plain_rtp) (plain_rtcp_words l.plain_rtcp) (window_words l.window))

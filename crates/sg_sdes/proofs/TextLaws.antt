@@ -1,9 +1,9 @@
 -- Which octets stand in the texts of a line: no text holds the octet that ends it.
-use Rattle.std.proofs.Common.{append_assoc, ◌≡◌, ℕ, zero, suc, ◌+◌, ◌-◌, ◌*◌, ◌/◌, ◌%◌, ◌^◌, ◌<◌, ◌≤◌, Bool, true, false, cond, eqb, List, [], ◌∷◌, ◌++◌, length, map, replicate, Option, Some, None, refl, sym, ap, ◌∙◌, subst, arith, inl, inr, length-append, rules}
-use Rattle.std.specs.Prelude.{◌&&◌, not, slice_index, codes, IfSome}
-use Rattle.std.specs.List.{list_all, AllByRecursion, join_with_byte}
+use Rattle.std.proofs.Common.{append_assoc, ◌≡◌, ℕ, zero, suc, ◌+◌, ◌-◌, ◌*◌, ◌/◌, ◌%◌, ◌^◌, ◌<◌, ◌≤◌, Bool, true, false, cond, eqb, List, [], ◌∷◌, ◌++◌, length, replicate, Option, Some, None, refl, sym, ap, subst, arith, inl, inr}
+use Rattle.std.specs.Prelude.{not, slice_index, codes, IfSome}
+use Rattle.std.specs.List.{list_all, AllByRecursion}
 use Rattle.std.specs.Fmt.{decimal}
-use Rattle.std.proofs.lemmas.Bool.{and_parts, eqb-false, ne_eqb}
+use Rattle.std.proofs.lemmas.Bool.{and_parts, ne_eqb}
 use Rattle.std.proofs.lemmas.Fmt.{decimal_nonempty}
 use Rattle.base64.specs.Rfc4648.{encode_symbols, encode_group}
 use Rattle.base64.specs.GeneralPurpose.{encode_of}
@@ -111,7 +111,7 @@ inline_lacks suite k c fits head base bar colon numbers = at_mki k.mki fits.mki
     at_mki (Some m) is =
         let most = is.0.most in
         lacks_append c (codes "inline:" ++ encode_of standard (k.key.key ++ k.key.salt) ++ lifetime_text k.lifetime) (mki_text (Some m)) front
-            (some_mki_lacks c m bar (mki_lacks c m (numbers m.value is.1) colon (numbers m.length (omega (arith, most)))))
+        (some_mki_lacks c m bar (mki_lacks c m (numbers m.value is.1) colon (numbers m.length (omega (arith, most)))))
 
 pub inline_lacks_semicolon : (suite : Suite) (k : InlineKey) → IsInlineKey suite k → Lacks 59 (inline_text k)
 inline_lacks_semicolon suite k fits =
@@ -167,6 +167,10 @@ marks_are l is =
 pub words_are : (l : CryptoLine) → IsCryptoLine l → AllByRecursion IsWord (crypto_words l)
 words_are l is =
     let tag = is.tag in
-    let fits : l.tag < 2 ^ 64 = omega (arith, tag) in
-    (record { lacks = space_decimal l.tag (omega (arith, tag)); some = decimal_nonempty l.tag fits }, (record { lacks = suite_lacks_space l.suite; some = some_suite l.suite },
-        (record { lacks = keys_lack_space l.suite l.keys is.keys; some = some_keys l.keys is.some }, marks_are l is)))
+    let fits : l.tag < 2 ^ 64 = omega (arith, tag) in (
+      record { lacks = space_decimal l.tag (omega (arith, tag)); some = decimal_nonempty l.tag fits },
+      (
+        record { lacks = suite_lacks_space l.suite; some = some_suite l.suite },
+        (record { lacks = keys_lack_space l.suite l.keys is.keys; some = some_keys l.keys is.some }, marks_are l is),
+      ),
+    )

@@ -1,6 +1,6 @@
 -- What is read of a text is a line with a spelling.
-use Rattle.std.proofs.Common.{◌≡◌, ◌≢◌, ◌⊎◌, ℕ, ◌+◌, ◌-◌, ◌^◌, ◌<◌, ◌≤◌, Bool, true, false, cond, eqb, leb, ltb, List, [], ◌∷◌, ◌++◌, length, take, drop, map, Option, Some, None, Result, Ok, Err, refl, sym, ap, ◌∙◌, subst, arith, inl, inr, length-append, length-take, length-drop}
-use Rattle.std.specs.Prelude.{◌&&◌, ◌||◌, codes, IfSome, IfOk, is_some, is_none, not, option_map, option_and_then, nat_eq}
+use Rattle.std.proofs.Common.{◌≡◌, ◌≢◌, ◌⊎◌, ℕ, ◌+◌, ◌-◌, ◌^◌, ◌<◌, ◌≤◌, Bool, true, false, cond, eqb, leb, ltb, List, [], ◌∷◌, ◌++◌, length, drop, Option, Some, None, Result, Ok, Err, refl, sym, ap, ◌∙◌, subst, arith, inl, inr, length-take, length-drop}
+use Rattle.std.specs.Prelude.{◌&&◌, ◌||◌, codes, IfSome, IfOk, is_some, is_none, option_map, option_and_then, nat_eq}
 use Rattle.std.specs.Char.{is_ascii_digit}
 use Rattle.std.specs.List.{AllByRecursion, list_all, slice_split, starts_with}
 use Rattle.std.specs.Str.{bytes_eq}
@@ -38,7 +38,7 @@ use Rattle.sg_sdes.proofs.DigitLaws.{small}
 
 -- ---- steps that may fail
 
-bind_ok : {A B : Type 0} (r : Result A SdesFault) (f : A → Result B SdesFault) (y : B) → (r >>= f) ≡ Ok y → (x : A) × (r ≡ Ok x) × (f x ≡ Ok y)
+pub bind_ok : {A B : Type 0} (r : Result A SdesFault) (f : A → Result B SdesFault) (y : B) → (r >>= f) ≡ Ok y → (x : A) × (r ≡ Ok x) × (f x ≡ Ok y)
 bind_ok (Ok x) f y e = (x, refl, e)
 bind_ok (Err d) f y e = absurd cc
 
@@ -108,13 +108,13 @@ base64_bytes t b e = elim (either (decode_of standard t) (decode_of standard_no_
 ]
 
 -- a key of the suite
-record IsKey (suite : Suite) (k : Master) : Type 0 where
-  suite_is : k.suite ≡ suite
-  key : length k.key ≡ key_len_of suite
-  salt : length k.salt ≡ salt_len_of suite
-  octets : IsBytes (k.key ++ k.salt)
+pub record IsKey (suite : Suite) (k : Master) : Type 0 where
+  pub suite_is : k.suite ≡ suite
+  pub key : length k.key ≡ key_len_of suite
+  pub salt : length k.salt ≡ salt_len_of suite
+  pub octets : IsBytes (k.key ++ k.salt)
 
-made_key : (suite : Suite) (b : List ℕ) → IsBytes b → length b ≡ key_len_of suite + salt_len_of suite → IsKey suite (master_of suite b)
+pub made_key : (suite : Suite) (b : List ℕ) → IsBytes b → length b ≡ key_len_of suite + salt_len_of suite → IsKey suite (master_of suite b)
 made_key suite b bytes size = record {
   suite_is = refl;
   key = length-take (key_len_of suite) b ∙ omega (arith, size);
@@ -165,11 +165,11 @@ mki_is t m e =
     let made : IsMki v.0 s.0 = record { least = leb-true _ _ b.0; most = leb-true _ _ b.1; fits = ltb-true _ _ a.1 } in
     subst (λ (x : MkiValue). IsMki x.value x.length × (x.value < 2 ^ 128)) g.1 (made, omega (arith, most))
 
-inline_made : (suite : Suite) (k : Master) (n : ℕ) (mki : Option MkiValue) → IsKey suite k → (1 ≤ n) × (n ≤ 2 ^ 48) → IfSome mki (λ m. IsMki m.value m.length × (m.value < 2 ^ 128))
+pub inline_made : (suite : Suite) (k : Master) (n : ℕ) (mki : Option MkiValue) → IsKey suite k → (1 ≤ n) × (n ≤ 2 ^ 48) → IfSome mki (λ m. IsMki m.value m.length × (m.value < 2 ^ 128))
     → IsInlineKey suite (record { key = k; lifetime = n; mki = mki })
 inline_made suite k n mki is life m = record { suite_is = is.suite_is; key = is.key; salt = is.salt; octets = is.octets; least = life.0; most = life.1; mki = m }
 
-longest : (1 ≤ 2 ^ 48) × (2 ^ 48 ≤ 2 ^ 48)
+pub longest : (1 ≤ 2 ^ 48) × (2 ^ 48 ≤ 2 ^ 48)
 longest = (omega arith, omega arith)
 
 alone_is : (suite : Suite) (t : List ℕ) (k : InlineKey) → alone suite t ≡ Ok k → IsInlineKey suite k
@@ -226,7 +226,7 @@ keys_are suite n (t ∷ ts) ks le e = elim (chosen (eqb n 8) _ _ (Ok ks) e) [
       let room : n + 1 ≤ 8 = grind (arith, other) in
       let rest = keys_are suite (n + 1) ts r.0 room r.1 in
       subst (λ (x : List InlineKey). AllByRecursion (IsInlineKey suite) x × (n + length x ≤ 8) × (length x ≡ length (t ∷ ts))) (done (k.0 ∷ r.0) ks r.2)
-          ((inline_is suite t k.0 k.1, rest.0), omega (arith, rest), omega (arith, rest))
+      ((inline_is suite t k.0 k.1, rest.0), omega (arith, rest), omega (arith, rest))
 ]
   where
     no : Err Key ≡ (let r : Result (List InlineKey) SdesFault = Ok ks in r) → ⊥

@@ -1,7 +1,6 @@
 -- Words with spaces between them, one after the other.
-use Rattle.std.proofs.Common.{◌≡◌, ℕ, ◌<◌, ◌≤◌, Bool, true, false, cond, eqb, List, [], ◌∷◌, ◌++◌, length, Option, Some, None, refl, sym, ap, subst, ◌∙◌, arith, length-append, Bor, ◌+◌, drop}
-use Rattle.std.specs.Prelude.{◌&&◌, ◌⊎◌}
-use Rattle.std.specs.List.{slice_split, All}
+use Rattle.std.proofs.Common.{◌≡◌, ℕ, ◌<◌, Bool, true, false, eqb, List, [], ◌∷◌, ◌++◌, length, Option, Some, None, refl, sym, ap, subst, ◌∙◌, arith, length-append, Bor, ◌+◌, drop}
+use Rattle.std.specs.List.{All}
 use Rattle.std.proofs.lemmas.Bool.{eqb-true}
 use Rattle.std.proofs.lemmas.List.Elements.{All-from_recursion}
 use Rattle.std.proofs.lemmas.List.Splits.{slice_split_none, slice_split_at}
@@ -10,7 +9,7 @@ use Rattle.sg_base.proofs.Cuts.{cut_takes, cut_lacks}
 use Rattle.sg_sdes.specs.declared.parameters.Parameters.{Parameters}
 use Rattle.sg_sdes.specs.Parameters.{with_parameter, parameters_from}
 use Rattle.sg_sdes.specs.CryptoOf.{crypto_by, crypto_parts, crypto_of}
-use Rattle.sg_sdes.specs.Words.{word_at, begins_with_space, single_spaced, words_of, words_behind, without_spaces}
+use Rattle.sg_sdes.specs.Words.{word_at, single_spaced, words_of, without_spaces}
 
 lacks_all : (t : List ℕ) → Lacks 32 t → All (λ x. eqb x 32 ≡ false) t
 lacks_all t h = All-from_recursion (λ x. eqb x 32 ≡ false) t h

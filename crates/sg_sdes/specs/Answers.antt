@@ -1,6 +1,6 @@
 -- Choosing a line of an offer, the gateway's own lines, and the answers to them (RFC 4568, sections
 -- 5.1 and 7.1).
-use Rattle.std.specs.Prelude.{ℕ, ◌+◌, ◌^◌, List, [], ◌∷◌, take, drop, Bool, true, false, Option, Some, None, Result, Ok, Err, ◌==◌, if◌then◌else◌}
+use Rattle.std.specs.Prelude.{◌≢◌, ℕ, ◌+◌, ◌^◌, List, [], ◌∷◌, take, drop, Bool, false, None, Result, Ok, Err, ◌==◌, if◌then◌else◌}
 use Rattle.std.specs.List.{find}
 use Rattle.std.specs.Str.{bytes_eq}
 use Rattle.sg_base.specs.declared.SdesFault.{SdesFault}
@@ -23,6 +23,10 @@ or_next (Err fault) others = others
 unfoldable pub chosen_of : List (List ℕ) → Result CryptoLine SdesFault
 chosen_of [] = Err NoLine
 chosen_of (value ∷ values) = or_next (crypto_of value) (chosen_of values)
+
+-- no line is read of the value
+abbrev pub IsUnread : List ℕ → Type 0
+IsUnread value = (l : CryptoLine) → crypto_of value ≢ Ok l
 
 -- a new key without a lifetime and an MKI of its own
 abbrev pub fresh_key : suites.Suite → List ℕ → InlineKey

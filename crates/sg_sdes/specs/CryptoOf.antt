@@ -1,9 +1,8 @@
 -- What the value of a crypto attribute says: a line, or its first fault in the order of the text
 -- (RFC 4568, sections 4 and 9.1).
-use Rattle.std.specs.Prelude.{ℕ, List, [], ◌∷◌, drop, Option, Some, None, Result, Ok, Err, ◌==◌, if◌then◌else◌}
-use Rattle.std.specs.List.{find}
+use Rattle.std.specs.Prelude.{ℕ, List, drop, Result, Ok, Err, if◌then◌else◌}
 use Rattle.sg_base.specs.declared.SdesFault.{SdesFault}
-use Rattle.sg_base.specs.declared.SdesFault.TheVariants.{NoLine, Tag, Suite, MkiValue, Parameter}
+use Rattle.sg_base.specs.declared.SdesFault.TheVariants.{Tag, Suite, MkiValue, Parameter}
 use Rattle.sg_sdes.specs.declared.lines.CryptoLine.{CryptoLine}
 use Rattle.sg_sdes.specs.Keys.{◌>>=◌, or_fault, keys_of, all_differ}
 use Rattle.sg_sdes.specs.KeyTexts.{digits_at, crypto_suite_at}

@@ -1,11 +1,10 @@
 -- The one spelling of a crypto line, and which lines have one.
-use Rattle.std.specs.Prelude.{◌≡◌, ◌≢◌, ℕ, ◌+◌, ◌<◌, ◌≤◌, ◌^◌, List, [], ◌∷◌, ◌++◌, length, map, Bool, true, false, Option, Some, None, ◌==◌, if◌then◌else◌, decimal, codes, IsTrue, IfSome}
+use Rattle.std.specs.Prelude.{◌≡◌, ◌≢◌, ℕ, ◌<◌, ◌≤◌, ◌^◌, List, [], ◌∷◌, ◌++◌, length, map, Bool, true, Option, Some, None, ◌==◌, if◌then◌else◌, decimal, codes, IfSome}
 use Rattle.std.specs.List.{join_with_byte, AllByRecursion}
 use Rattle.base64.specs.GeneralPurpose.{IsBytes, encode_of}
 use Rattle.base64.specs.Engines.{standard}
 use Rattle.sg_base.specs.declared.Suite.{Suite}
 use Rattle.sg_base.specs.declared.Suite.TheVariants.{Raw80}
-use Rattle.sg_base.specs.Keys.{Master}
 use Rattle.sg_base.specs.Mkis.{IsMki, MkiValue}
 use Rattle.sg_base.specs.Suites.{key_len_of, salt_len_of}
 use Rattle.sg_base.specs.SuiteNames.{suite_name}

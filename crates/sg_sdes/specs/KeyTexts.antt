@@ -1,5 +1,5 @@
 -- The texts of numbers, suites, keys, lifetimes and MKIs (RFC 4568, sections 4.1, 6.1, 6.2 and 9.2).
-use Rattle.std.specs.Prelude.{◌≡◌, ℕ, ◌+◌, ◌-◌, ◌^◌, List, length, drop, Bool, true, false, not, Option, Some, None, option_map, Result, Ok, Err, nat_le, nat_lt, nat_eq, ◌==◌, ◌&&◌, if◌then◌else◌, codes}
+use Rattle.std.specs.Prelude.{ℕ, ◌+◌, ◌-◌, ◌^◌, List, length, drop, Bool, true, false, Option, Some, None, option_map, Result, Ok, Err, nat_le, nat_lt, nat_eq, ◌==◌, ◌&&◌, if◌then◌else◌, codes}
 use Rattle.std.specs.List.{list_all, starts_with}
 use Rattle.std.specs.Char.{is_ascii_digit}
 use Rattle.std.specs.Str.Parse.{digits_value}

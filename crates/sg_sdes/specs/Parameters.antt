@@ -1,5 +1,5 @@
 -- The session parameters of a crypto line (RFC 4568, sections 6.3 and 9.2).
-use Rattle.std.specs.Prelude.{ℕ, List, [], ◌∷◌, drop, Bool, true, false, Option, Some, None, is_some, nat_eq, if◌then◌else◌, codes}
+use Rattle.std.specs.Prelude.{ℕ, List, [], ◌∷◌, drop, true, false, Option, Some, None, is_some, nat_eq, if◌then◌else◌, codes}
 use Rattle.std.specs.List.{starts_with}
 use Rattle.std.specs.Str.{bytes_eq}
 use Rattle.sg_base.specs.Fields.{◌>>=◌}

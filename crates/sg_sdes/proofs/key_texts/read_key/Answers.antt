@@ -1,4 +1,4 @@
-use Rattle.std.proofs.Common.{rules, ◌≡◌, sym, ap, ◌∙◌, arith}
+use Rattle.std.proofs.Common.{sym, arith}
 use Rattle.sg_sdes.proofs.Base64Laws.{too_long}
 use Rattle.sg_sdes.proofs.key_texts.read_key.Goals as goal
 

@@ -1,12 +1,10 @@
-use Rattle.std.proofs.Common.{rules, ◌≡◌, ◌<◌, ◌+◌, sym, ap, ◌∙◌, arith, refl, Ok, Err, length, eqb, tests, get_or, ℕ, ◌++◌, ◌∷◌, []}
+use Rattle.std.proofs.Common.{rules, ◌≡◌, ◌<◌, ◌+◌, sym, ap, ◌∙◌, arith, refl, Ok, length, eqb, tests, ℕ, ◌++◌, ◌∷◌, []}
 use Rattle.std.proofs.iter.Serving.{serving}
-use Rattle.std.specs.List.{slice_split}
 use Rattle.std.proofs.lemmas.List.{length_push}
 use Rattle.std.proofs.lemmas.Iterator.Consumers.{YieldsList-turn, YieldsList-end}
 use Rattle.std.proofs.lemmas.Iterator.Splits.{YieldsList-from_slice_split}
 use Rattle.std.proofs.lemmas.Bool.{eqb-true, eqb-false}
 use Rattle.std.proofs.lemmas.Result.{err_from_is_err_and}
-use Rattle.sg_sdes.specs.Keys.{keys_of}
 use Rattle.sg_sdes.proofs.KeyLoop.{starts, goes_on, fails, too_many, is_done}
 use Rattle.sg_sdes.proofs.keys.read_keys.Goals as goal
 

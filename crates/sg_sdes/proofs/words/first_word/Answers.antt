@@ -1,4 +1,4 @@
-use Rattle.std.proofs.Common.{◌≡◌, sym, arith}
+use Rattle.std.proofs.Common.{sym, arith}
 use Rattle.sg_sdes.proofs.WordLaws.{words_uncut, words_cut, cut_shorter}
 use Rattle.sg_sdes.proofs.words.first_word.Goals as goal
 
