@@ -9,6 +9,9 @@ use base64::engine::general_purpose::{STANDARD, STANDARD_NO_PAD};
 use sg_base::{MasterKey, Mki, Suite, cut, read_number, read_suite};
 use std::str;
 
+/// The most digits of a tag and of a window.
+const DIGITS_MOST: usize = 9;
+
 fn are_digits(text: &[u8]) -> bool
     ensures { result ≡ list_all is_ascii_digit text.now }
 {
@@ -20,7 +23,7 @@ fn are_digits(text: &[u8]) -> bool
 pub(crate) fn read_digits(text: &[u8]) -> Option<u32>
     ensures { result ≡ digits_at text.now }
 {
-    if text.is_empty() || text.len() > 9 || !are_digits(text) {
+    if text.is_empty() || text.len() > DIGITS_MOST || !are_digits(text) {
         return None;
     }
     let Ok(digits) = str::from_utf8(text) else {

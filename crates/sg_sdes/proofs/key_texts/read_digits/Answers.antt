@@ -14,5 +14,5 @@ returns c =
     let some : 0 < length c.args.text.now = grind (arith, other) in
     let text = c.in-Ok.ensures.cases.0 in
     c.ok.ensures.value
-    ∙ ap result_ok (parsed c.args.text.now c.parse.result (rw text at c.parse.ensures.value.0) all some c.if-text-gt9.false)
-    ∙ sym (digits_read c.args.text.now all some c.if-text-gt9.false)
+    ∙ ap result_ok (parsed c.args.text.now c.parse.result (rw text at c.parse.ensures.value.0) all some c.if-text-gt-DIGITS_MOST.false)
+    ∙ sym (digits_read c.args.text.now all some c.if-text-gt-DIGITS_MOST.false)
