@@ -3,6 +3,7 @@ use Rattle.std.proofs.Common.{◌≡◌, ℕ, ◌+◌, ◌<◌, ◌≤◌, Bool,
 use Rattle.std.proofs.lemmas.Bool.{le-ltb, lt-ltb, cond-true, cond-false, and_parts, ltb-true}
 use Rattle.std.proofs.lemmas.List.{append-nil}
 use Rattle.std.specs.List.{AllByRecursion, list_any}
+use Rattle.std.specs.Option.{is_some}
 use Rattle.sg_base.specs.declared.addresses.Kind.TheVariants.{Rtp, Rtcp}
 use Rattle.sg_base.specs.declared.faults.Refusal.{Refusal}
 use Rattle.sg_base.specs.declared.faults.Refusal.TheVariants.{CallKnown, TableFull}
@@ -11,11 +12,12 @@ use Rattle.sg_script.specs.declared.outcomes.Outcome.TheVariants.{Made, Live, Re
 use Rattle.sg_session.specs.Plain.{answer_in, ring_after}
 use Rattle.sg_session.specs.Ring.{Installed, install}
 use Rattle.sg_session.specs.Session.{Session}
+use Rattle.sg_session.specs.Stages.{after_ok}
 use Rattle.sg_gateway.proofs.PlainCalls.{any_is_found, free_is, and_call_is, from_push}
-use Rattle.sg_gateway.specs.Generations.{keys_from, sessions_from}
+use Rattle.sg_gateway.specs.Generations.{keys_from, renewed, sessions_from}
 use Rattle.sg_gateway.specs.Plain.{AreFrom, HaveOwnPorts, HasNextPorts}
 use Rattle.sg_gateway.specs.Signals.{ByHand, Answer, medium_by_hand, by_hand, in_new, new_call, keyed_by_hand}
-use Rattle.sg_gateway.specs.World.{Call, Books, World, call_of, same_id, is_full}
+use Rattle.sg_gateway.specs.World.{Call, World, call_of, same_id, free_slot, and_call}
 
 -- the answer has these outcomes and leaves this world
 pub record IsAnswered (outcomes : List Outcome) (v : World) (a : Answer) : Type 0 where
@@ -26,7 +28,7 @@ module _ (w : World) (h : ByHand) where
   abbrev pub known : Bool
   known = list_any (λ c. same_id c.id h.id) w.calls
 
-  known_is : Rattle.std.specs.Option.is_some (call_of w h.id) ≡ known
+  known_is : is_some (call_of w h.id) ≡ known
   known_is = any_is_found (λ c. same_id c.id h.id) w.calls
 
   pub known_answered : known ≡ true → IsAnswered (Refused (Some h.id) CallKnown ∷ []) w (by_hand w h)
@@ -52,16 +54,19 @@ module _ (w : World) (h : ByHand) where
     installs : by_hand w h ≡ in_new w h.id (Live h.id ∷ []) (keyed_by_hand w.moment w.books (new_call w h.id) (medium_by_hand h))
     installs = cond-false _ _ _ (known_is ∙ is) ∙ cond-false _ _ _ (ap not (lt-ltb _ _ few))
 
+    abbrev made_call : Call
+    made_call = renewed w.moment w.books (record (new_call w h.id) { media = 1 }) (Some (medium_by_hand h) ∷ [])
+
     abbrev answered_by : Result (List Installed) Refusal → Answer
-    answered_by r = in_new w h.id (Live h.id ∷ []) (Rattle.sg_session.specs.Stages.after_ok r (λ ring. Ok (record {
-      call = Rattle.sg_gateway.specs.Generations.renewed w.moment w.books (record (new_call w h.id) { media = 1 }) (Some (medium_by_hand h) ∷ []);
+    answered_by r = in_new w h.id (Live h.id ∷ []) (after_ok r (λ ring. Ok (record {
+      call = made_call;
       books = record w.books { ring = ring };
     })))
 
     keys_are : keys_from w.made 0 0 (Some (medium_by_hand h) ∷ []) ≡ keys_from (length w.calls) 0 0 (Some (medium_by_hand h) ∷ [])
     keys_are = ap (λ n. keys_from n 0 0 (Some (medium_by_hand h) ∷ [])) made
 
-    slot_is : Rattle.sg_gateway.specs.World.free_slot 0 w.calls ≡ length w.calls
+    slot_is : free_slot 0 w.calls ≡ length w.calls
     slot_is = let e = free_is 0 w.calls are in omega (arith, e)
 
     answered_is : by_hand w h ≡ answered_by (install w.books.ring (keys_from (length w.calls) 0 0 (Some (medium_by_hand h) ∷ [])))
@@ -75,7 +80,7 @@ module _ (w : World) (h : ByHand) where
         go (Ok ring) e = absurd cc
         go (Err other) e = let same : cause ≡ other = cc in record { told = ap (λ c. let os : List Outcome = Refused (Some h.id) c ∷ [] in os) same; after = refl }
 
-    call_is : Rattle.sg_gateway.specs.Generations.renewed w.moment w.books (record (new_call w h.id) { media = 1 }) (Some (medium_by_hand h) ∷ []) ≡ call_in (length w.calls)
+    call_is : made_call ≡ call_in (length w.calls)
     call_is = (λ i. record {
       serial = made i;
       id = h.id;
@@ -91,8 +96,8 @@ module _ (w : World) (h : ByHand) where
         (record { calls = w.calls ++ call_in (length w.calls) ∷ []; made = length w.calls + 1; books = record { ring = ring_after w.books.ring (install w.books.ring (keys_from (length w.calls) 0 0 (Some (medium_by_hand h) ∷ []))) }; moment = w.moment }) (by_hand w h)
     made_answered e = subst (IsAnswered _ _) (sym answered_is) (go (install w.books.ring (keys_from (length w.calls) 0 0 (Some (medium_by_hand h) ∷ []))) e)
       where
-        calls_are : Rattle.sg_gateway.specs.World.and_call (Rattle.sg_gateway.specs.Generations.renewed w.moment w.books (record (new_call w h.id) { media = 1 }) (Some (medium_by_hand h) ∷ [])) w.calls ≡ w.calls ++ call_in (length w.calls) ∷ []
-        calls_are = ap (λ c. Rattle.sg_gateway.specs.World.and_call c w.calls) call_is ∙ and_call_is 0 w.calls (call_in (length w.calls)) are (omega arith)
+        calls_are : and_call made_call w.calls ≡ w.calls ++ call_in (length w.calls) ∷ []
+        calls_are = ap (λ c. and_call c w.calls) call_is ∙ and_call_is 0 w.calls (call_in (length w.calls)) are (omega arith)
 
         go : (r : Result (List Installed) Refusal) → Ok tt ≡ answer_in r
             → IsAnswered (Made h.id (length w.calls) 1 ∷ (Live h.id ∷ []))

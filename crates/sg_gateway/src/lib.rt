@@ -7,6 +7,8 @@ mod hand;
 mod laws;
 mod plain_call;
 mod plain_table;
+#[cfg(test)]
+mod tests;
 
 pub use gateway::Gateway;
 pub use hand::Hand;

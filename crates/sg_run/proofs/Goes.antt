@@ -1,14 +1,13 @@
 -- How a run goes on, line by line.
-use Rattle.std.proofs.Common.{◌≡◌, ◌+◌, ℕ, Bool, false, List, [], ◌∷◌, ◌++◌, length, Option, Some, None, Result, Ok, Err, refl, sym, ap, ◌∙◌, subst, append_assoc, length-append, arith, ◌<◌, ◌≤◌, ◌^◌}
+use Rattle.std.proofs.Common.{◌≡◌, ◌+◌, ℕ, false, List, [], ◌∷◌, ◌++◌, length, Option, Some, None, Result, Ok, Err, refl, sym, ap, ◌∙◌, subst, append_assoc, length-append, arith, ◌<◌, ◌≤◌, ◌^◌}
 use Rattle.std.specs.List.{flat_map}
 use Rattle.std.proofs.lemmas.List.{append-nil}
 use Rattle.sg_gateway.specs.Step.{Event}
 use Rattle.sg_base.specs.declared.faults.ScriptFault.{ScriptFault}
 use Rattle.sg_base.specs.declared.faults.ScriptFault.TheVariants.{Unended}
-use Rattle.sg_script.specs.declared.outcomes.Outcome.{Outcome}
 use Rattle.sg_edge.specs.Told.{TookIn, Wrote}
 use Rattle.sg_edge.proofs.Passed.{took_more, wrote_more}
-use Rattle.sg_gateway.specs.Runs.{Turn, turn_of, turns_from, turns, outcomes, world_after}
+use Rattle.sg_gateway.specs.Runs.{Turn, turns_from, turns, outcomes, world_after}
 use Rattle.sg_gateway.specs.Events.{outcomes_from}
 use Rattle.sg_gateway.specs.Step.{step}
 use Rattle.sg_gateway.specs.World.{World, empty}
@@ -26,7 +25,6 @@ use Rattle.sg_script.specs.declared.ReadLineFault.TheVariants as faults
 use Rattle.sg_run.specs.Played.{Says}
 use Rattle.sg_script.specs.Fields.{Gives}
 use Rattle.sg_script.specs.ServedLine.{served_line_of}
-use Rattle.sg_gateway.specs.Events.{events_of}
 use Rattle.sg_gateway.proofs.Sayings.{FirstFails, first_fails, still_fails, said_is, too_far, events_at}
 use Rattle.sg_script.proofs.Splits.{lines_of_whole}
 

@@ -1,7 +1,6 @@
 -- What a run answers, and what it has written by then.
 use Rattle.std.specs.Prelude.{◌≡◌, ◌⊎◌, ◌≤◌, ◌+◌, ◌^◌, length, ℕ, List, [], ◌++◌, Option, Some, None}
 use Rattle.std.specs.List.{flat_map}
-use Rattle.sg_base.specs.declared.faults.ScriptFault.{ScriptFault}
 use Rattle.sg_base.specs.declared.faults.ScriptFault.TheVariants.{Unended}
 use Rattle.sg_script.specs.declared.outcomes.Outcome.{Outcome}
 use Rattle.sg_script.specs.OutcomeText.{outcome_line}
@@ -9,7 +8,7 @@ use Rattle.sg_edge.specs.Told.{TookIn, Wrote, AtEnd}
 use Rattle.sg_session.specs.Reach.{Sealed, AreSealed}
 use Rattle.sg_gateway.specs.Arriving.{EachArrivingIsPutOut}
 use Rattle.sg_gateway.specs.PeersPackets.{EachOpeningIsSealed, EachOpeningGoesOut, EachHighestIsSealed, OnlyOpeningsGoOut}
-use Rattle.sg_gateway.specs.Replayed.{Replayed, replayed}
+use Rattle.sg_gateway.specs.Replayed.{replayed}
 use Rattle.sg_gateway.specs.Runs.{outcomes, turns_from}
 use Rattle.sg_gateway.specs.Step.{Event}
 use Rattle.sg_gateway.specs.Twice.{NoneTwice, NoneTwiceUnderKey, KeysHaveOneOwner}

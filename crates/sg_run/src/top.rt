@@ -9,7 +9,7 @@ ghost use Rattle.sg_run.specs.Words.{IsNoCommand};
 use crate::replaying::replay;
 use crate::status::Status;
 use sg_edge::{Sink, Source};
-use sg_gateway::PlainTable;
+use sg_table::Table;
 use std::alloc::Global;
 
 /// Runs the command that the words name over the source and the sink. The one command of now is
@@ -39,7 +39,7 @@ pub fn run<S: Source, K: Sink>(
     if !is_replay(words) {
         return Status::Usage;
     }
-    let mut table = PlainTable::new(alloc);
+    let mut table = Table::make(alloc);
     replay(alloc, &mut table, source, sink)
 }
 

@@ -4,3 +4,4 @@ pub mod HandKeys
 pub mod Installed
 pub mod Legs
 pub mod Paired
+pub mod Telling

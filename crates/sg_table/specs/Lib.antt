@@ -1,3 +1,4 @@
 pub mod Handling
 pub mod Keying
 pub mod Standing
+pub mod Telling

@@ -3,10 +3,12 @@
 #![tactic(auto)]
 
 mod call;
+mod gateway;
 mod handled;
 mod leg;
 mod manual;
 mod table;
 
 pub use handled::{End, Handled};
+pub use manual::Manual;
 pub use table::Table;

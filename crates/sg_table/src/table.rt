@@ -25,11 +25,13 @@ use std::marker::Model;
 /// A table has room for so many calls.
 const CALLS_MOST: usize = 256;
 
-/// A table of calls, which are only made, and the ring of all keys that came into use.
+/// A table of calls, which are only made, with the ring of all keys that came into use, and a pad for the
+/// datagrams of lines.
 #[derive(Drop)]
 pub struct Table {
     calls: Vec<Call>,
     ring: Ring,
+    pad: Option<Pad>,
 }
 
 impl Model for Table {
@@ -48,7 +50,25 @@ impl Table {
         Table {
             calls: Vec::new(alloc),
             ring: Ring::make(alloc),
+            pad: None,
         }
+    }
+
+    /// The pad of the table, whatever it holds.
+    pub(crate) fn take_pad(&mut self, alloc: Global) -> Result<Pad, NoMemory>
+        ensures { self.new ≡ self.old }
+    {
+        match self.pad.take() {
+            Some(pad) => Ok(pad),
+            None => Pad::make(alloc),
+        }
+    }
+
+    /// Keeps a pad for later.
+    pub(crate) fn keep_pad(&mut self, pad: Pad)
+        ensures { self.new ≡ self.old }
+    {
+        self.pad = Some(pad);
     }
 
     /// Handles a datagram that comes to a port. No memory is taken.

@@ -1,0 +1,10 @@
+pub mod AgainLaws
+pub mod AnswerLaws
+pub mod Base64Laws
+pub mod DecodedBytes
+pub mod DigitLaws
+pub mod KeyLoop
+pub mod PrintLaws
+pub mod TextLaws
+pub mod ValidLaws
+pub mod WordLaws

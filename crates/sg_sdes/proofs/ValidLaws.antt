@@ -1,0 +1,328 @@
+-- What is read of a text is a line with a spelling.
+use Rattle.std.proofs.Common.{◌≡◌, ◌≢◌, ◌⊎◌, ℕ, ◌+◌, ◌-◌, ◌^◌, ◌<◌, ◌≤◌, Bool, true, false, cond, eqb, leb, ltb, List, [], ◌∷◌, ◌++◌, length, drop, Option, Some, None, Result, Ok, Err, refl, sym, ap, ◌∙◌, subst, arith, inl, inr, length-take, length-drop}
+use Rattle.std.specs.Prelude.{◌&&◌, ◌||◌, codes, IfSome, IfOk, is_some, is_none, option_map, option_and_then, nat_eq}
+use Rattle.std.specs.Char.{is_ascii_digit}
+use Rattle.std.specs.List.{AllByRecursion, list_all, slice_split, starts_with}
+use Rattle.std.specs.Str.{bytes_eq}
+use Rattle.std.specs.Str.Parse.{digits_value}
+use Rattle.std.proofs.lemmas.Bool.{and_parts, leb-true, ltb-true, eqb-true, eqb-false}
+use Rattle.std.proofs.lemmas.List.{take-append-drop}
+use Rattle.std.proofs.lemmas.List.Splits.{length-slice_split}
+use Rattle.std.proofs.lemmas.Nat.{pow_pos}
+use Rattle.std.proofs.Math.Pow.{pow_mono}
+use Rattle.base64.specs.GeneralPurpose.{IsBytes, decode_of}
+use Rattle.base64.specs.Engines.{standard, standard_no_pad}
+use Rattle.base64.specs.declared.decode.DecodeError.{DecodeError}
+use Rattle.sg_base.specs.declared.SdesFault.{SdesFault}
+use Rattle.sg_base.specs.declared.SdesFault.TheVariants.{Tag, Suite as NoSuite, Key, Lifetime, MkiValue as NoMki, Parameter}
+use Rattle.sg_base.specs.declared.Suite.{Suite}
+use Rattle.sg_base.specs.declared.Suite.TheVariants.{Raw80}
+use Rattle.sg_base.specs.Fields.{cut_at, number_at}
+use Rattle.sg_base.specs.Keys.{Master, master_of}
+use Rattle.sg_base.specs.Mkis.{MkiValue, mki_of, IsMki}
+use Rattle.sg_base.specs.Suites.{key_len_of, salt_len_of}
+use Rattle.sg_base.specs.SuiteNames.{suite_at}
+use Rattle.sg_base.proofs.Decimals.{number_takes}
+use Rattle.sg_base.proofs.FourNumbers.{bind_some}
+use Rattle.sg_sdes.specs.declared.lines.CryptoLine.{CryptoLine}
+use Rattle.sg_sdes.specs.declared.lines.InlineKey.{InlineKey}
+use Rattle.sg_sdes.specs.declared.parameters.Parameters.{Parameters}
+use Rattle.sg_sdes.specs.CryptoOf.{crypto_parts, crypto_of}
+use Rattle.sg_sdes.specs.CryptoText.{IsInlineKey, IsCryptoLine}
+use Rattle.sg_sdes.specs.Keys.{◌>>=◌, or_fault, alone, with_one, with_both, behind_bar, at_bar, inline_at, keys_from, keys_of, all_differ}
+use Rattle.sg_sdes.specs.KeyTexts.{digits_at, is_raw, crypto_suite_at, base64_at, key_at, lifetime_at, is_mki, mki_at, or_else, ok_of}
+use Rattle.sg_sdes.specs.Parameters.{unsaid, with_window, with_parameter, parameters_from}
+use Rattle.sg_sdes.specs.Words.{words_of, word_at}
+use Rattle.sg_sdes.proofs.DecodedBytes.{decoded_are_bytes}
+use Rattle.sg_sdes.proofs.DigitLaws.{small}
+
+-- ---- steps that may fail
+
+pub bind_ok : {A B : Type 0} (r : Result A SdesFault) (f : A → Result B SdesFault) (y : B) → (r >>= f) ≡ Ok y → (x : A) × (r ≡ Ok x) × (f x ≡ Ok y)
+bind_ok (Ok x) f y e = (x, refl, e)
+bind_ok (Err d) f y e = absurd cc
+
+or_fault_ok : {A : Type 0} (d : SdesFault) (o : Option A) (x : A) → or_fault d o ≡ Ok x → o ≡ Some x
+or_fault_ok d (Some y) x e = let same : y ≡ x = cc in ap Some same
+or_fault_ok d None x e = absurd cc
+
+found : {A B : Type 0} (d : SdesFault) (o : Option A) (f : A → Result B SdesFault) (y : B) → (or_fault d o >>= f) ≡ Ok y → (x : A) × (o ≡ Some x) × (f x ≡ Ok y)
+found d (Some x) f y e = (x, refl, e)
+found d None f y e = absurd cc
+
+done : {A : Type 0} (x y : A) → (let r : Result A SdesFault = Ok x in r ≡ Ok y) → x ≡ y
+done x y e = cc
+
+guarded : {A : Type 0} (b : Bool) (r : Result A SdesFault) (d : SdesFault) (y : A) → cond b r (Err d) ≡ Ok y → (b ≡ true) × (r ≡ Ok y)
+guarded true r d y e = (refl, e)
+guarded false r d y e = absurd cc
+
+allowed : {A : Type 0} (b : Bool) (r : Result A SdesFault) (d : SdesFault) (y : A) → cond b (Err d) r ≡ Ok y → r ≡ Ok y
+allowed true r d y e = absurd cc
+allowed false r d y e = e
+
+some_if : {A : Type 0} (b : Bool) (x y : A) → cond b (Some x) None ≡ Some y → (b ≡ true) × (x ≡ y)
+some_if true x y e = (refl, cc)
+some_if false x y e = absurd cc
+
+some_unless : {A : Type 0} (b : Bool) (x y : A) → cond b None (Some x) ≡ Some y → (b ≡ false) × (x ≡ y)
+some_unless true x y e = absurd cc
+some_unless false x y e = (refl, cc)
+
+chosen : {A : Type 0} (b : Bool) (x y z : A) → cond b x y ≡ z → ((b ≡ true) × (x ≡ z)) ⊎ ((b ≡ false) × (y ≡ z))
+chosen true x y z e = inl (refl, e)
+chosen false x y z e = inr (refl, e)
+
+-- ---- numbers and suites
+
+pub digits_small : (t : List ℕ) (n : ℕ) → digits_at t ≡ Some n → n < 10 ^ 9
+unfolding digits_at
+digits_small t n e =
+    let g = some_if (leb 1 (length t) && leb (length t) 9 && list_all is_ascii_digit t) (digits_value 10 t) n e in
+    let p = and_parts (leb 1 (length t) && leb (length t) 9) (list_all is_ascii_digit t) g.0 in
+    let q = and_parts (leb 1 (length t)) (leb (length t) 9) p.0 in
+    subst (λ m. m < 10 ^ 9) g.1 (small t p.1 (leb-true _ _ q.1))
+
+raw_not : (s : Suite) → is_raw s ≡ false → s ≢ Raw80
+raw_not s e is = let f : is_raw Raw80 ≡ false = ap is_raw (sym is) ∙ e in absurd cc
+
+suite_not_raw : (t : List ℕ) (s : Suite) → crypto_suite_at t ≡ Some s → s ≢ Raw80
+unfolding crypto_suite_at
+suite_not_raw t s e =
+    let p = bind_some (suite_at t) _ s e in
+    let g = some_unless (is_raw p.0) p.0 s p.2 in
+    subst (λ x. x ≢ Raw80) g.1 (raw_not p.0 g.0)
+
+-- ---- one key
+
+either : (r s : Result (List ℕ) DecodeError) (b : List ℕ) → or_else r (ok_of s) ≡ Some b → (r ≡ Ok b) ⊎ (s ≡ Ok b)
+either (Ok x) s b e = let f : x ≡ b = cc in inl (ap Ok f)
+either (Err d) (Ok x) b e = let f : x ≡ b = cc in inr (ap Ok f)
+either (Err d) (Err f) b e = absurd cc
+
+base64_bytes : (t b : List ℕ) → base64_at t ≡ Some b → IsBytes b
+unfolding base64_at
+base64_bytes t b e = elim (either (decode_of standard t) (decode_of standard_no_pad t) b e) [
+  | inl p ↦ decoded_are_bytes standard t b refl p
+  | inr p ↦ decoded_are_bytes standard_no_pad t b refl p
+]
+
+-- a key of the suite
+pub record IsKey (suite : Suite) (k : Master) : Type 0 where
+  pub suite_is : k.suite ≡ suite
+  pub key : length k.key ≡ key_len_of suite
+  pub salt : length k.salt ≡ salt_len_of suite
+  pub octets : IsBytes (k.key ++ k.salt)
+
+pub made_key : (suite : Suite) (b : List ℕ) → IsBytes b → length b ≡ key_len_of suite + salt_len_of suite → IsKey suite (master_of suite b)
+made_key suite b bytes size = record {
+  suite_is = refl;
+  key = length-take (key_len_of suite) b ∙ omega (arith, size);
+  salt = length-drop (key_len_of suite) b ∙ omega (arith, size);
+  octets = subst IsBytes (sym (take-append-drop (key_len_of suite) b)) bytes;
+}
+
+key_is : (suite : Suite) (t : List ℕ) (k : Master) → key_at suite t ≡ Some k → IsKey suite k
+unfolding key_at
+key_is suite t k e =
+    let p = bind_some (base64_at t) _ k e in
+    let g = some_if (eqb (length p.0) (key_len_of suite + salt_len_of suite)) (master_of suite p.0) k p.2 in
+    subst (IsKey suite) g.1 (made_key suite p.0 (base64_bytes t p.0 p.1) (eqb-true _ _ g.0))
+
+power_fits : (n : ℕ) → n ≤ 48 → (1 ≤ 2 ^ n) × (2 ^ n ≤ 2 ^ 48)
+power_fits n le = (let p = pow_pos n in omega (arith, p), pow_mono {i = n} {j = 48} le)
+
+mapped : (o : Option ℕ) (n : ℕ) → option_map (λ x. 2 ^ x) o ≡ Some n → (x : ℕ) × (o ≡ Some x) × (2 ^ x ≡ n)
+mapped None n e = absurd cc
+mapped (Some x) n e = (x, refl, cc)
+
+lifetime_is : (t : List ℕ) (n : ℕ) → lifetime_at t ≡ Some n → (1 ≤ n) × (n ≤ 2 ^ 48)
+unfolding lifetime_at
+lifetime_is t n e =
+    elim (chosen (starts_with nat_eq t (codes "2^")) _ _ (Some n) e) [
+      | inl p ↦
+          let m = mapped (number_at 48 (drop 2 t)) n p.1 in
+          let f = power_fits m.0 (number_takes 48 (drop 2 t) m.0 m.1).1 in
+          (subst (λ x. 1 ≤ x) m.2 f.0, subst (λ x. x ≤ 2 ^ 48) m.2 f.1)
+      | inr p ↦
+          let q = bind_some (number_at (2 ^ 48) t) _ n p.1 in
+          let g = some_unless (eqb q.0 0) q.0 n q.2 in
+          let most = (number_takes (2 ^ 48) t q.0 q.1).1 in
+          let least = eqb-false q.0 0 g.0 in
+          (subst (λ x. 1 ≤ x) g.1 (grind (arith, least)), subst (λ x. x ≤ 2 ^ 48) g.1 most)
+    ]
+
+mki_is : (t : List ℕ) (m : MkiValue) → mki_at t ≡ Some m → IsMki m.value m.length × (m.value < 2 ^ 128)
+unfolding mki_at
+mki_is t m e =
+    let p = bind_some (cut_at 58 t) _ m e in
+    let v = bind_some (number_at (2 ^ 128 - 1) p.0.0) _ m p.2 in
+    let s = bind_some (number_at 128 p.0.1) _ m v.2 in
+    let g = some_if (is_mki v.0 s.0) (mki_of v.0 s.0) m s.2 in
+    let a = and_parts (leb 1 s.0 && leb s.0 128) (ltb v.0 (256 ^ s.0)) g.0 in
+    let b = and_parts (leb 1 s.0) (leb s.0 128) a.0 in
+    let most = (number_takes (2 ^ 128 - 1) p.0.0 v.0 v.1).1 in
+    let made : IsMki v.0 s.0 = record { least = leb-true _ _ b.0; most = leb-true _ _ b.1; fits = ltb-true _ _ a.1 } in
+    subst (λ (x : MkiValue). IsMki x.value x.length × (x.value < 2 ^ 128)) g.1 (made, omega (arith, most))
+
+pub inline_made : (suite : Suite) (k : Master) (n : ℕ) (mki : Option MkiValue) → IsKey suite k → (1 ≤ n) × (n ≤ 2 ^ 48) → IfSome mki (λ m. IsMki m.value m.length × (m.value < 2 ^ 128))
+    → IsInlineKey suite (record { key = k; lifetime = n; mki = mki })
+inline_made suite k n mki is life m = record { suite_is = is.suite_is; key = is.key; salt = is.salt; octets = is.octets; least = life.0; most = life.1; mki = m }
+
+pub longest : (1 ≤ 2 ^ 48) × (2 ^ 48 ≤ 2 ^ 48)
+longest = (omega arith, omega arith)
+
+alone_is : (suite : Suite) (t : List ℕ) (k : InlineKey) → alone suite t ≡ Ok k → IsInlineKey suite k
+alone_is suite t k e =
+    let p = found Key (key_at suite t) _ k e in
+    subst (IsInlineKey suite) (done _ k p.2) (inline_made suite p.0 (2 ^ 48) None (key_is suite t p.0 p.1) longest tt)
+
+with_one_is : (suite : Suite) (t part : List ℕ) (k : InlineKey) → with_one suite t part ≡ Ok k → IsInlineKey suite k
+with_one_is suite t part k e =
+    let p = found Key (key_at suite t) _ k e in
+    elim (chosen (is_some (cut_at 58 part)) _ _ (Ok k) p.2) [
+      | inl q ↦
+          let m = found NoMki (mki_at part) _ k q.1 in
+          subst (IsInlineKey suite) (done _ k m.2) (inline_made suite p.0 (2 ^ 48) (Some m.0) (key_is suite t p.0 p.1) longest (mki_is part m.0 m.1))
+      | inr q ↦
+          let n = found Lifetime (lifetime_at part) _ k q.1 in
+          subst (IsInlineKey suite) (done _ k n.2) (inline_made suite p.0 n.0 None (key_is suite t p.0 p.1) (lifetime_is part n.0 n.1) tt)
+    ]
+
+with_both_is : (suite : Suite) (t first second : List ℕ) (k : InlineKey) → with_both suite t first second ≡ Ok k → IsInlineKey suite k
+with_both_is suite t first second k e =
+    let a = allowed (is_some (cut_at 124 second) || is_some (cut_at 58 first) || is_none (cut_at 58 second)) _ Key k e in
+    let p = found Key (key_at suite t) _ k a in
+    let n = found Lifetime (lifetime_at first) _ k p.2 in
+    let m = found NoMki (mki_at second) _ k n.2 in
+    subst (IsInlineKey suite) (done _ k m.2) (inline_made suite p.0 n.0 (Some m.0) (key_is suite t p.0 p.1) (lifetime_is first n.0 n.1) (mki_is second m.0 m.1))
+
+behind_is : (suite : Suite) (t rest : List ℕ) (o : Option (List ℕ × List ℕ)) (k : InlineKey) → behind_bar suite t rest o ≡ Ok k → IsInlineKey suite k
+behind_is suite t rest None k e = with_one_is suite t rest k e
+behind_is suite t rest (Some p) k e = with_both_is suite t p.0 p.1 k e
+
+at_bar_is : (suite : Suite) (t : List ℕ) (o : Option (List ℕ × List ℕ)) (k : InlineKey) → at_bar suite t o ≡ Ok k → IsInlineKey suite k
+at_bar_is suite t None k e = alone_is suite t k e
+at_bar_is suite t (Some p) k e = behind_is suite p.0 p.1 (cut_at 124 p.1) k e
+
+inline_is : (suite : Suite) (t : List ℕ) (k : InlineKey) → inline_at suite t ≡ Ok k → IsInlineKey suite k
+unfolding inline_at
+inline_is suite t k e =
+    let g = guarded (starts_with nat_eq t (codes "inline:")) _ Key k e in
+    at_bar_is suite (drop 7 t) (cut_at 124 (drop 7 t)) k g.1
+
+-- ---- the keys
+
+keys_are : (suite : Suite) (n : ℕ) (ts : List (List ℕ)) (ks : List InlineKey) → n ≤ 8 → keys_from suite n ts ≡ Ok ks
+    → AllByRecursion (IsInlineKey suite) ks × (n + length ks ≤ 8) × (length ks ≡ length ts)
+unfolding keys_from
+keys_are suite n [] ks le e = subst (λ (x : List InlineKey). AllByRecursion (IsInlineKey suite) x × (n + length x ≤ 8) × (length x ≡ 0)) (done [] ks e) (tt, omega arith, refl)
+keys_are suite n (t ∷ ts) ks le e = elim (chosen (eqb n 8) _ _ (Ok ks) e) [
+  | inl p ↦ absurd (no p.1)
+  | inr p ↦
+      let k = bind_ok (inline_at suite t) _ ks p.1 in
+      let r = bind_ok (keys_from suite (n + 1) ts) _ ks k.2 in
+      let other = eqb-false n 8 p.0 in
+      let room : n + 1 ≤ 8 = grind (arith, other) in
+      let rest = keys_are suite (n + 1) ts r.0 room r.1 in
+      subst (λ (x : List InlineKey). AllByRecursion (IsInlineKey suite) x × (n + length x ≤ 8) × (length x ≡ length (t ∷ ts))) (done (k.0 ∷ r.0) ks r.2)
+      ((inline_is suite t k.0 k.1, rest.0), omega (arith, rest), omega (arith, rest))
+]
+  where
+    no : Err Key ≡ (let r : Result (List InlineKey) SdesFault = Ok ks in r) → ⊥
+    no e = cc
+
+some_parts : (t : List ℕ) → 1 ≤ length (slice_split (λ x. eqb x 59) t)
+some_parts t = let n = length-slice_split (λ x. eqb x 59) t in omega (arith, n)
+
+-- ---- the parameters
+
+-- the window that was said is of nine digits at most
+abbrev Fits : Parameters → Type 0
+Fits said = IfSome said.window (λ n. n < 10 ^ 9)
+
+flag_fits : (b : Bool) (next more : Parameters) → Fits next → cond b None (Some next) ≡ Some more → Fits more
+flag_fits b next more fits e = let g = some_unless b next more e in subst Fits g.1 fits
+
+said_window : (said more : Parameters) (t : List ℕ) → with_window said t ≡ Some more → Fits more
+said_window said more t e = at_bit (is_some said.window) e
+  where
+    at_bit : (b : Bool) → cond b None (option_and_then (λ n. Some (record said { window = Some n })) (digits_at t)) ≡ Some more → Fits more
+    at_bit true e = absurd cc
+    at_bit false e =
+        let p = bind_some (digits_at t) (λ n. Some (record said { window = Some n })) more e in
+        let small : p.0 < 10 ^ 9 = digits_small t p.0 p.1 in
+        let made : Parameters = record said { window = Some p.0 } in
+        let same : made ≡ more = (let f : Some made ≡ Some more = p.2 in cc) in
+        subst Fits same small
+
+window_fits : (said more : Parameters) (t : List ℕ) → Fits said → with_parameter said t ≡ Some more → Fits more
+unfolding with_parameter
+window_fits said more t fits e =
+    elim (chosen (starts_with nat_eq t (codes "-")) _ _ (Some more) e) [
+      | inl p ↦ flag_fits false said more fits p.1
+      | inr p ↦ elim (chosen (starts_with nat_eq t (codes "WSH=")) _ _ (Some more) p.1) [
+        | inl q ↦ said_window said more (drop 4 t) q.1
+        | inr q ↦ elim (chosen (bytes_eq t (codes "KDR=0")) _ _ (Some more) q.1) [
+          | inl r ↦ flag_fits said.rate (record said { rate = true }) more fits r.1
+          | inr r ↦ elim (chosen (bytes_eq t (codes "FEC_ORDER=FEC_SRTP")) _ _ (Some more) r.1) [
+            | inl s ↦ flag_fits said.order (record said { order = true }) more fits s.1
+            | inr s ↦ elim (chosen (bytes_eq t (codes "UNENCRYPTED_SRTP")) _ _ (Some more) s.1) [
+              | inl u ↦ flag_fits said.plain_rtp (record said { plain_rtp = true }) more fits u.1
+              | inr u ↦ elim (chosen (bytes_eq t (codes "UNENCRYPTED_SRTCP")) _ _ (Some more) u.1) [
+                | inl v ↦ flag_fits said.plain_rtcp (record said { plain_rtcp = true }) more fits v.1
+                | inr v ↦ absurd (no v.1)
+              ]
+            ]
+          ]
+        ]
+      ]
+    ]
+  where
+    no : None ≡ Some more → ⊥
+    no e = cc
+
+parameters_fit : (said all : Parameters) (ts : List (List ℕ)) → Fits said → parameters_from said ts ≡ Some all → Fits all
+unfolding parameters_from
+parameters_fit said all [] fits e = let same : said ≡ all = cc in subst Fits same fits
+parameters_fit said all (t ∷ ts) fits e =
+    let p = bind_some (with_parameter said t) _ all e in
+    parameters_fit p.0 all ts (window_fits said p.0 t fits p.1) p.2
+
+-- ---- the line
+
+keys_of_are : (suite : Suite) (t : List ℕ) (ks : List InlineKey) → keys_of suite t ≡ Ok ks → AllByRecursion (IsInlineKey suite) ks × (1 ≤ length ks) × (length ks ≤ 8)
+unfolding keys_of
+keys_of_are suite t ks e =
+    let p = keys_are suite 0 (slice_split (λ x. eqb x 59) t) ks (omega arith) e in
+    let some = some_parts t in
+    (p.0, omega (arith, p.2, some), omega (arith, p.1))
+
+parts_valid : (tag suite keys : List ℕ) (said : List (List ℕ)) (l : CryptoLine) → crypto_parts tag suite keys said ≡ Ok l → IsCryptoLine l
+unfolding crypto_parts
+parts_valid tag suite keys said l e =
+    let n = found Tag (digits_at tag) _ l e in
+    let s = found NoSuite (crypto_suite_at suite) _ l n.2 in
+    let k = bind_ok (keys_of s.0 keys) _ l s.2 in
+    let g = guarded (all_differ k.0) _ NoMki l k.2 in
+    let p = found Parameter (parameters_from unsaid said) _ l g.1 in
+    let is = keys_of_are s.0 keys k.0 k.1 in
+    let made : CryptoLine = record { tag = n.0; suite = s.0; keys = k.0; window = p.0.window; plain_rtp = p.0.plain_rtp; plain_rtcp = p.0.plain_rtcp } in
+    let valid : IsCryptoLine made = record {
+      tag = digits_small tag n.0 n.1;
+      suite = suite_not_raw suite s.0 s.1;
+      some = is.1;
+      few = is.2;
+      keys = is.0;
+      mkis = g.0;
+      window = parameters_fit unsaid p.0 said tt p.1;
+    } in
+    subst IsCryptoLine (done made l p.2) valid
+
+pub crypto_valid : (t : List ℕ) (l : CryptoLine) → crypto_of t ≡ Ok l → IsCryptoLine l
+unfolding crypto_of
+crypto_valid t l e = parts_valid (word_at (words_of t) 0) (word_at (words_of t) 1) (word_at (words_of t) 2) (drop 3 (words_of t)) l e
+
+pub is_valid : (t : List ℕ) (r : Result CryptoLine SdesFault) → r ≡ crypto_of t → IfOk r IsCryptoLine
+is_valid t (Ok l) e = crypto_valid t l (sym e)
+is_valid t (Err f) e = tt

@@ -1,0 +1,7 @@
+pub mod Answers
+pub mod CryptoOf
+pub mod CryptoText
+pub mod KeyTexts
+pub mod Keys
+pub mod Parameters
+pub mod Words
