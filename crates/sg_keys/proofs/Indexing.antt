@@ -1,6 +1,6 @@
 -- What the indexes tell is the least number of a key that clashes.
-use Rattle.std.proofs.Common.{◌≡◌, ℕ, ◌+◌, ◌<◌, ◌≤◌, Bool, true, false, List, [], ◌∷◌, ◌++◌, length, take, drop, get_or, Option, Some, None, IfSome, refl, rules, arith, ap, sym, ◌∙◌, inl, inr, Result, Ok, Err, add-zero, zero-add, add-one}
-use Rattle.std.specs.Prelude.{nat_lt, ◌||◌, if◌then◌else◌, OnOk}
+use Rattle.std.proofs.Common.{◌≡◌, ℕ, ◌+◌, ◌<◌, ◌≤◌, Bool, false, List, [], ◌∷◌, ◌++◌, length, take, drop, get_or, Option, Some, None, IfSome, refl, rules, arith, ap, sym, ◌∙◌, inl, inr, Result, Ok, Err, add-zero, zero-add, add-one}
+use Rattle.std.specs.Prelude.{◌||◌, if◌then◌else◌, OnOk}
 use Rattle.std.specs.Result.{is_err}
 use Rattle.std.proofs.lemmas.Bool.{cases_Bool, lt-ltb, le-ltb, true≢false}
 use Rattle.std.proofs.lemmas.List.{take-append-drop, length-take-le}

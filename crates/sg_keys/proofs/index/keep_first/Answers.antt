@@ -1,5 +1,4 @@
-use Rattle.std.proofs.Common.{rules, ◌≡◌, ℕ, Option, Some, None, is_some, true, false, refl, sym, ap, subst, ◌∙◌, arith}
-use Rattle.std.specs.Prelude.{OnOk}
+use Rattle.std.proofs.Common.{rules, ◌≡◌, None, is_some, sym, ap, ◌∙◌}
 use Rattle.sg_keys.specs.Indexed.{at_octets}
 use Rattle.sg_keys.proofs.Octets.{first_kept, first_stays, is_none}
 use Rattle.sg_keys.proofs.index.keep_first.Goals as goal

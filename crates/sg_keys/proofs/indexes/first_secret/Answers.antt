@@ -1,6 +1,6 @@
-use Rattle.std.proofs.Common.{rules, arith, ◌≡◌, length, sym, ap, ◌∙◌}
+use Rattle.std.proofs.Common.{◌≡◌, length, sym, ◌∙◌}
 use Rattle.std.proofs.lemmas.Bool.{eqb-true}
-use Rattle.sg_keys.proofs.Indexing.{empty_found, secret_found}
+use Rattle.sg_keys.proofs.Indexing.{empty_found}
 use Rattle.sg_keys.proofs.indexes.first_secret.Goals as goal
 
 pub returns-then-is_empty : goal.returns-then-is_empty

@@ -1,10 +1,6 @@
-use Rattle.std.proofs.Common.{rules, arith, ◌≡◌, ℕ, List, Ok, Option, Some, None, drop, false, sym, ap, subst, ◌∙◌, refl, ◌<◌, length}
-use Rattle.std.specs.Prelude.{if◌then◌else◌}
-use Rattle.std.specs.Result.{is_err}
+use Rattle.std.proofs.Common.{arith, sym, ◌∙◌, refl, ◌<◌, length}
 use Rattle.sg_base.specs.Octets.{same_octets}
-use Rattle.sg_base.specs.declared.faults.NoMemory.{NoMemory}
-use Rattle.sg_keys.specs.Indexed.{octets_of, at_octets}
-use Rattle.sg_keys.specs.Reused.{or_else}
+use Rattle.sg_keys.specs.Indexed.{octets_of}
 use Rattle.sg_keys.proofs.Indexing.{one_more, on_ok}
 use Rattle.sg_keys.proofs.index.Index.extend.Goals as goal
 

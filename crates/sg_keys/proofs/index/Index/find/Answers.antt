@@ -1,7 +1,6 @@
-use Rattle.std.proofs.Common.{◌≡◌, Option, Some, None, drop, sym, ap, ◌∙◌, refl}
+use Rattle.std.proofs.Common.{sym, ◌∙◌, refl}
 use Rattle.sg_base.specs.Octets.{same_octets}
-use Rattle.sg_keys.specs.Indexed.{octets_of, at_octets}
-use Rattle.sg_keys.specs.Reused.{or_else}
+use Rattle.sg_keys.specs.Indexed.{octets_of}
 use Rattle.sg_keys.proofs.Indexing.{split_at}
 use Rattle.sg_keys.proofs.index.Index.find.Goals as goal
 

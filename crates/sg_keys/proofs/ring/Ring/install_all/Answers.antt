@@ -1,9 +1,7 @@
-use Rattle.std.proofs.Common.{◌≡◌, List, Some, None, map, length, arith, sym, ap, subst, ◌∙◌}
+use Rattle.std.proofs.Common.{◌≡◌, List, Some, None, map, length, arith, sym, ap, ◌∙◌}
 use Rattle.std.proofs.lemmas.List.{length-map}
 use Rattle.sg_base.specs.Keys.{Master}
 use Rattle.sg_base.specs.declared.keys.SessionKeys.{SessionKeys}
-use Rattle.sg_session.specs.Ring.{install}
-use Rattle.sg_keys.specs.Installing.{IsToldOf}
 use Rattle.sg_keys.specs.Reused.{reused}
 use Rattle.sg_keys.proofs.Reusing.{reused_says, full_says, fits_says}
 use Rattle.sg_keys.proofs.ring.Ring.install_all.Goals as goal
