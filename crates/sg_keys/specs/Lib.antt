@@ -1,7 +1,9 @@
 pub mod Held
+pub mod Index
 pub mod Installing
 pub mod Kept
 pub mod KeySet
 pub mod Live
 pub mod Reused
+pub mod Ring
 pub mod Stands

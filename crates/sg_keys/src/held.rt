@@ -3,6 +3,7 @@
 ghost use Rattle.std.specs.Prelude.{◌≡◌, ◌≤◌, length};
 ghost use Rattle.sg_base.specs.Octets.{same_octets};
 ghost use Rattle.sg_kdf.specs.SessionKeys.{session_keys};
+ghost use Rattle.sg_keys.specs.Index.{has_cipher, has_key};
 ghost use Rattle.sg_session.specs.Ring.{clash, clashes_with_itself, same_secret};
 
 use sg_base::{CipherKey, MasterKey, SessionKeys};
@@ -57,6 +58,44 @@ impl Held {
             rtp: again(&key.1.rtp.encrypt),
             rtcp: again(&key.1.rtcp.encrypt),
         }
+    }
+
+    /// The octets of the master key.
+    pub fn key(&self) -> &[u8]
+        ensures value { result.now ≡ self.now.key }
+        ensures most { length result.now ≤ 32 }
+    {
+        self.master.key()
+    }
+
+    /// The encryption key of RTP.
+    pub fn rtp(&self) -> &[u8]
+        ensures value { result.now ≡ (session_keys self.now).rtp.encrypt }
+        ensures most { length result.now ≤ 32 }
+    {
+        self.rtp.as_slice()
+    }
+
+    /// The encryption key of RTCP.
+    pub fn rtcp(&self) -> &[u8]
+        ensures value { result.now ≡ (session_keys self.now).rtcp.encrypt }
+        ensures most { length result.now ≤ 32 }
+    {
+        self.rtcp.as_slice()
+    }
+
+    /// Whether these are the octets of the master key.
+    pub fn has_key(&self, octets: &[u8]) -> bool
+        ensures { result ≡ has_key octets.now self.now }
+    {
+        are_same(self.master.key(), octets)
+    }
+
+    /// Whether these are the octets of an encryption key.
+    pub fn has_cipher(&self, octets: &[u8]) -> bool
+        ensures { result ≡ has_cipher octets.now self.now }
+    {
+        same_secret(self.rtp.as_slice(), octets) || same_secret(self.rtcp.as_slice(), octets)
     }
 
     /// Whether the two clash: their master keys' octets are equal, or an encryption key of the one equals

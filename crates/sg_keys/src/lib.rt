@@ -3,6 +3,7 @@
 #![tactic(auto)]
 
 mod held;
+mod index;
 mod kept;
 mod key_set;
 mod live_key;

@@ -1,14 +1,19 @@
 //! The ring of all keys that came into use.
 
-ghost use Rattle.std.specs.Prelude.{◌≡◌, ◌+◌, ◌<◌, ◌≤◌, List, [], ◌++◌, length, map, All, IfOk, OnOk, OnErr};
+ghost use Rattle.std.specs.Prelude.{◌≡◌, ◌+◌, ◌<◌, ◌≤◌, ℕ, List, [], ◌∷◌, ◌++◌, length, vec_len, map, All, IfOk, OnOk, OnErr, Some, None, if◌then◌else◌};
+ghost use Rattle.sg_base.specs.Octets.{same_octets};
+ghost use Rattle.sg_keys.specs.Index.{IsIndex, first_at, has_cipher, has_key, number_in};
+ghost use Rattle.sg_keys.specs.Ring.{HasNumber, IsFresh, IsRing};
 ghost use Rattle.sg_session.specs.Ring.{Installed, install};
-ghost use Rattle.sg_keys.specs.Reused.{reused, IsDerived};
+ghost use Rattle.sg_keys.specs.Reused.{reused, told_of, IsDerived};
 ghost use Rattle.sg_keys.specs.Installing.{masters_of, IsToldOf};
 
 use crate::held::Held;
+use crate::index::{Numbers, put};
 use crate::search::first_reused;
 use sg_base::{MasterKey, NoMemory, SessionKeys};
 use std::alloc::Global;
+use std::collections::BTreeMap;
 use std::marker::Model;
 
 /// How many keys the ring can hold.
@@ -27,6 +32,8 @@ pub enum RingFault {
 #[derive(Drop)]
 pub struct Ring {
     keys: Vec<Held>,
+    masters: Numbers,
+    ciphers: Numbers,
 }
 
 impl Model for Ring {
@@ -35,22 +42,119 @@ impl Model for Ring {
 
     ghost Value = { List Master };
 
+    ghost use Rattle.sg_keys.specs.Ring.{IsRing};
+
     ghost view = { λ r. r.keys.items };
 
-    ghost invariant = { λ r. vec_len r.keys ≤ 65536 };
+    ghost invariant = { λ r. IsRing r.keys.items r.masters r.ciphers };
 }
 
-// Puts keys behind the others, all or none.
-fn push_all(list: &mut Vec<Held>, keys: &[(MasterKey, SessionKeys)]) -> Result<(), NoMemory>
-    requires { All IsDerived keys.now }
+// The map has this number for the key's octets, where there is memory.
+fn number_key(masters: &mut Numbers, ring: &[Held], key: &Held, number: u32) -> Result<(), NoMemory>
+    requires index { IsIndex has_key (number_in masters.old) ring.now }
+    requires fresh { IsFresh ring.now key.now }
+    requires number { number ≡ length ring.now }
+    ensures index { IsIndex has_key (number_in masters.new) ring.now }
+    ensures ok { OnOk result (HasNumber has_key (number_in masters.new) key.now number) }
+{
+    match put(masters, key.key(), number) {
+        Ok(()) => Ok(()),
+        Err(wanting) => Err(wanting),
+    }
+}
+
+// The map has this number for a secret of the key, where there is memory.
+fn number_cipher(
+    ciphers: &mut Numbers,
+    ring: &[Held],
+    octets: &[u8],
+    number: u32,
+) -> Result<(), NoMemory>
+    requires most { length octets.now ≤ 32 }
+    requires index { IsIndex has_cipher (number_in ciphers.old) ring.now }
+    requires fresh { first_at (has_cipher octets.now) 0 ring.now ≡ None }
+    requires number { number ≡ length ring.now }
+    ensures index { IsIndex has_cipher (number_in ciphers.new) ring.now }
+    ensures ok { OnOk result ((x : List ℕ) → number_in ciphers.new x ≡ (if same_octets octets.now x then Some number else number_in ciphers.old x)) }
+{
+    match put(ciphers, octets, number) {
+        Ok(()) => Ok(()),
+        Err(wanting) => Err(wanting),
+    }
+}
+
+// The map has this number for both encryption keys, where there is memory.
+fn number_ciphers(
+    ciphers: &mut Numbers,
+    ring: &[Held],
+    key: &Held,
+    number: u32,
+) -> Result<(), NoMemory>
+    requires index { IsIndex has_cipher (number_in ciphers.old) ring.now }
+    requires fresh { IsFresh ring.now key.now }
+    requires number { number ≡ length ring.now }
+    ensures index { IsIndex has_cipher (number_in ciphers.new) ring.now }
+    ensures ok { OnOk result (HasNumber has_cipher (number_in ciphers.new) key.now number) }
+{
+    match number_cipher(ciphers, ring, key.rtp(), number) {
+        Ok(()) => match number_cipher(ciphers, ring, key.rtcp(), number) {
+            Ok(()) => Ok(()),
+            Err(wanting) => Err(wanting),
+        },
+        Err(wanting) => Err(wanting),
+    }
+}
+
+// Puts a key that doesn't clash behind the others.
+fn push_one(
+    list: &mut Vec<Held>,
+    masters: &mut Numbers,
+    ciphers: &mut Numbers,
+    key: Held,
+) -> Result<(), NoMemory>
+    requires ring { IsRing list.old.items masters.old ciphers.old }
+    requires fresh { told_of key list.old.items ≡ None }
+    requires room { vec_len list.old < 65536 }
+    ensures ring { IsRing list.new.items masters.new ciphers.new }
+    ensures ok { OnOk result (list.new.items ≡ list.old.items ++ key ∷ []) }
+    ensures err { OnErr result (list.new.items ≡ list.old.items) }
+{
+    let number = list.len() as u32;
+    match number_key(masters, list, &key, number) {
+        Ok(()) => match number_ciphers(ciphers, list, &key, number) {
+            Ok(()) => match list.push(key) {
+                Ok(()) => Ok(()),
+                Err(_) => Err(NoMemory),
+            },
+            Err(wanting) => Err(wanting),
+        },
+        Err(wanting) => Err(wanting),
+    }
+}
+
+// Puts keys behind the others, all or none. None of them is reused.
+fn push_all(
+    list: &mut Vec<Held>,
+    masters: &mut Numbers,
+    ciphers: &mut Numbers,
+    keys: &[(MasterKey, SessionKeys)],
+) -> Result<(), NoMemory>
+    requires derived { All IsDerived keys.now }
+    requires ring { IsRing list.old.items masters.old ciphers.old }
+    requires none { reused list.old.items (map (λ k. k.0) keys.now) ≡ None }
+    requires room { vec_len list.old + length keys.now ≤ 65536 }
+    ensures ring { IsRing list.new.items masters.new ciphers.new }
     ensures ok { OnOk result (list.new.items ≡ list.old.items ++ map (λ k. k.0) keys.now) }
     ensures err { OnErr result (list.new.items ≡ list.old.items) }
 {
     let count = list.len();
     for key in keys {
-        if list.push(Held::new(key)).is_err() {
-            list.truncate(count);
-            return Err(NoMemory);
+        match push_one(list, masters, ciphers, Held::new(key)) {
+            Ok(()) => {}
+            Err(wanting) => {
+                list.truncate(count);
+                return Err(wanting);
+            }
         }
     }
     Ok(())
@@ -63,6 +167,8 @@ impl Ring {
     {
         Ring {
             keys: Vec::new(alloc),
+            masters: BTreeMap::new(alloc),
+            ciphers: BTreeMap::new(alloc),
         }
     }
 
@@ -88,7 +194,7 @@ impl Ring {
             → IsToldOf ring new result (install ring new) }
     {
         let first = self.keys.len();
-        if let Some(number) = first_reused(&self.keys, keys) {
+        if let Some(number) = first_reused(&self.keys, &self.masters, &self.ciphers, keys) {
             return Err(RingFault::KeyReused {
                 number: number as u32,
             });
@@ -96,7 +202,7 @@ impl Ring {
         if first + keys.len() > MOST {
             return Err(RingFault::RingFull);
         }
-        match push_all(&mut self.keys, keys) {
+        match push_all(&mut self.keys, &mut self.masters, &mut self.ciphers, keys) {
             Ok(()) => Ok(first as u32),
             Err(NoMemory) => Err(RingFault::NoMemory),
         }

@@ -186,16 +186,58 @@ fn a_refused_list_leaves_the_ring(rt: HostRuntime) -> Result<(), Fail> {
     Ok(())
 }
 
-// The highest number comes first.
+// A full ring, whose keys have the highest number first.
 #[test]
-fn a_ring_grows(rt: HostRuntime) -> Result<(), Fail> {
+fn a_ring_fills_up(rt: HostRuntime) -> Result<(), Fail> {
     let mut ring = Ring::make(rt.alloc());
-    for place in 0..2048u32 {
-        let told = ring.install_all(&[numbered(2047 - place)?]);
+    for place in 0..65536u32 {
+        let told = ring.install_all(&[numbered(65535 - place)?]);
         assert_eq!(rt; told, Ok(place));
     }
-    let again = ring.install_all(&[numbered(2047 - 7)?]);
+    let more = ring.install_all(&[numbered(65536)?]);
+    assert_eq!(rt; more, Err(RingFault::RingFull));
+    let again = ring.install_all(&[numbered(65535 - 7)?]);
     assert_eq!(rt; again, Err(RingFault::KeyReused { number: 7 }));
-    assert_eq!(rt; ring.count(), 2048);
+    assert_eq!(rt; ring.count(), 65536);
+    Ok(())
+}
+
+// Pseudo-random lists of up to three keys, against a plain list of the contents that were installed.
+#[test]
+fn answers_as_a_plain_list(rt: HostRuntime) -> Result<(), Fail> {
+    let mut ring = Ring::make(rt.alloc());
+    let mut plain: Vec<u32> = Vec::new(rt.alloc());
+    let mut state = 1u32;
+    for round in 0..200u32 {
+        let mut contents: Vec<u32> = Vec::new(rt.alloc());
+        let mut told = None;
+        for _ in 0..round % 4 {
+            state = state.wrapping_mul(1103515245).wrapping_add(12345);
+            let content = state / 65536 % 90;
+            let all = plain.iter().chain(contents.iter());
+            let number = all.copied().position(|held| held == content);
+            if told.is_none() {
+                told = number;
+            }
+            contents.push(content)?;
+        }
+        let answer = match contents.as_slice() {
+            [] => ring.install_all(&[]),
+            [a] => ring.install_all(&[numbered(*a)?]),
+            [a, b] => ring.install_all(&[numbered(*a)?, numbered(*b)?]),
+            [a, b, c, ..] => ring.install_all(&[numbered(*a)?, numbered(*b)?, numbered(*c)?]),
+        };
+        match told {
+            Some(number) => {
+                let number = u32::try_from(number)?;
+                assert_eq!(rt; answer, Err(RingFault::KeyReused { number }));
+            }
+            None => {
+                assert_eq!(rt; answer, Ok(u32::try_from(plain.len())?));
+                plain.extend_from_slice(&contents)?;
+            }
+        }
+    }
+    assert!(rt; plain.len() > 40);
     Ok(())
 }
