@@ -8,6 +8,8 @@ mod seal_side;
 mod sealing;
 mod side;
 mod streams;
+#[cfg(test)]
+mod tests;
 
 pub use open_side::OpenSide;
 pub use seal_side::SealSide;

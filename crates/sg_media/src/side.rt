@@ -2,7 +2,7 @@
 
 ghost use Rattle.std.specs.Prelude.{◌≡◌, ◌≤◌, length, IfOk, MatchResult, Err};
 ghost use Rattle.sg_states.specs.Inbound.{CanServe};
-ghost use Rattle.sg_media.specs.Ciphers.{EachEncrypts, HaveCiphers};
+ghost use Rattle.sg_media.specs.Ciphers.{EachEncrypts};
 
 use crate::among::open_among;
 use crate::sealing::seal_among;
@@ -54,14 +54,11 @@ impl Side {
     ghost use Rattle.sg_session.specs.Session.{Session};
     ghost use Rattle.sg_media.specs.Accepting.{IsAccepted, IsAdmitted, IsMadeOf};
     ghost use Rattle.sg_media.specs.Answers.{opened_of, sealed_of};
-    ghost use Rattle.sg_media.specs.Sides.{StandsFor};
+    ghost use Rattle.sg_media.specs.Sides.{CanBeMade, StandsFor};
 
     /// A side of a session in which nothing is done.
     pub fn make(spec: SessionSpec) -> Side
-        requires at_least { 64 ≤ spec.window }
-        requires at_most { spec.window ≤ 1024 }
-        requires tag { spec.tag_len ≤ 10 }
-        requires ciphers { HaveCiphers spec.keys spec.kind spec.encrypt }
+        requires { CanBeMade spec }
         ensures { (s : Session) → IsMadeOf s spec → StandsFor result s }
     {
         let SessionSpec {
