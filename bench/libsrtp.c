@@ -1,5 +1,6 @@
 /* Seals and opens packets through libsrtp, in one thread, and prints nanoseconds a packet.
-   Each line: library, suite, octets of the plain packet, what is done, nanoseconds. */
+   Each line: the library's name as given, suite, octets of the plain packet, what is done, nanoseconds.
+   Packets, keys and rounds are those of the program sg_bench. */
 #include <stdint.h>
 #include <stdio.h>
 #include <stdlib.h>
@@ -7,41 +8,45 @@
 #include <time.h>
 #include <srtp2/srtp.h>
 
-#define PACKETS 20000
-#define ROUNDS 5
-#define ROOM 1600
+/* A round has batches of packets that stay in the processor's caches. */
+#define COUNT 128
+#define BATCHES 16
+#define PACKETS (COUNT * BATCHES)
+#define ROUNDS 9
+#define ROOM 4352
 
-static uint8_t octets[PACKETS][ROOM];
-static int lengths[PACKETS];
+/* libsrtp reads words of four octets. */
+static uint8_t octets[COUNT][ROOM] __attribute__((aligned(16)));
+static int lengths[COUNT];
 
 struct suite {
     const char *name;
     void (*policy)(srtp_crypto_policy_t *);
-    int key;
 };
 
 static const struct suite suites[] = {
-    {"AES_CM_128_HMAC_SHA1_80", srtp_crypto_policy_set_rtp_default, 16},
-    {"AES_CM_128_HMAC_SHA1_32", srtp_crypto_policy_set_aes_cm_128_hmac_sha1_32, 16},
-    {"AES_192_CM_HMAC_SHA1_80", srtp_crypto_policy_set_aes_cm_192_hmac_sha1_80, 24},
-    {"AES_192_CM_HMAC_SHA1_32", srtp_crypto_policy_set_aes_cm_192_hmac_sha1_32, 24},
-    {"AES_256_CM_HMAC_SHA1_80", srtp_crypto_policy_set_aes_cm_256_hmac_sha1_80, 32},
-    {"AES_256_CM_HMAC_SHA1_32", srtp_crypto_policy_set_aes_cm_256_hmac_sha1_32, 32},
+    {"AES_CM_128_HMAC_SHA1_80", srtp_crypto_policy_set_rtp_default},
+    {"AES_CM_128_HMAC_SHA1_32", srtp_crypto_policy_set_aes_cm_128_hmac_sha1_32},
+    {"AES_192_CM_HMAC_SHA1_80", srtp_crypto_policy_set_aes_cm_192_hmac_sha1_80},
+    {"AES_192_CM_HMAC_SHA1_32", srtp_crypto_policy_set_aes_cm_192_hmac_sha1_32},
+    {"AES_256_CM_HMAC_SHA1_80", srtp_crypto_policy_set_aes_cm_256_hmac_sha1_80},
+    {"AES_256_CM_HMAC_SHA1_32", srtp_crypto_policy_set_aes_cm_256_hmac_sha1_32},
 };
 
+/* The processor time of this thread: what other programs take does not count. */
 static uint64_t now(void) {
     struct timespec t;
-    clock_gettime(CLOCK_MONOTONIC, &t);
+    clock_gettime(CLOCK_THREAD_CPUTIME_ID, &t);
     return (uint64_t)t.tv_sec * 1000000000u + (uint64_t)t.tv_nsec;
 }
 
-static int is_less(const void *a, const void *b) {
-    double x = *(const double *)a, y = *(const double *)b;
-    return x < y ? -1 : x > y;
+static int compare(const void *a, const void *b) {
+    uint64_t x = *(const uint64_t *)a, y = *(const uint64_t *)b;
+    return (x > y) - (x < y);
 }
 
-static double median(double *values) {
-    qsort(values, ROUNDS, sizeof values[0], is_less);
+static uint64_t median(uint64_t *values) {
+    qsort(values, ROUNDS, sizeof values[0], compare);
     return values[ROUNDS / 2];
 }
 
@@ -57,52 +62,77 @@ static srtp_t session(const struct suite *suite, srtp_ssrc_type_t way, uint8_t *
     return srtp_create(&made, &policy) == srtp_err_status_ok ? made : NULL;
 }
 
-static void fill(int size) {
-    for (int n = 0; n < PACKETS; n++) {
-        uint8_t *o = octets[n];
-        memset(o, n, (size_t)size);
-        o[0] = 0x80;
-        o[1] = 0;
-        o[2] = (uint8_t)(n >> 8);
-        o[3] = (uint8_t)n;
-        memset(o + 4, 0, 4);
-        memcpy(o + 8, "\xca\xfe\xba\xbe", 4);
-        lengths[n] = size;
+/* The packets of the numbers from `first` on: a head, whose time stamp goes on by 160 a packet, and octets that
+   count up from the number. */
+static void fill(int first, int size) {
+    for (int place = 0; place < COUNT; place++) {
+        int n = first + place;
+        uint8_t *o = octets[place];
+        uint32_t stamp = (uint32_t)n * 160;
+        for (int i = 12; i < size; i++) o[i] = (uint8_t)(i + n);
+        uint8_t head[12] = {0x80, 0, (uint8_t)(n >> 8), (uint8_t)n,
+                            (uint8_t)(stamp >> 24), (uint8_t)(stamp >> 16), (uint8_t)(stamp >> 8), (uint8_t)stamp,
+                            0xca, 0xfe, 0xba, 0xbe};
+        memcpy(o, head, sizeof head);
+        lengths[place] = size;
     }
 }
 
-static int measure(const struct suite *suite, int size) {
-    double sealing[ROUNDS], opening[ROUNDS];
+static void check(srtp_err_status_t status) {
+    if (status == srtp_err_status_ok) return;
+    fprintf(stderr, "libsrtp: status %d\n", (int)status);
+    exit(1);
+}
+
+/* The opened packets are those that were sealed, by their lengths and last octets. */
+static void check_opened(int first, int size) {
+    for (int n = 0; n < COUNT; n++)
+        if (lengths[n] != size || octets[n][size - 1] != (uint8_t)(size - 1 + first + n)) {
+            fprintf(stderr, "libsrtp: packet %d is changed\n", first + n);
+            exit(1);
+        }
+}
+
+/* Whether the library has the suite. */
+static int measure(const char *name, const struct suite *suite, int size) {
+    uint64_t sealing[ROUNDS], opening[ROUNDS];
     for (int round = 0; round < ROUNDS; round++) {
         uint8_t key[46];
         for (int i = 0; i < 46; i++) key[i] = (uint8_t)(i + round);
         srtp_t out = session(suite, ssrc_any_outbound, key), in = session(suite, ssrc_any_inbound, key);
         if (!out || !in) return 0;
-        fill(size);
-        uint64_t start = now();
-        for (int n = 0; n < PACKETS; n++)
-            if (srtp_protect(out, octets[n], &lengths[n]) != srtp_err_status_ok) exit(1);
-        uint64_t sealed = now();
-        for (int n = 0; n < PACKETS; n++)
-            if (srtp_unprotect(in, octets[n], &lengths[n]) != srtp_err_status_ok) exit(1);
-        uint64_t opened = now();
-        sealing[round] = (double)(sealed - start) / PACKETS;
-        opening[round] = (double)(opened - sealed) / PACKETS;
-        srtp_dealloc(out);
-        srtp_dealloc(in);
+        uint64_t seal = 0, open = 0;
+        for (int batch = 0; batch < BATCHES; batch++) {
+            int first = batch * COUNT;
+            fill(first, size);
+            uint64_t start = now();
+            for (int n = 0; n < COUNT; n++) check(srtp_protect(out, octets[n], &lengths[n]));
+            uint64_t sealed = now();
+            for (int n = 0; n < COUNT; n++) check(srtp_unprotect(in, octets[n], &lengths[n]));
+            uint64_t opened = now();
+            check_opened(first, size);
+            seal += sealed - start;
+            open += opened - sealed;
+        }
+        sealing[round] = seal / PACKETS;
+        opening[round] = open / PACKETS;
+        check(srtp_dealloc(out));
+        check(srtp_dealloc(in));
     }
-    printf("libsrtp %s %d seal %.0f\n", suite->name, size, median(sealing));
-    printf("libsrtp %s %d open %.0f\n", suite->name, size, median(opening));
+    printf("%s %s %d seal %llu\n", name, suite->name, size, (unsigned long long)median(sealing));
+    printf("%s %s %d open %llu\n", name, suite->name, size, (unsigned long long)median(opening));
     return 1;
 }
 
-int main(void) {
-    if (srtp_init() != srtp_err_status_ok) return 1;
+int main(int argc, char **argv) {
+    const char *name = argc > 1 ? argv[1] : "libsrtp";
+    check(srtp_init());
     for (size_t s = 0; s < sizeof suites / sizeof suites[0]; s++)
         for (int k = 0; k < 2; k++)
-            if (!measure(&suites[s], k ? 1400 : 172)) {
-                fprintf(stderr, "libsrtp: no %s here\n", suites[s].name);
+            if (!measure(name, &suites[s], k ? 1400 : 172)) {
+                fprintf(stderr, "%s: no %s here\n", name, suites[s].name);
                 break;
             }
-    return srtp_shutdown() == srtp_err_status_ok ? 0 : 1;
+    check(srtp_shutdown());
+    return 0;
 }

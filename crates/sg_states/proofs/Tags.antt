@@ -1,10 +1,16 @@
 -- Tags at the end of a datagram.
-use Rattle.std.proofs.Common.{◌≡◌, ℕ, Bool, List, ◌++◌, length, take, drop, ap, sym, ◌∙◌, ◌↔◌}
+use Rattle.std.proofs.Common.{◌≡◌, ℕ, Bool, true, false, List, ◌++◌, length, take, drop, ap, refl, sym, ◌∙◌, ◌↔◌}
 use Rattle.std.specs.Prelude.{IsTrue}
+use Rattle.std.proofs.lemmas.Bool.{false_from_ne_true, false≢true}
 use Rattle.std.proofs.lemmas.List.{take_at, take-append-drop}
 use Rattle.sg_base.specs.Octets.{same_octets}
 use Rattle.sg_hmac.specs.States.{IsTagOf}
-use Rattle.sg_session.proofs.RawOpens.{is_same_octets}
+use Rattle.sg_session.proofs.SameOctets.{same_octets_true, same_octets_is}
+
+-- a test that holds exactly where two lists are the same
+is_same_octets : (b : Bool) (xs ys : List ℕ) → (b ≡ true → xs ≡ ys) → (xs ≡ ys → b ≡ true) → b ≡ same_octets xs ys
+is_same_octets true xs ys same back = sym (same_octets_true xs ys (same refl))
+is_same_octets false xs ys same back = sym (false_from_ne_true _ (λ is. false≢true (back (same_octets_is xs ys is))))
 
 -- a tag of t octets that is a front of the code is its first t octets
 pub tag_test : (r : Bool) (tag whole : List ℕ) (t : ℕ) → length tag ≡ t → IsTrue r ↔ IsTagOf tag whole → r ≡ same_octets tag (take t whole)
