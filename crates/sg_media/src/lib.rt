@@ -13,5 +13,5 @@ mod tests;
 
 pub use open_side::OpenSide;
 pub use seal_side::SealSide;
-pub use sg_states::inbound::Opened;
-pub use sg_states::outbound::Sealed;
+pub use sg_srtp::inbound::Opened;
+pub use sg_srtp::outbound::Sealed;

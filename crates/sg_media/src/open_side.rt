@@ -5,7 +5,7 @@ ghost use Rattle.std.specs.Prelude.{◌≡◌, ◌≤◌};
 use crate::side::Side;
 use sg_base::{DropCause, Pad};
 use sg_keys::SessionSpec;
-use sg_states::inbound::Opened;
+use sg_srtp::inbound::Opened;
 use std::marker::Model;
 
 /// What opens the datagrams of a session (RFC 3711, 3.3 and 3.4).

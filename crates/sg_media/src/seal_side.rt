@@ -5,7 +5,7 @@ ghost use Rattle.std.specs.Prelude.{◌≡◌, ◌≤◌, length};
 use crate::side::Side;
 use sg_base::{DropCause, Pad};
 use sg_keys::SessionSpec;
-use sg_states::outbound::Sealed;
+use sg_srtp::outbound::Sealed;
 use std::marker::Model;
 
 /// What seals the packets of a session (RFC 3711, 3.3 and 3.4).

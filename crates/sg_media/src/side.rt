@@ -1,7 +1,7 @@
 //! What both sides of a session keep.
 
 ghost use Rattle.std.specs.Prelude.{◌≡◌, ◌≤◌, length, IfOk, MatchResult, Err};
-ghost use Rattle.sg_states.specs.Inbound.{CanServe};
+ghost use Rattle.sg_srtp.specs.Inbound.{CanServe};
 ghost use Rattle.sg_media.specs.Ciphers.{EachEncrypts};
 
 use crate::among::open_among;
@@ -10,9 +10,9 @@ use crate::streams::admits;
 use arrayvec::ArrayVec;
 use sg_base::{DropCause, Kind, Pad};
 use sg_keys::{Admit, KeySet, SessionSpec};
-use sg_states::Stream;
-use sg_states::inbound::{Arrived, Keyed, Opened};
-use sg_states::outbound::{self, Sealed};
+use sg_srtp::Stream;
+use sg_srtp::inbound::{Arrived, Keyed, Opened};
+use sg_srtp::outbound::{self, Sealed};
 use std::marker::Model;
 
 /// The keys of a session with their counts, and a stream for each of its sources.
