@@ -1,4 +1,6 @@
 pub mod Choosing
+pub mod Indexing
 pub mod MkiTests
+pub mod Octets
 pub mod Reusing
 pub mod Spending

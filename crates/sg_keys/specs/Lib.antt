@@ -1,4 +1,5 @@
 pub mod Held
+pub mod Indexed
 pub mod Installing
 pub mod Kept
 pub mod KeySet

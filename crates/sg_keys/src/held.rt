@@ -3,8 +3,10 @@
 ghost use Rattle.std.specs.Prelude.{◌≡◌, ◌≤◌, length};
 ghost use Rattle.sg_base.specs.Octets.{same_octets};
 ghost use Rattle.sg_kdf.specs.SessionKeys.{session_keys};
+ghost use Rattle.sg_keys.specs.Indexed.{octets_of};
 ghost use Rattle.sg_session.specs.Ring.{clash, clashes_with_itself, same_secret};
 
+use crate::part::Part;
 use sg_base::{CipherKey, MasterKey, SessionKeys};
 use std::marker::Model;
 
@@ -57,6 +59,24 @@ impl Held {
             rtp: again(&key.1.rtp.encrypt),
             rtcp: again(&key.1.rtcp.encrypt),
         }
+    }
+
+    /// The octets of a part.
+    pub fn part(&self, part: Part) -> &[u8]
+        ensures { result.now ≡ octets_of part self.now }
+    {
+        match part {
+            Part::Master => self.master.key(),
+            Part::Rtp => self.rtp.as_slice(),
+            Part::Rtcp => self.rtcp.as_slice(),
+        }
+    }
+
+    /// Whether a part has these octets.
+    pub fn has(&self, part: Part, octets: &[u8]) -> bool
+        ensures { result ≡ same_octets (octets_of part self.now) octets.now }
+    {
+        are_same(self.part(part), octets)
     }
 
     /// Whether the two clash: their master keys' octets are equal, or an encryption key of the one equals

@@ -3,10 +3,15 @@
 #![tactic(auto)]
 
 mod held;
+mod index;
+mod indexes;
 mod kept;
 mod key_set;
 mod live_key;
+mod part;
 mod ring;
+#[cfg(test)]
+mod ring_tests;
 mod search;
 mod spec;
 #[cfg(test)]

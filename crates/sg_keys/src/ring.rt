@@ -6,6 +6,7 @@ ghost use Rattle.sg_keys.specs.Reused.{reused, IsDerived};
 ghost use Rattle.sg_keys.specs.Installing.{masters_of, IsToldOf};
 
 use crate::held::Held;
+use crate::indexes::Indexes;
 use crate::search::first_reused;
 use sg_base::{MasterKey, NoMemory, SessionKeys};
 use std::alloc::Global;
@@ -27,17 +28,19 @@ pub enum RingFault {
 #[derive(Drop)]
 pub struct Ring {
     keys: Vec<Held>,
+    indexes: Indexes,
 }
 
 impl Model for Ring {
     ghost use Rattle.std.specs.Prelude.{List, ◌≤◌, vec_len};
     ghost use Rattle.sg_base.specs.Keys.{Master};
+    ghost use Rattle.sg_keys.specs.Indexed.{AreIndexesOf};
 
     ghost Value = { List Master };
 
     ghost view = { λ r. r.keys.items };
 
-    ghost invariant = { λ r. vec_len r.keys ≤ 65536 };
+    ghost invariant = { λ r. (vec_len r.keys ≤ 65536) × AreIndexesOf r.indexes r.keys.items };
 }
 
 // Puts keys behind the others, all or none.
@@ -63,6 +66,7 @@ impl Ring {
     {
         Ring {
             keys: Vec::new(alloc),
+            indexes: Indexes::make(alloc),
         }
     }
 
@@ -88,7 +92,7 @@ impl Ring {
             → IsToldOf ring new result (install ring new) }
     {
         let first = self.keys.len();
-        if let Some(number) = first_reused(&self.keys, keys) {
+        if let Some(number) = first_reused(&self.keys, &self.indexes, keys) {
             return Err(RingFault::KeyReused {
                 number: number as u32,
             });
@@ -97,7 +101,10 @@ impl Ring {
             return Err(RingFault::RingFull);
         }
         match push_all(&mut self.keys, keys) {
-            Ok(()) => Ok(first as u32),
+            Ok(()) => {
+                self.indexes.extend(&self.keys);
+                Ok(first as u32)
+            }
             Err(NoMemory) => Err(RingFault::NoMemory),
         }
     }

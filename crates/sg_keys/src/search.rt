@@ -2,23 +2,12 @@
 
 ghost use Rattle.std.specs.Prelude.{◌≡◌, ◌+◌, ◌<◌, ◌≤◌, ◌^◌, ◌++◌, length, map, All, IfSome};
 ghost use Rattle.sg_kdf.specs.SessionKeys.{session_keys};
+ghost use Rattle.sg_keys.specs.Indexed.{AreIndexesOf};
 ghost use Rattle.sg_keys.specs.Reused.{first_from, told_of, reused, IsDerived};
 
 use crate::held::Held;
+use crate::indexes::Indexes;
 use sg_base::{MasterKey, SessionKeys};
-
-// The first of the ring that this key clashes with.
-fn first_held(key: &Held, ring: &[Held]) -> Option<usize>
-    ensures first { result ≡ first_from 0 ring.now key.now }
-    ensures within { IfSome result (λ n. n < length ring.now) }
-{
-    for (i, held) in ring.iter().enumerate() {
-        if held.clashes(key) {
-            return Some(i);
-        }
-    }
-    None
-}
 
 // The first of new keys that this key clashes with, where these are numbered from `start`.
 fn first_new(key: &Held, keys: &[(MasterKey, SessionKeys)], start: usize) -> Option<usize>
@@ -36,13 +25,19 @@ fn first_new(key: &Held, keys: &[(MasterKey, SessionKeys)], start: usize) -> Opt
 }
 
 // The number told of a key after these.
-fn told(key: &Held, ring: &[Held], before: &[(MasterKey, SessionKeys)]) -> Option<usize>
+fn told(
+    key: &Held,
+    ring: &[Held],
+    indexes: &Indexes,
+    before: &[(MasterKey, SessionKeys)],
+) -> Option<usize>
+    requires indexed { AreIndexesOf indexes.now ring.now }
     requires room { length ring.now + length before.now < 2 ^ 64 }
     requires derived { All IsDerived before.now }
     ensures told { result ≡ told_of key.now (ring.now ++ map (λ k. k.0) before.now) }
     ensures within { IfSome result (λ n. n ≤ length ring.now + length before.now) }
 {
-    if let Some(number) = first_held(key, ring) {
+    if let Some(number) = indexes.first_clash(key, ring) {
         return Some(number);
     }
     if let Some(number) = first_new(key, before, ring.len()) {
@@ -56,7 +51,12 @@ fn told(key: &Held, ring: &[Held], before: &[(MasterKey, SessionKeys)]) -> Optio
 }
 
 /// The number told of the first of the keys that clashes with one before it or with itself.
-pub fn first_reused(ring: &[Held], keys: &[(MasterKey, SessionKeys)]) -> Option<usize>
+pub fn first_reused(
+    ring: &[Held],
+    indexes: &Indexes,
+    keys: &[(MasterKey, SessionKeys)],
+) -> Option<usize>
+    requires indexed { AreIndexesOf indexes.now ring.now }
     requires room { length ring.now + length keys.now < 2 ^ 64 }
     requires derived { All IsDerived keys.now }
     ensures reused { result ≡ reused ring.now (map (λ k. k.0) keys.now) }
@@ -64,7 +64,7 @@ pub fn first_reused(ring: &[Held], keys: &[(MasterKey, SessionKeys)]) -> Option<
 {
     for i in 0..keys.len() {
         let key = Held::new(&keys[i]);
-        if let Some(number) = told(&key, ring, &keys[..i]) {
+        if let Some(number) = told(&key, ring, indexes, &keys[..i]) {
             return Some(number);
         }
     }

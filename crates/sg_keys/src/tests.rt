@@ -1,13 +1,11 @@
-//! Keys by MKI, lives, and the ring.
+//! Keys by MKI and lives.
 
-ghost use Rattle.std.specs.Prelude.{◌≡◌, ◌≢◌, length, true, IfOk};
+ghost use Rattle.std.specs.Prelude.{◌≡◌, ◌≢◌, length, true};
 ghost use Rattle.sg_keys.specs.Live.{is_cipher_len};
-ghost use Rattle.sg_keys.specs.Reused.{IsDerived};
 
-use crate::{KeySet, LiveKey, OpenKeyFault, Ring, RingFault, Spent};
+use crate::{KeySet, LiveKey, OpenKeyFault, Spent};
 use arrayvec::ArrayVec;
-use sg_base::{CipherKey, HalfKeys, MasterKey, Mki, SessionKeys, Suite};
-use sg_kdf::derive;
+use sg_base::{CipherKey, HalfKeys, Mki};
 use std::process::Abort;
 use std::test::Fail;
 
@@ -106,96 +104,4 @@ fn lives_end(rt: HostRuntime) {
     assert_eq!(rt; set.choose_mki(&[1]), Err(first));
     assert_eq!(rt; set.choose_mki(&[1]), Err(first));
     assert_eq!(rt; set.choose_mki(&[3]), Err(OpenKeyFault::MkiUnknown));
-}
-
-/// A master key with its session keys.
-fn derived(master: MasterKey) -> (MasterKey, SessionKeys)
-    ensures { IsDerived result }
-{
-    let keys = derive(&master);
-    (master, keys)
-}
-
-/// A key of this suite whose key octets and salt octets are these.
-fn filled(suite: Suite, octet: u8, salt: u8) -> Result<(MasterKey, SessionKeys), Fail>
-    ensures { IfOk result IsDerived }
-{
-    let mut octets = [octet; 46];
-    let count = suite.key_len();
-    octets[count..].fill(salt);
-    let all = count + suite.salt_len();
-    let master = MasterKey::new(suite, &octets[..all]).ok_or("length")?;
-    Ok(derived(master))
-}
-
-/// A raw key whose octets are this number, the highest first.
-fn numbered(number: u32) -> Result<(MasterKey, SessionKeys), Fail>
-    ensures { IfOk result IsDerived }
-{
-    let mut octets = [0; 20];
-    octets[16..].copy_from_slice(&number.to_be_bytes());
-    let master = MasterKey::new(Suite::Raw80, &octets).ok_or("length")?;
-    Ok(derived(master))
-}
-
-#[test]
-fn a_key_comes_into_use_once(rt: HostRuntime) -> Result<(), Fail> {
-    use Suite::{Cm128Tag80, Cm256Tag80, Raw80};
-    let mut ring = Ring::make(rt.alloc());
-    // A suite, the octet of the key and that of the salt, and the answer. Another salt makes no other
-    // key, and neither does another tag or, at raw keys, the lack of a cipher.
-    for (suite, octet, salt, answer) in [
-        (Cm128Tag80, 1, 1, Ok(0)),
-        (Cm128Tag80, 2, 1, Ok(1)),
-        (Raw80, 1, 0, Ok(2)),
-        (Cm128Tag80, 1, 1, Err(0)),
-        (Cm128Tag80, 2, 5, Err(1)),
-        (Suite::Cm128Tag32, 2, 5, Err(1)),
-        (Raw80, 1, 0, Err(2)),
-        (Cm256Tag80, 1, 1, Ok(3)),
-        (Cm256Tag80, 1, 2, Err(3)),
-    ] {
-        let told = ring.install_all(&[filled(suite, octet, salt)?]);
-        let wanted = answer.map_err(|number| RingFault::KeyReused { number });
-        assert_eq!(rt; told, wanted, "{suite:?} {octet} {salt}");
-    }
-    assert_eq!(rt; ring.count(), 4);
-    Ok(())
-}
-
-// All or none: a key of the same refused list counts with the number that it would have got.
-#[test]
-fn a_refused_list_leaves_the_ring(rt: HostRuntime) -> Result<(), Fail> {
-    let mut ring = Ring::make(rt.alloc());
-    let first = [numbered(10)?, numbered(11)?];
-    assert_eq!(rt; ring.install_all(&first), Ok(0));
-    let twice = [numbered(12)?, numbered(13)?, numbered(13)?];
-    assert_eq!(rt;
-        ring.install_all(&twice),
-        Err(RingFault::KeyReused { number: 3 })
-    );
-    let old = [numbered(14)?, numbered(11)?];
-    assert_eq!(rt;
-        ring.install_all(&old),
-        Err(RingFault::KeyReused { number: 1 })
-    );
-    assert_eq!(rt; ring.count(), 2);
-    let none = [numbered(14)?, numbered(13)?, numbered(12)?];
-    assert_eq!(rt; ring.install_all(&none), Ok(2));
-    assert_eq!(rt; ring.install_all(&[]), Ok(5));
-    Ok(())
-}
-
-// The highest number comes first.
-#[test]
-fn a_ring_grows(rt: HostRuntime) -> Result<(), Fail> {
-    let mut ring = Ring::make(rt.alloc());
-    for place in 0..2048u32 {
-        let told = ring.install_all(&[numbered(2047 - place)?]);
-        assert_eq!(rt; told, Ok(place));
-    }
-    let again = ring.install_all(&[numbered(2047 - 7)?]);
-    assert_eq!(rt; again, Err(RingFault::KeyReused { number: 7 }));
-    assert_eq!(rt; ring.count(), 2048);
-    Ok(())
 }

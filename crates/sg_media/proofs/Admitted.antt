@@ -23,12 +23,12 @@ use Rattle.sg_session.specs.Sealed.{crypted, head_size, index_word, sealed_text,
 use Rattle.sg_session.specs.Sealing.{datagram_of, head_out, head_out_of_kind, number_of_kind, number_out, sealing_key, seals}
 use Rattle.sg_session.specs.Session.{Key, Done, Session, admits, has_room, indices_of, is_live}
 use Rattle.sg_session.specs.Stages.{after_ok, stop_if}
-use Rattle.sg_states.specs.Choosing.{chosen_to_seal, with_spent_cause}
-use Rattle.sg_states.specs.Outbound.{Outgoing, IsOutHeaded, closed}
-use Rattle.sg_states.specs.Parts.{heading_out}
-use Rattle.sg_states.specs.Placing.{next_index}
-use Rattle.sg_states.specs.StreamValues.{StreamValue}
-use Rattle.sg_states.specs.declared.outbound.Sealed.{Sealed}
+use Rattle.sg_srtp.specs.Choosing.{chosen_to_seal, with_spent_cause}
+use Rattle.sg_srtp.specs.Outbound.{Outgoing, IsOutHeaded, closed}
+use Rattle.sg_srtp.specs.Parts.{heading_out}
+use Rattle.sg_srtp.specs.Placing.{next_index}
+use Rattle.sg_srtp.specs.StreamValues.{StreamValue}
+use Rattle.sg_srtp.specs.declared.outbound.Sealed.{Sealed}
 use Rattle.sg_media.specs.Accepting.{IsAdmitted}
 use Rattle.sg_media.specs.Answers.{closed_at, entry_out, roomed, sealed_at, sealed_of, told_of}
 use Rattle.sg_media.specs.Sides.{SideValue, StandsFor}

@@ -5,8 +5,8 @@ use Rattle.sg_base.specs.declared.faults.DropCause.{DropCause}
 use Rattle.sg_base.specs.declared.faults.DropCause.TheVariants.{BadTag, StreamsFull}
 use Rattle.sg_keys.specs.Live.{Live}
 use Rattle.sg_session.specs.Stages.{stop_if}
-use Rattle.sg_states.specs.Inbound.{Keying, Placing, fits_under, IsOpened, IsUnverified}
-use Rattle.sg_states.specs.declared.inbound.Opened.{Opened}
+use Rattle.sg_srtp.specs.Inbound.{Keying, Placing, fits_under, IsOpened, IsUnverified}
+use Rattle.sg_srtp.specs.declared.inbound.Opened.{Opened}
 use Rattle.sg_media.specs.Answers.{answer_at, entry_at, opened_at}
 
 -- the answer to a keyed datagram whose number has this place

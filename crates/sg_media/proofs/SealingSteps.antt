@@ -6,9 +6,9 @@ use Rattle.sg_base.specs.declared.keys.HalfKeys.{HalfKeys}
 use Rattle.sg_keys.specs.Live.{Live, spent, spent_if}
 use Rattle.sg_keys.proofs.Spending.{same_half, same_mki, same_number}
 use Rattle.sg_session.specs.Stages.{after_ok}
-use Rattle.sg_states.specs.Choosing.{chosen_to_seal}
-use Rattle.sg_states.specs.Outbound.{Outgoing, Numbering, CanSeal, IsNumbered, IsSealedOf, closed, masked_at, numbered}
-use Rattle.sg_states.specs.declared.outbound.Sealed.{Sealed}
+use Rattle.sg_srtp.specs.Choosing.{chosen_to_seal}
+use Rattle.sg_srtp.specs.Outbound.{Outgoing, Numbering, CanSeal, IsNumbered, IsSealedOf, closed, masked_at, numbered}
+use Rattle.sg_srtp.specs.declared.outbound.Sealed.{Sealed}
 use Rattle.sg_media.specs.Answers.{closed_at, sealed_at, told_of}
 use Rattle.sg_media.specs.Ciphers.{EachEncrypts}
 

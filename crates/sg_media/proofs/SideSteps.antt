@@ -12,11 +12,11 @@ use Rattle.sg_keys.proofs.Spending.{same_half}
 use Rattle.sg_session.specs.OneSession.{after}
 use Rattle.sg_session.specs.Opening.{head_in, mki_in, mki_len, opens}
 use Rattle.sg_session.specs.Session.{Key, Done, Session, admits}
-use Rattle.sg_states.specs.Choosing.{chosen_for}
-use Rattle.sg_states.specs.Inbound.{Heading, Keying, IsHeaded, IsKeyed}
-use Rattle.sg_states.specs.Parts.{heading, mki_of}
-use Rattle.sg_states.specs.StreamValues.{StreamValue}
-use Rattle.sg_states.specs.declared.inbound.Opened.{Opened}
+use Rattle.sg_srtp.specs.Choosing.{chosen_for}
+use Rattle.sg_srtp.specs.Inbound.{Heading, Keying, IsHeaded, IsKeyed}
+use Rattle.sg_srtp.specs.Parts.{heading, mki_of}
+use Rattle.sg_srtp.specs.StreamValues.{StreamValue}
+use Rattle.sg_srtp.specs.declared.inbound.Opened.{Opened}
 use Rattle.sg_media.specs.Accepting.{IsAccepted, heading_in}
 use Rattle.sg_media.specs.Answers.{entry_of, opened_of}
 use Rattle.sg_media.specs.Ciphers.{HaveCiphers}

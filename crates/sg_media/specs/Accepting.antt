@@ -8,8 +8,8 @@ use Rattle.sg_session.specs.Opening.{Head, head_in, key_with, mki_in, mki_len}
 use Rattle.sg_session.specs.Sealing.{head_out}
 use Rattle.sg_session.specs.Session.{Key, Session, admits, count_of, is_live}
 use Rattle.sg_session.specs.Stages.{after_ok, stop_if}
-use Rattle.sg_states.specs.Inbound.{Heading, Keying}
-use Rattle.sg_states.specs.Outbound.{Outgoing}
+use Rattle.sg_srtp.specs.Inbound.{Heading, Keying}
+use Rattle.sg_srtp.specs.Outbound.{Outgoing}
 
 -- the first of these keys that has this MKI, where it is live
 abbrev pub usable_in : Session → List Key → List ℕ → Result Key DropCause

@@ -8,11 +8,11 @@ use Rattle.sg_session.specs.Opening.{Taken}
 use Rattle.sg_session.specs.Sealing.{datagram_of}
 use Rattle.sg_session.specs.Session.{Done, Session}
 use Rattle.sg_session.specs.Stages.{after_ok, stop_if}
-use Rattle.sg_states.specs.Choosing.{chosen_to_seal}
-use Rattle.sg_states.specs.Inbound.{Keying, fits_under, packet_at}
-use Rattle.sg_states.specs.Outbound.{Outgoing, datagram_at}
-use Rattle.sg_states.specs.declared.inbound.Opened.{Opened}
-use Rattle.sg_states.specs.declared.outbound.Sealed.{Sealed}
+use Rattle.sg_srtp.specs.Choosing.{chosen_to_seal}
+use Rattle.sg_srtp.specs.Inbound.{Keying, fits_under, packet_at}
+use Rattle.sg_srtp.specs.Outbound.{Outgoing, datagram_at}
+use Rattle.sg_srtp.specs.declared.inbound.Opened.{Opened}
+use Rattle.sg_srtp.specs.declared.outbound.Sealed.{Sealed}
 
 -- what is handed out of a datagram: the packet that it opens as, or the datagram and the first cause
 abbrev pub opened_of : Kind → List ℕ → Result Taken DropCause → Result Opened (List ℕ × DropCause)

@@ -3,9 +3,10 @@ use Rattle.std.specs.Prelude.{◌≡◌, ℕ, ◌<◌, ◌≤◌, Bool, List, le
 use Rattle.sg_base.specs.declared.addresses.Kind.{Kind}
 use Rattle.sg_keys.specs.Live.{Live}
 use Rattle.sg_keys.specs.Stands.{live}
+use Rattle.sg_keys.specs.declared.spec.SessionSpec.{SessionSpec}
 use Rattle.sg_session.specs.Session.{Session}
 use Rattle.sg_session.specs.declared.sources.Admit.{Admit}
-use Rattle.sg_states.specs.StreamValues.{StreamValue}
+use Rattle.sg_srtp.specs.StreamValues.{StreamValue}
 use Rattle.sg_media.specs.Ciphers.{HaveCiphers}
 use Rattle.sg_media.specs.Standing.{StreamsStand}
 
@@ -37,3 +38,10 @@ pub record StandsFor (side : SideValue) (s : Session) : Type 0 where
   pub same_encrypts : side.encrypts ≡ s.encrypts
   pub same_tag_len : side.tag_len ≡ s.tag_len
   pub streams : StreamsStand side.streams s.roc s.window s.done
+
+-- what a side can be made of
+pub record CanBeMade (spec : SessionSpec) : Type 0 where
+  pub at_least : 64 ≤ spec.window
+  pub at_most : spec.window ≤ 1024
+  pub tag : spec.tag_len ≤ 10
+  pub ciphers : HaveCiphers spec.keys spec.kind spec.encrypt

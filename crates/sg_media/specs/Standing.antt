@@ -2,8 +2,8 @@
 use Rattle.std.specs.Prelude.{◌≡◌, ℕ, Bool, ◌||◌, nat_lt, List, length, map, slice_get, Some}
 use Rattle.sg_replay.specs.Freshness.{is_in}
 use Rattle.sg_session.specs.Session.{Done, sources, indices_of}
-use Rattle.sg_states.specs.StreamValues.{StreamValue}
-use Rattle.sg_states.specs.Streams.{StreamStands}
+use Rattle.sg_srtp.specs.StreamValues.{StreamValue}
+use Rattle.sg_srtp.specs.Streams.{StreamStands}
 
 abbrev pub source_of : StreamValue → ℕ
 source_of t = t.ssrc

@@ -4,8 +4,8 @@ ghost use Rattle.std.specs.Prelude.{◌≡◌, ℕ, ◌≤◌, List, [], ◌∷�
 ghost use Rattle.sg_keys.specs.Live.{Live, spent};
 ghost use Rattle.sg_replay.specs.Freshness.{is_in};
 ghost use Rattle.sg_session.specs.Session.{Done, indices_of};
-ghost use Rattle.sg_states.specs.Inbound.{CanServe};
-ghost use Rattle.sg_states.specs.Placing.{placed};
+ghost use Rattle.sg_srtp.specs.Inbound.{CanServe};
+ghost use Rattle.sg_srtp.specs.Placing.{placed};
 ghost use Rattle.sg_media.specs.Answers.{answer_at, entry_of, opened_at};
 ghost use Rattle.sg_media.specs.Standing.{source_of, IsAt, StreamsStand, room_in};
 
@@ -14,8 +14,8 @@ use crate::streams::find;
 use arrayvec::ArrayVec;
 use sg_base::{DropCause, Pad};
 use sg_keys::KeySet;
-use sg_states::Stream;
-use sg_states::inbound::{Keyed, Opened};
+use sg_srtp::Stream;
+use sg_srtp::inbound::{Keyed, Opened};
 
 // Opens a datagram in the stream of its source that is there.
 fn open_known(

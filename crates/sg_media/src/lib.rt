@@ -8,8 +8,10 @@ mod seal_side;
 mod sealing;
 mod side;
 mod streams;
+#[cfg(test)]
+mod tests;
 
 pub use open_side::OpenSide;
 pub use seal_side::SealSide;
-pub use sg_states::inbound::Opened;
-pub use sg_states::outbound::Sealed;
+pub use sg_srtp::inbound::Opened;
+pub use sg_srtp::outbound::Sealed;

@@ -1,12 +1,11 @@
 //! The opening side of a session.
 
 ghost use Rattle.std.specs.Prelude.{◌≡◌, ◌≤◌};
-ghost use Rattle.sg_media.specs.Ciphers.{HaveCiphers};
 
 use crate::side::Side;
 use sg_base::{DropCause, Pad};
 use sg_keys::SessionSpec;
-use sg_states::inbound::Opened;
+use sg_srtp::inbound::Opened;
 use std::marker::Model;
 
 /// What opens the datagrams of a session (RFC 3711, 3.3 and 3.4).
@@ -29,15 +28,12 @@ impl OpenSide {
     ghost use Rattle.sg_session.specs.Session.{Session};
     ghost use Rattle.sg_media.specs.Accepting.{IsMadeOf};
     ghost use Rattle.sg_media.specs.Answers.{opened_of};
-    ghost use Rattle.sg_media.specs.Sides.{StandsFor};
+    ghost use Rattle.sg_media.specs.Sides.{CanBeMade, StandsFor};
 
     /// The side of a session in which nothing is done: of a window of 64 to 1,024 indices and a tag of
     /// at most ten octets, with a cipher's key in each key where something may be encrypted.
     pub fn make(spec: SessionSpec) -> OpenSide
-        requires at_least { 64 ≤ spec.window }
-        requires at_most { spec.window ≤ 1024 }
-        requires tag { spec.tag_len ≤ 10 }
-        requires ciphers { HaveCiphers spec.keys spec.kind spec.encrypt }
+        requires { CanBeMade spec }
         ensures { (s : Session) → IsMadeOf s spec → StandsFor result s }
     {
         OpenSide {

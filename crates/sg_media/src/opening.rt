@@ -2,15 +2,15 @@
 
 ghost use Rattle.std.specs.Prelude.{◌≡◌, ℕ, List, [], ◌∷◌, ◌++◌, IfOk, OnOk, OnErr, true, slice_get, Some};
 ghost use Rattle.sg_keys.specs.Live.{Live, spent};
-ghost use Rattle.sg_states.specs.Inbound.{CanServe};
-ghost use Rattle.sg_states.specs.Placing.{placed};
-ghost use Rattle.sg_states.specs.Streams.{StreamStands};
+ghost use Rattle.sg_srtp.specs.Inbound.{CanServe};
+ghost use Rattle.sg_srtp.specs.Placing.{placed};
+ghost use Rattle.sg_srtp.specs.Streams.{StreamStands};
 ghost use Rattle.sg_media.specs.Answers.{answer_at, opened_at};
 
 use sg_base::{DropCause, Pad};
 use sg_keys::KeySet;
-use sg_states::Stream;
-use sg_states::inbound::{Keyed, Opened};
+use sg_srtp::Stream;
+use sg_srtp::inbound::{Keyed, Opened};
 
 /// Opens a datagram whose key is chosen, in the stream of its source. The stream may be a new one, for
 /// which there may be no room.

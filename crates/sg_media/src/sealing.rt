@@ -5,8 +5,8 @@ ghost use Rattle.arrayvec.specs.ArrayVec.{array_vec_len};
 ghost use Rattle.sg_keys.specs.Live.{spent};
 ghost use Rattle.sg_replay.specs.Freshness.{is_in};
 ghost use Rattle.sg_session.specs.Session.{Done, indices_of};
-ghost use Rattle.sg_states.specs.Placing.{next_index};
-ghost use Rattle.sg_states.specs.Streams.{StreamStands};
+ghost use Rattle.sg_srtp.specs.Placing.{next_index};
+ghost use Rattle.sg_srtp.specs.Streams.{StreamStands};
 ghost use Rattle.sg_media.specs.Answers.{entry_out, roomed, sealed_at, told_of};
 ghost use Rattle.sg_media.specs.Ciphers.{EachEncrypts};
 ghost use Rattle.sg_media.specs.Standing.{source_of, IsAt, StreamsStand, room_in};
@@ -15,8 +15,8 @@ use crate::streams::find;
 use arrayvec::ArrayVec;
 use sg_base::{DropCause, Pad};
 use sg_keys::KeySet;
-use sg_states::Stream;
-use sg_states::outbound::{Headed, Sealed};
+use sg_srtp::Stream;
+use sg_srtp::outbound::{Headed, Sealed};
 
 // Seals a packet in the stream of its source.
 fn seal_in(

@@ -1,8 +1,8 @@
 //! What both sides of a session keep.
 
 ghost use Rattle.std.specs.Prelude.{◌≡◌, ◌≤◌, length, IfOk, MatchResult, Err};
-ghost use Rattle.sg_states.specs.Inbound.{CanServe};
-ghost use Rattle.sg_media.specs.Ciphers.{EachEncrypts, HaveCiphers};
+ghost use Rattle.sg_srtp.specs.Inbound.{CanServe};
+ghost use Rattle.sg_media.specs.Ciphers.{EachEncrypts};
 
 use crate::among::open_among;
 use crate::sealing::seal_among;
@@ -10,9 +10,9 @@ use crate::streams::admits;
 use arrayvec::ArrayVec;
 use sg_base::{DropCause, Kind, Pad};
 use sg_keys::{Admit, KeySet, SessionSpec};
-use sg_states::Stream;
-use sg_states::inbound::{Arrived, Keyed, Opened};
-use sg_states::outbound::{self, Sealed};
+use sg_srtp::Stream;
+use sg_srtp::inbound::{Arrived, Keyed, Opened};
+use sg_srtp::outbound::{self, Sealed};
 use std::marker::Model;
 
 /// The keys of a session with their counts, and a stream for each of its sources.
@@ -54,14 +54,11 @@ impl Side {
     ghost use Rattle.sg_session.specs.Session.{Session};
     ghost use Rattle.sg_media.specs.Accepting.{IsAccepted, IsAdmitted, IsMadeOf};
     ghost use Rattle.sg_media.specs.Answers.{opened_of, sealed_of};
-    ghost use Rattle.sg_media.specs.Sides.{StandsFor};
+    ghost use Rattle.sg_media.specs.Sides.{CanBeMade, StandsFor};
 
     /// A side of a session in which nothing is done.
     pub fn make(spec: SessionSpec) -> Side
-        requires at_least { 64 ≤ spec.window }
-        requires at_most { spec.window ≤ 1024 }
-        requires tag { spec.tag_len ≤ 10 }
-        requires ciphers { HaveCiphers spec.keys spec.kind spec.encrypt }
+        requires { CanBeMade spec }
         ensures { (s : Session) → IsMadeOf s spec → StandsFor result s }
     {
         let SessionSpec {

@@ -6,7 +6,7 @@ ghost use Rattle.sg_session.specs.Session.{Done, is_admitted};
 ghost use Rattle.sg_media.specs.Standing.{source_of, IsAt, StreamsStand};
 
 use sg_keys::Admit;
-use sg_states::Stream;
+use sg_srtp::Stream;
 
 /// The place of the stream of a source.
 pub(crate) fn find(streams: &[Stream], ssrc: u32) -> Option<usize>

@@ -5,7 +5,7 @@ use Rattle.sg_base.specs.declared.faults.DropCause.{DropCause}
 use Rattle.sg_base.specs.declared.addresses.Kind.{Kind}
 use Rattle.sg_base.specs.declared.faults.DropCause.TheVariants.{TooLong}
 use Rattle.sg_media.specs.Answers.{opened_of}
-use Rattle.sg_states.specs.declared.inbound.Opened.{Opened}
+use Rattle.sg_srtp.specs.declared.inbound.Opened.{Opened}
 use Rattle.sg_session.specs.OneSession.{after}
 use Rattle.sg_session.specs.Opening.{Taken}
 use Rattle.sg_session.specs.Plain.{packet_in, datagram_in}

@@ -29,7 +29,7 @@ impl Gateway for Table {
 
 impl Table {
     /// Handles the events of a line and tells their outcomes. Memory is taken before anything changes.
-    fn handle(&mut self, alloc: Global, line: Line) -> Result<Vec<Outcome>, NoMemory>
+    pub fn handle(&mut self, alloc: Global, line: Line) -> Result<Vec<Outcome>, NoMemory>
         ensures { IfOk result (λ told. (w : World) → TableStandsFor self.old w → IsTold told.items self.new w (events_of line)) }
     {
         match line {

@@ -8,6 +8,8 @@ mod handled;
 mod leg;
 mod manual;
 mod table;
+#[cfg(test)]
+mod tests;
 
 pub use handled::{End, Handled};
 pub use manual::Manual;

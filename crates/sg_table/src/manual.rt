@@ -64,7 +64,7 @@ pub fn derived(master: &MasterKey) -> Derived
 
 impl Manual {
     /// The legs of the call in this slot, whose keys have the two numbers from `number` on.
-    pub fn legs(
+    pub(crate) fn legs(
         &self,
         alloc: Global,
         slot: u8,

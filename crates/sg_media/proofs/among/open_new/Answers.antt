@@ -1,8 +1,8 @@
 use Rattle.std.proofs.Common.{◌≡◌, ℕ, false, not, ◌++◌, ◌∷◌, [], map, ap, subst, sym, ◌∙◌}
 use Rattle.sg_replay.specs.Freshness.{is_in}
 use Rattle.sg_session.specs.Session.{indices_of}
-use Rattle.sg_states.specs.Placing.{placed}
-use Rattle.sg_states.specs.Streams.{StreamStands}
+use Rattle.sg_srtp.specs.Placing.{placed}
+use Rattle.sg_srtp.specs.Streams.{StreamStands}
 use Rattle.sg_media.specs.Answers.{entry_of}
 use Rattle.sg_media.specs.Standing.{source_of, StreamsStand}
 use Rattle.sg_media.proofs.OpeningSteps.{keyed_answer}

@@ -3,9 +3,9 @@ use Rattle.std.proofs.lemmas.Option.{slice_get_within}
 use Rattle.sg_base.specs.declared.faults.DropCause.{DropCause}
 use Rattle.sg_base.specs.declared.faults.DropCause.TheVariants.{StreamsFull}
 use Rattle.sg_keys.specs.Live.{spent}
-use Rattle.sg_states.specs.Inbound.{Keying, Placing, CanServe, IsVerified, IsUnverified, IsOpened}
-use Rattle.sg_states.specs.Placing.{placed}
-use Rattle.sg_states.specs.Streams.{IsOpenPlace, StreamStands}
+use Rattle.sg_srtp.specs.Inbound.{Keying, Placing, CanServe, IsVerified, IsUnverified, IsOpened}
+use Rattle.sg_srtp.specs.Placing.{placed}
+use Rattle.sg_srtp.specs.Streams.{IsOpenPlace, StreamStands}
 use Rattle.sg_media.proofs.OpeningSteps.{keyed_answer, unplaced, untagged, unroomed, opened_says}
 use Rattle.sg_media.proofs.opening.open_in.Goals as goal
 

@@ -1,8 +1,8 @@
 use Rattle.std.proofs.Common.{◌≡◌, ℕ, true, List, ap, subst, sym, ◌∙◌}
 use Rattle.std.proofs.lemmas.Bool.{or_left}
 use Rattle.sg_session.specs.Session.{indices_of}
-use Rattle.sg_states.specs.Placing.{next_index}
-use Rattle.sg_states.specs.StreamValues.{StreamValue}
+use Rattle.sg_srtp.specs.Placing.{next_index}
+use Rattle.sg_srtp.specs.StreamValues.{StreamValue}
 use Rattle.sg_media.specs.Answers.{roomed, sealed_at, told_of}
 use Rattle.sg_media.specs.Standing.{IsAt, StreamsStand, room_in}
 use Rattle.sg_media.proofs.Standing.{known_in}

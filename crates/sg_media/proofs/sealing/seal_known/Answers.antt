@@ -1,8 +1,8 @@
 use Rattle.std.proofs.Common.{◌≡◌, ℕ, ◌++◌, ◌∷◌, [], subst, sym}
 use Rattle.std.proofs.lemmas.Option.{get_or_from_slice_get}
 use Rattle.sg_session.specs.Session.{indices_of}
-use Rattle.sg_states.specs.Streams.{StreamStands}
-use Rattle.sg_states.specs.StreamValues.{StreamValue}
+use Rattle.sg_srtp.specs.Streams.{StreamStands}
+use Rattle.sg_srtp.specs.StreamValues.{StreamValue}
 use Rattle.sg_media.specs.Answers.{entry_out}
 use Rattle.sg_media.specs.Standing.{IsAt}
 use Rattle.sg_media.proofs.Standing.{known_stream, known_stands}

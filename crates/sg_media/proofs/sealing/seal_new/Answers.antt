@@ -1,7 +1,7 @@
 use Rattle.std.proofs.Common.{◌≡◌, ℕ, false, ◌++◌, ◌∷◌, [], map, subst, sym}
 use Rattle.sg_replay.specs.Freshness.{is_in}
 use Rattle.sg_session.specs.Session.{indices_of}
-use Rattle.sg_states.specs.Streams.{StreamStands}
+use Rattle.sg_srtp.specs.Streams.{StreamStands}
 use Rattle.sg_media.specs.Answers.{entry_out}
 use Rattle.sg_media.specs.Standing.{source_of, StreamsStand}
 use Rattle.sg_media.proofs.Standing.{new_indices, new_stands}

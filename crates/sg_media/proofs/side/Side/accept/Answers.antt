@@ -1,6 +1,6 @@
 use Rattle.std.proofs.Common.{◌≡◌, List, subst, sym, ap, ◌∙◌}
 use Rattle.sg_session.specs.Session.{admits, is_admitted}
-use Rattle.sg_states.specs.StreamValues.{StreamValue}
+use Rattle.sg_srtp.specs.StreamValues.{StreamValue}
 use Rattle.sg_media.specs.Sides.{SideValue, StandsFor}
 use Rattle.sg_media.specs.Standing.{StreamsStand}
 use Rattle.sg_media.proofs.Accepted.{unadmitted}

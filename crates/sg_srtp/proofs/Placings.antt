@@ -1,0 +1,43 @@
+-- The index of a packet's number.
+use Rattle.std.proofs.Common.{◌≡◌, ℕ, ◌+◌, false, List, [], Option, Some, None, Ok, Err, refl, arith, ap, sym, ◌∙◌}
+use Rattle.std.proofs.lemmas.Bool.{lt-leb}
+use Rattle.sg_base.specs.declared.addresses.Kind.{Kind}
+use Rattle.sg_base.specs.declared.addresses.Kind.TheVariants.{Rtp}
+use Rattle.sg_base.specs.declared.faults.DropCause.{DropCause}
+use Rattle.sg_replay.specs.Freshness.{freshness, highest_of, is_behind, is_in}
+use Rattle.sg_replay.specs.Marks.{Marks}
+use Rattle.sg_replay.specs.Seen.{freshness_at}
+use Rattle.sg_replay.specs.declared.seen.Freshness.TheVariants.{New}
+use Rattle.sg_replay.proofs.DoneLists.{highest_of-none, is_in-above_highest}
+use Rattle.sg_replay.proofs.MarkLists.{freshness_stands}
+use Rattle.sg_session.specs.Session.{nearest_from, with_cause}
+use Rattle.sg_session.specs.Stages.{after_ok}
+use Rattle.sg_srtp.specs.Placing.{fresh_in, next_index, placed}
+use Rattle.sg_srtp.specs.StreamValues.{StandsForSome}
+
+pub unplaced : (kind : Kind) (roc window : ℕ) (indices : List ℕ) (n : ℕ) (cause : DropCause) → kind ≡ Rtp → Err cause ≡ with_cause (nearest_from roc n (highest_of indices))
+    → Err cause ≡ placed kind roc window indices n
+unplaced kind roc window indices n cause k e =
+    ap (λ r. after_ok r (fresh_in window indices)) e ∙ ap (λ k. placed k roc window indices n) (sym k)
+
+pub stale : (kind : Kind) (roc window : ℕ) (indices : List ℕ) (n i : ℕ) (cause : DropCause) → kind ≡ Rtp → Ok i ≡ with_cause (nearest_from roc n (highest_of indices)) → Err cause ≡ fresh_in window indices i
+    → Err cause ≡ placed kind roc window indices n
+stale kind roc window indices n i cause k e f =
+    f ∙ ap (λ r. after_ok r (fresh_in window indices)) e ∙ ap (λ k. placed k roc window indices n) (sym k)
+
+pub next_is_placed : (kind : Kind) (roc window : ℕ) (indices : List ℕ) (n : ℕ) → kind ≡ Rtp → placed kind roc window indices n ≡ next_index kind roc window indices n
+next_is_placed kind roc window indices n k = ap (λ k. placed k roc window indices n) k ∙ ap (λ k. next_index k roc window indices n) (sym k)
+
+-- the first index is new where nothing is done
+pub new_at_first : (highest : Option ℕ) (seen : Marks) → StandsForSome highest seen → highest ≡ None → freshness_at seen 0 ≡ New
+new_at_first highest seen s e =
+    let none : s.indices ≡ [] = highest_of-none s.indices (sym (s.same_highest) ∙ e) in
+    freshness_stands seen s.window s.indices 0 s.same_seen ∙ ap (λ is. freshness s.window is 0) none
+
+-- and the one after the highest always
+pub new_after : (highest : Option ℕ) (seen : Marks) (h : ℕ) → StandsForSome highest seen → highest ≡ Some h → freshness_at seen (h + 1) ≡ New
+new_after highest seen h s e =
+    let top : highest_of s.indices ≡ Some h = sym (s.same_highest) ∙ e in
+    let ahead : is_behind s.window (highest_of s.indices) (h + 1) ≡ false = ap (λ o. is_behind s.window o (h + 1)) top ∙ lt-leb (h + 1 + s.window) h (omega arith) in
+    let absent : is_in s.indices (h + 1) ≡ false = is_in-above_highest s.indices h (h + 1) top (omega arith) in
+    freshness_stands seen s.window s.indices (h + 1) s.same_seen ∙ rw (ahead, absent) refl

@@ -1,0 +1,83 @@
+-- What the states of opening show and know.
+use Rattle.std.specs.Prelude.{◌≡◌, ℕ, ◌<◌, ◌≤◌, Bool, true, false, List, length, Ok, Some, slice_get}
+use Rattle.sg_base.specs.declared.addresses.Kind.{Kind}
+use Rattle.sg_base.specs.declared.faults.DropCause.{DropCause}
+use Rattle.sg_base.specs.declared.faults.DropCause.TheVariants.{BadTag}
+use Rattle.sg_base.specs.declared.keys.HalfKeys.{HalfKeys}
+use Rattle.sg_keys.specs.Live.{Live}
+use Rattle.sg_session.specs.Opening.{Head}
+use Rattle.sg_session.specs.Sealed.{crypted}
+use Rattle.sg_srtp.specs.Choosing.{chosen_for}
+use Rattle.sg_srtp.specs.declared.inbound.Opened.{Opened}
+use Rattle.sg_srtp.specs.Parts.{heading, mki_of, part_of, tag_fits_at, IsWhole}
+
+-- a datagram with its head, and the lengths of its MKI and its tag
+pub record Heading : Type 0 where
+  pub pad : List ℕ
+  pub kind : Kind
+  pub mki_len : ℕ
+  pub tag_len : ℕ
+  pub head : Head
+
+-- with the place of its key
+pub record Keying : Type 0 where
+  pub headed : Heading
+  pub place : ℕ
+
+-- with its index
+pub record Placing : Type 0 where
+  pub keyed : Keying
+  pub index : ℕ
+
+-- the parts lie in the datagram
+pub record IsHeading (kind : Kind) (m t : ℕ) (d : List ℕ) (head : Head) : Type 0 where
+  pub whole : IsWhole kind m t d head
+  pub mki : m ≤ 128
+  pub tag : t ≤ 20
+
+-- the head that the datagram has
+pub record IsHeaded (d : List ℕ) (kind : Kind) (encrypts : Bool) (m t : ℕ) (h : Heading) : Type 0 where
+  pub same_pad : h.pad ≡ d
+  pub same_kind : h.kind ≡ kind
+  pub same_mki_len : h.mki_len ≡ m
+  pub same_tag_len : h.tag_len ≡ t
+  pub reads : heading kind encrypts m t d ≡ Ok h.head
+
+-- the chosen key stands at the place
+pub record IsKeyed (h : Heading) (keys : List Live) (k : Keying) : Type 0 where
+  pub same : k.headed ≡ h
+  pub key : Live
+  pub at : slice_get keys k.place ≡ Some key
+  pub choice : chosen_for keys (mki_of h.mki_len h.tag_len h.pad) ≡ Ok key
+
+-- the test of a datagram's tag at its index, under a key
+abbrev pub fits_under : Placing → Live → Bool
+fits_under p key = tag_fits_at p.keyed.headed.kind p.keyed.headed.mki_len p.keyed.headed.tag_len p.index p.keyed.headed.pad key.half.auth
+
+pub record IsVerified (p : Placing) (key : Live) (v : Placing) : Type 0 where
+  pub same : v ≡ p
+  pub fits : fits_under p key ≡ true
+
+pub record IsUnverified (p : Placing) (key : Live) (e : List ℕ × DropCause) : Type 0 where
+  pub same : e.0 ≡ p.keyed.headed.pad
+  pub cause : e.1 ≡ BadTag
+  pub unfit : fits_under p key ≡ false
+
+-- the packet of a datagram at its index, under these keys
+abbrev pub packet_at : Heading → HalfKeys → ℕ → List ℕ
+packet_at h half index = crypted h.head.encrypted half h.head.ssrc index h.head.size (part_of h.kind h.mki_len h.tag_len h.pad)
+
+-- the key at the place may serve, and encrypts where that is wanted
+pub record CanServe (keys : List Live) (place : ℕ) (encrypted : Bool) : Type 0 where
+  pub key : Live
+  pub at : slice_get keys place ≡ Some key
+  pub alive : key.count < key.life
+  pub cipher : encrypted ≡ true → 0 < length key.half.encrypt
+
+-- the packet that is opened
+pub record IsOpened (p : Placing) (key : Live) (o : Opened) : Type 0 where
+  pub packet : o.pad ≡ packet_at p.keyed.headed key.half p.index
+  pub kind : o.kind ≡ p.keyed.headed.kind
+  pub ssrc : o.ssrc ≡ p.keyed.headed.head.ssrc
+  pub index : o.index ≡ p.index
+  pub number : o.key ≡ key.number

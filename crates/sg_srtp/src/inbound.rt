@@ -1,0 +1,341 @@
+//! Opening a datagram, state by state: nothing unverified is decrypted, marked or counted.
+//!
+//! Each refusal hands back the pad with the octets that it came with, and the cause.
+
+ghost use Rattle.std.specs.Prelude.{◌≡◌, ℕ, ◌+◌, ◌<◌, ◌≤◌, ◌^◌, List, [], ◌∷◌, ◌++◌, length, MatchResult, IfOk, IsTrue, IsSome, Ok, Err, Some, slice_get, option_copied};
+ghost use Rattle.sg_hmac.specs.States.{IsMacKey};
+ghost use Rattle.sg_base.specs.declared.keys.HalfKeys.{HalfKeys};
+ghost use Rattle.sg_keys.specs.Live.{Live, schedule_key, spent};
+ghost use Rattle.sg_srtp.specs.Choosing.{chosen_for};
+ghost use Rattle.sg_srtp.specs.Parts.{heading, tag_fits_at, mki_of, word_len, IsNumber};
+ghost use Rattle.sg_srtp.specs.Placing.{placed};
+ghost use Rattle.sg_srtp.specs.Streams.{StreamStands, IsOpenPlace};
+ghost use Rattle.sg_srtp.specs.Inbound.{Heading, Keying, Placing, IsHeaded, IsKeyed, IsVerified, IsUnverified, CanServe, IsOpened, packet_at};
+
+use crate::code::fits;
+use crate::head::{Head, head_in};
+use crate::mask::mask;
+use crate::stream::Stream;
+use sg_aes::Schedule;
+use sg_base::{DropCause, Kind, Pad};
+use sg_hmac::MacKey;
+use sg_keys::{KeySet, OpenKeyFault};
+use std::marker::Model;
+
+/// A datagram that arrived, seen as its octets.
+#[derive(Drop)]
+pub struct Arrived {
+    pad: Pad,
+}
+
+impl Model for Arrived {
+    ghost use Rattle.std.specs.Prelude.{ℕ, List};
+
+    ghost Value = { List ℕ };
+
+    ghost view = { λ a. a.pad };
+}
+
+/// A datagram whose head is read.
+#[derive(Drop)]
+pub struct Headed {
+    pad: Pad,
+    kind: Kind,
+    mki_len: usize,
+    tag_len: usize,
+    head: Head,
+}
+
+impl Model for Headed {
+    ghost use Rattle.std.specs.Prelude.{◌≤◌};
+    ghost use Rattle.sg_srtp.specs.Inbound.{Heading, IsHeading};
+    ghost use Rattle.sg_srtp.specs.Heads.{head_of};
+
+    ghost Value = { Heading };
+
+    ghost view = { λ h. record { pad = h.pad; kind = h.kind; mki_len = h.mki_len; tag_len = h.tag_len; head = head_of h.head } };
+
+    ghost invariant = { λ h. IsHeading h.kind h.mki_len h.tag_len h.pad (head_of h.head) };
+}
+
+/// A datagram whose key is chosen, by its place among the session's keys.
+#[derive(Drop)]
+pub struct Keyed {
+    headed: Headed,
+    place: usize,
+}
+
+impl Model for Keyed {
+    ghost use Rattle.sg_srtp.specs.Inbound.{Keying};
+
+    ghost Value = { Keying };
+
+    ghost view = { λ k. record { headed = k.headed; place = k.place } };
+}
+
+/// A datagram whose index is found, and is new in its stream.
+#[derive(Drop)]
+pub struct Placed {
+    keyed: Keyed,
+    index: u64,
+}
+
+impl Model for Placed {
+    ghost use Rattle.std.specs.Prelude.{◌<◌, ◌^◌};
+    ghost use Rattle.sg_srtp.specs.Inbound.{Placing};
+
+    ghost Value = { Placing };
+
+    ghost view = { λ p. record { keyed = p.keyed; index = p.index } };
+
+    ghost invariant = { λ p. p.index < 2 ^ 48 };
+}
+
+/// A datagram whose tag fits.
+#[derive(Drop)]
+pub struct Verified {
+    placed: Placed,
+}
+
+impl Model for Verified {
+    ghost use Rattle.sg_srtp.specs.Inbound.{Placing};
+
+    ghost Value = { Placing };
+
+    ghost view = { λ v. v.placed };
+}
+
+/// A packet that was opened: its octets, its kind, its source and index, and the number of its key.
+#[derive(Drop)]
+pub struct Opened {
+    pub pad: Pad,
+    pub kind: Kind,
+    pub ssrc: u32,
+    pub index: u64,
+    pub key: u32,
+}
+
+impl Arrived {
+    /// A datagram in its pad.
+    pub fn make(pad: Pad) -> Arrived
+        ensures { result ≡ pad }
+    {
+        Arrived { pad }
+    }
+
+    /// Reads the head of a datagram that ends in an MKI and a tag of these lengths. RTP is encrypted
+    /// where `encrypts` says so, RTCP as the datagram itself says (RFC 3711, 3.4).
+    pub fn head(
+        self,
+        kind: Kind,
+        encrypts: bool,
+        mki_len: usize,
+        tag_len: usize,
+    ) -> Result<Headed, (Pad, DropCause)>
+        requires mki { mki_len ≤ 128 }
+        requires tag { tag_len ≤ 20 }
+        ensures { MatchResult result (IsHeaded self kind encrypts mki_len tag_len) (λ e. (e.0 ≡ self) × (heading kind encrypts mki_len tag_len self ≡ Err e.1)) }
+    {
+        let Arrived { pad } = self;
+        match head_in(kind, encrypts, mki_len, tag_len, pad.octets()) {
+            Ok(head) => Ok(Headed {
+                pad,
+                kind,
+                mki_len,
+                tag_len,
+                head,
+            }),
+            Err(cause) => Err((pad, cause)),
+        }
+    }
+}
+
+impl Headed {
+    /// The source.
+    pub fn ssrc(&self) -> u32
+        ensures { result ≡ self.now.head.ssrc }
+    {
+        self.head.ssrc
+    }
+
+    /// The kind.
+    pub fn kind(&self) -> Kind
+        ensures { result ≡ self.now.kind }
+    {
+        self.kind
+    }
+
+    // The number, which fits its kind.
+    fn number(&self) -> u32
+        ensures value { result ≡ self.now.head.number }
+        ensures fits { IsNumber self.now.kind result }
+    {
+        self.head.number
+    }
+
+    /// The pad, as it came.
+    pub fn refuse(self) -> Pad
+        ensures { result ≡ self.pad }
+    {
+        self.pad
+    }
+
+    // The octets of the MKI.
+    fn mki(&self) -> &[u8]
+        ensures { result.now ≡ mki_of self.now.mki_len self.now.tag_len self.now.pad }
+    {
+        let octets = self.pad.octets();
+        let (_, end) = octets.split_at(octets.len() - (self.mki_len + self.tag_len));
+        &end[..self.mki_len]
+    }
+
+    /// Chooses the key by the MKI, among keys whose MKIs have the length that the head was read with.
+    pub fn key(self, keys: &KeySet) -> Result<Keyed, (Pad, DropCause)>
+        ensures { MatchResult result (IsKeyed self keys.now) (λ e. (e.0 ≡ self.pad) × (chosen_for keys.now (mki_of self.mki_len self.tag_len self.pad) ≡ Err e.1)) }
+    {
+        match keys.choose_mki(self.mki()) {
+            Ok(place) => Ok(Keyed {
+                headed: self,
+                place,
+            }),
+            Err(OpenKeyFault::MkiUnknown) => Err((self.refuse(), DropCause::MkiUnknown)),
+            Err(OpenKeyFault::KeySpent { number, count }) => {
+                Err((self.refuse(), DropCause::KeySpent { number, count }))
+            }
+        }
+    }
+
+    // Whether the tag fits at an index.
+    fn fits(&self, key: &MacKey, index: u64) -> bool
+        requires { index < 2 ^ 48 }
+        ensures { (auth : List ℕ) → IsMacKey auth key.now → result ≡ tag_fits_at self.now.kind self.now.mki_len self.now.tag_len index self.now.pad auth }
+    {
+        fits(
+            self.kind,
+            key,
+            self.pad.octets(),
+            self.mki_len,
+            self.tag_len,
+            index,
+        )
+    }
+}
+
+impl Keyed {
+    /// The source.
+    pub fn ssrc(&self) -> u32
+        ensures { result ≡ self.now.headed.head.ssrc }
+    {
+        self.headed.ssrc()
+    }
+
+    /// The pad, as it came.
+    pub fn refuse(self) -> Pad
+        ensures { result ≡ self.headed.pad }
+    {
+        self.headed.refuse()
+    }
+
+    /// Finds the index in the stream of the packet's source, which is only read.
+    pub fn place(self, stream: &Stream) -> Result<Placed, (Pad, DropCause)>
+        ensures open { MatchResult result (λ p. (p.keyed ≡ self) × IsOpenPlace stream.now p.index) (λ e. e.0 ≡ self.headed.pad) }
+        ensures answer { (ssrc roc window : ℕ) (indices : List ℕ) → StreamStands stream.now ssrc roc window indices
+            → MatchResult result (λ p. placed self.headed.kind roc window indices self.headed.head.number ≡ Ok p.index) (λ e. placed self.headed.kind roc window indices self.headed.head.number ≡ Err e.1) }
+    {
+        match stream.place(self.headed.kind(), self.headed.number()) {
+            Ok(index) => Ok(Placed { keyed: self, index }),
+            Err(cause) => Err((self.refuse(), cause)),
+        }
+    }
+}
+
+impl Placed {
+    /// Compares the tag under the chosen key.
+    pub fn verify(self, keys: &KeySet) -> Result<Verified, (Pad, DropCause)>
+        requires { self.keyed.place < length keys.now }
+        ensures { (key : Live) → slice_get keys.now self.keyed.place ≡ Some key → MatchResult result (IsVerified self key) (IsUnverified self key) }
+    {
+        let keyed = &self.keyed;
+        let headed = &keyed.headed;
+        if headed.fits(keys.mac(keyed.place), self.index) {
+            Ok(Verified { placed: self })
+        } else {
+            Err((self.keyed.refuse(), DropCause::BadTag))
+        }
+    }
+}
+
+impl Headed {
+    // The packet alone, with the keystream of its index taken off where it is encrypted.
+    fn into_packet(self, schedule: Option<&Schedule>, salt: &[u8; 14], index: u64) -> Pad
+        requires index { index < 2 ^ 48 }
+        requires cipher { IsTrue self.head.encrypted → IsSome schedule }
+        ensures { (half : HalfKeys) → half.salt ≡ salt.now → option_copied schedule.entry ≡ schedule_key half.encrypt → result ≡ packet_at self half index }
+    {
+        let Headed {
+            mut pad,
+            kind,
+            mki_len,
+            tag_len,
+            head,
+        } = self;
+        let count = pad.octets().len() - (word_len(kind) + (mki_len + tag_len));
+        pad.cut_to(count);
+        match schedule {
+            Some(schedule) if head.encrypted => {
+                mask(schedule, salt, head.ssrc, index, head.size, &mut pad);
+                pad
+            }
+            _ => pad,
+        }
+    }
+}
+
+// The octets between a packet and the MKI: of RTCP the index word.
+fn word_len(kind: Kind) -> usize
+    ensures value { result ≡ word_len kind }
+    ensures most { result ≤ 4 }
+{
+    match kind {
+        Kind::Rtp => 0,
+        Kind::Rtcp => 4,
+    }
+}
+
+impl Verified {
+    /// The pad, as it came.
+    pub fn refuse(self) -> Pad
+        ensures { result ≡ self.keyed.headed.pad }
+    {
+        let Placed { keyed, index: _ } = self.placed;
+        keyed.refuse()
+    }
+
+    /// Takes the keystream off, marks the index and counts the packet under its key. The stream and the
+    /// keys are those that the datagram was placed and verified with.
+    pub fn decrypt(self, stream: &mut Stream, keys: &mut KeySet) -> Opened
+        requires open { IsOpenPlace stream.old self.index }
+        requires key { CanServe keys.old self.keyed.place self.keyed.headed.head.encrypted }
+        ensures opened { (key : Live) → slice_get keys.old self.keyed.place ≡ Some key → IsOpened self key result }
+        ensures stream { (ssrc roc window : ℕ) (indices : List ℕ) → StreamStands stream.old ssrc roc window indices → StreamStands stream.new ssrc roc window (indices ++ self.index ∷ []) }
+        ensures keys { (key : Live) → slice_get keys.old self.keyed.place ≡ Some key → keys.new ≡ spent key.number keys.old }
+    {
+        let Verified { placed } = self;
+        let Placed { keyed, index } = placed;
+        let Keyed { headed, place } = keyed;
+        let kind = headed.kind();
+        let ssrc = headed.ssrc();
+        let key = keys.key(place);
+        let number = key.number;
+        let pad = headed.into_packet(keys.schedule(place), &key.half.salt, index);
+        stream.take(index);
+        keys.spend(place);
+        Opened {
+            pad,
+            kind,
+            ssrc,
+            index,
+            key: number,
+        }
+    }
+}
