@@ -198,3 +198,31 @@ fn statuses_are_told(rt: HostRuntime) -> Result<(), Fail> {
     }
     Ok(())
 }
+
+// Where an allocation is refused, as the toolchain does on demand, what was written by then is a front.
+#[test]
+fn refused_memory_leaves_a_front(rt: HostRuntime) -> Result<(), Fail> {
+    let alloc = rt.alloc();
+    let script = joined(alloc, &[HEADER, KEYED, FORGED, SEALED, SEALED])?;
+    let told = joined(
+        alloc,
+        &[
+            KEYED_TOLD,
+            "drop 20000 BadTag\n",
+            SEALED_TOLD,
+            "drop 20000 Repeat\n",
+        ],
+    )?;
+    let words = [String::from_str(alloc, "replay")?];
+    let mut source = MemSource::make(Octets::from_vec(script), Vec::new(alloc));
+    let mut sink = MemSink::make(alloc, Vec::new(alloc));
+    let status = run(alloc, &words, &mut source, &mut sink);
+    let written = sink.written().unwrap_or(&[]);
+    assert!(rt; told.as_slice().starts_with(written));
+    match status {
+        Status::Done => assert_eq!(rt; written.len(), told.len()),
+        Status::NoMemory | Status::Write => {}
+        _ => return Err("status".into()),
+    }
+    Ok(())
+}

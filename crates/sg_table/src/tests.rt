@@ -72,12 +72,12 @@ fn text(alloc: Global, told: &[Outcome]) -> Result<Vec<u8>, Fail> {
     Ok(text)
 }
 
-/// A plain packet of this kind, of one of three sources.
-fn packet(alloc: Global, dice: &mut Dice, is_rtp: bool) -> Result<Vec<u8>, Fail> {
+/// A plain packet of this kind, of one of three sources, whose number is near the round.
+fn packet(alloc: Global, dice: &mut Dice, is_rtp: bool, round: u16) -> Result<Vec<u8>, Fail> {
     let mut packet = Vec::new(alloc);
     let source = [0, 0, 0, dice.roll(3)];
     if is_rtp {
-        let number = 65500 + u32::from(dice.roll(120));
+        let number = 65000 + u32::from(round) + u32::from(dice.roll(60));
         packet.extend_from_slice(&[128, 96, (number / 256 % 256) as u8, (number % 256) as u8])?;
         packet.extend_from_slice(&[0, 0, 0, 9])?;
     } else {
@@ -166,12 +166,18 @@ impl Tables {
     }
 
     /// One datagram: of a peer to a secure port, or of the plain side to a plain one.
-    fn step(&mut self, rt: &impl Abort, alloc: Global, dice: &mut Dice) -> Result<(), Fail> {
+    fn step(
+        &mut self,
+        rt: &impl Abort,
+        alloc: Global,
+        dice: &mut Dice,
+        round: u16,
+    ) -> Result<(), Fail> {
         let is_rtp = dice.roll(3) != 0;
         let kind = if is_rtp { 0 } else { 1 };
         let slot = u16::from(dice.roll(4)) * 16;
         let port = 20000 + slot + kind;
-        let packet = packet(alloc, dice, is_rtp)?;
+        let packet = packet(alloc, dice, is_rtp, round)?;
         let from_peer = dice.roll(2) == 0;
         let mut octets = if from_peer {
             put_out(alloc, &mut self.peers, port + 2, &packet)?
@@ -205,10 +211,10 @@ fn plays_as_the_plain_table(rt: HostRuntime) -> Result<(), Fail> {
     tables.key(&rt, alloc, 7, Suite::Cm128Tag80, (8, 9))?;
     tables.key(&rt, alloc, 10, Suite::Cm128Tag32, (10, 1))?;
     let mut dice = Dice(2026);
-    for _step in 0..200 {
-        tables.step(&rt, alloc, &mut dice)?;
+    for round in 0..2000 {
+        tables.step(&rt, alloc, &mut dice, round)?;
     }
     let outs = tables.outs;
-    assert!(rt; outs > 80, "{outs} packets went on");
+    assert!(rt; outs > 500, "{outs} packets went on");
     Ok(())
 }
