@@ -1,5 +1,5 @@
 -- Octets masked piece by piece.
-use Rattle.std.proofs.Common.{◌≡◌, ℕ, ◌+◌, ◌-◌, ◌*◌, ◌<◌, ◌%◌, ◌/◌, ◌^◌, List, [], ◌∷◌, refl, ap, ap₂, ◌∙◌, sym, arith, bit_xor, length, slice_index, map, inl, inr}
+use Rattle.std.proofs.Common.{◌≡◌, ℕ, ◌+◌, ◌-◌, ◌*◌, ◌<◌, ◌%◌, ◌/◌, List, [], ◌∷◌, refl, ap, ap₂, ◌∙◌, sym, arith, bit_xor, length, slice_index, map, inl, inr}
 use Rattle.std.specs.Prelude.{slice_index_or}
 use Rattle.std.proofs.lemmas.Bool.{cases_lt}
 use Rattle.std.proofs.lemmas.Grind.{same_number_lists}
@@ -29,21 +29,13 @@ both_masked old mid new f g at m next n total en et a b same = record {
   above = λ k h. b.above k (omega arith) ∙ a.above k (omega arith);
 }
 
--- the stream from a later counter on
-pub stream_later : (key : List ℕ) (counter next n m k : ℕ) → next ≡ (counter + n) % 2 ^ 128 → m ≡ 16 * n → stream_octet key next k ≡ stream_octet key counter (m + k)
-stream_later key counter next n m k e em =
-    let q : (m + k) / 16 ≡ n + k / 16 = omega arith in
-    let r : (m + k) % 16 ≡ k % 16 = omega arith in
-    let c : (next + k / 16) % 2 ^ 128 ≡ (counter + (n + k / 16)) % 2 ^ 128 = omega arith in
-    rw (q, r, c) refl
-
--- one block of it
-pub block_later : (key block : List ℕ) (counter next n m k : ℕ) → block ≡ aes_encrypt key (counter_octets next) → next ≡ (counter + n) % 2 ^ 128 → m ≡ 16 * n → k < 16
+-- block n of the stream
+pub block_of_stream : (key block : List ℕ) (counter n m k : ℕ) → block ≡ key_block key (counter_after counter n) → m ≡ 16 * n → k < 16
     → slice_index block k ≡ stream_octet key counter (m + k)
-block_later key block counter next n m k eb e em h =
+block_of_stream key block counter n m k eb em h =
     let q : (m + k) / 16 ≡ n = omega arith in
     let r : (m + k) % 16 ≡ k = omega arith in
-    rw (q, r, ← e, eb) refl
+    rw (q, r) (ap (λ xs. slice_index xs k) eb)
 
 pub masked_whole : (key : List ℕ) (counter : ℕ) (old new : List ℕ) (n : ℕ) → XorsOnto old new 0 n (stream_octet key counter) → n ≡ length old → new ≡ xor_octets old (counter_stream key counter (length old))
 masked_whole key counter old new n held e =
@@ -57,36 +49,25 @@ masked_whole key counter old new n held e =
     here ∙ ap (bit_xor (slice_index old k)) (sym (octet_of_stream key counter (length old) k l))
     ∙ sym (octet_of_xor old ks k l (omega (arith, len))))
 
--- four counters, and four pieces of 16 octets
-pub four_counters_are : (next : ℕ) (a b c d : List ℕ) → next < 2 ^ 128 → a ≡ counter_octets next → b ≡ counter_octets (counter_after next 1)
-    → c ≡ counter_octets (counter_after next 2) → d ≡ counter_octets (counter_after next 3)
-    → a ∷ b ∷ c ∷ d ∷ [] ≡ counter_octets (counter_after next 0) ∷ counter_octets (counter_after next 1) ∷ counter_octets (counter_after next 2) ∷ counter_octets (counter_after next 3) ∷ []
-four_counters_are next a b c d h ea eb ec ed =
-    let same : next ≡ counter_after next 0 = omega arith in
-    λ p. (ea ∙ ap counter_octets same) p ∷ eb p ∷ ec p ∷ ed p ∷ []
-
-pub fours_masked : (key : List ℕ) (next at : ℕ) (blocks counters : List (List ℕ)) (p0 p1 p2 p3 p4 : List ℕ)
-    → counters ≡ counter_octets (counter_after next 0) ∷ counter_octets (counter_after next 1) ∷ counter_octets (counter_after next 2) ∷ counter_octets (counter_after next 3) ∷ [] → blocks ≡ map (aes_encrypt key) counters
+-- four pieces of 16 octets
+pub fours_masked : (key : List ℕ) (counter n at : ℕ) (blocks counters : List (List ℕ)) (p0 p1 p2 p3 p4 : List ℕ)
+    → counters ≡ counter_octets (counter_after counter n) ∷ counter_octets (counter_after counter (n + 1)) ∷ counter_octets (counter_after counter (n + 2)) ∷ counter_octets (counter_after counter (n + 3)) ∷ [] → blocks ≡ map (aes_encrypt key) counters
     → XorsOnto p0 p1 at 16 (λ k. slice_index (slice_index_or blocks 0 []) k) → XorsOnto p1 p2 (at + 16) 16 (λ k. slice_index (slice_index_or blocks 1 []) k)
     → XorsOnto p2 p3 (at + 32) 16 (λ k. slice_index (slice_index_or blocks 2 []) k) → XorsOnto p3 p4 (at + 48) 16 (λ k. slice_index (slice_index_or blocks 3 []) k)
-    → XorsOnto p0 p4 at 64 (stream_octet key next)
-fours_masked key next at blocks counters p0 p1 p2 p3 p4 ec eb h0 h1 h2 h3 =
-    let f : ℕ → ℕ = stream_octet key next in
-    let all : blocks ≡ map (aes_encrypt key) (counter_octets (counter_after next 0) ∷ counter_octets (counter_after next 1) ∷ counter_octets (counter_after next 2) ∷ counter_octets (counter_after next 3) ∷ []) = eb ∙ ap (map (aes_encrypt key)) ec in
-    let b0 : (k : ℕ) → k < 16 → slice_index (slice_index_or blocks 0 []) k ≡ f (0 + k) = λ k h. piece k 0 0 h refl (ap (λ bs. slice_index_or bs 0 []) all) in
-    let b1 : (k : ℕ) → k < 16 → slice_index (slice_index_or blocks 1 []) k ≡ f (16 + k) = λ k h. piece k 1 16 h refl (ap (λ bs. slice_index_or bs 1 []) all) in
-    let b2 : (k : ℕ) → k < 16 → slice_index (slice_index_or blocks 2 []) k ≡ f (32 + k) = λ k h. piece k 2 32 h refl (ap (λ bs. slice_index_or bs 2 []) all) in
-    let b3 : (k : ℕ) → k < 16 → slice_index (slice_index_or blocks 3 []) k ≡ f (48 + k) = λ k h. piece k 3 48 h refl (ap (λ bs. slice_index_or bs 3 []) all) in
+    → XorsOnto p0 p4 at 64 (λ k. stream_octet key counter (16 * n + k))
+fours_masked key counter n at blocks counters p0 p1 p2 p3 p4 ec eb h0 h1 h2 h3 =
+    let f : ℕ → ℕ = λ k. stream_octet key counter (16 * n + k) in
+    let all : blocks ≡ map (aes_encrypt key) (counter_octets (counter_after counter n) ∷ counter_octets (counter_after counter (n + 1)) ∷ counter_octets (counter_after counter (n + 2)) ∷ counter_octets (counter_after counter (n + 3)) ∷ []) = eb ∙ ap (map (aes_encrypt key)) ec in
+    let b0 : (k : ℕ) → k < 16 → slice_index (slice_index_or blocks 0 []) k ≡ f (0 + k) = λ k h. piece k n 0 h (omega arith) (ap (λ bs. slice_index_or bs 0 []) all) in
+    let b1 : (k : ℕ) → k < 16 → slice_index (slice_index_or blocks 1 []) k ≡ f (16 + k) = λ k h. piece k (n + 1) 16 h (omega arith) (ap (λ bs. slice_index_or bs 1 []) all) in
+    let b2 : (k : ℕ) → k < 16 → slice_index (slice_index_or blocks 2 []) k ≡ f (32 + k) = λ k h. piece k (n + 2) 32 h (omega arith) (ap (λ bs. slice_index_or bs 2 []) all) in
+    let b3 : (k : ℕ) → k < 16 → slice_index (slice_index_or blocks 3 []) k ≡ f (48 + k) = λ k h. piece k (n + 3) 48 h (omega arith) (ap (λ bs. slice_index_or bs 3 []) all) in
     let q0 = both_masked p0 p0 p1 f (λ k. slice_index (slice_index_or blocks 0 []) k) at 0 at 16 16 (omega arith) refl (none_masked p0 at f) h0 b0 in
     let q1 = both_masked p0 p1 p2 f (λ k. slice_index (slice_index_or blocks 1 []) k) at 16 (at + 16) 16 32 refl refl q0 h1 b1 in
     let q2 = both_masked p0 p2 p3 f (λ k. slice_index (slice_index_or blocks 2 []) k) at 32 (at + 32) 16 48 refl refl q1 h2 b2 in
     both_masked p0 p3 p4 f (λ k. slice_index (slice_index_or blocks 3 []) k) at 48 (at + 48) 16 64 refl refl q2 h3 b3
   where
-    piece : (k n m : ℕ) → k < 16 → m ≡ 16 * n → {b : List ℕ} → b ≡ key_block key (counter_after next n) → slice_index b k ≡ stream_octet key next (m + k)
-    piece k n m h em e =
-        let q : (m + k) / 16 ≡ n = omega arith in
-        let r : (m + k) % 16 ≡ k = omega arith in
-        rw (q, r) (ap (λ xs. slice_index xs k) e)
-
-pub next_counter : (counter j m next : ℕ) → next ≡ (counter + j) % 2 ^ 128 → (next + m) % 2 ^ 128 ≡ (counter + (j + m)) % 2 ^ 128
-next_counter counter j m next e = omega arith
+    piece : (k j m : ℕ) → k < 16 → 16 * n + m ≡ 16 * j → {b : List ℕ} → b ≡ key_block key (counter_after counter j) → slice_index b k ≡ stream_octet key counter (16 * n + (m + k))
+    piece k j m h em {b} e =
+        let place : 16 * n + (m + k) ≡ 16 * n + m + k = omega arith in
+        rw place (block_of_stream key b counter j (16 * n + m) k e em h)

@@ -1,6 +1,12 @@
--- A part of octets with a rule's octets put on it by XOR.
-use Rattle.std.specs.Prelude.{◌≡◌, ℕ, ◌+◌, ◌/◌, ◌%◌, ◌<◌, ◌≤◌, List, length, bit_xor, slice_index}
-use Rattle.sg_ctr.specs.Keystream.{counter_after, key_block}
+-- The first counter of a part, and a part of octets with a rule's octets put on it by XOR.
+use Rattle.std.specs.Prelude.{◌≡◌, ℕ, ◌+◌, ◌/◌, ◌%◌, ◌^◌, ◌<◌, ◌≤◌, List, length, bit_xor, slice_index}
+use Rattle.sg_ctr.specs.Keystream.{counter_after, counter_octets, key_block}
+
+-- the octets are those of a counter of 128 bits, of which the last 16 are 0 and count the blocks
+pub record CountsFrom (first : List ℕ) (counter : ℕ) : Type 0 where
+  pub octets : first ≡ counter_octets counter
+  pub fits : counter < 2 ^ 128
+  pub from_zero : counter % 2 ^ 16 ≡ 0
 
 -- octet k of the stream from a counter on
 abbrev pub stream_octet : List ℕ → ℕ → ℕ → ℕ

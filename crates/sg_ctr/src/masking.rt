@@ -1,9 +1,9 @@
 // The stream of a schedule, put onto octets by XOR.
 
-ghost use Rattle.std.specs.Prelude.{◌≡◌, [], ◌∷◌, ◌+◌, ◌≤◌, length, slice_index};
+ghost use Rattle.std.specs.Prelude.{◌≡◌, ℕ, [], ◌∷◌, ◌+◌, ◌*◌, ◌%◌, ◌^◌, ◌<◌, ◌≤◌, length, slice_index};
 ghost use Rattle.sg_base.specs.Octets.{xor_octets};
 ghost use Rattle.sg_ctr.specs.Keystream.{counter_after, counter_octets, counter_stream};
-ghost use Rattle.sg_ctr.specs.Masking.{XorsOnto, stream_octet};
+ghost use Rattle.sg_ctr.specs.Masking.{CountsFrom, XorsOnto, stream_octet};
 
 use sg_aes::Schedule;
 
@@ -27,28 +27,47 @@ fn octets_of(counter: u128) -> [u8; 16]
     counter.to_be_bytes()
 }
 
-// The octets of a counter and of the three after it.
+// The octets of the counter of block `number`: those of the first block's, with the number as the last two.
 #[inline(always)]
-fn four_counters(next: u128) -> [[u8; 16]; 4]
-    ensures { result
-        ≡ counter_octets (counter_after next 0) ∷ counter_octets (counter_after next 1)
-        ∷ counter_octets (counter_after next 2) ∷ counter_octets (counter_after next 3) ∷ [] }
+fn numbered(first: &[u8; 16], number: usize) -> [u8; 16]
+    requires { number < 2 ^ 16 }
+    ensures { (counter : ℕ) → CountsFrom first.now counter
+        → result ≡ counter_octets (counter_after counter number) }
+{
+    let mut octets = *first;
+    octets[14] = (number / 256) as u8;
+    octets[15] = (number % 256) as u8;
+    octets
+}
+
+// The octets of the counters of block `number` and of the three after it.
+#[inline(always)]
+fn four_counters(first: &[u8; 16], number: usize) -> [[u8; 16]; 4]
+    requires { number + 4 ≤ 2 ^ 16 }
+    ensures { (counter : ℕ) → CountsFrom first.now counter → result
+        ≡ counter_octets (counter_after counter number)
+        ∷ counter_octets (counter_after counter (number + 1))
+        ∷ counter_octets (counter_after counter (number + 2))
+        ∷ counter_octets (counter_after counter (number + 3)) ∷ [] }
 {
     [
-        octets_of(next),
-        octets_of(next.wrapping_add(1)),
-        octets_of(next.wrapping_add(2)),
-        octets_of(next.wrapping_add(3)),
+        numbered(first, number),
+        numbered(first, number + 1),
+        numbered(first, number + 2),
+        numbered(first, number + 3),
     ]
 }
 
-// XORs four blocks from a counter on onto the 64 octets at `at`.
+// XORs the four blocks from block `number` on onto their 64 octets of the part.
 #[inline(always)]
-fn mask_four(schedule: &Schedule, next: u128, part: &mut [u8], at: usize)
-    requires { at + 64 ≤ length part.old }
-    ensures { XorsOnto part.old part.new at 64 (stream_octet schedule.now next) }
+fn mask_four(schedule: &Schedule, first: &[u8; 16], number: usize, part: &mut [u8])
+    requires numbers { number + 4 ≤ 2 ^ 16 }
+    requires room { 16 * number + 64 ≤ length part.old }
+    ensures { (counter : ℕ) → CountsFrom first.now counter → XorsOnto part.old part.new
+        (16 * number) 64 (λ k. stream_octet schedule.now counter (16 * number + k)) }
 {
-    let mut blocks = four_counters(next);
+    let at = 16 * number;
+    let mut blocks = four_counters(first, number);
     schedule.four(&mut blocks);
     xor_onto(part, at, &blocks[0], 16);
     xor_onto(part, at + 16, &blocks[1], 16);
@@ -56,26 +75,27 @@ fn mask_four(schedule: &Schedule, next: u128, part: &mut [u8], at: usize)
     xor_onto(part, at + 48, &blocks[3], 16);
 }
 
-/// XORs the stream from a counter on onto the part, four blocks at a time and the rest singly.
+/// XORs the stream from a counter on onto the part, four blocks at a time and the rest singly. The
+/// counter's last 16 bits are 0: they count the blocks, so its octets are made once.
 pub(crate) fn mask(schedule: &Schedule, counter: u128, part: &mut [u8])
+    requires counter { counter % 2 ^ 16 ≡ 0 }
+    requires length { length part.old ≤ 2 ^ 20 }
     ensures { part.new
         ≡ xor_octets part.old (counter_stream schedule.now counter (length part.old)) }
 {
     let len = part.len();
-    let mut next = counter;
+    let first = octets_of(counter);
     'fours: for i in 0..len / 64 {
-        mask_four(schedule, next, part, 64 * i);
-        next = next.wrapping_add(4);
+        mask_four(schedule, &first, 4 * i, part);
     }
     'ones: for j in 4 * (len / 64)..len / 16 {
-        let mut block = octets_of(next);
+        let mut block = numbered(&first, j);
         schedule.block(&mut block);
         xor_onto(part, 16 * j, &block, 16);
-        next = next.wrapping_add(1);
     }
     let done = 16 * (len / 16);
     if done < len {
-        let mut block = octets_of(next);
+        let mut block = numbered(&first, len / 16);
         schedule.block(&mut block);
         xor_onto(part, done, &block, len - done);
     }
