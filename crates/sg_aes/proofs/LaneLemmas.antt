@@ -1,4 +1,4 @@
-use Rattle.std.proofs.Common.{◌≡◌, ℕ, suc, ◌+◌, ◌*◌, ◌<◌, ◌≤◌, ◌/◌, ◌%◌, ◌^◌, ◌||◌, true, cond, T, leb, List, [], ◌∷◌, ◌++◌, refl, ap, ap₂, ◌∙◌, sym, arith, subst, length, map, replicate, bit_and, bit_xor, w8, Fits, get_or}
+use Rattle.std.proofs.Common.{◌≡◌, ℕ, zero, suc, ◌+◌, ◌*◌, ◌<◌, ◌≤◌, ◌/◌, ◌^◌, ◌||◌, true, cond, T, leb, List, [], ◌∷◌, ◌++◌, refl, ap, ap₂, ◌∙◌, sym, arith, subst, length, map, replicate, bit_and, bit_xor, w8, Fits, get_or}
 use Rattle.std.specs.Prelude.{slice_index, nat_le, nat_lt}
 use Rattle.std.specs.List.{range_with_len}
 use Rattle.std.specs.Simd.Lanes.{zip2, Each1}
@@ -6,11 +6,12 @@ use Rattle.std.proofs.lemmas.List.FromFn.{get_or-map-range_with_len}
 use Rattle.std.proofs.lemmas.List.{length-map}
 use Rattle.std.proofs.lemmas.Simd.{swz_l, SwzOk, SwzOk-from_Each1, zip2_of_maps, zip2_splat, splat_is_map, map-map}
 use Rattle.sg_aes.specs.Field.{sub_byte, times_x, product, product_of_bits, inverse_in}
-use Rattle.sg_aes.specs.Lanes.{IsPlace, look, nibbles, upper, lower, either, last_first, last_second}
-use Rattle.sg_aes.specs.State.{state_by, sub_bytes, round, last_round, row_times}
-use Rattle.sg_aes.proofs.Octets.{agree, sub_byte_lt}
+use Rattle.sg_aes.specs.Lanes.{IsPlace, IsState, HasNibbles, look, nibbles, upper, lower, either, last_first, last_second, substituted, once, twice, key_nibbles}
+use Rattle.sg_aes.specs.State.{state_by, sub_bytes, add_round_key, round, last_round, row_times}
+use Rattle.sg_aes.proofs.Octets.{agree, sub_byte_lt, times_x_lt, map_octets}
+use Rattle.sg_aes.proofs.CipherLemmas.{round_state}
+use Rattle.std.proofs.lemmas.Nat.{xor_of_8}
 use Rattle.std.proofs.lemmas.Simd.{get_or-zip2, length-zip2}
-use lib.Lanes.{sel_l, top}
 use lib.Bits.{xor_assoc, xor_comm}
 use Rattle.std.proofs.lemmas.List.FromFn.{length-map-range_with_len}
 use Rattle.std.proofs.lemmas.List.{get_or-map}
@@ -49,36 +50,32 @@ splatted f g x y a long e = zip2_of_maps f g (λ _. y) x e (splat_is_map x 16 y 
 
 -- ---- one octet
 
-abbrev pub sub_by_nibbles : ℕ → ℕ
-sub_by_nibbles v = bit_xor (bit_xor (look FIRST (last_first (nibbles v))) (look SECOND (last_second (nibbles v)))) 0x63
+-- what the affine map adds
+abbrev pub without : ℕ → ℕ
+without v = bit_xor v 0x63
 
-pub sub_by_nibbles_is : (v : ℕ) → v < 256 → sub_by_nibbles v ≡ sub_byte v
+pub substituted_is : (v : ℕ) → v < 256 → substituted (nibbles v) ≡ sub_byte v
 unfolding sub_byte inverse_in product_of_bits
-sub_by_nibbles_is = agree 0 sub_by_nibbles sub_byte 256 refl
+substituted_is = agree 0 (λ v. substituted (nibbles v)) sub_byte 256 refl
+
+pub once_is : (v : ℕ) → v < 256 → once (nibbles v) ≡ nibbles (without (sub_byte v))
+unfolding sub_byte inverse_in product_of_bits
+once_is = agree 0 (λ v. once (nibbles v)) (λ v. nibbles (without (sub_byte v))) 256 refl
+
+pub twice_is : (v : ℕ) → v < 256 → twice (nibbles v) ≡ nibbles (times_x (without (sub_byte v)))
+unfolding sub_byte inverse_in product_of_bits
+twice_is = agree 0 (λ v. twice (nibbles v)) (λ v. nibbles (times_x (without (sub_byte v)))) 256 refl
+
+-- two rules that agree on octets, along a state
+pub same_along : (f g : ℕ → ℕ) (state : List ℕ) → ((v : ℕ) → v < 256 → f v ≡ g v) → IsState state → map f state ≡ state_by (λ i. g (slice_index state i))
+same_along f g state e h =
+    let k : ℕ → ℕ = λ i. g (slice_index state i) in
+    same_number_lists (map f state) (state_by k) (length-map state f ∙ h.sixteen ∙ sym (length-map-range_with_len k 0 16)) (λ i lt.
+    get_or-map f state i 0 0 (omega (arith, length-map state f)) ∙ e (slice_index state i) (h.octets i) ∙ sym (get_or-map-range_with_len k 0 16 i i 0 (omega (arith, length-map state f, h.sixteen)) (omega arith)))
 
 -- a test over the 256 octets shows that each gives a place
 pub place : (g : ℕ → ℕ) → map (λ v. nat_le 128 (g v) || nat_lt (g v) 16) (range_with_len 0 256) ≡ map (λ _. true) (range_with_len 0 256) → (v : ℕ) → v < 256 → IsPlace (g v)
 place g e v h = subst T (sym (agree true (λ v. nat_le 128 (g v) || nat_lt (g v) 16) (λ _. true) 256 e v h)) tt
-
-pub map_sub : (x : List ℕ) → Each1 (Fits w8) x → map sub_by_nibbles x ≡ map sub_byte x
-map_sub [] h = refl
-map_sub (v ∷ x) h = λ p. sub_by_nibbles_is v h.0.fits p ∷ map_sub x h.1 p
-
--- ---- times x
-
-one_times_x : (v : ℕ) → v < 256 → bit_xor ((v + v) % 2 ^ 8) (cond (top 7 (cond (leb 128 v) 255 0)) 27 0) ≡ times_x v
-one_times_x = agree 0 (λ v. bit_xor ((v + v) % 2 ^ 8) (cond (top 7 (cond (leb 128 v) 255 0)) 27 0)) times_x 256 refl
-
-abbrev pub times_x_lanes : ℕ → List ℕ → List ℕ
-times_x_lanes n t = zip2 bit_xor (zip2 (λ a b. (a + b) % 2 ^ 8) t t)
-    (sel_l (map (top 7) (zip2 (λ a b. cond (leb a b) 255 0) (replicate n 128) t)) (replicate n 27) (replicate n 0))
-
-times_x_each : (t : List ℕ) → Each1 (Fits w8) t → times_x_lanes (length t) t ≡ map times_x t
-times_x_each [] h = refl
-times_x_each (v ∷ t) h = λ p. one_times_x v h.0.fits p ∷ times_x_each t h.1 p
-
-pub times_x_is : (t : List ℕ) → IsOctets t → times_x_lanes 16 t ≡ map times_x t
-times_x_is t h = subst (λ n. times_x_lanes n t ≡ map times_x t) h.0 (times_x_each t h.1)
 
 -- ---- a round
 
@@ -88,12 +85,6 @@ zipped f xs ys hx hy =
     let len : length (zip2 f xs ys) ≡ 16 = length-zip2 f xs ys (hx ∙ sym hy) ∙ hx in
     same_number_lists (zip2 f xs ys) (state_by g) (len ∙ sym (length-map-range_with_len g 0 16)) (λ i lt.
     get_or-zip2 f xs ys i 0 0 0 (omega arith) (omega arith) ∙ sym (get_or-map-range_with_len g 0 16 i i 0 (omega arith) (omega arith)))
-
-pub substituted_state : (state : List ℕ) → length state ≡ 16 → map sub_byte state ≡ sub_bytes state
-substituted_state state h =
-    let g : ℕ → ℕ = λ i. sub_byte (slice_index state i) in
-    same_number_lists (map sub_byte state) (sub_bytes state) (length-map state sub_byte ∙ h ∙ sym (length-map-range_with_len g 0 16)) (λ i lt.
-    get_or-map sub_byte state i 0 0 (omega (arith, length-map state sub_byte)) ∙ sym (get_or-map-range_with_len g 0 16 i i 0 (omega (arith, length-map state sub_byte)) (omega arith)))
 
 -- a vector's lanes at these places
 abbrev pub picked : List ℕ → List ℕ → List ℕ
@@ -105,19 +96,28 @@ rows = 0 ∷ 5 ∷ 10 ∷ 15 ∷ 4 ∷ 9 ∷ 14 ∷ 3 ∷ 8 ∷ 13 ∷ 2 ∷ 7 �
 abbrev pub next_rows : List ℕ
 next_rows = 5 ∷ 10 ∷ 15 ∷ 0 ∷ 9 ∷ 14 ∷ 3 ∷ 4 ∷ 13 ∷ 2 ∷ 7 ∷ 8 ∷ 1 ∷ 6 ∷ 11 ∷ 12 ∷ []
 
-abbrev pub two_on : List ℕ
-two_on = 2 ∷ 3 ∷ 0 ∷ 1 ∷ 6 ∷ 7 ∷ 4 ∷ 5 ∷ 10 ∷ 11 ∷ 8 ∷ 9 ∷ 14 ∷ 15 ∷ 12 ∷ 13 ∷ []
+abbrev pub last_rows : List ℕ
+last_rows = 15 ∷ 0 ∷ 5 ∷ 10 ∷ 3 ∷ 4 ∷ 9 ∷ 14 ∷ 7 ∷ 8 ∷ 13 ∷ 2 ∷ 11 ∷ 12 ∷ 1 ∷ 6 ∷ []
 
-pub last_round_is : (state key s : List ℕ) → length state ≡ 16 → length key ≡ 16 → s ≡ map sub_byte state → zip2 bit_xor (picked s rows) key ≡ last_round state key
+abbrev pub one_on : List ℕ
+one_on = 1 ∷ 2 ∷ 3 ∷ 0 ∷ 5 ∷ 6 ∷ 7 ∷ 4 ∷ 9 ∷ 10 ∷ 11 ∷ 8 ∷ 13 ∷ 14 ∷ 15 ∷ 12 ∷ []
+
+-- a rule on nibbles, along those of a state
+along : (f g : ℕ → ℕ) (n state x : List ℕ) → ((v : ℕ) → v < 256 → f (nibbles v) ≡ g v) → HasNibbles n state → x ≡ map f n → x ≡ state_by (λ i. g (slice_index state i))
+along f g n state x e h ex =
+    ex ∙ ap (map f) h.in_nibbles ∙ map-map f nibbles state ∙ same_along (λ v. f (nibbles v)) g state e h.sixteen_octets
+
+pub last_round_is : (n state key s : List ℕ) → HasNibbles n state → length key ≡ 16 → s ≡ map substituted n → zip2 bit_xor (picked s rows) key ≡ last_round state key
 unfolding last_round
-last_round_is state key s hs hk e =
-    ap (λ x. zip2 bit_xor (picked x rows) key) (e ∙ substituted_state state hs) ∙ zipped bit_xor (picked (sub_bytes state) rows) key refl hk
+last_round_is n state key s h hk e =
+    ap (λ x. zip2 bit_xor (picked x rows) key) (along substituted sub_byte n state s substituted_is h e)
+    ∙ zipped bit_xor (picked (sub_bytes state) rows) key refl hk
 
 -- ---- a column times the matrix
 
-once : (a : ℕ) → a < 256 → product 1 a ≡ a
+times_one : (a : ℕ) → a < 256 → product 1 a ≡ a
 unfolding product_of_bits
-once = agree 0 (λ a. product 1 a) (λ a. a) 256 refl
+times_one = agree 0 (λ a. product 1 a) (λ a. a) 256 refl
 
 -- 2 a + 3 b as 2 (a + b) + b
 two_and_three : (a b : ℕ) → a < 256 → b < 256 → bit_xor (times_x (bit_xor a b)) b ≡ bit_xor (product 2 a) (product 3 b)
@@ -147,54 +147,130 @@ turn_3 q b c p =
 -- what is computed of a column at each row, for the octets b and c that follow a, and what is left
 row_0 : (a b c d : ℕ) → a < 256 → b < 256 → c < 256 → d < 256 → bit_xor (bit_xor (times_x (bit_xor a b)) b) (bit_xor c d) ≡ row_times 0 a b c d
 row_0 a b c d ha hb hc hd =
-    rw (two_and_three a b ha hb, once c hc, once d hd) (xor_right _ c d)
+    rw (two_and_three a b ha hb, times_one c hc, times_one d hd) (xor_right _ c d)
 
 row_1 : (a b c d : ℕ) → a < 256 → b < 256 → c < 256 → d < 256 → bit_xor (bit_xor (times_x (bit_xor b c)) c) (bit_xor d a) ≡ row_times 1 a b c d
 row_1 a b c d ha hb hc hd =
-    rw (two_and_three b c hb hc, once a ha, once d hd) (turn_1 a (product 2 b) (product 3 c) d)
+    rw (two_and_three b c hb hc, times_one a ha, times_one d hd) (turn_1 a (product 2 b) (product 3 c) d)
 
 row_2 : (a b c d : ℕ) → a < 256 → b < 256 → c < 256 → d < 256 → bit_xor (bit_xor (times_x (bit_xor c d)) d) (bit_xor a b) ≡ row_times 2 a b c d
 row_2 a b c d ha hb hc hd =
-    rw (two_and_three c d hc hd, once a ha, once b hb) (turn_2 a b (product 2 c) (product 3 d))
+    rw (two_and_three c d hc hd, times_one a ha, times_one b hb) (turn_2 a b (product 2 c) (product 3 d))
 
 row_3 : (a b c d : ℕ) → a < 256 → b < 256 → c < 256 → d < 256 → bit_xor (bit_xor (times_x (bit_xor d a)) a) (bit_xor b c) ≡ row_times 3 a b c d
 row_3 a b c d ha hb hc hd =
-    rw (two_and_three d a hd ha, once b hb, once c hc) (turn_3 (product 3 a) b c (product 2 d))
+    rw (two_and_three d a hd ha, times_one b hb, times_one c hc) (turn_3 (product 3 a) b c (product 2 d))
 
-abbrev pub unkeyed_lanes : List ℕ → List ℕ → List ℕ
-unkeyed_lanes s d = zip2 bit_xor (zip2 bit_xor d (picked s next_rows)) (picked (zip2 bit_xor (picked s rows) (picked s next_rows)) two_on)
+-- ---- a column in nibbles
 
-abbrev pub mixed_lanes : List ℕ → List ℕ → List ℕ → List ℕ
-mixed_lanes s d key = zip2 bit_xor (unkeyed_lanes s d) key
+nibbles_xor : (a b : ℕ) → a < 256 → b < 256 → bit_xor (nibbles a) (nibbles b) ≡ nibbles (bit_xor a b)
+nibbles_xor a b ha hb =
+    let f : ℕ → List ℕ = λ a. map (λ b. bit_xor (nibbles a) (nibbles b)) (range_with_len 0 256) in
+    let g : ℕ → List ℕ = λ a. map (λ b. nibbles (bit_xor a b)) (range_with_len 0 256) in
+    agree 0 (λ b. bit_xor (nibbles a) (nibbles b)) (λ b. nibbles (bit_xor a b)) 256 (agree [] f g 256 refl a ha) b hb
 
-pub round_is : (state key s d : List ℕ) → IsOctets state → length key ≡ 16 → s ≡ map sub_byte state
-    → d ≡ map times_x (zip2 bit_xor (picked s rows) (picked s next_rows)) → mixed_lanes s d key ≡ round state key
+-- the constant in two terms of a sum is none
+both_without : (a b : ℕ) → bit_xor (without a) (without b) ≡ bit_xor a b
+both_without a b =
+    xor_assoc a 0x63 (bit_xor b 0x63) ∙ ap (bit_xor a) (ap (bit_xor 0x63) (xor_comm b 0x63) ∙ sym (xor_assoc 0x63 0x63 b))
+
+-- 2 a + b + 2 b of octets without the constant
+twice_front : (a b : ℕ) → a < 256 → b < 256 → bit_xor (bit_xor (times_x (without a)) (without b)) (times_x (without b)) ≡ without (bit_xor (times_x (bit_xor a b)) b)
+twice_front a b ha hb =
+    let f : ℕ → List ℕ = λ a. map (λ b. bit_xor (bit_xor (times_x (without a)) (without b)) (times_x (without b))) (range_with_len 0 256) in
+    let g : ℕ → List ℕ = λ a. map (λ b. without (bit_xor (times_x (bit_xor a b)) b)) (range_with_len 0 256) in
+    agree 0 (λ b. bit_xor (bit_xor (times_x (without a)) (without b)) (times_x (without b))) (λ b. without (bit_xor (times_x (bit_xor a b)) b)) 256 (agree [] f g 256 refl a ha) b hb
+
+without_lt : (a : ℕ) → a < 256 → without a < 256
+without_lt a h = xor_of_8 a 0x63 h (omega arith)
+
+abbrev one : ℕ → ℕ
+one a = nibbles (without a)
+
+abbrev two : ℕ → ℕ
+two a = nibbles (times_x (without a))
+
+-- what is computed at an octet, of the octets a, b, c and d of its column from there on
+cell : (a b c d k : ℕ) → a < 256 → b < 256 → c < 256 → d < 256 → k < 256
+    → bit_xor (bit_xor (bit_xor (two a) (one b)) (bit_xor (two b) (one c))) (bit_xor (one d) (key_nibbles k))
+    ≡ nibbles (bit_xor (bit_xor (bit_xor (times_x (bit_xor a b)) b) (bit_xor c d)) k)
+cell a b c d k ha hb hc hd hk =
+    let ta = times_x_lt (without a) (without_lt a ha) in
+    let tb = times_x_lt (without b) (without_lt b hb) in
+    let wb = without_lt b hb in
+    let wc = without_lt c hc in
+    let front : bit_xor (two a) (one b) ≡ nibbles (bit_xor (times_x (without a)) (without b)) = nibbles_xor _ _ ta wb in
+    let next : bit_xor (two b) (one c) ≡ nibbles (bit_xor (times_x (without b)) (without c)) = nibbles_xor _ _ tb wc in
+    let end : bit_xor (one d) (key_nibbles k) ≡ nibbles (bit_xor d k) = nibbles_xor _ _ (without_lt d hd) (without_lt k hk) ∙ ap nibbles (both_without d k) in
+    let p : ℕ = bit_xor (times_x (bit_xor a b)) b in
+    let sum : bit_xor (bit_xor (times_x (without a)) (without b)) (bit_xor (times_x (without b)) (without c)) ≡ bit_xor p c =
+    xor_right (bit_xor (times_x (without a)) (without b)) (times_x (without b)) (without c) ∙ ap (λ x. bit_xor x (without c)) (twice_front a b ha hb) ∙ both_without p c in
+    let pc : bit_xor p c < 256 = xor_of_8 _ _ (xor_of_8 _ _ (times_x_lt _ (xor_of_8 _ _ ha hb)) hb) hc in
+    ap₂ bit_xor (ap₂ bit_xor front next ∙ nibbles_xor _ _ (xor_of_8 _ _ ta wb) (xor_of_8 _ _ tb wc) ∙ ap nibbles sum) end
+    ∙ nibbles_xor _ _ pc (xor_of_8 _ _ hd hk)
+    ∙ ap nibbles (xor_right (bit_xor p c) d k ∙ ap (λ x. bit_xor x k) (xor_assoc p c d))
+
+-- a cell at a row of the matrix
+celled : (a b c d k r : ℕ) → a < 256 → b < 256 → c < 256 → d < 256 → k < 256 → bit_xor (bit_xor (times_x (bit_xor a b)) b) (bit_xor c d) ≡ r
+    → bit_xor (bit_xor (bit_xor (two a) (one b)) (bit_xor (two b) (one c))) (bit_xor (one d) (key_nibbles k)) ≡ nibbles (bit_xor r k)
+celled a b c d k r ha hb hc hd hk e = cell a b c d k ha hb hc hd hk ∙ ap (λ x. nibbles (bit_xor x k)) e
+
+abbrev pub front_lanes : List ℕ → List ℕ → List ℕ
+front_lanes o t = zip2 bit_xor (picked t rows) (picked o next_rows)
+
+abbrev pub round_lanes : List ℕ → List ℕ → List ℕ → List ℕ
+round_lanes o t k = zip2 bit_xor (zip2 bit_xor (front_lanes o t) (picked (front_lanes o t) one_on)) (zip2 bit_xor (picked o last_rows) k)
+
+round_nibbles : (n state key o t k : List ℕ) → HasNibbles n state → IsState key → k ≡ map key_nibbles key → o ≡ map once n → t ≡ map twice n
+    → round_lanes o t k ≡ map nibbles (round state key)
 unfolding round
-round_is state key s d hs hk e ed =
-    let es : s ≡ sub_bytes state = e ∙ substituted_state state hs.0 in
+round_nibbles n state key o t k h hk ek eo et =
     let q : ℕ → ℕ = λ i. sub_byte (slice_index state i) in
     let f : (i : ℕ) → q i < 256 = λ i. sub_byte_lt (slice_index state i) in
-    let k : ℕ → ℕ = λ i. slice_index key i in
-    ap₂ (λ x y. mixed_lanes x y key) es ed
-    ∙ ap (λ x. mixed_lanes (sub_bytes state) (map times_x (zip2 bit_xor (picked x rows) (picked x next_rows))) key) es
-    ∙ zipped bit_xor (unkeyed_lanes (sub_bytes state) (map times_x (zip2 bit_xor (picked (sub_bytes state) rows) (picked (sub_bytes state) next_rows)))) key refl hk
+    let z : ℕ → ℕ = λ i. slice_index key i in
+    let g : (i : ℕ) → z i < 256 = hk.octets in
+    let os : o ≡ state_by (λ i. one (q i)) = along once (λ v. one (sub_byte v)) n state o once_is h eo in
+    let ts : t ≡ state_by (λ i. two (q i)) = along twice (λ v. two (sub_byte v)) n state t twice_is h et in
+    let ks : k ≡ state_by (λ i. key_nibbles (z i)) = ek ∙ same_along key_nibbles key_nibbles key (λ v lt. refl) hk in
+    ap₂ (λ x y. round_lanes x y k) os ts ∙ ap (round_lanes (state_by (λ i. one (q i))) (state_by (λ i. two (q i)))) ks
     ∙ (λ p.
-    bit_xor (row_0 (q 0) (q 5) (q 10) (q 15) (f 0) (f 5) (f 10) (f 15) p) (k 0)
-    ∷ bit_xor (row_1 (q 0) (q 5) (q 10) (q 15) (f 0) (f 5) (f 10) (f 15) p) (k 1)
-    ∷ bit_xor (row_2 (q 0) (q 5) (q 10) (q 15) (f 0) (f 5) (f 10) (f 15) p) (k 2)
-    ∷ bit_xor (row_3 (q 0) (q 5) (q 10) (q 15) (f 0) (f 5) (f 10) (f 15) p) (k 3)
-    ∷ bit_xor (row_0 (q 4) (q 9) (q 14) (q 3) (f 4) (f 9) (f 14) (f 3) p) (k 4)
-    ∷ bit_xor (row_1 (q 4) (q 9) (q 14) (q 3) (f 4) (f 9) (f 14) (f 3) p) (k 5)
-    ∷ bit_xor (row_2 (q 4) (q 9) (q 14) (q 3) (f 4) (f 9) (f 14) (f 3) p) (k 6)
-    ∷ bit_xor (row_3 (q 4) (q 9) (q 14) (q 3) (f 4) (f 9) (f 14) (f 3) p) (k 7)
-    ∷ bit_xor (row_0 (q 8) (q 13) (q 2) (q 7) (f 8) (f 13) (f 2) (f 7) p) (k 8)
-    ∷ bit_xor (row_1 (q 8) (q 13) (q 2) (q 7) (f 8) (f 13) (f 2) (f 7) p) (k 9)
-    ∷ bit_xor (row_2 (q 8) (q 13) (q 2) (q 7) (f 8) (f 13) (f 2) (f 7) p) (k 10)
-    ∷ bit_xor (row_3 (q 8) (q 13) (q 2) (q 7) (f 8) (f 13) (f 2) (f 7) p) (k 11)
-    ∷ bit_xor (row_0 (q 12) (q 1) (q 6) (q 11) (f 12) (f 1) (f 6) (f 11) p) (k 12)
-    ∷ bit_xor (row_1 (q 12) (q 1) (q 6) (q 11) (f 12) (f 1) (f 6) (f 11) p) (k 13)
-    ∷ bit_xor (row_2 (q 12) (q 1) (q 6) (q 11) (f 12) (f 1) (f 6) (f 11) p) (k 14)
-    ∷ bit_xor (row_3 (q 12) (q 1) (q 6) (q 11) (f 12) (f 1) (f 6) (f 11) p) (k 15) ∷ [])
+    celled (q 0) (q 5) (q 10) (q 15) (z 0) _ (f 0) (f 5) (f 10) (f 15) (g 0) (row_0 (q 0) (q 5) (q 10) (q 15) (f 0) (f 5) (f 10) (f 15)) p
+    ∷ celled (q 5) (q 10) (q 15) (q 0) (z 1) _ (f 5) (f 10) (f 15) (f 0) (g 1) (row_1 (q 0) (q 5) (q 10) (q 15) (f 0) (f 5) (f 10) (f 15)) p
+    ∷ celled (q 10) (q 15) (q 0) (q 5) (z 2) _ (f 10) (f 15) (f 0) (f 5) (g 2) (row_2 (q 0) (q 5) (q 10) (q 15) (f 0) (f 5) (f 10) (f 15)) p
+    ∷ celled (q 15) (q 0) (q 5) (q 10) (z 3) _ (f 15) (f 0) (f 5) (f 10) (g 3) (row_3 (q 0) (q 5) (q 10) (q 15) (f 0) (f 5) (f 10) (f 15)) p
+    ∷ celled (q 4) (q 9) (q 14) (q 3) (z 4) _ (f 4) (f 9) (f 14) (f 3) (g 4) (row_0 (q 4) (q 9) (q 14) (q 3) (f 4) (f 9) (f 14) (f 3)) p
+    ∷ celled (q 9) (q 14) (q 3) (q 4) (z 5) _ (f 9) (f 14) (f 3) (f 4) (g 5) (row_1 (q 4) (q 9) (q 14) (q 3) (f 4) (f 9) (f 14) (f 3)) p
+    ∷ celled (q 14) (q 3) (q 4) (q 9) (z 6) _ (f 14) (f 3) (f 4) (f 9) (g 6) (row_2 (q 4) (q 9) (q 14) (q 3) (f 4) (f 9) (f 14) (f 3)) p
+    ∷ celled (q 3) (q 4) (q 9) (q 14) (z 7) _ (f 3) (f 4) (f 9) (f 14) (g 7) (row_3 (q 4) (q 9) (q 14) (q 3) (f 4) (f 9) (f 14) (f 3)) p
+    ∷ celled (q 8) (q 13) (q 2) (q 7) (z 8) _ (f 8) (f 13) (f 2) (f 7) (g 8) (row_0 (q 8) (q 13) (q 2) (q 7) (f 8) (f 13) (f 2) (f 7)) p
+    ∷ celled (q 13) (q 2) (q 7) (q 8) (z 9) _ (f 13) (f 2) (f 7) (f 8) (g 9) (row_1 (q 8) (q 13) (q 2) (q 7) (f 8) (f 13) (f 2) (f 7)) p
+    ∷ celled (q 2) (q 7) (q 8) (q 13) (z 10) _ (f 2) (f 7) (f 8) (f 13) (g 10) (row_2 (q 8) (q 13) (q 2) (q 7) (f 8) (f 13) (f 2) (f 7)) p
+    ∷ celled (q 7) (q 8) (q 13) (q 2) (z 11) _ (f 7) (f 8) (f 13) (f 2) (g 11) (row_3 (q 8) (q 13) (q 2) (q 7) (f 8) (f 13) (f 2) (f 7)) p
+    ∷ celled (q 12) (q 1) (q 6) (q 11) (z 12) _ (f 12) (f 1) (f 6) (f 11) (g 12) (row_0 (q 12) (q 1) (q 6) (q 11) (f 12) (f 1) (f 6) (f 11)) p
+    ∷ celled (q 1) (q 6) (q 11) (q 12) (z 13) _ (f 1) (f 6) (f 11) (f 12) (g 13) (row_1 (q 12) (q 1) (q 6) (q 11) (f 12) (f 1) (f 6) (f 11)) p
+    ∷ celled (q 6) (q 11) (q 12) (q 1) (z 14) _ (f 6) (f 11) (f 12) (f 1) (g 14) (row_2 (q 12) (q 1) (q 6) (q 11) (f 12) (f 1) (f 6) (f 11)) p
+    ∷ celled (q 11) (q 12) (q 1) (q 6) (z 15) _ (f 11) (f 12) (f 1) (f 6) (g 15) (row_3 (q 12) (q 1) (q 6) (q 11) (f 12) (f 1) (f 6) (f 11)) p ∷ [])
+
+pub round_is : (n state key o t k : List ℕ) → HasNibbles n state → IsState key → k ≡ map key_nibbles key → o ≡ map once n → t ≡ map twice n
+    → HasNibbles (round_lanes o t k) (round state key)
+round_is n state key o t k h hk ek eo et = record {
+  sixteen_octets = round_state state key hk;
+  in_nibbles = round_nibbles n state key o t k h hk ek eo et;
+}
+
+pub key_nibbles_is : (key x kn : List ℕ) → length key ≡ 16 → x ≡ zip2 bit_xor key (replicate 16 0x63) → kn ≡ map nibbles x → kn ≡ map key_nibbles key
+key_nibbles_is key x kn long ex e = e ∙ ap (map nibbles) (ex ∙ zip2_splat bit_xor key 16 0x63 long) ∙ map-map nibbles without key
+
+each_at : (x : List ℕ) → Each1 (Fits w8) x → (i : ℕ) → slice_index x i < 256
+each_at [] h i = omega arith
+each_at (v ∷ x) h zero = h.0.fits
+each_at (v ∷ x) h (suc i) = each_at x h.1 i
+
+pub keyed_is : (part key n : List ℕ) → length part ≡ 16 → ((i : ℕ) → slice_index part i < 256) → IsOctets key → n ≡ map nibbles (zip2 bit_xor part key) → HasNibbles n (add_round_key part key)
+keyed_is part key n hp fp hk e = record {
+  sixteen_octets = record { sixteen = refl; octets = map_octets (λ i. bit_xor (slice_index part i) (slice_index key i)) (range_with_len 0 16) (λ i. xor_of_8 _ _ (fp i) (each_at key hk.1 i)) };
+  in_nibbles = e ∙ ap (map nibbles) (zipped bit_xor part key hp hk.0);
+}
 
 -- ---- the substitution
 
@@ -234,14 +310,20 @@ over_is g n at q a h e eq ea =
 pub last_is : (g f : ℕ → ℕ) (n at a b : List ℕ) → at ≡ map g n → a ≡ map (look INVERSE) at → b ≡ map f n → zip2 bit_xor a b ≡ map (λ v. bit_xor (look INVERSE (g v)) (f v)) n
 last_is g f n at a b e ea eb = zip2_of_maps bit_xor (λ v. look INVERSE (g v)) f n (looked INVERSE g n at a e ea) eb
 
-pub composed : (f g : ℕ → ℕ) (x n r : List ℕ) → n ≡ map g x → r ≡ map f n → r ≡ map (λ v. f (g v)) x
-composed f g x n r en er = er ∙ ap (map f) en ∙ map-map f g x
+-- two look-ups at the nibbles whose inverses make the inverse
+pub pair_is : (one_table other_table n s t a b : List ℕ) → s ≡ map last_first n → t ≡ map last_second n → a ≡ map (look one_table) s → b ≡ map (look other_table) t
+    → zip2 bit_xor a b ≡ map (λ v. bit_xor (look one_table (last_first v)) (look other_table (last_second v))) n
+pair_is one_table other_table n s t a b es et ea eb =
+    zip2_of_maps bit_xor (λ v. look one_table (last_first v)) (λ v. look other_table (last_second v)) n (looked one_table last_first n s a es ea) (looked other_table last_second n t b et eb)
 
-pub sub_is : (x s t a b : List ℕ) → IsOctets x → s ≡ map (λ v. last_first (nibbles v)) x → t ≡ map (λ v. last_second (nibbles v)) x
-    → a ≡ map (look FIRST) s → b ≡ map (look SECOND) t → zip2 bit_xor (zip2 bit_xor a b) (replicate 16 0x63) ≡ map sub_byte x
-sub_is x s t a b h es et ea eb =
-    let f : ℕ → ℕ = λ v. look FIRST (last_first (nibbles v)) in
-    let g : ℕ → ℕ = λ v. look SECOND (last_second (nibbles v)) in
-    let e : zip2 bit_xor a b ≡ map (λ v. bit_xor (f v) (g v)) x =
-    zip2_of_maps bit_xor f g x (looked FIRST (λ v. last_first (nibbles v)) x s a es ea) (looked SECOND (λ v. last_second (nibbles v)) x t b et eb) in
-    splatted bit_xor (λ v. bit_xor (f v) (g v)) x 0x63 _ h.0 e ∙ map_sub x h.1
+pub substituted_lanes_are : (n s t a b : List ℕ) → IsOctets n → s ≡ map last_first n → t ≡ map last_second n → a ≡ map (look FIRST) s → b ≡ map (look SECOND) t
+    → zip2 bit_xor (zip2 bit_xor a b) (replicate 16 0x63) ≡ map substituted n
+substituted_lanes_are n s t a b h es et ea eb =
+    splatted bit_xor (λ v. bit_xor (look FIRST (last_first v)) (look SECOND (last_second v))) n 0x63 _ h.0 (pair_is FIRST SECOND n s t a b es et ea eb)
+
+pub map_sub : (x : List ℕ) → Each1 (Fits w8) x → map (λ v. substituted (nibbles v)) x ≡ map sub_byte x
+map_sub [] h = refl
+map_sub (v ∷ x) h = λ p. substituted_is v h.0.fits p ∷ map_sub x h.1 p
+
+pub sub_bytes_is : (x n r : List ℕ) → IsOctets x → n ≡ map nibbles x → r ≡ map substituted n → r ≡ map sub_byte x
+sub_bytes_is x n r h en er = er ∙ ap (map substituted) en ∙ map-map substituted nibbles x ∙ map_sub x h.1

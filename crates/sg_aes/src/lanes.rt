@@ -1,13 +1,26 @@
 // The steps of a round on the 16 octets of a state at a time, with no look-up at a place in memory. An
 // octet is two nibbles i and k, for k + z * i, where z is a root of z^2 = 2 z + 2 over the field of 16
-// elements; its inverse comes of look-ups of nibbles in vectors of 16 octets.
+// elements; its inverse comes of look-ups of nibbles in vectors of 16 octets. Between rounds a state stays
+// in nibbles, since they are linear over GF(2), as the columns' step and the key's addition are.
 
-ghost use Rattle.std.specs.Prelude.{◌≡◌, map};
+ghost use Rattle.std.specs.Prelude.{◌≡◌, ℕ, List, map};
 ghost use Rattle.std.specs.Simd.Lanes.{Each1};
-ghost use Rattle.sg_aes.specs.Field.{sub_byte, times_x};
+ghost use Rattle.sg_aes.specs.Field.{sub_byte};
 ghost use Rattle.sg_aes.specs.State.{round, last_round, add_round_key};
 ghost use Rattle.sg_aes.specs.KeyExpansion.{sub_word};
-ghost use Rattle.sg_aes.specs.Lanes.{IsPlace, look, nibbles, last_first, last_second};
+ghost use Rattle.sg_aes.specs.Lanes.{
+  HasNibbles,
+  IsPlace,
+  IsState,
+  key_nibbles,
+  last_first,
+  last_second,
+  look,
+  nibbles,
+  once,
+  substituted,
+  twice,
+};
 
 use std::simd::prelude::*;
 
@@ -34,6 +47,23 @@ const FIRST: [u8; 16] = [
 
 const SECOND: [u8; 16] = [
     0x00, 0x81, 0x99, 0x76, 0x0a, 0xfd, 0xef, 0x7c, 0x64, 0x18, 0x12, 0x93, 0xe5, 0xf7, 0x8b, 0x6e,
+];
+
+// The nibbles of what those two add, and of twice that.
+const ONCE_FIRST: [u8; 16] = [
+    0x00, 0x43, 0x11, 0x31, 0x9f, 0xed, 0x20, 0xae, 0xfc, 0x52, 0xcd, 0x8e, 0xbf, 0x72, 0xdc, 0x63,
+];
+
+const ONCE_SECOND: [u8; 16] = [
+    0x00, 0xd9, 0xb0, 0x98, 0xe4, 0xa5, 0x28, 0x7c, 0x15, 0x69, 0x8d, 0x54, 0xcc, 0x41, 0x3d, 0xf1,
+];
+
+const TWICE_FIRST: [u8; 16] = [
+    0x00, 0x28, 0x31, 0x1d, 0xe2, 0xd7, 0x2c, 0xff, 0xe6, 0x19, 0xfb, 0xd3, 0xce, 0x35, 0xca, 0x04,
+];
+
+const TWICE_SECOND: [u8; 16] = [
+    0x00, 0x68, 0xb8, 0x0e, 0x6a, 0x0c, 0xb6, 0x64, 0xb4, 0xd0, 0xba, 0xd2, 0xdc, 0x66, 0x02, 0xde,
 ];
 
 // Looks each place up in a table of 16 octets; 128 and more give 0.
@@ -72,57 +102,78 @@ fn last_nibbles(n: u8x16) -> (u8x16, u8x16)
     (over_p ^ j, over_q ^ i)
 }
 
-// Each octet substituted.
+// Each octet substituted, from its nibbles.
 #[inline(always)]
-fn substituted(x: u8x16) -> u8x16
-    ensures { result ≡ map sub_byte x }
+fn substituted(n: u8x16) -> u8x16
+    ensures { result ≡ map substituted n }
 {
-    let n = nibbles(x);
     let (s, t) = last_nibbles(n);
     let first = look(FIRST, s);
     let second = look(SECOND, t);
     first ^ second ^ u8x16::splat(0x63)
 }
 
-// Each octet times x.
+// Of each octet the nibbles of what it is substituted by and of twice that, but for the constants that the
+// affine map adds: in a column they come to one constant at each octet, which the round key's nibbles have.
 #[inline(always)]
-fn times_x(t: u8x16) -> u8x16
-    ensures { result ≡ map times_x t }
+fn next_nibbles(n: u8x16) -> (u8x16, u8x16)
+    ensures once { result.0 ≡ map once n }
+    ensures twice { result.1 ≡ map twice n }
 {
-    let carried = t.simd_ge(u8x16::splat(128));
-    (t + t) ^ carried.select(u8x16::splat(0x1b), u8x16::splat(0))
+    let (s, t) = last_nibbles(n);
+    let first = look(ONCE_FIRST, s);
+    let second = look(ONCE_SECOND, t);
+    let twice_first = look(TWICE_FIRST, s);
+    let twice_second = look(TWICE_SECOND, t);
+    (first ^ second, twice_first ^ twice_second)
 }
 
-/// One round under a round key.
+/// The nibbles of a round key, as `round` takes them.
 #[inline(always)]
-pub(crate) fn round(state: u8x16, key: u8x16) -> u8x16
-    ensures { result ≡ round state key }
+pub(crate) fn key_nibbles(key: u8x16) -> u8x16
+    ensures { result ≡ map key_nibbles key }
 {
-    let s = substituted(state);
-    let a = s.swizzle([0, 5, 10, 15, 4, 9, 14, 3, 8, 13, 2, 7, 12, 1, 6, 11]);
-    let b = s.swizzle([5, 10, 15, 0, 9, 14, 3, 4, 13, 2, 7, 8, 1, 6, 11, 12]);
-    let t = a ^ b;
-    let c = t.swizzle([2, 3, 0, 1, 6, 7, 4, 5, 10, 11, 8, 9, 14, 15, 12, 13]);
-    let doubled = times_x(t);
-    doubled ^ b ^ c ^ key
+    nibbles(key ^ u8x16::splat(0x63))
 }
 
-/// The last round under a round key.
+/// One round on a state's nibbles.
 #[inline(always)]
-pub(crate) fn last_round(state: u8x16, key: u8x16) -> u8x16
-    ensures { result ≡ last_round state key }
+pub(crate) fn round(n: u8x16, key: u8x16) -> u8x16
+    ensures { (state round_key : List ℕ) → HasNibbles n state → IsState round_key
+        → key ≡ map key_nibbles round_key → HasNibbles result (round state round_key) }
 {
-    let s = substituted(state);
+    let (once, twice) = next_nibbles(n);
+    let a = twice.swizzle([0, 5, 10, 15, 4, 9, 14, 3, 8, 13, 2, 7, 12, 1, 6, 11]);
+    let b = once.swizzle([5, 10, 15, 0, 9, 14, 3, 4, 13, 2, 7, 8, 1, 6, 11, 12]);
+    let d = once.swizzle([15, 0, 5, 10, 3, 4, 9, 14, 7, 8, 13, 2, 11, 12, 1, 6]);
+    let front = a ^ b;
+    let next = front.swizzle([1, 2, 3, 0, 5, 6, 7, 4, 9, 10, 11, 8, 13, 14, 15, 12]);
+    (front ^ next) ^ (d ^ key)
+}
+
+/// The last round on a state's nibbles; what it makes is no longer in nibbles.
+#[inline(always)]
+pub(crate) fn last_round(n: u8x16, key: u8x16) -> u8x16
+    ensures { (state : List ℕ) → HasNibbles n state → result ≡ last_round state key }
+{
+    let s = substituted(n);
     let turned = s.swizzle([0, 5, 10, 15, 4, 9, 14, 3, 8, 13, 2, 7, 12, 1, 6, 11]);
     turned ^ key
 }
 
-/// A block with the first round key added.
+/// The nibbles of a block with the first round key added.
 #[inline(always)]
 pub(crate) fn keyed(part: &[u8; 16], key: u8x16) -> u8x16
-    ensures { result ≡ add_round_key part.now key }
+    ensures { HasNibbles result (add_round_key part.now key) }
 {
-    u8x16::from_array(*part) ^ key
+    nibbles(u8x16::from_array(*part) ^ key)
+}
+
+// Each octet substituted.
+fn sub_bytes(x: u8x16) -> u8x16
+    ensures { result ≡ map sub_byte x }
+{
+    substituted(nibbles(x))
 }
 
 /// Each octet of a word substituted.
@@ -131,6 +182,6 @@ pub(crate) fn sub_word(word: [u8; 4]) -> [u8; 4]
 {
     let [a, b, c, d] = word;
     let x = u8x16::from_array([a, b, c, d, 0, 0, 0, 0, 0, 0, 0, 0, 0, 0, 0, 0]);
-    let s = substituted(x).to_array();
+    let s = sub_bytes(x).to_array();
     [s[0], s[1], s[2], s[3]]
 }

@@ -5,7 +5,7 @@ ghost use Rattle.sg_aes.specs.Cipher.{aes_encrypt};
 ghost use Rattle.sg_aes.specs.Schedule.{key_of, IsKeyLength, IsExpanded};
 
 use crate::keys::{Words, expand, round_key};
-use crate::lanes::{keyed, last_round, round};
+use crate::lanes::{key_nibbles, keyed, last_round, round};
 use std::marker::Model;
 
 // The number of rounds under a key of so many words: 10, 12 or 14.
@@ -53,7 +53,7 @@ impl Schedule {
         let last = round_count(self.key_words);
         let mut state = keyed(part, round_key(&self.words, 0));
         'rounds: for r in 1..last {
-            state = round(state, round_key(&self.words, r));
+            state = round(state, key_nibbles(round_key(&self.words, r)));
         }
         let encrypted = last_round(state, round_key(&self.words, last));
         *part = encrypted.to_array();
@@ -70,7 +70,7 @@ impl Schedule {
         let mut c = keyed(&parts[2], first);
         let mut d = keyed(&parts[3], first);
         'rounds: for r in 1..last {
-            let key = round_key(&self.words, r);
+            let key = key_nibbles(round_key(&self.words, r));
             a = round(a, key);
             b = round(b, key);
             c = round(c, key);
