@@ -6,7 +6,8 @@ ghost use Rattle.sg_gateway.specs.Generations.{keys_from, owner_at, sessions_fro
 ghost use Rattle.sg_gateway.specs.Plain.{session_by_hand, sessions_by_hand};
 ghost use Rattle.sg_gateway.specs.Signals.{medium_by_hand};
 
-use sg_base::{Address, CallId, Kind, MasterKey, NoMemory, Octets, Suite};
+use crate::suites::is_raw;
+use sg_base::{Address, CallId, Kind, MasterKey, NoMemory, Octets};
 use sg_session::plain::{InstalledKey, PlainKey, PlainSession};
 use sg_session::{Admit, Direction, Name, Owner};
 use std::alloc::Global;
@@ -189,15 +190,6 @@ impl Hand {
             self.secure,
             self.plain,
         ))
-    }
-}
-
-fn is_raw(suite: Suite) -> bool
-    ensures { result ≡ is_raw suite }
-{
-    match suite {
-        Suite::Raw80 => true,
-        _other => false,
     }
 }
 

@@ -7,6 +7,8 @@ mod hand;
 mod laws;
 mod plain_call;
 mod plain_table;
+mod ports;
+mod suites;
 #[cfg(test)]
 mod tests;
 
@@ -18,3 +20,5 @@ pub use laws::{
 };
 pub use plain_call::{Passage, PlainCall};
 pub use plain_table::PlainTable;
+pub use ports::{is_same_ip, leg_of, next_port, port_at};
+pub use suites::is_raw;
