@@ -14,16 +14,16 @@ use std::alloc::Global;
 use std::marker::Model;
 
 /// How many RTP packets a master key serves: 2^48 (RFC 3711, 9.2).
-const RTP_LIFE: u64 = 281474976710656;
+pub const RTP_LIFE: u64 = 281474976710656;
 
 /// How many SRTCP packets a master key serves: 2^31 (RFC 3711, 9.2).
-const RTCP_LIFE: u64 = 2147483648;
+pub const RTCP_LIFE: u64 = 2147483648;
 
 /// The octets of an SRTCP tag in every suite (RFC 4568, 6.2).
 const RTCP_TAG: usize = 10;
 
 /// The window of a sealing session, in packets.
-const SEALING_WINDOW: u16 = 1024;
+pub const SEALING_WINDOW: u16 = 1024;
 
 /// What a line says of a call that is keyed by hand, seen as the definition's record.
 #[derive(Drop)]

@@ -18,26 +18,15 @@ ghost use Rattle.sg_table.specs.Standing.{EachStands, LegStandsFor};
 
 use crate::leg::{Leg, MediaSide};
 use arrayvec::ArrayVec;
-use sg_base::{
-    Address, CallId, CipherKey, HalfKeys, Kind, MasterKey, NoMemory, SessionKeys,
-};
-use sg_gateway::{is_raw, leg_of, next_port, port_at};
+use sg_base::{Address, CallId, CipherKey, HalfKeys, Kind, MasterKey, NoMemory, SessionKeys};
+use sg_gateway::{RTCP_LIFE, RTP_LIFE, SEALING_WINDOW, is_raw, leg_of, next_port, port_at};
 use sg_keys::{KeySet, LiveKey, SessionSpec};
 use sg_media::{OpenSide, SealSide};
 use sg_session::{Admit, Direction};
 use std::alloc::Global;
 
-/// How many RTP packets a master key serves: 2^48 (RFC 3711, 9.2).
-const RTP_LIFE: u64 = 281474976710656;
-
-/// How many SRTCP packets a master key serves: 2^31 (RFC 3711, 9.2).
-const RTCP_LIFE: u64 = 2147483648;
-
 /// The octets of an SRTCP tag in every suite (RFC 4568, 6.2).
 const RTCP_TAG: u8 = 10;
-
-/// The window of a sealing session, in packets.
-const SEALING_WINDOW: u16 = 1024;
 
 /// The one medium of a call that is keyed by hand.
 const MEDIUM: u8 = 0;
