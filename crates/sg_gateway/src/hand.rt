@@ -6,23 +6,24 @@ ghost use Rattle.sg_gateway.specs.Generations.{keys_from, owner_at, sessions_fro
 ghost use Rattle.sg_gateway.specs.Plain.{session_by_hand, sessions_by_hand};
 ghost use Rattle.sg_gateway.specs.Signals.{medium_by_hand};
 
-use sg_base::{Address, CallId, Kind, MasterKey, NoMemory, Octets, Suite};
+use crate::suites::is_raw;
+use sg_base::{Address, CallId, Kind, MasterKey, NoMemory, Octets};
 use sg_session::plain::{InstalledKey, PlainKey, PlainSession};
 use sg_session::{Admit, Direction, Name, Owner};
 use std::alloc::Global;
 use std::marker::Model;
 
 /// How many RTP packets a master key serves: 2^48 (RFC 3711, 9.2).
-const RTP_LIFE: u64 = 281474976710656;
+pub const RTP_LIFE: u64 = 281474976710656;
 
 /// How many SRTCP packets a master key serves: 2^31 (RFC 3711, 9.2).
-const RTCP_LIFE: u64 = 2147483648;
+pub const RTCP_LIFE: u64 = 2147483648;
 
 /// The octets of an SRTCP tag in every suite (RFC 4568, 6.2).
 const RTCP_TAG: usize = 10;
 
 /// The window of a sealing session, in packets.
-const SEALING_WINDOW: u16 = 1024;
+pub const SEALING_WINDOW: u16 = 1024;
 
 /// What a line says of a call that is keyed by hand, seen as the definition's record.
 #[derive(Drop)]
@@ -189,15 +190,6 @@ impl Hand {
             self.secure,
             self.plain,
         ))
-    }
-}
-
-fn is_raw(suite: Suite) -> bool
-    ensures { result ≡ is_raw suite }
-{
-    match suite {
-        Suite::Raw80 => true,
-        _other => false,
     }
 }
 

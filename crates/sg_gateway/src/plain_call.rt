@@ -4,15 +4,16 @@ ghost use Rattle.std.specs.Prelude.{◌≡◌, ◌<◌, ◌≤◌, ◌==◌, [],
 ghost use Rattle.std.specs.List.{AllByRecursion};
 ghost use Rattle.sg_session.specs.OneSession.{after};
 ghost use Rattle.sg_gateway.specs.Batch as batch;
-ghost use Rattle.sg_gateway.specs.Datagrams.{arrived_in, same_ip};
+ghost use Rattle.sg_gateway.specs.Datagrams.{arrived_in};
 ghost use Rattle.sg_gateway.specs.Plain.{HaveOwnPorts, HasNextPorts, place_of, taken_from, sent_by};
 ghost use Rattle.sg_gateway.specs.Passed.{IsPassed};
 ghost use Rattle.sg_gateway.specs.Generations.{sessions_from};
-ghost use Rattle.sg_gateway.specs.Ports.{leg_of, other_direction, port_at, next_port, address_out, has_port};
+ghost use Rattle.sg_gateway.specs.Ports.{leg_of, other_direction, port_at, address_out, has_port};
 ghost use Rattle.sg_gateway.specs.Signals.{medium_by_hand};
 
 use crate::hand::Hand;
-use sg_base::{Address, CallId, DropCause, Kind, NoMemory, Octets};
+use crate::ports::{is_same_ip, leg_of, next_port, port_at};
+use sg_base::{Address, CallId, DropCause, NoMemory, Octets};
 use sg_script::Outcome;
 use sg_session::Direction;
 use sg_session::plain::PlainSession;
@@ -232,12 +233,6 @@ fn take(
     }
 }
 
-fn is_same_ip(a: Address, b: Address) -> bool
-    ensures { result ≡ same_ip a b }
-{
-    a.ip == b.ip
-}
-
 /// The port at which a session's datagrams come.
 fn port_in(slot: u8, session: &PlainSession) -> u16
     ensures { result ≡ place_of slot session.now }
@@ -280,36 +275,4 @@ fn address_out(session: &PlainSession) -> Address
         Direction::Sealing => session.secure(),
     };
     next_port(name.kind, rtp)
-}
-
-/// A peer's RTCP port is the one after its RTP port.
-fn next_port(kind: Kind, rtp: Address) -> Address
-    requires { kind ≡ Kind.Rtcp → rtp.port < 65535 }
-    ensures { result ≡ next_port kind rtp }
-{
-    let mut address = rtp;
-    match kind {
-        Kind::Rtp => {}
-        Kind::Rtcp => address.port += 1,
-    }
-    address
-}
-
-fn port_at(slot: u8, medium: u8, leg: u8) -> u16
-    requires { leg ≤ 3 }
-    ensures { result ≡ port_at slot medium leg }
-{
-    20000 + 16 * u16::from(slot) + 4 * u16::from(medium) + u16::from(leg)
-}
-
-fn leg_of(direction: Direction, kind: Kind) -> u8
-    ensures value { result ≡ leg_of direction kind }
-    ensures most { result ≤ 3 }
-{
-    match (direction, kind) {
-        (Direction::Opening, Kind::Rtp) => 0,
-        (Direction::Opening, Kind::Rtcp) => 1,
-        (Direction::Sealing, Kind::Rtp) => 2,
-        (Direction::Sealing, Kind::Rtcp) => 3,
-    }
 }

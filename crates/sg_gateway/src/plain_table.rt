@@ -20,7 +20,7 @@ use std::alloc::Global;
 use std::marker::Model;
 
 /// A table has room for so many calls.
-const CALLS_MOST: usize = 256;
+pub const CALLS_MOST: usize = 256;
 
 /// A world, seen as the definition's record. Calls are only made, so that the i-th one has slot i and is the
 /// i-th that was made.

@@ -7,12 +7,12 @@ ghost use Rattle.sg_session.specs.Session.{Session};
 ghost use Rattle.sg_session.specs.declared.names.Direction.TheVariants as direction;
 ghost use Rattle.sg_gateway.specs.Plain.{taken_towards, taken_from, sent_by};
 ghost use Rattle.sg_base.specs.declared.addresses.Address.{Address};
-ghost use Rattle.sg_gateway.specs.Datagrams.{same_ip};
 ghost use Rattle.sg_table.specs.Handling.{kept_or};
 ghost use Rattle.sg_media.specs.Sides.{StandsFor};
 ghost use Rattle.sg_table.specs.Standing.{LegStandsFor};
 
 use sg_base::{Address, DropCause, PLAIN_MOST, PROTECTED_MOST, Pad};
+use sg_gateway::is_same_ip;
 use sg_media::{OpenSide, SealSide};
 
 /// What opens a session's datagrams, or what seals its packets.
@@ -87,10 +87,4 @@ fn seal(
         Ok(sealed) => Ok(sealed.pad),
         Err(refused) => Err(refused),
     }
-}
-
-fn is_same_ip(a: Address, b: Address) -> bool
-    ensures { result ≡ same_ip a b }
-{
-    a.ip == b.ip
 }

@@ -11,7 +11,6 @@ ghost use Rattle.sg_session.specs.Halves.{half_of};
 ghost use Rattle.sg_session.specs.Session.{Session};
 ghost use Rattle.sg_gateway.specs.Generations.{owner_at, sessions_from};
 ghost use Rattle.sg_gateway.specs.Plain.{session_by_hand, sessions_by_hand};
-ghost use Rattle.sg_gateway.specs.Ports.{leg_of, next_port, port_at};
 ghost use Rattle.sg_gateway.specs.Signals.{medium_by_hand};
 ghost use Rattle.sg_table.specs.Keying.{by_hand_of, CanBeMade};
 ghost use Rattle.sg_media.specs.Accepting.{IsMadeOf};
@@ -19,25 +18,18 @@ ghost use Rattle.sg_table.specs.Standing.{EachStands, LegStandsFor};
 
 use crate::leg::{Leg, MediaSide};
 use arrayvec::ArrayVec;
-use sg_base::{
-    Address, CallId, CipherKey, HalfKeys, Kind, MasterKey, NoMemory, SessionKeys, Suite,
-};
+use sg_base::{Address, CallId, CipherKey, HalfKeys, Kind, MasterKey, NoMemory, SessionKeys};
+use sg_gateway::{RTCP_LIFE, RTP_LIFE, SEALING_WINDOW, is_raw, leg_of, next_port, port_at};
 use sg_keys::{KeySet, LiveKey, SessionSpec};
 use sg_media::{OpenSide, SealSide};
 use sg_session::{Admit, Direction};
 use std::alloc::Global;
 
-/// How many RTP packets a master key serves: 2^48 (RFC 3711, 9.2).
-const RTP_LIFE: u64 = 281474976710656;
-
-/// How many SRTCP packets a master key serves: 2^31 (RFC 3711, 9.2).
-const RTCP_LIFE: u64 = 2147483648;
-
 /// The octets of an SRTCP tag in every suite (RFC 4568, 6.2).
 const RTCP_TAG: u8 = 10;
 
-/// The window of a sealing session, in packets.
-const SEALING_WINDOW: u16 = 1024;
+/// The one medium of a call that is keyed by hand.
+const MEDIUM: u8 = 0;
 
 /// What a line says of a call that is keyed by hand.
 #[derive(Drop)]
@@ -156,8 +148,8 @@ impl Manual {
     {
         let spec = self.spec(kind, number, keys, window);
         Leg {
-            port: port_at(slot, leg_of(Direction::Opening, kind)),
-            out: port_at(slot, leg_of(Direction::Sealing, kind)),
+            port: port_at(slot, MEDIUM, leg_of(Direction::Opening, kind)),
+            out: port_at(slot, MEDIUM, leg_of(Direction::Sealing, kind)),
             to: next_port(kind, self.plain),
             plain: self.plain,
             side: MediaSide::Opens(OpenSide::make(spec)),
@@ -173,8 +165,8 @@ impl Manual {
     {
         let spec = self.spec(kind, number, keys, SEALING_WINDOW);
         Leg {
-            port: port_at(slot, leg_of(Direction::Sealing, kind)),
-            out: port_at(slot, leg_of(Direction::Opening, kind)),
+            port: port_at(slot, MEDIUM, leg_of(Direction::Sealing, kind)),
+            out: port_at(slot, MEDIUM, leg_of(Direction::Opening, kind)),
             to: next_port(kind, self.secure),
             plain: self.plain,
             side: MediaSide::Seals(SealSide::make(spec)),
@@ -240,46 +232,5 @@ fn again(half: &HalfKeys) -> HalfKeys
         encrypt: CipherKey::new(half.encrypt.as_slice()),
         auth: half.auth,
         salt: half.salt,
-    }
-}
-
-fn is_raw(suite: Suite) -> bool
-    ensures { result ≡ is_raw suite }
-{
-    match suite {
-        Suite::Raw80 => true,
-        _other => false,
-    }
-}
-
-/// A peer's RTCP port is the one after its RTP port.
-fn next_port(kind: Kind, rtp: Address) -> Address
-    requires { kind ≡ Kind.Rtcp → rtp.port < 65535 }
-    ensures { result ≡ next_port kind rtp }
-{
-    let mut address = rtp;
-    match kind {
-        Kind::Rtp => {}
-        Kind::Rtcp => address.port += 1,
-    }
-    address
-}
-
-fn port_at(slot: u8, leg: u8) -> u16
-    requires { leg ≤ 3 }
-    ensures { result ≡ port_at slot 0 leg }
-{
-    20000 + 16 * u16::from(slot) + u16::from(leg)
-}
-
-fn leg_of(direction: Direction, kind: Kind) -> u8
-    ensures value { result ≡ leg_of direction kind }
-    ensures most { result ≤ 3 }
-{
-    match (direction, kind) {
-        (Direction::Opening, Kind::Rtp) => 0,
-        (Direction::Opening, Kind::Rtcp) => 1,
-        (Direction::Sealing, Kind::Rtp) => 2,
-        (Direction::Sealing, Kind::Rtcp) => 3,
     }
 }

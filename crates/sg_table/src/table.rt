@@ -18,12 +18,10 @@ use crate::call::Call;
 use crate::handled::{End, Handled};
 use crate::manual::{Derived, Manual, derived};
 use sg_base::{Address, CallId, DropCause, NoMemory, Pad, Refusal};
+use sg_gateway::CALLS_MOST;
 use sg_keys::{Ring, RingFault};
 use std::alloc::Global;
 use std::marker::Model;
-
-/// A table has room for so many calls.
-const CALLS_MOST: usize = 256;
 
 /// A table of calls, which are only made, with the ring of all keys that came into use, and a pad for the
 /// datagrams of lines.
