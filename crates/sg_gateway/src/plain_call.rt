@@ -13,7 +13,7 @@ ghost use Rattle.sg_gateway.specs.Signals.{medium_by_hand};
 
 use crate::hand::Hand;
 use sg_base::{Address, CallId, DropCause, Kind, NoMemory, Octets};
-use sg_script::Outcome;
+use sg_outcome::Outcome;
 use sg_session::Direction;
 use sg_session::plain::PlainSession;
 use std::alloc::Global;
