@@ -7,8 +7,8 @@ use Rattle.sg_base.specs.declared.addresses.Address.{Address}
 use Rattle.sg_base.specs.declared.addresses.CallId.{CallId}
 use Rattle.sg_base.specs.declared.faults.Refusal.{Refusal}
 use Rattle.sg_base.specs.declared.faults.Refusal.TheVariants.{State, CallKnown, TableFull}
-use Rattle.sg_script.specs.declared.outcomes.Outcome.{Outcome}
-use Rattle.sg_script.specs.declared.outcomes.Outcome.TheVariants.{Live}
+use Rattle.sg_outcome.specs.declared.outcomes.Outcome.{Outcome}
+use Rattle.sg_outcome.specs.declared.outcomes.Outcome.TheVariants.{Live}
 use Rattle.sg_session.specs.Opening.{Taken}
 use Rattle.sg_session.specs.Ring.{install}
 use Rattle.sg_session.specs.Sealing.{datagram_of}

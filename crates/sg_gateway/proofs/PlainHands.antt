@@ -7,8 +7,8 @@ use Rattle.std.specs.Option.{is_some}
 use Rattle.sg_base.specs.declared.addresses.Kind.TheVariants.{Rtp, Rtcp}
 use Rattle.sg_base.specs.declared.faults.Refusal.{Refusal}
 use Rattle.sg_base.specs.declared.faults.Refusal.TheVariants.{CallKnown, TableFull}
-use Rattle.sg_script.specs.declared.outcomes.Outcome.{Outcome}
-use Rattle.sg_script.specs.declared.outcomes.Outcome.TheVariants.{Made, Live, Refused}
+use Rattle.sg_outcome.specs.declared.outcomes.Outcome.{Outcome}
+use Rattle.sg_outcome.specs.declared.outcomes.Outcome.TheVariants.{Made, Live, Refused}
 use Rattle.sg_session.specs.Plain.{answer_in, ring_after}
 use Rattle.sg_session.specs.Ring.{Installed, install}
 use Rattle.sg_session.specs.Session.{Session}

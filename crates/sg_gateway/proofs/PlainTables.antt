@@ -5,8 +5,8 @@ use Rattle.std.proofs.lemmas.List.{append-nil, set-get_or, length-set}
 use Rattle.std.specs.List.{position}
 use Rattle.sg_base.specs.declared.addresses.Address.{Address}
 use Rattle.sg_base.specs.declared.faults.DropCause.TheVariants.{PortUnused}
-use Rattle.sg_script.specs.declared.outcomes.Outcome.{Outcome}
-use Rattle.sg_script.specs.declared.outcomes.Outcome.TheVariants.{Dropped}
+use Rattle.sg_outcome.specs.declared.outcomes.Outcome.{Outcome}
+use Rattle.sg_outcome.specs.declared.outcomes.Outcome.TheVariants.{Dropped}
 use Rattle.sg_gateway.proofs.Arrivals.{arrival}
 use Rattle.sg_gateway.proofs.InTurn.{after_is}
 use Rattle.sg_gateway.proofs.PlainCalls.{found_at, not_found_at, from_at, from_set, with_call_at}

@@ -5,8 +5,8 @@ use Rattle.std.specs.Option.{is_some}
 use Rattle.sg_base.specs.declared.addresses.CallId.{CallId}
 use Rattle.sg_base.specs.declared.faults.Refusal.{Refusal}
 use Rattle.sg_base.specs.declared.faults.Refusal.TheVariants.{TableFull, CallKnown, State}
-use Rattle.sg_script.specs.declared.outcomes.Outcome.{Outcome}
-use Rattle.sg_script.specs.declared.outcomes.Outcome.TheVariants.{Live}
+use Rattle.sg_outcome.specs.declared.outcomes.Outcome.{Outcome}
+use Rattle.sg_outcome.specs.declared.outcomes.Outcome.TheVariants.{Live}
 use Rattle.sg_session.specs.Ring.{Installed, install}
 use Rattle.sg_session.specs.Session.{Session}
 use Rattle.sg_session.proofs.Inversions.{after_ok_is, stop_if_is, ok_is}

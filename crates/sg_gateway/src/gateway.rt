@@ -6,7 +6,8 @@ ghost use Rattle.sg_gateway.specs.Runs.{world_after};
 ghost use Rattle.sg_gateway.specs.World.{World};
 
 use sg_base::NoMemory;
-use sg_script::{Line, Outcome};
+use sg_outcome::Outcome;
+use sg_script::Line;
 use std::alloc::Global;
 
 /// A gateway handles lines. It may keep less than the worlds that it stands for.

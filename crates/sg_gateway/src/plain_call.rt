@@ -14,7 +14,7 @@ ghost use Rattle.sg_gateway.specs.Signals.{medium_by_hand};
 use crate::hand::Hand;
 use crate::ports::{is_same_ip, leg_of, next_port, port_at};
 use sg_base::{Address, CallId, DropCause, NoMemory, Octets};
-use sg_script::Outcome;
+use sg_outcome::Outcome;
 use sg_session::Direction;
 use sg_session::plain::PlainSession;
 use std::alloc::Global;

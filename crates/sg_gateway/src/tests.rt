@@ -2,7 +2,8 @@
 
 use crate::{Gateway, PlainTable};
 use sg_base::{Address, CallId, MasterKey, Octets, Suite};
-use sg_script::{Line, Signal, print_outcome};
+use sg_outcome::print_outcome;
+use sg_script::{Line, Signal};
 use std::alloc::Global;
 use std::process::Abort;
 use std::test::Fail;

@@ -17,7 +17,7 @@ use Rattle.sg_script.specs.ScriptLines.{lines_of, IsWhole}
 use Rattle.sg_gateway.specs.Replayed.{Replayed, with_front, after_line, replayed_from, replayed}
 use Rattle.sg_run.specs.Run.{output, output_from, IsPrefixOf}
 use Rattle.sg_run.specs.Run.{text}
-use Rattle.sg_script.specs.OutcomeText.{outcome_line as text_of}
+use Rattle.sg_outcome.specs.OutcomeText.{outcome_line as text_of}
 use Rattle.std.proofs.lemmas.Bool.{cond-false}
 use Rattle.sg_script.specs.declared.lines.Line.{Line}
 use Rattle.sg_script.specs.declared.ReadLineFault.{ReadLineFault}

@@ -2,8 +2,8 @@
 use Rattle.std.specs.Prelude.{◌≡◌, ◌⊎◌, ◌≤◌, ◌+◌, ◌^◌, length, ℕ, List, [], ◌++◌, Option, Some, None}
 use Rattle.std.specs.List.{flat_map}
 use Rattle.sg_base.specs.declared.faults.ScriptFault.TheVariants.{Unended}
-use Rattle.sg_script.specs.declared.outcomes.Outcome.{Outcome}
-use Rattle.sg_script.specs.OutcomeText.{outcome_line}
+use Rattle.sg_outcome.specs.declared.outcomes.Outcome.{Outcome}
+use Rattle.sg_outcome.specs.OutcomeText.{outcome_line}
 use Rattle.sg_edge.specs.Told.{TookIn, Wrote, AtEnd}
 use Rattle.sg_session.specs.Reach.{Sealed, AreSealed}
 use Rattle.sg_gateway.specs.Arriving.{EachArrivingIsPutOut}

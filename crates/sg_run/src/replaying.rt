@@ -14,7 +14,8 @@ use crate::status::Status;
 use sg_base::{Failed, NoMemory, Octets, ScriptFault};
 use sg_edge::{Sink, Source, write_all};
 use sg_gateway::Gateway;
-use sg_script::{Line, Outcome, ReadLineFault, print_outcome, read_served_line};
+use sg_outcome::{Outcome, print_outcome};
+use sg_script::{Line, ReadLineFault, read_served_line};
 use std::alloc::Global;
 
 /// The octets of a script end within these.

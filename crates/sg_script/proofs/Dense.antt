@@ -13,7 +13,7 @@ use Rattle.sg_base.specs.Fields.{Lacks, four_text, address_text, IsFour, IsAddre
 use Rattle.sg_base.specs.Identities.{is_printing, is_identity}
 use Rattle.sg_base.specs.SuiteNames.{suite_name}
 use Rattle.sg_base.proofs.Pairs.{glyph, digit_above}
-use Rattle.sg_script.specs.OutcomeText.{hex_text}
+use Rattle.sg_script.specs.LineText.{hex_text}
 
 abbrev pub IsDense : List ℕ → Type 0
 IsDense text = AllByRecursion (λ x. 32 < x) text

@@ -27,8 +27,7 @@ use Rattle.sg_base.proofs.FourNumbers.{address_again, address_takes}
 use Rattle.sg_base.proofs.Pairs.{octets_again, octets_take}
 use Rattle.sg_base.proofs.SuiteLemmas.{suite_again, suite_takes, suite_lacks_colon}
 use Rattle.sg_script.specs.Fields.{◌>>=◌, or_fault, number_in, call_in, address_in, hex_in, octets_in, rollover_in, window_in, noise_in, key_in, identity_in}
-use Rattle.sg_script.specs.LineText.{key_text, rollover_text, noise_text, FitsKey, FitsNoise, FitsOctets}
-use Rattle.sg_script.specs.OutcomeText.{hex_text}
+use Rattle.sg_script.specs.LineText.{hex_text, key_text, rollover_text, noise_text, FitsKey, FitsNoise, FitsOctets}
 use Rattle.sg_script.proofs.Dense.{and_both}
 
 pub bind_ok : {A B : Type 0} (r : Result A ScriptFault) (f : A → Result B ScriptFault) (y : B) → (r >>= f) ≡ Ok y → (x : A) × (r ≡ Ok x) × (f x ≡ Ok y)

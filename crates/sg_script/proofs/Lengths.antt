@@ -21,8 +21,7 @@ use Rattle.sg_script.specs.declared.lines.Line.{Line}
 use Rattle.sg_script.specs.declared.lines.Line.TheVariants as lines
 use Rattle.sg_script.specs.declared.lines.Signal.{Signal}
 use Rattle.sg_script.specs.declared.lines.Signal.TheVariants.{Tick, Psk, Manual, OfferSecure, OfferSdes, OfferMikey, Answer, Reject, Bye}
-use Rattle.sg_script.specs.LineText.{key_text, noise_text, signal_fields, line_fields, line_text, FitsKey, FitsNoise, FitsSignal, FitsLine}
-use Rattle.sg_script.specs.OutcomeText.{hex_text}
+use Rattle.sg_script.specs.LineText.{hex_text, key_text, noise_text, signal_fields, line_fields, line_text, FitsKey, FitsNoise, FitsSignal, FitsLine}
 use Rattle.sg_script.proofs.Dense.{and_both}
 
 -- the octets of fields with one octet behind each

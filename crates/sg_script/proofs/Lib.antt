@@ -1,11 +1,8 @@
-pub mod CauseLaws
 pub mod Dense
 pub mod FaultLaws
 pub mod FieldLaws
 pub mod Joins
 pub mod Lengths
 pub mod LineLaws
-pub mod NameLaws
-pub mod OutcomeLaws
 pub mod ServedLaws
 pub mod Splits

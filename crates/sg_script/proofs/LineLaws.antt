@@ -24,8 +24,7 @@ use Rattle.sg_script.specs.declared.lines.Signal.TheVariants.{Tick, Psk, Manual,
 use Rattle.sg_script.specs.declared.faults.ReadLineFault.{ReadLineFault}
 use Rattle.sg_script.specs.Fields.{Gives, number_in, call_in, port_in, address_in, octets_in, rollover_in, window_in, noise_in, key_in, identity_in, is_raw}
 use Rattle.sg_script.specs.LineOf.{tick_in, reject_in, bye_in, datagram_in, psk_in, offer_secure_in, offer_sdes_in, offer_mikey_in, answer_in, manual_in, two_fields, four_fields, five_fields, six_fields, eight_fields, more_fields, said_by, fields_of, body_of, is_ended, header_in, line_of}
-use Rattle.sg_script.specs.LineText.{key_text, noise_text, signal_fields, line_fields, line_text, FitsKey, FitsNoise, FitsSignal, FitsBody, FitsLine}
-use Rattle.sg_script.specs.OutcomeText.{hex_text}
+use Rattle.sg_script.specs.LineText.{hex_text, key_text, noise_text, signal_fields, line_fields, line_text, FitsKey, FitsNoise, FitsSignal, FitsBody, FitsLine}
 use Rattle.sg_script.proofs.Dense.{IsDense, AreDense, dense_test, dense_append, dense_decimal, dense_address, dense_encoded, dense_hex, dense_suite, dense_identity, lack_spaces, and_both}
 use Rattle.sg_script.proofs.FieldLaws
 

@@ -13,8 +13,7 @@ use Rattle.sg_script.specs.declared.lines.Signal.TheVariants.{Tick, Psk, Manual,
 use Rattle.sg_script.specs.declared.faults.ReadLineFault.{ReadLineFault}
 use Rattle.sg_script.specs.Fields.{Gives, port_in, address_in, octets_in}
 use Rattle.sg_script.specs.LineOf.{datagram_in, four_fields, said_by, fields_of, body_of, is_ended, header_in, line_of}
-use Rattle.sg_script.specs.LineText.{line_fields, line_text, FitsLine}
-use Rattle.sg_script.specs.OutcomeText.{hex_text}
+use Rattle.sg_script.specs.LineText.{hex_text, line_fields, line_text, FitsLine}
 use Rattle.sg_script.specs.ScriptLines.{NoEnd, IsWhole}
 use Rattle.sg_script.specs.ServedLine.{is_served_port, served_datagram_in, second_by, later_by, served_line_of, IsServed}
 use Rattle.sg_script.proofs.FaultLaws.{Keeps, bound, either, kept, said, port, datagram, header_not, length_not, not_is, whole}

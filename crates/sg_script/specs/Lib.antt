@@ -2,8 +2,5 @@ pub mod Fields
 pub mod LineFaults
 pub mod LineOf
 pub mod LineText
-pub mod OutcomeFields
-pub mod OutcomeOf
-pub mod OutcomeText
 pub mod ScriptLines
 pub mod ServedLine

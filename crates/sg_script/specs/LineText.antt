@@ -14,7 +14,11 @@ use Rattle.sg_script.specs.declared.lines.Line.TheVariants as lines
 use Rattle.sg_script.specs.declared.lines.Signal.{Signal}
 use Rattle.sg_script.specs.declared.lines.Signal.TheVariants.{Tick, Psk, Manual, OfferSecure, OfferSdes, OfferMikey, Answer, Reject, Bye}
 use Rattle.sg_script.specs.Fields.{is_raw}
-use Rattle.sg_script.specs.OutcomeText.{hex_text}
+
+-- pairs of lower-case digits, or a dash for no octets
+abbrev pub hex_text : List ℕ → List ℕ
+hex_text [] = codes "-"
+hex_text (x ∷ xs) = encode_lower (x ∷ xs)
 
 abbrev pub key_text : Master → List ℕ
 key_text k = suite_name k.suite ++ codes ":" ++ hex_text (k.key ++ k.salt)

@@ -1,4 +1,5 @@
-//! The fields of script lines. A reader answers the first fault of its field.
+//! The fields of script lines, of which some are those of outcome lines too. A reader answers the first
+//! fault of its field.
 
 ghost use Rattle.std.specs.Prelude.{◌≡◌, ◌≤◌, length, IfOk};
 ghost use Rattle.std.specs.List.{list_all};
@@ -12,29 +13,33 @@ use sg_base::{
 };
 use std::alloc::Global;
 
-pub(crate) fn number(most: u128, text: &[u8]) -> Result<u128, ScriptFault>
+/// A number up to the most, without a leading zero.
+pub fn number(most: u128, text: &[u8]) -> Result<u128, ScriptFault>
     ensures value { result ≡ number_in most text.now }
     ensures most { IfOk result (λ n. n ≤ most) }
 {
     read_number(most, text).ok_or(ScriptFault::Number)
 }
 
+/// The number of a call.
 #[tactic(auto, unfolding(crate::specs::Fields::call_in))]
-pub(crate) fn call(text: &[u8]) -> Result<CallId, ScriptFault>
+pub fn call(text: &[u8]) -> Result<CallId, ScriptFault>
     ensures { result ≡ call_in text.now }
 {
     let number = number(4294967295, text)?;
     Ok(CallId(number as u32))
 }
 
-pub(crate) fn port(text: &[u8]) -> Result<u16, ScriptFault>
+/// A port.
+pub fn port(text: &[u8]) -> Result<u16, ScriptFault>
     ensures { result ≡ port_in text.now }
 {
     let number = number(65535, text)?;
     Ok(number as u16)
 }
 
-pub(crate) fn address(text: &[u8]) -> Result<Address, ScriptFault>
+/// Four numbers with points between them, a colon and a port.
+pub fn address(text: &[u8]) -> Result<Address, ScriptFault>
     ensures { result ≡ address_in text.now }
 {
     read_address(text).ok_or(ScriptFault::Number)
@@ -42,7 +47,7 @@ pub(crate) fn address(text: &[u8]) -> Result<Address, ScriptFault>
 
 /// Pairs of digits, one pair or more, or a hyphen for no octets.
 #[tactic(auto, unfolding(crate::specs::Fields::hex_in))]
-pub(crate) fn hex_octets(alloc: Global, text: &[u8]) -> Result<Octets, ReadLineFault>
+pub fn hex_octets(alloc: Global, text: &[u8]) -> Result<Octets, ReadLineFault>
     ensures { Gives result (hex_in text.now) }
 {
     if text == b"-".as_slice() {

@@ -1,4 +1,4 @@
-//! The laws of script lines and outcome lines, over the definitions alone.
+//! The laws of script lines, over the definitions alone.
 
 ghost use Rattle.std.specs.Prelude.{◌≡◌, ◌≢◌, ◌↔◌, ◌<◌, ◌≤◌, ◌++◌, ◌∷◌, [], ℕ, List, length, false, Ok, Err};
 ghost use Rattle.sg_base.specs.declared.ScriptFault.{ScriptFault};
@@ -8,12 +8,8 @@ ghost use Rattle.sg_script.specs.declared.lines.Line.{Line};
 ghost use Rattle.sg_script.specs.LineFaults.{IsFieldFault};
 ghost use Rattle.sg_script.specs.LineOf.{is_ended, line_of, said_by};
 ghost use Rattle.sg_script.specs.LineText.{FitsLine, line_text};
-ghost use Rattle.sg_script.specs.OutcomeFields.{FitsOutcome};
-ghost use Rattle.sg_script.specs.OutcomeOf.{outcome_of};
-ghost use Rattle.sg_script.specs.OutcomeText.{outcome_line};
 ghost use Rattle.sg_script.specs.ScriptLines.{IsWhole, NoEnd};
 ghost use Rattle.sg_script.specs.ServedLine.{IsServed, served_line_of};
-ghost use Rattle.sg_script.specs.declared.outcomes.Outcome.{Outcome};
 
 /// What is spelled so is read, and what is read is spelled so; no line that fits is too long.
 pub fn lines_have_one_spelling()
@@ -50,10 +46,4 @@ pub fn served_lines_are_framed()
     ensures too_long { (number : ℕ) (octets : List ℕ) → 70000 < length octets → served_line_of number octets ≡ Err Length }
     ensures stays { (number : ℕ) (octets : List ℕ) (more : List ℕ) (fault : ScriptFault) → NoEnd octets → served_line_of number octets ≡ Err fault → fault ≢ Unended
         → served_line_of number (octets ++ more) ≡ Err fault }
-{}
-
-/// What is spelled so is read, in lines of at most 70,000 octets, and what is read is spelled so.
-pub fn outcomes_have_one_spelling()
-    ensures again { (o : Outcome) → FitsOutcome o → length (outcome_line o) ≤ 70000 → outcome_of (outcome_line o) ≡ Ok o }
-    ensures takes { (octets : List ℕ) (o : Outcome) → outcome_of octets ≡ Ok o → (octets ≡ outcome_line o) × FitsOutcome o }
 {}

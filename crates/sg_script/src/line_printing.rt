@@ -3,10 +3,9 @@
 ghost use Rattle.std.specs.Prelude.{◌≡◌, ◌<◌, ◌∷◌, ◌++◌, [], map, length, decimal, IfOk};
 ghost use Rattle.std.specs.List.{join_with_byte};
 ghost use Rattle.sg_base.specs.Fields.{address_text};
-ghost use Rattle.sg_script.specs.LineText.{key_text, line_fields, line_text, noise_text, rollover_text, signal_fields};
-ghost use Rattle.sg_script.specs.OutcomeText.{hex_text};
+ghost use Rattle.sg_script.specs.LineText.{hex_text, key_text, line_fields, line_text, noise_text, rollover_text, signal_fields};
 
-use crate::printing::{push_address, push_hex};
+use crate::field_printing::{push_address, push_hex};
 use crate::{Line, Signal};
 use itoa::Buffer;
 use sg_base::{Address, CallId, MasterKey, NoMemory, Noise304, Octets};

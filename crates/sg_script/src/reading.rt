@@ -285,7 +285,7 @@ pub(crate) fn line_of_fields(alloc: Global, fields: &[&[u8]]) -> Result<Line, Re
 }
 
 /// What stands between single spaces.
-pub(crate) fn fields(alloc: Global, body: &[u8]) -> Result<Vec<&[u8]>, AllocError>
+pub fn fields(alloc: Global, body: &[u8]) -> Result<Vec<&[u8]>, AllocError>
     ensures { IfOk result (λ v. map (λ x. x.now) v.items ≡ fields_of body.now) }
 {
     body.split(|octet| *octet == b' ').collect(alloc)

@@ -2,8 +2,8 @@
 use Rattle.std.specs.Prelude.{◌≡◌, ℕ, List, [], ◌∷◌, Some, Result, Ok, Err}
 use Rattle.sg_base.specs.declared.addresses.Address.{Address}
 use Rattle.sg_base.specs.declared.faults.DropCause.{DropCause}
-use Rattle.sg_script.specs.declared.outcomes.Outcome.{Outcome}
-use Rattle.sg_script.specs.declared.outcomes.Outcome.TheVariants as told_as
+use Rattle.sg_outcome.specs.declared.outcomes.Outcome.{Outcome}
+use Rattle.sg_outcome.specs.declared.outcomes.Outcome.TheVariants as told_as
 use Rattle.sg_session.specs.Session.{Session}
 use Rattle.sg_gateway.specs.Batch as batch
 use Rattle.sg_gateway.specs.Datagrams.{Happening, arrived_in}

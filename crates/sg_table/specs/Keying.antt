@@ -4,8 +4,8 @@ use Rattle.std.specs.List.{list_any}
 use Rattle.sg_base.specs.declared.addresses.CallId.{CallId}
 use Rattle.sg_base.specs.declared.faults.Refusal.{Refusal}
 use Rattle.sg_base.specs.declared.faults.Refusal.TheVariants.{CallKnown, TableFull, KeyReused, RingFull}
-use Rattle.sg_script.specs.declared.outcomes.Outcome.{Outcome}
-use Rattle.sg_script.specs.declared.outcomes.Outcome.TheVariants.{Made, Live, Refused}
+use Rattle.sg_outcome.specs.declared.outcomes.Outcome.{Outcome}
+use Rattle.sg_outcome.specs.declared.outcomes.Outcome.TheVariants.{Made, Live, Refused}
 use Rattle.sg_keys.specs.declared.spec.SessionSpec.{SessionSpec}
 use Rattle.sg_keys.specs.declared.ring.RingFault.{RingFault}
 use Rattle.sg_keys.specs.declared.ring.RingFault.TheVariants as fault

@@ -1,6 +1,6 @@
 -- What a table tells of a line.
 use Rattle.std.specs.Prelude.{◌≡◌, List}
-use Rattle.sg_script.specs.declared.outcomes.Outcome.{Outcome}
+use Rattle.sg_outcome.specs.declared.outcomes.Outcome.{Outcome}
 use Rattle.sg_gateway.specs.Events.{outcomes_from}
 use Rattle.sg_gateway.specs.Runs.{world_after}
 use Rattle.sg_gateway.specs.Signals.{Answer}

@@ -16,7 +16,8 @@ use crate::manual::Manual;
 use crate::table::Table;
 use sg_base::{Address, CallId, NoMemory, Octets, PAD_MOST, Pad, Refusal};
 use sg_gateway::Gateway;
-use sg_script::{Line, Outcome, Signal};
+use sg_outcome::Outcome;
+use sg_script::{Line, Signal};
 use std::alloc::Global;
 
 impl Gateway for Table {

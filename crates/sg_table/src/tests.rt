@@ -3,7 +3,8 @@
 use crate::Table;
 use sg_base::{Address, CallId, MasterKey, Octets, Suite};
 use sg_gateway::PlainTable;
-use sg_script::{Line, Outcome, Signal, print_outcome};
+use sg_outcome::{Outcome, print_outcome};
+use sg_script::{Line, Signal};
 use std::alloc::Global;
 use std::process::Abort;
 use std::test::Fail;

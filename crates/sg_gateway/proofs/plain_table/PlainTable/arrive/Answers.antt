@@ -1,7 +1,7 @@
 use Rattle.std.proofs.Common.{◌∙◌, refl, sym, ap}
 use Rattle.std.specs.List.{position}
 use Rattle.sg_base.specs.declared.faults.DropCause.TheVariants.{PortUnused}
-use Rattle.sg_script.specs.declared.outcomes.Outcome.TheVariants.{Dropped}
+use Rattle.sg_outcome.specs.declared.outcomes.Outcome.TheVariants.{Dropped}
 use Rattle.sg_gateway.proofs.PlainTables.{happening_as, unused, kept, octets_stay, told_of, left_of, told_ok, left_ok}
 use Rattle.sg_gateway.specs.Ports.{has_port}
 use Rattle.sg_gateway.specs.contracts.plain_table.PlainTable.{the_view}

@@ -1,8 +1,8 @@
 use Rattle.std.proofs.Common.{◌≤◌, ◌∙◌, List, ◌∷◌, [], Some, refl, sym, ap, subst, length, arith}
 use Rattle.std.specs.List.{list_any}
 use Rattle.sg_base.specs.declared.faults.Refusal.TheVariants.{CallKnown, TableFull}
-use Rattle.sg_script.specs.declared.outcomes.Outcome.{Outcome}
-use Rattle.sg_script.specs.declared.outcomes.Outcome.TheVariants.{Made, Live, Refused}
+use Rattle.sg_outcome.specs.declared.outcomes.Outcome.{Outcome}
+use Rattle.sg_outcome.specs.declared.outcomes.Outcome.TheVariants.{Made, Live, Refused}
 use Rattle.sg_gateway.proofs.PlainTables.{if_ok_weaker, always_ok}
 use Rattle.sg_gateway.proofs.PlainHands.{known_answered, full_answered, answered_as, refused_at, made_at, pushed}
 use Rattle.sg_gateway.specs.Generations.{keys_from, sessions_from}

@@ -1,0 +1,3 @@
+pub mod CauseLaws
+pub mod NameLaws
+pub mod OutcomeLaws

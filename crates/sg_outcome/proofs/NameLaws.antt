@@ -1,0 +1,289 @@
+-- Names in outcome lines: each value has one.
+use Rattle.std.proofs.Common.{◌≡◌, ℕ, Bool, true, false, cond, List, [], ◌∷◌, Option, Some, refl, inl, inr}
+use Rattle.std.specs.Prelude.{◌⊎◌}
+use Rattle.std.specs.List.{find, list_all}
+use Rattle.std.specs.Str.{bytes_eq}
+use Rattle.std.proofs.lemmas.Slice.Eq.{bytes_eq-Decides}
+use Rattle.sg_base.specs.declared.Side.{Side}
+use Rattle.sg_base.specs.declared.Side.TheVariants.{Secure, Plain}
+use Rattle.sg_base.specs.declared.DropCause.{DropCause}
+use Rattle.sg_base.specs.declared.DropCause.TheVariants as drops
+use Rattle.sg_base.specs.declared.SdpFault.{SdpFault}
+use Rattle.sg_base.specs.declared.SdpFault.TheVariants as sdp
+use Rattle.sg_base.specs.declared.SdesFault.{SdesFault}
+use Rattle.sg_base.specs.declared.SdesFault.TheVariants as sdes
+use Rattle.sg_base.specs.declared.MikeyFault.{MikeyFault}
+use Rattle.sg_base.specs.declared.MikeyFault.TheVariants as mikey
+use Rattle.sg_base.specs.declared.PskFault.{PskFault}
+use Rattle.sg_base.specs.declared.PskFault.TheVariants as psk
+use Rattle.sg_base.specs.declared.CsFault.{CsFault}
+use Rattle.sg_base.specs.declared.CsFault.TheVariants as cs
+use Rattle.sg_base.specs.declared.Refusal.{Refusal}
+use Rattle.sg_base.specs.declared.Refusal.TheVariants as refusals
+use Rattle.sg_outcome.specs.declared.outcomes.Why.{Why}
+use Rattle.sg_outcome.specs.declared.outcomes.Why.TheVariants.{Bye, Rejected, Idle}
+use Rattle.sg_outcome.specs.OutcomeText.{side_name, why_name, drop_cause_name, sdp_fault_name, sdes_fault_name, mikey_fault_name, cs_fault_name}
+use Rattle.sg_outcome.specs.OutcomeFields.{psk_fault_name, refusal_name}
+use Rattle.sg_outcome.specs.OutcomeOf.{sides, side_at, whys, why_at, plain_drop_causes, plain_drop_cause_at, sdp_faults, sdp_fault_at, sdes_faults, sdes_fault_at, mikey_faults, mikey_fault_at, plain_psk_faults, plain_psk_fault_at, cs_faults, cs_fault_at, plain_refusals, plain_refusal_at}
+use Rattle.sg_base.proofs.SuiteLemmas.{find_passes}
+use Rattle.sg_script.proofs.Dense.{IsDense, dense_test, and_both}
+
+chosen : {A : Type 0} (b : Bool) (x y z : Option A) → cond b x y ≡ z → ((b ≡ true) × (x ≡ z)) ⊎ ((b ≡ false) × (y ≡ z))
+chosen true x y z e = inl (refl, e)
+chosen false x y z e = inr (refl, e)
+
+-- what is found in a list has what all of the list have
+pub find_holds : {A : Type 0} (p q : A → Bool) (xs : List A) (x : A) → find p xs ≡ Some x → list_all q xs ≡ true → q x ≡ true
+find_holds p q [] x e all = absurd cc
+find_holds p q (y ∷ ys) x e all =
+    let parts = and_both (q y) (list_all q ys) all in
+    elim (chosen (p y) (Some y) (find p ys) (Some x) e) [
+      | inl h ↦ let same : y ≡ x = cc in rw (← same) parts.0
+      | inr h ↦ find_holds p q ys x h.1 parts.1
+    ]
+
+pub side_again : (x : Side) → side_at (side_name x) ≡ Some x
+unfolding side_at
+side_again Secure = refl
+side_again Plain = refl
+
+pub side_takes : (t : List ℕ) (x : Side) → side_at t ≡ Some x → t ≡ side_name x
+unfolding side_at
+side_takes t x e = (bytes_eq-Decides t (side_name x)).0 (find_passes (λ x. bytes_eq t (side_name x)) sides x e)
+
+pub dense_side : (x : Side) → IsDense (side_name x)
+dense_side Secure = dense_test (side_name Secure) refl
+dense_side Plain = dense_test (side_name Plain) refl
+
+pub why_again : (x : Why) → why_at (why_name x) ≡ Some x
+unfolding why_at
+why_again Bye = refl
+why_again Rejected = refl
+why_again Idle = refl
+
+pub why_takes : (t : List ℕ) (x : Why) → why_at t ≡ Some x → t ≡ why_name x
+unfolding why_at
+why_takes t x e = (bytes_eq-Decides t (why_name x)).0 (find_passes (λ x. bytes_eq t (why_name x)) whys x e)
+
+pub dense_why : (x : Why) → IsDense (why_name x)
+dense_why Bye = dense_test (why_name Bye) refl
+dense_why Rejected = dense_test (why_name Rejected) refl
+dense_why Idle = dense_test (why_name Idle) refl
+
+pub sdp_fault_again : (x : SdpFault) → sdp_fault_at (sdp_fault_name x) ≡ Some x
+unfolding sdp_fault_at
+sdp_fault_again sdp.Order = refl
+sdp_fault_again sdp.Form = refl
+sdp_fault_again sdp.TooLong = refl
+sdp_fault_again sdp.TooManyMedia = refl
+sdp_fault_again sdp.Address = refl
+
+pub sdp_fault_takes : (t : List ℕ) (x : SdpFault) → sdp_fault_at t ≡ Some x → t ≡ sdp_fault_name x
+unfolding sdp_fault_at
+sdp_fault_takes t x e = (bytes_eq-Decides t (sdp_fault_name x)).0 (find_passes (λ x. bytes_eq t (sdp_fault_name x)) sdp_faults x e)
+
+pub dense_sdp_fault : (x : SdpFault) → IsDense (sdp_fault_name x)
+dense_sdp_fault sdp.Order = dense_test (sdp_fault_name sdp.Order) refl
+dense_sdp_fault sdp.Form = dense_test (sdp_fault_name sdp.Form) refl
+dense_sdp_fault sdp.TooLong = dense_test (sdp_fault_name sdp.TooLong) refl
+dense_sdp_fault sdp.TooManyMedia = dense_test (sdp_fault_name sdp.TooManyMedia) refl
+dense_sdp_fault sdp.Address = dense_test (sdp_fault_name sdp.Address) refl
+
+pub sdes_fault_again : (x : SdesFault) → sdes_fault_at (sdes_fault_name x) ≡ Some x
+unfolding sdes_fault_at
+sdes_fault_again sdes.NoLine = refl
+sdes_fault_again sdes.Tag = refl
+sdes_fault_again sdes.Suite = refl
+sdes_fault_again sdes.Key = refl
+sdes_fault_again sdes.Lifetime = refl
+sdes_fault_again sdes.MkiValue = refl
+sdes_fault_again sdes.Parameter = refl
+
+pub sdes_fault_takes : (t : List ℕ) (x : SdesFault) → sdes_fault_at t ≡ Some x → t ≡ sdes_fault_name x
+unfolding sdes_fault_at
+sdes_fault_takes t x e = (bytes_eq-Decides t (sdes_fault_name x)).0 (find_passes (λ x. bytes_eq t (sdes_fault_name x)) sdes_faults x e)
+
+pub dense_sdes_fault : (x : SdesFault) → IsDense (sdes_fault_name x)
+dense_sdes_fault sdes.NoLine = dense_test (sdes_fault_name sdes.NoLine) refl
+dense_sdes_fault sdes.Tag = dense_test (sdes_fault_name sdes.Tag) refl
+dense_sdes_fault sdes.Suite = dense_test (sdes_fault_name sdes.Suite) refl
+dense_sdes_fault sdes.Key = dense_test (sdes_fault_name sdes.Key) refl
+dense_sdes_fault sdes.Lifetime = dense_test (sdes_fault_name sdes.Lifetime) refl
+dense_sdes_fault sdes.MkiValue = dense_test (sdes_fault_name sdes.MkiValue) refl
+dense_sdes_fault sdes.Parameter = dense_test (sdes_fault_name sdes.Parameter) refl
+
+pub mikey_fault_again : (x : MikeyFault) → mikey_fault_at (mikey_fault_name x) ≡ Some x
+unfolding mikey_fault_at
+mikey_fault_again mikey.Cut = refl
+mikey_fault_again mikey.Version = refl
+mikey_fault_again mikey.DataType = refl
+mikey_fault_again mikey.Payload = refl
+mikey_fault_again mikey.Order = refl
+mikey_fault_again mikey.Value = refl
+mikey_fault_again mikey.Trailing = refl
+
+pub mikey_fault_takes : (t : List ℕ) (x : MikeyFault) → mikey_fault_at t ≡ Some x → t ≡ mikey_fault_name x
+unfolding mikey_fault_at
+mikey_fault_takes t x e = (bytes_eq-Decides t (mikey_fault_name x)).0 (find_passes (λ x. bytes_eq t (mikey_fault_name x)) mikey_faults x e)
+
+pub dense_mikey_fault : (x : MikeyFault) → IsDense (mikey_fault_name x)
+dense_mikey_fault mikey.Cut = dense_test (mikey_fault_name mikey.Cut) refl
+dense_mikey_fault mikey.Version = dense_test (mikey_fault_name mikey.Version) refl
+dense_mikey_fault mikey.DataType = dense_test (mikey_fault_name mikey.DataType) refl
+dense_mikey_fault mikey.Payload = dense_test (mikey_fault_name mikey.Payload) refl
+dense_mikey_fault mikey.Order = dense_test (mikey_fault_name mikey.Order) refl
+dense_mikey_fault mikey.Value = dense_test (mikey_fault_name mikey.Value) refl
+dense_mikey_fault mikey.Trailing = dense_test (mikey_fault_name mikey.Trailing) refl
+
+pub cs_fault_again : (x : CsFault) → cs_fault_at (cs_fault_name x) ≡ Some x
+unfolding cs_fault_at
+cs_fault_again cs.CsCount = refl
+cs_fault_again cs.PolicyMissing = refl
+cs_fault_again cs.PolicyValue = refl
+
+pub cs_fault_takes : (t : List ℕ) (x : CsFault) → cs_fault_at t ≡ Some x → t ≡ cs_fault_name x
+unfolding cs_fault_at
+cs_fault_takes t x e = (bytes_eq-Decides t (cs_fault_name x)).0 (find_passes (λ x. bytes_eq t (cs_fault_name x)) cs_faults x e)
+
+pub dense_cs_fault : (x : CsFault) → IsDense (cs_fault_name x)
+dense_cs_fault cs.CsCount = dense_test (cs_fault_name cs.CsCount) refl
+dense_cs_fault cs.PolicyMissing = dense_test (cs_fault_name cs.PolicyMissing) refl
+dense_cs_fault cs.PolicyValue = dense_test (cs_fault_name cs.PolicyValue) refl
+
+-- it has no numbers
+abbrev pub is_plain_drop_cause : DropCause → Bool
+is_plain_drop_cause (drops.KeySpent number count) = false
+is_plain_drop_cause other = true
+
+pub plain_drop_cause_again : (x : DropCause) → is_plain_drop_cause x ≡ true → plain_drop_cause_at (drop_cause_name x) ≡ Some x
+unfolding plain_drop_cause_at
+plain_drop_cause_again drops.Short e = refl
+plain_drop_cause_again drops.Version e = refl
+plain_drop_cause_again drops.CsrcCut e = refl
+plain_drop_cause_again drops.ExtensionCut e = refl
+plain_drop_cause_again drops.SsrcUnknown e = refl
+plain_drop_cause_again drops.MkiUnknown e = refl
+plain_drop_cause_again (drops.KeySpent number count) e = absurd cc
+plain_drop_cause_again drops.BeforeFirst e = refl
+plain_drop_cause_again drops.IndexSpent e = refl
+plain_drop_cause_again drops.Repeat e = refl
+plain_drop_cause_again drops.TooOld e = refl
+plain_drop_cause_again drops.BadTag e = refl
+plain_drop_cause_again drops.StreamsFull e = refl
+plain_drop_cause_again drops.RtcpIndexSpent e = refl
+plain_drop_cause_again drops.PortUnused e = refl
+plain_drop_cause_again drops.NotLive e = refl
+plain_drop_cause_again drops.TooLong e = refl
+plain_drop_cause_again drops.SourceUnknown e = refl
+
+pub plain_drop_cause_takes : (t : List ℕ) (x : DropCause) → plain_drop_cause_at t ≡ Some x → (t ≡ drop_cause_name x) × (is_plain_drop_cause x ≡ true)
+unfolding plain_drop_cause_at
+plain_drop_cause_takes t x e =
+    ((bytes_eq-Decides t (drop_cause_name x)).0 (find_passes (λ x. bytes_eq t (drop_cause_name x)) plain_drop_causes x e), find_holds (λ x. bytes_eq t (drop_cause_name x)) is_plain_drop_cause plain_drop_causes x e refl)
+
+pub dense_drop_cause : (x : DropCause) → IsDense (drop_cause_name x)
+dense_drop_cause drops.Short = dense_test (drop_cause_name drops.Short) refl
+dense_drop_cause drops.Version = dense_test (drop_cause_name drops.Version) refl
+dense_drop_cause drops.CsrcCut = dense_test (drop_cause_name drops.CsrcCut) refl
+dense_drop_cause drops.ExtensionCut = dense_test (drop_cause_name drops.ExtensionCut) refl
+dense_drop_cause drops.SsrcUnknown = dense_test (drop_cause_name drops.SsrcUnknown) refl
+dense_drop_cause drops.MkiUnknown = dense_test (drop_cause_name drops.MkiUnknown) refl
+dense_drop_cause (drops.KeySpent number count) = dense_test (drop_cause_name (drops.KeySpent number count)) refl
+dense_drop_cause drops.BeforeFirst = dense_test (drop_cause_name drops.BeforeFirst) refl
+dense_drop_cause drops.IndexSpent = dense_test (drop_cause_name drops.IndexSpent) refl
+dense_drop_cause drops.Repeat = dense_test (drop_cause_name drops.Repeat) refl
+dense_drop_cause drops.TooOld = dense_test (drop_cause_name drops.TooOld) refl
+dense_drop_cause drops.BadTag = dense_test (drop_cause_name drops.BadTag) refl
+dense_drop_cause drops.StreamsFull = dense_test (drop_cause_name drops.StreamsFull) refl
+dense_drop_cause drops.RtcpIndexSpent = dense_test (drop_cause_name drops.RtcpIndexSpent) refl
+dense_drop_cause drops.PortUnused = dense_test (drop_cause_name drops.PortUnused) refl
+dense_drop_cause drops.NotLive = dense_test (drop_cause_name drops.NotLive) refl
+dense_drop_cause drops.TooLong = dense_test (drop_cause_name drops.TooLong) refl
+dense_drop_cause drops.SourceUnknown = dense_test (drop_cause_name drops.SourceUnknown) refl
+
+-- it has no numbers
+abbrev pub is_plain_psk_fault : PskFault → Bool
+is_plain_psk_fault (psk.Skew stamp now) = false
+is_plain_psk_fault other = true
+
+pub plain_psk_fault_again : (x : PskFault) → is_plain_psk_fault x ≡ true → plain_psk_fault_at (psk_fault_name x) ≡ Some x
+unfolding plain_psk_fault_at
+plain_psk_fault_again psk.IdUnknown e = refl
+plain_psk_fault_again psk.BadMac e = refl
+plain_psk_fault_again (psk.Skew stamp now) e = absurd cc
+plain_psk_fault_again psk.Repeated e = refl
+plain_psk_fault_again psk.Algorithm e = refl
+plain_psk_fault_again psk.KeyType e = refl
+plain_psk_fault_again psk.CacheFull e = refl
+plain_psk_fault_again psk.OtherSession e = refl
+
+pub plain_psk_fault_takes : (t : List ℕ) (x : PskFault) → plain_psk_fault_at t ≡ Some x → (t ≡ psk_fault_name x) × (is_plain_psk_fault x ≡ true)
+unfolding plain_psk_fault_at
+plain_psk_fault_takes t x e =
+    ((bytes_eq-Decides t (psk_fault_name x)).0 (find_passes (λ x. bytes_eq t (psk_fault_name x)) plain_psk_faults x e), find_holds (λ x. bytes_eq t (psk_fault_name x)) is_plain_psk_fault plain_psk_faults x e refl)
+
+pub dense_psk_fault : (x : PskFault) → IsDense (psk_fault_name x)
+dense_psk_fault psk.IdUnknown = dense_test (psk_fault_name psk.IdUnknown) refl
+dense_psk_fault psk.BadMac = dense_test (psk_fault_name psk.BadMac) refl
+dense_psk_fault (psk.Skew stamp now) = dense_test (psk_fault_name (psk.Skew stamp now)) refl
+dense_psk_fault psk.Repeated = dense_test (psk_fault_name psk.Repeated) refl
+dense_psk_fault psk.Algorithm = dense_test (psk_fault_name psk.Algorithm) refl
+dense_psk_fault psk.KeyType = dense_test (psk_fault_name psk.KeyType) refl
+dense_psk_fault psk.CacheFull = dense_test (psk_fault_name psk.CacheFull) refl
+dense_psk_fault psk.OtherSession = dense_test (psk_fault_name psk.OtherSession) refl
+
+-- it has no numbers
+abbrev pub is_plain_refusal : Refusal → Bool
+is_plain_refusal (refusals.Sdp line fault) = false
+is_plain_refusal (refusals.Sdes medium fault) = false
+is_plain_refusal (refusals.Mikey medium offset fault) = false
+is_plain_refusal (refusals.Psk medium fault) = false
+is_plain_refusal (refusals.Cs medium fault) = false
+is_plain_refusal (refusals.KeyMgmt medium) = false
+is_plain_refusal (refusals.KeyReused number) = false
+is_plain_refusal (refusals.TickBack last) = false
+is_plain_refusal other = true
+
+pub plain_refusal_again : (x : Refusal) → is_plain_refusal x ≡ true → plain_refusal_at (refusal_name x) ≡ Some x
+unfolding plain_refusal_at
+plain_refusal_again (refusals.Sdp line fault) e = absurd cc
+plain_refusal_again (refusals.Sdes medium fault) e = absurd cc
+plain_refusal_again (refusals.Mikey medium offset fault) e = absurd cc
+plain_refusal_again (refusals.Psk medium fault) e = absurd cc
+plain_refusal_again (refusals.Cs medium fault) e = absurd cc
+plain_refusal_again (refusals.KeyMgmt medium) e = absurd cc
+plain_refusal_again (refusals.KeyReused number) e = absurd cc
+plain_refusal_again refusals.RingFull e = refl
+plain_refusal_again refusals.NoMedia e = refl
+plain_refusal_again refusals.MediaCount e = refl
+plain_refusal_again refusals.TableFull e = refl
+plain_refusal_again refusals.CallKnown e = refl
+plain_refusal_again refusals.CallUnknown e = refl
+plain_refusal_again refusals.PskKnown e = refl
+plain_refusal_again refusals.PskFull e = refl
+plain_refusal_again (refusals.TickBack last) e = absurd cc
+plain_refusal_again refusals.State e = refl
+
+pub plain_refusal_takes : (t : List ℕ) (x : Refusal) → plain_refusal_at t ≡ Some x → (t ≡ refusal_name x) × (is_plain_refusal x ≡ true)
+unfolding plain_refusal_at
+plain_refusal_takes t x e =
+    ((bytes_eq-Decides t (refusal_name x)).0 (find_passes (λ x. bytes_eq t (refusal_name x)) plain_refusals x e), find_holds (λ x. bytes_eq t (refusal_name x)) is_plain_refusal plain_refusals x e refl)
+
+pub dense_refusal : (x : Refusal) → IsDense (refusal_name x)
+dense_refusal (refusals.Sdp line fault) = dense_test (refusal_name (refusals.Sdp line fault)) refl
+dense_refusal (refusals.Sdes medium fault) = dense_test (refusal_name (refusals.Sdes medium fault)) refl
+dense_refusal (refusals.Mikey medium offset fault) = dense_test (refusal_name (refusals.Mikey medium offset fault)) refl
+dense_refusal (refusals.Psk medium fault) = dense_test (refusal_name (refusals.Psk medium fault)) refl
+dense_refusal (refusals.Cs medium fault) = dense_test (refusal_name (refusals.Cs medium fault)) refl
+dense_refusal (refusals.KeyMgmt medium) = dense_test (refusal_name (refusals.KeyMgmt medium)) refl
+dense_refusal (refusals.KeyReused number) = dense_test (refusal_name (refusals.KeyReused number)) refl
+dense_refusal refusals.RingFull = dense_test (refusal_name refusals.RingFull) refl
+dense_refusal refusals.NoMedia = dense_test (refusal_name refusals.NoMedia) refl
+dense_refusal refusals.MediaCount = dense_test (refusal_name refusals.MediaCount) refl
+dense_refusal refusals.TableFull = dense_test (refusal_name refusals.TableFull) refl
+dense_refusal refusals.CallKnown = dense_test (refusal_name refusals.CallKnown) refl
+dense_refusal refusals.CallUnknown = dense_test (refusal_name refusals.CallUnknown) refl
+dense_refusal refusals.PskKnown = dense_test (refusal_name refusals.PskKnown) refl
+dense_refusal refusals.PskFull = dense_test (refusal_name refusals.PskFull) refl
+dense_refusal (refusals.TickBack last) = dense_test (refusal_name (refusals.TickBack last)) refl
+dense_refusal refusals.State = dense_test (refusal_name refusals.State) refl

@@ -1,0 +1,3 @@
+pub mod OutcomeFields
+pub mod OutcomeOf
+pub mod OutcomeText
