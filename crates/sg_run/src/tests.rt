@@ -1,9 +1,10 @@
 mod calls;
+mod mixed;
 
 use crate::{Status, run};
 use sg_base::{Octets, ScriptFault};
 use sg_edge::{MemSink, MemSource};
-use std::alloc::Global;
+use std::alloc::{AllocError, Global};
 use std::process::Abort;
 use std::test::Fail;
 
@@ -30,7 +31,7 @@ const FORGED: &str =
 const OTHER_VERSION: &str =
     "in 20000 127.0.0.1:40000 40112233445566778899aabbccddeeff001122334455\n";
 
-fn joined(alloc: Global, parts: &[&str]) -> Result<Vec<u8>, Fail> {
+fn joined(alloc: Global, parts: &[&str]) -> Result<Vec<u8>, AllocError> {
     let mut octets = Vec::new(alloc);
     for part in parts {
         octets.extend_from_slice(part.as_bytes())?;
@@ -199,30 +200,57 @@ fn statuses_are_told(rt: HostRuntime) -> Result<(), Fail> {
     Ok(())
 }
 
-// Where an allocation is refused, as the toolchain does on demand, what was written by then is a front.
-#[test]
-fn refused_memory_leaves_a_front(rt: HostRuntime) -> Result<(), Fail> {
-    let alloc = rt.alloc();
-    let script = joined(alloc, &[HEADER, KEYED, FORGED, SEALED, SEALED])?;
-    let told = joined(
-        alloc,
-        &[
+/// What a run is given where memory may be refused, and what it tells where none is.
+#[derive(Drop)]
+struct Scarce {
+    words: [String; 1],
+    source: MemSource,
+    sink: MemSink,
+    told: Vec<u8>,
+}
+
+impl Scarce {
+    fn prepared(alloc: Global) -> Result<Scarce, AllocError> {
+        let script = joined(alloc, &[HEADER, KEYED, FORGED, SEALED, SEALED])?;
+        let told = [
             KEYED_TOLD,
             "drop 20000 BadTag\n",
             SEALED_TOLD,
             "drop 20000 Repeat\n",
-        ],
-    )?;
-    let words = [String::from_str(alloc, "replay")?];
-    let mut source = MemSource::make(Octets::from_vec(script), Vec::new(alloc));
-    let mut sink = MemSink::make(alloc, Vec::new(alloc));
-    let status = run(alloc, &words, &mut source, &mut sink);
-    let written = sink.written().unwrap_or(&[]);
-    assert!(rt; told.as_slice().starts_with(written));
+        ];
+        Ok(Scarce {
+            words: [String::from_str(alloc, "replay")?],
+            source: MemSource::make(Octets::from_vec(script), Vec::new(alloc)),
+            sink: MemSink::make(alloc, Vec::new(alloc)),
+            told: joined(alloc, &told)?,
+        })
+    }
+}
+
+// Where an allocation of the run is refused, as the toolchain does on demand, what was written by then is a
+// front. Where one of the preparations is refused, there is no run, and nothing to see.
+#[test]
+fn refused_memory_leaves_a_front(rt: HostRuntime) -> Result<(), Fail> {
+    let alloc = rt.alloc();
+    let mut scarce = match Scarce::prepared(alloc) {
+        Err(_) => {
+            rt.println("no run")?;
+            return Ok(());
+        }
+        Ok(scarce) => scarce,
+    };
+    let status = run(alloc, &scarce.words, &mut scarce.source, &mut scarce.sink);
+    let written = scarce.sink.written();
     match status {
-        Status::Done => assert_eq!(rt; written.len(), told.len()),
-        Status::NoMemory | Status::Write => {}
+        Status::Done => assert_eq!(rt; written, Some(scarce.told.as_slice())),
+        Status::NoMemory => {
+            let front = written.ok_or("no record")?;
+            assert!(rt; scarce.told.as_slice().starts_with(front));
+        }
+        // The record of the sink found no memory.
+        Status::Write => assert_eq!(rt; written, None),
         _ => return Err("status".into()),
     }
+    println!(rt; "run: {status:?}")?;
     Ok(())
 }
