@@ -1,5 +1,5 @@
 #!/usr/bin/env python3
-"""Writes a script of one call keyed by hand, and what `srtpgw replay` must write for it.
+"""Writes a script of one call with manual keys, and what `srtpgw replay` must write for it.
 
     script.py COUNT open|seal|both SCRIPT OUTCOMES
 
@@ -8,7 +8,7 @@ opens, plain ones that it seals, or one after the other. They are sealed by anot
 
 import sys
 
-from srtp import Sender, packet
+from packets import MasterKey, packet
 
 SUITE = "AES_CM_128_HMAC_SHA1_80"
 SIZE = 172
@@ -20,10 +20,10 @@ PLAIN = "127.0.0.1:41000"
 
 def main():
     count, ways = int(sys.argv[1]), sys.argv[2]
-    peer = Sender(FROM_PEER[:16], FROM_PEER[16:], 10)
-    gateway = Sender(TO_PEER[:16], TO_PEER[16:], 10)
+    peer = MasterKey(SUITE, FROM_PEER)
+    gateway = MasterKey(SUITE, TO_PEER)
     with open(sys.argv[3], "w") as script, open(sys.argv[4], "w") as outcomes:
-        keys = f"{SUITE}:{FROM_PEER.hex()} {SUITE}:{TO_PEER.hex()}"
+        keys = f"{peer.field()} {gateway.field()}"
         script.write(f"srtpgw 1\nmanual 1 {SECURE} {PLAIN} 00000000 64 {keys}\n")
         outcomes.write("made 1 0 1\nlive 1\n")
         for number in range(count):
@@ -31,11 +31,11 @@ def main():
             index = number // 2 if ways == "both" else number
             plain = packet(index, SIZE)
             if opens:
-                script.write(f"in 20000 {SECURE} {peer.seal(plain, index).hex()}\n")
+                script.write(f"in 20000 {SECURE} {peer.srtp(plain, index).hex()}\n")
                 outcomes.write(f"out 20002 {PLAIN} {plain.hex()}\n")
             else:
                 script.write(f"in 20002 {PLAIN} {plain.hex()}\n")
-                outcomes.write(f"out 20000 {SECURE} {gateway.seal(plain, index).hex()}\n")
+                outcomes.write(f"out 20000 {SECURE} {gateway.srtp(plain, index).hex()}\n")
 
 
 if __name__ == "__main__":

@@ -1,12 +1,12 @@
-use Rattle.std.proofs.Common.{◌≡◌, ℕ, zero, suc, ◌+◌, ◌*◌, ◌<◌, ◌≤◌, ◌/◌, ◌^◌, ◌||◌, true, cond, T, leb, List, [], ◌∷◌, ◌++◌, refl, ap, ap₂, ◌∙◌, sym, arith, subst, length, map, replicate, bit_and, bit_xor, w8, Fits, get_or}
+use Rattle.std.proofs.Common.{◌≡◌, ℕ, zero, suc, ◌<◌, ◌/◌, ◌^◌, ◌||◌, true, T, List, [], ◌∷◌, ◌++◌, refl, ap, ap₂, ◌∙◌, sym, arith, subst, length, map, replicate, bit_and, bit_xor, w8, Fits, get_or}
 use Rattle.std.specs.Prelude.{slice_index, nat_le, nat_lt}
 use Rattle.std.specs.List.{range_with_len}
 use Rattle.std.specs.Simd.Lanes.{zip2, Each1}
 use Rattle.std.proofs.lemmas.List.FromFn.{get_or-map-range_with_len}
 use Rattle.std.proofs.lemmas.List.{length-map}
-use Rattle.std.proofs.lemmas.Simd.{swz_l, SwzOk, SwzOk-from_Each1, zip2_of_maps, zip2_splat, splat_is_map, map-map}
+use Rattle.std.proofs.lemmas.Simd.{zip2_of_maps, zip2_splat, splat_is_map, map-map}
 use Rattle.sg_aes.specs.Field.{sub_byte, times_x, product, product_of_bits, inverse_in}
-use Rattle.sg_aes.specs.Lanes.{IsPlace, IsState, HasNibbles, look, nibbles, upper, lower, either, last_first, last_second, substituted, once, twice, key_nibbles}
+use Rattle.sg_aes.specs.Lanes.{IsPlace, IsState, look, nibbles, upper, lower, either, last_first, last_second, substituted, once, twice, key_nibbles}
 use Rattle.sg_aes.specs.State.{state_by, sub_bytes, add_round_key, round, last_round, row_times}
 use Rattle.sg_aes.proofs.Octets.{agree, sub_byte_lt, times_x_lt, map_octets}
 use Rattle.sg_aes.proofs.CipherLemmas.{round_state}
@@ -18,23 +18,14 @@ use Rattle.std.proofs.lemmas.List.{get_or-map}
 use Rattle.std.proofs.lemmas.Grind.{same_number_lists}
 use Rattle.sg_aes.specs.declared.lanes.TheConstants.{FROM_LOW, FROM_HIGH, INVERSE, QUOTIENT, FIRST, SECOND}
 
--- 16 octets
-abbrev pub IsOctets : List ℕ → Type 0
-IsOctets x = (length x ≡ 16) × Each1 (Fits w8) x
+-- so many octets
+abbrev pub IsOctets : ℕ → List ℕ → Type 0
+IsOctets w x = (length x ≡ w) × Each1 (Fits w8) x
 
--- ---- a look-up
-
-pub places_ok : (js : List ℕ) → length js ≡ 16 → Each1 IsPlace js → SwzOk w8 16 16 0 js
-places_ok js long h = SwzOk-from_Each1 w8 16 1 16 0 js refl (omega arith) h
-
-swz_is_map : (t js : List ℕ) (i : ℕ) → i + length js ≤ 16 → swz_l w8 16 t i js ≡ map (look t) js
-swz_is_map t [] i h = refl
-swz_is_map t (j ∷ js) i h =
-    let e : 16 * (i / 16) + j ≡ j = omega arith in
-    λ p. cond (leb 128 j) 0 (get_or t (e p) 0) ∷ swz_is_map t js (suc i) (omega arith) p
-
-pub look_is : (t js : List ℕ) → length js ≡ 16 → swz_l w8 16 t 0 js ≡ map (look t) js
-look_is t js long = swz_is_map t js 0 (omega arith)
+-- these are the nibbles of a state
+pub record HasNibbles (n state : List ℕ) : Type 0 where
+  pub sixteen_octets : IsState state
+  pub in_nibbles : n ≡ map nibbles state
 
 -- ---- vectors that were computed lane by lane from x
 
@@ -45,8 +36,8 @@ each_map P g (v ∷ x) h f = (h v f.0.fits, each_map P g x h f.1)
 pub looked : (t : List ℕ) (g : ℕ → ℕ) (x : List ℕ) (js r : List ℕ) → js ≡ map g x → r ≡ map (look t) js → r ≡ map (λ v. look t (g v)) x
 looked t g x js r e h = h ∙ ap (map (look t)) e ∙ map-map (look t) g x
 
-pub splatted : (f : ℕ → ℕ → ℕ) (g : ℕ → ℕ) (x : List ℕ) (y : ℕ) (a : List ℕ) → length x ≡ 16 → a ≡ map g x → zip2 f a (replicate 16 y) ≡ map (λ v. f (g v) y) x
-splatted f g x y a long e = zip2_of_maps f g (λ _. y) x e (splat_is_map x 16 y long)
+pub splatted : {w : ℕ} (f : ℕ → ℕ → ℕ) (g : ℕ → ℕ) (x : List ℕ) (y : ℕ) (a : List ℕ) → length x ≡ w → a ≡ map g x → zip2 f a (replicate w y) ≡ map (λ v. f (g v) y) x
+splatted {w} f g x y a long e = zip2_of_maps f g (λ _. y) x e (splat_is_map x w y long)
 
 -- ---- one octet
 
@@ -99,8 +90,8 @@ next_rows = 5 ∷ 10 ∷ 15 ∷ 0 ∷ 9 ∷ 14 ∷ 3 ∷ 4 ∷ 13 ∷ 2 ∷ 7 �
 abbrev pub last_rows : List ℕ
 last_rows = 15 ∷ 0 ∷ 5 ∷ 10 ∷ 3 ∷ 4 ∷ 9 ∷ 14 ∷ 7 ∷ 8 ∷ 13 ∷ 2 ∷ 11 ∷ 12 ∷ 1 ∷ 6 ∷ []
 
-abbrev pub one_on : List ℕ
-one_on = 1 ∷ 2 ∷ 3 ∷ 0 ∷ 5 ∷ 6 ∷ 7 ∷ 4 ∷ 9 ∷ 10 ∷ 11 ∷ 8 ∷ 13 ∷ 14 ∷ 15 ∷ 12 ∷ []
+abbrev pub third_rows : List ℕ
+third_rows = 10 ∷ 15 ∷ 0 ∷ 5 ∷ 14 ∷ 3 ∷ 4 ∷ 9 ∷ 2 ∷ 7 ∷ 8 ∷ 13 ∷ 6 ∷ 11 ∷ 12 ∷ 1 ∷ []
 
 -- a rule on nibbles, along those of a state
 along : (f g : ℕ → ℕ) (n state x : List ℕ) → ((v : ℕ) → v < 256 → f (nibbles v) ≡ g v) → HasNibbles n state → x ≡ map f n → x ≡ state_by (λ i. g (slice_index state i))
@@ -190,36 +181,38 @@ one a = nibbles (without a)
 abbrev two : ℕ → ℕ
 two a = nibbles (times_x (without a))
 
+-- the constant out of a sum of two
+without_out : (p q : ℕ) → bit_xor (without p) q ≡ without (bit_xor p q)
+without_out p q = xor_assoc p 0x63 q ∙ ap (bit_xor p) (xor_comm 0x63 q) ∙ sym (xor_assoc p q 0x63)
+
 -- what is computed at an octet, of the octets a, b, c and d of its column from there on
+abbrev summed : ℕ → ℕ → ℕ → ℕ → ℕ → ℕ
+summed a b c d k = bit_xor (bit_xor (bit_xor (two a) (bit_xor (one b) (two b))) (bit_xor (one c) (one d))) (key_nibbles k)
+
 cell : (a b c d k : ℕ) → a < 256 → b < 256 → c < 256 → d < 256 → k < 256
-    → bit_xor (bit_xor (bit_xor (two a) (one b)) (bit_xor (two b) (one c))) (bit_xor (one d) (key_nibbles k))
-    ≡ nibbles (bit_xor (bit_xor (bit_xor (times_x (bit_xor a b)) b) (bit_xor c d)) k)
+    → summed a b c d k ≡ nibbles (bit_xor (bit_xor (bit_xor (times_x (bit_xor a b)) b) (bit_xor c d)) k)
 cell a b c d k ha hb hc hd hk =
     let ta = times_x_lt (without a) (without_lt a ha) in
     let tb = times_x_lt (without b) (without_lt b hb) in
     let wb = without_lt b hb in
-    let wc = without_lt c hc in
-    let front : bit_xor (two a) (one b) ≡ nibbles (bit_xor (times_x (without a)) (without b)) = nibbles_xor _ _ ta wb in
-    let next : bit_xor (two b) (one c) ≡ nibbles (bit_xor (times_x (without b)) (without c)) = nibbles_xor _ _ tb wc in
-    let end : bit_xor (one d) (key_nibbles k) ≡ nibbles (bit_xor d k) = nibbles_xor _ _ (without_lt d hd) (without_lt k hk) ∙ ap nibbles (both_without d k) in
     let p : ℕ = bit_xor (times_x (bit_xor a b)) b in
-    let sum : bit_xor (bit_xor (times_x (without a)) (without b)) (bit_xor (times_x (without b)) (without c)) ≡ bit_xor p c =
-    xor_right (bit_xor (times_x (without a)) (without b)) (times_x (without b)) (without c) ∙ ap (λ x. bit_xor x (without c)) (twice_front a b ha hb) ∙ both_without p c in
-    let pc : bit_xor p c < 256 = xor_of_8 _ _ (xor_of_8 _ _ (times_x_lt _ (xor_of_8 _ _ ha hb)) hb) hc in
-    ap₂ bit_xor (ap₂ bit_xor front next ∙ nibbles_xor _ _ (xor_of_8 _ _ ta wb) (xor_of_8 _ _ tb wc) ∙ ap nibbles sum) end
-    ∙ nibbles_xor _ _ pc (xor_of_8 _ _ hd hk)
-    ∙ ap nibbles (xor_right (bit_xor p c) d k ∙ ap (λ x. bit_xor x k) (xor_assoc p c d))
+    let q : ℕ = bit_xor c d in
+    let hp : p < 256 = xor_of_8 _ _ (times_x_lt _ (xor_of_8 _ _ ha hb)) hb in
+    let hq : q < 256 = xor_of_8 _ _ hc hd in
+    let both : bit_xor (one b) (two b) ≡ nibbles (bit_xor (without b) (times_x (without b))) = nibbles_xor _ _ wb tb in
+    let front : bit_xor (two a) (bit_xor (one b) (two b)) ≡ nibbles (without p) =
+    ap (bit_xor (two a)) both ∙ nibbles_xor _ _ ta (xor_of_8 _ _ wb tb) ∙ ap nibbles (xor_right (times_x (without a)) (without b) (times_x (without b)) ∙ twice_front a b ha hb) in
+    let back : bit_xor (one c) (one d) ≡ nibbles q = nibbles_xor _ _ (without_lt c hc) (without_lt d hd) ∙ ap nibbles (both_without c d) in
+    ap (λ x. bit_xor x (key_nibbles k)) (ap₂ bit_xor front back ∙ nibbles_xor _ _ (without_lt p hp) hq ∙ ap nibbles (without_out p q))
+    ∙ nibbles_xor _ _ (without_lt (bit_xor p q) (xor_of_8 _ _ hp hq)) (without_lt k hk)
+    ∙ ap nibbles (both_without (bit_xor p q) k)
 
 -- a cell at a row of the matrix
-celled : (a b c d k r : ℕ) → a < 256 → b < 256 → c < 256 → d < 256 → k < 256 → bit_xor (bit_xor (times_x (bit_xor a b)) b) (bit_xor c d) ≡ r
-    → bit_xor (bit_xor (bit_xor (two a) (one b)) (bit_xor (two b) (one c))) (bit_xor (one d) (key_nibbles k)) ≡ nibbles (bit_xor r k)
+celled : (a b c d k r : ℕ) → a < 256 → b < 256 → c < 256 → d < 256 → k < 256 → bit_xor (bit_xor (times_x (bit_xor a b)) b) (bit_xor c d) ≡ r → summed a b c d k ≡ nibbles (bit_xor r k)
 celled a b c d k r ha hb hc hd hk e = cell a b c d k ha hb hc hd hk ∙ ap (λ x. nibbles (bit_xor x k)) e
 
-abbrev pub front_lanes : List ℕ → List ℕ → List ℕ
-front_lanes o t = zip2 bit_xor (picked t rows) (picked o next_rows)
-
 abbrev pub round_lanes : List ℕ → List ℕ → List ℕ → List ℕ
-round_lanes o t k = zip2 bit_xor (zip2 bit_xor (front_lanes o t) (picked (front_lanes o t) one_on)) (zip2 bit_xor (picked o last_rows) k)
+round_lanes o t k = zip2 bit_xor (zip2 bit_xor (zip2 bit_xor (picked t rows) (picked (zip2 bit_xor o t) next_rows)) (zip2 bit_xor (picked o third_rows) (picked o last_rows))) k
 
 round_nibbles : (n state key o t k : List ℕ) → HasNibbles n state → IsState key → k ≡ map key_nibbles key → o ≡ map once n → t ≡ map twice n
     → round_lanes o t k ≡ map nibbles (round state key)
@@ -258,15 +251,15 @@ round_is n state key o t k h hk ek eo et = record {
   in_nibbles = round_nibbles n state key o t k h hk ek eo et;
 }
 
-pub key_nibbles_is : (key x kn : List ℕ) → length key ≡ 16 → x ≡ zip2 bit_xor key (replicate 16 0x63) → kn ≡ map nibbles x → kn ≡ map key_nibbles key
-key_nibbles_is key x kn long ex e = e ∙ ap (map nibbles) (ex ∙ zip2_splat bit_xor key 16 0x63 long) ∙ map-map nibbles without key
+pub key_nibbles_is : {w : ℕ} (key kn : List ℕ) → length key ≡ w → kn ≡ map nibbles (zip2 bit_xor key (replicate w 0x63)) → kn ≡ map key_nibbles key
+key_nibbles_is {w} key kn long e = e ∙ ap (map nibbles) (zip2_splat bit_xor key w 0x63 long) ∙ map-map nibbles without key
 
 each_at : (x : List ℕ) → Each1 (Fits w8) x → (i : ℕ) → slice_index x i < 256
 each_at [] h i = omega arith
 each_at (v ∷ x) h zero = h.0.fits
 each_at (v ∷ x) h (suc i) = each_at x h.1 i
 
-pub keyed_is : (part key n : List ℕ) → length part ≡ 16 → ((i : ℕ) → slice_index part i < 256) → IsOctets key → n ≡ map nibbles (zip2 bit_xor part key) → HasNibbles n (add_round_key part key)
+pub keyed_is : (part key n : List ℕ) → length part ≡ 16 → ((i : ℕ) → slice_index part i < 256) → IsOctets 16 key → n ≡ map nibbles (zip2 bit_xor part key) → HasNibbles n (add_round_key part key)
 keyed_is part key n hp fp hk e = record {
   sixteen_octets = record { sixteen = refl; octets = map_octets (λ i. bit_xor (slice_index part i) (slice_index key i)) (range_with_len 0 16) (λ i. xor_of_8 _ _ (fp i) (each_at key hk.1 i)) };
   in_nibbles = e ∙ ap (map nibbles) (zipped bit_xor part key hp hk.0);
@@ -277,34 +270,34 @@ keyed_is part key n hp fp hk e = record {
 abbrev down : ℕ → ℕ → ℕ
 down a b = a / 2 ^ b
 
-pub low_places : (x : List ℕ) → IsOctets x → Each1 IsPlace (zip2 bit_and x (replicate 16 15))
-low_places x h = subst (Each1 IsPlace) (sym (zip2_splat bit_and x 16 15 h.0)) (each_map IsPlace (λ v. bit_and v 15) x (place (λ v. bit_and v 15) refl) h.1)
+pub low_places : {w : ℕ} (x : List ℕ) → IsOctets w x → Each1 IsPlace (zip2 bit_and x (replicate w 15))
+low_places {w} x h = subst (Each1 IsPlace) (sym (zip2_splat bit_and x w 15 h.0)) (each_map IsPlace (λ v. bit_and v 15) x (place (λ v. bit_and v 15) refl) h.1)
 
-pub high_places : (x : List ℕ) → IsOctets x → Each1 IsPlace (zip2 down x (replicate 16 4))
-high_places x h = subst (Each1 IsPlace) (sym (zip2_splat down x 16 4 h.0)) (each_map IsPlace (λ v. v / 2 ^ 4) x (place (λ v. v / 2 ^ 4) refl) h.1)
+pub high_places : {w : ℕ} (x : List ℕ) → IsOctets w x → Each1 IsPlace (zip2 down x (replicate w 4))
+high_places {w} x h = subst (Each1 IsPlace) (sym (zip2_splat down x w 4 h.0)) (each_map IsPlace (λ v. v / 2 ^ 4) x (place (λ v. v / 2 ^ 4) refl) h.1)
 
-pub nibbles_is : (x l u : List ℕ) → IsOctets x → l ≡ map (look FROM_LOW) (zip2 bit_and x (replicate 16 15)) → u ≡ map (look FROM_HIGH) (zip2 down x (replicate 16 4)) → zip2 bit_xor l u ≡ map nibbles x
-nibbles_is x l u h el eu =
+pub nibbles_is : {w : ℕ} (x l u : List ℕ) → IsOctets w x → l ≡ map (look FROM_LOW) (zip2 bit_and x (replicate w 15)) → u ≡ map (look FROM_HIGH) (zip2 down x (replicate w 4)) → zip2 bit_xor l u ≡ map nibbles x
+nibbles_is {w} x l u h el eu =
     zip2_of_maps bit_xor (λ v. look FROM_LOW (bit_and v 15)) (λ v. look FROM_HIGH (v / 2 ^ 4)) x
-    (looked FROM_LOW (λ v. bit_and v 15) x _ l (zip2_splat bit_and x 16 15 h.0) el)
-    (looked FROM_HIGH (λ v. v / 2 ^ 4) x _ u (zip2_splat down x 16 4 h.0) eu)
+    (looked FROM_LOW (λ v. bit_and v 15) x _ l (zip2_splat bit_and x w 15 h.0) el)
+    (looked FROM_HIGH (λ v. v / 2 ^ 4) x _ u (zip2_splat down x w 4 h.0) eu)
 
-pub lower_is : (n : List ℕ) → IsOctets n → zip2 bit_and n (replicate 16 15) ≡ map lower n
-lower_is n h = zip2_splat bit_and n 16 15 h.0
+pub lower_is : {w : ℕ} (n : List ℕ) → IsOctets w n → zip2 bit_and n (replicate w 15) ≡ map lower n
+lower_is {w} n h = zip2_splat bit_and n w 15 h.0
 
-pub upper_is : (n : List ℕ) → IsOctets n → zip2 down n (replicate 16 4) ≡ map upper n
-upper_is n h = zip2_splat down n 16 4 h.0
+pub upper_is : {w : ℕ} (n : List ℕ) → IsOctets w n → zip2 down n (replicate w 4) ≡ map upper n
+upper_is {w} n h = zip2_splat down n w 4 h.0
 
-pub either_is : (n : List ℕ) → IsOctets n → zip2 bit_xor (zip2 down n (replicate 16 4)) (zip2 bit_and n (replicate 16 15)) ≡ map either n
-either_is n h = zip2_of_maps bit_xor upper lower n (upper_is n h) (lower_is n h)
+pub either_is : {w : ℕ} (n : List ℕ) → IsOctets w n → zip2 bit_xor (zip2 down n (replicate w 4)) (zip2 bit_and n (replicate w 15)) ≡ map either n
+either_is {w} n h = zip2_of_maps bit_xor upper lower n (upper_is n h) (lower_is n h)
 
 -- the places of a vector that was computed lane by lane
-pub places_of : (g : ℕ → ℕ) → map (λ v. nat_le 128 (g v) || nat_lt (g v) 16) (range_with_len 0 256) ≡ map (λ _. true) (range_with_len 0 256) → (n r : List ℕ) → IsOctets n → r ≡ map g n → Each1 IsPlace r
-places_of g e n r h er = subst (Each1 IsPlace) (sym er) (each_map IsPlace g n (place g e) h.1)
+pub places_of : {w : ℕ} (g : ℕ → ℕ) → map (λ v. nat_le 128 (g v) || nat_lt (g v) 16) (range_with_len 0 256) ≡ map (λ _. true) (range_with_len 0 256) → (n r : List ℕ) → IsOctets w n → r ≡ map g n → Each1 IsPlace r
+places_of {w} g e n r h er = subst (Each1 IsPlace) (sym er) (each_map IsPlace g n (place g e) h.1)
 
-pub over_is : (g : ℕ → ℕ) (n at q a : List ℕ) → IsOctets n → at ≡ map g n → q ≡ map (look QUOTIENT) (zip2 bit_and n (replicate 16 15)) → a ≡ map (look INVERSE) at
+pub over_is : {w : ℕ} (g : ℕ → ℕ) (n at q a : List ℕ) → IsOctets w n → at ≡ map g n → q ≡ map (look QUOTIENT) (zip2 bit_and n (replicate w 15)) → a ≡ map (look INVERSE) at
     → zip2 bit_xor a q ≡ map (λ v. bit_xor (look INVERSE (g v)) (look QUOTIENT (lower v))) n
-over_is g n at q a h e eq ea =
+over_is {w} g n at q a h e eq ea =
     zip2_of_maps bit_xor (λ v. look INVERSE (g v)) (λ v. look QUOTIENT (lower v)) n (looked INVERSE g n at a e ea) (looked QUOTIENT lower n _ q (lower_is n h) eq)
 
 pub last_is : (g f : ℕ → ℕ) (n at a b : List ℕ) → at ≡ map g n → a ≡ map (look INVERSE) at → b ≡ map f n → zip2 bit_xor a b ≡ map (λ v. bit_xor (look INVERSE (g v)) (f v)) n
@@ -316,14 +309,11 @@ pub pair_is : (one_table other_table n s t a b : List ℕ) → s ≡ map last_fi
 pair_is one_table other_table n s t a b es et ea eb =
     zip2_of_maps bit_xor (λ v. look one_table (last_first v)) (λ v. look other_table (last_second v)) n (looked one_table last_first n s a es ea) (looked other_table last_second n t b et eb)
 
-pub substituted_lanes_are : (n s t a b : List ℕ) → IsOctets n → s ≡ map last_first n → t ≡ map last_second n → a ≡ map (look FIRST) s → b ≡ map (look SECOND) t
-    → zip2 bit_xor (zip2 bit_xor a b) (replicate 16 0x63) ≡ map substituted n
-substituted_lanes_are n s t a b h es et ea eb =
+pub substituted_lanes_are : {w : ℕ} (n s t a b : List ℕ) → IsOctets w n → s ≡ map last_first n → t ≡ map last_second n → a ≡ map (look FIRST) s → b ≡ map (look SECOND) t
+    → zip2 bit_xor (zip2 bit_xor a b) (replicate w 0x63) ≡ map substituted n
+substituted_lanes_are {w} n s t a b h es et ea eb =
     splatted bit_xor (λ v. bit_xor (look FIRST (last_first v)) (look SECOND (last_second v))) n 0x63 _ h.0 (pair_is FIRST SECOND n s t a b es et ea eb)
 
 pub map_sub : (x : List ℕ) → Each1 (Fits w8) x → map (λ v. substituted (nibbles v)) x ≡ map sub_byte x
 map_sub [] h = refl
 map_sub (v ∷ x) h = λ p. substituted_is v h.0.fits p ∷ map_sub x h.1 p
-
-pub sub_bytes_is : (x n r : List ℕ) → IsOctets x → n ≡ map nibbles x → r ≡ map substituted n → r ≡ map sub_byte x
-sub_bytes_is x n r h en er = er ∙ ap (map substituted) en ∙ map-map substituted nibbles x ∙ map_sub x h.1

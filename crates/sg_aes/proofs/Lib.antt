@@ -1,5 +1,6 @@
 pub mod Octets
 pub mod LaneLemmas
+pub mod PairLemmas
 pub mod KeyLemmas
 pub mod CipherLemmas
-pub mod PlainLemmas
+pub mod ReferenceLemmas

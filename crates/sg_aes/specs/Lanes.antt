@@ -1,5 +1,5 @@
 -- Look-ups of 16 octets at a time, and the substitution by the nibbles of an octet.
-use Rattle.std.specs.Prelude.{ℕ, ◌≡◌, ◌<◌, ◌/◌, ◌^◌, List, ◌||◌, nat_le, nat_lt, T, length, map, slice_index, if◌then◌else◌, bit_and, bit_xor}
+use Rattle.std.specs.Prelude.{ℕ, ◌≡◌, ◌<◌, ◌/◌, ◌^◌, List, ◌||◌, nat_le, nat_lt, T, ◌++◌, length, map, slice_index, if◌then◌else◌, bit_and, bit_xor}
 use Rattle.sg_aes.specs.declared.lanes.TheConstants.{FROM_LOW, FROM_HIGH, INVERSE, QUOTIENT, FIRST, SECOND, ONCE_FIRST, ONCE_SECOND, TWICE_FIRST, TWICE_SECOND}
 
 -- what a look-up in 16 octets may ask for: a place, or 128 and more, which gives 0
@@ -55,7 +55,8 @@ pub record IsState (state : List ℕ) : Type 0 where
   pub sixteen : length state ≡ 16
   pub octets : (i : ℕ) → slice_index state i < 256
 
--- these are the nibbles of a state
-pub record HasNibbles (n state : List ℕ) : Type 0 where
-  pub sixteen_octets : IsState state
-  pub in_nibbles : n ≡ map nibbles state
+-- these are the nibbles of two states, side by side
+pub record HasBoth (n s t : List ℕ) : Type 0 where
+  pub first_octets : IsState s
+  pub second_octets : IsState t
+  pub both_in_nibbles : n ≡ map nibbles s ++ map nibbles t

@@ -1,10 +1,10 @@
-// The expansion of a key into the words of its round keys (FIPS 197, 5.2).
+//! The expansion of a key into the words of its round keys (FIPS 197, 5.2).
 
-ghost use Rattle.std.specs.Prelude.{◌≡◌, ◌+◌, ◌*◌, ◌/◌, ◌<◌, ◌≤◌, length};
+ghost use Rattle.std.specs.Prelude.{◌≡◌, ◌+◌, ◌*◌, ◌/◌, ◌<◌, ◌≤◌, [], length, slice_index_or};
 ghost use Rattle.sg_aes.specs.KeyExpansion.{add_words, added, key_word, power_of_x, round_key};
-ghost use Rattle.sg_aes.specs.Schedule.{key_of, IsKeyWords, IsKeyLength, IsExpanded};
+ghost use Rattle.sg_aes.specs.Schedule.{AreKept, key_of, IsKeyWords, IsKeyLength, IsExpanded};
 
-use crate::lanes::sub_word;
+use crate::lanes::{key_nibbles, sub_word};
 use std::simd::prelude::*;
 
 /// The words of the round keys: four for each of up to 15 round keys.
@@ -81,4 +81,28 @@ pub(crate) fn round_key(words: &Words, r: usize) -> u8x16
     u8x16::from_array([
         a0, a1, a2, a3, b0, b1, b2, b3, c0, c1, c2, c3, d0, d1, d2, d3,
     ])
+}
+
+/// The nibbles of round keys 1 to `last` - 1, as `round` takes them.
+pub(crate) type Kept = [[u8; 16]; 15];
+
+/// The nibbles of the round keys of the words, but for the first and the last.
+pub(crate) fn kept_keys(words: &Words, last: usize) -> Kept
+    requires { last < 15 }
+    ensures { AreKept words.now result last }
+{
+    let mut kept = [[0u8; 16]; 15];
+    'keep: for r in 1..last {
+        kept[r] = key_nibbles(round_key(words, r));
+    }
+    kept
+}
+
+/// The nibbles of round key r.
+#[inline(always)]
+pub(crate) fn kept_key(kept: &Kept, r: usize) -> u8x16
+    requires { r < 15 }
+    ensures { result ≡ slice_index_or kept.now r [] }
+{
+    u8x16::from_array(kept[r])
 }

@@ -1,15 +1,16 @@
-// The steps of a round on the 16 octets of a state at a time, with no look-up at a place in memory. An
-// octet is two nibbles i and k, for k + z * i, where z is a root of z^2 = 2 z + 2 over the field of 16
-// elements; its inverse comes of look-ups of nibbles in vectors of 16 octets. Between rounds a state stays
-// in nibbles, since they are linear over GF(2), as the columns' step and the key's addition are.
+//! The steps of a round on the octets of two states at a time, which stand side by side in a vector of 32,
+//! with no look-up at a place in memory. An octet is two nibbles i and k, for k + z * i, where z is a root of
+//! z^2 = 2 z + 2 over the field of 16 elements; its inverse comes of look-ups of nibbles in vectors of 16
+//! octets. Between rounds a state stays in nibbles, since they are linear over GF(2), as the columns' step
+//! and the key's addition are. One state alone is taken twice.
 
-ghost use Rattle.std.specs.Prelude.{◌≡◌, ℕ, List, map};
+ghost use Rattle.std.specs.Prelude.{◌≡◌, ℕ, List, ◌++◌, length, map};
 ghost use Rattle.std.specs.Simd.Lanes.{Each1};
 ghost use Rattle.sg_aes.specs.Field.{sub_byte};
 ghost use Rattle.sg_aes.specs.State.{round, last_round, add_round_key};
 ghost use Rattle.sg_aes.specs.KeyExpansion.{sub_word};
 ghost use Rattle.sg_aes.specs.Lanes.{
-  HasNibbles,
+  HasBoth,
   IsPlace,
   IsState,
   key_nibbles,
@@ -32,6 +33,7 @@ const FROM_LOW: [u8; 16] = [
 const FROM_HIGH: [u8; 16] = [
     0x00, 0xaa, 0x7a, 0xd0, 0xaf, 0x05, 0xd5, 0x7f, 0xd8, 0x72, 0xa2, 0x08, 0x77, 0xdd, 0x0d, 0xa7,
 ];
+
 // The inverse of a nibble, and a fixed nibble over it; 128 stands for 1 over 0.
 const INVERSE: [u8; 16] = [
     0x80, 0x01, 0x0c, 0x08, 0x06, 0x0f, 0x04, 0x0e, 0x03, 0x0d, 0x0b, 0x0a, 0x02, 0x09, 0x07, 0x05,
@@ -40,6 +42,7 @@ const INVERSE: [u8; 16] = [
 const QUOTIENT: [u8; 16] = [
     0x80, 0x03, 0x0d, 0x01, 0x0a, 0x08, 0x0c, 0x0b, 0x05, 0x0e, 0x04, 0x07, 0x06, 0x02, 0x09, 0x0f,
 ];
+
 // What the two nibbles at the end add to the substituted octet.
 const FIRST: [u8; 16] = [
     0x00, 0xfa, 0x35, 0x6a, 0x2b, 0xbb, 0x5f, 0x41, 0x8e, 0xcf, 0xe4, 0x1e, 0x74, 0x90, 0xd1, 0xa5,
@@ -66,33 +69,69 @@ const TWICE_SECOND: [u8; 16] = [
     0x00, 0x68, 0xb8, 0x0e, 0x6a, 0x0c, 0xb6, 0x64, 0xb4, 0xd0, 0xba, 0xd2, 0xdc, 0x66, 0x02, 0xde,
 ];
 
-// Looks each place up in a table of 16 octets; 128 and more give 0.
+// Two vectors side by side.
 #[inline(always)]
-fn look(table: [u8; 16], at: u8x16) -> u8x16
+fn joined(x: u8x16, y: u8x16) -> u8x32
+    ensures { result ≡ x ++ y }
+{
+    x.shuffle(
+        y,
+        [
+            0, 1, 2, 3, 4, 5, 6, 7, 8, 9, 10, 11, 12, 13, 14, 15, 16, 17, 18, 19, 20, 21, 22, 23,
+            24, 25, 26, 27, 28, 29, 30, 31,
+        ],
+    )
+}
+
+/// A vector twice.
+#[inline(always)]
+pub(crate) fn doubled(x: u8x16) -> u8x32
+    ensures value { result ≡ x ++ x }
+    ensures sixteen { length x ≡ 16 }
+{
+    joined(x, x)
+}
+
+// The two halves of a vector.
+#[inline(always)]
+fn halves(n: u8x32) -> ([u8; 16], [u8; 16])
+    ensures { (x y : List ℕ) → length x ≡ 16 → length y ≡ 16 → n ≡ x ++ y → (result.0 ≡ x) × (result.1 ≡ y) }
+{
+    let low = n.swizzle([0, 1, 2, 3, 4, 5, 6, 7, 8, 9, 10, 11, 12, 13, 14, 15]);
+    let high = n.swizzle([
+        16, 17, 18, 19, 20, 21, 22, 23, 24, 25, 26, 27, 28, 29, 30, 31,
+    ]);
+    (low.to_array(), high.to_array())
+}
+
+// Looks each place up in a table of 16 octets; 128 and more give 0. Each half of the vector reads a table
+// of its own, which is the same one twice.
+#[inline(always)]
+fn look(table: [u8; 16], at: u8x32) -> u8x32
     requires { Each1 IsPlace at }
     ensures { result ≡ map (look table) at }
 {
-    u8x16::from_array(table).swizzle_dyn(at)
+    doubled(u8x16::from_array(table)).swizzle_dyn_within::<16>(at)
 }
 
 // The nibbles of an octet.
 #[inline(always)]
-fn nibbles(x: u8x16) -> u8x16
+fn nibbles(x: u8x32) -> u8x32
     ensures { result ≡ map nibbles x }
 {
-    let low = look(FROM_LOW, x & u8x16::splat(15));
-    let high = look(FROM_HIGH, x >> u8x16::splat(4));
+    let low = look(FROM_LOW, x & u8x32::splat(15));
+    let high = look(FROM_HIGH, x >> u8x32::splat(4));
     low ^ high
 }
 
 // The two nibbles whose inverses make the inverse.
 #[inline(always)]
-fn last_nibbles(n: u8x16) -> (u8x16, u8x16)
+fn last_nibbles(n: u8x32) -> (u8x32, u8x32)
     ensures first { result.0 ≡ map last_first n }
     ensures second { result.1 ≡ map last_second n }
 {
-    let i = n >> u8x16::splat(4);
-    let k = n & u8x16::splat(15);
+    let i = n >> u8x32::splat(4);
+    let k = n & u8x32::splat(15);
     let j = i ^ k;
     let quotient = look(QUOTIENT, k);
     let over_i = look(INVERSE, i);
@@ -104,19 +143,19 @@ fn last_nibbles(n: u8x16) -> (u8x16, u8x16)
 
 // Each octet substituted, from its nibbles.
 #[inline(always)]
-fn substituted(n: u8x16) -> u8x16
+fn substituted(n: u8x32) -> u8x32
     ensures { result ≡ map substituted n }
 {
     let (s, t) = last_nibbles(n);
     let first = look(FIRST, s);
     let second = look(SECOND, t);
-    first ^ second ^ u8x16::splat(0x63)
+    first ^ second ^ u8x32::splat(0x63)
 }
 
 // Of each octet the nibbles of what it is substituted by and of twice that, but for the constants that the
 // affine map adds: in a column they come to one constant at each octet, which the round key's nibbles have.
 #[inline(always)]
-fn next_nibbles(n: u8x16) -> (u8x16, u8x16)
+fn next_nibbles(n: u8x32) -> (u8x32, u8x32)
     ensures once { result.0 ≡ map once n }
     ensures twice { result.1 ≡ map twice n }
 {
@@ -128,52 +167,72 @@ fn next_nibbles(n: u8x16) -> (u8x16, u8x16)
     (first ^ second, twice_first ^ twice_second)
 }
 
-/// The nibbles of a round key, as `round` takes them.
-#[inline(always)]
-pub(crate) fn key_nibbles(key: u8x16) -> u8x16
+/// The nibbles of a round key, as `round` takes them twice.
+pub(crate) fn key_nibbles(key: u8x16) -> [u8; 16]
     ensures { result ≡ map key_nibbles key }
 {
-    nibbles(key ^ u8x16::splat(0x63))
+    let (kept, _) = halves(nibbles(doubled(key) ^ u8x32::splat(0x63)));
+    kept
 }
 
-/// One round on a state's nibbles.
+/// One round on the nibbles of two states. In a column a, b, c, d, whose octets stand at four turns of the
+/// rows, each new octet is 2 a + 3 b + c + d.
 #[inline(always)]
-pub(crate) fn round(n: u8x16, key: u8x16) -> u8x16
-    ensures { (state round_key : List ℕ) → HasNibbles n state → IsState round_key
-        → key ≡ map key_nibbles round_key → HasNibbles result (round state round_key) }
+pub(crate) fn round(n: u8x32, key: u8x32) -> u8x32
+    ensures { (s t round_key : List ℕ) → HasBoth n s t → IsState round_key
+        → key ≡ map key_nibbles round_key ++ map key_nibbles round_key
+        → HasBoth result (round s round_key) (round t round_key) }
 {
     let (once, twice) = next_nibbles(n);
-    let a = twice.swizzle([0, 5, 10, 15, 4, 9, 14, 3, 8, 13, 2, 7, 12, 1, 6, 11]);
-    let b = once.swizzle([5, 10, 15, 0, 9, 14, 3, 4, 13, 2, 7, 8, 1, 6, 11, 12]);
-    let d = once.swizzle([15, 0, 5, 10, 3, 4, 9, 14, 7, 8, 13, 2, 11, 12, 1, 6]);
-    let front = a ^ b;
-    let next = front.swizzle([1, 2, 3, 0, 5, 6, 7, 4, 9, 10, 11, 8, 13, 14, 15, 12]);
-    (front ^ next) ^ (d ^ key)
+    let thrice = once ^ twice;
+    let a = twice.swizzle([
+        0, 5, 10, 15, 4, 9, 14, 3, 8, 13, 2, 7, 12, 1, 6, 11, 16, 21, 26, 31, 20, 25, 30, 19, 24,
+        29, 18, 23, 28, 17, 22, 27,
+    ]);
+    let b = thrice.swizzle([
+        5, 10, 15, 0, 9, 14, 3, 4, 13, 2, 7, 8, 1, 6, 11, 12, 21, 26, 31, 16, 25, 30, 19, 20, 29,
+        18, 23, 24, 17, 22, 27, 28,
+    ]);
+    let c = once.swizzle([
+        10, 15, 0, 5, 14, 3, 4, 9, 2, 7, 8, 13, 6, 11, 12, 1, 26, 31, 16, 21, 30, 19, 20, 25, 18,
+        23, 24, 29, 22, 27, 28, 17,
+    ]);
+    let d = once.swizzle([
+        15, 0, 5, 10, 3, 4, 9, 14, 7, 8, 13, 2, 11, 12, 1, 6, 31, 16, 21, 26, 19, 20, 25, 30, 23,
+        24, 29, 18, 27, 28, 17, 22,
+    ]);
+    ((a ^ b) ^ (c ^ d)) ^ key
 }
 
-/// The last round on a state's nibbles; what it makes is no longer in nibbles.
+/// The last round on the nibbles of two states, which makes both encryptions.
 #[inline(always)]
-pub(crate) fn last_round(n: u8x16, key: u8x16) -> u8x16
-    ensures { (state : List ℕ) → HasNibbles n state → result ≡ last_round state key }
+pub(crate) fn last_round(n: u8x32, key: u8x16) -> ([u8; 16], [u8; 16])
+    ensures { (s t : List ℕ) → HasBoth n s t
+        → (result.0 ≡ last_round s key) × (result.1 ≡ last_round t key) }
 {
     let s = substituted(n);
-    let turned = s.swizzle([0, 5, 10, 15, 4, 9, 14, 3, 8, 13, 2, 7, 12, 1, 6, 11]);
-    turned ^ key
+    let turned = s.swizzle([
+        0, 5, 10, 15, 4, 9, 14, 3, 8, 13, 2, 7, 12, 1, 6, 11, 16, 21, 26, 31, 20, 25, 30, 19, 24,
+        29, 18, 23, 28, 17, 22, 27,
+    ]);
+    halves(turned ^ doubled(key))
 }
 
-/// The nibbles of a block with the first round key added.
+/// The nibbles of two blocks with the first round key added.
 #[inline(always)]
-pub(crate) fn keyed(part: &[u8; 16], key: u8x16) -> u8x16
-    ensures { HasNibbles result (add_round_key part.now key) }
+pub(crate) fn keyed(one: &[u8; 16], other: &[u8; 16], key: u8x16) -> u8x32
+    ensures { HasBoth result (add_round_key one.now key) (add_round_key other.now key) }
 {
-    nibbles(u8x16::from_array(*part) ^ key)
+    let blocks = joined(u8x16::from_array(*one), u8x16::from_array(*other));
+    nibbles(blocks ^ doubled(key))
 }
 
 // Each octet substituted.
-fn sub_bytes(x: u8x16) -> u8x16
+fn sub_bytes(x: u8x16) -> [u8; 16]
     ensures { result ≡ map sub_byte x }
 {
-    substituted(nibbles(x))
+    let (bytes, _) = halves(substituted(nibbles(doubled(x))));
+    bytes
 }
 
 /// Each octet of a word substituted.
@@ -182,6 +241,6 @@ pub(crate) fn sub_word(word: [u8; 4]) -> [u8; 4]
 {
     let [a, b, c, d] = word;
     let x = u8x16::from_array([a, b, c, d, 0, 0, 0, 0, 0, 0, 0, 0, 0, 0, 0, 0]);
-    let s = sub_bytes(x).to_array();
+    let s = sub_bytes(x);
     [s[0], s[1], s[2], s[3]]
 }

@@ -4,7 +4,7 @@
 mod keys;
 mod lanes;
 pub mod laws;
-pub mod plain;
+pub mod reference;
 mod schedule;
 
 pub use schedule::Schedule;

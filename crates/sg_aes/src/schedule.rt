@@ -1,11 +1,11 @@
-// A key with its round keys, and the encryption of blocks under it.
+//! A key with its round keys, and the encryption of blocks under it.
 
 ghost use Rattle.std.specs.Prelude.{◌≡◌, ◌+◌, ◌≤◌, ℕ, List, length, map, IsSome, IfSome, ◌↔◌};
 ghost use Rattle.sg_aes.specs.Cipher.{aes_encrypt};
-ghost use Rattle.sg_aes.specs.Schedule.{key_of, IsKeyLength, IsExpanded};
+ghost use Rattle.sg_aes.specs.Schedule.{key_of, IsKeyLength, IsSchedule};
 
-use crate::keys::{Words, expand, round_key};
-use crate::lanes::{key_nibbles, keyed, last_round, round};
+use crate::keys::{Kept, Words, expand, kept_key, kept_keys, round_key};
+use crate::lanes::{doubled, keyed, last_round, round};
 use std::marker::Model;
 
 // The number of rounds under a key of so many words: 10, 12 or 14.
@@ -21,6 +21,8 @@ fn round_count(key_words: usize) -> usize
 pub struct Schedule {
     words: Words,
     key_words: usize,
+    // The nibbles of the round keys between the first and the last.
+    kept: Kept,
 }
 
 impl Model for Schedule {
@@ -28,7 +30,7 @@ impl Model for Schedule {
 
     ghost view = { λ s. key_of s.key_words s.words };
 
-    ghost invariant = { λ s. IsExpanded s.key_words s.words };
+    ghost invariant = { λ s. IsSchedule s.key_words s.words s.kept };
 }
 
 impl Schedule {
@@ -40,9 +42,13 @@ impl Schedule {
         if key.len() != 16 && key.len() != 24 && key.len() != 32 {
             return None;
         }
+        let key_words = key.len() / 4;
+        let words = expand(key);
+        let kept = kept_keys(&words, round_count(key_words));
         Some(Schedule {
-            words: expand(key),
-            key_words: key.len() / 4,
+            words,
+            key_words,
+            kept,
         })
     }
 
@@ -50,13 +56,22 @@ impl Schedule {
     pub fn block(&self, part: &mut [u8; 16])
         ensures { part.new ≡ aes_encrypt self.now part.old }
     {
+        let mut both = [*part; 2];
+        self.two(&mut both);
+        *part = both[0];
+    }
+
+    /// Replaces each of two blocks by its encryption.
+    pub fn two(&self, parts: &mut [[u8; 16]; 2])
+        ensures { parts.new ≡ map (aes_encrypt self.now) parts.old }
+    {
         let last = round_count(self.key_words);
-        let mut state = keyed(part, round_key(&self.words, 0));
+        let mut both = keyed(&parts[0], &parts[1], round_key(&self.words, 0));
         'rounds: for r in 1..last {
-            state = round(state, key_nibbles(round_key(&self.words, r)));
+            both = round(both, doubled(kept_key(&self.kept, r)));
         }
-        let encrypted = last_round(state, round_key(&self.words, last));
-        *part = encrypted.to_array();
+        let (a, b) = last_round(both, round_key(&self.words, last));
+        *parts = [a, b];
     }
 
     /// Replaces each of four blocks by its encryption.
@@ -65,22 +80,16 @@ impl Schedule {
     {
         let last = round_count(self.key_words);
         let first = round_key(&self.words, 0);
-        let mut a = keyed(&parts[0], first);
-        let mut b = keyed(&parts[1], first);
-        let mut c = keyed(&parts[2], first);
-        let mut d = keyed(&parts[3], first);
+        let mut left = keyed(&parts[0], &parts[1], first);
+        let mut right = keyed(&parts[2], &parts[3], first);
         'rounds: for r in 1..last {
-            let key = key_nibbles(round_key(&self.words, r));
-            a = round(a, key);
-            b = round(b, key);
-            c = round(c, key);
-            d = round(d, key);
+            let key = doubled(kept_key(&self.kept, r));
+            left = round(left, key);
+            right = round(right, key);
         }
         let key = round_key(&self.words, last);
-        let a = last_round(a, key).to_array();
-        let b = last_round(b, key).to_array();
-        let c = last_round(c, key).to_array();
-        let d = last_round(d, key).to_array();
+        let (a, b) = last_round(left, key);
+        let (c, d) = last_round(right, key);
         *parts = [a, b, c, d];
     }
 }

@@ -1,15 +1,20 @@
 -- A text cut at the first octet of a value.
-use Rattle.std.proofs.Common.{◌≡◌, ℕ, suc, ◌+◌, ◌<◌, ◌≤◌, Bool, true, false, eqb, List, [], ◌∷◌, ◌++◌, length, take, drop, Option, Some, None, refl, ap, subst, arith, inl, inr, add-one, ◌-◌}
-use Rattle.std.specs.Prelude.{option_map, ◌⊎◌, unwrap_or}
-use Rattle.std.specs.List.{position, position_or_len}
-use Rattle.std.proofs.lemmas.Bool.{eqb-true, eq-eqb, le-ltb, lt-ltb, cases_lt}
+use Rattle.std.proofs.Common.{◌≡◌, ℕ, suc, ◌+◌, ◌<◌, ◌≤◌, true, false, eqb, List, [], ◌∷◌, ◌++◌, length, take, drop, Option, Some, None, refl, ap, subst, arith, inl, inr, add-one, ◌-◌}
+use Rattle.std.specs.Prelude.{option_map, unwrap_or}
+use Rattle.std.specs.List.{All, position, position_or_len}
+use Rattle.std.proofs.lemmas.Bool.{cases_Bool, eqb-true, eq-eqb, le-ltb, lt-ltb, cases_lt}
 use Rattle.std.proofs.Math.Seq.{take-length}
 use Rattle.std.proofs.lemmas.List.{length-drop}
+use Rattle.std.proofs.lemmas.List.Elements.{All-from_recursion}
 use Rattle.sg_base.specs.Fields.{cut_at, Lacks}
 
-pub cases_bool : (b : Bool) → (b ≡ true) ⊎ (b ≡ false)
-cases_bool true = inl refl
-cases_bool false = inr refl
+-- a text of two parts that the octet doesn't stand in
+pub lacks_append : (c : ℕ) (x y : List ℕ) → Lacks c x → Lacks c y → Lacks c (x ++ y)
+lacks_append c [] y p q = q
+lacks_append c (d ∷ x) y p q = (p.0, lacks_append c x y p.1 q)
+
+pub lacks_all : (c : ℕ) (t : List ℕ) → Lacks c t → All (λ x. eqb x c ≡ false) t
+lacks_all c t h = All-from_recursion (λ x. eqb x c ≡ false) t h
 
 abbrev pub cut_by : List ℕ → Option ℕ → Option (List ℕ × List ℕ)
 cut_by t place = option_map (λ i. (take i t, drop (i + 1) t)) place
@@ -28,7 +33,7 @@ cut_found : (c : ℕ) (t : List ℕ) → place c t < length t → cut_at c t ≡
 unfolding cut_at
 cut_found c [] lt = absurd (omega arith)
 cut_found c (x ∷ xs) lt =
-    elim (cases_bool (eqb x c)) [
+    elim (cases_Bool (eqb x c)) [
       | inl e ↦ rw (place_hit c x xs e, e) refl
       | inr e ↦
           let k : place c xs < length xs = omega (arith, place_miss c x xs e) in
@@ -40,7 +45,7 @@ cut_lost : (c : ℕ) (t : List ℕ) → length t ≤ place c t → cut_at c t �
 unfolding cut_at
 cut_lost c [] le = refl
 cut_lost c (x ∷ xs) le =
-    elim (cases_bool (eqb x c)) [
+    elim (cases_Bool (eqb x c)) [
       | inl e ↦ absurd (omega (arith, place_hit c x xs e))
       | inr e ↦ let k : length xs ≤ place c xs = omega (arith, place_miss c x xs e) in rw (e, cut_lost c xs k) refl
     ]
@@ -77,7 +82,7 @@ pub cut_lacks : (c : ℕ) (t x y : List ℕ) → cut_at c t ≡ Some (x, y) → 
 unfolding cut_at
 cut_lacks c [] x y e = absurd cc
 cut_lacks c (z ∷ zs) x y e =
-    elim (cases_bool (eqb z c)) [
+    elim (cases_Bool (eqb z c)) [
       | inl h ↦
           let f : Some ([], zs) ≡ Some (x, y) = rw h at e in
           let x-is : [] ≡ x = ap (λ (o : Option (List ℕ × List ℕ)). (unwrap_or o (x, y)).0) f in
@@ -89,7 +94,7 @@ pub cut_takes : (c : ℕ) (t x y : List ℕ) → cut_at c t ≡ Some (x, y) → 
 unfolding cut_at
 cut_takes c [] x y e = absurd cc
 cut_takes c (z ∷ zs) x y e =
-    elim (cases_bool (eqb z c)) [
+    elim (cases_Bool (eqb z c)) [
       | inl h ↦
           let f : Some ([], zs) ≡ Some (x, y) = rw h at e in
           let z-is : z ≡ c = eqb-true z c h in

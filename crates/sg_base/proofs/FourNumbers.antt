@@ -6,19 +6,13 @@ use Rattle.std.proofs.lemmas.Bool.{ne_eqb}
 use Rattle.std.proofs.lemmas.Fmt.{decimal_by_steps_wide}
 use Rattle.sg_base.specs.declared.addresses.Address.{Address}
 use Rattle.sg_base.specs.Fields.{◌>>=◌, Lacks, number_at, cut_at, four_at, address_at, four_text, address_text, IsFour, IsAddress}
-use Rattle.sg_base.proofs.Cuts.{cut_again, cut_takes}
+use Rattle.sg_base.proofs.Cases.{some_is}
+use Rattle.sg_base.proofs.Cuts.{cut_again, cut_takes, lacks_append}
 use Rattle.sg_base.proofs.Decimals.{number_again, number_takes}
 
 pub bind_some : {A B : Type 0} (o : Option A) (f : A → Option B) (y : B) → (o >>= f) ≡ Some y → (x : A) × (o ≡ Some x) × (f x ≡ Some y)
 bind_some (Some x) f y e = (x, refl, e)
 bind_some None f y e = absurd cc
-
-some_is : {A : Type 0} (x y : A) → Some x ≡ Some y → x ≡ y
-some_is x y e = cc
-
-pub lacks_append : (c : ℕ) (x y : List ℕ) → Lacks c x → Lacks c y → Lacks c (x ++ y)
-lacks_append c [] y p q = q
-lacks_append c (d ∷ x) y p q = (p.0, lacks_append c x y p.1 q)
 
 -- no digit is an octet of another kind
 pub decimal_lacks : (c n : ℕ) → n < 10 ^ 64 → (c < 48) ⊎ (57 < c) → Lacks c (decimal n)

@@ -1,6 +1,8 @@
+pub mod Cases
 pub mod Cuts
 pub mod Decimals
+pub mod DigitLemmas
 pub mod FourNumbers
 pub mod Pairs
-pub mod Places
+mod Places
 pub mod SuiteLemmas

@@ -1,73 +1,29 @@
 -- Octets as pairs of lower digits.
-use Rattle.std.proofs.Common.{◌≡◌, ℕ, zero, suc, ◌+◌, ◌*◌, ◌/◌, ◌%◌, ◌<◌, ◌≤◌, Bool, true, false, List, [], ◌∷◌, length, Option, Some, None, Result, Ok, Err, refl, sym, ap, ◌∙◌, arith, inl, inr}
-use Rattle.std.specs.Prelude.{option_map, option_and_then, is_some, ◌&&◌, slice_index}
-use Rattle.std.specs.Result.{result_ok}
+use Rattle.std.proofs.Common.{◌≡◌, ℕ, zero, suc, ◌+◌, ◌*◌, ◌/◌, ◌%◌, ◌<◌, ◌≤◌, Bool, true, false, List, [], ◌∷◌, length, Option, Some, None, refl, sym, ap, ◌∙◌, arith, inl, inr}
+use Rattle.std.specs.Prelude.{option_and_then, is_some, ◌&&◌, slice_index}
 use Rattle.std.specs.List.{list_all}
-use Rattle.hex.specs.declared.error.FromHexError.{FromHexError}
-use Rattle.hex.specs.Hex.{◌>>=◌, decode_of, decode_pairs, hex_digit_value, encode_lower, encode_with, lower_digits, IsBytes}
+use Rattle.hex.specs.Hex.{encode_lower, encode_with, lower_digits, IsBytes}
 use Rattle.sg_base.specs.Fields.{lower_digit, octets_at}
-use Rattle.std.proofs.lemmas.Bool.{cases_eq, eq-eqb, ne_eqb}
-use Rattle.sg_base.proofs.Cuts.{cases_bool}
+use Rattle.std.proofs.lemmas.Bool.{cases_Bool}
+use Rattle.sg_base.proofs.Cases.{and_then_some, map_some}
 
 abbrev pub is_lower : ℕ → Bool
 is_lower c = is_some (lower_digit c)
 
-and_both : (a b : Bool) → (a && b) ≡ true → (a ≡ true) × (b ≡ true)
-and_both true b e = (refl, e)
-and_both false b e = absurd cc
-
--- a lower digit is a digit of the crate's too
-same_value : (c : ℕ) → is_lower c ≡ true → hex_digit_value c ≡ lower_digit c
-same_value c e = grind (arith)
-
 some_value : {A : Type 0} (o : Option A) → is_some o ≡ true → (v : A) × (o ≡ Some v)
 some_value (Some v) e = (v, refl)
 some_value None e = absurd cc
-
-regroup : (v : ℕ) (r : Result (List ℕ) FromHexError) → result_ok (r >>= λ bytes. Ok (v ∷ bytes)) ≡ option_map (λ bytes. v ∷ bytes) (result_ok r)
-regroup v (Ok bytes) = refl
-regroup v (Err e) = refl
-
-step : (i a b h l : ℕ) (rest : List ℕ) → hex_digit_value a ≡ Some h → hex_digit_value b ≡ Some l → lower_digit a ≡ Some h → lower_digit b ≡ Some l
-    → result_ok (decode_pairs (i + 2) rest) ≡ octets_at rest → result_ok (decode_pairs i (a ∷ b ∷ rest)) ≡ octets_at (a ∷ b ∷ rest)
-unfolding decode_pairs octets_at
-step i a b h l rest ha hb la lb later = rw (ha, hb, la, lb, ← later) (regroup (h * 16 + l) (decode_pairs (i + 2) rest))
-
--- what the crate decodes of lower digits is the octets of the pairs
-decode_pairs-octets_at : (i : ℕ) (t : List ℕ) → list_all is_lower t ≡ true → result_ok (decode_pairs i t) ≡ octets_at t
-unfolding decode_pairs octets_at
-decode_pairs-octets_at i [] all = refl
-decode_pairs-octets_at i (a ∷ []) all = refl
-decode_pairs-octets_at i (a ∷ b ∷ rest) all =
-    let p = and_both (is_lower a) (is_lower b && list_all is_lower rest) all in
-    let q = and_both (is_lower b) (list_all is_lower rest) p.1 in
-    let h = some_value (lower_digit a) p.0 in
-    let l = some_value (lower_digit b) q.0 in
-    step i a b h.0 l.0 rest (same_value a p.0 ∙ h.1) (same_value b q.0 ∙ l.1) h.1 l.1 (decode_pairs-octets_at (i + 2) rest q.1)
 
 twice_none : (o p : Option ℕ) → option_and_then {T = ℕ} {U = List ℕ} (λ h. option_and_then {T = ℕ} (λ l. None) p) o ≡ None
 twice_none (Some x) (Some y) = refl
 twice_none (Some x) None = refl
 twice_none None p = refl
 
-octets_at_odd : (t : List ℕ) → length t % 2 ≡ 1 → octets_at t ≡ None
+pub octets_at_odd : (t : List ℕ) → length t % 2 ≡ 1 → octets_at t ≡ None
 unfolding octets_at
 octets_at_odd [] odd = absurd (omega arith)
 octets_at_odd (a ∷ []) odd = refl
 octets_at_odd (a ∷ b ∷ rest) odd = rw (octets_at_odd rest (omega arith)) (twice_none (lower_digit a) (lower_digit b))
-
-pub decode_of-octets_at : (t : List ℕ) → list_all is_lower t ≡ true → result_ok (decode_of t) ≡ octets_at t
-decode_of-octets_at t all =
-    elim (cases_eq (length t % 2) 1) [
-      | inl odd ↦ rw (eq-eqb (length t % 2) 1 odd) (sym (octets_at_odd t odd))
-      | inr even ↦ rw (ne_eqb (length t % 2) 1 even) (decode_pairs-octets_at 0 t all)
-    ]
-
-pub octets_ok : (t octets : List ℕ) → list_all is_lower t ≡ true → decode_of t ≡ Ok octets → octets_at t ≡ Some octets
-octets_ok t octets all e = sym (decode_of-octets_at t all) ∙ ap result_ok e
-
-pub octets_err : (t : List ℕ) (e : FromHexError) → list_all is_lower t ≡ true → decode_of t ≡ Err e → octets_at t ≡ None
-octets_err t f all e = sym (decode_of-octets_at t all) ∙ ap result_ok e
 
 not_lower : (o : Option ℕ) → is_some o ≡ false → o ≡ None
 not_lower (Some v) e = absurd cc
@@ -82,10 +38,10 @@ unfolding octets_at
 octets_at_other [] e = absurd cc
 octets_at_other (a ∷ []) e = refl
 octets_at_other (a ∷ b ∷ rest) e =
-    elim (cases_bool (is_lower a)) [
+    elim (cases_Bool (is_lower a)) [
       | inr bad ↦ rw (not_lower (lower_digit a) bad) refl
       | inl good ↦
-          elim (cases_bool (is_lower b)) [
+          elim (cases_Bool (is_lower b)) [
             | inr bad ↦ rw (not_lower (lower_digit b) bad) (none_after (lower_digit a))
             | inl fine ↦
                 let f : list_all is_lower rest ≡ false = sym (ap (λ (x : Bool). x && (is_lower b && list_all is_lower rest)) good ∙ ap (λ (x : Bool). x && list_all is_lower rest) fine) ∙ e in
@@ -140,14 +96,6 @@ octets_again (b ∷ bytes) fits =
 IsBytes-cons : (b : ℕ) (rest : List ℕ) → b < 256 → IsBytes rest → IsBytes (b ∷ rest)
 IsBytes-cons b rest h hs zero = h
 IsBytes-cons b rest h hs (suc i) = hs i
-
-and_then_some : {A B : Type 0} (o : Option A) (f : A → Option B) (y : B) → option_and_then f o ≡ Some y → (x : A) × (o ≡ Some x) × (f x ≡ Some y)
-and_then_some (Some x) f y e = (x, refl, e)
-and_then_some None f y e = absurd cc
-
-map_some : {A B : Type 0} (o : Option A) (f : A → B) (y : B) → option_map f o ≡ Some y → (x : A) × (o ≡ Some x) × (f x ≡ y)
-map_some (Some x) f y e = (x, refl, cc)
-map_some None f y e = absurd cc
 
 pub octets_take : (t bytes : List ℕ) → octets_at t ≡ Some bytes → (t ≡ encode_lower bytes) × IsBytes bytes
 unfolding octets_at encode_with

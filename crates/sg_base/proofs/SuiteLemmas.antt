@@ -1,17 +1,16 @@
 -- Each suite has one name, and no name has a colon or a space.
-use Rattle.std.proofs.Common.{◌≡◌, ℕ, Bool, true, false, cond, eqb, List, [], ◌∷◌, Option, Some, refl, inl, inr}
-use Rattle.std.specs.Prelude.{◌&&◌, ◌⊎◌, not}
+use Rattle.std.proofs.Common.{◌≡◌, ℕ, ◌+◌, ◌≤◌, Bool, true, eqb, List, [], ◌∷◌, Some, refl, inl, inr, arith}
+use Rattle.std.specs.Prelude.{not}
 use Rattle.std.specs.List.{find, list_all}
 use Rattle.std.specs.Str.{bytes_eq}
+use Rattle.std.proofs.lemmas.Bool.{and_parts, not-true}
 use Rattle.std.proofs.lemmas.Slice.Eq.{bytes_eq-Decides}
 use Rattle.sg_base.specs.declared.suites.Suite.{Suite}
 use Rattle.sg_base.specs.declared.suites.Suite.TheVariants.{Raw80, Cm128Tag80, Cm128Tag32, Cm192Tag80, Cm192Tag32, Cm256Tag80, Cm256Tag32}
 use Rattle.sg_base.specs.Fields.{Lacks}
 use Rattle.sg_base.specs.SuiteNames.{suite_name, all_suites, suite_at}
-
-chosen : {A : Type 0} (b : Bool) (x y z : Option A) → cond b x y ≡ z → ((b ≡ true) × (x ≡ z)) ⊎ ((b ≡ false) × (y ≡ z))
-chosen true x y z e = inl (refl, e)
-chosen false x y z e = inr (refl, e)
+use Rattle.sg_base.specs.Suites.{key_len_of, salt_len_of}
+use Rattle.sg_base.proofs.Cases.{chosen}
 
 -- what is found passes the test
 pub find_passes : {A : Type 0} (p : A → Bool) (xs : List A) (x : A) → find p xs ≡ Some x → p x ≡ true
@@ -22,18 +21,10 @@ find_passes p (y ∷ ys) x e =
       | inr h ↦ find_passes p ys x h.1
     ]
 
-and_both : (a b : Bool) → (a && b) ≡ true → (a ≡ true) × (b ≡ true)
-and_both true b e = (refl, e)
-and_both false b e = absurd cc
-
-not_is : (b : Bool) → not b ≡ true → b ≡ false
-not_is true e = absurd cc
-not_is false e = refl
-
 -- an octet that a test finds nowhere
 pub lacks_test : (c : ℕ) (t : List ℕ) → list_all (λ x. not (eqb x c)) t ≡ true → Lacks c t
 lacks_test c [] e = tt
-lacks_test c (x ∷ t) e = let p = and_both (not (eqb x c)) (list_all (λ x. not (eqb x c)) t) e in (not_is (eqb x c) p.0, lacks_test c t p.1)
+lacks_test c (x ∷ t) e = let p = and_parts (not (eqb x c)) (list_all (λ x. not (eqb x c)) t) e in (not-true (eqb x c) p.0, lacks_test c t p.1)
 
 pub suite_again : (s : Suite) → suite_at (suite_name s) ≡ Some s
 unfolding suite_at suite_name
@@ -68,3 +59,13 @@ suite_lacks_space Cm192Tag80 = lacks_test 32 (suite_name Cm192Tag80) refl
 suite_lacks_space Cm192Tag32 = lacks_test 32 (suite_name Cm192Tag32) refl
 suite_lacks_space Cm256Tag80 = lacks_test 32 (suite_name Cm256Tag80) refl
 suite_lacks_space Cm256Tag32 = lacks_test 32 (suite_name Cm256Tag32) refl
+
+-- a key and its salt have 46 octets at most
+pub sizes : (s : Suite) → key_len_of s + salt_len_of s ≤ 46
+sizes Raw80 = omega arith
+sizes Cm128Tag80 = omega arith
+sizes Cm128Tag32 = omega arith
+sizes Cm192Tag80 = omega arith
+sizes Cm192Tag32 = omega arith
+sizes Cm256Tag80 = omega arith
+sizes Cm256Tag32 = omega arith

@@ -1,7 +1,17 @@
--- The lengths of a suite's keys, salts and tags in octets (RFC 4568, 6.2; RFC 6188, 2).
-use Rattle.std.specs.Prelude.{ℕ}
+-- The raw form, and the lengths of a suite's keys, salts and tags in octets (RFC 4568, 6.2; RFC 6188, 2).
+use Rattle.std.specs.Prelude.{ℕ, Bool, true, false}
 use Rattle.sg_base.specs.declared.suites.Suite.{Suite}
 use Rattle.sg_base.specs.declared.suites.Suite.TheVariants.{Raw80, Cm128Tag80, Cm128Tag32, Cm192Tag80, Cm192Tag32, Cm256Tag80, Cm256Tag32}
+
+-- the raw form encrypts nothing
+abbrev pub is_raw : Suite → Bool
+is_raw Raw80 = true
+is_raw Cm128Tag80 = false
+is_raw Cm128Tag32 = false
+is_raw Cm192Tag80 = false
+is_raw Cm192Tag32 = false
+is_raw Cm256Tag80 = false
+is_raw Cm256Tag32 = false
 
 abbrev pub key_len_of : Suite → ℕ
 key_len_of Raw80 = 20

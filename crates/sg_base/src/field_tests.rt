@@ -1,3 +1,5 @@
+//! Fields of texts.
+
 use crate::{Address, Suite, cut, read_address, read_four, read_number, read_octets, read_suite};
 use std::test::Fail;
 

@@ -1,13 +1,10 @@
 //! Fields of texts that several grammars share. Each value has one spelling.
 
-ghost use Rattle.std.specs.Prelude.{◌≡◌, ◌≤◌, option_map, is_some, IfSome, IfOk};
-ghost use Rattle.std.specs.List.{list_all};
-ghost use Rattle.sg_base.specs.Fields.{address_at, cut_at, four_at, lower_digit, number_at, octets_at};
+ghost use Rattle.std.specs.Prelude.{◌≡◌, ◌≤◌, option_map, IfSome};
+ghost use Rattle.sg_base.specs.Fields.{address_at, cut_at, four_at, number_at};
 
-use crate::{Address, NoMemory, Octets};
-use hex::FromHexError;
+use crate::Address;
 use itoa::Buffer;
-use std::alloc::Global;
 use std::str;
 
 /// A decimal number of at most `most`, without a sign or a leading zero.
@@ -34,38 +31,6 @@ pub fn cut(octet: u8, text: &[u8]) -> Option<(&[u8], &[u8])>
 {
     let place = text.iter().position(|other| *other == octet)?;
     Some((&text[..place], &text[place + 1..]))
-}
-
-fn is_lower_digit(digit: u8) -> bool
-    ensures { result ≡ is_some (lower_digit digit) }
-{
-    // Without a branch: the digits of a packet are as good as random.
-    let is_decimal = digit.wrapping_sub(b'0') < 10;
-    let is_letter = digit.wrapping_sub(b'a') < 6;
-    is_decimal | is_letter
-}
-
-fn are_lower_digits(text: &[u8]) -> bool
-    ensures { result ≡ list_all (λ digit. is_some (lower_digit digit)) text.now }
-{
-    text.iter().all(|digit| is_lower_digit(*digit))
-}
-
-/// The octets of pairs of lower-case hexadecimal digits (RFC 4648, section 8, in lower case); none for
-/// another text.
-pub fn read_octets(alloc: Global, text: &[u8]) -> Result<Option<Octets>, NoMemory>
-    ensures { IfOk result (λ read. read ≡ octets_at text.now) }
-{
-    if !are_lower_digits(text) {
-        return Ok(None);
-    }
-    match hex::decode(alloc, text) {
-        Ok(octets) => Ok(Some(Octets::from_vec(octets))),
-        Err(cause) => match cause {
-            FromHexError::OutOfMemory => Err(NoMemory),
-            _ => Ok(None),
-        },
-    }
 }
 
 /// Four numbers of at most 255 joined by full stops, as an IPv4 address is written.

@@ -89,8 +89,8 @@ impl MasterKey {
         self.salt.as_slice()
     }
 
-    /// The same key again, without memory.
-    pub fn again(&self) -> MasterKey
+    /// The same key; it doesn't allocate.
+    pub fn clone(&self) -> MasterKey
         ensures { result ≡ self.now }
     {
         MasterKey {

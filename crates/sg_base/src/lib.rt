@@ -2,12 +2,14 @@
 #![tactic(auto)]
 
 mod addresses;
+mod digits;
 mod faults;
 #[cfg(test)]
 mod field_tests;
 mod fields;
 mod identities;
 mod keys;
+mod limits;
 mod mkis;
 mod numbers;
 mod octets;
@@ -17,17 +19,24 @@ mod suite_names;
 mod suites;
 
 pub use addresses::{Address, CallId, Kind, Side};
+pub use digits::read_octets;
 pub use faults::{
-    CsFault, DropCause, Failed, HeadFault, IndexFault, MikeyFault, NoMemory, PskFault, Refusal,
-    ScriptFault, SdesFault, SdpFault,
+    CsFault, DropCause, Failed, Fault, HeadFault, IndexFault, MikeyFault, NoMemory, PskFault,
+    Refusal, ScriptFault, SdesFault, SdpFault,
 };
-pub use fields::{cut, read_address, read_four, read_number, read_octets};
+pub use fields::{cut, read_address, read_four, read_number};
 pub use identities::{Identity, Noise304};
 pub use keys::{CipherKey, HalfKeys, MasterKey, SessionKeys};
+pub use limits::{
+    CALLS_MOST, FIRST_PORT, LINE_MOST, MEDIA_MOST, MEDIUM_PORTS, MKI_MOST, NOISE, PAD_MOST,
+    PLAIN_MOST, PROTECTED_MOST, RING_KEYS_MOST, RTCP_LIFE, RTCP_TAG, RTP_LIFE, SCRIPT_MOST,
+    SDP_LINE_MOST, SDP_MOST, SESSION_KEYS_MOST, SLOT_PORTS, STREAMS_MOST, TICK_MOST, WINDOW_LEAST,
+    WINDOW_MOST,
+};
 pub use mkis::Mki;
 pub use numbers::{octets_of_u32, read_u16, read_u32};
 pub use octets::Octets;
-pub use pad::{NOISE, PAD_MOST, PLAIN_MOST, PROTECTED_MOST, Pad, TooLong};
+pub use pad::{Pad, TooLong};
 pub use spellings::{
     address_spelling, cut_spelling, four_spelling, number_spelling, octets_spelling,
 };

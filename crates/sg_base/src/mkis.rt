@@ -72,7 +72,7 @@ impl Mki {
         self.length
     }
 
-    /// Its octets, the highest first, with zeros in front beyond 16.
+    /// Its octets, the highest first, with leading zeros beyond 16.
     pub fn octets(&self) -> ArrayVec<u8, 128>
         ensures same { result.items ≡ mki_octets self.now }
         ensures sized { length result.items ≡ self.now.length }

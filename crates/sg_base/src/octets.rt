@@ -21,7 +21,7 @@ impl Model for Octets {
 }
 
 impl Octets {
-    /// The vector's octets; no memory is taken.
+    /// The vector's octets; it doesn't allocate.
     pub fn from_vec(octets: Vec<u8>) -> Octets
         ensures { result ≡ octets.items }
     {
@@ -44,7 +44,7 @@ impl Octets {
         self.octets.as_slice()
     }
 
-    /// The octets as a vector; no memory is taken.
+    /// The octets as a vector; it doesn't allocate.
     pub fn into_vec(self) -> Vec<u8>
         ensures { result.items ≡ self }
     {

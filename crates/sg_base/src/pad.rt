@@ -4,28 +4,15 @@ ghost use Rattle.std.specs.Prelude.{◌≡◌, ◌+◌, ◌<◌, ◌≤◌, [], 
 ghost use Rattle.std.specs.Borrow.{sem};
 ghost use Rattle.sg_base.specs.Pads.{LendsOctets};
 
-use crate::NoMemory;
+use crate::{NoMemory, PAD_MOST};
 use std::alloc::Global;
 use std::marker::Model;
-
-/// How many octets a pad can hold.
-pub const PAD_MOST: usize = 4352;
-
-/// How many octets a plain packet has at most.
-pub const PLAIN_MOST: usize = 4096;
-
-/// How many octets a protected packet has at most: a plain one with an MKI of 128, the word of an SRTCP index, and a
-/// tag of 10.
-pub const PROTECTED_MOST: usize = 4238;
-
-/// How many octets of noise a signal draws.
-pub const NOISE: usize = 304;
 
 /// A datagram has more octets than a pad can hold.
 #[derive(Clone, Copy, Debug, PartialEq, Eq)]
 pub struct TooLong;
 
-/// One buffer of 4,352 octets, seen as its used octets. Only `make` takes memory.
+/// One buffer of 4,352 octets, seen as its used octets. Only `make` allocates.
 #[derive(Drop)]
 pub struct Pad {
     octets: Vec<u8>,
@@ -114,8 +101,9 @@ mod tests {
             assert_eq!(rt; pad.fill(&long[..count]), Ok(()), "{count} octets");
             assert_eq!(rt; pad.octets().len(), count);
         }
+        assert_eq!(rt; pad.fill(&[1, 2, 3]), Ok(()));
         assert_eq!(rt; pad.fill(&long), Err(TooLong));
-        assert_eq!(rt; pad.octets().len(), PAD_MOST);
+        assert_eq!(rt; pad.octets(), [1, 2, 3].as_slice());
         Ok(())
     }
 

@@ -1,7 +1,7 @@
 //! The crypto suites (RFC 4568, 6.2; RFC 6188, 2) and the raw form for tests.
 
 ghost use Rattle.std.specs.Prelude.{◌≡◌, ◌≤◌, ◌<◌};
-ghost use Rattle.sg_base.specs.Suites.{key_len_of, salt_len_of, tag_len_of};
+ghost use Rattle.sg_base.specs.Suites.{is_raw, key_len_of, salt_len_of, tag_len_of};
 
 /// A crypto suite: the cipher with its key's bits, and the tag's bits. `Raw80` encrypts nothing: its
 /// key is the authentication key itself.
@@ -17,6 +17,13 @@ pub enum Suite {
 }
 
 impl Suite {
+    /// Whether it is the raw form, which encrypts nothing.
+    pub fn is_raw(self) -> bool
+        ensures { result ≡ is_raw self }
+    {
+        matches!(self, Suite::Raw80)
+    }
+
     /// The octets of a master key.
     pub fn key_len(self) -> usize
         ensures value { result ≡ key_len_of self }

@@ -1,8 +1,9 @@
 //! The two sides of a session with one key.
 
-ghost use Rattle.std.specs.Prelude.{◌≡◌, ℕ, ◌<◌, ◌≤◌, length, true, IsTrue, IfSome, slice_get, Some};
-ghost use Rattle.sg_keys.specs.Live.{Live, is_cipher_len};
-ghost use Rattle.sg_media.specs.Ciphers.{HaveCiphers};
+ghost use Rattle.std.specs.Prelude.{◌≡◌, ◌<◌, length, true, IsTrue, IfSome};
+ghost use Rattle.sg_base.specs.declared.addresses.Kind.TheVariants as kind;
+ghost use Rattle.sg_keys.specs.Live.{is_cipher_len};
+ghost use Rattle.sg_media.specs.Sides.{CanBeMade, is_tag_len};
 
 use arrayvec::ArrayVec;
 use sg_base::{HalfKeys, Kind, MasterKey, SessionKeys, Suite};
@@ -39,10 +40,12 @@ fn is_cipher(half: &HalfKeys) -> bool
     matches!(half.encrypt.as_slice().len(), 16 | 24 | 32)
 }
 
-// The keys of a session with this one alone.
-fn key_set(half: HalfKeys) -> KeySet
-    requires { is_cipher_len (length half.encrypt) ≡ true }
-    ensures { (place : ℕ) (key : Live) → slice_get result place ≡ Some key → key.half ≡ half }
+// The session of RTP with this key alone, which has not served.
+fn session(half: HalfKeys, tag_len: u8) -> SessionSpec
+    requires cipher { is_cipher_len (length half.encrypt) ≡ true }
+    requires some { 0 < length half.encrypt }
+    requires tag { is_tag_len kind.Rtp tag_len ≡ true }
+    ensures { CanBeMade result }
 {
     let mut keys = ArrayVec::new();
     keys.push(LiveKey {
@@ -52,19 +55,9 @@ fn key_set(half: HalfKeys) -> KeySet
         life: LIFE,
         count: 0,
     });
-    KeySet::make(keys)
-}
-
-fn session(half: HalfKeys, tag_len: u8) -> SessionSpec
-    requires cipher { is_cipher_len (length half.encrypt) ≡ true }
-    requires some { 0 < length half.encrypt }
-    ensures window { result.window ≡ 1024 }
-    ensures tag { result.tag_len ≡ tag_len }
-    ensures ciphers { HaveCiphers result.keys result.kind result.encrypt }
-{
     SessionSpec {
         kind: Kind::Rtp,
-        keys: key_set(half),
+        keys: KeySet::make(keys),
         roc: 0,
         window: WINDOW,
         admit: Admit::Any,
@@ -73,10 +66,9 @@ fn session(half: HalfKeys, tag_len: u8) -> SessionSpec
     }
 }
 
+#[tactic(auto, using(sg_media::proofs::TagLengths::suite_tag))]
 fn rtp_session(suite: Suite, first: u8) -> Option<SessionSpec>
-    ensures window { IfSome result (λ s. s.window ≡ 1024) }
-    ensures tag { IfSome result (λ s. s.tag_len ≤ 10) }
-    ensures ciphers { IfSome result (λ s. HaveCiphers s.keys s.kind s.encrypt) }
+    ensures { IfSome result CanBeMade }
 {
     let SessionKeys { rtp, rtcp: _ } = derive(&master(suite, first)?);
     if is_cipher(&rtp) {

@@ -1,2 +1,7 @@
+pub mod ClocksInMemory
+pub mod Links
+pub mod LinksInMemory
 pub mod Memory
+pub mod NoiseInMemory
+pub mod Streams
 pub mod Told

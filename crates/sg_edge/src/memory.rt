@@ -3,7 +3,7 @@
 ghost use Rattle.std.specs.Prelude.{◌≡◌, ◌⊎◌, ◌+◌, ◌<◌, ◌≤◌, ◌≢◌, ℕ, Bool, true, false, List, ◌++◌, Option, Some, None, length, take, drop, IfOk, IsErr, IsTrue, IsNone, IsSome, [], min};
 ghost use Rattle.std.specs.Result.{is_err};
 ghost use Rattle.std.specs.Option.{option_copied, option_map};
-ghost use Rattle.sg_edge.specs.Told.{AtEnd, HasCause, Rose, Tells, TookIn, Wrote, taken};
+ghost use Rattle.sg_edge.specs.Told.{AtEnd, HasCause, Rose, Tells, TookIn, Wrote, counted, taken};
 ghost use Rattle.sg_edge.specs.Memory.{after_call, fails_next, left_after, no_calls, passed};
 
 use crate::{Sink, Source};
@@ -13,7 +13,7 @@ use std::marker::Model;
 
 /// The calls on an object in memory.
 #[derive(Drop)]
-struct CallBook {
+pub(crate) struct CallBook {
     most: usize,
     count: u64,
     fails: Vec<u64>,
@@ -33,7 +33,7 @@ impl Model for CallBook {
 }
 
 impl CallBook {
-    fn new(most: usize, fails: Vec<u64>) -> CallBook
+    pub(crate) fn new(most: usize, fails: Vec<u64>) -> CallBook
         requires { 0 < most }
         ensures { result ≡ no_calls most fails.items }
     {
@@ -47,7 +47,7 @@ impl CallBook {
     }
 
     /// Whether the next call is to fail.
-    fn fails(&self) -> bool
+    pub(crate) fn fails(&self) -> bool
         ensures { result ≡ fails_next self.now }
     {
         let number = self.count.saturating_add(1);
@@ -55,9 +55,10 @@ impl CallBook {
     }
 
     /// A call was made, which failed or not.
-    fn note(&mut self, failed: bool)
+    pub(crate) fn note(&mut self, failed: bool)
         ensures value { self.new ≡ after_call failed self.old }
         ensures later { self.old.faults ≤ self.new.faults }
+        ensures quiet { failed ≡ false → self.new.faults ≡ self.old.faults }
         ensures rose { IsTrue failed → Rose self.old.faults self.new.faults }
     {
         self.count = self.count.saturating_add(1);
@@ -91,7 +92,7 @@ impl Model for MemSource {
 
     ghost Value = { SourceInMemory };
 
-    ghost view = { λ s. record { left = drop s.at s.octets; calls = s.book } };
+    ghost view = { λ s. record { left = drop s.at s.octets; given = s.at; calls = s.book } };
 
     ghost invariant = { λ s. s.at ≤ length s.octets };
 }
@@ -100,6 +101,7 @@ impl MemSource {
     /// A source of these octets; the calls with these numbers fail.
     pub fn make(octets: Octets, fails: Vec<u64>) -> MemSource
         ensures left { result.left ≡ octets }
+        ensures given { result.given ≡ 0 }
         ensures calls { result.calls ≡ no_calls usize.MAX fails.items }
     {
         MemSource::limited(octets, usize::MAX, fails)
@@ -109,6 +111,7 @@ impl MemSource {
     pub fn limited(octets: Octets, most: usize, fails: Vec<u64>) -> MemSource
         requires { 0 < most }
         ensures left { result.left ≡ octets }
+        ensures given { result.given ≡ 0 }
         ensures calls { result.calls ≡ no_calls most fails.items }
     {
         MemSource {
@@ -131,6 +134,8 @@ pub(crate) fn copy_front(octets: &[u8], at: usize, count: usize, part: &mut [u8]
 impl Source for MemSource {
     ghost left = { λ s. Some s.left };
 
+    ghost given = { λ s. s.given };
+
     ghost faults = { λ s. s.calls.faults };
 
     ghost failed = { λ s. Some s.calls.failed };
@@ -139,6 +144,7 @@ impl Source for MemSource {
         ensures within { IfOk result (λ n. n ≤ length part.old) }
         ensures ended { IfOk result (λ n. 0 < length part.old → n ≡ 0 → AtEnd (Some self.new.left)) }
         ensures took { TookIn (Some self.old.left) (Some self.new.left) (taken result part.new) }
+        ensures counts { self.new.given ≡ counted self.old.given result }
         ensures cause { HasCause self.old.calls.faults self.new.calls.faults result }
         ensures told { Tells (Some self.new.calls.failed) (is_err result) }
         ensures fails { is_err result ≡ fails_next self.old.calls }

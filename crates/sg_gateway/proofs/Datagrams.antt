@@ -15,7 +15,7 @@ use Rattle.sg_gateway.specs.Datagrams.{Entry, Happening, Given, put, call_after,
 use Rattle.sg_gateway.specs.Generations.{sessions_from}
 use Rattle.sg_gateway.specs.Ports.{call_at, has_port}
 use Rattle.sg_gateway.specs.Runs.{Turn, turn_of, turns_from, world_after}
-use Rattle.sg_gateway.specs.Signals.{ByHand, medium_by_hand}
+use Rattle.sg_gateway.specs.Signals.{ManualCall, manual_medium}
 use Rattle.sg_gateway.specs.Step.{Event, Signalled, Datagram, step}
 use Rattle.sg_gateway.specs.Twice.{IsSamePlace}
 use Rattle.sg_gateway.specs.World.{Call, World, empty}
@@ -133,9 +133,9 @@ module _ (Extra : Session → Type 0)
 
 module _ (Extra : Session → Type 0)
     (kept_on : (n : Name) (d : Done) (s : Session) → Extra s → Extra (with_done n d s))
-    (by_hand : (h : ByHand) (call generation n : ℕ) → AllByRecursion Extra (sessions_from call generation 0 n (Some (medium_by_hand h) ∷ []))) where
+    (manual_answer : (h : ManualCall) (call generation n : ℕ) → AllByRecursion Extra (sessions_from call generation 0 n (Some (manual_medium h) ∷ []))) where
   at_event : (past : List Entry) (w : World) (kept : IsKept Extra past w) (apart : AllPairs Apart past) (e : Event) → GoesOn Extra kept_on past w kept apart (step w e)
-  at_event past w kept apart (Signalled signal) = nothing_new Extra kept_on past w kept apart _ (signal_fits Extra by_hand past w kept signal).1
+  at_event past w kept apart (Signalled signal) = nothing_new Extra kept_on past w kept apart _ (signal_fits Extra manual_answer past w kept signal).1
   at_event past w kept apart (Datagram port from d) = arrived_goes Extra kept_on past w kept apart port from d.items (call_at w port) refl
 
   -- the journal so far, and all that is kept, at the end of a run
@@ -166,9 +166,18 @@ module _ (Extra : Session → Type 0)
       → (es : List Event) → AllByRecursion P (turns_from empty es) → AllByRecursion Q (turns_from empty es)
   every_turn P Q h es p = each_turn P Q h [] empty es empty_kept (λ i j d below lt. absurd (let none : j < length {A = Entry} [] = lt in omega arith)) p
 
-  -- what each event keeps in a kept world is kept by the run
-  pub run_keeps : (P : World → Type 0) → ((past : List Entry) (w : World) (e : Event) → IsKept Extra past w → P w → P (step w e).world)
-      → (past : List Entry) (w : World) (es : List Event) → IsKept Extra past w → AllPairs Apart past → P w → P (world_after w es)
-  run_keeps P h past w [] kept apart p = p
-  run_keeps P h past w (e ∷ es) kept apart p =
-      let now = at_event past w kept apart e in run_keeps P h (past ++ (step w e).entries) (step w e).world es now.1 now.0 (h past w e kept p)
+  -- what each event keeps in a kept world holds before each event, and in the last world
+  pub worlds_keep : (U : World → Event → Type 0) (P : World → Type 0)
+      → ((past : List Entry) (w : World) (e : Event) → IsKept Extra past w → U w e → P w → P (step w e).world)
+      → (past : List Entry) (w : World) (es : List Event) → IsKept Extra past w → AllPairs Apart past → AllByRecursion (λ t. U t.before t.event) (turns_from w es) → P w
+      → AllByRecursion (λ t. P t.before) (turns_from w es) × P (world_after w es)
+  worlds_keep U P h past w [] kept apart u p = (tt, p)
+  worlds_keep U P h past w (e ∷ es) kept apart u p =
+      let now = at_event past w kept apart e in
+      let rest = worlds_keep U P h (past ++ (step w e).entries) (step w e).world es now.1 now.0 u.1 (h past w e kept u.0 p) in
+      ((p, rest.0), rest.1)
+
+  pub every_world : (U : World → Event → Type 0) (P : World → Type 0)
+      → ((past : List Entry) (w : World) (e : Event) → IsKept Extra past w → U w e → P w → P (step w e).world)
+      → (es : List Event) → AllByRecursion (λ t. U t.before t.event) (turns_from empty es) → P empty → AllByRecursion (λ t. P t.before) (turns_from empty es) × P (world_after empty es)
+  every_world U P h es u p = worlds_keep U P h [] empty es empty_kept (λ i j d below lt. absurd (let none : j < length {A = Entry} [] = lt in omega arith)) u p

@@ -1,6 +1,6 @@
 -- The calls of every world stand by rising slot, and no two sessions have one name.
 use Rattle.std.proofs.Common.{◌≡◌, ◌⊎◌, inl, inr, ℕ, suc, ◌+◌, ◌<◌, ◌≤◌, Bool, true, false, cond, List, [], ◌∷◌, ◌++◌, length, Option, Some, None, refl, sym, ap, ◌∙◌, arith, eqb, ltb}
-use Rattle.std.proofs.lemmas.Bool.{eqb-true, eqb-false, ltb-true, ltb-false, false≢true, and_parts, not-false}
+use Rattle.std.proofs.lemmas.Bool.{eqb-true, eqb-false, ltb-true, ltb-false}
 use Rattle.std.specs.List.{AllByRecursion, Any, filter}
 use Rattle.sg_base.specs.declared.addresses.Kind.TheVariants.{Rtp, Rtcp}
 use Rattle.sg_gateway.proofs.Pairs.{Pairs, pairs_append, pairs_map, each_two}
@@ -151,6 +151,20 @@ generation_named call generation m n (Some x ∷ ms) =
     (each_append (InGeneration generation m) sealing later
     (each_weaker _ _ (λ s (e : s.name.owner ≡ owner_at call generation m Sealing). (ap (λ (o : Owner). o.generation) e, (let at = ap (λ (o : Owner). o.medium) e in omega (arith, at)))) sealing (streams_named call generation m Sealing _ x.to_peer 1024 x))
     (each_weaker _ _ (λ s p. (p.0, (let le = p.1 in omega (arith, le)))) later (generation_named call generation (m + 1) (n + length x.from_peer.keys + length x.to_peer.keys) ms)))
+
+pub generation_media : (call generation m n : ℕ) (media : List (Option Medium)) → AllByRecursion (λ s. s.name.owner.medium < m + length media) (sessions_from call generation m n media)
+generation_media call generation m n [] = tt
+generation_media call generation m n (None ∷ ms) = each_weaker _ _ (λ s lt. omega (arith, lt)) _ (generation_media call generation (m + 1) n ms)
+generation_media call generation m n (Some x ∷ ms) =
+    let opening : List Session = stream_sessions (owner_at call generation m Opening) (numbered n x.from_peer.keys) x.from_peer x.window x in
+    let sealing : List Session = stream_sessions (owner_at call generation m Sealing) (numbered (n + length x.from_peer.keys) x.to_peer.keys) x.to_peer 1024 x in
+    let later : List Session = sessions_from call generation (m + 1) (n + length x.from_peer.keys + length x.to_peer.keys) ms in
+    let Within : Session → Type 0 = λ s. s.name.owner.medium < m + suc (length ms) in
+    each_append Within opening (sealing ++ later)
+    (each_weaker _ Within (λ s (e : s.name.owner ≡ owner_at call generation m Opening). let at = ap (λ (o : Owner). o.medium) e in omega (arith, at)) opening (streams_named call generation m Opening _ x.from_peer x.window x))
+    (each_append Within sealing later
+    (each_weaker _ Within (λ s (e : s.name.owner ≡ owner_at call generation m Sealing). let at = ap (λ (o : Owner). o.medium) e in omega (arith, at)) sealing (streams_named call generation m Sealing _ x.to_peer 1024 x))
+    (each_weaker _ Within (λ s lt. omega (arith, lt)) later (generation_media call generation (m + 1) (n + length x.from_peer.keys + length x.to_peer.keys) ms)))
 
 pub generation_differ : (call generation m n : ℕ) (media : List (Option Medium)) → Pairs DifferInName (sessions_from call generation m n media)
 generation_differ call generation m n [] = tt

@@ -1,35 +1,39 @@
 -- The calls of every world of a run are in order, and so no port is of two of them.
-use Rattle.std.proofs.Common.{◌≡◌, ℕ, ◌<◌, ◌≤◌, false, ◌&&◌, List, [], ◌∷◌, Some, length, ap, arith, leb, ltb}
+use Rattle.std.proofs.Common.{◌≡◌, ℕ, ◌≤◌, false, ◌&&◌, List, [], ◌∷◌, Some, ap, arith, leb, ltb}
 use Rattle.std.proofs.lemmas.Bool.{and_parts, lt-leb, ltb-true}
 use Rattle.std.specs.List.{AllByRecursion}
 use Rattle.sg_session.proofs.Lists.{each_of}
 use Rattle.sg_session.specs.Session.{Session}
-use Rattle.sg_gateway.proofs.Datagrams.{run_keeps, empty_kept}
+use Rattle.sg_gateway.proofs.Datagrams.{every_world}
 use Rattle.sg_gateway.proofs.Orderly.{Ordered, event_ordered}
 use Rattle.sg_gateway.proofs.Pairs.{Pairs}
 use Rattle.sg_gateway.specs.Batch.{AreApart}
-use Rattle.sg_gateway.specs.Datagrams.{Entry}
 use Rattle.sg_gateway.specs.Generations.{sessions_from}
 use Rattle.sg_gateway.specs.Order.{IsBefore}
 use Rattle.sg_gateway.specs.Ports.{port_at}
-use Rattle.sg_gateway.specs.Runs.{world_after}
-use Rattle.sg_gateway.specs.Signals.{ByHand, medium_by_hand}
+use Rattle.sg_gateway.specs.Runs.{turns_from, world_after}
+use Rattle.sg_gateway.specs.Signals.{ManualCall, manual_medium}
 use Rattle.sg_gateway.specs.Step.{Event}
 use Rattle.sg_gateway.specs.World.{Call, empty}
 
 abbrev Any : Session → Type 0
 Any s = Unit {0}
 
-by_hand : (h : ByHand) (call generation n : ℕ) → AllByRecursion Any (sessions_from call generation 0 n (Some (medium_by_hand h) ∷ []))
-by_hand h call generation n = each_of Any (λ s. tt) (sessions_from call generation 0 n (Some (medium_by_hand h) ∷ []))
+manual_answer : (h : ManualCall) (call generation n : ℕ) → AllByRecursion Any (sessions_from call generation 0 n (Some (manual_medium h) ∷ []))
+manual_answer h call generation n = each_of Any (λ s. tt) (sessions_from call generation 0 n (Some (manual_medium h) ∷ []))
+
+pub empty_ordered : Ordered empty
+empty_ordered = record { calls = tt; slots = tt; media = tt; names = tt; placed = tt }
+
+-- the world before each event, and the last one
+pub ordered_worlds : (es : List Event) → AllByRecursion (λ t. Ordered t.before) (turns_from empty es) × Ordered (world_after empty es)
+ordered_worlds es = every_world Any (λ n d s u. tt) manual_answer
+    (λ w e. Unit {0}) Ordered (λ past w e kept u o. event_ordered Any past w kept o e) es (each_of (λ t. Unit {0}) (λ t. tt) (turns_from empty es)) empty_ordered
 
 pub ordered_after : (es : List Event) → Ordered (world_after empty es)
-ordered_after es = run_keeps Any (λ n d s u. tt) by_hand
-    Ordered (λ past w e kept o. event_ordered Any past w kept o e) [] empty es
-    (empty_kept Any (λ n d s u. tt) by_hand)
-    (λ i j d below lt. absurd (let none : j < length {A = Entry} [] = lt in omega arith)) (record { calls = tt; slots = tt; media = tt; names = tt })
+ordered_after es = (ordered_worlds es).1
 
-before_apart : (c d : Call) → c.media ≤ 4 → IsBefore c d → AreApart c d
+pub before_apart : (c d : Call) → c.media ≤ 4 → IsBefore c d → AreApart c d
 before_apart c d few before = record {
   serial = before.serial;
   ports = λ port at.

@@ -1,6 +1,6 @@
 -- A signal keeps what every world keeps, and puts nothing out.
-use Rattle.std.proofs.Common.{◌≡◌, ℕ, ◌+◌, ◌≤◌, Bool, true, false, cond, ◌&&◌, List, [], ◌∷◌, ◌++◌, length, Option, Some, Result, Ok, Err, refl, sym, subst, arith, eqb, ltb}
-use Rattle.std.specs.List.{AllByRecursion, Any, filter}
+use Rattle.std.proofs.Common.{◌≡◌, ℕ, ◌+◌, ◌≤◌, Bool, true, false, cond, List, [], ◌∷◌, ◌++◌, length, Option, Some, Result, Ok, Err, refl, sym, subst, arith, eqb, ltb}
+use Rattle.std.specs.List.{AllByRecursion, Any}
 use Rattle.std.specs.Option.{is_some}
 use Rattle.sg_base.specs.declared.addresses.CallId.{CallId}
 use Rattle.sg_base.specs.declared.faults.Refusal.{Refusal}
@@ -10,15 +10,15 @@ use Rattle.sg_outcome.specs.declared.outcomes.Outcome.TheVariants.{Live}
 use Rattle.sg_session.specs.Ring.{Installed, install}
 use Rattle.sg_session.specs.Session.{Session}
 use Rattle.sg_session.proofs.Inversions.{after_ok_is, stop_if_is, ok_is}
-use Rattle.sg_session.proofs.Lists.{each_weaker, each_append, each_map, each_filter, each_both, both, any_here, any_there}
+use Rattle.sg_session.proofs.Lists.{each_weaker, each_map, each_both, both, any_here, any_there}
 use Rattle.sg_gateway.specs.Datagrams.{Entry}
-use Rattle.sg_gateway.specs.Generations.{Settled, is_current, is_opening, keyed, keys_for, sessions_from}
+use Rattle.sg_gateway.specs.Generations.{Settled, keyed, keys_for, sessions_from}
 use Rattle.sg_gateway.specs.Media.{Medium}
 use Rattle.sg_gateway.specs.PeersPackets.{IsOutPlain}
-use Rattle.sg_gateway.specs.Signals.{ByHand, Signal, Manual, Answer, refused, idle_call, medium_by_hand, has_begun, keyed_by_hand, new_call, in_new, by_hand, answer_to}
+use Rattle.sg_gateway.specs.Signals.{ManualCall, Signal, Manual, Answer, refused, idle_call, manual_medium, has_begun, keyed_manually, new_call, in_new, manual_answer, answer_to}
 use Rattle.sg_gateway.specs.World.{Call, World, find_call, call_of, with_call, and_call, free_slot, is_full}
-use Rattle.sg_gateway.proofs.Growth.{install_is, call_grows, session_grows, entry_grows, sessions_are}
-use Rattle.sg_gateway.proofs.Kept.{SessionKept, CallKept, EntryKept, IsKept, IsRing}
+use Rattle.sg_gateway.proofs.Growth.{install_is, call_grows, entry_grows, sessions_are}
+use Rattle.sg_gateway.proofs.Kept.{CallKept, EntryKept, IsKept, IsRing}
 
 pub found : (P : Call → Type 0) (test : Call → Bool) (cs : List Call) (c : Call) → find_call test cs ≡ Some c → AllByRecursion P cs → P c
 found P test [] c e p = absurd cc
@@ -44,7 +44,7 @@ pub each_with_call : (P : Call → Type 0) (d : Call) (cs : List Call) → P d �
 each_with_call P d cs q p = each_map P P _ (λ c is. both P (eqb c.serial d.serial) d c q is) cs p
 
 module _ (Extra : Session → Type 0)
-    (by_hands : (h : ByHand) (call generation n : ℕ) → AllByRecursion Extra (sessions_from call generation 0 n (Some (medium_by_hand h) ∷ [])))
+    (manuals : (h : ManualCall) (call generation n : ℕ) → AllByRecursion Extra (sessions_from call generation 0 n (Some (manual_medium h) ∷ [])))
     (past : List Entry) (w : World) (kept : IsKept Extra past w) where
   abbrev Fits : Answer → Type 0
   Fits a = AllByRecursion (λ o. ¬ IsOutPlain o) a.outcomes × IsKept Extra past a.world
@@ -81,23 +81,19 @@ module _ (Extra : Session → Type 0)
         ring = grew.1;
         call = record {
           older = is.older;
-          sessions = each_append _ news (filter (λ s. is_opening s && is_current c s) c.sessions)
-              (each_both Extra _ news
-              (sessions_are Extra past ring c.serial c.generations is.generations 0 (length w.books.ring) media w.books.ring refl (sym grew.0)) extra)
-              (each_filter _ (λ s. is_opening s && is_current c s) c.sessions
-              (subst (λ r. AllByRecursion (SessionKept Extra past r c.serial (c.generations + 1)) c.sessions) grew.0
-              (each_weaker _ _ (λ s k. session_grows Extra past w.books.ring (keys_for c media) c.serial c.generations (c.generations + 1) (omega arith) s k) c.sessions is.sessions)));
+          sessions = each_both Extra _ news
+              (sessions_are Extra past ring c.serial c.generations is.generations 0 (length w.books.ring) media w.books.ring refl (sym grew.0)) extra;
           generations = each_weaker _ _ (λ e lt same. let below = lt same in omega (arith, below)) past is.generations;
         };
       })
 
-  hand_settled : (made : ℕ) (c : Call) (h : ByHand) (r : Settled) → CallKept Extra past w.books.ring made c
-      → keyed_by_hand w.moment w.books c (medium_by_hand h) ≡ Ok r → IsSettled made r
-  hand_settled made c h r is e =
-      let x : Medium = medium_by_hand h in
+  manual_settled : (made : ℕ) (c : Call) (h : ManualCall) (r : Settled) → CallKept Extra past w.books.ring made c
+      → keyed_manually w.moment w.books c (manual_medium h) ≡ Ok r → IsSettled made r
+  manual_settled made c h r is e =
+      let x : Medium = manual_medium h in
       let a = stop_if_is (has_begun c) State (keyed w.moment w.books (record c { media = 1 }) (Some x ∷ [])) r e in
       keyed_settled made (record c { media = 1 }) (Some x ∷ []) r (record { older = is.older; sessions = is.sessions; generations = is.generations })
-      (by_hands h c.serial c.generations (length w.books.ring)) a.1
+      (manuals h c.serial c.generations (length w.books.ring)) a.1
 
   -- the other calls and the past, under a ring that grew
   grown : (made : ℕ) → w.made ≤ made → (r : Settled) → IsSettled made r → AllByRecursion (CallKept Extra past r.books.ring made) w.calls × AllByRecursion (EntryKept Extra r.books.ring made) past
@@ -116,12 +112,12 @@ module _ (Extra : Session → Type 0)
       let others = grown (w.made + 1) (omega arith) r is in
       (((λ no. no), quiet), record { calls = each_and_call _ r.call w.calls is.call others.0; entries = others.1; ring = is.ring })
 
-  hand_fits : (h : ByHand) → Fits (by_hand w h)
-  hand_fits h =
+  manual_fits : (h : ManualCall) → Fits (manual_answer w h)
+  manual_fits h =
       both Fits (is_some (call_of w h.id)) _ _ (unchanged (Some h.id) CallKnown)
       (both Fits (is_full w) _ _ (unchanged (Some h.id) TableFull)
       (new_fits h.id (Live h.id ∷ []) (λ no. no, tt) _
-      (λ r e. hand_settled (w.made + 1) (new_call w h.id) h r (new_kept h.id (free_slot 0 w.calls)) e)))
+      (λ r e. manual_settled (w.made + 1) (new_call w h.id) h r (new_kept h.id (free_slot 0 w.calls)) e)))
 
   pub signal_fits : (signal : Signal) → Fits (answer_to w signal)
-  signal_fits (Manual h) = hand_fits h
+  signal_fits (Manual h) = manual_fits h

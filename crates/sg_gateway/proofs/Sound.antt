@@ -8,7 +8,7 @@ use Rattle.sg_base.specs.declared.suites.Suite.{Suite}
 use Rattle.sg_base.specs.declared.suites.Suite.TheVariants.{Raw80, Cm128Tag80, Cm128Tag32, Cm192Tag80, Cm192Tag32, Cm256Tag80, Cm256Tag32}
 use Rattle.sg_gateway.specs.Generations.{for_rtcp, numbered, owner_at, stream_session, stream_sessions, sessions_from}
 use Rattle.sg_gateway.specs.Media.{AgreedKey, Medium, Stream}
-use Rattle.sg_gateway.specs.Signals.{ByHand, medium_by_hand}
+use Rattle.sg_gateway.specs.Signals.{ManualCall, manual_medium}
 use Rattle.sg_base.specs.Suites.{tag_len_of}
 use Rattle.sg_session.proofs.Lists.{each_append, each_map, both}
 use Rattle.sg_kdf.specs.SessionKeys.{is_raw}
@@ -69,8 +69,8 @@ tag_low Cm192Tag32 = omega arith
 tag_low Cm256Tag80 = omega arith
 tag_low Cm256Tag32 = omega arith
 
-pub hand_sound : (h : ByHand) (call generation n : ℕ) → AllByRecursion IsSound (sessions_from call generation 0 n (Some (medium_by_hand h) ∷ []))
-hand_sound h call generation n =
-    medium_sound call generation 0 n (medium_by_hand h) [] ((tt, tt), tt) ((tt, tt), tt) (omega arith) (tag_low h.from_peer.suite) (tag_low h.to_peer.suite)
+pub manual_sound : (h : ManualCall) (call generation n : ℕ) → AllByRecursion IsSound (sessions_from call generation 0 n (Some (manual_medium h) ∷ []))
+manual_sound h call generation n =
+    medium_sound call generation 0 n (manual_medium h) [] ((tt, tt), tt) ((tt, tt), tt) (omega arith) (tag_low h.from_peer.suite) (tag_low h.to_peer.suite)
     (λ on. (not-true _ on, tt)) (λ on. (not-true _ on, tt))
     (λ has. let p = (and_parts _ _ (and_parts _ _ has).0) in ((not-true _ p.0, tt), (not-true _ p.1, tt))) tt

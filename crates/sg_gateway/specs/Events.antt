@@ -1,10 +1,10 @@
 -- The events of lines, and what they tell.
 use Rattle.std.specs.Prelude.{List, [], ◌∷◌}
 use Rattle.std.specs.List.{flat_map}
-use Rattle.sg_script.specs.declared.lines.Line.{Line}
-use Rattle.sg_script.specs.declared.lines.Line.TheVariants as lines
-use Rattle.sg_script.specs.declared.lines.Signal as scripts
-use Rattle.sg_script.specs.declared.lines.Signal.TheVariants.{Tick, Psk, Manual, OfferSecure, OfferSdes, OfferMikey, Answer, Reject, Bye}
+use Rattle.sg_lines.specs.declared.lines.Line.{Line}
+use Rattle.sg_lines.specs.declared.lines.Line.TheVariants as lines
+use Rattle.sg_lines.specs.declared.lines.Signal as scripts
+use Rattle.sg_lines.specs.declared.lines.Signal.TheVariants.{Tick, Psk, Manual, OfferSecure, OfferSdes, OfferMikey, Answer, Reject, Bye}
 use Rattle.sg_outcome.specs.declared.outcomes.Outcome.{Outcome}
 use Rattle.sg_gateway.specs.Octets.{as_octets}
 use Rattle.sg_gateway.specs.Runs.{turns_from}
@@ -12,7 +12,7 @@ use Rattle.sg_gateway.specs.Signals as signals
 use Rattle.sg_gateway.specs.Step.{Event, Signalled, Datagram}
 use Rattle.sg_gateway.specs.World.{World}
 
--- the events of a signal: that of a call that is keyed by hand, which is the one that is served
+-- the events of a signal: that of a call that is keyed manually, which is the one that is served
 abbrev pub events_of_signal : scripts.Signal → List Event
 events_of_signal (Manual call secure plain roc window from_peer to_peer) =
     Signalled (signals.Manual (record { id = call; secure = secure; plain = plain; roc = roc; window = window; from_peer = from_peer; to_peer = to_peer })) ∷ []

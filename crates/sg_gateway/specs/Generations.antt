@@ -1,5 +1,5 @@
 -- The sessions of a call's generation, under keys that the ring takes in.
-use Rattle.std.specs.Prelude.{min, ℕ, ◌+◌, Bool, ◌&&◌, ◌==◌, if◌then◌else◌, List, [], ◌∷◌, ◌++◌, length, map, filter, Option, Some, None, Result, Ok}
+use Rattle.std.specs.Prelude.{min, ℕ, ◌+◌, Bool, if◌then◌else◌, List, [], ◌∷◌, ◌++◌, length, map, Option, Some, None, Result, Ok}
 use Rattle.sg_base.specs.declared.addresses.Kind.{Kind}
 use Rattle.sg_base.specs.declared.addresses.Kind.TheVariants.{Rtp, Rtcp}
 use Rattle.sg_base.specs.declared.faults.Refusal.{Refusal}
@@ -7,7 +7,7 @@ use Rattle.sg_session.specs.Ring.{Installed, install}
 use Rattle.sg_session.specs.declared.names.Direction.{Direction}
 use Rattle.sg_session.specs.declared.names.Direction.TheVariants.{Opening, Sealing}
 use Rattle.sg_session.specs.declared.names.Owner.{Owner}
-use Rattle.sg_session.specs.Session.{Key, Session, same_direction}
+use Rattle.sg_session.specs.Session.{Key, Session}
 use Rattle.sg_session.specs.Stages.{after_ok}
 use Rattle.sg_gateway.specs.Media.{AgreedKey, Stream, Medium}
 use Rattle.sg_gateway.specs.World.{Books, Call}
@@ -75,17 +75,11 @@ pub record Settled : Type 0 where
   pub call : Call
   pub books : Books
 
-abbrev pub is_opening : Session → Bool
-is_opening s = same_direction s.name.owner.direction Opening
-
-abbrev pub is_current : Call → Session → Bool
-is_current c s = s.name.owner.generation + 1 == c.generations
-
--- the call with a new generation; the opening sessions of the one before still open
+-- the call with a new generation, which stands in the place of the one before
 abbrev pub renewed : ℕ → Books → Call → List (Option Medium) → Call
 renewed now books c media = record c {
   generations = c.generations + 1;
-  sessions = sessions_from c.serial c.generations 0 (length books.ring) media ++ filter (λ s. is_opening s && is_current c s) c.sessions;
+  sessions = sessions_from c.serial c.generations 0 (length books.ring) media;
   moment = now;
 }
 

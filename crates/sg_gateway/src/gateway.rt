@@ -1,13 +1,13 @@
 //! What every gateway does with a line.
 
-ghost use Rattle.std.specs.Prelude.{◌≡◌, IfOk};
+ghost use Rattle.std.specs.Prelude.{◌≡◌, IfOk, OnErr};
 ghost use Rattle.sg_gateway.specs.Events.{events_of, outcomes_from};
 ghost use Rattle.sg_gateway.specs.Runs.{world_after};
 ghost use Rattle.sg_gateway.specs.World.{World};
 
 use sg_base::NoMemory;
+use sg_lines::Line;
 use sg_outcome::Outcome;
-use sg_script::Line;
 use std::alloc::Global;
 
 /// A gateway handles lines. It may keep less than the worlds that it stands for.
@@ -16,8 +16,10 @@ pub trait Gateway {
     ghost stands_for: { Self → World → Type 0 };
 
     /// Handles the events of a line and tells their outcomes, which are those of the definition in every
-    /// world that the gateway stands for, and it then stands for the world after them.
+    /// world that the gateway stands for, and it then stands for the world after them. Out of memory it stands
+    /// for the worlds that it stood for.
     fn handle(&mut self, alloc: Global, line: Line) -> Result<Vec<Outcome>, NoMemory>
         ensures handled { IfOk result (λ told. (w : World) → stands_for self.old w
-            → (told.items ≡ outcomes_from w (events_of line)) × stands_for self.new (world_after w (events_of line))) };
+            → (told.items ≡ outcomes_from w (events_of line)) × stands_for self.new (world_after w (events_of line))) }
+        ensures kept { OnErr result ((w : World) → stands_for self.old w → stands_for self.new w) };
 }

@@ -1,2 +1,3 @@
 pub mod Differences
+pub mod PrfLemmas
 pub mod Sizes

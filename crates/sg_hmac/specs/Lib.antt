@@ -1,2 +1,4 @@
 pub mod Hmac
+pub mod Labels
+pub mod Prf
 pub mod States

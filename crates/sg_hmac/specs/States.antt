@@ -2,8 +2,8 @@
 use Rattle.std.specs.Prelude.{◌≡◌, ℕ, List, ◌++◌}
 use Rattle.sha1.specs.Sha1.{Holds}
 use Rattle.sg_hmac.specs.Hmac.{padded_key}
-use Rattle.sg_hmac.specs.declared.code.MacKey.{MacKey}
-use Rattle.sg_hmac.specs.declared.code.Mac.{Mac}
+use Rattle.sg_hmac.specs.declared.hmac.MacKey.{MacKey}
+use Rattle.sg_hmac.specs.declared.hmac.Mac.{Mac}
 
 -- the value is this key
 pub record IsMacKey (octets : List ℕ) (key : MacKey) : Type 0 where

@@ -1,3 +1,5 @@
+//! The law of the definition, for callers' proofs.
+
 ghost use Rattle.std.specs.Prelude.{◌≡◌, ◌<◌, ℕ, List, All, length};
 ghost use Rattle.sg_hmac.specs.Hmac.{hmac_sha1};
 

@@ -1,3 +1,5 @@
+//! Tags, which are prefixes of a MAC.
+
 ghost use Rattle.std.specs.Prelude.{◌↔◌, IsTrue};
 ghost use Rattle.sg_hmac.specs.States.{IsTagOf};
 

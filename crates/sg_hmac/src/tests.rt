@@ -1,4 +1,6 @@
-use crate::{Mac, MacKey, tag_fits};
+//! RFC 2202, and keys that another program computed.
+
+use crate::{Mac, MacKey, labelled_key, prf, tag_fits};
 
 struct Row<'a> {
     key: &'a [u8],
@@ -92,4 +94,101 @@ fn cut_tags(rt: HostRuntime) {
     assert!(rt; !tag_fits(&whole, &[0x4c; 21]));
     tag[11] ^= 1;
     assert!(rt; !tag_fits(&whole, &tag));
+}
+
+// Octets that go up by 7 from a first one, modulo 256.
+fn stepped<const N: usize>(first: u8) -> [u8; N] {
+    let mut octets = [0; N];
+    let mut next = first;
+    for octet in octets.iter_mut() {
+        *octet = next;
+        next = next.wrapping_add(7);
+    }
+    octets
+}
+
+// Computed by Python's hmac and hashlib from RFC 3830, 4.1.2: the octets of the in-key, which goes up from
+// 3, and of the label, which goes up from 200, and the function's output.
+#[test]
+fn keys_of_another_program(rt: HostRuntime) {
+    let secrets: [u8; 100] = stepped(3);
+    let labels: [u8; 264] = stepped(200);
+    let rows: [(usize, usize, &[u8]); 8] = [
+        (
+            0,
+            9,
+            b"\x00\x00\x00\x00\x00\x00\x00\x00\x00\x00\x00\x00\x00\x00\x00\x00\x00\x00\x00\x00",
+        ),
+        (1, 0, b"\xe0"),
+        (
+            16,
+            25,
+            b"\xbc\xb9\x8f\x2b\x67\xc9\x27\x9d\x3f\xc9\x4d\xa7\x1a\x90\x06\x97",
+        ),
+        (
+            20,
+            25,
+            b"\x82\xd7\x28\xf2\xf5\x7a\xdb\xe0\xac\x58\xac\x82\x4d\x79",
+        ),
+        (
+            32,
+            30,
+            b"\xb7\x58\x38\xef\x5d\xf4\x57\x2e\xc8\x30\xee\xe3\x6b\xd6\xf6\xd2\x0d\xd7\x4c\x12\x69\x95\xa8\x1e\xd1\x47\x04\xf1\xae\x42\x2a\x8f\xff\x10\xac\x19\x15\xdf\xca\x4a\x6f",
+        ),
+        (
+            33,
+            30,
+            b"\xd6\x24\x79\xca\xd1\x96\x70\xd4\xd8\x0c\x3b\xec\xee\xdd\xc2\xc8\x98\x8d\xb8\x65\x03\xbc\x29\x4f\x1f\x61\x1d\x74\x72\xd5\x18\x2a\x8d\xe7\x4b\x33\x5f\x7c\xc2\x11",
+        ),
+        (
+            64,
+            264,
+            b"\xed\xc6\x8d\x33\x1a\x00\x31\x86\xa8\x39\xaa\x0f\xf4\xaf\x8b\x47\x83\x6b\x43\x8f\x9e\xfb\x0a\x3b\xcd\xf3\xa1\xa7\x6f\xdb\xba\x7d",
+        ),
+        (
+            100,
+            25,
+            b"\x1c\x18\xdc\xcf\x26\x0d\x8c\x3e\xea\x9f\x5d\x20\xa8\xab\xdf\xff\xe0\x07\xf6\x31\x71\xd4\x33\xeb\xc2\x32\x9b\x40\x28\x34\xd0\x32\x08\x82\x6f\x6b\x55\x67\x91\xfa\xa4\x87\x3a\xae\x50\xb9\xbd\xf3\x27\xe1\x3a\x40\xf4\xdc\x9b\x82\xe4\x3d\x85\xfa\xf3\x20\xe2\xfd\xff\x86\x87\xef\xa3\x65\xbf\x0c\x14\xb2\xac\xb0\x85\x7a\xde\xbf",
+        ),
+    ];
+    for (secret, label, octets) in rows {
+        let mut part = [0; 80];
+        assert!(rt; secret <= 100 && label <= 264 && octets.len() <= 80);
+        prf(
+            &secrets[..secret],
+            &labels[..label],
+            &mut part[..octets.len()],
+        );
+        assert_eq!(rt; &part[..octets.len()], octets, "{secret}, {label}");
+    }
+}
+
+// As above, from RFC 3830, 4.1.3 and 4.1.4: a constant, a crypto session and the output under a bundle's
+// label, whose random octets go up from 9.
+#[test]
+fn labels_of_another_program(rt: HostRuntime) {
+    let secret: [u8; 16] = stepped(3);
+    let random: [u8; 16] = stepped(9);
+    let rows: [(u32, u8, &[u8]); 3] = [
+        (
+            0x2ad01c64,
+            1,
+            b"\x5c\xd3\x6b\x6a\xa0\x32\x69\xf0\x01\x66\x55\xd9\xb1\xb3\xc2\x74\xf6\x10\x5a\x1a",
+        ),
+        (
+            0x39a2c14b,
+            2,
+            b"\x98\xc0\xa8\xaa\x53\x20\xae\xf0\x19\x58\xa8\xd9\x3f\x2b\xda\x0f\x42\x9b\x38\xab",
+        ),
+        (
+            0x150533e1,
+            255,
+            b"\x5a\x49\x4b\xf6\xed\xa7\xdc\x46\x95\xf4\x1c\x85\xbd\x7a\x24\x54\x4c\xae\x68\x1e",
+        ),
+    ];
+    for (constant, session, octets) in rows {
+        let mut part = [0; 20];
+        labelled_key(&secret, constant, session, 0xcafebabe, &random, &mut part);
+        assert_eq!(rt; part.as_slice(), octets, "{constant}");
+    }
 }

@@ -1,3 +1,5 @@
+//! Laws of the nearest index: each function's contract is a law, and its body is empty.
+
 ghost use Rattle.std.specs.Prelude.{◌≡◌, ℕ, ◌+◌, ◌<◌, ◌^◌, ◌%◌, ◌↔◌, Ok, Err};
 ghost use Rattle.sg_base.specs.declared.IndexFault.TheVariants.{BeforeFirst, IndexSpent};
 ghost use Rattle.sg_index.specs.Nearest.{nearest_index, IsNearest, IsBeforeFirst, IsSpent};

@@ -1,3 +1,5 @@
+//! The place of a stream: its highest index, and what a packet's number says next to it (RFC 3711, 3.3.1).
+
 ghost use Rattle.std.specs.Prelude.{◌≡◌, ℕ, ◌+◌, ◌*◌, ◌<◌, ◌^◌, ◌↔◌, max, Ok};
 ghost use Rattle.sg_index.specs.Nearest.{nearest_index, IsNearest, IsBeforeFirst, IsSpent};
 

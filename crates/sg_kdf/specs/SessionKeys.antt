@@ -1,11 +1,11 @@
 -- The session keys of a master key (RFC 3711, 4.3), of the lengths that the suite says (RFC 6188, 2).
-use Rattle.std.specs.Prelude.{◌≡◌, ℕ, ◌+◌, ◌*◌, ◌%◌, ◌^◌, ◌<◌, Bool, true, false, List, [], length, bit_xor, slice_index, map, replicate, All, if◌then◌else◌}
+use Rattle.std.specs.Prelude.{◌≡◌, ℕ, ◌+◌, ◌*◌, ◌%◌, ◌^◌, ◌<◌, List, [], length, bit_xor, slice_index, map, replicate, All, if◌then◌else◌}
 use Rattle.std.specs.List.{range_with_len}
 use Rattle.sg_base.specs.Octets.{number_of}
 use Rattle.sg_base.specs.Keys.{Master}
 use Rattle.sg_base.specs.Suites.{key_len_of}
+pub use Rattle.sg_base.specs.Suites.{is_raw}
 use Rattle.sg_base.specs.declared.suites.Suite.{Suite}
-use Rattle.sg_base.specs.declared.suites.Suite.TheVariants.{Raw80, Cm128Tag80, Cm128Tag32, Cm192Tag80, Cm192Tag32, Cm256Tag80, Cm256Tag32}
 use Rattle.sg_base.specs.declared.keys.HalfKeys.{HalfKeys}
 use Rattle.sg_base.specs.declared.keys.SessionKeys.{SessionKeys}
 use Rattle.sg_ctr.specs.Keystream.{counter_stream}
@@ -42,16 +42,6 @@ raw_half key = record { encrypt = []; auth = raw_auth key; salt = replicate 14 0
 
 abbrev pub raw_keys : List ℕ → SessionKeys
 raw_keys key = record { rtp = raw_half key; rtcp = raw_half key }
-
--- the suite's key is the authentication key itself
-abbrev pub is_raw : Suite → Bool
-is_raw Raw80 = true
-is_raw Cm128Tag80 = false
-is_raw Cm128Tag32 = false
-is_raw Cm192Tag80 = false
-is_raw Cm192Tag32 = false
-is_raw Cm256Tag80 = false
-is_raw Cm256Tag32 = false
 
 -- the session keys of a master key
 unfoldable pub session_keys : Master → SessionKeys

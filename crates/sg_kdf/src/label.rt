@@ -1,4 +1,4 @@
-// The stream of a label under a master key (RFC 3711, 4.3.3).
+//! The stream of a label under a master key (RFC 3711, 4.3.3).
 
 ghost use Rattle.std.specs.Prelude.{◌≡◌, ◌≤◌, ◌^◌, length, slice_index};
 ghost use Rattle.sg_base.specs.Octets.{number_of};

@@ -1,4 +1,4 @@
-// Published derivations, and a packet sealed under derived keys.
+//! Published derivations, and a packet sealed under derived keys.
 
 use super::*;
 use sg_base::Suite;

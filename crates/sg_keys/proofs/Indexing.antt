@@ -5,17 +5,17 @@ use Rattle.std.specs.Result.{is_err}
 use Rattle.std.proofs.lemmas.Bool.{cases_Bool, lt-ltb, le-ltb, true≢false}
 use Rattle.std.proofs.lemmas.List.{take-append-drop, length-take-le}
 use Rattle.std.proofs.Math.Seq.{take-suc}
-use Rattle.sg_base.specs.Keys.{Master}
+use Rattle.std.specs.Option.{option_or}
 use Rattle.sg_base.specs.Octets.{same_octets}
-use Rattle.sg_session.specs.Ring.{clash, same_secret}
+use Rattle.sg_session.specs.Ring.{RingKey, keys_clash, same_secret}
 use Rattle.sg_keys.specs.declared.part.Part.{Part}
 use Rattle.sg_keys.specs.declared.part.Part.TheVariants as part
-use Rattle.sg_keys.specs.Reused.{first_from, or_else}
+use Rattle.sg_keys.specs.Reused.{first_from}
 use Rattle.sg_keys.specs.Indexed.{octets_of, first_of, first_with, first_secret, least}
 
-first_from_is : (n : ℕ) (ring : List Master) (m : Master) → first_from n ring m ≡ first_of (λ r. clash r m) n ring
-first_from_is n [] m = refl
-first_from_is n (r ∷ ring) m = ap (λ o. if clash r m then Some n else o) (first_from_is (n + 1) ring m)
+first_from_is : (n : ℕ) (ring : List RingKey) (key : RingKey) → first_from n ring key ≡ first_of (λ r. keys_clash r key) n ring
+first_from_is n [] key = refl
+first_from_is n (r ∷ ring) key = ap (λ o. if keys_clash r key then Some n else o) (first_from_is (n + 1) ring key)
 
 weaker : (n : ℕ) (o : Option ℕ) → IfSome o (λ k. n + 1 ≤ k) → IfSome o (λ k. n ≤ k)
 weaker n None h = h
@@ -25,7 +25,7 @@ behind : (n : ℕ) (o : Option ℕ) → IfSome o (λ k. n + 1 ≤ k) → IfSome 
 behind n None h = h
 behind n (Some k) h = omega (arith, h)
 
-from_on : (test : Master → Bool) (n : ℕ) (ring : List Master) → IfSome (first_of test n ring) (λ k. n ≤ k)
+from_on : (test : RingKey → Bool) (n : ℕ) (ring : List RingKey) → IfSome (first_of test n ring) (λ k. n ≤ k)
 from_on test n [] = search rules
 from_on test n (r ∷ ring) = elim (cases_Bool (test r)) [
   | inl y ↦ rw y (omega arith)
@@ -36,7 +36,7 @@ sooner : (n m : ℕ) (o : Option ℕ) → n ≡ m → IfSome o (λ k. k < n) →
 sooner n m None e h = h
 sooner n m (Some k) e h = omega (arith, e, h)
 
-up_to : (test : Master → Bool) (n : ℕ) (ring : List Master) → IfSome (first_of test n ring) (λ k. k < n + length ring)
+up_to : (test : RingKey → Bool) (n : ℕ) (ring : List RingKey) → IfSome (first_of test n ring) (λ k. k < n + length ring)
 up_to test n [] = search rules
 up_to test n (r ∷ ring) = elim (cases_Bool (test r)) [
   | inl y ↦ rw y (omega arith)
@@ -44,8 +44,8 @@ up_to test n (r ∷ ring) = elim (cases_Bool (test r)) [
 ]
 
 -- a number that is told is one of the ring
-pub within_ring : (ring : List Master) (m : Master) → IfSome (first_from 0 ring m) (λ n. n < length ring)
-within_ring ring m = rw (first_from_is 0 ring m) (sooner (0 + length ring) (length ring) (first_of (λ r. clash r m) 0 ring) (omega arith) (up_to (λ r. clash r m) 0 ring))
+pub within_ring : (ring : List RingKey) (key : RingKey) → IfSome (first_from 0 ring key) (λ n. n < length ring)
+within_ring ring key = rw (first_from_is 0 ring key) (sooner (0 + length ring) (length ring) (first_of (λ r. keys_clash r key) 0 ring) (omega arith) (up_to (λ r. keys_clash r key) 0 ring))
 
 left_least : (n : ℕ) (o : Option ℕ) → IfSome o (λ k. n ≤ k) → least (Some n) o ≡ Some n
 left_least n None h = refl
@@ -56,7 +56,7 @@ right_least n None h = refl
 right_least n (Some k) h = rw (lt-ltb n k h) refl
 
 -- of a key that passes one of two tests
-first_of-or : (p q : Master → Bool) (n : ℕ) (ring : List Master) → first_of (λ r. p r || q r) n ring ≡ least (first_of p n ring) (first_of q n ring)
+first_of-or : (p q : RingKey → Bool) (n : ℕ) (ring : List RingKey) → first_of (λ r. p r || q r) n ring ≡ least (first_of p n ring) (first_of q n ring)
 first_of-or p q n [] = refl
 first_of-or p q n (r ∷ ring) = elim (cases_Bool (p r)) [
   | inl a ↦ elim (cases_Bool (q r)) [
@@ -69,26 +69,26 @@ first_of-or p q n (r ∷ ring) = elim (cases_Bool (p r)) [
   ]
 ]
 
-abbrev by : Master → Part → Part → Master → Bool
-by m p q r = same_secret (octets_of p r) (octets_of q m)
+abbrev by : RingKey → Part → Part → RingKey → Bool
+by key p q r = same_secret (octets_of p r) (octets_of q key)
 
 -- the least number of a key that clashes is the least of what the indexes tell
-pub least_clash : (ring : List Master) (m : Master) → let rtp = octets_of part.Rtp m in let rtcp = octets_of part.Rtcp m in
-    least (first_with part.Master m.key 0 ring) (least (least (first_secret part.Rtp rtp 0 ring) (first_secret part.Rtp rtcp 0 ring)) (least (first_secret part.Rtcp rtp 0 ring) (first_secret part.Rtcp rtcp 0 ring)))
-    ≡ first_from 0 ring m
-least_clash ring m = sym (
-    first_from_is 0 ring m
-    ∙ first_of-or (λ r. same_octets r.key m.key) (λ r. (by m part.Rtp part.Rtp r || by m part.Rtp part.Rtcp r) || (by m part.Rtcp part.Rtp r || by m part.Rtcp part.Rtcp r)) 0 ring
-    ∙ ap (least (first_with part.Master m.key 0 ring)) (
-    first_of-or (λ r. by m part.Rtp part.Rtp r || by m part.Rtp part.Rtcp r) (λ r. by m part.Rtcp part.Rtp r || by m part.Rtcp part.Rtcp r) 0 ring
-    ∙ ap (λ o. least o (first_of (λ r. by m part.Rtcp part.Rtp r || by m part.Rtcp part.Rtcp r) 0 ring)) (first_of-or (by m part.Rtp part.Rtp) (by m part.Rtp part.Rtcp) 0 ring)
-    ∙ ap (least (least (first_of (by m part.Rtp part.Rtp) 0 ring) (first_of (by m part.Rtp part.Rtcp) 0 ring))) (first_of-or (by m part.Rtcp part.Rtp) (by m part.Rtcp part.Rtcp) 0 ring)))
+pub least_clash : (ring : List RingKey) (key : RingKey) → let rtp = octets_of part.Rtp key in let rtcp = octets_of part.Rtcp key in
+    least (first_with part.Master key.master.key 0 ring) (least (least (first_secret part.Rtp rtp 0 ring) (first_secret part.Rtp rtcp 0 ring)) (least (first_secret part.Rtcp rtp 0 ring) (first_secret part.Rtcp rtcp 0 ring)))
+    ≡ first_from 0 ring key
+least_clash ring key = sym (
+    first_from_is 0 ring key
+    ∙ first_of-or (λ r. same_octets r.master.key key.master.key) (λ r. (by key part.Rtp part.Rtp r || by key part.Rtp part.Rtcp r) || (by key part.Rtcp part.Rtp r || by key part.Rtcp part.Rtcp r)) 0 ring
+    ∙ ap (least (first_with part.Master key.master.key 0 ring)) (
+    first_of-or (λ r. by key part.Rtp part.Rtp r || by key part.Rtp part.Rtcp r) (λ r. by key part.Rtcp part.Rtp r || by key part.Rtcp part.Rtcp r) 0 ring
+    ∙ ap (λ o. least o (first_of (λ r. by key part.Rtcp part.Rtp r || by key part.Rtcp part.Rtcp r) 0 ring)) (first_of-or (by key part.Rtp part.Rtp) (by key part.Rtp part.Rtcp) 0 ring)
+    ∙ ap (least (least (first_of (by key part.Rtp part.Rtp) 0 ring) (first_of (by key part.Rtp part.Rtcp) 0 ring))) (first_of-or (by key part.Rtcp part.Rtp) (by key part.Rtcp part.Rtcp) 0 ring)))
 
-first_of-same : (p q : Master → Bool) → ((r : Master) → p r ≡ q r) → (n : ℕ) (ring : List Master) → first_of p n ring ≡ first_of q n ring
+first_of-same : (p q : RingKey → Bool) → ((r : RingKey) → p r ≡ q r) → (n : ℕ) (ring : List RingKey) → first_of p n ring ≡ first_of q n ring
 first_of-same p q e n [] = refl
 first_of-same p q e n (r ∷ ring) = rw (e r, first_of-same p q e (n + 1) ring) refl
 
-none_of : (n : ℕ) (ring : List Master) → first_of (λ _. false) n ring ≡ None
+none_of : (n : ℕ) (ring : List RingKey) → first_of (λ _. false) n ring ≡ None
 none_of n [] = refl
 none_of n (r ∷ ring) = none_of (n + 1) ring
 
@@ -101,36 +101,36 @@ a_secret [] y ys = refl
 a_secret (x ∷ xs) y ys = refl
 
 -- empty octets are no secret
-pub empty_found : (p : Part) (secret : List ℕ) (ring : List Master) → length secret ≡ 0 → None ≡ first_secret p secret 0 ring
+pub empty_found : (p : Part) (secret : List ℕ) (ring : List RingKey) → length secret ≡ 0 → None ≡ first_secret p secret 0 ring
 empty_found p [] ring e = sym (first_of-same (λ r. same_secret (octets_of p r) []) (λ _. false) (λ r. no_secret (octets_of p r)) 0 ring ∙ none_of 0 ring)
 empty_found p (y ∷ ys) ring e = absurd (omega (arith, e))
 
-pub secret_found : (p : Part) (secret : List ℕ) (ring : List Master) → 0 < length secret → first_with p secret 0 ring ≡ first_secret p secret 0 ring
+pub secret_found : (p : Part) (secret : List ℕ) (ring : List RingKey) → 0 < length secret → first_with p secret 0 ring ≡ first_secret p secret 0 ring
 secret_found p [] ring h = absurd (omega (arith, h))
 secret_found p (y ∷ ys) ring h = sym (first_of-same (λ r. same_secret (octets_of p r) (y ∷ ys)) (λ r. same_octets (octets_of p r) (y ∷ ys)) (λ r. a_secret (octets_of p r) y ys) 0 ring)
 
-first_of-append : (test : Master → Bool) (n : ℕ) (xs ys : List Master) → first_of test n (xs ++ ys) ≡ or_else (first_of test n xs) (first_of test (n + length xs) ys)
+first_of-append : (test : RingKey → Bool) (n : ℕ) (xs ys : List RingKey) → first_of test n (xs ++ ys) ≡ option_or (first_of test n xs) (first_of test (n + length xs) ys)
 first_of-append test n [] ys = ap (λ m. first_of test m ys) (sym (add-zero n))
 first_of-append test n (x ∷ xs) ys =
     elim (cases_Bool (test x)) [
       | inl y ↦ rw y refl
-      | inr m ↦ rw m (first_of-append test (n + 1) xs ys ∙ ap (λ j. or_else (first_of test (n + 1) xs) (first_of test j ys)) (omega arith))
+      | inr m ↦ rw m (first_of-append test (n + 1) xs ys ∙ ap (λ j. option_or (first_of test (n + 1) xs) (first_of test j ys)) (omega arith))
     ]
 
 -- of the first keys, and behind them
-pub split_at : (test : Master → Bool) (n : ℕ) (ring : List Master) → n ≤ length ring → first_of test 0 ring ≡ or_else (first_of test 0 (take n ring)) (first_of test n (drop n ring))
+pub split_at : (test : RingKey → Bool) (n : ℕ) (ring : List RingKey) → n ≤ length ring → first_of test 0 ring ≡ option_or (first_of test 0 (take n ring)) (first_of test n (drop n ring))
 split_at test n ring h =
     ap (first_of test 0) (sym (take-append-drop n ring))
     ∙ first_of-append test 0 (take n ring) (drop n ring)
-    ∙ ap (λ j. or_else (first_of test 0 (take n ring)) (first_of test j (drop n ring))) (zero-add (length (take n ring)) ∙ length-take-le n ring h)
+    ∙ ap (λ j. option_or (first_of test 0 (take n ring)) (first_of test j (drop n ring))) (zero-add (length (take n ring)) ∙ length-take-le n ring h)
 
 -- of one key more
-pub one_more : (test : Master → Bool) (n : ℕ) (ring : List Master) (r : Master) → n < length ring → r ≡ get_or ring n r
-    → first_of test 0 (take (n + 1) ring) ≡ or_else (first_of test 0 (take n ring)) (if test r then Some n else None)
+pub one_more : (test : RingKey → Bool) (n : ℕ) (ring : List RingKey) (r : RingKey) → n < length ring → r ≡ get_or ring n r
+    → first_of test 0 (take (n + 1) ring) ≡ option_or (first_of test 0 (take n ring)) (if test r then Some n else None)
 one_more test n ring r h e =
     ap (first_of test 0) (rw (add-one n, take-suc ring n r h, ← e) refl)
     ∙ first_of-append test 0 (take n ring) (r ∷ [])
-    ∙ ap (λ j. or_else (first_of test 0 (take n ring)) (first_of test j (r ∷ []))) (zero-add (length (take n ring)) ∙ length-take-le n ring (omega (arith, h)))
+    ∙ ap (λ j. option_or (first_of test 0 (take n ring)) (first_of test j (r ∷ []))) (zero-add (length (take n ring)) ∙ length-take-le n ring (omega (arith, h)))
 
 -- what an `Ok` says
 pub on_ok : {E : Type 0} (r : Result Unit E) (P : Type 0) → is_err r ≡ false → OnOk r P → P

@@ -13,13 +13,13 @@ use Rattle.std.proofs.lemmas.Slice.Eq.{bytes_eq-Decides}
 use Rattle.sg_base.specs.Octets.{same_octets}
 use Rattle.sg_session.proofs.SameOctets.{same_octets_true, same_octets_is}
 use Rattle.sg_keys.specs.Indexed.{at_octets}
-use Rattle.sg_keys.specs.Reused.{or_else}
+use Rattle.std.specs.Option.{option_or}
 
-pub or_none : (o : Option ℕ) → or_else o None ≡ o
+pub or_none : (o : Option ℕ) → option_or o None ≡ o
 or_none None = refl
 or_none (Some n) = refl
 
-or_some : (o other : Option ℕ) → is_some o ≡ true → o ≡ or_else o other
+or_some : (o other : Option ℕ) → is_some o ≡ true → o ≡ option_or o other
 or_some None other e = absurd (false≢true e)
 or_some (Some n) other e = refl
 
@@ -46,15 +46,15 @@ module _ {Y : Type 0} where
   others key m n h any e = h _ (λ x y. (eq_by_cmp_equiv nat_list_cmp_total).congr any x.items y.items) (λ k. apart key any k.items e)
 
   pub first_kept : (m n : BTreeMap (Vec ℕ Y) ℕ) (key : List ℕ) (number : ℕ) → UpdatesBy vec_cmp (λ k. slice_cmp nat_cmp key k.items) m n (Some number) → at_octets m key ≡ None
-      → (any : List ℕ) → at_octets n any ≡ or_else (at_octets m any) (if same_octets key any then Some number else None)
+      → (any : List ℕ) → at_octets n any ≡ option_or (at_octets m any) (if same_octets key any then Some number else None)
   first_kept m n key number h absent any = elim (cases_Bool (same_octets key any)) [
-    | inl y ↦ rw y (subst (λ o. at_octets n o ≡ or_else (at_octets m o) (Some number)) (same_octets_is key any y) (rw absent h.1))
+    | inl y ↦ rw y (subst (λ o. at_octets n o ≡ option_or (at_octets m o) (Some number)) (same_octets_is key any y) (rw absent h.1))
     | inr x ↦ rw x (others key m n h.3 any (bytes_apart key any x) ∙ sym (or_none (at_octets m any)))
   ]
 
   pub first_stays : (m : BTreeMap (Vec ℕ Y) ℕ) (key : List ℕ) (number : ℕ) → is_some (at_octets m key) ≡ true
-      → (any : List ℕ) → at_octets m any ≡ or_else (at_octets m any) (if same_octets key any then Some number else None)
+      → (any : List ℕ) → at_octets m any ≡ option_or (at_octets m any) (if same_octets key any then Some number else None)
   first_stays m key number has any = elim (cases_Bool (same_octets key any)) [
-    | inl y ↦ rw y (subst (λ o. at_octets m o ≡ or_else (at_octets m o) (Some number)) (same_octets_is key any y) (or_some (at_octets m key) (Some number) has))
+    | inl y ↦ rw y (subst (λ o. at_octets m o ≡ option_or (at_octets m o) (Some number)) (same_octets_is key any y) (or_some (at_octets m key) (Some number) has))
     | inr x ↦ rw x (sym (or_none (at_octets m any)))
   ]

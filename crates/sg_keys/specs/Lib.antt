@@ -1,8 +1,7 @@
-pub mod Held
 pub mod Indexed
 pub mod Installing
-pub mod Kept
 pub mod KeySet
 pub mod Live
+pub mod PreparedKey
 pub mod Reused
 pub mod Stands

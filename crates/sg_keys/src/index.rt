@@ -4,9 +4,9 @@ ghost use Rattle.std.specs.Prelude.{◌≡◌, ◌+◌, ◌<◌, ◌≤◌, if�
 ghost use Rattle.std.specs.BTreeMap.{IsEmpty};
 ghost use Rattle.sg_base.specs.Octets.{same_octets};
 ghost use Rattle.sg_keys.specs.Indexed.{octets_of, first_with, at_octets, IsIndexOf};
-ghost use Rattle.sg_keys.specs.Reused.{or_else};
+ghost use Rattle.std.specs.Option.{option_or};
 
-use crate::held::Held;
+use crate::installed_key::InstalledKey;
 use crate::part::Part;
 use sg_base::NoMemory;
 use std::alloc::Global;
@@ -37,7 +37,7 @@ fn keep_first(
     alloc: Global,
 ) -> Result<(), NoMemory>
     ensures ok { OnOk result ((any : List ℕ) → at_octets numbers.new any
-        ≡ or_else (at_octets numbers.old any) (if same_octets octets.now any then Some number else None)) }
+        ≡ option_or (at_octets numbers.old any) (if same_octets octets.now any then Some number else None)) }
     ensures err { OnErr result ((any : List ℕ) → at_octets numbers.new any ≡ at_octets numbers.old any) }
 {
     if number_of(numbers, octets).is_some() {
@@ -53,7 +53,7 @@ fn keep_first(
 }
 
 // The first of the keys, from `start` on, whose part has these octets.
-fn first_behind(part: Part, octets: &[u8], list: &[Held], start: usize) -> Option<usize>
+fn first_behind(part: Part, octets: &[u8], list: &[InstalledKey], start: usize) -> Option<usize>
     requires { start ≤ length list.now }
     ensures first { result ≡ first_with part octets.now start (drop start list.now) }
     ensures within { IfSome result (λ n. n < length list.now) }
@@ -80,7 +80,7 @@ impl Index {
     }
 
     /// The least number of a key of the list whose part has these octets.
-    pub fn find(&self, octets: &[u8], list: &[Held]) -> Option<usize>
+    pub fn find(&self, octets: &[u8], list: &[InstalledKey]) -> Option<usize>
         requires { IsIndexOf self.now.part self.now list.now }
         ensures { result ≡ first_with self.now.part octets.now 0 list.now }
     {
@@ -91,7 +91,7 @@ impl Index {
     }
 
     /// Takes in the keys of the list that it lacks, as far as there is memory.
-    pub fn extend(&mut self, list: &[Held])
+    pub fn extend(&mut self, list: &[InstalledKey])
         requires { IsIndexOf self.old.part self.old list.now }
         ensures { IsIndexOf self.old.part self.new list.now }
     {

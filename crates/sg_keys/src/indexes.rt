@@ -4,8 +4,8 @@ ghost use Rattle.std.specs.Prelude.{◌≡◌, ◌<◌, [], length, IfSome};
 ghost use Rattle.sg_keys.specs.Indexed.{least, first_secret, IsIndexOf, AreIndexesOf};
 ghost use Rattle.sg_keys.specs.Reused.{first_from};
 
-use crate::held::Held;
 use crate::index::Index;
+use crate::installed_key::InstalledKey;
 use crate::part::Part;
 use std::alloc::Global;
 
@@ -28,7 +28,7 @@ fn least(a: Option<usize>, b: Option<usize>) -> Option<usize>
 }
 
 // The first key whose part of the index is this encryption key, where that isn't empty.
-fn first_secret(index: &Index, secret: &[u8], list: &[Held]) -> Option<usize>
+fn first_secret(index: &Index, secret: &[u8], list: &[InstalledKey]) -> Option<usize>
     requires { IsIndexOf index.now.part index.now list.now }
     ensures { result ≡ first_secret index.now.part secret.now 0 list.now }
 {
@@ -52,7 +52,7 @@ impl Indexes {
     }
 
     /// The first of the list that a key clashes with.
-    pub fn first_clash(&self, key: &Held, list: &[Held]) -> Option<usize>
+    pub fn first_clash(&self, key: &InstalledKey, list: &[InstalledKey]) -> Option<usize>
         requires { AreIndexesOf self.now list.now }
         ensures first { result ≡ first_from 0 list.now key.now }
         ensures within { IfSome result (λ n. n < length list.now) }
@@ -72,7 +72,7 @@ impl Indexes {
     }
 
     /// Takes in the keys of the list that they lack, as far as there is memory.
-    pub fn extend(&mut self, list: &[Held])
+    pub fn extend(&mut self, list: &[InstalledKey])
         requires { AreIndexesOf self.old list.now }
         ensures { AreIndexesOf self.new list.now }
     {

@@ -1,13 +1,13 @@
-//! The keys of a session, each with its kept parts.
+//! The keys of a session, each with its prepared parts.
 
 ghost use Rattle.std.specs.Prelude.{◌≡◌, ◌<◌, ◌≤◌, length, map, slice_get, find, MatchOption, MatchResult, IfSome, IsTrue, ◌↔◌, Some, None, Ok, Err, [], option_copied};
 ghost use Rattle.sg_hmac.specs.States.{IsMacKey};
 ghost use Rattle.sg_keys.specs.Live.{Live, has_mki, is_alive, mki_len, schedule_key, spent};
-ghost use Rattle.sg_keys.specs.Kept.{live_of};
-ghost use Rattle.sg_keys.specs.KeySet.{IsKeySet, IsAt, chosen, chosen_seal};
+ghost use Rattle.sg_keys.specs.PreparedKey.{live_of};
+ghost use Rattle.sg_keys.specs.KeySet.{IsKeySet, IsAt, IsSpent, TellsSpent, chosen, chosen_seal};
 
-use crate::kept::Kept;
 use crate::live_key::LiveKey;
+use crate::prepared_key::PreparedKey;
 use arrayvec::ArrayVec;
 use sg_aes::Schedule;
 use sg_hmac::MacKey;
@@ -31,7 +31,7 @@ pub struct Spent {
 /// made once for each key.
 #[derive(Drop)]
 pub struct KeySet {
-    keys: ArrayVec<Kept, 8>,
+    keys: ArrayVec<PreparedKey, 8>,
 }
 
 impl Model for KeySet {
@@ -47,54 +47,54 @@ impl Model for KeySet {
     ghost invariant = { λ s. IsKeySet s.keys.items };
 }
 
-// The place of the first key with this MKI.
-fn find_mki(keys: &[Kept], mki: &[u8]) -> Option<usize>
+// The position of the first key with this MKI.
+fn find_mki(keys: &[PreparedKey], mki: &[u8]) -> Option<usize>
     ensures { MatchOption result (find (has_mki mki.now) keys.now ≡ None) (IsAt (find (has_mki mki.now) keys.now) keys.now) }
 {
-    for (place, key) in keys.iter().enumerate() {
+    for (position, key) in keys.iter().enumerate() {
         if key.has_mki(mki) {
-            return Some(place);
+            return Some(position);
         }
     }
     None
 }
 
-// The place of the first key that is alive.
-fn find_alive(keys: &[Kept]) -> Option<usize>
+// The position of the first key that is alive.
+fn find_alive(keys: &[PreparedKey]) -> Option<usize>
     ensures { MatchOption result (find is_alive keys.now ≡ None) (IsAt (find is_alive keys.now) keys.now) }
 {
-    for (place, key) in keys.iter().enumerate() {
+    for (position, key) in keys.iter().enumerate() {
         if key.is_alive() {
-            return Some(place);
+            return Some(position);
         }
     }
     None
 }
 
-// Counts a packet more under the key at a place.
-fn serve_at(keys: &mut [Kept], place: usize)
+// Counts a packet more under the key at a position.
+fn serve_at(keys: &mut [PreparedKey], position: usize)
     requires set { IsKeySet keys.old }
-    requires alive { (k : Live) × (slice_get keys.old place ≡ Some k) × (k.count < k.life) }
+    requires alive { (k : Live) × (slice_get keys.old position ≡ Some k) × (k.count < k.life) }
     ensures set { IsKeySet keys.new }
-    ensures spent { (k : Live) → slice_get keys.old place ≡ Some k → keys.new ≡ spent k.number keys.old }
+    ensures spent { (k : Live) → slice_get keys.old position ≡ Some k → keys.new ≡ spent k.number keys.old }
 {
-    keys[place].serve();
+    keys[position].serve();
 }
 
 impl KeySet {
-    /// The set of these keys, in their order: at least one, no two of one number, each with an
-    /// encryption key of 16, 24 or 32 octets or with none. Their MKIs are distinct and of one length as
-    /// the session's agreement has them; of two that are equal the first serves.
+    /// The set of these keys, in their order: one without an MKI, or one to eight with MKIs of one length
+    /// that differ. Their numbers differ, no count is above its life, and each encryption key has 16, 24 or
+    /// 32 octets or none. The set keeps all of this.
     pub fn make(keys: ArrayVec<LiveKey, 8>) -> KeySet
         requires { IsKeySet (map live_of keys.items) }
         ensures { result ≡ map live_of keys.items }
     {
         prove!(keys.len() <= 8);
-        let mut kept = ArrayVec::new();
+        let mut prepared = ArrayVec::new();
         for key in keys {
-            kept.push(Kept::new(key));
+            prepared.push(PreparedKey::new(key));
         }
-        KeySet { keys: kept }
+        KeySet { keys: prepared }
     }
 
     /// How many keys there are, one to eight.
@@ -114,51 +114,53 @@ impl KeySet {
         self.keys.as_slice()[0].mki().len()
     }
 
-    /// The key at a place.
-    pub fn key(&self, place: usize) -> &LiveKey
-        requires { place < length self.now }
-        ensures { slice_get self.now place ≡ Some (live_of result.now) }
+    /// The key at a position.
+    pub fn key(&self, position: usize) -> &LiveKey
+        requires { position < length self.now }
+        ensures { slice_get self.now position ≡ Some (live_of result.now) }
     {
-        self.keys.as_slice()[place].key()
+        self.keys.as_slice()[position].key()
     }
 
-    /// The octets of the MKI of the key at a place.
-    pub fn mki(&self, place: usize) -> &[u8]
-        requires { place < length self.now }
-        ensures value { IfSome (slice_get self.now place) (λ k. result.now ≡ k.mki) }
+    /// The octets of the MKI of the key at a position.
+    pub fn mki(&self, position: usize) -> &[u8]
+        requires { position < length self.now }
+        ensures value { IfSome (slice_get self.now position) (λ k. result.now ≡ k.mki) }
         ensures most { length result.now ≤ 128 }
     {
-        self.keys.as_slice()[place].mki()
+        self.keys.as_slice()[position].mki()
     }
 
-    /// The round keys of the key at a place; none exactly where its encryption key has no octets.
-    pub fn schedule(&self, place: usize) -> Option<&Schedule>
-        requires { place < length self.now }
-        ensures { IfSome (slice_get self.now place) (λ k. option_copied result ≡ schedule_key k.half.encrypt) }
+    /// The round keys of the key at a position; none exactly where its encryption key has no octets.
+    pub fn schedule(&self, position: usize) -> Option<&Schedule>
+        requires { position < length self.now }
+        ensures { IfSome (slice_get self.now position) (λ k. option_copied result ≡ schedule_key k.half.encrypt) }
     {
-        self.keys.as_slice()[place].schedule()
+        self.keys.as_slice()[position].schedule()
     }
 
-    /// The authentication key of the key at a place.
-    pub fn mac(&self, place: usize) -> &MacKey
-        requires { place < length self.now }
-        ensures { IfSome (slice_get self.now place) (λ k. IsMacKey k.half.auth result.now) }
+    /// The authentication key of the key at a position.
+    pub fn mac(&self, position: usize) -> &MacKey
+        requires { position < length self.now }
+        ensures { IfSome (slice_get self.now position) (λ k. IsMacKey k.half.auth result.now) }
     {
-        self.keys.as_slice()[place].mac()
+        self.keys.as_slice()[position].mac()
     }
 
-    /// The place of the first key with this MKI, where it may serve a packet more (RFC 3711, 9.2).
+    /// The position of the key with this MKI, where it may serve a packet more (RFC 3711, 9.2). Of a spent
+    /// key the number is told, and the count, which equals its life.
     pub fn choose_mki(&self, mki: &[u8]) -> Result<usize, OpenKeyFault>
-        ensures { MatchResult result
-            (λ place. (k : Live) × (slice_get self.now place ≡ Some k) × (chosen self.now mki.now ≡ Ok k))
+        ensures chosen { MatchResult result
+            (λ position. (k : Live) × (slice_get self.now position ≡ Some k) × (chosen self.now mki.now ≡ Ok k))
             (λ fault. chosen self.now mki.now ≡ Err fault) }
+        ensures spent { MatchResult result (λ _. Unit {0}) (TellsSpent self.now) }
     {
-        let Some(place) = find_mki(self.keys.as_slice(), mki) else {
+        let Some(position) = find_mki(self.keys.as_slice(), mki) else {
             return Err(OpenKeyFault::MkiUnknown);
         };
-        let key = &self.keys.as_slice()[place];
+        let key = &self.keys.as_slice()[position];
         if key.is_alive() {
-            return Ok(place);
+            return Ok(position);
         }
         let key = key.key();
         Err(OpenKeyFault::KeySpent {
@@ -167,16 +169,18 @@ impl KeySet {
         })
     }
 
-    /// The place of the first key that may serve a packet more; where none may, the last key is told.
+    /// The position of the first key that may serve a packet more. Where none may, the last key's number is
+    /// told, and its count, which equals its life.
     pub fn choose_seal(&self) -> Result<usize, Spent>
-        ensures { MatchResult result
-            (λ place. (k : Live) × (slice_get self.now place ≡ Some k) × (chosen_seal self.now ≡ Ok k))
+        ensures chosen { MatchResult result
+            (λ position. (k : Live) × (slice_get self.now position ≡ Some k) × (chosen_seal self.now ≡ Ok k))
             (λ spent. chosen_seal self.now ≡ Err spent) }
+        ensures spent { MatchResult result (λ _. Unit {0}) (λ last. IsSpent self.now last.number last.count) }
     {
         match find_alive(self.keys.as_slice()) {
-            Some(place) => Ok(place),
+            Some(position) => Ok(position),
             None => {
-                let last = self.keys.as_slice()[self.keys.len() - 1].key();
+                let last = self.key(self.count() - 1);
                 Err(Spent {
                     number: last.number,
                     count: last.count,
@@ -185,21 +189,21 @@ impl KeySet {
         }
     }
 
-    /// Whether a key stands at the place that may serve a packet more.
-    pub fn can_serve(&self, place: usize) -> bool
-        ensures { IsTrue result ↔ ((k : Live) × (slice_get self.now place ≡ Some k) × (k.count < k.life)) }
+    /// Whether a key stands at the position that may serve a packet more.
+    pub fn can_serve(&self, position: usize) -> bool
+        ensures { IsTrue result ↔ ((k : Live) × (slice_get self.now position ≡ Some k) × (k.count < k.life)) }
     {
-        match self.keys.as_slice().get(place) {
+        match self.keys.as_slice().get(position) {
             None => false,
             Some(key) => key.is_alive(),
         }
     }
 
-    /// Counts a packet more under the key at a place, which may serve it.
-    pub fn spend(&mut self, place: usize)
-        requires { (k : Live) × (slice_get self.old place ≡ Some k) × (k.count < k.life) }
-        ensures { (k : Live) → slice_get self.old place ≡ Some k → self.new ≡ spent k.number self.old }
+    /// Counts a packet more under the key at a position, which may serve it.
+    pub fn spend(&mut self, position: usize)
+        requires { (k : Live) × (slice_get self.old position ≡ Some k) × (k.count < k.life) }
+        ensures { (k : Live) → slice_get self.old position ≡ Some k → self.new ≡ spent k.number self.old }
     {
-        serve_at(self.keys.as_mut_slice(), place);
+        serve_at(self.keys.as_mut_slice(), position);
     }
 }

@@ -2,13 +2,13 @@
 //! 3.2.1, 8.1 and 9.2).
 #![tactic(auto)]
 
-mod held;
 mod index;
 mod indexes;
-mod kept;
+mod installed_key;
 mod key_set;
 mod live_key;
 mod part;
+mod prepared_key;
 mod ring;
 #[cfg(test)]
 mod ring_tests;

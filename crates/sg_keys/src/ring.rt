@@ -1,19 +1,16 @@
 //! The ring of all keys that came into use.
 
-ghost use Rattle.std.specs.Prelude.{◌≡◌, ◌+◌, ◌<◌, ◌≤◌, List, [], ◌++◌, length, map, All, IfOk, OnOk, OnErr};
-ghost use Rattle.sg_session.specs.Ring.{Installed, install};
-ghost use Rattle.sg_keys.specs.Reused.{reused, IsDerived};
-ghost use Rattle.sg_keys.specs.Installing.{masters_of, IsToldOf};
+ghost use Rattle.std.specs.Prelude.{◌≡◌, ◌+◌, ◌<◌, ◌≤◌, List, [], ◌++◌, length, map, IfOk, OnOk, OnErr};
+ghost use Rattle.sg_session.specs.Ring.{Installed, RingKey, install, install_keys};
+ghost use Rattle.sg_keys.specs.Reused.{given, reused};
+ghost use Rattle.sg_keys.specs.Installing.{keys_of, IsToldOf};
 
-use crate::held::Held;
 use crate::indexes::Indexes;
+use crate::installed_key::InstalledKey;
 use crate::search::first_reused;
-use sg_base::{MasterKey, NoMemory, SessionKeys};
+use sg_base::{MasterKey, NoMemory, RING_KEYS_MOST, SessionKeys};
 use std::alloc::Global;
 use std::marker::Model;
-
-/// How many keys the ring can hold.
-const MOST: usize = 65536;
 
 /// Why keys aren't installed.
 #[derive(Clone, Copy, Debug, PartialEq, Eq)]
@@ -24,19 +21,20 @@ pub enum RingFault {
     NoMemory,
 }
 
-/// All keys that came into use, each at its number, seen as their master keys.
+/// All keys that came into use, each at its number, seen as master keys, each with the
+/// two encryption keys that came beside it.
 #[derive(Drop)]
 pub struct Ring {
-    keys: Vec<Held>,
+    keys: Vec<InstalledKey>,
     indexes: Indexes,
 }
 
 impl Model for Ring {
     ghost use Rattle.std.specs.Prelude.{List, ◌≤◌, vec_len};
-    ghost use Rattle.sg_base.specs.Keys.{Master};
+    ghost use Rattle.sg_session.specs.Ring.{RingKey};
     ghost use Rattle.sg_keys.specs.Indexed.{AreIndexesOf};
 
-    ghost Value = { List Master };
+    ghost Value = { List RingKey };
 
     ghost view = { λ r. r.keys.items };
 
@@ -44,14 +42,13 @@ impl Model for Ring {
 }
 
 // Puts keys behind the others, all or none.
-fn push_all(list: &mut Vec<Held>, keys: &[(MasterKey, SessionKeys)]) -> Result<(), NoMemory>
-    requires { All IsDerived keys.now }
-    ensures ok { OnOk result (list.new.items ≡ list.old.items ++ map (λ k. k.0) keys.now) }
+fn push_all(list: &mut Vec<InstalledKey>, keys: &[(MasterKey, SessionKeys)]) -> Result<(), NoMemory>
+    ensures ok { OnOk result (list.new.items ≡ list.old.items ++ map given keys.now) }
     ensures err { OnErr result (list.new.items ≡ list.old.items) }
 {
     let count = list.len();
     for key in keys {
-        if list.push(Held::new(key)).is_err() {
+        if list.push(InstalledKey::new(key)).is_err() {
             list.truncate(count);
             return Err(NoMemory);
         }
@@ -78,17 +75,17 @@ impl Ring {
         self.keys.len() as u32
     }
 
-    /// Installs keys, each with its session keys, all or none, and tells the number of the first.
-    /// `KeyReused` where one clashes with a key before it or with itself, with the least number of such a
-    /// key; `RingFull` where none does and there would be more than 65,536. `NoMemory` comes only where
-    /// neither holds.
+    /// Installs keys, each with the session keys beside it, all or none, and tells the number of the first.
+    /// Master keys' octets and the encryption keys that are given are compared: `KeyReused` where one
+    /// clashes with a key before it or with itself, with the least number of such a key; `RingFull` where
+    /// none does and there would be more than 65,536. `NoMemory` comes only where neither holds.
     pub fn install_all(&mut self, keys: &[(MasterKey, SessionKeys)]) -> Result<u32, RingFault>
-        requires few { length keys.now ≤ 65536 }
-        requires derived { All IsDerived keys.now }
+        requires { length keys.now ≤ 65536 }
         ensures first { IfOk result (λ first. first ≡ length self.old) }
-        ensures ok { OnOk result (self.new ≡ self.old ++ map (λ k. k.0) keys.now) }
+        ensures ok { OnOk result (self.new ≡ self.old ++ map given keys.now) }
         ensures err { OnErr result (self.new ≡ self.old) }
-        ensures installs { (ring new : List Installed) → masters_of ring ≡ self.old → masters_of new ≡ map (λ k. k.0) keys.now
+        ensures answer { IsToldOf self.old (map given keys.now) result (install_keys self.old (map given keys.now)) }
+        ensures installs { (ring new : List Installed) → keys_of ring ≡ self.old → keys_of new ≡ map given keys.now
             → IsToldOf ring new result (install ring new) }
     {
         let first = self.keys.len();
@@ -97,7 +94,7 @@ impl Ring {
                 number: number as u32,
             });
         }
-        if first + keys.len() > MOST {
+        if first + keys.len() > RING_KEYS_MOST {
             return Err(RingFault::RingFull);
         }
         match push_all(&mut self.keys, keys) {

@@ -1,28 +1,18 @@
 //! The ring: no key twice, all or none, up to 65,536 keys.
 
-ghost use Rattle.std.specs.Prelude.{◌≡◌, IfOk};
-ghost use Rattle.sg_keys.specs.Reused.{IsDerived};
-
 use crate::{Ring, RingFault};
-use sg_base::{MasterKey, Refusal, SessionKeys, Suite};
+use sg_base::{CipherKey, HalfKeys, MasterKey, SessionKeys, Suite};
 use sg_kdf::derive;
-use sg_session::plain::{InstalledKey, PlainRing};
-use sg_session::{Direction, Owner};
-use std::alloc::{AllocError, Global};
 use std::test::Fail;
 
 /// A master key with its session keys.
-fn derived(master: MasterKey) -> (MasterKey, SessionKeys)
-    ensures { IsDerived result }
-{
+fn derived(master: MasterKey) -> (MasterKey, SessionKeys) {
     let keys = derive(&master);
     (master, keys)
 }
 
 /// A key of this suite whose key octets and salt octets are these.
-fn filled(suite: Suite, octet: u8, salt: u8) -> Result<(MasterKey, SessionKeys), Fail>
-    ensures { IfOk result IsDerived }
-{
+fn filled(suite: Suite, octet: u8, salt: u8) -> Result<(MasterKey, SessionKeys), Fail> {
     let mut octets = [octet; 46];
     let count = suite.key_len();
     octets[count..].fill(salt);
@@ -32,9 +22,7 @@ fn filled(suite: Suite, octet: u8, salt: u8) -> Result<(MasterKey, SessionKeys),
 }
 
 /// A raw key whose octets are this number, the highest first.
-fn numbered(number: u32) -> Result<(MasterKey, SessionKeys), Fail>
-    ensures { IfOk result IsDerived }
-{
+fn numbered(number: u32) -> Result<(MasterKey, SessionKeys), Fail> {
     let mut octets = [0; 20];
     octets[16..].copy_from_slice(&number.to_be_bytes());
     let master = MasterKey::new(Suite::Raw80, &octets).ok_or("length")?;
@@ -93,81 +81,65 @@ fn a_refused_list_leaves_the_ring(rt: HostRuntime) -> Result<(), Fail> {
 #[test]
 fn a_ring_is_full(rt: HostRuntime) -> Result<(), Fail> {
     let mut ring = Ring::make(rt.alloc());
-    for place in 0..65536u32 {
-        let told = ring.install_all(&[numbered(65535 - place)?]);
-        assert_eq!(rt; told, Ok(place));
+    for position in 0..65536u32 {
+        let told = ring.install_all(&[numbered(65535 - position)?]);
+        assert_eq!(rt; told, Ok(position));
     }
     let more = ring.install_all(&[numbered(65536)?]);
     assert_eq!(rt; more, Err(RingFault::RingFull));
-    for place in [7, 0, 65535] {
-        let again = ring.install_all(&[numbered(70000)?, numbered(65535 - place)?]);
-        assert_eq!(rt; again, Err(RingFault::KeyReused { number: place }));
+    for position in [7, 0, 65535] {
+        let told = ring.install_all(&[numbered(70000)?, numbered(65535 - position)?]);
+        assert_eq!(rt; told, Err(RingFault::KeyReused { number: position }));
     }
     assert_eq!(rt; ring.install_all(&[]), Ok(65536));
     assert_eq!(rt; ring.count(), 65536);
     Ok(())
 }
 
-/// The next of some numbers that look like drawn ones, by the step of a common linear generator.
-fn step(seed: u32) -> u32 {
-    seed.wrapping_mul(1664525).wrapping_add(1013904223)
-}
-
-/// A key of few, so that they come again.
-fn drawn(seed: u32) -> Result<(MasterKey, SessionKeys), Fail>
-    ensures { IfOk result IsDerived }
-{
-    let suite = match seed >> 28 & 3 {
-        0 => Suite::Cm128Tag80,
-        1 => Suite::Cm128Tag32,
-        2 => Suite::Cm256Tag80,
-        _ => Suite::Raw80,
-    };
-    filled(suite, (seed >> 20 & 255) as u8, (seed >> 18 & 3) as u8)
-}
-
-/// The same keys for the plain ring.
-fn owned(
-    alloc: Global,
-    keys: &[(MasterKey, SessionKeys)],
-) -> Result<Vec<InstalledKey>, AllocError> {
-    let owner = Owner {
-        call: 7,
-        medium: 1,
-        generation: 0,
-        direction: Direction::Sealing,
-    };
-    let mut list = Vec::new(alloc);
-    for key in keys {
-        list.push(InstalledKey::new(key.0.again(), owner))?;
+/// Session keys whose encryption key is filled with this octet; none of it at 0.
+fn half(octet: u8) -> HalfKeys {
+    let count = if octet == 0 { 0 } else { 16 };
+    HalfKeys {
+        encrypt: CipherKey::new(&[octet; 16][..count]),
+        auth: [0; 20],
+        salt: [0; 14],
     }
-    Ok(list)
 }
 
-// The ring that looks through all of its keys answers the same, list by list.
+/// A master key filled with an octet, beside encryption keys that aren't derived of it.
+fn given(master: u8, rtp: u8, rtcp: u8) -> Result<(MasterKey, SessionKeys), Fail> {
+    let master = MasterKey::new(Suite::Cm128Tag80, &[master; 30]).ok_or("length")?;
+    let keys = SessionKeys {
+        rtp: half(rtp),
+        rtcp: half(rtcp),
+    };
+    Ok((master, keys))
+}
+
+// Encryption keys are compared as they are given, those of RTP with those of RTCP too (RFC 3711, 9.1). A
+// key whose own two are equal gets its own number told, behind whatever else it clashes with.
 #[test]
-fn answers_as_the_plain_ring(rt: HostRuntime) -> Result<(), Fail> {
-    let alloc = rt.alloc();
-    let mut ring = Ring::make(alloc);
-    let mut plain = PlainRing::new(alloc);
-    let mut seed = 1;
-    let mut refuses = false;
-    for _ in 0..400 {
-        let first = step(seed);
-        let second = step(first);
-        seed = step(second);
-        let keys = [drawn(first)?, drawn(second)?, drawn(seed)?];
-        let told = ring.install_all(&keys);
-        let count = plain.count();
-        let wanted = match plain.install(owned(alloc, &keys)?)? {
-            Ok(()) => Ok(count),
-            Err(Refusal::KeyReused { number }) => Err(RingFault::KeyReused { number }),
-            Err(_) => Err(RingFault::RingFull),
-        };
-        refuses |= wanted.is_err();
-        assert_eq!(rt; told, wanted);
-        assert_eq!(rt; ring.count(), plain.count());
+fn compares_the_keys_that_it_is_given(rt: HostRuntime) -> Result<(), Fail> {
+    let mut ring = Ring::make(rt.alloc());
+    let taken = [given(1, 11, 12)?, given(2, 13, 14)?, given(3, 0, 0)?];
+    assert_eq!(rt; ring.install_all(&taken), Ok(0));
+    // The octets of a master key and of its two encryption keys, and the answer.
+    for (master, rtp, rtcp, answer) in [
+        (9, 21, 21, Err(3)),
+        (9, 12, 21, Err(0)),
+        (9, 21, 13, Err(1)),
+        (9, 14, 14, Err(1)),
+        (1, 14, 21, Err(0)),
+        (9, 0, 0, Ok(3)),
+        (8, 21, 0, Ok(4)),
+        (7, 0, 21, Err(4)),
+    ] {
+        let told = ring.install_all(&[given(master, rtp, rtcp)?]);
+        let wanted = answer.map_err(|number| RingFault::KeyReused { number });
+        assert_eq!(rt; told, wanted, "{master} {rtp} {rtcp}");
     }
-    assert!(rt; refuses && ring.count() > 0);
+    let two = [given(6, 31, 32)?, given(5, 33, 33)?, given(4, 34, 31)?];
+    let second = Err(RingFault::KeyReused { number: 6 });
+    assert_eq!(rt; ring.install_all(&two), second);
     Ok(())
 }

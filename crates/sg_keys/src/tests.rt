@@ -1,6 +1,6 @@
 //! Keys by MKI and lives.
 
-ghost use Rattle.std.specs.Prelude.{◌≡◌, ◌≢◌, length, true};
+ghost use Rattle.std.specs.Prelude.{◌≡◌, length, true};
 ghost use Rattle.sg_keys.specs.Live.{is_cipher_len};
 
 use crate::{KeySet, LiveKey, OpenKeyFault, Spent};
@@ -12,7 +12,9 @@ use std::test::Fail;
 /// A key of this number, MKI and life that has served nothing.
 fn key(number: u32, mki: Option<Mki>, life: u64) -> LiveKey
     ensures number { result.number ≡ number }
+    ensures mki { result.mki ≡ mki }
     ensures cipher { length result.half.encrypt ≡ 16 }
+    ensures count { result.count ≡ 0 }
 {
     LiveKey {
         number,
@@ -28,7 +30,8 @@ fn key(number: u32, mki: Option<Mki>, life: u64) -> LiveKey
 }
 
 fn single(only: LiveKey) -> KeySet
-    requires { is_cipher_len (length only.half.encrypt) ≡ true }
+    requires cipher { is_cipher_len (length only.half.encrypt) ≡ true }
+    requires count { only.count ≡ 0 }
     ensures { length result ≡ 1 }
 {
     let mut keys = ArrayVec::new();
@@ -36,15 +39,16 @@ fn single(only: LiveKey) -> KeySet
     KeySet::make(keys)
 }
 
-fn pair(first: LiveKey, second: LiveKey) -> KeySet
-    requires apart { first.number ≢ second.number }
-    requires first { is_cipher_len (length first.half.encrypt) ≡ true }
-    requires second { is_cipher_len (length second.half.encrypt) ≡ true }
+/// Two keys, numbered 40 and 41, with MKIs of one octet, 1 and 2.
+#[tactic(auto, using(crate::proofs::Sets::pair_set))]
+fn pair(rt: &impl Abort, life: u64) -> KeySet
     ensures { length result ≡ 2 }
 {
+    let (first, second) = (Mki::new(1, 1), Mki::new(2, 1));
+    assert!(rt; first.is_some() && second.is_some());
     let mut keys = ArrayVec::new();
-    keys.push(first);
-    keys.push(second);
+    keys.push(key(40, first, life));
+    keys.push(key(41, second, life));
     KeySet::make(keys)
 }
 
@@ -77,19 +81,19 @@ fn a_key_without_an_mki(rt: HostRuntime) {
     assert_eq!(rt; set.key(0).number, 5);
 }
 
-/// A packet more under the key of this place.
-fn spend(rt: &impl Abort, set: &mut KeySet, place: usize) {
-    assert!(rt; set.can_serve(place));
-    set.spend(place);
+/// A packet more under the key of this position.
+fn spend(rt: &impl Abort, set: &mut KeySet, position: usize) {
+    assert!(rt; set.can_serve(position));
+    set.spend(position);
 }
 
 // Two keys of life 2 (RFC 3711, 9.2): the first, the first, the second, the second, and then none.
 #[test]
 fn lives_end(rt: HostRuntime) {
-    let mut set = pair(key(40, Mki::new(1, 1), 2), key(41, Mki::new(2, 1), 2));
-    for place in [0, 0, 1, 1] {
-        assert_eq!(rt; set.choose_seal(), Ok(place));
-        spend(&rt, &mut set, place);
+    let mut set = pair(&rt, 2);
+    for position in [0, 0, 1, 1] {
+        assert_eq!(rt; set.choose_seal(), Ok(position));
+        spend(&rt, &mut set, position);
     }
     let last = Spent {
         number: 41,

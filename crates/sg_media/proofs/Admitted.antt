@@ -29,6 +29,8 @@ use Rattle.sg_srtp.specs.Parts.{heading_out}
 use Rattle.sg_srtp.specs.Placing.{next_index}
 use Rattle.sg_srtp.specs.StreamValues.{StreamValue}
 use Rattle.sg_srtp.specs.declared.outbound.Sealed.{Sealed}
+use Rattle.sg_srtp.proofs.OpeningLaw.{live_result}
+use Rattle.sg_srtp.proofs.SealingLaw.{heading_out_is, next_kind, out_parts, sealing_live, taken_at, text_is}
 use Rattle.sg_media.specs.Accepting.{IsAdmitted}
 use Rattle.sg_media.specs.Answers.{closed_at, entry_out, roomed, sealed_at, sealed_of, told_of}
 use Rattle.sg_media.specs.Sides.{SideValue, StandsFor}
@@ -36,85 +38,18 @@ use Rattle.sg_media.specs.Standing.{StreamsStand, room_in}
 use Rattle.sg_media.proofs.SideSteps.{done_more, spent_ciphers, stands_with, stands_same, streams_in}
 
 -- ---- heads
-heading_kind : (kind : Kind) (s : Session) (p : List ℕ) → heading_out kind s.encrypts p ≡ head_out_of_kind kind s p
-heading_kind Rtp s p = refl
-heading_kind Rtcp s p = refl
-
-pub heading_out_is : (s : Session) (p : List ℕ) → heading_out s.name.kind s.encrypts p ≡ head_out s p
-heading_out_is s p = heading_kind s.name.kind s p
-
 pub unheaded_out : (s : Session) (p : List ℕ) (c : DropCause) → head_out s p ≡ Err c → seals s p ≡ Err c
 unheaded_out s p c e = rw e refl
 
 pub unadmitted_out : (s : Session) (p : List ℕ) (h : Head) → head_out s p ≡ Ok h → admits s h.ssrc ≡ false → seals s p ≡ Err cause.SsrcUnknown
 unadmitted_out s p h e a = rw (e, a) refl
 
-rtp_parts : (on : Bool) (r : Result RtpHead HeadFault) (head : Head) → of_rtp on r ≡ Ok head → (head.size ≡ size_of r) × (head.encrypted ≡ on)
-rtp_parts on (Err f) head e = cc
-rtp_parts on (Ok h) head e =
-    let same : record { size = h.length; ssrc = h.ssrc; number = h.seq; encrypted = on } ≡ head = ok_is _ head e in
-    (ap (λ (x : Head). x.size) (sym same), ap (λ (x : Head). x.encrypted) (sym same))
-
-rtcp_parts : (on : Bool) (r : Result RtcpHead HeadFault) (head : Head) → of_rtcp 0 on r ≡ Ok head → (head.size ≡ 8) × (head.encrypted ≡ on)
-rtcp_parts on (Err f) head e = cc
-rtcp_parts on (Ok h) head e =
-    let same : record { size = 8; ssrc = h.ssrc; number = 0; encrypted = on } ≡ head = ok_is _ head e in
-    (ap (λ (x : Head). x.size) (sym same), ap (λ (x : Head). x.encrypted) (sym same))
-
-out_parts : (kind : Kind) (s : Session) (p : List ℕ) (head : Head) → head_out_of_kind kind s p ≡ Ok head → (head.size ≡ head_size kind p) × (head.encrypted ≡ s.encrypts)
-out_parts Rtp s p head e = rtp_parts s.encrypts (rtp_head p) head e
-out_parts Rtcp s p head e = rtcp_parts s.encrypts (rtcp_head p) head e
-
--- ---- keys
-live_result : Session → Result Key DropCause → Result Live DropCause
-live_result s (Ok k) = Ok (live_key s k)
-live_result s (Err c) = Err c
-
-last_rest : (x y : Live) (ys : List Live) → slice_get (x ∷ y ∷ ys) (length (x ∷ y ∷ ys) - 1) ≡ slice_get (y ∷ ys) (length (y ∷ ys) - 1)
-last_rest x y ys =
-    let a : length (x ∷ y ∷ ys) - 1 ≡ suc (length ys) = omega arith in
-    let b : length (y ∷ ys) - 1 ≡ length ys = omega arith in
-    ap (slice_get (x ∷ y ∷ ys)) a ∙ sym (ap (slice_get (y ∷ ys)) b)
-
-told_rest : (o : Option Live) (x y : Live) (ys : List Live) → with_spent_cause (sealing_if o (x ∷ y ∷ ys)) ≡ with_spent_cause (sealing_if o (y ∷ ys))
-told_rest (Some k) x y ys = refl
-told_rest None x y ys = ap (λ o. with_spent_cause (Err (told o))) (last_rest x y ys)
-
-sealing_is : (s : Session) (k : Key) (ks : List Key) → chosen_to_seal (map (live_key s) (k ∷ ks)) ≡ live_result s (sealing_key s (k ∷ ks))
-unfolding live_result
-sealing_is s k [] = elim (cases_Bool (is_live s k)) [
-  | inl y ↦ rw y refl
-  | inr n ↦ rw n refl
-]
-sealing_is s k (l ∷ ls) = elim (cases_Bool (is_live s k)) [
-  | inl y ↦ rw y refl
-  | inr n ↦ rw n (told_rest (find is_alive (map (live_key s) (l ∷ ls))) (live_key s k) (live_key s l) (map (live_key s) ls) ∙ sealing_is s l ls)
-]
-
-sealing_live : (s : Session) (ks : List Key) → 0 < length (map (live_key s) ks) → chosen_to_seal (map (live_key s) ks) ≡ live_result s (sealing_key s ks)
-sealing_live s [] some = absurd (omega arith)
-sealing_live s (k ∷ ks) some = sealing_is s k ks
-
--- ---- the index and the text
-next_kind : (kind : Kind) (s : Session) (h : Head) → next_index kind s.roc s.window (indices_of s.done h.ssrc) h.number ≡ number_of_kind kind s h
-next_kind Rtp s h = refl
-next_kind Rtcp s h = refl
-
-text_is : (kind : Kind) (half : HalfKeys) (head : Head) (on : Bool) (t i : ℕ) (mki p : List ℕ) → head.size ≡ head_size kind p → head.encrypted ≡ on
-    → closed kind half head.encrypted t i mki (crypted head.encrypted half head.ssrc i head.size p) ≡ sealed_text kind half on t mki head.ssrc i p
-text_is Rtp half head on t i mki p z e = λ j. tagged_rtp half t i mki (crypted (e j) half head.ssrc i (z j) p)
-text_is Rtcp half head on t i mki p z e = λ j. tagged_rtcp half mki (crypted (e j) half head.ssrc i (z j) p ++ index_word (e j) i)
-
 abbrev outgoing : Session → List ℕ → Head → Outgoing
 outgoing s p head = record { pad = p; kind = s.name.kind; head = head }
-
-abbrev taken_at : Head → List ℕ → Key → ℕ → Taken
-taken_at head p k i = record { key = k; done = record { ssrc = head.ssrc; index = i; key = k.number; packet = p } }
 
 one_seals : (s : Session) (p : List ℕ) (head : Head) → head.size ≡ head_size s.name.kind p → head.encrypted ≡ s.encrypts → (room : Bool) (rk : Result Key DropCause) (r : Result ℕ DropCause)
     → told_of s.name.kind p (roomed room (after_ok (live_result s rk) (λ key. after_ok r (λ i. Ok (closed_at (outgoing s p head) s.tag_len key i)))))
     ≡ sealed_of s p (stop_if (not room) cause.StreamsFull (after_ok rk (λ k. after_ok r (λ i. Ok (taken_at head p k i)))))
-unfolding live_result
 one_seals s p head z e false rk r = refl
 one_seals s p head z e true (Err c) r = refl
 one_seals s p head z e true (Ok k) (Err c) = refl

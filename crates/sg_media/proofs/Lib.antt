@@ -5,3 +5,4 @@ pub mod SealingSteps
 pub mod SideSteps
 pub mod Sources
 pub mod Standing
+pub mod TagLengths

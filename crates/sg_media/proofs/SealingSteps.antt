@@ -7,7 +7,7 @@ use Rattle.sg_keys.specs.Live.{Live, spent, spent_if}
 use Rattle.sg_keys.proofs.Spending.{same_half, same_mki, same_number}
 use Rattle.sg_session.specs.Stages.{after_ok}
 use Rattle.sg_srtp.specs.Choosing.{chosen_to_seal}
-use Rattle.sg_srtp.specs.Outbound.{Outgoing, Numbering, CanSeal, IsNumbered, IsSealedOf, closed, masked_at, numbered}
+use Rattle.sg_srtp.specs.Outbound.{Outgoing, Numbering, CanSeal, IsNumbered, IsSealedOf, closed, encrypted_at, numbered}
 use Rattle.sg_srtp.specs.declared.outbound.Sealed.{Sealed}
 use Rattle.sg_media.specs.Answers.{closed_at, sealed_at, told_of}
 use Rattle.sg_media.specs.Ciphers.{EachEncrypts}
@@ -20,15 +20,16 @@ get_spent n (x ∷ xs) (suc i) k e = get_spent n xs i k e
 pub at_spent : (keys new : List Live) (place : ℕ) (k : Live) → slice_get keys place ≡ Some k → new ≡ spent k.number keys → slice_get new place ≡ Some (spent_if k.number k)
 at_spent keys new place k e s = subst (λ (ks : List Live). slice_get ks place ≡ Some (spent_if k.number k)) (sym s) (get_spent k.number keys place k e)
 
-pub can_seal : (keys new : List Live) (place : ℕ) (k : Live) (encrypted : Bool) → EachEncrypts keys encrypted → slice_get keys place ≡ Some k → new ≡ spent k.number keys → CanSeal new place encrypted
-can_seal keys new place k encrypted c e s = record {
+pub can_seal : (keys new : List Live) (at number : ℕ) (k : Live) (encrypted : Bool) → EachEncrypts keys encrypted → slice_get keys at ≡ Some k → k.number ≡ number → new ≡ spent k.number keys → CanSeal new at number encrypted
+can_seal keys new at number k encrypted c e n s = record {
   key = spent_if k.number k;
-  at = at_spent keys new place k e s;
-  cipher = λ on. subst (λ (h : HalfKeys). 0 < length h.encrypt) (sym (same_half k.number k)) (c place k e on);
+  here = at_spent keys new at k e s;
+  same = same_number k.number k ∙ n;
+  cipher = λ on. subst (λ (h : HalfKeys). 0 < length h.encrypt) (sym (same_half k.number k)) (c at k e on);
 }
 
 abbrev text_under : Outgoing → ℕ → ℕ → HalfKeys → List ℕ → List ℕ
-text_under h tag_len index half mki = closed h.kind half h.head.encrypted tag_len index mki (masked_at h half index)
+text_under h tag_len index half mki = closed h.kind half h.head.encrypted tag_len index mki (encrypted_at h half index)
 
 sealed_is : (o : Sealed) (pad : List ℕ) (kind : Kind) (ssrc index key : ℕ) → o.pad ≡ pad → o.kind ≡ kind → o.ssrc ≡ ssrc → o.index ≡ index → o.key ≡ key
     → o ≡ record { pad = pad; kind = kind; ssrc = ssrc; index = index; key = key }

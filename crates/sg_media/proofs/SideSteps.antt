@@ -17,12 +17,14 @@ use Rattle.sg_srtp.specs.Inbound.{Heading, Keying, IsHeaded, IsKeyed}
 use Rattle.sg_srtp.specs.Parts.{heading, mki_of}
 use Rattle.sg_srtp.specs.StreamValues.{StreamValue}
 use Rattle.sg_srtp.specs.declared.inbound.Opened.{Opened}
-use Rattle.sg_media.specs.Accepting.{IsAccepted, heading_in}
+use Rattle.sg_srtp.specs.Steps.{heading_in}
+use Rattle.sg_media.specs.Accepting.{IsAccepted}
 use Rattle.sg_media.specs.Answers.{entry_of, opened_of}
 use Rattle.sg_media.specs.Ciphers.{HaveCiphers}
 use Rattle.sg_media.specs.Sides.{SideValue, StandsFor}
 use Rattle.sg_media.specs.Standing.{StreamsStand}
-use Rattle.sg_media.proofs.Accepted.{heading_is, mki_len_is, chosen_key, unchosen_key, unkeyed, opened_ok, opened_err}
+use Rattle.sg_srtp.proofs.OpeningLaw.{heading_is, mki_len_is, chosen_key, unchosen_key}
+use Rattle.sg_media.proofs.Accepted.{unkeyed, opened_ok, opened_err}
 
 -- ---- heads and keys
 pub record IsHeadIn (s : Session) (d : List ℕ) (h : Heading) : Type 0 where
@@ -65,7 +67,7 @@ accepted s d h keys k is e adm keyed =
       admitted = adm;
       key = choice.0;
       chosen = choice.1;
-      at = ap (λ (ks : List Live). slice_get ks k.place) (sym e) ∙ keyed.at ∙ ap (λ (x : Live). Some x) (sym (choice.2));
+      at = ap (λ (ks : List Live). slice_get ks k.key) (sym e) ∙ keyed.at ∙ ap (λ (x : Live). Some x) (sym (choice.2));
     }
 
 pub unaccepted : (s : Session) (d : List ℕ) (h : Heading) (keys : List Live) (c : DropCause) → IsHeadIn s d h → keys ≡ live s → admits s h.head.ssrc ≡ true

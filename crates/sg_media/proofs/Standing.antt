@@ -1,14 +1,16 @@
 -- Streams after one datagram more.
 use Rattle.std.proofs.Common.{◌≡◌, ◌≢◌, ℕ, zero, suc, ◌+◌, ◌<◌, ◌≤◌, true, false, not, nat_eq, nat_lt, List, [], ◌∷◌, ◌++◌, length, map, take, get_or, slice_get, slice_set, Some, None, refl, arith, ap, subst, sym, ◌∙◌, ◌⊎◌, inl, inr}
 use Rattle.std.proofs.lemmas.Bool.{cases_eq, both_ways, ne_eqb, lt-ltb}
-use Rattle.std.proofs.lemmas.List.{map-append, length-map, take_more}
+use Rattle.std.proofs.lemmas.List.{map-append, length-map, length-set, take_more}
 use Rattle.std.proofs.lemmas.Option.{get_or_from_slice_get}
-use Rattle.std.proofs.Math.Seq.{map-set_same}
+use Rattle.std.proofs.Math.Seq.{map-set_same, take-append_seam}
+use Rattle.std.specs.List.{refill}
+use Rattle.sg_base.specs.declared.addresses.Kind.{Kind}
 use Rattle.sg_replay.specs.Freshness.{is_in}
 use Rattle.sg_srtp.specs.StreamValues.{StreamValue}
 use Rattle.sg_session.specs.Session.{Done, sources, is_first, indices_of}
 use Rattle.sg_srtp.specs.Streams.{StreamStands}
-use Rattle.sg_media.specs.Standing.{source_of, StreamsStand, IsAt, room_in}
+use Rattle.sg_media.specs.Standing.{source_of, AreOfKind, StreamsStand, IsAt, room_in}
 use Rattle.sg_media.proofs.Sources.{sources_from-push, indices_of-push_same, indices_of-push_other, none_of, first_source, first_is, Distinct, distinct_sources, is_in-map, is_in-push, distinct_places}
 
 module _ {X : Type 0} where
@@ -29,6 +31,26 @@ module _ {X : Type 0} where
   get_push [] (suc i) x y e = cc
   get_push (z ∷ zs) zero x y e = inl e
   get_push (z ∷ zs) (suc i) x y e = get_push zs i x y e
+
+-- the kind of all streams
+pub of_kind-set : (streams : List StreamValue) (kind : Kind) (at : ℕ) (t : StreamValue) → AreOfKind streams kind → t.kind ≡ kind → AreOfKind (slice_set streams at t) kind
+of_kind-set streams kind at t all is i u e = elim (cases_eq i at) [
+  | inl here ↦ ap (λ (v : StreamValue). v.kind) (sym (get_set_same streams at t u (subst (λ j. slice_get (slice_set streams at t) j ≡ Some u) here e))) ∙ is
+  | inr ne ↦ all i u (sym (get_set_other streams at i t ne) ∙ e)
+]
+
+pub of_kind-push : (streams : List StreamValue) (kind : Kind) (t : StreamValue) → AreOfKind streams kind → t.kind ≡ kind → AreOfKind (streams ++ t ∷ []) kind
+of_kind-push streams kind t all is i u e = elim (get_push streams i t u e) [
+  | inl old ↦ all i u old
+  | inr same ↦ ap (λ (v : StreamValue). v.kind) (sym same) ∙ is
+]
+
+-- a list that is refilled by one of its length is that one
+refill_same : {X : Type 0} (n : ℕ) (xs ys : List X) → length ys ≡ n → refill n xs ys ≡ ys
+refill_same n xs ys e = rw (← e) (take-append_seam ys _)
+
+pub refilled : (xs ys : List StreamValue) (i : ℕ) (t : StreamValue) → ys ≡ xs → refill (length xs) xs (slice_set ys i t) ≡ slice_set ys i t
+refilled xs ys i t e = refill_same (length xs) xs (slice_set ys i t) (length-set ys i t ∙ ap length e)
 
 -- a stream that was found
 pub known_in : (streams : List StreamValue) (roc window : ℕ) (done : List Done) (ssrc at : ℕ) → StreamsStand streams roc window done → IsAt streams ssrc at → is_in (sources done) ssrc ≡ true

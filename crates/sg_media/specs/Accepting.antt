@@ -8,16 +8,10 @@ use Rattle.sg_session.specs.Opening.{Head, head_in, key_with, mki_in, mki_len}
 use Rattle.sg_session.specs.Sealing.{head_out}
 use Rattle.sg_session.specs.Session.{Key, Session, admits, count_of, is_live}
 use Rattle.sg_session.specs.Stages.{after_ok, stop_if}
-use Rattle.sg_srtp.specs.Inbound.{Heading, Keying}
+use Rattle.sg_srtp.specs.Choosing.{usable_in}
+use Rattle.sg_srtp.specs.Inbound.{Keying}
 use Rattle.sg_srtp.specs.Outbound.{Outgoing}
-
--- the first of these keys that has this MKI, where it is live
-abbrev pub usable_in : Session → List Key → List ℕ → Result Key DropCause
-usable_in s ks mki = after_ok (key_with ks mki) (λ k. stop_if (not (is_live s k)) (cause.KeySpent k.number (count_of s k)) (Ok k))
-
--- a datagram of the session with its head
-abbrev pub heading_in : Session → List ℕ → Head → Heading
-heading_in s d head = record { pad = d; kind = s.name.kind; mki_len = mki_len s; tag_len = s.tag_len; head = head }
+use Rattle.sg_srtp.specs.Steps.{heading_in}
 
 -- the datagram's head, its source and its key are the session's
 pub record IsAccepted (s : Session) (d : List ℕ) (k : Keying) : Type 0 where
@@ -27,7 +21,7 @@ pub record IsAccepted (s : Session) (d : List ℕ) (k : Keying) : Type 0 where
   pub admitted : admits s head.ssrc ≡ true
   pub key : Key
   pub chosen : usable_in s s.keys (mki_in s d) ≡ Ok key
-  pub at : slice_get (live s) k.place ≡ Some (live_key s key)
+  pub at : slice_get (live s) k.key ≡ Some (live_key s key)
 
 -- the packet's head and its source are the session's
 pub record IsAdmitted (s : Session) (p : List ℕ) (h : Outgoing) : Type 0 where

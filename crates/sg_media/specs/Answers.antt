@@ -6,13 +6,15 @@ use Rattle.sg_base.specs.declared.faults.DropCause.TheVariants.{BadTag, StreamsF
 use Rattle.sg_keys.specs.Live.{Live}
 use Rattle.sg_session.specs.Opening.{Taken}
 use Rattle.sg_session.specs.Sealing.{datagram_of}
-use Rattle.sg_session.specs.Session.{Done, Session}
+use Rattle.sg_session.specs.Session.{Done, Session, indices_of}
 use Rattle.sg_session.specs.Stages.{after_ok, stop_if}
 use Rattle.sg_srtp.specs.Choosing.{chosen_to_seal}
 use Rattle.sg_srtp.specs.Inbound.{Keying, fits_under, packet_at}
 use Rattle.sg_srtp.specs.Outbound.{Outgoing, datagram_at}
+use Rattle.sg_srtp.specs.Placing.{next_index, placed}
 use Rattle.sg_srtp.specs.declared.inbound.Opened.{Opened}
 use Rattle.sg_srtp.specs.declared.outbound.Sealed.{Sealed}
+use Rattle.sg_media.specs.Standing.{room_in}
 
 -- what is handed out of a datagram: the packet that it opens as, or the datagram and the first cause
 abbrev pub opened_of : Kind → List ℕ → Result Taken DropCause → Result Opened (List ℕ × DropCause)
@@ -38,6 +40,12 @@ abbrev pub answer_at : Kind → List ℕ → Result Done DropCause → Result Op
 answer_at kind d (Ok done) = Ok (record { pad = done.packet; kind = kind; ssrc = done.ssrc; index = done.index; key = done.key })
 answer_at kind d (Err cause) = Err (d, cause)
 
+-- among streams in which this is done
+abbrev pub opened_among : Keying → Live → ℕ → ℕ → List Done → Result Opened (List ℕ × DropCause)
+opened_among k key roc window done =
+    answer_at k.headed.kind k.headed.pad
+    (opened_at k key (room_in done k.headed.head.ssrc) (placed k.headed.kind roc window (indices_of done k.headed.head.ssrc) k.headed.head.number))
+
 -- the entry of what was opened
 abbrev pub entry_of : Opened → Done
 entry_of o = record { ssrc = o.ssrc; index = o.index; key = o.key; packet = o.pad }
@@ -49,7 +57,7 @@ pub record Closed : Type 0 where
 
 abbrev pub closed_at : Outgoing → ℕ → Live → ℕ → Closed
 closed_at h tag_len key i = record {
-  text = datagram_at (record { headed = h; place = 0; index = i }) key tag_len;
+  text = datagram_at (record { headed = h; key = 0; number = 0; index = i }) key tag_len;
   done = record { ssrc = h.head.ssrc; index = i; key = key.number; packet = h.pad };
 }
 
@@ -63,6 +71,10 @@ roomed room r = stop_if (not room) StreamsFull r
 abbrev pub told_of : Kind → List ℕ → Result Closed DropCause → Result Sealed (List ℕ × DropCause)
 told_of kind p (Ok x) = Ok (record { pad = x.text; kind = kind; ssrc = x.done.ssrc; index = x.done.index; key = x.done.key })
 told_of kind p (Err cause) = Err (p, cause)
+
+-- among streams in which this is done, by the keys with this tag
+abbrev pub closed_among : Outgoing → List Live → ℕ → ℕ → ℕ → List Done → Result Closed DropCause
+closed_among h keys tag_len roc window done = sealed_at h keys tag_len (next_index h.kind roc window (indices_of done h.head.ssrc) h.head.number)
 
 -- the entry of what was sealed of a packet
 abbrev pub entry_out : List ℕ → Sealed → Done

@@ -1,5 +1,6 @@
 -- The streams of a side stand for what a session has done.
-use Rattle.std.specs.Prelude.{◌≡◌, ℕ, Bool, ◌||◌, nat_lt, List, length, map, slice_get, Some}
+use Rattle.std.specs.Prelude.{◌≡◌, ℕ, Bool, ◌||◌, nat_lt, List, [], ◌∷◌, ◌++◌, length, map, slice_get, Some}
+use Rattle.sg_base.specs.declared.addresses.Kind.{Kind}
 use Rattle.sg_replay.specs.Freshness.{is_in}
 use Rattle.sg_session.specs.Session.{Done, sources, indices_of}
 use Rattle.sg_srtp.specs.StreamValues.{StreamValue}
@@ -12,6 +13,14 @@ source_of t = t.ssrc
 pub record StreamsStand (streams : List StreamValue) (roc window : ℕ) (done : List Done) : Type 0 where
   pub each_source : map source_of streams ≡ sources done
   pub each_stream : (i : ℕ) (t : StreamValue) → slice_get streams i ≡ Some t → StreamStands t t.ssrc roc window (indices_of done t.ssrc)
+
+-- they then stand for what is done with this entry at its end
+abbrev pub StreamsTake : List StreamValue → List StreamValue → ℕ → ℕ → Done → Type 0
+StreamsTake old new roc window entry = (done : List Done) → StreamsStand old roc window done → StreamsStand new roc window (done ++ entry ∷ [])
+
+-- each stream is of this kind
+abbrev pub AreOfKind : List StreamValue → Kind → Type 0
+AreOfKind streams kind = (i : ℕ) (t : StreamValue) → slice_get streams i ≡ Some t → t.kind ≡ kind
 
 -- a stream of this source
 pub record IsAt (streams : List StreamValue) (ssrc at : ℕ) : Type 0 where

@@ -1,15 +1,14 @@
 //! The two sides of a session: what opens its datagrams and what seals its packets. No call takes memory.
 #![tactic(auto)]
 
-mod among;
+mod context;
 mod open_side;
 mod opening;
 mod seal_side;
 mod sealing;
-mod side;
-mod streams;
 #[cfg(test)]
-mod tests;
+mod side_tests;
+mod streams;
 
 pub use open_side::OpenSide;
 pub use seal_side::SealSide;

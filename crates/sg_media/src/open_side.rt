@@ -1,8 +1,8 @@
 //! The opening side of a session.
 
-ghost use Rattle.std.specs.Prelude.{◌≡◌, ◌≤◌};
+ghost use Rattle.std.specs.Prelude.{◌≡◌, ◌≤◌, IfErr};
 
-use crate::side::Side;
+use crate::context::Context;
 use sg_base::{DropCause, Pad};
 use sg_keys::SessionSpec;
 use sg_srtp::inbound::Opened;
@@ -11,7 +11,7 @@ use std::marker::Model;
 /// What opens the datagrams of a session (RFC 3711, 3.3 and 3.4).
 #[derive(Drop)]
 pub struct OpenSide {
-    side: Side,
+    context: Context,
 }
 
 impl Model for OpenSide {
@@ -19,7 +19,7 @@ impl Model for OpenSide {
 
     ghost Value = { SideValue };
 
-    ghost view = { λ o. o.side };
+    ghost view = { λ o. o.context };
 }
 
 impl OpenSide {
@@ -28,16 +28,18 @@ impl OpenSide {
     ghost use Rattle.sg_session.specs.Session.{Session};
     ghost use Rattle.sg_media.specs.Accepting.{IsMadeOf};
     ghost use Rattle.sg_media.specs.Answers.{opened_of};
-    ghost use Rattle.sg_media.specs.Sides.{CanBeMade, StandsFor};
+    ghost use Rattle.sg_media.specs.Sides.{CanBeMade, StandsFor, side_of};
 
-    /// The side of a session in which nothing is done: of a window of 64 to 1,024 indices and a tag of
-    /// at most ten octets, with a cipher's key in each key where something may be encrypted.
+    /// The side of a session in which nothing is done: of keys that have not served, each with a cipher's
+    /// key where something may be encrypted; of a window of 64 to 1,024 indices, and of a tag of ten octets
+    /// or, for RTP alone, of four.
     pub fn make(spec: SessionSpec) -> OpenSide
         requires { CanBeMade spec }
-        ensures { (s : Session) → IsMadeOf s spec → StandsFor result s }
+        ensures value { result ≡ side_of spec }
+        ensures stands { (s : Session) → IsMadeOf s spec → StandsFor result s }
     {
         OpenSide {
-            side: Side::make(spec),
+            context: Context::make(spec),
         }
     }
 
@@ -46,9 +48,10 @@ impl OpenSide {
     /// StreamsFull. A datagram that is handed back changes nothing.
     pub fn receive(&mut self, pad: Pad) -> Result<Opened, (Pad, DropCause)>
         ensures answer { (s : Session) → StandsFor self.old s → result ≡ opened_of s.name.kind pad (opens s pad) }
+        ensures refused { IfErr result (λ e. (e.0 ≡ pad) × (self.new ≡ self.old)) }
         ensures after { (s : Session) → StandsFor self.old s → StandsFor self.new (after s (opens s pad)) }
     {
-        match self.side.receive(pad) {
+        match self.context.receive(pad) {
             Ok(opened) => Ok(opened),
             Err(refused) => Err(refused),
         }

@@ -1,8 +1,8 @@
 //! The sealing side of a session.
 
-ghost use Rattle.std.specs.Prelude.{◌≡◌, ◌≤◌, length};
+ghost use Rattle.std.specs.Prelude.{◌≡◌, ◌≤◌, IfErr, length};
 
-use crate::side::Side;
+use crate::context::Context;
 use sg_base::{DropCause, Pad};
 use sg_keys::SessionSpec;
 use sg_srtp::outbound::Sealed;
@@ -11,7 +11,7 @@ use std::marker::Model;
 /// What seals the packets of a session (RFC 3711, 3.3 and 3.4).
 #[derive(Drop)]
 pub struct SealSide {
-    side: Side,
+    context: Context,
 }
 
 impl Model for SealSide {
@@ -19,7 +19,7 @@ impl Model for SealSide {
 
     ghost Value = { SideValue };
 
-    ghost view = { λ o. o.side };
+    ghost view = { λ o. o.context };
 }
 
 impl SealSide {
@@ -28,16 +28,18 @@ impl SealSide {
     ghost use Rattle.sg_session.specs.Session.{Session};
     ghost use Rattle.sg_media.specs.Accepting.{IsMadeOf};
     ghost use Rattle.sg_media.specs.Answers.{sealed_of};
-    ghost use Rattle.sg_media.specs.Sides.{CanBeMade, StandsFor};
+    ghost use Rattle.sg_media.specs.Sides.{CanBeMade, StandsFor, side_of};
 
-    /// The side of a session in which nothing is done: of a window of 64 to 1,024 indices and a tag of
-    /// at most ten octets, with a cipher's key in each key where something may be encrypted.
+    /// The side of a session in which nothing is done: of keys that have not served, each with a cipher's
+    /// key where something may be encrypted; of a window of 64 to 1,024 indices, and of a tag of ten octets
+    /// or, for RTP alone, of four.
     pub fn make(spec: SessionSpec) -> SealSide
         requires { CanBeMade spec }
-        ensures { (s : Session) → IsMadeOf s spec → StandsFor result s }
+        ensures value { result ≡ side_of spec }
+        ensures stands { (s : Session) → IsMadeOf s spec → StandsFor result s }
     {
         SealSide {
-            side: Side::make(spec),
+            context: Context::make(spec),
         }
     }
 
@@ -48,9 +50,10 @@ impl SealSide {
     pub fn send(&mut self, pad: Pad) -> Result<Sealed, (Pad, DropCause)>
         requires { length pad ≤ 4096 }
         ensures answer { (s : Session) → StandsFor self.old s → result ≡ sealed_of s pad (seals s pad) }
+        ensures refused { IfErr result (λ e. (e.0 ≡ pad) × (self.new ≡ self.old)) }
         ensures after { (s : Session) → StandsFor self.old s → StandsFor self.new (after s (seals s pad)) }
     {
-        match self.side.send(pad) {
+        match self.context.send(pad) {
             Ok(sealed) => Ok(sealed),
             Err(refused) => Err(refused),
         }

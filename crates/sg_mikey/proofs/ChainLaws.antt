@@ -1,7 +1,8 @@
 -- A chain that is read is the chain that was written, and what was written is read again.
-use Rattle.std.proofs.Common.{◌≡◌, ℕ, zero, suc, ◌+◌, ◌<◌, ◌≤◌, Bool, true, false, ◌&&◌, cond, nat_eq, List, [], ◌∷◌, ◌++◌, length, map, Option, Some, None, Result, Ok, Err, refl, sym, ap, subst, ◌∙◌, append_assoc, length-append, arith, ◌⊎◌, inl, inr}
+use Rattle.std.proofs.Common.{◌≡◌, ℕ, zero, suc, ◌+◌, ◌<◌, ◌≤◌, Bool, true, false, ◌&&◌, nat_eq, List, [], ◌∷◌, ◌++◌, length, map, Option, Some, None, Result, Ok, Err, refl, sym, ap, subst, ◌∙◌, append_assoc, length-append, arith, inl, inr}
 use Rattle.std.specs.List.{AllByRecursion}
-use Rattle.std.proofs.lemmas.Bool.{cases_Bool, eqb-true}
+use Rattle.std.proofs.lemmas.Bool.{cases_Bool, eqb-true, and_parts}
+use Rattle.sg_base.proofs.Cases.{chosen}
 use Rattle.sg_mikey.specs.declared.chain.Stage.{Stage}
 use Rattle.sg_mikey.specs.declared.faults.Stop.{Stop}
 use Rattle.sg_mikey.specs.declared.payload.Payload.{Payload}
@@ -19,14 +20,6 @@ pub record TakesChain (octets : List ℕ) (kind : ℕ) (stage : Stage) (next : �
   pub payloads : AllByRecursion IsPayload ps
   pub first : next ≡ next_number ps
   pub accepted : Accepts kind stage (map payload_number ps)
-
-and_parts : (a b : Bool) → (a && b) ≡ true → (a ≡ true) × (b ≡ true)
-and_parts true b e = (refl, e)
-and_parts false b e = absurd cc
-
-chosen : {A : Type 0} (b : Bool) (x y z : Result A Stop) → cond b x y ≡ z → ((b ≡ true) × (x ≡ z)) ⊎ ((b ≡ false) × (y ≡ z))
-chosen true x y z e = inl (refl, e)
-chosen false x y z e = inr (refl, e)
 
 place_ok : (o : Option Stage) (octets : List ℕ) (behind : Stage) → in_place o octets ≡ Ok behind → o ≡ Some behind
 place_ok None octets behind e = absurd cc

@@ -1,10 +1,11 @@
 -- A field that is read is the field that was written, and what was written is read again.
-use Rattle.std.proofs.Common.{◌≡◌, ℕ, suc, ◌+◌, ◌^◌, ◌<◌, ◌≤◌, Bool, true, false, cond, nat_eq, nat_lt, nat_le, List, [], ◌∷◌, ◌++◌, length, get_or, take, drop, Result, Ok, Err, refl, sym, ap, subst, ◌∙◌, append_assoc, arith, ◌⊎◌, inl, inr}
+use Rattle.std.proofs.Common.{◌≡◌, ℕ, suc, ◌+◌, ◌^◌, ◌<◌, ◌≤◌, Bool, true, false, cond, nat_eq, nat_lt, nat_le, List, [], ◌∷◌, ◌++◌, length, get_or, take, drop, Result, Ok, Err, refl, sym, ap, subst, ◌∙◌, append_assoc, arith, inl, inr}
 use Rattle.std.proofs.lemmas.Bool.{cases_lt, ltb-false, le-ltb, leb-true, le-leb, eqb-true}
 use Rattle.std.proofs.lemmas.List.{take_at, drop_at, take-append-drop, length-append, length-take, get_or-drop, get_or-take, get_or_past}
 use Rattle.sg_base.specs.Octets.{be, number_of}
 use Rattle.sg_base.specs.declared.MikeyFault.{MikeyFault}
 use Rattle.sg_base.specs.declared.MikeyFault.TheVariants as faults
+use Rattle.sg_base.proofs.Cases.{chosen}
 use Rattle.sg_mikey.specs.declared.faults.Stop.{Stop}
 use Rattle.sg_mikey.specs.Spelling.{sized}
 use Rattle.sg_mikey.specs.Reading.{◌>>=◌, stop, cut, octet_at, up_to_at, octets_at, number_at, sized_at, is_number, next_at, item_type_at, version_at, verify_bit_at}
@@ -221,10 +222,6 @@ version_again rest = refl
 -- the V bit's octet
 abbrev pub verify_octet : Bool → ℕ
 verify_octet verify = cond verify 128 0
-
-chosen : {A : Type 0} (b : Bool) (x y z : A) → cond b x y ≡ z → ((b ≡ true) × (x ≡ z)) ⊎ ((b ≡ false) × (y ≡ z))
-chosen true x y z e = inl (refl, e)
-chosen false x y z e = inr (refl, e)
 
 pub verify_takes : (octets : List ℕ) (y : Bool × List ℕ) → IsOctets octets → verify_bit_at octets ≡ Ok y → Takes octets (verify_octet y.0 ∷ []) y.1
 unfolding verify_bit_at

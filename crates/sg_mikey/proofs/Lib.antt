@@ -1,6 +1,6 @@
-pub mod ChainLaws
-pub mod FieldLaws
-pub mod Loops
-pub mod MessageLaws
-pub mod Orders
-pub mod PayloadLaws
+mod ChainLaws
+mod FieldLaws
+mod Loops
+mod MessageLaws
+mod Orders
+mod PayloadLaws

@@ -1,5 +1,5 @@
 -- A message that is read is spelled so, and what is spelled so is read.
-use Rattle.std.proofs.Common.{◌≡◌, ℕ, zero, suc, ◌+◌, ◌^◌, ◌<◌, ◌≤◌, Bool, true, cond, nat_eq, List, [], ◌∷◌, ◌++◌, length, map, Result, Ok, Err, refl, sym, ap, subst, ◌∙◌, append_assoc, arith}
+use Rattle.std.proofs.Common.{◌≡◌, ℕ, zero, suc, ◌+◌, ◌%◌, ◌^◌, ◌<◌, ◌≤◌, Bool, true, cond, nat_eq, List, [], ◌∷◌, ◌++◌, length, map, Result, Ok, Err, refl, sym, ap, subst, ◌∙◌, append_assoc, arith}
 use Rattle.std.specs.List.{flat_map, AllByRecursion}
 use Rattle.std.proofs.lemmas.Bool.{eqb-true}
 use Rattle.std.proofs.lemmas.List.{append-nil, nil_from_length}
@@ -12,7 +12,7 @@ use Rattle.sg_mikey.specs.declared.message.CsEntry.{CsEntry}
 use Rattle.sg_mikey.specs.declared.message.Header.{Header}
 use Rattle.sg_mikey.specs.declared.message.Message.{Message}
 use Rattle.sg_mikey.specs.declared.payload.Payload.{Payload}
-use Rattle.sg_mikey.specs.Spelling.{payload_number, next_number, chain_octets, entry_octets, message_octets, FitsLengths, HasSpelling, IsEntry, IsPayload, IsMessage}
+use Rattle.sg_mikey.specs.Spelling.{payload_number, next_number, chain_octets, entry_octets, message_octets, IsEntry, IsMessage}
 use Rattle.sg_mikey.specs.Reading.{◌>>=◌, stop, is_number, octet_at, up_to_at, number_at, next_at, version_at, verify_bit_at, chain_at, entry_at, entries_at, header_at, whole_at, message_of, placed}
 use Rattle.sg_mikey.proofs.FieldLaws.{IsOctets, bind_ok, pass_ok, ok_is, Takes, Takes-then, octet_takes, octet_again, up_to_takes, up_to_again, wide_four, number_takes, number_again, next_takes, next_again, version_takes, version_again, verify_octet, verify_takes, verify_again}
 use Rattle.sg_mikey.proofs.Orders.{chain_of, accepts_chain}
@@ -129,9 +129,10 @@ whole_made : (octets : List ℕ) (h : Header) (behind : List ℕ) (map' : List C
     → IsMessage (record { kind = h.kind; verify = h.verify; csb = h.csb; map = map'; payloads = ps })
     × (octets ≡ message_octets (record { kind = h.kind; verify = h.verify; csb = h.csb; map = map'; payloads = ps }))
 whole_made octets h behind map' rest ps left ta is tb count entries tc nothing =
-    let named : Takes octets (header_octets (record { kind = h.kind; next = next_number ps; verify = h.verify; csb = h.csb; count = length map' })) behind =
-    subst (λ (n : ℕ). Takes octets (1 ∷ h.kind ∷ n ∷ verify_octet h.verify ∷ (be h.csb 4 ++ length map' ∷ 0 ∷ [])) behind) tc.first
-    (subst (λ (n : ℕ). Takes octets (1 ∷ h.kind ∷ h.next ∷ verify_octet h.verify ∷ (be h.csb 4 ++ n ∷ 0 ∷ [])) behind) (sym count) ta) in
+    let size : h.count ≡ length map' % 256 = omega (arith, count, is.count) in
+    let named : Takes octets (header_octets (record { kind = h.kind; next = next_number ps; verify = h.verify; csb = h.csb; count = length map' % 256 })) behind =
+    subst (λ (n : ℕ). Takes octets (1 ∷ h.kind ∷ n ∷ verify_octet h.verify ∷ (be h.csb 4 ++ length map' % 256 ∷ 0 ∷ [])) behind) tc.first
+    (subst (λ (n : ℕ). Takes octets (1 ∷ h.kind ∷ h.next ∷ verify_octet h.verify ∷ (be h.csb 4 ++ n ∷ 0 ∷ [])) behind) size ta) in
     let chain : rest ≡ chain_octets ps = tc.takes.parts ∙ ap (λ (l : List ℕ). chain_octets ps ++ l) nothing ∙ append-nil (chain_octets ps) in
     let inner : behind ≡ flat_map entry_octets map' ++ chain_octets ps = tb.parts ∙ ap (λ (l : List ℕ). flat_map entry_octets map' ++ l) chain in (
       record {
@@ -142,7 +143,7 @@ whole_made octets h behind map' rest ps left ta is tb count entries tc nothing =
         payloads = tc.payloads;
         order = chain_of h.kind (map payload_number ps) tc.accepted;
       },
-      named.parts ∙ ap (λ (l : List ℕ). header_octets (record { kind = h.kind; next = next_number ps; verify = h.verify; csb = h.csb; count = length map' }) ++ l) inner,
+      named.parts ∙ ap (λ (l : List ℕ). header_octets (record { kind = h.kind; next = next_number ps; verify = h.verify; csb = h.csb; count = length map' % 256 }) ++ l) inner,
     )
 
 pub whole_takes : (octets : List ℕ) (m : Message) → IsOctets octets → whole_at octets ≡ Ok m → IsMessage m × (octets ≡ message_octets m)
@@ -179,8 +180,10 @@ header_of m = record { kind = m.kind; next = next_number m.payloads; verify = m.
 pub whole_again : (m : Message) → IsMessage m → whole_at (message_octets m) ≡ Ok m
 unfolding whole_at
 whole_again m is =
+    let size : length m.map % 256 ≡ length m.map = omega (arith, is.count) in
     let header : header_at (message_octets m) ≡ Ok (header_of m, flat_map entry_octets m.map ++ chain_octets m.payloads) =
-    header_again (header_of m) (flat_map entry_octets m.map ++ chain_octets m.payloads) (record { kind = is.kind; csb = is.csb; count = is.count }) (next_known m.payloads) in
+    ap (λ (n : ℕ). header_at (1 ∷ m.kind ∷ next_number m.payloads ∷ verify_octet m.verify ∷ (be m.csb 4 ++ n ∷ 0 ∷ (flat_map entry_octets m.map ++ chain_octets m.payloads)))) size
+    ∙ header_again (header_of m) (flat_map entry_octets m.map ++ chain_octets m.payloads) (record { kind = is.kind; csb = is.csb; count = is.count }) (next_known m.payloads) in
     let chain : chain_at (length (chain_octets m.payloads) + 1) m.kind BeforeTime (next_number m.payloads) (chain_octets m.payloads) ≡ Ok (m.payloads, []) =
     ap (chain_at (length (chain_octets m.payloads) + 1) m.kind BeforeTime (next_number m.payloads)) (sym (append-nil (chain_octets m.payloads)))
     ∙ chain_again m.payloads (length (chain_octets m.payloads) + 1) m.kind BeforeTime [] is.payloads (accepts_chain m.kind (map payload_number m.payloads) is.order) (let long = length-chain_octets m.payloads in omega arith) in
@@ -199,11 +202,3 @@ found octets m fits e = whole_takes octets m fits (placed_ok (length octets) (wh
 -- what is spelled so is read
 pub message_again : (m : Message) → IsMessage m → message_of (message_octets m) ≡ Ok m
 message_again m is = ap (placed (length (message_octets m))) (whole_again m is)
-
-lengths_fit : (ps : List Payload) → AllByRecursion IsPayload ps → AllByRecursion FitsLengths ps
-lengths_fit [] fits = tt
-lengths_fit (p ∷ ps) fits = (fits.0.0, lengths_fit ps fits.1)
-
--- a message has a spelling
-pub has_spelling : (m : Message) → IsMessage m → HasSpelling m
-has_spelling m is = (is.count, lengths_fit m.payloads is.payloads)

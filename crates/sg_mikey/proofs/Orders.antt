@@ -1,9 +1,10 @@
 -- The order of a chain: the reader's stages, and what may stand where.
-use Rattle.std.proofs.Common.{◌≡◌, ◌≢◌, ℕ, zero, suc, ◌+◌, ◌<◌, ◌≤◌, Bool, true, false, ◌&&◌, cond, nat_eq, nat_lt, List, [], ◌∷◌, ◌++◌, Option, Some, None, refl, sym, ap, subst, ◌∙◌, add-zero, zero-add, arith, ◌⊎◌, inl, inr}
+use Rattle.std.proofs.Common.{◌≡◌, ◌≢◌, ℕ, zero, suc, ◌+◌, ◌<◌, ◌≤◌, Bool, true, false, ◌&&◌, cond, nat_eq, nat_lt, List, [], ◌∷◌, ◌++◌, Some, None, refl, sym, ap, subst, ◌∙◌, add-zero, zero-add, arith, ◌⊎◌, inl, inr}
 use Rattle.std.specs.Prelude.{count_by}
 use Rattle.std.specs.List.{list_all}
-use Rattle.std.proofs.lemmas.Bool.{cases_Bool, cases_eq, eqb-true, ne_eqb, lt-ltb, ltb-true}
+use Rattle.std.proofs.lemmas.Bool.{cases_Bool, cases_eq, eqb-true, ne_eqb, lt-ltb, ltb-true, and_parts}
 use Rattle.std.proofs.lemmas.List.Sums.{sum_by-cons}
+use Rattle.sg_base.proofs.Cases.{chosen, some_is}
 use Rattle.sg_mikey.specs.declared.chain.Stage.{Stage}
 use Rattle.sg_mikey.specs.declared.chain.Stage.TheVariants.{BeforeTime, BeforeRandom, Between, Over}
 use Rattle.sg_mikey.specs.Chain.{stage_after, is_over}
@@ -15,22 +16,11 @@ abbrev pub Accepts : ℕ → Stage → List ℕ → Type 0
 Accepts kind stage [] = is_over stage ≡ true
 Accepts kind stage (n ∷ ns) = (behind : Stage) × (stage_after kind stage n ≡ Some behind) × Accepts kind behind ns
 
-some_is : (s t : Stage) → Some s ≡ Some t → s ≡ t
-some_is s t e = cc
-
-chosen : (b : Bool) (x y z : Option Stage) → cond b x y ≡ z → ((b ≡ true) × (x ≡ z)) ⊎ ((b ≡ false) × (y ≡ z))
-chosen true x y z e = inl (refl, e)
-chosen false x y z e = inr (refl, e)
-
 -- a step between the first payloads and the last
 pub data Step (kind ids n : ℕ) (behind : Stage) : Type 0 where
   an_id : n ≡ 6 → ids < most_ids kind → behind ≡ Between (ids + 1) → Step kind ids n behind
   another : n ≢ 6 → is_between kind n ≡ true → (n ≡ 21) ⊎ (n ≡ 10) → behind ≡ Between ids → Step kind ids n behind
   the_last : n ≡ closing_of kind → behind ≡ Over → Step kind ids n behind
-
-and_parts : (a b : Bool) → (a && b) ≡ true → (a ≡ true) × (b ≡ true)
-and_parts true b e = (refl, e)
-and_parts false b e = absurd cc
 
 not_six : (n m : ℕ) → n ≡ m → m ≢ 6 → n ≢ 6
 not_six n m e h f = h (sym e ∙ f)

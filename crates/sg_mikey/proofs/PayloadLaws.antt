@@ -1,5 +1,5 @@
 -- A payload that is read is the payload that was written, and what was written is read again.
-use Rattle.std.proofs.Common.{◌≡◌, ℕ, zero, suc, ◌+◌, ◌-◌, ◌^◌, ◌<◌, ◌≤◌, true, List, [], ◌∷◌, ◌++◌, length, Result, Ok, Err, refl, sym, ap, subst, ◌∙◌, append_assoc, length-append, arith, ◌⊎◌, inl, inr}
+use Rattle.std.proofs.Common.{◌≡◌, ℕ, zero, suc, ◌+◌, ◌-◌, ◌%◌, ◌^◌, ◌<◌, ◌≤◌, true, List, [], ◌∷◌, ◌++◌, length, Result, Ok, Err, refl, sym, ap, subst, ◌∙◌, append_assoc, length-append, arith, ◌⊎◌, inl, inr}
 use Rattle.std.specs.List.{flat_map, AllByRecursion}
 use Rattle.std.proofs.lemmas.List.Concat.{flat_map-cons}
 use Rattle.sg_base.specs.Octets.{be}
@@ -8,7 +8,7 @@ use Rattle.sg_mikey.specs.declared.faults.Stop.{Stop}
 use Rattle.sg_mikey.specs.declared.payload.Payload.{Payload}
 use Rattle.sg_mikey.specs.declared.payload.Payload.TheVariants.{Time, Random, Id, Sp, Extension, Kemac, Verify}
 use Rattle.sg_mikey.specs.declared.policy.Policy.{Policy}
-use Rattle.sg_mikey.specs.Spelling.{payload_number, sized, item_octets, body_octets, tag_length, FitsItem, IsPayload}
+use Rattle.sg_mikey.specs.Spelling.{payload_number, short, sized, item_octets, body_octets, tag_length, FitsItem, IsPayload}
 use Rattle.sg_mikey.specs.Reading.{◌>>=◌, Link, octet_at, up_to_at, octets_at, number_at, sized_at, is_number, next_at, kemac_at, time_at, id_at, verify_at, random_at, extension_at, item_type_at, item_at, items_at, policy_at, payload_at}
 use Rattle.sg_mikey.proofs.FieldLaws.{IsOctets, bind_ok, ok_is, Takes, Takes-then, octet_takes, octet_again, up_to_takes, up_to_again, octets_takes, octets_again, wide_two, number_takes, number_again, sized_takes, sized_again, next_takes, next_again, item_type_takes, item_type_again}
 
@@ -136,18 +136,21 @@ random_takes octets y fits e =
     let ta = next_takes octets a.0 fits a.1 in
     let tb = octet_takes a.0.1 b.0 ta.0.rest_fits b.1 in
     let tc = octets_takes b.0.0 b.0.1 c.0 tb.0.rest_fits c.1 in
-    let front : Takes a.0.1 (length c.0.0 ∷ []) b.0.1 = subst (λ (n : ℕ). Takes a.0.1 (n ∷ []) b.0.1) (sym tc.1) tb.0 in
-    let e1 = Takes-then a.0.1 (length c.0.0 ∷ []) b.0.1 c.0.0 c.0.1 front tc.0 in
-    let e2 = Takes-then octets (a.0.0 ∷ []) a.0.1 (length c.0.0 ∷ c.0.0) c.0.1 ta.0 e1 in
+    let size : b.0.0 ≡ length c.0.0 % 256 = omega (arith, tb.1, tc.1) in
+    let front : Takes a.0.1 (be (length c.0.0) 1) b.0.1 = subst (λ (n : ℕ). Takes a.0.1 (n ∷ []) b.0.1) size tb.0 in
+    let e1 = Takes-then a.0.1 (be (length c.0.0) 1) b.0.1 c.0.0 c.0.1 front tc.0 in
+    let e2 = Takes-then octets (a.0.0 ∷ []) a.0.1 (short c.0.0) c.0.1 ta.0 e1 in
     let made : Link = (Random c.0.0, a.0.0, c.0.1) in
     subst (λ (z : Link). TakesLink octets 11 z) (ok_is made y c.2)
     (record { takes = e2; payload = (rw tc.1 tb.1, tt); number_is = refl; known = ta.1 })
 
-random_again : (inner : List ℕ) (next : ℕ) (rest : List ℕ) → is_number next ≡ true
+random_again : (inner : List ℕ) (next : ℕ) (rest : List ℕ) → length inner < 2 ^ 8 → is_number next ≡ true
     → random_at (next ∷ (body_octets (Random inner) ++ rest)) ≡ Ok (Random inner, next, rest)
 unfolding random_at
-random_again inner next rest known =
-    rw (next_again next (length inner ∷ (inner ++ rest)) known, octet_again (length inner) (inner ++ rest), octets_again (length inner) inner rest refl) refl
+random_again inner next rest fits known =
+    let size : length inner % 256 ≡ length inner = omega (arith, fits) in
+    ap (λ (n : ℕ). random_at (next ∷ n ∷ (inner ++ rest))) size
+    ∙ rw (next_again next (length inner ∷ (inner ++ rest)) known, octet_again (length inner) (inner ++ rest), octets_again (length inner) inner rest refl) refl
 
 -- ---- general extension
 
@@ -191,9 +194,10 @@ item_takes room octets y fits e =
     let tb = up_to_takes (room - 2) faults.Value a.0.1 b.0 ta.0.rest_fits b.1 in
     let tc = octets_takes b.0.0 b.0.1 c.0 tb.0.rest_fits c.1 in
     let small : b.0.0 < 256 = first_octet a.0.1 b.0.0 b.0.1 ta.0.rest_fits tb.0 in
-    let front : Takes a.0.1 (length c.0.0 ∷ []) b.0.1 = subst (λ (n : ℕ). Takes a.0.1 (n ∷ []) b.0.1) (sym tc.1) tb.0 in
-    let e1 = Takes-then a.0.1 (length c.0.0 ∷ []) b.0.1 c.0.0 c.0.1 front tc.0 in
-    let e2 = Takes-then octets (a.0.0 ∷ []) a.0.1 (length c.0.0 ∷ c.0.0) c.0.1 ta.0 e1 in
+    let size : b.0.0 ≡ length c.0.0 % 256 = omega (arith, small, tc.1) in
+    let front : Takes a.0.1 (be (length c.0.0) 1) b.0.1 = subst (λ (n : ℕ). Takes a.0.1 (n ∷ []) b.0.1) size tb.0 in
+    let e1 = Takes-then a.0.1 (be (length c.0.0) 1) b.0.1 c.0.0 c.0.1 front tc.0 in
+    let e2 = Takes-then octets (a.0.0 ∷ []) a.0.1 (short c.0.0) c.0.1 ta.0 e1 in
     let made : Item × List ℕ = ((a.0.0, c.0.0), c.0.1) in
     subst (λ (z : Item × List ℕ). Takes octets (item_octets z.0) z.1 × FitsItem z.0 × (2 + length z.0.1 ≤ room)) (ok_is made y c.2)
     (e2, rw tc.1 small, omega (arith, ta.1, tb.1, tc.1))
@@ -220,10 +224,12 @@ items_take (suc fuel) (suc room) octets y fits le e =
     subst (λ (z : List Item × List ℕ). Takes octets (flat_map item_octets z.0) z.1 × (length (flat_map item_octets z.0) ≡ suc room) × AllByRecursion FitsItem z.0) (ok_is made y b.2)
     (rw flat_map-cons both, ap length (flat_map-cons item_octets a.0.0 b.0.0) ∙ size, (first.1, second.2))
 
-item_again : (item : Item) (more : ℕ) (rest : List ℕ) → item_at (2 + length item.1 + more) (item_octets item ++ rest) ≡ Ok (item, rest)
+item_again : (item : Item) (more : ℕ) (rest : List ℕ) → FitsItem item → item_at (2 + length item.1 + more) (item_octets item ++ rest) ≡ Ok (item, rest)
 unfolding item_at
-item_again item more rest =
-    rw (
+item_again item more rest fits =
+    let size : length item.1 % 256 ≡ length item.1 = omega (arith, fits) in
+    ap (λ (n : ℕ). item_at (2 + length item.1 + more) (item.0 ∷ n ∷ (item.1 ++ rest))) size
+    ∙ rw (
       item_type_again (2 + length item.1 + more) item.0 (length item.1 ∷ (item.1 ++ rest)) (omega arith),
       up_to_again (2 + length item.1 + more - 2) faults.Value (length item.1) (item.1 ++ rest) (omega arith),
       octets_again (length item.1) item.1 rest refl,
@@ -232,27 +238,27 @@ item_again item more rest =
 items_step : (item : Item) (items : List Item) (fuel : ℕ) (rest : List ℕ) (room : ℕ) (octets : List ℕ) → room ≡ suc (1 + length item.1 + length (flat_map item_octets items))
     → octets ≡ item_octets item ++ (flat_map item_octets items ++ rest)
     → ((f : ℕ) → length (flat_map item_octets items) ≤ f → items_at f (length (flat_map item_octets items)) (flat_map item_octets items ++ rest) ≡ Ok (items, rest))
-    → room ≤ fuel → items_at fuel room octets ≡ Ok (item ∷ items, rest)
+    → FitsItem item → room ≤ fuel → items_at fuel room octets ≡ Ok (item ∷ items, rest)
 unfolding items_at
-items_step item items zero rest room octets size regrouped others le = absurd (omega arith)
-items_step item items (suc fuel) rest room octets size regrouped others le =
+items_step item items zero rest room octets size regrouped others fits le = absurd (omega arith)
+items_step item items (suc fuel) rest room octets size regrouped others fits le =
     let whole : suc (1 + length item.1 + length (flat_map item_octets items)) ≡ 2 + length item.1 + length (flat_map item_octets items) = omega arith in
     let left : suc (1 + length item.1 + length (flat_map item_octets items)) - (2 + length item.1) ≡ length (flat_map item_octets items) = omega arith in
     let first : item_at (suc (1 + length item.1 + length (flat_map item_octets items))) (item_octets item ++ (flat_map item_octets items ++ rest)) ≡ Ok (item, flat_map item_octets items ++ rest) =
-    ap (λ (n : ℕ). item_at n (item_octets item ++ (flat_map item_octets items ++ rest))) whole ∙ item_again item (length (flat_map item_octets items)) (flat_map item_octets items ++ rest) in
+    ap (λ (n : ℕ). item_at n (item_octets item ++ (flat_map item_octets items ++ rest))) whole ∙ item_again item (length (flat_map item_octets items)) (flat_map item_octets items ++ rest) fits in
     rw (size, regrouped, first, left, others fuel (omega arith)) refl
 
-pub items_again : (items : List Item) (fuel : ℕ) (rest : List ℕ) → length (flat_map item_octets items) ≤ fuel
+pub items_again : (items : List Item) (fuel : ℕ) (rest : List ℕ) → AllByRecursion FitsItem items → length (flat_map item_octets items) ≤ fuel
     → items_at fuel (length (flat_map item_octets items)) (flat_map item_octets items ++ rest) ≡ Ok (items, rest)
 unfolding items_at
-items_again [] zero rest le = refl
-items_again [] (suc fuel) rest le = refl
-items_again (item ∷ items) fuel rest le =
+items_again [] zero rest fits le = refl
+items_again [] (suc fuel) rest fits le = refl
+items_again (item ∷ items) fuel rest fits le =
     let size : length (flat_map item_octets (item ∷ items)) ≡ suc (1 + length item.1 + length (flat_map item_octets items)) =
     ap length (flat_map-cons item_octets item items) ∙ length-append (item_octets item) (flat_map item_octets items) ∙ omega arith in
     let regrouped : flat_map item_octets (item ∷ items) ++ rest ≡ item_octets item ++ (flat_map item_octets items ++ rest) =
     ap (λ (x : List ℕ). x ++ rest) (flat_map-cons item_octets item items) ∙ append_assoc (item_octets item) (flat_map item_octets items) rest in
-    items_step item items fuel rest (length (flat_map item_octets (item ∷ items))) (flat_map item_octets (item ∷ items) ++ rest) size regrouped (λ f h. items_again items f rest h) le
+    items_step item items fuel rest (length (flat_map item_octets (item ∷ items))) (flat_map item_octets (item ∷ items) ++ rest) size regrouped (λ f h. items_again items f rest fits.1 h) fits.0 le
 
 abbrev with_item : Item → List Item × List ℕ → Result (List Item × List ℕ) Stop
 with_item item others = Ok (item ∷ others.0, others.1)
@@ -331,7 +337,7 @@ policy_again policy next rest p known =
       octet_again policy.number (0 ∷ (sized (flat_map item_octets policy.items) ++ rest)),
       up_to_again 0 faults.Value 0 (sized (flat_map item_octets policy.items) ++ rest) (omega arith),
       number_again 2 (2 ^ 16) wide_two (length (flat_map item_octets policy.items)) (flat_map item_octets policy.items ++ rest) p.0.0,
-      items_again policy.items (length (flat_map item_octets policy.items)) rest (omega arith),
+      items_again policy.items (length (flat_map item_octets policy.items)) rest p.0.1 (omega arith),
     ) refl
 
 -- ---- the payload of a number
@@ -358,5 +364,5 @@ payload_again (Time form stamp) next rest fits known = time_again form stamp nex
 payload_again (Id form name) next rest fits known = id_again form name next rest fits known
 payload_again (Verify mac tag) next rest fits known = verify_again mac tag next rest fits known
 payload_again (Sp policy) next rest fits known = policy_again policy next rest fits known
-payload_again (Random inner) next rest fits known = random_again inner next rest known
+payload_again (Random inner) next rest fits known = random_again inner next rest fits.0 known
 payload_again (Extension form inner) next rest fits known = extension_again form inner next rest fits known

@@ -241,7 +241,7 @@ placed size (Err s) = Err (record { offset = size - s.left; fault = s.fault })
 abbrev pub message_of : List ℕ → Result Message Place
 message_of octets = placed (length octets) (whole_at octets)
 
--- ---- what a function returned is what reading gives, unless memory ran out
+-- ---- what a function returned is what reading gives, unless out of memory
 
 abbrev pub Fails : {A : Type 0} → Halt → Result A Stop → Type 0
 Fails halts.NoMemory read = Unit {0}

@@ -17,13 +17,17 @@ payload_number (Sp policy) = 10
 payload_number (Random octets) = 11
 payload_number (Extension form octets) = 21
 
--- octets behind their number in two octets
+-- octets behind their number in one octet; of a longer list the number's lowest octet
+abbrev pub short : List ℕ → List ℕ
+short octets = be (length octets) 1 ++ octets
+
+-- octets behind their number in two octets; of a longer list the number's lowest two
 abbrev pub sized : List ℕ → List ℕ
 sized octets = be (length octets) 2 ++ octets
 
 -- type, length, value (6.10)
 abbrev pub item_octets : ℕ × List ℕ → List ℕ
-item_octets item = item.0 ∷ length item.1 ∷ item.1
+item_octets item = item.0 ∷ short item.1
 
 -- a payload behind its next payload's number
 abbrev pub body_octets : Payload → List ℕ
@@ -32,7 +36,7 @@ body_octets (Time form stamp) = form ∷ stamp  -- 6.6
 body_octets (Id form name) = form ∷ sized name  -- 6.7
 body_octets (Verify mac tag) = mac ∷ tag  -- 6.9
 body_octets (Sp policy) = policy.number ∷ 0 ∷ sized (flat_map item_octets policy.items)  -- 6.10
-body_octets (Random octets) = length octets ∷ octets  -- 6.11
+body_octets (Random octets) = short octets  -- 6.11
 body_octets (Extension form octets) = form ∷ sized octets  -- 6.15
 
 -- the number that names the next payload, 0 where there is none
@@ -49,13 +53,14 @@ chain_octets (p ∷ ps) = next_number ps ∷ (body_octets p ++ chain_octets ps)
 abbrev pub entry_octets : CsEntry → List ℕ
 entry_octets e = e.policy ∷ (be e.ssrc 4 ++ be e.roc 4)
 
--- The whole message: the common header (6.1) and the payloads.
+-- The whole message: the common header (6.1) and the payloads. Of a value that is no message the lengths count
+-- modulo the room of their fields, so that every value has octets.
 abbrev pub message_octets : Message → List ℕ
 message_octets m =
     1 ∷ m.kind ∷ next_number m.payloads ∷ (if m.verify then 128 else 0) ∷
-    (be m.csb 4 ++ length m.map ∷ 0 ∷ (flat_map entry_octets m.map ++ chain_octets m.payloads))
+    (be m.csb 4 ++ be (length m.map) 1 ++ 0 ∷ (flat_map entry_octets m.map ++ chain_octets m.payloads))
 
--- ---- what has a spelling
+-- ---- lengths and numbers that fit
 
 -- how many octets a MAC has: none with the NULL MAC, 20 with HMAC-SHA-1-160 (6.2)
 abbrev pub tag_length : ℕ → ℕ
@@ -73,9 +78,6 @@ FitsLengths (Verify mac tag) = Unit {0}
 FitsLengths (Sp policy) = (length (flat_map item_octets policy.items) < 2 ^ 16) × AllByRecursion FitsItem policy.items
 FitsLengths (Random octets) = length octets < 2 ^ 8
 FitsLengths (Extension form octets) = length octets < 2 ^ 16
-
-abbrev pub HasSpelling : Message → Type 0
-HasSpelling m = (length m.map < 2 ^ 8) × AllByRecursion FitsLengths m.payloads
 
 -- numbers that octets can have
 abbrev pub AreOctets : List ℕ → Type 0

@@ -7,7 +7,7 @@ use sg_base::{MikeyFault, NoMemory};
 use std::alloc::{AllocError, AllocFailed};
 
 /// Why a message isn't read: its first fault, with the offset of the first octet of the field that
-/// shows it, or memory is wanting.
+/// shows it, or out of memory.
 #[derive(Clone, Copy, Debug, PartialEq, Eq)]
 pub enum ReadMikeyFault {
     Mikey { offset: u32, fault: MikeyFault },

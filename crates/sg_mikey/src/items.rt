@@ -19,7 +19,7 @@ impl<T> Model for Items<T> {
 }
 
 impl<T> Items<T> {
-    /// The vector's values; no memory is taken.
+    /// The vector's values; it doesn't allocate.
     pub fn from_vec(items: Vec<T>) -> Items<T>
         ensures { result ≡ items.items }
     {
@@ -33,7 +33,7 @@ impl<T> Items<T> {
         self.items.as_slice()
     }
 
-    /// The values as a vector; no memory is taken.
+    /// The values as a vector; it doesn't allocate.
     pub fn into_vec(self) -> Vec<T>
         ensures { result.items ≡ self }
     {

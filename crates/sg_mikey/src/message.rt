@@ -1,3 +1,5 @@
+//! A message and its common parts.
+
 use crate::{Items, Payload};
 use sg_base::{Mki, Octets};
 

@@ -1,3 +1,5 @@
+//! The payloads of a message.
+
 ghost use Rattle.std.specs.Prelude.{◌≡◌};
 
 use crate::Policy;

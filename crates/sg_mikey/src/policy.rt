@@ -1,3 +1,5 @@
+//! Security policies.
+
 use crate::Items;
 use sg_base::Octets;
 

@@ -1,19 +1,27 @@
 //! A message's one spelling.
 
-ghost use Rattle.std.specs.Prelude.{◌≡◌, ◌<◌, ◌^◌, ◌∷◌, ◌++◌, [], length, OnOk, IfOk};
-ghost use Rattle.std.specs.List.{flat_map, AllByRecursion};
-ghost use Rattle.sg_mikey.specs.Spelling.{sized, item_octets, body_octets, chain_octets, entry_octets, message_octets, FitsItem, FitsLengths, HasSpelling, next_number};
+ghost use Rattle.std.specs.Prelude.{◌≡◌, ◌++◌, OnOk, IfOk};
+ghost use Rattle.std.specs.List.{flat_map};
+ghost use Rattle.sg_mikey.specs.Spelling.{short, sized, item_octets, body_octets, chain_octets, entry_octets, message_octets, next_number};
 
 use crate::{CsEntry, Message, Payload, Policy};
 use sg_base::{NoMemory, Octets, octets_of_u32};
 use std::alloc::Global;
 
+// Octets behind their number in one octet.
+fn put_short(out: &mut Vec<u8>, octets: &[u8]) -> Result<(), NoMemory>
+    ensures { OnOk result (out.new.items ≡ out.old.items ++ short octets.now) }
+{
+    out.push((octets.len() % 256) as u8)?;
+    out.extend_from_slice(octets)?;
+    Ok(())
+}
+
 // Octets behind their number in two octets.
 fn put_sized(out: &mut Vec<u8>, octets: &[u8]) -> Result<(), NoMemory>
-    requires { length octets.now < 2 ^ 16 }
     ensures { OnOk result (out.new.items ≡ out.old.items ++ sized octets.now) }
 {
-    out.push((octets.len() / 256) as u8)?;
+    out.push((octets.len() / 256 % 256) as u8)?;
     out.push((octets.len() % 256) as u8)?;
     out.extend_from_slice(octets)?;
     Ok(())
@@ -21,15 +29,12 @@ fn put_sized(out: &mut Vec<u8>, octets: &[u8]) -> Result<(), NoMemory>
 
 // Items of a policy.
 fn put_items(out: &mut Vec<u8>, items: &[(u8, Octets)]) -> Result<(), NoMemory>
-    requires { AllByRecursion FitsItem items.now }
     ensures { OnOk result (out.new.items ≡ out.old.items ++ flat_map item_octets items.now) }
 {
     let mut rest = items;
     while let [item, others @ ..] = rest {
-        let value = item.1.as_slice();
         out.push(item.0)?;
-        out.push(value.len() as u8)?;
-        out.extend_from_slice(value)?;
+        put_short(out, item.1.as_slice())?;
         rest = others;
     }
     Ok(())
@@ -37,7 +42,6 @@ fn put_items(out: &mut Vec<u8>, items: &[(u8, Octets)]) -> Result<(), NoMemory>
 
 // A policy behind its next payload's number.
 fn put_policy(alloc: Global, out: &mut Vec<u8>, policy: &Policy) -> Result<(), NoMemory>
-    requires { FitsLengths (Payload.Sp policy.now) }
     ensures { OnOk result (out.new.items ≡ out.old.items ++ body_octets (Payload.Sp policy.now)) }
 {
     let mut items = Vec::new(alloc);
@@ -49,7 +53,6 @@ fn put_policy(alloc: Global, out: &mut Vec<u8>, policy: &Policy) -> Result<(), N
 
 // A payload behind its next payload's number.
 fn put_payload(alloc: Global, out: &mut Vec<u8>, payload: &Payload) -> Result<(), NoMemory>
-    requires { FitsLengths payload.now }
     ensures { OnOk result (out.new.items ≡ out.old.items ++ body_octets payload.now) }
 {
     match payload {
@@ -57,10 +60,7 @@ fn put_payload(alloc: Global, out: &mut Vec<u8>, payload: &Payload) -> Result<()
             out.push(*form)?;
             out.extend_from_slice(stamp)?;
         }
-        Payload::Random { octets } => {
-            out.push(octets.as_slice().len() as u8)?;
-            out.extend_from_slice(octets.as_slice())?;
-        }
+        Payload::Random { octets } => put_short(out, octets.as_slice())?,
         Payload::Id { form, name } => {
             out.push(*form)?;
             put_sized(out, name.as_slice())?;
@@ -101,7 +101,6 @@ fn first_number(payloads: &[Payload]) -> u8
 
 // The payloads, each behind the number of the next one.
 fn put_chain(alloc: Global, out: &mut Vec<u8>, payloads: &[Payload]) -> Result<(), NoMemory>
-    requires { AllByRecursion FitsLengths payloads.now }
     ensures { OnOk result (out.new.items ≡ out.old.items ++ chain_octets payloads.now) }
 {
     let mut rest = payloads;
@@ -127,9 +126,9 @@ fn put_entries(out: &mut Vec<u8>, entries: &[CsEntry]) -> Result<(), NoMemory>
     Ok(())
 }
 
-/// The one spelling of a message whose lengths fit their fields. Whether there is memory is left open.
+/// The one spelling of a message. Of a value that is no message, a length that is greater than its field
+/// counts modulo the field's room. Whether there is memory is left open.
 pub fn print(alloc: Global, message: &Message) -> Result<Octets, NoMemory>
-    requires { HasSpelling message.now }
     ensures { IfOk result (λ o. o ≡ message_octets message.now) }
 {
     let payloads = message.payloads.as_slice();
@@ -140,7 +139,7 @@ pub fn print(alloc: Global, message: &Message) -> Result<Octets, NoMemory>
     out.push(first_number(payloads))?;
     out.push(if message.verify { 128 } else { 0 })?;
     out.extend_from_slice(&octets_of_u32(message.csb))?;
-    out.push(entries.len() as u8)?;
+    out.push((entries.len() % 256) as u8)?;
     out.push(0)?;
     put_entries(&mut out, entries)?;
     put_chain(alloc, &mut out, payloads)?;

@@ -3,7 +3,7 @@
 ghost use Rattle.std.specs.Prelude.{◌≡◌, ◌+◌, ◌<◌, ◌^◌, IfOk, Ok, length};
 ghost use Rattle.sg_mikey.specs.declared.chain.Stage.TheVariants.{BeforeTime};
 ghost use Rattle.sg_mikey.specs.Reading.{Gives, Answers, chain_at, entry_at, entries_at, header_at, whole_at, message_of};
-ghost use Rattle.sg_mikey.specs.Spelling.{HasSpelling, IsMessage, message_octets};
+ghost use Rattle.sg_mikey.specs.Spelling.{IsMessage, message_octets};
 
 use crate::chain::Stage;
 use crate::faults::Halt;
@@ -126,11 +126,10 @@ fn read_whole(alloc: Global, octets: &[u8]) -> Result<Message, Halt>
 pub fn read(alloc: Global, octets: &[u8]) -> Result<Message, ReadMikeyFault>
     requires { length octets.now < 2 ^ 32 }
 
-    // What is read is a message, is spelled so, and can be printed.
+    // What is read is a message, and is spelled so.
     ensures found { IfOk result (λ m. IsMessage m × (octets.now ≡ message_octets m)) }
-    ensures printable { IfOk result HasSpelling }
 
-    // What a message is spelled as is read as that message, unless memory is wanting.
+    // What a message is spelled as is read as that message, unless out of memory.
     ensures only { (m : Message) → IsMessage m → octets.now ≡ message_octets m → Answers result (Ok m) }
 
     // Which fault it is, and where.

@@ -1,4 +1,6 @@
-use crate::{Items, Message, Payload, ReadMikeyFault, Tgk, Tgks, print, read};
+//! Messages, read and printed.
+
+use crate::{CsEntry, Items, Message, Payload, Policy, ReadMikeyFault, Tgk, Tgks, print, read};
 use sg_base::MikeyFault::{self, Cut, DataType, Order, Trailing, Value, Version};
 use sg_base::{Mki, Octets};
 use std::alloc::{AllocError, Global};
@@ -150,6 +152,118 @@ fn printed_again(alloc: Global, octets: &[u8]) -> Result<Octets, Fail> {
 #[test]
 fn prints_what_it_reads(rt: HostRuntime) -> Result<(), Fail> {
     for octets in [INITIAL, RESPONSE] {
+        assert_eq!(rt; printed_again(rt.alloc(), octets)?.as_slice(), octets);
+    }
+    Ok(())
+}
+
+// What an initiator of this profile sends, by the layouts of RFC 3830, 6: two crypto sessions, T, RAND of 16 octets,
+// the IDs of both, the 13 items of SP, and KEMAC with its MAC of 20 octets; it asks for an answer.
+const OFFER: &[u8] = b"\x01\x00\x05\x80\xca\xfe\xba\xbe\x02\x00\
+\x00\xde\xca\xfb\xad\x00\x00\x00\x00\x00\x00\x00\x00\x00\x00\x00\x00\x00\
+\x0b\x00\x83\xaa\x7e\x80\x00\x00\x00\x00\
+\x06\x10RRRRRRRRRRRRRRRR\
+\x06\x01\x00\x08sip:gw@a\
+\x0a\x01\x00\x09sip:bob@b\
+\x01\x00\x00\x00\x27\x00\x01\x01\x01\x01\x10\x02\x01\x01\x03\x01\x14\x04\x01\x0e\x05\x01\x00\x06\x01\x00\
+\x07\x01\x01\x08\x01\x01\x09\x01\x00\x0a\x01\x01\x0b\x01\x0a\x0c\x01\x00\
+\x00\x01\x00\x04KKKK\x01MMMMMMMMMMMMMMMMMMMM";
+
+// What its responder sends: the initiator's stamp, the responder's ID, and V with its MAC.
+const ANSWER: &[u8] = b"\x01\x01\x05\x00\xca\xfe\xba\xbe\x02\x00\
+\x00\xde\xca\xfb\xad\x00\x00\x00\x00\x00\x01\x02\x03\x04\x00\x00\x00\x00\
+\x06\x00\x83\xaa\x7e\x80\x80\x00\x00\x00\
+\x09\x01\x00\x09sip:bob@b\
+\x00\x01MMMMMMMMMMMMMMMMMMMM";
+
+fn id(alloc: Global, name: &[u8]) -> Result<Payload, Fail> {
+    let name = Octets::copy_of(alloc, name)?;
+    Ok(Payload::Id { form: 1, name })
+}
+
+fn default_policy(alloc: Global) -> Result<Payload, Fail> {
+    let mut items = Vec::new(alloc);
+    for (kind, value) in [1, 16, 1, 20, 14, 0, 0, 1, 1, 0, 1, 10, 0]
+        .iter()
+        .enumerate()
+    {
+        items.push((kind as u8, Octets::copy_of(alloc, &[*value])?))?;
+    }
+    let items = Items::from_vec(items);
+    Ok(Payload::Sp(Policy { number: 0, items }))
+}
+
+fn message(
+    alloc: Global,
+    kind: u8,
+    second: CsEntry,
+    payloads: Vec<Payload>,
+) -> Result<Message, Fail> {
+    let first = CsEntry {
+        policy: 0,
+        ssrc: 0xdeca_fbad,
+        roc: 0,
+    };
+    Ok(Message {
+        kind,
+        verify: kind == 0,
+        csb: 0xcafe_babe,
+        map: Items::from_vec(vec![in alloc; first, second]?),
+        payloads: Items::from_vec(payloads),
+    })
+}
+
+fn offer(alloc: Global) -> Result<Message, Fail> {
+    let random = Octets::copy_of(alloc, &[0x52; 16])?;
+    let octets = Octets::copy_of(alloc, &[0x4b; 4])?;
+    let tag = Octets::copy_of(alloc, &[0x4d; 20])?;
+    let payloads = vec![in alloc;
+        Payload::Time {
+            form: 0,
+            stamp: [0x83, 0xaa, 0x7e, 0x80, 0, 0, 0, 0]
+        },
+        Payload::Random { octets: random },
+        id(alloc, b"sip:gw@a")?,
+        id(alloc, b"sip:bob@b")?,
+        default_policy(alloc)?,
+        Payload::Kemac {
+            cipher: 1,
+            octets,
+            mac: 1,
+            tag
+        },
+    ]?;
+    let second = CsEntry {
+        policy: 0,
+        ssrc: 0,
+        roc: 0,
+    };
+    message(alloc, 0, second, payloads)
+}
+
+fn answer(alloc: Global) -> Result<Message, Fail> {
+    let tag = Octets::copy_of(alloc, &[0x4d; 20])?;
+    let payloads = vec![in alloc;
+        Payload::Time {
+            form: 0,
+            stamp: [0x83, 0xaa, 0x7e, 0x80, 0x80, 0, 0, 0]
+        },
+        id(alloc, b"sip:bob@b")?,
+        Payload::Verify { mac: 1, tag },
+    ]?;
+    let second = CsEntry {
+        policy: 0,
+        ssrc: 0x0102_0304,
+        roc: 0,
+    };
+    message(alloc, 1, second, payloads)
+}
+
+// Messages that were put together here, their octets, and what is read of these.
+#[test]
+fn prints_what_is_put_together(rt: HostRuntime) -> Result<(), Fail> {
+    for (made, octets) in [(offer(rt.alloc())?, OFFER), (answer(rt.alloc())?, ANSWER)] {
+        assert_eq!(rt; print(rt.alloc(), &made)?.as_slice(), octets);
         assert_eq!(rt; printed_again(rt.alloc(), octets)?.as_slice(), octets);
     }
     Ok(())

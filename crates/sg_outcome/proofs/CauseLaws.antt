@@ -1,11 +1,10 @@
 -- Causes in outcome lines have one spelling each.
-use Rattle.std.proofs.Common.{◌≡◌, ℕ, zero, suc, ◌-◌, ◌^◌, ◌<◌, ◌≤◌, Bool, true, false, cond, eqb, List, [], ◌∷◌, length, Option, Some, None, Ok, refl, sym, ap, subst, ◌∙◌, arith, inl, inr, lit<}
-use Rattle.std.specs.Prelude.{◌⊎◌, ℤ, pos, negsuc, option_and_then, option_map, codes}
+use Rattle.std.proofs.Common.{◌≡◌, ℕ, zero, suc, ◌-◌, ◌^◌, ◌<◌, ◌≤◌, Bool, true, false, cond, eqb, List, [], ◌∷◌, length, Option, Some, Ok, refl, sym, ap, subst, ◌∙◌, arith, inl, inr, lit<}
+use Rattle.std.specs.Prelude.{◌⊎◌, ℤ, pos, negsuc, codes}
 use Rattle.std.specs.Fmt.{decimal, signed_decimal}
 use Rattle.std.specs.Str.{bytes_eq}
 use Rattle.std.proofs.lemmas.Bool.{ne_eqb, eqb-true}
 use Rattle.std.proofs.lemmas.Fmt.{decimal_is_IsNumeral_wide}
-use Rattle.std.proofs.lemmas.Slice.Eq.{bytes_eq-Decides}
 use Rattle.sg_base.specs.declared.ScriptFault.TheVariants as script
 use Rattle.sg_base.specs.declared.DropCause.{DropCause}
 use Rattle.sg_base.specs.declared.DropCause.TheVariants as drops
@@ -16,26 +15,16 @@ use Rattle.sg_base.specs.declared.Refusal.TheVariants as refusals
 use Rattle.sg_base.specs.Fields.{Lacks, number_at}
 use Rattle.sg_base.proofs.Decimals.{number_again, number_takes}
 use Rattle.sg_base.proofs.FourNumbers.{decimal_lacks}
-use Rattle.sg_script.specs.Fields.{or_fault}
+use Rattle.sg_base.proofs.Cases.{and_then_some, chosen, is_name, map_some, some_is}
+use Rattle.sg_lines.specs.Fields.{or_fault}
 use Rattle.sg_outcome.specs.OutcomeText.{drop_cause_name}
 use Rattle.sg_outcome.specs.OutcomeFields.{drop_cause_fields, psk_fault_name, psk_fault_fields, refusal_name, refusal_fields, FitsStamp, FitsDropCause, FitsPskFault, FitsRefusal}
 use Rattle.sg_outcome.specs.OutcomeOf.{below, signed_at, word_in, long_in, byte_in, plain_drop_cause_at, sdp_fault_at, sdes_fault_at, mikey_fault_at, plain_psk_fault_at, cs_fault_at, plain_refusal_at, key_spent_in, drop_cause_in, skew_in, key_mgmt_in, key_reused_in, tick_back_in, one_number_in, sdp_in, sdes_in, psk_in, cs_in, one_fault_in, mikey_in, two_numbers_in, psk_skew_in, fault_with_numbers_in, refusal_in}
-use Rattle.sg_script.proofs.Dense.{IsDense, AreDense, dense_test, dense_decimal}
-use Rattle.sg_script.proofs.FieldLaws
+use Rattle.sg_lines.proofs.Dense.{IsDense, AreDense, dense_test, dense_decimal}
+use Rattle.sg_lines.proofs.FieldLaws
 use Rattle.sg_outcome.proofs.NameLaws
 
 -- ---- numbers
-
-some_is : {A : Type 0} (x y : A) → Some x ≡ Some y → x ≡ y
-some_is x y e = cc
-
-and_then_some : {A B : Type 0} (o : Option A) (f : A → Option B) (y : B) → option_and_then f o ≡ Some y → (x : A) × (o ≡ Some x) × (f x ≡ Some y)
-and_then_some (Some x) f y e = (x, refl, e)
-and_then_some None f y e = absurd cc
-
-map_some : {A B : Type 0} (o : Option A) (f : A → B) (y : B) → option_map f o ≡ Some y → (x : A) × (o ≡ Some x) × (f x ≡ y)
-map_some (Some x) f y e = (x, refl, cc)
-map_some None f y e = absurd cc
 
 chosen_option : {A : Type 0} (b : Bool) (x y z : Option A) → cond b x y ≡ z → ((b ≡ true) × (x ≡ z)) ⊎ ((b ≡ false) × (y ≡ z))
 chosen_option true x y z e = inl (refl, e)
@@ -111,22 +100,19 @@ byte_takes t n e = FieldLaws.number_in_takes 255 t n e
 
 -- ---- fields
 
-is_name : (w name : List ℕ) → bytes_eq w name ≡ true → w ≡ name
-is_name w name e = (bytes_eq-Decides w name).0 e
-
 one_same : (a a' : List ℕ) → a ≡ a' → a ∷ [] ≡ a' ∷ []
 one_same a a' p = rw p refl
 
-two_same : (a b a' b' : List ℕ) → a ≡ a' → b ≡ b' → a ∷ b ∷ [] ≡ a' ∷ b' ∷ []
+pub two_same : (a b a' b' : List ℕ) → a ≡ a' → b ≡ b' → a ∷ b ∷ [] ≡ a' ∷ b' ∷ []
 two_same a b a' b' p q = rw (p, q) refl
 
-three_same : (a b c a' b' c' : List ℕ) → a ≡ a' → b ≡ b' → c ≡ c' → a ∷ b ∷ c ∷ [] ≡ a' ∷ b' ∷ c' ∷ []
+pub three_same : (a b c a' b' c' : List ℕ) → a ≡ a' → b ≡ b' → c ≡ c' → a ∷ b ∷ c ∷ [] ≡ a' ∷ b' ∷ c' ∷ []
 three_same a b c a' b' c' p q r = rw (p, q, r) refl
 
-four_same : (a b c d a' b' c' d' : List ℕ) → a ≡ a' → b ≡ b' → c ≡ c' → d ≡ d' → a ∷ b ∷ c ∷ d ∷ [] ≡ a' ∷ b' ∷ c' ∷ d' ∷ []
+pub four_same : (a b c d a' b' c' d' : List ℕ) → a ≡ a' → b ≡ b' → c ≡ c' → d ≡ d' → a ∷ b ∷ c ∷ d ∷ [] ≡ a' ∷ b' ∷ c' ∷ d' ∷ []
 four_same a b c d a' b' c' d' p q r s = rw (p, q, r, s) refl
 
-five_same : (a b c d e a' b' c' d' e' : List ℕ) → a ≡ a' → b ≡ b' → c ≡ c' → d ≡ d' → e ≡ e' → a ∷ b ∷ c ∷ d ∷ e ∷ [] ≡ a' ∷ b' ∷ c' ∷ d' ∷ e' ∷ []
+pub five_same : (a b c d e a' b' c' d' e' : List ℕ) → a ≡ a' → b ≡ b' → c ≡ c' → d ≡ d' → e ≡ e' → a ∷ b ∷ c ∷ d ∷ e ∷ [] ≡ a' ∷ b' ∷ c' ∷ d' ∷ e' ∷ []
 five_same a b c d e a' b' c' d' e' p q r s t = rw (p, q, r, s, t) refl
 
 -- ---- causes of drops
@@ -181,7 +167,7 @@ drop_cause_takes (name ∷ []) x e =
     (one_same name (drop_cause_name x) p.0 ∙ sym f.0, f.1)
 drop_cause_takes (name ∷ a ∷ []) x e = absurd (FieldLaws.err_ok script.Word x e)
 drop_cause_takes (name ∷ a ∷ b ∷ []) x e =
-    elim (FieldLaws.chosen (bytes_eq name (codes "KeySpent")) _ _ (Ok x) e) [
+    elim (chosen (bytes_eq name (codes "KeySpent")) _ _ (Ok x) e) [
       | inl p ↦
           let n = FieldLaws.bind_ok (word_in a) _ x p.1 in
           let c = FieldLaws.bind_ok (long_in b) _ x n.2 in
@@ -234,7 +220,7 @@ skew_again stamp now fits = rw (signed_again stamp fits.0, long_again now fits.1
 skew_takes : (name a b : List ℕ) (x : PskFault) → skew_in name a b ≡ Ok x → (name ∷ a ∷ b ∷ [] ≡ psk_fault_fields x) × FitsPskFault x
 unfolding skew_in
 skew_takes name a b x e =
-    elim (FieldLaws.chosen (bytes_eq name (codes "Skew")) _ _ (Ok x) e) [
+    elim (chosen (bytes_eq name (codes "Skew")) _ _ (Ok x) e) [
       | inl p ↦
           let s = FieldLaws.bind_ok (or_fault script.Number (signed_at a)) _ x p.1 in
           let n = FieldLaws.bind_ok (long_in b) _ x s.2 in
@@ -397,13 +383,13 @@ mikey_takes name a b c x word e =
 one_number_takes : (name a : List ℕ) (x : Refusal) → one_number_in name a ≡ Ok x → Reads (name ∷ a ∷ []) x
 unfolding one_number_in
 one_number_takes name a x e =
-    elim (FieldLaws.chosen (bytes_eq name (codes "KeyMgmt")) _ _ (Ok x) e) [
+    elim (chosen (bytes_eq name (codes "KeyMgmt")) _ _ (Ok x) e) [
       | inl p ↦ key_mgmt_takes name a x (is_name name _ p.0) p.1
       | inr p ↦
-          elim (FieldLaws.chosen (bytes_eq name (codes "KeyReused")) _ _ (Ok x) p.1) [
+          elim (chosen (bytes_eq name (codes "KeyReused")) _ _ (Ok x) p.1) [
             | inl q ↦ key_reused_takes name a x (is_name name _ q.0) q.1
             | inr q ↦
-                elim (FieldLaws.chosen (bytes_eq name (codes "TickBack")) _ _ (Ok x) q.1) [
+                elim (chosen (bytes_eq name (codes "TickBack")) _ _ (Ok x) q.1) [
                   | inl r ↦ tick_back_takes name a x (is_name name _ r.0) r.1
                   | inr r ↦ absurd (FieldLaws.err_ok script.Word x r.1)
                 ]
@@ -413,16 +399,16 @@ one_number_takes name a x e =
 one_fault_takes : (name a b : List ℕ) (x : Refusal) → one_fault_in name a b ≡ Ok x → Reads (name ∷ a ∷ b ∷ []) x
 unfolding one_fault_in
 one_fault_takes name a b x e =
-    elim (FieldLaws.chosen (bytes_eq name (codes "Sdp")) _ _ (Ok x) e) [
+    elim (chosen (bytes_eq name (codes "Sdp")) _ _ (Ok x) e) [
       | inl p ↦ sdp_takes name a b x (is_name name _ p.0) p.1
       | inr p ↦
-          elim (FieldLaws.chosen (bytes_eq name (codes "Sdes")) _ _ (Ok x) p.1) [
+          elim (chosen (bytes_eq name (codes "Sdes")) _ _ (Ok x) p.1) [
             | inl q ↦ sdes_takes name a b x (is_name name _ q.0) q.1
             | inr q ↦
-                elim (FieldLaws.chosen (bytes_eq name (codes "Psk")) _ _ (Ok x) q.1) [
+                elim (chosen (bytes_eq name (codes "Psk")) _ _ (Ok x) q.1) [
                   | inl r ↦ psk_takes name a b x (is_name name _ r.0) r.1
                   | inr r ↦
-                      elim (FieldLaws.chosen (bytes_eq name (codes "Cs")) _ _ (Ok x) r.1) [
+                      elim (chosen (bytes_eq name (codes "Cs")) _ _ (Ok x) r.1) [
                         | inl s ↦ cs_takes name a b x (is_name name _ s.0) s.1
                         | inr s ↦ absurd (FieldLaws.err_ok script.Word x s.1)
                       ]
@@ -440,18 +426,18 @@ refusal_takes (name ∷ []) x e =
 refusal_takes (name ∷ a ∷ []) x e = one_number_takes name a x e
 refusal_takes (name ∷ a ∷ b ∷ []) x e = one_fault_takes name a b x e
 refusal_takes (name ∷ a ∷ b ∷ c ∷ []) x e =
-    elim (FieldLaws.chosen (bytes_eq name (codes "Mikey")) _ _ (Ok x) e) [
+    elim (chosen (bytes_eq name (codes "Mikey")) _ _ (Ok x) e) [
       | inl p ↦ mikey_takes name a b c x (is_name name _ p.0) p.1
       | inr p ↦ absurd (FieldLaws.err_ok script.Word x p.1)
     ]
 refusal_takes (name ∷ a ∷ b ∷ c ∷ d ∷ []) x e =
-    elim (FieldLaws.chosen (bytes_eq name (codes "Psk")) _ _ (Ok x) e) [
+    elim (chosen (bytes_eq name (codes "Psk")) _ _ (Ok x) e) [
       | inl p ↦ psk_skew_takes name a b c d x (is_name name _ p.0) p.1
       | inr p ↦ absurd (FieldLaws.err_ok script.Word x p.1)
     ]
 refusal_takes (name ∷ a ∷ b ∷ c ∷ d ∷ f ∷ fs) x e = absurd (FieldLaws.err_ok script.Word x e)
 
-small_dense : (n : ℕ) → n < 2 ^ 64 → IsDense (decimal n)
+pub small_dense : (n : ℕ) → n < 2 ^ 64 → IsDense (decimal n)
 small_dense n fits = dense_decimal n (omega (arith, fits))
 
 pub dense_refusal : (x : Refusal) → FitsRefusal x → AreDense (refusal_fields x)

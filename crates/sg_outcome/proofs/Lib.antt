@@ -1,3 +1,3 @@
-pub mod CauseLaws
-pub mod NameLaws
-pub mod OutcomeLaws
+mod CauseLaws
+mod NameLaws
+mod OutcomeLaws

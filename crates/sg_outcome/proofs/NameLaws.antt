@@ -1,9 +1,9 @@
 -- Names in outcome lines: each value has one.
-use Rattle.std.proofs.Common.{◌≡◌, ℕ, Bool, true, false, cond, List, [], ◌∷◌, Option, Some, refl, inl, inr}
-use Rattle.std.specs.Prelude.{◌⊎◌}
+use Rattle.std.proofs.Common.{◌≡◌, ℕ, Bool, true, false, List, [], ◌∷◌, Some, refl, inl, inr}
 use Rattle.std.specs.List.{find, list_all}
 use Rattle.std.specs.Str.{bytes_eq}
 use Rattle.std.proofs.lemmas.Slice.Eq.{bytes_eq-Decides}
+use Rattle.std.proofs.lemmas.Bool.{and_parts}
 use Rattle.sg_base.specs.declared.Side.{Side}
 use Rattle.sg_base.specs.declared.Side.TheVariants.{Secure, Plain}
 use Rattle.sg_base.specs.declared.DropCause.{DropCause}
@@ -26,17 +26,14 @@ use Rattle.sg_outcome.specs.OutcomeText.{side_name, why_name, drop_cause_name, s
 use Rattle.sg_outcome.specs.OutcomeFields.{psk_fault_name, refusal_name}
 use Rattle.sg_outcome.specs.OutcomeOf.{sides, side_at, whys, why_at, plain_drop_causes, plain_drop_cause_at, sdp_faults, sdp_fault_at, sdes_faults, sdes_fault_at, mikey_faults, mikey_fault_at, plain_psk_faults, plain_psk_fault_at, cs_faults, cs_fault_at, plain_refusals, plain_refusal_at}
 use Rattle.sg_base.proofs.SuiteLemmas.{find_passes}
-use Rattle.sg_script.proofs.Dense.{IsDense, dense_test, and_both}
-
-chosen : {A : Type 0} (b : Bool) (x y z : Option A) → cond b x y ≡ z → ((b ≡ true) × (x ≡ z)) ⊎ ((b ≡ false) × (y ≡ z))
-chosen true x y z e = inl (refl, e)
-chosen false x y z e = inr (refl, e)
+use Rattle.sg_base.proofs.Cases.{chosen}
+use Rattle.sg_lines.proofs.Dense.{IsDense, dense_test}
 
 -- what is found in a list has what all of the list have
 pub find_holds : {A : Type 0} (p q : A → Bool) (xs : List A) (x : A) → find p xs ≡ Some x → list_all q xs ≡ true → q x ≡ true
 find_holds p q [] x e all = absurd cc
 find_holds p q (y ∷ ys) x e all =
-    let parts = and_both (q y) (list_all q ys) all in
+    let parts = and_parts (q y) (list_all q ys) all in
     elim (chosen (p y) (Some y) (find p ys) (Some x) e) [
       | inl h ↦ let same : y ≡ x = cc in rw (← same) parts.0
       | inr h ↦ find_holds p q ys x h.1 parts.1

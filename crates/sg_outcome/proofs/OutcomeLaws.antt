@@ -1,12 +1,11 @@
 -- Each outcome has one line: what is spelled so is read, and what is read is spelled so.
-use Rattle.std.proofs.Common.{◌≡◌, ℕ, ◌^◌, ◌<◌, ◌≤◌, Bool, true, false, ltb, List, [], ◌∷◌, ◌++◌, length, Option, Some, None, Result, Ok, Err, refl, sym, ap, subst, ◌∙◌, arith, inl, inr, append_assoc, lit<}
+use Rattle.std.proofs.Common.{◌≡◌, ℕ, ◌^◌, ◌<◌, ◌≤◌, true, false, ltb, List, [], ◌∷◌, ◌++◌, length, Option, Some, None, Result, Ok, Err, refl, sym, ap, subst, ◌∙◌, arith, inl, inr, append_assoc, lit<}
 use Rattle.std.specs.Prelude.{codes, IfOk, not}
 use Rattle.std.specs.List.{join_with_byte}
 use Rattle.std.specs.Fmt.{decimal}
 use Rattle.std.specs.Str.{bytes_eq}
-use Rattle.std.proofs.lemmas.Bool.{eqb-true, le-ltb, ltb-false}
+use Rattle.std.proofs.lemmas.Bool.{eqb-true, le-ltb, ltb-false, not-false}
 use Rattle.std.proofs.lemmas.Fmt.{decimal_is_IsNumeral_wide}
-use Rattle.std.proofs.lemmas.Slice.Eq.{bytes_eq-Decides}
 use Rattle.std.proofs.lemmas.List.Splits.{join_with_byte-slice_split}
 use Rattle.sg_base.specs.declared.CallId.{CallId}
 use Rattle.sg_base.specs.declared.ScriptFault.TheVariants as script
@@ -18,20 +17,21 @@ use Rattle.sg_base.specs.declared.Refusal.{Refusal}
 use Rattle.sg_base.specs.declared.Refusal.TheVariants as refusals
 use Rattle.sg_base.specs.Fields.{Lacks, address_text}
 use Rattle.sg_base.proofs.FourNumbers.{decimal_lacks}
+use Rattle.sg_base.proofs.Cases.{chosen, is_name}
 use Rattle.sg_outcome.specs.declared.outcomes.Outcome.{Outcome}
 use Rattle.sg_outcome.specs.declared.outcomes.Outcome.TheVariants.{Made, Live, Sdp, Refused, Ended, Out, Dropped, Unsent}
-use Rattle.sg_script.specs.declared.ReadLineFault.{ReadLineFault}
-use Rattle.sg_script.specs.Fields.{Gives, or_fault, call_in, port_in, address_in, hex_in}
-use Rattle.sg_script.specs.LineOf.{fields_of, body_of, is_ended}
-use Rattle.sg_script.specs.LineText.{hex_text}
+use Rattle.sg_lines.specs.declared.ReadLineFault.{ReadLineFault}
+use Rattle.sg_lines.specs.Fields.{Gives, or_fault, call_in, port_in, address_in, hex_in}
+use Rattle.sg_lines.specs.LineOf.{fields_of, body_of, is_ended}
+use Rattle.sg_lines.specs.LineText.{hex_text}
 use Rattle.sg_outcome.specs.OutcomeText.{drop_cause_name, drop_cause_numbers, psk_fault_text, refusal_text, call_text, outcome_line}
 use Rattle.sg_outcome.specs.OutcomeFields.{drop_cause_fields, psk_fault_fields, refusal_fields, outcome_fields, FitsCall, FitsOutcome}
 use Rattle.sg_outcome.specs.OutcomeOf.{side_at, why_at, byte_in, some_call_in, drop_cause_in, refusal_in, made_in, live_in, described_in, refused_in, ended_in, out_in, dropped_in, unsent_in, made_by, live_by, described_by, ended_by, out_by, unsent_by, outcome_by, outcome_in, outcome_of}
-use Rattle.sg_script.proofs.Dense.{IsDense, AreDense, dense_test, dense_decimal, dense_address, dense_hex}
-use Rattle.sg_script.proofs.FieldLaws
-use Rattle.sg_script.proofs.LineLaws.{cut_some, body_ends, is_ended_so, last_is}
+use Rattle.sg_lines.proofs.Dense.{IsDense, AreDense, dense_test, dense_decimal, dense_address, dense_hex}
+use Rattle.sg_lines.proofs.FieldLaws
+use Rattle.sg_lines.proofs.LineLaws.{cut_some, body_ends, is_ended_so, last_is}
 use Rattle.sg_outcome.proofs.NameLaws
-use Rattle.sg_outcome.proofs.CauseLaws.{byte_again, byte_takes, drop_cause_again, drop_cause_takes, dense_drop_cause, refusal_again, refusal_takes, dense_refusal}
+use Rattle.sg_outcome.proofs.CauseLaws.{byte_again, byte_takes, drop_cause_again, drop_cause_takes, dense_drop_cause, refusal_again, refusal_takes, dense_refusal, small_dense, two_same, three_same, four_same, five_same}
 
 -- ---- an outcome's line is its fields, joined
 
@@ -172,9 +172,6 @@ dense_call : (o : Option CallId) → FitsCall o → IsDense (call_text o)
 dense_call None fits = dense_test (codes "-") refl
 dense_call (Some call) fits = dense_decimal call.0 (omega (arith, fits))
 
-small_dense : (n : ℕ) → n < 2 ^ 64 → IsDense (decimal n)
-small_dense n fits = dense_decimal n (omega (arith, fits))
-
 pub dense_outcome : (o : Outcome) → FitsOutcome o → AreDense (outcome_fields o)
 dense_outcome (Made call slot media) fits =
     let a = fits.0 in let b = fits.1 in let c = fits.2 in
@@ -248,28 +245,13 @@ outcome_again o fits short = read_again o (outcome_line o) fits short (outcome_j
 unfoldable Reads : List (List ℕ) → Outcome → Type 0
 Reads fs o = (fs ≡ outcome_fields o) × FitsOutcome o
 
-is_name : (w name : List ℕ) → bytes_eq w name ≡ true → w ≡ name
-is_name w name e = (bytes_eq-Decides w name).0 e
-
-two_same : (a b a' b' : List ℕ) → a ≡ a' → b ≡ b' → a ∷ b ∷ [] ≡ a' ∷ b' ∷ []
-two_same a b a' b' p q = rw (p, q) refl
-
-three_same : (a b c a' b' c' : List ℕ) → a ≡ a' → b ≡ b' → c ≡ c' → a ∷ b ∷ c ∷ [] ≡ a' ∷ b' ∷ c' ∷ []
-three_same a b c a' b' c' p q r = rw (p, q, r) refl
-
-four_same : (a b c d a' b' c' d' : List ℕ) → a ≡ a' → b ≡ b' → c ≡ c' → d ≡ d' → a ∷ b ∷ c ∷ d ∷ [] ≡ a' ∷ b' ∷ c' ∷ d' ∷ []
-four_same a b c d a' b' c' d' p q r s = rw (p, q, r, s) refl
-
-five_same : (a b c d e a' b' c' d' e' : List ℕ) → a ≡ a' → b ≡ b' → c ≡ c' → d ≡ d' → e ≡ e' → a ∷ b ∷ c ∷ d ∷ e ∷ [] ≡ a' ∷ b' ∷ c' ∷ d' ∷ e' ∷ []
-five_same a b c d e a' b' c' d' e' p q r s t = rw (p, q, r, s, t) refl
-
 more_same : (a b a' b' : List ℕ) (fs fs' : List (List ℕ)) → a ≡ a' → b ≡ b' → fs ≡ fs' → a ∷ b ∷ fs ≡ a' ∷ b' ∷ fs'
 more_same a b a' b' fs fs' p q r = rw (p, q, r) refl
 
 some_call_takes : (t : List ℕ) (o : Option CallId) → some_call_in t ≡ Ok o → (t ≡ call_text o) × FitsCall o
 unfolding some_call_in
 some_call_takes t o e =
-    elim (FieldLaws.chosen (bytes_eq t (codes "-")) _ _ (Ok o) e) [
+    elim (chosen (bytes_eq t (codes "-")) _ _ (Ok o) e) [
       | inl p ↦
           let none : None ≡ o = FieldLaws.ok_is None o p.1 in
           subst (λ (x : Option CallId). (t ≡ call_text x) × FitsCall x) none (is_name t (codes "-") p.0, tt)
@@ -396,21 +378,21 @@ unsent_more w a (b ∷ c ∷ fs) o word e = absurd (FieldLaws.err_ok script.Word
 by_word : (w a : List ℕ) (fs : List (List ℕ)) (o : Outcome) → outcome_by w a fs ≡ Ok o → Reads (w ∷ a ∷ fs) o
 unfolding outcome_by
 by_word w a fs o e =
-    elim (FieldLaws.chosen (bytes_eq w (codes "made")) _ _ (Ok o) e) [
+    elim (chosen (bytes_eq w (codes "made")) _ _ (Ok o) e) [
       | inl p ↦ made_more w a fs o (is_name w _ p.0) p.1
-      | inr p1 ↦ elim (FieldLaws.chosen (bytes_eq w (codes "live")) _ _ (Ok o) p1.1) [
+      | inr p1 ↦ elim (chosen (bytes_eq w (codes "live")) _ _ (Ok o) p1.1) [
         | inl p ↦ live_more w a fs o (is_name w _ p.0) p.1
-        | inr p2 ↦ elim (FieldLaws.chosen (bytes_eq w (codes "sdp")) _ _ (Ok o) p2.1) [
+        | inr p2 ↦ elim (chosen (bytes_eq w (codes "sdp")) _ _ (Ok o) p2.1) [
           | inl p ↦ described_more w a fs o (is_name w _ p.0) p.1
-          | inr p3 ↦ elim (FieldLaws.chosen (bytes_eq w (codes "refused")) _ _ (Ok o) p3.1) [
+          | inr p3 ↦ elim (chosen (bytes_eq w (codes "refused")) _ _ (Ok o) p3.1) [
             | inl p ↦ refused_takes w a fs o (is_name w _ p.0) p.1
-            | inr p4 ↦ elim (FieldLaws.chosen (bytes_eq w (codes "ended")) _ _ (Ok o) p4.1) [
+            | inr p4 ↦ elim (chosen (bytes_eq w (codes "ended")) _ _ (Ok o) p4.1) [
               | inl p ↦ ended_more w a fs o (is_name w _ p.0) p.1
-              | inr p5 ↦ elim (FieldLaws.chosen (bytes_eq w (codes "out")) _ _ (Ok o) p5.1) [
+              | inr p5 ↦ elim (chosen (bytes_eq w (codes "out")) _ _ (Ok o) p5.1) [
                 | inl p ↦ out_more w a fs o (is_name w _ p.0) p.1
-                | inr p6 ↦ elim (FieldLaws.chosen (bytes_eq w (codes "drop")) _ _ (Ok o) p6.1) [
+                | inr p6 ↦ elim (chosen (bytes_eq w (codes "drop")) _ _ (Ok o) p6.1) [
                   | inl p ↦ dropped_takes w a fs o (is_name w _ p.0) p.1
-                  | inr p7 ↦ elim (FieldLaws.chosen (bytes_eq w (codes "unsent")) _ _ (Ok o) p7.1) [
+                  | inr p7 ↦ elim (chosen (bytes_eq w (codes "unsent")) _ _ (Ok o) p7.1) [
                     | inl p ↦ unsent_more w a fs o (is_name w _ p.0) p.1
                     | inr p8 ↦ absurd (FieldLaws.err_ok script.Word o p8.1)
                   ]
@@ -427,21 +409,17 @@ outcome_in_takes [] o e = absurd (FieldLaws.err_ok script.Word o e)
 outcome_in_takes (w ∷ []) o e = absurd (FieldLaws.err_ok script.Word o e)
 outcome_in_takes (w ∷ a ∷ fs) o e = by_word w a fs o e
 
-not_false : (b : Bool) → not b ≡ false → b ≡ true
-not_false true e = refl
-not_false false e = absurd cc
-
 pub outcome_takes : (t : List ℕ) (o : Outcome) → outcome_of t ≡ Ok o → (t ≡ outcome_line o) × FitsOutcome o × (length t ≤ 70000)
 unfolding outcome_of Reads
 outcome_takes t o e =
     let body = body_of t in
-    elim (FieldLaws.chosen (ltb 70000 (length t)) _ _ (Ok o) e) [
+    elim (chosen (ltb 70000 (length t)) _ _ (Ok o) e) [
       | inl p ↦ absurd (FieldLaws.err_ok script.Length o p.1)
       | inr p ↦
-          elim (FieldLaws.chosen (not (is_ended t)) _ _ (Ok o) p.1) [
+          elim (chosen (not (is_ended t)) _ _ (Ok o) p.1) [
             | inl q ↦ absurd (FieldLaws.err_ok script.Unended o q.1)
             | inr q ↦
-                let whole : t ≡ body ++ 10 ∷ [] = last_is t (eqb-true _ _ (not_false _ q.0)) in
+                let whole : t ≡ body ++ 10 ∷ [] = last_is t (eqb-true _ _ (not-false _ q.0)) in
                 let f = outcome_in_takes (fields_of body) o q.1 in
                 let back : body ≡ join_with_byte 32 (outcome_fields o) = sym (join_with_byte-slice_split 32 body) ∙ ap (join_with_byte 32) f.0 in
                 (whole ∙ ap (λ (b : List ℕ). b ++ 10 ∷ []) back ∙ sym (outcome_joined o), f.1, ltb-false _ _ p.0)

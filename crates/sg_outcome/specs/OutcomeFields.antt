@@ -10,7 +10,7 @@ use Rattle.sg_base.specs.declared.PskFault.{PskFault}
 use Rattle.sg_base.specs.declared.PskFault.TheVariants as psk
 use Rattle.sg_base.specs.declared.Refusal.{Refusal}
 use Rattle.sg_base.specs.declared.Refusal.TheVariants as refusals
-use Rattle.sg_script.specs.LineText.{hex_text}
+use Rattle.sg_lines.specs.LineText.{hex_text}
 use Rattle.sg_outcome.specs.declared.outcomes.Outcome.{Outcome}
 use Rattle.sg_outcome.specs.declared.outcomes.Outcome.TheVariants.{Made, Live, Sdp, Refused, Ended, Out, Dropped, Unsent}
 use Rattle.sg_outcome.specs.OutcomeText.{side_name, why_name, drop_cause_name, sdp_fault_name, sdes_fault_name, mikey_fault_name, cs_fault_name, call_text}

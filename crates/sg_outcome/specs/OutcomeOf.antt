@@ -26,8 +26,8 @@ use Rattle.sg_outcome.specs.declared.outcomes.Why.{Why}
 use Rattle.sg_outcome.specs.declared.outcomes.Why.TheVariants.{Bye, Rejected, Idle}
 use Rattle.sg_outcome.specs.declared.outcomes.Outcome.{Outcome}
 use Rattle.sg_outcome.specs.declared.outcomes.Outcome.TheVariants.{Made, Live, Sdp, Refused, Ended, Out, Dropped, Unsent}
-use Rattle.sg_script.specs.Fields.{◌>>=◌, or_fault, number_in, call_in, port_in, address_in, hex_in}
-use Rattle.sg_script.specs.LineOf.{fields_of, body_of, is_ended}
+use Rattle.sg_lines.specs.Fields.{◌>>=◌, or_fault, number_in, call_in, port_in, address_in, hex_in}
+use Rattle.sg_lines.specs.LineOf.{fields_of, body_of, is_ended}
 use Rattle.sg_outcome.specs.OutcomeText.{side_name, why_name, drop_cause_name, sdp_fault_name, sdes_fault_name, mikey_fault_name, cs_fault_name}
 use Rattle.sg_outcome.specs.OutcomeFields.{psk_fault_name, refusal_name}
 

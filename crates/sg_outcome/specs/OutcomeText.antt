@@ -1,5 +1,5 @@
 -- The one spelling of each outcome: its word, its fields behind single spaces, and a line end.
-use Rattle.std.specs.Prelude.{ℕ, List, [], ◌∷◌, ◌++◌, Option, Some, None, codes}
+use Rattle.std.specs.Prelude.{ℕ, List, [], ◌++◌, Option, Some, None, codes}
 use Rattle.std.specs.Fmt.{decimal, signed_decimal}
 use Rattle.sg_base.specs.Fields.{address_text}
 use Rattle.sg_base.specs.declared.addresses.CallId.{CallId}
@@ -19,7 +19,7 @@ use Rattle.sg_base.specs.declared.faults.CsFault.{CsFault}
 use Rattle.sg_base.specs.declared.faults.CsFault.TheVariants as cs
 use Rattle.sg_base.specs.declared.faults.Refusal.{Refusal}
 use Rattle.sg_base.specs.declared.faults.Refusal.TheVariants as refusals
-use Rattle.sg_script.specs.LineText.{hex_text}
+use Rattle.sg_lines.specs.LineText.{hex_text}
 use Rattle.sg_outcome.specs.declared.outcomes.Why.{Why}
 use Rattle.sg_outcome.specs.declared.outcomes.Why.TheVariants.{Bye, Rejected, Idle}
 use Rattle.sg_outcome.specs.declared.outcomes.Outcome.{Outcome}

@@ -7,7 +7,7 @@ use crate::outcome_names::{
     cs_fault, mikey_fault, plain_drop_cause, plain_psk_fault, plain_refusal, sdes_fault, sdp_fault,
 };
 use sg_base::{DropCause, PskFault, Refusal, ScriptFault, read_number};
-use sg_script::fields::number;
+use sg_lines::fields::number;
 
 const BYTE_MOST: u128 = 255;
 

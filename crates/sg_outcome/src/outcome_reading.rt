@@ -1,7 +1,7 @@
 //! Outcome lines, read.
 
 ghost use Rattle.std.specs.Prelude.{◌≡◌, ◌≤◌, ◌++◌, map, length, IfOk};
-ghost use Rattle.sg_script.specs.Fields.{Gives};
+ghost use Rattle.sg_lines.specs.Fields.{Gives};
 ghost use Rattle.sg_outcome.specs.OutcomeText.{outcome_line};
 ghost use Rattle.sg_outcome.specs.OutcomeFields.{FitsOutcome};
 ghost use Rattle.sg_outcome.specs.declared.outcomes.Outcome.{Outcome};
@@ -10,16 +10,11 @@ ghost use Rattle.sg_outcome.specs.OutcomeOf.{described_by, described_in, dropped
 use crate::Outcome;
 use crate::causes::{drop_cause, refusal};
 use crate::outcome_names::{side, why};
-use sg_base::{CallId, ScriptFault};
-use sg_script::ReadLineFault;
-use sg_script::fields::{address, call, hex_octets, number, port};
-use sg_script::reading::fields;
+use sg_base::{CallId, LINE_MOST, ScriptFault};
+use sg_lines::fields::{address, call, hex_octets, number, port};
+use sg_lines::reading::fields;
+use sg_lines::{ReadLineFault, WORD};
 use std::alloc::Global;
-
-/// The most octets of a line, its end among them.
-const LINE_MOST: usize = 70_000;
-
-const WORD: ReadLineFault = ReadLineFault::Script(ScriptFault::Word);
 
 #[tactic(auto, unfolding(crate::specs::OutcomeOf::made_in))]
 fn made(a: &[u8], b: &[u8], c: &[u8]) -> Result<Outcome, ScriptFault>
@@ -234,7 +229,7 @@ pub fn read_outcome(alloc: Global, octets: &[u8]) -> Result<Outcome, ReadLineFau
     ensures exact { Gives result (outcome_of octets.now) }
     // What is read is spelled so.
     ensures found { IfOk result (λ o. FitsOutcome o × (octets.now ≡ outcome_line o)) }
-    // What is spelled so is read, unless memory runs out.
+    // What is spelled so is read, unless out of memory.
     ensures only { (o : Outcome) → FitsOutcome o → length (outcome_line o) ≤ 70000 → octets.now ≡ outcome_line o → Gives result (Ok o) }
 {
     outcome(alloc, octets)

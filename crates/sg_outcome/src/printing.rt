@@ -10,7 +10,7 @@ use sg_base::{
     Address, CallId, CsFault, DropCause, MikeyFault, NoMemory, Octets, PskFault, Refusal,
     SdesFault, SdpFault, Side,
 };
-use sg_script::field_printing::{push, push_address, push_hex, push_number};
+use sg_lines::field_printing::{push, push_address, push_hex, push_number};
 use std::alloc::Global;
 
 fn push_signed(alloc: Global, out: &mut Vec<u8>, n: i64) -> Result<(), NoMemory>
@@ -152,46 +152,20 @@ pub(crate) fn cs_fault_word(fault: CsFault) -> &'static [u8]
     }
 }
 
-fn push_sdp_fault(
+// A refusal's word, the number of its medium or line, and the name of its fault.
+fn push_fault(
     alloc: Global,
     out: &mut Vec<u8>,
-    medium: u64,
-    fault: SdpFault,
+    word: &[u8],
+    number: u64,
+    fault: &[u8],
 ) -> Result<(), NoMemory>
-    ensures { OnOk result (out.new.items ≡ out.old.items ++ codes "Sdp " ++ decimal medium ++ codes " " ++ sdp_fault_name fault) }
+    ensures { OnOk result (out.new.items ≡ out.old.items ++ word.now ++ decimal number ++ codes " " ++ fault.now) }
 {
-    push(out, b"Sdp ")?;
-    push_number(alloc, out, medium)?;
+    push(out, word)?;
+    push_number(alloc, out, number)?;
     push(out, b" ")?;
-    push(out, sdp_fault_word(fault))
-}
-
-fn push_sdes_fault(
-    alloc: Global,
-    out: &mut Vec<u8>,
-    medium: u64,
-    fault: SdesFault,
-) -> Result<(), NoMemory>
-    ensures { OnOk result (out.new.items ≡ out.old.items ++ codes "Sdes " ++ decimal medium ++ codes " " ++ sdes_fault_name fault) }
-{
-    push(out, b"Sdes ")?;
-    push_number(alloc, out, medium)?;
-    push(out, b" ")?;
-    push(out, sdes_fault_word(fault))
-}
-
-fn push_cs_fault(
-    alloc: Global,
-    out: &mut Vec<u8>,
-    medium: u64,
-    fault: CsFault,
-) -> Result<(), NoMemory>
-    ensures { OnOk result (out.new.items ≡ out.old.items ++ codes "Cs " ++ decimal medium ++ codes " " ++ cs_fault_name fault) }
-{
-    push(out, b"Cs ")?;
-    push_number(alloc, out, medium)?;
-    push(out, b" ")?;
-    push(out, cs_fault_word(fault))
+    push(out, fault)
 }
 
 fn push_mikey_fault(
@@ -236,15 +210,21 @@ fn push_refusal(alloc: Global, out: &mut Vec<u8>, cause: Refusal) -> Result<(), 
     ensures { OnOk result (out.new.items ≡ out.old.items ++ refusal_text cause) }
 {
     match cause {
-        Refusal::Sdp { line, fault } => push_sdp_fault(alloc, out, line as u64, fault),
-        Refusal::Sdes { medium, fault } => push_sdes_fault(alloc, out, medium as u64, fault),
+        Refusal::Sdp { line, fault } => {
+            push_fault(alloc, out, b"Sdp ", line as u64, sdp_fault_word(fault))
+        }
+        Refusal::Sdes { medium, fault } => {
+            push_fault(alloc, out, b"Sdes ", medium as u64, sdes_fault_word(fault))
+        }
         Refusal::Mikey {
             medium,
             offset,
             fault,
         } => push_mikey_fault(alloc, out, medium as u64, offset as u64, fault),
         Refusal::Psk { medium, fault } => push_psk(alloc, out, medium as u64, fault),
-        Refusal::Cs { medium, fault } => push_cs_fault(alloc, out, medium as u64, fault),
+        Refusal::Cs { medium, fault } => {
+            push_fault(alloc, out, b"Cs ", medium as u64, cs_fault_word(fault))
+        }
         Refusal::KeyMgmt { medium } => push_word_number(alloc, out, b"KeyMgmt ", medium as u64),
         Refusal::KeyReused { number } => push_word_number(alloc, out, b"KeyReused ", number as u64),
         Refusal::RingFull => push(out, b"RingFull"),

@@ -1,6 +1,8 @@
+//! Outcome lines, read and printed.
+
 use crate::{print_outcome, read_outcome};
 use sg_base::ScriptFault;
-use sg_script::ReadLineFault;
+use sg_lines::ReadLineFault;
 use std::alloc::Global;
 use std::process::Abort;
 

@@ -1,3 +1,5 @@
+//! Laws of the highest index and of new ones: each function's contract is a law, and its body is empty.
+
 ghost use Rattle.std.specs.Prelude.{◌≡◌, ℕ, ◌<◌, List, [], ◌∷◌, ◌++◌, Some, None, true, false};
 ghost use Rattle.sg_replay.specs.declared.seen.Freshness.TheVariants.{New};
 ghost use Rattle.sg_replay.specs.Freshness.{freshness, highest_of, highest_with, is_in};

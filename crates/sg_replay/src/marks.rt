@@ -1,3 +1,5 @@
+//! The marks of indices in a row, as the highest index moves on.
+
 ghost use Rattle.std.specs.Prelude.{◌≡◌, ◌+◌, ◌%◌, ◌<◌, Some, true};
 ghost use Rattle.sg_replay.specs.Freshness.{highest_with};
 ghost use Rattle.sg_replay.specs.Row.{mark_of, KeepsUpTo, KeepsOthersUpTo};

@@ -1,3 +1,5 @@
+//! A row of bits, by place.
+
 ghost use Rattle.std.specs.Prelude.{◌≡◌, ◌≢◌, ℕ, ◌<◌, true, false};
 ghost use Rattle.sg_replay.specs.Row.{bit_in};
 

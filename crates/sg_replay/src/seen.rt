@@ -1,3 +1,5 @@
+//! The replay list of a stream: its highest index and the marks behind it (RFC 3711, 3.3.2).
+
 ghost use Rattle.std.specs.Prelude.{◌≡◌, ◌≤◌, ℕ, List, [], ◌∷◌, ◌++◌};
 ghost use Rattle.sg_replay.specs.declared.seen.Freshness.TheVariants.{New};
 ghost use Rattle.sg_replay.specs.Freshness.{freshness};

@@ -1,1 +1,2 @@
 pub mod HeadFronts
+mod Numbers

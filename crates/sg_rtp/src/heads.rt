@@ -1,8 +1,9 @@
+//! The heads of packets, read.
+
 ghost use Rattle.std.specs.Prelude.{◌≡◌, ◌↔◌, ◌+◌, ◌<◌, ◌≤◌, Ok, IfOk, IfSome, IsNone, IsTrue, length};
-ghost use Rattle.sg_rtp.specs.Fields.{u16_at, u32_at};
 ghost use Rattle.sg_rtp.specs.Heads.{rtp_head, rtcp_head, IsRtpHead, IsRtcpHead, listed_of, has_extension, extension_of};
 
-use sg_base::HeadFault;
+use sg_base::{HeadFault, read_u16, read_u32};
 
 /// What an RTP packet's head says. Its length in octets counts the CSRC list and the extension too.
 #[derive(Clone, Copy, Debug, PartialEq, Eq)]
@@ -18,24 +19,11 @@ pub struct RtcpHead {
     pub ssrc: u32,
 }
 
-fn read_u16(octets: &[u8], place: usize) -> u16
-    requires { place + 2 ≤ length octets.now }
-    ensures { result ≡ u16_at octets.now place }
-{
-    u16::from(octets[place]) * 256 + u16::from(octets[place + 1])
-}
-
-fn read_u32(octets: &[u8], place: usize) -> u32
-    requires { place + 4 ≤ length octets.now }
-    ensures { result ≡ u32_at octets.now place }
-{
-    u32::from(read_u16(octets, place)) * 65536 + u32::from(read_u16(octets, place + 2))
-}
-
 /// Reads the head of an RTP packet (RFC 3550, 5.1 and 5.3.1). The padding bit isn't looked at.
 ///
 /// The first fault is told: `Short` below 12 octets, `Version` where it isn't 2, `CsrcCut` where the
 /// list passes the end, `ExtensionCut` where the extension does.
+#[tactic(auto, using(crate::proofs::Numbers::u16_is, crate::proofs::Numbers::u32_is))]
 pub fn read_rtp(octets: &[u8]) -> Result<RtpHead, HeadFault>
     ensures value { result ≡ rtp_head octets.now }
     ensures head { (head : RtpHead) → (result ≡ Ok head) ↔ IsRtpHead octets.now head }
@@ -63,6 +51,7 @@ pub fn read_rtp(octets: &[u8]) -> Result<RtpHead, HeadFault>
 }
 
 // How many octets the extension has with its own first four; none where these four are cut.
+#[tactic(auto, using(crate::proofs::Numbers::u16_is))]
 fn extension_length(octets: &[u8], listed: usize) -> Option<usize>
     requires there { 0 < length octets.now }
     requires size { listed ≡ listed_of octets.now }
@@ -81,6 +70,7 @@ fn extension_length(octets: &[u8], listed: usize) -> Option<usize>
 
 /// Reads the head of an RTCP packet (RFC 3550, 6.1): `Short` below 8 octets, `Version` where it
 /// isn't 2.
+#[tactic(auto, using(crate::proofs::Numbers::u32_is))]
 pub fn read_rtcp(octets: &[u8]) -> Result<RtcpHead, HeadFault>
     ensures value { result ≡ rtcp_head octets.now }
     ensures head { (head : RtcpHead) → (result ≡ Ok head) ↔ IsRtcpHead octets.now head }

@@ -1,3 +1,5 @@
+//! Laws of heads, for callers' proofs: each function's contract is a law, and its body is empty.
+
 ghost use Rattle.std.specs.Prelude.{◌≡◌, ℕ, ◌↔◌, ◌≤◌, List, Ok, length, take};
 ghost use Rattle.sg_rtp.specs.Heads.{rtp_head, rtcp_head, IsRtpHead, IsRtcpHead};
 ghost use Rattle.sg_rtp.specs.declared.heads.RtpHead.{RtpHead};

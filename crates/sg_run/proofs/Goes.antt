@@ -1,6 +1,7 @@
 -- How a run goes on, line by line.
 use Rattle.std.proofs.Common.{◌≡◌, ◌+◌, ℕ, false, List, [], ◌∷◌, ◌++◌, length, Option, Some, None, Result, Ok, Err, refl, sym, ap, ◌∙◌, subst, append_assoc, length-append, arith, ◌<◌, ◌≤◌, ◌^◌}
 use Rattle.std.specs.List.{flat_map}
+use Rattle.std.proofs.lemmas.Grind.{flat_map-append}
 use Rattle.std.proofs.lemmas.List.{append-nil}
 use Rattle.sg_gateway.specs.Step.{Event}
 use Rattle.sg_base.specs.declared.faults.ScriptFault.{ScriptFault}
@@ -13,24 +14,20 @@ use Rattle.sg_gateway.specs.Step.{step}
 use Rattle.sg_gateway.specs.World.{World, empty}
 use Rattle.sg_run.specs.Fed.{IsLine}
 use Rattle.sg_gateway.specs.Replayed.{said as says}
-use Rattle.sg_script.specs.ScriptLines.{lines_of, IsWhole}
+use Rattle.sg_lines.specs.ScriptLines.{lines_of, IsWhole}
 use Rattle.sg_gateway.specs.Replayed.{Replayed, with_front, after_line, replayed_from, replayed}
 use Rattle.sg_run.specs.Run.{output, output_from, IsPrefixOf}
 use Rattle.sg_run.specs.Run.{text}
 use Rattle.sg_outcome.specs.OutcomeText.{outcome_line as text_of}
 use Rattle.std.proofs.lemmas.Bool.{cond-false}
-use Rattle.sg_script.specs.declared.lines.Line.{Line}
-use Rattle.sg_script.specs.declared.ReadLineFault.{ReadLineFault}
-use Rattle.sg_script.specs.declared.ReadLineFault.TheVariants as faults
+use Rattle.sg_lines.specs.declared.lines.Line.{Line}
+use Rattle.sg_lines.specs.declared.ReadLineFault.{ReadLineFault}
+use Rattle.sg_lines.specs.declared.ReadLineFault.TheVariants as faults
 use Rattle.sg_run.specs.Played.{Says}
-use Rattle.sg_script.specs.Fields.{Gives}
-use Rattle.sg_script.specs.ServedLine.{served_line_of}
+use Rattle.sg_lines.specs.Fields.{Gives}
+use Rattle.sg_lines.specs.ServedLine.{served_line_of}
 use Rattle.sg_gateway.proofs.Sayings.{FirstFails, first_fails, still_fails, said_is, too_far, events_at}
-use Rattle.sg_script.proofs.Splits.{lines_of_whole}
-
-flat_map-append : {X A : Type 0} (f : X → List A) (xs ys : List X) → flat_map f (xs ++ ys) ≡ flat_map f xs ++ flat_map f ys
-flat_map-append f [] ys = refl
-flat_map-append f (x ∷ xs) ys = ap (λ l. f x ++ l) (flat_map-append f xs ys) ∙ sym (append_assoc (f x) _ _)
+use Rattle.sg_lines.proofs.Splits.{lines_of_whole}
 
 turns_from-append : (w : World) (es fs : List Event) → turns_from w (es ++ fs) ≡ turns_from w es ++ turns_from (world_after w es) fs
 turns_from-append w [] fs = refl

@@ -2,3 +2,5 @@ pub mod Complete
 pub mod Feeds
 pub mod Goes
 pub mod LineParts
+pub mod OtherErrors
+pub mod Telling

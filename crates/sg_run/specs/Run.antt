@@ -7,9 +7,15 @@ use Rattle.sg_outcome.specs.OutcomeText.{outcome_line}
 use Rattle.sg_edge.specs.Told.{TookIn, Wrote, AtEnd}
 use Rattle.sg_session.specs.Reach.{Sealed, AreSealed}
 use Rattle.sg_gateway.specs.Arriving.{EachArrivingIsPutOut}
+use Rattle.sg_gateway.specs.Coming.{EachOpeningCame, EachSealCame}
+use Rattle.sg_gateway.specs.Departing.{EachDepartingIsSealed}
+use Rattle.sg_gateway.specs.Lives.{EachKeyIsWithinLife}
+use Rattle.sg_gateway.specs.Order.{EachWorldIsOrderly}
+use Rattle.sg_gateway.specs.Owned.{EachKeyIsOwned}
 use Rattle.sg_gateway.specs.PeersPackets.{EachOpeningIsSealed, EachOpeningGoesOut, EachHighestIsSealed, OnlyOpeningsGoOut}
 use Rattle.sg_gateway.specs.Replayed.{replayed}
 use Rattle.sg_gateway.specs.Runs.{outcomes, turns_from}
+use Rattle.sg_gateway.specs.SealedOut.{EachSealGoesOut, OnlySealsGoOut, SignalsPutNothingOut}
 use Rattle.sg_gateway.specs.Step.{Event}
 use Rattle.sg_gateway.specs.Twice.{NoneTwice, NoneTwiceUnderKey, KeysHaveOneOwner}
 use Rattle.sg_gateway.specs.Unforged.{Unforged}
@@ -35,7 +41,7 @@ IsPrefixOf front all = (rest : List ℕ) × (all ≡ front ++ rest)
 
 -- The status, by the octets read, the octets written and what the source has left. With Done all is
 -- handled and the source is at its end. With Script the lines before the named one are handled, and the
--- named line is the first outside the grammar, with its first fault, whatever would come behind what was
+-- named line is the first that isn't served, with its first fault, whatever would come behind what was
 -- read; Unended comes only at the source's end. With every other status a prefix was written.
 abbrev pub Ends : Status → List ℕ → List ℕ → Option (List ℕ) → Type 0
 Ends Done octets out left = ((replayed octets).fault ≡ None) × (out ≡ output (replayed octets).events) × AtEnd left
@@ -54,20 +60,31 @@ pub record IsRun (status : Status) (left left' written written' : Option (List �
   pub ends : Ends status octets out left'
   pub bound : length octets ≤ 2 ^ 30 + 1
 
--- The headline, over the events of the octets read, for every list of sealed packets: nothing forged, and
--- nothing else goes out; nothing twice; nothing within reach lost; no counter block sealed twice.
+-- The headline, over the events of the octets read, for every list of sealed packets: nothing forged goes
+-- out on a plain leg, and nothing unsealed on a secure one; nothing twice; nothing within reach lost; no
+-- counter block sealed twice. And what these rest on: whose each key is, how many packets it may serve,
+-- and the order of calls and names.
 pub record Headline (events : List Event) : Type 0 where
   pub each_sealed : (sealed : List Sealed) → AreSealed sealed → Unforged sealed events → EachOpeningIsSealed sealed events
   pub highest : (sealed : List Sealed) → AreSealed sealed → Unforged sealed events → EachHighestIsSealed sealed events
-  pub each_goes_out : EachOpeningGoesOut events
-  pub only : OnlyOpeningsGoOut events
+  pub each_opening_came : EachOpeningCame events
+  pub each_opening_goes_out : EachOpeningGoesOut events
+  pub only_openings : OnlyOpeningsGoOut events
+  pub each_seal_came : EachSealCame events
+  pub each_seal_goes_out : EachSealGoesOut events
+  pub only_seals : OnlySealsGoOut events
+  pub signals : SignalsPutNothingOut events
   pub none_twice : NoneTwice events
   pub none_twice_under_key : NoneTwiceUnderKey events
   pub one_owner : KeysHaveOneOwner events
-  pub each_put_out : (sealed : List Sealed) → AreSealed sealed → EachArrivingIsPutOut sealed events
+  pub each_arriving : (sealed : List Sealed) → AreSealed sealed → EachArrivingIsPutOut sealed events
+  pub each_departing : EachDepartingIsSealed events
   pub no_block_twice : NoBlockTwice events
+  pub owned : EachKeyIsOwned events
+  pub lives : EachKeyIsWithinLife events
+  pub orderly : EachWorldIsOrderly events
 
--- Where the source's octets are a whole script in the grammar, the run handles it to its end, or memory is wanting.
+-- Where each line of the source's octets is served, the run handles them to their end, or is out of memory.
 abbrev pub IsComplete : Status → Option (List ℕ) → Option (List ℕ) → Type 0
 IsComplete status left left' =
     (all rest : List ℕ) → left ≡ Some all → left' ≡ Some rest → (replayed all).fault ≡ None → (status ≡ Done) ⊎ (status ≡ NoMemory)

@@ -1,32 +1,22 @@
 //! The command `replay`: the lines of a script, in order.
 
-ghost use Rattle.std.specs.Prelude.{◌≡◌, ◌≢◌, ◌≤◌, ◌^◌, ℕ, List, IsErrOf, IfOk, true};
-ghost use Rattle.sg_edge.specs.Told.{Rose, Tells};
+ghost use Rattle.std.specs.Prelude.{◌≡◌, ◌⊎◌, ◌≢◌, ◌≤◌, ◌+◌, ◌^◌, ℕ, List, IsErrOf, IfErr, OnErr, OnOk, true};
+ghost use Rattle.sg_edge.specs.Told.{Rose, Tells, Wrote};
 ghost use Rattle.sg_gateway.specs.Events.{events_of};
 ghost use Rattle.sg_gateway.specs.Replayed.{said};
 ghost use Rattle.sg_gateway.specs.World.{World, empty};
-ghost use Rattle.sg_run.specs.Played.{IsPlayed, Says, status_at};
+ghost use Rattle.sg_run.specs.Played.{IsPlayed, Says, WroteFront, status_at};
 ghost use Rattle.sg_run.specs.Run.{IsRun, text};
 
 use crate::feed::Feed;
-use crate::line_reader::{Stop, next_line};
+use crate::line_reader::next_line;
 use crate::status::Status;
-use sg_base::{Failed, NoMemory, Octets, ScriptFault};
+use sg_base::{SCRIPT_MOST, ScriptFault};
 use sg_edge::{Sink, Source, write_all};
 use sg_gateway::Gateway;
+use sg_lines::{Line, ReadLineFault, read_served_line};
 use sg_outcome::{Outcome, print_outcome};
-use sg_script::{Line, ReadLineFault, read_served_line};
 use std::alloc::Global;
-
-/// The octets of a script end within these.
-const SCRIPT_MOST: u64 = 1073741824;
-
-/// Why a line wasn't handled to its end.
-#[derive(Clone, Copy, Debug, PartialEq, Eq)]
-enum Halt {
-    Write,
-    NoMemory,
-}
 
 /// Has the gateway handle the lines of the source in order, and writes their outcomes. The gateway begins as
 /// the empty world.
@@ -39,6 +29,7 @@ pub fn replay<G: Gateway, S: Source, K: Sink>(
     requires { G.stands_for gateway.old empty }
     ensures ran { (octets out : List ℕ)
         × IsRun result (S.left source.old) (S.left source.new) (K.written sink.old) (K.written sink.new) octets out }
+    ensures given { S.given source.new ≤ S.given source.old + (2 ^ 30 + 1) }
     ensures command { result ≢ Status.Usage }
     ensures read { result ≡ Status.Read → Rose (S.faults source.old) (S.faults source.new) }
     ensures read_told { result ≡ Status.Read → Tells (S.failed source.new) true }
@@ -53,8 +44,7 @@ pub fn replay<G: Gateway, S: Source, K: Sink>(
     'lines: loop {
         line.clear();
         match next_line(&mut feed, source, &mut line, &mut budget) {
-            Err(Stop::Read) => return Status::Read,
-            Err(Stop::NoMemory) => return Status::NoMemory,
+            Err(status) => return status,
             Ok(false) => return Status::Done,
             Ok(true) => {}
         }
@@ -62,10 +52,8 @@ pub fn replay<G: Gateway, S: Source, K: Sink>(
             Err(error) => return refused(number, error),
             Ok(said) => said,
         };
-        match play(alloc, gateway, said, sink) {
-            Err(Halt::Write) => return Status::Write,
-            Err(Halt::NoMemory) => return Status::NoMemory,
-            Ok(()) => {}
+        if let Err(status) = play(alloc, gateway, said, sink) {
+            return status;
         }
         at += line.len() as u64;
         number += 1;
@@ -89,37 +77,32 @@ fn play<G: Gateway, K: Sink>(
     gateway: &mut G,
     said: Line,
     sink: &mut K,
-) -> Result<(), Halt>
+) -> Result<(), Status>
     ensures played { (w : World) → G.stands_for gateway.old w
         → IsPlayed result w (events_of said) (G.stands_for gateway.new) (K.written sink.old) (K.written sink.new) }
     ensures later { K.faults sink.old ≤ K.faults sink.new }
-    ensures write { IsErrOf result Halt.Write → Rose (K.faults sink.old) (K.faults sink.new) }
-    ensures told { IsErrOf result Halt.Write → Tells (K.failed sink.new) true }
+    ensures only { IfErr result (λ status. (status ≡ Status.Write) ⊎ (status ≡ Status.NoMemory)) }
+    ensures write { IsErrOf result Status.Write → Rose (K.faults sink.old) (K.faults sink.new) }
+    ensures told { IsErrOf result Status.Write → Tells (K.failed sink.new) true }
 {
-    let outcomes = match gateway.handle(alloc, said) {
-        Err(NoMemory) => return Err(Halt::NoMemory),
-        Ok(outcomes) => outcomes,
-    };
-    let octets = match text_of(alloc, &outcomes) {
-        Err(NoMemory) => return Err(Halt::NoMemory),
-        Ok(octets) => octets,
-    };
-    match write_all(sink, octets.as_slice()) {
-        Err(Failed) => Err(Halt::Write),
-        Ok(()) => Ok(()),
-    }
+    let outcomes = gateway.handle(alloc, said).map_err(|_| Status::NoMemory)?;
+    tell(alloc, &outcomes, sink)
 }
 
-/// The lines of outcomes, joined.
-fn text_of(alloc: Global, outcomes: &[Outcome]) -> Result<Octets, NoMemory>
-    ensures { IfOk result (λ octets. octets ≡ text outcomes.now) }
+/// Writes the lines of outcomes, each once it is printed.
+fn tell<K: Sink>(alloc: Global, outcomes: &[Outcome], sink: &mut K) -> Result<(), Status>
+    ensures wrote { OnOk result (Wrote (K.written sink.old) (K.written sink.new) (text outcomes.now)) }
+    ensures front { OnErr result (WroteFront (K.written sink.old) (K.written sink.new) (text outcomes.now)) }
+    ensures later { K.faults sink.old ≤ K.faults sink.new }
+    ensures only { IfErr result (λ status. (status ≡ Status.Write) ⊎ (status ≡ Status.NoMemory)) }
+    ensures write { IsErrOf result Status.Write → Rose (K.faults sink.old) (K.faults sink.new) }
+    ensures told { IsErrOf result Status.Write → Tells (K.failed sink.new) true }
 {
-    let mut joined = Vec::new(alloc);
     for outcome in outcomes {
-        let line = print_outcome(alloc, outcome)?;
-        joined.extend_from_slice(line.as_slice())?;
+        let line = print_outcome(alloc, outcome).map_err(|_| Status::NoMemory)?;
+        write_all(sink, line.as_slice()).map_err(|_| Status::Write)?;
     }
-    Ok(Octets::from_vec(joined))
+    Ok(())
 }
 
 fn refused(number: u64, error: ReadLineFault) -> Status

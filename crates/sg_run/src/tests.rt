@@ -1,5 +1,4 @@
 mod calls;
-mod mixed;
 
 use crate::{Status, run};
 use sg_base::{Octets, ScriptFault};

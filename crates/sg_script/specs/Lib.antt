@@ -1,6 +1,5 @@
-pub mod Fields
-pub mod LineFaults
-pub mod LineOf
-pub mod LineText
-pub mod ScriptLines
-pub mod ServedLine
+pub use Rattle.sg_lines.specs.LineOf
+pub use Rattle.sg_lines.specs.LineText
+pub use Rattle.sg_outcome.specs.OutcomeFields
+pub use Rattle.sg_outcome.specs.OutcomeOf
+pub use Rattle.sg_outcome.specs.OutcomeText

@@ -1,22 +1,10 @@
-//! Script lines: what the gateway is told.
+//! The lines of a script and the lines of outcomes: what the gateway is told and what it tells, by the names under which
+//! users know them. The lines of scripts are `sg_lines`'s, the outcomes `sg_outcome`'s.
 #![tactic(auto)]
 
-mod faults;
-pub mod field_printing;
-pub mod fields;
-mod laws;
-mod line_printing;
-mod lines;
-pub mod reading;
-mod served_lines;
 #[cfg(test)]
 mod tests;
 
-pub use faults::ReadLineFault;
-pub use laws::{
-    lines_are_framed, lines_have_one_spelling, served_lines_are_framed, served_lines_are_lines,
-};
-pub use line_printing::print_line;
-pub use lines::{Line, Signal};
-pub use reading::read_line;
-pub use served_lines::read_served_line;
+pub use sg_base::ScriptFault;
+pub use sg_lines::{Line, ReadLineFault, Signal, print_line, read_line};
+pub use sg_outcome::{Outcome, Why, print_outcome, read_outcome};

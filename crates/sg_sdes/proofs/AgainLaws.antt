@@ -2,13 +2,12 @@
 use Rattle.std.proofs.Common.{◌≡◌, ℕ, ◌+◌, ◌-◌, ◌^◌, ◌<◌, ◌≤◌, Bool, true, false, cond, eqb, List, [], ◌∷◌, ◌++◌, length, take, drop, map, Option, Some, None, Result, Ok, refl, sym, ap, ◌∙◌, arith, append_assoc, length-append}
 use Rattle.std.specs.Prelude.{◌&&◌, codes, IfSome}
 use Rattle.std.specs.Char.{is_ascii_digit}
-use Rattle.std.specs.List.{AllByRecursion, All, join_with_byte, list_all, slice_split, starts_with}
+use Rattle.std.specs.List.{AllByRecursion, join_with_byte, list_all, slice_split, starts_with}
 use Rattle.std.specs.Fmt.{decimal}
 use Rattle.std.specs.Prelude.{nat_eq}
 use Rattle.std.proofs.lemmas.Bool.{ne_eqb, eq-eqb, eqb-true, eqb-false, le-leb, lt-ltb}
 use Rattle.std.proofs.lemmas.Fmt.{digits_decimal, digits_value-decimal, decimal_nonempty, length-decimal-le}
 use Rattle.std.proofs.lemmas.List.{append-nil, take_at}
-use Rattle.std.proofs.lemmas.List.Elements.{All-from_recursion}
 use Rattle.std.proofs.lemmas.List.Splits.{slice_split_none, slice_split_at}
 use Rattle.base64.specs.GeneralPurpose.{encode_of}
 use Rattle.base64.specs.Engines.{standard}
@@ -20,7 +19,7 @@ use Rattle.sg_base.specs.Keys.{Master, master_of}
 use Rattle.sg_base.specs.Mkis.{MkiValue, IsMki}
 use Rattle.sg_base.specs.Suites.{key_len_of, salt_len_of}
 use Rattle.sg_base.specs.SuiteNames.{suite_name, suite_at}
-use Rattle.sg_base.proofs.Cuts.{cut_again}
+use Rattle.sg_base.proofs.Cuts.{cut_again, lacks_all}
 use Rattle.sg_base.proofs.Decimals.{number_again}
 use Rattle.sg_base.proofs.SuiteLemmas.{suite_again}
 use Rattle.sg_sdes.specs.declared.lines.CryptoLine.{CryptoLine}
@@ -28,7 +27,7 @@ use Rattle.sg_sdes.specs.declared.lines.InlineKey.{InlineKey}
 use Rattle.sg_sdes.specs.CryptoOf.{crypto_by, crypto_parts, crypto_of}
 use Rattle.sg_sdes.specs.CryptoText.{lifetime_text, mki_text, inline_text, keys_text, plain_rtp_words, plain_rtcp_words, window_words, mark_words, crypto_words, crypto_text, IsInlineKey, IsCryptoLine}
 use Rattle.sg_sdes.specs.Keys.{inline_at, keys_from, keys_of, at_bar, behind_bar, with_one, with_both}
-use Rattle.sg_sdes.specs.KeyTexts.{digits_at, crypto_suite_at, key_at, lifetime_at, is_mki, mki_at}
+use Rattle.sg_sdes.specs.KeyTexts.{base64_at, digits_at, crypto_suite_at, key_at, lifetime_at, is_mki, mki_at}
 use Rattle.sg_sdes.specs.Parameters.{unsaid, with_parameter, parameters_from}
 use Rattle.sg_sdes.specs.Words.{words_of, without_spaces}
 use Rattle.sg_sdes.proofs.Base64Laws.{base64_padded}
@@ -74,13 +73,17 @@ same_key suite k fits =
     let is = sym fits.suite_is in
     (λ i. record { suite = is i; key = front i; salt = back i })
 
-key_again : (suite : Suite) (k : InlineKey) → IsInlineKey suite k → key_at suite (encode_of standard (k.key.key ++ k.key.salt)) ≡ Some k.key
+-- a text that decodes to a key's octets
+pub key_of : (suite : Suite) (b : List ℕ) (k : InlineKey) → IsInlineKey suite k → base64_at b ≡ Some (k.key.key ++ k.key.salt) → key_at suite b ≡ Some k.key
 unfolding key_at
-key_again suite k fits =
+key_of suite b k fits decoded =
     let a = fits.key in
     let b = fits.salt in
     let size : length (k.key.key ++ k.key.salt) ≡ key_len_of suite + salt_len_of suite = omega (arith, a, b, length-append k.key.key k.key.salt) in
-    rw (base64_padded (k.key.key ++ k.key.salt) fits.octets, eq-eqb _ _ size) (ap Some (same_key suite k fits))
+    rw (decoded, eq-eqb _ _ size) (ap Some (same_key suite k fits))
+
+key_again : (suite : Suite) (k : InlineKey) → IsInlineKey suite k → key_at suite (encode_of standard (k.key.key ++ k.key.salt)) ≡ Some k.key
+key_again suite k fits = key_of suite (encode_of standard (k.key.key ++ k.key.salt)) k fits (base64_padded (k.key.key ++ k.key.salt) fits.octets)
 
 and_false : (b : Bool) → (b && false) ≡ false
 and_false true = refl
@@ -91,7 +94,7 @@ not_power [] lacks = refl
 not_power (x ∷ []) lacks = and_false (eqb 50 x)
 not_power (x ∷ y ∷ ys) lacks = rw (ne_eqb 94 y (λ e. eqb-false y 94 lacks.1.0 (sym e))) (and_false (eqb 50 x))
 
-lifetime_again : (n : ℕ) → 1 ≤ n → n ≤ 2 ^ 48 → lifetime_at (decimal n) ≡ Some n
+pub lifetime_again : (n : ℕ) → 1 ≤ n → n ≤ 2 ^ 48 → lifetime_at (decimal n) ≡ Some n
 unfolding lifetime_at
 lifetime_again n least most =
     rw (not_power (decimal n) (decimal_without 94 n (omega arith) (omega arith)), number_again (2 ^ 48) n most (omega arith), ne_eqb n 0 (λ e. omega arith)) refl
@@ -99,10 +102,10 @@ lifetime_again n least most =
 mki_step : (m : MkiValue) → IsMki m.value m.length → is_mki m.value m.length ≡ true
 mki_step m is = rw (le-leb 1 m.length is.least, le-leb m.length 128 is.most, lt-ltb m.value (256 ^ m.length) is.fits) refl
 
-small_length : (m : MkiValue) → IsMki m.value m.length → m.length < 2 ^ 128
+pub small_length : (m : MkiValue) → IsMki m.value m.length → m.length < 2 ^ 128
 small_length m is = let n = is.most in omega (arith, n)
 
-mki_again : (m : MkiValue) → IsMki m.value m.length → m.value < 2 ^ 128 → mki_at (mki_part m) ≡ Some m
+pub mki_again : (m : MkiValue) → IsMki m.value m.length → m.value < 2 ^ 128 → mki_at (mki_part m) ≡ Some m
 unfolding mki_at
 mki_again m is small =
     rw (
@@ -114,16 +117,16 @@ mki_again m is small =
     refl
 
 -- the parts behind a key's first bar, by which of them are there
-neither : (suite : Suite) (b : List ℕ) (k : Master) → Lacks 124 b → key_at suite b ≡ Some k → at_bar suite b (cut_at 124 b) ≡ Ok (record { key = k; lifetime = 2 ^ 48; mki = None })
+pub neither : (suite : Suite) (b : List ℕ) (k : Master) → Lacks 124 b → key_at suite b ≡ Some k → at_bar suite b (cut_at 124 b) ≡ Ok (record { key = k; lifetime = 2 ^ 48; mki = None })
 neither suite b k lacks e = rw (cut_lacking 124 b lacks, e) refl
 
-one_part : (suite : Suite) (b part : List ℕ) → Lacks 124 b → Lacks 124 part → at_bar suite (b ++ 124 ∷ part) (cut_at 124 (b ++ 124 ∷ part)) ≡ with_one suite b part
+pub one_part : (suite : Suite) (b part : List ℕ) → Lacks 124 b → Lacks 124 part → at_bar suite (b ++ 124 ∷ part) (cut_at 124 (b ++ 124 ∷ part)) ≡ with_one suite b part
 one_part suite b part lacks bars =
     let cut = ap (at_bar suite (b ++ 124 ∷ part)) (cut_again 124 b part lacks) in
     let uncut = ap (behind_bar suite b part) (cut_lacking 124 part bars) in
     cut ∙ uncut
 
-two_parts : (suite : Suite) (b first second : List ℕ) → Lacks 124 b → Lacks 124 first
+pub two_parts : (suite : Suite) (b first second : List ℕ) → Lacks 124 b → Lacks 124 first
     → at_bar suite (b ++ 124 ∷ (first ++ 124 ∷ second)) (cut_at 124 (b ++ 124 ∷ (first ++ 124 ∷ second))) ≡ with_both suite b first second
 two_parts suite b first second lacks bars =
     let text : List ℕ = b ++ 124 ∷ (first ++ 124 ∷ second) in
@@ -131,15 +134,15 @@ two_parts suite b first second lacks bars =
     let again = ap (behind_bar suite b (first ++ 124 ∷ second)) (cut_again 124 first second bars) in
     cut ∙ again
 
-a_lifetime : (suite : Suite) (b d : List ℕ) (k : Master) (n : ℕ) → key_at suite b ≡ Some k → Lacks 58 d → lifetime_at d ≡ Some n
+pub a_lifetime : (suite : Suite) (b d : List ℕ) (k : Master) (n : ℕ) → key_at suite b ≡ Some k → Lacks 58 d → lifetime_at d ≡ Some n
     → with_one suite b d ≡ Ok (record { key = k; lifetime = n; mki = None })
 a_lifetime suite b d k n e colons f = rw (e, cut_lacking 58 d colons, f) refl
 
-an_mki : (suite : Suite) (b v l : List ℕ) (k : Master) (m : MkiValue) → key_at suite b ≡ Some k → Lacks 58 v → mki_at (v ++ 58 ∷ l) ≡ Some m
+pub an_mki : (suite : Suite) (b v l : List ℕ) (k : Master) (m : MkiValue) → key_at suite b ≡ Some k → Lacks 58 v → mki_at (v ++ 58 ∷ l) ≡ Some m
     → with_one suite b (v ++ 58 ∷ l) ≡ Ok (record { key = k; lifetime = 2 ^ 48; mki = Some m })
 an_mki suite b v l k m e colons f = rw (e, cut_again 58 v l colons, f) refl
 
-both_there : (suite : Suite) (b d v l : List ℕ) (k : Master) (n : ℕ) (m : MkiValue) → key_at suite b ≡ Some k → Lacks 58 d → lifetime_at d ≡ Some n
+pub both_there : (suite : Suite) (b d v l : List ℕ) (k : Master) (n : ℕ) (m : MkiValue) → key_at suite b ≡ Some k → Lacks 58 d → lifetime_at d ≡ Some n
     → Lacks 124 (v ++ 58 ∷ l) → Lacks 58 v → mki_at (v ++ 58 ∷ l) ≡ Some m → with_both suite b d (v ++ 58 ∷ l) ≡ Ok (record { key = k; lifetime = n; mki = Some m })
 both_there suite b d v l k n m e colons f bars mki_colons g =
     rw (cut_lacking 124 (v ++ 58 ∷ l) bars, cut_lacking 58 d colons, cut_again 58 v l mki_colons, e, f, g) refl
@@ -193,9 +196,6 @@ unfolding inline_at
 inline_again suite k fits = mki_case suite k k.mki fits refl
 
 -- ---- the keys
-
-lacks_all : (c : ℕ) (t : List ℕ) → Lacks c t → All (λ x. eqb x c ≡ false) t
-lacks_all c t h = All-from_recursion (λ x. eqb x c ≡ false) t h
 
 split_keys : (suite : Suite) (k : InlineKey) (ks : List InlineKey) → AllByRecursion (IsInlineKey suite) (k ∷ ks) → slice_split (λ x. eqb x 59) (keys_text (k ∷ ks)) ≡ map inline_text (k ∷ ks)
 split_keys suite k [] all = slice_split_none (λ x. eqb x 59) (inline_text k) (lacks_all 59 (inline_text k) (inline_lacks_semicolon suite k all.0))

@@ -1,5 +1,5 @@
 -- Keys in base64.
-use Rattle.std.proofs.Common.{◌≡◌, ℕ, ◌+◌, ◌*◌, ◌-◌, ◌/◌, ◌%◌, ◌<◌, ◌≤◌, cond, eqb, List, length, Option, Some, None, Result, Ok, Err, refl, sym, ap, ◌∙◌, arith, inl, inr}
+use Rattle.std.proofs.Common.{◌≡◌, ℕ, ◌+◌, ◌*◌, ◌-◌, ◌/◌, ◌%◌, ◌<◌, cond, eqb, List, length, Option, Some, None, Result, Ok, Err, refl, sym, ap, ◌∙◌, arith, inl, inr}
 use Rattle.std.specs.Prelude.{◌⊎◌, option_and_then}
 use Rattle.base64.specs.GeneralPurpose.{decode_of, encode_of, IsBytes, IsStrict}
 use Rattle.base64.specs.Engines.{standard, standard_no_pad}
@@ -12,9 +12,9 @@ use Rattle.std.specs.Prelude.{replicate}
 use Rattle.std.proofs.lemmas.List.{length-append, append-nil, length-replicate}
 use Rattle.std.proofs.lemmas.Bool.{cases_eq, ne_eqb}
 use Rattle.sg_base.specs.declared.Suite.{Suite}
-use Rattle.sg_base.specs.declared.Suite.TheVariants.{Raw80, Cm128Tag80, Cm128Tag32, Cm192Tag80, Cm192Tag32, Cm256Tag80, Cm256Tag32}
 use Rattle.sg_base.specs.Keys.{Master, master_of}
 use Rattle.sg_base.specs.Suites.{key_len_of, salt_len_of}
+use Rattle.sg_base.proofs.SuiteLemmas.{sizes}
 use Rattle.sg_sdes.specs.KeyTexts.{base64_at, key_at, or_else, ok_of}
 
 either : (r : Result (List ℕ) DecodeError) (s : Result (List ℕ) DecodeError) (b : List ℕ) → or_else r (ok_of s) ≡ Some b → (r ≡ Ok b) ⊎ (s ≡ Ok b)
@@ -68,15 +68,6 @@ base64_bare b fits =
       | inl whole ↦ ap base64_at (same_spelling b whole) ∙ base64_padded b fits
       | inr uneven ↦ rw (decode_of-encode_of standard_no_pad b refl fits) (bare_only b (decode_of standard (encode_of standard_no_pad b)) fits (λ i. omega (arith, IsAscii-encode_of standard_no_pad b i)) uneven refl)
     ]
-
-pub sizes : (s : Suite) → key_len_of s + salt_len_of s ≤ 46
-sizes Raw80 = omega arith
-sizes Cm128Tag80 = omega arith
-sizes Cm128Tag32 = omega arith
-sizes Cm192Tag80 = omega arith
-sizes Cm192Tag32 = omega arith
-sizes Cm256Tag80 = omega arith
-sizes Cm256Tag32 = omega arith
 
 -- the key of octets, where they are as many as the suite has
 abbrev pub sized : Suite → List ℕ → Option Master

@@ -1,10 +1,15 @@
-pub mod AgainLaws
-pub mod AnswerLaws
-pub mod Base64Laws
-pub mod DecodedBytes
-pub mod DigitLaws
-pub mod KeyLoop
-pub mod PrintLaws
-pub mod TextLaws
-pub mod ValidLaws
-pub mod WordLaws
+mod AgainLaws
+mod AnswerLaws
+mod Base64Laws
+mod DecodedBytes
+mod DigitLaws
+mod KeyGrammar
+mod KeyLoop
+mod LineGrammar
+mod NumberGrammar
+mod ParameterGrammar
+mod PrintLaws
+mod TextLaws
+mod ValidLaws
+mod WordGrammar
+mod WordLaws

@@ -3,7 +3,7 @@ use Rattle.std.proofs.Common.{append_assoc, ◌≡◌, ℕ, zero, suc, ◌+◌, 
 use Rattle.std.specs.Prelude.{not, slice_index, codes, IfSome}
 use Rattle.std.specs.List.{list_all, AllByRecursion}
 use Rattle.std.specs.Fmt.{decimal}
-use Rattle.std.proofs.lemmas.Bool.{and_parts, ne_eqb}
+use Rattle.std.proofs.lemmas.Bool.{and_parts, ne_eqb, not-true}
 use Rattle.std.proofs.lemmas.Fmt.{decimal_nonempty}
 use Rattle.base64.specs.Rfc4648.{encode_symbols, encode_group}
 use Rattle.base64.specs.GeneralPurpose.{encode_of}
@@ -13,25 +13,22 @@ use Rattle.sg_base.specs.declared.Suite.TheVariants.{Raw80, Cm128Tag80, Cm128Tag
 use Rattle.sg_base.specs.Fields.{Lacks}
 use Rattle.sg_base.specs.Mkis.{MkiValue, IsMki}
 use Rattle.sg_base.specs.SuiteNames.{suite_name}
-use Rattle.sg_base.proofs.FourNumbers.{lacks_append, decimal_lacks}
+use Rattle.sg_base.proofs.FourNumbers.{decimal_lacks}
 use Rattle.sg_base.proofs.SuiteLemmas.{lacks_test, suite_lacks_space}
+use Rattle.sg_base.proofs.Cuts.{lacks_append}
 use Rattle.sg_sdes.specs.declared.lines.CryptoLine.{CryptoLine}
 use Rattle.sg_sdes.specs.declared.lines.InlineKey.{InlineKey}
 use Rattle.sg_sdes.specs.CryptoText.{lifetime_text, mki_text, inline_text, keys_text, plain_rtp_words, plain_rtcp_words, window_words, mark_words, crypto_words, IsInlineKey, IsCryptoLine}
 
 -- ---- base64
 
-not_is : (b : Bool) → not b ≡ true → b ≡ false
-not_is true e = absurd cc
-not_is false e = refl
-
 -- no symbol of a table that lacks an octet above 0 is that octet
 at_index : (c : ℕ) (t : List ℕ) (i : ℕ) → 0 < c → list_all (λ x. not (eqb x c)) t ≡ true → eqb (slice_index t i) c ≡ false
 at_index c [] i above all = ne_eqb 0 c (λ e. omega arith)
-at_index c (x ∷ xs) zero above all = not_is (eqb x c) (and_parts (not (eqb x c)) (list_all (λ x. not (eqb x c)) xs) all).0
+at_index c (x ∷ xs) zero above all = not-true (eqb x c) (and_parts (not (eqb x c)) (list_all (λ x. not (eqb x c)) xs) all).0
 at_index c (x ∷ xs) (suc i) above all = at_index c xs i above (and_parts (not (eqb x c)) (list_all (λ x. not (eqb x c)) xs) all).1
 
-symbols_lack : (c : ℕ) (t m : List ℕ) → 0 < c → list_all (λ x. not (eqb x c)) t ≡ true → Lacks c (encode_symbols t m)
+pub symbols_lack : (c : ℕ) (t m : List ℕ) → 0 < c → list_all (λ x. not (eqb x c)) t ≡ true → Lacks c (encode_symbols t m)
 unfolding encode_symbols
 symbols_lack c t [] above all = tt
 symbols_lack c t (a ∷ []) above all = (at_index c t (a / 4) above all, (at_index c t (a % 4 * 16) above all, tt))
@@ -45,7 +42,7 @@ replicated_lack : (c n x : ℕ) → eqb x c ≡ false → Lacks c (replicate n x
 replicated_lack c zero x other = tt
 replicated_lack c (suc n) x other = (other, replicated_lack c n x other)
 
-base64_lacks : (c : ℕ) (m : List ℕ) → 0 < c → list_all (λ x. not (eqb x c)) standard.encode_table ≡ true → eqb 61 c ≡ false → Lacks c (encode_of standard m)
+pub base64_lacks : (c : ℕ) (m : List ℕ) → 0 < c → list_all (λ x. not (eqb x c)) standard.encode_table ≡ true → eqb 61 c ≡ false → Lacks c (encode_of standard m)
 base64_lacks c m above all other = lacks_append c (encode_symbols standard.encode_table m) (replicate ((3 - length m % 3) % 3) 61) (symbols_lack c standard.encode_table m above all) (replicated_lack c _ 61 other)
 
 pub base64_lacks_bar : (m : List ℕ) → Lacks 124 (encode_of standard m)
@@ -63,7 +60,7 @@ base64_lacks_space m = base64_lacks 32 m (omega arith) refl refl
 pub decimal_without : (c n : ℕ) → n < 2 ^ 128 → (57 < c) → Lacks c (decimal n)
 decimal_without c n small above = decimal_lacks c n (omega arith) (inr above)
 
-space_decimal : (n : ℕ) → n < 2 ^ 128 → Lacks 32 (decimal n)
+pub space_decimal : (n : ℕ) → n < 2 ^ 128 → Lacks 32 (decimal n)
 space_decimal n small = decimal_lacks 32 n (omega arith) (inl (omega arith))
 
 -- the texts behind a bar
@@ -83,7 +80,7 @@ mki_lacks c m v other n = lacks_append c (decimal m.value) (58 ∷ decimal m.len
 pub mki_text_is : (m : MkiValue) → mki_text (Some m) ≡ 124 ∷ mki_part m
 mki_text_is m = ap (λ (l : List ℕ). 124 ∷ l) (append_assoc (decimal m.value) (58 ∷ []) (decimal m.length))
 
-some_mki_lacks : (c : ℕ) (m : MkiValue) → eqb 124 c ≡ false → Lacks c (mki_part m) → Lacks c (mki_text (Some m))
+pub some_mki_lacks : (c : ℕ) (m : MkiValue) → eqb 124 c ≡ false → Lacks c (mki_part m) → Lacks c (mki_text (Some m))
 some_mki_lacks c m other lacks = subst (Lacks c) (sym (mki_text_is m)) (other, lacks)
 
 -- ---- words
@@ -128,7 +125,7 @@ keys_lack_space suite (k ∷ l ∷ keys) all = lacks_append 32 (inline_text k) (
 
 -- ---- the words of a line
 
-some_suite : (s : Suite) → 0 < length (suite_name s)
+pub some_suite : (s : Suite) → 0 < length (suite_name s)
 unfolding suite_name
 some_suite Raw80 = omega arith
 some_suite Cm128Tag80 = omega arith

@@ -20,17 +20,18 @@ use Rattle.sg_base.specs.declared.Suite.TheVariants.{Raw80}
 use Rattle.sg_base.specs.Fields.{cut_at, number_at}
 use Rattle.sg_base.specs.Keys.{Master, master_of}
 use Rattle.sg_base.specs.Mkis.{MkiValue, mki_of, IsMki}
-use Rattle.sg_base.specs.Suites.{key_len_of, salt_len_of}
+use Rattle.sg_base.specs.Suites.{is_raw, key_len_of, salt_len_of}
 use Rattle.sg_base.specs.SuiteNames.{suite_at}
 use Rattle.sg_base.proofs.Decimals.{number_takes}
 use Rattle.sg_base.proofs.FourNumbers.{bind_some}
+use Rattle.sg_base.proofs.Cases.{chosen}
 use Rattle.sg_sdes.specs.declared.lines.CryptoLine.{CryptoLine}
 use Rattle.sg_sdes.specs.declared.lines.InlineKey.{InlineKey}
 use Rattle.sg_sdes.specs.declared.parameters.Parameters.{Parameters}
 use Rattle.sg_sdes.specs.CryptoOf.{crypto_parts, crypto_of}
 use Rattle.sg_sdes.specs.CryptoText.{IsInlineKey, IsCryptoLine}
 use Rattle.sg_sdes.specs.Keys.{◌>>=◌, or_fault, alone, with_one, with_both, behind_bar, at_bar, inline_at, keys_from, keys_of, all_differ}
-use Rattle.sg_sdes.specs.KeyTexts.{digits_at, is_raw, crypto_suite_at, base64_at, key_at, lifetime_at, is_mki, mki_at, or_else, ok_of}
+use Rattle.sg_sdes.specs.KeyTexts.{digits_at, crypto_suite_at, base64_at, key_at, lifetime_at, is_mki, mki_at, or_else, ok_of}
 use Rattle.sg_sdes.specs.Parameters.{unsaid, with_window, with_parameter, parameters_from}
 use Rattle.sg_sdes.specs.Words.{words_of, word_at}
 use Rattle.sg_sdes.proofs.DecodedBytes.{decoded_are_bytes}
@@ -46,32 +47,28 @@ or_fault_ok : {A : Type 0} (d : SdesFault) (o : Option A) (x : A) → or_fault d
 or_fault_ok d (Some y) x e = let same : y ≡ x = cc in ap Some same
 or_fault_ok d None x e = absurd cc
 
-found : {A B : Type 0} (d : SdesFault) (o : Option A) (f : A → Result B SdesFault) (y : B) → (or_fault d o >>= f) ≡ Ok y → (x : A) × (o ≡ Some x) × (f x ≡ Ok y)
+pub found : {A B : Type 0} (d : SdesFault) (o : Option A) (f : A → Result B SdesFault) (y : B) → (or_fault d o >>= f) ≡ Ok y → (x : A) × (o ≡ Some x) × (f x ≡ Ok y)
 found d (Some x) f y e = (x, refl, e)
 found d None f y e = absurd cc
 
-done : {A : Type 0} (x y : A) → (let r : Result A SdesFault = Ok x in r ≡ Ok y) → x ≡ y
+pub done : {A : Type 0} (x y : A) → (let r : Result A SdesFault = Ok x in r ≡ Ok y) → x ≡ y
 done x y e = cc
 
-guarded : {A : Type 0} (b : Bool) (r : Result A SdesFault) (d : SdesFault) (y : A) → cond b r (Err d) ≡ Ok y → (b ≡ true) × (r ≡ Ok y)
-guarded true r d y e = (refl, e)
-guarded false r d y e = absurd cc
+pub ok_if : {A : Type 0} (b : Bool) (r : Result A SdesFault) (d : SdesFault) (y : A) → cond b r (Err d) ≡ Ok y → (b ≡ true) × (r ≡ Ok y)
+ok_if true r d y e = (refl, e)
+ok_if false r d y e = absurd cc
 
-allowed : {A : Type 0} (b : Bool) (r : Result A SdesFault) (d : SdesFault) (y : A) → cond b (Err d) r ≡ Ok y → r ≡ Ok y
+pub allowed : {A : Type 0} (b : Bool) (r : Result A SdesFault) (d : SdesFault) (y : A) → cond b (Err d) r ≡ Ok y → r ≡ Ok y
 allowed true r d y e = absurd cc
 allowed false r d y e = e
 
-some_if : {A : Type 0} (b : Bool) (x y : A) → cond b (Some x) None ≡ Some y → (b ≡ true) × (x ≡ y)
+pub some_if : {A : Type 0} (b : Bool) (x y : A) → cond b (Some x) None ≡ Some y → (b ≡ true) × (x ≡ y)
 some_if true x y e = (refl, cc)
 some_if false x y e = absurd cc
 
-some_unless : {A : Type 0} (b : Bool) (x y : A) → cond b None (Some x) ≡ Some y → (b ≡ false) × (x ≡ y)
+pub some_unless : {A : Type 0} (b : Bool) (x y : A) → cond b None (Some x) ≡ Some y → (b ≡ false) × (x ≡ y)
 some_unless true x y e = absurd cc
 some_unless false x y e = (refl, cc)
-
-chosen : {A : Type 0} (b : Bool) (x y z : A) → cond b x y ≡ z → ((b ≡ true) × (x ≡ z)) ⊎ ((b ≡ false) × (y ≡ z))
-chosen true x y z e = inl (refl, e)
-chosen false x y z e = inr (refl, e)
 
 -- ---- numbers and suites
 
@@ -132,7 +129,7 @@ key_is suite t k e =
 power_fits : (n : ℕ) → n ≤ 48 → (1 ≤ 2 ^ n) × (2 ^ n ≤ 2 ^ 48)
 power_fits n le = (let p = pow_pos n in omega (arith, p), pow_mono {i = n} {j = 48} le)
 
-mapped : (o : Option ℕ) (n : ℕ) → option_map (λ x. 2 ^ x) o ≡ Some n → (x : ℕ) × (o ≡ Some x) × (2 ^ x ≡ n)
+pub mapped : (o : Option ℕ) (n : ℕ) → option_map (λ x. 2 ^ x) o ≡ Some n → (x : ℕ) × (o ≡ Some x) × (2 ^ x ≡ n)
 mapped None n e = absurd cc
 mapped (Some x) n e = (x, refl, cc)
 
@@ -208,7 +205,7 @@ at_bar_is suite t (Some p) k e = behind_is suite p.0 p.1 (cut_at 124 p.1) k e
 inline_is : (suite : Suite) (t : List ℕ) (k : InlineKey) → inline_at suite t ≡ Ok k → IsInlineKey suite k
 unfolding inline_at
 inline_is suite t k e =
-    let g = guarded (starts_with nat_eq t (codes "inline:")) _ Key k e in
+    let g = ok_if (starts_with nat_eq t (codes "inline:")) _ Key k e in
     at_bar_is suite (drop 7 t) (cut_at 124 (drop 7 t)) k g.1
 
 -- ---- the keys
@@ -298,13 +295,13 @@ keys_of_are suite t ks e =
     let some = some_parts t in
     (p.0, omega (arith, p.2, some), omega (arith, p.1))
 
-parts_valid : (tag suite keys : List ℕ) (said : List (List ℕ)) (l : CryptoLine) → crypto_parts tag suite keys said ≡ Ok l → IsCryptoLine l
+pub parts_valid : (tag suite keys : List ℕ) (said : List (List ℕ)) (l : CryptoLine) → crypto_parts tag suite keys said ≡ Ok l → IsCryptoLine l
 unfolding crypto_parts
 parts_valid tag suite keys said l e =
     let n = found Tag (digits_at tag) _ l e in
     let s = found NoSuite (crypto_suite_at suite) _ l n.2 in
     let k = bind_ok (keys_of s.0 keys) _ l s.2 in
-    let g = guarded (all_differ k.0) _ NoMki l k.2 in
+    let g = ok_if (all_differ k.0) _ NoMki l k.2 in
     let p = found Parameter (parameters_from unsaid said) _ l g.1 in
     let is = keys_of_are s.0 keys k.0 k.1 in
     let made : CryptoLine = record { tag = n.0; suite = s.0; keys = k.0; window = p.0.window; plain_rtp = p.0.plain_rtp; plain_rtcp = p.0.plain_rtcp } in

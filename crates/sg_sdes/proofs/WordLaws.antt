@@ -1,18 +1,13 @@
 -- Words with spaces between them, one after the other.
 use Rattle.std.proofs.Common.{◌≡◌, ℕ, ◌<◌, Bool, true, false, eqb, List, [], ◌∷◌, ◌++◌, length, Option, Some, None, refl, sym, ap, subst, ◌∙◌, arith, length-append, Bor, ◌+◌, drop}
-use Rattle.std.specs.List.{All}
 use Rattle.std.proofs.lemmas.Bool.{eqb-true}
-use Rattle.std.proofs.lemmas.List.Elements.{All-from_recursion}
 use Rattle.std.proofs.lemmas.List.Splits.{slice_split_none, slice_split_at}
 use Rattle.sg_base.specs.Fields.{Lacks, cut_at}
-use Rattle.sg_base.proofs.Cuts.{cut_takes, cut_lacks}
+use Rattle.sg_base.proofs.Cuts.{cut_takes, cut_lacks, lacks_all}
 use Rattle.sg_sdes.specs.declared.parameters.Parameters.{Parameters}
 use Rattle.sg_sdes.specs.Parameters.{with_parameter, parameters_from}
 use Rattle.sg_sdes.specs.CryptoOf.{crypto_by, crypto_parts, crypto_of}
 use Rattle.sg_sdes.specs.Words.{word_at, single_spaced, words_of, without_spaces}
-
-lacks_all : (t : List ℕ) → Lacks 32 t → All (λ x. eqb x 32 ≡ false) t
-lacks_all t h = All-from_recursion (λ x. eqb x 32 ≡ false) t h
 
 -- a text without spaces
 pub single_lacks : (t : List ℕ) → Lacks 32 t → single_spaced t ≡ t
@@ -37,11 +32,11 @@ single_word (x ∷ xs) r lacks = rw lacks.0 (ap (λ (l : List ℕ). x ∷ l) (si
 
 pub one_word : (t : List ℕ) → Lacks 32 t → words_of t ≡ t ∷ []
 unfolding words_of
-one_word t lacks = rw (single_lacks t lacks) (slice_split_none (λ x. eqb x 32) t (lacks_all t lacks))
+one_word t lacks = rw (single_lacks t lacks) (slice_split_none (λ x. eqb x 32) t (lacks_all 32 t lacks))
 
 pub word_and_rest : (w r : List ℕ) → Lacks 32 w → words_of (w ++ 32 ∷ r) ≡ w ∷ words_of (without_spaces r)
 unfolding words_of
-word_and_rest w r lacks = rw (single_word w r lacks) (slice_split_at (λ x. eqb x 32) w 32 (single_spaced (without_spaces r)) (lacks_all w lacks) refl)
+word_and_rest w r lacks = rw (single_word w r lacks) (slice_split_at (λ x. eqb x 32) w 32 (single_spaced (without_spaces r)) (lacks_all 32 w lacks) refl)
 
 -- ---- where a text isn't cut
 

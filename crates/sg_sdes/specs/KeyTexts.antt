@@ -1,25 +1,20 @@
 -- The texts of numbers, suites, keys, lifetimes and MKIs (RFC 4568, sections 4.1, 6.1, 6.2 and 9.2).
-use Rattle.std.specs.Prelude.{ℕ, ◌+◌, ◌-◌, ◌^◌, List, length, drop, Bool, true, false, Option, Some, None, option_map, Result, Ok, Err, nat_le, nat_lt, nat_eq, ◌==◌, ◌&&◌, if◌then◌else◌, codes}
+use Rattle.std.specs.Prelude.{ℕ, ◌+◌, ◌-◌, ◌^◌, List, length, drop, Bool, Option, Some, None, option_map, Result, Ok, Err, nat_le, nat_lt, nat_eq, ◌==◌, ◌&&◌, if◌then◌else◌, codes}
 use Rattle.std.specs.List.{list_all, starts_with}
 use Rattle.std.specs.Char.{is_ascii_digit}
 use Rattle.std.specs.Str.Parse.{digits_value}
 use Rattle.base64.specs.GeneralPurpose.{decode_of}
 use Rattle.base64.specs.Engines.{standard, standard_no_pad}
 use Rattle.sg_base.specs.declared.Suite.{Suite}
-use Rattle.sg_base.specs.declared.Suite.TheVariants.{Raw80}
 use Rattle.sg_base.specs.Fields.{◌>>=◌, number_at, cut_at}
 use Rattle.sg_base.specs.Keys.{Master, master_of}
 use Rattle.sg_base.specs.Mkis.{MkiValue, mki_of}
-use Rattle.sg_base.specs.Suites.{key_len_of, salt_len_of}
+use Rattle.sg_base.specs.Suites.{is_raw, key_len_of, salt_len_of}
 use Rattle.sg_base.specs.SuiteNames.{suite_at}
 
--- one to nine digits, of which zeros may stand in front
+-- one to nine digits, of which the first may be zeros
 unfoldable pub digits_at : List ℕ → Option ℕ
 digits_at text = if nat_le 1 (length text) && nat_le (length text) 9 && list_all is_ascii_digit text then Some (digits_value 10 text) else None
-
-abbrev pub is_raw : Suite → Bool
-is_raw Raw80 = true
-is_raw other = false
 
 -- the suites of crypto lines: all but the raw form
 unfoldable pub crypto_suite_at : List ℕ → Option Suite

@@ -6,9 +6,8 @@ ghost use Rattle.sg_base.specs.Suites.{key_len_of, salt_len_of};
 ghost use Rattle.sg_sdes.specs.Answers.{IsUnread, answer_by, chosen_of, fresh_key, fresh_line, matched, offered_by};
 ghost use Rattle.sg_sdes.specs.CryptoText.{IsCryptoLine};
 
-use crate::keys::LIFETIME_MOST;
 use crate::{CryptoLine, InlineKey, InlineKeys, read_crypto};
-use sg_base::{MasterKey, Octets, SdesFault, Suite};
+use sg_base::{MasterKey, Octets, RTP_LIFE, SdesFault, Suite};
 
 /// The first value that is a crypto line; NoLine exactly where there is none.
 pub fn choose(values: &[Octets]) -> Result<CryptoLine, SdesFault>
@@ -31,7 +30,7 @@ fn fresh_key(suite: Suite, octets: &[u8]) -> InlineKey
     let key = MasterKey::new(suite, octets).unwrap();
     InlineKey {
         key,
-        lifetime: LIFETIME_MOST,
+        lifetime: RTP_LIFE,
         mki: None,
     }
 }
@@ -102,7 +101,7 @@ pub fn match_answer(
     if own.suite.name() != peer.suite.name() {
         return Err(SdesFault::Suite);
     }
-    Ok((own.again(), peer))
+    Ok((own.clone(), peer))
 }
 
 fn with_tag(offered: &[CryptoLine], tag: u32) -> Option<&CryptoLine>

@@ -24,10 +24,19 @@ impl Model for InlineKeys {
 impl InlineKeys {
     ghost use Rattle.std.specs.Prelude.{◌≡◌, ◌≤◌, ◌∷◌, [], length};
 
-    pub(crate) fn of(items: ArrayVec<InlineKey, 8>) -> InlineKeys
+    /// The list's keys.
+    pub fn of(items: ArrayVec<InlineKey, 8>) -> InlineKeys
         ensures { result ≡ items.items }
     {
         InlineKeys { items }
+    }
+
+    /// The keys as a list.
+    pub fn into_list(self) -> ArrayVec<InlineKey, 8>
+        ensures { result.items ≡ self }
+    {
+        let InlineKeys { items } = self;
+        items
     }
 
     /// One key.
@@ -47,23 +56,23 @@ impl InlineKeys {
         self.items.as_slice()
     }
 
-    /// The same keys again, without memory.
-    pub fn again(&self) -> InlineKeys
+    /// The same keys; it doesn't allocate.
+    pub fn clone(&self) -> InlineKeys
         ensures { result ≡ self.now }
     {
         InlineKeys {
-            items: all_again(self.items.as_slice()),
+            items: clone_all(self.items.as_slice()),
         }
     }
 }
 
-fn all_again(keys: &[InlineKey]) -> ArrayVec<InlineKey, 8>
+fn clone_all(keys: &[InlineKey]) -> ArrayVec<InlineKey, 8>
     requires { length keys.now ≤ 8 }
     ensures { result.items ≡ keys.now }
 {
     let mut items = ArrayVec::new();
     for key in keys {
-        items.push(key.again());
+        items.push(key.clone());
     }
     items
 }

@@ -3,10 +3,10 @@
 ghost use Rattle.std.specs.Prelude.{◌≡◌, ◌≤◌, ◌<◌, ◌^◌, length, take, option_map, IfSome};
 ghost use Rattle.std.specs.List.{list_all};
 ghost use Rattle.std.specs.Char.{is_ascii_digit};
-ghost use Rattle.sg_sdes.specs.KeyTexts.{base64_at, crypto_suite_at, digits_at, is_raw, key_at, lifetime_at, mki_at};
+ghost use Rattle.sg_sdes.specs.KeyTexts.{base64_at, crypto_suite_at, digits_at, key_at, lifetime_at, mki_at};
 
 use base64::engine::general_purpose::{STANDARD, STANDARD_NO_PAD};
-use sg_base::{MasterKey, Mki, Suite, cut, read_number, read_suite};
+use sg_base::{MKI_MOST, MasterKey, Mki, RTP_LIFE, Suite, cut, read_number, read_suite};
 use std::str;
 
 /// The most digits of a tag and of a window.
@@ -18,7 +18,7 @@ fn are_digits(text: &[u8]) -> bool
     text.iter().all(|digit| digit.is_ascii_digit())
 }
 
-/// A number of one to nine digits, of which zeros may stand in front.
+/// A number of one to nine digits, of which the first may be zeros.
 #[tactic(auto, unfolding(crate::specs::KeyTexts::digits_at))]
 pub(crate) fn read_digits(text: &[u8]) -> Option<u32>
     ensures { result ≡ digits_at text.now }
@@ -32,19 +32,13 @@ pub(crate) fn read_digits(text: &[u8]) -> Option<u32>
     digits.parse::<u32>().ok()
 }
 
-fn is_raw(suite: Suite) -> bool
-    ensures { result ≡ is_raw suite }
-{
-    matches!(suite, Suite::Raw80)
-}
-
 /// The suite of that name; the raw form has no crypto lines.
 #[tactic(auto, unfolding(crate::specs::KeyTexts::crypto_suite_at))]
 pub(crate) fn read_crypto_suite(text: &[u8]) -> Option<Suite>
     ensures { result ≡ crypto_suite_at text.now }
 {
     let suite = read_suite(text)?;
-    if is_raw(suite) {
+    if suite.is_raw() {
         return None;
     }
     Some(suite)
@@ -86,7 +80,7 @@ pub(crate) fn read_lifetime(text: &[u8]) -> Option<u64>
         let exponent = read_number(48, exponent)?;
         return Some(1 << exponent);
     }
-    let lifetime = read_number(1 << 48, text)?;
+    let lifetime = read_number(RTP_LIFE as u128, text)?;
     if lifetime == 0 {
         return None;
     }
@@ -100,6 +94,6 @@ pub(crate) fn read_mki(text: &[u8]) -> Option<Mki>
 {
     let (value, length) = cut(b':', text)?;
     let value = read_number(u128::MAX, value)?;
-    let length = read_number(128, length)? as u8;
+    let length = read_number(MKI_MOST as u128, length)? as u8;
     Mki::new(value, length)
 }

@@ -7,10 +7,7 @@ ghost use Rattle.sg_sdes.specs.Keys.{alone, inline_at, keys_of, with_both, with_
 use crate::key_texts::{read_key, read_lifetime, read_mki};
 use crate::{InlineKey, InlineKeys};
 use arrayvec::ArrayVec;
-use sg_base::{SdesFault, Suite, cut};
-
-/// The lifetime of a key that states none, and the longest that one can state (RFC 3711, 9.2).
-pub(crate) const LIFETIME_MOST: u64 = 281_474_976_710_656;
+use sg_base::{RTP_LIFE, SdesFault, Suite, cut};
 
 fn alone(suite: Suite, text: &[u8]) -> Result<InlineKey, SdesFault>
     ensures { result ≡ alone suite text.now }
@@ -18,7 +15,7 @@ fn alone(suite: Suite, text: &[u8]) -> Result<InlineKey, SdesFault>
     let key = read_key(suite, text).ok_or(SdesFault::Key)?;
     Ok(InlineKey {
         key,
-        lifetime: LIFETIME_MOST,
+        lifetime: RTP_LIFE,
         mki: None,
     })
 }
@@ -31,7 +28,7 @@ fn with_one(suite: Suite, text: &[u8], part: &[u8]) -> Result<InlineKey, SdesFau
         let mki = read_mki(part).ok_or(SdesFault::MkiValue)?;
         return Ok(InlineKey {
             key,
-            lifetime: LIFETIME_MOST,
+            lifetime: RTP_LIFE,
             mki: Some(mki),
         });
     }

@@ -17,7 +17,7 @@ mod words;
 
 pub use answers::{answer_line, choose, match_answer, offer_lines};
 pub use inline_keys::InlineKeys;
-pub use laws::crypto_lines_are_read_again;
+pub use laws::{crypto_lines_are_read_again, crypto_lines_follow_the_grammar};
 pub use lines::{CryptoLine, InlineKey};
 pub use printing::print_crypto;
 pub use reading::read_crypto;

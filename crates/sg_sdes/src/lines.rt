@@ -27,12 +27,12 @@ pub struct CryptoLine {
 impl InlineKey {
     ghost use Rattle.std.specs.Prelude.{◌≡◌};
 
-    /// The same key again, without memory.
-    pub fn again(&self) -> InlineKey
+    /// The same key; it doesn't allocate.
+    pub fn clone(&self) -> InlineKey
         ensures { result ≡ self.now }
     {
         InlineKey {
-            key: self.key.again(),
+            key: self.key.clone(),
             lifetime: self.lifetime,
             mki: self.mki,
         }
@@ -42,14 +42,14 @@ impl InlineKey {
 impl CryptoLine {
     ghost use Rattle.std.specs.Prelude.{◌≡◌};
 
-    /// The same line again, without memory.
-    pub fn again(&self) -> CryptoLine
+    /// The same line; it doesn't allocate.
+    pub fn clone(&self) -> CryptoLine
         ensures { result ≡ self.now }
     {
         CryptoLine {
             tag: self.tag,
             suite: self.suite,
-            keys: self.keys.again(),
+            keys: self.keys.clone(),
             window: self.window,
             plain_rtp: self.plain_rtp,
             plain_rtcp: self.plain_rtcp,

@@ -6,11 +6,10 @@ ghost use Rattle.base64.specs.GeneralPurpose.{encode_of};
 ghost use Rattle.base64.specs.Engines.{standard};
 ghost use Rattle.sg_sdes.specs.CryptoText.{crypto_text, inline_text, keys_text, lifetime_text, mki_text, next_key, next_words, window_words};
 
-use crate::keys::LIFETIME_MOST;
 use crate::{CryptoLine, InlineKey};
 use base64::engine::general_purpose::STANDARD;
 use itoa::Buffer;
-use sg_base::{MasterKey, Mki, NoMemory, Octets};
+use sg_base::{MasterKey, Mki, NoMemory, Octets, RTP_LIFE};
 use std::alloc::Global;
 
 fn push_number(out: &mut Vec<u8>, number: u128) -> Result<(), NoMemory>
@@ -33,7 +32,7 @@ fn push_base64(alloc: Global, out: &mut Vec<u8>, key: &MasterKey) -> Result<(), 
 fn push_lifetime(out: &mut Vec<u8>, lifetime: u64) -> Result<(), NoMemory>
     ensures { OnOk result (out.new.items ≡ out.old.items ++ lifetime_text lifetime) }
 {
-    if lifetime == LIFETIME_MOST {
+    if lifetime == RTP_LIFE {
         return Ok(());
     }
     out.push(b'|')?;

@@ -1,2 +1,4 @@
+//! The tests, by what they try.
+
 mod answers;
 mod reading;

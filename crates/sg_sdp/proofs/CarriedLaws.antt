@@ -3,8 +3,7 @@ use Rattle.std.proofs.Common.{◌≡◌, ℕ, zero, suc, Some, lit≤, ◌≤◌
 use Rattle.std.specs.Prelude.{codes, filter, nat_eq, not, slice_index}
 use Rattle.std.specs.Fmt.{digits}
 use Rattle.std.specs.List.{AllByRecursion, flat_map, starts_with}
-use Rattle.std.proofs.lemmas.Bool.{eqb-true, eqb-false, ne_eqb}
-use Rattle.sg_base.proofs.Cuts.{cases_bool}
+use Rattle.std.proofs.lemmas.Bool.{eqb-true, eqb-false, ne_eqb, cases_Bool}
 use Rattle.sg_base.specs.Fields.{four_at}
 use Rattle.sg_base.proofs.FourNumbers.{four_again}
 use Rattle.sg_sdp.specs.declared.medium.Medium.{Medium}
@@ -143,7 +142,7 @@ line_two_sided l two = two_sided_case (starts_with nat_eq l (codes "c=")) l (cod
 lines_two_sided : (ls : List (List ℕ)) → AllByRecursion TwoSided (carried_lines ls)
 lines_two_sided [] = tt
 lines_two_sided (l ∷ ls) =
-    elim (cases_bool (is_one_sided l)) [
+    elim (cases_Bool (is_one_sided l)) [
       | inl one ↦ rw one (lines_two_sided ls)
       | inr two ↦ rw two (line_two_sided l two, lines_two_sided ls)
     ]

@@ -5,6 +5,7 @@ use Rattle.std.specs.List.{AllByRecursion, flat_map, slice_split}
 use Rattle.std.proofs.lemmas.Bool.{le-ltb, ltb-false}
 use Rattle.std.proofs.lemmas.List.{length-append, length-map}
 use Rattle.sg_base.specs.declared.SdpFault.TheVariants.{TooLong}
+use Rattle.sg_base.proofs.Cases.{chosen}
 use Rattle.sg_sdp.specs.declared.faults.ReadSdpFault.{ReadSdpFault}
 use Rattle.sg_sdp.specs.declared.medium.Medium.{Medium}
 use Rattle.sg_sdp.specs.declared.sdp.Sdp.{Sdp}
@@ -12,7 +13,7 @@ use Rattle.sg_sdp.specs.Addresses.{addressed, first_address, with_address}
 use Rattle.sg_sdp.specs.Descriptions.{HasFront, IsAddressed, IsMedium, IsSdp, IsShort, IsWithinLimits, Spells, all_lines, medium_lines, spelling}
 use Rattle.sg_sdp.specs.Faults.{Fault}
 use Rattle.sg_sdp.specs.Reading.{Gives, description_of, description_within, lines_of}
-use Rattle.sg_sdp.proofs.Cases.{bind_ok, chosen, err_ok, ok_is}
+use Rattle.sg_sdp.proofs.Cases.{bind_ok, err_ok, ok_is}
 use Rattle.sg_sdp.proofs.Fronts.{front_takes}
 use Rattle.sg_sdp.proofs.Prints.{spells_again}
 use Rattle.sg_sdp.proofs.TextAgain.{bare, bare_medium, lines_again}

@@ -8,6 +8,7 @@ use Rattle.std.proofs.lemmas.Bool.{ne_eqb}
 use Rattle.std.proofs.lemmas.List.{length-append}
 use Rattle.sg_base.specs.declared.SdpFault.{SdpFault}
 use Rattle.sg_base.specs.declared.SdpFault.TheVariants.{Order, Form, TooLong, TooManyMedia, Address}
+use Rattle.sg_base.proofs.Cases.{chosen}
 use Rattle.sg_sdp.specs.declared.faults.ReadSdpFault.{ReadSdpFault}
 use Rattle.sg_sdp.specs.declared.faults.ReadSdpFault.TheVariants as errors
 use Rattle.sg_sdp.specs.declared.medium.Medium.{Medium}
@@ -18,7 +19,7 @@ use Rattle.sg_sdp.specs.LineForm.{HeadParts, connection_of, has_form, head_of, i
 use Rattle.sg_sdp.specs.Parts.{with_last_line, with_medium}
 use Rattle.sg_sdp.specs.Reading.{◌>>=◌, Gives, at_line, description_of, description_within, end_of, form_of, lines_of, none_yet, opened, placed, some_head, step, steps}
 use Rattle.sg_sdp.proofs.CarriedLaws.{letter_differs}
-use Rattle.sg_sdp.proofs.Cases.{bind_ok, chosen, err_ok, guard_false}
+use Rattle.sg_sdp.proofs.Cases.{bind_ok, err_ok, guard_false}
 use Rattle.sg_sdp.proofs.TextTakes.{HeadIs, form_takes, length-with_line_at}
 
 -- ---- one line

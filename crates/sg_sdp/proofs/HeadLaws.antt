@@ -2,15 +2,16 @@
 use Rattle.std.proofs.Common.{◌≡◌, ℕ, ◌<◌, ◌≤◌, true, false, eqb, List, [], ◌∷◌, ◌++◌, length, Some, refl, subst, arith, inl, lit<}
 use Rattle.std.specs.Prelude.{◌&&◌, not, decimal}
 use Rattle.std.specs.List.{list_all}
-use Rattle.std.proofs.lemmas.Bool.{ne_eqb}
+use Rattle.std.proofs.lemmas.Bool.{ne_eqb, and_parts, not-true}
 use Rattle.sg_base.specs.Fields.{Lacks, cut_at, number_at}
 use Rattle.sg_base.proofs.Cuts.{cut_again, cut_takes}
 use Rattle.sg_base.proofs.Decimals.{number_again, number_takes}
 use Rattle.sg_base.proofs.FourNumbers.{decimal_lacks}
+use Rattle.sg_base.proofs.Cases.{and_then_some, guarded}
 use Rattle.sg_sdp.specs.declared.medium.Medium.{Medium}
 use Rattle.sg_sdp.specs.Descriptions.{IsMedium, medium_line}
 use Rattle.sg_sdp.specs.LineForm.{HeadParts, has_form, head_of, is_inner, is_printing, is_word}
-use Rattle.sg_sdp.proofs.Cases.{above_zero, and_both, and_then_some, guarded, not_is}
+use Rattle.sg_sdp.proofs.Cases.{above_zero}
 
 abbrev pub head_text : HeadParts → List ℕ
 head_text h = h.word ++ 32 ∷ (decimal h.port ++ 32 ∷ (h.proto ++ 32 ∷ h.formats))
@@ -30,12 +31,12 @@ above_space c e = let low : 33 ≤ c = printing_low c e in ne_eqb c 32 (λ h. om
 printing_lacks : (t : List ℕ) → list_all is_printing t ≡ true → Lacks 32 t
 printing_lacks [] e = tt
 printing_lacks (c ∷ t) e =
-    let p = and_both (is_printing c) (list_all is_printing t) e in
+    let p = and_parts (is_printing c) (list_all is_printing t) e in
     (above_space c p.0, printing_lacks t p.1)
 
 word_lacks : (t : List ℕ) → is_word t ≡ true → Lacks 32 t
 unfolding is_word
-word_lacks t e = printing_lacks t (and_both (not (eqb (length t) 0)) (list_all is_printing t) e).1
+word_lacks t e = printing_lacks t (and_parts (not (eqb (length t) 0)) (list_all is_printing t) e).1
 
 -- what is spelled so is read
 pub head_again : (h : HeadParts) → FitsHead h → head_of (head_text h) ≡ Some h
@@ -64,10 +65,10 @@ head_takes t h e =
     let r = and_then_some (cut_at 32 q.0.1) _ h q.2 in
     let n = and_then_some (number_at 65535 q.0.0) _ h r.2 in
     let g = guarded (is_word p.0.0 && is_word r.0.0 && not (eqb (length r.0.1) 0)) (record { word = p.0.0; port = n.0; proto = r.0.0; formats = r.0.1 }) h n.2 in
-    let b = and_both (is_word p.0.0 && is_word r.0.0) (not (eqb (length r.0.1) 0)) g.0 in
-    let w = and_both (is_word p.0.0) (is_word r.0.0) b.0 in
+    let b = and_parts (is_word p.0.0 && is_word r.0.0) (not (eqb (length r.0.1) 0)) g.0 in
+    let w = and_parts (is_word p.0.0) (is_word r.0.0) b.0 in
     let number = number_takes 65535 q.0.0 n.0 n.1 in
-    let some : 0 < length r.0.1 = above_zero (length r.0.1) (not_is (eqb (length r.0.1) 0) b.1) in
+    let some : 0 < length r.0.1 = above_zero (length r.0.1) (not-true (eqb (length r.0.1) 0) b.1) in
     subst (λ (x : HeadParts). (t ≡ head_text x) × FitsHead x) g.1 (
       same_text t p.0.0 p.0.1 q.0.0 q.0.1 r.0.0 r.0.1 (decimal n.0) (cut_takes 32 t p.0.0 p.0.1 p.1) (cut_takes 32 p.0.1 q.0.0 q.0.1 q.1) (cut_takes 32 q.0.1 r.0.0 r.0.1 r.1) number.0,
       record { word = w.0; port = number.1; proto = w.1; formats = some },
@@ -78,12 +79,12 @@ head_takes t h e =
 -- what stands behind a space of a line
 pub inner_end : (x y : List ℕ) → list_all is_inner (x ++ 32 ∷ y) ≡ true → list_all is_inner y ≡ true
 inner_end [] y e = e
-inner_end (c ∷ x) y e = inner_end x y (and_both (is_inner c) (list_all is_inner (x ++ 32 ∷ y)) e).1
+inner_end (c ∷ x) y e = inner_end x y (and_parts (is_inner c) (list_all is_inner (x ++ 32 ∷ y)) e).1
 
 inner_join : (x y : List ℕ) → list_all is_inner x ≡ true → list_all is_inner y ≡ true → list_all is_inner (x ++ 32 ∷ y) ≡ true
 inner_join [] y p q = q
 inner_join (c ∷ x) y p q =
-    let h = and_both (is_inner c) (list_all is_inner x) p in
+    let h = and_parts (is_inner c) (list_all is_inner x) p in
     rw (h.0, inner_join x y h.1 q) refl
 
 printing_inner : (c : ℕ) → is_printing c ≡ true → is_inner c ≡ true
@@ -94,12 +95,12 @@ printing_inner c e =
 printing_all_inner : (t : List ℕ) → list_all is_printing t ≡ true → list_all is_inner t ≡ true
 printing_all_inner [] e = refl
 printing_all_inner (c ∷ t) e =
-    let p = and_both (is_printing c) (list_all is_printing t) e in
+    let p = and_parts (is_printing c) (list_all is_printing t) e in
     rw (printing_inner c p.0, printing_all_inner t p.1) refl
 
 word_inner : (t : List ℕ) → is_word t ≡ true → list_all is_inner t ≡ true
 unfolding is_word
-word_inner t e = printing_all_inner t (and_both (not (eqb (length t) 0)) (list_all is_printing t) e).1
+word_inner t e = printing_all_inner t (and_parts (not (eqb (length t) 0)) (list_all is_printing t) e).1
 
 lacks_inner : (t : List ℕ) → Lacks 0 t → Lacks 10 t → Lacks 13 t → list_all is_inner t ≡ true
 lacks_inner [] a b c = refl

@@ -1,13 +1,13 @@
-pub mod Cases
-pub mod Fronts
-pub mod HeadLaws
-pub mod MediaLoops
-pub mod PartLemmas
-pub mod Prints
-pub mod Steps
-pub mod TextTakes
-pub mod TextAgain
-pub mod Described
-pub mod AddedLaws
-pub mod CarriedLaws
-pub mod FaultLaws
+mod AddedLaws
+mod CarriedLaws
+mod Cases
+mod Described
+mod FaultLaws
+mod Fronts
+mod HeadLaws
+mod MediaLoops
+mod PartLemmas
+mod Prints
+mod Steps
+mod TextAgain
+mod TextTakes

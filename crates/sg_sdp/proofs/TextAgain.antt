@@ -2,14 +2,14 @@
 use Rattle.std.proofs.Common.{◌≡◌, ℕ, zero, suc, ◌+◌, ◌-◌, ◌<◌, ◌≤◌, Bool, true, false, eqb, leb, List, [], ◌∷◌, ◌++◌, length, take, drop, map, Some, None, Result, Ok, Err, refl, sym, ap, subst, ◌∙◌, arith, inl, inr, append_assoc}
 use Rattle.std.specs.Prelude.{◌&&◌, not, is_none, nat_le, slice_index}
 use Rattle.std.specs.List.{list_all, flat_map, slice_split, AllByRecursion}
-use Rattle.std.proofs.lemmas.Bool.{eqb-true, eqb-false, eq-eqb, ne_eqb, le-ltb, leb-true}
+use Rattle.std.proofs.lemmas.Bool.{eqb-true, eqb-false, eq-eqb, ne_eqb, le-ltb, leb-true, and_parts, not-true}
 use Rattle.std.proofs.lemmas.List.{length-append, append-nil, length-map, take_at}
 use Rattle.std.proofs.Math.Seq.{get_or-append_seam}
 use Rattle.std.proofs.lemmas.List.Elements.{All-from_recursion}
 use Rattle.std.proofs.lemmas.List.Splits.{slice_split_at}
 use Rattle.std.proofs.lemmas.Bool.Decides.{nat_tests}
 use Rattle.sg_base.specs.Fields.{Lacks}
-use Rattle.sg_base.proofs.FourNumbers.{lacks_append}
+use Rattle.sg_base.proofs.Cuts.{lacks_append}
 use Rattle.sg_sdp.specs.declared.medium.Medium.{Medium}
 use Rattle.sg_sdp.specs.declared.sdp.Sdp.{Sdp}
 use Rattle.sg_sdp.specs.Descriptions.{IsKept, IsMedium, IsSdp, IsShort, Spells, all_lines, medium_line, medium_lines}
@@ -17,7 +17,7 @@ use Rattle.sg_sdp.specs.LineForm.{HeadParts, connection_of, has_form, head_of, i
 use Rattle.sg_sdp.specs.Parts.{with_last_line, with_line_at, with_medium}
 use Rattle.sg_sdp.specs.Faults.{Fault, is_in_order, last_part}
 use Rattle.sg_sdp.specs.Reading.{◌>>=◌, at_line, end_of, form_of, lines_of, none_yet, opened, placed, step, steps}
-use Rattle.sg_sdp.proofs.Cases.{all_append, and_both, none_is, not_is}
+use Rattle.sg_sdp.proofs.Cases.{all_append, none_is}
 use Rattle.sg_sdp.proofs.Fronts.{InOrder, front_again, front_three}
 use Rattle.sg_sdp.proofs.HeadLaws.{head_again, head_text, medium_form}
 
@@ -164,11 +164,11 @@ lt_leb n k lt = grind (arith, nat_tests)
 inner_lacks : (t : List ℕ) → list_all is_inner t ≡ true → Lacks 10 t × Lacks 13 t
 inner_lacks [] e = (tt, tt)
 inner_lacks (c ∷ t) e =
-    let p = and_both (is_inner c) (list_all is_inner t) e in
-    let q = and_both (not (eqb c 0) && not (eqb c 10)) (not (eqb c 13)) p.0 in
-    let r = and_both (not (eqb c 0)) (not (eqb c 10)) q.0 in
+    let p = and_parts (is_inner c) (list_all is_inner t) e in
+    let q = and_parts (not (eqb c 0) && not (eqb c 10)) (not (eqb c 13)) p.0 in
+    let r = and_parts (not (eqb c 0)) (not (eqb c 10)) q.0 in
     let more = inner_lacks t p.1 in
-    ((not_is (eqb c 10) r.1, more.0), (not_is (eqb c 13) q.1, more.1))
+    ((not-true (eqb c 10) r.1, more.0), (not-true (eqb c 13) q.1, more.1))
 
 -- a line of the form ends no line
 form_lacks : (l : List ℕ) → has_form l ≡ true → Lacks 10 l × Lacks 13 l
@@ -176,9 +176,9 @@ unfolding has_form
 form_lacks [] form = absurd cc
 form_lacks (a ∷ []) form = absurd cc
 form_lacks (a ∷ b ∷ rest) form =
-    let p = and_both (nat_le 97 a && nat_le a 122 && (eqb b 61)) (list_all is_inner rest) form in
-    let q = and_both (nat_le 97 a && nat_le a 122) (eqb b 61) p.0 in
-    let low : 97 ≤ a = leb-true 97 a (and_both (nat_le 97 a) (nat_le a 122) q.0).0 in
+    let p = and_parts (nat_le 97 a && nat_le a 122 && (eqb b 61)) (list_all is_inner rest) form in
+    let q = and_parts (nat_le 97 a && nat_le a 122) (eqb b 61) p.0 in
+    let low : 97 ≤ a = leb-true 97 a (and_parts (nat_le 97 a) (nat_le a 122) q.0).0 in
     let equals : b ≡ 61 = eqb-true b 61 q.1 in
     let r = inner_lacks rest p.1 in
     ((ne_eqb a 10 (λ e. omega arith), (ne_eqb b 10 (λ e. omega arith), r.0)), (ne_eqb a 13 (λ e. omega arith), (ne_eqb b 13 (λ e. omega arith), r.1)))

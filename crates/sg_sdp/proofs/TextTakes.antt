@@ -2,12 +2,13 @@
 use Rattle.std.proofs.Common.{◌≡◌, ℕ, zero, suc, ◌+◌, ◌-◌, ◌<◌, ◌≤◌, Bool, true, false, eqb, ltb, leb, List, [], ◌∷◌, ◌++◌, length, take, drop, map, Option, Some, None, Ok, refl, sym, ap, subst, ◌∙◌, arith, inl, inr, append_assoc}
 use Rattle.std.specs.Prelude.{◌&&◌, ◌⊎◌, not, is_none, nat_le, codes, decimal, slice_index}
 use Rattle.std.specs.List.{list_all, flat_map, slice_split, join_with_byte, AllByRecursion}
-use Rattle.std.proofs.lemmas.Bool.{cases_eq, cases_lt, eqb-true, eqb-false, eq-eqb, ne_eqb, ltb-false, leb-false}
+use Rattle.std.proofs.lemmas.Bool.{cases_eq, cases_lt, eqb-true, eqb-false, eq-eqb, ne_eqb, ltb-false, leb-false, and_parts, not-false}
 use Rattle.std.proofs.lemmas.List.{length-append, append-nil, length-map, length-take, nil_from_length}
 use Rattle.std.proofs.lemmas.List.Splits.{length-slice_split, join_with_byte-slice_split}
 use Rattle.std.proofs.lemmas.Grind.{flat_map-append}
 use Rattle.sg_base.specs.declared.SdpFault.{SdpFault}
 use Rattle.sg_base.specs.declared.SdpFault.TheVariants.{Order, Form, TooLong, TooManyMedia, Address}
+use Rattle.sg_base.proofs.Cases.{chosen}
 use Rattle.sg_sdp.specs.declared.medium.Medium.{Medium}
 use Rattle.sg_sdp.specs.declared.sdp.Sdp.{Sdp}
 use Rattle.sg_sdp.specs.Descriptions.{IsKept, IsMedium, IsShort, Spells, all_lines, medium_line, medium_lines}
@@ -15,7 +16,7 @@ use Rattle.sg_sdp.specs.LineForm.{HeadParts, connection_of, has_form, head_of, i
 use Rattle.sg_sdp.specs.Parts.{with_last_line, with_line_at, with_medium}
 use Rattle.sg_sdp.specs.Faults.{Fault, is_in_order, last_part}
 use Rattle.sg_sdp.specs.Reading.{at_line, end_of, form_of, lines_of, none_yet, opened, placed, some_head, step, steps}
-use Rattle.sg_sdp.proofs.Cases.{all_append, and_both, at_line_ok, bind_ok, chosen, err_ok, guard_false, none_some, not_true, ok_is}
+use Rattle.sg_sdp.proofs.Cases.{all_append, at_line_ok, bind_ok, err_ok, guard_false, none_some, ok_is}
 use Rattle.sg_sdp.proofs.Fronts.{InOrder}
 use Rattle.sg_sdp.proofs.HeadLaws.{FitsHead, head_takes, head_text, inner_end}
 
@@ -94,8 +95,8 @@ unfolding has_form
 begins [] form letter = absurd cc
 begins (a ∷ []) form letter = absurd cc
 begins (a ∷ b ∷ rest) form letter =
-    let p = and_both (nat_le 97 a && nat_le a 122 && (eqb b 61)) (list_all is_inner rest) form in
-    let q = and_both (nat_le 97 a && nat_le a 122) (eqb b 61) p.0 in
+    let p = and_parts (nat_le 97 a && nat_le a 122 && (eqb b 61)) (list_all is_inner rest) form in
+    let q = and_parts (nat_le 97 a && nat_le a 122) (eqb b 61) p.0 in
     let x : a ≡ 109 = eqb-true a 109 letter in
     let y : b ≡ 61 = eqb-true b 61 q.1 in
     rw (x, y) refl
@@ -121,7 +122,7 @@ form_takes most l h e =
           elim (chosen (not (has_form l)) _ _ (Ok h) p.1) [
             | inl q ↦ absurd (err_ok Form h q.1)
             | inr q ↦
-                let form : has_form l ≡ true = not_true (has_form l) q.0 in
+                let form : has_form l ≡ true = not-false (has_form l) q.0 in
                 let line : IsLine most l = record { form = form; short = ltb-false _ _ p.0 } in
                 elim (chosen (is_letter 109 l) _ _ (Ok h) q.1) [
                   | inl r ↦ (line, head_case l (head_of (drop 2 l)) h form r.0 refl r.1)
@@ -248,7 +249,7 @@ end_takes most n rest u e =
             | inr q ↦
                 elim (chosen (leb n 3) _ _ (Ok u) q.1) [
                   | inl r ↦ absurd (err_ok Order u r.1)
-                  | inr r ↦ (eqb-true _ _ (not_true _ q.0), leb-false n 3 r.0)
+                  | inr r ↦ (eqb-true _ _ (not-false _ q.0), leb-false n 3 r.0)
                 ]
           ]
     ]

@@ -68,7 +68,7 @@ parts_fault most parts = option_or (lines_fault most 1 0 (whole_lines parts)) (a
 unfoldable pub fault_of : List ℕ → Option Fault
 fault_of text = if nat_lt 16384 (length text) then Some (0, TooLong) else parts_fault 2048 (slice_split (λ b. b == 10) text)
 
--- a function answers that fault, or a value where there is none, unless memory is wanting
+-- a function answers that fault, or a value where there is none, unless out of memory
 abbrev pub Tells : {X : Type 0} → Result X ReadSdpFault → Option Fault → Type 0
 Tells (Ok x) fault = fault ≡ None
 Tells (Err (errors.Sdp line f)) fault = fault ≡ Some (line, f)

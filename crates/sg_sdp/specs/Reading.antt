@@ -86,7 +86,7 @@ description_of text = if nat_lt 16384 (length text) then Err (0, TooLong) else d
 
 -- ---- what a function returned
 
--- it is what reading gives, unless memory is wanting
+-- it is what reading gives, unless out of memory
 abbrev pub Gives : {X : Type 0} → Result X ReadSdpFault → Result X Fault → Type 0
 Gives (Ok x) read = read ≡ Ok x
 Gives (Err (errors.Sdp line fault)) read = read ≡ Err (line, fault)

@@ -6,8 +6,8 @@ ghost use Rattle.sg_sdp.specs.declared.faults.ReadSdpFault.TheVariants.{NoMemory
 use sg_base::SdpFault;
 use std::alloc::{AllocError, AllocFailed};
 
-/// Why a text isn't read: the first line that isn't one of a description and its first fault, or memory
-/// is wanting. Lines count from 1; line 0 stands for the whole text.
+/// Why a text isn't read: the first line that isn't one of a description and its first fault, or out of
+/// memory. Lines count from 1; line 0 stands for the whole text.
 #[derive(Clone, Copy, Debug, PartialEq, Eq)]
 pub enum ReadSdpFault {
     Sdp { line: u32, fault: SdpFault },

@@ -23,13 +23,28 @@ impl Model for Lines {
 impl Lines {
     ghost use Rattle.std.specs.Prelude.{◌≡◌, ℕ, List, [], ◌∷◌, ◌++◌, OnOk, OnErr};
 
-    /// No lines; no memory is taken.
+    /// No lines; it doesn't allocate.
     pub fn new(alloc: Global) -> Lines
         ensures { result ≡ [] }
     {
         Lines {
             lines: Vec::new(alloc),
         }
+    }
+
+    /// The vector's lines; it doesn't allocate.
+    pub fn from_vec(lines: Vec<Octets>) -> Lines
+        ensures { result ≡ lines.items }
+    {
+        Lines { lines }
+    }
+
+    /// The lines as a vector; it doesn't allocate.
+    pub fn into_vec(self) -> Vec<Octets>
+        ensures { result.items ≡ self }
+    {
+        let Lines { lines } = self;
+        lines
     }
 
     /// The lines as a slice.

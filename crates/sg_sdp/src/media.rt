@@ -28,13 +28,28 @@ impl Media {
     ghost use Rattle.sg_sdp.specs.Parts.{with_line_at};
     ghost use Rattle.sg_sdp.specs.Addresses.{with_address};
 
-    /// No media; no memory is taken.
+    /// No media; it doesn't allocate.
     pub fn new(alloc: Global) -> Media
         ensures { result ≡ [] }
     {
         Media {
             media: Vec::new(alloc),
         }
+    }
+
+    /// The vector's media; it doesn't allocate.
+    pub fn from_vec(media: Vec<Medium>) -> Media
+        ensures { result ≡ media.items }
+    {
+        Media { media }
+    }
+
+    /// The media as a vector; it doesn't allocate.
+    pub fn into_vec(self) -> Vec<Medium>
+        ensures { result.items ≡ self }
+    {
+        let Media { media } = self;
+        media
     }
 
     /// The media as a slice.

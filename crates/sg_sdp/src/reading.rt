@@ -15,16 +15,8 @@ use crate::lines::Lines;
 use crate::media::Media;
 use crate::medium::Medium;
 use crate::sdp::Sdp;
-use sg_base::{NoMemory, Octets, SdpFault};
+use sg_base::{MEDIA_MOST, NoMemory, Octets, SDP_LINE_MOST, SDP_MOST, SdpFault};
 use std::alloc::{AllocError, Global};
-
-// The most octets of a line, its end not counted.
-const LINE_MOST: usize = 2_048;
-
-// The most octets of a text.
-const TEXT_MOST: usize = 16_384;
-
-const MEDIA_MOST: usize = 4;
 
 // The head of a medium at an `m=` line, and nothing at another.
 #[tactic(auto, unfolding(crate::specs::Reading::form_of))]
@@ -32,7 +24,7 @@ fn form(line: &[u8]) -> Result<Option<Head<'_>>, SdpFault>
     ensures value { view_form result ≡ form_of 2048 line.now }
     ensures long { IfOk result (λ _. 2 ≤ length line.now) }
 {
-    if line.len() > LINE_MOST {
+    if line.len() > SDP_LINE_MOST {
         return Err(SdpFault::TooLong);
     }
     if !has_form(line) {
@@ -119,7 +111,7 @@ fn add(alloc: Global, sdp: &mut Sdp, number: u32, line: &[u8]) -> Result<(), Rea
 fn end(number: u32, rest: &[u8]) -> Result<(), SdpFault>
     ensures { result ≡ end_of 2048 number rest.now }
 {
-    if rest.len() > LINE_MOST {
+    if rest.len() > SDP_LINE_MOST {
         return Err(SdpFault::TooLong);
     }
     if !rest.is_empty() {
@@ -182,7 +174,7 @@ fn described(alloc: Global, text: &[u8]) -> Result<Sdp, ReadSdpFault>
 fn limited(alloc: Global, text: &[u8]) -> Result<Sdp, ReadSdpFault>
     ensures { Gives result (description_of text.now) }
 {
-    if text.len() > TEXT_MOST {
+    if text.len() > SDP_MOST {
         return Err(ReadSdpFault::Sdp {
             line: 0,
             fault: SdpFault::TooLong,
@@ -201,7 +193,7 @@ pub fn read(alloc: Global, text: &[u8]) -> Result<Sdp, ReadSdpFault>
     // What is read is a description within the limits, and the text is its lines, each ended by CR LF or LF.
     ensures found { IfOk result (λ s. IsSdp s × IsWithinLimits s text.now × Spells (all_lines s) text.now) }
 
-    // Such a text is read as that description, unless memory is wanting.
+    // Such a text is read as that description, unless out of memory.
     ensures only { (s : Sdp) → IsSdp s → IsWithinLimits s text.now → Spells (all_lines s) text.now → Gives result (Ok s) }
 
     // Every other text is refused, with its first fault and that line's number.

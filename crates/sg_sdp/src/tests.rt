@@ -1,3 +1,5 @@
+//! Descriptions, read, carried and printed.
+
 use crate::{Profile, ReadSdpFault, read};
 use sg_base::SdpFault::{self, Address, Form, Order, TooLong, TooManyMedia};
 use sg_base::{NoMemory, Octets};
@@ -5,7 +7,7 @@ use std::alloc::Global;
 use std::process::Abort;
 use std::test::Fail;
 
-// An offer and its answer, and what each is carried as, written by hand.
+// An offer and its answer, and what each is carried as, put together by the test's author.
 const OFFER: &[u8] = b"v=0\r
 o=alice 2890844526 2890844526 IN IP4 127.0.0.1\r
 s=-\r

@@ -1,12 +1,11 @@
+pub mod CanSeal
+pub mod Fits
 pub mod Inversions
 pub mod Leaves
 pub mod Lists
+pub mod Lives
 pub mod NoneTwice
-pub mod PlainAnswers
-pub mod PlainKeys
-pub mod PlainLists
 pub mod ReadBack
-pub mod Reused
 pub mod SameOctets
 pub mod Taking
 pub mod Texts

@@ -43,7 +43,7 @@ abbrev IsNumber : Kind → ℕ → ℕ → Type 0
 IsNumber Rtp n index = n ≡ index % 65536
 IsNumber Rtcp n index = n ≡ index
 
-length-tag : (n : ℕ) (auth c : List ℕ) → n ≤ 10 → length (take n (hmac_sha1 auth c)) ≡ n
+pub length-tag : (n : ℕ) (auth c : List ℕ) → n ≤ 10 → length (take n (hmac_sha1 auth c)) ≡ n
 length-tag n auth c le = length-take-le n (hmac_sha1 auth c) (let size = length-hmac_sha1 auth c in omega (arith, size, le))
 
 -- the index word of RTCP
@@ -143,7 +143,7 @@ module _ (s : Session) (x : Sealed) (mki : List ℕ) (of_mki : length mki ≡ mk
 life_of : (i : ℕ) → i < 281474976710656 → within_life i ≡ Ok i
 life_of i low = cond-true (ltb i 281474976710656) (Ok i) (Err index_fault.IndexSpent) (lt-ltb _ _ low)
 
-near : (roc window i : ℕ) (o : Option ℕ) → window ≤ 1024 → i < 281474976710656 → IsNear roc i o → is_behind window o i ≡ false → nearest_from roc (i % 65536) o ≡ Ok i
+pub near : (roc window i : ℕ) (o : Option ℕ) → window ≤ 1024 → i < 281474976710656 → IsNear roc i o → is_behind window o i ≡ false → nearest_from roc (i % 65536) o ≡ Ok i
 near roc window i None narrow low is fresh = ap within_life (omega (arith, is)) ∙ life_of i low
 near roc window i (Some h) narrow low is fresh = nearest_reaches h i (let above = leb-false _ _ fresh in omega (arith, above, narrow)) is low
 

@@ -58,11 +58,25 @@ sealing_key_is s (x ∷ y ∷ ks) k e = go (sealing_key_is s (y ∷ ks) k) (is_l
     go rest true e = any_here (λ x. x ≡ k) x (y ∷ ks) (ok_is x k e)
     go rest false e = any_there (λ x. x ≡ k) x (y ∷ ks) (rest e)
 
+sealing_key_live : (s : Session) (ks : List Key) (k : Key) → sealing_key s ks ≡ Ok k → is_live s k ≡ true
+sealing_key_live s [] k e = absurd cc
+sealing_key_live s (x ∷ []) k e = go (is_live s x) refl e
+  where
+    go : (b : Bool) → is_live s x ≡ b → cond b (Ok x) (Err (cause.KeySpent x.number (count_of s x))) ≡ Ok k → is_live s k ≡ true
+    go true is e = subst (λ k. is_live s k ≡ true) (ok_is x k e) is
+    go false is e = absurd cc
+sealing_key_live s (x ∷ y ∷ ks) k e = go (sealing_key_live s (y ∷ ks) k) (is_live s x) refl e
+  where
+    go : (sealing_key s (y ∷ ks) ≡ Ok k → is_live s k ≡ true) → (b : Bool) → is_live s x ≡ b → cond b (Ok x) (sealing_key s (y ∷ ks)) ≡ Ok k → is_live s k ≡ true
+    go rest true is e = subst (λ k. is_live s k ≡ true) (ok_is x k e) is
+    go rest false is e = rest e
+
 pub record IsCheckOf (s : Session) (d : List ℕ) (k : Check) : Type 0 where
   pub head : head_in s d ≡ Ok k.head
   pub mki : same_octets k.key.mki (mki_in s d) ≡ true
   pub new : has_done s.done k.head.ssrc k.index ≡ false
   pub key : Any (λ x. x ≡ k.key) s.keys
+  pub live : is_live s k.key ≡ true
 
 pub checked_is : (s : Session) (d : List ℕ) (k : Check) → checked s d ≡ Ok k → IsCheckOf s d k
 checked_is s d k e =
@@ -73,12 +87,13 @@ checked_is s d k e =
     let g = after_ok_is (place_in s a.0) _ k f.1 in
     let h = after_ok_is (fresh_index s a.0.ssrc g.0) _ k g.2 in
     let same : record { key = c.0; head = a.0; index = h.0 } ≡ k = ok_is _ k h.2 in
-    subst (IsCheckOf s d) same (record { head = a.1; mki = key_with_mki s.keys (mki_in s d) c.0 c.1; new = (fresh_index_is s a.0.ssrc g.0 h.0 h.1).0; key = key_with_is s.keys (mki_in s d) c.0 c.1 })
+    subst (IsCheckOf s d) same (record { head = a.1; mki = key_with_mki s.keys (mki_in s d) c.0 c.1; new = (fresh_index_is s a.0.ssrc g.0 h.0 h.1).0; key = key_with_is s.keys (mki_in s d) c.0 c.1; live = not-false _ f.0 })
 
 -- what a session takes is new in it, and under one of its keys
 pub record IsNewIn (s : Session) (t : Taken) : Type 0 where
   pub new : has_done s.done t.done.ssrc t.done.index ≡ false
   pub key : Any (λ x. x ≡ t.key) s.keys
+  pub live : is_live s t.key ≡ true
   pub number : t.done.key ≡ t.key.number
 
 pub record IsOpened (s : Session) (d : List ℕ) (t : Taken) : Type 0 where
@@ -98,7 +113,7 @@ pub opened_new : (s : Session) (d : List ℕ) (t : Taken) → opens s d ≡ Ok t
 opened_new s d t e =
     let o = opens_is s d t e in
     let k = checked_is s d o.check o.checks in
-    subst (IsNewIn s) o.is (record { new = k.new; key = k.key; number = refl })
+    subst (IsNewIn s) o.is (record { new = k.new; key = k.key; live = k.live; number = refl })
 
 -- what a sealing takes
 pub record IsSealing (s : Session) (p : List ℕ) (t : Taken) : Type 0 where
@@ -147,5 +162,5 @@ seals_is s p t e =
       a.0,
       a.1,
       ap (λ (t : Taken). t.done.ssrc) (sym same),
-      subst (IsSealing s p) same (record { taken = record { new = fresh.0; key = sealing_key_is s s.keys f.0 f.1; number = refl }; packet = refl; index = fresh.1 }),
+      subst (IsSealing s p) same (record { taken = record { new = fresh.0; key = sealing_key_is s s.keys f.0 f.1; live = sealing_key_live s s.keys f.0 f.1; number = refl }; packet = refl; index = fresh.1 }),
     )

@@ -1,8 +1,6 @@
 pub mod Halves
 pub mod OneSession
 pub mod Opening
-pub mod Plain
-pub mod PlainRing
 pub mod Reach
 pub mod Ring
 pub mod Sealed

@@ -1,10 +1,10 @@
 -- One session by itself: what it has done after a list of datagrams or packets.
-use Rattle.std.specs.Prelude.{◌≡◌, ℕ, List, [], ◌∷◌, ◌++◌, Result, Ok, Err}
-use Rattle.std.specs.List.{AllPairs}
+use Rattle.std.specs.Prelude.{◌≡◌, ℕ, ◌≤◌, List, [], ◌∷◌, ◌++◌, Result, Ok, Err}
+use Rattle.std.specs.List.{AllByRecursion, AllPairs}
 use Rattle.sg_base.specs.declared.faults.DropCause.{DropCause}
 use Rattle.sg_session.specs.Opening.{Taken, opens}
 use Rattle.sg_session.specs.Sealing.{seals}
-use Rattle.sg_session.specs.Session.{Done, Session}
+use Rattle.sg_session.specs.Session.{Key, Done, Session, count_of}
 
 -- the session after it has taken something, or as it was
 abbrev pub after : Session → Result Taken DropCause → Session
@@ -29,3 +29,12 @@ pub record IsSameIndex (a b : Done) : Type 0 where
 -- no two entries are of one source and index
 abbrev pub NoneTwiceIn : Session → Type 0
 NoneTwiceIn s = AllPairs (λ a b. IsSameIndex a b → ⊥) s.done
+
+-- the keys have numbers of their own
+abbrev pub HaveOwnNumbers : List Key → Type 0
+HaveOwnNumbers [] = Unit {0}
+HaveOwnNumbers (k ∷ ks) = AllByRecursion (λ l. k.number ≡ l.number → ⊥) ks × HaveOwnNumbers ks
+
+-- no key has served more packets than its life
+abbrev pub IsWithinLives : Session → Type 0
+IsWithinLives s = AllByRecursion (λ k. count_of s k ≤ k.life) s.keys

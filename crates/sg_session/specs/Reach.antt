@@ -1,6 +1,6 @@
 -- Packets that someone sealed, their texts in a session, and which of them are within its reach.
 use Rattle.std.specs.Prelude.{◌≡◌, ℕ, ◌+◌, ◌/◌, ◌%◌, ◌<◌, ◌≤◌, Bool, true, false, List, [], ◌∷◌, ◌++◌, length, map, Option, Some, None, Ok}
-use Rattle.std.specs.List.{All, AllByRecursion}
+use Rattle.std.specs.List.{All, AllByRecursion, Any}
 use Rattle.sg_base.specs.Keys.{Master}
 use Rattle.sg_base.specs.declared.addresses.Kind.{Kind}
 use Rattle.sg_base.specs.declared.addresses.Kind.TheVariants.{Rtp, Rtcp}
@@ -8,7 +8,7 @@ use Rattle.sg_session.specs.Halves.{half_of}
 use Rattle.sg_kdf.specs.SessionKeys.{is_raw}
 use Rattle.sg_session.specs.Opening.{Taken, before_mki, tag_in}
 use Rattle.sg_session.specs.Sealed.{sealed_text}
-use Rattle.sg_session.specs.Session.{Key, Session, indices_of, highest_in, admits, has_room}
+use Rattle.sg_session.specs.Session.{Key, Session, indices_of, highest_in, is_live, admits, has_room}
 use Rattle.sg_replay.specs.Freshness.{freshness}
 use Rattle.sg_replay.specs.declared.seen.Freshness.TheVariants.{New}
 use Rattle.sg_rtp.specs.declared.heads.RtpHead.{RtpHead}
@@ -27,9 +27,12 @@ pub record Sealed : Type 0 where
   pub encrypted : Bool
 
 -- the index has its bits, and the packet's head has the source and, of RTP, the index's lowest 16 bits
+abbrev pub HasHeadAt : Kind → ℕ → ℕ → List ℕ → Type 0
+HasHeadAt Rtp ssrc index p = (index < 281474976710656) × ((h : RtpHead) × (rtp_head p ≡ Ok h) × (h.ssrc ≡ ssrc) × (h.seq ≡ index % 65536))
+HasHeadAt Rtcp ssrc index p = (index < 2147483648) × ((h : RtcpHead) × (rtcp_head p ≡ Ok h) × (h.ssrc ≡ ssrc))
+
 abbrev pub HasHead : Kind → Sealed → Type 0
-HasHead Rtp x = (x.index < 281474976710656) × ((h : RtpHead) × (rtp_head x.packet ≡ Ok h) × (h.ssrc ≡ x.ssrc) × (h.seq ≡ x.index % 65536))
-HasHead Rtcp x = (x.index < 2147483648) × ((h : RtcpHead) × (rtcp_head x.packet ≡ Ok h) × (h.ssrc ≡ x.ssrc))
+HasHead kind x = HasHeadAt kind x.ssrc x.index x.packet
 
 abbrev pub IsSealed : Sealed → Type 0
 IsSealed x = HasHead x.kind x
@@ -75,9 +78,32 @@ pub record IsWithinReach (s : Session) (x : Sealed) : Type 0 where
   pub near : IsNearIn x.kind s x
   pub new : freshness s.window (indices_of s.done x.ssrc) x.index ≡ New
 
+-- what a session has done once it has taken this packet under this key
+abbrev pub taken_under : Key → ℕ → ℕ → List ℕ → Taken
+taken_under k ssrc index p = record { key = k; done = record { ssrc = ssrc; index = index; key = k.number; packet = p } }
+
 -- what a session has done once it has opened x under this key
 abbrev pub taken_of : Key → Sealed → Taken
-taken_of k x = record { key = k; done = record { ssrc = x.ssrc; index = x.index; key = k.number; packet = x.packet } }
+taken_of k x = taken_under k x.ssrc x.index x.packet
+
+-- an index is next where it is one more than the highest of its source, and 0 where nothing of the source is done
+abbrev pub IsNext : ℕ → Option ℕ → Type 0
+IsNext index None = index ≡ 0
+IsNext index (Some h) = index ≡ h + 1
+
+-- an RTP packet is sealed at an index that is near and new; RTCP is counted
+abbrev pub IsFree : Kind → Session → ℕ → ℕ → Type 0
+IsFree Rtp s ssrc index = IsNear s.roc index (highest_in s ssrc) × (freshness s.window (indices_of s.done ssrc) index ≡ New)
+IsFree Rtcp s ssrc index = IsNext index (highest_in s ssrc)
+
+-- A packet can be sealed at this index of this source: its head says so, the source is admitted with a
+-- free place, some key is live, and the index is free.
+pub record CanBeSealed (s : Session) (ssrc index : ℕ) (p : List ℕ) : Type 0 where
+  pub head : HasHeadAt s.name.kind ssrc index p
+  pub admitted : admits s ssrc ≡ true
+  pub room : has_room s ssrc ≡ true
+  pub live : Any (λ k. is_live s k ≡ true) s.keys
+  pub free : IsFree s.name.kind s ssrc index
 
 -- all differ
 abbrev pub AreDistinct : List (List ℕ) → Type 0

@@ -1,5 +1,7 @@
 //! What names a session, and whose a key is.
 
+ghost use Rattle.std.specs.Prelude.{◌≡◌};
+
 use sg_base::Kind;
 
 /// Whether a session opens what the peer has sealed, or seals for the peer.
@@ -7,6 +9,19 @@ use sg_base::Kind;
 pub enum Direction {
     Opening,
     Sealing,
+}
+
+impl Direction {
+    /// The direction of the packets that go the other way.
+    pub fn other(self) -> Direction
+        ensures opening { self ≡ Direction.Opening → result ≡ Direction.Sealing }
+        ensures sealing { self ≡ Direction.Sealing → result ≡ Direction.Opening }
+    {
+        match self {
+            Direction::Opening => Direction::Sealing,
+            Direction::Sealing => Direction::Opening,
+        }
+    }
 }
 
 /// Whose a key is: the number of calls that were made before its call, the medium, the generation and

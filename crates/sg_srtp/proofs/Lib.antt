@@ -1,4 +1,6 @@
 pub mod Alive
+pub mod OpeningLaw
 pub mod Placings
+pub mod SealingLaw
 pub mod Tags
 pub mod Words

@@ -1,5 +1,5 @@
 -- The key that opens a datagram, or the cause why none does.
-use Rattle.std.specs.Prelude.{ℕ, List, Result, Ok, Err}
+use Rattle.std.specs.Prelude.{ℕ, not, List, Result, Ok, Err}
 use Rattle.sg_base.specs.declared.faults.DropCause.{DropCause}
 use Rattle.sg_base.specs.declared.faults.DropCause.TheVariants as cause
 use Rattle.sg_keys.specs.Live.{Live}
@@ -7,6 +7,9 @@ use Rattle.sg_keys.specs.KeySet.{chosen, chosen_seal}
 use Rattle.sg_keys.specs.declared.key_set.OpenKeyFault.{OpenKeyFault}
 use Rattle.sg_keys.specs.declared.key_set.OpenKeyFault.TheVariants.{MkiUnknown, KeySpent}
 use Rattle.sg_keys.specs.declared.key_set.Spent.{Spent}
+use Rattle.sg_session.specs.Opening.{key_with}
+use Rattle.sg_session.specs.Session.{Key, Session, count_of, is_live}
+use Rattle.sg_session.specs.Stages.{after_ok, stop_if}
 
 abbrev pub key_cause : OpenKeyFault → DropCause
 key_cause MkiUnknown = cause.MkiUnknown
@@ -27,3 +30,7 @@ with_spent_cause (Err last) = Err (cause.KeySpent last.number last.count)
 -- the first key that is alive, or the last one's number and count
 abbrev pub chosen_to_seal : List Live → Result Live DropCause
 chosen_to_seal keys = with_spent_cause (chosen_seal keys)
+
+-- the first of a session's keys that has this MKI, where it is live
+abbrev pub usable_in : Session → List Key → List ℕ → Result Key DropCause
+usable_in s ks mki = after_ok (key_with ks mki) (λ k. stop_if (not (is_live s k)) (cause.KeySpent k.number (count_of s k)) (Ok k))

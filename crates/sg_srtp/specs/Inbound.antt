@@ -1,5 +1,5 @@
 -- What the states of opening show and know.
-use Rattle.std.specs.Prelude.{◌≡◌, ℕ, ◌<◌, ◌≤◌, Bool, true, false, List, length, Ok, Some, slice_get}
+use Rattle.std.specs.Prelude.{◌≡◌, ℕ, ◌<◌, ◌≤◌, Bool, true, false, List, length, MatchResult, Result, Ok, Err, Some, slice_get}
 use Rattle.sg_base.specs.declared.addresses.Kind.{Kind}
 use Rattle.sg_base.specs.declared.faults.DropCause.{DropCause}
 use Rattle.sg_base.specs.declared.faults.DropCause.TheVariants.{BadTag}
@@ -19,10 +19,11 @@ pub record Heading : Type 0 where
   pub tag_len : ℕ
   pub head : Head
 
--- with the place of its key
+-- with its key: where it stands among the keys, and its number
 pub record Keying : Type 0 where
   pub headed : Heading
-  pub place : ℕ
+  pub key : ℕ
+  pub number : ℕ
 
 -- with its index
 pub record Placing : Type 0 where
@@ -43,12 +44,17 @@ pub record IsHeaded (d : List ℕ) (kind : Kind) (encrypts : Bool) (m t : ℕ) (
   pub same_tag_len : h.tag_len ≡ t
   pub reads : heading kind encrypts m t d ≡ Ok h.head
 
--- the chosen key stands at the place
+-- the chosen key stands there, and has the number
 pub record IsKeyed (h : Heading) (keys : List Live) (k : Keying) : Type 0 where
   pub same : k.headed ≡ h
   pub key : Live
-  pub at : slice_get keys k.place ≡ Some key
+  pub at : slice_get keys k.key ≡ Some key
+  pub number : key.number ≡ k.number
   pub choice : chosen_for keys (mki_of h.mki_len h.tag_len h.pad) ≡ Ok key
+
+-- the index that was found, or the cause
+abbrev pub IsPlacedAs : Result ℕ DropCause → Result Placing (List ℕ × DropCause) → Type 0
+IsPlacedAs r result = MatchResult result (λ p. r ≡ Ok p.index) (λ e. r ≡ Err e.1)
 
 -- the test of a datagram's tag at its index, under a key
 abbrev pub fits_under : Placing → Live → Bool
@@ -67,10 +73,17 @@ pub record IsUnverified (p : Placing) (key : Live) (e : List ℕ × DropCause) :
 abbrev pub packet_at : Heading → HalfKeys → ℕ → List ℕ
 packet_at h half index = crypted h.head.encrypted half h.head.ssrc index h.head.size (part_of h.kind h.mki_len h.tag_len h.pad)
 
--- the key at the place may serve, and encrypts where that is wanted
-pub record CanServe (keys : List Live) (place : ℕ) (encrypted : Bool) : Type 0 where
+-- the key that stands there has this number: the keys are those that it was chosen among
+pub record IsKeyOf (keys : List Live) (at number : ℕ) : Type 0 where
   pub key : Live
-  pub at : slice_get keys place ≡ Some key
+  pub here : slice_get keys at ≡ Some key
+  pub same : key.number ≡ number
+
+-- and it may serve, and encrypts where that is wanted
+pub record CanServe (keys : List Live) (at number : ℕ) (encrypted : Bool) : Type 0 where
+  pub key : Live
+  pub here : slice_get keys at ≡ Some key
+  pub same : key.number ≡ number
   pub alive : key.count < key.life
   pub cipher : encrypted ≡ true → 0 < length key.half.encrypt
 

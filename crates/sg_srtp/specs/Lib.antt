@@ -4,5 +4,6 @@ pub mod Inbound
 pub mod Outbound
 pub mod Parts
 pub mod Placing
+pub mod Steps
 pub mod Streams
 pub mod StreamValues

@@ -1,5 +1,5 @@
 -- What the states of sealing show and know.
-use Rattle.std.specs.Prelude.{◌≡◌, ℕ, ◌<◌, ◌≤◌, Bool, true, List, ◌++◌, length, Result, Ok, Some, slice_get}
+use Rattle.std.specs.Prelude.{◌≡◌, ℕ, ◌<◌, ◌≤◌, Bool, true, List, ◌++◌, length, MatchResult, Result, Ok, Err, Some, slice_get}
 use Rattle.sg_base.specs.declared.addresses.Kind.{Kind}
 use Rattle.sg_base.specs.declared.addresses.Kind.TheVariants.{Rtp, Rtcp}
 use Rattle.sg_base.specs.declared.faults.DropCause.{DropCause}
@@ -18,10 +18,11 @@ pub record Outgoing : Type 0 where
   pub kind : Kind
   pub head : Head
 
--- with the place of its key and its index
+-- with its key, where it stands and its number, and its index
 pub record Numbering : Type 0 where
   pub headed : Outgoing
-  pub place : ℕ
+  pub key : ℕ
+  pub number : ℕ
   pub index : ℕ
 
 -- the head lies in the packet, and both fit a datagram
@@ -36,26 +37,32 @@ pub record IsOutHeaded (p : List ℕ) (kind : Kind) (encrypts : Bool) (h : Outgo
   pub same_kind : h.kind ≡ kind
   pub reads : heading_out kind encrypts p ≡ Ok h.head
 
--- the chosen key stands at the place, and the index is one of the kind
+-- the chosen key stands there, and has the number
 pub record IsNumbered (h : Outgoing) (keys : List Live) (n : Numbering) : Type 0 where
   pub same : n.headed ≡ h
   pub key : Live
-  pub at : slice_get keys n.place ≡ Some key
+  pub at : slice_get keys n.key ≡ Some key
+  pub number : key.number ≡ n.number
   pub choice : chosen_to_seal keys ≡ Ok key
 
 -- the index, where a key may serve, or the first cause
 abbrev pub numbered : List Live → Result ℕ DropCause → Result ℕ DropCause
 numbered keys r = after_ok (chosen_to_seal keys) (λ k. r)
 
--- the key at the place encrypts where that is wanted
-pub record CanSeal (keys : List Live) (place : ℕ) (encrypted : Bool) : Type 0 where
+-- the index that was taken, or the first cause
+abbrev pub IsNumberedAs : List Live → Result ℕ DropCause → Result Numbering (List ℕ × DropCause) → Type 0
+IsNumberedAs keys r result = MatchResult result (λ n. r ≡ Ok n.index) (λ e. numbered keys r ≡ Err e.1)
+
+-- the key that stands there has this number, and encrypts where that is wanted
+pub record CanSeal (keys : List Live) (at number : ℕ) (encrypted : Bool) : Type 0 where
   pub key : Live
-  pub at : slice_get keys place ≡ Some key
+  pub here : slice_get keys at ≡ Some key
+  pub same : key.number ≡ number
   pub cipher : encrypted ≡ true → 0 < length key.half.encrypt
 
 -- the packet with its keystream on it, where it is to be encrypted
-abbrev pub masked_at : Outgoing → HalfKeys → ℕ → List ℕ
-masked_at h half index = crypted h.head.encrypted half h.head.ssrc index h.head.size h.pad
+abbrev pub encrypted_at : Outgoing → HalfKeys → ℕ → List ℕ
+encrypted_at h half index = crypted h.head.encrypted half h.head.ssrc index h.head.size h.pad
 
 abbrev pub closed : Kind → HalfKeys → Bool → ℕ → ℕ → List ℕ → List ℕ → List ℕ
 closed Rtp half encrypted tag_len index mki c = tagged_rtp half tag_len index mki c
@@ -63,7 +70,7 @@ closed Rtcp half encrypted tag_len index mki c = tagged_rtcp half mki (c ++ inde
 
 -- the datagram of a packet that has its index
 abbrev pub datagram_at : Numbering → Live → ℕ → List ℕ
-datagram_at n key tag_len = closed n.headed.kind key.half n.headed.head.encrypted tag_len n.index key.mki (masked_at n.headed key.half n.index)
+datagram_at n key tag_len = closed n.headed.kind key.half n.headed.head.encrypted tag_len n.index key.mki (encrypted_at n.headed key.half n.index)
 
 -- the datagram that is sealed
 pub record IsSealedOf (n : Numbering) (key : Live) (tag_len : ℕ) (o : Sealed) : Type 0 where

@@ -1,11 +1,13 @@
 -- What a stream shows.
 use Rattle.std.specs.Prelude.{◌≡◌, ℕ, List, Option}
+use Rattle.sg_base.specs.declared.addresses.Kind.{Kind}
 use Rattle.sg_replay.specs.Freshness.{highest_of}
 use Rattle.sg_replay.specs.Marks.{Marks}
 use Rattle.sg_replay.specs.Seen.{StandsFor}
 
--- the source, the starting rollover, the highest index and the marks of the replay list
+-- the kind, the source, the starting rollover, the highest index and the marks of the replay list
 pub record StreamValue : Type 0 where
+  pub kind : Kind
   pub ssrc : ℕ
   pub roc : ℕ
   pub highest : Option ℕ

@@ -1,10 +1,10 @@
 //! What a packet's head says.
 
-ghost use Rattle.std.specs.Prelude.{◌≡◌, ◌+◌, ◌-◌, ◌<◌, ◌≤◌, ◌^◌, length, take, drop, IfOk, MatchResult, Ok, Err};
+ghost use Rattle.std.specs.Prelude.{◌≡◌, ◌+◌, ◌-◌, ◌<◌, ◌≤◌, ◌^◌, length, take, drop, IfOk};
 ghost use Rattle.sg_session.specs.Opening.{head_cause, of_rtp, of_rtcp};
 ghost use Rattle.sg_rtp.specs.Heads.{rtp_head, rtcp_head};
 ghost use Rattle.sg_srtp.specs.Parts.{heading, heading_out, IsWhole};
-ghost use Rattle.sg_srtp.specs.Heads.{head_of};
+ghost use Rattle.sg_srtp.specs.Heads.{IsReadAs, head_of};
 
 use sg_base::{DropCause, HeadFault, Kind, read_u32};
 use sg_rtp::{read_rtcp, read_rtp};
@@ -32,7 +32,7 @@ fn of_head(fault: HeadFault) -> DropCause
 
 // The head of an RTP packet, of which the rest is encrypted or not.
 fn rtp_head(packet: &[u8], encrypted: bool) -> Result<Head, DropCause>
-    ensures head { MatchResult result (λ h. of_rtp encrypted (rtp_head packet.now) ≡ Ok (head_of h)) (λ e. of_rtp encrypted (rtp_head packet.now) ≡ Err e) }
+    ensures head { IsReadAs result (of_rtp encrypted (rtp_head packet.now)) }
     ensures number { IfOk result (λ h. h.number < 65536) }
     ensures size { IfOk result (λ h. h.size ≤ length packet.now) }
 {
@@ -49,7 +49,7 @@ fn rtp_head(packet: &[u8], encrypted: bool) -> Result<Head, DropCause>
 
 // The head of an RTCP packet with this index, of which the rest is encrypted or not.
 fn rtcp_head(packet: &[u8], number: u32, encrypted: bool) -> Result<Head, DropCause>
-    ensures head { MatchResult result (λ h. of_rtcp number encrypted (rtcp_head packet.now) ≡ Ok (head_of h)) (λ e. of_rtcp number encrypted (rtcp_head packet.now) ≡ Err e) }
+    ensures head { IsReadAs result (of_rtcp number encrypted (rtcp_head packet.now)) }
     ensures number { IfOk result (λ h. h.number ≡ number) }
     ensures size { IfOk result (λ h. h.size ≤ length packet.now) }
 {
@@ -75,22 +75,22 @@ pub(crate) fn head_in(
 ) -> Result<Head, DropCause>
     requires mki { mki_len ≤ 128 }
     requires tag { tag_len ≤ 20 }
-    ensures head { MatchResult result (λ h. heading kind encrypts mki_len tag_len octets.now ≡ Ok (head_of h)) (λ e. heading kind encrypts mki_len tag_len octets.now ≡ Err e) }
+    ensures head { IsReadAs result (heading kind encrypts mki_len tag_len octets.now) }
     ensures whole { IfOk result (λ h. IsWhole kind mki_len tag_len octets.now (head_of h)) }
 {
     let end = mki_len + tag_len;
     if octets.len() < 12 + end {
         return Err(DropCause::Short);
     }
-    let front = &octets[..octets.len() - end];
+    let prefix = &octets[..octets.len() - end];
     match kind {
-        Kind::Rtp => match rtp_head(front, encrypts) {
+        Kind::Rtp => match rtp_head(prefix, encrypts) {
             Ok(head) => Ok(head),
             Err(cause) => Err(cause),
         },
         Kind::Rtcp => {
             let packet = &octets[..octets.len() - (end + 4)];
-            let word = read_u32(front, front.len() - 4);
+            let word = read_u32(prefix, prefix.len() - 4);
             match rtcp_head(packet, word % INDICES, word >= INDICES) {
                 Ok(head) => Ok(head),
                 Err(cause) => Err(cause),
@@ -104,7 +104,7 @@ const INDICES: u32 = 2147483648;
 
 /// The head of a plain packet, which is to be encrypted or not.
 pub(crate) fn head_out(kind: Kind, encrypts: bool, packet: &[u8]) -> Result<Head, DropCause>
-    ensures head { MatchResult result (λ h. heading_out kind encrypts packet.now ≡ Ok (head_of h)) (λ e. heading_out kind encrypts packet.now ≡ Err e) }
+    ensures head { IsReadAs result (heading_out kind encrypts packet.now) }
     ensures whole { IfOk result (λ h. h.size ≤ length packet.now) }
     ensures number { IfOk result (λ h. h.number < 65536) }
 {

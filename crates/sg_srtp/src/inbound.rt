@@ -2,23 +2,21 @@
 //!
 //! Each refusal hands back the pad with the octets that it came with, and the cause.
 
-ghost use Rattle.std.specs.Prelude.{◌≡◌, ℕ, ◌+◌, ◌<◌, ◌≤◌, ◌^◌, List, [], ◌∷◌, ◌++◌, length, MatchResult, IfOk, IsTrue, IsSome, Ok, Err, Some, slice_get, option_copied};
-ghost use Rattle.sg_hmac.specs.States.{IsMacKey};
+ghost use Rattle.std.specs.Prelude.{◌≡◌, ℕ, ◌+◌, ◌<◌, ◌≤◌, ◌^◌, List, [], ◌∷◌, ◌++◌, length, MatchResult, IfOk, IsTrue, IsSome, true, Ok, Err, Some, slice_get, option_copied};
 ghost use Rattle.sg_base.specs.declared.keys.HalfKeys.{HalfKeys};
 ghost use Rattle.sg_keys.specs.Live.{Live, schedule_key, spent};
 ghost use Rattle.sg_srtp.specs.Choosing.{chosen_for};
-ghost use Rattle.sg_srtp.specs.Parts.{heading, tag_fits_at, mki_of, word_len, IsNumber};
+ghost use Rattle.sg_srtp.specs.Parts.{heading, is_tag_len, mki_of, word_len, IsNumber};
 ghost use Rattle.sg_srtp.specs.Placing.{placed};
-ghost use Rattle.sg_srtp.specs.Streams.{StreamStands, IsOpenPlace};
-ghost use Rattle.sg_srtp.specs.Inbound.{Heading, Keying, Placing, IsHeaded, IsKeyed, IsVerified, IsUnverified, CanServe, IsOpened, packet_at};
+ghost use Rattle.sg_srtp.specs.Streams.{ForIndicesOf, IsOpenPlace, IsStreamOf, TakesIn};
+ghost use Rattle.sg_srtp.specs.Inbound.{Heading, Keying, Placing, IsHeaded, IsKeyed, IsVerified, IsUnverified, IsKeyOf, IsPlacedAs, CanServe, IsOpened, packet_at};
 
-use crate::code::fits;
 use crate::head::{Head, head_in};
-use crate::mask::mask;
+use crate::keystream::apply_keystream;
+use crate::mac::fits;
 use crate::stream::Stream;
 use sg_aes::Schedule;
 use sg_base::{DropCause, Kind, Pad};
-use sg_hmac::MacKey;
 use sg_keys::{KeySet, OpenKeyFault};
 use std::marker::Model;
 
@@ -58,11 +56,12 @@ impl Model for Headed {
     ghost invariant = { λ h. IsHeading h.kind h.mki_len h.tag_len h.pad (head_of h.head) };
 }
 
-/// A datagram whose key is chosen, by its place among the session's keys.
+/// A datagram whose key is chosen: where the key stands among the session's, and its number.
 #[derive(Drop)]
 pub struct Keyed {
     headed: Headed,
-    place: usize,
+    key: usize,
+    number: u32,
 }
 
 impl Model for Keyed {
@@ -70,7 +69,7 @@ impl Model for Keyed {
 
     ghost Value = { Keying };
 
-    ghost view = { λ k. record { headed = k.headed; place = k.place } };
+    ghost view = { λ k. record { headed = k.headed; key = k.key; number = k.number } };
 }
 
 /// A datagram whose index is found, and is new in its stream.
@@ -125,6 +124,7 @@ impl Arrived {
 
     /// Reads the head of a datagram that ends in an MKI and a tag of these lengths. RTP is encrypted
     /// where `encrypts` says so, RTCP as the datagram itself says (RFC 3711, 3.4).
+    #[tactic(auto, using(crate::proofs::Tags::tag_within))]
     pub fn head(
         self,
         kind: Kind,
@@ -133,7 +133,7 @@ impl Arrived {
         tag_len: usize,
     ) -> Result<Headed, (Pad, DropCause)>
         requires mki { mki_len ≤ 128 }
-        requires tag { tag_len ≤ 20 }
+        requires tag { is_tag_len kind tag_len ≡ true }
         ensures { MatchResult result (IsHeaded self kind encrypts mki_len tag_len) (λ e. (e.0 ≡ self) × (heading kind encrypts mki_len tag_len self ≡ Err e.1)) }
     {
         let Arrived { pad } = self;
@@ -194,9 +194,10 @@ impl Headed {
         ensures { MatchResult result (IsKeyed self keys.now) (λ e. (e.0 ≡ self.pad) × (chosen_for keys.now (mki_of self.mki_len self.tag_len self.pad) ≡ Err e.1)) }
     {
         match keys.choose_mki(self.mki()) {
-            Ok(place) => Ok(Keyed {
+            Ok(key) => Ok(Keyed {
                 headed: self,
-                place,
+                key,
+                number: keys.key(key).number,
             }),
             Err(OpenKeyFault::MkiUnknown) => Err((self.refuse(), DropCause::MkiUnknown)),
             Err(OpenKeyFault::KeySpent { number, count }) => {
@@ -204,24 +205,16 @@ impl Headed {
             }
         }
     }
-
-    // Whether the tag fits at an index.
-    fn fits(&self, key: &MacKey, index: u64) -> bool
-        requires { index < 2 ^ 48 }
-        ensures { (auth : List ℕ) → IsMacKey auth key.now → result ≡ tag_fits_at self.now.kind self.now.mki_len self.now.tag_len index self.now.pad auth }
-    {
-        fits(
-            self.kind,
-            key,
-            self.pad.octets(),
-            self.mki_len,
-            self.tag_len,
-            index,
-        )
-    }
 }
 
 impl Keyed {
+    /// The kind.
+    pub fn kind(&self) -> Kind
+        ensures { result ≡ self.now.headed.kind }
+    {
+        self.headed.kind()
+    }
+
     /// The source.
     pub fn ssrc(&self) -> u32
         ensures { result ≡ self.now.headed.head.ssrc }
@@ -238,9 +231,9 @@ impl Keyed {
 
     /// Finds the index in the stream of the packet's source, which is only read.
     pub fn place(self, stream: &Stream) -> Result<Placed, (Pad, DropCause)>
+        requires { IsStreamOf stream.now self.headed.kind self.headed.head.ssrc }
         ensures open { MatchResult result (λ p. (p.keyed ≡ self) × IsOpenPlace stream.now p.index) (λ e. e.0 ≡ self.headed.pad) }
-        ensures answer { (ssrc roc window : ℕ) (indices : List ℕ) → StreamStands stream.now ssrc roc window indices
-            → MatchResult result (λ p. placed self.headed.kind roc window indices self.headed.head.number ≡ Ok p.index) (λ e. placed self.headed.kind roc window indices self.headed.head.number ≡ Err e.1) }
+        ensures answer { ForIndicesOf stream.now (λ roc window indices. IsPlacedAs (placed self.headed.kind roc window indices self.headed.head.number) result) }
     {
         match stream.place(self.headed.kind(), self.headed.number()) {
             Ok(index) => Ok(Placed { keyed: self, index }),
@@ -250,14 +243,21 @@ impl Keyed {
 }
 
 impl Placed {
-    /// Compares the tag under the chosen key.
+    /// Compares the tag under the chosen key, among the keys that it was chosen among.
     pub fn verify(self, keys: &KeySet) -> Result<Verified, (Pad, DropCause)>
-        requires { self.keyed.place < length keys.now }
-        ensures { (key : Live) → slice_get keys.now self.keyed.place ≡ Some key → MatchResult result (IsVerified self key) (IsUnverified self key) }
+        requires { IsKeyOf keys.now self.keyed.key self.keyed.number }
+        ensures { (key : Live) → slice_get keys.now self.keyed.key ≡ Some key → MatchResult result (IsVerified self key) (IsUnverified self key) }
     {
         let keyed = &self.keyed;
         let headed = &keyed.headed;
-        if headed.fits(keys.mac(keyed.place), self.index) {
+        if fits(
+            headed.kind,
+            keys.mac(keyed.key),
+            headed.pad.octets(),
+            headed.mki_len,
+            headed.tag_len,
+            self.index,
+        ) {
             Ok(Verified { placed: self })
         } else {
             Err((self.keyed.refuse(), DropCause::BadTag))
@@ -283,7 +283,7 @@ impl Headed {
         pad.cut_to(count);
         match schedule {
             Some(schedule) if head.encrypted => {
-                mask(schedule, salt, head.ssrc, index, head.size, &mut pad);
+                apply_keystream(schedule, salt, head.ssrc, index, head.size, &mut pad);
                 pad
             }
             _ => pad,
@@ -314,22 +314,27 @@ impl Verified {
     /// Takes the keystream off, marks the index and counts the packet under its key. The stream and the
     /// keys are those that the datagram was placed and verified with.
     pub fn decrypt(self, stream: &mut Stream, keys: &mut KeySet) -> Opened
+        requires source { IsStreamOf stream.old self.keyed.headed.kind self.keyed.headed.head.ssrc }
         requires open { IsOpenPlace stream.old self.index }
-        requires key { CanServe keys.old self.keyed.place self.keyed.headed.head.encrypted }
-        ensures opened { (key : Live) → slice_get keys.old self.keyed.place ≡ Some key → IsOpened self key result }
-        ensures stream { (ssrc roc window : ℕ) (indices : List ℕ) → StreamStands stream.old ssrc roc window indices → StreamStands stream.new ssrc roc window (indices ++ self.index ∷ []) }
-        ensures keys { (key : Live) → slice_get keys.old self.keyed.place ≡ Some key → keys.new ≡ spent key.number keys.old }
+        requires key { CanServe keys.old self.keyed.key self.keyed.number self.keyed.headed.head.encrypted }
+        ensures opened { (key : Live) → slice_get keys.old self.keyed.key ≡ Some key → IsOpened self key result }
+        ensures of { (stream.new.kind ≡ stream.old.kind) × (stream.new.ssrc ≡ stream.old.ssrc) }
+        ensures stream { TakesIn stream.old stream.new self.index }
+        ensures keys { (key : Live) → slice_get keys.old self.keyed.key ≡ Some key → keys.new ≡ spent key.number keys.old }
     {
         let Verified { placed } = self;
         let Placed { keyed, index } = placed;
-        let Keyed { headed, place } = keyed;
+        let Keyed {
+            headed,
+            key: at,
+            number,
+        } = keyed;
         let kind = headed.kind();
         let ssrc = headed.ssrc();
-        let key = keys.key(place);
-        let number = key.number;
-        let pad = headed.into_packet(keys.schedule(place), &key.half.salt, index);
+        let key = keys.key(at);
+        let pad = headed.into_packet(keys.schedule(at), &key.half.salt, index);
         stream.take(index);
-        keys.spend(place);
+        keys.spend(at);
         Opened {
             pad,
             kind,

@@ -2,10 +2,11 @@
 //! 3711, 3.3 and 3.4). No call takes memory.
 #![tactic(auto)]
 
-mod code;
 mod head;
 pub mod inbound;
-mod mask;
+mod keystream;
+pub mod laws;
+mod mac;
 pub mod outbound;
 mod stream;
 

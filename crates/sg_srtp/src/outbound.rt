@@ -2,19 +2,19 @@
 //!
 //! Each refusal hands back the pad with the octets that it came with, and the cause.
 
-ghost use Rattle.std.specs.Prelude.{◌≡◌, ℕ, ◌+◌, ◌<◌, ◌≤◌, ◌^◌, List, [], ◌∷◌, ◌++◌, length, take, MatchResult, IfOk, IsTrue, IsSome, Ok, Err, Some, slice_get, option_copied};
+ghost use Rattle.std.specs.Prelude.{◌≡◌, ℕ, ◌+◌, ◌<◌, ◌≤◌, ◌^◌, List, [], ◌∷◌, ◌++◌, length, take, MatchResult, IfOk, IsTrue, IsSome, true, Ok, Err, Some, slice_get, option_copied};
 ghost use Rattle.sg_base.specs.declared.keys.HalfKeys.{HalfKeys};
 ghost use Rattle.sg_hmac.specs.States.{IsMacKey};
 ghost use Rattle.sg_keys.specs.Live.{Live, schedule_key, spent};
-ghost use Rattle.sg_srtp.specs.Parts.{heading_out};
+ghost use Rattle.sg_srtp.specs.Parts.{heading_out, is_tag_len};
 ghost use Rattle.sg_srtp.specs.Placing.{next_index, IsIndex};
 ghost use Rattle.sg_session.specs.Sealed.{index_word, tagged_rtp, tagged_rtcp};
-ghost use Rattle.sg_srtp.specs.Streams.{IsOpenPlace, StreamStands};
-ghost use Rattle.sg_srtp.specs.Outbound.{CanSeal, IsOutHeaded, IsNumbered, IsSealedOf, masked_at, numbered};
+ghost use Rattle.sg_srtp.specs.Streams.{ForIndicesOf, IsOpenPlace, IsStreamOf, TakesIn};
+ghost use Rattle.sg_srtp.specs.Outbound.{CanSeal, IsOutHeaded, IsNumbered, IsNumberedAs, IsSealedOf, encrypted_at};
 
-use crate::code::code_of;
 use crate::head::{Head, head_out};
-use crate::mask::mask;
+use crate::keystream::apply_keystream;
+use crate::mac::mac_over;
 use crate::stream::Stream;
 use sg_aes::Schedule;
 use sg_base::{DropCause, Kind, Pad, octets_of_u32};
@@ -60,7 +60,8 @@ impl Model for Headed {
 /// A packet that has its index and its key, which are spent. It can't be dropped: it must be sealed.
 pub struct Numbered {
     headed: Headed,
-    place: usize,
+    key: usize,
+    number: u32,
     index: u64,
 }
 
@@ -70,7 +71,7 @@ impl Model for Numbered {
 
     ghost Value = { Numbering };
 
-    ghost view = { λ n. record { headed = n.headed; place = n.place; index = n.index } };
+    ghost view = { λ n. record { headed = n.headed; key = n.key; number = n.number; index = n.index } };
 
     ghost use Rattle.sg_srtp.specs.Placing.{IsIndex};
 
@@ -125,7 +126,7 @@ impl Headed {
 
     // The index at which the stream of its source seals it.
     fn next(&self, stream: &Stream) -> Result<u64, DropCause>
-        ensures answer { (ssrc roc window : ℕ) (indices : List ℕ) → StreamStands stream.now ssrc roc window indices → result ≡ next_index self.now.kind roc window indices self.now.head.number }
+        ensures answer { ForIndicesOf stream.now (λ roc window indices. result ≡ next_index self.now.kind roc window indices self.now.head.number) }
         ensures open { IfOk result (IsOpenPlace stream.now) }
         ensures bound { IfOk result (IsIndex self.now.kind) }
     {
@@ -142,14 +143,15 @@ impl Headed {
         stream: &mut Stream,
         keys: &mut KeySet,
     ) -> Result<Numbered, (Pad, DropCause)>
+        requires { IsStreamOf stream.old self.kind self.head.ssrc }
         ensures kept { MatchResult result (IsNumbered self keys.old) (λ e. e.0 ≡ self.pad) }
-        ensures answer { (ssrc roc window : ℕ) (indices : List ℕ) → StreamStands stream.old ssrc roc window indices
-            → MatchResult result (λ n. next_index self.kind roc window indices self.head.number ≡ Ok n.index) (λ e. numbered keys.old (next_index self.kind roc window indices self.head.number) ≡ Err e.1) }
-        ensures taken { MatchResult result (λ n. (ssrc roc window : ℕ) (indices : List ℕ) → StreamStands stream.old ssrc roc window indices → StreamStands stream.new ssrc roc window (indices ++ n.index ∷ [])) (λ _. stream.new ≡ stream.old) }
-        ensures spent { MatchResult result (λ n. (key : Live) → slice_get keys.old n.place ≡ Some key → keys.new ≡ spent key.number keys.old) (λ _. keys.new ≡ keys.old) }
+        ensures answer { ForIndicesOf stream.old (λ roc window indices. IsNumberedAs keys.old (next_index self.kind roc window indices self.head.number) result) }
+        ensures of { (stream.new.kind ≡ stream.old.kind) × (stream.new.ssrc ≡ stream.old.ssrc) }
+        ensures taken { MatchResult result (λ n. TakesIn stream.old stream.new n.index) (λ _. stream.new ≡ stream.old) }
+        ensures spent { MatchResult result (λ n. keys.new ≡ spent n.number keys.old) (λ _. keys.new ≡ keys.old) }
     {
-        let place = match keys.choose_seal() {
-            Ok(place) => place,
+        let key = match keys.choose_seal() {
+            Ok(key) => key,
             Err(last) => {
                 let cause = DropCause::KeySpent {
                     number: last.number,
@@ -162,20 +164,22 @@ impl Headed {
             Ok(index) => index,
             Err(cause) => return Err((self.refuse(), cause)),
         };
+        let number = keys.key(key).number;
         stream.take(index);
-        keys.spend(place);
+        keys.spend(key);
         Ok(Numbered {
             headed: self,
-            place,
+            key,
+            number,
             index,
         })
     }
 
     // The packet with the keystream of its index put on, where it is to be encrypted.
-    fn into_masked(self, schedule: Option<&Schedule>, salt: &[u8; 14], index: u64) -> Pad
+    fn into_encrypted(self, schedule: Option<&Schedule>, salt: &[u8; 14], index: u64) -> Pad
         requires index { index < 2 ^ 48 }
         requires cipher { IsTrue self.head.encrypted → IsSome schedule }
-        ensures masked { (half : HalfKeys) → half.salt ≡ salt.now → option_copied schedule.entry ≡ schedule_key half.encrypt → result ≡ masked_at self half index }
+        ensures encrypted { (half : HalfKeys) → half.salt ≡ salt.now → option_copied schedule.entry ≡ schedule_key half.encrypt → result ≡ encrypted_at self half index }
         ensures most { length result ≤ 4096 }
     {
         let Headed {
@@ -185,7 +189,7 @@ impl Headed {
         } = self;
         match schedule {
             Some(schedule) if head.encrypted => {
-                mask(schedule, salt, head.ssrc, index, head.size, &mut pad);
+                apply_keystream(schedule, salt, head.ssrc, index, head.size, &mut pad);
                 pad
             }
             _ => pad,
@@ -199,7 +203,8 @@ impl Headed {
         self.head.encrypted
     }
 
-    fn kind(&self) -> Kind
+    /// The kind.
+    pub fn kind(&self) -> Kind
         ensures { result ≡ self.now.kind }
     {
         self.kind
@@ -218,15 +223,15 @@ fn word_of(encrypted: bool, index: u64) -> [u8; 4]
     octets_of_u32(if encrypted { 2147483648 + index } else { index })
 }
 
-// Puts the MKI and the first octets of a code behind the rest.
-fn append_end(pad: &mut Pad, mki: &[u8], code: &[u8; 20], tag_len: usize)
+// Puts the MKI and the first octets of a MAC behind the rest.
+fn append_end(pad: &mut Pad, mki: &[u8], whole: &[u8; 20], tag_len: usize)
     requires room { length pad.old ≤ 4100 }
     requires mki { length mki.now ≤ 128 }
     requires tag { tag_len ≤ 20 }
-    ensures { pad.new ≡ pad.old ++ (mki.now ++ take tag_len code.now) }
+    ensures { pad.new ≡ pad.old ++ (mki.now ++ take tag_len whole.now) }
 {
     pad.append(mki);
-    pad.append(&code[..tag_len]);
+    pad.append(&whole[..tag_len]);
 }
 
 // Puts MKI and tag behind an RTP packet.
@@ -237,8 +242,8 @@ fn close_rtp(pad: &mut Pad, mac: &MacKey, mki: &[u8], tag_len: usize, index: u64
     requires tag { tag_len ≤ 20 }
     ensures { (half : HalfKeys) → IsMacKey half.auth mac.now → pad.new ≡ tagged_rtp half tag_len index mki.now pad.old }
 {
-    let code = code_of(Kind::Rtp, mac, pad.octets(), index);
-    append_end(pad, mki, &code, tag_len);
+    let whole = mac_over(Kind::Rtp, mac, pad.octets(), index);
+    append_end(pad, mki, &whole, tag_len);
 }
 
 // Puts index word, MKI and tag behind an RTCP packet.
@@ -249,30 +254,31 @@ fn close_rtcp(pad: &mut Pad, mac: &MacKey, mki: &[u8], encrypted: bool, index: u
     ensures { (half : HalfKeys) → IsMacKey half.auth mac.now → pad.new ≡ tagged_rtcp half mki.now (pad.old ++ index_word encrypted index) }
 {
     pad.append(&word_of(encrypted, index));
-    let code = code_of(Kind::Rtcp, mac, pad.octets(), index);
-    append_end(pad, mki, &code, RTCP_TAG);
+    let whole = mac_over(Kind::Rtcp, mac, pad.octets(), index);
+    append_end(pad, mki, &whole, RTCP_TAG);
 }
 
 impl Numbered {
     /// Seals the packet under its key. The keys are those that `number` left, and `tag_len` is that of
     /// RTP; a tag of RTCP has ten octets.
     pub fn seal(self, keys: &KeySet, tag_len: usize) -> Sealed
-        requires tag { tag_len ≤ 20 }
-        requires key { CanSeal keys.now self.place self.headed.head.encrypted }
-        ensures { (key : Live) → slice_get keys.now self.place ≡ Some key → IsSealedOf self key tag_len result }
+        requires tag { is_tag_len self.headed.kind tag_len ≡ true }
+        requires key { CanSeal keys.now self.key self.number self.headed.head.encrypted }
+        ensures { (key : Live) → slice_get keys.now self.key ≡ Some key → IsSealedOf self key tag_len result }
     {
         let Numbered {
             headed,
-            place,
+            key: at,
+            number,
             index,
         } = self;
         let kind = headed.kind();
         let ssrc = headed.ssrc();
         let encrypted = headed.encrypted();
-        let key = keys.key(place);
-        let mki = keys.mki(place);
-        let mac = keys.mac(place);
-        let mut pad = headed.into_masked(keys.schedule(place), &key.half.salt, index);
+        let key = keys.key(at);
+        let mki = keys.mki(at);
+        let mac = keys.mac(at);
+        let mut pad = headed.into_encrypted(keys.schedule(at), &key.half.salt, index);
         match kind {
             Kind::Rtp => close_rtp(&mut pad, mac, mki, tag_len, index),
             Kind::Rtcp => close_rtcp(&mut pad, mac, mki, encrypted, index),
@@ -282,7 +288,7 @@ impl Numbered {
             kind,
             ssrc,
             index,
-            key: key.number,
+            key: number,
         }
     }
 }

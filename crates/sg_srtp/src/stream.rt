@@ -6,7 +6,7 @@ ghost use Rattle.sg_session.specs.Sealing.{next_after};
 ghost use Rattle.sg_session.specs.Session.{index_cause, nearest_from, with_cause};
 ghost use Rattle.sg_srtp.specs.Parts.{IsNumber};
 ghost use Rattle.sg_srtp.specs.Placing.{fresh_in, next_index, placed, IsIndex};
-ghost use Rattle.sg_srtp.specs.Streams.{StreamStands, IsOpenPlace};
+ghost use Rattle.sg_srtp.specs.Streams.{ForIndicesOf, IsOpenPlace, IsStreamOf, StreamStands, TakesIn};
 
 use sg_base::{DropCause, IndexFault, Kind};
 use sg_index::Place;
@@ -16,9 +16,10 @@ use std::marker::Model;
 /// The last index of an RTCP stream.
 const LAST: u64 = 2147483647;
 
-/// A stream: its source, the rollover it starts at, its highest index and its replay list.
+/// A stream: its kind and source, the rollover it starts at, its highest index and its replay list.
 #[derive(Drop)]
 pub struct Stream {
+    kind: Kind,
     ssrc: u32,
     roc: u32,
     place: Option<Place>,
@@ -30,7 +31,7 @@ impl Model for Stream {
 
     ghost Value = { StreamValue };
 
-    ghost view = { λ s. record { ssrc = s.ssrc; roc = s.roc; highest = s.place; seen = s.seen } };
+    ghost view = { λ s. record { kind = s.kind; ssrc = s.ssrc; roc = s.roc; highest = s.place; seen = s.seen } };
 
     ghost invariant = { λ s. StandsForSome s.place s.seen };
 }
@@ -46,17 +47,26 @@ fn of_index(fault: IndexFault) -> DropCause
 
 impl Stream {
     /// A stream of which nothing is done, with a window of 64 to 1,024 indices.
-    pub fn fresh(ssrc: u32, roc: u32, window: u16) -> Stream
+    pub fn fresh(kind: Kind, ssrc: u32, roc: u32, window: u16) -> Stream
         requires at_least { 64 ≤ window }
         requires at_most { window ≤ 1024 }
-        ensures { StreamStands result ssrc roc window [] }
+        ensures of { IsStreamOf result kind ssrc }
+        ensures stands { StreamStands result ssrc roc window [] }
     {
         Stream {
+            kind,
             ssrc,
             roc,
             place: None,
             seen: Seen::make(window),
         }
+    }
+
+    /// The kind.
+    pub fn kind(&self) -> Kind
+        ensures { result ≡ self.now.kind }
+    {
+        self.kind
     }
 
     /// The source.
@@ -76,7 +86,7 @@ impl Stream {
     // The index, where it is new.
     fn new_index(&self, index: u64) -> Result<u64, DropCause>
         requires { index < 2 ^ 48 }
-        ensures answer { (ssrc roc window : ℕ) (indices : List ℕ) → StreamStands self.now ssrc roc window indices → result ≡ fresh_in window indices index }
+        ensures answer { ForIndicesOf self.now (λ roc window indices. result ≡ fresh_in window indices index) }
         ensures open { IfOk result (IsOpenPlace self.now) }
     {
         match self.seen.test(index) {
@@ -86,14 +96,14 @@ impl Stream {
         }
     }
 
-    // The index of an RTP packet's number (RFC 3711, 3.3.1).
-    fn nearest(&self, number: u16) -> Result<u64, DropCause>
-        ensures answer { (ssrc roc window : ℕ) (indices : List ℕ) → StreamStands self.now ssrc roc window indices → result ≡ with_cause (nearest_from roc number (highest_of indices)) }
+    // The index of an RTP packet's sequence number (RFC 3711, 3.3.1).
+    fn nearest(&self, seq: u16) -> Result<u64, DropCause>
+        ensures answer { ForIndicesOf self.now (λ roc window indices. result ≡ with_cause (nearest_from roc seq (highest_of indices))) }
         ensures bound { IfOk result (λ index. index < 2 ^ 48) }
     {
         match &self.place {
-            None => Ok(u64::from(self.roc) * 65536 + u64::from(number)),
-            Some(place) => match place.guess(number) {
+            None => Ok(u64::from(self.roc) * 65536 + u64::from(seq)),
+            Some(place) => match place.guess(seq) {
                 Ok(index) => Ok(index),
                 Err(fault) => Err(of_index(fault)),
             },
@@ -102,9 +112,9 @@ impl Stream {
 
     /// The index of a packet with this number, where it is new: of RTP the nearest one, of RTCP the
     /// number itself, which has 31 bits.
-    pub fn place(&self, kind: Kind, number: u32) -> Result<u64, DropCause>
+    pub(crate) fn place(&self, kind: Kind, number: u32) -> Result<u64, DropCause>
         requires { IsNumber kind number }
-        ensures answer { (ssrc roc window : ℕ) (indices : List ℕ) → StreamStands self.now ssrc roc window indices → result ≡ placed kind roc window indices number }
+        ensures answer { ForIndicesOf self.now (λ roc window indices. result ≡ placed kind roc window indices number) }
         ensures open { IfOk result (IsOpenPlace self.now) }
     {
         match kind {
@@ -124,7 +134,7 @@ impl Stream {
 
     // The index after the highest, in 31 bits (RFC 3711, 3.4).
     fn following(&self) -> Result<u64, DropCause>
-        ensures answer { (ssrc roc window : ℕ) (indices : List ℕ) → StreamStands self.now ssrc roc window indices → result ≡ next_after (highest_of indices) }
+        ensures answer { ForIndicesOf self.now (λ roc window indices. result ≡ next_after (highest_of indices)) }
         ensures open { IfOk result (IsOpenPlace self.now) }
         ensures bound { IfOk result (λ index. index < 2147483648) }
     {
@@ -143,9 +153,9 @@ impl Stream {
 
     /// The index at which the next packet is sealed: of RTP that of its number, where it is new; of RTCP
     /// the one after the highest.
-    pub fn next(&self, kind: Kind, number: u32) -> Result<u64, DropCause>
+    pub(crate) fn next(&self, kind: Kind, number: u32) -> Result<u64, DropCause>
         requires { IsNumber kind number }
-        ensures answer { (ssrc roc window : ℕ) (indices : List ℕ) → StreamStands self.now ssrc roc window indices → result ≡ next_index kind roc window indices number }
+        ensures answer { ForIndicesOf self.now (λ roc window indices. result ≡ next_index kind roc window indices number) }
         ensures open { IfOk result (IsOpenPlace self.now) }
         ensures bound { IfOk result (IsIndex kind) }
     {
@@ -162,9 +172,10 @@ impl Stream {
     }
 
     /// Takes an open index in.
-    pub fn take(&mut self, index: u64)
+    pub(crate) fn take(&mut self, index: u64)
         requires { IsOpenPlace self.old index }
-        ensures { (ssrc roc window : ℕ) (indices : List ℕ) → StreamStands self.old ssrc roc window indices → StreamStands self.new ssrc roc window (indices ++ index ∷ []) }
+        ensures of { (self.new.kind ≡ self.old.kind) × (self.new.ssrc ≡ self.old.ssrc) }
+        ensures stands { TakesIn self.old self.new index }
     {
         self.seen.mark(index);
         match &mut self.place {
@@ -176,6 +187,6 @@ impl Stream {
 
 impl Default for Stream {
     fn default() -> Stream {
-        Stream::fresh(0, 0, 64)
+        Stream::fresh(Kind::Rtp, 0, 0, 64)
     }
 }

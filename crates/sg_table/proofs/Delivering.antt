@@ -3,13 +3,13 @@ use Rattle.std.proofs.Common.{◌≡◌, ℕ, ◌+◌, ◌*◌, ◌<◌, ◌&&�
 use Rattle.std.proofs.Math.ListN.{set}
 use Rattle.std.proofs.lemmas.List.{length-set, get_or_default}
 use Rattle.std.specs.List.{position}
-use Rattle.sg_base.specs.Keys.{Master}
+use Rattle.sg_session.specs.Ring.{RingKey}
 use Rattle.sg_base.specs.declared.addresses.Address.{Address}
 use Rattle.sg_base.specs.declared.faults.DropCause.TheVariants.{PortUnused}
 use Rattle.sg_gateway.proofs.Arrivals.{arrival}
 use Rattle.sg_gateway.proofs.InTurn.{after_is}
-use Rattle.sg_gateway.proofs.PlainCalls.{found_at, from_at, from_set}
-use Rattle.sg_gateway.proofs.PlainTables.{IsHappening, unused, happened}
+use Rattle.sg_gateway.proofs.CallList.{found_at, from_at, from_set}
+use Rattle.sg_gateway.proofs.ToldInWorld.{IsHappening, unused, happened}
 use Rattle.sg_gateway.specs.Batch as batch
 use Rattle.sg_gateway.specs.Datagrams.{Happening, arrived_in, arrived_at}
 use Rattle.sg_gateway.specs.Ports.{call_at, has_port}
@@ -28,7 +28,7 @@ same_ports : (port : ℕ) (call : TableCall) (c : Call) → CallStandsFor call c
 same_ports port call c h = let slot = h.slot in let media = h.media in
     (λ i. leb (20000 + 16 * slot i + 4 * 0 + 0) port && ltb port (20000 + 16 * slot i + 4 * sym media i + 0))
 
-module _ (calls : List TableCall) (ring : List Master) (w : World) (stands : TableStandsFor (record { calls = calls; ring = ring }) w) (port : ℕ) (from : Address) (d : List ℕ) where
+module _ (calls : List TableCall) (ring : List RingKey) (w : World) (stands : TableStandsFor (record { calls = calls; ring = ring }) w) (port : ℕ) (from : Address) (d : List ℕ) where
   abbrev here : Happening
   here = arrived_at w port from d (call_at w port)
 

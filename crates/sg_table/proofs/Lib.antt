@@ -1,7 +1,7 @@
-pub mod Arriving
-pub mod Delivering
-pub mod HandKeys
-pub mod Installed
-pub mod Legs
-pub mod Paired
-pub mod Telling
+mod Arriving
+mod Delivering
+mod Installed
+mod ManualPaths
+mod Paired
+mod Paths
+mod Telling

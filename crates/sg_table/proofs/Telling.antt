@@ -7,7 +7,7 @@ use Rattle.sg_outcome.specs.declared.outcomes.Outcome.{Outcome}
 use Rattle.sg_session.specs.Session.{Session}
 use Rattle.sg_session.specs.declared.names.Direction.{Direction}
 use Rattle.sg_session.specs.declared.names.Direction.TheVariants.{Opening, Sealing}
-use Rattle.sg_gateway.proofs.PlainTables.{told_of, left_of}
+use Rattle.sg_gateway.proofs.ToldInWorld.{told_of, left_of}
 use Rattle.sg_gateway.specs.Datagrams.{given_to, arrived_towards, arrived_among, arrived_at}
 use Rattle.sg_gateway.specs.Octets.{as_octets}
 use Rattle.sg_gateway.specs.Ports.{call_at, sessions_at}
@@ -48,9 +48,8 @@ pub datagram_told : (most : ℕ) → 4238 < most → (w : World) (port : ℕ) (f
     → told ≡ outcome_of port h ∷ [] → kept ≡ table → IsHandled port pad h table (arrived_at w port from pad (call_at w port)) → IsTold told kept w (Datagram port from (as_octets d) ∷ [])
 datagram_told most enough w port from d pad h told table kept octets cut one same handled =
     let is : arrived_at w port from pad (call_at w port) ≡ arrived_at w port from d (call_at w port) = ap (λ x. arrived_at w port from x (call_at w port)) cut ∙ cut_alike most enough w port from d in
-    let here : IsHandled port pad h table (arrived_at w port from d (call_at w port)) = subst (IsHandled port pad h table) is handled in
-    record {
-      same = one ∙ told_of w port from d (outcome_of port h) octets here.told;
-      stands = subst (λ t. TableStandsFor t (world_after w (Datagram port from (as_octets d) ∷ []))) (sym same)
-          (subst (TableStandsFor table) (left_of w (arrived_at w port from d (call_at w port)).world port from d octets refl) here.stands);
-    }
+    let here : IsHandled port pad h table (arrived_at w port from d (call_at w port)) = subst (IsHandled port pad h table) is handled in (
+      one ∙ told_of w port from d (outcome_of port h) octets here.told,
+      subst (λ t. TableStandsFor t (world_after w (Datagram port from (as_octets d) ∷ []))) (sym same)
+          (subst (TableStandsFor table) (left_of w (arrived_at w port from d (call_at w port)).world port from d octets refl) here.stands),
+    )

@@ -9,11 +9,10 @@ use Rattle.sg_gateway.specs.World.{World}
 use Rattle.sg_table.specs.Standing.{TableValue, TableStandsFor}
 
 -- the outcomes are those of the events in the world, and the table stands for the world after them
-pub record IsTold (told : List Outcome) (table : TableValue) (w : World) (events : List Event) : Type 0 where
-  pub same : told ≡ outcomes_from w events
-  pub stands : TableStandsFor table (world_after w events)
+abbrev pub IsTold : List Outcome → TableValue → World → List Event → Type 0
+IsTold told table w events = (told ≡ outcomes_from w events) × TableStandsFor table (world_after w events)
 
--- the same of a call that is keyed by hand
+-- the same of a call that is keyed manually
 pub record IsAnswered (told : List Outcome) (table : TableValue) (a : Answer) : Type 0 where
   pub same : told ≡ a.outcomes
   pub stands : TableStandsFor table a.world

@@ -1,21 +1,24 @@
 //! One call of the table.
 
 ghost use Rattle.std.specs.Prelude.{◌≡◌, ◌==◌, ℕ, position};
-ghost use Rattle.sg_gateway.specs.Plain.{HaveOwnPorts};
+ghost use Rattle.sg_gateway.specs.Passing.{HaveOwnPorts};
 ghost use Rattle.sg_gateway.specs.World as world;
-ghost use Rattle.sg_table.specs.Handling.{IsPassed, IsArrived};
-ghost use Rattle.sg_table.specs.Standing.{EachStands, LegStandsFor, CallStandsFor, has_call_port};
+ghost use Rattle.sg_table.specs.Handling.{IsPassed};
+ghost use Rattle.sg_table.specs.Standing.{EachStands, PathStandsFor, has_call_port};
 
 use crate::handled::{End, Handled};
-use crate::leg::Leg;
+use crate::path::Path;
 use sg_base::{Address, CallId, DropCause, Pad};
+use sg_gateway::port_at;
+use std::boxed::BoxedSlice;
 
-/// A call of one medium, with a leg for each of its sessions.
+/// A call of one medium, with a path for each of its sessions. The paths are a boxed slice, which hands out
+/// no allocator.
 #[derive(Drop)]
 pub struct Call {
     pub id: CallId,
     pub slot: u8,
-    pub legs: Vec<Leg>,
+    pub paths: BoxedSlice<Path>,
 }
 
 impl Call {
@@ -23,33 +26,25 @@ impl Call {
     pub fn has_port(&self, port: u16) -> bool
         ensures { result ≡ has_call_port port self.now }
     {
-        let first = 20000 + 16 * u16::from(self.slot);
-        first <= port && port < first + 4
-    }
-
-    /// Handles a datagram that comes to a port of the call.
-    pub fn datagram(&mut self, port: u16, from: Address, pad: Pad) -> Handled
-        ensures { (now : ℕ) (c : world.Call) → CallStandsFor self.old c → IsArrived now port from pad c result self.new }
-    {
-        pass(&mut self.legs, port, from, pad)
+        port_at(self.slot, 0, 0) <= port && port < port_at(self.slot, 1, 0)
     }
 }
 
-/// Hands a datagram to the leg at its port.
-fn pass(legs: &mut [Leg], port: u16, from: Address, pad: Pad) -> Handled
-    ensures { (now : ℕ) (c : world.Call) → c.generations ≡ 1 → HaveOwnPorts c.slot c.sessions → EachStands (LegStandsFor c.slot) legs.old c.sessions
-        → IsPassed now port from pad c result legs.new }
+/// Passes a datagram to the path at its port.
+pub fn pass(paths: &mut [Path], port: u16, from: Address, pad: Pad) -> Handled
+    ensures { (now : ℕ) (c : world.Call) → c.generations ≡ 1 → HaveOwnPorts c.slot c.sessions → EachStands (PathStandsFor c.slot) paths.old c.sessions
+        → IsPassed now port from pad c result paths.new }
 {
-    match place(legs, port) {
+    match position_at(paths, port) {
         None => Handled {
             pad,
             end: End::Dropped(DropCause::PortUnused),
         },
         Some(i) => {
-            let leg = &mut legs[i];
-            let out = leg.out;
-            let to = leg.to;
-            match leg.take(from, pad) {
+            let path = &mut paths[i];
+            let out = path.out;
+            let to = path.to;
+            match path.take(from, pad) {
                 Ok(pad) => Handled {
                     pad,
                     end: End::Out { port: out, to },
@@ -63,9 +58,9 @@ fn pass(legs: &mut [Leg], port: u16, from: Address, pad: Pad) -> Handled
     }
 }
 
-/// The place of the leg at a port.
-fn place(legs: &[Leg], port: u16) -> Option<usize>
-    ensures { result ≡ position (λ leg. leg.port == port) legs.now }
+/// The position of the path at a port.
+fn position_at(paths: &[Path], port: u16) -> Option<usize>
+    ensures { result ≡ position (λ path. path.port == port) paths.now }
 {
-    legs.iter().position(|leg| leg.port == port)
+    paths.iter().position(|path| path.port == port)
 }

@@ -1,13 +1,13 @@
 //! The table as a gateway, which handles the lines of a script.
 
-ghost use Rattle.std.specs.Prelude.{◌≡◌, ◌≤◌, [], ◌∷◌, take, length, vec_capacity, vec_len, IfOk};
-ghost use Rattle.sg_gateway.specs.Events.{events_of, events_of_signal};
+ghost use Rattle.std.specs.Prelude.{◌≡◌, ◌≤◌, [], ◌∷◌, take, length, vec_capacity, vec_len, IfOk, OnErr};
+ghost use Rattle.sg_gateway.specs.Events.{events_of_signal};
 ghost use Rattle.sg_gateway.specs.Octets.{as_octets};
-ghost use Rattle.sg_gateway.specs.Signals.{by_hand};
+ghost use Rattle.sg_gateway.specs.Signals.{manual_answer};
 ghost use Rattle.sg_gateway.specs.Step.{Datagram};
 ghost use Rattle.sg_gateway.specs.World.{World};
 ghost use Rattle.sg_table.specs.Handling.{outcome_of};
-ghost use Rattle.sg_table.specs.Keying.{by_hand_of, told_of};
+ghost use Rattle.sg_table.specs.Keying.{manual_call_of, told_of};
 ghost use Rattle.sg_table.specs.Standing.{TableStandsFor};
 ghost use Rattle.sg_table.specs.Telling.{IsTold, IsAnswered};
 
@@ -16,23 +16,14 @@ use crate::manual::Manual;
 use crate::table::Table;
 use sg_base::{Address, CallId, NoMemory, Octets, PAD_MOST, Pad, Refusal};
 use sg_gateway::Gateway;
+use sg_lines::{Line, Signal};
 use sg_outcome::Outcome;
-use sg_script::{Line, Signal};
 use std::alloc::Global;
 
 impl Gateway for Table {
     ghost stands_for = { TableStandsFor };
 
     fn handle(&mut self, alloc: Global, line: Line) -> Result<Vec<Outcome>, NoMemory> {
-        Table::handle(self, alloc, line)
-    }
-}
-
-impl Table {
-    /// Handles the events of a line and tells their outcomes. Memory is taken before anything changes.
-    pub fn handle(&mut self, alloc: Global, line: Line) -> Result<Vec<Outcome>, NoMemory>
-        ensures { IfOk result (λ told. (w : World) → TableStandsFor self.old w → IsTold told.items self.new w (events_of line)) }
-    {
         match line {
             Line::Header => Ok(Vec::new(alloc)),
             Line::Datagram { port, from, octets } => {
@@ -47,8 +38,10 @@ impl Table {
             },
         }
     }
+}
 
-    /// A datagram comes to a port.
+impl Table {
+    /// A datagram comes to a port. Memory is taken before anything changes.
     fn arrive(
         &mut self,
         alloc: Global,
@@ -56,7 +49,8 @@ impl Table {
         from: Address,
         datagram: &[u8],
     ) -> Result<Vec<Outcome>, NoMemory>
-        ensures { IfOk result (λ told. (w : World) → TableStandsFor self.old w → IsTold told.items self.new w (Datagram port from (as_octets datagram.now) ∷ [])) }
+        ensures told { IfOk result (λ told. (w : World) → TableStandsFor self.old w → IsTold told.items self.new w (Datagram port from (as_octets datagram.now) ∷ [])) }
+        ensures err { OnErr result (self.new ≡ self.old) }
     {
         let mut told = Vec::with_capacity(alloc, 1)?;
         let room = Vec::with_capacity(alloc, PAD_MOST)?;
@@ -67,9 +61,10 @@ impl Table {
         Ok(told)
     }
 
-    /// A signal is told. The one that is served keys a call by hand.
+    /// A signal is told. The one that is served keys a call manually.
     fn obey(&mut self, alloc: Global, signal: Signal) -> Result<Vec<Outcome>, NoMemory>
-        ensures { IfOk result (λ told. (w : World) → TableStandsFor self.old w → IsTold told.items self.new w (events_of_signal signal)) }
+        ensures told { IfOk result (λ told. (w : World) → TableStandsFor self.old w → IsTold told.items self.new w (events_of_signal signal)) }
+        ensures err { OnErr result (self.new ≡ self.old) }
     {
         match signal {
             Signal::Manual {
@@ -99,9 +94,10 @@ impl Table {
         }
     }
 
-    /// A call is keyed by hand, or refused.
+    /// A call is keyed manually, or refused. Memory is taken before anything changes.
     fn answer(&mut self, alloc: Global, manual: Manual) -> Result<Vec<Outcome>, NoMemory>
-        ensures { IfOk result (λ told. (w : World) → TableStandsFor self.old w → IsAnswered told.items self.new (by_hand w (by_hand_of manual))) }
+        ensures told { IfOk result (λ told. (w : World) → TableStandsFor self.old w → IsAnswered told.items self.new (manual_answer w (manual_call_of manual))) }
+        ensures err { OnErr result (self.new ≡ self.old) }
     {
         let room = Vec::with_capacity(alloc, 2)?;
         let id = manual.id;
@@ -116,13 +112,13 @@ fn filled(pad: Pad, datagram: &[u8]) -> Pad
 {
     let mut pad = pad;
     pad.cut_to(0);
-    pad.append(front(datagram, PAD_MOST));
+    pad.append(prefix(datagram, PAD_MOST));
     pad
 }
 
 /// The first octets, as many as are wanted or there are.
-fn front(octets: &[u8], most: usize) -> &[u8]
-    ensures front { result.now ≡ take most octets.now }
+fn prefix(octets: &[u8], most: usize) -> &[u8]
+    ensures prefix { result.now ≡ take most octets.now }
     ensures most { length result.now ≤ most }
 {
     if octets.len() > most {
@@ -152,7 +148,7 @@ fn outcome(port: u16, handled: &Handled, room: Vec<u8>) -> Outcome
     }
 }
 
-/// What is told of a call that is keyed by hand, in the room.
+/// What is told of a call that is keyed manually, in the room.
 fn told(room: Vec<Outcome>, id: CallId, answer: Result<u8, Refusal>) -> Vec<Outcome>
     requires empty { room.items ≡ [] }
     requires count { vec_len room ≡ 0 }

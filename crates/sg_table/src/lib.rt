@@ -5,11 +5,9 @@
 mod call;
 mod gateway;
 mod handled;
-mod leg;
 mod manual;
+mod path;
 mod table;
-#[cfg(test)]
-mod tests;
 
 pub use handled::{End, Handled};
 pub use manual::Manual;

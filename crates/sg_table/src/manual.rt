@@ -1,4 +1,4 @@
-//! A call that is keyed by hand.
+//! A call that is keyed manually.
 
 ghost use Rattle.std.specs.Prelude.{◌≡◌, ◌≤◌, ◌<◌, ◌++◌, true, false, [], ◌∷◌, Some, length, List, ℕ, IfOk, OnOk};
 ghost use Rattle.sg_base.specs.declared.addresses.Kind.TheVariants as kind;
@@ -10,28 +10,31 @@ ghost use Rattle.sg_keys.specs.Reused.{IsDerived};
 ghost use Rattle.sg_session.specs.Halves.{half_of};
 ghost use Rattle.sg_session.specs.Session.{Session};
 ghost use Rattle.sg_gateway.specs.Generations.{owner_at, sessions_from};
-ghost use Rattle.sg_gateway.specs.Plain.{session_by_hand, sessions_by_hand};
-ghost use Rattle.sg_gateway.specs.Signals.{medium_by_hand};
-ghost use Rattle.sg_table.specs.Keying.{by_hand_of, CanBeMade};
+ghost use Rattle.sg_gateway.specs.ManualCalls.{manual_session, manual_sessions};
+ghost use Rattle.sg_gateway.specs.Signals.{manual_medium};
+ghost use Rattle.sg_table.specs.Keying.{manual_call_of};
 ghost use Rattle.sg_media.specs.Accepting.{IsMadeOf};
-ghost use Rattle.sg_table.specs.Standing.{EachStands, LegStandsFor};
+ghost use Rattle.sg_media.specs.Sides.{CanBeMade};
+ghost use Rattle.std.specs.Box.{boxed_slice_items};
+ghost use Rattle.sg_table.specs.Standing.{EachStands, PathStandsFor};
 
-use crate::leg::{Leg, MediaSide};
+use crate::path::{MediaSide, Path};
 use arrayvec::ArrayVec;
-use sg_base::{Address, CallId, CipherKey, HalfKeys, Kind, MasterKey, NoMemory, SessionKeys};
-use sg_gateway::{RTCP_LIFE, RTP_LIFE, SEALING_WINDOW, is_raw, leg_of, next_port, port_at};
+use sg_base::{
+    Address, CallId, CipherKey, HalfKeys, Kind, MasterKey, NoMemory, RTCP_LIFE, RTCP_TAG, RTP_LIFE,
+    SessionKeys, WINDOW_LEAST, WINDOW_MOST,
+};
+use sg_gateway::{leg_of, next_port, port_at};
 use sg_keys::{KeySet, LiveKey, SessionSpec};
 use sg_media::{OpenSide, SealSide};
 use sg_session::{Admit, Direction};
 use std::alloc::Global;
+use std::boxed::BoxedSlice;
 
-/// The octets of an SRTCP tag in every suite (RFC 4568, 6.2).
-const RTCP_TAG: u8 = 10;
-
-/// The one medium of a call that is keyed by hand.
+/// The one medium of a call that is keyed manually.
 const MEDIUM: u8 = 0;
 
-/// What a line says of a call that is keyed by hand.
+/// What a line says of a call that is keyed manually.
 #[derive(Drop)]
 pub struct Manual {
     pub id: CallId,
@@ -51,37 +54,37 @@ pub fn derived(master: &MasterKey) -> Derived
     ensures master { result.0 ≡ master.now }
     ensures derived { IsDerived result }
 {
-    (master.again(), sg_kdf::derive(master))
+    (master.clone(), sg_kdf::derive(master))
 }
 
 impl Manual {
-    /// The legs of the call in this slot, whose keys have the two numbers from `number` on.
-    pub(crate) fn legs(
+    /// The paths of the call in this slot, whose keys have the two numbers from `number` on.
+    pub(crate) fn paths(
         &self,
         alloc: Global,
         slot: u8,
         number: u32,
         from_peer: &Derived,
         to_peer: &Derived,
-    ) -> Result<Vec<Leg>, NoMemory>
+    ) -> Result<BoxedSlice<Path>, NoMemory>
         requires number { number ≤ 65536 }
         requires from_peer { from_peer.now.0 ≡ self.now.from_peer }
         requires from_derived { IsDerived from_peer.now }
         requires to_peer { to_peer.now.0 ≡ self.now.to_peer }
         requires to_derived { IsDerived to_peer.now }
-        ensures { IfOk result (λ legs. EachStands (LegStandsFor slot) legs.items (sessions_from slot 0 0 number (Some (medium_by_hand (by_hand_of self.now)) ∷ []))) }
+        ensures { IfOk result (λ paths. EachStands (PathStandsFor slot) (boxed_slice_items paths) (sessions_from slot 0 0 number (Some (manual_medium (manual_call_of self.now)) ∷ []))) }
     {
-        let mut legs = Vec::new(alloc);
-        let window = self.window.clamp(64, 1024);
-        self.add_opening(&mut legs, slot, number, from_peer, window)?;
-        self.add_sealing(&mut legs, slot, number + 1, to_peer)?;
-        Ok(legs)
+        let mut paths = Vec::new(alloc);
+        let window = self.window.clamp(WINDOW_LEAST, WINDOW_MOST);
+        self.add_opening(&mut paths, slot, number, from_peer, window)?;
+        self.add_sealing(&mut paths, slot, number + 1, to_peer)?;
+        Ok(paths.into_boxed_slice())
     }
 
-    /// Adds the legs of what the peer sends: RTP, and RTCP where there is some.
+    /// Adds the paths of what the peer sends: RTP, and RTCP where there is some.
     fn add_opening(
         &self,
-        legs: &mut Vec<Leg>,
+        paths: &mut Vec<Path>,
         slot: u8,
         number: u32,
         keys: &Derived,
@@ -91,63 +94,63 @@ impl Manual {
         requires at_most { window ≤ 1024 }
         requires key { keys.now.0 ≡ self.now.from_peer }
         requires derived { IsDerived keys.now }
-        ensures { OnOk result ((ss : List Session) → EachStands (LegStandsFor slot) legs.old.items ss
-            → EachStands (LegStandsFor slot) legs.new.items (ss ++ sessions_by_hand (by_hand_of self.now) (owner_at slot 0 0 direction.Opening) number keys.now.0 window)) }
+        ensures { OnOk result ((ss : List Session) → EachStands (PathStandsFor slot) paths.old.items ss
+            → EachStands (PathStandsFor slot) paths.new.items (ss ++ manual_sessions (manual_call_of self.now) (owner_at slot 0 0 direction.Opening) number keys.now.0 window)) }
     {
         let rtp = self.opening(Kind::Rtp, slot, number, keys, window);
-        legs.push(rtp)?;
+        paths.push(rtp)?;
         if self.has_rtcp() {
             let rtcp = self.opening(Kind::Rtcp, slot, number, keys, window);
-            legs.push(rtcp)?;
+            paths.push(rtcp)?;
         }
         Ok(())
     }
 
-    /// Adds the legs of what the gateway sends to the peer.
+    /// Adds the paths of what the gateway sends to the peer.
     fn add_sealing(
         &self,
-        legs: &mut Vec<Leg>,
+        paths: &mut Vec<Path>,
         slot: u8,
         number: u32,
         keys: &Derived,
     ) -> Result<(), NoMemory>
         requires key { keys.now.0 ≡ self.now.to_peer }
         requires derived { IsDerived keys.now }
-        ensures { OnOk result ((ss : List Session) → EachStands (LegStandsFor slot) legs.old.items ss
-            → EachStands (LegStandsFor slot) legs.new.items (ss ++ sessions_by_hand (by_hand_of self.now) (owner_at slot 0 0 direction.Sealing) number keys.now.0 1024)) }
+        ensures { OnOk result ((ss : List Session) → EachStands (PathStandsFor slot) paths.old.items ss
+            → EachStands (PathStandsFor slot) paths.new.items (ss ++ manual_sessions (manual_call_of self.now) (owner_at slot 0 0 direction.Sealing) number keys.now.0 1024)) }
     {
         let rtp = self.sealing(Kind::Rtp, slot, number, keys);
-        legs.push(rtp)?;
+        paths.push(rtp)?;
         if self.has_rtcp() {
             let rtcp = self.sealing(Kind::Rtcp, slot, number, keys);
-            legs.push(rtcp)?;
+            paths.push(rtcp)?;
         }
         Ok(())
     }
 
     /// Whether there is RTCP: not under raw keys, nor where no port follows the RTP port of a side.
     fn has_rtcp(&self) -> bool
-        ensures value { result ≡ (medium_by_hand (by_hand_of self.now)).has_rtcp }
+        ensures value { result ≡ (manual_medium (manual_call_of self.now)).has_rtcp }
         ensures from_peer { result ≡ true → is_raw self.now.from_peer.suite ≡ false }
         ensures to_peer { result ≡ true → is_raw self.now.to_peer.suite ≡ false }
         ensures secure { result ≡ true → self.now.secure.port < 65535 }
         ensures plain { result ≡ true → self.now.plain.port < 65535 }
     {
-        let secret = !is_raw(self.from_peer.suite()) && !is_raw(self.to_peer.suite());
+        let secret = !self.from_peer.suite().is_raw() && !self.to_peer.suite().is_raw();
         secret && self.secure.port < 65535 && self.plain.port < 65535
     }
 
-    /// The leg of one kind of what the peer sends.
-    fn opening(&self, kind: Kind, slot: u8, number: u32, keys: &Derived, window: u16) -> Leg
+    /// The path of one kind of what the peer sends.
+    fn opening(&self, kind: Kind, slot: u8, number: u32, keys: &Derived, window: u16) -> Path
         requires at_least { 64 ≤ window }
         requires at_most { window ≤ 1024 }
         requires derived { IsDerived keys.now }
         requires secret { kind ≡ Kind.Rtcp → is_raw keys.now.0.suite ≡ false }
         requires port { kind ≡ Kind.Rtcp → self.now.plain.port < 65535 }
-        ensures { LegStandsFor slot result (session_by_hand (by_hand_of self.now) (owner_at slot 0 0 direction.Opening) kind number keys.now.0 window) }
+        ensures { PathStandsFor slot result (manual_session (manual_call_of self.now) (owner_at slot 0 0 direction.Opening) kind number keys.now.0 window) }
     {
         let spec = self.spec(kind, number, keys, window);
-        Leg {
+        Path {
             port: port_at(slot, MEDIUM, leg_of(Direction::Opening, kind)),
             out: port_at(slot, MEDIUM, leg_of(Direction::Sealing, kind)),
             to: next_port(kind, self.plain),
@@ -156,15 +159,15 @@ impl Manual {
         }
     }
 
-    /// The leg of one kind of what the gateway sends to the peer.
-    fn sealing(&self, kind: Kind, slot: u8, number: u32, keys: &Derived) -> Leg
+    /// The path of one kind of what the gateway sends to the peer.
+    fn sealing(&self, kind: Kind, slot: u8, number: u32, keys: &Derived) -> Path
         requires derived { IsDerived keys.now }
         requires secret { kind ≡ Kind.Rtcp → is_raw keys.now.0.suite ≡ false }
         requires port { kind ≡ Kind.Rtcp → self.now.secure.port < 65535 }
-        ensures { LegStandsFor slot result (session_by_hand (by_hand_of self.now) (owner_at slot 0 0 direction.Sealing) kind number keys.now.0 1024) }
+        ensures { PathStandsFor slot result (manual_session (manual_call_of self.now) (owner_at slot 0 0 direction.Sealing) kind number keys.now.0 1024) }
     {
-        let spec = self.spec(kind, number, keys, SEALING_WINDOW);
-        Leg {
+        let spec = self.spec(kind, number, keys, WINDOW_MOST);
+        Path {
             port: port_at(slot, MEDIUM, leg_of(Direction::Sealing, kind)),
             out: port_at(slot, MEDIUM, leg_of(Direction::Opening, kind)),
             to: next_port(kind, self.secure),
@@ -174,13 +177,14 @@ impl Manual {
     }
 
     /// What a side of one kind is made of: one key, of which nothing is served.
+    #[tactic(auto, using(sg_media::proofs::TagLengths::suite_tag))]
     fn spec(&self, kind: Kind, number: u32, keys: &Derived, window: u16) -> SessionSpec
         requires at_least { 64 ≤ window }
         requires at_most { window ≤ 1024 }
         requires derived { IsDerived keys.now }
         requires secret { kind ≡ Kind.Rtcp → is_raw keys.now.0.suite ≡ false }
         ensures can { CanBeMade result }
-        ensures made { (owner : Owner) → IsMadeOf (session_by_hand (by_hand_of self.now) owner kind number keys.now.0 window) result }
+        ensures made { (owner : Owner) → IsMadeOf (manual_session (manual_call_of self.now) owner kind number keys.now.0 window) result }
     {
         sg_kdf::laws::keys_have_their_lengths();
         sg_kdf::laws::encryption_keys_are_not_empty();
@@ -188,21 +192,21 @@ impl Manual {
         match kind {
             Kind::Rtp => SessionSpec {
                 kind,
-                keys: key_set(number, again(&keys.1.rtp), RTP_LIFE),
+                keys: key_set(number, clone_of(&keys.1.rtp), RTP_LIFE),
                 roc: self.roc,
                 window,
                 admit: Admit::Any,
-                encrypt: !is_raw(suite),
+                encrypt: !suite.is_raw(),
                 tag_len: suite.tag_len() as u8,
             },
             Kind::Rtcp => SessionSpec {
                 kind,
-                keys: key_set(number, again(&keys.1.rtcp), RTCP_LIFE),
+                keys: key_set(number, clone_of(&keys.1.rtcp), RTCP_LIFE),
                 roc: self.roc,
                 window,
                 admit: Admit::Any,
                 encrypt: true,
-                tag_len: RTCP_TAG,
+                tag_len: RTCP_TAG as u8,
             },
         }
     }
@@ -224,8 +228,8 @@ fn key_set(number: u32, half: HalfKeys, life: u64) -> KeySet
     KeySet::make(keys)
 }
 
-/// The same keys again, without memory.
-fn again(half: &HalfKeys) -> HalfKeys
+/// A clone of the keys, without memory.
+fn clone_of(half: &HalfKeys) -> HalfKeys
     ensures { result ≡ half.now }
 {
     HalfKeys {

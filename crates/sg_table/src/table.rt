@@ -1,24 +1,22 @@
 //! The table.
 
-ghost use Rattle.std.specs.Prelude.{◌≡◌, ◌<◌, ◌≤◌, ◌++◌, Ok, Err, None, length, map, [], position, List, All, IfOk, OnOk, OnErr, MatchResult};
+ghost use Rattle.std.specs.Prelude.{◌≡◌, ◌<◌, ◌≤◌, ◌++◌, Ok, Err, None, length, map, [], position, List, IfOk, OnOk, OnErr, MatchResult};
 ghost use Rattle.std.specs.List.{list_any};
-ghost use Rattle.sg_gateway.specs.Signals.{by_hand};
-ghost use Rattle.sg_table.specs.Keying.{by_hand_of, early, refusal_of, IsKeyed};
-ghost use Rattle.sg_base.specs.Keys.{Master};
-ghost use Rattle.sg_keys.specs.Installing.{masters_of};
-ghost use Rattle.sg_keys.specs.Reused.{IsDerived};
-ghost use Rattle.sg_session.specs.Ring.{Installed, install};
+ghost use Rattle.sg_gateway.specs.Signals.{manual_answer};
+ghost use Rattle.sg_table.specs.Keying.{manual_call_of, early, refusal_of, IsKeyed};
+ghost use Rattle.sg_keys.specs.Installing.{keys_of};
+ghost use Rattle.sg_keys.specs.Reused.{given};
+ghost use Rattle.sg_session.specs.Ring.{Installed, RingKey, install};
 ghost use Rattle.sg_gateway.specs.Datagrams.{arrived_at};
 ghost use Rattle.sg_gateway.specs.Ports.{call_at};
 ghost use Rattle.sg_gateway.specs.World.{World, empty, same_id};
 ghost use Rattle.sg_table.specs.Handling.{IsHandled};
 ghost use Rattle.sg_table.specs.Standing.{TableStandsFor, has_call_port};
 
-use crate::call::Call;
+use crate::call::{Call, pass};
 use crate::handled::{End, Handled};
 use crate::manual::{Derived, Manual, derived};
-use sg_base::{Address, CallId, DropCause, NoMemory, Pad, Refusal};
-use sg_gateway::CALLS_MOST;
+use sg_base::{Address, CALLS_MOST, CallId, DropCause, NoMemory, Pad, Refusal};
 use sg_keys::{Ring, RingFault};
 use std::alloc::Global;
 use std::marker::Model;
@@ -76,10 +74,10 @@ impl Table {
         deliver(&mut self.calls, port, from, pad)
     }
 
-    /// Makes a call that is keyed by hand and tells its slot, or why it is refused. What is refused, or wants
-    /// memory, leaves the table as it was.
+    /// Makes a call that is keyed manually and tells its slot, or why it is refused. What is refused, or is out
+    /// of memory, leaves the table as it was.
     pub fn manual(&mut self, alloc: Global, manual: Manual) -> Result<Result<u8, Refusal>, NoMemory>
-        ensures keyed { IfOk result (λ r. (w : World) → TableStandsFor self.old w → IsKeyed manual.id r self.new (by_hand w (by_hand_of manual))) }
+        ensures keyed { IfOk result (λ r. (w : World) → TableStandsFor self.old w → IsKeyed manual.id r self.new (manual_answer w (manual_call_of manual))) }
         ensures refused { IfOk result (λ r. OnErr r (self.new ≡ self.old)) }
         ensures err { OnErr result (self.new ≡ self.old) }
     {
@@ -97,7 +95,7 @@ impl Table {
     fn key(&mut self, alloc: Global, manual: Manual) -> Result<Result<u8, Refusal>, NoMemory>
         requires free { early self.old.calls manual.id ≡ None }
         requires room { length self.old.calls < 256 }
-        ensures keyed { IfOk result (λ r. (w : World) → TableStandsFor self.old w → IsKeyed manual.id r self.new (by_hand w (by_hand_of manual))) }
+        ensures keyed { IfOk result (λ r. (w : World) → TableStandsFor self.old w → IsKeyed manual.id r self.new (manual_answer w (manual_call_of manual))) }
         ensures refused { IfOk result (λ r. OnErr r (self.new ≡ self.old)) }
         ensures err { OnErr result (self.new ≡ self.old) }
     {
@@ -105,14 +103,14 @@ impl Table {
         let number = self.ring.count();
         let from_peer = derived(&manual.from_peer);
         let to_peer = derived(&manual.to_peer);
-        let legs = manual.legs(alloc, slot, number, &from_peer, &to_peer)?;
+        let paths = manual.paths(alloc, slot, number, &from_peer, &to_peer)?;
         self.calls.reserve(1)?;
         match install(&mut self.ring, &[from_peer, to_peer])? {
             Ok(()) => {
                 self.calls.push_reserved(Call {
                     id: manual.id,
                     slot,
-                    legs,
+                    paths,
                 });
                 Ok(Ok(slot))
             }
@@ -123,11 +121,10 @@ impl Table {
 
 /// Takes keys into the ring, all or none, or tells why not.
 fn install(ring: &mut Ring, keys: &[Derived]) -> Result<Result<(), Refusal>, NoMemory>
-    requires few { length keys.now ≤ 65536 }
-    requires derived { All IsDerived keys.now }
-    ensures installs { IfOk result (λ r. (old new : List Installed) → masters_of old ≡ ring.old → masters_of new ≡ map (λ k. k.0) keys.now
+    requires { length keys.now ≤ 65536 }
+    ensures installs { IfOk result (λ r. (old new : List Installed) → keys_of old ≡ ring.old → keys_of new ≡ map given keys.now
         → MatchResult r (λ _. install old new ≡ Ok (old ++ new)) (λ cause. install old new ≡ Err cause)) }
-    ensures ok { IfOk result (λ r. OnOk r (ring.new ≡ ring.old ++ map (λ k. k.0) keys.now)) }
+    ensures ok { IfOk result (λ r. OnOk r (ring.new ≡ ring.old ++ map given keys.now)) }
     ensures refused { IfOk result (λ r. OnErr r (ring.new ≡ ring.old)) }
     ensures err { OnErr result (ring.new ≡ ring.old) }
 {
@@ -140,7 +137,7 @@ fn install(ring: &mut Ring, keys: &[Derived]) -> Result<Result<(), Refusal>, NoM
     }
 }
 
-/// The refusal of keys that the ring doesn't take in; none where memory is wanting.
+/// The refusal of keys that the ring doesn't take in; none where it is out of memory.
 fn refusal_of(fault: RingFault) -> Option<Refusal>
     ensures { result ≡ refusal_of fault }
 {
@@ -151,25 +148,26 @@ fn refusal_of(fault: RingFault) -> Option<Refusal>
     }
 }
 
-/// Hands a datagram to the call that has its port.
+/// Hands a datagram to the call that has its port. Neither the calls nor what they hold hands out an
+/// allocator.
 fn deliver(calls: &mut [Call], port: u16, from: Address, pad: Pad) -> Handled
-    ensures { (ring : List Master) (w : World) → TableStandsFor (record { calls = calls.old; ring = ring }) w
+    ensures { (ring : List RingKey) (w : World) → TableStandsFor (record { calls = calls.old; ring = ring }) w
         → IsHandled port pad result (record { calls = calls.new; ring = ring }) (arrived_at w port from pad (call_at w port)) }
 {
-    match place(calls, port) {
+    match position_at(calls, port) {
         None => Handled {
             pad,
             end: End::Dropped(DropCause::PortUnused),
         },
         Some(i) => {
             let call = &mut calls[i];
-            call.datagram(port, from, pad)
+            pass(call.paths.as_mut_slice(), port, from, pad)
         }
     }
 }
 
-/// The place of the call that has a port.
-fn place(calls: &[Call], port: u16) -> Option<usize>
+/// The position of the call that has a port.
+fn position_at(calls: &[Call], port: u16) -> Option<usize>
     ensures { result ≡ position (has_call_port port) calls.now }
 {
     calls.iter().position(|call| call.has_port(port))

@@ -1,7 +1,11 @@
+//! Lines that are made, chosen, answered and printed.
+
 use crate::{
-    CryptoLine, answer_line, choose, match_answer, offer_lines, print_crypto, read_crypto,
+    CryptoLine, InlineKey, InlineKeys, answer_line, choose, match_answer, offer_lines,
+    print_crypto, read_crypto,
 };
-use sg_base::{Octets, SdesFault, Suite};
+use arrayvec::ArrayVec;
+use sg_base::{MasterKey, Mki, Octets, SdesFault, Suite};
 use std::alloc::Global;
 use std::test::Fail;
 
@@ -61,6 +65,43 @@ fn spellings(rt: HostRuntime) -> Result<(), Fail> {
     for (value, spelling) in &rows {
         let line = read_crypto(value).ok().ok_or("it is a crypto line")?;
         assert_eq!(rt; printed(rt.alloc(), &line)?.as_slice(), *spelling);
+    }
+    Ok(())
+}
+
+/// The octets 0 to 29.
+const COUNTED: &[u8] =
+    b"\x00\x01\x02\x03\x04\x05\x06\x07\x08\x09\x0a\x0b\x0c\x0d\x0e\x0f\x10\x11\x12\x13\x14\x15\x16\x17\x18\x19\x1a\x1b\x1c\x1d";
+
+fn with_mki(octets: &[u8], lifetime: u64, mki: u128) -> Result<InlineKey, Fail> {
+    Ok(InlineKey {
+        key: MasterKey::new(Suite::Cm128Tag80, octets).ok_or("it has 30 octets")?,
+        lifetime,
+        mki: Mki::new(mki, 4),
+    })
+}
+
+/// Two keys that were put together here are printed, and taken apart again.
+#[test]
+fn a_line_of_two_keys(rt: HostRuntime) -> Result<(), Fail> {
+    let mut list: ArrayVec<InlineKey, 8> = ArrayVec::new();
+    list.push(with_mki(b"YS___semctl () {\t220;}\n}\nunles", 1048576, 1)?);
+    list.push(with_mki(COUNTED, 2, 2)?);
+    let line = CryptoLine {
+        tag: 1,
+        suite: Suite::Cm128Tag80,
+        keys: InlineKeys::of(list),
+        window: None,
+        plain_rtp: false,
+        plain_rtcp: false,
+    };
+    assert_eq!(rt;
+        printed(rt.alloc(), &line)?.as_slice(),
+        b"1 AES_CM_128_HMAC_SHA1_80 inline:WVNfX19zZW1jdGwgKCkgewkyMjA7fQp9CnVubGVz|1048576|1:4;inline:AAECAwQFBgcICQoLDA0ODxAREhMUFRYXGBkaGxwd|2|2:4".as_slice()
+    );
+    let lifetimes = [1048576, 2];
+    for (key, lifetime) in line.keys.into_list().as_slice().iter().zip(lifetimes) {
+        assert_eq!(rt; key.lifetime, lifetime);
     }
     Ok(())
 }

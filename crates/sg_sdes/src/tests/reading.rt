@@ -1,3 +1,5 @@
+//! Values of crypto attributes, read.
+
 use crate::read_crypto;
 use sg_base::{SdesFault, Suite};
 use std::test::Fail;

@@ -3,7 +3,7 @@ use Rattle.std.specs.List.{AllByRecursion, AllPairs}
 use Rattle.sg_gateway.proofs.Datagrams.{Apart, journal_kept, every_turn}
 use Rattle.sg_gateway.proofs.Kept.{IsKept, EntryKept}
 use Rattle.sg_gateway.proofs.Pairs.{pairs_from, pairs_to, pairs_flat_map, each_two}
-use Rattle.sg_gateway.proofs.Sound.{sound_on, hand_sound}
+use Rattle.sg_gateway.proofs.Sound.{sound_on, manual_sound}
 use Rattle.sg_gateway.proofs.Used.{IsGood, Sealing_is_sound, entries_sound, one_used, two_used}
 use Rattle.sg_gateway.specs.Runs.{turns, journal, world_after}
 use Rattle.sg_gateway.specs.Step.{Event}
@@ -15,11 +15,11 @@ use Rattle.sg_gateway.proofs.laws.no_counter_block_twice.Goals as goal
 
 module _ (es : List Event) where
   kept : AllPairs Apart (journal es) × IsKept IsSound (journal es) (world_after empty es)
-  kept = journal_kept IsSound sound_on hand_sound es
+  kept = journal_kept IsSound sound_on manual_sound es
 
   sound : AllByRecursion Sealing_is_sound (journal es)
   sound = each_flat_map (λ t. AllByRecursion Sealing_is_sound t.entries) Sealing_is_sound (λ t. t.entries) (λ t p. p) (turns es)
-      (every_turn IsSound sound_on hand_sound
+      (every_turn IsSound sound_on manual_sound
       (λ t. Unit {0}) (λ t. AllByRecursion Sealing_is_sound t.entries) (λ past w e k u. entries_sound past w k e) es (each_of (λ t. Unit {0}) (λ t. tt) (turns es)))
 
   twice : NoBlockTwice es

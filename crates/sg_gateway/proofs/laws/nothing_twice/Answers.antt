@@ -1,16 +1,23 @@
 use Rattle.std.proofs.Common.{ℕ, List, [], ◌∷◌, ◌<◌, length, get_or, arith, Some}
-use Rattle.std.specs.List.{AllPairs}
+use Rattle.std.specs.List.{AllByRecursion, AllPairs}
 use Rattle.std.proofs.lemmas.List.Elements.{All-from_recursion}
-use Rattle.sg_gateway.proofs.Datagrams.{Apart, journal_kept}
+use Rattle.sg_gateway.proofs.Datagrams.{Apart, every_turn, every_world, journal_kept}
 use Rattle.sg_gateway.proofs.Kept.{IsKept, EntryKept}
+use Rattle.sg_gateway.proofs.Lives.{HasLives, new_lives, taken_lives}
+use Rattle.sg_gateway.proofs.Orderly.{Ordered, event_ordered}
+use Rattle.sg_gateway.proofs.Owned.{owned_at}
 use Rattle.sg_gateway.proofs.Owners.{one_owner, one_key, same_place}
 use Rattle.sg_gateway.specs.Datagrams.{Entry}
 use Rattle.sg_gateway.specs.Generations.{sessions_from}
-use Rattle.sg_gateway.specs.Runs.{journal, world_after}
-use Rattle.sg_gateway.specs.Signals.{medium_by_hand}
-use Rattle.sg_gateway.specs.Step.{Event}
-use Rattle.sg_gateway.specs.World.{empty}
-use Rattle.sg_session.proofs.Lists.{each_of}
+use Rattle.sg_gateway.proofs.Reached.{empty_ordered}
+use Rattle.sg_gateway.proofs.Sessions.{event_each}
+use Rattle.sg_gateway.specs.Lives.{KeysAreWithinLives}
+use Rattle.sg_gateway.specs.Owned.{KeysAreOwned}
+use Rattle.sg_gateway.specs.Runs.{journal, turns, world_after}
+use Rattle.sg_gateway.specs.Signals.{manual_medium}
+use Rattle.sg_gateway.specs.Step.{Event, step}
+use Rattle.sg_gateway.specs.World.{World, empty}
+use Rattle.sg_session.proofs.Lists.{each_of, each_weaker}
 use Rattle.sg_session.specs.Session.{Session}
 use Rattle.sg_gateway.proofs.laws.nothing_twice.Goals as goal
 
@@ -18,7 +25,7 @@ abbrev Any : Session → Type 0
 Any s = Unit {0}
 
 kept : (es : List Event) → AllPairs Apart (journal es) × IsKept Any (journal es) (world_after empty es)
-kept es = journal_kept Any (λ n d s u. tt) (λ h call generation n. each_of Any (λ s. tt) (sessions_from call generation 0 n (Some (medium_by_hand h) ∷ []))) es
+kept es = journal_kept Any (λ n d s u. tt) (λ h call generation n. each_of Any (λ s. tt) (sessions_from call generation 0 n (Some (manual_medium h) ∷ []))) es
 
 entry : (es : List Event) (i : ℕ) (d : Entry) → i < length (journal es) → EntryKept Any (world_after empty es).books.ring (world_after empty es).made (get_or (journal es) i d)
 entry es i d lt = All-from_recursion _ (journal es) (kept es).1.entries i d lt
@@ -37,3 +44,29 @@ returns-clause-owner c = λ es i j d below lt.
       one_owner Any (world_after empty es).books.ring (world_after empty es).made (kept es).1.ring _ _ of_i of_j,
       one_key Any (world_after empty es).books.ring (world_after empty es).made (kept es).1.ring _ _ of_i of_j,
     )
+
+pub returns-clause-owned : goal.returns-clause-owned
+returns-clause-owned c = λ es. (
+  All-from_recursion (λ t. KeysAreOwned t.before) (turns es)
+      (every_turn Any (λ n d s u. tt) (λ h call generation n. each_of Any (λ s. tt) (sessions_from call generation 0 n (Some (manual_medium h) ∷ [])))
+      (λ t. Unit {0}) (λ t. KeysAreOwned t.before) (λ past w e kept u. owned_at Any past w kept) es (each_of (λ t. Unit {0}) (λ t. tt) (turns es))),
+  owned_at Any (journal es) (world_after empty es) (kept es).1,
+)
+
+record LivesKept (w : World) : Type 0 where
+  ordered : Ordered w
+  each : AllByRecursion (λ c. AllByRecursion HasLives c.sessions) w.calls
+
+lives_of : (w : World) → LivesKept w → KeysAreWithinLives w
+lives_of w is = each_weaker _ _ (λ c of_c. each_weaker _ _ (λ s has. has.within) c.sessions of_c) w.calls is.each
+
+pub returns-clause-lives : goal.returns-clause-lives
+returns-clause-lives c = λ es.
+    let all = every_world Any (λ n d s u. tt) (λ h call generation n. each_of Any (λ s. tt) (sessions_from call generation 0 n (Some (manual_medium h) ∷ [])))
+    (λ w e. Unit {0}) LivesKept
+    (λ past w e kept u is. record {
+      ordered = event_ordered Any past w kept is.ordered e;
+      each = event_each HasLives (λ e. Unit {0}) new_lives taken_lives w is.ordered is.each e (each_of (λ e. Unit {0}) (λ e. tt) (step w e).entries);
+    })
+    es (each_of (λ t. Unit {0}) (λ t. tt) (turns es)) (record { ordered = empty_ordered; each = tt }) in
+    (All-from_recursion (λ t. KeysAreWithinLives t.before) (turns es) (each_weaker _ _ (λ t is. lives_of t.before is) (turns es) all.0), lives_of (world_after empty es) all.1)

@@ -5,5 +5,5 @@ use Rattle.sg_keys.proofs.key_set.find_alive.Goals as goal
 
 pub returns-then-is_alive : goal.returns-then-is_alive
 returns-then-is_alive c =
-    found_here is_alive c.args.keys.now c.loop-place.place c.index-keys-place.result (search rules) c.index-keys-place.is
-    (sym (c.is_alive.ensures) ∙ c.if-is_alive.true) c.loop-place.invariant
+    found_here is_alive c.args.keys.now c.loop-position.position c.index-keys-position.result (search rules) c.index-keys-position.is
+    (sym (c.is_alive.ensures) ∙ c.if-is_alive.true) c.loop-position.invariant

@@ -5,5 +5,5 @@ use Rattle.sg_keys.proofs.key_set.find_mki.Goals as goal
 
 pub returns-then-has_mki : goal.returns-then-has_mki
 returns-then-has_mki c =
-    found_here (has_mki c.args.mki.now) c.args.keys.now c.loop-place.place c.index-keys-place.result (search rules) c.index-keys-place.is
-    (sym (c.has_mki.ensures) ∙ c.if-has_mki.true) c.loop-place.invariant
+    found_here (has_mki c.args.mki.now) c.args.keys.now c.loop-position.position c.index-keys-position.result (search rules) c.index-keys-position.is
+    (sym (c.has_mki.ensures) ∙ c.if-has_mki.true) c.loop-position.invariant

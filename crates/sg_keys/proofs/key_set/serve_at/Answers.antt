@@ -7,13 +7,13 @@ use Rattle.sg_keys.proofs.key_set.serve_at.Goals as goal
 
 pub returns-clause-spent : goal.returns-clause-spent
 returns-clause-spent c = λ k e.
-    let same : c.serve.new.self ≡ served k = c.serve.ensures ∙ ap served (get_or_from_slice_get c.args.keys.now c.args.place k c.index-keys-place.result e) in
-    ap (slice_set c.args.keys.now c.args.place) same ∙ set_spent c.args.keys.now c.args.place k e c.requires.set.distinct
+    let same : c.serve.new.self ≡ served k = c.serve.ensures ∙ ap served (get_or_from_slice_get c.args.keys.now c.args.position k c.index-keys-position.result e) in
+    ap (slice_set c.args.keys.now c.args.position) same ∙ set_spent c.args.keys.now c.args.position k e c.requires.set.numbers
 
 pub returns-clause-set : goal.returns-clause-set
 returns-clause-set c =
     let k : Live = c.requires.alive.0 in
-    let e : slice_get c.args.keys.now c.args.place ≡ Some k = c.requires.alive.1 in
-    let same : c.serve.new.self ≡ served k = c.serve.ensures ∙ ap served (get_or_from_slice_get c.args.keys.now c.args.place k c.index-keys-place.result e) in
-    let all = ap (slice_set c.args.keys.now c.args.place) same ∙ set_spent c.args.keys.now c.args.place k e c.requires.set.distinct in
-    subst IsKeySet (sym all) (spent_set k.number c.args.keys.now c.requires.set)
+    let e : slice_get c.args.keys.now c.args.position ≡ Some k = c.requires.alive.1 in
+    let same : c.serve.new.self ≡ served k = c.serve.ensures ∙ ap served (get_or_from_slice_get c.args.keys.now c.args.position k c.index-keys-position.result e) in
+    let all = ap (slice_set c.args.keys.now c.args.position) same ∙ set_spent c.args.keys.now c.args.position k e c.requires.set.numbers in
+    subst IsKeySet (sym all) (spent_set c.args.keys.now c.args.position k e c.requires.alive.2 c.requires.set)

@@ -1,27 +1,81 @@
-use Rattle.std.proofs.Common.{◌≡◌, ℕ, true, List, ap, subst, sym, ◌∙◌}
+use Rattle.std.proofs.Common.{◌≡◌, ℕ, true, List, [], ◌∷◌, ◌++◌, ap, subst, sym, ◌∙◌}
 use Rattle.std.proofs.lemmas.Bool.{or_left}
+use Rattle.std.proofs.lemmas.Option.{get_or_from_slice_get}
 use Rattle.sg_session.specs.Session.{indices_of}
-use Rattle.sg_srtp.specs.Placing.{next_index}
+use Rattle.sg_srtp.specs.Streams.{IsStreamOf, StreamStands}
 use Rattle.sg_srtp.specs.StreamValues.{StreamValue}
-use Rattle.sg_media.specs.Answers.{roomed, sealed_at, told_of}
-use Rattle.sg_media.specs.Standing.{IsAt, StreamsStand, room_in}
-use Rattle.sg_media.proofs.Standing.{known_in}
+use Rattle.sg_media.specs.Answers.{closed_among, entry_out, roomed, told_of}
+use Rattle.sg_media.specs.Standing.{AreOfKind, IsAt, StreamsStand, room_in}
+use Rattle.sg_media.proofs.Standing.{known_in, known_stream, known_stands, of_kind-set, refilled}
 use Rattle.sg_media.proofs.sealing.seal_among.Goals as goal
+
+pub seal_in-requires-clause-source : goal.seal_in-requires-clause-source
+seal_in-requires-clause-source c =
+    let ssrc : ℕ = c.args.headed.head.ssrc in
+    let at : IsAt c.args.streams.now.items ssrc c.in-Some.at = subst (λ (ts : List StreamValue). IsAt ts ssrc c.in-Some.at) (c.as_slice.ensures.value) (subst (λ n. IsAt c.as_slice.result.now n c.in-Some.at) c.ssrc.ensures c.in-Some.ensures) in
+    let known = subst (λ (ts : List StreamValue). IsAt ts ssrc c.in-Some.at) (sym (c.as_mut_slice-known.ensures.value)) at in
+    let same = get_or_from_slice_get c.as_mut_slice-known.result.now c.in-Some.at known.stream c.index-known-at.result known.here in
+    let kinds = subst (λ (ts : List StreamValue). AreOfKind ts c.args.headed.kind) (sym (c.as_mut_slice-known.ensures.value)) c.requires.kinds in
+    subst (λ (t : StreamValue). IsStreamOf t c.args.headed.kind ssrc) (sym same) (record { same_kind = kinds c.in-Some.at known.stream known.here; same_source = known.source })
 
 pub returns-in-Ok-clause-answer : goal.returns-in-Ok-clause-answer
 returns-in-Ok-clause-answer c = λ done s.
     let ssrc : ℕ = c.args.headed.head.ssrc in
     let at : IsAt c.args.streams.now.items ssrc c.in-Some.at = subst (λ (ts : List StreamValue). IsAt ts ssrc c.in-Some.at) (c.as_slice.ensures.value) (subst (λ n. IsAt c.as_slice.result.now n c.in-Some.at) c.ssrc.ensures c.in-Some.ensures) in
+    let known = subst (λ (ts : List StreamValue). IsAt ts ssrc c.in-Some.at) (sym (c.as_mut_slice-known.ensures.value)) at in
+    let same = get_or_from_slice_get c.as_mut_slice-known.result.now c.in-Some.at known.stream c.index-known-at.result known.here in
+    let all = subst (λ (ts : List StreamValue). StreamsStand ts c.args.roc c.args.window done) (sym (c.as_mut_slice-known.ensures.value)) s in
+    let stands = subst (λ (t : StreamValue). StreamStands t ssrc c.args.roc c.args.window (indices_of done ssrc)) (sym same) (known_stream c.as_mut_slice-known.result.now c.args.roc c.args.window done ssrc c.in-Some.at all known) in
     let room : room_in done ssrc ≡ true = or_left _ _ (known_in c.args.streams.now.items c.args.roc c.args.window done ssrc c.in-Some.at s at) in
-    let stands = subst (λ (ts : List StreamValue). StreamsStand ts c.args.roc c.args.window done) (sym (c.as_mut_slice.ensures.value)) s in
-    c.in-Ok.ensures.answer done stands
-    ∙ ap (λ b. told_of c.args.headed.kind c.args.headed.pad (roomed b (sealed_at c.args.headed c.args.keys.now c.args.tag_len (next_index c.args.headed.kind c.args.roc c.args.window (indices_of done ssrc) c.args.headed.head.number)))) (sym room)
+    c.in-Ok.ensures.answer ssrc c.args.roc c.args.window (indices_of done ssrc) stands
+    ∙ ap (λ b. told_of c.args.headed.kind c.args.headed.pad (roomed b (closed_among c.args.headed c.args.keys.now c.args.tag_len c.args.roc c.args.window done))) (sym room)
 
 pub returns-in-Err-clause-answer : goal.returns-in-Err-clause-answer
 returns-in-Err-clause-answer c = λ done s.
     let ssrc : ℕ = c.args.headed.head.ssrc in
     let at : IsAt c.args.streams.now.items ssrc c.in-Some.at = subst (λ (ts : List StreamValue). IsAt ts ssrc c.in-Some.at) (c.as_slice.ensures.value) (subst (λ n. IsAt c.as_slice.result.now n c.in-Some.at) c.ssrc.ensures c.in-Some.ensures) in
+    let known = subst (λ (ts : List StreamValue). IsAt ts ssrc c.in-Some.at) (sym (c.as_mut_slice-known.ensures.value)) at in
+    let same = get_or_from_slice_get c.as_mut_slice-known.result.now c.in-Some.at known.stream c.index-known-at.result known.here in
+    let all = subst (λ (ts : List StreamValue). StreamsStand ts c.args.roc c.args.window done) (sym (c.as_mut_slice-known.ensures.value)) s in
+    let stands = subst (λ (t : StreamValue). StreamStands t ssrc c.args.roc c.args.window (indices_of done ssrc)) (sym same) (known_stream c.as_mut_slice-known.result.now c.args.roc c.args.window done ssrc c.in-Some.at all known) in
     let room : room_in done ssrc ≡ true = or_left _ _ (known_in c.args.streams.now.items c.args.roc c.args.window done ssrc c.in-Some.at s at) in
-    let stands = subst (λ (ts : List StreamValue). StreamsStand ts c.args.roc c.args.window done) (sym (c.as_mut_slice.ensures.value)) s in
-    c.in-Err.ensures.answer done stands
-    ∙ ap (λ b. told_of c.args.headed.kind c.args.headed.pad (roomed b (sealed_at c.args.headed c.args.keys.now c.args.tag_len (next_index c.args.headed.kind c.args.roc c.args.window (indices_of done ssrc) c.args.headed.head.number)))) (sym room)
+    c.in-Err.ensures.answer ssrc c.args.roc c.args.window (indices_of done ssrc) stands
+    ∙ ap (λ b. told_of c.args.headed.kind c.args.headed.pad (roomed b (closed_among c.args.headed c.args.keys.now c.args.tag_len c.args.roc c.args.window done))) (sym room)
+
+pub returns-in-Ok-clause-streams : goal.returns-in-Ok-clause-streams
+returns-in-Ok-clause-streams c = λ done s.
+    let ssrc : ℕ = c.args.headed.head.ssrc in
+    let at : IsAt c.args.streams.now.items ssrc c.in-Some.at = subst (λ (ts : List StreamValue). IsAt ts ssrc c.in-Some.at) (c.as_slice.ensures.value) (subst (λ n. IsAt c.as_slice.result.now n c.in-Some.at) c.ssrc.ensures c.in-Some.ensures) in
+    let known = subst (λ (ts : List StreamValue). IsAt ts ssrc c.in-Some.at) (sym (c.as_mut_slice-known.ensures.value)) at in
+    let same = get_or_from_slice_get c.as_mut_slice-known.result.now c.in-Some.at known.stream c.index-known-at.result known.here in
+    let all = subst (λ (ts : List StreamValue). StreamsStand ts c.args.roc c.args.window done) (sym (c.as_mut_slice-known.ensures.value)) s in
+    let stands = subst (λ (t : StreamValue). StreamStands t ssrc c.args.roc c.args.window (indices_of done ssrc)) (sym same) (known_stream c.as_mut_slice-known.result.now c.args.roc c.args.window done ssrc c.in-Some.at all known) in
+    let room : room_in done ssrc ≡ true = or_left _ _ (known_in c.args.streams.now.items c.args.roc c.args.window done ssrc c.in-Some.at s at) in
+    let source : c.in-Ok.sealed.ssrc ≡ ssrc = c.in-Ok.ensures.source in
+    let new = c.in-Ok.ensures.stream ssrc c.args.roc c.args.window (indices_of done ssrc) stands in
+    subst (λ (ts : List StreamValue). StreamsStand ts c.args.roc c.args.window (done ++ entry_out c.args.headed.pad c.in-Ok.sealed ∷ [])) (sym (refilled c.args.streams.now.items c.as_mut_slice-known.result.now c.in-Some.at c.seal_in.new.stream c.as_mut_slice-known.ensures.value))
+    (known_stands c.as_mut_slice-known.result.now c.args.roc c.args.window done c.in-Some.at c.seal_in.new.stream (entry_out c.args.headed.pad c.in-Ok.sealed) all
+    (subst (λ n. IsAt c.as_mut_slice-known.result.now n c.in-Some.at) (sym source) known)
+    (subst (λ n. StreamStands c.seal_in.new.stream n c.args.roc c.args.window (indices_of done n ++ c.in-Ok.sealed.index ∷ [])) (sym source) new))
+
+pub returns-in-Ok-clause-kinds : goal.returns-in-Ok-clause-kinds
+returns-in-Ok-clause-kinds c =
+    let ssrc : ℕ = c.args.headed.head.ssrc in
+    let at : IsAt c.args.streams.now.items ssrc c.in-Some.at = subst (λ (ts : List StreamValue). IsAt ts ssrc c.in-Some.at) (c.as_slice.ensures.value) (subst (λ n. IsAt c.as_slice.result.now n c.in-Some.at) c.ssrc.ensures c.in-Some.ensures) in
+    let known = subst (λ (ts : List StreamValue). IsAt ts ssrc c.in-Some.at) (sym (c.as_mut_slice-known.ensures.value)) at in
+    let same = get_or_from_slice_get c.as_mut_slice-known.result.now c.in-Some.at known.stream c.index-known-at.result known.here in
+    let kinds = subst (λ (ts : List StreamValue). AreOfKind ts c.args.headed.kind) (sym (c.as_mut_slice-known.ensures.value)) c.requires.kinds in
+    subst (λ (ts : List StreamValue). AreOfKind ts c.args.headed.kind) (sym (refilled c.args.streams.now.items c.as_mut_slice-known.result.now c.in-Some.at c.seal_in.new.stream c.as_mut_slice-known.ensures.value))
+    (of_kind-set c.as_mut_slice-known.result.now c.args.headed.kind c.in-Some.at c.seal_in.new.stream kinds
+    (c.in-Ok.ensures.of ∙ ap (λ (t : StreamValue). t.kind) same ∙ kinds c.in-Some.at known.stream known.here))
+
+pub returns-in-Err-clause-kinds : goal.returns-in-Err-clause-kinds
+returns-in-Err-clause-kinds c =
+    let ssrc : ℕ = c.args.headed.head.ssrc in
+    let at : IsAt c.args.streams.now.items ssrc c.in-Some.at = subst (λ (ts : List StreamValue). IsAt ts ssrc c.in-Some.at) (c.as_slice.ensures.value) (subst (λ n. IsAt c.as_slice.result.now n c.in-Some.at) c.ssrc.ensures c.in-Some.ensures) in
+    let known = subst (λ (ts : List StreamValue). IsAt ts ssrc c.in-Some.at) (sym (c.as_mut_slice-known.ensures.value)) at in
+    let same = get_or_from_slice_get c.as_mut_slice-known.result.now c.in-Some.at known.stream c.index-known-at.result known.here in
+    let kinds = subst (λ (ts : List StreamValue). AreOfKind ts c.args.headed.kind) (sym (c.as_mut_slice-known.ensures.value)) c.requires.kinds in
+    subst (λ (ts : List StreamValue). AreOfKind ts c.args.headed.kind) (sym (refilled c.args.streams.now.items c.as_mut_slice-known.result.now c.in-Some.at c.seal_in.new.stream c.as_mut_slice-known.ensures.value))
+    (of_kind-set c.as_mut_slice-known.result.now c.args.headed.kind c.in-Some.at c.seal_in.new.stream kinds
+    (c.in-Err.ensures.of ∙ ap (λ (t : StreamValue). t.kind) same ∙ kinds c.in-Some.at known.stream known.here))

@@ -1,44 +1,48 @@
-use Rattle.std.proofs.Common.{◌++◌, ◌∷◌, [], ap, subst, sym, ◌∙◌}
+use Rattle.std.proofs.Common.{◌≡◌, true, ◌++◌, ◌∷◌, [], ap, subst, sym, ◌∙◌}
 use Rattle.sg_keys.specs.Live.{spent, spent_if}
 use Rattle.sg_keys.proofs.Spending.{same_number}
 use Rattle.sg_srtp.specs.Outbound.{Outgoing, CanSeal}
+use Rattle.sg_srtp.specs.Parts.{is_tag_len}
 use Rattle.sg_srtp.specs.Placing.{next_index}
 use Rattle.sg_srtp.specs.Streams.{StreamStands}
 use Rattle.sg_media.proofs.SealingSteps.{at_spent, can_seal, seal_says, unsealed}
 use Rattle.sg_media.proofs.sealing.seal_in.Goals as goal
 
+pub seal-requires-clause-tag : goal.seal-requires-clause-tag
+seal-requires-clause-tag c = subst (λ (h : Outgoing). is_tag_len h.kind c.args.tag_len ≡ true) (sym (c.in-Ok.ensures.kept.same)) c.requires.tag
+
 pub seal-requires-clause-key : goal.seal-requires-clause-key
 seal-requires-clause-key c =
     let n = c.in-Ok.ensures.kept in
-    subst (λ (h : Outgoing). CanSeal c.number.new.keys c.in-Ok.numbered.place h.head.encrypted) (sym (n.same))
-    (can_seal c.args.keys.now c.number.new.keys c.in-Ok.numbered.place n.key c.args.headed.head.encrypted c.requires.ciphers n.at (c.in-Ok.ensures.spent n.key n.at))
+    subst (λ (h : Outgoing). CanSeal c.number.new.keys c.in-Ok.numbered.key c.in-Ok.numbered.number h.head.encrypted) (sym (n.same))
+    (can_seal c.args.keys.now c.number.new.keys c.in-Ok.numbered.key c.in-Ok.numbered.number n.key c.args.headed.head.encrypted c.requires.ciphers n.at n.number (c.in-Ok.ensures.spent ∙ ap (λ m. spent m c.args.keys.now) (sym n.number)))
 
 pub returns-in-Ok-clause-answer : goal.returns-in-Ok-clause-answer
 returns-in-Ok-clause-answer c = λ ssrc roc window indices s.
     let n = c.in-Ok.ensures.kept in
-    let at = at_spent c.args.keys.now c.number.new.keys c.in-Ok.numbered.place n.key n.at (c.in-Ok.ensures.spent n.key n.at) in
+    let at = at_spent c.args.keys.now c.number.new.keys c.in-Ok.numbered.key n.key n.at (c.in-Ok.ensures.spent ∙ ap (λ m. spent m c.args.keys.now) (sym n.number)) in
     seal_says c.args.headed c.args.keys.now c.args.tag_len (next_index c.args.headed.kind roc window indices c.args.headed.head.number) c.in-Ok.numbered n c.seal.result
     (c.in-Ok.ensures.answer ssrc roc window indices s) (c.seal.ensures (spent_if n.key.number n.key) at)
 
 pub returns-in-Ok-clause-stream : goal.returns-in-Ok-clause-stream
 returns-in-Ok-clause-stream c = λ ssrc roc window indices s.
     let n = c.in-Ok.ensures.kept in
-    let at = at_spent c.args.keys.now c.number.new.keys c.in-Ok.numbered.place n.key n.at (c.in-Ok.ensures.spent n.key n.at) in
+    let at = at_spent c.args.keys.now c.number.new.keys c.in-Ok.numbered.key n.key n.at (c.in-Ok.ensures.spent ∙ ap (λ m. spent m c.args.keys.now) (sym n.number)) in
     let o = c.seal.ensures (spent_if n.key.number n.key) at in
     subst (λ i. StreamStands c.number.new.stream ssrc roc window (indices ++ i ∷ [])) (sym (o.index)) (c.in-Ok.ensures.taken ssrc roc window indices s)
 
 pub returns-in-Ok-clause-keys : goal.returns-in-Ok-clause-keys
 returns-in-Ok-clause-keys c =
     let n = c.in-Ok.ensures.kept in
-    let s = c.in-Ok.ensures.spent n.key n.at in
-    let at = at_spent c.args.keys.now c.number.new.keys c.in-Ok.numbered.place n.key n.at s in
+    let s = c.in-Ok.ensures.spent ∙ ap (λ m. spent m c.args.keys.now) (sym n.number) in
+    let at = at_spent c.args.keys.now c.number.new.keys c.in-Ok.numbered.key n.key n.at s in
     let o = c.seal.ensures (spent_if n.key.number n.key) at in
     s ∙ ap (λ m. spent m c.args.keys.now) (sym (o.number ∙ same_number n.key.number n.key))
 
 pub returns-in-Ok-clause-source : goal.returns-in-Ok-clause-source
 returns-in-Ok-clause-source c =
     let n = c.in-Ok.ensures.kept in
-    let at = at_spent c.args.keys.now c.number.new.keys c.in-Ok.numbered.place n.key n.at (c.in-Ok.ensures.spent n.key n.at) in
+    let at = at_spent c.args.keys.now c.number.new.keys c.in-Ok.numbered.key n.key n.at (c.in-Ok.ensures.spent ∙ ap (λ m. spent m c.args.keys.now) (sym n.number)) in
     let o = c.seal.ensures (spent_if n.key.number n.key) at in
     o.ssrc ∙ ap (λ (h : Outgoing). h.head.ssrc) n.same
 

@@ -1,7 +1,7 @@
 use Rattle.std.proofs.Common.{◌≡◌, ℕ, length, Result, Err, ap, sym, ◌∙◌, arith}
 use Rattle.sg_mikey.specs.declared.message.Message.{Message}
 use Rattle.sg_mikey.specs.Reading.{message_of, placed, whole_at, Place}
-use Rattle.sg_mikey.proofs.MessageLaws.{found, message_again, has_spelling}
+use Rattle.sg_mikey.proofs.MessageLaws.{found, message_again}
 use Rattle.sg_mikey.proofs.reading.read.Goals as goal
 
 abbrev halted : Place → Result Message Place
@@ -10,9 +10,6 @@ halted p = Err p
 pub returns-in-Ok-clause-found : goal.returns-in-Ok-clause-found
 returns-in-Ok-clause-found c =
     found c.args.octets.now c.in-Ok.message (λ i. omega (arith, c.type_inv.octets i)) (ap (placed (length c.args.octets.now)) c.in-Ok.ensures)
-
-pub returns-in-Ok-clause-printable : goal.returns-in-Ok-clause-printable
-returns-in-Ok-clause-printable c = has_spelling c.in-Ok.message (returns-in-Ok-clause-found c).0
 
 pub returns-in-Ok-clause-only : goal.returns-in-Ok-clause-only
 returns-in-Ok-clause-only c = λ m is e.

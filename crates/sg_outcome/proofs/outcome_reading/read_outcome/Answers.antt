@@ -1,5 +1,5 @@
 use Rattle.std.proofs.Common.{ap, subst, ◌∙◌}
-use Rattle.sg_script.specs.Fields.{Gives}
+use Rattle.sg_lines.specs.Fields.{Gives}
 use Rattle.sg_outcome.specs.OutcomeOf.{outcome_of}
 use Rattle.sg_outcome.proofs.OutcomeLaws.{outcome_again, is_found}
 use Rattle.sg_outcome.proofs.outcome_reading.read_outcome.Goals as goal

@@ -1,37 +1,71 @@
 use Rattle.std.proofs.Common.{◌≡◌, List, Some, None, map, length, arith, sym, ap, ◌∙◌}
-use Rattle.std.proofs.lemmas.List.{length-map}
-use Rattle.sg_base.specs.Keys.{Master}
-use Rattle.sg_base.specs.declared.keys.SessionKeys.{SessionKeys}
-use Rattle.sg_keys.specs.Reused.{reused}
+use Rattle.std.proofs.lemmas.List.{length-map, map-id}
+use Rattle.sg_session.specs.Ring.{RingKey, key_of}
+use Rattle.sg_keys.specs.Reused.{given, reused}
 use Rattle.sg_keys.proofs.Reusing.{reused_says, full_says, fits_says}
 use Rattle.sg_keys.proofs.ring.Ring.install_all.Goals as goal
 
-abbrev front : List (Master × SessionKeys) → List Master
-front keys = map (λ k. k.0) keys
+abbrev same : List RingKey → List RingKey
+same keys = map (λ k. k) keys
+
+pub returns-in-Some-clause-answer : goal.returns-in-Some-clause-answer
+returns-in-Some-clause-answer c =
+    let news : List RingKey = map given c.args.keys.now in
+    let held : c.deref.result.now ≡ c.args.self.now = c.deref.ensures.value ∙ c.self.view_is in
+    let told : reused c.args.self.now news ≡ Some c.in-Some.number = ap (λ (ring : List RingKey). reused ring news) (sym held) ∙ sym (c.in-Some.ensures.reused) in
+    reused_says (λ k. k) c.args.self.now news c.args.self.now news (map-id c.args.self.now) (map-id news) c.in-Some.number told
 
 pub returns-in-Some-clause-installs : goal.returns-in-Some-clause-installs
-returns-in-Some-clause-installs c = λ ring new a b.
+returns-in-Some-clause-installs c =
+    let news : List RingKey = map given c.args.keys.now in
     let held : c.deref.result.now ≡ c.args.self.now = c.deref.ensures.value ∙ c.self.view_is in
-    let told : reused c.args.self.now (front c.args.keys.now) ≡ Some c.in-Some.number = ap (λ (ms : List Master). reused ms (front c.args.keys.now)) (sym held) ∙ sym (c.in-Some.ensures.reused) in
-    reused_says ring new c.args.self.now (front c.args.keys.now) c.in-Some.number a b told
+    let told : reused c.args.self.now news ≡ Some c.in-Some.number = ap (λ (ring : List RingKey). reused ring news) (sym held) ∙ sym (c.in-Some.ensures.reused) in
+    λ ring new a b. reused_says key_of ring new c.args.self.now news a b c.in-Some.number told
 
-pub returns-then-first-keys-gt-MOST-clause-installs : goal.returns-then-first-keys-gt-MOST-clause-installs
-returns-then-first-keys-gt-MOST-clause-installs c = λ ring new a b.
+pub returns-then-first-keys-gt-RING_KEYS_MOST-clause-answer : goal.returns-then-first-keys-gt-RING_KEYS_MOST-clause-answer
+returns-then-first-keys-gt-RING_KEYS_MOST-clause-answer c =
+    let news : List RingKey = map given c.args.keys.now in
     let held : c.deref.result.now ≡ c.args.self.now = c.deref.ensures.value ∙ c.self.view_is in
-    let none : reused c.args.self.now (front c.args.keys.now) ≡ None = ap (λ (ms : List Master). reused ms (front c.args.keys.now)) (sym held) ∙ sym (c.in_default.ensures.reused) in
+    let none : reused c.args.self.now news ≡ None = ap (λ (ring : List RingKey). reused ring news) (sym held) ∙ sym (c.in_default.ensures.reused) in
     let count : length c.args.self.now ≡ c.len-first.result = omega (arith, c.deref.ensures.len, c.len-first.ensures, ap length held) in
-    full_says ring new c.args.self.now (front c.args.keys.now) a b none (omega (arith, count, length-map c.args.keys.now (λ (k : Master × SessionKeys). k.0), c.if-first-keys-gt-MOST.true))
+    full_says (λ k. k) c.args.self.now news c.args.self.now news (map-id c.args.self.now) (map-id news) none (omega (arith, count, length-map c.args.keys.now given, c.if-first-keys-gt-RING_KEYS_MOST.true))
+
+pub returns-then-first-keys-gt-RING_KEYS_MOST-clause-installs : goal.returns-then-first-keys-gt-RING_KEYS_MOST-clause-installs
+returns-then-first-keys-gt-RING_KEYS_MOST-clause-installs c =
+    let news : List RingKey = map given c.args.keys.now in
+    let held : c.deref.result.now ≡ c.args.self.now = c.deref.ensures.value ∙ c.self.view_is in
+    let none : reused c.args.self.now news ≡ None = ap (λ (ring : List RingKey). reused ring news) (sym held) ∙ sym (c.in_default.ensures.reused) in
+    let count : length c.args.self.now ≡ c.len-first.result = omega (arith, c.deref.ensures.len, c.len-first.ensures, ap length held) in
+    λ ring new a b. full_says key_of ring new c.args.self.now news a b none (omega (arith, count, length-map c.args.keys.now given, c.if-first-keys-gt-RING_KEYS_MOST.true))
+
+pub returns-in-Ok-clause-answer : goal.returns-in-Ok-clause-answer
+returns-in-Ok-clause-answer c =
+    let news : List RingKey = map given c.args.keys.now in
+    let held : c.deref.result.now ≡ c.args.self.now = c.deref.ensures.value ∙ c.self.view_is in
+    let none : reused c.args.self.now news ≡ None = ap (λ (ring : List RingKey). reused ring news) (sym held) ∙ sym (c.in_default.ensures.reused) in
+    let count : length c.args.self.now ≡ c.len-first.result = omega (arith, c.deref.ensures.len, c.len-first.ensures, ap length held) in
+    fits_says (λ k. k) c.args.self.now news c.args.self.now news (map-id c.args.self.now) (map-id news) none (omega (arith, count, length-map c.args.keys.now given, c.if-first-keys-gt-RING_KEYS_MOST.false))
 
 pub returns-in-Ok-clause-installs : goal.returns-in-Ok-clause-installs
-returns-in-Ok-clause-installs c = λ ring new a b.
+returns-in-Ok-clause-installs c =
+    let news : List RingKey = map given c.args.keys.now in
     let held : c.deref.result.now ≡ c.args.self.now = c.deref.ensures.value ∙ c.self.view_is in
-    let none : reused c.args.self.now (front c.args.keys.now) ≡ None = ap (λ (ms : List Master). reused ms (front c.args.keys.now)) (sym held) ∙ sym (c.in_default.ensures.reused) in
+    let none : reused c.args.self.now news ≡ None = ap (λ (ring : List RingKey). reused ring news) (sym held) ∙ sym (c.in_default.ensures.reused) in
     let count : length c.args.self.now ≡ c.len-first.result = omega (arith, c.deref.ensures.len, c.len-first.ensures, ap length held) in
-    fits_says ring new c.args.self.now (front c.args.keys.now) a b none (omega (arith, count, length-map c.args.keys.now (λ (k : Master × SessionKeys). k.0), c.if-first-keys-gt-MOST.false))
+    λ ring new a b. fits_says key_of ring new c.args.self.now news a b none (omega (arith, count, length-map c.args.keys.now given, c.if-first-keys-gt-RING_KEYS_MOST.false))
+
+pub returns-in-Err-clause-answer : goal.returns-in-Err-clause-answer
+returns-in-Err-clause-answer c =
+    let news : List RingKey = map given c.args.keys.now in
+    let held : c.deref.result.now ≡ c.args.self.now = c.deref.ensures.value ∙ c.self.view_is in
+    let none : reused c.args.self.now news ≡ None = ap (λ (ring : List RingKey). reused ring news) (sym held) ∙ sym (c.in_default.ensures.reused) in
+    let count : length c.args.self.now ≡ c.len-first.result = omega (arith, c.deref.ensures.len, c.len-first.ensures, ap length held) in
+    fits_says (λ k. k) c.args.self.now news c.args.self.now news (map-id c.args.self.now) (map-id news) none (omega (arith, count, length-map c.args.keys.now given, c.if-first-keys-gt-RING_KEYS_MOST.false))
 
 pub returns-in-Err-clause-installs : goal.returns-in-Err-clause-installs
-returns-in-Err-clause-installs c = λ ring new a b.
+returns-in-Err-clause-installs c =
+    let news : List RingKey = map given c.args.keys.now in
     let held : c.deref.result.now ≡ c.args.self.now = c.deref.ensures.value ∙ c.self.view_is in
-    let none : reused c.args.self.now (front c.args.keys.now) ≡ None = ap (λ (ms : List Master). reused ms (front c.args.keys.now)) (sym held) ∙ sym (c.in_default.ensures.reused) in
+    let none : reused c.args.self.now news ≡ None = ap (λ (ring : List RingKey). reused ring news) (sym held) ∙ sym (c.in_default.ensures.reused) in
     let count : length c.args.self.now ≡ c.len-first.result = omega (arith, c.deref.ensures.len, c.len-first.ensures, ap length held) in
-    fits_says ring new c.args.self.now (front c.args.keys.now) a b none (omega (arith, count, length-map c.args.keys.now (λ (k : Master × SessionKeys). k.0), c.if-first-keys-gt-MOST.false))
+    λ ring new a b. fits_says key_of ring new c.args.self.now news a b none (omega (arith, count, length-map c.args.keys.now given, c.if-first-keys-gt-RING_KEYS_MOST.false))

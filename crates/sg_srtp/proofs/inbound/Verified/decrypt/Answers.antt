@@ -6,4 +6,4 @@ use Rattle.sg_srtp.proofs.inbound.Verified.decrypt.Goals as goal
 pub returns-clause-stream : goal.returns-clause-stream
 returns-clause-stream c = λ ssrc roc window indices s.
     let same : c.placed.inside.index ≡ c.args.self.index = ap (λ (p : Placing). p.index) (c.placed.view_is ∙ c.self.view_is) in
-    subst (λ i. StreamStands c.take.new.self ssrc roc window (indices ++ i ∷ [])) same (c.take.ensures ssrc roc window indices s)
+    subst (λ i. StreamStands c.take.new.self ssrc roc window (indices ++ i ∷ [])) same (c.take.ensures.stands ssrc roc window indices s)

@@ -28,8 +28,8 @@ invariant_of-self-in-Some c =
       same_seen = c.mark.ensures c.self.invariant.window indices c.self.invariant.same_seen;
     }
 
-pub returns-in-None : goal.returns-in-None
-returns-in-None c = λ ssrc roc window indices st.
+pub returns-in-None-clause-stands : goal.returns-in-None-clause-stands
+returns-in-None-clause-stands c = λ ssrc roc window indices st.
     let s = subst (λ (v : StreamValue). StreamStands v ssrc roc window indices) (sym (c.self.view_is)) st in
     let empty : highest_of indices ≡ None = sym (s.top) ∙ c.in-None.is in
     let here : c.start.result ≡ c.args.index = omega arith in
@@ -40,8 +40,8 @@ returns-in-None c = λ ssrc roc window indices st.
       seen = c.mark.ensures window indices s.seen;
     }
 
-pub returns-in-Some : goal.returns-in-Some
-returns-in-Some c = λ ssrc roc window indices st.
+pub returns-in-Some-clause-stands : goal.returns-in-Some-clause-stands
+returns-in-Some-clause-stands c = λ ssrc roc window indices st.
     let s = subst (λ (v : StreamValue). StreamStands v ssrc roc window indices) (sym (c.self.view_is)) st in
     let some : highest_of indices ≡ Some c.in-Some.place = sym (s.top) ∙ c.in-Some.is in
     record {

@@ -1,0 +1,17 @@
+mod AllAgreed
+mod DecodedBytes
+mod DistinctMkis
+mod FewMedia
+mod Inversions
+mod KeyedSound
+mod LineNumbers
+mod LinesSound
+mod MessageKeys
+mod MessageOctets
+mod MessagesSound
+mod SessionsSound
+mod SideWalks
+mod Sound
+mod Texts
+mod TwoSided
+pub mod Walks

@@ -1,0 +1,6 @@
+//! The ring, the sides and the table beside those of the reference.
+
+mod ring;
+mod scripts;
+mod sides;
+mod tables;

@@ -1,0 +1,60 @@
+-- One medium's crypto sessions after another.
+use Rattle.std.proofs.Common.{◌≡◌, ◌<◌, ◌+◌, ℕ, length, arith, List, [], ◌∷◌, ◌++◌, Option, Some, None, Result, Ok, Err, refl, ap, sym, ◌∙◌, append_assoc, append-nil}
+use Rattle.std.specs.Prelude.{option_map}
+use Rattle.sg_base.specs.Fields.{◌>>=◌}
+use Rattle.sg_base.specs.declared.faults.CsFault.{CsFault}
+use Rattle.sg_base.specs.declared.faults.CsFault.TheVariants.{PolicyValue}
+use Rattle.sg_mikey.specs.declared.message.CsEntry.{CsEntry}
+use Rattle.sg_mikey.specs.declared.message.Tgk.{Tgk}
+use Rattle.sg_mikey.specs.declared.policy.Policy.{Policy}
+use Rattle.sg_csmap.specs.CryptoSessions.{Gives, or_fault, pair_in, pairs_from}
+use Rattle.sg_csmap.specs.declared.sessions.StreamKeys.{StreamKeys}
+use Rattle.sg_csmap.specs.declared.faults.CsError.{CsError}
+use Rattle.sg_csmap.specs.declared.faults.CsError.TheVariants as errors
+
+-- what is there already, and what is still made
+abbrev pub behind : {A : Type 0} → List A → Option (List A) → Option (List A)
+behind done (Some rest) = Some (done ++ rest)
+behind done None = None
+
+pub is_there : {A : Type 0} (x : Option A) (a : A) → or_fault PolicyValue x ≡ Ok a → x ≡ Some a
+is_there (Some b) a e = cc
+is_there None a e = absurd cc
+
+-- an error of the first is one of what goes on with it
+pub err_through : {A B : Type 0} (e : CsError) (x : Option A) (next : A → Option B) → Gives {X = A} (Err e) (or_fault PolicyValue x) → Gives {X = B} (Err e) (or_fault PolicyValue (x >>= next))
+err_through (errors.Cs f) (Some a) next is = absurd cc
+err_through (errors.Cs f) None next is = let same : PolicyValue ≡ f = cc in ap Err same
+err_through errors.NoMemory x next is = tt
+
+pub err_at : {A B : Type 0} (e : CsError) (done : List B) (x : Option A) (next : A → Option (List B)) (total : Option (List B)) → Gives {X = A} (Err e) (or_fault PolicyValue x)
+    → behind done (x >>= next) ≡ total → Gives {X = List B} (Err e) (or_fault PolicyValue total)
+err_at (errors.Cs f) done (Some a) next total is so_far = absurd cc
+err_at (errors.Cs f) done None next total is so_far = let same : PolicyValue ≡ f = cc in ap (or_fault PolicyValue) (sym so_far) ∙ ap Err same
+err_at errors.NoMemory done x next total is so_far = tt
+
+pub goes_on : {A : Type 0} (done : List A) (a : A) (x : Option A) (rest total : Option (List A)) → or_fault PolicyValue x ≡ Ok a
+    → behind done (x >>= λ y. option_map (λ ys. y ∷ ys) rest) ≡ total → behind (done ++ a ∷ []) rest ≡ total
+goes_on done a (Some b) (Some rest) total is so_far = let same : b ≡ a = cc in ap Some (append_assoc done (a ∷ []) rest) ∙ ap (λ y. Some (done ++ y ∷ rest)) (sym same) ∙ so_far
+goes_on done a (Some b) None total is so_far = so_far
+goes_on done a None rest total is so_far = absurd cc
+
+pub ends : {A : Type 0} (done : List A) (rest total : Option (List A)) → rest ≡ Some [] → behind done rest ≡ total → or_fault PolicyValue total ≡ Ok done
+ends done rest total none so_far =
+    ap (or_fault PolicyValue) (sym so_far ∙ ap (behind done) none ∙ ap Some (append-nil done))
+
+pub none_left : (csb : ℕ) (random : List ℕ) (policies : List Policy) (tgks : List Tgk) (session : ℕ) (map : List CsEntry) → length map < 2 → pairs_from csb random policies tgks session map ≡ Some []
+unfolding pairs_from
+none_left csb random policies tgks session [] few = refl
+none_left csb random policies tgks session (i ∷ []) few = refl
+none_left csb random policies tgks session (i ∷ r ∷ map) few = absurd (omega (arith, few))
+
+-- one medium more
+pub one_more : (csb : ℕ) (random : List ℕ) (policies : List Policy) (tgks : List Tgk) (session : ℕ) (i r : CsEntry) (rest map : List CsEntry)
+    (done : List (StreamKeys × StreamKeys)) (pair : StreamKeys × StreamKeys) (total : Option (List (StreamKeys × StreamKeys)))
+    → rest ≡ i ∷ r ∷ map → or_fault PolicyValue (pair_in csb random policies tgks session i r) ≡ Ok pair
+    → behind done (pairs_from csb random policies tgks session rest) ≡ total → behind (done ++ pair ∷ []) (pairs_from csb random policies tgks (session + 2) map) ≡ total
+unfolding pairs_from
+one_more csb random policies tgks session i r rest map done pair total are is so_far =
+    goes_on done pair (pair_in csb random policies tgks session i r) (pairs_from csb random policies tgks (session + 2) map) total is
+    (ap (λ m. behind done (pairs_from csb random policies tgks session m)) (sym are) ∙ so_far)

@@ -1,0 +1,2 @@
+pub mod CryptoSessions
+pub mod Policies

@@ -1,0 +1,377 @@
+//! Links in memory: one that fails where it is told to, and one that never fails.
+
+ghost use Rattle.std.specs.Prelude.{◌≡◌, ◌⊎◌, ◌≤◌, ℕ, Bool, true, false, not, ◌||◌, List, [], ◌∷◌, ◌++◌, Option, Some, None, drop, take, OnOk, IfOk, IsOk, IsSome, IsTrue, Ok};
+ghost use Rattle.std.specs.Result.{is_err, is_ok};
+ghost use Rattle.std.specs.Option.{option_map};
+ghost use Rattle.sg_edge.specs.LinksInMemory.{FailsAsAsked, call_of, history, next_of};
+ghost use Rattle.sg_edge.specs.Links.{Added, Bind, Came, LinkCall, Receive, Send, Unbind, received};
+ghost use Rattle.sg_edge.specs.Memory.{after_call, fails_next, no_calls};
+ghost use Rattle.sg_edge.specs.Told.{HasCause};
+
+use crate::link::{Link, Receipt};
+use crate::memory::CallBook;
+use sg_base::{Address, Failed, Octets, PAD_MOST, Pad};
+use std::alloc::Global;
+use std::marker::Model;
+
+/// One call of a link, as it is kept.
+#[derive(Drop)]
+pub enum Kept {
+    Bound {
+        port: u16,
+        ok: bool,
+    },
+    Unbound {
+        port: u16,
+        ok: bool,
+    },
+    Got {
+        port: u16,
+        from: Address,
+        octets: Octets,
+    },
+    Nothing,
+    Failing,
+    Sent {
+        port: u16,
+        to: Address,
+        octets: Octets,
+        ok: bool,
+    },
+}
+
+/// The datagrams that are to come, and the record of the calls.
+#[derive(Drop)]
+struct LinkBook {
+    alloc: Global,
+    receipts: Vec<Option<(u16, Address, Octets)>>,
+    at: usize,
+    kept: Vec<Kept>,
+    tells: bool,
+}
+
+impl Model for LinkBook {
+    ghost use Rattle.std.specs.Prelude.{Some, None, if◌then◌else◌, drop};
+    ghost use Rattle.sg_edge.specs.LinksInMemory.{LinkInMemory, history};
+
+    ghost Value = { LinkInMemory };
+
+    ghost view = { λ b. record { left = drop b.at b.receipts.items; told = if b.tells then Some (history b.kept.items) else None } };
+}
+
+impl LinkBook {
+    fn new(alloc: Global, receipts: Vec<Option<(u16, Address, Octets)>>) -> LinkBook
+        ensures left { result.left ≡ receipts.items }
+        ensures told { result.told ≡ Some [] }
+    {
+        LinkBook {
+            alloc,
+            receipts,
+            at: 0,
+            kept: Vec::new(alloc),
+            tells: true,
+        }
+    }
+
+    /// Adds a call to the record; answers false where no memory is found for it.
+    fn keep(&mut self, call: Kept) -> bool
+        ensures kept { result ≡ true → self.new.told ≡ option_map (λ l. l ++ call_of call ∷ []) self.old.told }
+        ensures lost { result ≡ false → (self.new.told ≡ None) × IsSome self.old.told }
+        ensures left { self.new.left ≡ self.old.left }
+    {
+        if self.tells && self.kept.push(call).is_err() {
+            self.tells = false;
+            return false;
+        }
+        true
+    }
+
+    /// Adds a receive that gave a datagram.
+    fn keep_got(&mut self, port: u16, from: Address, octets: &[u8]) -> bool
+        ensures kept { result ≡ true → self.new.told ≡ option_map (λ l. l ++ Receive (Came port from octets.now) ∷ []) self.old.told }
+        ensures lost { result ≡ false → (self.new.told ≡ None) × IsSome self.old.told }
+        ensures left { self.new.left ≡ self.old.left }
+    {
+        if !self.tells {
+            return true;
+        }
+        match Octets::copy_of(self.alloc, octets) {
+            Err(_) => {
+                self.tells = false;
+                false
+            }
+            Ok(octets) => self.keep(Kept::Got { port, from, octets }),
+        }
+    }
+
+    /// Adds a receive that gave this, with these octets in the pad.
+    fn keep_receipt(&mut self, receipt: Receipt, octets: &[u8]) -> bool
+        ensures kept { result ≡ true → self.new.told ≡ option_map (λ l. l ++ Receive (received (Ok receipt) octets.now) ∷ []) self.old.told }
+        ensures lost { result ≡ false → (self.new.told ≡ None) × IsSome self.old.told }
+        ensures left { self.new.left ≡ self.old.left }
+    {
+        match receipt {
+            Receipt::Got { port, from } => self.keep_got(port, from, octets),
+            Receipt::Nothing => self.keep(Kept::Nothing),
+        }
+    }
+
+    /// Adds a send.
+    fn keep_sent(&mut self, port: u16, to: Address, octets: &[u8], ok: bool) -> bool
+        ensures kept { result ≡ true → self.new.told ≡ option_map (λ l. l ++ Send port to octets.now ok ∷ []) self.old.told }
+        ensures lost { result ≡ false → (self.new.told ≡ None) × IsSome self.old.told }
+        ensures left { self.new.left ≡ self.old.left }
+    {
+        if !self.tells {
+            return true;
+        }
+        match Octets::copy_of(self.alloc, octets) {
+            Err(_) => {
+                self.tells = false;
+                false
+            }
+            Ok(octets) => self.keep(Kept::Sent {
+                port,
+                to,
+                octets,
+                ok,
+            }),
+        }
+    }
+
+    /// The next datagram that is to come, in the pad.
+    fn next(&mut self, pad: &mut Pad) -> Receipt
+        ensures came { received (Ok result) pad.new ≡ next_of self.old.left }
+        ensures left { self.new.left ≡ drop 1 self.old.left }
+        ensures told { self.new.told ≡ self.old.told }
+    {
+        let receipt = match self.receipts.get(self.at) {
+            Some(Some((port, from, octets))) => {
+                fill_front(pad, octets.as_slice());
+                Receipt::Got {
+                    port: *port,
+                    from: *from,
+                }
+            }
+            _ => Receipt::Nothing,
+        };
+        self.at = self.at.saturating_add(1);
+        receipt
+    }
+}
+
+/// The pad's octets become these, of more than 4,352 the first so many.
+fn fill_front(pad: &mut Pad, octets: &[u8])
+    ensures { pad.new ≡ take 4352 octets.now }
+{
+    let count = octets.len().min(PAD_MOST);
+    pad.cut_to(0);
+    pad.append(&octets[..count]);
+}
+
+/// A link over datagrams in memory, which keeps a record of its calls. A call fails exactly where its
+/// number, from 1, is in the list that it was made with, or where no memory is found for the record: then
+/// the link tells no record from then on. A receive that fails leaves what is to come as it is.
+#[derive(Drop)]
+pub struct MemLink {
+    link: LinkBook,
+    book: CallBook,
+}
+
+impl Model for MemLink {
+    ghost use Rattle.sg_edge.specs.LinksInMemory.{FailingLink};
+
+    ghost Value = { FailingLink };
+
+    ghost view = { λ l. record { link = l.link; calls = l.book } };
+}
+
+impl MemLink {
+    /// A link to which these datagrams are to come, None where nothing comes; the calls with these numbers
+    /// fail.
+    pub fn make(
+        alloc: Global,
+        receipts: Vec<Option<(u16, Address, Octets)>>,
+        fails: Vec<u64>,
+    ) -> MemLink
+        ensures left { result.link.left ≡ receipts.items }
+        ensures told { result.link.told ≡ Some [] }
+        ensures calls { result.calls ≡ no_calls usize.MAX fails.items }
+    {
+        MemLink {
+            link: LinkBook::new(alloc, receipts),
+            book: CallBook::new(usize::MAX, fails),
+        }
+    }
+
+    /// The calls so far, where they are told.
+    pub fn calls(&self) -> Option<&[Kept]>
+        ensures { option_map (λ kept. history kept.now) result ≡ self.now.link.told }
+    {
+        if self.link.tells {
+            Some(self.link.kept.as_slice())
+        } else {
+            None
+        }
+    }
+
+    /// A receive was made, and kept or not.
+    fn gave(&mut self, fails: bool, kept: bool, receipt: Receipt) -> Result<Receipt, Failed>
+        ensures answer { is_err result ≡ (fails || not kept) }
+        ensures ok { IfOk result (λ r. r ≡ receipt) }
+        ensures link { self.new.link ≡ self.old.link }
+        ensures calls { self.new.calls ≡ after_call (is_err result) self.old.calls }
+        ensures cause { HasCause self.old.calls.faults self.new.calls.faults result }
+    {
+        match self.note(fails, kept) {
+            Err(Failed) => Err(Failed),
+            Ok(()) => Ok(receipt),
+        }
+    }
+
+    /// A call was made, and kept or not.
+    fn note(&mut self, fails: bool, kept: bool) -> Result<(), Failed>
+        ensures answer { is_err result ≡ (fails || not kept) }
+        ensures link { self.new.link ≡ self.old.link }
+        ensures calls { self.new.calls ≡ after_call (is_err result) self.old.calls }
+        ensures cause { HasCause self.old.calls.faults self.new.calls.faults result }
+    {
+        let failed = fails || !kept;
+        self.book.note(failed);
+        if failed {
+            return Err(Failed);
+        }
+        Ok(())
+    }
+}
+
+impl Link for MemLink {
+    ghost told = { λ l. l.link.told };
+
+    ghost faults = { λ l. l.calls.faults };
+
+    fn bind(&mut self, port: u16) -> Result<(), Failed>
+        ensures told { Added self.old.link.told self.new.link.told (Bind port (is_ok result) ∷ []) }
+        ensures cause { HasCause self.old.calls.faults self.new.calls.faults result }
+        ensures fails { FailsAsAsked self.old self.new result }
+        ensures left { self.new.link.left ≡ self.old.link.left }
+    {
+        let fails = self.book.fails();
+        let kept = self.link.keep(Kept::Bound { port, ok: !fails });
+        self.note(fails, kept)
+    }
+
+    fn unbind(&mut self, port: u16) -> Result<(), Failed>
+        ensures told { Added self.old.link.told self.new.link.told (Unbind port (is_ok result) ∷ []) }
+        ensures cause { HasCause self.old.calls.faults self.new.calls.faults result }
+        ensures fails { FailsAsAsked self.old self.new result }
+        ensures left { self.new.link.left ≡ self.old.link.left }
+    {
+        let fails = self.book.fails();
+        let kept = self.link.keep(Kept::Unbound { port, ok: !fails });
+        self.note(fails, kept)
+    }
+
+    fn receive(&mut self, pad: &mut Pad) -> Result<Receipt, Failed>
+        ensures told { Added self.old.link.told self.new.link.told (Receive (received result pad.new) ∷ []) }
+        ensures cause { HasCause self.old.calls.faults self.new.calls.faults result }
+        ensures fails { FailsAsAsked self.old self.new result }
+        ensures gives { OnOk result (received result pad.new ≡ next_of self.old.link.left) }
+        ensures left { OnOk result (self.new.link.left ≡ drop 1 self.old.link.left) }
+        ensures stays { IsTrue (fails_next self.old.calls) → (self.new.link.left ≡ self.old.link.left) × (pad.new ≡ pad.old) }
+    {
+        if self.book.fails() {
+            let kept = self.link.keep(Kept::Failing);
+            return self.gave(true, kept, Receipt::Nothing);
+        }
+        let receipt = self.link.next(pad);
+        let kept = self.link.keep_receipt(receipt, pad.octets());
+        self.gave(false, kept, receipt)
+    }
+
+    fn send(&mut self, port: u16, to: Address, part: &[u8]) -> Result<(), Failed>
+        ensures told { Added self.old.link.told self.new.link.told (Send port to part.now (is_ok result) ∷ []) }
+        ensures cause { HasCause self.old.calls.faults self.new.calls.faults result }
+        ensures fails { FailsAsAsked self.old self.new result }
+        ensures left { self.new.link.left ≡ self.old.link.left }
+    {
+        let fails = self.book.fails();
+        let kept = self.link.keep_sent(port, to, part, !fails);
+        self.note(fails, kept)
+    }
+}
+
+/// A link over datagrams in memory that never fails. Where it finds no memory for its record, it tells none
+/// from then on, and goes on.
+#[derive(Drop)]
+pub struct SureLink {
+    link: LinkBook,
+}
+
+impl Model for SureLink {
+    ghost use Rattle.sg_edge.specs.LinksInMemory.{LinkInMemory};
+
+    ghost Value = { LinkInMemory };
+
+    ghost view = { λ l. l.link };
+}
+
+impl SureLink {
+    /// A link to which these datagrams are to come, None where nothing comes.
+    pub fn make(alloc: Global, receipts: Vec<Option<(u16, Address, Octets)>>) -> SureLink
+        ensures left { result.left ≡ receipts.items }
+        ensures told { result.told ≡ Some [] }
+    {
+        SureLink {
+            link: LinkBook::new(alloc, receipts),
+        }
+    }
+}
+
+impl Link for SureLink {
+    ghost told = { λ l. l.told };
+
+    ghost faults = { λ _. 0 };
+
+    fn bind(&mut self, port: u16) -> Result<(), Failed>
+        ensures told { Added self.old.told self.new.told (Bind port (is_ok result) ∷ []) }
+        ensures cause { HasCause 0 0 result }
+        ensures sure { IsOk result }
+        ensures left { self.new.left ≡ self.old.left }
+    {
+        let _kept = self.link.keep(Kept::Bound { port, ok: true });
+        Ok(())
+    }
+
+    fn unbind(&mut self, port: u16) -> Result<(), Failed>
+        ensures told { Added self.old.told self.new.told (Unbind port (is_ok result) ∷ []) }
+        ensures cause { HasCause 0 0 result }
+        ensures sure { IsOk result }
+        ensures left { self.new.left ≡ self.old.left }
+    {
+        let _kept = self.link.keep(Kept::Unbound { port, ok: true });
+        Ok(())
+    }
+
+    fn receive(&mut self, pad: &mut Pad) -> Result<Receipt, Failed>
+        ensures told { Added self.old.told self.new.told (Receive (received result pad.new) ∷ []) }
+        ensures cause { HasCause 0 0 result }
+        ensures sure { IsOk result }
+        ensures gives { received result pad.new ≡ next_of self.old.left }
+        ensures left { self.new.left ≡ drop 1 self.old.left }
+    {
+        let receipt = self.link.next(pad);
+        let _kept = self.link.keep_receipt(receipt, pad.octets());
+        Ok(receipt)
+    }
+
+    fn send(&mut self, port: u16, to: Address, part: &[u8]) -> Result<(), Failed>
+        ensures told { Added self.old.told self.new.told (Send port to part.now (is_ok result) ∷ []) }
+        ensures cause { HasCause 0 0 result }
+        ensures sure { IsOk result }
+        ensures left { self.new.left ≡ self.old.left }
+    {
+        let _kept = self.link.keep_sent(port, to, part, true);
+        Ok(())
+    }
+}

@@ -1,0 +1,8 @@
+pub mod Dense
+mod FaultLaws
+pub mod FieldLaws
+mod Joins
+mod Lengths
+pub mod LineLaws
+pub mod ServedLaws
+pub mod Splits

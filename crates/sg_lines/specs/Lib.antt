@@ -1,0 +1,6 @@
+pub mod Fields
+pub mod LineFaults
+pub mod LineOf
+pub mod LineText
+pub mod ScriptLines
+pub mod ServedLine

@@ -1,0 +1,4 @@
+//! The tests, by what they try.
+
+mod lines;
+mod served;

@@ -1,0 +1,10 @@
+use Rattle.std.proofs.Common.{◌≡◌, ◌∙◌, sym, subst}
+use Rattle.sg_psk.proofs.PairLemmas.{same_pair}
+use Rattle.sg_psk.specs.Sending.{response_of}
+use Rattle.sg_psk.specs.StandsFor.{Gives, sent_as}
+use Rattle.sg_psk.proofs.sending.read_response.Goals as goal
+
+pub returns : goal.returns
+returns c = λ pair at.
+    subst (λ p. Gives (λ map entries. map ≡ entries) c.answer_under.result (response_of c.args.octets.now c.args.message.now (sent_as c.args.waiting.now p)))
+    (same_pair _ _ (sym c.pair.ensures ∙ at)) c.answer_under.ensures

@@ -1,0 +1,10 @@
+pub mod Accepting
+pub mod Ends
+pub mod Envelope
+pub mod KeyData
+pub mod Pairs
+pub mod Parts
+pub mod Policy
+pub mod Sending
+pub mod Stamps
+pub mod StandsFor
