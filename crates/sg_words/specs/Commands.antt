@@ -59,3 +59,7 @@ IsOneOf words (s ∷ ss) = (words ≡ s) ⊎ IsOneOf words ss
 -- the words are that command
 abbrev pub AreWordsOf : Words → Command → Type 0
 AreWordsOf words command = IsCommand command × IsOneOf words (spellings command)
+
+-- the words are no command
+abbrev pub IsNoCommand : Words → Type 0
+IsNoCommand words = (command : Command) → AreWordsOf words command → ⊥

@@ -2,7 +2,7 @@
 
 ghost use Rattle.std.specs.Prelude.{◌≡◌, ◌≢◌, ◌≤◌, ◌⊎◌, ◌∷◌, ℕ, List, map, IfOk, IfSome, Ok, Err, string_bytes, codes, option_map, option_and_then};
 ghost use Rattle.clap.specs.Words.{FailsBy, fault_of, subcommand_of, subcommand_rows_of, first_of};
-ghost use Rattle.sg_words.specs.Commands.{AreWordsOf};
+ghost use Rattle.sg_words.specs.Commands.{AreWordsOf, IsNoCommand};
 ghost use Rattle.sg_words.specs.Grammar.{srtpgw};
 ghost use Rattle.sg_words.specs.Reading.{command_by, demo_by, first_said, positive, relay_by, replay_by, text_in, workers_by};
 ghost use Rattle.sg_words.specs.declared.command.Command.{Command};
@@ -156,6 +156,7 @@ fn refused(kind: ErrorKind) -> CommandFault
 /// that none is behind it.
 pub fn read_command(alloc: Global, words: &[String]) -> Result<Command, CommandFault>
     ensures command { IfOk result (λ c. AreWordsOf (map string_bytes words.now) c) }
+    ensures usage { result ≡ Err CommandFault.Usage → IsNoCommand (map string_bytes words.now) }
     ensures told { (c : Command) → AreWordsOf (map string_bytes words.now) c → (result ≡ Ok c) ⊎ (result ≡ Err CommandFault.NoMemory) }
 {
     let matches = match cut(alloc, words) {

@@ -33,3 +33,17 @@ returns-clause-told c = λ command are.
     let read : None ≡ Some command =
     sym c.in-None.is ∙ taken_so words c.said.result (subcommand_rows_of c.in-Ok.matches) c.in-Ok.ensures.exact c.in-Ok.ensures.found c.said.ensures ∙ complete words command are in
     cc
+
+pub returns-in-Err-clause-usage : goal.returns-in-Err-clause-usage
+returns-in-Err-clause-usage c = λ is command are.
+    let memory = refused_so (map string_bytes c.args.words.now) c.kind.result c.refused.result command
+    (subst (λ (k : ErrorKind). (k ≡ kind.OutOfMemory) ⊎ IsAmong k (fault_of srtpgw (map string_bytes c.args.words.now))) (sym c.kind.ensures) c.in-Err.ensures.exact)
+    c.refused.ensures.memory are in
+    cc
+
+pub returns-clause-usage : goal.returns-clause-usage
+returns-clause-usage c = λ is command are.
+    let words = map string_bytes c.args.words.now in
+    let read : None ≡ Some command =
+    sym c.in-None.is ∙ taken_so words c.said.result (subcommand_rows_of c.in-Ok.matches) c.in-Ok.ensures.exact c.in-Ok.ensures.found c.said.ensures ∙ complete words command are in
+    cc
