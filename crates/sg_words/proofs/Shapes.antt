@@ -55,7 +55,8 @@ pub record IsDemoSeen (c s : Text) (o : Option Text) (rest : Words) : Type 0 whe
   pub workers : text_in (codes "workers") (codes "demo" ∷ rest) ≡ o
   pub written : are_written rest (c ∷ s ∷ []) (codes "--workers") o ≡ true
 
-pub replay_with : (v : Text) → IsValue v → (rest : Words) (others : List Words) → IsOneOf rest (with_option (codes "--workers") v ([]) ++ others)
+-- clap takes each way to write `replay` with its option, and finds its value
+pub replay_with : (v : Text) → IsValue v → (rest : Words) (others : List Words) → IsOneOf rest (with_option (codes "--workers") v [] ++ others)
     → (replay_seen (Some v) rest ≡ ([], Some v, true)) ⊎ IsOneOf rest others
 unfolding clap_on_literals
 replay_with v iv rest others (inl e) =
@@ -68,16 +69,18 @@ replay_with v iv rest others (inr (inr (inr (inl e)))) =
     inl (ap (replay_seen (Some v)) e ∙ (rw (iv.end, iv.long, iv.short, iv.itself) refl))
 replay_with v iv rest others (inr (inr (inr (inr o)))) = inr o
 
-pub replay_without : (rest : Words) (others : List Words) → IsOneOf rest (ended ([]) ++ others)
+-- and each way without it
+pub replay_without : (rest : Words) (others : List Words) → IsOneOf rest (ended [] ++ others)
     → (replay_seen None rest ≡ ([], None, true)) ⊎ IsOneOf rest others
 unfolding clap_on_literals
 replay_without rest others (inl e) =
-    inl (ap (replay_seen None) e ∙ (refl))
+    inl (ap (replay_seen None) e ∙ refl)
 replay_without rest others (inr (inl e)) =
-    inl (ap (replay_seen None) e ∙ (refl))
+    inl (ap (replay_seen None) e ∙ refl)
 replay_without rest others (inr (inr o)) = inr o
 
-pub relay_with : (v : Text) → IsValue v → (rest : Words) (others : List Words) → IsOneOf rest (with_option (codes "--turns") v ([]) ++ others)
+-- the same of `relay`
+pub relay_with : (v : Text) → IsValue v → (rest : Words) (others : List Words) → IsOneOf rest (with_option (codes "--turns") v [] ++ others)
     → (relay_seen (Some v) rest ≡ ([], Some v, true)) ⊎ IsOneOf rest others
 unfolding clap_on_literals
 relay_with v iv rest others (inl e) =
@@ -90,56 +93,190 @@ relay_with v iv rest others (inr (inr (inr (inl e)))) =
     inl (ap (relay_seen (Some v)) e ∙ (rw (iv.end, iv.long, iv.short, iv.itself) refl))
 relay_with v iv rest others (inr (inr (inr (inr o)))) = inr o
 
+-- the same of `demo` with its option: both numbers are found too
 pub demo_with : (c s v : Text) → IsValue c → IsValue s → IsValue v → (rest : Words) (others : List Words) → IsOneOf rest (with_option (codes "--workers") v (c ∷ s ∷ []) ++ others)
     → IsDemoSeen c s (Some v) rest ⊎ IsOneOf rest others
 unfolding clap_on_literals
 demo_with c s v ic is iv rest others (inl e) =
-    inl (subst (IsDemoSeen c s (Some v)) (sym e) (record { fault = rw (ic.end, ic.long, ic.short, is.end, is.long, is.short) refl; calls = rw (ic.end, ic.long, ic.short, is.end, is.long, is.short) refl; start = rw (ic.end, ic.long, ic.short, is.end, is.long, is.short) refl; workers = rw (ic.end, ic.long, ic.short, is.end, is.long, is.short) refl; written = rw (iv.itself, ic.end, ic.itself, is.end, is.itself) refl }))
+    inl (subst (IsDemoSeen c s (Some v)) (sym e) (record {
+      fault = rw (ic.end, ic.long, ic.short, is.end, is.long, is.short) refl;
+      calls = rw (ic.end, ic.long, ic.short, is.end, is.long, is.short) refl;
+      start = rw (ic.end, ic.long, ic.short, is.end, is.long, is.short) refl;
+      workers = rw (ic.end, ic.long, ic.short, is.end, is.long, is.short) refl;
+      written = rw (iv.itself, ic.end, ic.itself, is.end, is.itself) refl;
+    }))
 demo_with c s v ic is iv rest others (inr (inl e)) =
-    inl (subst (IsDemoSeen c s (Some v)) (sym e) (record { fault = refl; calls = refl; start = refl; workers = refl; written = rw (iv.itself, ic.itself, is.itself) refl }))
+    inl (subst (IsDemoSeen c s (Some v)) (sym e) (record {
+      fault = refl;
+      calls = refl;
+      start = refl;
+      workers = refl;
+      written = rw (iv.itself, ic.itself, is.itself) refl;
+    }))
 demo_with c s v ic is iv rest others (inr (inr (inl e))) =
-    inl (subst (IsDemoSeen c s (Some v)) (sym e) (record { fault = rw (ic.end, ic.long, ic.short) refl; calls = rw (ic.end, ic.long, ic.short) refl; start = rw (ic.end, ic.long, ic.short) refl; workers = rw (ic.end, ic.long, ic.short) refl; written = rw (iv.itself, ic.end, ic.itself, is.itself) refl }))
+    inl (subst (IsDemoSeen c s (Some v)) (sym e) (record {
+      fault = rw (ic.end, ic.long, ic.short) refl;
+      calls = rw (ic.end, ic.long, ic.short) refl;
+      start = rw (ic.end, ic.long, ic.short) refl;
+      workers = rw (ic.end, ic.long, ic.short) refl;
+      written = rw (iv.itself, ic.end, ic.itself, is.itself) refl;
+    }))
 demo_with c s v ic is iv rest others (inr (inr (inr (inl e)))) =
-    inl (subst (IsDemoSeen c s (Some v)) (sym e) (record { fault = rw (ic.end, ic.long, ic.short, is.end, is.long, is.short) refl; calls = rw (ic.end, ic.long, ic.short, is.end, is.long, is.short) refl; start = rw (ic.end, ic.long, ic.short, is.end, is.long, is.short) refl; workers = rw (ic.end, ic.long, ic.short, is.end, is.long, is.short) refl; written = rw (iv.itself, ic.end, ic.itself, is.end, is.itself) refl }))
+    inl (subst (IsDemoSeen c s (Some v)) (sym e) (record {
+      fault = rw (ic.end, ic.long, ic.short, is.end, is.long, is.short) refl;
+      calls = rw (ic.end, ic.long, ic.short, is.end, is.long, is.short) refl;
+      start = rw (ic.end, ic.long, ic.short, is.end, is.long, is.short) refl;
+      workers = rw (ic.end, ic.long, ic.short, is.end, is.long, is.short) refl;
+      written = rw (iv.itself, ic.end, ic.itself, is.end, is.itself) refl;
+    }))
 demo_with c s v ic is iv rest others (inr (inr (inr (inr (inl e))))) =
-    inl (subst (IsDemoSeen c s (Some v)) (sym e) (record { fault = rw (iv.end, iv.long, iv.short, ic.end, ic.long, ic.short, is.end, is.long, is.short) refl; calls = rw (iv.end, iv.long, iv.short, ic.end, ic.long, ic.short, is.end, is.long, is.short) refl; start = rw (iv.end, iv.long, iv.short, ic.end, ic.long, ic.short, is.end, is.long, is.short) refl; workers = rw (iv.end, iv.long, iv.short, ic.end, ic.long, ic.short, is.end, is.long, is.short) refl; written = rw (iv.itself, ic.end, ic.itself, is.end, is.itself) refl }))
+    inl (subst (IsDemoSeen c s (Some v)) (sym e) (record {
+      fault = rw (iv.end, iv.long, iv.short, ic.end, ic.long, ic.short, is.end, is.long, is.short) refl;
+      calls = rw (iv.end, iv.long, iv.short, ic.end, ic.long, ic.short, is.end, is.long, is.short) refl;
+      start = rw (iv.end, iv.long, iv.short, ic.end, ic.long, ic.short, is.end, is.long, is.short) refl;
+      workers = rw (iv.end, iv.long, iv.short, ic.end, ic.long, ic.short, is.end, is.long, is.short) refl;
+      written = rw (iv.itself, ic.end, ic.itself, is.end, is.itself) refl;
+    }))
 demo_with c s v ic is iv rest others (inr (inr (inr (inr (inr (inl e)))))) =
-    inl (subst (IsDemoSeen c s (Some v)) (sym e) (record { fault = rw (iv.end, iv.long, iv.short) refl; calls = rw (iv.end, iv.long, iv.short) refl; start = rw (iv.end, iv.long, iv.short) refl; workers = rw (iv.end, iv.long, iv.short) refl; written = rw (iv.itself, ic.itself, is.itself) refl }))
+    inl (subst (IsDemoSeen c s (Some v)) (sym e) (record {
+      fault = rw (iv.end, iv.long, iv.short) refl;
+      calls = rw (iv.end, iv.long, iv.short) refl;
+      start = rw (iv.end, iv.long, iv.short) refl;
+      workers = rw (iv.end, iv.long, iv.short) refl;
+      written = rw (iv.itself, ic.itself, is.itself) refl;
+    }))
 demo_with c s v ic is iv rest others (inr (inr (inr (inr (inr (inr (inl e))))))) =
-    inl (subst (IsDemoSeen c s (Some v)) (sym e) (record { fault = rw (iv.end, iv.long, iv.short, ic.end, ic.long, ic.short) refl; calls = rw (iv.end, iv.long, iv.short, ic.end, ic.long, ic.short) refl; start = rw (iv.end, iv.long, iv.short, ic.end, ic.long, ic.short) refl; workers = rw (iv.end, iv.long, iv.short, ic.end, ic.long, ic.short) refl; written = rw (iv.itself, ic.end, ic.itself, is.itself) refl }))
+    inl (subst (IsDemoSeen c s (Some v)) (sym e) (record {
+      fault = rw (iv.end, iv.long, iv.short, ic.end, ic.long, ic.short) refl;
+      calls = rw (iv.end, iv.long, iv.short, ic.end, ic.long, ic.short) refl;
+      start = rw (iv.end, iv.long, iv.short, ic.end, ic.long, ic.short) refl;
+      workers = rw (iv.end, iv.long, iv.short, ic.end, ic.long, ic.short) refl;
+      written = rw (iv.itself, ic.end, ic.itself, is.itself) refl;
+    }))
 demo_with c s v ic is iv rest others (inr (inr (inr (inr (inr (inr (inr (inl e)))))))) =
-    inl (subst (IsDemoSeen c s (Some v)) (sym e) (record { fault = rw (iv.end, iv.long, iv.short, ic.end, ic.long, ic.short, is.end, is.long, is.short) refl; calls = rw (iv.end, iv.long, iv.short, ic.end, ic.long, ic.short, is.end, is.long, is.short) refl; start = rw (iv.end, iv.long, iv.short, ic.end, ic.long, ic.short, is.end, is.long, is.short) refl; workers = rw (iv.end, iv.long, iv.short, ic.end, ic.long, ic.short, is.end, is.long, is.short) refl; written = rw (iv.itself, ic.end, ic.itself, is.end, is.itself) refl }))
+    inl (subst (IsDemoSeen c s (Some v)) (sym e) (record {
+      fault = rw (iv.end, iv.long, iv.short, ic.end, ic.long, ic.short, is.end, is.long, is.short) refl;
+      calls = rw (iv.end, iv.long, iv.short, ic.end, ic.long, ic.short, is.end, is.long, is.short) refl;
+      start = rw (iv.end, iv.long, iv.short, ic.end, ic.long, ic.short, is.end, is.long, is.short) refl;
+      workers = rw (iv.end, iv.long, iv.short, ic.end, ic.long, ic.short, is.end, is.long, is.short) refl;
+      written = rw (iv.itself, ic.end, ic.itself, is.end, is.itself) refl;
+    }))
 demo_with c s v ic is iv rest others (inr (inr (inr (inr (inr (inr (inr (inr (inl e))))))))) =
-    inl (subst (IsDemoSeen c s (Some v)) (sym e) (record { fault = rw (ic.end, ic.long, ic.short, is.end, is.long, is.short) refl; calls = rw (ic.end, ic.long, ic.short, is.end, is.long, is.short) refl; start = rw (ic.end, ic.long, ic.short, is.end, is.long, is.short) refl; workers = rw (ic.end, ic.long, ic.short, is.end, is.long, is.short) refl; written = rw (ic.joined, ic.apart, ic.itself, iv.itself, is.end, is.itself) refl }))
+    inl (subst (IsDemoSeen c s (Some v)) (sym e) (record {
+      fault = rw (ic.end, ic.long, ic.short, is.end, is.long, is.short) refl;
+      calls = rw (ic.end, ic.long, ic.short, is.end, is.long, is.short) refl;
+      start = rw (ic.end, ic.long, ic.short, is.end, is.long, is.short) refl;
+      workers = rw (ic.end, ic.long, ic.short, is.end, is.long, is.short) refl;
+      written = rw (ic.joined, ic.apart, ic.itself, iv.itself, is.end, is.itself) refl;
+    }))
 demo_with c s v ic is iv rest others (inr (inr (inr (inr (inr (inr (inr (inr (inr (inl e)))))))))) =
-    inl (subst (IsDemoSeen c s (Some v)) (sym e) (record { fault = rw (ic.end, ic.long, ic.short) refl; calls = rw (ic.end, ic.long, ic.short) refl; start = rw (ic.end, ic.long, ic.short) refl; workers = rw (ic.end, ic.long, ic.short) refl; written = rw (ic.joined, ic.apart, ic.itself, iv.itself, is.itself) refl }))
+    inl (subst (IsDemoSeen c s (Some v)) (sym e) (record {
+      fault = rw (ic.end, ic.long, ic.short) refl;
+      calls = rw (ic.end, ic.long, ic.short) refl;
+      start = rw (ic.end, ic.long, ic.short) refl;
+      workers = rw (ic.end, ic.long, ic.short) refl;
+      written = rw (ic.joined, ic.apart, ic.itself, iv.itself, is.itself) refl;
+    }))
 demo_with c s v ic is iv rest others (inr (inr (inr (inr (inr (inr (inr (inr (inr (inr (inl e))))))))))) =
-    inl (subst (IsDemoSeen c s (Some v)) (sym e) (record { fault = rw (ic.end, ic.long, ic.short, is.end, is.long, is.short) refl; calls = rw (ic.end, ic.long, ic.short, is.end, is.long, is.short) refl; start = rw (ic.end, ic.long, ic.short, is.end, is.long, is.short) refl; workers = rw (ic.end, ic.long, ic.short, is.end, is.long, is.short) refl; written = rw (ic.joined, ic.apart, ic.itself, iv.itself, is.end, is.itself) refl }))
+    inl (subst (IsDemoSeen c s (Some v)) (sym e) (record {
+      fault = rw (ic.end, ic.long, ic.short, is.end, is.long, is.short) refl;
+      calls = rw (ic.end, ic.long, ic.short, is.end, is.long, is.short) refl;
+      start = rw (ic.end, ic.long, ic.short, is.end, is.long, is.short) refl;
+      workers = rw (ic.end, ic.long, ic.short, is.end, is.long, is.short) refl;
+      written = rw (ic.joined, ic.apart, ic.itself, iv.itself, is.end, is.itself) refl;
+    }))
 demo_with c s v ic is iv rest others (inr (inr (inr (inr (inr (inr (inr (inr (inr (inr (inr (inl e)))))))))))) =
-    inl (subst (IsDemoSeen c s (Some v)) (sym e) (record { fault = rw (ic.end, ic.long, ic.short, iv.end, iv.long, iv.short, is.end, is.long, is.short) refl; calls = rw (ic.end, ic.long, ic.short, iv.end, iv.long, iv.short, is.end, is.long, is.short) refl; start = rw (ic.end, ic.long, ic.short, iv.end, iv.long, iv.short, is.end, is.long, is.short) refl; workers = rw (ic.end, ic.long, ic.short, iv.end, iv.long, iv.short, is.end, is.long, is.short) refl; written = rw (ic.joined, ic.apart, ic.itself, iv.itself, is.end, is.itself) refl }))
+    inl (subst (IsDemoSeen c s (Some v)) (sym e) (record {
+      fault = rw (ic.end, ic.long, ic.short, iv.end, iv.long, iv.short, is.end, is.long, is.short) refl;
+      calls = rw (ic.end, ic.long, ic.short, iv.end, iv.long, iv.short, is.end, is.long, is.short) refl;
+      start = rw (ic.end, ic.long, ic.short, iv.end, iv.long, iv.short, is.end, is.long, is.short) refl;
+      workers = rw (ic.end, ic.long, ic.short, iv.end, iv.long, iv.short, is.end, is.long, is.short) refl;
+      written = rw (ic.joined, ic.apart, ic.itself, iv.itself, is.end, is.itself) refl;
+    }))
 demo_with c s v ic is iv rest others (inr (inr (inr (inr (inr (inr (inr (inr (inr (inr (inr (inr (inl e))))))))))))) =
-    inl (subst (IsDemoSeen c s (Some v)) (sym e) (record { fault = rw (ic.end, ic.long, ic.short, iv.end, iv.long, iv.short) refl; calls = rw (ic.end, ic.long, ic.short, iv.end, iv.long, iv.short) refl; start = rw (ic.end, ic.long, ic.short, iv.end, iv.long, iv.short) refl; workers = rw (ic.end, ic.long, ic.short, iv.end, iv.long, iv.short) refl; written = rw (ic.joined, ic.apart, ic.itself, iv.itself, is.itself) refl }))
+    inl (subst (IsDemoSeen c s (Some v)) (sym e) (record {
+      fault = rw (ic.end, ic.long, ic.short, iv.end, iv.long, iv.short) refl;
+      calls = rw (ic.end, ic.long, ic.short, iv.end, iv.long, iv.short) refl;
+      start = rw (ic.end, ic.long, ic.short, iv.end, iv.long, iv.short) refl;
+      workers = rw (ic.end, ic.long, ic.short, iv.end, iv.long, iv.short) refl;
+      written = rw (ic.joined, ic.apart, ic.itself, iv.itself, is.itself) refl;
+    }))
 demo_with c s v ic is iv rest others (inr (inr (inr (inr (inr (inr (inr (inr (inr (inr (inr (inr (inr (inl e)))))))))))))) =
-    inl (subst (IsDemoSeen c s (Some v)) (sym e) (record { fault = rw (ic.end, ic.long, ic.short, iv.end, iv.long, iv.short, is.end, is.long, is.short) refl; calls = rw (ic.end, ic.long, ic.short, iv.end, iv.long, iv.short, is.end, is.long, is.short) refl; start = rw (ic.end, ic.long, ic.short, iv.end, iv.long, iv.short, is.end, is.long, is.short) refl; workers = rw (ic.end, ic.long, ic.short, iv.end, iv.long, iv.short, is.end, is.long, is.short) refl; written = rw (ic.joined, ic.apart, ic.itself, iv.itself, is.end, is.itself) refl }))
+    inl (subst (IsDemoSeen c s (Some v)) (sym e) (record {
+      fault = rw (ic.end, ic.long, ic.short, iv.end, iv.long, iv.short, is.end, is.long, is.short) refl;
+      calls = rw (ic.end, ic.long, ic.short, iv.end, iv.long, iv.short, is.end, is.long, is.short) refl;
+      start = rw (ic.end, ic.long, ic.short, iv.end, iv.long, iv.short, is.end, is.long, is.short) refl;
+      workers = rw (ic.end, ic.long, ic.short, iv.end, iv.long, iv.short, is.end, is.long, is.short) refl;
+      written = rw (ic.joined, ic.apart, ic.itself, iv.itself, is.end, is.itself) refl;
+    }))
 demo_with c s v ic is iv rest others (inr (inr (inr (inr (inr (inr (inr (inr (inr (inr (inr (inr (inr (inr (inl e))))))))))))))) =
-    inl (subst (IsDemoSeen c s (Some v)) (sym e) (record { fault = rw (ic.end, ic.long, ic.short, is.end, is.long, is.short) refl; calls = rw (ic.end, ic.long, ic.short, is.end, is.long, is.short) refl; start = rw (ic.end, ic.long, ic.short, is.end, is.long, is.short) refl; workers = rw (ic.end, ic.long, ic.short, is.end, is.long, is.short) refl; written = rw (ic.joined, ic.apart, ic.itself, is.joined, is.apart, is.itself, iv.itself) refl }))
+    inl (subst (IsDemoSeen c s (Some v)) (sym e) (record {
+      fault = rw (ic.end, ic.long, ic.short, is.end, is.long, is.short) refl;
+      calls = rw (ic.end, ic.long, ic.short, is.end, is.long, is.short) refl;
+      start = rw (ic.end, ic.long, ic.short, is.end, is.long, is.short) refl;
+      workers = rw (ic.end, ic.long, ic.short, is.end, is.long, is.short) refl;
+      written = rw (ic.joined, ic.apart, ic.itself, is.joined, is.apart, is.itself, iv.itself) refl;
+    }))
 demo_with c s v ic is iv rest others (inr (inr (inr (inr (inr (inr (inr (inr (inr (inr (inr (inr (inr (inr (inr (inl e)))))))))))))))) =
-    inl (subst (IsDemoSeen c s (Some v)) (sym e) (record { fault = rw (ic.end, ic.long, ic.short, is.end, is.long, is.short) refl; calls = rw (ic.end, ic.long, ic.short, is.end, is.long, is.short) refl; start = rw (ic.end, ic.long, ic.short, is.end, is.long, is.short) refl; workers = rw (ic.end, ic.long, ic.short, is.end, is.long, is.short) refl; written = rw (ic.joined, ic.apart, ic.itself, is.joined, is.apart, is.itself, iv.itself) refl }))
+    inl (subst (IsDemoSeen c s (Some v)) (sym e) (record {
+      fault = rw (ic.end, ic.long, ic.short, is.end, is.long, is.short) refl;
+      calls = rw (ic.end, ic.long, ic.short, is.end, is.long, is.short) refl;
+      start = rw (ic.end, ic.long, ic.short, is.end, is.long, is.short) refl;
+      workers = rw (ic.end, ic.long, ic.short, is.end, is.long, is.short) refl;
+      written = rw (ic.joined, ic.apart, ic.itself, is.joined, is.apart, is.itself, iv.itself) refl;
+    }))
 demo_with c s v ic is iv rest others (inr (inr (inr (inr (inr (inr (inr (inr (inr (inr (inr (inr (inr (inr (inr (inr (inl e))))))))))))))))) =
-    inl (subst (IsDemoSeen c s (Some v)) (sym e) (record { fault = rw (ic.end, ic.long, ic.short, is.end, is.long, is.short, iv.end, iv.long, iv.short) refl; calls = rw (ic.end, ic.long, ic.short, is.end, is.long, is.short, iv.end, iv.long, iv.short) refl; start = rw (ic.end, ic.long, ic.short, is.end, is.long, is.short, iv.end, iv.long, iv.short) refl; workers = rw (ic.end, ic.long, ic.short, is.end, is.long, is.short, iv.end, iv.long, iv.short) refl; written = rw (ic.joined, ic.apart, ic.itself, is.joined, is.apart, is.itself, iv.itself) refl }))
+    inl (subst (IsDemoSeen c s (Some v)) (sym e) (record {
+      fault = rw (ic.end, ic.long, ic.short, is.end, is.long, is.short, iv.end, iv.long, iv.short) refl;
+      calls = rw (ic.end, ic.long, ic.short, is.end, is.long, is.short, iv.end, iv.long, iv.short) refl;
+      start = rw (ic.end, ic.long, ic.short, is.end, is.long, is.short, iv.end, iv.long, iv.short) refl;
+      workers = rw (ic.end, ic.long, ic.short, is.end, is.long, is.short, iv.end, iv.long, iv.short) refl;
+      written = rw (ic.joined, ic.apart, ic.itself, is.joined, is.apart, is.itself, iv.itself) refl;
+    }))
 demo_with c s v ic is iv rest others (inr (inr (inr (inr (inr (inr (inr (inr (inr (inr (inr (inr (inr (inr (inr (inr (inr (inl e)))))))))))))))))) =
-    inl (subst (IsDemoSeen c s (Some v)) (sym e) (record { fault = rw (ic.end, ic.long, ic.short, is.end, is.long, is.short, iv.end, iv.long, iv.short) refl; calls = rw (ic.end, ic.long, ic.short, is.end, is.long, is.short, iv.end, iv.long, iv.short) refl; start = rw (ic.end, ic.long, ic.short, is.end, is.long, is.short, iv.end, iv.long, iv.short) refl; workers = rw (ic.end, ic.long, ic.short, is.end, is.long, is.short, iv.end, iv.long, iv.short) refl; written = rw (ic.joined, ic.apart, ic.itself, is.joined, is.apart, is.itself, iv.itself) refl }))
+    inl (subst (IsDemoSeen c s (Some v)) (sym e) (record {
+      fault = rw (ic.end, ic.long, ic.short, is.end, is.long, is.short, iv.end, iv.long, iv.short) refl;
+      calls = rw (ic.end, ic.long, ic.short, is.end, is.long, is.short, iv.end, iv.long, iv.short) refl;
+      start = rw (ic.end, ic.long, ic.short, is.end, is.long, is.short, iv.end, iv.long, iv.short) refl;
+      workers = rw (ic.end, ic.long, ic.short, is.end, is.long, is.short, iv.end, iv.long, iv.short) refl;
+      written = rw (ic.joined, ic.apart, ic.itself, is.joined, is.apart, is.itself, iv.itself) refl;
+    }))
 demo_with c s v ic is iv rest others (inr (inr (inr (inr (inr (inr (inr (inr (inr (inr (inr (inr (inr (inr (inr (inr (inr (inr o)))))))))))))))))) = inr o
 
+-- and without it
 pub demo_without : (c s : Text) → IsValue c → IsValue s → (rest : Words) (others : List Words) → IsOneOf rest (ended (c ∷ s ∷ []) ++ others)
     → IsDemoSeen c s None rest ⊎ IsOneOf rest others
 unfolding clap_on_literals
 demo_without c s ic is rest others (inl e) =
-    inl (subst (IsDemoSeen c s None) (sym e) (record { fault = rw (ic.end, ic.long, ic.short, is.end, is.long, is.short) refl; calls = rw (ic.end, ic.long, ic.short, is.end, is.long, is.short) refl; start = rw (ic.end, ic.long, ic.short, is.end, is.long, is.short) refl; workers = rw (ic.end, ic.long, ic.short, is.end, is.long, is.short) refl; written = rw (ic.end, ic.itself, is.end, is.itself) refl }))
+    inl (subst (IsDemoSeen c s None) (sym e) (record {
+      fault = rw (ic.end, ic.long, ic.short, is.end, is.long, is.short) refl;
+      calls = rw (ic.end, ic.long, ic.short, is.end, is.long, is.short) refl;
+      start = rw (ic.end, ic.long, ic.short, is.end, is.long, is.short) refl;
+      workers = rw (ic.end, ic.long, ic.short, is.end, is.long, is.short) refl;
+      written = rw (ic.end, ic.itself, is.end, is.itself) refl;
+    }))
 demo_without c s ic is rest others (inr (inl e)) =
-    inl (subst (IsDemoSeen c s None) (sym e) (record { fault = refl; calls = refl; start = refl; workers = refl; written = rw (ic.itself, is.itself) refl }))
+    inl (subst (IsDemoSeen c s None) (sym e) (record {
+      fault = refl;
+      calls = refl;
+      start = refl;
+      workers = refl;
+      written = rw (ic.itself, is.itself) refl;
+    }))
 demo_without c s ic is rest others (inr (inr (inl e))) =
-    inl (subst (IsDemoSeen c s None) (sym e) (record { fault = rw (ic.end, ic.long, ic.short) refl; calls = rw (ic.end, ic.long, ic.short) refl; start = rw (ic.end, ic.long, ic.short) refl; workers = rw (ic.end, ic.long, ic.short) refl; written = rw (ic.end, ic.itself, is.itself) refl }))
+    inl (subst (IsDemoSeen c s None) (sym e) (record {
+      fault = rw (ic.end, ic.long, ic.short) refl;
+      calls = rw (ic.end, ic.long, ic.short) refl;
+      start = rw (ic.end, ic.long, ic.short) refl;
+      workers = rw (ic.end, ic.long, ic.short) refl;
+      written = rw (ic.end, ic.itself, is.itself) refl;
+    }))
 demo_without c s ic is rest others (inr (inr (inr (inl e)))) =
-    inl (subst (IsDemoSeen c s None) (sym e) (record { fault = rw (ic.end, ic.long, ic.short, is.end, is.long, is.short) refl; calls = rw (ic.end, ic.long, ic.short, is.end, is.long, is.short) refl; start = rw (ic.end, ic.long, ic.short, is.end, is.long, is.short) refl; workers = rw (ic.end, ic.long, ic.short, is.end, is.long, is.short) refl; written = rw (ic.end, ic.itself, is.end, is.itself) refl }))
+    inl (subst (IsDemoSeen c s None) (sym e) (record {
+      fault = rw (ic.end, ic.long, ic.short, is.end, is.long, is.short) refl;
+      calls = rw (ic.end, ic.long, ic.short, is.end, is.long, is.short) refl;
+      start = rw (ic.end, ic.long, ic.short, is.end, is.long, is.short) refl;
+      workers = rw (ic.end, ic.long, ic.short, is.end, is.long, is.short) refl;
+      written = rw (ic.end, ic.itself, is.end, is.itself) refl;
+    }))
 demo_without c s ic is rest others (inr (inr (inr (inr o)))) = inr o
