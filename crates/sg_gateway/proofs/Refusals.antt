@@ -1,4 +1,4 @@
--- A refused signal leaves the world as it was.
+-- A refused signal and a dropped datagram leave the world as it was.
 use Rattle.std.proofs.Common.{◌≡◌, ℕ, Bool, true, false, cond, not, List, [], ◌∷◌, ◌++◌, length, map, Option, Some, None, Result, Ok, Err, refl, sym, ap, ◌∙◌, ltb, eqb}
 use Rattle.std.specs.List.{AllByRecursion, Any, filter}
 use Rattle.std.specs.Option.{is_some}
@@ -89,11 +89,11 @@ module _ (w : World) where
   signal_stays (Bye id) = left_stays id (call_of w id)
 
   given_stays : (port : ℕ) (g : Given) → Holds w (given_to w port g).outcomes (given_to w port g).world
-  given_stays port (Drops cause) = none_refused w (given_to w port (Drops cause)).outcomes w ((λ no. no), tt)
+  given_stays port (Drops cause) = λ any. refl
   given_stays port (Puts p) = none_refused w (given_to w port (Puts p)).outcomes (given_to w port (Puts p)).world ((λ no. no), tt)
 
   arrived_stays : (port : ℕ) (from : Address) (d : List ℕ) (o : Option Call) → Holds w (arrived_at w port from d o).outcomes (arrived_at w port from d o).world
-  arrived_stays port from d None = none_refused w (arrived_at w port from d None).outcomes w ((λ no. no), tt)
+  arrived_stays port from d None = λ any. refl
   arrived_stays port from d (Some c) = given_stays port (arrived_in w.moment port from d c)
 
   pub refused_still : (e : Event) → Holds w (step w e).outcomes (step w e).world

@@ -122,8 +122,9 @@ pub fn calls_have_places()
         → find_call test cs ≡ Some (get_or cs i c) }
 {}
 
-/// A signal that is refused changes nothing: calls, ring, books and moment stay. A refused answer leaves the offer
-/// open. And a refusal that the calls and pairs alone tell is the answer, whatever the texts and the keys.
+/// A signal that is refused and a datagram that is dropped change nothing: calls, sessions, ring, books and
+/// moment stay. A refused answer leaves the offer open. And a refusal that the calls and pairs alone tell is the
+/// answer, whatever the texts and the keys.
 pub fn refusals_change_nothing()
     ensures world { (events : List Event) → EachRefusalChangesNothing events }
     ensures offer { (events : List Event) → EachRefusedOfferStaysOpen events }
