@@ -43,7 +43,7 @@ module _ (past : List Entry) (w : World) (kept : IsKept IsSound past w) (ordered
       let is_session = any_of c.sessions s a.session in
       let at : port ≡ port_in c s = a.at_port ∙ plain_in c s a.sealing in
       let call : call_at w port ≡ Some c = ap (call_at w) at ∙ call_found IsSound past w kept ordered c s is_call is_session in
-      let alone : sessions_at c port ≡ s ∷ [] = ap (sessions_at c) at ∙ session_found IsSound past w kept ordered c s is_call is_session in
+      let alone : sessions_at c port ≡ s ∷ [] = ap (sessions_at c) at ∙ session_found IsSound past w kept ordered c s is_call is_session a.sealing in
       let sound : IsSound s = (each_at_this (SessionKept IsSound past w.books.ring c.serial c.generations) c.sessions s
       (each_at_this (CallKept IsSound past w.books.ring w.made) w.calls c kept.calls is_call).sessions is_session).extra in
       any_weaker _ _ (λ k is.

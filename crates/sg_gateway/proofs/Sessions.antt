@@ -1,29 +1,27 @@
 -- What holds of each session of a world goes on holding, where it holds of new ones and of what is taken.
-use Rattle.std.proofs.Common.{◌≡◌, ◌⊎◌, inl, inr, ℕ, Bool, true, false, cond, List, [], ◌∷◌, ◌++◌, length, Option, Some, None, Result, Ok, Err, refl, sym, ap, ◌∙◌, subst}
-use Rattle.std.specs.List.{AllByRecursion, Any}
-use Rattle.std.specs.Option.{is_some}
+use Rattle.std.proofs.Common.{◌≡◌, ◌⊎◌, inl, inr, ℕ, Bool, true, false, cond, ◌&&◌, List, [], ◌∷◌, ◌++◌, length, Option, Some, None, Result, Ok, Err, refl, sym, ap, ◌∙◌, subst}
+use Rattle.std.specs.List.{AllByRecursion, Any, filter}
 use Rattle.sg_base.specs.declared.addresses.Address.{Address}
-use Rattle.sg_base.specs.declared.faults.Refusal.{Refusal}
-use Rattle.sg_base.specs.declared.faults.Refusal.TheVariants.{State}
-use Rattle.sg_outcome.specs.declared.outcomes.Outcome.TheVariants.{Live}
+use Rattle.sg_base.specs.declared.addresses.CallId.{CallId}
 use Rattle.sg_gateway.proofs.Arrivals.{Is, Arrival, IsDrop, IsOpening, IsSeal, arrival}
 use Rattle.sg_gateway.proofs.Kept.{same_name_is}
-use Rattle.sg_gateway.proofs.Orderly.{Ordered, AreNamed}
+use Rattle.sg_gateway.proofs.Orderly.{Ordered, IsCall}
 use Rattle.sg_gateway.proofs.Pairs.{Pairs, each_two}
-use Rattle.sg_gateway.proofs.Signals.{is_found, each_and_call, each_with_call}
+use Rattle.sg_gateway.proofs.Signals.{is_found, each_with_call}
 use Rattle.sg_gateway.specs.Datagrams.{Entry, Given, put, call_after, given_to, arrived_in, arrived_at}
-use Rattle.sg_gateway.specs.Generations.{Settled, keyed, keys_for, sessions_from}
-use Rattle.sg_gateway.specs.Media.{Medium}
+use Rattle.sg_agreement.specs.Generations.{sessions_from}
+use Rattle.sg_agreement.specs.Media.{Medium}
+use Rattle.sg_gateway.proofs.Origins.{Changed, Stays, Waits, Ticks, Renews, Origin, origins}
+use Rattle.sg_gateway.specs.CallSignals.{idle_call}
+use Rattle.sg_gateway.specs.Generations.{is_opening, is_current}
 use Rattle.sg_gateway.specs.Order.{DifferInName}
 use Rattle.sg_gateway.specs.Ports.{call_at, has_port}
-use Rattle.sg_gateway.specs.Signals.{Answer, ManualCall, Signal, Manual, has_begun, keyed_manually, new_call, in_new, manual_medium, answer_to}
+use Rattle.sg_gateway.specs.Signals.{Signal, answer_to}
 use Rattle.sg_gateway.specs.Step.{Event, Signalled, Datagram, step}
-use Rattle.sg_gateway.specs.World.{Books, Call, World, call_of, is_full}
-use Rattle.sg_session.proofs.Inversions.{after_ok_is, stop_if_is, ok_is}
-use Rattle.sg_session.proofs.Lists.{each_weaker, each_map, each_at_this, any_cases, both}
+use Rattle.sg_gateway.specs.World.{Call, World}
+use Rattle.sg_session.proofs.Lists.{each_weaker, each_append, each_filter, each_map, each_at_this, any_cases}
 use Rattle.sg_session.proofs.Taking.{IsNewIn, opened_new, seals_is}
 use Rattle.sg_session.specs.Opening.{Taken}
-use Rattle.sg_session.specs.Ring.{install}
 use Rattle.sg_session.specs.Sealing.{datagram_of}
 use Rattle.sg_session.specs.Session.{Session, same_name, with_done}
 
@@ -46,21 +44,24 @@ module _ (Q : Session → Type 0) (P : Entry → Type 0)
   EachOf w = AllByRecursion (λ c. AllByRecursion Q c.sessions) w.calls
 
   module _ (w : World) (ordered : Ordered w) (each : AllByRecursion (λ c. AllByRecursion Q c.sessions) w.calls) where
-    settled : (now : ℕ) (books : Books) (c : Call) (x : Medium) (r : Settled) → keyed_manually now books c x ≡ Ok r → AllByRecursion Q r.call.sessions
-    settled now books c x r e =
-        let a = stop_if_is (has_begun c) State (keyed now books (record c { media = 1 }) (Some x ∷ [])) r e in
-        let b = after_ok_is (install books.ring (keys_for (record c { media = 1 }) (Some x ∷ []))) _ r a.1 in
-        subst (λ (r : Settled). AllByRecursion Q r.call.sessions) (ok_is _ r b.2) (news c.serial c.generations (length books.ring) (Some x ∷ []))
+    -- the sessions of a call of the world after a signal
+    origin_each : (now' : ℕ) (d : Call) → Origin w now' d → AllByRecursion Q d.sessions
+    origin_each now' d o = by_change o.changed (of_before o.was)
+      where
+        of_before : Any (λ c. c ≡ o.before) w.calls ⊎ ((id : CallId) × ((slot : ℕ) × (o.before ≡ idle_call w.made id slot))) → AllByRecursion Q o.before.sessions
+        of_before (inl a) = each_at_this (λ c. AllByRecursion Q c.sessions) w.calls o.before each a
+        of_before (inr (id, (slot, is))) = subst (λ (c : Call). AllByRecursion Q c.sessions) (sym is) tt
 
-    in_new_each : (h : ManualCall) (q : Result Settled Refusal) → ((r : Settled) → q ≡ Ok r → AllByRecursion Q r.call.sessions) → EachOf (in_new w h.id (Live h.id ∷ []) q).world
-    in_new_each h (Err cause) of_new = each
-    in_new_each h (Ok r) of_new = each_and_call (λ c. AllByRecursion Q c.sessions) r.call w.calls (of_new r refl) each
+        by_change : Changed w.moment now' o.before d → AllByRecursion Q o.before.sessions → AllByRecursion Q d.sessions
+        by_change (Stays generations sessions replaced still) p = subst (AllByRecursion Q) (sym sessions) p
+        by_change (Waits same on soon) p = subst (λ (c : Call). AllByRecursion Q c.sessions) (sym same) p
+        by_change (Ticks same on) p = subst (λ (c : Call). AllByRecursion Q c.sessions) (sym same) (each_filter Q (is_current o.before) o.before.sessions p)
+        by_change (Renews is still) p = subst (AllByRecursion Q) (sym is.sessions)
+            (each_append Q (sessions_from o.before.serial o.before.generations 0 is.number is.media) _ (news o.before.serial o.before.generations is.number is.media)
+            (each_filter Q (λ s. is_opening s && is_current o.before s) o.before.sessions p))
 
     signal_each : (signal : Signal) → EachOf (answer_to w signal).world
-    signal_each (Manual h) =
-        both (λ (a : Answer). EachOf a.world) (is_some (call_of w h.id)) _ _ each
-        (both (λ (a : Answer). EachOf a.world) (is_full w) _ _ each
-        (in_new_each h (keyed_manually w.moment w.books (new_call w h.id) (manual_medium h)) (λ r e. settled w.moment w.books (new_call w h.id) (manual_medium h) r e)))
+    signal_each signal = each_weaker _ _ (λ d o. origin_each (answer_to w signal).world.moment d o) (answer_to w signal).world.calls (origins w signal)
 
     put_each : (port : ℕ) (c : Call) (s : Session) (t : Taken) (octets : List ℕ) → Any (λ d. d ≡ c) w.calls → Any (Is s) c.sessions → IsNewIn s t → P (entry_of s t)
         → EachOf (given_to w port (put w.moment c s t octets)).world
@@ -68,7 +69,7 @@ module _ (Q : Session → Type 0) (P : Entry → Type 0)
         let of_c : AllByRecursion Q c.sessions = each_at_this (λ c. AllByRecursion Q c.sessions) w.calls c each is_call in
         each_with_call (λ c. AllByRecursion Q c.sessions) (call_after w.moment c s t) w.calls
         (each_map (λ y. Q y × (y.name ≡ s.name → y ≡ s)) Q (with_done s.name t.done) (λ y of_y. go y of_y.0 of_y.1 (same_name y.name s.name) refl) c.sessions
-        (each_two Q (λ y. y.name ≡ s.name → y ≡ s) _ (λ y q one. (q, one)) c.sessions of_c (one_name s c.sessions (each_at_this AreNamed w.calls c ordered.names is_call) is_held)))
+        (each_two Q (λ y. y.name ≡ s.name → y ≡ s) _ (λ y q one. (q, one)) c.sessions of_c (one_name s c.sessions (each_at_this IsCall w.calls c ordered.each is_call).names is_held)))
         each
       where
         go : (y : Session) → Q y → (y.name ≡ s.name → y ≡ s) → (b : Bool) → same_name y.name s.name ≡ b → Q (cond b (record y { done = y.done ++ t.done ∷ [] }) y)

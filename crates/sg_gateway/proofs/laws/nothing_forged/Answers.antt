@@ -1,6 +1,7 @@
 use Rattle.std.proofs.Common.{◌≡◌, List, [], ◌∷◌}
 use Rattle.std.specs.List.{AllByRecursion, All, Any}
 use Rattle.std.proofs.lemmas.List.Elements.{All-from_recursion, recursion_from_All}
+use Rattle.sg_gateway.proofs.Agreements.{Agreements}
 use Rattle.sg_gateway.proofs.Came.{openings_came}
 use Rattle.sg_gateway.specs.Coming.{IsOpenedFrom}
 use Rattle.sg_gateway.proofs.Datagrams.{every_turn, every_world}
@@ -8,17 +9,15 @@ use Rattle.sg_gateway.proofs.GoesOut.{leaves_at}
 use Rattle.sg_gateway.proofs.Highest.{IsOfSealed, HasSealedDone, new_highest, taken_highest, sealed_highest}
 use Rattle.sg_gateway.proofs.Kept.{IsKept}
 use Rattle.sg_gateway.proofs.Orderly.{Ordered, event_ordered}
-use Rattle.sg_gateway.proofs.Reached.{empty_ordered}
+use Rattle.sg_gateway.proofs.Reached.{Anything, anything_on, anything_had, empty_ordered}
 use Rattle.sg_gateway.proofs.Sessions.{event_each}
 use Rattle.sg_gateway.proofs.OpenedAndPut.{openings_at, quiet_arrival}
 use Rattle.sg_gateway.proofs.Signals.{signal_fits}
-use Rattle.sg_gateway.proofs.Sound.{sound_on, manual_sound}
+use Rattle.sg_gateway.proofs.Sound.{sound_on, all_sound}
 use Rattle.sg_gateway.specs.Datagrams.{Entry}
-use Rattle.sg_gateway.specs.Generations.{sessions_from}
 use Rattle.sg_gateway.specs.PeersPackets.{HighestAreSealed, IsOpeningOf, OpeningsAreSealed, OpeningsGoOut, IsOutPlain}
 use Rattle.sg_gateway.specs.Ports.{call_at}
 use Rattle.sg_gateway.specs.Runs.{Turn, turn_of, turns, world_after}
-use Rattle.sg_gateway.specs.Signals.{manual_medium}
 use Rattle.sg_gateway.specs.Step.{Event, Signalled, Datagram, step}
 use Rattle.sg_gateway.specs.Unforged.{IsUnforgedIn}
 use Rattle.sg_gateway.specs.World.{empty, World}
@@ -30,19 +29,17 @@ use Rattle.sg_gateway.proofs.laws.nothing_forged.Goals as goal
 
 pub returns-clause-sealed : goal.returns-clause-sealed
 returns-clause-sealed c = λ events sealed are unforged.
+    let laws : Agreements = record { few = c.agreements_are_sound.ensures.few; sound = c.agreements_are_sound.ensures.sound; answered = c.active_media_are_agreed.ensures.answer; described = c.offers_fit_their_calls.ensures.described; count = c.offers_fit_their_calls.ensures.count } in
     All-from_recursion (OpeningsAreSealed sealed) (turns events)
-    (every_turn IsSound sound_on manual_sound
+    (every_turn IsSound sound_on (all_sound laws)
     (λ t. IsUnforgedIn sealed t.before t.event) (OpeningsAreSealed sealed)
     (λ past w e kept ok. All-from_recursion _ _ (openings_at sealed (recursion_from_All IsSealed sealed are) past w kept e ok))
     events (recursion_from_All _ (turns events) unforged))
 
-abbrev Anything : Session → Type 0
-Anything s = Unit {0}
-
 pub returns-clause-goes_out : goal.returns-clause-goes_out
 returns-clause-goes_out c = λ events.
     All-from_recursion OpeningsGoOut (turns events)
-    (every_turn IsSound sound_on manual_sound
+    (every_turn Anything anything_on anything_had
     (λ t. Unit {0}) OpeningsGoOut (λ past w e kept u. All-from_recursion _ _ (leaves_at w e)) events (each_of (λ t. Unit {0}) (λ t. tt) (turns events)))
 
 abbrev IsQuiet : Turn → Type 0
@@ -50,13 +47,13 @@ IsQuiet t = AllByRecursion (λ e. e.session.owner.direction ≡ Sealing) t.entri
 
 quiet_at : (past : List Entry) (w : World) (e : Event) → IsKept Anything past w → IsQuiet (turn_of w e)
 quiet_at past w (Signalled signal) kept = λ none. All-from_recursion _ _
-    (signal_fits Anything (λ h call generation n. each_of Anything (λ s. tt) (sessions_from call generation 0 n (Rattle.std.proofs.Common.Some (manual_medium h) ∷ []))) past w kept signal).0
+    (signal_fits Anything anything_had past w kept signal).0
 quiet_at past w (Datagram port from d) kept = λ none. All-from_recursion _ _ (quiet_arrival w port from d.items (call_at w port) none)
 
 pub returns-clause-only : goal.returns-clause-only
 returns-clause-only c = λ events.
     All-from_recursion IsQuiet (turns events)
-    (every_turn Anything (λ n d s u. tt) (λ h call generation n. each_of Anything (λ s. tt) (sessions_from call generation 0 n (Rattle.std.proofs.Common.Some (manual_medium h) ∷ [])))
+    (every_turn Anything anything_on anything_had
     (λ t. Unit {0}) IsQuiet (λ past w e kept u. quiet_at past w e kept) events (each_of (λ t. Unit {0}) (λ t. tt) (turns events)))
 
 -- what each opening of an event was sealed as
@@ -73,10 +70,11 @@ highest_in_world sealed w is = each_weaker _ _ (λ c of_c. each_weaker _ _ (λ s
 
 pub returns-clause-highest : goal.returns-clause-highest
 returns-clause-highest c = λ events sealed are unforged.
+    let laws : Agreements = record { few = c.agreements_are_sound.ensures.few; sound = c.agreements_are_sound.ensures.sound; answered = c.active_media_are_agreed.ensures.answer; described = c.offers_fit_their_calls.ensures.described; count = c.offers_fit_their_calls.ensures.count } in
     let good : AllByRecursion IsSealed sealed = recursion_from_All IsSealed sealed are in
-    let all = every_world IsSound sound_on manual_sound (IsUnforgedIn sealed) (Sealed_highest sealed)
+    let all = every_world IsSound sound_on (all_sound laws) (IsUnforgedIn sealed) (Sealed_highest sealed)
     (λ past w e kept u is. record {
-      ordered = event_ordered IsSound past w kept is.ordered e;
+      ordered = event_ordered laws IsSound past w kept is.ordered e;
       each = event_each (HasSealedDone sealed) (IsOfSealed sealed) (new_highest sealed) (taken_highest sealed) w is.ordered is.each e
           (opened_of sealed (turn_of w e) (step w e).entries (openings_at sealed good past w kept e u));
     })
@@ -90,5 +88,5 @@ OpeningsCame t = All (λ e. e.session.owner.direction ≡ Opening → Any (λ c.
 pub returns-clause-came : goal.returns-clause-came
 returns-clause-came c = λ events.
     All-from_recursion OpeningsCame (turns events)
-    (every_turn IsSound sound_on manual_sound
+    (every_turn Anything anything_on anything_had
     (λ t. Unit {0}) OpeningsCame (λ past w e kept u. All-from_recursion _ _ (openings_came w e)) events (each_of (λ t. Unit {0}) (λ t. tt) (turns events)))
