@@ -2,12 +2,7 @@
 #![tactic(auto)]
 
 mod gateway;
-mod laws;
 mod ports;
 
 pub use gateway::Gateway;
-pub use laws::{
-    calls_in_order, each_call_by_itself, no_counter_block_twice, nothing_forged, nothing_twice,
-    nothing_within_reach_lost, what_is_sealed_goes_out,
-};
 pub use ports::{is_same_ip, leg_of, next_port, port_at};
