@@ -1,10 +1,10 @@
 -- A tag of twenty octets is a MAC exactly where it is a prefix of it.
-use Rattle.std.proofs.Common.{◌≡◌, ◌∙◌, ℕ, nat_eq, Bool, true, false, List, [], ◌∷◌, ◌++◌, length, refl, sym, ap, subst, arith, length-append, append-nil}
+use Rattle.std.proofs.Common.{◌≡◌, ◌∙◌, ℕ, nat_eq, Bool, true, false, List, [], ◌∷◌, ◌++◌, length, refl, sym, ap, arith, length-append, append-nil}
 use Rattle.std.specs.Prelude.{IsTrue, ◌↔◌}
 use Rattle.std.proofs.lemmas.Bool.{false≢true, eqb-true}
 use Rattle.sg_base.specs.Octets.{same_octets}
 use Rattle.sg_hmac.specs.States.{IsTagOf}
-use Rattle.sg_psk.proofs.SameOctets.{same_octets_true, same_octets_is}
+use Rattle.sg_base.proofs.SameOctets.{same_octets_true, same_octets_is}
 
 no_more : (xs : List ℕ) → length xs ≡ 0 → xs ≡ []
 no_more [] e = refl

@@ -8,7 +8,7 @@ use Rattle.sg_base.specs.declared.addresses.Kind.{Kind}
 use Rattle.sg_base.specs.declared.addresses.Kind.TheVariants.{Rtp, Rtcp}
 use Rattle.sg_hmac.specs.States.{IsTagOf}
 use Rattle.sg_srtp.specs.Parts.{is_tag_len}
-use Rattle.sg_session.proofs.SameOctets.{same_octets_true, same_octets_is}
+use Rattle.sg_base.proofs.SameOctets.{same_octets_true, same_octets_is}
 
 -- a test that holds exactly where two lists are the same
 is_same_octets : (b : Bool) (xs ys : List ℕ) → (b ≡ true → xs ≡ ys) → (xs ≡ ys → b ≡ true) → b ≡ same_octets xs ys
