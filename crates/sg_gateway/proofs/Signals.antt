@@ -26,7 +26,7 @@ use Rattle.sg_agreement.specs.Generations.{Generation, keys_from, sessions_from,
 use Rattle.sg_gateway.specs.Generations.{Settled, is_current, is_opening, keyed, renewed}
 use Rattle.sg_agreement.specs.Media.{Medium}
 use Rattle.sg_gateway.specs.PeersPackets.{IsOutPlain}
-use Rattle.sg_gateway.specs.CallSignals.{idle_call, has_begun, keyed_manually, at_hand, takes_offer, offered_in, answered_to, is_idle, call_at_tick}
+use Rattle.sg_gateway.specs.CallSignals.{idle_call, has_begun, keyed_manually, at_hand, takes_offer, offered_in, answered_to, is_idle, call_at_tick, drops_earlier, without_earlier}
 use Rattle.sg_gateway.specs.Signals.{Signal, Tick, Psk, Manual, Offered, Answered, Reject, Bye, Answer, refused, ended, ending, ticked, with_pair, new_call, in_new, in_old, tells_live, manual_answer, tells_text, offered_to, offering_side, tells_answer, answered, rejected_to, rejected, left, answer_to}
 use Rattle.sg_gateway.specs.World.{Call, World, find_call, call_of, with_call, and_call, free_slot, is_full}
 use Rattle.sg_gateway.proofs.Growth.{install_is, call_grows, session_grows, entry_grows, sessions_are}
@@ -91,8 +91,8 @@ module _ (Extra : Session → Type 0) (have : AllHave Extra)
     each_map (λ c. Unit {0}) (λ o. ¬ IsOutPlain o) (ended why.Idle) (λ c u no. no) (filter (is_idle now) w.calls) (each_of _ (λ c. tt) _),
     record {
       calls = each_map _ _ (call_at_tick now)
-          (λ c is. both (CallKept Extra past w.books.ring w.made) (leb (c.replaced + 2000) now) (record c { sessions = filter (is_current c) c.sessions }) c
-          (same_call w.made c (record c { sessions = filter (is_current c) c.sessions }) refl refl is (each_filter _ (is_current c) c.sessions is.sessions) refl) is)
+          (λ c is. both (CallKept Extra past w.books.ring w.made) (drops_earlier now c) (without_earlier c) c
+          (same_call w.made c (without_earlier c) refl refl is (each_filter _ (is_current c) c.sessions is.sessions) refl) is)
           (filter (λ c. not (is_idle now c)) w.calls) (each_filter _ (λ c. not (is_idle now c)) w.calls kept.calls);
       entries = kept.entries;
       ring = kept.ring;

@@ -22,8 +22,11 @@ pub record HasLeft (t : Turn) (id : CallId) (slot : ℕ) : Type 0 where
   pub id_free : call_of (after_turn t) id ≡ None
   pub slot_free : AllByRecursion (λ c. c.slot ≡ slot → ⊥) (after_turn t).calls
 
+abbrev pub EndsAreFree : Turn → Type 0
+EndsAreFree t = (id : CallId) (slot media : ℕ) (why : Why) → Any (λ o. o ≡ Ended id slot media why) t.outcomes → HasLeft t id slot
+
 abbrev pub EachEndFrees : List Event → Type 0
-EachEndFrees events = All (λ t. (id : CallId) (slot media : ℕ) (why : Why) → Any (λ o. o ≡ Ended id slot media why) t.outcomes → HasLeft t id slot) (turns events)
+EachEndFrees events = All EndsAreFree (turns events)
 
 -- the key stands in the ring as another call's
 abbrev pub IsOthersKey : ℕ → World → Key → Type 0
