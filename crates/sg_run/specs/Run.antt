@@ -39,19 +39,20 @@ output_from w events = text (flat_map (λ t. t.outcomes) (turns_from w events))
 abbrev pub IsPrefixOf : List ℕ → List ℕ → Type 0
 IsPrefixOf front all = (rest : List ℕ) × (all ≡ front ++ rest)
 
--- The status, by the octets read, the octets written and what the source has left. With Done all is
--- handled and the source is at its end. With Script the lines before the named one are handled, and the
--- named line is the first that isn't served, with its first fault, whatever would come behind what was
--- read; Unended comes only at the source's end. With every other status a prefix was written.
+-- The status, by the octets read, the octets written and what the source has left. No octet is drawn: the
+-- lines that are served need none. With Done all is handled and the source is at its end. With Script the
+-- lines before the named one are handled, and the named line is the first that isn't served, with its first
+-- fault, whatever would come behind what was read; Unended comes only at the source's end. With every other
+-- status a prefix was written.
 abbrev pub Ends : Status → List ℕ → List ℕ → Option (List ℕ) → Type 0
-Ends Done octets out left = ((replayed octets).fault ≡ None) × (out ≡ output (replayed octets).events) × AtEnd left
+Ends Done octets out left = ((replayed octets []).fault ≡ None) × (out ≡ output (replayed octets []).events) × AtEnd left
 Ends (Script n fault) octets out left =
-    ((replayed octets).fault ≡ Some (n, fault)) × (out ≡ output (replayed octets).events) × (fault ≡ Unended → AtEnd left)
-    × (¬ (fault ≡ Unended) → (more : List ℕ) → (replayed (octets ++ more)).fault ≡ Some (n, fault))
+    ((replayed octets []).fault ≡ Some (n, fault)) × (out ≡ output (replayed octets []).events) × (fault ≡ Unended → AtEnd left)
+    × (¬ (fault ≡ Unended) → (more : List ℕ) → (replayed (octets ++ more) []).fault ≡ Some (n, fault))
 Ends Usage octets out left = (octets ≡ []) × (out ≡ [])
-Ends Read octets out left = IsPrefixOf out (output (replayed octets).events)
-Ends Write octets out left = IsPrefixOf out (output (replayed octets).events)
-Ends NoMemory octets out left = IsPrefixOf out (output (replayed octets).events)
+Ends Read octets out left = IsPrefixOf out (output (replayed octets []).events)
+Ends Write octets out left = IsPrefixOf out (output (replayed octets []).events)
+Ends NoMemory octets out left = IsPrefixOf out (output (replayed octets []).events)
 
 -- The run read these octets, of which there are at most 2^30 + 1, and wrote those.
 pub record IsRun (status : Status) (left left' written written' : Option (List ℕ)) (octets out : List ℕ) : Type 0 where
@@ -87,4 +88,4 @@ pub record Headline (events : List Event) : Type 0 where
 -- Where each line of the source's octets is served, the run handles them to their end, or is out of memory.
 abbrev pub IsComplete : Status → Option (List ℕ) → Option (List ℕ) → Type 0
 IsComplete status left left' =
-    (all rest : List ℕ) → left ≡ Some all → left' ≡ Some rest → (replayed all).fault ≡ None → (status ≡ Done) ⊎ (status ≡ NoMemory)
+    (all rest : List ℕ) → left ≡ Some all → left' ≡ Some rest → (replayed all []).fault ≡ None → (status ≡ Done) ⊎ (status ≡ NoMemory)
