@@ -106,9 +106,10 @@ def lines_of_the_second_medium():
     s.refused(answer(7, ALICE + [audio, crypto(1, one), video, crypto(1, one)]), "KeyReused 0")
     second = MasterKey(CM256, octets_of("second", 46))
     told = ALICE + ["m=audio 20002 RTP/AVP 0", "m=video 20006 RTP/AVP 31"]
-    s.says(answer(7, ALICE + [audio, crypto(1, one), video, crypto(2, second)]), sdp(7, "plain", told), "live 7")
+    s.says(answer(7, ALICE + [audio, crypto(1, one), video, crypto(2, second, "|1")]), sdp(7, "plain", told), "live 7")
     s.both_ways(one, OWN)
     s.opened(20004, second, rtp(7), 7, to="127.0.0.1:41020")
+    s.dropped(20004, second.srtp(rtp(8), 8), "KeySpent 2 1")
     s.sealed(20006, MasterKey(CM256, COUNTING[106:152]), rtp(7), 7, to="127.0.0.1:40020")
     s.manual(1, second, key("other", CM256), ["refused 1 KeyReused 2"])
     return s

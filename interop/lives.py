@@ -72,9 +72,9 @@ def moments_of_signals():
     s.says(answer(7, plain_text(), drawn), told, "live 7")
     s.tick(200000)
     s.says(offer_secure(7, secure_text(crypto(1, key("two")))), sdp(7, "plain", ALICE + ["m=audio 20002 RTP/AVP 0"]))
+    s.both_ways(mine, own_key(drawn))
     s.tick(240000)
     s.says("reject 7")
-    s.both_ways(mine, own_key(drawn))
     s.tick(299999)
     s.tick(300000, "ended 7 0 1 idle")
     return s

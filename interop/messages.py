@@ -266,17 +266,21 @@ def refused_messages():
     s.says(psk())
     s.tick(NOW)
     offer = lambda octets: offer_secure(9, secure_text(session=[message_line(octets)]))
-    good = peers_exchange().initial()
+    plain = peers_exchange()
+    good = plain.initial()
     head = bytes.fromhex("01000580" "00000007" "02")
     entries = bytes.fromhex("00" "00cafebabe00000000" "000000000000000000")
     response = peers_exchange().response(GATEWAY.encode(), [(0, 0, 0)] * 2)
     spi = lambda *values: [(octets_of(f"spi {n}", 16), value) for n, value in enumerate(values)]
-    plain = peers_exchange()
     for octets, cause in (
         (b"", "Mikey 255 0 Cut"),
         (head, "Mikey 255 9 Cut"),
         (head + entries, "Mikey 255 28 Cut"),
         (b"\2" + head[1:], "Mikey 255 0 Version"),
+        (b"\1\2" + head[2:], "Mikey 255 1 DataType"),
+        (good[:2] + b"\7" + good[3:], "Mikey 255 2 Payload"),
+        (good[:3] + b"\1" + good[4:], "Mikey 255 3 Value"),
+        (plain.initial(exchanged=True), "Mikey 255 28 Order"),
         (response, "Mikey 255 1 DataType"),
         (good[:-1], f"Mikey 255 {len(good) - 1} Cut"),
         (good + b"\0", f"Mikey 255 {len(good)} Trailing"),
