@@ -1,18 +1,18 @@
 //! What both sides of a session keep: a cryptographic context (RFC 3711, 3.2).
 
 ghost use Rattle.std.specs.Prelude.{◌≡◌, ◌≤◌, length, IfOk, IfErr, MatchResult, Err};
-ghost use Rattle.sg_srtp.specs.Inbound.{CanServe};
+ghost use Rattle.sg_states.specs.Inbound.{CanServe};
 ghost use Rattle.sg_media.specs.Ciphers.{EachEncrypts};
 
+use crate::inbound::{Headed, Keyed, Opened};
 use crate::opening::open_among;
+use crate::outbound::{self, Sealed};
 use crate::sealing::seal_among;
+use crate::stream::Stream;
 use crate::streams::admits;
 use arrayvec::ArrayVec;
 use sg_base::{DropCause, Kind, Pad};
 use sg_keys::{Admit, KeySet, SessionSpec};
-use sg_srtp::Stream;
-use sg_srtp::inbound::{Arrived, Keyed, Opened};
-use sg_srtp::outbound::{self, Sealed};
 use std::marker::Model;
 
 /// The keys of a session with their counts, and a stream for each of its sources.
@@ -90,12 +90,12 @@ impl Context {
         ensures back { MatchResult result (λ k. (k.headed.pad ≡ pad) × (k.headed.kind ≡ self.now.kind)) (λ e. e.0 ≡ pad) }
         ensures serves { IfOk result (λ k. CanServe self.now.keys k.key k.number k.headed.head.encrypted) }
     {
-        let arrived = Arrived::make(pad);
-        let headed = match arrived.head(
+        let headed = match Headed::read(
             self.kind,
             self.encrypts,
             self.keys.mki_len(),
             self.tag_len,
+            pad,
         ) {
             Ok(headed) => headed,
             Err(refused) => return Err(refused),
@@ -162,8 +162,7 @@ impl Context {
         ensures back { MatchResult result (λ h. (h.pad ≡ pad) × (h.kind ≡ self.now.kind)) (λ e. e.0 ≡ pad) }
         ensures encrypts { IfOk result (λ h. EachEncrypts self.now.keys h.head.encrypted) }
     {
-        let arrived = outbound::Arrived::make(pad);
-        let headed = match arrived.head(self.kind, self.encrypts) {
+        let headed = match outbound::Headed::read(self.kind, self.encrypts, pad) {
             Ok(headed) => headed,
             Err(refused) => return Err(refused),
         };

@@ -3,9 +3,9 @@
 ghost use Rattle.std.specs.Prelude.{◌≡◌, ◌≤◌, IfErr};
 
 use crate::context::Context;
+use crate::inbound::Opened;
 use sg_base::{DropCause, Pad};
 use sg_keys::SessionSpec;
-use sg_srtp::inbound::Opened;
 use std::marker::Model;
 
 /// What opens the datagrams of a session (RFC 3711, 3.3 and 3.4).

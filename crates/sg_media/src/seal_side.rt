@@ -3,9 +3,9 @@
 ghost use Rattle.std.specs.Prelude.{◌≡◌, ◌≤◌, IfErr, length};
 
 use crate::context::Context;
+use crate::outbound::Sealed;
 use sg_base::{DropCause, Pad};
 use sg_keys::SessionSpec;
-use sg_srtp::outbound::Sealed;
 use std::marker::Model;
 
 /// What seals the packets of a session (RFC 3711, 3.3 and 3.4).

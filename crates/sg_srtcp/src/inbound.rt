@@ -16,11 +16,9 @@ ghost use Rattle.sg_states.specs.Streams.{ForIndicesOf, IsOpenPlace, TakesIn};
 use crate::stream::RtcpStream;
 use sg_base::{HeadFault, Kind, Pad, RTCP_TAG};
 use sg_keys::{KeySet, OpenKeyFault};
-use sg_states::inbound as states;
-use sg_states::{BadTag, Stale};
-use std::marker::Model;
-
 pub use sg_states::inbound::Opened;
+use sg_states::{BadTag, Stale, inbound as states};
+use std::marker::Model;
 
 /// A datagram that arrived, seen as its octets.
 #[derive(Drop)]
@@ -157,6 +155,13 @@ impl Headed {
 }
 
 impl Keyed {
+    /// The source.
+    pub fn ssrc(&self) -> u32
+        ensures { result ≡ self.now.headed.head.ssrc }
+    {
+        self.keyed.ssrc()
+    }
+
     /// Compares the index that the datagram carries with the stream of its source, which is only read (RFC
     /// 3711, 3.3.2).
     pub fn place(self, stream: &RtcpStream) -> Result<Placed, (Pad, Stale)>
@@ -205,7 +210,6 @@ impl Verified {
         ensures keys { (key : Live) → slice_get keys.old self.keyed.key ≡ Some key → keys.new ≡ spent key.number keys.old }
     {
         let encrypted = self.verified.encrypted();
-        self.verified
-            .decrypt(&mut stream.stream, keys, encrypted)
+        self.verified.decrypt(&mut stream.stream, keys, encrypted)
     }
 }

@@ -15,11 +15,9 @@ ghost use Rattle.sg_states.specs.Streams.{ForIndicesOf, TakesIn};
 use crate::stream::RtcpStream;
 use sg_base::{HeadFault, Kind, Pad, RTCP_TAG};
 use sg_keys::KeySet;
-use sg_states::RtcpNumberFault;
-use sg_states::outbound as states;
-use std::marker::Model;
-
 pub use sg_states::outbound::Sealed;
+use sg_states::{RtcpNumberFault, outbound as states};
+use std::marker::Model;
 
 /// A plain packet that arrived, of at most 4,096 octets, seen as its octets.
 #[derive(Drop)]

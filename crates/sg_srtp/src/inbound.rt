@@ -16,11 +16,9 @@ ghost use Rattle.sg_states.specs.Streams.{ForIndicesOf, IsOpenPlace, TakesIn};
 use crate::stream::Stream;
 use sg_base::{HeadFault, Kind, Pad};
 use sg_keys::{KeySet, OpenKeyFault};
-use sg_states::inbound as states;
-use sg_states::{BadTag, PlaceFault};
-use std::marker::Model;
-
 pub use sg_states::inbound::Opened;
+use sg_states::{BadTag, PlaceFault, inbound as states};
+use std::marker::Model;
 
 /// A datagram that arrived, seen as its octets.
 #[derive(Drop)]
@@ -158,6 +156,13 @@ impl Headed {
 }
 
 impl Keyed {
+    /// The source.
+    pub fn ssrc(&self) -> u32
+        ensures { result ≡ self.now.headed.head.ssrc }
+    {
+        self.keyed.ssrc()
+    }
+
     /// Finds the index in the stream of the packet's source, which is only read (RFC 3711, 3.3.1, 3.3.2).
     pub fn place(self, stream: &Stream) -> Result<Placed, (Pad, PlaceFault)>
         requires { stream.now.ssrc ≡ self.headed.head.ssrc }

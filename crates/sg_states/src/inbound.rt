@@ -177,6 +177,13 @@ impl Headed {
 }
 
 impl Keyed {
+    /// The source.
+    pub fn ssrc(&self) -> u32
+        ensures { result ≡ self.now.headed.head.ssrc }
+    {
+        self.headed.ssrc()
+    }
+
     // The pad, as it came.
     fn refuse(self) -> Pad
         ensures { result ≡ self.headed.pad }

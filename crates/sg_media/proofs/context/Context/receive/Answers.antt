@@ -2,7 +2,7 @@ use Rattle.std.proofs.Common.{◌≡◌, List, Some, slice_get, subst, sym, ap, 
 use Rattle.sg_keys.specs.Live.{Live}
 use Rattle.sg_keys.specs.Stands.{live_key}
 use Rattle.sg_session.specs.Session.{indices_of}
-use Rattle.sg_srtp.specs.Placing.{placed}
+use Rattle.sg_states.specs.Placing.{placed}
 use Rattle.sg_media.specs.Sides.{SideValue, StandsFor}
 use Rattle.sg_media.specs.Standing.{AreOfKind, room_in}
 use Rattle.sg_media.proofs.Accepted.{keyed_opens}

@@ -2,9 +2,9 @@ use Rattle.std.proofs.Common.{◌≡◌, true, ◌<◌, List, [], ◌∷◌, ◌
 use Rattle.sg_keys.specs.Live.{Live}
 use Rattle.sg_keys.specs.Stands.{live}
 use Rattle.sg_session.specs.Session.{Done, indices_of}
-use Rattle.sg_srtp.specs.Outbound.{Outgoing}
-use Rattle.sg_srtp.specs.Parts.{is_tag_len}
-use Rattle.sg_srtp.specs.Placing.{next_index}
+use Rattle.sg_states.specs.Outbound.{Outgoing}
+use Rattle.sg_states.specs.Parts.{is_tag_len}
+use Rattle.sg_states.specs.Placing.{next_index}
 use Rattle.sg_media.specs.Answers.{entry_out, roomed, sealed_at, told_of}
 use Rattle.sg_media.specs.Sides.{SideValue, StandsFor}
 use Rattle.sg_media.specs.Standing.{AreOfKind, StreamsStand, room_in}
