@@ -1,7 +1,6 @@
 //! The two sides of a session: what opens its datagrams and what seals its packets. No call takes memory.
 #![tactic(auto)]
 
-mod context;
 mod faults;
 mod inbound;
 mod open_side;

@@ -1,5 +1,5 @@
 -- Tags at the end of a datagram.
-use Rattle.std.proofs.Common.{◌≡◌, ◌≤◌, ℕ, arith, inl, inr, Bool, true, false, List, ◌++◌, length, take, drop, ap, refl, subst, sym, ◌∙◌, ◌↔◌}
+use Rattle.std.proofs.Common.{◌≡◌, ◌-◌, ◌≤◌, ℕ, arith, inl, inr, Bool, true, false, List, ◌++◌, length, take, drop, ap, refl, subst, sym, ◌∙◌, ◌↔◌, length-drop}
 use Rattle.std.specs.Prelude.{IsTrue, ◌==◌, ◌||◌}
 use Rattle.std.proofs.lemmas.Bool.{cases_Bool, eqb-true, false_from_ne_true, false≢true}
 use Rattle.std.proofs.lemmas.List.{take_at, take-append-drop}
@@ -7,7 +7,8 @@ use Rattle.sg_base.specs.Octets.{same_octets}
 use Rattle.sg_base.specs.declared.addresses.Kind.{Kind}
 use Rattle.sg_base.specs.declared.addresses.Kind.TheVariants.{Rtp, Rtcp}
 use Rattle.sg_hmac.specs.States.{IsTagOf}
-use Rattle.sg_states.specs.Parts.{is_tag_len}
+use Rattle.sg_hmac.specs.Hmac.{hmac_sha1}
+use Rattle.sg_states.specs.Parts.{covered_by, is_tag_len, prefix_of, tag_fits_at, tag_of}
 use Rattle.sg_session.proofs.SameOctets.{same_octets_true, same_octets_is}
 
 -- a test that holds exactly where two lists are the same
@@ -29,3 +30,10 @@ tag_within Rtp n e = elim (cases_Bool (n == 10)) [
   | inr other ↦ (let four : (n == 4) ≡ true = subst (λ (b : Bool). (b || (n == 4)) ≡ true) other e in omega (arith, eqb-true n 4 four))
 ]
 tag_within Rtcp n e = omega (arith, eqb-true n 10 e)
+
+-- a test of the tag by the code over what stands before the MKI is that of the definition
+pub tag_says : (kind : Kind) (m t index : ℕ) (octets auth tag whole : List ℕ) (r : Bool) → t ≤ length octets → tag ≡ tag_of t octets → whole ≡ hmac_sha1 auth (covered_by kind index (prefix_of m t octets))
+    → IsTrue r ↔ IsTagOf tag whole → r ≡ tag_fits_at kind m t index octets auth
+tag_says kind m t index octets auth tag whole r inside back code says =
+    let size : length tag ≡ t = ap length back ∙ omega (arith, length-drop (length octets - t) octets) in
+    tag_test r tag whole t size says ∙ (λ i. same_octets (back i) (take t (code i)))

@@ -18,10 +18,11 @@ ghost use Rattle.sg_states.specs.Inbound.{Heading, Keying, Placing, IsHeaded, Is
 use crate::faults::{BadTag, PlaceFault, Stale};
 use crate::head::{Head, head_in};
 use crate::keystream::apply_keystream;
-use crate::mac::fits;
+use crate::mac::mac_over;
 use crate::stream::Stream;
 use sg_aes::Schedule;
 use sg_base::{HeadFault, Kind, Pad};
+use sg_hmac::tag_fits;
 use sg_keys::{KeySet, OpenKeyFault};
 use std::marker::Model;
 
@@ -227,14 +228,11 @@ impl Placed {
     {
         let keyed = &self.keyed;
         let headed = &keyed.headed;
-        if fits(
-            headed.kind,
-            keys.mac(keyed.key),
-            headed.pad.octets(),
-            headed.mki_len,
-            headed.tag_len,
-            self.index,
-        ) {
+        let octets = headed.pad.octets();
+        let prefix = &octets[..octets.len() - (headed.mki_len + headed.tag_len)];
+        let whole = mac_over(headed.kind, keys.mac(keyed.key), prefix, self.index);
+        let (_, tag) = octets.split_at(octets.len() - headed.tag_len);
+        if tag_fits(&whole, tag) {
             Ok(Verified { placed: self })
         } else {
             Err((self.keyed.refuse(), BadTag))

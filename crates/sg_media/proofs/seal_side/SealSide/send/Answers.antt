@@ -10,8 +10,8 @@ use Rattle.sg_media.specs.Sides.{SideValue, StandsFor}
 use Rattle.sg_media.specs.Standing.{AreOfKind, StreamsStand, room_in}
 use Rattle.sg_media.proofs.Admitted.{admitted_seals, ciphers_sealed, some_sealed, stands_sealed}
 use Rattle.sg_media.proofs.SideSteps.{streams_in}
-use Rattle.sg_media.proofs.context.Context.send.Goals as goal
-use Rattle.sg_media.proofs.context.Context.send.Goals.{in-Ok-seal_among, in-Err-seal_among}
+use Rattle.sg_media.proofs.seal_side.SealSide.send.Goals as goal
+use Rattle.sg_media.proofs.seal_side.SealSide.send.Goals.{in-Ok-seal_among, in-Err-seal_among}
 
 pub invariant_of-self : goal.invariant_of-self
 invariant_of-self c = record {

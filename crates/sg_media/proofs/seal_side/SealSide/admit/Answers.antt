@@ -4,7 +4,7 @@ use Rattle.sg_states.specs.StreamValues.{StreamValue}
 use Rattle.sg_media.specs.Sides.{SideValue, StandsFor}
 use Rattle.sg_media.specs.Standing.{StreamsStand}
 use Rattle.sg_media.proofs.Admitted.{headed_out_in, unadmitted_out}
-use Rattle.sg_media.proofs.context.Context.admit.Goals as goal
+use Rattle.sg_media.proofs.seal_side.SealSide.admit.Goals as goal
 
 pub returns-then-not-admits-clause-told : goal.returns-then-not-admits-clause-told
 returns-then-not-admits-clause-told c = λ s standing.

@@ -8,8 +8,8 @@ use Rattle.sg_media.specs.Standing.{AreOfKind, room_in}
 use Rattle.sg_media.proofs.Accepted.{keyed_opens}
 use Rattle.sg_media.proofs.OpeningSteps.{keyed_answer}
 use Rattle.sg_media.proofs.SideSteps.{ciphers_after, some_after, stands_after, streams_in}
-use Rattle.sg_media.proofs.context.Context.receive.Goals as goal
-use Rattle.sg_media.proofs.context.Context.receive.Goals.{in-Ok-open_among, in-Err-open_among}
+use Rattle.sg_media.proofs.open_side.OpenSide.receive.Goals as goal
+use Rattle.sg_media.proofs.open_side.OpenSide.receive.Goals.{in-Ok-open_among, in-Err-open_among}
 
 pub invariant_of-self : goal.invariant_of-self
 invariant_of-self c = record {

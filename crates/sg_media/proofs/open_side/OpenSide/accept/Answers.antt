@@ -5,7 +5,7 @@ use Rattle.sg_media.specs.Sides.{SideValue, StandsFor}
 use Rattle.sg_media.specs.Standing.{StreamsStand}
 use Rattle.sg_media.proofs.Accepted.{unadmitted}
 use Rattle.sg_media.proofs.SideSteps.{headed_in, accepted, unaccepted}
-use Rattle.sg_media.proofs.context.Context.accept.Goals as goal
+use Rattle.sg_media.proofs.open_side.OpenSide.accept.Goals as goal
 
 pub returns-then-not-admits-clause-told : goal.returns-then-not-admits-clause-told
 returns-then-not-admits-clause-told c = λ s standing.
