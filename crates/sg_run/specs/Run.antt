@@ -9,10 +9,13 @@ use Rattle.sg_session.specs.Reach.{Sealed, AreSealed}
 use Rattle.sg_gateway.specs.Arriving.{EachArrivingIsPutOut}
 use Rattle.sg_gateway.specs.Coming.{EachOpeningCame, EachSealCame}
 use Rattle.sg_gateway.specs.Departing.{EachDepartingIsSealed}
+use Rattle.sg_gateway.specs.Earlier.{EarlierServeNoLonger}
+use Rattle.sg_gateway.specs.Ended.{EachEndFrees, EndedStayAway}
 use Rattle.sg_gateway.specs.Lives.{EachKeyIsWithinLife}
 use Rattle.sg_gateway.specs.Order.{EachWorldIsOrderly}
 use Rattle.sg_gateway.specs.Owned.{EachKeyIsOwned}
 use Rattle.sg_gateway.specs.PeersPackets.{EachOpeningIsSealed, EachOpeningGoesOut, EachHighestIsSealed, OnlyOpeningsGoOut}
+use Rattle.sg_gateway.specs.Refusing.{EachRefusalChangesNothing, EachRefusedOfferStaysOpen}
 use Rattle.sg_gateway.specs.Replayed.{replayed}
 use Rattle.sg_gateway.specs.Runs.{outcomes, turns_from}
 use Rattle.sg_gateway.specs.SealedOut.{EachSealGoesOut, OnlySealsGoOut, SignalsPutNothingOut}
@@ -63,8 +66,9 @@ pub record IsRun (status : Status) (left left' written written' : Option (List �
 
 -- The headline, over the events of the octets read, for every list of sealed packets: nothing forged goes
 -- out on a plain leg, and nothing unsealed on a secure one; nothing twice; nothing within reach lost; no
--- counter block sealed twice. And what these rest on: whose each key is, how many packets it may serve,
--- and the order of calls and names.
+-- counter block sealed twice. What these rest on: whose each key is, how many packets it may serve, and the
+-- order of calls and names. And what becomes of signals that are refused, of calls that end, and of the
+-- generations before a call's current one.
 pub record Headline (events : List Event) : Type 0 where
   pub each_sealed : (sealed : List Sealed) → AreSealed sealed → Unforged sealed events → EachOpeningIsSealed sealed events
   pub highest : (sealed : List Sealed) → AreSealed sealed → Unforged sealed events → EachHighestIsSealed sealed events
@@ -84,6 +88,11 @@ pub record Headline (events : List Event) : Type 0 where
   pub owned : EachKeyIsOwned events
   pub lives : EachKeyIsWithinLife events
   pub orderly : EachWorldIsOrderly events
+  pub refusals : EachRefusalChangesNothing events
+  pub refused_offers : EachRefusedOfferStaysOpen events
+  pub ends : EachEndFrees events
+  pub ended : EndedStayAway events
+  pub earlier : EarlierServeNoLonger events
 
 -- Where each line of the source's octets is served, the run handles them to their end, or is out of memory.
 abbrev pub IsComplete : Status → Option (List ℕ) → Option (List ℕ) → Type 0

@@ -39,6 +39,9 @@ pub fn run<S: Source, K: Sink>(
     sg_gateway::no_counter_block_twice();
     sg_gateway::what_is_sealed_goes_out();
     sg_gateway::calls_in_order();
+    sg_gateway::refusals_change_nothing();
+    sg_gateway::ended_calls_stay_away();
+    sg_gateway::earlier_generations_serve_no_longer();
     if !is_replay(words) {
         return Status::Usage;
     }
