@@ -27,7 +27,7 @@ use Rattle.sg_sdp.specs.declared.sdp.Sdp.{Sdp}
 use Rattle.sg_session.proofs.Inversions.{after_ok_is, stop_if_is, ok_is}
 use Rattle.sg_session.specs.Stages.{after_ok}
 use Rattle.sg_agreement.proofs.FewMedia.{described_is, described_count}
-use Rattle.sg_agreement.proofs.Inversions.{and_then_is, map_is, some_is}
+use Rattle.sg_base.proofs.Cases.{and_then_some, map_some, some_is}
 use Rattle.sg_agreement.proofs.KeyedSound.{Sometimes, each_active_is}
 use Rattle.sg_agreement.proofs.MessagesSound.{psk_is, cs_is}
 use Rattle.sg_agreement.specs.Answers.{Answered, answered_by, AgreedAnswer, accepted_answer, agreed_answer}
@@ -65,8 +65,8 @@ module _ (csb : ℕ) (random : List ℕ) (policies : List Policy) (tgks : List T
   pairs_long session count (i ∷ []) ps long e = absurd (omega (arith, long))
   pairs_long session zero (i ∷ r ∷ map) ps long e = absurd (omega (arith, long))
   pairs_long session (suc count) (i ∷ r ∷ map) ps long e =
-      let a = and_then_is (pair_in csb random policies tgks session i r) _ ps e in
-      let b = map_is (pairs_from csb random policies tgks (session + 2) map) (λ pairs. a.0 ∷ pairs) ps a.2 in
+      let a = and_then_some (pair_in csb random policies tgks session i r) _ ps e in
+      let b = map_some (pairs_from csb random policies tgks (session + 2) map) (λ pairs. a.0 ∷ pairs) ps a.2 in
       let rest = pairs_long (session + 2) count map b.0 (omega (arith, long)) b.1 in
       let whole = ap length b.2 in
       omega (arith, rest, whole)

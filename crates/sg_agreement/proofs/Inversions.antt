@@ -2,24 +2,8 @@
 use Rattle.std.proofs.Common.{◌≡◌, Bool, true, false, cond, List, [], ◌∷◌, Option, Some, None, Ok, refl, ap, subst}
 use Rattle.std.proofs.lemmas.Bool.{and_parts}
 use Rattle.std.specs.List.{AllByRecursion, find, list_all}
-use Rattle.std.specs.Option.{option_and_then, option_map}
 use Rattle.sg_base.specs.declared.faults.Refusal.{Refusal}
 use Rattle.sg_agreement.specs.Refusals.{or_refusal}
-
-pub and_then_is : {X Y : Type 0} (r : Option X) (f : X → Option Y) (y : Y) → option_and_then f r ≡ Some y → (x : X) × (r ≡ Some x) × (f x ≡ Some y)
-and_then_is (Some x) f y e = (x, refl, e)
-and_then_is None f y e = absurd cc
-
-pub map_is : {X Y : Type 0} (r : Option X) (f : X → Y) (y : Y) → option_map f r ≡ Some y → (x : X) × (r ≡ Some x) × (f x ≡ y)
-map_is (Some x) f y e = (x, refl, cc)
-map_is None f y e = absurd cc
-
-pub some_is : {X : Type 0} (x y : X) → Some x ≡ Some y → x ≡ y
-some_is x y e = cc
-
-pub some_if : {X : Type 0} (b : Bool) (x y : X) → cond b (Some x) None ≡ Some y → (b ≡ true) × (x ≡ y)
-some_if true x y e = (refl, cc)
-some_if false x y e = absurd cc
 
 pub some_unless : {X : Type 0} (b : Bool) (r : Option X) (y : X) → cond b None r ≡ Some y → (b ≡ false) × (r ≡ Some y)
 some_unless true r y e = absurd cc

@@ -1,5 +1,4 @@
 mod AllAgreed
-mod DecodedBytes
 mod DistinctMkis
 mod FewMedia
 mod Inversions

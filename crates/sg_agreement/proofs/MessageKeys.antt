@@ -11,9 +11,10 @@ use Rattle.sg_mikey.specs.declared.message.Tgk.{Tgk}
 use Rattle.sg_psk.specs.KeyData.{KeyPart, key_part, octets_at, octet_at, spi_of, spi_at, validity_at, is_next, is_key_length, key_part_at, keys_at, differs, all_differ, tgks_of}
 use Rattle.sg_session.proofs.Lists.{each_map}
 use Rattle.sg_session.specs.Reach.{AreMkis}
-use Rattle.sg_agreement.proofs.DecodedBytes.{take_bytes, drop_bytes}
+use Rattle.sg_sdes.proofs.DecodedBytes.{take_bytes, drop_bytes}
 use Rattle.sg_agreement.proofs.DistinctMkis.{Differ, AllDiffer, Fits, mkis_are, differ_by}
-use Rattle.sg_agreement.proofs.Inversions.{and_then_is, map_is, some_is, some_if, some_unless, either, each_true}
+use Rattle.sg_base.proofs.Cases.{and_then_some, map_some, some_is, guarded}
+use Rattle.sg_agreement.proofs.Inversions.{some_unless, either, each_true}
 use Rattle.sg_agreement.proofs.MessageOctets.{rest_octets}
 use Rattle.sg_agreement.specs.Streams.{octets_of}
 
@@ -61,15 +62,15 @@ HasFitSpi r = Fits r.0 × AreOctets r.1
 value_fits : (spi : List ℕ) (m : MkiValue) → AreOctets spi → spi_of spi ≡ Some m → Fits (Some m)
 unfolding spi_of
 value_fits spi m h e =
-    let p = some_if (leb 1 (length spi) && leb (length spi) 128 && ltb (number_of spi) (2 ^ 128)) (mki_of (number_of spi) (length spi)) m e in
+    let p = guarded (leb 1 (length spi) && leb (length spi) 128 && ltb (number_of spi) (2 ^ 128)) (mki_of (number_of spi) (length spi)) m e in
     subst (λ (m : MkiValue). Fits (Some m)) p.1 (number_low spi h)
 
 spi_fits : (octets : List ℕ) (r : MkiValue × List ℕ) → AreOctets octets → spi_at octets ≡ Some r → HasFitSpi (Some r.0, r.1)
 unfolding spi_at
 spi_fits octets r h e =
-    let a = and_then_is (octet_at octets) _ r e in
-    let b = and_then_is (octets_at a.0.0 a.0.1) _ r a.2 in
-    let c = and_then_is (spi_of b.0.0) _ r b.2 in
+    let a = and_then_some (octet_at octets) _ r e in
+    let b = and_then_some (octets_at a.0.0 a.0.1) _ r a.2 in
+    let c = and_then_some (spi_of b.0.0) _ r b.2 in
     let both = octets_both a.0.0 a.0.1 b.0 (octet_rest octets a.0 h a.1) b.1 in
     subst (λ (r : MkiValue × List ℕ). HasFitSpi (Some r.0, r.1)) (some_is (c.0, b.0.1) r c.2) (value_fits b.0.0 c.0 both.0 c.1, both.1)
 
@@ -79,7 +80,7 @@ validity_fits form octets r h e =
     either HasFitSpi (eqb form 0) (Some (None, octets)) _ r e
     (λ f. subst HasFitSpi (some_is (None, octets) r f) (tt, h))
     (λ f. either HasFitSpi (eqb form 1) (option_and_then (λ spi. Some (Some spi.0, spi.1)) (spi_at octets)) None r f
-    (λ g. let a = and_then_is (spi_at octets) (λ spi. Some (Some spi.0, spi.1)) r g in
+    (λ g. let a = and_then_some (spi_at octets) (λ spi. Some (Some spi.0, spi.1)) r g in
     subst HasFitSpi (some_is (Some a.0.0, a.0.1) r a.2) (spi_fits octets a.0 h a.1))
     (λ none. absurd cc))
 
@@ -89,12 +90,12 @@ IsFitPart p = Fits p.tgk.spi × AreOctets p.rest
 part_fits : (octets : List ℕ) (p : KeyPart) → AreOctets octets → key_part_at octets ≡ Some p → IsFitPart p
 unfolding key_part_at
 part_fits octets p h e =
-    let a = and_then_is (octet_at octets) _ p e in
-    let b = and_then_is (octet_at a.0.1) _ p a.2 in
-    let c = and_then_is (octets_at 2 b.0.1) _ p b.2 in
-    let d = and_then_is (octets_at (number_of c.0.0) c.0.1) _ p c.2 in
-    let f = and_then_is (validity_at b.0.0 d.0.1) _ p d.2 in
-    let g = some_if (is_next a.0.0 && is_key_length (number_of c.0.0)) (key_part a.0.0 d.0.0 f.0.0 f.0.1) p f.2 in
+    let a = and_then_some (octet_at octets) _ p e in
+    let b = and_then_some (octet_at a.0.1) _ p a.2 in
+    let c = and_then_some (octets_at 2 b.0.1) _ p b.2 in
+    let d = and_then_some (octets_at (number_of c.0.0) c.0.1) _ p c.2 in
+    let f = and_then_some (validity_at b.0.0 d.0.1) _ p d.2 in
+    let g = guarded (is_next a.0.0 && is_key_length (number_of c.0.0)) (key_part a.0.0 d.0.0 f.0.0 f.0.1) p f.2 in
     let behind_next = octet_rest octets a.0 h a.1 in
     let behind_form = octet_rest a.0.1 b.0 behind_next b.1 in
     let behind_size = (octets_both 2 b.0.1 c.0 behind_form c.1).1 in
@@ -110,11 +111,11 @@ keys_fit : (more : ℕ) (octets : List ℕ) (keys : List Tgk) → AreOctets octe
 unfolding keys_at
 keys_fit zero octets keys h e = absurd cc
 keys_fit (suc more) octets keys h e =
-    let a = and_then_is (key_part_at octets) _ keys e in
+    let a = and_then_some (key_part_at octets) _ keys e in
     let this = part_fits octets a.0 h a.1 in
     either HaveFitSpis (eqb a.0.next 0) _ _ keys a.2
-    (λ g. subst HaveFitSpis (some_if (eqb (length a.0.rest) 0) (a.0.tgk ∷ []) keys g).1 (this.0, tt))
-    (λ g. let b = map_is (keys_at more a.0.rest) (λ others. a.0.tgk ∷ others) keys g in subst HaveFitSpis b.2 (this.0, keys_fit more a.0.rest b.0 this.1 b.1))
+    (λ g. subst HaveFitSpis (guarded (eqb (length a.0.rest) 0) (a.0.tgk ∷ []) keys g).1 (this.0, tt))
+    (λ g. let b = map_some (keys_at more a.0.rest) (λ others. a.0.tgk ∷ others) keys g in subst HaveFitSpis b.2 (this.0, keys_fit more a.0.rest b.0 this.1 b.1))
 
 abbrev AreSome : ℕ → List Tgk → Type 0
 AreSome most keys = (1 ≤ length keys) × (length keys ≤ most)
@@ -123,10 +124,10 @@ keys_some : (more : ℕ) (octets : List ℕ) (keys : List Tgk) → keys_at more 
 unfolding keys_at
 keys_some zero octets keys e = absurd cc
 keys_some (suc more) octets keys e =
-    let a = and_then_is (key_part_at octets) _ keys e in
+    let a = and_then_some (key_part_at octets) _ keys e in
     either (AreSome (suc more)) (eqb a.0.next 0) _ _ keys a.2
-    (λ g. subst (AreSome (suc more)) (some_if (eqb (length a.0.rest) 0) (a.0.tgk ∷ []) keys g).1 (omega arith, omega arith))
-    (λ g. let b = map_is (keys_at more a.0.rest) (λ others. a.0.tgk ∷ others) keys g in
+    (λ g. subst (AreSome (suc more)) (guarded (eqb (length a.0.rest) 0) (a.0.tgk ∷ []) keys g).1 (omega arith, omega arith))
+    (λ g. let b = map_some (keys_at more a.0.rest) (λ others. a.0.tgk ∷ others) keys g in
     let rest = keys_some more a.0.rest b.0 b.1 in
     subst (AreSome (suc more)) b.2 (omega arith, (let few = rest.1 in omega (arith, few))))
 
@@ -148,8 +149,8 @@ tgks_differ (k ∷ ks) e =
 pub tgks_sound : (octets : List ℕ) (keys : List Tgk) → AreOctets octets → tgks_of octets ≡ Some keys → AreSoundTgks keys
 unfolding tgks_of
 tgks_sound octets keys h e =
-    let a = and_then_is (keys_at 8 octets) _ keys e in
-    let b = some_if (all_differ a.0) a.0 keys a.2 in
+    let a = and_then_some (keys_at 8 octets) _ keys e in
+    let b = guarded (all_differ a.0) a.0 keys a.2 in
     let count = keys_some 8 octets a.0 a.1 in
     subst AreSoundTgks b.1 (record {
       mkis = mkis_are (map (λ k. k.spi) a.0) (each_map (λ k. Fits k.spi) Fits (λ k. k.spi) (λ k f. f) a.0 (keys_fit 8 octets a.0 h a.1)) (tgks_differ a.0 b.0);

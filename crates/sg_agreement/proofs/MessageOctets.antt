@@ -18,7 +18,7 @@ use Rattle.sg_psk.specs.Envelope.{enciphered}
 use Rattle.sg_psk.specs.Parts.{closing_in}
 use Rattle.sg_sdes.specs.KeyTexts.{base64_at, ok_of, or_else}
 use Rattle.sg_agreement.specs.Attributes.{mikey_octets}
-use Rattle.sg_agreement.proofs.DecodedBytes.{decoded_are_bytes, take_bytes, drop_bytes}
+use Rattle.sg_sdes.proofs.DecodedBytes.{decoded_are_bytes, take_bytes, drop_bytes}
 
 -- what sg_mikey's law says
 abbrev pub Found : Type 0

@@ -15,7 +15,7 @@ use Rattle.sg_mikey.specs.declared.message.Tgk.{Tgk}
 use Rattle.sg_mikey.specs.declared.policy.Policy.{Policy}
 use Rattle.sg_session.proofs.Inversions.{stop_if_is}
 use Rattle.sg_session.specs.Reach.{AreMkis}
-use Rattle.sg_agreement.proofs.Inversions.{and_then_is, map_is, some_is, some_if}
+use Rattle.sg_base.proofs.Cases.{and_then_some, map_some, some_is, guarded}
 use Rattle.sg_agreement.proofs.LinesSound.{tag_low}
 use Rattle.sg_agreement.proofs.MessageKeys.{AreSoundTgks}
 use Rattle.sg_agreement.specs.Sound.{IsSoundStream}
@@ -55,7 +55,7 @@ IsSecret p = is_raw p.suite ≡ false
 protection_secret : (policy : Policy) (p : Protection) → protection_of policy ≡ Some p → IsSecret p
 unfolding protection_of
 protection_secret policy p e =
-    let a = some_if (are_served policy.items) (protection_by policy.items) p e in
+    let a = guarded (are_served policy.items) (protection_by policy.items) p e in
     subst IsSecret a.1 (suite_secret (value_of policy.items 1 16) (value_of policy.items 11 10))
 
 -- ---- keys
@@ -88,15 +88,15 @@ module _ (csb : ℕ) (random : List ℕ) (policies : List Policy) (tgks : List T
   stream_sound : (session : ℕ) (entry : CsEntry) (s : StreamKeys) → stream_in csb random policies tgks session entry ≡ Some s → IsSoundKeys s
   unfolding stream_in
   stream_sound session entry s e =
-      let a = and_then_is (policy_at policies entry) _ s e in
-      let b = and_then_is (protection_of a.0) _ s a.2 in
+      let a = and_then_some (policy_at policies entry) _ s e in
+      let b = and_then_some (protection_of a.0) _ s a.2 in
       subst IsSoundKeys (some_is (stream_keys csb random tgks session entry b.0) s b.2) (keys_sound csb random tgks session entry b.0 are (protection_secret a.0 b.0 b.1))
 
   pair_sound : (session : ℕ) (i r : CsEntry) (p : StreamKeys × StreamKeys) → pair_in csb random policies tgks session i r ≡ Some p → IsSoundPair p
   unfolding pair_in
   pair_sound session i r p e =
-      let a = and_then_is (stream_in csb random policies tgks session i) _ p e in
-      let b = and_then_is (stream_in csb random policies tgks (session + 1) r) _ p a.2 in
+      let a = and_then_some (stream_in csb random policies tgks session i) _ p e in
+      let b = and_then_some (stream_in csb random policies tgks (session + 1) r) _ p a.2 in
       subst IsSoundPair (some_is (a.0, b.0) p b.2) (stream_sound session i a.0 a.1, stream_sound (session + 1) r b.0 b.1)
 
   pairs_sound : (session : ℕ) (map : List CsEntry) (ps : List (StreamKeys × StreamKeys)) → pairs_from csb random policies tgks session map ≡ Some ps → AllByRecursion IsSoundPair ps
@@ -104,8 +104,8 @@ module _ (csb : ℕ) (random : List ℕ) (policies : List Policy) (tgks : List T
   pairs_sound session [] ps e = subst (AllByRecursion IsSoundPair) (some_is [] ps e) tt
   pairs_sound session (i ∷ []) ps e = subst (AllByRecursion IsSoundPair) (some_is [] ps e) tt
   pairs_sound session (i ∷ r ∷ map) ps e =
-      let a = and_then_is (pair_in csb random policies tgks session i r) _ ps e in
-      let b = map_is (pairs_from csb random policies tgks (session + 2) map) (λ pairs. a.0 ∷ pairs) ps a.2 in
+      let a = and_then_some (pair_in csb random policies tgks session i r) _ ps e in
+      let b = map_some (pairs_from csb random policies tgks (session + 2) map) (λ pairs. a.0 ∷ pairs) ps a.2 in
       subst (AllByRecursion IsSoundPair) b.2 (pair_sound session i r a.0 a.1, pairs_sound (session + 2) map b.0 b.1)
 
   pub streams_sound : (entries : List CsEntry) (media : ℕ) (ps : List (StreamKeys × StreamKeys)) → streams_of csb random entries policies tgks media ≡ Ok ps → AllByRecursion IsSoundPair ps

@@ -1,5 +1,5 @@
 -- A datagram among the sessions of a call of which each has a port of its own.
-use Rattle.std.proofs.Common.{◌≡◌, ℕ, zero, suc, ◌+◌, ◌<◌, Bool, true, false, cond, List, [], ◌∷◌, ◌++◌, length, get_or, map, Some, None, Result, Ok, Err, refl, sym, ap, ◌∙◌, subst, arith, eqb}
+use Rattle.std.proofs.Common.{◌≡◌, ℕ, suc, ◌+◌, ◌<◌, Bool, true, false, cond, List, [], ◌∷◌, ◌++◌, length, get_or, map, Some, None, Result, Ok, Err, refl, sym, ap, ◌∙◌, subst, arith, eqb}
 use Rattle.std.proofs.Math.ListN.{set}
 use Rattle.std.proofs.Math.Seq.{map-set_same}
 use Rattle.std.proofs.lemmas.Bool.{eqb-true, false_from_ne_true, cond-true, cond-false}
@@ -7,6 +7,7 @@ use Rattle.std.proofs.lemmas.List.{set-get_or}
 use Rattle.std.proofs.lemmas.Iterator.Adapters.{position_from-zero}
 use Rattle.std.proofs.lemmas.List.Elements.{All-from_recursion}
 use Rattle.std.specs.List.{AllByRecursion, filter, position, position_from}
+use Rattle.sg_base.proofs.Cases.{none_some}
 use Rattle.sg_base.specs.declared.addresses.Address.{Address}
 use Rattle.sg_base.specs.declared.faults.DropCause.{DropCause}
 use Rattle.sg_session.proofs.Lists.{each_weaker}
@@ -19,9 +20,6 @@ use Rattle.sg_session.specs.Session.{Done, Session, with_done}
 use Rattle.sg_gateway.proofs.Kept.{same_name_is, same_name_itself}
 use Rattle.sg_gateway.specs.Passing.{AreDistinct, HaveOwnPorts, taken_from, sent_towards, sent_by, sessions_in, IsDropped, IsForwarded}
 use Rattle.sg_gateway.specs.Ports.{port_of, leg_of, other_direction, port_at, address_out}
-
-none_some : {A : Type 0} (x : A) → None ≡ Some x → ⊥
-none_some x e = cc
 
 none_from : {X : Type 0} (test : X → Bool) (k : ℕ) (xs : List X) → position_from test k xs ≡ None → filter test xs ≡ []
 none_from test k [] e = refl

@@ -3,6 +3,7 @@ use Rattle.std.proofs.Common.{◌≡◌, ℕ, Bool, false, List, [], ◌∷◌, 
 use Rattle.std.proofs.Math.ListN.{set}
 use Rattle.std.specs.Box.{boxed_slice_items}
 use Rattle.std.specs.List.{position}
+use Rattle.sg_base.proofs.Cases.{none_some}
 use Rattle.sg_base.specs.declared.addresses.Address.{Address}
 use Rattle.sg_base.specs.declared.faults.DropCause.{DropCause}
 use Rattle.sg_base.specs.declared.faults.DropCause.TheVariants.{PortUnused}
@@ -35,9 +36,6 @@ err_is d pad cause (Ok x) e = absurd cc
 err_is d pad cause (Err other) e =
     let pair : (pad, cause) ≡ (d, other) = cc in
     (ap (λ (p : List ℕ × DropCause). let e : Result (List ℕ) DropCause = Err p.1 in e) (sym pair), ap (λ (p : List ℕ × DropCause). p.0) pair)
-
-none_some : {A : Type 0} (x : A) → None ≡ Some x → ⊥
-none_some x e = cc
 
 module _ (now port : ℕ) (from : Address) (d : List ℕ) (c : Call) (live : c.generations ≡ 1) (own : HaveOwnPorts c.slot c.sessions)
     (paths : List Path) (stand : EachStands (PathStandsFor c.slot) paths c.sessions) where

@@ -3,6 +3,7 @@ use Rattle.std.proofs.Common.{◌≡◌, ℕ, ◌+◌, ◌*◌, ◌<◌, ◌&&�
 use Rattle.std.proofs.Math.ListN.{set}
 use Rattle.std.proofs.lemmas.List.{length-set, get_or_default}
 use Rattle.std.specs.List.{position}
+use Rattle.sg_base.proofs.Cases.{none_some}
 use Rattle.sg_session.specs.Ring.{RingKey}
 use Rattle.sg_base.specs.declared.addresses.Address.{Address}
 use Rattle.sg_base.specs.declared.faults.DropCause.TheVariants.{PortUnused}
@@ -20,9 +21,6 @@ use Rattle.sg_table.specs.Standing.{CallStandsFor, TableStandsFor, has_call_port
 use Rattle.sg_table.specs.declared.call.Call.{Call as TableCall}
 use Rattle.sg_table.specs.declared.handled.End.TheVariants.{Dropped}
 use Rattle.sg_table.specs.declared.handled.Handled.{Handled}
-
-none_some : {A : Type 0} (x : A) → None ≡ Some x → ⊥
-none_some x e = cc
 
 same_ports : (port : ℕ) (call : TableCall) (c : Call) → CallStandsFor call c → has_call_port port call ≡ has_port port c
 same_ports port call c h = let slot = h.slot in let media = h.media in

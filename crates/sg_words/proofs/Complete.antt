@@ -4,6 +4,7 @@ use Rattle.std.specs.Prelude.{nat_le, option_map, option_and_then}
 use Rattle.std.specs.Fmt.{decimal}
 use Rattle.std.proofs.lemmas.Bool.{cond-true, cond-false, le-leb, eqb-true}
 use Rattle.std.proofs.lemmas.Fmt.{decimal_nonempty}
+use Rattle.sg_base.proofs.Cases.{none_some}
 use Rattle.clap.specs.Words.{IsAmong, Kinds, Row, fault_of, first_of, subcommand_of}
 use Rattle.clap.specs.declared.error.kind.ErrorKind.{ErrorKind}
 use Rattle.clap.specs.declared.error.kind.ErrorKind.TheVariants as kind
@@ -125,9 +126,6 @@ complete words (Demo n s w) are =
 among_some : (k : ErrorKind) (ks : Kinds) → IsAmong k ks → no_fault ks ≡ false
 among_some k [] among = absurd among
 among_some k (x ∷ ks) among = refl
-
-none_some : {A : Type 0} (x : A) → None ≡ Some x → ⊥
-none_some x is = cc
 
 -- clap refuses the words of a command for want of memory alone
 pub refused_so : (words : Words) (k : ErrorKind) (f : CommandFault) (c : Command) → (k ≡ kind.OutOfMemory) ⊎ IsAmong k (fault_of srtpgw words)
