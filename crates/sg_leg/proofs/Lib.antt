@@ -1,0 +1,4 @@
+mod Fresh
+mod Installs
+mod Made
+mod Planning
