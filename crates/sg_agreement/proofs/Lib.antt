@@ -4,7 +4,7 @@ mod DistinctMkis
 mod FewMedia
 mod Inversions
 mod KeyedSound
-mod LineNumbers
+pub mod LineNumbers
 mod LinesSound
 mod MessageKeys
 mod MessageOctets

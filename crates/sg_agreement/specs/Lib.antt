@@ -7,6 +7,7 @@ pub mod Generations
 pub mod Keyed
 pub mod Keying
 pub mod LineAnswers
+pub mod Manual
 pub mod Media
 pub mod MessageAnswers
 pub mod Messages

@@ -1,0 +1,6 @@
+mod AddedLines
+mod Described
+mod Fresh
+mod Installs
+mod Made
+mod Planning

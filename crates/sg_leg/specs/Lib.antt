@@ -1,0 +1,10 @@
+pub mod Answering
+pub mod FreshKeys
+pub mod Keying
+pub mod Pairs
+pub mod Planned
+pub mod Served
+pub mod Sound
+pub mod Standing
+pub mod Texts
+pub mod Values
