@@ -1,7 +1,7 @@
-mod AllAgreed
+pub mod AllAgreed
 mod DecodedBytes
 mod DistinctMkis
-mod FewMedia
+pub mod FewMedia
 mod Inversions
 mod KeyedSound
 pub mod LineNumbers

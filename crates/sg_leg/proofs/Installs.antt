@@ -11,7 +11,7 @@ use Rattle.sg_session.specs.Ring.{Installed, RingKey, key_of, install}
 use Rattle.sg_session.specs.Stages.{after_ok}
 use Rattle.sg_leg.proofs.Planning.{keys_are}
 use Rattle.sg_leg.specs.FreshKeys.{media_keys}
-use Rattle.sg_leg.specs.Keying.{IsKeyed, IsInstalled}
+use Rattle.sg_leg.specs.Installing.{IsKeyed, IsInstalled}
 use Rattle.sg_leg.specs.Pairs.{EachPair}
 use Rattle.sg_leg.specs.Planned.{IsPlanned, planned, planned_in}
 use Rattle.sg_leg.specs.Standing.{Begins}

@@ -1,6 +1,8 @@
 pub mod Answering
 pub mod FreshKeys
-pub mod Keying
+pub mod Installing
+pub mod Messages
+pub mod Open
 pub mod Pairs
 pub mod Planned
 pub mod Served

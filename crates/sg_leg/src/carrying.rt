@@ -25,7 +25,8 @@ fn rtp_port(slot: u8, medium: u8, side: Side) -> u16
 /// The ports of media towards a side; a medium that isn't active has port 0.
 pub(crate) fn ports_of(slot: u8, side: Side, active: &[bool]) -> ArrayVec<u16, 4>
     requires { length active.now ≤ 4 }
-    ensures { result.items ≡ ports_from slot 0 side active.now }
+    ensures ports { result.items ≡ ports_from slot 0 side active.now }
+    ensures count { length result.items ≡ length active.now }
 {
     let mut ports = ArrayVec::new();
     for (m, on) in active.iter().enumerate() {

@@ -8,7 +8,7 @@ ghost use Rattle.sg_keys.specs.Reused.{given};
 ghost use Rattle.sg_session.specs.Ring as ring;
 ghost use Rattle.sg_session.specs.Ring.{Installed};
 ghost use Rattle.sg_leg.specs.FreshKeys.{media_keys, ring_keys};
-ghost use Rattle.sg_leg.specs.Keying.{IsKeyed, IsInstalled, fault_of, one_spec, specs_of};
+ghost use Rattle.sg_leg.specs.Installing.{IsKeyed, IsInstalled, fault_of, one_spec, specs_of};
 ghost use Rattle.sg_leg.specs.Planned.{ArePlanned, IsNext};
 ghost use Rattle.sg_leg.specs.Served.{IsServedIf, IsServedMedium};
 

@@ -1,7 +1,7 @@
 use Rattle.std.proofs.Common.{◌≡◌, ◌∙◌, sym, ap, subst, Some, Ok, Err, ◌∷◌, []}
 use Rattle.sg_agreement.specs.Manual.{manual_medium}
 use Rattle.sg_agreement.specs.Media.{Medium}
-use Rattle.sg_leg.specs.Keying.{IsKeyed}
+use Rattle.sg_leg.specs.Installing.{IsKeyed}
 use Rattle.sg_leg.specs.Standing.{manual_live}
 use Rattle.sg_leg.proofs.Installs.{begins}
 use Rattle.sg_leg.proofs.idle.Idle.manual.Goals as goal
