@@ -1,10 +1,10 @@
-mod AllAgreed
+pub mod AllAgreed
 mod DecodedBytes
 mod DistinctMkis
-mod FewMedia
+pub mod FewMedia
 mod Inversions
 mod KeyedSound
-mod LineNumbers
+pub mod LineNumbers
 mod LinesSound
 mod MessageKeys
 mod MessageOctets

@@ -1,6 +1,8 @@
 //! A call without a generation.
 
-ghost use Rattle.std.specs.Prelude.{◌≡◌, ◌≤◌, ℕ, List, [], ◌∷◌, Some, IfErr, true};
+ghost use Rattle.std.specs.Prelude.{◌≡◌, ◌≤◌, ℕ, List, [], ◌∷◌, Some, None, IfErr};
+ghost use Rattle.sg_agreement.specs.Offers.{agreed_offer};
+ghost use Rattle.sg_leg.specs.Open.{IsOffered, at_hand};
 ghost use Rattle.sg_agreement.specs.Generations.{generation_of};
 ghost use Rattle.sg_agreement.specs.Manual.{manual_medium, manual_stream};
 ghost use Rattle.sg_keys.specs.Installing.{keys_of};
@@ -9,9 +11,10 @@ ghost use Rattle.sg_leg.specs.Served.{IsServedMedium};
 ghost use Rattle.sg_leg.specs.Standing.{IsManual};
 
 use crate::media::{Medium, Stream};
+use crate::offered::open;
 use crate::settling::settle_one;
-use crate::{Books, Live, MediaSpec};
-use sg_base::{Address, Fault, MasterKey, RTP_LIFE, WINDOW_LEAST, WINDOW_MOST};
+use crate::{Books, Live, MediaSpec, Offered, Way};
+use sg_base::{Address, Fault, MasterKey, Octets, RTP_LIFE, WINDOW_LEAST, WINDOW_MOST};
 use sg_keys::Admit;
 use sg_sdes::{InlineKey, InlineKeys};
 use std::alloc::Global;
@@ -78,6 +81,27 @@ impl Idle {
         ensures { result ≡ slot }
     {
         Idle { slot }
+    }
+
+    /// Takes an offer and tells the text for the other side; or gives the state back with the first cause why not, and
+    /// then the books are as they were.
+    pub fn offer(
+        self,
+        alloc: Global,
+        way: Way,
+        text: &[u8],
+        noise: &[u8; 304],
+        now: u64,
+        books: &mut Books,
+    ) -> Result<(Offered, Octets), (Idle, Fault)>
+        requires moment { now ≤ 2085978495999 }
+        ensures answer { IsOffered self None (agreed_offer (at_hand self None noise.now now books.old) way text.now) result books.old books.new }
+        ensures back { IfErr result (λ e. (e.0 ≡ self) × (books.new ≡ books.old)) }
+    {
+        match open(alloc, self.slot, None, &way, text, noise, now, books) {
+            Ok(offered) => Ok(offered),
+            Err(fault) => Err((self, fault)),
+        }
     }
 
     /// Keys the call manually and tells what the sides of its one medium are made of: what the peer sends under

@@ -1,7 +1,15 @@
 //! A call under its generation.
 
-ghost use Rattle.std.specs.Prelude.{◌≡◌, ◌≤◌};
+ghost use Rattle.std.specs.Prelude.{◌≡◌, ◌≤◌, true, false, Some, Err, IfErr};
+ghost use Rattle.sg_agreement.specs.Offers.{agreed_offer};
+ghost use Rattle.sg_base.specs.declared.faults.Fault.TheVariants as faults;
+ghost use Rattle.sg_base.specs.declared.faults.Refusal.TheVariants as refusals;
+ghost use Rattle.sg_leg.specs.Open.{IsOffered, at_hand};
 
+use crate::offered::open;
+use crate::{Books, Offered, Way};
+use sg_base::{Fault, Octets, Refusal};
+use std::alloc::Global;
 use std::marker::Model;
 
 /// A call that has ended.
@@ -46,6 +54,51 @@ impl Live {
         ensures most { result ≤ 4 }
     {
         self.media
+    }
+
+    /// The same; it doesn't allocate.
+    fn clone(&self) -> Live
+        ensures { result ≡ self.now }
+    {
+        Live {
+            slot: self.slot,
+            media: self.media,
+            manual: self.manual,
+        }
+    }
+
+    /// Takes an offer, as an idle call does. One that is keyed manually takes none (`State`), and then memory isn't
+    /// wanting.
+    pub fn offer(
+        self,
+        alloc: Global,
+        way: Way,
+        text: &[u8],
+        noise: &[u8; 304],
+        now: u64,
+        books: &mut Books,
+    ) -> Result<(Offered, Octets), (Live, Fault)>
+        requires moment { now ≤ 2085978495999 }
+        ensures answer { self.manual ≡ false → IsOffered self.slot (Some self) (agreed_offer (at_hand self.slot (Some self.media) noise.now now books.old) way text.now) result books.old books.new }
+        ensures manual { self.manual ≡ true → result ≡ Err (self, faults.Refused refusals.State) }
+        ensures back { IfErr result (λ e. (e.0 ≡ self) × (books.new ≡ books.old)) }
+    {
+        if self.manual {
+            return Err((self, Fault::Refused(Refusal::State)));
+        }
+        match open(
+            alloc,
+            self.slot,
+            Some(self.clone()),
+            &way,
+            text,
+            noise,
+            now,
+            books,
+        ) {
+            Ok(offered) => Ok(offered),
+            Err(fault) => Err((self, fault)),
+        }
     }
 
     /// The call ends.

@@ -163,6 +163,20 @@ impl Stream {
         }
     }
 
+    /// The same; it doesn't allocate.
+    pub(crate) fn clone(&self) -> Stream
+        ensures { result ≡ self.now }
+    {
+        Stream {
+            suite: self.suite,
+            keys: self.keys.clone(),
+            roc: self.roc,
+            admit: self.admit,
+            encrypts_rtp: self.encrypts_rtp,
+            encrypts_rtcp: self.encrypts_rtcp,
+        }
+    }
+
     /// How many keys it has.
     fn count(&self) -> u32
         requires { length self.now.keys ≤ 8 }
