@@ -83,7 +83,19 @@ def sides():
         seal("source", key("small"), 0, rtp(seq, ssrc, payload=b""))
 
 
+def peers():
+    """A number that wraps, the last index of all, a long key, a tag of four octets and a raw key."""
+    whole = b"\xab" * 16
+    for rollover, seq in ((2, 0xFFFF), (3, 0)):
+        seal("wraps", key("small"), rollover, rtp(seq, payload=whole))
+    seal("last", key("small"), 0xFFFFFFFF, rtp(0xFFFF, payload=whole))
+    seal("large", key("large"), 1, rtp(9, payload=whole))
+    seal("short", key("small", 32), 0, rtp(9, payload=whole))
+    seal("raw", MasterKey("RAW80", bytes(range(20))), 5, rtp(9, payload=whole))
+
+
 if __name__ == "__main__":
     kinds()
     causes()
     sides()
+    peers()

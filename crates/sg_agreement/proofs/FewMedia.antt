@@ -1,5 +1,5 @@
--- An accepted offer has four media at most.
-use Rattle.std.proofs.Common.{◌≡◌, ◌≤◌, ℕ, ◌+◌, Bool, true, false, not, eqb, List, length, Option, Some, None, Result, Ok, Err, refl, ap, ◌∙◌, subst}
+-- How many media an accepted offer has.
+use Rattle.std.proofs.Common.{◌≡◌, ◌≤◌, ℕ, ◌+◌, Bool, true, false, not, eqb, List, length, Option, Some, None, Result, Ok, Err, refl, sym, ap, ◌∙◌, subst}
 use Rattle.std.proofs.lemmas.Bool.{eqb-true}
 use Rattle.sg_base.specs.declared.addresses.Side.{Side}
 use Rattle.sg_base.specs.declared.faults.Refusal.TheVariants as refusals
@@ -54,3 +54,20 @@ few_media takes h way text a e =
     let p = after_ok_is (described (side_of way) h.media text) _ a e in
     let q = after_ok_is (keying_of h p.0 way) _ a p.2 in
     subst (λ (a : AgreedOffer). a.media ≤ 4) (ok_is _ a q.2) (described_few takes (side_of way) h.media text p.0 p.1)
+
+-- an open offer describes as many media as its call has from then on
+pub offer_media : (h : AtHand) (way : Way) (text : List ℕ) (a : AgreedOffer) → agreed_offer h way text ≡ Ok a → length a.offer.description.media ≡ a.media
+unfolding agreed_offer
+offer_media h way text a e =
+    let p = after_ok_is (described (side_of way) h.media text) _ a e in
+    let q = after_ok_is (keying_of h p.0 way) _ a p.2 in
+    subst (λ (a : AgreedOffer). length a.offer.description.media ≡ a.media) (ok_is _ a q.2) refl
+
+-- and as many as the call has already, where it has some
+pub offer_count : (h : AtHand) (way : Way) (text : List ℕ) (a : AgreedOffer) (count : ℕ) → agreed_offer h way text ≡ Ok a → h.media ≡ Some count → a.media ≡ count
+unfolding agreed_offer
+offer_count h way text a count e has =
+    let p = after_ok_is (described (side_of way) h.media text) _ a e in
+    let q = after_ok_is (keying_of h p.0 way) _ a p.2 in
+    subst (λ (a : AgreedOffer). a.media ≡ count) (ok_is _ a q.2)
+    (described_count (side_of way) count text p.0 (ap (λ media. described (side_of way) media text) (sym has) ∙ p.1))

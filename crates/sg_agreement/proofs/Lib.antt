@@ -3,13 +3,13 @@ mod DecodedBytes
 mod DistinctMkis
 pub mod FewMedia
 mod Inversions
-mod KeyedSound
+pub mod KeyedSound
 pub mod LineNumbers
 mod LinesSound
 mod MessageKeys
 mod MessageOctets
 mod MessagesSound
-mod SessionsSound
+pub mod SessionsSound
 mod SideWalks
 mod Sound
 mod Texts

@@ -3,7 +3,7 @@ use Rattle.std.proofs.Common.{◌≡◌, ◌≢◌, ◌≤◌, ◌<◌, ◌^◌,
 use Rattle.std.proofs.lemmas.Bool.{and_parts}
 use Rattle.std.specs.Prelude.{IfSome}
 use Rattle.std.specs.List.{AllByRecursion, list_all}
-use Rattle.sg_base.specs.Mkis.{MkiValue, IsMki}
+use Rattle.sg_base.specs.Mkis.{MkiValue, IsMki, mkis_differ}
 use Rattle.sg_base.specs.Suites.{is_raw, tag_len_of}
 use Rattle.sg_base.specs.declared.faults.SdesFault.{SdesFault}
 use Rattle.sg_base.specs.declared.suites.Suite.{Suite}
@@ -65,7 +65,7 @@ fits_of suite k (Some m) e is = let p = subst (λ o. IfSome o (λ m. IsMki m.val
 keys_fit : (suite : Suite) (ks : List InlineKey) → AllByRecursion (IsInlineKey suite) ks → AllByRecursion Fits (map (λ k. k.mki) ks)
 keys_fit suite ks p = each_map (IsInlineKey suite) Fits (λ k. k.mki) (λ k is. fits_of suite k k.mki refl is) ks p
 
-mki_differs : (o p : Option MkiValue) → lines.mkis_differ o p ≡ true → Differ o p
+mki_differs : (o p : Option MkiValue) → mkis_differ o p ≡ true → Differ o p
 mki_differs (Some a) (Some b) e = differ_by a b e
 mki_differs None None e = absurd cc
 mki_differs None (Some b) e = absurd cc

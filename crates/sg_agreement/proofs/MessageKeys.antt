@@ -4,11 +4,11 @@ use Rattle.std.proofs.Math.Nat.{mul_assoc, mul-le-mul_right}
 use Rattle.std.proofs.lemmas.Bool.{and_parts}
 use Rattle.std.specs.List.{AllByRecursion, list_all}
 use Rattle.std.specs.Option.{option_and_then}
-use Rattle.sg_base.specs.Mkis.{MkiValue, mki_of}
+use Rattle.sg_base.specs.Mkis.{MkiValue, mki_of, mkis_differ}
 use Rattle.sg_base.specs.Octets.{number_from, number_of}
 use Rattle.sg_mikey.specs.Spelling.{AreOctets}
 use Rattle.sg_mikey.specs.declared.message.Tgk.{Tgk}
-use Rattle.sg_psk.specs.KeyData.{KeyPart, key_part, octets_at, octet_at, spi_of, spi_at, validity_at, is_next, is_key_length, key_part_at, keys_at, spis_differ, differs, all_differ, tgks_of}
+use Rattle.sg_psk.specs.KeyData.{KeyPart, key_part, octets_at, octet_at, spi_of, spi_at, validity_at, is_next, is_key_length, key_part_at, keys_at, differs, all_differ, tgks_of}
 use Rattle.sg_session.proofs.Lists.{each_map}
 use Rattle.sg_session.specs.Reach.{AreMkis}
 use Rattle.sg_agreement.proofs.DecodedBytes.{take_bytes, drop_bytes}
@@ -130,7 +130,7 @@ keys_some (suc more) octets keys e =
     let rest = keys_some more a.0.rest b.0 b.1 in
     subst (AreSome (suc more)) b.2 (omega arith, (let few = rest.1 in omega (arith, few))))
 
-tgk_differs : (o p : Option MkiValue) → spis_differ o p ≡ true → Differ o p
+tgk_differs : (o p : Option MkiValue) → mkis_differ o p ≡ true → Differ o p
 tgk_differs (Some a) (Some b) e = differ_by a b e
 tgk_differs None None e = absurd cc
 tgk_differs None (Some b) e = absurd cc

@@ -1,8 +1,9 @@
--- What is agreed of a call that is keyed manually.
-use Rattle.std.specs.Prelude.{ℕ, ◌^◌, max, min, nat_lt, not, true, ◌&&◌, [], ◌∷◌}
+-- A call that is keyed manually, without an offer: its one medium.
+use Rattle.std.specs.Prelude.{min, max, ℕ, ◌^◌, true, not, ◌&&◌, nat_lt, [], ◌∷◌}
 use Rattle.sg_base.specs.Keys.{Master}
 use Rattle.sg_base.specs.Suites.{is_raw, tag_len_of}
 use Rattle.sg_base.specs.declared.addresses.Address.{Address}
+use Rattle.sg_base.specs.declared.addresses.CallId.{CallId}
 use Rattle.sg_session.specs.declared.sources.Admit.TheVariants as admit
 use Rattle.sg_agreement.specs.Media.{Stream, Medium}
 
@@ -20,8 +21,8 @@ manual_stream roc m = record {
 -- The one medium of such a call: its addresses, the starting rollover, the window, the peer's key and the
 -- gateway's. There is no RTCP under raw keys, nor where no port follows the RTP port of a side. A window has 64
 -- to 1,024 indices.
-abbrev pub manual_medium : Address → Address → ℕ → ℕ → Master → Master → Medium
-manual_medium secure plain roc window from_peer to_peer = record {
+abbrev pub medium_under : Address → Address → ℕ → ℕ → Master → Master → Medium
+medium_under secure plain roc window from_peer to_peer = record {
   from_peer = manual_stream roc from_peer;
   to_peer = manual_stream roc to_peer;
   window = max 64 (min window 1024);
@@ -29,3 +30,16 @@ manual_medium secure plain roc window from_peer to_peer = record {
   secure = secure;
   plain = plain;
 }
+
+-- its id, the two addresses, the starting rollover, the window, and the keys of the two directions
+pub record ManualCall : Type 0 where
+  pub id : CallId
+  pub secure : Address
+  pub plain : Address
+  pub roc : ℕ
+  pub window : ℕ
+  pub from_peer : Master
+  pub to_peer : Master
+
+abbrev pub manual_medium : ManualCall → Medium
+manual_medium h = medium_under h.secure h.plain h.roc h.window h.from_peer h.to_peer

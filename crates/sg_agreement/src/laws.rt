@@ -51,6 +51,15 @@ pub fn active_media_are_agreed()
         → (s : Sdp) × (description_of answer ≡ Ok s) × AreAgreedWhereActive a.offer.side a.offer.description.media s.media g.media }
 {}
 
+/// An open offer describes as many media as its call has from then on, and those are as many as the call had, where
+/// it had some.
+pub fn offers_fit_their_calls()
+    ensures described { (h : AtHand) (way : Way) (text : List ℕ) (a : AgreedOffer) → agreed_offer h way text ≡ Ok a
+        → length a.offer.description.media ≡ a.media }
+    ensures count { (h : AtHand) (way : Way) (text : List ℕ) (a : AgreedOffer) (count : ℕ) → agreed_offer h way text ≡ Ok a
+        → h.media ≡ Some count → a.media ≡ count }
+{}
+
 /// No attribute that holds for one side alone, such as a crypto line or a MIKEY message, goes to the plain side: neither
 /// in the text of an offer from the secure side, nor in that of the answer to an offer from the plain side.
 pub fn no_key_goes_to_the_plain_side()

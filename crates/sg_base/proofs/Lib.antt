@@ -5,4 +5,5 @@ pub mod DigitLemmas
 pub mod FourNumbers
 pub mod Pairs
 mod Places
+pub mod SameOctets
 pub mod SuiteLemmas

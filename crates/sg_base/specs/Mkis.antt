@@ -1,5 +1,5 @@
 -- Master key identifiers.
-use Rattle.std.specs.Prelude.{ℕ, ◌<◌, ◌≤◌, ◌^◌, List}
+use Rattle.std.specs.Prelude.{ℕ, ◌<◌, ◌≤◌, ◌^◌, List, Bool, false, ◌==◌, ◌&&◌, not, Option, Some}
 use Rattle.sg_base.specs.Octets.{be}
 
 -- an MKI: its value and its length in octets
@@ -19,3 +19,8 @@ pub record IsMki (number size : ℕ) : Type 0 where
 -- its octets, the highest first
 abbrev pub mki_octets : MkiValue → List ℕ
 mki_octets m = be m.value m.length
+
+-- two MKIs of one length with two values
+abbrev pub mkis_differ : Option MkiValue → Option MkiValue → Bool
+mkis_differ (Some a) (Some b) = (a.length == b.length) && not (a.value == b.value)
+mkis_differ a b = false

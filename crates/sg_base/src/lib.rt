@@ -28,12 +28,12 @@ pub use fields::{cut, read_address, read_four, read_number};
 pub use identities::{Identity, Noise304};
 pub use keys::{CipherKey, HalfKeys, MasterKey, SessionKeys};
 pub use limits::{
-    CALLS_MOST, FIRST_PORT, LINE_MOST, MEDIA_MOST, MEDIUM_PORTS, MKI_MOST, NOISE, PAD_MOST,
-    PLAIN_MOST, PROTECTED_MOST, RING_KEYS_MOST, RTCP_LIFE, RTCP_TAG, RTP_LIFE, SCRIPT_MOST,
-    SDP_LINE_MOST, SDP_MOST, SESSION_KEYS_MOST, SLOT_PORTS, STREAMS_MOST, TICK_MOST, WINDOW_LEAST,
-    WINDOW_MOST,
+    CALLS_MOST, FIRST_PORT, LINE_MOST, MEDIA_MOST, MEDIUM_PORTS, MKI_MOST, NOISE, NOTED_MOST,
+    PAD_MOST, PAIRS_MOST, PLAIN_MOST, PROTECTED_MOST, RING_KEYS_MOST, RTCP_LIFE, RTCP_TAG,
+    RTP_LIFE, SCRIPT_MOST, SDP_LINE_MOST, SDP_MOST, SESSION_KEYS_MOST, SLOT_PORTS, STREAMS_MOST,
+    TICK_MOST, WINDOW_LEAST, WINDOW_MOST,
 };
-pub use mkis::Mki;
+pub use mkis::{Mki, mkis_differ};
 pub use numbers::{octets_of_u32, read_u16, read_u32};
 pub use octets::Octets;
 pub use pad::{Pad, TooLong};

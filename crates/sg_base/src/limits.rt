@@ -55,6 +55,12 @@ pub const PROTECTED_MOST: usize = 4_238;
 /// How many octets of noise a signal draws.
 pub const NOISE: usize = 304;
 
+/// How many pre-shared keys a gateway holds at most.
+pub const PAIRS_MOST: usize = 64;
+
+/// How many accepted messages a gateway keeps at most, so that none is accepted twice (RFC 3830, 5.4).
+pub const NOTED_MOST: usize = 1_024;
+
 /// The longest line of a script or of outcomes, with its end.
 pub const LINE_MOST: usize = 70_000;
 

@@ -1,7 +1,7 @@
 //! Master key identifiers (RFC 3711, 3.1; RFC 4568, 6.1).
 
 ghost use Rattle.std.specs.Prelude.{◌≡◌, ◌<◌, ◌≤◌, ◌^◌, ◌↔◌, length, IsSome, IfSome, IsTrue};
-ghost use Rattle.sg_base.specs.Mkis.{IsMki, mki_octets, mki_of};
+ghost use Rattle.sg_base.specs.Mkis.{IsMki, mki_octets, mki_of, mkis_differ};
 ghost use Rattle.sg_base.specs.Octets.{be};
 
 use arrayvec::ArrayVec;
@@ -86,9 +86,20 @@ impl Mki {
     }
 }
 
+/// Whether both are there, of one length, with two values: the rule on the keys of one line or message
+/// (RFC 4568, 6.1).
+pub fn mkis_differ(mki: &Option<Mki>, other: &Option<Mki>) -> bool
+    ensures { result ≡ mkis_differ mki.now other.now }
+{
+    match (mki, other) {
+        (Some(mki), Some(other)) => mki.len() == other.len() && mki.value() != other.value(),
+        _ => false,
+    }
+}
+
 #[cfg(test)]
 mod tests {
-    use super::Mki;
+    use super::{Mki, mkis_differ};
     use std::test::Fail;
 
     // A value and a length, and whether they are an MKI.
@@ -124,5 +135,19 @@ mod tests {
         assert_eq!(rt; &octets.as_slice()[..3], [0, 0, 255].as_slice());
         assert_eq!(rt; (long.value(), long.len()), (u128::MAX, 18));
         Ok(())
+    }
+
+    #[test]
+    fn differs_in_its_value(rt: HostRuntime) {
+        let rows = [
+            (Mki::new(1, 2), Mki::new(2, 2), true),
+            (Mki::new(1, 2), Mki::new(1, 2), false),
+            (Mki::new(1, 2), Mki::new(2, 3), false),
+            (Mki::new(1, 2), None, false),
+            (None, None, false),
+        ];
+        for (mki, other, differ) in &rows {
+            assert_eq!(rt; mkis_differ(mki, other), *differ);
+        }
     }
 }

@@ -1,10 +1,10 @@
 -- A master key of two parts that were written one behind the other.
-use Rattle.std.proofs.Common.{◌≡◌, ◌+◌, ◌-◌, ◌≤◌, ℕ, List, ◌++◌, length, take, drop, refl, ap, sym, ◌∙◌, arith, append_assoc, length-append}
+use Rattle.std.proofs.Common.{◌≡◌, ◌+◌, ◌-◌, ◌≤◌, ℕ, List, ◌++◌, length, take, drop, ap, sym, ◌∙◌, arith, append_assoc, length-append}
 use Rattle.std.proofs.lemmas.List.{take_at, drop_at, length-take-le, length-drop}
-use Rattle.sg_base.specs.Keys.{Master, master_of}
+use Rattle.sg_base.specs.Keys.{master_of}
 use Rattle.sg_base.specs.Suites.{key_len_of}
 use Rattle.sg_base.specs.declared.suites.Suite.{Suite}
-use Rattle.sg_hmac.specs.Labels.{label_of, traffic_key, traffic_salt}
+use Rattle.sg_hmac.specs.Labels.{label_of}
 use Rattle.sg_hmac.specs.Prf.{mikey_prf}
 use Rattle.sg_csmap.specs.CryptoSessions.{master_in}
 

@@ -1,23 +1,33 @@
 //! The laws of every run: nothing forged, nothing twice, nothing within reach lost, no counter block
-//! sealed twice.
+//! sealed twice. Their bodies call laws alone.
 
-ghost use Rattle.std.specs.Prelude.{List};
+ghost use Rattle.std.specs.Prelude.{◌≡◌, ◌<◌, ℕ, Bool, List, length, get_or, set, nat_lt, Some};
+ghost use Rattle.std.specs.List.{AllPairs, insert, remove, position_from, position_or_len};
+ghost use Rattle.sg_base.specs.declared.faults.Refusal.{Refusal};
 ghost use Rattle.sg_session.specs.Reach.{Sealed, AreSealed};
 ghost use Rattle.sg_gateway.specs.Arriving.{EachArrivingIsPutOut};
 ghost use Rattle.sg_gateway.specs.Batch.{Arrived, AreDrained, IsToldAlone};
 ghost use Rattle.sg_gateway.specs.Coming.{EachOpeningCame, EachSealCame};
 ghost use Rattle.sg_gateway.specs.Departing.{EachDepartingIsSealed};
+ghost use Rattle.sg_gateway.specs.Earlier.{EarlierServeNoLonger};
+ghost use Rattle.sg_gateway.specs.Early.{IsRefusedFirst, early};
+ghost use Rattle.sg_gateway.specs.Ended.{EachEndFrees, EndedStayAway};
 ghost use Rattle.sg_gateway.specs.Lives.{EachKeyIsWithinLife};
 ghost use Rattle.sg_gateway.specs.Order.{EachWorldIsOrderly};
 ghost use Rattle.sg_gateway.specs.Owned.{EachKeyIsOwned};
 ghost use Rattle.sg_gateway.specs.PeersPackets.{EachOpeningIsSealed, EachOpeningGoesOut, EachHighestIsSealed, OnlyOpeningsGoOut};
+ghost use Rattle.sg_gateway.specs.Places.{DifferInSerial};
+ghost use Rattle.sg_gateway.specs.Refusing.{EachRefusalChangesNothing, EachRefusedOfferStaysOpen};
 ghost use Rattle.sg_gateway.specs.Runs.{world_after};
 ghost use Rattle.sg_gateway.specs.SealedOut.{EachSealGoesOut, OnlySealsGoOut, SignalsPutNothingOut};
+ghost use Rattle.sg_gateway.specs.Signals.{Signal};
 ghost use Rattle.sg_gateway.specs.Step.{Event};
 ghost use Rattle.sg_gateway.specs.Twice.{NoneTwice, NoneTwiceUnderKey, KeysHaveOneOwner};
 ghost use Rattle.sg_gateway.specs.Unforged.{Unforged};
 ghost use Rattle.sg_gateway.specs.Used.{NoBlockTwice};
-ghost use Rattle.sg_gateway.specs.World.{empty};
+ghost use Rattle.sg_gateway.specs.World.{Call, World, empty, find_call, with_call, without_call, and_call};
+
+use sg_agreement::{active_media_are_agreed, agreements_are_sound, offers_fit_their_calls};
 
 /// Where no tag is forged, each packet put out on a plain leg is bit for bit one that its session's peer
 /// sealed, at the index at which it was sealed, and each opened stream's highest index is that of a packet
@@ -29,7 +39,11 @@ pub fn nothing_forged()
     ensures came { (events : List Event) → EachOpeningCame events }
     ensures goes_out { (events : List Event) → EachOpeningGoesOut events }
     ensures only { (events : List Event) → OnlyOpeningsGoOut events }
-{}
+{
+    agreements_are_sound();
+    active_media_are_agreed();
+    offers_fit_their_calls();
+}
 
 /// Nothing is opened or sealed twice, in a session or under a master key. Each key that served, and each
 /// key of a session, has one owner, and no key serves more packets than its life.
@@ -39,14 +53,22 @@ pub fn nothing_twice()
     ensures owner { (events : List Event) → KeysHaveOneOwner events }
     ensures owned { (events : List Event) → EachKeyIsOwned events }
     ensures lives { (events : List Event) → EachKeyIsWithinLife events }
-{}
+{
+    agreements_are_sound();
+    active_media_are_agreed();
+    offers_fit_their_calls();
+}
 
 /// Each sealed packet that arrives new, within reach and under a live key is opened and put out. And each
 /// plain packet that comes from the plain side and can be sealed is sealed and put out.
 pub fn nothing_within_reach_lost()
     ensures arriving { (events : List Event) (sealed : List Sealed) → AreSealed sealed → EachArrivingIsPutOut sealed events }
     ensures departing { (events : List Event) → EachDepartingIsSealed events }
-{}
+{
+    agreements_are_sound();
+    active_media_are_agreed();
+    offers_fit_their_calls();
+}
 
 /// What is sealed came to its session's plain port from the plain side. It goes out as its sealing, and
 /// nothing else of that event does; nothing else goes out on a secure port, and no signal puts anything out.
@@ -60,17 +82,70 @@ pub fn what_is_sealed_goes_out()
 /// No block of a keystream is sealed with twice.
 pub fn no_counter_block_twice()
     ensures { (events : List Event) → NoBlockTwice events }
-{}
+{
+    agreements_are_sound();
+    active_media_are_agreed();
+    offers_fit_their_calls();
+}
 
-/// In every world of a run the calls stand by rising slot, below 256, with four media at most, and no two
-/// sessions have one name.
+/// In every world of a run the calls stand by rising slot, below 256, with four media at most and serial numbers
+/// below the number of calls made. No two sessions have one name; those of a call are of its current generation
+/// and, behind them, opening ones of the generation before.
 pub fn calls_in_order()
     ensures { (events : List Event) → EachWorldIsOrderly events }
-{}
+{
+    agreements_are_sound();
+    active_media_are_agreed();
+    offers_fit_their_calls();
+}
 
 /// In every world of a run, datagrams in order leave each call as those at its own ports do, and each gives
 /// what it gives there: the calls can be shared out among workers.
 pub fn each_call_by_itself()
     ensures calls { (events : List Event) (arrived : List Arrived) → AreDrained (world_after empty events) arrived }
     ensures told { (events : List Event) (before : List Arrived) (a : Arrived) → IsToldAlone (world_after empty events) before a }
+{
+    agreements_are_sound();
+    active_media_are_agreed();
+    offers_fit_their_calls();
+}
+
+/// What a table does at a call's place: a call is put in the place of the one of its serial number, a call
+/// goes, and a new call comes before the first of a higher slot.
+pub fn calls_have_places()
+    ensures put { (cs : List Call) (i : ℕ) (c d : Call) → AllPairs DifferInSerial cs → i < length cs → get_or cs i c ≡ c → d.serial ≡ c.serial
+        → with_call d cs ≡ set cs i d }
+    ensures left { (cs : List Call) (i : ℕ) (c : Call) → AllPairs DifferInSerial cs → i < length cs → get_or cs i c ≡ c
+        → without_call c.serial cs ≡ remove cs i }
+    ensures made { (d : Call) (cs : List Call) → and_call d cs ≡ insert cs (position_or_len (λ c. nat_lt d.slot c.slot) cs) d }
+    ensures found { (test : Call → Bool) (cs : List Call) (i : ℕ) (c : Call) → position_from test 0 cs ≡ Some i
+        → find_call test cs ≡ Some (get_or cs i c) }
 {}
+
+/// A signal that is refused and a datagram that is dropped change nothing: calls, sessions, ring, books and
+/// moment stay. A refused answer leaves the offer open. And a refusal that the calls and pairs alone tell is the
+/// answer, whatever the texts and the keys.
+pub fn refusals_change_nothing()
+    ensures world { (events : List Event) → EachRefusalChangesNothing events }
+    ensures offer { (events : List Event) → EachRefusedOfferStaysOpen events }
+    ensures early { (w : World) (signal : Signal) (cause : Refusal) → early w signal ≡ Some cause → IsRefusedFirst w signal cause }
+{}
+
+/// A call that ends leaves its id and its slot free, and no session, key or entry of it comes back.
+pub fn ended_calls_stay_away()
+    ensures frees { (events : List Event) → EachEndFrees events }
+    ensures away { (events : List Event) → EndedStayAway events }
+{
+    agreements_are_sound();
+    active_media_are_agreed();
+    offers_fit_their_calls();
+}
+
+/// 2,000 ms after a call has a generation, no generation before it opens or seals anything.
+pub fn earlier_generations_serve_no_longer()
+    ensures { (events : List Event) → EarlierServeNoLonger events }
+{
+    agreements_are_sound();
+    active_media_are_agreed();
+    offers_fit_their_calls();
+}

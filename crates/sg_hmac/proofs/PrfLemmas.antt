@@ -2,7 +2,7 @@
 use Rattle.std.proofs.Common.{◌≡◌, ◌<◌, ◌≤◌, ◌+◌, ◌-◌, ◌*◌, ◌/◌, ℕ, zero, suc, List, [], ◌∷◌, ◌++◌, take, drop, length, replicate, slice_set, slice_index_or, bit_xor, refl, ap, sym, ◌∙◌, arith, inl, inr, append_assoc, length-append, append-nil}
 use Rattle.std.specs.Int.Bits.{xor_assoc, xor_zero_l, xor_zero_r}
 use Rattle.std.proofs.lemmas.Bool.{cases_lt}
-use Rattle.std.proofs.lemmas.List.{take_all, drop_all, take_at, drop_at, drop-drop, length-take, length-take-le, length-drop}
+use Rattle.std.proofs.lemmas.List.{take_all, drop_all, take_at, drop_at, drop-drop, length-take-le, length-drop}
 use Rattle.std.proofs.Math.Seq.{take-add}
 use Rattle.sg_base.specs.Octets.{xor_octets}
 use Rattle.sg_hmac.specs.Hmac.{hmac_sha1}

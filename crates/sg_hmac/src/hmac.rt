@@ -7,6 +7,9 @@ ghost use Rattle.sg_hmac.specs.States.{Covers, IsMacKey};
 
 use sha1::Sha1;
 
+/// The octets of a MAC: HMAC-SHA-1 has 20 (RFC 2104, section 2, with L = 20).
+pub const MAC_LEN: usize = 20;
+
 /// The octets of a block of SHA-1, "B" of RFC 2104, section 2.
 const BLOCK: usize = 64;
 
@@ -69,7 +72,7 @@ impl Mac {
     }
 
     /// The code, HMAC-SHA-1 of the text.
-    pub fn finish(self) -> [u8; 20]
+    pub fn finish(self) -> [u8; MAC_LEN]
         ensures { (key text : List ℕ) → Covers key text self → result ≡ hmac_sha1 key text }
     {
         let Mac { inner, mut outer } = self;

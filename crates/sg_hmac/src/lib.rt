@@ -9,7 +9,7 @@ mod tag;
 #[cfg(test)]
 mod tests;
 
-pub use hmac::{Mac, MacKey};
+pub use hmac::{MAC_LEN, Mac, MacKey};
 pub use laws::hmac_sha1_length;
 pub use pseudo_random::{labelled_key, prf};
 pub use tag::tag_fits;

@@ -7,14 +7,11 @@ ghost use Rattle.sg_hmac.specs.Labels.{label_of};
 ghost use Rattle.sg_hmac.specs.Prf.{expanded, mikey_prf};
 ghost use Rattle.sg_hmac.specs.States.{IsMacKey};
 
-use crate::MacKey;
+use crate::{MAC_LEN, MacKey};
 use sg_base::octets_of_u32;
 
 /// The octets of a block of the in-key: 256 bits (RFC 3830, 4.1.2).
 const BLOCK: usize = 32;
-
-/// The octets of a MAC.
-const MAC: usize = 20;
 
 /// Fills the part with the function's output of the part's length, from an in-key and a label of any
 /// lengths. An in-key of no octets gives zeros.
@@ -68,15 +65,15 @@ fn expand_onto(secret: &[u8], head: &[u8], tail: &[u8], part: &mut [u8])
     let len = part.len();
     let key = MacKey::new(secret);
     let mut chain = mac_over(&key, head, tail, &[]);
-    for i in 0..len.div_ceil(MAC) {
+    for i in 0..len.div_ceil(MAC_LEN) {
         let mac = mac_over(&key, &chain, head, tail);
-        xor_onto(&mut part[MAC * i..len.min(MAC * i + MAC)], &mac);
+        xor_onto(&mut part[MAC_LEN * i..len.min(MAC_LEN * i + MAC_LEN)], &mac);
         chain = mac_over(&key, &chain, &[], &[]);
     }
 }
 
 // The MAC of three parts joined.
-fn mac_over(key: &MacKey, first: &[u8], second: &[u8], third: &[u8]) -> [u8; 20]
+fn mac_over(key: &MacKey, first: &[u8], second: &[u8], third: &[u8]) -> [u8; MAC_LEN]
     ensures { (secret : List ℕ) → IsMacKey secret key.now
         → result ≡ hmac_sha1 secret (first.now ++ second.now ++ third.now) }
 {
@@ -88,7 +85,7 @@ fn mac_over(key: &MacKey, first: &[u8], second: &[u8], third: &[u8]) -> [u8; 20]
 }
 
 // XORs the first octets of a MAC onto a part that isn't longer.
-fn xor_onto(part: &mut [u8], mac: &[u8; 20])
+fn xor_onto(part: &mut [u8], mac: &[u8; MAC_LEN])
     requires { length part.old ≤ 20 }
     ensures { part.new ≡ xor_octets part.old mac.now }
 {

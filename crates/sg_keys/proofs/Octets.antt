@@ -11,7 +11,7 @@ use Rattle.std.proofs.lemmas.Bool.{cases_Bool, true≢false, false≢true}
 use Rattle.std.proofs.lemmas.Map.Text.{is_eq-slice_cmp}
 use Rattle.std.proofs.lemmas.Slice.Eq.{bytes_eq-Decides}
 use Rattle.sg_base.specs.Octets.{same_octets}
-use Rattle.sg_session.proofs.SameOctets.{same_octets_true, same_octets_is}
+use Rattle.sg_base.proofs.SameOctets.{same_octets_true, same_octets_is}
 use Rattle.sg_keys.specs.Indexed.{at_octets}
 use Rattle.std.specs.Option.{option_or}
 

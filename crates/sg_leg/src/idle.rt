@@ -4,7 +4,7 @@ ghost use Rattle.std.specs.Prelude.{◌≡◌, ◌≤◌, ℕ, List, [], ◌∷�
 ghost use Rattle.sg_agreement.specs.Offers.{agreed_offer};
 ghost use Rattle.sg_leg.specs.Open.{IsOffered, at_hand};
 ghost use Rattle.sg_agreement.specs.Generations.{generation_of};
-ghost use Rattle.sg_agreement.specs.Manual.{manual_medium, manual_stream};
+ghost use Rattle.sg_agreement.specs.Manual.{medium_under, manual_stream};
 ghost use Rattle.sg_keys.specs.Installing.{keys_of};
 ghost use Rattle.sg_session.specs.Ring.{Installed};
 ghost use Rattle.sg_leg.specs.Served.{IsServedMedium};
@@ -61,7 +61,7 @@ fn manual_medium(
     from_peer: &MasterKey,
     to_peer: &MasterKey,
 ) -> Medium
-    ensures medium { result ≡ manual_medium secure plain roc window from_peer.now to_peer.now }
+    ensures medium { result ≡ medium_under secure plain roc window from_peer.now to_peer.now }
     ensures served { IsServedMedium result }
 {
     let secret = !from_peer.suite().is_raw() && !to_peer.suite().is_raw();
@@ -119,7 +119,7 @@ impl Idle {
         books: &mut Books,
     ) -> Result<(Live, MediaSpec), (Idle, Fault)>
         ensures answer { (call generation : ℕ) (ring : List Installed) → keys_of ring ≡ books.old.ring → IsManual self result books.new.ring
-            (generation_of call generation ring (Some (manual_medium secure plain roc window from_peer.now to_peer.now) ∷ [])) }
+            (generation_of call generation ring (Some (medium_under secure plain roc window from_peer.now to_peer.now) ∷ [])) }
         ensures back { IfErr result (λ e. (e.0 ≡ self) × (books.new ≡ books.old)) }
         ensures others { (books.new.psks ≡ books.old.psks) × (books.new.seen ≡ books.old.seen) }
     {

@@ -4,5 +4,6 @@ pub mod FieldLaws
 mod Joins
 mod Lengths
 pub mod LineLaws
+pub mod Searches
 pub mod ServedLaws
 pub mod Splits

@@ -9,6 +9,7 @@ ghost use Rattle.sg_lines.specs.LineOf.{answer_in, bye_in, datagram_in, eight_fi
 use crate::faults::WORD;
 use crate::fields::{address, call, identity, key, noise, number, octets, port, rollover, window};
 use crate::{Line, ReadLineFault, Signal};
+use memchr::memchr;
 use sg_base::{LINE_MOST, PAD_MOST, ScriptFault, TICK_MOST};
 use std::alloc::{AllocError, Global};
 
@@ -279,7 +280,14 @@ pub(crate) fn line_of_fields(alloc: Global, fields: &[&[u8]]) -> Result<Line, Re
 pub fn fields(alloc: Global, body: &[u8]) -> Result<Vec<&[u8]>, AllocError>
     ensures { IfOk result (λ v. map (λ x. x.now) v.items ≡ fields_of body.now) }
 {
-    body.split(|octet| *octet == b' ').collect(alloc)
+    let mut fields = Vec::new(alloc);
+    let mut rest = body;
+    'spaces: while let Some(place) = memchr(b' ', rest) {
+        fields.push(&rest[..place])?;
+        rest = &rest[place + 1..];
+    }
+    fields.push(rest)?;
+    Ok(fields)
 }
 
 /// The first line.

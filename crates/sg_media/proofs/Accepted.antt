@@ -16,14 +16,14 @@ use Rattle.sg_session.specs.Sealed.{crypted}
 use Rattle.sg_session.specs.Session.{Key, Done, Session, admits, count_of, has_room, index_in, indices_of, is_live}
 use Rattle.sg_session.specs.Stages.{after_ok, stop_if}
 use Rattle.sg_session.proofs.Inversions.{ok_is}
-use Rattle.sg_srtp.specs.Choosing.{chosen_for, with_key_cause}
-use Rattle.sg_srtp.specs.Inbound.{Heading, Keying, packet_at}
-use Rattle.sg_srtp.specs.Parts.{covered_by, prefix_of, heading, heading_of, part_of, tag_fits_at}
-use Rattle.sg_srtp.specs.Placing.{placed}
-use Rattle.sg_srtp.specs.declared.inbound.Opened.{Opened}
-use Rattle.sg_srtp.specs.Choosing.{usable_in}
-use Rattle.sg_srtp.specs.Steps.{heading_in}
-use Rattle.sg_srtp.proofs.OpeningLaw.{fits_is, packet_is, placed_check, placed_kind, spent_or, usable_err, usable_ok}
+use Rattle.sg_states.specs.Choosing.{chosen_for, with_key_cause}
+use Rattle.sg_states.specs.Inbound.{Heading, Keying, packet_at}
+use Rattle.sg_states.specs.Parts.{covered_by, prefix_of, heading, heading_of, part_of, tag_fits_at}
+use Rattle.sg_states.specs.Placing.{placed}
+use Rattle.sg_media.specs.declared.inbound.Opened.{Opened}
+use Rattle.sg_states.specs.Choosing.{usable_in}
+use Rattle.sg_states.specs.Steps.{heading_in}
+use Rattle.sg_states.proofs.OpeningLaw.{fits_is, packet_is, placed_check, placed_kind, spent_or, usable_err, usable_ok}
 use Rattle.sg_media.specs.Accepting.{IsAccepted}
 use Rattle.sg_media.specs.Answers.{answer_at, entry_of, opened_at, opened_of}
 use Rattle.sg_media.specs.Standing.{room_in}

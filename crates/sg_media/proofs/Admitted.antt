@@ -23,14 +23,15 @@ use Rattle.sg_session.specs.Sealed.{crypted, head_size, index_word, sealed_text,
 use Rattle.sg_session.specs.Sealing.{datagram_of, head_out, head_out_of_kind, number_of_kind, number_out, sealing_key, seals}
 use Rattle.sg_session.specs.Session.{Key, Done, Session, admits, has_room, indices_of, is_live}
 use Rattle.sg_session.specs.Stages.{after_ok, stop_if}
-use Rattle.sg_srtp.specs.Choosing.{chosen_to_seal, with_spent_cause}
-use Rattle.sg_srtp.specs.Outbound.{Outgoing, IsOutHeaded, closed}
-use Rattle.sg_srtp.specs.Parts.{heading_out}
-use Rattle.sg_srtp.specs.Placing.{next_index}
-use Rattle.sg_srtp.specs.StreamValues.{StreamValue}
-use Rattle.sg_srtp.specs.declared.outbound.Sealed.{Sealed}
-use Rattle.sg_srtp.proofs.OpeningLaw.{live_result}
-use Rattle.sg_srtp.proofs.SealingLaw.{heading_out_is, next_kind, out_parts, sealing_live, taken_at, text_is}
+use Rattle.sg_states.specs.Choosing.{chosen_to_seal, with_spent_cause}
+use Rattle.sg_states.specs.Outbound.{Outgoing, closed}
+use Rattle.sg_media.specs.States.{IsOutHeadedAs}
+use Rattle.sg_states.specs.Parts.{heading_out}
+use Rattle.sg_states.specs.Placing.{next_index}
+use Rattle.sg_states.specs.StreamValues.{StreamValue}
+use Rattle.sg_media.specs.declared.outbound.Sealed.{Sealed}
+use Rattle.sg_states.proofs.OpeningLaw.{live_result}
+use Rattle.sg_states.proofs.SealingLaw.{heading_out_is, next_kind, out_parts, sealing_live, taken_at, text_is}
 use Rattle.sg_media.specs.Accepting.{IsAdmitted}
 use Rattle.sg_media.specs.Answers.{closed_at, entry_out, roomed, sealed_at, sealed_of, told_of}
 use Rattle.sg_media.specs.Sides.{SideValue, StandsFor}
@@ -113,7 +114,7 @@ pub record IsOutIn (s : Session) (p : List ℕ) (h : Outgoing) : Type 0 where
   pub reads : head_out s p ≡ Ok h.head
   pub same : h ≡ record { pad = p; kind = s.name.kind; head = h.head }
 
-pub headed_out_in : (side : SideValue) (s : Session) (p arrived : List ℕ) (h : Outgoing) → StandsFor side s → arrived ≡ p → IsOutHeaded arrived side.kind side.encrypts h → IsOutIn s p h
+pub headed_out_in : (side : SideValue) (s : Session) (p arrived : List ℕ) (h : Outgoing) → StandsFor side s → arrived ≡ p → IsOutHeadedAs arrived side.kind side.encrypts h → IsOutIn s p h
 headed_out_in side s p arrived h st e is = record {
   reads = sym (heading_out_is s p) ∙ sym (λ i. heading_out (st.same_kind i) (st.same_encrypts i) (e i)) ∙ is.reads;
   same = λ i. record { pad = (is.same_pad ∙ e) i; kind = (is.same_kind ∙ st.same_kind) i; head = h.head };

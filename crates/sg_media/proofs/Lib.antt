@@ -1,5 +1,6 @@
 pub mod Accepted
 pub mod Admitted
+mod EitherKind
 pub mod OpeningSteps
 pub mod SealingSteps
 pub mod SideSteps

@@ -5,8 +5,9 @@ use Rattle.sg_base.specs.declared.faults.DropCause.{DropCause}
 use Rattle.sg_base.specs.declared.faults.DropCause.TheVariants.{BadTag, StreamsFull}
 use Rattle.sg_keys.specs.Live.{Live}
 use Rattle.sg_session.specs.Stages.{stop_if}
-use Rattle.sg_srtp.specs.Inbound.{Keying, Placing, fits_under, IsOpened, IsUnverified}
-use Rattle.sg_srtp.specs.declared.inbound.Opened.{Opened}
+use Rattle.sg_states.specs.Inbound.{Keying, Placing, fits_under}
+use Rattle.sg_media.specs.States.{IsOpenedAs, IsUntagged}
+use Rattle.sg_media.specs.declared.inbound.Opened.{Opened}
 use Rattle.sg_media.specs.Answers.{answer_at, entry_at, opened_at}
 
 -- the answer to a keyed datagram whose number has this place
@@ -26,7 +27,7 @@ after_tag p key room fits = answer_at p.keyed.headed.kind p.keyed.headed.pad (st
 placed_is : (p : Placing) (key : Live) (room : Bool) (r : Result ℕ DropCause) → r ≡ Ok p.index → keyed_answer p.keyed key room r ≡ after_tag p key room (fits_under p key)
 placed_is p key room r e = ap (keyed_answer p.keyed key room) e
 
-pub untagged : (p : Placing) (key : Live) (room : Bool) (r : Result ℕ DropCause) (x : List ℕ × DropCause) → r ≡ Ok p.index → IsUnverified p key x → Err x ≡ keyed_answer p.keyed key room r
+pub untagged : (p : Placing) (key : Live) (room : Bool) (r : Result ℕ DropCause) (x : List ℕ × DropCause) → r ≡ Ok p.index → IsUntagged p key x → Err x ≡ keyed_answer p.keyed key room r
 untagged p key room r x e u =
     refused_is x p.keyed.headed.pad BadTag u.same u.cause ∙ sym (placed_is p key room r e ∙ ap (after_tag p key room) u.unfit)
 
@@ -38,7 +39,7 @@ opened_is : (o : Opened) (pad : List ℕ) (kind : Kind) (ssrc index key : ℕ) �
     → o ≡ record { pad = pad; kind = kind; ssrc = ssrc; index = index; key = key }
 opened_is o pad kind ssrc index key a b c d e = λ i. record { pad = a i; kind = b i; ssrc = c i; index = d i; key = e i }
 
-pub opened_says : (p : Placing) (key : Live) (room : Bool) (r : Result ℕ DropCause) (o : Opened) → r ≡ Ok p.index → fits_under p key ≡ true → room ≡ true → IsOpened p key o
+pub opened_says : (p : Placing) (key : Live) (room : Bool) (r : Result ℕ DropCause) (o : Opened) → r ≡ Ok p.index → fits_under p key ≡ true → room ≡ true → IsOpenedAs p key o
     → Ok o ≡ keyed_answer p.keyed key room r
 opened_says p key room r o e fits has s =
     ap Ok (opened_is o _ _ _ _ _ s.packet s.kind s.ssrc s.index s.number) ∙ sym (placed_is p key room r e ∙ (λ i. after_tag p key (has i) (fits i)))

@@ -6,9 +6,10 @@ use Rattle.sg_base.specs.declared.keys.HalfKeys.{HalfKeys}
 use Rattle.sg_keys.specs.Live.{Live, spent, spent_if}
 use Rattle.sg_keys.proofs.Spending.{same_half, same_mki, same_number}
 use Rattle.sg_session.specs.Stages.{after_ok}
-use Rattle.sg_srtp.specs.Choosing.{chosen_to_seal}
-use Rattle.sg_srtp.specs.Outbound.{Outgoing, Numbering, CanSeal, IsNumbered, IsSealedOf, closed, encrypted_at, numbered}
-use Rattle.sg_srtp.specs.declared.outbound.Sealed.{Sealed}
+use Rattle.sg_states.specs.Choosing.{chosen_to_seal}
+use Rattle.sg_states.specs.Outbound.{Outgoing, Numbering, CanSeal, IsNumbered, closed, encrypted_at, numbered}
+use Rattle.sg_media.specs.States.{IsSealedAs}
+use Rattle.sg_media.specs.declared.outbound.Sealed.{Sealed}
 use Rattle.sg_media.specs.Answers.{closed_at, sealed_at, told_of}
 use Rattle.sg_media.specs.Ciphers.{EachEncrypts}
 
@@ -29,7 +30,7 @@ can_seal keys new at number k encrypted c e n s = record {
 }
 
 abbrev text_under : Outgoing → ℕ → ℕ → HalfKeys → List ℕ → List ℕ
-text_under h tag_len index half mki = closed h.kind half h.head.encrypted tag_len index mki (encrypted_at h half index)
+text_under h tag_len index half mki = closed h.kind half h.head.encrypted tag_len index mki (encrypted_at h h.head.encrypted half index)
 
 sealed_is : (o : Sealed) (pad : List ℕ) (kind : Kind) (ssrc index key : ℕ) → o.pad ≡ pad → o.kind ≡ kind → o.ssrc ≡ ssrc → o.index ≡ index → o.key ≡ key
     → o ≡ record { pad = pad; kind = kind; ssrc = ssrc; index = index; key = key }
@@ -40,7 +41,7 @@ served_text : (h : Outgoing) (tag_len index : ℕ) (k : Live) → text_under h t
 served_text h tag_len index k = λ i. text_under h tag_len index (same_half k.number k i) (same_mki k.number k i)
 
 pub seal_says : (h : Outgoing) (keys : List Live) (tag_len : ℕ) (r : Result ℕ DropCause) (n : Numbering) (x : IsNumbered h keys n) (o : Sealed) → r ≡ Ok n.index
-    → IsSealedOf n (spent_if x.key.number x.key) tag_len o → Ok o ≡ told_of h.kind h.pad (sealed_at h keys tag_len r)
+    → IsSealedAs n (spent_if x.key.number x.key) tag_len o → Ok o ≡ told_of h.kind h.pad (sealed_at h keys tag_len r)
 seal_says h keys tag_len r n x o e s =
     ap Ok (sealed_is o _ _ _ _ _
     (s.text ∙ ap (λ (g : Outgoing). text_under g tag_len n.index (spent_if x.key.number x.key).half (spent_if x.key.number x.key).mki) x.same ∙ served_text h tag_len n.index x.key)

@@ -12,18 +12,19 @@ use Rattle.sg_keys.proofs.Spending.{same_half}
 use Rattle.sg_session.specs.OneSession.{after}
 use Rattle.sg_session.specs.Opening.{head_in, mki_in, mki_len, opens}
 use Rattle.sg_session.specs.Session.{Key, Done, Session, admits}
-use Rattle.sg_srtp.specs.Choosing.{chosen_for}
-use Rattle.sg_srtp.specs.Inbound.{Heading, Keying, IsHeaded, IsKeyed}
-use Rattle.sg_srtp.specs.Parts.{heading, mki_of}
-use Rattle.sg_srtp.specs.StreamValues.{StreamValue}
-use Rattle.sg_srtp.specs.declared.inbound.Opened.{Opened}
-use Rattle.sg_srtp.specs.Steps.{heading_in}
+use Rattle.sg_states.specs.Choosing.{chosen_for}
+use Rattle.sg_states.specs.Inbound.{Heading, Keying, IsKeyed}
+use Rattle.sg_media.specs.States.{IsHeadedAs}
+use Rattle.sg_states.specs.Parts.{heading, mki_of}
+use Rattle.sg_states.specs.StreamValues.{StreamValue}
+use Rattle.sg_media.specs.declared.inbound.Opened.{Opened}
+use Rattle.sg_states.specs.Steps.{heading_in}
 use Rattle.sg_media.specs.Accepting.{IsAccepted}
 use Rattle.sg_media.specs.Answers.{entry_of, opened_of}
 use Rattle.sg_media.specs.Ciphers.{HaveCiphers}
 use Rattle.sg_media.specs.Sides.{SideValue, StandsFor}
 use Rattle.sg_media.specs.Standing.{StreamsStand}
-use Rattle.sg_srtp.proofs.OpeningLaw.{heading_is, mki_len_is, chosen_key, unchosen_key}
+use Rattle.sg_states.proofs.OpeningLaw.{heading_is, mki_len_is, chosen_key, unchosen_key}
 use Rattle.sg_media.proofs.Accepted.{unkeyed, opened_ok, opened_err}
 
 -- ---- heads and keys
@@ -32,7 +33,7 @@ pub record IsHeadIn (s : Session) (d : List ℕ) (h : Heading) : Type 0 where
   pub same : h ≡ heading_in s d h.head
 
 pub headed_in : (side : SideValue) (s : Session) (d arrived : List ℕ) (m : ℕ) (h : Heading) → StandsFor side s → arrived ≡ d → m ≡ live_mki_len side.keys
-    → IsHeaded arrived side.kind side.encrypts m side.tag_len h → IsHeadIn s d h
+    → IsHeadedAs arrived side.kind side.encrypts m side.tag_len h → IsHeadIn s d h
 headed_in side s d arrived m h st e_d e_m is =
     let size : m ≡ mki_len s = e_m ∙ ap live_mki_len st.same_keys ∙ mki_len_is s s.keys in
     record {

@@ -7,9 +7,9 @@ use Rattle.std.proofs.Math.Seq.{map-set_same, take-append_seam}
 use Rattle.std.specs.List.{refill}
 use Rattle.sg_base.specs.declared.addresses.Kind.{Kind}
 use Rattle.sg_replay.specs.Freshness.{is_in}
-use Rattle.sg_srtp.specs.StreamValues.{StreamValue}
+use Rattle.sg_states.specs.StreamValues.{StreamValue}
 use Rattle.sg_session.specs.Session.{Done, sources, is_first, indices_of}
-use Rattle.sg_srtp.specs.Streams.{StreamStands}
+use Rattle.sg_states.specs.Streams.{StreamStands}
 use Rattle.sg_media.specs.Standing.{source_of, AreOfKind, StreamsStand, IsAt, room_in}
 use Rattle.sg_media.proofs.Sources.{sources_from-push, indices_of-push_same, indices_of-push_other, none_of, first_source, first_is, Distinct, distinct_sources, is_in-map, is_in-push, distinct_places}
 

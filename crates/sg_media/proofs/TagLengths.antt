@@ -4,7 +4,7 @@ use Rattle.sg_base.specs.declared.addresses.Kind.TheVariants.{Rtp}
 use Rattle.sg_base.specs.Suites.{tag_len_of}
 use Rattle.sg_base.specs.declared.suites.Suite.{Suite}
 use Rattle.sg_base.specs.declared.suites.Suite.TheVariants.{Cm128Tag80, Cm128Tag32, Cm192Tag80, Cm192Tag32, Cm256Tag80, Cm256Tag32, Raw80}
-use Rattle.sg_srtp.specs.Parts.{is_tag_len}
+use Rattle.sg_states.specs.Parts.{is_tag_len}
 
 -- the tag of a suite is one that RTP may have
 pub suite_tag : (suite : Suite) → is_tag_len Rtp (tag_len_of suite) ≡ true

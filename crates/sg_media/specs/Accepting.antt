@@ -8,10 +8,10 @@ use Rattle.sg_session.specs.Opening.{Head, head_in, key_with, mki_in, mki_len}
 use Rattle.sg_session.specs.Sealing.{head_out}
 use Rattle.sg_session.specs.Session.{Key, Session, admits, count_of, is_live}
 use Rattle.sg_session.specs.Stages.{after_ok, stop_if}
-use Rattle.sg_srtp.specs.Choosing.{usable_in}
-use Rattle.sg_srtp.specs.Inbound.{Keying}
-use Rattle.sg_srtp.specs.Outbound.{Outgoing}
-use Rattle.sg_srtp.specs.Steps.{heading_in}
+use Rattle.sg_states.specs.Choosing.{usable_in}
+use Rattle.sg_states.specs.Inbound.{Keying}
+use Rattle.sg_states.specs.Outbound.{Outgoing}
+use Rattle.sg_states.specs.Steps.{heading_in}
 
 -- the datagram's head, its source and its key are the session's
 pub record IsAccepted (s : Session) (d : List ℕ) (k : Keying) : Type 0 where

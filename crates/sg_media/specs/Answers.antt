@@ -8,12 +8,12 @@ use Rattle.sg_session.specs.Opening.{Taken}
 use Rattle.sg_session.specs.Sealing.{datagram_of}
 use Rattle.sg_session.specs.Session.{Done, Session, indices_of}
 use Rattle.sg_session.specs.Stages.{after_ok, stop_if}
-use Rattle.sg_srtp.specs.Choosing.{chosen_to_seal}
-use Rattle.sg_srtp.specs.Inbound.{Keying, fits_under, packet_at}
-use Rattle.sg_srtp.specs.Outbound.{Outgoing, datagram_at}
-use Rattle.sg_srtp.specs.Placing.{next_index, placed}
-use Rattle.sg_srtp.specs.declared.inbound.Opened.{Opened}
-use Rattle.sg_srtp.specs.declared.outbound.Sealed.{Sealed}
+use Rattle.sg_states.specs.Choosing.{chosen_to_seal}
+use Rattle.sg_states.specs.Inbound.{Keying, fits_under, packet_at}
+use Rattle.sg_states.specs.Outbound.{Outgoing, datagram_at}
+use Rattle.sg_states.specs.Placing.{next_index, placed}
+use Rattle.sg_media.specs.declared.inbound.Opened.{Opened}
+use Rattle.sg_media.specs.declared.outbound.Sealed.{Sealed}
 use Rattle.sg_media.specs.Standing.{room_in}
 
 -- what is handed out of a datagram: the packet that it opens as, or the datagram and the first cause
@@ -28,7 +28,7 @@ sealed_of s p (Err cause) = Err (p, cause)
 
 -- the entry of what is opened under a key at an index
 abbrev pub entry_at : Keying → Live → ℕ → Done
-entry_at k key i = record { ssrc = k.headed.head.ssrc; index = i; key = key.number; packet = packet_at k.headed key.half i }
+entry_at k key i = record { ssrc = k.headed.head.ssrc; index = i; key = key.number; packet = packet_at k.headed k.headed.head.encrypted key.half i }
 
 -- what is opened of a datagram whose key is chosen, where its source may have room
 abbrev pub opened_at : Keying → Live → Bool → Result ℕ DropCause → Result Done DropCause
@@ -57,7 +57,7 @@ pub record Closed : Type 0 where
 
 abbrev pub closed_at : Outgoing → ℕ → Live → ℕ → Closed
 closed_at h tag_len key i = record {
-  text = datagram_at (record { headed = h; key = 0; number = 0; index = i }) key tag_len;
+  text = datagram_at (record { headed = h; key = 0; number = 0; index = i }) key h.head.encrypted tag_len;
   done = record { ssrc = h.head.ssrc; index = i; key = key.number; packet = h.pad };
 }
 

@@ -3,8 +3,8 @@ use Rattle.std.specs.Prelude.{◌≡◌, ℕ, Bool, ◌||◌, nat_lt, List, [], 
 use Rattle.sg_base.specs.declared.addresses.Kind.{Kind}
 use Rattle.sg_replay.specs.Freshness.{is_in}
 use Rattle.sg_session.specs.Session.{Done, sources, indices_of}
-use Rattle.sg_srtp.specs.StreamValues.{StreamValue}
-use Rattle.sg_srtp.specs.Streams.{StreamStands}
+use Rattle.sg_states.specs.StreamValues.{StreamValue}
+use Rattle.sg_states.specs.Streams.{StreamStands}
 
 abbrev pub source_of : StreamValue → ℕ
 source_of t = t.ssrc

@@ -1,32 +1,55 @@
 //! The opening side of a session.
 
-ghost use Rattle.std.specs.Prelude.{◌≡◌, ◌≤◌, IfErr};
+ghost use Rattle.std.specs.Prelude.{◌≡◌, ◌≤◌, IfOk, IfErr, MatchResult, Err};
+ghost use Rattle.sg_states.specs.Inbound.{CanServe};
 
-use crate::context::Context;
-use sg_base::{DropCause, Pad};
-use sg_keys::SessionSpec;
-use sg_srtp::inbound::Opened;
+use crate::inbound::{Headed, Keyed, Opened};
+use crate::opening::open_among;
+use crate::stream::Stream;
+use crate::streams::admits;
+use arrayvec::ArrayVec;
+use sg_base::{DropCause, Kind, Pad};
+use sg_keys::{Admit, KeySet, SessionSpec};
 use std::marker::Model;
 
-/// What opens the datagrams of a session (RFC 3711, 3.3 and 3.4).
+/// What opens the datagrams of a session (RFC 3711, 3.3 and 3.4): its keys with their counts, and a stream
+/// for each of its sources.
 #[derive(Drop)]
 pub struct OpenSide {
-    context: Context,
+    kind: Kind,
+    keys: KeySet,
+    streams: ArrayVec<Stream, 16>,
+    roc: u32,
+    window: u16,
+    admit: Admit,
+    encrypts: bool,
+    tag_len: usize,
 }
 
 impl Model for OpenSide {
-    ghost use Rattle.sg_media.specs.Sides.{SideValue};
+    ghost use Rattle.sg_media.specs.Sides.{SideValue, IsSide};
 
     ghost Value = { SideValue };
 
-    ghost view = { λ o. o.context };
+    ghost view = { λ s. record {
+      kind = s.kind;
+      keys = s.keys;
+      streams = s.streams.items;
+      roc = s.roc;
+      window = s.window;
+      admit = s.admit;
+      encrypts = s.encrypts;
+      tag_len = s.tag_len;
+    } };
+
+    ghost invariant = { λ s. IsSide s.keys s.streams.items s.kind s.window s.encrypts s.tag_len };
 }
 
 impl OpenSide {
     ghost use Rattle.sg_session.specs.OneSession.{after};
     ghost use Rattle.sg_session.specs.Opening.{opens};
     ghost use Rattle.sg_session.specs.Session.{Session};
-    ghost use Rattle.sg_media.specs.Accepting.{IsMadeOf};
+    ghost use Rattle.sg_media.specs.Accepting.{IsAccepted, IsMadeOf};
     ghost use Rattle.sg_media.specs.Answers.{opened_of};
     ghost use Rattle.sg_media.specs.Sides.{CanBeMade, StandsFor, side_of};
 
@@ -38,8 +61,50 @@ impl OpenSide {
         ensures value { result ≡ side_of spec }
         ensures stands { (s : Session) → IsMadeOf s spec → StandsFor result s }
     {
+        let SessionSpec {
+            kind,
+            keys,
+            roc,
+            window,
+            admit,
+            encrypt,
+            tag_len,
+        } = spec;
+        prove!(keys.count() > 0);
         OpenSide {
-            context: Context::make(spec),
+            kind,
+            keys,
+            streams: ArrayVec::new(),
+            roc,
+            window,
+            admit,
+            encrypts: encrypt,
+            tag_len: usize::from(tag_len),
+        }
+    }
+
+    // The datagram with its head read, its source admitted and its key chosen, or the first cause.
+    fn accept(&self, pad: Pad) -> Result<Keyed, (Pad, DropCause)>
+        ensures told { (s : Session) → StandsFor self.now s → MatchResult result (IsAccepted s pad) (λ e. (e.0 ≡ pad) × (opens s pad ≡ Err e.1)) }
+        ensures back { MatchResult result (λ k. (k.headed.pad ≡ pad) × (k.headed.kind ≡ self.now.kind)) (λ e. e.0 ≡ pad) }
+        ensures serves { IfOk result (λ k. CanServe self.now.keys k.key k.number k.headed.head.encrypted) }
+    {
+        let headed = match Headed::read(
+            self.kind,
+            self.encrypts,
+            self.keys.mki_len(),
+            self.tag_len,
+            pad,
+        ) {
+            Ok(headed) => headed,
+            Err(refused) => return Err(refused),
+        };
+        if !admits(self.admit, self.streams.as_slice(), headed.ssrc()) {
+            return Err((headed.refuse(), DropCause::SsrcUnknown));
+        }
+        match headed.key(&self.keys) {
+            Ok(keyed) => Ok(keyed),
+            Err(refused) => Err(refused),
         }
     }
 
@@ -51,7 +116,17 @@ impl OpenSide {
         ensures refused { IfErr result (λ e. (e.0 ≡ pad) × (self.new ≡ self.old)) }
         ensures after { (s : Session) → StandsFor self.old s → StandsFor self.new (after s (opens s pad)) }
     {
-        match self.context.receive(pad) {
+        let keyed = match self.accept(pad) {
+            Ok(keyed) => keyed,
+            Err(refused) => return Err(refused),
+        };
+        match open_among(
+            keyed,
+            &mut self.streams,
+            &mut self.keys,
+            self.roc,
+            self.window,
+        ) {
             Ok(opened) => Ok(opened),
             Err(refused) => Err(refused),
         }

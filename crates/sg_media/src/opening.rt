@@ -4,18 +4,18 @@ ghost use Rattle.std.specs.Prelude.{◌≡◌, ℕ, ◌≤◌, List, map, IfOk, 
 ghost use Rattle.sg_keys.specs.Live.{Live, spent};
 ghost use Rattle.sg_replay.specs.Freshness.{is_in};
 ghost use Rattle.sg_session.specs.Session.{Done};
-ghost use Rattle.sg_srtp.specs.Inbound.{CanServe};
-ghost use Rattle.sg_srtp.specs.Placing.{placed};
-ghost use Rattle.sg_srtp.specs.Streams.{IsStreamOf, StreamStands, TakesIn};
+ghost use Rattle.sg_states.specs.Inbound.{CanServe};
+ghost use Rattle.sg_states.specs.Placing.{placed};
+ghost use Rattle.sg_states.specs.Streams.{IsStreamOf, StreamStands, TakesIn};
 ghost use Rattle.sg_media.specs.Answers.{answer_at, entry_of, opened_among, opened_at};
 ghost use Rattle.sg_media.specs.Standing.{source_of, AreOfKind, StreamsStand, StreamsTake};
 
+use crate::inbound::{Keyed, Opened};
+use crate::stream::Stream;
 use crate::streams::find;
 use arrayvec::ArrayVec;
 use sg_base::{DropCause, Pad};
 use sg_keys::KeySet;
-use sg_srtp::Stream;
-use sg_srtp::inbound::{Keyed, Opened};
 
 // Opens a datagram in the stream of its source. The stream may be a new one, for which there may be no
 // room.

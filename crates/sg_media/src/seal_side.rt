@@ -1,32 +1,55 @@
 //! The sealing side of a session.
 
-ghost use Rattle.std.specs.Prelude.{◌≡◌, ◌≤◌, IfErr, length};
+ghost use Rattle.std.specs.Prelude.{◌≡◌, ◌≤◌, length, IfOk, IfErr, MatchResult, Err};
+ghost use Rattle.sg_media.specs.Ciphers.{EachEncrypts};
 
-use crate::context::Context;
-use sg_base::{DropCause, Pad};
-use sg_keys::SessionSpec;
-use sg_srtp::outbound::Sealed;
+use crate::outbound::{Headed, Sealed};
+use crate::sealing::seal_among;
+use crate::stream::Stream;
+use crate::streams::admits;
+use arrayvec::ArrayVec;
+use sg_base::{DropCause, Kind, Pad};
+use sg_keys::{Admit, KeySet, SessionSpec};
 use std::marker::Model;
 
-/// What seals the packets of a session (RFC 3711, 3.3 and 3.4).
+/// What seals the packets of a session (RFC 3711, 3.3 and 3.4): its keys with their counts, and a stream
+/// for each of its sources.
 #[derive(Drop)]
 pub struct SealSide {
-    context: Context,
+    kind: Kind,
+    keys: KeySet,
+    streams: ArrayVec<Stream, 16>,
+    roc: u32,
+    window: u16,
+    admit: Admit,
+    encrypts: bool,
+    tag_len: usize,
 }
 
 impl Model for SealSide {
-    ghost use Rattle.sg_media.specs.Sides.{SideValue};
+    ghost use Rattle.sg_media.specs.Sides.{SideValue, IsSide};
 
     ghost Value = { SideValue };
 
-    ghost view = { λ o. o.context };
+    ghost view = { λ s. record {
+      kind = s.kind;
+      keys = s.keys;
+      streams = s.streams.items;
+      roc = s.roc;
+      window = s.window;
+      admit = s.admit;
+      encrypts = s.encrypts;
+      tag_len = s.tag_len;
+    } };
+
+    ghost invariant = { λ s. IsSide s.keys s.streams.items s.kind s.window s.encrypts s.tag_len };
 }
 
 impl SealSide {
     ghost use Rattle.sg_session.specs.OneSession.{after};
     ghost use Rattle.sg_session.specs.Sealing.{seals};
     ghost use Rattle.sg_session.specs.Session.{Session};
-    ghost use Rattle.sg_media.specs.Accepting.{IsMadeOf};
+    ghost use Rattle.sg_media.specs.Accepting.{IsAdmitted, IsMadeOf};
     ghost use Rattle.sg_media.specs.Answers.{sealed_of};
     ghost use Rattle.sg_media.specs.Sides.{CanBeMade, StandsFor, side_of};
 
@@ -38,9 +61,43 @@ impl SealSide {
         ensures value { result ≡ side_of spec }
         ensures stands { (s : Session) → IsMadeOf s spec → StandsFor result s }
     {
+        let SessionSpec {
+            kind,
+            keys,
+            roc,
+            window,
+            admit,
+            encrypt,
+            tag_len,
+        } = spec;
+        prove!(keys.count() > 0);
         SealSide {
-            context: Context::make(spec),
+            kind,
+            keys,
+            streams: ArrayVec::new(),
+            roc,
+            window,
+            admit,
+            encrypts: encrypt,
+            tag_len: usize::from(tag_len),
         }
+    }
+
+    // The packet with its head read and its source admitted, or the first cause.
+    fn admit(&self, pad: Pad) -> Result<Headed, (Pad, DropCause)>
+        requires { length pad ≤ 4096 }
+        ensures told { (s : Session) → StandsFor self.now s → MatchResult result (IsAdmitted s pad) (λ e. (e.0 ≡ pad) × (seals s pad ≡ Err e.1)) }
+        ensures back { MatchResult result (λ h. (h.pad ≡ pad) × (h.kind ≡ self.now.kind)) (λ e. e.0 ≡ pad) }
+        ensures encrypts { IfOk result (λ h. EachEncrypts self.now.keys h.head.encrypted) }
+    {
+        let headed = match Headed::read(self.kind, self.encrypts, pad) {
+            Ok(headed) => headed,
+            Err(refused) => return Err(refused),
+        };
+        if !admits(self.admit, self.streams.as_slice(), headed.ssrc()) {
+            return Err((headed.refuse(), DropCause::SsrcUnknown));
+        }
+        Ok(headed)
     }
 
     /// Seals a packet of at most 4,096 octets, or hands it back with the first cause that holds: of
@@ -53,7 +110,18 @@ impl SealSide {
         ensures refused { IfErr result (λ e. (e.0 ≡ pad) × (self.new ≡ self.old)) }
         ensures after { (s : Session) → StandsFor self.old s → StandsFor self.new (after s (seals s pad)) }
     {
-        match self.context.send(pad) {
+        let headed = match self.admit(pad) {
+            Ok(headed) => headed,
+            Err(refused) => return Err(refused),
+        };
+        match seal_among(
+            headed,
+            &mut self.streams,
+            &mut self.keys,
+            self.tag_len,
+            self.roc,
+            self.window,
+        ) {
             Ok(sealed) => Ok(sealed),
             Err(refused) => Err(refused),
         }

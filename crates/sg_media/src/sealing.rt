@@ -5,19 +5,19 @@ ghost use Rattle.arrayvec.specs.ArrayVec.{array_vec_len};
 ghost use Rattle.sg_keys.specs.Live.{spent};
 ghost use Rattle.sg_replay.specs.Freshness.{is_in};
 ghost use Rattle.sg_session.specs.Session.{Done};
-ghost use Rattle.sg_srtp.specs.Parts.{is_tag_len};
-ghost use Rattle.sg_srtp.specs.Placing.{next_index};
-ghost use Rattle.sg_srtp.specs.Streams.{IsStreamOf, StreamStands, TakesIn};
+ghost use Rattle.sg_states.specs.Parts.{is_tag_len};
+ghost use Rattle.sg_states.specs.Placing.{next_index};
+ghost use Rattle.sg_states.specs.Streams.{IsStreamOf, StreamStands, TakesIn};
 ghost use Rattle.sg_media.specs.Answers.{closed_among, entry_out, roomed, sealed_at, told_of};
 ghost use Rattle.sg_media.specs.Ciphers.{EachEncrypts};
 ghost use Rattle.sg_media.specs.Standing.{source_of, AreOfKind, StreamsStand, StreamsTake, room_in};
 
+use crate::outbound::{Headed, Sealed};
+use crate::stream::Stream;
 use crate::streams::find;
 use arrayvec::ArrayVec;
 use sg_base::{DropCause, Pad};
 use sg_keys::KeySet;
-use sg_srtp::Stream;
-use sg_srtp::outbound::{Headed, Sealed};
 
 // Seals a packet in the stream of its source.
 fn seal_in(

@@ -1,6 +1,6 @@
 -- Causes in outcome lines have one spelling each.
-use Rattle.std.proofs.Common.{◌≡◌, ℕ, zero, suc, ◌-◌, ◌^◌, ◌<◌, ◌≤◌, Bool, true, false, cond, eqb, List, [], ◌∷◌, length, Option, Some, Ok, refl, sym, ap, subst, ◌∙◌, arith, inl, inr, lit<}
-use Rattle.std.specs.Prelude.{◌⊎◌, ℤ, pos, negsuc, codes}
+use Rattle.std.proofs.Common.{◌≡◌, ℕ, zero, suc, ◌-◌, ◌^◌, ◌<◌, ◌≤◌, true, false, eqb, List, [], ◌∷◌, length, Some, Ok, refl, sym, ap, subst, ◌∙◌, arith, inl, inr, lit<}
+use Rattle.std.specs.Prelude.{ℤ, pos, negsuc, codes}
 use Rattle.std.specs.Fmt.{decimal, signed_decimal}
 use Rattle.std.specs.Str.{bytes_eq}
 use Rattle.std.proofs.lemmas.Bool.{ne_eqb, eqb-true}
@@ -25,10 +25,6 @@ use Rattle.sg_lines.proofs.FieldLaws
 use Rattle.sg_outcome.proofs.NameLaws
 
 -- ---- numbers
-
-chosen_option : {A : Type 0} (b : Bool) (x y z : Option A) → cond b x y ≡ z → ((b ≡ true) × (x ≡ z)) ⊎ ((b ≡ false) × (y ≡ z))
-chosen_option true x y z e = inl (refl, e)
-chosen_option false x y z e = inr (refl, e)
 
 below_again : (n : ℕ) → below (suc n) ≡ Some (negsuc n)
 below_again n =
@@ -63,7 +59,7 @@ pub signed_takes : (t : List ℕ) (z : ℤ) → signed_at t ≡ Some z → (t �
 unfolding signed_at
 signed_takes [] z e = absurd cc
 signed_takes (x ∷ rest) z e =
-    elim (chosen_option (eqb x 45) _ _ (Some z) e) [
+    elim (chosen (eqb x 45) _ _ (Some z) e) [
       | inl p ↦
           let n = and_then_some (number_at 9223372036854775808 rest) below z p.1 in
           let b = below_takes n.0 z n.2 in

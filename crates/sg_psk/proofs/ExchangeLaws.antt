@@ -1,5 +1,5 @@
 -- What the gateway sends is read again, and accepted.
-use Rattle.std.proofs.Common.{◌≡◌, ℕ, suc, ◌+◌, ◌*◌, ◌<◌, ◌≤◌, ◌^◌, true, false, List, [], ◌∷◌, ◌++◌, length, map, replicate, Option, Some, None, Ok, refl, sym, ap, ◌∙◌, arith, eqb, ltb, append_assoc, length-append}
+use Rattle.std.proofs.Common.{◌≡◌, ℕ, suc, ◌+◌, ◌*◌, ◌<◌, ◌≤◌, ◌^◌, true, false, List, [], ◌∷◌, ◌++◌, length, map, replicate, Some, None, Ok, refl, sym, ap, ◌∙◌, arith, eqb, ltb, append_assoc, length-append}
 use Rattle.std.proofs.lemmas.Bool.{le-leb, le-ltb, eq-eqb}
 use Rattle.std.proofs.lemmas.List.{append-nil, take_at, drop_at}
 use Rattle.std.specs.List.{AllByRecursion}
@@ -12,19 +12,18 @@ use Rattle.sg_mikey.specs.Reading.{message_of}
 use Rattle.sg_mikey.specs.Spelling.{IsMessage, IsEntry, message_octets, sized}
 use Rattle.sg_mikey.specs.declared.message.CsEntry.{CsEntry}
 use Rattle.sg_mikey.specs.declared.message.Message.{Message}
-use Rattle.sg_mikey.specs.declared.message.Tgk.{Tgk}
 use Rattle.sg_mikey.specs.declared.payload.Payload.{Payload}
 use Rattle.sg_mikey.specs.declared.payload.Payload.TheVariants.{Time, Random, Id, Sp, Kemac, Verify}
 use Rattle.sg_psk.specs.Policy.{own_policy}
 use Rattle.sg_psk.proofs.MessageEnds.{chain_start, message_start, message_is, before_is}
-use Rattle.sg_psk.proofs.SameOctets.{same_octets_true}
-use Rattle.sg_psk.specs.Accepting.{Accepted, accepted_with, fault_of, initial_fits, initial_of, initial_under, is_served, keys_in, unless, with_keys}
+use Rattle.sg_base.proofs.SameOctets.{same_octets_true}
+use Rattle.sg_psk.specs.Accepting.{Accepted, fault_of, initial_fits, initial_of, initial_under, keys_in, with_keys}
 use Rattle.sg_psk.specs.Ends.{IsSendable, mirrored, initial_sent, note_sent, received, response_sent}
 use Rattle.sg_psk.specs.Envelope.{before_mac, message_counter, enciphered, mac_of, response_covers}
 use Rattle.sg_psk.specs.KeyData.{all_differ, key_part_at, key_text, keys_at, octet_at, octets_at, tgks_of, validity_at}
-use Rattle.sg_psk.specs.Pairs.{note, pair_named, is_noted}
-use Rattle.sg_psk.specs.Parts.{closing, closing_in, names_in, policies_in, random_in, stamp_in}
-use Rattle.sg_psk.specs.Sending.{Sent, key_of, initial_message, initial_start, initial_octets, one_key, response_fits, response_of, answered_map, response_message, response_start, response_octets}
+use Rattle.sg_psk.specs.Pairs.{pair_named, is_noted}
+use Rattle.sg_psk.specs.Parts.{closing_in, names_in, policies_in, random_in, stamp_in}
+use Rattle.sg_psk.specs.Sending.{Sent, key_of, initial_message, initial_start, initial_octets, response_fits, response_of, answered_map, response_message, response_start, response_octets}
 use Rattle.sg_psk.specs.Stamps.{is_skewed}
 use Rattle.sg_psk.specs.declared.pairs.Pair.{Pair}
 use Rattle.sg_psk.specs.declared.replays.Noted.{Noted}

@@ -1,16 +1,15 @@
 -- One key data payload after another, and numbers that octets stand for.
-use Rattle.std.proofs.Common.{◌≡◌, ◌<◌, ◌≤◌, ◌+◌, ◌-◌, ◌*◌, ◌^◌, ℕ, zero, suc, Bool, true, false, cond, ltb, leb, ◌&&◌, get_or, List, [], ◌∷◌, ◌++◌, length, Option, Some, None, Result, Ok, Err, refl, ap, sym, ◌∙◌, append_assoc, append-nil, arith, nat_eq}
+use Rattle.std.proofs.Common.{◌≡◌, ◌<◌, ◌≤◌, ◌+◌, ◌-◌, ◌*◌, ◌^◌, ℕ, suc, Bool, true, false, cond, ltb, leb, ◌&&◌, get_or, List, [], ◌∷◌, ◌++◌, length, Option, Some, None, refl, ap, sym, ◌∙◌, append_assoc, arith, nat_eq}
 use Rattle.std.specs.Prelude.{option_map}
 use Rattle.std.specs.Prelude.{IsSome, IfSome, ◌↔◌}
 use Rattle.std.proofs.lemmas.Bool.{lt-ltb, le-ltb, lt-leb, le-leb, false≢true, eqb-true}
 use Rattle.std.proofs.lemmas.Nat.{mul-le}
 use Rattle.std.proofs.Math.Nat.{mul_assoc, mul_left_comm}
+use Rattle.sg_base.proofs.Cases.{none_some}
 use Rattle.sg_base.specs.Mkis.{IsMki, MkiValue, mki_of}
 use Rattle.sg_base.specs.Octets.{number_from, number_of}
-use Rattle.sg_base.specs.declared.faults.PskFault.TheVariants.{KeyType}
 use Rattle.sg_mikey.specs.declared.message.Tgk.{Tgk}
 use Rattle.sg_psk.specs.KeyData.{KeyPart, key_part_at, keys_at, spi_of}
-use Rattle.sg_psk.specs.StandsFor.{or_fault}
 
 -- ---- numbers
 
@@ -66,9 +65,6 @@ decide false P is isnt = isnt refl
 pub not_zero : (n : ℕ) → (n ≡ 0 → ⊥) → nat_eq n 0 ≡ false
 not_zero n other = decide (nat_eq n 0) (nat_eq n 0 ≡ false) (λ e. absurd (other (eqb-true n 0 e))) (λ e. e)
 
-none_is : (n : ℕ) → None ≡ Some n → ⊥
-none_is n e = cc
-
 some_same : (m n : ℕ) → Some m ≡ Some n → m ≡ n
 some_same m n e = cc
 
@@ -76,7 +72,7 @@ pub spi_wide : (octets : List ℕ) → None ≡ cond (ltb (number_of octets) (2 
 unfolding spi_of
 spi_wide octets is =
     decide (ltb (number_of octets) (2 ^ 128)) (None ≡ spi_of octets)
-    (λ e. absurd (none_is (number_of octets) (is ∙ ap (λ b. cond b (Some (number_of octets)) None) e)))
+    (λ e. absurd (none_some (number_of octets) (is ∙ ap (λ b. cond b (Some (number_of octets)) None) e)))
     (λ e. rw e (no_spi (leb 1 (length octets)) (leb (length octets) 128) (mki_of (number_of octets) (length octets))))
   where
     no_spi : (a b : Bool) (m : MkiValue) → None ≡ cond ((a && b) && false) (Some m) None
@@ -89,7 +85,7 @@ number_is : (n value : ℕ) → Some value ≡ cond (ltb n (2 ^ 128)) (Some n) N
 number_is n value is =
     decide (ltb n (2 ^ 128)) ((ltb n (2 ^ 128) ≡ true) × (value ≡ n))
     (λ e. (e, some_same value n (is ∙ ap (λ b. cond b (Some n) None) e)))
-    (λ e. absurd (none_is value (sym (is ∙ ap (λ b. cond b (Some n) None) e))))
+    (λ e. absurd (none_some value (sym (is ∙ ap (λ b. cond b (Some n) None) e))))
 
 pub spi_is : (octets : List ℕ) (value : ℕ) (r : Option MkiValue) → ((i : ℕ) → get_or octets i 0 < 256) → 1 ≤ length octets → length octets ≤ 128
     → Some value ≡ cond (ltb (number_of octets) (2 ^ 128)) (Some (number_of octets)) None

@@ -5,5 +5,4 @@ pub mod Literals
 pub mod MacLemmas
 pub mod MessageEnds
 pub mod PairLemmas
-pub mod SameOctets
 pub mod SentLaws

@@ -1,30 +1,20 @@
 -- A tag of twenty octets is a MAC exactly where it is a prefix of it.
-use Rattle.std.proofs.Common.{◌≡◌, ◌∙◌, ℕ, nat_eq, Bool, true, false, List, [], ◌∷◌, ◌++◌, length, refl, sym, ap, subst, arith, length-append, append-nil}
+use Rattle.std.proofs.Common.{◌≡◌, ◌∙◌, ℕ, nat_eq, Bool, true, false, List, [], ◌∷◌, ◌++◌, length, refl, sym, ap, arith, length-append, append-nil}
 use Rattle.std.specs.Prelude.{IsTrue, ◌↔◌}
-use Rattle.std.proofs.lemmas.Bool.{false≢true, eqb-true}
+use Rattle.std.proofs.lemmas.Bool.{false≢true, false_from_ne_true, ne_eqb}
 use Rattle.sg_base.specs.Octets.{same_octets}
 use Rattle.sg_hmac.specs.States.{IsTagOf}
-use Rattle.sg_psk.proofs.SameOctets.{same_octets_true, same_octets_is}
+use Rattle.sg_base.proofs.SameOctets.{same_octets_true, same_octets_is}
 
 no_more : (xs : List ℕ) → length xs ≡ 0 → xs ≡ []
 no_more [] e = refl
 no_more (x ∷ xs) e = absurd (omega (arith, e))
 
-decide : (b : Bool) (P : Type 0) → (b ≡ true → P) → (b ≡ false → P) → P
-decide true P is isnt = is refl
-decide false P is isnt = isnt refl
-
 pub not_same : (tag mac : List ℕ) → (length tag ≡ length mac → ⊥) → same_octets tag mac ≡ false
-not_same tag mac other =
-    decide (same_octets tag mac) (same_octets tag mac ≡ false)
-    (λ same. absurd (other (ap length (same_octets_is tag mac same))))
-    (λ e. e)
+not_same tag mac other = false_from_ne_true (same_octets tag mac) (λ same. other (ap length (same_octets_is tag mac same)))
 
 pub other_size : (tag mac : List ℕ) → length mac ≡ 20 → (length tag ≡ 20 → ⊥) → nat_eq (length tag) 20 ≡ same_octets tag mac
-other_size tag mac size other =
-    decide (nat_eq (length tag) 20) (nat_eq (length tag) 20 ≡ same_octets tag mac)
-    (λ e. absurd (other (eqb-true (length tag) 20 e)))
-    (λ e. e ∙ sym (not_same tag mac (λ same. other (same ∙ size))))
+other_size tag mac size other = ne_eqb (length tag) 20 other ∙ sym (not_same tag mac (λ same. other (same ∙ size)))
 
 pub whole_tag : (b : Bool) (tag mac : List ℕ) → length tag ≡ length mac → (IsTrue b ↔ IsTagOf tag mac) → b ≡ same_octets tag mac
 whole_tag true tag mac size fits =
@@ -33,6 +23,4 @@ whole_tag true tag mac size fits =
     let whole : mac ≡ tag = is.1 ∙ ap (λ r. tag ++ r) (no_more is.0 none) ∙ append-nil tag in
     sym (same_octets_true tag mac (sym whole))
 whole_tag false tag mac size fits =
-    decide (same_octets tag mac) (false ≡ same_octets tag mac)
-    (λ same. absurd (false≢true (fits.1 ([], sym (same_octets_is tag mac same) ∙ sym (append-nil tag)))))
-    (λ e. sym e)
+    sym (false_from_ne_true (same_octets tag mac) (λ same. false≢true (fits.1 ([], sym (same_octets_is tag mac same) ∙ sym (append-nil tag)))))

@@ -1,8 +1,8 @@
 -- The keys inside a KEMAC: one to eight key data payloads that fill it (RFC 3830, 6.13 and 6.14).
-use Rattle.std.specs.Prelude.{ℕ, zero, suc, List, [], ◌∷◌, ◌++◌, length, take, drop, Bool, true, false, not, Option, Some, None, option_map, nat_le, nat_lt, ◌==◌, ◌&&◌, ◌||◌, ◌^◌, if◌then◌else◌}
+use Rattle.std.specs.Prelude.{ℕ, zero, suc, List, [], ◌∷◌, ◌++◌, length, take, drop, Bool, true, Option, Some, None, option_map, nat_le, nat_lt, ◌==◌, ◌&&◌, ◌||◌, ◌^◌, if◌then◌else◌}
 use Rattle.std.specs.List.{list_all}
 use Rattle.sg_base.specs.Fields.{◌>>=◌}
-use Rattle.sg_base.specs.Mkis.{MkiValue, mki_of}
+use Rattle.sg_base.specs.Mkis.{MkiValue, mki_of, mkis_differ}
 use Rattle.sg_base.specs.Octets.{be, number_of}
 use Rattle.sg_mikey.specs.declared.message.Tgk.{Tgk}
 
@@ -71,13 +71,8 @@ keys_at (suc more) octets =
     if part.next == 0 then (if length part.rest == 0 then Some (part.tgk ∷ []) else None)
     else option_map (λ others. part.tgk ∷ others) (keys_at more part.rest)
 
--- two SPIs of one length with two values
-abbrev pub spis_differ : Option MkiValue → Option MkiValue → Bool
-spis_differ (Some a) (Some b) = (a.length == b.length) && not (a.value == b.value)
-spis_differ a b = false
-
 abbrev pub differs : Tgk → Tgk → Bool
-differs k l = spis_differ k.spi l.spi
+differs k l = mkis_differ k.spi l.spi
 
 -- several keys all have SPIs of one length, each with a value of its own
 unfoldable pub all_differ : List Tgk → Bool

@@ -13,7 +13,6 @@ use Rattle.sg_psk.specs.Policy.{own_policy}
 use Rattle.sg_psk.specs.Accepting.{Accepted}
 use Rattle.sg_psk.specs.Envelope.{before_mac, enciphered, mac_of, response_covers}
 use Rattle.sg_psk.specs.KeyData.{key_text}
-use Rattle.sg_psk.specs.Pairs.{pair_with}
 use Rattle.sg_psk.specs.Parts.{closing_in}
 use Rattle.sg_psk.specs.Stamps.{stamp_of}
 use Rattle.sg_psk.specs.declared.pairs.Pair.{Pair}

@@ -9,7 +9,7 @@ ghost use Rattle.sg_psk.specs.Envelope.{before_mac, enciphered, mac_of, message_
 use sg_aes::Schedule;
 use sg_base::octets_of_u32;
 use sg_ctr::stream;
-use sg_hmac::{Mac, labelled_key, tag_fits};
+use sg_hmac::{MAC_LEN, Mac, labelled_key, tag_fits};
 
 /// The constants of the labels of a message's own keys (RFC 3830, 4.1.4).
 const ENCRYPTION_KEY: u32 = 0x150533e1;
@@ -21,14 +21,11 @@ const MESSAGE_SALT: u32 = 0x29b88916;
 /// The crypto session's number in those labels.
 const NO_SESSION: u8 = 255;
 
-/// The octets of a MAC.
-pub(crate) const MAC: usize = 20;
-
 /// A message without the MAC at its end.
 pub(crate) fn before_mac(octets: &[u8]) -> &[u8]
     ensures { result.now ≡ before_mac octets.now }
 {
-    &octets[..octets.len().saturating_sub(MAC)]
+    &octets[..octets.len().saturating_sub(MAC_LEN)]
 }
 
 // A MAC under the pre-shared key, over no text yet.
@@ -49,7 +46,7 @@ fn begun_mac(key: &[u8], csb: u32, random: &[u8]) -> Mac
 
 /// The MAC of a text under the pre-shared key.
 #[tactic(auto, unfolding(crate::specs::Envelope::mac_of))]
-pub(crate) fn mac_of(key: &[u8], csb: u32, random: &[u8], text: &[u8]) -> [u8; 20]
+pub(crate) fn mac_of(key: &[u8], csb: u32, random: &[u8], text: &[u8]) -> [u8; MAC_LEN]
     ensures { result ≡ mac_of key.now csb random.now text.now }
 {
     let mut mac = begun_mac(key, csb, random);
@@ -67,7 +64,7 @@ pub(crate) fn response_mac(
     initiator: &[u8],
     responder: &[u8],
     stamp: &[u8; 8],
-) -> [u8; 20]
+) -> [u8; MAC_LEN]
     ensures { result ≡ mac_of key.now csb random.now (response_covers text.now initiator.now responder.now stamp.now) }
 {
     let mut mac = begun_mac(key, csb, random);
@@ -79,10 +76,10 @@ pub(crate) fn response_mac(
 }
 
 /// Whether a tag is this MAC. Each octet of it is looked at.
-pub(crate) fn is_mac(mac: &[u8; 20], tag: &[u8]) -> bool
+pub(crate) fn is_mac(mac: &[u8; MAC_LEN], tag: &[u8]) -> bool
     ensures { result ≡ same_octets tag.now mac.now }
 {
-    tag.len() == MAC && tag_fits(mac, tag)
+    tag.len() == MAC_LEN && tag_fits(mac, tag)
 }
 
 // Octets put onto others by XOR.

@@ -8,7 +8,7 @@ ghost use Rattle.sg_psk.specs.KeyData.{all_differ, differs, is_key_length, is_ne
 ghost use Rattle.sg_psk.specs.StandsFor.{Gives, or_fault};
 
 use crate::PskError;
-use sg_base::{Mki, Octets, PskFault};
+use sg_base::{Mki, Octets, PskFault, mkis_differ};
 use sg_mikey::{Items, Tgk, Tgks};
 use std::alloc::Global;
 
@@ -162,12 +162,7 @@ fn key_part_at(octets: &[u8]) -> Option<KeyPart<'_>>
 fn differs(key: &Tgk, other: &Tgk) -> bool
     ensures { result ≡ differs key.now other.now }
 {
-    match (&key.spi, &other.spi) {
-        (Some(spi), Some(another)) => {
-            spi.len() == another.len() && spi.value() != another.value()
-        }
-        _ => false,
-    }
+    mkis_differ(&key.spi, &other.spi)
 }
 
 fn differs_from_all(key: &Tgk, others: &[Tgk]) -> bool

@@ -7,12 +7,9 @@ ghost use Rattle.sg_base.specs.declared.faults.Fault.TheVariants as faults;
 ghost use Rattle.sg_base.specs.declared.faults.Refusal.TheVariants as refusals;
 ghost use Rattle.sg_psk.specs.Pairs.{IsAt, has_pair, is_of, is_with, pair_of, pair_with};
 
-use sg_base::{Fault, Identity, NoMemory, Octets, Refusal};
+use sg_base::{Fault, Identity, NoMemory, Octets, PAIRS_MOST, Refusal};
 use std::alloc::Global;
 use std::marker::Model;
-
-/// How many pairs a book holds at most.
-pub const PAIRS_MOST: usize = 64;
 
 /// A key between the gateway's own name and a peer's. It has no `Debug`, so that no text shows the key.
 #[derive(Drop)]

@@ -6,12 +6,9 @@ ghost use Rattle.sg_psk.specs.Pairs.{is_noted, is_same, note, with_note};
 
 use crate::Initial;
 use crate::pairs::{copy_of, is_same};
-use sg_base::{Identity, NoMemory};
+use sg_base::{Identity, NOTED_MOST, NoMemory};
 use std::alloc::Global;
 use std::marker::Model;
-
-/// How many messages a book holds at most.
-pub const NOTED_MOST: usize = 1024;
 
 /// What is kept of a message: its initiator's name, its bundle's number and its stamp.
 #[derive(Drop)]

@@ -11,12 +11,13 @@ ghost use Rattle.sg_psk.specs.StandsFor.{AreSent, Gives, accepted_as, sent_as};
 ghost use Rattle.sg_psk.specs.declared.pairs.Pair.{Pair};
 
 use crate::accepting::entries_of;
-use crate::envelope::{MAC, before_mac, encipher, is_mac, mac_of, response_mac};
+use crate::envelope::{before_mac, encipher, is_mac, mac_of, response_mac};
 use crate::own_policy::default_policy;
 use crate::parts::closing_in;
 use crate::stamps::stamp_of;
 use crate::{Initial, Pair, PskBook, PskError};
 use sg_base::{Identity, NoMemory, Octets, PskFault, read_u32};
+use sg_hmac::MAC_LEN;
 use sg_mikey::{CsEntry, Items, Message, Payload, Tgk, Tgks, print};
 use std::alloc::Global;
 
@@ -131,11 +132,11 @@ fn key_text(alloc: Global, key: &[u8]) -> Result<Vec<u8>, NoMemory>
 }
 
 // A message's octets with this MAC in the place of the last twenty.
-fn with_mac(octets: Vec<u8>, mac: &[u8; 20]) -> Result<Octets, NoMemory>
+fn with_mac(octets: Vec<u8>, mac: &[u8; MAC_LEN]) -> Result<Octets, NoMemory>
     ensures { IfOk result (λ o. o ≡ before_mac octets.items ++ mac.now) }
 {
     let mut octets = octets;
-    octets.truncate(octets.len().saturating_sub(MAC));
+    octets.truncate(octets.len().saturating_sub(MAC_LEN));
     octets.extend_from_slice(mac)?;
     Ok(Octets::from_vec(octets))
 }
@@ -165,7 +166,7 @@ fn initial_payloads(
         cipher: 1,
         octets: Octets::copy_of(alloc, text)?,
         mac: 1,
-        tag: Octets::copy_of(alloc, &[0; 20])?,
+        tag: Octets::copy_of(alloc, &[0; MAC_LEN])?,
     })?;
     Ok(Items::from_vec(payloads))
 }
@@ -324,7 +325,7 @@ fn response_payloads(
     payloads.push(named(alloc, own)?)?;
     payloads.push(Payload::Verify {
         mac: 1,
-        tag: Octets::copy_of(alloc, &[0; 20])?,
+        tag: Octets::copy_of(alloc, &[0; MAC_LEN])?,
     })?;
     Ok(Items::from_vec(payloads))
 }

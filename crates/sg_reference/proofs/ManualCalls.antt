@@ -10,9 +10,10 @@ use Rattle.sg_session.specs.Ring.{Installed, install}
 use Rattle.sg_session.specs.Session.{Session}
 use Rattle.sg_gateway.proofs.CallList.{from_push}
 use Rattle.sg_gateway.proofs.ManualCalls.{IsAnswered, known, call_in, refused_answered, made_answered}
-use Rattle.sg_gateway.specs.Generations.{keys_from, sessions_from}
+use Rattle.sg_agreement.specs.Generations.{keys_from, sessions_from}
 use Rattle.sg_gateway.specs.ManualCalls.{AreFrom, answer_in, ring_after}
-use Rattle.sg_gateway.specs.Signals.{ManualCall, manual_medium, manual_answer}
+use Rattle.sg_agreement.specs.Manual.{ManualCall, manual_medium}
+use Rattle.sg_gateway.specs.Signals.{manual_answer}
 use Rattle.sg_gateway.specs.World.{Call, World}
 use Rattle.sg_reference.specs.Passed.{HasNextPorts}
 
@@ -26,20 +27,20 @@ module _ (w u : World) (same : w ≡ u) (h : ManualCall) where
     keys_so : keys ≡ keys_from (length w.calls) 0 0 (Some (manual_medium h) ∷ [])
     keys_so = keys_are ∙ ap (λ n. keys_from n 0 0 (Some (manual_medium h) ∷ [])) n_is
 
-    pub refused_at : (cause : Refusal) → answer ≡ Err cause → IsAnswered (Refused (Some h.id) cause ∷ []) (record w { books = record { ring = ring } }) (manual_answer u h)
+    pub refused_at : (cause : Refusal) → answer ≡ Err cause → IsAnswered (Refused (Some h.id) cause ∷ []) (record w { books = record w.books { ring = ring } }) (manual_answer u h)
     refused_at cause err = answered_as _ _
-        (subst (λ r. IsAnswered (Refused (Some h.id) cause ∷ []) (record w { books = record { ring = r } }) (manual_answer w h)) (sym (ring_is ∙ ap (λ ks. ring_after w.books.ring (install w.books.ring ks)) keys_so))
+        (subst (λ r. IsAnswered (Refused (Some h.id) cause ∷ []) (record w { books = record w.books { ring = r } }) (manual_answer w h)) (sym (ring_is ∙ ap (λ ks. ring_after w.books.ring (install w.books.ring ks)) keys_so))
         (refused_answered w h are made is few cause (sym err ∙ answer_is ∙ ap (λ ks. answer_in (install w.books.ring ks)) keys_so)))
 
     pub made_at : answer ≡ Ok tt → (e : Call) → e ≡ call_in w h n
-        → IsAnswered (Made h.id n 1 ∷ (Live h.id ∷ [])) (record { calls = w.calls ++ e ∷ []; made = length (w.calls ++ e ∷ []); books = record { ring = ring }; moment = w.moment }) (manual_answer u h)
+        → IsAnswered (Made h.id n 1 ∷ (Live h.id ∷ [])) (record { calls = w.calls ++ e ∷ []; made = length (w.calls ++ e ∷ []); books = record w.books { ring = ring }; moment = w.moment }) (manual_answer u h)
     made_at ok e e_is = answered_as _ _
-        (subst (λ r. IsAnswered (Made h.id n 1 ∷ (Live h.id ∷ [])) (record { calls = w.calls ++ e ∷ []; made = length (w.calls ++ e ∷ []); books = record { ring = r }; moment = w.moment }) (manual_answer w h))
+        (subst (λ r. IsAnswered (Made h.id n 1 ∷ (Live h.id ∷ [])) (record { calls = w.calls ++ e ∷ []; made = length (w.calls ++ e ∷ []); books = record w.books { ring = r }; moment = w.moment }) (manual_answer w h))
         (sym (ring_is ∙ ap (λ ks. ring_after w.books.ring (install w.books.ring ks)) keys_so))
-        (subst (λ k. IsAnswered (Made h.id n 1 ∷ (Live h.id ∷ [])) (record { calls = w.calls ++ k ∷ []; made = length (w.calls ++ k ∷ []); books = record { ring = ring_after w.books.ring (install w.books.ring (keys_from (length w.calls) 0 0 (Some (manual_medium h) ∷ []))) }; moment = w.moment }) (manual_answer w h)) (sym e_is)
-        (subst (λ m. IsAnswered (Made h.id n 1 ∷ (Live h.id ∷ [])) (record { calls = w.calls ++ call_in w h n ∷ []; made = m; books = record { ring = ring_after w.books.ring (install w.books.ring (keys_from (length w.calls) 0 0 (Some (manual_medium h) ∷ []))) }; moment = w.moment }) (manual_answer w h))
+        (subst (λ k. IsAnswered (Made h.id n 1 ∷ (Live h.id ∷ [])) (record { calls = w.calls ++ k ∷ []; made = length (w.calls ++ k ∷ []); books = record w.books { ring = ring_after w.books.ring (install w.books.ring (keys_from (length w.calls) 0 0 (Some (manual_medium h) ∷ []))) }; moment = w.moment }) (manual_answer w h)) (sym e_is)
+        (subst (λ m. IsAnswered (Made h.id n 1 ∷ (Live h.id ∷ [])) (record { calls = w.calls ++ call_in w h n ∷ []; made = m; books = record w.books { ring = ring_after w.books.ring (install w.books.ring (keys_from (length w.calls) 0 0 (Some (manual_medium h) ∷ []))) }; moment = w.moment }) (manual_answer w h))
         (sym (length-append w.calls (call_in w h n ∷ [])))
-        (subst (λ n. IsAnswered (Made h.id n 1 ∷ (Live h.id ∷ [])) (record { calls = w.calls ++ call_in w h n ∷ []; made = length w.calls + 1; books = record { ring = ring_after w.books.ring (install w.books.ring (keys_from (length w.calls) 0 0 (Some (manual_medium h) ∷ []))) }; moment = w.moment }) (manual_answer w h)) (sym n_is)
+        (subst (λ n. IsAnswered (Made h.id n 1 ∷ (Live h.id ∷ [])) (record { calls = w.calls ++ call_in w h n ∷ []; made = length w.calls + 1; books = record w.books { ring = ring_after w.books.ring (install w.books.ring (keys_from (length w.calls) 0 0 (Some (manual_medium h) ∷ []))) }; moment = w.moment }) (manual_answer w h)) (sym n_is)
         (made_answered w h are made is few (sym ok ∙ answer_is ∙ ap (λ ks. answer_in (install w.books.ring ks)) keys_so))))))
 
 pub pushed : (cs : List Call) (e : Call) (n : ℕ) → AreFrom 0 cs → length cs < 256 → n ≡ length cs → e.slot ≡ n → e.serial ≡ n → (length (cs ++ e ∷ []) ≤ 256) × AreFrom 0 (cs ++ e ∷ [])

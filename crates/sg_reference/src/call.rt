@@ -1,6 +1,6 @@
 //! One call of the reference table.
 
-ghost use Rattle.std.specs.Prelude.{◌≡◌, ◌<◌, ◌≤◌, ◌==◌, [], ◌∷◌, Some, IfOk, OnOk, OnErr, position};
+ghost use Rattle.std.specs.Prelude.{◌≡◌, ◌<◌, ◌≤◌, ◌==◌, true, [], ◌∷◌, Some, None, IfOk, OnOk, OnErr, position};
 ghost use Rattle.std.specs.List.{AllByRecursion};
 ghost use Rattle.sg_session.specs.OneSession.{after};
 ghost use Rattle.sg_gateway.specs.Batch as batch;
@@ -8,8 +8,8 @@ ghost use Rattle.sg_gateway.specs.Datagrams.{arrived_in};
 ghost use Rattle.sg_gateway.specs.Passing.{HaveOwnPorts, taken_from, sent_by};
 ghost use Rattle.sg_reference.specs.Passed.{HasNextPorts, IsPassed};
 ghost use Rattle.sg_gateway.specs.Ports.{port_of, leg_of, other_direction, port_at, address_out, has_port};
-ghost use Rattle.sg_gateway.specs.Generations.{sessions_from};
-ghost use Rattle.sg_gateway.specs.Signals.{manual_medium};
+ghost use Rattle.sg_agreement.specs.Generations.{sessions_from};
+ghost use Rattle.sg_agreement.specs.Manual.{manual_medium};
 
 use crate::{ManualLine, ReferenceSession};
 use sg_base::{Address, CallId, DropCause, NoMemory, Octets, PLAIN_MOST, PROTECTED_MOST};
@@ -19,7 +19,7 @@ use sg_session::Direction;
 use std::alloc::Global;
 use std::marker::Model;
 
-/// A call, seen as the definition's record. Each of its sessions has a port of its own.
+/// A call that is keyed manually, seen as the definition's record. Each of its sessions has a port of its own.
 #[derive(Drop)]
 pub struct ReferenceCall {
     serial: u64,
@@ -28,10 +28,12 @@ pub struct ReferenceCall {
     media: u8,
     generations: u32,
     sessions: Vec<ReferenceSession>,
+    replaced: u64,
     moment: u64,
 }
 
 impl Model for ReferenceCall {
+    ghost use Rattle.std.specs.Prelude.{true, None};
     ghost use Rattle.std.specs.List.{AllByRecursion};
     ghost use Rattle.sg_gateway.specs.Passing.{HaveOwnPorts};
     ghost use Rattle.sg_reference.specs.Passed.{HasNextPorts};
@@ -44,8 +46,11 @@ impl Model for ReferenceCall {
       id = c.id;
       slot = c.slot;
       media = c.media;
+      manual = true;
+      offer = None;
       generations = c.generations;
       sessions = c.sessions.items;
+      replaced = c.replaced;
       moment = c.moment;
     } };
 
@@ -83,8 +88,11 @@ impl ReferenceCall {
           id = line.now.id;
           slot = slot;
           media = 1;
+          manual = true;
+          offer = None;
           generations = 1;
           sessions = sessions_from slot 0 0 number (Some (manual_medium line.now) ∷ []);
+          replaced = moment;
           moment = moment;
         }) }
     {
@@ -97,6 +105,7 @@ impl ReferenceCall {
             media: 1,
             generations: 1,
             sessions,
+            replaced: moment,
             moment,
         })
     }

@@ -2,9 +2,9 @@
 
 ghost use Rattle.std.specs.Prelude.{◌≡◌, ◌≤◌, ◌++◌, true, false, [], ◌∷◌, Some, IfOk, OnOk};
 ghost use Rattle.sg_kdf.specs.SessionKeys.{is_raw};
-ghost use Rattle.sg_gateway.specs.Generations.{keys_from, owner_at, sessions_from};
+ghost use Rattle.sg_agreement.specs.Generations.{keys_from, owner_at, sessions_from};
 ghost use Rattle.sg_gateway.specs.ManualCalls.{manual_session, manual_sessions};
-ghost use Rattle.sg_gateway.specs.Signals.{manual_medium};
+ghost use Rattle.sg_agreement.specs.Manual.{manual_medium};
 
 use crate::{InstalledKey, ReferenceKey, ReferenceSession};
 use sg_base::{
@@ -28,7 +28,7 @@ pub struct ManualLine {
 }
 
 impl Model for ManualLine {
-    ghost use Rattle.sg_gateway.specs.Signals.{ManualCall};
+    ghost use Rattle.sg_agreement.specs.Manual.{ManualCall};
 
     ghost Value = { ManualCall };
 

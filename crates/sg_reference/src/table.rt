@@ -1,7 +1,7 @@
 //! The reference table: a world by its definitions, which keeps the lists of all that is done.
 
 ghost use Rattle.std.specs.Prelude.{◌≡◌, [], ◌∷◌, position, Some, IfOk, OnOk, OnErr};
-ghost use Rattle.sg_gateway.specs.Events.{events_of, events_of_signal, outcomes_from};
+ghost use Rattle.sg_gateway.specs.Events.{IsOfManualCalls, events_of, events_of_signal, outcomes_from};
 ghost use Rattle.std.specs.List.{list_any};
 ghost use Rattle.sg_gateway.specs.Octets.{as_octets};
 ghost use Rattle.sg_gateway.specs.Ports.{has_port};
@@ -18,8 +18,8 @@ use sg_outcome::Outcome;
 use std::alloc::Global;
 use std::marker::Model;
 
-/// A world, seen as the definition's record. Calls are only made, so that the i-th one has slot i and is the
-/// i-th that was made.
+/// A world, seen as the definition's record. Calls are only made, and keyed manually, so that the i-th one has
+/// slot i and is the i-th that was made, and there are no pre-shared keys.
 #[derive(Drop)]
 pub struct ReferenceTable {
     calls: Vec<ReferenceCall>,
@@ -28,7 +28,7 @@ pub struct ReferenceTable {
 }
 
 impl Model for ReferenceTable {
-    ghost use Rattle.std.specs.Prelude.{◌≤◌, length};
+    ghost use Rattle.std.specs.Prelude.{◌≤◌, [], length};
     ghost use Rattle.sg_gateway.specs.ManualCalls.{AreFrom};
     ghost use Rattle.sg_gateway.specs.World.{World};
 
@@ -37,7 +37,7 @@ impl Model for ReferenceTable {
     ghost view = { λ t. record {
       calls = t.calls.items;
       made = length t.calls.items;
-      books = record { ring = t.ring };
+      books = record { ring = t.ring; pairs = []; noted = [] };
       moment = t.moment;
     } };
 
@@ -56,8 +56,10 @@ impl ReferenceTable {
         }
     }
 
-    /// Handles the events of a line and tells their outcomes. Out of memory it stays as it was.
+    /// Handles the events of a line and tells their outcomes. Out of memory it stays as it was. Served are
+    /// calls that are keyed manually, and datagrams.
     pub fn handle(&mut self, alloc: Global, line: Line) -> Result<Vec<Outcome>, NoMemory>
+        requires served { IsOfManualCalls line }
         ensures told { IfOk result (λ told. told.items ≡ outcomes_from self.old (events_of line)) }
         ensures after { OnOk result (self.new ≡ world_after self.old (events_of line)) }
         ensures err { OnErr result (self.new ≡ self.old) }
@@ -99,8 +101,9 @@ impl ReferenceTable {
         }
     }
 
-    /// A signal is told.
+    /// A signal is told, which keys a call manually.
     fn obey(&mut self, alloc: Global, signal: Signal) -> Result<Vec<Outcome>, NoMemory>
+        requires served { IsOfManualCalls (Line.Signal signal) }
         ensures told { IfOk result (λ told. told.items ≡ outcomes_from self.old (events_of_signal signal)) }
         ensures after { OnOk result (self.new ≡ world_after self.old (events_of_signal signal)) }
         ensures err { OnErr result (self.new ≡ self.old) }
@@ -118,7 +121,7 @@ impl ReferenceTable {
                 alloc,
                 ManualLine::new(call, secure, plain, roc, window, from_peer, to_peer),
             ),
-            _other => Ok(Vec::new(alloc)),
+            _other => unreachable!(),
         }
     }
 

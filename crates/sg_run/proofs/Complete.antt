@@ -37,8 +37,8 @@ complete (Script n f) left left' written written' octets out run a b c = λ all 
     let same : all ≡ octets ++ rest = (let both : Some all ≡ Some (octets ++ rest) = sym told ∙ told_so in cc) in
     let ends = run.ends in
     absurd (elim (either f) [
-      | inl end ↦ (let here : (replayed all).fault ≡ Some (n, f) =
-          ap (λ (l : List ℕ). (replayed l).fault) (same ∙ ap (λ (l : List ℕ). octets ++ l) (none_left left' rest (ends.2 end) told') ∙ append-nil octets) ∙ ends.0 in
+      | inl end ↦ (let here : (replayed all []).fault ≡ Some (n, f) =
+          ap (λ (l : List ℕ). (replayed l []).fault) (same ∙ ap (λ (l : List ℕ). octets ++ l) (none_left left' rest (ends.2 end) told') ∙ append-nil octets) ∙ ends.0 in
           some_none (n, f) (sym here ∙ none))
-      | inr other ↦ some_none (n, f) (sym (ap (λ (l : List ℕ). (replayed l).fault) same ∙ ends.3 other rest) ∙ none)
+      | inr other ↦ some_none (n, f) (sym (ap (λ (l : List ℕ). (replayed l []).fault) same ∙ ends.3 other rest) ∙ none)
     ])

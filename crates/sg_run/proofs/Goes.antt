@@ -9,7 +9,7 @@ use Rattle.sg_base.specs.declared.faults.ScriptFault.TheVariants.{Unended}
 use Rattle.sg_edge.specs.Told.{TookIn, Wrote}
 use Rattle.sg_edge.proofs.Passed.{took_more, wrote_more}
 use Rattle.sg_gateway.specs.Runs.{Turn, turns_from, turns, outcomes, world_after}
-use Rattle.sg_gateway.specs.Events.{outcomes_from}
+use Rattle.sg_gateway.specs.Events.{events_of, outcomes_from}
 use Rattle.sg_gateway.specs.Step.{step}
 use Rattle.sg_gateway.specs.World.{World, empty}
 use Rattle.sg_run.specs.Fed.{IsLine}
@@ -23,10 +23,9 @@ use Rattle.std.proofs.lemmas.Bool.{cond-false}
 use Rattle.sg_lines.specs.declared.lines.Line.{Line}
 use Rattle.sg_lines.specs.declared.ReadLineFault.{ReadLineFault}
 use Rattle.sg_lines.specs.declared.ReadLineFault.TheVariants as faults
-use Rattle.sg_run.specs.Played.{Says}
 use Rattle.sg_lines.specs.Fields.{Gives}
 use Rattle.sg_lines.specs.ServedLine.{served_line_of}
-use Rattle.sg_gateway.proofs.Sayings.{FirstFails, first_fails, still_fails, said_is, too_far, events_at}
+use Rattle.sg_gateway.proofs.Sayings.{FirstFails, first_fails, still_fails, said_is, said_replays, too_far}
 use Rattle.sg_lines.proofs.Splits.{lines_of_whole}
 
 turns_from-append : (w : World) (es fs : List Event) → turns_from w (es ++ fs) ≡ turns_from w es ++ turns_from (world_after w es) fs
@@ -58,7 +57,7 @@ with_front_again es fs r = ap (λ (l : List Event). record { events = l; fault =
 pub record IsGoing (left0 left written0 written : Option (List ℕ)) (taken waits : List ℕ) (es : List Event) (n at : ℕ) : Type 0 where
   pub took : TookIn left0 left (taken ++ waits)
   pub wrote : Wrote written0 written (output es)
-  pub goes : (rest : List ℕ) → replayed (taken ++ rest) ≡ with_front es (replayed_from n at (lines_of rest))
+  pub goes : (rest : List ℕ) → replayed (taken ++ rest) [] ≡ with_front es (replayed_from n at (lines_of rest) [])
 
 module _ (left0 left left' written0 written : Option (List ℕ)) (taken waits : List ℕ) (es : List Event) (n at : ℕ) (going : IsGoing left0 left written0 written taken waits es n at)
     (got : List ℕ) (came : TookIn left left' got) where
@@ -74,46 +73,50 @@ module _ (left0 left left' written0 written : Option (List ℕ)) (taken waits : 
   bounded budget budget' size room paid = omega (arith, size, room, paid, length-append taken (waits ++ got), length-append waits got)
 
   -- whatever comes, what is written is a front of the output
-  pub is_front : IsPrefixOf (output es) (output (replayed octets).events)
+  pub is_front : IsPrefixOf (output es) (output (replayed octets []).events)
   is_front =
-      let r : Replayed = replayed_from n at (lines_of (waits ++ got)) in
+      let r : Replayed = replayed_from n at (lines_of (waits ++ got)) [] in
       (output_from (world_after empty es) r.events, ap (λ (r : Replayed). output r.events) (going.goes (waits ++ got)) ∙ output-append es r.events)
 
   -- at the end of the source
-  pub at_end : waits ++ got ≡ [] → ((replayed octets).fault ≡ None) × (output es ≡ output (replayed octets).events)
+  pub at_end : waits ++ got ≡ [] → ((replayed octets []).fault ≡ None) × (output es ≡ output (replayed octets []).events)
   at_end none =
-      let whole : replayed octets ≡ record { events = es; fault = None } =
-      ap (λ (l : List ℕ). replayed (taken ++ l)) none ∙ going.goes [] ∙ ap (λ (l : List Event). record { events = l; fault = None }) (append-nil es) in
+      let whole : replayed octets [] ≡ record { events = es; fault = None } =
+      ap (λ (l : List ℕ). replayed (taken ++ l) []) none ∙ going.goes [] ∙ ap (λ (l : List Event). record { events = l; fault = None }) (append-nil es) in
       (ap (λ (r : Replayed). r.fault) whole, ap (λ (r : Replayed). output r.events) (sym whole))
 
   module _ (line rest : List ℕ) (split : waits ++ got ≡ line ++ rest) where
     -- at a line with a fault
-    pub at_fault : (budget : ℕ) (fault : ScriptFault) → IsLine line rest left' budget → says n at line ≡ Err fault → ((replayed octets).fault ≡ Some (n, fault)) × (output es ≡ output (replayed octets).events)
+    pub at_fault : (budget : ℕ) (fault : ScriptFault) → IsLine line rest left' budget → says n at line ≡ Err fault → ((replayed octets []).fault ≡ Some (n, fault)) × (output es ≡ output (replayed octets []).events)
     at_fault budget fault is fails =
         let first : FirstFails n at (line ++ rest) fault = first_fails n at line rest _ fault is fails in
-        let whole : replayed octets ≡ record { events = es; fault = Some (n, fault) } =
-        ap (λ (l : List ℕ). replayed (taken ++ l)) split ∙ going.goes (line ++ rest) ∙ ap (λ ls. with_front es (replayed_from n at ls)) first.split
-        ∙ ap (λ s. with_front es (after_line n s (replayed_from (n + 1) (at + length first.line) first.others))) first.fails
+        let whole : replayed octets [] ≡ record { events = es; fault = Some (n, fault) } =
+        ap (λ (l : List ℕ). replayed (taken ++ l) []) split ∙ going.goes (line ++ rest) ∙ ap (λ ls. with_front es (replayed_from n at ls [])) first.split
+        ∙ ap (λ s. with_front es (after_line n [] s (λ (draws : List ℕ). replayed_from (n + 1) (at + length first.line) first.others draws))) first.fails
         ∙ ap (λ (l : List Event). record { events = l; fault = Some (n, fault) }) (append-nil es) in
         (ap (λ (r : Replayed). r.fault) whole, ap (λ (r : Replayed). output r.events) (sym whole))
 
     -- and whatever comes after it
     pub at_fault_still : (budget : ℕ) (fault : ScriptFault) → IsLine line rest left' budget → says n at line ≡ Err fault → ¬ (fault ≡ Unended) → (more : List ℕ)
-        → (replayed (octets ++ more)).fault ≡ Some (n, fault)
+        → (replayed (octets ++ more) []).fault ≡ Some (n, fault)
     at_fault_still budget fault is fails not_end more =
         let first : FirstFails n at (line ++ (rest ++ more)) fault = still_fails n at line rest _ fault is fails not_end (rest ++ more) in
         let parts : octets ++ more ≡ taken ++ (line ++ (rest ++ more)) =
         append_assoc taken (waits ++ got) more ∙ ap (λ (l : List ℕ). taken ++ l) (ap (λ (l : List ℕ). l ++ more) split ∙ append_assoc line rest more) in
-        ap (λ (l : List ℕ). (replayed l).fault) parts ∙ ap (λ (r : Replayed). r.fault) (going.goes (line ++ (rest ++ more)))
-        ∙ ap (λ ls. (replayed_from n at ls).fault) first.split
-        ∙ ap (λ s. (after_line n s (replayed_from (n + 1) (at + length first.line) first.others)).fault) first.fails
+        ap (λ (l : List ℕ). (replayed l []).fault) parts ∙ ap (λ (r : Replayed). r.fault) (going.goes (line ++ (rest ++ more)))
+        ∙ ap (λ ls. (replayed_from n at ls []).fault) first.split
+        ∙ ap (λ s. (after_line n [] s (λ (draws : List ℕ). replayed_from (n + 1) (at + length first.line) first.others draws)).fault) first.fails
 
-    module _ (e : List Event) (whole : IsWhole line) (said : says n at line ≡ Ok e) where
-      goes_on : (more : List ℕ) → replayed ((taken ++ line) ++ more) ≡ with_front (es ++ e) (replayed_from (n + 1) (at + length line) (lines_of more))
+    module _ (l : Line) (whole : IsWhole line) (said : says n at line ≡ Ok l) where
+      -- the events of the line
+      abbrev pub e : List Event
+      e = events_of l
+
+      goes_on : (more : List ℕ) → replayed ((taken ++ line) ++ more) [] ≡ with_front (es ++ e) (replayed_from (n + 1) (at + length line) (lines_of more) [])
       goes_on more =
-          ap replayed (append_assoc taken line more) ∙ going.goes (line ++ more)
-          ∙ ap (λ ls. with_front es (replayed_from n at ls)) (lines_of_whole line more whole)
-          ∙ ap (λ s. with_front es (after_line n s (replayed_from (n + 1) (at + length line) (lines_of more)))) said
+          ap (λ (l : List ℕ). replayed l []) (append_assoc taken line more) ∙ going.goes (line ++ more)
+          ∙ ap (λ ls. with_front es (replayed_from n at ls [])) (lines_of_whole line more whole)
+          ∙ ap (with_front es) (said_replays n at line l (lines_of more) [] said)
           ∙ with_front_again es e _
 
       -- after the line was handled
@@ -126,21 +129,21 @@ module _ (left0 left left' written0 written : Option (List ℕ)) (taken waits : 
       }
 
       -- a front of the event's text was written
-      pub in_part : (front others : List ℕ) → output_from (world_after empty es) e ≡ front ++ others → IsPrefixOf (output es ++ front) (output (replayed octets).events)
+      pub in_part : (front others : List ℕ) → output_from (world_after empty es) e ≡ front ++ others → IsPrefixOf (output es ++ front) (output (replayed octets []).events)
       in_part front others cut =
-          let r : Replayed = replayed_from (n + 1) (at + length line) (lines_of rest) in
+          let r : Replayed = replayed_from (n + 1) (at + length line) (lines_of rest) [] in
           let tail = output_from (world_after empty (es ++ e)) r.events in (
             others ++ tail,
-            ap (λ (l : List ℕ). output (replayed (taken ++ l)).events) split
-                ∙ ap (λ (l : List ℕ). output (replayed l).events) (sym (append_assoc taken line rest))
+            ap (λ (l : List ℕ). output (replayed (taken ++ l) []).events) split
+                ∙ ap (λ (l : List ℕ). output (replayed l []).events) (sym (append_assoc taken line rest))
                 ∙ ap (λ (r : Replayed). output r.events) (goes_on rest)
                 ∙ output-append (es ++ e) r.events
                 ∙ ap (λ (l : List ℕ). l ++ tail) (output-append es e ∙ ap (λ (l : List ℕ). output es ++ l) cut ∙ sym (append_assoc (output es) front others))
                 ∙ append_assoc (output es ++ front) others tail,
           )
 
--- what a reader of a line gives, as its events
-pub gives_events : (n at : ℕ) (line : List ℕ) (r : Result Line ReadLineFault) → too_far at line ≡ false → Gives r (served_line_of n line) → Says r (says n at line)
-gives_events n at line (Ok l) near is = said_is n at line ∙ cond-false _ _ _ near ∙ ap events_at is
-gives_events n at line (Err faults.NoMemory) near is = tt
-gives_events n at line (Err (faults.Script f)) near is = said_is n at line ∙ cond-false _ _ _ near ∙ ap events_at is
+-- what a reader of a line gives is what the line says
+pub gives_said : (n at : ℕ) (line : List ℕ) (r : Result Line ReadLineFault) → too_far at line ≡ false → Gives r (served_line_of n line) → Gives r (says n at line)
+gives_said n at line (Ok l) near is = said_is n at line ∙ cond-false _ _ _ near ∙ is
+gives_said n at line (Err faults.NoMemory) near is = tt
+gives_said n at line (Err (faults.Script f)) near is = said_is n at line ∙ cond-false _ _ _ near ∙ is

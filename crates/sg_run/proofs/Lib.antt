@@ -3,4 +3,5 @@ pub mod Feeds
 pub mod Goes
 pub mod LineParts
 pub mod OtherErrors
+pub mod Served
 pub mod Telling

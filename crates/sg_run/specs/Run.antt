@@ -9,10 +9,13 @@ use Rattle.sg_session.specs.Reach.{Sealed, AreSealed}
 use Rattle.sg_gateway.specs.Arriving.{EachArrivingIsPutOut}
 use Rattle.sg_gateway.specs.Coming.{EachOpeningCame, EachSealCame}
 use Rattle.sg_gateway.specs.Departing.{EachDepartingIsSealed}
+use Rattle.sg_gateway.specs.Earlier.{EarlierServeNoLonger}
+use Rattle.sg_gateway.specs.Ended.{EachEndFrees, EndedStayAway}
 use Rattle.sg_gateway.specs.Lives.{EachKeyIsWithinLife}
 use Rattle.sg_gateway.specs.Order.{EachWorldIsOrderly}
 use Rattle.sg_gateway.specs.Owned.{EachKeyIsOwned}
 use Rattle.sg_gateway.specs.PeersPackets.{EachOpeningIsSealed, EachOpeningGoesOut, EachHighestIsSealed, OnlyOpeningsGoOut}
+use Rattle.sg_gateway.specs.Refusing.{EachRefusalChangesNothing, EachRefusedOfferStaysOpen}
 use Rattle.sg_gateway.specs.Replayed.{replayed}
 use Rattle.sg_gateway.specs.Runs.{outcomes, turns_from}
 use Rattle.sg_gateway.specs.SealedOut.{EachSealGoesOut, OnlySealsGoOut, SignalsPutNothingOut}
@@ -39,19 +42,20 @@ output_from w events = text (flat_map (λ t. t.outcomes) (turns_from w events))
 abbrev pub IsPrefixOf : List ℕ → List ℕ → Type 0
 IsPrefixOf front all = (rest : List ℕ) × (all ≡ front ++ rest)
 
--- The status, by the octets read, the octets written and what the source has left. With Done all is
--- handled and the source is at its end. With Script the lines before the named one are handled, and the
--- named line is the first that isn't served, with its first fault, whatever would come behind what was
--- read; Unended comes only at the source's end. With every other status a prefix was written.
+-- The status, by the octets read, the octets written and what the source has left. No octet is drawn: the
+-- lines that are served need none. With Done all is handled and the source is at its end. With Script the
+-- lines before the named one are handled, and the named line is the first that isn't served, with its first
+-- fault, whatever would come behind what was read; Unended comes only at the source's end. With every other
+-- status a prefix was written.
 abbrev pub Ends : Status → List ℕ → List ℕ → Option (List ℕ) → Type 0
-Ends Done octets out left = ((replayed octets).fault ≡ None) × (out ≡ output (replayed octets).events) × AtEnd left
+Ends Done octets out left = ((replayed octets []).fault ≡ None) × (out ≡ output (replayed octets []).events) × AtEnd left
 Ends (Script n fault) octets out left =
-    ((replayed octets).fault ≡ Some (n, fault)) × (out ≡ output (replayed octets).events) × (fault ≡ Unended → AtEnd left)
-    × (¬ (fault ≡ Unended) → (more : List ℕ) → (replayed (octets ++ more)).fault ≡ Some (n, fault))
+    ((replayed octets []).fault ≡ Some (n, fault)) × (out ≡ output (replayed octets []).events) × (fault ≡ Unended → AtEnd left)
+    × (¬ (fault ≡ Unended) → (more : List ℕ) → (replayed (octets ++ more) []).fault ≡ Some (n, fault))
 Ends Usage octets out left = (octets ≡ []) × (out ≡ [])
-Ends Read octets out left = IsPrefixOf out (output (replayed octets).events)
-Ends Write octets out left = IsPrefixOf out (output (replayed octets).events)
-Ends NoMemory octets out left = IsPrefixOf out (output (replayed octets).events)
+Ends Read octets out left = IsPrefixOf out (output (replayed octets []).events)
+Ends Write octets out left = IsPrefixOf out (output (replayed octets []).events)
+Ends NoMemory octets out left = IsPrefixOf out (output (replayed octets []).events)
 
 -- The run read these octets, of which there are at most 2^30 + 1, and wrote those.
 pub record IsRun (status : Status) (left left' written written' : Option (List ℕ)) (octets out : List ℕ) : Type 0 where
@@ -62,8 +66,9 @@ pub record IsRun (status : Status) (left left' written written' : Option (List �
 
 -- The headline, over the events of the octets read, for every list of sealed packets: nothing forged goes
 -- out on a plain leg, and nothing unsealed on a secure one; nothing twice; nothing within reach lost; no
--- counter block sealed twice. And what these rest on: whose each key is, how many packets it may serve,
--- and the order of calls and names.
+-- counter block sealed twice. What these rest on: whose each key is, how many packets it may serve, and the
+-- order of calls and names. And what becomes of signals that are refused, of calls that end, and of the
+-- generations before a call's current one.
 pub record Headline (events : List Event) : Type 0 where
   pub each_sealed : (sealed : List Sealed) → AreSealed sealed → Unforged sealed events → EachOpeningIsSealed sealed events
   pub highest : (sealed : List Sealed) → AreSealed sealed → Unforged sealed events → EachHighestIsSealed sealed events
@@ -83,8 +88,13 @@ pub record Headline (events : List Event) : Type 0 where
   pub owned : EachKeyIsOwned events
   pub lives : EachKeyIsWithinLife events
   pub orderly : EachWorldIsOrderly events
+  pub refusals : EachRefusalChangesNothing events
+  pub refused_offers : EachRefusedOfferStaysOpen events
+  pub ends : EachEndFrees events
+  pub ended : EndedStayAway events
+  pub earlier : EarlierServeNoLonger events
 
 -- Where each line of the source's octets is served, the run handles them to their end, or is out of memory.
 abbrev pub IsComplete : Status → Option (List ℕ) → Option (List ℕ) → Type 0
 IsComplete status left left' =
-    (all rest : List ℕ) → left ≡ Some all → left' ≡ Some rest → (replayed all).fault ≡ None → (status ≡ Done) ⊎ (status ≡ NoMemory)
+    (all rest : List ℕ) → left ≡ Some all → left' ≡ Some rest → (replayed all []).fault ≡ None → (status ≡ Done) ⊎ (status ≡ NoMemory)

@@ -1,11 +1,12 @@
 //! The command `replay`: the lines of a script, in order.
 
-ghost use Rattle.std.specs.Prelude.{◌≡◌, ◌⊎◌, ◌≢◌, ◌≤◌, ◌+◌, ◌^◌, ℕ, List, IsErrOf, IfErr, OnErr, OnOk, true};
+ghost use Rattle.std.specs.Prelude.{◌≡◌, ◌⊎◌, ◌≢◌, ◌≤◌, ◌+◌, ◌^◌, ℕ, List, IsErrOf, IfErr, IfOk, OnErr, OnOk, true};
 ghost use Rattle.sg_edge.specs.Told.{Rose, Tells, Wrote};
-ghost use Rattle.sg_gateway.specs.Events.{events_of};
+ghost use Rattle.sg_gateway.specs.Events.{IsOfManualCalls, events_of};
 ghost use Rattle.sg_gateway.specs.Replayed.{said};
+ghost use Rattle.sg_lines.specs.Fields.{Gives};
 ghost use Rattle.sg_gateway.specs.World.{World, empty};
-ghost use Rattle.sg_run.specs.Played.{IsPlayed, Says, WroteFront, status_at};
+ghost use Rattle.sg_run.specs.Played.{IsPlayed, WroteFront, status_at};
 ghost use Rattle.sg_run.specs.Run.{IsRun, text};
 
 use crate::feed::Feed;
@@ -63,7 +64,8 @@ pub fn replay<G: Gateway, S: Source, K: Sink>(
 /// The line of this number, which begins at this offset of the script.
 fn read_line_at(alloc: Global, number: u64, at: u64, line: &[u8]) -> Result<Line, ReadLineFault>
     requires { at ≤ 2 ^ 30 }
-    ensures { Says result (said number at line.now) }
+    ensures said { Gives result (said number at line.now) }
+    ensures served { IfOk result (λ l. IsOfManualCalls l) }
 {
     if line.len() as u64 > SCRIPT_MOST - at {
         return Err(ReadLineFault::Script(ScriptFault::Length));
@@ -78,6 +80,7 @@ fn play<G: Gateway, K: Sink>(
     said: Line,
     sink: &mut K,
 ) -> Result<(), Status>
+    requires served { IsOfManualCalls said }
     ensures played { (w : World) → G.stands_for gateway.old w
         → IsPlayed result w (events_of said) (G.stands_for gateway.new) (K.written sink.old) (K.written sink.new) }
     ensures later { K.faults sink.old ≤ K.faults sink.new }

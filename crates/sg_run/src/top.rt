@@ -1,6 +1,6 @@
 //! The top call.
 
-ghost use Rattle.std.specs.Prelude.{◌≡◌, ◌↔◌, ◌≤◌, ◌+◌, ◌^◌, false, true, ℕ, List};
+ghost use Rattle.std.specs.Prelude.{◌≡◌, ◌↔◌, ◌≤◌, ◌+◌, ◌^◌, false, true, ℕ, List, []};
 ghost use Rattle.sg_edge.specs.Told.{Rose, Tells};
 ghost use Rattle.sg_gateway.specs.Replayed.{replayed};
 ghost use Rattle.sg_run.specs.Run.{IsRun, IsComplete, Headline};
@@ -22,7 +22,7 @@ pub fn run<S: Source, K: Sink>(
 ) -> Status
     ensures ran { (octets out : List ℕ)
         × IsRun result (S.left source.old) (S.left source.new) (K.written sink.old) (K.written sink.new) octets out
-        × Headline (replayed octets).events }
+        × Headline (replayed octets []).events }
     ensures given { S.given source.new ≤ S.given source.old + (2 ^ 30 + 1) }
     ensures usage { result ≡ Status.Usage ↔ IsNoCommand words.now }
     ensures untouched { result ≡ Status.Usage → (source.new ≡ source.old) × (sink.new ≡ sink.old) }
@@ -39,6 +39,9 @@ pub fn run<S: Source, K: Sink>(
     sg_gateway::no_counter_block_twice();
     sg_gateway::what_is_sealed_goes_out();
     sg_gateway::calls_in_order();
+    sg_gateway::refusals_change_nothing();
+    sg_gateway::ended_calls_stay_away();
+    sg_gateway::earlier_generations_serve_no_longer();
     if !is_replay(words) {
         return Status::Usage;
     }

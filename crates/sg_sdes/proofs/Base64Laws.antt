@@ -17,7 +17,7 @@ use Rattle.sg_base.specs.Suites.{key_len_of, salt_len_of}
 use Rattle.sg_base.proofs.SuiteLemmas.{sizes}
 use Rattle.sg_sdes.specs.KeyTexts.{base64_at, key_at, or_else, ok_of}
 
-either : (r : Result (List ℕ) DecodeError) (s : Result (List ℕ) DecodeError) (b : List ℕ) → or_else r (ok_of s) ≡ Some b → (r ≡ Ok b) ⊎ (s ≡ Ok b)
+pub either : (r : Result (List ℕ) DecodeError) (s : Result (List ℕ) DecodeError) (b : List ℕ) → or_else r (ok_of s) ≡ Some b → (r ≡ Ok b) ⊎ (s ≡ Ok b)
 either (Ok x) s b e = let f : x ≡ b = cc in inl (ap Ok f)
 either (Err d) (Ok x) b e = let f : x ≡ b = cc in inr (ap Ok f)
 either (Err d) (Err f) b e = absurd cc

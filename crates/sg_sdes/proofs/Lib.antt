@@ -1,7 +1,7 @@
 mod AgainLaws
 mod AnswerLaws
 mod Base64Laws
-mod DecodedBytes
+pub mod DecodedBytes
 mod DigitLaws
 mod KeyGrammar
 mod KeyLoop

@@ -1,6 +1,7 @@
 -- What is printed, piece by piece, is the spelling.
 use Rattle.std.proofs.Common.{◌≡◌, ℕ, ◌≤◌, List, [], ◌∷◌, ◌++◌, ◌-◌, length, take, drop, get_or, refl, sym, ap, ◌∙◌, arith, append_assoc}
 use Rattle.std.specs.List.{flat_map, join_with_byte}
+use Rattle.std.proofs.Math.Seq.{take-length}
 use Rattle.std.proofs.lemmas.List.{append-nil}
 use Rattle.std.specs.Fmt.{decimal}
 use Rattle.sg_base.specs.SuiteNames.{suite_name}
@@ -10,10 +11,6 @@ use Rattle.sg_sdes.specs.CryptoText.{inline_text, keys_text, next_key, next_word
 
 -- ---- keys
 
-take_all : {A : Type 0} (xs : List A) → take (length xs) xs ≡ xs
-take_all [] = refl
-take_all (x ∷ xs) = ap (λ ys. x ∷ ys) (take_all xs)
-
 pub joined_keys : (k : InlineKey) (ks : List InlineKey) → keys_text (k ∷ ks) ≡ inline_text k ++ flat_map next_key ks
 joined_keys k [] = sym (append-nil (inline_text k))
 joined_keys k (l ∷ ks) = ap (λ (t : List ℕ). inline_text k ++ 59 ∷ t) (joined_keys l ks)
@@ -22,7 +19,7 @@ pub first_keys : (keys : List InlineKey) (k : InlineKey) → 1 ≤ length keys �
 first_keys [] k some is = absurd (omega arith)
 first_keys (l ∷ ks) k some is =
     let n : length (l ∷ ks) - 1 ≡ length ks = omega arith in
-    rw (is, n, take_all ks) (joined_keys l ks)
+    rw (is, n, take-length ks) (joined_keys l ks)
 
 pub pushed_keys : (keys : List InlineKey) (k : InlineKey) (old one two : List ℕ) → 1 ≤ length keys → k ≡ get_or keys 0 k → one ≡ old ++ inline_text k
     → two ≡ one ++ flat_map next_key (take (length keys - 1) (drop 1 keys)) → two ≡ old ++ keys_text keys

@@ -1,5 +1,5 @@
 -- What is read of a text is a line with a spelling.
-use Rattle.std.proofs.Common.{◌≡◌, ◌≢◌, ◌⊎◌, ℕ, ◌+◌, ◌-◌, ◌^◌, ◌<◌, ◌≤◌, Bool, true, false, cond, eqb, leb, ltb, List, [], ◌∷◌, ◌++◌, length, drop, Option, Some, None, Result, Ok, Err, refl, sym, ap, ◌∙◌, subst, arith, inl, inr, length-take, length-drop}
+use Rattle.std.proofs.Common.{◌≡◌, ◌≢◌, ℕ, ◌+◌, ◌-◌, ◌^◌, ◌<◌, ◌≤◌, Bool, true, false, cond, eqb, leb, ltb, List, [], ◌∷◌, ◌++◌, length, drop, Option, Some, None, Result, Ok, Err, refl, sym, ap, ◌∙◌, subst, arith, inl, inr, length-take, length-drop}
 use Rattle.std.specs.Prelude.{◌&&◌, ◌||◌, codes, IfSome, IfOk, is_some, is_none, option_map, option_and_then, nat_eq}
 use Rattle.std.specs.Char.{is_ascii_digit}
 use Rattle.std.specs.List.{AllByRecursion, list_all, slice_split, starts_with}
@@ -12,7 +12,6 @@ use Rattle.std.proofs.lemmas.Nat.{pow_pos}
 use Rattle.std.proofs.Math.Pow.{pow_mono}
 use Rattle.base64.specs.GeneralPurpose.{IsBytes, decode_of}
 use Rattle.base64.specs.Engines.{standard, standard_no_pad}
-use Rattle.base64.specs.declared.decode.DecodeError.{DecodeError}
 use Rattle.sg_base.specs.declared.SdesFault.{SdesFault}
 use Rattle.sg_base.specs.declared.SdesFault.TheVariants.{Tag, Suite as NoSuite, Key, Lifetime, MkiValue as NoMki, Parameter}
 use Rattle.sg_base.specs.declared.Suite.{Suite}
@@ -31,9 +30,10 @@ use Rattle.sg_sdes.specs.declared.parameters.Parameters.{Parameters}
 use Rattle.sg_sdes.specs.CryptoOf.{crypto_parts, crypto_of}
 use Rattle.sg_sdes.specs.CryptoText.{IsInlineKey, IsCryptoLine}
 use Rattle.sg_sdes.specs.Keys.{◌>>=◌, or_fault, alone, with_one, with_both, behind_bar, at_bar, inline_at, keys_from, keys_of, all_differ}
-use Rattle.sg_sdes.specs.KeyTexts.{digits_at, crypto_suite_at, base64_at, key_at, lifetime_at, is_mki, mki_at, or_else, ok_of}
+use Rattle.sg_sdes.specs.KeyTexts.{digits_at, crypto_suite_at, base64_at, key_at, lifetime_at, is_mki, mki_at}
 use Rattle.sg_sdes.specs.Parameters.{unsaid, with_window, with_parameter, parameters_from}
 use Rattle.sg_sdes.specs.Words.{words_of, word_at}
+use Rattle.sg_sdes.proofs.Base64Laws.{either}
 use Rattle.sg_sdes.proofs.DecodedBytes.{decoded_are_bytes}
 use Rattle.sg_sdes.proofs.DigitLaws.{small}
 
@@ -91,11 +91,6 @@ suite_not_raw t s e =
     subst (λ x. x ≢ Raw80) g.1 (raw_not p.0 g.0)
 
 -- ---- one key
-
-either : (r s : Result (List ℕ) DecodeError) (b : List ℕ) → or_else r (ok_of s) ≡ Some b → (r ≡ Ok b) ⊎ (s ≡ Ok b)
-either (Ok x) s b e = let f : x ≡ b = cc in inl (ap Ok f)
-either (Err d) (Ok x) b e = let f : x ≡ b = cc in inr (ap Ok f)
-either (Err d) (Err f) b e = absurd cc
 
 base64_bytes : (t b : List ℕ) → base64_at t ≡ Some b → IsBytes b
 unfolding base64_at

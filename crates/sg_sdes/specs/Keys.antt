@@ -1,11 +1,11 @@
 -- The keys of a crypto line (RFC 4568, sections 6.1 and 9.2).
-use Rattle.std.specs.Prelude.{ℕ, ◌+◌, ◌^◌, List, [], ◌∷◌, drop, Bool, true, false, not, Option, Some, None, is_some, is_none, Result, Ok, Err, nat_eq, ◌==◌, ◌&&◌, ◌||◌, if◌then◌else◌, codes}
+use Rattle.std.specs.Prelude.{ℕ, ◌+◌, ◌^◌, List, [], ◌∷◌, drop, Bool, true, Option, Some, None, is_some, is_none, Result, Ok, Err, nat_eq, ◌==◌, ◌&&◌, ◌||◌, if◌then◌else◌, codes}
 use Rattle.std.specs.List.{list_all, starts_with, slice_split}
 use Rattle.sg_base.specs.declared.SdesFault.{SdesFault}
 use Rattle.sg_base.specs.declared.SdesFault.TheVariants.{Key, Lifetime, MkiValue}
 use Rattle.sg_base.specs.declared.Suite.{Suite}
 use Rattle.sg_base.specs.Fields.{cut_at}
-use Rattle.sg_base.specs.Mkis
+use Rattle.sg_base.specs.Mkis.{mkis_differ}
 use Rattle.sg_sdes.specs.declared.lines.InlineKey.{InlineKey}
 use Rattle.sg_sdes.specs.KeyTexts.{key_at, lifetime_at, mki_at}
 
@@ -65,11 +65,6 @@ keys_from suite count (text ∷ texts) =
 -- the keys between semicolons
 unfoldable pub keys_of : Suite → List ℕ → Result (List InlineKey) SdesFault
 keys_of suite text = keys_from suite 0 (slice_split (λ x. x == 59) text)
-
--- two MKIs of one length with two values
-abbrev pub mkis_differ : Option Mkis.MkiValue → Option Mkis.MkiValue → Bool
-mkis_differ (Some a) (Some b) = (a.length == b.length) && not (a.value == b.value)
-mkis_differ a b = false
 
 abbrev pub differs : InlineKey → InlineKey → Bool
 differs k l = mkis_differ k.mki l.mki

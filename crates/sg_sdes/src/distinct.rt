@@ -5,16 +5,12 @@ ghost use Rattle.std.specs.List.{list_all};
 ghost use Rattle.sg_sdes.specs.Keys.{all_differ, differs};
 
 use crate::InlineKey;
+use sg_base::mkis_differ;
 
 fn differs(key: &InlineKey, other: &InlineKey) -> bool
     ensures { result ≡ differs key.now other.now }
 {
-    match (&key.mki, &other.mki) {
-        (Some(mki), Some(another)) => {
-            mki.len() == another.len() && mki.value() != another.value()
-        }
-        _ => false,
-    }
+    mkis_differ(&key.mki, &other.mki)
 }
 
 fn differs_from_all(key: &InlineKey, others: &[InlineKey]) -> bool

@@ -6,6 +6,5 @@ pub mod Lists
 pub mod Lives
 pub mod NoneTwice
 pub mod ReadBack
-pub mod SameOctets
 pub mod Taking
 pub mod Texts

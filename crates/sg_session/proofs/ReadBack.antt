@@ -26,7 +26,7 @@ use Rattle.sg_kdf.specs.SessionKeys.{session_keys}
 use Rattle.sg_session.proofs.Inversions.{stop_if_is, stop_if_of, after_ok_of, ok_is}
 use Rattle.sg_session.proofs.Leaves.{rtp_size, rtp_stays, rtcp_size, rtcp_stays, nearest_reaches, fresh_parts}
 use Rattle.sg_session.proofs.Lists.{any_none, any_cases, each_at_this}
-use Rattle.sg_session.proofs.SameOctets.{same_octets_true, same_octets_is}
+use Rattle.sg_base.proofs.SameOctets.{same_octets_true, same_octets_is}
 use Rattle.sg_session.proofs.Taking.{IsCheckOf, checked_is}
 use Rattle.sg_session.proofs.Texts.{length-crypted, take-crypted, crypted_twice, length-parts, front_part, mki_part, tag_part}
 

@@ -1,23 +1,23 @@
-//! Opening a datagram, state by state: nothing unverified is decrypted, marked or counted.
+//! Opening an SRTP datagram, state by state: nothing unverified is decrypted, marked or counted.
 //!
-//! Each refusal hands back the pad with the octets that it came with, and the cause.
+//! Each refusal hands back the pad with the octets that it came with, and the fault.
 
-ghost use Rattle.std.specs.Prelude.{◌≡◌, ℕ, ◌+◌, ◌<◌, ◌≤◌, ◌^◌, List, [], ◌∷◌, ◌++◌, length, MatchResult, IfOk, IsTrue, IsSome, true, Ok, Err, Some, slice_get, option_copied};
-ghost use Rattle.sg_base.specs.declared.keys.HalfKeys.{HalfKeys};
-ghost use Rattle.sg_keys.specs.Live.{Live, schedule_key, spent};
-ghost use Rattle.sg_srtp.specs.Choosing.{chosen_for};
-ghost use Rattle.sg_srtp.specs.Parts.{heading, is_tag_len, mki_of, word_len, IsNumber};
-ghost use Rattle.sg_srtp.specs.Placing.{placed};
-ghost use Rattle.sg_srtp.specs.Streams.{ForIndicesOf, IsOpenPlace, IsStreamOf, TakesIn};
-ghost use Rattle.sg_srtp.specs.Inbound.{Heading, Keying, Placing, IsHeaded, IsKeyed, IsVerified, IsUnverified, IsKeyOf, IsPlacedAs, CanServe, IsOpened, packet_at};
+ghost use Rattle.std.specs.Prelude.{◌≡◌, ℕ, ◌≤◌, MatchResult, true, false, Err, Some, slice_get};
+ghost use Rattle.sg_base.specs.declared.addresses.Kind.TheVariants as kind;
+ghost use Rattle.sg_keys.specs.Live.{Live, spent};
+ghost use Rattle.sg_session.specs.Opening.{head_cause};
+ghost use Rattle.sg_states.specs.Choosing.{chosen_for, key_cause};
+ghost use Rattle.sg_states.specs.Faults.{place_cause};
+ghost use Rattle.sg_states.specs.Inbound.{IsHeaded, IsKeyed, IsKeyOf, IsPlacedAs, IsVerified, IsUnverified, CanServe, IsOpened};
+ghost use Rattle.sg_states.specs.Parts.{heading, is_tag_len, mki_of};
+ghost use Rattle.sg_states.specs.Placing.{placed};
+ghost use Rattle.sg_states.specs.Streams.{ForIndicesOf, IsOpenPlace, TakesIn};
 
-use crate::head::{Head, head_in};
-use crate::keystream::apply_keystream;
-use crate::mac::fits;
 use crate::stream::Stream;
-use sg_aes::Schedule;
-use sg_base::{DropCause, Kind, Pad};
+use sg_base::{HeadFault, Kind, Pad};
 use sg_keys::{KeySet, OpenKeyFault};
+pub use sg_states::inbound::Opened;
+use sg_states::{BadTag, PlaceFault, inbound as states};
 use std::marker::Model;
 
 /// A datagram that arrived, seen as its octets.
@@ -37,81 +37,73 @@ impl Model for Arrived {
 /// A datagram whose head is read.
 #[derive(Drop)]
 pub struct Headed {
-    pad: Pad,
-    kind: Kind,
-    mki_len: usize,
-    tag_len: usize,
-    head: Head,
+    headed: states::Headed,
 }
 
 impl Model for Headed {
-    ghost use Rattle.std.specs.Prelude.{◌≤◌};
-    ghost use Rattle.sg_srtp.specs.Inbound.{Heading, IsHeading};
-    ghost use Rattle.sg_srtp.specs.Heads.{head_of};
+    ghost use Rattle.std.specs.Prelude.{◌≡◌};
+    ghost use Rattle.sg_base.specs.declared.addresses.Kind.TheVariants as kind;
+    ghost use Rattle.sg_states.specs.Inbound.{Heading};
 
     ghost Value = { Heading };
 
-    ghost view = { λ h. record { pad = h.pad; kind = h.kind; mki_len = h.mki_len; tag_len = h.tag_len; head = head_of h.head } };
+    ghost view = { λ h. h.headed };
 
-    ghost invariant = { λ h. IsHeading h.kind h.mki_len h.tag_len h.pad (head_of h.head) };
+    ghost invariant = { λ h. h.headed.kind ≡ kind.Rtp };
 }
 
-/// A datagram whose key is chosen: where the key stands among the session's, and its number.
+/// A datagram whose key is chosen.
 #[derive(Drop)]
 pub struct Keyed {
-    headed: Headed,
-    key: usize,
-    number: u32,
+    keyed: states::Keyed,
 }
 
 impl Model for Keyed {
-    ghost use Rattle.sg_srtp.specs.Inbound.{Keying};
+    ghost use Rattle.std.specs.Prelude.{◌≡◌};
+    ghost use Rattle.sg_base.specs.declared.addresses.Kind.TheVariants as kind;
+    ghost use Rattle.sg_states.specs.Inbound.{Keying};
 
     ghost Value = { Keying };
 
-    ghost view = { λ k. record { headed = k.headed; key = k.key; number = k.number } };
+    ghost view = { λ k. k.keyed };
+
+    ghost invariant = { λ k. k.keyed.headed.kind ≡ kind.Rtp };
 }
 
 /// A datagram whose index is found, and is new in its stream.
 #[derive(Drop)]
 pub struct Placed {
-    keyed: Keyed,
-    index: u64,
+    placed: states::Placed,
 }
 
 impl Model for Placed {
-    ghost use Rattle.std.specs.Prelude.{◌<◌, ◌^◌};
-    ghost use Rattle.sg_srtp.specs.Inbound.{Placing};
+    ghost use Rattle.std.specs.Prelude.{◌≡◌};
+    ghost use Rattle.sg_base.specs.declared.addresses.Kind.TheVariants as kind;
+    ghost use Rattle.sg_states.specs.Inbound.{Placing};
 
     ghost Value = { Placing };
 
-    ghost view = { λ p. record { keyed = p.keyed; index = p.index } };
+    ghost view = { λ p. p.placed };
 
-    ghost invariant = { λ p. p.index < 2 ^ 48 };
+    ghost invariant = { λ p. p.placed.keyed.headed.kind ≡ kind.Rtp };
 }
 
 /// A datagram whose tag fits.
 #[derive(Drop)]
 pub struct Verified {
-    placed: Placed,
+    verified: states::Verified,
 }
 
 impl Model for Verified {
-    ghost use Rattle.sg_srtp.specs.Inbound.{Placing};
+    ghost use Rattle.std.specs.Prelude.{◌≡◌};
+    ghost use Rattle.sg_base.specs.declared.addresses.Kind.TheVariants as kind;
+    ghost use Rattle.sg_states.specs.Inbound.{Placing};
 
     ghost Value = { Placing };
 
-    ghost view = { λ v. v.placed };
-}
+    ghost view = { λ v. v.verified };
 
-/// A packet that was opened: its octets, its kind, its source and index, and the number of its key.
-#[derive(Drop)]
-pub struct Opened {
-    pub pad: Pad,
-    pub kind: Kind,
-    pub ssrc: u32,
-    pub index: u64,
-    pub key: u32,
+    ghost invariant = { λ v. v.verified.keyed.headed.kind ≡ kind.Rtp };
 }
 
 impl Arrived {
@@ -122,30 +114,16 @@ impl Arrived {
         Arrived { pad }
     }
 
-    /// Reads the head of a datagram that ends in an MKI and a tag of these lengths. RTP is encrypted
-    /// where `encrypts` says so, RTCP as the datagram itself says (RFC 3711, 3.4).
-    #[tactic(auto, using(crate::proofs::Tags::tag_within))]
-    pub fn head(
-        self,
-        kind: Kind,
-        encrypts: bool,
-        mki_len: usize,
-        tag_len: usize,
-    ) -> Result<Headed, (Pad, DropCause)>
+    /// Reads the head of a datagram that ends in an MKI of at most 128 octets and a tag of ten or four.
+    pub fn head(self, mki_len: usize, tag_len: usize) -> Result<Headed, (Pad, HeadFault)>
         requires mki { mki_len ≤ 128 }
-        requires tag { is_tag_len kind tag_len ≡ true }
-        ensures { MatchResult result (IsHeaded self kind encrypts mki_len tag_len) (λ e. (e.0 ≡ self) × (heading kind encrypts mki_len tag_len self ≡ Err e.1)) }
+        requires tag { is_tag_len kind.Rtp tag_len ≡ true }
+        ensures { MatchResult result (IsHeaded self kind.Rtp mki_len tag_len)
+            (λ e. (e.0 ≡ self) × (heading kind.Rtp false mki_len tag_len self ≡ Err (head_cause e.1))) }
     {
-        let Arrived { pad } = self;
-        match head_in(kind, encrypts, mki_len, tag_len, pad.octets()) {
-            Ok(head) => Ok(Headed {
-                pad,
-                kind,
-                mki_len,
-                tag_len,
-                head,
-            }),
-            Err(cause) => Err((pad, cause)),
+        match states::Headed::read(Kind::Rtp, mki_len, tag_len, self.pad) {
+            Ok(headed) => Ok(Headed { headed }),
+            Err(refused) => Err(refused),
         }
     }
 }
@@ -155,150 +133,59 @@ impl Headed {
     pub fn ssrc(&self) -> u32
         ensures { result ≡ self.now.head.ssrc }
     {
-        self.head.ssrc
-    }
-
-    /// The kind.
-    pub fn kind(&self) -> Kind
-        ensures { result ≡ self.now.kind }
-    {
-        self.kind
-    }
-
-    // The number, which fits its kind.
-    fn number(&self) -> u32
-        ensures value { result ≡ self.now.head.number }
-        ensures fits { IsNumber self.now.kind result }
-    {
-        self.head.number
+        self.headed.ssrc()
     }
 
     /// The pad, as it came.
     pub fn refuse(self) -> Pad
         ensures { result ≡ self.pad }
     {
-        self.pad
+        self.headed.refuse()
     }
 
-    // The octets of the MKI.
-    fn mki(&self) -> &[u8]
-        ensures { result.now ≡ mki_of self.now.mki_len self.now.tag_len self.now.pad }
+    /// Chooses the key by the MKI, where it may serve a packet more.
+    pub fn key(self, keys: &KeySet) -> Result<Keyed, (Pad, OpenKeyFault)>
+        ensures { MatchResult result (IsKeyed self keys.now)
+            (λ e. (e.0 ≡ self.pad) × (chosen_for keys.now (mki_of self.mki_len self.tag_len self.pad) ≡ Err (key_cause e.1))) }
     {
-        let octets = self.pad.octets();
-        let (_, end) = octets.split_at(octets.len() - (self.mki_len + self.tag_len));
-        &end[..self.mki_len]
-    }
-
-    /// Chooses the key by the MKI, among keys whose MKIs have the length that the head was read with.
-    pub fn key(self, keys: &KeySet) -> Result<Keyed, (Pad, DropCause)>
-        ensures { MatchResult result (IsKeyed self keys.now) (λ e. (e.0 ≡ self.pad) × (chosen_for keys.now (mki_of self.mki_len self.tag_len self.pad) ≡ Err e.1)) }
-    {
-        match keys.choose_mki(self.mki()) {
-            Ok(key) => Ok(Keyed {
-                headed: self,
-                key,
-                number: keys.key(key).number,
-            }),
-            Err(OpenKeyFault::MkiUnknown) => Err((self.refuse(), DropCause::MkiUnknown)),
-            Err(OpenKeyFault::KeySpent { number, count }) => {
-                Err((self.refuse(), DropCause::KeySpent { number, count }))
-            }
+        match self.headed.key(keys) {
+            Ok(keyed) => Ok(Keyed { keyed }),
+            Err(refused) => Err(refused),
         }
     }
 }
 
 impl Keyed {
-    /// The kind.
-    pub fn kind(&self) -> Kind
-        ensures { result ≡ self.now.headed.kind }
-    {
-        self.headed.kind()
-    }
-
     /// The source.
     pub fn ssrc(&self) -> u32
         ensures { result ≡ self.now.headed.head.ssrc }
     {
-        self.headed.ssrc()
+        self.keyed.ssrc()
     }
 
-    /// The pad, as it came.
-    pub fn refuse(self) -> Pad
-        ensures { result ≡ self.headed.pad }
-    {
-        self.headed.refuse()
-    }
-
-    /// Finds the index in the stream of the packet's source, which is only read.
-    pub fn place(self, stream: &Stream) -> Result<Placed, (Pad, DropCause)>
-        requires { IsStreamOf stream.now self.headed.kind self.headed.head.ssrc }
+    /// Finds the index in the stream of the packet's source, which is only read (RFC 3711, 3.3.1, 3.3.2).
+    pub fn place(self, stream: &Stream) -> Result<Placed, (Pad, PlaceFault)>
+        requires { stream.now.ssrc ≡ self.headed.head.ssrc }
         ensures open { MatchResult result (λ p. (p.keyed ≡ self) × IsOpenPlace stream.now p.index) (λ e. e.0 ≡ self.headed.pad) }
-        ensures answer { ForIndicesOf stream.now (λ roc window indices. IsPlacedAs (placed self.headed.kind roc window indices self.headed.head.number) result) }
+        ensures answer { ForIndicesOf stream.now (λ roc window indices. IsPlacedAs place_cause (placed kind.Rtp roc window indices self.headed.head.number) result) }
     {
-        match stream.place(self.headed.kind(), self.headed.number()) {
-            Ok(index) => Ok(Placed { keyed: self, index }),
-            Err(cause) => Err((self.refuse(), cause)),
+        match self.keyed.place(&stream.stream) {
+            Ok(placed) => Ok(Placed { placed }),
+            Err(refused) => Err(refused),
         }
     }
 }
 
 impl Placed {
     /// Compares the tag under the chosen key, among the keys that it was chosen among.
-    pub fn verify(self, keys: &KeySet) -> Result<Verified, (Pad, DropCause)>
+    pub fn verify(self, keys: &KeySet) -> Result<Verified, (Pad, BadTag)>
         requires { IsKeyOf keys.now self.keyed.key self.keyed.number }
-        ensures { (key : Live) → slice_get keys.now self.keyed.key ≡ Some key → MatchResult result (IsVerified self key) (IsUnverified self key) }
+        ensures { (key : Live) → slice_get keys.now self.keyed.key ≡ Some key → MatchResult result (IsVerified self key) (λ e. IsUnverified self key e.0) }
     {
-        let keyed = &self.keyed;
-        let headed = &keyed.headed;
-        if fits(
-            headed.kind,
-            keys.mac(keyed.key),
-            headed.pad.octets(),
-            headed.mki_len,
-            headed.tag_len,
-            self.index,
-        ) {
-            Ok(Verified { placed: self })
-        } else {
-            Err((self.keyed.refuse(), DropCause::BadTag))
+        match self.placed.verify(keys) {
+            Ok(verified) => Ok(Verified { verified }),
+            Err(refused) => Err(refused),
         }
-    }
-}
-
-impl Headed {
-    // The packet alone, with the keystream of its index taken off where it is encrypted.
-    fn into_packet(self, schedule: Option<&Schedule>, salt: &[u8; 14], index: u64) -> Pad
-        requires index { index < 2 ^ 48 }
-        requires cipher { IsTrue self.head.encrypted → IsSome schedule }
-        ensures { (half : HalfKeys) → half.salt ≡ salt.now → option_copied schedule.entry ≡ schedule_key half.encrypt → result ≡ packet_at self half index }
-    {
-        let Headed {
-            mut pad,
-            kind,
-            mki_len,
-            tag_len,
-            head,
-        } = self;
-        let count = pad.octets().len() - (word_len(kind) + (mki_len + tag_len));
-        pad.cut_to(count);
-        match schedule {
-            Some(schedule) if head.encrypted => {
-                apply_keystream(schedule, salt, head.ssrc, index, head.size, &mut pad);
-                pad
-            }
-            _ => pad,
-        }
-    }
-}
-
-// The octets between a packet and the MKI: of RTCP the index word.
-fn word_len(kind: Kind) -> usize
-    ensures value { result ≡ word_len kind }
-    ensures most { result ≤ 4 }
-{
-    match kind {
-        Kind::Rtp => 0,
-        Kind::Rtcp => 4,
     }
 }
 
@@ -307,40 +194,21 @@ impl Verified {
     pub fn refuse(self) -> Pad
         ensures { result ≡ self.keyed.headed.pad }
     {
-        let Placed { keyed, index: _ } = self.placed;
-        keyed.refuse()
+        self.verified.refuse()
     }
 
-    /// Takes the keystream off, marks the index and counts the packet under its key. The stream and the
-    /// keys are those that the datagram was placed and verified with.
-    pub fn decrypt(self, stream: &mut Stream, keys: &mut KeySet) -> Opened
-        requires source { IsStreamOf stream.old self.keyed.headed.kind self.keyed.headed.head.ssrc }
+    /// Takes the keystream off where the session encrypts, marks the index and counts the packet under its
+    /// key. The stream and the keys are those that the datagram was placed and verified with, and the key
+    /// has a cipher's key where `encrypt` is true.
+    pub fn decrypt(self, stream: &mut Stream, keys: &mut KeySet, encrypt: bool) -> Opened
+        requires source { stream.old.ssrc ≡ self.keyed.headed.head.ssrc }
         requires open { IsOpenPlace stream.old self.index }
-        requires key { CanServe keys.old self.keyed.key self.keyed.number self.keyed.headed.head.encrypted }
-        ensures opened { (key : Live) → slice_get keys.old self.keyed.key ≡ Some key → IsOpened self key result }
+        requires key { CanServe keys.old self.keyed.key self.keyed.number encrypt }
+        ensures opened { (key : Live) → slice_get keys.old self.keyed.key ≡ Some key → IsOpened self key encrypt result }
         ensures of { (stream.new.kind ≡ stream.old.kind) × (stream.new.ssrc ≡ stream.old.ssrc) }
         ensures stream { TakesIn stream.old stream.new self.index }
         ensures keys { (key : Live) → slice_get keys.old self.keyed.key ≡ Some key → keys.new ≡ spent key.number keys.old }
     {
-        let Verified { placed } = self;
-        let Placed { keyed, index } = placed;
-        let Keyed {
-            headed,
-            key: at,
-            number,
-        } = keyed;
-        let kind = headed.kind();
-        let ssrc = headed.ssrc();
-        let key = keys.key(at);
-        let pad = headed.into_packet(keys.schedule(at), &key.half.salt, index);
-        stream.take(index);
-        keys.spend(at);
-        Opened {
-            pad,
-            kind,
-            ssrc,
-            index,
-            key: number,
-        }
+        self.verified.decrypt(&mut stream.stream, keys, encrypt)
     }
 }

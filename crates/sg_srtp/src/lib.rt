@@ -1,14 +1,9 @@
-//! Typed states that open and seal protected packets of both kinds, RTP and RTCP, over one pad (RFC
-//! 3711, 3.3 and 3.4). No call takes memory.
+//! Typed states that open and seal SRTP packets over one pad (RFC 3711, 3.3). No call takes memory.
 #![tactic(auto)]
 
-mod head;
 pub mod inbound;
-mod keystream;
-pub mod laws;
-mod mac;
 pub mod outbound;
 mod stream;
 
-pub use head::Head;
+pub use sg_states::{BadTag, NumberFault, PlaceFault};
 pub use stream::Stream;

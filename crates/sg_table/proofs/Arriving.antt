@@ -103,5 +103,5 @@ pub call_arrived : (now port : ℕ) (from : Address) (d : List ℕ) (c : Call) (
 call_arrived now port from d c call new h stands id slot passed = record {
   told = passed.told;
   kept = passed.kept;
-  stands = subst (CallStandsFor new) passed.after (record { id = id ∙ stands.id; slot = slot ∙ stands.slot; media = stands.media; live = stands.live; own = passed.own; paths = passed.stand });
+  stands = subst (CallStandsFor new) passed.after (record { id = id ∙ stands.id; slot = slot ∙ stands.slot; media = stands.media; manual = stands.manual; offer = stands.offer; live = stands.live; own = passed.own; paths = passed.stand });
 }

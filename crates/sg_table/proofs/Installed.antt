@@ -13,8 +13,9 @@ use Rattle.sg_gateway.specs.ManualCalls.{answer_in, ring_after}
 use Rattle.sg_session.specs.Ring.{Installed, RingKey, derived, install, key_of}
 use Rattle.sg_gateway.proofs.CallList.{from_push}
 use Rattle.sg_gateway.proofs.ManualCalls.{IsAnswered, known, known_answered, full_answered, call_in, refused_answered, made_answered, own_ports}
-use Rattle.sg_gateway.specs.Generations.{keys_from, sessions_from}
-use Rattle.sg_gateway.specs.Signals.{ManualCall, manual_answer, manual_medium}
+use Rattle.sg_agreement.specs.Generations.{keys_from, sessions_from}
+use Rattle.sg_agreement.specs.Manual.{ManualCall, manual_medium}
+use Rattle.sg_gateway.specs.Signals.{manual_answer}
 use Rattle.sg_gateway.specs.World.{Call, World, same_id}
 use Rattle.sg_table.proofs.Paired.{any_same, stands_length, stands_push}
 use Rattle.sg_table.specs.Keying.{early, refusal_of, told_of, IsKeyed}
@@ -72,7 +73,7 @@ module _ (h : ManualCall) (table : TableValue) (w : World) (stands : TableStands
     installed = install w.books.ring keys
 
     abbrev world_with : List Installed → World
-    world_with ring = record w { books = record { ring = ring } }
+    world_with ring = record w { books = record w.books { ring = ring } }
 
     pub refused_keyed : (cause : Refusal) → installed ≡ Err cause → IsKeyed h.id (Err cause) table (manual_answer w h)
     refused_keyed cause is = keyed_so h (Err cause) w (world_with (ring_after w.books.ring installed)) table
@@ -92,11 +93,11 @@ module _ (h : ManualCall) (table : TableValue) (w : World) (stands : TableStands
         let new_paths : EachStands (PathStandsFor (length w.calls)) (boxed_slice_items call.paths) new.sessions =
         subst (λ k. EachStands (PathStandsFor (length w.calls)) (boxed_slice_items call.paths) (sessions_from (length w.calls) 0 0 k (Some (manual_medium h) ∷ []))) key
         (subst (λ m. EachStands (PathStandsFor m) (boxed_slice_items call.paths) (sessions_from m 0 0 number (Some (manual_medium h) ∷ []))) place paths) in
-        let new_call : CallStandsFor call new = record { id = id; slot = slot ∙ place; media = refl; live = refl; own = own_ports h (length w.calls) (length w.books.ring); paths = new_paths } in
+        let new_call : CallStandsFor call new = record { id = id; slot = slot ∙ place; media = refl; manual = refl; offer = refl; live = refl; own = own_ports h (length w.calls) (length w.books.ring); paths = new_paths } in
         subst (λ cs. IsKeyed h.id (Ok n) (record { calls = cs; ring = ring }) (manual_answer w h)) (sym calls_are)
         (subst (λ m. IsKeyed h.id (Ok m) (record { calls = table.calls ++ call ∷ []; ring = ring }) (manual_answer w h)) (sym place)
         (keyed_so h (Ok (length w.calls)) w
-        (record { calls = w.calls ++ new ∷ []; made = length w.calls + 1; books = record { ring = ring_after w.books.ring installed }; moment = w.moment })
+        (record { calls = w.calls ++ new ∷ []; made = length w.calls + 1; books = record w.books { ring = ring_after w.books.ring installed }; moment = w.moment })
         (record { calls = table.calls ++ call ∷ []; ring = ring })
         (made_answered w h stands.from stands.made free.0 free.1 (sym (ap answer_in ok)))
         (record {

@@ -6,9 +6,9 @@ use Rattle.sg_base.specs.declared.addresses.Kind.TheVariants.{Rtp, Rtcp}
 use Rattle.sg_session.specs.Session.{Session}
 use Rattle.sg_session.specs.declared.names.Direction.TheVariants.{Opening, Sealing}
 use Rattle.sg_session.specs.declared.names.Owner.{Owner}
-use Rattle.sg_gateway.specs.Generations.{owner_at, sessions_from}
+use Rattle.sg_agreement.specs.Generations.{owner_at, sessions_from}
 use Rattle.sg_gateway.specs.ManualCalls.{manual_session, manual_sessions}
-use Rattle.sg_gateway.specs.Signals.{ManualCall, manual_medium}
+use Rattle.sg_agreement.specs.Manual.{ManualCall, manual_medium}
 use Rattle.sg_table.proofs.Paired.{stands_push}
 use Rattle.sg_table.specs.Standing.{EachStands, PathStandsFor}
 use Rattle.sg_table.specs.declared.path.Path.{Path}

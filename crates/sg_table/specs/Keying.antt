@@ -8,7 +8,8 @@ use Rattle.sg_outcome.specs.declared.outcomes.Outcome.{Outcome}
 use Rattle.sg_outcome.specs.declared.outcomes.Outcome.TheVariants.{Made, Live, Refused}
 use Rattle.sg_keys.specs.declared.ring.RingFault.{RingFault}
 use Rattle.sg_keys.specs.declared.ring.RingFault.TheVariants as fault
-use Rattle.sg_gateway.specs.Signals.{ManualCall, Answer}
+use Rattle.sg_agreement.specs.Manual.{ManualCall}
+use Rattle.sg_gateway.specs.Signals.{Answer}
 use Rattle.sg_gateway.specs.World.{same_id}
 use Rattle.sg_table.specs.Standing.{TableValue, TableStandsFor}
 use Rattle.sg_table.specs.declared.call.Call.{Call}

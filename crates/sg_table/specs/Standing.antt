@@ -1,6 +1,6 @@
 -- What a table forgets: the sessions, calls and worlds that its parts stand for.
 use Rattle.std.specs.Box.{boxed_slice_items}
-use Rattle.std.specs.Prelude.{◌≡◌, ℕ, Bool, ◌&&◌, nat_le, nat_lt, List, [], ◌∷◌, length}
+use Rattle.std.specs.Prelude.{◌≡◌, ℕ, Bool, true, ◌&&◌, nat_le, nat_lt, List, [], ◌∷◌, length, None}
 use Rattle.sg_keys.specs.Installing.{keys_of}
 use Rattle.sg_session.specs.Ring.{RingKey}
 use Rattle.sg_session.specs.Session.{Session}
@@ -36,12 +36,14 @@ pub record PathStandsFor (slot : ℕ) (path : Path) (s : Session) : Type 0 where
   pub plain : path.plain ≡ s.plain
   pub side : SideStandsFor path.side s
 
--- A call stands for a live call of one medium, whatever its moment: each path for a session that has a port
--- of its own.
+-- A call stands for a call of one medium that is keyed manually, whatever its moments: it has no open offer, one
+-- generation, and each path stands for a session that has a port of its own.
 pub record CallStandsFor (call : Call) (c : world.Call) : Type 0 where
   pub id : call.id ≡ c.id
   pub slot : call.slot ≡ c.slot
   pub media : c.media ≡ 1
+  pub manual : c.manual ≡ true
+  pub offer : c.offer ≡ None
   pub live : c.generations ≡ 1
   pub own : HaveOwnPorts c.slot c.sessions
   pub paths : EachStands (PathStandsFor c.slot) (boxed_slice_items call.paths) c.sessions

@@ -1,7 +1,7 @@
 //! The table as a gateway, which handles the lines of a script.
 
 ghost use Rattle.std.specs.Prelude.{◌≡◌, ◌≤◌, [], ◌∷◌, take, length, vec_capacity, vec_len, IfOk, OnErr};
-ghost use Rattle.sg_gateway.specs.Events.{events_of_signal};
+ghost use Rattle.sg_gateway.specs.Events.{IsOfManualCalls, events_of_signal};
 ghost use Rattle.sg_gateway.specs.Octets.{as_octets};
 ghost use Rattle.sg_gateway.specs.Signals.{manual_answer};
 ghost use Rattle.sg_gateway.specs.Step.{Datagram};
@@ -63,6 +63,7 @@ impl Table {
 
     /// A signal is told. The one that is served keys a call manually.
     fn obey(&mut self, alloc: Global, signal: Signal) -> Result<Vec<Outcome>, NoMemory>
+        requires served { IsOfManualCalls (Line.Signal signal) }
         ensures told { IfOk result (λ told. (w : World) → TableStandsFor self.old w → IsTold told.items self.new w (events_of_signal signal)) }
         ensures err { OnErr result (self.new ≡ self.old) }
     {
@@ -90,7 +91,7 @@ impl Table {
                     Err(NoMemory) => Err(NoMemory),
                 }
             }
-            _other => Ok(Vec::new(alloc)),
+            _other => unreachable!(),
         }
     }
 

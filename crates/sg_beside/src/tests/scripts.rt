@@ -4,6 +4,9 @@
 //! the last script, some of them changed, again or late. So nothing is expected of a script but that two
 //! bodies write the same of it; and of all of them, that most of what can become of a datagram is there.
 
+ghost use Rattle.std.specs.Prelude.{IfOk};
+ghost use Rattle.sg_gateway.specs.Events.{IsOfManualCalls};
+
 use crate::Dice;
 use sg_base::{Address, CallId, MasterKey, Octets, Suite};
 use sg_edge::{MemSink, MemSource};
@@ -241,16 +244,24 @@ fn by_the_gateway(rt: &impl Abort, alloc: Global, script: &Script) -> Result<Vec
     Ok(sink.written().ok_or("no record")?.to_vec(alloc)?)
 }
 
+/// The line of this number, which is served.
+#[tactic(auto, using(sg_run::proofs::Served::served_manually))]
+fn served_line(alloc: Global, number: u64, text: &[u8]) -> Result<Line, Fail>
+    ensures { IfOk result (λ line. IsOfManualCalls line) }
+{
+    match read_served_line(alloc, number, text) {
+        Err(_fault) => Err("no line".into()),
+        Ok(line) => Ok(line),
+    }
+}
+
 /// What the reference table tells of a script, as the lines of outcomes.
 fn by_the_reference(alloc: Global, script: &Script) -> Result<Vec<u8>, Fail> {
     let mut table = ReferenceTable::new(alloc);
     let mut written = Vec::new(alloc);
     let mut number: u64 = 1;
     for text in script.octets.split_inclusive(|octet| *octet == b'\n') {
-        let line = match read_served_line(alloc, number, text) {
-            Err(_fault) => return Err("no line".into()),
-            Ok(line) => line,
-        };
+        let line = served_line(alloc, number, text)?;
         for outcome in table.handle(alloc, line)? {
             written.extend_from_slice(print_outcome(alloc, &outcome)?.as_slice())?;
         }

@@ -1,5 +1,8 @@
 //! The table beside the reference table: mixed lines, and the same outcomes.
 
+ghost use Rattle.std.specs.Prelude.{IfOk};
+ghost use Rattle.sg_gateway.specs.Events.{IsOfManualCalls};
+
 use crate::Dice;
 use sg_base::{Address, CallId, MasterKey, Octets, Suite};
 use sg_gateway::Gateway;
@@ -34,7 +37,9 @@ fn master(suite: Suite, octet: u8) -> Result<MasterKey, Fail> {
 }
 
 /// A call that is keyed manually under the keys of these octets.
-fn manual(call: u32, suite: Suite, from_peer: u8, to_peer: u8) -> Result<Line, Fail> {
+fn manual(call: u32, suite: Suite, from_peer: u8, to_peer: u8) -> Result<Line, Fail>
+    ensures { IfOk result (λ line. IsOfManualCalls line) }
+{
     Ok(Line::Signal(Signal::Manual {
         call: CallId(call),
         secure: SECURE,
@@ -46,7 +51,9 @@ fn manual(call: u32, suite: Suite, from_peer: u8, to_peer: u8) -> Result<Line, F
     }))
 }
 
-fn datagram(alloc: Global, port: u16, from: Address, octets: &[u8]) -> Result<Line, Fail> {
+fn datagram(alloc: Global, port: u16, from: Address, octets: &[u8]) -> Result<Line, Fail>
+    ensures { IfOk result (λ line. IsOfManualCalls line) }
+{
     Ok(Line::Datagram {
         port,
         from,
@@ -121,7 +128,10 @@ struct Tables {
 
 impl Tables {
     /// Hands the line to both tables and compares the outcomes.
-    fn play(&mut self, rt: &impl Abort, alloc: Global, line: Line, same: Line) -> Result<(), Fail> {
+    fn play(&mut self, rt: &impl Abort, alloc: Global, line: Line, same: Line) -> Result<(), Fail>
+        requires line { IsOfManualCalls line }
+        requires same { IsOfManualCalls same }
+    {
         let told = text(alloc, &self.table.handle(alloc, line)?)?;
         let wanted = text(alloc, &self.reference.handle(alloc, same)?)?;
         if told.as_slice().first() == Some(&b'o') {

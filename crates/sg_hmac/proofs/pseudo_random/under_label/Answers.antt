@@ -1,5 +1,4 @@
-use Rattle.std.proofs.Common.{rules, ◌≡◌, ◌≤◌, ◌<◌, ◌+◌, ◌-◌, ◌/◌, ◌++◌, ℕ, List, length, ap, ◌∙◌, arith, replicate, sym, refl}
-use Rattle.std.specs.Int.{div_ceil}
+use Rattle.std.proofs.Common.{rules, ◌≡◌, ◌+◌, ◌-◌, ◌/◌, ◌++◌, length, ap, ◌∙◌, arith, replicate}
 use Rattle.sg_base.specs.Octets.{xor_octets}
 use Rattle.sg_hmac.specs.Prf.{blocks_of, expanded, mikey_prf, under_blocks}
 use Rattle.sg_hmac.proofs.PrfLemmas.{first_block, next_block, last_block, onto_length}

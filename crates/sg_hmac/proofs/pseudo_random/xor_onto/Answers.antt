@@ -1,4 +1,4 @@
-use Rattle.std.proofs.Common.{rules, ◌≤◌, ◌∙◌, ap, arith, length, take, ◌++◌, drop}
+use Rattle.std.proofs.Common.{rules, ◌≤◌, ◌∙◌, ap, arith, length, ◌++◌, drop}
 use Rattle.std.proofs.lemmas.List.{take_all, drop_all, append-nil}
 use Rattle.sg_base.specs.Octets.{xor_octets}
 use Rattle.sg_hmac.proofs.PrfLemmas.{one_more}

@@ -2,9 +2,9 @@ use Rattle.std.proofs.Common.{◌≡◌, ℕ, true, List, [], ◌∷◌, ◌++�
 use Rattle.std.proofs.lemmas.Bool.{or_left}
 use Rattle.std.proofs.lemmas.Option.{get_or_from_slice_get}
 use Rattle.sg_session.specs.Session.{indices_of}
-use Rattle.sg_srtp.specs.Placing.{placed}
-use Rattle.sg_srtp.specs.Streams.{IsStreamOf, StreamStands}
-use Rattle.sg_srtp.specs.StreamValues.{StreamValue}
+use Rattle.sg_states.specs.Placing.{placed}
+use Rattle.sg_states.specs.Streams.{IsStreamOf, StreamStands}
+use Rattle.sg_states.specs.StreamValues.{StreamValue}
 use Rattle.sg_media.specs.Answers.{entry_of}
 use Rattle.sg_media.specs.Standing.{AreOfKind, IsAt, StreamsStand, room_in}
 use Rattle.sg_media.proofs.OpeningSteps.{keyed_answer}

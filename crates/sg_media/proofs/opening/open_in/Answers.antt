@@ -2,9 +2,10 @@ use Rattle.std.proofs.Common.{◌≡◌, ℕ, ◌∷◌, [], ◌++◌, slice_get
 use Rattle.sg_base.specs.declared.faults.DropCause.{DropCause}
 use Rattle.sg_base.specs.declared.faults.DropCause.TheVariants.{StreamsFull}
 use Rattle.sg_keys.specs.Live.{spent}
-use Rattle.sg_srtp.specs.Inbound.{Keying, Placing, IsKeyOf, CanServe, IsVerified, IsUnverified, IsOpened}
-use Rattle.sg_srtp.specs.Placing.{placed}
-use Rattle.sg_srtp.specs.Streams.{IsOpenPlace, IsStreamOf, StreamStands}
+use Rattle.sg_states.specs.Inbound.{Keying, Placing, IsKeyOf, CanServe, IsVerified}
+use Rattle.sg_media.specs.States.{IsOpenedAs, IsUntagged}
+use Rattle.sg_states.specs.Placing.{placed}
+use Rattle.sg_states.specs.Streams.{IsOpenPlace, IsStreamOf, StreamStands}
 use Rattle.sg_media.proofs.OpeningSteps.{keyed_answer, unplaced, untagged, unroomed, opened_says}
 use Rattle.sg_media.proofs.opening.open_in.Goals as goal
 
@@ -22,7 +23,7 @@ pub returns-in-Err-verify-clause-back : goal.returns-in-Err-verify-clause-back
 returns-in-Err-verify-clause-back c =
     let same = c.in-Ok.ensures.open.0 in
     let at : slice_get c.args.keys.now c.in-Ok.placed.keyed.key ≡ Some c.requires.key.key = subst (λ (k : Keying). slice_get c.args.keys.now k.key ≡ Some c.requires.key.key) (sym same) c.requires.key.here in
-    let u : IsUnverified c.in-Ok.placed c.requires.key.key c.in-Err-verify.refused = c.in-Err-verify.ensures c.requires.key.key at in
+    let u : IsUntagged c.in-Ok.placed c.requires.key.key c.in-Err-verify.refused = c.in-Err-verify.ensures c.requires.key.key at in
     u.same ∙ ap (λ (k : Keying). k.headed.pad) same
 
 pub returns-then-not-room-clause-back : goal.returns-then-not-room-clause-back
@@ -37,7 +38,7 @@ returns-in-Err-verify-clause-answer c = λ ssrc roc window indices key s e.
     let r : Result ℕ DropCause = placed c.args.keyed.headed.kind roc window indices c.args.keyed.headed.head.number in
     let same = c.in-Ok.ensures.open.0 in
     let at : slice_get c.args.keys.now c.in-Ok.placed.keyed.key ≡ Some key = subst (λ (k : Keying). slice_get c.args.keys.now k.key ≡ Some key) (sym same) e in
-    let u : IsUnverified c.in-Ok.placed key c.in-Err-verify.refused = c.in-Err-verify.ensures key at in
+    let u : IsUntagged c.in-Ok.placed key c.in-Err-verify.refused = c.in-Err-verify.ensures key at in
     subst (λ (k : Keying). Err c.in-Err-verify.refused ≡ keyed_answer k key c.args.room r) same
     (untagged c.in-Ok.placed key c.args.room r c.in-Err-verify.refused (c.in-Ok.ensures.answer ssrc roc window indices s) u)
 
@@ -78,7 +79,7 @@ returns-clause-answer c = λ ssrc roc window indices key s e.
     let at : slice_get c.args.keys.now c.in-Ok.placed.keyed.key ≡ Some key = subst (λ (k : Keying). slice_get c.args.keys.now k.key ≡ Some key) (sym same) e in
     let v : IsVerified c.in-Ok.placed key c.in-Ok-verify.verified = c.in-Ok-verify.ensures key at in
     let at_v : slice_get c.args.keys.now c.in-Ok-verify.verified.keyed.key ≡ Some key = subst (λ (p : Placing). slice_get c.args.keys.now p.keyed.key ≡ Some key) (sym (v.same)) at in
-    let o : IsOpened c.in-Ok.placed key c.decrypt.result = subst (λ (p : Placing). IsOpened p key c.decrypt.result) v.same (c.decrypt.ensures.opened key at_v) in
+    let o : IsOpenedAs c.in-Ok.placed key c.decrypt.result = subst (λ (p : Placing). IsOpenedAs p key c.decrypt.result) v.same (c.decrypt.ensures.opened key at_v) in
     subst (λ (k : Keying). Ok c.decrypt.result ≡ keyed_answer k key c.args.room r) same
     (opened_says c.in-Ok.placed key c.args.room r c.decrypt.result (c.in-Ok.ensures.answer ssrc roc window indices s) v.fits c.if-not-room.false o)
 

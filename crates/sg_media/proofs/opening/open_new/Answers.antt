@@ -1,9 +1,9 @@
 use Rattle.std.proofs.Common.{◌≡◌, ℕ, List, false, not, ◌++◌, ◌∷◌, [], map, ap, subst, sym, ◌∙◌}
 use Rattle.sg_replay.specs.Freshness.{is_in}
 use Rattle.sg_session.specs.Session.{indices_of}
-use Rattle.sg_srtp.specs.Placing.{placed}
-use Rattle.sg_srtp.specs.Streams.{IsStreamOf, StreamStands}
-use Rattle.sg_srtp.specs.StreamValues.{StreamValue}
+use Rattle.sg_states.specs.Placing.{placed}
+use Rattle.sg_states.specs.Streams.{IsStreamOf, StreamStands}
+use Rattle.sg_states.specs.StreamValues.{StreamValue}
 use Rattle.sg_media.specs.Answers.{entry_of}
 use Rattle.sg_media.specs.Standing.{source_of, AreOfKind, StreamsStand}
 use Rattle.sg_media.proofs.OpeningSteps.{keyed_answer}

@@ -1,10 +1,10 @@
 use Rattle.std.proofs.Common.{◌≡◌, true, ◌++◌, ◌∷◌, [], ap, subst, sym, ◌∙◌}
 use Rattle.sg_keys.specs.Live.{spent, spent_if}
 use Rattle.sg_keys.proofs.Spending.{same_number}
-use Rattle.sg_srtp.specs.Outbound.{Outgoing, CanSeal}
-use Rattle.sg_srtp.specs.Parts.{is_tag_len}
-use Rattle.sg_srtp.specs.Placing.{next_index}
-use Rattle.sg_srtp.specs.Streams.{StreamStands}
+use Rattle.sg_states.specs.Outbound.{Outgoing, CanSeal}
+use Rattle.sg_states.specs.Parts.{is_tag_len}
+use Rattle.sg_states.specs.Placing.{next_index}
+use Rattle.sg_states.specs.Streams.{StreamStands}
 use Rattle.sg_media.proofs.SealingSteps.{at_spent, can_seal, seal_says, unsealed}
 use Rattle.sg_media.proofs.sealing.seal_in.Goals as goal
 

@@ -1,8 +1,8 @@
 use Rattle.std.proofs.Common.{◌≡◌, ℕ, List, false, ◌++◌, ◌∷◌, [], map, subst, sym, ap, ◌∙◌}
 use Rattle.sg_replay.specs.Freshness.{is_in}
 use Rattle.sg_session.specs.Session.{indices_of}
-use Rattle.sg_srtp.specs.Streams.{IsStreamOf, StreamStands}
-use Rattle.sg_srtp.specs.StreamValues.{StreamValue}
+use Rattle.sg_states.specs.Streams.{IsStreamOf, StreamStands}
+use Rattle.sg_states.specs.StreamValues.{StreamValue}
 use Rattle.sg_media.specs.Answers.{entry_out}
 use Rattle.sg_media.specs.Standing.{source_of, AreOfKind, StreamsStand}
 use Rattle.sg_media.proofs.Standing.{new_indices, new_stands, of_kind-push}

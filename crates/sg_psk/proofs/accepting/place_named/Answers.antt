@@ -1,4 +1,4 @@
-use Rattle.std.proofs.Common.{◌≡◌, ◌∷◌, [], ◌∙◌, ap, sym, subst}
+use Rattle.std.proofs.Common.{◌∷◌, ◌∙◌, ap, sym, subst}
 use Rattle.sg_psk.specs.Pairs.{IsAt, pair_named}
 use Rattle.sg_psk.proofs.accepting.place_named.Goals as goal
 

@@ -1,4 +1,4 @@
-use Rattle.std.proofs.Common.{◌≡◌, ◌≤◌, ◌^◌, ◌∙◌, ap, sym, subst, arith}
+use Rattle.std.proofs.Common.{◌∙◌, ap, sym, subst, arith}
 use Rattle.sg_psk.specs.Accepting.{initial_of, initial_under}
 use Rattle.sg_psk.specs.Pairs.{pair_named}
 use Rattle.sg_psk.specs.Parts.{names_in}

@@ -1,4 +1,4 @@
-use Rattle.std.proofs.Common.{◌<◌, ◌≤◌, arith}
+use Rattle.std.proofs.Common.{arith}
 use Rattle.sg_psk.specs.Accepting.{keys_in}
 use Rattle.sg_psk.proofs.AcceptLemmas.{keys_refused, keys_full, keys_taken}
 use Rattle.sg_psk.proofs.accepting.with_keys.Goals as goal

@@ -1,6 +1,5 @@
-use Rattle.std.proofs.Common.{◌≡◌, ◌*◌, ◌^◌, ◌∷◌, [], ◌++◌, ◌∙◌, ap, sym, arith, length, slice_index_or}
+use Rattle.std.proofs.Common.{◌≡◌, ◌*◌, ◌^◌, ◌∷◌, [], ◌++◌, ◌∙◌, ap, arith, length, slice_index_or}
 use Rattle.sg_base.specs.Octets.{number_of, xor_octets}
-use Rattle.sg_hmac.specs.Labels.{message_salt}
 use Rattle.sg_psk.proofs.Literals.{eight, fourteen, shifted}
 use Rattle.sg_psk.proofs.envelope.initial_value.Goals as goal
 

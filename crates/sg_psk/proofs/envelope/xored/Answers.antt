@@ -1,4 +1,4 @@
-use Rattle.std.proofs.Common.{◌<◌, ◌≤◌, length, arith}
+use Rattle.std.proofs.Common.{arith}
 use Rattle.sg_hmac.proofs.PrfLemmas.{one_more}
 use Rattle.sg_psk.proofs.envelope.xored.Goals as goal
 

@@ -1,4 +1,4 @@
-use Rattle.std.proofs.Common.{◌≡◌, ◌+◌, ◌-◌, ◌++◌, ◌∷◌, [], ◌∙◌, Ok, ap, sym, subst, arith, eq-eqb, length}
+use Rattle.std.proofs.Common.{◌≡◌, ◌+◌, ◌-◌, ◌++◌, ◌∷◌, [], ◌∙◌, Ok, ap, sym, subst, arith, eq-eqb}
 use Rattle.sg_base.specs.declared.faults.PskFault.TheVariants.{KeyType}
 use Rattle.sg_psk.specs.KeyData.{key_part, keys_at}
 use Rattle.sg_psk.specs.StandsFor.{Gives, or_fault}

@@ -1,4 +1,4 @@
-use Rattle.std.proofs.Common.{◌<◌, ◌≤◌, arith}
+use Rattle.std.proofs.Common.{arith}
 use Rattle.sg_psk.proofs.KeyLemmas.{spi_is, spi_wide}
 use Rattle.sg_psk.proofs.key_data.spi_of.Goals as goal
 

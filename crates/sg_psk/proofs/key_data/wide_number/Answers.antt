@@ -1,4 +1,4 @@
-use Rattle.std.proofs.Common.{◌<◌, ◌∙◌, ap, sym, arith}
+use Rattle.std.proofs.Common.{◌∙◌, ap, sym, arith}
 use Rattle.sg_base.specs.Octets.{number_from}
 use Rattle.sg_psk.proofs.KeyLemmas.{fits_still, no_octets}
 use Rattle.sg_psk.proofs.key_data.wide_number.Goals as goal

@@ -1,4 +1,4 @@
-use Rattle.std.proofs.Common.{◌≡◌, ◌∙◌, ap, sym, subst}
+use Rattle.std.proofs.Common.{◌∙◌, ap, sym, subst}
 use Rattle.sg_psk.specs.Pairs.{pair_with}
 use Rattle.sg_psk.specs.Sending.{sent_under}
 use Rattle.sg_psk.specs.StandsFor.{AreSent, Gives}

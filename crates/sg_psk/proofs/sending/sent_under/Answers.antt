@@ -1,4 +1,4 @@
-use Rattle.std.proofs.Common.{◌≡◌, ◌∙◌, ap}
+use Rattle.std.proofs.Common.{◌∙◌, ap}
 use Rattle.std.specs.Prelude.{slice_get}
 use Rattle.sg_psk.specs.Sending.{initial_octets}
 use Rattle.sg_psk.proofs.sending.sent_under.Goals as goal

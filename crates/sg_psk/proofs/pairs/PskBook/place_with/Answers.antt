@@ -1,4 +1,4 @@
-use Rattle.sg_psk.specs.Pairs.{is_of, is_with}
+use Rattle.sg_psk.specs.Pairs.{is_with}
 use Rattle.sg_psk.proofs.PairLemmas.{at_position}
 use Rattle.sg_psk.proofs.pairs.PskBook.place_with.Goals as goal
 

@@ -1,9 +1,15 @@
-use Rattle.std.proofs.Common.{◌≡◌, ◌++◌, ◌∷◌, [], ap, subst, ◌∙◌}
-use Rattle.sg_srtp.specs.Inbound.{Placing}
-use Rattle.sg_srtp.specs.Streams.{StreamStands}
+use Rattle.std.proofs.Common.{◌≡◌, ◌++◌, ◌∷◌, [], Some, slice_get, subst, sym}
+use Rattle.sg_states.specs.Inbound.{Placing, IsOpened}
+use Rattle.sg_states.specs.Streams.{StreamStands}
+use Rattle.sg_states.specs.StreamValues.{StreamValue}
 use Rattle.sg_srtp.proofs.inbound.Verified.decrypt.Goals as goal
+
+pub returns-clause-opened : goal.returns-clause-opened
+returns-clause-opened c = λ key here.
+    subst (λ (p : Placing). IsOpened p key c.args.encrypt c.decrypt.result) c.self.view_is
+    (c.decrypt.ensures.opened key (subst (λ (p : Placing). slice_get c.args.keys.now p.keyed.key ≡ Some key) (sym c.self.view_is) here))
 
 pub returns-clause-stream : goal.returns-clause-stream
 returns-clause-stream c = λ ssrc roc window indices s.
-    let same : c.placed.inside.index ≡ c.args.self.index = ap (λ (p : Placing). p.index) (c.placed.view_is ∙ c.self.view_is) in
-    subst (λ i. StreamStands c.take.new.self ssrc roc window (indices ++ i ∷ [])) same (c.take.ensures.stands ssrc roc window indices s)
+    subst (λ (p : Placing). StreamStands c.decrypt.new.stream ssrc roc window (indices ++ p.index ∷ [])) c.self.view_is
+    (c.decrypt.ensures.stream ssrc roc window indices (subst (λ (v : StreamValue). StreamStands v ssrc roc window indices) (sym c.stream.view_is) s))

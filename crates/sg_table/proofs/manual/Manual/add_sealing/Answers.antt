@@ -1,6 +1,6 @@
 use Rattle.std.proofs.Common.{◌∙◌, sym}
 use Rattle.sg_session.specs.declared.names.Direction.TheVariants.{Sealing}
-use Rattle.sg_gateway.specs.Generations.{owner_at}
+use Rattle.sg_agreement.specs.Generations.{owner_at}
 use Rattle.sg_table.proofs.ManualPaths.{added_one, added_two}
 use Rattle.sg_table.specs.Keying.{manual_call_of}
 use Rattle.sg_table.proofs.manual.Manual.add_sealing.Goals as goal

@@ -1,6 +1,6 @@
 use Rattle.std.proofs.Common.{Some, ◌∷◌, [], sym, subst}
-use Rattle.sg_gateway.specs.Generations.{sessions_from}
-use Rattle.sg_gateway.specs.Signals.{manual_medium}
+use Rattle.sg_agreement.specs.Generations.{sessions_from}
+use Rattle.sg_agreement.specs.Manual.{manual_medium}
 use Rattle.sg_table.proofs.ManualPaths.{all_paths}
 use Rattle.sg_table.specs.Keying.{manual_call_of}
 use Rattle.sg_table.specs.Standing.{EachStands, PathStandsFor}

@@ -1,0 +1,192 @@
+ghost use Rattle.std.specs.Prelude.{◌≡◌, ◌+◌, ◌%◌, ◌^◌};
+
+use crate::{Gate, Lane, OpenGate, drain_all};
+use std::sync::atomic::{AtomicBool, Ordering};
+use std::test::Fail;
+
+/// How often one who waits looks before it gives up.
+const LOADS: u64 = 1_000_000_000;
+
+/// Raises one's own flag, and looks for the other's until it is up or this was done `LOADS` times.
+fn meets(mine: &AtomicBool, other: &AtomicBool) -> bool {
+    mine.store(true, Ordering::SeqCst);
+    for _ in 0..LOADS {
+        if other.load(Ordering::SeqCst) {
+            return true;
+        }
+    }
+    false
+}
+
+/// A lane that counts how often it was drained.
+#[derive(Drop)]
+struct Counted {
+    times: u64,
+}
+
+impl Lane for Counted {
+    ghost drained = { λ old new. new.times ≡ (old.times + 1) % 2 ^ 64 };
+
+    fn drain(&mut self) {
+        self.times = self.times.wrapping_add(1);
+    }
+}
+
+/// A lane that waits in its `drain` until another lane is in its own.
+#[derive(Drop)]
+struct Waiting<'a> {
+    mine: &'a AtomicBool,
+    other: &'a AtomicBool,
+    met: bool,
+}
+
+impl<'a> Lane for Waiting<'a> {
+    ghost drained = { λ old new. Unit {0} };
+
+    fn drain(&mut self) {
+        self.met = meets(self.mine, self.other);
+    }
+}
+
+/// A gate at which the workers of the first two lanes wait for each other.
+#[derive(Drop)]
+struct Meeting {
+    arrived: [AtomicBool; 2],
+    met: [AtomicBool; 2],
+}
+
+impl Gate for Meeting {
+    fn enter(&self, lane: usize) {
+        if lane < 2 {
+            let met = meets(&self.arrived[lane], &self.arrived[1 - lane]);
+            self.met[lane].store(met, Ordering::SeqCst);
+        }
+    }
+}
+
+/// A gate that notes the places that it was entered with.
+#[derive(Drop)]
+struct Noting<'a>(&'a [AtomicBool]);
+
+impl<'a> Gate for Noting<'a> {
+    fn enter(&self, lane: usize) {
+        if let Some(flag) = self.0.get(lane) {
+            flag.store(true, Ordering::SeqCst);
+        }
+    }
+}
+
+/// A lane that tells whether the gate had been entered for it when it was drained.
+#[derive(Drop)]
+struct Guarded<'a> {
+    noted: &'a AtomicBool,
+    was_entered: bool,
+}
+
+impl<'a> Lane for Guarded<'a> {
+    ghost drained = { λ old new. Unit {0} };
+
+    fn drain(&mut self) {
+        self.was_entered = self.noted.load(Ordering::SeqCst);
+    }
+}
+
+/// So many lanes that weren't drained yet.
+fn undrained(rt: &HostRuntime, count: usize) -> Result<Vec<Counted>, Fail> {
+    let mut lanes = Vec::new(rt.alloc());
+    for _ in 0..count {
+        lanes.push(Counted { times: 0 })?;
+    }
+    Ok(lanes)
+}
+
+fn flags() -> [AtomicBool; 4] {
+    [
+        AtomicBool::new(false),
+        AtomicBool::new(false),
+        AtomicBool::new(false),
+        AtomicBool::new(false),
+    ]
+}
+
+#[test]
+fn each_lane_is_drained_once(rt: HostRuntime) -> Result<(), Fail> {
+    let rows = [
+        (0, 1),
+        (0, 16),
+        (1, 1),
+        (3, 1),
+        (7, 3),
+        (8, 4),
+        (5, 16),
+        (256, 2),
+    ];
+    for (count, workers) in rows {
+        let mut lanes = undrained(&rt, count)?;
+        drain_all(&rt, lanes.as_mut_slice(), workers, &OpenGate);
+        assert_eq!(rt; lanes.len(), count);
+        for lane in &lanes {
+            assert_eq!(rt; lane.times, 1);
+        }
+    }
+    Ok(())
+}
+
+#[test]
+fn two_lanes_meet(rt: HostRuntime) -> Result<(), Fail> {
+    let left = AtomicBool::new(false);
+    let right = AtomicBool::new(false);
+    let mut lanes = [
+        Waiting {
+            mine: &left,
+            other: &right,
+            met: false,
+        },
+        Waiting {
+            mine: &right,
+            other: &left,
+            met: false,
+        },
+    ];
+    drain_all(&rt, lanes.as_mut_slice(), 2, &OpenGate);
+    assert!(rt; lanes[0].met);
+    assert!(rt; lanes[1].met);
+    Ok(())
+}
+
+#[test]
+fn two_workers_meet_in_the_gate(rt: HostRuntime) -> Result<(), Fail> {
+    let gate = Meeting {
+        arrived: [AtomicBool::new(false), AtomicBool::new(false)],
+        met: [AtomicBool::new(false), AtomicBool::new(false)],
+    };
+    let mut lanes = undrained(&rt, 2)?;
+    drain_all(&rt, lanes.as_mut_slice(), 2, &gate);
+    assert!(rt; gate.met[0].load(Ordering::SeqCst));
+    assert!(rt; gate.met[1].load(Ordering::SeqCst));
+    Ok(())
+}
+
+#[test]
+fn the_gate_comes_before_each_lane(rt: HostRuntime) -> Result<(), Fail> {
+    for workers in [1, 2, 3, 9] {
+        let noted = flags();
+        let mut lanes = Vec::new(rt.alloc());
+        for flag in &noted {
+            lanes.push(Guarded {
+                noted: flag,
+                was_entered: false,
+            })?;
+        }
+        drain_all(
+            &rt,
+            lanes.as_mut_slice(),
+            workers,
+            &Noting(noted.as_slice()),
+        );
+        for lane in &lanes {
+            assert!(rt; lane.was_entered);
+        }
+    }
+    Ok(())
+}

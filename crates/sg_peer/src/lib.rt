@@ -1,0 +1,9 @@
+//! A peer of the gateway: it seals packets of one source under a key, and opens what comes back under it.
+#![tactic(auto)]
+
+mod peer;
+#[cfg(test)]
+mod tests;
+
+pub use peer::Peer;
+pub use sg_media::{Opened, Sealed};

@@ -1,0 +1,215 @@
+//! Opening an SRTCP datagram, state by state: nothing unverified is decrypted, marked or counted.
+//!
+//! Each refusal hands back the pad with the octets that it came with, and the fault.
+
+ghost use Rattle.std.specs.Prelude.{◌≡◌, ℕ, ◌≤◌, MatchResult, false, Err, Some, slice_get};
+ghost use Rattle.sg_base.specs.declared.addresses.Kind.TheVariants as kind;
+ghost use Rattle.sg_keys.specs.Live.{Live, spent};
+ghost use Rattle.sg_session.specs.Opening.{head_cause};
+ghost use Rattle.sg_states.specs.Choosing.{chosen_for, key_cause};
+ghost use Rattle.sg_states.specs.Faults.{stale_cause};
+ghost use Rattle.sg_states.specs.Inbound.{IsHeaded, IsKeyed, IsKeyOf, IsPlacedAs, IsVerified, IsUnverified, CanServe, IsOpened};
+ghost use Rattle.sg_states.specs.Parts.{heading, mki_of};
+ghost use Rattle.sg_states.specs.Placing.{placed};
+ghost use Rattle.sg_states.specs.Streams.{ForIndicesOf, IsOpenPlace, TakesIn};
+
+use crate::stream::RtcpStream;
+use sg_base::{HeadFault, Kind, Pad, RTCP_TAG};
+use sg_keys::{KeySet, OpenKeyFault};
+pub use sg_states::inbound::Opened;
+use sg_states::{BadTag, Stale, inbound as states};
+use std::marker::Model;
+
+/// A datagram that arrived, seen as its octets.
+#[derive(Drop)]
+pub struct Arrived {
+    pad: Pad,
+}
+
+impl Model for Arrived {
+    ghost use Rattle.std.specs.Prelude.{ℕ, List};
+
+    ghost Value = { List ℕ };
+
+    ghost view = { λ a. a.pad };
+}
+
+/// A datagram whose head is read.
+#[derive(Drop)]
+pub struct Headed {
+    headed: states::Headed,
+}
+
+impl Model for Headed {
+    ghost use Rattle.std.specs.Prelude.{◌≡◌};
+    ghost use Rattle.sg_base.specs.declared.addresses.Kind.TheVariants as kind;
+    ghost use Rattle.sg_states.specs.Inbound.{Heading};
+
+    ghost Value = { Heading };
+
+    ghost view = { λ h. h.headed };
+
+    ghost invariant = { λ h. h.headed.kind ≡ kind.Rtcp };
+}
+
+/// A datagram whose key is chosen.
+#[derive(Drop)]
+pub struct Keyed {
+    keyed: states::Keyed,
+}
+
+impl Model for Keyed {
+    ghost use Rattle.std.specs.Prelude.{◌≡◌};
+    ghost use Rattle.sg_base.specs.declared.addresses.Kind.TheVariants as kind;
+    ghost use Rattle.sg_states.specs.Inbound.{Keying};
+
+    ghost Value = { Keying };
+
+    ghost view = { λ k. k.keyed };
+
+    ghost invariant = { λ k. k.keyed.headed.kind ≡ kind.Rtcp };
+}
+
+/// A datagram whose index is found, and is new in its stream.
+#[derive(Drop)]
+pub struct Placed {
+    placed: states::Placed,
+}
+
+impl Model for Placed {
+    ghost use Rattle.std.specs.Prelude.{◌≡◌, ◌<◌};
+    ghost use Rattle.sg_base.specs.declared.addresses.Kind.TheVariants as kind;
+    ghost use Rattle.sg_states.specs.Inbound.{Placing};
+
+    ghost Value = { Placing };
+
+    ghost view = { λ p. p.placed };
+
+    ghost invariant = { λ p. (p.placed.keyed.headed.kind ≡ kind.Rtcp) × (p.placed.index < 2147483648) };
+}
+
+/// A datagram whose tag fits.
+#[derive(Drop)]
+pub struct Verified {
+    verified: states::Verified,
+}
+
+impl Model for Verified {
+    ghost use Rattle.std.specs.Prelude.{◌≡◌, ◌<◌};
+    ghost use Rattle.sg_base.specs.declared.addresses.Kind.TheVariants as kind;
+    ghost use Rattle.sg_states.specs.Inbound.{Placing};
+
+    ghost Value = { Placing };
+
+    ghost view = { λ v. v.verified };
+
+    ghost invariant = { λ v. (v.verified.keyed.headed.kind ≡ kind.Rtcp) × (v.verified.index < 2147483648) };
+}
+
+impl Arrived {
+    /// A datagram in its pad.
+    pub fn make(pad: Pad) -> Arrived
+        ensures { result ≡ pad }
+    {
+        Arrived { pad }
+    }
+
+    /// Reads the head of a datagram that ends in an index word, an MKI of at most 128 octets and a tag of ten.
+    pub fn head(self, mki_len: usize) -> Result<Headed, (Pad, HeadFault)>
+        requires { mki_len ≤ 128 }
+        ensures { MatchResult result (IsHeaded self kind.Rtcp mki_len 10)
+            (λ e. (e.0 ≡ self) × (heading kind.Rtcp false mki_len 10 self ≡ Err (head_cause e.1))) }
+    {
+        match states::Headed::read(Kind::Rtcp, mki_len, RTCP_TAG, self.pad) {
+            Ok(headed) => Ok(Headed { headed }),
+            Err(refused) => Err(refused),
+        }
+    }
+}
+
+impl Headed {
+    /// The source.
+    pub fn ssrc(&self) -> u32
+        ensures { result ≡ self.now.head.ssrc }
+    {
+        self.headed.ssrc()
+    }
+
+    /// The pad, as it came.
+    pub fn refuse(self) -> Pad
+        ensures { result ≡ self.pad }
+    {
+        self.headed.refuse()
+    }
+
+    /// Chooses the key by the MKI, where it may serve a packet more.
+    pub fn key(self, keys: &KeySet) -> Result<Keyed, (Pad, OpenKeyFault)>
+        ensures { MatchResult result (IsKeyed self keys.now)
+            (λ e. (e.0 ≡ self.pad) × (chosen_for keys.now (mki_of self.mki_len self.tag_len self.pad) ≡ Err (key_cause e.1))) }
+    {
+        match self.headed.key(keys) {
+            Ok(keyed) => Ok(Keyed { keyed }),
+            Err(refused) => Err(refused),
+        }
+    }
+}
+
+impl Keyed {
+    /// The source.
+    pub fn ssrc(&self) -> u32
+        ensures { result ≡ self.now.headed.head.ssrc }
+    {
+        self.keyed.ssrc()
+    }
+
+    /// Compares the index that the datagram carries with the stream of its source, which is only read (RFC
+    /// 3711, 3.3.2).
+    pub fn place(self, stream: &RtcpStream) -> Result<Placed, (Pad, Stale)>
+        requires { stream.now.ssrc ≡ self.headed.head.ssrc }
+        ensures open { MatchResult result (λ p. (p.keyed ≡ self) × IsOpenPlace stream.now p.index) (λ e. e.0 ≡ self.headed.pad) }
+        ensures answer { ForIndicesOf stream.now (λ roc window indices. IsPlacedAs stale_cause (placed kind.Rtcp roc window indices self.headed.head.number) result) }
+    {
+        match self.keyed.place_carried(&stream.stream) {
+            Ok(placed) => Ok(Placed { placed }),
+            Err(refused) => Err(refused),
+        }
+    }
+}
+
+impl Placed {
+    /// Compares the tag under the chosen key, among the keys that it was chosen among.
+    pub fn verify(self, keys: &KeySet) -> Result<Verified, (Pad, BadTag)>
+        requires { IsKeyOf keys.now self.keyed.key self.keyed.number }
+        ensures { (key : Live) → slice_get keys.now self.keyed.key ≡ Some key → MatchResult result (IsVerified self key) (λ e. IsUnverified self key e.0) }
+    {
+        match self.placed.verify(keys) {
+            Ok(verified) => Ok(Verified { verified }),
+            Err(refused) => Err(refused),
+        }
+    }
+}
+
+impl Verified {
+    /// The pad, as it came.
+    pub fn refuse(self) -> Pad
+        ensures { result ≡ self.keyed.headed.pad }
+    {
+        self.verified.refuse()
+    }
+
+    /// Takes the keystream off where the datagram's own E says so, marks the index and counts the packet
+    /// under its key. The stream and the keys are those that the datagram was placed and verified with, and
+    /// the key has a cipher's key where E is 1.
+    pub fn decrypt(self, stream: &mut RtcpStream, keys: &mut KeySet) -> Opened
+        requires source { stream.old.ssrc ≡ self.keyed.headed.head.ssrc }
+        requires open { IsOpenPlace stream.old self.index }
+        requires key { CanServe keys.old self.keyed.key self.keyed.number self.keyed.headed.head.encrypted }
+        ensures opened { (key : Live) → slice_get keys.old self.keyed.key ≡ Some key → IsOpened self key self.keyed.headed.head.encrypted result }
+        ensures of { (stream.new.kind ≡ stream.old.kind) × (stream.new.ssrc ≡ stream.old.ssrc) }
+        ensures stream { TakesIn stream.old stream.new self.index }
+        ensures keys { (key : Live) → slice_get keys.old self.keyed.key ≡ Some key → keys.new ≡ spent key.number keys.old }
+    {
+        let encrypted = self.verified.encrypted();
+        self.verified.decrypt(&mut stream.stream, keys, encrypted)
+    }
+}

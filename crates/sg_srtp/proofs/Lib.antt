@@ -1,6 +1,0 @@
-pub mod Alive
-pub mod OpeningLaw
-pub mod Placings
-pub mod SealingLaw
-pub mod Tags
-pub mod Words

@@ -1,9 +1,0 @@
-pub mod Choosing
-pub mod Heads
-pub mod Inbound
-pub mod Outbound
-pub mod Parts
-pub mod Placing
-pub mod Steps
-pub mod Streams
-pub mod StreamValues

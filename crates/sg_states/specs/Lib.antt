@@ -1,0 +1,10 @@
+pub mod Choosing
+pub mod Faults
+pub mod Heads
+pub mod Inbound
+pub mod Outbound
+pub mod Parts
+pub mod Placing
+pub mod Steps
+pub mod Streams
+pub mod StreamValues

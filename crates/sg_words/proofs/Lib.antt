@@ -1,0 +1,5 @@
+mod Among
+mod Complete
+mod Rows
+mod Shapes
+mod Sound

@@ -1,0 +1,282 @@
+-- What clap takes and finds of each way to write a command, whatever its numbers are.
+use Rattle.std.proofs.Common.{◌≡◌, ◌⊎◌, ◌∙◌, ◌<◌, Bool, List, [], ◌∷◌, ◌++◌, codes, refl, sym, ap, subst, arith, inl, inr, true, false, Option, Some, None, take, length}
+use Rattle.std.specs.Str.{bytes_eq}
+use Rattle.std.proofs.lemmas.Slice.Eq.{bytes_eq-Decides}
+use Rattle.clap.specs.Words.{Kinds, fault_of}
+use Rattle.clap.specs.Lexer.{long_of, short_of}
+use Rattle.clap.proofs.OnLiterals.{clap_on_literals}
+use Rattle.sg_base.specs.Fields.{Lacks}
+use Rattle.sg_words.specs.Commands.{IsOneOf, Text, Words, ended, with_option}
+use Rattle.sg_words.specs.Grammar.{srtpgw}
+use Rattle.sg_words.specs.Reading.{are_ended, have_option, text_in}
+
+-- a word that is no option and not the lone `--`
+pub record IsValue (w : Text) : Type 0 where
+  pub end : bytes_eq w (45 ∷ 45 ∷ []) ≡ false
+  pub long : long_of w ≡ None
+  pub short : short_of w ≡ None
+  pub itself : bytes_eq w w ≡ true
+  pub apart : bytes_eq w (codes "--workers") ≡ false
+  pub joined : bytes_eq (take 10 w) (codes "--workers=") ≡ false
+
+-- a word that doesn't begin with a hyphen
+pub value_of : (w : Text) → 0 < length w → Lacks 45 w → IsValue w
+value_of [] some lacks = absurd (omega (arith, some))
+value_of (d ∷ ds) some lacks = record {
+  end = rw (lacks.0) refl;
+  long = rw (lacks.0) refl;
+  short = rw (lacks.0) refl;
+  itself = (bytes_eq-Decides (d ∷ ds) (d ∷ ds)).1 refl;
+  apart = rw (lacks.0) refl;
+  joined = rw (lacks.0) refl;
+}
+
+-- the words are these texts, with that option's value among them where there is one
+abbrev pub are_written : Words → Words → Text → Option Text → Bool
+are_written words texts option None = are_ended words texts
+are_written words texts option (Some value) = have_option words option value texts
+
+-- what is seen in the words of a command with one option: the faults, the option's text, and whether the words are
+-- a way to write it
+abbrev pub Seen : Type 0
+Seen = Kinds × Option Text × Bool
+
+abbrev pub replay_seen : Option Text → Words → Seen
+replay_seen o rest = (fault_of srtpgw (codes "replay" ∷ rest), text_in (codes "workers") (codes "replay" ∷ rest), are_written rest [] (codes "--workers") o)
+
+abbrev pub relay_seen : Option Text → Words → Seen
+relay_seen o rest = (fault_of srtpgw (codes "relay" ∷ rest), text_in (codes "turns") (codes "relay" ∷ rest), are_written rest [] (codes "--turns") o)
+
+-- and in those of a demonstration: its two numbers are found too
+pub record IsDemoSeen (c s : Text) (o : Option Text) (rest : Words) : Type 0 where
+  pub fault : fault_of srtpgw (codes "demo" ∷ rest) ≡ []
+  pub calls : text_in (codes "calls") (codes "demo" ∷ rest) ≡ Some c
+  pub start : text_in (codes "start") (codes "demo" ∷ rest) ≡ Some s
+  pub workers : text_in (codes "workers") (codes "demo" ∷ rest) ≡ o
+  pub written : are_written rest (c ∷ s ∷ []) (codes "--workers") o ≡ true
+
+-- clap takes each way to write `replay` with its option, and finds its value
+pub replay_with : (v : Text) → IsValue v → (rest : Words) (others : List Words) → IsOneOf rest (with_option (codes "--workers") v [] ++ others)
+    → (replay_seen (Some v) rest ≡ ([], Some v, true)) ⊎ IsOneOf rest others
+unfolding clap_on_literals
+replay_with v iv rest others (inl e) =
+    inl (ap (replay_seen (Some v)) e ∙ (rw (iv.itself) refl))
+replay_with v iv rest others (inr (inl e)) =
+    inl (ap (replay_seen (Some v)) e ∙ (rw (iv.itself) refl))
+replay_with v iv rest others (inr (inr (inl e))) =
+    inl (ap (replay_seen (Some v)) e ∙ (rw (iv.end, iv.long, iv.short, iv.itself) refl))
+replay_with v iv rest others (inr (inr (inr (inl e)))) =
+    inl (ap (replay_seen (Some v)) e ∙ (rw (iv.end, iv.long, iv.short, iv.itself) refl))
+replay_with v iv rest others (inr (inr (inr (inr o)))) = inr o
+
+-- and each way without it
+pub replay_without : (rest : Words) (others : List Words) → IsOneOf rest (ended [] ++ others)
+    → (replay_seen None rest ≡ ([], None, true)) ⊎ IsOneOf rest others
+unfolding clap_on_literals
+replay_without rest others (inl e) =
+    inl (ap (replay_seen None) e ∙ refl)
+replay_without rest others (inr (inl e)) =
+    inl (ap (replay_seen None) e ∙ refl)
+replay_without rest others (inr (inr o)) = inr o
+
+-- the same of `relay`
+pub relay_with : (v : Text) → IsValue v → (rest : Words) (others : List Words) → IsOneOf rest (with_option (codes "--turns") v [] ++ others)
+    → (relay_seen (Some v) rest ≡ ([], Some v, true)) ⊎ IsOneOf rest others
+unfolding clap_on_literals
+relay_with v iv rest others (inl e) =
+    inl (ap (relay_seen (Some v)) e ∙ (rw (iv.itself) refl))
+relay_with v iv rest others (inr (inl e)) =
+    inl (ap (relay_seen (Some v)) e ∙ (rw (iv.itself) refl))
+relay_with v iv rest others (inr (inr (inl e))) =
+    inl (ap (relay_seen (Some v)) e ∙ (rw (iv.end, iv.long, iv.short, iv.itself) refl))
+relay_with v iv rest others (inr (inr (inr (inl e)))) =
+    inl (ap (relay_seen (Some v)) e ∙ (rw (iv.end, iv.long, iv.short, iv.itself) refl))
+relay_with v iv rest others (inr (inr (inr (inr o)))) = inr o
+
+-- the same of `demo` with its option: both numbers are found too
+pub demo_with : (c s v : Text) → IsValue c → IsValue s → IsValue v → (rest : Words) (others : List Words) → IsOneOf rest (with_option (codes "--workers") v (c ∷ s ∷ []) ++ others)
+    → IsDemoSeen c s (Some v) rest ⊎ IsOneOf rest others
+unfolding clap_on_literals
+demo_with c s v ic is iv rest others (inl e) =
+    inl (subst (IsDemoSeen c s (Some v)) (sym e) (record {
+      fault = rw (ic.end, ic.long, ic.short, is.end, is.long, is.short) refl;
+      calls = rw (ic.end, ic.long, ic.short, is.end, is.long, is.short) refl;
+      start = rw (ic.end, ic.long, ic.short, is.end, is.long, is.short) refl;
+      workers = rw (ic.end, ic.long, ic.short, is.end, is.long, is.short) refl;
+      written = rw (iv.itself, ic.end, ic.itself, is.end, is.itself) refl;
+    }))
+demo_with c s v ic is iv rest others (inr (inl e)) =
+    inl (subst (IsDemoSeen c s (Some v)) (sym e) (record {
+      fault = refl;
+      calls = refl;
+      start = refl;
+      workers = refl;
+      written = rw (iv.itself, ic.itself, is.itself) refl;
+    }))
+demo_with c s v ic is iv rest others (inr (inr (inl e))) =
+    inl (subst (IsDemoSeen c s (Some v)) (sym e) (record {
+      fault = rw (ic.end, ic.long, ic.short) refl;
+      calls = rw (ic.end, ic.long, ic.short) refl;
+      start = rw (ic.end, ic.long, ic.short) refl;
+      workers = rw (ic.end, ic.long, ic.short) refl;
+      written = rw (iv.itself, ic.end, ic.itself, is.itself) refl;
+    }))
+demo_with c s v ic is iv rest others (inr (inr (inr (inl e)))) =
+    inl (subst (IsDemoSeen c s (Some v)) (sym e) (record {
+      fault = rw (ic.end, ic.long, ic.short, is.end, is.long, is.short) refl;
+      calls = rw (ic.end, ic.long, ic.short, is.end, is.long, is.short) refl;
+      start = rw (ic.end, ic.long, ic.short, is.end, is.long, is.short) refl;
+      workers = rw (ic.end, ic.long, ic.short, is.end, is.long, is.short) refl;
+      written = rw (iv.itself, ic.end, ic.itself, is.end, is.itself) refl;
+    }))
+demo_with c s v ic is iv rest others (inr (inr (inr (inr (inl e))))) =
+    inl (subst (IsDemoSeen c s (Some v)) (sym e) (record {
+      fault = rw (iv.end, iv.long, iv.short, ic.end, ic.long, ic.short, is.end, is.long, is.short) refl;
+      calls = rw (iv.end, iv.long, iv.short, ic.end, ic.long, ic.short, is.end, is.long, is.short) refl;
+      start = rw (iv.end, iv.long, iv.short, ic.end, ic.long, ic.short, is.end, is.long, is.short) refl;
+      workers = rw (iv.end, iv.long, iv.short, ic.end, ic.long, ic.short, is.end, is.long, is.short) refl;
+      written = rw (iv.itself, ic.end, ic.itself, is.end, is.itself) refl;
+    }))
+demo_with c s v ic is iv rest others (inr (inr (inr (inr (inr (inl e)))))) =
+    inl (subst (IsDemoSeen c s (Some v)) (sym e) (record {
+      fault = rw (iv.end, iv.long, iv.short) refl;
+      calls = rw (iv.end, iv.long, iv.short) refl;
+      start = rw (iv.end, iv.long, iv.short) refl;
+      workers = rw (iv.end, iv.long, iv.short) refl;
+      written = rw (iv.itself, ic.itself, is.itself) refl;
+    }))
+demo_with c s v ic is iv rest others (inr (inr (inr (inr (inr (inr (inl e))))))) =
+    inl (subst (IsDemoSeen c s (Some v)) (sym e) (record {
+      fault = rw (iv.end, iv.long, iv.short, ic.end, ic.long, ic.short) refl;
+      calls = rw (iv.end, iv.long, iv.short, ic.end, ic.long, ic.short) refl;
+      start = rw (iv.end, iv.long, iv.short, ic.end, ic.long, ic.short) refl;
+      workers = rw (iv.end, iv.long, iv.short, ic.end, ic.long, ic.short) refl;
+      written = rw (iv.itself, ic.end, ic.itself, is.itself) refl;
+    }))
+demo_with c s v ic is iv rest others (inr (inr (inr (inr (inr (inr (inr (inl e)))))))) =
+    inl (subst (IsDemoSeen c s (Some v)) (sym e) (record {
+      fault = rw (iv.end, iv.long, iv.short, ic.end, ic.long, ic.short, is.end, is.long, is.short) refl;
+      calls = rw (iv.end, iv.long, iv.short, ic.end, ic.long, ic.short, is.end, is.long, is.short) refl;
+      start = rw (iv.end, iv.long, iv.short, ic.end, ic.long, ic.short, is.end, is.long, is.short) refl;
+      workers = rw (iv.end, iv.long, iv.short, ic.end, ic.long, ic.short, is.end, is.long, is.short) refl;
+      written = rw (iv.itself, ic.end, ic.itself, is.end, is.itself) refl;
+    }))
+demo_with c s v ic is iv rest others (inr (inr (inr (inr (inr (inr (inr (inr (inl e))))))))) =
+    inl (subst (IsDemoSeen c s (Some v)) (sym e) (record {
+      fault = rw (ic.end, ic.long, ic.short, is.end, is.long, is.short) refl;
+      calls = rw (ic.end, ic.long, ic.short, is.end, is.long, is.short) refl;
+      start = rw (ic.end, ic.long, ic.short, is.end, is.long, is.short) refl;
+      workers = rw (ic.end, ic.long, ic.short, is.end, is.long, is.short) refl;
+      written = rw (ic.joined, ic.apart, ic.itself, iv.itself, is.end, is.itself) refl;
+    }))
+demo_with c s v ic is iv rest others (inr (inr (inr (inr (inr (inr (inr (inr (inr (inl e)))))))))) =
+    inl (subst (IsDemoSeen c s (Some v)) (sym e) (record {
+      fault = rw (ic.end, ic.long, ic.short) refl;
+      calls = rw (ic.end, ic.long, ic.short) refl;
+      start = rw (ic.end, ic.long, ic.short) refl;
+      workers = rw (ic.end, ic.long, ic.short) refl;
+      written = rw (ic.joined, ic.apart, ic.itself, iv.itself, is.itself) refl;
+    }))
+demo_with c s v ic is iv rest others (inr (inr (inr (inr (inr (inr (inr (inr (inr (inr (inl e))))))))))) =
+    inl (subst (IsDemoSeen c s (Some v)) (sym e) (record {
+      fault = rw (ic.end, ic.long, ic.short, is.end, is.long, is.short) refl;
+      calls = rw (ic.end, ic.long, ic.short, is.end, is.long, is.short) refl;
+      start = rw (ic.end, ic.long, ic.short, is.end, is.long, is.short) refl;
+      workers = rw (ic.end, ic.long, ic.short, is.end, is.long, is.short) refl;
+      written = rw (ic.joined, ic.apart, ic.itself, iv.itself, is.end, is.itself) refl;
+    }))
+demo_with c s v ic is iv rest others (inr (inr (inr (inr (inr (inr (inr (inr (inr (inr (inr (inl e)))))))))))) =
+    inl (subst (IsDemoSeen c s (Some v)) (sym e) (record {
+      fault = rw (ic.end, ic.long, ic.short, iv.end, iv.long, iv.short, is.end, is.long, is.short) refl;
+      calls = rw (ic.end, ic.long, ic.short, iv.end, iv.long, iv.short, is.end, is.long, is.short) refl;
+      start = rw (ic.end, ic.long, ic.short, iv.end, iv.long, iv.short, is.end, is.long, is.short) refl;
+      workers = rw (ic.end, ic.long, ic.short, iv.end, iv.long, iv.short, is.end, is.long, is.short) refl;
+      written = rw (ic.joined, ic.apart, ic.itself, iv.itself, is.end, is.itself) refl;
+    }))
+demo_with c s v ic is iv rest others (inr (inr (inr (inr (inr (inr (inr (inr (inr (inr (inr (inr (inl e))))))))))))) =
+    inl (subst (IsDemoSeen c s (Some v)) (sym e) (record {
+      fault = rw (ic.end, ic.long, ic.short, iv.end, iv.long, iv.short) refl;
+      calls = rw (ic.end, ic.long, ic.short, iv.end, iv.long, iv.short) refl;
+      start = rw (ic.end, ic.long, ic.short, iv.end, iv.long, iv.short) refl;
+      workers = rw (ic.end, ic.long, ic.short, iv.end, iv.long, iv.short) refl;
+      written = rw (ic.joined, ic.apart, ic.itself, iv.itself, is.itself) refl;
+    }))
+demo_with c s v ic is iv rest others (inr (inr (inr (inr (inr (inr (inr (inr (inr (inr (inr (inr (inr (inl e)))))))))))))) =
+    inl (subst (IsDemoSeen c s (Some v)) (sym e) (record {
+      fault = rw (ic.end, ic.long, ic.short, iv.end, iv.long, iv.short, is.end, is.long, is.short) refl;
+      calls = rw (ic.end, ic.long, ic.short, iv.end, iv.long, iv.short, is.end, is.long, is.short) refl;
+      start = rw (ic.end, ic.long, ic.short, iv.end, iv.long, iv.short, is.end, is.long, is.short) refl;
+      workers = rw (ic.end, ic.long, ic.short, iv.end, iv.long, iv.short, is.end, is.long, is.short) refl;
+      written = rw (ic.joined, ic.apart, ic.itself, iv.itself, is.end, is.itself) refl;
+    }))
+demo_with c s v ic is iv rest others (inr (inr (inr (inr (inr (inr (inr (inr (inr (inr (inr (inr (inr (inr (inl e))))))))))))))) =
+    inl (subst (IsDemoSeen c s (Some v)) (sym e) (record {
+      fault = rw (ic.end, ic.long, ic.short, is.end, is.long, is.short) refl;
+      calls = rw (ic.end, ic.long, ic.short, is.end, is.long, is.short) refl;
+      start = rw (ic.end, ic.long, ic.short, is.end, is.long, is.short) refl;
+      workers = rw (ic.end, ic.long, ic.short, is.end, is.long, is.short) refl;
+      written = rw (ic.joined, ic.apart, ic.itself, is.joined, is.apart, is.itself, iv.itself) refl;
+    }))
+demo_with c s v ic is iv rest others (inr (inr (inr (inr (inr (inr (inr (inr (inr (inr (inr (inr (inr (inr (inr (inl e)))))))))))))))) =
+    inl (subst (IsDemoSeen c s (Some v)) (sym e) (record {
+      fault = rw (ic.end, ic.long, ic.short, is.end, is.long, is.short) refl;
+      calls = rw (ic.end, ic.long, ic.short, is.end, is.long, is.short) refl;
+      start = rw (ic.end, ic.long, ic.short, is.end, is.long, is.short) refl;
+      workers = rw (ic.end, ic.long, ic.short, is.end, is.long, is.short) refl;
+      written = rw (ic.joined, ic.apart, ic.itself, is.joined, is.apart, is.itself, iv.itself) refl;
+    }))
+demo_with c s v ic is iv rest others (inr (inr (inr (inr (inr (inr (inr (inr (inr (inr (inr (inr (inr (inr (inr (inr (inl e))))))))))))))))) =
+    inl (subst (IsDemoSeen c s (Some v)) (sym e) (record {
+      fault = rw (ic.end, ic.long, ic.short, is.end, is.long, is.short, iv.end, iv.long, iv.short) refl;
+      calls = rw (ic.end, ic.long, ic.short, is.end, is.long, is.short, iv.end, iv.long, iv.short) refl;
+      start = rw (ic.end, ic.long, ic.short, is.end, is.long, is.short, iv.end, iv.long, iv.short) refl;
+      workers = rw (ic.end, ic.long, ic.short, is.end, is.long, is.short, iv.end, iv.long, iv.short) refl;
+      written = rw (ic.joined, ic.apart, ic.itself, is.joined, is.apart, is.itself, iv.itself) refl;
+    }))
+demo_with c s v ic is iv rest others (inr (inr (inr (inr (inr (inr (inr (inr (inr (inr (inr (inr (inr (inr (inr (inr (inr (inl e)))))))))))))))))) =
+    inl (subst (IsDemoSeen c s (Some v)) (sym e) (record {
+      fault = rw (ic.end, ic.long, ic.short, is.end, is.long, is.short, iv.end, iv.long, iv.short) refl;
+      calls = rw (ic.end, ic.long, ic.short, is.end, is.long, is.short, iv.end, iv.long, iv.short) refl;
+      start = rw (ic.end, ic.long, ic.short, is.end, is.long, is.short, iv.end, iv.long, iv.short) refl;
+      workers = rw (ic.end, ic.long, ic.short, is.end, is.long, is.short, iv.end, iv.long, iv.short) refl;
+      written = rw (ic.joined, ic.apart, ic.itself, is.joined, is.apart, is.itself, iv.itself) refl;
+    }))
+demo_with c s v ic is iv rest others (inr (inr (inr (inr (inr (inr (inr (inr (inr (inr (inr (inr (inr (inr (inr (inr (inr (inr o)))))))))))))))))) = inr o
+
+-- and without it
+pub demo_without : (c s : Text) → IsValue c → IsValue s → (rest : Words) (others : List Words) → IsOneOf rest (ended (c ∷ s ∷ []) ++ others)
+    → IsDemoSeen c s None rest ⊎ IsOneOf rest others
+unfolding clap_on_literals
+demo_without c s ic is rest others (inl e) =
+    inl (subst (IsDemoSeen c s None) (sym e) (record {
+      fault = rw (ic.end, ic.long, ic.short, is.end, is.long, is.short) refl;
+      calls = rw (ic.end, ic.long, ic.short, is.end, is.long, is.short) refl;
+      start = rw (ic.end, ic.long, ic.short, is.end, is.long, is.short) refl;
+      workers = rw (ic.end, ic.long, ic.short, is.end, is.long, is.short) refl;
+      written = rw (ic.end, ic.itself, is.end, is.itself) refl;
+    }))
+demo_without c s ic is rest others (inr (inl e)) =
+    inl (subst (IsDemoSeen c s None) (sym e) (record {
+      fault = refl;
+      calls = refl;
+      start = refl;
+      workers = refl;
+      written = rw (ic.itself, is.itself) refl;
+    }))
+demo_without c s ic is rest others (inr (inr (inl e))) =
+    inl (subst (IsDemoSeen c s None) (sym e) (record {
+      fault = rw (ic.end, ic.long, ic.short) refl;
+      calls = rw (ic.end, ic.long, ic.short) refl;
+      start = rw (ic.end, ic.long, ic.short) refl;
+      workers = rw (ic.end, ic.long, ic.short) refl;
+      written = rw (ic.end, ic.itself, is.itself) refl;
+    }))
+demo_without c s ic is rest others (inr (inr (inr (inl e)))) =
+    inl (subst (IsDemoSeen c s None) (sym e) (record {
+      fault = rw (ic.end, ic.long, ic.short, is.end, is.long, is.short) refl;
+      calls = rw (ic.end, ic.long, ic.short, is.end, is.long, is.short) refl;
+      start = rw (ic.end, ic.long, ic.short, is.end, is.long, is.short) refl;
+      workers = rw (ic.end, ic.long, ic.short, is.end, is.long, is.short) refl;
+      written = rw (ic.end, ic.itself, is.end, is.itself) refl;
+    }))
+demo_without c s ic is rest others (inr (inr (inr (inr o)))) = inr o

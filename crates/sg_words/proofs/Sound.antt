@@ -1,0 +1,219 @@
+-- What is read is a command that the words are.
+use Rattle.std.proofs.Common.{◌≡◌, ◌≤◌, ◌==◌, ℕ, Bool, true, false, cond, List, [], ◌∷◌, ◌++◌, codes, map, Option, Some, None, refl, sym, ap, ap₂, ◌∙◌, subst, inl, inr, arith, take, drop, length, take-append-drop}
+use Rattle.std.specs.Prelude.{nat_le, option_map, option_and_then}
+use Rattle.std.specs.Str.{bytes_eq}
+use Rattle.std.specs.Fmt.{decimal}
+use Rattle.std.proofs.lemmas.Bool.{and_parts, leb-true}
+use Rattle.std.proofs.lemmas.Slice.Eq.{bytes_eq-Decides}
+use Rattle.clap.specs.Words.{fault_of}
+use Rattle.sg_base.specs.Fields.{number_at}
+use Rattle.sg_base.proofs.Decimals.{number_takes}
+use Rattle.sg_words.proofs.Among.{in_left, in_map, in_right}
+use Rattle.sg_words.specs.Commands.{AreWordsOf, IsOneOf, IsWorkers, Text, Words, ended, option_before, put_in, with_option, with_workers}
+use Rattle.sg_words.specs.Grammar.{srtpgw}
+use Rattle.sg_words.specs.Reading.{are, are_ended, command_by, demo_by, first_said, follows, have_option, is_joined, led_by, no_fault, positive, relay_by, replay_by, text_in, workers_by}
+use Rattle.sg_words.specs.declared.command.Command.{Command}
+use Rattle.sg_words.specs.declared.command.Command.TheVariants.{Replay, Relay, Demo}
+
+same : (a b : List ℕ) → bytes_eq a b ≡ true → a ≡ b
+same a b is = (bytes_eq-Decides a b).0 is
+
+chosen : {A : Type 0} (b : Bool) (x : Option A) (y : A) → cond b x None ≡ Some y → (b ≡ true) × (x ≡ Some y)
+chosen true x y is = (refl, is)
+chosen false x y is = cc
+
+-- ---- ways to write
+
+are_so : (ws ts : Words) → are ws ts ≡ true → ws ≡ ts
+are_so [] [] is = refl
+are_so [] (t ∷ ts) is = absurd cc
+are_so (w ∷ ws) [] is = absurd cc
+are_so (w ∷ ws) (t ∷ ts) is = let p = and_parts _ _ is in ap₂ (λ (x : Text) (xs : Words). x ∷ xs) (same w t p.0) (are_so ws ts p.1)
+
+first_in : (x : Text) (ts : Words) → IsOneOf (x ∷ ts) (put_in x ts)
+first_in x [] = inl refl
+first_in x (t ∷ ts) = inl refl
+
+ended_at : (w : Text) (ws ts : Words) (b : Bool) → bytes_eq w (codes "--") ≡ b → cond b (are ws ts) (led_by w ts (are_ended ws)) ≡ true
+    → ((others : Words) → are_ended ws others ≡ true → IsOneOf ws (ended others)) → IsOneOf (w ∷ ws) (ended ts)
+ended_at w ws ts true e is rec =
+    subst (λ (l : Words). IsOneOf l (ended ts)) (sym (ap₂ (λ (x : Text) (xs : Words). x ∷ xs) (same w (codes "--") e) (are_so ws ts is))) (inr (first_in (codes "--") ts))
+ended_at w ws [] false e is rec = absurd cc
+ended_at w ws (t ∷ ts) false e is rec =
+    let p = and_parts _ _ is in
+    subst (λ (x : Text). IsOneOf (x ∷ ws) (ended (t ∷ ts))) (sym (same w t p.0)) (elim (rec ts p.1) [
+      | inl whole ↦ inl (ap (λ (xs : Words). t ∷ xs) whole)
+      | inr put ↦ inr (inr (in_map (λ others. t ∷ others) ws (put_in (codes "--") ts) put))
+    ])
+
+ended_so : (ws ts : Words) → are_ended ws ts ≡ true → IsOneOf ws (ended ts)
+ended_so [] [] is = inl refl
+ended_so [] (t ∷ ts) is = absurd cc
+ended_so (w ∷ ws) ts is = ended_at w ws ts (bytes_eq w (codes "--")) refl is (ended_so ws)
+
+joined_so : (w option value : Text) → is_joined w option value ≡ true → w ≡ option ++ value
+joined_so w option value is =
+    let p = and_parts _ _ is in
+    sym (take-append-drop (length option) w) ∙ ap₂ (λ (l m : Text). l ++ m) (same (take (length option) w) option p.0) (same (drop (length option) w) value p.1)
+
+before_in : (option value : Text) (ws ts : Words) → IsOneOf ws (option_before option value ts) → IsOneOf ws (with_option option value ts)
+before_in option value ws [] among = among
+before_in option value ws (t ∷ ts) among = in_left ws (option_before option value (t ∷ ts)) (map (λ others. t ∷ others) (with_option option value ts)) among
+
+joined_in : (w option value : Text) (ws ts : Words) → w ≡ option ++ codes "=" ++ value → IsOneOf ws (ended ts) → IsOneOf (w ∷ ws) (with_option option value ts)
+joined_in w option value ws ts is among =
+    before_in option value (w ∷ ws) ts
+    (subst (λ (x : Text). IsOneOf (x ∷ ws) (option_before option value ts)) (sym is)
+    (in_left ((option ++ codes "=" ++ value) ∷ ws) (map (λ others. (option ++ codes "=" ++ value) ∷ others) (ended ts)) (map (λ others. option ∷ value ∷ others) (ended ts))
+    (in_map (λ others. (option ++ codes "=" ++ value) ∷ others) ws (ended ts) among)))
+
+apart_in : (w option value x : Text) (ws ts : Words) → w ≡ option → x ≡ value → IsOneOf ws (ended ts) → IsOneOf (w ∷ x ∷ ws) (with_option option value ts)
+apart_in w option value x ws ts is next among =
+    before_in option value (w ∷ x ∷ ws) ts
+    (subst (λ (l : Words). IsOneOf l (option_before option value ts)) (sym (ap₂ (λ (a b : Text). a ∷ b ∷ ws) is next))
+    (in_right (option ∷ value ∷ ws) (map (λ others. (option ++ codes "=" ++ value) ∷ others) (ended ts)) (map (λ others. option ∷ value ∷ others) (ended ts)) (in_map (λ others. option ∷ value ∷ others) ws (ended ts) among)))
+
+follows_in : (w option value : Text) (ws ts : Words) → w ≡ option → follows ws value ts ≡ true → IsOneOf (w ∷ ws) (with_option option value ts)
+follows_in w option value [] ts is next = absurd cc
+follows_in w option value (x ∷ ws) ts is next =
+    let p = and_parts _ _ next in
+    apart_in w option value x ws ts is (same x value p.0) (ended_so ws ts p.1)
+
+option_later : (w option value : Text) (ws ts : Words) (b : Bool) → bytes_eq w option ≡ b
+    → cond b (follows ws value ts) (led_by w ts (have_option ws option value)) ≡ true
+    → ((others : Words) → have_option ws option value others ≡ true → IsOneOf ws (with_option option value others)) → IsOneOf (w ∷ ws) (with_option option value ts)
+option_later w option value ws ts true e is rec = follows_in w option value ws ts (same w option e) is
+option_later w option value ws [] false e is rec = absurd cc
+option_later w option value ws (t ∷ ts) false e is rec =
+    let p = and_parts _ _ is in
+    subst (λ (x : Text). IsOneOf (x ∷ ws) (with_option option value (t ∷ ts))) (sym (same w t p.0))
+    (in_right (t ∷ ws) (option_before option value (t ∷ ts)) (map (λ others. t ∷ others) (with_option option value ts))
+    (in_map (λ others. t ∷ others) ws (with_option option value ts) (rec ts p.1)))
+
+option_at : (w option value : Text) (ws ts : Words) (b : Bool) → is_joined w (option ++ codes "=") value ≡ b
+    → cond b (are_ended ws ts) (cond (bytes_eq w option) (follows ws value ts) (led_by w ts (have_option ws option value))) ≡ true
+    → ((others : Words) → have_option ws option value others ≡ true → IsOneOf ws (with_option option value others)) → IsOneOf (w ∷ ws) (with_option option value ts)
+option_at w option value ws ts true e is rec =
+    joined_in w option value ws ts (joined_so w (option ++ codes "=") value e) (ended_so ws ts is)
+option_at w option value ws ts false e is rec = option_later w option value ws ts (bytes_eq w option) refl is rec
+
+option_so : (ws : Words) (option value : Text) (ts : Words) → have_option ws option value ts ≡ true → IsOneOf ws (with_option option value ts)
+option_so [] option value ts is = absurd cc
+option_so (w ∷ ws) option value ts is =
+    option_at w option value ws ts (is_joined w (option ++ codes "=") value) refl is (option_so ws option value)
+
+-- ---- numbers
+
+positive_by : (most n : ℕ) (t : Text) (o : Option ℕ) → number_at most t ≡ o → option_and_then (λ m. cond (nat_le 1 m) (Some m) None) o ≡ Some n
+    → (t ≡ decimal n) × (1 ≤ n) × (n ≤ most)
+positive_by most n t None is found = absurd cc
+positive_by most n t (Some m) is found =
+    let p = chosen (nat_le 1 m) (Some m) n found in
+    let e : m ≡ n = (let q = p.1 in cc) in
+    let takes = number_takes most t n (is ∙ ap (λ x. Some x) e) in
+    (takes.0, subst (λ x. 1 ≤ x) e (leb-true 1 m p.0), takes.1)
+
+positive_so : (most n : ℕ) (t : Text) → positive most t ≡ Some n → (t ≡ decimal n) × (1 ≤ n) × (n ≤ most)
+positive_so most n t found = positive_by most n t (number_at most t) refl found
+
+workers_so : (ws ts : Words) (o : Option Text) (n : ℕ) → workers_by ws ts o ≡ Some n → IsWorkers n × IsOneOf ws (with_workers n ts)
+workers_so ws ts None n found =
+    let p = chosen (are_ended ws ts) (Some 1) n found in
+    let e : 1 ≡ n = (let q = p.1 in cc) in
+    subst (λ x. IsWorkers x × IsOneOf ws (with_workers x ts)) e
+    ((omega arith, omega arith), in_right ws (with_option (codes "--workers") (decimal 1) ts) (ended ts) (ended_so ws ts p.0))
+workers_so ws ts (Some value) n found =
+    let p = chosen (have_option ws (codes "--workers") value ts) (positive 16 value) n found in
+    let q = positive_so 16 n value p.1 in (
+      (q.1, q.2),
+      in_left ws (with_option (codes "--workers") (decimal n) ts) (cond (n == 1) (ended ts) [])
+          (subst (λ (v : Text). IsOneOf ws (with_option (codes "--workers") v ts)) q.0 (option_so ws (codes "--workers") value ts p.0)),
+    )
+
+-- ---- commands
+
+replay_at : (ws : Words) (o : Option Text) (c : Command) (r : Option ℕ) → workers_by ws [] o ≡ r → option_map (λ n. Replay n) r ≡ Some c → AreWordsOf (codes "replay" ∷ ws) c
+replay_at ws o c None is found = absurd cc
+replay_at ws o c (Some n) is found =
+    let e : Replay n ≡ c = cc in
+    let w = workers_so ws [] o n is in
+    subst (AreWordsOf (codes "replay" ∷ ws)) e (w.0, in_map (λ others. codes "replay" ∷ others) ws (with_workers n []) w.1)
+
+relay_at : (ws : Words) (value : Text) (c : Command) (r : Option ℕ) → have_option ws (codes "--turns") value [] ≡ true → positive 1000000000 value ≡ r
+    → option_map (λ n. Relay n) r ≡ Some c → AreWordsOf (codes "relay" ∷ ws) c
+relay_at ws value c None written is found = absurd cc
+relay_at ws value c (Some n) written is found =
+    let e : Relay n ≡ c = cc in
+    let q = positive_so 1000000000 n value is in
+    subst (AreWordsOf (codes "relay" ∷ ws)) e (
+      (q.1, q.2),
+      in_map (λ others. codes "relay" ∷ others) ws (with_option (codes "--turns") (decimal n) [])
+          (subst (λ (v : Text). IsOneOf ws (with_option (codes "--turns") v [])) q.0 (option_so ws (codes "--turns") value [] written)),
+    )
+
+relay_so : (ws : Words) (o : Option Text) (c : Command) → relay_by ws o ≡ Some c → AreWordsOf (codes "relay" ∷ ws) c
+relay_so ws None c found = absurd cc
+relay_so ws (Some value) c found =
+    let p = chosen (have_option ws (codes "--turns") value []) (option_map (λ n. Relay n) (positive 1000000000 value)) c found in
+    relay_at ws value c (positive 1000000000 value) p.0 refl p.1
+
+demo_last : (ws : Words) (calls start : Text) (o : Option Text) (c : Command) (n s : ℕ) (r : Option ℕ)
+    → positive 256 calls ≡ Some n → number_at 18446744073709551615 start ≡ Some s → workers_by ws (calls ∷ start ∷ []) o ≡ r
+    → option_map (λ w. Demo n s w) r ≡ Some c → AreWordsOf (codes "demo" ∷ ws) c
+demo_last ws calls start o c n s None has_calls has_start is found = absurd cc
+demo_last ws calls start o c n s (Some w) has_calls has_start is found =
+    let e : Demo n s w ≡ c = cc in
+    let p = positive_so 256 n calls has_calls in
+    let q = number_takes 18446744073709551615 start s has_start in
+    let k = workers_so ws (calls ∷ start ∷ []) o w is in
+    subst (AreWordsOf (codes "demo" ∷ ws)) e (
+      (p.1, p.2, omega (arith, q.1), k.0),
+      in_map (λ others. codes "demo" ∷ others) ws (with_workers w (decimal n ∷ decimal s ∷ []))
+          (subst (λ (ts : Words). IsOneOf ws (with_workers w ts)) (ap₂ (λ (a b : Text). a ∷ b ∷ []) p.0 q.0) k.1),
+    )
+
+demo_start : (ws : Words) (calls start : Text) (o : Option Text) (c : Command) (n : ℕ) (r : Option ℕ)
+    → positive 256 calls ≡ Some n → number_at 18446744073709551615 start ≡ r
+    → option_and_then (λ s. option_map (λ w. Demo n s w) (workers_by ws (calls ∷ start ∷ []) o)) r ≡ Some c → AreWordsOf (codes "demo" ∷ ws) c
+demo_start ws calls start o c n None has_calls is found = absurd cc
+demo_start ws calls start o c n (Some s) has_calls is found = demo_last ws calls start o c n s (workers_by ws (calls ∷ start ∷ []) o) has_calls is refl found
+
+demo_calls : (ws : Words) (calls start : Text) (o : Option Text) (c : Command) (r : Option ℕ) → positive 256 calls ≡ r
+    → option_and_then (λ n. option_and_then (λ s. option_map (λ w. Demo n s w) (workers_by ws (calls ∷ start ∷ []) o)) (number_at 18446744073709551615 start)) r ≡ Some c
+    → AreWordsOf (codes "demo" ∷ ws) c
+demo_calls ws calls start o c None is found = absurd cc
+demo_calls ws calls start o c (Some n) is found = demo_start ws calls start o c n (number_at 18446744073709551615 start) is refl found
+
+demo_so : (ws : Words) (calls start o : Option Text) (c : Command) → demo_by ws calls start o ≡ Some c → AreWordsOf (codes "demo" ∷ ws) c
+demo_so ws None start o c found = absurd cc
+demo_so ws (Some calls) None o c found = absurd cc
+demo_so ws (Some calls) (Some start) o c found = demo_calls ws calls start o c (positive 256 calls) refl found
+
+named : (name : Text) (word : Text) (ws : Words) (c : Command) → bytes_eq name word ≡ true → AreWordsOf (word ∷ ws) c → AreWordsOf (name ∷ ws) c
+named name word ws c is so = subst (λ (x : Text). AreWordsOf (x ∷ ws) c) (sym (same name word is)) so
+
+said_demo : (name : Text) (ws : Words) (text : Text → Option Text) (c : Command) (b : Bool) → bytes_eq name (codes "demo") ≡ b
+    → cond b (demo_by ws (text (codes "calls")) (text (codes "start")) (text (codes "workers"))) None ≡ Some c → AreWordsOf (name ∷ ws) c
+said_demo name ws text c true e found = named name (codes "demo") ws c e (demo_so ws (text (codes "calls")) (text (codes "start")) (text (codes "workers")) c found)
+said_demo name ws text c false e found = absurd cc
+
+said_relay : (name : Text) (ws : Words) (text : Text → Option Text) (c : Command) (b : Bool) → bytes_eq name (codes "relay") ≡ b
+    → cond b (relay_by ws (text (codes "turns"))) (cond (bytes_eq name (codes "demo")) (demo_by ws (text (codes "calls")) (text (codes "start")) (text (codes "workers"))) None) ≡ Some c
+    → AreWordsOf (name ∷ ws) c
+said_relay name ws text c true e found = named name (codes "relay") ws c e (relay_so ws (text (codes "turns")) c found)
+said_relay name ws text c false e found = said_demo name ws text c (bytes_eq name (codes "demo")) refl found
+
+said_replay : (name : Text) (ws : Words) (text : Text → Option Text) (c : Command) (b : Bool) → bytes_eq name (codes "replay") ≡ b
+    → cond b (replay_by ws (text (codes "workers"))) (cond (bytes_eq name (codes "relay")) (relay_by ws (text (codes "turns")))
+    (cond (bytes_eq name (codes "demo")) (demo_by ws (text (codes "calls")) (text (codes "start")) (text (codes "workers"))) None)) ≡ Some c
+    → AreWordsOf (name ∷ ws) c
+said_replay name ws text c true e found = named name (codes "replay") ws c e (replay_at ws (text (codes "workers")) c (workers_by ws [] (text (codes "workers"))) refl found)
+said_replay name ws text c false e found = said_relay name ws text c (bytes_eq name (codes "relay")) refl found
+
+first_so : (words : Words) (text : Text → Option Text) (c : Command) → first_said words text ≡ Some c → AreWordsOf words c
+first_so [] text c found = absurd cc
+first_so (name ∷ ws) text c found = said_replay name ws text c (bytes_eq name (codes "replay")) refl found
+
+pub sound : (words : Words) (c : Command) → command_by words ≡ Some c → AreWordsOf words c
+sound words c found =
+    first_so words (λ id. text_in id words) c (chosen (no_fault (fault_of srtpgw words)) (first_said words (λ id. text_in id words)) c found).1

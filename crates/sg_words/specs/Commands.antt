@@ -1,0 +1,65 @@
+-- The words of the command line, and the command that they are.
+use Rattle.std.specs.Prelude.{◌≡◌, ◌⊎◌, ◌≤◌, ◌<◌, ◌^◌, ◌==◌, ℕ, if◌then◌else◌, List, [], ◌∷◌, ◌++◌, codes, map}
+use Rattle.std.specs.Fmt.{decimal}
+use Rattle.sg_words.specs.declared.command.Command.{Command}
+use Rattle.sg_words.specs.declared.command.Command.TheVariants.{Replay, Relay, Demo}
+
+abbrev pub Text : Type 0
+Text = List ℕ
+
+abbrev pub Words : Type 0
+Words = List Text
+
+-- every way to put a word in front of these words, between two of them, or behind them
+abbrev pub put_in : Text → Words → List Words
+put_in word [] = (word ∷ []) ∷ []
+put_in word (w ∷ ws) = (word ∷ w ∷ ws) ∷ map (λ others. w ∷ others) (put_in word ws)
+
+-- these words, or these and a lone `--` among them: it says that no option is behind it
+abbrev pub ended : Words → List Words
+ended words = words ∷ put_in (codes "--") words
+
+-- an option in front of these words, its value behind its equals sign or as the next word
+abbrev pub option_before : Text → Text → Words → List Words
+option_before option value words =
+    map (λ others. (option ++ codes "=" ++ value) ∷ others) (ended words) ++ map (λ others. option ∷ value ∷ others) (ended words)
+
+-- an option in front of these words, between two of them, or behind them
+abbrev pub with_option : Text → Text → Words → List Words
+with_option option value [] = option_before option value []
+with_option option value (w ∷ ws) = option_before option value (w ∷ ws) ++ map (λ others. w ∷ others) (with_option option value ws)
+
+-- a number of workers with these words; where none is said, it is 1
+abbrev pub with_workers : ℕ → Words → List Words
+with_workers workers words =
+    with_option (codes "--workers") (decimal workers) words ++ (if workers == 1 then ended words else [])
+
+-- Every way to write a command. A number is written in decimal digits, without a sign or a leading zero.
+abbrev pub spellings : Command → List Words
+spellings (Replay workers) = map (λ others. codes "replay" ∷ others) (with_workers workers [])
+spellings (Relay turns) = map (λ others. codes "relay" ∷ others) (with_option (codes "--turns") (decimal turns) [])
+spellings (Demo calls start workers) =
+    map (λ others. codes "demo" ∷ others) (with_workers workers (decimal calls ∷ decimal start ∷ []))
+
+-- 1 to 16 workers
+abbrev pub IsWorkers : ℕ → Type 0
+IsWorkers workers = (1 ≤ workers) × (workers ≤ 16)
+
+-- the numbers of a command are in their bounds
+abbrev pub IsCommand : Command → Type 0
+IsCommand (Replay workers) = IsWorkers workers
+IsCommand (Relay turns) = (1 ≤ turns) × (turns ≤ 1000000000)
+IsCommand (Demo calls start workers) = (1 ≤ calls) × (calls ≤ 256) × (start < 2 ^ 64) × IsWorkers workers
+
+-- the words are in the list
+abbrev pub IsOneOf : Words → List Words → Type 0
+IsOneOf words [] = ⊥
+IsOneOf words (s ∷ ss) = (words ≡ s) ⊎ IsOneOf words ss
+
+-- the words are that command
+abbrev pub AreWordsOf : Words → Command → Type 0
+AreWordsOf words command = IsCommand command × IsOneOf words (spellings command)
+
+-- the words are no command
+abbrev pub IsNoCommand : Words → Type 0
+IsNoCommand words = (command : Command) → AreWordsOf words command → ⊥

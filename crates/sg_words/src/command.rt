@@ -1,0 +1,27 @@
+//! Commands, and why words are none.
+
+/// What a command line asks for: to play a script with so many workers, to relay for so many turns at most,
+/// or to show so many calls that begin with the words of a start, with so many workers.
+#[derive(Clone, Copy, Debug, PartialEq, Eq)]
+pub enum Command {
+    Replay {
+        workers: usize,
+    },
+    Relay {
+        turns: u64,
+    },
+    Demo {
+        calls: u16,
+        start: u64,
+        workers: usize,
+    },
+}
+
+/// Why no command was read.
+#[derive(Clone, Copy, Debug, PartialEq, Eq)]
+pub enum CommandFault {
+    /// The words are no command.
+    Usage,
+    /// There was no memory to cut the words.
+    NoMemory,
+}

@@ -1,0 +1,80 @@
+//! The command line, as clap is told of it.
+
+ghost use Rattle.std.specs.Prelude.{◌≡◌, true, false, Some, codes, IfOk};
+ghost use Rattle.clap.specs.Words.{app_of, rule_of, new_rule};
+ghost use Rattle.clap.specs.declared.builder.command.Command.TheViews.{out-Command};
+ghost use Rattle.sg_words.specs.Grammar as grammar;
+
+use clap::{Arg, Command};
+use std::alloc::{AllocError, Global};
+
+fn workers<'a>(alloc: Global) -> Arg<'a>
+    ensures rule { rule_of result ≡ grammar.workers }
+    ensures local { result.global ≡ false }
+{
+    Arg::new(alloc, "workers").long("workers")
+}
+
+fn turns<'a>(alloc: Global) -> Arg<'a>
+    ensures rule { rule_of result ≡ grammar.turns }
+    ensures local { result.global ≡ false }
+{
+    Arg::new(alloc, "turns").long("turns").required(true)
+}
+
+fn calls<'a>(alloc: Global) -> Arg<'a>
+    ensures rule { rule_of result ≡ grammar.calls }
+    ensures local { result.global ≡ false }
+{
+    Arg::new(alloc, "calls").required(true)
+}
+
+fn start<'a>(alloc: Global) -> Arg<'a>
+    ensures rule { rule_of result ≡ grammar.start }
+    ensures local { result.global ≡ false }
+{
+    Arg::new(alloc, "start").required(true)
+}
+
+fn replay<'a>(alloc: Global) -> Result<Command<'a>, AllocError>
+    ensures shape { IfOk result (λ c. app_of c ≡ grammar.replay) }
+    ensures local { IfOk result (λ c. (out-Command c).has_globals ≡ false) }
+{
+    Ok(Command::new(alloc, "replay").arg(workers(alloc))?)
+}
+
+fn relay<'a>(alloc: Global) -> Result<Command<'a>, AllocError>
+    ensures shape { IfOk result (λ c. app_of c ≡ grammar.relay) }
+    ensures local { IfOk result (λ c. (out-Command c).has_globals ≡ false) }
+{
+    Ok(Command::new(alloc, "relay").arg(turns(alloc))?)
+}
+
+fn demo<'a>(alloc: Global) -> Result<Command<'a>, AllocError>
+    ensures shape { IfOk result (λ c. app_of c ≡ grammar.demo) }
+    ensures local { IfOk result (λ c. (out-Command c).has_globals ≡ false) }
+{
+    let one = Command::new(alloc, "demo").arg(workers(alloc))?;
+    let two = one.arg(calls(alloc))?;
+    Ok(two.arg(start(alloc))?)
+}
+
+/// The words don't begin with the program's name, and a command is required.
+fn without_program<'a>(command: Command<'a>) -> Command<'a>
+    ensures { app_of result ≡ grammar.whole_line (app_of command.entry) }
+{
+    command.no_binary_name(true).subcommand_required(true)
+}
+
+/// The whole command line.
+pub(crate) fn command_line<'a>(alloc: Global) -> Result<Command<'a>, AllocError>
+    ensures { IfOk result (λ c. app_of c ≡ grammar.srtpgw) }
+{
+    let replay = replay(alloc)?;
+    let relay = relay(alloc)?;
+    let demo = demo(alloc)?;
+    let one = Command::new(alloc, "srtpgw").subcommand(replay)?;
+    let two = one.subcommand(relay)?;
+    let three = two.subcommand(demo)?;
+    Ok(without_program(three))
+}

@@ -1,0 +1,170 @@
+//! The command that words are.
+
+ghost use Rattle.std.specs.Prelude.{◌≡◌, ◌≢◌, ◌≤◌, ◌⊎◌, ◌∷◌, ℕ, List, map, IfOk, IfSome, Ok, Err, string_bytes, codes, option_map, option_and_then};
+ghost use Rattle.clap.specs.Words.{FailsBy, fault_of, subcommand_of, subcommand_rows_of, first_of};
+ghost use Rattle.sg_words.specs.Commands.{AreWordsOf, IsNoCommand};
+ghost use Rattle.sg_words.specs.Grammar.{srtpgw};
+ghost use Rattle.sg_words.specs.Reading.{command_by, demo_by, first_said, positive, relay_by, replay_by, text_in, workers_by};
+ghost use Rattle.sg_words.specs.declared.command.Command.{Command};
+
+use crate::line::command_line;
+use crate::spelling::{Written, are_ended, have_option, is};
+use crate::{Command, CommandFault};
+use clap::error::ErrorKind;
+use clap::{ArgMatches, Error};
+use sg_base::{CALLS_MOST, read_number};
+use std::alloc::Global;
+
+/// How many workers there are at most.
+const WORKERS_MOST: u128 = 16;
+
+/// How many turns a relay takes at most.
+const TURNS_MOST: u128 = 1_000_000_000;
+
+/// The words, cut by clap.
+fn cut<'a>(alloc: Global, words: &'a [String]) -> Result<ArgMatches<'a>, Error>
+    ensures exact { FailsBy (fault_of srtpgw (map string_bytes words.entry.now)) result }
+    ensures found { IfOk result (λ m. subcommand_rows_of m ≡ subcommand_of srtpgw (map string_bytes words.entry.now)) }
+{
+    command_line(alloc)?.try_get_matches_from(words)
+}
+
+/// The text of an argument of the command that was named.
+fn text_of<'a>(matches: &ArgMatches<'a>, id: &str) -> Option<&'a str>
+    ensures { option_map (λ s. s.now) result ≡ option_and_then (λ p. first_of id.now p.1) (subcommand_rows_of matches.now) }
+{
+    let (_, found) = matches.subcommand()?;
+    found.get_str(id)
+}
+
+/// A number from 1 to `most`.
+fn positive(most: u128, text: &str) -> Option<u128>
+    ensures value { result ≡ positive most text.now }
+    ensures some { IfSome result (λ n. 1 ≤ n) }
+    ensures most { IfSome result (λ n. n ≤ most) }
+{
+    let number = read_number(most, text.as_bytes())?;
+    if number < 1 {
+        return None;
+    }
+    Some(number)
+}
+
+/// How many workers the words say, where they are these texts with that option's value among them.
+fn workers_of(words: &[String], texts: &[&str], value: Option<&str>) -> Option<usize>
+    ensures { result ≡ workers_by (map string_bytes words.now) (map (λ t. t.now) texts.now) (option_map (λ s. s.now) value.entry) }
+{
+    let Some(value) = value else {
+        if are_ended(words, texts) {
+            return Some(1);
+        }
+        return None;
+    };
+    let written = Written {
+        option: "--workers",
+        joined: "--workers=",
+        value,
+    };
+    if !have_option(words, &written, texts) {
+        return None;
+    }
+    let workers = positive(WORKERS_MOST, value)?;
+    Some(workers as usize)
+}
+
+/// The command `replay`, by the words behind its name and what clap found.
+fn replay_of(words: &[String], matches: &ArgMatches<'_>) -> Option<Command>
+    ensures { result ≡ replay_by (map string_bytes words.now) (option_and_then (λ p. first_of (codes "workers") p.1) (subcommand_rows_of matches.now)) }
+{
+    let workers = workers_of(words, &[], text_of(matches, "workers"))?;
+    Some(Command::Replay { workers })
+}
+
+/// The command `relay`, by the same.
+fn relay_of(words: &[String], matches: &ArgMatches<'_>) -> Option<Command>
+    ensures { result ≡ relay_by (map string_bytes words.now) (option_and_then (λ p. first_of (codes "turns") p.1) (subcommand_rows_of matches.now)) }
+{
+    let value = text_of(matches, "turns")?;
+    let written = Written {
+        option: "--turns",
+        joined: "--turns=",
+        value,
+    };
+    if !have_option(words, &written, &[]) {
+        return None;
+    }
+    let turns = positive(TURNS_MOST, value)?;
+    Some(Command::Relay {
+        turns: turns as u64,
+    })
+}
+
+/// The command `demo`, by the same.
+fn demo_of(words: &[String], matches: &ArgMatches<'_>) -> Option<Command>
+    ensures { result ≡ demo_by (map string_bytes words.now)
+        (option_and_then (λ p. first_of (codes "calls") p.1) (subcommand_rows_of matches.now))
+        (option_and_then (λ p. first_of (codes "start") p.1) (subcommand_rows_of matches.now))
+        (option_and_then (λ p. first_of (codes "workers") p.1) (subcommand_rows_of matches.now)) }
+{
+    let calls_text = text_of(matches, "calls")?;
+    let start_text = text_of(matches, "start")?;
+    let calls = positive(CALLS_MOST as u128, calls_text)?;
+    let start = read_number(u128::from(u64::MAX), start_text.as_bytes())?;
+    let texts = [calls_text, start_text];
+    let workers = workers_of(words, &texts, text_of(matches, "workers"))?;
+    Some(Command::Demo {
+        calls: calls as u16,
+        start: start as u64,
+        workers,
+    })
+}
+
+/// The command that the words spell, where clap found these.
+fn said(words: &[String], matches: &ArgMatches<'_>) -> Option<Command>
+    ensures { result ≡ first_said (map string_bytes words.now) (λ id. option_and_then (λ p. first_of id p.1) (subcommand_rows_of matches.now)) }
+{
+    let [name, words @ ..] = words else {
+        return None;
+    };
+    if is(name, "replay") {
+        return replay_of(words, matches);
+    }
+    if is(name, "relay") {
+        return relay_of(words, matches);
+    }
+    if is(name, "demo") {
+        return demo_of(words, matches);
+    }
+    None
+}
+
+/// What is answered where clap refuses the words.
+fn refused(kind: ErrorKind) -> CommandFault
+    ensures memory { kind ≡ ErrorKind.OutOfMemory → result ≡ CommandFault.NoMemory }
+    ensures usage { kind ≢ ErrorKind.OutOfMemory → result ≡ CommandFault.Usage }
+{
+    match kind {
+        ErrorKind::OutOfMemory => CommandFault::NoMemory,
+        _ => CommandFault::Usage,
+    }
+}
+
+/// The command that the words after the program's name are, or `Usage` exactly where they are none.
+///
+/// `replay [--workers W]`, `relay --turns T` and `demo CALLS START [--workers W]`. An option stands in front
+/// of the numbers, between or behind them, once at most, as `--workers 4` or `--workers=4`; a lone `--` says
+/// that none is behind it.
+pub fn read_command(alloc: Global, words: &[String]) -> Result<Command, CommandFault>
+    ensures command { IfOk result (λ c. AreWordsOf (map string_bytes words.now) c) }
+    ensures usage { result ≡ Err CommandFault.Usage → IsNoCommand (map string_bytes words.now) }
+    ensures told { (c : Command) → AreWordsOf (map string_bytes words.now) c → (result ≡ Ok c) ⊎ (result ≡ Err CommandFault.NoMemory) }
+{
+    let matches = match cut(alloc, words) {
+        Err(error) => return Err(refused(error.kind())),
+        Ok(matches) => matches,
+    };
+    match said(words, &matches) {
+        Some(command) => Ok(command),
+        None => Err(CommandFault::Usage),
+    }
+}
