@@ -48,7 +48,7 @@ use Rattle.sg_agreement.specs.declared.ways.Way.{Way}
 use Rattle.sg_agreement.specs.declared.ways.Way.TheVariants.{FromSecure, SdesFromPlain, MikeyFromPlain}
 
 -- of each, whether it is there
-abbrev there : {X : Type 0} → List (Option X) → List Bool
+abbrev pub there : {X : Type 0} → List (Option X) → List Bool
 there xs = map is_some xs
 
 -- ---- as many crypto sessions as media
@@ -128,7 +128,7 @@ bundle_long h medium count value b e =
     let r = after_ok_is (of_cs medium (streams_of a.csb a.random a.map a.policies a.tgks count)) _ b q.2 in
     subst (λ (b : Bundle). length b.streams ≡ count) (ok_is _ b r.2) (streams_long a.csb a.random a.policies a.tgks a.map count r.0 (cs_is medium _ r.0 r.1)).1
 
-abbrev IsWhole : Side → List descriptions.Medium → Keying → Type 0
+abbrev pub IsWhole : Side → List descriptions.Medium → Keying → Type 0
 IsWhole side ms (PeerLines ls) = there ls ≡ actives side ms
 IsWhole side ms (OwnLines ls) = there ls ≡ actives side ms
 IsWhole side ms (PeerMessage b) = length b.streams ≡ active_count side ms
@@ -162,7 +162,7 @@ keying_whole h s (MikeyFromPlain peer) k e =
 abbrev IsOfText : Way → List ℕ → AgreedOffer → Type 0
 IsOfText way text a = (a.offer.side ≡ side_of way) × (description_of text ≡ Ok a.offer.description)
 
-abbrev IsWholeOffer : AgreedOffer → Type 0
+abbrev pub IsWholeOffer : AgreedOffer → Type 0
 IsWholeOffer a = IsWhole a.offer.side a.offer.description.media a.offer.keying
 
 pub offer_is : (h : AtHand) (way : Way) (text : List ℕ) (a : AgreedOffer) → agreed_offer h way text ≡ Ok a → (a.offer.side ≡ side_of way) × (description_of text ≡ Ok a.offer.description)
@@ -172,7 +172,7 @@ offer_is h way text a e =
     let q = after_ok_is (keying_of h p.0 way) _ a p.2 in
     subst (IsOfText way text) (ok_is _ a q.2) (refl, described_is (side_of way) h.media text p.0 p.1)
 
-offer_whole : (h : AtHand) (way : Way) (text : List ℕ) (a : AgreedOffer) → agreed_offer h way text ≡ Ok a → IsWholeOffer a
+pub offer_whole : (h : AtHand) (way : Way) (text : List ℕ) (a : AgreedOffer) → agreed_offer h way text ≡ Ok a → IsWholeOffer a
 unfolding agreed_offer
 offer_whole h way text a e =
     let p = after_ok_is (described (side_of way) h.media text) _ a e in
@@ -232,10 +232,10 @@ answered_long s count value ss e =
     let all = responded_long c.0 b.0 (omega (arith, same, first, long)) in
     ap length (sym (ok_is (responded c.0 b.0) ss c.2)) ∙ all ∙ long
 
-abbrev AllThere : Offer → Sdp → Answered → Type 0
+abbrev pub AllThere : Offer → Sdp → Answered → Type 0
 AllThere o s a = there a.media ≡ actives_after o.side o.description.media s.media
 
-answered_all : (o : Offer) (noise : List ℕ) (s : Sdp) (k : Keying) (a : Answered) → IsWhole o.side o.description.media k
+pub answered_all : (o : Offer) (noise : List ℕ) (s : Sdp) (k : Keying) (a : Answered) → IsWhole o.side o.description.media k
     → answered_by o noise s (actives_after o.side o.description.media s.media) k ≡ Ok a → AllThere o s a
 answered_all o noise s (PeerLines ls) a is e =
     let p = after_ok_is (each_kept (keyed_by_peer_line noise) 0 (actives_after o.side o.description.media s.media) ls s.media) _ a e in

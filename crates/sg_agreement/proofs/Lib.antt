@@ -1,14 +1,14 @@
-mod AllAgreed
+pub mod AllAgreed
 mod DistinctMkis
-mod FewMedia
+pub mod FewMedia
 mod Inversions
-mod KeyedSound
-mod LineNumbers
-mod LinesSound
-mod MessageKeys
-mod MessageOctets
-mod MessagesSound
-mod SessionsSound
+pub mod KeyedSound
+pub mod LineNumbers
+pub mod LinesSound
+pub mod MessageKeys
+pub mod MessageOctets
+pub mod MessagesSound
+pub mod SessionsSound
 mod SideWalks
 mod Sound
 mod Texts

@@ -39,3 +39,10 @@ line_fits takes side text s n e is =
     let low = unaddressed_low side (length s.session + 1) s.media n is in
     let most = within.0 in
     omega (arith, long, size, low, most)
+
+-- the lines of a description are no more than the octets of its text
+pub lines_fit : (s : Sdp) (text : List ℕ) → Spells (all_lines s) text → length text ≤ 16384 → length s.session + 1 + length (flat_map medium_lines s.media) ≤ 16385
+lines_fit s text spelled most =
+    let long = spelled_long (all_lines s) text spelled in
+    let size = length-append s.session (flat_map medium_lines s.media) in
+    omega (arith, long, size, most)

@@ -1,0 +1,10 @@
+mod AddedLines
+mod Described
+mod Fresh
+mod Gives
+mod Installs
+mod Made
+mod NotedMessages
+mod Opened
+mod Planning
+mod Read

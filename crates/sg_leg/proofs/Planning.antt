@@ -1,0 +1,148 @@
+-- The sessions of media, and the specs of which sides are made.
+use Rattle.std.proofs.Common.{◌≡◌, ℕ, suc, ◌+◌, ◌<◌, true, false, cond, Option, Some, None, List, [], ◌∷◌, ◌++◌, append_assoc, length, map, refl, sym, ap, ◌∙◌, subst, arith}
+use Rattle.std.proofs.lemmas.List.{append-nil, map-append}
+use Rattle.sg_agreement.specs.Generations.{owner_at, owned, numbered, stream_session, stream_sessions, keys_from, sessions_from}
+use Rattle.sg_agreement.specs.Media.{AgreedKey, Stream, Medium}
+use Rattle.sg_base.specs.declared.addresses.Kind.{Kind}
+use Rattle.sg_base.specs.declared.addresses.Kind.TheVariants.{Rtp, Rtcp}
+use Rattle.sg_keys.specs.Installing.{keys_of}
+use Rattle.sg_keys.specs.declared.spec.SessionSpec.{SessionSpec}
+use Rattle.sg_media.specs.Accepting.{IsMadeOf}
+use Rattle.sg_session.specs.Ring.{RingKey, Installed, key_of}
+use Rattle.sg_session.specs.Session.{Session}
+use Rattle.sg_session.specs.declared.names.Direction.{Direction}
+use Rattle.sg_session.specs.declared.names.Direction.TheVariants.{Opening, Sealing}
+use Rattle.sg_session.specs.declared.names.Owner.{Owner}
+use Rattle.sg_leg.specs.FreshKeys.{encrypts_for, tag_for, ring_keys, media_keys}
+use Rattle.sg_leg.specs.Pairs.{EachPair}
+use Rattle.sg_leg.specs.Planned.{Planned, IsPlanned, planned_in, planned, IsNext}
+use Rattle.sg_leg.specs.declared.media_spec.MediaSpec.{MediaSpec}
+
+pub pairs_append : {X Y : Type 0} (R : X → Y → Type 0) (xs xs' : List X) (ys ys' : List Y) → EachPair R xs ys → EachPair R xs' ys' → EachPair R (xs ++ xs') (ys ++ ys')
+pairs_append R [] xs' [] ys' p q = q
+pairs_append R [] xs' (y ∷ ys) ys' p q = absurd p
+pairs_append R (x ∷ xs) xs' [] ys' p q = absurd p
+pairs_append R (x ∷ xs) xs' (y ∷ ys) ys' p q = (p.0, pairs_append R xs xs' ys ys' p.1 q)
+
+-- the spec of one kind of what is sent is made for every owner and medium
+abbrev pub MadeFor : Stream → Kind → ℕ → ℕ → SessionSpec → Type 0
+MadeFor s kind n window spec =
+    (owner : Owner) (x : Medium) → IsMadeOf (stream_session owner (numbered n s.keys) s window x kind (encrypts_for kind s) (tag_for kind s)) spec
+
+module _ (x : Medium) (call generation medium n : ℕ) where
+  abbrev pub one : Direction → SessionSpec → Planned
+  one dir spec = record { medium = medium; direction = dir; spec = spec; secure = x.secure; plain = x.plain }
+
+  abbrev session : Direction → Kind → Stream → ℕ → ℕ → Session
+  session dir kind s number window = stream_session (owner_at call generation medium dir) (numbered number s.keys) s window x kind (encrypts_for kind s) (tag_for kind s)
+
+  planned_as : (dir : Direction) (kind : Kind) (s : Stream) (number window : ℕ) (spec : SessionSpec) → MadeFor s kind number window spec
+      → IsPlanned (one dir spec) (session dir kind s number window)
+  planned_as dir kind s number window spec made = record { made = made (owner_at call generation medium dir) x; medium_is = refl; direction_is = refl; secure_is = refl; plain_is = refl }
+
+  abbrev second : ℕ
+  second = n + length x.from_peer.keys
+
+  module _ (a c : SessionSpec) (opens : MadeFor x.from_peer Rtp n x.window a) (seals : MadeFor x.to_peer Rtp second 1024 c) where
+    pub without : x.has_rtcp ≡ false → EachPair IsPlanned (one Opening a ∷ one Sealing c ∷ []) (sessions_from call generation medium n (Some x ∷ []))
+    without none = subst (λ b. EachPair IsPlanned (one Opening a ∷ one Sealing c ∷ [])
+        ((session Opening Rtp x.from_peer n x.window ∷ cond b (session Opening Rtcp x.from_peer n x.window ∷ []) [])
+        ++ ((session Sealing Rtp x.to_peer second 1024 ∷ cond b (session Sealing Rtcp x.to_peer second 1024 ∷ []) []) ++ []))) (sym none)
+        (planned_as Opening Rtp x.from_peer n x.window a opens, (planned_as Sealing Rtp x.to_peer second 1024 c seals, tt))
+
+    pub with_all : (b d : SessionSpec) → MadeFor x.from_peer Rtcp n x.window b → MadeFor x.to_peer Rtcp second 1024 d → x.has_rtcp ≡ true
+        → EachPair IsPlanned (one Opening a ∷ one Opening b ∷ one Sealing c ∷ one Sealing d ∷ []) (sessions_from call generation medium n (Some x ∷ []))
+    with_all b d opens_too seals_too all = subst (λ r. EachPair IsPlanned (one Opening a ∷ one Opening b ∷ one Sealing c ∷ one Sealing d ∷ [])
+        ((session Opening Rtp x.from_peer n x.window ∷ cond r (session Opening Rtcp x.from_peer n x.window ∷ []) [])
+        ++ ((session Sealing Rtp x.to_peer second 1024 ∷ cond r (session Sealing Rtcp x.to_peer second 1024 ∷ []) []) ++ []))) (sym all) (
+          planned_as Opening Rtp x.from_peer n x.window a opens,
+          (
+            planned_as Opening Rtcp x.from_peer n x.window b opens_too,
+            (planned_as Sealing Rtp x.to_peer second 1024 c seals, (planned_as Sealing Rtcp x.to_peer second 1024 d seals_too, tt)),
+          ),
+        )
+
+-- the sessions of one medium more stand before those of the rest
+pub first_planned : (call generation m n count : ℕ) (x : Medium) (rest : List (Option Medium)) (of_one more : List Planned) → EachPair IsPlanned of_one (sessions_from call generation m n (Some x ∷ []))
+    → count ≡ n + length x.from_peer.keys + length x.to_peer.keys
+    → EachPair IsPlanned more (sessions_from call generation (m + 1) count rest) → EachPair IsPlanned (of_one ++ more) (sessions_from call generation m n (Some x ∷ rest))
+first_planned call generation m n count x rest of_one more these many later =
+    subst (EachPair IsPlanned (of_one ++ more)) (two first second later_sessions) (pairs_append IsPlanned of_one more (first ++ (second ++ [])) later_sessions these
+    (subst (λ n. EachPair IsPlanned more (sessions_from call generation (m + 1) n rest)) many later))
+  where
+    first : List Session
+    first = stream_sessions (owner_at call generation m Opening) (numbered n x.from_peer.keys) x.from_peer x.window x
+
+    second : List Session
+    second = stream_sessions (owner_at call generation m Sealing) (numbered (n + length x.from_peer.keys) x.to_peer.keys) x.to_peer 1024 x
+
+    later_sessions : List Session
+    later_sessions = sessions_from call generation (m + 1) (n + length x.from_peer.keys + length x.to_peer.keys) rest
+
+    two : (a b c : List Session) → (a ++ (b ++ [])) ++ c ≡ a ++ (b ++ c)
+    two a b c = ap (λ l. (a ++ l) ++ c) (append-nil b) ∙ append_assoc a b c
+
+planned_push : (old : List MediaSpec) (spec : MediaSpec) → planned (old ++ spec ∷ []) ≡ planned old ++ planned_in spec
+planned_push [] spec = append-nil (planned_in spec)
+planned_push (x ∷ old) spec = ap (λ l. planned_in x ++ l) (planned_push old spec) ∙ sym (append_assoc (planned_in x) (planned old) (planned_in spec))
+
+-- an idle medium adds nothing
+pub next_none : (m first count : ℕ) (old : List MediaSpec) → IsNext m first None old count old count
+next_none m first count old = λ call generation rest more later. ([], sym (append-nil (planned old)), later)
+
+-- an active one adds its own
+pub next_some : (m first count count' : ℕ) (x : Medium) (old new : List MediaSpec) (spec : MediaSpec) → new ≡ old ++ spec ∷ [] → count' ≡ count + length x.from_peer.keys + length x.to_peer.keys
+    → ((call generation : ℕ) → EachPair IsPlanned (planned_in spec) (sessions_from call generation m (first + count) (Some x ∷ []))) → IsNext m first (Some x) old count new count'
+next_some m first count count' x old new spec pushed many of_one = λ call generation rest more later. (
+  planned_in spec,
+  ap planned pushed ∙ planned_push old spec,
+  first_planned call generation m (first + count) (first + count') x rest (planned_in spec) more (of_one call generation) (omega (arith, many)) later,
+)
+
+-- what a loop over the media keeps
+abbrev pub WillBePlanned : ℕ → ℕ → List (Option Medium) → List MediaSpec → ℕ → List (Option Medium) → Type 0
+WillBePlanned m first media specs count left =
+    (call generation : ℕ) (more : List Planned) → EachPair IsPlanned more (sessions_from call generation m (first + count) left)
+    → EachPair IsPlanned (planned specs ++ more) (sessions_from call generation 0 first media)
+
+pub will_be_next : (m first : ℕ) (media left later : List (Option Medium)) (x : Option Medium) (old new : List MediaSpec) (count count' : ℕ) → left ≡ x ∷ later → IsNext m first x old count new count'
+    → WillBePlanned m first media old count left → WillBePlanned (m + 1) first media new count' later
+will_be_next m first media left later x old new count count' is next will = λ call generation more rest.
+    let p = next call generation later more rest in
+    subst (λ l. EachPair IsPlanned l (sessions_from call generation 0 first media)) (sym (append_assoc (planned old) p.0 more) ∙ ap (λ l. l ++ more) (sym p.1))
+    (will call generation (p.0 ++ more) (subst (λ l. EachPair IsPlanned (p.0 ++ more) (sessions_from call generation m (first + count) l)) (sym is) p.2))
+
+pub will_be_all : (m first : ℕ) (media : List (Option Medium)) (specs : List MediaSpec) (count : ℕ) (left : List (Option Medium)) → left ≡ [] → WillBePlanned m first media specs count left
+    → (call generation : ℕ) → EachPair IsPlanned (planned specs) (sessions_from call generation 0 first media)
+will_be_all m first media specs count left none will = λ call generation.
+    subst (λ l. EachPair IsPlanned l (sessions_from call generation 0 first media)) (append-nil (planned specs))
+    (will call generation [] (subst (λ l. EachPair IsPlanned [] (sessions_from call generation m (first + count) l)) (sym none) tt))
+
+-- ---- the ring's keys
+
+owned_keys : (owner : Owner) (ks : List AgreedKey) → keys_of (owned owner ks) ≡ ring_keys ks
+owned_keys owner [] = refl
+owned_keys owner (k ∷ ks) = ap (λ l. Rattle.sg_session.specs.Ring.derived k.master ∷ l) (owned_keys owner ks)
+
+pub keys_are : (call generation m : ℕ) (media : List (Option Medium)) → keys_of (keys_from call generation m media) ≡ media_keys media
+keys_are call generation m [] = refl
+keys_are call generation m (None ∷ ms) = keys_are call generation (m + 1) ms
+keys_are call generation m (Some x ∷ ms) =
+    let a : List Installed = owned (owner_at call generation m Opening) x.from_peer.keys in
+    let b : List Installed = owned (owner_at call generation m Sealing) x.to_peer.keys in
+    let rest : List Installed = keys_from call generation (m + 1) ms in
+    map-append key_of a (b ++ rest) ∙ ap (λ l. keys_of a ++ l) (map-append key_of b rest)
+    ∙ (λ i. owned_keys (owner_at call generation m Opening) x.from_peer.keys i ++ (owned_keys (owner_at call generation m Sealing) x.to_peer.keys i ++ keys_are call generation (m + 1) ms i))
+
+media_keys_next : (x : Option Medium) (later : List (Option Medium)) → media_keys (x ∷ []) ++ media_keys later ≡ media_keys (x ∷ later)
+media_keys_next None later = refl
+media_keys_next (Some x) later =
+    append_assoc (ring_keys x.from_peer.keys) (ring_keys x.to_peer.keys ++ []) (media_keys later)
+    ∙ ap (λ l. ring_keys x.from_peer.keys ++ (l ++ media_keys later)) (append-nil (ring_keys x.to_peer.keys))
+
+-- the keys so far and those to come
+pub keys_next : (keys keys' : List RingKey) (x : Option Medium) (left later media : List (Option Medium)) → left ≡ x ∷ later → keys' ≡ keys ++ media_keys (x ∷ [])
+    → keys ++ media_keys left ≡ media_keys media → keys' ++ media_keys later ≡ media_keys media
+keys_next keys keys' x left later media is pushed so =
+    ap (λ l. l ++ media_keys later) pushed ∙ append_assoc keys (media_keys (x ∷ [])) (media_keys later)
+    ∙ ap (λ l. keys ++ l) (media_keys_next x later) ∙ ap (λ l. keys ++ media_keys l) (sym is) ∙ so

@@ -1,0 +1,6 @@
+use Rattle.std.proofs.Common.{◌≡◌, ◌++◌, drop, map}
+use Rattle.sg_sdp.specs.declared.medium.Medium as descriptions
+use Rattle.sg_leg.proofs.answering.profiles_of.Given as goal
+
+abbrev pub invariant-loop-medium : goal.invariant-loop-medium
+invariant-loop-medium l = l.profiles.items ++ map (λ (m : descriptions.Medium). m.profile) (drop l.medium-index l.media) ≡ map (λ (m : descriptions.Medium). m.profile) l.media

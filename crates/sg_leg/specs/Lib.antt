@@ -1,0 +1,12 @@
+pub mod Answering
+pub mod FreshKeys
+pub mod Installing
+pub mod Messages
+pub mod Open
+pub mod Pairs
+pub mod Planned
+pub mod Served
+pub mod Sound
+pub mod Standing
+pub mod Texts
+pub mod Values
