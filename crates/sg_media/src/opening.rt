@@ -27,7 +27,7 @@ fn open_in(
     requires source { IsStreamOf stream.old keyed.headed.kind keyed.headed.head.ssrc }
     requires key { CanServe keys.old keyed.key keyed.number keyed.headed.head.encrypted }
     ensures answer { (ssrc roc window : ℕ) (indices : List ℕ) (key : Live) → StreamStands stream.old ssrc roc window indices
-        → slice_get keys.old keyed.key ≡ Some key → result ≡ answer_at keyed.headed.kind keyed.headed.pad (opened_at keyed key room (placed keyed.headed.kind roc window indices keyed.headed.head.number)) }
+        → slice_get keys.old keyed.key ≡ Some key → result ≡ answer_at keyed.headed.kind keyed.headed.pad (opened_at keyed.headed key room (placed keyed.headed.kind roc window indices keyed.headed.head.number)) }
     ensures of { stream.new.kind ≡ stream.old.kind }
     ensures stream { IfOk result (λ o. TakesIn stream.old stream.new o.index) }
     ensures keys { IfOk result (λ o. keys.new ≡ spent o.key keys.old) }
@@ -64,7 +64,7 @@ pub(crate) fn open_among(
     requires kinds { AreOfKind streams.old.items keyed.headed.kind }
     requires key { CanServe keys.old keyed.key keyed.number keyed.headed.head.encrypted }
     ensures answer { (done : List Done) (key : Live) → StreamsStand streams.old.items roc window done
-        → slice_get keys.old keyed.key ≡ Some key → result ≡ opened_among keyed key roc window done }
+        → slice_get keys.old keyed.key ≡ Some key → result ≡ answer_at keyed.headed.kind keyed.headed.pad (opened_among keyed.headed key roc window done) }
     ensures streams { IfOk result (λ o. StreamsTake streams.old.items streams.new.items roc window (entry_of o)) }
     ensures keys { IfOk result (λ o. keys.new ≡ spent o.key keys.old) }
     ensures kinds { AreOfKind streams.new.items keyed.headed.kind }
