@@ -1,5 +1,5 @@
--- Opening and sealing by what a side shows, step by step, whatever its session keys come from. `done` is what
--- the side's streams stand for.
+-- Opening and sealing by what a side shows, step by step (RFC 3711, 3.3 and 3.4), whatever its session keys
+-- come from. `done` is what the side's streams stand for.
 use Rattle.std.specs.Prelude.{◌≡◌, ℕ, not, List, Result}
 use Rattle.sg_base.specs.declared.faults.DropCause.{DropCause}
 use Rattle.sg_base.specs.declared.faults.DropCause.TheVariants.{SsrcUnknown}

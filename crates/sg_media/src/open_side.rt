@@ -86,7 +86,8 @@ impl OpenSide {
 
     // The datagram with its head read, its source admitted and its key chosen, or the first cause.
     fn accept(&self, pad: Pad) -> Result<Keyed, (Pad, DropCause)>
-        ensures told { (done : List Done) → HasDone self.now done → MatchResult result (IsAccepted self.now done pad) (λ e. (e.0 ≡ pad) × (side_opens self.now done pad ≡ Err e.1)) }
+        ensures told { (done : List Done) → HasDone self.now done
+            → MatchResult result (IsAccepted self.now done pad) (λ e. (e.0 ≡ pad) × (side_opens self.now done pad ≡ Err e.1)) }
         ensures back { MatchResult result (λ k. (k.headed.pad ≡ pad) × (k.headed.kind ≡ self.now.kind)) (λ e. e.0 ≡ pad) }
         ensures serves { IfOk result (λ k. CanServe self.now.keys k.key k.number k.headed.head.encrypted) }
     {

@@ -27,7 +27,8 @@ fn open_in(
     requires source { IsStreamOf stream.old keyed.headed.kind keyed.headed.head.ssrc }
     requires key { CanServe keys.old keyed.key keyed.number keyed.headed.head.encrypted }
     ensures answer { (ssrc roc window : ℕ) (indices : List ℕ) (key : Live) → StreamStands stream.old ssrc roc window indices
-        → slice_get keys.old keyed.key ≡ Some key → result ≡ answer_at keyed.headed.kind keyed.headed.pad (opened_at keyed.headed key room (placed keyed.headed.kind roc window indices keyed.headed.head.number)) }
+        → slice_get keys.old keyed.key ≡ Some key
+        → result ≡ answer_at keyed.headed.kind keyed.headed.pad (opened_at keyed.headed key room (placed keyed.headed.kind roc window indices keyed.headed.head.number)) }
     ensures of { stream.new.kind ≡ stream.old.kind }
     ensures stream { IfOk result (λ o. TakesIn stream.old stream.new o.index) }
     ensures keys { IfOk result (λ o. keys.new ≡ spent o.key keys.old) }

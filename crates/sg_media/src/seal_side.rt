@@ -87,7 +87,8 @@ impl SealSide {
     // The packet with its head read and its source admitted, or the first cause.
     fn admit(&self, pad: Pad) -> Result<Headed, (Pad, DropCause)>
         requires { length pad ≤ 4096 }
-        ensures told { (done : List Done) → HasDone self.now done → MatchResult result (IsAdmitted self.now done pad) (λ e. (e.0 ≡ pad) × (side_seals self.now done pad ≡ Err e.1)) }
+        ensures told { (done : List Done) → HasDone self.now done
+            → MatchResult result (IsAdmitted self.now done pad) (λ e. (e.0 ≡ pad) × (side_seals self.now done pad ≡ Err e.1)) }
         ensures back { MatchResult result (λ h. (h.pad ≡ pad) × (h.kind ≡ self.now.kind)) (λ e. e.0 ≡ pad) }
         ensures encrypts { IfOk result (λ h. EachEncrypts self.now.keys h.head.encrypted) }
     {
