@@ -1,79 +1,105 @@
--- From the steps of opening to what the session opens.
-use Rattle.std.proofs.Common.{◌≡◌, ℕ, ◌+◌, Bool, true, false, not, List, [], ◌∷◌, length, map, Some, Result, Ok, Err, refl, ap, sym, ◌∙◌, inl, inr}
-use Rattle.std.specs.Prelude.{nat_lt}
-use Rattle.std.proofs.lemmas.Bool.{cases_Bool}
-use Rattle.sg_base.specs.Octets.{same_octets}
+-- From the steps of opening to what a side opens, and from there to the sessions that it stands for.
+use Rattle.std.proofs.Common.{◌≡◌, ℕ, Bool, true, false, not, List, Result, Ok, Err, IfOk, refl, ap, subst, sym, ◌∙◌}
 use Rattle.sg_base.specs.declared.addresses.Kind.{Kind}
-use Rattle.sg_base.specs.declared.addresses.Kind.TheVariants.{Rtp, Rtcp}
 use Rattle.sg_base.specs.declared.faults.DropCause.{DropCause}
-use Rattle.sg_base.specs.declared.faults.DropCause.TheVariants as cause
-use Rattle.sg_hmac.specs.Hmac.{hmac_sha1}
-use Rattle.sg_keys.specs.Live.{Live, mki_len as live_mki_len}
-use Rattle.sg_keys.specs.KeySet.{chosen_if}
-use Rattle.sg_keys.specs.Stands.{live, live_key}
-use Rattle.sg_session.specs.Opening.{Head, Check, Taken, covered_of_kind, checked, fresh_index, head_in, head_of_kind, half_in, key_with, mki_in, mki_len, mki_len_of, opened_if, opens, packet_of, part_of_kind, place_in, place_of_kind, tag_fits, tag_in, taken_by}
-use Rattle.sg_session.specs.Sealed.{crypted}
-use Rattle.sg_session.specs.Session.{Key, Done, Session, admits, count_of, has_room, index_in, indices_of, is_live}
+use Rattle.sg_base.specs.declared.faults.DropCause.TheVariants.{SsrcUnknown}
+use Rattle.sg_keys.specs.Live.{Live, mki_len as live_mki_len, spent}
+use Rattle.sg_session.specs.OneSession.{after}
+use Rattle.sg_session.specs.Opening.{Head, Taken, mki_len, opens}
+use Rattle.sg_session.specs.Session.{Done, Session, is_admitted}
 use Rattle.sg_session.specs.Stages.{after_ok, stop_if}
-use Rattle.sg_session.proofs.Inversions.{ok_is}
-use Rattle.sg_states.specs.Choosing.{chosen_for, with_key_cause}
-use Rattle.sg_states.specs.Inbound.{Heading, Keying, packet_at}
-use Rattle.sg_states.specs.Parts.{covered_by, prefix_of, heading, heading_of, part_of, tag_fits_at}
-use Rattle.sg_states.specs.Placing.{placed}
+use Rattle.sg_states.specs.Choosing.{chosen_for}
+use Rattle.sg_states.specs.Inbound.{Heading, Keying, IsKeyed}
+use Rattle.sg_states.specs.Parts.{heading, mki_of}
+use Rattle.sg_states.specs.Steps.{done_of, opening_steps}
+use Rattle.sg_states.specs.StreamValues.{StreamValue}
+use Rattle.sg_states.proofs.OpeningLaw.{mki_len_is, opening_is}
 use Rattle.sg_media.specs.declared.inbound.Opened.{Opened}
-use Rattle.sg_states.specs.Choosing.{usable_in}
-use Rattle.sg_states.specs.Steps.{heading_in}
-use Rattle.sg_states.proofs.OpeningLaw.{fits_is, packet_is, placed_check, placed_kind, spent_or, usable_err, usable_ok}
 use Rattle.sg_media.specs.Accepting.{IsAccepted}
-use Rattle.sg_media.specs.Answers.{answer_at, entry_of, opened_at, opened_of}
-use Rattle.sg_media.specs.Standing.{room_in}
+use Rattle.sg_media.specs.Answers.{answer_at, entry_of, opened_among, opened_of}
+use Rattle.sg_media.specs.Sides.{SideValue, StandsFor}
+use Rattle.sg_media.specs.Standing.{StreamsTake}
+use Rattle.sg_media.specs.States.{IsHeadedAs}
+use Rattle.sg_media.specs.Steps.{SideTakes, heading_at, opened_headed, side_opens}
 
--- ---- refusals before a key is chosen
-pub unheaded : (s : Session) (d : List ℕ) (c : DropCause) → head_in s d ≡ Err c → opens s d ≡ Err c
-unheaded s d c e = rw e refl
+-- ---- a datagram with its head
+pub record IsHeadAt (v : SideValue) (d : List ℕ) (h : Heading) : Type 0 where
+  pub reads : heading v.kind v.encrypts (live_mki_len v.keys) v.tag_len d ≡ Ok h.head
+  pub same : h ≡ heading_at v d h.head
 
-pub unadmitted : (s : Session) (d : List ℕ) (h : Head) → head_in s d ≡ Ok h → admits s h.ssrc ≡ false → opens s d ≡ Err cause.SsrcUnknown
-unadmitted s d h e a = rw (e, a) refl
+pub headed_at : (v : SideValue) (d : List ℕ) (m : ℕ) (h : Heading) → m ≡ live_mki_len v.keys → IsHeadedAs d v.kind v.encrypts m v.tag_len h → IsHeadAt v d h
+headed_at v d m h e is = record {
+  reads = sym (ap (λ n. heading v.kind v.encrypts n v.tag_len d) e) ∙ is.reads;
+  same = λ i. record { pad = is.same_pad i; kind = is.same_kind i; mki_len = (is.same_mki_len ∙ e) i; tag_len = is.same_tag_len i; head = h.head };
+}
 
-headed_checks : (s : Session) (d : List ℕ) (h : Head) → head_in s d ≡ Ok h → admits s h.ssrc ≡ true
-    → checked s d ≡ after_ok (key_with s.keys (mki_in s d)) (spent_or s (placed_check s h))
-headed_checks s d h e a = rw (e, a) refl
+module _ (v : SideValue) (done : List Done) (d : List ℕ) where
+  abbrev with_head : Result Head DropCause → Result Done DropCause
+  with_head r = after_ok r (λ head. opened_headed v done (heading_at v d head))
 
-pub unkeyed : (s : Session) (d : List ℕ) (h : Head) (c : DropCause) → head_in s d ≡ Ok h → admits s h.ssrc ≡ true → usable_in s s.keys (mki_in s d) ≡ Err c → opens s d ≡ Err c
-unkeyed s d h c e a u = ap (λ r. after_ok r (opened_if s d)) (headed_checks s d h e a ∙ usable_err s (placed_check s h) (key_with s.keys (mki_in s d)) c u)
+  abbrev with_source : Head → Bool → Result Done DropCause
+  with_source head b = stop_if (not b) SsrcUnknown (after_ok (chosen_for v.keys (mki_of (live_mki_len v.keys) v.tag_len d)) (λ key. opened_among (heading_at v d head) key v.roc v.window done))
 
-keyed_checks : (s : Session) (d : List ℕ) (h : Head) (k : Key) → head_in s d ≡ Ok h → admits s h.ssrc ≡ true → usable_in s s.keys (mki_in s d) ≡ Ok k
-    → checked s d ≡ after_ok (placed s.name.kind s.roc s.window (indices_of s.done h.ssrc) h.number) (λ j. Ok (record { key = k; head = h; index = j }))
-keyed_checks s d h k e a u =
-    headed_checks s d h e a ∙ usable_ok s (placed_check s h) (key_with s.keys (mki_in s d)) k u
-    ∙ placed_kind s.name.kind s h (λ j. Ok (record { key = k; head = h; index = j }))
+  abbrev with_key : Head → Result Live DropCause → Result Done DropCause
+  with_key head r = after_ok r (λ key. opened_among (heading_at v d head) key v.roc v.window done)
 
-abbrev tag_then : Session → List ℕ → Bool → Bool → Done → Result Opened (List ℕ × DropCause)
-tag_then s d fits room done = answer_at s.name.kind d (stop_if (not fits) cause.BadTag (stop_if (not room) cause.StreamsFull (Ok done)))
+  pub unheaded : (m : ℕ) (c : DropCause) → m ≡ live_mki_len v.keys → heading v.kind v.encrypts m v.tag_len d ≡ Err c → side_opens v done d ≡ Err c
+  unheaded m c e h = ap with_head (sym (ap (λ n. heading v.kind v.encrypts n v.tag_len d) e) ∙ h)
 
-taken_is : (s : Session) (d : List ℕ) (k : Check) (fits room : Bool)
-    → tag_then s d fits room (taken_by s d k).done ≡ opened_of s.name.kind d (stop_if (not fits) cause.BadTag (stop_if (not room) cause.StreamsFull (Ok (taken_by s d k))))
-taken_is s d k false room = refl
-taken_is s d k true false = refl
-taken_is s d k true true = refl
+  pub unadmitted : (h : Heading) → IsHeadAt v d h → is_admitted v.admit done h.head.ssrc ≡ false → side_opens v done d ≡ Err SsrcUnknown
+  unadmitted h is a = ap with_head is.reads ∙ ap (with_source h.head) a
 
-one_opens : (s : Session) (d : List ℕ) (h : Head) (key : Key) (at number : ℕ) (r : Result ℕ DropCause)
-    → answer_at s.name.kind d (opened_at (record { headed = heading_in s d h; key = at; number = number }) (live_key s key) (has_room s h.ssrc) r)
-    ≡ opened_of s.name.kind d (after_ok (after_ok r (λ j. Ok (record { key = key; head = h; index = j }))) (opened_if s d))
-one_opens s d h key at number (Err c) = refl
-one_opens s d h key at number (Ok i) =
-    let k : Check = record { key = key; head = h; index = i } in
-    (λ j. tag_then s d (fits_is s d k j) (has_room s h.ssrc) (record { ssrc = h.ssrc; index = i; key = key.number; packet = packet_is s d k j }))
-    ∙ taken_is s d k (tag_fits s k d) (has_room s h.ssrc)
+  pub unkeyed : (h : Heading) (c : DropCause) → IsHeadAt v d h → is_admitted v.admit done h.head.ssrc ≡ true → chosen_for v.keys (mki_of h.mki_len h.tag_len h.pad) ≡ Err c
+      → side_opens v done d ≡ Err c
+  unkeyed h c is a choice =
+      ap with_head is.reads ∙ ap (with_source h.head) a
+      ∙ ap (with_key h.head) (sym (ap (λ (g : Heading). chosen_for v.keys (mki_of g.mki_len g.tag_len g.pad)) is.same) ∙ choice)
 
--- what a keyed datagram opens as
-pub keyed_opens : (s : Session) (d : List ℕ) (k : Keying) (a : IsAccepted s d k)
-    → answer_at k.headed.kind k.headed.pad (opened_at k (live_key s a.key) (room_in s.done k.headed.head.ssrc) (placed k.headed.kind s.roc s.window (indices_of s.done k.headed.head.ssrc) k.headed.head.number))
-    ≡ opened_of s.name.kind d (opens s d)
-keyed_opens s d k a =
-    ap (λ (h : Heading). answer_at h.kind h.pad (opened_at (record { headed = h; key = k.key; number = k.number }) (live_key s a.key) (room_in s.done h.head.ssrc) (placed h.kind s.roc s.window (indices_of s.done h.head.ssrc) h.head.number))) a.same
-    ∙ one_opens s d a.head a.key k.key k.number (placed s.name.kind s.roc s.window (indices_of s.done a.head.ssrc) a.head.number)
-    ∙ sym (ap (λ r. opened_of s.name.kind d (after_ok r (opened_if s d))) (keyed_checks s d a.head a.key a.reads a.admitted a.chosen))
+  pub accepted : (h : Heading) (k : Keying) → IsHeadAt v d h → is_admitted v.admit done h.head.ssrc ≡ true → IsKeyed h v.keys k → IsAccepted v done d k
+  accepted h k is a keyed = record {
+    head = h.head;
+    reads = is.reads;
+    same = keyed.same ∙ is.same;
+    admitted = a;
+    key = keyed.key;
+    chosen = sym (ap (λ (g : Heading). chosen_for v.keys (mki_of g.mki_len g.tag_len g.pad)) is.same) ∙ keyed.choice;
+    at = keyed.at;
+  }
+
+  -- what a keyed datagram opens as
+  pub keyed_opens : (k : Keying) (a : IsAccepted v done d k)
+      → answer_at k.headed.kind k.headed.pad (opened_among k.headed a.key v.roc v.window done) ≡ answer_at v.kind d (side_opens v done d)
+  keyed_opens k a =
+      ap (λ (h : Heading). answer_at h.kind h.pad (opened_among h a.key v.roc v.window done)) a.same
+      ∙ sym (ap (answer_at v.kind d) (ap with_head a.reads ∙ ap (with_source a.head) a.admitted ∙ ap (with_key a.head) a.chosen))
+
+pub refused_as : (kind : Kind) (d : List ℕ) (x : List ℕ × DropCause) (r : Result Done DropCause) → x.0 ≡ d → r ≡ Err (x.1) → Err x ≡ answer_at kind d r
+refused_as kind d x r a b = (λ i. let y : Result Opened (List ℕ × DropCause) = Err (a i, x.1) in y) ∙ sym (ap (answer_at kind d) b)
+
+-- ---- the sessions that a side stands for
+module _ (v : SideValue) (s : Session) (d : List ℕ) (st : StandsFor v s) where
+  steps_are : side_opens v s.done d ≡ opening_steps s d
+  steps_are =
+      let size : live_mki_len v.keys ≡ mki_len s = ap live_mki_len st.same_keys ∙ mki_len_is s s.keys in
+      λ i.
+      after_ok (heading (st.same_kind i) (st.same_encrypts i) (size i) (st.same_tag_len i) d)
+      (λ head. opened_headed (record { kind = st.same_kind i; keys = st.same_keys i; streams = v.streams; roc = st.same_roc i; window = st.same_window i; admit = st.same_admit i; encrypts = st.same_encrypts i; tag_len = st.same_tag_len i })
+      s.done (record { pad = d; kind = st.same_kind i; mki_len = size i; tag_len = st.same_tag_len i; head = head }))
+
+  answer_is : (r : Result Taken DropCause) → answer_at s.name.kind d (done_of r) ≡ opened_of s.name.kind d r
+  answer_is (Ok t) = refl
+  answer_is (Err c) = refl
+
+  pub session_opens : answer_at v.kind d (side_opens v s.done d) ≡ opened_of s.name.kind d (opens s d)
+  session_opens = (λ i. answer_at (st.same_kind i) d ((steps_are ∙ opening_is s d) i)) ∙ answer_is (opens s d)
+
+  cause_is : (r : Result Taken DropCause) (c : DropCause) → done_of r ≡ Err c → r ≡ Err c
+  cause_is (Ok t) c e = cc
+  cause_is (Err b) c e = let same : b ≡ c = cc in ap (λ x. Err x) same
+
+  -- a side that refuses stands for the session afterwards
+  pub stands_refused : (c : DropCause) → side_opens v s.done d ≡ Err c → StandsFor v (after s (opens s d))
+  stands_refused c e = subst (λ r. StandsFor v (after s r)) (sym (cause_is (opens s d) c (sym (steps_are ∙ opening_is s d) ∙ e))) st
 
 -- ---- what an answer tells
 pub opened_ok : (kind : Kind) (d : List ℕ) (r : Result Taken DropCause) (o : Opened) → Ok o ≡ opened_of kind d r → (t : Taken) × (r ≡ Ok t) × (entry_of o ≡ t.done)
@@ -85,3 +111,9 @@ opened_ok kind d (Err c) o e = cc
 pub opened_err : (kind : Kind) (d : List ℕ) (r : Result Taken DropCause) (x : List ℕ × DropCause) → Err x ≡ opened_of kind d r → (c : DropCause) × (r ≡ Err c)
 opened_err kind d (Ok t) x e = cc
 opened_err kind d (Err c) x e = (c, refl)
+
+pub side_takes : (E : Type 0) (v : SideValue) (r : Result Opened E) (keys : List Live) (streams : List StreamValue)
+    → IfOk r (λ o. StreamsTake v.streams streams v.roc v.window (entry_of o)) → IfOk r (λ o. keys ≡ spent o.key v.keys)
+    → IfOk r (λ o. SideTakes v (record v { keys = keys; streams = streams }) (entry_of o))
+side_takes E v (Ok o) keys streams grown served = record { rest = ap (λ (ks : List Live). record v { keys = ks; streams = streams }) served; streams = grown }
+side_takes E v (Err e) keys streams grown served = tt

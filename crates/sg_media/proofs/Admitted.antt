@@ -1,77 +1,86 @@
--- From the steps of sealing to what the session seals.
-use Rattle.std.proofs.Common.{◌≡◌, ℕ, suc, ◌<◌, Bool, true, false, not, find, List, [], ◌∷◌, ◌++◌, ◌-◌, length, map, slice_get, Option, Some, None, Result, Ok, Err, IfOk, OnErr, refl, arith, ap, subst, sym, ◌∙◌, inl, inr}
-use Rattle.std.proofs.lemmas.Bool.{cases_Bool}
+-- From the steps of sealing to what a side seals, and from there to the sessions that it stands for.
+use Rattle.std.proofs.Common.{◌≡◌, ℕ, ◌<◌, Bool, true, false, not, List, [], ◌∷◌, ◌++◌, length, Result, Ok, Err, IfOk, OnErr, refl, ap, subst, sym, ◌∙◌}
 use Rattle.std.proofs.lemmas.List.{length-map}
-use Rattle.sg_base.specs.declared.keys.HalfKeys.{HalfKeys}
-use Rattle.sg_session.proofs.Inversions.{ok_is}
-use Rattle.sg_session.proofs.Taking.{seals_is}
-use Rattle.sg_media.specs.Ciphers.{HaveCiphers}
 use Rattle.sg_base.specs.declared.addresses.Kind.{Kind}
-use Rattle.sg_base.specs.declared.addresses.Kind.TheVariants.{Rtp, Rtcp}
 use Rattle.sg_base.specs.declared.faults.DropCause.{DropCause}
-use Rattle.sg_base.specs.declared.faults.DropCause.TheVariants as cause
-use Rattle.sg_base.specs.declared.faults.HeadFault.{HeadFault}
-use Rattle.sg_rtp.specs.Heads.{rtp_head, rtcp_head}
-use Rattle.sg_rtp.specs.declared.heads.RtpHead.{RtpHead}
-use Rattle.sg_rtp.specs.declared.heads.RtcpHead.{RtcpHead}
-use Rattle.sg_keys.specs.Live.{Live, is_alive, spent, spent_if}
-use Rattle.sg_keys.specs.KeySet.{sealing_if, told}
-use Rattle.sg_keys.specs.Stands.{live, live_key}
+use Rattle.sg_base.specs.declared.faults.DropCause.TheVariants.{SsrcUnknown}
+use Rattle.sg_keys.specs.Live.{Live, spent, spent_if}
 use Rattle.sg_session.specs.OneSession.{after}
-use Rattle.sg_session.specs.Opening.{Head, Taken, half_in, of_rtp, of_rtcp}
-use Rattle.sg_session.specs.Sealed.{crypted, head_size, index_word, sealed_text, size_of, tagged_rtp, tagged_rtcp}
-use Rattle.sg_session.specs.Sealing.{datagram_of, head_out, head_out_of_kind, number_of_kind, number_out, sealing_key, seals}
-use Rattle.sg_session.specs.Session.{Key, Done, Session, admits, has_room, indices_of, is_live}
+use Rattle.sg_session.specs.Opening.{Head, Taken}
+use Rattle.sg_session.specs.Sealing.{datagram_of, seals}
+use Rattle.sg_session.specs.Session.{Done, Session, is_admitted}
 use Rattle.sg_session.specs.Stages.{after_ok, stop_if}
-use Rattle.sg_states.specs.Choosing.{chosen_to_seal, with_spent_cause}
-use Rattle.sg_states.specs.Outbound.{Outgoing, closed}
-use Rattle.sg_media.specs.States.{IsOutHeadedAs}
+use Rattle.sg_session.proofs.Taking.{seals_is}
+use Rattle.sg_states.specs.Outbound.{Outgoing}
 use Rattle.sg_states.specs.Parts.{heading_out}
-use Rattle.sg_states.specs.Placing.{next_index}
+use Rattle.sg_states.specs.Steps.{sealing_steps, text_of}
 use Rattle.sg_states.specs.StreamValues.{StreamValue}
+use Rattle.sg_states.proofs.SealingLaw.{sealing_is}
 use Rattle.sg_media.specs.declared.outbound.Sealed.{Sealed}
-use Rattle.sg_states.proofs.OpeningLaw.{live_result}
-use Rattle.sg_states.proofs.SealingLaw.{heading_out_is, next_kind, out_parts, sealing_live, taken_at, text_is}
 use Rattle.sg_media.specs.Accepting.{IsAdmitted}
-use Rattle.sg_media.specs.Answers.{closed_at, entry_out, roomed, sealed_at, sealed_of, told_of}
+use Rattle.sg_media.specs.Answers.{Closed, closed_among, entry_out, roomed, sealed_of, told_of}
+use Rattle.sg_media.specs.Ciphers.{HaveCiphers}
 use Rattle.sg_media.specs.Sides.{SideValue, StandsFor}
-use Rattle.sg_media.specs.Standing.{StreamsStand, room_in}
+use Rattle.sg_media.specs.Standing.{StreamsStand, StreamsTake, room_in}
+use Rattle.sg_media.specs.States.{IsOutHeadedAs}
+use Rattle.sg_media.specs.Steps.{SideTakes, outgoing_at, sealed_headed, side_seals}
 use Rattle.sg_media.proofs.SideSteps.{done_more, spent_ciphers, stands_with, stands_same, streams_in}
 
--- ---- heads
-pub unheaded_out : (s : Session) (p : List ℕ) (c : DropCause) → head_out s p ≡ Err c → seals s p ≡ Err c
-unheaded_out s p c e = rw e refl
+-- ---- a packet with its head
+out_headed_at : (v : SideValue) (p : List ℕ) (h : Outgoing) → IsOutHeadedAs p v.kind v.encrypts h → h ≡ outgoing_at v p h.head
+out_headed_at v p h is = λ i. record { pad = is.same_pad i; kind = is.same_kind i; head = h.head }
 
-pub unadmitted_out : (s : Session) (p : List ℕ) (h : Head) → head_out s p ≡ Ok h → admits s h.ssrc ≡ false → seals s p ≡ Err cause.SsrcUnknown
-unadmitted_out s p h e a = rw (e, a) refl
+module _ (v : SideValue) (done : List Done) (p : List ℕ) where
+  abbrev with_head : Result Head DropCause → Result Closed DropCause
+  with_head r = after_ok r (λ head. sealed_headed v done (outgoing_at v p head))
 
-abbrev outgoing : Session → List ℕ → Head → Outgoing
-outgoing s p head = record { pad = p; kind = s.name.kind; head = head }
+  abbrev with_source : Head → Bool → Result Closed DropCause
+  with_source head b = stop_if (not b) SsrcUnknown (roomed (room_in done head.ssrc) (closed_among (outgoing_at v p head) v.keys v.tag_len v.roc v.window done))
 
-one_seals : (s : Session) (p : List ℕ) (head : Head) → head.size ≡ head_size s.name.kind p → head.encrypted ≡ s.encrypts → (room : Bool) (rk : Result Key DropCause) (r : Result ℕ DropCause)
-    → told_of s.name.kind p (roomed room (after_ok (live_result s rk) (λ key. after_ok r (λ i. Ok (closed_at (outgoing s p head) s.tag_len key i)))))
-    ≡ sealed_of s p (stop_if (not room) cause.StreamsFull (after_ok rk (λ k. after_ok r (λ i. Ok (taken_at head p k i)))))
-one_seals s p head z e false rk r = refl
-one_seals s p head z e true (Err c) r = refl
-one_seals s p head z e true (Ok k) (Err c) = refl
-one_seals s p head z e true (Ok k) (Ok i) =
-    let text = text_is s.name.kind (half_in s k) head s.encrypts s.tag_len i k.mki p z e in
-    (λ j. let r : Result Sealed (List ℕ × DropCause) = Ok (record { pad = text j; kind = s.name.kind; ssrc = head.ssrc; index = i; key = k.number }) in r)
+  pub unheaded_out : (c : DropCause) → heading_out v.kind v.encrypts p ≡ Err c → side_seals v done p ≡ Err c
+  unheaded_out c h = ap with_head h
 
-seals_from : (s : Session) (p : List ℕ) (h : Head) → head_out s p ≡ Ok h → admits s h.ssrc ≡ true
-    → seals s p ≡ stop_if (not (has_room s h.ssrc)) cause.StreamsFull (after_ok (sealing_key s s.keys) (λ k. after_ok (number_out s h) (λ i. Ok (taken_at h p k i))))
-seals_from s p h e a = rw (e, a) refl
+  pub unadmitted_out : (h : Outgoing) → IsOutHeadedAs p v.kind v.encrypts h → is_admitted v.admit done h.head.ssrc ≡ false → side_seals v done p ≡ Err SsrcUnknown
+  unadmitted_out h is a = ap with_head is.reads ∙ ap (with_source h.head) a
 
--- what an admitted packet is sealed as
-pub admitted_seals : (s : Session) (p : List ℕ) (h : Outgoing) (a : IsAdmitted s p h) → 0 < length (live s)
-    → told_of h.kind h.pad (roomed (room_in s.done h.head.ssrc) (sealed_at h (live s) s.tag_len (next_index h.kind s.roc s.window (indices_of s.done h.head.ssrc) h.head.number)))
-    ≡ sealed_of s p (seals s p)
-admitted_seals s p h a some =
-    let parts = out_parts s.name.kind s p a.head a.reads in
-    ap (λ (g : Outgoing). told_of g.kind g.pad (roomed (room_in s.done g.head.ssrc) (sealed_at g (live s) s.tag_len (next_index g.kind s.roc s.window (indices_of s.done g.head.ssrc) g.head.number)))) a.same
-    ∙ (λ i. told_of s.name.kind p (roomed (has_room s a.head.ssrc) (after_ok (sealing_live s s.keys some i) (λ key. after_ok (next_kind s.name.kind s a.head i) (λ j. Ok (closed_at (outgoing s p a.head) s.tag_len key j))))))
-    ∙ one_seals s p a.head parts.0 parts.1 (has_room s a.head.ssrc) (sealing_key s s.keys) (number_out s a.head)
-    ∙ sym (ap (sealed_of s p) (seals_from s p a.head a.reads a.admitted))
+  pub admitted : (h : Outgoing) → IsOutHeadedAs p v.kind v.encrypts h → is_admitted v.admit done h.head.ssrc ≡ true → IsAdmitted v done p h
+  admitted h is a = record { head = h.head; reads = is.reads; same = out_headed_at v p h is; admitted = a }
+
+  -- what an admitted packet is sealed as
+  pub admitted_seals : (h : Outgoing) → IsAdmitted v done p h
+      → told_of h.kind h.pad (roomed (room_in done h.head.ssrc) (closed_among h v.keys v.tag_len v.roc v.window done)) ≡ told_of v.kind p (side_seals v done p)
+  admitted_seals h a =
+      ap (λ (g : Outgoing). told_of g.kind g.pad (roomed (room_in done g.head.ssrc) (closed_among g v.keys v.tag_len v.roc v.window done))) a.same
+      ∙ sym (ap (told_of v.kind p) (ap with_head a.reads ∙ ap (with_source a.head) a.admitted))
+
+pub refused_out : (kind : Kind) (p : List ℕ) (x : List ℕ × DropCause) (r : Result Closed DropCause) → x.0 ≡ p → r ≡ Err (x.1) → Err x ≡ told_of kind p r
+refused_out kind p x r a b = (λ i. let y : Result Sealed (List ℕ × DropCause) = Err (a i, x.1) in y) ∙ sym (ap (told_of kind p) b)
+
+-- ---- the sessions that a side stands for
+module _ (v : SideValue) (s : Session) (p : List ℕ) (st : StandsFor v s) (some : 0 < length v.keys) where
+  steps_are : side_seals v s.done p ≡ sealing_steps s p
+  steps_are = λ i.
+      after_ok (heading_out (st.same_kind i) (st.same_encrypts i) p)
+      (λ head. sealed_headed (record { kind = st.same_kind i; keys = st.same_keys i; streams = v.streams; roc = st.same_roc i; window = st.same_window i; admit = st.same_admit i; encrypts = st.same_encrypts i; tag_len = st.same_tag_len i })
+      s.done (record { pad = p; kind = st.same_kind i; head = head }))
+
+  session_steps : side_seals v s.done p ≡ text_of s (seals s p)
+  session_steps = steps_are ∙ sealing_is s p (subst (λ (ks : List Live). 0 < length ks) st.same_keys some)
+
+  told_is : (r : Result Taken DropCause) → told_of s.name.kind p (text_of s r) ≡ sealed_of s p r
+  told_is (Ok t) = refl
+  told_is (Err c) = refl
+
+  pub session_seals : told_of v.kind p (side_seals v s.done p) ≡ sealed_of s p (seals s p)
+  session_seals = (λ i. told_of (st.same_kind i) p (session_steps i)) ∙ told_is (seals s p)
+
+  cause_is : (r : Result Taken DropCause) (c : DropCause) → text_of s r ≡ Err c → r ≡ Err c
+  cause_is (Ok t) c e = cc
+  cause_is (Err b) c e = let same : b ≡ c = cc in ap (λ x. Err x) same
+
+  -- a side that refuses stands for the session afterwards
+  pub stands_refused_out : (c : DropCause) → side_seals v s.done p ≡ Err c → StandsFor v (after s (seals s p))
+  stands_refused_out c e = subst (λ r. StandsFor v (after s r)) (sym (cause_is (seals s p) c (sym session_steps ∙ e))) st
 
 -- ---- what an answer tells
 sealed_ok : (s : Session) (p : List ℕ) (r : Result Taken DropCause) (o : Sealed) → Ok o ≡ sealed_of s p r
@@ -109,13 +118,8 @@ pub some_sealed : (A E : Type 0) (r : Result Sealed E) (new old : List Live) →
 some_sealed A E (Ok o) new old ok err some = subst (λ n. 0 < n) (sym (ap length ok ∙ length-map old (spent_if o.key))) some
 some_sealed A E (Err e) new old ok err some = subst (λ (ks : List Live). 0 < length ks) (sym (err.1)) some
 
--- ---- a packet whose source is admitted
-pub record IsOutIn (s : Session) (p : List ℕ) (h : Outgoing) : Type 0 where
-  pub reads : head_out s p ≡ Ok h.head
-  pub same : h ≡ record { pad = p; kind = s.name.kind; head = h.head }
-
-pub headed_out_in : (side : SideValue) (s : Session) (p arrived : List ℕ) (h : Outgoing) → StandsFor side s → arrived ≡ p → IsOutHeadedAs arrived side.kind side.encrypts h → IsOutIn s p h
-headed_out_in side s p arrived h st e is = record {
-  reads = sym (heading_out_is s p) ∙ sym (λ i. heading_out (st.same_kind i) (st.same_encrypts i) (e i)) ∙ is.reads;
-  same = λ i. record { pad = (is.same_pad ∙ e) i; kind = (is.same_kind ∙ st.same_kind) i; head = h.head };
-}
+pub side_takes_out : (E : Type 0) (p : List ℕ) (v : SideValue) (r : Result Sealed E) (keys : List Live) (streams : List StreamValue)
+    → IfOk r (λ o. StreamsTake v.streams streams v.roc v.window (entry_out p o)) → IfOk r (λ o. keys ≡ spent o.key v.keys)
+    → IfOk r (λ o. SideTakes v (record v { keys = keys; streams = streams }) (entry_out p o))
+side_takes_out E p v (Ok o) keys streams grown served = record { rest = ap (λ (ks : List Live). record v { keys = ks; streams = streams }) served; streams = grown }
+side_takes_out E p v (Err e) keys streams grown served = tt

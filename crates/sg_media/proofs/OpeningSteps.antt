@@ -12,7 +12,7 @@ use Rattle.sg_media.specs.Answers.{answer_at, entry_at, opened_at}
 
 -- the answer to a keyed datagram whose number has this place
 abbrev pub keyed_answer : Keying → Live → Bool → Result ℕ DropCause → Result Opened (List ℕ × DropCause)
-keyed_answer k key room r = answer_at k.headed.kind k.headed.pad (opened_at k key room r)
+keyed_answer k key room r = answer_at k.headed.kind k.headed.pad (opened_at k.headed key room r)
 
 refused_is : (x : List ℕ × DropCause) (pad : List ℕ) (cause : DropCause) → x.0 ≡ pad → x.1 ≡ cause
     → (let r : Result Opened (List ℕ × DropCause) = Err x in r ≡ Err (pad, cause))
@@ -22,7 +22,7 @@ pub unplaced : (k : Keying) (key : Live) (room : Bool) (r : Result ℕ DropCause
 unplaced k key room r x pad e = refused_is x k.headed.pad (x.1) pad refl ∙ sym (ap (keyed_answer k key room) e)
 
 abbrev after_tag : Placing → Live → Bool → Bool → Result Opened (List ℕ × DropCause)
-after_tag p key room fits = answer_at p.keyed.headed.kind p.keyed.headed.pad (stop_if (not fits) BadTag (stop_if (not room) StreamsFull (Ok (entry_at p.keyed key p.index))))
+after_tag p key room fits = answer_at p.keyed.headed.kind p.keyed.headed.pad (stop_if (not fits) BadTag (stop_if (not room) StreamsFull (Ok (entry_at p.keyed.headed key p.index))))
 
 placed_is : (p : Placing) (key : Live) (room : Bool) (r : Result ℕ DropCause) → r ≡ Ok p.index → keyed_answer p.keyed key room r ≡ after_tag p key room (fits_under p key)
 placed_is p key room r e = ap (keyed_answer p.keyed key room) e

@@ -1,79 +1,24 @@
 -- From a side to the sessions that it stands for.
-use Rattle.std.proofs.Common.{◌≡◌, ℕ, zero, suc, ◌+◌, ◌<◌, Bool, true, false, cond, nat_eq, List, [], ◌∷◌, ◌++◌, length, map, count_by, slice_get, Some, Result, Ok, Err, IfOk, OnErr, refl, ap, subst, sym, ◌∙◌, inl, inr, add-zero}
+use Rattle.std.proofs.Common.{◌≡◌, ℕ, zero, suc, ◌+◌, ◌<◌, Bool, true, false, cond, nat_eq, List, [], ◌∷◌, ◌++◌, length, map, count_by, Result, Ok, Err, IfOk, OnErr, refl, ap, subst, sym, ◌∙◌, inl, inr, add-zero}
 use Rattle.std.proofs.lemmas.Bool.{cases_eq, eq-eqb, ne_eqb}
 use Rattle.std.proofs.lemmas.List.{length-map}
 use Rattle.std.proofs.lemmas.List.Sums.{sum_by-append}
 use Rattle.sg_base.specs.declared.addresses.Kind.{Kind}
 use Rattle.sg_base.specs.declared.faults.DropCause.{DropCause}
 use Rattle.sg_base.specs.declared.keys.HalfKeys.{HalfKeys}
-use Rattle.sg_keys.specs.Live.{Live, mki_len as live_mki_len, served, spent, spent_if}
+use Rattle.sg_keys.specs.Live.{Live, served, spent, spent_if}
 use Rattle.sg_keys.specs.Stands.{live, live_key}
 use Rattle.sg_keys.proofs.Spending.{same_half}
 use Rattle.sg_session.specs.OneSession.{after}
-use Rattle.sg_session.specs.Opening.{head_in, mki_in, mki_len, opens}
-use Rattle.sg_session.specs.Session.{Key, Done, Session, admits}
-use Rattle.sg_states.specs.Choosing.{chosen_for}
-use Rattle.sg_states.specs.Inbound.{Heading, Keying, IsKeyed}
-use Rattle.sg_media.specs.States.{IsHeadedAs}
-use Rattle.sg_states.specs.Parts.{heading, mki_of}
+use Rattle.sg_session.specs.Opening.{opens}
+use Rattle.sg_session.specs.Session.{Key, Done, Session}
 use Rattle.sg_states.specs.StreamValues.{StreamValue}
 use Rattle.sg_media.specs.declared.inbound.Opened.{Opened}
-use Rattle.sg_states.specs.Steps.{heading_in}
-use Rattle.sg_media.specs.Accepting.{IsAccepted}
 use Rattle.sg_media.specs.Answers.{entry_of, opened_of}
 use Rattle.sg_media.specs.Ciphers.{HaveCiphers}
 use Rattle.sg_media.specs.Sides.{SideValue, StandsFor}
 use Rattle.sg_media.specs.Standing.{StreamsStand}
-use Rattle.sg_states.proofs.OpeningLaw.{heading_is, mki_len_is, chosen_key, unchosen_key}
-use Rattle.sg_media.proofs.Accepted.{unkeyed, opened_ok, opened_err}
-
--- ---- heads and keys
-pub record IsHeadIn (s : Session) (d : List ℕ) (h : Heading) : Type 0 where
-  pub reads : head_in s d ≡ Ok h.head
-  pub same : h ≡ heading_in s d h.head
-
-pub headed_in : (side : SideValue) (s : Session) (d arrived : List ℕ) (m : ℕ) (h : Heading) → StandsFor side s → arrived ≡ d → m ≡ live_mki_len side.keys
-    → IsHeadedAs arrived side.kind side.encrypts m side.tag_len h → IsHeadIn s d h
-headed_in side s d arrived m h st e_d e_m is =
-    let size : m ≡ mki_len s = e_m ∙ ap live_mki_len st.same_keys ∙ mki_len_is s s.keys in
-    record {
-      reads = sym (heading_is s d) ∙ sym (λ i. heading (st.same_kind i) (st.same_encrypts i) (size i) (st.same_tag_len i) (e_d i)) ∙ is.reads;
-      same = λ i. record {
-        pad = (is.same_pad ∙ e_d) i;
-        kind = (is.same_kind ∙ st.same_kind) i;
-        mki_len = (is.same_mki_len ∙ size) i;
-        tag_len = (is.same_tag_len ∙ st.same_tag_len) i;
-        head = h.head;
-      };
-    }
-
-pub unheaded_in : (side : SideValue) (s : Session) (d arrived : List ℕ) (m : ℕ) (c : DropCause) → StandsFor side s → arrived ≡ d → m ≡ live_mki_len side.keys
-    → heading side.kind side.encrypts m side.tag_len arrived ≡ Err c → head_in s d ≡ Err c
-unheaded_in side s d arrived m c st e_d e_m e =
-    let size : m ≡ mki_len s = e_m ∙ ap live_mki_len st.same_keys ∙ mki_len_is s s.keys in
-    sym (heading_is s d) ∙ sym (λ i. heading (st.same_kind i) (st.same_encrypts i) (size i) (st.same_tag_len i) (e_d i)) ∙ e
-
-chosen_in : (s : Session) (d : List ℕ) (h : Heading) (keys : List Live) (r : Result Live DropCause) → IsHeadIn s d h → keys ≡ live s
-    → chosen_for keys (mki_of h.mki_len h.tag_len h.pad) ≡ r → chosen_for (live s) (mki_in s d) ≡ r
-chosen_in s d h keys r is e choice =
-    sym (ap (λ ks. chosen_for ks (mki_in s d)) e) ∙ sym (ap (λ (g : Heading). chosen_for keys (mki_of g.mki_len g.tag_len g.pad)) is.same) ∙ choice
-
-pub accepted : (s : Session) (d : List ℕ) (h : Heading) (keys : List Live) (k : Keying) → IsHeadIn s d h → keys ≡ live s → admits s h.head.ssrc ≡ true → IsKeyed h keys k → IsAccepted s d k
-accepted s d h keys k is e adm keyed =
-    let choice = chosen_key s (mki_in s d) keyed.key (chosen_in s d h keys (Ok keyed.key) is e keyed.choice) in
-    record {
-      head = h.head;
-      reads = is.reads;
-      same = keyed.same ∙ is.same;
-      admitted = adm;
-      key = choice.0;
-      chosen = choice.1;
-      at = ap (λ (ks : List Live). slice_get ks k.key) (sym e) ∙ keyed.at ∙ ap (λ (x : Live). Some x) (sym (choice.2));
-    }
-
-pub unaccepted : (s : Session) (d : List ℕ) (h : Heading) (keys : List Live) (c : DropCause) → IsHeadIn s d h → keys ≡ live s → admits s h.head.ssrc ≡ true
-    → chosen_for keys (mki_of h.mki_len h.tag_len h.pad) ≡ Err c → opens s d ≡ Err c
-unaccepted s d h keys c is e adm choice = unkeyed s d h.head c is.reads adm (unchosen_key s (mki_in s d) c (chosen_in s d h keys (Err c) is e choice))
+use Rattle.sg_media.proofs.Accepted.{opened_ok, opened_err}
 
 -- ---- keys that serve
 count-push : (n : ℕ) (done : List Done) (d : Done) → nat_eq d.key n ≡ true → count_by (λ (x : Done). nat_eq x.key n) (done ++ d ∷ []) ≡ count_by (λ (x : Done). nat_eq x.key n) done + 1

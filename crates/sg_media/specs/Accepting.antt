@@ -1,34 +1,33 @@
--- A datagram whose key is chosen, by the definitions of a session.
-use Rattle.std.specs.Prelude.{◌≡◌, ℕ, not, true, List, [], Result, Ok, Some, slice_get}
-use Rattle.sg_base.specs.declared.faults.DropCause.{DropCause}
-use Rattle.sg_base.specs.declared.faults.DropCause.TheVariants as cause
+-- A datagram whose key is chosen and a packet whose source is admitted, by what a side shows.
+use Rattle.std.specs.Prelude.{◌≡◌, ℕ, true, List, [], Ok, Some, slice_get}
+use Rattle.sg_keys.specs.Live.{Live, mki_len}
+use Rattle.sg_keys.specs.Stands.{live}
 use Rattle.sg_keys.specs.declared.spec.SessionSpec.{SessionSpec}
-use Rattle.sg_keys.specs.Stands.{live, live_key}
-use Rattle.sg_session.specs.Opening.{Head, head_in, key_with, mki_in, mki_len}
-use Rattle.sg_session.specs.Sealing.{head_out}
-use Rattle.sg_session.specs.Session.{Key, Session, admits, count_of, is_live}
-use Rattle.sg_session.specs.Stages.{after_ok, stop_if}
-use Rattle.sg_states.specs.Choosing.{usable_in}
+use Rattle.sg_session.specs.Opening.{Head}
+use Rattle.sg_session.specs.Session.{Done, Session, is_admitted}
+use Rattle.sg_states.specs.Choosing.{chosen_for}
 use Rattle.sg_states.specs.Inbound.{Keying}
 use Rattle.sg_states.specs.Outbound.{Outgoing}
-use Rattle.sg_states.specs.Steps.{heading_in}
+use Rattle.sg_states.specs.Parts.{heading, heading_out, mki_of}
+use Rattle.sg_media.specs.Sides.{SideValue}
+use Rattle.sg_media.specs.Steps.{heading_at, outgoing_at}
 
--- the datagram's head, its source and its key are the session's
-pub record IsAccepted (s : Session) (d : List ℕ) (k : Keying) : Type 0 where
+-- the datagram's head, its source and its key are the side's
+pub record IsAccepted (v : SideValue) (done : List Done) (d : List ℕ) (k : Keying) : Type 0 where
   pub head : Head
-  pub reads : head_in s d ≡ Ok head
-  pub same : k.headed ≡ heading_in s d head
-  pub admitted : admits s head.ssrc ≡ true
-  pub key : Key
-  pub chosen : usable_in s s.keys (mki_in s d) ≡ Ok key
-  pub at : slice_get (live s) k.key ≡ Some (live_key s key)
+  pub reads : heading v.kind v.encrypts (mki_len v.keys) v.tag_len d ≡ Ok head
+  pub same : k.headed ≡ heading_at v d head
+  pub admitted : is_admitted v.admit done head.ssrc ≡ true
+  pub key : Live
+  pub chosen : chosen_for v.keys (mki_of (mki_len v.keys) v.tag_len d) ≡ Ok key
+  pub at : slice_get v.keys k.key ≡ Some key
 
--- the packet's head and its source are the session's
-pub record IsAdmitted (s : Session) (p : List ℕ) (h : Outgoing) : Type 0 where
+-- the packet's head and its source are the side's
+pub record IsAdmitted (v : SideValue) (done : List Done) (p : List ℕ) (h : Outgoing) : Type 0 where
   pub head : Head
-  pub reads : head_out s p ≡ Ok head
-  pub same : h ≡ record { pad = p; kind = s.name.kind; head = head }
-  pub admitted : admits s head.ssrc ≡ true
+  pub reads : heading_out v.kind v.encrypts p ≡ Ok head
+  pub same : h ≡ outgoing_at v p head
+  pub admitted : is_admitted v.admit done head.ssrc ≡ true
 
 -- a session in which nothing is done, made of these
 pub record IsMadeOf (s : Session) (spec : SessionSpec) : Type 0 where

@@ -9,8 +9,9 @@ use Rattle.sg_session.specs.Sealing.{datagram_of}
 use Rattle.sg_session.specs.Session.{Done, Session, indices_of}
 use Rattle.sg_session.specs.Stages.{after_ok, stop_if}
 use Rattle.sg_states.specs.Choosing.{chosen_to_seal}
-use Rattle.sg_states.specs.Inbound.{Keying, fits_under, packet_at}
+use Rattle.sg_states.specs.Inbound.{Heading, packet_at}
 use Rattle.sg_states.specs.Outbound.{Outgoing, datagram_at}
+use Rattle.sg_states.specs.Parts.{tag_fits_at}
 use Rattle.sg_states.specs.Placing.{next_index, placed}
 use Rattle.sg_media.specs.declared.inbound.Opened.{Opened}
 use Rattle.sg_media.specs.declared.outbound.Sealed.{Sealed}
@@ -27,39 +28,36 @@ sealed_of s p (Ok t) = Ok (record { pad = datagram_of s t; kind = s.name.kind; s
 sealed_of s p (Err cause) = Err (p, cause)
 
 -- the entry of what is opened under a key at an index
-abbrev pub entry_at : Keying → Live → ℕ → Done
-entry_at k key i = record { ssrc = k.headed.head.ssrc; index = i; key = key.number; packet = packet_at k.headed k.headed.head.encrypted key.half i }
+abbrev pub entry_at : Heading → Live → ℕ → Done
+entry_at h key i = record { ssrc = h.head.ssrc; index = i; key = key.number; packet = packet_at h h.head.encrypted key.half i }
 
--- what is opened of a datagram whose key is chosen, where its source may have room
-abbrev pub opened_at : Keying → Live → Bool → Result ℕ DropCause → Result Done DropCause
-opened_at k key room (Err cause) = Err cause
-opened_at k key room (Ok i) =
-    stop_if (not (fits_under (record { keyed = k; index = i }) key)) BadTag (stop_if (not room) StreamsFull (Ok (entry_at k key i)))
+-- what is opened under a key, where the source may have room
+abbrev pub opened_at : Heading → Live → Bool → Result ℕ DropCause → Result Done DropCause
+opened_at h key room r = after_ok r (λ i.
+    stop_if (not (tag_fits_at h.kind h.mki_len h.tag_len i h.pad key.half.auth)) BadTag (stop_if (not room) StreamsFull (Ok (entry_at h key i))))
 
 abbrev pub answer_at : Kind → List ℕ → Result Done DropCause → Result Opened (List ℕ × DropCause)
 answer_at kind d (Ok done) = Ok (record { pad = done.packet; kind = kind; ssrc = done.ssrc; index = done.index; key = done.key })
 answer_at kind d (Err cause) = Err (d, cause)
 
 -- among streams in which this is done
-abbrev pub opened_among : Keying → Live → ℕ → ℕ → List Done → Result Opened (List ℕ × DropCause)
-opened_among k key roc window done =
-    answer_at k.headed.kind k.headed.pad
-    (opened_at k key (room_in done k.headed.head.ssrc) (placed k.headed.kind roc window (indices_of done k.headed.head.ssrc) k.headed.head.number))
+abbrev pub opened_among : Heading → Live → ℕ → ℕ → List Done → Result Done DropCause
+opened_among h key roc window done =
+    opened_at h key (room_in done h.head.ssrc) (placed h.kind roc window (indices_of done h.head.ssrc) h.head.number)
 
 -- the entry of what was opened
 abbrev pub entry_of : Opened → Done
 entry_of o = record { ssrc = o.ssrc; index = o.index; key = o.key; packet = o.pad }
 
 -- what is sealed of a packet: its datagram and its entry
-pub record Closed : Type 0 where
-  pub text : List ℕ
-  pub done : Done
+abbrev pub Closed : Type 0
+Closed = List ℕ × Done
 
 abbrev pub closed_at : Outgoing → ℕ → Live → ℕ → Closed
-closed_at h tag_len key i = record {
-  text = datagram_at (record { headed = h; key = 0; number = 0; index = i }) key h.head.encrypted tag_len;
-  done = record { ssrc = h.head.ssrc; index = i; key = key.number; packet = h.pad };
-}
+closed_at h tag_len key i = (
+  datagram_at (record { headed = h; key = 0; number = 0; index = i }) key h.head.encrypted tag_len,
+  record { ssrc = h.head.ssrc; index = i; key = key.number; packet = h.pad },
+)
 
 -- what is sealed of a packet whose source has room
 abbrev pub sealed_at : Outgoing → List Live → ℕ → Result ℕ DropCause → Result Closed DropCause
@@ -69,7 +67,7 @@ abbrev pub roomed : Bool → Result Closed DropCause → Result Closed DropCause
 roomed room r = stop_if (not room) StreamsFull r
 
 abbrev pub told_of : Kind → List ℕ → Result Closed DropCause → Result Sealed (List ℕ × DropCause)
-told_of kind p (Ok x) = Ok (record { pad = x.text; kind = kind; ssrc = x.done.ssrc; index = x.done.index; key = x.done.key })
+told_of kind p (Ok x) = Ok (record { pad = x.0; kind = kind; ssrc = x.1.ssrc; index = x.1.index; key = x.1.key })
 told_of kind p (Err cause) = Err (p, cause)
 
 -- among streams in which this is done, by the keys with this tag

@@ -5,3 +5,4 @@ pub mod Kinds
 pub mod Sides
 pub mod Standing
 pub mod States
+pub mod Steps

@@ -1,7 +1,8 @@
 //! The opening side of a session.
 
-ghost use Rattle.std.specs.Prelude.{◌≡◌, ◌≤◌, IfOk, IfErr, MatchResult, Err};
+ghost use Rattle.std.specs.Prelude.{◌≡◌, ◌≤◌, List, IfOk, IfErr, MatchResult, Err};
 ghost use Rattle.sg_states.specs.Inbound.{CanServe};
+ghost use Rattle.sg_media.specs.Steps.{HasDone, SideTakes, side_opens};
 
 use crate::inbound::{Headed, Keyed, Opened};
 use crate::opening::open_among;
@@ -48,9 +49,9 @@ impl Model for OpenSide {
 impl OpenSide {
     ghost use Rattle.sg_session.specs.OneSession.{after};
     ghost use Rattle.sg_session.specs.Opening.{opens};
-    ghost use Rattle.sg_session.specs.Session.{Session};
+    ghost use Rattle.sg_session.specs.Session.{Done, Session};
     ghost use Rattle.sg_media.specs.Accepting.{IsAccepted, IsMadeOf};
-    ghost use Rattle.sg_media.specs.Answers.{opened_of};
+    ghost use Rattle.sg_media.specs.Answers.{answer_at, entry_of, opened_of};
     ghost use Rattle.sg_media.specs.Sides.{CanBeMade, StandsFor, side_of};
 
     /// The side of a session in which nothing is done: of keys that have not served, each with a cipher's
@@ -85,7 +86,8 @@ impl OpenSide {
 
     // The datagram with its head read, its source admitted and its key chosen, or the first cause.
     fn accept(&self, pad: Pad) -> Result<Keyed, (Pad, DropCause)>
-        ensures told { (s : Session) → StandsFor self.now s → MatchResult result (IsAccepted s pad) (λ e. (e.0 ≡ pad) × (opens s pad ≡ Err e.1)) }
+        ensures told { (done : List Done) → HasDone self.now done
+            → MatchResult result (IsAccepted self.now done pad) (λ e. (e.0 ≡ pad) × (side_opens self.now done pad ≡ Err e.1)) }
         ensures back { MatchResult result (λ k. (k.headed.pad ≡ pad) × (k.headed.kind ≡ self.now.kind)) (λ e. e.0 ≡ pad) }
         ensures serves { IfOk result (λ k. CanServe self.now.keys k.key k.number k.headed.head.encrypted) }
     {
@@ -113,6 +115,8 @@ impl OpenSide {
     /// StreamsFull. A datagram that is handed back changes nothing.
     pub fn receive(&mut self, pad: Pad) -> Result<Opened, (Pad, DropCause)>
         ensures answer { (s : Session) → StandsFor self.old s → result ≡ opened_of s.name.kind pad (opens s pad) }
+        ensures steps { (done : List Done) → HasDone self.old done → result ≡ answer_at self.old.kind pad (side_opens self.old done pad) }
+        ensures takes { IfOk result (λ o. SideTakes self.old self.new (entry_of o)) }
         ensures refused { IfErr result (λ e. (e.0 ≡ pad) × (self.new ≡ self.old)) }
         ensures after { (s : Session) → StandsFor self.old s → StandsFor self.new (after s (opens s pad)) }
     {

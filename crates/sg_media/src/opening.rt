@@ -1,14 +1,13 @@
 //! Opening a datagram in one stream, and among the streams of a side.
 
-ghost use Rattle.std.specs.Prelude.{◌≡◌, ℕ, ◌≤◌, List, map, IfOk, IfErr, OnOk, OnErr, true, false, slice_get, Some};
+ghost use Rattle.std.specs.Prelude.{◌≡◌, ℕ, ◌≤◌, List, IfOk, IfErr, OnOk, OnErr, true, slice_get, Some};
 ghost use Rattle.sg_keys.specs.Live.{Live, spent};
-ghost use Rattle.sg_replay.specs.Freshness.{is_in};
 ghost use Rattle.sg_session.specs.Session.{Done};
 ghost use Rattle.sg_states.specs.Inbound.{CanServe};
 ghost use Rattle.sg_states.specs.Placing.{placed};
 ghost use Rattle.sg_states.specs.Streams.{IsStreamOf, StreamStands, TakesIn};
 ghost use Rattle.sg_media.specs.Answers.{answer_at, entry_of, opened_among, opened_at};
-ghost use Rattle.sg_media.specs.Standing.{source_of, AreOfKind, StreamsStand, StreamsTake};
+ghost use Rattle.sg_media.specs.Standing.{AreOfKind, StreamsStand, StreamsTake};
 
 use crate::inbound::{Keyed, Opened};
 use crate::stream::Stream;
@@ -28,7 +27,8 @@ fn open_in(
     requires source { IsStreamOf stream.old keyed.headed.kind keyed.headed.head.ssrc }
     requires key { CanServe keys.old keyed.key keyed.number keyed.headed.head.encrypted }
     ensures answer { (ssrc roc window : ℕ) (indices : List ℕ) (key : Live) → StreamStands stream.old ssrc roc window indices
-        → slice_get keys.old keyed.key ≡ Some key → result ≡ answer_at keyed.headed.kind keyed.headed.pad (opened_at keyed key room (placed keyed.headed.kind roc window indices keyed.headed.head.number)) }
+        → slice_get keys.old keyed.key ≡ Some key
+        → result ≡ answer_at keyed.headed.kind keyed.headed.pad (opened_at keyed.headed key room (placed keyed.headed.kind roc window indices keyed.headed.head.number)) }
     ensures of { stream.new.kind ≡ stream.old.kind }
     ensures stream { IfOk result (λ o. TakesIn stream.old stream.new o.index) }
     ensures keys { IfOk result (λ o. keys.new ≡ spent o.key keys.old) }
@@ -51,39 +51,8 @@ fn open_in(
     Ok(verified.decrypt(stream, keys))
 }
 
-// Opens a datagram in a new stream, which takes a place only where the datagram is opened.
-fn open_new(
-    keyed: Keyed,
-    streams: &mut ArrayVec<Stream, 16>,
-    keys: &mut KeySet,
-    roc: u32,
-    window: u16,
-) -> Result<Opened, (Pad, DropCause)>
-    requires at_least { 64 ≤ window }
-    requires at_most { window ≤ 1024 }
-    requires kinds { AreOfKind streams.old.items keyed.headed.kind }
-    requires key { CanServe keys.old keyed.key keyed.number keyed.headed.head.encrypted }
-    requires new { is_in (map source_of streams.old.items) keyed.headed.head.ssrc ≡ false }
-    ensures answer { (done : List Done) (key : Live) → StreamsStand streams.old.items roc window done
-        → slice_get keys.old keyed.key ≡ Some key → result ≡ opened_among keyed key roc window done }
-    ensures streams { IfOk result (λ o. StreamsTake streams.old.items streams.new.items roc window (entry_of o)) }
-    ensures keys { IfOk result (λ o. keys.new ≡ spent o.key keys.old) }
-    ensures kinds { AreOfKind streams.new.items keyed.headed.kind }
-    ensures back { IfErr result (λ e. e.0 ≡ keyed.headed.pad) }
-    ensures stays { OnErr result ((streams.new.items ≡ streams.old.items) × (keys.new ≡ keys.old)) }
-{
-    let mut stream = Stream::fresh(keyed.kind(), keyed.ssrc(), roc, window);
-    let room = !streams.is_full();
-    match open_in(keyed, &mut stream, keys, room) {
-        Ok(opened) => {
-            streams.push(stream);
-            Ok(opened)
-        }
-        Err(refused) => Err(refused),
-    }
-}
-
-/// Opens a datagram whose key is chosen.
+/// Opens a datagram whose key is chosen. A new source's stream takes a place only where the datagram is
+/// opened.
 pub(crate) fn open_among(
     keyed: Keyed,
     streams: &mut ArrayVec<Stream, 16>,
@@ -96,7 +65,7 @@ pub(crate) fn open_among(
     requires kinds { AreOfKind streams.old.items keyed.headed.kind }
     requires key { CanServe keys.old keyed.key keyed.number keyed.headed.head.encrypted }
     ensures answer { (done : List Done) (key : Live) → StreamsStand streams.old.items roc window done
-        → slice_get keys.old keyed.key ≡ Some key → result ≡ opened_among keyed key roc window done }
+        → slice_get keys.old keyed.key ≡ Some key → result ≡ answer_at keyed.headed.kind keyed.headed.pad (opened_among keyed.headed key roc window done) }
     ensures streams { IfOk result (λ o. StreamsTake streams.old.items streams.new.items roc window (entry_of o)) }
     ensures keys { IfOk result (λ o. keys.new ≡ spent o.key keys.old) }
     ensures kinds { AreOfKind streams.new.items keyed.headed.kind }
@@ -111,9 +80,16 @@ pub(crate) fn open_among(
                 Err(refused) => Err(refused),
             }
         }
-        None => match open_new(keyed, streams, keys, roc, window) {
-            Ok(opened) => Ok(opened),
-            Err(refused) => Err(refused),
-        },
+        None => {
+            let mut stream = Stream::fresh(keyed.kind(), keyed.ssrc(), roc, window);
+            let room = !streams.is_full();
+            match open_in(keyed, &mut stream, keys, room) {
+                Ok(opened) => {
+                    streams.push(stream);
+                    Ok(opened)
+                }
+                Err(refused) => Err(refused),
+            }
+        }
     }
 }

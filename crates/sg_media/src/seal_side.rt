@@ -1,7 +1,8 @@
 //! The sealing side of a session.
 
-ghost use Rattle.std.specs.Prelude.{◌≡◌, ◌≤◌, length, IfOk, IfErr, MatchResult, Err};
+ghost use Rattle.std.specs.Prelude.{◌≡◌, ◌≤◌, List, length, IfOk, IfErr, MatchResult, Err};
 ghost use Rattle.sg_media.specs.Ciphers.{EachEncrypts};
+ghost use Rattle.sg_media.specs.Steps.{HasDone, SideTakes, side_seals};
 
 use crate::outbound::{Headed, Sealed};
 use crate::sealing::seal_among;
@@ -48,9 +49,9 @@ impl Model for SealSide {
 impl SealSide {
     ghost use Rattle.sg_session.specs.OneSession.{after};
     ghost use Rattle.sg_session.specs.Sealing.{seals};
-    ghost use Rattle.sg_session.specs.Session.{Session};
+    ghost use Rattle.sg_session.specs.Session.{Done, Session};
     ghost use Rattle.sg_media.specs.Accepting.{IsAdmitted, IsMadeOf};
-    ghost use Rattle.sg_media.specs.Answers.{sealed_of};
+    ghost use Rattle.sg_media.specs.Answers.{entry_out, sealed_of, told_of};
     ghost use Rattle.sg_media.specs.Sides.{CanBeMade, StandsFor, side_of};
 
     /// The side of a session in which nothing is done: of keys that have not served, each with a cipher's
@@ -86,7 +87,8 @@ impl SealSide {
     // The packet with its head read and its source admitted, or the first cause.
     fn admit(&self, pad: Pad) -> Result<Headed, (Pad, DropCause)>
         requires { length pad ≤ 4096 }
-        ensures told { (s : Session) → StandsFor self.now s → MatchResult result (IsAdmitted s pad) (λ e. (e.0 ≡ pad) × (seals s pad ≡ Err e.1)) }
+        ensures told { (done : List Done) → HasDone self.now done
+            → MatchResult result (IsAdmitted self.now done pad) (λ e. (e.0 ≡ pad) × (side_seals self.now done pad ≡ Err e.1)) }
         ensures back { MatchResult result (λ h. (h.pad ≡ pad) × (h.kind ≡ self.now.kind)) (λ e. e.0 ≡ pad) }
         ensures encrypts { IfOk result (λ h. EachEncrypts self.now.keys h.head.encrypted) }
     {
@@ -107,6 +109,8 @@ impl SealSide {
     pub fn send(&mut self, pad: Pad) -> Result<Sealed, (Pad, DropCause)>
         requires { length pad ≤ 4096 }
         ensures answer { (s : Session) → StandsFor self.old s → result ≡ sealed_of s pad (seals s pad) }
+        ensures steps { (done : List Done) → HasDone self.old done → result ≡ told_of self.old.kind pad (side_seals self.old done pad) }
+        ensures takes { IfOk result (λ o. SideTakes self.old self.new (entry_out pad o)) }
         ensures refused { IfErr result (λ e. (e.0 ≡ pad) × (self.new ≡ self.old)) }
         ensures after { (s : Session) → StandsFor self.old s → StandsFor self.new (after s (seals s pad)) }
     {

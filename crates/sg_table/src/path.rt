@@ -2,12 +2,9 @@
 
 ghost use Rattle.std.specs.Prelude.{◌≡◌, ◌≤◌, ℕ, length, Err};
 ghost use Rattle.sg_session.specs.OneSession.{after};
-ghost use Rattle.sg_gateway.specs.Passing.{packet_in, datagram_in, taken_towards, taken_from, sent_by};
 ghost use Rattle.sg_session.specs.Session.{Session};
-ghost use Rattle.sg_session.specs.declared.names.Direction.TheVariants as direction;
-ghost use Rattle.sg_base.specs.declared.addresses.Address.{Address};
+ghost use Rattle.sg_gateway.specs.Passing.{taken_from, sent_by};
 ghost use Rattle.sg_table.specs.Handling.{kept_or};
-ghost use Rattle.sg_media.specs.Sides.{StandsFor};
 ghost use Rattle.sg_table.specs.Standing.{PathStandsFor};
 
 use sg_base::{Address, DropCause, PLAIN_MOST, PROTECTED_MOST, Pad};
@@ -33,57 +30,35 @@ pub struct Path {
 }
 
 impl Path {
-    /// Opens or seals a datagram that came from there, or hands it back with the first cause why not.
+    /// Opens a datagram of at most 4,238 octets, or seals a packet of at most 4,096 that came from the plain
+    /// side's IPv4 address; or hands it back with the first cause why not.
     pub fn take(&mut self, from: Address, pad: Pad) -> Result<Pad, (Pad, DropCause)>
         ensures answer { (slot : ℕ) (s : Session) → PathStandsFor slot self.old s → result ≡ kept_or pad (sent_by s (taken_from from pad s)) }
         ensures after { (slot : ℕ) (s : Session) → PathStandsFor slot self.old s → PathStandsFor slot self.new (after s (taken_from from pad s)) }
     {
         let plain = self.plain;
         match &mut self.side {
-            MediaSide::Opens(side) => match open(side, pad) {
-                Ok(packet) => Ok(packet),
-                Err(refused) => Err(refused),
-            },
-            MediaSide::Seals(side) => match seal(side, plain, from, pad) {
-                Ok(datagram) => Ok(datagram),
-                Err(refused) => Err(refused),
-            },
+            MediaSide::Opens(side) => {
+                if pad.octets().len() > PROTECTED_MOST {
+                    return Err((pad, DropCause::TooLong));
+                }
+                match side.receive(pad) {
+                    Ok(opened) => Ok(opened.pad),
+                    Err(refused) => Err(refused),
+                }
+            }
+            MediaSide::Seals(side) => {
+                if pad.octets().len() > PLAIN_MOST {
+                    return Err((pad, DropCause::TooLong));
+                }
+                if !is_same_ip(from, plain) {
+                    return Err((pad, DropCause::SourceUnknown));
+                }
+                match side.send(pad) {
+                    Ok(sealed) => Ok(sealed.pad),
+                    Err(refused) => Err(refused),
+                }
+            }
         }
-    }
-}
-
-/// Opens a datagram of at most 4,238 octets.
-fn open(side: &mut OpenSide, pad: Pad) -> Result<Pad, (Pad, DropCause)>
-    ensures answer { (from : Address) (s : Session) → StandsFor side.old s → result ≡ kept_or pad (packet_in (taken_towards from pad s direction.Opening)) }
-    ensures after { (from : Address) (s : Session) → StandsFor side.old s → StandsFor side.new (after s (taken_towards from pad s direction.Opening)) }
-{
-    if pad.octets().len() > PROTECTED_MOST {
-        return Err((pad, DropCause::TooLong));
-    }
-    match side.receive(pad) {
-        Ok(opened) => Ok(opened.pad),
-        Err(refused) => Err(refused),
-    }
-}
-
-/// Seals a packet of at most 4,096 octets that came from the plain side's IPv4 address.
-fn seal(
-    side: &mut SealSide,
-    plain: Address,
-    from: Address,
-    pad: Pad,
-) -> Result<Pad, (Pad, DropCause)>
-    ensures answer { (s : Session) → s.plain ≡ plain → StandsFor side.old s → result ≡ kept_or pad (datagram_in s (taken_towards from pad s direction.Sealing)) }
-    ensures after { (s : Session) → s.plain ≡ plain → StandsFor side.old s → StandsFor side.new (after s (taken_towards from pad s direction.Sealing)) }
-{
-    if pad.octets().len() > PLAIN_MOST {
-        return Err((pad, DropCause::TooLong));
-    }
-    if !is_same_ip(from, plain) {
-        return Err((pad, DropCause::SourceUnknown));
-    }
-    match side.send(pad) {
-        Ok(sealed) => Ok(sealed.pad),
-        Err(refused) => Err(refused),
     }
 }

@@ -1,14 +1,15 @@
-use Rattle.std.proofs.Common.{◌≡◌, ℕ, true, List, [], ◌∷◌, ◌++◌, ap, subst, sym, ◌∙◌}
+use Rattle.std.proofs.Common.{◌≡◌, ℕ, true, false, not, List, [], ◌∷◌, ◌++◌, map, ap, subst, sym, ◌∙◌}
 use Rattle.std.proofs.lemmas.Bool.{or_left}
 use Rattle.std.proofs.lemmas.Option.{get_or_from_slice_get}
+use Rattle.sg_replay.specs.Freshness.{is_in}
 use Rattle.sg_session.specs.Session.{indices_of}
 use Rattle.sg_states.specs.Placing.{placed}
 use Rattle.sg_states.specs.Streams.{IsStreamOf, StreamStands}
 use Rattle.sg_states.specs.StreamValues.{StreamValue}
 use Rattle.sg_media.specs.Answers.{entry_of}
-use Rattle.sg_media.specs.Standing.{AreOfKind, IsAt, StreamsStand, room_in}
+use Rattle.sg_media.specs.Standing.{source_of, AreOfKind, IsAt, StreamsStand, room_in}
 use Rattle.sg_media.proofs.OpeningSteps.{keyed_answer}
-use Rattle.sg_media.proofs.Standing.{known_in, known_stream, known_stands, of_kind-set, refilled}
+use Rattle.sg_media.proofs.Standing.{known_in, known_stream, known_stands, new_indices, new_room, new_stands, of_kind-push, of_kind-set, refilled}
 use Rattle.sg_media.proofs.opening.open_among.Goals as goal
 
 pub open_in-requires-clause-source : goal.open_in-requires-clause-source
@@ -81,3 +82,50 @@ returns-in-Err-clause-kinds c =
     subst (λ (ts : List StreamValue). AreOfKind ts c.args.keyed.headed.kind) (sym (refilled c.args.streams.now.items c.as_mut_slice-known.result.now c.in-Some.at c.open_in.new.stream c.as_mut_slice-known.ensures.value))
     (of_kind-set c.as_mut_slice-known.result.now c.args.keyed.headed.kind c.in-Some.at c.open_in.new.stream kinds
     (c.in-Err.ensures.of ∙ ap (λ (t : StreamValue). t.kind) same ∙ kinds c.in-Some.at known.stream known.here))
+
+pub returns-in-Ok-open_in-clause-answer : goal.returns-in-Ok-open_in-clause-answer
+returns-in-Ok-open_in-clause-answer c = λ done key s e.
+    let ssrc : ℕ = c.args.keyed.headed.head.ssrc in
+    let new_source : is_in (map source_of c.args.streams.now.items) ssrc ≡ false = subst (λ (ts : List StreamValue). is_in (map source_of ts) ssrc ≡ false) c.as_slice.ensures.value (subst (λ n. is_in (map source_of c.as_slice.result.now) n ≡ false) c.ssrc.ensures c.in-None.ensures) in
+    let fresh : StreamStands c.fresh-stream.result ssrc c.args.roc c.args.window [] = subst (λ n. StreamStands c.fresh-stream.result n c.args.roc c.args.window []) c.ssrc-in-None.ensures c.fresh-stream.ensures.stands in
+    let none : indices_of done ssrc ≡ [] = new_indices c.args.streams.now.items c.args.roc c.args.window done ssrc s new_source in
+    let stands = subst (StreamStands c.fresh-stream.result ssrc c.args.roc c.args.window) (sym none) fresh in
+    let room = new_room c.args.streams.now.items c.args.roc c.args.window done ssrc s new_source c.is_full-room.ensures.fits in
+    c.in-Ok-open_in.ensures.answer ssrc c.args.roc c.args.window (indices_of done ssrc) key stands e
+    ∙ ap (λ b. keyed_answer c.args.keyed key b (placed c.args.keyed.headed.kind c.args.roc c.args.window (indices_of done ssrc) c.args.keyed.headed.head.number))
+    (ap not c.is_full-room.ensures.value ∙ sym room)
+
+pub returns-in-Err-open_in-clause-answer : goal.returns-in-Err-open_in-clause-answer
+returns-in-Err-open_in-clause-answer c = λ done key s e.
+    let ssrc : ℕ = c.args.keyed.headed.head.ssrc in
+    let new_source : is_in (map source_of c.args.streams.now.items) ssrc ≡ false = subst (λ (ts : List StreamValue). is_in (map source_of ts) ssrc ≡ false) c.as_slice.ensures.value (subst (λ n. is_in (map source_of c.as_slice.result.now) n ≡ false) c.ssrc.ensures c.in-None.ensures) in
+    let fresh : StreamStands c.fresh-stream.result ssrc c.args.roc c.args.window [] = subst (λ n. StreamStands c.fresh-stream.result n c.args.roc c.args.window []) c.ssrc-in-None.ensures c.fresh-stream.ensures.stands in
+    let none : indices_of done ssrc ≡ [] = new_indices c.args.streams.now.items c.args.roc c.args.window done ssrc s new_source in
+    let stands = subst (StreamStands c.fresh-stream.result ssrc c.args.roc c.args.window) (sym none) fresh in
+    let room = new_room c.args.streams.now.items c.args.roc c.args.window done ssrc s new_source c.is_full-room.ensures.fits in
+    c.in-Err-open_in.ensures.answer ssrc c.args.roc c.args.window (indices_of done ssrc) key stands e
+    ∙ ap (λ b. keyed_answer c.args.keyed key b (placed c.args.keyed.headed.kind c.args.roc c.args.window (indices_of done ssrc) c.args.keyed.headed.head.number))
+    (ap not c.is_full-room.ensures.value ∙ sym room)
+
+pub returns-in-Ok-open_in-clause-streams : goal.returns-in-Ok-open_in-clause-streams
+returns-in-Ok-open_in-clause-streams c = λ done s.
+    let ssrc : ℕ = c.args.keyed.headed.head.ssrc in
+    let new_source : is_in (map source_of c.args.streams.now.items) ssrc ≡ false = subst (λ (ts : List StreamValue). is_in (map source_of ts) ssrc ≡ false) c.as_slice.ensures.value (subst (λ n. is_in (map source_of c.as_slice.result.now) n ≡ false) c.ssrc.ensures c.in-None.ensures) in
+    let fresh : StreamStands c.fresh-stream.result ssrc c.args.roc c.args.window [] = subst (λ n. StreamStands c.fresh-stream.result n c.args.roc c.args.window []) c.ssrc-in-None.ensures c.fresh-stream.ensures.stands in
+    let none : indices_of done ssrc ≡ [] = new_indices c.args.streams.now.items c.args.roc c.args.window done ssrc s new_source in
+    let stands = subst (StreamStands c.fresh-stream.result ssrc c.args.roc c.args.window) (sym none) fresh in
+    let source : c.in-Ok-open_in.opened.ssrc ≡ ssrc = c.in-Ok-open_in.ensures.source in
+    let new = c.in-Ok-open_in.ensures.stream ssrc c.args.roc c.args.window (indices_of done ssrc) stands in
+    subst (λ ts. StreamsStand ts c.args.roc c.args.window (done ++ entry_of c.in-Ok-open_in.opened ∷ [])) (sym (c.push.ensures.items))
+    (new_stands c.args.streams.now.items c.args.roc c.args.window done c.open_in-in-None.new.stream (entry_of c.in-Ok-open_in.opened) s
+    (subst (λ n. is_in (map source_of c.args.streams.now.items) n ≡ false) (sym source) new_source)
+    (subst (λ n. StreamStands c.open_in-in-None.new.stream n c.args.roc c.args.window (indices_of done n ++ c.in-Ok-open_in.opened.index ∷ [])) (sym source) new))
+
+pub open_in-requires-in-None-clause-source : goal.open_in-requires-in-None-clause-source
+open_in-requires-in-None-clause-source c =
+    subst (λ n. IsStreamOf c.fresh-stream.result c.args.keyed.headed.kind n) c.ssrc-in-None.ensures (subst (λ k. IsStreamOf c.fresh-stream.result k c.ssrc-in-None.result) c.kind.ensures c.fresh-stream.ensures.of)
+
+pub returns-in-Ok-open_in-clause-kinds : goal.returns-in-Ok-open_in-clause-kinds
+returns-in-Ok-open_in-clause-kinds c =
+    subst (λ (ts : List StreamValue). AreOfKind ts c.args.keyed.headed.kind) (sym (c.push.ensures.items))
+    (of_kind-push c.args.streams.now.items c.args.keyed.headed.kind c.open_in-in-None.new.stream c.requires.kinds (c.in-Ok-open_in.ensures.of ∙ c.fresh-stream.ensures.of.same_kind ∙ c.kind.ensures))

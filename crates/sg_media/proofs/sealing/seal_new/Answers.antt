@@ -1,4 +1,4 @@
-use Rattle.std.proofs.Common.{◌≡◌, ℕ, List, false, ◌++◌, ◌∷◌, [], map, subst, sym, ap, ◌∙◌}
+use Rattle.std.proofs.Common.{◌≡◌, ℕ, List, false, ◌++◌, ◌∷◌, [], map, subst, sym, ◌∙◌}
 use Rattle.sg_replay.specs.Freshness.{is_in}
 use Rattle.sg_session.specs.Session.{indices_of}
 use Rattle.sg_states.specs.Streams.{IsStreamOf, StreamStands}

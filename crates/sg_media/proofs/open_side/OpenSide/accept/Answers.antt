@@ -1,37 +1,48 @@
-use Rattle.std.proofs.Common.{◌≡◌, List, refl, subst, sym, ap, ◌∙◌}
-use Rattle.sg_session.specs.Session.{admits, is_admitted}
+use Rattle.std.proofs.Common.{◌≡◌, List, subst, sym, ap, ◌∙◌}
+use Rattle.sg_session.specs.Session.{is_admitted}
 use Rattle.sg_states.specs.StreamValues.{StreamValue}
-use Rattle.sg_media.specs.Sides.{SideValue, StandsFor}
+use Rattle.sg_media.specs.Accepting.{IsAccepted}
+use Rattle.sg_media.specs.Sides.{SideValue}
 use Rattle.sg_media.specs.Standing.{StreamsStand}
-use Rattle.sg_media.proofs.Accepted.{unadmitted}
-use Rattle.sg_media.proofs.SideSteps.{headed_in, accepted, unaccepted}
+use Rattle.sg_media.specs.Steps.{HasDone, side_opens}
+use Rattle.sg_media.proofs.Accepted.{accepted, headed_at, unadmitted, unheaded, unkeyed}
 use Rattle.sg_media.proofs.open_side.OpenSide.accept.Goals as goal
 
+pub returns-in-Err-clause-told : goal.returns-in-Err-clause-told
+returns-in-Err-clause-told c = λ done has.
+    let side : SideValue = record { kind = c.self.inside.kind; keys = c.self.inside.keys; streams = c.self.inside.streams.items; roc = c.self.inside.roc; window = c.self.inside.window; admit = c.self.inside.admit; encrypts = c.self.inside.encrypts; tag_len = c.self.inside.tag_len } in (
+      c.in-Err.ensures.0,
+      ap (λ (v : SideValue). side_opens v done c.args.pad) (sym (c.self.view_is)) ∙ unheaded side done c.args.pad c.mki_len.result (c.in-Err.refused.1) c.mki_len.ensures.value c.in-Err.ensures.1,
+    )
+
 pub returns-then-not-admits-clause-told : goal.returns-then-not-admits-clause-told
-returns-then-not-admits-clause-told c = λ s standing.
-    let st = subst (λ (v : SideValue). StandsFor v s) (sym (c.self.view_is)) standing in
-    let is = headed_in _ s c.args.pad c.args.pad c.mki_len.result c.in-Ok.headed st refl c.mki_len.ensures.value c.in-Ok.ensures in
-    let streams = subst (λ (ts : List StreamValue). StreamsStand ts s.roc s.window s.done) (sym (c.as_slice.ensures.value)) st.streams in
-    let told : c.admits.result ≡ admits s c.in-Ok.headed.head.ssrc =
-    c.admits.ensures s.roc s.window s.done streams ∙ ap (λ a. is_admitted a s.done c.ssrc.result) st.same_admit ∙ ap (is_admitted s.admit s.done) c.ssrc.ensures in
-    (c.refuse.ensures ∙ c.in-Ok.ensures.same_pad, unadmitted s c.args.pad c.in-Ok.headed.head is.reads (sym told ∙ c.if-not-admits.true))
+returns-then-not-admits-clause-told c = λ done has.
+    let side : SideValue = record { kind = c.self.inside.kind; keys = c.self.inside.keys; streams = c.self.inside.streams.items; roc = c.self.inside.roc; window = c.self.inside.window; admit = c.self.inside.admit; encrypts = c.self.inside.encrypts; tag_len = c.self.inside.tag_len } in
+    let here = subst (λ (v : SideValue). HasDone v done) (sym (c.self.view_is)) has in
+    let is = headed_at side c.args.pad c.mki_len.result c.in-Ok.headed c.mki_len.ensures.value c.in-Ok.ensures in
+    let streams = subst (λ (ts : List StreamValue). StreamsStand ts c.self.inside.roc c.self.inside.window done) (sym (c.as_slice.ensures.value)) here in
+    let told : c.admits.result ≡ is_admitted c.self.inside.admit done c.in-Ok.headed.head.ssrc = c.admits.ensures c.self.inside.roc c.self.inside.window done streams ∙ ap (is_admitted c.self.inside.admit done) c.ssrc.ensures in (
+      c.refuse.ensures ∙ c.in-Ok.ensures.same_pad,
+      ap (λ (v : SideValue). side_opens v done c.args.pad) (sym (c.self.view_is)) ∙ unadmitted side done c.args.pad c.in-Ok.headed is (sym told ∙ c.if-not-admits.true),
+    )
 
 pub returns-in-Ok-key-clause-told : goal.returns-in-Ok-key-clause-told
-returns-in-Ok-key-clause-told c = λ s standing.
-    let st = subst (λ (v : SideValue). StandsFor v s) (sym (c.self.view_is)) standing in
-    let is = headed_in _ s c.args.pad c.args.pad c.mki_len.result c.in-Ok.headed st refl c.mki_len.ensures.value c.in-Ok.ensures in
-    let streams = subst (λ (ts : List StreamValue). StreamsStand ts s.roc s.window s.done) (sym (c.as_slice.ensures.value)) st.streams in
-    let told : c.admits.result ≡ admits s c.in-Ok.headed.head.ssrc =
-    c.admits.ensures s.roc s.window s.done streams ∙ ap (λ a. is_admitted a s.done c.ssrc.result) st.same_admit ∙ ap (is_admitted s.admit s.done) c.ssrc.ensures in
-    accepted s c.args.pad c.in-Ok.headed c.self.inside.keys c.in-Ok-key.keyed is st.same_keys (sym told ∙ c.if-not-admits.false) c.in-Ok-key.ensures
+returns-in-Ok-key-clause-told c = λ done has.
+    let side : SideValue = record { kind = c.self.inside.kind; keys = c.self.inside.keys; streams = c.self.inside.streams.items; roc = c.self.inside.roc; window = c.self.inside.window; admit = c.self.inside.admit; encrypts = c.self.inside.encrypts; tag_len = c.self.inside.tag_len } in
+    let here = subst (λ (v : SideValue). HasDone v done) (sym (c.self.view_is)) has in
+    let is = headed_at side c.args.pad c.mki_len.result c.in-Ok.headed c.mki_len.ensures.value c.in-Ok.ensures in
+    let streams = subst (λ (ts : List StreamValue). StreamsStand ts c.self.inside.roc c.self.inside.window done) (sym (c.as_slice.ensures.value)) here in
+    let told : c.admits.result ≡ is_admitted c.self.inside.admit done c.in-Ok.headed.head.ssrc = c.admits.ensures c.self.inside.roc c.self.inside.window done streams ∙ ap (is_admitted c.self.inside.admit done) c.ssrc.ensures in
+    subst (λ (v : SideValue). IsAccepted v done c.args.pad c.in-Ok-key.keyed) c.self.view_is
+    (accepted side done c.args.pad c.in-Ok.headed c.in-Ok-key.keyed is (sym told ∙ c.if-not-admits.false) c.in-Ok-key.ensures)
 
 pub returns-in-Err-key-clause-told : goal.returns-in-Err-key-clause-told
-returns-in-Err-key-clause-told c = λ s standing.
-    let st = subst (λ (v : SideValue). StandsFor v s) (sym (c.self.view_is)) standing in
-    let is = headed_in _ s c.args.pad c.args.pad c.mki_len.result c.in-Ok.headed st refl c.mki_len.ensures.value c.in-Ok.ensures in
-    let streams = subst (λ (ts : List StreamValue). StreamsStand ts s.roc s.window s.done) (sym (c.as_slice.ensures.value)) st.streams in
-    let told : c.admits.result ≡ admits s c.in-Ok.headed.head.ssrc =
-    c.admits.ensures s.roc s.window s.done streams ∙ ap (λ a. is_admitted a s.done c.ssrc.result) st.same_admit ∙ ap (is_admitted s.admit s.done) c.ssrc.ensures in (
+returns-in-Err-key-clause-told c = λ done has.
+    let side : SideValue = record { kind = c.self.inside.kind; keys = c.self.inside.keys; streams = c.self.inside.streams.items; roc = c.self.inside.roc; window = c.self.inside.window; admit = c.self.inside.admit; encrypts = c.self.inside.encrypts; tag_len = c.self.inside.tag_len } in
+    let here = subst (λ (v : SideValue). HasDone v done) (sym (c.self.view_is)) has in
+    let is = headed_at side c.args.pad c.mki_len.result c.in-Ok.headed c.mki_len.ensures.value c.in-Ok.ensures in
+    let streams = subst (λ (ts : List StreamValue). StreamsStand ts c.self.inside.roc c.self.inside.window done) (sym (c.as_slice.ensures.value)) here in
+    let told : c.admits.result ≡ is_admitted c.self.inside.admit done c.in-Ok.headed.head.ssrc = c.admits.ensures c.self.inside.roc c.self.inside.window done streams ∙ ap (is_admitted c.self.inside.admit done) c.ssrc.ensures in (
       c.in-Err-key.ensures.0 ∙ c.in-Ok.ensures.same_pad,
-      unaccepted s c.args.pad c.in-Ok.headed c.self.inside.keys c.in-Err-key.refused.1 is st.same_keys (sym told ∙ c.if-not-admits.false) c.in-Err-key.ensures.1,
+      ap (λ (v : SideValue). side_opens v done c.args.pad) (sym (c.self.view_is)) ∙ unkeyed side done c.args.pad c.in-Ok.headed c.in-Err-key.refused.1 is (sym told ∙ c.if-not-admits.false) c.in-Err-key.ensures.1,
     )

@@ -1,12 +1,10 @@
-use Rattle.std.proofs.Common.{◌≡◌, List, Some, slice_get, subst, sym, ap, ◌∙◌}
-use Rattle.sg_keys.specs.Live.{Live}
-use Rattle.sg_keys.specs.Stands.{live_key}
-use Rattle.sg_session.specs.Session.{indices_of}
-use Rattle.sg_states.specs.Placing.{placed}
+use Rattle.std.proofs.Common.{◌≡◌, IfOk, subst, sym, ap, ◌∙◌}
+use Rattle.sg_media.specs.Accepting.{IsAccepted}
+use Rattle.sg_media.specs.Answers.{answer_at, entry_of}
 use Rattle.sg_media.specs.Sides.{SideValue, StandsFor}
-use Rattle.sg_media.specs.Standing.{AreOfKind, room_in}
-use Rattle.sg_media.proofs.Accepted.{keyed_opens}
-use Rattle.sg_media.proofs.OpeningSteps.{keyed_answer}
+use Rattle.sg_media.specs.Standing.{AreOfKind}
+use Rattle.sg_media.specs.Steps.{HasDone, SideTakes, side_opens}
+use Rattle.sg_media.proofs.Accepted.{keyed_opens, refused_as, session_opens, side_takes, stands_refused}
 use Rattle.sg_media.proofs.SideSteps.{ciphers_after, some_after, stands_after, streams_in}
 use Rattle.sg_media.proofs.open_side.OpenSide.receive.Goals as goal
 use Rattle.sg_media.proofs.open_side.OpenSide.receive.Goals.{in-Ok-open_among, in-Err-open_among}
@@ -24,27 +22,68 @@ invariant_of-self c = record {
 pub open_among-requires-clause-kinds : goal.open_among-requires-clause-kinds
 open_among-requires-clause-kinds c = subst (AreOfKind c.self.inside.streams.items) (ap (λ (v : SideValue). v.kind) c.self.view_is ∙ sym (c.in-Ok.ensures.back.1)) c.self.invariant.kinds
 
-pub returns-clause-answer : goal.returns-clause-answer
-returns-clause-answer c = λ s standing.
-    let st = subst (λ (v : SideValue). StandsFor v s) (sym (c.self.view_is)) standing in
-    let a = c.in-Ok.ensures.told s standing in
-    let at : slice_get c.self.inside.keys c.in-Ok.keyed.key ≡ Some (live_key s a.key) = ap (λ (ks : List Live). slice_get ks c.in-Ok.keyed.key) st.same_keys ∙ a.at in
+pub returns-in-Err-clause-steps : goal.returns-in-Err-clause-steps
+returns-in-Err-clause-steps c = λ done has.
+    let told = c.in-Err.ensures.told done has in
+    refused_as c.args.self.now.kind c.args.pad c.in-Err.refused _ told.0 told.1
+
+pub returns-in-Err-clause-answer : goal.returns-in-Err-clause-answer
+returns-in-Err-clause-answer c = λ s st.
+    let told = c.in-Err.ensures.told s.done (streams_in _ s st) in
+    refused_as c.args.self.now.kind c.args.pad c.in-Err.refused _ told.0 told.1 ∙ session_opens c.args.self.now s c.args.pad st
+
+pub returns-in-Err-clause-after : goal.returns-in-Err-clause-after
+returns-in-Err-clause-after c = λ s st.
+    let told = c.in-Err.ensures.told s.done (streams_in _ s st) in
+    stands_refused c.args.self.now s c.args.pad st (c.in-Err.refused.1) told.1
+
+pub returns-clause-steps : goal.returns-clause-steps
+returns-clause-steps c = λ done has.
+    let here = subst (λ (v : SideValue). HasDone v done) (sym (c.self.view_is)) has in
+    let a = subst (λ (v : SideValue). IsAccepted v done c.args.pad c.in-Ok.keyed) (sym (c.self.view_is)) (c.in-Ok.ensures.told done has) in
     let same : c.match-open_among.result ≡ c.open_among.result = elim c.match-open_among.branch [
       | in-Ok-open_among w ↦ w.result-is ∙ sym (w.in-Ok-open_among.is)
       | in-Err-open_among w ↦ w.result-is ∙ sym (w.in-Err-open_among.is)
     ] in
     same
-    ∙ c.open_among.ensures.answer s.done (live_key s a.key) (streams_in _ s st) at
-    ∙ (λ i. keyed_answer c.in-Ok.keyed (live_key s a.key) (room_in s.done c.in-Ok.keyed.headed.head.ssrc) (placed c.in-Ok.keyed.headed.kind (st.same_roc i) (st.same_window i) (indices_of s.done c.in-Ok.keyed.headed.head.ssrc) c.in-Ok.keyed.headed.head.number))
-    ∙ keyed_opens s c.args.pad c.in-Ok.keyed a
+    ∙ c.open_among.ensures.answer done a.key here a.at
+    ∙ keyed_opens _ done c.args.pad c.in-Ok.keyed a
+    ∙ ap (λ (v : SideValue). answer_at v.kind c.args.pad (side_opens v done c.args.pad)) c.self.view_is
+
+pub returns-clause-answer : goal.returns-clause-answer
+returns-clause-answer c = λ s standing.
+    let has = streams_in _ s standing in
+    let here = subst (λ (v : SideValue). HasDone v s.done) (sym (c.self.view_is)) has in
+    let a = subst (λ (v : SideValue). IsAccepted v s.done c.args.pad c.in-Ok.keyed) (sym (c.self.view_is)) (c.in-Ok.ensures.told s.done has) in
+    let same : c.match-open_among.result ≡ c.open_among.result = elim c.match-open_among.branch [
+      | in-Ok-open_among w ↦ w.result-is ∙ sym (w.in-Ok-open_among.is)
+      | in-Err-open_among w ↦ w.result-is ∙ sym (w.in-Err-open_among.is)
+    ] in
+    same
+    ∙ c.open_among.ensures.answer s.done a.key here a.at
+    ∙ keyed_opens _ s.done c.args.pad c.in-Ok.keyed a
+    ∙ session_opens _ s c.args.pad (subst (λ (v : SideValue). StandsFor v s) (sym (c.self.view_is)) standing)
+
+pub returns-clause-takes : goal.returns-clause-takes
+returns-clause-takes c =
+    let side : SideValue = record { kind = c.self.inside.kind; keys = c.self.inside.keys; streams = c.self.inside.streams.items; roc = c.self.inside.roc; window = c.self.inside.window; admit = c.self.inside.admit; encrypts = c.self.inside.encrypts; tag_len = c.self.inside.tag_len } in
+    let new : SideValue = record { kind = c.self.inside.kind; keys = c.open_among.new.keys; streams = c.open_among.new.streams.items; roc = c.self.inside.roc; window = c.self.inside.window; admit = c.self.inside.admit; encrypts = c.self.inside.encrypts; tag_len = c.self.inside.tag_len } in
+    let same : c.match-open_among.result ≡ c.open_among.result = elim c.match-open_among.branch [
+      | in-Ok-open_among w ↦ w.result-is ∙ sym (w.in-Ok-open_among.is)
+      | in-Err-open_among w ↦ w.result-is ∙ sym (w.in-Err-open_among.is)
+    ] in
+    subst (λ r. IfOk r (λ o. SideTakes c.args.self.now new (entry_of o))) (sym same)
+    (subst (λ (v : SideValue). IfOk c.open_among.result (λ o. SideTakes v new (entry_of o))) c.self.view_is
+    (side_takes _ side c.open_among.result c.open_among.new.keys c.open_among.new.streams.items c.open_among.ensures.streams c.open_among.ensures.keys))
 
 pub returns-clause-after : goal.returns-clause-after
 returns-clause-after c = λ s standing.
     let st = subst (λ (v : SideValue). StandsFor v s) (sym (c.self.view_is)) standing in
-    let a = c.in-Ok.ensures.told s standing in
-    let at : slice_get c.self.inside.keys c.in-Ok.keyed.key ≡ Some (live_key s a.key) = ap (λ (ks : List Live). slice_get ks c.in-Ok.keyed.key) st.same_keys ∙ a.at in
+    let has = streams_in _ s standing in
+    let here = subst (λ (v : SideValue). HasDone v s.done) (sym (c.self.view_is)) has in
+    let a = subst (λ (v : SideValue). IsAccepted v s.done c.args.pad c.in-Ok.keyed) (sym (c.self.view_is)) (c.in-Ok.ensures.told s.done has) in
     let answer =
-    c.open_among.ensures.answer s.done (live_key s a.key) (streams_in _ s st) at
-    ∙ (λ i. keyed_answer c.in-Ok.keyed (live_key s a.key) (room_in s.done c.in-Ok.keyed.headed.head.ssrc) (placed c.in-Ok.keyed.headed.kind (st.same_roc i) (st.same_window i) (indices_of s.done c.in-Ok.keyed.headed.head.ssrc) c.in-Ok.keyed.headed.head.number))
-    ∙ keyed_opens s c.args.pad c.in-Ok.keyed a in
+    c.open_among.ensures.answer s.done a.key here a.at
+    ∙ keyed_opens _ s.done c.args.pad c.in-Ok.keyed a
+    ∙ session_opens _ s c.args.pad st in
     stands_after _ s c.args.pad c.open_among.result c.open_among.new.keys c.open_among.new.streams.items st answer c.open_among.ensures.streams c.open_among.ensures.keys c.open_among.ensures.stays

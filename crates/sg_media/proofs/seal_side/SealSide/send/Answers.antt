@@ -1,14 +1,11 @@
-use Rattle.std.proofs.Common.{◌≡◌, true, ◌<◌, List, [], ◌∷◌, ◌++◌, length, IfOk, subst, sym, ap, ◌∙◌}
-use Rattle.sg_keys.specs.Live.{Live}
-use Rattle.sg_keys.specs.Stands.{live}
-use Rattle.sg_session.specs.Session.{Done, indices_of}
-use Rattle.sg_states.specs.Outbound.{Outgoing}
+use Rattle.std.proofs.Common.{◌≡◌, true, ◌<◌, length, IfOk, subst, sym, ap, ◌∙◌}
 use Rattle.sg_states.specs.Parts.{is_tag_len}
-use Rattle.sg_states.specs.Placing.{next_index}
-use Rattle.sg_media.specs.Answers.{entry_out, roomed, sealed_at, told_of}
+use Rattle.sg_media.specs.Accepting.{IsAdmitted}
+use Rattle.sg_media.specs.Answers.{entry_out, told_of}
 use Rattle.sg_media.specs.Sides.{SideValue, StandsFor}
-use Rattle.sg_media.specs.Standing.{AreOfKind, StreamsStand, room_in}
-use Rattle.sg_media.proofs.Admitted.{admitted_seals, ciphers_sealed, some_sealed, stands_sealed}
+use Rattle.sg_media.specs.Standing.{AreOfKind, StreamsTake}
+use Rattle.sg_media.specs.Steps.{HasDone, SideTakes, side_seals}
+use Rattle.sg_media.proofs.Admitted.{admitted_seals, ciphers_sealed, refused_out, session_seals, side_takes_out, some_sealed, stands_refused_out, stands_sealed}
 use Rattle.sg_media.proofs.SideSteps.{streams_in}
 use Rattle.sg_media.proofs.seal_side.SealSide.send.Goals as goal
 use Rattle.sg_media.proofs.seal_side.SealSide.send.Goals.{in-Ok-seal_among, in-Err-seal_among}
@@ -30,30 +27,74 @@ seal_among-requires-clause-tag c =
 pub seal_among-requires-clause-kinds : goal.seal_among-requires-clause-kinds
 seal_among-requires-clause-kinds c = subst (AreOfKind c.self.inside.streams.items) (ap (λ (v : SideValue). v.kind) c.self.view_is ∙ sym (c.in-Ok.ensures.back.1)) c.self.invariant.kinds
 
-pub returns-clause-answer : goal.returns-clause-answer
-returns-clause-answer c = λ s standing.
-    let st = subst (λ (v : SideValue). StandsFor v s) (sym (c.self.view_is)) standing in
-    let h : Outgoing = c.in-Ok.headed in
-    let some : 0 < length (live s) = subst (λ (ks : List Live). 0 < length ks) st.same_keys c.self.invariant.some in
+pub returns-in-Err-clause-steps : goal.returns-in-Err-clause-steps
+returns-in-Err-clause-steps c = λ done has.
+    let told = c.in-Err.ensures.told done has in
+    refused_out c.args.self.now.kind c.args.pad c.in-Err.refused _ told.0 told.1
+
+pub returns-in-Err-clause-answer : goal.returns-in-Err-clause-answer
+returns-in-Err-clause-answer c = λ s st.
+    let some : 0 < length c.args.self.now.keys = subst (λ (v : SideValue). 0 < length v.keys) c.self.view_is c.self.invariant.some in
+    let told = c.in-Err.ensures.told s.done (streams_in _ s st) in
+    refused_out c.args.self.now.kind c.args.pad c.in-Err.refused _ told.0 told.1 ∙ session_seals c.args.self.now s c.args.pad st some
+
+pub returns-in-Err-clause-after : goal.returns-in-Err-clause-after
+returns-in-Err-clause-after c = λ s st.
+    let some : 0 < length c.args.self.now.keys = subst (λ (v : SideValue). 0 < length v.keys) c.self.view_is c.self.invariant.some in
+    let told = c.in-Err.ensures.told s.done (streams_in _ s st) in
+    stands_refused_out c.args.self.now s c.args.pad st some (c.in-Err.refused.1) told.1
+
+pub returns-clause-steps : goal.returns-clause-steps
+returns-clause-steps c = λ done has.
+    let here = subst (λ (v : SideValue). HasDone v done) (sym (c.self.view_is)) has in
+    let a = subst (λ (v : SideValue). IsAdmitted v done c.args.pad c.in-Ok.headed) (sym (c.self.view_is)) (c.in-Ok.ensures.told done has) in
     let same : c.match-seal_among.result ≡ c.seal_among.result = elim c.match-seal_among.branch [
       | in-Ok-seal_among w ↦ w.result-is ∙ sym (w.in-Ok-seal_among.is)
       | in-Err-seal_among w ↦ w.result-is ∙ sym (w.in-Err-seal_among.is)
     ] in
     same
-    ∙ c.seal_among.ensures.answer s.done (streams_in _ s st)
-    ∙ (λ i. told_of h.kind h.pad (roomed (room_in s.done h.head.ssrc) (sealed_at h (st.same_keys i) (st.same_tag_len i) (next_index h.kind (st.same_roc i) (st.same_window i) (indices_of s.done h.head.ssrc) h.head.number))))
-    ∙ admitted_seals s c.args.pad h (c.in-Ok.ensures.told s standing) some
+    ∙ c.seal_among.ensures.answer done here
+    ∙ admitted_seals _ done c.args.pad c.in-Ok.headed a
+    ∙ ap (λ (v : SideValue). told_of v.kind c.args.pad (side_seals v done c.args.pad)) c.self.view_is
+
+pub returns-clause-answer : goal.returns-clause-answer
+returns-clause-answer c = λ s standing.
+    let has = streams_in _ s standing in
+    let here = subst (λ (v : SideValue). HasDone v s.done) (sym (c.self.view_is)) has in
+    let a = subst (λ (v : SideValue). IsAdmitted v s.done c.args.pad c.in-Ok.headed) (sym (c.self.view_is)) (c.in-Ok.ensures.told s.done has) in
+    let same : c.match-seal_among.result ≡ c.seal_among.result = elim c.match-seal_among.branch [
+      | in-Ok-seal_among w ↦ w.result-is ∙ sym (w.in-Ok-seal_among.is)
+      | in-Err-seal_among w ↦ w.result-is ∙ sym (w.in-Err-seal_among.is)
+    ] in
+    same
+    ∙ c.seal_among.ensures.answer s.done here
+    ∙ admitted_seals _ s.done c.args.pad c.in-Ok.headed a
+    ∙ session_seals _ s c.args.pad (subst (λ (v : SideValue). StandsFor v s) (sym (c.self.view_is)) standing) c.self.invariant.some
+
+pub returns-clause-takes : goal.returns-clause-takes
+returns-clause-takes c =
+    let side : SideValue = record { kind = c.self.inside.kind; keys = c.self.inside.keys; streams = c.self.inside.streams.items; roc = c.self.inside.roc; window = c.self.inside.window; admit = c.self.inside.admit; encrypts = c.self.inside.encrypts; tag_len = c.self.inside.tag_len } in
+    let new : SideValue = record { kind = c.self.inside.kind; keys = c.seal_among.new.keys; streams = c.seal_among.new.streams.items; roc = c.self.inside.roc; window = c.self.inside.window; admit = c.self.inside.admit; encrypts = c.self.inside.encrypts; tag_len = c.self.inside.tag_len } in
+    let same : c.match-seal_among.result ≡ c.seal_among.result = elim c.match-seal_among.branch [
+      | in-Ok-seal_among w ↦ w.result-is ∙ sym (w.in-Ok-seal_among.is)
+      | in-Err-seal_among w ↦ w.result-is ∙ sym (w.in-Err-seal_among.is)
+    ] in
+    let pad : c.in-Ok.headed.pad ≡ c.args.pad = c.in-Ok.ensures.back.0 in
+    let grown = subst (λ p. IfOk c.seal_among.result (λ o. StreamsTake c.self.inside.streams.items c.seal_among.new.streams.items c.self.inside.roc c.self.inside.window (entry_out p o))) pad c.seal_among.ensures.streams in
+    subst (λ r. IfOk r (λ o. SideTakes c.args.self.now new (entry_out c.args.pad o))) (sym same)
+    (subst (λ (v : SideValue). IfOk c.seal_among.result (λ o. SideTakes v new (entry_out c.args.pad o))) c.self.view_is
+    (side_takes_out _ c.args.pad side c.seal_among.result c.seal_among.new.keys c.seal_among.new.streams.items grown c.seal_among.ensures.keys))
 
 pub returns-clause-after : goal.returns-clause-after
 returns-clause-after c = λ s standing.
     let st = subst (λ (v : SideValue). StandsFor v s) (sym (c.self.view_is)) standing in
-    let h : Outgoing = c.in-Ok.headed in
-    let a = c.in-Ok.ensures.told s standing in
-    let some : 0 < length (live s) = subst (λ (ks : List Live). 0 < length ks) st.same_keys c.self.invariant.some in
+    let has = streams_in _ s standing in
+    let here = subst (λ (v : SideValue). HasDone v s.done) (sym (c.self.view_is)) has in
+    let a = subst (λ (v : SideValue). IsAdmitted v s.done c.args.pad c.in-Ok.headed) (sym (c.self.view_is)) (c.in-Ok.ensures.told s.done has) in
     let answer =
-    c.seal_among.ensures.answer s.done (streams_in _ s st)
-    ∙ (λ i. told_of h.kind h.pad (roomed (room_in s.done h.head.ssrc) (sealed_at h (st.same_keys i) (st.same_tag_len i) (next_index h.kind (st.same_roc i) (st.same_window i) (indices_of s.done h.head.ssrc) h.head.number))))
-    ∙ admitted_seals s c.args.pad h a some in
-    let pad : c.in-Ok.headed.pad ≡ c.args.pad = ap (λ (g : Outgoing). g.pad) a.same in
-    let grown = subst (λ p. IfOk c.seal_among.result (λ o. (done : List Done) → StreamsStand c.self.inside.streams.items c.self.inside.roc c.self.inside.window done → StreamsStand c.seal_among.new.streams.items c.self.inside.roc c.self.inside.window (done ++ entry_out p o ∷ []))) pad c.seal_among.ensures.streams in
+    c.seal_among.ensures.answer s.done here
+    ∙ admitted_seals _ s.done c.args.pad c.in-Ok.headed a
+    ∙ session_seals _ s c.args.pad st c.self.invariant.some in
+    let pad : c.in-Ok.headed.pad ≡ c.args.pad = c.in-Ok.ensures.back.0 in
+    let grown = subst (λ p. IfOk c.seal_among.result (λ o. StreamsTake c.self.inside.streams.items c.seal_among.new.streams.items c.self.inside.roc c.self.inside.window (entry_out p o))) pad c.seal_among.ensures.streams in
     stands_sealed _ s c.args.pad c.seal_among.result c.seal_among.new.keys c.seal_among.new.streams.items st answer grown c.seal_among.ensures.keys c.seal_among.ensures.stays
