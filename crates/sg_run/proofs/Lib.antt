@@ -5,3 +5,4 @@ pub mod LineParts
 pub mod OtherErrors
 pub mod Served
 pub mod Telling
+pub mod Untouched

@@ -3,6 +3,7 @@
 ghost use Rattle.std.specs.Prelude.{◌≡◌, ◌↔◌, ◌≤◌, ◌+◌, ◌^◌, false, true, ℕ, List, []};
 ghost use Rattle.sg_edge.specs.Told.{Rose, Tells};
 ghost use Rattle.sg_gateway.specs.Replayed.{replayed};
+ghost use Rattle.sg_gateway.specs.Step.{Event};
 ghost use Rattle.sg_run.specs.Run.{IsRun, IsComplete, Headline};
 ghost use Rattle.sg_run.specs.Words.{IsNoCommand};
 
@@ -33,6 +34,18 @@ pub fn run<S: Source, K: Sink>(
     ensures write { result ≡ Status.Write → Rose (K.faults sink.old) (K.faults sink.new) }
     ensures write_told { result ≡ Status.Write → Tells (K.failed sink.new) true }
 {
+    headline();
+    if !is_replay(words) {
+        return Status::Usage;
+    }
+    let mut table = Table::make(alloc);
+    replay(alloc, &mut table, source, sink)
+}
+
+/// The headline holds of every list of events.
+fn headline()
+    ensures { (events : List Event) → Headline events }
+{
     sg_gateway::nothing_forged();
     sg_gateway::nothing_twice();
     sg_gateway::nothing_within_reach_lost();
@@ -42,11 +55,6 @@ pub fn run<S: Source, K: Sink>(
     sg_gateway::refusals_change_nothing();
     sg_gateway::ended_calls_stay_away();
     sg_gateway::earlier_generations_serve_no_longer();
-    if !is_replay(words) {
-        return Status::Usage;
-    }
-    let mut table = Table::make(alloc);
-    replay(alloc, &mut table, source, sink)
 }
 
 fn is_replay(words: &[String]) -> bool
