@@ -5,10 +5,10 @@ pub mod FewMedia
 mod Inversions
 pub mod KeyedSound
 pub mod LineNumbers
-mod LinesSound
-mod MessageKeys
-mod MessageOctets
-mod MessagesSound
+pub mod LinesSound
+pub mod MessageKeys
+pub mod MessageOctets
+pub mod MessagesSound
 pub mod SessionsSound
 mod SideWalks
 mod Sound

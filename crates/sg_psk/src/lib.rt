@@ -16,6 +16,7 @@ mod stamps;
 pub use accepting::{Initial, read_initial};
 pub use faults::PskError;
 pub use laws::exchange_is_accepted;
+pub use own_policy::default_policy;
 pub use pairs::{Pair, PskBook};
 pub use replays::{Noted, ReplayBook};
 pub use sending::{Waiting, initiate, read_response, respond};

@@ -24,7 +24,7 @@ fn put_items(
 }
 
 /// The gateway's own policy: number 0, and each type with its default, in one octet.
-pub(crate) fn default_policy(alloc: Global) -> Result<Policy, NoMemory>
+pub fn default_policy(alloc: Global) -> Result<Policy, NoMemory>
     ensures { IfOk result (λ p. p ≡ own_policy) }
 {
     let defaults = [
