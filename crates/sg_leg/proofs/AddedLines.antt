@@ -1,7 +1,7 @@
 -- Lines that are added one by one.
-use Rattle.std.proofs.Common.{◌≡◌, ℕ, zero, suc, ◌+◌, List, [], ◌∷◌, ◌++◌, append_assoc, refl, sym, ap, ◌∙◌, arith}
+use Rattle.std.proofs.Common.{◌≡◌, ℕ, zero, suc, ◌+◌, List, [], ◌∷◌, ◌++◌, append_assoc, refl, ap, ◌∙◌, arith}
 use Rattle.std.proofs.lemmas.List.{append-nil}
-use Rattle.sg_agreement.specs.CarriedTexts.{Added, carried_text, with_added, with_media_lines}
+use Rattle.sg_agreement.specs.CarriedTexts.{carried_text, with_media_lines}
 use Rattle.sg_sdp.specs.Carrying.{carried}
 use Rattle.sg_sdp.specs.Descriptions.{spelling}
 use Rattle.sg_sdp.specs.Parts.{with_line_at}

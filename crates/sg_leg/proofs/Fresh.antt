@@ -17,7 +17,7 @@ use Rattle.sg_keys.specs.KeySet.{AreApart, IsKeySet}
 use Rattle.sg_keys.specs.Live as live
 use Rattle.sg_keys.specs.Live.{Live, is_cipher_len, mki_len}
 use Rattle.sg_keys.specs.Stands as stands
-use Rattle.sg_media.specs.Ciphers.{may_encrypt, EachEncrypts, HaveCiphers}
+use Rattle.sg_media.specs.Ciphers.{EachEncrypts}
 use Rattle.sg_session.specs.Halves.{half_of}
 use Rattle.sg_session.specs.Reach.{AreDistinct, HaveOneLength, AreMkis}
 use Rattle.sg_session.specs.Session.{Key}

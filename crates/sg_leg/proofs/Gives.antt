@@ -1,5 +1,5 @@
 -- What is given, step by step.
-use Rattle.std.proofs.Common.{◌≡◌, ℕ, ◌+◌, List, [], ◌∷◌, ◌++◌, append_assoc, drop, Option, option_map, Result, Ok, Err, refl, sym, ap, ◌∙◌}
+use Rattle.std.proofs.Common.{◌≡◌, ℕ, ◌+◌, List, [], ◌∷◌, ◌++◌, append_assoc, drop, Option, option_map, Result, Ok, sym, ap, ◌∙◌}
 use Rattle.sg_agreement.specs.Keyed.{Keyed, medium_agreed, media_agreed}
 use Rattle.sg_agreement.specs.Keying.{Keying}
 use Rattle.sg_agreement.specs.Media.{Medium}

@@ -1,13 +1,12 @@
 -- Keys that are put into the ring for media.
-use Rattle.std.proofs.Common.{◌≡◌, ℕ, Some, None, List, [], ◌∷◌, ◌++◌, length, map, Option, Result, Ok, Err, refl, sym, ap, ◌∙◌, subst}
+use Rattle.std.proofs.Common.{◌≡◌, ℕ, List, [], ◌∷◌, ◌++◌, length, Option, Result, Ok, Err, sym, ap, ◌∙◌, subst}
 use Rattle.std.proofs.lemmas.List.{map-append, length-map, append-nil}
-use Rattle.sg_agreement.specs.Generations.{keys_from, sessions_from, Generation, generation_of}
+use Rattle.sg_agreement.specs.Generations.{keys_from, sessions_from, generation_of}
 use Rattle.sg_agreement.specs.Media.{Medium}
 use Rattle.sg_base.specs.declared.faults.Fault.{Fault}
 use Rattle.sg_base.specs.declared.faults.Fault.TheVariants.{Refused, NoMemory}
-use Rattle.sg_base.specs.declared.faults.Refusal.{Refusal}
 use Rattle.sg_keys.specs.Installing.{keys_of}
-use Rattle.sg_session.specs.Ring.{Installed, RingKey, key_of, install}
+use Rattle.sg_session.specs.Ring.{Installed, RingKey, key_of}
 use Rattle.sg_session.specs.Stages.{after_ok}
 use Rattle.sg_leg.proofs.Planning.{keys_are}
 use Rattle.sg_leg.specs.FreshKeys.{media_keys}

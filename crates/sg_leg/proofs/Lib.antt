@@ -1,10 +1,16 @@
 mod AddedLines
+mod Agreed
+mod Agreeing
+mod Answered
 mod Described
+mod FewKeys
 mod Fresh
 mod Gives
 mod Installs
+mod Kept
 mod Made
 mod NotedMessages
 mod Opened
 mod Planning
 mod Read
+mod Replied

@@ -1,5 +1,5 @@
 -- Messages that are noted one by one.
-use Rattle.std.proofs.Common.{◌≡◌, ℕ, List, [], ◌∷◌, Option, Some, None, refl, ap, ◌∙◌}
+use Rattle.std.proofs.Common.{◌≡◌, List, [], ◌∷◌, Option, Some, None, refl, ap, ◌∙◌}
 use Rattle.std.specs.List.{filter_map}
 use Rattle.sg_agreement.specs.Keying.{Keying, PeerLines, OwnLines, PeerMessage, PeerMessages, OwnMessage, note_in, notes_of}
 use Rattle.sg_agreement.specs.Messages.{Bundle}

@@ -3,7 +3,7 @@ use Rattle.std.proofs.Common.{◌≡◌, ℕ, List, Option, map, Result, Ok, Err
 use Rattle.sg_agreement.specs.CarriedTexts.{carried_text, exchanged, ports_from}
 use Rattle.sg_agreement.specs.Described.{described}
 use Rattle.sg_agreement.specs.EachMedium.{each_active}
-use Rattle.sg_agreement.specs.Keying.{Keying, Offer, OwnLines, added_by, notes_of}
+use Rattle.sg_agreement.specs.Keying.{Keying, Offer, OwnLines, notes_of}
 use Rattle.sg_agreement.specs.declared.ways.Way.TheVariants as ways
 use Rattle.sg_base.specs.declared.addresses.Side.TheVariants.{Plain}
 use Rattle.sg_sdes.specs.Answers.{offered_by}
@@ -11,7 +11,6 @@ use Rattle.sg_agreement.specs.Messages.{AtHand}
 use Rattle.sg_agreement.specs.Offers.{AgreedOffer, accepted_offer, keying_of, noise_of, agreed_offer}
 use Rattle.sg_agreement.specs.Sides.{side_of, other_side, actives}
 use Rattle.sg_agreement.specs.declared.ways.Way.{Way}
-use Rattle.sg_base.specs.declared.addresses.Side.{Side}
 use Rattle.sg_base.specs.declared.faults.Fault.{Fault}
 use Rattle.sg_base.specs.declared.faults.Fault.TheVariants.{Refused, NoMemory}
 use Rattle.sg_base.specs.declared.faults.Refusal.{Refusal}
@@ -22,8 +21,8 @@ use Rattle.sg_sdp.specs.declared.sdp.Sdp.{Sdp}
 use Rattle.sg_session.specs.Stages.{after_ok}
 use Rattle.sg_leg.specs.Answering.{Tells, Gives}
 use Rattle.sg_leg.specs.Messages.{IsAtHand}
-use Rattle.sg_leg.specs.Open.{IsKeyingOf, IsOpeningOf, IsOpen, Opens, IsOpened, IsOffered, at_hand, with_notes}
-use Rattle.sg_leg.specs.Values.{LiveValue, OfferedValue}
+use Rattle.sg_leg.specs.Open.{IsKeyingOf, IsOpeningOf, Opens, IsOpened, IsOffered, at_hand, with_notes}
+use Rattle.sg_leg.specs.Values.{LiveValue}
 use Rattle.sg_leg.specs.declared.books.Books.{Books}
 use Rattle.sg_leg.specs.declared.keying.Opening.{Opening}
 

@@ -1,5 +1,5 @@
 -- The sessions of media, and the specs of which sides are made.
-use Rattle.std.proofs.Common.{◌≡◌, ℕ, suc, ◌+◌, ◌<◌, true, false, cond, Option, Some, None, List, [], ◌∷◌, ◌++◌, append_assoc, length, map, refl, sym, ap, ◌∙◌, subst, arith}
+use Rattle.std.proofs.Common.{◌≡◌, ℕ, ◌+◌, true, false, cond, Option, Some, None, List, [], ◌∷◌, ◌++◌, append_assoc, length, refl, sym, ap, ◌∙◌, subst, arith}
 use Rattle.std.proofs.lemmas.List.{append-nil, map-append}
 use Rattle.sg_agreement.specs.Generations.{owner_at, owned, numbered, stream_session, stream_sessions, keys_from, sessions_from}
 use Rattle.sg_agreement.specs.Media.{AgreedKey, Stream, Medium}

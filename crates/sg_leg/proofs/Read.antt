@@ -24,7 +24,6 @@ use Rattle.sg_leg.specs.Pairs.{EachPair}
 use Rattle.sg_agreement.specs.Attributes.{mikey_octets}
 use Rattle.sg_agreement.specs.Messages.{AtHand, Bundle, message_in, bundle_in}
 use Rattle.sg_agreement.specs.Refusals.{or_refusal, of_message, of_psk, of_cs}
-use Rattle.sg_base.specs.declared.faults.CsFault.{CsFault}
 use Rattle.sg_base.specs.declared.faults.Fault.{Fault}
 use Rattle.sg_base.specs.declared.faults.Fault.TheVariants.{Refused, NoMemory}
 use Rattle.sg_base.specs.declared.faults.MikeyFault.TheVariants.{DataType}
@@ -41,8 +40,7 @@ use Rattle.sg_mikey.specs.declared.faults.ReadMikeyFault.{ReadMikeyFault}
 use Rattle.sg_mikey.specs.declared.faults.ReadMikeyFault.TheVariants as mikey
 use Rattle.sg_mikey.specs.declared.message.Message.{Message}
 use Rattle.sg_psk.specs.Accepting.{Accepted, initial_of}
-use Rattle.sg_psk.specs.Pairs.{pair_with}
-use Rattle.sg_psk.specs.Sending.{Sent, initial_octets, sent_under}
+use Rattle.sg_psk.specs.Sending.{Sent}
 use Rattle.sg_psk.specs.StandsFor as psk
 use Rattle.sg_psk.specs.StandsFor.{IsAccepted, AreSent, IsSent, accepted_as}
 use Rattle.sg_psk.specs.declared.accepting.Initial.{Initial}

@@ -5,6 +5,7 @@ pub mod Messages
 pub mod Open
 pub mod Pairs
 pub mod Planned
+pub mod Replying
 pub mod Served
 pub mod Sound
 pub mod Standing

@@ -15,7 +15,6 @@ use Rattle.sg_agreement.specs.declared.ways.Way.{Way}
 use Rattle.sg_base.specs.declared.faults.Fault.{Fault}
 use Rattle.sg_base.specs.declared.faults.Fault.TheVariants.{Refused, NoMemory}
 use Rattle.sg_base.specs.declared.faults.Refusal.{Refusal}
-use Rattle.sg_keys.specs.Installing.{keys_of}
 use Rattle.sg_psk.specs.Pairs.{with_note}
 use Rattle.sg_psk.specs.StandsFor.{IsAccepted, IsSent}
 use Rattle.sg_psk.specs.declared.pairs.Pair.{Pair}

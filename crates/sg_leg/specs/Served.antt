@@ -1,5 +1,5 @@
 -- Media that can be served: sides can be made for them.
-use Rattle.std.specs.Prelude.{◌≡◌, ℕ, ◌≤◌, ◌<◌, true, false, List, map, length, Option, Some, None}
+use Rattle.std.specs.Prelude.{◌≡◌, ◌≤◌, ◌<◌, true, false, map, length, Option, Some, None}
 use Rattle.std.specs.List.{AllByRecursion}
 use Rattle.sg_base.specs.Suites.{is_raw}
 use Rattle.sg_base.specs.declared.addresses.Kind.{Kind}

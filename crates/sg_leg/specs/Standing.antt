@@ -1,13 +1,12 @@
 -- What the calls of a leg answer. A leg doesn't know the serial number of its call, the number of the generation, or
 -- whose the ring's keys are, so each clause holds for all of them.
-use Rattle.std.specs.Prelude.{◌≡◌, ℕ, true, List, [], ◌∷◌, length, Option, Some, None, Result, Ok, Err}
-use Rattle.sg_agreement.specs.Generations.{Generation, generation_of}
-use Rattle.sg_agreement.specs.Media.{Medium}
+use Rattle.std.specs.Prelude.{◌≡◌, ℕ, true, List, [], ◌∷◌, Result, Ok, Err}
+use Rattle.sg_agreement.specs.Generations.{Generation}
 use Rattle.sg_base.specs.declared.faults.Fault.{Fault}
 use Rattle.sg_base.specs.declared.faults.Fault.TheVariants.{Refused, NoMemory}
 use Rattle.sg_base.specs.declared.faults.Refusal.{Refusal}
 use Rattle.sg_keys.specs.Installing.{keys_of}
-use Rattle.sg_session.specs.Ring.{Installed, RingKey}
+use Rattle.sg_session.specs.Ring.{RingKey}
 use Rattle.sg_leg.specs.Planned.{ArePlanned}
 use Rattle.sg_leg.specs.Values.{LiveValue}
 use Rattle.sg_leg.specs.declared.media_spec.MediaSpec.{MediaSpec}

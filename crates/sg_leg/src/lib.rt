@@ -15,6 +15,7 @@ mod media_spec;
 mod messages;
 mod noting;
 mod offered;
+mod replying;
 mod settling;
 #[cfg(test)]
 mod tests;

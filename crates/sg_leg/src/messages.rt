@@ -98,7 +98,7 @@ fn message_fault(medium: u8, fault: ReadMikeyFault) -> Fault
     }
 }
 
-fn psk_fault(medium: u8, fault: PskError) -> Fault
+pub(crate) fn psk_fault(medium: u8, fault: PskError) -> Fault
     ensures { result ≡ psk_fault medium fault }
 {
     match fault {
@@ -107,7 +107,7 @@ fn psk_fault(medium: u8, fault: PskError) -> Fault
     }
 }
 
-fn cs_fault(medium: u8, fault: CsError) -> Fault
+pub(crate) fn cs_fault(medium: u8, fault: CsError) -> Fault
     ensures { result ≡ cs_fault medium fault }
 {
     match fault {

@@ -1,15 +1,36 @@
 //! A call with an open offer.
 
-ghost use Rattle.std.specs.Prelude.{◌≡◌, ◌≤◌, Some, None, length, OnErr, MatchResult};
+ghost use Rattle.std.specs.Prelude.{◌≡◌, ◌≤◌, ℕ, List, Some, None, length, map, IfOk, IfErr, OnErr, MatchResult};
+ghost use Rattle.std.specs.List.{All};
+ghost use Rattle.sg_agreement.specs.Answers.{agreed_answer, answered_by, lines_of};
+ghost use Rattle.sg_agreement.specs.CarriedTexts.{carried_text, ports_from};
+ghost use Rattle.sg_agreement.specs.Keyed.{media_agreed};
+ghost use Rattle.sg_agreement.specs.Keying.{Offer};
 ghost use Rattle.sg_agreement.specs.Offers.{agreed_offer};
-ghost use Rattle.sg_leg.specs.Open.{IsOpened, at_hand, media_of};
+ghost use Rattle.sg_keys.specs.Installing.{keys_of};
+ghost use Rattle.sg_sdp.specs.declared.medium.Medium as descriptions;
+ghost use Rattle.sg_session.specs.Ring.{Installed};
+ghost use Rattle.sg_leg.specs.Answering.{Tells};
+ghost use Rattle.sg_leg.specs.Open.{AreAddressed, IsAgreed, IsAnswerOf, IsAnswered, IsOpen, IsOpened, answer_of, answered_with, at_hand, media_of};
+ghost use Rattle.sg_leg.specs.Served.{IsServedIf};
 
-use crate::answering::offered_text;
+use crate::answering::{
+    Answered, actives_after, answered_text, by_own_lines, by_peer_lines, media_agreed, of_media,
+    offered_text, other_side,
+};
 use crate::describing::describe;
 use crate::keying::{Keying, keying_of};
+use crate::media::Medium;
 use crate::noting::note_all;
-use crate::{Books, Ended, Live, Way};
-use sg_base::{Fault, Octets, Side};
+use crate::replying::{by_media_messages, by_response, by_session_message};
+use crate::settling::settle;
+use crate::{Books, Ended, Live, MediaSpec, Way};
+use arrayvec::ArrayVec;
+use sg_agreement::agreements_are_sound;
+use sg_base::{Fault, NoMemory, Octets, Side};
+use sg_mikey::{Items, message_law};
+use sg_psk::PskBook;
+use sg_sdes::crypto_lines_are_read_again;
 use sg_sdp::Sdp;
 use std::alloc::Global;
 use std::marker::Model;
@@ -106,6 +127,154 @@ impl Offered {
         ensures { result ≡ self.now.side }
     {
         self.side
+    }
+
+    /// Takes the answer of the other side and tells the text for the side that offered, and what the sides of the new
+    /// generation are made of; or gives the state back with the first cause why not, and then the books are as they
+    /// were.
+    pub fn answer(
+        self,
+        alloc: Global,
+        text: &[u8],
+        noise: &[u8; 304],
+        books: &mut Books,
+    ) -> Result<(Live, Octets, ArrayVec<MediaSpec, 4>), (Offered, Fault)>
+        requires open { (offer : Offer) × IsOpen books.old.psks self offer }
+        ensures answer { (offer : Offer) (call generation : ℕ) (ring : List Installed) → IsOpen books.old.psks self offer → keys_of ring ≡ books.old.ring
+            → IsAnswered self result books.new.ring (answered_with self.slot offer noise.now text.now call generation ring) }
+        ensures back { IfErr result (λ e. (e.0 ≡ self) × (books.new ≡ books.old)) }
+        ensures others { (books.new.psks ≡ books.old.psks) × (books.new.seen ≡ books.old.seen) }
+    {
+        match self.settled(alloc, text, noise, books) {
+            Ok((text, specs)) => Ok((Live::new(self.slot, self.media(), false), text, specs)),
+            Err(fault) => Err((self, fault)),
+        }
+    }
+
+    /// The text for the side that offered, and the specs. Memory is taken before the ring changes.
+    fn settled(
+        &self,
+        alloc: Global,
+        text: &[u8],
+        noise: &[u8; 304],
+        books: &mut Books,
+    ) -> Result<(Octets, ArrayVec<MediaSpec, 4>), Fault>
+        requires open { (offer : Offer) × IsOpen books.old.psks self.now offer }
+        ensures settled { (offer : Offer) (call generation : ℕ) (ring : List Installed) → IsOpen books.old.psks self.now offer → keys_of ring ≡ books.old.ring
+            → IsAgreed result books.new.ring (answered_with self.now.slot offer noise.now text.now call generation ring) }
+        ensures err { OnErr result (books.new ≡ books.old) }
+        ensures others { (books.new.psks ≡ books.old.psks) × (books.new.seen ≡ books.old.seen) }
+    {
+        let (text, media) = match self.agreed(alloc, text, noise, &books.psks) {
+            Ok(agreed) => agreed,
+            Err(fault) => return Err(fault),
+        };
+        match settle(alloc, media.as_slice(), &mut books.ring) {
+            Ok(specs) => Ok((text, specs)),
+            Err(fault) => Err(fault),
+        }
+    }
+
+    /// The text for the side that offered, and what is agreed of each medium.
+    fn agreed(
+        &self,
+        alloc: Global,
+        text: &[u8],
+        noise: &[u8; 304],
+        psks: &PskBook,
+    ) -> Result<(Octets, Items<Option<Medium>>), Fault>
+        requires open { (offer : Offer) × IsOpen psks.now self.now offer }
+        ensures agreed { (offer : Offer) → IsOpen psks.now self.now offer → IsAnswerOf (answer_of result) (agreed_answer self.now.slot offer noise.now text.now) }
+        ensures few { IfOk result (λ r. length r.1 ≤ 4) }
+        ensures served { IfOk result (λ r. All IsServedIf r.1) }
+    {
+        agreements_are_sound();
+        let offered = self.description.media.as_slice();
+        let side = other_side(self.side);
+        let answer = match describe(alloc, side, Some(self.media()), text) {
+            Ok(answer) => answer,
+            Err(fault) => return Err(fault),
+        };
+        let active = actives_after(self.side, offered, answer.media.as_slice());
+        let answered = match self.answered(alloc, noise, &answer, active.as_slice(), psks) {
+            Ok(answered) => answered,
+            Err(fault) => return Err(fault),
+        };
+        match self.agreed_by(alloc, &answer, active.as_slice(), &answered) {
+            Ok(agreed) => Ok(agreed),
+            Err(NoMemory) => Err(Fault::NoMemory),
+        }
+    }
+
+    /// How the media of an answer are keyed.
+    fn answered(
+        &self,
+        alloc: Global,
+        noise: &[u8; 304],
+        answer: &Sdp,
+        active: &[bool],
+        psks: &PskBook,
+    ) -> Result<Answered, Fault>
+        requires open { (offer : Offer) × IsOpen psks.now self.now offer }
+        requires answers { length answer.now.media ≡ length self.now.description.media }
+        requires actives { length active.now ≡ length self.now.description.media }
+        ensures { (offer : Offer) → IsOpen psks.now self.now offer → Tells result (answered_by offer noise.now answer.now active.now offer.keying) }
+    {
+        crypto_lines_are_read_again();
+        message_law();
+        let media = answer.media.as_slice();
+        let offered = self.description.media.as_slice();
+        match &self.keying {
+            Keying::PeerLines(lines) => {
+                let media = by_peer_lines(alloc, noise, active, lines.as_slice(), media);
+                of_media(alloc, media)
+            }
+            Keying::OwnLines(lines) => {
+                let media = by_own_lines(alloc, active, lines.as_slice(), media);
+                of_media(alloc, media)
+            }
+            Keying::PeerMessage(bundle) => {
+                match by_session_message(alloc, psks, self.side, offered, media, bundle, active) {
+                    Ok(answered) => Ok(answered),
+                    Err(NoMemory) => Err(Fault::NoMemory),
+                }
+            }
+            Keying::PeerMessages(bundles) => {
+                match by_media_messages(alloc, psks, bundles.as_slice(), media, active) {
+                    Ok(media) => of_media(alloc, Ok(media)),
+                    Err(NoMemory) => Err(Fault::NoMemory),
+                }
+            }
+            Keying::OwnMessage(waiting) => {
+                by_response(alloc, psks, self.side, offered, answer, waiting, active)
+            }
+        }
+    }
+
+    /// The text for the side that offered, and what is agreed of each medium, once they are keyed.
+    fn agreed_by(
+        &self,
+        alloc: Global,
+        answer: &Sdp,
+        active: &[bool],
+        keyed: &Answered,
+    ) -> Result<(Octets, Items<Option<Medium>>), NoMemory>
+        requires answers { length answer.now.media ≡ length self.now.description.media }
+        requires actives { length active.now ≡ length self.now.description.media }
+        requires keyed { length keyed.now.media ≡ length self.now.description.media }
+        requires addressed { AreAddressed self.now.description.media answer.now.media keyed.now.media }
+        ensures text { IfOk result (λ r. r.0 ≡ carried_text (ports_from self.now.slot 0 self.now.side active.now) (map (λ (m : descriptions.Medium). m.profile) self.now.description.media)
+            (record { session = keyed.now.session; media = map lines_of keyed.now.media }) answer.now) }
+        ensures media { IfOk result (λ r. r.1 ≡ media_agreed self.now.side self.now.description.media answer.now.media keyed.now.media) }
+    {
+        let offered = self.description.media.as_slice();
+        let lines = keyed.session.as_slice();
+        let media = keyed.media.as_slice();
+        let text = answered_text(
+            alloc, self.slot, self.side, offered, answer, active, lines, media,
+        )?;
+        let agreed = media_agreed(alloc, self.side, offered, answer.media.as_slice(), media)?;
+        Ok((text, Items::from_vec(agreed)))
     }
 
     /// The offer is rejected: the call goes on under the generation before, or ends.

@@ -1,7 +1,6 @@
-use Rattle.std.proofs.Common.{◌≡◌, ◌∙◌, ◌+◌, ◌∷◌, ◌++◌, ◌<◌, append_assoc, refl, sym, ap, subst, drop, [], length, arith}
+use Rattle.std.proofs.Common.{refl, sym, length, arith}
 use Rattle.std.proofs.lemmas.Option.{slice_get_read}
 use Rattle.sg_agreement.proofs.Walks.{split_at}
-use Rattle.sg_agreement.specs.Keyed.{media_agreed}
 use Rattle.sg_leg.proofs.Gives.{agreed_next}
 use Rattle.sg_leg.proofs.answering.media_agreed.Goals as goal
 

@@ -1,4 +1,4 @@
-use Rattle.std.proofs.Common.{◌≡◌, ◌++◌, drop, length}
+use Rattle.std.proofs.Common.{◌≡◌, ◌++◌, drop}
 use Rattle.sg_leg.proofs.carrying.add_session_lines.Given as goal
 
 abbrev pub invariant-loop-line : goal.invariant-loop-line

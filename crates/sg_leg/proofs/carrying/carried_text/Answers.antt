@@ -1,5 +1,3 @@
-use Rattle.std.proofs.Common.{◌∙◌, ap}
-use Rattle.sg_agreement.specs.CarriedTexts.{carried_text}
 use Rattle.sg_leg.proofs.AddedLines.{text_is}
 use Rattle.sg_leg.proofs.carrying.carried_text.Goals as goal
 

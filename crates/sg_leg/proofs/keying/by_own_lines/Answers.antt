@@ -1,5 +1,5 @@
-use Rattle.std.proofs.Common.{refl, sym, ap, ◌∙◌, map}
-use Rattle.sg_agreement.specs.Keying.{Keying, OwnLines, attributes_of}
+use Rattle.std.proofs.Common.{refl, ap, ◌∙◌, map}
+use Rattle.sg_agreement.specs.Keying.{OwnLines, attributes_of}
 use Rattle.sg_leg.proofs.Gives.{gives_ok}
 use Rattle.sg_leg.proofs.keying.by_own_lines.Goals as goal
 

@@ -1,6 +1,5 @@
-use Rattle.std.proofs.Common.{refl, ap, Ok, List, ◌≡◌}
-use Rattle.sg_agreement.specs.Keying.{Keying, PeerLines}
-use Rattle.sg_session.specs.Stages.{after_ok}
+use Rattle.std.proofs.Common.{refl}
+use Rattle.sg_agreement.specs.Keying.{PeerLines}
 use Rattle.sg_leg.proofs.Gives.{gives_ok}
 use Rattle.sg_leg.proofs.keying.by_peer_lines.Goals as goal
 

@@ -1,12 +1,7 @@
-use Rattle.std.proofs.Common.{◌≡◌, ◌∙◌, ◌∷◌, [], ap, sym, subst, Err, drop, length, length-append, arith}
+use Rattle.std.proofs.Common.{◌∷◌, [], ap, sym, length, length-append, arith}
 use Rattle.std.proofs.Math.ListN.{drop_of_length-le}
 use Rattle.sg_agreement.specs.Attributes.{mikey_value}
-use Rattle.sg_agreement.specs.EachMedium.{each_active}
-use Rattle.sg_agreement.specs.Messages.{Bundle, bundle_in}
-use Rattle.sg_base.specs.declared.addresses.Side.TheVariants.{Secure}
-use Rattle.sg_leg.specs.Answering.{Gives}
-use Rattle.sg_leg.specs.Open.{IsBundleIf}
-use Rattle.sg_leg.specs.Pairs.{EachPair}
+use Rattle.sg_agreement.specs.Messages.{bundle_in}
 use Rattle.sg_leg.proofs.Read.{walk_next, walk_ends, walk_done, room_next, moved}
 use Rattle.sg_leg.proofs.messages.bundles.Goals as goal
 

@@ -3,9 +3,9 @@ use Rattle.sg_agreement.specs.EachMedium.{each_active}
 use Rattle.sg_agreement.specs.Keying.{PeerMessages}
 use Rattle.sg_agreement.specs.Messages.{bundle_in}
 use Rattle.sg_base.specs.declared.addresses.Side.TheVariants.{Secure}
-use Rattle.sg_leg.specs.Open.{IsBundleIf, IsOpeningOf}
+use Rattle.sg_leg.specs.Open.{IsBundleIf}
 use Rattle.sg_leg.specs.Pairs.{EachPair}
-use Rattle.sg_leg.proofs.Read.{opened_with, gives_after}
+use Rattle.sg_leg.proofs.Read.{opened_with}
 use Rattle.sg_leg.proofs.messages.by_media.Goals as goal
 
 pub returns-in-Ok-clause-keying : goal.returns-in-Ok-clause-keying

@@ -1,4 +1,4 @@
-use Rattle.std.proofs.Common.{refl, sym, subst, ap, ◌∙◌, ◌∷◌, [], List, ℕ, ◌++◌, Ok}
+use Rattle.std.proofs.Common.{subst, ap, ◌∙◌, ◌∷◌, [], ◌++◌, Ok}
 use Rattle.sg_agreement.specs.Attributes.{ssrcs_of}
 use Rattle.sg_agreement.specs.CarriedTexts.{mikey_attribute}
 use Rattle.sg_agreement.specs.Keying.{OwnMessage}

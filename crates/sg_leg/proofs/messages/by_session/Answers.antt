@@ -1,12 +1,12 @@
-use Rattle.std.proofs.Common.{◌≡◌, ◌∙◌, sym, subst, ap, Ok, Err}
+use Rattle.std.proofs.Common.{◌∙◌, subst, ap, Ok}
 use Rattle.sg_agreement.specs.Attributes.{mikey_value}
 use Rattle.sg_agreement.specs.Keying.{PeerMessage}
 use Rattle.sg_agreement.specs.Messages.{bundle_in}
 use Rattle.sg_agreement.specs.Sides.{active_count}
 use Rattle.sg_base.specs.declared.addresses.Side.TheVariants.{Secure}
 use Rattle.sg_leg.specs.Answering.{Gives}
-use Rattle.sg_leg.specs.Open.{IsBundleOf, IsOpeningOf}
-use Rattle.sg_leg.proofs.Read.{opened_with, gives_after}
+use Rattle.sg_leg.specs.Open.{IsBundleOf}
+use Rattle.sg_leg.proofs.Read.{opened_with}
 use Rattle.sg_leg.proofs.messages.by_session.Goals as goal
 
 pub returns-in-Ok-clause-keying : goal.returns-in-Ok-clause-keying

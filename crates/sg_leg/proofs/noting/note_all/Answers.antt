@@ -1,4 +1,4 @@
-use Rattle.std.proofs.Common.{◌≡◌, ◌∙◌, sym, ap, subst}
+use Rattle.std.proofs.Common.{sym, subst}
 use Rattle.sg_leg.specs.Open.{IsBundleIf, IsKeyingOf}
 use Rattle.sg_leg.specs.Pairs.{EachPair}
 use Rattle.sg_leg.proofs.NotedMessages.{notes_of_messages}

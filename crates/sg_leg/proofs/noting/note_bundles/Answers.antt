@@ -1,4 +1,4 @@
-use Rattle.std.proofs.Common.{◌≡◌, ◌∙◌, ◌+◌, ◌≤◌, ◌∷◌, sym, ap, subst, drop, arith, length}
+use Rattle.std.proofs.Common.{◌+◌, sym, subst, drop, arith}
 use Rattle.std.proofs.Math.ListN.{drop_of_length-le}
 use Rattle.sg_agreement.proofs.Walks.{split_at}
 use Rattle.sg_leg.specs.Open.{IsBundleIf}

@@ -1,8 +1,8 @@
-use Rattle.std.proofs.Common.{◌≡◌, ◌∙◌, refl, sym, subst, map, Ok, Err}
+use Rattle.std.proofs.Common.{◌∙◌, refl, sym, subst, map, Err}
 use Rattle.sg_agreement.specs.CarriedTexts.{carried_text, exchanged, ports_from}
 use Rattle.sg_agreement.specs.Described.{described}
 use Rattle.sg_agreement.specs.Offers.{agreed_offer}
-use Rattle.sg_agreement.specs.Sides.{side_of, other_side, actives}
+use Rattle.sg_agreement.specs.Sides.{other_side, actives}
 use Rattle.sg_base.specs.declared.addresses.Side.{Side}
 use Rattle.sg_sdp.specs.declared.medium.Medium as descriptions
 use Rattle.sg_sdp.specs.declared.sdp.Sdp.{Sdp}

@@ -1,4 +1,4 @@
-use Rattle.std.proofs.Common.{◌≡◌, ◌++◌, ◌+◌, map, drop, length}
+use Rattle.std.proofs.Common.{◌≡◌, ◌++◌, ◌+◌, map, drop}
 use Rattle.std.specs.Vec.{vec_len}
 use Rattle.sg_agreement.specs.Streams.{line_key}
 use Rattle.sg_keys.specs.Reused.{given}

@@ -1,4 +1,4 @@
-use Rattle.std.proofs.Common.{◌≡◌, ◌∙◌, sym, ap, map, List}
+use Rattle.std.proofs.Common.{◌≡◌, ◌∙◌, ap, map, List}
 use Rattle.sg_keys.specs.Reused.{given}
 use Rattle.sg_session.specs.Ring.{RingKey}
 use Rattle.sg_leg.specs.FreshKeys.{media_keys}

@@ -1,5 +1,4 @@
-use Rattle.std.proofs.Common.{◌≡◌, ◌∙◌, sym, ap, map, List, Some, ◌∷◌, ◌++◌, []}
-use Rattle.sg_agreement.specs.Media.{Medium}
+use Rattle.std.proofs.Common.{◌≡◌, ◌∙◌, ap, map, List, Some, ◌∷◌, ◌++◌, []}
 use Rattle.sg_keys.specs.Reused.{given}
 use Rattle.sg_session.specs.Ring.{RingKey}
 use Rattle.sg_leg.specs.FreshKeys.{media_keys}

@@ -1,4 +1,4 @@
-use Rattle.std.proofs.Common.{◌≡◌, ◌∙◌, sym, ap, subst, Some, Ok, Err, ◌∷◌, []}
+use Rattle.std.proofs.Common.{◌∙◌, ap, subst, Some, Ok, Err, ◌∷◌, []}
 use Rattle.sg_agreement.specs.Manual.{medium_under}
 use Rattle.sg_agreement.specs.Media.{Medium}
 use Rattle.sg_leg.specs.Installing.{IsKeyed}

@@ -1,7 +1,7 @@
-use Rattle.std.proofs.Common.{◌∙◌, sym, ap, subst, Some, [], ◌∷◌, ◌+◌}
+use Rattle.std.proofs.Common.{◌∙◌, ap, subst, Some, [], ◌∷◌, ◌+◌}
 use Rattle.sg_agreement.specs.Generations.{sessions_from}
 use Rattle.sg_agreement.specs.Media as agreed
-use Rattle.sg_base.specs.declared.addresses.Kind.TheVariants.{Rtp, Rtcp}
+use Rattle.sg_base.specs.declared.addresses.Kind.TheVariants.{Rtp}
 use Rattle.sg_session.specs.declared.names.Direction.TheVariants.{Opening, Sealing}
 use Rattle.sg_leg.specs.Pairs.{EachPair}
 use Rattle.sg_leg.specs.Planned.{IsPlanned}

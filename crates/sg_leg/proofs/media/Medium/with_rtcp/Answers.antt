@@ -1,4 +1,4 @@
-use Rattle.std.proofs.Common.{◌∙◌, sym, ap, subst, Some, [], ◌∷◌, ◌+◌}
+use Rattle.std.proofs.Common.{◌∙◌, ap, subst, Some, [], ◌∷◌, ◌+◌}
 use Rattle.sg_agreement.specs.Generations.{sessions_from}
 use Rattle.sg_agreement.specs.Media as agreed
 use Rattle.sg_base.specs.declared.addresses.Kind.TheVariants.{Rtp, Rtcp}

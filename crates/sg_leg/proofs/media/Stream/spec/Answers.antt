@@ -1,4 +1,4 @@
-use Rattle.std.proofs.Common.{◌≡◌, ◌∙◌, sym, ap, subst, map}
+use Rattle.std.proofs.Common.{◌∙◌, ap, map}
 use Rattle.sg_agreement.specs.Media as agreed
 use Rattle.sg_agreement.specs.Streams.{line_key}
 use Rattle.sg_leg.specs.FreshKeys.{fresh_keys}
