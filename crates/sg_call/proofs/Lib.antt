@@ -1,0 +1,11 @@
+pub mod AddedPaths
+pub mod MorePairs
+pub mod Offering
+pub mod Paired
+pub mod Passing
+pub mod Paths
+pub mod Places
+pub mod Renewing
+pub mod Signalled
+pub mod Standing
+pub mod Taking

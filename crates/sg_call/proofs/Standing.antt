@@ -1,0 +1,105 @@
+-- A call after a datagram.
+use Rattle.std.proofs.Common.{◌≡◌, ℕ, Option, Some, None, List, [], ◌∷◌, ◌++◌, ◌≤◌, append_assoc, refl, sym, ap, ◌∙◌, subst, eqb}
+use Rattle.std.proofs.lemmas.List.{append-nil}
+use Rattle.sg_base.specs.declared.addresses.Address.{Address}
+use Rattle.sg_gateway.proofs.Arrivals.{Arrival, IsDrop, IsOpening, IsSeal, arrival}
+use Rattle.sg_gateway.specs.Batch as batch
+use Rattle.sg_gateway.specs.Datagrams.{Given, arrived_in}
+use Rattle.sg_gateway.specs.World.{Call}
+use Rattle.sg_call.specs.Drained.{IsDrained, IsNextHandled}
+use Rattle.sg_call.specs.Handling.{handled_of, moment_after, gives, call_after, all_handled, IsPassed}
+use Rattle.sg_call.specs.Standing.{SessionsStand, CallStandsFor}
+use Rattle.sg_call.specs.Values.{CallValue, WaitingValue}
+use Rattle.sg_call.specs.declared.handled.Handled.{Handled}
+use Rattle.sg_call.specs.States.{StateStandsFor, IsFormer}
+use Rattle.sg_call.specs.declared.path.Path.{Path}
+use Rattle.sg_call.specs.declared.state.State.{State}
+use Rattle.sg_call.specs.declared.state.State.TheVariants.{Idle, Offered, Live}
+use Rattle.sg_psk.specs.declared.pairs.Pair.{Pair}
+use Rattle.sg_leg.specs.Values.{LiveValue}
+use Rattle.sg_session.specs.Session.{Session}
+
+-- a datagram changes sessions and moment alone
+pub record IsKeptBy (d : List ℕ) (now : ℕ) (c : Call) (g : Given) : Type 0 where
+  pub id_is : (batch.after g c).id ≡ c.id
+  pub slot_is : (batch.after g c).slot ≡ c.slot
+  pub media_are : (batch.after g c).media ≡ c.media
+  pub generations_are : (batch.after g c).generations ≡ c.generations
+  pub replaced_is : (batch.after g c).replaced ≡ c.replaced
+  pub moment_is : (batch.after g c).moment ≡ moment_after (handled_of d g).end now c.moment
+
+kept : (now port : ℕ) (d : List ℕ) (c : Call) (g : Given) → Arrival now port d c g → IsKeptBy d now c g
+kept now port d c g (IsDrop cause is) = subst (IsKeptBy d now c) (sym is) (record { id_is = refl; slot_is = refl; media_are = refl; generations_are = refl; replaced_is = refl; moment_is = refl })
+kept now port d c g (IsOpening o) = subst (IsKeptBy d now c) (sym o.gives) (record { id_is = refl; slot_is = refl; media_are = refl; generations_are = refl; replaced_is = refl; moment_is = refl })
+kept now port d c g (IsSeal o) = subst (IsKeptBy d now c) (sym o.gives) (record { id_is = refl; slot_is = refl; media_are = refl; generations_are = refl; replaced_is = refl; moment_is = refl })
+
+-- sessions and moment are nothing to the state
+pub state_moved : (pairs : List Pair) (st : State) (c : Call) (ss : List Session) (n : ℕ) → StateStandsFor pairs st c → StateStandsFor pairs st (record c { sessions = ss; moment = n })
+state_moved pairs (Idle slot) c ss n h = record { slot_is = h.slot_is; not_manual = h.not_manual; no_offer = h.no_offer; no_generation = h.no_generation }
+state_moved pairs (Offered o) c ss n h = record { slot_is = h.slot_is; not_manual = h.not_manual; media_are = h.media_are; former_is = former_moved o.former h.former_is; offer = h.offer; is_offer = h.is_offer; is_open = h.is_open }
+  where
+    former_moved : (f : Option LiveValue) → IsFormer f c → IsFormer f (record c { sessions = ss; moment = n })
+    former_moved None p = p
+    former_moved (Some l) p = p
+state_moved pairs (Live l) c ss n h = record { slot_is = h.slot_is; media_are = h.media_are; manual_is = h.manual_is; no_offer = h.no_offer; some_generation = h.some_generation }
+
+state_after : (pairs : List Pair) (now port : ℕ) (d : List ℕ) (st : State) (c : Call) (g : Given) → Arrival now port d c g → StateStandsFor pairs st c → StateStandsFor pairs st (batch.after g c)
+state_after pairs now port d st c g (IsDrop cause is) h = subst (λ g. StateStandsFor pairs st (batch.after g c)) (sym is) h
+state_after pairs now port d st c g (IsOpening o) h = subst (λ g. StateStandsFor pairs st (batch.after g c)) (sym o.gives) (state_moved pairs st c _ now h)
+state_after pairs now port d st c g (IsSeal o) h = subst (λ g. StateStandsFor pairs st (batch.after g c)) (sym o.gives) (state_moved pairs st c _ now h)
+
+pub call_passed : (pairs : List Pair) (now port : ℕ) (from : Address) (d : List ℕ) (call : CallValue) (c : Call) (h : Handled) (current earlier : List Path) → CallStandsFor pairs call c → IsPassed now port from d c h current earlier
+    → CallStandsFor pairs (record call { current = current; earlier = earlier; moment = moment_after h.end now call.moment }) (batch.after (arrived_in now port from d c) c)
+call_passed pairs now port from d call c h current earlier s p =
+    let k = kept now port d c (arrived_in now port from d c) (arrival now port from d c) in
+    record {
+      id_is = k.id_is ∙ s.id_is;
+      slot_is = k.slot_is ∙ s.slot_is;
+      media_are = k.media_are ∙ s.media_are;
+      few = subst (λ n. n ≤ 4) (sym k.media_are) s.few;
+      new_is = ap (λ n. eqb n 0) k.generations_are ∙ s.new_is;
+      sessions = subst (SessionsStand current earlier) p.after_is p.stand;
+      state_stands = state_after pairs now port d call.state c (arrived_in now port from d c) (arrival now port from d c) s.state_stands;
+      replaced_is = k.replaced_is ∙ s.replaced_is;
+      moment_is = k.moment_is ∙ (λ i. moment_after (sym p.is i).end now (s.moment_is i));
+    }
+
+-- the inbox doesn't matter
+pub other_inbox : (pairs : List Pair) (call other : CallValue) (c : Call) → CallStandsFor pairs call c → other ≡ record call { waiting = other.waiting; handled = other.handled } → CallStandsFor pairs other c
+other_inbox pairs call other c s is = subst (λ v. CallStandsFor pairs v c) (sym is)
+    (record { id_is = s.id_is; slot_is = s.slot_is; media_are = s.media_are; few = s.few; new_is = s.new_is; sessions = s.sessions; state_stands = s.state_stands; replaced_is = s.replaced_is; moment_is = s.moment_is })
+
+-- what is drained so far, from the start
+abbrev pub Drains : CallValue → CallValue → Type 0
+Drains start call =
+    (pairs : List Pair) (c : Call) → CallStandsFor pairs start c
+    → (d : Call) × CallStandsFor pairs call d × (call.handled ++ all_handled d call.waiting ≡ start.handled ++ all_handled c start.waiting) × (call_after d call.waiting ≡ call_after c start.waiting)
+
+pub drains_none : (call : CallValue) → Drains call call
+drains_none call pairs c s = (c, s, refl, refl)
+
+pub drains_next : (start call next : CallValue) (a : WaitingValue) (later : List WaitingValue) → call.waiting ≡ a ∷ later → next.waiting ≡ later
+    → ((pairs : List Pair) (c : Call) → CallStandsFor pairs call c → IsNextHandled a pairs c call next) → Drains start call → Drains start next
+drains_next start call next a later first rest one drains pairs c s =
+    let (d, stands, handled, after) = drains pairs c s in
+    let n = one pairs d stands in
+    let after_a : Call = batch.after (gives d a) d in (
+      after_a,
+      n.stands,
+      (λ i. n.handles i ++ all_handled after_a (rest i)) ∙ append_assoc call.handled _ (all_handled after_a later) ∙ ap (λ ws. call.handled ++ all_handled d ws) (sym first) ∙ handled,
+      ap (call_after after_a) rest ∙ ap (call_after d) (sym first) ∙ after,
+    )
+
+pub drained_all : (start call : CallValue) → call.waiting ≡ [] → (call.slot ≡ start.slot) × (call.media ≡ start.media) × (call.id ≡ start.id) → Drains start call → IsDrained start call
+drained_all start call none same drains = record {
+  none_waits = none;
+  same_slot = same.0;
+  same_media = same.1;
+  same_id = same.2;
+  handles = λ pairs c s. (let (d, stands, handled, after) = drains pairs c s in sym (ap (λ ws. call.handled ++ all_handled d ws) none ∙ append-nil call.handled) ∙ handled);
+  stands = λ pairs c s. (let (d, stands, handled, after) = drains pairs c s in subst (CallStandsFor pairs call) (sym (ap (call_after d) none) ∙ after) stands);
+}
+
+-- the same value under another name
+pub next_as : (a : WaitingValue) (pairs : List Pair) (c : Call) (old view new : CallValue) → view.handled ≡ old.handled → IsNextHandled a pairs c view new → IsNextHandled a pairs c old new
+next_as a pairs c old view new same n = record { handles = n.handles ∙ ap (λ hs. hs ++ (a.number, handled_of a.octets (gives c a)) ∷ []) same; stands = n.stands }

@@ -1,0 +1,44 @@
+-- Paths that are added for planned sessions.
+use Rattle.std.specs.Prelude.{ℕ, Bool, true, false, List, [], ◌∷◌, ◌++◌, filter, Option, Some, None}
+use Rattle.sg_base.specs.declared.addresses.Address.{Address}
+use Rattle.sg_keys.specs.declared.spec.SessionSpec.{SessionSpec}
+use Rattle.sg_session.specs.Session.{Session}
+use Rattle.sg_session.specs.declared.names.Direction.{Direction}
+use Rattle.sg_leg.specs.Planned.{Planned, IsPlanned}
+use Rattle.sg_leg.specs.Pairs.{EachPair}
+use Rattle.sg_leg.specs.Values.{LiveValue}
+use Rattle.sg_call.specs.Standing.{PathStandsFor}
+use Rattle.sg_call.specs.Values.{CallValue}
+use Rattle.sg_call.specs.declared.path.Path.{Path}
+use Rattle.sg_call.specs.declared.path.MediaSide.{MediaSide}
+use Rattle.sg_call.specs.declared.path.MediaSide.TheVariants.{Opens, Seals}
+use Rattle.sg_call.specs.declared.state.State.TheVariants.{Live}
+
+abbrev pub as_planned : ℕ → Direction → SessionSpec → Address → Address → Planned
+as_planned medium direction spec secure plain = record { medium = medium; direction = direction; spec = spec; secure = secure; plain = plain }
+
+abbrev pub if_planned : ℕ → Direction → Option SessionSpec → Address → Address → List Planned
+if_planned medium direction None secure plain = []
+if_planned medium direction (Some spec) secure plain = as_planned medium direction spec secure plain ∷ []
+
+-- behind paths that stand for some sessions, the paths of the planned ones come
+abbrev pub Adds : ℕ → List Planned → List Path → List Path → Type 0
+Adds slot ps old new = (ss ts : List Session) → EachPair (PathStandsFor slot) old ss → EachPair IsPlanned ps ts → EachPair (PathStandsFor slot) new (ss ++ ts)
+
+abbrev pub opens_side : MediaSide → Bool
+opens_side (Opens side) = true
+opens_side (Seals side) = false
+
+abbrev pub opens_path : Path → Bool
+opens_path path = opens_side path.side
+
+-- The call under a new generation with these paths. Of the generation before, what opens is kept.
+abbrev pub renewed_value : CallValue → ℕ → LiveValue → List Path → CallValue
+renewed_value call now l paths = record call {
+  is_new = false;
+  state = Live l;
+  current = paths;
+  earlier = filter opens_path call.current;
+  replaced = now;
+  moment = now;
+}

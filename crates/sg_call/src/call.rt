@@ -1,0 +1,455 @@
+//! A call: its state, the paths of its generations, and its inbox.
+
+ghost use Rattle.std.specs.Prelude.{◌≡◌, ◌≤◌, ◌<◌, ◌+◌, ◌++◌, [], ◌∷◌, ℕ, List, length, filter, IfOk, OnErr, MatchOption, drop, nat_le, Err, false, true, option_map, is_some};
+ghost use Rattle.sg_base.specs.declared.faults.Fault.TheVariants as faults;
+ghost use Rattle.sg_base.specs.declared.faults.Refusal.TheVariants as refusals;
+ghost use Rattle.sg_gateway.specs.Batch as batch;
+ghost use Rattle.sg_gateway.specs.Datagrams.{arrived_in};
+ghost use Rattle.sg_gateway.specs.World as world;
+ghost use Rattle.sg_psk.specs.declared.pairs.Pair as psk;
+ghost use Rattle.sg_call.specs.Adding.{opens_path, renewed_value};
+ghost use Rattle.sg_call.specs.Handling.{moment_after};
+
+use crate::handled::{End, Handled};
+use crate::inbox::Waiting;
+use crate::making::{add_all, add_medium};
+use crate::pass::pass;
+use crate::path::Path;
+use crate::state::State;
+use sg_base::{Address, CallId, Fault, MasterKey, NoMemory, Octets, Pad, Refusal, Side};
+use sg_lanes::Lane;
+use sg_leg::{Books, Ended, Idle, Live, Way};
+use std::alloc::Global;
+use std::collections::VecDeque;
+use std::marker::Model;
+use std::mem;
+
+/// How many datagrams an inbox holds.
+const INBOX: usize = 256;
+
+/// The most paths of a medium: RTP and RTCP, opened and sealed.
+const MEDIUM_PATHS: usize = 4;
+
+/// The most paths of a generation: those of four media.
+const PATHS: usize = 16;
+
+/// How long a generation that was replaced still opens, in milliseconds.
+const EARLIER_MILLIS: u64 = 2000;
+
+/// A call of up to four media, with the paths of its current generation and those of the one before that still
+/// open, and an inbox.
+#[derive(Drop)]
+pub struct Call {
+    id: CallId,
+    slot: u8,
+    media: u8,
+    is_new: bool,
+    state: State,
+    current: Vec<Path>,
+    earlier: Vec<Path>,
+    replaced: u64,
+    moment: u64,
+    waiting: VecDeque<Waiting>,
+    handled: VecDeque<(u32, Handled)>,
+}
+
+impl Model for Call {
+    ghost use Rattle.std.specs.Prelude.{◌≤◌, ◌+◌};
+    ghost use Rattle.std.specs.VecDeque.{deque_capacity, deque_items, deque_len};
+    ghost use Rattle.sg_call.specs.Values.{CallValue};
+
+    ghost Value = { CallValue };
+
+    ghost view = { λ c. record {
+      id = c.id;
+      slot = c.slot;
+      media = c.media;
+      is_new = c.is_new;
+      state = c.state;
+      current = c.current.items;
+      earlier = c.earlier.items;
+      replaced = c.replaced;
+      moment = c.moment;
+      waiting = deque_items c.waiting;
+      handled = deque_items c.handled;
+    } };
+
+    ghost invariant = { λ c. (c.media ≤ 4) × (256 ≤ deque_capacity c.waiting) × (256 ≤ deque_capacity c.handled) × (deque_len c.waiting + deque_len c.handled ≤ 256) };
+}
+
+impl Call {
+    ghost use Rattle.sg_gateway.specs.CallSignals.{idle_call};
+    ghost use Rattle.sg_gateway.specs.Ports.{is_in_slot};
+    ghost use Rattle.sg_call.specs.Standing.{CallStandsFor};
+
+    /// A new call in this slot: idle, with an inbox for 256 datagrams.
+    pub fn make(alloc: Global, id: CallId, slot: u8) -> Result<Call, NoMemory>
+        ensures stands { IfOk result (λ call. (pairs : List psk.Pair) (serial : ℕ) → CallStandsFor pairs call (idle_call serial id slot)) }
+        ensures inbox { IfOk result (λ call. (call.waiting ≡ []) × (call.handled ≡ [])) }
+    {
+        let waiting = VecDeque::with_capacity(alloc, INBOX)?;
+        let handled = VecDeque::with_capacity(alloc, INBOX)?;
+        Ok(Call {
+            id,
+            slot,
+            media: 0,
+            is_new: true,
+            state: State::Idle(Idle::make(slot)),
+            current: Vec::new(alloc),
+            earlier: Vec::new(alloc),
+            replaced: 0,
+            moment: 0,
+            waiting,
+            handled,
+        })
+    }
+
+    /// The id.
+    pub fn id(&self) -> CallId
+        ensures { result ≡ self.now.id }
+    {
+        self.id
+    }
+
+    /// The slot.
+    pub fn slot(&self) -> u8
+        ensures { result ≡ self.now.slot }
+    {
+        self.slot
+    }
+
+    /// The number of media, 0 while no offer was accepted.
+    pub fn media(&self) -> u8
+        ensures value { result ≡ self.now.media }
+        ensures most { result ≤ 4 }
+    {
+        self.media
+    }
+
+    /// The moment of the latest accepted signal or packet put out, 0 before any.
+    pub fn moment(&self) -> u64
+        ensures { result ≡ self.now.moment }
+    {
+        self.moment
+    }
+
+    /// The side of the open offer.
+    pub fn side(&self) -> Option<Side>
+        ensures { (pairs : List psk.Pair) (c : world.Call) → CallStandsFor pairs self.now c → result ≡ option_map (λ o. o.side) c.offer }
+    {
+        self.state.side()
+    }
+}
+
+impl Call {
+    ghost use Rattle.sg_call.specs.Handling.{handled_of};
+    ghost use Rattle.sg_call.specs.Standing.{CallStandsFor};
+
+    /// Handles a datagram that comes to a port at this moment: what the current generation opens or seals, else
+    /// what the earlier one opens, else a drop with the current one's cause. It doesn't allocate.
+    pub fn datagram(&mut self, port: u16, from: Address, pad: Pad, now: u64) -> Handled
+        ensures answer { (pairs : List psk.Pair) (c : world.Call) → CallStandsFor pairs self.old c → result ≡ handled_of pad (arrived_in now port from pad c) }
+        ensures stands { (pairs : List psk.Pair) (c : world.Call) → CallStandsFor pairs self.old c
+            → CallStandsFor pairs self.new (batch.after (arrived_in now port from pad c) c) }
+        ensures inbox { (self.new.waiting ≡ self.old.waiting) × (self.new.handled ≡ self.old.handled) }
+        ensures same { (self.new.slot ≡ self.old.slot) × (self.new.media ≡ self.old.media) × (self.new.id ≡ self.old.id) }
+    {
+        let handled = pass(
+            &mut self.current,
+            &mut self.earlier,
+            self.is_new,
+            port,
+            from,
+            pad,
+        );
+        self.moment = moment_after(handled.end, now, self.moment);
+        handled
+    }
+
+    /// Puts a datagram into the inbox, under a number. It doesn't allocate.
+    pub fn push(&mut self, number: u32, port: u16, from: Address, pad: Pad, now: u64)
+        requires room { length self.old.waiting + length self.old.handled < 256 }
+        ensures { self.new ≡ record self.old { waiting = self.old.waiting ++ record { number = number; port = port; from = from; octets = pad; now = now } ∷ [] } }
+    {
+        self.waiting.push_back_reserved(Waiting {
+            number,
+            port,
+            from,
+            pad,
+            now,
+        });
+    }
+
+    /// Takes out the first datagram that is handled; none where none is. It doesn't allocate.
+    pub fn pop(&mut self) -> Option<(u32, Handled)>
+        ensures first { MatchOption result (self.old.handled ≡ []) (λ h. self.old.handled ≡ h ∷ self.new.handled) }
+        ensures rest { self.new ≡ record self.old { handled = drop 1 self.old.handled } }
+    {
+        self.handled.pop_front()
+    }
+}
+
+impl Call {
+    ghost use Rattle.sg_agreement.specs.Manual.{medium_under};
+    ghost use Rattle.sg_gateway.specs.CallSignals.{offered_in, answered_in, keyed_manually, rejected_in, call_at_tick, has_begun, takes_offer};
+    ghost use Rattle.sg_call.specs.Settling.{BooksStandFor, IsSettled, IsKeyed, IsRejected};
+    ghost use Rattle.sg_call.specs.Standing.{CallStandsFor};
+    ghost use Rattle.sg_call.specs.States.{HasPairs};
+
+    /// Takes an offer and tells the text for the other side. Refused or out of memory, the call is what it was, and
+    /// so are the books; while an offer is open and of a call that is keyed manually it is `State`.
+    pub fn offer(
+        &mut self,
+        alloc: Global,
+        way: Way,
+        text: &[u8],
+        noise: &[u8; 304],
+        now: u64,
+        books: &mut Books,
+    ) -> Result<Octets, Fault>
+        requires moment { now ≤ 2085978495999 }
+        ensures answer { (c : world.Call) (b : world.Books) → CallStandsFor b.pairs self.old c → BooksStandFor books.old b
+            → IsSettled result self.new books.new (offered_in now b c way noise.now text.now) }
+        ensures back { OnErr result ((self.new ≡ self.old) × (books.new ≡ books.old)) }
+        ensures inbox { (self.new.waiting ≡ self.old.waiting) × (self.new.handled ≡ self.old.handled) }
+        ensures psks { books.new.psks ≡ books.old.psks }
+        ensures state { (pairs : List psk.Pair) (c : world.Call) → CallStandsFor pairs self.old c → takes_offer c ≡ false
+            → result ≡ Err (faults.Refused refusals.State) }
+    {
+        let state = mem::replace(&mut self.state, State::Idle(Idle::make(self.slot)));
+        match state.offer(alloc, way, text, noise, now, books) {
+            Ok((open, out)) => {
+                self.media = open.media();
+                self.moment = now;
+                self.state = State::Offered(open);
+                Ok(out)
+            }
+            Err((state, fault)) => {
+                self.state = state;
+                Err(fault)
+            }
+        }
+    }
+
+    /// Takes the answer to the open offer and tells the text for the side that offered; a new generation begins.
+    /// Refused or out of memory, the call is what it was, and so are the books; without an open offer it is `State`.
+    pub fn answer(
+        &mut self,
+        alloc: Global,
+        text: &[u8],
+        noise: &[u8; 304],
+        now: u64,
+        books: &mut Books,
+    ) -> Result<Octets, Fault>
+        requires pairs { HasPairs books.old.psks self.old.state }
+        ensures answer { (c : world.Call) (b : world.Books) → CallStandsFor b.pairs self.old c → BooksStandFor books.old b
+            → IsSettled result self.new books.new (answered_in now b c noise.now text.now) }
+        ensures back { OnErr result ((self.new ≡ self.old) × (books.new ≡ books.old)) }
+        ensures inbox { (self.new.waiting ≡ self.old.waiting) × (self.new.handled ≡ self.old.handled) }
+        ensures psks { books.new.psks ≡ books.old.psks }
+        ensures state { (pairs : List psk.Pair) (c : world.Call) → CallStandsFor pairs self.old c → is_some c.offer ≡ false
+            → result ≡ Err (faults.Refused refusals.State) }
+    {
+        match mem::replace(&mut self.state, State::Idle(Idle::make(self.slot))) {
+            State::Offered(open) => {
+                let Ok(mut paths) = Vec::with_capacity(alloc, PATHS) else {
+                    self.state = State::Offered(open);
+                    return Err(Fault::NoMemory);
+                };
+                match open.answer(alloc, text, noise, books) {
+                    Ok((live, out, specs)) => {
+                        add_all(self.slot, specs, &mut paths);
+                        self.renew(live, paths, now);
+                        Ok(out)
+                    }
+                    Err((open, fault)) => {
+                        self.state = State::Offered(open);
+                        Err(fault)
+                    }
+                }
+            }
+            State::Idle(idle) => {
+                self.state = State::Idle(idle);
+                Err(Fault::Refused(Refusal::State))
+            }
+            State::Live(live) => {
+                self.state = State::Live(live);
+                Err(Fault::Refused(Refusal::State))
+            }
+        }
+    }
+
+    /// Keys an idle call manually, under what the peer sends and what the gateway sends to it. Refused or out of
+    /// memory, the call is what it was, and so are the books; once an offer was accepted it is `State`.
+    pub fn manual(
+        &mut self,
+        alloc: Global,
+        secure: Address,
+        plain: Address,
+        roc: u32,
+        window: u16,
+        from_peer: &MasterKey,
+        to_peer: &MasterKey,
+        now: u64,
+        books: &mut Books,
+    ) -> Result<(), Fault>
+        ensures answer { (c : world.Call) (b : world.Books) → CallStandsFor b.pairs self.old c → BooksStandFor books.old b
+            → IsKeyed result self.new books.new (keyed_manually now b c (medium_under secure plain roc window from_peer.now to_peer.now)) }
+        ensures back { OnErr result ((self.new ≡ self.old) × (books.new ≡ books.old)) }
+        ensures inbox { (self.new.waiting ≡ self.old.waiting) × (self.new.handled ≡ self.old.handled) }
+        ensures psks { books.new.psks ≡ books.old.psks }
+        ensures state { (pairs : List psk.Pair) (c : world.Call) → CallStandsFor pairs self.old c → has_begun c ≡ true
+            → result ≡ Err (faults.Refused refusals.State) }
+    {
+        match mem::replace(&mut self.state, State::Idle(Idle::make(self.slot))) {
+            State::Idle(idle) => {
+                let Ok(mut paths) = Vec::with_capacity(alloc, MEDIUM_PATHS) else {
+                    self.state = State::Idle(idle);
+                    return Err(Fault::NoMemory);
+                };
+                match idle.manual(alloc, secure, plain, roc, window, from_peer, to_peer, books) {
+                    Ok((live, spec)) => {
+                        add_medium(self.slot, spec, &mut paths);
+                        self.media = 1;
+                        self.renew(live, paths, now);
+                        Ok(())
+                    }
+                    Err((idle, fault)) => {
+                        self.state = State::Idle(idle);
+                        Err(fault)
+                    }
+                }
+            }
+            State::Offered(open) => {
+                self.state = State::Offered(open);
+                Err(Fault::Refused(Refusal::State))
+            }
+            State::Live(live) => {
+                self.state = State::Live(live);
+                Err(Fault::Refused(Refusal::State))
+            }
+        }
+    }
+
+    /// A new generation begins. Of the one before, what opens is kept.
+    fn renew(&mut self, live: Live, paths: Vec<Path>, now: u64)
+        ensures { self.new ≡ renewed_value self.old now live paths.items }
+    {
+        let mut former = mem::replace(&mut self.current, paths);
+        keep_opening(&mut former);
+        self.earlier = former;
+        self.is_new = false;
+        self.replaced = now;
+        self.moment = now;
+        self.state = State::Live(live);
+    }
+
+    /// The open offer is rejected: whether the call goes on, under the generation before; where it has none, the
+    /// call has ended. Without an open offer it is `State`, and the call is what it was. It doesn't allocate.
+    pub fn reject(&mut self, now: u64) -> Result<bool, Refusal>
+        ensures answer { (pairs : List psk.Pair) (c : world.Call) → CallStandsFor pairs self.old c → IsRejected pairs result self.new (rejected_in now c) }
+        ensures back { OnErr result (self.new ≡ self.old) }
+        ensures inbox { (self.new.waiting ≡ self.old.waiting) × (self.new.handled ≡ self.old.handled) }
+    {
+        match mem::replace(&mut self.state, State::Idle(Idle::make(self.slot))) {
+            State::Offered(open) => match open.reject() {
+                Ok(live) => {
+                    self.state = State::Live(live);
+                    self.moment = now;
+                    Ok(true)
+                }
+                Err(Ended) => Ok(false),
+            },
+            State::Idle(idle) => {
+                self.state = State::Idle(idle);
+                Err(Refusal::State)
+            }
+            State::Live(live) => {
+                self.state = State::Live(live);
+                Err(Refusal::State)
+            }
+        }
+    }
+
+    /// A tick: 2,000 ms after a generation was replaced, what it still opened is dropped. It doesn't allocate.
+    pub fn tick(&mut self, now: u64)
+        ensures stands { (pairs : List psk.Pair) (c : world.Call) → CallStandsFor pairs self.old c → CallStandsFor pairs self.new (call_at_tick now c) }
+        ensures inbox { (self.new.waiting ≡ self.old.waiting) × (self.new.handled ≡ self.old.handled) }
+        ensures same { (self.new.slot ≡ self.old.slot) × (self.new.media ≡ self.old.media) × (self.new.id ≡ self.old.id) }
+    {
+        if is_past(self.replaced, now) {
+            self.earlier.clear();
+        }
+    }
+}
+
+/// Keeps the paths that open.
+fn keep_opening(paths: &mut Vec<Path>)
+    ensures { paths.new.items ≡ filter opens_path paths.old.items }
+{
+    paths.retain(|path| path.opens());
+}
+
+/// Whether a generation that was replaced at this moment opens no longer.
+fn is_past(replaced: u64, now: u64) -> bool
+    ensures { result ≡ nat_le (replaced + 2000) now }
+{
+    now >= EARLIER_MILLIS && replaced <= now - EARLIER_MILLIS
+}
+
+impl Lane for Call {
+    ghost use Rattle.sg_call.specs.Drained.{IsDrained};
+
+    ghost drained = { λ old new. IsDrained old new };
+
+    /// Handles each datagram that waits, in order, at its own moment.
+    fn drain(&mut self) {
+        while !self.waiting.is_empty() {
+            let Some(waiting) = self.waiting.pop_front() else {
+                unreachable!()
+            };
+            self.handle(waiting);
+        }
+    }
+}
+
+impl Call {
+    ghost use Rattle.sg_call.specs.Drained.{IsNextHandled};
+    ghost use Rattle.sg_call.specs.Standing.{CallStandsFor};
+
+    /// Handles a datagram that has waited.
+    fn handle(&mut self, waiting: Waiting)
+        requires room { length self.old.waiting + length self.old.handled < 256 }
+        ensures next { (pairs : List psk.Pair) (c : world.Call) → CallStandsFor pairs self.old c → IsNextHandled waiting pairs c self.old self.new }
+        ensures waiting { self.new.waiting ≡ self.old.waiting }
+        ensures same { (self.new.slot ≡ self.old.slot) × (self.new.media ≡ self.old.media) × (self.new.id ≡ self.old.id) }
+        ensures more { length self.new.handled ≡ length self.old.handled + 1 }
+    {
+        let Waiting {
+            number,
+            port,
+            from,
+            pad,
+            now,
+        } = waiting;
+        let handled = self.datagram(port, from, pad, now);
+        self.handled.push_back_reserved((number, handled));
+    }
+}
+
+/// The moment of a call after a datagram that ends so.
+fn moment_after(end: End, now: u64, moment: u64) -> u64
+    ensures { result ≡ moment_after end now moment }
+{
+    match end {
+        End::Out { .. } => now,
+        End::Dropped(_) => moment,
+    }
+}
+
+fn is_send<T: Send>() {}
+
+/// A call can be handed to a worker.
+pub fn call_is_send() {
+    is_send::<Call>()
+}

@@ -1,0 +1,15 @@
+//! One call: its state, the paths of its packets and its inbox.
+#![tactic(auto)]
+
+mod call;
+mod handled;
+mod inbox;
+mod making;
+mod pass;
+mod path;
+mod state;
+#[cfg(test)]
+mod tests;
+
+pub use call::Call;
+pub use handled::{End, Handled};
