@@ -6,6 +6,7 @@ mod Described
 mod FewKeys
 mod Fresh
 mod Gives
+pub mod Grown
 mod Installs
 mod Kept
 mod Made

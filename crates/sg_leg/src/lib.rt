@@ -1,6 +1,8 @@
 //! What an offer and its answer leave of a call, in states whose calls use them up (RFC 3264).
 #![tactic(auto)]
 
+#[cfg(test)]
+mod answer_tests;
 mod answering;
 mod attributes;
 mod books;

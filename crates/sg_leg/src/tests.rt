@@ -17,7 +17,7 @@ const PLAIN: Address = Address {
     port: 41000,
 };
 
-fn books(alloc: Global) -> Result<Books, Fail> {
+pub(crate) fn books(alloc: Global) -> Result<Books, Fail> {
     Ok(Books {
         psks: PskBook::make(alloc),
         seen: ReplayBook::make(alloc)?,
@@ -113,19 +113,19 @@ fn no_key_comes_into_use_twice(rt: HostRuntime) -> Result<(), Fail> {
     Ok(())
 }
 
-const SECURE_OFFER: &[u8] =
+pub(crate) const SECURE_OFFER: &[u8] =
     b"v=0\r\no=alice 2890844526 2890844526 IN IP4 127.0.0.1\r\ns=-\r\nc=IN IP4 127.0.0.1\r\nt=0 0\r\nm=audio 40000 RTP/SAVP 0 101\r\na=rtpmap:0 PCMU/8000\r\na=rtpmap:101 telephone-event/8000\r\na=crypto:1 AES_CM_128_HMAC_SHA1_80 inline:WVNfX19zZW1jdGwgKCkgewkyMjA7fQp9CnVubGVz|2^20|1:4 FEC_ORDER=FEC_SRTP\r\na=crypto:2 F8_128_HMAC_SHA1_80 inline:AAECAwQFBgcICQoLDA0ODxAREhMUFRYXGBkaGxwd\r\na=sendrecv\r\n";
 
-const TO_PLAIN: &[u8] =
+pub(crate) const TO_PLAIN: &[u8] =
     b"v=0\r\no=alice 2890844526 2890844526 IN IP4 127.0.0.1\r\ns=-\r\nc=IN IP4 127.0.0.1\r\nt=0 0\r\nm=audio 20002 RTP/AVP 0 101\r\na=rtpmap:0 PCMU/8000\r\na=rtpmap:101 telephone-event/8000\r\na=sendrecv\r\n";
 
-const PLAIN_OFFER: &[u8] =
+pub(crate) const PLAIN_OFFER: &[u8] =
     b"v=0\r\no=bob 1 1 IN IP4 127.0.0.1\r\ns=-\r\nc=IN IP4 127.0.0.1\r\nt=0 0\r\nm=audio 41000 RTP/AVP 0\r\na=rtpmap:0 PCMU/8000\r\n";
 
-const TO_SECURE: &[u8] =
+pub(crate) const TO_SECURE: &[u8] =
     b"v=0\r\no=bob 1 1 IN IP4 127.0.0.1\r\ns=-\r\nc=IN IP4 127.0.0.1\r\nt=0 0\r\nm=audio 20000 RTP/SAVP 0\r\na=rtpmap:0 PCMU/8000\r\na=crypto:1 AES_CM_128_HMAC_SHA1_80 inline:AAECAwQFBgcICQoLDA0ODxAREhMUFRYXGBkaGxwd\r\na=crypto:2 AES_256_CM_HMAC_SHA1_80 inline:Hh8gISIjJCUmJygpKissLS4vMDEyMzQ1Njc4OTo7PD0+P0BBQkNERUZHSElKSw==\r\n";
 
-fn noise() -> [u8; 304] {
+pub(crate) fn noise() -> [u8; 304] {
     let mut noise = [0; 304];
     for n in 0..304 {
         noise[n] = (n % 256) as u8;
