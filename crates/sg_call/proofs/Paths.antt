@@ -5,8 +5,8 @@ use Rattle.sg_base.specs.declared.faults.DropCause.{DropCause}
 use Rattle.sg_base.specs.declared.addresses.Kind.{Kind}
 use Rattle.sg_base.specs.declared.faults.DropCause.TheVariants.{TooLong, SourceUnknown}
 use Rattle.sg_media.specs.Answers.{opened_of, sealed_of}
-use Rattle.sg_srtp.specs.declared.inbound.Opened.{Opened}
-use Rattle.sg_srtp.specs.declared.outbound.Sealed.{Sealed}
+use Rattle.sg_media.specs.declared.inbound.Opened.{Opened}
+use Rattle.sg_media.specs.declared.outbound.Sealed.{Sealed}
 use Rattle.sg_session.specs.OneSession.{after}
 use Rattle.sg_session.specs.Opening.{Taken}
 use Rattle.sg_gateway.specs.Passing.{packet_in, datagram_in, taken_towards, taken_from, sent_towards, sent_by}
