@@ -42,6 +42,21 @@ pub const SLOT_PORTS: u16 = 16;
 /// How many ports a medium has: secure RTP, secure RTCP, plain RTP and plain RTCP.
 pub const MEDIUM_PORTS: u16 = 4;
 
+/// How many datagrams wait for a call, or were handled and not taken out, at most; so many are a batch.
+pub const BATCH_MOST: usize = 256;
+
+/// How many workers handle a batch at most.
+pub const WORKERS_MOST: usize = 16;
+
+/// How many turns a relay takes at most.
+pub const TURNS_MOST: u64 = 1_000_000_000;
+
+/// How long a generation that was replaced still opens, in milliseconds of ticks.
+pub const EARLIER_MILLIS: u64 = 2_000;
+
+/// After how many milliseconds of ticks without an accepted signal or a packet put out a call ends.
+pub const IDLE_MILLIS: u64 = 60_000;
+
 /// How many octets a pad can hold.
 pub const PAD_MOST: usize = 4_352;
 

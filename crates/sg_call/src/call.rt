@@ -16,7 +16,10 @@ use crate::making::{add_all, add_medium};
 use crate::pass::pass;
 use crate::path::Path;
 use crate::state::State;
-use sg_base::{Address, CallId, Fault, MasterKey, NoMemory, Octets, Pad, Refusal, Side};
+use sg_base::{
+    Address, BATCH_MOST, CallId, EARLIER_MILLIS, Fault, MEDIA_MOST, MasterKey, NoMemory, Octets,
+    Pad, Refusal, Side,
+};
 use sg_lanes::Lane;
 use sg_leg::{Books, Ended, Idle, Live, Way};
 use std::alloc::Global;
@@ -24,17 +27,11 @@ use std::collections::VecDeque;
 use std::marker::Model;
 use std::mem;
 
-/// How many datagrams an inbox holds.
-const INBOX: usize = 256;
-
 /// The most paths of a medium: RTP and RTCP, opened and sealed.
 const MEDIUM_PATHS: usize = 4;
 
-/// The most paths of a generation: those of four media.
-const PATHS: usize = 16;
-
-/// How long a generation that was replaced still opens, in milliseconds.
-const EARLIER_MILLIS: u64 = 2000;
+/// The most paths of a generation.
+const PATHS: usize = MEDIA_MOST * MEDIUM_PATHS;
 
 /// A call of up to four media, with the paths of its current generation and those of the one before that still
 /// open, and an inbox.
@@ -87,8 +84,8 @@ impl Call {
         ensures stands { IfOk result (λ call. (pairs : List psk.Pair) (serial : ℕ) → CallStandsFor pairs call (idle_call serial id slot)) }
         ensures inbox { IfOk result (λ call. (call.waiting ≡ []) × (call.handled ≡ [])) }
     {
-        let waiting = VecDeque::with_capacity(alloc, INBOX)?;
-        let handled = VecDeque::with_capacity(alloc, INBOX)?;
+        let waiting = VecDeque::with_capacity(alloc, BATCH_MOST)?;
+        let handled = VecDeque::with_capacity(alloc, BATCH_MOST)?;
         Ok(Call {
             id,
             slot,

@@ -12,14 +12,8 @@ use crate::spelling::{Written, are_ended, have_option, is};
 use crate::{Command, CommandFault};
 use clap::error::ErrorKind;
 use clap::{ArgMatches, Error};
-use sg_base::{CALLS_MOST, read_number};
+use sg_base::{CALLS_MOST, TURNS_MOST, WORKERS_MOST, read_number};
 use std::alloc::Global;
-
-/// How many workers there are at most.
-const WORKERS_MOST: u128 = 16;
-
-/// How many turns a relay takes at most.
-const TURNS_MOST: u128 = 1_000_000_000;
 
 /// The words, cut by clap.
 fn cut<'a>(alloc: Global, words: &'a [String]) -> Result<ArgMatches<'a>, Error>
@@ -68,7 +62,7 @@ fn workers_of(words: &[String], texts: &[&str], value: Option<&str>) -> Option<u
     if !have_option(words, &written, texts) {
         return None;
     }
-    let workers = positive(WORKERS_MOST, value)?;
+    let workers = positive(WORKERS_MOST as u128, value)?;
     Some(workers as usize)
 }
 
@@ -93,7 +87,7 @@ fn relay_of(words: &[String], matches: &ArgMatches<'_>) -> Option<Command>
     if !have_option(words, &written, &[]) {
         return None;
     }
-    let turns = positive(TURNS_MOST, value)?;
+    let turns = positive(TURNS_MOST as u128, value)?;
     Some(Command::Relay {
         turns: turns as u64,
     })
