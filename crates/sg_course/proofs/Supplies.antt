@@ -1,0 +1,45 @@
+-- The noise of a signal: its own, or what was drawn for it.
+use Rattle.std.proofs.Common.{◌≡◌, ◌+◌, ℕ, Bool, true, false, cond, ltb, List, [], ◌++◌, length, take, drop, Option, Some, None, Result, Ok, Err, refl, sym, ap, ◌∙◌, arith, length-append}
+use Rattle.std.proofs.Math.Seq.{take-append_seam, drop-append_seam}
+use Rattle.std.proofs.lemmas.Bool.{cond-true, cond-false, le-ltb}
+use Rattle.sg_base.specs.declared.identities.Noise304.{Noise304}
+use Rattle.sg_gateway.specs.Drawn.{Supplied, signal_with_noise, supplied, with_noise}
+use Rattle.sg_gateway.specs.Events.{signal_lacks_noise}
+use Rattle.sg_lines.specs.declared.lines.Line.{Line}
+use Rattle.sg_lines.specs.declared.lines.Line.TheVariants as lines
+use Rattle.sg_lines.specs.declared.lines.Signal.{Signal}
+use Rattle.sg_lines.specs.declared.lines.Signal.TheVariants.{Tick, Psk, Manual, OfferSecure, OfferSdes, OfferMikey, Answer, Reject, Bye}
+
+-- a signal that has its noise takes none
+pub has_noise : (draws : List ℕ) (s : Signal) → signal_lacks_noise s ≡ false → supplied draws (lines.Signal s) ≡ Some (record { line = lines.Signal s; draws = draws })
+has_noise draws s ready = cond-false (signal_lacks_noise s) _ _ ready
+
+-- one that lacks it takes the octets that are drawn
+pub takes_noise : (draws later : List ℕ) (s : Signal) → signal_lacks_noise s ≡ true → length draws ≡ 304
+    → supplied (draws ++ later) (lines.Signal s) ≡ Some (record { line = lines.Signal (signal_with_noise (record { 0 = draws }) s); draws = later })
+takes_noise draws later s lacks size =
+    let enough : ltb (length (draws ++ later)) 304 ≡ false = le-ltb (length (draws ++ later)) 304 (omega (arith, size, length-append draws later)) in
+    let front : take 304 (draws ++ later) ≡ draws = ap (λ (n : ℕ). take n (draws ++ later)) (sym size) ∙ take-append_seam draws later in
+    let rest : drop 304 (draws ++ later) ≡ later = ap (λ (n : ℕ). drop n (draws ++ later)) (sym size) ∙ drop-append_seam draws later in
+    cond-true (signal_lacks_noise s) _ _ lacks ∙ cond-false (ltb (length (draws ++ later)) 304) _ _ enough
+    ∙ (λ i. Some (record { line = lines.Signal (signal_with_noise (record { 0 = front i }) s); draws = rest i }))
+
+-- and none is there where none is drawn
+pub wants_noise : (s : Signal) → signal_lacks_noise s ≡ true → supplied [] (lines.Signal s) ≡ None
+wants_noise s lacks = cond-true (signal_lacks_noise s) _ _ lacks
+
+-- a signal with noise lacks none
+pub is_ready : (drawn : Noise304) (s : Signal) → signal_lacks_noise (signal_with_noise drawn s) ≡ false
+is_ready drawn (Tick now) = refl
+is_ready drawn (Psk own peer key) = refl
+is_ready drawn (Manual call secure plain roc window from_peer to_peer) = refl
+is_ready drawn (OfferSecure call None text) = refl
+is_ready drawn (OfferSecure call (Some noise) text) = refl
+is_ready drawn (OfferSdes call None text) = refl
+is_ready drawn (OfferSdes call (Some noise) text) = refl
+is_ready drawn (OfferMikey call peer None text) = refl
+is_ready drawn (OfferMikey call peer (Some noise) text) = refl
+is_ready drawn (Answer call None text) = refl
+is_ready drawn (Answer call (Some noise) text) = refl
+is_ready drawn (Reject call) = refl
+is_ready drawn (Bye call) = refl
