@@ -1,5 +1,5 @@
 -- How octets go from a source through the feed into a line.
-use Rattle.std.proofs.Common.{◌≡◌, ℕ, Bool, List, [], ◌∷◌, ◌++◌, Option, Result, Ok, Err, IsErr, sym, ap, ◌∙◌, append_assoc}
+use Rattle.std.proofs.Common.{◌≡◌, ℕ, Bool, true, false, List, [], ◌∷◌, ◌++◌, Option, Result, Ok, Err, IsErr, sym, ap, ◌∙◌, append_assoc}
 use Rattle.std.proofs.lemmas.Bool.{false≢true}
 use Rattle.sg_lines.specs.ScriptLines.{NoEnd, IsWhole}
 use Rattle.sg_course.specs.Fed.{GivesLine}
@@ -32,3 +32,9 @@ nothing all line new is none empty = is ∙ ap (λ (l : List ℕ). l ++ new) non
 pub no_line : {E : Type 0} (r : Result Bool E) (line old new got : List ℕ) (left : Option (List ℕ)) (budget : ℕ) → IsErr r → old ++ got ≡ line ++ new → GivesLine r line old new got left budget
 no_line (Ok b) line old new got left budget err all = absurd (false≢true err)
 no_line (Err e) line old new got left budget err all = all
+
+-- whatever came of it, what waited and came went to the line, or waits
+pub all_given : {E : Type 0} (r : Result Bool E) (line old new got : List ℕ) (left : Option (List ℕ)) (budget : ℕ) → GivesLine r line old new got left budget → old ++ got ≡ line ++ new
+all_given (Ok true) line old new got left budget given = given.0
+all_given (Ok false) line old new got left budget given = given.0 ∙ (λ i. sym given.1 i ++ sym given.2 i)
+all_given (Err e) line old new got left budget given = given

@@ -1,9 +1,12 @@
 -- What a line says depends on it alone, however it came.
-use Rattle.std.proofs.Common.{◌≡◌, ◌⊎◌, ◌<◌, ◌≤◌, ◌+◌, ◌^◌, ℕ, Bool, true, false, cond, List, [], ◌∷◌, ◌++◌, length, Result, Ok, Err, refl, sym, ap, ◌∙◌, inl, inr, arith, ltb, length-append}
+use Rattle.std.proofs.Common.{◌≡◌, ◌⊎◌, ◌<◌, ◌≤◌, ◌+◌, ◌^◌, ℕ, Bool, true, false, cond, List, [], ◌++◌, length, Result, Ok, Err, refl, sym, ap, ◌∙◌, inl, inr, arith, ltb, length-append}
 use Rattle.std.proofs.lemmas.Bool.{cond-true, cond-false, ltb-true, ltb-false, lt-ltb, cases_Bool, cases_lt}
 use Rattle.std.proofs.lemmas.List.{append-nil}
 use Rattle.sg_base.specs.declared.faults.ScriptFault.{ScriptFault}
 use Rattle.sg_base.specs.declared.faults.ScriptFault.TheVariants.{Length, Unended}
+use Rattle.sg_lines.specs.Fields.{Gives}
+use Rattle.sg_lines.specs.declared.faults.ReadLineFault.{ReadLineFault}
+use Rattle.sg_lines.specs.declared.faults.ReadLineFault.TheVariants as faults
 use Rattle.sg_lines.specs.declared.lines.Line.{Line}
 use Rattle.sg_lines.specs.LineOf.{line_of}
 use Rattle.sg_lines.specs.ScriptLines.{lines_of, NoEnd, IsWhole}
@@ -120,3 +123,9 @@ still_fails n at line rest ended fault (inr unended) is not_end more = at_openin
         let begun = begins line more unended.0 unended.1 in
         record { line = line ++ begun.more; others = begun.others; split = begun.split; fails = at_long n at (line ++ begun.more) (omega (arith, long, length-append line begun.more)) ∙ sym (at_long n at line long) ∙ is }
     at_opening (IsOpen open_so) = absurd (not_end (fault_is _ _ (sym is ∙ open_so)))
+
+-- what reading gives is what the line says
+pub gives_at : (n at : ℕ) (line : List ℕ) (r : Result Line ReadLineFault) → too_far at line ≡ false → Gives r (line_of n line) → Gives r (line_at n at line)
+gives_at n at line (Ok l) near is = at_is n at line ∙ cond-false _ _ _ near ∙ is
+gives_at n at line (Err faults.NoMemory) near is = tt
+gives_at n at line (Err (faults.Script f)) near is = at_is n at line ∙ cond-false _ _ _ near ∙ is

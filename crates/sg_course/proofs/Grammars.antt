@@ -9,7 +9,7 @@ use Rattle.sg_edge.specs.Told.{AtEnd, TookIn}
 use Rattle.sg_gateway.specs.Drawn.{Supplied, supplied}
 use Rattle.sg_lines.specs.ScriptLines.{lines_of}
 use Rattle.sg_lines.specs.declared.lines.Line.{Line}
-use Rattle.sg_course.specs.Course.{AtFault, Command, Course, Later, Outside, Relays, Replays, after_line, course_from, handled, handled_as, line_at, moment_of, replayed, said, said_by, wait_in, waited, woven}
+use Rattle.sg_course.specs.Course.{AtFault, Command, Course, Later, Outside, Relays, Replays, after_line, course_from, handled_as, line_at, moment_of, replayed, said_by, wait_in, waited, woven}
 use Rattle.sg_course.specs.Grammar.{IsScript, fault_after, fault_from, fault_in}
 
 -- what follows tells no such fault
@@ -45,7 +45,7 @@ module _ (n : ℕ) (f : ScriptFault) where
       by_line (Err e) again none is = none (let same : AtFault m e ≡ AtFault n f = is in cc)
       by_line (Ok l') again none is = in_said l' (wait_in k l') (course_from k (m + 1) (at + length l) ls) (again none) top o is
 
-  none_some : None ≡ Some (n, f) → ⊥
+  none_some : (let none : Option (ℕ × ScriptFault) = None in none ≡ Some (n, f)) → ⊥
   none_some is = cc
 
   pub in_replay : (octets draws : List ℕ) → IsScript octets → (replayed octets draws).stop ≡ AtFault n f → ⊥

@@ -1,12 +1,11 @@
 -- The next line of a script, from what a line reader gave.
-use Rattle.std.proofs.Common.{◌≡◌, ◌⊎◌, ◌<◌, ◌+◌, ◌^◌, ℕ, List, [], ◌++◌, length, Option, Some, None, Result, Ok, Err, refl, sym, ap, ◌∙◌, subst, inl, inr, append_assoc, length-append, arith}
+use Rattle.std.proofs.Common.{◌≡◌, ◌⊎◌, ◌<◌, ◌+◌, ◌^◌, ℕ, List, [], ◌++◌, length, Option, Ok, Err, refl, sym, ap, ◌∙◌, subst, inl, inr, append_assoc, arith}
 use Rattle.sg_base.specs.declared.faults.ScriptFault.{ScriptFault}
-use Rattle.sg_base.specs.declared.faults.ScriptFault.TheVariants.{Unended}
-use Rattle.sg_edge.specs.Told.{AtEnd}
 use Rattle.sg_lines.specs.Fields.{Gives}
 use Rattle.sg_lines.specs.declared.faults.ReadLineFault.{ReadLineFault}
 use Rattle.sg_lines.specs.declared.faults.ReadLineFault.TheVariants as faults
 use Rattle.sg_lines.specs.declared.lines.Line.{Line}
+use Rattle.sg_course.proofs.Courses.{whole_some}
 use Rattle.sg_course.proofs.Frames.{first_fails, line_whole, still_fails, unended_at_end}
 use Rattle.sg_course.specs.Course.{line_at}
 use Rattle.sg_course.specs.Fed.{GivesLine, IsLine}
@@ -50,3 +49,8 @@ next_none status old new got left (inr is) = subst (λ s. IsNext (Err s) old new
 -- what a line reader gave, at the value that it answered
 pub given_at : (E : Type 0) (r b : _) (line old new got : List ℕ) (left : Option (List ℕ)) (budget : ℕ) → r ≡ b → GivesLine {E = E} (Ok r) line old new got left budget → GivesLine {E = E} (Ok b) line old new got left budget
 given_at E r b line old new got left budget is given = subst (λ v. GivesLine {E = E} (Ok v) line old new got left budget) is given
+
+-- a line isn't empty
+pub line_some : (line rest : List ℕ) (left : Option (List ℕ)) (budget : ℕ) → IsLine line rest left budget → 0 < length line
+line_some line rest left budget (inl whole) = whole_some line whole
+line_some line rest left budget (inr unended) = unended.1

@@ -21,5 +21,5 @@ IsLine line rest left budget =
 -- the end.
 abbrev pub GivesLine : {E : Type 0} → Result Bool E → List ℕ → List ℕ → List ℕ → List ℕ → Option (List ℕ) → ℕ → Type 0
 GivesLine (Ok true) line old new got left budget = (old ++ got ≡ line ++ new) × IsLine line new left budget
-GivesLine (Ok false) line old new got left budget = (old ++ got ≡ []) × (new ≡ []) × (AtEnd left ⊎ (budget ≡ 0))
+GivesLine (Ok false) line old new got left budget = (old ++ got ≡ []) × (line ≡ []) × (new ≡ []) × (AtEnd left ⊎ (budget ≡ 0))
 GivesLine (Err e) line old new got left budget = old ++ got ≡ line ++ new

@@ -58,11 +58,7 @@ impl ScriptReader {
 
     /// Reads the next line; none at the end of the source. `Script` where the line is outside the grammar,
     /// or holds an octet past the first 2^30 of the script; `Read` where the source fails.
-    pub fn next<S: Source>(
-        &mut self,
-        alloc: Global,
-        source: &mut S,
-    ) -> Result<Option<Line>, Status>
+    pub fn next<S: Source>(&mut self, alloc: Global, source: &mut S) -> Result<Option<Line>, Status>
         ensures next { (got : List ℕ) × TookIn (S.left source.old) (S.left source.new) got
             × IsNext result self.old self.new got (S.left source.new) × (length got + self.new.budget ≡ self.old.budget) }
         ensures fits { IfOk result (λ found. IfSome found (λ line. FitsLine self.old.number line)) }

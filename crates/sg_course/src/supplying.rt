@@ -1,6 +1,7 @@
 //! Noise that a script leaves to be drawn.
 
 ghost use Rattle.std.specs.Prelude.{◌≡◌, ℕ, List, IfOk, false};
+ghost use Rattle.sg_base.specs.declared.identities.Noise304 as noises;
 ghost use Rattle.sg_course.specs.Causes.{IsCaused};
 ghost use Rattle.sg_course.specs.Supplying.{IsSupplied};
 ghost use Rattle.sg_edge.specs.Links.{Added};
@@ -15,6 +16,7 @@ use sg_lines::Signal;
 /// The signal with its noise: where it lacks it, the next 304 octets are drawn; `Noise` where that fails.
 pub fn supply<N: Noise>(noise: &mut N, signal: Signal) -> Result<Signal, Status>
     ensures drew { (draws : List ℕ) × Added (N.given noise.old) (N.given noise.new) draws × IsSupplied result signal draws }
+    ensures same { IfOk result (λ s. (drawn : noises.Noise304) × (s ≡ signal_with_noise drawn signal)) }
     ensures ready { IfOk result (λ s. signal_lacks_noise s ≡ false) }
     ensures cause { IsCaused Status.Noise result (N.faults noise.old) (N.faults noise.new) (N.failed noise.new) }
 {

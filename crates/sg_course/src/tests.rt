@@ -82,7 +82,15 @@ fn noise_is_drawn_where_it_lacks(rt: HostRuntime) -> Result<(), Fail> {
     let mut noise = MemNoise::make(Octets::copy_of(alloc, &octets)?, [2].to_vec(alloc)?);
     for first in [Some(0), None, Some(304)] {
         match (supply(&mut noise, offer(alloc)), first) {
-            (Ok(Signal::OfferSdes { noise: Some(drawn), .. }), Some(first)) => {
+            (
+                Ok(
+                    Signal::OfferSdes {
+                        noise: Some(drawn),
+                        ..
+                    },
+                ),
+                Some(first),
+            ) => {
                 assert_eq!(rt; drawn.0.as_slice(), &octets[first..first + 304]);
             }
             (other, _) => assert!(rt; matches!(other, Err(Status::Noise))),

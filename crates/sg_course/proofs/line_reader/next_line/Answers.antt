@@ -1,10 +1,10 @@
-use Rattle.std.proofs.Common.{◌≡◌, ◌-◌, [], ◌++◌, arith, sym, ap, subst, inl, inr, ◌<◌, length, length-append}
+use Rattle.std.proofs.Common.{◌≡◌, ◌∙◌, ◌-◌, [], ◌++◌, arith, sym, ap, subst, inl, inr, ◌<◌, length, length-append}
 use Rattle.std.proofs.lemmas.Bool.Decides.{nat_tests}
 use Rattle.sg_edge.proofs.Passed.{took_more}
 use Rattle.sg_lines.specs.ScriptLines.{NoEnd, IsWhole}
 use Rattle.sg_course.specs.Fed.{EndsLine}
 use Rattle.sg_course.proofs.Feeds.{NoEnd-append, IsWhole-append, filled, moved, no_line}
-use Rattle.sg_course.proofs.OtherErrors.{at_ok, on_ok}
+use Rattle.sg_course.proofs.OtherErrors.{at_err, at_ok, on_ok}
 use Rattle.sg_course.proofs.line_reader.next_line.Goals as goal
 
 pub returns-in_err-map_err-clause-got : goal.returns-in_err-map_err-clause-got
@@ -20,7 +20,9 @@ returns-in_err-map_err-clause-got g c =
 pub returns-in_err-ended-clause-got : goal.returns-in_err-ended-clause-got
 returns-in_err-ended-clause-got g c =
     let before = c.loop-feed.invariant.0 in
-    let now = c.fill.ensures.got in (
+    let now = c.fill.ensures.got in
+    let all : c.args.feed.now ++ (before.0 ++ now.0) ≡ c.loop-feed.line.items ++ c.fill.new.self = filled _ before.0 c.loop-feed.line.items c.loop-feed.feed now.0 c.fill.new.self before.2 now.2 in
+    let stays = at_err c.move_line.result _ c.in_err-ended.ensures.variant c.move_line.ensures.err in (
       before.0 ++ now.0,
       took_more _ _ _ before.0 now.0 before.1 now.1,
       no_line c.from_residual-in_err-ended.result _ _ _ _ _ _ c.from_residual-in_err-ended.ensures.0 (all ∙ (λ i. sym stays.1 i ++ sym stays.0 i)),
