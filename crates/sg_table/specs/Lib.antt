@@ -1,4 +1,5 @@
+pub mod Free
 pub mod Handling
-pub mod Keying
 pub mod Standing
 pub mod Telling
+pub mod Values

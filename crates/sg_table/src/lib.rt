@@ -1,14 +1,11 @@
-//! The table of calls that the gateway runs on: it keeps what the definitions need of all that is done, and
-//! a datagram takes no memory.
+//! The table of calls that the gateway runs on: signals make, key and end calls, and datagrams go through them
+//! without memory.
 #![tactic(auto)]
 
-mod call;
-mod gateway;
-mod handled;
-mod manual;
-mod path;
+mod calls;
 mod table;
+mod told;
 
-pub use handled::{End, Handled};
-pub use manual::Manual;
+pub use sg_call::{End, Handled};
 pub use table::Table;
+pub use told::Told;
