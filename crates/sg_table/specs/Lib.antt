@@ -1,3 +1,4 @@
+pub mod Found
 pub mod Free
 pub mod Handling
 pub mod Standing

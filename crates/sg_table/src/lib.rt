@@ -3,6 +3,8 @@
 #![tactic(auto)]
 
 mod calls;
+mod places;
+mod signals;
 mod table;
 mod told;
 

@@ -1,13 +1,18 @@
 //! The table.
 
-ghost use Rattle.std.specs.Prelude.{◌≡◌, IfOk};
-ghost use Rattle.sg_gateway.specs.World.{empty};
+ghost use Rattle.std.specs.Prelude.{◌≡◌, IfOk, OnErr, false};
+ghost use Rattle.sg_gateway.specs.Early.{MayWant};
+ghost use Rattle.sg_gateway.specs.Events.{events_of_signal, signal_lacks_noise, signal_of};
+ghost use Rattle.sg_gateway.specs.World.{World, empty};
 ghost use Rattle.sg_table.specs.Standing.{TableStandsFor};
+ghost use Rattle.sg_table.specs.Telling.{IsTimely, IsTold};
 
 use crate::calls::Calls;
+use crate::told::Told;
 use sg_base::{CALLS_MOST, NoMemory};
 use sg_keys::Ring;
 use sg_leg::Books;
+use sg_lines::Signal;
 use sg_psk::{PskBook, ReplayBook};
 use std::alloc::Global;
 use std::marker::Model;
@@ -42,13 +47,29 @@ impl Table {
             seen,
             ring: Ring::make(alloc),
         };
-        Ok(Table {
-            calls: Calls {
-                by_slot,
-                books,
-                moment: 0,
-            },
-            places: [None; CALLS_MOST],
-        })
+        let calls = Calls {
+            by_slot,
+            books,
+            moment: 0,
+        };
+        let mut places = [None; CALLS_MOST];
+        calls.index(&mut places);
+        Ok(Table { calls, places })
+    }
+
+    /// Takes a signal, whose noise is there, and tells its outcomes: at most one `Ended` for each call, and at
+    /// most two outcomes of another kind. Out of memory, the table is what it was; that comes to no tick, no
+    /// rejection and no bye, nor where the calls and the pre-shared keys that are there tell the refusal. A tick is
+    /// at most 2,085,978,495,999 ms since 1970.
+    pub fn step(&mut self, alloc: Global, signal: &Signal) -> Result<Told, NoMemory>
+        requires noise { signal_lacks_noise signal.now ≡ false }
+        requires timely { IsTimely signal.now }
+        ensures told { IfOk result (λ told. (w : World) → TableStandsFor self.old w → IsTold told.items self.new w (events_of_signal signal.now)) }
+        ensures same { OnErr result (self.new ≡ self.old) }
+        ensures needs { OnErr result ((w : World) → TableStandsFor self.old w → MayWant w (signal_of signal.now)) }
+    {
+        let told = self.calls.take(alloc, signal)?;
+        self.calls.index(&mut self.places);
+        Ok(told)
     }
 }

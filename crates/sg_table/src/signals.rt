@@ -1,0 +1,227 @@
+//! Signals that make and key calls. Memory is taken before anything changes.
+
+ghost use Rattle.std.specs.Prelude.{◌≡◌, None, Some, [], ◌∷◌, IfOk, OnErr, position};
+ghost use Rattle.sg_table.specs.Found.{has_id};
+ghost use Rattle.sg_agreement.specs.Sides.{other_side};
+ghost use Rattle.sg_gateway.specs.Early.{early_manual, early_offer, early_answer};
+ghost use Rattle.sg_gateway.specs.Signals.{manual_answer, offered_to, answered};
+ghost use Rattle.sg_gateway.specs.World.{World, call_of};
+ghost use Rattle.sg_outcome.specs.declared.outcomes.Outcome.TheVariants as tells;
+ghost use Rattle.sg_table.specs.Standing.{Stands, TableStandsFor};
+ghost use Rattle.sg_table.specs.Telling.{IsAnswered, Tells};
+
+use crate::calls::Calls;
+use crate::places::{free_slot, is_full, position_of, put_in};
+use crate::told::{Told, one, two};
+use sg_base::{Address, CallId, Fault, MasterKey, NoMemory, Refusal, Side};
+use sg_call::Call;
+use sg_gateway::calls_in_order;
+use sg_leg::Way;
+use sg_outcome::Outcome;
+use std::alloc::Global;
+
+/// A refusal of a call's signal.
+pub(crate) fn refused(id: CallId, cause: Refusal) -> Told
+    ensures { Tells result.items (tells.Refused (Some id) cause ∷ []) }
+{
+    one(Outcome::Refused {
+        call: Some(id),
+        cause,
+    })
+}
+
+/// That a call of this id was made.
+fn made(id: CallId, call: &Call) -> Outcome
+    ensures { result ≡ tells.Made id call.now.slot call.now.media }
+{
+    Outcome::Made {
+        call: id,
+        slot: call.slot(),
+        media: call.media(),
+    }
+}
+
+fn other_side(side: Side) -> Side
+    ensures { result ≡ other_side side }
+{
+    match side {
+        Side::Secure => Side::Plain,
+        Side::Plain => Side::Secure,
+    }
+}
+
+impl Calls {
+    /// A call that is keyed manually, under what its peer sends and what it is sent.
+    pub(crate) fn manual(
+        &mut self,
+        alloc: Global,
+        id: CallId,
+        secure: Address,
+        plain: Address,
+        roc: u32,
+        window: u16,
+        from_peer: &MasterKey,
+        to_peer: &MasterKey,
+    ) -> Result<Told, NoMemory>
+        ensures told { IfOk result (λ told. (w : World) → TableStandsFor self.old w → IsAnswered told.items self.new
+            (manual_answer w (record { id = id; secure = secure; plain = plain; roc = roc; window = window; from_peer = from_peer.now; to_peer = to_peer.now }))) }
+        ensures same { OnErr result (self.new ≡ self.old) }
+        ensures needs { OnErr result ((w : World) → TableStandsFor self.old w → early_manual w (call_of w id) ≡ None) }
+    {
+        calls_in_order();
+        if position_of(&self.by_slot, id).is_some() {
+            return Ok(refused(id, Refusal::CallKnown));
+        }
+        if is_full(&self.by_slot) {
+            return Ok(refused(id, Refusal::TableFull));
+        }
+        let slot = free_slot(&self.by_slot);
+        let mut call = Call::make(alloc, id, slot)?;
+        let keyed = call.manual(
+            alloc,
+            secure,
+            plain,
+            roc,
+            window,
+            from_peer,
+            to_peer,
+            self.moment,
+            &mut self.books,
+        );
+        match keyed {
+            Ok(()) => {
+                let told = two(made(id, &call), Outcome::Live { call: id });
+                put_in(&mut self.by_slot, slot, call);
+                Ok(told)
+            }
+            Err(Fault::Refused(cause)) => Ok(refused(id, cause)),
+            Err(Fault::NoMemory) => Err(NoMemory),
+        }
+    }
+
+    /// An offer, of a new call where none has this id. Its text goes to the other side.
+    pub(crate) fn offer(
+        &mut self,
+        alloc: Global,
+        id: CallId,
+        way: Way,
+        noise: &[u8; 304],
+        text: &[u8],
+    ) -> Result<Told, NoMemory>
+        ensures told { IfOk result (λ told. (w : World) → TableStandsFor self.old w
+            → IsAnswered told.items self.new (offered_to w id way noise.now text.now (call_of w id))) }
+        ensures same { OnErr result (self.new ≡ self.old) }
+        ensures needs { OnErr result ((w : World) → TableStandsFor self.old w → early_offer w (call_of w id) ≡ None) }
+    {
+        match position_of(&self.by_slot, id) {
+            Some(i) => self.offer_at(i, alloc, id, way, noise, text),
+            None => self.offer_new(alloc, id, way, noise, text),
+        }
+    }
+
+    /// An offer of the call at a position.
+    fn offer_at(
+        &mut self,
+        i: usize,
+        alloc: Global,
+        id: CallId,
+        way: Way,
+        noise: &[u8; 304],
+        text: &[u8],
+    ) -> Result<Told, NoMemory>
+        requires found { position (has_id id) self.old.calls ≡ Some i }
+        ensures told { IfOk result (λ told. (w : World) → TableStandsFor self.old w
+            → IsAnswered told.items self.new (offered_to w id way noise.now text.now (call_of w id))) }
+        ensures same { OnErr result (self.new ≡ self.old) }
+        ensures needs { OnErr result ((w : World) → TableStandsFor self.old w → early_offer w (call_of w id) ≡ None) }
+    {
+        calls_in_order();
+        let side = other_side(way.side());
+        let call = &mut self.by_slot[i];
+        match call.offer(alloc, way, text, noise, self.moment, &mut self.books) {
+            Ok(text) => Ok(one(Outcome::Sdp {
+                call: id,
+                side,
+                text,
+            })),
+            Err(Fault::Refused(cause)) => Ok(refused(id, cause)),
+            Err(Fault::NoMemory) => Err(NoMemory),
+        }
+    }
+
+    /// An offer of a new call.
+    fn offer_new(
+        &mut self,
+        alloc: Global,
+        id: CallId,
+        way: Way,
+        noise: &[u8; 304],
+        text: &[u8],
+    ) -> Result<Told, NoMemory>
+        requires new { position (has_id id) self.old.calls ≡ None }
+        ensures told { IfOk result (λ told. (w : World) → TableStandsFor self.old w
+            → IsAnswered told.items self.new (offered_to w id way noise.now text.now (call_of w id))) }
+        ensures same { OnErr result (self.new ≡ self.old) }
+        ensures needs { OnErr result ((w : World) → TableStandsFor self.old w → early_offer w (call_of w id) ≡ None) }
+    {
+        calls_in_order();
+        if is_full(&self.by_slot) {
+            return Ok(refused(id, Refusal::TableFull));
+        }
+        let side = other_side(way.side());
+        let slot = free_slot(&self.by_slot);
+        let mut call = Call::make(alloc, id, slot)?;
+        match call.offer(alloc, way, text, noise, self.moment, &mut self.books) {
+            Ok(text) => {
+                let told = two(
+                    made(id, &call),
+                    Outcome::Sdp {
+                        call: id,
+                        side,
+                        text,
+                    },
+                );
+                put_in(&mut self.by_slot, slot, call);
+                Ok(told)
+            }
+            Err(Fault::Refused(cause)) => Ok(refused(id, cause)),
+            Err(Fault::NoMemory) => Err(NoMemory),
+        }
+    }
+
+    /// The answer to a call's open offer. Its text goes to the side that offered, and a new generation begins.
+    pub(crate) fn answer(
+        &mut self,
+        alloc: Global,
+        id: CallId,
+        noise: &[u8; 304],
+        text: &[u8],
+    ) -> Result<Told, NoMemory>
+        requires stands { Stands self.old }
+        ensures told { IfOk result (λ told. (w : World) → TableStandsFor self.old w
+            → IsAnswered told.items self.new (answered w id noise.now text.now (call_of w id))) }
+        ensures same { OnErr result (self.new ≡ self.old) }
+        ensures needs { OnErr result ((w : World) → TableStandsFor self.old w → early_answer (call_of w id) ≡ None) }
+    {
+        calls_in_order();
+        let Some(i) = position_of(&self.by_slot, id) else {
+            return Ok(refused(id, Refusal::CallUnknown));
+        };
+        let call = &mut self.by_slot[i];
+        let Some(side) = call.side() else {
+            return Ok(refused(id, Refusal::State));
+        };
+        match call.answer(alloc, text, noise, self.moment, &mut self.books) {
+            Ok(text) => Ok(two(
+                Outcome::Sdp {
+                    call: id,
+                    side,
+                    text,
+                },
+                Outcome::Live { call: id },
+            )),
+            Err(Fault::Refused(cause)) => Ok(refused(id, cause)),
+            Err(Fault::NoMemory) => Err(NoMemory),
+        }
+    }
+}
