@@ -1,6 +1,15 @@
 pub mod Answered
+pub mod Answering
+pub mod Batching
+pub mod Delivering
 pub mod Found
 pub mod FreeSlot
+pub mod Gathering
 pub mod Indexed
+pub mod Outing
+pub mod Pairing
 pub mod Settled
+pub mod Sharing
+pub mod Slots
 pub mod Stepped
+pub mod Turns

@@ -1,6 +1,10 @@
+pub mod Batches
 pub mod Found
 pub mod Free
 pub mod Handling
+pub mod Octets
+pub mod Parts
+pub mod Slots
 pub mod Standing
 pub mod Telling
 pub mod Values
