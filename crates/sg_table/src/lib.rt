@@ -3,9 +3,12 @@
 #![tactic(auto)]
 
 mod calls;
+mod ends;
 mod places;
 mod signals;
 mod table;
+#[cfg(test)]
+mod tests;
 mod told;
 
 pub use sg_call::{End, Handled};
