@@ -1,6 +1,6 @@
 //! Where the calls are: by slot, by id, and where a new one goes.
 
-ghost use Rattle.std.specs.Prelude.{◌≡◌, ◌<◌, ◌≤◌, ◌+◌, List, length, position, IfSome, vec_len, vec_capacity, insert, nat_lt, not};
+ghost use Rattle.std.specs.Prelude.{◌≡◌, ◌<◌, ◌≤◌, ◌+◌, List, length, position, IfSome, IfNone, OnSome, vec_len, vec_capacity, insert};
 ghost use Rattle.sg_gateway.specs.World.{same_id};
 ghost use Rattle.sg_table.specs.Found.{has_id};
 ghost use Rattle.sg_table.specs.Free.{free_shape};
@@ -24,16 +24,10 @@ pub(crate) fn position_of(calls: &[Call], id: CallId) -> Option<usize>
     calls.iter().position(|call| has_id(call, id))
 }
 
-/// Whether there is no room for one call more.
-pub(crate) fn is_full(calls: &[Call]) -> bool
-    ensures { result ≡ not (nat_lt (length calls.now) 256) }
-{
-    calls.len() >= CALLS_MOST
-}
-
 /// The lowest slot that no call has.
 fn lowest(calls: &[Call]) -> usize
-    ensures { result ≡ free_shape 0 (shapes_of calls.now) }
+    ensures value { result ≡ free_shape 0 (shapes_of calls.now) }
+    ensures most { result ≤ length calls.now }
 {
     for (i, call) in calls.iter().enumerate() {
         if usize::from(call.slot()) != i {
@@ -43,12 +37,16 @@ fn lowest(calls: &[Call]) -> usize
     calls.len()
 }
 
-/// The lowest slot that no call has, where one is free.
-pub(crate) fn free_slot(calls: &[Call]) -> u8
-    requires room { length calls.now < 256 }
-    ensures { result ≡ free_shape 0 (shapes_of calls.now) }
+/// The lowest slot that no call has; none where 256 calls are there.
+pub(crate) fn free_slot(calls: &[Call]) -> Option<u8>
+    ensures full { IfNone result (256 ≤ length calls.now) }
+    ensures lowest { IfSome result (λ slot. slot ≡ free_shape 0 (shapes_of calls.now)) }
+    ensures room { OnSome result (length calls.now < 256) }
 {
-    lowest(calls) as u8
+    if calls.len() >= CALLS_MOST {
+        return None;
+    }
+    Some(lowest(calls) as u8)
 }
 
 /// Puts a call that has the lowest free slot among the others, by rising slot. It doesn't allocate.

@@ -1,17 +1,19 @@
 //! Signals that make and key calls. Memory is taken before anything changes.
 
-ghost use Rattle.std.specs.Prelude.{◌≡◌, None, Some, [], ◌∷◌, IfOk, OnErr, position};
+ghost use Rattle.std.specs.Prelude.{◌≡◌, None, Some, [], ◌∷◌, ◌<◌, IfOk, OnErr, position, insert, length};
 ghost use Rattle.sg_table.specs.Found.{has_id};
 ghost use Rattle.sg_agreement.specs.Sides.{other_side};
 ghost use Rattle.sg_gateway.specs.Early.{early_manual, early_offer, early_answer};
 ghost use Rattle.sg_gateway.specs.Signals.{manual_answer, offered_to, answered};
 ghost use Rattle.sg_gateway.specs.World.{World, call_of};
 ghost use Rattle.sg_outcome.specs.declared.outcomes.Outcome.TheVariants as tells;
+ghost use Rattle.sg_table.specs.Free.{free_shape};
 ghost use Rattle.sg_table.specs.Standing.{Stands, TableStandsFor};
 ghost use Rattle.sg_table.specs.Telling.{IsAnswered, Tells};
+ghost use Rattle.sg_table.specs.Values.{shapes_of};
 
 use crate::calls::Calls;
-use crate::places::{free_slot, is_full, position_of, put_in};
+use crate::places::{free_slot, position_of, put_in};
 use crate::told::{Told, one, two};
 use sg_base::{Address, CallId, Fault, MasterKey, NoMemory, Refusal, Side};
 use sg_call::Call;
@@ -51,6 +53,18 @@ fn other_side(side: Side) -> Side
 }
 
 impl Calls {
+    /// Puts a new call into its slot. It tells that the call was made, and then this outcome.
+    fn seat(&mut self, id: CallId, slot: u8, call: Call, outcome: Outcome) -> Told
+        requires room { length self.old.calls < 256 }
+        requires slot { slot ≡ free_shape 0 (shapes_of self.old.calls) }
+        ensures told { Tells result.items (tells.Made id call.slot call.media ∷ outcome ∷ []) }
+        ensures calls { self.new ≡ record self.old { calls = insert self.old.calls slot call } }
+    {
+        let told = two(made(id, &call), outcome);
+        put_in(&mut self.by_slot, slot, call);
+        told
+    }
+
     /// A call that is keyed manually, under what its peer sends and what it is sent.
     pub(crate) fn manual(
         &mut self,
@@ -72,10 +86,9 @@ impl Calls {
         if position_of(&self.by_slot, id).is_some() {
             return Ok(refused(id, Refusal::CallKnown));
         }
-        if is_full(&self.by_slot) {
+        let Some(slot) = free_slot(&self.by_slot) else {
             return Ok(refused(id, Refusal::TableFull));
-        }
-        let slot = free_slot(&self.by_slot);
+        };
         let mut call = Call::make(alloc, id, slot)?;
         let keyed = call.manual(
             alloc,
@@ -89,11 +102,7 @@ impl Calls {
             &mut self.books,
         );
         match keyed {
-            Ok(()) => {
-                let told = two(made(id, &call), Outcome::Live { call: id });
-                put_in(&mut self.by_slot, slot, call);
-                Ok(told)
-            }
+            Ok(()) => Ok(self.seat(id, slot, call, Outcome::Live { call: id })),
             Err(Fault::Refused(cause)) => Ok(refused(id, cause)),
             Err(Fault::NoMemory) => Err(NoMemory),
         }
@@ -115,7 +124,10 @@ impl Calls {
     {
         match position_of(&self.by_slot, id) {
             Some(i) => self.offer_at(i, alloc, id, way, noise, text),
-            None => self.offer_new(alloc, id, way, noise, text),
+            None => match free_slot(&self.by_slot) {
+                Some(slot) => self.offer_in(slot, alloc, id, way, noise, text),
+                None => Ok(refused(id, Refusal::TableFull)),
+            },
         }
     }
 
@@ -130,6 +142,7 @@ impl Calls {
         text: &[u8],
     ) -> Result<Told, NoMemory>
         requires found { position (has_id id) self.old.calls ≡ Some i }
+        requires within { i < length self.old.calls }
         ensures told { IfOk result (λ told. (w : World) → TableStandsFor self.old w
             → IsAnswered told.items self.new (offered_to w id way noise.now text.now (call_of w id))) }
         ensures same { OnErr result (self.new ≡ self.old) }
@@ -138,7 +151,8 @@ impl Calls {
         calls_in_order();
         let side = other_side(way.side());
         let call = &mut self.by_slot[i];
-        match call.offer(alloc, way, text, noise, self.moment, &mut self.books) {
+        let offered = call.offer(alloc, way, text, noise, self.moment, &mut self.books);
+        match offered {
             Ok(text) => Ok(one(Outcome::Sdp {
                 call: id,
                 side,
@@ -149,9 +163,10 @@ impl Calls {
         }
     }
 
-    /// An offer of a new call.
-    fn offer_new(
+    /// An offer of a new call, which has this slot.
+    fn offer_in(
         &mut self,
+        slot: u8,
         alloc: Global,
         id: CallId,
         way: Way,
@@ -159,32 +174,26 @@ impl Calls {
         text: &[u8],
     ) -> Result<Told, NoMemory>
         requires new { position (has_id id) self.old.calls ≡ None }
+        requires room { length self.old.calls < 256 }
+        requires slot { slot ≡ free_shape 0 (shapes_of self.old.calls) }
         ensures told { IfOk result (λ told. (w : World) → TableStandsFor self.old w
             → IsAnswered told.items self.new (offered_to w id way noise.now text.now (call_of w id))) }
         ensures same { OnErr result (self.new ≡ self.old) }
         ensures needs { OnErr result ((w : World) → TableStandsFor self.old w → early_offer w (call_of w id) ≡ None) }
     {
         calls_in_order();
-        if is_full(&self.by_slot) {
-            return Ok(refused(id, Refusal::TableFull));
-        }
         let side = other_side(way.side());
-        let slot = free_slot(&self.by_slot);
         let mut call = Call::make(alloc, id, slot)?;
         match call.offer(alloc, way, text, noise, self.moment, &mut self.books) {
             Ok(text) => {
-                let told = two(
-                    made(id, &call),
-                    Outcome::Sdp {
-                        call: id,
-                        side,
-                        text,
-                    },
-                );
-                put_in(&mut self.by_slot, slot, call);
-                Ok(told)
+                let outcome = Outcome::Sdp {
+                    call: id,
+                    side,
+                    text,
+                };
+                Ok(self.seat(id, slot, call, outcome))
             }
-            Err(Fault::Refused(cause)) => Ok(refused(id, cause)),
+            Err(Fault::Refused(why)) => Ok(refused(id, why)),
             Err(Fault::NoMemory) => Err(NoMemory),
         }
     }
@@ -212,14 +221,14 @@ impl Calls {
             return Ok(refused(id, Refusal::State));
         };
         match call.answer(alloc, text, noise, self.moment, &mut self.books) {
-            Ok(text) => Ok(two(
-                Outcome::Sdp {
+            Ok(text) => {
+                let back = Outcome::Sdp {
                     call: id,
                     side,
                     text,
-                },
-                Outcome::Live { call: id },
-            )),
+                };
+                Ok(two(back, Outcome::Live { call: id }))
+            }
             Err(Fault::Refused(cause)) => Ok(refused(id, cause)),
             Err(Fault::NoMemory) => Err(NoMemory),
         }
