@@ -145,8 +145,9 @@ fn check(rt: &impl Abort, arrivals: &[Arrival], handled: &[Handled]) -> Result<(
 }
 
 /// The same packets in a batch, by so many workers.
-fn check_batch(
-    rt: &HostRuntime,
+fn check_batch<R: Threads + Sync + Abort>(
+    rt: &R,
+    alloc: Global,
     count: u16,
     calls: u16,
     workers: usize,
@@ -154,7 +155,6 @@ fn check_batch(
 ) -> Result<(), Fail>
     requires { 1 ≤ calls }
 {
-    let alloc = rt.alloc();
     let mut table = table_of(alloc, calls)?;
     let mut arrivals = packets(alloc, count, calls)?;
     batch(rt, &mut table, arrivals.as_mut_slice(), workers, &OpenGate)?;
@@ -176,7 +176,7 @@ fn workers_give_what_one_at_a_time_gives(rt: HostRuntime) -> Result<(), Fail> {
         }
     }
     for workers in [1, 2, 16] {
-        check_batch(&rt, 64, 8, workers, handled.as_slice())?;
+        check_batch(&rt, alloc, 64, 8, workers, handled.as_slice())?;
     }
     Ok(())
 }
@@ -186,7 +186,7 @@ fn a_whole_batch_is_of_one_call(rt: HostRuntime) -> Result<(), Fail> {
     let alloc = rt.alloc();
     let handled = one_at_a_time(alloc, 1, packets(alloc, 256, 1)?)?;
     for workers in [1, 2] {
-        check_batch(&rt, 256, 1, workers, handled.as_slice())?;
+        check_batch(&rt, alloc, 256, 1, workers, handled.as_slice())?;
     }
     Ok(())
 }
