@@ -33,7 +33,7 @@ use Rattle.sg_table.specs.Values.{TableValue, shapes_of, IsQuiet, AreQuiet}
 pub order_of : ((events : List Event) → EachWorldIsOrderly events) → (table : TableValue) (w : World) → TableStandsFor table w → Pairs IsBefore w.calls
 order_of law table w s = subst (λ (v : World). Pairs IsBefore v.calls) (sym s.is_after) (pairs_from IsBefore _ (law s.history).1.rising)
 
-serials : (cs : List Call) → Pairs IsBefore cs → Pairs DifferInSerial cs
+pub serials : (cs : List Call) → Pairs IsBefore cs → Pairs DifferInSerial cs
 serials [] p = tt
 serials (c ∷ cs) p = (each_weaker (IsBefore c) (DifferInSerial c) (λ d before. before.serial) cs p.0, serials cs p.1)
 

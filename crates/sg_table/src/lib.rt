@@ -2,15 +2,22 @@
 //! without memory.
 #![tactic(auto)]
 
+mod arrival;
+mod batch;
 mod calls;
+mod delivery;
 mod ends;
+mod octets;
+mod pairs;
 mod places;
+mod ports;
 mod signals;
 mod table;
 #[cfg(test)]
 mod tests;
 mod told;
 
+pub use arrival::Arrival;
 pub use sg_call::{End, Handled};
 pub use table::Table;
 pub use told::Told;
