@@ -1,16 +1,33 @@
--- A signal as an event of a run.
+-- A table at the start of a run, and after a signal as an event of it.
 use Rattle.std.proofs.Common.{◌≡◌, ℕ, Bool, true, false, cond, List, [], ◌∷◌, ◌++◌, length, map, Option, Some, refl, sym, ap, ◌∙◌, subst}
 use Rattle.std.proofs.lemmas.List.{append-nil}
+use Rattle.sg_call.specs.Standing.{CallStandsFor}
+use Rattle.sg_call.specs.Values.{CallValue}
 use Rattle.sg_gateway.specs.Events.{events_of_signal, outcomes_from, signal_lacks_noise, signal_of}
 use Rattle.sg_gateway.specs.Runs.{world_after}
 use Rattle.sg_gateway.specs.Signals.{answer_to}
 use Rattle.sg_gateway.specs.Step.{Event, Signalled, step}
 use Rattle.sg_gateway.specs.World.{World, empty}
+use Rattle.sg_leg.specs.Pairs.{EachPair}
+use Rattle.sg_leg.specs.declared.books.Books.{Books}
 use Rattle.sg_lines.specs.declared.lines.Signal.{Signal}
 use Rattle.sg_outcome.specs.declared.outcomes.Outcome.{Outcome}
 use Rattle.sg_table.specs.Standing.{Holds, TableStandsFor}
 use Rattle.sg_table.specs.Telling.{Tells, IsAnswered, IsTold}
-use Rattle.sg_table.specs.Values.{TableValue}
+use Rattle.sg_table.specs.Values.{TableValue, AreQuiet}
+
+-- a table without calls and with empty books
+pub empty_stands : (calls : List CallValue) (books : Books) → calls ≡ [] → books.psks ≡ [] → books.seen ≡ [] → books.ring ≡ [] → TableStandsFor (record { calls = calls; books = books; moment = 0 }) empty
+empty_stands calls books none psks seen ring = record {
+  history = [];
+  is_after = refl;
+  holds = record {
+    calls = subst (λ l. EachPair (CallStandsFor []) l []) (sym none) tt;
+    books = record { pairs = psks; noted = seen; ring = sym ring };
+    moment_is = refl;
+    quiet = subst AreQuiet (sym none) tt;
+  };
+}
 
 pub after_append : (w : World) (front later : List Event) → world_after w (front ++ later) ≡ world_after (world_after w front) later
 after_append w [] later = refl

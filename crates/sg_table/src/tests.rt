@@ -199,12 +199,12 @@ fn a_rejected_offer_ends_a_new_call(rt: HostRuntime) -> Result<(), Fail> {
 fn a_refused_offer_makes_no_call(rt: HostRuntime) -> Result<(), Fail> {
     let alloc = rt.alloc();
     let mut table = Table::make(alloc)?;
-    let offer = Signal::OfferSdes {
+    let offer = Signal::OfferSecure {
         call: CallId(7),
         noise: noise(),
-        text: text_of(alloc, b"v=1\r\n")?,
+        text: text_of(alloc, b"v=0\r\n")?,
     };
-    check(&rt, alloc, &mut table, &offer, b"refused 7 Sdp 1 Form\n")?;
+    check(&rt, alloc, &mut table, &offer, b"refused 7 Sdp 2 Order\n")?;
     let bye = Signal::Bye { call: CallId(7) };
     check(&rt, alloc, &mut table, &bye, b"refused 7 CallUnknown\n")
 }
