@@ -27,13 +27,7 @@ impl Table {
 
 impl Calls {
     /// Handles a datagram, by the position of each slot's call.
-    fn datagram(
-        &mut self,
-        places: &[Option<u8>],
-        port: u16,
-        from: Address,
-        pad: Pad,
-    ) -> Handled
+    fn datagram(&mut self, places: &[Option<u8>], port: u16, from: Address, pad: Pad) -> Handled
         requires indexed { AreIndexed places.now (shapes_of self.old.calls) }
         requires stands { Stands self.old }
         ensures handled { (w : World) → TableStandsFor self.old w → IsHandled w port from pad result self.new }
