@@ -1,6 +1,7 @@
 -- What a table holds after a signal, by what it settles.
-use Rattle.std.proofs.Common.{◌≡◌, ℕ, zero, suc, List, [], ◌∷◌, ◌++◌, length, map, Option, Some, None, Result, Ok, Err, refl, sym, ap, ◌∙◌, subst}
+use Rattle.std.proofs.Common.{◌≡◌, ◌<◌, arith, get_or, ℕ, zero, suc, List, [], ◌∷◌, ◌++◌, length, map, Option, Some, None, Result, Ok, Err, refl, sym, ap, ◌∙◌, subst}
 use Rattle.std.proofs.Math.ListN.{set}
+use Rattle.std.proofs.lemmas.List.{set-get_or}
 use Rattle.std.specs.List.{AllByRecursion, insert}
 use Rattle.sg_base.specs.declared.addresses.CallId.{CallId}
 use Rattle.sg_base.specs.declared.faults.Refusal.{Refusal}
@@ -41,6 +42,15 @@ pub quiet_set : (calls : List CallValue) (i : ℕ) (new : CallValue) → AreQuie
 quiet_set [] i new q n = tt
 quiet_set (c ∷ cs) zero new q n = (n, q.1)
 quiet_set (c ∷ cs) (suc i) new q n = (q.0, quiet_set cs i new q.1 n)
+
+pub quiet_at : (calls : List CallValue) (i : ℕ) (d : CallValue) → AreQuiet calls → i < length calls → IsQuiet (get_or calls i d)
+quiet_at [] i d q lt = absurd (omega (arith, lt))
+quiet_at (c ∷ cs) zero d q lt = q.0
+quiet_at (c ∷ cs) (suc i) d q lt = quiet_at cs i d q.1 (omega (arith, lt))
+
+-- a call that is as it was, and its books
+pub back_at : (calls : List CallValue) (i : ℕ) (d new : CallValue) → new ≡ get_or calls i d → set calls i new ≡ calls
+back_at calls i d new e = ap (set calls i) e ∙ set-get_or calls i d
 
 -- a refusal leaves what was held
 pub refused_holds : (table : TableValue) (w : World) → Holds table w → (id : Option CallId) (cause : Refusal) (outs : List (Option Outcome)) → Tells outs (Refused id cause ∷ []) → IsAnswered outs table (refused w id cause)

@@ -3,12 +3,14 @@ use Rattle.std.proofs.Common.{◌≡◌, ◌<◌, ℕ, Bool, true, false, cond, 
 use Rattle.std.proofs.Math.ListN.{set}
 use Rattle.std.specs.List.{insert, position}
 use Rattle.std.specs.Option.{is_some, option_map}
+use Rattle.std.specs.Result.{OnErr}
 use Rattle.sg_agreement.specs.Keying.{Offer}
 use Rattle.sg_agreement.specs.Manual.{ManualCall, manual_medium}
 use Rattle.sg_agreement.specs.Sides.{side_of, other_side}
 use Rattle.sg_agreement.specs.declared.ways.Way.{Way}
 use Rattle.sg_base.specs.declared.addresses.CallId.{CallId}
 use Rattle.sg_base.specs.declared.addresses.Side.{Side}
+use Rattle.sg_base.specs.declared.faults.Fault.{Fault}
 use Rattle.sg_base.specs.declared.faults.Fault.TheVariants as faults
 use Rattle.sg_base.specs.declared.faults.Refusal.{Refusal}
 use Rattle.sg_base.specs.declared.faults.Refusal.TheVariants.{CallUnknown, State}
@@ -18,8 +20,8 @@ use Rattle.sg_call.specs.Standing.{CallStandsFor}
 use Rattle.sg_call.specs.States.{HasPairs}
 use Rattle.sg_call.specs.Values.{CallValue}
 use Rattle.sg_gateway.proofs.Pairs.{Pairs}
-use Rattle.sg_gateway.specs.CallSignals.{idle_call, keyed_manually, offered_in, answered_to, answered_in}
-use Rattle.sg_gateway.specs.Early.{early_answer}
+use Rattle.sg_gateway.specs.CallSignals.{idle_call, keyed_manually, offered_in, answered_to, answered_in, takes_offer}
+use Rattle.sg_gateway.specs.Early.{early_answer, early_offer}
 use Rattle.sg_gateway.specs.Generations.{Settled}
 use Rattle.sg_gateway.specs.Order.{IsBefore}
 use Rattle.sg_gateway.specs.Signals.{refused, new_call, in_old, tells_live, tells_text, tells_answer, offering_side, manual_answer, offered_to, answered}
@@ -39,6 +41,11 @@ use Rattle.sg_table.specs.Free.{free_shape}
 use Rattle.sg_table.specs.Standing.{Holds}
 use Rattle.sg_table.specs.Telling.{Tells, IsAnswered}
 use Rattle.sg_table.specs.Values.{TableValue, shapes_of, IsQuiet}
+
+-- what is known whatever the result
+pub on_err : {T E : Type 0} (r : Result T E) (P : Type 0) → P → OnErr r P
+on_err (Ok x) P p = tt
+on_err (Err e) P p = p
 
 abbrev pub held : List CallValue → Books → ℕ → TableValue
 held calls books now = record { calls = calls; books = books; moment = now }
@@ -152,6 +159,18 @@ module _ (calls : List CallValue) (books : Books) (now : ℕ) (w : World) (holds
         subst (IsAnswered outs (held calls books now)) (sym (ap (answered w id noise text) at.is_call))
         (refused_old calls books now w holds order id (tells_answer id (offering_side at.call.offer)) (answered_in w.moment w.books at.call noise text) cause
         (subst (λ n. answered_in n w.books at.call noise text ≡ Err cause) (sym holds.moment_is) (answer at.call w.books (at.stands d) holds.books)) outs tells)
+
+    -- memory may be wanting where the call takes an offer
+    pub offer_at_needs : (r : Result (List ℕ) Fault) → r ≡ Err faults.NoMemory
+        → ((pairs : List Pair) (c : Call) → CallStandsFor pairs (get_or calls i d) c → takes_offer c ≡ false → r ≡ Err (faults.Refused State)) → early_offer w (call_of w id) ≡ None
+    offer_at_needs r is state = ap (early_offer w) at.is_call ∙ go (takes_offer at.call) refl
+      where
+        differ : (let r : Result (List ℕ) Fault = Err faults.NoMemory in r ≡ Err (faults.Refused State)) → ⊥
+        differ e = cc
+
+        go : (b : Bool) → takes_offer at.call ≡ b → early_offer w (Some at.call) ≡ None
+        go true is_b = ap (λ b. cond b None (Some State)) is_b
+        go false is_b = absurd (differ (sym is ∙ state w.books.pairs at.call (at.stands d) is_b))
 
     no_offer : (o : Option Offer) → None ≡ option_map (λ (o : Offer). o.side) o → o ≡ None
     no_offer None is = refl

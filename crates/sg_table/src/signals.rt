@@ -1,6 +1,6 @@
 //! Signals that make and key calls. Memory is taken before anything changes.
 
-ghost use Rattle.std.specs.Prelude.{◌≡◌, None, Some, [], ◌∷◌, ◌<◌, IfOk, OnErr, position, insert, length};
+ghost use Rattle.std.specs.Prelude.{◌≡◌, None, Some, [], ◌∷◌, ◌<◌, ◌≤◌, IfOk, OnErr, position, insert, length};
 ghost use Rattle.sg_table.specs.Found.{has_id};
 ghost use Rattle.sg_agreement.specs.Sides.{other_side};
 ghost use Rattle.sg_gateway.specs.Early.{early_manual, early_offer, early_answer};
@@ -18,7 +18,7 @@ use crate::told::{Told, one, two};
 use sg_base::{Address, CallId, Fault, MasterKey, NoMemory, Refusal, Side};
 use sg_call::Call;
 use sg_gateway::calls_in_order;
-use sg_leg::Way;
+use sg_leg::{Books, Way};
 use sg_outcome::Outcome;
 use std::alloc::Global;
 
@@ -123,43 +123,21 @@ impl Calls {
         ensures needs { OnErr result ((w : World) → TableStandsFor self.old w → early_offer w (call_of w id) ≡ None) }
     {
         match position_of(&self.by_slot, id) {
-            Some(i) => self.offer_at(i, alloc, id, way, noise, text),
+            Some(i) => offer_at(
+                &mut self.by_slot,
+                i,
+                &mut self.books,
+                self.moment,
+                alloc,
+                id,
+                way,
+                noise,
+                text,
+            ),
             None => match free_slot(&self.by_slot) {
                 Some(slot) => self.offer_in(slot, alloc, id, way, noise, text),
                 None => Ok(refused(id, Refusal::TableFull)),
             },
-        }
-    }
-
-    /// An offer of the call at a position.
-    fn offer_at(
-        &mut self,
-        i: usize,
-        alloc: Global,
-        id: CallId,
-        way: Way,
-        noise: &[u8; 304],
-        text: &[u8],
-    ) -> Result<Told, NoMemory>
-        requires found { position (has_id id) self.old.calls ≡ Some i }
-        requires within { i < length self.old.calls }
-        ensures told { IfOk result (λ told. (w : World) → TableStandsFor self.old w
-            → IsAnswered told.items self.new (offered_to w id way noise.now text.now (call_of w id))) }
-        ensures same { OnErr result (self.new ≡ self.old) }
-        ensures needs { OnErr result ((w : World) → TableStandsFor self.old w → early_offer w (call_of w id) ≡ None) }
-    {
-        calls_in_order();
-        let side = other_side(way.side());
-        let call = &mut self.by_slot[i];
-        let offered = call.offer(alloc, way, text, noise, self.moment, &mut self.books);
-        match offered {
-            Ok(text) => Ok(one(Outcome::Sdp {
-                call: id,
-                side,
-                text,
-            })),
-            Err(Fault::Refused(cause)) => Ok(refused(id, cause)),
-            Err(Fault::NoMemory) => Err(NoMemory),
         }
     }
 
@@ -212,25 +190,92 @@ impl Calls {
         ensures same { OnErr result (self.new ≡ self.old) }
         ensures needs { OnErr result ((w : World) → TableStandsFor self.old w → early_answer (call_of w id) ≡ None) }
     {
-        calls_in_order();
-        let Some(i) = position_of(&self.by_slot, id) else {
-            return Ok(refused(id, Refusal::CallUnknown));
-        };
-        let call = &mut self.by_slot[i];
-        let Some(side) = call.side() else {
-            return Ok(refused(id, Refusal::State));
-        };
-        match call.answer(alloc, text, noise, self.moment, &mut self.books) {
-            Ok(text) => {
-                let back = Outcome::Sdp {
-                    call: id,
-                    side,
-                    text,
-                };
-                Ok(two(back, Outcome::Live { call: id }))
-            }
-            Err(Fault::Refused(cause)) => Ok(refused(id, cause)),
-            Err(Fault::NoMemory) => Err(NoMemory),
+        match position_of(&self.by_slot, id) {
+            Some(i) => answer_at(
+                &mut self.by_slot,
+                i,
+                &mut self.books,
+                self.moment,
+                alloc,
+                id,
+                noise,
+                text,
+            ),
+            None => Ok(refused(id, Refusal::CallUnknown)),
         }
+    }
+}
+
+/// An offer of the call of this id, at its position.
+fn offer_at(
+    calls: &mut [Call],
+    i: usize,
+    books: &mut Books,
+    now: u64,
+    alloc: Global,
+    id: CallId,
+    way: Way,
+    noise: &[u8; 304],
+    text: &[u8],
+) -> Result<Told, NoMemory>
+    requires found { position (has_id id) calls.old ≡ Some i }
+    requires within { i < length calls.old }
+    requires moment { now ≤ 2085978495999 }
+    ensures told { IfOk result (λ told. (w : World) → TableStandsFor (record { calls = calls.old; books = books.old; moment = now }) w
+        → IsAnswered told.items (record { calls = calls.new; books = books.new; moment = now }) (offered_to w id way noise.now text.now (call_of w id))) }
+    ensures same { OnErr result ((calls.new ≡ calls.old) × (books.new ≡ books.old)) }
+    ensures needs { OnErr result ((w : World) → TableStandsFor (record { calls = calls.old; books = books.old; moment = now }) w
+        → early_offer w (call_of w id) ≡ None) }
+    ensures len { length calls.new ≡ length calls.old }
+{
+    calls_in_order();
+    let side = other_side(way.side());
+    match calls[i].offer(alloc, way, text, noise, now, books) {
+        Ok(text) => Ok(one(Outcome::Sdp {
+            call: id,
+            side,
+            text,
+        })),
+        Err(Fault::Refused(cause)) => Ok(refused(id, cause)),
+        Err(Fault::NoMemory) => Err(NoMemory),
+    }
+}
+
+/// An answer to the open offer of the call of this id, at its position.
+fn answer_at(
+    calls: &mut [Call],
+    i: usize,
+    books: &mut Books,
+    now: u64,
+    alloc: Global,
+    id: CallId,
+    noise: &[u8; 304],
+    text: &[u8],
+) -> Result<Told, NoMemory>
+    requires found { position (has_id id) calls.old ≡ Some i }
+    requires within { i < length calls.old }
+    requires stands { Stands (record { calls = calls.old; books = books.old; moment = now }) }
+    ensures told { IfOk result (λ told. (w : World) → TableStandsFor (record { calls = calls.old; books = books.old; moment = now }) w
+        → IsAnswered told.items (record { calls = calls.new; books = books.new; moment = now }) (answered w id noise.now text.now (call_of w id))) }
+    ensures same { OnErr result ((calls.new ≡ calls.old) × (books.new ≡ books.old)) }
+    ensures needs { OnErr result ((w : World) → TableStandsFor (record { calls = calls.old; books = books.old; moment = now }) w
+        → early_answer (call_of w id) ≡ None) }
+    ensures len { length calls.new ≡ length calls.old }
+{
+    calls_in_order();
+    let Some(side) = calls[i].side() else {
+        return Ok(refused(id, Refusal::State));
+    };
+    match calls[i].answer(alloc, text, noise, now, books) {
+        Ok(text) => {
+            let back = Outcome::Sdp {
+                call: id,
+                side,
+                text,
+            };
+            Ok(two(back, Outcome::Live { call: id }))
+        }
+        Err(Fault::Refused(cause)) => Ok(refused(id, cause)),
+        Err(Fault::NoMemory) => Err(NoMemory),
     }
 }
