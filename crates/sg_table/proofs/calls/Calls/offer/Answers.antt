@@ -1,6 +1,7 @@
 use Rattle.std.proofs.Common.{rules, ◌≡◌, ◌≤◌, ◌<◌, ◌+◌, ◌∙◌, sym, ap, subst, refl, true, false, get_or, List, [], ◌∷◌, ℕ, length, Option, Some, None, Result, Ok, Err}
 use Rattle.std.proofs.Math.ListN.{set}
 use Rattle.std.proofs.lemmas.Result.{IfOk-weaker}
+use Rattle.arrayvec.specs.ArrayVec.{ArrayVec}
 use Rattle.std.specs.List.{position}
 use Rattle.std.specs.Option.{is_some}
 use Rattle.std.specs.Result.{IfOk, OnErr}
@@ -14,6 +15,7 @@ use Rattle.sg_gateway.specs.CallSignals.{keyed_manually, offered_in, answered_in
 use Rattle.sg_gateway.specs.Early.{early_manual, early_offer, early_answer}
 use Rattle.sg_gateway.specs.Signals.{manual_answer, offered_to, answered, answer_to}
 use Rattle.sg_gateway.specs.World.{World, call_of, empty}
+use Rattle.sg_outcome.specs.declared.outcomes.Outcome.{Outcome}
 use Rattle.sg_outcome.specs.declared.outcomes.Outcome.TheVariants.{Made, Live, Sdp}
 use Rattle.sg_table.proofs.Answered.{order_of, refused_holds, quiet_at, back_at}
 use Rattle.sg_table.proofs.Early.{manual_known, manual_full, manual_needs, offer_full, offer_needs, answer_unknown}
@@ -38,6 +40,9 @@ returns-in-None-free_slot-clause-told c = λ w s.
 
 pub returns-in-Some-clause-told : goal.returns-in-Some-clause-told
 returns-in-Some-clause-told c =
-    IfOk-weaker _ _ _ (λ told f w s.
-    let s' : TableStandsFor (the_view c.self.inside) w = subst (λ v. TableStandsFor v w) (sym c.self.view_is) s in
-    f w (subst (λ l. TableStandsFor (held l c.self.inside.books c.self.inside.moment) w) (sym c.deref_mut.ensures.value) s')) c.offer_at.ensures.told
+    let before : List CallValue → TableValue = λ l. held l c.self.inside.books c.self.inside.moment in
+    let after : TableValue = held c.offer_at.new.calls c.offer_at.new.books c.self.inside.moment in
+    let go : (told : ArrayVec (Option Outcome)) → ((w : World) → TableStandsFor (before c.deref_mut.result.now) w → IsAnswered told.items after (offered_to w c.args.id c.args.way c.args.noise.now c.args.text.now (call_of w c.args.id)))
+        → (w : World) → TableStandsFor c.args.self.now w → IsAnswered told.items after (offered_to w c.args.id c.args.way c.args.noise.now c.args.text.now (call_of w c.args.id)) =
+    λ told f w s. f w (subst (λ l. TableStandsFor (before l) w) (sym c.deref_mut.ensures.value) (subst (λ v. TableStandsFor v w) (sym c.self.view_is) s)) in
+    IfOk-weaker c.offer_at.result _ _ go c.offer_at.ensures.told
