@@ -36,14 +36,16 @@ use Rattle.sg_table.specs.Telling.{Tells, IsAnswered}
 use Rattle.sg_table.specs.Values.{TableValue, IsQuiet, AreQuiet}
 
 pairs_remove : {X Y : Type 0} (R : X → Y → Type 0) (i : ℕ) (xs : List X) (ys : List Y) → EachPair R xs ys → EachPair R (remove xs i) (remove ys i)
-pairs_remove R i [] [] h = h
+pairs_remove R zero [] [] h = tt
+pairs_remove R (suc i) [] [] h = tt
 pairs_remove R i [] (y ∷ ys) h = absurd h
 pairs_remove R i (x ∷ xs) [] h = absurd h
 pairs_remove R zero (x ∷ xs) (y ∷ ys) h = h.1
 pairs_remove R (suc i) (x ∷ xs) (y ∷ ys) h = (h.0, pairs_remove R i xs ys h.1)
 
 quiet_remove : (calls : List CallValue) (i : ℕ) → AreQuiet calls → AreQuiet (remove calls i)
-quiet_remove [] i q = q
+quiet_remove [] zero q = tt
+quiet_remove [] (suc i) q = tt
 quiet_remove (c ∷ cs) zero q = q.1
 quiet_remove (c ∷ cs) (suc i) q = (q.0, quiet_remove cs i q.1)
 

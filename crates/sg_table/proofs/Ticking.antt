@@ -1,8 +1,12 @@
 -- What a table holds after a tick.
-use Rattle.std.proofs.Common.{◌≡◌, ℕ, zero, suc, ◌+◌, ◌<◌, ◌≤◌, Bool, true, false, cond, not, List, [], ◌∷◌, ◌++◌, length, map, take, drop, Option, Some, None, refl, sym, ap, ◌∙◌, subst, leb, ltb}
-use Rattle.std.proofs.lemmas.Bool.{lt-ltb, le-ltb}
+use Rattle.std.proofs.Common.{◌≡◌, ℕ, zero, suc, ◌+◌, ◌<◌, ◌≤◌, Bool, true, false, cond, not, List, [], ◌∷◌, ◌++◌, length, get_or, map, take, Option, Some, None, refl, sym, ap, ◌∙◌, subst, arith, eqb, leb, ltb, inl, inr}
+use Rattle.std.proofs.Math.ListN.{set}
+use Rattle.std.proofs.lemmas.Bool.{cases_Bool, eqb-true, eq-eqb, false≢true, lt-ltb, le-ltb}
+use Rattle.std.proofs.Math.Seq.{take-suc}
+use Rattle.std.proofs.lemmas.List.{get_or-set_same, get_or-set_other, map-append}
 use Rattle.std.specs.List.{AllByRecursion, filter}
 use Rattle.sg_base.specs.declared.faults.Refusal.TheVariants.{TickBack}
+use Rattle.sg_call.proofs.Passing.{filter_append}
 use Rattle.sg_call.specs.Standing.{CallStandsFor}
 use Rattle.sg_call.specs.Values.{CallValue}
 use Rattle.sg_gateway.specs.CallSignals.{is_idle, call_at_tick}
@@ -14,6 +18,7 @@ use Rattle.sg_outcome.specs.declared.outcomes.Outcome.{Outcome}
 use Rattle.sg_outcome.specs.declared.outcomes.Outcome.TheVariants.{Ended, Refused}
 use Rattle.sg_outcome.specs.declared.outcomes.Why.TheVariants as why
 use Rattle.sg_psk.specs.declared.pairs.Pair.{Pair}
+use Rattle.sg_table.proofs.Pairing.{pairs_from_each}
 use Rattle.sg_table.specs.Ends.{ended_as, idles, IsTicked}
 use Rattle.sg_table.specs.Standing.{Holds}
 use Rattle.sg_table.specs.Telling.{Tells, IsAnswered}
@@ -98,7 +103,50 @@ module _ (calls : List CallValue) (books : Books) (last now : ℕ) (w : World) (
         };
       })
 
--- the calls are ticked one by one
+-- the calls before this position are ticked
 pub record Ticks (now k : ℕ) (old calls : List CallValue) : Type 0 where
-  pub front : EachPair (IsTicked now) (take k old) (take k calls)
-  pub back : drop k calls ≡ drop k old
+  pub ticked : (i : ℕ) (d : CallValue) → i < k → i < length old → IsTicked now (get_or old i d) (get_or calls i d)
+  pub others : (i : ℕ) (d : CallValue) → k ≤ i → get_or calls i d ≡ get_or old i d
+
+pub ticks_none : (now : ℕ) (old : List CallValue) → Ticks now 0 old old
+ticks_none now old = record { ticked = λ i d lt within. absurd (omega (arith, lt)); others = λ i d le. refl }
+
+get_any : (xs : List CallValue) (i : ℕ) (d e : CallValue) → i < length xs → get_or xs i d ≡ get_or xs i e
+get_any [] i d e lt = absurd (omega (arith, lt))
+get_any (x ∷ xs) zero d e lt = refl
+get_any (x ∷ xs) (suc i) d e lt = get_any xs i d e (omega (arith, lt))
+
+pub ticks_next : (now k : ℕ) (old calls : List CallValue) (e new : CallValue) → k < length calls → IsTicked now (get_or calls k e) new → Ticks now k old calls → Ticks now (k + 1) old (set calls k new)
+ticks_next now k old calls e new lt this t = record {
+  ticked = λ i d below within. elim (cases_Bool (eqb i k)) [
+    | inl y ↦ (
+      let same : i ≡ k = eqb-true i k y in
+      subst (λ j. IsTicked now (get_or old j d) (get_or (set calls k new) j d)) (sym same)
+          (subst (IsTicked now (get_or old k d)) (sym (get_or-set_same calls k new d lt)) (subst (λ x. IsTicked now x new) (get_any calls k e d lt ∙ t.others k d (omega arith)) this))
+    )
+    | inr x ↦ (
+      let differ : i ≡ k → ⊥ = (λ same. false≢true (sym x ∙ eq-eqb i k same)) in
+      subst (IsTicked now (get_or old i d)) (sym (get_or-set_other calls k i new d differ)) (t.ticked i d (omega (arith, below, differ)) within)
+    )
+  ];
+  others = λ i d le. get_or-set_other calls k i new d (λ same. omega (arith, le, same)) ∙ t.others i d (omega (arith, le));
+}
+
+pub ticks_all : (now k : ℕ) (old calls : List CallValue) → length calls ≡ length old → length old ≤ k → Ticks now k old calls → EachPair (IsTicked now) old calls
+ticks_all now k old calls len le t = pairs_from_each (IsTicked now) old calls len (λ i d lt. t.ticked i d (omega (arith, le, lt)) lt)
+
+-- one call more is looked at
+pub idle_next : (now k : ℕ) (calls : List CallValue) (d : CallValue) → k < length calls → (b : Bool) → idles now (get_or calls k d) ≡ b
+    → map (ended_as why.Idle) (filter (idles now) (take (k + 1) calls)) ≡ map (ended_as why.Idle) (filter (idles now) (take k calls)) ++ cond b (ended_as why.Idle (get_or calls k d) ∷ []) []
+idle_next now k calls d lt b is =
+    let this = get_or calls k d in
+    let more : take (k + 1) calls ≡ take k calls ++ this ∷ [] = ap (λ n. take n calls) (let e : k + 1 ≡ suc k = omega arith in e) ∙ take-suc calls k d lt in
+    ap (λ l. map (ended_as why.Idle) (filter (idles now) l)) more
+    ∙ ap (map (ended_as why.Idle)) (filter_append (idles now) (take k calls) (this ∷ []))
+    ∙ map-append (ended_as why.Idle) (filter (idles now) (take k calls)) (filter (idles now) (this ∷ []))
+    ∙ ap (λ t. map (ended_as why.Idle) (filter (idles now) (take k calls)) ++ map (ended_as why.Idle) (cond t (this ∷ []) [])) is
+    ∙ ap (λ l. map (ended_as why.Idle) (filter (idles now) (take k calls)) ++ l) (go b)
+  where
+    go : (b : Bool) → map (ended_as why.Idle) (cond b (get_or calls k d ∷ []) []) ≡ cond b (ended_as why.Idle (get_or calls k d) ∷ []) []
+    go true = refl
+    go false = refl

@@ -76,7 +76,7 @@ module _ (w : World) (a : Arrived) where
 
   module _ (turns : TakesTurns w) where
     pub one_turn : (given_in w a).world.calls ≡ map (turn w.moment a) w.calls
-    one_turn = turns (a ∷ []) ∙ map_agree _ (turn w.moment a) (λ c. sym (drain_one w.moment a [] c) ∙ none c) w.calls
+    one_turn = turns (a ∷ []) ∙ map_agree (λ c. drained w.moment c (own c (a ∷ []))) (turn w.moment a) (λ c. sym (drain_one w.moment a [] c) ∙ none c) w.calls
       where
         none : (c : Call) → drained w.moment (turn w.moment a c) (own (turn w.moment a c) []) ≡ turn w.moment a c
         none c = refl
@@ -85,7 +85,7 @@ module _ (w : World) (a : Arrived) where
     turns_on later =
         let v : World = (given_in w a).world in
         turns (a ∷ later)
-        ∙ map_agree _ _ (λ c. sym (drain_one w.moment a later c)) w.calls
+        ∙ map_agree (λ c. drained w.moment c (own c (a ∷ later))) (λ c. drained w.moment (turn w.moment a c) (own (turn w.moment a c) later)) (λ c. sym (drain_one w.moment a later c)) w.calls
         ∙ sym (map_map (λ c. drained w.moment c (own c later)) (turn w.moment a) w.calls)
         ∙ (λ i. map (λ c. drained (sym same_moment i) c (own c later)) (sym one_turn i))
 

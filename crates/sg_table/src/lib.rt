@@ -4,6 +4,8 @@
 
 mod arrival;
 mod batch;
+#[cfg(test)]
+mod batch_tests;
 mod calls;
 mod delivery;
 mod ends;
