@@ -7,13 +7,13 @@ use Rattle.sg_agreement.specs.Manual.{ManualCall, manual_medium}
 use Rattle.sg_agreement.specs.Sides.{side_of, other_side}
 use Rattle.sg_agreement.specs.declared.ways.Way.{Way}
 use Rattle.sg_base.specs.declared.addresses.CallId.{CallId}
-use Rattle.sg_base.specs.declared.faults.Refusal.TheVariants.{TableFull, CallKnown}
+use Rattle.sg_base.specs.declared.faults.Refusal.TheVariants.{TableFull, CallKnown, CallUnknown}
 use Rattle.sg_call.proofs.Paired.{stands_length}
 use Rattle.sg_call.specs.Standing.{CallStandsFor}
 use Rattle.sg_call.specs.Values.{CallValue}
 use Rattle.sg_gateway.specs.CallSignals.{keyed_manually, offered_in}
 use Rattle.sg_gateway.specs.Early.{early_manual, early_offer}
-use Rattle.sg_gateway.specs.Signals.{Answer, refused, new_call, in_new, in_old, tells_live, tells_text, manual_answer, offered_to}
+use Rattle.sg_gateway.specs.Signals.{Answer, refused, new_call, in_new, in_old, tells_live, tells_text, manual_answer, offered_to, answered}
 use Rattle.sg_gateway.specs.World.{Call, World, call_of, is_full}
 use Rattle.sg_leg.specs.declared.books.Books.{Books}
 use Rattle.sg_table.proofs.Found.{CallAt, none_at, call_at}
@@ -91,3 +91,8 @@ module _ (table : TableValue) (w : World) (holds : Holds table w) where
 
   pub offer_needs : (id : CallId) → position (has_id id) table.calls ≡ None → length table.calls < 256 → early_offer w (call_of w id) ≡ None
   offer_needs id none f = ap (early_offer w) (no_call id none) ∙ ap (λ b. cond b (Some TableFull) None) (room f)
+
+  -- ---- an answer
+
+  pub answer_unknown : (id : CallId) (noise text : List ℕ) → position (has_id id) table.calls ≡ None → answered w id noise text (call_of w id) ≡ refused w (Some id) CallUnknown
+  answer_unknown id noise text e = ap (answered w id noise text) (no_call id e)

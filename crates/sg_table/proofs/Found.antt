@@ -20,7 +20,7 @@ pub record CallAt (pairs : List Pair) (id : CallId) (calls : List CallValue) (cs
   pub at : get_or cs i call ≡ call
   pub stands : (d : CallValue) → CallStandsFor pairs (get_or calls i d) call
 
-get_any : {X : Type 0} (xs : List X) (i : ℕ) (d e : X) → i < length xs → get_or xs i d ≡ get_or xs i e
+pub get_any : {X : Type 0} (xs : List X) (i : ℕ) (d e : X) → i < length xs → get_or xs i d ≡ get_or xs i e
 get_any [] i d e lt = absurd (omega (arith, lt))
 get_any (x ∷ xs) zero d e lt = refl
 get_any (x ∷ xs) (suc i) d e lt = get_any xs i d e (omega (arith, lt))

@@ -13,7 +13,7 @@ use Rattle.sg_base.specs.declared.addresses.Side.{Side}
 use Rattle.sg_base.specs.declared.faults.Fault.{Fault}
 use Rattle.sg_base.specs.declared.faults.Fault.TheVariants as faults
 use Rattle.sg_base.specs.declared.faults.Refusal.{Refusal}
-use Rattle.sg_base.specs.declared.faults.Refusal.TheVariants.{CallUnknown, State}
+use Rattle.sg_base.specs.declared.faults.Refusal.TheVariants.{State}
 use Rattle.sg_call.proofs.MorePairs.{has_pairs}
 use Rattle.sg_call.specs.Settling.{BooksStandFor, Settles, IsSettled, IsKeyed}
 use Rattle.sg_call.specs.Standing.{CallStandsFor}
@@ -190,8 +190,3 @@ module _ (calls : List CallValue) (books : Books) (now : ℕ) (w : World) (holds
 
     pub answer_needs : (side : Side) → ((pairs : List Pair) (c : Call) → CallStandsFor pairs (get_or calls i d) c → Some side ≡ option_map (λ (o : Offer). o.side) c.offer) → early_answer (call_of w id) ≡ None
     answer_needs side of_side = ap early_answer at.is_call ∙ ap (λ b. cond b None (Some State)) (some_offer side at.call.offer (of_side w.books.pairs at.call (at.stands d)))
-
-  pub answer_unknown : (id : CallId) → position (has_id id) calls ≡ None → (noise text : List ℕ) → (outs : List (Option Outcome)) → Tells outs (Refused (Some id) CallUnknown ∷ [])
-      → IsAnswered outs (held calls books now) (answered w id noise text (call_of w id))
-  answer_unknown id e noise text outs tells =
-      subst (IsAnswered outs (held calls books now)) (sym (ap (answered w id noise text) (no_call (held calls books now) w holds id e))) (record { tells = tells; holds = holds })

@@ -90,7 +90,7 @@ impl Calls {
             return Ok(refused(id, Refusal::TableFull));
         };
         let mut call = Call::make(alloc, id, slot)?;
-        let keyed = call.manual(
+        match call.manual(
             alloc,
             secure,
             plain,
@@ -100,8 +100,7 @@ impl Calls {
             to_peer,
             self.moment,
             &mut self.books,
-        );
-        match keyed {
+        ) {
             Ok(()) => Ok(self.seat(id, slot, call, Outcome::Live { call: id })),
             Err(Fault::Refused(cause)) => Ok(refused(id, cause)),
             Err(Fault::NoMemory) => Err(NoMemory),
