@@ -1,85 +1,186 @@
--- A datagram in a world that the table stands for.
-use Rattle.std.proofs.Common.{◌≡◌, ℕ, ◌+◌, ◌*◌, ◌<◌, ◌&&◌, List, [], ◌∷◌, length, get_or, Some, None, refl, sym, ◌∙◌, subst, leb, ltb}
+-- A datagram in a world that a table stands for.
+use Rattle.std.proofs.Common.{◌≡◌, ℕ, zero, suc, ◌+◌, ◌%◌, ◌<◌, ◌≤◌, Bool, true, false, cond, List, [], ◌∷◌, length, get_or, map, Option, Some, None, refl, sym, ap, ◌∙◌, subst, arith}
 use Rattle.std.proofs.Math.ListN.{set}
-use Rattle.std.proofs.lemmas.List.{length-set, get_or_default}
-use Rattle.std.specs.List.{position}
+use Rattle.std.proofs.lemmas.Bool.{cond-true, cond-false}
+use Rattle.std.proofs.lemmas.List.Elements.{recursion_from_All}
+use Rattle.std.specs.List.{AllByRecursion, position, position_from}
 use Rattle.sg_base.proofs.Cases.{none_some}
-use Rattle.sg_session.specs.Ring.{RingKey}
 use Rattle.sg_base.specs.declared.addresses.Address.{Address}
 use Rattle.sg_base.specs.declared.faults.DropCause.TheVariants.{PortUnused}
-use Rattle.sg_gateway.proofs.Arrivals.{arrival}
-use Rattle.sg_gateway.proofs.InTurn.{after_is}
-use Rattle.sg_gateway.proofs.CallList.{found_at, from_at, from_set}
-use Rattle.sg_gateway.proofs.ToldInWorld.{IsHappening, unused, happened}
-use Rattle.sg_gateway.specs.Batch as batch
-use Rattle.sg_gateway.specs.Datagrams.{Happening, arrived_in, arrived_at}
+use Rattle.sg_call.specs.Handling.{handled_of}
+use Rattle.sg_call.specs.Settling.{BooksStandFor}
+use Rattle.sg_call.specs.Standing.{CallStandsFor}
+use Rattle.sg_call.specs.Values.{CallValue}
+use Rattle.sg_call.specs.declared.handled.End.TheVariants.{Dropped}
+use Rattle.sg_call.specs.declared.handled.Handled.{Handled}
+use Rattle.sg_gateway.proofs.Pairs.{Pairs, pairs_from}
+use Rattle.sg_gateway.proofs.ToldInWorld.{told_of}
+use Rattle.sg_gateway.specs.Batch.{Arrived, AreDrained, after, event_of, given_by, given_in}
+use Rattle.sg_gateway.specs.Datagrams.{Given, Drops, Puts, arrived_at, arrived_in, given_to}
+use Rattle.sg_gateway.specs.Octets.{as_octets}
+use Rattle.sg_gateway.specs.Order.{IsBefore, IsOrderly, EachWorldIsOrderly}
 use Rattle.sg_gateway.specs.Ports.{call_at, has_port}
-use Rattle.sg_gateway.specs.World.{Call, World}
-use Rattle.sg_table.proofs.Paired.{stands_at, stands_set, position_same}
-use Rattle.sg_table.specs.Handling.{IsArrived, IsHandled, outcome_of}
-use Rattle.sg_table.specs.Standing.{CallStandsFor, TableStandsFor, has_call_port}
-use Rattle.sg_table.specs.declared.call.Call.{Call as TableCall}
-use Rattle.sg_table.specs.declared.handled.End.TheVariants.{Dropped}
-use Rattle.sg_table.specs.declared.handled.Handled.{Handled}
+use Rattle.sg_gateway.specs.Runs.{world_after}
+use Rattle.sg_gateway.specs.Step.{Event}
+use Rattle.sg_gateway.specs.World.{Books, Call, World, empty, find_call}
+use Rattle.sg_leg.specs.Pairs.{EachPair}
+use Rattle.sg_leg.specs.declared.books.Books as declared
+use Rattle.sg_psk.specs.declared.pairs.Pair.{Pair}
+use Rattle.sg_table.proofs.Answered.{quiet_set}
+use Rattle.sg_table.proofs.Sharing.{call_ports}
+use Rattle.sg_table.proofs.Slots.{to_position, none_of, others}
+use Rattle.sg_table.proofs.Stepped.{run_goes_on}
+use Rattle.sg_table.proofs.Turns.{turn, one_turn, same_moment, same_books}
+use Rattle.sg_table.specs.Handling.{outcome_of, IsBack, IsHandled}
+use Rattle.sg_table.specs.Octets.{AreOctets}
+use Rattle.sg_table.specs.Parts.{TakesTurns}
+use Rattle.sg_table.specs.Standing.{Holds, TableStandsFor}
+use Rattle.sg_table.specs.Values.{TableValue, Shape, shape_of, shapes_of, has_call_port, AreRising, IsQuiet, AreQuiet}
 
-same_ports : (port : ℕ) (call : TableCall) (c : Call) → CallStandsFor call c → has_call_port port call ≡ has_port port c
-same_ports port call c h = let slot = h.slot in let media = h.media in
-    (λ i. leb (20000 + 16 * slot i + 4 * 0 + 0) port && ltb port (20000 + 16 * slot i + 4 * sym media i + 0))
+-- a world that a table stands for is one of a run
+pub turns_of : ((events : List Event) (arrived : List Arrived) → AreDrained (world_after empty events) arrived) → (table : TableValue) (w : World) → TableStandsFor table w → TakesTurns w
+turns_of law table w s = subst TakesTurns (sym s.is_after) (law s.history)
 
-module _ (calls : List TableCall) (ring : List RingKey) (w : World) (stands : TableStandsFor (record { calls = calls; ring = ring }) w) (port : ℕ) (from : Address) (d : List ℕ) where
-  abbrev here : Happening
-  here = arrived_at w port from d (call_at w port)
+orderly_of : ((events : List Event) → EachWorldIsOrderly events) → (table : TableValue) (w : World) → TableStandsFor table w → IsOrderly w
+orderly_of law table w s = subst IsOrderly (sym s.is_after) (law s.history).1
 
-  place_is : position (has_call_port port) calls ≡ position (has_port port) w.calls
-  place_is = position_same CallStandsFor (has_call_port port) (has_port port) (same_ports port) calls w.calls stands.calls
+-- the calls of a table rise
+later_shapes : (pairs : List Pair) (c : Call) (call : CallValue) → c.slot ≡ call.slot → (calls : List CallValue) (cs : List Call) → EachPair (CallStandsFor pairs) calls cs → AllByRecursion (IsBefore c) cs
+    → AllByRecursion (λ (t : Shape). call.slot < t.slot) (shapes_of calls)
+later_shapes pairs c call is [] [] h p = tt
+later_shapes pairs c call is [] (d ∷ ds) h p = absurd h
+later_shapes pairs c call is (k ∷ calls) [] h p = absurd h
+later_shapes pairs c call is (k ∷ calls) (d ∷ ds) h p = ((let a = p.0.slot in let b = h.0.slot_is in omega (arith, a, b, is)), later_shapes pairs c call is calls ds h.1 p.1)
 
-  pub no_call : position (has_call_port port) calls ≡ None → IsHandled port d (record { pad = d; end = Dropped PortUnused }) (record { calls = calls; ring = ring }) here
+rising_from : (pairs : List Pair) (calls : List CallValue) (cs : List Call) → EachPair (CallStandsFor pairs) calls cs → Pairs IsBefore cs → AllByRecursion (λ c. c.slot < 256) cs → AreRising (shapes_of calls)
+rising_from pairs [] [] h o low = tt
+rising_from pairs [] (c ∷ cs) h o low = absurd h
+rising_from pairs (call ∷ calls) [] h o low = absurd h
+rising_from pairs (call ∷ calls) (c ∷ cs) h o low = (
+  subst (λ n. n ≤ 4) h.0.media_are h.0.few,
+  subst (λ n. n < 256) h.0.slot_is low.0,
+  later_shapes pairs c call h.0.slot_is calls cs h.1 o.0,
+  rising_from pairs calls cs h.1 o.1 low.1,
+)
+
+pub rising_of : ((events : List Event) → EachWorldIsOrderly events) → (table : TableValue) (w : World) → TableStandsFor table w → AreRising (shapes_of table.calls)
+rising_of law table w s =
+    let orderly = orderly_of law table w s in
+    rising_from w.books.pairs table.calls w.calls s.holds.calls (pairs_from IsBefore w.calls orderly.rising) (recursion_from_All (λ (c : Call). c.slot < 256) w.calls orderly.slots)
+
+module _ (pairs : List Pair) (now : ℕ) (a : Arrived) where
+  unturned : (calls : List CallValue) (cs : List Call) → EachPair (CallStandsFor pairs) calls cs → AllByRecursion (λ c. has_call_port a.port c ≡ false) calls → EachPair (CallStandsFor pairs) calls (map (turn now a) cs)
+  unturned [] [] h p = tt
+  unturned [] (c ∷ cs) h p = absurd h
+  unturned (call ∷ calls) [] h p = absurd h
+  unturned (call ∷ calls) (c ∷ cs) h p =
+      (subst (CallStandsFor pairs call) (sym (cond-false _ _ _ (sym (call_ports pairs a.port call c h.0) ∙ p.0))) h.0, unturned calls cs h.1 p.1)
+
+  none_found : (calls : List CallValue) (cs : List Call) → EachPair (CallStandsFor pairs) calls cs → AllByRecursion (λ c. has_call_port a.port c ≡ false) calls → find_call (has_port a.port) cs ≡ None
+  none_found [] [] h p = refl
+  none_found [] (c ∷ cs) h p = absurd h
+  none_found (call ∷ calls) [] h p = absurd h
+  none_found (call ∷ calls) (c ∷ cs) h p = cond-false _ _ _ (sym (call_ports pairs a.port call c h.0) ∙ p.0) ∙ none_found calls cs h.1 p.1
+
+  -- the call at a place
+  pub record FoundAt (calls : List CallValue) (cs : List Call) (j : ℕ) (e : CallValue) (new : CallValue) : Type 0 where
+    pub call : Call
+    pub stands : CallStandsFor pairs (get_or calls j e) call
+    pub found : find_call (has_port a.port) cs ≡ Some call
+    pub turned : CallStandsFor pairs new (after (given_by now call a) call) → EachPair (CallStandsFor pairs) (set calls j new) (map (turn now a) cs)
+
+  found_from : (k i : ℕ) (e new : CallValue) (calls : List CallValue) (cs : List Call) → EachPair (CallStandsFor pairs) calls cs → AreRising (shapes_of calls) → position_from (has_call_port a.port) k calls ≡ Some i
+      → (j : ℕ) × (i ≡ k + j) × FoundAt calls cs j e new
+  found_from k i e new [] [] h r is = absurd (none_some i is)
+  found_from k i e new [] (c ∷ cs) h r is = absurd h
+  found_from k i e new (call ∷ calls) [] h r is = absurd h
+  found_from k i e new (call ∷ calls) (c ∷ cs) h r is = go (has_call_port a.port call) refl (found_from (k + 1) i e new calls cs h.1 r.3) is
+    where
+      go : (b : Bool) → has_call_port a.port call ≡ b → (position_from (has_call_port a.port) (k + 1) calls ≡ Some i → (j : ℕ) × (i ≡ (k + 1) + j) × FoundAt calls cs j e new)
+          → cond b (Some k) (position_from (has_call_port a.port) (k + 1) calls) ≡ Some i → (j : ℕ) × (i ≡ k + j) × FoundAt (call ∷ calls) (c ∷ cs) j e new
+      go true has rest is =
+          let same : k ≡ i = cc in
+          let of_c : has_port a.port c ≡ true = sym (call_ports pairs a.port call c h.0) ∙ has in (
+            0,
+            omega (arith, same),
+            record {
+              call = c;
+              stands = h.0;
+              found = cond-true _ _ _ of_c;
+              turned = λ s. (subst (CallStandsFor pairs new) (sym (cond-true _ _ _ of_c)) s, unturned calls cs h.1 (others a.port (λ x. x) call calls r has));
+            },
+          )
+      go false no_port rest is =
+          let (j, is_j, f) = rest is in
+          let of_c : has_port a.port c ≡ false = sym (call_ports pairs a.port call c h.0) ∙ no_port in (
+            suc j,
+            omega (arith, is_j),
+            record {
+              call = f.call;
+              stands = f.stands;
+              found = cond-false _ _ _ of_c ∙ f.found;
+              turned = λ s. (subst (CallStandsFor pairs call) (sym (cond-false _ _ _ of_c)) h.0, f.turned s);
+            },
+          )
+
+pub quiet_at : (calls : List CallValue) (i : ℕ) (d : CallValue) → AreQuiet calls → i < length calls → IsQuiet (get_or calls i d)
+quiet_at [] i d q lt = absurd (omega (arith, lt))
+quiet_at (c ∷ cs) zero d q lt = q.0
+quiet_at (c ∷ cs) (suc i) d q lt = quiet_at cs i d q.1 (omega (arith, lt))
+
+-- what is handed back tells what is given
+pub given_told : (w : World) (port : ℕ) (d : List ℕ) (g : Given) → outcome_of port (handled_of d g) ∷ [] ≡ (given_to w port g).outcomes
+given_told w port d (Drops cause) = refl
+given_told w port d (Puts p) = refl
+
+given_back : (d : List ℕ) (g : Given) → IsBack d (handled_of d g).pad (handled_of d g).end
+given_back d (Drops cause) = refl
+given_back d (Puts p) = tt
+
+module _ (calls : List CallValue) (books : declared.Books) (now port : ℕ) (from : Address) (d : List ℕ) (octets : AreOctets d) (w : World)
+    (stands : TableStandsFor (record { calls = calls; books = books; moment = now }) w) (turns : TakesTurns w) where
+  abbrev a : Arrived
+  a = record { port = port; from = from; octets = as_octets d }
+
+  table_after : (calls' : List CallValue) → EachPair (CallStandsFor w.books.pairs) calls' (map (turn w.moment a) w.calls) → AreQuiet calls'
+      → TableStandsFor (record { calls = calls'; books = books; moment = now }) (world_after w (event_of a ∷ []))
+  table_after calls' h q = run_goes_on (record { calls = calls; books = books; moment = now }) (record { calls = calls'; books = books; moment = now }) w (event_of a ∷ []) stands (record {
+    calls = subst (λ (b : Books). EachPair (CallStandsFor b.pairs) calls' (given_in w a).world.calls) (sym (same_books w a)) (subst (EachPair (CallStandsFor w.books.pairs) calls') (sym (one_turn w a turns)) h);
+    books = subst (BooksStandFor books) (sym (same_books w a)) stands.holds.books;
+    moment_is = same_moment w a ∙ stands.holds.moment_is;
+    quiet = q;
+  })
+
+  pub no_call : position (has_call_port port) calls ≡ None → IsHandled w port from d (record { pad = d; end = Dropped PortUnused }) (record { calls = calls; books = books; moment = now })
   no_call none =
-      let h = unused w port from d (sym place_is ∙ none) in
-      record { told = h.told; kept = refl; stands = subst (TableStandsFor (record { calls = calls; ring = ring })) h.after stands }
-
-  module _ (i : ℕ) (at : position (has_call_port port) calls ≡ Some i) (other new : TableCall) (h : Handled)
-      (arrives : (now : ℕ) (c : Call) → CallStandsFor (get_or calls i other) c → IsArrived now port from d c h new) where
-    at_call : position (has_port port) w.calls ≡ Some i
-    at_call = sym place_is ∙ at
-
-    module _ (any : Call) where
-      abbrev one : Call
-      one = get_or w.calls i any
-
-      within : i < length w.calls
-      within = (found_at (has_port port) w.calls i any at_call).0
-
-      arrived : IsArrived w.moment port from d one h new
-      arrived = arrives w.moment one (stands_at CallStandsFor calls w.calls i other any stands.calls within)
-
-      abbrev left : Call
-      left = batch.after (arrived_in w.moment port from d one) one
-
-      happens_so : IsHappening (outcome_of port h) (record w { calls = set w.calls i left }) here
-      happens_so = happened w port from d stands.from i one at_call (get_or_default w.calls i any one within) (outcome_of port h) left arrived.told refl
-
-      left_from : (left.slot ≡ 0 + i) × (left.serial ≡ 0 + i)
-      left_from =
-          let same = after_is w.moment port d one (arrived_in w.moment port from d one) (arrival w.moment port from d one) in
-          let places = from_at 0 w.calls i any stands.from within in
-          (same.slot ∙ places.0, same.serial ∙ places.1)
-
-      stands_so : TableStandsFor (record { calls = set calls i new; ring = ring }) (record w { calls = set w.calls i left })
-      stands_so = record {
-        calls = stands_set CallStandsFor calls w.calls i new left stands.calls arrived.stands;
-        made = stands.made ∙ sym (length-set w.calls i left);
-        from = from_set 0 w.calls i left stands.from left_from.0 left_from.1;
-        ring = stands.ring;
+      let each = none_of port (λ x. x) 0 calls (sym (to_position (has_call_port port) calls) ∙ none) in
+      let unfound : call_at w port ≡ None = none_found w.books.pairs w.moment a calls w.calls stands.holds.calls each in
+      record {
+        told = told_of w port from d (outcome_of port (record { pad = d; end = Dropped PortUnused })) octets (sym (ap (λ o. (arrived_at w port from d o).outcomes) unfound));
+        back = refl;
+        stands = table_after calls (unturned w.books.pairs w.moment a calls w.calls stands.holds.calls each) stands.holds.quiet;
       }
 
-      handled_one : IsHandled port d h (record { calls = set calls i new; ring = ring }) here
-      handled_one = record { told = happens_so.told; kept = arrived.kept; stands = subst (TableStandsFor (record { calls = set calls i new; ring = ring })) happens_so.after stands_so }
+  pub some_call : AreRising (shapes_of calls) → (i : ℕ) (e new : CallValue) (h : Handled) → position (has_call_port port) calls ≡ Some i
+      → ((pairs : List Pair) (c : Call) → CallStandsFor pairs (get_or calls i e) c → h ≡ handled_of d (arrived_in now port from d c))
+      → ((pairs : List Pair) (c : Call) → CallStandsFor pairs (get_or calls i e) c → CallStandsFor pairs new (after (arrived_in now port from d c) c))
+      → (new.waiting ≡ (get_or calls i e).waiting) × (new.handled ≡ (get_or calls i e).handled) → i < length calls → IsHandled w port from d h (record { calls = set calls i new; books = books; moment = now })
+  some_call rising i e new h is answer left inbox within =
+      let ps = w.books.pairs in
+      let (j, is_j, f) = found_from ps w.moment a 0 i e new calls w.calls stands.holds.calls rising (sym (to_position (has_call_port port) calls) ∙ is) in
+      let same : j ≡ i = omega (arith, is_j) in
+      let g : FoundAt ps w.moment a calls w.calls i e new = subst (λ n. FoundAt ps w.moment a calls w.calls n e new) same f in
+      let handled : h ≡ handled_of d (arrived_in w.moment port from d g.call) = answer ps g.call g.stands ∙ ap (λ n. handled_of d (arrived_in n port from d g.call)) (sym stands.holds.moment_is) in
+      record {
+        told = told_of w port from d (outcome_of port h) octets (ap (λ h. outcome_of port h ∷ []) handled ∙ given_told w port d (arrived_in w.moment port from d g.call) ∙ sym (ap (λ o. (arrived_at w port from d o).outcomes) g.found));
+        back = subst (λ (h : Handled). IsBack d h.pad h.end) (sym handled) (given_back d (arrived_in w.moment port from d g.call));
+        stands = table_after (set calls i new)
+            (g.turned (subst (λ n. CallStandsFor ps new (after (arrived_in n port from (as_octets d).items g.call) g.call)) (sym stands.holds.moment_is)
+            (subst (λ x. CallStandsFor ps new (after (arrived_in now port from x g.call) g.call)) (sym octets) (left ps g.call g.stands))))
+            (quiet_set calls i new stands.holds.quiet (let q = quiet_at calls i e stands.holds.quiet within in (inbox.0 ∙ q.0, inbox.1 ∙ q.1)));
+      }
 
-    -- some call is there
-    with_some : (P : Type 0) → ((c : Call) → P) → (cs : List Call) → position (has_port port) cs ≡ Some i → P
-    with_some P f [] e = absurd (none_some i e)
-    with_some P f (c ∷ cs) e = f c
-
-    pub by_call : IsHandled port d h (record { calls = set calls i new; ring = ring }) here
-    by_call = with_some _ handled_one w.calls at_call
+pub shapes_set : (calls : List CallValue) (i : ℕ) (d new : CallValue) → shape_of new ≡ shape_of (get_or calls i d) → shapes_of (set calls i new) ≡ shapes_of calls
+shapes_set [] i d new e = refl
+shapes_set (c ∷ cs) zero d new e = (λ i. e i ∷ shapes_of cs)
+shapes_set (c ∷ cs) (suc i) d new e = ap (λ l. shape_of c ∷ l) (shapes_set cs i d new e)

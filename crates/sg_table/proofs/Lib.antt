@@ -1,7 +1,20 @@
-mod Arriving
-mod Delivering
-mod Installed
-mod ManualPaths
-mod Paired
-mod Paths
-mod Telling
+pub mod Answered
+pub mod Answering
+pub mod Batching
+pub mod Delivering
+pub mod Early
+pub mod Ending
+pub mod Found
+pub mod FreeSlot
+pub mod Gathering
+pub mod Indexed
+pub mod Outing
+pub mod PairAdded
+pub mod Pairing
+pub mod Settled
+pub mod Sharing
+pub mod Signalled
+pub mod Slots
+pub mod Stepped
+pub mod Ticking
+pub mod Turns

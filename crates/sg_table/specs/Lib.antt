@@ -1,4 +1,11 @@
+pub mod Batches
+pub mod Ends
+pub mod Found
+pub mod Free
 pub mod Handling
-pub mod Keying
+pub mod Octets
+pub mod Parts
+pub mod Slots
 pub mod Standing
 pub mod Telling
+pub mod Values

@@ -1,14 +1,25 @@
-//! The table of calls that the gateway runs on: it keeps what the definitions need of all that is done, and
-//! a datagram takes no memory.
+//! The table of calls that the gateway runs on: signals make, key and end calls, and datagrams go through them
+//! without memory.
 #![tactic(auto)]
 
-mod call;
-mod gateway;
-mod handled;
-mod manual;
-mod path;
+mod arrival;
+mod batch;
+#[cfg(test)]
+mod batch_tests;
+mod calls;
+mod delivery;
+mod ends;
+mod octets;
+mod pairs;
+mod places;
+mod ports;
+mod signals;
 mod table;
+#[cfg(test)]
+mod tests;
+mod told;
 
-pub use handled::{End, Handled};
-pub use manual::Manual;
+pub use arrival::Arrival;
+pub use sg_call::{End, Handled};
 pub use table::Table;
+pub use told::Told;

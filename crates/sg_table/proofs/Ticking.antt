@@ -1,0 +1,152 @@
+-- What a table holds after a tick.
+use Rattle.std.proofs.Common.{◌≡◌, ℕ, zero, suc, ◌+◌, ◌<◌, ◌≤◌, Bool, true, false, cond, not, List, [], ◌∷◌, ◌++◌, length, get_or, map, take, Option, Some, None, refl, sym, ap, ◌∙◌, subst, arith, eqb, leb, ltb, inl, inr}
+use Rattle.std.proofs.Math.ListN.{set}
+use Rattle.std.proofs.lemmas.Bool.{cases_Bool, eqb-true, eq-eqb, false≢true, lt-ltb, le-ltb}
+use Rattle.std.proofs.Math.Seq.{take-suc}
+use Rattle.std.proofs.lemmas.List.{get_or-set_same, get_or-set_other, map-append}
+use Rattle.std.specs.List.{AllByRecursion, filter}
+use Rattle.sg_base.specs.declared.faults.Refusal.TheVariants.{TickBack}
+use Rattle.sg_call.proofs.Passing.{filter_append}
+use Rattle.sg_call.specs.Standing.{CallStandsFor}
+use Rattle.sg_call.specs.Values.{CallValue}
+use Rattle.sg_gateway.specs.CallSignals.{is_idle, call_at_tick}
+use Rattle.sg_gateway.specs.Signals.{Answer, answer, ended, refused, ticked}
+use Rattle.sg_gateway.specs.World.{Call, World}
+use Rattle.sg_leg.specs.Pairs.{EachPair}
+use Rattle.sg_leg.specs.declared.books.Books.{Books}
+use Rattle.sg_outcome.specs.declared.outcomes.Outcome.{Outcome}
+use Rattle.sg_outcome.specs.declared.outcomes.Outcome.TheVariants.{Ended, Refused}
+use Rattle.sg_outcome.specs.declared.outcomes.Why.TheVariants as why
+use Rattle.sg_psk.specs.declared.pairs.Pair.{Pair}
+use Rattle.sg_table.proofs.Pairing.{pairs_from_each}
+use Rattle.sg_table.specs.Ends.{ended_as, idles, IsTicked}
+use Rattle.sg_table.specs.Standing.{Holds}
+use Rattle.sg_table.specs.Telling.{Tells, IsAnswered}
+use Rattle.sg_table.specs.Values.{TableValue, AreQuiet}
+
+module _ (pairs : List Pair) (now : ℕ) where
+  idles_same : (call : CallValue) (c : Call) → CallStandsFor pairs call c → idles now call ≡ is_idle now c
+  idles_same call c h = ap (λ n. leb (n + 60000) now) (sym h.moment_is)
+
+  ended_same : (call : CallValue) (c : Call) → CallStandsFor pairs call c → ended_as why.Idle call ≡ ended why.Idle c
+  ended_same call c h = (λ i. Ended (sym h.id_is i) (sym h.slot_is i) (sym h.media_are i) why.Idle)
+
+  told_same : (calls : List CallValue) (cs : List Call) → EachPair (CallStandsFor pairs) calls cs → map (ended_as why.Idle) (filter (idles now) calls) ≡ map (ended why.Idle) (filter (is_idle now) cs)
+  told_same [] [] h = refl
+  told_same [] (c ∷ cs) h = absurd h
+  told_same (call ∷ calls) [] h = absurd h
+  told_same (call ∷ calls) (c ∷ cs) h =
+      ap (λ b. map (ended_as why.Idle) (cond b (call ∷ filter (idles now) calls) (filter (idles now) calls))) (idles_same call c h.0) ∙ go (is_idle now c) (told_same calls cs h.1)
+    where
+      go : (b : Bool) → map (ended_as why.Idle) (filter (idles now) calls) ≡ map (ended why.Idle) (filter (is_idle now) cs)
+          → map (ended_as why.Idle) (cond b (call ∷ filter (idles now) calls) (filter (idles now) calls)) ≡ map (ended why.Idle) (cond b (c ∷ filter (is_idle now) cs) (filter (is_idle now) cs))
+      go true rest = (λ i. ended_same call c h.0 i ∷ rest i)
+      go false rest = rest
+
+  kept : (calls : List CallValue) (cs : List Call) → EachPair (CallStandsFor pairs) calls cs → EachPair (CallStandsFor pairs) (filter (λ c. not (idles now c)) calls) (filter (λ c. not (is_idle now c)) cs)
+  kept [] [] h = tt
+  kept [] (c ∷ cs) h = absurd h
+  kept (call ∷ calls) [] h = absurd h
+  kept (call ∷ calls) (c ∷ cs) h =
+      subst (λ b. EachPair (CallStandsFor pairs) (cond (not b) (call ∷ filter (λ c. not (idles now c)) calls) (filter (λ c. not (idles now c)) calls)) (filter (λ c. not (is_idle now c)) (c ∷ cs))) (sym (idles_same call c h.0))
+      (go (is_idle now c) (kept calls cs h.1))
+    where
+      go : (b : Bool) → EachPair (CallStandsFor pairs) (filter (λ c. not (idles now c)) calls) (filter (λ c. not (is_idle now c)) cs)
+          → EachPair (CallStandsFor pairs) (cond (not b) (call ∷ filter (λ c. not (idles now c)) calls) (filter (λ c. not (idles now c)) calls)) (cond (not b) (c ∷ filter (λ c. not (is_idle now c)) cs) (filter (λ c. not (is_idle now c)) cs))
+      go true rest = rest
+      go false rest = (h.0, rest)
+
+  ticked_stand : (calls new : List CallValue) (cs : List Call) → EachPair (CallStandsFor pairs) calls cs → EachPair (IsTicked now) calls new → EachPair (CallStandsFor pairs) new (map (call_at_tick now) cs)
+  ticked_stand [] [] [] h t = tt
+  ticked_stand [] (n ∷ ns) [] h t = absurd t
+  ticked_stand [] new (c ∷ cs) h t = absurd h
+  ticked_stand (call ∷ calls) new [] h t = absurd h
+  ticked_stand (call ∷ calls) [] (c ∷ cs) h t = absurd t
+  ticked_stand (call ∷ calls) (n ∷ ns) (c ∷ cs) h t = (t.0.stands pairs c h.0, ticked_stand calls ns cs h.1 t.1)
+
+quiet_kept : (test : CallValue → Bool) (calls : List CallValue) → AreQuiet calls → AreQuiet (filter test calls)
+quiet_kept test [] q = tt
+quiet_kept test (c ∷ cs) q = go (test c) (quiet_kept test cs q.1)
+  where
+    go : (b : Bool) → AreQuiet (filter test cs) → AreQuiet (cond b (c ∷ filter test cs) (filter test cs))
+    go true rest = (q.0, rest)
+    go false rest = rest
+
+quiet_ticked : (now : ℕ) (calls new : List CallValue) → EachPair (IsTicked now) calls new → AreQuiet calls → AreQuiet new
+quiet_ticked now [] [] t q = tt
+quiet_ticked now [] (n ∷ ns) t q = absurd t
+quiet_ticked now (c ∷ cs) [] t q = absurd t
+quiet_ticked now (c ∷ cs) (n ∷ ns) t q = ((t.0.waiting ∙ q.0.0, t.0.handled ∙ q.0.1), quiet_ticked now cs ns t.1 q.1)
+
+module _ (calls : List CallValue) (books : Books) (last now : ℕ) (w : World) (holds : Holds (record { calls = calls; books = books; moment = last }) w) (outs : List (Option Outcome)) where
+  abbrev goes_on : Answer
+  goes_on = answer (map (ended why.Idle) (filter (is_idle now) w.calls)) (record w { calls = map (call_at_tick now) (filter (λ c. not (is_idle now c)) w.calls); moment = now })
+
+  ticked_by : (b : Bool) → ltb now last ≡ b → ticked w now ≡ cond b (refused w None (TickBack w.moment)) goes_on
+  ticked_by b is = ap (λ t. cond t (refused w None (TickBack w.moment)) goes_on) (ap (ltb now) holds.moment_is ∙ is)
+
+  pub tick_back : now < last → Tells outs (Refused None (TickBack last) ∷ []) → IsAnswered outs (record { calls = calls; books = books; moment = last }) (ticked w now)
+  tick_back lt tells = subst (IsAnswered outs (record { calls = calls; books = books; moment = last })) (sym (ticked_by true (lt-ltb now last lt)))
+      (record { tells = tells ∙ ap (λ n. Some (Refused None (TickBack n)) ∷ []) (sym holds.moment_is); holds = holds })
+
+  pub tick_on : (awake new : List CallValue) → last ≤ now → Tells outs (map (ended_as why.Idle) (filter (idles now) calls)) → awake ≡ filter (λ c. not (idles now c)) calls → EachPair (IsTicked now) awake new
+      → IsAnswered outs (record { calls = new; books = books; moment = now }) (ticked w now)
+  tick_on awake new le tells are ticks = subst (IsAnswered outs (record { calls = new; books = books; moment = now })) (sym (ticked_by false (le-ltb now last le)))
+      (record {
+        tells = tells ∙ ap (map Some) (told_same w.books.pairs now calls w.calls holds.calls);
+        holds = record {
+          calls = ticked_stand w.books.pairs now awake new (filter (λ c. not (is_idle now c)) w.calls)
+              (subst (λ l. EachPair (CallStandsFor w.books.pairs) l (filter (λ c. not (is_idle now c)) w.calls)) (sym are) (kept w.books.pairs now calls w.calls holds.calls)) ticks;
+          books = holds.books;
+          moment_is = refl;
+          quiet = quiet_ticked now awake new ticks (subst AreQuiet (sym are) (quiet_kept (λ c. not (idles now c)) calls holds.quiet));
+        };
+      })
+
+-- the calls before this position are ticked
+pub record Ticks (now k : ℕ) (old calls : List CallValue) : Type 0 where
+  pub ticked : (i : ℕ) (d : CallValue) → i < k → i < length old → IsTicked now (get_or old i d) (get_or calls i d)
+  pub others : (i : ℕ) (d : CallValue) → k ≤ i → get_or calls i d ≡ get_or old i d
+
+pub ticks_none : (now : ℕ) (old : List CallValue) → Ticks now 0 old old
+ticks_none now old = record { ticked = λ i d lt within. absurd (omega (arith, lt)); others = λ i d le. refl }
+
+pub get_any : (xs : List CallValue) (i : ℕ) (d e : CallValue) → i < length xs → get_or xs i d ≡ get_or xs i e
+get_any [] i d e lt = absurd (omega (arith, lt))
+get_any (x ∷ xs) zero d e lt = refl
+get_any (x ∷ xs) (suc i) d e lt = get_any xs i d e (omega (arith, lt))
+
+pub ticks_next : (now k : ℕ) (old calls : List CallValue) (e new : CallValue) → k < length calls → IsTicked now (get_or calls k e) new → Ticks now k old calls → Ticks now (k + 1) old (set calls k new)
+ticks_next now k old calls e new lt this t = record {
+  ticked = λ i d below within. elim (cases_Bool (eqb i k)) [
+    | inl y ↦ (
+      let same : i ≡ k = eqb-true i k y in
+      subst (λ j. IsTicked now (get_or old j d) (get_or (set calls k new) j d)) (sym same)
+          (subst (IsTicked now (get_or old k d)) (sym (get_or-set_same calls k new d lt)) (subst (λ x. IsTicked now x new) (get_any calls k e d lt ∙ t.others k d (omega arith)) this))
+    )
+    | inr x ↦ (
+      let differ : i ≡ k → ⊥ = (λ same. false≢true (sym x ∙ eq-eqb i k same)) in
+      subst (IsTicked now (get_or old i d)) (sym (get_or-set_other calls k i new d differ)) (t.ticked i d (omega (arith, below, differ)) within)
+    )
+  ];
+  others = λ i d le. get_or-set_other calls k i new d (λ same. omega (arith, le, same)) ∙ t.others i d (omega (arith, le));
+}
+
+pub ticks_all : (now k : ℕ) (old calls : List CallValue) → length calls ≡ length old → length old ≤ k → Ticks now k old calls → EachPair (IsTicked now) old calls
+ticks_all now k old calls len le t = pairs_from_each (IsTicked now) old calls len (λ i d lt. t.ticked i d (omega (arith, le, lt)) lt)
+
+-- one call more is looked at
+pub idle_next : (now k : ℕ) (calls : List CallValue) (d : CallValue) → k < length calls → (b : Bool) → idles now (get_or calls k d) ≡ b
+    → map (ended_as why.Idle) (filter (idles now) (take (k + 1) calls)) ≡ map (ended_as why.Idle) (filter (idles now) (take k calls)) ++ cond b (ended_as why.Idle (get_or calls k d) ∷ []) []
+idle_next now k calls d lt b is =
+    let this = get_or calls k d in
+    let more : take (k + 1) calls ≡ take k calls ++ this ∷ [] = ap (λ n. take n calls) (let e : k + 1 ≡ suc k = omega arith in e) ∙ take-suc calls k d lt in
+    ap (λ l. map (ended_as why.Idle) (filter (idles now) l)) more
+    ∙ ap (map (ended_as why.Idle)) (filter_append (idles now) (take k calls) (this ∷ []))
+    ∙ map-append (ended_as why.Idle) (filter (idles now) (take k calls)) (filter (idles now) (this ∷ []))
+    ∙ ap (λ t. map (ended_as why.Idle) (filter (idles now) (take k calls)) ++ map (ended_as why.Idle) (cond t (this ∷ []) [])) is
+    ∙ ap (λ l. map (ended_as why.Idle) (filter (idles now) (take k calls)) ++ l) (go b)
+  where
+    go : (b : Bool) → map (ended_as why.Idle) (cond b (get_or calls k d ∷ []) []) ≡ cond b (ended_as why.Idle (get_or calls k d) ∷ []) []
+    go true = refl
+    go false = refl

@@ -1,0 +1,64 @@
+use Rattle.std.proofs.Common.{rules, ◌≡◌, ◌≤◌, ◌<◌, ◌+◌, ◌∙◌, sym, ap, subst, refl, true, false, get_or, List, [], ◌∷◌, ℕ, length, Option, Some, None, Result, Ok, Err}
+use Rattle.std.proofs.Math.ListN.{set}
+use Rattle.std.proofs.lemmas.Result.{IfOk-weaker}
+use Rattle.std.specs.List.{position}
+use Rattle.std.specs.Option.{is_some}
+use Rattle.std.specs.Result.{IfOk, OnErr}
+use Rattle.sg_agreement.specs.Manual.{ManualCall, manual_medium}
+use Rattle.sg_agreement.specs.Sides.{side_of, other_side}
+use Rattle.sg_base.specs.declared.faults.Refusal.TheVariants.{CallKnown, CallUnknown, TableFull}
+use Rattle.sg_call.specs.Settling.{IsSettled, IsKeyed}
+use Rattle.sg_call.specs.Standing.{CallStandsFor}
+use Rattle.sg_call.specs.Values.{CallValue}
+use Rattle.sg_gateway.specs.CallSignals.{keyed_manually, offered_in, answered_in}
+use Rattle.sg_gateway.specs.Early.{early_manual, early_offer, early_answer}
+use Rattle.sg_gateway.specs.Signals.{manual_answer, offered_to, answered, answer_to}
+use Rattle.sg_gateway.specs.World.{World, call_of, empty}
+use Rattle.sg_outcome.specs.declared.outcomes.Outcome.TheVariants.{Made, Live, Sdp, Refused}
+use Rattle.sg_table.proofs.Answered.{order_of, refused_holds, quiet_at, back_at}
+use Rattle.sg_table.proofs.Early.{manual_known, manual_full, manual_needs, offer_full, offer_needs, answer_unknown}
+use Rattle.sg_table.proofs.Found.{get_any}
+use Rattle.sg_table.proofs.Signalled.{held, on_err, manual_told, manual_refused, offer_new_told, offer_new_refused, offer_at_told, offer_at_refused, offer_at_needs, answer_told, answer_refused, answer_state, answer_needs, pairs_there}
+use Rattle.sg_table.specs.Found.{has_id}
+use Rattle.sg_table.specs.Free.{free_shape}
+use Rattle.sg_table.specs.Standing.{TableStandsFor}
+use Rattle.sg_table.specs.Telling.{Tells, IsAnswered}
+use Rattle.sg_table.specs.Values.{TableValue, IsQuiet, shapes_of}
+use Rattle.sg_table.specs.contracts.calls.Calls.{the_view}
+use Rattle.sg_table.proofs.calls.Calls.offer_in.Goals as goal
+
+pub returns-in_err-call-clause-needs : goal.returns-in_err-call-clause-needs
+returns-in_err-call-clause-needs c =
+    on_err _ ((w : World) → TableStandsFor c.args.self.now w → early_offer w (call_of w c.args.id) ≡ None) (λ w s. offer_needs c.args.self.now w s.holds c.args.id c.requires.new c.requires.room)
+
+pub returns-clause-needs : goal.returns-clause-needs
+returns-clause-needs c = λ w s. offer_needs c.args.self.now w s.holds c.args.id c.requires.new c.requires.room
+
+pub returns-in-Ok-clause-told : goal.returns-in-Ok-clause-told
+returns-in-Ok-clause-told c = λ w s.
+    let s' : TableStandsFor (the_view c.self.inside) w = subst (λ v. TableStandsFor v w) (sym c.self.view_is) s in
+    let order = order_of c.calls_in_order.ensures (the_view c.self.inside) w s' in
+    let none : position (has_id c.args.id) c.self.inside.by_slot.items ≡ None = subst (λ (v : TableValue). position (has_id c.args.id) v.calls ≡ None) (sym c.self.view_is) c.requires.new in
+    let room : length c.self.inside.by_slot.items < 256 = subst (λ (v : TableValue). length v.calls < 256) (sym c.self.view_is) c.requires.room in
+    let is_free : c.args.slot ≡ free_shape 0 (shapes_of c.self.inside.by_slot.items) = subst (λ (v : TableValue). c.args.slot ≡ free_shape 0 (shapes_of v.calls)) (sym c.self.view_is) c.requires.slot in
+    let side_is = c.other_side-side.ensures ∙ ap other_side c.side.ensures in
+    subst (λ t. IsAnswered c.seat.result.items t (offered_to w c.args.id c.args.way c.args.noise.now c.args.text.now (call_of w c.args.id))) (sym c.seat.ensures.calls)
+    (offer_new_told c.self.inside.by_slot.items c.self.inside.books c.self.inside.moment w s'.holds order c.args.id c.args.slot is_free c.in_ok-call.call c.in_ok-call.ensures.stands
+    c.offer.new.self c.offer.new.books c.in-Ok.ensures.psks (c.in-Ok.ensures.inbox.0 ∙ c.in_ok-call.ensures.inbox.0, c.in-Ok.ensures.inbox.1 ∙ c.in_ok-call.ensures.inbox.1)
+    c.args.way c.args.noise.now c.args.text.now c.in-Ok.text none room c.in-Ok.ensures.answer c.seat.result.items
+    (c.seat.ensures.told ∙ (λ j. Some (Made c.args.id c.offer.new.self.slot c.offer.new.self.media) ∷ (Some (Sdp c.args.id (side_is j) c.in-Ok.text) ∷ []))))
+
+pub returns-in-Err-Refused-clause-told : goal.returns-in-Err-Refused-clause-told
+returns-in-Err-Refused-clause-told c = λ w s.
+    let tells : Tells c.refused.result.items (Refused (Some c.args.id) c.in-Err-Refused.why ∷ []) = rw c.in-Err-Refused.field-0-is at c.refused.ensures in
+    let s' : TableStandsFor (the_view c.self.inside) w = subst (λ v. TableStandsFor v w) (sym c.self.view_is) s in
+    let order = order_of c.calls_in_order.ensures (the_view c.self.inside) w s' in
+    let none : position (has_id c.args.id) c.self.inside.by_slot.items ≡ None = subst (λ (v : TableValue). position (has_id c.args.id) v.calls ≡ None) (sym c.self.view_is) c.requires.new in
+    let room : length c.self.inside.by_slot.items < 256 = subst (λ (v : TableValue). length v.calls < 256) (sym c.self.view_is) c.requires.room in
+    let is_free : c.args.slot ≡ free_shape 0 (shapes_of c.self.inside.by_slot.items) = subst (λ (v : TableValue). c.args.slot ≡ free_shape 0 (shapes_of v.calls)) (sym c.self.view_is) c.requires.slot in
+    subst (λ b. IsAnswered c.refused.result.items (held c.self.inside.by_slot.items b c.self.inside.moment) (offered_to w c.args.id c.args.way c.args.noise.now c.args.text.now (call_of w c.args.id)))
+    (sym c.in-Err-Refused.ensures.back.1)
+    (offer_new_refused c.self.inside.by_slot.items c.self.inside.books c.self.inside.moment w s'.holds order c.args.id c.args.slot is_free c.in_ok-call.call c.in_ok-call.ensures.stands
+    c.args.way c.args.noise.now c.args.text.now none room c.in-Err-Refused.why
+    (λ k b stands books. subst (λ f. IsSettled (Err f) c.offer.new.self c.offer.new.books (offered_in c.self.inside.moment b k c.args.way c.args.noise.now c.args.text.now)) c.in-Err-Refused.field-0-is (c.in-Err-Refused.ensures.answer k b stands books))
+    c.refused.result.items tells)
