@@ -1,0 +1,72 @@
+-- How the causes of a part's answers follow one another.
+use Rattle.std.proofs.Common.{◌≡◌, ◌≤◌, ℕ, Bool, Option, Result, Ok, Err, refl, sym, ap, ◌∙◌, inl, inr, arith}
+use Rattle.std.specs.Prelude.{IfErr}
+use Rattle.sg_course.proofs.Causes.{failed_as, failed_now}
+use Rattle.sg_course.specs.Causes.{HasFailed, IsCaused}
+use Rattle.sg_course.specs.declared.status.Status.{Status}
+use Rattle.sg_course.specs.declared.status.Status.TheVariants.{Read, Write, Link, NoMemory, Clock, Noise, TurnsSpent}
+use Rattle.sg_edge.proofs.Passed.{rose_later}
+use Rattle.sg_relay.specs.Causes.{IsDueTo, IsDueToLink, IsOfLines, IsOfOutcomes, IsOfTurns}
+use Rattle.sg_relay.proofs.Deeds.{IsOfWriting}
+
+err_is : {T : Type 0} (s t : Status) → (let r : Result T Status = Err s in r ≡ Err t) → s ≡ t
+err_is s t is = cc
+
+ok_err : {T : Type 0} (x : T) (t : Status) → (let r : Result T Status = Ok x in r ≡ Err t) → ⊥
+ok_err x t is = cc
+
+pub due_so : {T : Type 0} (own : Status) (r : Result T Status) (a b : ℕ) (failed : Option Bool) → IsCaused own r a b failed → IsDueTo own r a b failed
+due_so own (Ok x) a b failed caused = caused.quiet (λ is. ok_err x own is)
+due_so own (Err s) a b failed caused = failed_as _ _ a b failed (λ is. ap Err is) (λ is. err_is s own is) caused
+
+-- nothing has failed but something else
+pub never : (p : Type 0) (a b : ℕ) (failed : Option Bool) → (p → ⊥) → b ≡ a → HasFailed p a b failed
+never p a b failed isnt same = record { later = omega (arith, same); rose = λ is. absurd (isnt is); told = λ is. absurd (isnt is); quiet = λ not. same }
+
+pub due_since : {T : Type 0} (own : Status) (r : Result T Status) (a b c : ℕ) (failed : Option Bool) → b ≡ a → IsDueTo own r b c failed → IsDueTo own r a c failed
+due_since own (Ok x) a b c failed same due = due ∙ same
+due_since own (Err s) a b c failed same due = failed_now _ a b c failed same due
+
+-- another status than this is told
+pub due_never : {T : Type 0} (own : Status) (r : Result T Status) (a b : ℕ) (failed : Option Bool) → ((s : Status) → r ≡ Err s → s ≡ own → ⊥) → b ≡ a → IsDueTo own r a b failed
+due_never own (Ok x) a b failed isnt same = same
+due_never own (Err s) a b failed isnt same = never _ a b failed (isnt s refl) same
+
+-- ---- the link
+
+pub link_since : {T : Type 0} (r : Result T Status) (a b c : ℕ) → a ≤ b → IsDueToLink r b c → IsDueToLink r a c
+link_since (Ok x) a b c before due = omega (arith, before, due)
+link_since (Err s) a b c before due = record { later = omega (arith, before, due.later); rose = λ is. rose_later a b c before (due.rose is) }
+
+pub link_never : {T : Type 0} (r : Result T Status) (a b : ℕ) → ((s : Status) → r ≡ Err s → s ≡ Link → ⊥) → a ≤ b → IsDueToLink r a b
+link_never (Ok x) a b isnt before = before
+link_never (Err s) a b isnt before = record { later = before; rose = λ is. absurd (isnt s refl is) }
+
+-- ---- what may be told
+
+writing_not_link : (s : Status) → IsOfWriting s → s ≡ Link → ⊥
+writing_not_link s (inl is) same = absurd (let e : Write ≡ Link = sym is ∙ same in cc)
+writing_not_link s (inr is) same = absurd (let e : NoMemory ≡ Link = sym is ∙ same in cc)
+
+pub written_only : {T : Type 0} (r : Result T Status) → IfErr r IsOfWriting → IfErr r IsOfOutcomes
+written_only (Ok x) only = tt
+written_only (Err s) (inl is) = inl is
+written_only (Err s) (inr is) = inr (inr is)
+
+pub written_link : {T : Type 0} (r : Result T Status) (a b : ℕ) → IfErr r IsOfWriting → a ≤ b → IsDueToLink r a b
+written_link (Ok x) a b only before = before
+written_link (Err s) a b only before = record { later = before; rose = λ is. absurd (writing_not_link s only is) }
+
+pub outcomes_not : (own : Status) → (Write ≡ own → ⊥) → (Link ≡ own → ⊥) → (NoMemory ≡ own → ⊥) → (s : Status) → IsOfOutcomes s → s ≡ own → ⊥
+outcomes_not own write link memory s (inl is) same = write (sym is ∙ same)
+outcomes_not own write link memory s (inr (inl is)) same = link (sym is ∙ same)
+outcomes_not own write link memory s (inr (inr is)) same = memory (sym is ∙ same)
+
+pub turns_not : (own : Status) → (Clock ≡ own → ⊥) → (Write ≡ own → ⊥) → (Link ≡ own → ⊥) → (NoMemory ≡ own → ⊥) → (s : Status) → IsOfTurns s → s ≡ own → ⊥
+turns_not own clock write link memory s (inl is) same = clock (sym is ∙ same)
+turns_not own clock write link memory s (inr is) same = outcomes_not own write link memory s is same
+
+pub lines_not_read : (s : Status) → IsOfLines s → s ≡ Read → ⊥
+lines_not_read s (inl is) same = absurd (let e : Noise ≡ Read = sym is ∙ same in cc)
+lines_not_read s (inr (inl is)) same = absurd (let e : TurnsSpent ≡ Read = sym is ∙ same in cc)
+lines_not_read s (inr (inr is)) same = turns_not Read (λ e. cc) (λ e. cc) (λ e. cc) (λ e. cc) s is same

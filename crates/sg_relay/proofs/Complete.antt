@@ -1,0 +1,66 @@
+-- A script in the grammar is relayed to its end, where nothing but sends fails.
+use Rattle.std.proofs.Common.{◌≡◌, List, [], ◌∷◌, ◌++◌, ℕ, refl, subst, inl, inr, arith}
+use Rattle.sg_course.proofs.Grammars.{in_relay, no_fault}
+use Rattle.sg_course.specs.Course.{AtFault, woven}
+use Rattle.sg_course.specs.declared.status.Status.{Status}
+use Rattle.sg_course.specs.declared.status.Status.TheVariants.{Done, Usage, Script, Read, Write, Link, NoMemory, Clock, Noise, TurnsSpent}
+use Rattle.sg_edge.specs.Links.{LinkCall}
+use Rattle.sg_edge.specs.Told.{Rose}
+use Rattle.sg_edge.proofs.Links.{added_none}
+use Rattle.sg_edge.proofs.Passed.{took_none, wrote_none}
+use Rattle.sg_relay.specs.Asked.{AreGood, EndsBadly, IsGood, receipts_in}
+use Rattle.sg_relay.specs.Completeness.{IsComplete}
+use Rattle.sg_relay.specs.Relay.{IsRelay, Passed, Tellings}
+use Rattle.sg_relay.proofs.Deeds.{done_none, part_of}
+
+good_last : (a : List LinkCall) (x : LinkCall) → AreGood (a ++ x ∷ []) → IsGood x
+good_last [] x good = good.0
+good_last (y ∷ a) x good = good_last a x good.1
+
+not_bad : (calls : List LinkCall) → AreGood calls → EndsBadly calls → ⊥
+not_bad calls good ends = ends.bad (good_last ends.before ends.last (subst AreGood ends.calls_are good))
+
+pub complete : (status : Status) (turns link link' : ℕ) (old new : Tellings) (p : Passed) → IsRelay status turns old new p
+    → (status ≡ Read → ⊥) → (status ≡ Write → ⊥) → (status ≡ Clock → ⊥) → (status ≡ Noise → ⊥) → (status ≡ Link → Rose link link') → IsComplete status turns old.left new.left link link' p
+complete Done turns link link' old new p run a b c d e = λ all rest told told' script few well. inl refl
+complete NoMemory turns link link' old new p run a b c d e = λ all rest told told' script few well. inr refl
+complete Usage turns link link' old new p run a b c d e = absurd run.ends
+complete Read turns link link' old new p run a b c d e = absurd (a refl)
+complete Write turns link link' old new p run a b c d e = absurd (b refl)
+complete Clock turns link link' old new p run a b c d e = absurd (c refl)
+complete Noise turns link link' old new p run a b c d e = absurd (d refl)
+complete Link turns link link' old new p run a b c d e = λ all rest told told' script few well. absurd (elim well [
+  | inl still ↦ still (e refl)
+  | inr good ↦ not_bad p.calls good run.ends.1
+])
+complete TurnsSpent turns link link' old new p run a b c d e = λ all rest told told' script few well. absurd (few run.ends.0.stops run.ends.1)
+complete (Script n f) turns link link' old new p run a b c d e = λ all rest told told' script few well. absurd
+    (no_fault old.left new.left p.octets all rest f (λ (o : List ℕ). (woven o p.readings (receipts_in p.calls) p.draws).stop ≡ AtFault n f) run.took told told' script
+    (λ o is. in_relay n f o p.readings (receipts_in p.calls) p.draws is) run.ends.0.stops run.ends.1 run.ends.2)
+
+-- a run, and its completeness, where a failure shows in these
+pub with_complete : (s : Status) (turns link link' : ℕ) (old new : Tellings) (p : Passed) (source sink clock noise : Type 0) → IsRelay s turns old new p
+    → (s ≡ Read → source) → (s ≡ Write → sink) → (s ≡ Clock → clock) → (s ≡ Noise → noise) → (s ≡ Link → Rose link link')
+    → (p : Passed) × IsRelay s turns old new p × (¬ source → ¬ sink → ¬ clock → ¬ noise → IsComplete s turns old.left new.left link link' p)
+with_complete s turns link link' old new p source sink clock noise run read write clocks noises links = (
+  p,
+  run,
+  λ no_source no_sink no_clock no_noise. complete s turns link link' old new p run (λ is. no_source (read is)) (λ is. no_sink (write is)) (λ is. no_clock (clocks is)) (λ is. no_noise (noises is)) links,
+)
+
+-- a run that ends before anything is done
+pub at_once : (old : Tellings) (turns link link' : ℕ) (source sink clock noise : Type 0)
+    → (p : Passed) × IsRelay NoMemory turns old old p × (¬ source → ¬ sink → ¬ clock → ¬ noise → IsComplete NoMemory turns old.left old.left link link' p)
+at_once old turns link link' source sink clock noise = with_complete NoMemory turns link link' old old (record { octets = []; out = []; calls = []; readings = []; draws = [] }) source sink clock noise
+    (record {
+      took = took_none _;
+      wrote = wrote_none _;
+      called = added_none _;
+      read = added_none _;
+      drew = added_none _;
+      ends = record { part = part_of [] [] [] done_none; good = tt };
+      bound = omega arith;
+      most = omega arith;
+      paced = refl;
+    })
+    (λ is. absurd cc) (λ is. absurd cc) (λ is. absurd cc) (λ is. absurd cc) (λ is. absurd cc)

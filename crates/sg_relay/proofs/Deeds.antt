@@ -1,0 +1,342 @@
+-- How what was done for outcomes adds up.
+use Rattle.std.proofs.Common.{◌≡◌, ◌<◌, ◌≤◌, ◌+◌, Option, ℕ, zero, suc, arith, Bool, true, false, List, [], ◌∷◌, ◌++◌, length, map, take, get_or, Some, Result, Ok, Err, refl, sym, ap, ap₂, ◌∙◌, subst, append_assoc, inl, inr}
+use Rattle.std.specs.Prelude.{is_ok, IfErr, IsOk, ◌⊎◌}
+use Rattle.std.specs.List.{AllByRecursion, flat_map}
+use Rattle.std.proofs.lemmas.Bool.{false≢true}
+use Rattle.std.proofs.lemmas.List.{append-nil, map-append}
+use Rattle.sg_base.specs.declared.addresses.Address.{Address}
+use Rattle.sg_base.specs.declared.faults.Failed.{Failed}
+use Rattle.sg_course.specs.Output.{IsPrefixOf, IsWritten, text}
+use Rattle.sg_course.specs.declared.status.Status.{Status}
+use Rattle.sg_course.specs.declared.status.Status.TheVariants.{Done, Usage, Script, Read, Write, Link, NoMemory, Clock, Noise, TurnsSpent}
+use Rattle.sg_edge.specs.Links.{LinkCall, Received}
+use Rattle.sg_edge.specs.Links as links
+use Rattle.sg_edge.specs.Told.{Wrote}
+use Rattle.sg_gateway.specs.Events.{outcomes_from}
+use Rattle.sg_gateway.specs.Runs.{world_after}
+use Rattle.sg_gateway.specs.Step.{Event}
+use Rattle.sg_gateway.specs.World.{World}
+use Rattle.sg_outcome.specs.OutcomeText.{outcome_line}
+use Rattle.sg_outcome.specs.declared.outcomes.Outcome.{Outcome}
+use Rattle.sg_outcome.specs.declared.outcomes.Outcome.TheVariants.{Made, Live, Sdp, Refused, Ended, Out, Dropped, Unsent}
+use Rattle.sg_relay.specs.Asked.{AreGood, AreSent, Ask, EndsBadly, IsDone, IsGood, IsPart, Told, ask_in, asks_in, asks_of, hold, ports_from, receipt_in, receipts_in, sends_in, sent_as, sent_in, sent_of, written_as, written_of}
+use Rattle.sg_relay.specs.Parts.{AreCarriedOut, AreHandled, IsBad, IsHeld}
+
+-- the statuses of a line that couldn't be written
+abbrev pub IsOfWriting : Status → Type 0
+IsOfWriting status = (status ≡ Write) ⊎ (status ≡ NoMemory)
+
+pub flat_append : {A B : Type 0} (f : A → List B) (xs ys : List A) → flat_map f (xs ++ ys) ≡ flat_map f xs ++ flat_map f ys
+flat_append f [] ys = refl
+flat_append f (x ∷ xs) ys = ap (λ l. f x ++ l) (flat_append f xs ys) ∙ sym (append_assoc (f x) _ _)
+
+pub text-append : (a b : List Outcome) → text (a ++ b) ≡ text a ++ text b
+text-append a b = flat_append outcome_line a b
+
+pub AreGood-append : (a b : List LinkCall) → AreGood a → AreGood b → AreGood (a ++ b)
+AreGood-append [] b first more = more
+AreGood-append (x ∷ a) b first more = (first.0, AreGood-append a b first.1 more)
+
+pub bad_after : (a b : List LinkCall) → AreGood a → EndsBadly b → EndsBadly (a ++ b)
+bad_after a b good ends = record {
+  before = a ++ ends.before;
+  last = ends.last;
+  calls_are = ap (λ l. a ++ l) ends.calls_are ∙ sym (append_assoc a ends.before (ends.last ∷ []));
+  good = AreGood-append a ends.before good ends.good;
+  bad = ends.bad;
+}
+
+pub IsBad-after : (s : Status) (a b : List LinkCall) → AreGood a → IsBad s b → IsBad s (a ++ b)
+IsBad-after Link a b good bad = bad_after a b good bad
+IsBad-after Done a b good bad = AreGood-append a b good bad
+IsBad-after Usage a b good bad = AreGood-append a b good bad
+IsBad-after (Script n f) a b good bad = AreGood-append a b good bad
+IsBad-after Read a b good bad = AreGood-append a b good bad
+IsBad-after Write a b good bad = AreGood-append a b good bad
+IsBad-after NoMemory a b good bad = AreGood-append a b good bad
+IsBad-after Clock a b good bad = AreGood-append a b good bad
+IsBad-after Noise a b good bad = AreGood-append a b good bad
+IsBad-after TurnsSpent a b good bad = AreGood-append a b good bad
+
+pub none_after : (a b : List LinkCall) → receipts_in a ≡ [] → receipts_in b ≡ [] → receipts_in (a ++ b) ≡ []
+none_after a b none more = flat_append receipt_in a b ∙ ap₂ (λ (x y : List Received). x ++ y) none more
+
+pub front_none : {X : Type 0} (all : List X) → IsPrefixOf [] all
+front_none all = (all, refl)
+
+pub front_all : {X : Type 0} (all : List X) → IsPrefixOf all all
+front_all all = ([], sym (append-nil all))
+
+pub front_longer : {X : Type 0} (a all more : List X) → IsPrefixOf a all → IsPrefixOf a (all ++ more)
+front_longer a all more front = (front.0 ++ more, ap (λ l. l ++ more) front.1 ∙ append_assoc a front.0 more)
+
+pub front_after : {X : Type 0} (a b all : List X) → IsPrefixOf b all → IsPrefixOf (a ++ b) (a ++ all)
+front_after a b all front = (front.0, ap (λ l. a ++ l) front.1 ∙ sym (append_assoc a b front.0))
+
+-- ---- sends
+
+abbrev AreTrue : List Bool → Type 0
+AreTrue l = AllByRecursion (λ ok. ok ≡ true) l
+
+AreTrue-append : (a b : List Bool) → AreTrue a → AreTrue b → AreTrue (a ++ b)
+AreTrue-append [] b first more = more
+AreTrue-append (x ∷ a) b first more = (first.0, AreTrue-append a b first.1 more)
+
+sent_all : (made sent : List Bool) → made ≡ sent → AreSent made sent
+sent_all made sent is = ([], sym (append-nil made ∙ is), tt)
+
+sent_after : (a b all : List Bool) → AreSent b all → AreSent (a ++ b) (a ++ all)
+sent_after a b all sent = (sent.0, ap (λ l. a ++ l) sent.1 ∙ sym (append_assoc a b sent.0), sent.2)
+
+sent_longer : (a all more : List Bool) → AreSent a all → AreTrue more → AreSent a (all ++ more)
+sent_longer a all more sent true_all = (sent.0 ++ more, ap (λ l. l ++ more) sent.1 ∙ append_assoc a sent.0 more, AreTrue-append sent.0 more sent.2 true_all)
+
+sent_as_true : (o : Outcome) → AreTrue (sent_as o true)
+sent_as_true (Made call slot media) = tt
+sent_as_true (Live call) = tt
+sent_as_true (Sdp call side text) = tt
+sent_as_true (Refused call cause) = tt
+sent_as_true (Ended call slot media why) = tt
+sent_as_true (Out port to octets) = (refl, tt)
+sent_as_true (Dropped port cause) = tt
+sent_as_true (Unsent port to) = tt
+
+-- no send is made
+sent_none : (o : Outcome) (made : List Bool) → made ≡ [] → AreSent made (sent_as o true ++ [])
+sent_none o made none = (sent_as o true ++ [], ap (λ (l : List Bool). l ++ (sent_as o true ++ [])) (sym none), AreTrue-append (sent_as o true) [] (sent_as_true o) tt)
+
+-- ---- outcomes
+
+pub done_none : IsDone [] [] []
+done_none = record { told = []; of_outcomes = refl; asked = refl; sent = refl; written = refl }
+
+pub done_more : (o p : List Outcome) (a b : List LinkCall) (x y : List ℕ) → IsDone o a x → IsDone p b y → IsDone (o ++ p) (a ++ b) (x ++ y)
+done_more o p a b x y first more = record {
+  told = first.told ++ more.told;
+  of_outcomes = map-append (λ (t : Told). t.outcome) first.told more.told ∙ ap₂ (λ (l m : List Outcome). l ++ m) first.of_outcomes more.of_outcomes;
+  asked = flat_append ask_in a b ∙ ap₂ (λ (l m : List Ask). l ++ m) first.asked more.asked ∙ sym (flat_append asks_of o p);
+  sent = flat_append sent_in a b ∙ ap₂ (λ (l m : List Bool). l ++ m) first.sent more.sent ∙ sym (flat_append sent_of first.told more.told);
+  written = ap₂ (λ (l m : List ℕ). l ++ m) first.written more.written ∙ sym (text-append (flat_map written_of first.told) (flat_map written_of more.told))
+      ∙ ap text (sym (flat_append written_of first.told more.told));
+}
+
+pub part_of : (o : List Outcome) (a : List LinkCall) (x : List ℕ) → IsDone o a x → IsPart o a x
+part_of o a x done = record {
+  told = done.told;
+  of_outcomes = done.of_outcomes;
+  asked = ([], sym (append-nil _ ∙ done.asked));
+  sent = sent_all _ _ done.sent;
+  written = ([], sym (append-nil _ ∙ done.written));
+}
+
+pub part_after : (o p : List Outcome) (a b : List LinkCall) (x y : List ℕ) → IsDone o a x → IsPart p b y → IsPart (o ++ p) (a ++ b) (x ++ y)
+part_after o p a b x y first more = record {
+  told = first.told ++ more.told;
+  of_outcomes = map-append (λ (t : Told). t.outcome) first.told more.told ∙ ap₂ (λ (l m : List Outcome). l ++ m) first.of_outcomes more.of_outcomes;
+  asked = subst (λ l. IsPrefixOf l (flat_map asks_of (o ++ p))) (sym (flat_append ask_in a b))
+      (subst (λ l. IsPrefixOf (asks_in a ++ asks_in b) l) (ap (λ l. l ++ flat_map asks_of p) first.asked ∙ sym (flat_append asks_of o p)) (front_after (asks_in a) (asks_in b) _ more.asked));
+  sent = subst (λ l. AreSent l (flat_map sent_of (first.told ++ more.told))) (sym (flat_append sent_in a b))
+      (subst (λ l. AreSent (sends_in a ++ sends_in b) l) (ap (λ l. l ++ flat_map sent_of more.told) first.sent ∙ sym (flat_append sent_of first.told more.told)) (sent_after (sends_in a) (sends_in b) _ more.sent));
+  written = subst (λ l. IsPrefixOf (x ++ y) l)
+      (ap (λ l. l ++ text (flat_map written_of more.told)) first.written ∙ sym (text-append (flat_map written_of first.told) (flat_map written_of more.told)) ∙ ap text (sym (flat_append written_of first.told more.told)))
+      (front_after x y _ more.written);
+}
+
+-- outcomes of which nothing is done yet
+abbrev pub all_sent : List Outcome → List Told
+all_sent [] = []
+all_sent (o ∷ os) = record { outcome = o; sent = true } ∷ all_sent os
+
+of_all_sent : (os : List Outcome) → map (λ (t : Told). t.outcome) (all_sent os) ≡ os
+of_all_sent [] = refl
+of_all_sent (o ∷ os) = ap (λ l. o ∷ l) (of_all_sent os)
+
+all_sent_true : (os : List Outcome) → AreTrue (flat_map sent_of (all_sent os))
+all_sent_true [] = tt
+all_sent_true (o ∷ os) = AreTrue-append (sent_as o true) (flat_map sent_of (all_sent os)) (sent_as_true o) (all_sent_true os)
+
+pub part_longer : (o p : List Outcome) (a : List LinkCall) (x : List ℕ) → IsPart o a x → IsPart (o ++ p) a x
+part_longer o p a x part = record {
+  told = part.told ++ all_sent p;
+  of_outcomes = map-append (λ (t : Told). t.outcome) part.told (all_sent p) ∙ ap₂ (λ (l m : List Outcome). l ++ m) part.of_outcomes (of_all_sent p);
+  asked = subst (λ l. IsPrefixOf (asks_in a) l) (sym (flat_append asks_of o p)) (front_longer (asks_in a) (flat_map asks_of o) (flat_map asks_of p) part.asked);
+  sent = subst (λ l. AreSent (sends_in a) l) (sym (flat_append sent_of part.told (all_sent p))) (sent_longer (sends_in a) (flat_map sent_of part.told) (flat_map sent_of (all_sent p)) part.sent (all_sent_true p));
+  written = subst (λ l. IsPrefixOf x l)
+      (sym (text-append (flat_map written_of part.told) (flat_map written_of (all_sent p))) ∙ ap text (sym (flat_append written_of part.told (all_sent p))))
+      (front_longer x (text (flat_map written_of part.told)) (text (flat_map written_of (all_sent p))) part.written);
+}
+
+-- ---- one outcome
+
+-- a port is bound, or given up
+pub held_one : (bound : Bool) (port : ℕ) (r : Result (Unit {0}) Failed) (call : Bool → LinkCall) → ((ok : Bool) → ask_in (call ok) ≡ hold bound port ∷ []) → ((ok : Bool) → (sent_in (call ok) ≡ []) × (receipt_in (call ok) ≡ []))
+    → IsGood (call true) → (¬ IsGood (call false)) → IsHeld r (hold bound port ∷ []) (call (is_ok r) ∷ [])
+held_one bound port (Ok u) call asks none good bad = (ap (λ l. l ++ []) (asks true), (good, tt), ap (λ l. l ++ []) (none true).0, ap (λ l. l ++ []) (none true).1)
+held_one bound port (Err e) call asks none good bad = (
+  ([], sym (ap (λ (l : List Ask). (l ++ []) ++ []) (asks false))),
+  record { before = []; last = call false; calls_are = refl; good = tt; bad = bad },
+  ap (λ l. l ++ []) (none false).0,
+  ap (λ l. l ++ []) (none false).1,
+)
+
+pub held_more : (r : Result (Unit {0}) Failed) (asks more : List Ask) (a b : List LinkCall) → IsHeld (Ok tt) asks a → IsHeld r more b → IsHeld r (asks ++ more) (a ++ b)
+held_more (Ok u) asks more a b first then = (
+  flat_append ask_in a b ∙ ap₂ (λ (l m : List Ask). l ++ m) first.0 then.0,
+  AreGood-append a b first.1 then.1,
+  flat_append sent_in a b ∙ ap₂ (λ (l m : List Bool). l ++ m) first.2 then.2,
+  none_after a b first.3 then.3,
+)
+held_more (Err e) asks more a b first then = (
+  subst (λ l. IsPrefixOf l (asks ++ more)) (sym (flat_append ask_in a b ∙ ap (λ (l : List Ask). l ++ asks_in b) first.0)) (front_after asks (asks_in b) more then.0),
+  bad_after a b first.1 then.1,
+  flat_append sent_in a b ∙ ap₂ (λ (l m : List Bool). l ++ m) first.2 then.2,
+  none_after a b first.3 then.3,
+)
+
+-- a call that wasn't made
+pub held_longer : (asks more : List Ask) (a : List LinkCall) (e : Failed) → IsHeld (Err e) asks a → IsHeld (Err e) (asks ++ more) a
+held_longer asks more a e held = (front_longer (asks_in a) asks more held.0, held.1, held.2, held.3)
+
+-- the ports couldn't be held
+pub told_unheld : (o : Outcome) (asks : List Ask) (calls : List LinkCall) (e : Failed) → asks_of o ≡ asks → IsHeld (Err e) asks calls → AreCarriedOut (Err Link) (o ∷ []) calls []
+told_unheld o asks calls e is held = (
+  record {
+    told = record { outcome = o; sent = true } ∷ [];
+    of_outcomes = refl;
+    asked = subst (λ l. IsPrefixOf (asks_in calls) l) (sym (append-nil (asks_of o) ∙ is)) held.0;
+    sent = sent_none o (sends_in calls) held.2;
+    written = front_none _;
+  },
+  held.1,
+  held.3,
+)
+
+-- a line couldn't be written: it isn't the link that failed
+pub not_link : (s : Status) (calls : List LinkCall) → IsOfWriting s → AreGood calls → IsBad s calls
+not_link s calls (inl is) good = subst (λ (x : Status). IsBad x calls) (sym is) good
+not_link s calls (inr is) good = subst (λ (x : Status). IsBad x calls) (sym is) good
+
+-- what was written of a line, by how that went
+pub line_so : (r : Result (Unit {0}) Status) (a b : Option (List ℕ)) (line : List ℕ) → IsWritten r a b line
+    → (out : List ℕ) × Wrote a b out × IsPrefixOf out line × (IsOk r → out ≡ line) × IfErr r IsOfWriting
+line_so (Ok u) a b line wrote = (line, wrote, front_all line, (λ ok. refl), tt)
+line_so (Err Write) a b line front = (front.0, front.2, front.1, (λ ok. absurd (false≢true ok)), inl refl)
+line_so (Err NoMemory) a b line front = (front.0, front.2, front.1, (λ ok. absurd (false≢true ok)), inr refl)
+line_so (Err Done) a b line never = absurd never
+line_so (Err Usage) a b line never = absurd never
+line_so (Err (Script n f)) a b line never = absurd never
+line_so (Err Read) a b line never = absurd never
+line_so (Err Link) a b line never = absurd never
+line_so (Err Clock) a b line never = absurd never
+line_so (Err Noise) a b line never = absurd never
+line_so (Err TurnsSpent) a b line never = absurd never
+
+-- the ports are held, and the line is written or a front of it
+pub told_held : (r : Result (Unit {0}) Status) (o : Outcome) (asks : List Ask) (calls : List LinkCall) (out : List ℕ) → asks_of o ≡ asks → ((ok : Bool) → (written_as o ok ≡ o ∷ []) × (sent_as o ok ≡ []))
+    → IsHeld (Ok tt) asks calls → IsPrefixOf out (outcome_line o) → (IsOk r → out ≡ outcome_line o) → IfErr r IsOfWriting → AreCarriedOut r (o ∷ []) calls out
+told_held (Ok u) o asks calls out is plain held front whole only = (
+  record {
+    told = record { outcome = o; sent = true } ∷ [];
+    of_outcomes = refl;
+    asked = held.0 ∙ sym is ∙ sym (append-nil (asks_of o));
+    sent = held.2 ∙ sym (ap (λ (l : List Bool). l ++ []) (plain true).1);
+    written = whole refl ∙ sym (ap (λ (l : List Outcome). text (l ++ [])) (plain true).0 ∙ append-nil (outcome_line o));
+  },
+  held.1,
+  held.3,
+)
+told_held (Err s) o asks calls out is plain held front whole only = (
+  record {
+    told = record { outcome = o; sent = true } ∷ [];
+    of_outcomes = refl;
+    asked = subst (λ l. IsPrefixOf (asks_in calls) l) (held.0 ∙ sym is ∙ sym (append-nil (asks_of o))) (front_all (asks_in calls));
+    sent = sent_none o (sends_in calls) held.2;
+    written = subst (λ l. IsPrefixOf out l) (sym (ap (λ (l : List Outcome). text (l ++ [])) (plain true).0 ∙ append-nil (outcome_line o))) front;
+  },
+  not_link s calls only held.1,
+  held.3,
+)
+
+-- ---- ports
+
+-- the first of so many ports, the one behind them, and the others
+pub ports_split : (port i n : ℕ) → i < n → (rest : List ℕ) × (ports_from port n ≡ ports_from port i ++ (port + i) ∷ rest)
+ports_split port i zero lt = absurd (omega (arith, lt))
+ports_split port zero (suc n) lt = (ports_from (port + 1) n, ap (λ (p : ℕ). p ∷ ports_from (port + 1) n) (let e : port ≡ port + 0 = omega arith in e))
+ports_split port (suc i) (suc n) lt =
+    let more = ports_split (port + 1) i n (omega (arith, lt)) in
+    let e : (port + 1) + i ≡ port + suc i = omega arith in
+    (more.0, ap (λ (l : List ℕ). port ∷ l) (more.1 ∙ ap (λ (p : ℕ). ports_from (port + 1) i ++ p ∷ more.0) e))
+
+pub ports_more : (port i : ℕ) → ports_from port (i + 1) ≡ ports_from port i ++ (port + i) ∷ []
+ports_more port zero = ap (λ (p : ℕ). p ∷ []) (let e : port ≡ port + 0 = omega arith in e)
+ports_more port (suc i) =
+    let n : suc i + 1 ≡ suc (i + 1) = omega arith in
+    let e : (port + 1) + i ≡ port + suc i = omega arith in
+    rw n (ap (λ (l : List ℕ). port ∷ l) (ports_more (port + 1) i ∙ ap (λ (p : ℕ). ports_from (port + 1) i ++ p ∷ []) e))
+
+pub asks_so_far : (h : ℕ → Ask) (port i : ℕ) → map h (ports_from port i) ++ (h (port + i) ∷ []) ≡ map h (ports_from port (i + 1))
+asks_so_far h port i = sym (ap (map h) (ports_more port i) ∙ map-append h (ports_from port i) ((port + i) ∷ []))
+
+pub asks_in_all : (h : ℕ → Ask) (port i n : ℕ) → i < n → (rest : List Ask) × ((map h (ports_from port i) ++ (h (port + i) ∷ [])) ++ rest ≡ map h (ports_from port n))
+asks_in_all h port i n lt =
+    let split = ports_split port i n lt in
+    (map h split.0, append_assoc (map h (ports_from port i)) (h (port + i) ∷ []) (map h split.0) ∙ sym (ap (map h) split.1 ∙ map-append h (ports_from port i) ((port + i) ∷ split.0)))
+
+-- ---- what was told is handled
+
+pub handled_told : (r : Result (Unit {0}) Status) (w : World) (es : List Event) (stands_for : World → Type 0) (os : List Outcome) (calls : List LinkCall) (out : List ℕ)
+    → AreCarriedOut r os calls out → os ≡ outcomes_from w es → stands_for (world_after w es) → AreHandled r w es stands_for calls out
+handled_told (Ok u) w es stands_for os calls out told is stands = (subst (λ l. IsDone l calls out) is told.0, told.1, told.2, stands)
+handled_told (Err s) w es stands_for os calls out told is stands = (subst (λ l. IsPart l calls out) is told.0, told.1, told.2)
+
+pub unhandled : (s : Status) (w : World) (es : List Event) (stands_for : World → Type 0) → IsBad s [] → AreHandled {T = Unit {0}} (Err s) w es stands_for [] []
+unhandled s w es stands_for bad = (part_longer [] (outcomes_from w es) [] [] (part_of [] [] [] done_none), bad, refl)
+
+-- one outcome more was told, or a front of it
+pub told_more : (r : Result (Unit {0}) Status) (os ps : List Outcome) (a b : List LinkCall) (x y : List ℕ) → AreCarriedOut (Ok tt) os a x → AreCarriedOut r ps b y → AreCarriedOut r (os ++ ps) (a ++ b) (x ++ y)
+told_more (Ok u) os ps a b x y first then = (done_more os ps a b x y first.0 then.0, AreGood-append a b first.1 then.1, none_after a b first.2 then.2)
+told_more (Err s) os ps a b x y first then = (part_after os ps a b x y first.0 then.0, IsBad-after s a b first.1 then.1, none_after a b first.2 then.2)
+
+pub told_longer : (s : Status) (os more : List Outcome) (a : List LinkCall) (x : List ℕ) → AreCarriedOut (Err s) os a x → AreCarriedOut (Err s) (os ++ more) a x
+told_longer s os more a x told = (part_longer os more a x told.0, told.1, told.2)
+
+-- ---- a packet
+
+-- the send failed, and the line is written that says so, or a front of it
+pub told_unsent : (r : Result (Unit {0}) Status) (port : ℕ) (to : Address) (octets : List ℕ) (out : List ℕ) → IsPrefixOf out (outcome_line (Unsent port to)) → (IsOk r → out ≡ outcome_line (Unsent port to))
+    → IfErr r IsOfWriting → AreCarriedOut r (Out port to octets ∷ []) (links.Send port to octets false ∷ []) out
+told_unsent (Ok u) port to octets out front whole only = (
+  record { told = record { outcome = Out port to octets; sent = false } ∷ []; of_outcomes = refl; asked = refl; sent = refl; written = whole refl ∙ sym (append-nil (outcome_line (Unsent port to))) },
+  (tt, tt),
+  refl,
+)
+told_unsent (Err s) port to octets out front whole only = (
+  record {
+    told = record { outcome = Out port to octets; sent = false } ∷ [];
+    of_outcomes = refl;
+    asked = front_all _;
+    sent = sent_all _ _ refl;
+    written = subst (λ l. IsPrefixOf out l) (sym (append-nil (outcome_line (Unsent port to)))) front;
+  },
+  not_link s _ only (tt, tt),
+  refl,
+)
+
+-- ---- outcomes that are told
+
+-- the outcome at a place of a list of them
+pub told_at : (os : List Outcome) (i : ℕ) (item : Option Outcome) → i < length (map Some os) → item ≡ get_or (map Some os) i item
+    → (o : Outcome) × (item ≡ Some o) × (take (i + 1) os ≡ take i os ++ o ∷ [])
+told_at [] i item within is = absurd (omega (arith, within))
+told_at (x ∷ os) zero item within is = (x, is, refl)
+told_at (x ∷ os) (suc i) item within is =
+    let more = told_at os i item (omega (arith, within)) is in
+    let n : suc i + 1 ≡ suc (i + 1) = omega arith in
+    (more.0, more.1, ap (λ (m : ℕ). take m (x ∷ os)) n ∙ ap (λ (l : List Outcome). x ∷ l) more.2)
+
+pub take_past : (os : List Outcome) (i : ℕ) → length (map Some os) ≤ i → take i os ≡ os
+take_past [] zero past = refl
+take_past [] (suc i) past = refl
+take_past (x ∷ os) zero past = absurd (omega (arith, past))
+take_past (x ∷ os) (suc i) past = ap (λ (l : List Outcome). x ∷ l) (take_past os i (omega (arith, past)))

@@ -1,0 +1,6 @@
+mod Blames
+mod Complete
+mod Deeds
+mod Relays
+mod Says
+mod Waits

@@ -1,0 +1,349 @@
+-- How a relay goes on, line by line.
+use Rattle.std.proofs.Common.{◌≡◌, ◌⊎◌, ◌<◌, ◌≤◌, ◌+◌, ◌^◌, ℕ, List, [], ◌∷◌, ◌++◌, length, Option, Result, Ok, Err, refl, sym, ap, ap₂, ◌∙◌, subst, append_assoc, length-append, inl, inr, arith}
+use Rattle.std.proofs.lemmas.List.{append-nil}
+use Rattle.sg_base.specs.declared.faults.ScriptFault.{ScriptFault}
+use Rattle.sg_course.proofs.Courses.{outcomes_from-append, reads_on, stops_at, whole_some, with_events_again}
+use Rattle.sg_course.specs.Course.{AtEnd as BehindAll, AtFault, Course, ForDraw, ForReading, Later, Outside, Relays, Stop, course_from, moment_of, said, stopped, with_events, woven}
+use Rattle.sg_course.specs.Reading.{IsFault, IsNext, IsRead, Reading}
+use Rattle.sg_course.specs.declared.status.Status.{Status}
+use Rattle.sg_course.specs.declared.status.Status.TheVariants.{Done, Usage, Script, Read, Write, Link, NoMemory, Clock, Noise, TurnsSpent}
+use Rattle.sg_edge.specs.Links.{Added, LinkCall, Received}
+use Rattle.sg_edge.specs.Told.{AtEnd, TookIn, Wrote}
+use Rattle.sg_edge.proofs.Links.{added_more}
+use Rattle.sg_edge.proofs.Passed.{took_more, wrote_more}
+use Rattle.sg_gateway.specs.Events.{events_of, outcomes_from}
+use Rattle.sg_gateway.specs.Runs.{outcomes, world_after}
+use Rattle.sg_gateway.specs.Step.{Event}
+use Rattle.sg_gateway.specs.World.{World, empty}
+use Rattle.sg_lines.specs.ScriptLines.{lines_of}
+use Rattle.sg_lines.specs.declared.lines.Line.{Line}
+use Rattle.sg_lines.specs.declared.lines.Line.TheVariants as lines
+use Rattle.sg_lines.specs.declared.lines.Signal.TheVariants.{Tick}
+use Rattle.sg_outcome.specs.declared.outcomes.Outcome.{Outcome}
+use Rattle.sg_relay.specs.Asked.{AreGood, IsDone, IsPart, receipt_in, receipts_in}
+use Rattle.sg_relay.specs.Causes.{IsOfLines, IsOfTurns}
+use Rattle.sg_relay.specs.Parts.{IsBegun, IsSaid, IsStopped, taken, taking}
+use Rattle.sg_relay.specs.Relay.{ArePaced, Ends, IsBroken, IsRelay, IsWhole, Passed, Tellings, course_of, nothing}
+use Rattle.sg_relay.proofs.Deeds.{AreGood-append, IsBad-after, done_more, done_none, flat_append, part_after, part_longer, part_of}
+use Rattle.sg_relay.proofs.Waits.{of_turns}
+
+-- The relay has taken whole lines, whose events it has handled, and what waits behind them.
+pub record IsRelaying (old now : Tellings) (turns began : ℕ) (p : Passed) (at : Reading) (es : List Event) (top left : ℕ) : Type 0 where
+  pub took : TookIn old.left now.left (p.octets ++ at.waits)
+  pub wrote : Wrote old.written now.written p.out
+  pub called : Added old.calls now.calls p.calls
+  pub read : Added old.readings now.readings p.readings
+  pub drew : Added old.draws now.draws p.draws
+  pub goes : (rest : List ℕ) (o : Outside) → woven (p.octets ++ rest) (p.readings ++ o.readings) (receipts_in p.calls ++ o.receipts) (p.draws ++ o.draws)
+      ≡ with_events es (course_from (Relays began) at.number at.offset (lines_of rest) top o)
+  pub done : IsDone (outcomes es) p.calls p.out
+  pub good : AreGood p.calls
+  pub paced : length p.readings ≡ length (receipts_in p.calls) + 1
+  pub counted : length p.readings + left ≡ turns + 1
+  pub size : length p.octets ≡ at.offset
+  pub room : at.offset + length at.waits + at.budget ≡ 2 ^ 30 + 1
+  pub within : at.offset ≤ 2 ^ 30
+
+pub pace_so : (readings : List ℕ) (receipts : List Received) → (length readings ≡ length receipts + 1) ⊎ (length readings ≡ (length receipts + 1) + 1) → ArePaced readings receipts
+pace_so [] receipts (inl same) = absurd (omega (arith, same))
+pace_so [] receipts (inr same) = absurd (omega (arith, same))
+pace_so (r ∷ rs) receipts (inl same) = inl (omega (arith, same))
+pace_so (r ∷ rs) receipts (inr same) = inr (omega (arith, same))
+
+-- a course whose events begin with some that were handled, in part or whole
+pub part_in : (p : Passed) (es : List Event) (rest : Course) → course_of p ≡ with_events es rest → IsPart (outcomes_from empty es) p.calls p.out → IsPart (outcomes (course_of p).events) p.calls p.out
+part_in p es rest is part =
+    subst (λ (c : Course). IsPart (outcomes c.events) p.calls p.out) (sym is)
+    (subst (λ (os : List Outcome). IsPart os p.calls p.out) (sym (outcomes_from-append empty es rest.events))
+    (part_longer (outcomes_from empty es) (outcomes_from (world_after empty es) rest.events) p.calls p.out part))
+
+pub whole_at : (p : Passed) (es : List Event) (stop : Stop) → course_of p ≡ with_events es (stopped stop nothing) → IsDone (outcomes es) p.calls p.out → AreGood p.calls → IsWhole p stop
+whole_at p es stop is done good = record {
+  stops = ap (λ (c : Course). c.stop) is;
+  left = ap (λ (c : Course). c.left) is;
+  done = subst (λ (l : List Event). IsDone (outcomes l) p.calls p.out) (sym (ap (λ (c : Course). c.events) is ∙ append-nil es)) done;
+  good = good;
+}
+
+-- the next line isn't read for this reason
+pub next_at : (own s : Status) (at at' : Reading) (got : List ℕ) (left : Option (List ℕ)) → s ≡ own → (let r : Result (Option Line) Status = Err s in IsNext r at at' got left)
+    → (let r : Result (Option Line) Status = Err own in IsNext r at at' got left)
+next_at own s at at' got left same next = subst (λ (x : Status). (let r : Result (Option Line) Status = Err x in IsNext r at at' got left)) same next
+
+-- what holds of each status of a line holds of one that is such
+of_lines : (P : Status → Type 0) (s : Status) → IsOfLines s → P Noise → P TurnsSpent → P Clock → P Write → P Link → P NoMemory → P s
+of_lines P s (inl is) noise spent clock write link memory = subst P (sym is) noise
+of_lines P s (inr (inl is)) noise spent clock write link memory = subst P (sym is) spent
+of_lines P s (inr (inr is)) noise spent clock write link memory = of_turns P s is clock write link memory
+
+module _ (old now : Tellings) (turns began : ℕ) (p : Passed) (at : Reading) (es : List Event) (top left : ℕ) (going : IsRelaying old now turns began p at es top left)
+    (left' : Option (List ℕ)) (got : List ℕ) (came : TookIn now.left left' got) where
+  -- what has passed by then
+  abbrev pub passed : Passed
+  passed = record p { octets = p.octets ++ (at.waits ++ got) }
+
+  took_all : TookIn old.left left' (p.octets ++ (at.waits ++ got))
+  took_all = subst (TookIn old.left left') (append_assoc p.octets at.waits got) (took_more old.left now.left left' (p.octets ++ at.waits) got going.took came)
+
+  bounded : (budget : ℕ) → length got + budget ≡ at.budget → length (p.octets ++ (at.waits ++ got)) ≤ 2 ^ 30 + 1
+  bounded budget paid = omega (arith, going.size, going.room, paid, length-append p.octets (at.waits ++ got), length-append at.waits got)
+
+  course_is : course_of passed ≡ with_events es (course_from (Relays began) at.number at.offset (lines_of (at.waits ++ got)) top nothing)
+  course_is = (λ i. woven (p.octets ++ (at.waits ++ got)) (sym (append-nil p.readings) i) (sym (append-nil (receipts_in p.calls)) i) (sym (append-nil p.draws) i)) ∙ going.goes (at.waits ++ got) nothing
+
+  -- nothing more was handled
+  broken : IsBroken passed
+  broken = record { part = part_in passed es _ course_is (part_of (outcomes es) p.calls p.out going.done); good = going.good }
+
+  -- the run ends before a line was handled
+  ended : (s : Status) (budget : ℕ) → length got + budget ≡ at.budget → Ends s turns passed left' → IsRelay s turns old (record now { left = left' }) passed
+  ended s budget paid ends = record {
+    took = took_all;
+    wrote = going.wrote;
+    called = going.called;
+    read = going.read;
+    drew = going.drew;
+    ends = ends;
+    bound = bounded budget paid;
+    most = omega (arith, going.counted);
+    paced = pace_so p.readings (receipts_in p.calls) (inl going.paced);
+  }
+
+  -- at the end of the source
+  pub at_end : (budget : ℕ) → length got + budget ≡ at.budget → at.waits ++ got ≡ [] → AtEnd left' ⊎ (2 ^ 30 < at.offset) → IsRelay Done turns old (record now { left = left' }) passed
+  at_end budget paid none (inr far) = absurd (let near = going.within in omega (arith, far, near))
+  at_end budget paid none (inl end) = ended Done budget paid (
+    whole_at passed es BehindAll (course_is ∙ ap (λ (l : List ℕ). with_events es (course_from (Relays began) at.number at.offset (lines_of l) top nothing)) none) going.done going.good,
+    end,
+  )
+
+  -- at a line with a fault, and whatever comes after it
+  at_fault : (fault : ScriptFault) → IsFault at.number at.offset (at.waits ++ got) fault left' → Ends (Script at.number fault) turns passed left'
+  at_fault fault is = (
+    whole_at passed es (AtFault at.number fault) (course_is ∙ ap (with_events es) (stops_at (Relays began) at.number at.offset (at.waits ++ got) fault top nothing is.first)) going.done going.good,
+    is.ended,
+    λ not_end more.
+        let parts : (p.octets ++ (at.waits ++ got)) ++ more ≡ p.octets ++ ((at.waits ++ got) ++ more) = append_assoc p.octets (at.waits ++ got) more in
+        (λ i. (woven (parts i) (sym (append-nil p.readings) i) (sym (append-nil (receipts_in p.calls)) i) (sym (append-nil p.draws) i)).stop)
+        ∙ ap (λ (c : Course). c.stop) (going.goes ((at.waits ++ got) ++ more) nothing)
+        ∙ ap (λ (c : Course). c.stop) (stops_at (Relays began) at.number at.offset ((at.waits ++ got) ++ more) fault top nothing (is.still not_end more)),
+  )
+
+  -- the next line isn't read
+  pub at_error : (s : Status) (at' : Reading) → length got + at'.budget ≡ at.budget → (let r : Result (Option Line) Status = Err s in IsNext r at at' got left')
+      → IsRelay s turns old (record now { left = left' }) passed
+  at_error (Script n f) at' paid (same, fault) = subst (λ (m : ℕ). IsRelay (Script m f) turns old (record now { left = left' }) passed) (sym same) (ended (Script at.number f) at'.budget paid (at_fault f (subst (λ (m : ℕ). IsFault m at.offset (at.waits ++ got) f left') same fault)))
+  at_error Read at' paid next = ended Read at'.budget paid broken
+  at_error NoMemory at' paid next = ended NoMemory at'.budget paid broken
+  at_error Done at' paid next = absurd next
+  at_error Usage at' paid next = absurd next
+  at_error Write at' paid next = absurd next
+  at_error Link at' paid next = absurd next
+  at_error Clock at' paid next = absurd next
+  at_error Noise at' paid next = absurd next
+  at_error TurnsSpent at' paid next = absurd next
+
+  module _ (l : Line) (at' : Reading) (paid : length got + at'.budget ≡ at.budget) (is : IsRead l at at' got) (readings : List ℕ) (calls : List LinkCall) (draws out : List ℕ) where
+    -- what follows the line
+    abbrev later : Later
+    later = course_from (Relays began) (at.number + 1) (at.offset + length is.line) (lines_of at'.waits)
+
+    receipts_are : receipts_in (p.calls ++ calls) ≡ receipts_in p.calls ++ receipts_in calls
+    receipts_are = flat_append receipt_in p.calls calls
+
+    -- the course, up to what follows the line
+    says : (more : List ℕ) (o : Outside) → woven ((p.octets ++ is.line) ++ more) ((p.readings ++ readings) ++ o.readings) (receipts_in (p.calls ++ calls) ++ o.receipts) ((p.draws ++ draws) ++ o.draws)
+        ≡ with_events es (said (Relays began) l (course_from (Relays began) (at.number + 1) (at.offset + length is.line) (lines_of more)) top (taking readings (receipts_in calls) draws o))
+    says more o =
+        let receipts : receipts_in (p.calls ++ calls) ++ o.receipts ≡ receipts_in p.calls ++ (receipts_in calls ++ o.receipts) =
+        ap (λ (xs : List Received). xs ++ o.receipts) receipts_are ∙ append_assoc (receipts_in p.calls) (receipts_in calls) o.receipts in
+        (λ i. woven (append_assoc p.octets is.line more i) (append_assoc p.readings readings o.readings i) (receipts i) (append_assoc p.draws draws o.draws i))
+        ∙ going.goes (is.line ++ more) (taking readings (receipts_in calls) draws o)
+        ∙ ap (with_events es) (reads_on (Relays began) at.number at.offset is.line more l top (taking readings (receipts_in calls) draws o) is.whole is.is)
+
+    -- what has passed with the line
+    abbrev pub with_line : Passed
+    with_line = record { octets = p.octets ++ (at.waits ++ got); out = p.out ++ out; calls = p.calls ++ calls; readings = p.readings ++ readings; draws = p.draws ++ draws }
+
+    octets_are : p.octets ++ (at.waits ++ got) ≡ (p.octets ++ is.line) ++ at'.waits
+    octets_are = ap (λ (l : List ℕ). p.octets ++ l) is.split ∙ sym (append_assoc p.octets is.line at'.waits)
+
+    -- the course, where nothing more was taken
+    says_all : course_of with_line ≡ with_events es (said (Relays began) l later top (taken readings (receipts_in calls) draws))
+    says_all =
+        (λ i. woven (octets_are i) (sym (append-nil (p.readings ++ readings)) i) (sym (append-nil (receipts_in (p.calls ++ calls))) i) (sym (append-nil (p.draws ++ draws)) i))
+        ∙ says at'.waits nothing
+        ∙ (λ i. with_events es (said (Relays began) l later top (taken (append-nil readings i) (append-nil (receipts_in calls) i) (append-nil draws i))))
+
+    -- the lines by then
+    abbrev pub behind : Passed
+    behind = record { octets = p.octets ++ is.line; out = p.out ++ out; calls = p.calls ++ calls; readings = p.readings ++ readings; draws = p.draws ++ draws }
+
+    -- after the line was handled
+    pub after : {T : Type 0} (x : T) (now' : Tellings) (top' left2 : ℕ) (stands_for : World → Type 0) → now'.left ≡ left' → Wrote now.written now'.written out → Added now.calls now'.calls calls
+        → Added now.readings now'.readings readings → Added now.draws now'.draws draws
+        → (said : (let r : Result T Status = Ok x in IsSaid r (Relays began) l (world_after empty es) top top' left left2 stands_for readings calls draws out))
+        → IsRelaying old now' turns began behind at' (es ++ said.0) top' left2
+    after x now' top' left2 stands_for same wrote called read drew said = record {
+      took = subst (TookIn old.left now'.left) octets_are (subst (λ (o : Option (List ℕ)). TookIn old.left o (p.octets ++ (at.waits ++ got))) (sym same) took_all);
+      wrote = wrote_more old.written now.written now'.written p.out out going.wrote wrote;
+      called = added_more old.calls now.calls now'.calls p.calls calls going.called called;
+      read = added_more old.readings now.readings now'.readings p.readings readings going.read read;
+      drew = added_more old.draws now.draws now'.draws p.draws draws going.drew drew;
+      goes = λ more o. says more o
+          ∙ ap (with_events es) (said.1 (course_from (Relays began) (at.number + 1) (at.offset + length is.line) (lines_of more)) o)
+          ∙ with_events_again es said.0 (course_from (Relays began) (at.number + 1) (at.offset + length is.line) (lines_of more) top' o)
+          ∙ ap₂ (λ (n a : ℕ). with_events (es ++ said.0) (course_from (Relays began) n a (lines_of more) top' o)) (sym is.number) (sym is.offset);
+      done = subst (λ (os : List Outcome). IsDone os (p.calls ++ calls) (p.out ++ out)) (sym (outcomes_from-append empty es said.0))
+          (done_more (outcomes es) (outcomes_from (world_after empty es) said.0) p.calls calls p.out out going.done said.2);
+      good = AreGood-append p.calls calls going.good said.3;
+      paced = omega (arith, going.paced, said.5, length-append p.readings readings, ap length receipts_are, length-append (receipts_in p.calls) (receipts_in calls));
+      counted = omega (arith, going.counted, said.6, length-append p.readings readings);
+      size = omega (arith, going.size, is.offset, length-append p.octets is.line);
+      room = omega (arith, going.room, is.offset, paid, ap length is.split, length-append at.waits got, length-append is.line at'.waits);
+      within = is.within;
+    }
+
+    -- the next line begins behind this one
+    pub farther : at.offset < at'.offset
+    farther = omega (arith, is.offset, whole_some is.line is.whole)
+
+    -- a line that stops where nothing more was taken
+    stopped_so : (stop : Stop) → IsStopped (Relays began) l (world_after empty es) top stop readings calls draws out → IsWhole with_line stop
+    stopped_so stop at_stop =
+        whole_at with_line (es ++ at_stop.events) stop
+        (says_all ∙ ap (with_events es) (at_stop.stops later) ∙ with_events_again es at_stop.events (stopped stop nothing))
+        (subst (λ (os : List Outcome). IsDone os (p.calls ++ calls) (p.out ++ out)) (sym (outcomes_from-append empty es at_stop.events))
+        (done_more (outcomes es) (outcomes_from (world_after empty es) at_stop.events) p.calls calls p.out out going.done at_stop.done))
+        (AreGood-append p.calls calls going.good at_stop.good)
+
+    -- what a line says of its turns
+    pub record Counts : Type 0 where
+      pub paced : ArePaced (p.readings ++ readings) (receipts_in (p.calls ++ calls))
+      pub most : length (p.readings ++ readings) ≤ turns + 1
+
+    counts_of : (length readings ≡ length (receipts_in calls)) ⊎ (length readings ≡ length (receipts_in calls) + 1) → length readings ≤ left → Counts
+    counts_of (inl same) few = record {
+      paced = pace_so (p.readings ++ readings) (receipts_in (p.calls ++ calls))
+          (inl (omega (arith, going.paced, same, length-append p.readings readings, ap length receipts_are, length-append (receipts_in p.calls) (receipts_in calls))));
+      most = omega (arith, going.counted, few, length-append p.readings readings);
+    }
+    counts_of (inr same) few = record {
+      paced = pace_so (p.readings ++ readings) (receipts_in (p.calls ++ calls))
+          (inr (omega (arith, going.paced, same, length-append p.readings readings, ap length receipts_are, length-append (receipts_in p.calls) (receipts_in calls))));
+      most = omega (arith, going.counted, few, length-append p.readings readings);
+    }
+
+    -- a front of the line was done
+    part_so : (events : List Event) (rest : Course) → said (Relays began) l later top (taken readings (receipts_in calls) draws) ≡ with_events events rest
+        → IsPart (outcomes_from (world_after empty es) events) calls out → IsPart (outcomes (course_of with_line).events) (p.calls ++ calls) (p.out ++ out)
+    part_so events rest is part =
+        part_in with_line (es ++ events) rest (says_all ∙ ap (with_events es) is ∙ with_events_again es events rest)
+        (subst (λ (os : List Outcome). IsPart os (p.calls ++ calls) (p.out ++ out)) (sym (outcomes_from-append empty es events))
+        (part_after (outcomes es) (outcomes_from (world_after empty es) events) p.calls calls p.out out going.done part))
+
+    -- of a line that was cut
+    pub cut : (T : Type 0) (s : Status) (top' left2 : ℕ) (stands_for : World → Type 0) → IsOfLines s
+        → (let r : Result T Status = Err s in IsSaid r (Relays began) l (world_after empty es) top top' left left2 stands_for readings calls draws out) → Ends s turns with_line left' × Counts
+    cut T s top' left2 stands_for only said = of_lines
+        (λ (x : Status). (let r : Result T Status = Err x in IsSaid r (Relays began) l (world_after empty es) top top' left left2 stands_for readings calls draws out) → Ends x turns with_line left' × Counts)
+        s only
+        (λ (at_stop, few). (stopped_so ForDraw at_stop, counts_of (inl at_stop.paced) few))
+        (λ (at_stop, all). (
+          (stopped_so ForReading at_stop, omega (arith, going.counted, all, length-append p.readings readings)),
+          counts_of (inl at_stop.paced) (omega (arith, all)),
+        ))
+        (λ (at_stop, few). ((stopped_so ForReading at_stop, omega (arith, going.counted, few, length-append p.readings readings)), counts_of (inl at_stop.paced) (omega (arith, few))))
+        (λ (events, rest, part, bad, pace, few). (record { part = part_so events (rest later).0 (rest later).1 part; good = AreGood-append p.calls calls going.good bad }, counts_of pace few))
+        (λ (events, rest, part, bad, pace, few). ((part_so events (rest later).0 (rest later).1 part, IsBad-after Link p.calls calls going.good bad), counts_of pace few))
+        (λ (events, rest, part, bad, pace, few). (record { part = part_so events (rest later).0 (rest later).1 part; good = AreGood-append p.calls calls going.good bad }, counts_of pace few))
+        said
+
+    -- the run ends in a line
+    pub ended_in : (s : Status) (now' : Tellings) → now'.left ≡ left' → Wrote now.written now'.written out → Added now.calls now'.calls calls
+        → Added now.readings now'.readings readings → Added now.draws now'.draws draws → Ends s turns with_line left' × Counts → IsRelay s turns old now' with_line
+    ended_in s now' same wrote called read drew ends = record {
+      took = subst (λ (o : Option (List ℕ)). TookIn old.left o with_line.octets) (sym same) took_all;
+      wrote = wrote_more old.written now.written now'.written p.out out going.wrote wrote;
+      called = added_more old.calls now.calls now'.calls p.calls calls going.called called;
+      read = added_more old.readings now.readings now'.readings p.readings readings going.read read;
+      drew = added_more old.draws now.draws now'.draws p.draws draws going.drew drew;
+      ends = subst (Ends s turns with_line) (sym same) ends.0;
+      bound = bounded at'.budget paid;
+      most = ends.1.most;
+      paced = ends.1.paced;
+    }
+
+-- ---- the beginning
+
+-- the tick of the first reading
+abbrev pub first_tick : ℕ → List Event
+first_tick r = events_of (lines.Signal (Tick (moment_of r)))
+
+-- nothing but the first reading and what it tells has passed
+abbrev pub only_begun : List ℕ → List LinkCall → List ℕ → Passed
+only_begun readings calls out = record { octets = []; out = out; calls = calls; readings = readings; draws = [] }
+
+first_course : (r : ℕ) (calls : List LinkCall) (out : List ℕ) → receipts_in calls ≡ [] → course_of (only_begun (r ∷ []) calls out) ≡ with_events (first_tick r) (stopped BehindAll nothing)
+first_course r calls out none = ap (λ (xs : List Received). woven [] (r ∷ []) xs []) none
+
+begun_part : (r : ℕ) (calls : List LinkCall) (out : List ℕ) → receipts_in calls ≡ [] → IsPart (outcomes_from empty (first_tick r)) calls out → IsPart (outcomes (course_of (only_begun (r ∷ []) calls out)).events) calls out
+begun_part r calls out none part = part_in (only_begun (r ∷ []) calls out) (first_tick r) (stopped BehindAll nothing) (first_course r calls out none) part
+
+begun_pace : (turns r : ℕ) (calls : List LinkCall) → receipts_in calls ≡ [] → ArePaced (r ∷ []) (receipts_in calls) × (length (let one : List ℕ = r ∷ [] in one) ≤ turns + 1)
+begun_pace turns r calls none = (subst (λ (xs : List Received). ArePaced (r ∷ []) xs) (sym none) (inl refl), omega arith)
+
+module _ (turns : ℕ) (left : Option (List ℕ)) (stands_for : World → Type 0) (readings : List ℕ) (calls : List LinkCall) (out : List ℕ) where
+  -- what a status says of a run that ends with its first reading
+  abbrev EndsAtOnce : Status → Type 0
+  EndsAtOnce s = Ends s turns (only_begun readings calls out) left × ArePaced readings (receipts_in calls) × (length readings ≤ turns + 1)
+
+  -- the tick of the first reading was handled in part
+  cut_tick : (s : Status) (ends : (r : ℕ) → IsPart (outcomes (course_of (only_begun (r ∷ []) calls out)).events) calls out → Ends s turns (only_begun (r ∷ []) calls out) left)
+      → (r : ℕ) → readings ≡ r ∷ [] → receipts_in calls ≡ [] → IsPart (outcomes_from empty (first_tick r)) calls out → EndsAtOnce s
+  cut_tick s ends r one none part =
+      subst (λ (l : List ℕ). Ends s turns (only_begun l calls out) left × ArePaced l (receipts_in calls) × (length l ≤ turns + 1)) (sym one)
+      (ends r (begun_part r calls out none part), (begun_pace turns r calls none).0, (begun_pace turns r calls none).1)
+
+  pub begun_ends : (s : Status) → IsOfTurns s → IsBegun (Err s) empty stands_for readings calls out → EndsAtOnce s
+  begun_ends s only begun = of_turns (λ (x : Status). IsBegun (Err x) empty stands_for readings calls out → EndsAtOnce x) s only
+      (λ (none, uncalled, unwritten). (
+        (
+          whole_at (only_begun readings calls out) [] ForReading (λ i. woven [] (none i) (receipts_in (uncalled i)) [])
+              (subst (λ (l : List ℕ). IsDone [] calls l) (sym unwritten) (subst (λ (l : List LinkCall). IsDone [] l []) (sym uncalled) done_none))
+              (subst AreGood (sym uncalled) tt),
+          omega (arith, ap length none),
+        ),
+        subst (λ (l : List ℕ). ArePaced l (receipts_in calls)) (sym none) (ap receipts_in uncalled),
+        omega (arith, ap length none),
+      ))
+      (λ (r, one, none, part, bad). cut_tick Write (λ r part. record { part = part; good = bad }) r one none part)
+      (λ (r, one, none, part, bad). cut_tick Link (λ r part. (part, bad)) r one none part)
+      (λ (r, one, none, part, bad). cut_tick NoMemory (λ r part. record { part = part; good = bad }) r one none part)
+      begun
+
+-- the first line comes next
+pub begins_so : (old now : Tellings) (turns began : ℕ) (stands_for : World → Type 0) (readings : List ℕ) (calls : List LinkCall) (out : List ℕ)
+    → TookIn old.left now.left [] → Wrote old.written now.written out → Added old.calls now.calls calls → Added old.readings now.readings readings → Added old.draws now.draws []
+    → (begun : IsBegun (Ok began) empty stands_for readings calls out)
+    → IsRelaying old now turns began (only_begun readings calls out) (record { waits = []; number = 1; offset = 0; budget = 2 ^ 30 + 1 }) (first_tick begun.0) began turns
+begins_so old now turns began stands_for readings calls out took wrote called read drew (r, one, is, none, done, good, stands) = record {
+  took = took;
+  wrote = wrote;
+  called = called;
+  read = read;
+  drew = drew;
+  goes = λ rest o. (λ i. woven rest (one i ++ o.readings) (none i ++ o.receipts) o.draws) ∙ ap (λ (m : ℕ). with_events (first_tick r) (course_from (Relays m) 1 0 (lines_of rest) m o)) (sym is);
+  done = done;
+  good = good;
+  paced = omega (arith, ap length one, ap length none);
+  counted = omega (arith, ap length one);
+  size = refl;
+  room = refl;
+  within = omega arith;
+}
+
+-- the same of an equal reading
+pub reading_so : (old now : Tellings) (turns began : ℕ) (p : Passed) (at at' : Reading) (es : List Event) (top left : ℕ) → at ≡ at' → IsRelaying old now turns began p at' es top left
+    → IsRelaying old now turns began p at es top left
+reading_so old now turns began p at at' es top left same going = subst (λ (a : Reading). IsRelaying old now turns began p a es top left) (sym same) going

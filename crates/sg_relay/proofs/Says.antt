@@ -1,0 +1,235 @@
+-- What a line of a relay makes of what was taken of the outside.
+use Rattle.std.proofs.Common.{◌≡◌, ◌⊎◌, ◌≤◌, ◌+◌, ℕ, List, [], ◌∷◌, length, Option, Some, None, Result, Ok, Err, refl, sym, ap, ap₂, ◌∙◌, subst, inl, inr, arith}
+use Rattle.std.specs.Prelude.{IfErr}
+use Rattle.std.proofs.lemmas.List.{append-nil}
+use Rattle.sg_course.specs.Course.{Command, Course, ForReading, Later, Outside, Relays, Replays, arrivals_of, handled, handled_as, moment_of, said, said_by, wait_in, waited, with_events}
+use Rattle.sg_course.specs.Supplying.{IsSupplied}
+use Rattle.sg_course.specs.declared.status.Status.{Status}
+use Rattle.sg_course.specs.declared.status.Status.TheVariants.{Done, Usage, Script, Read, Write, Link, NoMemory, Clock, Noise, TurnsSpent}
+use Rattle.sg_base.specs.declared.addresses.Address.{Address}
+use Rattle.sg_base.specs.declared.identities.Noise304.{Noise304}
+use Rattle.sg_edge.specs.Links.{Came, LinkCall, Received}
+use Rattle.sg_gateway.specs.Drawn.{signal_with_noise}
+use Rattle.sg_gateway.specs.Events.{events_of, events_of_signal, outcomes_from}
+use Rattle.sg_gateway.specs.Step.{Event}
+use Rattle.sg_gateway.specs.World.{World}
+use Rattle.sg_lines.specs.LineText.{FitsLine}
+use Rattle.sg_lines.specs.declared.lines.Line.{Line}
+use Rattle.sg_lines.specs.declared.lines.Line.TheVariants as lines
+use Rattle.sg_lines.specs.declared.lines.Signal.{Signal}
+use Rattle.sg_lines.specs.declared.lines.Signal.TheVariants.{Tick, Psk, Manual, OfferSecure, OfferSdes, OfferMikey, Answer, Reject, Bye}
+use Rattle.sg_table.specs.Telling.{IsTimely}
+use Rattle.sg_relay.specs.Asked.{IsPart, receipts_in}
+use Rattle.sg_relay.specs.Causes.{IsOfOutcomes, IsOfSignals, IsOfWaits}
+use Rattle.sg_relay.specs.Parts.{AreHandled, FitsRelay, IsAtReading, IsBad, IsBegun, IsSaid, IsStopped, IsWaited, taken, taking}
+use Rattle.sg_relay.proofs.Deeds.{done_none}
+use Rattle.sg_relay.proofs.Waits.{of_outcomes, of_signals, of_turns}
+
+-- ---- a `tick` line
+
+said_wait : (k : Command) (l : Line) (until : ℕ) → wait_in k l ≡ Some until → (later : Later) (top : ℕ) (o : Outside) → said k l later top o ≡ waited until later top o.readings o.receipts o.draws
+said_wait k l until is later top o = ap (λ (w : Option ℕ). said_by l w later top o) is
+
+module _ (k : Command) (l : Line) (until : ℕ) (w : World) (top top' turns turns' : ℕ) (stands_for : World → Type 0) (readings : List ℕ) (calls : List LinkCall) (out : List ℕ)
+    (is : wait_in k l ≡ Some until) where
+  at_reading : IsAtReading until w top readings calls out → IsStopped k l w top ForReading readings calls [] out
+  at_reading at = record { events = at.events; stops = λ later. said_wait k l until is later top _ ∙ at.stops later []; done = at.done; good = at.good; paced = at.paced }
+
+  cut_so : (s : Status)
+      → (events : List Event)
+      × ((later : Later) (draws : List ℕ) → (rest : Course) × (waited until later top readings (receipts_in calls) draws ≡ with_events events rest))
+      × IsPart (outcomes_from w events) calls out × IsBad s calls
+      × ((length readings ≡ length (receipts_in calls)) ⊎ (length readings ≡ length (receipts_in calls) + 1)) × (length readings ≤ turns)
+      → (events : List Event)
+      × ((later : Later) → (rest : Course) × (said k l later top (taken readings (receipts_in calls) []) ≡ with_events events rest))
+      × IsPart (outcomes_from w events) calls out × IsBad s calls
+      × ((length readings ≡ length (receipts_in calls)) ⊎ (length readings ≡ length (receipts_in calls) + 1)) × (length readings ≤ turns)
+  cut_so s (es, rest, part, bad, paced, few) = (es, (λ later. ((rest later []).0, said_wait k l until is later top _ ∙ (rest later []).1)), part, bad, paced, few)
+
+  -- the wait was cut
+  wait_cut : (T : Type 0) (s : Status) → IsOfWaits s → IsWaited (Err s) until w top top' turns turns' stands_for readings calls out
+      → (let r : Result T Status = Err s in IsSaid r k l w top top' turns turns' stands_for readings calls [] out)
+  wait_cut T s (inl same) waited = subst
+      (λ (x : Status). IsWaited (Err x) until w top top' turns turns' stands_for readings calls out → (let r : Result T Status = Err x in IsSaid r k l w top top' turns turns' stands_for readings calls [] out))
+      (sym same) (λ (at, all). (at_reading at, all)) waited
+  wait_cut T s (inr only) waited = of_turns
+      (λ (x : Status). IsWaited (Err x) until w top top' turns turns' stands_for readings calls out → (let r : Result T Status = Err x in IsSaid r k l w top top' turns turns' stands_for readings calls [] out))
+      s only (λ (at, few). (at_reading at, few)) (cut_so Write) (cut_so Link) (cut_so NoMemory) waited
+
+  -- a wait at a line
+  pub wait_said : (r : Result (List ℕ) Status) → ((s : Status) → r ≡ Err s → IsOfWaits s) → IsWaited r until w top top' turns turns' stands_for readings calls out
+      → IsSaid r k l w top top' turns turns' stands_for readings calls [] out
+  wait_said (Ok pad) only (es, goes, done, good, stands, paced, counted) =
+      (es, (λ later o. said_wait k l until is later top _ ∙ goes later o.readings o.receipts o.draws), done, good, stands, paced, counted)
+  wait_said (Err s) only waited = wait_cut (List ℕ) s (only s refl) waited
+
+-- ---- another line
+
+said_other : (k : Command) (l : Line) → wait_in k l ≡ None → (later : Later) (top : ℕ) (o : Outside) → said k l later top o ≡ handled l later top o
+said_other k l is later top o = ap (λ (w : Option ℕ). said_by l w later top o) is
+
+-- the signal with its noise
+said_signal : (k : Command) (signal s : Signal) (draws : List ℕ) → wait_in k (lines.Signal signal) ≡ None → IsSupplied (Ok s) signal draws → (later : Later) (top : ℕ) (o : Outside)
+    → said k (lines.Signal signal) later top (taking [] [] draws o) ≡ with_events (events_of_signal s) (later top o)
+said_signal k signal s draws is supplies later top o =
+    said_other k (lines.Signal signal) is later top (taking [] [] draws o)
+    ∙ ap (λ found. handled_as found later top (taking [] [] draws o)) (supplies o.draws)
+
+-- a draw failed
+pub undrawn_said : (T : Type 0) (k : Command) (signal : Signal) (w : World) (top turns : ℕ) (stands_for : World → Type 0) (draws : List ℕ) → wait_in k (lines.Signal signal) ≡ None
+    → IsSupplied (Err Noise) signal draws → (let r : Result T Status = Err Noise in IsSaid r k (lines.Signal signal) w top top turns turns stands_for [] [] draws [])
+undrawn_said T k signal w top turns stands_for draws is (none, lacks) = (
+  record {
+    events = [];
+    stops = λ later. ap (λ (d : List ℕ). said k (lines.Signal signal) later top (taken [] [] d)) none
+        ∙ said_other k (lines.Signal signal) is later top (taken [] [] []) ∙ ap (λ found. handled_as found later top (taken [] [] [])) lacks;
+    done = done_none;
+    good = tt;
+    paced = refl;
+  },
+  omega arith,
+)
+
+pub unsupplied_said : (T : Type 0) (k : Command) (signal : Signal) (w : World) (top turns : ℕ) (stands_for : World → Type 0) (draws : List ℕ) (s : Status) → wait_in k (lines.Signal signal) ≡ None
+    → IsSupplied (Err s) signal draws → (let r : Result T Status = Err s in IsSaid r k (lines.Signal signal) w top top turns turns stands_for [] [] draws [])
+unsupplied_said T k signal w top turns stands_for draws Noise is lacks = undrawn_said T k signal w top turns stands_for draws is lacks
+unsupplied_said T k signal w top turns stands_for draws Done is lacks = absurd lacks
+unsupplied_said T k signal w top turns stands_for draws Usage is lacks = absurd lacks
+unsupplied_said T k signal w top turns stands_for draws (Script n f) is lacks = absurd lacks
+unsupplied_said T k signal w top turns stands_for draws Read is lacks = absurd lacks
+unsupplied_said T k signal w top turns stands_for draws Write is lacks = absurd lacks
+unsupplied_said T k signal w top turns stands_for draws Link is lacks = absurd lacks
+unsupplied_said T k signal w top turns stands_for draws NoMemory is lacks = absurd lacks
+unsupplied_said T k signal w top turns stands_for draws Clock is lacks = absurd lacks
+unsupplied_said T k signal w top turns stands_for draws TurnsSpent is lacks = absurd lacks
+
+module _ (k : Command) (l : Line) (w : World) (es : List Event) (top turns : ℕ) (stands_for : World → Type 0) (calls : List LinkCall) (draws out : List ℕ)
+    (says : (later : Later) (o : Outside) → said k l later top (taking [] [] draws o) ≡ with_events es (later top o)) where
+  cut_line : (s : Status) → IsPart (outcomes_from w es) calls out × IsBad s calls × (receipts_in calls ≡ [])
+      → (events : List Event) × ((later : Later) → (rest : Course) × (said k l later top (taken [] (receipts_in calls) draws) ≡ with_events events rest))
+      × IsPart (outcomes_from w events) calls out × IsBad s calls × ((0 ≡ length (receipts_in calls)) ⊎ (0 ≡ length (receipts_in calls) + 1)) × (0 ≤ turns)
+  cut_line s (part, bad, none) = (
+    es,
+    (λ later. (
+      later top (taken [] [] []),
+      ap₂ (λ (xs : List Received) (d : List ℕ). said k l later top (taken [] xs d)) none (sym (append-nil draws)) ∙ says later (taken [] [] []),
+    )),
+    part,
+    bad,
+    inl (sym (ap length none)),
+    omega arith,
+  )
+
+  -- a line's events were handled, or a front was done
+  pub handled_said : {T : Type 0} (r : Result T Status) → ((s : Status) → r ≡ Err s → IsOfOutcomes s) → AreHandled r w es stands_for calls out
+      → IsSaid r k l w top top turns turns stands_for [] calls draws out
+  handled_said (Ok x) only (done, good, none, stands) = (
+    es,
+    (λ later o. ap (λ (xs : List Received). said k l later top (taking [] xs draws o)) none ∙ says later o),
+    done,
+    good,
+    stands,
+    sym (ap length none),
+    omega arith,
+  )
+  handled_said {T} (Err s) only handled = of_outcomes
+      (λ (x : Status). IsPart (outcomes_from w es) calls out × IsBad x calls × (receipts_in calls ≡ []) → (let r : Result T Status = Err x in IsSaid r k l w top top turns turns stands_for [] calls draws out))
+      s (only s refl) (cut_line Write) (cut_line Link) (cut_line NoMemory) handled
+
+-- a signal was handled
+pub signal_said : {T : Type 0} (r : Result T Status) (k : Command) (signal s : Signal) (w : World) (top turns : ℕ) (stands_for : World → Type 0) (calls : List LinkCall) (draws out : List ℕ)
+    → wait_in k (lines.Signal signal) ≡ None → IsSupplied (Ok s) signal draws → ((status : Status) → r ≡ Err status → IsOfOutcomes status)
+    → AreHandled r w (events_of_signal s) stands_for calls out → IsSaid r k (lines.Signal signal) w top top turns turns stands_for [] calls draws out
+signal_said r k signal s w top turns stands_for calls draws out is supplies only handled =
+    handled_said k (lines.Signal signal) w (events_of_signal s) top turns stands_for calls draws out (λ later o. said_signal k signal s draws is supplies later top o) r only handled
+
+plain_header : (k : Command) (later : Later) (top : ℕ) (o : Outside) → said k lines.Header later top o ≡ with_events [] (later top o)
+plain_header Replays later top o = refl
+plain_header (Relays began) later top o = refl
+
+-- the header does nothing
+pub header_said : (pad : List ℕ) (k : Command) (l : Line) → l ≡ lines.Header → (w : World) (top turns : ℕ) (stands_for : World → Type 0) → stands_for w
+    → IsSaid (Ok pad) k l w top top turns turns stands_for [] [] [] []
+header_said pad k l is w top turns stands_for stands =
+    handled_said k l w [] top turns stands_for [] [] [] (λ later o. ap (λ (m : Line). said k m later top o) is ∙ plain_header k later top o) (Ok pad) (λ s same. absurd cc) (done_none, tt, refl, stands)
+
+plain_datagram : (k : Command) (port : ℕ) (from : Address) (octets : List ℕ) (later : Later) (top : ℕ) (o : Outside)
+    → said k (lines.Datagram port from octets) later top o ≡ with_events (arrivals_of (Came port from octets)) (later top o)
+plain_datagram Replays port from octets later top o = refl
+plain_datagram (Relays began) port from octets later top o = refl
+
+-- a datagram of a line was handled
+pub datagram_said : (r : Result (List ℕ) Status) (k : Command) (l : Line) (port : ℕ) (from : Address) (octets pad : List ℕ) → l ≡ lines.Datagram port from octets → pad ≡ octets
+    → (w : World) (top turns : ℕ) (stands_for : World → Type 0) (calls : List LinkCall) (out : List ℕ) → ((status : Status) → r ≡ Err status → IsOfOutcomes status)
+    → AreHandled r w (arrivals_of (Came port from pad)) stands_for calls out → IsSaid r k l w top top turns turns stands_for [] calls [] out
+datagram_said r k l port from octets pad is filled w top turns stands_for calls out only handled =
+    handled_said k l w (arrivals_of (Came port from pad)) top turns stands_for calls [] out
+    (λ later o. ap (λ (m : Line). said k m later top o) is ∙ plain_datagram k port from octets later top o ∙ ap (λ (d : List ℕ). with_events (arrivals_of (Came port from d)) (later top o)) (sym filled))
+    r only handled
+
+-- the datagram of a line fits a pad
+pub fits_pad : (l : Line) (port : ℕ) (from : Address) (octets : List ℕ) → l ≡ lines.Datagram port from octets → FitsRelay l → length octets ≤ 4352
+fits_pad l port from octets is fits = subst FitsRelay is fits
+
+pub fits_timely : (l : Line) (signal : Signal) → l ≡ lines.Signal signal → FitsRelay l → IsTimely signal
+fits_timely l signal is fits = subst FitsRelay is fits
+
+-- a signal with noise is as timely
+timely_so : (drawn : Noise304) (signal : Signal) → IsTimely signal → IsTimely (signal_with_noise drawn signal)
+timely_so drawn (Tick now) timely = timely
+timely_so drawn (Psk own peer key) timely = tt
+timely_so drawn (Manual call secure plain roc window from_peer to_peer) timely = tt
+timely_so drawn (OfferSecure call noise text) timely = tt
+timely_so drawn (OfferSdes call noise text) timely = tt
+timely_so drawn (OfferMikey call peer noise text) timely = tt
+timely_so drawn (Answer call noise text) timely = tt
+timely_so drawn (Reject call) timely = tt
+timely_so drawn (Bye call) timely = tt
+
+pub still_timely : (drawn : Noise304) (signal s : Signal) → s ≡ signal_with_noise drawn signal → IsTimely signal → IsTimely s
+still_timely drawn signal s is timely = subst IsTimely (sym is) (timely_so drawn signal timely)
+
+-- a line that is this signal, where the signal's part told an error
+pub said_as : (s : Status) (k : Command) (l : Line) (signal : Signal) → l ≡ lines.Signal signal → (w : World) (top top' turns turns' : ℕ) (stands_for : World → Type 0) (readings : List ℕ) (calls : List LinkCall)
+    (draws out : List ℕ) → IsOfSignals s → (let q : Result (Unit {0}) Status = Err s in IsSaid q k (lines.Signal signal) w top top' turns turns' stands_for readings calls draws out)
+    → (let r : Result (List ℕ) Status = Err s in IsSaid r k l w top top' turns turns' stands_for readings calls draws out)
+said_as s k l signal is w top top' turns turns' stands_for readings calls draws out only said =
+    subst (λ (m : Line). (let r : Result (List ℕ) Status = Err s in IsSaid r k m w top top' turns turns' stands_for readings calls draws out)) (sym is)
+    (of_signals (λ (x : Status). (let q : Result (Unit {0}) Status = Err x in IsSaid q k (lines.Signal signal) w top top' turns turns' stands_for readings calls draws out)
+    → (let r : Result (List ℕ) Status = Err x in IsSaid r k (lines.Signal signal) w top top' turns turns' stands_for readings calls draws out))
+    s only (λ same. same) (λ same. same) (λ same. same) (λ same. same) said)
+
+pub said_well : (pad : List ℕ) (k : Command) (l : Line) (signal : Signal) → l ≡ lines.Signal signal → (w : World) (top top' turns turns' : ℕ) (stands_for : World → Type 0) (readings : List ℕ) (calls : List LinkCall)
+    (draws out : List ℕ) → IsSaid {T = Unit {0}} (Ok tt) k (lines.Signal signal) w top top' turns turns' stands_for readings calls draws out → IsSaid (Ok pad) k l w top top' turns turns' stands_for readings calls draws out
+said_well pad k l signal is w top top' turns turns' stands_for readings calls draws out said =
+    subst (λ (m : Line). IsSaid (Ok pad) k m w top top' turns turns' stands_for readings calls draws out) (sym is) said
+
+-- ---- the status of an error
+
+pub only_at : {T : Type 0} (P : Status → Type 0) (r : Result T Status) → IfErr r P → (s : Status) → r ≡ Err s → P s
+only_at P (Ok x) all s is = absurd (let e : Ok x ≡ Err s = is in cc)
+only_at P (Err t) all s is = subst P (let e : Err t ≡ Err s = is in cc) all
+
+-- ---- the first reading
+
+pub cut_begun : (s : Status) (w : World) (stands_for : World → Type 0) (r : ℕ) (calls : List LinkCall) (out : List ℕ) → IsOfOutcomes s
+    → IsPart (outcomes_from w (events_of (lines.Signal (Tick (moment_of r))))) calls out × IsBad s calls × (receipts_in calls ≡ []) → IsBegun (Err s) w stands_for (r ∷ []) calls out
+cut_begun s w stands_for r calls out only = of_outcomes
+    (λ (x : Status). IsPart (outcomes_from w (events_of (lines.Signal (Tick (moment_of r))))) calls out × IsBad x calls × (receipts_in calls ≡ []) → IsBegun (Err x) w stands_for (r ∷ []) calls out)
+    s only (λ (part, bad, none). (r, refl, none, part, bad)) (λ (part, bad, none). (r, refl, none, part, bad)) (λ (part, bad, none). (r, refl, none, part, bad))
+
+-- ---- a line that was read
+
+-- a line of the grammar names no later moment than the last, and no longer datagram than fits a pad
+pub fits_relay : (n : ℕ) (l : Line) → FitsLine n l → FitsRelay l
+fits_relay n lines.Header fits = tt
+fits_relay n (lines.Datagram port from octets) fits = fits.1.2.high
+fits_relay n (lines.Signal (Tick now)) fits = fits.1
+fits_relay n (lines.Signal (Psk own peer key)) fits = tt
+fits_relay n (lines.Signal (Manual call secure plain roc window from_peer to_peer)) fits = tt
+fits_relay n (lines.Signal (OfferSecure call noise text)) fits = tt
+fits_relay n (lines.Signal (OfferSdes call noise text)) fits = tt
+fits_relay n (lines.Signal (OfferMikey call peer noise text)) fits = tt
+fits_relay n (lines.Signal (Answer call noise text)) fits = tt
+fits_relay n (lines.Signal (Reject call)) fits = tt
+fits_relay n (lines.Signal (Bye call)) fits = tt

@@ -1,0 +1,251 @@
+-- How a relay's turns and waits go on.
+use Rattle.std.proofs.Common.{◌≡◌, ◌⊎◌, ◌<◌, ◌≤◌, ◌+◌, ℕ, true, false, List, [], ◌∷◌, ◌++◌, length, max, Result, Ok, Err, refl, sym, ap, ap₂, ◌∙◌, subst, append_assoc, length-append, inl, inr, arith}
+use Rattle.std.specs.Prelude.{nat_le, if◌then◌else◌}
+use Rattle.std.proofs.lemmas.Bool.{cond-true, cond-false, le-leb, lt-leb}
+use Rattle.std.proofs.lemmas.List.{append-nil}
+use Rattle.sg_course.proofs.Courses.{outcomes_from-append, with_events_again, world_after-append}
+use Rattle.sg_course.specs.Course.{Course, ForReading, ForReceive, Later, arrivals_of, moment_of, stopped, ticks_of, waited, with_events}
+use Rattle.sg_course.specs.declared.status.Status.{Status}
+use Rattle.sg_course.specs.declared.status.Status.TheVariants.{Write, Link, NoMemory, Clock, Noise}
+use Rattle.sg_edge.specs.Links.{LinkCall, Received}
+use Rattle.sg_edge.specs.Links as links
+use Rattle.sg_gateway.specs.Events.{outcomes_from}
+use Rattle.sg_gateway.specs.Runs.{world_after}
+use Rattle.sg_gateway.specs.Step.{Event}
+use Rattle.sg_gateway.specs.World.{World}
+use Rattle.sg_outcome.specs.declared.outcomes.Outcome.{Outcome}
+use Rattle.sg_relay.specs.Asked.{AreGood, IsDone, IsGood, IsPart, receipt_in, receipts_in}
+use Rattle.sg_relay.specs.Causes.{IsOfOutcomes, IsOfSignals, IsOfTurns}
+use Rattle.sg_relay.specs.Parts.{AreHandled, IsAtReading, IsBad, IsReceived, IsTurn, IsWaited, turned}
+use Rattle.sg_relay.proofs.Deeds.{AreGood-append, IsBad-after, done_more, flat_append, part_after}
+
+-- what holds of each status of outcomes holds of one that is such
+pub of_outcomes : (P : Status → Type 0) (s : Status) → IsOfOutcomes s → P Write → P Link → P NoMemory → P s
+of_outcomes P s (inl is) write link memory = subst P (sym is) write
+of_outcomes P s (inr (inl is)) write link memory = subst P (sym is) link
+of_outcomes P s (inr (inr is)) write link memory = subst P (sym is) memory
+
+pub of_turns : (P : Status → Type 0) (s : Status) → IsOfTurns s → P Clock → P Write → P Link → P NoMemory → P s
+of_turns P s (inl is) clock write link memory = subst P (sym is) clock
+of_turns P s (inr is) clock write link memory = of_outcomes P s is write link memory
+
+pub of_signals : (P : Status → Type 0) (s : Status) → IsOfSignals s → P Noise → P Write → P Link → P NoMemory → P s
+of_signals P s (inl is) noise write link memory = subst P (sym is) noise
+of_signals P s (inr is) noise write link memory = of_outcomes P s is write link memory
+
+-- ---- a receive
+
+-- a receive that gives nothing to handle
+pub received_none : (x : Received) → IsDone [] (links.Receive x ∷ []) []
+received_none x = record { told = []; of_outcomes = refl; asked = refl; sent = refl; written = refl }
+
+-- the datagram that came is handled, or a front is done
+pub received_more : {T : Type 0} (r : Result T Status) (w : World) (stands_for : World → Type 0) (x : Received) (calls : List LinkCall) (out : List ℕ) → IsGood (links.Receive x)
+    → AreHandled r w (arrivals_of x) stands_for calls out → IsReceived r w stands_for x (links.Receive x ∷ calls) out
+received_more (Ok u) w stands_for x calls out good handled = (
+  ap (λ l. x ∷ l) handled.2,
+  done_more [] (outcomes_from w (arrivals_of x)) (links.Receive x ∷ []) calls [] out (received_none x) handled.0,
+  (good, handled.1),
+  handled.3,
+)
+received_more (Err s) w stands_for x calls out good handled = (
+  ap (λ l. x ∷ l) handled.2,
+  part_after [] (outcomes_from w (arrivals_of x)) (links.Receive x ∷ []) calls [] out (received_none x) handled.0,
+  IsBad-after s (links.Receive x ∷ []) calls (good, tt) handled.1,
+)
+
+-- ---- a turn
+
+-- a turn that was cut, for another reason than the clock
+abbrev pub IsCut : Status → World → ℕ → List ℕ → List LinkCall → List ℕ → Type 0
+IsCut s w top readings calls out =
+    (r : ℕ) × (xs : List Received) × (readings ≡ r ∷ []) × (receipts_in calls ≡ xs) × (length xs ≤ 1) × IsPart (outcomes_from w (turned top r xs)) calls out × IsBad s calls
+
+pub cut_turn : (s : Status) (w : World) (top top' : ℕ) (stands_for : World → Type 0) (readings : List ℕ) (calls : List LinkCall) (out : List ℕ)
+    → IsOfOutcomes s → IsCut s w top readings calls out → IsTurn (Err s) w top top' stands_for readings calls out
+cut_turn s w top top' stands_for readings calls out only =
+    of_outcomes (λ (x : Status). IsCut x w top readings calls out → IsTurn (Err x) w top top' stands_for readings calls out) s only (λ cut. cut) (λ cut. cut) (λ cut. cut)
+
+-- a turn that was cut in its receive
+pub cut_received : (T : Type 0) (s : Status) (w : World) (top r : ℕ) (x : Received) (stands_for stands_for' : World → Type 0) (a b : List LinkCall) (o p : List ℕ)
+    → AreHandled {T = Unit {0}} (Ok tt) w (ticks_of top r) stands_for a o → (let q : Result T Status = Err s in IsReceived q (world_after w (ticks_of top r)) stands_for' x b p) → IsCut s w top (r ∷ []) (a ++ b) (o ++ p)
+cut_received T s w top r x stands_for stands_for' a b o p ticked received = (
+  r,
+  x ∷ [],
+  refl,
+  flat_append receipt_in a b ∙ ap₂ (λ (l m : List Received). l ++ m) ticked.2 received.0,
+  omega arith,
+  subst (λ (os : List Outcome). IsPart os (a ++ b) (o ++ p)) (sym (outcomes_from-append w (ticks_of top r) (arrivals_of x)))
+      (part_after (outcomes_from w (ticks_of top r)) (outcomes_from (world_after w (ticks_of top r)) (arrivals_of x)) a b o p ticked.0 received.1),
+  IsBad-after s a b ticked.1 received.2,
+)
+
+-- a whole turn
+pub turn_done : (pad : List ℕ) (w : World) (top top' r : ℕ) (x : Received) (stands_for stands_for' : World → Type 0) (a b : List LinkCall) (o p : List ℕ)
+    → AreHandled {T = Unit {0}} (Ok tt) w (ticks_of top r) stands_for a o → IsReceived (Ok pad) (world_after w (ticks_of top r)) stands_for' x b p → top' ≡ max top (moment_of r)
+    → IsTurn (Ok (moment_of r, pad)) w top top' stands_for' (r ∷ []) (a ++ b) (o ++ p)
+turn_done pad w top top' r x stands_for stands_for' a b o p ticked received is = (
+  r,
+  x,
+  refl,
+  flat_append receipt_in a b ∙ ap₂ (λ (l m : List Received). l ++ m) ticked.2 received.0,
+  refl,
+  is,
+  subst (λ (os : List Outcome). IsDone os (a ++ b) (o ++ p)) (sym (outcomes_from-append w (ticks_of top r) (arrivals_of x)))
+      (done_more (outcomes_from w (ticks_of top r)) (outcomes_from (world_after w (ticks_of top r)) (arrivals_of x)) a b o p ticked.0 received.1),
+  AreGood-append a b ticked.1 received.2,
+  subst stands_for' (sym (world_after-append w (ticks_of top r) (arrivals_of x))) received.3,
+)
+
+-- ---- a wait
+
+-- the wait goes on after these
+abbrev pub GoesOn : ℕ → ℕ → List ℕ → List Received → List Event → ℕ → Type 0
+GoesOn until top readings receipts es top' =
+    (later : Later) (rs : List ℕ) (xs : List Received) (draws : List ℕ) → waited until later top (readings ++ rs) (receipts ++ xs) draws ≡ with_events es (waited until later top' rs xs draws)
+
+pub goes_none : (until top : ℕ) → GoesOn until top [] [] [] top
+goes_none until top = λ later rs xs draws. refl
+
+module _ (until top : ℕ) (readings : List ℕ) (receipts : List Received) (es : List Event) (top' : ℕ) (goes : GoesOn until top readings receipts es top') where
+  -- a whole turn, whatever follows
+  whole_turn : (r : ℕ) (x : Received) (later : Later) (rs : List ℕ) (xs : List Received) (draws : List ℕ)
+      → waited until later top ((readings ++ r ∷ []) ++ rs) ((receipts ++ x ∷ []) ++ xs) draws ≡ with_events es (waited until later top' (r ∷ rs) (x ∷ xs) draws)
+  whole_turn r x later rs xs draws =
+      ap₂ (λ (l : List ℕ) (m : List Received). waited until later top l m draws) (append_assoc readings (r ∷ []) rs) (append_assoc receipts (x ∷ []) xs) ∙ goes later (r ∷ rs) (x ∷ xs) draws
+
+  pub goes_turn : (r : ℕ) (x : Received) → nat_le until (moment_of r) ≡ false
+      → GoesOn until top (readings ++ r ∷ []) (receipts ++ x ∷ []) (es ++ (ticks_of top' r ++ arrivals_of x)) (max top' (moment_of r))
+  goes_turn r x early = λ later rs xs draws.
+      whole_turn r x later rs xs draws ∙ ap (λ c. with_events es (with_events (ticks_of top' r ++ arrivals_of x) c)) (cond-false _ _ _ early)
+      ∙ with_events_again es (ticks_of top' r ++ arrivals_of x) (waited until later (max top' (moment_of r)) rs xs draws)
+
+  pub over_turn : (r : ℕ) (x : Received) → nat_le until (moment_of r) ≡ true → (later : Later) (rs : List ℕ) (xs : List Received) (draws : List ℕ)
+      → waited until later top ((readings ++ r ∷ []) ++ rs) ((receipts ++ x ∷ []) ++ xs) draws
+      ≡ with_events (es ++ (ticks_of top' r ++ arrivals_of x)) (later (max top' (moment_of r)) (record { readings = rs; receipts = xs; draws = draws }))
+  over_turn r x over later rs xs draws =
+      whole_turn r x later rs xs draws ∙ ap (λ c. with_events es (with_events (ticks_of top' r ++ arrivals_of x) c)) (cond-true _ _ _ over)
+      ∙ with_events_again es (ticks_of top' r ++ arrivals_of x) (later (max top' (moment_of r)) (record { readings = rs; receipts = xs; draws = draws }))
+
+  pub at_reading : (later : Later) (draws : List ℕ) → waited until later top readings receipts draws ≡ with_events es (stopped ForReading (record { readings = []; receipts = []; draws = draws }))
+  at_reading later draws = ap₂ (λ (l : List ℕ) (m : List Received). waited until later top l m draws) (sym (append-nil readings)) (sym (append-nil receipts)) ∙ goes later [] [] draws
+
+  pub in_turn : (r : ℕ) (xs : List Received) → length xs ≤ 1 → (later : Later) (draws : List ℕ)
+      → (rest : Course) × (waited until later top (readings ++ r ∷ []) (receipts ++ xs) draws ≡ with_events (es ++ turned top' r xs) rest)
+  in_turn r [] one later draws = (
+    stopped ForReceive (record { readings = []; receipts = []; draws = draws }),
+    goes later (r ∷ []) [] draws ∙ with_events_again es (ticks_of top' r) (stopped ForReceive (record { readings = []; receipts = []; draws = draws })),
+  )
+  in_turn r (x ∷ []) one later draws =
+      let rest : Course = (if nat_le until (moment_of r) then later (max top' (moment_of r)) (record { readings = []; receipts = []; draws = draws }) else waited until later (max top' (moment_of r)) [] [] draws) in
+      (rest, goes later (r ∷ []) (x ∷ []) draws ∙ with_events_again es (ticks_of top' r ++ arrivals_of x) rest)
+  in_turn r (x ∷ y ∷ xs) one later draws = absurd (omega (arith, one))
+
+  module _ (w : World) (calls : List LinkCall) (out : List ℕ) (is : receipts_in calls ≡ receipts) (done : IsDone (outcomes_from w es) calls out) (good : AreGood calls)
+      (paced : length readings ≡ length receipts) (turns turns' : ℕ) (counted : length readings + turns' ≡ turns) where
+    pub reading_next : IsAtReading until w top readings calls out
+    reading_next = record {
+      events = es;
+      stops = λ later draws. ap (λ (m : List Received). waited until later top readings m draws) is ∙ at_reading later draws;
+      done = done;
+      good = good;
+      paced = paced ∙ ap length (sym is);
+    }
+
+    module _ (readings' : List ℕ) (calls' : List LinkCall) (out' : List ℕ) where
+      receipts_are : receipts_in (calls ++ calls') ≡ receipts ++ receipts_in calls'
+      receipts_are = flat_append receipt_in calls calls' ∙ ap (λ (l : List Received). l ++ receipts_in calls') is
+
+      pace : (xs : List Received) → length xs ≤ 1 → (length (readings ++ readings') ≡ length readings + 1) → length (receipts ++ xs) ≡ length receipts + length xs
+          → (length (readings ++ readings') ≡ length (receipts ++ xs)) ⊎ (length (readings ++ readings') ≡ length (receipts ++ xs) + 1)
+      pace [] one size more = inr (omega (arith, paced, size, more))
+      pace (x ∷ []) one size more = inl (omega (arith, paced, size, more))
+      pace (x ∷ y ∷ xs) one size more = absurd (omega (arith, one))
+
+      cut_so : (s : Status) → 0 < turns' → IsCut s (world_after w es) top' readings' calls' out'
+          → (events : List Event)
+          × ((later : Later) (draws : List ℕ) → (rest : Course) × (waited until later top (readings ++ readings') (receipts_in (calls ++ calls')) draws ≡ with_events events rest))
+          × IsPart (outcomes_from w events) (calls ++ calls') (out ++ out') × IsBad s (calls ++ calls')
+          × ((length (readings ++ readings') ≡ length (receipts_in (calls ++ calls'))) ⊎ (length (readings ++ readings') ≡ length (receipts_in (calls ++ calls')) + 1)) × (length (readings ++ readings') ≤ turns)
+      cut_so s left (r, xs, one, come, few, part, bad) =
+          let all : receipts_in (calls ++ calls') ≡ receipts ++ xs = receipts_are ∙ ap (λ (l : List Received). receipts ++ l) come in
+          let size : length (readings ++ readings') ≡ length readings + 1 = length-append readings readings' ∙ ap (λ (l : List ℕ). length readings + length l) one in (
+            es ++ turned top' r xs,
+            (λ later draws.
+                let at = in_turn r xs few later draws in
+                (at.0, ap₂ (λ (l : List ℕ) (m : List Received). waited until later top l m draws) (ap (λ (l : List ℕ). readings ++ l) one) all ∙ at.1)),
+            subst (λ (os : List Outcome). IsPart os (calls ++ calls') (out ++ out')) (sym (outcomes_from-append w es (turned top' r xs)))
+                (part_after (outcomes_from w es) (outcomes_from (world_after w es) (turned top' r xs)) calls calls' out out' done part),
+            IsBad-after s calls calls' good bad,
+            subst (λ (m : List Received). (length (readings ++ readings') ≡ length m) ⊎ (length (readings ++ readings') ≡ length m + 1)) (sym all) (pace xs few size (length-append receipts xs)),
+            omega (arith, size, counted, left),
+          )
+
+      -- there was no reading
+      unread : 0 < turns' → (readings' ≡ []) × (calls' ≡ []) × (out' ≡ [])
+          → IsAtReading until w top (readings ++ readings') (calls ++ calls') (out ++ out') × (length (readings ++ readings') < turns)
+      unread left (none, uncalled, unwritten) = (
+        subst (λ (l : List ℕ). IsAtReading until w top l (calls ++ calls') (out ++ out')) (sym (append-nil readings) ∙ ap (λ (l : List ℕ). readings ++ l) (sym none))
+            (subst (λ (l : List LinkCall). IsAtReading until w top readings l (out ++ out')) (sym (append-nil calls) ∙ ap (λ (l : List LinkCall). calls ++ l) (sym uncalled))
+            (subst (λ (l : List ℕ). IsAtReading until w top readings calls l) (sym (append-nil out) ∙ ap (λ (l : List ℕ). out ++ l) (sym unwritten)) reading_next)),
+        omega (arith, counted, left, length-append readings readings', ap length none),
+      )
+
+      -- a turn that was cut, or for which there was no reading
+      pub cut_wait : (s : Status) (stands_for stands_for' : World → Type 0) (top2 turns2 : ℕ) → IsOfTurns s → 0 < turns' → IsTurn (Err s) (world_after w es) top' top2 stands_for readings' calls' out'
+          → IsWaited (Err s) until w top top2 turns turns2 stands_for' (readings ++ readings') (calls ++ calls') (out ++ out')
+      cut_wait s stands_for stands_for' top2 turns2 only left = of_turns
+          (λ (x : Status). IsTurn (Err x) (world_after w es) top' top2 stands_for readings' calls' out' → IsWaited (Err x) until w top top2 turns turns2 stands_for' (readings ++ readings') (calls ++ calls') (out ++ out'))
+          s only (unread left) (cut_so Write left) (cut_so Link left) (cut_so NoMemory left)
+
+      -- a whole turn
+      all_done : (top2 moment : ℕ) (pad : List ℕ) (stands_for : World → Type 0) (turned : IsTurn (Ok (moment, pad)) (world_after w es) top' top2 stands_for readings' calls' out')
+          → let events : List Event = es ++ (ticks_of top' turned.0 ++ arrivals_of turned.1) in IsDone (outcomes_from w events) (calls ++ calls') (out ++ out') × AreGood (calls ++ calls') × stands_for (world_after w events)
+      all_done top2 moment pad stands_for (r, x, one, come, is, at, done', good', stands') = (
+        subst (λ (os : List Outcome). IsDone os (calls ++ calls') (out ++ out')) (sym (outcomes_from-append w es (ticks_of top' r ++ arrivals_of x)))
+            (done_more (outcomes_from w es) (outcomes_from (world_after w es) (ticks_of top' r ++ arrivals_of x)) calls calls' out out' done done'),
+        AreGood-append calls calls' good good',
+        subst stands_for (sym (world_after-append w es (ticks_of top' r ++ arrivals_of x))) stands',
+      )
+
+      -- the last turn
+      pub over_wait : (moment : ℕ) (pad : List ℕ) (top2 turns2 : ℕ) (stands_for : World → Type 0) → until ≤ moment → turns2 + 1 ≡ turns' → IsTurn (Ok (moment, pad)) (world_after w es) top' top2 stands_for readings' calls' out'
+          → IsWaited (Ok pad) until w top top2 turns turns2 stands_for (readings ++ readings') (calls ++ calls') (out ++ out')
+      over_wait moment pad top2 turns2 stands_for late one_less (r, x, one, come, is, at, done', good', stands') =
+          let all : receipts_in (calls ++ calls') ≡ receipts ++ x ∷ [] = receipts_are ∙ ap (λ (l : List Received). receipts ++ l) come in
+          let over : nat_le until (moment_of r) ≡ true = le-leb until (moment_of r) (omega (arith, late, is)) in
+          let top_is : top2 ≡ max top' (moment_of r) = at ∙ ap (λ (m : ℕ). max top' m) is in
+          let parts = all_done top2 moment pad stands_for (r, x, one, come, is, at, done', good', stands') in (
+            es ++ (ticks_of top' r ++ arrivals_of x),
+            (λ later rs xs draws.
+                ap₂ (λ (l : List ℕ) (m : List Received). waited until later top (l ++ rs) (m ++ xs) draws) (ap (λ (l : List ℕ). readings ++ l) one) all
+                ∙ over_turn r x over later rs xs draws
+                ∙ ap (λ (t : ℕ). with_events (es ++ (ticks_of top' r ++ arrivals_of x)) (later t (record { readings = rs; receipts = xs; draws = draws }))) (sym top_is)),
+            parts.0,
+            parts.1,
+            parts.2,
+            omega (arith, paced, length-append readings readings', ap length one, ap length all, length-append receipts (x ∷ [])),
+            omega (arith, counted, one_less, length-append readings readings', ap length one),
+          )
+
+      -- a turn that isn't the last
+      pub wait_more : (moment : ℕ) (pad : List ℕ) (top2 turns2 : ℕ) (stands_for : World → Type 0) → moment < until → turns2 + 1 ≡ turns' → IsTurn (Ok (moment, pad)) (world_after w es) top' top2 stands_for readings' calls' out'
+          → (events : List Event) × GoesOn until top (readings ++ readings') (receipts_in (calls ++ calls')) events top2
+          × IsDone (outcomes_from w events) (calls ++ calls') (out ++ out') × AreGood (calls ++ calls') × stands_for (world_after w events)
+          × (length (readings ++ readings') ≡ length (receipts_in (calls ++ calls'))) × (length (readings ++ readings') + turns2 ≡ turns)
+      wait_more moment pad top2 turns2 stands_for early one_less (r, x, one, come, is, at, done', good', stands') =
+          let all : receipts_in (calls ++ calls') ≡ receipts ++ x ∷ [] = receipts_are ∙ ap (λ (l : List Received). receipts ++ l) come in
+          let under : nat_le until (moment_of r) ≡ false = lt-leb until (moment_of r) (omega (arith, early, is)) in
+          let top_is : top2 ≡ max top' (moment_of r) = at ∙ ap (λ (m : ℕ). max top' m) is in
+          let parts = all_done top2 moment pad stands_for (r, x, one, come, is, at, done', good', stands') in
+          let events : List Event = es ++ (ticks_of top' r ++ arrivals_of x) in (
+            events,
+            subst (λ (t : ℕ). GoesOn until top (readings ++ readings') (receipts_in (calls ++ calls')) events t) (sym top_is)
+                (subst (λ (m : List Received). GoesOn until top (readings ++ readings') m events (max top' (moment_of r))) (sym all)
+                (subst (λ (l : List ℕ). GoesOn until top l (receipts ++ x ∷ []) events (max top' (moment_of r))) (ap (λ (l : List ℕ). readings ++ l) (sym one)) (goes_turn r x under))),
+            parts.0,
+            parts.1,
+            parts.2,
+            omega (arith, paced, length-append readings readings', ap length one, ap length all, length-append receipts (x ∷ [])),
+            omega (arith, counted, one_less, length-append readings readings', ap length one),
+          )

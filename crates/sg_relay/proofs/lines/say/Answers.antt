@@ -1,0 +1,75 @@
+use Rattle.std.proofs.Common.{sym, ap, [], ◌∙◌}
+use Rattle.sg_course.specs.Course.{Relays, wait_in}
+use Rattle.sg_edge.proofs.Links.{added_none}
+use Rattle.sg_edge.proofs.Passed.{wrote_none}
+use Rattle.sg_table.specs.Standing.{TableStandsFor}
+use Rattle.sg_relay.specs.Causes.{IsOfOutcomes, IsOfWaits}
+use Rattle.sg_relay.proofs.Says.{datagram_said, fits_timely, header_said, only_at, said_as, said_well, wait_said}
+use Rattle.sg_relay.proofs.lines.say.Goals as goal
+
+pub returns-in-Some-clause-said : goal.returns-in-Some-clause-said
+returns-in-Some-clause-said g c = λ w stands.
+    let waited = c.wait.ensures.waited w stands in (
+      waited.0,
+      waited.1,
+      [],
+      waited.2,
+      waited.3,
+      waited.4,
+      added_none _,
+      waited.5,
+      wait_said (Relays c.args.began) c.args.line c.in-Some.until w c.args.top.now c.wait.new.top c.args.turns.now c.wait.new.turns (TableStandsFor c.wait.new.table) waited.0 waited.1 waited.2
+          (ap (wait_in (Relays c.args.began)) c.in-Signal.is ∙ sym c.in-Some.ensures) c.wait.result (only_at IsOfWaits c.wait.result c.wait.ensures.only) waited.6,
+    )
+
+pub returns-in-Header-clause-said : goal.returns-in-Header-clause-said
+returns-in-Header-clause-said g c = λ w stands.
+    ([], [], [], [], added_none _, added_none _, added_none _, wrote_none _, header_said c.args.pad (Relays c.args.began) c.args.line c.in-Header.is w c.args.top.now c.args.turns.now (TableStandsFor c.args.table.now) stands)
+
+pub returns-in-Datagram-clause-said : goal.returns-in-Datagram-clause-said
+returns-in-Datagram-clause-said g c = λ w stands.
+    let handled = c.arrive.ensures.handled w stands in (
+      [],
+      handled.0,
+      [],
+      handled.1,
+      added_none _,
+      handled.2,
+      added_none _,
+      handled.3,
+      datagram_said c.arrive.result (Relays c.args.began) c.args.line c.in-Datagram.port c.in-Datagram.from c.in-Datagram.octets c.filled-pad.result c.in-Datagram.is (c.filled-pad.ensures ∙ c.as_slice.ensures) w c.args.top.now c.args.turns.now
+          (TableStandsFor c.arrive.new.table) handled.0 handled.1 (only_at IsOfOutcomes c.arrive.result c.arrive.ensures.only) handled.4,
+    )
+
+pub returns-in-Err-clause-said : goal.returns-in-Err-clause-said
+returns-in-Err-clause-said g c = λ w stands.
+    let said = c.in-Err.ensures.said w stands in (
+      [],
+      said.0,
+      said.1,
+      said.2,
+      added_none _,
+      said.3,
+      said.4,
+      said.5,
+      said_as c.in-Err.status (Relays c.args.began) c.args.line c.in-Signal.signal c.in-Signal.is w c.args.top.now c.args.top.now c.args.turns.now c.args.turns.now (TableStandsFor c.handle.new.table) [] said.0 said.1 said.2
+          c.in-Err.ensures.only (said.6 (Relays c.args.began) c.args.top.now c.args.turns.now (sym c.in-None.ensures)),
+    )
+
+pub returns-in-Ok-clause-said : goal.returns-in-Ok-clause-said
+returns-in-Ok-clause-said g c = λ w stands.
+    let said = c.in-Ok.ensures.said w stands in (
+      [],
+      said.0,
+      said.1,
+      said.2,
+      added_none _,
+      said.3,
+      said.4,
+      said.5,
+      said_well c.args.pad (Relays c.args.began) c.args.line c.in-Signal.signal c.in-Signal.is w c.args.top.now c.args.top.now c.args.turns.now c.args.turns.now (TableStandsFor c.handle.new.table) [] said.0 said.1 said.2
+          (said.6 (Relays c.args.began) c.args.top.now c.args.turns.now (sym c.in-None.ensures)),
+    )
+
+pub handle-requires : goal.handle-requires
+handle-requires g c = record { timely = fits_timely c.args.line c.in-Signal.signal c.in-Signal.is c.requires.fits }

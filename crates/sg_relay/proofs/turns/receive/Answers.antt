@@ -1,0 +1,42 @@
+use Rattle.std.proofs.Common.{[], ◌∷◌, subst, refl}
+use Rattle.std.specs.Prelude.{Ok}
+use Rattle.sg_edge.specs.Links.{Added, Came, Failing, Nothing, Receive, received}
+use Rattle.sg_edge.proofs.Links.{added_more}
+use Rattle.sg_edge.proofs.Passed.{wrote_none}
+use Rattle.sg_table.specs.Standing.{TableStandsFor}
+use Rattle.sg_relay.proofs.Deeds.{part_of}
+use Rattle.sg_relay.proofs.Waits.{received_more, received_none}
+use Rattle.sg_relay.proofs.turns.receive.Goals as goal
+
+pub returns-in-Err-clause-received : goal.returns-in-Err-clause-received
+returns-in-Err-clause-received g c = λ w stands. (
+  Failing,
+  Receive Failing ∷ [],
+  [],
+  c.in-Err.ensures.told,
+  wrote_none _,
+  (refl, part_of [] (Receive Failing ∷ []) [] (received_none Failing), record { before = []; last = Receive Failing; calls_are = refl; good = tt; bad = λ is. is }),
+)
+
+pub returns-in-Ok-Nothing-clause-received : goal.returns-in-Ok-Nothing-clause-received
+returns-in-Ok-Nothing-clause-received g c = λ w stands. (
+  Nothing,
+  Receive Nothing ∷ [],
+  [],
+  subst (λ r. Added (g.L.Link.told c.args.link.now) (g.L.Link.told c.receive.new.self) (Receive (received (Ok r) c.receive.new.pad) ∷ [])) c.in-Ok-Nothing.field-0-is c.in-Ok-Nothing.ensures.told,
+  wrote_none _,
+  (refl, received_none Nothing, (tt, tt), stands),
+)
+
+pub returns-in-Ok-Got-clause-received : goal.returns-in-Ok-Got-clause-received
+returns-in-Ok-Got-clause-received g c = λ w stands.
+    let handled = c.arrive.ensures.handled w stands in
+    let x = Came c.in-Ok-Got.port c.in-Ok-Got.from c.receive.new.pad in (
+      x,
+      Receive x ∷ handled.0,
+      handled.1,
+      added_more _ _ _ (Receive x ∷ []) handled.0
+          (subst (λ r. Added (g.L.Link.told c.args.link.now) (g.L.Link.told c.receive.new.self) (Receive (received (Ok r) c.receive.new.pad) ∷ [])) c.in-Ok-Got.field-0-is c.in-Ok-Got.ensures.told) handled.2,
+      handled.3,
+      received_more c.arrive.result w (TableStandsFor c.arrive.new.table) x handled.0 handled.1 tt handled.4,
+    )

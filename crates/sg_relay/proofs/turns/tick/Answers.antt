@@ -1,0 +1,18 @@
+use Rattle.std.proofs.Common.{[], subst, sym, refl}
+use Rattle.std.specs.Prelude.{Ok}
+use Rattle.std.proofs.lemmas.Bool.{cond-false, le-ltb}
+use Rattle.sg_edge.proofs.Links.{added_none}
+use Rattle.sg_edge.proofs.Passed.{wrote_none}
+use Rattle.sg_table.specs.Standing.{TableStandsFor}
+use Rattle.sg_relay.specs.Parts.{AreHandled}
+use Rattle.sg_relay.proofs.Deeds.{done_none}
+use Rattle.sg_relay.proofs.turns.tick.Goals as goal
+
+pub returns-then-moment-top-clause-handled : goal.returns-then-moment-top-clause-handled
+returns-then-moment-top-clause-handled g c = λ w stands. (
+  [],
+  [],
+  added_none _,
+  wrote_none _,
+  subst (λ es. AreHandled {T = Unit {0}} (Ok tt) w es (TableStandsFor c.args.table.now) [] []) (sym (cond-false _ _ _ (le-ltb c.args.top.now c.args.moment c.if-moment-top.true))) (done_none, tt, refl, stands),
+)

@@ -1,0 +1,65 @@
+use Rattle.std.proofs.Common.{◌≤◌, ℕ, List, [], ◌∷◌, ◌++◌, length, max, refl, sym, ap, subst, ◌∙◌, arith}
+use Rattle.std.specs.Prelude.{Ok}
+use Rattle.sg_course.specs.Course.{ticks_at, ticks_of}
+use Rattle.sg_edge.specs.Links.{Received}
+use Rattle.sg_edge.proofs.Links.{added_more}
+use Rattle.sg_edge.proofs.Passed.{wrote_more}
+use Rattle.sg_gateway.specs.Events.{outcomes_from}
+use Rattle.sg_gateway.specs.Runs.{world_after}
+use Rattle.sg_table.specs.Standing.{TableStandsFor}
+use Rattle.sg_relay.specs.Asked.{IsPart}
+use Rattle.sg_relay.specs.Parts.{AreHandled, IsTurn}
+use Rattle.sg_relay.proofs.Waits.{cut_received, cut_turn, turn_done}
+use Rattle.sg_relay.proofs.turns.turn.Goals as goal
+
+pub returns-in-Err-tick-clause-turned : goal.returns-in-Err-tick-clause-turned
+returns-in-Err-tick-clause-turned g c = λ w stands.
+    let handled = c.in-Err-tick.ensures.handled w stands in
+    let r : ℕ = c.in-Ok.reading in
+    let few : length (let none : List Received = [] in none) ≤ 1 = omega arith in (
+      r ∷ [],
+      handled.0,
+      handled.1,
+      c.in-Ok.ensures.gave,
+      handled.2,
+      handled.3,
+      cut_turn c.in-Err-tick.status w c.args.top.now c.tick.new.top (TableStandsFor c.tick.new.table) (r ∷ []) handled.0 handled.1 c.in-Err-tick.ensures.only
+          (r, [], refl, handled.4.2, few, subst (λ (m : ℕ). IsPart (outcomes_from w (ticks_at c.args.top.now m)) handled.0 handled.1) c.min-moment.ensures handled.4.0, handled.4.1),
+    )
+
+pub returns-in-Err-receive-clause-turned : goal.returns-in-Err-receive-clause-turned
+returns-in-Err-receive-clause-turned g c = λ w stands.
+    let handled = c.in-Ok-tick.ensures.handled w stands in
+    let r : ℕ = c.in-Ok.reading in
+    let top : ℕ = c.args.top.now in
+    let ticked : AreHandled {T = Unit {0}} (Ok tt) w (ticks_of top r) (TableStandsFor c.tick.new.table) handled.0 handled.1 =
+    subst (λ (m : ℕ). AreHandled {T = Unit {0}} (Ok tt) w (ticks_at top m) (TableStandsFor c.tick.new.table) handled.0 handled.1) c.min-moment.ensures handled.4 in
+    let received = c.in-Err-receive.ensures.received (world_after w (ticks_of top r)) ticked.3 in (
+      r ∷ [],
+      handled.0 ++ received.1,
+      handled.1 ++ received.2,
+      c.in-Ok.ensures.gave,
+      added_more _ _ _ handled.0 received.1 handled.2 received.3,
+      wrote_more _ _ _ handled.1 received.2 handled.3 received.4,
+      cut_turn c.in-Err-receive.status w top c.tick.new.top (TableStandsFor c.receive.new.table) (r ∷ []) (handled.0 ++ received.1) (handled.1 ++ received.2) c.in-Err-receive.ensures.only
+          (cut_received (List ℕ) c.in-Err-receive.status w top r received.0 (TableStandsFor c.tick.new.table) (TableStandsFor c.receive.new.table) handled.0 received.1 handled.1 received.2 ticked received.5),
+    )
+
+pub returns-in-Ok-receive-clause-turned : goal.returns-in-Ok-receive-clause-turned
+returns-in-Ok-receive-clause-turned g c = λ w stands.
+    let handled = c.in-Ok-tick.ensures.handled w stands in
+    let r : ℕ = c.in-Ok.reading in
+    let top : ℕ = c.args.top.now in
+    let ticked : AreHandled {T = Unit {0}} (Ok tt) w (ticks_of top r) (TableStandsFor c.tick.new.table) handled.0 handled.1 =
+    subst (λ (m : ℕ). AreHandled {T = Unit {0}} (Ok tt) w (ticks_at top m) (TableStandsFor c.tick.new.table) handled.0 handled.1) c.min-moment.ensures handled.4 in
+    let received = c.in-Ok-receive.ensures.received (world_after w (ticks_of top r)) ticked.3 in (
+      r ∷ [],
+      handled.0 ++ received.1,
+      handled.1 ++ received.2,
+      c.in-Ok.ensures.gave,
+      added_more _ _ _ handled.0 received.1 handled.2 received.3,
+      wrote_more _ _ _ handled.1 received.2 handled.3 received.4,
+      subst (λ (m : ℕ). IsTurn (Ok (m, c.in-Ok-receive.pad)) w top c.tick.new.top (TableStandsFor c.receive.new.table) (r ∷ []) (handled.0 ++ received.1) (handled.1 ++ received.2)) (sym c.min-moment.ensures)
+          (turn_done c.in-Ok-receive.pad w top c.tick.new.top r received.0 (TableStandsFor c.tick.new.table) (TableStandsFor c.receive.new.table) handled.0 received.1 handled.1 received.2 ticked received.5
+          (c.tick.ensures.top ∙ ap (λ (m : ℕ). max top m) c.min-moment.ensures)),
+    )

@@ -1,0 +1,24 @@
+use Rattle.std.proofs.Common.{◌≡◌, ◌≤◌, ◌+◌, List, ℕ, length}
+use Rattle.sg_edge.specs.Links.{Added, LinkCall}
+use Rattle.sg_edge.specs.Told.{Wrote}
+use Rattle.sg_gateway.specs.Events.{outcomes_from}
+use Rattle.sg_gateway.specs.Runs.{world_after}
+use Rattle.sg_gateway.specs.Step.{Event}
+use Rattle.sg_gateway.specs.World.{World}
+use Rattle.sg_table.specs.Standing.{TableStandsFor}
+use Rattle.sg_relay.specs.Asked.{AreGood, IsDone, receipts_in}
+use Rattle.sg_relay.proofs.Waits.{GoesOn}
+use Rattle.sg_relay.proofs.turns.wait.Given as goal
+
+abbrev pub invariant-turns : goal.invariant-turns
+invariant-turns g l =
+    ((w : World) → TableStandsFor l.fn.table w
+    → (readings : List ℕ) × (calls : List LinkCall) × (out : List ℕ) × (es : List Event)
+    × Added (g.C.Clock.given l.fn.clock) (g.C.Clock.given l.clock) readings × Added (g.L.Link.told l.fn.link) (g.L.Link.told l.link) calls × Wrote (g.K.Sink.written l.fn.sink) (g.K.Sink.written l.sink) out
+    × GoesOn l.until l.fn.top readings (receipts_in calls) es l.top
+    × IsDone (outcomes_from w es) calls out × AreGood calls × TableStandsFor l.table (world_after w es)
+    × (length readings ≡ length (receipts_in calls)) × (length readings + l.turns ≡ l.fn.turns))
+    × (g.K.Sink.faults l.sink ≡ g.K.Sink.faults l.fn.sink) × (g.L.Link.faults l.fn.link ≤ g.L.Link.faults l.link) × (g.C.Clock.faults l.clock ≡ g.C.Clock.faults l.fn.clock)
+
+abbrev pub decreases-turns : goal.decreases-turns
+decreases-turns g l = l.turns

@@ -1,0 +1,135 @@
+-- What outcomes ask of a link, and what is written of them.
+use Rattle.std.specs.Prelude.{◌≡◌, ℕ, ◌+◌, ◌*◌, zero, suc, Bool, true, false, List, [], ◌∷◌, ◌++◌, map}
+use Rattle.std.specs.List.{AllByRecursion, flat_map}
+use Rattle.sg_base.specs.declared.addresses.Address.{Address}
+use Rattle.sg_edge.specs.Links.{LinkCall, Received, Came, Nothing, Failing}
+use Rattle.sg_edge.specs.Links as links
+use Rattle.sg_gateway.specs.Ports.{port_at}
+use Rattle.sg_outcome.specs.declared.outcomes.Outcome.{Outcome}
+use Rattle.sg_outcome.specs.declared.outcomes.Outcome.TheVariants.{Made, Live, Sdp, Refused, Ended, Out, Dropped, Unsent}
+use Rattle.sg_course.specs.Output.{IsPrefixOf, text}
+
+-- what an outcome asks of a link
+pub data Ask : Type 0 where
+  Bind : ℕ → Ask
+  Unbind : ℕ → Ask
+  Send : ℕ → Address → List ℕ → Ask
+
+-- to bind a port, or to give it up
+abbrev pub hold : Bool → ℕ → Ask
+hold true port = Bind port
+hold false port = Unbind port
+
+-- so many ports in ascending order from this one on
+abbrev pub ports_from : ℕ → ℕ → List ℕ
+ports_from port zero = []
+ports_from port (suc n) = port ∷ ports_from (port + 1) n
+
+-- the ports of a call's media, four each, in ascending order
+abbrev pub ports_of : ℕ → ℕ → List ℕ
+ports_of slot media = ports_from (port_at slot 0 0) (4 * media)
+
+-- the ports of a call that is made are bound, those of one that has ended are unbound, and a packet is sent
+abbrev pub asks_of : Outcome → List Ask
+asks_of (Made call slot media) = map (hold true) (ports_of slot media)
+asks_of (Ended call slot media why) = map (hold false) (ports_of slot media)
+asks_of (Out port to octets) = Send port to octets ∷ []
+asks_of (Live call) = []
+asks_of (Sdp call side text) = []
+asks_of (Refused call cause) = []
+asks_of (Dropped port cause) = []
+asks_of (Unsent port to) = []
+
+-- the binds, unbinds and sends among the calls of a link
+abbrev pub ask_in : LinkCall → List Ask
+ask_in (links.Bind port ok) = Bind port ∷ []
+ask_in (links.Unbind port ok) = Unbind port ∷ []
+ask_in (links.Receive received) = []
+ask_in (links.Send port to octets ok) = Send port to octets ∷ []
+
+abbrev pub asks_in : List LinkCall → List Ask
+asks_in calls = flat_map ask_in calls
+
+-- how the sends among them went
+abbrev pub sent_in : LinkCall → List Bool
+sent_in (links.Bind port ok) = []
+sent_in (links.Unbind port ok) = []
+sent_in (links.Receive received) = []
+sent_in (links.Send port to octets ok) = ok ∷ []
+
+abbrev pub sends_in : List LinkCall → List Bool
+sends_in calls = flat_map sent_in calls
+
+-- the answers of the receives among them
+abbrev pub receipt_in : LinkCall → List Received
+receipt_in (links.Bind port ok) = []
+receipt_in (links.Unbind port ok) = []
+receipt_in (links.Receive received) = received ∷ []
+receipt_in (links.Send port to octets ok) = []
+
+abbrev pub receipts_in : List LinkCall → List Received
+receipts_in calls = flat_map receipt_in calls
+
+-- an outcome, and how its send went, where it is a packet
+pub record Told : Type 0 where
+  pub outcome : Outcome
+  pub sent : Bool
+
+-- the answer of its send
+abbrev pub sent_as : Outcome → Bool → List Bool
+sent_as (Out port to octets) ok = ok ∷ []
+sent_as other ok = []
+
+abbrev pub sent_of : Told → List Bool
+sent_of t = sent_as t.outcome t.sent
+
+-- What is written: of a packet that was sent nothing, of one whose send failed that it is unsent, and of
+-- every other outcome its line.
+abbrev pub written_as : Outcome → Bool → List Outcome
+written_as (Out port to octets) true = []
+written_as (Out port to octets) false = Unsent port to ∷ []
+written_as other ok = other ∷ []
+
+abbrev pub written_of : Told → List Outcome
+written_of t = written_as t.outcome t.sent
+
+-- The calls of the link are those that the outcomes ask for, each once and in order, and the octets are the
+-- lines of the outcomes, by how the sends went.
+pub record IsDone (outcomes : List Outcome) (calls : List LinkCall) (out : List ℕ) : Type 0 where
+  pub told : List Told
+  pub of_outcomes : map (λ t. t.outcome) told ≡ outcomes
+  pub asked : asks_in calls ≡ flat_map asks_of outcomes
+  pub sent : sends_in calls ≡ flat_map sent_of told
+  pub written : out ≡ text (flat_map written_of told)
+
+-- The sends that were made went so, and of those that weren't none is told to have failed.
+abbrev pub AreSent : List Bool → List Bool → Type 0
+AreSent made sent = (rest : List Bool) × (sent ≡ made ++ rest) × AllByRecursion (λ ok. ok ≡ true) rest
+
+-- Of both a front.
+pub record IsPart (outcomes : List Outcome) (calls : List LinkCall) (out : List ℕ) : Type 0 where
+  pub told : List Told
+  pub of_outcomes : map (λ t. t.outcome) told ≡ outcomes
+  pub asked : IsPrefixOf (asks_in calls) (flat_map asks_of outcomes)
+  pub sent : AreSent (sends_in calls) (flat_map sent_of told)
+  pub written : IsPrefixOf out (text (flat_map written_of told))
+
+-- the call went well, or is a send
+abbrev pub IsGood : LinkCall → Type 0
+IsGood (links.Bind port ok) = ok ≡ true
+IsGood (links.Unbind port ok) = ok ≡ true
+IsGood (links.Receive (Came port from octets)) = Unit {0}
+IsGood (links.Receive Nothing) = Unit {0}
+IsGood (links.Receive Failing) = ⊥
+IsGood (links.Send port to octets ok) = Unit {0}
+
+abbrev pub AreGood : List LinkCall → Type 0
+AreGood calls = AllByRecursion IsGood calls
+
+-- the last call is a bind, an unbind or a receive that failed, and no other call is
+pub record EndsBadly (calls : List LinkCall) : Type 0 where
+  pub before : List LinkCall
+  pub last : LinkCall
+  pub calls_are : calls ≡ before ++ last ∷ []
+  pub good : AreGood before
+  pub bad : ¬ IsGood last

@@ -1,0 +1,42 @@
+-- Whose failure a part of a relay tells.
+use Rattle.std.specs.Prelude.{◌≡◌, ◌⊎◌, ◌≤◌, ℕ, Bool, Option, Result, Ok, Err}
+use Rattle.sg_edge.specs.Told.{Rose}
+use Rattle.sg_course.specs.Causes.{HasFailed}
+use Rattle.sg_course.specs.declared.status.Status.{Status}
+use Rattle.sg_course.specs.declared.status.Status.TheVariants.{Write, Link, NoMemory, Clock, Noise, TurnsSpent}
+
+-- The count of failures stays where none is told, and else has this cause.
+abbrev pub IsDueTo : {T : Type 0} → Status → Result T Status → ℕ → ℕ → Option Bool → Type 0
+IsDueTo own (Ok x) old new failed = new ≡ old
+IsDueTo own (Err status) old new failed = HasFailed (status ≡ own) old new failed
+
+-- A link's count rose where this is so; it never falls. A send that fails raises it too.
+pub record HasRisen (p : Type 0) (old new : ℕ) : Type 0 where
+  pub later : old ≤ new
+  pub rose : p → Rose old new
+
+abbrev pub IsDueToLink : {T : Type 0} → Result T Status → ℕ → ℕ → Type 0
+IsDueToLink (Ok x) old new = old ≤ new
+IsDueToLink (Err status) old new = HasRisen (status ≡ Link) old new
+
+-- ---- what may be told
+
+-- of outcomes that are carried out
+abbrev pub IsOfOutcomes : Status → Type 0
+IsOfOutcomes status = (status ≡ Write) ⊎ (status ≡ Link) ⊎ (status ≡ NoMemory)
+
+-- of a turn
+abbrev pub IsOfTurns : Status → Type 0
+IsOfTurns status = (status ≡ Clock) ⊎ IsOfOutcomes status
+
+-- of a wait
+abbrev pub IsOfWaits : Status → Type 0
+IsOfWaits status = (status ≡ TurnsSpent) ⊎ IsOfTurns status
+
+-- of a signal
+abbrev pub IsOfSignals : Status → Type 0
+IsOfSignals status = (status ≡ Noise) ⊎ IsOfOutcomes status
+
+-- of a line
+abbrev pub IsOfLines : Status → Type 0
+IsOfLines status = (status ≡ Noise) ⊎ IsOfWaits status

@@ -1,0 +1,5 @@
+pub mod Asked
+pub mod Causes
+pub mod Completeness
+pub mod Parts
+pub mod Relay

@@ -1,0 +1,85 @@
+-- What a relay answers, and what has passed between it and the outside by then.
+use Rattle.std.specs.Prelude.{◌≡◌, ◌⊎◌, ◌≤◌, ◌+◌, ◌^◌, length, ℕ, List, [], ◌∷◌, ◌++◌, Option}
+use Rattle.sg_base.specs.declared.faults.ScriptFault.TheVariants.{Unended}
+use Rattle.sg_edge.specs.Links.{Added, LinkCall, Received}
+use Rattle.sg_edge.specs.Told.{TookIn, Wrote, AtEnd}
+use Rattle.sg_gateway.specs.Runs.{outcomes}
+use Rattle.sg_course.specs.declared.status.Status.{Status}
+use Rattle.sg_course.specs.declared.status.Status.TheVariants.{Done, Usage, Script, Read, Write, Link, NoMemory, Clock, Noise, TurnsSpent}
+use Rattle.sg_relay.specs.Asked.{AreGood, EndsBadly, IsDone, IsPart, receipts_in}
+use Rattle.sg_course.specs.Course.{AtEnd as BehindAll, AtFault, Course, ForDraw, ForReading, Outside, woven}
+
+-- what passed between a run and the outside, each in order: the octets read and those written, the calls of
+-- the link, the readings of the clock and the octets drawn
+pub record Passed : Type 0 where
+  pub octets : List ℕ
+  pub out : List ℕ
+  pub calls : List LinkCall
+  pub readings : List ℕ
+  pub draws : List ℕ
+
+-- the course that it makes
+abbrev pub course_of : Passed → Course
+course_of p = woven p.octets p.readings (receipts_in p.calls) p.draws
+
+abbrev pub nothing : Outside
+nothing = record { readings = []; receipts = []; draws = [] }
+
+-- All that the events ask for was done, and no reading, receive or draw was taken besides. No call of the link
+-- but a send has failed.
+pub record IsWhole (p : Passed) (stop : Rattle.sg_course.specs.Course.Stop) : Type 0 where
+  pub stops : (course_of p).stop ≡ stop
+  pub left : (course_of p).left ≡ nothing
+  pub done : IsDone (outcomes (course_of p).events) p.calls p.out
+  pub good : AreGood p.calls
+
+-- Of what the events ask for a front was done, and no call of the link but a send has failed.
+pub record IsBroken (p : Passed) : Type 0 where
+  pub part : IsPart (outcomes (course_of p).events) p.calls p.out
+  pub good : AreGood p.calls
+
+-- The status, by what passed, what the source has left, and the most turns. With Done all is handled and the
+-- source is at its end. With Script the lines before the named one are handled, and the named line is the
+-- first outside the grammar, with its first fault, whatever would come behind what was read; Unended comes
+-- only at the source's end. With TurnsSpent all turns were taken, and a `tick` line asks for one more. With
+-- Clock a reading comes next, within the turns, with Noise a draw; with Link the link's last call failed. With
+-- every other status a front of all was done.
+abbrev pub Ends : Status → ℕ → Passed → Option (List ℕ) → Type 0
+Ends Done turns p left = IsWhole p BehindAll × AtEnd left
+Ends (Script n fault) turns p left =
+    IsWhole p (AtFault n fault) × (fault ≡ Unended → AtEnd left)
+    × (¬ (fault ≡ Unended) → (more : List ℕ) → (course_of (record p { octets = p.octets ++ more })).stop ≡ AtFault n fault)
+Ends TurnsSpent turns p left = IsWhole p ForReading × (length p.readings ≡ turns + 1)
+Ends Clock turns p left = IsWhole p ForReading × (length p.readings ≤ turns)
+Ends Noise turns p left = IsWhole p ForDraw
+Ends Link turns p left = IsPart (outcomes (course_of p).events) p.calls p.out × EndsBadly p.calls
+Ends Read turns p left = IsBroken p
+Ends Write turns p left = IsBroken p
+Ends NoMemory turns p left = IsBroken p
+Ends Usage turns p left = ⊥
+
+-- Each reading after the first is followed by one receive, but for the last where the run ended between.
+abbrev pub ArePaced : List ℕ → List Received → Type 0
+ArePaced [] receipts = receipts ≡ []
+ArePaced (r ∷ rs) receipts = (length rs ≡ length receipts) ⊎ (length rs ≡ length receipts + 1)
+
+-- what a source, a sink, a link, a clock and a source of noise tell
+pub record Tellings : Type 0 where
+  pub left : Option (List ℕ)
+  pub written : Option (List ℕ)
+  pub calls : Option (List LinkCall)
+  pub readings : Option (List ℕ)
+  pub draws : Option (List ℕ)
+
+-- The relay read these octets, of which there are at most 2^30 + 1, wrote those, and made these calls; it took
+-- at most so many turns.
+pub record IsRelay (status : Status) (turns : ℕ) (old new : Tellings) (p : Passed) : Type 0 where
+  pub took : TookIn old.left new.left p.octets
+  pub wrote : Wrote old.written new.written p.out
+  pub called : Added old.calls new.calls p.calls
+  pub read : Added old.readings new.readings p.readings
+  pub drew : Added old.draws new.draws p.draws
+  pub ends : Ends status turns p new.left
+  pub bound : length p.octets ≤ 2 ^ 30 + 1
+  pub most : length p.readings ≤ turns + 1
+  pub paced : ArePaced p.readings (receipts_in p.calls)

@@ -1,0 +1,187 @@
+//! The turns of a relay: a reading of the clock, then a receive.
+
+ghost use Rattle.std.specs.Prelude.{◌≡◌, ◌≤◌, ℕ, List, Bool, IfErr, false, max};
+ghost use Rattle.sg_course.specs.Course.{arrivals_of, last_moment, ticks_at};
+ghost use Rattle.sg_edge.specs.Links.{Added, Came, LinkCall, Received};
+ghost use Rattle.sg_edge.specs.Told.{Wrote};
+ghost use Rattle.sg_gateway.specs.Events.{events_of_signal, signal_lacks_noise};
+ghost use Rattle.sg_gateway.specs.World.{World};
+ghost use Rattle.sg_relay.specs.Causes.{IsDueTo, IsDueToLink, IsOfOutcomes, IsOfTurns, IsOfWaits};
+ghost use Rattle.sg_relay.specs.Parts.{AreHandled, IsReceived, IsTurn, IsWaited};
+ghost use Rattle.sg_table.specs.Standing.{TableStandsFor};
+ghost use Rattle.sg_table.specs.Telling.{IsTimely};
+
+use crate::telling::{carry_out_all, pass_on};
+use sg_base::{Address, Failed, NoMemory, Pad, TICK_MOST};
+use sg_course::Status;
+use sg_edge::{Clock, Link, Receipt, Sink};
+use sg_lines::Signal;
+use sg_table::Table;
+use std::alloc::Global;
+
+/// Has the table handle a signal, and does what its outcomes ask for.
+pub(crate) fn obey<K: Sink, L: Link>(
+    alloc: Global,
+    table: &mut Table,
+    signal: &Signal,
+    sink: &mut K,
+    link: &mut L,
+) -> Result<(), Status>
+    requires noise { signal_lacks_noise signal.now ≡ false }
+    requires timely { IsTimely signal.now }
+    ensures handled { (w : World) → TableStandsFor table.old w
+        → (calls : List LinkCall) × (out : List ℕ) × Added (L.told link.old) (L.told link.new) calls × Wrote (K.written sink.old) (K.written sink.new) out
+        × AreHandled result w (events_of_signal signal.now) (TableStandsFor table.new) calls out }
+    ensures only { IfErr result IsOfOutcomes }
+    ensures write { IsDueTo Status.Write result (K.faults sink.old) (K.faults sink.new) (K.failed sink.new) }
+    ensures link { IsDueToLink result (L.faults link.old) (L.faults link.new) }
+{
+    match table.step(alloc, signal) {
+        Err(NoMemory) => Err(Status::NoMemory),
+        Ok(told) => carry_out_all(alloc, told.as_slice(), sink, link),
+    }
+}
+
+/// Has the table handle the datagram in the pad, sends the packet that it becomes, and hands the pad back.
+pub(crate) fn arrive<K: Sink, L: Link>(
+    alloc: Global,
+    table: &mut Table,
+    port: u16,
+    from: Address,
+    pad: Pad,
+    sink: &mut K,
+    link: &mut L,
+) -> Result<Pad, Status>
+    ensures handled { (w : World) → TableStandsFor table.old w
+        → (calls : List LinkCall) × (out : List ℕ) × Added (L.told link.old) (L.told link.new) calls × Wrote (K.written sink.old) (K.written sink.new) out
+        × AreHandled result w (arrivals_of (Came port from pad)) (TableStandsFor table.new) calls out }
+    ensures only { IfErr result IsOfOutcomes }
+    ensures write { IsDueTo Status.Write result (K.faults sink.old) (K.faults sink.new) (K.failed sink.new) }
+    ensures link { IsDueToLink result (L.faults link.old) (L.faults link.new) }
+{
+    let handled = table.datagram(port, from, pad);
+    match pass_on(alloc, port, &handled, sink, link) {
+        Err(status) => Err(status),
+        Ok(()) => Ok(handled.pad),
+    }
+}
+
+/// Hands a moment on as a tick, where it is greater than all before.
+fn tick<K: Sink, L: Link>(
+    alloc: Global,
+    table: &mut Table,
+    moment: u64,
+    top: &mut u64,
+    sink: &mut K,
+    link: &mut L,
+) -> Result<(), Status>
+    requires timely { moment ≤ last_moment }
+    ensures handled { (w : World) → TableStandsFor table.old w
+        → (calls : List LinkCall) × (out : List ℕ) × Added (L.told link.old) (L.told link.new) calls × Wrote (K.written sink.old) (K.written sink.new) out
+        × AreHandled result w (ticks_at top.old moment) (TableStandsFor table.new) calls out }
+    ensures top { top.new ≡ max top.old moment }
+    ensures only { IfErr result IsOfOutcomes }
+    ensures write { IsDueTo Status.Write result (K.faults sink.old) (K.faults sink.new) (K.failed sink.new) }
+    ensures link { IsDueToLink result (L.faults link.old) (L.faults link.new) }
+{
+    if moment <= *top {
+        return Ok(());
+    }
+    *top = moment;
+    obey(alloc, table, &Signal::Tick { now: moment }, sink, link)
+}
+
+/// Receives once into the pad, has the table handle the datagram that came, and hands the pad back.
+fn receive<K: Sink, L: Link>(
+    alloc: Global,
+    table: &mut Table,
+    pad: Pad,
+    sink: &mut K,
+    link: &mut L,
+) -> Result<Pad, Status>
+    ensures received { (w : World) → TableStandsFor table.old w
+        → (x : Received) × (calls : List LinkCall) × (out : List ℕ) × Added (L.told link.old) (L.told link.new) calls × Wrote (K.written sink.old) (K.written sink.new) out
+        × IsReceived result w (TableStandsFor table.new) x calls out }
+    ensures only { IfErr result IsOfOutcomes }
+    ensures write { IsDueTo Status.Write result (K.faults sink.old) (K.faults sink.new) (K.failed sink.new) }
+    ensures link { IsDueToLink result (L.faults link.old) (L.faults link.new) }
+{
+    let mut pad = pad;
+    match link.receive(&mut pad) {
+        Err(Failed) => Err(Status::Link),
+        Ok(Receipt::Nothing) => Ok(pad),
+        Ok(Receipt::Got { port, from }) => arrive(alloc, table, port, from, pad, sink, link),
+    }
+}
+
+/// One turn: a reading, which is a tick where it is greater than all before, and then a receive. Answers the
+/// moment that was read, and hands the pad back.
+fn turn<K: Sink, L: Link, C: Clock>(
+    alloc: Global,
+    table: &mut Table,
+    top: &mut u64,
+    pad: Pad,
+    sink: &mut K,
+    link: &mut L,
+    clock: &mut C,
+) -> Result<(u64, Pad), Status>
+    ensures turned { (w : World) → TableStandsFor table.old w
+        → (readings : List ℕ) × (calls : List LinkCall) × (out : List ℕ)
+        × Added (C.given clock.old) (C.given clock.new) readings × Added (L.told link.old) (L.told link.new) calls × Wrote (K.written sink.old) (K.written sink.new) out
+        × IsTurn result w top.old top.new (TableStandsFor table.new) readings calls out }
+    ensures only { IfErr result IsOfTurns }
+    ensures write { IsDueTo Status.Write result (K.faults sink.old) (K.faults sink.new) (K.failed sink.new) }
+    ensures link { IsDueToLink result (L.faults link.old) (L.faults link.new) }
+    ensures clock { IsDueTo Status.Clock result (C.faults clock.old) (C.faults clock.new) (C.failed clock.new) }
+{
+    let moment = match clock.now() {
+        Err(Failed) => return Err(Status::Clock),
+        Ok(reading) => reading.min(TICK_MOST),
+    };
+    match tick(alloc, table, moment, top, sink, link) {
+        Err(status) => return Err(status),
+        Ok(()) => {}
+    }
+    match receive(alloc, table, pad, sink, link) {
+        Err(status) => Err(status),
+        Ok(pad) => Ok((moment, pad)),
+    }
+}
+
+/// Takes turns until a reading is at least this moment, and hands the pad back. `TurnsSpent` where no turn is
+/// left and one more is asked for.
+pub(crate) fn wait<K: Sink, L: Link, C: Clock>(
+    alloc: Global,
+    table: &mut Table,
+    until: u64,
+    turns: &mut u64,
+    top: &mut u64,
+    pad: Pad,
+    sink: &mut K,
+    link: &mut L,
+    clock: &mut C,
+) -> Result<Pad, Status>
+    ensures waited { (w : World) → TableStandsFor table.old w
+        → (readings : List ℕ) × (calls : List LinkCall) × (out : List ℕ)
+        × Added (C.given clock.old) (C.given clock.new) readings × Added (L.told link.old) (L.told link.new) calls × Wrote (K.written sink.old) (K.written sink.new) out
+        × IsWaited result until w top.old top.new turns.old turns.new (TableStandsFor table.new) readings calls out }
+    ensures only { IfErr result IsOfWaits }
+    ensures write { IsDueTo Status.Write result (K.faults sink.old) (K.faults sink.new) (K.failed sink.new) }
+    ensures link { IsDueToLink result (L.faults link.old) (L.faults link.new) }
+    ensures clock { IsDueTo Status.Clock result (C.faults clock.old) (C.faults clock.new) (C.failed clock.new) }
+{
+    let mut pad = pad;
+    'turns: while *turns > 0 {
+        *turns -= 1;
+        match turn(alloc, table, top, pad, sink, link, clock) {
+            Err(status) => return Err(status),
+            Ok((moment, back)) => {
+                if until <= moment {
+                    return Ok(back);
+                }
+                pad = back;
+            }
+        }
+    }
+    Err(Status::TurnsSpent)
+}
