@@ -28,7 +28,6 @@ pub mod Places
 pub mod PutOut
 pub mod Reached
 pub mod Refusals
-pub mod Sayings
 pub mod SealsOut
 pub mod Serving
 pub mod Sessions

@@ -61,17 +61,3 @@ events_of (lines.Signal signal) = events_of_signal signal
 -- what the events tell, from a world on
 abbrev pub outcomes_from : World → List Event → List Outcome
 outcomes_from w events = flat_map (λ t. t.outcomes) (turns_from w events)
-
--- the line is the header, a call that is keyed manually, or a datagram
-abbrev pub IsOfManualCalls : Line → Type 0
-IsOfManualCalls lines.Header = Unit {0}
-IsOfManualCalls (lines.Datagram port from octets) = Unit {0}
-IsOfManualCalls (lines.Signal (Manual call secure plain roc window from_peer to_peer)) = Unit {0}
-IsOfManualCalls (lines.Signal (Tick now)) = ⊥
-IsOfManualCalls (lines.Signal (Psk own peer key)) = ⊥
-IsOfManualCalls (lines.Signal (OfferSecure call noise text)) = ⊥
-IsOfManualCalls (lines.Signal (OfferSdes call noise text)) = ⊥
-IsOfManualCalls (lines.Signal (OfferMikey call peer noise text)) = ⊥
-IsOfManualCalls (lines.Signal (Answer call noise text)) = ⊥
-IsOfManualCalls (lines.Signal (Reject call)) = ⊥
-IsOfManualCalls (lines.Signal (Bye call)) = ⊥

@@ -21,7 +21,6 @@ pub mod PeersPackets
 pub mod Places
 pub mod Ports
 pub mod Refusing
-pub mod Replayed
 pub mod Runs
 pub mod SealedOut
 pub mod Signals

@@ -3,4 +3,3 @@ pub mod LineFaults
 pub mod LineOf
 pub mod LineText
 pub mod ScriptLines
-pub mod ServedLine

@@ -8,15 +8,11 @@ mod laws;
 mod line_printing;
 mod lines;
 pub mod reading;
-mod served_lines;
 #[cfg(test)]
 mod tests;
 
 pub use faults::{ReadLineFault, WORD};
-pub use laws::{
-    lines_are_framed, lines_have_one_spelling, served_lines_are_framed, served_lines_are_lines,
-};
+pub use laws::{lines_are_framed, lines_have_one_spelling};
 pub use line_printing::print_line;
 pub use lines::{Line, Signal};
 pub use reading::read_line;
-pub use served_lines::read_served_line;

@@ -1,4 +1,3 @@
 //! The tests, by what they try.
 
 mod lines;
-mod served;

@@ -1,3 +1,4 @@
 pub mod Answers
 pub mod Passed
 pub mod Reused
+pub mod Served

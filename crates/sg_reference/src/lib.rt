@@ -24,5 +24,5 @@ pub use keys::ReferenceKey;
 pub use manual_line::ManualLine;
 pub use ring::{InstalledKey, ReferenceRing};
 pub use session::ReferenceSession;
-pub use table::ReferenceTable;
+pub use table::{ReferenceTable, serves};
 pub use texts::{sealed_rtcp, sealed_rtp};

@@ -1,7 +1,7 @@
 //! The reference table: a world by its definitions, which keeps the lists of all that is done.
 
-ghost use Rattle.std.specs.Prelude.{◌≡◌, [], ◌∷◌, position, Some, IfOk, OnOk, OnErr};
-ghost use Rattle.sg_gateway.specs.Events.{IsOfManualCalls, events_of, events_of_signal, outcomes_from};
+ghost use Rattle.std.specs.Prelude.{◌≡◌, ◌↔◌, true, [], ◌∷◌, position, Some, IfOk, OnOk, OnErr};
+ghost use Rattle.sg_gateway.specs.Events.{events_of, events_of_signal, outcomes_from};
 ghost use Rattle.std.specs.List.{list_any};
 ghost use Rattle.sg_gateway.specs.Octets.{as_octets};
 ghost use Rattle.sg_gateway.specs.Ports.{has_port};
@@ -9,10 +9,10 @@ ghost use Rattle.sg_gateway.specs.Runs.{world_after};
 ghost use Rattle.sg_gateway.specs.Signals.{manual_answer};
 ghost use Rattle.sg_gateway.specs.Step.{Datagram};
 ghost use Rattle.sg_gateway.specs.World.{empty, same_id};
+ghost use Rattle.sg_reference.specs.Served.{IsOfManualCalls};
 
 use crate::{ManualLine, ReferenceCall, ReferenceRing};
 use sg_base::{Address, CALLS_MOST, CallId, DropCause, NoMemory, Refusal};
-use sg_gateway::Gateway;
 use sg_lines::{Line, Signal};
 use sg_outcome::Outcome;
 use std::alloc::Global;
@@ -154,11 +154,13 @@ impl ReferenceTable {
     }
 }
 
-impl Gateway for ReferenceTable {
-    ghost stands_for = { λ t w. w ≡ t };
-
-    fn handle(&mut self, alloc: Global, line: Line) -> Result<Vec<Outcome>, NoMemory> {
-        ReferenceTable::handle(self, alloc, line)
+/// Whether the reference table serves a line: the header, a call that is keyed manually, or a datagram.
+pub fn serves(line: &Line) -> bool
+    ensures { result ≡ true ↔ IsOfManualCalls line.now }
+{
+    match line {
+        Line::Header | Line::Datagram { .. } | Line::Signal(Signal::Manual { .. }) => true,
+        Line::Signal(_) => false,
     }
 }
 

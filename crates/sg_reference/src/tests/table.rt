@@ -1,11 +1,10 @@
 //! What a table is told and no script can say yet: more calls than one.
 
 ghost use Rattle.std.specs.Prelude.{IfOk};
-ghost use Rattle.sg_gateway.specs.Events.{IsOfManualCalls};
+ghost use Rattle.sg_reference.specs.Served.{IsOfManualCalls};
 
 use crate::ReferenceTable;
 use sg_base::{Address, CallId, MasterKey, Octets, Suite};
-use sg_gateway::Gateway;
 use sg_lines::{Line, Signal};
 use sg_outcome::print_outcome;
 use std::alloc::Global;
@@ -53,11 +52,11 @@ fn call(number: u16) -> Result<Line, Fail>
     }))
 }
 
-/// What any gateway tells of a line, as the lines of outcomes, joined.
-fn told<G: Gateway>(alloc: Global, gateway: &mut G, line: Line) -> Result<String, Fail>
+/// What the table tells of a line, as the lines of outcomes, joined.
+fn told(alloc: Global, table: &mut ReferenceTable, line: Line) -> Result<String, Fail>
     requires { IsOfManualCalls line }
 {
-    let outcomes = gateway.handle(alloc, line)?;
+    let outcomes = table.handle(alloc, line)?;
     let mut text = String::new(alloc);
     for outcome in outcomes.iter() {
         let line = print_outcome(alloc, outcome)?;

@@ -1,0 +1,17 @@
+//! The course of a run: its script, read line by line, the noise that a line lacks, and what is written of
+//! outcomes. Each command of the program stands on it.
+#![tactic(auto)]
+
+mod feed;
+mod line_reader;
+mod script_reader;
+mod status;
+mod supplying;
+mod telling;
+#[cfg(test)]
+mod tests;
+
+pub use script_reader::ScriptReader;
+pub use status::Status;
+pub use supplying::supply;
+pub use telling::tell;
