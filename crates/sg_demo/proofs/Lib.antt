@@ -1,0 +1,11 @@
+mod Batching
+mod Fronts
+mod Lists
+mod Rounds
+mod Turning
+mod Counts
+mod Numbers
+mod Sealing
+mod Acting
+mod Within
+mod Calling

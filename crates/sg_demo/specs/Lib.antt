@@ -1,0 +1,11 @@
+pub mod Actions
+pub mod Callers
+pub mod Counting
+pub mod Demonstration
+pub mod Going
+pub mod Packets
+pub mod Rounds
+pub mod Standing
+pub mod Text
+pub mod Turns
+pub mod Words

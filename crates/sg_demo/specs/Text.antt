@@ -1,0 +1,15 @@
+-- The lines of the demonstration's numbers.
+use Rattle.std.specs.Prelude.{ℕ, List, ◌++◌, codes}
+use Rattle.std.specs.Fmt.{decimal}
+use Rattle.sg_demo.specs.declared.summary.Summary.{Summary}
+
+-- a line: a word, a space, a number and a line end
+abbrev pub number_line : List ℕ → ℕ → List ℕ
+number_line word n = word ++ codes " " ++ decimal n ++ codes "\n"
+
+-- the nine lines, in this order
+unfoldable pub summary_text : Summary → List ℕ
+summary_text s =
+    number_line (codes "calls") s.calls ++ number_line (codes "sealed") s.sealed ++ number_line (codes "arrived") s.arrived
+    ++ number_line (codes "out") s.out ++ number_line (codes "repeat") s.repeat ++ number_line (codes "badtag") s.badtag
+    ++ number_line (codes "other") s.other ++ number_line (codes "sent") s.sent ++ number_line (codes "opened") s.opened

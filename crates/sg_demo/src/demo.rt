@@ -1,0 +1,149 @@
+//! A demonstration: calls that are keyed with drawn keys, and rounds of their traffic.
+
+ghost use Rattle.std.specs.Prelude.{◌≡◌, ◌≤◌, ◌<◌, ◌+◌, ◌^◌, ℕ, List, length, vec_len, All, OnOk, OnErr, IsSome};
+ghost use Rattle.sg_gateway.specs.World.{World, empty};
+ghost use Rattle.sg_outcome.specs.declared.outcomes.Outcome as outcomes;
+ghost use Rattle.sg_table.specs.Batches.{IsBatched};
+ghost use Rattle.sg_table.specs.Standing.{TableStandsFor};
+ghost use Rattle.sg_table.specs.Telling.{Tells};
+ghost use Rattle.sg_table.specs.Values.{TableValue};
+ghost use Rattle.sg_demo.specs.Demonstration as model;
+ghost use Rattle.sg_demo.specs.Demonstration.{calls_made, with_call, with_round, HasTakenFront};
+ghost use Rattle.sg_demo.specs.Standing.{IsWithin};
+ghost use Rattle.sg_demo.specs.Going.{DemoStandsFor};
+
+use crate::caller::Caller;
+use crate::counting::count_all;
+use crate::round::{PLAIN, SECURE, take_turns};
+use crate::summary::Summary;
+use crate::words::{draw_key, start};
+use rand_pcg::Pcg32;
+use sg_base::{BATCH_MOST, CallId, NoMemory};
+use sg_lanes::Gate;
+use sg_lines::Signal;
+use sg_outcome::Outcome;
+use sg_table::{Arrival, Table, Told};
+use std::alloc::Global;
+use std::thread::Threads;
+
+/// A demonstration so far: its generator, the calls that were made, and the numbers.
+#[derive(Drop)]
+pub struct Demo {
+    words: Pcg32,
+    callers: Vec<Caller>,
+    pub summary: Summary,
+}
+
+impl Demo {
+    /// Nothing is done yet.
+    pub fn new(alloc: Global, number: u64) -> Demo
+        ensures stands { (table : TableValue) → TableStandsFor table empty → DemoStandsFor result table (calls_made 0 number) }
+        ensures size { vec_len result.callers ≡ 0 }
+        ensures within { IsWithin 0 result.summary }
+    {
+        Demo {
+            words: start(number),
+            callers: Vec::new(alloc),
+            summary: Summary {
+                calls: 0,
+                sealed: 0,
+                arrived: 0,
+                out: 0,
+                repeat: 0,
+                badtag: 0,
+                other: 0,
+                sent: 0,
+                opened: 0,
+            },
+        }
+    }
+
+    /// The call of this number draws its two keys and is told to the table. Where it is refused it takes no part.
+    pub fn call(&mut self, alloc: Global, number: u32, table: &mut Table) -> Result<(), NoMemory>
+        requires within { self.old.summary.calls < 256 }
+        ensures called { OnOk result ((d : model.Demo) → DemoStandsFor self.old table.old d → DemoStandsFor self.new table.new (with_call number d)) }
+        ensures failed { OnErr result ((d : model.Demo) → DemoStandsFor self.old table.old d → HasTakenFront table.new (with_call number d).events) }
+        ensures size { vec_len self.new.callers ≤ vec_len self.old.callers + 1 }
+        ensures within { (n : ℕ) → IsWithin n self.old.summary → IsWithin (n + 1) self.new.summary }
+    {
+        let from_peer = draw_key(&mut self.words);
+        let to_peer = draw_key(&mut self.words);
+        let signal = Signal::Manual {
+            call: CallId(number),
+            secure: SECURE,
+            plain: PLAIN,
+            roc: 0,
+            window: 64,
+            from_peer: from_peer.clone(),
+            to_peer: to_peer.clone(),
+        };
+        let told = table.step(alloc, &signal)?;
+        match slot_told(&told) {
+            None => Ok(()),
+            Some(slot) => {
+                self.callers
+                    .push(Caller::make(number, slot, &from_peer, &to_peer))?;
+                self.summary.calls += 1;
+                Ok(())
+            }
+        }
+    }
+
+    /// Each call has its turn; then what arrives is handled in order, by so many workers, and counted.
+    pub fn round<R: Threads + Sync, G: Gate + Sync>(
+        &mut self,
+        rt: &R,
+        alloc: Global,
+        table: &mut Table,
+        workers: usize,
+        gate: &G,
+    ) -> Result<(), NoMemory>
+        requires workers { 0 < workers }
+        requires few { vec_len self.old.callers ≤ 256 }
+        requires within { IsWithin (2 ^ 61) self.old.summary }
+        ensures round { OnOk result ((d : model.Demo) → DemoStandsFor self.old table.old d → DemoStandsFor self.new table.new (with_round d)) }
+        ensures failed { OnErr result ((d : model.Demo) → DemoStandsFor self.old table.old d → HasTakenFront table.new (with_round d).events) }
+        ensures size { vec_len self.new.callers ≡ vec_len self.old.callers }
+        ensures within { (n : ℕ) → IsWithin n self.old.summary → IsWithin (n + 1024) self.new.summary }
+    {
+        let mut round = take_turns(alloc, &mut self.words, &mut self.callers)?;
+        self.summary.sealed += round.sealed;
+        handle(rt, table, &mut round.arrivals, workers, gate);
+        count_all(
+            alloc,
+            &round.origins,
+            &round.arrivals,
+            &mut self.callers,
+            &mut self.summary,
+        )
+    }
+}
+
+/// The slot of the call that is told of first, where it was made.
+fn slot_told(told: &Told) -> Option<u8>
+    ensures { (os : List outcomes.Outcome) → Tells told.now.items os → result ≡ model.slot_told os }
+{
+    match told.as_slice().first() {
+        Some(Some(Outcome::Made { slot, .. })) => Some(*slot),
+        _ => None,
+    }
+}
+
+/// The table handles what arrives, in batches.
+fn handle<R: Threads + Sync, G: Gate + Sync>(
+    rt: &R,
+    table: &mut Table,
+    arrivals: &mut [Arrival],
+    workers: usize,
+    gate: &G,
+)
+    requires few { length arrivals.old ≤ 512 }
+    requires pads { All (λ a. IsSome a.pad) arrivals.old }
+    requires workers { 0 < workers }
+    ensures handled { (w : World) → TableStandsFor table.old w → IsBatched w arrivals.old arrivals.new table.new }
+{
+    let middle = arrivals.len().min(BATCH_MOST);
+    let (first, second) = arrivals.split_at_mut(middle);
+    table.batch(rt, first, workers, gate);
+    table.batch(rt, second, workers, gate);
+}

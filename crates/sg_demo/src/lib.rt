@@ -1,0 +1,20 @@
+//! Peers of the gateway and their traffic, drawn from a number; and what the gateway made of it, counted.
+#![tactic(auto)]
+
+mod action;
+mod caller;
+mod counting;
+mod demo;
+mod demonstration;
+mod origin;
+mod packets;
+mod round;
+mod summary;
+#[cfg(test)]
+mod tests;
+mod text;
+mod words;
+
+pub use demonstration::traffic;
+pub use summary::Summary;
+pub use text::summary_text;
