@@ -21,6 +21,8 @@ from ends import program
 HOME = "127.0.0.1"
 PORTS = {"secure": 5070, "plain": 5072}
 FAR = {"secure": "plain", "plain": "secure"}
+# The short names of headers (RFC 3261, 7.3.3).
+SHORT = {"v": "via", "f": "from", "t": "to", "i": "call-id", "m": "contact"}
 
 
 class Message:
@@ -30,8 +32,8 @@ class Message:
         head, _, body = octets.partition(b"\r\n\r\n")
         self.first, *lines = head.decode(errors="replace").split("\r\n")
         pairs = [line.split(":", 1) for line in lines if ":" in line]
-        short = {"v": "via", "f": "from", "t": "to", "i": "call-id", "m": "contact", "c": "content-type", "l": "content-length"}
-        self.headers = [(short.get(name.strip().lower(), name.strip().lower()), value.strip()) for name, value in pairs]
+        names = [(name.strip().lower(), value.strip()) for name, value in pairs]
+        self.headers = [(SHORT.get(name, name), value) for name, value in names]
         # A telephone of several addresses may name another one than that which it sends from, and the gateway takes
         # plain packets from the named one alone. So a text gets the address that its message came from.
         self.body = re.sub(rb"(?m)^c=IN IP4 \S+", b"c=IN IP4 " + source[0].encode(), body)
@@ -83,10 +85,12 @@ class Server:
         self.send(side, lines, text, request.source)
 
     def ask(self, half, method, text="", number=None):
-        number = number or half.number
-        lines = [f"{method} {half.uri} SIP/2.0", f"Via: SIP/2.0/UDP {HOME}:{PORTS[half.side]};branch=z9hG4bK{half.call_id}.{number}.{'INVITE' if method in ('ACK', 'CANCEL') else method}",
-                 "Max-Forwards: 70", f"From: {half.own}", f"To: {half.other}", f"Call-ID: {half.call_id}",
-                 f"CSeq: {number} {method}", f"Contact: <sip:gateway@{HOME}:{PORTS[half.side]}>"]
+        number, place = number or half.number, f"{HOME}:{PORTS[half.side]}"
+        # ACK and CANCEL belong to their INVITE.
+        branch = f"z9hG4bK{half.call_id}.{number}" + ("" if method == "BYE" else ".i")
+        lines = [f"{method} {half.uri} SIP/2.0", f"Via: SIP/2.0/UDP {place};branch={branch}", "Max-Forwards: 70",
+                 f"From: {half.own}", f"To: {half.other}", f"Call-ID: {half.call_id}", f"CSeq: {number} {method}",
+                 f"Contact: <sip:gateway@{place}>"]
         if method not in ("ACK", "CANCEL"):
             half.number += 1
         self.send(half.side, lines, text, half.target)
@@ -129,7 +133,8 @@ class Server:
         peer = self.peers[far_side]
         user = request.first.split()[1].split("@")[0]
         uri = f"{user}@{peer[0]}:{peer[1]}"
-        far = Dialog(far_side, f"gateway-{call}", f"<sip:gateway@{HOME}:{PORTS[far_side]}>;tag=h{call}", f"<{uri}>", peer, uri)
+        own = f"<sip:gateway@{HOME}:{PORTS[far_side]}>;tag=h{call}"
+        far = Dialog(far_side, f"gateway-{call}", own, f"<{uri}>", peer, uri)
         halves = {side: near, far_side: far}
         self.calls[near.call_id] = self.calls[far.call_id] = call, halves
         return call, halves
@@ -196,10 +201,9 @@ class Server:
         elif message.method() != "ACK":
             self.reply(side, message, 200 if message.method() == "OPTIONS" else 481, "OK", tag="g")
 
-    def serve(self, seconds):
-        """Handles messages for so many seconds, or until `seconds()` is true."""
-        done = seconds if callable(seconds) else (lambda end: lambda: time.monotonic() > end)(time.monotonic() + seconds)
-        while not done():
+    def serve(self, is_over):
+        """Handles messages until `is_over()` is true."""
+        while not is_over():
             ready, _, _ = select.select(list(self.sockets.values()), [], [], 0.1)
             for side, own in self.sockets.items():
                 if own in ready:
@@ -227,7 +231,8 @@ def main():
     words.add_argument("--seconds", type=float, default=3_600, help="when it ends by itself")
     given = words.parse_args()
     driver = Driver(program())
-    Server(driver, {"secure": given.secure, "plain": given.plain}).serve(given.seconds)
+    end = time.monotonic() + given.seconds
+    Server(driver, {"secure": given.secure, "plain": given.plain}).serve(lambda: time.monotonic() > end)
     return driver.close()
 
 

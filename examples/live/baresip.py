@@ -43,7 +43,8 @@ module_app account.so
 
 def modules():
     """Where baresip's modules are."""
-    return next(path.parent for root in ("/usr/lib", "/usr/local/lib") for path in Path(root).rglob("baresip/modules/srtp.so"))
+    found = (Path(root).rglob("baresip/modules/srtp.so") for root in ("/usr/lib", "/usr/local/lib"))
+    return next(path.parent for paths in found for path in paths)
 
 
 def expanded(octet):
@@ -109,8 +110,9 @@ def told(phone, source):
     first = whole.find(heard[:2 * FRAME]) if heard else -1
     same = first >= 0 and first % (2 * FRAME) == 0 and whole[first:first + len(heard)] == heard
     sent, took = phone.counts()
-    print(f"{phone.name} ({phone.suite()}): {sent} packets sent, {took} taken, {len(heard) // 2 // FRAME} frames heard of"
-          f" {source.name}'s from frame {first // 2 // FRAME} on: {'the same samples' if same else 'NOT THE SAME'}", flush=True)
+    print(f"{phone.name} ({phone.suite()}): {sent} packets sent, {took} taken, {len(heard) // 2 // FRAME} frames heard"
+          f" of {source.name}'s from frame {first // 2 // FRAME} on:",
+          "the same samples" if same else "NOT THE SAME", flush=True)
     return same and len(heard) > 2 * FRAME * 25 * SECONDS
 
 
@@ -156,7 +158,8 @@ def is_called(driver, folder):
 
 
 def main():
-    print(f"baresip {re.search(r'v([0-9.]+)', subprocess.run(['baresip', '-h'], capture_output=True, text=True).stdout).group(1)}")
+    print(subprocess.run(["baresip", "-h"], capture_output=True, text=True).stdout.splitlines()[0])
+    print(subprocess.run(["sipp", "-v"], capture_output=True, text=True).stdout.strip().splitlines()[0])
     driver = Driver(program())
     good = []
     with tempfile.TemporaryDirectory() as folder:

@@ -46,7 +46,9 @@ def both_ways(name, suites, sender, receiver):
     print(f"{SECONDS} seconds each way, the first number {NEAR_WRAP}", flush=True)
     driver = Driver(program())
     with tempfile.TemporaryDirectory() as folder:
-        good = [one_suite(driver, call, suite, name, sender, receiver, Path(folder)) for call, suite in enumerate(suites, 1)]
+        good = [
+            one_suite(driver, call, suite, name, sender, receiver, Path(folder)) for call, suite in enumerate(suites, 1)
+        ]
     status = driver.close()
     print(f"dropped {dict(driver.drops)}, unsent {dict(driver.unsent)}, status {status}")
     return 0 if all(good) and status == 0 else 1
