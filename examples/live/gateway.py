@@ -25,8 +25,8 @@ class Gone(Exception):
 class Gateway:
     """One process of `srtpgw relay`. `outcomes` is a queue of its lines, each a list of fields."""
 
-    def __init__(self, program, turns=1_000_000_000, step=0.02):
-        # A tick reaches `step` seconds ahead; two are under way at most, so a line waits twice as long at most.
+    def __init__(self, program, turns=1_000_000_000, step=0.02, patience=300):
+        # A tick reaches two steps ahead at most, so a line waits as long at most.
         self.step = step
         self.outcomes = queue.Queue()
         self.lock = threading.Lock()
@@ -34,24 +34,19 @@ class Gateway:
         self.process = subprocess.Popen(
             [program, "relay", "--turns", str(turns)],
             stdin=subprocess.PIPE, stdout=subprocess.PIPE, stderr=subprocess.PIPE)
-        self.began = time.monotonic()
-        self._write("srtpgw 1")
         self.threads = [threading.Thread(target=work, daemon=True) for work in (self._read, self._tick)]
-        for thread in self.threads:
-            thread.start()
+        self.threads[0].start()
+        # The program may have to be built first. What it tells of a call that isn't there says that it runs; its
+        # ticks count from a moment before this one.
+        self._write("srtpgw 1")
+        self._write("bye 0")
+        self.next(timeout=patience)
+        self.began = time.time()
+        self.threads[1].start()
 
     def tell(self, *fields):
         """Hands on a signal line. Its outcomes follow in the queue."""
         self._write(" ".join(fields))
-
-    def offer_secure(self, call, text):
-        self.tell("offer-secure", str(call), "-", text.encode().hex())
-
-    def offer_plain(self, call, text):
-        self.tell("offer-plain", str(call), "sdes", "-", text.encode().hex())
-
-    def answer(self, call, text):
-        self.tell("answer", str(call), "-", text.encode().hex())
 
     def next(self, timeout=5.0):
         """The next outcome. Raises Gone where the process has ended, and queue.Empty where none comes in time."""
@@ -86,11 +81,8 @@ class Gateway:
         self.outcomes.put(None)
 
     def _tick(self):
-        # Tick n reaches n steps behind the start, and is written while the one before it is under way.
-        number = 1
+        # By the clock that the gateway reads: after a jump of a steadier one its ticks would be over at once.
         while not self.ending.is_set() and self.process.poll() is None:
-            self._write(f"tick {round(number * self.step * 1000)}")
-            ahead = self.began + (number - 1) * self.step - time.monotonic()
-            if ahead > 0:
-                self.ending.wait(ahead)
-            number += 1
+            ahead = time.time() - self.began + 2 * self.step
+            self._write(f"tick {max(0, round(ahead * 1000))}")
+            self.ending.wait(self.step)

@@ -1,0 +1,240 @@
+"""A small SIP server between two telephones, which has their calls go through the gateway: what comes to its one
+port is a call from the secure side, what comes to its other one a call from the plain side.
+
+    python3 b2bua.py --secure 127.0.0.1:5060 --plain 127.0.0.1:5080      and telephones that call 5070 or 5072
+
+It knows INVITE (also within a call), ACK, CANCEL and BYE over UDP on the loopback, where nothing is lost: it
+repeats no request. It shows how SIP drives the gateway, and isn't meant for more. Needs Python 3.8 alone.
+"""
+
+import argparse
+import itertools
+import re
+import select
+import socket
+import sys
+import time
+
+from driver import Driver, Refused
+from ends import program
+
+HOME = "127.0.0.1"
+PORTS = {"secure": 5070, "plain": 5072}
+FAR = {"secure": "plain", "plain": "secure"}
+# The short names of headers (RFC 3261, 7.3.3).
+SHORT = {"v": "via", "f": "from", "t": "to", "i": "call-id", "m": "contact"}
+
+
+class Message:
+    """A request or a response: its first line, its headers and its text."""
+
+    def __init__(self, octets, source):
+        head, _, body = octets.partition(b"\r\n\r\n")
+        self.first, *lines = head.decode(errors="replace").split("\r\n")
+        pairs = [line.split(":", 1) for line in lines if ":" in line]
+        names = [(name.strip().lower(), value.strip()) for name, value in pairs]
+        self.headers = [(SHORT.get(name, name), value) for name, value in names]
+        # A telephone of several addresses may name another one than that which it sends from, and the gateway takes
+        # plain packets from the named one alone. So a text gets the address that its message came from.
+        self.body = re.sub(rb"(?m)^c=IN IP4 \S+", b"c=IN IP4 " + source[0].encode(), body)
+        self.source = source
+
+    def all(self, name):
+        return [value for known, value in self.headers if known == name]
+
+    def get(self, name):
+        return (self.all(name) or [""])[0]
+
+    def status(self):
+        """The number of a response, 0 of a request."""
+        return int(self.first.split()[1]) if self.first.startswith("SIP/2.0") else 0
+
+    def method(self):
+        return self.get("cseq").split()[-1] if self.status() else self.first.split()[0]
+
+
+class Dialog:
+    """One telephone's half of a call: the headers that name it, and its next number."""
+
+    def __init__(self, side, call_id, own, other, target, uri):
+        self.side, self.call_id, self.own, self.other, self.target, self.uri = side, call_id, own, other, target, uri
+        self.number = 1
+        self.waiting = None    # the INVITE from this side that hasn't been answered
+        self.invited = None    # the INVITE to this side that hasn't been answered
+        self.offered, self.given = b"", ""   # what this side's last accepted text was, and what was told it of it
+
+
+class Server:
+    def __init__(self, driver, peers):
+        self.driver, self.peers = driver, peers
+        self.sockets = {side: socket.socket(socket.AF_INET, socket.SOCK_DGRAM) for side in PORTS}
+        for side, port in PORTS.items():
+            self.sockets[side].bind((HOME, port))
+        self.calls = {}                     # by the SIP name of either half: number, and the two halves by side
+        self.names = itertools.count(1)
+        self.log = []
+
+    # ---- messages
+
+    def reply(self, side, request, code, words, text="", tag=""):
+        lines = [f"SIP/2.0 {code} {words}"] + [f"Via: {via}" for via in request.all("via")]
+        to = request.get("to")
+        to += f";tag={tag}" if tag and ";tag=" not in to else ""
+        lines += [f"From: {request.get('from')}", f"To: {to}", f"Call-ID: {request.get('call-id')}",
+                  f"CSeq: {request.get('cseq')}", f"Contact: <sip:gateway@{HOME}:{PORTS[side]}>"]
+        self.send(side, lines, text, request.source)
+
+    def ask(self, half, method, text="", number=None):
+        number, place = number or half.number, f"{HOME}:{PORTS[half.side]}"
+        # ACK and CANCEL belong to their INVITE.
+        branch = f"z9hG4bK{half.call_id}.{number}" + ("" if method == "BYE" else ".i")
+        lines = [f"{method} {half.uri} SIP/2.0", f"Via: SIP/2.0/UDP {place};branch={branch}", "Max-Forwards: 70",
+                 f"From: {half.own}", f"To: {half.other}", f"Call-ID: {half.call_id}", f"CSeq: {number} {method}",
+                 f"Contact: <sip:gateway@{place}>"]
+        if method not in ("ACK", "CANCEL"):
+            half.number += 1
+        self.send(half.side, lines, text, half.target)
+
+    def send(self, side, lines, text, target):
+        body = text.encode()
+        lines += ["Content-Type: application/sdp"] if body else []
+        octets = "\r\n".join(lines + [f"Content-Length: {len(body)}", "", ""]).encode() + body
+        self.sockets[side].sendto(octets, target)
+
+    # ---- calls
+
+    def offer(self, call, side, text):
+        return (self.driver.offer_secure if side == "secure" else self.driver.offer_plain)(call, text)
+
+    def invite(self, side, request):
+        """An offer, of a new call or within one."""
+        call, halves = self.calls.get(request.get("call-id"), (None, None))
+        if call is None:
+            call, halves = self.make(side, request)
+        near, far = halves[side], halves[FAR[side]]
+        self.reply(side, request, 100, "Trying")
+        if request.body == near.offered:
+            return self.reply(side, request, 200, "OK", near.given)
+        if near.waiting or far.waiting:
+            return self.reply(side, request, 491, "Request Pending")
+        try:
+            text = self.offer(call, side, request.body)
+        except Refused as refused:
+            self.log.append(f"call {call}: offer refused: {refused}")
+            self.reply(side, request, 488, "Not Acceptable Here", tag="g")
+            return None if near.offered else self.forget(call)
+        near.waiting, far.invited = request, far.number
+        self.ask(far, "INVITE", text)
+
+    def make(self, side, request):
+        call, far_side = next(self.names), FAR[side]
+        near = Dialog(side, request.get("call-id"), request.get("to") + f";tag=g{call}", request.get("from"),
+                      request.source, inner(request.get("contact")))
+        peer = self.peers[far_side]
+        user = request.first.split()[1].split("@")[0]
+        uri = f"{user}@{peer[0]}:{peer[1]}"
+        own = f"<sip:gateway@{HOME}:{PORTS[far_side]}>;tag=h{call}"
+        far = Dialog(far_side, f"gateway-{call}", own, f"<{uri}>", peer, uri)
+        halves = {side: near, far_side: far}
+        self.calls[near.call_id] = self.calls[far.call_id] = call, halves
+        return call, halves
+
+    def answered(self, half, response):
+        """A response to the INVITE that was handed on."""
+        call, halves = self.calls[response.get("call-id")]
+        near, code = halves[FAR[half.side]], response.status()
+        if half.invited is None or int(response.get("cseq").split()[0]) != half.invited:
+            return
+        if code < 200:
+            if code > 100 and near.waiting:
+                self.reply(near.side, near.waiting, code, "Ringing", tag=f"g{call}")
+            return
+        half.other = response.get("to")
+        self.ask(half, "ACK", number=half.invited)
+        request, near.waiting, half.invited = near.waiting, None, None
+        if code >= 300:
+            return self.refuse(call, near, request, code)
+        half.uri = inner(response.get("contact")) or half.uri
+        try:
+            text = self.driver.answer(call, response.body)
+        except Refused as refused:
+            self.log.append(f"call {call}: answer refused: {refused}")
+            if not near.offered:
+                self.ask(half, "BYE")
+            return self.refuse(call, near, request, 488)
+        near.offered, near.given, half.offered = request.body, text, b""
+        self.reply(near.side, request, 200, "OK", text, tag=f"g{call}")
+
+    def refuse(self, call, near, request, code):
+        self.driver.reject(call)
+        self.reply(near.side, request, code, "Refused", tag=f"g{call}")
+        if not near.offered:
+            self.forget(call)
+
+    def ended(self, side, request):
+        """A BYE, or a CANCEL of what isn't answered."""
+        call, halves = self.calls[request.get("call-id")]
+        near, far = halves[side], halves[FAR[side]]
+        self.reply(side, request, 200, "OK")
+        if request.method() == "BYE":
+            self.ask(far, "BYE")
+            self.driver.bye(call)
+        elif near.waiting:
+            self.ask(far, "CANCEL", number=far.invited)
+            return
+        self.forget(call)
+
+    def forget(self, call):
+        self.calls = {name: known for name, known in self.calls.items() if known[0] != call}
+
+    # ---- the loop
+
+    def handle(self, side, message):
+        known = message.get("call-id") in self.calls
+        if message.status():
+            if known and message.method() == "INVITE":
+                self.answered(self.calls[message.get("call-id")][1][side], message)
+        elif message.method() == "INVITE":
+            self.invite(side, message)
+        elif message.method() in ("BYE", "CANCEL") and known:
+            self.ended(side, message)
+        elif message.method() != "ACK":
+            self.reply(side, message, 200 if message.method() == "OPTIONS" else 481, "OK", tag="g")
+
+    def serve(self, is_over):
+        """Handles messages until `is_over()` is true."""
+        while not is_over():
+            ready, _, _ = select.select(list(self.sockets.values()), [], [], 0.1)
+            for side, own in self.sockets.items():
+                if own in ready:
+                    self.handle(side, Message(*own.recvfrom(65_536)))
+
+    def close(self):
+        for own in self.sockets.values():
+            own.close()
+
+
+def inner(value):
+    """The address in a Contact header."""
+    return value.split("<", 1)[1].split(">")[0] if "<" in value else value.split(";")[0]
+
+
+def address(text):
+    host, port = text.split(":")
+    return host, int(port)
+
+
+def main():
+    words = argparse.ArgumentParser(description="a SIP server between two telephones, over the gateway")
+    words.add_argument("--secure", type=address, required=True, help="the telephone on the secure side")
+    words.add_argument("--plain", type=address, required=True, help="the telephone on the plain side")
+    words.add_argument("--seconds", type=float, default=3_600, help="when it ends by itself")
+    given = words.parse_args()
+    driver = Driver(program())
+    end = time.monotonic() + given.seconds
+    Server(driver, {"secure": given.secure, "plain": given.plain}).serve(lambda: time.monotonic() > end)
+    return driver.close()
+
+
+if __name__ == "__main__":
+    sys.exit(main())

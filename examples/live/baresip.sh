@@ -1,0 +1,14 @@
+#!/usr/bin/env bash
+# Telephones that speak SIP, through a SIP server that drives the gateway (b2bua.py over driver.py):
+#
+#   1. baresip with `mediaenc=srtp-mand` calls SIPp, which knows no SRTP and sends back each RTP packet;
+#   2. a baresip without SRTP calls one with `srtp-mand`, which answers by itself.
+#
+# Keys are agreed by crypto lines. It says what arrived where, and ends with 0 where each telephone heard the
+# samples that the other one played, in their order and without a gap.
+#
+#   examples/live/baresip.sh                 with ./srtpgw, or with the program that SRTPGW names
+. "$(dirname "$0")/needs.sh"
+needs baresip baresip
+needs sipp sip-tester
+exec timeout -k 5 600 python3 "$here/baresip.py"
