@@ -7,7 +7,7 @@ use Rattle.sg_table.specs.Values.{TableValue, AreRising, shapes_of}
 use Rattle.sg_table.proofs.calls.Calls.batch.Goals as goal
 
 pub each-requires-clause-rising : goal.each-requires-clause-rising
-each-requires-clause-rising g c lifetimes =
+each-requires-clause-rising g c lifetimes outlive =
     let (w, s) = c.requires.stands in
     subst (λ cs. AreRising (shapes_of cs)) (sym c.deref_mut.ensures.value) (subst (λ (t : TableValue). AreRising (shapes_of t.calls)) (sym c.self.view_is) (rising_of c.calls_in_order.ensures c.args.self.now w s))
 

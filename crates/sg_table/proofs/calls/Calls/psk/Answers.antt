@@ -28,7 +28,7 @@ returns-clause-told c =
         subst (λ (ps : List Pair). IsAnswered b.one.result.items (record { calls = c.self.inside.by_slot.items; books = record { psks = ps; seen = c.self.inside.books.seen; ring = c.self.inside.books.ring }; moment = c.self.inside.moment }) (with_pair w (pair_of c.args.own.now c.args.peer.now c.args.key.now)))
         (sym (subst (λ r. OnErr r (c.add.new.self ≡ c.self.inside.books.psks)) b.in-Err-Refused.is c.add.ensures.kept))
         (pair_refused c.self.inside.by_slot.items c.self.inside.books c.self.inside.moment w viewed.holds c.args.own.now c.args.peer.now c.args.key.now b.in-Err-Refused.cause b.one.result.items
-        (subst (Adds c.self.inside.books.psks c.args.own.now c.args.peer.now) b.in-Err-Refused.is adds) b.one.ensures)))
+        (subst (Adds c.self.inside.books.psks c.args.own.now c.args.peer.now) (b.in-Err-Refused.is ∙ ap (λ f. Err f) b.in-Err-Refused.field-0-is) adds) b.one.ensures)))
     | in-Err-NoMemory b ↦ subst (λ r. IfOk r (λ told. (w : World) → TableStandsFor c.args.self.now w → IsAnswered told.items (record { calls = c.self.inside.by_slot.items; books = record { psks = c.add.new.self; seen = c.self.inside.books.seen; ring = c.self.inside.books.ring }; moment = c.self.inside.moment }) (with_pair w (pair_of c.args.own.now c.args.peer.now c.args.key.now))))
         (sym b.result-is) tt
     ]
