@@ -120,14 +120,14 @@ pub ticks_next : (now k : ℕ) (old calls : List CallValue) (e new : CallValue) 
 ticks_next now k old calls e new lt this t = record {
   ticked = λ i d below within. elim (cases_Bool (eqb i k)) [
     | inl y ↦ (
-      let same : i ≡ k = eqb-true i k y in
-      subst (λ j. IsTicked now (get_or old j d) (get_or (set calls k new) j d)) (sym same)
-          (subst (IsTicked now (get_or old k d)) (sym (get_or-set_same calls k new d lt)) (subst (λ x. IsTicked now x new) (get_any calls k e d lt ∙ t.others k d (omega arith)) this))
-    )
+        let same : i ≡ k = eqb-true i k y in
+        subst (λ j. IsTicked now (get_or old j d) (get_or (set calls k new) j d)) (sym same)
+        (subst (IsTicked now (get_or old k d)) (sym (get_or-set_same calls k new d lt)) (subst (λ x. IsTicked now x new) (get_any calls k e d lt ∙ t.others k d (omega arith)) this))
+        )
     | inr x ↦ (
-      let differ : i ≡ k → ⊥ = (λ same. false≢true (sym x ∙ eq-eqb i k same)) in
-      subst (IsTicked now (get_or old i d)) (sym (get_or-set_other calls k i new d differ)) (t.ticked i d (omega (arith, below, differ)) within)
-    )
+        let differ : i ≡ k → ⊥ = (λ same. false≢true (sym x ∙ eq-eqb i k same)) in
+        subst (IsTicked now (get_or old i d)) (sym (get_or-set_other calls k i new d differ)) (t.ticked i d (omega (arith, below, differ)) within)
+        )
   ];
   others = λ i d le. get_or-set_other calls k i new d (λ same. omega (arith, le, same)) ∙ t.others i d (omega (arith, le));
 }

@@ -70,7 +70,9 @@ fn table_of(alloc: Global, calls: u16) -> Result<Table, Fail> {
 fn packet(number: u16, source: u8) -> [u8; 16] {
     let high = (number / 256) as u8;
     let low = (number % 256) as u8;
-    [0x80, 0, high, low, 0, 0, 0, low, 0, 0, 0, source, 1, 2, 3, 4]
+    [
+        0x80, 0, high, low, 0, 0, 0, low, 0, 0, 0, source, 1, 2, 3, 4,
+    ]
 }
 
 fn arrival(alloc: Global, port: u16, from: Address, octets: &[u8]) -> Result<Arrival, Fail> {

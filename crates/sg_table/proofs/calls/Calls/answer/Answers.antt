@@ -1,6 +1,7 @@
 use Rattle.std.proofs.Common.{rules, ◌≡◌, ◌≤◌, ◌<◌, ◌+◌, ◌∙◌, sym, ap, subst, refl, true, false, get_or, List, [], ◌∷◌, ℕ, length, Option, Some, None, Result, Ok, Err}
 use Rattle.std.proofs.Math.ListN.{set}
 use Rattle.std.proofs.lemmas.Result.{IfOk-weaker}
+use Rattle.std.proofs.lemmas.List.{with_items_is}
 use Rattle.arrayvec.specs.ArrayVec.{ArrayVec}
 use Rattle.std.specs.List.{position}
 use Rattle.std.specs.Option.{is_some}
@@ -41,6 +42,8 @@ returns-in-Some-clause-told c =
     let before : List CallValue → TableValue = λ l. held l c.self.inside.books c.self.inside.moment in
     let after : TableValue = held c.answer_at.new.calls c.answer_at.new.books c.self.inside.moment in
     let go : (told : ArrayVec (Option Outcome)) → ((w : World) → TableStandsFor (before c.deref_mut.result.now) w → IsAnswered told.items after (answered w c.args.id c.args.noise.now c.args.text.now (call_of w c.args.id)))
-        → (w : World) → TableStandsFor c.args.self.now w → IsAnswered told.items after (answered w c.args.id c.args.noise.now c.args.text.now (call_of w c.args.id)) =
+    → (w : World) → TableStandsFor c.args.self.now w → IsAnswered told.items after (answered w c.args.id c.args.noise.now c.args.text.now (call_of w c.args.id)) =
     λ told f w s. f w (subst (λ l. TableStandsFor (before l) w) (sym c.deref_mut.ensures.value) (subst (λ v. TableStandsFor v w) (sym c.self.view_is) s)) in
-    IfOk-weaker c.answer_at.result _ _ go c.answer_at.ensures.told
+    subst (λ cs. IfOk c.answer_at.result (λ told. (w : World) → TableStandsFor c.args.self.now w → IsAnswered told.items (held cs c.answer_at.new.books c.self.inside.moment) (answered w c.args.id c.args.noise.now c.args.text.now (call_of w c.args.id))))
+    (sym (with_items_is c.self.inside.by_slot c.answer_at.new.calls (c.answer_at.auto.calls ∙ c.deref_mut.ensures.len)))
+    (IfOk-weaker c.answer_at.result _ _ go c.answer_at.ensures.told)

@@ -1,0 +1,79 @@
+use Rattle.std.proofs.Common.{rules, ◌≡◌, ◌≤◌, ◌<◌, ◌+◌, ◌∙◌, sym, ap, subst, refl, true, false, get_or, List, [], ◌∷◌, ℕ, length, Option, Some, None, Result, Ok, Err}
+use Rattle.std.proofs.Math.ListN.{set}
+use Rattle.std.proofs.lemmas.Result.{IfOk-weaker}
+use Rattle.std.proofs.lemmas.List.{with_items_is}
+use Rattle.arrayvec.specs.ArrayVec.{ArrayVec}
+use Rattle.std.specs.List.{position}
+use Rattle.std.specs.Option.{is_some}
+use Rattle.std.specs.Result.{IfOk, OnErr}
+use Rattle.sg_agreement.specs.Manual.{ManualCall, manual_medium}
+use Rattle.sg_agreement.specs.Sides.{side_of, other_side}
+use Rattle.sg_base.specs.declared.faults.Refusal.TheVariants.{CallKnown, CallUnknown, TableFull}
+use Rattle.sg_call.specs.Settling.{IsSettled, IsKeyed}
+use Rattle.sg_call.specs.Standing.{CallStandsFor}
+use Rattle.sg_call.specs.Values.{CallValue}
+use Rattle.sg_gateway.specs.CallSignals.{keyed_manually, offered_in, answered_in}
+use Rattle.sg_gateway.specs.Early.{early_manual, early_offer, early_answer}
+use Rattle.sg_gateway.specs.Signals.{manual_answer, offered_to, answered, answer_to, with_pair, rejected, left, ticked}
+use Rattle.sg_gateway.specs.World.{World, call_of, empty}
+use Rattle.sg_outcome.specs.declared.outcomes.Outcome.{Outcome}
+use Rattle.sg_outcome.specs.declared.outcomes.Outcome.TheVariants.{Made, Live, Sdp}
+use Rattle.sg_table.proofs.Answered.{order_of, refused_holds, quiet_at, back_at}
+use Rattle.sg_table.proofs.Early.{manual_known, manual_full, manual_needs, offer_full, offer_needs, answer_unknown}
+use Rattle.sg_table.proofs.Found.{get_any}
+use Rattle.sg_table.proofs.Signalled.{held, on_err, manual_told, manual_refused, offer_new_told, offer_new_refused, offer_at_told, offer_at_refused, offer_at_needs, answer_told, answer_refused, answer_state, answer_needs, pairs_there}
+use Rattle.sg_table.specs.Found.{has_id}
+use Rattle.sg_table.specs.Free.{free_shape}
+use Rattle.sg_table.specs.Standing.{TableStandsFor}
+use Rattle.sg_table.specs.Telling.{IsAnswered}
+use Rattle.sg_table.specs.Values.{TableValue, IsQuiet, shapes_of}
+use Rattle.sg_table.specs.contracts.calls.Calls.{the_view}
+use Rattle.sg_agreement.specs.declared.ways.Way.TheVariants.{FromSecure, SdesFromPlain, MikeyFromPlain}
+use Rattle.sg_gateway.specs.Early.{MayWant}
+use Rattle.sg_gateway.specs.Events.{signal_of, noise_octets, events_of_signal}
+use Rattle.sg_gateway.specs.Runs.{world_after}
+use Rattle.sg_psk.specs.Pairs.{pair_of}
+use Rattle.sg_table.proofs.Stepped.{told_of_signal}
+use Rattle.sg_table.proofs.calls.Calls.take.Goals as goal
+
+pub returns-in-Tick-clause-told : goal.returns-in-Tick-clause-told
+returns-in-Tick-clause-told c = λ w s. subst (λ g. IsAnswered c.tick.result.items c.tick.new.self (answer_to w (signal_of g))) (sym c.in-Tick.is) (c.tick.ensures w s)
+
+pub returns-in-Reject-clause-told : goal.returns-in-Reject-clause-told
+returns-in-Reject-clause-told c = λ w s. subst (λ g. IsAnswered c.reject.result.items c.reject.new.self (answer_to w (signal_of g))) (sym c.in-Reject.is) (c.reject.ensures w s)
+
+pub returns-in-Bye-clause-told : goal.returns-in-Bye-clause-told
+returns-in-Bye-clause-told c = λ w s. subst (λ g. IsAnswered c.bye.result.items c.bye.new.self (answer_to w (signal_of g))) (sym c.in-Bye.is) (c.bye.ensures w s)
+
+pub returns-in-Psk-clause-told : goal.returns-in-Psk-clause-told
+returns-in-Psk-clause-told c =
+    subst (λ g. IfOk c.psk.result (λ told. (w : World) → TableStandsFor c.args.self.now w → IsAnswered told.items c.psk.new.self (answer_to w (signal_of g)))) (sym c.in-Psk.is)
+    (subst (λ k. IfOk c.psk.result (λ told. (w : World) → TableStandsFor c.args.self.now w → IsAnswered told.items c.psk.new.self (with_pair w (pair_of c.in-Psk.own c.in-Psk.peer k)))) c.as_slice.ensures c.psk.ensures.told)
+
+pub returns-in-Manual-clause-told : goal.returns-in-Manual-clause-told
+returns-in-Manual-clause-told c = subst (λ g. IfOk c.manual.result (λ told. (w : World) → TableStandsFor c.args.self.now w → IsAnswered told.items c.manual.new.self (answer_to w (signal_of g)))) (sym c.in-Manual.is) c.manual.ensures.told
+
+pub returns-in-OfferSecure-clause-told : goal.returns-in-OfferSecure-clause-told
+returns-in-OfferSecure-clause-told c =
+    subst (λ g. IfOk c.offer.result (λ told. (w : World) → TableStandsFor c.args.self.now w → IsAnswered told.items c.offer.new.self (answer_to w (signal_of g)))) (sym c.in-OfferSecure.is)
+    (subst (λ n. IfOk c.offer.result (λ told. (w : World) → TableStandsFor c.args.self.now w → IsAnswered told.items c.offer.new.self (offered_to w c.in-OfferSecure.call FromSecure n c.in-OfferSecure.text (call_of w c.in-OfferSecure.call)))) c.given.ensures
+    (subst (λ t. IfOk c.offer.result (λ told. (w : World) → TableStandsFor c.args.self.now w → IsAnswered told.items c.offer.new.self (offered_to w c.in-OfferSecure.call FromSecure c.given.result.now t (call_of w c.in-OfferSecure.call)))) c.as_slice-in-OfferSecure.ensures c.offer.ensures.told))
+
+pub returns-in-OfferSdes-clause-told : goal.returns-in-OfferSdes-clause-told
+returns-in-OfferSdes-clause-told c =
+    subst (λ g. IfOk c.offer-in-OfferSdes.result (λ told. (w : World) → TableStandsFor c.args.self.now w → IsAnswered told.items c.offer-in-OfferSdes.new.self (answer_to w (signal_of g)))) (sym c.in-OfferSdes.is)
+    (subst (λ n. IfOk c.offer-in-OfferSdes.result (λ told. (w : World) → TableStandsFor c.args.self.now w → IsAnswered told.items c.offer-in-OfferSdes.new.self (offered_to w c.in-OfferSdes.call SdesFromPlain n c.in-OfferSdes.text (call_of w c.in-OfferSdes.call)))) c.given-in-OfferSdes.ensures
+    (subst (λ t. IfOk c.offer-in-OfferSdes.result (λ told. (w : World) → TableStandsFor c.args.self.now w → IsAnswered told.items c.offer-in-OfferSdes.new.self (offered_to w c.in-OfferSdes.call SdesFromPlain c.given-in-OfferSdes.result.now t (call_of w c.in-OfferSdes.call)))) c.as_slice-in-OfferSdes.ensures c.offer-in-OfferSdes.ensures.told))
+
+pub returns-in-OfferMikey-clause-told : goal.returns-in-OfferMikey-clause-told
+returns-in-OfferMikey-clause-told c =
+    subst (λ g. IfOk c.offer-in-OfferMikey.result (λ told. (w : World) → TableStandsFor c.args.self.now w → IsAnswered told.items c.offer-in-OfferMikey.new.self (answer_to w (signal_of g)))) (sym c.in-OfferMikey.is)
+    (subst (λ n. IfOk c.offer-in-OfferMikey.result (λ told. (w : World) → TableStandsFor c.args.self.now w → IsAnswered told.items c.offer-in-OfferMikey.new.self (offered_to w c.in-OfferMikey.call (MikeyFromPlain c.in-OfferMikey.peer) n c.in-OfferMikey.text (call_of w c.in-OfferMikey.call)))) c.given-in-OfferMikey.ensures
+    (subst (λ t. IfOk c.offer-in-OfferMikey.result (λ told. (w : World) → TableStandsFor c.args.self.now w → IsAnswered told.items c.offer-in-OfferMikey.new.self (offered_to w c.in-OfferMikey.call (MikeyFromPlain c.in-OfferMikey.peer) c.given-in-OfferMikey.result.now t (call_of w c.in-OfferMikey.call)))) c.as_slice-in-OfferMikey.ensures
+    (subst (λ p. IfOk c.offer-in-OfferMikey.result (λ told. (w : World) → TableStandsFor c.args.self.now w → IsAnswered told.items c.offer-in-OfferMikey.new.self (offered_to w c.in-OfferMikey.call (MikeyFromPlain p) c.given-in-OfferMikey.result.now c.as_slice-in-OfferMikey.result.now (call_of w c.in-OfferMikey.call)))) c.copy_of.ensures c.offer-in-OfferMikey.ensures.told)))
+
+pub returns-in-Answer-clause-told : goal.returns-in-Answer-clause-told
+returns-in-Answer-clause-told c =
+    subst (λ g. IfOk c.answer.result (λ told. (w : World) → TableStandsFor c.args.self.now w → IsAnswered told.items c.answer.new.self (answer_to w (signal_of g)))) (sym c.in-Answer.is)
+    (subst (λ n. IfOk c.answer.result (λ told. (w : World) → TableStandsFor c.args.self.now w → IsAnswered told.items c.answer.new.self (answered w c.in-Answer.call n c.in-Answer.text (call_of w c.in-Answer.call)))) c.given-in-Answer.ensures
+    (subst (λ t. IfOk c.answer.result (λ told. (w : World) → TableStandsFor c.args.self.now w → IsAnswered told.items c.answer.new.self (answered w c.in-Answer.call c.given-in-Answer.result.now t (call_of w c.in-Answer.call)))) c.as_slice-in-Answer.ensures c.answer.ensures.told))
