@@ -16,7 +16,7 @@ use Rattle.sg_demo.specs.Going.{DemoStandsFor}
 use Rattle.sg_demo.specs.Standing.{CallerStandsFor}
 use Rattle.sg_demo.specs.Words.{key_drawn}
 use Rattle.sg_demo.specs.declared.caller.Caller.{Caller}
-use Rattle.sg_demo.specs.declared.demo.Demo.{Demo}
+use Rattle.sg_demo.specs.declared.state.Demo.{Demo}
 use Rattle.sg_demo.specs.declared.summary.Summary.{Summary}
 use Rattle.sg_demo.proofs.Batching.{world_after-append}
 use Rattle.sg_demo.proofs.Lists.{zip_push}

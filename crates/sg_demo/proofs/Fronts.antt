@@ -1,5 +1,5 @@
 -- A demonstration goes on from its events so far.
-use Rattle.std.proofs.Common.{◌≡◌, ℕ, zero, suc, ◌+◌, ◌-◌, ◌<◌, ◌≤◌, List, [], ◌∷◌, ◌++◌, map, Option, Some, None, refl, sym, ap, ◌∙◌, subst, append_assoc, arith}
+use Rattle.std.proofs.Common.{◌≡◌, ℕ, zero, suc, ◌+◌, ◌-◌, ◌<◌, ◌≤◌, List, [], ◌++◌, Option, Some, None, refl, sym, ap, ◌∙◌, subst, append_assoc, arith}
 use Rattle.std.proofs.lemmas.List.{append-nil}
 use Rattle.rand_pcg.specs.Lcg.{Lcg}
 use Rattle.sg_base.specs.Keys.{Master}
@@ -8,7 +8,7 @@ use Rattle.sg_gateway.specs.Step.{Event}
 use Rattle.sg_gateway.specs.World.{empty}
 use Rattle.sg_table.specs.Standing.{TableStandsFor}
 use Rattle.sg_table.specs.Values.{TableValue}
-use Rattle.sg_demo.specs.Demonstration.{Demo, HasTakenFront, calls_made, demo_of, with_call, with_caller, with_keys, with_round, with_rounds, world_of}
+use Rattle.sg_demo.specs.Demonstration.{Demo, HasTakenFront, calls_made, demo_of, with_call, with_caller, with_keys, with_round, with_rounds}
 
 -- the events begin with these
 pub record IsFront (front all : List Event) : Type 0 where

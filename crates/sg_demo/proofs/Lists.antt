@@ -1,5 +1,5 @@
 -- Lists whose items stand for each other, one by one.
-use Rattle.std.proofs.Common.{◌≡◌, ℕ, zero, suc, ◌+◌, ◌<◌, ◌∙◌, drop, List, [], ◌∷◌, ◌++◌, length, get_or, set, slice_get, Option, Some, None, ◌≤◌, ap, arith, refl}
+use Rattle.std.proofs.Common.{◌≡◌, ℕ, zero, suc, ◌+◌, ◌<◌, ◌∙◌, drop, List, [], ◌∷◌, ◌++◌, length, get_or, set, slice_get, Some, None, ◌≤◌, ap, arith, refl}
 use Rattle.std.specs.List.{AllZip}
 
 -- what stands for the item behind the front

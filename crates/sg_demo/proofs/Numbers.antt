@@ -1,5 +1,5 @@
 -- Numbers of packets, of which the code keeps the lowest 32 bits.
-use Rattle.std.proofs.Common.{◌≡◌, ℕ, ◌+◌, ◌*◌, ◌%◌, ◌^◌, refl, sym, ap, ◌∙◌, arith}
+use Rattle.std.proofs.Common.{◌≡◌, ℕ, ◌+◌, ◌*◌, ◌%◌, ◌^◌, ap, ◌∙◌, arith}
 use Rattle.sg_demo.specs.Packets.{packet, packet_of}
 
 pub same_packet : (ssrc n m : ℕ) → m ≡ n % 2 ^ 32 → packet ssrc m ≡ packet ssrc n

@@ -1,5 +1,5 @@
 -- A demonstration after one round more.
-use Rattle.std.proofs.Common.{◌≡◌, ℕ, ◌+◌, List, ◌++◌, map, sym, ap, ◌∙◌, subst}
+use Rattle.std.proofs.Common.{◌≡◌, ◌+◌, List, ◌++◌, map, sym, ap, ◌∙◌, subst}
 use Rattle.std.specs.List.{AllZip, AllByRecursion}
 use Rattle.sg_gateway.specs.Events.{outcomes_from}
 use Rattle.sg_gateway.specs.Runs.{world_after}
@@ -17,7 +17,7 @@ use Rattle.sg_demo.specs.Going.{DemoStandsFor}
 use Rattle.sg_demo.specs.Rounds.{arrival_of}
 use Rattle.sg_demo.specs.Standing.{CallerStandsFor, CountStands, IsHandled}
 use Rattle.sg_demo.specs.Turns.{Turns, event_of, origin_of, turns_of}
-use Rattle.sg_demo.specs.declared.demo.Demo.{Demo}
+use Rattle.sg_demo.specs.declared.state.Demo.{Demo}
 use Rattle.sg_demo.specs.declared.origin.Origin.{Origin}
 use Rattle.sg_demo.specs.declared.summary.Summary.{Summary}
 use Rattle.sg_demo.proofs.Batching.{world_after-append, events_are, answered_handled}

@@ -1,5 +1,5 @@
 -- Bounds that grow.
-use Rattle.std.proofs.Common.{◌≡◌, ℕ, ◌+◌, ◌≤◌, List, length, All, IsSome, arith}
+use Rattle.std.proofs.Common.{ℕ, ◌+◌, ◌≤◌, arith}
 use Rattle.sg_demo.specs.Rounds.{IsSmall}
 use Rattle.sg_demo.specs.Standing.{IsWithin}
 use Rattle.sg_demo.specs.declared.round.Round.{Round}

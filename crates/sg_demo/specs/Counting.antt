@@ -6,7 +6,6 @@ use Rattle.sg_outcome.specs.declared.outcomes.Outcome.{Outcome}
 use Rattle.sg_outcome.specs.declared.outcomes.Outcome.TheVariants.{Out, Dropped}
 use Rattle.sg_session.specs.Opening.{opens}
 use Rattle.sg_demo.specs.Callers.{Caller, after_opening}
-use Rattle.sg_demo.specs.Turns.{Arriving}
 use Rattle.sg_demo.specs.declared.origin.Origin.{Origin}
 use Rattle.sg_demo.specs.declared.origin.Origin.TheVariants as origin
 use Rattle.sg_demo.specs.declared.summary.Summary.{Summary}

@@ -5,7 +5,7 @@ use Rattle.sg_agreement.specs.Manual.{ManualCall}
 use Rattle.sg_base.specs.Keys.{Master}
 use Rattle.sg_gateway.specs.Events.{outcomes_from}
 use Rattle.sg_gateway.specs.Runs.{world_after}
-use Rattle.sg_gateway.specs.Signals.{Signal, Manual}
+use Rattle.sg_gateway.specs.Signals.{Manual}
 use Rattle.sg_gateway.specs.Step.{Event, Signalled}
 use Rattle.sg_gateway.specs.World.{World, empty}
 use Rattle.sg_outcome.specs.declared.outcomes.Outcome.{Outcome}
@@ -13,7 +13,7 @@ use Rattle.sg_outcome.specs.declared.outcomes.Outcome.TheVariants.{Made}
 use Rattle.sg_table.specs.Standing.{TableStandsFor}
 use Rattle.sg_table.specs.Values.{TableValue}
 use Rattle.sg_demo.specs.Callers.{Caller, new_caller, plain_address, secure_address}
-use Rattle.sg_demo.specs.Counting.{Count, counted, none_counted}
+use Rattle.sg_demo.specs.Counting.{counted, none_counted}
 use Rattle.sg_demo.specs.Turns.{Turns, event_of, origin_of, turns_of}
 use Rattle.sg_demo.specs.Words.{key_drawn, started_by}
 use Rattle.sg_demo.specs.declared.summary.Summary.{Summary}

@@ -6,7 +6,7 @@ use Rattle.sg_table.specs.Values.{TableValue}
 use Rattle.sg_demo.specs.Demonstration as demo
 use Rattle.sg_demo.specs.Demonstration.{world_of}
 use Rattle.sg_demo.specs.Standing.{CallerStandsFor}
-use Rattle.sg_demo.specs.declared.demo.Demo.{Demo}
+use Rattle.sg_demo.specs.declared.state.Demo.{Demo}
 
 pub record DemoStandsFor (shown : Demo) (table : TableValue) (d : demo.Demo) : Type 0 where
   pub words : shown.words ≡ d.words

@@ -6,7 +6,7 @@ ghost use Rattle.sg_gateway.specs.Runs.{world_after};
 ghost use Rattle.sg_table.specs.Standing.{TableStandsFor};
 ghost use Rattle.sg_demo.specs.Demonstration.{demonstration, events_in, HasTakenFront};
 
-use crate::demo::Demo;
+use crate::state::Demo;
 use crate::summary::Summary;
 use sg_base::NoMemory;
 use sg_lanes::Gate;

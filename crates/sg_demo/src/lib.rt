@@ -4,11 +4,12 @@
 mod action;
 mod caller;
 mod counting;
-mod demo;
 mod demonstration;
 mod origin;
 mod packets;
 mod round;
+mod showing;
+mod state;
 mod summary;
 #[cfg(test)]
 mod tests;
@@ -16,5 +17,6 @@ mod text;
 mod words;
 
 pub use demonstration::traffic;
+pub use showing::demo;
 pub use summary::Summary;
 pub use text::summary_text;

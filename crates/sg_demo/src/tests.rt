@@ -121,10 +121,19 @@ fn other_numbers(rt: HostRuntime) -> Result<(), Fail> {
 }
 
 #[test]
-fn many_calls(rt: HostRuntime) -> Result<(), Fail> {
-    for workers in [1, 16] {
-        assert_eq!(rt; shown(&rt, rt.alloc(), 32, 1, workers)?, MANY);
-    }
+fn calls_by_one_worker(rt: HostRuntime) -> Result<(), Fail> {
+    assert_eq!(rt; shown(&rt, rt.alloc(), 32, 1, 1)?, MANY);
+    Ok(())
+}
+
+#[test]
+fn calls_by_sixteen_workers(rt: HostRuntime) -> Result<(), Fail> {
+    assert_eq!(rt; shown(&rt, rt.alloc(), 32, 1, 16)?, MANY);
+    Ok(())
+}
+
+#[test]
+fn as_many_calls_as_there_are(rt: HostRuntime) -> Result<(), Fail> {
     assert_eq!(rt; shown(&rt, rt.alloc(), 256, 1, 4)?, MOST);
     Ok(())
 }

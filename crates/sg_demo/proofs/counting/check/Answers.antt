@@ -1,4 +1,4 @@
-use Rattle.std.proofs.Common.{◌≡◌, ◌≤◌, ℕ, Bool, false, List, Option, Some, None, slice_get, slice_set, is_ok, length, refl, sym, ap, ◌∙◌, subst, arith}
+use Rattle.std.proofs.Common.{◌≡◌, ℕ, Bool, false, List, Option, None, slice_get, slice_set, is_ok, length, refl, sym, ap, ◌∙◌, subst, arith}
 use Rattle.sg_session.specs.Opening.{opens}
 use Rattle.sg_demo.specs.Callers as model
 use Rattle.sg_demo.specs.Callers.{after_opening}

@@ -1,6 +1,6 @@
-use Rattle.std.proofs.Common.{◌≡◌, ◌+◌, ◌^◌, ◌≤◌, get_or, refl, ◌∙◌, arith}
+use Rattle.std.proofs.Common.{◌+◌, ◌^◌, get_or, refl, ◌∙◌, arith}
 use Rattle.sg_demo.specs.declared.origin.Origin.TheVariants.{Peer}
-use Rattle.sg_demo.proofs.Counts.{counting_ends, counting_goes, counting_starts}
+use Rattle.sg_demo.proofs.Counts.{counting_ends, counting_goes}
 use Rattle.sg_demo.proofs.Within.{more_within}
 use Rattle.sg_demo.proofs.counting.count_all.Goals as goal
 

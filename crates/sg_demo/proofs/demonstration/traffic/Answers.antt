@@ -1,6 +1,4 @@
-use Rattle.std.proofs.Common.{◌≡◌, ◌+◌, ◌*◌, ◌^◌, ◌≤◌, ◌<◌, ℕ, ap, ◌∙◌, subst, arith}
-use Rattle.sg_gateway.specs.Runs.{world_after}
-use Rattle.sg_gateway.specs.World.{empty}
+use Rattle.std.proofs.Common.{◌≡◌, ◌+◌, ◌*◌, ◌^◌, ℕ, ap, ◌∙◌, subst, arith}
 use Rattle.sg_table.specs.Standing.{TableStandsFor}
 use Rattle.sg_demo.specs.Demonstration.{Demo, calls_made, with_rounds, world_of}
 use Rattle.sg_demo.specs.Going.{DemoStandsFor}

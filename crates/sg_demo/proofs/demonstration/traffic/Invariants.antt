@@ -1,4 +1,4 @@
-use Rattle.std.proofs.Common.{◌≡◌, ◌+◌, ◌*◌, ◌≤◌, vec_len}
+use Rattle.std.proofs.Common.{◌+◌, ◌*◌, ◌≤◌, vec_len}
 use Rattle.sg_demo.specs.Demonstration.{calls_made, with_rounds}
 use Rattle.sg_demo.specs.Going.{DemoStandsFor}
 use Rattle.sg_demo.specs.Standing.{IsWithin}

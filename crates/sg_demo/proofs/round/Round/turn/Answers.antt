@@ -1,8 +1,7 @@
-use Rattle.std.proofs.Common.{sym, subst, arith}
+use Rattle.std.proofs.Common.{sym, subst}
 use Rattle.sg_demo.specs.declared.action.Action.{Action}
 use Rattle.sg_demo.proofs.Acting.{on_ok, swap_anywhere, takes_answer, takes_change, takes_lose, takes_repeat, takes_send}
 use Rattle.sg_demo.proofs.Turning.{Takes}
-use Rattle.sg_demo.proofs.Within.{more_small}
 use Rattle.sg_demo.proofs.round.Round.turn.Goals as goal
 
 pub returns-in_ok-seal-in-Lose-clause-turn : goal.returns-in_ok-seal-in-Lose-clause-turn

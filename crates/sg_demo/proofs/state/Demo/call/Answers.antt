@@ -1,15 +1,15 @@
-use Rattle.std.proofs.Common.{◌≡◌, ◌+◌, ◌∷◌, [], refl, sym, subst, ◌∙◌}
+use Rattle.std.proofs.Common.{◌+◌, ◌∷◌, [], refl, sym, subst}
 use Rattle.sg_base.specs.Keys.{Master}
 use Rattle.sg_gateway.specs.Events.{outcomes_from}
 use Rattle.sg_table.specs.Telling.{IsTold}
 use Rattle.sg_table.specs.Values.{TableValue}
 use Rattle.sg_demo.specs.Demonstration.{Demo, HasTakenFront, called_by, with_call, with_keys, world_of}
 use Rattle.sg_demo.specs.Going.{DemoStandsFor}
-use Rattle.sg_demo.specs.declared.demo.Demo as declared
+use Rattle.sg_demo.specs.declared.state.Demo as declared
 use Rattle.sg_demo.proofs.Acting.{on_err}
 use Rattle.sg_demo.proofs.Calling.{call_made, call_refused, call_taken, with_call_is}
 use Rattle.sg_demo.proofs.Fronts.{call_front, front_whole, taken_so_far}
-use Rattle.sg_demo.proofs.demo.Demo.call.Goals as goal
+use Rattle.sg_demo.proofs.state.Demo.call.Goals as goal
 
 pub returns-in_err-told-clause-failed : goal.returns-in_err-told-clause-failed
 returns-in_err-told-clause-failed c =

@@ -1,4 +1,4 @@
-use Rattle.std.proofs.Common.{◌≡◌, ◌+◌, ◌≤◌, ℕ, List, length, vec_len, sym, ap, ◌∙◌, subst, arith}
+use Rattle.std.proofs.Common.{◌≡◌, ◌+◌, ℕ, List, sym, ap, ◌∙◌, subst, arith}
 use Rattle.std.proofs.lemmas.List.{with_items_is}
 use Rattle.std.specs.List.{AllZip, AllByRecursion}
 use Rattle.std.specs.Vec.{with_items}
@@ -6,18 +6,18 @@ use Rattle.rand_pcg.specs.Lcg.{Lcg}
 use Rattle.sg_table.specs.Batches.{IsBatched, told_of}
 use Rattle.sg_table.specs.declared.arrival.Arrival.{Arrival}
 use Rattle.sg_demo.specs.Counting.{counted}
-use Rattle.sg_demo.specs.Demonstration.{Demo, HasTakenFront, with_round, world_of}
+use Rattle.sg_demo.specs.Demonstration.{with_round, world_of}
 use Rattle.sg_demo.specs.Rounds.{HasGathered}
-use Rattle.sg_demo.specs.Standing.{CallerStandsFor, CountStands, IsHandled, IsWithin}
+use Rattle.sg_demo.specs.Standing.{CallerStandsFor, CountStands, IsHandled}
 use Rattle.sg_demo.specs.Turns.{turns_of}
 use Rattle.sg_demo.specs.declared.caller.Caller.{Caller}
-use Rattle.sg_demo.specs.declared.demo.Demo as declared
+use Rattle.sg_demo.specs.declared.state.Demo as declared
 use Rattle.sg_demo.specs.declared.summary.Summary.{Summary}
 use Rattle.sg_demo.proofs.Acting.{on_err, on_ok}
 use Rattle.sg_demo.proofs.Fronts.{front_whole, round_front, taken_so_far}
 use Rattle.sg_demo.proofs.Rounds.{batch_handled, round_goes, round_taken}
 use Rattle.sg_demo.proofs.Within.{more_within, within_sealed}
-use Rattle.sg_demo.proofs.demo.Demo.round.Goals as goal
+use Rattle.sg_demo.proofs.state.Demo.round.Goals as goal
 
 pub returns-in_err-round-clause-failed : goal.returns-in_err-round-clause-failed
 returns-in_err-round-clause-failed g c = on_err c.from_residual.result (λ d stands. taken_so_far c.args.table.now d.events _ stands.taken (round_front d))

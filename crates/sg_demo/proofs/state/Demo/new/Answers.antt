@@ -3,7 +3,7 @@ use Rattle.std.specs.List.{AllZip}
 use Rattle.sg_demo.specs.Demonstration.{calls_made}
 use Rattle.sg_demo.specs.Standing.{CallerStandsFor}
 use Rattle.sg_demo.specs.declared.caller.Caller.{Caller}
-use Rattle.sg_demo.proofs.demo.Demo.new.Goals as goal
+use Rattle.sg_demo.proofs.state.Demo.new.Goals as goal
 
 pub returns-clause-stands : goal.returns-clause-stands
 unfolding calls_made

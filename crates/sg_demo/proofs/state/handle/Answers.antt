@@ -3,7 +3,7 @@ use Rattle.sg_gateway.specs.Runs.{world_after}
 use Rattle.sg_table.specs.Batches.{IsBatched, arrived}
 use Rattle.sg_table.specs.declared.arrival.Arrival.{Arrival}
 use Rattle.sg_demo.proofs.Batching.{batched_both}
-use Rattle.sg_demo.proofs.demo.handle.Goals as goal
+use Rattle.sg_demo.proofs.state.handle.Goals as goal
 
 pub returns : goal.returns
 returns g c = record {

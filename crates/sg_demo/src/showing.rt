@@ -1,0 +1,67 @@
+//! The command that shows a demonstration.
+
+ghost use Rattle.std.specs.Prelude.{◌≡◌, ◌≤◌, ◌<◌, true};
+ghost use Rattle.sg_course.specs.Causes.{IsCaused};
+ghost use Rattle.sg_course.specs.Output.{IsWritten};
+ghost use Rattle.sg_edge.specs.Told.{Rose, Tells};
+ghost use Rattle.sg_demo.specs.Demonstration.{demonstration};
+ghost use Rattle.sg_demo.specs.Text.{IsShown};
+ghost use Rattle.sg_demo.specs.Text as lines;
+
+use crate::demonstration::traffic;
+use crate::text::summary_text;
+use sg_course::Status;
+use sg_edge::{Sink, write_all};
+use sg_lanes::Gate;
+use sg_table::Table;
+use std::alloc::Global;
+use std::thread::Threads;
+
+/// Shows a demonstration of 1 to 256 calls whose keys and traffic are drawn from a number: the nine lines of its
+/// numbers are written. Where that fails, a front of them is written.
+pub fn demo<R: Threads + Sync, K: Sink, G: Gate + Sync>(
+    rt: &R,
+    alloc: Global,
+    calls: u16,
+    start: u64,
+    workers: usize,
+    sink: &mut K,
+    gate: &G,
+) -> Status
+    requires some { 0 < calls }
+    requires most { calls ≤ 256 }
+    requires workers { 0 < workers }
+    ensures shown { IsShown result (K.written sink.old) (K.written sink.new) (lines.summary_text (demonstration calls start)) }
+    ensures later { K.faults sink.old ≤ K.faults sink.new }
+    ensures write { result ≡ Status.Write → Rose (K.faults sink.old) (K.faults sink.new) }
+    ensures told { result ≡ Status.Write → Tells (K.failed sink.new) true }
+{
+    match write_numbers(rt, alloc, calls, start, workers, sink, gate) {
+        Ok(()) => Status::Done,
+        Err(status) => status,
+    }
+}
+
+/// Writes the lines of a demonstration's numbers, once it is over.
+fn write_numbers<R: Threads + Sync, K: Sink, G: Gate + Sync>(
+    rt: &R,
+    alloc: Global,
+    calls: u16,
+    start: u64,
+    workers: usize,
+    sink: &mut K,
+    gate: &G,
+) -> Result<(), Status>
+    requires some { 0 < calls }
+    requires most { calls ≤ 256 }
+    requires workers { 0 < workers }
+    ensures written { IsWritten result (K.written sink.old) (K.written sink.new) (lines.summary_text (demonstration calls start)) }
+    ensures cause { IsCaused Status.Write result (K.faults sink.old) (K.faults sink.new) (K.failed sink.new) }
+{
+    let mut table = Table::make(alloc).map_err(|_| Status::NoMemory)?;
+    let summary = traffic(rt, alloc, calls, start, &mut table, workers, gate).map_err(
+        |_| Status::NoMemory,
+    )?;
+    let text = summary_text(alloc, &summary).map_err(|_| Status::NoMemory)?;
+    write_all(sink, text.as_slice()).map_err(|_| Status::Write)
+}
