@@ -1,9 +1,8 @@
 //! The command that shows a demonstration.
 
-ghost use Rattle.std.specs.Prelude.{◌≡◌, ◌≤◌, ◌<◌, true};
-ghost use Rattle.sg_course.specs.Causes.{IsCaused};
+ghost use Rattle.std.specs.Prelude.{◌≡◌, ◌≤◌, ◌<◌};
+ghost use Rattle.sg_course.specs.Causes.{HasFailed, IsCaused};
 ghost use Rattle.sg_course.specs.Output.{IsWritten};
-ghost use Rattle.sg_edge.specs.Told.{Rose, Tells};
 ghost use Rattle.sg_demo.specs.Demonstration.{demonstration};
 ghost use Rattle.sg_demo.specs.Text.{IsShown};
 ghost use Rattle.sg_demo.specs.Text as lines;
@@ -32,9 +31,7 @@ pub fn demo<R: Threads + Sync, K: Sink, G: Gate + Sync>(
     requires most { calls ≤ 256 }
     requires workers { 0 < workers }
     ensures shown { IsShown result (K.written sink.old) (K.written sink.new) (lines.summary_text (demonstration calls start)) }
-    ensures later { K.faults sink.old ≤ K.faults sink.new }
-    ensures write { result ≡ Status.Write → Rose (K.faults sink.old) (K.faults sink.new) }
-    ensures told { result ≡ Status.Write → Tells (K.failed sink.new) true }
+    ensures write { HasFailed (result ≡ Status.Write) (K.faults sink.old) (K.faults sink.new) (K.failed sink.new) }
 {
     match write_numbers(rt, alloc, calls, start, workers, sink, gate) {
         Ok(()) => Status::Done,
