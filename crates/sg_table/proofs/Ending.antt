@@ -1,14 +1,16 @@
 -- A call ends, or goes on under the generation before its open offer.
-use Rattle.std.proofs.Common.{◌≡◌, ℕ, zero, suc, Bool, true, false, cond, List, [], ◌∷◌, length, get_or, map, Option, Some, None, Result, Ok, Err, refl, sym, ap, ◌∙◌, subst, eqb}
+use Rattle.std.proofs.Common.{◌≡◌, ℕ, zero, suc, ◌<◌, Bool, true, false, cond, List, [], ◌∷◌, length, get_or, map, Option, Some, None, Result, Ok, Err, refl, sym, ap, ◌∙◌, subst, eqb}
 use Rattle.std.proofs.Math.ListN.{set}
 use Rattle.std.proofs.lemmas.Bool.{eqb-true}
+use Rattle.std.proofs.lemmas.List.{set-get_or}
 use Rattle.std.specs.List.{remove, position}
+use Rattle.std.specs.Result.{OnErr}
 use Rattle.std.specs.Option.{is_some}
 use Rattle.sg_agreement.specs.Keying.{Offer}
 use Rattle.sg_base.specs.declared.addresses.CallId.{CallId}
 use Rattle.sg_base.specs.declared.faults.Refusal.{Refusal}
 use Rattle.sg_base.specs.declared.faults.Refusal.TheVariants.{CallUnknown, State}
-use Rattle.sg_call.proofs.Paired.{stands_set}
+use Rattle.sg_call.proofs.Paired.{stands_set, stands_length}
 use Rattle.sg_call.specs.Settling.{IsRejected}
 use Rattle.sg_call.specs.Standing.{CallStandsFor}
 use Rattle.sg_call.specs.Values.{CallValue}
@@ -27,9 +29,10 @@ use Rattle.sg_outcome.specs.declared.outcomes.Why.{Why}
 use Rattle.sg_outcome.specs.declared.outcomes.Why.TheVariants as why
 use Rattle.sg_psk.specs.declared.pairs.Pair.{Pair}
 use Rattle.sg_table.proofs.Answered.{quiet_set, serials}
+use Rattle.sg_table.proofs.Delivering.{quiet_at}
 use Rattle.sg_table.proofs.Early.{no_call, some_call}
 use Rattle.sg_table.proofs.Found.{CallAt}
-use Rattle.sg_table.specs.Ends.{ended_as}
+use Rattle.sg_table.specs.Ends.{ended_as, IsRejectedAt}
 use Rattle.sg_table.specs.Found.{has_id}
 use Rattle.sg_table.specs.Standing.{Holds}
 use Rattle.sg_table.specs.Telling.{Tells, IsAnswered}
@@ -48,6 +51,11 @@ quiet_remove [] zero q = tt
 quiet_remove [] (suc i) q = tt
 quiet_remove (c ∷ cs) zero q = q.1
 quiet_remove (c ∷ cs) (suc i) q = (q.0, quiet_remove cs i q.1)
+
+remove_set : (i : ℕ) (calls : List CallValue) (c : CallValue) → remove (set calls i c) i ≡ remove calls i
+remove_set i [] c = refl
+remove_set zero (x ∷ xs) c = refl
+remove_set (suc i) (x ∷ xs) c = ap (λ l. x ∷ l) (remove_set i xs c)
 
 -- a rejected call keeps its serial number
 rejected_serial : (now : ℕ) (c d : Call) → rejected_in now c ≡ Ok (Some d) → d.serial ≡ c.serial
@@ -130,3 +138,34 @@ module _ (calls : List CallValue) (books : Books) (now : ℕ) (w : World) (holds
           → Tells outs (Refused (Some id) cause ∷ []) → IsAnswered outs table (rejected w id (call_of w id))
       rejected_refused d e cause says tells = rejected_by table (Err cause) (says w.books.pairs at.call (at.stands d))
           (record { tells = tells ∙ ap (λ n. Some (Refused (Some n) cause) ∷ []) (sym same_call); holds = holds })
+
+      -- ---- by what was done at its position
+      module _ (r : Result Bool Refusal) (calls' : List CallValue) (done : IsRejectedAt now i r calls calls') where
+        within : i < length calls
+        within = subst (λ n. i < n) (sym (stands_length (CallStandsFor w.books.pairs) calls w.calls holds.calls)) at.within
+
+        says : (s : Result Bool Refusal) → r ≡ s → (pairs : List Pair) (c : Call) → CallStandsFor pairs (get_or calls i done.before) c → IsRejected pairs s done.after (rejected_in now c)
+        says s e pairs c stands = subst (λ r. IsRejected pairs r done.after (rejected_in now c)) e (done.rejected pairs c (subst (λ x. CallStandsFor pairs x c) (done.was done.before) stands))
+
+        quiet_after : IsQuiet done.after
+        quiet_after =
+            let q : IsQuiet done.before = subst IsQuiet (done.was done.before) (quiet_at calls i done.before holds.quiet within) in
+            (done.inbox.0 ∙ q.0, done.inbox.1 ∙ q.1)
+
+        pub went_on : r ≡ Ok true → Tells outs [] → IsAnswered outs (with_calls calls') (rejected w id (call_of w id))
+        went_on e tells = subst (λ cs. IsAnswered outs (with_calls cs) (rejected w id (call_of w id))) (sym done.is) (rejected_goes_on done.before done.after (says (Ok true) e) quiet_after tells)
+
+        pub has_ended : r ≡ Ok false → (calls'' : List CallValue) → calls'' ≡ remove calls' i → Tells outs (Ended id done.before.slot done.before.media why.Rejected ∷ [])
+            → IsAnswered outs (with_calls calls'') (rejected w id (call_of w id))
+        has_ended e calls'' is tells =
+            let of_call = at.stands done.before in
+            let was = done.was done.before in
+            subst (λ cs. IsAnswered outs (with_calls cs) (rejected w id (call_of w id))) (sym (is ∙ ap (λ cs. remove cs i) done.is ∙ remove_set i calls done.after))
+            (rejected_ends done.before done.after (says (Ok false) e)
+            (tells ∙ (λ j. Some (Ended ((sym same_call ∙ of_call.id_is) j) (sym was j).slot (sym was j).media why.Rejected) ∷ [])))
+
+        pub was_refused : (cause : Refusal) → r ≡ Err cause → Tells outs (Refused (Some id) cause ∷ []) → IsAnswered outs (with_calls calls') (rejected w id (call_of w id))
+        was_refused cause e tells =
+            let back : done.after ≡ done.before = subst (λ r. OnErr r (done.after ≡ done.before)) e done.back in
+            let same : calls' ≡ calls = done.is ∙ ap (set calls i) (back ∙ sym (done.was done.before)) ∙ set-get_or calls i done.before in
+            subst (λ cs. IsAnswered outs (with_calls cs) (rejected w id (call_of w id))) (sym same) (rejected_refused done.before done.after cause (says (Err cause) e) tells)

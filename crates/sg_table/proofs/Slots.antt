@@ -151,10 +151,14 @@ module _ (port : ℕ) (calls : List CallValue) (rising : AreRising (shapes_of ca
       → (i < length calls) × (position (has_call_port port) calls ≡ cond (has_call_port port (get_or calls i d)) (Some i) None)
   one_call s i d e is = somewhere i d (subst (λ n. position (λ (x : Shape). eqb x.slot n) (shapes_of calls) ≡ Some i) (slot_is s e) is)
 
+  some_element : (P : Type 0) (p : Shape → Bool) (i : ℕ) (cs : List CallValue) → position p (shapes_of cs) ≡ Some i → ((d : CallValue) → P) → P
+  some_element P p i [] e f = absurd (none_some i e)
+  some_element P p i (c ∷ cs) e f = f c
+
   -- whether it has the port, by a test of it
-  pub tested : (s i : ℕ) (d : CallValue) (b : Bool) → slot_at port ≡ Some s → position (λ (x : Shape). eqb x.slot s) (shapes_of calls) ≡ Some i
-      → b ≡ has_call_port port (get_or calls i d) → position (has_call_port port) calls ≡ cond b (Some i) None
-  tested s i d b e is test = let (within, found) = one_call s i d e is in found ∙ ap (λ t. cond t (Some i) None) (sym test)
+  pub tested : (s i : ℕ) (b : Bool) → slot_at port ≡ Some s → position (λ (x : Shape). eqb x.slot s) (shapes_of calls) ≡ Some i
+      → ((d : CallValue) → b ≡ has_call_port port (get_or calls i d)) → position (has_call_port port) calls ≡ cond b (Some i) None
+  tested s i b e is test = some_element _ (λ (x : Shape). eqb x.slot s) i calls is (λ d. (let (within, found) = one_call s i d e is in found ∙ ap (λ t. cond t (Some i) None) (sym (test d))))
 
 -- A change of the one call at a port.
 module _ (port : ℕ) (f : CallValue → CallValue) where

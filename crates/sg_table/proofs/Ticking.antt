@@ -111,7 +111,7 @@ pub record Ticks (now k : ℕ) (old calls : List CallValue) : Type 0 where
 pub ticks_none : (now : ℕ) (old : List CallValue) → Ticks now 0 old old
 ticks_none now old = record { ticked = λ i d lt within. absurd (omega (arith, lt)); others = λ i d le. refl }
 
-get_any : (xs : List CallValue) (i : ℕ) (d e : CallValue) → i < length xs → get_or xs i d ≡ get_or xs i e
+pub get_any : (xs : List CallValue) (i : ℕ) (d e : CallValue) → i < length xs → get_or xs i d ≡ get_or xs i e
 get_any [] i d e lt = absurd (omega (arith, lt))
 get_any (x ∷ xs) zero d e lt = refl
 get_any (x ∷ xs) (suc i) d e lt = get_any xs i d e (omega (arith, lt))

@@ -5,7 +5,7 @@ ghost use Rattle.sg_gateway.specs.Signals.{left, rejected, ticked};
 ghost use Rattle.sg_gateway.specs.World.{World, call_of};
 ghost use Rattle.sg_leg.specs.Pairs.{EachPair};
 ghost use Rattle.sg_outcome.specs.declared.outcomes.Why.TheVariants as whys;
-ghost use Rattle.sg_table.specs.Ends.{ended_as, idles, IsTicked};
+ghost use Rattle.sg_table.specs.Ends.{ended_as, idles, IsRejectedAt, IsTicked};
 ghost use Rattle.sg_table.specs.Standing.{TableStandsFor};
 ghost use Rattle.sg_table.specs.Telling.{IsAnswered, Tells};
 
@@ -45,13 +45,17 @@ impl Calls {
         let Some(i) = position_of(&self.by_slot, id) else {
             return refused(id, Refusal::CallUnknown);
         };
-        let told = ended(&self.by_slot[i], Why::Rejected);
-        let call = &mut self.by_slot[i];
-        match call.reject(self.moment) {
+        let (slot, media) = place_of(&self.by_slot[i]);
+        match reject_at(&mut self.by_slot, i, self.moment) {
             Ok(true) => nothing(),
             Ok(false) => {
                 self.by_slot.remove(i);
-                one(told)
+                one(Outcome::Ended {
+                    call: id,
+                    slot,
+                    media,
+                    why: Why::Rejected,
+                })
             }
             Err(cause) => refused(id, cause),
         }
@@ -69,6 +73,21 @@ impl Calls {
         self.by_slot.remove(i);
         one(told)
     }
+}
+
+/// The slot of a call, and how many media it has.
+fn place_of(call: &Call) -> (u8, u8)
+    ensures { result ≡ (call.now.slot, call.now.media) }
+{
+    (call.slot(), call.media())
+}
+
+/// The open offer of the call at a position is rejected: whether the call goes on.
+fn reject_at(calls: &mut [Call], i: usize, now: u64) -> Result<bool, Refusal>
+    requires within { i < length calls.old }
+    ensures { IsRejectedAt now i result calls.old calls.new }
+{
+    calls[i].reject(now)
 }
 
 fn ended(call: &Call, why: Why) -> Outcome

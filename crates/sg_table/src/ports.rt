@@ -32,7 +32,7 @@ pub(crate) fn place(calls: &[Call], places: &[Option<u8>], port: u16) -> Option<
         Some(slot) => match places[slot] {
             None => None,
             Some(i) => {
-                if has_port(&calls[usize::from(i)], port) {
+                if has_port(calls, usize::from(i), port) {
                     Some(usize::from(i))
                 } else {
                     None
@@ -42,8 +42,16 @@ pub(crate) fn place(calls: &[Call], places: &[Option<u8>], port: u16) -> Option<
     }
 }
 
+/// Whether the call at this position has a port.
+fn has_port(calls: &[Call], i: usize, port: u16) -> bool
+    requires { i < length calls.now }
+    ensures { (d : CallValue) → result ≡ has_call_port port (slice_index_or calls.now i d) }
+{
+    is_port_of(&calls[i], port)
+}
+
 /// Whether a port is one of the call's media.
-fn has_port(call: &Call, port: u16) -> bool
+fn is_port_of(call: &Call, port: u16) -> bool
     ensures { result ≡ has_call_port port call.now }
 {
     port_at(call.slot(), 0, 0) <= port && port < port_at(call.slot(), call.media(), 0)

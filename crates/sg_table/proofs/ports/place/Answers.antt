@@ -14,12 +14,12 @@ returns-in-None-places c =
 pub returns-then-has_port : goal.returns-then-has_port
 returns-then-has_port c =
     ap (λ n. Some n) c.from-then-has_port.ensures
-    ∙ sym (tested c.args.port c.args.calls.now c.requires.rising c.in-Some.slot c.in-Some-places.i _ true (sym c.slot_at.ensures.value ∙ c.in-Some.is)
+    ∙ sym (tested c.args.port c.args.calls.now c.requires.rising c.in-Some.slot c.in-Some-places.i true (sym c.slot_at.ensures.value ∙ c.in-Some.is)
     (sym (c.requires.indexed.at c.in-Some.slot None c.in-Some.ensures.within) ∙ c.in-Some-places.is)
-    (c.if-has_port.ensures ∙ ap (λ n. has_call_port c.args.port (get_or c.args.calls.now n _)) c.from.ensures))
+    (λ d. c.if-has_port.ensures d ∙ ap (λ n. has_call_port c.args.port (get_or c.args.calls.now n d)) c.from.ensures))
 
 pub returns-else-has_port : goal.returns-else-has_port
 returns-else-has_port c =
-    sym (tested c.args.port c.args.calls.now c.requires.rising c.in-Some.slot c.in-Some-places.i _ false (sym c.slot_at.ensures.value ∙ c.in-Some.is)
+    sym (tested c.args.port c.args.calls.now c.requires.rising c.in-Some.slot c.in-Some-places.i false (sym c.slot_at.ensures.value ∙ c.in-Some.is)
     (sym (c.requires.indexed.at c.in-Some.slot None c.in-Some.ensures.within) ∙ c.in-Some-places.is)
-    (c.if-has_port.ensures ∙ ap (λ n. has_call_port c.args.port (get_or c.args.calls.now n _)) c.from.ensures))
+    (λ d. c.if-has_port.ensures d ∙ ap (λ n. has_call_port c.args.port (get_or c.args.calls.now n d)) c.from.ensures))
