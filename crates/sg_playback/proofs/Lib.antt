@@ -1,0 +1,5 @@
+mod Completes
+mod Plays
+mod Replays
+mod Tells
+mod Timely

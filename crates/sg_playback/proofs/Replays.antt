@@ -1,0 +1,226 @@
+-- How a replay goes on, line by line, and how it ends.
+use Rattle.std.proofs.Common.{◌≡◌, ◌⊎◌, ◌+◌, ◌≤◌, ◌^◌, ℕ, List, [], ◌++◌, length, Option, Err, refl, sym, ap, ◌∙◌, subst, inl, inr, append_assoc, length-append, arith}
+use Rattle.std.proofs.lemmas.List.{append-nil}
+use Rattle.sg_base.specs.declared.faults.ScriptFault.{ScriptFault}
+use Rattle.sg_course.proofs.Courses.{output-append, reads_on, stops_at, with_events_again}
+use Rattle.sg_course.specs.Course.{AtEnd as BehindAll, AtFault, Course, ForDraw, Later, Replays, Stop, course_from, drawing, handled, replayed, stopped, with_events}
+use Rattle.sg_course.specs.Output.{IsPrefixOf, output, output_from}
+use Rattle.sg_course.specs.Reading.{IsFault, IsNext, IsRead, Reading}
+use Rattle.sg_course.specs.declared.status.Status.{Status}
+use Rattle.sg_course.specs.declared.status.Status.TheVariants.{Done, Usage, Script, Read, Write, Link, NoMemory, Clock, Noise, TurnsSpent}
+use Rattle.sg_edge.proofs.Links.{added_more, added_none}
+use Rattle.sg_edge.proofs.Passed.{took_more, wrote_more, wrote_none}
+use Rattle.sg_edge.specs.Links.{Added}
+use Rattle.sg_edge.specs.Told.{AtEnd, TookIn, Wrote}
+use Rattle.sg_gateway.specs.Runs.{world_after}
+use Rattle.sg_gateway.specs.Step.{Event}
+use Rattle.sg_gateway.specs.World.{World, empty}
+use Rattle.sg_lines.specs.ScriptLines.{lines_of}
+use Rattle.sg_lines.specs.declared.lines.Line.{Line}
+use Rattle.sg_playback.specs.Playing.{Closes, IsClosed, IsCut, IsPlayed, IsTaken}
+use Rattle.sg_playback.specs.Replay.{Ends, IsWhole, Tellings}
+
+-- The replay has taken whole lines and drawn octets. A front of their events was handled and told, the others wait.
+pub record IsReplaying (old now : Tellings) (taken waits drawn : List ℕ) (es ps : List Event) (n at : ℕ) : Type 0 where
+  pub took : TookIn old.left now.left (taken ++ waits)
+  pub drew : Added old.drawn now.drawn drawn
+  pub wrote : Wrote old.written now.written (output es)
+  pub goes : (rest more : List ℕ) → replayed (taken ++ rest) (drawn ++ more) ≡ with_events (es ++ ps) (course_from Replays n at (lines_of rest) 0 (drawing more))
+
+module _ (octets drawn : List ℕ) where
+  -- where all events were told
+  whole_so : (es : List Event) (stop : Stop) → replayed octets drawn ≡ with_events es (stopped stop (drawing [])) → IsWhole octets drawn (output es) stop
+  whole_so es stop is = record {
+    stops = ap (λ (c : Course). c.stop) is;
+    left = ap (λ (c : Course). c.left) is;
+    told = sym (ap (λ (c : Course). output c.events) is ∙ ap output (append-nil es));
+  }
+
+  -- where a front of further events' text was written
+  front_so : (es fs : List Event) (rest : Course) (front : List ℕ) → replayed octets drawn ≡ with_events (es ++ fs) rest → IsPrefixOf front (output_from (world_after empty es) fs)
+      → IsPrefixOf (output es ++ front) (output (replayed octets drawn).events)
+  front_so es fs rest front is part =
+      let tail = output_from (world_after empty (es ++ fs)) rest.events in (
+        part.0 ++ tail,
+        ap (λ (c : Course). output c.events) is ∙ output-append (es ++ fs) rest.events
+            ∙ ap (λ (l : List ℕ). l ++ tail) (output-append es fs ∙ ap (λ (l : List ℕ). output es ++ l) part.1 ∙ sym (append_assoc (output es) front part.0))
+            ∙ append_assoc (output es ++ front) part.0 tail,
+      )
+
+-- a status of a run that was cut
+pub ends_cut : (status : Status) (octets draws out : List ℕ) (left : Option (List ℕ)) → (status ≡ Write) ⊎ (status ≡ NoMemory) → IsPrefixOf out (output (replayed octets draws).events) → Ends status octets draws out left
+ends_cut status octets draws out left (inl is) front = subst (λ s. Ends s octets draws out left) (sym is) front
+ends_cut status octets draws out left (inr is) front = subst (λ s. Ends s octets draws out left) (sym is) front
+
+module _ (old now : Tellings) (taken drawn : List ℕ) (es ps : List Event) (script : Reading)
+    (going : IsReplaying old now taken script.waits drawn es ps script.number script.offset)
+    (left' : Option (List ℕ)) (got : List ℕ) (came : TookIn now.left left' got) where
+  -- the octets read by then
+  abbrev pub octets : List ℕ
+  octets = taken ++ (script.waits ++ got)
+
+  pub took_all : TookIn old.left left' octets
+  took_all = subst (TookIn old.left left') (append_assoc taken script.waits got) (took_more old.left now.left left' (taken ++ script.waits) got going.took came)
+
+  course_is : (draws : List ℕ) → replayed octets (drawn ++ draws) ≡ with_events (es ++ ps) (course_from Replays script.number script.offset (lines_of (script.waits ++ got)) 0 (drawing draws))
+  course_is draws = going.goes (script.waits ++ got) draws
+
+  no_draw : replayed octets drawn ≡ replayed octets (drawn ++ [])
+  no_draw = ap (replayed octets) (sym (append-nil drawn))
+
+  -- whatever comes, what is written is a front
+  pub is_front : IsPrefixOf (output es ++ []) (output (replayed octets drawn).events)
+  is_front = front_so octets drawn es ps _ [] (no_draw ∙ course_is []) (output_from (world_after empty es) ps, refl)
+
+  -- at an end that is closed
+  closed_whole : (end status : Status) (stop : Stop) (out : List ℕ) → course_from Replays script.number script.offset (lines_of (script.waits ++ got)) 0 (drawing []) ≡ stopped stop (drawing [])
+      → (IsWhole octets drawn (output es ++ out) stop → Ends end octets drawn (output es ++ out) left') → Closes end status (world_after empty es) ps out → Ends status octets drawn (output es ++ out) left'
+  closed_whole end status stop out stops ends (inl all) =
+      subst (λ s. Ends s octets drawn (output es ++ out) left') (sym all.0)
+      (ends (subst (λ (o : List ℕ). IsWhole octets drawn o stop) (output-append es ps ∙ ap (λ (o : List ℕ). output es ++ o) (sym all.1)) (whole_so octets drawn (es ++ ps) stop (no_draw ∙ course_is [] ∙ ap (with_events (es ++ ps)) stops))))
+  closed_whole end status stop out stops ends (inr cut) = ends_cut status octets drawn (output es ++ out) left' cut.0 (front_so octets drawn es ps _ out (no_draw ∙ course_is []) cut.1)
+
+  -- at the end of the source
+  pub closed_at_end : (status : Status) (out : List ℕ) → script.waits ++ got ≡ [] → AtEnd left' → Closes Done status (world_after empty es) ps out → Ends status octets drawn (output es ++ out) left'
+  closed_at_end status out none end closed =
+      closed_whole Done status BehindAll out (ap (λ (l : List ℕ). course_from Replays script.number script.offset (lines_of l) 0 (drawing [])) none) (λ whole. (whole, end)) closed
+
+  closed_at_fault : (fault : ScriptFault) (status : Status) (out : List ℕ) → IsFault script.number script.offset (script.waits ++ got) fault left'
+      → Closes (Script script.number fault) status (world_after empty es) ps out → Ends status octets drawn (output es ++ out) left'
+  closed_at_fault fault status out is closed =
+      closed_whole (Script script.number fault) status (AtFault script.number fault) out (stops_at Replays script.number script.offset (script.waits ++ got) fault 0 (drawing []) is.first)
+      (λ whole. (
+        whole,
+        is.ended,
+        λ other more.
+            ap (λ (l : List ℕ). (replayed l drawn).stop) (append_assoc taken (script.waits ++ got) more)
+            ∙ ap (λ (d : List ℕ). (replayed (taken ++ ((script.waits ++ got) ++ more)) d).stop) (sym (append-nil drawn))
+            ∙ ap (λ (c : Course). c.stop) (going.goes ((script.waits ++ got) ++ more) [])
+            ∙ ap (λ (c : Course). c.stop) (stops_at Replays script.number script.offset ((script.waits ++ got) ++ more) fault 0 (drawing []) (is.still other more)),
+      )) closed
+
+  -- where no line was read
+  pub closed_at_err : (end status : Status) (new : Reading) (out : List ℕ) → IsNext (Err end) script new got left' → IsClosed end status (world_after empty es) ps out
+      → Ends status octets drawn (output es ++ out) left'
+  closed_at_err (Script n fault) status new out next closed =
+      closed_at_fault fault status out (subst (λ (m : ℕ). IsFault m script.offset (script.waits ++ got) fault left') next.0 next.1) (subst (λ (m : ℕ). Closes (Script m fault) status (world_after empty es) ps out) next.0 closed)
+  closed_at_err Read status new out next closed =
+      subst (λ s. Ends s octets drawn (output es ++ out) left') (sym closed.0) (subst (λ (o : List ℕ). IsPrefixOf (output es ++ o) (output (replayed octets drawn).events)) (sym closed.1) is_front)
+  closed_at_err NoMemory status new out next closed =
+      subst (λ s. Ends s octets drawn (output es ++ out) left') (sym closed.0) (subst (λ (o : List ℕ). IsPrefixOf (output es ++ o) (output (replayed octets drawn).events)) (sym closed.1) is_front)
+  closed_at_err Done status new out next closed = absurd next
+  closed_at_err Usage status new out next closed = absurd next
+  closed_at_err Write status new out next closed = absurd next
+  closed_at_err Link status new out next closed = absurd next
+  closed_at_err Clock status new out next closed = absurd next
+  closed_at_err Noise status new out next closed = absurd next
+  closed_at_err TurnsSpent status new out next closed = absurd next
+
+  module _ (l : Line) (new : Reading) (read : IsRead l script new got) where
+    -- what the rest makes of what follows
+    abbrev later : List ℕ → Later
+    later rest = course_from Replays (script.number + 1) (script.offset + length read.line) (lines_of rest)
+
+    line_goes : (rest draws : List ℕ) → course_from Replays script.number script.offset (lines_of (read.line ++ rest)) 0 (drawing draws) ≡ handled l (later rest) 0 (drawing draws)
+    line_goes rest draws = reads_on Replays script.number script.offset read.line rest l 0 (drawing draws) read.whole read.is
+
+    -- all octets read, with those drawn
+    all_is : (draws : List ℕ) → replayed octets (drawn ++ draws) ≡ with_events (es ++ ps) (handled l (later new.waits) 0 (drawing draws))
+    all_is draws =
+        course_is draws ∙ ap (λ (r : List ℕ). with_events (es ++ ps) (course_from Replays script.number script.offset (lines_of r) 0 (drawing draws))) read.split
+        ∙ ap (with_events (es ++ ps)) (line_goes new.waits draws)
+
+    cut_so : (draws out : List ℕ) → IsCut l (world_after empty es) ps draws out → IsPrefixOf (output es ++ out) (output (replayed octets (drawn ++ draws)).events)
+    cut_so draws out cut =
+        let rest = cut.goes (later new.waits) in
+        front_so octets (drawn ++ draws) es (ps ++ cut.events) rest.0 out
+        (all_is draws ∙ ap (with_events (es ++ ps)) rest.1 ∙ with_events_again (es ++ ps) cut.events rest.0 ∙ ap (λ (l : List Event). with_events l rest.0) (append_assoc es ps cut.events)) cut.told
+
+    -- where a line ends the run
+    pub ends_played : (status : Status) (waits' : List Event) (stands_for : World → Type 0) (draws out : List ℕ) → IsPlayed (Err status) l (world_after empty es) ps waits' stands_for draws out
+        → Ends status octets (drawn ++ draws) (output es ++ out) left'
+    ends_played Write waits' stands_for draws out cut = cut_so draws out cut
+    ends_played NoMemory waits' stands_for draws out cut = cut_so draws out cut
+    ends_played Noise waits' stands_for draws out is =
+        let nothing : replayed octets (drawn ++ draws) ≡ with_events (es ++ ps) (stopped ForDraw (drawing [])) =
+        all_is draws ∙ ap (λ (d : List ℕ). with_events (es ++ ps) (handled l (later new.waits) 0 (drawing d))) is.drew ∙ ap (with_events (es ++ ps)) (is.stops (later new.waits)) in
+        subst (λ (o : List ℕ). IsWhole octets (drawn ++ draws) o ForDraw) (output-append es ps ∙ ap (λ (o : List ℕ). output es ++ o) (sym is.told)) (whole_so octets (drawn ++ draws) (es ++ ps) ForDraw nothing)
+    ends_played Done waits' stands_for draws out is = absurd is
+    ends_played Usage waits' stands_for draws out is = absurd is
+    ends_played (Script n fault) waits' stands_for draws out is = absurd is
+    ends_played Read waits' stands_for draws out is = absurd is
+    ends_played Link waits' stands_for draws out is = absurd is
+    ends_played Clock waits' stands_for draws out is = absurd is
+    ends_played TurnsSpent waits' stands_for draws out is = absurd is
+
+    -- where it doesn't
+    pub goes_on : (drawn' written' : Option (List ℕ)) (waits' : List Event) (stands_for : World → Type 0) (draws out : List ℕ) (taken_so : IsTaken l (world_after empty es) ps waits' stands_for draws out)
+        → Added now.drawn drawn' draws → Wrote now.written written' out
+        → IsReplaying old (record { left = left'; written = written'; drawn = drawn' }) (taken ++ read.line) new.waits (drawn ++ draws) (es ++ taken_so.front) waits' new.number new.offset
+    goes_on drawn' written' waits' stands_for draws out taken_so drew wrote = record {
+      took = subst (TookIn old.left left') (ap (λ (l : List ℕ). taken ++ l) read.split ∙ sym (append_assoc taken read.line new.waits)) took_all;
+      drew = added_more old.drawn now.drawn drawn' drawn draws going.drew drew;
+      wrote = subst (Wrote old.written written') (ap (λ (o : List ℕ). output es ++ o) taken_so.told ∙ sym (output-append es taken_so.front)) (wrote_more old.written now.written written' (output es) out going.wrote wrote);
+      goes = λ rest more.
+          (λ i. replayed (append_assoc taken read.line rest i) (append_assoc drawn draws more i))
+          ∙ going.goes (read.line ++ rest) (draws ++ more)
+          ∙ ap (with_events (es ++ ps)) (line_goes rest (draws ++ more) ∙ taken_so.goes (later rest) more)
+          ∙ with_events_again (es ++ ps) taken_so.events _
+          ∙ ap (λ (f : List Event). with_events f (later rest 0 (drawing more)))
+          (append_assoc es ps taken_so.events ∙ ap (λ (f : List Event). es ++ f) taken_so.all ∙ sym (append_assoc es taken_so.front waits'))
+          ∙ (λ i. with_events ((es ++ taken_so.front) ++ waits') (course_from Replays (sym read.number i) (sym read.offset i) (lines_of rest) 0 (drawing more)));
+    }
+
+-- how many octets were read
+pub bounded : (taken waits got : List ℕ) (at budget budget' : ℕ) → length taken ≡ at → at + length waits + budget ≡ 2 ^ 30 + 1 → length got + budget' ≡ budget → length (taken ++ (waits ++ got)) ≤ 2 ^ 30 + 1
+bounded taken waits got at budget budget' size room paid = omega (arith, size, room, paid, length-append taken (waits ++ got), length-append waits got)
+
+-- nothing is read, drawn, handled or written yet
+pub begins : (old : Tellings) (ps : List Event) (script : Reading) → ps ≡ [] → script ≡ record { waits = []; number = 1; offset = 0; budget = 2 ^ 30 + 1 }
+    → IsReplaying old old [] script.waits [] [] ps script.number script.offset
+begins old ps script none is = record {
+  took = subst (λ (s : Reading). TookIn old.left old.left s.waits) (sym is) (λ after left. left);
+  drew = added_none old.drawn;
+  wrote = wrote_none old.written;
+  goes = λ rest more. (λ i. with_events (sym none i) (course_from Replays (sym (ap (λ (s : Reading). s.number) is) i) (sym (ap (λ (s : Reading). s.offset) is) i) (lines_of rest) 0 (drawing more)));
+}
+
+-- ---- whose failure it was
+
+pub close_read : (end status : Status) (old new : Reading) (got : List ℕ) (left : Option (List ℕ)) (w : World) (waited : List Event) (out : List ℕ) → IsNext (Err end) old new got left → IsClosed end status w waited out
+    → (status ≡ Read → end ≡ Read) × (end ≡ Read → status ≡ Read)
+close_read (Script n fault) status old new got left w waited out next (inl is) = ((λ same. absurd (let both : Script n fault ≡ Read = sym is.0 ∙ same in cc)), λ same. cc)
+close_read (Script n fault) status old new got left w waited out next (inr (inl is, front)) = ((λ same. absurd (let both : Write ≡ Read = sym is ∙ same in cc)), λ same. cc)
+close_read (Script n fault) status old new got left w waited out next (inr (inr is, front)) = ((λ same. absurd (let both : NoMemory ≡ Read = sym is ∙ same in cc)), λ same. cc)
+close_read Read status old new got left w waited out next is = ((λ same. refl), λ same. is.0)
+close_read NoMemory status old new got left w waited out next is = ((λ same. absurd (let both : NoMemory ≡ Read = sym is.0 ∙ same in cc)), λ same. cc)
+close_read Done status old new got left w waited out next is = absurd next
+close_read Usage status old new got left w waited out next is = absurd next
+close_read Write status old new got left w waited out next is = absurd next
+close_read Link status old new got left w waited out next is = absurd next
+close_read Clock status old new got left w waited out next is = absurd next
+close_read Noise status old new got left w waited out next is = absurd next
+close_read TurnsSpent status old new got left w waited out next is = absurd next
+
+pub close_noise : (end status : Status) (old new : Reading) (got : List ℕ) (left : Option (List ℕ)) (w : World) (waited : List Event) (out : List ℕ) → IsNext (Err end) old new got left → IsClosed end status w waited out
+    → status ≡ Noise → ⊥
+close_noise (Script n fault) status old new got left w waited out next (inl is) same = let both : Script n fault ≡ Noise = sym is.0 ∙ same in cc
+close_noise (Script n fault) status old new got left w waited out next (inr (inl is, front)) same = let both : Write ≡ Noise = sym is ∙ same in cc
+close_noise (Script n fault) status old new got left w waited out next (inr (inr is, front)) same = let both : NoMemory ≡ Noise = sym is ∙ same in cc
+close_noise Read status old new got left w waited out next is same = let both : Read ≡ Noise = sym is.0 ∙ same in cc
+close_noise NoMemory status old new got left w waited out next is same = let both : NoMemory ≡ Noise = sym is.0 ∙ same in cc
+close_noise Done status old new got left w waited out next is same = absurd next
+close_noise Usage status old new got left w waited out next is same = absurd next
+close_noise Write status old new got left w waited out next is same = absurd next
+close_noise Link status old new got left w waited out next is same = absurd next
+close_noise Clock status old new got left w waited out next is same = absurd next
+close_noise Noise status old new got left w waited out next is same = absurd next
+close_noise TurnsSpent status old new got left w waited out next is same = absurd next
+
+pub done_not : (status other : Status) (w : World) (waited : List Event) (out : List ℕ) → Closes Done status w waited out → (Done ≡ other → ⊥) → (Write ≡ other → ⊥) → (NoMemory ≡ other → ⊥) → status ≡ other → ⊥
+done_not status other w waited out (inl is) a b c same = a (sym is.0 ∙ same)
+done_not status other w waited out (inr (inl is, front)) a b c same = b (sym is ∙ same)
+done_not status other w waited out (inr (inr is, front)) a b c same = c (sym is ∙ same)
+
+pub played_not_read : (status : Status) (l : Line) (w : World) (waited waits : List Event) (stands_for : World → Type 0) (draws out : List ℕ) → IsPlayed (Err status) l w waited waits stands_for draws out → status ≡ Read → ⊥
+played_not_read status l w waited waits stands_for draws out is same = subst (λ s. IsPlayed (Err s) l w waited waits stands_for draws out) same is

@@ -1,0 +1,266 @@
+//! What plays the lines of a script.
+
+ghost use Rattle.std.specs.Prelude.{◌≡◌, ◌≢◌, ◌≤◌, ◌<◌, ◌∷◌, ◌++◌, [], ℕ, List, IfErr, IfOk, OnErr, OnOk, false, length};
+ghost use Rattle.sg_course.specs.Causes.{HasFailed, IsCaused};
+ghost use Rattle.sg_course.specs.Output.{WroteFront, text};
+ghost use Rattle.sg_edge.specs.Links.{Added};
+ghost use Rattle.sg_edge.specs.Told.{Wrote};
+ghost use Rattle.sg_gateway.specs.Events.{events_of_signal, signal_lacks_noise};
+ghost use Rattle.sg_gateway.specs.Octets.{as_octets};
+ghost use Rattle.sg_gateway.specs.Step.{Datagram};
+ghost use Rattle.sg_gateway.specs.World.{World, empty};
+ghost use Rattle.sg_lines.specs.LineText.{FitsLine};
+ghost use Rattle.sg_lines.specs.declared.lines.Line.TheVariants as lines;
+ghost use Rattle.sg_playback.specs.Playing.{HasRoom, IsClosed, IsPlayed, IsSettled, IsStepped, IsWant, tells_waiting, waiting};
+ghost use Rattle.sg_table.specs.Standing.{TableStandsFor};
+ghost use Rattle.sg_table.specs.Telling.{IsTimely};
+
+use crate::telling::{tell_all, tell_ends};
+use sg_base::{Address, BATCH_MOST, NoMemory, Pad};
+use sg_course::{Status, supply};
+use sg_edge::{Noise, Sink};
+use sg_lanes::Gate;
+use sg_lines::{Line, Signal};
+use sg_table::{Arrival, Table};
+use std::alloc::Global;
+use std::marker::Model;
+use std::mem;
+use std::thread::Threads;
+
+/// A table, and the datagrams that wait for their batch. It is seen as the table and the datagrams, in order of
+/// arrival.
+#[derive(Drop)]
+pub struct Player {
+    table: Table,
+    /// How many workers share out a batch.
+    workers: usize,
+    arrivals: Vec<Arrival>,
+    /// Pads of earlier batches, to be used again.
+    spare: Vec<Pad>,
+}
+
+impl Model for Player {
+    ghost use Rattle.std.specs.Prelude.{◌<◌, ◌≤◌, All, IsSome, length};
+    ghost use Rattle.sg_playback.specs.Playing.{Playing};
+
+    ghost Value = { Playing };
+
+    ghost view = { λ p. record { table = p.table; waits = p.arrivals.items } };
+
+    ghost invariant = { λ p. (0 < p.workers) × (length p.arrivals.items ≤ 256) × All (λ a. IsSome a.pad) p.arrivals.items };
+}
+
+impl Player {
+    /// An empty table, and no datagram waits.
+    pub fn make(alloc: Global, workers: usize) -> Result<Player, NoMemory>
+        requires { 0 < workers }
+        ensures { IfOk result (λ player. TableStandsFor player.table empty × (player.waits ≡ [])) }
+    {
+        Ok(Player {
+            table: Table::make(alloc)?,
+            workers,
+            arrivals: Vec::new(alloc),
+            spare: Vec::new(alloc),
+        })
+    }
+
+    /// Handles a line. A datagram waits for its batch, and what waits is handled before a signal, and before a
+    /// datagram for which the batch has no room; the noise that a signal lacks is drawn.
+    pub fn play<R: Threads + Sync, K: Sink, N: Noise, G: Gate + Sync>(
+        &mut self,
+        rt: &R,
+        alloc: Global,
+        line: Line,
+        sink: &mut K,
+        noise: &mut N,
+        gate: &G,
+    ) -> Result<(), Status>
+        requires { (n : ℕ) × FitsLine n line }
+        ensures played { (w : World) → TableStandsFor self.old.table w → (draws out : List ℕ)
+            × Added (N.given noise.old) (N.given noise.new) draws × Wrote (K.written sink.old) (K.written sink.new) out
+            × IsPlayed result line w (waiting self.old) (waiting self.new) (TableStandsFor self.new.table) draws out }
+        ensures write { IsCaused Status.Write result (K.faults sink.old) (K.faults sink.new) (K.failed sink.new) }
+        ensures noise { IsCaused Status.Noise result (N.faults noise.old) (N.faults noise.new) (N.failed noise.new) }
+    {
+        match line {
+            Line::Header => Ok(()),
+            Line::Datagram { port, from, octets } => {
+                match self.make_room(rt, alloc, sink, gate) {
+                    Err(status) => return Err(status),
+                    Ok(()) => {}
+                }
+                self.wait(alloc, port, from, octets.as_slice())
+            }
+            Line::Signal(signal) => self.obey(rt, alloc, signal, sink, noise, gate),
+        }
+    }
+
+    /// Handles a signal, once what waits is told and its noise is there.
+    fn obey<R: Threads + Sync, K: Sink, N: Noise, G: Gate + Sync>(
+        &mut self,
+        rt: &R,
+        alloc: Global,
+        signal: Signal,
+        sink: &mut K,
+        noise: &mut N,
+        gate: &G,
+    ) -> Result<(), Status>
+        requires { IsTimely signal }
+        ensures played { (w : World) → TableStandsFor self.old.table w → (draws out : List ℕ)
+            × Added (N.given noise.old) (N.given noise.new) draws × Wrote (K.written sink.old) (K.written sink.new) out
+            × IsPlayed result (lines.Signal signal) w (waiting self.old) (waiting self.new) (TableStandsFor self.new.table) draws out }
+        ensures write { IsCaused Status.Write result (K.faults sink.old) (K.faults sink.new) (K.failed sink.new) }
+        ensures noise { IsCaused Status.Noise result (N.faults noise.old) (N.faults noise.new) (N.failed noise.new) }
+    {
+        match self.settle(rt, alloc, sink, gate) {
+            Err(status) => return Err(status),
+            Ok(()) => {}
+        }
+        match supply(noise, signal) {
+            Err(status) => Err(status),
+            Ok(supplied) => self.step(alloc, &supplied, sink),
+        }
+    }
+
+    /// Where the batch is full, it is handled and told.
+    fn make_room<R: Threads + Sync, K: Sink, G: Gate + Sync>(
+        &mut self,
+        rt: &R,
+        alloc: Global,
+        sink: &mut K,
+        gate: &G,
+    ) -> Result<(), Status>
+        ensures made { (w : World) → TableStandsFor self.old.table w → (out : List ℕ)
+            × Wrote (K.written sink.old) (K.written sink.new) out × HasRoom result w (waiting self.old) (waiting self.new) (TableStandsFor self.new.table) out }
+        ensures room { OnOk result (length self.new.waits < 256) }
+        ensures only { IfErr result (λ status. IsWant status) }
+        ensures write { IsCaused Status.Write result (K.faults sink.old) (K.faults sink.new) (K.failed sink.new) }
+    {
+        if self.arrivals.len() < BATCH_MOST {
+            return Ok(());
+        }
+        self.settle(rt, alloc, sink, gate)
+    }
+
+    /// Handles the datagrams that wait, and writes what becomes of them in order of arrival.
+    pub fn settle<R: Threads + Sync, K: Sink, G: Gate + Sync>(
+        &mut self,
+        rt: &R,
+        alloc: Global,
+        sink: &mut K,
+        gate: &G,
+    ) -> Result<(), Status>
+        ensures settled { (w : World) → TableStandsFor self.old.table w → (out : List ℕ)
+            × Wrote (K.written sink.old) (K.written sink.new) out × IsSettled result w (waiting self.old) (waiting self.new) (TableStandsFor self.new.table) out }
+        ensures none { OnOk result (self.new.waits ≡ []) }
+        ensures only { IfErr result (λ status. IsWant status) }
+        ensures write { IsCaused Status.Write result (K.faults sink.old) (K.faults sink.new) (K.failed sink.new) }
+    {
+        if self.arrivals.as_slice().is_empty() {
+            return Ok(());
+        }
+        let mut arrivals = mem::replace(&mut self.arrivals, Vec::new(alloc));
+        self.table
+            .batch(rt, arrivals.as_mut_slice(), self.workers, gate);
+        match tell_ends(alloc, &arrivals, sink) {
+            Err(status) => return Err(status),
+            Ok(()) => {}
+        }
+        keep_pads(&mut self.spare, &mut arrivals);
+        self.arrivals = arrivals;
+        Ok(())
+    }
+
+    /// The status of a run that has come to this end. Before `Done` and `Script` what waits is handled and told.
+    pub fn close<R: Threads + Sync, K: Sink, G: Gate + Sync>(
+        &mut self,
+        rt: &R,
+        alloc: Global,
+        end: Status,
+        sink: &mut K,
+        gate: &G,
+    ) -> Status
+        requires { end ≢ Status.Write }
+        ensures closed { (w : World) → TableStandsFor self.old.table w → (out : List ℕ)
+            × Wrote (K.written sink.old) (K.written sink.new) out × IsClosed end result w (waiting self.old) out }
+        ensures write { HasFailed (result ≡ Status.Write) (K.faults sink.old) (K.faults sink.new) (K.failed sink.new) }
+    {
+        if !tells_waiting(end) {
+            return end;
+        }
+        match self.settle(rt, alloc, sink, gate) {
+            Err(status) => status,
+            Ok(()) => end,
+        }
+    }
+
+    /// A datagram waits.
+    fn wait(&mut self, alloc: Global, port: u16, from: Address, octets: &[u8]) -> Result<(), Status>
+        requires room { length self.old.waits < 256 }
+        requires short { length octets.now ≤ 4352 }
+        ensures waits { OnOk result (waiting self.new ≡ waiting self.old ++ Datagram port from (as_octets octets.now) ∷ []) }
+        ensures table { self.new.table ≡ self.old.table }
+        ensures only { IfErr result (λ status. status ≡ Status.NoMemory) }
+    {
+        let mut pad = match self.take_pad(alloc) {
+            Err(NoMemory) => return Err(Status::NoMemory),
+            Ok(pad) => pad,
+        };
+        let _ = pad.fill(octets);
+        let arrival = Arrival {
+            port,
+            from,
+            pad: Some(pad),
+            end: None,
+        };
+        match self.arrivals.push(arrival) {
+            Err(_) => Err(Status::NoMemory),
+            Ok(()) => Ok(()),
+        }
+    }
+
+    /// A pad, whatever it holds.
+    fn take_pad(&mut self, alloc: Global) -> Result<Pad, NoMemory>
+        ensures { self.new ≡ self.old }
+    {
+        match self.spare.pop() {
+            Some(pad) => Ok(pad),
+            None => Pad::make(alloc),
+        }
+    }
+
+    /// Handles a signal that has its noise, and writes what it tells.
+    fn step<K: Sink>(&mut self, alloc: Global, signal: &Signal, sink: &mut K) -> Result<(), Status>
+        requires ready { signal_lacks_noise signal.now ≡ false }
+        requires timely { IsTimely signal.now }
+        ensures stepped { (w : World) → TableStandsFor self.old.table w → (out : List ℕ)
+            × Wrote (K.written sink.old) (K.written sink.new) out × IsStepped result w (events_of_signal signal.now) (TableStandsFor self.new.table) out }
+        ensures waits { self.new.waits ≡ self.old.waits }
+        ensures only { IfErr result (λ status. IsWant status) }
+        ensures write { IsCaused Status.Write result (K.faults sink.old) (K.faults sink.new) (K.failed sink.new) }
+    {
+        let told = match self.table.step(alloc, signal) {
+            Err(NoMemory) => return Err(Status::NoMemory),
+            Ok(told) => told,
+        };
+        tell_all(alloc, told.as_slice(), sink)
+    }
+}
+
+/// Whether a run that ends so tells first what waits.
+fn tells_waiting(end: Status) -> bool
+    ensures { result ≡ tells_waiting end }
+{
+    matches!(end, Status::Done | Status::Script { .. })
+}
+
+/// Keeps the pads of datagrams that are told, to be used again; none of them is left.
+fn keep_pads(spare: &mut Vec<Pad>, told: &mut Vec<Arrival>)
+    ensures { told.new.items ≡ [] }
+{
+    'told: while let Some(arrival) = told.pop() {
+        if let Some(pad) = arrival.pad {
+            let _ = spare.push(pad);
+        }
+    }
+}

@@ -1,0 +1,83 @@
+//! The command `replay`: the lines of a script, in order.
+
+ghost use Rattle.std.specs.Prelude.{◌≡◌, ◌<◌, ◌≤◌, ◌+◌, ◌^◌, ℕ, List, []};
+ghost use Rattle.sg_course.specs.Causes.{HasFailed};
+ghost use Rattle.sg_edge.specs.Told.{Rose};
+ghost use Rattle.sg_gateway.specs.World.{empty};
+ghost use Rattle.sg_playback.specs.Replay.{IsComplete, IsReplay};
+ghost use Rattle.sg_table.specs.Standing.{TableStandsFor};
+
+use crate::player::Player;
+use sg_base::NoMemory;
+use sg_course::{ScriptReader, Status};
+use sg_edge::{Noise, Sink, Source};
+use sg_lanes::Gate;
+use std::alloc::Global;
+use std::thread::Threads;
+
+/// Plays the script of the source: its lines in order, from an empty table, and what they tell is written to
+/// the sink. Consecutive datagrams form batches of at most 256, which the workers share out, each of them
+/// passing the gate; what is written is the same for every number of workers and every gate. Where a signal
+/// lacks its noise, 304 octets are drawn.
+pub fn replay<R: Threads + Sync, S: Source, K: Sink, N: Noise, G: Gate + Sync>(
+    rt: &R,
+    alloc: Global,
+    workers: usize,
+    source: &mut S,
+    sink: &mut K,
+    noise: &mut N,
+    gate: &G,
+) -> Status
+    requires { 0 < workers }
+    ensures ran { (octets draws out : List ℕ)
+        × IsReplay result
+        (record { left = S.left source.old; written = K.written sink.old; drawn = N.given noise.old })
+        (record { left = S.left source.new; written = K.written sink.new; drawn = N.given noise.new })
+        octets draws out }
+    ensures given { S.given source.new ≤ S.given source.old + (2 ^ 30 + 1) }
+    ensures read { HasFailed (result ≡ Status.Read) (S.faults source.old) (S.faults source.new) (S.failed source.new) }
+    ensures write { HasFailed (result ≡ Status.Write) (K.faults sink.old) (K.faults sink.new) (K.failed sink.new) }
+    ensures noise { HasFailed (result ≡ Status.Noise) (N.faults noise.old) (N.faults noise.new) (N.failed noise.new) }
+    ensures complete { ¬ Rose (S.faults source.old) (S.faults source.new) → ¬ Rose (K.faults sink.old) (K.faults sink.new) → ¬ Rose (N.faults noise.old) (N.faults noise.new)
+        → IsComplete result (S.left source.old) (S.left source.new) }
+{
+    match Player::make(alloc, workers) {
+        Err(NoMemory) => Status::NoMemory,
+        Ok(mut player) => play_script(rt, alloc, &mut player, source, sink, noise, gate),
+    }
+}
+
+/// The same by a player whose table is empty.
+fn play_script<R: Threads + Sync, S: Source, K: Sink, N: Noise, G: Gate + Sync>(
+    rt: &R,
+    alloc: Global,
+    player: &mut Player,
+    source: &mut S,
+    sink: &mut K,
+    noise: &mut N,
+    gate: &G,
+) -> Status
+    requires { TableStandsFor player.old.table empty × (player.old.waits ≡ []) }
+    ensures ran { (octets draws out : List ℕ)
+        × IsReplay result
+        (record { left = S.left source.old; written = K.written sink.old; drawn = N.given noise.old })
+        (record { left = S.left source.new; written = K.written sink.new; drawn = N.given noise.new })
+        octets draws out }
+    ensures given { S.given source.new ≤ S.given source.old + (2 ^ 30 + 1) }
+    ensures read { HasFailed (result ≡ Status.Read) (S.faults source.old) (S.faults source.new) (S.failed source.new) }
+    ensures write { HasFailed (result ≡ Status.Write) (K.faults sink.old) (K.faults sink.new) (K.failed sink.new) }
+    ensures noise { HasFailed (result ≡ Status.Noise) (N.faults noise.old) (N.faults noise.new) (N.failed noise.new) }
+{
+    let mut script = ScriptReader::new(alloc);
+    'lines: loop {
+        let line = match script.next(alloc, source) {
+            Err(status) => return player.close(rt, alloc, status, sink, gate),
+            Ok(None) => return player.close(rt, alloc, Status::Done, sink, gate),
+            Ok(Some(line)) => line,
+        };
+        match player.play(rt, alloc, line, sink, noise, gate) {
+            Err(status) => return status,
+            Ok(()) => {}
+        }
+    }
+}
