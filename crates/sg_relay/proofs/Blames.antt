@@ -1,11 +1,10 @@
 -- How the causes of a part's answers follow one another.
-use Rattle.std.proofs.Common.{◌≡◌, ◌≤◌, ℕ, Bool, Option, Result, Ok, Err, refl, sym, ap, ◌∙◌, inl, inr, arith}
+use Rattle.std.proofs.Common.{◌≡◌, ◌≤◌, ℕ, Bool, Option, Result, Ok, Err, sym, ap, ◌∙◌, inl, inr, arith}
 use Rattle.std.specs.Prelude.{IfErr}
-use Rattle.sg_course.proofs.Causes.{failed_as, failed_now}
+use Rattle.sg_course.proofs.Causes.{failed_as}
 use Rattle.sg_course.specs.Causes.{HasFailed, IsCaused}
 use Rattle.sg_course.specs.declared.status.Status.{Status}
 use Rattle.sg_course.specs.declared.status.Status.TheVariants.{Read, Write, Link, NoMemory, Clock, Noise, TurnsSpent}
-use Rattle.sg_edge.proofs.Passed.{rose_later}
 use Rattle.sg_relay.specs.Causes.{IsDueTo, IsDueToLink, IsOfLines, IsOfOutcomes, IsOfTurns}
 use Rattle.sg_relay.proofs.Deeds.{IsOfWriting}
 
@@ -23,24 +22,7 @@ due_so own (Err s) a b failed caused = failed_as _ _ a b failed (λ is. ap Err i
 pub never : (p : Type 0) (a b : ℕ) (failed : Option Bool) → (p → ⊥) → b ≡ a → HasFailed p a b failed
 never p a b failed isnt same = record { later = omega (arith, same); rose = λ is. absurd (isnt is); told = λ is. absurd (isnt is); quiet = λ not. same }
 
-pub due_since : {T : Type 0} (own : Status) (r : Result T Status) (a b c : ℕ) (failed : Option Bool) → b ≡ a → IsDueTo own r b c failed → IsDueTo own r a c failed
-due_since own (Ok x) a b c failed same due = due ∙ same
-due_since own (Err s) a b c failed same due = failed_now _ a b c failed same due
-
--- another status than this is told
-pub due_never : {T : Type 0} (own : Status) (r : Result T Status) (a b : ℕ) (failed : Option Bool) → ((s : Status) → r ≡ Err s → s ≡ own → ⊥) → b ≡ a → IsDueTo own r a b failed
-due_never own (Ok x) a b failed isnt same = same
-due_never own (Err s) a b failed isnt same = never _ a b failed (isnt s refl) same
-
 -- ---- the link
-
-pub link_since : {T : Type 0} (r : Result T Status) (a b c : ℕ) → a ≤ b → IsDueToLink r b c → IsDueToLink r a c
-link_since (Ok x) a b c before due = omega (arith, before, due)
-link_since (Err s) a b c before due = record { later = omega (arith, before, due.later); rose = λ is. rose_later a b c before (due.rose is) }
-
-pub link_never : {T : Type 0} (r : Result T Status) (a b : ℕ) → ((s : Status) → r ≡ Err s → s ≡ Link → ⊥) → a ≤ b → IsDueToLink r a b
-link_never (Ok x) a b isnt before = before
-link_never (Err s) a b isnt before = record { later = before; rose = λ is. absurd (isnt s refl is) }
 
 -- ---- what may be told
 

@@ -7,9 +7,7 @@ use Rattle.sg_course.specs.Supplying.{IsSupplied}
 use Rattle.sg_course.specs.declared.status.Status.{Status}
 use Rattle.sg_course.specs.declared.status.Status.TheVariants.{Done, Usage, Script, Read, Write, Link, NoMemory, Clock, Noise, TurnsSpent}
 use Rattle.sg_base.specs.declared.addresses.Address.{Address}
-use Rattle.sg_base.specs.declared.identities.Noise304.{Noise304}
 use Rattle.sg_edge.specs.Links.{Came, LinkCall, Received}
-use Rattle.sg_gateway.specs.Drawn.{signal_with_noise}
 use Rattle.sg_gateway.specs.Events.{events_of, events_of_signal, outcomes_from}
 use Rattle.sg_gateway.specs.Step.{Event}
 use Rattle.sg_gateway.specs.World.{World}
@@ -167,27 +165,8 @@ datagram_said r k l port from octets pad is filled w top turns stands_for calls 
     (λ later o. ap (λ (m : Line). said k m later top o) is ∙ plain_datagram k port from octets later top o ∙ ap (λ (d : List ℕ). with_events (arrivals_of (Came port from d)) (later top o)) (sym filled))
     r only handled
 
--- the datagram of a line fits a pad
-pub fits_pad : (l : Line) (port : ℕ) (from : Address) (octets : List ℕ) → l ≡ lines.Datagram port from octets → FitsRelay l → length octets ≤ 4352
-fits_pad l port from octets is fits = subst FitsRelay is fits
-
 pub fits_timely : (l : Line) (signal : Signal) → l ≡ lines.Signal signal → FitsRelay l → IsTimely signal
 fits_timely l signal is fits = subst FitsRelay is fits
-
--- a signal with noise is as timely
-timely_so : (drawn : Noise304) (signal : Signal) → IsTimely signal → IsTimely (signal_with_noise drawn signal)
-timely_so drawn (Tick now) timely = timely
-timely_so drawn (Psk own peer key) timely = tt
-timely_so drawn (Manual call secure plain roc window from_peer to_peer) timely = tt
-timely_so drawn (OfferSecure call noise text) timely = tt
-timely_so drawn (OfferSdes call noise text) timely = tt
-timely_so drawn (OfferMikey call peer noise text) timely = tt
-timely_so drawn (Answer call noise text) timely = tt
-timely_so drawn (Reject call) timely = tt
-timely_so drawn (Bye call) timely = tt
-
-pub still_timely : (drawn : Noise304) (signal s : Signal) → s ≡ signal_with_noise drawn signal → IsTimely signal → IsTimely s
-still_timely drawn signal s is timely = subst IsTimely (sym is) (timely_so drawn signal timely)
 
 -- a line that is this signal, where the signal's part told an error
 pub said_as : (s : Status) (k : Command) (l : Line) (signal : Signal) → l ≡ lines.Signal signal → (w : World) (top top' turns turns' : ℕ) (stands_for : World → Type 0) (readings : List ℕ) (calls : List LinkCall)
