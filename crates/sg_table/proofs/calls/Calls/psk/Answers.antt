@@ -17,18 +17,18 @@ pub returns-clause-told : goal.returns-clause-told
 returns-clause-told c =
     let adds : Adds c.self.inside.books.psks c.args.own.now c.args.peer.now c.add.result = record { known = c.add.ensures.known; full = c.add.ensures.full; room = c.add.ensures.room } in
     elim c.match-add.branch [
-    | in-Ok b ↦ subst (λ r. IfOk r (λ told. (w : World) → TableStandsFor c.args.self.now w → IsAnswered told.items (record { calls = c.self.inside.by_slot.items; books = record { psks = c.add.new.self; seen = c.self.inside.books.seen; ring = c.self.inside.books.ring }; moment = c.self.inside.moment }) (with_pair w (pair_of c.args.own.now c.args.peer.now c.args.key.now))))
-        (sym b.result-is) (λ w stands.
-        (let viewed : TableStandsFor (the_view c.self.inside) w = subst (λ t. TableStandsFor t w) (sym c.self.view_is) stands in
-        pair_added c.self.inside.by_slot.items c.self.inside.books c.self.inside.moment w viewed.holds c.args.own.now c.args.peer.now c.args.key.now c.add.new.self b.nothing.result.items
-        (subst (Adds c.self.inside.books.psks c.args.own.now c.args.peer.now) b.in-Ok.is adds) (subst (λ r. OnOk r (c.add.new.self ≡ c.self.inside.books.psks ++ pair_of c.args.own.now c.args.peer.now c.args.key.now ∷ [])) b.in-Ok.is c.add.ensures.added) b.nothing.ensures))
-    | in-Err-Refused b ↦ subst (λ r. IfOk r (λ told. (w : World) → TableStandsFor c.args.self.now w → IsAnswered told.items (record { calls = c.self.inside.by_slot.items; books = record { psks = c.add.new.self; seen = c.self.inside.books.seen; ring = c.self.inside.books.ring }; moment = c.self.inside.moment }) (with_pair w (pair_of c.args.own.now c.args.peer.now c.args.key.now))))
-        (sym b.result-is) (λ w stands.
-        (let viewed : TableStandsFor (the_view c.self.inside) w = subst (λ t. TableStandsFor t w) (sym c.self.view_is) stands in
-        subst (λ (ps : List Pair). IsAnswered b.one.result.items (record { calls = c.self.inside.by_slot.items; books = record { psks = ps; seen = c.self.inside.books.seen; ring = c.self.inside.books.ring }; moment = c.self.inside.moment }) (with_pair w (pair_of c.args.own.now c.args.peer.now c.args.key.now)))
-        (sym (subst (λ r. OnErr r (c.add.new.self ≡ c.self.inside.books.psks)) b.in-Err-Refused.is c.add.ensures.kept))
-        (pair_refused c.self.inside.by_slot.items c.self.inside.books c.self.inside.moment w viewed.holds c.args.own.now c.args.peer.now c.args.key.now b.in-Err-Refused.cause b.one.result.items
-        (subst (Adds c.self.inside.books.psks c.args.own.now c.args.peer.now) (b.in-Err-Refused.is ∙ ap (λ f. Err f) b.in-Err-Refused.field-0-is) adds) b.one.ensures)))
-    | in-Err-NoMemory b ↦ subst (λ r. IfOk r (λ told. (w : World) → TableStandsFor c.args.self.now w → IsAnswered told.items (record { calls = c.self.inside.by_slot.items; books = record { psks = c.add.new.self; seen = c.self.inside.books.seen; ring = c.self.inside.books.ring }; moment = c.self.inside.moment }) (with_pair w (pair_of c.args.own.now c.args.peer.now c.args.key.now))))
-        (sym b.result-is) tt
+      | in-Ok b ↦ subst (λ r. IfOk r (λ told. (w : World) → TableStandsFor c.args.self.now w → IsAnswered told.items (record { calls = c.self.inside.by_slot.items; books = record { psks = c.add.new.self; seen = c.self.inside.books.seen; ring = c.self.inside.books.ring }; moment = c.self.inside.moment }) (with_pair w (pair_of c.args.own.now c.args.peer.now c.args.key.now))))
+          (sym b.result-is) (λ w stands.
+          (let viewed : TableStandsFor (the_view c.self.inside) w = subst (λ t. TableStandsFor t w) (sym c.self.view_is) stands in
+          pair_added c.self.inside.by_slot.items c.self.inside.books c.self.inside.moment w viewed.holds c.args.own.now c.args.peer.now c.args.key.now c.add.new.self b.nothing.result.items
+          (subst (Adds c.self.inside.books.psks c.args.own.now c.args.peer.now) b.in-Ok.is adds) (subst (λ r. OnOk r (c.add.new.self ≡ c.self.inside.books.psks ++ pair_of c.args.own.now c.args.peer.now c.args.key.now ∷ [])) b.in-Ok.is c.add.ensures.added) b.nothing.ensures))
+      | in-Err-Refused b ↦ subst (λ r. IfOk r (λ told. (w : World) → TableStandsFor c.args.self.now w → IsAnswered told.items (record { calls = c.self.inside.by_slot.items; books = record { psks = c.add.new.self; seen = c.self.inside.books.seen; ring = c.self.inside.books.ring }; moment = c.self.inside.moment }) (with_pair w (pair_of c.args.own.now c.args.peer.now c.args.key.now))))
+          (sym b.result-is) (λ w stands.
+          (let viewed : TableStandsFor (the_view c.self.inside) w = subst (λ t. TableStandsFor t w) (sym c.self.view_is) stands in
+          subst (λ (ps : List Pair). IsAnswered b.one.result.items (record { calls = c.self.inside.by_slot.items; books = record { psks = ps; seen = c.self.inside.books.seen; ring = c.self.inside.books.ring }; moment = c.self.inside.moment }) (with_pair w (pair_of c.args.own.now c.args.peer.now c.args.key.now)))
+          (sym (subst (λ r. OnErr r (c.add.new.self ≡ c.self.inside.books.psks)) b.in-Err-Refused.is c.add.ensures.kept))
+          (pair_refused c.self.inside.by_slot.items c.self.inside.books c.self.inside.moment w viewed.holds c.args.own.now c.args.peer.now c.args.key.now b.in-Err-Refused.cause b.one.result.items
+          (subst (Adds c.self.inside.books.psks c.args.own.now c.args.peer.now) (b.in-Err-Refused.is ∙ ap (λ f. Err f) b.in-Err-Refused.field-0-is) adds) b.one.ensures)))
+      | in-Err-NoMemory b ↦ subst (λ r. IfOk r (λ told. (w : World) → TableStandsFor c.args.self.now w → IsAnswered told.items (record { calls = c.self.inside.by_slot.items; books = record { psks = c.add.new.self; seen = c.self.inside.books.seen; ring = c.self.inside.books.ring }; moment = c.self.inside.moment }) (with_pair w (pair_of c.args.own.now c.args.peer.now c.args.key.now))))
+          (sym b.result-is) tt
     ]
