@@ -5,18 +5,20 @@
 //! bodies write the same of it; and of all of them, that most of what can become of a datagram is there.
 
 ghost use Rattle.std.specs.Prelude.{IfOk};
-ghost use Rattle.sg_gateway.specs.Events.{IsOfManualCalls};
+ghost use Rattle.sg_reference.specs.Served.{IsOfManualCalls};
 
 use crate::Dice;
 use sg_base::{Address, CallId, MasterKey, Octets, Suite};
-use sg_edge::{MemSink, MemSource};
-use sg_lines::{Line, Signal, print_line, read_served_line};
+use sg_edge::{MemSink, MemSource, SureClock, SureLink, SureNoise};
+use sg_lanes::OpenGate;
+use sg_lines::{Line, Signal, print_line, read_line};
 use sg_outcome::{Outcome, print_outcome, read_outcome};
-use sg_reference::ReferenceTable;
+use sg_reference::{ReferenceTable, serves};
 use sg_run::{Status, run};
 use std::alloc::Global;
 use std::process::Abort;
 use std::test::Fail;
+use std::thread::Threads;
 
 const SECURE: Address = Address {
     ip: [192, 0, 2, 1],
@@ -234,24 +236,43 @@ fn spoil(dice: &mut Dice, datagram: &mut Vec<u8>) -> Result<(), Fail> {
 }
 
 /// What the gateway writes of a script.
-fn by_the_gateway(rt: &impl Abort, alloc: Global, script: &Script) -> Result<Vec<u8>, Fail> {
+fn by_the_gateway(
+    rt: &(impl Abort + Threads + Sync),
+    alloc: Global,
+    script: &Script,
+) -> Result<Vec<u8>, Fail> {
     let octets = Octets::copy_of(alloc, script.octets.as_slice())?;
     let mut source = MemSource::make(octets, Vec::new(alloc));
     let mut sink = MemSink::make(alloc, Vec::new(alloc));
     let words = [String::from_str(alloc, "replay")?];
-    let status = run(alloc, &words, &mut source, &mut sink);
+    let status = run(
+        rt,
+        alloc,
+        &words,
+        &mut source,
+        &mut sink,
+        &mut SureLink::make(alloc, Vec::new(alloc)),
+        &mut SureClock::make(Vec::new(alloc)),
+        &mut SureNoise::make(Octets::copy_of(alloc, &[])?),
+        &OpenGate,
+    );
     assert_eq!(rt; status, Status::Done);
     Ok(sink.written().ok_or("no record")?.to_vec(alloc)?)
 }
 
-/// The line of this number, which is served.
-#[tactic(auto, using(sg_run::proofs::Served::served_manually))]
+/// The line of this number, which the reference serves.
 fn served_line(alloc: Global, number: u64, text: &[u8]) -> Result<Line, Fail>
     ensures { IfOk result (λ line. IsOfManualCalls line) }
 {
-    match read_served_line(alloc, number, text) {
+    match read_line(alloc, number, text) {
         Err(_fault) => Err("no line".into()),
-        Ok(line) => Ok(line),
+        Ok(line) => {
+            if serves(&line) {
+                Ok(line)
+            } else {
+                Err("no such line".into())
+            }
+        }
     }
 }
 
@@ -271,7 +292,11 @@ fn by_the_reference(alloc: Global, script: &Script) -> Result<Vec<u8>, Fail> {
 }
 
 /// What is written of the script, which is the same with both.
-fn written(rt: &impl Abort, alloc: Global, script: &Script) -> Result<Vec<u8>, Fail> {
+fn written(
+    rt: &(impl Abort + Threads + Sync),
+    alloc: Global,
+    script: &Script,
+) -> Result<Vec<u8>, Fail> {
     let written = by_the_gateway(rt, alloc, script)?;
     let wanted = by_the_reference(alloc, script)?;
     assert_eq!(rt; written.as_slice(), wanted.as_slice());
@@ -338,7 +363,11 @@ fn of_sealed(
 }
 
 /// What is written of three scripts under a keying.
-fn written_under(rt: &impl Abort, alloc: Global, keying: Keying) -> Result<Vec<u8>, Fail> {
+fn written_under(
+    rt: &(impl Abort + Threads + Sync),
+    alloc: Global,
+    keying: Keying,
+) -> Result<Vec<u8>, Fail> {
     let mut dice = Dice::new(2026);
     let some = written(rt, alloc, &of_plain(alloc, &mut dice, keying, 0, 160)?)?;
     let others = written(rt, alloc, &of_plain(alloc, &mut dice, keying, 9, 80)?)?;

@@ -1,15 +1,14 @@
 //! The table beside the reference table: mixed lines, and the same outcomes.
 
 ghost use Rattle.std.specs.Prelude.{IfOk};
-ghost use Rattle.sg_gateway.specs.Events.{IsOfManualCalls};
+ghost use Rattle.sg_reference.specs.Served.{IsOfManualCalls};
 
 use crate::Dice;
-use sg_base::{Address, CallId, MasterKey, Octets, Suite};
-use sg_gateway::Gateway;
+use sg_base::{Address, CallId, MasterKey, Octets, Pad, Suite};
 use sg_lines::{Line, Signal};
 use sg_outcome::{Outcome, print_outcome};
 use sg_reference::ReferenceTable;
-use sg_table::Table;
+use sg_table::{End, Table};
 use std::alloc::Global;
 use std::process::Abort;
 use std::test::Fail;
@@ -68,6 +67,46 @@ fn text(alloc: Global, told: &[Outcome]) -> Result<Vec<u8>, Fail> {
         text.extend_from_slice(print_outcome(alloc, outcome)?.as_slice())?;
     }
     Ok(text)
+}
+
+/// What becomes of a datagram at the table.
+fn arrived(
+    alloc: Global,
+    table: &mut Table,
+    port: u16,
+    from: Address,
+    octets: &[u8],
+) -> Result<Outcome, Fail> {
+    let mut pad = Pad::make(alloc)?;
+    let _ = pad.fill(octets);
+    let handled = table.datagram(port, from, pad);
+    Ok(match handled.end {
+        End::Out { port, to } => Outcome::Out {
+            port,
+            to,
+            octets: Octets::copy_of(alloc, handled.pad.octets())?,
+        },
+        End::Dropped(cause) => Outcome::Dropped { port, cause },
+    })
+}
+
+/// What the table tells of a line, as the lines of outcomes.
+fn told(alloc: Global, table: &mut Table, line: Line) -> Result<Vec<u8>, Fail>
+    requires { IsOfManualCalls line }
+{
+    let mut told = Vec::new(alloc);
+    match line {
+        Line::Header => {}
+        Line::Datagram { port, from, octets } => {
+            told.push(arrived(alloc, table, port, from, octets.as_slice())?)?;
+        }
+        Line::Signal(signal) => {
+            for outcome in table.step(alloc, &signal)? {
+                told.push(outcome.ok_or("no outcome")?)?;
+            }
+        }
+    }
+    text(alloc, &told)
 }
 
 /// A plain packet of this kind, of one of three sources, whose number is near the round.
@@ -132,7 +171,7 @@ impl Tables {
         requires line { IsOfManualCalls line }
         requires same { IsOfManualCalls same }
     {
-        let told = text(alloc, &self.table.handle(alloc, line)?)?;
+        let told = told(alloc, &mut self.table, line)?;
         let wanted = text(alloc, &self.reference.handle(alloc, same)?)?;
         if told.as_slice().first() == Some(&b'o') {
             self.outs = self.outs.wrapping_add(1);
@@ -195,7 +234,7 @@ impl Tables {
 fn the_table_tells_as_the_reference(rt: HostRuntime) -> Result<(), Fail> {
     let alloc = rt.alloc();
     let mut tables = Tables {
-        table: Table::make(alloc),
+        table: Table::make(alloc)?,
         reference: ReferenceTable::new(alloc),
         peers: ReferenceTable::new(alloc),
         outs: 0,
