@@ -11,7 +11,7 @@ use Rattle.sg_gateway.specs.World.{World}
 use Rattle.sg_lines.specs.declared.lines.Line.{Line}
 use Rattle.sg_outcome.specs.declared.outcomes.Outcome.{Outcome}
 use Rattle.sg_table.specs.Batches.{arrived}
-use Rattle.sg_table.specs.Standing.{TableValue}
+use Rattle.sg_table.specs.Values.{TableValue}
 use Rattle.sg_table.specs.declared.arrival.Arrival.{Arrival}
 
 -- a table, and the datagrams that wait
