@@ -1,26 +1,35 @@
-//! The program: the words of the command line, standard input and standard output.
+//! The program: the words of the command line over the process's own input, output, sockets, clock and random
+//! source.
 #![tactic(auto)]
 
-use sg_edge::{StdSink, StdSource};
+use sg_edge::{RngNoise, StdSink, StdSource, SystemRng, UdpLink, WallClock};
+use sg_lanes::OpenGate;
 use sg_run::Status;
 use std::process::ExitCode;
 
+/// The words after the program's name; none out of memory.
+fn words(rt: &HostRuntime) -> Option<Vec<String>> {
+    let args = std::env::args(rt).ok()?;
+    args.skip(1).collect::<Vec<String>>(rt.alloc()).ok()
+}
+
 fn main(rt: HostRuntime) -> ExitCode {
-    let status = run_on(&rt);
+    let status = match (words(&rt), UdpLink::make(rt.alloc(), &rt)) {
+        (Some(words), Ok(mut link)) => sg_run::run(
+            &rt,
+            rt.alloc(),
+            &words,
+            &mut StdSource::make(rt.reader()),
+            &mut StdSink::make(std::io::writer(&rt)),
+            &mut link,
+            &mut WallClock::make(&rt),
+            &mut RngNoise::make(SystemRng(&rt)),
+            &OpenGate,
+        ),
+        _ => Status::NoMemory,
+    };
     if status != Status::Done {
         let _ = eprintln!(rt; "{status}");
     }
     ExitCode::from(status.number())
-}
-
-fn run_on(rt: &HostRuntime) -> Status {
-    let Ok(args) = std::env::args(rt) else {
-        return Status::NoMemory;
-    };
-    let Ok(words) = args.skip(1).collect::<Vec<String>>(rt.alloc()) else {
-        return Status::NoMemory;
-    };
-    let mut source = StdSource::make(rt.reader());
-    let mut sink = StdSink::make(std::io::writer(rt));
-    sg_run::run(rt.alloc(), &words, &mut source, &mut sink)
 }

@@ -1,0 +1,253 @@
+-- What a run did, by how its words were read.
+use Rattle.std.proofs.Common.{◌≡◌, ◌⊎◌, ◌≤◌, ℕ, List, [], Bool, Option, Result, Ok, Err, refl, sym, ap, ◌∙◌, subst, inl, inr, arith}
+use Rattle.std.proofs.lemmas.List.{append-nil}
+use Rattle.sg_course.proofs.Causes.{not_failed}
+use Rattle.sg_course.specs.Causes.{HasFailed}
+use Rattle.sg_course.specs.Course.{replayed}
+use Rattle.sg_course.specs.Output.{output}
+use Rattle.sg_course.specs.declared.status.Status.{Status}
+use Rattle.sg_course.specs.declared.status.Status.TheVariants.{Done, Usage, Script, Read, Write, Link, NoMemory, Clock, Noise, TurnsSpent}
+use Rattle.sg_demo.specs.Demonstration.{demonstration, events_in}
+use Rattle.sg_demo.specs.Text.{IsShown, summary_text}
+use Rattle.sg_edge.proofs.Links.{added_none}
+use Rattle.sg_edge.proofs.Passed.{took_none, wrote_none}
+use Rattle.sg_edge.specs.Told.{Rose}
+use Rattle.sg_gateway.specs.Step.{Event}
+use Rattle.sg_playback.specs.Replay.{IsReplay}
+use Rattle.sg_playback.specs.Replay as replays
+use Rattle.sg_relay.specs.Relay.{IsRelay, Passed}
+use Rattle.sg_relay.specs.Relay as relays
+use Rattle.sg_run.specs.Run.{AreTaken, HasRelayed, HasReplayed, HasRun, HasShown, Outside, of_relay, of_replay}
+use Rattle.sg_words.specs.Commands.{AreWordsOf, IsNoCommand, Words}
+use Rattle.sg_words.specs.declared.command.Command.{Command}
+use Rattle.sg_words.specs.declared.command.Command.TheVariants.{Replay, Relay, Demo}
+use Rattle.sg_words.specs.declared.command.CommandFault.{CommandFault}
+use Rattle.sg_words.specs.declared.command.CommandFault.TheVariants as faults
+
+-- ---- memory was wanting before anything was done
+
+not_replayed : (old : Outside) → HasReplayed NoMemory old old []
+not_replayed old = record {
+  octets = [];
+  draws = [];
+  out = [];
+  is = record {
+    took = took_none old.left;
+    drew = added_none old.drawn;
+    wrote = wrote_none old.written;
+    ends = (output (replayed [] []).events, refl);
+    bound = omega arith;
+  };
+  events_are = refl;
+}
+
+not_relayed : (turns : ℕ) (old : Outside) → HasRelayed turns NoMemory old old []
+not_relayed turns old = record {
+  passed = record { octets = []; out = []; calls = []; readings = []; draws = [] };
+  is = record {
+    took = took_none old.left;
+    wrote = wrote_none old.written;
+    called = added_none old.calls;
+    read = added_none old.readings;
+    drew = added_none old.drawn;
+    ends = record {
+      part = record { told = []; of_outcomes = refl; asked = ([], refl); sent = ([], refl); written = ([], refl) };
+      good = tt;
+    };
+    bound = omega arith;
+    most = omega arith;
+    paced = refl;
+  };
+  events_are = refl;
+  complete = λ only all rest left left' whole more link. inr refl;
+}
+
+not_shown : (calls start : ℕ) (old : Outside) → HasShown calls start NoMemory old old []
+not_shown calls start old = record {
+  is = ([], (summary_text (demonstration calls start), refl), wrote_none old.written);
+  events_are = (events_in calls start, refl);
+}
+
+pub not_begun : (words : Words) (old : Outside) → HasRun words NoMemory old old []
+not_begun words old = record {
+  replay = λ workers are. not_replayed old;
+  relay = λ turns are. not_relayed turns old;
+  demo = λ calls start workers are. not_shown calls start old;
+}
+
+-- words that are no command
+pub no_run : (words : Words) (status : Status) (old new : Outside) → IsNoCommand words → HasRun words status old new []
+no_run words status old new none = record {
+  replay = λ workers are. absurd (none (Replay workers) are);
+  relay = λ turns are. absurd (none (Relay turns) are);
+  demo = λ calls start workers are. absurd (none (Demo calls start workers) are);
+}
+
+-- ---- the command that was read is the one that the words are
+
+abbrev pub IsReadAs : Command → Command → Type 0
+IsReadAs read k = (let r : Result Command CommandFault = Ok read in (r ≡ Ok k) ⊎ (r ≡ Err faults.NoMemory))
+
+pub read_is : (read k : Command) → IsReadAs read k → read ≡ k
+read_is read k (inl is) = cc
+read_is read k (inr is) = absurd cc
+
+relay_not_replay : (turns workers : ℕ) → Relay turns ≡ Replay workers → ⊥
+relay_not_replay turns workers is = cc
+
+demo_not_replay : (calls start many workers : ℕ) → Demo calls start many ≡ Replay workers → ⊥
+demo_not_replay calls start many workers is = cc
+
+demo_not_relay : (calls start many turns : ℕ) → Demo calls start many ≡ Relay turns → ⊥
+demo_not_relay calls start many turns is = cc
+
+same_turns : (turns turns' : ℕ) → Relay turns ≡ Relay turns' → turns ≡ turns'
+same_turns turns turns' is = cc
+
+same_calls : (calls start workers calls' start' workers' : ℕ) → Demo calls start workers ≡ Demo calls' start' workers' → (calls ≡ calls') × (start ≡ start')
+same_calls calls start workers calls' start' workers' is = (cc, cc)
+
+-- what reading the words tells of every command that they are
+abbrev pub IsToldOf : Words → Command → Type 0
+IsToldOf words read = (k : Command) → AreWordsOf words k → IsReadAs read k
+
+pub replay_not_demo : (workers calls start many : ℕ) → Replay workers ≡ Demo calls start many → ⊥
+replay_not_demo workers calls start many is = cc
+
+pub relay_not_demo : (turns calls start many : ℕ) → Relay turns ≡ Demo calls start many → ⊥
+relay_not_demo turns calls start many is = cc
+
+replay_not_relay : (workers turns : ℕ) → Replay workers ≡ Relay turns → ⊥
+replay_not_relay workers turns is = cc
+
+-- where a replay was read, the words are no relay and no demonstration
+pub no_relay_of_replay : (words : Words) (read : Command) (many turns : ℕ) → IsToldOf words read → read ≡ Replay many → AreWordsOf words (Relay turns) → ⊥
+no_relay_of_replay words read many turns told is are = replay_not_relay many turns (sym is ∙ read_is read (Relay turns) (told (Relay turns) are))
+
+pub no_demo_of_replay : (words : Words) (read : Command) (many calls start workers : ℕ) → IsToldOf words read → read ≡ Replay many
+    → AreWordsOf words (Demo calls start workers) → ⊥
+no_demo_of_replay words read many calls start workers told is are =
+    replay_not_demo many calls start workers (sym is ∙ read_is read (Demo calls start workers) (told (Demo calls start workers) are))
+
+pub no_replay_of_relay : (words : Words) (read : Command) (turns workers : ℕ) → IsToldOf words read → read ≡ Relay turns → AreWordsOf words (Replay workers) → ⊥
+no_replay_of_relay words read turns workers told is are = relay_not_replay turns workers (sym is ∙ read_is read (Replay workers) (told (Replay workers) are))
+
+pub no_demo_of_relay : (words : Words) (read : Command) (turns calls start workers : ℕ) → IsToldOf words read → read ≡ Relay turns
+    → AreWordsOf words (Demo calls start workers) → ⊥
+no_demo_of_relay words read turns calls start workers told is are =
+    relay_not_demo turns calls start workers (sym is ∙ read_is read (Demo calls start workers) (told (Demo calls start workers) are))
+
+pub no_replay_of_demo : (words : Words) (read : Command) (calls start many workers : ℕ) → IsToldOf words read → read ≡ Demo calls start many
+    → AreWordsOf words (Replay workers) → ⊥
+no_replay_of_demo words read calls start many workers told is are =
+    demo_not_replay calls start many workers (sym is ∙ read_is read (Replay workers) (told (Replay workers) are))
+
+pub no_relay_of_demo : (words : Words) (read : Command) (calls start many turns : ℕ) → IsToldOf words read → read ≡ Demo calls start many
+    → AreWordsOf words (Relay turns) → ⊥
+no_relay_of_demo words read calls start many turns told is are =
+    demo_not_relay calls start many turns (sym is ∙ read_is read (Relay turns) (told (Relay turns) are))
+
+-- ---- what was run
+
+pub has_replayed : (words : Words) (read : Command) (many : ℕ) (status : Status) (old new : Outside) (events : List Event) → IsToldOf words read → read ≡ Replay many
+    → HasReplayed status old new events → HasRun words status old new events
+has_replayed words read many status old new events told is ran = record {
+  replay = λ workers are. ran;
+  relay = λ turns are. absurd (no_relay_of_replay words read many turns told is are);
+  demo = λ calls start workers are. absurd (no_demo_of_replay words read many calls start workers told is are);
+}
+
+pub has_relayed : (words : Words) (read : Command) (turns : ℕ) (status : Status) (old new : Outside) (events : List Event) → IsToldOf words read → read ≡ Relay turns
+    → HasRelayed turns status old new events → HasRun words status old new events
+has_relayed words read turns status old new events told is ran = record {
+  replay = λ workers are. absurd (no_replay_of_relay words read turns workers told is are);
+  relay = λ turns' are. subst (λ n. HasRelayed n status old new events) (same_turns turns turns' (sym is ∙ read_is read (Relay turns') (told (Relay turns') are))) ran;
+  demo = λ calls start workers are. absurd (no_demo_of_relay words read turns calls start workers told is are);
+}
+
+pub has_shown : (words : Words) (read : Command) (calls start many : ℕ) (status : Status) (old new : Outside) (events : List Event) → IsToldOf words read
+    → read ≡ Demo calls start many → HasShown calls start status old new events → HasRun words status old new events
+has_shown words read calls start many status old new events told is ran = record {
+  replay = λ workers are. absurd (no_replay_of_demo words read calls start many workers told is are);
+  relay = λ turns are. absurd (no_relay_of_demo words read calls start many turns told is are);
+  demo = λ calls' start' workers are.
+    let same = same_calls calls start many calls' start' workers (sym is ∙ read_is read (Demo calls' start' workers) (told (Demo calls' start' workers) are)) in
+    subst (λ n. HasShown calls' n status old new events) same.1 (subst (λ n. HasShown n start status old new events) same.0 ran);
+}
+
+-- all of a demonstration's events were taken
+pub all_taken : (status : Status) (events : List Event) → AreTaken status events events
+all_taken Done events = refl
+all_taken Usage events = ([], sym (append-nil events))
+all_taken (Script n fault) events = ([], sym (append-nil events))
+all_taken Read events = ([], sym (append-nil events))
+all_taken Write events = ([], sym (append-nil events))
+all_taken Link events = ([], sym (append-nil events))
+all_taken NoMemory events = ([], sym (append-nil events))
+all_taken Clock events = ([], sym (append-nil events))
+all_taken Noise events = ([], sym (append-nil events))
+all_taken TurnsSpent events = ([], sym (append-nil events))
+
+-- ---- what a command doesn't answer
+
+replay_not : (other status : Status) (old new : replays.Tellings) (octets draws out : List ℕ) → (IsReplay other old new octets draws out → ⊥)
+    → IsReplay status old new octets draws out → status ≡ other → ⊥
+replay_not other status old new octets draws out isnt run is = isnt (subst (λ s. IsReplay s old new octets draws out) is run)
+
+pub replay_not_usage : (status : Status) (old new : replays.Tellings) (octets draws out : List ℕ) → IsReplay status old new octets draws out → status ≡ Usage → ⊥
+replay_not_usage status old new octets draws out run is = replay_not Usage status old new octets draws out (λ r. r.ends) run is
+
+pub replay_not_link : (status : Status) (old new : replays.Tellings) (octets draws out : List ℕ) → IsReplay status old new octets draws out → status ≡ Link → ⊥
+replay_not_link status old new octets draws out run is = replay_not Link status old new octets draws out (λ r. r.ends) run is
+
+pub replay_not_clock : (status : Status) (old new : replays.Tellings) (octets draws out : List ℕ) → IsReplay status old new octets draws out → status ≡ Clock → ⊥
+replay_not_clock status old new octets draws out run is = replay_not Clock status old new octets draws out (λ r. r.ends) run is
+
+pub relay_not_usage : (status : Status) (turns : ℕ) (old new : relays.Tellings) (p : Passed) → IsRelay status turns old new p → status ≡ Usage → ⊥
+relay_not_usage status turns old new p run is = (subst (λ s. IsRelay s turns old new p) is run).ends
+
+-- a demonstration is done, or the sink failed or memory was wanting
+abbrev IsOfDemo : Status → Type 0
+IsOfDemo status = (status ≡ Done) ⊎ ((status ≡ Write) ⊎ (status ≡ NoMemory))
+
+of_demo : (status : Status) (written written' : Option (List ℕ)) (octets : List ℕ) → IsShown status written written' octets → IsOfDemo status
+of_demo Done written written' octets shown = inl refl
+of_demo Write written written' octets shown = inr (inl refl)
+of_demo NoMemory written written' octets shown = inr (inr refl)
+of_demo Usage written written' octets shown = absurd shown
+of_demo (Script n fault) written written' octets shown = absurd shown
+of_demo Read written written' octets shown = absurd shown
+of_demo Link written written' octets shown = absurd shown
+of_demo Clock written written' octets shown = absurd shown
+of_demo Noise written written' octets shown = absurd shown
+of_demo TurnsSpent written written' octets shown = absurd shown
+
+demo_not : (other status : Status) (written written' : Option (List ℕ)) (octets : List ℕ) → (IsShown other written written' octets → ⊥)
+    → IsShown status written written' octets → status ≡ other → ⊥
+demo_not other status written written' octets isnt shown is = isnt (subst (λ s. IsShown s written written' octets) is shown)
+
+pub demo_not_usage : (status : Status) (written written' : Option (List ℕ)) (octets : List ℕ) → IsShown status written written' octets → status ≡ Usage → ⊥
+demo_not_usage status written written' octets shown is = demo_not Usage status written written' octets (λ s. s) shown is
+
+pub demo_not_read : (status : Status) (written written' : Option (List ℕ)) (octets : List ℕ) → IsShown status written written' octets → status ≡ Read → ⊥
+demo_not_read status written written' octets shown is = demo_not Read status written written' octets (λ s. s) shown is
+
+pub demo_not_link : (status : Status) (written written' : Option (List ℕ)) (octets : List ℕ) → IsShown status written written' octets → status ≡ Link → ⊥
+demo_not_link status written written' octets shown is = demo_not Link status written written' octets (λ s. s) shown is
+
+pub demo_not_clock : (status : Status) (written written' : Option (List ℕ)) (octets : List ℕ) → IsShown status written written' octets → status ≡ Clock → ⊥
+demo_not_clock status written written' octets shown is = demo_not Clock status written written' octets (λ s. s) shown is
+
+pub demo_not_noise : (status : Status) (written written' : Option (List ℕ)) (octets : List ℕ) → IsShown status written written' octets → status ≡ Noise → ⊥
+demo_not_noise status written written' octets shown is = demo_not Noise status written written' octets (λ s. s) shown is
+
+-- where the sink didn't fail, a demonstration is done, or memory was wanting
+pub demo_done : (status : Status) (written written' : Option (List ℕ)) (octets : List ℕ) (old new : ℕ) (failed : Option Bool) → IsShown status written written' octets
+    → HasFailed (status ≡ Write) old new failed → ¬ Rose old new → (status ≡ Done) ⊎ (status ≡ NoMemory)
+demo_done status written written' octets old new failed shown cause quiet = elim (of_demo status written written' octets shown) [
+  | inl done ↦ inl done
+  | inr other ↦ elim other [
+    | inl write ↦ absurd (quiet (cause.rose write))
+    | inr memory ↦ inr memory
+  ]
+]
