@@ -171,8 +171,8 @@ has_shown words read calls start many status old new events told is ran = record
   replay = λ workers are. absurd (no_replay_of_demo words read calls start many workers told is are);
   relay = λ turns are. absurd (no_relay_of_demo words read calls start many turns told is are);
   demo = λ calls' start' workers are.
-    let same = same_calls calls start many calls' start' workers (sym is ∙ read_is read (Demo calls' start' workers) (told (Demo calls' start' workers) are)) in
-    subst (λ n. HasShown calls' n status old new events) same.1 (subst (λ n. HasShown n start status old new events) same.0 ran);
+      let same = same_calls calls start many calls' start' workers (sym is ∙ read_is read (Demo calls' start' workers) (told (Demo calls' start' workers) are)) in
+      subst (λ n. HasShown calls' n status old new events) same.1 (subst (λ n. HasShown n start status old new events) same.0 ran);
 }
 
 -- all of a demonstration's events were taken

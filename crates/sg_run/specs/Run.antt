@@ -63,7 +63,7 @@ pub record HasRelayed (turns : ℕ) (status : Status) (old new : Outside) (event
   pub is : IsRelay status turns (of_relay old) (of_relay new) passed
   pub events_are : events ≡ (course_of passed).events
   pub complete : OnlyLinkFailed old.failures new.failures
-    → IsComplete status turns old.left new.left old.failures.link new.failures.link passed
+      → IsComplete status turns old.left new.left old.failures.link new.failures.link passed
 
 -- with Done these are all of the demonstration's events, and else the first of them
 abbrev pub AreTaken : Status → List Event → List Event → Type 0

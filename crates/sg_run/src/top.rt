@@ -38,10 +38,22 @@ pub fn run<R: Threads + Sync, S: Source, K: Sink, L: Link, C: Clock, N: Noise, G
 ) -> Status
     ensures ran { (events : List Event)
         × HasRun (map string_bytes words.now) result
-        (record { left = S.left source.old; written = K.written sink.old; calls = L.told link.old; readings = C.given clock.old; drawn = N.given noise.old;
-          failures = record { source = S.faults source.old; sink = K.faults sink.old; link = L.faults link.old; clock = C.faults clock.old; noise = N.faults noise.old } })
-        (record { left = S.left source.new; written = K.written sink.new; calls = L.told link.new; readings = C.given clock.new; drawn = N.given noise.new;
-          failures = record { source = S.faults source.new; sink = K.faults sink.new; link = L.faults link.new; clock = C.faults clock.new; noise = N.faults noise.new } })
+        (record {
+          left = S.left source.old;
+          written = K.written sink.old;
+          calls = L.told link.old;
+          readings = C.given clock.old;
+          drawn = N.given noise.old;
+          failures = record { source = S.faults source.old; sink = K.faults sink.old; link = L.faults link.old; clock = C.faults clock.old; noise = N.faults noise.old };
+        })
+        (record {
+          left = S.left source.new;
+          written = K.written sink.new;
+          calls = L.told link.new;
+          readings = C.given clock.new;
+          drawn = N.given noise.new;
+          failures = record { source = S.faults source.new; sink = K.faults sink.new; link = L.faults link.new; clock = C.faults clock.new; noise = N.faults noise.new };
+        })
         events
         × Headline events }
     ensures given { S.given source.new ≤ S.given source.old + (2 ^ 30 + 1) }

@@ -1,15 +1,15 @@
 -- What a table holds after a signal, by what it settles.
-use Rattle.std.proofs.Common.{◌≡◌, ◌<◌, arith, get_or, ℕ, zero, suc, List, [], ◌∷◌, ◌++◌, length, map, Option, Some, None, Result, Ok, Err, refl, sym, ap, ◌∙◌, subst}
+use Rattle.std.proofs.Common.{◌≡◌, ◌<◌, arith, get_or, ℕ, zero, suc, List, [], ◌∷◌, length, map, Option, Some, Result, Err, sym, ap, ◌∙◌, subst}
 use Rattle.std.proofs.Math.ListN.{set}
 use Rattle.std.proofs.lemmas.List.{set-get_or}
-use Rattle.std.specs.List.{AllByRecursion, insert}
+use Rattle.std.specs.List.{insert}
 use Rattle.sg_base.specs.declared.addresses.CallId.{CallId}
 use Rattle.sg_base.specs.declared.faults.Refusal.{Refusal}
 use Rattle.sg_call.proofs.Paired.{stands_set}
 use Rattle.sg_call.specs.Settling.{Settles}
 use Rattle.sg_call.specs.Standing.{CallStandsFor}
 use Rattle.sg_call.specs.Values.{CallValue}
-use Rattle.sg_gateway.proofs.Pairs.{Pairs, pairs_from, each_two}
+use Rattle.sg_gateway.proofs.Pairs.{Pairs, pairs_from}
 use Rattle.sg_gateway.proofs.Places.{with_at}
 use Rattle.sg_gateway.specs.Generations.{Settled}
 use Rattle.sg_gateway.specs.Order.{IsBefore, EachWorldIsOrderly}
@@ -21,7 +21,6 @@ use Rattle.sg_leg.specs.Pairs.{EachPair}
 use Rattle.sg_leg.specs.declared.books.Books.{Books}
 use Rattle.sg_outcome.specs.declared.outcomes.Outcome.{Outcome}
 use Rattle.sg_outcome.specs.declared.outcomes.Outcome.TheVariants.{Made, Refused}
-use Rattle.sg_psk.specs.declared.pairs.Pair.{Pair}
 use Rattle.sg_session.proofs.Lists.{each_weaker}
 use Rattle.sg_table.proofs.Found.{CallAt}
 use Rattle.sg_table.proofs.FreeSlot.{put_stands, quiet_insert}

@@ -1,5 +1,5 @@
 -- The three parts of a batch together.
-use Rattle.std.proofs.Common.{◌≡◌, ℕ, ◌+◌, ◌≤◌, List, [], ◌∷◌, ◌++◌, length, map, Option, Some, None, refl, sym, ap, ◌∙◌, subst, arith}
+use Rattle.std.proofs.Common.{◌≡◌, ℕ, List, [], ◌∷◌, ◌++◌, length, map, Option, Some, None, refl, sym, ap, ◌∙◌, subst, arith}
 use Rattle.std.specs.List.{AllByRecursion}
 use Rattle.std.specs.Prelude.{IsSome}
 use Rattle.sg_base.specs.declared.addresses.Address.{Address}
@@ -9,12 +9,12 @@ use Rattle.sg_call.specs.Standing.{CallStandsFor}
 use Rattle.sg_call.specs.Values.{CallValue}
 use Rattle.sg_call.specs.declared.handled.Handled.{Handled}
 use Rattle.sg_gateway.proofs.Pairs.{each_two}
-use Rattle.sg_gateway.specs.Batch.{Arrived, delivered, event_of}
+use Rattle.sg_gateway.specs.Batch.{delivered, event_of}
 use Rattle.sg_gateway.specs.Datagrams.{arrived_at, arrived_in}
 use Rattle.sg_gateway.specs.Events.{outcomes_from}
 use Rattle.sg_gateway.specs.Ports.{call_at}
 use Rattle.sg_gateway.specs.Runs.{world_after}
-use Rattle.sg_gateway.specs.Step.{Event, step}
+use Rattle.sg_gateway.specs.Step.{step}
 use Rattle.sg_gateway.specs.World.{Call, World}
 use Rattle.sg_leg.specs.Pairs.{EachPair}
 use Rattle.sg_leg.specs.declared.books.Books as declared
@@ -29,7 +29,7 @@ use Rattle.sg_table.specs.Handling.{outcome_of}
 use Rattle.sg_table.specs.Octets.{AreOctets}
 use Rattle.sg_table.specs.Parts.{datagram_of, AreReady, AreLeft, IsReady, IsLeft, HaveRoom, HasOctets, TakesTurns, IsGathered}
 use Rattle.sg_table.specs.Standing.{Holds, TableStandsFor}
-use Rattle.sg_table.specs.Values.{TableValue, shape_of, shapes_of, AreQuiet}
+use Rattle.sg_table.specs.Values.{shapes_of, AreQuiet}
 use Rattle.sg_table.specs.declared.arrival.Arrival.{Arrival}
 
 pub have_room : (calls : List CallValue) → AreQuiet calls → HaveRoom 0 calls

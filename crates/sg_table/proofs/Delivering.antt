@@ -1,5 +1,5 @@
 -- A datagram in a world that a table stands for.
-use Rattle.std.proofs.Common.{◌≡◌, ℕ, zero, suc, ◌+◌, ◌%◌, ◌<◌, ◌≤◌, Bool, true, false, cond, List, [], ◌∷◌, length, get_or, map, Option, Some, None, refl, sym, ap, ◌∙◌, subst, arith}
+use Rattle.std.proofs.Common.{◌≡◌, ℕ, zero, suc, ◌+◌, ◌<◌, ◌≤◌, Bool, true, false, cond, List, [], ◌∷◌, length, get_or, map, Some, None, refl, sym, ap, ◌∙◌, subst, arith}
 use Rattle.std.proofs.Math.ListN.{set}
 use Rattle.std.proofs.lemmas.Bool.{cond-true, cond-false}
 use Rattle.std.proofs.lemmas.List.Elements.{recursion_from_All}
@@ -34,7 +34,7 @@ use Rattle.sg_table.proofs.Turns.{turn, one_turn, same_moment, same_books}
 use Rattle.sg_table.specs.Handling.{outcome_of, IsBack, IsHandled}
 use Rattle.sg_table.specs.Octets.{AreOctets}
 use Rattle.sg_table.specs.Parts.{TakesTurns}
-use Rattle.sg_table.specs.Standing.{Holds, TableStandsFor}
+use Rattle.sg_table.specs.Standing.{TableStandsFor}
 use Rattle.sg_table.specs.Values.{TableValue, Shape, shape_of, shapes_of, has_call_port, AreRising, IsQuiet, AreQuiet}
 
 -- a world that a table stands for is one of a run

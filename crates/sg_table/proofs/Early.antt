@@ -1,5 +1,5 @@
 -- What the calls that are there tell of a signal, before memory is taken.
-use Rattle.std.proofs.Common.{◌≡◌, ◌≤◌, ◌<◌, ℕ, Bool, true, false, cond, not, List, [], ◌∷◌, length, Option, Some, None, refl, sym, ap, ◌∙◌, subst, ltb}
+use Rattle.std.proofs.Common.{◌≡◌, ◌≤◌, ◌<◌, ℕ, Bool, true, false, cond, not, List, length, Option, Some, None, refl, sym, ap, ◌∙◌, ltb}
 use Rattle.std.proofs.lemmas.Bool.{lt-ltb, le-ltb}
 use Rattle.std.specs.List.{position}
 use Rattle.std.specs.Option.{is_some}
@@ -10,12 +10,10 @@ use Rattle.sg_base.specs.declared.addresses.CallId.{CallId}
 use Rattle.sg_base.specs.declared.faults.Refusal.TheVariants.{TableFull, CallKnown, CallUnknown}
 use Rattle.sg_call.proofs.Paired.{stands_length}
 use Rattle.sg_call.specs.Standing.{CallStandsFor}
-use Rattle.sg_call.specs.Values.{CallValue}
 use Rattle.sg_gateway.specs.CallSignals.{keyed_manually, offered_in}
 use Rattle.sg_gateway.specs.Early.{early_manual, early_offer}
 use Rattle.sg_gateway.specs.Signals.{Answer, refused, new_call, in_new, in_old, tells_live, tells_text, manual_answer, offered_to, answered}
 use Rattle.sg_gateway.specs.World.{Call, World, call_of, is_full}
-use Rattle.sg_leg.specs.declared.books.Books.{Books}
 use Rattle.sg_table.proofs.Found.{CallAt, none_at, call_at}
 use Rattle.sg_table.specs.Found.{has_id}
 use Rattle.sg_table.specs.Standing.{Holds}

@@ -1,12 +1,11 @@
 -- A call ends, or goes on under the generation before its open offer.
-use Rattle.std.proofs.Common.{◌≡◌, ℕ, zero, suc, ◌<◌, Bool, true, false, cond, List, [], ◌∷◌, length, get_or, map, Option, Some, None, Result, Ok, Err, refl, sym, ap, ◌∙◌, subst, eqb}
+use Rattle.std.proofs.Common.{◌≡◌, ℕ, zero, suc, ◌<◌, Bool, true, false, cond, List, [], ◌∷◌, length, get_or, Option, Some, None, Result, Ok, Err, refl, sym, ap, ◌∙◌, subst, eqb}
 use Rattle.std.proofs.Math.ListN.{set}
 use Rattle.std.proofs.lemmas.Bool.{eqb-true}
 use Rattle.std.proofs.lemmas.List.{set-get_or}
 use Rattle.std.specs.List.{remove, position}
 use Rattle.std.specs.Result.{OnErr}
 use Rattle.std.specs.Option.{is_some}
-use Rattle.sg_agreement.specs.Keying.{Offer}
 use Rattle.sg_base.specs.declared.addresses.CallId.{CallId}
 use Rattle.sg_base.specs.declared.faults.Refusal.{Refusal}
 use Rattle.sg_base.specs.declared.faults.Refusal.TheVariants.{CallUnknown, State}
@@ -19,8 +18,8 @@ use Rattle.sg_gateway.proofs.Pairs.{Pairs}
 use Rattle.sg_gateway.proofs.Places.{with_at, without_at}
 use Rattle.sg_gateway.specs.CallSignals.{rejected_in}
 use Rattle.sg_gateway.specs.Order.{IsBefore}
-use Rattle.sg_gateway.specs.Signals.{refused, ending, rejected_to, rejected, left}
-use Rattle.sg_gateway.specs.World.{Call, World, call_of, same_id, with_call, without_call}
+use Rattle.sg_gateway.specs.Signals.{ending, rejected_to, rejected, left}
+use Rattle.sg_gateway.specs.World.{Call, World, call_of, same_id}
 use Rattle.sg_leg.specs.Pairs.{EachPair}
 use Rattle.sg_leg.specs.declared.books.Books.{Books}
 use Rattle.sg_outcome.specs.declared.outcomes.Outcome.{Outcome}

@@ -1,6 +1,6 @@
 -- A pre-shared pair is added, or refused.
-use Rattle.std.proofs.Common.{◌≡◌, ℕ, ◌<◌, ◌≤◌, Bool, true, false, cond, List, [], ◌∷◌, ◌++◌, length, Option, Some, None, Result, Ok, Err, IfErr, IsTrue, refl, sym, ap, ◌∙◌, subst, arith, ltb}
-use Rattle.std.proofs.lemmas.Bool.{lt-ltb, le-ltb, ltb-true, ltb-false}
+use Rattle.std.proofs.Common.{◌≡◌, ℕ, ◌<◌, ◌≤◌, Bool, true, false, cond, List, [], ◌∷◌, ◌++◌, length, Option, Some, None, Result, Ok, Err, IfErr, IsTrue, refl, sym, ap, ◌∙◌, subst, ltb}
+use Rattle.std.proofs.lemmas.Bool.{ltb-true, ltb-false}
 use Rattle.sg_base.specs.declared.faults.Fault.{Fault}
 use Rattle.sg_base.specs.declared.faults.Fault.TheVariants as faults
 use Rattle.sg_base.specs.declared.faults.Refusal.{Refusal}
@@ -11,8 +11,7 @@ use Rattle.sg_call.specs.Values.{CallValue}
 use Rattle.sg_gateway.specs.Early.{early}
 use Rattle.sg_gateway.specs.Signals as signals
 use Rattle.sg_gateway.specs.Signals.{Answer, answer, refused, with_pair}
-use Rattle.sg_gateway.specs.World.{Call, World}
-use Rattle.sg_leg.specs.Pairs.{EachPair}
+use Rattle.sg_gateway.specs.World.{World}
 use Rattle.sg_leg.specs.declared.books.Books.{Books}
 use Rattle.sg_outcome.specs.declared.outcomes.Outcome.{Outcome}
 use Rattle.sg_outcome.specs.declared.outcomes.Outcome.TheVariants.{Refused}

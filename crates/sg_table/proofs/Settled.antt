@@ -1,5 +1,5 @@
 -- What a call settles keeps its serial number and its slot.
-use Rattle.std.proofs.Common.{◌≡◌, ℕ, true, not, List, [], ◌∷◌, Option, Some, None, Result, Ok, Err, refl, subst}
+use Rattle.std.proofs.Common.{◌≡◌, ℕ, true, not, List, [], ◌∷◌, Option, Some, None, Ok, refl, subst}
 use Rattle.sg_agreement.specs.Answers.{agreed_answer}
 use Rattle.sg_agreement.specs.Generations.{generation_of}
 use Rattle.sg_agreement.specs.Keying.{Offer}

@@ -8,9 +8,8 @@ use Rattle.sg_call.specs.Drained.{IsDrained}
 use Rattle.sg_call.specs.Handling.{handled_of, call_after, all_handled}
 use Rattle.sg_call.specs.Standing.{CallStandsFor}
 use Rattle.sg_call.specs.Values.{CallValue, WaitingValue}
-use Rattle.sg_call.specs.declared.handled.Handled.{Handled}
 use Rattle.sg_gateway.specs.Batch.{Arrived, after, given_by, drained, own}
-use Rattle.sg_gateway.specs.Datagrams.{Given, arrived_in}
+use Rattle.sg_gateway.specs.Datagrams.{arrived_in}
 use Rattle.sg_gateway.specs.Ports.{has_port, is_in_slot}
 use Rattle.sg_gateway.specs.World.{Call}
 use Rattle.sg_leg.specs.Pairs.{EachPair}

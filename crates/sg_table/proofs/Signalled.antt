@@ -1,5 +1,5 @@
 -- A signal, whose call was settled or refused.
-use Rattle.std.proofs.Common.{◌≡◌, ◌<◌, ℕ, Bool, true, false, cond, List, [], ◌∷◌, length, get_or, map, Option, Some, None, Result, Ok, Err, refl, sym, ap, ◌∙◌, subst}
+use Rattle.std.proofs.Common.{◌≡◌, ◌<◌, ℕ, Bool, true, false, cond, List, [], ◌∷◌, length, get_or, Option, Some, None, Result, Ok, Err, refl, sym, ap, ◌∙◌, subst}
 use Rattle.std.proofs.Math.ListN.{set}
 use Rattle.std.specs.List.{insert, position}
 use Rattle.std.specs.Option.{is_some, option_map}
@@ -22,9 +22,8 @@ use Rattle.sg_call.specs.Values.{CallValue}
 use Rattle.sg_gateway.proofs.Pairs.{Pairs}
 use Rattle.sg_gateway.specs.CallSignals.{idle_call, keyed_manually, offered_in, answered_to, answered_in, takes_offer}
 use Rattle.sg_gateway.specs.Early.{early_answer, early_offer}
-use Rattle.sg_gateway.specs.Generations.{Settled}
 use Rattle.sg_gateway.specs.Order.{IsBefore}
-use Rattle.sg_gateway.specs.Signals.{refused, new_call, in_old, tells_live, tells_text, tells_answer, offering_side, manual_answer, offered_to, answered}
+use Rattle.sg_gateway.specs.Signals.{new_call, tells_live, tells_text, tells_answer, offering_side, manual_answer, offered_to, answered}
 use Rattle.sg_gateway.specs.World as world
 use Rattle.sg_gateway.specs.World.{Call, World, call_of}
 use Rattle.sg_leg.specs.declared.books.Books.{Books}
@@ -32,7 +31,7 @@ use Rattle.sg_outcome.specs.declared.outcomes.Outcome.{Outcome}
 use Rattle.sg_outcome.specs.declared.outcomes.Outcome.TheVariants.{Made, Live, Sdp, Refused}
 use Rattle.sg_psk.specs.declared.pairs.Pair.{Pair}
 use Rattle.sg_table.proofs.Answered.{refused_new, refused_old, settled_at, settled_new}
-use Rattle.sg_table.proofs.Early.{no_call, some_call, manual_new, offer_new, offer_old}
+use Rattle.sg_table.proofs.Early.{some_call, manual_new, offer_new, offer_old}
 use Rattle.sg_table.proofs.Found.{CallAt}
 use Rattle.sg_table.proofs.FreeSlot.{free_same}
 use Rattle.sg_table.proofs.Settled.{manual_same, offered_same, answered_same}

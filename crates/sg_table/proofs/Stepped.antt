@@ -1,9 +1,9 @@
 -- A table at the start of a run, and after a signal as an event of it.
-use Rattle.std.proofs.Common.{◌≡◌, ℕ, Bool, true, false, cond, List, [], ◌∷◌, ◌++◌, length, map, Option, Some, refl, sym, ap, ◌∙◌, subst}
+use Rattle.std.proofs.Common.{◌≡◌, false, cond, List, [], ◌∷◌, ◌++◌, map, Option, Some, refl, sym, ap, ◌∙◌, subst}
 use Rattle.std.proofs.lemmas.List.{append-nil}
 use Rattle.sg_call.specs.Standing.{CallStandsFor}
 use Rattle.sg_call.specs.Values.{CallValue}
-use Rattle.sg_gateway.specs.Events.{events_of_signal, outcomes_from, signal_lacks_noise, signal_of}
+use Rattle.sg_gateway.specs.Events.{events_of_signal, signal_lacks_noise, signal_of}
 use Rattle.sg_gateway.specs.Runs.{world_after}
 use Rattle.sg_gateway.specs.Signals.{answer_to}
 use Rattle.sg_gateway.specs.Step.{Event, Signalled, step}
@@ -13,7 +13,7 @@ use Rattle.sg_leg.specs.declared.books.Books.{Books}
 use Rattle.sg_lines.specs.declared.lines.Signal.{Signal}
 use Rattle.sg_outcome.specs.declared.outcomes.Outcome.{Outcome}
 use Rattle.sg_table.specs.Standing.{Holds, TableStandsFor}
-use Rattle.sg_table.specs.Telling.{Tells, IsAnswered, IsTold}
+use Rattle.sg_table.specs.Telling.{IsAnswered, IsTold}
 use Rattle.sg_table.specs.Values.{TableValue, AreQuiet}
 
 -- a table without calls and with empty books

@@ -4,7 +4,7 @@ use Rattle.std.proofs.Math.ListN.{set}
 use Rattle.std.proofs.lemmas.Bool.{cases_Bool, eqb-true, eq-eqb, false≢true, lt-ltb, le-ltb}
 use Rattle.std.proofs.Math.Seq.{take-suc}
 use Rattle.std.proofs.lemmas.List.{get_or-set_same, get_or-set_other, map-append}
-use Rattle.std.specs.List.{AllByRecursion, filter}
+use Rattle.std.specs.List.{filter}
 use Rattle.sg_base.specs.declared.faults.Refusal.TheVariants.{TickBack}
 use Rattle.sg_call.proofs.Passing.{filter_append}
 use Rattle.sg_call.specs.Standing.{CallStandsFor}
@@ -22,7 +22,7 @@ use Rattle.sg_table.proofs.Pairing.{pairs_from_each}
 use Rattle.sg_table.specs.Ends.{ended_as, idles, IsTicked}
 use Rattle.sg_table.specs.Standing.{Holds}
 use Rattle.sg_table.specs.Telling.{Tells, IsAnswered}
-use Rattle.sg_table.specs.Values.{TableValue, AreQuiet}
+use Rattle.sg_table.specs.Values.{AreQuiet}
 
 module _ (pairs : List Pair) (now : ℕ) where
   idles_same : (call : CallValue) (c : Call) → CallStandsFor pairs call c → idles now call ≡ is_idle now c

@@ -1,13 +1,12 @@
 -- Datagrams in turn: each changes the call that has its port.
-use Rattle.std.proofs.Common.{◌≡◌, ℕ, Bool, true, false, cond, List, [], ◌∷◌, ◌++◌, map, Option, Some, None, refl, sym, ap, ◌∙◌, subst}
+use Rattle.std.proofs.Common.{◌≡◌, ℕ, Bool, true, false, cond, List, [], ◌∷◌, map, Option, Some, None, refl, sym, ap, ◌∙◌}
 use Rattle.std.proofs.lemmas.List.Elements.{filter_agree}
 use Rattle.sg_gateway.proofs.Arrivals.{arrival}
 use Rattle.sg_gateway.proofs.InTurn.{IsSameCall, after_is}
-use Rattle.sg_gateway.specs.Batch.{Arrived, after, given_by, given_in, delivered, drained, own, event_of}
+use Rattle.sg_gateway.specs.Batch.{Arrived, after, given_by, given_in, delivered, drained, own}
 use Rattle.sg_gateway.specs.Datagrams.{Given, Drops, Puts, arrived_at, given_to}
 use Rattle.sg_gateway.specs.Ports.{call_at, has_port, is_in_slot}
-use Rattle.sg_gateway.specs.Runs.{world_after}
-use Rattle.sg_gateway.specs.World.{Books, Call, World}
+use Rattle.sg_gateway.specs.World.{Call, World}
 use Rattle.sg_table.specs.Parts.{TakesTurns}
 
 map_agree : {X Y : Type 0} (f g : X → Y) → ((x : X) → f x ≡ g x) → (xs : List X) → map f xs ≡ map g xs

@@ -7,7 +7,7 @@ use Rattle.sg_call.specs.declared.handled.Handled.{Handled}
 use Rattle.sg_gateway.specs.Events.{outcomes_from}
 use Rattle.sg_gateway.specs.Octets.{as_octets}
 use Rattle.sg_gateway.specs.Runs.{world_after}
-use Rattle.sg_gateway.specs.Step.{Event, Datagram}
+use Rattle.sg_gateway.specs.Step.{Datagram}
 use Rattle.sg_gateway.specs.World.{World}
 use Rattle.sg_outcome.specs.declared.outcomes.Outcome.{Outcome}
 use Rattle.sg_outcome.specs.declared.outcomes.Outcome.TheVariants.{Out, Dropped}

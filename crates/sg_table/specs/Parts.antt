@@ -14,7 +14,7 @@ use Rattle.sg_leg.specs.Pairs.{EachPair}
 use Rattle.sg_psk.specs.declared.pairs.Pair.{Pair}
 use Rattle.sg_table.specs.Batches.{octets_of, with_handled, answered}
 use Rattle.sg_table.specs.Octets.{AreOctets}
-use Rattle.sg_table.specs.Values.{Shape, shapes_of, has_call_port, has_shape_port}
+use Rattle.sg_table.specs.Values.{Shape, has_call_port, has_shape_port}
 use Rattle.sg_table.specs.declared.arrival.Arrival.{Arrival}
 
 -- ---- calls and arrivals as lists

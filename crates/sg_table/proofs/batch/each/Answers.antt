@@ -1,10 +1,10 @@
-use Rattle.std.proofs.Common.{◌≡◌, ◌∙◌, sym, ap, subst}
+use Rattle.std.proofs.Common.{◌∙◌, sym, ap, subst}
 use Rattle.std.proofs.lemmas.List.Elements.{recursion_from_All}
 use Rattle.std.specs.Prelude.{IsSome}
 use Rattle.sg_table.proofs.Batching.{have_octets, have_room, drained_shapes, ready, batched}
 use Rattle.sg_table.proofs.Delivering.{turns_of}
 use Rattle.sg_table.specs.Parts.{all_handed}
-use Rattle.sg_table.specs.Values.{AreRising, AreIndexed, shapes_of}
+use Rattle.sg_table.specs.Values.{AreRising, AreIndexed}
 use Rattle.sg_table.proofs.batch.each.Goals as goal
 
 pub share_out-requires-clause-quiet : goal.share_out-requires-clause-quiet

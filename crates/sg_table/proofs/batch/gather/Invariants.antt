@@ -1,6 +1,4 @@
-use Rattle.std.proofs.Common.{◌≡◌, drop, List}
-use Rattle.std.specs.List.{AllByRecursion}
-use Rattle.std.specs.Prelude.{IsSome}
+use Rattle.std.proofs.Common.{◌≡◌}
 use Rattle.sg_table.proofs.Gathering.{WillGather}
 use Rattle.sg_table.specs.Values.{shapes_of}
 use Rattle.sg_table.proofs.batch.gather.Given as goal

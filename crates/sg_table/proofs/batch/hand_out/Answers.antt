@@ -1,4 +1,4 @@
-use Rattle.std.proofs.Common.{◌≡◌, ◌∙◌, sym, ap, Some, None, List, ℕ, get_or}
+use Rattle.std.proofs.Common.{◌≡◌, ◌∙◌, sym, ap, Some, get_or}
 use Rattle.std.proofs.Math.ListN.{set}
 use Rattle.sg_base.specs.declared.faults.DropCause.TheVariants.{PortUnused}
 use Rattle.sg_call.specs.declared.handled.End.TheVariants.{Dropped}

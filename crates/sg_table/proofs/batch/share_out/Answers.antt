@@ -1,4 +1,4 @@
-use Rattle.sg_table.proofs.Outing.{shares_first, shares_next, shares_all}
+use Rattle.sg_table.proofs.Outing.{shares_first, shares_next}
 use Rattle.sg_table.proofs.batch.share_out.Goals as goal
 
 pub loop-k-init : goal.loop-k-init

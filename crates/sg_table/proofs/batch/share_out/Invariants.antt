@@ -1,4 +1,3 @@
-use Rattle.std.proofs.Common.{◌≡◌}
 use Rattle.sg_table.proofs.Outing.{Shares}
 use Rattle.sg_table.proofs.batch.share_out.Given as goal
 

@@ -1,4 +1,4 @@
-use Rattle.std.proofs.Common.{◌≡◌, ◌∙◌, sym, ap, Some, None}
+use Rattle.std.proofs.Common.{◌∙◌, sym, ap}
 use Rattle.std.proofs.Math.ListN.{set}
 use Rattle.sg_table.proofs.Slots.{none_changed, one_changed}
 use Rattle.sg_table.proofs.Answering.{first_at, none_at, first_is, first_none}

@@ -1,4 +1,4 @@
-use Rattle.std.proofs.Common.{◌≡◌, ◌∙◌, sym}
+use Rattle.std.proofs.Common.{◌∙◌, sym}
 use Rattle.sg_table.proofs.Delivering.{turns_of, no_call, some_call, shapes_set}
 use Rattle.sg_table.proofs.Slots.{one_changed}
 use Rattle.sg_table.proofs.delivery.deliver.Goals as goal

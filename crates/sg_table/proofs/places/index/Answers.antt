@@ -1,4 +1,4 @@
-use Rattle.std.proofs.Common.{◌∙◌, ◌<◌, sym, subst, ℕ, List, Option, eqb}
+use Rattle.std.proofs.Common.{◌∙◌, ◌<◌, sym, subst, eqb}
 use Rattle.std.specs.List.{position}
 use Rattle.sg_table.proofs.Indexed.{at_slot_is, index_next}
 use Rattle.sg_table.specs.Values.{Shape, shapes_of}

@@ -1,5 +1,4 @@
-use Rattle.std.proofs.Common.{◌≡◌, ◌∙◌, sym, ap, subst, Some, None, cond, true, false, get_or}
-use Rattle.sg_call.specs.Values.{CallValue}
+use Rattle.std.proofs.Common.{◌∙◌, sym, ap, Some, None, true, false, get_or}
 use Rattle.sg_table.proofs.Slots.{no_slot, no_call, tested}
 use Rattle.sg_table.specs.Values.{has_call_port}
 use Rattle.sg_table.proofs.ports.place.Goals as goal

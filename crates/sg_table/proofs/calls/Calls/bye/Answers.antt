@@ -1,5 +1,5 @@
-use Rattle.std.proofs.Common.{◌≡◌, ◌∙◌, [], ◌∷◌, Some, None, Ok, Err, sym, ap, subst}
-use Rattle.std.specs.List.{position, remove}
+use Rattle.std.proofs.Common.{◌∙◌, [], ◌∷◌, Some, sym, ap, subst}
+use Rattle.std.specs.List.{position}
 use Rattle.sg_table.specs.Found.{has_id}
 use Rattle.sg_table.specs.Standing.{TableStandsFor}
 use Rattle.sg_table.specs.Telling.{IsAnswered}

@@ -1,33 +1,21 @@
-use Rattle.std.proofs.Common.{rules, ◌≡◌, ◌≤◌, ◌<◌, ◌+◌, ◌∙◌, sym, ap, subst, refl, true, false, get_or, List, [], ◌∷◌, ℕ, length, Option, Some, None, Result, Ok, Err}
-use Rattle.std.proofs.Math.ListN.{set}
+use Rattle.std.proofs.Common.{◌≡◌, ◌≤◌, ◌∙◌, sym, ap, subst, List, length, Option, Some, None}
 use Rattle.std.proofs.lemmas.Result.{IfOk-weaker}
 use Rattle.std.proofs.lemmas.List.{with_items_is}
 use Rattle.arrayvec.specs.ArrayVec.{ArrayVec}
 use Rattle.std.specs.List.{position}
-use Rattle.std.specs.Option.{is_some}
-use Rattle.std.specs.Result.{IfOk, OnErr}
-use Rattle.sg_agreement.specs.Manual.{ManualCall, manual_medium}
-use Rattle.sg_agreement.specs.Sides.{side_of, other_side}
-use Rattle.sg_base.specs.declared.faults.Refusal.TheVariants.{CallKnown, CallUnknown, TableFull}
-use Rattle.sg_call.specs.Settling.{IsSettled, IsKeyed}
-use Rattle.sg_call.specs.Standing.{CallStandsFor}
+use Rattle.std.specs.Result.{IfOk}
+use Rattle.sg_base.specs.declared.faults.Refusal.TheVariants.{TableFull}
 use Rattle.sg_call.specs.Values.{CallValue}
-use Rattle.sg_gateway.specs.CallSignals.{keyed_manually, offered_in, answered_in}
-use Rattle.sg_gateway.specs.Early.{early_manual, early_offer, early_answer}
-use Rattle.sg_gateway.specs.Signals.{manual_answer, offered_to, answered, answer_to}
-use Rattle.sg_gateway.specs.World.{World, call_of, empty}
+use Rattle.sg_gateway.specs.Signals.{offered_to}
+use Rattle.sg_gateway.specs.World.{World, call_of}
 use Rattle.sg_outcome.specs.declared.outcomes.Outcome.{Outcome}
-use Rattle.sg_outcome.specs.declared.outcomes.Outcome.TheVariants.{Made, Live, Sdp}
-use Rattle.sg_table.proofs.Answered.{order_of, refused_holds, quiet_at, back_at}
-use Rattle.sg_table.proofs.Early.{manual_known, manual_full, manual_needs, offer_full, offer_needs, answer_unknown}
-use Rattle.sg_table.proofs.Found.{get_any}
-use Rattle.sg_table.proofs.Signalled.{held, on_err, manual_told, manual_refused, offer_new_told, offer_new_refused, offer_at_told, offer_at_refused, offer_at_needs, answer_told, answer_refused, answer_state, answer_needs, pairs_there}
+use Rattle.sg_table.proofs.Answered.{refused_holds}
+use Rattle.sg_table.proofs.Early.{offer_full}
+use Rattle.sg_table.proofs.Signalled.{held}
 use Rattle.sg_table.specs.Found.{has_id}
-use Rattle.sg_table.specs.Free.{free_shape}
 use Rattle.sg_table.specs.Standing.{TableStandsFor}
 use Rattle.sg_table.specs.Telling.{IsAnswered}
-use Rattle.sg_table.specs.Values.{TableValue, IsQuiet, shapes_of}
-use Rattle.sg_table.specs.contracts.calls.Calls.{the_view}
+use Rattle.sg_table.specs.Values.{TableValue}
 use Rattle.sg_table.proofs.calls.Calls.offer.Goals as goal
 
 pub returns-in-None-free_slot-clause-told : goal.returns-in-None-free_slot-clause-told

@@ -1,6 +1,5 @@
-use Rattle.std.proofs.Common.{◌≡◌, ◌∙◌, [], ◌∷◌, ◌++◌, List, Some, None, Ok, Err, sym, ap, subst}
+use Rattle.std.proofs.Common.{◌≡◌, ◌∙◌, [], ◌∷◌, ◌++◌, List, Err, sym, ap, subst}
 use Rattle.std.specs.Result.{IfOk, OnOk, OnErr}
-use Rattle.sg_base.specs.declared.faults.Fault.TheVariants.{Refused}
 use Rattle.sg_gateway.specs.Signals.{with_pair}
 use Rattle.sg_gateway.specs.World.{World}
 use Rattle.sg_psk.specs.Pairs.{pair_of}
@@ -8,7 +7,6 @@ use Rattle.sg_psk.specs.declared.pairs.Pair.{Pair}
 use Rattle.sg_table.proofs.PairAdded.{Adds, pair_added, pair_refused}
 use Rattle.sg_table.specs.Standing.{TableStandsFor}
 use Rattle.sg_table.specs.Telling.{IsAnswered}
-use Rattle.sg_table.specs.Values.{TableValue}
 use Rattle.sg_table.specs.contracts.calls.Calls.{the_view}
 use Rattle.sg_table.proofs.calls.Calls.psk.Goals.{in-Ok, in-Err-Refused, in-Err-NoMemory}
 use Rattle.sg_table.proofs.calls.Calls.psk.Goals as goal

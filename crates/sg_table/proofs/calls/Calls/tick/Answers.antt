@@ -1,4 +1,4 @@
-use Rattle.std.proofs.Common.{◌≡◌, ◌∙◌, sym, ap, subst, map, not}
+use Rattle.std.proofs.Common.{◌∙◌, sym, subst, map}
 use Rattle.std.specs.List.{filter}
 use Rattle.std.proofs.lemmas.List.{with_items_is}
 use Rattle.sg_leg.specs.Pairs.{EachPair}
