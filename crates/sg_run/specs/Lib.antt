@@ -1,5 +1,2 @@
-pub mod Fed
-pub mod Played
+pub mod Headline
 pub mod Run
-pub mod StatusText
-pub mod Words

@@ -1,13 +1,9 @@
-//! The top call: a command's words, a source of octets and a sink of octets.
+//! The top call: a command's words, and what it is given of the outside.
 #![tactic(auto)]
 
-mod feed;
-mod line_reader;
-mod replaying;
-mod status;
 #[cfg(test)]
 mod tests;
 mod top;
 
-pub use status::Status;
+pub use sg_course::Status;
 pub use top::run;

@@ -1,11 +1,14 @@
 mod calls;
+mod offers;
 
 use crate::{Status, run};
 use sg_base::{Octets, ScriptFault};
-use sg_edge::{MemSink, MemSource};
+use sg_edge::{MemNoise, MemSink, MemSource, SureClock, SureLink};
+use sg_lanes::OpenGate;
 use std::alloc::{AllocError, Global};
 use std::process::Abort;
 use std::test::Fail;
+use std::thread::Threads;
 
 const HEADER: &str = "srtpgw 1\n";
 
@@ -38,33 +41,96 @@ fn joined(alloc: Global, parts: &[&str]) -> Result<Vec<u8>, AllocError> {
     Ok(octets)
 }
 
+fn words_of(alloc: Global, texts: &[&str]) -> Result<Vec<String>, AllocError> {
+    let mut words = Vec::new(alloc);
+    for text in texts {
+        words.push(String::from_str(alloc, text)?)?;
+    }
+    Ok(words)
+}
+
+/// What a run is given beside its script: its words, the octets of its noise, and the draws that fail.
+#[derive(Drop)]
+struct Played<'a> {
+    words: &'a [&'a str],
+    noise: &'a [u8],
+    noise_fails: &'a [u64],
+}
+
 /// What a run of the script answers and writes; a source that gives and a sink that takes so many
 /// octets a call.
-fn played(alloc: Global, script: &[&str], most: usize) -> Result<(Status, Vec<u8>), Fail> {
-    let octets = Octets::from_vec(joined(alloc, script)?);
-    let mut source = MemSource::limited(octets, most.max(1), Vec::new(alloc));
-    let mut sink = MemSink::limited(alloc, most.max(1), Vec::new(alloc));
-    let words = [String::from_str(alloc, "replay")?];
-    let status = run(alloc, &words, &mut source, &mut sink);
+fn played(
+    rt: &(impl Threads + Sync),
+    alloc: Global,
+    given: &Played,
+    script: Vec<u8>,
+    most: usize,
+) -> Result<(Status, Vec<u8>), Fail> {
+    let most = most.max(1);
+    let words = words_of(alloc, given.words)?;
+    let mut source = MemSource::limited(Octets::from_vec(script), most, Vec::new(alloc));
+    let mut sink = MemSink::limited(alloc, most, Vec::new(alloc));
+    let mut link = SureLink::make(alloc, Vec::new(alloc));
+    let mut clock = SureClock::make(Vec::new(alloc));
+    let mut noise = MemNoise::make(
+        Octets::copy_of(alloc, given.noise)?,
+        given.noise_fails.to_vec(alloc)?,
+    );
+    let status = run(
+        rt,
+        alloc,
+        &words,
+        &mut source,
+        &mut sink,
+        &mut link,
+        &mut clock,
+        &mut noise,
+        &OpenGate,
+    );
     Ok((
         status,
         sink.written().unwrap_or(b"no record").to_vec(alloc)?,
     ))
 }
 
-/// The script is answered so and writes this, whatever a call of the source gives and of the sink takes.
-fn plays(
-    rt: &impl Abort,
+/// The script, whose parts are joined, is answered so and writes this, whatever a call of the source gives and
+/// of the sink takes.
+fn plays_with(
+    rt: &(impl Abort + Threads + Sync),
     alloc: Global,
-    script: &[&str],
+    given: &Played,
+    script: &[&[&str]],
     status: Status,
     told: &[&str],
 ) -> Result<(), Fail> {
     let told = joined(alloc, told)?;
     for most in [1, usize::MAX] {
-        let (answer, written) = played(alloc, script, most)?;
+        let mut octets = Vec::new(alloc);
+        for parts in script {
+            octets.extend_from_slice(&joined(alloc, parts)?)?;
+        }
+        let (answer, written) = played(rt, alloc, given, octets, most)?;
         assert_eq!(rt; answer, status);
         assert_eq!(rt; written.as_slice(), told.as_slice());
+    }
+    Ok(())
+}
+
+/// The same without noise, by one worker and by several.
+fn plays(
+    rt: &(impl Abort + Threads + Sync),
+    alloc: Global,
+    script: &[&str],
+    status: Status,
+    told: &[&str],
+) -> Result<(), Fail> {
+    for words in [["replay"].as_slice(), &["replay", "--workers", "3"]] {
+        let given = Played {
+            words,
+            noise: &[],
+            noise_fails: &[],
+        };
+        plays_with(rt, alloc, &given, &[script], status, told)?;
     }
     Ok(())
 }
@@ -128,7 +194,7 @@ fn lines_outside_the_grammar(rt: HostRuntime) -> Result<(), Fail> {
     plays(
         &rt,
         a,
-        &[HEADER, KEYED, KEYED],
+        &[HEADER, KEYED, HEADER],
         at(3, ScriptFault::Word),
         &[KEYED_TOLD],
     )?;
@@ -152,50 +218,74 @@ fn lines_outside_the_grammar(rt: HostRuntime) -> Result<(), Fail> {
 #[test]
 fn other_words_are_no_command(rt: HostRuntime) -> Result<(), Fail> {
     let alloc = rt.alloc();
-    let mut source = MemSource::make(Octets::copy_of(alloc, HEADER.as_bytes())?, Vec::new(alloc));
-    let mut sink = MemSink::make(alloc, Vec::new(alloc));
-    let none: [String; 0] = [];
-    assert_eq!(rt; run(alloc, &none, &mut source, &mut sink), Status::Usage);
-    let words = [String::from_str(alloc, "relay")?];
-    assert_eq!(rt; run(alloc, &words, &mut source, &mut sink), Status::Usage);
+    let rows: [&[&str]; 5] = [
+        &[],
+        &["frob"],
+        &["replay", "--workers", "0"],
+        &["replay", "--workers", "17"],
+        &["--help"],
+    ];
+    for words in rows {
+        let given = Played {
+            words,
+            noise: &[],
+            noise_fails: &[],
+        };
+        let (status, written) = played(&rt, alloc, &given, joined(alloc, &[HEADER, KEYED])?, 9)?;
+        assert_eq!(rt; status, Status::Usage);
+        assert_eq!(rt; written.as_slice(), b"".as_slice());
+    }
     Ok(())
+}
+
+/// What a replay answers and writes where these calls of its source and of its sink fail.
+fn failing(
+    rt: &(impl Threads + Sync),
+    alloc: Global,
+    script: &[&str],
+    reads: &[u64],
+    writes: &[u64],
+) -> Result<(Status, Vec<u8>), Fail> {
+    let script = Octets::from_vec(joined(alloc, script)?);
+    let mut source = MemSource::limited(script, 100, reads.to_vec(alloc)?);
+    let mut sink = MemSink::make(alloc, writes.to_vec(alloc)?);
+    let mut link = SureLink::make(alloc, Vec::new(alloc));
+    let mut clock = SureClock::make(Vec::new(alloc));
+    let mut noise = MemNoise::make(Octets::from_vec(Vec::new(alloc)), Vec::new(alloc));
+    let words = words_of(alloc, &["replay"])?;
+    let status = run(
+        rt,
+        alloc,
+        &words,
+        &mut source,
+        &mut sink,
+        &mut link,
+        &mut clock,
+        &mut noise,
+        &OpenGate,
+    );
+    Ok((
+        status,
+        sink.written().unwrap_or(b"no record").to_vec(alloc)?,
+    ))
 }
 
 #[test]
 fn a_failing_read_and_a_failing_write(rt: HostRuntime) -> Result<(), Fail> {
     let alloc = rt.alloc();
-    let words = [String::from_str(alloc, "replay")?];
-    let script = joined(alloc, &[HEADER, KEYED, SEALED])?;
-    let mut source = MemSource::limited(Octets::copy_of(alloc, &script)?, 100, [2].to_vec(alloc)?);
-    let mut sink = MemSink::make(alloc, Vec::new(alloc));
-    assert_eq!(rt; run(alloc, &words, &mut source, &mut sink), Status::Read);
-    assert_eq!(rt; sink.written(), Some(b"".as_slice()));
-    let mut source = MemSource::make(Octets::from_vec(script), Vec::new(alloc));
-    let mut sink = MemSink::make(alloc, [2].to_vec(alloc)?);
-    assert_eq!(rt; run(alloc, &words, &mut source, &mut sink), Status::Write);
-    assert_eq!(rt; sink.written(), Some(b"made 1 0 1\n".as_slice()));
-    Ok(())
-}
-
-#[test]
-fn statuses_are_told(rt: HostRuntime) -> Result<(), Fail> {
-    let alloc = rt.alloc();
-    let script = Status::Script {
-        line: 7,
-        fault: ScriptFault::Hex,
-    };
-    let rows = [
-        (Status::Usage, "srtpgw: usage", 1),
-        (script, "srtpgw: script line 7: Hex", 2),
-        (Status::Read, "srtpgw: read failed", 3),
-        (Status::Write, "srtpgw: write failed", 4),
-        (Status::NoMemory, "srtpgw: no memory", 6),
-    ];
-    for (status, text, number) in rows {
-        let told = format!(in alloc; "{status}")?;
-        assert_eq!(rt; told.as_str(), text);
-        assert_eq!(rt; status.number(), number);
+    let script = [HEADER, KEYED, SEALED];
+    let (status, written) = failing(&rt, alloc, &script, &[2], &[])?;
+    assert_eq!(rt; status, Status::Read);
+    assert_eq!(rt; written.as_slice(), b"".as_slice());
+    for (write, told) in [(1, ""), (2, "made 1 0 1\n"), (3, KEYED_TOLD)] {
+        let (status, written) = failing(&rt, alloc, &script, &[], &[write])?;
+        assert_eq!(rt; status, Status::Write);
+        assert_eq!(rt; written.as_slice(), told.as_bytes());
     }
+    // The read of the last octets fails, and after it no write is tried.
+    let (status, written) = failing(&rt, alloc, &script, &[4], &[3])?;
+    assert_eq!(rt; status, Status::Read);
+    assert_eq!(rt; written.as_slice(), KEYED_TOLD.as_bytes());
     Ok(())
 }
 
@@ -205,6 +295,7 @@ struct Scarce {
     words: [String; 1],
     source: MemSource,
     sink: MemSink,
+    noise: MemNoise,
     told: Vec<u8>,
 }
 
@@ -221,6 +312,7 @@ impl Scarce {
             words: [String::from_str(alloc, "replay")?],
             source: MemSource::make(Octets::from_vec(script), Vec::new(alloc)),
             sink: MemSink::make(alloc, Vec::new(alloc)),
+            noise: MemNoise::make(Octets::from_vec(Vec::new(alloc)), Vec::new(alloc)),
             told: joined(alloc, &told)?,
         })
     }
@@ -238,7 +330,19 @@ fn refused_memory_leaves_a_front(rt: HostRuntime) -> Result<(), Fail> {
         }
         Ok(scarce) => scarce,
     };
-    let status = run(alloc, &scarce.words, &mut scarce.source, &mut scarce.sink);
+    let mut link = SureLink::make(alloc, Vec::new(alloc));
+    let mut clock = SureClock::make(Vec::new(alloc));
+    let status = run(
+        &rt,
+        alloc,
+        &scarce.words,
+        &mut scarce.source,
+        &mut scarce.sink,
+        &mut link,
+        &mut clock,
+        &mut scarce.noise,
+        &OpenGate,
+    );
     let written = scarce.sink.written();
     match status {
         Status::Done => assert_eq!(rt; written, Some(scarce.told.as_slice())),

@@ -1,45 +1,73 @@
 //! The top call.
 
-ghost use Rattle.std.specs.Prelude.{◌≡◌, ◌↔◌, ◌≤◌, ◌+◌, ◌^◌, false, true, ℕ, List, []};
-ghost use Rattle.sg_edge.specs.Told.{Rose, Tells};
-ghost use Rattle.sg_gateway.specs.Replayed.{replayed};
+ghost use Rattle.std.specs.Prelude.{◌≡◌, ◌⊎◌, ◌≤◌, ◌+◌, ◌^◌, ℕ, List, map, string_bytes, None};
+ghost use Rattle.sg_course.specs.Causes.{HasFailed};
+ghost use Rattle.sg_edge.specs.Told.{Rose};
 ghost use Rattle.sg_gateway.specs.Step.{Event};
-ghost use Rattle.sg_run.specs.Run.{IsRun, IsComplete, Headline};
-ghost use Rattle.sg_run.specs.Words.{IsNoCommand};
+ghost use Rattle.sg_playback.specs.Replay.{IsComplete};
+ghost use Rattle.sg_run.specs.Headline.{Headline};
+ghost use Rattle.sg_run.specs.Run.{HasRun};
+ghost use Rattle.sg_words.specs.Commands.{AreWordsOf, IsNoCommand};
+ghost use Rattle.sg_words.specs.declared.command.Command.TheVariants.{Replay};
 
-use crate::replaying::replay;
-use crate::status::Status;
-use sg_edge::{Sink, Source};
-use sg_table::Table;
+use sg_course::Status;
+use sg_edge::{Clock, Link, Noise, Sink, Source};
+use sg_lanes::Gate;
+use sg_playback::replay;
+use sg_words::{Command, CommandFault, read_command};
 use std::alloc::Global;
+use std::thread::Threads;
 
-/// Runs the command that the words name over the source and the sink. The one command of now is
-/// `replay`: the source is a script, whose outcomes are written in order.
-pub fn run<S: Source, K: Sink>(
+/// Runs the command that the words name. `replay` plays the script of the source, writes what it tells to the
+/// sink, and draws the noise that its signals lack; the link and the clock aren't touched. Words that are no
+/// command are answered `Usage`, and then nothing is touched.
+pub fn run<R: Threads + Sync, S: Source, K: Sink, L: Link, C: Clock, N: Noise, G: Gate + Sync>(
+    rt: &R,
     alloc: Global,
     words: &[String],
     source: &mut S,
     sink: &mut K,
+    link: &mut L,
+    clock: &mut C,
+    noise: &mut N,
+    gate: &G,
 ) -> Status
-    ensures ran { (octets out : List ℕ)
-        × IsRun result (S.left source.old) (S.left source.new) (K.written sink.old) (K.written sink.new) octets out
-        × Headline (replayed octets []).events }
+    ensures ran { (events : List Event)
+        × HasRun (map string_bytes words.now) result
+        (record { left = S.left source.old; written = K.written sink.old; calls = L.told link.old; readings = C.given clock.old; drawn = N.given noise.old })
+        (record { left = S.left source.new; written = K.written sink.new; calls = L.told link.new; readings = C.given clock.new; drawn = N.given noise.new })
+        events
+        × Headline events }
     ensures given { S.given source.new ≤ S.given source.old + (2 ^ 30 + 1) }
-    ensures usage { result ≡ Status.Usage ↔ IsNoCommand words.now }
-    ensures untouched { result ≡ Status.Usage → (source.new ≡ source.old) × (sink.new ≡ sink.old) }
-    ensures complete { ¬ IsNoCommand words.now → ¬ Rose (S.faults source.old) (S.faults source.new) → ¬ Rose (K.faults sink.old) (K.faults sink.new)
+    ensures usage { result ≡ Status.Usage → IsNoCommand (map string_bytes words.now) }
+    ensures no_command { IsNoCommand (map string_bytes words.now) → (result ≡ Status.Usage) ⊎ (result ≡ Status.NoMemory) }
+    ensures untouched { IsNoCommand (map string_bytes words.now)
+        → (source.new ≡ source.old) × (sink.new ≡ sink.old) × (link.new ≡ link.old) × (clock.new ≡ clock.old) × (noise.new ≡ noise.old) }
+    ensures replay_untouched { (workers : ℕ) → AreWordsOf (map string_bytes words.now) (Replay workers) → (link.new ≡ link.old) × (clock.new ≡ clock.old) }
+    ensures replay_complete { (workers : ℕ) → AreWordsOf (map string_bytes words.now) (Replay workers)
+        → ¬ Rose (S.faults source.old) (S.faults source.new) → ¬ Rose (K.faults sink.old) (K.faults sink.new) → ¬ Rose (N.faults noise.old) (N.faults noise.new)
         → IsComplete result (S.left source.old) (S.left source.new) }
-    ensures read { result ≡ Status.Read → Rose (S.faults source.old) (S.faults source.new) }
-    ensures read_told { result ≡ Status.Read → Tells (S.failed source.new) true }
-    ensures write { result ≡ Status.Write → Rose (K.faults sink.old) (K.faults sink.new) }
-    ensures write_told { result ≡ Status.Write → Tells (K.failed sink.new) true }
+    ensures read { HasFailed (result ≡ Status.Read) (S.faults source.old) (S.faults source.new) (S.failed source.new) }
+    ensures write { HasFailed (result ≡ Status.Write) (K.faults sink.old) (K.faults sink.new) (K.failed sink.new) }
+    ensures link { result ≡ Status.Link → Rose (L.faults link.old) (L.faults link.new) }
+    ensures clock { HasFailed (result ≡ Status.Clock) (C.faults clock.old) (C.faults clock.new) (C.failed clock.new) }
+    ensures noise { HasFailed (result ≡ Status.Noise) (N.faults noise.old) (N.faults noise.new) (N.failed noise.new) }
 {
     headline();
-    if !is_replay(words) {
-        return Status::Usage;
+    let command = match read_command(alloc, words) {
+        Err(CommandFault::Usage) => return Status::Usage,
+        Err(CommandFault::NoMemory) => return Status::NoMemory,
+        Ok(command) => command,
+    };
+    match command {
+        Command::Replay { workers } => replay(rt, alloc, workers, source, sink, noise, gate),
+        Command::Relay { turns: _ } => Status::NoMemory,
+        Command::Demo {
+            calls: _,
+            start: _,
+            workers: _,
+        } => Status::NoMemory,
     }
-    let mut table = Table::make(alloc);
-    replay(alloc, &mut table, source, sink)
 }
 
 /// The headline holds of every list of events.
@@ -55,10 +83,4 @@ fn headline()
     sg_gateway::refusals_change_nothing();
     sg_gateway::ended_calls_stay_away();
     sg_gateway::earlier_generations_serve_no_longer();
-}
-
-fn is_replay(words: &[String]) -> bool
-    ensures { result ≡ false ↔ IsNoCommand words.now }
-{
-    words.len() == 1 && words[0].as_str() == "replay"
 }
