@@ -3,4 +3,3 @@
 mod ring;
 mod scripts;
 mod sides;
-mod tables;
