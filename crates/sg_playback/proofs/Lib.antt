@@ -3,3 +3,4 @@ mod Plays
 mod Replays
 mod Tells
 mod Timely
+pub mod Room

@@ -51,7 +51,7 @@ fn words_of(alloc: Global, texts: &[&str]) -> Result<Vec<String>, AllocError> {
 
 /// What a run is given beside its script: its words, the octets of its noise, and the draws that fail.
 #[derive(Drop)]
-struct Played<'a> {
+struct Given<'a> {
     words: &'a [&'a str],
     noise: &'a [u8],
     noise_fails: &'a [u64],
@@ -62,7 +62,7 @@ struct Played<'a> {
 fn played(
     rt: &(impl Threads + Sync),
     alloc: Global,
-    given: &Played,
+    given: &Given,
     script: Vec<u8>,
     most: usize,
 ) -> Result<(Status, Vec<u8>), Fail> {
@@ -98,7 +98,7 @@ fn played(
 fn plays_with(
     rt: &(impl Abort + Threads + Sync),
     alloc: Global,
-    given: &Played,
+    given: &Given,
     script: &[&[&str]],
     status: Status,
     told: &[&str],
@@ -125,7 +125,7 @@ fn plays(
     told: &[&str],
 ) -> Result<(), Fail> {
     for words in [["replay"].as_slice(), &["replay", "--workers", "3"]] {
-        let given = Played {
+        let given = Given {
             words,
             noise: &[],
             noise_fails: &[],
@@ -226,7 +226,7 @@ fn other_words_are_no_command(rt: HostRuntime) -> Result<(), Fail> {
         &["--help"],
     ];
     for words in rows {
-        let given = Played {
+        let given = Given {
             words,
             noise: &[],
             noise_fails: &[],

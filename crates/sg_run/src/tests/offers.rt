@@ -3,7 +3,7 @@
 //! The script and what must be told of it are `offered-by-the-secure-side` of `interop/rows`, which programs over
 //! another cryptographic library made from the texts of the standards.
 
-use super::{HEADER, Played, plays_with};
+use super::{Given, HEADER, plays_with};
 use crate::Status;
 use std::test::Fail;
 
@@ -88,7 +88,7 @@ fn a_call_from_offer_to_end(rt: HostRuntime) -> Result<(), Fail> {
     let answer = ["answer 7 ", NOISE, " ", ANSWER, "\n", PACKETS];
     for workers in ["1", "2", "16"] {
         let words = ["replay", "--workers", workers];
-        let played = Played {
+        let played = Given {
             words: &words,
             noise: &[],
             noise_fails: &[],
@@ -119,7 +119,7 @@ fn noise_is_drawn_for_a_signal_without(rt: HostRuntime) -> Result<(), Fail> {
     let offer = [HEADER, "offer-secure 7 - ", OFFER, "\n"];
     let answer = ["answer 7 - ", ANSWER, "\n", PACKETS];
     let drawn = noise();
-    let played = Played {
+    let played = Given {
         words: &["replay"],
         noise: &drawn,
         noise_fails: &[],
@@ -133,7 +133,7 @@ fn noise_is_drawn_for_a_signal_without(rt: HostRuntime) -> Result<(), Fail> {
         &[TOLD],
     )?;
     // The second draw fails: what the lines before tell is written.
-    let failing = Played {
+    let failing = Given {
         words: &["replay"],
         noise: &drawn,
         noise_fails: &[2],

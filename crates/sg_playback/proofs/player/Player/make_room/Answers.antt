@@ -1,12 +1,10 @@
-use Rattle.sg_playback.proofs.Plays.{room_in, room_settled}
-use Rattle.sg_playback.specs.Playing.{waiting}
-use Rattle.sg_table.specs.Standing.{TableStandsFor}
+use Rattle.std.proofs.Common.{[], refl}
+use Rattle.sg_edge.proofs.Passed.{wrote_none}
+use Rattle.sg_playback.proofs.Room.{has_room}
 use Rattle.sg_playback.proofs.player.Player.make_room.Goals as goal
 
-pub returns-clause-made : goal.returns-clause-made
-returns-clause-made g c = λ w stands.
-    let s = c.settle.ensures.settled w stands in
-    (s.0, s.1, room_settled c.settle.result w (waiting c.args.self.now) (waiting c.settle.new.self) (TableStandsFor c.settle.new.self.table) s.0 s.2)
+pub returns-then-len-lt-BATCH_MOST-clause-made : goal.returns-then-len-lt-BATCH_MOST-clause-made
+returns-then-len-lt-BATCH_MOST-clause-made g c = λ w stands. ([], wrote_none _, ([], refl, (refl, stands)))
 
-pub returns-clause-room : goal.returns-clause-room
-returns-clause-room g c = room_in c.settle.result c.settle.new.self.waits c.settle.ensures.none
+pub returns-clause-made : goal.returns-clause-made
+returns-clause-made g c = λ w stands. let told = c.settle.ensures.settled w stands in (told.0, told.1, has_room c.settle.result w _ _ _ told.0 told.2)

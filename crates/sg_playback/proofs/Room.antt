@@ -1,0 +1,12 @@
+-- Where a batch was handled there is room again.
+use Rattle.std.proofs.Common.{◌≡◌, ℕ, List, [], ◌++◌, Result, Ok, Err, sym, ap, ◌∙◌}
+use Rattle.std.proofs.lemmas.List.{append-nil}
+use Rattle.sg_course.specs.declared.status.Status.{Status}
+use Rattle.sg_gateway.specs.Step.{Event}
+use Rattle.sg_gateway.specs.World.{World}
+use Rattle.sg_playback.specs.Playing.{HasRoom, IsSettled}
+
+pub has_room : (r : Result (Unit {0}) Status) (w : World) (waited waits : List Event) (stands_for : World → Type 0) (out : List ℕ)
+    → IsSettled r w waited waits stands_for out → HasRoom r w waited waits stands_for out
+has_room (Ok u) w waited waits stands_for out settled = (waited, sym (ap (λ (later : List Event). waited ++ later) settled.0 ∙ append-nil waited), settled.1)
+has_room (Err status) w waited waits stands_for out settled = settled
