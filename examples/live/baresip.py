@@ -85,7 +85,8 @@ class Phone:
         host, port = address
         (self.folder / "config").write_text(
             CONFIG.format(
-                host=host, port=port, control=self.control[1], folder=self.folder, modules=modules(), rtp=rtp, last=rtp + 20))
+                host=host, port=port, control=self.control[1], folder=self.folder, modules=modules(), rtp=rtp,
+                last=rtp + 20))
         keyed = ";mediaenc=srtp-mand" if secure else ""
         account = f"<sip:{name}@{host}>;regint=0;answermode=auto;audio_codecs=PCMU/8000/1{keyed}\n"
         (self.folder / "accounts").write_text(account)
@@ -185,7 +186,8 @@ def is_held(driver, folder):
         calling.wait(timeout=60), answering.wait(timeout=60)
     print(f"offers: {server.log}")
     (sent, took), (back, heard) = dave.counts(), erin.counts()
-    print(f"{dave.name} ({dave.suite()}): {sent} packets sent, {took} taken; {erin.name} ({erin.suite()}): {back} sent, {heard} taken")
+    for phone, own, other in ((dave, sent, took), (erin, back, heard)):
+        print(f"{phone.name} ({phone.suite()}): {own} packets sent, {other} taken")
     early = driver.drops[PLAIN_RTP, "NotLive"] - early
     print(f"of {erin.name}'s {early} came before its answer had gone through")
     # What comes before a telephone has its answer, or after it has hung up, it doesn't count.
