@@ -87,17 +87,17 @@ def table(heads, rows):
 def told(report):
     """Prints the report."""
     title("Calls")
-    table(("call", "slot", "media", "answers", "end"),
-          [(call, one["slot"], one["media"], one["answers"], one["end"]) for call, ones in report.calls.items() for one in ones])
+    calls = [(call, one) for call, ones in report.calls.items() for one in ones]
+    table(("call", "slot", "media", "answers", "end"), [(call, *one.values()) for call, one in calls] or [("none",) + ("",) * 4])
     if report.refusals:
         title("Refused signals")
         table(("call", "cause"), report.refusals)
     title("Packets that went out")
-    table(("slot", "medium", "leg", "packets", "octets"),
-          [(*leg, report.packets[leg], report.octets[leg]) for leg in sorted(report.packets)] or [("none", "", "", "", "")])
+    sent = [(*leg, report.packets[leg], report.octets[leg]) for leg in sorted(report.packets)]
+    table(("slot", "medium", "leg", "packets", "octets"), sent or [("none",) + ("",) * 4])
     title("Dropped datagrams")
     table(("slot", "medium", "came to", "cause", "datagrams"),
-          [(*leg, cause, count) for (leg, cause), count in sorted(report.drops.items())] or [("none", "", "", "", "")])
+          [(*leg, cause, count) for (leg, cause), count in sorted(report.drops.items())] or [("none",) + ("",) * 4])
     if report.unsent:
         title("Packets that couldn't be sent")
         table(("slot", "medium", "leg", "packets"), [(*leg, count) for leg, count in sorted(report.unsent.items())])

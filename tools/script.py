@@ -36,7 +36,7 @@ def records(octets):
     forms = {b"\xa1\xb2\xc3\xd4": (">", 1_000), b"\xd4\xc3\xb2\xa1": ("<", 1_000),
              b"\xa1\xb2\x3c\x4d": (">", 1_000_000), b"\x4d\x3c\xb2\xa1": ("<", 1_000_000)}
     if octets[:4] not in forms:
-        raise Fault("the capture isn't of the classic pcap form (pcapng is read by `tcpdump -r` and written again by its `-w`)")
+        raise Fault("the capture isn't of the classic pcap form (`tcpdump -r FILE -w NEW` makes it of pcapng)")
     order, fraction = forms[octets[:4]]
     yield struct.unpack(order + "I", octets[20:24])[0] & 0xFFFFFFF
     at = 24
@@ -144,10 +144,11 @@ def words():
     parser = argparse.ArgumentParser(description="makes a script for srtpgw", epilog="events come in the order given")
     event = dict(action=Event)
     parser.add_argument("--offer-secure", metavar="SDP", help="an offer of the secure side", **event)
-    parser.add_argument("--offer-plain", metavar="SDP", help="an offer of the plain side, keyed by crypto lines", **event)
+    parser.add_argument("--offer-plain", metavar="SDP", help="one of the plain side, keyed by crypto lines", **event)
     parser.add_argument("--offer-mikey", metavar=("PEER", "SDP"), nargs=2, help="one that is keyed by MIKEY", **event)
     parser.add_argument("--answer", metavar="SDP", help="the other side's answer", **event)
-    parser.add_argument("--manual", nargs=4, metavar=("SECURE", "PLAIN", "FROM", "TO"), help="a call with keys by hand", **event)
+    ends = ("SECURE", "PLAIN", "FROM", "TO")
+    parser.add_argument("--manual", nargs=4, metavar=ends, help="a call with keys by hand", **event)
     parser.add_argument("--psk", nargs=3, metavar=("OWN", "PEER", "HEX"), help="a pre-shared key", **event)
     parser.add_argument("--tick", metavar="MS", help="the moment, in milliseconds since 1970", **event)
     parser.add_argument("--capture", metavar="PCAP", help="a capture", **event)
@@ -155,8 +156,9 @@ def words():
     parser.add_argument("--bye", nargs=0, help="the call ends", **event)
     parser.add_argument("--call", type=int, default=1, help="the call's number, by default 1")
     parser.add_argument("--window", type=int, default=64, help="the window of a call with keys by hand")
-    parser.add_argument("--noise", default="-", metavar="HEX", help="304 octets for the gateway's keys; by default they are drawn")
-    parser.add_argument("--port", action="append", default=[], metavar="CAPTURED=GATEWAY", help="a captured port stands for one of the gateway's")
+    parser.add_argument("--noise", default="-", metavar="HEX", help="304 octets for the gateway's keys, else drawn")
+    parser.add_argument(
+        "--port", action="append", default=[], metavar="CAPTURED=GATEWAY", help="which port stands for which")
     return parser
 
 
@@ -183,7 +185,8 @@ def main():
     except (Fault, OSError) as fault:
         sys.exit(f"script.py: {fault}")
     if skipped:
-        print("script.py: not taken of captures: " + ", ".join(f"{count} {why}" for why, count in skipped.items()), file=sys.stderr)
+        counts = ", ".join(f"{count} {why}" for why, count in skipped.items())
+        print(f"script.py: not taken of captures: {counts}", file=sys.stderr)
 
 
 if __name__ == "__main__":

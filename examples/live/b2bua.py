@@ -4,7 +4,9 @@ port is a call from the secure side, what comes to its other one a call from the
     python3 b2bua.py --secure 127.0.0.1:5060 --plain 127.0.0.1:5080      and telephones that call 5070 or 5072
 
 It knows INVITE (also within a call), ACK, CANCEL and BYE over UDP on the loopback, where nothing is lost: it
-repeats no request. It shows how SIP drives the gateway, and isn't meant for more. Needs Python 3.8 alone.
+repeats no request. An offer within a call that leaves ports, addresses and keys as they are, as most telephones
+hold and resume, it hands on past the gateway. It shows how SIP drives the gateway, and isn't meant for more.
+Needs Python 3.8 alone.
 """
 
 import argparse
@@ -23,6 +25,12 @@ PORTS = {"secure": 5070, "plain": 5072}
 FAR = {"secure": "plain", "plain": "secure"}
 # The short names of headers (RFC 3261, 7.3.3).
 SHORT = {"v": "via", "f": "from", "t": "to", "i": "call-id", "m": "contact"}
+KEYS = ("a=crypto", "a=key-mgmt")
+# What would lead media past the gateway isn't handed on (docs/driving.md).
+LEFT_OUT = {
+    "crypto", "key-mgmt", "rtcp", "rtcp-mux", "candidate", "end-of-candidates", "remote-candidates", "ice-ufrag",
+    "ice-pwd", "ice-options", "ice-lite", "fingerprint", "setup",
+}
 
 
 class Message:
@@ -36,7 +44,7 @@ class Message:
         self.headers = [(SHORT.get(name, name), value) for name, value in names]
         # A telephone of several addresses may name another one than that which it sends from, and the gateway takes
         # plain packets from the named one alone. So a text gets the address that its message came from.
-        self.body = re.sub(rb"(?m)^c=IN IP4 \S+", b"c=IN IP4 " + source[0].encode(), body)
+        self.body = re.sub(rb"(?m)^c=IN IP4 \S+", b"c=IN IP4 " + source[0].encode(), body).decode(errors="replace")
         self.source = source
 
     def all(self, name):
@@ -61,7 +69,8 @@ class Dialog:
         self.number = 1
         self.waiting = None    # the INVITE from this side that hasn't been answered
         self.invited = None    # the INVITE to this side that hasn't been answered
-        self.offered, self.given = b"", ""   # what this side's last accepted text was, and what was told it of it
+        self.said, self.given = "", ""   # its last accepted text, and the gateway's last one for it
+        self.passes = False    # whether the open offer goes past the gateway
 
 
 class Server:
@@ -113,18 +122,17 @@ class Server:
             call, halves = self.make(side, request)
         near, far = halves[side], halves[FAR[side]]
         self.reply(side, request, 100, "Trying")
-        if request.body == near.offered:
-            return self.reply(side, request, 200, "OK", near.given)
         if near.waiting or far.waiting:
             return self.reply(side, request, 491, "Request Pending")
+        near.passes = bool(near.said) and looked_at(request.body) == looked_at(near.said)
         try:
-            text = self.offer(call, side, request.body)
+            text = carried(request.body, far.given) if near.passes else self.offer(call, side, request.body)
         except Refused as refused:
             self.log.append(f"call {call}: offer refused: {refused}")
-            self.reply(side, request, 488, "Not Acceptable Here", tag="g")
-            return None if near.offered else self.forget(call)
-        near.waiting, far.invited = request, far.number
-        self.ask(far, "INVITE", text)
+            self.reply(side, request, 488, "Not Acceptable Here", tag=f"g{call}")
+            return None if near.said else self.forget(call)
+        near.waiting, far.invited, near.offer, far.offer = request, far.number, request.body, text
+        return self.ask(far, "INVITE", text)
 
     def make(self, side, request):
         call, far_side = next(self.names), FAR[side]
@@ -156,20 +164,35 @@ class Server:
             return self.refuse(call, near, request, code)
         half.uri = inner(response.get("contact")) or half.uri
         try:
-            text = self.driver.answer(call, response.body)
+            text = self.answer(call, near, half, response.body)
         except Refused as refused:
+            # The far telephone holds to a text that the gateway doesn't: nothing is left but to end the call.
             self.log.append(f"call {call}: answer refused: {refused}")
-            if not near.offered:
-                self.ask(half, "BYE")
-            return self.refuse(call, near, request, 488)
-        near.offered, near.given, half.offered = request.body, text, b""
-        self.reply(near.side, request, 200, "OK", text, tag=f"g{call}")
+            self.ask(half, "BYE")
+            self.refuse(call, near, request, 488)
+            return self.hang_up(call, near) if near.said else None
+        near.said, near.given, half.said, half.given = near.offer, text, response.body, half.offer
+        self.log.append(f"call {call}: agreed{', past the gateway' if near.passes else ''}")
+        return self.reply(near.side, request, 200, "OK", text, tag=f"g{call}")
+
+    def answer(self, call, near, far, text):
+        if not near.passes:
+            return self.driver.answer(call, text)
+        if looked_at(text) != looked_at(far.said):
+            raise Refused("the answer to an offer that the gateway doesn't know changes ports, addresses or keys")
+        return carried(text, near.given)
 
     def refuse(self, call, near, request, code):
-        self.driver.reject(call)
+        if not near.passes:
+            self.driver.reject(call)
         self.reply(near.side, request, code, "Refused", tag=f"g{call}")
-        if not near.offered:
+        if not near.said:
             self.forget(call)
+
+    def hang_up(self, call, near):
+        self.ask(near, "BYE")
+        self.driver.bye(call)
+        self.forget(call)
 
     def ended(self, side, request):
         """A BYE, or a CANCEL of what isn't answered."""
@@ -212,6 +235,35 @@ class Server:
     def close(self):
         for own in self.sockets.values():
             own.close()
+
+
+def parts(text):
+    """The session part and the media of a text, each a list of lines."""
+    found = [[]]
+    for line in text.splitlines():
+        if line.startswith("m="):
+            found.append([])
+        found[-1].append(line)
+    return found
+
+
+def looked_at(text):
+    """What the gateway looks at in a text: ports, profiles, addresses and keys."""
+    lines = (line for part in parts(text) for line in part if line.startswith(("m=", "c=", *KEYS)))
+    return [line.split(" ")[:3] if line.startswith("m=") else line for line in lines]
+
+
+def carried(text, given):
+    """A text for the other side, with the ports and keys of the one that the gateway gave it before."""
+    told = []
+    for part, ours in zip(parts(text), parts(given)):
+        for line in part:
+            if line.startswith("m="):
+                line = " ".join([line.split(" ")[0], *ours[0].split(" ")[1:3], *line.split(" ")[3:]])
+            if not line.startswith("a=") or line[2:].split(":")[0] not in LEFT_OUT:
+                told.append(f"c=IN IP4 {HOME}" if line.startswith("c=") else line)
+        told += [line for line in ours if line.startswith(KEYS)]
+    return "".join(line + "\r\n" for line in told)
 
 
 def inner(value):

@@ -1,18 +1,21 @@
 """baresip and SIPp, through the gateway. See baresip.sh."""
 
 import contextlib
+import json
 import random
 import re
+import socket
 import subprocess
 import sys
 import tempfile
 import threading
+import time
 import wave
 from pathlib import Path
 
 from b2bua import PORTS, Server
 from driver import Driver
-from ends import is_bound, program, wait_until
+from ends import PLAIN_RTP, is_bound, program, wait_until
 
 SECONDS = 10
 PHONE, PLAIN_PHONE, ECHO = ("127.0.0.1", 5060), ("127.0.0.1", 5062), ("127.0.0.1", 5080)
@@ -30,6 +33,7 @@ auplay_srate 8000
 rtp_ports {rtp}-{last}
 rtp_stats yes
 snd_path {folder}
+ctrl_tcp_listen {host}:{control}
 module_path {modules}
 module g711.so
 module aufile.so
@@ -37,6 +41,7 @@ module aubridge.so
 module sndfile.so
 module srtp.so
 module_app menu.so
+module_app ctrl_tcp.so
 module_app account.so
 """
 
@@ -58,7 +63,8 @@ def played(path, seed):
     """A file of random samples that PCMU keeps as they are, in this telephone too: it takes the loudest two and 0
     for their neighbours."""
     samples = [expanded(octet) for octet in range(256) if octet & 127 not in (0, 127)]
-    chosen = random.Random(seed).choices(samples, k=8_000 * SECONDS)
+    # Longer than any call, so that it doesn't end.
+    chosen = random.Random(seed).choices(samples, k=8_000 * 2 * SECONDS)
     with wave.open(str(path), "wb") as out:
         out.setnchannels(1), out.setsampwidth(2), out.setframerate(8_000)
         out.writeframes(b"".join(sample.to_bytes(2, "little", signed=True) for sample in chosen))
@@ -73,12 +79,14 @@ class Phone:
     """A baresip in a folder of its own."""
 
     def __init__(self, folder, name, address, rtp, secure, seed):
-        self.folder, self.name, self.address = Path(folder) / name, name, address
+        self.folder, self.name, self.control = Path(folder) / name, name, (address[0], address[1] + 100)
         self.folder.mkdir()
         played(self.folder / "played.wav", seed)
         host, port = address
         (self.folder / "config").write_text(
-            CONFIG.format(host=host, port=port, folder=self.folder, modules=modules(), rtp=rtp, last=rtp + 20))
+            CONFIG.format(
+                host=host, port=port, control=self.control[1], folder=self.folder, modules=modules(), rtp=rtp,
+                last=rtp + 20))
         keyed = ";mediaenc=srtp-mand" if secure else ""
         account = f"<sip:{name}@{host}>;regint=0;answermode=auto;audio_codecs=PCMU/8000/1{keyed}\n"
         (self.folder / "accounts").write_text(account)
@@ -89,6 +97,13 @@ class Phone:
         words = ["baresip", "-f", self.folder, "-t", str(seconds)] + (["-e", f"/dial {dial}"] if dial else [])
         self.log = open(self.folder / "log", "wb")
         return subprocess.Popen(words, stdin=subprocess.DEVNULL, stdout=self.log, stderr=subprocess.STDOUT)
+
+    def press(self, key):
+        """Has it do something in the middle of a call."""
+        with socket.create_connection(self.control, timeout=5) as control:
+            octets = json.dumps({"command": key}).encode()
+            control.sendall(b"%d:%s," % (len(octets), octets))
+            control.recv(4_096)
 
     def counts(self):
         """The packets that it sent and took, by its own count."""
@@ -157,13 +172,36 @@ def is_called(driver, folder):
     return told(alice, bob) & told(bob, alice)
 
 
+def is_held(driver, folder):
+    """The protected telephone calls, holds and resumes, and the plain one too; their keys stay as they are."""
+    dave, erin = Phone(folder, "dave", PHONE, 42_300, True, 4), Phone(folder, "erin", PLAIN_PHONE, 42_400, False, 5)
+    early = driver.drops[PLAIN_RTP, "NotLive"]
+    with serving(driver, {"secure": PHONE, "plain": PLAIN_PHONE}) as server:
+        answering = erin.run(SECONDS + 4)
+        wait_until(lambda: is_bound(PLAIN_PHONE[1]), what="baresip")
+        calling = dave.run(SECONDS + 1, f"sip:erin@127.0.0.1:{PORTS['secure']}")
+        for phone, key in ((dave, "hold"), (dave, "resume"), (erin, "hold"), (erin, "resume")):
+            time.sleep(1.5)
+            phone.press(key)
+        calling.wait(timeout=60), answering.wait(timeout=60)
+    print(f"offers: {server.log}")
+    (sent, took), (back, heard) = dave.counts(), erin.counts()
+    for phone, own, other in ((dave, sent, took), (erin, back, heard)):
+        print(f"{phone.name} ({phone.suite()}): {own} packets sent, {other} taken")
+    early = driver.drops[PLAIN_RTP, "NotLive"] - early
+    print(f"of {erin.name}'s {early} came before its answer had gone through")
+    # What comes before a telephone has its answer, or after it has hung up, it doesn't count.
+    held = sum("past" in line for line in server.log) == 4
+    return held and int(sent) - int(heard) < 10 and int(back) - early - int(took) < 10
+
+
 def main():
     print(subprocess.run(["baresip", "-h"], capture_output=True, text=True).stdout.splitlines()[0])
     print(subprocess.run(["sipp", "-v"], capture_output=True, text=True).stdout.strip().splitlines()[0])
     driver = Driver(program())
     good = []
     with tempfile.TemporaryDirectory() as folder:
-        for scene in (calls_an_echo, is_called):
+        for scene in (calls_an_echo, is_called, is_held):
             print(f"{scene.__doc__}", flush=True)
             good.append(scene(driver, folder))
     status = driver.close()

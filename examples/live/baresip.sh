@@ -2,10 +2,12 @@
 # Telephones that speak SIP, through a SIP server that drives the gateway (b2bua.py over driver.py):
 #
 #   1. baresip with `mediaenc=srtp-mand` calls SIPp, which knows no SRTP and sends back each RTP packet;
-#   2. a baresip without SRTP calls one with `srtp-mand`, which answers by itself.
+#   2. a baresip without SRTP calls one with `srtp-mand`, which answers by itself;
+#   3. one with `srtp-mand` calls one without, and each holds and resumes in the middle of the call.
 #
 # Keys are agreed by crypto lines. It says what arrived where, and ends with 0 where each telephone heard the
-# samples that the other one played, in their order and without a gap.
+# samples that the other one played, in their order and without a gap; in the third call, where each took the
+# packets that the other one sent.
 #
 #   examples/live/baresip.sh                 with ./srtpgw, or with the program that SRTPGW names
 . "$(dirname "$0")/needs.sh"

@@ -25,8 +25,8 @@ class Refused(Exception):
 
 
 class Driver:
-    """Keeps calls, of numbers from 1. `drops` counts causes by port, `unsent` ports, and `slots` has the slot of each call.
-    `on_end(call, why)` is told of a call that ended by itself; it runs in a thread of the driver's."""
+    """Keeps calls, of numbers from 1. `drops` counts causes by port, `unsent` ports, and `slots` has the slot of each
+    call. `on_end(call, why)` is told of a call that ended by itself; it runs in a thread of the driver's."""
 
     def __init__(self, program="./srtpgw", on_end=lambda call, why: None, **options):
         self.gateway = Gateway(program, **options)

@@ -117,5 +117,6 @@ def told(name, sent, arrived, numbers=None):
     over = f", {len(numbers)} packets, numbers {numbers[0]} to {numbers[-1]}" if numbers else ""
     over += f" over {wraps} wrap" if wraps else ""
     over += "" if not numbers or steps else ", with gaps"
-    print(f"{name}: {len(sent)} octets sent, {len(arrived)} arrived{over}: {'the same' if same else 'NOT THE SAME'}", flush=True)
+    verdict = "the same" if same else "NOT THE SAME"
+    print(f"{name}: {len(sent)} octets sent, {len(arrived)} arrived{over}: {verdict}", flush=True)
     return same and (numbers is None or steps)

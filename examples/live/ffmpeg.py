@@ -12,8 +12,8 @@ FFMPEG = ["ffmpeg", "-hide_banner", "-loglevel", "fatal", "-nostdin"]
 def sender(audio, key):
     """Sends the octets of PCMU as they are, in packets of 160: with both heads and the tag these are 186."""
     return [*FFMPEG, "-re", "-f", "mulaw", "-ar", "8000", "-ac", "1", "-i", audio, "-c:a", "copy", "-f", "rtp",
-            "-payload_type", "0", "-seq", str(NEAR_WRAP), "-srtp_out_suite", key.suite, "-srtp_out_params", key.base64(),
-            f"srtp://127.0.0.1:{SECURE_RTP}?pkt_size=186"]
+            "-payload_type", "0", "-seq", str(NEAR_WRAP),
+            "-srtp_out_suite", key.suite, "-srtp_out_params", key.base64(), f"srtp://127.0.0.1:{SECURE_RTP}?pkt_size=186"]
 
 
 def receiver(audio, key):
@@ -22,7 +22,8 @@ def receiver(audio, key):
             f"m=audio {SECURE[1]} RTP/SAVP 0", f"a=crypto:1 {key.suite} inline:{key.base64()}", ""]
     description = audio.with_suffix(".sdp")
     description.write_text("\r\n".join(text))
-    return [*FFMPEG, "-protocol_whitelist", "file,udp,rtp,srtp", "-i", description, "-c:a", "copy", "-f", "mulaw", "-y", audio]
+    return [*FFMPEG, "-protocol_whitelist", "file,udp,rtp,srtp", "-i", description,
+            "-c:a", "copy", "-f", "mulaw", "-y", audio]
 
 
 if __name__ == "__main__":

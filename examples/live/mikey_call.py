@@ -67,8 +67,9 @@ def offered_by_the_telephone(driver, call):
     driver.offer_secure(call, text_of("alice", SECURE_MEDIA, session=[line_of(message)]))
     text = driver.answer(call, text_of("bob", PLAIN_MEDIA, SSRC_LINE))
     expected = exchange.response(GATEWAY, answered(exchange.entries, [GATEWAYS_SSRC]))
-    same = message_of(text) == expected
-    print(f"the telephone's message has {len(message)} octets, the gateway's response is {'as' if same else 'NOT AS'} expected")
+    if message_of(text) != expected:
+        raise ValueError("the gateway's response isn't the expected one")
+    print(f"the telephone's message has {len(message)} octets, the gateway's response is as expected")
     own, gateways = masters(exchange)
     return own, gateways
 

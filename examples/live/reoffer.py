@@ -36,12 +36,14 @@ class Telephone:
             yield self.sealing.seal(packet)
 
     def opens(self):
-        """What arrived, in its order."""
+        """What arrived, in its order, and under which of the gateway's keys how much did."""
         for datagram in self.end.packets:
-            found = next(((place, packet) for place, one in enumerate(self.opening) if (packet := one.open(datagram))), None)
-            if found:
-                self.counts[len(self.opening) - found[0]] += 1
-                yield found[1]
+            for number, opening in zip(range(len(self.opening), 0, -1), self.opening):
+                packet = opening.open(datagram)
+                if packet:
+                    self.counts[number] += 1
+                    yield packet
+                    break
 
 
 def new_master():

@@ -17,7 +17,8 @@ from ends import (
 SECONDS = 4
 CONTROL, FAR = ("127.0.0.1", 22_222), ("127.0.0.1", 45_000)
 OFFERED_HERE = ["AES_CM_128_HMAC_SHA1_80", "AES_256_CM_HMAC_SHA1_80"]
-OFFERED_THERE = [f"{cipher}_HMAC_SHA1_{tag}" for cipher in ("AES_CM_128", "AES_192_CM", "AES_256_CM") for tag in (80, 32)]
+CIPHERS = ("AES_CM_128", "AES_192_CM", "AES_256_CM")
+OFFERED_THERE = [f"{cipher}_HMAC_SHA1_{tag}" for cipher in CIPHERS for tag in (80, 32)]
 # All suites of rtpengine.
 KNOWN = OFFERED_THERE + [f"{name}_{tag}" for name in ("F8_128_HMAC_SHA1", "NULL_HMAC_SHA1") for tag in (80, 32)] + [
     "AEAD_AES_128_GCM", "AEAD_AES_256_GCM"]
@@ -66,7 +67,8 @@ class Far:
 
 
 def text_of(user, port, proto="RTP/AVP"):
-    lines = ["v=0", f"o={user} 1 1 IN IP4 127.0.0.1", "s=-", "c=IN IP4 127.0.0.1", "t=0 0", f"m=audio {port} {proto} 0", "a=sendrecv"]
+    lines = ["v=0", f"o={user} 1 1 IN IP4 127.0.0.1", "s=-", "c=IN IP4 127.0.0.1", "t=0 0", f"m=audio {port} {proto} 0",
+             "a=sendrecv"]
     return "".join(line + "\r\n" for line in lines)
 
 
@@ -86,7 +88,8 @@ def offered_here(driver, far, call, suite):
 
 def offered_there(driver, far, call, suite):
     """rtpengine offers one suite, and srtpgw answers with it."""
-    offer = far.ask("offer", call, text_of("far", FAR[1]), **but(suite), **{"from-tag": "far", "transport-protocol": "RTP/SAVP"})
+    wish = {"from-tag": "far", "transport-protocol": "RTP/SAVP"}
+    offer = far.ask("offer", call, text_of("far", FAR[1]), **but(suite), **wish)
     driver.offer_secure(call, offer)
     answer = driver.answer(call, text_of("near", PLAIN[1]))
     return port_of(far.ask("answer", call, answer, **{"from-tag": "far", "to-tag": "near"})), answer
@@ -127,13 +130,14 @@ def one_call(driver, far, call, keyed, suite):
 
 
 def main():
-    version = subprocess.run(["rtpengine", "--version"], stdout=subprocess.PIPE, stderr=subprocess.STDOUT, text=True).stdout
-    print("rtpengine", version.strip(), flush=True)
+    version = subprocess.run(["rtpengine", "--version"], stdout=subprocess.PIPE, stderr=subprocess.STDOUT, text=True)
+    print("rtpengine", version.stdout.strip(), flush=True)
     driver, good = Driver(program()), []
     with tempfile.TemporaryDirectory() as folder:
         far = Far(folder)
         try:
-            scenes = [(offered_here, suite) for suite in OFFERED_HERE] + [(offered_there, suite) for suite in OFFERED_THERE]
+            scenes = [(offered_here, suite) for suite in OFFERED_HERE]
+            scenes += [(offered_there, suite) for suite in OFFERED_THERE]
             for call, (keyed, suite) in enumerate(scenes, 1):
                 good.append(one_call(driver, far, call, keyed, suite))
         finally:
