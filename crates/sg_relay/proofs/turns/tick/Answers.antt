@@ -1,6 +1,6 @@
-use Rattle.std.proofs.Common.{[], subst, sym, refl}
+use Rattle.std.proofs.Common.{[], subst, sym, refl, arith}
 use Rattle.std.specs.Prelude.{Ok}
-use Rattle.std.proofs.lemmas.Bool.{cond-false, le-ltb}
+use Rattle.std.proofs.lemmas.Bool.{cond-false, cond-true, le-ltb, lt-ltb}
 use Rattle.sg_edge.proofs.Links.{added_none}
 use Rattle.sg_edge.proofs.Passed.{wrote_none}
 use Rattle.sg_table.specs.Standing.{TableStandsFor}
@@ -16,3 +16,14 @@ returns-then-moment-top-clause-handled g c = λ w stands. (
   wrote_none _,
   subst (λ es. AreHandled {T = Unit {0}} (Ok tt) w es (TableStandsFor c.args.table.now) [] []) (sym (cond-false _ _ _ (le-ltb c.args.top.now c.args.moment c.if-moment-top.true))) (done_none, tt, refl, stands),
 )
+
+pub returns-clause-handled : goal.returns-clause-handled
+returns-clause-handled g c = λ w stands.
+    let told = c.obey.ensures.handled w stands in (
+      told.0,
+      told.1,
+      told.2,
+      told.3,
+      subst (λ es. AreHandled c.obey.result w es (TableStandsFor c.obey.new.table) told.0 told.1)
+      (sym (cond-true _ _ _ (lt-ltb c.args.top.now c.args.moment (omega (arith, c.if-moment-top.false))))) told.4,
+    )
