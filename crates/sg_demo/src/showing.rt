@@ -40,6 +40,7 @@ pub fn demo<R: Threads + Sync, K: Sink, G: Gate + Sync>(
 }
 
 /// Writes the lines of a demonstration's numbers, once it is over.
+#[tactic(auto, using(sg_course::proofs::Writings::none_written))]
 fn write_numbers<R: Threads + Sync, K: Sink, G: Gate + Sync>(
     rt: &R,
     alloc: Global,
@@ -55,10 +56,17 @@ fn write_numbers<R: Threads + Sync, K: Sink, G: Gate + Sync>(
     ensures written { IsWritten result (K.written sink.old) (K.written sink.new) (lines.summary_text (demonstration calls start)) }
     ensures cause { IsCaused Status.Write result (K.faults sink.old) (K.faults sink.new) (K.failed sink.new) }
 {
-    let mut table = Table::make(alloc).map_err(|_| Status::NoMemory)?;
-    let summary = traffic(rt, alloc, calls, start, &mut table, workers, gate).map_err(
-        |_| Status::NoMemory,
-    )?;
-    let text = summary_text(alloc, &summary).map_err(|_| Status::NoMemory)?;
-    write_all(sink, text.as_slice()).map_err(|_| Status::Write)
+    let Ok(mut table) = Table::make(alloc) else {
+        return Err(Status::NoMemory);
+    };
+    let Ok(summary) = traffic(rt, alloc, calls, start, &mut table, workers, gate) else {
+        return Err(Status::NoMemory);
+    };
+    let Ok(text) = summary_text(alloc, &summary) else {
+        return Err(Status::NoMemory);
+    };
+    match write_all(sink, text.as_slice()) {
+        Ok(()) => Ok(()),
+        Err(_) => Err(Status::Write),
+    }
 }

@@ -195,19 +195,28 @@ fn sends_and_receives_that_fail(rt: HostRuntime) -> Result<(), Fail> {
 fn turns_and_readings(rt: HostRuntime) -> Result<(), Fail> {
     let a = rt.alloc();
     let told = "made 1 0 1\nlive 1\n";
-    let mut given = TWICE;
-    given.datagrams = &[];
-    given.readings = &[0, 0, 0, 0];
-    tells(&rt, a, given, Status::TurnsSpent, told)?;
-    given.readings = &[0, 1000];
-    given.turns = 1;
-    tells(&rt, a, given, Status::Done, told)?;
-    given.script = "srtpgw 1\ntick 01\n";
+    let waits = Given {
+        datagrams: &[],
+        readings: &[0, 0, 0, 0],
+        ..TWICE
+    };
+    tells(&rt, a, waits, Status::TurnsSpent, told)?;
+    let once = Given {
+        datagrams: &[],
+        readings: &[0, 1000],
+        turns: 1,
+        ..TWICE
+    };
+    tells(&rt, a, once, Status::Done, told)?;
+    let faulty = Given {
+        script: "srtpgw 1\ntick 01\n",
+        ..once
+    };
     let fault = Status::Script {
         line: 2,
         fault: sg_base::ScriptFault::Number,
     };
-    tells(&rt, a, given, fault, "")
+    tells(&rt, a, faulty, fault, "")
 }
 
 /// The packets that were sent, with their ports and addresses.

@@ -18,7 +18,7 @@ returns-in-Err-clause-handled g c = λ w stands.
       done.2,
       done.3,
       subst (λ r. AreHandled r w es (TableStandsFor c.datagram-handled.new.self) done.0 done.1) c.in-Err.is
-      (handled_told c.pass_on.result w es (TableStandsFor c.datagram-handled.new.self) os done.0 done.1 done.4 told.told told.stands),
+          (handled_told c.pass_on.result w es (TableStandsFor c.datagram-handled.new.self) os done.0 done.1 done.4 told.told told.stands),
     )
 
 pub returns-in-Ok-clause-handled : goal.returns-in-Ok-clause-handled
@@ -32,5 +32,5 @@ returns-in-Ok-clause-handled g c = λ w stands.
       done.2,
       done.3,
       subst (λ r. AreHandled r w es (TableStandsFor c.datagram-handled.new.self) done.0 done.1) c.in-Ok.is
-      (handled_told c.pass_on.result w es (TableStandsFor c.datagram-handled.new.self) os done.0 done.1 done.4 told.told told.stands),
+          (handled_told c.pass_on.result w es (TableStandsFor c.datagram-handled.new.self) os done.0 done.1 done.4 told.told told.stands),
     )

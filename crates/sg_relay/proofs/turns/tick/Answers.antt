@@ -25,5 +25,5 @@ returns-clause-handled g c = λ w stands.
       told.2,
       told.3,
       subst (λ es. AreHandled c.obey.result w es (TableStandsFor c.obey.new.table) told.0 told.1)
-      (sym (cond-true _ _ _ (lt-ltb c.args.top.now c.args.moment (omega (arith, c.if-moment-top.false))))) told.4,
+          (sym (cond-true _ _ _ (lt-ltb c.args.top.now c.args.moment (omega (arith, c.if-moment-top.false))))) told.4,
     )
