@@ -1,4 +1,4 @@
-//! What the gateway runs on beside the reference: the same numbers, packets and scripts, and the same answers.
+//! What the gateway runs on beside the reference: the same numbers and packets, and the same answers.
 #![tactic(auto)]
 
 mod dice;

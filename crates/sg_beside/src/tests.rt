@@ -1,5 +1,4 @@
-//! The ring, the sides and the table beside those of the reference.
+//! The ring and the sides beside those of the reference.
 
 mod ring;
-mod scripts;
 mod sides;
