@@ -51,7 +51,7 @@ not_relayed turns old = record {
     read = added_none old.readings;
     drew = added_none old.drawn;
     ends = record {
-      part = record { told = []; of_outcomes = refl; asked = ([], refl); sent = ([], refl); written = ([], refl) };
+      part = record { told = []; of_outcomes = refl; asked = ([], refl); sent = ([], refl, tt); written = ([], refl) };
       good = tt;
     };
     bound = omega arith;
