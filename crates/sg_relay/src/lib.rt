@@ -4,8 +4,6 @@
 mod lines;
 mod relaying;
 mod telling;
-#[cfg(test)]
-mod tests;
 mod turns;
 
 pub use relaying::relay;

@@ -1,8 +1,6 @@
 //! The top call: a command's words, and what it is given of the outside.
 #![tactic(auto)]
 
-#[cfg(test)]
-mod tests;
 mod top;
 
 pub use sg_course::Status;
