@@ -4,8 +4,6 @@
 
 mod arrival;
 mod batch;
-#[cfg(test)]
-mod batch_tests;
 mod calls;
 mod delivery;
 mod ends;
@@ -15,8 +13,6 @@ mod places;
 mod ports;
 mod signals;
 mod table;
-#[cfg(test)]
-mod tests;
 mod told;
 
 pub use arrival::Arrival;
