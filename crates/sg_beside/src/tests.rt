@@ -1,4 +1,6 @@
-//! The ring and the sides beside those of the reference.
+//! The reference over values from outside, and the ring and the sides beside it; the plan of ports.
 
+mod ports;
+mod reference;
 mod ring;
 mod sides;

@@ -8,8 +8,6 @@ mod making;
 mod pass;
 mod path;
 mod state;
-#[cfg(test)]
-mod tests;
 
 pub use call::Call;
 pub use handled::{End, Handled};

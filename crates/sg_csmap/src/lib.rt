@@ -9,7 +9,3 @@ mod sessions;
 pub use faults::CsError;
 pub use sessions::{StreamKeys, streams};
 
-#[cfg(test)]
-mod rows;
-#[cfg(test)]
-mod tests;

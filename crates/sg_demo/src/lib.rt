@@ -11,8 +11,6 @@ mod round;
 mod showing;
 mod state;
 mod summary;
-#[cfg(test)]
-mod tests;
 mod text;
 mod words;
 

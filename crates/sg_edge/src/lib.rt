@@ -13,8 +13,6 @@ mod sink;
 mod source;
 mod standard;
 mod sure;
-#[cfg(test)]
-mod tests;
 mod udp;
 mod wall_clock;
 

@@ -10,6 +10,3 @@ pub use laws::{
     nothing_within_reach_lost, refusals_change_nothing, what_is_sealed_goes_out,
 };
 pub use ports::{is_same_ip, leg_of, next_port, port_at};
-
-#[cfg(test)]
-mod tests;

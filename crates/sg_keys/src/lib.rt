@@ -10,12 +10,8 @@ mod live_key;
 mod part;
 mod prepared_key;
 mod ring;
-#[cfg(test)]
-mod ring_tests;
 mod search;
 mod spec;
-#[cfg(test)]
-mod tests;
 
 pub use key_set::{KeySet, OpenKeyFault, Spent};
 pub use live_key::LiveKey;

@@ -1,8 +1,6 @@
 //! What an offer and its answer leave of a call, in states whose calls use them up (RFC 3264).
 #![tactic(auto)]
 
-#[cfg(test)]
-mod answer_tests;
 mod answering;
 mod attributes;
 mod books;
@@ -19,8 +17,6 @@ mod noting;
 mod offered;
 mod replying;
 mod settling;
-#[cfg(test)]
-mod tests;
 
 pub use books::Books;
 pub use idle::Idle;

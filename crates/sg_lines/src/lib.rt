@@ -8,8 +8,6 @@ mod laws;
 mod line_printing;
 mod lines;
 pub mod reading;
-#[cfg(test)]
-mod tests;
 
 pub use faults::{ReadLineFault, WORD};
 pub use laws::{lines_are_framed, lines_have_one_spelling};

@@ -8,8 +8,6 @@ mod opening;
 mod outbound;
 mod seal_side;
 mod sealing;
-#[cfg(test)]
-mod side_tests;
 mod stream;
 mod streams;
 

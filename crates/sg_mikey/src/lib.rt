@@ -22,5 +22,3 @@ pub use policy::Policy;
 pub use printing::print;
 pub use reading::read;
 
-#[cfg(test)]
-mod tests;

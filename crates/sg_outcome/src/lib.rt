@@ -7,8 +7,6 @@ mod outcome_names;
 mod outcome_reading;
 mod outcomes;
 mod printing;
-#[cfg(test)]
-mod tests;
 
 pub use laws::outcomes_have_one_spelling;
 pub use outcome_reading::read_outcome;

@@ -2,8 +2,6 @@
 #![tactic(auto)]
 
 mod peer;
-#[cfg(test)]
-mod tests;
 
 pub use peer::Peer;
 pub use sg_media::{Opened, Sealed};

@@ -21,7 +21,3 @@ pub use pairs::{Pair, PskBook};
 pub use replays::{Noted, ReplayBook};
 pub use sending::{Waiting, initiate, read_response, respond};
 
-#[cfg(test)]
-mod rows;
-#[cfg(test)]
-mod tests;

@@ -14,8 +14,6 @@ mod ring;
 mod sealing;
 mod session;
 mod table;
-#[cfg(test)]
-mod tests;
 mod texts;
 
 pub use call::{Passage, ReferenceCall};

@@ -2,8 +2,6 @@
 //! users know them. The lines of scripts are `sg_lines`'s, the outcomes `sg_outcome`'s.
 #![tactic(auto)]
 
-#[cfg(test)]
-mod tests;
 
 pub use sg_base::ScriptFault;
 pub use sg_lines::{Line, ReadLineFault, Signal, print_line, read_line};

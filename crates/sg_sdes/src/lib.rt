@@ -11,8 +11,6 @@ mod lines;
 mod parameters;
 mod printing;
 mod reading;
-#[cfg(test)]
-mod tests;
 mod words;
 
 pub use answers::{answer_line, choose, match_answer, offer_lines};

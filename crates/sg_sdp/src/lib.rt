@@ -23,5 +23,3 @@ pub use medium::{Medium, Profile};
 pub use reading::read;
 pub use sdp::Sdp;
 
-#[cfg(test)]
-mod tests;

@@ -5,8 +5,6 @@ mod command;
 mod line;
 mod reading;
 mod spelling;
-#[cfg(test)]
-mod tests;
 
 pub use command::{Command, CommandFault};
 pub use reading::read_command;

@@ -1,0 +1,377 @@
+ghost use Rattle.std.specs.Prelude.{◌≡◌, IfOk};
+
+use sg_base::{Address, Failed, Octets, PAD_MOST, Pad};
+use sg_edge::{
+    Clock, Kept, Link, MemClock, MemLink, MemNoise, MemSink, MemSource, Noise, Receipt, RngNoise,
+    Sink, Source, StdSink, StdSource, SureClock, SureLink, SureNoise, SureSink, SureSource,
+    SystemRng, UdpLink, WallClock, write_all,
+};
+use std::io;
+use std::io::{ErrorKind, Read, Write};
+use std::net::{Ipv4Addr, SocketAddr, SocketAddrV4, UdpSocket};
+use std::random::RandomSource;
+use std::test::Fail;
+
+/// A reader and writer whose every call fails in this way, or takes and gives nothing.
+#[derive(Drop)]
+struct Broken {
+    kind: Option<ErrorKind>,
+}
+
+impl Broken {
+    fn answer(&self) -> io::Result<usize>
+        ensures { IfOk result (λ n. n ≡ 0) }
+    {
+        match self.kind {
+            Some(kind) => Err(io::Error::from(kind)),
+            None => Ok(0),
+        }
+    }
+}
+
+impl Read for Broken {
+    fn read(&mut self, _: &mut [u8]) -> io::Result<usize> {
+        self.answer()
+    }
+}
+
+impl Write for Broken {
+    fn write(&mut self, _: &[u8]) -> io::Result<usize> {
+        self.answer()
+    }
+
+    fn flush(&mut self) -> io::Result<()> {
+        Ok(())
+    }
+}
+
+/// A reader that gives one octet, and a writer that takes one, in every third call; the other two are
+/// interrupted and would have to wait.
+#[derive(Drop)]
+struct Halting<'a> {
+    calls: u64,
+    octets: &'a mut Vec<u8>,
+}
+
+impl Halting<'_> {
+    /// Whether this call passes an octet.
+    fn turn(&mut self) -> io::Result<()> {
+        self.calls = self.calls.saturating_add(1);
+        match self.calls % 3 {
+            1 => Err(io::Error::from(ErrorKind::Interrupted)),
+            2 => Err(io::Error::from(ErrorKind::WouldBlock)),
+            _ => Ok(()),
+        }
+    }
+}
+
+impl Read for Halting<'_> {
+    fn read(&mut self, buf: &mut [u8]) -> io::Result<usize> {
+        self.turn()?;
+        match (buf.is_empty(), self.octets.pop()) {
+            (false, Some(octet)) => {
+                buf[0] = octet;
+                Ok(1)
+            }
+            _ => Ok(0),
+        }
+    }
+}
+
+impl Write for Halting<'_> {
+    fn write(&mut self, buf: &[u8]) -> io::Result<usize> {
+        self.turn()?;
+        if buf.is_empty() {
+            return Ok(0);
+        }
+        self.octets.push(buf[0])?;
+        Ok(1)
+    }
+
+    fn flush(&mut self) -> io::Result<()> {
+        Ok(())
+    }
+}
+
+/// The answer of one read of at most four octets: the octets, or none where it failed.
+fn one_read<S: Source>(source: &mut S) -> Option<([u8; 4], usize)> {
+    let mut part = [0; 4];
+    let count = source.read(&mut part).ok()?;
+    Some((part, count))
+}
+
+#[test]
+fn source_in_memory(rt: HostRuntime) -> Result<(), Fail> {
+    let octets = Octets::copy_of(rt.alloc(), b"abcdef")?;
+    let mut source = MemSource::make(octets, [2].to_vec(rt.alloc())?);
+    assert_eq!(rt; one_read(&mut source), Some((*b"abcd", 4)));
+    assert_eq!(rt; one_read(&mut source), None);
+    assert_eq!(rt; one_read(&mut source), Some((*b"ef\0\0", 2)));
+    assert_eq!(rt; one_read(&mut source), Some(([0; 4], 0)));
+    let octets = Octets::copy_of(rt.alloc(), b"ab")?;
+    let mut slow = MemSource::limited(octets, 1, [1, 3].to_vec(rt.alloc())?);
+    assert_eq!(rt; one_read(&mut slow), None);
+    assert_eq!(rt; one_read(&mut slow), Some((*b"a\0\0\0", 1)));
+    assert_eq!(rt; one_read(&mut slow), None);
+    assert_eq!(rt; one_read(&mut slow), Some((*b"b\0\0\0", 1)));
+    Ok(())
+}
+
+#[test]
+fn sink_in_memory(rt: HostRuntime) -> Result<(), Fail> {
+    let mut sink = MemSink::make(rt.alloc(), [2].to_vec(rt.alloc())?);
+    assert_eq!(rt; write_all(&mut sink, b"abc"), Ok(()));
+    assert_eq!(rt; write_all(&mut sink, b"def"), Err(Failed));
+    assert_eq!(rt; write_all(&mut sink, b"ghi"), Ok(()));
+    assert_eq!(rt; sink.written(), Some(b"abcghi".as_slice()));
+    let mut slow = MemSink::limited(rt.alloc(), 1, [3].to_vec(rt.alloc())?);
+    assert_eq!(rt; write_all(&mut slow, b"abc"), Err(Failed));
+    assert_eq!(rt; slow.written(), Some(b"ab".as_slice()));
+    assert_eq!(rt; slow.write(b"xyz"), Ok(1));
+    Ok(())
+}
+
+#[test]
+fn sure_forms(rt: HostRuntime) -> Result<(), Fail> {
+    let mut source = SureSource::make(Octets::copy_of(rt.alloc(), b"abcde")?);
+    assert_eq!(rt; one_read(&mut source), Some((*b"abcd", 4)));
+    assert_eq!(rt; one_read(&mut source), Some((*b"e\0\0\0", 1)));
+    assert_eq!(rt; one_read(&mut source), Some(([0; 4], 0)));
+    let mut sink = SureSink::make(rt.alloc());
+    assert_eq!(rt; write_all(&mut sink, b"abc"), Ok(()));
+    assert_eq!(rt; sink.write(b"de"), Ok(2));
+    assert_eq!(rt; sink.written(), Some(b"abcde".as_slice()));
+    Ok(())
+}
+
+#[test]
+fn forms_of_the_system(rt: HostRuntime) -> Result<(), Fail> {
+    let mut source = StdSource::make(b"abcde".as_slice());
+    assert_eq!(rt; one_read(&mut source), Some((*b"abcd", 4)));
+    assert_eq!(rt; one_read(&mut source), Some((*b"e\0\0\0", 1)));
+    assert_eq!(rt; one_read(&mut source), Some(([0; 4], 0)));
+    let mut octets = Vec::new(rt.alloc());
+    {
+        let mut sink = StdSink::make(&mut octets);
+        assert_eq!(rt; write_all(&mut sink, b"abc"), Ok(()));
+    }
+    assert_eq!(rt; octets.as_slice(), b"abc".as_slice());
+    let kind = Some(ErrorKind::BrokenPipe);
+    assert_eq!(rt; one_read(&mut StdSource::make(Broken { kind })), None);
+    for kind in [kind, None] {
+        let mut sink = StdSink::make(Broken { kind });
+        assert_eq!(rt; write_all(&mut sink, b"abc"), Err(Failed));
+    }
+    Ok(())
+}
+
+#[test]
+fn calls_made_again(rt: HostRuntime) -> Result<(), Fail> {
+    let mut octets = Vec::new(rt.alloc());
+    {
+        let mut sink = StdSink::make(Halting {
+            calls: 0,
+            octets: &mut octets,
+        });
+        assert_eq!(rt; write_all(&mut sink, b"abc"), Ok(()));
+    }
+    assert_eq!(rt; octets.as_slice(), b"abc".as_slice());
+    let mut source = StdSource::make(Halting {
+        calls: 0,
+        octets: &mut octets,
+    });
+    assert_eq!(rt; one_read(&mut source), Some((*b"c\0\0\0", 1)));
+    assert_eq!(rt; one_read(&mut source), Some((*b"b\0\0\0", 1)));
+    Ok(())
+}
+
+const PEER: Address = Address {
+    ip: [127, 0, 0, 1],
+    port: 40000,
+};
+
+/// What is to come: a datagram of three octets, nothing, and one of 5,000 octets.
+fn receipts(rt: &HostRuntime) -> Result<Vec<Option<(u16, Address, Octets)>>, Fail> {
+    let mut receipts = Vec::new(rt.alloc());
+    receipts.push(Some((20000, PEER, Octets::copy_of(rt.alloc(), b"abc")?)))?;
+    receipts.push(None)?;
+    let long = vec![in rt.alloc(); 7u8; 5000]?;
+    receipts.push(Some((20002, PEER, Octets::from_vec(long))))?;
+    Ok(receipts)
+}
+
+fn got(port: u16, from: Address) -> Result<Receipt, Failed> {
+    Ok(Receipt::Got { port, from })
+}
+
+/// The send at a position of what the link was asked: its port, where to, and whether it went well.
+fn sent_at(link: &MemLink, at: usize) -> Option<(u16, Address, bool)> {
+    let calls = link.calls()?;
+    match calls.get(at)? {
+        Kept::Sent { port, to, ok, .. } => Some((*port, *to, *ok)),
+        _ => None,
+    }
+}
+
+#[test]
+fn link_in_memory(rt: HostRuntime) -> Result<(), Fail> {
+    let mut link = MemLink::make(rt.alloc(), receipts(&rt)?, [2, 5, 7].to_vec(rt.alloc())?);
+    let mut pad = Pad::make(rt.alloc())?;
+    assert_eq!(rt; link.bind(20000), Ok(()));
+    assert_eq!(rt; link.receive(&mut pad), Err(Failed));
+    assert_eq!(rt; link.receive(&mut pad), got(20000, PEER));
+    assert_eq!(rt; pad.octets(), b"abc".as_slice());
+    assert_eq!(rt; link.receive(&mut pad), Ok(Receipt::Nothing));
+    assert_eq!(rt; link.send(20002, PEER, b"xy"), Err(Failed));
+    assert_eq!(rt; link.send(20002, PEER, b"xy"), Ok(()));
+    assert_eq!(rt; link.unbind(20000), Err(Failed));
+    assert_eq!(rt; link.calls().map(|calls| calls.len()), Some(7));
+    assert_eq!(rt; sent_at(&link, 5), Some((20002, PEER, true)));
+    assert_eq!(rt; link.receive(&mut pad), got(20002, PEER));
+    assert_eq!(rt; pad.octets().len(), PAD_MOST);
+    assert_eq!(rt; link.receive(&mut pad), Ok(Receipt::Nothing));
+    Ok(())
+}
+
+#[test]
+fn sure_link(rt: HostRuntime) -> Result<(), Fail> {
+    let mut link = SureLink::make(rt.alloc(), receipts(&rt)?);
+    let mut pad = Pad::make(rt.alloc())?;
+    assert_eq!(rt; link.bind(20000), Ok(()));
+    assert_eq!(rt; link.receive(&mut pad), got(20000, PEER));
+    assert_eq!(rt; link.receive(&mut pad), Ok(Receipt::Nothing));
+    assert_eq!(rt; link.receive(&mut pad), got(20002, PEER));
+    assert_eq!(rt; link.receive(&mut pad), Ok(Receipt::Nothing));
+    assert_eq!(rt; link.send(20002, PEER, b"xy"), Ok(()));
+    assert_eq!(rt; link.unbind(20000), Ok(()));
+    Ok(())
+}
+
+/// Two octets of noise; none where the draw failed.
+fn one_draw<N: Noise>(noise: &mut N) -> Option<[u8; 2]> {
+    let mut part = [1; 2];
+    noise.draw(&mut part).ok()?;
+    Some(part)
+}
+
+#[test]
+fn clocks_and_noise_in_memory(rt: HostRuntime) -> Result<(), Fail> {
+    let readings = [5, 3].to_vec(rt.alloc())?;
+    let mut clock = MemClock::make(readings, [2].to_vec(rt.alloc())?);
+    for reading in [Ok(5), Err(Failed), Ok(3), Ok(3)] {
+        assert_eq!(rt; clock.now(), reading);
+    }
+    let mut sure = SureClock::make([7].to_vec(rt.alloc())?);
+    assert_eq!(rt; sure.now(), Ok(7));
+    assert_eq!(rt; sure.now(), Ok(7));
+    assert_eq!(rt; SureClock::make(Vec::new(rt.alloc())).now(), Ok(0));
+    let octets = Octets::copy_of(rt.alloc(), b"abc")?;
+    let mut noise = MemNoise::make(octets, [2].to_vec(rt.alloc())?);
+    for drawn in [Some(*b"ab"), None, Some(*b"c\0"), Some([0; 2])] {
+        assert_eq!(rt; one_draw(&mut noise), drawn);
+    }
+    let mut sure = SureNoise::make(Octets::copy_of(rt.alloc(), b"xyz")?);
+    assert_eq!(rt; one_draw(&mut sure), Some(*b"xy"));
+    assert_eq!(rt; one_draw(&mut sure), Some(*b"z\0"));
+    Ok(())
+}
+
+/// A socket of the system at a port of its own, and that port.
+fn socket_of_its_own(rt: &HostRuntime) -> Result<(UdpSocket, Address), Fail> {
+    let any = SocketAddr::V4(SocketAddrV4::new(Ipv4Addr::new(127, 0, 0, 1), 0));
+    let socket = UdpSocket::bind(rt, any)?;
+    let port = socket.local_addr()?.port();
+    Ok((socket, at_home(port)))
+}
+
+fn at_home(port: u16) -> Address {
+    let ip = [127, 0, 0, 1];
+    Address { ip, port }
+}
+
+/// Binds a port of the link's own, which the system gave a moment before.
+fn bind_one<L: Link>(rt: &HostRuntime, link: &mut L) -> Result<Address, Fail> {
+    for _ in 0..100 {
+        let (socket, home) = socket_of_its_own(rt)?;
+        drop(socket);
+        if link.bind(home.port).is_ok() {
+            return Ok(home);
+        }
+    }
+    Err(Fail::from(io::Error::from(ErrorKind::AddrInUse)))
+}
+
+/// The next datagram, for which the link is asked up to a thousand times.
+fn next_receipt<L: Link>(link: &mut L, pad: &mut Pad) -> Result<Receipt, Failed> {
+    for _ in 0..1000 {
+        match link.receive(pad) {
+            Ok(Receipt::Nothing) => {}
+            receipt => return receipt,
+        }
+    }
+    Ok(Receipt::Nothing)
+}
+
+#[test]
+fn datagrams_of_the_system(rt: HostRuntime) -> Result<(), Fail> {
+    let mut link = UdpLink::make(rt.alloc(), &rt)?;
+    let mut pad = Pad::make(rt.alloc())?;
+    let near = bind_one(&rt, &mut link)?;
+    let far = bind_one(&rt, &mut link)?;
+    assert_eq!(rt; link.receive(&mut pad), Ok(Receipt::Nothing));
+    for octets in [b"first".as_slice(), b"", b"third"] {
+        assert_eq!(rt; link.send(near.port, far, octets), Ok(()));
+        assert_eq!(rt; next_receipt(&mut link, &mut pad), got(far.port, near));
+        assert_eq!(rt; pad.octets(), octets);
+    }
+    let (socket, home) = socket_of_its_own(&rt)?;
+    let long = vec![in rt.alloc(); 9u8; 65507]?;
+    let to = SocketAddr::V4(SocketAddrV4::new(Ipv4Addr::new(127, 0, 0, 1), near.port));
+    assert_eq!(rt; socket.send_to(&long, to)?, 65507);
+    assert_eq!(rt; next_receipt(&mut link, &mut pad), got(near.port, home));
+    assert_eq!(rt;
+        pad.octets(),
+        vec![in rt.alloc(); 9u8; PAD_MOST]?.as_slice()
+    );
+    assert_eq!(rt; link.receive(&mut pad), Ok(Receipt::Nothing));
+    Ok(())
+}
+
+#[test]
+fn ports_of_the_system(rt: HostRuntime) -> Result<(), Fail> {
+    let mut link = UdpLink::make(rt.alloc(), &rt)?;
+    let (_socket, taken) = socket_of_its_own(&rt)?;
+    assert_eq!(rt; link.bind(taken.port), Err(Failed));
+    let home = bind_one(&rt, &mut link)?;
+    assert_eq!(rt; link.bind(home.port), Err(Failed));
+    assert_eq!(rt; link.unbind(home.port), Ok(()));
+    assert_eq!(rt; link.unbind(home.port), Ok(()));
+    assert_eq!(rt; link.send(home.port, taken, b"x"), Err(Failed));
+    for _ in 0..1200 {
+        let home = bind_one(&rt, &mut link)?;
+        assert_eq!(rt; link.unbind(home.port), Ok(()));
+    }
+    Ok(())
+}
+
+/// A random source that fails.
+#[derive(Drop)]
+struct Dry;
+
+impl RandomSource for Dry {
+    fn fill_bytes(&self, _: &mut [u8]) -> io::Result<()> {
+        Err(io::Error::from(ErrorKind::Unsupported))
+    }
+}
+
+#[test]
+fn time_and_noise_of_the_system(rt: HostRuntime) -> Result<(), Fail> {
+    let mut clock = WallClock::make(&rt);
+    assert!(rt; clock.now().unwrap_or(0) > 1_600_000_000_000);
+    let mut noise = RngNoise::make(SystemRng(&rt));
+    let mut part = [0; 304];
+    assert_eq!(rt; noise.draw(&mut part), Ok(()));
+    assert!(rt; part != [0; 304]);
+    assert_eq!(rt; one_draw(&mut RngNoise::make(SystemRng(Dry))), None);
+    Ok(())
+}

@@ -1,0 +1,18 @@
+//! Tests of MIKEY exchanges and crypto sessions, of legs and of calls. They stand in a crate of their own, since a
+//! crate with tests is proved twice.
+#![tactic(auto)]
+
+#[cfg(test)]
+mod answers;
+#[cfg(test)]
+mod calls;
+#[cfg(test)]
+mod crypto_sessions;
+#[cfg(test)]
+mod exchange_rows;
+#[cfg(test)]
+mod exchanges;
+#[cfg(test)]
+mod legs;
+#[cfg(test)]
+mod session_rows;

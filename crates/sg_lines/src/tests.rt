@@ -1,3 +1,0 @@
-//! The tests, by what they try.
-
-mod lines;

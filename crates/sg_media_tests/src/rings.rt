@@ -1,0 +1,145 @@
+//! The ring: no key twice, all or none, up to 65,536 keys.
+
+use sg_base::{CipherKey, HalfKeys, MasterKey, SessionKeys, Suite};
+use sg_kdf::derive;
+use sg_keys::{Ring, RingFault};
+use std::test::Fail;
+
+/// A master key with its session keys.
+fn derived(master: MasterKey) -> (MasterKey, SessionKeys) {
+    let keys = derive(&master);
+    (master, keys)
+}
+
+/// A key of this suite whose key octets and salt octets are these.
+fn filled(suite: Suite, octet: u8, salt: u8) -> Result<(MasterKey, SessionKeys), Fail> {
+    let mut octets = [octet; 46];
+    let count = suite.key_len();
+    octets[count..].fill(salt);
+    let all = count + suite.salt_len();
+    let master = MasterKey::new(suite, &octets[..all]).ok_or("length")?;
+    Ok(derived(master))
+}
+
+/// A raw key whose octets are this number, the highest first.
+fn numbered(number: u32) -> Result<(MasterKey, SessionKeys), Fail> {
+    let mut octets = [0; 20];
+    octets[16..].copy_from_slice(&number.to_be_bytes());
+    let master = MasterKey::new(Suite::Raw80, &octets).ok_or("length")?;
+    Ok(derived(master))
+}
+
+#[test]
+fn a_key_comes_into_use_once(rt: HostRuntime) -> Result<(), Fail> {
+    use Suite::{Cm128Tag80, Cm256Tag80, Raw80};
+    let mut ring = Ring::make(rt.alloc());
+    // A suite, the octet of the key and that of the salt, and the answer. Another salt makes no other
+    // key, and neither does another tag or, at raw keys, the lack of a cipher.
+    for (suite, octet, salt, answer) in [
+        (Cm128Tag80, 1, 1, Ok(0)),
+        (Cm128Tag80, 2, 1, Ok(1)),
+        (Raw80, 1, 0, Ok(2)),
+        (Cm128Tag80, 1, 1, Err(0)),
+        (Cm128Tag80, 2, 5, Err(1)),
+        (Suite::Cm128Tag32, 2, 5, Err(1)),
+        (Raw80, 1, 0, Err(2)),
+        (Cm256Tag80, 1, 1, Ok(3)),
+        (Cm256Tag80, 1, 2, Err(3)),
+    ] {
+        let told = ring.install_all(&[filled(suite, octet, salt)?]);
+        let wanted = answer.map_err(|number| RingFault::KeyReused { number });
+        assert_eq!(rt; told, wanted, "{suite:?} {octet} {salt}");
+    }
+    assert_eq!(rt; ring.count(), 4);
+    Ok(())
+}
+
+// All or none: a key of the same refused list counts with the number that it would have got.
+#[test]
+fn a_refused_list_leaves_the_ring(rt: HostRuntime) -> Result<(), Fail> {
+    let mut ring = Ring::make(rt.alloc());
+    let first = [numbered(10)?, numbered(11)?];
+    assert_eq!(rt; ring.install_all(&first), Ok(0));
+    let twice = [numbered(12)?, numbered(13)?, numbered(13)?];
+    assert_eq!(rt;
+        ring.install_all(&twice),
+        Err(RingFault::KeyReused { number: 3 })
+    );
+    let old = [numbered(14)?, numbered(11)?];
+    assert_eq!(rt;
+        ring.install_all(&old),
+        Err(RingFault::KeyReused { number: 1 })
+    );
+    assert_eq!(rt; ring.count(), 2);
+    let none = [numbered(14)?, numbered(13)?, numbered(12)?];
+    assert_eq!(rt; ring.install_all(&none), Ok(2));
+    assert_eq!(rt; ring.install_all(&[]), Ok(5));
+    Ok(())
+}
+
+// The highest number comes first, until the ring is full.
+#[test]
+fn a_ring_is_full(rt: HostRuntime) -> Result<(), Fail> {
+    let mut ring = Ring::make(rt.alloc());
+    for position in 0..65536u32 {
+        let told = ring.install_all(&[numbered(65535 - position)?]);
+        assert_eq!(rt; told, Ok(position));
+    }
+    let more = ring.install_all(&[numbered(65536)?]);
+    assert_eq!(rt; more, Err(RingFault::RingFull));
+    for position in [7, 0, 65535] {
+        let told = ring.install_all(&[numbered(70000)?, numbered(65535 - position)?]);
+        assert_eq!(rt; told, Err(RingFault::KeyReused { number: position }));
+    }
+    assert_eq!(rt; ring.install_all(&[]), Ok(65536));
+    assert_eq!(rt; ring.count(), 65536);
+    Ok(())
+}
+
+/// Session keys whose encryption key is filled with this octet; none of it at 0.
+fn half(octet: u8) -> HalfKeys {
+    let count = if octet == 0 { 0 } else { 16 };
+    HalfKeys {
+        encrypt: CipherKey::new(&[octet; 16][..count]),
+        auth: [0; 20],
+        salt: [0; 14],
+    }
+}
+
+/// A master key filled with an octet, beside encryption keys that aren't derived of it.
+fn given(master: u8, rtp: u8, rtcp: u8) -> Result<(MasterKey, SessionKeys), Fail> {
+    let master = MasterKey::new(Suite::Cm128Tag80, &[master; 30]).ok_or("length")?;
+    let keys = SessionKeys {
+        rtp: half(rtp),
+        rtcp: half(rtcp),
+    };
+    Ok((master, keys))
+}
+
+// Encryption keys are compared as they are given, those of RTP with those of RTCP too (RFC 3711, 9.1). A
+// key whose own two are equal gets its own number told, behind whatever else it clashes with.
+#[test]
+fn compares_the_keys_that_it_is_given(rt: HostRuntime) -> Result<(), Fail> {
+    let mut ring = Ring::make(rt.alloc());
+    let taken = [given(1, 11, 12)?, given(2, 13, 14)?, given(3, 0, 0)?];
+    assert_eq!(rt; ring.install_all(&taken), Ok(0));
+    // The octets of a master key and of its two encryption keys, and the answer.
+    for (master, rtp, rtcp, answer) in [
+        (9, 21, 21, Err(3)),
+        (9, 12, 21, Err(0)),
+        (9, 21, 13, Err(1)),
+        (9, 14, 14, Err(1)),
+        (1, 14, 21, Err(0)),
+        (9, 0, 0, Ok(3)),
+        (8, 21, 0, Ok(4)),
+        (7, 0, 21, Err(4)),
+    ] {
+        let told = ring.install_all(&[given(master, rtp, rtcp)?]);
+        let wanted = answer.map_err(|number| RingFault::KeyReused { number });
+        assert_eq!(rt; told, wanted, "{master} {rtp} {rtcp}");
+    }
+    let two = [given(6, 31, 32)?, given(5, 33, 33)?, given(4, 34, 31)?];
+    let second = Err(RingFault::KeyReused { number: 6 });
+    assert_eq!(rt; ring.install_all(&two), second);
+    Ok(())
+}

@@ -1,0 +1,361 @@
+//! Keys in turn, sessions that don't encrypt, and the sources that a session admits, over both sides.
+//!
+//! The datagrams are those of `interop/sessions.py`, a program that has nothing of this project.
+
+ghost use Rattle.std.specs.Prelude.{◌≡◌, length, IfOk};
+ghost use Rattle.sg_media.specs.Sides.{CanBeMade, is_tag_len};
+
+use arrayvec::ArrayVec;
+use sg_base::DropCause::{KeySpent, MkiUnknown, SsrcUnknown};
+use sg_base::{DropCause, HalfKeys, Kind, MasterKey, Mki, Pad, SessionKeys, Suite};
+use sg_kdf::derive;
+use sg_keys::{Admit, KeySet, LiveKey, SessionSpec};
+use sg_media::{OpenSide, SealSide};
+use std::alloc::Global;
+use std::process::Abort;
+use std::test::Fail;
+
+/// The master key and salt of RFC 3711, B.3.
+const SMALL: &str = "e1f97a0d3e018be0d64fa32c06de41390ec675ad498afeebb6960b3aabe6";
+
+/// Octets that count up.
+const OTHER: &str = "000102030405060708090a0b0c0d0e0f101112131415161718191a1b1c1d";
+
+/// The first twenty of them.
+const RAW: &str = "000102030405060708090a0b0c0d0e0f10111213";
+
+/// A packet and its datagram.
+type Row = (&'static str, &'static str);
+
+/// The numbers 1 to 4 of one source: two under the first key and its MKI, two under the second.
+const IN_TURN: [Row; 4] = [
+    (
+        "800f0001decafbadcafebabeabababababababababababababababab",
+        "800f0001decafbadcafebabe00c01dc32cef05937878ef5268eeb24e01dc80eb88e07977f6b764",
+    ),
+    (
+        "800f0002decafbadcafebabeabababababababababababababababab",
+        "800f0002decafbadcafebabe080630b5db00354b24ea974403ef9f0d01dc8df336725805bb1f53",
+    ),
+    (
+        "800f0003decafbadcafebabeabababababababababababababababab",
+        "800f0003decafbadcafebabeba08f01dad9f6e7f4df97dfc5f18baae02071f9d86d6139565ca06",
+    ),
+    (
+        "800f0004decafbadcafebabeabababababababababababababababab",
+        "800f0004decafbadcafebabe5f078d71304a06a035c84aec38b7da2e024c56ffd164682ca38770",
+    ),
+];
+
+/// A fifth packet.
+const MORE: &str = "800f0005decafbadcafebabeabababababababababababababababab";
+
+const PACKET: &str = "800f0009decafbadcafebabeabababababababababababababababab";
+
+const REPORT: &str = "80c80006cafebabe83d8b6e0cdcdcdcdcdcdcdcdcdcdcdcdcdcdcdcd";
+
+/// A session of one key, with what it makes of its first packet.
+#[derive(Clone, Copy)]
+struct Case {
+    suite: Suite,
+    master: &'static str,
+    kind: Kind,
+    encrypt: bool,
+    tag_len: u8,
+    packet: &'static str,
+    datagram: &'static str,
+}
+
+/// Packets that aren't encrypted, under raw keys too, and one under a tag of four octets that is. The E bit
+/// of the report is 0 (RFC 3711, 3.4).
+const OF_ONE_KEY: [Case; 4] = [
+    Case {
+        suite: Suite::Cm128Tag80,
+        master: SMALL,
+        kind: Kind::Rtp,
+        encrypt: false,
+        tag_len: 10,
+        packet: PACKET,
+        datagram: "800f0009decafbadcafebabeabababababababababababababababab905f756bf37082151f01",
+    },
+    Case {
+        suite: Suite::Cm128Tag32,
+        master: SMALL,
+        kind: Kind::Rtp,
+        encrypt: true,
+        tag_len: 4,
+        packet: PACKET,
+        datagram: "800f0009decafbadcafebabeb673d8b4e6dac253a6fc3a257f5deae58cfcf2cc",
+    },
+    Case {
+        suite: Suite::Raw80,
+        master: RAW,
+        kind: Kind::Rtp,
+        encrypt: false,
+        tag_len: 10,
+        packet: PACKET,
+        datagram: "800f0009decafbadcafebabeabababababababababababababababab5238f2bd4d346270fc71",
+    },
+    Case {
+        suite: Suite::Cm128Tag80,
+        master: SMALL,
+        kind: Kind::Rtcp,
+        encrypt: false,
+        tag_len: 10,
+        packet: REPORT,
+        datagram: "80c80006cafebabe83d8b6e0cdcdcdcdcdcdcdcdcdcdcdcdcdcdcdcd00000000d1dd28aee92dd015ba1e",
+    },
+];
+
+/// Packets of the sources 1, 2 and 1 again.
+const OF_SOURCES: [Row; 3] = [
+    (
+        "800f0001decafbad00000001",
+        "800f0001decafbad000000018cb11af2a27ec1fdd780",
+    ),
+    (
+        "800f0001decafbad00000002",
+        "800f0001decafbad00000002793396115182f4d009c1",
+    ),
+    (
+        "800f0002decafbad00000001",
+        "800f0002decafbad00000001b790eba4136e51b29285",
+    ),
+];
+
+/// The session keys of one kind of a master key in hexadecimal digits.
+fn half_of(alloc: Global, suite: Suite, kind: Kind, text: &str) -> Result<HalfKeys, Fail> {
+    let octets = sg_base::read_octets(alloc, text.as_bytes())?.ok_or("hex")?;
+    let master = MasterKey::new(suite, octets.as_slice()).ok_or("length")?;
+    let SessionKeys { rtp, rtcp } = derive(&master);
+    Ok(match kind {
+        Kind::Rtp => rtp,
+        Kind::Rtcp => rtcp,
+    })
+}
+
+/// A key that has served nothing.
+fn key(number: u32, mki: Option<Mki>, half: HalfKeys, life: u64) -> LiveKey
+    ensures number { result.number ≡ number }
+    ensures mki { result.mki ≡ mki }
+    ensures half { result.half ≡ half }
+    ensures count { result.count ≡ 0 }
+{
+    LiveKey {
+        number,
+        mki,
+        half,
+        life,
+        count: 0,
+    }
+}
+
+/// Whether a tag of the kind may have so many octets.
+fn is_tag_len(kind: Kind, tag_len: u8) -> bool
+    ensures { result ≡ is_tag_len kind tag_len }
+{
+    match kind {
+        Kind::Rtp => tag_len == 10 || tag_len == 4,
+        Kind::Rtcp => tag_len == 10,
+    }
+}
+
+/// A session of one key, number 5, without an MKI.
+fn of_one(rt: &impl Abort, half: HalfKeys, case: &Case, admit: Admit) -> SessionSpec
+    ensures { CanBeMade result }
+{
+    let count = half.encrypt.as_slice().len();
+    assert!(rt; count == 16 || (count == 0 && !case.encrypt && case.kind == Kind::Rtp));
+    assert!(rt; is_tag_len(case.kind, case.tag_len));
+    let mut keys = ArrayVec::new();
+    keys.push(key(5, None, half, 1 << 31));
+    SessionSpec {
+        kind: case.kind,
+        keys: KeySet::make(keys),
+        roc: 0,
+        window: 1024,
+        admit,
+        encrypt: case.encrypt,
+        tag_len: case.tag_len,
+    }
+}
+
+/// A session of two keys, numbers 40 and 41, of two lives each, with the MKIs 1 and 2 of one octet.
+#[tactic(auto, using(sg_keys::proofs::Sets::pair_set))]
+fn of_two(rt: &impl Abort, first: HalfKeys, second: HalfKeys) -> SessionSpec
+    ensures { CanBeMade result }
+{
+    assert!(rt; first.encrypt.as_slice().len() == 16);
+    assert!(rt; second.encrypt.as_slice().len() == 16);
+    let (one, two) = (Mki::new(1, 1), Mki::new(2, 1));
+    assert!(rt; one.is_some() && two.is_some());
+    let mut keys = ArrayVec::new();
+    keys.push(key(40, one, first, 2));
+    keys.push(key(41, two, second, 2));
+    SessionSpec {
+        kind: Kind::Rtp,
+        keys: KeySet::make(keys),
+        roc: 0,
+        window: 1024,
+        admit: Admit::Any,
+        encrypt: true,
+        tag_len: 10,
+    }
+}
+
+/// The octets of a packet or a datagram.
+fn octets_of(alloc: Global, text: &str) -> Result<Vec<u8>, Fail> {
+    let read = sg_base::read_octets(alloc, text.as_bytes())?.ok_or("hex")?;
+    Ok(read.as_slice().to_vec(alloc)?)
+}
+
+/// Opens a datagram, which must be this packet, and tells its key; or the cause.
+fn opens(
+    rt: &impl Abort,
+    alloc: Global,
+    side: &mut OpenSide,
+    row: Row,
+) -> Result<Result<u32, DropCause>, Fail> {
+    let (packet, datagram) = (octets_of(alloc, row.0)?, octets_of(alloc, row.1)?);
+    let mut pad = Pad::make(alloc)?;
+    assert_eq!(rt; pad.fill(datagram.as_slice()), Ok(()));
+    Ok(match side.receive(pad) {
+        Ok(opened) => {
+            assert_eq!(rt; opened.pad.octets(), packet.as_slice());
+            Ok(opened.key)
+        }
+        Err((pad, cause)) => {
+            assert_eq!(rt; pad.octets(), datagram.as_slice());
+            Err(cause)
+        }
+    })
+}
+
+/// Seals a packet, which must be this datagram, and tells its key; or the cause.
+fn seals(
+    rt: &impl Abort,
+    alloc: Global,
+    side: &mut SealSide,
+    row: Row,
+) -> Result<Result<u32, DropCause>, Fail> {
+    let (packet, datagram) = (octets_of(alloc, row.0)?, octets_of(alloc, row.1)?);
+    let mut pad = Pad::make(alloc)?;
+    assert_eq!(rt; pad.fill(packet.as_slice()), Ok(()));
+    assert!(rt; pad.octets().len() <= 4096);
+    Ok(match side.send(pad) {
+        Ok(sealed) => {
+            assert_eq!(rt; sealed.pad.octets(), datagram.as_slice());
+            Ok(sealed.key)
+        }
+        Err((pad, cause)) => {
+            assert_eq!(rt; pad.octets(), packet.as_slice());
+            Err(cause)
+        }
+    })
+}
+
+/// A session of the two keys, whose session keys are of two master keys.
+fn in_turn(rt: &impl Abort, alloc: Global) -> Result<SessionSpec, Fail>
+    ensures { IfOk result CanBeMade }
+{
+    let first = half_of(alloc, Suite::Cm128Tag80, Kind::Rtp, SMALL)?;
+    let second = half_of(alloc, Suite::Cm128Tag80, Kind::Rtp, OTHER)?;
+    Ok(of_two(rt, first, second))
+}
+
+// Two keys, each of two lives (RFC 3711, 9.2): each packet goes out under its own key with that key's MKI.
+#[test]
+fn keys_seal_in_turn(rt: HostRuntime) -> Result<(), Fail> {
+    let mut side = SealSide::make(in_turn(&rt, rt.alloc())?);
+    for (row, key) in [
+        (IN_TURN[0], 40),
+        (IN_TURN[1], 40),
+        (IN_TURN[2], 41),
+        (IN_TURN[3], 41),
+    ] {
+        assert_eq!(rt; seals(&rt, rt.alloc(), &mut side, row)?, Ok(key));
+    }
+    let spent = KeySpent {
+        number: 41,
+        count: 2,
+    };
+    assert_eq!(rt; seals(&rt, rt.alloc(), &mut side, (MORE, ""))?, Err(spent));
+    Ok(())
+}
+
+// Each datagram opens under the key of its MKI, as often as that key's life says; a third MKI is no key's.
+#[test]
+fn keys_open_by_their_mkis(rt: HostRuntime) -> Result<(), Fail> {
+    let mut side = OpenSide::make(in_turn(&rt, rt.alloc())?);
+    let spent = |number| Err(KeySpent { number, count: 2 });
+    let unknown = (
+        "",
+        "800f0005decafbadcafebabeababababababababababababababababab0300000000000000000000",
+    );
+    for (row, told) in [
+        (IN_TURN[0], Ok(40)),
+        (IN_TURN[2], Ok(41)),
+        (unknown, Err(MkiUnknown)),
+        (IN_TURN[1], Ok(40)),
+        (IN_TURN[0], spent(40)),
+        (IN_TURN[3], Ok(41)),
+        (IN_TURN[3], spent(41)),
+        (unknown, Err(MkiUnknown)),
+    ] {
+        assert_eq!(rt; opens(&rt, rt.alloc(), &mut side, row)?, told, "{}", row.1);
+    }
+    Ok(())
+}
+
+#[test]
+fn sessions_of_one_key(rt: HostRuntime) -> Result<(), Fail> {
+    for case in &OF_ONE_KEY {
+        let row = (case.packet, case.datagram);
+        let half = half_of(rt.alloc(), case.suite, case.kind, case.master)?;
+        let mut side = SealSide::make(of_one(&rt, half, case, Admit::Any));
+        assert_eq!(rt;
+            seals(&rt, rt.alloc(), &mut side, row)?,
+            Ok(5),
+            "{}",
+            case.datagram
+        );
+        let half = half_of(rt.alloc(), case.suite, case.kind, case.master)?;
+        let mut side = OpenSide::make(of_one(&rt, half, case, Admit::Any));
+        assert_eq!(rt;
+            opens(&rt, rt.alloc(), &mut side, row)?,
+            Ok(5),
+            "{}",
+            case.datagram
+        );
+    }
+    Ok(())
+}
+
+// A session of source 1, or of the first one seen, takes no packet of source 2.
+#[test]
+fn sources_are_admitted(rt: HostRuntime) -> Result<(), Fail> {
+    let case = Case {
+        suite: Suite::Cm128Tag80,
+        master: SMALL,
+        kind: Kind::Rtp,
+        encrypt: true,
+        tag_len: 10,
+        packet: "",
+        datagram: "",
+    };
+    for admit in [Admit::One(1), Admit::FirstSeen] {
+        let half = half_of(rt.alloc(), case.suite, case.kind, case.master)?;
+        let mut out = SealSide::make(of_one(&rt, half, &case, admit));
+        let half = half_of(rt.alloc(), case.suite, case.kind, case.master)?;
+        let mut back = OpenSide::make(of_one(&rt, half, &case, admit));
+        for (row, told) in [
+            (OF_SOURCES[0], Ok(5)),
+            (OF_SOURCES[1], Err(SsrcUnknown)),
+            (OF_SOURCES[2], Ok(5)),
+        ] {
+            assert_eq!(rt; seals(&rt, rt.alloc(), &mut out, row)?, told, "{}", row.0);
+            assert_eq!(rt; opens(&rt, rt.alloc(), &mut back, row)?, told, "{}", row.0);
+        }
+    }
+    Ok(())
+}

@@ -1,0 +1,20 @@
+//! Tests of the crates that read and print texts: lines, outcomes, session descriptions, crypto lines, MIKEY messages
+//! and command words. They stand in a crate of their own, since a crate with tests is proved twice.
+#![tactic(auto)]
+
+#[cfg(test)]
+mod crypto_answers;
+#[cfg(test)]
+mod crypto_lines;
+#[cfg(test)]
+mod descriptions;
+#[cfg(test)]
+mod lines;
+#[cfg(test)]
+mod messages;
+#[cfg(test)]
+mod outcomes;
+#[cfg(test)]
+mod scripts;
+#[cfg(test)]
+mod words;

@@ -1,0 +1,249 @@
+//! Script lines, read and printed.
+
+use sg_base::ScriptFault;
+use sg_lines::{ReadLineFault, print_line, read_line};
+use std::alloc::Global;
+use std::process::Abort;
+use std::test::Fail;
+
+/// The fault of the second line of a script; none where it is a line, which must then be printed as it
+/// was.
+fn fault_of(rt: &impl Abort, alloc: Global, octets: &[u8]) -> Option<ScriptFault> {
+    match read_line(alloc, 2, octets) {
+        Ok(line) => {
+            match print_line(alloc, &line) {
+                Ok(printed) => assert_eq!(rt; printed.as_slice(), octets),
+                Err(_) => assert!(rt; false, "memory"),
+            }
+            None
+        }
+        Err(ReadLineFault::Script(fault)) => Some(fault),
+        Err(ReadLineFault::NoMemory) => {
+            assert!(rt; false, "memory");
+            None
+        }
+    }
+}
+
+/// The fields of good lines, each form once, and their bounds.
+#[test]
+fn good_lines(rt: HostRuntime) {
+    let rows: [&[u8]; 21] = [
+        b"in 0 0.0.0.0:0 -\n",
+        b"in 65535 255.255.255.255:65535 00ff\n",
+        b"tick 0\n",
+        b"tick 2085978495999\n",
+        b"psk ! ~ 000102030405060708090a0b0c0d0e0f\n",
+        b"psk a@b.c #1:2 ffffffffffffffffffffffffffffffff\n",
+        b"reject 4294967295\n",
+        b"reject 0\n",
+        b"bye 17\n",
+        b"answer 1 - -\n",
+        b"offer-secure 1 - 763d300d0a\n",
+        b"offer-plain 2 sdes - 763d300d0a\n",
+        b"offer-plain 2 mikey peer - 763d300d0a\n",
+        b"offer-plain 2 mikey sdes - -\n",
+        b"manual 1 127.0.0.1:40000 127.0.0.1:41000 00000000 64 RAW80:0000000000000000000000000000000000000000 RAW80:0000000000000000000000000000000000000001\n",
+        b"manual 1 127.0.0.1:40000 127.0.0.1:41000 ffffffff 1024 AES_CM_128_HMAC_SHA1_80:000000000000000000000000000000000000000000000000000000000000 AES_CM_128_HMAC_SHA1_32:000000000000000000000000000000000000000000000000000000000000\n",
+        b"manual 1 127.0.0.1:40000 127.0.0.1:65535 0a0b0c0d 65 AES_192_CM_HMAC_SHA1_80:0000000000000000000000000000000000000000000000000000000000000000000000000000 AES_192_CM_HMAC_SHA1_32:0000000000000000000000000000000000000000000000000000000000000000000000000000\n",
+        b"manual 1 127.0.0.1:40000 127.0.0.1:0 0a0b0c0d 100 AES_256_CM_HMAC_SHA1_80:00000000000000000000000000000000000000000000000000000000000000000000000000000000000000000000 AES_256_CM_HMAC_SHA1_32:00000000000000000000000000000000000000000000000000000000000000000000000000000000000000000000\n",
+        b"psk 0 0 00000000000000000000000000000000000000000000000000000000000000000000000000000000000000000000000000000000000000000000000000000000\n",
+        b"answer 0 - 0a0d00\n",
+        b"in 20000 10.0.0.1:1 0a20\n",
+    ];
+    for row in &rows {
+        assert_eq!(rt; fault_of(&rt, rt.alloc(), row), None);
+    }
+}
+
+/// One fault a row, each of the first kind that the line has.
+#[test]
+fn bad_lines(rt: HostRuntime) {
+    use ScriptFault::{Hex, Length, Number, Unended, Word};
+    let rows: [(&[u8], ScriptFault); 67] = [
+        (b"", Unended),
+        (b"tick 1", Unended),
+        (b"frob", Unended),
+        (b"\n", Word),
+        (b"frob\n", Word),
+        (b"tick\n", Word),
+        (b"tick 1 2\n", Word),
+        (b"tick  1\n", Word),
+        (b"tick 1 \n", Word),
+        (b" tick 1\n", Word),
+        (b"Tick 1\n", Word),
+        (b"tick\t1\n", Word),
+        (b"srtpgw 1\n", Word),
+        (b"reject\n", Word),
+        (b"bye x 1\n", Word),
+        (b"in x 1.1.1.1:1\n", Word),
+        (b"in 1 1.1.1.1:1 - -\n", Word),
+        (b"offer-plain x zrtp - -\n", Word),
+        (b"offer-plain x mikey - -\n", Word),
+        (b"offer-plain x sdes peer - -\n", Word),
+        (b"offer-plain x mikey p\xc3\xa4r - -\n", Number),
+        (b"tick 01\n", Number),
+        (b"tick \xd9\xa1\n", Number),
+        (b"tick -1\n", Number),
+        (b"tick +1\n", Number),
+        (b"tick 1\r\n", Number),
+        (b"tick 2085978496000\n", Number),
+        (b"reject 4294967296\n", Number),
+        (b"reject 00\n", Number),
+        (b"bye 1.0\n", Number),
+        (b"in 65536 1.1.1.1:1 zz\n", Number),
+        (b"in 1 1.1.1.256:1 zz\n", Number),
+        (b"in 1 1.1.1:1 -\n", Number),
+        (b"in 1 1.1.1.1.1:1 -\n", Number),
+        (b"in 1 1.1.1.1 -\n", Number),
+        (b"in 1 1.1.1.1:65536 -\n", Number),
+        (b"in 1 01.1.1.1:1 -\n", Number),
+        (b"in 1 1.1.1.1:1 0\n", Hex),
+        (b"in 1 1.1.1.1:1 FF\n", Hex),
+        (b"in 1 1.1.1.1:1 8G\n", Hex),
+        (b"in 1 1.1.1.1:1 0x10\n", Hex),
+        (b"in 1 1.1.1.1:1 --\n", Hex),
+        (b"answer 1 - \n", Hex),
+        (b"answer 1  -\n", Hex),
+        (b"answer 1 00 -\n", Length),
+        (b"answer 1 0 -\n", Hex),
+        (b"psk  a 00\n", Length),
+        (b"psk a  00\n", Length),
+        (b"psk a\x7f a 00\n", Word),
+        (b"psk a \x80 zz\n", Word),
+        (b"psk a b 000102030405060708090a0b0c0d0e\n", Length),
+        (b"psk a b -\n", Length),
+        // No name holds a space.
+        (b"psk a b c 000102030405060708090a0b0c0d0e0f\n", Word),
+        (b"psk a b 0001020304050607080g0a0b0c0d0e0f\n", Hex),
+        (
+            b"manual 1 1.1.1.1:1 1.1.1.1:1 0000000 64 RAW80:- RAW80:-\n",
+            Hex,
+        ),
+        (
+            b"manual 1 1.1.1.1:1 1.1.1.1:1 000000 64 RAW80:- RAW80:-\n",
+            Hex,
+        ),
+        (
+            b"manual 1 1.1.1.1:1 1.1.1.1:1 0000000000 64 RAW80:- RAW80:-\n",
+            Hex,
+        ),
+        (
+            b"manual 1 1.1.1.1:1 1.1.1.1:1 0000000A 64 RAW80:- RAW80:-\n",
+            Hex,
+        ),
+        (b"manual 1 1.1.1.1:1 1.1.1.1:1 - 64 RAW80:- RAW80:-\n", Hex),
+        (
+            b"manual 1 1.1.1.1:1 1.1.1.1:1 00000000 63 RAW80:- RAW80:-\n",
+            Number,
+        ),
+        (
+            b"manual 1 1.1.1.1:1 1.1.1.1:1 00000000 1025 RAW80:- RAW80:-\n",
+            Number,
+        ),
+        (
+            b"manual 1 1.1.1.1:1 1.1.1.1:1 00000000 64 RAW80 RAW80:-\n",
+            Word,
+        ),
+        (
+            b"manual 1 1.1.1.1:1 1.1.1.1:1 00000000 64 RAW80: RAW80:-\n",
+            Hex,
+        ),
+        (
+            b"manual 1 1.1.1.1:1 1.1.1.1:1 00000000 64 RAW80:- RAW80:-\n",
+            Length,
+        ),
+        (
+            b"manual 1 1.1.1.1:1 1.1.1.1:1 00000000 64 F8_128_HMAC_SHA1_80:00 RAW80:-\n",
+            Word,
+        ),
+        // The rule on the two keys comes last, behind the second key's own faults.
+        (
+            b"manual 1 1.1.1.1:1 1.1.1.1:1 00000000 64 RAW80:0000000000000000000000000000000000000000 AES_CM_128_HMAC_SHA1_80:00000000000000000000000000000000000000000000000000000000000\n",
+            Hex,
+        ),
+        (
+            b"manual 1 1.1.1.1:1 1.1.1.1:1 00000000 64 RAW80:0000000000000000000000000000000000000000 AES_CM_128_HMAC_SHA1_80:000000000000000000000000000000000000000000000000000000000000\n",
+            Word,
+        ),
+    ];
+    for (row, fault) in &rows {
+        assert_eq!(rt; fault_of(&rt, rt.alloc(), row), Some(*fault));
+    }
+}
+
+#[test]
+fn first_lines(rt: HostRuntime) {
+    let rows: [(&[u8], Option<ScriptFault>); 6] = [
+        (b"srtpgw 1\n", None),
+        (b"srtpgw 2\n", Some(ScriptFault::Version)),
+        (b"srtpgw 01\n", Some(ScriptFault::Version)),
+        (b"tick 1\n", Some(ScriptFault::Version)),
+        (b"srtpgw 1", Some(ScriptFault::Unended)),
+        (b"srtpgw 1 \n", Some(ScriptFault::Version)),
+    ];
+    for (row, fault) in &rows {
+        let found = match read_line(rt.alloc(), 1, row) {
+            Ok(_) => None,
+            Err(ReadLineFault::Script(found)) => Some(found),
+            Err(ReadLineFault::NoMemory) => Some(ScriptFault::Length),
+        };
+        assert_eq!(rt; found, *fault);
+    }
+}
+
+/// A line of these octets, then so many of one octet, and its end.
+fn filled(alloc: Global, front: &[u8], octet: u8, count: usize) -> Result<Vec<u8>, Fail> {
+    let mut line = Vec::from_slice(alloc, front)?;
+    for _ in 0..count {
+        line.push(octet)?;
+    }
+    line.push(b'\n')?;
+    Ok(line)
+}
+
+/// The bounds of lines, texts, datagrams, noise and names.
+#[test]
+fn longest_lines(rt: HostRuntime) -> Result<(), Fail> {
+    use ScriptFault::{Length, Word};
+    let rows: [(&[u8], u8, usize, Option<ScriptFault>); 11] = [
+        // A line of 70,000 octets with its end, and one more.
+        (b"frob ", b'x', 69_994, Some(Word)),
+        (b"frob ", b'x', 69_995, Some(Length)),
+        (b"answer 1 - ", b'0', 65_536, None),
+        (b"answer 1 - ", b'0', 65_538, Some(Length)),
+        (b"in 1 1.1.1.1:1 ", b'0', 8_704, None),
+        (b"in 1 1.1.1.1:1 ", b'0', 8_706, Some(Length)),
+        (b"psk a b ", b'0', 128, None),
+        (b"psk a b ", b'0', 130, Some(Length)),
+        (b"tick ", b'0', 60_000, Some(ScriptFault::Number)),
+        (b"offer-secure 1 00 ", b'0', 65_538, Some(Length)),
+        (b"psk a b ", b'0', 69_991, Some(ScriptFault::Hex)),
+    ];
+    for (front, octet, count, fault) in &rows {
+        let line = filled(rt.alloc(), front, *octet, *count)?;
+        assert_eq!(rt; fault_of(&rt, rt.alloc(), &line), *fault);
+    }
+    for (count, fault) in [
+        (607, Some(ScriptFault::Hex)),
+        (606, Some(Length)),
+        (608, None),
+        (610, Some(Length)),
+    ] {
+        let mut line = Vec::from_slice(rt.alloc(), b"answer 1 ")?;
+        for _ in 0..count {
+            line.push(b'7')?;
+        }
+        line.extend_from_slice(b" 00\n")?;
+        assert_eq!(rt; fault_of(&rt, rt.alloc(), &line), fault);
+    }
+    for (count, fault) in [(1, None), (128, None), (129, Some(Length))] {
+        let mut line = Vec::from_slice(rt.alloc(), b"psk ")?;
+        for _ in 0..count {
+            line.push(b'n')?;
+        }
+        line.extend_from_slice(b" b 00112233445566778899aabbccddeeff\n")?;
+        assert_eq!(rt; fault_of(&rt, rt.alloc(), &line), fault);
+    }
+    Ok(())
+}

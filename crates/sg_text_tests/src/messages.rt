@@ -1,0 +1,342 @@
+//! Messages, read and printed.
+
+use sg_base::MikeyFault::{self, Cut, DataType, Order, Trailing, Value, Version};
+use sg_base::{Mki, Octets};
+use sg_mikey::{CsEntry, Items, Message, Payload, Policy, ReadMikeyFault, Tgk, Tgks, print, read};
+use std::alloc::{AllocError, Global};
+use std::test::Fail;
+
+// A message of the initiator: T, RAND of 2 octets, an ID, a general extension, SP with two items, KEMAC with a MAC.
+const INITIAL: &[u8] = b"\x01\x00\x05\x80\xca\xfe\xba\xbe\x01\x00\
+\x00\xde\xca\xfb\xad\x00\x00\x00\x07\
+\x0b\x00\x83\xaa\x7e\x80\x00\x00\x00\x00\
+\x06\x02\x55\xaa\
+\x15\x01\x00\x03bob\
+\x0a\x09\x00\x01\x2a\
+\x01\x00\x00\x00\x06\x00\x01\x01\x0b\x01\x0a\
+\x00\x01\x00\x02\x11\x22\x01AAAAAAAAAAAAAAAAAAAA";
+
+// A message of the responder: T, and V without a MAC.
+const RESPONSE: &[u8] = b"\x01\x01\x05\x00\xca\xfe\xba\xbe\x00\x00\
+\x09\x00\x83\xaa\x7e\x80\x80\x00\x00\x00\
+\x00\x00";
+
+fn fault_of(alloc: Global, octets: &[u8]) -> Option<(u32, MikeyFault)> {
+    if octets.len() > 1000000 {
+        return None;
+    }
+    match read(alloc, octets) {
+        Err(ReadMikeyFault::Mikey { offset, fault }) => Some((offset, fault)),
+        _ => None,
+    }
+}
+
+// Octets, and the first fault with its offset.
+#[test]
+fn tells_the_first_fault(rt: HostRuntime) {
+    let cases: [(&[u8], u32, MikeyFault); 24] = [
+        (b"", 0, Cut),
+        (b"\x01\x00\x05\x80\x00\x00\x00\x07\x02", 9, Cut),
+        (
+            b"\x01\x00\x05\x80\x00\x00\x00\x07\x02\x00\x00\xca\xfe\xba\xbe\x00\x00\x00\x00\x00\x00\x00\x00\x00\x00\x00\x00\x00",
+            28,
+            Cut,
+        ),
+        (b"\x02\x00\x05\x80\x00\x00\x00\x07\x02", 0, Version),
+        (b"\x01\x06\x05\x00\xca\xfe\xba\xbe\x00\x00", 1, DataType),
+        (
+            b"\x01\x00\x63\x00\xca\xfe\xba\xbe\x00\x00",
+            2,
+            MikeyFault::Payload,
+        ),
+        (
+            b"\x01\x00\x14\x00\xca\xfe\xba\xbe\x00\x00",
+            2,
+            MikeyFault::Payload,
+        ),
+        (b"\x01\x00\x05\x01\xca\xfe\xba\xbe\x00\x00", 3, Value),
+        (b"\x01\x00\x00\x00\xca\xfe\xba\xbe\x00", 9, Cut),
+        (b"\x01\x00\x05\x00\xca\xfe\xba\xbe\x00\x01", 9, Value),
+        (b"\x01\x00\x05\x00\xca\xfe\xba\xbe\xff\x00", 10, Cut),
+        (
+            b"\x01\x00\x06\x00\xca\xfe\xba\xbe\x00\x00\x00\x01\x00\x04ABCD",
+            10,
+            Order,
+        ),
+        (b"\x01\x00\x06\x00\xca\xfe\xba\xbe\x00\x00", 10, Order),
+        (
+            b"\x01\x00\x05\x00\xca\xfe\xba\xbe\x00\x00\x63\x00ABCDEFGH",
+            10,
+            MikeyFault::Payload,
+        ),
+        (
+            b"\x01\x00\x05\x00\xca\xfe\xba\xbe\x00\x00\x00\x00ABCDEFGH",
+            20,
+            Order,
+        ),
+        (
+            b"\x01\x00\x05\x00\xca\xfe\xba\xbe\x00\x00\x0b\x02ABCDEFGH",
+            11,
+            Value,
+        ),
+        (
+            b"\x01\x00\x05\x00\xca\xfe\xba\xbe\x00\x00\x0b\x00ABCDEFGH\x0a\x00\x01\x00\x00\x00\x04\x00\x03",
+            28,
+            Value,
+        ),
+        (
+            b"\x01\x00\x05\x00\xca\xfe\xba\xbe\x00\x00\x0b\x00ABCDEFGH\x0a\x00\x01\x00\x00\x00\x03\x00\x00\x07",
+            29,
+            Value,
+        ),
+        (
+            b"\x01\x00\x05\x00\xca\xfe\xba\xbe\x00\x00\x0b\x00ABCDEFGH\x0a\x00\x01\x00\x00\x00\x04\x00\x02\x07",
+            30,
+            Cut,
+        ),
+        (
+            b"\x01\x00\x05\x00\xca\xfe\xba\xbe\x00\x00\x0b\x00ABCDEFGH\x0a\x00\x01\x00\x01",
+            24,
+            Value,
+        ),
+        (
+            b"\x01\x00\x05\x00\xca\xfe\xba\xbe\x00\x00\x0b\x00ABCDEFGH\x01\x00\x00\x03",
+            23,
+            Value,
+        ),
+        (
+            b"\x01\x01\x05\x00\xca\xfe\xba\xbe\x00\x00\x09\x00ABCDEFGH\x00\x02",
+            21,
+            Value,
+        ),
+        (
+            b"\x01\x01\x05\x00\xca\xfe\xba\xbe\x00\x00\x09\x00ABCDEFGH\x06\x00",
+            22,
+            Order,
+        ),
+        (
+            b"\x01\x01\x05\x00\xca\xfe\xba\xbe\x00\x00\x09\x00ABCDEFGH\x00\x00\x00",
+            22,
+            Trailing,
+        ),
+    ];
+    for (octets, offset, fault) in cases {
+        assert_eq!(rt;
+            fault_of(rt.alloc(), octets),
+            Some((offset, fault)),
+            "{octets:?}"
+        );
+    }
+}
+
+#[test]
+fn is_cut_at_every_octet(rt: HostRuntime) {
+    for octets in [INITIAL, RESPONSE] {
+        for size in 0..octets.len() {
+            assert_eq!(rt;
+                fault_of(rt.alloc(), &octets[..size]),
+                Some((size as u32, Cut)),
+                "{size}"
+            );
+        }
+    }
+}
+
+fn printed_again(alloc: Global, octets: &[u8]) -> Result<Octets, Fail> {
+    if octets.len() > 1000000 {
+        return Err("too long for this test".into());
+    }
+    Ok(print(alloc, &read(alloc, octets)?)?)
+}
+
+#[test]
+fn prints_what_it_reads(rt: HostRuntime) -> Result<(), Fail> {
+    for octets in [INITIAL, RESPONSE] {
+        assert_eq!(rt; printed_again(rt.alloc(), octets)?.as_slice(), octets);
+    }
+    Ok(())
+}
+
+// What an initiator of this profile sends, by the layouts of RFC 3830, 6: two crypto sessions, T, RAND of 16 octets,
+// the IDs of both, the 13 items of SP, and KEMAC with its MAC of 20 octets; it asks for an answer.
+const OFFER: &[u8] = b"\x01\x00\x05\x80\xca\xfe\xba\xbe\x02\x00\
+\x00\xde\xca\xfb\xad\x00\x00\x00\x00\x00\x00\x00\x00\x00\x00\x00\x00\x00\
+\x0b\x00\x83\xaa\x7e\x80\x00\x00\x00\x00\
+\x06\x10RRRRRRRRRRRRRRRR\
+\x06\x01\x00\x08sip:gw@a\
+\x0a\x01\x00\x09sip:bob@b\
+\x01\x00\x00\x00\x27\x00\x01\x01\x01\x01\x10\x02\x01\x01\x03\x01\x14\x04\x01\x0e\x05\x01\x00\x06\x01\x00\
+\x07\x01\x01\x08\x01\x01\x09\x01\x00\x0a\x01\x01\x0b\x01\x0a\x0c\x01\x00\
+\x00\x01\x00\x04KKKK\x01MMMMMMMMMMMMMMMMMMMM";
+
+// What its responder sends: the initiator's stamp, the responder's ID, and V with its MAC.
+const ANSWER: &[u8] = b"\x01\x01\x05\x00\xca\xfe\xba\xbe\x02\x00\
+\x00\xde\xca\xfb\xad\x00\x00\x00\x00\x00\x01\x02\x03\x04\x00\x00\x00\x00\
+\x06\x00\x83\xaa\x7e\x80\x80\x00\x00\x00\
+\x09\x01\x00\x09sip:bob@b\
+\x00\x01MMMMMMMMMMMMMMMMMMMM";
+
+fn id(alloc: Global, name: &[u8]) -> Result<Payload, Fail> {
+    let name = Octets::copy_of(alloc, name)?;
+    Ok(Payload::Id { form: 1, name })
+}
+
+fn default_policy(alloc: Global) -> Result<Payload, Fail> {
+    let mut items = Vec::new(alloc);
+    for (kind, value) in [1, 16, 1, 20, 14, 0, 0, 1, 1, 0, 1, 10, 0]
+        .iter()
+        .enumerate()
+    {
+        items.push((kind as u8, Octets::copy_of(alloc, &[*value])?))?;
+    }
+    let items = Items::from_vec(items);
+    Ok(Payload::Sp(Policy { number: 0, items }))
+}
+
+fn message(
+    alloc: Global,
+    kind: u8,
+    second: CsEntry,
+    payloads: Vec<Payload>,
+) -> Result<Message, Fail> {
+    let first = CsEntry {
+        policy: 0,
+        ssrc: 0xdeca_fbad,
+        roc: 0,
+    };
+    Ok(Message {
+        kind,
+        verify: kind == 0,
+        csb: 0xcafe_babe,
+        map: Items::from_vec(vec![in alloc; first, second]?),
+        payloads: Items::from_vec(payloads),
+    })
+}
+
+fn offer(alloc: Global) -> Result<Message, Fail> {
+    let random = Octets::copy_of(alloc, &[0x52; 16])?;
+    let octets = Octets::copy_of(alloc, &[0x4b; 4])?;
+    let tag = Octets::copy_of(alloc, &[0x4d; 20])?;
+    let payloads = vec![in alloc;
+        Payload::Time {
+            form: 0,
+            stamp: [0x83, 0xaa, 0x7e, 0x80, 0, 0, 0, 0]
+        },
+        Payload::Random { octets: random },
+        id(alloc, b"sip:gw@a")?,
+        id(alloc, b"sip:bob@b")?,
+        default_policy(alloc)?,
+        Payload::Kemac {
+            cipher: 1,
+            octets,
+            mac: 1,
+            tag
+        },
+    ]?;
+    let second = CsEntry {
+        policy: 0,
+        ssrc: 0,
+        roc: 0,
+    };
+    message(alloc, 0, second, payloads)
+}
+
+fn answer(alloc: Global) -> Result<Message, Fail> {
+    let tag = Octets::copy_of(alloc, &[0x4d; 20])?;
+    let payloads = vec![in alloc;
+        Payload::Time {
+            form: 0,
+            stamp: [0x83, 0xaa, 0x7e, 0x80, 0x80, 0, 0, 0]
+        },
+        id(alloc, b"sip:bob@b")?,
+        Payload::Verify { mac: 1, tag },
+    ]?;
+    let second = CsEntry {
+        policy: 0,
+        ssrc: 0x0102_0304,
+        roc: 0,
+    };
+    message(alloc, 1, second, payloads)
+}
+
+// Messages that were put together here, their octets, and what is read of these.
+#[test]
+fn prints_what_is_put_together(rt: HostRuntime) -> Result<(), Fail> {
+    for (made, octets) in [(offer(rt.alloc())?, OFFER), (answer(rt.alloc())?, ANSWER)] {
+        assert_eq!(rt; print(rt.alloc(), &made)?.as_slice(), octets);
+        assert_eq!(rt; printed_again(rt.alloc(), octets)?.as_slice(), octets);
+    }
+    Ok(())
+}
+
+// A message of the initiator with RAND, an ID, an extension and a KEMAC of so many octets, RAND of at most 255.
+fn message_with(alloc: Global, count: u16) -> Result<Vec<u8>, AllocError> {
+    let size = count.to_be_bytes();
+    let mut octets = Vec::new(alloc);
+    octets.extend_from_slice(b"\x01\x00\x05\x00\xca\xfe\xba\xbe\x00\x00\x0b\x01ABCDEFGH\x06")?;
+    octets.push(count.min(255) as u8)?;
+    for _ in 0..count.min(255) {
+        octets.push(0x52)?;
+    }
+    octets.extend_from_slice(b"\x15\x00")?;
+    octets.extend_from_slice(&size)?;
+    for _ in 0..count {
+        octets.push(0x49)?;
+    }
+    octets.extend_from_slice(b"\x01\x07")?;
+    octets.extend_from_slice(&size)?;
+    for _ in 0..count {
+        octets.push(0x45)?;
+    }
+    octets.extend_from_slice(b"\x00\x02")?;
+    octets.extend_from_slice(&size)?;
+    for _ in 0..count {
+        octets.push(0x4b)?;
+    }
+    octets.push(0)?;
+    Ok(octets)
+}
+
+#[test]
+fn keeps_every_length(rt: HostRuntime) -> Result<(), Fail> {
+    for count in [0, 1, 255, 65535] {
+        let octets = message_with(rt.alloc(), count)?;
+        let again = printed_again(rt.alloc(), &octets)?;
+        assert_eq!(rt; again.as_slice(), octets.as_slice(), "{count}");
+    }
+    Ok(())
+}
+
+#[test]
+fn shows_a_message(rt: HostRuntime) -> Result<(), Fail> {
+    let message: Message = read(rt.alloc(), INITIAL)?;
+    assert_eq!(rt;
+        (message.kind, message.verify, message.csb),
+        (0, true, 0xcafe_babe)
+    );
+    let numbers = [5, 11, 6, 21, 10, 1];
+    let payloads: &[Payload] = message.payloads.as_slice();
+    assert_eq!(rt; payloads.len(), numbers.len());
+    for (payload, number) in payloads.iter().zip(numbers) {
+        assert_eq!(rt; payload.number(), number);
+    }
+    for entry in message.map.as_slice() {
+        assert_eq!(rt; (entry.policy, entry.ssrc, entry.roc), (0, 0xdeca_fbad, 7));
+    }
+    Ok(())
+}
+
+#[test]
+fn holds_keys(rt: HostRuntime) -> Result<(), Fail> {
+    let key = Octets::copy_of(rt.alloc(), &[7; 16])?;
+    let spi = Mki::new(1, 4);
+    let keys = vec![in rt.alloc(); Tgk { key, spi }]?;
+    let tgks = Tgks {
+        keys: Items::from_vec(keys),
+    };
+    for tgk in tgks.keys.into_vec() {
+        assert_eq!(rt; tgk.key.as_slice(), [7; 16].as_slice());
+        assert_eq!(rt; tgk.spi, Mki::new(1, 4));
+    }
+    Ok(())
+}

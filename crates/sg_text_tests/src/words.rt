@@ -1,0 +1,229 @@
+//! Words that are a command, and words that are none.
+
+use sg_words::{Command, CommandFault, read_command};
+use std::alloc::Global;
+use std::test::Fail;
+
+/// Words, and the command that they are.
+const COMMANDS: [(&[&str], Command); 23] = [
+    (&["replay"], Command::Replay { workers: 1 }),
+    (&["replay", "--"], Command::Replay { workers: 1 }),
+    (
+        &["replay", "--workers", "4"],
+        Command::Replay { workers: 4 },
+    ),
+    (&["replay", "--workers=16"], Command::Replay { workers: 16 }),
+    (
+        &["replay", "--workers", "1", "--"],
+        Command::Replay { workers: 1 },
+    ),
+    (
+        &["replay", "--workers=4", "--"],
+        Command::Replay { workers: 4 },
+    ),
+    (&["relay", "--turns", "5"], Command::Relay { turns: 5 }),
+    (&["relay", "--turns=5"], Command::Relay { turns: 5 }),
+    (
+        &["relay", "--turns", "1000000000", "--"],
+        Command::Relay { turns: 1000000000 },
+    ),
+    (&["relay", "--turns=1", "--"], Command::Relay { turns: 1 }),
+    (
+        &["demo", "4", "1"],
+        Command::Demo {
+            calls: 4,
+            start: 1,
+            workers: 1,
+        },
+    ),
+    (
+        &["demo", "256", "18446744073709551615"],
+        Command::Demo {
+            calls: 256,
+            start: 18446744073709551615,
+            workers: 1,
+        },
+    ),
+    (
+        &["demo", "1", "0"],
+        Command::Demo {
+            calls: 1,
+            start: 0,
+            workers: 1,
+        },
+    ),
+    (
+        &["demo", "--workers", "16", "4", "1"],
+        Command::Demo {
+            calls: 4,
+            start: 1,
+            workers: 16,
+        },
+    ),
+    (
+        &["demo", "4", "--workers=2", "1"],
+        Command::Demo {
+            calls: 4,
+            start: 1,
+            workers: 2,
+        },
+    ),
+    (
+        &["demo", "4", "1", "--workers", "2"],
+        Command::Demo {
+            calls: 4,
+            start: 1,
+            workers: 2,
+        },
+    ),
+    (
+        &["demo", "--", "4", "1"],
+        Command::Demo {
+            calls: 4,
+            start: 1,
+            workers: 1,
+        },
+    ),
+    (
+        &["demo", "4", "--", "1"],
+        Command::Demo {
+            calls: 4,
+            start: 1,
+            workers: 1,
+        },
+    ),
+    (
+        &["demo", "4", "1", "--"],
+        Command::Demo {
+            calls: 4,
+            start: 1,
+            workers: 1,
+        },
+    ),
+    (
+        &["demo", "--workers=2", "4", "--", "1"],
+        Command::Demo {
+            calls: 4,
+            start: 1,
+            workers: 2,
+        },
+    ),
+    (
+        &["demo", "4", "--workers", "2", "--", "1"],
+        Command::Demo {
+            calls: 4,
+            start: 1,
+            workers: 2,
+        },
+    ),
+    (
+        &["demo", "4", "1", "--workers=2", "--"],
+        Command::Demo {
+            calls: 4,
+            start: 1,
+            workers: 2,
+        },
+    ),
+    (
+        &["demo", "--workers", "2", "--", "4", "1"],
+        Command::Demo {
+            calls: 4,
+            start: 1,
+            workers: 2,
+        },
+    ),
+];
+
+/// Words that are no command.
+const NONE: [&[&str]; 65] = [
+    &[],
+    &[""],
+    &["--help"],
+    &["-h"],
+    &["help"],
+    &["replay", "--help"],
+    &["relay", "--help"],
+    &["demo", "-h"],
+    &["replays"],
+    &["Replay"],
+    &["frob"],
+    &["--", "replay"],
+    &["--workers", "4", "replay"],
+    &["replay", "x"],
+    &["replay", "--", "--"],
+    &["replay", "--", "--workers", "4"],
+    &["replay", "--workers"],
+    &["replay", "--workers="],
+    &["replay", "--workers", "--"],
+    &["replay", "--workers", "0"],
+    &["replay", "--workers", "17"],
+    &["replay", "--workers", "04"],
+    &["replay", "--workers", "+4"],
+    &["replay", "--workers", "-4"],
+    &["replay", "--workers", "4", "--workers", "4"],
+    &["replay", "--workers=4", "--workers=5"],
+    &["replay", "--workers", "4", "4"],
+    &["replay", "--worker", "4"],
+    &["replay", "-w", "4"],
+    &["replay", "-workers", "4"],
+    &["replay", "--turns", "4"],
+    &["relay"],
+    &["relay", "--turns"],
+    &["relay", "--turns", "05"],
+    &["relay", "--turns=05"],
+    &["relay", "--turns", "0"],
+    &["relay", "--turns", "1000000001"],
+    &["relay", "--turns", "5", "--turns", "5"],
+    &["relay", "--turns", "5", "--turns=6"],
+    &["relay", "--turns", "--", "5"],
+    &["relay", "--", "--turns", "5"],
+    &["relay", "--turns=", "5"],
+    &["relay", "--turns", "5", "5"],
+    &["relay", "5"],
+    &["relay", "--turns", "5", "--workers", "4"],
+    &["demo"],
+    &["demo", "4"],
+    &["demo", "4", "1", "2"],
+    &["demo", "0", "1"],
+    &["demo", "257", "1"],
+    &["demo", "04", "1"],
+    &["demo", "4", "01"],
+    &["demo", "4", "-1"],
+    &["demo", "4", "18446744073709551616"],
+    &["demo", "4", "1", "--workers"],
+    &["demo", "4", "1", "--workers", "0"],
+    &["demo", "--workers", "4", "1"],
+    &["demo", "4", "--workers", "1"],
+    &["demo", "4", "1", "--", "--workers", "2"],
+    &["demo", "--", "4", "--", "1"],
+    &["demo", "--workers", "2", "4", "1", "--workers", "2"],
+    &["demo", "--turns", "4", "4", "1"],
+    &["replay", "--workers 4"],
+    &["replay", "--workers", "4 "],
+    &["demo", "4", ""],
+];
+
+/// What is read of these words.
+fn read(alloc: Global, texts: &[&str]) -> Result<Result<Command, CommandFault>, Fail> {
+    let mut words = Vec::new(alloc);
+    for text in texts {
+        words.push(String::from_str(alloc, text)?)?;
+    }
+    Ok(read_command(alloc, &words))
+}
+
+#[test]
+fn words_are_commands(rt: HostRuntime) -> Result<(), Fail> {
+    for (words, command) in COMMANDS {
+        assert_eq!(rt; read(rt.alloc(), words)?, Ok(command));
+    }
+    Ok(())
+}
+
+#[test]
+fn words_are_none(rt: HostRuntime) -> Result<(), Fail> {
+    for words in NONE {
+        assert_eq!(rt; read(rt.alloc(), words)?, Err(CommandFault::Usage));
+    }
+    Ok(())
+}
