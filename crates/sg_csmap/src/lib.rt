@@ -8,4 +8,3 @@ mod sessions;
 
 pub use faults::CsError;
 pub use sessions::{StreamKeys, streams};
-

@@ -21,4 +21,3 @@ pub use payload::Payload;
 pub use policy::Policy;
 pub use printing::print;
 pub use reading::read;
-

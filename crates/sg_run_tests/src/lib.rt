@@ -1,6 +1,22 @@
-//! Tests of the commands: playback, relay and demonstration, and of the table beneath them. They stand in a crate of
-//! their own, since a crate with tests is proved twice.
+//! Tests of the commands: replay, relay and demonstration, and of a table's batches beneath them. They stand in a crate
+//! of their own, since a crate with tests is proved twice.
 #![tactic(auto)]
 
 #[cfg(test)]
+mod batches;
+#[cfg(test)]
+mod calls;
+#[cfg(test)]
 mod demonstrations;
+#[cfg(test)]
+mod meeting;
+#[cfg(test)]
+mod outside;
+#[cfg(test)]
+mod relays;
+#[cfg(test)]
+mod replays;
+#[cfg(test)]
+mod statuses;
+#[cfg(test)]
+mod workers;

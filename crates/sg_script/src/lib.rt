@@ -2,7 +2,6 @@
 //! users know them. The lines of scripts are `sg_lines`'s, the outcomes `sg_outcome`'s.
 #![tactic(auto)]
 
-
 pub use sg_base::ScriptFault;
 pub use sg_lines::{Line, ReadLineFault, Signal, print_line, read_line};
 pub use sg_outcome::{Outcome, Why, print_outcome, read_outcome};

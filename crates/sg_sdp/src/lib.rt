@@ -22,4 +22,3 @@ pub use media::Media;
 pub use medium::{Medium, Profile};
 pub use reading::read;
 pub use sdp::Sdp;
-

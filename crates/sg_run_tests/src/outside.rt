@@ -1,0 +1,129 @@
+//! What a run is given in memory, and what it leaves there.
+
+use sg_base::{Address, Octets};
+use sg_edge::{MemClock, MemLink, MemNoise, MemSink, MemSource};
+use sg_lanes::Gate;
+use sg_run::{Status, run};
+use std::alloc::{AllocError, Global};
+use std::thread::Threads;
+
+/// A datagram that comes: its port, whom it is from, its octets.
+pub type Datagram<'a> = (u16, Address, &'a [u8]);
+
+/// The words of a run, the parts of its script, how many octets a call of the source gives and of the sink takes,
+/// what the clock reads, which datagrams come, and which calls fail, counted from 1.
+#[derive(Clone, Copy)]
+pub struct Given<'a> {
+    pub words: &'a [&'a str],
+    pub script: &'a [&'a str],
+    pub most: usize,
+    pub readings: &'a [u64],
+    pub datagrams: &'a [Datagram<'a>],
+    pub reads_fail: &'a [u64],
+    pub writes_fail: &'a [u64],
+    pub link_fails: &'a [u64],
+    pub clock_fails: &'a [u64],
+    pub draws_fail: &'a [u64],
+}
+
+/// A replay of nothing, in which nothing fails.
+pub const NOTHING: Given<'static> = Given {
+    words: &["replay"],
+    script: &[],
+    most: usize::MAX,
+    readings: &[],
+    datagrams: &[],
+    reads_fail: &[],
+    writes_fail: &[],
+    link_fails: &[],
+    clock_fails: &[],
+    draws_fail: &[],
+};
+
+/// The words and the outside of a run.
+#[derive(Drop)]
+pub struct Outside {
+    words: Vec<String>,
+    source: MemSource,
+    pub sink: MemSink,
+    pub link: MemLink,
+    clock: MemClock,
+    noise: MemNoise,
+}
+
+impl Outside {
+    /// The noise is twice 304 octets, the n-th of each n modulo 256.
+    pub fn of(alloc: Global, given: Given) -> Result<Outside, AllocError> {
+        let most = given.most.max(1);
+        let mut words = Vec::new(alloc);
+        for word in given.words {
+            words.push(String::from_str(alloc, word)?)?;
+        }
+        let script = Octets::from_vec(joined(alloc, given.script)?);
+        let receipts = copies(alloc, given.datagrams)?;
+        Ok(Outside {
+            words,
+            source: MemSource::limited(script, most, given.reads_fail.to_vec(alloc)?),
+            sink: MemSink::limited(alloc, most, given.writes_fail.to_vec(alloc)?),
+            link: MemLink::make(alloc, receipts, given.link_fails.to_vec(alloc)?),
+            clock: MemClock::make(
+                given.readings.to_vec(alloc)?,
+                given.clock_fails.to_vec(alloc)?,
+            ),
+            noise: MemNoise::make(noise(alloc)?, given.draws_fail.to_vec(alloc)?),
+        })
+    }
+
+    /// Runs the command.
+    pub fn run<G: Gate + Sync>(
+        &mut self,
+        rt: &(impl Threads + Sync),
+        alloc: Global,
+        gate: &G,
+    ) -> Status {
+        run(
+            rt,
+            alloc,
+            &self.words,
+            &mut self.source,
+            &mut self.sink,
+            &mut self.link,
+            &mut self.clock,
+            &mut self.noise,
+            gate,
+        )
+    }
+
+    /// What the run has written.
+    pub fn written(&self) -> &[u8] {
+        self.sink.written().unwrap_or(b"no record")
+    }
+}
+
+/// The texts one behind another.
+pub fn joined(alloc: Global, texts: &[&str]) -> Result<Vec<u8>, AllocError> {
+    let mut octets = Vec::new(alloc);
+    for text in texts {
+        octets.extend_from_slice(text.as_bytes())?;
+    }
+    Ok(octets)
+}
+
+fn copies(
+    alloc: Global,
+    datagrams: &[Datagram],
+) -> Result<Vec<Option<(u16, Address, Octets)>>, AllocError> {
+    let mut all = Vec::new(alloc);
+    for (port, from, octets) in datagrams {
+        all.push(Some((*port, *from, Octets::from_vec(octets.to_vec(alloc)?))))?;
+    }
+    Ok(all)
+}
+
+fn noise(alloc: Global) -> Result<Octets, AllocError> {
+    let mut octets = Vec::new(alloc);
+    for i in 0..608_u32 {
+        octets.push((i % 304 % 256) as u8)?;
+    }
+    Ok(Octets::from_vec(octets))
+}

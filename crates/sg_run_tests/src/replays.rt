@@ -1,0 +1,261 @@
+//! Replays through the top call. More scripts are in `examples` and `interop/rows`, which the gate plays through the
+//! program.
+
+use crate::calls::{
+    ENDED, ENDED_TOLD, FORGED_LINE, HEADER, KEYED, KEYED_TOLD, KNOWN_LINE, KNOWN_TOLD, OFFERED,
+    OFFERED_TOLD, PACKETS, PACKETS_TOLD,
+};
+use crate::outside::{Given, NOTHING, Outside, joined};
+use sg_base::ScriptFault;
+use sg_lanes::OpenGate;
+use sg_run::Status;
+use std::alloc::Global;
+use std::process::Abort;
+use std::test::Fail;
+use std::thread::Threads;
+
+/// What is given is answered so, and this is written.
+fn tells(
+    rt: &(impl Abort + Threads + Sync),
+    alloc: Global,
+    given: Given,
+    status: Status,
+    told: &[&str],
+) -> Result<(), Fail> {
+    let mut outside = Outside::of(alloc, given)?;
+    let answer = outside.run(rt, alloc, &OpenGate);
+    assert_eq!(rt; answer, status);
+    assert_eq!(rt; outside.written(), joined(alloc, told)?.as_slice());
+    Ok(())
+}
+
+/// Scripts in parts, what they are answered, and what is written.
+const SCRIPTS: [(&[&str], Status, &[&str]); 10] = [
+    (&[], Status::Done, &[]),
+    (&[HEADER], Status::Done, &[]),
+    (
+        &[HEADER, KEYED, FORGED_LINE, KNOWN_LINE, KNOWN_LINE],
+        Status::Done,
+        &[
+            KEYED_TOLD,
+            "drop 20000 BadTag\n",
+            KNOWN_TOLD,
+            "drop 20000 Repeat\n",
+        ],
+    ),
+    (
+        &[HEADER, OFFERED, PACKETS, ENDED],
+        Status::Done,
+        &[OFFERED_TOLD, PACKETS_TOLD, ENDED_TOLD],
+    ),
+    (
+        &[
+            HEADER,
+            KEYED,
+            KNOWN_LINE,
+            "in 20000 127.0.0.1:40000 8G\n",
+            KNOWN_LINE,
+        ],
+        Status::Script {
+            line: 4,
+            fault: ScriptFault::Hex,
+        },
+        &[KEYED_TOLD, KNOWN_TOLD],
+    ),
+    (
+        &[HEADER, KEYED, "frob 1\n"],
+        Status::Script {
+            line: 3,
+            fault: ScriptFault::Word,
+        },
+        &[KEYED_TOLD],
+    ),
+    (
+        &[HEADER, KEYED, HEADER],
+        Status::Script {
+            line: 3,
+            fault: ScriptFault::Word,
+        },
+        &[KEYED_TOLD],
+    ),
+    (
+        &[HEADER, "tick 01\n"],
+        Status::Script {
+            line: 2,
+            fault: ScriptFault::Number,
+        },
+        &[],
+    ),
+    (
+        &[HEADER, KEYED, "in 20000 127.0.0.1:40000 80"],
+        Status::Script {
+            line: 3,
+            fault: ScriptFault::Unended,
+        },
+        &[KEYED_TOLD],
+    ),
+    (
+        &["srtpgw 2\n", KEYED],
+        Status::Script {
+            line: 1,
+            fault: ScriptFault::Version,
+        },
+        &[],
+    ),
+];
+
+// Whatever a call of the source gives and of the sink takes, and by every number of workers.
+#[test]
+fn scripts_and_their_outcomes(rt: HostRuntime) -> Result<(), Fail> {
+    let rows: [(&[&str], usize); 4] = [
+        (&["replay"], usize::MAX),
+        (&["replay", "--workers=2"], 1),
+        (&["replay", "--workers", "16"], 7),
+        (&["replay", "--"], 4096),
+    ];
+    for (words, most) in rows {
+        for (script, status, told) in SCRIPTS {
+            let given = Given {
+                words,
+                script,
+                most,
+                ..NOTHING
+            };
+            tells(&rt, rt.alloc(), given, status, told)?;
+        }
+    }
+    Ok(())
+}
+
+#[test]
+fn other_words_are_no_command(rt: HostRuntime) -> Result<(), Fail> {
+    let rows: [&[&str]; 13] = [
+        &[],
+        &["frob"],
+        &["--help"],
+        &["replay", "now"],
+        &["--workers", "1", "replay"],
+        &["replay", "--workers", "0"],
+        &["replay", "--workers", "17"],
+        &["replay", "--workers", "1", "--workers", "1"],
+        &["relay"],
+        &["relay", "--turns", "01"],
+        &["relay", "--turns", "1", "--turns", "1"],
+        &["demo", "1"],
+        &["demo", "257", "1"],
+    ];
+    for words in rows {
+        let given = Given {
+            words,
+            script: &[HEADER, KEYED],
+            ..NOTHING
+        };
+        tells(&rt, rt.alloc(), given, Status::Usage, &[])?;
+    }
+    Ok(())
+}
+
+#[test]
+fn reads_writes_and_draws_that_fail(rt: HostRuntime) -> Result<(), Fail> {
+    let alloc = rt.alloc();
+    let keyed = Given {
+        script: &[HEADER, KEYED, KNOWN_LINE],
+        ..NOTHING
+    };
+    tells(
+        &rt,
+        alloc,
+        Given {
+            reads_fail: &[1],
+            ..keyed
+        },
+        Status::Read,
+        &[],
+    )?;
+    tells(
+        &rt,
+        alloc,
+        Given {
+            writes_fail: &[1],
+            ..keyed
+        },
+        Status::Write,
+        &[],
+    )?;
+    tells(
+        &rt,
+        alloc,
+        Given {
+            writes_fail: &[2],
+            ..keyed
+        },
+        Status::Write,
+        &["made 1 0 1\n"],
+    )?;
+    tells(
+        &rt,
+        alloc,
+        Given {
+            writes_fail: &[3],
+            ..keyed
+        },
+        Status::Write,
+        &[KEYED_TOLD],
+    )?;
+    // The read of the last octets fails, and after it no write is tried.
+    let late = Given {
+        most: 100,
+        reads_fail: &[4],
+        ..keyed
+    };
+    tells(&rt, alloc, late, Status::Read, &[KEYED_TOLD])?;
+    let drawn = Given {
+        script: &[HEADER, OFFERED],
+        ..NOTHING
+    };
+    tells(
+        &rt,
+        alloc,
+        Given {
+            draws_fail: &[1],
+            ..drawn
+        },
+        Status::Noise,
+        &[],
+    )
+}
+
+// Where an allocation of the run is refused, as the toolchain does on demand, what was written by then is a
+// front. Where one of the preparations is refused, there is no run, and nothing to see.
+#[test]
+fn refused_memory_leaves_a_front(rt: HostRuntime) -> Result<(), Fail> {
+    let alloc = rt.alloc();
+    let given = Given {
+        script: &[HEADER, OFFERED, PACKETS, ENDED, KEYED, KNOWN_LINE],
+        ..NOTHING
+    };
+    let told = joined(
+        alloc,
+        &[
+            OFFERED_TOLD,
+            PACKETS_TOLD,
+            ENDED_TOLD,
+            KEYED_TOLD,
+            KNOWN_TOLD,
+        ],
+    );
+    let (Ok(mut outside), Ok(told)) = (Outside::of(alloc, given), told) else {
+        rt.println("no run")?;
+        return Ok(());
+    };
+    let status = outside.run(&rt, alloc, &OpenGate);
+    match (status, outside.sink.written()) {
+        (Status::Done, Some(written)) => assert_eq!(&rt; written, told.as_slice()),
+        (Status::NoMemory, Some(written)) => assert!(&rt; told.as_slice().starts_with(written)),
+        // The record of the sink found no memory.
+        (Status::Write, None) => {}
+        _ => return Err("status".into()),
+    }
+    println!(rt; "run: {status:?}")?;
+    Ok(())
+}
