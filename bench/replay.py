@@ -1,12 +1,16 @@
 #!/usr/bin/env python3
-"""Measures `srtpgw replay` over a script of one call, and prints a row in Markdown.
+"""Measures `srtpgw replay` over scripts of calls, and prints a table in Markdown.
 
-    bench/replay.py [COUNT [open|seal|both]]
+    bench/replay.py [COUNT [open|seal|both [CALLS[,CALLS..] [WORKERS[,WORKERS..]]]]] [--rounds N] [--program FILE]
 
-COUNT (200,000) packets of 172 octets under AES_CM_128_HMAC_SHA1_80 are opened, sealed, or opened and
-sealed in turns (both). What the program writes is compared with what another implementation says."""
+COUNT (200,000) packets of 172 octets under AES_CM_128_HMAC_SHA1_80 are opened, sealed, or opened and sealed in
+turns (both), in so many calls and by so many workers (1, and 1); a row for each. A figure is the median of N
+rounds (5), with the rows in turns. What the program writes is compared with what another implementation says."""
 
+import argparse
 import filecmp
+import os
+import statistics
 import subprocess
 import sys
 import tempfile
@@ -18,34 +22,55 @@ TIME = "/usr/bin/time"
 PROGRAM = BENCH.parent / "crates/srtpgw/out/srtpgw"
 
 
-def run(script, written):
+def run(program, workers, script, written):
     """Runs the program; the seconds that passed, those of the processor, and the peak in MiB, by GNU time."""
-    told = [TIME, "-f", "%e %U %S %M"]
+    told = [TIME, "-f", "%e %U %S %M", program, "replay", "--workers", str(workers)]
     with open(script) as source, open(written, "w") as sink:
-        ran = subprocess.run([*told, PROGRAM, "replay"], stdin=source, stdout=sink, stderr=subprocess.PIPE, text=True)
+        ran = subprocess.run(told, stdin=source, stdout=sink, stderr=subprocess.PIPE, text=True)
     if ran.returncode != 0:
         sys.exit(f"bench/replay.py: the program failed: {ran.stderr}")
     passed, user, system, kibibytes = map(float, ran.stderr.split())
     return passed, user + system, kibibytes / 1024
 
 
+def given():
+    words = argparse.ArgumentParser(description=__doc__, formatter_class=argparse.RawDescriptionHelpFormatter)
+    words.add_argument("count", nargs="?", type=int, default=200_000)
+    words.add_argument("ways", nargs="?", choices=["open", "seal", "both"], default="both")
+    words.add_argument("calls", nargs="?", default="1")
+    words.add_argument("workers", nargs="?", default="1")
+    words.add_argument("--rounds", type=int, default=5)
+    words.add_argument("--program", default=PROGRAM)
+    return words.parse_args()
+
+
 def main():
     if not Path(TIME).exists():
         sys.exit("bench/replay.py: GNU time is wanting; Debian has it in the package time")
-    count = int(sys.argv[1]) if len(sys.argv) > 1 else 200_000
-    ways = sys.argv[2] if len(sys.argv) > 2 else "both"
-    # The program is built where it isn't.
-    subprocess.run([WRAPPER, "replay"], stdin=subprocess.DEVNULL, check=True)
+    words = given()
+    if words.program == PROGRAM:
+        # The program is built where it isn't.
+        subprocess.run([WRAPPER, "replay"], stdin=subprocess.DEVNULL, check=True)
+    rows = [(int(c), int(w)) for c in words.calls.split(",") for w in words.workers.split(",")]
+    taken = {row: [] for row in rows}
     with tempfile.TemporaryDirectory() as folder:
-        script, outcomes, written = (Path(folder) / name for name in ("script", "outcomes", "written"))
-        make = [sys.executable, BENCH / "script.py", str(count), ways, script, outcomes]
-        subprocess.run(make, check=True)
-        passed, processor, peak = run(script, written)
-        if not filecmp.cmp(outcomes, written, shallow=False):
-            sys.exit("bench/replay.py: the program wrote something else than it must")
-    print("| packets | | seconds | of the processor | packets a second of the processor | peak MiB |")
-    print("| ---: | --- | ---: | ---: | ---: | ---: |")
-    print(f"| {count:,} | {ways} | {passed:.2f} | {processor:.2f} | {count / max(processor, 0.01):,.0f} | {peak:.1f} |")
+        written = Path(folder) / "written"
+        for calls in {calls for calls, _ in rows}:
+            files = [Path(folder) / f"{name}-{calls}" for name in ("script", "outcomes")]
+            subprocess.run([sys.executable, BENCH / "script.py", str(words.count), words.ways, *files, str(calls)], check=True)
+        for _ in range(words.rounds):
+            for calls, workers in rows:
+                taken[calls, workers].append(run(words.program, workers, Path(folder) / f"script-{calls}", written))
+                if not filecmp.cmp(Path(folder) / f"outcomes-{calls}", written, shallow=False):
+                    sys.exit("bench/replay.py: the program wrote something else than it must")
+    print(f"{os.cpu_count()} processors, load average {os.getloadavg()[0]:.2f}, medians of {words.rounds} rounds")
+    print()
+    print("| calls | workers | packets | | seconds | of the processor | packets a second | of the processor | peak MiB |")
+    print("| ---: | ---: | ---: | --- | ---: | ---: | ---: | ---: | ---: |")
+    for (calls, workers), runs in taken.items():
+        passed, processor, peak = (statistics.median(it) for it in zip(*runs))
+        rates = f"{words.count / max(passed, 0.01):,.0f} | {words.count / max(processor, 0.01):,.0f}"
+        print(f"| {calls} | {workers} | {words.count:,} | {words.ways} | {passed:.2f} | {processor:.2f} | {rates} | {peak:.1f} |")
 
 
 if __name__ == "__main__":
