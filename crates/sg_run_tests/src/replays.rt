@@ -224,38 +224,3 @@ fn reads_writes_and_draws_that_fail(rt: HostRuntime) -> Result<(), Fail> {
         &[],
     )
 }
-
-// Where an allocation of the run is refused, as the toolchain does on demand, what was written by then is a
-// front. Where one of the preparations is refused, there is no run, and nothing to see.
-#[test]
-fn refused_memory_leaves_a_front(rt: HostRuntime) -> Result<(), Fail> {
-    let alloc = rt.alloc();
-    let given = Given {
-        script: &[HEADER, OFFERED, PACKETS, ENDED, KEYED, KNOWN_LINE],
-        ..NOTHING
-    };
-    let told = joined(
-        alloc,
-        &[
-            OFFERED_TOLD,
-            PACKETS_TOLD,
-            ENDED_TOLD,
-            KEYED_TOLD,
-            KNOWN_TOLD,
-        ],
-    );
-    let (Ok(mut outside), Ok(told)) = (Outside::of(alloc, given), told) else {
-        rt.println("no run")?;
-        return Ok(());
-    };
-    let status = outside.run(&rt, alloc, &OpenGate);
-    match (status, outside.sink.written()) {
-        (Status::Done, Some(written)) => assert_eq!(&rt; written, told.as_slice()),
-        (Status::NoMemory, Some(written)) => assert!(&rt; told.as_slice().starts_with(written)),
-        // The record of the sink found no memory.
-        (Status::Write, None) => {}
-        _ => return Err("status".into()),
-    }
-    println!(rt; "run: {status:?}")?;
-    Ok(())
-}

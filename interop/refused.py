@@ -1,0 +1,67 @@
+#!/usr/bin/env python3
+"""Refuses the program each allocation of a run in turn, alone and with all behind it, and looks at what it answers.
+
+    interop/refused.py PROGRAM [SCRIPT..]
+
+Each script (by default some of `examples` and `interop/rows`) is replayed with all memory first; its output must be
+the file beside it. Then, with the Nth allocation refused, for each N, the program must answer `no memory` (6) with a
+prefix of that output, or, where it can do without, done (0) with the whole of it. `refuse.c` refuses."""
+
+import os
+import subprocess
+import sys
+import tempfile
+from pathlib import Path
+
+TOP = Path(__file__).resolve().parent.parent
+DONE, NO_MEMORY = 0, 6
+SCRIPTS = [
+    "examples/both-ways",
+    "examples/with-rtcp",
+    "interop/rows/offered-by-the-secure-side",
+    "interop/rows/offered-by-the-plain-side",
+    "interop/rows/earlier-generation",
+    "interop/rows/mikey-by-the-gateway",
+    "interop/rows/mikey-by-the-peer",
+    "interop/rows/session-of-two-media",
+]
+
+
+def replay(program, shim, script, number=0, rest=False, count=None):
+    told = {**os.environ, "LD_PRELOAD": shim, "REFUSE": str(number)}
+    told.update({"REFUSE_REST": "1"} if rest else {})
+    told.update({"REFUSE_COUNT": str(count)} if count else {})
+    ran = subprocess.run([program, "replay"], input=script, capture_output=True, env=told, timeout=60)
+    return ran.returncode, ran.stdout
+
+
+def refuse_each(program, shim, name, room):
+    """How many allocations there were, and how often each answer came."""
+    script, wanted = (Path(TOP, name + end).read_bytes() for end in (".script", ".out"))
+    count = room / "count"
+    if replay(program, shim, script, count=count) != (DONE, wanted):
+        sys.exit(f"{name}: other outcomes than wanted with all memory")
+    answers = {DONE: 0, NO_MEMORY: 0}
+    allocations = int(count.read_text())
+    for number in range(1, allocations + 1):
+        for rest in (False, True):
+            status, written = replay(program, shim, script, number, rest)
+            if not (status == DONE and written == wanted or status == NO_MEMORY and wanted.startswith(written)):
+                sys.exit(f"{name}: allocation {number} refused{' with all behind it' * rest}: status {status}")
+            answers[status] += 1
+    return allocations, answers
+
+
+def main():
+    program, names = str(Path(sys.argv[1]).resolve()), sys.argv[2:] or SCRIPTS
+    with tempfile.TemporaryDirectory() as folder:
+        room = Path(folder)
+        shim = str(room / "refuse.so")
+        subprocess.run(["cc", "-O2", "-shared", "-fPIC", "-o", shim, TOP / "interop/refuse.c"], check=True)
+        for name in names:
+            allocations, answers = refuse_each(program, shim, name.removesuffix(".script"), room)
+            print(f"{name}: {allocations} allocations, {answers[NO_MEMORY]} runs without memory, {answers[DONE]} done")
+
+
+if __name__ == "__main__":
+    main()
