@@ -3,50 +3,57 @@
  *
  *   REFUSE=N        the Nth allocation, counted from 1, finds no memory; 0 or nothing refuses none
  *   REFUSE_REST=1   and none behind it finds any
- *   REFUSE_COUNT=F  at the end the number of allocations is written to this file
+ *   REFUSE_COUNT=F  the file keeps the number of allocations so far, in eight octets, as the machine has them
  */
 #define _GNU_SOURCE
 #include <errno.h>
+#include <fcntl.h>
 #include <stdatomic.h>
-#include <stdio.h>
 #include <stdlib.h>
+#include <sys/mman.h>
+#include <unistd.h>
 
 extern void *__libc_malloc(size_t size);
 extern void *__libc_calloc(size_t count, size_t size);
 extern void *__libc_realloc(void *block, size_t size);
 extern void *__libc_memalign(size_t alignment, size_t size);
 
-static atomic_ulong allocations;
+static atomic_ulong own_count;
+static atomic_ulong *allocations = &own_count;
 static unsigned long first;
 static int refuses_rest;
 static int is_set;
 
-__attribute__((constructor)) static void begin(void) {
-    const char *number = getenv("REFUSE");
-    first = number ? strtoul(number, NULL, 10) : 0;
-    refuses_rest = getenv("REFUSE_REST") != NULL;
-    atomic_store(&allocations, 0);
-    is_set = 1;
+/* The count in a file: a program may end without a word to its libraries. */
+static void count_in(const char *file) {
+    int open_file = open(file, O_RDWR | O_CREAT, 0600);
+    if (open_file < 0 || ftruncate(open_file, sizeof(atomic_ulong)) != 0) {
+        return;
+    }
+    void *kept = mmap(NULL, sizeof(atomic_ulong), PROT_READ | PROT_WRITE, MAP_SHARED, open_file, 0);
+    close(open_file);
+    if (kept != MAP_FAILED) {
+        allocations = kept;
+    }
 }
 
-__attribute__((destructor)) static void end(void) {
+__attribute__((constructor)) static void begin(void) {
+    const char *number = getenv("REFUSE");
     const char *file = getenv("REFUSE_COUNT");
-    unsigned long count = atomic_load(&allocations);
-    is_set = 0;
+    first = number ? strtoul(number, NULL, 10) : 0;
+    refuses_rest = getenv("REFUSE_REST") != NULL;
     if (file) {
-        FILE *out = fopen(file, "w");
-        if (out) {
-            fprintf(out, "%lu\n", count);
-            fclose(out);
-        }
+        count_in(file);
     }
+    atomic_store(allocations, 0);
+    is_set = 1;
 }
 
 static int is_refused(void) {
     if (!is_set) {
         return 0;
     }
-    unsigned long number = atomic_fetch_add(&allocations, 1) + 1;
+    unsigned long number = atomic_fetch_add(allocations, 1) + 1;
     int refused = first && (number == first || (refuses_rest && number > first));
     if (refused) {
         errno = ENOMEM;

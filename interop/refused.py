@@ -42,7 +42,7 @@ def refuse_each(program, shim, name, room):
     if replay(program, shim, script, count=count) != (DONE, wanted):
         sys.exit(f"{name}: other outcomes than wanted with all memory")
     answers = {DONE: 0, NO_MEMORY: 0}
-    allocations = int(count.read_text())
+    allocations = int.from_bytes(count.read_bytes(), sys.byteorder)
     for number in range(1, allocations + 1):
         for rest in (False, True):
             status, written = replay(program, shim, script, number, rest)
