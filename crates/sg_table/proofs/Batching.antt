@@ -70,7 +70,7 @@ told_answered w (a ∷ later) p =
     let one = handled_told w a.port a.from (octets_of a.pad) (call_at w a.port) ∙ ap (λ d. (arrived_at w a.port a.from d (call_at w a.port)).outcomes) (sym p.0.1) in
     (λ i. one i ++ told_answered v later p.1 i)
 
-events_same : (came : List Arrival) → map event_of (map datagram_of came) ≡ map arrived came
+pub events_same : (came : List Arrival) → map event_of (map datagram_of came) ≡ map arrived came
 events_same [] = refl
 events_same (a ∷ later) = ap (λ es. arrived a ∷ es) (events_same later)
 

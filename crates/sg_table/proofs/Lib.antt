@@ -8,6 +8,7 @@ pub mod Found
 pub mod FreeSlot
 pub mod Gathering
 pub mod Indexed
+pub mod Orders
 pub mod Outing
 pub mod PairAdded
 pub mod Pairing

@@ -4,6 +4,7 @@ pub mod Found
 pub mod Free
 pub mod Handling
 pub mod Octets
+pub mod Orders
 pub mod Parts
 pub mod Slots
 pub mod Standing

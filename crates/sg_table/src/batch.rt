@@ -9,6 +9,7 @@ ghost use Rattle.sg_leg.specs.Pairs.{EachPair};
 ghost use Rattle.sg_leg.specs.declared.books.Books as declared_books;
 ghost use Rattle.sg_table.specs.Batches.{octets_of, IsBatched};
 ghost use Rattle.sg_table.specs.Octets.{AreOctets};
+ghost use Rattle.sg_table.specs.Orders.{IsBatchedAs};
 ghost use Rattle.sg_table.specs.Parts.{datagram_of, pushed_at, popped_at, waiting_of, is_taken, handed, all_handed, handled_first, given_back, HaveRoom, AreReady, IsGathered};
 ghost use Rattle.sg_table.specs.Standing.{Stands, TableStandsFor};
 ghost use Rattle.sg_table.specs.Values.{AreIndexed, AreQuiet, AreRising, shapes_of};
@@ -16,6 +17,7 @@ ghost use Rattle.sg_table.specs.declared.arrival.Arrival as declared;
 
 use crate::arrival::Arrival;
 use crate::calls::Calls;
+use crate::laws::every_order_gives_the_same;
 use crate::octets::holds_octets;
 use crate::ports::place;
 use crate::table::Table;
@@ -27,8 +29,8 @@ use std::thread::Threads;
 
 impl Table {
     /// Handles up to 256 datagrams, as many calls at a time as there are workers: each arrival has the pad and the
-    /// end that it would have if they came one at a time, in order. Each call is a lane, by rising slot. It doesn't
-    /// allocate.
+    /// end that it would have if they came one at a time, in order, or in any other order that keeps each call's own.
+    /// Each call is a lane, by rising slot. It doesn't allocate.
     pub fn batch<R: Threads + Sync, G: Gate + Sync>(
         &mut self,
         rt: &R,
@@ -39,8 +41,10 @@ impl Table {
         requires few { length arrivals.old ≤ 256 }
         requires pads { All (λ a. IsSome a.pad) arrivals.old }
         requires workers { 0 < workers }
-        ensures { (w : World) → TableStandsFor self.old w → IsBatched w arrivals.old arrivals.new self.new }
+        ensures batched { (w : World) → TableStandsFor self.old w → IsBatched w arrivals.old arrivals.new self.new }
+        ensures orders { (w : World) (others : List declared.Arrival) → TableStandsFor self.old w → IsBatchedAs w others arrivals.old arrivals.new self.new }
     {
+        every_order_gives_the_same();
         self.calls.batch(&self.places, rt, arrivals, workers, gate);
     }
 }

@@ -7,6 +7,7 @@ mod batch;
 mod calls;
 mod delivery;
 mod ends;
+mod laws;
 mod octets;
 mod pairs;
 mod places;
@@ -16,6 +17,7 @@ mod table;
 mod told;
 
 pub use arrival::Arrival;
+pub use laws::every_order_gives_the_same;
 pub use sg_call::{End, Handled};
 pub use table::Table;
 pub use told::Told;

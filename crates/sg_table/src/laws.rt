@@ -1,0 +1,18 @@
+//! What holds of every batch.
+
+ghost use Rattle.std.specs.Prelude.{List};
+ghost use Rattle.sg_gateway.specs.Runs.{world_after};
+ghost use Rattle.sg_gateway.specs.Step.{Event};
+ghost use Rattle.sg_gateway.specs.World.{empty};
+ghost use Rattle.sg_table.specs.Orders.{SameInEveryOrder};
+
+use sg_gateway::{calls_in_order, each_call_by_itself};
+
+/// In every world of a run arrivals get the same, and the world after them is the same, in every order that keeps
+/// each call's own.
+pub fn every_order_gives_the_same()
+    ensures { (events : List Event) → SameInEveryOrder (world_after empty events) }
+{
+    calls_in_order();
+    each_call_by_itself();
+}
