@@ -41,13 +41,12 @@ build_packaged() {
   cc -O2 -Wall -Wextra -o "$work/libsrtp" "$top/bench/libsrtp.c" -lsrtp2
 }
 
-# Debian's source package, in a folder of its own and with lists of its own.
+# Debian's source package, from where this machine has its packages, in a folder of its own and with lists of its own.
 fetch_source() {
-  local apt=(apt-get -o "Dir::Etc::sourcelist=$work/sources.list" -o Dir::Etc::sourceparts=/dev/null
+  local apt=(apt-get -o Dir::Etc::sourcelist=/dev/null -o "Dir::Etc::sourceparts=$work/sources"
     -o "Dir::State::lists=$work/lists" -o APT::Sandbox::User=root)
-  mkdir -p "$work/lists/partial"
-  . /etc/os-release
-  echo "deb-src http://deb.debian.org/debian $VERSION_CODENAME main" > "$work/sources.list"
+  mkdir -p "$work/lists/partial" "$work/sources"
+  sed 's/^Types: deb$/Types: deb-src/' /etc/apt/sources.list.d/debian.sources > "$work/sources/debian.sources"
   (cd "$work" && "${apt[@]}" update >&2 && "${apt[@]}" source --download-only libsrtp2 >&2)
   rm -rf "$work/source"
   dpkg-source --no-check -x "$work"/libsrtp2_*.dsc "$work/source" >&2

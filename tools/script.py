@@ -17,7 +17,7 @@ from pathlib import Path
 
 GATEWAY_PORTS = range(20_000, 20_000 + 16 * 256)
 DATAGRAM_MOST, TEXT_MOST = 4_352, 32_768
-# By link type (the registry of tcpdump.org): where the number of the protocol stands, and where its octets begin.
+# By link type (as tcpdump numbers them): where the number of the protocol stands, and where its octets begin.
 LINKS = {1: (12, 14), 113: (14, 16), 276: (0, 20)}
 IP_VERSION_4, VLAN = 0x0800, 0x8100
 RAW, LOOPBACK = 101, 0
