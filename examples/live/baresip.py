@@ -15,7 +15,7 @@ from pathlib import Path
 
 from b2bua import PORTS, Server
 from driver import Driver
-from ends import PLAIN_RTP, is_bound, program, wait_until
+from ends import PLAIN_RTP, is_bound, program, require_free, wait_until
 
 SECONDS = 10
 PHONE, PLAIN_PHONE, ECHO = ("127.0.0.1", 5060), ("127.0.0.1", 5062), ("127.0.0.1", 5080)
@@ -196,6 +196,7 @@ def is_held(driver, folder):
 
 
 def main():
+    require_free(PHONE[1], PLAIN_PHONE[1], ECHO[1], *PORTS.values())
     print(subprocess.run(["baresip", "-h"], capture_output=True, text=True).stdout.splitlines()[0])
     print(subprocess.run(["sipp", "-v"], capture_output=True, text=True).stdout.strip().splitlines()[0])
     driver = Driver(program())
