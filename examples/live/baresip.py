@@ -149,8 +149,8 @@ def serving(driver, peers):
 def calls_an_echo(driver, folder):
     """The telephone hears itself by SIPp's echo."""
     phone = Phone(folder, "alice", PHONE, 42_000, True, 1)
-    words = ["sipp", "-sn", "uas", "-i", ECHO[0], "-p", str(ECHO[1]), "-mi", ECHO[0], "-mp", str(ECHO_RTP), "-rtp_echo",
-             "-m", "1", "-timeout", "60", "-nostdin"]
+    words = ["sipp", "-sn", "uas", "-i", ECHO[0], "-p", str(ECHO[1]), "-mi", ECHO[0], "-mp", str(ECHO_RTP), "-ci", ECHO[0],
+             "-rtp_echo", "-m", "1", "-timeout", "60", "-nostdin"]
     with open(Path(folder) / "sipp.log", "wb") as log, serving(driver, {"secure": PHONE, "plain": ECHO}):
         echo = subprocess.Popen(words, stdout=log, stderr=subprocess.STDOUT, cwd=folder)
         wait_until(lambda: is_bound(ECHO[1]), what="SIPp")
