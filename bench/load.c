@@ -97,6 +97,7 @@ static uint64_t processor(int pid) {
     if (!tasks) fail("the gateway isn't there");
     for (struct dirent *task; (task = readdir(tasks));) {
         unsigned long long taken;
+        if (task->d_name[0] == '.') continue;
         snprintf(path, sizeof path, "/proc/%d/task/%.20s/schedstat", pid, task->d_name);
         FILE *file = fopen(path, "r");
         if (!file) continue;

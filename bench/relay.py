@@ -30,7 +30,7 @@ from rtpengine import Far, port_of, text_of  # noqa: E402
 from sealed import crypto_of  # noqa: E402
 
 SUITE = "AES_CM_128_HMAC_SHA1_80"
-RATES = [20_000, 40_000, 60_000, 80_000, 100_000, 120_000, 140_000, 160_000]
+RATES = [20_000, 60_000, 100_000, 150_000, 200_000, 250_000, 300_000]
 WAYS = {"open": "SRTP to RTP", "seal": "RTP to SRTP", "both": "each way in turns"}
 # How many packets a second are far too many, and how many are few.
 FLOOD, FEW = 400_000, 20_000
@@ -45,7 +45,7 @@ class Step:
         self.lost = self.sent - self.good
         self.sent_a_second = self.sent / sending * 1e6
         self.good_a_second = self.good / max(sending, until) * 1e6
-        # In microseconds, and in processors.
+        # Microseconds a packet, and processors.
         self.cost = cost / 1_000 / max(1, self.good)
         self.busy = cost / 1_000 / max(sending, until)
 
@@ -117,31 +117,29 @@ def row(cells):
     print("| " + " | ".join(map(str, cells)) + " |", flush=True)
 
 
-def head(*cells):
+def head():
     print()
-    row(cells)
-    row(["---"] * 2 + ["---:"] * (len(cells) - 2))
+    row(["gateway", "calls", "sent a second", "packets", "lost", "put out a second", "us of the processor a packet",
+         "processors busy"])
+    row(["---"] + ["---:"] * 7)
 
 
 def told(place, calls, step):
-    notes = f" ({step.missed:,} in front of the load)" if step.missed else ""
-    notes += f" ({step.other + step.again:,} others)" if step.other + step.again else ""
-    row([place, calls, f"{step.rate:,}", f"{step.sent_a_second:,.0f}", f"{step.sent:,}", f"{step.lost:,}{notes}",
+    """A row. Of what is lost it says how much the system threw away, since nobody had taken it in time."""
+    counts = {"at its sockets": step.thrown, "at the load's": step.missed, "changed": step.other, "twice": step.again}
+    notes = ", ".join(f"{count:,} {where}" for where, count in counts.items() if count)
+    row([place, calls, f"{step.sent_a_second:,.0f}", f"{step.sent:,}", f"{step.lost:,}" + (f" ({notes})" if notes else ""),
          f"{step.good_a_second:,.0f}", f"{step.cost:.1f}", f"{step.busy:.2f}"])
 
 
-HEADS = ["calls", "asked for a second", "sent a second", "packets", "lost", "put out a second", "us of the processor a packet",
-         "processors busy"]
-
-
 def ladder(load, gateway, count, way, given):
-    """Raises the rate until packets are lost at two rates one after the other. The highest rate below them."""
-    most, losing = 0, 0
+    """Raises the rate until packets are lost at two rates one after the other. The highest rate below all losses."""
+    most, losing, lost = 0, 0, 0
     with contextlib.closing(steps_of(load, gateway, count, way, [(rate, given.seconds) for rate in given.rates])) as steps:
         for step in steps:
             told(f"{gateway.name}, {WAYS[way]}", count, step)
-            losing = losing + 1 if step.lost else 0
-            most = most if step.lost else step.rate
+            losing, lost = losing + 1 if step.lost else 0, lost + step.lost
+            most = most if lost else step.rate
             if losing == 2:
                 break
     return most
@@ -205,9 +203,9 @@ def main():
         subprocess.run(["cc", "-O2", "-Wall", "-Wextra", "-o", load, BENCH / "load.c", "-lsrtp2", "-lpthread"], check=True)
         averages = "/".join(f"{average:.1f}" for average in os.getloadavg())
         print(f"{machine()}, load average {averages} at the beginning; {given.seconds} seconds a step")
-        head("gateway", *HEADS)
+        head()
         most = [line for make in made for line in measure(load, make, given)]
-        head("gateway", *HEADS)
+        head()
         for make in made:
             beyond(load, make, given)
     print("\nThe highest rate without loss, in packets a second:\n")
