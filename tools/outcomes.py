@@ -138,9 +138,11 @@ def plot(counts, path):
     from matplotlib import pyplot
     last = max((second for by_second in counts.values() for second in by_second), default=0)
     for cause, by_second in sorted(counts.items()):
-        pyplot.step(range(last + 1), [by_second[second] for second in range(last + 1)], where="post", label=cause)
+        # Up to the second behind the last, or drops of one second would be no line.
+        pyplot.step(range(last + 2), [by_second[second] for second in range(last + 2)], where="post", label=cause)
     pyplot.xlabel("seconds from the first datagram on")
     pyplot.ylabel("datagrams dropped in a second")
+    pyplot.ylim(bottom=0)
     if counts:
         pyplot.legend()
     pyplot.savefig(path)

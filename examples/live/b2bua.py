@@ -10,6 +10,8 @@ Needs Python 3.8 alone.
 """
 
 import argparse
+import collections
+import contextlib
 import itertools
 import re
 import select
@@ -18,7 +20,7 @@ import sys
 import time
 
 from driver import Driver, Refused
-from ends import program
+from ends import program, require_free
 
 HOME = "127.0.0.1"
 PORTS = {"secure": 5070, "plain": 5072}
@@ -74,14 +76,23 @@ class Dialog:
 
 
 class Server:
-    def __init__(self, driver, peers):
-        self.driver, self.peers = driver, peers
+    """Its `log` has a line for each offer; `told` is given each one, too."""
+
+    def __init__(self, driver, peers, told=lambda line: None):
+        self.driver, self.peers, self.told = driver, peers, told
         self.sockets = {side: socket.socket(socket.AF_INET, socket.SOCK_DGRAM) for side in PORTS}
         for side, port in PORTS.items():
             self.sockets[side].bind((HOME, port))
         self.calls = {}                     # by the SIP name of either half: number, and the two halves by side
         self.names = itertools.count(1)
         self.log = []
+        # Calls that the gateway ended by itself; it tells of them in a thread of the driver's.
+        self.idle = collections.deque()
+        driver.on_end = lambda call, why: self.idle.append(call)
+
+    def note(self, line):
+        self.log.append(line)
+        self.told(line)
 
     # ---- messages
 
@@ -128,7 +139,7 @@ class Server:
         try:
             text = carried(request.body, far.given) if near.passes else self.offer(call, side, request.body)
         except Refused as refused:
-            self.log.append(f"call {call}: offer refused: {refused}")
+            self.note(f"call {call}: offer refused: {refused}")
             self.reply(side, request, 488, "Not Acceptable Here", tag=f"g{call}")
             return None if near.said else self.forget(call)
         near.waiting, far.invited, near.offer, far.offer = request, far.number, request.body, text
@@ -167,12 +178,12 @@ class Server:
             text = self.answer(call, near, half, response.body)
         except Refused as refused:
             # The far telephone holds to a text that the gateway doesn't: nothing is left but to end the call.
-            self.log.append(f"call {call}: answer refused: {refused}")
+            self.note(f"call {call}: answer refused: {refused}")
             self.ask(half, "BYE")
             self.refuse(call, near, request, 488)
             return self.hang_up(call, near) if near.said else None
         near.said, near.given, half.said, half.given = near.offer, text, response.body, half.offer
-        self.log.append(f"call {call}: agreed{', past the gateway' if near.passes else ''}")
+        self.note(f"call {call}: agreed{', past the gateway' if near.passes else ''}")
         return self.reply(near.side, request, 200, "OK", text, tag=f"g{call}")
 
     def answer(self, call, near, far, text):
@@ -207,6 +218,17 @@ class Server:
             return
         self.forget(call)
 
+    def went_idle(self, call):
+        """The gateway ended a call that had no media for a minute; the telephones are told."""
+        halves = next((halves for number, halves in self.calls.values() if number == call), {})
+        for half in halves.values():
+            if half.waiting:
+                self.reply(half.side, half.waiting, 480, "Temporarily Unavailable", tag=f"g{call}")
+            else:
+                self.ask(half, "CANCEL" if half.invited else "BYE", number=half.invited)
+        self.note(f"call {call}: ended, since it was idle")
+        self.forget(call)
+
     def forget(self, call):
         self.calls = {name: known for name, known in self.calls.items() if known[0] != call}
 
@@ -230,7 +252,12 @@ class Server:
             ready, _, _ = select.select(list(self.sockets.values()), [], [], 0.1)
             for side, own in self.sockets.items():
                 if own in ready:
-                    self.handle(side, Message(*own.recvfrom(65_536)))
+                    message = Message(*own.recvfrom(65_536))
+                    # Else it is nothing of SIP, as what keeps a way through a firewall open.
+                    if message.get("call-id") and message.get("cseq"):
+                        self.handle(side, message)
+            while self.idle:
+                self.went_idle(self.idle.popleft())
 
     def close(self):
         for own in self.sockets.values():
@@ -282,10 +309,17 @@ def main():
     words.add_argument("--plain", type=address, required=True, help="the telephone on the plain side")
     words.add_argument("--seconds", type=float, default=3_600, help="when it ends by itself")
     given = words.parse_args()
+    require_free(*PORTS.values())
     driver = Driver(program())
     end = time.monotonic() + given.seconds
-    Server(driver, {"secure": given.secure, "plain": given.plain}).serve(lambda: time.monotonic() > end)
-    return driver.close()
+    server = Server(driver, {"secure": given.secure, "plain": given.plain}, lambda line: print(line, flush=True))
+    print(f"telephones of the secure side call {HOME}:{PORTS['secure']}, of the plain side {HOME}:{PORTS['plain']};"
+          f" until {given.seconds:g} seconds have passed, or Ctrl-C", flush=True)
+    with contextlib.suppress(KeyboardInterrupt):
+        server.serve(lambda: time.monotonic() > end)
+    status = driver.close()
+    print(f"dropped {dict(driver.drops)}, unsent {dict(driver.unsent)}, status {status}")
+    return status
 
 
 if __name__ == "__main__":

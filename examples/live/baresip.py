@@ -15,7 +15,7 @@ from pathlib import Path
 
 from b2bua import PORTS, Server
 from driver import Driver
-from ends import PLAIN_RTP, is_bound, program, wait_until
+from ends import PLAIN_RTP, is_bound, program, require_free, wait_until
 
 SECONDS = 10
 PHONE, PLAIN_PHONE, ECHO = ("127.0.0.1", 5060), ("127.0.0.1", 5062), ("127.0.0.1", 5080)
@@ -149,8 +149,8 @@ def serving(driver, peers):
 def calls_an_echo(driver, folder):
     """The telephone hears itself by SIPp's echo."""
     phone = Phone(folder, "alice", PHONE, 42_000, True, 1)
-    words = ["sipp", "-sn", "uas", "-i", ECHO[0], "-p", str(ECHO[1]), "-mi", ECHO[0], "-mp", str(ECHO_RTP), "-rtp_echo",
-             "-m", "1", "-timeout", "60", "-nostdin"]
+    words = ["sipp", "-sn", "uas", "-i", ECHO[0], "-p", str(ECHO[1]), "-mi", ECHO[0], "-mp", str(ECHO_RTP), "-ci", ECHO[0],
+             "-rtp_echo", "-m", "1", "-timeout", "60", "-nostdin"]
     with open(Path(folder) / "sipp.log", "wb") as log, serving(driver, {"secure": PHONE, "plain": ECHO}):
         echo = subprocess.Popen(words, stdout=log, stderr=subprocess.STDOUT, cwd=folder)
         wait_until(lambda: is_bound(ECHO[1]), what="SIPp")
@@ -196,6 +196,7 @@ def is_held(driver, folder):
 
 
 def main():
+    require_free(PHONE[1], PLAIN_PHONE[1], ECHO[1], *PORTS.values())
     print(subprocess.run(["baresip", "-h"], capture_output=True, text=True).stdout.splitlines()[0])
     print(subprocess.run(["sipp", "-v"], capture_output=True, text=True).stdout.strip().splitlines()[0])
     driver = Driver(program())

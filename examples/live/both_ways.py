@@ -10,8 +10,8 @@ from pathlib import Path
 
 from driver import Driver
 from ends import (
-    End, Key, NEAR_WRAP, PLAIN, PLAIN_RTP, SECURE, is_bound, numbers_of, packets_of, payloads_of, program, speech, told,
-    wait_until,
+    End, Key, NEAR_WRAP, PLAIN, PLAIN_RTP, SECURE, is_bound, numbers_of, packets_of, payloads_of, program, require_free,
+    speech, told, wait_until,
 )
 
 SECONDS = 8
@@ -43,6 +43,7 @@ def one_suite(driver, call, suite, name, sender, receiver, folder):
 
 def both_ways(name, suites, sender, receiver):
     """All suites, one call each. The number to end with."""
+    require_free()
     print(f"{SECONDS} seconds each way, the first number {NEAR_WRAP}", flush=True)
     driver = Driver(program())
     with tempfile.TemporaryDirectory() as folder:

@@ -6,6 +6,7 @@ import base64
 import os
 import random
 import socket
+import sys
 import threading
 import time
 from pathlib import Path
@@ -98,6 +99,16 @@ def is_bound(port):
     """Whether some process has bound the UDP port."""
     lines = Path("/proc/net/udp").read_text().splitlines()[1:]
     return any(int(line.split()[1].split(":")[1], 16) == port for line in lines)
+
+
+def require_free(*more):
+    """Ends the program with 77 where another one has a port that it needs: the first call's of the gateway, the
+    ends' two with the next above, or one of `more`."""
+    ends = [port + above for _, port in (SECURE, PLAIN) for above in (0, 1)]
+    taken = [port for port in (*range(SECURE_RTP, PLAIN_RTCP + 1), *ends, *more) if is_bound(port)]
+    if taken:
+        print(f"not run: another program has UDP port {', '.join(map(str, taken))}", file=sys.stderr)
+        sys.exit(77)
 
 
 def wait_until(holds, seconds=10, what="something"):

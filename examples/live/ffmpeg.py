@@ -13,7 +13,8 @@ def sender(audio, key):
     """Sends the octets of PCMU as they are, in packets of 160: with both heads and the tag these are 186."""
     return [*FFMPEG, "-re", "-f", "mulaw", "-ar", "8000", "-ac", "1", "-i", audio, "-c:a", "copy", "-f", "rtp",
             "-payload_type", "0", "-seq", str(NEAR_WRAP),
-            "-srtp_out_suite", key.suite, "-srtp_out_params", key.base64(), f"srtp://127.0.0.1:{SECURE_RTP}?pkt_size=186"]
+            "-srtp_out_suite", key.suite, "-srtp_out_params", key.base64(),
+            f"srtp://127.0.0.1:{SECURE_RTP}?pkt_size=186&localaddr=127.0.0.1"]
 
 
 def receiver(audio, key):
@@ -22,7 +23,7 @@ def receiver(audio, key):
             f"m=audio {SECURE[1]} RTP/SAVP 0", f"a=crypto:1 {key.suite} inline:{key.base64()}", ""]
     description = audio.with_suffix(".sdp")
     description.write_text("\r\n".join(text))
-    return [*FFMPEG, "-protocol_whitelist", "file,udp,rtp,srtp", "-i", description,
+    return [*FFMPEG, "-protocol_whitelist", "file,udp,rtp,srtp", "-localaddr", "127.0.0.1", "-i", description,
             "-c:a", "copy", "-f", "mulaw", "-y", audio]
 
 

@@ -9,7 +9,7 @@ import time
 from driver import Driver
 from ends import (
     End, PLAIN, PLAIN_RTCP, PLAIN_RTP, SECURE, SECURE_RTCP, SECURE_RTP, numbers_of, packets_of, payloads_of, program,
-    speech, told,
+    require_free, speech, told,
 )
 from sealed import MasterKey, Opening, Sealing, text_of
 
@@ -104,6 +104,7 @@ def talk(own, gateways, call):
 
 
 def main():
+    require_free()
     driver, good = Driver(program()), []
     driver.psk(GATEWAY.decode(), PHONE.decode(), SHARED)
     for call, keyed in enumerate((offered_by_the_gateway, offered_by_the_telephone), 1):

@@ -7,7 +7,9 @@ import threading
 import time
 
 from driver import Driver
-from ends import End, PLAIN, PLAIN_RTP, SECURE, SECURE_RTP, numbers_of, packets_of, payloads_of, program, speech, told
+from ends import (
+    End, PLAIN, PLAIN_RTP, SECURE, SECURE_RTP, numbers_of, packets_of, payloads_of, program, require_free, speech, told,
+)
 from sealed import MasterKey, Opening, Sealing, crypto_line, crypto_of, text_of
 
 SECONDS = 6
@@ -65,6 +67,7 @@ def offered_to_the_telephone(driver, telephone, late=0.0):
 
 
 def main():
+    require_free()
     driver, telephone, plain = Driver(program()), Telephone(), End(PLAIN)
     there, back = speech(SECONDS, 71), speech(SECONDS, 72)
     offered_by_the_telephone(driver, telephone)

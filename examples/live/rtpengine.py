@@ -11,7 +11,8 @@ import time
 
 from driver import Driver, Refused
 from ends import (
-    End, PLAIN, PLAIN_RTP, is_bound, numbers_of, packets_of, payloads_of, program, speech, told, wait_until,
+    End, PLAIN, PLAIN_RTP, is_bound, numbers_of, packets_of, payloads_of, program, require_free,
+    speech, told, wait_until,
 )
 
 SECONDS = 4
@@ -34,11 +35,11 @@ def bencoded(value):
 
 
 class Far:
-    """rtpengine, by its control protocol."""
+    """rtpengine, by its control protocol. By one thread, since of several each may overtake another."""
 
-    def __init__(self, folder):
+    def __init__(self, folder, last=30_200, threads=1):
         words = ["rtpengine", "--config-file=none", "-f", "-E", "-t", "-1", "-i", "127.0.0.1", "-L", "3",
-                 "-n", "%s:%d" % CONTROL, "-m", "30000", "-M", "30200", "-p", f"{folder}/pid"]
+                 "-n", "%s:%d" % CONTROL, "-m", "30000", "-M", str(last), f"--num-threads={threads}", "-p", f"{folder}/pid"]
         self.log = open(f"{folder}/log", "wb")
         self.process = subprocess.Popen(words, stdout=self.log, stderr=subprocess.STDOUT)
         self.socket = socket.socket(socket.AF_INET, socket.SOCK_DGRAM)
@@ -130,6 +131,7 @@ def one_call(driver, far, call, keyed, suite):
 
 
 def main():
+    require_free(CONTROL[1], FAR[1])
     version = subprocess.run(["rtpengine", "--version"], stdout=subprocess.PIPE, stderr=subprocess.STDOUT, text=True)
     print("rtpengine", version.stdout.strip(), flush=True)
     driver, good = Driver(program()), []
