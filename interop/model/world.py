@@ -35,17 +35,19 @@ class Ring:
 
     def install(self, masters):
         """The number of the first of the keys; all or none are taken."""
-        numbers, count = dict(self.numbers), self.count
+        added, count = {}, self.count
         for master in masters:
             marks, is_twice = self.marks(master)
-            before = [numbers[mark] for mark in marks if mark in numbers] + [count] * is_twice
+            known = [added.get(mark, self.numbers.get(mark)) for mark in marks]
+            before = [number for number in known if number is not None] + [count] * is_twice
             if before:
                 raise Refused(f"KeyReused {min(before)}")
-            numbers.update(dict.fromkeys(marks, count))
+            added.update(dict.fromkeys(marks, count))
             count += 1
         if count > 65_536:
             raise Refused("RingFull")
-        first, self.count, self.numbers = self.count, count, numbers
+        first, self.count = self.count, count
+        self.numbers.update(added)
         return first
 
 
