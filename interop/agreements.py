@@ -473,6 +473,6 @@ def carried_lines():
 
 ALL = (
     offered_by_the_secure_side, offered_by_the_plain_side, refused_lines, lines_of_the_second_medium,
-    lines_passed_over, lifetimes, lifetimes_of_an_answer, windows, windows_at_bounds, unencrypted, echoed_key, idle_media,
-    no_medium_is_left, no_media, faulty_texts, cut_offers, cut_texts_of_the_plain_side, carried_lines,
+    lines_passed_over, lifetimes, lifetimes_of_an_answer, windows, windows_at_bounds, unencrypted, echoed_key,
+    idle_media, no_medium_is_left, no_media, faulty_texts, cut_offers, cut_texts_of_the_plain_side, carried_lines,
 )

@@ -4,10 +4,10 @@
     interop/hostile.py PROGRAM [COUNT [SEED]]
 
 Each is made of a script of `interop/rows/`, of `examples/` or of the grammar of `mixed.py`. One in five is cut at an
-octet, at each in turn; the others have one to three changes: a bit, an octet, a field or a line changed, dropped, doubled
-or exchanged with another's, a number made larger or smaller, or a cut. Of each run:
+octet, at each in turn; the others have one to three changes: a bit, an octet, a digit, a field or a line changed,
+dropped, doubled or exchanged with another's, a number made larger or smaller, or a cut. Of each run:
 
-- it ends by itself, within 20 seconds and 32 MiB of data, with the status that the model tells and the text of that status;
+- it ends by itself, within 20 seconds and 32 MiB of data, with the status that the model tells and its text;
 - what is written is what the model tells, to the octet. Where a line asks for noise to be drawn, what is written begins
   with what the model tells of the lines before, the rest is outcomes of their grammar, and the status is 0 or 2.
 
@@ -81,8 +81,9 @@ def changed(dice, text, other):
         return text[:at] + text[at + 1:]
     if kind > 10:
         # a digit for a digit mostly leaves the line within the grammar
-        places = [place for place in (dice.randrange(len(text) or 1) for _ in range(9)) if text[place:place + 1] in DIGITS]
-        return text[:places[0]] + dice.choice(DIGITS) + text[places[0] + 1:] if places else text
+        while text and text[at:at + 1] not in DIGITS:
+            at = dice.randrange(len(text))
+        return text[:at] + dice.choice(DIGITS) + text[at + 1:]
     start, end = some_line(dice, text)
     if kind == 4:
         return text[:start] + text[end:]
@@ -106,7 +107,8 @@ def changed(dice, text, other):
 def cases(count, seed):
     """A name and a script each."""
     dice, scripts = random.Random(seed), corpus(seed)
-    cut = iter((name, script[:length]) for name, script in dice.sample(scripts, len(scripts)) for length in range(len(script)))
+    in_turn = dice.sample(scripts, len(scripts))
+    cut = ((name, script[:length]) for name, script in in_turn for length in range(len(script)))
     for number in range(count):
         if number % 5 == 0:
             name, script = next(cut)
@@ -137,13 +139,14 @@ def fault(run, wanted):
     status, written, said = run
     if wanted.status is not None:
         if (status, said) != (wanted.status, wanted.said):
-            return f"ends with {status} and {said[-200:]!r}, the model with {wanted.status} and {wanted.said!r}"
+            return f"ends with {status} {said[-200:]!r}, the model with {wanted.status} {wanted.said!r}"
         return None if written == wanted.octets() else "writes other outcomes than the model"
     if status not in (0, 2) or not (STATUS.fullmatch(said) if status else said == b""):
         return f"ends with {status} and {said[-200:]!r}"
     if not written.startswith(wanted.octets()):
         return "writes other outcomes than the model, before noise is drawn"
-    if any(not OUTCOME.fullmatch(line) for line in written.split(b"\n")[:-1]) or not written.endswith(b"\n") and written:
+    *lines, rest = written.split(b"\n")
+    if rest or not all(OUTCOME.fullmatch(line) for line in lines):
         return "writes what is no outcome"
     return None
 

@@ -3,8 +3,8 @@
 
     interop/hostile_relay.py PROGRAM
 
-Each check starts the program anew as `relay`, and drives it by lines and datagrams; the last plays a replay. A check
-prints its figures; the first that fails ends the whole with 1. The ports 20000 to 24095 of 127.0.0.1 have to be free.
+Each check starts the program anew as `relay`, and drives it by lines and datagrams; the last one plays replays. A check
+prints its figures; the first that fails ends the whole with 1. The ports 20000 to 21023 of 127.0.0.1 have to be free.
 """
 import os
 import signal
@@ -86,7 +86,8 @@ class Gateway:
     def __init__(self, program, calls, reads=True):
         self.begun = time.monotonic()
         self.run = subprocess.Popen(
-            [program, "relay", "--turns", "1000000000"], stdin=subprocess.PIPE, stdout=subprocess.PIPE, stderr=subprocess.PIPE
+            [program, "relay", "--turns", "1000000000"],
+            stdin=subprocess.PIPE, stdout=subprocess.PIPE, stderr=subprocess.PIPE,
         )
         self.started.append(self.run)
         self.calls, self.lines = [Call(number) for number in range(calls)], []
@@ -130,10 +131,10 @@ class Gateway:
         return [line.decode().rstrip("\n") for line in self.lines]
 
 
-def buffer_of(port_count, octets):
-    """How many datagrams of so many octets a socket of the system holds before the next is thrown away."""
+def buffer_of(count, octets):
+    """How many of so many datagrams of a length a socket of the system holds, before it throws the next away."""
     one, other = Peer(), Peer()
-    for _ in range(port_count):
+    for _ in range(count):
         other.sends(one.port, bytes(octets))
     return len(one.arrived())
 
@@ -154,13 +155,15 @@ def queued_before_the_first_turn(program):
     seconds = time.monotonic() - begun
     for call in gateway.calls:
         assert call.plain.arrived() == good, "a packet is missing on the plain side"
-        assert call.secure.arrived() == [call.to_peer.srtp(rtp(seq), seq) for seq in range(each)], "one of the secure side"
+        sealed = [call.to_peer.srtp(rtp(seq), seq) for seq in range(each)]
+        assert call.secure.arrived() == sealed, "a packet is missing on the secure side"
     memory, told = gateway.memory(), gateway.ends()
     dropped = [line for line in told if line.startswith("drop")]
     wanted = sorted(f"drop {call.ports[0]} BadTag" for call in gateway.calls for seq in range(each) if seq % 10 == 9)
     assert sorted(dropped) == wanted, "other drops"
     count = 2 * each * len(gateway.calls)
-    return f"{count} datagrams queued at 128 ports: {count - len(dropped)} put out, {len(dropped)} told as forged, in {seconds:.1f} s, {memory} KiB"
+    handled = f"{count - len(dropped)} put out, {len(dropped)} told as forged, in {seconds:.1f} s"
+    return f"{count} datagrams queued at 128 ports: {handled}, {memory} KiB"
 
 
 def queued_at_one_port(program):
@@ -177,7 +180,8 @@ def queued_at_one_port(program):
     arrived = call.secure.arrived()
     assert arrived == [call.to_peer.srtp(rtp(seq), seq) for seq in range(len(arrived))], "others than the first"
     assert len(arrived) == room and told == ["ended 0 0 1 bye"], f"{len(arrived)} of {room}"
-    return f"{count} datagrams of {len(packets[0])} octets at one port: the system's buffer holds {room}, all of these put out"
+    size = len(packets[0])
+    return f"{count} datagrams of {size} octets at one port: the system's buffer holds {room}, all of these put out"
 
 
 def flood(port, stop, counts):
@@ -218,7 +222,8 @@ def flooded(program):
     assert sealed == [talking.to_peer.srtp(rtp(seq), seq) for seq in range(count)], f"{len(sealed)} on the secure side"
     dropped = told.count(f"drop {gateway.calls[1].ports[0]} BadTag")
     assert dropped == len(told) - 1, "something else was dropped"
-    return f"{sum(counts)} forged packets at another port, {dropped} of them handled: {count} of {count} each way, {memory} KiB"
+    forged = f"{sum(counts)} forged packets at another port, {dropped} of them handled"
+    return f"{forged}: {count} of {count} each way, {memory} KiB"
 
 
 def closed_ports(program):
@@ -249,7 +254,8 @@ def closed_ports(program):
     assert call.secure.arrived() == [call.to_peer.srtp(rtp(seq), seq) for seq in later], "the secure side"
     unsent = [line for line in told if line.startswith("unsent")]
     assert len(told) == len(unsent) + 1, told[:5]
-    return f"{CLOSED} packets each way to closed ports, 100 to opened ones: 100 of 100 each way, {len(unsent)} told as unsent, status 0"
+    closed = f"{CLOSED} packets each way to closed ports, {len(unsent)} told as unsent"
+    return f"{closed}; 100 to opened ones: 100 of 100 each way, status 0"
 
 
 def slow_reader(program):
@@ -261,16 +267,16 @@ def slow_reader(program):
         call.plain.sends(call.ports[1], rtp(7))
     gateway.turns(4)
     time.sleep(2)
-    waiting = Path(f"/proc/{gateway.run.pid}/wchan").read_text() or "-"
     gateway.reader.start()
     gateway.turns_until(lambda: len(gateway.lines) == each * len(gateway.calls))
     gateway.turns_until(lambda: all(call.secure.arrived() for call in gateway.calls))
     told = gateway.ends()
     dropped = sorted(line for line in told if line.startswith("drop"))
-    assert dropped == sorted(f"drop {call.ports[0]} BadTag" for call in gateway.calls for _ in range(each)), len(dropped)
+    wanted = sorted(f"drop {call.ports[0]} BadTag" for call in gateway.calls for _ in range(each))
+    assert dropped == wanted, f"{len(dropped)} outcomes"
     for call in gateway.calls:
         assert call.secure.arrived() == [call.to_peer.srtp(rtp(7), 7)], "a packet is missing"
-    return f"{len(dropped)} outcomes read after two seconds: none is missing, and 64 packets of the calls are out ({waiting})"
+    return f"{len(dropped)} outcomes read after two seconds: none is missing, and 64 packets of the calls are out"
 
 
 def reader_that_goes(program):
@@ -287,23 +293,25 @@ def reader_that_goes(program):
 
 def rollovers(program):
     """2^16 packets each way over each of five rollovers, by replay, octet for octet."""
-    secure, plain, handled, begun = f"{HOST}:40000", f"{HOST}:41000", 0, time.monotonic()
+    secure, plain, handled = f"{HOST}:40000", f"{HOST}:41000", 0
     for number, rollover in enumerate((0, 1, 0x7FFFFFFF, 0xFFFF, 0xFFFFFFFE)):
         from_peer, to_peer = keys_of(number)
         first = rollover * 65536 + 32768
         with tempfile.TemporaryFile() as script, tempfile.TemporaryFile() as wanted:
-            script.write(f"srtpgw 1\nmanual 1 {secure} {plain} {rollover:08x} 64 {from_peer.field()} {to_peer.field()}\n".encode())
+            keys = f"{from_peer.field()} {to_peer.field()}"
+            script.write(f"srtpgw 1\nmanual 1 {secure} {plain} {rollover:08x} 64 {keys}\n".encode())
             wanted.write(b"made 1 0 1\nlive 1\n")
             for index in range(first, first + ROLLED):
                 packet = rtp(index % 65536)
-                script.write(f"in 20000 {secure} {from_peer.srtp(packet, index).hex()}\nin 20002 {plain} {packet.hex()}\n".encode())
-                wanted.write(f"out 20002 {plain} {packet.hex()}\nout 20000 {secure} {to_peer.srtp(packet, index).hex()}\n".encode())
+                arriving, sealed = from_peer.srtp(packet, index).hex(), to_peer.srtp(packet, index).hex()
+                script.write(f"in 20000 {secure} {arriving}\nin 20002 {plain} {packet.hex()}\n".encode())
+                wanted.write(f"out 20002 {plain} {packet.hex()}\nout 20000 {secure} {sealed}\n".encode())
                 handled += 2
             script.seek(0)
             wanted.seek(0)
             run = subprocess.run([program, "replay"], stdin=script, capture_output=True, timeout=SECONDS, check=True)
             assert run.stdout == wanted.read(), f"other octets from rollover {rollover}"
-    return f"{handled} packets over five rollovers: the same octets, {time.monotonic() - begun:.0f} s with their sealing"
+    return f"{handled} packets over five rollovers: the same octets"
 
 
 ALL = (
@@ -313,7 +321,8 @@ ALL = (
 
 def main():
     signal.alarm(600)
-    print(f"net.core.rmem_default {Path('/proc/sys/net/core/rmem_default').read_text().strip()}, {os.cpu_count()} processors")
+    room = Path("/proc/sys/net/core/rmem_default").read_text().strip()
+    print(f"net.core.rmem_default {room}, {os.cpu_count()} processors")
     try:
         for check in ALL:
             begun = time.monotonic()

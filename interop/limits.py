@@ -20,9 +20,10 @@ from srtp import MasterKey
 
 def full_book():
     """1,020 messages are noted, four of an offer. Another offer finds four places free, and the next one three."""
+
     def message(number):
-        exchange = Exchange(SHARED, NOW, [(TGK, None)], [(0, 0, 0)] * 2, [(0, [])], [PEER.encode()], csb=number, random=b"")
-        return message_line(exchange.initial())
+        given = [(TGK, None)], [(0, 0, 0)] * 2, [(0, [])], [PEER.encode()]
+        return message_line(Exchange(SHARED, NOW, *given, csb=number, random=b"").initial())
 
     medium = "m=audio 40000 RTP/SAVP 0"
     yield from (psk(), f"tick {NOW}")

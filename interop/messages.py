@@ -314,7 +314,7 @@ def refused_messages():
 
 
 def cut_messages():
-    """The gateway's own message, sent back to it and cut behind each octet; then whole, under a pair of mirrored names."""
+    """The gateway's own message, sent back to it and cut behind each octet; then whole, by a pair of mirrored names."""
     s = Script()
     s.says(psk())
     s.says(psk(PEER, GATEWAY))

@@ -1,8 +1,8 @@
 #!/usr/bin/env python3
 """Writes the scripts of `interop/rows/` and, beside each, what must be told of it: calls that are agreed by
 offers and answers, by crypto lines and by MIKEY messages, how they are renewed and how they end; and calls that are
-keyed manually. What must be told is worked out by hand in the parts beside this file; the model (`model/`), which decides
-every line by the rules alone, has to tell the same.
+keyed manually. What must be told is worked out by hand in the parts beside this file; the model (`model/`), which
+decides every line by the rules alone, has to tell the same.
 """
 from pathlib import Path
 
