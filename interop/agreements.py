@@ -2,8 +2,8 @@
 from signals import (
     ALICE, ALICE_CARRIED, ALICE_KEYED, ALICE_OFFERS, BOB, BOBS_OFFER_CARRIED, BOB_ANSWERS, BOB_CARRIED, CM,
     CM256, CM32, COUNTING, MADE, MANUAL, ONE, OWN, PCMU, Script, alice_live, answer, at_slot, crypto, inline,
-    key, made, master, noise, octets_of, offer_sdes, offer_secure, own_key, own_lines, plain_text, sdp,
-    secure_text, text,
+    key, made, noise, octets_of, offer_sdes, offer_secure, own_key, own_lines, plain_text, sdp, secure_text, SHIFTED,
+    text,
 )
 from srtp import MasterKey, SMALL, rtcp, rtp
 
@@ -154,6 +154,28 @@ def lifetimes():
     return s
 
 
+def lifetimes_of_an_answer():
+    """The keys of an answer's line; the gateway seals under the one of the line that was chosen, without an MKI."""
+    s = Script()
+    s.says(offer_sdes(8, BOB_ANSWERS), made(8), sdp(8, "secure", BOBS_OFFER_CARRIED))
+    one, two = key("one", CM256), key("two", CM256)
+    line = crypto(2, one, f"|2^1|256:2;{inline(two)}|1|65535:2")
+    s.says(answer(8, secure_text(line)), sdp(8, "plain", ALICE + ["m=audio 20002 RTP/AVP 0"]), "live 8")
+    first, second = b"\1\0", b"\xff\xff"
+    s.opened(20000, two, rtp(1), 1, second)
+    s.dropped(20000, two.srtp(rtp(2), 2, second), "KeySpent 1 1")
+    s.opened(20000, one, rtp(2), 2, first)
+    s.opened(20000, one, rtp(3), 3, first)
+    s.dropped(20000, one.srtp(rtp(4), 4, first), "KeySpent 0 2")
+    s.rtcp_opened(20001, two, rtcp(), 0, second)
+    s.dropped(20001, two.srtcp(rtcp(), 1, second), "KeySpent 1 1")
+    own = MasterKey(CM256, COUNTING[30:76])
+    for seq in (1, 2, 3):
+        s.sealed(20002, own, rtp(seq), seq)
+    s.rtcp_sealed(20003, own, rtcp(), 0)
+    return s
+
+
 def windows():
     """The window of the peer's line is that in which the gateway opens, from either side; it seals in 1,024."""
     s = Script()
@@ -182,6 +204,38 @@ def windows():
         s.opened(20000, theirs, rtp(3001 - window, ssrc=size), 3001 - window)
         s.dropped(20000, theirs.srtp(rtp(3000 - window, ssrc=size), 3000 - window), "TooOld")
     return s
+
+
+def windows_at_bounds():
+    """A window is at least 64 and at most 1,024, of an offer's line and of an answer's; without one it is 64."""
+    s = Script()
+    sizes = {None: 64, 0: 64, 63: 64, 64: 64, 65: 65, 1023: 1023, 1024: 1024, 1025: 1024, 999999999: 1024}
+    for number, (size, window) in enumerate(sizes.items()):
+        said = "" if size is None else f" WSH={size}"
+        theirs, drawn = key(f"offered {size}"), noise(f"offered {size}")
+        offer = offer_secure(7, secure_text(crypto(1, theirs, said)))
+        told = sdp(7, "plain", ALICE + ["m=audio 20002 RTP/AVP 0"])
+        s.says(offer, *([told] if number else [made(7), told]))
+        own = sdp(7, "secure", BOB + ["m=audio 20000 RTP/SAVP 0", crypto(1, own_key(drawn))])
+        s.says(answer(7, plain_text(), drawn), own, "live 7")
+        edge_of(s, theirs, 3000, window, 2 * number + 1)
+        theirs, drawn = key(f"answered {size}"), noise(f"answered {size}")
+        lines = own_lines(drawn)
+        s.says(offer_sdes(7, plain_text(), drawn), sdp(7, "secure", BOB + ["m=audio 20000 RTP/SAVP 0"] + lines))
+        s.says(answer(7, secure_text(crypto(1, theirs, said))), told, "live 7")
+        edge_of(s, theirs, 3000, window, 2 * number + 2)
+    return s
+
+
+def edge_of(s, theirs, highest, window, ssrc):
+    """The last index that a window reaches, and the one behind it, of RTP and of RTCP."""
+    packet = lambda index: theirs.srtp(rtp(index, ssrc=ssrc), index)
+    s.opened(20000, theirs, rtp(highest, ssrc=ssrc), highest)
+    s.dropped(20000, packet(highest - window), "TooOld")
+    s.opened(20000, theirs, rtp(highest - window + 1, ssrc=ssrc), highest - window + 1)
+    s.rtcp_opened(20001, theirs, rtcp(ssrc), highest)
+    s.dropped(20001, theirs.srtcp(rtcp(ssrc), highest - window), "TooOld")
+    s.rtcp_opened(20001, theirs, rtcp(ssrc), highest - window + 1)
 
 
 def unencrypted():
@@ -365,6 +419,30 @@ def cut_offers():
     return s
 
 
+def cut_texts_of_the_plain_side():
+    """The known answer, as an offer and as an answer, cut inside each line and behind it; the open offer stays open."""
+    s = Script()
+    whole = text(BOB_ANSWERS)
+    ends = [n + 1 for n, octet in enumerate(whole) if octet == 10]
+    starts = [0] + ends
+    causes = ["Sdp 1 Order", "Sdp 2 Order", "Sdp 3 Order", "NoMedia", "NoMedia", "NoMedia"]
+    cuts = [(start, cause) for start, cause in zip(starts, causes)]
+    for line, (start, end) in enumerate(zip(starts, ends), 1):
+        cuts += [(cut, f"Sdp {line} Form") for cut in (start + 1, (start + end) // 2, end - 1)]
+    for cut, cause in cuts:
+        s.refused(offer_sdes(8, whole[:cut]), cause)
+    s.says(offer_secure(7, ALICE_OFFERS), *MADE)
+    for cut, cause in cuts:
+        s.refused(answer(7, whole[:cut]), cause)
+    told = sdp(7, "secure", BOB + ["m=audio 20000 RTP/SAVP 0", BOB_CARRIED[-1]])
+    s.says(answer(7, whole[:ends[5]]), told, "live 7")
+    s.opened(20000, ALICE_KEYED, rtp(7), 7, ONE)
+    s.sealed(20002, OWN, rtp(7), 7)
+    told = BOB + ["m=audio 20016 RTP/SAVP 0", *own_lines(SHIFTED)]
+    s.says(offer_sdes(8, whole[:ends[5]], SHIFTED), made(8, 1), sdp(8, "secure", told))
+    return s
+
+
 def carried_lines():
     """Attributes that hold for one side alone aren't carried, and every address becomes the gateway's."""
     s = Script()
@@ -393,10 +471,8 @@ def carried_lines():
     return s
 
 
-
-
 ALL = (
     offered_by_the_secure_side, offered_by_the_plain_side, refused_lines, lines_of_the_second_medium,
-    lines_passed_over, lifetimes, windows, unencrypted, echoed_key, idle_media, no_medium_is_left, no_media,
-    faulty_texts, cut_offers, carried_lines,
+    lines_passed_over, lifetimes, lifetimes_of_an_answer, windows, windows_at_bounds, unencrypted, echoed_key,
+    idle_media, no_medium_is_left, no_media, faulty_texts, cut_offers, cut_texts_of_the_plain_side, carried_lines,
 )

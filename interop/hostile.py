@@ -1,44 +1,51 @@
 #!/usr/bin/env python3
-"""Plays scripts that were cut, mixed up and changed through the program, and checks what may never be otherwise.
+"""Plays scripts that were cut, mixed up and changed through the program, and compares each run with the model's.
 
     interop/hostile.py PROGRAM [COUNT [SEED]]
 
-Each is made of a script of `interop/rows/` or `examples/` by one to three changes: a bit, an octet, a field or a
-line changed, dropped, doubled or exchanged with another's, a number made larger or smaller, or a cut at an octet.
-Of each run:
+Each is made of a script of `interop/rows/`, of `examples/` or of the grammar of `mixed.py`. One in five is cut at an
+octet, at each in turn; the others have one to three changes: a bit, an octet, a digit, a field or a line changed,
+dropped, doubled or exchanged with another's, a number made larger or smaller, or a cut. Of each run:
 
-- it ends by itself, within 20 seconds and 64 MiB, with status 0 or 2 and the text of that status;
-- a script that is a whole one of the grammar's lines, for all that the changes left, tells lines of the outcomes'
-  grammar alone;
-- what is written of the lines before the first change is what stands beside the script that was changed, which
-  another program made; so a change later in a script changes nothing of what was told before.
+- it ends by itself, within 20 seconds and 32 MiB of data, with the status that the model tells and its text;
+- what is written is what the model tells, to the octet. Where a line asks for noise to be drawn, what is written begins
+  with what the model tells of the lines before, the rest is outcomes of their grammar, and the status is 0 or 2.
+
+One run in eight has two workers and what memory it likes; its octets are the same.
 """
+import os
 import random
 import re
 import resource
 import subprocess
 import sys
-from concurrent.futures import ThreadPoolExecutor
+from collections import Counter
 from pathlib import Path
 
+from mixed import Mixer
+from model.replay import Told
+
 TOP = Path(__file__).resolve().parent.parent
-MEMORY = 64 << 20
+MEMORY = 32 << 20
 SECONDS = 20
 
+DIGITS = [b"%x" % digit for digit in range(16)]
 STATUS = re.compile(rb"srtpgw: script line [1-9][0-9]*: (Word|Number|Hex|Length|Version|Unended)\n")
 ADDRESS = rb"\d+\.\d+\.\d+\.\d+:\d+"
 OUTCOME = re.compile(
-    rb"made \d+ \d+ \d+|live \d+|sdp \d+ (secure|plain) [0-9a-f]+|refused (\d+|-) [A-Za-z]+( [A-Za-z0-9-]+)*"
+    rb"made \d+ \d+ \d+|live \d+|sdp \d+ (secure|plain) ([0-9a-f]+|-)|refused (\d+|-) [A-Za-z]+( [A-Za-z0-9-]+)*"
     rb"|ended \d+ \d+ \d+ (bye|idle|rejected)|out \d+ " + ADDRESS + rb" ([0-9a-f]+|-)|drop \d+ [A-Za-z]+( \d+)*"
 )
 
 
-def corpus():
-    """Each script with what must be told of it."""
-    scripts = []
-    for folder in ("interop/rows", "examples"):
-        for path in sorted((TOP / folder).glob("*.script")):
-            scripts.append((path.stem, path.read_bytes(), path.with_suffix(".out").read_bytes()))
+def corpus(seed):
+    """Scripts of the folders, and as many again of the grammar."""
+    paths = [path for folder in ("interop/rows", "examples") for path in sorted((TOP / folder).glob("*.script"))]
+    scripts = [(path.stem, path.read_bytes()) for path in paths]
+    for number in range(len(paths)):
+        mixer = Mixer(f"hostile {seed} {number}")
+        mixer.mixed(20)
+        scripts.append((f"mixed {number}", mixer.script()))
     return scripts
 
 
@@ -61,102 +68,104 @@ def some_field(dice, text):
 
 
 def changed(dice, text, other):
-    """One change, and the offset of the first octet that it may have touched."""
-    kind = dice.randrange(11)
+    """One change."""
+    kind = dice.randrange(16)
     at = dice.randrange(len(text)) if text else 0
     if kind == 0 and text:
-        return text[:at] + bytes([text[at] ^ (1 << dice.randrange(8))]) + text[at + 1 :], at
+        return text[:at] + bytes([text[at] ^ (1 << dice.randrange(8))]) + text[at + 1:]
     if kind == 1 and text:
-        return text[:at] + bytes([dice.randrange(256)]) + text[at + 1 :], at
+        return text[:at] + bytes([dice.randrange(256)]) + text[at + 1:]
     if kind == 2:
-        return text[:at], at
+        return text[:at]
     if kind == 3:
-        return text[:at] + text[at + 1 :], at
+        return text[:at] + text[at + 1:]
+    if kind > 10:
+        # a digit for a digit mostly leaves the line within the grammar
+        while text and text[at:at + 1] not in DIGITS:
+            at = dice.randrange(len(text))
+        return text[:at] + dice.choice(DIGITS) + text[at + 1:]
     start, end = some_line(dice, text)
     if kind == 4:
-        return text[:start] + text[end:], start
+        return text[:start] + text[end:]
     if kind == 5:
-        return text[:end] + text[start:end] + text[end:], end
+        return text[:end] + text[start:end] + text[end:]
     if kind == 6:
         first, last = some_line(dice, other)
-        return text[:start] + other[first:last] + text[start:], start
+        return text[:start] + other[first:last] + text[start:]
     start, end = some_field(dice, text)
     if kind == 7:
-        return text[:start] + text[end:], start
+        return text[:start] + text[end:]
     if kind == 8:
         first, last = some_field(dice, other)
-        return text[:start] + other[first:last] + text[end:], start
+        return text[:start] + other[first:last] + text[end:]
     if kind == 9:
-        number = dice.choice([b"0", b"1", b"256", b"65536", b"4294967296", b"18446744073709551616", b"-1", b"01"])
-        return text[:start] + number + text[end:], start
-    digits = dice.choice([2, 200, 9000, 80000])
-    return text[:end] + dice.choice([b"0", b"f", b"a"]) * digits + text[end:], end
-
-
-def limit():
-    resource.setrlimit(resource.RLIMIT_DATA, (MEMORY, MEMORY))
-
-
-def played(program, script):
-    run = subprocess.run(
-        [program, "replay"], input=script, capture_output=True, timeout=SECONDS, preexec_fn=limit, check=False
-    )
-    return run.returncode, run.stdout, run.stderr
-
-
-def fault(program, case):
-    """What is wrong with a run; nothing where all is as it must be."""
-    name, script, out, touched = case
-    whole = script.rfind(b"\n", 0, touched) + 1
-    try:
-        status, written, said = played(program, script)
-        _, before, _ = played(program, script[:whole])
-    except subprocess.TimeoutExpired:
-        return f"{name}: not done within {SECONDS} s"
-    if status == 0:
-        if said:
-            return f"{name}: done, and says {said!r}"
-    elif status == 2:
-        if not STATUS.fullmatch(said):
-            return f"{name}: status 2, and says {said!r}"
-    else:
-        return f"{name}: status {status}, and says {said!r}"
-    if written and not written.endswith(b"\n"):
-        return f"{name}: an outcome without an end"
-    for line in written.splitlines():
-        if not OUTCOME.fullmatch(line):
-            return f"{name}: writes {line[:200]!r}"
-    if not out.startswith(before):
-        return f"{name}: another output before the first change"
-    if not written.startswith(before):
-        return f"{name}: a later change changes what was written before it"
-    return None
+        numbers = [b"0", b"1", b"256", b"65536", b"4294967296", b"18446744073709551616", b"-1", b"01", b"-"]
+        return text[:start] + dice.choice(numbers) + text[end:]
+    return text[:end] + dice.choice(DIGITS) * dice.choice([2, 200, 9000, 80000]) + text[end:]
 
 
 def cases(count, seed):
-    dice = random.Random(seed)
-    scripts = corpus()
+    """A name and a script each."""
+    dice, scripts = random.Random(seed), corpus(seed)
+    in_turn = dice.sample(scripts, len(scripts))
+    cut = ((name, script[:length]) for name, script in in_turn for length in range(len(script)))
     for number in range(count):
-        name, script, out = dice.choice(scripts)
-        touched = len(script)
-        for _ in range(dice.choice([1, 1, 2, 3])):
-            script, at = changed(dice, script, dice.choice(scripts)[1])
-            touched = min(touched, at)
-        yield f"{number} ({name})", script, out, touched
+        if number % 5 == 0:
+            name, script = next(cut)
+        else:
+            name, script = dice.choice(scripts)
+            for _ in range(dice.choice([1, 1, 2, 3])):
+                script = changed(dice, script, dice.choice(scripts)[1])
+        yield f"{number} ({name})", script
+
+
+def played(program, script, workers):
+    """Status, standard output and standard error. The bound on memory is there before the script is."""
+    words = ["replay", "--workers", "2"] if workers == 2 else ["replay"]
+    pipes = {"stdin": subprocess.PIPE, "stdout": subprocess.PIPE, "stderr": subprocess.PIPE}
+    with subprocess.Popen([program, *words], **pipes) as run:
+        if workers == 1:
+            resource.prlimit(run.pid, resource.RLIMIT_DATA, (MEMORY, MEMORY))
+        try:
+            written, said = run.communicate(script, SECONDS)
+        except subprocess.TimeoutExpired:
+            run.kill()
+            return "late", b"", b""
+    return run.returncode, written, said
+
+
+def fault(run, wanted):
+    """What is wrong with a run; None where all is as it must be."""
+    status, written, said = run
+    if wanted.status is not None:
+        if (status, said) != (wanted.status, wanted.said):
+            return f"ends with {status} {said[-200:]!r}, the model with {wanted.status} {wanted.said!r}"
+        return None if written == wanted.octets() else "writes other outcomes than the model"
+    if status not in (0, 2) or not (STATUS.fullmatch(said) if status else said == b""):
+        return f"ends with {status} and {said[-200:]!r}"
+    if not written.startswith(wanted.octets()):
+        return "writes other outcomes than the model, before noise is drawn"
+    *lines, rest = written.split(b"\n")
+    if rest or not all(OUTCOME.fullmatch(line) for line in lines):
+        return "writes what is no outcome"
+    return None
 
 
 def main():
     program = sys.argv[1]
     count = int(sys.argv[2]) if len(sys.argv) > 2 else 20000
-    seed = int(sys.argv[3]) if len(sys.argv) > 3 else 1
-    bad = 0
-    with ThreadPoolExecutor() as pool:
-        for told in pool.map(lambda case: fault(program, case), cases(count, seed)):
-            if told:
-                print(told)
-                bad += 1
-    print(f"hostile scripts: {count} played, {bad} bad")
-    sys.exit(1 if bad else 0)
+    seed = sys.argv[3] if len(sys.argv) > 3 else "1"
+    ends, bad = Counter(), 0
+    for number, (name, script) in enumerate(cases(count, seed)):
+        wanted = Told(script)
+        told = fault(played(program, script, 2 if number % 8 == 7 else 1), wanted)
+        ends[{0: "done", 2: "not in the grammar", None: "noise drawn"}[wanted.status]] += 1
+        if told:
+            print(f"{name}: {told}")
+            Path(f"hostile-{number}.script").write_bytes(script)
+            bad += 1
+    print(f"hostile scripts: {count} played, {bad} bad, {sum(os.times()[:4]):.0f} s of processor; {dict(ends)}")
+    sys.exit(bool(bad))
 
 
 if __name__ == "__main__":

@@ -313,6 +313,22 @@ def refused_messages():
     return s
 
 
+def cut_messages():
+    """The gateway's own message, sent back to it and cut behind each octet; then whole, by a pair of mirrored names."""
+    s = Script()
+    s.says(psk())
+    s.says(psk(PEER, GATEWAY))
+    initial = own_exchange(COUNTING, [0]).initial()
+    s.says(offer_mikey(9, PEER, plain_text()), made(9), sdp(9, "secure", plain_text(
+        session=[message_line(initial)], media="m=audio 20000 RTP/SAVP 0")))
+    s.says("bye 9", "ended 9 0 1 bye")
+    sent = lambda octets: offer_secure(9, secure_text(session=[message_line(octets)]), None)
+    for length in range(len(initial)):
+        s.refused(sent(initial[:length]), f"Mikey 255 {length} Cut")
+    s.says(sent(initial), made(9), sdp(9, "plain", ALICE + ["m=audio 20002 RTP/AVP 0"]))
+    return s
+
+
 def needed_messages():
     """Where a message stands anywhere, each active medium needs one: of its own, or in the session part."""
     s = Script()
@@ -369,5 +385,6 @@ def noted_once():
 
 ALL = (
     pairs, mikey_by_the_gateway, mikey_by_the_peer, first_source, messages_of_media, session_of_two_media,
-    mikey_of_three_media, pair_of_a_message, skews, early_stamps, refused_messages, needed_messages, noted_once,
+    mikey_of_three_media, pair_of_a_message, skews, early_stamps, refused_messages, cut_messages, needed_messages,
+    noted_once,
 )

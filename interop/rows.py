@@ -1,7 +1,8 @@
 #!/usr/bin/env python3
 """Writes the scripts of `interop/rows/` and, beside each, what must be told of it: calls that are agreed by
 offers and answers, by crypto lines and by MIKEY messages, how they are renewed and how they end; and calls that are
-keyed manually.
+keyed manually. What must be told is worked out by hand in the parts beside this file; the model (`model/`), which
+decides every line by the rules alone, has to tell the same.
 """
 from pathlib import Path
 
@@ -9,19 +10,25 @@ import agreements
 import calls
 import lives
 import messages
+from model import replay
 
 ROWS = Path(__file__).resolve().parent / "rows"
+
+
+def written(name, script, told):
+    assert replay.Told(script.encode()).octets() == told.encode(), f"the model tells something else of {name}"
+    (ROWS / f"{name}.script").write_text(script)
+    (ROWS / f"{name}.out").write_text(told)
 
 
 def main():
     ROWS.mkdir(exist_ok=True)
     for row in agreements.ALL + messages.ALL + lives.ALL:
-        s, name = row(), row.__name__.replace("_", "-")
-        (ROWS / f"{name}.script").write_text("".join(line + "\n" for line in s.lines))
-        (ROWS / f"{name}.out").write_text("".join(line + "\n" for line in s.told))
-    for name, script, told in calls.scripts():
-        (ROWS / f"{name}.script").write_text(script)
-        (ROWS / f"{name}.out").write_text(told)
+        s = row()
+        lines = ["".join(line + "\n" for line in part) for part in (s.lines, s.told)]
+        written(row.__name__.replace("_", "-"), *lines)
+    for row in calls.scripts():
+        written(*row)
 
 
 if __name__ == "__main__":

@@ -151,7 +151,8 @@ def hexed(lines):
 
 
 def offer_secure(call, lines, drawn=COUNTING):
-    return f"offer-secure {call} {drawn.hex()} {hexed(lines)}"
+    """Without given noise the line asks that it be drawn; no outcome of such an offer hangs on it."""
+    return f"offer-secure {call} {drawn.hex() if drawn else '-'} {hexed(lines)}"
 
 
 def offer_sdes(call, lines, drawn=COUNTING):

@@ -1,0 +1,110 @@
+#!/usr/bin/env python3
+"""Plays scripts through the program that fill what is limited, or cut the known texts at each octet, and compares every
+line with the model's.
+
+    interop/limits.py PROGRAM
+
+They are too long to be kept as rows: 1,020 noted messages and more, 65,536 keys and more.
+"""
+import sys
+import time
+
+from mikey import Exchange
+from mixed import difference
+from signals import (
+    ALICE, ALICE_OFFERS, BOB_ANSWERS, CM, NOW, PEER, SHARED, SHIFTED, TGK, answer, message_line, offer_sdes,
+    offer_secure, psk, secure_text, text,
+)
+from srtp import MasterKey
+
+
+def full_book():
+    """1,020 messages are noted, four of an offer. Another offer finds four places free, and the next one three."""
+
+    def message(number):
+        given = [(TGK, None)], [(0, 0, 0)] * 2, [(0, [])], [PEER.encode()]
+        return message_line(Exchange(SHARED, NOW, *given, csb=number, random=b"").initial())
+
+    medium = "m=audio 40000 RTP/SAVP 0"
+    yield from (psk(), f"tick {NOW}")
+    for number in range(0, 1020, 4):
+        yield offer_secure(9, ALICE + [line for each in range(4) for line in (medium, message(number + each))], None)
+        yield "bye 9"
+    yield offer_secure(9, ALICE + [medium, message(0)], None)
+    for number in (1020, 1021, 1020):
+        yield offer_secure(9, ALICE + [medium, message(number)], None)
+        yield "bye 9"
+    # by crypto lines there is no book to fill
+    yield offer_secure(9, ALICE_OFFERS, None)
+
+
+def full_ring():
+    """65,536 keys, those of an answer at the end; what was there before is told before that there is no room."""
+    raw = lambda number: MasterKey("RAW80", number.to_bytes(20, "big")).field()
+    manual = lambda call, one, two: f"manual {call} 127.0.0.1:40000 127.0.0.1:41000 00000000 64 {one} {two}"
+    for number in range(0, 65_534, 2):
+        yield manual(1, raw(number), raw(number + 1))
+        yield "bye 1"
+    yield offer_sdes(8, BOB_ANSWERS)
+    yield offer_secure(7, ALICE_OFFERS)
+    yield manual(1, raw(65_534), raw(7))
+    yield answer(7, BOB_ANSWERS)
+    line = f"a=crypto:1 {CM} inline:" + 10 * "AQEB"
+    yield answer(8, secure_text(line))
+    yield manual(1, raw(70_000), raw(7))
+    yield manual(1, raw(70_000), raw(70_001))
+    yield "reject 8"
+    yield offer_sdes(7, BOB_ANSWERS, SHIFTED)
+    yield answer(7, secure_text(line), SHIFTED)
+
+
+def cut_at_each_octet():
+    """The known offers of both sides, and an answer that is still open, cut behind each octet."""
+    yield offer_secure(1, ALICE_OFFERS)
+    for known, sent in ((ALICE_OFFERS, offer_secure), (BOB_ANSWERS, lambda call, cut, _: offer_sdes(call, cut))):
+        whole = text(known)
+        for length in range(len(whole) + 1):
+            yield sent(7, whole[:length], None)
+            yield "bye 7"
+    whole = text(BOB_ANSWERS)
+    for length in range(len(whole) - len("a=rtpmap:0 PCMU/8000\r\n")):
+        yield answer(1, whole[:length])
+    yield answer(1, whole)
+
+
+def changed_at_each_octet():
+    """The known offer with a bit of each octet changed in turn."""
+    whole = text(ALICE_OFFERS)
+    for place, octet in enumerate(whole):
+        for bit in range(8):
+            changed = whole[:place] + bytes([octet ^ 1 << bit]) + whole[place + 1:]
+            yield offer_secure(7, changed, None)
+            yield "bye 7"
+
+
+def longest_line():
+    """A line of 70,000 octets is read to its end, and one of an octet more isn't."""
+    yield "psk a b " + "00" * 16
+    yield "x" * 69_999
+
+
+def longer_line():
+    yield "x" * 70_000
+
+
+ALL = full_book, full_ring, cut_at_each_octet, changed_at_each_octet, longest_line, longer_line
+
+
+def main():
+    bad = 0
+    for made in ALL:
+        lines, begun = list(made()), time.time()
+        script = "".join(line + "\n" for line in ["srtpgw 1"] + lines).encode()
+        told = difference(sys.argv[1], script)
+        bad += bool(told)
+        print(f"{made.__name__}: {len(lines)} lines, {told or 'the same'}, {time.time() - begun:.0f} s")
+    sys.exit(bool(bad))
+
+
+if __name__ == "__main__":
+    main()

@@ -1,0 +1,7 @@
+"""A model of the whole gateway, written from the rules' text over the writers of packets and of messages beside it.
+
+It keeps every list whole and decides each event by the rules alone: `scripts.py` reads the lines of a script,
+`texts.py` session descriptions, `crypto.py` crypto lines, `messages.py` MIKEY messages; `sessions.py` opens and
+seals packets; `world.py` has the calls, and `replay.py` what a replay of a script writes and how it ends. Nothing
+here is of srtpgw, and srtpgw has nothing of this.
+"""

@@ -1,0 +1,129 @@
+"""Lines of a script and their first fault."""
+import re
+
+from srtp import SUITES, MasterKey
+
+NUMBER = re.compile(rb"0|[1-9][0-9]*")
+HEX = re.compile(rb"(?:[0-9a-f]{2})+")
+LAST_TICK = 2_085_978_495_999
+LINE_MOST = 70_000
+# Fields behind the first word; those of `offer-plain` hang on its second one.
+FIELDS = {b"in": 3, b"tick": 1, b"psk": 3, b"manual": 7, b"offer-secure": 3, b"answer": 3, b"reject": 1, b"bye": 1}
+
+
+class Fault(Exception):
+    """The first fault of a line."""
+
+
+class Drawn(Exception):
+    """What comes next hangs on octets that the system draws."""
+
+
+class Noise:
+    """Noise that is to be drawn: it may be handed on, but not looked at."""
+
+    def __getitem__(self, place):
+        raise Drawn
+
+
+def number(field, most, least=0):
+    if not NUMBER.fullmatch(field) or len(field) > 20 or not least <= int(field) <= most:
+        raise Fault("Number")
+    return int(field)
+
+
+def address(field):
+    host, colon, port = field.partition(b":")
+    parts = host.split(b".")
+    if not colon or len(parts) != 4:
+        raise Fault("Number")
+    return ".".join(str(number(part, 255)) for part in parts), number(port, 65535)
+
+
+def octets(field, least, most):
+    if field != b"-" and not HEX.fullmatch(field):
+        raise Fault("Hex")
+    given = b"" if field == b"-" else bytes.fromhex(field.decode())
+    if not least <= len(given) <= most:
+        raise Fault("Length")
+    return given
+
+
+def noise(field):
+    return Noise() if field == b"-" else octets(field, 304, 304)
+
+
+def master_key(field):
+    suite, colon, digits = field.partition(b":")
+    if not colon or suite.decode("latin-1") not in SUITES:
+        raise Fault("Word")
+    name = suite.decode()
+    length = sum(SUITES[name][:2])
+    return MasterKey(name, octets(digits, length, length))
+
+
+def identity(field):
+    if any(not 0x21 <= octet <= 0x7E for octet in field):
+        raise Fault("Word")
+    if not 1 <= len(field) <= 128:
+        raise Fault("Length")
+    return field
+
+
+def call(field):
+    return number(field, 2**32 - 1)
+
+
+def rollover(field):
+    if not re.fullmatch(rb"[0-9a-f]{8}", field):
+        raise Fault("Hex")
+    return int(field, 16)
+
+
+def text(field):
+    return octets(field, 0, 32768)
+
+
+def read(place, line):
+    """What the line at a place from 1 on says: its word and its fields' values."""
+    if len(line) > LINE_MOST:
+        raise Fault("Length")
+    if not line.endswith(b"\n"):
+        raise Fault("Unended")
+    line = line[:-1]
+    if place == 1:
+        if line != b"srtpgw 1":
+            raise Fault("Version")
+        return ("header",)
+    word, *fields = line.split(b" ")
+    if word == b"offer-plain":
+        kind = fields[1] if len(fields) > 1 else None
+        if (kind, len(fields)) == (b"sdes", 4):
+            return "sdes", call(fields[0]), noise(fields[2]), text(fields[3])
+        if (kind, len(fields)) == (b"mikey", 5):
+            return "mikey", call(fields[0]), identity(fields[2]), noise(fields[3]), text(fields[4])
+        raise Fault("Word")
+    if len(fields) != FIELDS.get(word):
+        raise Fault("Word")
+    if word == b"in":
+        return "in", number(fields[0], 65535), address(fields[1]), octets(fields[2], 0, 4352)
+    if word == b"tick":
+        return "tick", number(fields[0], LAST_TICK)
+    if word == b"psk":
+        return "psk", identity(fields[0]), identity(fields[1]), octets(fields[2], 16, 64)
+    if word == b"manual":
+        values = (
+            call(fields[0]), address(fields[1]), address(fields[2]), rollover(fields[3]),
+            number(fields[4], 1024, 64), master_key(fields[5]), master_key(fields[6]),
+        )
+        if values[5].is_raw != values[6].is_raw:
+            raise Fault("Word")
+        return "manual", *values
+    if word in (b"offer-secure", b"answer"):
+        return word.decode(), call(fields[0]), noise(fields[1]), text(fields[2])
+    return word.decode(), call(fields[0])
+
+
+def lines(script):
+    """The lines, each with its end; a rest without an end is the last."""
+    return re.findall(rb"[^\n]*\n|[^\n]+", script)
