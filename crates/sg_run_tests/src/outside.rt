@@ -10,12 +10,11 @@ use std::thread::Threads;
 /// A datagram that comes: its port, whom it is from, its octets.
 pub type Datagram<'a> = (u16, Address, &'a [u8]);
 
-/// The words of a run, the parts of its script, how many octets a call of the source gives and of the sink takes,
-/// what the clock reads, which datagrams come, and which calls fail, counted from 1.
+/// The words of a run, how many octets a call of the source gives and of the sink takes, what the clock reads, which
+/// datagrams come, and which calls fail, counted from 1.
 #[derive(Clone, Copy)]
 pub struct Given<'a> {
     pub words: &'a [&'a str],
-    pub script: &'a [&'a str],
     pub most: usize,
     pub readings: &'a [u64],
     pub datagrams: &'a [Datagram<'a>],
@@ -26,10 +25,9 @@ pub struct Given<'a> {
     pub draws_fail: &'a [u64],
 }
 
-/// A replay of nothing, in which nothing fails.
-pub const NOTHING: Given<'static> = Given {
+/// A replay in which nothing fails.
+pub const REPLAY: Given<'static> = Given {
     words: &["replay"],
-    script: &[],
     most: usize::MAX,
     readings: &[],
     datagrams: &[],
@@ -52,14 +50,14 @@ pub struct Outside {
 }
 
 impl Outside {
-    /// The noise is twice 304 octets, the n-th of each n modulo 256.
-    pub fn of(alloc: Global, given: Given) -> Result<Outside, AllocError> {
+    /// The script is in parts. The noise is twice 304 octets, the n-th of each n modulo 256.
+    pub fn of(alloc: Global, script: &[&str], given: Given) -> Result<Outside, AllocError> {
         let most = given.most.max(1);
         let mut words = Vec::new(alloc);
         for word in given.words {
             words.push(String::from_str(alloc, word)?)?;
         }
-        let script = Octets::from_vec(joined(alloc, given.script)?);
+        let script = Octets::from_vec(joined(alloc, script)?);
         let receipts = copies(alloc, given.datagrams)?;
         Ok(Outside {
             words,

@@ -3,7 +3,7 @@
 use crate::calls::{
     ENDED, ENDED_TOLD, HEADER, KEYED, KEYED_TOLD, KNOWN, OFFERED, OFFERED_TOLD, PEER, PLAIN,
 };
-use crate::outside::{Datagram, Given, NOTHING, Outside, joined};
+use crate::outside::{Datagram, Given, Outside, REPLAY, joined};
 use sg_base::{Address, ScriptFault};
 use sg_edge::Kept;
 use sg_lanes::OpenGate;
@@ -71,34 +71,39 @@ const GOING: [Datagram<'static>; 4] = [
     ),
 ];
 
-/// Two equal packets come to a call that is keyed manually.
+/// A call that is keyed manually, and a wait.
+const KEYED_CALL: &[&str] = &[HEADER, KEYED, "tick 1000\n"];
+
+/// Two equal packets come to it.
 const TWICE: Given<'static> = Given {
     words: &["relay", "--turns", "3"],
-    script: &[HEADER, KEYED, "tick 1000\n"],
     readings: &[0, 0, 1000],
     datagrams: &[(20000, PEER, KNOWN), (20000, PEER, KNOWN)],
-    ..NOTHING
+    ..REPLAY
 };
 
-/// A call with a packet and a report each way. Of the link's calls four bind the ports, then a receive and a send
+/// A call that is offered, a wait, and its end.
+const OFFERED_CALL: &[&str] = &[HEADER, OFFERED, "tick 3\n", ENDED];
+
+/// It has a packet and a report each way. Of the link's calls four bind the ports, then a receive and a send
 /// follow four times, and four unbind them.
 const BOTH_WAYS: Given<'static> = Given {
     words: &["relay", "--turns=4"],
-    script: &[HEADER, OFFERED, "tick 3\n", ENDED],
     readings: &[1000, 1000, 1001, 1002, 1003],
     datagrams: &COMING,
-    ..NOTHING
+    ..REPLAY
 };
 
 /// What is given is answered so, and this is written.
 fn tells(
     rt: &(impl Abort + Threads + Sync),
     alloc: Global,
+    script: &[&str],
     given: Given,
     status: Status,
     told: &[&str],
 ) -> Result<Outside, Fail> {
-    let mut outside = Outside::of(alloc, given)?;
+    let mut outside = Outside::of(alloc, script, given)?;
     let answer = outside.run(rt, alloc, &OpenGate);
     assert_eq!(rt; answer, status);
     assert_eq!(rt; outside.written(), joined(alloc, told)?.as_slice());
@@ -120,16 +125,11 @@ fn sends_and_receives_that_fail(rt: HostRuntime) -> Result<(), Fail> {
         (&[3], Status::Link, &[]),
     ];
     for (link_fails, status, told) in rows {
-        tells(
-            &rt,
-            rt.alloc(),
-            Given {
-                link_fails,
-                ..TWICE
-            },
-            status,
-            told,
-        )?;
+        let given = Given {
+            link_fails,
+            ..TWICE
+        };
+        tells(&rt, rt.alloc(), KEYED_CALL, given, status, told)?;
     }
     Ok(())
 }
@@ -140,21 +140,19 @@ fn turns_and_readings(rt: HostRuntime) -> Result<(), Fail> {
         line: 2,
         fault: ScriptFault::Number,
     };
-    let waits: &[&str] = &[HEADER, KEYED, "tick 1000\n"];
     let rows: [(&[&str], &[u64], Status, &[&str]); 4] = [
-        (waits, &[0, 0, 0, 0], Status::TurnsSpent, &[KEYED_TOLD]),
-        (waits, &[0, 1000], Status::Done, &[KEYED_TOLD]),
-        (waits, &[5, 7, 1004, 1005], Status::Done, &[KEYED_TOLD]),
+        (KEYED_CALL, &[0, 0, 0, 0], Status::TurnsSpent, &[KEYED_TOLD]),
+        (KEYED_CALL, &[0, 1000], Status::Done, &[KEYED_TOLD]),
+        (KEYED_CALL, &[5, 7, 1004, 1005], Status::Done, &[KEYED_TOLD]),
         (&[HEADER, "tick 01\n"], &[0, 1000], fault, &[]),
     ];
     for (script, readings, status, told) in rows {
         let given = Given {
-            script,
             readings,
             datagrams: &[],
             ..TWICE
         };
-        tells(&rt, rt.alloc(), given, status, told)?;
+        tells(&rt, rt.alloc(), script, given, status, told)?;
     }
     Ok(())
 }
@@ -184,7 +182,14 @@ fn are_sent(rt: &impl Abort, calls: &[Kept], packets: &[Datagram]) -> Result<(),
 #[test]
 fn a_call_both_ways(rt: HostRuntime) -> Result<(), Fail> {
     let told = [OFFERED_TOLD, ENDED_TOLD];
-    let outside = tells(&rt, rt.alloc(), BOTH_WAYS, Status::Done, &told)?;
+    let outside = tells(
+        &rt,
+        rt.alloc(),
+        OFFERED_CALL,
+        BOTH_WAYS,
+        Status::Done,
+        &told,
+    )?;
     are_sent(&rt, outside.link.calls().ok_or("no record")?, &GOING)
 }
 
@@ -195,7 +200,7 @@ fn breaks(
     given: Given,
     status: Status,
 ) -> Result<(), Fail> {
-    let mut outside = Outside::of(alloc, given)?;
+    let mut outside = Outside::of(alloc, OFFERED_CALL, given)?;
     let answer = outside.run(rt, alloc, &OpenGate);
     assert_eq!(rt; answer, status);
     let whole = joined(alloc, &[OFFERED_TOLD, ENDED_TOLD])?;
@@ -274,7 +279,7 @@ fn each_send_fails_once(rt: HostRuntime) -> Result<(), Fail> {
             ..BOTH_WAYS
         };
         let told = [OFFERED_TOLD, unsent, ENDED_TOLD];
-        tells(&rt, rt.alloc(), given, Status::Done, &told)?;
+        tells(&rt, rt.alloc(), OFFERED_CALL, given, Status::Done, &told)?;
     }
     Ok(())
 }

@@ -5,7 +5,7 @@ use crate::calls::{
     ENDED, ENDED_TOLD, FORGED_LINE, HEADER, KEYED, KEYED_TOLD, KNOWN_LINE, KNOWN_TOLD, OFFERED,
     OFFERED_TOLD, PACKETS, PACKETS_TOLD,
 };
-use crate::outside::{Given, NOTHING, Outside, joined};
+use crate::outside::{Given, Outside, REPLAY, joined};
 use sg_base::ScriptFault;
 use sg_lanes::OpenGate;
 use sg_run::Status;
@@ -18,11 +18,12 @@ use std::thread::Threads;
 fn tells(
     rt: &(impl Abort + Threads + Sync),
     alloc: Global,
+    script: &[&str],
     given: Given,
     status: Status,
     told: &[&str],
 ) -> Result<(), Fail> {
-    let mut outside = Outside::of(alloc, given)?;
+    let mut outside = Outside::of(alloc, script, given)?;
     let answer = outside.run(rt, alloc, &OpenGate);
     assert_eq!(rt; answer, status);
     assert_eq!(rt; outside.written(), joined(alloc, told)?.as_slice());
@@ -117,11 +118,10 @@ fn scripts_and_their_outcomes(rt: HostRuntime) -> Result<(), Fail> {
         for (script, status, told) in SCRIPTS {
             let given = Given {
                 words,
-                script,
                 most,
-                ..NOTHING
+                ..REPLAY
             };
-            tells(&rt, rt.alloc(), given, status, told)?;
+            tells(&rt, rt.alloc(), script, given, status, told)?;
         }
     }
     Ok(())
@@ -145,82 +145,77 @@ fn other_words_are_no_command(rt: HostRuntime) -> Result<(), Fail> {
         &["demo", "257", "1"],
     ];
     for words in rows {
-        let given = Given {
-            words,
-            script: &[HEADER, KEYED],
-            ..NOTHING
-        };
-        tells(&rt, rt.alloc(), given, Status::Usage, &[])?;
+        let given = Given { words, ..REPLAY };
+        tells(&rt, rt.alloc(), &[HEADER, KEYED], given, Status::Usage, &[])?;
     }
     Ok(())
 }
 
+/// A call that is keyed manually, and a packet.
+const KEYED_CALL: &[&str] = &[HEADER, KEYED, KNOWN_LINE];
+
 #[test]
 fn reads_writes_and_draws_that_fail(rt: HostRuntime) -> Result<(), Fail> {
-    let alloc = rt.alloc();
-    let keyed = Given {
-        script: &[HEADER, KEYED, KNOWN_LINE],
-        ..NOTHING
-    };
-    tells(
-        &rt,
-        alloc,
-        Given {
-            reads_fail: &[1],
-            ..keyed
-        },
-        Status::Read,
-        &[],
-    )?;
-    tells(
-        &rt,
-        alloc,
-        Given {
-            writes_fail: &[1],
-            ..keyed
-        },
-        Status::Write,
-        &[],
-    )?;
-    tells(
-        &rt,
-        alloc,
-        Given {
-            writes_fail: &[2],
-            ..keyed
-        },
-        Status::Write,
-        &["made 1 0 1\n"],
-    )?;
-    tells(
-        &rt,
-        alloc,
-        Given {
-            writes_fail: &[3],
-            ..keyed
-        },
-        Status::Write,
-        &[KEYED_TOLD],
-    )?;
-    // The read of the last octets fails, and after it no write is tried.
-    let late = Given {
-        most: 100,
-        reads_fail: &[4],
-        ..keyed
-    };
-    tells(&rt, alloc, late, Status::Read, &[KEYED_TOLD])?;
-    let drawn = Given {
-        script: &[HEADER, OFFERED],
-        ..NOTHING
-    };
-    tells(
-        &rt,
-        alloc,
-        Given {
-            draws_fail: &[1],
-            ..drawn
-        },
-        Status::Noise,
-        &[],
-    )
+    let rows: [(&[&str], Given, Status, &[&str]); 6] = [
+        (
+            KEYED_CALL,
+            Given {
+                reads_fail: &[1],
+                ..REPLAY
+            },
+            Status::Read,
+            &[],
+        ),
+        (
+            KEYED_CALL,
+            Given {
+                writes_fail: &[1],
+                ..REPLAY
+            },
+            Status::Write,
+            &[],
+        ),
+        (
+            KEYED_CALL,
+            Given {
+                writes_fail: &[2],
+                ..REPLAY
+            },
+            Status::Write,
+            &["made 1 0 1\n"],
+        ),
+        (
+            KEYED_CALL,
+            Given {
+                writes_fail: &[3],
+                ..REPLAY
+            },
+            Status::Write,
+            &[KEYED_TOLD],
+        ),
+        // The read of the last octets fails, and after it no write is tried.
+        (
+            KEYED_CALL,
+            Given {
+                most: 100,
+                reads_fail: &[4],
+                ..REPLAY
+            },
+            Status::Read,
+            &[KEYED_TOLD],
+        ),
+        (
+            &[HEADER, OFFERED],
+            Given {
+                draws_fail: &[1],
+                ..REPLAY
+            },
+            Status::Noise,
+            &[],
+        ),
+    ];
+    for (script, given, status, told) in rows {
+        tells(&rt, rt.alloc(), script, given, status, told)?;
+    }
+    Ok(())
 }

@@ -1,7 +1,7 @@
 //! Replays by several workers: the same octets for every number of them, and two that wait for each other.
 
 use crate::meeting::Meeting;
-use crate::outside::{Given, NOTHING, Outside};
+use crate::outside::{Given, Outside, REPLAY};
 use sg_lanes::{Gate, OpenGate};
 use sg_run::Status;
 use std::alloc::{AllocError, Global};
@@ -19,7 +19,8 @@ fn script(alloc: Global, calls: u32, packets: u32) -> Result<String, AllocError>
         script.push_str(&line)?;
     }
     for number in 0..packets {
-        let port = 20002 + 16 * (number * 255 % calls.max(1));
+        let slot = number % 256 * 255 % calls.max(1) % 256;
+        let port = 20002 + 16 * slot;
         let line = format!(in alloc;
             "in {port} 198.51.100.7:30000 8000{number:04x}00000000000000aa01020304\n"
         )?;
@@ -36,12 +37,8 @@ fn played<G: Gate + Sync>(
     script: &str,
     gate: &G,
 ) -> Result<Vec<u8>, Fail> {
-    let given = Given {
-        words,
-        script: &[script],
-        ..NOTHING
-    };
-    let mut outside = Outside::of(alloc, given)?;
+    let given = Given { words, ..REPLAY };
+    let mut outside = Outside::of(alloc, &[script], given)?;
     let answer = outside.run(rt, alloc, gate);
     assert_eq!(rt; answer, Status::Done);
     Ok(outside.written().to_vec(alloc)?)
