@@ -14,6 +14,7 @@ import argparse
 import base64
 import contextlib
 import os
+import re
 import shutil
 import subprocess
 import sys
@@ -27,7 +28,6 @@ sys.path.insert(0, str(BENCH.parent / "examples/live"))
 from driver import Driver  # noqa: E402
 from ends import PLAIN, SECURE, program, require_free  # noqa: E402
 from rtpengine import Far, port_of, text_of  # noqa: E402
-from sealed import crypto_of  # noqa: E402
 
 SUITE = "AES_CM_128_HMAC_SHA1_80"
 RATES = [20_000, 60_000, 100_000, 150_000, 200_000, 250_000, 300_000]
@@ -73,6 +73,11 @@ class Srtpgw:
         print(f"\nsrtpgw told of drops: {drops or 'none'}; of packets that it couldn't send: {unsent}; its status: {status}")
 
 
+def key_of(text):
+    """The key of a text's crypto line."""
+    return base64.b64decode(re.search(r"a=crypto:1 \S+ inline:([A-Za-z0-9+/=]+)", text)[1]).hex()
+
+
 class Rtpengine:
     def __init__(self, folder, threads):
         self.name = f"rtpengine, {threads} thread{'s' * (threads > 1)}"
@@ -86,7 +91,7 @@ class Rtpengine:
         to_plain = self.far.ask("offer", self.made, text_of("peer", SECURE[1], "RTP/SAVP") + line,
                                 **{"transport-protocol": "RTP/AVP"})
         to_secure = self.far.ask("answer", self.made, text_of("end", PLAIN[1]), **{"to-tag": "end"})
-        return self.made, port_of(to_secure), port_of(to_plain), own.hex(), crypto_of(to_secure)["1"].octets.hex()
+        return self.made, port_of(to_secure), port_of(to_plain), own.hex(), key_of(to_secure)
 
     def end(self, call):
         self.far.ask("delete", call)

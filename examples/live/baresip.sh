@@ -11,6 +11,6 @@
 #
 #   examples/live/baresip.sh                 with ./srtpgw, or with the program that SRTPGW names
 . "$(dirname "$0")/needs.sh"
-needs baresip baresip
+needs baresip baresip-core
 needs sipp sip-tester
 exec timeout -k 5 600 python3 "$here/baresip.py"

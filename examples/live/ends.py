@@ -22,8 +22,13 @@ SSRC = 0x5EED
 
 
 def program():
-    """The gateway to try: what SRTPGW names, or the one at the top of the repository."""
-    return os.environ.get("SRTPGW") or str(Path(__file__).resolve().parents[2] / "srtpgw")
+    """The gateway to try: what SRTPGW names, or the one at the top of the repository. Ends the program with 77 where
+    that one isn't built."""
+    top = Path(__file__).resolve().parents[2]
+    if not os.environ.get("SRTPGW") and not (top / "crates/srtpgw/out/srtpgw").exists():
+        print("not run: the program isn't built; `./srtpgw replay < /dev/null` builds it, in up to an hour", file=sys.stderr)
+        sys.exit(77)
+    return os.environ.get("SRTPGW") or str(top / "srtpgw")
 
 
 def speech(seconds, seed=1):

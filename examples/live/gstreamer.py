@@ -22,7 +22,7 @@ def sender(audio, key):
             "rawaudioparse", "use-sink-caps=false", "format=mulaw", "sample-rate=8000", "num-channels=1", "!",
             "rtppcmupay", "min-ptime=20000000", "max-ptime=20000000", f"seqnum-offset={NEAR_WRAP}", f"ssrc={SSRC}", "!",
             "srtpenc", f"key={key.hex()}", f"rtp-cipher={cipher}", f"rtp-auth={tag}", f"rtcp-cipher={cipher}", "!",
-            "udpsink", "host=127.0.0.1", f"port={SECURE_RTP}"]
+            "udpsink", "host=127.0.0.1", f"port={SECURE_RTP}", "bind-address=127.0.0.1"]
 
 
 def receiver(audio, key):

@@ -43,6 +43,7 @@ class Far:
         self.log = open(f"{folder}/log", "wb")
         self.process = subprocess.Popen(words, stdout=self.log, stderr=subprocess.STDOUT)
         self.socket = socket.socket(socket.AF_INET, socket.SOCK_DGRAM)
+        self.socket.bind(("127.0.0.1", 0))
         self.socket.settimeout(5)
         self.numbers = itertools.count()
         wait_until(lambda: is_bound(CONTROL[1]), what="rtpengine")
