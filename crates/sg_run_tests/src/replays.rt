@@ -127,24 +127,26 @@ fn scripts_and_their_outcomes(rt: HostRuntime) -> Result<(), Fail> {
     Ok(())
 }
 
+/// Words that are no command.
+const OTHER_WORDS: [&[&str]; 13] = [
+    &[],
+    &["frob"],
+    &["--help"],
+    &["replay", "now"],
+    &["--workers", "1", "replay"],
+    &["replay", "--workers", "0"],
+    &["replay", "--workers", "17"],
+    &["replay", "--workers", "1", "--workers", "1"],
+    &["relay"],
+    &["relay", "--turns", "01"],
+    &["relay", "--turns", "1", "--turns", "1"],
+    &["demo", "1"],
+    &["demo", "257", "1"],
+];
+
 #[test]
 fn other_words_are_no_command(rt: HostRuntime) -> Result<(), Fail> {
-    let rows: [&[&str]; 13] = [
-        &[],
-        &["frob"],
-        &["--help"],
-        &["replay", "now"],
-        &["--workers", "1", "replay"],
-        &["replay", "--workers", "0"],
-        &["replay", "--workers", "17"],
-        &["replay", "--workers", "1", "--workers", "1"],
-        &["relay"],
-        &["relay", "--turns", "01"],
-        &["relay", "--turns", "1", "--turns", "1"],
-        &["demo", "1"],
-        &["demo", "257", "1"],
-    ];
-    for words in rows {
+    for words in OTHER_WORDS {
         let given = Given { words, ..REPLAY };
         tells(&rt, rt.alloc(), &[HEADER, KEYED], given, Status::Usage, &[])?;
     }
