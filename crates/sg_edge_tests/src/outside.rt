@@ -375,3 +375,55 @@ fn time_and_noise_of_the_system(rt: HostRuntime) -> Result<(), Fail> {
     assert_eq!(rt; one_draw(&mut RngNoise::make(SystemRng(Dry))), None);
     Ok(())
 }
+
+/// The link listens at 127.0.0.1 alone: at another address the port is free.
+#[test]
+fn other_addresses_are_free(rt: HostRuntime) -> Result<(), Fail> {
+    let mut link = UdpLink::make(rt.alloc(), &rt)?;
+    let home = bind_one(&rt, &mut link)?;
+    let other = SocketAddr::V4(SocketAddrV4::new(Ipv4Addr::new(127, 0, 0, 2), home.port));
+    let socket = UdpSocket::bind(&rt, other)?;
+    assert_eq!(rt; socket.local_addr()?.port(), home.port);
+    Ok(())
+}
+
+/// The port of the next datagram; 0 where none came.
+fn next_port<L: Link>(link: &mut L, pad: &mut Pad) -> u16 {
+    match next_receipt(link, pad) {
+        Ok(Receipt::Got { port, .. }) => port,
+        _ => 0,
+    }
+}
+
+/// Two ports that both have datagrams take turns.
+#[test]
+fn ports_take_turns(rt: HostRuntime) -> Result<(), Fail> {
+    let mut link = UdpLink::make(rt.alloc(), &rt)?;
+    let mut pad = Pad::make(rt.alloc())?;
+    let near = bind_one(&rt, &mut link)?;
+    let far = bind_one(&rt, &mut link)?;
+    for to in [near, near, far, far] {
+        assert_eq!(rt; link.send(near.port, to, b"x"), Ok(()));
+    }
+    let first = next_port(&mut link, &mut pad);
+    let second = next_port(&mut link, &mut pad);
+    assert!(rt; first != second);
+    assert!(rt; first != 0 && second != 0);
+    Ok(())
+}
+
+/// Of eight draws each place is once not 0.
+#[test]
+fn noise_has_each_place(rt: HostRuntime) -> Result<(), Fail> {
+    let mut noise = RngNoise::make(SystemRng(&rt));
+    let mut seen = [0; 304];
+    for _ in 0..8 {
+        let mut part = [0; 304];
+        assert_eq!(rt; noise.draw(&mut part), Ok(()));
+        for i in 0..304 {
+            seen[i] |= part[i];
+        }
+    }
+    assert!(rt; seen.iter().all(|octet| *octet != 0));
+    Ok(())
+}
