@@ -4,16 +4,21 @@ line with the model's.
 
     interop/limits.py PROGRAM
 
-They are too long to be kept as rows: 1,020 noted messages and more, 65,536 keys and more.
+They are too long to be kept as rows: 1,020 noted messages and more, 65,536 keys and more, 256 calls of four media. Of
+each script that is handled to its end the most memory is told that was resident.
 """
+import os
+import subprocess
 import sys
-import time
+import threading
+from pathlib import Path
 
 from mikey import Exchange
 from mixed import difference
+from model.replay import Told
 from signals import (
-    ALICE, ALICE_OFFERS, BOB_ANSWERS, CM, NOW, PEER, SHARED, SHIFTED, TGK, answer, message_line, offer_sdes,
-    offer_secure, psk, secure_text, text,
+    ALICE, ALICE_OFFERS, BOB, BOB_ANSWERS, CM, NOW, PEER, SHARED, SHIFTED, TGK, answer, inline, key, message_line,
+    noise, octets_of, offer_sdes, offer_secure, psk, secure_text, text,
 )
 from srtp import MasterKey
 
@@ -58,6 +63,27 @@ def full_ring():
     yield answer(7, secure_text(line), SHIFTED)
 
 
+def full_table(generations=2):
+    """256 calls of four media with eight keys each, renewed, and with one more offer open; and 64 pairs."""
+
+    def offered(generation, call):
+        lines = list(ALICE)
+        for medium in range(4):
+            keys = [inline(key(f"{generation} {call} {medium} {each}")) + f"|2^48|{each}:1" for each in range(8)]
+            lines += [f"m=audio {40000 + medium * 2} RTP/SAVP 0", f"a=crypto:1 {CM} " + ";".join(keys)]
+        return offer_secure(call, lines, None)
+
+    answered = BOB + [f"m=audio {41000 + medium * 2} RTP/AVP 0" for medium in range(4)]
+    for number in range(65):
+        yield psk(peer=f"sip:{number}@b", shared=octets_of(str(number), 64))
+    for generation in range(generations):
+        for call in range(256):
+            yield offered(generation, call)
+            yield answer(call, answered, noise(f"{generation} {call}"))
+    for call in range(257):
+        yield offered(generations, call)
+
+
 def cut_at_each_octet():
     """The known offers of both sides, and an answer that is still open, cut behind each octet."""
     yield offer_secure(1, ALICE_OFFERS)
@@ -92,17 +118,31 @@ def longer_line():
     yield "x" * 70_000
 
 
-ALL = full_book, full_ring, cut_at_each_octet, changed_at_each_octet, longest_line, longer_line
+ALL = full_book, full_ring, full_table, cut_at_each_octet, changed_at_each_octet, longest_line, longer_line
+
+
+def resident(program, script, told):
+    """The most memory that was resident, in KiB, when all is written that is told of a script without datagrams."""
+    with subprocess.Popen([program, "replay"], stdin=subprocess.PIPE, stdout=subprocess.PIPE) as run:
+        writer = threading.Thread(target=lambda: (run.stdin.write(script), run.stdin.flush()))
+        writer.start()
+        run.stdout.read(told)
+        writer.join()
+        status = Path(f"/proc/{run.pid}/status").read_text()
+        run.stdin.close()
+    return int(status.split("VmHWM:")[1].split()[0])
 
 
 def main():
     bad = 0
     for made in ALL:
-        lines, begun = list(made()), time.time()
+        lines = list(made())
         script = "".join(line + "\n" for line in ["srtpgw 1"] + lines).encode()
-        told = difference(sys.argv[1], script)
-        bad += bool(told)
-        print(f"{made.__name__}: {len(lines)} lines, {told or 'the same'}, {time.time() - begun:.0f} s")
+        fault, told = difference(sys.argv[1], script), Told(script)
+        bad += bool(fault)
+        memory = f", {resident(sys.argv[1], script, len(told.octets()))} KiB" if told.status == 0 and not fault else ""
+        print(f"{made.__name__}: {len(lines)} lines, {fault or 'the same'}{memory}", flush=True)
+    print(f"limits: {len(ALL)} scripts, {bad} with a difference, {sum(os.times()[:4]):.0f} s of processor")
     sys.exit(bool(bad))
 
 

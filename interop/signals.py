@@ -99,6 +99,10 @@ def at_slot(slot, lines):
 
 # ---- scripts
 
+# A line that changes nothing and tells always the same.
+MARK = "bye 4294967295"
+
+
 class Script:
     """A script, and what must be told of it."""
 
@@ -114,7 +118,10 @@ class Script:
         self.says(line, f"refused {call} {cause}")
 
     def tick(self, now, *told):
+        """Where nothing is told of the tick, the line behind it shows that nothing was told before that line."""
         self.says(f"tick {now}", *told)
+        if not told:
+            self.refused(MARK, "CallUnknown")
 
     def manual(self, call, from_peer, to_peer, told, secure=SECURE, plain=PLAIN):
         self.says(f"manual {call} {secure} {plain} 00000000 64 {from_peer.field()} {to_peer.field()}", *told)
