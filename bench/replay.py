@@ -1,9 +1,10 @@
 #!/usr/bin/env python3
 """Measures `srtpgw replay` over scripts of calls, and prints a table in Markdown.
 
-    bench/replay.py [COUNT [open|seal|both [CALLS[,CALLS..] [WORKERS[,WORKERS..]]]]] [--rounds N] [--program FILE]
+    bench/replay.py [COUNT [open|seal|both [CALLS[,CALLS..] [WORKERS[,WORKERS..]]]]] [--size N] [--rounds N]
+        [--program FILE]
 
-COUNT (200,000) packets of 172 octets under AES_CM_128_HMAC_SHA1_80 are opened, sealed, or opened and sealed in
+COUNT (200,000) packets of N octets (172) under AES_CM_128_HMAC_SHA1_80 are opened, sealed, or opened and sealed in
 turns (both), in so many calls and by so many workers (1, and 1); a row for each. A figure is the median of N
 rounds (5), with the rows in turns. What the program writes is compared with what another implementation says."""
 
@@ -39,6 +40,7 @@ def given():
     words.add_argument("ways", nargs="?", choices=["open", "seal", "both"], default="both")
     words.add_argument("calls", nargs="?", default="1")
     words.add_argument("workers", nargs="?", default="1")
+    words.add_argument("--size", type=int, default=172)
     words.add_argument("--rounds", type=int, default=5)
     words.add_argument("--program", default=PROGRAM)
     return words.parse_args()
@@ -57,13 +59,13 @@ def main():
         written = Path(folder) / "written"
         for calls in {calls for calls, _ in rows}:
             files = [Path(folder) / f"{name}-{calls}" for name in ("script", "outcomes")]
-            subprocess.run([sys.executable, BENCH / "script.py", str(words.count), words.ways, *files, str(calls)], check=True)
+            subprocess.run([sys.executable, BENCH / "script.py", str(words.count), words.ways, *files, str(calls), "1", str(words.size)], check=True)
         for _ in range(words.rounds):
             for calls, workers in rows:
                 taken[calls, workers].append(run(words.program, workers, Path(folder) / f"script-{calls}", written))
                 if not filecmp.cmp(Path(folder) / f"outcomes-{calls}", written, shallow=False):
                     sys.exit("bench/replay.py: the program wrote something else than it must")
-    print(f"{os.cpu_count()} processors, load average {os.getloadavg()[0]:.2f}, medians of {words.rounds} rounds")
+    print(f"packets of {words.size} octets, {os.cpu_count()} processors, load average {os.getloadavg()[0]:.2f}, medians of {words.rounds} rounds")
     print()
     print("| calls | workers | packets | | seconds | of the processor | packets a second | of the processor | peak MiB |")
     print("| ---: | ---: | ---: | --- | ---: | ---: | ---: | ---: | ---: |")

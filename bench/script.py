@@ -1,9 +1,9 @@
 #!/usr/bin/env python3
 """Writes a script of calls, and what `srtpgw replay` must write for it.
 
-    script.py COUNT open|seal|both SCRIPT OUTCOMES [CALLS [MEDIA]]
+    script.py COUNT open|seal|both SCRIPT OUTCOMES [CALLS [MEDIA [SIZE]]]
 
-COUNT packets of 172 octets, head included, under AES_CM_128_HMAC_SHA1_80: sealed ones that the gateway
+COUNT packets of SIZE octets (172), head included, under AES_CM_128_HMAC_SHA1_80: sealed ones that the gateway
 opens, plain ones that it seals, or one after the other. They take turns at CALLS calls (1) of MEDIA media (1);
 calls of one medium have manual keys, the others are offered by the secure side with crypto lines. Packets are
 sealed by another implementation."""
@@ -14,7 +14,6 @@ from base64 import b64encode
 from packets import MasterKey, packet
 
 SUITE = "AES_CM_128_HMAC_SHA1_80"
-SIZE = 172
 SECURE = "127.0.0.1:40000"
 PLAIN = "127.0.0.1:41000"
 
@@ -59,7 +58,7 @@ class Call:
 
 def main():
     count, ways = int(sys.argv[1]), sys.argv[2]
-    calls, media = (int(word) for word in (sys.argv[5:] + ["1", "1"][len(sys.argv[5:]) :]))
+    calls, media, size = (int(word) for word in (sys.argv[5:] + ["1", "1", "172"][len(sys.argv[5:]) :]))
     with open(sys.argv[3], "w") as script, open(sys.argv[4], "w") as outcomes:
         made = [Call(number, media) for number in range(calls)]
         script.write("srtpgw 1\n" + "".join(call.script for call in made))
@@ -69,7 +68,7 @@ def main():
             call, medium = made[place % calls], place // calls
             opens = ways == "open" or (ways == "both" and turn % 2 == 0)
             index = turn // 2 if ways == "both" else turn
-            plain = packet(index, SIZE)
+            plain = packet(index, size)
             port = call.port + 4 * medium
             peer, other = f"127.0.0.1:{40000 + 2 * medium}", f"127.0.0.1:{41000 + 2 * medium}"
             if opens:
