@@ -81,8 +81,8 @@ def changed(dice, text, other):
         return text[:at] + text[at + 1:]
     if kind > 10:
         # a digit for a digit mostly leaves the line within the grammar
-        while text and text[at:at + 1] not in DIGITS:
-            at = dice.randrange(len(text))
+        digits = [place.start() for place in re.finditer(b"[0-9a-f]", text)]
+        at = dice.choice(digits or [len(text)])
         return text[:at] + dice.choice(DIGITS) + text[at + 1:]
     start, end = some_line(dice, text)
     if kind == 4:
@@ -157,11 +157,13 @@ def main():
     seed = sys.argv[3] if len(sys.argv) > 3 else "1"
     ends, bad = Counter(), 0
     for number, (name, script) in enumerate(cases(count, seed)):
+        if number and number % 1000 == 0:
+            print(f"{number} played, {bad} bad, {sum(os.times()[:4]):.0f} s of processor", flush=True)
         wanted = Told(script)
         told = fault(played(program, script, 2 if number % 8 == 7 else 1), wanted)
         ends[{0: "done", 2: "not in the grammar", None: "noise drawn"}[wanted.status]] += 1
         if told:
-            print(f"{name}: {told}")
+            print(f"{name}: {told}", flush=True)
             Path(f"hostile-{number}.script").write_bytes(script)
             bad += 1
     print(f"hostile scripts: {count} played, {bad} bad, {sum(os.times()[:4]):.0f} s of processor; {dict(ends)}")
