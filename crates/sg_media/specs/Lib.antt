@@ -1,6 +1,7 @@
 pub mod Accepting
 pub mod Answers
 pub mod Ciphers
+pub mod Either
 pub mod Kinds
 pub mod Sides
 pub mod Standing

@@ -1,6 +1,7 @@
 //! The two sides of a session: what opens its datagrams and what seals its packets. No call takes memory.
 #![tactic(auto)]
 
+mod either;
 mod faults;
 mod inbound;
 mod open_side;
@@ -11,6 +12,7 @@ mod sealing;
 mod stream;
 mod streams;
 
+pub use either::{Which, receive_either};
 pub use inbound::Opened;
 pub use open_side::OpenSide;
 pub use outbound::Sealed;

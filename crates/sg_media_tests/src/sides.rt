@@ -6,11 +6,11 @@ ghost use Rattle.std.specs.Prelude.{◌≡◌, length, IfOk};
 ghost use Rattle.sg_media.specs.Sides.{CanBeMade, is_tag_len};
 
 use arrayvec::ArrayVec;
-use sg_base::DropCause::{KeySpent, MkiUnknown, SsrcUnknown};
+use sg_base::DropCause::{BadTag, KeySpent, MkiUnknown, SsrcUnknown};
 use sg_base::{DropCause, HalfKeys, Kind, MasterKey, Mki, Pad, SessionKeys, Suite};
 use sg_kdf::derive;
 use sg_keys::{Admit, KeySet, LiveKey, SessionSpec};
-use sg_media::{OpenSide, SealSide};
+use sg_media::{OpenSide, SealSide, Which, receive_either};
 use std::alloc::Global;
 use std::process::Abort;
 use std::test::Fail;
@@ -356,6 +356,41 @@ fn sources_are_admitted(rt: HostRuntime) -> Result<(), Fail> {
             assert_eq!(rt; seals(&rt, rt.alloc(), &mut out, row)?, told, "{}", row.0);
             assert_eq!(rt; opens(&rt, rt.alloc(), &mut back, row)?, told, "{}", row.0);
         }
+    }
+    Ok(())
+}
+
+/// Which of two sides opens a datagram, or the cause.
+fn opened_by(
+    alloc: Global,
+    current: &mut OpenSide,
+    earlier: &mut OpenSide,
+    datagram: &str,
+) -> Result<Result<Which, DropCause>, Fail> {
+    let octets = octets_of(alloc, datagram)?;
+    let mut pad = Pad::make(alloc)?;
+    pad.fill(octets.as_slice()).or(Err("a datagram that fits"))?;
+    Ok(match receive_either(current, earlier, pad) {
+        Ok((which, _)) => Ok(which),
+        Err((_, cause)) => Err(cause),
+    })
+}
+
+// A datagram under the earlier keys is opened once; then the current side's cause is told.
+#[test]
+fn either_generation_opens(rt: HostRuntime) -> Result<(), Fail> {
+    let [before, _, now, _] = &OF_ONE_KEY;
+    let half = half_of(rt.alloc(), before.suite, before.kind, before.master)?;
+    let mut earlier = OpenSide::make(of_one(&rt, half, before, Admit::Any));
+    let half = half_of(rt.alloc(), now.suite, now.kind, now.master)?;
+    let mut current = OpenSide::make(of_one(&rt, half, now, Admit::Any));
+    for (datagram, told) in [
+        (before.datagram, Ok(Which::Earlier)),
+        (before.datagram, Err(BadTag)),
+        (now.datagram, Ok(Which::Current)),
+    ] {
+        let by = opened_by(rt.alloc(), &mut current, &mut earlier, datagram)?;
+        assert_eq!(rt; by, told, "{datagram}");
     }
     Ok(())
 }

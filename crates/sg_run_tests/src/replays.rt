@@ -221,3 +221,24 @@ fn reads_writes_and_draws_that_fail(rt: HostRuntime) -> Result<(), Fail> {
     }
     Ok(())
 }
+
+/// A call that is offered, its packets, and its end, read 512 octets at a time.
+const OFFERED_CALL: &[&str] = &[HEADER, OFFERED, PACKETS, ENDED];
+
+// What is written by then is a front of the whole.
+#[test]
+fn each_read_fails_once(rt: HostRuntime) -> Result<(), Fail> {
+    let whole = joined(rt.alloc(), &[OFFERED_TOLD, PACKETS_TOLD, ENDED_TOLD])?;
+    for k in 1..=4 {
+        let given = Given {
+            most: 512,
+            reads_fail: &[k],
+            ..REPLAY
+        };
+        let mut outside = Outside::of(rt.alloc(), OFFERED_CALL, given)?;
+        let answer = outside.run(&rt, rt.alloc(), &OpenGate);
+        assert_eq!(rt; answer, Status::Read);
+        assert!(rt; whole.as_slice().starts_with(outside.written()));
+    }
+    Ok(())
+}

@@ -1,0 +1,43 @@
+//! A datagram for a call's current generation or the one before.
+
+ghost use Rattle.std.specs.Prelude.{◌≡◌, IfErr, IfOk};
+ghost use Rattle.sg_session.specs.OneSession.{after};
+ghost use Rattle.sg_session.specs.Opening.{opens};
+ghost use Rattle.sg_session.specs.Session.{Session};
+ghost use Rattle.sg_media.specs.Answers.{opened_of};
+ghost use Rattle.sg_media.specs.Either.{first_opened};
+ghost use Rattle.sg_media.specs.Sides.{StandsFor};
+ghost use Rattle.sg_media.specs.declared.either.Which.TheVariants as which;
+
+use crate::{OpenSide, Opened};
+use sg_base::{DropCause, Pad};
+
+/// Which of two generations opened a datagram.
+#[derive(Clone, Copy, PartialEq, Eq, Debug)]
+pub enum Which {
+    Current,
+    Earlier,
+}
+
+/// Opens a datagram by the current generation's side, or, where that refuses it, by the earlier one's. Refused by
+/// both, it is handed back with the current one's cause, and both are as they were.
+pub fn receive_either(
+    current: &mut OpenSide,
+    earlier: &mut OpenSide,
+    pad: Pad,
+) -> Result<(Which, Opened), (Pad, DropCause)>
+    ensures answer { (s e : Session) → StandsFor current.old s → StandsFor earlier.old e
+        → result ≡ first_opened (opened_of s.name.kind pad (opens s pad)) (opened_of e.name.kind pad (opens e pad)) }
+    ensures current { (s : Session) → StandsFor current.old s → StandsFor current.new (after s (opens s pad)) }
+    ensures earlier { IfOk result (λ o. o.0 ≡ which.Earlier → (e : Session) → StandsFor earlier.old e → StandsFor earlier.new (after e (opens e pad))) }
+    ensures only { IfOk result (λ o. o.0 ≡ which.Current → earlier.new ≡ earlier.old) }
+    ensures refused { IfErr result (λ e. (e.0 ≡ pad) × (current.new ≡ current.old) × (earlier.new ≡ earlier.old)) }
+{
+    match current.receive(pad) {
+        Ok(opened) => Ok((Which::Current, opened)),
+        Err((pad, cause)) => match earlier.receive(pad) {
+            Ok(opened) => Ok((Which::Earlier, opened)),
+            Err((pad, _)) => Err((pad, cause)),
+        },
+    }
+}
