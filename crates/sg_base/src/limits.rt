@@ -1,4 +1,4 @@
-//! The gateway's limits, each once. Lengths are in octets.
+//! The gateway's limits that several crates share. Lengths are in octets.
 
 /// How many calls there are at once; a call has one slot of so many.
 pub const CALLS_MOST: usize = 256;

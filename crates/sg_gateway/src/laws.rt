@@ -29,9 +29,9 @@ ghost use Rattle.sg_gateway.specs.World.{Call, World, empty, find_call, with_cal
 
 use sg_agreement::{active_media_are_agreed, agreements_are_sound, offers_fit_their_calls};
 
-/// Where no tag is forged, each packet put out on a plain leg is bit for bit one that its session's peer
-/// sealed, at the index at which it was sealed, and each opened stream's highest index is that of a packet
-/// that was sealed under a key of its session. Forged or not, what is opened came to its session's secure
+/// Where no tag is forged, each packet put out on a plain leg is bit for bit one that was sealed under a key of
+/// its session, at the index at which it was sealed, and each opened stream's highest index is that of such a
+/// packet. Forged or not, what is opened came to its session's secure
 /// port and goes out, and nothing else goes out on a plain port.
 pub fn nothing_forged()
     ensures sealed { (events : List Event) (sealed : List Sealed) → AreSealed sealed → Unforged sealed events → EachOpeningIsSealed sealed events }
@@ -59,8 +59,9 @@ pub fn nothing_twice()
     offers_fit_their_calls();
 }
 
-/// Each sealed packet that arrives new, within reach and under a live key is opened and put out. And each
-/// plain packet that comes from the plain side and can be sealed is sealed and put out.
+/// Each sealed packet that arrives new, within reach and under a live key, in a datagram of at most 4,238 octets,
+/// is opened and put out. And each plain packet of at most 4,096 octets that comes from the plain side and can be
+/// sealed is sealed and put out.
 pub fn nothing_within_reach_lost()
     ensures arriving { (events : List Event) (sealed : List Sealed) → AreSealed sealed → EachArrivingIsPutOut sealed events }
     ensures departing { (events : List Event) → EachDepartingIsSealed events }

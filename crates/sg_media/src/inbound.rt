@@ -130,6 +130,7 @@ impl Headed {
     ghost use Rattle.sg_media.specs.States.{IsHeadedAs};
 
     /// Reads the head of a datagram that ends in an MKI and a tag of these lengths.
+    #[inline(always)]
     pub fn read(
         kind: Kind,
         encrypts: bool,
@@ -160,6 +161,7 @@ impl Headed {
     }
 
     /// The source.
+    #[inline(always)]
     pub fn ssrc(&self) -> u32
         ensures { result ≡ self.now.head.ssrc }
     {
@@ -170,6 +172,7 @@ impl Headed {
     }
 
     /// The pad, as it came.
+    #[inline(always)]
     pub fn refuse(self) -> Pad
         ensures { result ≡ self.pad }
     {
@@ -180,6 +183,7 @@ impl Headed {
     }
 
     /// Chooses the key by the MKI.
+    #[inline(always)]
     pub fn key(self, keys: &KeySet) -> Result<Keyed, (Pad, DropCause)>
         ensures { MatchResult result (IsKeyed self keys.now) (λ e. (e.0 ≡ self.pad) × (chosen_for keys.now (mki_of self.mki_len self.tag_len self.pad) ≡ Err e.1)) }
     {
@@ -207,6 +211,7 @@ impl Keyed {
     ghost use Rattle.sg_media.specs.States.{IsPlacedBy};
 
     /// The kind.
+    #[inline(always)]
     pub fn kind(&self) -> Kind
         ensures { result ≡ self.now.headed.kind }
     {
@@ -217,6 +222,7 @@ impl Keyed {
     }
 
     /// The source.
+    #[inline(always)]
     pub fn ssrc(&self) -> u32
         ensures { result ≡ self.now.headed.head.ssrc }
     {
@@ -227,6 +233,7 @@ impl Keyed {
     }
 
     /// Finds the index in the stream of the packet's source, which is only read.
+    #[inline(always)]
     pub fn place(self, stream: &Stream) -> Result<Placed, (Pad, DropCause)>
         requires { IsStreamOf stream.now self.headed.kind self.headed.head.ssrc }
         ensures open { MatchResult result (λ p. (p.keyed ≡ self) × IsOpenPlace stream.now p.index) (λ e. e.0 ≡ self.headed.pad) }
@@ -257,6 +264,7 @@ impl Placed {
     ghost use Rattle.sg_media.specs.States.{IsUntagged};
 
     /// Compares the tag under the chosen key, among the keys that it was chosen among.
+    #[inline(always)]
     pub fn verify(self, keys: &KeySet) -> Result<Verified, (Pad, DropCause)>
         requires { IsKeyOf keys.now self.keyed.key self.keyed.number }
         ensures { (key : Live) → slice_get keys.now self.keyed.key ≡ Some key → MatchResult result (IsVerified self key) (IsUntagged self key) }
@@ -285,6 +293,7 @@ impl Verified {
     ghost use Rattle.sg_media.specs.States.{IsOpenedAs};
 
     /// The pad, as it came.
+    #[inline(always)]
     pub fn refuse(self) -> Pad
         ensures { result ≡ self.keyed.headed.pad }
     {
@@ -296,6 +305,7 @@ impl Verified {
 
     /// Takes the keystream off, marks the index and counts the packet under its key. The stream and the
     /// keys are those that the datagram was placed and verified with.
+    #[inline(always)]
     pub fn decrypt(self, stream: &mut Stream, keys: &mut KeySet) -> Opened
         requires source { IsStreamOf stream.old self.keyed.headed.kind self.keyed.headed.head.ssrc }
         requires open { IsOpenPlace stream.old self.index }
@@ -321,6 +331,7 @@ impl Verified {
 }
 
 // What was opened, with its kind.
+#[inline(always)]
 fn opened_as(kind: Kind, opened: rtp::Opened) -> Opened
     ensures { result ≡ record { pad = opened.pad; kind = kind; ssrc = opened.ssrc; index = opened.index; key = opened.key } }
 {

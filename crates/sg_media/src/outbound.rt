@@ -77,6 +77,7 @@ impl Headed {
     ghost use Rattle.sg_media.specs.States.{IsNumberedBy, IsOutHeadedAs};
 
     /// Reads the head of a plain packet of at most 4,096 octets.
+    #[inline(always)]
     pub fn read(kind: Kind, encrypts: bool, pad: Pad) -> Result<Headed, (Pad, DropCause)>
         requires { length pad ≤ 4096 }
         ensures { MatchResult result (IsOutHeadedAs pad kind encrypts) (λ e. (e.0 ≡ pad) × (heading_out kind encrypts pad ≡ Err e.1)) }
@@ -100,6 +101,7 @@ impl Headed {
     }
 
     /// The kind.
+    #[inline(always)]
     pub fn kind(&self) -> Kind
         ensures { result ≡ self.now.kind }
     {
@@ -110,6 +112,7 @@ impl Headed {
     }
 
     /// The source.
+    #[inline(always)]
     pub fn ssrc(&self) -> u32
         ensures { result ≡ self.now.head.ssrc }
     {
@@ -120,6 +123,7 @@ impl Headed {
     }
 
     /// The pad, as it came.
+    #[inline(always)]
     pub fn refuse(self) -> Pad
         ensures { result ≡ self.pad }
     {
@@ -131,6 +135,7 @@ impl Headed {
 
     /// Chooses the first key that may serve and the packet's index, in the stream of its source, and
     /// spends both. A refusal changes nothing.
+    #[inline(always)]
     pub fn number(
         self,
         stream: &mut Stream,
@@ -170,6 +175,7 @@ impl Numbered {
     ghost use Rattle.sg_media.specs.States.{IsSealedAs};
 
     /// Seals the packet under its key. The keys are those that `number` left; a tag of RTCP has ten octets.
+    #[inline(always)]
     pub fn seal(self, keys: &KeySet, tag_len: usize) -> Sealed
         requires tag { is_tag_len self.headed.kind tag_len ≡ true }
         requires key { CanSeal keys.now self.key self.number self.headed.head.encrypted }
@@ -186,6 +192,7 @@ impl Numbered {
 }
 
 // What was sealed, with its kind.
+#[inline(always)]
 fn sealed_as(kind: Kind, sealed: rtp::Sealed) -> Sealed
     ensures { result ≡ record { pad = sealed.pad; kind = kind; ssrc = sealed.ssrc; index = sealed.index; key = sealed.key } }
 {

@@ -21,9 +21,9 @@ use std::alloc::Global;
 use std::thread::Threads;
 
 /// Runs the command that the words name. `replay` plays the script of the source, writes what it tells to the
-/// sink, and draws the noise that its signals lack; the link and the clock aren't touched. `relay` does so too, and
-/// at a `tick` line of the script it takes what the link receives and sends what goes out, until the clock says
-/// that the moment has come. `demo` writes the numbers of a demonstration. Words that are no command are answered
+/// sink, and draws the noise that its signals lack; the link and the clock aren't touched. `relay` handles
+/// its lines likewise, and at a `tick` line it takes what the link receives and sends what goes out, until the clock
+/// says that the moment has come. `demo` writes the numbers of a demonstration. Words that are no command are answered
 /// `Usage`, and then nothing is touched.
 pub fn run<R: Threads + Sync, S: Source, K: Sink, L: Link, C: Clock, N: Noise, G: Gate + Sync>(
     rt: &R,

@@ -10,7 +10,7 @@ ghost use Rattle.sg_session.specs.Session.{Key, Session, is_live};
 
 /// The sealing of a packet within reach, under a live key of the session, opens as that very packet at
 /// that index. A datagram that is a sealing in all but its MKI is read as the packet that was sealed. And
-/// the sealing of a packet of 4,096 octets is no longer than the longest datagram.
+/// the sealing of a packet of at most 4,096 octets is no longer than the longest datagram.
 pub fn sealed_is_opened()
     ensures opens { (s : Session) (k : Key) (x : Sealed) → IsSound s → IsSealed x → s.name.kind ≡ x.kind → Any (λ l. l ≡ k) s.keys
         → is_live s k ≡ true → k.master ≡ x.master → IsWithinReach s x → opens s (text_in s k.mki x) ≡ Ok (taken_of k x) }

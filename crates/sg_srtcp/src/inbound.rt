@@ -108,6 +108,7 @@ impl Model for Verified {
 
 impl Arrived {
     /// A datagram in its pad.
+    #[inline(always)]
     pub fn make(pad: Pad) -> Arrived
         ensures { result ≡ pad }
     {
@@ -115,6 +116,7 @@ impl Arrived {
     }
 
     /// Reads the head of a datagram that ends in an index word, an MKI of at most 128 octets and a tag of ten.
+    #[inline(always)]
     pub fn head(self, mki_len: usize) -> Result<Headed, (Pad, HeadFault)>
         requires { mki_len ≤ 128 }
         ensures { MatchResult result (IsHeaded self kind.Rtcp mki_len 10)
@@ -129,6 +131,7 @@ impl Arrived {
 
 impl Headed {
     /// The source.
+    #[inline(always)]
     pub fn ssrc(&self) -> u32
         ensures { result ≡ self.now.head.ssrc }
     {
@@ -136,6 +139,7 @@ impl Headed {
     }
 
     /// The pad, as it came.
+    #[inline(always)]
     pub fn refuse(self) -> Pad
         ensures { result ≡ self.pad }
     {
@@ -143,6 +147,7 @@ impl Headed {
     }
 
     /// Chooses the key by the MKI, where it may serve a packet more.
+    #[inline(always)]
     pub fn key(self, keys: &KeySet) -> Result<Keyed, (Pad, OpenKeyFault)>
         ensures { MatchResult result (IsKeyed self keys.now)
             (λ e. (e.0 ≡ self.pad) × (chosen_for keys.now (mki_of self.mki_len self.tag_len self.pad) ≡ Err (key_cause e.1))) }
@@ -156,6 +161,7 @@ impl Headed {
 
 impl Keyed {
     /// The source.
+    #[inline(always)]
     pub fn ssrc(&self) -> u32
         ensures { result ≡ self.now.headed.head.ssrc }
     {
@@ -164,6 +170,7 @@ impl Keyed {
 
     /// Compares the index that the datagram carries with the stream of its source, which is only read (RFC
     /// 3711, 3.3.2).
+    #[inline(always)]
     pub fn place(self, stream: &RtcpStream) -> Result<Placed, (Pad, Stale)>
         requires { stream.now.ssrc ≡ self.headed.head.ssrc }
         ensures open { MatchResult result (λ p. (p.keyed ≡ self) × IsOpenPlace stream.now p.index) (λ e. e.0 ≡ self.headed.pad) }
@@ -178,6 +185,7 @@ impl Keyed {
 
 impl Placed {
     /// Compares the tag under the chosen key, among the keys that it was chosen among.
+    #[inline(always)]
     pub fn verify(self, keys: &KeySet) -> Result<Verified, (Pad, BadTag)>
         requires { IsKeyOf keys.now self.keyed.key self.keyed.number }
         ensures { (key : Live) → slice_get keys.now self.keyed.key ≡ Some key → MatchResult result (IsVerified self key) (λ e. IsUnverified self key e.0) }
@@ -191,6 +199,7 @@ impl Placed {
 
 impl Verified {
     /// The pad, as it came.
+    #[inline(always)]
     pub fn refuse(self) -> Pad
         ensures { result ≡ self.keyed.headed.pad }
     {
@@ -200,6 +209,7 @@ impl Verified {
     /// Takes the keystream off where the datagram's own E says so, marks the index and counts the packet
     /// under its key. The stream and the keys are those that the datagram was placed and verified with, and
     /// the key has a cipher's key where E is 1.
+    #[inline(always)]
     pub fn decrypt(self, stream: &mut RtcpStream, keys: &mut KeySet) -> Opened
         requires source { stream.old.ssrc ≡ self.keyed.headed.head.ssrc }
         requires open { IsOpenPlace stream.old self.index }

@@ -108,6 +108,7 @@ impl Model for Verified {
 
 impl Arrived {
     /// A datagram in its pad.
+    #[inline(always)]
     pub fn make(pad: Pad) -> Arrived
         ensures { result ≡ pad }
     {
@@ -115,6 +116,7 @@ impl Arrived {
     }
 
     /// Reads the head of a datagram that ends in an MKI of at most 128 octets and a tag of ten or four.
+    #[inline(always)]
     pub fn head(self, mki_len: usize, tag_len: usize) -> Result<Headed, (Pad, HeadFault)>
         requires mki { mki_len ≤ 128 }
         requires tag { is_tag_len kind.Rtp tag_len ≡ true }
@@ -130,6 +132,7 @@ impl Arrived {
 
 impl Headed {
     /// The source.
+    #[inline(always)]
     pub fn ssrc(&self) -> u32
         ensures { result ≡ self.now.head.ssrc }
     {
@@ -137,6 +140,7 @@ impl Headed {
     }
 
     /// The pad, as it came.
+    #[inline(always)]
     pub fn refuse(self) -> Pad
         ensures { result ≡ self.pad }
     {
@@ -144,6 +148,7 @@ impl Headed {
     }
 
     /// Chooses the key by the MKI, where it may serve a packet more.
+    #[inline(always)]
     pub fn key(self, keys: &KeySet) -> Result<Keyed, (Pad, OpenKeyFault)>
         ensures { MatchResult result (IsKeyed self keys.now)
             (λ e. (e.0 ≡ self.pad) × (chosen_for keys.now (mki_of self.mki_len self.tag_len self.pad) ≡ Err (key_cause e.1))) }
@@ -157,6 +162,7 @@ impl Headed {
 
 impl Keyed {
     /// The source.
+    #[inline(always)]
     pub fn ssrc(&self) -> u32
         ensures { result ≡ self.now.headed.head.ssrc }
     {
@@ -164,6 +170,7 @@ impl Keyed {
     }
 
     /// Finds the index in the stream of the packet's source, which is only read (RFC 3711, 3.3.1, 3.3.2).
+    #[inline(always)]
     pub fn place(self, stream: &Stream) -> Result<Placed, (Pad, PlaceFault)>
         requires { stream.now.ssrc ≡ self.headed.head.ssrc }
         ensures open { MatchResult result (λ p. (p.keyed ≡ self) × IsOpenPlace stream.now p.index) (λ e. e.0 ≡ self.headed.pad) }
@@ -178,6 +185,7 @@ impl Keyed {
 
 impl Placed {
     /// Compares the tag under the chosen key, among the keys that it was chosen among.
+    #[inline(always)]
     pub fn verify(self, keys: &KeySet) -> Result<Verified, (Pad, BadTag)>
         requires { IsKeyOf keys.now self.keyed.key self.keyed.number }
         ensures { (key : Live) → slice_get keys.now self.keyed.key ≡ Some key → MatchResult result (IsVerified self key) (λ e. IsUnverified self key e.0) }
@@ -191,6 +199,7 @@ impl Placed {
 
 impl Verified {
     /// The pad, as it came.
+    #[inline(always)]
     pub fn refuse(self) -> Pad
         ensures { result ≡ self.keyed.headed.pad }
     {
@@ -200,6 +209,7 @@ impl Verified {
     /// Takes the keystream off where the session encrypts, marks the index and counts the packet under its
     /// key. The stream and the keys are those that the datagram was placed and verified with, and the key
     /// has a cipher's key where `encrypt` is true.
+    #[inline(always)]
     pub fn decrypt(self, stream: &mut Stream, keys: &mut KeySet, encrypt: bool) -> Opened
         requires source { stream.old.ssrc ≡ self.keyed.headed.head.ssrc }
         requires open { IsOpenPlace stream.old self.index }

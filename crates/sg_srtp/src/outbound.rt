@@ -72,6 +72,7 @@ impl Model for Numbered {
 
 impl Arrived {
     /// A plain packet in its pad.
+    #[inline(always)]
     pub fn make(pad: Pad) -> Arrived
         requires { length pad ≤ 4096 }
         ensures { result ≡ pad }
@@ -80,6 +81,7 @@ impl Arrived {
     }
 
     /// Reads the head.
+    #[inline(always)]
     pub fn head(self) -> Result<Headed, (Pad, HeadFault)>
         ensures { MatchResult result (IsOutHeaded self kind.Rtp) (λ e. (e.0 ≡ self) × (heading_out kind.Rtp false self ≡ Err (head_cause e.1))) }
     {
@@ -92,6 +94,7 @@ impl Arrived {
 
 impl Headed {
     /// The source.
+    #[inline(always)]
     pub fn ssrc(&self) -> u32
         ensures { result ≡ self.now.head.ssrc }
     {
@@ -99,6 +102,7 @@ impl Headed {
     }
 
     /// The pad, as it came.
+    #[inline(always)]
     pub fn refuse(self) -> Pad
         ensures { result ≡ self.pad }
     {
@@ -107,6 +111,7 @@ impl Headed {
 
     /// Chooses the first key that may serve and the packet's index, in the stream of its source, and
     /// spends both. A refusal changes nothing.
+    #[inline(always)]
     pub fn number(
         self,
         stream: &mut Stream,
@@ -129,6 +134,7 @@ impl Headed {
 impl Numbered {
     /// Seals the packet under its key, encrypted where the session says so, with a tag of ten octets or
     /// four. The keys are those that `number` left, and the key has a cipher's key where `encrypt` is true.
+    #[inline(always)]
     pub fn seal(self, keys: &KeySet, encrypt: bool, tag_len: usize) -> Sealed
         requires tag { is_tag_len kind.Rtp tag_len ≡ true }
         requires key { CanSeal keys.now self.key self.number encrypt }

@@ -40,6 +40,7 @@ impl Stream {
     }
 
     /// The source.
+    #[inline(always)]
     pub fn ssrc(&self) -> u32
         ensures { result ≡ self.now.ssrc }
     {

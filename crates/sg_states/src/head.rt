@@ -20,6 +20,7 @@ pub struct Head {
 }
 
 // The head of an RTP packet.
+#[inline(always)]
 fn rtp_head(packet: &[u8]) -> Result<Head, HeadFault>
     ensures head { IsReadAs result (of_rtp false (rtp_head packet.now)) }
     ensures number { IfOk result (λ h. h.number < 65536) }
@@ -37,6 +38,7 @@ fn rtp_head(packet: &[u8]) -> Result<Head, HeadFault>
 }
 
 // The head of an RTCP packet with this index, of which the rest is encrypted or not.
+#[inline(always)]
 fn rtcp_head(packet: &[u8], number: u32, encrypted: bool) -> Result<Head, HeadFault>
     ensures head { IsReadAs result (of_rtcp number encrypted (rtcp_head packet.now)) }
     ensures number { IfOk result (λ h. h.number ≡ number) }
@@ -55,6 +57,7 @@ fn rtcp_head(packet: &[u8], number: u32, encrypted: bool) -> Result<Head, HeadFa
 
 /// The head of a datagram that ends in an MKI and a tag of these lengths. That it is encrypted, only RTCP
 /// says itself (RFC 3711, 3.4).
+#[inline(always)]
 pub(crate) fn head_in(
     kind: Kind,
     mki_len: usize,
@@ -91,6 +94,7 @@ pub(crate) fn head_in(
 const INDICES: u32 = 2147483648;
 
 /// The head of a plain packet.
+#[inline(always)]
 pub(crate) fn head_out(kind: Kind, packet: &[u8]) -> Result<Head, HeadFault>
     ensures head { IsReadAs result (heading_out kind false packet.now) }
     ensures whole { IfOk result (λ h. h.size ≤ length packet.now) }

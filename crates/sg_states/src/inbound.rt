@@ -108,6 +108,7 @@ pub struct Opened {
 impl Headed {
     /// Reads the head of a datagram that ends in an MKI and a tag of these lengths.
     #[tactic(auto, using(crate::proofs::Tags::tag_within))]
+    #[inline(always)]
     pub fn read(
         kind: Kind,
         mki_len: usize,
@@ -131,6 +132,7 @@ impl Headed {
     }
 
     /// The source.
+    #[inline(always)]
     pub fn ssrc(&self) -> u32
         ensures { result ≡ self.now.head.ssrc }
     {
@@ -138,6 +140,7 @@ impl Headed {
     }
 
     // The number, which fits its kind.
+    #[inline(always)]
     fn number(&self) -> u32
         ensures value { result ≡ self.now.head.number }
         ensures fits { IsNumber self.now.kind result }
@@ -146,6 +149,7 @@ impl Headed {
     }
 
     /// The pad, as it came.
+    #[inline(always)]
     pub fn refuse(self) -> Pad
         ensures { result ≡ self.pad }
     {
@@ -153,6 +157,7 @@ impl Headed {
     }
 
     // The octets of the MKI.
+    #[inline(always)]
     fn mki(&self) -> &[u8]
         ensures { result.now ≡ mki_of self.now.mki_len self.now.tag_len self.now.pad }
     {
@@ -162,6 +167,7 @@ impl Headed {
     }
 
     /// Chooses the key by the MKI.
+    #[inline(always)]
     pub fn key(self, keys: &KeySet) -> Result<Keyed, (Pad, OpenKeyFault)>
         ensures { MatchResult result (IsKeyed self keys.now)
             (λ e. (e.0 ≡ self.pad) × (chosen_for keys.now (mki_of self.mki_len self.tag_len self.pad) ≡ Err (key_cause e.1))) }
@@ -179,6 +185,7 @@ impl Headed {
 
 impl Keyed {
     /// The source.
+    #[inline(always)]
     pub fn ssrc(&self) -> u32
         ensures { result ≡ self.now.headed.head.ssrc }
     {
@@ -186,6 +193,7 @@ impl Keyed {
     }
 
     // The pad, as it came.
+    #[inline(always)]
     fn refuse(self) -> Pad
         ensures { result ≡ self.headed.pad }
     {
@@ -193,6 +201,7 @@ impl Keyed {
     }
 
     /// Finds the index of a packet of RTP in the stream of its source, which is only read.
+    #[inline(always)]
     pub fn place(self, stream: &Stream) -> Result<Placed, (Pad, PlaceFault)>
         requires rtp { self.headed.kind ≡ kind.Rtp }
         requires of { IsStreamOf stream.now kind.Rtp self.headed.head.ssrc }
@@ -206,6 +215,7 @@ impl Keyed {
     }
 
     /// Compares the index that a datagram of RTCP carries with the stream of its source, which is only read.
+    #[inline(always)]
     pub fn place_carried(self, stream: &Stream) -> Result<Placed, (Pad, Stale)>
         requires rtcp { self.headed.kind ≡ kind.Rtcp }
         requires of { IsStreamOf stream.now kind.Rtcp self.headed.head.ssrc }
@@ -222,6 +232,7 @@ impl Keyed {
 
 impl Placed {
     /// Compares the tag under the chosen key, among the keys that it was chosen among.
+    #[inline(always)]
     pub fn verify(self, keys: &KeySet) -> Result<Verified, (Pad, BadTag)>
         requires { IsKeyOf keys.now self.keyed.key self.keyed.number }
         ensures { (key : Live) → slice_get keys.now self.keyed.key ≡ Some key → MatchResult result (IsVerified self key) (λ e. IsUnverified self key e.0) }
@@ -242,6 +253,7 @@ impl Placed {
 
 impl Headed {
     // The packet alone, with the keystream of its index taken off where it is encrypted.
+    #[inline(always)]
     fn into_packet(
         self,
         encrypted: bool,
@@ -273,6 +285,7 @@ impl Headed {
 }
 
 // The octets between a packet and the MKI: of RTCP the index word.
+#[inline(always)]
 fn word_len(kind: Kind) -> usize
     ensures value { result ≡ word_len kind }
     ensures most { result ≤ 4 }
@@ -285,6 +298,7 @@ fn word_len(kind: Kind) -> usize
 
 impl Verified {
     /// The pad, as it came.
+    #[inline(always)]
     pub fn refuse(self) -> Pad
         ensures { result ≡ self.keyed.headed.pad }
     {
@@ -293,6 +307,7 @@ impl Verified {
     }
 
     /// Whether the datagram says that it is encrypted, which only RTCP does.
+    #[inline(always)]
     pub fn encrypted(&self) -> bool
         ensures { result ≡ self.now.keyed.headed.head.encrypted }
     {
@@ -301,6 +316,7 @@ impl Verified {
 
     /// Takes the keystream off where the packet is encrypted, marks the index and counts the packet under
     /// its key. The stream and the keys are those that the datagram was placed and verified with.
+    #[inline(always)]
     pub fn decrypt(self, stream: &mut Stream, keys: &mut KeySet, encrypted: bool) -> Opened
         requires source { IsStreamOf stream.old self.keyed.headed.kind self.keyed.headed.head.ssrc }
         requires open { IsOpenPlace stream.old self.index }

@@ -78,6 +78,7 @@ pub struct Sealed {
 
 impl Headed {
     /// Reads the head of a plain packet.
+    #[inline(always)]
     pub fn read(kind: Kind, pad: Pad) -> Result<Headed, (Pad, HeadFault)>
         requires { length pad ≤ 4096 }
         ensures { MatchResult result (IsOutHeaded pad kind) (λ e. (e.0 ≡ pad) × (heading_out kind false pad ≡ Err (head_cause e.1))) }
@@ -89,6 +90,7 @@ impl Headed {
     }
 
     /// The source.
+    #[inline(always)]
     pub fn ssrc(&self) -> u32
         ensures { result ≡ self.now.head.ssrc }
     {
@@ -96,6 +98,7 @@ impl Headed {
     }
 
     /// The pad, as it came.
+    #[inline(always)]
     pub fn refuse(self) -> Pad
         ensures { result ≡ self.pad }
     {
@@ -103,6 +106,7 @@ impl Headed {
     }
 
     // Spends an index of the stream and a packet of the key at a position.
+    #[inline(always)]
     fn spend(self, stream: &mut Stream, keys: &mut KeySet, key: usize, index: u64) -> Numbered
         requires open { IsOpenPlace stream.old index }
         requires bound { IsIndex self.kind index }
@@ -127,6 +131,7 @@ impl Headed {
 
     /// Chooses the first key that may serve and the index of an RTP packet, in the stream of its source, and
     /// spends both. A refusal changes nothing.
+    #[inline(always)]
     pub fn number(
         self,
         stream: &mut Stream,
@@ -154,6 +159,7 @@ impl Headed {
 
     /// Chooses the first key that may serve and the next index of an RTCP stream, that of the packet's
     /// source, and spends both. A refusal changes nothing.
+    #[inline(always)]
     pub fn number_next(
         self,
         stream: &mut Stream,
@@ -182,6 +188,7 @@ impl Headed {
     }
 
     // The packet with the keystream of its index put on, where it is to be encrypted.
+    #[inline(always)]
     fn into_encrypted(
         self,
         encrypted: bool,
@@ -210,6 +217,7 @@ impl Headed {
 }
 
 // The index word of an RTCP datagram: E as the highest bit, and the 31 bits of the index (RFC 3711, 3.4).
+#[inline(always)]
 fn word_of(encrypted: bool, index: u64) -> [u8; 4]
     requires { index < 2147483648 }
     ensures { result ≡ index_word encrypted index }
@@ -219,6 +227,7 @@ fn word_of(encrypted: bool, index: u64) -> [u8; 4]
 }
 
 // Puts the MKI and the first octets of a MAC behind the rest.
+#[inline(always)]
 fn append_end(pad: &mut Pad, mki: &[u8], whole: &[u8; 20], tag_len: usize)
     requires room { length pad.old ≤ 4100 }
     requires mki { length mki.now ≤ 128 }
@@ -230,6 +239,7 @@ fn append_end(pad: &mut Pad, mki: &[u8], whole: &[u8; 20], tag_len: usize)
 }
 
 // Puts MKI and tag behind an RTP packet.
+#[inline(always)]
 fn close_rtp(pad: &mut Pad, mac: &MacKey, mki: &[u8], tag_len: usize, index: u64)
     requires index { index < 2 ^ 48 }
     requires room { length pad.old ≤ 4096 }
@@ -242,6 +252,7 @@ fn close_rtp(pad: &mut Pad, mac: &MacKey, mki: &[u8], tag_len: usize, index: u64
 }
 
 // Puts index word, MKI and tag behind an RTCP packet.
+#[inline(always)]
 fn close_rtcp(pad: &mut Pad, mac: &MacKey, mki: &[u8], encrypted: bool, index: u64)
     requires index { index < 2147483648 }
     requires room { length pad.old ≤ 4096 }
@@ -256,6 +267,7 @@ fn close_rtcp(pad: &mut Pad, mac: &MacKey, mki: &[u8], encrypted: bool, index: u
 impl Numbered {
     /// Seals the packet under its key, encrypted or not. The keys are those that `number` left; a tag of
     /// RTCP has ten octets.
+    #[inline(always)]
     pub fn seal(self, keys: &KeySet, encrypted: bool, tag_len: usize) -> Sealed
         requires tag { is_tag_len self.headed.kind tag_len ≡ true }
         requires key { CanSeal keys.now self.key self.number encrypted }

@@ -56,6 +56,7 @@ impl Stream {
     }
 
     /// The kind.
+    #[inline(always)]
     pub fn kind(&self) -> Kind
         ensures { result ≡ self.now.kind }
     {
@@ -63,6 +64,7 @@ impl Stream {
     }
 
     /// The source.
+    #[inline(always)]
     pub fn ssrc(&self) -> u32
         ensures { result ≡ self.now.ssrc }
     {
@@ -77,6 +79,7 @@ impl Stream {
     }
 
     /// The index, where it is new.
+    #[inline(always)]
     pub(crate) fn new_index(&self, index: u64) -> Result<u64, Stale>
         requires { index < 2 ^ 48 }
         ensures answer { ForIndicesOf self.now (λ roc window indices. told_by stale_cause result ≡ fresh_in window indices index) }
@@ -91,6 +94,7 @@ impl Stream {
     }
 
     // The index of an RTP packet's sequence number (RFC 3711, 3.3.1).
+    #[inline(always)]
     fn nearest(&self, seq: u16) -> Result<u64, IndexFault>
         requires { self.now.kind ≡ kind.Rtp }
         ensures answer { ForIndicesOf self.now (λ roc window indices. result ≡ nearest_from roc seq (highest_of indices)) }
@@ -106,6 +110,7 @@ impl Stream {
     }
 
     /// The index of an RTP packet's sequence number, where it is new.
+    #[inline(always)]
     pub(crate) fn place(&self, seq: u16) -> Result<u64, PlaceFault>
         requires { self.now.kind ≡ kind.Rtp }
         ensures answer { ForIndicesOf self.now (λ roc window indices. told_by place_cause result ≡ placed kind.Rtp roc window indices seq) }
@@ -121,6 +126,7 @@ impl Stream {
     }
 
     /// The index after the highest, in 31 bits; none where they are spent (RFC 3711, 3.4).
+    #[inline(always)]
     pub(crate) fn following(&self) -> Option<u64>
         ensures answer { ForIndicesOf self.now (λ roc window indices. or_spent result ≡ next_after (highest_of indices)) }
         ensures open { IfSome result (IsOpenPlace self.now) }
@@ -140,6 +146,7 @@ impl Stream {
     }
 
     /// Takes an open index in.
+    #[inline(always)]
     pub(crate) fn take(&mut self, index: u64)
         requires { IsOpenPlace self.old index }
         ensures of { (self.new.kind ≡ self.old.kind) × (self.new.ssrc ≡ self.old.ssrc) }

@@ -16,8 +16,8 @@ use sg_call::{Call, End, Handled};
 use sg_gateway::{calls_in_order, each_call_by_itself};
 
 impl Table {
-    /// Handles a datagram that comes to a port. Its call is found in constant time, however many there are. It
-    /// doesn't allocate.
+    /// Handles a datagram that comes to a port. Its call is found by its slot, without a search. It doesn't
+    /// allocate.
     pub fn datagram(&mut self, port: u16, from: Address, pad: Pad) -> Handled
         ensures { (w : World) → TableStandsFor self.old w → IsHandled w port from pad result self.new }
     {

@@ -21,7 +21,7 @@ fn slot_at(port: u16) -> Option<usize>
     if slot < CALLS_MOST { Some(slot) } else { None }
 }
 
-/// The position of the call that has a port, in constant time.
+/// The position of the call that has a port, by its slot.
 pub(crate) fn place(calls: &[Call], places: &[Option<u8>], port: u16) -> Option<usize>
     requires indexed { AreIndexed places.now (shapes_of calls.now) }
     requires rising { AreRising (shapes_of calls.now) }

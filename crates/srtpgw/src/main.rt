@@ -2,8 +2,10 @@
 //! source.
 #![tactic(auto)]
 
+mod progress;
+
+use crate::progress::Progress;
 use sg_edge::{RngNoise, StdSink, StdSource, SystemRng, UdpLink, WallClock};
-use sg_lanes::OpenGate;
 use sg_run::Status;
 use std::process::ExitCode;
 
@@ -24,7 +26,7 @@ fn main(rt: HostRuntime) -> ExitCode {
             &mut link,
             &mut WallClock::make(&rt),
             &mut RngNoise::make(SystemRng(&rt)),
-            &OpenGate,
+            &Progress::make(&rt, &words),
         ),
         _ => Status::NoMemory,
     };
