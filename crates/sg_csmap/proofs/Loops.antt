@@ -1,12 +1,12 @@
 -- One medium's crypto sessions after another.
-use Rattle.std.proofs.Common.{◌≡◌, ◌<◌, ◌+◌, ℕ, length, arith, List, [], ◌∷◌, ◌++◌, Option, Some, None, Ok, Err, refl, ap, sym, ◌∙◌, append_assoc, append-nil}
+use Rattle.std.proofs.Common.{◌≡◌, ◌<◌, ◌+◌, ℕ, length, arith, List, [], ◌∷◌, ◌++◌, Option, Some, None, Result, Ok, Err, refl, ap, sym, ◌∙◌, append_assoc, append-nil}
 use Rattle.std.specs.Prelude.{option_map}
 use Rattle.sg_base.specs.Fields.{◌>>=◌}
 use Rattle.sg_base.specs.declared.faults.CsFault.TheVariants.{PolicyValue}
 use Rattle.sg_mikey.specs.declared.message.CsEntry.{CsEntry}
 use Rattle.sg_mikey.specs.declared.message.Tgk.{Tgk}
 use Rattle.sg_mikey.specs.declared.policy.Policy.{Policy}
-use Rattle.sg_csmap.specs.CryptoSessions.{Gives, or_fault, pair_in, pairs_from}
+use Rattle.sg_csmap.specs.CryptoSessions.{Gives, OnNoMemory, or_fault, pair_in, pairs_from}
 use Rattle.sg_csmap.specs.declared.sessions.StreamKeys.{StreamKeys}
 use Rattle.sg_csmap.specs.declared.faults.CsError.{CsError}
 use Rattle.sg_csmap.specs.declared.faults.CsError.TheVariants as errors
@@ -15,6 +15,12 @@ use Rattle.sg_csmap.specs.declared.faults.CsError.TheVariants as errors
 abbrev pub behind : {A : Type 0} → List A → Option (List A) → Option (List A)
 behind done (Some rest) = Some (done ++ rest)
 behind done None = None
+
+-- what holds anyway holds where out of memory is answered
+pub anyway : {X P : Type 0} (r : Result X CsError) → P → OnNoMemory r P
+anyway (Ok x) p = tt
+anyway (Err (errors.Cs fault)) p = tt
+anyway (Err errors.NoMemory) p = p
 
 pub is_there : {A : Type 0} (x : Option A) (a : A) → or_fault PolicyValue x ≡ Ok a → x ≡ Some a
 is_there (Some b) a e = cc

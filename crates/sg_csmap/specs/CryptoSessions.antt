@@ -83,8 +83,21 @@ streams_of csb random map policies tgks media =
     else if list_any (lacks_policy policies) map then Err PolicyMissing
     else or_fault PolicyValue (pairs_from csb random policies tgks 1 map)
 
+-- the first cause of those that are told before any memory is taken
+abbrev pub early_of : List CsEntry → List Policy → ℕ → Option CsFault
+early_of map policies media =
+    if not (length map == 2 * media) then Some CsCount
+    else if list_any (lacks_policy policies) map then Some PolicyMissing
+    else None
+
 -- what a function returned is what the definition gives, unless memory ran out
 abbrev pub Gives : {X : Type 0} → Result X CsError → Result X CsFault → Type 0
 Gives (Ok x) is = is ≡ Ok x
 Gives (Err (errors.Cs fault)) is = is ≡ Err fault
 Gives (Err errors.NoMemory) is = Unit {0}
+
+-- out of memory is answered only where this holds
+abbrev pub OnNoMemory : {X : Type 0} → Result X CsError → Type 0 → Type 0
+OnNoMemory (Ok x) P = Unit {0}
+OnNoMemory (Err (errors.Cs fault)) P = Unit {0}
+OnNoMemory (Err errors.NoMemory) P = P

@@ -1,10 +1,10 @@
 //! What each side sends in the crypto sessions of a bundle (RFC 3830, 4.1.3 and 6.1.1).
 
-ghost use Rattle.std.specs.Prelude.{◌≡◌, ◌≤◌, ◌<◌, ◌∷◌, length, option_map, IfOk, IfSome, IfNone};
+ghost use Rattle.std.specs.Prelude.{◌≡◌, ◌≤◌, ◌<◌, ◌∷◌, length, None, option_map, IfOk, IfSome, IfNone};
 ghost use Rattle.std.specs.List.{list_any};
 ghost use Rattle.sg_base.specs.Suites.{salt_len_of};
 ghost use Rattle.sg_base.specs.declared.faults.CsFault.TheVariants.{PolicyValue};
-ghost use Rattle.sg_csmap.specs.CryptoSessions.{Gives, keys_in, lacks_policy, master_in, or_fault, pair_in, pairs_from, policy_at, stream_in, stream_keys, streams_of};
+ghost use Rattle.sg_csmap.specs.CryptoSessions.{Gives, OnNoMemory, early_of, keys_in, lacks_policy, master_in, or_fault, pair_in, pairs_from, policy_at, stream_in, stream_keys, streams_of};
 
 use crate::CsError;
 use crate::policies::{Protection, protection_of};
@@ -192,8 +192,8 @@ fn pairs_of(
 ///
 /// Refused, in this order: `CsCount` for another number of crypto sessions than two for each medium;
 /// `PolicyMissing` for a session whose policy no SP has; `PolicyValue` for one whose policy says what isn't
-/// served.
-#[tactic(auto, unfolding(crate::specs::CryptoSessions::streams_of))]
+/// served. The first two need no memory.
+#[tactic(auto, using(crate::proofs::Loops::anyway), unfolding(crate::specs::CryptoSessions::streams_of))]
 pub fn streams(
     alloc: Global,
     csb: u32,
@@ -204,7 +204,8 @@ pub fn streams(
     media: usize,
 ) -> Result<Items<(StreamKeys, StreamKeys)>, CsError>
     requires { media ≤ 127 }
-    ensures { Gives result (streams_of csb random.now map.now policies.now tgks.now.keys media) }
+    ensures value { Gives result (streams_of csb random.now map.now policies.now tgks.now.keys media) }
+    ensures needs { OnNoMemory result (early_of map.now policies.now media ≡ None) }
 {
     if map.len() != 2 * media {
         return Err(CsError::Cs(CsFault::CsCount));

@@ -1,5 +1,5 @@
 -- What a message's payloads can hold, and how an answer goes on.
-use Rattle.std.proofs.Common.{◌≡◌, ◌<◌, ◌≤◌, ◌^◌, ℕ, List, [], ◌∷◌, length, Option, Some, None, Ok, Err, refl, ap, subst, arith}
+use Rattle.std.proofs.Common.{◌≡◌, ◌<◌, ◌≤◌, ◌^◌, ℕ, List, [], ◌∷◌, length, Option, Some, None, Result, Ok, Err, refl, ap, subst, arith}
 use Rattle.std.specs.List.{AllByRecursion}
 use Rattle.std.proofs.lemmas.Bool.{lt-ltb, le-ltb}
 use Rattle.sg_base.specs.declared.faults.PskFault.TheVariants.{KeyType, CacheFull}
@@ -11,7 +11,7 @@ use Rattle.sg_mikey.specs.declared.payload.Payload.{Payload}
 use Rattle.sg_mikey.specs.declared.payload.Payload.TheVariants.{Time, Random, Id, Sp, Extension, Kemac, Verify}
 use Rattle.sg_psk.specs.Accepting.{accepted_with, with_keys}
 use Rattle.sg_psk.specs.Parts.{closing_in}
-use Rattle.sg_psk.specs.StandsFor.{Gives, IsAccepted, or_fault}
+use Rattle.sg_psk.specs.StandsFor.{Gives, IsAccepted, OnNoMemory, or_fault}
 use Rattle.sg_psk.specs.declared.accepting.Initial.{Initial}
 use Rattle.sg_psk.specs.declared.faults.PskError.{PskError}
 use Rattle.sg_psk.specs.declared.faults.PskError.TheVariants as errors
@@ -28,6 +28,12 @@ closing_small (Sp policy ∷ ps) all = closing_small ps all.1
 closing_small (Extension form octets ∷ ps) all = closing_small ps all.1
 closing_small (Kemac cipher octets mac tag ∷ ps) all = all.0.0
 closing_small (Verify mac tag ∷ ps) all = omega arith
+
+-- what holds anyway holds where out of memory is answered
+pub anyway : {X P : Type 0} (r : Result X PskError) → P → OnNoMemory r P
+anyway (Ok x) p = tt
+anyway (Err (errors.Psk fault)) p = tt
+anyway (Err errors.NoMemory) p = p
 
 abbrev pub Keys : Tgks → List Tgk → Type 0
 Keys keys tgks = keys.keys ≡ tgks

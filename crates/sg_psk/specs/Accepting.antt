@@ -77,6 +77,14 @@ unfoldable pub initial_under : List ℕ → Message → List Noted → ℕ → O
 initial_under octets m kept now None = Err IdUnknown
 initial_under octets m kept now (Some pair) = unless (fault_of octets m pair kept now) (with_keys m pair (length kept) (keys_in m pair))
 
+-- the first cause of those that are told before any memory is taken
+abbrev pub early_under : List ℕ → Message → List Noted → ℕ → Option Pair → Option PskFault
+early_under octets m kept now None = Some IdUnknown
+early_under octets m kept now (Some pair) = fault_of octets m pair kept now
+
+abbrev pub early_of : List ℕ → Message → List Pair → List Noted → ℕ → Option PskFault
+early_of octets m pairs kept now = early_under octets m kept now (pair_named pairs (names_in m.payloads))
+
 -- the message that these octets spell, under the first pair that its names name
 unfoldable pub initial_of : List ℕ → Message → List Pair → List Noted → ℕ → Result Accepted PskFault
 initial_of octets m pairs kept now = initial_under octets m kept now (pair_named pairs (names_in m.payloads))

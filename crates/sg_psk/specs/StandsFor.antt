@@ -51,3 +51,9 @@ Gives Is (Ok x) (Ok a) = Is x a
 Gives Is (Ok x) (Err fault) = ⊥
 Gives Is (Err (errors.Psk fault)) is = is ≡ Err fault
 Gives Is (Err errors.NoMemory) is = Unit {0}
+
+-- out of memory is answered only where this holds
+abbrev pub OnNoMemory : {X : Type 0} → Result X PskError → Type 0 → Type 0
+OnNoMemory (Ok x) P = Unit {0}
+OnNoMemory (Err (errors.Psk fault)) P = Unit {0}
+OnNoMemory (Err errors.NoMemory) P = P

@@ -1,12 +1,12 @@
 //! Reading the initiator's message as the responder (RFC 3830, 3.1 and 5.2 to 5.4).
 
-ghost use Rattle.std.specs.Prelude.{◌≡◌, ◌≤◌, ◌^◌, ◌==◌, ◌&&◌, List, Ok, Some, length, slice_get, IfOk};
+ghost use Rattle.std.specs.Prelude.{◌≡◌, ◌≤◌, ◌^◌, ◌==◌, ◌&&◌, List, Ok, Some, None, length, slice_get, IfOk};
 ghost use Rattle.sg_base.specs.declared.faults.PskFault.TheVariants.{KeyType};
 ghost use Rattle.sg_mikey.specs.Reading.{message_of};
-ghost use Rattle.sg_psk.specs.Accepting.{accepted_with, fault_of, initial_fits, initial_of, initial_under, keys_in, with_keys};
+ghost use Rattle.sg_psk.specs.Accepting.{accepted_with, early_of, fault_of, initial_fits, initial_of, initial_under, keys_in, with_keys};
 ghost use Rattle.sg_psk.specs.Pairs.{IsAt, pair_named};
 ghost use Rattle.sg_psk.specs.Parts.{closing_in, names_in};
-ghost use Rattle.sg_psk.specs.StandsFor.{Gives, IsAccepted, or_fault};
+ghost use Rattle.sg_psk.specs.StandsFor.{Gives, IsAccepted, OnNoMemory, or_fault};
 ghost use Rattle.sg_psk.specs.declared.pairs.Pair.{Pair};
 
 use crate::envelope::{before_mac, encipher, is_mac, mac_of};
@@ -183,8 +183,9 @@ fn initial_under(
 ) -> Result<Initial, PskError>
     requires small { length (closing_in message.now.payloads).octets ≤ 2 ^ 20 }
     requires moment { now ≤ 2085978495999 }
-    ensures { (pairs : List Pair) → slice_get pairs place ≡ Some pair.now
+    ensures value { (pairs : List Pair) → slice_get pairs place ≡ Some pair.now
         → Gives (IsAccepted pairs) result (initial_under octets.now message.now seen.now now (Some pair.now)) }
+    ensures needs { OnNoMemory result (fault_of octets.now message.now pair.now seen.now now ≡ None) }
 {
     match fault_of(octets, message, pair, seen, now) {
         Some(fault) => Err(PskError::Psk(fault)),
@@ -198,7 +199,7 @@ fn initial_under(
 /// Refused, in this order: `IdUnknown` without such a pair; `Algorithm` for another cipher than AES in
 /// counter mode or another MAC than HMAC-SHA-1; `BadMac`; `Skew` for a stamp more than 300,000 ms from the
 /// moment; `Repeated` for a message that was noted; `KeyType` for keys that aren't served; `CacheFull` where
-/// fewer than four more messages have room. Nothing is noted here.
+/// fewer than four more messages have room. Nothing is noted here. The causes up to `Repeated` need no memory.
 pub fn read_initial(
     alloc: Global,
     octets: &[u8],
@@ -209,7 +210,8 @@ pub fn read_initial(
 ) -> Result<Initial, PskError>
     requires read { message_of octets.now ≡ Ok message.now }
     requires moment { now ≤ 2085978495999 }
-    ensures { Gives (IsAccepted book.now) result (initial_of octets.now message.now book.now seen.now now) }
+    ensures value { Gives (IsAccepted book.now) result (initial_of octets.now message.now book.now seen.now now) }
+    ensures needs { OnNoMemory result (early_of octets.now message.now book.now seen.now now ≡ None) }
 {
     message_law();
     match place_named(book, message.payloads.as_slice()) {

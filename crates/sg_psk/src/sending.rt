@@ -1,13 +1,13 @@
 //! The messages that the gateway sends, and reading a response as the initiator (RFC 3830, 3.1 and 5.1 to 5.3).
 
-ghost use Rattle.std.specs.Prelude.{◌≡◌, ◌≤◌, ◌<◌, ◌==◌, ◌&&◌, ◌∷◌, ◌++◌, [], List, Ok, Some, length, replicate, slice_get, IfOk, IfSome, IfNone};
+ghost use Rattle.std.specs.Prelude.{◌≡◌, ◌≤◌, ◌<◌, ◌==◌, ◌&&◌, ◌∷◌, ◌++◌, [], List, Ok, Some, length, replicate, slice_get, IfOk, IfSome, IfNone, IsOk, IsSome};
 ghost use Rattle.sg_mikey.specs.Spelling.{message_octets};
 ghost use Rattle.sg_mikey.specs.declared.payload.Payload.TheVariants.{Time, Id, Verify};
 ghost use Rattle.sg_psk.specs.Envelope.{before_mac};
 ghost use Rattle.sg_psk.specs.KeyData.{key_text};
 ghost use Rattle.sg_psk.specs.Pairs.{pair_with};
 ghost use Rattle.sg_psk.specs.Sending.{answered_map, covered_key, initial_octets, key_of, one_key, own_map, payloads_of, response_fits, response_octets, response_of, sealed, sealed_response, sent_of, sent_under};
-ghost use Rattle.sg_psk.specs.StandsFor.{AreSent, Gives, accepted_as, sent_as};
+ghost use Rattle.sg_psk.specs.StandsFor.{AreSent, Gives, OnNoMemory, accepted_as, sent_as};
 ghost use Rattle.sg_psk.specs.declared.pairs.Pair.{Pair};
 
 use crate::accepting::entries_of;
@@ -235,7 +235,7 @@ fn initial_octets(alloc: Global, pair: &Pair, waiting: &Waiting) -> Result<Octet
 
 /// The gateway's own message to a peer, under the first pair with it, and what is kept until the response.
 /// Its random octets, its bundle's number and its key are the first octets of the noise, in this order; each
-/// SSRC is that of one medium. `IdUnknown` exactly where there is no such pair.
+/// SSRC is that of one medium. `IdUnknown` exactly where there is no such pair, which needs no memory.
 pub fn initiate(
     alloc: Global,
     book: &PskBook,
@@ -245,7 +245,8 @@ pub fn initiate(
     ssrcs: &[u32],
 ) -> Result<(Octets, Waiting), PskError>
     requires { now ≤ 2085978495999 }
-    ensures { Gives (AreSent book.now) result (sent_under now noise.now ssrcs.now (pair_with book.now peer.now)) }
+    ensures value { Gives (AreSent book.now) result (sent_under now noise.now ssrcs.now (pair_with book.now peer.now)) }
+    ensures needs { OnNoMemory result (IsSome (pair_with book.now peer.now)) }
 {
     match book.place_with(peer.as_slice()) {
         Some(place) => sent_under(alloc, book.pair(place), place, now, noise, ssrcs),
@@ -420,7 +421,8 @@ fn answer_under(
     waiting: &Waiting,
     pair: &Pair,
 ) -> Result<Items<CsEntry>, PskError>
-    ensures { Gives (λ map entries. map ≡ entries) result (response_of octets.now message.now (sent_as waiting.now pair.now)) }
+    ensures value { Gives (λ map entries. map ≡ entries) result (response_of octets.now message.now (sent_as waiting.now pair.now)) }
+    ensures needs { OnNoMemory result (IsOk (response_of octets.now message.now (sent_as waiting.now pair.now))) }
 {
     if closing_in(message.payloads.as_slice()).mac != 1 {
         return Err(PskError::Psk(PskFault::Algorithm));
@@ -440,7 +442,7 @@ fn answer_under(
 /// The crypto sessions of the response to the gateway's own message, under the pair that it names.
 ///
 /// Refused, in this order: `Algorithm` for another MAC than HMAC-SHA-1; `BadMac`; `OtherSession` for another
-/// bundle's number or another number of crypto sessions.
+/// bundle's number or another number of crypto sessions. None of these needs memory.
 pub fn read_response(
     alloc: Global,
     octets: &[u8],
@@ -449,8 +451,10 @@ pub fn read_response(
     book: &PskBook,
 ) -> Result<Items<CsEntry>, PskError>
     requires { waiting.now.pair < length book.now }
-    ensures { (pair : Pair) → slice_get book.now waiting.now.pair ≡ Some pair
+    ensures value { (pair : Pair) → slice_get book.now waiting.now.pair ≡ Some pair
         → Gives (λ map entries. map ≡ entries) result (response_of octets.now message.now (sent_as waiting.now pair)) }
+    ensures needs { (pair : Pair) → slice_get book.now waiting.now.pair ≡ Some pair
+        → OnNoMemory result (IsOk (response_of octets.now message.now (sent_as waiting.now pair))) }
 {
     answer_under(alloc, octets, message, waiting, book.pair(waiting.pair))
 }

@@ -18,24 +18,24 @@ pub returns-in-Err-read_initial-clause-bundle : goal.returns-in-Err-read_initial
 returns-in-Err-read_initial-clause-bundle c = λ h at.
     subst (λ f. Gives (IsBundleOf c.args.psks.now) (Err f) (bundle_in h c.args.medium c.args.count (mikey_value c.args.lines.now))) (sym c.psk_fault.ensures)
     (not_accepted h c.args.now c.args.psks.now c.args.seen.now at c.args.medium c.args.count (mikey_value c.args.lines.now) c.in-Ok.read.0 c.in-Ok.read.1 c.in-Ok.ensures.message c.in-Err-read_initial.fault
-    (subst (λ o. psk.Gives (IsAccepted c.args.psks.now) (Err c.in-Err-read_initial.fault) (initial_of o c.in-Ok.read.1 c.args.psks.now c.args.seen.now c.args.now)) c.as_slice.ensures c.in-Err-read_initial.ensures))
+    (subst (λ o. psk.Gives (IsAccepted c.args.psks.now) (Err c.in-Err-read_initial.fault) (initial_of o c.in-Ok.read.1 c.args.psks.now c.args.seen.now c.args.now)) c.as_slice.ensures c.in-Err-read_initial.ensures.value))
 
 pub returns-in-Ok-streams-clause-bundle : goal.returns-in-Ok-streams-clause-bundle
 returns-in-Ok-streams-clause-bundle c = λ h at.
     bundled h c.args.now c.args.psks.now c.args.seen.now at c.args.medium c.args.count (mikey_value c.args.lines.now) c.in-Ok.read.0 c.in-Ok.read.1 c.in-Ok.ensures.message c.in-Ok-read_initial.initial
-    (subst (λ o. psk.Gives (IsAccepted c.args.psks.now) (Ok c.in-Ok-read_initial.initial) (initial_of o c.in-Ok.read.1 c.args.psks.now c.args.seen.now c.args.now)) c.as_slice.ensures c.in-Ok-read_initial.ensures)
+    (subst (λ o. psk.Gives (IsAccepted c.args.psks.now) (Ok c.in-Ok-read_initial.initial) (initial_of o c.in-Ok.read.1 c.args.psks.now c.args.seen.now c.args.now)) c.as_slice.ensures c.in-Ok-read_initial.ensures.value)
     c.in-Ok-streams.streams
-    ((λ i. streams_of c.in-Ok-read_initial.initial.csb (sym c.as_slice-random.ensures i) (sym c.as_slice-map.ensures i) (sym c.as_slice-policies.ensures i) c.in-Ok-read_initial.initial.tgks.keys c.args.count) ∙ c.in-Ok-streams.ensures)
+    ((λ i. streams_of c.in-Ok-read_initial.initial.csb (sym c.as_slice-random.ensures i) (sym c.as_slice-map.ensures i) (sym c.as_slice-policies.ensures i) c.in-Ok-read_initial.initial.tgks.keys c.args.count) ∙ c.in-Ok-streams.ensures.value)
 
 pub returns-clause-bundle : goal.returns-clause-bundle
 returns-clause-bundle c = λ h at.
     subst (λ f. Gives (IsBundleOf c.args.psks.now) (Err f) (bundle_in h c.args.medium c.args.count (mikey_value c.args.lines.now))) (sym c.cs_fault.ensures)
     (not_served h c.args.now c.args.psks.now c.args.seen.now at c.args.medium c.args.count (mikey_value c.args.lines.now) c.in-Ok.read.0 c.in-Ok.read.1 c.in-Ok.ensures.message c.in-Ok-read_initial.initial
-    (subst (λ o. psk.Gives (IsAccepted c.args.psks.now) (Ok c.in-Ok-read_initial.initial) (initial_of o c.in-Ok.read.1 c.args.psks.now c.args.seen.now c.args.now)) c.as_slice.ensures c.in-Ok-read_initial.ensures)
+    (subst (λ o. psk.Gives (IsAccepted c.args.psks.now) (Ok c.in-Ok-read_initial.initial) (initial_of o c.in-Ok.read.1 c.args.psks.now c.args.seen.now c.args.now)) c.as_slice.ensures c.in-Ok-read_initial.ensures.value)
     c.in-Err-streams.fault
     (subst (λ r. cs.Gives (Err c.in-Err-streams.fault) r)
-    (λ i. streams_of c.in-Ok-read_initial.initial.csb (c.as_slice-random.ensures i) (c.as_slice-map.ensures i) (c.as_slice-policies.ensures i) c.in-Ok-read_initial.initial.tgks.keys c.args.count) c.in-Err-streams.ensures))
+    (λ i. streams_of c.in-Ok-read_initial.initial.csb (c.as_slice-random.ensures i) (c.as_slice-map.ensures i) (c.as_slice-policies.ensures i) c.in-Ok-read_initial.initial.tgks.keys c.args.count) c.in-Err-streams.ensures.value))
 
 pub returns-in-Ok-streams-clause-room : goal.returns-in-Ok-streams-clause-room
 returns-in-Ok-streams-clause-room c =
-    has_room c.args.psks.now c.args.seen.now c.as_slice.result.now c.in-Ok.read.1 c.args.now c.in-Ok-read_initial.initial c.in-Ok-read_initial.ensures
+    has_room c.args.psks.now c.args.seen.now c.as_slice.result.now c.in-Ok.read.1 c.args.now c.in-Ok-read_initial.initial c.in-Ok-read_initial.ensures.value

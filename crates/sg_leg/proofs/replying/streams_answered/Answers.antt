@@ -25,7 +25,7 @@ returns-in-Err-read_response c = λ s is.
     (subst (λ (s : Sent). Tells {X = List (StreamKeys × StreamKeys)} (Err (psk_fault 255 c.in-Err-read_response.fault)) (streams_answered s c.args.count (mikey_value c.args.lines.now))) is.same
     (not_ours (sent_as c.args.waiting.now s.pair) c.args.count (mikey_value c.args.lines.now) c.in-Ok.read.0 c.in-Ok.read.1 c.in-Ok.ensures.message c.in-Err-read_response.fault
     (subst (λ o. psk.Gives {X = List CsEntry} {A = List CsEntry} (λ map entries. map ≡ entries) (Err c.in-Err-read_response.fault) (response_of o c.in-Ok.read.1 (sent_as c.args.waiting.now s.pair))) c.as_slice.ensures
-    (c.in-Err-read_response.ensures s.pair is.pair))))
+    (c.in-Err-read_response.ensures.value s.pair is.pair))))
 
 pub returns-in-Err-streams : goal.returns-in-Err-streams
 returns-in-Err-streams c = λ s is.
@@ -34,10 +34,10 @@ returns-in-Err-streams c = λ s is.
     (none_served (sent_as c.args.waiting.now s.pair) c.args.count (mikey_value c.args.lines.now) c.in-Ok.read.0 c.in-Ok.read.1 c.in-Ok.ensures.message c.in-Ok-read_response.map
     (map_of c.in-Ok-read_response.map (response_of c.in-Ok.read.0 c.in-Ok.read.1 (sent_as c.args.waiting.now s.pair))
     (subst (λ o. psk.Gives {X = List CsEntry} {A = List CsEntry} (λ map entries. map ≡ entries) (Ok c.in-Ok-read_response.map) (response_of o c.in-Ok.read.1 (sent_as c.args.waiting.now s.pair))) c.as_slice.ensures
-    (c.in-Ok-read_response.ensures s.pair is.pair)))
+    (c.in-Ok-read_response.ensures.value s.pair is.pair)))
     c.in-Err-streams.fault
     (subst (λ r. cs.Gives {X = List (StreamKeys × StreamKeys)} (Err c.in-Err-streams.fault) r)
-    (λ i. streams_of c.args.waiting.now.csb c.args.waiting.now.random (c.as_slice-sent.ensures i) (c.in-Ok-default_policy.ensures i ∷ []) c.args.waiting.now.tgks.keys c.args.count) c.in-Err-streams.ensures)))
+    (λ i. streams_of c.args.waiting.now.csb c.args.waiting.now.random (c.as_slice-sent.ensures i) (c.in-Ok-default_policy.ensures i ∷ []) c.args.waiting.now.tgks.keys c.args.count) c.in-Err-streams.ensures.value)))
 
 pub returns-in-Ok-responded : goal.returns-in-Ok-responded
 returns-in-Ok-responded c = λ s is.
@@ -45,7 +45,7 @@ returns-in-Ok-responded c = λ s is.
     (all_answered (sent_as c.args.waiting.now s.pair) c.args.count (mikey_value c.args.lines.now) c.in-Ok.read.0 c.in-Ok.read.1 c.in-Ok.ensures.message c.in-Ok-read_response.map
     (map_of c.in-Ok-read_response.map (response_of c.in-Ok.read.0 c.in-Ok.read.1 (sent_as c.args.waiting.now s.pair))
     (subst (λ o. psk.Gives {X = List CsEntry} {A = List CsEntry} (λ map entries. map ≡ entries) (Ok c.in-Ok-read_response.map) (response_of o c.in-Ok.read.1 (sent_as c.args.waiting.now s.pair))) c.as_slice.ensures
-    (c.in-Ok-read_response.ensures s.pair is.pair)))
+    (c.in-Ok-read_response.ensures.value s.pair is.pair)))
     c.in-Ok-streams.streams
-    ((λ i. streams_of c.args.waiting.now.csb c.args.waiting.now.random (sym c.as_slice-sent.ensures i) (sym c.in-Ok-default_policy.ensures i ∷ []) c.args.waiting.now.tgks.keys c.args.count) ∙ c.in-Ok-streams.ensures)
+    ((λ i. streams_of c.args.waiting.now.csb c.args.waiting.now.random (sym c.as_slice-sent.ensures i) (sym c.in-Ok-default_policy.ensures i ∷ []) c.args.waiting.now.tgks.keys c.args.count) ∙ c.in-Ok-streams.ensures.value)
     ∙ ap Ok (sym (c.in-Ok-responded.ensures ∙ ap (responded c.in-Ok-streams.streams) c.as_slice-2.ensures)))
