@@ -18,6 +18,7 @@ use sg_keys::KeySet;
 
 // Opens a datagram in the stream of its source. The stream may be a new one, for which there may be no
 // room.
+#[inline(always)]
 fn open_in(
     keyed: Keyed,
     stream: &mut Stream,

@@ -20,6 +20,7 @@ use sg_base::{DropCause, Pad};
 use sg_keys::KeySet;
 
 // Seals a packet in the stream of its source.
+#[inline(always)]
 fn seal_in(
     headed: Headed,
     stream: &mut Stream,

@@ -9,6 +9,7 @@ use sg_base::Pad;
 use sg_ctr::apply;
 
 /// XORs the packet's keystream onto what stands behind its head (RFC 3711, 4.1).
+#[inline(always)]
 pub(crate) fn apply_keystream(
     schedule: &Schedule,
     salt: &[u8; 14],
