@@ -13,7 +13,7 @@ use Rattle.sg_leg.proofs.messages.by_own_message.Goals as goal
 pub returns-clause-keying : goal.returns-clause-keying
 returns-clause-keying c =
     let p = own_sent c.args.psks.now c.in-Ok.sent (sent_under c.args.now c.args.noise.now (ssrcs_of Plain c.args.media.now) (pair_with c.args.psks.now c.args.peer.now))
-    (subst (λ ss. psk.Gives (AreSent c.args.psks.now) (Ok c.in-Ok.sent) (sent_under c.args.now c.args.noise.now ss (pair_with c.args.psks.now c.args.peer.now))) (c.as_slice.ensures.value ∙ c.ssrcs_of-ssrcs.ensures) c.in-Ok.ensures) in (
+    (subst (λ ss. psk.Gives (AreSent c.args.psks.now) (Ok c.in-Ok.sent) (sent_under c.args.now c.args.noise.now ss (pair_with c.args.psks.now c.args.peer.now))) (c.as_slice.ensures.value ∙ c.ssrcs_of-ssrcs.ensures) c.in-Ok.ensures.value) in (
       OwnMessage p.0,
       p.1,
       record {
