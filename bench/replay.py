@@ -2,11 +2,13 @@
 """Measures `srtpgw replay` over scripts of calls, and prints a table in Markdown.
 
     bench/replay.py [COUNT [open|seal|both [CALLS[,CALLS..] [WORKERS[,WORKERS..]]]]] [--size N] [--rounds N]
-        [--program FILE]
+        [--program FILE] [--beside FILE]
 
 COUNT (200,000) packets of N octets (172) under AES_CM_128_HMAC_SHA1_80 are opened, sealed, or opened and sealed in
 turns (both), in so many calls and by so many workers (1, and 1); a row for each. A figure is the median of N
-rounds (5), with the rows in turns. What the program writes is compared with what another implementation says."""
+rounds (5), with the rows in turns. What the program writes is compared with what another implementation says.
+With --beside another program has a row too, in turns: it is told the word replay alone, so it may be one of before there
+were workers."""
 
 import argparse
 import filecmp
@@ -25,7 +27,7 @@ PROGRAM = BENCH.parent / "crates/srtpgw/out/srtpgw"
 
 def run(program, workers, script, written):
     """Runs the program; the seconds that passed, those of the processor, and the peak in MiB, by GNU time."""
-    told = [TIME, "-f", "%e %U %S %M", program, "replay", "--workers", str(workers)]
+    told = [TIME, "-f", "%e %U %S %M", program, "replay"] + (["--workers", str(workers)] if workers else [])
     with open(script) as source, open(written, "w") as sink:
         ran = subprocess.run(told, stdin=source, stdout=sink, stderr=subprocess.PIPE, text=True)
     if ran.returncode != 0:
@@ -43,6 +45,7 @@ def given():
     words.add_argument("--size", type=int, default=172)
     words.add_argument("--rounds", type=int, default=5)
     words.add_argument("--program", default=PROGRAM)
+    words.add_argument("--beside")
     return words.parse_args()
 
 
@@ -53,7 +56,8 @@ def main():
     if words.program == PROGRAM:
         # The program is built where it isn't.
         subprocess.run([WRAPPER, "replay"], stdin=subprocess.DEVNULL, check=True)
-    rows = [(int(c), int(w)) for c in words.calls.split(",") for w in words.workers.split(",")]
+    counts = [int(count) for count in words.workers.split(",")] + ([None] if words.beside else [])
+    rows = [(int(calls), count) for calls in words.calls.split(",") for count in counts]
     taken = {row: [] for row in rows}
     with tempfile.TemporaryDirectory() as folder:
         written = Path(folder) / "written"
@@ -62,7 +66,8 @@ def main():
             subprocess.run([sys.executable, BENCH / "script.py", str(words.count), words.ways, *files, str(calls), "1", str(words.size)], check=True)
         for _ in range(words.rounds):
             for calls, workers in rows:
-                taken[calls, workers].append(run(words.program, workers, Path(folder) / f"script-{calls}", written))
+                program = words.program if workers else words.beside
+                taken[calls, workers].append(run(program, workers, Path(folder) / f"script-{calls}", written))
                 if not filecmp.cmp(Path(folder) / f"outcomes-{calls}", written, shallow=False):
                     sys.exit("bench/replay.py: the program wrote something else than it must")
     print(f"packets of {words.size} octets, {os.cpu_count()} processors, load average {os.getloadavg()[0]:.2f}, medians of {words.rounds} rounds")
@@ -72,7 +77,7 @@ def main():
     for (calls, workers), runs in taken.items():
         passed, processor, peak = (statistics.median(it) for it in zip(*runs))
         rates = f"{words.count / max(passed, 0.01):,.0f} | {words.count / max(processor, 0.01):,.0f}"
-        print(f"| {calls} | {workers} | {words.count:,} | {words.ways} | {passed:.2f} | {processor:.2f} | {rates} | {peak:.1f} |")
+        print(f"| {calls} | {workers or 'beside'} | {words.count:,} | {words.ways} | {passed:.2f} | {processor:.2f} | {rates} | {peak:.1f} |")
 
 
 if __name__ == "__main__":

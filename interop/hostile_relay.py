@@ -1,30 +1,44 @@
 #!/usr/bin/env python3
-"""Uses a live gateway badly, over the loopback, and checks that it loses nothing that it could have kept.
+"""Uses a live gateway badly, over a loopback, and checks that it loses nothing that it could have kept.
 
-    interop/hostile_relay.py PROGRAM
+    interop/hostile_relay.py PROGRAM [paced]
 
-Each check starts the program anew as `relay`, and drives it by lines and datagrams; the last one plays replays. A check
-prints its figures; the first that fails ends the whole with 1. The ports 20000 to 21023 of 127.0.0.1 have to be free.
+Each check starts the program anew as `relay`, drives it by lines and datagrams, and prints its figures; the first that
+fails ends the whole with 1. No check has a mark of time: packets go in windows, and the next ones go when these have
+come out. So what the system throws away in front of a socket, because the gateway had no processor, is never taken for
+a loss. With `paced` two more follow: a call at a telephone's pace beside a flood, which wants a quiet machine, and five
+rollovers by replay.
+
+It makes a loopback of its own where the system lets it; else the ports 20000 to 21023 of 127.0.0.1 have to be free.
 """
+import ctypes
+import fcntl
+import itertools
 import os
+import select
 import signal
 import socket
+import struct
 import subprocess
 import sys
 import tempfile
+import termios
 import threading
 import time
+from collections import deque
 from pathlib import Path
 
 from signals import CM, octets_of
 from srtp import MasterKey, rtp
 
 HOST = "127.0.0.1"
-# What a program that hangs is given.
-SECONDS = 60
-# Datagrams at each of 128 ports; at one port; packets of a call beside a flood; to closed ports; outcomes of each of
-# 64 calls that nobody reads; and packets over a rollover.
-QUEUED, AT_ONE_PORT, TALKED, CLOSED, UNREAD, ROLLED = 79, 10_000, 1000, 200, 125, 65536
+# What is given to a program that no longer answers, and to the whole.
+SECONDS, ALL_SECONDS = 60, 900
+# How many packets may be on their way through a port at once: any buffer holds that many.
+WINDOW = 64
+# Datagrams at each of 128 ports; at one port; packets of a call beside a flood, and forged ones that are handled
+# meanwhile; to closed ports; outcomes of each of 64 calls that nobody reads; and packets over a rollover.
+QUEUED, AT_ONE_PORT, TALKED, FORGED, CLOSED, UNREAD, ROLLED = 79, 10_000, 1000, 20_000, 200, 125, 65536
 
 
 def keys_of(call):
@@ -34,12 +48,25 @@ def keys_of(call):
 class Peer:
     """One side of a call: a socket, and what has arrived there."""
 
+    # Below the ports that the system hands out, so that a port that is closed for a while stays free.
+    ports = iter(range(10000, 20000))
+
     def __init__(self):
-        self.socket = socket.socket(socket.AF_INET, socket.SOCK_DGRAM)
-        self.socket.bind((HOST, 0))
-        self.socket.setblocking(False)
-        self.port = self.socket.getsockname()[1]
         self.found = []
+        for self.port in self.ports:
+            try:
+                return self.opens()
+            except OSError:
+                self.socket.close()
+
+    def opens(self):
+        self.socket = socket.socket(socket.AF_INET, socket.SOCK_DGRAM)
+        self.socket.bind((HOST, self.port))
+        self.socket.setblocking(False)
+
+    def holds_more(self):
+        """Has the system keep more for it than for the gateway's sockets, where it may."""
+        self.socket.setsockopt(socket.SOL_SOCKET, socket.SO_RCVBUF, 2 * buffer_octets())
 
     def sends(self, port, octets):
         while True:
@@ -56,26 +83,65 @@ class Peer:
         except BlockingIOError:
             return self.found
 
+    def takes(self):
+        """What has arrived since the last time."""
+        taken, self.found = self.arrived(), []
+        return taken
+
 
 class Call:
-    def __init__(self, number):
+    def __init__(self, number, rollover=0):
         self.number, self.ports = number, (20000 + 16 * number, 20002 + 16 * number)
-        self.secure, self.plain = Peer(), Peer()
+        self.secure, self.plain, self.rollover = Peer(), Peer(), rollover
         self.from_peer, self.to_peer = keys_of(number)
 
     def line(self):
         return (
-            f"manual {self.number} {HOST}:{self.secure.port} {HOST}:{self.plain.port} 00000000 64 "
+            f"manual {self.number} {HOST}:{self.secure.port} {HOST}:{self.plain.port} {self.rollover:08x} 64 "
             f"{self.from_peer.field()} {self.to_peer.field()}"
         )
 
-    def seals(self, seq):
-        """The peer's packet of a number."""
-        return self.from_peer.srtp(rtp(seq), seq)
+    def seals(self, index):
+        """The peer's packet of an index."""
+        return self.from_peer.srtp(rtp(index % 65536), index)
 
-    def forged(self, seq):
-        sealed = self.seals(seq)
+    def sealed(self, index):
+        """The gateway's packet of an index."""
+        return self.to_peer.srtp(rtp(index % 65536), index)
+
+    def forged(self, index):
+        sealed = self.seals(index)
         return sealed[:-1] + bytes([sealed[-1] ^ 1])
+
+    def to_plain(self, indices, window=WINDOW):
+        packets = ((self.seals(index), rtp(index % 65536)) for index in indices)
+        return Way(self.secure, self.ports[0], self.plain, packets, window)
+
+    def to_secure(self, indices, window=WINDOW):
+        packets = ((rtp(index % 65536), self.sealed(index)) for index in indices)
+        return Way(self.plain, self.ports[1], self.secure, packets, window)
+
+
+class Way:
+    """Packets from one end through the gateway to the other: pairs of what is sent and what must arrive, in this order.
+    No more than a window are on their way."""
+
+    def __init__(self, sender, port, receiver, packets, window):
+        self.sender, self.port, self.receiver = sender, port, receiver
+        self.packets, self.window = packets, window
+        self.under_way, self.arrived, self.is_done = deque(), 0, False
+
+    def goes_on(self):
+        """Takes what has arrived, and sends the next ones; whether anything had arrived."""
+        taken = self.receiver.takes()
+        for octets in taken:
+            assert self.under_way and octets == self.under_way.popleft(), f"another packet at {self.receiver.port}"
+        self.arrived += len(taken)
+        for octets, wanted in itertools.islice(self.packets, self.window - len(self.under_way)):
+            self.sender.sends(self.port, octets)
+            self.under_way.append(wanted)
+        self.is_done = not self.under_way
+        return bool(taken)
 
 
 class Gateway:
@@ -83,14 +149,14 @@ class Gateway:
 
     started = []
 
-    def __init__(self, program, calls, reads=True):
-        self.begun = time.monotonic()
+    def __init__(self, program, calls, reads=True, rollover=0):
+        self.begun, self.asked = time.monotonic(), 0
         self.run = subprocess.Popen(
             [program, "relay", "--turns", "1000000000"],
             stdin=subprocess.PIPE, stdout=subprocess.PIPE, stderr=subprocess.PIPE,
         )
         self.started.append(self.run)
-        self.calls, self.lines = [Call(number) for number in range(calls)], []
+        self.calls, self.lines = [Call(number, rollover) for number in range(calls)], []
         self.reader = threading.Thread(target=lambda: self.lines.extend(self.run.stdout), daemon=True)
         self.write("srtpgw 1", *(call.line() for call in self.calls))
         for _ in range(2 * calls):
@@ -102,21 +168,43 @@ class Gateway:
         self.run.stdin.write("".join(line + "\n" for line in lines).encode())
         self.run.stdin.flush()
 
-    def turns(self, seconds):
-        """Has the gateway take turns until so long from now."""
-        self.write(f"tick {int((time.monotonic() - self.begun + seconds) * 1000)}")
+    def turns(self):
+        """Keeps it at its turns: a tick is written before the one under way is over."""
+        now = time.monotonic() - self.begun
+        if self.asked < now + 0.1:
+            self.asked = now + 0.3
+            self.write(f"tick {int(1000 * self.asked)}")
 
-    def turns_until(self, is_done):
-        """Has it take turns until this is so, or a minute has passed."""
-        end = time.monotonic() + SECONDS
-        while not is_done() and time.monotonic() < end:
-            self.turns(0.2)
-            time.sleep(0.2)
+    def turns_until(self, wanted, count):
+        """Has it take turns until so many are counted, or for a minute no more than before."""
+        seen, last = count(), time.monotonic()
+        while seen < wanted and time.monotonic() < last + SECONDS:
+            self.turns()
+            time.sleep(0.02)
+            if count() > seen:
+                seen, last = count(), time.monotonic()
+
+    def carries(self, *ways):
+        """Has it carry all of these packets. It fails where none arrives for a minute."""
+        last = time.monotonic()
+        while not all(way.is_done for way in ways):
+            self.turns()
+            if any([way.goes_on() for way in ways]):
+                last = time.monotonic()
+            else:
+                select.select([way.receiver.socket for way in ways], [], [], 0.02)
+            assert time.monotonic() < last + SECONDS, f"of {[way.arrived for way in ways]} on nothing arrives"
 
     def memory(self):
         """The most memory that was resident, in KiB."""
         status = Path(f"/proc/{self.run.pid}/status").read_text()
         return int(status.split("VmHWM:")[1].split()[0])
+
+    def unread(self):
+        """The octets of outcomes that nobody has read, and how many the pipe holds."""
+        pipe = self.run.stdout.fileno()
+        waiting = fcntl.ioctl(pipe, termios.FIONREAD, bytes(4))
+        return int.from_bytes(waiting, sys.byteorder), fcntl.fcntl(pipe, fcntl.F_GETPIPE_SZ)
 
     def ends(self):
         """Ends it by the end of its input; the outcomes since the calls were live."""
@@ -129,6 +217,38 @@ class Gateway:
         assert (status, said) == (0, b""), f"ends with {status} and {said!r}"
         assert all(line.endswith(b"\n") for line in self.lines), "an outcome without an end"
         return [line.decode().rstrip("\n") for line in self.lines]
+
+
+class Flood:
+    """Processes that send forged packets to a call's port as fast as they can."""
+
+    def __init__(self, call, senders=3):
+        told = [sys.executable, __file__, "flood", str(call.number)]
+        self.runs = [
+            subprocess.Popen(told, stdin=subprocess.PIPE, stdout=subprocess.PIPE, text=True) for _ in range(senders)
+        ]
+        Gateway.started.extend(self.runs)
+
+    def ends(self):
+        """How many were sent."""
+        return sum(int(run.communicate(timeout=SECONDS)[0]) for run in self.runs)
+
+
+def flood(number):
+    """Floods the port of a call until the input ends."""
+    call, sent = Call(number), 0
+    forged = [call.forged(index) for index in range(64)]
+    while not select.select([sys.stdin], [], [], 0)[0]:
+        for octets in forged:
+            call.secure.sends(call.ports[0], octets)
+        sent += len(forged)
+    print(sent)
+
+
+def buffer_octets():
+    """The octets of a socket's buffer, as the system gives it."""
+    with socket.socket(socket.AF_INET, socket.SOCK_DGRAM) as one:
+        return one.getsockopt(socket.SOL_SOCKET, socket.SO_RCVBUF)
 
 
 def buffer_of(count, octets):
@@ -150,18 +270,16 @@ def queued_before_the_first_turn(program):
             call.plain.sends(call.ports[1], rtp(seq))
     good = [rtp(seq) for seq in range(each) if seq % 10 != 9]
     begun = time.monotonic()
-    gateway.turns_until(lambda: all(len(call.secure.arrived()) == each for call in gateway.calls))
-    gateway.turns_until(lambda: all(len(call.plain.arrived()) == len(good) for call in gateway.calls))
+    count, ends = 2 * each * len(gateway.calls), [end for call in gateway.calls for end in (call.secure, call.plain)]
+    gateway.turns_until((each + len(good)) * len(gateway.calls), lambda: sum(len(end.arrived()) for end in ends))
     seconds = time.monotonic() - begun
     for call in gateway.calls:
         assert call.plain.arrived() == good, "a packet is missing on the plain side"
-        sealed = [call.to_peer.srtp(rtp(seq), seq) for seq in range(each)]
-        assert call.secure.arrived() == sealed, "a packet is missing on the secure side"
+        assert call.secure.arrived() == [call.sealed(seq) for seq in range(each)], "one is missing on the secure side"
     memory, told = gateway.memory(), gateway.ends()
     dropped = [line for line in told if line.startswith("drop")]
     wanted = sorted(f"drop {call.ports[0]} BadTag" for call in gateway.calls for seq in range(each) if seq % 10 == 9)
     assert sorted(dropped) == wanted, "other drops"
-    count = 2 * each * len(gateway.calls)
     handled = f"{count - len(dropped)} put out, {len(dropped)} told as forged, in {seconds:.1f} s"
     return f"{count} datagrams queued at 128 ports: {handled}, {memory} KiB"
 
@@ -170,125 +288,150 @@ def queued_at_one_port(program):
     """10,000 datagrams at one port before a turn: what the system's buffer holds is handled."""
     gateway, count = Gateway(program, 1), AT_ONE_PORT
     call = gateway.calls[0]
+    call.secure.holds_more()
     packets = [rtp(seq) for seq in range(count)]
     for packet in packets:
         call.plain.sends(call.ports[1], packet)
-    room = buffer_of(count, len(packets[0]))
-    gateway.turns_until(lambda: len(call.secure.arrived()) == room)
-    gateway.write("bye 0")
-    told = gateway.ends()
-    arrived = call.secure.arrived()
-    assert arrived == [call.to_peer.srtp(rtp(seq), seq) for seq in range(len(arrived))], "others than the first"
-    assert len(arrived) == room and told == ["ended 0 0 1 bye"], f"{len(arrived)} of {room}"
     size = len(packets[0])
+    room = buffer_of(count, size)
+    gateway.turns_until(room, lambda: len(call.secure.arrived()))
+    gateway.write("bye 0")
+    told, arrived = gateway.ends(), call.secure.arrived()
+    assert arrived == [call.sealed(seq) for seq in range(len(arrived))], "others than the first"
+    assert len(arrived) == room and told == ["ended 0 0 1 bye"], f"{len(arrived)} of {room}"
     return f"{count} datagrams of {size} octets at one port: the system's buffer holds {room}, all of these put out"
 
 
-def flood(port, stop, counts):
-    """Sends forged packets to a port as fast as it can."""
-    peer, call = Peer(), Call(1)
-    forged = [call.forged(seq) for seq in range(64)]
-    sent = 0
-    while not stop.is_set():
-        for octets in forged:
-            peer.sends(port, octets)
-        sent += len(forged)
-    counts.append(sent)
-
-
 def flooded(program):
-    """A call talks at 200 packets a second each way while another's port is flooded by three senders."""
-    gateway, stop, counts = Gateway(program, 2), threading.Event(), []
-    talking, count = gateway.calls[0], TALKED
-    gateway.turns(count / 200 + 3)
-    floods = [threading.Thread(target=flood, args=(gateway.calls[1].ports[0], stop, counts)) for _ in range(3)]
-    for each in floods:
-        each.start()
-    time.sleep(0.2)
-    for seq in range(count):
-        talking.secure.sends(talking.ports[0], talking.seals(seq))
-        talking.plain.sends(talking.ports[1], rtp(seq))
-        time.sleep(0.005)
-        talking.plain.arrived()
-        talking.secure.arrived()
-    stop.set()
-    for each in floods:
-        each.join()
-    gateway.turns_until(lambda: len(talking.plain.arrived()) == len(talking.secure.arrived()) == count)
+    """A call talks both ways while another's port is flooded by three senders; that one talks the other way, too."""
+    gateway = Gateway(program, 2)
+    talking, other = gateway.calls
+    floods = Flood(other)
+    gateway.turns_until(1, lambda: len(gateway.lines))
+    ways = []
+
+    def while_flooded():
+        """The packets of a way: so many, and until so many forged ones were handled meanwhile."""
+        return itertools.takewhile(lambda n: n < TALKED or len(gateway.lines) < FORGED, itertools.count())
+
+    for way in (talking.to_plain, talking.to_secure, other.to_secure):
+        ways.append(way(while_flooded(), 4))
+    gateway.carries(*ways)
+    sent = floods.ends()
     gateway.write("bye 0")
     memory, told = gateway.memory(), gateway.ends()
-    opened, sealed = talking.plain.arrived(), talking.secure.arrived()
-    assert opened == [rtp(seq) for seq in range(count)], f"{len(opened)} of {count} on the plain side"
-    assert sealed == [talking.to_peer.srtp(rtp(seq), seq) for seq in range(count)], f"{len(sealed)} on the secure side"
-    dropped = told.count(f"drop {gateway.calls[1].ports[0]} BadTag")
-    assert dropped == len(told) - 1, "something else was dropped"
-    forged = f"{sum(counts)} forged packets at another port, {dropped} of them handled"
-    return f"{forged}: {count} of {count} each way, {memory} KiB"
+    dropped = told.count(f"drop {other.ports[0]} BadTag")
+    assert dropped == len(told) - 1 and dropped >= FORGED, "something else was dropped"
+    opened, sealed, others = (f"{way.arrived} of {way.arrived}" for way in ways)
+    talked = f"the other call's {opened} and {sealed} each way, the flooded one's {others} the other way"
+    return f"{sent} forged packets at a port, {dropped} of them handled: {talked}, {memory} KiB"
 
 
 def closed_ports(program):
     """The far ends close their ports, and open them again: what is sent in between is lost, and nothing else."""
-    gateway, later = Gateway(program, 1), range(CLOSED, CLOSED + 100)
-    call = gateway.calls[0]
-    gateway.turns(3)
-    ports = [peer.port for peer in (call.secure, call.plain)]
-    sender = Peer()
+    gateway = Gateway(program, 1)
+    call, sender, marks = gateway.calls[0], Peer(), 0
     call.secure.socket.close()
     call.plain.socket.close()
     for seq in range(CLOSED):
         sender.sends(call.ports[0], call.seals(seq))
         sender.sends(call.ports[1], rtp(seq))
-        time.sleep(0.002)
-    for peer, port in zip((call.secure, call.plain), ports):
-        peer.socket = socket.socket(socket.AF_INET, socket.SOCK_DGRAM)
-        peer.socket.bind((HOST, port))
-        peer.socket.setblocking(False)
-    for seq in later:
-        call.secure.sends(call.ports[0], call.seals(seq))
-        call.plain.sends(call.ports[1], rtp(seq))
-        time.sleep(0.002)
-    gateway.turns_until(lambda: len(call.plain.arrived()) == len(call.secure.arrived()) == 100)
+        if seq % WINDOW == WINDOW - 1 or seq == CLOSED - 1:
+            # What was sent has been handled once those behind it are told.
+            sender.sends(call.ports[0], call.forged(seq + 1))
+            sender.sends(call.ports[1], b"\x80")
+            marks += 1
+            gateway.turns_until(2 * marks, lambda: sum(line.startswith(b"drop") for line in gateway.lines))
+    call.secure.opens()
+    call.plain.opens()
+    ways = [way(range(CLOSED, CLOSED + 100)) for way in (call.to_plain, call.to_secure)]
+    gateway.carries(*ways)
     gateway.write("bye 0")
     told = gateway.ends()
-    assert call.plain.arrived() == [rtp(seq) for seq in later], "the plain side"
-    assert call.secure.arrived() == [call.to_peer.srtp(rtp(seq), seq) for seq in later], "the secure side"
     unsent = [line for line in told if line.startswith("unsent")]
-    assert len(told) == len(unsent) + 1, told[:5]
+    behind = marks * [f"drop {call.ports[0]} BadTag", f"drop {call.ports[1]} Short"]
+    assert sorted(told) == sorted(unsent + behind + ["ended 0 0 1 bye"]), told[:5]
+    assert [way.arrived for way in ways] == [100, 100]
     closed = f"{CLOSED} packets each way to closed ports, {len(unsent)} told as unsent"
     return f"{closed}; 100 to opened ones: 100 of 100 each way, status 0"
 
 
 def slow_reader(program):
-    """8,000 outcomes that nobody reads for two seconds: the gateway waits, and then tells them all."""
+    """8,000 outcomes that nobody reads until the pipe is full, and for two seconds more: the gateway waits, and then
+    tells them all."""
     gateway, each = Gateway(program, 64, reads=False), UNREAD
     for call in gateway.calls:
         for seq in range(each):
             call.secure.sends(call.ports[0], call.forged(seq))
         call.plain.sends(call.ports[1], rtp(7))
-    gateway.turns(4)
+    full = gateway.unread()[1] - 4096
+    gateway.turns_until(full, lambda: gateway.unread()[0])
+    unread = gateway.unread()[0]
+    assert unread >= full, "the gateway doesn't fill the pipe"
     time.sleep(2)
     gateway.reader.start()
-    gateway.turns_until(lambda: len(gateway.lines) == each * len(gateway.calls))
-    gateway.turns_until(lambda: all(call.secure.arrived() for call in gateway.calls))
+    gateway.turns_until(each * len(gateway.calls), lambda: len(gateway.lines))
+    gateway.turns_until(len(gateway.calls), lambda: sum(len(call.secure.arrived()) for call in gateway.calls))
     told = gateway.ends()
-    dropped = sorted(line for line in told if line.startswith("drop"))
     wanted = sorted(f"drop {call.ports[0]} BadTag" for call in gateway.calls for _ in range(each))
-    assert dropped == wanted, f"{len(dropped)} outcomes"
+    assert sorted(told) == wanted, f"{len(told)} outcomes"
     for call in gateway.calls:
-        assert call.secure.arrived() == [call.to_peer.srtp(rtp(7), 7)], "a packet is missing"
-    return f"{len(dropped)} outcomes read after two seconds: none is missing, and 64 packets of the calls are out"
+        assert call.secure.arrived() == [call.sealed(7)], "a packet is missing"
+    kept = f"{len(told)} outcomes, of which a pipe holds {unread} octets that nobody reads for two seconds"
+    return f"{kept}: none is missing, and 64 packets of the calls are out"
 
 
 def reader_that_goes(program):
     """Standard output is closed at its far end: the run ends with 4, by no signal."""
     gateway = Gateway(program, 1, reads=False)
     gateway.run.stdout.close()
-    gateway.turns(1)
     gateway.calls[0].secure.sends(gateway.calls[0].ports[0], gateway.calls[0].forged(1))
+    gateway.turns()
     status = gateway.run.wait(SECONDS)
     said = gateway.run.stderr.read()
     assert (status, said) == (4, b"srtpgw: write failed\n"), f"{status} {said!r}"
     return "standard output closed: status 4"
+
+
+def over_a_rollover(program):
+    """2^16 packets each way through a live call, from the middle of one rollover to the middle of the next."""
+    gateway = Gateway(program, 1, rollover=0xFFFF)
+    call, first = gateway.calls[0], 0xFFFF * 65536 + 32768
+    ways = [way(range(first, first + ROLLED)) for way in (call.to_plain, call.to_secure)]
+    gateway.carries(*ways)
+    gateway.write("bye 0")
+    memory, told = gateway.memory(), gateway.ends()
+    assert told == ["ended 0 0 1 bye"], told[:5]
+    assert [way.arrived for way in ways] == [ROLLED, ROLLED]
+    return f"{ROLLED} packets each way of a live call, from rollover ffff to 10000: the same octets, {memory} KiB"
+
+
+# ---- with `paced`
+
+def at_a_pace(program):
+    """A call talks at 200 packets a second each way, whatever comes out, while another's port is flooded."""
+    gateway, count = Gateway(program, 2), TALKED
+    talking, other = gateway.calls
+    floods = Flood(other)
+    gateway.turns_until(1, lambda: len(gateway.lines))
+    for seq in range(count):
+        talking.secure.sends(talking.ports[0], talking.seals(seq))
+        talking.plain.sends(talking.ports[1], rtp(seq))
+        gateway.turns()
+        time.sleep(0.005)
+        talking.plain.arrived()
+        talking.secure.arrived()
+    sent = floods.ends()
+    gateway.turns_until(2 * count, lambda: len(talking.plain.arrived()) + len(talking.secure.arrived()))
+    gateway.write("bye 0")
+    memory, told = gateway.memory(), gateway.ends()
+    opened, sealed = talking.plain.arrived(), talking.secure.arrived()
+    assert opened == [rtp(seq) for seq in range(count)], f"{len(opened)} of {count} on the plain side"
+    assert sealed == [talking.sealed(seq) for seq in range(count)], f"{len(sealed)} on the secure side"
+    dropped = told.count(f"drop {other.ports[0]} BadTag")
+    assert dropped == len(told) - 1, "something else was dropped"
+    forged = f"{sent} forged packets at another port, {dropped} of them handled"
+    return f"{forged}: {count} of {count} each way, {memory} KiB"
 
 
 def rollovers(program):
@@ -315,22 +458,61 @@ def rollovers(program):
 
 
 ALL = (
-    queued_before_the_first_turn, queued_at_one_port, flooded, closed_ports, slow_reader, reader_that_goes, rollovers,
+    queued_before_the_first_turn, queued_at_one_port, flooded, closed_ports, slow_reader, reader_that_goes,
+    over_a_rollover,
 )
+PACED = (at_a_pace, rollovers)
+
+
+def makes_own_loopback():
+    """Moves this process and those that it starts to a network that has nothing but a loopback."""
+    new_user, new_net, set_flags, up = 0x10000000, 0x40000000, 0x8914, 1
+    unshare = ctypes.CDLL(None).unshare
+    if unshare(new_net) != 0 and unshare(new_user | new_net) != 0:
+        raise OSError("no network of its own")
+    with Peer().socket as one:
+        fcntl.ioctl(one, set_flags, struct.pack("16sh14x", b"lo", up))
+        one.sendto(b"", one.getsockname())
+
+
+def has_own_loopback():
+    """Makes one where the system lets it, which another process tries first."""
+    child = os.fork()
+    if child == 0:
+        try:
+            makes_own_loopback()
+        except OSError:
+            os._exit(1)
+        os._exit(0)
+    if os.waitpid(child, 0)[1] != 0:
+        return False
+    makes_own_loopback()
+    return True
+
+
+def is_too_long(*_):
+    sys.exit(f"the checks take more than {ALL_SECONDS} seconds")
 
 
 def main():
-    signal.alarm(600)
-    room = Path("/proc/sys/net/core/rmem_default").read_text().strip()
-    print(f"net.core.rmem_default {room}, {os.cpu_count()} processors")
+    signal.signal(signal.SIGALRM, is_too_long)
+    signal.alarm(ALL_SECONDS)
+    where = "a loopback of its own" if has_own_loopback() else "the machine's loopback"
+    load = os.getloadavg()[0]
+    print(f"{where}, buffers of {buffer_octets()} octets, {os.cpu_count()} processors, load average {load:.1f}")
+    begun = time.monotonic()
     try:
-        for check in ALL:
-            begun = time.monotonic()
-            print(f"{check.__name__}: {check(sys.argv[1])}; {time.monotonic() - begun:.1f} s", flush=True)
+        for check in ALL + (PACED if sys.argv[2:] == ["paced"] else ()):
+            since = time.monotonic()
+            print(f"{check.__name__}: {check(sys.argv[1])}; {time.monotonic() - since:.1f} s", flush=True)
     finally:
         for run in Gateway.started:
             run.kill()
+    print(f"a live gateway used badly: as it should be, in {time.monotonic() - begun:.1f} s")
 
 
 if __name__ == "__main__":
-    main()
+    if sys.argv[1] == "flood":
+        flood(int(sys.argv[2]))
+    else:
+        main()

@@ -3,7 +3,7 @@
 
 use crate::calls::{
     ENDED, ENDED_TOLD, FORGED_LINE, HEADER, KEYED, KEYED_TOLD, KNOWN_LINE, KNOWN_TOLD, OFFERED,
-    OFFERED_TOLD, PACKETS, PACKETS_TOLD,
+    OFFERED_TOLD, PACKETS, PACKETS_TOLD, WHOLE_CALL, WHOLE_CALL_TOLD,
 };
 use crate::outside::{Given, Outside, REPLAY, joined};
 use sg_base::ScriptFault;
@@ -222,23 +222,34 @@ fn reads_writes_and_draws_that_fail(rt: HostRuntime) -> Result<(), Fail> {
     Ok(())
 }
 
-/// A call that is offered, its packets, and its end, read 512 octets at a time.
-const OFFERED_CALL: &[&str] = &[HEADER, OFFERED, PACKETS, ENDED];
-
-// What is written by then is a front of the whole.
+// Seven reads of 512 octets give the whole of the script, and the eighth finds its end. What is written by then is a
+// front of the whole; a ninth isn't asked for.
 #[test]
 fn each_read_fails_once(rt: HostRuntime) -> Result<(), Fail> {
-    let whole = joined(rt.alloc(), &[OFFERED_TOLD, PACKETS_TOLD, ENDED_TOLD])?;
-    for k in 1..=4 {
+    let whole = WHOLE_CALL_TOLD.as_bytes();
+    for k in 1..=8 {
         let given = Given {
             most: 512,
             reads_fail: &[k],
             ..REPLAY
         };
-        let mut outside = Outside::of(rt.alloc(), OFFERED_CALL, given)?;
+        let mut outside = Outside::of(rt.alloc(), &[WHOLE_CALL], given)?;
         let answer = outside.run(&rt, rt.alloc(), &OpenGate);
         assert_eq!(rt; answer, Status::Read);
-        assert!(rt; whole.as_slice().starts_with(outside.written()));
+        assert!(rt; whole.starts_with(outside.written()));
     }
-    Ok(())
+    let given = Given {
+        most: 512,
+        reads_fail: &[9],
+        ..REPLAY
+    };
+    let told = &[WHOLE_CALL_TOLD];
+    tells(&rt, rt.alloc(), &[WHOLE_CALL], given, Status::Done, told)
+}
+
+#[test]
+fn one_octet_a_call(rt: HostRuntime) -> Result<(), Fail> {
+    let given = Given { most: 1, ..REPLAY };
+    let told = &[WHOLE_CALL_TOLD];
+    tells(&rt, rt.alloc(), &[WHOLE_CALL], given, Status::Done, told)
 }
