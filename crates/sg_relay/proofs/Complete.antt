@@ -1,17 +1,19 @@
 -- A script in the grammar is relayed to its end, where nothing but sends fails.
-use Rattle.std.proofs.Common.{◌≡◌, List, [], ◌∷◌, ◌++◌, ℕ, refl, subst, inl, inr, arith}
+use Rattle.std.proofs.Common.{◌≡◌, List, [], ◌∷◌, ◌++◌, ℕ, Option, refl, subst, inl, inr, arith}
 use Rattle.sg_course.proofs.Grammars.{in_relay, no_fault}
 use Rattle.sg_course.specs.Course.{AtFault, woven}
 use Rattle.sg_course.specs.declared.status.Status.{Status}
 use Rattle.sg_course.specs.declared.status.Status.TheVariants.{Done, Usage, Script, Read, Write, Link, NoMemory, Clock, Noise, TurnsSpent}
-use Rattle.sg_edge.specs.Links.{LinkCall}
+use Rattle.sg_edge.specs.Links.{Failing, LinkCall, Receive}
 use Rattle.sg_edge.specs.Told.{Rose}
 use Rattle.sg_edge.proofs.Links.{added_none}
 use Rattle.sg_edge.proofs.Passed.{took_none, wrote_none}
 use Rattle.sg_relay.specs.Asked.{AreGood, EndsBadly, IsGood, receipts_in}
 use Rattle.sg_relay.specs.Completeness.{IsComplete}
-use Rattle.sg_relay.specs.Relay.{IsRelay, Passed, Tellings}
-use Rattle.sg_relay.proofs.Deeds.{done_none, part_of}
+use Rattle.sg_relay.specs.Relay.{Ends, IsRelay, Passed, Tellings}
+use Rattle.sg_relay.proofs.Deeds.{cut_off_bad, done_none, part_of}
+use Rattle.sg_relay.proofs.Order.{order_none}
+use Rattle.sg_relay.proofs.Relays.{outcomes_at}
 
 good_last : (a : List LinkCall) (x : LinkCall) → AreGood (a ++ x ∷ []) → IsGood x
 good_last [] x good = good.0
@@ -19,6 +21,11 @@ good_last (y ∷ a) x good = good_last a x good.1
 
 not_bad : (calls : List LinkCall) → AreGood calls → EndsBadly calls → ⊥
 not_bad calls good ends = ends.bad (good_last ends.before ends.last (subst AreGood ends.calls_are good))
+
+-- with Link the last call failed
+pub link_failed : (turns : ℕ) (p : Passed) (left : Option (List ℕ)) → Ends Link turns p left → EndsBadly p.calls
+link_failed turns p left (inl (before, failed, whole)) = record { before = before; last = Receive Failing; calls_are = failed; good = whole.good; bad = λ is. is }
+link_failed turns p left (inr cut) = cut_off_bad _ p.calls p.out cut
 
 pub complete : (status : Status) (turns link link' : ℕ) (old new : Tellings) (p : Passed) → IsRelay status turns old new p
     → (status ≡ Read → ⊥) → (status ≡ Write → ⊥) → (status ≡ Clock → ⊥) → (status ≡ Noise → ⊥) → (status ≡ Link → Rose link link') → IsComplete status turns old.left new.left link link' p
@@ -31,7 +38,7 @@ complete Clock turns link link' old new p run a b c d e = absurd (c refl)
 complete Noise turns link link' old new p run a b c d e = absurd (d refl)
 complete Link turns link link' old new p run a b c d e = λ all rest told told' script few well. absurd (elim well [
   | inl still ↦ still (e refl)
-  | inr good ↦ not_bad p.calls good run.ends.1
+  | inr good ↦ not_bad p.calls good (link_failed turns p new.left run.ends)
 ])
 complete TurnsSpent turns link link' old new p run a b c d e = λ all rest told told' script few well. absurd (few run.ends.0.stops run.ends.1)
 complete (Script n f) turns link link' old new p run a b c d e = λ all rest told told' script few well. absurd
@@ -62,5 +69,6 @@ at_once old turns link link' source sink clock noise = with_complete NoMemory tu
       bound = omega arith;
       most = omega arith;
       paced = refl;
+      in_order = order_none (outcomes_at [] [] []) [] refl;
     })
     (λ is. absurd cc) (λ is. absurd cc) (λ is. absurd cc) (λ is. absurd cc) (λ is. absurd cc)

@@ -19,8 +19,8 @@ use Rattle.sg_gateway.specs.World.{World}
 use Rattle.sg_outcome.specs.OutcomeText.{outcome_line}
 use Rattle.sg_outcome.specs.declared.outcomes.Outcome.{Outcome}
 use Rattle.sg_outcome.specs.declared.outcomes.Outcome.TheVariants.{Made, Live, Sdp, Refused, Ended, Out, Dropped, Unsent}
-use Rattle.sg_relay.specs.Asked.{AreGood, AreSent, Ask, EndsBadly, IsDone, IsGood, IsPart, Told, ask_in, asks_in, asks_of, hold, ports_from, receipt_in, receipts_in, sends_in, sent_as, sent_in, sent_of, written_as, written_of}
-use Rattle.sg_relay.specs.Parts.{AreCarriedOut, AreHandled, IsBad, IsHeld}
+use Rattle.sg_relay.specs.Asked.{AreGood, AreSent, Ask, EndsBadly, IsCutOff, IsDone, IsGood, IsPart, Told, ask_in, asks_in, asks_of, hold, ports_from, receipt_in, receipts_in, sends_in, sent_as, sent_in, sent_of, written_as, written_of}
+use Rattle.sg_relay.specs.Parts.{AreCarriedOut, AreHandled, IsHeld, StopsWith}
 
 -- the statuses of a line that couldn't be written
 abbrev pub IsOfWriting : Status → Type 0
@@ -45,18 +45,6 @@ bad_after a b good ends = record {
   good = AreGood-append a ends.before good ends.good;
   bad = ends.bad;
 }
-
-pub IsBad-after : (s : Status) (a b : List LinkCall) → AreGood a → IsBad s b → IsBad s (a ++ b)
-IsBad-after Link a b good bad = bad_after a b good bad
-IsBad-after Done a b good bad = AreGood-append a b good bad
-IsBad-after Usage a b good bad = AreGood-append a b good bad
-IsBad-after (Script n f) a b good bad = AreGood-append a b good bad
-IsBad-after Read a b good bad = AreGood-append a b good bad
-IsBad-after Write a b good bad = AreGood-append a b good bad
-IsBad-after NoMemory a b good bad = AreGood-append a b good bad
-IsBad-after Clock a b good bad = AreGood-append a b good bad
-IsBad-after Noise a b good bad = AreGood-append a b good bad
-IsBad-after TurnsSpent a b good bad = AreGood-append a b good bad
 
 pub none_after : (a b : List LinkCall) → receipts_in a ≡ [] → receipts_in b ≡ [] → receipts_in (a ++ b) ≡ []
 none_after a b none more = flat_append receipt_in a b ∙ ap₂ (λ (x y : List Received). x ++ y) none more
@@ -166,6 +154,70 @@ part_longer o p a x part = record {
       (front_longer x (text (flat_map written_of part.told)) (text (flat_map written_of (all_sent p))) part.written);
 }
 
+-- ---- outcomes that were cut off
+
+pub cut_off_after : (o p : List Outcome) (a b : List LinkCall) (x y : List ℕ) → IsDone o a x → AreGood a → IsCutOff p b y → IsCutOff (o ++ p) (a ++ b) (x ++ y)
+cut_off_after o p a b x y first good cut = record {
+  done = o ++ cut.done;
+  next = cut.next;
+  others = cut.others;
+  outcomes_are = ap (λ l. o ++ l) cut.outcomes_are ∙ sym (append_assoc o cut.done (cut.next ∷ cut.others));
+  before = a ++ cut.before;
+  last = cut.last;
+  calls_are = ap (λ l. a ++ l) cut.calls_are ∙ sym (append_assoc a cut.before cut.last);
+  whole = done_more o cut.done a cut.before x y first cut.whole;
+  good = AreGood-append a cut.before good cut.good;
+  fails = cut.fails;
+}
+
+pub cut_off_longer : (o p : List Outcome) (a : List LinkCall) (x : List ℕ) → IsCutOff o a x → IsCutOff (o ++ p) a x
+cut_off_longer o p a x cut = record {
+  done = cut.done;
+  next = cut.next;
+  others = cut.others ++ p;
+  outcomes_are = ap (λ l. l ++ p) cut.outcomes_are ∙ append_assoc cut.done (cut.next ∷ cut.others) p;
+  before = cut.before;
+  last = cut.last;
+  calls_are = cut.calls_are;
+  whole = cut.whole;
+  good = cut.good;
+  fails = cut.fails;
+}
+
+-- the last call failed
+pub cut_off_bad : (o : List Outcome) (a : List LinkCall) (x : List ℕ) → IsCutOff o a x → EndsBadly a
+cut_off_bad o a x cut = subst EndsBadly (sym cut.calls_are) (bad_after cut.before cut.last cut.good cut.fails.bad)
+
+part_good_after : (o p : List Outcome) (a b : List LinkCall) (x y : List ℕ) → IsDone o a x → AreGood a → IsPart p b y × AreGood b → IsPart (o ++ p) (a ++ b) (x ++ y) × AreGood (a ++ b)
+part_good_after o p a b x y first good (part, well) = (part_after o p a b x y first part, AreGood-append a b good well)
+
+pub stops_after : (s : Status) (o p : List Outcome) (a b : List LinkCall) (x y : List ℕ) → IsDone o a x → AreGood a → StopsWith s p b y → StopsWith s (o ++ p) (a ++ b) (x ++ y)
+stops_after Link o p a b x y first good stops = cut_off_after o p a b x y first good stops
+stops_after Done o p a b x y first good stops = part_good_after o p a b x y first good stops
+stops_after Usage o p a b x y first good stops = part_good_after o p a b x y first good stops
+stops_after (Script n f) o p a b x y first good stops = part_good_after o p a b x y first good stops
+stops_after Read o p a b x y first good stops = part_good_after o p a b x y first good stops
+stops_after Write o p a b x y first good stops = part_good_after o p a b x y first good stops
+stops_after NoMemory o p a b x y first good stops = part_good_after o p a b x y first good stops
+stops_after Clock o p a b x y first good stops = part_good_after o p a b x y first good stops
+stops_after Noise o p a b x y first good stops = part_good_after o p a b x y first good stops
+stops_after TurnsSpent o p a b x y first good stops = part_good_after o p a b x y first good stops
+
+part_good_longer : (o p : List Outcome) (a : List LinkCall) (x : List ℕ) → IsPart o a x × AreGood a → IsPart (o ++ p) a x × AreGood a
+part_good_longer o p a x (part, good) = (part_longer o p a x part, good)
+
+pub stops_longer : (s : Status) (o p : List Outcome) (a : List LinkCall) (x : List ℕ) → StopsWith s o a x → StopsWith s (o ++ p) a x
+stops_longer Link o p a x stops = cut_off_longer o p a x stops
+stops_longer Done o p a x stops = part_good_longer o p a x stops
+stops_longer Usage o p a x stops = part_good_longer o p a x stops
+stops_longer (Script n f) o p a x stops = part_good_longer o p a x stops
+stops_longer Read o p a x stops = part_good_longer o p a x stops
+stops_longer Write o p a x stops = part_good_longer o p a x stops
+stops_longer NoMemory o p a x stops = part_good_longer o p a x stops
+stops_longer Clock o p a x stops = part_good_longer o p a x stops
+stops_longer Noise o p a x stops = part_good_longer o p a x stops
+stops_longer TurnsSpent o p a x stops = part_good_longer o p a x stops
+
 -- ---- one outcome
 
 -- a port is bound, or given up
@@ -201,20 +253,24 @@ held_longer asks more a e held = (front_longer (asks_in a) asks more held.0, hel
 pub told_unheld : (o : Outcome) (asks : List Ask) (calls : List LinkCall) (e : Failed) → asks_of o ≡ asks → IsHeld (Err e) asks calls → AreCarriedOut (Err Link) (o ∷ []) calls []
 told_unheld o asks calls e is held = (
   record {
-    told = record { outcome = o; sent = true } ∷ [];
-    of_outcomes = refl;
-    asked = subst (λ l. IsPrefixOf (asks_in calls) l) (sym (append-nil (asks_of o) ∙ is)) held.0;
-    sent = sent_none o (sends_in calls) held.2;
-    written = front_none _;
+    done = [];
+    next = o;
+    others = [];
+    outcomes_are = refl;
+    before = [];
+    last = calls;
+    calls_are = refl;
+    whole = done_none;
+    good = tt;
+    fails = record { asked = subst (λ l. IsPrefixOf (asks_in calls) l) (sym is) held.0; bad = held.1; unsent = held.2; unreceived = held.3 };
   },
-  held.1,
   held.3,
 )
 
 -- a line couldn't be written: it isn't the link that failed
-pub not_link : (s : Status) (calls : List LinkCall) → IsOfWriting s → AreGood calls → IsBad s calls
-not_link s calls (inl is) good = subst (λ (x : Status). IsBad x calls) (sym is) good
-not_link s calls (inr is) good = subst (λ (x : Status). IsBad x calls) (sym is) good
+pub stops_writing : (s : Status) (o : List Outcome) (calls : List LinkCall) (out : List ℕ) → IsOfWriting s → IsPart o calls out → AreGood calls → StopsWith s o calls out
+stops_writing s o calls out (inl is) part good = subst (λ (x : Status). StopsWith x o calls out) (sym is) (part, good)
+stops_writing s o calls out (inr is) part good = subst (λ (x : Status). StopsWith x o calls out) (sym is) (part, good)
 
 -- what was written of a line, by how that went
 pub line_so : (r : Result (Unit {0}) Status) (a b : Option (List ℕ)) (line : List ℕ) → IsWritten r a b line
@@ -246,14 +302,15 @@ told_held (Ok u) o asks calls out is plain held front whole only = (
   held.3,
 )
 told_held (Err s) o asks calls out is plain held front whole only = (
-  record {
-    told = record { outcome = o; sent = true } ∷ [];
-    of_outcomes = refl;
-    asked = subst (λ l. IsPrefixOf (asks_in calls) l) (held.0 ∙ sym is ∙ sym (append-nil (asks_of o))) (front_all (asks_in calls));
-    sent = sent_none o (sends_in calls) held.2;
-    written = subst (λ l. IsPrefixOf out l) (sym (ap (λ (l : List Outcome). text (l ++ [])) (plain true).0 ∙ append-nil (outcome_line o))) front;
-  },
-  not_link s calls only held.1,
+  stops_writing s (o ∷ []) calls out only
+      (record {
+        told = record { outcome = o; sent = true } ∷ [];
+        of_outcomes = refl;
+        asked = subst (λ l. IsPrefixOf (asks_in calls) l) (held.0 ∙ sym is ∙ sym (append-nil (asks_of o))) (front_all (asks_in calls));
+        sent = sent_none o (sends_in calls) held.2;
+        written = subst (λ l. IsPrefixOf out l) (sym (ap (λ (l : List Outcome). text (l ++ [])) (plain true).0 ∙ append-nil (outcome_line o))) front;
+      })
+      held.1,
   held.3,
 )
 
@@ -288,18 +345,23 @@ asks_in_all h port i n lt =
 pub handled_told : (r : Result (Unit {0}) Status) (w : World) (es : List Event) (stands_for : World → Type 0) (os : List Outcome) (calls : List LinkCall) (out : List ℕ)
     → AreCarriedOut r os calls out → os ≡ outcomes_from w es → stands_for (world_after w es) → AreHandled r w es stands_for calls out
 handled_told (Ok u) w es stands_for os calls out told is stands = (subst (λ l. IsDone l calls out) is told.0, told.1, told.2, stands)
-handled_told (Err s) w es stands_for os calls out told is stands = (subst (λ l. IsPart l calls out) is told.0, told.1, told.2)
+handled_told (Err s) w es stands_for os calls out told is stands = (subst (λ l. StopsWith s l calls out) is told.0, told.1)
 
-pub unhandled : (s : Status) (w : World) (es : List Event) (stands_for : World → Type 0) → IsBad s [] → AreHandled {T = Unit {0}} (Err s) w es stands_for [] []
-unhandled s w es stands_for bad = (part_longer [] (outcomes_from w es) [] [] (part_of [] [] [] done_none), bad, refl)
+pub unhandled : (w : World) (es : List Event) (stands_for : World → Type 0) → AreHandled {T = Unit {0}} (Err NoMemory) w es stands_for [] []
+unhandled w es stands_for = ((part_longer [] (outcomes_from w es) [] [] (part_of [] [] [] done_none), tt), refl)
+
+-- nothing was received
+pub handled_none : {T : Type 0} (r : Result T Status) (w : World) (es : List Event) (stands_for : World → Type 0) (calls : List LinkCall) (out : List ℕ) → AreHandled r w es stands_for calls out → receipts_in calls ≡ []
+handled_none (Ok x) w es stands_for calls out handled = handled.2
+handled_none (Err s) w es stands_for calls out handled = handled.1
 
 -- one outcome more was told, or a front of it
 pub told_more : (r : Result (Unit {0}) Status) (os ps : List Outcome) (a b : List LinkCall) (x y : List ℕ) → AreCarriedOut (Ok tt) os a x → AreCarriedOut r ps b y → AreCarriedOut r (os ++ ps) (a ++ b) (x ++ y)
 told_more (Ok u) os ps a b x y first then = (done_more os ps a b x y first.0 then.0, AreGood-append a b first.1 then.1, none_after a b first.2 then.2)
-told_more (Err s) os ps a b x y first then = (part_after os ps a b x y first.0 then.0, IsBad-after s a b first.1 then.1, none_after a b first.2 then.2)
+told_more (Err s) os ps a b x y first then = (stops_after s os ps a b x y first.0 first.1 then.0, none_after a b first.2 then.1)
 
 pub told_longer : (s : Status) (os more : List Outcome) (a : List LinkCall) (x : List ℕ) → AreCarriedOut (Err s) os a x → AreCarriedOut (Err s) (os ++ more) a x
-told_longer s os more a x told = (part_longer os more a x told.0, told.1, told.2)
+told_longer s os more a x told = (stops_longer s os more a x told.0, told.1)
 
 -- ---- a packet
 
@@ -312,14 +374,15 @@ told_unsent (Ok u) port to octets out front whole only = (
   refl,
 )
 told_unsent (Err s) port to octets out front whole only = (
-  record {
-    told = record { outcome = Out port to octets; sent = false } ∷ [];
-    of_outcomes = refl;
-    asked = front_all _;
-    sent = sent_all _ _ refl;
-    written = subst (λ l. IsPrefixOf out l) (sym (append-nil (outcome_line (Unsent port to)))) front;
-  },
-  not_link s _ only (tt, tt),
+  stops_writing s (Out port to octets ∷ []) (links.Send port to octets false ∷ []) out only
+      (record {
+        told = record { outcome = Out port to octets; sent = false } ∷ [];
+        of_outcomes = refl;
+        asked = front_all _;
+        sent = sent_all _ _ refl;
+        written = subst (λ l. IsPrefixOf out l) (sym (append-nil (outcome_line (Unsent port to)))) front;
+      })
+      (tt, tt),
   refl,
 )
 

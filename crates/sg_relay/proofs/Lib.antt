@@ -1,6 +1,7 @@
 mod Blames
 mod Complete
 mod Deeds
+pub mod Order
 mod Relays
 mod Says
 mod Waits

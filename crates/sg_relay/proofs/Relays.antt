@@ -3,11 +3,11 @@ use Rattle.std.proofs.Common.{◌≡◌, ◌⊎◌, ◌<◌, ◌≤◌, ◌+◌,
 use Rattle.std.proofs.lemmas.List.{append-nil}
 use Rattle.sg_base.specs.declared.faults.ScriptFault.{ScriptFault}
 use Rattle.sg_course.proofs.Courses.{outcomes_from-append, reads_on, stops_at, whole_some, with_events_again}
-use Rattle.sg_course.specs.Course.{AtEnd as BehindAll, AtFault, Course, ForDraw, ForReading, Later, Outside, Relays, Stop, course_from, moment_of, said, stopped, with_events, woven}
+use Rattle.sg_course.specs.Course.{AtEnd as BehindAll, AtFault, Course, ForDraw, ForReading, ForReceive, Later, Outside, Relays, Stop, course_from, moment_of, said, stopped, with_events, woven}
 use Rattle.sg_course.specs.Reading.{IsFault, IsNext, IsRead, Reading}
 use Rattle.sg_course.specs.declared.status.Status.{Status}
 use Rattle.sg_course.specs.declared.status.Status.TheVariants.{Done, Usage, Script, Read, Write, Link, NoMemory, Clock, Noise, TurnsSpent}
-use Rattle.sg_edge.specs.Links.{Added, LinkCall, Received}
+use Rattle.sg_edge.specs.Links.{Added, Failing, LinkCall, Receive, Received}
 use Rattle.sg_edge.specs.Told.{AtEnd, TookIn, Wrote}
 use Rattle.sg_edge.proofs.Links.{added_more}
 use Rattle.sg_edge.proofs.Passed.{took_more, wrote_more}
@@ -20,12 +20,17 @@ use Rattle.sg_lines.specs.declared.lines.Line.{Line}
 use Rattle.sg_lines.specs.declared.lines.Line.TheVariants as lines
 use Rattle.sg_lines.specs.declared.lines.Signal.TheVariants.{Tick}
 use Rattle.sg_outcome.specs.declared.outcomes.Outcome.{Outcome}
-use Rattle.sg_relay.specs.Asked.{AreGood, IsDone, IsPart, receipt_in, receipts_in}
+use Rattle.sg_relay.specs.Asked.{AreGood, AreInOrder, AtFailedReceive, IsDone, IsPart, receipt_in, receipts_in}
 use Rattle.sg_relay.specs.Causes.{IsOfLines, IsOfTurns}
-use Rattle.sg_relay.specs.Parts.{IsBegun, IsSaid, IsStopped, taken, taking}
+use Rattle.sg_relay.specs.Parts.{ArePairs, IsBegun, IsLineCut, IsLineInOrder, IsSaid, IsStopped, StopsWith, taken, taking}
 use Rattle.sg_relay.specs.Relay.{ArePaced, Ends, IsBroken, IsRelay, IsWhole, Passed, Tellings, course_of, nothing}
-use Rattle.sg_relay.proofs.Deeds.{AreGood-append, IsBad-after, done_more, done_none, flat_append, part_after, part_longer, part_of}
+use Rattle.sg_relay.proofs.Deeds.{AreGood-append, done_more, done_none, flat_append, part_longer, part_of, stops_after, stops_longer}
+use Rattle.sg_relay.proofs.Order.{order_more, order_none}
 use Rattle.sg_relay.proofs.Waits.{of_turns}
+
+-- the outcomes of a course, by its receives
+abbrev pub outcomes_at : List ℕ → List ℕ → List ℕ → List Received → List Outcome
+outcomes_at octets readings draws receipts = outcomes (woven octets readings receipts draws).events
 
 -- The relay has taken whole lines, whose events it has handled, and what waits behind them.
 pub record IsRelaying (old now : Tellings) (turns began : ℕ) (p : Passed) (at : Reading) (es : List Event) (top left : ℕ) : Type 0 where
@@ -43,6 +48,7 @@ pub record IsRelaying (old now : Tellings) (turns began : ℕ) (p : Passed) (at 
   pub size : length p.octets ≡ at.offset
   pub room : at.offset + length at.waits + at.budget ≡ 2 ^ 30 + 1
   pub within : at.offset ≤ 2 ^ 30
+  pub in_order : (rest : List ℕ) (o : Outside) → AreInOrder (outcomes_at (p.octets ++ rest) (p.readings ++ o.readings) (p.draws ++ o.draws)) p.calls
 
 pub pace_so : (readings : List ℕ) (receipts : List Received) → (length readings ≡ length receipts + 1) ⊎ (length readings ≡ (length receipts + 1) + 1) → ArePaced readings receipts
 pace_so [] receipts (inl same) = absurd (omega (arith, same))
@@ -56,6 +62,12 @@ part_in p es rest is part =
     subst (λ (c : Course). IsPart (outcomes c.events) p.calls p.out) (sym is)
     (subst (λ (os : List Outcome). IsPart os p.calls p.out) (sym (outcomes_from-append empty es rest.events))
     (part_longer (outcomes_from empty es) (outcomes_from (world_after empty es) rest.events) p.calls p.out part))
+
+pub stops_in : (s : Status) (p : Passed) (es : List Event) (rest : Course) → course_of p ≡ with_events es rest → StopsWith s (outcomes_from empty es) p.calls p.out → StopsWith s (outcomes (course_of p).events) p.calls p.out
+stops_in s p es rest is stops =
+    subst (λ (c : Course). StopsWith s (outcomes c.events) p.calls p.out) (sym is)
+    (subst (λ (os : List Outcome). StopsWith s os p.calls p.out) (sym (outcomes_from-append empty es rest.events))
+    (stops_longer s (outcomes_from empty es) (outcomes_from (world_after empty es) rest.events) p.calls p.out stops))
 
 pub whole_at : (p : Passed) (es : List Event) (stop : Stop) → course_of p ≡ with_events es (stopped stop nothing) → IsDone (outcomes es) p.calls p.out → AreGood p.calls → IsWhole p stop
 whole_at p es stop is done good = record {
@@ -107,6 +119,7 @@ module _ (old now : Tellings) (turns began : ℕ) (p : Passed) (at : Reading) (e
     bound = bounded budget paid;
     most = omega (arith, going.counted);
     paced = pace_so p.readings (receipts_in p.calls) (inl going.paced);
+    in_order = subst (λ (f : List Received → List Outcome). AreInOrder f p.calls) (λ i. outcomes_at (p.octets ++ (at.waits ++ got)) (append-nil p.readings i) (append-nil p.draws i)) (going.in_order (at.waits ++ got) nothing);
   }
 
   -- at the end of the source
@@ -179,12 +192,27 @@ module _ (old now : Tellings) (turns began : ℕ) (p : Passed) (at : Reading) (e
     abbrev pub behind : Passed
     behind = record { octets = p.octets ++ is.line; out = p.out ++ out; calls = p.calls ++ calls; readings = p.readings ++ readings; draws = p.draws ++ draws }
 
+    -- the calls by then are in order
+    line_order : IsLineInOrder (Relays began) l (world_after empty es) top readings calls draws → (more : List ℕ) (o : Outside)
+        → AreInOrder (outcomes_at ((p.octets ++ is.line) ++ more) ((p.readings ++ readings) ++ o.readings) ((p.draws ++ draws) ++ o.draws)) (p.calls ++ calls)
+    line_order order more o =
+        let next : Later = course_from (Relays began) (at.number + 1) (at.offset + length is.line) (lines_of more) in
+        let after_it : List Received → Outside = λ xs. taken (readings ++ o.readings) xs (draws ++ o.draws) in
+        subst (λ (f : List Received → List Outcome). AreInOrder f (p.calls ++ calls))
+        (λ i. outcomes_at (sym (append_assoc p.octets is.line more) i) (sym (append_assoc p.readings readings o.readings) i) (sym (append_assoc p.draws draws o.draws) i))
+        (order_more (outcomes_at (p.octets ++ (is.line ++ more)) (p.readings ++ (readings ++ o.readings)) (p.draws ++ (draws ++ o.draws)))
+        (λ xs. outcomes_from (world_after empty es) (said (Relays began) l next top (after_it xs)).events) (outcomes es) p.calls calls
+        (λ xs. ap (λ (c : Course). outcomes c.events)
+        (going.goes (is.line ++ more) (after_it xs) ∙ ap (with_events es) (reads_on (Relays began) at.number at.offset is.line more l top (after_it xs) is.whole is.is))
+        ∙ outcomes_from-append empty es (said (Relays began) l next top (after_it xs)).events)
+        going.done.asked (going.in_order (is.line ++ more) (after_it [])) (order next o))
+
     -- after the line was handled
     pub after : {T : Type 0} (x : T) (now' : Tellings) (top' left2 : ℕ) (stands_for : World → Type 0) → now'.left ≡ left' → Wrote now.written now'.written out → Added now.calls now'.calls calls
         → Added now.readings now'.readings readings → Added now.draws now'.draws draws
         → (said : (let r : Result T Status = Ok x in IsSaid r (Relays began) l (world_after empty es) top top' left left2 stands_for readings calls draws out))
-        → IsRelaying old now' turns began behind at' (es ++ said.0) top' left2
-    after x now' top' left2 stands_for same wrote called read drew said = record {
+        → IsLineInOrder (Relays began) l (world_after empty es) top readings calls draws → IsRelaying old now' turns began behind at' (es ++ said.0) top' left2
+    after x now' top' left2 stands_for same wrote called read drew said order = record {
       took = subst (TookIn old.left now'.left) octets_are (subst (λ (o : Option (List ℕ)). TookIn old.left o (p.octets ++ (at.waits ++ got))) (sym same) took_all);
       wrote = wrote_more old.written now.written now'.written p.out out going.wrote wrote;
       called = added_more old.calls now.calls now'.calls p.calls calls going.called called;
@@ -202,6 +230,7 @@ module _ (old now : Tellings) (turns began : ℕ) (p : Passed) (at : Reading) (e
       size = omega (arith, going.size, is.offset, length-append p.octets is.line);
       room = omega (arith, going.room, is.offset, paid, ap length is.split, length-append at.waits got, length-append is.line at'.waits);
       within = is.within;
+      in_order = line_order order;
     }
 
     -- the next line begins behind this one
@@ -222,7 +251,7 @@ module _ (old now : Tellings) (turns began : ℕ) (p : Passed) (at : Reading) (e
       pub paced : ArePaced (p.readings ++ readings) (receipts_in (p.calls ++ calls))
       pub most : length (p.readings ++ readings) ≤ turns + 1
 
-    counts_of : (length readings ≡ length (receipts_in calls)) ⊎ (length readings ≡ length (receipts_in calls) + 1) → length readings ≤ left → Counts
+    counts_of : ArePairs readings calls → length readings ≤ left → Counts
     counts_of (inl same) few = record {
       paced = pace_so (p.readings ++ readings) (receipts_in (p.calls ++ calls))
           (inl (omega (arith, going.paced, same, length-append p.readings readings, ap length receipts_are, length-append (receipts_in p.calls) (receipts_in calls))));
@@ -234,35 +263,46 @@ module _ (old now : Tellings) (turns began : ℕ) (p : Passed) (at : Reading) (e
       most = omega (arith, going.counted, few, length-append p.readings readings);
     }
 
-    -- a front of the line was done
-    part_so : (events : List Event) (rest : Course) → said (Relays began) l later top (taken readings (receipts_in calls) draws) ≡ with_events events rest
-        → IsPart (outcomes_from (world_after empty es) events) calls out → IsPart (outcomes (course_of with_line).events) (p.calls ++ calls) (p.out ++ out)
-    part_so events rest is part =
-        part_in with_line (es ++ events) rest (says_all ∙ ap (with_events es) is ∙ with_events_again es events rest)
-        (subst (λ (os : List Outcome). IsPart os (p.calls ++ calls) (p.out ++ out)) (sym (outcomes_from-append empty es events))
-        (part_after (outcomes es) (outcomes_from (world_after empty es) events) p.calls calls p.out out going.done part))
+    -- the line was cut
+    stops_so : (x : Status) → IsLineCut x (Relays began) l (world_after empty es) top readings calls draws out → StopsWith x (outcomes (course_of with_line).events) (p.calls ++ calls) (p.out ++ out)
+    stops_so x (events, rest, stops, pairs) =
+        stops_in x with_line (es ++ events) (rest later).0 (says_all ∙ ap (with_events es) (rest later).1 ∙ with_events_again es events (rest later).0)
+        (subst (λ (os : List Outcome). StopsWith x os (p.calls ++ calls) (p.out ++ out)) (sym (outcomes_from-append empty es events))
+        (stops_after x (outcomes es) (outcomes_from (world_after empty es) events) p.calls calls p.out out going.done going.good stops))
 
-    -- of a line that was cut
-    pub cut : (T : Type 0) (s : Status) (top' left2 : ℕ) (stands_for : World → Type 0) → IsOfLines s
+    -- what is said of a line whose receive failed, once that is so of the calls before it
+    cut_link : ((before : List LinkCall) → IsStopped (Relays began) l (world_after empty es) top ForReceive readings before draws out → IsWhole (record with_line { calls = p.calls ++ before }) ForReceive)
+        → ((AtFailedReceive (λ before. IsStopped (Relays began) l (world_after empty es) top ForReceive readings before draws out) calls × (length readings ≡ length (receipts_in calls)))
+        ⊎ IsLineCut Link (Relays began) l (world_after empty es) top readings calls draws out) × (length readings ≤ left)
+        → Ends Link turns with_line left' × Counts
+    cut_link whole (inl ((before, failed, at_stop), paced), few) = (
+      inl (p.calls ++ before, ap (λ (l : List LinkCall). p.calls ++ l) failed ∙ sym (append_assoc p.calls before (Receive Failing ∷ [])), whole before at_stop),
+      counts_of (inl paced) few,
+    )
+    cut_link whole (inr cut, few) = (inr (stops_so Link cut), counts_of cut.3 few)
+
+    broken_so : (s : Status) → ((x : Passed) → IsBroken x → Ends s turns x left') → IsPart (outcomes (course_of with_line).events) (p.calls ++ calls) (p.out ++ out) × AreGood (p.calls ++ calls) → Ends s turns with_line left'
+    broken_so s ends (part, good) = ends with_line (record { part = part; good = good })
+
+    cut_with : (T : Type 0) (s : Status) (top' left2 : ℕ) (stands_for : World → Type 0) → IsOfLines s
+        → ((before : List LinkCall) → IsStopped (Relays began) l (world_after empty es) top ForReceive readings before draws out → IsWhole (record with_line { calls = p.calls ++ before }) ForReceive)
         → (let r : Result T Status = Err s in IsSaid r (Relays began) l (world_after empty es) top top' left left2 stands_for readings calls draws out) → Ends s turns with_line left' × Counts
-    cut T s top' left2 stands_for only said = of_lines
+    cut_with T s top' left2 stands_for only whole said = of_lines
         (λ (x : Status). (let r : Result T Status = Err x in IsSaid r (Relays began) l (world_after empty es) top top' left left2 stands_for readings calls draws out) → Ends x turns with_line left' × Counts)
         s only
-        (λ (at_stop, few). (stopped_so ForDraw at_stop, counts_of (inl at_stop.paced) few))
-        (λ (at_stop, all). (
-          (stopped_so ForReading at_stop, omega (arith, going.counted, all, length-append p.readings readings)),
-          counts_of (inl at_stop.paced) (omega (arith, all)),
-        ))
-        (λ (at_stop, few). ((stopped_so ForReading at_stop, omega (arith, going.counted, few, length-append p.readings readings)), counts_of (inl at_stop.paced) (omega (arith, few))))
-        (λ (events, rest, part, bad, pace, few). (record { part = part_so events (rest later).0 (rest later).1 part; good = AreGood-append p.calls calls going.good bad }, counts_of pace few))
-        (λ (events, rest, part, bad, pace, few). ((part_so events (rest later).0 (rest later).1 part, IsBad-after Link p.calls calls going.good bad), counts_of pace few))
-        (λ (events, rest, part, bad, pace, few). (record { part = part_so events (rest later).0 (rest later).1 part; good = AreGood-append p.calls calls going.good bad }, counts_of pace few))
+        (λ (at_stop, paced, few). (stopped_so ForDraw at_stop, counts_of (inl paced) few))
+        (λ (at_stop, paced, all). ((stopped_so ForReading at_stop, omega (arith, going.counted, all, length-append p.readings readings)), counts_of (inl paced) (omega (arith, all))))
+        (λ (at_stop, paced, few). ((stopped_so ForReading at_stop, omega (arith, going.counted, few, length-append p.readings readings)), counts_of (inl paced) (omega (arith, few))))
+        (λ (cut, few). (broken_so Write (λ x broken. broken) (stops_so Write cut), counts_of cut.3 few))
+        (cut_link whole)
+        (λ (cut, few). (broken_so NoMemory (λ x broken. broken) (stops_so NoMemory cut), counts_of cut.3 few))
         said
 
     -- the run ends in a line
     pub ended_in : (s : Status) (now' : Tellings) → now'.left ≡ left' → Wrote now.written now'.written out → Added now.calls now'.calls calls
-        → Added now.readings now'.readings readings → Added now.draws now'.draws draws → Ends s turns with_line left' × Counts → IsRelay s turns old now' with_line
-    ended_in s now' same wrote called read drew ends = record {
+        → Added now.readings now'.readings readings → Added now.draws now'.draws draws → Ends s turns with_line left' × Counts → IsLineInOrder (Relays began) l (world_after empty es) top readings calls draws
+        → IsRelay s turns old now' with_line
+    ended_in s now' same wrote called read drew ends order = record {
       took = subst (λ (o : Option (List ℕ)). TookIn old.left o with_line.octets) (sym same) took_all;
       wrote = wrote_more old.written now.written now'.written p.out out going.wrote wrote;
       called = added_more old.calls now.calls now'.calls p.calls calls going.called called;
@@ -272,7 +312,17 @@ module _ (old now : Tellings) (turns began : ℕ) (p : Passed) (at : Reading) (e
       bound = bounded at'.budget paid;
       most = ends.1.most;
       paced = ends.1.paced;
+      in_order = subst (λ (f : List Received → List Outcome). AreInOrder f (p.calls ++ calls))
+          (λ i. outcomes_at (sym octets_are i) (append-nil (p.readings ++ readings) i) (append-nil (p.draws ++ draws) i)) (line_order order at'.waits nothing);
     }
+
+  -- of a line that was cut
+  pub cut : (l : Line) (at' : Reading) (paid : length got + at'.budget ≡ at.budget) (is : IsRead l at at' got) (readings : List ℕ) (calls : List LinkCall) (draws out : List ℕ)
+      (T : Type 0) (s : Status) (top' left2 : ℕ) (stands_for : World → Type 0) → IsOfLines s
+      → (let r : Result T Status = Err s in IsSaid r (Relays began) l (world_after empty es) top top' left left2 stands_for readings calls draws out)
+      → Ends s turns (with_line l at' paid is readings calls draws out) left' × Counts l at' paid is readings calls draws out
+  cut l at' paid is readings calls draws out T s top' left2 stands_for only said =
+      cut_with l at' paid is readings calls draws out T s top' left2 stands_for only (λ before at_stop. stopped_so l at' paid is readings before draws out ForReceive at_stop) said
 
 -- ---- the beginning
 
@@ -287,8 +337,8 @@ only_begun readings calls out = record { octets = []; out = out; calls = calls; 
 first_course : (r : ℕ) (calls : List LinkCall) (out : List ℕ) → receipts_in calls ≡ [] → course_of (only_begun (r ∷ []) calls out) ≡ with_events (first_tick r) (stopped BehindAll nothing)
 first_course r calls out none = ap (λ (xs : List Received). woven [] (r ∷ []) xs []) none
 
-begun_part : (r : ℕ) (calls : List LinkCall) (out : List ℕ) → receipts_in calls ≡ [] → IsPart (outcomes_from empty (first_tick r)) calls out → IsPart (outcomes (course_of (only_begun (r ∷ []) calls out)).events) calls out
-begun_part r calls out none part = part_in (only_begun (r ∷ []) calls out) (first_tick r) (stopped BehindAll nothing) (first_course r calls out none) part
+begun_stops : (s : Status) (r : ℕ) (calls : List LinkCall) (out : List ℕ) → receipts_in calls ≡ [] → StopsWith s (outcomes_from empty (first_tick r)) calls out → StopsWith s (outcomes (course_of (only_begun (r ∷ []) calls out)).events) calls out
+begun_stops s r calls out none stops = stops_in s (only_begun (r ∷ []) calls out) (first_tick r) (stopped BehindAll nothing) (first_course r calls out none) stops
 
 begun_pace : (turns r : ℕ) (calls : List LinkCall) → receipts_in calls ≡ [] → ArePaced (r ∷ []) (receipts_in calls) × (length (let one : List ℕ = r ∷ [] in one) ≤ turns + 1)
 begun_pace turns r calls none = (subst (λ (xs : List Received). ArePaced (r ∷ []) xs) (sym none) (inl refl), omega arith)
@@ -296,14 +346,14 @@ begun_pace turns r calls none = (subst (λ (xs : List Received). ArePaced (r ∷
 module _ (turns : ℕ) (left : Option (List ℕ)) (stands_for : World → Type 0) (readings : List ℕ) (calls : List LinkCall) (out : List ℕ) where
   -- what a status says of a run that ends with its first reading
   abbrev EndsAtOnce : Status → Type 0
-  EndsAtOnce s = Ends s turns (only_begun readings calls out) left × ArePaced readings (receipts_in calls) × (length readings ≤ turns + 1)
+  EndsAtOnce s = Ends s turns (only_begun readings calls out) left × ArePaced readings (receipts_in calls) × (length readings ≤ turns + 1) × (receipts_in calls ≡ [])
 
   -- the tick of the first reading was handled in part
-  cut_tick : (s : Status) (ends : (r : ℕ) → IsPart (outcomes (course_of (only_begun (r ∷ []) calls out)).events) calls out → Ends s turns (only_begun (r ∷ []) calls out) left)
-      → (r : ℕ) → readings ≡ r ∷ [] → receipts_in calls ≡ [] → IsPart (outcomes_from empty (first_tick r)) calls out → EndsAtOnce s
-  cut_tick s ends r one none part =
-      subst (λ (l : List ℕ). Ends s turns (only_begun l calls out) left × ArePaced l (receipts_in calls) × (length l ≤ turns + 1)) (sym one)
-      (ends r (begun_part r calls out none part), (begun_pace turns r calls none).0, (begun_pace turns r calls none).1)
+  cut_tick : (s : Status) (ends : (r : ℕ) → StopsWith s (outcomes (course_of (only_begun (r ∷ []) calls out)).events) calls out → Ends s turns (only_begun (r ∷ []) calls out) left)
+      → (r : ℕ) → readings ≡ r ∷ [] → receipts_in calls ≡ [] → StopsWith s (outcomes_from empty (first_tick r)) calls out → EndsAtOnce s
+  cut_tick s ends r one none stops =
+      subst (λ (l : List ℕ). Ends s turns (only_begun l calls out) left × ArePaced l (receipts_in calls) × (length l ≤ turns + 1) × (receipts_in calls ≡ [])) (sym one)
+      (ends r (begun_stops s r calls out none stops), (begun_pace turns r calls none).0, (begun_pace turns r calls none).1, none)
 
   pub begun_ends : (s : Status) → IsOfTurns s → IsBegun (Err s) empty stands_for readings calls out → EndsAtOnce s
   begun_ends s only begun = of_turns (λ (x : Status). IsBegun (Err x) empty stands_for readings calls out → EndsAtOnce x) s only
@@ -316,10 +366,11 @@ module _ (turns : ℕ) (left : Option (List ℕ)) (stands_for : World → Type 0
         ),
         subst (λ (l : List ℕ). ArePaced l (receipts_in calls)) (sym none) (ap receipts_in uncalled),
         omega (arith, ap length none),
+        ap receipts_in uncalled,
       ))
-      (λ (r, one, none, part, bad). cut_tick Write (λ r part. record { part = part; good = bad }) r one none part)
-      (λ (r, one, none, part, bad). cut_tick Link (λ r part. (part, bad)) r one none part)
-      (λ (r, one, none, part, bad). cut_tick NoMemory (λ r part. record { part = part; good = bad }) r one none part)
+      (λ (r, one, none, stops). cut_tick Write (λ r (part, good). record { part = part; good = good }) r one none stops)
+      (λ (r, one, none, stops). cut_tick Link (λ r cut. inr cut) r one none stops)
+      (λ (r, one, none, stops). cut_tick NoMemory (λ r (part, good). record { part = part; good = good }) r one none stops)
       begun
 
 -- the first line comes next
@@ -341,6 +392,7 @@ begins_so old now turns began stands_for readings calls out took wrote called re
   size = refl;
   room = refl;
   within = omega arith;
+  in_order = λ rest o. order_none (outcomes_at rest (readings ++ o.readings) o.draws) calls none;
 }
 
 -- the same of an equal reading

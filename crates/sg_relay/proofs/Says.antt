@@ -1,8 +1,8 @@
 -- What a line of a relay makes of what was taken of the outside.
-use Rattle.std.proofs.Common.{◌≡◌, ◌⊎◌, ◌≤◌, ◌+◌, ℕ, List, [], ◌∷◌, length, Option, Some, None, Result, Ok, Err, refl, sym, ap, ap₂, ◌∙◌, subst, inl, inr, arith}
+use Rattle.std.proofs.Common.{◌≡◌, ℕ, List, [], ◌∷◌, ◌++◌, length, Option, Some, None, Result, Ok, Err, refl, sym, ap, ap₂, ◌∙◌, subst, inl, inr, arith}
 use Rattle.std.specs.Prelude.{IfErr}
 use Rattle.std.proofs.lemmas.List.{append-nil}
-use Rattle.sg_course.specs.Course.{Command, Course, ForReading, Later, Outside, Relays, Replays, arrivals_of, handled, handled_as, moment_of, said, said_by, wait_in, waited, with_events}
+use Rattle.sg_course.specs.Course.{Command, ForReading, ForReceive, Later, Outside, Relays, Replays, Stop, arrivals_of, handled, handled_as, moment_of, said, said_by, wait_in, waited, with_events}
 use Rattle.sg_course.specs.Supplying.{IsSupplied}
 use Rattle.sg_course.specs.declared.status.Status.{Status}
 use Rattle.sg_course.specs.declared.status.Status.TheVariants.{Done, Usage, Script, Read, Write, Link, NoMemory, Clock, Noise, TurnsSpent}
@@ -12,15 +12,17 @@ use Rattle.sg_gateway.specs.Events.{events_of, events_of_signal, outcomes_from}
 use Rattle.sg_gateway.specs.Step.{Event}
 use Rattle.sg_gateway.specs.World.{World}
 use Rattle.sg_lines.specs.LineText.{FitsLine}
+use Rattle.sg_outcome.specs.declared.outcomes.Outcome.{Outcome}
 use Rattle.sg_lines.specs.declared.lines.Line.{Line}
 use Rattle.sg_lines.specs.declared.lines.Line.TheVariants as lines
 use Rattle.sg_lines.specs.declared.lines.Signal.{Signal}
 use Rattle.sg_lines.specs.declared.lines.Signal.TheVariants.{Tick, Psk, Manual, OfferSecure, OfferSdes, OfferMikey, Answer, Reject, Bye}
 use Rattle.sg_table.specs.Telling.{IsTimely}
-use Rattle.sg_relay.specs.Asked.{IsPart, receipts_in}
+use Rattle.sg_relay.specs.Asked.{AreInOrder, receipts_in}
 use Rattle.sg_relay.specs.Causes.{IsOfOutcomes, IsOfSignals, IsOfWaits}
-use Rattle.sg_relay.specs.Parts.{AreHandled, FitsRelay, IsAtReading, IsBad, IsBegun, IsSaid, IsStopped, IsWaited, taken, taking}
+use Rattle.sg_relay.specs.Parts.{AreHandled, FitsRelay, IsBegun, IsLineCut, IsLineInOrder, IsSaid, IsStopped, IsWaitCut, IsWaitInOrder, IsWaited, IsWaiting, StopsWith, taken, taking}
 use Rattle.sg_relay.proofs.Deeds.{done_none}
+use Rattle.sg_relay.proofs.Order.{order_none}
 use Rattle.sg_relay.proofs.Waits.{of_outcomes, of_signals, of_turns}
 
 -- ---- a `tick` line
@@ -28,31 +30,33 @@ use Rattle.sg_relay.proofs.Waits.{of_outcomes, of_signals, of_turns}
 said_wait : (k : Command) (l : Line) (until : ℕ) → wait_in k l ≡ Some until → (later : Later) (top : ℕ) (o : Outside) → said k l later top o ≡ waited until later top o.readings o.receipts o.draws
 said_wait k l until is later top o = ap (λ (w : Option ℕ). said_by l w later top o) is
 
+-- a line at which a wait stops
+waiting_so : (k : Command) (l : Line) (until : ℕ) (w : World) (top : ℕ) (readings : List ℕ) (out : List ℕ) → wait_in k l ≡ Some until → (stop : Stop) (calls : List LinkCall)
+    → IsWaiting stop until w top readings calls out → IsStopped k l w top stop readings calls [] out
+waiting_so k l until w top readings out is stop calls at = record { events = at.events; stops = λ later. said_wait k l until is later top _ ∙ at.stops later []; done = at.done; good = at.good }
+
 module _ (k : Command) (l : Line) (until : ℕ) (w : World) (top top' turns turns' : ℕ) (stands_for : World → Type 0) (readings : List ℕ) (calls : List LinkCall) (out : List ℕ)
     (is : wait_in k l ≡ Some until) where
-  at_reading : IsAtReading until w top readings calls out → IsStopped k l w top ForReading readings calls [] out
-  at_reading at = record { events = at.events; stops = λ later. said_wait k l until is later top _ ∙ at.stops later []; done = at.done; good = at.good; paced = at.paced }
+  at_stop : (stop : Stop) (calls : List LinkCall) → IsWaiting stop until w top readings calls out → IsStopped k l w top stop readings calls [] out
+  at_stop stop calls at = waiting_so k l until w top readings out is stop calls at
 
-  cut_so : (s : Status)
-      → (events : List Event)
-      × ((later : Later) (draws : List ℕ) → (rest : Course) × (waited until later top readings (receipts_in calls) draws ≡ with_events events rest))
-      × IsPart (outcomes_from w events) calls out × IsBad s calls
-      × ((length readings ≡ length (receipts_in calls)) ⊎ (length readings ≡ length (receipts_in calls) + 1)) × (length readings ≤ turns)
-      → (events : List Event)
-      × ((later : Later) → (rest : Course) × (said k l later top (taken readings (receipts_in calls) []) ≡ with_events events rest))
-      × IsPart (outcomes_from w events) calls out × IsBad s calls
-      × ((length readings ≡ length (receipts_in calls)) ⊎ (length readings ≡ length (receipts_in calls) + 1)) × (length readings ≤ turns)
-  cut_so s (es, rest, part, bad, paced, few) = (es, (λ later. ((rest later []).0, said_wait k l until is later top _ ∙ (rest later []).1)), part, bad, paced, few)
+  cut_so : (s : Status) → IsWaitCut s until w top readings calls out → IsLineCut s k l w top readings calls [] out
+  cut_so s (es, rest, stops, pairs) = (es, (λ later. ((rest later []).0, said_wait k l until is later top _ ∙ (rest later []).1)), stops, pairs)
+
+  cut_link : (T : Type 0) → IsWaited (Err Link) until w top top' turns turns' stands_for readings calls out
+      → (let r : Result T Status = Err Link in IsSaid r k l w top top' turns turns' stands_for readings calls [] out)
+  cut_link T (inl ((before, failed, at), paced), few) = (inl ((before, failed, at_stop ForReceive before at), paced), few)
+  cut_link T (inr cut, few) = (inr (cut_so Link cut), few)
 
   -- the wait was cut
   wait_cut : (T : Type 0) (s : Status) → IsOfWaits s → IsWaited (Err s) until w top top' turns turns' stands_for readings calls out
       → (let r : Result T Status = Err s in IsSaid r k l w top top' turns turns' stands_for readings calls [] out)
   wait_cut T s (inl same) waited = subst
       (λ (x : Status). IsWaited (Err x) until w top top' turns turns' stands_for readings calls out → (let r : Result T Status = Err x in IsSaid r k l w top top' turns turns' stands_for readings calls [] out))
-      (sym same) (λ (at, all). (at_reading at, all)) waited
+      (sym same) (λ (at, paced, all). (at_stop ForReading calls at, paced, all)) waited
   wait_cut T s (inr only) waited = of_turns
       (λ (x : Status). IsWaited (Err x) until w top top' turns turns' stands_for readings calls out → (let r : Result T Status = Err x in IsSaid r k l w top top' turns turns' stands_for readings calls [] out))
-      s only (λ (at, few). (at_reading at, few)) (cut_so Write) (cut_so Link) (cut_so NoMemory) waited
+      s only (λ (at, paced, few). (at_stop ForReading calls at, paced, few)) (λ (cut, few). (cut_so Write cut, few)) (cut_link T) (λ (cut, few). (cut_so NoMemory cut, few)) waited
 
   -- a wait at a line
   pub wait_said : (r : Result (List ℕ) Status) → ((s : Status) → r ≡ Err s → IsOfWaits s) → IsWaited r until w top top' turns turns' stands_for readings calls out
@@ -60,6 +64,15 @@ module _ (k : Command) (l : Line) (until : ℕ) (w : World) (top top' turns turn
   wait_said (Ok pad) only (es, goes, done, good, stands, paced, counted) =
       (es, (λ later o. said_wait k l until is later top _ ∙ goes later o.readings o.receipts o.draws), done, good, stands, paced, counted)
   wait_said (Err s) only waited = wait_cut (List ℕ) s (only s refl) waited
+
+  -- its calls are in order
+  pub wait_line_order : IsWaitInOrder until w top readings calls → IsLineInOrder k l w top readings calls []
+  wait_line_order order later o = subst (λ (f : List Received → List Outcome). AreInOrder f calls)
+      (λ i xs. outcomes_from w (sym (said_wait k l until is later top (taken (readings ++ o.readings) xs o.draws)) i).events) (order later o.readings o.draws)
+
+-- a line without a receive
+pub unreceived_order : (k : Command) (l : Line) (w : World) (top : ℕ) (readings : List ℕ) (calls : List LinkCall) (draws : List ℕ) → receipts_in calls ≡ [] → IsLineInOrder k l w top readings calls draws
+unreceived_order k l w top readings calls draws none = λ later o. order_none (λ receipts. outcomes_from w (said k l later top (taken (readings ++ o.readings) receipts (draws ++ o.draws))).events) calls none
 
 -- ---- another line
 
@@ -83,8 +96,8 @@ undrawn_said T k signal w top turns stands_for draws is (none, lacks) = (
         ∙ said_other k (lines.Signal signal) is later top (taken [] [] []) ∙ ap (λ found. handled_as found later top (taken [] [] [])) lacks;
     done = done_none;
     good = tt;
-    paced = refl;
   },
+  refl,
   omega arith,
 )
 
@@ -103,19 +116,15 @@ unsupplied_said T k signal w top turns stands_for draws TurnsSpent is lacks = ab
 
 module _ (k : Command) (l : Line) (w : World) (es : List Event) (top turns : ℕ) (stands_for : World → Type 0) (calls : List LinkCall) (draws out : List ℕ)
     (says : (later : Later) (o : Outside) → said k l later top (taking [] [] draws o) ≡ with_events es (later top o)) where
-  cut_line : (s : Status) → IsPart (outcomes_from w es) calls out × IsBad s calls × (receipts_in calls ≡ [])
-      → (events : List Event) × ((later : Later) → (rest : Course) × (said k l later top (taken [] (receipts_in calls) draws) ≡ with_events events rest))
-      × IsPart (outcomes_from w events) calls out × IsBad s calls × ((0 ≡ length (receipts_in calls)) ⊎ (0 ≡ length (receipts_in calls) + 1)) × (0 ≤ turns)
-  cut_line s (part, bad, none) = (
+  cut_line : (s : Status) → StopsWith s (outcomes_from w es) calls out × (receipts_in calls ≡ []) → IsLineCut s k l w top [] calls draws out
+  cut_line s (stops, none) = (
     es,
     (λ later. (
       later top (taken [] [] []),
       ap₂ (λ (xs : List Received) (d : List ℕ). said k l later top (taken [] xs d)) none (sym (append-nil draws)) ∙ says later (taken [] [] []),
     )),
-    part,
-    bad,
+    stops,
     inl (sym (ap length none)),
-    omega arith,
   )
 
   -- a line's events were handled, or a front was done
@@ -131,8 +140,8 @@ module _ (k : Command) (l : Line) (w : World) (es : List Event) (top turns : ℕ
     omega arith,
   )
   handled_said {T} (Err s) only handled = of_outcomes
-      (λ (x : Status). IsPart (outcomes_from w es) calls out × IsBad x calls × (receipts_in calls ≡ []) → (let r : Result T Status = Err x in IsSaid r k l w top top turns turns stands_for [] calls draws out))
-      s (only s refl) (cut_line Write) (cut_line Link) (cut_line NoMemory) handled
+      (λ (x : Status). StopsWith x (outcomes_from w es) calls out × (receipts_in calls ≡ []) → (let r : Result T Status = Err x in IsSaid r k l w top top turns turns stands_for [] calls draws out))
+      s (only s refl) (λ cut. (cut_line Write cut, omega arith)) (λ cut. (inr (cut_line Link cut), omega arith)) (λ cut. (cut_line NoMemory cut, omega arith)) handled
 
 -- a signal was handled
 pub signal_said : {T : Type 0} (r : Result T Status) (k : Command) (signal s : Signal) (w : World) (top turns : ℕ) (stands_for : World → Type 0) (calls : List LinkCall) (draws out : List ℕ)
@@ -192,10 +201,10 @@ only_at P (Err t) all s is = subst P (let e : Err t ≡ Err s = is in cc) all
 -- ---- the first reading
 
 pub cut_begun : (s : Status) (w : World) (stands_for : World → Type 0) (r : ℕ) (calls : List LinkCall) (out : List ℕ) → IsOfOutcomes s
-    → IsPart (outcomes_from w (events_of (lines.Signal (Tick (moment_of r))))) calls out × IsBad s calls × (receipts_in calls ≡ []) → IsBegun (Err s) w stands_for (r ∷ []) calls out
+    → StopsWith s (outcomes_from w (events_of (lines.Signal (Tick (moment_of r))))) calls out × (receipts_in calls ≡ []) → IsBegun (Err s) w stands_for (r ∷ []) calls out
 cut_begun s w stands_for r calls out only = of_outcomes
-    (λ (x : Status). IsPart (outcomes_from w (events_of (lines.Signal (Tick (moment_of r))))) calls out × IsBad x calls × (receipts_in calls ≡ []) → IsBegun (Err x) w stands_for (r ∷ []) calls out)
-    s only (λ (part, bad, none). (r, refl, none, part, bad)) (λ (part, bad, none). (r, refl, none, part, bad)) (λ (part, bad, none). (r, refl, none, part, bad))
+    (λ (x : Status). StopsWith x (outcomes_from w (events_of (lines.Signal (Tick (moment_of r))))) calls out × (receipts_in calls ≡ []) → IsBegun (Err x) w stands_for (r ∷ []) calls out)
+    s only (λ (stops, none). (r, refl, none, stops)) (λ (stops, none). (r, refl, none, stops)) (λ (stops, none). (r, refl, none, stops))
 
 -- ---- a line that was read
 

@@ -7,17 +7,18 @@ use Rattle.sg_course.proofs.Courses.{outcomes_from-append, with_events_again, wo
 use Rattle.sg_course.specs.Course.{Course, ForReading, ForReceive, Later, arrivals_of, moment_of, stopped, ticks_of, waited, with_events}
 use Rattle.sg_course.specs.declared.status.Status.{Status}
 use Rattle.sg_course.specs.declared.status.Status.TheVariants.{Write, Link, NoMemory, Clock, Noise}
-use Rattle.sg_edge.specs.Links.{LinkCall, Received}
+use Rattle.sg_edge.specs.Links.{Failing, LinkCall, Received}
 use Rattle.sg_edge.specs.Links as links
 use Rattle.sg_gateway.specs.Events.{outcomes_from}
 use Rattle.sg_gateway.specs.Runs.{world_after}
 use Rattle.sg_gateway.specs.Step.{Event}
 use Rattle.sg_gateway.specs.World.{World}
 use Rattle.sg_outcome.specs.declared.outcomes.Outcome.{Outcome}
-use Rattle.sg_relay.specs.Asked.{AreGood, IsDone, IsGood, IsPart, receipt_in, receipts_in}
+use Rattle.sg_relay.specs.Asked.{AreGood, AreInOrder, AtFailedReceive, IsDone, IsGood, receipt_in, receipts_in}
 use Rattle.sg_relay.specs.Causes.{IsOfOutcomes, IsOfSignals, IsOfTurns}
-use Rattle.sg_relay.specs.Parts.{AreHandled, IsAtReading, IsBad, IsReceived, IsTurn, IsWaited, turned}
-use Rattle.sg_relay.proofs.Deeds.{AreGood-append, IsBad-after, done_more, flat_append, part_after}
+use Rattle.sg_relay.specs.Parts.{AreHandled, IsReceived, IsTurn, IsTurnCut, IsTurnInOrder, IsTurnUnreceived, IsWaitCut, IsWaitInOrder, IsWaited, IsWaiting, StopsWith, turned}
+use Rattle.sg_relay.proofs.Deeds.{AreGood-append, done_more, flat_append, stops_after}
+use Rattle.sg_relay.proofs.Order.{order_as, order_more, order_none}
 
 -- what holds of each status of outcomes holds of one that is such
 pub of_outcomes : (P : Status → Type 0) (s : Status) → IsOfOutcomes s → P Write → P Link → P NoMemory → P s
@@ -48,36 +49,41 @@ received_more (Ok u) w stands_for x calls out good handled = (
   (good, handled.1),
   handled.3,
 )
-received_more (Err s) w stands_for x calls out good handled = (
-  ap (λ l. x ∷ l) handled.2,
-  part_after [] (outcomes_from w (arrivals_of x)) (links.Receive x ∷ []) calls [] out (received_none x) handled.0,
-  IsBad-after s (links.Receive x ∷ []) calls (good, tt) handled.1,
+received_more (Err s) w stands_for x calls out good handled = inr (
+  ap (λ l. x ∷ l) handled.1,
+  stops_after s [] (outcomes_from w (arrivals_of x)) (links.Receive x ∷ []) calls [] out (received_none x) (good, tt) handled.0,
 )
 
 -- ---- a turn
 
--- a turn that was cut, for another reason than the clock
-abbrev pub IsCut : Status → World → ℕ → List ℕ → List LinkCall → List ℕ → Type 0
-IsCut s w top readings calls out =
-    (r : ℕ) × (xs : List Received) × (readings ≡ r ∷ []) × (receipts_in calls ≡ xs) × (length xs ≤ 1) × IsPart (outcomes_from w (turned top r xs)) calls out × IsBad s calls
-
 pub cut_turn : (s : Status) (w : World) (top top' : ℕ) (stands_for : World → Type 0) (readings : List ℕ) (calls : List LinkCall) (out : List ℕ)
-    → IsOfOutcomes s → IsCut s w top readings calls out → IsTurn (Err s) w top top' stands_for readings calls out
+    → IsOfOutcomes s → IsTurnCut s w top readings calls out → IsTurn (Err s) w top top' stands_for readings calls out
 cut_turn s w top top' stands_for readings calls out only =
-    of_outcomes (λ (x : Status). IsCut x w top readings calls out → IsTurn (Err x) w top top' stands_for readings calls out) s only (λ cut. cut) (λ cut. cut) (λ cut. cut)
+    of_outcomes (λ (x : Status). IsTurnCut x w top readings calls out → IsTurn (Err x) w top top' stands_for readings calls out) s only (λ cut. cut) (λ cut. inr cut) (λ cut. cut)
 
 -- a turn that was cut in its receive
-pub cut_received : (T : Type 0) (s : Status) (w : World) (top r : ℕ) (x : Received) (stands_for stands_for' : World → Type 0) (a b : List LinkCall) (o p : List ℕ)
-    → AreHandled {T = Unit {0}} (Ok tt) w (ticks_of top r) stands_for a o → (let q : Result T Status = Err s in IsReceived q (world_after w (ticks_of top r)) stands_for' x b p) → IsCut s w top (r ∷ []) (a ++ b) (o ++ p)
-cut_received T s w top r x stands_for stands_for' a b o p ticked received = (
+pub cut_received : (T : Type 0) (s : Status) (w : World) (top top' r : ℕ) (x : Received) (stands_for stands_for' : World → Type 0) (a b : List LinkCall) (o p : List ℕ)
+    → IsOfOutcomes s → AreHandled {T = Unit {0}} (Ok tt) w (ticks_of top r) stands_for a o → (let q : Result T Status = Err s in IsReceived q (world_after w (ticks_of top r)) stands_for' x b p)
+    → IsTurn (Err s) w top top' stands_for' (r ∷ []) (a ++ b) (o ++ p)
+cut_received T s w top top' r x stands_for stands_for' a b o p only ticked (inl (is, failed, unwritten)) =
+    subst (λ (m : Status). IsTurn (Err m) w top top' stands_for' (r ∷ []) (a ++ b) (o ++ p)) (sym is)
+    (inl (
+      r,
+      refl,
+      (
+        a,
+        ap (λ (l : List LinkCall). a ++ l) failed,
+        (ticked.2, subst (λ (l : List ℕ). IsDone (outcomes_from w (ticks_of top r)) a l) (sym (ap (λ (l : List ℕ). o ++ l) unwritten ∙ append-nil o)) ticked.0, ticked.1),
+      ),
+    ))
+cut_received T s w top top' r x stands_for stands_for' a b o p only ticked (inr (come, stops)) = cut_turn s w top top' stands_for' (r ∷ []) (a ++ b) (o ++ p) only (
   r,
   x ∷ [],
   refl,
-  flat_append receipt_in a b ∙ ap₂ (λ (l m : List Received). l ++ m) ticked.2 received.0,
+  flat_append receipt_in a b ∙ ap₂ (λ (l m : List Received). l ++ m) ticked.2 come,
   omega arith,
-  subst (λ (os : List Outcome). IsPart os (a ++ b) (o ++ p)) (sym (outcomes_from-append w (ticks_of top r) (arrivals_of x)))
-      (part_after (outcomes_from w (ticks_of top r)) (outcomes_from (world_after w (ticks_of top r)) (arrivals_of x)) a b o p ticked.0 received.1),
-  IsBad-after s a b ticked.1 received.2,
+  subst (λ (os : List Outcome). StopsWith s os (a ++ b) (o ++ p)) (sym (outcomes_from-append w (ticks_of top r) (arrivals_of x)))
+      (stops_after s (outcomes_from w (ticks_of top r)) (outcomes_from (world_after w (ticks_of top r)) (arrivals_of x)) a b o p ticked.0 ticked.1 stops),
 )
 
 -- a whole turn
@@ -107,6 +113,9 @@ GoesOn until top readings receipts es top' =
 pub goes_none : (until top : ℕ) → GoesOn until top [] [] [] top
 goes_none until top = λ later rs xs draws. refl
 
+pub wait_order_none : (until : ℕ) (w : World) (top : ℕ) → IsWaitInOrder until w top [] []
+wait_order_none until w top = λ later rs draws. order_none (λ xs. outcomes_from w (waited until later top rs xs draws).events) [] refl
+
 module _ (until top : ℕ) (readings : List ℕ) (receipts : List Received) (es : List Event) (top' : ℕ) (goes : GoesOn until top readings receipts es top') where
   -- a whole turn, whatever follows
   whole_turn : (r : ℕ) (x : Received) (later : Later) (rs : List ℕ) (xs : List Received) (draws : List ℕ)
@@ -130,6 +139,12 @@ module _ (until top : ℕ) (readings : List ℕ) (receipts : List Received) (es 
   pub at_reading : (later : Later) (draws : List ℕ) → waited until later top readings receipts draws ≡ with_events es (stopped ForReading (record { readings = []; receipts = []; draws = draws }))
   at_reading later draws = ap₂ (λ (l : List ℕ) (m : List Received). waited until later top l m draws) (sym (append-nil readings)) (sym (append-nil receipts)) ∙ goes later [] [] draws
 
+  pub receive_next : (r : ℕ) (later : Later) (draws : List ℕ)
+      → waited until later top (readings ++ r ∷ []) receipts draws ≡ with_events (es ++ ticks_of top' r) (stopped ForReceive (record { readings = []; receipts = []; draws = draws }))
+  receive_next r later draws =
+      ap (λ (m : List Received). waited until later top (readings ++ r ∷ []) m draws) (sym (append-nil receipts)) ∙ goes later (r ∷ []) [] draws
+      ∙ with_events_again es (ticks_of top' r) (stopped ForReceive (record { readings = []; receipts = []; draws = draws }))
+
   pub in_turn : (r : ℕ) (xs : List Received) → length xs ≤ 1 → (later : Later) (draws : List ℕ)
       → (rest : Course) × (waited until later top (readings ++ r ∷ []) (receipts ++ xs) draws ≡ with_events (es ++ turned top' r xs) rest)
   in_turn r [] one later draws = (
@@ -143,14 +158,16 @@ module _ (until top : ℕ) (readings : List ℕ) (receipts : List Received) (es 
 
   module _ (w : World) (calls : List LinkCall) (out : List ℕ) (is : receipts_in calls ≡ receipts) (done : IsDone (outcomes_from w es) calls out) (good : AreGood calls)
       (paced : length readings ≡ length receipts) (turns turns' : ℕ) (counted : length readings + turns' ≡ turns) where
-    pub reading_next : IsAtReading until w top readings calls out
-    reading_next = record {
-      events = es;
-      stops = λ later draws. ap (λ (m : List Received). waited until later top readings m draws) is ∙ at_reading later draws;
-      done = done;
-      good = good;
-      paced = paced ∙ ap length (sym is);
-    }
+    pub reading_next : IsWaiting ForReading until w top readings calls out × (length readings ≡ length (receipts_in calls))
+    reading_next = (
+      record {
+        events = es;
+        stops = λ later draws. ap (λ (m : List Received). waited until later top readings m draws) is ∙ at_reading later draws;
+        done = done;
+        good = good;
+      },
+      paced ∙ ap length (sym is),
+    )
 
     module _ (readings' : List ℕ) (calls' : List LinkCall) (out' : List ℕ) where
       receipts_are : receipts_in (calls ++ calls') ≡ receipts ++ receipts_in calls'
@@ -162,41 +179,75 @@ module _ (until top : ℕ) (readings : List ℕ) (receipts : List Received) (es 
       pace (x ∷ []) one size more = inl (omega (arith, paced, size, more))
       pace (x ∷ y ∷ xs) one size more = absurd (omega (arith, one))
 
-      cut_so : (s : Status) → 0 < turns' → IsCut s (world_after w es) top' readings' calls' out'
-          → (events : List Event)
-          × ((later : Later) (draws : List ℕ) → (rest : Course) × (waited until later top (readings ++ readings') (receipts_in (calls ++ calls')) draws ≡ with_events events rest))
-          × IsPart (outcomes_from w events) (calls ++ calls') (out ++ out') × IsBad s (calls ++ calls')
-          × ((length (readings ++ readings') ≡ length (receipts_in (calls ++ calls'))) ⊎ (length (readings ++ readings') ≡ length (receipts_in (calls ++ calls')) + 1)) × (length (readings ++ readings') ≤ turns)
-      cut_so s left (r, xs, one, come, few, part, bad) =
+      cut_so : (s : Status) → 0 < turns' → IsTurnCut s (world_after w es) top' readings' calls' out'
+          → IsWaitCut s until w top (readings ++ readings') (calls ++ calls') (out ++ out') × (length (readings ++ readings') ≤ turns)
+      cut_so s left (r, xs, one, come, few, stops) =
           let all : receipts_in (calls ++ calls') ≡ receipts ++ xs = receipts_are ∙ ap (λ (l : List Received). receipts ++ l) come in
           let size : length (readings ++ readings') ≡ length readings + 1 = length-append readings readings' ∙ ap (λ (l : List ℕ). length readings + length l) one in (
-            es ++ turned top' r xs,
-            (λ later draws.
-                let at = in_turn r xs few later draws in
-                (at.0, ap₂ (λ (l : List ℕ) (m : List Received). waited until later top l m draws) (ap (λ (l : List ℕ). readings ++ l) one) all ∙ at.1)),
-            subst (λ (os : List Outcome). IsPart os (calls ++ calls') (out ++ out')) (sym (outcomes_from-append w es (turned top' r xs)))
-                (part_after (outcomes_from w es) (outcomes_from (world_after w es) (turned top' r xs)) calls calls' out out' done part),
-            IsBad-after s calls calls' good bad,
-            subst (λ (m : List Received). (length (readings ++ readings') ≡ length m) ⊎ (length (readings ++ readings') ≡ length m + 1)) (sym all) (pace xs few size (length-append receipts xs)),
+            (
+              es ++ turned top' r xs,
+              (λ later draws.
+                  let at = in_turn r xs few later draws in
+                  (at.0, ap₂ (λ (l : List ℕ) (m : List Received). waited until later top l m draws) (ap (λ (l : List ℕ). readings ++ l) one) all ∙ at.1)),
+              subst (λ (os : List Outcome). StopsWith s os (calls ++ calls') (out ++ out')) (sym (outcomes_from-append w es (turned top' r xs)))
+                  (stops_after s (outcomes_from w es) (outcomes_from (world_after w es) (turned top' r xs)) calls calls' out out' done good stops),
+              subst (λ (m : List Received). (length (readings ++ readings') ≡ length m) ⊎ (length (readings ++ readings') ≡ length m + 1)) (sym all) (pace xs few size (length-append receipts xs)),
+            ),
             omega (arith, size, counted, left),
           )
 
+      -- the receive of the turn failed
+      unreceived : 0 < turns' → IsTurnUnreceived (world_after w es) top' readings' calls' out'
+          → (AtFailedReceive (λ before. IsWaiting ForReceive until w top (readings ++ readings') before (out ++ out')) (calls ++ calls') × (length (readings ++ readings') ≡ length (receipts_in (calls ++ calls'))))
+          × (length (readings ++ readings') ≤ turns)
+      unreceived left (r, one, (before, failed, (none, done', good'))) =
+          let none_more : receipts_in (calls ++ before) ≡ receipts = flat_append receipt_in calls before ∙ ap₂ (λ (l m : List Received). l ++ m) is none ∙ append-nil receipts in
+          let last : receipts_in calls' ≡ Failing ∷ [] = ap receipts_in failed ∙ flat_append receipt_in before (links.Receive Failing ∷ []) ∙ ap (λ (l : List Received). l ++ (Failing ∷ [])) none in
+          let size : length (readings ++ readings') ≡ length readings + 1 = length-append readings readings' ∙ ap (λ (l : List ℕ). length readings + length l) one in (
+            (
+              (
+                calls ++ before,
+                ap (λ (l : List LinkCall). calls ++ l) failed ∙ sym (append_assoc calls before (links.Receive Failing ∷ [])),
+                record {
+                  events = es ++ ticks_of top' r;
+                  stops = λ later draws.
+                      ap₂ (λ (l : List ℕ) (m : List Received). waited until later top l m draws) (ap (λ (l : List ℕ). readings ++ l) one) none_more ∙ receive_next r later draws;
+                  done = subst (λ (os : List Outcome). IsDone os (calls ++ before) (out ++ out')) (sym (outcomes_from-append w es (ticks_of top' r)))
+                      (done_more (outcomes_from w es) (outcomes_from (world_after w es) (ticks_of top' r)) calls before out out' done done');
+                  good = AreGood-append calls before good good';
+                },
+              ),
+              omega (arith, size, paced, ap length receipts_are, length-append receipts (receipts_in calls'), ap length last),
+            ),
+            omega (arith, size, counted, left),
+          )
+
+      cut_link : 0 < turns' → IsTurnUnreceived (world_after w es) top' readings' calls' out' ⊎ IsTurnCut Link (world_after w es) top' readings' calls' out'
+          → ((AtFailedReceive (λ before. IsWaiting ForReceive until w top (readings ++ readings') before (out ++ out')) (calls ++ calls') × (length (readings ++ readings') ≡ length (receipts_in (calls ++ calls'))))
+          ⊎ IsWaitCut Link until w top (readings ++ readings') (calls ++ calls') (out ++ out')) × (length (readings ++ readings') ≤ turns)
+      cut_link left (inl failed) = let at = unreceived left failed in (inl at.0, at.1)
+      cut_link left (inr cut) = let at = cut_so Link left cut in (inr at.0, at.1)
+
       -- there was no reading
       unread : 0 < turns' → (readings' ≡ []) × (calls' ≡ []) × (out' ≡ [])
-          → IsAtReading until w top (readings ++ readings') (calls ++ calls') (out ++ out') × (length (readings ++ readings') < turns)
-      unread left (none, uncalled, unwritten) = (
-        subst (λ (l : List ℕ). IsAtReading until w top l (calls ++ calls') (out ++ out')) (sym (append-nil readings) ∙ ap (λ (l : List ℕ). readings ++ l) (sym none))
-            (subst (λ (l : List LinkCall). IsAtReading until w top readings l (out ++ out')) (sym (append-nil calls) ∙ ap (λ (l : List LinkCall). calls ++ l) (sym uncalled))
-            (subst (λ (l : List ℕ). IsAtReading until w top readings calls l) (sym (append-nil out) ∙ ap (λ (l : List ℕ). out ++ l) (sym unwritten)) reading_next)),
-        omega (arith, counted, left, length-append readings readings', ap length none),
-      )
+          → IsWaiting ForReading until w top (readings ++ readings') (calls ++ calls') (out ++ out') × (length (readings ++ readings') ≡ length (receipts_in (calls ++ calls')))
+          × (length (readings ++ readings') < turns)
+      unread left (none, uncalled, unwritten) =
+          let same : (readings ++ readings' ≡ readings) = ap (λ (l : List ℕ). readings ++ l) none ∙ append-nil readings in
+          let uncalled_more : (calls ++ calls' ≡ calls) = ap (λ (l : List LinkCall). calls ++ l) uncalled ∙ append-nil calls in (
+            subst (λ (l : List ℕ). IsWaiting ForReading until w top l (calls ++ calls') (out ++ out')) (sym same)
+                (subst (λ (l : List LinkCall). IsWaiting ForReading until w top readings l (out ++ out')) (sym uncalled_more)
+                (subst (λ (l : List ℕ). IsWaiting ForReading until w top readings calls l) (sym (append-nil out) ∙ ap (λ (l : List ℕ). out ++ l) (sym unwritten)) reading_next.0)),
+            ap length same ∙ reading_next.1 ∙ ap (λ (l : List LinkCall). length (receipts_in l)) (sym uncalled_more),
+            omega (arith, counted, left, ap length same),
+          )
 
-      -- a turn that was cut, or for which there was no reading
+      -- a turn that was cut, whose receive failed, or for which there was no reading
       pub cut_wait : (s : Status) (stands_for stands_for' : World → Type 0) (top2 turns2 : ℕ) → IsOfTurns s → 0 < turns' → IsTurn (Err s) (world_after w es) top' top2 stands_for readings' calls' out'
           → IsWaited (Err s) until w top top2 turns turns2 stands_for' (readings ++ readings') (calls ++ calls') (out ++ out')
       cut_wait s stands_for stands_for' top2 turns2 only left = of_turns
           (λ (x : Status). IsTurn (Err x) (world_after w es) top' top2 stands_for readings' calls' out' → IsWaited (Err x) until w top top2 turns turns2 stands_for' (readings ++ readings') (calls ++ calls') (out ++ out'))
-          s only (unread left) (cut_so Write left) (cut_so Link left) (cut_so NoMemory left)
+          s only (unread left) (cut_so Write left) (cut_link left) (cut_so NoMemory left)
 
       -- a whole turn
       all_done : (top2 moment : ℕ) (pad : List ℕ) (stands_for : World → Type 0) (turned : IsTurn (Ok (moment, pad)) (world_after w es) top' top2 stands_for readings' calls' out')
@@ -207,6 +258,26 @@ module _ (until top : ℕ) (readings : List ℕ) (receipts : List Received) (es 
         AreGood-append calls calls' good good',
         subst stands_for (sym (world_after-append w es (ticks_of top' r ++ arrivals_of x))) stands',
       )
+
+      -- the turn's calls by what follows the wait so far
+      rest_order : IsTurnInOrder (world_after w es) top' readings' calls' → (later : Later) (rs draws : List ℕ)
+          → AreInOrder (λ xs. outcomes_from (world_after w es) (waited until later top' (readings' ++ rs) xs draws).events) calls'
+      rest_order (inl none) later rs draws = order_none (λ xs. outcomes_from (world_after w es) (waited until later top' (readings' ++ rs) xs draws).events) calls' (ap receipts_in none)
+      rest_order (inr (r, one, few, order)) later rs draws =
+          order_as (λ xs. outcomes_from (world_after w es) (waited until later top' (readings' ++ rs) xs draws).events) (λ xs. outcomes_from (world_after w es) (turned top' r xs)) calls' few
+          (ap (λ (l : List ℕ). outcomes_from (world_after w es) (waited until later top' (l ++ rs) [] draws).events) one ∙ ap (outcomes_from (world_after w es)) (append-nil (ticks_of top' r)))
+          order
+
+      -- one turn more is in order
+      pub wait_order : IsWaitInOrder until w top readings calls → IsTurnInOrder (world_after w es) top' readings' calls' → IsWaitInOrder until w top (readings ++ readings') (calls ++ calls')
+      wait_order before turn later rs draws =
+          subst (λ (l : List ℕ). AreInOrder (λ xs. outcomes_from w (waited until later top l xs draws).events) (calls ++ calls')) (sym (append_assoc readings readings' rs))
+          (order_more (λ xs. outcomes_from w (waited until later top (readings ++ (readings' ++ rs)) xs draws).events)
+          (λ xs. outcomes_from (world_after w es) (waited until later top' (readings' ++ rs) xs draws).events) (outcomes_from w es) calls calls'
+          (λ xs. ap (λ (c : Course). outcomes_from w c.events)
+          (ap (λ (m : List Received). waited until later top (readings ++ (readings' ++ rs)) (m ++ xs) draws) is ∙ goes later (readings' ++ rs) xs draws)
+          ∙ outcomes_from-append w es (waited until later top' (readings' ++ rs) xs draws).events)
+          done.asked (before later (readings' ++ rs) draws) (rest_order turn later rs draws))
 
       -- the last turn
       pub over_wait : (moment : ℕ) (pad : List ℕ) (top2 turns2 : ℕ) (stands_for : World → Type 0) → until ≤ moment → turns2 + 1 ≡ turns' → IsTurn (Ok (moment, pad)) (world_after w es) top' top2 stands_for readings' calls' out'

@@ -133,3 +133,34 @@ pub record EndsBadly (calls : List LinkCall) : Type 0 where
   pub calls_are : calls ≡ before ++ last ∷ []
   pub good : AreGood before
   pub bad : ¬ IsGood last
+
+-- Some of what the outcome asks for was asked, and the last of these calls failed.
+pub record FailsIn (outcome : Outcome) (calls : List LinkCall) : Type 0 where
+  pub asked : IsPrefixOf (asks_in calls) (asks_of outcome)
+  pub bad : EndsBadly calls
+  pub unsent : sends_in calls ≡ []
+  pub unreceived : receipts_in calls ≡ []
+
+-- The outcomes before the next one are done, and the lines that were written are theirs and no more. The link's calls
+-- are theirs too, and behind them those that the next one asks for, up to one that failed.
+pub record IsCutOff (outcomes : List Outcome) (calls : List LinkCall) (out : List ℕ) : Type 0 where
+  pub done : List Outcome
+  pub next : Outcome
+  pub others : List Outcome
+  pub outcomes_are : outcomes ≡ done ++ next ∷ others
+  pub before : List LinkCall
+  pub last : List LinkCall
+  pub calls_are : calls ≡ before ++ last
+  pub whole : IsDone done before out
+  pub good : AreGood before
+  pub fails : FailsIn next last
+
+-- The last call is a receive that failed, and of the calls before it this holds.
+abbrev pub AtFailedReceive : (List LinkCall → Type 0) → List LinkCall → Type 0
+AtFailedReceive holds calls = (before : List LinkCall) × (calls ≡ before ++ links.Receive Failing ∷ []) × holds before
+
+-- Whenever a receive was asked for, all that these outcomes ask for had been asked, and nothing else: the outcomes by the
+-- receives before it.
+abbrev pub AreInOrder : (List Received → List Outcome) → List LinkCall → Type 0
+AreInOrder outcomes_by calls =
+    (before after : List LinkCall) (x : Received) → calls ≡ before ++ links.Receive x ∷ after → asks_in before ≡ flat_map asks_of (outcomes_by (receipts_in before))

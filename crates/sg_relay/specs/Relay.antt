@@ -4,10 +4,11 @@ use Rattle.sg_base.specs.declared.faults.ScriptFault.TheVariants.{Unended}
 use Rattle.sg_edge.specs.Links.{Added, LinkCall, Received}
 use Rattle.sg_edge.specs.Told.{TookIn, Wrote, AtEnd}
 use Rattle.sg_gateway.specs.Runs.{outcomes}
+use Rattle.sg_outcome.specs.declared.outcomes.Outcome.{Outcome}
 use Rattle.sg_course.specs.declared.status.Status.{Status}
 use Rattle.sg_course.specs.declared.status.Status.TheVariants.{Done, Usage, Script, Read, Write, Link, NoMemory, Clock, Noise, TurnsSpent}
-use Rattle.sg_relay.specs.Asked.{AreGood, EndsBadly, IsDone, IsPart, receipts_in}
-use Rattle.sg_course.specs.Course.{AtEnd as BehindAll, AtFault, Course, ForDraw, ForReading, Outside, woven}
+use Rattle.sg_relay.specs.Asked.{AreGood, AreInOrder, AtFailedReceive, IsCutOff, IsDone, IsPart, receipts_in}
+use Rattle.sg_course.specs.Course.{AtEnd as BehindAll, AtFault, Course, ForDraw, ForReading, ForReceive, Outside, woven}
 
 -- what passed between a run and the outside, each in order: the octets read and those written, the calls of
 -- the link, the readings of the clock and the octets drawn
@@ -21,6 +22,10 @@ pub record Passed : Type 0 where
 -- the course that it makes
 abbrev pub course_of : Passed → Course
 course_of p = woven p.octets p.readings (receipts_in p.calls) p.draws
+
+-- the outcomes of its events, had it received no more than this
+abbrev pub outcomes_by : Passed → List Received → List Outcome
+outcomes_by p receipts = outcomes (woven p.octets p.readings receipts p.draws).events
 
 abbrev pub nothing : Outside
 nothing = record { readings = []; receipts = []; draws = [] }
@@ -42,8 +47,9 @@ pub record IsBroken (p : Passed) : Type 0 where
 -- source is at its end. With Script the lines before the named one are handled, and the named line is the
 -- first outside the grammar, with its first fault, whatever would come behind what was read; Unended comes
 -- only at the source's end. With TurnsSpent all turns were taken, and a `tick` line asks for one more. With
--- Clock a reading comes next, within the turns, with Noise a draw; with Link the link's last call failed. With
--- every other status a front of all was done.
+-- Clock a reading comes next, within the turns, with Noise a draw. With Link the link's last call failed: a receive
+-- comes next, or an outcome whose ports are bound or given up, and all before it was done. With every other status a
+-- front of all was done.
 abbrev pub Ends : Status → ℕ → Passed → Option (List ℕ) → Type 0
 Ends Done turns p left = IsWhole p BehindAll × AtEnd left
 Ends (Script n fault) turns p left =
@@ -52,7 +58,7 @@ Ends (Script n fault) turns p left =
 Ends TurnsSpent turns p left = IsWhole p ForReading × (length p.readings ≡ turns + 1)
 Ends Clock turns p left = IsWhole p ForReading × (length p.readings ≤ turns)
 Ends Noise turns p left = IsWhole p ForDraw
-Ends Link turns p left = IsPart (outcomes (course_of p).events) p.calls p.out × EndsBadly p.calls
+Ends Link turns p left = AtFailedReceive (λ before. IsWhole (record p { calls = before }) ForReceive) p.calls ⊎ IsCutOff (outcomes (course_of p).events) p.calls p.out
 Ends Read turns p left = IsBroken p
 Ends Write turns p left = IsBroken p
 Ends NoMemory turns p left = IsBroken p
@@ -72,7 +78,8 @@ pub record Tellings : Type 0 where
   pub draws : Option (List ℕ)
 
 -- The relay read these octets, of which there are at most 2^30 + 1, wrote those, and made these calls; it took
--- at most so many turns.
+-- at most so many turns. Whenever it asked the link for a receive, it had asked for all that the events up to there ask
+-- for, and for nothing else.
 pub record IsRelay (status : Status) (turns : ℕ) (old new : Tellings) (p : Passed) : Type 0 where
   pub took : TookIn old.left new.left p.octets
   pub wrote : Wrote old.written new.written p.out
@@ -83,3 +90,4 @@ pub record IsRelay (status : Status) (turns : ℕ) (old new : Tellings) (p : Pas
   pub bound : length p.octets ≤ 2 ^ 30 + 1
   pub most : length p.readings ≤ turns + 1
   pub paced : ArePaced p.readings (receipts_in p.calls)
+  pub in_order : AreInOrder (outcomes_by p) p.calls

@@ -6,8 +6,9 @@ ghost use Rattle.sg_edge.specs.Links.{Added, LinkCall};
 ghost use Rattle.sg_edge.specs.Told.{Wrote};
 ghost use Rattle.sg_gateway.specs.World.{World};
 ghost use Rattle.sg_lines.specs.declared.lines.Line.TheVariants as lines;
+ghost use Rattle.sg_relay.specs.Asked.{receipts_in};
 ghost use Rattle.sg_relay.specs.Causes.{IsDueTo, IsDueToLink, IsOfLines, IsOfSignals, IsOfTurns};
-ghost use Rattle.sg_relay.specs.Parts.{FitsRelay, IsBegun, IsSaid};
+ghost use Rattle.sg_relay.specs.Parts.{FitsRelay, IsBegun, IsLineInOrder, IsSaid};
 ghost use Rattle.sg_table.specs.Standing.{TableStandsFor};
 ghost use Rattle.sg_table.specs.Telling.{IsTimely};
 
@@ -44,7 +45,8 @@ fn handle<K: Sink, L: Link, N: Noise>(
     ensures said { (w : World) → TableStandsFor table.old w
         → (calls : List LinkCall) × (draws : List ℕ) × (out : List ℕ)
         × Added (L.told link.old) (L.told link.new) calls × Added (N.given noise.old) (N.given noise.new) draws × Wrote (K.written sink.old) (K.written sink.new) out
-        × ((k : Command) (top turns : ℕ) → wait_in k (lines.Signal signal) ≡ None → IsSaid result k (lines.Signal signal) w top top turns turns (TableStandsFor table.new) [] calls draws out) }
+        × ((k : Command) (top turns : ℕ) → wait_in k (lines.Signal signal) ≡ None → IsSaid result k (lines.Signal signal) w top top turns turns (TableStandsFor table.new) [] calls draws out)
+        × (receipts_in calls ≡ []) }
     ensures only { IfErr result IsOfSignals }
     ensures write { IsDueTo Status.Write result (K.faults sink.old) (K.faults sink.new) (K.failed sink.new) }
     ensures link { IsDueToLink result (L.faults link.old) (L.faults link.new) }
@@ -86,7 +88,8 @@ pub(crate) fn say<K: Sink, L: Link, C: Clock, N: Noise>(
     ensures said { (w : World) → TableStandsFor table.old w
         → (readings : List ℕ) × (calls : List LinkCall) × (draws : List ℕ) × (out : List ℕ)
         × Added (C.given clock.old) (C.given clock.new) readings × Added (L.told link.old) (L.told link.new) calls × Added (N.given noise.old) (N.given noise.new) draws × Wrote (K.written sink.old) (K.written sink.new) out
-        × IsSaid result (Relays began) line w top.old top.new turns.old turns.new (TableStandsFor table.new) readings calls draws out }
+        × IsSaid result (Relays began) line w top.old top.new turns.old turns.new (TableStandsFor table.new) readings calls draws out
+        × IsLineInOrder (Relays began) line w top.old readings calls draws }
     ensures only { IfErr result IsOfLines }
     ensures write { IsDueTo Status.Write result (K.faults sink.old) (K.faults sink.new) (K.failed sink.new) }
     ensures link { IsDueToLink result (L.faults link.old) (L.faults link.new) }

@@ -7,7 +7,7 @@ ghost use Rattle.sg_edge.specs.Told.{Wrote};
 ghost use Rattle.sg_gateway.specs.Events.{events_of_signal, signal_lacks_noise};
 ghost use Rattle.sg_gateway.specs.World.{World};
 ghost use Rattle.sg_relay.specs.Causes.{IsDueTo, IsDueToLink, IsOfOutcomes, IsOfTurns, IsOfWaits};
-ghost use Rattle.sg_relay.specs.Parts.{AreHandled, IsReceived, IsTurn, IsWaited};
+ghost use Rattle.sg_relay.specs.Parts.{AreHandled, IsReceived, IsReceivedFirst, IsTurn, IsTurnInOrder, IsWaitInOrder, IsWaited};
 ghost use Rattle.sg_table.specs.Standing.{TableStandsFor};
 ghost use Rattle.sg_table.specs.Telling.{IsTimely};
 
@@ -101,7 +101,7 @@ fn receive<K: Sink, L: Link>(
 ) -> Result<Pad, Status>
     ensures received { (w : World) → TableStandsFor table.old w
         → (x : Received) × (calls : List LinkCall) × (out : List ℕ) × Added (L.told link.old) (L.told link.new) calls × Wrote (K.written sink.old) (K.written sink.new) out
-        × IsReceived result w (TableStandsFor table.new) x calls out }
+        × IsReceived result w (TableStandsFor table.new) x calls out × IsReceivedFirst x calls }
     ensures only { IfErr result IsOfOutcomes }
     ensures write { IsDueTo Status.Write result (K.faults sink.old) (K.faults sink.new) (K.failed sink.new) }
     ensures link { IsDueToLink result (L.faults link.old) (L.faults link.new) }
@@ -128,7 +128,7 @@ fn turn<K: Sink, L: Link, C: Clock>(
     ensures turned { (w : World) → TableStandsFor table.old w
         → (readings : List ℕ) × (calls : List LinkCall) × (out : List ℕ)
         × Added (C.given clock.old) (C.given clock.new) readings × Added (L.told link.old) (L.told link.new) calls × Wrote (K.written sink.old) (K.written sink.new) out
-        × IsTurn result w top.old top.new (TableStandsFor table.new) readings calls out }
+        × IsTurn result w top.old top.new (TableStandsFor table.new) readings calls out × IsTurnInOrder w top.old readings calls }
     ensures only { IfErr result IsOfTurns }
     ensures write { IsDueTo Status.Write result (K.faults sink.old) (K.faults sink.new) (K.failed sink.new) }
     ensures link { IsDueToLink result (L.faults link.old) (L.faults link.new) }
@@ -164,7 +164,7 @@ pub(crate) fn wait<K: Sink, L: Link, C: Clock>(
     ensures waited { (w : World) → TableStandsFor table.old w
         → (readings : List ℕ) × (calls : List LinkCall) × (out : List ℕ)
         × Added (C.given clock.old) (C.given clock.new) readings × Added (L.told link.old) (L.told link.new) calls × Wrote (K.written sink.old) (K.written sink.new) out
-        × IsWaited result until w top.old top.new turns.old turns.new (TableStandsFor table.new) readings calls out }
+        × IsWaited result until w top.old top.new turns.old turns.new (TableStandsFor table.new) readings calls out × IsWaitInOrder until w top.old readings calls }
     ensures only { IfErr result IsOfWaits }
     ensures write { IsDueTo Status.Write result (K.faults sink.old) (K.faults sink.new) (K.failed sink.new) }
     ensures link { IsDueToLink result (L.faults link.old) (L.faults link.new) }

@@ -1,10 +1,12 @@
-use Rattle.std.proofs.Common.{sym, ap, [], ◌∙◌}
-use Rattle.sg_course.specs.Course.{Relays, wait_in}
+use Rattle.std.proofs.Common.{sym, ap, [], ◌∙◌, refl}
+use Rattle.sg_course.specs.Course.{Relays, arrivals_of, wait_in}
 use Rattle.sg_edge.proofs.Links.{added_none}
+use Rattle.sg_edge.specs.Links.{Came}
 use Rattle.sg_edge.proofs.Passed.{wrote_none}
 use Rattle.sg_table.specs.Standing.{TableStandsFor}
 use Rattle.sg_relay.specs.Causes.{IsOfOutcomes, IsOfWaits}
-use Rattle.sg_relay.proofs.Says.{datagram_said, fits_timely, header_said, only_at, said_as, said_well, wait_said}
+use Rattle.sg_relay.proofs.Deeds.{handled_none}
+use Rattle.sg_relay.proofs.Says.{datagram_said, fits_timely, header_said, only_at, said_as, said_well, unreceived_order, wait_line_order, wait_said}
 use Rattle.sg_relay.proofs.lines.say.Goals as goal
 
 pub returns-in-Some-clause-said : goal.returns-in-Some-clause-said
@@ -20,11 +22,13 @@ returns-in-Some-clause-said g c = λ w stands.
       waited.5,
       wait_said (Relays c.args.began) c.args.line c.in-Some.until w c.args.top.now c.wait.new.top c.args.turns.now c.wait.new.turns (TableStandsFor c.wait.new.table) waited.0 waited.1 waited.2
           (ap (wait_in (Relays c.args.began)) c.in-Signal.is ∙ sym c.in-Some.ensures) c.wait.result (only_at IsOfWaits c.wait.result c.wait.ensures.only) waited.6,
+      wait_line_order (Relays c.args.began) c.args.line c.in-Some.until w c.args.top.now c.wait.new.top c.args.turns.now c.wait.new.turns (TableStandsFor c.wait.new.table) waited.0 waited.1 waited.2
+          (ap (wait_in (Relays c.args.began)) c.in-Signal.is ∙ sym c.in-Some.ensures) waited.7,
     )
 
 pub returns-in-Header-clause-said : goal.returns-in-Header-clause-said
 returns-in-Header-clause-said g c = λ w stands.
-    ([], [], [], [], added_none _, added_none _, added_none _, wrote_none _, header_said c.args.pad (Relays c.args.began) c.args.line c.in-Header.is w c.args.top.now c.args.turns.now (TableStandsFor c.args.table.now) stands)
+    ([], [], [], [], added_none _, added_none _, added_none _, wrote_none _, header_said c.args.pad (Relays c.args.began) c.args.line c.in-Header.is w c.args.top.now c.args.turns.now (TableStandsFor c.args.table.now) stands, unreceived_order (Relays c.args.began) c.args.line w c.args.top.now [] [] [] refl)
 
 pub returns-in-Datagram-clause-said : goal.returns-in-Datagram-clause-said
 returns-in-Datagram-clause-said g c = λ w stands.
@@ -39,6 +43,8 @@ returns-in-Datagram-clause-said g c = λ w stands.
       handled.3,
       datagram_said c.arrive.result (Relays c.args.began) c.args.line c.in-Datagram.port c.in-Datagram.from c.in-Datagram.octets c.filled-pad.result c.in-Datagram.is (c.filled-pad.ensures ∙ c.as_slice.ensures) w c.args.top.now c.args.turns.now
           (TableStandsFor c.arrive.new.table) handled.0 handled.1 (only_at IsOfOutcomes c.arrive.result c.arrive.ensures.only) handled.4,
+      unreceived_order (Relays c.args.began) c.args.line w c.args.top.now [] handled.0 []
+          (handled_none c.arrive.result w (arrivals_of (Came c.in-Datagram.port c.in-Datagram.from c.filled-pad.result)) (TableStandsFor c.arrive.new.table) handled.0 handled.1 handled.4),
     )
 
 pub returns-in-Err-clause-said : goal.returns-in-Err-clause-said
@@ -54,6 +60,7 @@ returns-in-Err-clause-said g c = λ w stands.
       said.5,
       said_as c.in-Err.status (Relays c.args.began) c.args.line c.in-Signal.signal c.in-Signal.is w c.args.top.now c.args.top.now c.args.turns.now c.args.turns.now (TableStandsFor c.handle.new.table) [] said.0 said.1 said.2
           c.in-Err.ensures.only (said.6 (Relays c.args.began) c.args.top.now c.args.turns.now (sym c.in-None.ensures)),
+      unreceived_order (Relays c.args.began) c.args.line w c.args.top.now [] said.0 said.1 said.7,
     )
 
 pub returns-in-Ok-clause-said : goal.returns-in-Ok-clause-said
@@ -69,6 +76,7 @@ returns-in-Ok-clause-said g c = λ w stands.
       said.5,
       said_well c.args.pad (Relays c.args.began) c.args.line c.in-Signal.signal c.in-Signal.is w c.args.top.now c.args.top.now c.args.turns.now c.args.turns.now (TableStandsFor c.handle.new.table) [] said.0 said.1 said.2
           (said.6 (Relays c.args.began) c.args.top.now c.args.turns.now (sym c.in-None.ensures)),
+      unreceived_order (Relays c.args.began) c.args.line w c.args.top.now [] said.0 said.1 said.7,
     )
 
 pub handle-requires : goal.handle-requires

@@ -11,7 +11,8 @@ use Rattle.sg_gateway.specs.Runs.{world_after}
 use Rattle.sg_table.specs.Standing.{TableStandsFor}
 use Rattle.sg_relay.proofs.Blames.{due_so, lines_not_read, turns_not}
 use Rattle.sg_relay.proofs.Complete.{at_once, with_complete}
-use Rattle.sg_relay.proofs.Relays.{after, at_end, at_error, begins_so, begun_ends, behind, cut, ended_in, farther, first_tick, next_at, only_begun, passed, reading_so, with_line}
+use Rattle.sg_relay.proofs.Order.{order_none}
+use Rattle.sg_relay.proofs.Relays.{after, at_end, at_error, begins_so, begun_ends, behind, cut, ended_in, farther, first_tick, next_at, only_begun, outcomes_at, passed, reading_so, with_line}
 use Rattle.sg_relay.proofs.relaying.relay.Goals as goal
 
 -- before anything is done
@@ -37,6 +38,7 @@ returns-in-Err-begin-clause-ran g c =
       bound = omega arith;
       most = ends.2;
       paced = ends.1;
+      in_order = order_none (outcomes_at [] begun.0 []) begun.1 ends.3;
     })
     (λ is. absurd (turns_not Read (λ e. cc) (λ e. cc) (λ e. cc) (λ e. cc) s c.in-Err-begin.ensures.only is)) c.in-Err-begin.ensures.write.rose c.in-Err-begin.ensures.clock.rose
     (λ is. absurd (turns_not Noise (λ e. cc) (λ e. cc) (λ e. cc) (λ e. cc) s c.in-Err-begin.ensures.only is)) c.in-Err-begin.ensures.link.rose
@@ -93,7 +95,8 @@ returns-in-Err-say-clause-ran g c =
     (ended_in _ _ _ _ so_far.0 c.lines.script so_far.1 _ _ so_far.2 (g.S.Source.left c.next.new.source) got.0 got.1 c.in-Ok-Some.line c.next.new.self got.3 is said.0 said.1 said.2 said.3
     s _ refl said.7 said.5 said.4 said.6
     (cut _ _ _ _ so_far.0 c.lines.script so_far.1 _ _ so_far.2 (g.S.Source.left c.next.new.source) got.0 got.1 c.in-Ok-Some.line c.next.new.self got.3 is said.0 said.1 said.2 said.3
-    (List ℕ) s c.say.new.top c.say.new.turns (TableStandsFor c.say.new.table) c.in-Err-say.ensures.only said.8))
+    (List ℕ) s c.say.new.top c.say.new.turns (TableStandsFor c.say.new.table) c.in-Err-say.ensures.only said.8)
+    said.9)
     (λ is. absurd (lines_not_read s c.in-Err-say.ensures.only is))
     (failed_now _ _ _ _ _ c.lines.invariant.4 c.in-Err-say.ensures.write).rose
     (failed_now _ _ _ _ _ c.lines.invariant.6 c.in-Err-say.ensures.clock).rose
@@ -122,7 +125,7 @@ lines-preserved g c =
         after _ _ _ _ so_far.0 c.lines.script so_far.1 _ _ so_far.2 (g.S.Source.left c.next.new.source) got.0 got.1 c.in-Ok-Some.line c.next.new.self got.3 is said.0 said.1 said.2 said.3
             c.in-Ok-say.pad
             (record { left = g.S.Source.left c.next.new.source; written = g.K.Sink.written c.say.new.sink; calls = g.L.Link.told c.say.new.link; readings = g.C.Clock.given c.say.new.clock; draws = g.N.Noise.given c.say.new.noise })
-            c.say.new.top c.say.new.turns (TableStandsFor c.say.new.table) refl said.7 said.5 said.4 said.6 said.8,
+            c.say.new.top c.say.new.turns (TableStandsFor c.say.new.table) refl said.7 said.5 said.4 said.6 said.8 said.9,
         subst (TableStandsFor c.say.new.table) (sym (world_after-append empty so_far.1 said.8.0)) said.8.4,
       ),
       c.lines.invariant.1,

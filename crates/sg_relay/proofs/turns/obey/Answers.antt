@@ -1,5 +1,4 @@
 use Rattle.std.proofs.Common.{[], ◌∙◌, refl}
-use Rattle.sg_course.specs.declared.status.Status.TheVariants.{NoMemory}
 use Rattle.sg_edge.proofs.Links.{added_none}
 use Rattle.sg_edge.proofs.Passed.{wrote_none}
 use Rattle.sg_gateway.specs.Events.{events_of_signal, outcomes_from}
@@ -8,7 +7,7 @@ use Rattle.sg_relay.proofs.Deeds.{handled_told, unhandled}
 use Rattle.sg_relay.proofs.turns.obey.Goals as goal
 
 pub returns-in-Err-clause-handled : goal.returns-in-Err-clause-handled
-returns-in-Err-clause-handled g c = λ w stands. ([], [], added_none _, wrote_none _, unhandled NoMemory w (events_of_signal c.args.signal.now) (TableStandsFor c.step.new.self) tt)
+returns-in-Err-clause-handled g c = λ w stands. ([], [], added_none _, wrote_none _, unhandled w (events_of_signal c.args.signal.now) (TableStandsFor c.step.new.self))
 
 pub returns-in-Ok-clause-handled : goal.returns-in-Ok-clause-handled
 returns-in-Ok-clause-handled g c = λ w stands.

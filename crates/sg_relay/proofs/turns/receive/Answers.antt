@@ -1,10 +1,11 @@
-use Rattle.std.proofs.Common.{[], ◌∷◌, subst, refl}
+use Rattle.std.proofs.Common.{[], ◌∷◌, subst, refl, inl}
 use Rattle.std.specs.Prelude.{Ok}
 use Rattle.sg_edge.specs.Links.{Added, Came, Failing, Nothing, Receive, received}
 use Rattle.sg_edge.proofs.Links.{added_more}
 use Rattle.sg_edge.proofs.Passed.{wrote_none}
+use Rattle.sg_course.specs.Course.{arrivals_of}
 use Rattle.sg_table.specs.Standing.{TableStandsFor}
-use Rattle.sg_relay.proofs.Deeds.{part_of}
+use Rattle.sg_relay.proofs.Deeds.{handled_none}
 use Rattle.sg_relay.proofs.Waits.{received_more, received_none}
 use Rattle.sg_relay.proofs.turns.receive.Goals as goal
 
@@ -15,7 +16,8 @@ returns-in-Err-clause-received g c = λ w stands. (
   [],
   c.in-Err.ensures.told,
   wrote_none _,
-  (refl, part_of [] (Receive Failing ∷ []) [] (received_none Failing), record { before = []; last = Receive Failing; calls_are = refl; good = tt; bad = λ is. is }),
+  inl (refl, refl, refl),
+  ([], refl, refl),
 )
 
 pub returns-in-Ok-Nothing-clause-received : goal.returns-in-Ok-Nothing-clause-received
@@ -26,6 +28,7 @@ returns-in-Ok-Nothing-clause-received g c = λ w stands. (
   subst (λ r. Added (g.L.Link.told c.args.link.now) (g.L.Link.told c.receive.new.self) (Receive (received (Ok r) c.receive.new.pad) ∷ [])) c.in-Ok-Nothing.field-0-is c.in-Ok-Nothing.ensures.told,
   wrote_none _,
   (refl, received_none Nothing, (tt, tt), stands),
+  ([], refl, refl),
 )
 
 pub returns-in-Ok-Got-clause-received : goal.returns-in-Ok-Got-clause-received
@@ -39,4 +42,5 @@ returns-in-Ok-Got-clause-received g c = λ w stands.
           (subst (λ r. Added (g.L.Link.told c.args.link.now) (g.L.Link.told c.receive.new.self) (Receive (received (Ok r) c.receive.new.pad) ∷ [])) c.in-Ok-Got.field-0-is c.in-Ok-Got.ensures.told) handled.2,
       handled.3,
       received_more c.arrive.result w (TableStandsFor c.arrive.new.table) x handled.0 handled.1 tt handled.4,
+      (handled.0, refl, handled_none c.arrive.result w (arrivals_of x) (TableStandsFor c.arrive.new.table) handled.0 handled.1 handled.4),
     )

@@ -7,8 +7,8 @@ use Rattle.sg_edge.proofs.Passed.{wrote_more}
 use Rattle.sg_gateway.specs.Events.{outcomes_from}
 use Rattle.sg_gateway.specs.Runs.{world_after}
 use Rattle.sg_table.specs.Standing.{TableStandsFor}
-use Rattle.sg_relay.specs.Asked.{IsPart}
-use Rattle.sg_relay.specs.Parts.{AreHandled, IsTurn}
+use Rattle.sg_relay.specs.Parts.{AreHandled, IsTurn, StopsWith}
+use Rattle.sg_relay.proofs.Order.{ticked_order, turn_order}
 use Rattle.sg_relay.proofs.Waits.{cut_received, cut_turn, turn_done}
 use Rattle.sg_relay.proofs.turns.turn.Goals as goal
 
@@ -24,7 +24,8 @@ returns-in-Err-tick-clause-turned g c = λ w stands.
       handled.2,
       handled.3,
       cut_turn c.in-Err-tick.status w c.args.top.now c.tick.new.top (TableStandsFor c.tick.new.table) (r ∷ []) handled.0 handled.1 c.in-Err-tick.ensures.only
-          (r, [], refl, handled.4.2, few, subst (λ (m : ℕ). IsPart (outcomes_from w (ticks_at c.args.top.now m)) handled.0 handled.1) c.min-moment.ensures handled.4.0, handled.4.1),
+          (r, [], refl, handled.4.1, few, subst (λ (m : ℕ). StopsWith c.in-Err-tick.status (outcomes_from w (ticks_at c.args.top.now m)) handled.0 handled.1) c.min-moment.ensures handled.4.0),
+      ticked_order w c.args.top.now r handled.0 handled.4.1,
     )
 
 pub returns-in-Err-receive-clause-turned : goal.returns-in-Err-receive-clause-turned
@@ -41,8 +42,9 @@ returns-in-Err-receive-clause-turned g c = λ w stands.
       c.in-Ok.ensures.gave,
       added_more _ _ _ handled.0 received.1 handled.2 received.3,
       wrote_more _ _ _ handled.1 received.2 handled.3 received.4,
-      cut_turn c.in-Err-receive.status w top c.tick.new.top (TableStandsFor c.receive.new.table) (r ∷ []) (handled.0 ++ received.1) (handled.1 ++ received.2) c.in-Err-receive.ensures.only
-          (cut_received (List ℕ) c.in-Err-receive.status w top r received.0 (TableStandsFor c.tick.new.table) (TableStandsFor c.receive.new.table) handled.0 received.1 handled.1 received.2 ticked received.5),
+      cut_received (List ℕ) c.in-Err-receive.status w top c.tick.new.top r received.0 (TableStandsFor c.tick.new.table) (TableStandsFor c.receive.new.table) handled.0 received.1 handled.1 received.2
+          c.in-Err-receive.ensures.only ticked received.5,
+      turn_order w top r received.0 handled.0 received.1 ticked.2 ticked.0.asked received.6,
     )
 
 pub returns-in-Ok-receive-clause-turned : goal.returns-in-Ok-receive-clause-turned
@@ -62,4 +64,5 @@ returns-in-Ok-receive-clause-turned g c = λ w stands.
       subst (λ (m : ℕ). IsTurn (Ok (m, c.in-Ok-receive.pad)) w top c.tick.new.top (TableStandsFor c.receive.new.table) (r ∷ []) (handled.0 ++ received.1) (handled.1 ++ received.2)) (sym c.min-moment.ensures)
           (turn_done c.in-Ok-receive.pad w top c.tick.new.top r received.0 (TableStandsFor c.tick.new.table) (TableStandsFor c.receive.new.table) handled.0 received.1 handled.1 received.2 ticked received.5
           (c.tick.ensures.top ∙ ap (λ (m : ℕ). max top m) c.min-moment.ensures)),
+      turn_order w top r received.0 handled.0 received.1 ticked.2 ticked.0.asked received.6,
     )

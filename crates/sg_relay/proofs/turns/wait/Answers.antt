@@ -5,12 +5,12 @@ use Rattle.sg_gateway.specs.Runs.{world_after}
 use Rattle.sg_table.specs.Standing.{TableStandsFor}
 use Rattle.sg_relay.specs.Asked.{receipts_in}
 use Rattle.sg_relay.proofs.Deeds.{done_none}
-use Rattle.sg_relay.proofs.Waits.{cut_wait, goes_none, over_wait, reading_next, wait_more}
+use Rattle.sg_relay.proofs.Waits.{cut_wait, goes_none, over_wait, reading_next, wait_more, wait_order, wait_order_none}
 use Rattle.sg_relay.proofs.turns.wait.Goals as goal
 
 pub turns-init : goal.turns-init
 turns-init g c = (
-  (λ w stands. ([], [], [], [], added_none _, added_none _, wrote_none _, goes_none c.args.until c.args.top.now, done_none, tt, stands, refl, omega arith)),
+  (λ w stands. ([], [], [], [], added_none _, added_none _, wrote_none _, goes_none c.args.until c.args.top.now, done_none, tt, stands, refl, omega arith, wait_order_none c.args.until w c.args.top.now)),
   search rules,
   search rules,
   search rules,
@@ -28,6 +28,8 @@ returns-in-Err-clause-waited g c = λ w stands.
       wrote_more _ _ _ so_far.2 turned.2 so_far.6 turned.5,
       cut_wait c.args.until c.args.top.now so_far.0 (receipts_in so_far.1) so_far.3 c.turns.top so_far.7 w so_far.1 so_far.2 refl so_far.8 so_far.9 so_far.11 c.args.turns.now c.turns.turns so_far.12
           turned.0 turned.1 turned.2 c.in-Err.status (TableStandsFor c.turn.new.table) (TableStandsFor c.turn.new.table) c.turn.new.top _ c.in-Err.ensures.only c.turns-test.true turned.6,
+      wait_order c.args.until c.args.top.now so_far.0 (receipts_in so_far.1) so_far.3 c.turns.top so_far.7 w so_far.1 so_far.2 refl so_far.8 so_far.9 so_far.11 c.args.turns.now c.turns.turns so_far.12
+          turned.0 turned.1 turned.2 so_far.13 turned.7,
     )
 
 pub returns-then-until-moment-clause-waited : goal.returns-then-until-moment-clause-waited
@@ -42,6 +44,8 @@ returns-then-until-moment-clause-waited g c = λ w stands.
       wrote_more _ _ _ so_far.2 turned.2 so_far.6 turned.5,
       over_wait c.args.until c.args.top.now so_far.0 (receipts_in so_far.1) so_far.3 c.turns.top so_far.7 w so_far.1 so_far.2 refl so_far.8 so_far.9 so_far.11 c.args.turns.now c.turns.turns so_far.12
           turned.0 turned.1 turned.2 c.in-Ok.moment c.in-Ok.back c.turn.new.top (c.turns.turns - 1) (TableStandsFor c.turn.new.table) c.if-until-moment.true (omega (arith, c.turns-test.true)) turned.6,
+      wait_order c.args.until c.args.top.now so_far.0 (receipts_in so_far.1) so_far.3 c.turns.top so_far.7 w so_far.1 so_far.2 refl so_far.8 so_far.9 so_far.11 c.args.turns.now c.turns.turns so_far.12
+          turned.0 turned.1 turned.2 so_far.13 turned.7,
     )
 
 pub turns-preserved : goal.turns-preserved
@@ -64,6 +68,8 @@ turns-preserved g c = (
         more.4,
         more.5,
         more.6,
+        wait_order c.args.until c.args.top.now so_far.0 (receipts_in so_far.1) so_far.3 c.turns.top so_far.7 w so_far.1 so_far.2 refl so_far.8 so_far.9 so_far.11 c.args.turns.now c.turns.turns so_far.12
+            turned.0 turned.1 turned.2 so_far.13 turned.7,
       )),
   c.in-Ok.ensures.write ∙ c.turns.invariant.1,
   omega (arith, c.turns.invariant.2, c.in-Ok.ensures.link),
@@ -72,15 +78,14 @@ turns-preserved g c = (
 
 pub returns-clause-waited : goal.returns-clause-waited
 returns-clause-waited g c = λ w stands.
-    let so_far = c.turns.invariant.0 w stands in (
+    let so_far = c.turns.invariant.0 w stands in
+    let next = reading_next c.args.until c.args.top.now so_far.0 (receipts_in so_far.1) so_far.3 c.turns.top so_far.7 w so_far.1 so_far.2 refl so_far.8 so_far.9 so_far.11 c.args.turns.now c.turns.turns so_far.12 in (
       so_far.0,
       so_far.1,
       so_far.2,
       so_far.4,
       so_far.5,
       so_far.6,
-      (
-        reading_next c.args.until c.args.top.now so_far.0 (receipts_in so_far.1) so_far.3 c.turns.top so_far.7 w so_far.1 so_far.2 refl so_far.8 so_far.9 so_far.11 c.args.turns.now c.turns.turns so_far.12,
-        omega (arith, so_far.12, c.turns-test.false),
-      ),
+      (next.0, next.1, omega (arith, so_far.12, c.turns-test.false)),
+      so_far.13,
     )

@@ -7,6 +7,7 @@ use Rattle.sg_gateway.specs.Step.{Event}
 use Rattle.sg_gateway.specs.World.{World}
 use Rattle.sg_table.specs.Standing.{TableStandsFor}
 use Rattle.sg_relay.specs.Asked.{AreGood, IsDone, receipts_in}
+use Rattle.sg_relay.specs.Parts.{IsWaitInOrder}
 use Rattle.sg_relay.proofs.Waits.{GoesOn}
 use Rattle.sg_relay.proofs.turns.wait.Given as goal
 
@@ -17,7 +18,7 @@ invariant-turns g l =
     × Added (g.C.Clock.given l.fn.clock) (g.C.Clock.given l.clock) readings × Added (g.L.Link.told l.fn.link) (g.L.Link.told l.link) calls × Wrote (g.K.Sink.written l.fn.sink) (g.K.Sink.written l.sink) out
     × GoesOn l.until l.fn.top readings (receipts_in calls) es l.top
     × IsDone (outcomes_from w es) calls out × AreGood calls × TableStandsFor l.table (world_after w es)
-    × (length readings ≡ length (receipts_in calls)) × (length readings + l.turns ≡ l.fn.turns))
+    × (length readings ≡ length (receipts_in calls)) × (length readings + l.turns ≡ l.fn.turns) × IsWaitInOrder l.until w l.fn.top readings calls)
     × (g.K.Sink.faults l.sink ≡ g.K.Sink.faults l.fn.sink) × (g.L.Link.faults l.fn.link ≤ g.L.Link.faults l.link) × (g.C.Clock.faults l.clock ≡ g.C.Clock.faults l.fn.clock)
 
 abbrev pub decreases-turns : goal.decreases-turns
