@@ -1,8 +1,10 @@
+pub mod Alone
 pub mod Answered
 pub mod Answering
 pub mod Batching
 pub mod Delivering
 pub mod Early
+pub mod Ended
 pub mod Ending
 pub mod Found
 pub mod FreeSlot

@@ -9,7 +9,7 @@ ghost use Rattle.sg_leg.specs.Pairs.{EachPair};
 ghost use Rattle.sg_leg.specs.declared.books.Books as declared_books;
 ghost use Rattle.sg_table.specs.Batches.{octets_of, IsBatched};
 ghost use Rattle.sg_table.specs.Octets.{AreOctets};
-ghost use Rattle.sg_table.specs.Orders.{IsBatchedAs};
+ghost use Rattle.sg_table.specs.Orders.{HaveEndedAlone, IsBatchedAs};
 ghost use Rattle.sg_table.specs.Parts.{datagram_of, pushed_at, popped_at, waiting_of, is_taken, handed, all_handed, handled_first, given_back, HaveRoom, AreReady, IsGathered};
 ghost use Rattle.sg_table.specs.Standing.{Stands, TableStandsFor};
 ghost use Rattle.sg_table.specs.Values.{AreIndexed, AreQuiet, AreRising, shapes_of};
@@ -17,7 +17,7 @@ ghost use Rattle.sg_table.specs.declared.arrival.Arrival as declared;
 
 use crate::arrival::Arrival;
 use crate::calls::Calls;
-use crate::laws::every_order_gives_the_same;
+use crate::laws::{every_order_gives_the_same, only_its_own_call_counts};
 use crate::octets::holds_octets;
 use crate::ports::place;
 use crate::table::Table;
@@ -42,8 +42,10 @@ impl Table {
         requires pads { All (λ a. IsSome a.pad) arrivals.old }
         requires workers { 0 < workers }
         ensures batched { (w : World) → TableStandsFor self.old w → IsBatched w arrivals.old arrivals.new self.new }
+        ensures alone { (w : World) → TableStandsFor self.old w → HaveEndedAlone w [] arrivals.old arrivals.new }
         ensures orders { (w : World) (others : List declared.Arrival) → TableStandsFor self.old w → IsBatchedAs w others arrivals.old arrivals.new self.new }
     {
+        only_its_own_call_counts();
         every_order_gives_the_same();
         self.calls.batch(&self.places, rt, arrivals, workers, gate);
     }

@@ -17,7 +17,7 @@ mod table;
 mod told;
 
 pub use arrival::Arrival;
-pub use laws::every_order_gives_the_same;
+pub use laws::{every_order_gives_the_same, only_its_own_call_counts};
 pub use sg_call::{End, Handled};
 pub use table::Table;
 pub use told::Told;
