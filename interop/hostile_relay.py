@@ -34,11 +34,11 @@ from srtp import MasterKey, rtp
 HOST = "127.0.0.1"
 # What is given to a program that no longer answers, and to the whole.
 SECONDS, ALL_SECONDS = 60, 900
-# How many packets may be on their way through a port at once: any buffer holds that many.
+# How many packets may be on their way through a port at once: a buffer holds more.
 WINDOW = 64
 # Datagrams at each of 128 ports; at one port; packets of a call beside a flood, and forged ones that are handled
 # meanwhile; to closed ports; outcomes of each of 64 calls that nobody reads; and packets over a rollover.
-QUEUED, AT_ONE_PORT, TALKED, FORGED, CLOSED, UNREAD, ROLLED = 79, 10_000, 1000, 20_000, 200, 125, 65536
+QUEUED, AT_ONE_PORT, TALKED, FORGED, CLOSED, UNREAD, ROLLED = 79, 10_000, 1000, 200_000, 200, 125, 65536
 
 
 def keys_of(call):
@@ -393,17 +393,20 @@ def reader_that_goes(program):
     return "standard output closed: status 4"
 
 
-def over_a_rollover(program):
-    """2^16 packets each way through a live call, from the middle of one rollover to the middle of the next."""
-    gateway = Gateway(program, 1, rollover=0xFFFF)
-    call, first = gateway.calls[0], 0xFFFF * 65536 + 32768
-    ways = [way(range(first, first + ROLLED)) for way in (call.to_plain, call.to_secure)]
-    gateway.carries(*ways)
-    gateway.write("bye 0")
-    memory, told = gateway.memory(), gateway.ends()
-    assert told == ["ended 0 0 1 bye"], told[:5]
-    assert [way.arrived for way in ways] == [ROLLED, ROLLED]
-    return f"{ROLLED} packets each way of a live call, from rollover ffff to 10000: the same octets, {memory} KiB"
+def over_rollovers(program):
+    """2^16 packets each way through a live call, from the middle of a rollover to the middle of the next: of the first
+    one, and of the last without the counter's highest bit."""
+    window = buffer_of(WINDOW * 4, 26) * 3 // 4
+    for rollover in (0, 0x7FFFFFFF):
+        gateway = Gateway(program, 1, rollover=rollover)
+        call, first = gateway.calls[0], rollover * 65536 + 32768
+        ways = [way(range(first, first + ROLLED), window) for way in (call.to_plain, call.to_secure)]
+        gateway.carries(*ways)
+        gateway.write("bye 0")
+        memory, told = gateway.memory(), gateway.ends()
+        assert told == ["ended 0 0 1 bye"], told[:5]
+        assert [way.arrived for way in ways] == [ROLLED, ROLLED]
+    return f"{ROLLED} packets each way over each of two rollovers of live calls: the same octets, {memory} KiB"
 
 
 # ---- with `paced`
@@ -459,7 +462,7 @@ def rollovers(program):
 
 ALL = (
     queued_before_the_first_turn, queued_at_one_port, flooded, closed_ports, slow_reader, reader_that_goes,
-    over_a_rollover,
+    over_rollovers,
 )
 PACED = (at_a_pace, rollovers)
 
@@ -498,8 +501,8 @@ def main():
     signal.signal(signal.SIGALRM, is_too_long)
     signal.alarm(ALL_SECONDS)
     where = "a loopback of its own" if has_own_loopback() else "the machine's loopback"
-    load = os.getloadavg()[0]
-    print(f"{where}, buffers of {buffer_octets()} octets, {os.cpu_count()} processors, load average {load:.1f}")
+    processors, load = len(os.sched_getaffinity(0)), os.getloadavg()[0]
+    print(f"{where}, buffers of {buffer_octets()} octets, {processors} processors, load average {load:.1f}")
     begun = time.monotonic()
     try:
         for check in ALL + (PACED if sys.argv[2:] == ["paced"] else ()):
