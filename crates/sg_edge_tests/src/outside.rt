@@ -104,63 +104,63 @@ fn one_read<S: Source>(source: &mut S) -> Option<([u8; 4], usize)> {
 fn source_in_memory(rt: HostRuntime) -> Result<(), Fail> {
     let octets = Octets::copy_of(rt.alloc(), b"abcdef")?;
     let mut source = MemSource::make(octets, [2].to_vec(rt.alloc())?);
-    assert_eq!(rt; one_read(&mut source), Some((*b"abcd", 4)));
-    assert_eq!(rt; one_read(&mut source), None);
-    assert_eq!(rt; one_read(&mut source), Some((*b"ef\0\0", 2)));
-    assert_eq!(rt; one_read(&mut source), Some(([0; 4], 0)));
+    assert!(rt; one_read(&mut source) == Some((*b"abcd", 4)));
+    assert!(rt; one_read(&mut source) == None);
+    assert!(rt; one_read(&mut source) == Some((*b"ef\0\0", 2)));
+    assert!(rt; one_read(&mut source) == Some(([0; 4], 0)));
     let octets = Octets::copy_of(rt.alloc(), b"ab")?;
     let mut slow = MemSource::limited(octets, 1, [1, 3].to_vec(rt.alloc())?);
-    assert_eq!(rt; one_read(&mut slow), None);
-    assert_eq!(rt; one_read(&mut slow), Some((*b"a\0\0\0", 1)));
-    assert_eq!(rt; one_read(&mut slow), None);
-    assert_eq!(rt; one_read(&mut slow), Some((*b"b\0\0\0", 1)));
+    assert!(rt; one_read(&mut slow) == None);
+    assert!(rt; one_read(&mut slow) == Some((*b"a\0\0\0", 1)));
+    assert!(rt; one_read(&mut slow) == None);
+    assert!(rt; one_read(&mut slow) == Some((*b"b\0\0\0", 1)));
     Ok(())
 }
 
 #[test]
 fn sink_in_memory(rt: HostRuntime) -> Result<(), Fail> {
     let mut sink = MemSink::make(rt.alloc(), [2].to_vec(rt.alloc())?);
-    assert_eq!(rt; write_all(&mut sink, b"abc"), Ok(()));
-    assert_eq!(rt; write_all(&mut sink, b"def"), Err(Failed));
-    assert_eq!(rt; write_all(&mut sink, b"ghi"), Ok(()));
-    assert_eq!(rt; sink.written(), Some(b"abcghi".as_slice()));
+    assert!(rt; write_all(&mut sink, b"abc") == Ok(()));
+    assert!(rt; write_all(&mut sink, b"def") == Err(Failed));
+    assert!(rt; write_all(&mut sink, b"ghi") == Ok(()));
+    assert!(rt; sink.written() == Some(b"abcghi".as_slice()));
     let mut slow = MemSink::limited(rt.alloc(), 1, [3].to_vec(rt.alloc())?);
-    assert_eq!(rt; write_all(&mut slow, b"abc"), Err(Failed));
-    assert_eq!(rt; slow.written(), Some(b"ab".as_slice()));
-    assert_eq!(rt; slow.write(b"xyz"), Ok(1));
+    assert!(rt; write_all(&mut slow, b"abc") == Err(Failed));
+    assert!(rt; slow.written() == Some(b"ab".as_slice()));
+    assert!(rt; slow.write(b"xyz") == Ok(1));
     Ok(())
 }
 
 #[test]
 fn sure_forms(rt: HostRuntime) -> Result<(), Fail> {
     let mut source = SureSource::make(Octets::copy_of(rt.alloc(), b"abcde")?);
-    assert_eq!(rt; one_read(&mut source), Some((*b"abcd", 4)));
-    assert_eq!(rt; one_read(&mut source), Some((*b"e\0\0\0", 1)));
-    assert_eq!(rt; one_read(&mut source), Some(([0; 4], 0)));
+    assert!(rt; one_read(&mut source) == Some((*b"abcd", 4)));
+    assert!(rt; one_read(&mut source) == Some((*b"e\0\0\0", 1)));
+    assert!(rt; one_read(&mut source) == Some(([0; 4], 0)));
     let mut sink = SureSink::make(rt.alloc());
-    assert_eq!(rt; write_all(&mut sink, b"abc"), Ok(()));
-    assert_eq!(rt; sink.write(b"de"), Ok(2));
-    assert_eq!(rt; sink.written(), Some(b"abcde".as_slice()));
+    assert!(rt; write_all(&mut sink, b"abc") == Ok(()));
+    assert!(rt; sink.write(b"de") == Ok(2));
+    assert!(rt; sink.written() == Some(b"abcde".as_slice()));
     Ok(())
 }
 
 #[test]
 fn forms_of_the_system(rt: HostRuntime) -> Result<(), Fail> {
     let mut source = StdSource::make(b"abcde".as_slice());
-    assert_eq!(rt; one_read(&mut source), Some((*b"abcd", 4)));
-    assert_eq!(rt; one_read(&mut source), Some((*b"e\0\0\0", 1)));
-    assert_eq!(rt; one_read(&mut source), Some(([0; 4], 0)));
+    assert!(rt; one_read(&mut source) == Some((*b"abcd", 4)));
+    assert!(rt; one_read(&mut source) == Some((*b"e\0\0\0", 1)));
+    assert!(rt; one_read(&mut source) == Some(([0; 4], 0)));
     let mut octets = Vec::new(rt.alloc());
     {
         let mut sink = StdSink::make(&mut octets);
-        assert_eq!(rt; write_all(&mut sink, b"abc"), Ok(()));
+        assert!(rt; write_all(&mut sink, b"abc") == Ok(()));
     }
-    assert_eq!(rt; octets.as_slice(), b"abc".as_slice());
+    assert!(rt; octets.as_slice() == b"abc".as_slice());
     let kind = Some(ErrorKind::BrokenPipe);
-    assert_eq!(rt; one_read(&mut StdSource::make(Broken { kind })), None);
+    assert!(rt; one_read(&mut StdSource::make(Broken { kind })) == None);
     for kind in [kind, None] {
         let mut sink = StdSink::make(Broken { kind });
-        assert_eq!(rt; write_all(&mut sink, b"abc"), Err(Failed));
+        assert!(rt; write_all(&mut sink, b"abc") == Err(Failed));
     }
     Ok(())
 }
@@ -173,15 +173,15 @@ fn calls_made_again(rt: HostRuntime) -> Result<(), Fail> {
             calls: 0,
             octets: &mut octets,
         });
-        assert_eq!(rt; write_all(&mut sink, b"abc"), Ok(()));
+        assert!(rt; write_all(&mut sink, b"abc") == Ok(()));
     }
-    assert_eq!(rt; octets.as_slice(), b"abc".as_slice());
+    assert!(rt; octets.as_slice() == b"abc".as_slice());
     let mut source = StdSource::make(Halting {
         calls: 0,
         octets: &mut octets,
     });
-    assert_eq!(rt; one_read(&mut source), Some((*b"c\0\0\0", 1)));
-    assert_eq!(rt; one_read(&mut source), Some((*b"b\0\0\0", 1)));
+    assert!(rt; one_read(&mut source) == Some((*b"c\0\0\0", 1)));
+    assert!(rt; one_read(&mut source) == Some((*b"b\0\0\0", 1)));
     Ok(())
 }
 
@@ -217,19 +217,19 @@ fn sent_at(link: &MemLink, at: usize) -> Option<(u16, Address, bool)> {
 fn link_in_memory(rt: HostRuntime) -> Result<(), Fail> {
     let mut link = MemLink::make(rt.alloc(), receipts(&rt)?, [2, 5, 7].to_vec(rt.alloc())?);
     let mut pad = Pad::make(rt.alloc())?;
-    assert_eq!(rt; link.bind(20000), Ok(()));
-    assert_eq!(rt; link.receive(&mut pad), Err(Failed));
-    assert_eq!(rt; link.receive(&mut pad), got(20000, PEER));
-    assert_eq!(rt; pad.octets(), b"abc".as_slice());
-    assert_eq!(rt; link.receive(&mut pad), Ok(Receipt::Nothing));
-    assert_eq!(rt; link.send(20002, PEER, b"xy"), Err(Failed));
-    assert_eq!(rt; link.send(20002, PEER, b"xy"), Ok(()));
-    assert_eq!(rt; link.unbind(20000), Err(Failed));
-    assert_eq!(rt; link.calls().map(|calls| calls.len()), Some(7));
-    assert_eq!(rt; sent_at(&link, 5), Some((20002, PEER, true)));
-    assert_eq!(rt; link.receive(&mut pad), got(20002, PEER));
-    assert_eq!(rt; pad.octets().len(), PAD_MOST);
-    assert_eq!(rt; link.receive(&mut pad), Ok(Receipt::Nothing));
+    assert!(rt; link.bind(20000) == Ok(()));
+    assert!(rt; link.receive(&mut pad) == Err(Failed));
+    assert!(rt; link.receive(&mut pad) == got(20000, PEER));
+    assert!(rt; pad.octets() == b"abc".as_slice());
+    assert!(rt; link.receive(&mut pad) == Ok(Receipt::Nothing));
+    assert!(rt; link.send(20002, PEER, b"xy") == Err(Failed));
+    assert!(rt; link.send(20002, PEER, b"xy") == Ok(()));
+    assert!(rt; link.unbind(20000) == Err(Failed));
+    assert!(rt; link.calls().map(|calls| calls.len()) == Some(7));
+    assert!(rt; sent_at(&link, 5) == Some((20002, PEER, true)));
+    assert!(rt; link.receive(&mut pad) == got(20002, PEER));
+    assert!(rt; pad.octets().len() == PAD_MOST);
+    assert!(rt; link.receive(&mut pad) == Ok(Receipt::Nothing));
     Ok(())
 }
 
@@ -237,13 +237,13 @@ fn link_in_memory(rt: HostRuntime) -> Result<(), Fail> {
 fn sure_link(rt: HostRuntime) -> Result<(), Fail> {
     let mut link = SureLink::make(rt.alloc(), receipts(&rt)?);
     let mut pad = Pad::make(rt.alloc())?;
-    assert_eq!(rt; link.bind(20000), Ok(()));
-    assert_eq!(rt; link.receive(&mut pad), got(20000, PEER));
-    assert_eq!(rt; link.receive(&mut pad), Ok(Receipt::Nothing));
-    assert_eq!(rt; link.receive(&mut pad), got(20002, PEER));
-    assert_eq!(rt; link.receive(&mut pad), Ok(Receipt::Nothing));
-    assert_eq!(rt; link.send(20002, PEER, b"xy"), Ok(()));
-    assert_eq!(rt; link.unbind(20000), Ok(()));
+    assert!(rt; link.bind(20000) == Ok(()));
+    assert!(rt; link.receive(&mut pad) == got(20000, PEER));
+    assert!(rt; link.receive(&mut pad) == Ok(Receipt::Nothing));
+    assert!(rt; link.receive(&mut pad) == got(20002, PEER));
+    assert!(rt; link.receive(&mut pad) == Ok(Receipt::Nothing));
+    assert!(rt; link.send(20002, PEER, b"xy") == Ok(()));
+    assert!(rt; link.unbind(20000) == Ok(()));
     Ok(())
 }
 
@@ -259,20 +259,20 @@ fn clocks_and_noise_in_memory(rt: HostRuntime) -> Result<(), Fail> {
     let readings = [5, 3].to_vec(rt.alloc())?;
     let mut clock = MemClock::make(readings, [2].to_vec(rt.alloc())?);
     for reading in [Ok(5), Err(Failed), Ok(3), Ok(3)] {
-        assert_eq!(rt; clock.now(), reading);
+        assert!(rt; clock.now() == reading);
     }
     let mut sure = SureClock::make([7].to_vec(rt.alloc())?);
-    assert_eq!(rt; sure.now(), Ok(7));
-    assert_eq!(rt; sure.now(), Ok(7));
-    assert_eq!(rt; SureClock::make(Vec::new(rt.alloc())).now(), Ok(0));
+    assert!(rt; sure.now() == Ok(7));
+    assert!(rt; sure.now() == Ok(7));
+    assert!(rt; SureClock::make(Vec::new(rt.alloc())).now() == Ok(0));
     let octets = Octets::copy_of(rt.alloc(), b"abc")?;
     let mut noise = MemNoise::make(octets, [2].to_vec(rt.alloc())?);
     for drawn in [Some(*b"ab"), None, Some(*b"c\0"), Some([0; 2])] {
-        assert_eq!(rt; one_draw(&mut noise), drawn);
+        assert!(rt; one_draw(&mut noise) == drawn);
     }
     let mut sure = SureNoise::make(Octets::copy_of(rt.alloc(), b"xyz")?);
-    assert_eq!(rt; one_draw(&mut sure), Some(*b"xy"));
-    assert_eq!(rt; one_draw(&mut sure), Some(*b"z\0"));
+    assert!(rt; one_draw(&mut sure) == Some(*b"xy"));
+    assert!(rt; one_draw(&mut sure) == Some(*b"z\0"));
     Ok(())
 }
 
@@ -318,22 +318,19 @@ fn datagrams_of_the_system(rt: HostRuntime) -> Result<(), Fail> {
     let mut pad = Pad::make(rt.alloc())?;
     let near = bind_one(&rt, &mut link)?;
     let far = bind_one(&rt, &mut link)?;
-    assert_eq!(rt; link.receive(&mut pad), Ok(Receipt::Nothing));
+    assert!(rt; link.receive(&mut pad) == Ok(Receipt::Nothing));
     for octets in [b"first".as_slice(), b"", b"third"] {
-        assert_eq!(rt; link.send(near.port, far, octets), Ok(()));
-        assert_eq!(rt; next_receipt(&mut link, &mut pad), got(far.port, near));
-        assert_eq!(rt; pad.octets(), octets);
+        assert!(rt; link.send(near.port, far, octets) == Ok(()));
+        assert!(rt; next_receipt(&mut link, &mut pad) == got(far.port, near));
+        assert!(rt; pad.octets() == octets);
     }
     let (socket, home) = socket_of_its_own(&rt)?;
     let long = vec![in rt.alloc(); 9u8; 65507]?;
     let to = SocketAddr::V4(SocketAddrV4::new(Ipv4Addr::new(127, 0, 0, 1), near.port));
-    assert_eq!(rt; socket.send_to(&long, to)?, 65507);
-    assert_eq!(rt; next_receipt(&mut link, &mut pad), got(near.port, home));
-    assert_eq!(rt;
-        pad.octets(),
-        vec![in rt.alloc(); 9u8; PAD_MOST]?.as_slice()
-    );
-    assert_eq!(rt; link.receive(&mut pad), Ok(Receipt::Nothing));
+    assert!(rt; socket.send_to(&long, to)? == 65507);
+    assert!(rt; next_receipt(&mut link, &mut pad) == got(near.port, home));
+    assert!(rt; pad.octets() == vec![in rt.alloc(); 9u8; PAD_MOST]?.as_slice());
+    assert!(rt; link.receive(&mut pad) == Ok(Receipt::Nothing));
     Ok(())
 }
 
@@ -341,15 +338,15 @@ fn datagrams_of_the_system(rt: HostRuntime) -> Result<(), Fail> {
 fn ports_of_the_system(rt: HostRuntime) -> Result<(), Fail> {
     let mut link = UdpLink::make(rt.alloc(), &rt)?;
     let (_socket, taken) = socket_of_its_own(&rt)?;
-    assert_eq!(rt; link.bind(taken.port), Err(Failed));
+    assert!(rt; link.bind(taken.port) == Err(Failed));
     let home = bind_one(&rt, &mut link)?;
-    assert_eq!(rt; link.bind(home.port), Err(Failed));
-    assert_eq!(rt; link.unbind(home.port), Ok(()));
-    assert_eq!(rt; link.unbind(home.port), Ok(()));
-    assert_eq!(rt; link.send(home.port, taken, b"x"), Err(Failed));
+    assert!(rt; link.bind(home.port) == Err(Failed));
+    assert!(rt; link.unbind(home.port) == Ok(()));
+    assert!(rt; link.unbind(home.port) == Ok(()));
+    assert!(rt; link.send(home.port, taken, b"x") == Err(Failed));
     for _ in 0..1200 {
         let home = bind_one(&rt, &mut link)?;
-        assert_eq!(rt; link.unbind(home.port), Ok(()));
+        assert!(rt; link.unbind(home.port) == Ok(()));
     }
     Ok(())
 }
@@ -370,9 +367,9 @@ fn time_and_noise_of_the_system(rt: HostRuntime) -> Result<(), Fail> {
     assert!(rt; clock.now().unwrap_or(0) > 1_600_000_000_000);
     let mut noise = RngNoise::make(SystemRng(&rt));
     let mut part = [0; 304];
-    assert_eq!(rt; noise.draw(&mut part), Ok(()));
+    assert!(rt; noise.draw(&mut part) == Ok(()));
     assert!(rt; part != [0; 304]);
-    assert_eq!(rt; one_draw(&mut RngNoise::make(SystemRng(Dry))), None);
+    assert!(rt; one_draw(&mut RngNoise::make(SystemRng(Dry))) == None);
     Ok(())
 }
 
@@ -383,7 +380,7 @@ fn other_addresses_are_free(rt: HostRuntime) -> Result<(), Fail> {
     let home = bind_one(&rt, &mut link)?;
     let other = SocketAddr::V4(SocketAddrV4::new(Ipv4Addr::new(127, 0, 0, 2), home.port));
     let socket = UdpSocket::bind(&rt, other)?;
-    assert_eq!(rt; socket.local_addr()?.port(), home.port);
+    assert!(rt; socket.local_addr()?.port() == home.port);
     Ok(())
 }
 
@@ -403,7 +400,7 @@ fn ports_take_turns(rt: HostRuntime) -> Result<(), Fail> {
     let near = bind_one(&rt, &mut link)?;
     let far = bind_one(&rt, &mut link)?;
     for to in [near, near, far, far] {
-        assert_eq!(rt; link.send(near.port, to, b"x"), Ok(()));
+        assert!(rt; link.send(near.port, to, b"x") == Ok(()));
     }
     let first = next_port(&mut link, &mut pad);
     let second = next_port(&mut link, &mut pad);
@@ -419,7 +416,7 @@ fn noise_has_each_place(rt: HostRuntime) -> Result<(), Fail> {
     let mut seen = [0; 304];
     for _ in 0..8 {
         let mut part = [0; 304];
-        assert_eq!(rt; noise.draw(&mut part), Ok(()));
+        assert!(rt; noise.draw(&mut part) == Ok(()));
         for i in 0..304 {
             seen[i] |= part[i];
         }

@@ -79,19 +79,17 @@ fn keys_of_another_program(rt: HostRuntime) -> Result<(), Fail> {
             assert!(rt; has_key(&first, wanted.as_slice()), "{}", row.name);
             let wanted = octets_of(rt.alloc(), row.second)?;
             assert!(rt; has_key(&second, wanted.as_slice()), "{}", row.name);
-            assert_eq!(rt;
-                (first.suite, second.suite),
-                (row.suite, row.suite),
+            assert!(rt;
+                (first.suite, second.suite) == (row.suite, row.suite),
                 "{}",
                 row.name
             );
-            assert_eq!(rt;
-                (first.plain_rtp, first.plain_rtcp),
-                (row.plain_rtp, row.plain_rtcp),
+            assert!(rt;
+                (first.plain_rtp, first.plain_rtcp) == (row.plain_rtp, row.plain_rtcp),
                 "{}",
                 row.name
             );
-            assert_eq!(rt; (first.ssrc, first.roc, second.ssrc), (0xcafe, 3, 0));
+            assert!(rt; (first.ssrc, first.roc, second.ssrc) == (0xcafe, 3, 0));
         }
     }
     Ok(())
@@ -119,23 +117,18 @@ fn refusals(rt: HostRuntime) -> Result<(), Fail> {
     let tgks = tgks_of(alloc, b"000102030405060708090a0b0c0d0e0f")?;
     for items in UNSERVED {
         let policies = policies_of(alloc, items)?;
-        assert_eq!(rt;
-            fault_of(alloc, &MAP, &policies, &tgks, 1),
-            Some(CsFault::PolicyValue)
-        );
+        assert!(rt; fault_of(alloc, &MAP, &policies, &tgks, 1) == Some(CsFault::PolicyValue));
         let other = CsEntry {
             policy: 6,
             ssrc: 0,
             roc: 0,
         };
-        assert_eq!(rt;
-            fault_of(alloc, &[MAP[0], other], &policies, &tgks, 1),
-            Some(CsFault::PolicyMissing)
+        assert!(rt;
+            fault_of(alloc, &[MAP[0], other], &policies, &tgks, 1) == Some(CsFault::PolicyMissing)
         );
         for media in [0, 2] {
-            assert_eq!(rt;
-                fault_of(alloc, &[other, other], &policies, &tgks, media),
-                Some(CsFault::CsCount)
+            assert!(rt;
+                fault_of(alloc, &[other, other], &policies, &tgks, media) == Some(CsFault::CsCount)
             );
         }
     }

@@ -107,22 +107,19 @@ fn accepts_messages_of_another_program(rt: HostRuntime) -> Result<(), Fail> {
         match accept(alloc, octets.as_slice(), &book, &empty, row.now) {
             Ok(initial) => {
                 let (keys, spis) = keys_of(alloc, &initial.tgks)?;
-                assert_eq!(rt;
-                    keys.as_slice(),
-                    octets_of(alloc, row.keys)?.as_slice(),
+                assert!(rt;
+                    keys.as_slice() == octets_of(alloc, row.keys)?.as_slice(),
                     "{}",
                     row.name
                 );
-                assert_eq!(rt;
-                    spis.as_slice(),
-                    octets_of(alloc, row.spis)?.as_slice(),
+                assert!(rt;
+                    spis.as_slice() == octets_of(alloc, row.spis)?.as_slice(),
                     "{}",
                     row.name
                 );
                 let response = response_to(alloc, &initial, &book, row.media)?;
-                assert_eq!(rt;
-                    response.as_slice(),
-                    octets_of(alloc, row.response)?.as_slice(),
+                assert!(rt;
+                    response.as_slice() == octets_of(alloc, row.response)?.as_slice(),
                     "{}",
                     row.name
                 );
@@ -133,7 +130,7 @@ fn accepts_messages_of_another_program(rt: HostRuntime) -> Result<(), Fail> {
             Err(number) => return Err(format!(in alloc; "{}: {number}", row.name)?.into()),
         }
     }
-    assert_eq!(rt; seen.count(), 1);
+    assert!(rt; seen.count() == 1);
     Ok(())
 }
 
@@ -164,7 +161,7 @@ fn refuses_each_cause(rt: HostRuntime) -> Result<(), Fail> {
         let octets = octets_of(alloc, row.message)?;
         let seen = noted_book(alloc, &book, row.noted)?;
         let answer = accept(alloc, octets.as_slice(), &book, &seen, row.now).err();
-        assert_eq!(rt; answer, Some(row.fault), "{}", row.name);
+        assert!(rt; answer == Some(row.fault), "{}", row.name);
     }
     Ok(())
 }
@@ -209,7 +206,7 @@ fn sends_and_reads_the_answer(rt: HostRuntime) -> Result<(), Fail> {
     let book = book_of(alloc)?;
     let noise: [u8; 304] = stepped(1, 5);
     let stranger = initiate(alloc, &book, &name_of(b"sip:eve@c")?, NOW, &noise, &[1]);
-    assert_eq!(rt; stranger.err().map(number_of), Some(1));
+    assert!(rt; stranger.err().map(number_of) == Some(1));
     let sent = initiate(
         alloc,
         &book,
@@ -219,12 +216,12 @@ fn sends_and_reads_the_answer(rt: HostRuntime) -> Result<(), Fail> {
         &[0xa0, 0xa1],
     );
     let (octets, waiting) = sent.map_err(|_| "refused")?;
-    assert_eq!(rt; octets.as_slice(), octets_of(alloc, OWN)?.as_slice());
+    assert!(rt; octets.as_slice() == octets_of(alloc, OWN)?.as_slice());
     for (name, message, fault) in ANSWERS {
         let octets = octets_of(alloc, message)?;
         let answer = answer_of(alloc, octets.as_slice(), &waiting, &book);
         let wanted = if fault == 0 { Ok(0xb0) } else { Err(fault) };
-        assert_eq!(rt; answer, wanted, "{name}");
+        assert!(rt; answer == wanted, "{name}");
     }
     Ok(())
 }
@@ -257,12 +254,12 @@ fn keeps_sixty_four_pairs(rt: HostRuntime) -> Result<(), Fail> {
     let own = name_of(b"gw")?;
     for i in 0..64u8 {
         let added = book.add(alloc, &own, &name_of(&[b'a', 0x21 + i])?, &[i]);
-        assert_eq!(rt; added, Ok(()), "{i}");
+        assert!(rt; added == Ok(()), "{i}");
     }
     let full = book.add(alloc, &own, &name_of(b"b")?, &[1]);
-    assert_eq!(rt; full, Err(Fault::Refused(Refusal::PskFull)));
+    assert!(rt; full == Err(Fault::Refused(Refusal::PskFull)));
     let known = book.add(alloc, &own, &name_of(b"a!")?, &[1]);
-    assert_eq!(rt; known, Err(Fault::Refused(Refusal::PskKnown)));
-    assert_eq!(rt; book.pairs().len(), 64);
+    assert!(rt; known == Err(Fault::Refused(Refusal::PskKnown)));
+    assert!(rt; book.pairs().len() == 64);
     Ok(())
 }

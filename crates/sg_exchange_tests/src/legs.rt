@@ -1,8 +1,8 @@
-//! A call that is keyed manually, and worked offers.
+//! A call that is keyed manually; and the texts of worked offers.
 
-use sg_base::{Address, Fault, Kind, MasterKey, Octets, Refusal, Side, Suite};
+use sg_base::{Address, Fault, Kind, MasterKey, Refusal, Suite};
 use sg_keys::Ring;
-use sg_leg::{Books, Idle, Live, MediaSpec, Offered, Way};
+use sg_leg::{Books, Idle, Live, MediaSpec};
 use sg_psk::{PskBook, ReplayBook};
 use std::alloc::Global;
 use std::test::Fail;
@@ -131,40 +131,4 @@ pub(crate) fn noise() -> [u8; 304] {
         noise[n] = (n % 256) as u8;
     }
     noise
-}
-
-fn offered(
-    alloc: Global,
-    books: &mut Books,
-    way: Way,
-    text: &[u8],
-) -> Result<(Offered, Octets), Fail> {
-    match Idle::make(0).offer(alloc, way, text, &noise(), 0, books) {
-        Ok(offered) => Ok(offered),
-        Err((_, _)) => Err("not offered")?,
-    }
-}
-
-// The worked offer from the secure side: no crypto line goes on.
-#[test]
-fn an_offer_from_the_secure_side_is_open(rt: HostRuntime) -> Result<(), Fail> {
-    let alloc = rt.alloc();
-    let mut books = books(alloc)?;
-    let (open, text) = offered(alloc, &mut books, Way::FromSecure, SECURE_OFFER)?;
-    if open.side() != Side::Secure || open.media() != 1 || text.as_slice() != TO_PLAIN {
-        Err("another offer")?;
-    }
-    Ok(())
-}
-
-// The worked offer from the plain side: the gateway's two lines stand last.
-#[test]
-fn an_offer_from_the_plain_side_has_two_lines(rt: HostRuntime) -> Result<(), Fail> {
-    let alloc = rt.alloc();
-    let mut books = books(alloc)?;
-    let (open, text) = offered(alloc, &mut books, Way::SdesFromPlain, PLAIN_OFFER)?;
-    if open.side() != Side::Plain || open.reject().is_ok() || text.as_slice() != TO_SECURE {
-        Err("another offer")?;
-    }
-    Ok(())
 }

@@ -48,9 +48,9 @@ fn a_key_comes_into_use_once(rt: HostRuntime) -> Result<(), Fail> {
     ] {
         let told = ring.install_all(&[filled(suite, octet, salt)?]);
         let wanted = answer.map_err(|number| RingFault::KeyReused { number });
-        assert_eq!(rt; told, wanted, "{suite:?} {octet} {salt}");
+        assert!(rt; told == wanted, "{suite:?} {octet} {salt}");
     }
-    assert_eq!(rt; ring.count(), 4);
+    assert!(rt; ring.count() == 4);
     Ok(())
 }
 
@@ -59,21 +59,15 @@ fn a_key_comes_into_use_once(rt: HostRuntime) -> Result<(), Fail> {
 fn a_refused_list_leaves_the_ring(rt: HostRuntime) -> Result<(), Fail> {
     let mut ring = Ring::make(rt.alloc());
     let first = [numbered(10)?, numbered(11)?];
-    assert_eq!(rt; ring.install_all(&first), Ok(0));
+    assert!(rt; ring.install_all(&first) == Ok(0));
     let twice = [numbered(12)?, numbered(13)?, numbered(13)?];
-    assert_eq!(rt;
-        ring.install_all(&twice),
-        Err(RingFault::KeyReused { number: 3 })
-    );
+    assert!(rt; ring.install_all(&twice) == Err(RingFault::KeyReused { number: 3 }));
     let old = [numbered(14)?, numbered(11)?];
-    assert_eq!(rt;
-        ring.install_all(&old),
-        Err(RingFault::KeyReused { number: 1 })
-    );
-    assert_eq!(rt; ring.count(), 2);
+    assert!(rt; ring.install_all(&old) == Err(RingFault::KeyReused { number: 1 }));
+    assert!(rt; ring.count() == 2);
     let none = [numbered(14)?, numbered(13)?, numbered(12)?];
-    assert_eq!(rt; ring.install_all(&none), Ok(2));
-    assert_eq!(rt; ring.install_all(&[]), Ok(5));
+    assert!(rt; ring.install_all(&none) == Ok(2));
+    assert!(rt; ring.install_all(&[]) == Ok(5));
     Ok(())
 }
 
@@ -83,16 +77,16 @@ fn a_ring_is_full(rt: HostRuntime) -> Result<(), Fail> {
     let mut ring = Ring::make(rt.alloc());
     for position in 0..65536u32 {
         let told = ring.install_all(&[numbered(65535 - position)?]);
-        assert_eq!(rt; told, Ok(position));
+        assert!(rt; told == Ok(position));
     }
     let more = ring.install_all(&[numbered(65536)?]);
-    assert_eq!(rt; more, Err(RingFault::RingFull));
+    assert!(rt; more == Err(RingFault::RingFull));
     for position in [7, 0, 65535] {
         let told = ring.install_all(&[numbered(70000)?, numbered(65535 - position)?]);
-        assert_eq!(rt; told, Err(RingFault::KeyReused { number: position }));
+        assert!(rt; told == Err(RingFault::KeyReused { number: position }));
     }
-    assert_eq!(rt; ring.install_all(&[]), Ok(65536));
-    assert_eq!(rt; ring.count(), 65536);
+    assert!(rt; ring.install_all(&[]) == Ok(65536));
+    assert!(rt; ring.count() == 65536);
     Ok(())
 }
 
@@ -122,7 +116,7 @@ fn given(master: u8, rtp: u8, rtcp: u8) -> Result<(MasterKey, SessionKeys), Fail
 fn compares_the_keys_that_it_is_given(rt: HostRuntime) -> Result<(), Fail> {
     let mut ring = Ring::make(rt.alloc());
     let taken = [given(1, 11, 12)?, given(2, 13, 14)?, given(3, 0, 0)?];
-    assert_eq!(rt; ring.install_all(&taken), Ok(0));
+    assert!(rt; ring.install_all(&taken) == Ok(0));
     // The octets of a master key and of its two encryption keys, and the answer.
     for (master, rtp, rtcp, answer) in [
         (9, 21, 21, Err(3)),
@@ -136,10 +130,10 @@ fn compares_the_keys_that_it_is_given(rt: HostRuntime) -> Result<(), Fail> {
     ] {
         let told = ring.install_all(&[given(master, rtp, rtcp)?]);
         let wanted = answer.map_err(|number| RingFault::KeyReused { number });
-        assert_eq!(rt; told, wanted, "{master} {rtp} {rtcp}");
+        assert!(rt; told == wanted, "{master} {rtp} {rtcp}");
     }
     let two = [given(6, 31, 32)?, given(5, 33, 33)?, given(4, 34, 31)?];
     let second = Err(RingFault::KeyReused { number: 6 });
-    assert_eq!(rt; ring.install_all(&two), second);
+    assert!(rt; ring.install_all(&two) == second);
     Ok(())
 }

@@ -218,14 +218,14 @@ fn opens(
 ) -> Result<Result<u32, DropCause>, Fail> {
     let (packet, datagram) = (octets_of(alloc, row.0)?, octets_of(alloc, row.1)?);
     let mut pad = Pad::make(alloc)?;
-    assert_eq!(rt; pad.fill(datagram.as_slice()), Ok(()));
+    assert!(rt; pad.fill(datagram.as_slice()) == Ok(()));
     Ok(match side.receive(pad) {
         Ok(opened) => {
-            assert_eq!(rt; opened.pad.octets(), packet.as_slice());
+            assert!(rt; opened.pad.octets() == packet.as_slice());
             Ok(opened.key)
         }
         Err((pad, cause)) => {
-            assert_eq!(rt; pad.octets(), datagram.as_slice());
+            assert!(rt; pad.octets() == datagram.as_slice());
             Err(cause)
         }
     })
@@ -240,15 +240,15 @@ fn seals(
 ) -> Result<Result<u32, DropCause>, Fail> {
     let (packet, datagram) = (octets_of(alloc, row.0)?, octets_of(alloc, row.1)?);
     let mut pad = Pad::make(alloc)?;
-    assert_eq!(rt; pad.fill(packet.as_slice()), Ok(()));
+    assert!(rt; pad.fill(packet.as_slice()) == Ok(()));
     assert!(rt; pad.octets().len() <= 4096);
     Ok(match side.send(pad) {
         Ok(sealed) => {
-            assert_eq!(rt; sealed.pad.octets(), datagram.as_slice());
+            assert!(rt; sealed.pad.octets() == datagram.as_slice());
             Ok(sealed.key)
         }
         Err((pad, cause)) => {
-            assert_eq!(rt; pad.octets(), packet.as_slice());
+            assert!(rt; pad.octets() == packet.as_slice());
             Err(cause)
         }
     })
@@ -273,13 +273,13 @@ fn keys_seal_in_turn(rt: HostRuntime) -> Result<(), Fail> {
         (IN_TURN[2], 41),
         (IN_TURN[3], 41),
     ] {
-        assert_eq!(rt; seals(&rt, rt.alloc(), &mut side, row)?, Ok(key));
+        assert!(rt; seals(&rt, rt.alloc(), &mut side, row)? == Ok(key));
     }
     let spent = KeySpent {
         number: 41,
         count: 2,
     };
-    assert_eq!(rt; seals(&rt, rt.alloc(), &mut side, (MORE, ""))?, Err(spent));
+    assert!(rt; seals(&rt, rt.alloc(), &mut side, (MORE, ""))? == Err(spent));
     Ok(())
 }
 
@@ -302,7 +302,11 @@ fn keys_open_by_their_mkis(rt: HostRuntime) -> Result<(), Fail> {
         (IN_TURN[3], spent(41)),
         (unknown, Err(MkiUnknown)),
     ] {
-        assert_eq!(rt; opens(&rt, rt.alloc(), &mut side, row)?, told, "{}", row.1);
+        assert!(rt;
+            opens(&rt, rt.alloc(), &mut side, row)? == told,
+            "{}",
+            row.1
+        );
     }
     Ok(())
 }
@@ -313,17 +317,15 @@ fn sessions_of_one_key(rt: HostRuntime) -> Result<(), Fail> {
         let row = (case.packet, case.datagram);
         let half = half_of(rt.alloc(), case.suite, case.kind, case.master)?;
         let mut side = SealSide::make(of_one(&rt, half, case, Admit::Any));
-        assert_eq!(rt;
-            seals(&rt, rt.alloc(), &mut side, row)?,
-            Ok(5),
+        assert!(rt;
+            seals(&rt, rt.alloc(), &mut side, row)? == Ok(5),
             "{}",
             case.datagram
         );
         let half = half_of(rt.alloc(), case.suite, case.kind, case.master)?;
         let mut side = OpenSide::make(of_one(&rt, half, case, Admit::Any));
-        assert_eq!(rt;
-            opens(&rt, rt.alloc(), &mut side, row)?,
-            Ok(5),
+        assert!(rt;
+            opens(&rt, rt.alloc(), &mut side, row)? == Ok(5),
             "{}",
             case.datagram
         );
@@ -353,8 +355,12 @@ fn sources_are_admitted(rt: HostRuntime) -> Result<(), Fail> {
             (OF_SOURCES[1], Err(SsrcUnknown)),
             (OF_SOURCES[2], Ok(5)),
         ] {
-            assert_eq!(rt; seals(&rt, rt.alloc(), &mut out, row)?, told, "{}", row.0);
-            assert_eq!(rt; opens(&rt, rt.alloc(), &mut back, row)?, told, "{}", row.0);
+            assert!(rt; seals(&rt, rt.alloc(), &mut out, row)? == told, "{}", row.0);
+            assert!(rt;
+                opens(&rt, rt.alloc(), &mut back, row)? == told,
+                "{}",
+                row.0
+            );
         }
     }
     Ok(())
@@ -390,7 +396,7 @@ fn either_generation_opens(rt: HostRuntime) -> Result<(), Fail> {
         (now.datagram, Ok(Which::Current)),
     ] {
         let by = opened_by(rt.alloc(), &mut current, &mut earlier, datagram)?;
-        assert_eq!(rt; by, told, "{datagram}");
+        assert!(rt; by == told, "{datagram}");
     }
     Ok(())
 }

@@ -93,29 +93,29 @@ fn shown<R: Threads + Sync + Abort>(
 fn four_calls(rt: HostRuntime) -> Result<(), Fail> {
     for workers in [1, 16] {
         let summary = shown(&rt, rt.alloc(), 4, 1, workers)?;
-        assert_eq!(rt; summary, FOUR, "{workers} workers");
+        assert!(rt; summary == FOUR, "{workers} workers");
         let text = summary_text(rt.alloc(), &summary)?;
-        assert_eq!(rt; text.as_slice(), FOUR_LINES.as_bytes());
+        assert!(rt; text.as_slice() == FOUR_LINES.as_bytes());
     }
     Ok(())
 }
 
 #[test]
 fn other_numbers(rt: HostRuntime) -> Result<(), Fail> {
-    assert_eq!(rt; shown(&rt, rt.alloc(), 1, 7, 3)?, ONE);
-    assert_eq!(rt; shown(&rt, rt.alloc(), 4, 0, 1)?, FROM_ZERO);
-    assert_eq!(rt; shown(&rt, rt.alloc(), 4, u64::MAX, 1)?, FROM_LAST);
+    assert!(rt; shown(&rt, rt.alloc(), 1, 7, 3)? == ONE);
+    assert!(rt; shown(&rt, rt.alloc(), 4, 0, 1)? == FROM_ZERO);
+    assert!(rt; shown(&rt, rt.alloc(), 4, u64::MAX, 1)? == FROM_LAST);
     Ok(())
 }
 
 #[test]
 fn calls_by_one_worker(rt: HostRuntime) -> Result<(), Fail> {
-    assert_eq!(rt; shown(&rt, rt.alloc(), 32, 1, 1)?, MANY);
+    assert!(rt; shown(&rt, rt.alloc(), 32, 1, 1)? == MANY);
     Ok(())
 }
 
 #[test]
 fn calls_by_sixteen_workers(rt: HostRuntime) -> Result<(), Fail> {
-    assert_eq!(rt; shown(&rt, rt.alloc(), 32, 1, 16)?, MANY);
+    assert!(rt; shown(&rt, rt.alloc(), 32, 1, 16)? == MANY);
     Ok(())
 }

@@ -1,9 +1,7 @@
-//! Tests of the commands: replay, relay and demonstration, and of a table's batches beneath them. They stand in a crate
-//! of their own, since a crate with tests is proved twice.
+//! Tests of the commands: replay, relay and demonstration. They stand in a crate of their own, since a crate with tests
+//! is proved twice.
 #![tactic(auto)]
 
-#[cfg(test)]
-mod batches;
 #[cfg(test)]
 mod calls;
 #[cfg(test)]

@@ -105,8 +105,8 @@ fn tells(
 ) -> Result<Outside, Fail> {
     let mut outside = Outside::of(alloc, script, given)?;
     let answer = outside.run(rt, alloc, &OpenGate);
-    assert_eq!(rt; answer, status);
-    assert_eq!(rt; outside.written(), joined(alloc, told)?.as_slice());
+    assert!(rt; answer == status);
+    assert!(rt; outside.written() == joined(alloc, told)?.as_slice());
     Ok(outside)
 }
 
@@ -170,9 +170,9 @@ fn are_sent(rt: &impl Abort, calls: &[Kept], packets: &[Datagram]) -> Result<(),
         {
             let (out, address, packet) = left.next().ok_or("a packet more")?;
             assert!(rt; *ok);
-            assert_eq!(rt; *port, *out);
-            assert_eq!(rt; *to, *address);
-            assert_eq!(rt; octets.as_slice(), *packet);
+            assert!(rt; *port == *out);
+            assert!(rt; *to == *address);
+            assert!(rt; octets.as_slice() == *packet);
         }
     }
     assert!(rt; left.next().is_none());
@@ -202,7 +202,7 @@ fn breaks(
 ) -> Result<(), Fail> {
     let mut outside = Outside::of(alloc, OFFERED_CALL, given)?;
     let answer = outside.run(rt, alloc, &OpenGate);
-    assert_eq!(rt; answer, status);
+    assert!(rt; answer == status);
     let whole = joined(alloc, &[OFFERED_TOLD, ENDED_TOLD])?;
     assert!(rt; whole.as_slice().starts_with(outside.written()));
     Ok(())

@@ -25,8 +25,8 @@ fn tells(
 ) -> Result<(), Fail> {
     let mut outside = Outside::of(alloc, script, given)?;
     let answer = outside.run(rt, alloc, &OpenGate);
-    assert_eq!(rt; answer, status);
-    assert_eq!(rt; outside.written(), joined(alloc, told)?.as_slice());
+    assert!(rt; answer == status);
+    assert!(rt; outside.written() == joined(alloc, told)?.as_slice());
     Ok(())
 }
 
@@ -235,7 +235,7 @@ fn each_read_fails_once(rt: HostRuntime) -> Result<(), Fail> {
         };
         let mut outside = Outside::of(rt.alloc(), &[WHOLE_CALL], given)?;
         let answer = outside.run(&rt, rt.alloc(), &OpenGate);
-        assert_eq!(rt; answer, Status::Read);
+        assert!(rt; answer == Status::Read);
         assert!(rt; whole.starts_with(outside.written()));
     }
     let given = Given {

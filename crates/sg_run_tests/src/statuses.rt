@@ -24,8 +24,8 @@ fn numbers_and_texts(rt: HostRuntime) -> Result<(), Fail> {
     ];
     for (status, number, text) in rows {
         let told = format!(in rt.alloc(); "{status}")?;
-        assert_eq!(rt; told.as_str(), text);
-        assert_eq!(rt; status.number(), number);
+        assert!(rt; told.as_str() == text);
+        assert!(rt; status.number() == number);
     }
     Ok(())
 }

@@ -40,7 +40,7 @@ fn played<G: Gate + Sync>(
     let given = Given { words, ..REPLAY };
     let mut outside = Outside::of(alloc, &[script], given)?;
     let answer = outside.run(rt, alloc, gate);
-    assert_eq!(rt; answer, Status::Done);
+    assert!(rt; answer == Status::Done);
     Ok(outside.written().to_vec(alloc)?)
 }
 
@@ -51,11 +51,11 @@ fn workers_write_what_one_writes(rt: HostRuntime) -> Result<(), Fail> {
         let script = script(alloc, calls, packets)?;
         let told = played(&rt, alloc, &["replay"], &script, &OpenGate)?;
         let lines = told.iter().filter(|octet| **octet == b'\n').count();
-        assert_eq!(&rt; lines, 2 * calls as usize + packets as usize);
+        assert!(&rt; lines == 2 * calls as usize + packets as usize);
         for workers in ["2", "16"] {
             let words = ["replay", "--workers", workers];
             let others = played(&rt, alloc, &words, &script, &OpenGate)?;
-            assert_eq!(&rt; others.as_slice(), told.as_slice());
+            assert!(&rt; others.as_slice() == told.as_slice());
         }
     }
     Ok(())

@@ -26,13 +26,13 @@ fn printed(alloc: Global, line: &CryptoLine) -> Result<Octets, Fail> {
 #[test]
 fn offered_lines(rt: HostRuntime) -> Result<(), Fail> {
     let lines = offer_lines(&counted());
-    assert_eq!(rt;
-        printed(rt.alloc(), &lines[0])?.as_slice(),
-        b"1 AES_CM_128_HMAC_SHA1_80 inline:AAECAwQFBgcICQoLDA0ODxAREhMUFRYXGBkaGxwd".as_slice()
+    assert!(rt;
+        printed(rt.alloc(), &lines[0])?.as_slice()
+            == b"1 AES_CM_128_HMAC_SHA1_80 inline:AAECAwQFBgcICQoLDA0ODxAREhMUFRYXGBkaGxwd".as_slice()
     );
-    assert_eq!(rt;
-        printed(rt.alloc(), &lines[1])?.as_slice(),
-        b"2 AES_256_CM_HMAC_SHA1_80 inline:Hh8gISIjJCUmJygpKissLS4vMDEyMzQ1Njc4OTo7PD0+P0BBQkNERUZHSElKSw==".as_slice()
+    assert!(rt;
+        printed(rt.alloc(), &lines[1])?.as_slice()
+            == b"2 AES_256_CM_HMAC_SHA1_80 inline:Hh8gISIjJCUmJygpKissLS4vMDEyMzQ1Njc4OTo7PD0+P0BBQkNERUZHSElKSw==".as_slice()
     );
     Ok(())
 }
@@ -64,7 +64,7 @@ fn spellings(rt: HostRuntime) -> Result<(), Fail> {
     ];
     for (value, spelling) in &rows {
         let line = read_crypto(value).ok().ok_or("it is a crypto line")?;
-        assert_eq!(rt; printed(rt.alloc(), &line)?.as_slice(), *spelling);
+        assert!(rt; printed(rt.alloc(), &line)?.as_slice() == *spelling);
     }
     Ok(())
 }
@@ -95,13 +95,13 @@ fn a_line_of_two_keys(rt: HostRuntime) -> Result<(), Fail> {
         plain_rtp: false,
         plain_rtcp: false,
     };
-    assert_eq!(rt;
-        printed(rt.alloc(), &line)?.as_slice(),
-        b"1 AES_CM_128_HMAC_SHA1_80 inline:WVNfX19zZW1jdGwgKCkgewkyMjA7fQp9CnVubGVz|1048576|1:4;inline:AAECAwQFBgcICQoLDA0ODxAREhMUFRYXGBkaGxwd|2|2:4".as_slice()
+    assert!(rt;
+        printed(rt.alloc(), &line)?.as_slice()
+            == b"1 AES_CM_128_HMAC_SHA1_80 inline:WVNfX19zZW1jdGwgKCkgewkyMjA7fQp9CnVubGVz|1048576|1:4;inline:AAECAwQFBgcICQoLDA0ODxAREhMUFRYXGBkaGxwd|2|2:4".as_slice()
     );
     let lifetimes = [1048576, 2];
     for (key, lifetime) in line.keys.into_list().as_slice().iter().zip(lifetimes) {
-        assert_eq!(rt; key.lifetime, lifetime);
+        assert!(rt; key.lifetime == lifetime);
     }
     Ok(())
 }
@@ -127,9 +127,9 @@ fn chosen_lines(rt: HostRuntime) -> Result<(), Fail> {
     )?;
     let values = [other, second, third];
     let chosen = choose(&values).ok().ok_or("the second is a crypto line")?;
-    assert_eq!(rt; chosen.tag, 2);
-    assert_eq!(rt; choose(&values[..1]).err(), Some(SdesFault::NoLine));
-    assert_eq!(rt; choose(&values[..0]).err(), Some(SdesFault::NoLine));
+    assert!(rt; chosen.tag == 2);
+    assert!(rt; choose(&values[..1]).err() == Some(SdesFault::NoLine));
+    assert!(rt; choose(&values[..0]).err() == Some(SdesFault::NoLine));
     Ok(())
 }
 
@@ -140,9 +140,9 @@ fn answered_lines(rt: HostRuntime) -> Result<(), Fail> {
         b"44 AES_192_CM_HMAC_SHA1_32 inline:AAECAwQFBgcICQoLDA0ODxAREhMUFRYXGBkaGxwdHh8gISIjJCU=|9|1:1 WSH=99 UNENCRYPTED_SRTP";
     let chosen = read_crypto(value).ok().ok_or("it is a crypto line")?;
     let answer = answer_line(&chosen, &counted());
-    assert_eq!(rt;
-        printed(rt.alloc(), &answer)?.as_slice(),
-        b"44 AES_192_CM_HMAC_SHA1_32 inline:AAECAwQFBgcICQoLDA0ODxAREhMUFRYXGBkaGxwdHh8gISIjJCU= UNENCRYPTED_SRTP".as_slice()
+    assert!(rt;
+        printed(rt.alloc(), &answer)?.as_slice()
+            == b"44 AES_192_CM_HMAC_SHA1_32 inline:AAECAwQFBgcICQoLDA0ODxAREhMUFRYXGBkaGxwdHh8gISIjJCU= UNENCRYPTED_SRTP".as_slice()
     );
     Ok(())
 }
@@ -156,14 +156,8 @@ fn matched_answers(rt: HostRuntime) -> Result<(), Fail> {
     let (own, peer) = match_answer(&offered, value)
         .ok()
         .ok_or("it names the second line")?;
-    assert_eq!(rt;
-        (own.tag, own.suite, own.plain_rtcp),
-        (2, Suite::Cm256Tag80, false)
-    );
-    assert_eq!(rt;
-        (peer.tag, peer.suite, peer.plain_rtcp),
-        (2, Suite::Cm256Tag80, true)
-    );
+    assert!(rt; (own.tag, own.suite, own.plain_rtcp) == (2, Suite::Cm256Tag80, false));
+    assert!(rt; (peer.tag, peer.suite, peer.plain_rtcp) == (2, Suite::Cm256Tag80, true));
     let rows: [(&[u8], SdesFault); 4] = [
         (
             b"3 AES_CM_128_HMAC_SHA1_80 inline:WVNfX19zZW1jdGwgKCkgewkyMjA7fQp9CnVubGVz",
@@ -183,7 +177,7 @@ fn matched_answers(rt: HostRuntime) -> Result<(), Fail> {
         ),
     ];
     for (row, fault) in &rows {
-        assert_eq!(rt; match_answer(&offered, row).err(), Some(*fault));
+        assert!(rt; match_answer(&offered, row).err() == Some(*fault));
     }
     Ok(())
 }

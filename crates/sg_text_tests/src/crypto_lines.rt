@@ -45,7 +45,7 @@ fn good_values(rt: HostRuntime) {
         b"1 AES_CM_128_HMAC_SHA1_80 inline:WVNfX19zZW1jdGwgKCkgewkyMjA7fQp9CnVubGVz WSH=999999999",
     ];
     for row in &rows {
-        assert_eq!(rt; fault_of(row), None);
+        assert!(rt; fault_of(row) == None);
     }
 }
 
@@ -348,7 +348,7 @@ fn bad_values(rt: HostRuntime) {
         ),
     ];
     for (row, fault) in &rows {
-        assert_eq!(rt; fault_of(row), Some(*fault));
+        assert!(rt; fault_of(row) == Some(*fault));
     }
 }
 
@@ -358,17 +358,17 @@ fn what_a_line_says(rt: HostRuntime) -> Result<(), Fail> {
     let value =
         b"0017 AES_CM_128_HMAC_SHA1_80 inline:WVNfX19zZW1jdGwgKCkgewkyMjA7fQp9CnVubGVz|2^20|1:4 FEC_ORDER=FEC_SRTP WSH=0063 UNENCRYPTED_SRTCP";
     let line = read_crypto(value).ok().ok_or("it is a crypto line")?;
-    assert_eq!(rt; line.tag, 17);
-    assert_eq!(rt; line.suite, Suite::Cm128Tag80);
-    assert_eq!(rt; line.window, Some(63));
-    assert_eq!(rt; (line.plain_rtp, line.plain_rtcp), (false, true));
+    assert!(rt; line.tag == 17);
+    assert!(rt; line.suite == Suite::Cm128Tag80);
+    assert!(rt; line.window == Some(63));
+    assert!(rt; (line.plain_rtp, line.plain_rtcp) == (false, true));
     let keys = line.keys.as_slice();
-    assert_eq!(rt; keys.len(), 1);
-    assert_eq!(rt; keys[0].lifetime, 1_048_576);
-    assert_eq!(rt; keys[0].key.key(), b"YS___semctl () {".as_slice());
-    assert_eq!(rt; keys[0].key.salt(), b"\t220;}\n}\nunles".as_slice());
+    assert!(rt; keys.len() == 1);
+    assert!(rt; keys[0].lifetime == 1_048_576);
+    assert!(rt; keys[0].key.key() == b"YS___semctl () {".as_slice());
+    assert!(rt; keys[0].key.salt() == b"\t220;}\n}\nunles".as_slice());
     let mki = keys[0].mki.ok_or("it has an MKI")?;
-    assert_eq!(rt; (mki.value(), mki.len()), (1, 4));
+    assert!(rt; (mki.value(), mki.len()) == (1, 4));
     Ok(())
 }
 
@@ -378,17 +378,13 @@ fn what_two_keys_say(rt: HostRuntime) -> Result<(), Fail> {
     let value =
         b"1 AES_CM_128_HMAC_SHA1_80 inline:WVNfX19zZW1jdGwgKCkgewkyMjA7fQp9CnVubGVz|2|1:1;inline:AAECAwQFBgcICQoLDA0ODxAREhMUFRYXGBkaGxwd|2:1 UNENCRYPTED_SRTP";
     let line = read_crypto(value).ok().ok_or("it is a crypto line")?;
-    assert_eq!(rt; line.window, None);
-    assert_eq!(rt; (line.plain_rtp, line.plain_rtcp), (true, false));
+    assert!(rt; line.window == None);
+    assert!(rt; (line.plain_rtp, line.plain_rtcp) == (true, false));
     let keys = line.keys.as_slice();
-    assert_eq!(rt; keys.len(), 2);
-    assert_eq!(rt;
-        (keys[0].lifetime, keys[1].lifetime),
-        (2, 281_474_976_710_656)
-    );
-    assert_eq!(rt;
-        keys[1].key.key(),
-        [0, 1, 2, 3, 4, 5, 6, 7, 8, 9, 10, 11, 12, 13, 14, 15].as_slice()
+    assert!(rt; keys.len() == 2);
+    assert!(rt; (keys[0].lifetime, keys[1].lifetime) == (2, 281_474_976_710_656));
+    assert!(rt;
+        keys[1].key.key() == [0, 1, 2, 3, 4, 5, 6, 7, 8, 9, 10, 11, 12, 13, 14, 15].as_slice()
     );
     Ok(())
 }

@@ -67,12 +67,12 @@ fn carried(alloc: Global, text: &[u8], port: u16, profile: Profile) -> Result<Oc
 fn prints_and_carries_an_offer_and_its_answer(rt: HostRuntime) -> Result<(), Fail> {
     let alloc = rt.alloc();
     for text in [OFFER, CARRIED_OFFER, ANSWER, CARRIED_ANSWER] {
-        assert_eq!(rt; printed(alloc, text)?.as_slice(), text);
+        assert!(rt; printed(alloc, text)?.as_slice() == text);
     }
     let offer = carried(alloc, OFFER, 20002, Profile::Avp)?;
-    assert_eq!(rt; offer.as_slice(), CARRIED_OFFER);
+    assert!(rt; offer.as_slice() == CARRIED_OFFER);
     let answer = carried(alloc, ANSWER, 20000, Profile::Savp)?;
-    assert_eq!(rt; answer.as_slice(), CARRIED_ANSWER);
+    assert!(rt; answer.as_slice() == CARRIED_ANSWER);
     Ok(())
 }
 
@@ -100,9 +100,8 @@ fn a_cut_offer_is_told_where_it_ends(rt: HostRuntime) {
         } else {
             None
         };
-        assert_eq!(rt;
-            fault_of(&rt, rt.alloc(), &OFFER[..size]),
-            expected,
+        assert!(rt;
+            fault_of(&rt, rt.alloc(), &OFFER[..size]) == expected,
             "{size}"
         );
         in_line = *octet != b'\n';
@@ -110,7 +109,7 @@ fn a_cut_offer_is_told_where_it_ends(rt: HostRuntime) {
             whole_lines = whole_lines.saturating_add(1);
         }
     }
-    assert_eq!(rt; fault_of(&rt, rt.alloc(), OFFER), None);
+    assert!(rt; fault_of(&rt, rt.alloc(), OFFER) == None);
 }
 
 // Texts and their first faults.
@@ -189,7 +188,7 @@ fn tells_the_first_fault(rt: HostRuntime) {
         ),
     ];
     for (text, fault) in rows {
-        assert_eq!(rt; fault_of(&rt, rt.alloc(), text), fault, "{text:?}");
+        assert!(rt; fault_of(&rt, rt.alloc(), text) == fault, "{text:?}");
     }
 }
 
@@ -219,7 +218,7 @@ fn keeps_the_limits(rt: HostRuntime) -> Result<(), Fail> {
     ];
     for (count, end, fault) in rows {
         let text = filled(alloc, front, count, end)?;
-        assert_eq!(rt; fault_of(&rt, alloc, &text), fault, "{count} {end:?}");
+        assert!(rt; fault_of(&rt, alloc, &text) == fault, "{count} {end:?}");
     }
     // 12 octets, then eight lines of 2,042 octets with their ends, and one of 36 or 37.
     for (last, fault) in [(33, None), (34, Some((0, TooLong)))] {
@@ -228,8 +227,8 @@ fn keeps_the_limits(rt: HostRuntime) -> Result<(), Fail> {
             text.extend_from_slice(&filled(alloc, b"a=", 2039, b"\n")?)?;
         }
         text.extend_from_slice(&filled(alloc, b"b=", last, b"\n")?)?;
-        assert_eq!(rt; text.len(), 16351 + last);
-        assert_eq!(rt; fault_of(&rt, alloc, &text), fault, "{last}");
+        assert!(rt; text.len() == 16351 + last);
+        assert!(rt; fault_of(&rt, alloc, &text) == fault, "{last}");
     }
     Ok(())
 }
@@ -290,11 +289,10 @@ fn leaves_out_what_is_of_one_side(rt: HostRuntime) -> Result<(), Fail> {
             expected.extend_from_slice(b"m=audio 0 x y\r\n")?;
         }
         let sdp = read(rt.alloc(), &text)?;
-        assert_eq!(rt; sdp.media.len(), 2);
+        assert!(rt; sdp.media.len() == 2);
         let other = sdp.carry(rt.alloc(), &[0, 0], &[Profile::Other, Profile::Other])?;
-        assert_eq!(rt;
-            other.print(rt.alloc())?.as_slice(),
-            expected.as_slice(),
+        assert!(rt;
+            other.print(rt.alloc())?.as_slice() == expected.as_slice(),
             "{line:?}"
         );
     }
@@ -319,13 +317,13 @@ fn knows_the_profiles(rt: HostRuntime) -> Result<(), Fail> {
         text.extend_from_slice(b" 0\n")?;
         let sdp = read(rt.alloc(), &text)?;
         for medium in sdp.media.as_slice() {
-            assert_eq!(rt; (medium.port, medium.profile), (9, profile));
-            assert_eq!(rt; medium.word.as_slice(), b"audio".as_slice());
-            assert_eq!(rt; medium.proto.as_slice(), proto);
-            assert_eq!(rt; medium.formats.as_slice(), b"0".as_slice());
+            assert!(rt; (medium.port, medium.profile) == (9, profile));
+            assert!(rt; medium.word.as_slice() == b"audio".as_slice());
+            assert!(rt; medium.proto.as_slice() == proto);
+            assert!(rt; medium.formats.as_slice() == b"0".as_slice());
         }
         for (_, asked) in rows {
-            assert_eq!(rt; sdp.media.len(), 1);
+            assert!(rt; sdp.media.len() == 1);
             let other = sdp.carry(rt.alloc(), &[7], &[asked])?;
             let expected = if asked == Profile::Other {
                 profile
@@ -333,7 +331,7 @@ fn knows_the_profiles(rt: HostRuntime) -> Result<(), Fail> {
                 asked
             };
             for medium in other.media.as_slice() {
-                assert_eq!(rt; (medium.port, medium.profile), (7, expected));
+                assert!(rt; (medium.port, medium.profile) == (7, expected));
             }
         }
     }
@@ -363,15 +361,14 @@ fn finds_each_address(rt: HostRuntime) -> Result<(), Fail> {
         let mut text = Vec::from_slice(rt.alloc(), b"v=0\no=x\ns=-\n")?;
         text.extend_from_slice(lines)?;
         let sdp = read(rt.alloc(), &text)?;
-        assert_eq!(rt; sdp.media.len(), 1);
+        assert!(rt; sdp.media.len() == 1);
         for medium in sdp.media.as_slice() {
-            assert_eq!(rt; medium.address, address, "{lines:?}");
+            assert!(rt; medium.address == address, "{lines:?}");
         }
         let other = sdp.carry(rt.alloc(), &[9], &[Profile::Other])?;
         for medium in other.media.as_slice() {
-            assert_eq!(rt;
-                medium.address,
-                address.map(|_| [127, 0, 0, 1]),
+            assert!(rt;
+                medium.address == address.map(|_| [127, 0, 0, 1]),
                 "{lines:?}"
             );
         }
@@ -385,11 +382,11 @@ fn puts_added_lines_last(rt: HostRuntime) -> Result<(), Fail> {
     let expected =
         b"v=0\r\no=x\r\ns=-\r\na=one\r\nm=a 9 b c\r\na=x\r\na=two\r\na=three\r\nm=d 9 e f\r\na=four\r\n";
     let mut sdp = read(rt.alloc(), text)?;
-    assert_eq!(rt; sdp.media.len(), 2);
+    assert!(rt; sdp.media.len() == 2);
     sdp.add_session_line(b"a=one")?;
     sdp.add_media_line(0, b"a=two")?;
     sdp.add_media_line(0, b"a=three")?;
     sdp.add_media_line(1, b"a=four")?;
-    assert_eq!(rt; sdp.print(rt.alloc())?.as_slice(), expected.as_slice());
+    assert!(rt; sdp.print(rt.alloc())?.as_slice() == expected.as_slice());
     Ok(())
 }

@@ -12,7 +12,7 @@ fn fault_of(rt: &impl Abort, alloc: Global, octets: &[u8]) -> Option<ScriptFault
     match read_line(alloc, 2, octets) {
         Ok(line) => {
             match print_line(alloc, &line) {
-                Ok(printed) => assert_eq!(rt; printed.as_slice(), octets),
+                Ok(printed) => assert!(rt; printed.as_slice() == octets),
                 Err(_) => assert!(rt; false, "memory"),
             }
             None
@@ -52,7 +52,7 @@ fn good_lines(rt: HostRuntime) {
         b"in 20000 10.0.0.1:1 0a20\n",
     ];
     for row in &rows {
-        assert_eq!(rt; fault_of(&rt, rt.alloc(), row), None);
+        assert!(rt; fault_of(&rt, rt.alloc(), row) == None);
     }
 }
 
@@ -168,7 +168,7 @@ fn bad_lines(rt: HostRuntime) {
         ),
     ];
     for (row, fault) in &rows {
-        assert_eq!(rt; fault_of(&rt, rt.alloc(), row), Some(*fault));
+        assert!(rt; fault_of(&rt, rt.alloc(), row) == Some(*fault));
     }
 }
 
@@ -188,7 +188,7 @@ fn first_lines(rt: HostRuntime) {
             Err(ReadLineFault::Script(found)) => Some(found),
             Err(ReadLineFault::NoMemory) => Some(ScriptFault::Length),
         };
-        assert_eq!(rt; found, *fault);
+        assert!(rt; found == *fault);
     }
 }
 
@@ -222,7 +222,7 @@ fn longest_lines(rt: HostRuntime) -> Result<(), Fail> {
     ];
     for (front, octet, count, fault) in &rows {
         let line = filled(rt.alloc(), front, *octet, *count)?;
-        assert_eq!(rt; fault_of(&rt, rt.alloc(), &line), *fault);
+        assert!(rt; fault_of(&rt, rt.alloc(), &line) == *fault);
     }
     for (count, fault) in [
         (607, Some(ScriptFault::Hex)),
@@ -235,7 +235,7 @@ fn longest_lines(rt: HostRuntime) -> Result<(), Fail> {
             line.push(b'7')?;
         }
         line.extend_from_slice(b" 00\n")?;
-        assert_eq!(rt; fault_of(&rt, rt.alloc(), &line), fault);
+        assert!(rt; fault_of(&rt, rt.alloc(), &line) == fault);
     }
     for (count, fault) in [(1, None), (128, None), (129, Some(Length))] {
         let mut line = Vec::from_slice(rt.alloc(), b"psk ")?;
@@ -243,7 +243,7 @@ fn longest_lines(rt: HostRuntime) -> Result<(), Fail> {
             line.push(b'n')?;
         }
         line.extend_from_slice(b" b 00112233445566778899aabbccddeeff\n")?;
-        assert_eq!(rt; fault_of(&rt, rt.alloc(), &line), fault);
+        assert!(rt; fault_of(&rt, rt.alloc(), &line) == fault);
     }
     Ok(())
 }

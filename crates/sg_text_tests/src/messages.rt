@@ -121,9 +121,8 @@ fn tells_the_first_fault(rt: HostRuntime) {
         ),
     ];
     for (octets, offset, fault) in cases {
-        assert_eq!(rt;
-            fault_of(rt.alloc(), octets),
-            Some((offset, fault)),
+        assert!(rt;
+            fault_of(rt.alloc(), octets) == Some((offset, fault)),
             "{octets:?}"
         );
     }
@@ -133,9 +132,8 @@ fn tells_the_first_fault(rt: HostRuntime) {
 fn is_cut_at_every_octet(rt: HostRuntime) {
     for octets in [INITIAL, RESPONSE] {
         for size in 0..octets.len() {
-            assert_eq!(rt;
-                fault_of(rt.alloc(), &octets[..size]),
-                Some((size as u32, Cut)),
+            assert!(rt;
+                fault_of(rt.alloc(), &octets[..size]) == Some((size as u32, Cut)),
                 "{size}"
             );
         }
@@ -152,7 +150,7 @@ fn printed_again(alloc: Global, octets: &[u8]) -> Result<Octets, Fail> {
 #[test]
 fn prints_what_it_reads(rt: HostRuntime) -> Result<(), Fail> {
     for octets in [INITIAL, RESPONSE] {
-        assert_eq!(rt; printed_again(rt.alloc(), octets)?.as_slice(), octets);
+        assert!(rt; printed_again(rt.alloc(), octets)?.as_slice() == octets);
     }
     Ok(())
 }
@@ -263,8 +261,8 @@ fn answer(alloc: Global) -> Result<Message, Fail> {
 #[test]
 fn prints_what_is_put_together(rt: HostRuntime) -> Result<(), Fail> {
     for (made, octets) in [(offer(rt.alloc())?, OFFER), (answer(rt.alloc())?, ANSWER)] {
-        assert_eq!(rt; print(rt.alloc(), &made)?.as_slice(), octets);
-        assert_eq!(rt; printed_again(rt.alloc(), octets)?.as_slice(), octets);
+        assert!(rt; print(rt.alloc(), &made)?.as_slice() == octets);
+        assert!(rt; printed_again(rt.alloc(), octets)?.as_slice() == octets);
     }
     Ok(())
 }
@@ -302,7 +300,7 @@ fn keeps_every_length(rt: HostRuntime) -> Result<(), Fail> {
     for count in [0, 1, 255, 65535] {
         let octets = message_with(rt.alloc(), count)?;
         let again = printed_again(rt.alloc(), &octets)?;
-        assert_eq!(rt; again.as_slice(), octets.as_slice(), "{count}");
+        assert!(rt; again.as_slice() == octets.as_slice(), "{count}");
     }
     Ok(())
 }
@@ -310,18 +308,15 @@ fn keeps_every_length(rt: HostRuntime) -> Result<(), Fail> {
 #[test]
 fn shows_a_message(rt: HostRuntime) -> Result<(), Fail> {
     let message: Message = read(rt.alloc(), INITIAL)?;
-    assert_eq!(rt;
-        (message.kind, message.verify, message.csb),
-        (0, true, 0xcafe_babe)
-    );
+    assert!(rt; (message.kind, message.verify, message.csb) == (0, true, 0xcafe_babe));
     let numbers = [5, 11, 6, 21, 10, 1];
     let payloads: &[Payload] = message.payloads.as_slice();
-    assert_eq!(rt; payloads.len(), numbers.len());
+    assert!(rt; payloads.len() == numbers.len());
     for (payload, number) in payloads.iter().zip(numbers) {
-        assert_eq!(rt; payload.number(), number);
+        assert!(rt; payload.number() == number);
     }
     for entry in message.map.as_slice() {
-        assert_eq!(rt; (entry.policy, entry.ssrc, entry.roc), (0, 0xdeca_fbad, 7));
+        assert!(rt; (entry.policy, entry.ssrc, entry.roc) == (0, 0xdeca_fbad, 7));
     }
     Ok(())
 }
@@ -335,8 +330,8 @@ fn holds_keys(rt: HostRuntime) -> Result<(), Fail> {
         keys: Items::from_vec(keys),
     };
     for tgk in tgks.keys.into_vec() {
-        assert_eq!(rt; tgk.key.as_slice(), [7; 16].as_slice());
-        assert_eq!(rt; tgk.spi, Mki::new(1, 4));
+        assert!(rt; tgk.key.as_slice() == [7; 16].as_slice());
+        assert!(rt; tgk.spi == Mki::new(1, 4));
     }
     Ok(())
 }

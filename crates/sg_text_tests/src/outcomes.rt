@@ -11,7 +11,7 @@ fn fault_of(rt: &impl Abort, alloc: Global, octets: &[u8]) -> Option<ScriptFault
     match read_outcome(alloc, octets) {
         Ok(outcome) => {
             match print_outcome(alloc, &outcome) {
-                Ok(printed) => assert_eq!(rt; printed.as_slice(), octets),
+                Ok(printed) => assert!(rt; printed.as_slice() == octets),
                 Err(_) => assert!(rt; false, "memory"),
             }
             None
@@ -102,7 +102,7 @@ fn outcomes_and_causes(rt: HostRuntime) {
         b"refused 1 State\n",
     ];
     for row in &rows {
-        assert_eq!(rt; fault_of(&rt, rt.alloc(), row), None);
+        assert!(rt; fault_of(&rt, rt.alloc(), row) == None);
     }
 }
 
@@ -136,6 +136,6 @@ fn bad_outcomes(rt: HostRuntime) {
         (b"refused 1 Sdp Order\n", Word),
     ];
     for (row, fault) in &rows {
-        assert_eq!(rt; fault_of(&rt, rt.alloc(), row), Some(*fault));
+        assert!(rt; fault_of(&rt, rt.alloc(), row) == Some(*fault));
     }
 }

@@ -215,7 +215,7 @@ fn read(alloc: Global, texts: &[&str]) -> Result<Result<Command, CommandFault>, 
 #[test]
 fn words_are_commands(rt: HostRuntime) -> Result<(), Fail> {
     for (words, command) in COMMANDS {
-        assert_eq!(rt; read(rt.alloc(), words)?, Ok(command));
+        assert!(rt; read(rt.alloc(), words)? == Ok(command));
     }
     Ok(())
 }
@@ -223,7 +223,7 @@ fn words_are_commands(rt: HostRuntime) -> Result<(), Fail> {
 #[test]
 fn words_are_none(rt: HostRuntime) -> Result<(), Fail> {
     for words in NONE {
-        assert_eq!(rt; read(rt.alloc(), words)?, Err(CommandFault::Usage));
+        assert!(rt; read(rt.alloc(), words)? == Err(CommandFault::Usage));
     }
     Ok(())
 }

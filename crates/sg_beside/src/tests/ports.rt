@@ -22,9 +22,8 @@ fn ports_of_media(rt: HostRuntime) -> Result<(), Fail> {
     ];
     for (slot, medium, direction, kind, port) in rows {
         let leg = leg_of(direction, kind);
-        assert_eq!(rt;
-            port_at(slot, medium, leg),
-            port,
+        assert!(rt;
+            port_at(slot, medium, leg) == port,
             "slot {slot}, medium {medium}"
         );
     }
@@ -33,9 +32,9 @@ fn ports_of_media(rt: HostRuntime) -> Result<(), Fail> {
 
 #[test]
 fn addresses_of_a_peer(rt: HostRuntime) -> Result<(), Fail> {
-    assert_eq!(rt; next_port(Kind::Rtp, RTP).port, 40000);
+    assert!(rt; next_port(Kind::Rtp, RTP).port == 40000);
     let rtcp = next_port(Kind::Rtcp, RTP);
-    assert_eq!(rt; rtcp.port, 40001);
+    assert!(rt; rtcp.port == 40001);
     assert!(rt; is_same_ip(RTP, rtcp));
     let other = Address {
         ip: [127, 0, 0, 2],

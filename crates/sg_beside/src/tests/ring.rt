@@ -73,8 +73,8 @@ fn the_ring_answers_as_the_reference(rt: HostRuntime) -> Result<(), Fail> {
             Err(_) => Err(RingFault::RingFull),
         };
         refuses |= wanted.is_err();
-        assert_eq!(rt; told, wanted);
-        assert_eq!(rt; ring.count(), reference.count());
+        assert!(rt; told == wanted);
+        assert!(rt; ring.count() == reference.count());
     }
     assert!(rt; refuses && ring.count() > 0);
     Ok(())

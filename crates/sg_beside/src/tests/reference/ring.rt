@@ -60,8 +60,8 @@ fn no_key_twice(rt: HostRuntime) -> Result<(), Fail> {
     for (keys, want, count) in &rows {
         let answer = installs(alloc, &mut ring, keys)?;
         let want = want.map_err(|number| Refusal::KeyReused { number });
-        assert_eq!(rt; answer, want);
-        assert_eq!(rt; ring.count(), *count);
+        assert!(rt; answer == want);
+        assert!(rt; ring.count() == *count);
     }
     Ok(())
 }

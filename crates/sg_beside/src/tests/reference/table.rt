@@ -75,7 +75,7 @@ fn tells(
     requires { IsOfManualCalls line }
 {
     let told = told(alloc, table, line)?;
-    assert_eq!(rt; told.as_str(), text);
+    assert!(rt; told.as_str() == text);
     Ok(())
 }
 

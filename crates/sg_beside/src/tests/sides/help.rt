@@ -134,11 +134,11 @@ pub fn arrive(
     octets: &[u8],
 ) -> Result<Result<Opened, DropCause>, Fail> {
     let mut pad = Pad::make(alloc)?;
-    assert_eq!(rt; pad.fill(octets), Ok(()));
+    assert!(rt; pad.fill(octets) == Ok(()));
     Ok(match side.receive(pad) {
         Ok(opened) => Ok(opened),
         Err((pad, cause)) => {
-            assert_eq!(rt; pad.octets(), octets);
+            assert!(rt; pad.octets() == octets);
             Err(cause)
         }
     })
@@ -163,12 +163,12 @@ pub fn leave(
 ) -> Result<Result<Sealed, DropCause>, Fail> {
     assert!(rt; octets.len() <= 4096);
     let mut pad = Pad::make(alloc)?;
-    assert_eq!(rt; pad.fill(octets), Ok(()));
+    assert!(rt; pad.fill(octets) == Ok(()));
     assert!(rt; pad.octets().len() <= 4096);
     Ok(match side.send(pad) {
         Ok(sealed) => Ok(sealed),
         Err((pad, cause)) => {
-            assert_eq!(rt; pad.octets(), octets);
+            assert!(rt; pad.octets() == octets);
             Err(cause)
         }
     })

@@ -27,7 +27,7 @@ fn run(
     for (index, answer) in rows {
         let datagram = sealed(rt, alloc, &[], SOURCE, *index)?;
         let told = index_of(rt, alloc, &mut side, &datagram)?;
-        assert_eq!(rt; told, *answer, "sealed at {index}");
+        assert!(rt; told == *answer, "sealed at {index}");
     }
     Ok(())
 }
@@ -109,23 +109,20 @@ fn sixteen_sources(rt: HostRuntime) -> Result<(), Fail> {
             *octet ^= 1;
         }
         let told = index_of(&rt, rt.alloc(), &mut side, &forged)?;
-        assert_eq!(rt; told, Err(BadTag));
+        assert!(rt; told == Err(BadTag));
     }
     for source in 0..16 {
         let datagram = sealed(&rt, rt.alloc(), &[], source, 7)?;
-        assert_eq!(rt; index_of(&rt, rt.alloc(), &mut side, &datagram)?, Ok(7));
+        assert!(rt; index_of(&rt, rt.alloc(), &mut side, &datagram)? == Ok(7));
     }
     let mut more = sealed(&rt, rt.alloc(), &[], 16, 7)?;
-    assert_eq!(rt;
-        index_of(&rt, rt.alloc(), &mut side, &more)?,
-        Err(StreamsFull)
-    );
+    assert!(rt; index_of(&rt, rt.alloc(), &mut side, &more)? == Err(StreamsFull));
     if let Some(octet) = more.last_mut() {
         *octet ^= 1;
     }
-    assert_eq!(rt; index_of(&rt, rt.alloc(), &mut side, &more)?, Err(BadTag));
+    assert!(rt; index_of(&rt, rt.alloc(), &mut side, &more)? == Err(BadTag));
     let known = sealed(&rt, rt.alloc(), &[], 15, 8)?;
-    assert_eq!(rt; index_of(&rt, rt.alloc(), &mut side, &known)?, Ok(8));
+    assert!(rt; index_of(&rt, rt.alloc(), &mut side, &known)? == Ok(8));
     Ok(())
 }
 
@@ -138,12 +135,12 @@ fn every_length_below_a_packet(rt: HostRuntime) -> Result<(), Fail> {
     let mut mki = [0; 128];
     mki[127] = 9;
     let datagram = sealed(&rt, rt.alloc(), &mki, SOURCE, 3)?;
-    assert_eq!(rt; datagram.len(), 158);
+    assert!(rt; datagram.len() == 158);
     for length in 0..150 {
         let told = index_of(&rt, rt.alloc(), &mut side, &datagram[..length])?;
-        assert_eq!(rt; told, Err(Short), "{length}");
+        assert!(rt; told == Err(Short), "{length}");
     }
-    assert_eq!(rt; index_of(&rt, rt.alloc(), &mut side, &datagram)?, Ok(3));
+    assert!(rt; index_of(&rt, rt.alloc(), &mut side, &datagram)? == Ok(3));
     Ok(())
 }
 
@@ -164,8 +161,8 @@ fn every_octet_changed(rt: HostRuntime) -> Result<(), Fail> {
     }
     match arrive(&rt, rt.alloc(), &mut side, &datagram)? {
         Ok(opened) => {
-            assert_eq!(rt; opened.pad.octets(), packet(SOURCE, 3, 0x55).as_slice());
-            assert_eq!(rt; (opened.ssrc, opened.index, opened.key), (SOURCE, 3, 5));
+            assert!(rt; opened.pad.octets() == packet(SOURCE, 3, 0x55).as_slice());
+            assert!(rt; (opened.ssrc, opened.index, opened.key) == (SOURCE, 3, 5));
         }
         Err(cause) => assert!(rt; false, "{cause:?}"),
     }

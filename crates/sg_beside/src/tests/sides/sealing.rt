@@ -49,11 +49,11 @@ fn numbers_are_sealed_once(rt: HostRuntime) -> Result<(), Fail> {
         let told = leave(&rt, rt.alloc(), &mut side, &packet(ssrc, number, fill))?;
         match told {
             Ok(done) => {
-                assert_eq!(rt; Ok(done.index), answer, "{ssrc}: {number}");
+                assert!(rt; Ok(done.index) == answer, "{ssrc}: {number}");
                 let text = sealed(&rt, rt.alloc(), &[], ssrc, done.index)?;
-                assert_eq!(rt; done.pad.octets(), text.as_slice());
+                assert!(rt; done.pad.octets() == text.as_slice());
             }
-            Err(cause) => assert_eq!(rt; Err(cause), answer, "{ssrc}: {number}"),
+            Err(cause) => assert!(rt; Err(cause) == answer, "{ssrc}: {number}"),
         }
     }
     Ok(())
@@ -64,12 +64,12 @@ fn sixteen_sources(rt: HostRuntime) -> Result<(), Fail> {
     let mut side = side(&rt)?;
     for ssrc in 0..16 {
         let told = leave(&rt, rt.alloc(), &mut side, &packet(ssrc, 9, 0))?;
-        assert_eq!(rt; told.map(|done| done.index), Ok(9));
+        assert!(rt; told.map(|done| done.index) == Ok(9));
     }
     let told = leave(&rt, rt.alloc(), &mut side, &packet(16, 9, 0))?;
-    assert_eq!(rt; told.map(|done| done.index), Err(StreamsFull));
+    assert!(rt; told.map(|done| done.index) == Err(StreamsFull));
     let told = leave(&rt, rt.alloc(), &mut side, &packet(0, 10, 0))?;
-    assert_eq!(rt; told.map(|done| done.index), Ok(10));
+    assert!(rt; told.map(|done| done.index) == Ok(10));
     Ok(())
 }
 
@@ -87,7 +87,10 @@ fn heads_that_are_none(rt: HostRuntime) -> Result<(), Fail> {
         let mut octets = [0; 12];
         octets[0] = first;
         let told = leave(&rt, rt.alloc(), &mut side, &octets[..length])?;
-        assert_eq!(rt; told.map(|done| done.index), Err(fault), "{first} {length}");
+        assert!(rt;
+            told.map(|done| done.index) == Err(fault),
+            "{first} {length}"
+        );
     }
     Ok(())
 }
@@ -111,9 +114,9 @@ fn there_and_back(rt: &impl Abort, alloc: Global, suite: Suite) -> Result<(), Fa
         let told = leave(rt, alloc, &mut out, &plain[..length])?;
         match told {
             Ok(done) => {
-                assert_eq!(rt; done.pad.octets().len(), length + tag_len);
+                assert!(rt; done.pad.octets().len() == length + tag_len);
                 match arrive(rt, alloc, &mut back, done.pad.octets())? {
-                    Ok(opened) => assert_eq!(rt; opened.pad.octets(), &plain[..length]),
+                    Ok(opened) => assert!(rt; opened.pad.octets() == &plain[..length]),
                     Err(cause) => assert!(rt; false, "{length}: {cause:?}"),
                 }
             }
@@ -148,7 +151,7 @@ fn the_greatest_packet(rt: HostRuntime) -> Result<(), Fail> {
     match leave(&rt, rt.alloc(), &mut out, &plain)? {
         Ok(done) => {
             let half = keys(Suite::Cm256Tag80, Kind::Rtp)?;
-            assert_eq!(rt; half.encrypt.as_slice().len(), 32);
+            assert!(rt; half.encrypt.as_slice().len() == 32);
             let text = sg_reference::sealed_rtp(
                 rt.alloc(),
                 &half,
@@ -159,7 +162,7 @@ fn the_greatest_packet(rt: HostRuntime) -> Result<(), Fail> {
                 9,
                 &plain,
             )?;
-            assert_eq!(rt; done.pad.octets(), text.as_slice());
+            assert!(rt; done.pad.octets() == text.as_slice());
         }
         Err(cause) => assert!(rt; false, "{cause:?}"),
     }

@@ -136,11 +136,8 @@ fn opens(rt: &impl Abort, alloc: Global, row: &Row) -> Result<(), Fail> {
     let plain = octets_of(alloc, row.plain)?;
     match arrive(rt, alloc, &mut side, &sealed)? {
         Ok(opened) => {
-            assert_eq!(rt; opened.pad.octets(), plain.as_slice());
-            assert_eq!(rt;
-                (opened.ssrc, opened.index, opened.key),
-                (0xcafe_babe, row.index, 9)
-            );
+            assert!(rt; opened.pad.octets() == plain.as_slice());
+            assert!(rt; (opened.ssrc, opened.index, opened.key) == (0xcafe_babe, row.index, 9));
         }
         Err(cause) => assert!(rt; false, "{cause:?}"),
     }
@@ -163,11 +160,8 @@ fn seals(rt: &impl Abort, alloc: Global, row: &Row) -> Result<(), Fail> {
     let plain = octets_of(alloc, row.plain)?;
     match leave(rt, alloc, &mut side, &plain)? {
         Ok(done) => {
-            assert_eq!(rt; done.pad.octets(), sealed.as_slice());
-            assert_eq!(rt;
-                (done.ssrc, done.index, done.key),
-                (0xcafe_babe, row.index, 9)
-            );
+            assert!(rt; done.pad.octets() == sealed.as_slice());
+            assert!(rt; (done.ssrc, done.index, done.key) == (0xcafe_babe, row.index, 9));
         }
         Err(cause) => assert!(rt; false, "{cause:?}"),
     }
