@@ -8,6 +8,3 @@ pub mod reference;
 mod schedule;
 
 pub use schedule::Schedule;
-
-#[cfg(test)]
-mod tests;

@@ -4,8 +4,6 @@
 mod addresses;
 mod digits;
 mod faults;
-#[cfg(test)]
-mod field_tests;
 mod fields;
 mod identities;
 mod keys;

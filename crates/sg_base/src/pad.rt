@@ -85,39 +85,3 @@ impl Pad {
         self.octets.truncate(count);
     }
 }
-
-#[cfg(test)]
-mod tests {
-    use super::{PAD_MOST, Pad, TooLong};
-    use std::test::Fail;
-
-    #[test]
-    fn holds_a_datagram(rt: HostRuntime) -> Result<(), Fail> {
-        let mut pad = Pad::make(rt.alloc())?;
-        let long = vec![in rt.alloc(); 7u8; PAD_MOST + 1]?;
-        assert_eq!(rt; long.len(), PAD_MOST + 1);
-        for count in [0, 5, PAD_MOST] {
-            assert!(rt; count <= long.len());
-            assert_eq!(rt; pad.fill(&long[..count]), Ok(()), "{count} octets");
-            assert_eq!(rt; pad.octets().len(), count);
-        }
-        assert_eq!(rt; pad.fill(&[1, 2, 3]), Ok(()));
-        assert_eq!(rt; pad.fill(&long), Err(TooLong));
-        assert_eq!(rt; pad.octets(), [1, 2, 3].as_slice());
-        Ok(())
-    }
-
-    #[test]
-    fn edits_in_place(rt: HostRuntime) -> Result<(), Fail> {
-        let mut pad = Pad::make(rt.alloc())?;
-        assert_eq!(rt; pad.fill(&[1, 2, 3]), Ok(()));
-        pad.append(&[4, 5]);
-        assert_eq!(rt; pad.octets(), [1, 2, 3, 4, 5].as_slice());
-        if let Some(octet) = pad.octets_mut().first_mut() {
-            *octet = 9;
-        }
-        pad.cut_to(2);
-        assert_eq!(rt; pad.octets(), [9, 2].as_slice());
-        Ok(())
-    }
-}

@@ -6,8 +6,6 @@ mod hmac;
 mod laws;
 mod pseudo_random;
 mod tag;
-#[cfg(test)]
-mod tests;
 
 pub use hmac::{MAC_LEN, Mac, MacKey};
 pub use laws::hmac_sha1_length;

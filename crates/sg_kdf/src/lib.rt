@@ -60,6 +60,3 @@ fn raw_half(key: &[u8]) -> HalfKeys
         salt: [0; 14],
     }
 }
-
-#[cfg(test)]
-mod tests;

@@ -53,6 +53,3 @@ pub fn drain_all<R: Threads + Sync, L: Lane + Send, G: Gate + Sync>(
         },
     );
 }
-
-#[cfg(test)]
-mod tests;

@@ -1,6 +1,6 @@
 //! RFC 2202, and keys that another program computed.
 
-use crate::{Mac, MacKey, labelled_key, prf, tag_fits};
+use sg_hmac::{Mac, MacKey, labelled_key, prf, tag_fits};
 
 struct Row<'a> {
     key: &'a [u8],
@@ -64,7 +64,7 @@ fn published_codes(rt: HostRuntime) {
     for row in &ROWS {
         let mut mac = Mac::new(row.key);
         mac.update(row.text);
-        assert_eq!(rt; mac.finish(), octets_of(&row.code));
+        assert!(rt; mac.finish() == octets_of(&row.code));
     }
 }
 
@@ -77,7 +77,7 @@ fn cuts_and_kept_keys(rt: HostRuntime) {
             for part in row.text.chunks(size) {
                 mac.update(part);
             }
-            assert_eq!(rt; mac.finish(), octets_of(&row.code));
+            assert!(rt; mac.finish() == octets_of(&row.code));
         }
     }
 }
@@ -159,7 +159,7 @@ fn keys_of_another_program(rt: HostRuntime) {
             &labels[..label],
             &mut part[..octets.len()],
         );
-        assert_eq!(rt; &part[..octets.len()], octets, "{secret}, {label}");
+        assert!(rt; &part[..octets.len()] == octets);
     }
 }
 
@@ -189,6 +189,6 @@ fn labels_of_another_program(rt: HostRuntime) {
     for (constant, session, octets) in rows {
         let mut part = [0; 20];
         labelled_key(&secret, constant, session, 0xcafebabe, &random, &mut part);
-        assert_eq!(rt; part.as_slice(), octets, "{constant}");
+        assert!(rt; part.as_slice() == octets);
     }
 }

@@ -1,6 +1,6 @@
 //! Fields of texts.
 
-use crate::{Address, Suite, cut, read_address, read_four, read_number, read_octets, read_suite};
+use sg_base::{Address, Suite, cut, read_address, read_four, read_number, read_octets, read_suite};
 use std::test::Fail;
 
 #[test]
@@ -29,7 +29,7 @@ fn numbers(rt: HostRuntime) {
         (u128::MAX, b"340282366920938463463374607431768211456", None),
     ];
     for (most, text, number) in &rows {
-        assert_eq!(rt; read_number(*most, text), *number);
+        assert!(rt; read_number(*most, text) == *number);
     }
 }
 
@@ -48,7 +48,7 @@ fn pairs_of_digits(rt: HostRuntime) -> Result<(), Fail> {
     for (text, octets) in &rows {
         let read = read_octets(rt.alloc(), text)?;
         match (&read, octets) {
-            (Some(found), Some(octets)) => assert_eq!(rt; found.as_slice(), *octets),
+            (Some(found), Some(octets)) => assert!(rt; found.as_slice() == *octets),
             (None, None) => {}
             _ => assert!(rt; false),
         }
@@ -58,41 +58,36 @@ fn pairs_of_digits(rt: HostRuntime) -> Result<(), Fail> {
 
 #[test]
 fn addresses(rt: HostRuntime) {
-    let rows: [(&[u8], Option<([u8; 4], u16)>); 10] = [
-        (b"0.0.0.0:0", Some(([0, 0, 0, 0], 0))),
-        (b"127.0.0.1:40000", Some(([127, 0, 0, 1], 40000))),
-        (
-            b"255.255.255.255:65535",
-            Some(([255, 255, 255, 255], 65535)),
-        ),
-        (b"127.0.0.1:65536", None),
-        (b"127.0.0.256:1", None),
-        (b"127.0.0:1", None),
-        (b"127.0.0.1.1:1", None),
-        (b"127.0.0.01:1", None),
-        (b"127.0.0.1", None),
-        (b"127.0.0.1:1:1", None),
+    let rows: [(&[u8], [u8; 4], u16); 3] = [
+        (b"0.0.0.0:0", [0, 0, 0, 0], 0),
+        (b"127.0.0.1:40000", [127, 0, 0, 1], 40000),
+        (b"255.255.255.255:65535", [255, 255, 255, 255], 65535),
     ];
-    for (text, parts) in &rows {
-        let address = parts.map(|(ip, port)| Address { ip, port });
-        assert_eq!(rt; read_address(text), address);
+    for (text, ip, port) in rows {
+        assert!(rt; read_address(text) == Some(Address { ip, port }));
     }
-    assert_eq!(rt; read_four(b"10.0.0.9"), Some([10, 0, 0, 9]));
-    assert_eq!(rt; read_four(b"10.0.0.9:1"), None);
+    let others: [&[u8]; 7] = [
+        b"127.0.0.1:65536",
+        b"127.0.0.256:1",
+        b"127.0.0:1",
+        b"127.0.0.1.1:1",
+        b"127.0.0.01:1",
+        b"127.0.0.1",
+        b"127.0.0.1:1:1",
+    ];
+    for text in others {
+        assert!(rt; read_address(text).is_none());
+    }
+    assert!(rt; read_four(b"10.0.0.9") == Some([10, 0, 0, 9]));
+    assert!(rt; read_four(b"10.0.0.9:1") == None);
 }
 
 #[test]
 fn cuts_and_names(rt: HostRuntime) {
-    assert_eq!(rt;
-        cut(b':', b"a:b:c"),
-        Some((b"a".as_slice(), b"b:c".as_slice()))
-    );
-    assert_eq!(rt; cut(b':', b":"), Some((b"".as_slice(), b"".as_slice())));
-    assert_eq!(rt; cut(b':', b"abc"), None);
-    assert_eq!(rt;
-        read_suite(b"AES_256_CM_HMAC_SHA1_32"),
-        Some(Suite::Cm256Tag32)
-    );
-    assert_eq!(rt; read_suite(Suite::Raw80.name()), Some(Suite::Raw80));
-    assert_eq!(rt; read_suite(b"F8_128_HMAC_SHA1_80"), None);
+    assert!(rt; cut(b':', b"a:b:c") == Some((b"a".as_slice(), b"b:c".as_slice())));
+    assert!(rt; cut(b':', b":") == Some((b"".as_slice(), b"".as_slice())));
+    assert!(rt; cut(b':', b"abc") == None);
+    assert!(rt; read_suite(b"AES_256_CM_HMAC_SHA1_32") == Some(Suite::Cm256Tag32));
+    assert!(rt; read_suite(Suite::Raw80.name()) == Some(Suite::Raw80));
+    assert!(rt; read_suite(b"F8_128_HMAC_SHA1_80") == None);
 }

@@ -1,6 +1,8 @@
+//! Lanes: each is drained once, by workers side by side, behind the gate.
+
 ghost use Rattle.std.specs.Prelude.{◌≡◌, ◌+◌, ◌%◌, ◌^◌};
 
-use crate::{Gate, Lane, OpenGate, drain_all};
+use sg_lanes::{Gate, Lane, OpenGate, drain_all};
 use std::sync::atomic::{AtomicBool, Ordering};
 use std::test::Fail;
 
@@ -51,15 +53,22 @@ impl<'a> Lane for Waiting<'a> {
 /// A gate at which the workers of the first two lanes wait for each other.
 #[derive(Drop)]
 struct Meeting {
-    arrived: [AtomicBool; 2],
-    met: [AtomicBool; 2],
+    left: AtomicBool,
+    right: AtomicBool,
+    left_met: AtomicBool,
+    right_met: AtomicBool,
 }
 
 impl Gate for Meeting {
     fn enter(&self, lane: usize) {
-        if lane < 2 {
-            let met = meets(&self.arrived[lane], &self.arrived[1 - lane]);
-            self.met[lane].store(met, Ordering::SeqCst);
+        match lane {
+            0 => self
+                .left_met
+                .store(meets(&self.left, &self.right), Ordering::SeqCst),
+            1 => self
+                .right_met
+                .store(meets(&self.right, &self.left), Ordering::SeqCst),
+            _ => {}
         }
     }
 }
@@ -100,13 +109,13 @@ fn undrained(rt: &HostRuntime, count: usize) -> Result<Vec<Counted>, Fail> {
     Ok(lanes)
 }
 
-fn flags() -> [AtomicBool; 4] {
-    [
-        AtomicBool::new(false),
-        AtomicBool::new(false),
-        AtomicBool::new(false),
-        AtomicBool::new(false),
-    ]
+/// Four flags that are down.
+fn flags(rt: &HostRuntime) -> Result<Vec<AtomicBool>, Fail> {
+    let mut flags = Vec::new(rt.alloc());
+    for _ in 0..4 {
+        flags.push(AtomicBool::new(false))?;
+    }
+    Ok(flags)
 }
 
 #[test]
@@ -124,9 +133,9 @@ fn each_lane_is_drained_once(rt: HostRuntime) -> Result<(), Fail> {
     for (count, workers) in rows {
         let mut lanes = undrained(&rt, count)?;
         drain_all(&rt, lanes.as_mut_slice(), workers, &OpenGate);
-        assert_eq!(rt; lanes.len(), count);
+        assert!(rt; lanes.len() == count);
         for lane in &lanes {
-            assert_eq!(rt; lane.times, 1);
+            assert!(rt; lane.times == 1);
         }
     }
     Ok(())
@@ -136,41 +145,38 @@ fn each_lane_is_drained_once(rt: HostRuntime) -> Result<(), Fail> {
 fn two_lanes_meet(rt: HostRuntime) -> Result<(), Fail> {
     let left = AtomicBool::new(false);
     let right = AtomicBool::new(false);
-    let mut lanes = [
-        Waiting {
-            mine: &left,
-            other: &right,
+    let mut lanes = Vec::new(rt.alloc());
+    for (mine, other) in [(&left, &right), (&right, &left)] {
+        lanes.push(Waiting {
+            mine,
+            other,
             met: false,
-        },
-        Waiting {
-            mine: &right,
-            other: &left,
-            met: false,
-        },
-    ];
+        })?;
+    }
     drain_all(&rt, lanes.as_mut_slice(), 2, &OpenGate);
-    assert!(rt; lanes[0].met);
-    assert!(rt; lanes[1].met);
+    assert!(rt; lanes.iter().all(|lane| lane.met));
     Ok(())
 }
 
 #[test]
 fn two_workers_meet_in_the_gate(rt: HostRuntime) -> Result<(), Fail> {
     let gate = Meeting {
-        arrived: [AtomicBool::new(false), AtomicBool::new(false)],
-        met: [AtomicBool::new(false), AtomicBool::new(false)],
+        left: AtomicBool::new(false),
+        right: AtomicBool::new(false),
+        left_met: AtomicBool::new(false),
+        right_met: AtomicBool::new(false),
     };
     let mut lanes = undrained(&rt, 2)?;
     drain_all(&rt, lanes.as_mut_slice(), 2, &gate);
-    assert!(rt; gate.met[0].load(Ordering::SeqCst));
-    assert!(rt; gate.met[1].load(Ordering::SeqCst));
+    assert!(rt; gate.left_met.load(Ordering::SeqCst));
+    assert!(rt; gate.right_met.load(Ordering::SeqCst));
     Ok(())
 }
 
 #[test]
 fn the_gate_comes_before_each_lane(rt: HostRuntime) -> Result<(), Fail> {
     for workers in [1, 2, 3, 9] {
-        let noted = flags();
+        let noted = flags(&rt)?;
         let mut lanes = Vec::new(rt.alloc());
         for flag in &noted {
             lanes.push(Guarded {

@@ -1,9 +1,10 @@
 //! Published derivations, and a packet sealed under derived keys.
 
-use super::*;
-use sg_base::Suite;
+use sg_aes::Schedule;
+use sg_base::{MasterKey, Suite};
 use sg_ctr::apply;
 use sg_hmac::MacKey;
+use sg_kdf::derive;
 use std::test::Fail;
 
 // RFC 3711, B.3: the master key and salt, then the SRTP encryption key, salt and authentication key.
@@ -102,9 +103,8 @@ fn derives_as_published(rt: HostRuntime) -> Result<(), Fail> {
     for (suite, octets, encrypt, salt, auth) in rows {
         let master = MasterKey::new(suite, octets).ok_or("no master key")?;
         let keys = derive(&master);
-        assert_eq!(rt; keys.rtp.encrypt.as_slice(), encrypt, "{suite:?}");
-        assert_eq!(rt; keys.rtp.salt, salt, "{suite:?}");
-        assert_eq!(rt; keys.rtp.auth, auth, "{suite:?}");
+        assert!(rt; keys.rtp.encrypt.as_slice() == encrypt);
+        assert!(rt; (keys.rtp.salt, keys.rtp.auth) == (salt, auth));
     }
     Ok(())
 }
@@ -113,7 +113,7 @@ fn derives_as_published(rt: HostRuntime) -> Result<(), Fail> {
 fn a_raw_key_is_the_authentication_key(rt: HostRuntime) -> Result<(), Fail> {
     let master = MasterKey::new(Suite::Raw80, &SMALL_AUTH).ok_or("no master key")?;
     let keys = derive(&master);
-    assert_eq!(rt; keys.rtp.auth, SMALL_AUTH);
+    assert!(rt; keys.rtp.auth == SMALL_AUTH);
     assert!(rt; keys.rtp.encrypt.as_slice().is_empty());
     assert!(rt; keys.rtcp.encrypt.as_slice().is_empty());
     Ok(())
@@ -127,10 +127,7 @@ fn a_packet_is_sealed_under_derived_keys(rt: HostRuntime) -> Result<(), Fail> {
     let schedule = Schedule::new(keys.rtp.encrypt.as_slice()).ok_or("no schedule")?;
     let mut part = [0xab; 16];
     apply(&schedule, &keys.rtp.salt, 0xcafebabe, 0x1234, &mut part);
-    assert_eq!(rt;
-        u128::from_be_bytes(part),
-        0x4e55dc4ce79978d88ca4d215949d2402
-    );
+    assert!(rt; u128::from_be_bytes(part) == 0x4e55dc4ce79978d88ca4d215949d2402);
     let mut mac = MacKey::new(&keys.rtp.auth).start();
     mac.update(&[
         0x80, 0x0f, 0x12, 0x34, 0xde, 0xca, 0xfb, 0xad, 0xca, 0xfe, 0xba, 0xbe,
@@ -138,9 +135,8 @@ fn a_packet_is_sealed_under_derived_keys(rt: HostRuntime) -> Result<(), Fail> {
     mac.update(&part);
     mac.update(&[0; 4]);
     let code = mac.finish();
-    assert_eq!(rt;
-        &code[..10],
-        [0xb7, 0x8d, 0x6a, 0xcc, 0x99, 0xea, 0x17, 0x9b, 0x8d, 0xbb].as_slice()
+    assert!(rt;
+        &code[..10] == [0xb7, 0x8d, 0x6a, 0xcc, 0x99, 0xea, 0x17, 0x9b, 0x8d, 0xbb].as_slice()
     );
     Ok(())
 }
