@@ -77,22 +77,39 @@ fn addresses(rt: HostRuntime) {
         let address = parts.map(|(ip, port)| Address { ip, port });
         assert_eq!(rt; read_address(text), address);
     }
-    assert_eq!(rt; read_four(b"10.0.0.9"), Some([10, 0, 0, 9]));
-    assert_eq!(rt; read_four(b"10.0.0.9:1"), None);
 }
 
 #[test]
-fn cuts_and_names(rt: HostRuntime) {
-    assert_eq!(rt;
-        cut(b':', b"a:b:c"),
-        Some((b"a".as_slice(), b"b:c".as_slice()))
-    );
-    assert_eq!(rt; cut(b':', b":"), Some((b"".as_slice(), b"".as_slice())));
-    assert_eq!(rt; cut(b':', b"abc"), None);
-    assert_eq!(rt;
-        read_suite(b"AES_256_CM_HMAC_SHA1_32"),
-        Some(Suite::Cm256Tag32)
-    );
-    assert_eq!(rt; read_suite(Suite::Raw80.name()), Some(Suite::Raw80));
-    assert_eq!(rt; read_suite(b"F8_128_HMAC_SHA1_80"), None);
+fn four_numbers(rt: HostRuntime) {
+    let rows: [(&[u8], Option<[u8; 4]>); 2] = [
+        (b"10.0.0.9", Some([10, 0, 0, 9])),
+        (b"10.0.0.9:1", None),
+    ];
+    for (text, four) in &rows {
+        assert_eq!(rt; read_four(text), *four);
+    }
+}
+
+#[test]
+fn cuts(rt: HostRuntime) {
+    let rows: [(&[u8], Option<(&[u8], &[u8])>); 3] = [
+        (b"a:b:c", Some((b"a", b"b:c"))),
+        (b":", Some((b"", b""))),
+        (b"abc", None),
+    ];
+    for (text, parts) in &rows {
+        assert_eq!(rt; cut(b':', text), *parts);
+    }
+}
+
+#[test]
+fn names_of_suites(rt: HostRuntime) {
+    let rows: [(&[u8], Option<Suite>); 3] = [
+        (b"AES_256_CM_HMAC_SHA1_32", Some(Suite::Cm256Tag32)),
+        (Suite::Raw80.name(), Some(Suite::Raw80)),
+        (b"F8_128_HMAC_SHA1_80", None),
+    ];
+    for (name, suite) in &rows {
+        assert_eq!(rt; read_suite(name), *suite);
+    }
 }

@@ -127,13 +127,22 @@ mod tests {
 
     #[test]
     fn has_the_highest_octet_first(rt: HostRuntime) -> Result<(), Fail> {
-        let short = Mki::new(0x0102, 4).ok_or("258 fits four octets")?;
-        assert_eq!(rt; short.octets().as_slice(), [0, 0, 1, 2].as_slice());
-        let long = Mki::new(u128::MAX, 18).ok_or("16 octets fit 18")?;
-        let octets = long.octets();
-        assert_eq!(rt; octets.len(), 18);
-        assert_eq!(rt; &octets.as_slice()[..3], [0, 0, 255].as_slice());
-        assert_eq!(rt; (long.value(), long.len()), (u128::MAX, 18));
+        let rows: [(u128, u8, &[u8]); 2] = [
+            (0x0102, 4, &[0, 0, 1, 2]),
+            (
+                u128::MAX,
+                18,
+                &[
+                    0, 0, 255, 255, 255, 255, 255, 255, 255, 255, 255, 255, 255, 255, 255, 255,
+                    255, 255,
+                ],
+            ),
+        ];
+        for (value, length, octets) in &rows {
+            let mki = Mki::new(*value, *length).ok_or("the value fits")?;
+            assert_eq!(rt; mki.octets().as_slice(), *octets);
+            assert_eq!(rt; (mki.value(), mki.len()), (*value, *length));
+        }
         Ok(())
     }
 

@@ -89,7 +89,21 @@ impl Pad {
 #[cfg(test)]
 mod tests {
     use super::{PAD_MOST, Pad, TooLong};
+    use std::process::Abort;
     use std::test::Fail;
+
+    fn holds(rt: &impl Abort, pad: &Pad, octets: &[u8])
+        ensures { pad.now ≡ octets.now }
+    {
+        assert_eq!(rt; pad.octets(), octets, "{} octets", octets.len());
+    }
+
+    fn fill(rt: &impl Abort, pad: &mut Pad, octets: &[u8])
+        ensures { pad.new ≡ octets.now }
+    {
+        assert_eq!(rt; pad.fill(octets), Ok(()), "{} octets", octets.len());
+        holds(rt, pad, octets);
+    }
 
     #[test]
     fn holds_a_datagram(rt: HostRuntime) -> Result<(), Fail> {
@@ -98,26 +112,25 @@ mod tests {
         assert_eq!(rt; long.len(), PAD_MOST + 1);
         for count in [0, 5, PAD_MOST] {
             assert!(rt; count <= long.len());
-            assert_eq!(rt; pad.fill(&long[..count]), Ok(()), "{count} octets");
-            assert_eq!(rt; pad.octets().len(), count);
+            fill(&rt, &mut pad, &long[..count]);
         }
-        assert_eq!(rt; pad.fill(&[1, 2, 3]), Ok(()));
+        fill(&rt, &mut pad, &[1, 2, 3]);
         assert_eq!(rt; pad.fill(&long), Err(TooLong));
-        assert_eq!(rt; pad.octets(), [1, 2, 3].as_slice());
+        holds(&rt, &pad, &[1, 2, 3]);
         Ok(())
     }
 
     #[test]
     fn edits_in_place(rt: HostRuntime) -> Result<(), Fail> {
         let mut pad = Pad::make(rt.alloc())?;
-        assert_eq!(rt; pad.fill(&[1, 2, 3]), Ok(()));
+        fill(&rt, &mut pad, &[1, 2, 3]);
         pad.append(&[4, 5]);
-        assert_eq!(rt; pad.octets(), [1, 2, 3, 4, 5].as_slice());
+        holds(&rt, &pad, &[1, 2, 3, 4, 5]);
         if let Some(octet) = pad.octets_mut().first_mut() {
             *octet = 9;
         }
         pad.cut_to(2);
-        assert_eq!(rt; pad.octets(), [9, 2].as_slice());
+        holds(&rt, &pad, &[9, 2]);
         Ok(())
     }
 }
