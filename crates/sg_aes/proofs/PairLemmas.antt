@@ -157,8 +157,14 @@ length-last_round s key = refl
 
 -- ---- the first key
 
+zip2-append : (f : ℕ → ℕ → ℕ) (x k y l : List ℕ) → length x ≡ length k → zip2 f (x ++ y) (k ++ l) ≡ zip2 f x k ++ zip2 f y l
+zip2-append f [] [] y l e = refl
+zip2-append f [] (b ∷ k) y l e = absurd (omega arith)
+zip2-append f (a ∷ x) [] y l e = absurd (omega arith)
+zip2-append f (a ∷ x) (b ∷ k) y l e = ap (λ r. f a b ∷ r) (zip2-append f x k y l (omega arith))
+
 added_by_halves : (x y k : List ℕ) → length x ≡ 16 → length y ≡ 16 → length k ≡ 16 → zip2 bit_xor (x ++ y) (k ++ k) ≡ zip2 bit_xor x k ++ zip2 bit_xor y k
-added_by_halves x y k hx hy hk = rw (sixteen_is x hx, sixteen_is y hy, sixteen_is k hk) refl
+added_by_halves x y k hx hy hk = zip2-append bit_xor x k y k (hx ∙ sym hk)
 
 pub pair_keyed_is : (x y key xy kk n : List ℕ) → length x ≡ 16 → length y ≡ 16 → ((i : ℕ) → slice_index x i < 256) → ((i : ℕ) → slice_index y i < 256)
     → IsOctets 16 key → xy ≡ x ++ y → kk ≡ key ++ key → n ≡ map nibbles (zip2 bit_xor xy kk) → HasBoth n (add_round_key x key) (add_round_key y key)

@@ -161,7 +161,7 @@ fn two_of(map: &[CsEntry]) -> Option<(&CsEntry, &CsEntry, &[CsEntry])>
 }
 
 // The crypto sessions from 1 on, by two.
-#[tactic(auto, using(crate::proofs::Loops::one_more, crate::proofs::Loops::none_left, crate::proofs::Loops::ends), unfolding(crate::specs::CryptoSessions::pairs_from))]
+#[tactic(auto, unfolding(crate::specs::CryptoSessions::pairs_from))]
 fn pairs_of(
     alloc: Global,
     csb: u32,

@@ -163,6 +163,16 @@ fn unsent_of(a: &[u8], more: &[&[u8]]) -> Result<Outcome, ScriptFault>
     }
 }
 
+/// What fields gave, as a line gives it.
+fn of_line(outcome: Result<Outcome, ScriptFault>) -> Result<Outcome, ReadLineFault>
+    ensures { Gives result outcome }
+{
+    match outcome {
+        Ok(outcome) => Ok(outcome),
+        Err(fault) => Err(ReadLineFault::Script(fault)),
+    }
+}
+
 #[tactic(auto, unfolding(crate::specs::OutcomeOf::outcome_by))]
 fn outcome_of_word(
     alloc: Global,
@@ -173,28 +183,28 @@ fn outcome_of_word(
     ensures { Gives result (outcome_by word.now a.now (map (λ x. x.now) more.now)) }
 {
     if word == b"made".as_slice() {
-        return Ok(made_of(a, more)?);
+        return of_line(made_of(a, more));
     }
     if word == b"live".as_slice() {
-        return Ok(live_of(a, more)?);
+        return of_line(live_of(a, more));
     }
     if word == b"sdp".as_slice() {
         return described_of(alloc, a, more);
     }
     if word == b"refused".as_slice() {
-        return Ok(refused(a, more)?);
+        return of_line(refused(a, more));
     }
     if word == b"ended".as_slice() {
-        return Ok(ended_of(a, more)?);
+        return of_line(ended_of(a, more));
     }
     if word == b"out".as_slice() {
         return out_of(alloc, a, more);
     }
     if word == b"drop".as_slice() {
-        return Ok(dropped(a, more)?);
+        return of_line(dropped(a, more));
     }
     if word == b"unsent".as_slice() {
-        return Ok(unsent_of(a, more)?);
+        return of_line(unsent_of(a, more));
     }
     Err(WORD)
 }

@@ -87,9 +87,9 @@ demo_known rest n s w o b seen reads =
     let calls_read : positive 256 (decimal n) ≡ Some n = positive_known 256 n b.some b.few (omega arith) in
     let most : 18446744073709551615 < 10 ^ 64 = omega arith in
     let start_read : number_at 18446744073709551615 (decimal s) ≡ Some s = number_again 18446744073709551615 s (omega (arith, b.small)) most in
-    found_by (codes "demo" ∷ rest) (Demo n s w) seen.fault
-    (ap (λ (t : Option Text). demo_by rest t (text_in (codes "start") (codes "demo" ∷ rest)) (text_in (codes "workers") (codes "demo" ∷ rest))) seen.calls
-    ∙ ap₂ (λ (t u : Option Text). demo_by rest (Some (decimal n)) t u) seen.start seen.workers
+    found_by (codes "demo" ∷ rest) (Demo n s w) (ap (λ x. x.0) seen.found)
+    (ap (λ (t : Option Text). demo_by rest t (text_in (codes "start") (codes "demo" ∷ rest)) (text_in (codes "workers") (codes "demo" ∷ rest))) (ap (λ x. x.1) seen.found)
+    ∙ ap₂ (λ (t u : Option Text). demo_by rest (Some (decimal n)) t u) (ap (λ x. x.2) seen.found) (ap (λ x. x.3) seen.found)
     ∙ ap (option_and_then (λ (c : ℕ). option_and_then (λ (k : ℕ). option_map (λ (x : ℕ). Demo c k x) (workers_by rest (decimal n ∷ decimal s ∷ []) o)) (number_at 18446744073709551615 (decimal s)))) calls_read
     ∙ ap (option_and_then (λ (k : ℕ). option_map (λ (x : ℕ). Demo n k x) (workers_by rest (decimal n ∷ decimal s ∷ []) o))) start_read
     ∙ ap (option_map (λ (x : ℕ). Demo n s x)) (reads seen.written))

@@ -47,12 +47,17 @@ replay_seen o rest = (fault_of srtpgw (codes "replay" ∷ rest), text_in (codes 
 abbrev pub relay_seen : Option Text → Words → Seen
 relay_seen o rest = (fault_of srtpgw (codes "relay" ∷ rest), text_in (codes "turns") (codes "relay" ∷ rest), are_written rest [] (codes "--turns") o)
 
--- and in those of a demonstration: its two numbers are found too
+-- what clap says of a demonstration: the faults, and the texts of its numbers and of its option
+abbrev pub Found : Type 0
+Found = Kinds × Option Text × Option Text × Option Text
+
+abbrev pub demo_found : Words → Found
+demo_found rest =
+    (fault_of srtpgw (codes "demo" ∷ rest), text_in (codes "calls") (codes "demo" ∷ rest), text_in (codes "start") (codes "demo" ∷ rest), text_in (codes "workers") (codes "demo" ∷ rest))
+
+-- and what is seen in its words: its two numbers are found too
 pub record IsDemoSeen (c s : Text) (o : Option Text) (rest : Words) : Type 0 where
-  pub fault : fault_of srtpgw (codes "demo" ∷ rest) ≡ []
-  pub calls : text_in (codes "calls") (codes "demo" ∷ rest) ≡ Some c
-  pub start : text_in (codes "start") (codes "demo" ∷ rest) ≡ Some s
-  pub workers : text_in (codes "workers") (codes "demo" ∷ rest) ≡ o
+  pub found : demo_found rest ≡ ([], Some c, Some s, o)
   pub written : are_written rest (c ∷ s ∷ []) (codes "--workers") o ≡ true
 
 -- clap takes each way to write `replay` with its option, and finds its value
@@ -99,146 +104,92 @@ pub demo_with : (c s v : Text) → IsValue c → IsValue s → IsValue v → (re
 unfolding clap_on_literals
 demo_with c s v ic is iv rest others (inl e) =
     inl (subst (IsDemoSeen c s (Some v)) (sym e) (record {
-      fault = rw (ic.end, ic.long, ic.short, is.end, is.long, is.short) refl;
-      calls = rw (ic.end, ic.long, ic.short, is.end, is.long, is.short) refl;
-      start = rw (ic.end, ic.long, ic.short, is.end, is.long, is.short) refl;
-      workers = rw (ic.end, ic.long, ic.short, is.end, is.long, is.short) refl;
+      found = rw (ic.end, ic.long, ic.short, is.end, is.long, is.short) refl;
       written = rw (iv.itself, ic.end, ic.itself, is.end, is.itself) refl;
     }))
 demo_with c s v ic is iv rest others (inr (inl e)) =
     inl (subst (IsDemoSeen c s (Some v)) (sym e) (record {
-      fault = refl;
-      calls = refl;
-      start = refl;
-      workers = refl;
+      found = refl;
       written = rw (iv.itself, ic.itself, is.itself) refl;
     }))
 demo_with c s v ic is iv rest others (inr (inr (inl e))) =
     inl (subst (IsDemoSeen c s (Some v)) (sym e) (record {
-      fault = rw (ic.end, ic.long, ic.short) refl;
-      calls = rw (ic.end, ic.long, ic.short) refl;
-      start = rw (ic.end, ic.long, ic.short) refl;
-      workers = rw (ic.end, ic.long, ic.short) refl;
+      found = rw (ic.end, ic.long, ic.short) refl;
       written = rw (iv.itself, ic.end, ic.itself, is.itself) refl;
     }))
 demo_with c s v ic is iv rest others (inr (inr (inr (inl e)))) =
     inl (subst (IsDemoSeen c s (Some v)) (sym e) (record {
-      fault = rw (ic.end, ic.long, ic.short, is.end, is.long, is.short) refl;
-      calls = rw (ic.end, ic.long, ic.short, is.end, is.long, is.short) refl;
-      start = rw (ic.end, ic.long, ic.short, is.end, is.long, is.short) refl;
-      workers = rw (ic.end, ic.long, ic.short, is.end, is.long, is.short) refl;
+      found = rw (ic.end, ic.long, ic.short, is.end, is.long, is.short) refl;
       written = rw (iv.itself, ic.end, ic.itself, is.end, is.itself) refl;
     }))
 demo_with c s v ic is iv rest others (inr (inr (inr (inr (inl e))))) =
     inl (subst (IsDemoSeen c s (Some v)) (sym e) (record {
-      fault = rw (iv.end, iv.long, iv.short, ic.end, ic.long, ic.short, is.end, is.long, is.short) refl;
-      calls = rw (iv.end, iv.long, iv.short, ic.end, ic.long, ic.short, is.end, is.long, is.short) refl;
-      start = rw (iv.end, iv.long, iv.short, ic.end, ic.long, ic.short, is.end, is.long, is.short) refl;
-      workers = rw (iv.end, iv.long, iv.short, ic.end, ic.long, ic.short, is.end, is.long, is.short) refl;
+      found = rw (iv.end, iv.long, iv.short, ic.end, ic.long, ic.short, is.end, is.long, is.short) refl;
       written = rw (iv.itself, ic.end, ic.itself, is.end, is.itself) refl;
     }))
 demo_with c s v ic is iv rest others (inr (inr (inr (inr (inr (inl e)))))) =
     inl (subst (IsDemoSeen c s (Some v)) (sym e) (record {
-      fault = rw (iv.end, iv.long, iv.short) refl;
-      calls = rw (iv.end, iv.long, iv.short) refl;
-      start = rw (iv.end, iv.long, iv.short) refl;
-      workers = rw (iv.end, iv.long, iv.short) refl;
+      found = rw (iv.end, iv.long, iv.short) refl;
       written = rw (iv.itself, ic.itself, is.itself) refl;
     }))
 demo_with c s v ic is iv rest others (inr (inr (inr (inr (inr (inr (inl e))))))) =
     inl (subst (IsDemoSeen c s (Some v)) (sym e) (record {
-      fault = rw (iv.end, iv.long, iv.short, ic.end, ic.long, ic.short) refl;
-      calls = rw (iv.end, iv.long, iv.short, ic.end, ic.long, ic.short) refl;
-      start = rw (iv.end, iv.long, iv.short, ic.end, ic.long, ic.short) refl;
-      workers = rw (iv.end, iv.long, iv.short, ic.end, ic.long, ic.short) refl;
+      found = rw (iv.end, iv.long, iv.short, ic.end, ic.long, ic.short) refl;
       written = rw (iv.itself, ic.end, ic.itself, is.itself) refl;
     }))
 demo_with c s v ic is iv rest others (inr (inr (inr (inr (inr (inr (inr (inl e)))))))) =
     inl (subst (IsDemoSeen c s (Some v)) (sym e) (record {
-      fault = rw (iv.end, iv.long, iv.short, ic.end, ic.long, ic.short, is.end, is.long, is.short) refl;
-      calls = rw (iv.end, iv.long, iv.short, ic.end, ic.long, ic.short, is.end, is.long, is.short) refl;
-      start = rw (iv.end, iv.long, iv.short, ic.end, ic.long, ic.short, is.end, is.long, is.short) refl;
-      workers = rw (iv.end, iv.long, iv.short, ic.end, ic.long, ic.short, is.end, is.long, is.short) refl;
+      found = rw (iv.end, iv.long, iv.short, ic.end, ic.long, ic.short, is.end, is.long, is.short) refl;
       written = rw (iv.itself, ic.end, ic.itself, is.end, is.itself) refl;
     }))
 demo_with c s v ic is iv rest others (inr (inr (inr (inr (inr (inr (inr (inr (inl e))))))))) =
     inl (subst (IsDemoSeen c s (Some v)) (sym e) (record {
-      fault = rw (ic.end, ic.long, ic.short, is.end, is.long, is.short) refl;
-      calls = rw (ic.end, ic.long, ic.short, is.end, is.long, is.short) refl;
-      start = rw (ic.end, ic.long, ic.short, is.end, is.long, is.short) refl;
-      workers = rw (ic.end, ic.long, ic.short, is.end, is.long, is.short) refl;
+      found = rw (ic.end, ic.long, ic.short, is.end, is.long, is.short) refl;
       written = rw (ic.joined, ic.apart, ic.itself, iv.itself, is.end, is.itself) refl;
     }))
 demo_with c s v ic is iv rest others (inr (inr (inr (inr (inr (inr (inr (inr (inr (inl e)))))))))) =
     inl (subst (IsDemoSeen c s (Some v)) (sym e) (record {
-      fault = rw (ic.end, ic.long, ic.short) refl;
-      calls = rw (ic.end, ic.long, ic.short) refl;
-      start = rw (ic.end, ic.long, ic.short) refl;
-      workers = rw (ic.end, ic.long, ic.short) refl;
+      found = rw (ic.end, ic.long, ic.short) refl;
       written = rw (ic.joined, ic.apart, ic.itself, iv.itself, is.itself) refl;
     }))
 demo_with c s v ic is iv rest others (inr (inr (inr (inr (inr (inr (inr (inr (inr (inr (inl e))))))))))) =
     inl (subst (IsDemoSeen c s (Some v)) (sym e) (record {
-      fault = rw (ic.end, ic.long, ic.short, is.end, is.long, is.short) refl;
-      calls = rw (ic.end, ic.long, ic.short, is.end, is.long, is.short) refl;
-      start = rw (ic.end, ic.long, ic.short, is.end, is.long, is.short) refl;
-      workers = rw (ic.end, ic.long, ic.short, is.end, is.long, is.short) refl;
+      found = rw (ic.end, ic.long, ic.short, is.end, is.long, is.short) refl;
       written = rw (ic.joined, ic.apart, ic.itself, iv.itself, is.end, is.itself) refl;
     }))
 demo_with c s v ic is iv rest others (inr (inr (inr (inr (inr (inr (inr (inr (inr (inr (inr (inl e)))))))))))) =
     inl (subst (IsDemoSeen c s (Some v)) (sym e) (record {
-      fault = rw (ic.end, ic.long, ic.short, iv.end, iv.long, iv.short, is.end, is.long, is.short) refl;
-      calls = rw (ic.end, ic.long, ic.short, iv.end, iv.long, iv.short, is.end, is.long, is.short) refl;
-      start = rw (ic.end, ic.long, ic.short, iv.end, iv.long, iv.short, is.end, is.long, is.short) refl;
-      workers = rw (ic.end, ic.long, ic.short, iv.end, iv.long, iv.short, is.end, is.long, is.short) refl;
+      found = rw (ic.end, ic.long, ic.short, iv.end, iv.long, iv.short, is.end, is.long, is.short) refl;
       written = rw (ic.joined, ic.apart, ic.itself, iv.itself, is.end, is.itself) refl;
     }))
 demo_with c s v ic is iv rest others (inr (inr (inr (inr (inr (inr (inr (inr (inr (inr (inr (inr (inl e))))))))))))) =
     inl (subst (IsDemoSeen c s (Some v)) (sym e) (record {
-      fault = rw (ic.end, ic.long, ic.short, iv.end, iv.long, iv.short) refl;
-      calls = rw (ic.end, ic.long, ic.short, iv.end, iv.long, iv.short) refl;
-      start = rw (ic.end, ic.long, ic.short, iv.end, iv.long, iv.short) refl;
-      workers = rw (ic.end, ic.long, ic.short, iv.end, iv.long, iv.short) refl;
+      found = rw (ic.end, ic.long, ic.short, iv.end, iv.long, iv.short) refl;
       written = rw (ic.joined, ic.apart, ic.itself, iv.itself, is.itself) refl;
     }))
 demo_with c s v ic is iv rest others (inr (inr (inr (inr (inr (inr (inr (inr (inr (inr (inr (inr (inr (inl e)))))))))))))) =
     inl (subst (IsDemoSeen c s (Some v)) (sym e) (record {
-      fault = rw (ic.end, ic.long, ic.short, iv.end, iv.long, iv.short, is.end, is.long, is.short) refl;
-      calls = rw (ic.end, ic.long, ic.short, iv.end, iv.long, iv.short, is.end, is.long, is.short) refl;
-      start = rw (ic.end, ic.long, ic.short, iv.end, iv.long, iv.short, is.end, is.long, is.short) refl;
-      workers = rw (ic.end, ic.long, ic.short, iv.end, iv.long, iv.short, is.end, is.long, is.short) refl;
+      found = rw (ic.end, ic.long, ic.short, iv.end, iv.long, iv.short, is.end, is.long, is.short) refl;
       written = rw (ic.joined, ic.apart, ic.itself, iv.itself, is.end, is.itself) refl;
     }))
 demo_with c s v ic is iv rest others (inr (inr (inr (inr (inr (inr (inr (inr (inr (inr (inr (inr (inr (inr (inl e))))))))))))))) =
     inl (subst (IsDemoSeen c s (Some v)) (sym e) (record {
-      fault = rw (ic.end, ic.long, ic.short, is.end, is.long, is.short) refl;
-      calls = rw (ic.end, ic.long, ic.short, is.end, is.long, is.short) refl;
-      start = rw (ic.end, ic.long, ic.short, is.end, is.long, is.short) refl;
-      workers = rw (ic.end, ic.long, ic.short, is.end, is.long, is.short) refl;
+      found = rw (ic.end, ic.long, ic.short, is.end, is.long, is.short) refl;
       written = rw (ic.joined, ic.apart, ic.itself, is.joined, is.apart, is.itself, iv.itself) refl;
     }))
 demo_with c s v ic is iv rest others (inr (inr (inr (inr (inr (inr (inr (inr (inr (inr (inr (inr (inr (inr (inr (inl e)))))))))))))))) =
     inl (subst (IsDemoSeen c s (Some v)) (sym e) (record {
-      fault = rw (ic.end, ic.long, ic.short, is.end, is.long, is.short) refl;
-      calls = rw (ic.end, ic.long, ic.short, is.end, is.long, is.short) refl;
-      start = rw (ic.end, ic.long, ic.short, is.end, is.long, is.short) refl;
-      workers = rw (ic.end, ic.long, ic.short, is.end, is.long, is.short) refl;
+      found = rw (ic.end, ic.long, ic.short, is.end, is.long, is.short) refl;
       written = rw (ic.joined, ic.apart, ic.itself, is.joined, is.apart, is.itself, iv.itself) refl;
     }))
 demo_with c s v ic is iv rest others (inr (inr (inr (inr (inr (inr (inr (inr (inr (inr (inr (inr (inr (inr (inr (inr (inl e))))))))))))))))) =
     inl (subst (IsDemoSeen c s (Some v)) (sym e) (record {
-      fault = rw (ic.end, ic.long, ic.short, is.end, is.long, is.short, iv.end, iv.long, iv.short) refl;
-      calls = rw (ic.end, ic.long, ic.short, is.end, is.long, is.short, iv.end, iv.long, iv.short) refl;
-      start = rw (ic.end, ic.long, ic.short, is.end, is.long, is.short, iv.end, iv.long, iv.short) refl;
-      workers = rw (ic.end, ic.long, ic.short, is.end, is.long, is.short, iv.end, iv.long, iv.short) refl;
+      found = rw (ic.end, ic.long, ic.short, is.end, is.long, is.short, iv.end, iv.long, iv.short) refl;
       written = rw (ic.joined, ic.apart, ic.itself, is.joined, is.apart, is.itself, iv.itself) refl;
     }))
 demo_with c s v ic is iv rest others (inr (inr (inr (inr (inr (inr (inr (inr (inr (inr (inr (inr (inr (inr (inr (inr (inr (inl e)))))))))))))))))) =
     inl (subst (IsDemoSeen c s (Some v)) (sym e) (record {
-      fault = rw (ic.end, ic.long, ic.short, is.end, is.long, is.short, iv.end, iv.long, iv.short) refl;
-      calls = rw (ic.end, ic.long, ic.short, is.end, is.long, is.short, iv.end, iv.long, iv.short) refl;
-      start = rw (ic.end, ic.long, ic.short, is.end, is.long, is.short, iv.end, iv.long, iv.short) refl;
-      workers = rw (ic.end, ic.long, ic.short, is.end, is.long, is.short, iv.end, iv.long, iv.short) refl;
+      found = rw (ic.end, ic.long, ic.short, is.end, is.long, is.short, iv.end, iv.long, iv.short) refl;
       written = rw (ic.joined, ic.apart, ic.itself, is.joined, is.apart, is.itself, iv.itself) refl;
     }))
 demo_with c s v ic is iv rest others (inr (inr (inr (inr (inr (inr (inr (inr (inr (inr (inr (inr (inr (inr (inr (inr (inr (inr o)))))))))))))))))) = inr o
@@ -249,34 +200,22 @@ pub demo_without : (c s : Text) → IsValue c → IsValue s → (rest : Words) (
 unfolding clap_on_literals
 demo_without c s ic is rest others (inl e) =
     inl (subst (IsDemoSeen c s None) (sym e) (record {
-      fault = rw (ic.end, ic.long, ic.short, is.end, is.long, is.short) refl;
-      calls = rw (ic.end, ic.long, ic.short, is.end, is.long, is.short) refl;
-      start = rw (ic.end, ic.long, ic.short, is.end, is.long, is.short) refl;
-      workers = rw (ic.end, ic.long, ic.short, is.end, is.long, is.short) refl;
+      found = rw (ic.end, ic.long, ic.short, is.end, is.long, is.short) refl;
       written = rw (ic.end, ic.itself, is.end, is.itself) refl;
     }))
 demo_without c s ic is rest others (inr (inl e)) =
     inl (subst (IsDemoSeen c s None) (sym e) (record {
-      fault = refl;
-      calls = refl;
-      start = refl;
-      workers = refl;
+      found = refl;
       written = rw (ic.itself, is.itself) refl;
     }))
 demo_without c s ic is rest others (inr (inr (inl e))) =
     inl (subst (IsDemoSeen c s None) (sym e) (record {
-      fault = rw (ic.end, ic.long, ic.short) refl;
-      calls = rw (ic.end, ic.long, ic.short) refl;
-      start = rw (ic.end, ic.long, ic.short) refl;
-      workers = rw (ic.end, ic.long, ic.short) refl;
+      found = rw (ic.end, ic.long, ic.short) refl;
       written = rw (ic.end, ic.itself, is.itself) refl;
     }))
 demo_without c s ic is rest others (inr (inr (inr (inl e)))) =
     inl (subst (IsDemoSeen c s None) (sym e) (record {
-      fault = rw (ic.end, ic.long, ic.short, is.end, is.long, is.short) refl;
-      calls = rw (ic.end, ic.long, ic.short, is.end, is.long, is.short) refl;
-      start = rw (ic.end, ic.long, ic.short, is.end, is.long, is.short) refl;
-      workers = rw (ic.end, ic.long, ic.short, is.end, is.long, is.short) refl;
+      found = rw (ic.end, ic.long, ic.short, is.end, is.long, is.short) refl;
       written = rw (ic.end, ic.itself, is.end, is.itself) refl;
     }))
 demo_without c s ic is rest others (inr (inr (inr (inr o)))) = inr o

@@ -1,7 +1,7 @@
 //! The command line, as clap is told of it.
 
 ghost use Rattle.std.specs.Prelude.{◌≡◌, true, false, Some, codes, IfOk};
-ghost use Rattle.clap.specs.Words.{app_of, rule_of, new_rule};
+ghost use Rattle.clap.specs.Words.{app_of, new_app, new_rule, rule_of, with_subcommand};
 ghost use Rattle.clap.specs.declared.builder.command.Command.TheViews.{out-Command};
 ghost use Rattle.sg_words.specs.Grammar as grammar;
 
@@ -40,14 +40,14 @@ fn replay<'a>(alloc: Global) -> Result<Command<'a>, AllocError>
     ensures shape { IfOk result (λ c. app_of c ≡ grammar.replay) }
     ensures local { IfOk result (λ c. (out-Command c).has_globals ≡ false) }
 {
-    Ok(Command::new(alloc, "replay").arg(workers(alloc))?)
+    Command::new(alloc, "replay").arg(workers(alloc))
 }
 
 fn relay<'a>(alloc: Global) -> Result<Command<'a>, AllocError>
     ensures shape { IfOk result (λ c. app_of c ≡ grammar.relay) }
     ensures local { IfOk result (λ c. (out-Command c).has_globals ≡ false) }
 {
-    Ok(Command::new(alloc, "relay").arg(turns(alloc))?)
+    Command::new(alloc, "relay").arg(turns(alloc))
 }
 
 fn demo<'a>(alloc: Global) -> Result<Command<'a>, AllocError>
@@ -56,7 +56,7 @@ fn demo<'a>(alloc: Global) -> Result<Command<'a>, AllocError>
 {
     let one = Command::new(alloc, "demo").arg(workers(alloc))?;
     let two = one.arg(calls(alloc))?;
-    Ok(two.arg(start(alloc))?)
+    two.arg(start(alloc))
 }
 
 /// The words don't begin with the program's name, and a command is required.
@@ -66,15 +66,29 @@ fn without_program<'a>(command: Command<'a>) -> Command<'a>
     command.no_binary_name(true).subcommand_required(true)
 }
 
+/// A command line with the command `replay` alone.
+fn with_replay<'a>(alloc: Global) -> Result<Command<'a>, AllocError>
+    ensures { IfOk result (λ c. app_of c ≡ with_subcommand (new_app (codes "srtpgw")) grammar.replay.top) }
+{
+    let replay = replay(alloc)?;
+    Command::new(alloc, "srtpgw").subcommand(replay)
+}
+
+/// The same with `relay`, too.
+fn with_relay<'a>(alloc: Global) -> Result<Command<'a>, AllocError>
+    ensures { IfOk result (λ c. app_of c ≡ with_subcommand (with_subcommand (new_app (codes "srtpgw")) grammar.replay.top) grammar.relay.top) }
+{
+    let command = with_replay(alloc)?;
+    let relay = relay(alloc)?;
+    command.subcommand(relay)
+}
+
 /// The whole command line.
 pub(crate) fn command_line<'a>(alloc: Global) -> Result<Command<'a>, AllocError>
     ensures { IfOk result (λ c. app_of c ≡ grammar.srtpgw) }
 {
-    let replay = replay(alloc)?;
-    let relay = relay(alloc)?;
+    let command = with_relay(alloc)?;
     let demo = demo(alloc)?;
-    let one = Command::new(alloc, "srtpgw").subcommand(replay)?;
-    let two = one.subcommand(relay)?;
-    let three = two.subcommand(demo)?;
-    Ok(without_program(three))
+    let command = command.subcommand(demo)?;
+    Ok(without_program(command))
 }
