@@ -9,6 +9,7 @@ use sg_edge::{
 use std::io;
 use std::io::{ErrorKind, Read, Write};
 use std::net::{Ipv4Addr, SocketAddr, SocketAddrV4, UdpSocket};
+use std::process::Abort;
 use std::random::RandomSource;
 use std::test::Fail;
 
@@ -96,34 +97,50 @@ impl Write for Halting<'_> {
 /// The answer of one read of at most four octets: the octets, or none where it failed.
 fn one_read<S: Source>(source: &mut S) -> Option<([u8; 4], usize)> {
     let mut part = [0; 4];
-    let count = source.read(&mut part).ok()?;
-    Some((part, count))
+    match source.read(&mut part) {
+        Ok(count) => Some((part, count)),
+        Err(Failed) => None,
+    }
+}
+
+/// The answers of reads, one after another, are these.
+fn reads<S: Source>(rt: &impl Abort, source: &mut S, answers: &[Option<([u8; 4], usize)>]) {
+    for answer in answers {
+        assert!(rt; one_read(source) == *answer);
+    }
 }
 
 #[test]
 fn source_in_memory(rt: HostRuntime) -> Result<(), Fail> {
     let octets = Octets::copy_of(rt.alloc(), b"abcdef")?;
     let mut source = MemSource::make(octets, [2].to_vec(rt.alloc())?);
-    assert!(rt; one_read(&mut source) == Some((*b"abcd", 4)));
-    assert!(rt; one_read(&mut source) == None);
-    assert!(rt; one_read(&mut source) == Some((*b"ef\0\0", 2)));
-    assert!(rt; one_read(&mut source) == Some(([0; 4], 0)));
+    reads(&rt, &mut source, &[Some((*b"abcd", 4)), None]);
+    let rest = [Some((*b"ef\0\0", 2)), Some(([0; 4], 0))];
+    reads(&rt, &mut source, &rest);
+    Ok(())
+}
+
+#[test]
+fn slow_source_in_memory(rt: HostRuntime) -> Result<(), Fail> {
     let octets = Octets::copy_of(rt.alloc(), b"ab")?;
     let mut slow = MemSource::limited(octets, 1, [1, 3].to_vec(rt.alloc())?);
-    assert!(rt; one_read(&mut slow) == None);
-    assert!(rt; one_read(&mut slow) == Some((*b"a\0\0\0", 1)));
-    assert!(rt; one_read(&mut slow) == None);
-    assert!(rt; one_read(&mut slow) == Some((*b"b\0\0\0", 1)));
+    reads(&rt, &mut slow, &[None, Some((*b"a\0\0\0", 1))]);
+    reads(&rt, &mut slow, &[None, Some((*b"b\0\0\0", 1))]);
     Ok(())
 }
 
 #[test]
 fn sink_in_memory(rt: HostRuntime) -> Result<(), Fail> {
     let mut sink = MemSink::make(rt.alloc(), [2].to_vec(rt.alloc())?);
-    assert!(rt; write_all(&mut sink, b"abc") == Ok(()));
-    assert!(rt; write_all(&mut sink, b"def") == Err(Failed));
-    assert!(rt; write_all(&mut sink, b"ghi") == Ok(()));
+    for (octets, told) in [(b"abc", Ok(())), (b"def", Err(Failed)), (b"ghi", Ok(()))] {
+        assert!(rt; write_all(&mut sink, octets) == told);
+    }
     assert!(rt; sink.written() == Some(b"abcghi".as_slice()));
+    Ok(())
+}
+
+#[test]
+fn slow_sink_in_memory(rt: HostRuntime) -> Result<(), Fail> {
     let mut slow = MemSink::limited(rt.alloc(), 1, [3].to_vec(rt.alloc())?);
     assert!(rt; write_all(&mut slow, b"abc") == Err(Failed));
     assert!(rt; slow.written() == Some(b"ab".as_slice()));
@@ -131,12 +148,17 @@ fn sink_in_memory(rt: HostRuntime) -> Result<(), Fail> {
     Ok(())
 }
 
+/// What reads of `abcde` answer.
+const FIVE: [Option<([u8; 4], usize)>; 3] = [
+    Some((*b"abcd", 4)),
+    Some((*b"e\0\0\0", 1)),
+    Some(([0; 4], 0)),
+];
+
 #[test]
 fn sure_forms(rt: HostRuntime) -> Result<(), Fail> {
     let mut source = SureSource::make(Octets::copy_of(rt.alloc(), b"abcde")?);
-    assert!(rt; one_read(&mut source) == Some((*b"abcd", 4)));
-    assert!(rt; one_read(&mut source) == Some((*b"e\0\0\0", 1)));
-    assert!(rt; one_read(&mut source) == Some(([0; 4], 0)));
+    reads(&rt, &mut source, &FIVE);
     let mut sink = SureSink::make(rt.alloc());
     assert!(rt; write_all(&mut sink, b"abc") == Ok(()));
     assert!(rt; sink.write(b"de") == Ok(2));
@@ -146,10 +168,7 @@ fn sure_forms(rt: HostRuntime) -> Result<(), Fail> {
 
 #[test]
 fn forms_of_the_system(rt: HostRuntime) -> Result<(), Fail> {
-    let mut source = StdSource::make(b"abcde".as_slice());
-    assert!(rt; one_read(&mut source) == Some((*b"abcd", 4)));
-    assert!(rt; one_read(&mut source) == Some((*b"e\0\0\0", 1)));
-    assert!(rt; one_read(&mut source) == Some(([0; 4], 0)));
+    reads(&rt, &mut StdSource::make(b"abcde".as_slice()), &FIVE);
     let mut octets = Vec::new(rt.alloc());
     {
         let mut sink = StdSink::make(&mut octets);
@@ -180,8 +199,8 @@ fn calls_made_again(rt: HostRuntime) -> Result<(), Fail> {
         calls: 0,
         octets: &mut octets,
     });
-    assert!(rt; one_read(&mut source) == Some((*b"c\0\0\0", 1)));
-    assert!(rt; one_read(&mut source) == Some((*b"b\0\0\0", 1)));
+    let two = [Some((*b"c\0\0\0", 1)), Some((*b"b\0\0\0", 1))];
+    reads(&rt, &mut source, &two);
     Ok(())
 }
 
@@ -213,20 +232,30 @@ fn sent_at(link: &MemLink, at: usize) -> Option<(u16, Address, bool)> {
     }
 }
 
-#[test]
-fn link_in_memory(rt: HostRuntime) -> Result<(), Fail> {
-    let mut link = MemLink::make(rt.alloc(), receipts(&rt)?, [2, 5, 7].to_vec(rt.alloc())?);
-    let mut pad = Pad::make(rt.alloc())?;
+/// The port is bound; the first receive fails, the second gives three octets, and then there is nothing.
+fn receives_one(rt: &impl Abort, link: &mut MemLink, pad: &mut Pad) {
     assert!(rt; link.bind(20000) == Ok(()));
-    assert!(rt; link.receive(&mut pad) == Err(Failed));
-    assert!(rt; link.receive(&mut pad) == got(20000, PEER));
+    assert!(rt; link.receive(pad) == Err(Failed));
+    assert!(rt; link.receive(pad) == got(20000, PEER));
     assert!(rt; pad.octets() == b"abc".as_slice());
-    assert!(rt; link.receive(&mut pad) == Ok(Receipt::Nothing));
+    assert!(rt; link.receive(pad) == Ok(Receipt::Nothing));
+}
+
+/// The first of two sends fails, and so does what releases the port; all seven calls are kept.
+fn sends_one(rt: &impl Abort, link: &mut MemLink) {
     assert!(rt; link.send(20002, PEER, b"xy") == Err(Failed));
     assert!(rt; link.send(20002, PEER, b"xy") == Ok(()));
     assert!(rt; link.unbind(20000) == Err(Failed));
     assert!(rt; link.calls().map(|calls| calls.len()) == Some(7));
-    assert!(rt; sent_at(&link, 5) == Some((20002, PEER, true)));
+    assert!(rt; sent_at(link, 5) == Some((20002, PEER, true)));
+}
+
+#[test]
+fn link_in_memory(rt: HostRuntime) -> Result<(), Fail> {
+    let mut link = MemLink::make(rt.alloc(), receipts(&rt)?, [2, 5, 7].to_vec(rt.alloc())?);
+    let mut pad = Pad::make(rt.alloc())?;
+    receives_one(&rt, &mut link, &mut pad);
+    sends_one(&rt, &mut link);
     assert!(rt; link.receive(&mut pad) == got(20002, PEER));
     assert!(rt; pad.octets().len() == PAD_MOST);
     assert!(rt; link.receive(&mut pad) == Ok(Receipt::Nothing));
@@ -250,26 +279,43 @@ fn sure_link(rt: HostRuntime) -> Result<(), Fail> {
 /// Two octets of noise; none where the draw failed.
 fn one_draw<N: Noise>(noise: &mut N) -> Option<[u8; 2]> {
     let mut part = [1; 2];
-    noise.draw(&mut part).ok()?;
-    Some(part)
+    match noise.draw(&mut part) {
+        Ok(()) => Some(part),
+        Err(Failed) => None,
+    }
 }
 
 #[test]
-fn clocks_and_noise_in_memory(rt: HostRuntime) -> Result<(), Fail> {
+fn clock_in_memory(rt: HostRuntime) -> Result<(), Fail> {
     let readings = [5, 3].to_vec(rt.alloc())?;
     let mut clock = MemClock::make(readings, [2].to_vec(rt.alloc())?);
     for reading in [Ok(5), Err(Failed), Ok(3), Ok(3)] {
         assert!(rt; clock.now() == reading);
     }
+    Ok(())
+}
+
+#[test]
+fn sure_clock(rt: HostRuntime) -> Result<(), Fail> {
     let mut sure = SureClock::make([7].to_vec(rt.alloc())?);
     assert!(rt; sure.now() == Ok(7));
     assert!(rt; sure.now() == Ok(7));
     assert!(rt; SureClock::make(Vec::new(rt.alloc())).now() == Ok(0));
+    Ok(())
+}
+
+#[test]
+fn noise_in_memory(rt: HostRuntime) -> Result<(), Fail> {
     let octets = Octets::copy_of(rt.alloc(), b"abc")?;
     let mut noise = MemNoise::make(octets, [2].to_vec(rt.alloc())?);
     for drawn in [Some(*b"ab"), None, Some(*b"c\0"), Some([0; 2])] {
         assert!(rt; one_draw(&mut noise) == drawn);
     }
+    Ok(())
+}
+
+#[test]
+fn sure_noise(rt: HostRuntime) -> Result<(), Fail> {
     let mut sure = SureNoise::make(Octets::copy_of(rt.alloc(), b"xyz")?);
     assert!(rt; one_draw(&mut sure) == Some(*b"xy"));
     assert!(rt; one_draw(&mut sure) == Some(*b"z\0"));
@@ -324,10 +370,25 @@ fn datagrams_of_the_system(rt: HostRuntime) -> Result<(), Fail> {
         assert!(rt; next_receipt(&mut link, &mut pad) == got(far.port, near));
         assert!(rt; pad.octets() == octets);
     }
-    let (socket, home) = socket_of_its_own(&rt)?;
+    assert!(rt; link.receive(&mut pad) == Ok(Receipt::Nothing));
+    Ok(())
+}
+
+/// Sends a datagram as long as can be to a port; from where, and how many octets went.
+fn send_long(rt: &HostRuntime, port: u16) -> Result<(Address, usize), Fail> {
+    let (socket, home) = socket_of_its_own(rt)?;
     let long = vec![in rt.alloc(); 9u8; 65507]?;
-    let to = SocketAddr::V4(SocketAddrV4::new(Ipv4Addr::new(127, 0, 0, 1), near.port));
-    assert!(rt; socket.send_to(&long, to)? == 65507);
+    let to = SocketAddr::V4(SocketAddrV4::new(Ipv4Addr::new(127, 0, 0, 1), port));
+    Ok((home, socket.send_to(&long, to)?))
+}
+
+#[test]
+fn a_long_datagram_of_the_system(rt: HostRuntime) -> Result<(), Fail> {
+    let mut link = UdpLink::make(rt.alloc(), &rt)?;
+    let mut pad = Pad::make(rt.alloc())?;
+    let near = bind_one(&rt, &mut link)?;
+    let (home, sent) = send_long(&rt, near.port)?;
+    assert!(rt; sent == 65507);
     assert!(rt; next_receipt(&mut link, &mut pad) == got(near.port, home));
     assert!(rt; pad.octets() == vec![in rt.alloc(); 9u8; PAD_MOST]?.as_slice());
     assert!(rt; link.receive(&mut pad) == Ok(Receipt::Nothing));

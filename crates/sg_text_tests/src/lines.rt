@@ -193,57 +193,55 @@ fn first_lines(rt: HostRuntime) {
 }
 
 /// A line of these octets, then so many of one octet, and its end.
-fn filled(alloc: Global, front: &[u8], octet: u8, count: usize) -> Result<Vec<u8>, Fail> {
+fn filled(
+    alloc: Global,
+    front: &[u8],
+    octet: u8,
+    count: usize,
+    end: &[u8],
+) -> Result<Vec<u8>, Fail> {
     let mut line = Vec::from_slice(alloc, front)?;
     for _ in 0..count {
         line.push(octet)?;
     }
-    line.push(b'\n')?;
+    line.extend_from_slice(end)?;
     Ok(line)
 }
+
+/// A line's front, an octet, how many of it follow, and the line's end; and its fault.
+type Row = (&'static [u8], u8, usize, &'static [u8], Option<ScriptFault>);
+
+/// The end of a line that shares a key.
+const SHARED: &[u8] = b" b 00112233445566778899aabbccddeeff\n";
 
 /// The bounds of lines, texts, datagrams, noise and names.
 #[test]
 fn longest_lines(rt: HostRuntime) -> Result<(), Fail> {
     use ScriptFault::{Length, Word};
-    let rows: [(&[u8], u8, usize, Option<ScriptFault>); 11] = [
+    const ROWS: [Row; 18] = [
         // A line of 70,000 octets with its end, and one more.
-        (b"frob ", b'x', 69_994, Some(Word)),
-        (b"frob ", b'x', 69_995, Some(Length)),
-        (b"answer 1 - ", b'0', 65_536, None),
-        (b"answer 1 - ", b'0', 65_538, Some(Length)),
-        (b"in 1 1.1.1.1:1 ", b'0', 8_704, None),
-        (b"in 1 1.1.1.1:1 ", b'0', 8_706, Some(Length)),
-        (b"psk a b ", b'0', 128, None),
-        (b"psk a b ", b'0', 130, Some(Length)),
-        (b"tick ", b'0', 60_000, Some(ScriptFault::Number)),
-        (b"offer-secure 1 00 ", b'0', 65_538, Some(Length)),
-        (b"psk a b ", b'0', 69_991, Some(ScriptFault::Hex)),
+        (b"frob ", b'x', 69_994, b"\n", Some(Word)),
+        (b"frob ", b'x', 69_995, b"\n", Some(Length)),
+        (b"answer 1 - ", b'0', 65_536, b"\n", None),
+        (b"answer 1 - ", b'0', 65_538, b"\n", Some(Length)),
+        (b"in 1 1.1.1.1:1 ", b'0', 8_704, b"\n", None),
+        (b"in 1 1.1.1.1:1 ", b'0', 8_706, b"\n", Some(Length)),
+        (b"psk a b ", b'0', 128, b"\n", None),
+        (b"psk a b ", b'0', 130, b"\n", Some(Length)),
+        (b"tick ", b'0', 60_000, b"\n", Some(ScriptFault::Number)),
+        (b"offer-secure 1 00 ", b'0', 65_538, b"\n", Some(Length)),
+        (b"psk a b ", b'0', 69_991, b"\n", Some(ScriptFault::Hex)),
+        (b"answer 1 ", b'7', 607, b" 00\n", Some(ScriptFault::Hex)),
+        (b"answer 1 ", b'7', 606, b" 00\n", Some(Length)),
+        (b"answer 1 ", b'7', 608, b" 00\n", None),
+        (b"answer 1 ", b'7', 610, b" 00\n", Some(Length)),
+        (b"psk ", b'n', 1, SHARED, None),
+        (b"psk ", b'n', 128, SHARED, None),
+        (b"psk ", b'n', 129, SHARED, Some(Length)),
     ];
-    for (front, octet, count, fault) in &rows {
-        let line = filled(rt.alloc(), front, *octet, *count)?;
+    for (front, octet, count, end, fault) in &ROWS {
+        let line = filled(rt.alloc(), front, *octet, *count, end)?;
         assert!(rt; fault_of(&rt, rt.alloc(), &line) == *fault);
-    }
-    for (count, fault) in [
-        (607, Some(ScriptFault::Hex)),
-        (606, Some(Length)),
-        (608, None),
-        (610, Some(Length)),
-    ] {
-        let mut line = Vec::from_slice(rt.alloc(), b"answer 1 ")?;
-        for _ in 0..count {
-            line.push(b'7')?;
-        }
-        line.extend_from_slice(b" 00\n")?;
-        assert!(rt; fault_of(&rt, rt.alloc(), &line) == fault);
-    }
-    for (count, fault) in [(1, None), (128, None), (129, Some(Length))] {
-        let mut line = Vec::from_slice(rt.alloc(), b"psk ")?;
-        for _ in 0..count {
-            line.push(b'n')?;
-        }
-        line.extend_from_slice(b" b 00112233445566778899aabbccddeeff\n")?;
-        assert!(rt; fault_of(&rt, rt.alloc(), &line) == fault);
     }
     Ok(())
 }
