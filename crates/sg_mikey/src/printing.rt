@@ -59,16 +59,17 @@ fn put_payload(alloc: Global, out: &mut Vec<u8>, payload: &Payload) -> Result<()
         Payload::Time { form, stamp } => {
             out.push(*form)?;
             out.extend_from_slice(stamp)?;
+            Ok(())
         }
-        Payload::Random { octets } => put_short(out, octets.as_slice())?,
+        Payload::Random { octets } => put_short(out, octets.as_slice()),
         Payload::Id { form, name } => {
             out.push(*form)?;
-            put_sized(out, name.as_slice())?;
+            put_sized(out, name.as_slice())
         }
-        Payload::Sp(policy) => put_policy(alloc, out, policy)?,
+        Payload::Sp(policy) => put_policy(alloc, out, policy),
         Payload::Extension { form, octets } => {
             out.push(*form)?;
-            put_sized(out, octets.as_slice())?;
+            put_sized(out, octets.as_slice())
         }
         Payload::Kemac {
             cipher,
@@ -80,13 +81,14 @@ fn put_payload(alloc: Global, out: &mut Vec<u8>, payload: &Payload) -> Result<()
             put_sized(out, octets.as_slice())?;
             out.push(*mac)?;
             out.extend_from_slice(tag.as_slice())?;
+            Ok(())
         }
         Payload::Verify { mac, tag } => {
             out.push(*mac)?;
             out.extend_from_slice(tag.as_slice())?;
+            Ok(())
         }
     }
-    Ok(())
 }
 
 // The number of the first payload, 0 where there is none.
