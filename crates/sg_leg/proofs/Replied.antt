@@ -1,5 +1,5 @@
 -- Media keyed by messages, step by step.
-use Rattle.std.proofs.Common.{◌≡◌, ◌≤◌, ◌<◌, get_or, slice_get, false, ℕ, zero, suc, ◌+◌, Bool, List, [], ◌∷◌, ◌++◌, length, map, drop, Option, Some, None, Result, Ok, Err, refl, sym, ap, ◌∙◌, subst, arith}
+use Rattle.std.proofs.Common.{◌≡◌, ◌<◌, get_or, slice_get, false, ℕ, zero, suc, ◌+◌, Bool, List, [], ◌∷◌, ◌++◌, length, map, drop, Option, Some, None, Result, Ok, Err, refl, sym, ap, ◌∙◌, subst, arith}
 use Rattle.std.proofs.lemmas.List.{append-nil}
 use Rattle.std.specs.List.{AllByRecursion}
 use Rattle.sg_agreement.proofs.Walks.{kept_next}
@@ -46,6 +46,16 @@ module _ {X Y : Type 0} (value : ℕ → X → descriptions.Medium → Result Y 
       ∙ sym (kept_next value done i a ons' x xs' n ns' ∙ ap (λ r. after_ok r (λ y. prefixed (done ++ y ∷ []) (each_kept value (i + 1) ons' xs' ns'))) is)
       ∙ (λ j. prefixed done (each_kept value i (sym aa j) (sym ax j) (sym an j))) ∙ so
 
+  pub kept_stop : (fault : Fault) (i : ℕ) (a : Bool) (ons ons' : List Bool) (x : Option X) (xs xs' : List (Option X)) (n : descriptions.Medium) (ns ns' : List descriptions.Medium)
+      (done : List (Option Y)) (r : Result (List (Option Y)) Refusal)
+      → ons ≡ a ∷ ons' → xs ≡ x ∷ xs' → ns ≡ n ∷ ns' → Tells {X = Option Y} (Err fault) (if_kept a x (λ x. value i x n))
+      → prefixed done (each_kept value i ons xs ns) ≡ r → Tells {X = List (Option Y)} (Err fault) r
+  kept_stop (Refused cause) i a ons ons' x xs xs' n ns ns' done r aa ax an is so =
+      sym so
+      ∙ (λ j. prefixed done (each_kept value i (aa j) (ax j) (an j)))
+      ∙ kept_next value done i a ons' x xs' n ns' ∙ ap (λ r. after_ok r (λ y. prefixed (done ++ y ∷ []) (each_kept value (i + 1) ons' xs' ns'))) is
+  kept_stop NoMemory i a ons ons' x xs xs' n ns ns' done r aa ax an is so = tt
+
   pub kept_end : (i : ℕ) (ons : List Bool) (xs : List (Option X)) (ns : List descriptions.Medium) (done : List (Option Y)) (r : Result (List (Option Y)) Refusal)
       → ons ≡ [] → prefixed done (each_kept value i ons xs ns) ≡ r → r ≡ Ok done
   kept_end i ons xs ns done r none so = sym so ∙ ap (λ ons. prefixed done (each_kept value i ons xs ns)) none ∙ ap Ok (append-nil done)
@@ -86,12 +96,6 @@ some_bundle pairs b None p = absurd p
 some_bundle pairs b (Some d) p = (d, refl, p)
 
 -- ---- a response
-
-pub responded_short : (ss : List (StreamKeys × StreamKeys)) (entries : List CsEntry) → length entries ≤ 1 → responded ss entries ≡ []
-responded_short [] entries low = refl
-responded_short (s ∷ ss) [] low = refl
-responded_short (s ∷ ss) (i ∷ []) low = refl
-responded_short (s ∷ ss) (i ∷ r ∷ entries) low = absurd (omega (arith, low))
 
 pub map_of : (entries : List CsEntry) (r : Result (List CsEntry) PskFault) → psk.Gives {X = List CsEntry} {A = List CsEntry} (λ map entries. map ≡ entries) (Ok entries) r → r ≡ Ok entries
 map_of entries (Ok a) is = ap Ok (sym is)

@@ -116,8 +116,10 @@ pub(crate) fn by_peer_lines(
 {
     let mut keyed = Vec::new(alloc);
     for (m, medium) in media.iter().enumerate() {
-        let next = by_peer_line_if(alloc, noise, m as u8, active[m], &lines[m], medium)?;
-        keyed.push(next)?;
+        match by_peer_line_if(alloc, noise, m as u8, active[m], &lines[m], medium) {
+            Ok(next) => keyed.push(next)?,
+            Err(fault) => return Err(fault),
+        }
     }
     Ok(Items::from_vec(keyed))
 }
@@ -154,8 +156,10 @@ pub(crate) fn by_own_lines(
 {
     let mut keyed = Vec::new(alloc);
     for (m, medium) in media.iter().enumerate() {
-        let next = by_own_lines_if(alloc, m as u8, active[m], &lines[m], medium)?;
-        keyed.push(next)?;
+        match by_own_lines_if(alloc, m as u8, active[m], &lines[m], medium) {
+            Ok(next) => keyed.push(next)?,
+            Err(fault) => return Err(fault),
+        }
     }
     Ok(Items::from_vec(keyed))
 }

@@ -91,8 +91,10 @@ pub(crate) fn chosen_lines(
 {
     let mut lines = Vec::new(alloc);
     for (m, medium) in media.iter().enumerate() {
-        let next = chosen_if(alloc, m as u8, medium)?;
-        lines.push(next)?;
+        match chosen_if(alloc, m as u8, medium) {
+            Ok(next) => lines.push(next)?,
+            Err(fault) => return Err(fault),
+        }
     }
     Ok(Items::from_vec(lines))
 }

@@ -335,7 +335,6 @@ pub(crate) fn by_media_messages(
     Ok(Items::from_vec(keyed))
 }
 
-#[tactic(auto, using(crate::proofs::Replied::responded_short))]
 /// What is sent in crypto sessions, the responder's with the SSRC and the rollover of the response.
 fn responded(
     alloc: Global,
