@@ -7,7 +7,7 @@ use crate::packets::{are_packets, packets};
 use crate::passing::{open_each, seal_each};
 use crate::sides::{Sides, make_sides};
 use sg_base::Suite;
-use std::time::CpuClock;
+use std::time::{CpuClock, Duration};
 
 /// How many rounds are measured.
 pub const ROUNDS: u8 = 9;
@@ -35,6 +35,11 @@ pub fn median(mut numbers: Vec<u128>) -> u128 {
     numbers.get(numbers.len() / 2).copied().unwrap_or(0)
 }
 
+// The nanoseconds from one reading of the clock to another.
+fn between(start: Duration, end: Duration) -> u128 {
+    end.saturating_sub(start).as_nanos()
+}
+
 // Seals and opens a batch of packets of so many octets, of the numbers from `first` on: nanoseconds of all.
 fn one_batch(rt: &HostRuntime, sides: &mut Sides, first: u16, size: usize) -> Result<Costs, Fault>
     requires { size ≤ 1400 }
@@ -49,8 +54,8 @@ fn one_batch(rt: &HostRuntime, sides: &mut Sides, first: u16, size: usize) -> Re
         return Err(Fault::Changed);
     }
     Ok(Costs {
-        seal: sealed.saturating_sub(start).as_nanos(),
-        open: end.saturating_sub(sealed).as_nanos(),
+        seal: between(start, sealed),
+        open: between(sealed, end),
     })
 }
 

@@ -24,12 +24,18 @@ pub struct Sides {
     pub open: OpenSide,
 }
 
-// A master key and salt whose octets count up from an octet.
-fn master(suite: Suite, first: u8) -> Option<MasterKey> {
+// Octets that count up from one.
+fn counted(first: u8) -> [u8; 46] {
     let mut octets = [0; 46];
     for (place, octet) in octets.iter_mut().enumerate() {
         *octet = first.wrapping_add((place % 256) as u8);
     }
+    octets
+}
+
+// A master key and salt whose octets count up from an octet.
+fn master(suite: Suite, first: u8) -> Option<MasterKey> {
+    let octets = counted(first);
     MasterKey::new(suite, &octets[..suite.key_len() + suite.salt_len()])
 }
 

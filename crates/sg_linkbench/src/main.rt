@@ -43,9 +43,10 @@ fn bind_one<L: Link>(rt: &HostRuntime, link: &mut L) -> io::Result<Address> {
 /// The next datagram of the link, which is asked up to a thousand times.
 fn next<L: Link>(link: &mut L, pad: &mut Pad) -> Option<(u16, Address)> {
     for _ in 0..1000u16 {
-        match link.receive(pad).ok()? {
-            Receipt::Nothing => {}
-            Receipt::Got { port, from } => return Some((port, from)),
+        match link.receive(pad) {
+            Ok(Receipt::Nothing) => {}
+            Ok(Receipt::Got { port, from }) => return Some((port, from)),
+            Err(_) => return None,
         }
     }
     None
