@@ -265,12 +265,8 @@ impl Call {
                     }
                 }
             }
-            State::Idle(idle) => {
-                self.state = State::Idle(idle);
-                Err(Fault::Refused(Refusal::State))
-            }
-            State::Live(live) => {
-                self.state = State::Live(live);
+            state => {
+                self.state = state;
                 Err(Fault::Refused(Refusal::State))
             }
         }
@@ -317,12 +313,8 @@ impl Call {
                     }
                 }
             }
-            State::Offered(open) => {
-                self.state = State::Offered(open);
-                Err(Fault::Refused(Refusal::State))
-            }
-            State::Live(live) => {
-                self.state = State::Live(live);
+            state => {
+                self.state = state;
                 Err(Fault::Refused(Refusal::State))
             }
         }
@@ -357,12 +349,8 @@ impl Call {
                 }
                 Err(Ended) => Ok(false),
             },
-            State::Idle(idle) => {
-                self.state = State::Idle(idle);
-                Err(Refusal::State)
-            }
-            State::Live(live) => {
-                self.state = State::Live(live);
+            state => {
+                self.state = state;
                 Err(Refusal::State)
             }
         }
