@@ -1,355 +1,274 @@
-//! Values of crypto attributes, read.
+//! Values of crypto attributes, read. The key octets and their base64 are of RFC 4568's own examples or were encoded
+//! by another program.
 
-use sg_base::{SdesFault, Suite};
+use sg_base::SdesFault::{self, Key, Lifetime, MkiValue, Parameter, Tag};
+use sg_base::Suite;
 use sg_sdes::read_crypto;
+use std::alloc::Global;
+use std::process::Abort;
 use std::test::Fail;
 
-// The key octets and their base64 are of RFC 4568's own examples or were encoded by another program.
-fn fault_of(value: &[u8]) -> Option<SdesFault> {
-    read_crypto(value).err()
+/// A value up to its key, and the same with all that RFC 4568 states behind it in its examples.
+const KEYED: &[u8] = b"1 AES_CM_128_HMAC_SHA1_80 inline:WVNfX19zZW1jdGwgKCkgewkyMjA7fQp9CnVubGVz";
+
+const STATED: &[u8] =
+    b"1 AES_CM_128_HMAC_SHA1_80 inline:WVNfX19zZW1jdGwgKCkgewkyMjA7fQp9CnVubGVz|2^20|1:4 FEC_ORDER=FEC_SRTP";
+
+/// The fault of a value in two parts.
+fn fault_of(alloc: Global, front: &[u8], back: &[u8]) -> Result<Option<SdesFault>, Fail> {
+    let mut value = Vec::from_slice(alloc, front)?;
+    value.extend_from_slice(back)?;
+    Ok(read_crypto(&value).err())
 }
 
-/// Values that are crypto lines.
-#[test]
-fn good_values(rt: HostRuntime) {
-    let rows: [&[u8]; 30] = [
-        b"1 AES_CM_128_HMAC_SHA1_80 inline:WVNfX19zZW1jdGwgKCkgewkyMjA7fQp9CnVubGVz|2^20|1:4 FEC_ORDER=FEC_SRTP",
-        b"1 AES_CM_128_HMAC_SHA1_80 inline:WVNfX19zZW1jdGwgKCkgewkyMjA7fQp9CnVubGVz|2^20|1:4 FEC_ORDER=FEC_SRTP -FOO",
-        b"1 AES_CM_128_HMAC_SHA1_80 inline:WVNfX19zZW1jdGwgKCkgewkyMjA7fQp9CnVubGVz|2^20|1:4 FEC_ORDER=FEC_SRTP -FOO -FOO",
-        b"1 AES_CM_128_HMAC_SHA1_80 inline:WVNfX19zZW1jdGwgKCkgewkyMjA7fQp9CnVubGVz|2^20|1:4 FEC_ORDER=FEC_SRTP KDR=0",
-        b"1 AES_CM_128_HMAC_SHA1_80 inline:WVNfX19zZW1jdGwgKCkgewkyMjA7fQp9CnVubGVz|2^20|1:4 FEC_ORDER=FEC_SRTP  KDR=0   -A",
-        b"1 AES_CM_128_HMAC_SHA1_80 inline:WVNfX19zZW1jdGwgKCkgewkyMjA7fQp9CnVubGVz|2^20|1:4 FEC_ORDER=FEC_SRTP WSH=64",
-        b"1  AES_CM_128_HMAC_SHA1_80   inline:WVNfX19zZW1jdGwgKCkgewkyMjA7fQp9CnVubGVz",
-        b"000000000 AES_CM_128_HMAC_SHA1_80 inline:WVNfX19zZW1jdGwgKCkgewkyMjA7fQp9CnVubGVz",
-        b"999999999 AES_CM_128_HMAC_SHA1_80 inline:WVNfX19zZW1jdGwgKCkgewkyMjA7fQp9CnVubGVz",
-        b"000000001 AES_CM_128_HMAC_SHA1_80 inline:WVNfX19zZW1jdGwgKCkgewkyMjA7fQp9CnVubGVz",
-        b"1 AES_CM_128_HMAC_SHA1_32 inline:WVNfX19zZW1jdGwgKCkgewkyMjA7fQp9CnVubGVz",
-        b"1 AES_192_CM_HMAC_SHA1_80 inline:AAECAwQFBgcICQoLDA0ODxAREhMUFRYXGBkaGxwdHh8gISIjJCU=",
-        b"1 AES_192_CM_HMAC_SHA1_32 inline:AAECAwQFBgcICQoLDA0ODxAREhMUFRYXGBkaGxwdHh8gISIjJCU",
-        b"2 AES_256_CM_HMAC_SHA1_80 inline:Hh8gISIjJCUmJygpKissLS4vMDEyMzQ1Njc4OTo7PD0+P0BBQkNERUZHSElKSw==",
-        b"2 AES_256_CM_HMAC_SHA1_80 inline:Hh8gISIjJCUmJygpKissLS4vMDEyMzQ1Njc4OTo7PD0+P0BBQkNERUZHSElKSw",
-        b"2 AES_256_CM_HMAC_SHA1_32 inline:Hh8gISIjJCUmJygpKissLS4vMDEyMzQ1Njc4OTo7PD0+P0BBQkNERUZHSElKSw==",
-        b"1 AES_CM_128_HMAC_SHA1_80 inline:+//7//v/+//7//v/+//7//v/+//7//v/+//7//v/",
-        b"1 AES_CM_128_HMAC_SHA1_80 inline:WVNfX19zZW1jdGwgKCkgewkyMjA7fQp9CnVubGVz|2^48",
-        b"1 AES_CM_128_HMAC_SHA1_80 inline:WVNfX19zZW1jdGwgKCkgewkyMjA7fQp9CnVubGVz|2^0",
-        b"1 AES_CM_128_HMAC_SHA1_80 inline:WVNfX19zZW1jdGwgKCkgewkyMjA7fQp9CnVubGVz|281474976710656",
-        b"1 AES_CM_128_HMAC_SHA1_80 inline:WVNfX19zZW1jdGwgKCkgewkyMjA7fQp9CnVubGVz|1",
-        b"1 AES_CM_128_HMAC_SHA1_80 inline:WVNfX19zZW1jdGwgKCkgewkyMjA7fQp9CnVubGVz|0:1",
-        b"1 AES_CM_128_HMAC_SHA1_80 inline:WVNfX19zZW1jdGwgKCkgewkyMjA7fQp9CnVubGVz|255:1",
-        b"1 AES_CM_128_HMAC_SHA1_80 inline:WVNfX19zZW1jdGwgKCkgewkyMjA7fQp9CnVubGVz|1:128",
-        b"1 AES_CM_128_HMAC_SHA1_80 inline:WVNfX19zZW1jdGwgKCkgewkyMjA7fQp9CnVubGVz|340282366920938463463374607431768211455:16",
-        b"1 AES_CM_128_HMAC_SHA1_80 inline:WVNfX19zZW1jdGwgKCkgewkyMjA7fQp9CnVubGVz|2|1:1;inline:AAECAwQFBgcICQoLDA0ODxAREhMUFRYXGBkaGxwd|2|2:1",
-        b"1 AES_CM_128_HMAC_SHA1_80 inline:WVNfX19zZW1jdGwgKCkgewkyMjA7fQp9CnVubGVz|1:1;inline:WVNfX19zZW1jdGwgKCkgewkyMjA7fQp9CnVubGVz|2:1;inline:WVNfX19zZW1jdGwgKCkgewkyMjA7fQp9CnVubGVz|3:1;inline:WVNfX19zZW1jdGwgKCkgewkyMjA7fQp9CnVubGVz|4:1;inline:WVNfX19zZW1jdGwgKCkgewkyMjA7fQp9CnVubGVz|5:1;inline:WVNfX19zZW1jdGwgKCkgewkyMjA7fQp9CnVubGVz|6:1;inline:WVNfX19zZW1jdGwgKCkgewkyMjA7fQp9CnVubGVz|7:1;inline:WVNfX19zZW1jdGwgKCkgewkyMjA7fQp9CnVubGVz|8:1",
-        b"1 AES_CM_128_HMAC_SHA1_80 inline:WVNfX19zZW1jdGwgKCkgewkyMjA7fQp9CnVubGVz WSH=0",
-        b"1 AES_CM_128_HMAC_SHA1_80 inline:WVNfX19zZW1jdGwgKCkgewkyMjA7fQp9CnVubGVz WSH=63 UNENCRYPTED_SRTP UNENCRYPTED_SRTCP",
-        b"1 AES_CM_128_HMAC_SHA1_80 inline:WVNfX19zZW1jdGwgKCkgewkyMjA7fQp9CnVubGVz WSH=999999999",
-    ];
-    for row in &rows {
-        assert!(rt; fault_of(row) == None);
+/// Values that are crypto lines; what may stand behind the key, and behind what is stated.
+const GOOD: [&[u8]; 11] = [
+    b"1  AES_CM_128_HMAC_SHA1_80   inline:WVNfX19zZW1jdGwgKCkgewkyMjA7fQp9CnVubGVz",
+    b"000000000 AES_CM_128_HMAC_SHA1_80 inline:WVNfX19zZW1jdGwgKCkgewkyMjA7fQp9CnVubGVz",
+    b"999999999 AES_CM_128_HMAC_SHA1_80 inline:WVNfX19zZW1jdGwgKCkgewkyMjA7fQp9CnVubGVz",
+    b"000000001 AES_CM_128_HMAC_SHA1_80 inline:WVNfX19zZW1jdGwgKCkgewkyMjA7fQp9CnVubGVz",
+    b"1 AES_CM_128_HMAC_SHA1_32 inline:WVNfX19zZW1jdGwgKCkgewkyMjA7fQp9CnVubGVz",
+    b"1 AES_192_CM_HMAC_SHA1_80 inline:AAECAwQFBgcICQoLDA0ODxAREhMUFRYXGBkaGxwdHh8gISIjJCU=",
+    b"1 AES_192_CM_HMAC_SHA1_32 inline:AAECAwQFBgcICQoLDA0ODxAREhMUFRYXGBkaGxwdHh8gISIjJCU",
+    b"2 AES_256_CM_HMAC_SHA1_80 inline:Hh8gISIjJCUmJygpKissLS4vMDEyMzQ1Njc4OTo7PD0+P0BBQkNERUZHSElKSw==",
+    b"2 AES_256_CM_HMAC_SHA1_80 inline:Hh8gISIjJCUmJygpKissLS4vMDEyMzQ1Njc4OTo7PD0+P0BBQkNERUZHSElKSw",
+    b"2 AES_256_CM_HMAC_SHA1_32 inline:Hh8gISIjJCUmJygpKissLS4vMDEyMzQ1Njc4OTo7PD0+P0BBQkNERUZHSElKSw==",
+    b"1 AES_CM_128_HMAC_SHA1_80 inline:+//7//v/+//7//v/+//7//v/+//7//v/+//7//v/",
+];
+
+const GOOD_KEYED: [&[u8]; 13] = [
+    b"|2^48",
+    b"|2^0",
+    b"|281474976710656",
+    b"|1",
+    b"|0:1",
+    b"|255:1",
+    b"|1:128",
+    b"|340282366920938463463374607431768211455:16",
+    b"|2|1:1;inline:AAECAwQFBgcICQoLDA0ODxAREhMUFRYXGBkaGxwd|2|2:1",
+    b"|1:1;inline:WVNfX19zZW1jdGwgKCkgewkyMjA7fQp9CnVubGVz|2:1;inline:WVNfX19zZW1jdGwgKCkgewkyMjA7fQp9CnVubGVz|3:1;inline:WVNfX19zZW1jdGwgKCkgewkyMjA7fQp9CnVubGVz|4:1;inline:WVNfX19zZW1jdGwgKCkgewkyMjA7fQp9CnVubGVz|5:1;inline:WVNfX19zZW1jdGwgKCkgewkyMjA7fQp9CnVubGVz|6:1;inline:WVNfX19zZW1jdGwgKCkgewkyMjA7fQp9CnVubGVz|7:1;inline:WVNfX19zZW1jdGwgKCkgewkyMjA7fQp9CnVubGVz|8:1",
+    b" WSH=0",
+    b" WSH=63 UNENCRYPTED_SRTP UNENCRYPTED_SRTCP",
+    b" WSH=999999999",
+];
+
+const GOOD_STATED: [&[u8]; 6] = [
+    b"",
+    b" -FOO",
+    b" -FOO -FOO",
+    b" KDR=0",
+    b"  KDR=0   -A",
+    b" WSH=64",
+];
+
+/// These are crypto lines with that front.
+fn are_lines(rt: &impl Abort, alloc: Global, front: &[u8], backs: &[&[u8]]) -> Result<(), Fail> {
+    for back in backs {
+        let told = fault_of(alloc, front, back)?;
+        assert!(rt; told == None);
     }
+    Ok(())
+}
+
+#[test]
+fn good_values(rt: HostRuntime) -> Result<(), Fail> {
+    are_lines(&rt, rt.alloc(), b"", &GOOD)?;
+    are_lines(&rt, rt.alloc(), KEYED, &GOOD_KEYED)?;
+    are_lines(&rt, rt.alloc(), STATED, &GOOD_STATED)
 }
 
 /// One fault a row, the first that the text has.
-#[test]
-fn bad_values(rt: HostRuntime) {
-    use SdesFault::{Key, Lifetime, MkiValue, Parameter, Suite, Tag};
-    let rows: [(&[u8], SdesFault); 79] = [
-        (b"", Tag),
-        (
-            b" 1 AES_CM_128_HMAC_SHA1_80 inline:WVNfX19zZW1jdGwgKCkgewkyMjA7fQp9CnVubGVz|2^20|1:4 FEC_ORDER=FEC_SRTP",
-            Tag,
-        ),
-        (
-            b"x1 AES_CM_128_HMAC_SHA1_80 inline:WVNfX19zZW1jdGwgKCkgewkyMjA7fQp9CnVubGVz|2^20|1:4 FEC_ORDER=FEC_SRTP",
-            Tag,
-        ),
-        (
-            b"+1 AES_CM_128_HMAC_SHA1_80 inline:WVNfX19zZW1jdGwgKCkgewkyMjA7fQp9CnVubGVz|2^20|1:4 FEC_ORDER=FEC_SRTP",
-            Tag,
-        ),
-        (
-            b"1\tAES_CM_128_HMAC_SHA1_80 inline:WVNfX19zZW1jdGwgKCkgewkyMjA7fQp9CnVubGVz|2^20|1:4 FEC_ORDER=FEC_SRTP",
-            Tag,
-        ),
-        (
-            b"0000000001 AES_CM_128_HMAC_SHA1_80 inline:WVNfX19zZW1jdGwgKCkgewkyMjA7fQp9CnVubGVz|2^20|1:4 FEC_ORDER=FEC_SRTP",
-            Tag,
-        ),
-        (
-            b"1234567890 AES_CM_128_HMAC_SHA1_80 inline:WVNfX19zZW1jdGwgKCkgewkyMjA7fQp9CnVubGVz|2^20|1:4 FEC_ORDER=FEC_SRTP",
-            Tag,
-        ),
-        (
-            b"-1 AES_CM_128_HMAC_SHA1_80 inline:WVNfX19zZW1jdGwgKCkgewkyMjA7fQp9CnVubGVz|2^20|1:4 FEC_ORDER=FEC_SRTP",
-            Tag,
-        ),
-        (b"1", Suite),
-        (b"1 ", Suite),
-        (
-            b"1 aes_cm_128_hmac_sha1_80 inline:WVNfX19zZW1jdGwgKCkgewkyMjA7fQp9CnVubGVz",
-            Suite,
-        ),
-        (
-            b"1 F8_128_HMAC_SHA1_80 inline:AAECAwQFBgcICQoLDA0ODxAREhMUFRYXGBkaGxwd",
-            Suite,
-        ),
-        (b"1 RAW80 inline:AAECAwQFBgcICQoLDA0ODxAREhM=", Suite),
-        (
-            b"1 AES_CM_128_HMAC_SHA1_80_ inline:WVNfX19zZW1jdGwgKCkgewkyMjA7fQp9CnVubGVz",
-            Suite,
-        ),
-        (b"1 AES_CM_128_HMAC_SHA1_80", Key),
-        (b"1 AES_CM_128_HMAC_SHA1_80 ", Key),
-        (
-            b"1 AES_CM_128_HMAC_SHA1_80 WVNfX19zZW1jdGwgKCkgewkyMjA7fQp9CnVubGVz",
-            Key,
-        ),
-        (
-            b"1 AES_CM_128_HMAC_SHA1_80 Inline:WVNfX19zZW1jdGwgKCkgewkyMjA7fQp9CnVubGVz",
-            Key,
-        ),
-        (b"1 AES_CM_128_HMAC_SHA1_80 inline:", Key),
-        (
-            b"1 AES_CM_128_HMAC_SHA1_80 inline:WVNfX19zZW1jdGwgKCkgewkyMjA7fQp9CnVubGVz;",
-            Key,
-        ),
-        (
-            b"2 AES_256_CM_HMAC_SHA1_80 inline:Hh8gISIjJCUmJygpKissLS4vMDEyMzQ1Njc4OTo7PD0+P0BBQkNERUZHSElKSw=",
-            Key,
-        ),
-        (
-            b"2 AES_256_CM_HMAC_SHA1_80 inline:Hh8gISIjJCUmJygpKissLS4vMDEyMzQ1Njc4OTo7PD0+P0BBQkNERUZHSElKSw===",
-            Key,
-        ),
-        (
-            b"2 AES_256_CM_HMAC_SHA1_80 inline:Hh8gISIjJCUmJygpKissLS4vMDEyMzQ1Njc4OTo7PD0+P0BBQkNERUZHSElKSx==",
-            Key,
-        ),
-        (
-            b"2 AES_256_CM_HMAC_SHA1_80 inline:Hh8gISIjJCUmJygpKissLS4vMDEyMzQ1Njc4OTo7PD0+P0BBQkNERUZHSElKSx",
-            Key,
-        ),
-        (
-            b"1 AES_CM_128_HMAC_SHA1_80 inline:-__7__v_-__7__v_-__7__v_-__7__v_-__7__v_",
-            Key,
-        ),
-        (
-            b"1 AES_CM_128_HMAC_SHA1_80 inline:AAECAwQFBgcICQoLDA0ODxAREhMUFRYXGBkaGxw=",
-            Key,
-        ),
-        (
-            b"1 AES_CM_128_HMAC_SHA1_80 inline:AAECAwQFBgcICQoLDA0ODxAREhMUFRYXGBkaGxwdHg==",
-            Key,
-        ),
-        (
-            b"1 AES_CM_128_HMAC_SHA1_80 inline:AAECAwQFBgcICQoLDA0ODxAREhMUFRYXGBkaGxwdHh8gISIjJCUmJygpKissLQ==",
-            Key,
-        ),
-        (
-            b"2 AES_256_CM_HMAC_SHA1_80 inline:WVNfX19zZW1jdGwgKCkgewkyMjA7fQp9CnVubGVz",
-            Key,
-        ),
-        (
-            b"1 AES_CM_128_HMAC_SHA1_80 inline:AAAAAAAAAAAAAAAAAAAAAAAAAAAAAAAAAAAAAAAAAAAAAAAAAAAAAAAAAAAAAAAAAAAA",
-            Key,
-        ),
-        (
-            b"1 AES_CM_128_HMAC_SHA1_80 inline:WVNfX19zZW1jdGwgKCkgewkyMjA7fQp9CnVubGVz|1:4|2^20",
-            Key,
-        ),
-        (
-            b"1 AES_CM_128_HMAC_SHA1_80 inline:WVNfX19zZW1jdGwgKCkgewkyMjA7fQp9CnVubGVz|2|3",
-            Key,
-        ),
-        (
-            b"1 AES_CM_128_HMAC_SHA1_80 inline:WVNfX19zZW1jdGwgKCkgewkyMjA7fQp9CnVubGVz|2:1|3:1",
-            Key,
-        ),
-        (
-            b"1 AES_CM_128_HMAC_SHA1_80 inline:WVNfX19zZW1jdGwgKCkgewkyMjA7fQp9CnVubGVz|2|1:4|",
-            Key,
-        ),
-        (b"1 AES_CM_128_HMAC_SHA1_80 inline:x|0|1:0", Key),
-        (
-            b"1 AES_CM_128_HMAC_SHA1_80 inline:WVNfX19zZW1jdGwgKCkgewkyMjA7fQp9CnVubGVz|1:1;inline:WVNfX19zZW1jdGwgKCkgewkyMjA7fQp9CnVubGVz|2:1;inline:WVNfX19zZW1jdGwgKCkgewkyMjA7fQp9CnVubGVz|3:1;inline:WVNfX19zZW1jdGwgKCkgewkyMjA7fQp9CnVubGVz|4:1;inline:WVNfX19zZW1jdGwgKCkgewkyMjA7fQp9CnVubGVz|5:1;inline:WVNfX19zZW1jdGwgKCkgewkyMjA7fQp9CnVubGVz|6:1;inline:WVNfX19zZW1jdGwgKCkgewkyMjA7fQp9CnVubGVz|7:1;inline:WVNfX19zZW1jdGwgKCkgewkyMjA7fQp9CnVubGVz|8:1;inline:WVNfX19zZW1jdGwgKCkgewkyMjA7fQp9CnVubGVz|9:1",
-            Key,
-        ),
-        (
-            b"1 AES_CM_128_HMAC_SHA1_80 inline:WVNfX19zZW1jdGwgKCkgewkyMjA7fQp9CnVubGVz|0|1:4",
-            Lifetime,
-        ),
-        (
-            b"1 AES_CM_128_HMAC_SHA1_80 inline:WVNfX19zZW1jdGwgKCkgewkyMjA7fQp9CnVubGVz|",
-            Lifetime,
-        ),
-        (
-            b"1 AES_CM_128_HMAC_SHA1_80 inline:WVNfX19zZW1jdGwgKCkgewkyMjA7fQp9CnVubGVz|2^49",
-            Lifetime,
-        ),
-        (
-            b"1 AES_CM_128_HMAC_SHA1_80 inline:WVNfX19zZW1jdGwgKCkgewkyMjA7fQp9CnVubGVz|2^048",
-            Lifetime,
-        ),
-        (
-            b"1 AES_CM_128_HMAC_SHA1_80 inline:WVNfX19zZW1jdGwgKCkgewkyMjA7fQp9CnVubGVz|2^",
-            Lifetime,
-        ),
-        (
-            b"1 AES_CM_128_HMAC_SHA1_80 inline:WVNfX19zZW1jdGwgKCkgewkyMjA7fQp9CnVubGVz|281474976710657",
-            Lifetime,
-        ),
-        (
-            b"1 AES_CM_128_HMAC_SHA1_80 inline:WVNfX19zZW1jdGwgKCkgewkyMjA7fQp9CnVubGVz|01",
-            Lifetime,
-        ),
-        (
-            b"1 AES_CM_128_HMAC_SHA1_80 inline:WVNfX19zZW1jdGwgKCkgewkyMjA7fQp9CnVubGVz|3^2",
-            Lifetime,
-        ),
-        (
-            b"1 AES_CM_128_HMAC_SHA1_80 inline:WVNfX19zZW1jdGwgKCkgewkyMjA7fQp9CnVubGVz|0|1:0",
-            Lifetime,
-        ),
-        (
-            b"1 AES_CM_128_HMAC_SHA1_80 inline:WVNfX19zZW1jdGwgKCkgewkyMjA7fQp9CnVubGVz|0|1:1;inline:WVNfX19zZW1jdGwgKCkgewkyMjA7fQp9CnVubGVz|0|2:1;inline:WVNfX19zZW1jdGwgKCkgewkyMjA7fQp9CnVubGVz|0|3:1;inline:WVNfX19zZW1jdGwgKCkgewkyMjA7fQp9CnVubGVz|0|4:1;inline:WVNfX19zZW1jdGwgKCkgewkyMjA7fQp9CnVubGVz|0|5:1;inline:WVNfX19zZW1jdGwgKCkgewkyMjA7fQp9CnVubGVz|0|6:1;inline:WVNfX19zZW1jdGwgKCkgewkyMjA7fQp9CnVubGVz|0|7:1;inline:WVNfX19zZW1jdGwgKCkgewkyMjA7fQp9CnVubGVz|0|8:1;inline:WVNfX19zZW1jdGwgKCkgewkyMjA7fQp9CnVubGVz|0|9:1",
-            Lifetime,
-        ),
-        (
-            b"1 AES_CM_128_HMAC_SHA1_80 inline:WVNfX19zZW1jdGwgKCkgewkyMjA7fQp9CnVubGVz|0;inline:x",
-            Lifetime,
-        ),
-        (
-            b"1 AES_CM_128_HMAC_SHA1_80 inline:WVNfX19zZW1jdGwgKCkgewkyMjA7fQp9CnVubGVz|256:1",
-            MkiValue,
-        ),
-        (
-            b"1 AES_CM_128_HMAC_SHA1_80 inline:WVNfX19zZW1jdGwgKCkgewkyMjA7fQp9CnVubGVz|2^20|256:1",
-            MkiValue,
-        ),
-        (
-            b"1 AES_CM_128_HMAC_SHA1_80 inline:WVNfX19zZW1jdGwgKCkgewkyMjA7fQp9CnVubGVz|0:0",
-            MkiValue,
-        ),
-        (
-            b"1 AES_CM_128_HMAC_SHA1_80 inline:WVNfX19zZW1jdGwgKCkgewkyMjA7fQp9CnVubGVz|1:129",
-            MkiValue,
-        ),
-        (
-            b"1 AES_CM_128_HMAC_SHA1_80 inline:WVNfX19zZW1jdGwgKCkgewkyMjA7fQp9CnVubGVz|1:04",
-            MkiValue,
-        ),
-        (
-            b"1 AES_CM_128_HMAC_SHA1_80 inline:WVNfX19zZW1jdGwgKCkgewkyMjA7fQp9CnVubGVz|01:4",
-            MkiValue,
-        ),
-        (
-            b"1 AES_CM_128_HMAC_SHA1_80 inline:WVNfX19zZW1jdGwgKCkgewkyMjA7fQp9CnVubGVz|340282366920938463463374607431768211456:17",
-            MkiValue,
-        ),
-        (
-            b"1 AES_CM_128_HMAC_SHA1_80 inline:WVNfX19zZW1jdGwgKCkgewkyMjA7fQp9CnVubGVz|1:4:4",
-            MkiValue,
-        ),
-        (
-            b"1 AES_CM_128_HMAC_SHA1_80 inline:WVNfX19zZW1jdGwgKCkgewkyMjA7fQp9CnVubGVz|:4",
-            MkiValue,
-        ),
-        (
-            b"1 AES_CM_128_HMAC_SHA1_80 inline:WVNfX19zZW1jdGwgKCkgewkyMjA7fQp9CnVubGVz;inline:AAECAwQFBgcICQoLDA0ODxAREhMUFRYXGBkaGxwd",
-            MkiValue,
-        ),
-        (
-            b"1 AES_CM_128_HMAC_SHA1_80 inline:WVNfX19zZW1jdGwgKCkgewkyMjA7fQp9CnVubGVz|1:1;inline:AAECAwQFBgcICQoLDA0ODxAREhMUFRYXGBkaGxwd",
-            MkiValue,
-        ),
-        (
-            b"1 AES_CM_128_HMAC_SHA1_80 inline:WVNfX19zZW1jdGwgKCkgewkyMjA7fQp9CnVubGVz|1:1;inline:AAECAwQFBgcICQoLDA0ODxAREhMUFRYXGBkaGxwd|2:2",
-            MkiValue,
-        ),
-        (
-            b"1 AES_CM_128_HMAC_SHA1_80 inline:WVNfX19zZW1jdGwgKCkgewkyMjA7fQp9CnVubGVz|1:1;inline:AAECAwQFBgcICQoLDA0ODxAREhMUFRYXGBkaGxwd|1:1",
-            MkiValue,
-        ),
-        (
-            b"1 AES_CM_128_HMAC_SHA1_80 inline:WVNfX19zZW1jdGwgKCkgewkyMjA7fQp9CnVubGVz|1:1;inline:AAECAwQFBgcICQoLDA0ODxAREhMUFRYXGBkaGxwd|2:1;inline:WVNfX19zZW1jdGwgKCkgewkyMjA7fQp9CnVubGVz|1:1",
-            MkiValue,
-        ),
-        (
-            b"1 AES_CM_128_HMAC_SHA1_80 inline:WVNfX19zZW1jdGwgKCkgewkyMjA7fQp9CnVubGVz;inline:AAECAwQFBgcICQoLDA0ODxAREhMUFRYXGBkaGxwd KDR=1",
-            MkiValue,
-        ),
-        (
-            b"1 AES_CM_128_HMAC_SHA1_80 inline:WVNfX19zZW1jdGwgKCkgewkyMjA7fQp9CnVubGVz|2^20|1:4 FEC_ORDER=FEC_SRTP KDR=1",
-            Parameter,
-        ),
-        (
-            b"1 AES_CM_128_HMAC_SHA1_80 inline:WVNfX19zZW1jdGwgKCkgewkyMjA7fQp9CnVubGVz|2^20|1:4 FEC_ORDER=FEC_SRTP KDR=0 KDR=0",
-            Parameter,
-        ),
-        (
-            b"1 AES_CM_128_HMAC_SHA1_80 inline:WVNfX19zZW1jdGwgKCkgewkyMjA7fQp9CnVubGVz|2^20|1:4 FEC_ORDER=FEC_SRTP ",
-            Parameter,
-        ),
-        (
-            b"1 AES_CM_128_HMAC_SHA1_80 inline:WVNfX19zZW1jdGwgKCkgewkyMjA7fQp9CnVubGVz|2^20|1:4 FEC_ORDER=FEC_SRTP KDR=0  ",
-            Parameter,
-        ),
-        (
-            b"1 AES_CM_128_HMAC_SHA1_80 inline:WVNfX19zZW1jdGwgKCkgewkyMjA7fQp9CnVubGVz|2^20|1:4 FEC_ORDER=FEC_SRTP FOO",
-            Parameter,
-        ),
-        (
-            b"1 AES_CM_128_HMAC_SHA1_80 inline:WVNfX19zZW1jdGwgKCkgewkyMjA7fQp9CnVubGVz|2^20|1:4 FEC_ORDER=FEC_SRTP UNAUTHENTICATED_SRTP",
-            Parameter,
-        ),
-        (
-            b"1 AES_CM_128_HMAC_SHA1_80 inline:WVNfX19zZW1jdGwgKCkgewkyMjA7fQp9CnVubGVz UNENCRYPTED_SRTP UNENCRYPTED_SRTP",
-            Parameter,
-        ),
-        (
-            b"1 AES_CM_128_HMAC_SHA1_80 inline:WVNfX19zZW1jdGwgKCkgewkyMjA7fQp9CnVubGVz UNENCRYPTED_SRTCP UNENCRYPTED_SRTCP",
-            Parameter,
-        ),
-        (
-            b"1 AES_CM_128_HMAC_SHA1_80 inline:WVNfX19zZW1jdGwgKCkgewkyMjA7fQp9CnVubGVz UNENCRYPTED_SRTP=1",
-            Parameter,
-        ),
-        (
-            b"1 AES_CM_128_HMAC_SHA1_80 inline:WVNfX19zZW1jdGwgKCkgewkyMjA7fQp9CnVubGVz FEC_ORDER=SRTP_FEC",
-            Parameter,
-        ),
-        (
-            b"1 AES_CM_128_HMAC_SHA1_80 inline:WVNfX19zZW1jdGwgKCkgewkyMjA7fQp9CnVubGVz FEC_KEY=inline:AAECAwQFBgcICQoLDA0ODxAREhMUFRYXGBkaGxwd",
-            Parameter,
-        ),
-        (
-            b"1 AES_CM_128_HMAC_SHA1_80 inline:WVNfX19zZW1jdGwgKCkgewkyMjA7fQp9CnVubGVz|2^20|1:4 FEC_ORDER=FEC_SRTP FEC_ORDER=FEC_SRTP",
-            Parameter,
-        ),
-        (
-            b"1 AES_CM_128_HMAC_SHA1_80 inline:WVNfX19zZW1jdGwgKCkgewkyMjA7fQp9CnVubGVz|2^20|1:4 FEC_ORDER=FEC_SRTP WSH=",
-            Parameter,
-        ),
-        (
-            b"1 AES_CM_128_HMAC_SHA1_80 inline:WVNfX19zZW1jdGwgKCkgewkyMjA7fQp9CnVubGVz|2^20|1:4 FEC_ORDER=FEC_SRTP WSH=1234567890",
-            Parameter,
-        ),
-        (
-            b"1 AES_CM_128_HMAC_SHA1_80 inline:WVNfX19zZW1jdGwgKCkgewkyMjA7fQp9CnVubGVz|2^20|1:4 FEC_ORDER=FEC_SRTP WSH=64 WSH=64",
-            Parameter,
-        ),
-        (
-            b"1 AES_CM_128_HMAC_SHA1_80 inline:WVNfX19zZW1jdGwgKCkgewkyMjA7fQp9CnVubGVz|2^20|1:4 FEC_ORDER=FEC_SRTP WSH=x",
-            Parameter,
-        ),
-        (
-            b"1 AES_CM_128_HMAC_SHA1_80 inline:WVNfX19zZW1jdGwgKCkgewkyMjA7fQp9CnVubGVz|2^20|1:4 FEC_ORDER=FEC_SRTP wsh=64",
-            Parameter,
-        ),
-    ];
-    for (row, fault) in &rows {
-        assert!(rt; fault_of(row) == Some(*fault));
+const BAD: [(&[u8], SdesFault); 24] = [
+    (b"", Tag),
+    (
+        b"1\tAES_CM_128_HMAC_SHA1_80 inline:WVNfX19zZW1jdGwgKCkgewkyMjA7fQp9CnVubGVz|2^20|1:4 FEC_ORDER=FEC_SRTP",
+        Tag,
+    ),
+    (b"1", SdesFault::Suite),
+    (b"1 ", SdesFault::Suite),
+    (
+        b"1 aes_cm_128_hmac_sha1_80 inline:WVNfX19zZW1jdGwgKCkgewkyMjA7fQp9CnVubGVz",
+        SdesFault::Suite,
+    ),
+    (
+        b"1 F8_128_HMAC_SHA1_80 inline:AAECAwQFBgcICQoLDA0ODxAREhMUFRYXGBkaGxwd",
+        SdesFault::Suite,
+    ),
+    (
+        b"1 RAW80 inline:AAECAwQFBgcICQoLDA0ODxAREhM=",
+        SdesFault::Suite,
+    ),
+    (
+        b"1 AES_CM_128_HMAC_SHA1_80_ inline:WVNfX19zZW1jdGwgKCkgewkyMjA7fQp9CnVubGVz",
+        SdesFault::Suite,
+    ),
+    (b"1 AES_CM_128_HMAC_SHA1_80", Key),
+    (b"1 AES_CM_128_HMAC_SHA1_80 ", Key),
+    (
+        b"1 AES_CM_128_HMAC_SHA1_80 WVNfX19zZW1jdGwgKCkgewkyMjA7fQp9CnVubGVz",
+        Key,
+    ),
+    (
+        b"1 AES_CM_128_HMAC_SHA1_80 Inline:WVNfX19zZW1jdGwgKCkgewkyMjA7fQp9CnVubGVz",
+        Key,
+    ),
+    (b"1 AES_CM_128_HMAC_SHA1_80 inline:", Key),
+    (
+        b"2 AES_256_CM_HMAC_SHA1_80 inline:Hh8gISIjJCUmJygpKissLS4vMDEyMzQ1Njc4OTo7PD0+P0BBQkNERUZHSElKSw=",
+        Key,
+    ),
+    (
+        b"2 AES_256_CM_HMAC_SHA1_80 inline:Hh8gISIjJCUmJygpKissLS4vMDEyMzQ1Njc4OTo7PD0+P0BBQkNERUZHSElKSw===",
+        Key,
+    ),
+    (
+        b"2 AES_256_CM_HMAC_SHA1_80 inline:Hh8gISIjJCUmJygpKissLS4vMDEyMzQ1Njc4OTo7PD0+P0BBQkNERUZHSElKSx==",
+        Key,
+    ),
+    (
+        b"2 AES_256_CM_HMAC_SHA1_80 inline:Hh8gISIjJCUmJygpKissLS4vMDEyMzQ1Njc4OTo7PD0+P0BBQkNERUZHSElKSx",
+        Key,
+    ),
+    (
+        b"1 AES_CM_128_HMAC_SHA1_80 inline:-__7__v_-__7__v_-__7__v_-__7__v_-__7__v_",
+        Key,
+    ),
+    (
+        b"1 AES_CM_128_HMAC_SHA1_80 inline:AAECAwQFBgcICQoLDA0ODxAREhMUFRYXGBkaGxw=",
+        Key,
+    ),
+    (
+        b"1 AES_CM_128_HMAC_SHA1_80 inline:AAECAwQFBgcICQoLDA0ODxAREhMUFRYXGBkaGxwdHg==",
+        Key,
+    ),
+    (
+        b"1 AES_CM_128_HMAC_SHA1_80 inline:AAECAwQFBgcICQoLDA0ODxAREhMUFRYXGBkaGxwdHh8gISIjJCUmJygpKissLQ==",
+        Key,
+    ),
+    (
+        b"2 AES_256_CM_HMAC_SHA1_80 inline:WVNfX19zZW1jdGwgKCkgewkyMjA7fQp9CnVubGVz",
+        Key,
+    ),
+    (
+        b"1 AES_CM_128_HMAC_SHA1_80 inline:AAAAAAAAAAAAAAAAAAAAAAAAAAAAAAAAAAAAAAAAAAAAAAAAAAAAAAAAAAAAAAAAAAAA",
+        Key,
+    ),
+    (b"1 AES_CM_128_HMAC_SHA1_80 inline:x|0|1:0", Key),
+];
+
+const BAD_KEYED: [(&[u8], SdesFault); 37] = [
+    (b";", Key),
+    (b"|1:4|2^20", Key),
+    (b"|2|3", Key),
+    (b"|2:1|3:1", Key),
+    (b"|2|1:4|", Key),
+    (
+        b"|1:1;inline:WVNfX19zZW1jdGwgKCkgewkyMjA7fQp9CnVubGVz|2:1;inline:WVNfX19zZW1jdGwgKCkgewkyMjA7fQp9CnVubGVz|3:1;inline:WVNfX19zZW1jdGwgKCkgewkyMjA7fQp9CnVubGVz|4:1;inline:WVNfX19zZW1jdGwgKCkgewkyMjA7fQp9CnVubGVz|5:1;inline:WVNfX19zZW1jdGwgKCkgewkyMjA7fQp9CnVubGVz|6:1;inline:WVNfX19zZW1jdGwgKCkgewkyMjA7fQp9CnVubGVz|7:1;inline:WVNfX19zZW1jdGwgKCkgewkyMjA7fQp9CnVubGVz|8:1;inline:WVNfX19zZW1jdGwgKCkgewkyMjA7fQp9CnVubGVz|9:1",
+        Key,
+    ),
+    (b"|0|1:4", Lifetime),
+    (b"|", Lifetime),
+    (b"|2^49", Lifetime),
+    (b"|2^048", Lifetime),
+    (b"|2^", Lifetime),
+    (b"|281474976710657", Lifetime),
+    (b"|01", Lifetime),
+    (b"|3^2", Lifetime),
+    (b"|0|1:0", Lifetime),
+    (
+        b"|0|1:1;inline:WVNfX19zZW1jdGwgKCkgewkyMjA7fQp9CnVubGVz|0|2:1;inline:WVNfX19zZW1jdGwgKCkgewkyMjA7fQp9CnVubGVz|0|3:1;inline:WVNfX19zZW1jdGwgKCkgewkyMjA7fQp9CnVubGVz|0|4:1;inline:WVNfX19zZW1jdGwgKCkgewkyMjA7fQp9CnVubGVz|0|5:1;inline:WVNfX19zZW1jdGwgKCkgewkyMjA7fQp9CnVubGVz|0|6:1;inline:WVNfX19zZW1jdGwgKCkgewkyMjA7fQp9CnVubGVz|0|7:1;inline:WVNfX19zZW1jdGwgKCkgewkyMjA7fQp9CnVubGVz|0|8:1;inline:WVNfX19zZW1jdGwgKCkgewkyMjA7fQp9CnVubGVz|0|9:1",
+        Lifetime,
+    ),
+    (b"|0;inline:x", Lifetime),
+    (b"|256:1", MkiValue),
+    (b"|2^20|256:1", MkiValue),
+    (b"|0:0", MkiValue),
+    (b"|1:129", MkiValue),
+    (b"|1:04", MkiValue),
+    (b"|01:4", MkiValue),
+    (b"|340282366920938463463374607431768211456:17", MkiValue),
+    (b"|1:4:4", MkiValue),
+    (b"|:4", MkiValue),
+    (
+        b";inline:AAECAwQFBgcICQoLDA0ODxAREhMUFRYXGBkaGxwd",
+        MkiValue,
+    ),
+    (
+        b"|1:1;inline:AAECAwQFBgcICQoLDA0ODxAREhMUFRYXGBkaGxwd",
+        MkiValue,
+    ),
+    (
+        b"|1:1;inline:AAECAwQFBgcICQoLDA0ODxAREhMUFRYXGBkaGxwd|2:2",
+        MkiValue,
+    ),
+    (
+        b"|1:1;inline:AAECAwQFBgcICQoLDA0ODxAREhMUFRYXGBkaGxwd|1:1",
+        MkiValue,
+    ),
+    (
+        b"|1:1;inline:AAECAwQFBgcICQoLDA0ODxAREhMUFRYXGBkaGxwd|2:1;inline:WVNfX19zZW1jdGwgKCkgewkyMjA7fQp9CnVubGVz|1:1",
+        MkiValue,
+    ),
+    (
+        b";inline:AAECAwQFBgcICQoLDA0ODxAREhMUFRYXGBkaGxwd KDR=1",
+        MkiValue,
+    ),
+    (b" UNENCRYPTED_SRTP UNENCRYPTED_SRTP", Parameter),
+    (b" UNENCRYPTED_SRTCP UNENCRYPTED_SRTCP", Parameter),
+    (b" UNENCRYPTED_SRTP=1", Parameter),
+    (b" FEC_ORDER=SRTP_FEC", Parameter),
+    (
+        b" FEC_KEY=inline:AAECAwQFBgcICQoLDA0ODxAREhMUFRYXGBkaGxwd",
+        Parameter,
+    ),
+];
+
+const BAD_STATED: [(&[u8], SdesFault); 12] = [
+    (b" KDR=1", Parameter),
+    (b" KDR=0 KDR=0", Parameter),
+    (b" ", Parameter),
+    (b" KDR=0  ", Parameter),
+    (b" FOO", Parameter),
+    (b" UNAUTHENTICATED_SRTP", Parameter),
+    (b" FEC_ORDER=FEC_SRTP", Parameter),
+    (b" WSH=", Parameter),
+    (b" WSH=1234567890", Parameter),
+    (b" WSH=64 WSH=64", Parameter),
+    (b" WSH=x", Parameter),
+    (b" wsh=64", Parameter),
+];
+
+/// These have that front and those faults.
+fn have_faults(
+    rt: &impl Abort,
+    alloc: Global,
+    front: &[u8],
+    rows: &[(&[u8], SdesFault)],
+) -> Result<(), Fail> {
+    for (back, fault) in rows {
+        let told = fault_of(alloc, front, back)?;
+        assert!(rt; told == Some(*fault));
     }
+    Ok(())
+}
+
+#[test]
+fn bad_values(rt: HostRuntime) -> Result<(), Fail> {
+    have_faults(&rt, rt.alloc(), b"", &BAD)?;
+    have_faults(&rt, rt.alloc(), KEYED, &BAD_KEYED)?;
+    have_faults(&rt, rt.alloc(), STATED, &BAD_STATED)
+}
+
+/// What stands for the `1` of a value.
+const TAGS: [&[u8]; 6] = [b" 1", b"x1", b"+1", b"0000000001", b"1234567890", b"-1"];
+
+#[test]
+fn bad_tags(rt: HostRuntime) -> Result<(), Fail> {
+    for tag in TAGS {
+        let told = fault_of(rt.alloc(), tag, &STATED[1..])?;
+        assert!(rt; told == Some(Tag));
+    }
+    Ok(())
 }
 
 /// The line of RFC 4568, section 5.1, with a window, and what each of its words says.

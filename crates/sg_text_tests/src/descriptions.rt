@@ -2,7 +2,7 @@
 
 use sg_base::SdpFault::{self, Address, Form, Order, TooLong, TooManyMedia};
 use sg_base::{NoMemory, Octets};
-use sg_sdp::{Profile, ReadSdpFault, read};
+use sg_sdp::{Profile, ReadSdpFault, Sdp, read};
 use std::alloc::Global;
 use std::process::Abort;
 use std::test::Fail;
@@ -54,13 +54,27 @@ fn printed(alloc: Global, text: &[u8]) -> Result<Octets, Fail> {
     Ok(read(alloc, text)?.print(alloc)?)
 }
 
-// The text of one medium for the other side.
-fn carried(alloc: Global, text: &[u8], port: u16, profile: Profile) -> Result<Octets, Fail> {
-    let sdp = read(alloc, text)?;
+// One medium for the other side.
+fn carried_one(alloc: Global, sdp: &Sdp, port: u16, profile: Profile) -> Result<Sdp, Fail> {
     if sdp.media.len() != 1 {
         return Err("one medium".into());
     }
-    Ok(sdp.carry(alloc, &[port], &[profile])?.print(alloc)?)
+    Ok(sdp.carry(alloc, &[port], &[profile])?)
+}
+
+// The text of one medium for the other side.
+fn carried(alloc: Global, text: &[u8], port: u16, profile: Profile) -> Result<Octets, Fail> {
+    let sdp = read(alloc, text)?;
+    Ok(carried_one(alloc, &sdp, port, profile)?.print(alloc)?)
+}
+
+// Texts, one behind another.
+fn joined(alloc: Global, texts: &[&[u8]]) -> Result<Vec<u8>, NoMemory> {
+    let mut all = Vec::new(alloc);
+    for text in texts {
+        all.extend_from_slice(text)?;
+    }
+    Ok(all)
 }
 
 #[test]
@@ -112,10 +126,16 @@ fn a_cut_offer_is_told_where_it_ends(rt: HostRuntime) {
     assert!(rt; fault_of(&rt, rt.alloc(), OFFER) == None);
 }
 
+fn have_faults(rt: &impl Abort, alloc: Global, rows: &[(&[u8], Option<(u32, SdpFault)>)]) {
+    for (text, fault) in rows {
+        assert!(rt; fault_of(rt, alloc, text) == *fault, "{text:?}");
+    }
+}
+
 // Texts and their first faults.
 #[test]
 fn tells_the_first_fault(rt: HostRuntime) {
-    let rows: [(&[u8], Option<(u32, SdpFault)>); 49] = [
+    const ROWS: [(&[u8], Option<(u32, SdpFault)>); 49] = [
         (b"", Some((1, Order))),
         (b"v=0\r\no=x\r\n", Some((3, Order))),
         (b"v=0", Some((1, Form))),
@@ -187,9 +207,7 @@ fn tells_the_first_fault(rt: HostRuntime) {
             Some((8, Form)),
         ),
     ];
-    for (text, fault) in rows {
-        assert!(rt; fault_of(&rt, rt.alloc(), text) == fault, "{text:?}");
-    }
+    have_faults(&rt, rt.alloc(), &ROWS);
 }
 
 // So many octets `x`.
@@ -203,10 +221,8 @@ fn filled(alloc: Global, front: &[u8], count: usize, end: &[u8]) -> Result<Vec<u
 }
 
 #[test]
-fn keeps_the_limits(rt: HostRuntime) -> Result<(), Fail> {
-    let alloc = rt.alloc();
-    let front = b"v=0\no=x\ns=-\na=";
-    let rows: [(usize, &[u8], Option<(u32, SdpFault)>); 6] = [
+fn keeps_the_limit_of_a_line(rt: HostRuntime) -> Result<(), Fail> {
+    const ROWS: [(usize, &[u8], Option<(u32, SdpFault)>); 6] = [
         (2046, b"\n", None),
         (2046, b"\r\n", None),
         (2047, b"\r\n", Some((4, TooLong))),
@@ -216,19 +232,67 @@ fn keeps_the_limits(rt: HostRuntime) -> Result<(), Fail> {
         (2046, b"", Some((4, Form))),
         (2047, b"", Some((4, TooLong))),
     ];
-    for (count, end, fault) in rows {
-        let text = filled(alloc, front, count, end)?;
-        assert!(rt; fault_of(&rt, alloc, &text) == fault, "{count} {end:?}");
+    for (count, end, fault) in ROWS {
+        let text = filled(rt.alloc(), b"v=0\no=x\ns=-\na=", count, end)?;
+        assert!(rt;
+            fault_of(&rt, rt.alloc(), &text) == fault,
+            "{count} {end:?}"
+        );
     }
-    // 12 octets, then eight lines of 2,042 octets with their ends, and one of 36 or 37.
+    Ok(())
+}
+
+// 12 octets, then eight lines of 2,042 octets with their ends, and one of three octets and so many more.
+fn nine_lines(alloc: Global, last: usize) -> Result<Vec<u8>, NoMemory> {
+    let mut text = joined(alloc, &[b"v=0\no=x\ns=-\n"])?;
+    for _ in 0..8 {
+        text.extend_from_slice(&filled(alloc, b"a=", 2039, b"\n")?)?;
+    }
+    text.extend_from_slice(&filled(alloc, b"b=", last, b"\n")?)?;
+    Ok(text)
+}
+
+#[test]
+fn keeps_the_limit_of_a_text(rt: HostRuntime) -> Result<(), Fail> {
     for (last, fault) in [(33, None), (34, Some((0, TooLong)))] {
-        let mut text = Vec::from_slice(alloc, b"v=0\no=x\ns=-\n")?;
-        for _ in 0..8 {
-            text.extend_from_slice(&filled(alloc, b"a=", 2039, b"\n")?)?;
-        }
-        text.extend_from_slice(&filled(alloc, b"b=", last, b"\n")?)?;
+        let text = nine_lines(rt.alloc(), last)?;
         assert!(rt; text.len() == 16351 + last);
-        assert!(rt; fault_of(&rt, alloc, &text) == fault, "{last}");
+        assert!(rt; fault_of(&rt, rt.alloc(), &text) == fault, "{last}");
+    }
+    Ok(())
+}
+
+// Two media at port 0 for the other side.
+fn carried_two(alloc: Global, text: &[u8]) -> Result<Octets, Fail> {
+    let sdp = read(alloc, text)?;
+    if sdp.media.len() != 2 {
+        return Err("two media".into());
+    }
+    let profiles = [Profile::Other, Profile::Other];
+    Ok(sdp.carry(alloc, &[0, 0], &profiles)?.print(alloc)?)
+}
+
+// A line and a medium, twice.
+fn twice(alloc: Global, line: &[u8], medium: &[u8]) -> Result<Vec<u8>, NoMemory> {
+    let head = b"v=0\r\no=x\r\ns=-\r\n";
+    joined(alloc, &[head, line, medium, line, medium])
+}
+
+// Whether a line is carried where it stays, and left out where it doesn't.
+fn is_carried(alloc: Global, line: &[u8], stays: bool) -> Result<bool, Fail> {
+    let text = twice(alloc, line, b"\r\nm=audio 9 x y\r\n")?;
+    let expected = if stays {
+        twice(alloc, line, b"\r\nm=audio 0 x y\r\n")?
+    } else {
+        twice(alloc, b"", b"m=audio 0 x y\r\n")?
+    };
+    Ok(carried_two(alloc, &text)?.as_slice() == expected.as_slice())
+}
+
+fn are_carried(rt: &impl Abort, alloc: Global, rows: &[(&[u8], bool)]) -> Result<(), Fail> {
+    for (line, stays) in rows {
+        let is_so = is_carried(alloc, line, *stays)?;
+        assert!(rt; is_so, "{line:?}");
     }
     Ok(())
 }
@@ -236,7 +300,7 @@ fn keeps_the_limits(rt: HostRuntime) -> Result<(), Fail> {
 // Attributes, and whether they are carried.
 #[test]
 fn leaves_out_what_is_of_one_side(rt: HostRuntime) -> Result<(), Fail> {
-    let rows: [(&[u8], bool); 37] = [
+    const ROWS: [(&[u8], bool); 37] = [
         (b"a=crypto:1 x inline:y", false),
         (b"a=key-mgmt:mikey AQ==", false),
         (b"a=rtcp:53020", false),
@@ -275,72 +339,80 @@ fn leaves_out_what_is_of_one_side(rt: HostRuntime) -> Result<(), Fail> {
         (b"b=crypto:1", true),
         (b"k=crypto", true),
     ];
-    for (line, stays) in rows {
-        let mut text = Vec::from_slice(rt.alloc(), b"v=0\r\no=x\r\ns=-\r\n")?;
-        let mut expected = Vec::from_slice(rt.alloc(), b"v=0\r\no=x\r\ns=-\r\n")?;
-        for _ in 0..2 {
-            text.extend_from_slice(line)?;
-            text.extend_from_slice(b"\r\n")?;
-            if stays {
-                expected.extend_from_slice(line)?;
-                expected.extend_from_slice(b"\r\n")?;
-            }
-            text.extend_from_slice(b"m=audio 9 x y\r\n")?;
-            expected.extend_from_slice(b"m=audio 0 x y\r\n")?;
+    are_carried(&rt, rt.alloc(), &ROWS)
+}
+
+// Protocol words with their profiles.
+const PROFILES: [(&[u8], Profile); 7] = [
+    (b"RTP/AVP", Profile::Avp),
+    (b"RTP/SAVP", Profile::Savp),
+    (b"RTP/AVPF", Profile::Avpf),
+    (b"RTP/SAVPF", Profile::Savpf),
+    (b"UDP/TLS/RTP/SAVPF", Profile::Other),
+    (b"RTP/avp", Profile::Other),
+    (b"RTP/AVPX", Profile::Other),
+];
+
+// The description of one medium of a protocol.
+fn of_protocol(alloc: Global, protocol: &[u8]) -> Result<Sdp, Fail> {
+    let head = b"v=0\no=x\ns=-\nm=audio 9 ";
+    let text = joined(alloc, &[head, protocol, b" 0\n"])?;
+    Ok(read(alloc, &text)?)
+}
+
+#[test]
+fn knows_the_profiles(rt: HostRuntime) -> Result<(), Fail> {
+    for (protocol, profile) in PROFILES {
+        let sdp = of_protocol(rt.alloc(), protocol)?;
+        assert!(rt; sdp.media.len() == 1);
+        for medium in sdp.media.as_slice() {
+            let words = [&medium.word, &medium.proto, &medium.formats].map(|word| word.as_slice());
+            assert!(rt; (medium.port, medium.profile) == (9, profile));
+            assert!(rt; words == [b"audio".as_slice(), protocol, b"0"]);
         }
-        let sdp = read(rt.alloc(), &text)?;
-        assert!(rt; sdp.media.len() == 2);
-        let other = sdp.carry(rt.alloc(), &[0, 0], &[Profile::Other, Profile::Other])?;
-        assert!(rt;
-            other.print(rt.alloc())?.as_slice() == expected.as_slice(),
-            "{line:?}"
-        );
     }
     Ok(())
 }
 
-// Protocol words with their profiles, and what each is carried as where it is asked for.
+// The port and the profile of one medium that is carried at port 7 where this profile is asked for.
+fn carried_as(alloc: Global, sdp: &Sdp, asked: Profile) -> Result<(u16, Profile), Fail> {
+    match carried_one(alloc, sdp, 7, asked)?.media.as_slice() {
+        [medium] => Ok((medium.port, medium.profile)),
+        _ => Err("one medium".into()),
+    }
+}
+
+// Each is carried as what is asked for, where that is one of the four.
 #[test]
-fn knows_the_profiles(rt: HostRuntime) -> Result<(), Fail> {
-    let rows: [(&[u8], Profile); 7] = [
-        (b"RTP/AVP", Profile::Avp),
-        (b"RTP/SAVP", Profile::Savp),
-        (b"RTP/AVPF", Profile::Avpf),
-        (b"RTP/SAVPF", Profile::Savpf),
-        (b"UDP/TLS/RTP/SAVPF", Profile::Other),
-        (b"RTP/avp", Profile::Other),
-        (b"RTP/AVPX", Profile::Other),
-    ];
-    for (proto, profile) in rows {
-        let mut text = Vec::from_slice(rt.alloc(), b"v=0\no=x\ns=-\nm=audio 9 ")?;
-        text.extend_from_slice(proto)?;
-        text.extend_from_slice(b" 0\n")?;
-        let sdp = read(rt.alloc(), &text)?;
-        for medium in sdp.media.as_slice() {
-            assert!(rt; (medium.port, medium.profile) == (9, profile));
-            assert!(rt; medium.word.as_slice() == b"audio".as_slice());
-            assert!(rt; medium.proto.as_slice() == proto);
-            assert!(rt; medium.formats.as_slice() == b"0".as_slice());
-        }
-        for (_, asked) in rows {
-            assert!(rt; sdp.media.len() == 1);
-            let other = sdp.carry(rt.alloc(), &[7], &[asked])?;
-            let expected = if asked == Profile::Other {
-                profile
-            } else {
-                asked
+fn carries_the_profile_that_is_asked_for(rt: HostRuntime) -> Result<(), Fail> {
+    for (protocol, profile) in PROFILES {
+        let sdp = of_protocol(rt.alloc(), protocol)?;
+        for (_, asked) in PROFILES {
+            let expected = match asked {
+                Profile::Other => profile,
+                other => other,
             };
-            for medium in other.media.as_slice() {
-                assert!(rt; (medium.port, medium.profile) == (7, expected));
-            }
+            let told = carried_as(rt.alloc(), &sdp, asked)?;
+            assert!(rt; told == (7, expected));
         }
     }
     Ok(())
+}
+
+// The addresses of the one medium behind these lines, and of that medium as it is carried.
+fn addresses(alloc: Global, lines: &[u8]) -> Result<[Option<[u8; 4]>; 2], Fail> {
+    let text = joined(alloc, &[b"v=0\no=x\ns=-\n", lines])?;
+    let sdp = read(alloc, &text)?;
+    let other = carried_one(alloc, &sdp, 9, Profile::Other)?;
+    match (sdp.media.as_slice(), other.media.as_slice()) {
+        ([medium], [carried]) => Ok([medium.address, carried.address]),
+        _ => Err("one medium".into()),
+    }
 }
 
 #[test]
 fn finds_each_address(rt: HostRuntime) -> Result<(), Fail> {
-    let rows: [(&[u8], Option<[u8; 4]>); 6] = [
+    const ROWS: [(&[u8], Option<[u8; 4]>); 6] = [
         (b"m=a 9 b c\n", None),
         (b"c=IN IP4 10.0.0.1\nm=a 9 b c\n", Some([10, 0, 0, 1])),
         (
@@ -357,21 +429,10 @@ fn finds_each_address(rt: HostRuntime) -> Result<(), Fail> {
             Some([255; 4]),
         ),
     ];
-    for (lines, address) in rows {
-        let mut text = Vec::from_slice(rt.alloc(), b"v=0\no=x\ns=-\n")?;
-        text.extend_from_slice(lines)?;
-        let sdp = read(rt.alloc(), &text)?;
-        assert!(rt; sdp.media.len() == 1);
-        for medium in sdp.media.as_slice() {
-            assert!(rt; medium.address == address, "{lines:?}");
-        }
-        let other = sdp.carry(rt.alloc(), &[9], &[Profile::Other])?;
-        for medium in other.media.as_slice() {
-            assert!(rt;
-                medium.address == address.map(|_| [127, 0, 0, 1]),
-                "{lines:?}"
-            );
-        }
+    for (lines, address) in ROWS {
+        let told = addresses(rt.alloc(), lines)?;
+        let own = address.map(|_| [127, 0, 0, 1]);
+        assert!(rt; told == [address, own], "{lines:?}");
     }
     Ok(())
 }

@@ -25,10 +25,20 @@ fn fault_of(rt: &impl Abort, alloc: Global, octets: &[u8]) -> Option<ScriptFault
     }
 }
 
+/// The first have these faults, and the others are lines.
+fn have_faults(rt: &impl Abort, alloc: Global, bad: &[(&[u8], ScriptFault)], good: &[&[u8]]) {
+    for (row, fault) in bad {
+        assert!(rt; fault_of(rt, alloc, row) == Some(*fault));
+    }
+    for row in good {
+        assert!(rt; fault_of(rt, alloc, row) == None);
+    }
+}
+
 /// The fields of good lines, each form once, and their bounds.
 #[test]
 fn good_lines(rt: HostRuntime) {
-    let rows: [&[u8]; 21] = [
+    const ROWS: [&[u8]; 21] = [
         b"in 0 0.0.0.0:0 -\n",
         b"in 65535 255.255.255.255:65535 00ff\n",
         b"tick 0\n",
@@ -51,16 +61,14 @@ fn good_lines(rt: HostRuntime) {
         b"answer 0 - 0a0d00\n",
         b"in 20000 10.0.0.1:1 0a20\n",
     ];
-    for row in &rows {
-        assert!(rt; fault_of(&rt, rt.alloc(), row) == None);
-    }
+    have_faults(&rt, rt.alloc(), &[], &ROWS);
 }
 
 /// One fault a row, each of the first kind that the line has.
 #[test]
 fn bad_lines(rt: HostRuntime) {
     use ScriptFault::{Hex, Length, Number, Unended, Word};
-    let rows: [(&[u8], ScriptFault); 67] = [
+    const ROWS: [(&[u8], ScriptFault); 67] = [
         (b"", Unended),
         (b"tick 1", Unended),
         (b"frob", Unended),
@@ -167,9 +175,7 @@ fn bad_lines(rt: HostRuntime) {
             Word,
         ),
     ];
-    for (row, fault) in &rows {
-        assert!(rt; fault_of(&rt, rt.alloc(), row) == Some(*fault));
-    }
+    have_faults(&rt, rt.alloc(), &ROWS, &[]);
 }
 
 #[test]
@@ -193,57 +199,59 @@ fn first_lines(rt: HostRuntime) {
 }
 
 /// A line of these octets, then so many of one octet, and its end.
-fn filled(alloc: Global, front: &[u8], octet: u8, count: usize) -> Result<Vec<u8>, Fail> {
+fn filled(
+    alloc: Global,
+    front: &[u8],
+    octet: u8,
+    count: usize,
+    end: &[u8],
+) -> Result<Vec<u8>, Fail> {
     let mut line = Vec::from_slice(alloc, front)?;
     for _ in 0..count {
         line.push(octet)?;
     }
-    line.push(b'\n')?;
+    line.extend_from_slice(end)?;
     Ok(line)
+}
+
+/// A line's front, an octet, how many of it follow, and the line's end; and its fault.
+type Row = (&'static [u8], u8, usize, &'static [u8], Option<ScriptFault>);
+
+/// The end of a line that shares a key.
+const SHARED: &[u8] = b" b 00112233445566778899aabbccddeeff\n";
+
+fn have_limits(rt: &impl Abort, alloc: Global, rows: &[Row]) -> Result<(), Fail> {
+    for (front, octet, count, end, fault) in rows {
+        let line = filled(alloc, front, *octet, *count, end)?;
+        assert!(rt; fault_of(rt, alloc, &line) == *fault);
+    }
+    Ok(())
 }
 
 /// The bounds of lines, texts, datagrams, noise and names.
 #[test]
 fn longest_lines(rt: HostRuntime) -> Result<(), Fail> {
     use ScriptFault::{Length, Word};
-    let rows: [(&[u8], u8, usize, Option<ScriptFault>); 11] = [
+    const ROWS: [Row; 18] = [
         // A line of 70,000 octets with its end, and one more.
-        (b"frob ", b'x', 69_994, Some(Word)),
-        (b"frob ", b'x', 69_995, Some(Length)),
-        (b"answer 1 - ", b'0', 65_536, None),
-        (b"answer 1 - ", b'0', 65_538, Some(Length)),
-        (b"in 1 1.1.1.1:1 ", b'0', 8_704, None),
-        (b"in 1 1.1.1.1:1 ", b'0', 8_706, Some(Length)),
-        (b"psk a b ", b'0', 128, None),
-        (b"psk a b ", b'0', 130, Some(Length)),
-        (b"tick ", b'0', 60_000, Some(ScriptFault::Number)),
-        (b"offer-secure 1 00 ", b'0', 65_538, Some(Length)),
-        (b"psk a b ", b'0', 69_991, Some(ScriptFault::Hex)),
+        (b"frob ", b'x', 69_994, b"\n", Some(Word)),
+        (b"frob ", b'x', 69_995, b"\n", Some(Length)),
+        (b"answer 1 - ", b'0', 65_536, b"\n", None),
+        (b"answer 1 - ", b'0', 65_538, b"\n", Some(Length)),
+        (b"in 1 1.1.1.1:1 ", b'0', 8_704, b"\n", None),
+        (b"in 1 1.1.1.1:1 ", b'0', 8_706, b"\n", Some(Length)),
+        (b"psk a b ", b'0', 128, b"\n", None),
+        (b"psk a b ", b'0', 130, b"\n", Some(Length)),
+        (b"tick ", b'0', 60_000, b"\n", Some(ScriptFault::Number)),
+        (b"offer-secure 1 00 ", b'0', 65_538, b"\n", Some(Length)),
+        (b"psk a b ", b'0', 69_991, b"\n", Some(ScriptFault::Hex)),
+        (b"answer 1 ", b'7', 607, b" 00\n", Some(ScriptFault::Hex)),
+        (b"answer 1 ", b'7', 606, b" 00\n", Some(Length)),
+        (b"answer 1 ", b'7', 608, b" 00\n", None),
+        (b"answer 1 ", b'7', 610, b" 00\n", Some(Length)),
+        (b"psk ", b'n', 1, SHARED, None),
+        (b"psk ", b'n', 128, SHARED, None),
+        (b"psk ", b'n', 129, SHARED, Some(Length)),
     ];
-    for (front, octet, count, fault) in &rows {
-        let line = filled(rt.alloc(), front, *octet, *count)?;
-        assert!(rt; fault_of(&rt, rt.alloc(), &line) == *fault);
-    }
-    for (count, fault) in [
-        (607, Some(ScriptFault::Hex)),
-        (606, Some(Length)),
-        (608, None),
-        (610, Some(Length)),
-    ] {
-        let mut line = Vec::from_slice(rt.alloc(), b"answer 1 ")?;
-        for _ in 0..count {
-            line.push(b'7')?;
-        }
-        line.extend_from_slice(b" 00\n")?;
-        assert!(rt; fault_of(&rt, rt.alloc(), &line) == fault);
-    }
-    for (count, fault) in [(1, None), (128, None), (129, Some(Length))] {
-        let mut line = Vec::from_slice(rt.alloc(), b"psk ")?;
-        for _ in 0..count {
-            line.push(b'n')?;
-        }
-        line.extend_from_slice(b" b 00112233445566778899aabbccddeeff\n")?;
-        assert!(rt; fault_of(&rt, rt.alloc(), &line) == fault);
-    }
-    Ok(())
+    have_limits(&rt, rt.alloc(), &ROWS)
 }
