@@ -76,6 +76,31 @@ fn answered(
     }
 }
 
+/// What an exchange is to give: an offer, its answer, and what each is for the other side.
+type Texts = [&'static [u8]; 4];
+
+/// The specs of an exchange, which must give its texts and bring two keys into use.
+fn exchanged(
+    alloc: Global,
+    books: Books,
+    way: Way,
+    now: u64,
+    texts: &Texts,
+) -> Result<ArrayVec<MediaSpec, 4>, Fail>
+    requires { now ≤ 2085978495999 }
+{
+    let mut books = books;
+    let [offer, answer, to_other, back_to_own] = *texts;
+    let (out, back, specs) = answered(alloc, &mut books, way, now, offer, answer)?;
+    if out.as_slice() != to_other || back.as_slice() != back_to_own {
+        Err("another text")?;
+    }
+    if books.ring.count() != 2 {
+        Err("other keys")?;
+    }
+    Ok(specs)
+}
+
 fn refused(
     alloc: Global,
     books: &mut Books,
@@ -95,19 +120,9 @@ fn refused(
 // The peer's key has number 0 and the gateway's number 1.
 #[test]
 fn an_offer_from_the_secure_side_is_answered(rt: HostRuntime) -> Result<(), Fail> {
-    let alloc = rt.alloc();
-    let mut books = books(alloc)?;
-    let (out, back, specs) = answered(
-        alloc,
-        &mut books,
-        Way::FromSecure,
-        0,
-        SECURE_OFFER,
-        PLAIN_ANSWER,
-    )?;
-    if out.as_slice() != TO_PLAIN || back.as_slice() != BACK_TO_SECURE || books.ring.count() != 2 {
-        Err("another text")?;
-    }
+    let books = books(rt.alloc())?;
+    let texts = [SECURE_OFFER, PLAIN_ANSWER, TO_PLAIN, BACK_TO_SECURE];
+    let specs = exchanged(rt.alloc(), books, Way::FromSecure, 0, &texts)?;
     match specs.as_slice() {
         [spec] if spec.open_rtp.window == 64 && spec.secure.port == 40000 => Ok(()),
         _ => Err("other specs")?,
@@ -117,19 +132,9 @@ fn an_offer_from_the_secure_side_is_answered(rt: HostRuntime) -> Result<(), Fail
 // The answer names the first of the gateway's lines; its window is 1,024 at most.
 #[test]
 fn an_offer_from_the_plain_side_is_answered(rt: HostRuntime) -> Result<(), Fail> {
-    let alloc = rt.alloc();
-    let mut books = books(alloc)?;
-    let (out, back, specs) = answered(
-        alloc,
-        &mut books,
-        Way::SdesFromPlain,
-        0,
-        PLAIN_OFFER,
-        SECURE_ANSWER,
-    )?;
-    if out.as_slice() != TO_SECURE || back.as_slice() != BACK_TO_PLAIN || books.ring.count() != 2 {
-        Err("another text")?;
-    }
+    let books = books(rt.alloc())?;
+    let texts = [PLAIN_OFFER, SECURE_ANSWER, TO_SECURE, BACK_TO_PLAIN];
+    let specs = exchanged(rt.alloc(), books, Way::SdesFromPlain, 0, &texts)?;
     match specs.as_slice() {
         [spec] if spec.open_rtp.window == 1024 && spec.plain.port == 41000 => Ok(()),
         _ => Err("other specs")?,
@@ -167,37 +172,25 @@ fn books_with_a_key(alloc: Global) -> Result<Books, Fail> {
 // The response is added to the session part, with the SSRC of the plain side's text.
 #[test]
 fn a_message_of_the_peer_is_answered(rt: HostRuntime) -> Result<(), Fail> {
-    let alloc = rt.alloc();
-    let mut books = books_with_a_key(alloc)?;
-    let (out, back, specs) = answered(
-        alloc,
-        &mut books,
-        Way::FromSecure,
-        1000000000,
+    let books = books_with_a_key(rt.alloc())?;
+    let texts = [
         MESSAGE_OFFER,
         MESSAGE_ANSWER,
-    )?;
-    if out.as_slice() != MESSAGE_TO_PLAIN || back.as_slice() != RESPONSE_TO_SECURE {
-        Err("another text")?;
-    }
-    if books.ring.count() != 2 || specs.as_slice().len() != 1 {
-        Err("other keys")?;
-    }
+        MESSAGE_TO_PLAIN,
+        RESPONSE_TO_SECURE,
+    ];
+    let specs = exchanged(rt.alloc(), books, Way::FromSecure, 1000000000, &texts)?;
+    assert!(rt; specs.as_slice().len() == 1);
     Ok(())
 }
 
 // The gateway's message stands in the text for the secure side, and the response isn't carried on.
 #[test]
 fn a_message_of_the_gateway_is_answered(rt: HostRuntime) -> Result<(), Fail> {
-    let alloc = rt.alloc();
-    let mut books = books_with_a_key(alloc)?;
+    let books = books_with_a_key(rt.alloc())?;
     let way = Way::MikeyFromPlain(name(b"sip:bob@b")?);
-    let (out, back, specs) = answered(alloc, &mut books, way, 0, SSRC_OFFER, RESPONSE)?;
-    if out.as_slice() != MESSAGE_TO_SECURE || back.as_slice() != RESPONSE_TO_PLAIN {
-        Err("another text")?;
-    }
-    if books.ring.count() != 2 || specs.as_slice().len() != 1 {
-        Err("other keys")?;
-    }
+    let texts = [SSRC_OFFER, RESPONSE, MESSAGE_TO_SECURE, RESPONSE_TO_PLAIN];
+    let specs = exchanged(rt.alloc(), books, way, 0, &texts)?;
+    assert!(rt; specs.as_slice().len() == 1);
     Ok(())
 }

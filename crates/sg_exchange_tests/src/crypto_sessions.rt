@@ -1,6 +1,6 @@
 //! Keys and policies of another program, and each refusal.
 
-use crate::session_rows::{SESSIONS, UNSERVED};
+use crate::session_rows::{SESSIONS, Sessions, UNSERVED};
 use sg_base::{CsFault, Octets, read_octets};
 use sg_csmap::{CsError, StreamKeys, streams};
 use sg_mikey::{CsEntry, Items, Policy, Tgk, Tgks};
@@ -58,34 +58,34 @@ fn has_key(stream: &StreamKeys, octets: &[u8]) -> bool {
     }
 }
 
+/// The streams of a row's crypto sessions.
+fn streams_of(alloc: Global, row: &Sessions) -> Result<Vec<(StreamKeys, StreamKeys)>, Fail> {
+    let random = octets_of(alloc, row.random)?;
+    let policies = policies_of(alloc, row.items)?;
+    let tgks = tgks_of(alloc, row.key)?;
+    let random = random.as_slice();
+    let made = streams(alloc, 0x10203040, random, &MAP, &policies, &tgks, 1);
+    Ok(made.map_err(|_| "refused")?.into_vec())
+}
+
+/// Whether a stream has the one key that the text says.
+fn has_key_of(alloc: Global, stream: &StreamKeys, text: &[u8]) -> Result<bool, Fail> {
+    Ok(has_key(stream, octets_of(alloc, text)?.as_slice()))
+}
+
 #[test]
 fn keys_of_another_program(rt: HostRuntime) -> Result<(), Fail> {
     for row in &SESSIONS {
-        let random = octets_of(rt.alloc(), row.random)?;
-        let policies = policies_of(rt.alloc(), row.items)?;
-        let tgks = tgks_of(rt.alloc(), row.key)?;
-        let made = streams(
-            rt.alloc(),
-            0x10203040,
-            random.as_slice(),
-            &MAP,
-            &policies,
-            &tgks,
-            1,
-        )
-        .map_err(|_| "refused")?;
-        for (first, second) in made.into_vec() {
-            let wanted = octets_of(rt.alloc(), row.first)?;
-            assert!(rt; has_key(&first, wanted.as_slice()), "{}", row.name);
-            let wanted = octets_of(rt.alloc(), row.second)?;
-            assert!(rt; has_key(&second, wanted.as_slice()), "{}", row.name);
+        for (first, second) in streams_of(rt.alloc(), row)? {
+            let keyed = [
+                has_key_of(rt.alloc(), &first, row.first)?,
+                has_key_of(rt.alloc(), &second, row.second)?,
+            ];
+            assert!(rt; keyed == [true; 2], "{}", row.name);
+            let plain = [first.plain_rtp, first.plain_rtcp];
+            assert!(rt; plain == [row.plain_rtp, row.plain_rtcp], "{}", row.name);
             assert!(rt;
-                (first.suite, second.suite) == (row.suite, row.suite),
-                "{}",
-                row.name
-            );
-            assert!(rt;
-                (first.plain_rtp, first.plain_rtcp) == (row.plain_rtp, row.plain_rtcp),
+                [first.suite, second.suite] == [row.suite; 2],
                 "{}",
                 row.name
             );

@@ -1,6 +1,6 @@
 //! Exchanges with another program, each refusal, and bad input.
 
-use crate::exchange_rows::{ACCEPTED, ANSWERS, OWN, REFUSED};
+use crate::exchange_rows::{ACCEPTED, ANSWERS, Accepted, OWN, REFUSED};
 use sg_base::{Fault, Identity, Octets, Refusal, TICK_MOST, read_octets};
 use sg_mikey::{Tgks, read};
 use sg_psk::{
@@ -96,48 +96,62 @@ fn response_to(
     Ok(respond(alloc, initial, book, &ssrcs[..count])?)
 }
 
+/// Whether these octets are what the text says.
+fn is(alloc: Global, octets: &[u8], text: &[u8]) -> Result<bool, Fail> {
+    Ok(octets == octets_of(alloc, text)?.as_slice())
+}
+
+/// Whether what an accepted message carries, its keys, its SPIs and the response to it, is what its row says.
+fn carries(
+    alloc: Global,
+    initial: &Initial,
+    book: &PskBook,
+    row: &Accepted,
+) -> Result<[bool; 3], Fail> {
+    let (keys, spis) = keys_of(alloc, &initial.tgks)?;
+    let response = response_to(alloc, initial, book, row.media)?;
+    Ok([
+        is(alloc, &keys, row.keys)?,
+        is(alloc, &spis, row.spis)?,
+        is(alloc, response.as_slice(), row.response)?,
+    ])
+}
+
+/// The message of a row, accepted.
+fn accepted(alloc: Global, book: &PskBook, row: &Accepted) -> Result<Initial, Fail> {
+    let octets = octets_of(alloc, row.message)?;
+    let empty = ReplayBook::make(alloc)?;
+    match accept(alloc, octets.as_slice(), book, &empty, row.now) {
+        Ok(initial) => Ok(initial),
+        Err(number) => Err(format!(in alloc; "{}: {number}", row.name)?.into()),
+    }
+}
+
 #[test]
 fn accepts_messages_of_another_program(rt: HostRuntime) -> Result<(), Fail> {
     let alloc = rt.alloc();
     let book = book_of(alloc)?;
     let mut seen = ReplayBook::make(alloc)?;
     for row in &ACCEPTED {
-        let octets = octets_of(alloc, row.message)?;
-        let empty = ReplayBook::make(alloc)?;
-        match accept(alloc, octets.as_slice(), &book, &empty, row.now) {
-            Ok(initial) => {
-                let (keys, spis) = keys_of(alloc, &initial.tgks)?;
-                assert!(rt;
-                    keys.as_slice() == octets_of(alloc, row.keys)?.as_slice(),
-                    "{}",
-                    row.name
-                );
-                assert!(rt;
-                    spis.as_slice() == octets_of(alloc, row.spis)?.as_slice(),
-                    "{}",
-                    row.name
-                );
-                let response = response_to(alloc, &initial, &book, row.media)?;
-                assert!(rt;
-                    response.as_slice() == octets_of(alloc, row.response)?.as_slice(),
-                    "{}",
-                    row.name
-                );
-                if seen.count() < 1000 {
-                    seen.note(&initial);
-                }
-            }
-            Err(number) => return Err(format!(in alloc; "{}: {number}", row.name)?.into()),
+        let initial = accepted(alloc, &book, row)?;
+        let carried = carries(alloc, &initial, &book, row)?;
+        assert!(rt; carried == [true; 3], "{}", row.name);
+        if seen.count() < 1000 {
+            seen.note(&initial);
         }
     }
     assert!(rt; seen.count() == 1);
     Ok(())
 }
 
+fn first_message(alloc: Global) -> Result<Octets, Fail> {
+    octets_of(alloc, ACCEPTED[0].message)
+}
+
 // A book in which the message of the first row, and so many others, were noted.
 fn noted_book(alloc: Global, book: &PskBook, count: u32) -> Result<ReplayBook, Fail> {
     let mut seen = ReplayBook::make(alloc)?;
-    let octets = octets_of(alloc, ACCEPTED[0].message)?;
+    let octets = first_message(alloc)?;
     let empty = ReplayBook::make(alloc)?;
     for i in 0..count {
         let Ok(mut initial) = accept(alloc, octets.as_slice(), book, &empty, NOW) else {
@@ -166,19 +180,25 @@ fn refuses_each_cause(rt: HostRuntime) -> Result<(), Fail> {
     Ok(())
 }
 
+/// These octets with another one at a position.
+fn changed(alloc: Global, octets: &[u8], at: usize) -> Result<Vec<u8>, Fail> {
+    let mut other = octets.to_vec(alloc)?;
+    if let Some(octet) = other.get_mut(at) {
+        *octet ^= 1;
+    }
+    Ok(other)
+}
+
 #[test]
 fn refuses_each_changed_octet(rt: HostRuntime) -> Result<(), Fail> {
     let alloc = rt.alloc();
     let book = book_of(alloc)?;
     let seen = ReplayBook::make(alloc)?;
-    let octets = octets_of(alloc, ACCEPTED[0].message)?;
+    let octets = first_message(alloc)?;
     for at in 0..octets.as_slice().len() {
         let cut = accept(alloc, &octets.as_slice()[..at], &book, &seen, NOW).is_err();
         assert!(rt; cut, "{at}");
-        let mut other = octets.as_slice().to_vec(alloc)?;
-        if let Some(octet) = other.get_mut(at) {
-            *octet ^= 1;
-        }
+        let other = changed(alloc, octets.as_slice(), at)?;
         assert!(rt; accept(alloc, &other, &book, &seen, NOW).is_err(), "{at}");
     }
     Ok(())
@@ -200,23 +220,31 @@ fn answer_of(alloc: Global, octets: &[u8], waiting: &Waiting, book: &PskBook) ->
     }
 }
 
+/// The message to the peer, and what waits for the answer.
+fn sent(alloc: Global, book: &PskBook) -> Result<(Octets, Waiting), Fail> {
+    let noise: [u8; 304] = stepped(1, 5);
+    let peer = name_of(b"sip:bob@b")?;
+    let sent = initiate(alloc, book, &peer, NOW, &noise, &[0xa0, 0xa1]);
+    Ok(sent.map_err(|_| "refused")?)
+}
+
 #[test]
-fn sends_and_reads_the_answer(rt: HostRuntime) -> Result<(), Fail> {
+fn sends_to_nobody_else(rt: HostRuntime) -> Result<(), Fail> {
     let alloc = rt.alloc();
     let book = book_of(alloc)?;
     let noise: [u8; 304] = stepped(1, 5);
     let stranger = initiate(alloc, &book, &name_of(b"sip:eve@c")?, NOW, &noise, &[1]);
     assert!(rt; stranger.err().map(number_of) == Some(1));
-    let sent = initiate(
-        alloc,
-        &book,
-        &name_of(b"sip:bob@b")?,
-        NOW,
-        &noise,
-        &[0xa0, 0xa1],
-    );
-    let (octets, waiting) = sent.map_err(|_| "refused")?;
-    assert!(rt; octets.as_slice() == octets_of(alloc, OWN)?.as_slice());
+    Ok(())
+}
+
+#[test]
+fn sends_and_reads_the_answer(rt: HostRuntime) -> Result<(), Fail> {
+    let alloc = rt.alloc();
+    let book = book_of(alloc)?;
+    let (octets, waiting) = sent(alloc, &book)?;
+    let is_own = is(alloc, octets.as_slice(), OWN)?;
+    assert!(rt; is_own);
     for (name, message, fault) in ANSWERS {
         let octets = octets_of(alloc, message)?;
         let answer = answer_of(alloc, octets.as_slice(), &waiting, &book);
@@ -230,35 +258,39 @@ fn sends_and_reads_the_answer(rt: HostRuntime) -> Result<(), Fail> {
 fn refuses_each_changed_octet_of_an_answer(rt: HostRuntime) -> Result<(), Fail> {
     let alloc = rt.alloc();
     let book = book_of(alloc)?;
-    let noise: [u8; 304] = stepped(1, 5);
-    let peer = name_of(b"sip:bob@b")?;
-    let sent = initiate(alloc, &book, &peer, NOW, &noise, &[0xa0, 0xa1]);
-    let (_, waiting) = sent.map_err(|_| "refused")?;
+    let (_, waiting) = sent(alloc, &book)?;
     let octets = octets_of(alloc, ANSWERS[0].1)?;
     for at in 0..octets.as_slice().len() {
         let cut = answer_of(alloc, &octets.as_slice()[..at], &waiting, &book).is_err();
         assert!(rt; cut, "{at}");
-        let mut other = octets.as_slice().to_vec(alloc)?;
-        if let Some(octet) = other.get_mut(at) {
-            *octet ^= 1;
-        }
+        let other = changed(alloc, octets.as_slice(), at)?;
         assert!(rt; answer_of(alloc, &other, &waiting, &book).is_err(), "{at}");
     }
     Ok(())
+}
+
+/// Adds a pair of one own name and this peer's.
+fn added(
+    alloc: Global,
+    book: &mut PskBook,
+    peer: &[u8],
+    key: u8,
+) -> Result<Result<(), Fault>, Fail> {
+    let (own, peer) = (name_of(b"gw")?, name_of(peer)?);
+    Ok(book.add(alloc, &own, &peer, &[key]))
 }
 
 #[test]
 fn keeps_sixty_four_pairs(rt: HostRuntime) -> Result<(), Fail> {
     let alloc = rt.alloc();
     let mut book = PskBook::make(alloc);
-    let own = name_of(b"gw")?;
     for i in 0..64u8 {
-        let added = book.add(alloc, &own, &name_of(&[b'a', 0x21 + i])?, &[i]);
-        assert!(rt; added == Ok(()), "{i}");
+        let told = added(alloc, &mut book, &[b'a', 0x21 + i], i)?;
+        assert!(rt; told == Ok(()), "{i}");
     }
-    let full = book.add(alloc, &own, &name_of(b"b")?, &[1]);
+    let full = added(alloc, &mut book, b"b", 1)?;
     assert!(rt; full == Err(Fault::Refused(Refusal::PskFull)));
-    let known = book.add(alloc, &own, &name_of(b"a!")?, &[1]);
+    let known = added(alloc, &mut book, b"a!", 1)?;
     assert!(rt; known == Err(Fault::Refused(Refusal::PskKnown)));
     assert!(rt; book.pairs().len() == 64);
     Ok(())
