@@ -7,6 +7,7 @@ use sg_sdes::{
     print_crypto, read_crypto,
 };
 use std::alloc::Global;
+use std::process::Abort;
 use std::test::Fail;
 
 /// Octets 0, 1, 2 and so on.
@@ -37,10 +38,18 @@ fn offered_lines(rt: HostRuntime) -> Result<(), Fail> {
     Ok(())
 }
 
+fn are_spelt(rt: &impl Abort, alloc: Global, rows: &[(&[u8], &[u8])]) -> Result<(), Fail> {
+    for (value, spelling) in rows {
+        let line = read_crypto(value).ok().ok_or("it is a crypto line")?;
+        assert!(rt; printed(alloc, &line)?.as_slice() == *spelling);
+    }
+    Ok(())
+}
+
 /// A value, and the one spelling of the line that it says.
 #[test]
 fn spellings(rt: HostRuntime) -> Result<(), Fail> {
-    let rows: [(&[u8], &[u8]); 5] = [
+    const ROWS: [(&[u8], &[u8]); 5] = [
         (
             b"1 AES_CM_128_HMAC_SHA1_80 inline:WVNfX19zZW1jdGwgKCkgewkyMjA7fQp9CnVubGVz|2^20|1:4 FEC_ORDER=FEC_SRTP",
             b"1 AES_CM_128_HMAC_SHA1_80 inline:WVNfX19zZW1jdGwgKCkgewkyMjA7fQp9CnVubGVz|1048576|1:4",
@@ -62,11 +71,7 @@ fn spellings(rt: HostRuntime) -> Result<(), Fail> {
             b"1 AES_CM_128_HMAC_SHA1_80 inline:WVNfX19zZW1jdGwgKCkgewkyMjA7fQp9CnVubGVz|2|1:2;inline:AAECAwQFBgcICQoLDA0ODxAREhMUFRYXGBkaGxwd|2|65535:2",
         ),
     ];
-    for (value, spelling) in &rows {
-        let line = read_crypto(value).ok().ok_or("it is a crypto line")?;
-        assert!(rt; printed(rt.alloc(), &line)?.as_slice() == *spelling);
-    }
-    Ok(())
+    are_spelt(&rt, rt.alloc(), &ROWS)
 }
 
 /// The octets 0 to 29.

@@ -126,6 +126,12 @@ fn a_cut_offer_is_told_where_it_ends(rt: HostRuntime) {
     assert!(rt; fault_of(&rt, rt.alloc(), OFFER) == None);
 }
 
+fn have_faults(rt: &impl Abort, alloc: Global, rows: &[(&[u8], Option<(u32, SdpFault)>)]) {
+    for (text, fault) in rows {
+        assert!(rt; fault_of(rt, alloc, text) == *fault, "{text:?}");
+    }
+}
+
 // Texts and their first faults.
 #[test]
 fn tells_the_first_fault(rt: HostRuntime) {
@@ -201,9 +207,7 @@ fn tells_the_first_fault(rt: HostRuntime) {
             Some((8, Form)),
         ),
     ];
-    for (text, fault) in ROWS {
-        assert!(rt; fault_of(&rt, rt.alloc(), text) == fault, "{text:?}");
-    }
+    have_faults(&rt, rt.alloc(), &ROWS);
 }
 
 // So many octets `x`.
@@ -285,6 +289,14 @@ fn is_carried(alloc: Global, line: &[u8], stays: bool) -> Result<bool, Fail> {
     Ok(carried_two(alloc, &text)?.as_slice() == expected.as_slice())
 }
 
+fn are_carried(rt: &impl Abort, alloc: Global, rows: &[(&[u8], bool)]) -> Result<(), Fail> {
+    for (line, stays) in rows {
+        let is_so = is_carried(alloc, line, *stays)?;
+        assert!(rt; is_so, "{line:?}");
+    }
+    Ok(())
+}
+
 // Attributes, and whether they are carried.
 #[test]
 fn leaves_out_what_is_of_one_side(rt: HostRuntime) -> Result<(), Fail> {
@@ -327,11 +339,7 @@ fn leaves_out_what_is_of_one_side(rt: HostRuntime) -> Result<(), Fail> {
         (b"b=crypto:1", true),
         (b"k=crypto", true),
     ];
-    for (line, stays) in ROWS {
-        let is_so = is_carried(rt.alloc(), line, stays)?;
-        assert!(rt; is_so, "{line:?}");
-    }
-    Ok(())
+    are_carried(&rt, rt.alloc(), &ROWS)
 }
 
 // Protocol words with their profiles.

@@ -25,10 +25,20 @@ fn fault_of(rt: &impl Abort, alloc: Global, octets: &[u8]) -> Option<ScriptFault
     }
 }
 
+/// The first have these faults, and the others are lines.
+fn have_faults(rt: &impl Abort, alloc: Global, bad: &[(&[u8], ScriptFault)], good: &[&[u8]]) {
+    for (row, fault) in bad {
+        assert!(rt; fault_of(rt, alloc, row) == Some(*fault));
+    }
+    for row in good {
+        assert!(rt; fault_of(rt, alloc, row) == None);
+    }
+}
+
 /// The fields of good lines, each form once, and their bounds.
 #[test]
 fn good_lines(rt: HostRuntime) {
-    let rows: [&[u8]; 21] = [
+    const ROWS: [&[u8]; 21] = [
         b"in 0 0.0.0.0:0 -\n",
         b"in 65535 255.255.255.255:65535 00ff\n",
         b"tick 0\n",
@@ -51,16 +61,14 @@ fn good_lines(rt: HostRuntime) {
         b"answer 0 - 0a0d00\n",
         b"in 20000 10.0.0.1:1 0a20\n",
     ];
-    for row in &rows {
-        assert!(rt; fault_of(&rt, rt.alloc(), row) == None);
-    }
+    have_faults(&rt, rt.alloc(), &[], &ROWS);
 }
 
 /// One fault a row, each of the first kind that the line has.
 #[test]
 fn bad_lines(rt: HostRuntime) {
     use ScriptFault::{Hex, Length, Number, Unended, Word};
-    let rows: [(&[u8], ScriptFault); 67] = [
+    const ROWS: [(&[u8], ScriptFault); 67] = [
         (b"", Unended),
         (b"tick 1", Unended),
         (b"frob", Unended),
@@ -167,9 +175,7 @@ fn bad_lines(rt: HostRuntime) {
             Word,
         ),
     ];
-    for (row, fault) in &rows {
-        assert!(rt; fault_of(&rt, rt.alloc(), row) == Some(*fault));
-    }
+    have_faults(&rt, rt.alloc(), &ROWS, &[]);
 }
 
 #[test]
@@ -214,6 +220,14 @@ type Row = (&'static [u8], u8, usize, &'static [u8], Option<ScriptFault>);
 /// The end of a line that shares a key.
 const SHARED: &[u8] = b" b 00112233445566778899aabbccddeeff\n";
 
+fn have_limits(rt: &impl Abort, alloc: Global, rows: &[Row]) -> Result<(), Fail> {
+    for (front, octet, count, end, fault) in rows {
+        let line = filled(alloc, front, *octet, *count, end)?;
+        assert!(rt; fault_of(rt, alloc, &line) == *fault);
+    }
+    Ok(())
+}
+
 /// The bounds of lines, texts, datagrams, noise and names.
 #[test]
 fn longest_lines(rt: HostRuntime) -> Result<(), Fail> {
@@ -239,9 +253,5 @@ fn longest_lines(rt: HostRuntime) -> Result<(), Fail> {
         (b"psk ", b'n', 128, SHARED, None),
         (b"psk ", b'n', 129, SHARED, Some(Length)),
     ];
-    for (front, octet, count, end, fault) in &ROWS {
-        let line = filled(rt.alloc(), front, *octet, *count, end)?;
-        assert!(rt; fault_of(&rt, rt.alloc(), &line) == *fault);
-    }
-    Ok(())
+    have_limits(&rt, rt.alloc(), &ROWS)
 }

@@ -4,6 +4,7 @@ use sg_base::MikeyFault::{self, Cut, DataType, Order, Trailing, Value, Version};
 use sg_base::{Mki, Octets};
 use sg_mikey::{CsEntry, Items, Message, Payload, Policy, ReadMikeyFault, Tgk, Tgks, print, read};
 use std::alloc::{AllocError, Global};
+use std::process::Abort;
 use std::test::Fail;
 
 // A message of the initiator: T, RAND of 2 octets, an ID, a general extension, SP with two items, KEMAC with a MAC.
@@ -31,10 +32,19 @@ fn fault_of(alloc: Global, octets: &[u8]) -> Option<(u32, MikeyFault)> {
     }
 }
 
+fn have_faults(rt: &impl Abort, alloc: Global, cases: &[(&[u8], u32, MikeyFault)]) {
+    for (octets, offset, fault) in cases {
+        assert!(rt;
+            fault_of(alloc, octets) == Some((*offset, *fault)),
+            "{octets:?}"
+        );
+    }
+}
+
 // Octets, and the first fault with its offset.
 #[test]
 fn tells_the_first_fault(rt: HostRuntime) {
-    let cases: [(&[u8], u32, MikeyFault); 24] = [
+    const CASES: [(&[u8], u32, MikeyFault); 24] = [
         (b"", 0, Cut),
         (b"\x01\x00\x05\x80\x00\x00\x00\x07\x02", 9, Cut),
         (
@@ -120,12 +130,7 @@ fn tells_the_first_fault(rt: HostRuntime) {
             Trailing,
         ),
     ];
-    for (octets, offset, fault) in cases {
-        assert!(rt;
-            fault_of(rt.alloc(), octets) == Some((offset, fault)),
-            "{octets:?}"
-        );
-    }
+    have_faults(&rt, rt.alloc(), &CASES);
 }
 
 #[test]

@@ -24,10 +24,20 @@ fn fault_of(rt: &impl Abort, alloc: Global, octets: &[u8]) -> Option<ScriptFault
     }
 }
 
+/// The first have these faults, and the others are outcomes.
+fn have_faults(rt: &impl Abort, alloc: Global, bad: &[(&[u8], ScriptFault)], good: &[&[u8]]) {
+    for (row, fault) in bad {
+        assert!(rt; fault_of(rt, alloc, row) == Some(*fault));
+    }
+    for row in good {
+        assert!(rt; fault_of(rt, alloc, row) == None);
+    }
+}
+
 /// Each outcome and each cause.
 #[test]
 fn outcomes_and_causes(rt: HostRuntime) {
-    let rows: [&[u8]; 72] = [
+    const ROWS: [&[u8]; 72] = [
         b"made 4294967295 255 4\n",
         b"live 0\n",
         b"sdp 1 secure 763d30\n",
@@ -101,15 +111,13 @@ fn outcomes_and_causes(rt: HostRuntime) {
         b"refused - TickBack 18446744073709551615\n",
         b"refused 1 State\n",
     ];
-    for row in &rows {
-        assert!(rt; fault_of(&rt, rt.alloc(), row) == None);
-    }
+    have_faults(&rt, rt.alloc(), &[], &ROWS);
 }
 
 #[test]
 fn bad_outcomes(rt: HostRuntime) {
     use ScriptFault::{Hex, Number, Unended, Word};
-    let rows: [(&[u8], ScriptFault); 24] = [
+    const ROWS: [(&[u8], ScriptFault); 24] = [
         (b"", Unended),
         (b"live 1", Unended),
         (b"\n", Word),
@@ -135,7 +143,5 @@ fn bad_outcomes(rt: HostRuntime) {
         (b"refused 1 Psk 0 Skew 9223372036854775808 1\n", Number),
         (b"refused 1 Sdp Order\n", Word),
     ];
-    for (row, fault) in &rows {
-        assert!(rt; fault_of(&rt, rt.alloc(), row) == Some(*fault));
-    }
+    have_faults(&rt, rt.alloc(), &ROWS, &[]);
 }

@@ -2,6 +2,7 @@
 
 use sg_words::{Command, CommandFault, read_command};
 use std::alloc::Global;
+use std::process::Abort;
 use std::test::Fail;
 
 /// Words, and the command that they are.
@@ -212,18 +213,27 @@ fn read(alloc: Global, texts: &[&str]) -> Result<Result<Command, CommandFault>, 
     Ok(read_command(alloc, &words))
 }
 
-#[test]
-fn words_are_commands(rt: HostRuntime) -> Result<(), Fail> {
-    for (words, command) in COMMANDS {
-        assert!(rt; read(rt.alloc(), words)? == Ok(command));
+/// What is read of each of these.
+fn are_read(rt: &impl Abort, alloc: Global, rows: &[(&[&str], Command)]) -> Result<(), Fail> {
+    for (words, command) in rows {
+        assert!(rt; read(alloc, words)? == Ok(*command));
+    }
+    Ok(())
+}
+
+fn are_none(rt: &impl Abort, alloc: Global, rows: &[&[&str]]) -> Result<(), Fail> {
+    for words in rows {
+        assert!(rt; read(alloc, words)? == Err(CommandFault::Usage));
     }
     Ok(())
 }
 
 #[test]
+fn words_are_commands(rt: HostRuntime) -> Result<(), Fail> {
+    are_read(&rt, rt.alloc(), &COMMANDS)
+}
+
+#[test]
 fn words_are_none(rt: HostRuntime) -> Result<(), Fail> {
-    for words in NONE {
-        assert!(rt; read(rt.alloc(), words)? == Err(CommandFault::Usage));
-    }
-    Ok(())
+    are_none(&rt, rt.alloc(), &NONE)
 }
