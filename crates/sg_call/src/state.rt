@@ -55,7 +55,7 @@ impl State {
                 Ok(opened) => Ok(opened),
                 Err((live, fault)) => Err((State::Live(live), fault)),
             },
-            State::Offered(open) => Err((State::Offered(open), Fault::Refused(Refusal::State))),
+            state => Err((state, Fault::Refused(Refusal::State))),
         }
     }
 
