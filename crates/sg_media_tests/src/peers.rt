@@ -51,6 +51,15 @@ const WRAPS: [Case; 2] = [
     },
 ];
 
+/// A tag of four octets.
+const TAG_OF_FOUR: Case = Case {
+    suite: Suite::Cm128Tag32,
+    master: SMALL,
+    first: 0,
+    packet: NINTH,
+    datagram: "800f0009decafbadcafebabeb673d8b4e6dac253a6fc3a257f5deae58cfcf2cc",
+};
+
 /// The last index of all, a long key, a tag of four octets and a raw key.
 const CASES: [Case; 4] = [
     Case {
@@ -67,13 +76,7 @@ const CASES: [Case; 4] = [
         packet: NINTH,
         datagram: "800f0009decafbadcafebabef1f2b71e2d9b14257b91daa0e30a5063ab7399cdba8634c09769",
     },
-    Case {
-        suite: Suite::Cm128Tag32,
-        master: SMALL,
-        first: 0,
-        packet: NINTH,
-        datagram: "800f0009decafbadcafebabeb673d8b4e6dac253a6fc3a257f5deae58cfcf2cc",
-    },
+    TAG_OF_FOUR,
     Case {
         suite: Suite::Raw80,
         master: RAW,
@@ -169,11 +172,12 @@ fn packets_of_each_key(rt: HostRuntime) -> Result<(), Fail> {
 
 #[test]
 fn numbers_wrap(rt: HostRuntime) -> Result<(), Fail> {
-    let mut peer = peer_of(&rt, rt.alloc(), &WRAPS[0])?;
-    for case in &WRAPS {
+    let cases = &WRAPS;
+    let mut peer = peer_of(&rt, rt.alloc(), &cases[0])?;
+    for case in cases {
         seals(&rt, rt.alloc(), &mut peer, case)?;
     }
-    for case in &WRAPS {
+    for case in cases {
         opens(&rt, rt.alloc(), &mut peer, case)?;
     }
     Ok(())
@@ -181,7 +185,7 @@ fn numbers_wrap(rt: HostRuntime) -> Result<(), Fail> {
 
 #[test]
 fn packets_are_refused(rt: HostRuntime) -> Result<(), Fail> {
-    let case = &CASES[2];
+    let case = &TAG_OF_FOUR;
     let mut peer = peer_of(&rt, rt.alloc(), case)?;
     seals(&rt, rt.alloc(), &mut peer, case)?;
     for (packet, cause) in [
@@ -200,7 +204,7 @@ fn packets_are_refused(rt: HostRuntime) -> Result<(), Fail> {
 
 #[test]
 fn datagrams_are_dropped(rt: HostRuntime) -> Result<(), Fail> {
-    let case = &CASES[2];
+    let case = &TAG_OF_FOUR;
     let mut peer = peer_of(&rt, rt.alloc(), case)?;
     opens(&rt, rt.alloc(), &mut peer, case)?;
     for (datagram, cause) in [

@@ -3,7 +3,11 @@
 use sg_base::{CipherKey, HalfKeys, MasterKey, SessionKeys, Suite};
 use sg_kdf::derive;
 use sg_keys::{Ring, RingFault};
+use std::alloc::Global;
 use std::test::Fail;
+
+/// The number of the first key that came into use, or why none did.
+type Answer = Result<u32, RingFault>;
 
 /// A master key with its session keys.
 fn derived(master: MasterKey) -> (MasterKey, SessionKeys) {
@@ -54,20 +58,41 @@ fn a_key_comes_into_use_once(rt: HostRuntime) -> Result<(), Fail> {
     Ok(())
 }
 
-// All or none: a key of the same refused list counts with the number that it would have got.
+/// What the ring answers to raw keys of these numbers, all at once.
+fn installs(alloc: Global, ring: &mut Ring, numbers: &[u32]) -> Result<Answer, Fail> {
+    let mut keys = Vec::new(alloc);
+    for number in numbers {
+        keys.push(numbered(*number)?)?;
+    }
+    install(ring, &keys)
+}
+
+fn install(ring: &mut Ring, keys: &[(MasterKey, SessionKeys)]) -> Result<Answer, Fail> {
+    if keys.len() > 65536 {
+        return Err("too many keys".into());
+    }
+    Ok(ring.install_all(keys))
+}
+
+/// Lists of raw keys, the answers, and how many keys the ring has then. All or none: a key of the same refused list
+/// counts with the number that it would have got.
+const LISTS: [(&[u32], Result<u32, u32>, u32); 5] = [
+    (&[10, 11], Ok(0), 2),
+    (&[12, 13, 13], Err(3), 2),
+    (&[14, 11], Err(1), 2),
+    (&[14, 13, 12], Ok(2), 5),
+    (&[], Ok(5), 5),
+];
+
 #[test]
 fn a_refused_list_leaves_the_ring(rt: HostRuntime) -> Result<(), Fail> {
     let mut ring = Ring::make(rt.alloc());
-    let first = [numbered(10)?, numbered(11)?];
-    assert!(rt; ring.install_all(&first) == Ok(0));
-    let twice = [numbered(12)?, numbered(13)?, numbered(13)?];
-    assert!(rt; ring.install_all(&twice) == Err(RingFault::KeyReused { number: 3 }));
-    let old = [numbered(14)?, numbered(11)?];
-    assert!(rt; ring.install_all(&old) == Err(RingFault::KeyReused { number: 1 }));
-    assert!(rt; ring.count() == 2);
-    let none = [numbered(14)?, numbered(13)?, numbered(12)?];
-    assert!(rt; ring.install_all(&none) == Ok(2));
-    assert!(rt; ring.install_all(&[]) == Ok(5));
+    for (numbers, answer, count) in LISTS {
+        let told = installs(rt.alloc(), &mut ring, numbers)?;
+        let wanted = answer.map_err(|number| RingFault::KeyReused { number });
+        assert!(rt; told == wanted);
+        assert!(rt; ring.count() == count);
+    }
     Ok(())
 }
 
@@ -76,16 +101,16 @@ fn a_refused_list_leaves_the_ring(rt: HostRuntime) -> Result<(), Fail> {
 fn a_ring_is_full(rt: HostRuntime) -> Result<(), Fail> {
     let mut ring = Ring::make(rt.alloc());
     for position in 0..65536u32 {
-        let told = ring.install_all(&[numbered(65535 - position)?]);
+        let told = installs(rt.alloc(), &mut ring, &[65535 - position])?;
         assert!(rt; told == Ok(position));
     }
-    let more = ring.install_all(&[numbered(65536)?]);
+    let more = installs(rt.alloc(), &mut ring, &[65536])?;
     assert!(rt; more == Err(RingFault::RingFull));
-    for position in [7, 0, 65535] {
-        let told = ring.install_all(&[numbered(70000)?, numbered(65535 - position)?]);
-        assert!(rt; told == Err(RingFault::KeyReused { number: position }));
+    for number in [7, 0, 65535] {
+        let told = installs(rt.alloc(), &mut ring, &[70000, 65535 - number])?;
+        assert!(rt; told == Err(RingFault::KeyReused { number }));
     }
-    assert!(rt; ring.install_all(&[]) == Ok(65536));
+    assert!(rt; installs(rt.alloc(), &mut ring, &[])? == Ok(65536));
     assert!(rt; ring.count() == 65536);
     Ok(())
 }
@@ -110,30 +135,41 @@ fn given(master: u8, rtp: u8, rtcp: u8) -> Result<(MasterKey, SessionKeys), Fail
     Ok((master, keys))
 }
 
+/// The octets of a master key and of its two encryption keys.
+type Octets = (u8, u8, u8);
+
+/// What the ring answers to such keys, all at once.
+fn installs_given(alloc: Global, ring: &mut Ring, rows: &[Octets]) -> Result<Answer, Fail> {
+    let mut keys = Vec::new(alloc);
+    for (master, rtp, rtcp) in rows {
+        keys.push(given(*master, *rtp, *rtcp)?)?;
+    }
+    install(ring, &keys)
+}
+
+/// Lists of such keys, and the answers.
+const GIVEN: [(&[Octets], Result<u32, u32>); 10] = [
+    (&[(1, 11, 12), (2, 13, 14), (3, 0, 0)], Ok(0)),
+    (&[(9, 21, 21)], Err(3)),
+    (&[(9, 12, 21)], Err(0)),
+    (&[(9, 21, 13)], Err(1)),
+    (&[(9, 14, 14)], Err(1)),
+    (&[(1, 14, 21)], Err(0)),
+    (&[(9, 0, 0)], Ok(3)),
+    (&[(8, 21, 0)], Ok(4)),
+    (&[(7, 0, 21)], Err(4)),
+    (&[(6, 31, 32), (5, 33, 33), (4, 34, 31)], Err(6)),
+];
+
 // Encryption keys are compared as they are given, those of RTP with those of RTCP too (RFC 3711, 9.1). A
 // key whose own two are equal gets its own number told, behind whatever else it clashes with.
 #[test]
 fn compares_the_keys_that_it_is_given(rt: HostRuntime) -> Result<(), Fail> {
     let mut ring = Ring::make(rt.alloc());
-    let taken = [given(1, 11, 12)?, given(2, 13, 14)?, given(3, 0, 0)?];
-    assert!(rt; ring.install_all(&taken) == Ok(0));
-    // The octets of a master key and of its two encryption keys, and the answer.
-    for (master, rtp, rtcp, answer) in [
-        (9, 21, 21, Err(3)),
-        (9, 12, 21, Err(0)),
-        (9, 21, 13, Err(1)),
-        (9, 14, 14, Err(1)),
-        (1, 14, 21, Err(0)),
-        (9, 0, 0, Ok(3)),
-        (8, 21, 0, Ok(4)),
-        (7, 0, 21, Err(4)),
-    ] {
-        let told = ring.install_all(&[given(master, rtp, rtcp)?]);
+    for (rows, answer) in GIVEN {
+        let told = installs_given(rt.alloc(), &mut ring, rows)?;
         let wanted = answer.map_err(|number| RingFault::KeyReused { number });
-        assert!(rt; told == wanted, "{master} {rtp} {rtcp}");
+        assert!(rt; told == wanted, "{rows:?}");
     }
-    let two = [given(6, 31, 32)?, given(5, 33, 33)?, given(4, 34, 31)?];
-    let second = Err(RingFault::KeyReused { number: 6 });
-    assert!(rt; ring.install_all(&two) == second);
     Ok(())
 }

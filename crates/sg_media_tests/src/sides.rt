@@ -267,12 +267,8 @@ fn in_turn(rt: &impl Abort, alloc: Global) -> Result<SessionSpec, Fail>
 #[test]
 fn keys_seal_in_turn(rt: HostRuntime) -> Result<(), Fail> {
     let mut side = SealSide::make(in_turn(&rt, rt.alloc())?);
-    for (row, key) in [
-        (IN_TURN[0], 40),
-        (IN_TURN[1], 40),
-        (IN_TURN[2], 41),
-        (IN_TURN[3], 41),
-    ] {
+    let [first, second, third, fourth] = IN_TURN;
+    for (row, key) in [(first, 40), (second, 40), (third, 41), (fourth, 41)] {
         assert!(rt; seals(&rt, rt.alloc(), &mut side, row)? == Ok(key));
     }
     let spent = KeySpent {
@@ -287,19 +283,20 @@ fn keys_seal_in_turn(rt: HostRuntime) -> Result<(), Fail> {
 #[test]
 fn keys_open_by_their_mkis(rt: HostRuntime) -> Result<(), Fail> {
     let mut side = OpenSide::make(in_turn(&rt, rt.alloc())?);
+    let [first, second, third, fourth] = IN_TURN;
     let spent = |number| Err(KeySpent { number, count: 2 });
     let unknown = (
         "",
         "800f0005decafbadcafebabeababababababababababababababababab0300000000000000000000",
     );
     for (row, told) in [
-        (IN_TURN[0], Ok(40)),
-        (IN_TURN[2], Ok(41)),
+        (first, Ok(40)),
+        (third, Ok(41)),
         (unknown, Err(MkiUnknown)),
-        (IN_TURN[1], Ok(40)),
-        (IN_TURN[0], spent(40)),
-        (IN_TURN[3], Ok(41)),
-        (IN_TURN[3], spent(41)),
+        (second, Ok(40)),
+        (first, spent(40)),
+        (fourth, Ok(41)),
+        (fourth, spent(41)),
         (unknown, Err(MkiUnknown)),
     ] {
         assert!(rt;
@@ -311,56 +308,73 @@ fn keys_open_by_their_mkis(rt: HostRuntime) -> Result<(), Fail> {
     Ok(())
 }
 
+/// The side that seals of a case's session.
+fn sealing(rt: &impl Abort, alloc: Global, case: &Case, admit: Admit) -> Result<SealSide, Fail> {
+    let half = half_of(alloc, case.suite, case.kind, case.master)?;
+    Ok(SealSide::make(of_one(rt, half, case, admit)))
+}
+
+/// The side that opens.
+fn opening(rt: &impl Abort, alloc: Global, case: &Case, admit: Admit) -> Result<OpenSide, Fail> {
+    let half = half_of(alloc, case.suite, case.kind, case.master)?;
+    Ok(OpenSide::make(of_one(rt, half, case, admit)))
+}
+
 #[test]
-fn sessions_of_one_key(rt: HostRuntime) -> Result<(), Fail> {
+fn sessions_of_one_key_seal(rt: HostRuntime) -> Result<(), Fail> {
     for case in &OF_ONE_KEY {
         let row = (case.packet, case.datagram);
-        let half = half_of(rt.alloc(), case.suite, case.kind, case.master)?;
-        let mut side = SealSide::make(of_one(&rt, half, case, Admit::Any));
-        assert!(rt;
-            seals(&rt, rt.alloc(), &mut side, row)? == Ok(5),
-            "{}",
-            case.datagram
-        );
-        let half = half_of(rt.alloc(), case.suite, case.kind, case.master)?;
-        let mut side = OpenSide::make(of_one(&rt, half, case, Admit::Any));
-        assert!(rt;
-            opens(&rt, rt.alloc(), &mut side, row)? == Ok(5),
-            "{}",
-            case.datagram
-        );
+        let mut side = sealing(&rt, rt.alloc(), case, Admit::Any)?;
+        let told = seals(&rt, rt.alloc(), &mut side, row)?;
+        assert!(rt; told == Ok(5), "{}", case.datagram);
     }
     Ok(())
 }
 
+#[test]
+fn sessions_of_one_key_open(rt: HostRuntime) -> Result<(), Fail> {
+    for case in &OF_ONE_KEY {
+        let row = (case.packet, case.datagram);
+        let mut side = opening(&rt, rt.alloc(), case, Admit::Any)?;
+        let told = opens(&rt, rt.alloc(), &mut side, row)?;
+        assert!(rt; told == Ok(5), "{}", case.datagram);
+    }
+    Ok(())
+}
+
+/// A session whose sources are said apart.
+const ADMITS: Case = Case {
+    suite: Suite::Cm128Tag80,
+    master: SMALL,
+    kind: Kind::Rtp,
+    encrypt: true,
+    tag_len: 10,
+    packet: "",
+    datagram: "",
+};
+
 // A session of source 1, or of the first one seen, takes no packet of source 2.
 #[test]
-fn sources_are_admitted(rt: HostRuntime) -> Result<(), Fail> {
-    let case = Case {
-        suite: Suite::Cm128Tag80,
-        master: SMALL,
-        kind: Kind::Rtp,
-        encrypt: true,
-        tag_len: 10,
-        packet: "",
-        datagram: "",
-    };
+fn sources_are_admitted_to_seal(rt: HostRuntime) -> Result<(), Fail> {
+    let [one, two, again] = OF_SOURCES;
     for admit in [Admit::One(1), Admit::FirstSeen] {
-        let half = half_of(rt.alloc(), case.suite, case.kind, case.master)?;
-        let mut out = SealSide::make(of_one(&rt, half, &case, admit));
-        let half = half_of(rt.alloc(), case.suite, case.kind, case.master)?;
-        let mut back = OpenSide::make(of_one(&rt, half, &case, admit));
-        for (row, told) in [
-            (OF_SOURCES[0], Ok(5)),
-            (OF_SOURCES[1], Err(SsrcUnknown)),
-            (OF_SOURCES[2], Ok(5)),
-        ] {
-            assert!(rt; seals(&rt, rt.alloc(), &mut out, row)? == told, "{}", row.0);
-            assert!(rt;
-                opens(&rt, rt.alloc(), &mut back, row)? == told,
-                "{}",
-                row.0
-            );
+        let mut side = sealing(&rt, rt.alloc(), &ADMITS, admit)?;
+        for (row, wanted) in [(one, Ok(5)), (two, Err(SsrcUnknown)), (again, Ok(5))] {
+            let told = seals(&rt, rt.alloc(), &mut side, row)?;
+            assert!(rt; told == wanted, "{}", row.0);
+        }
+    }
+    Ok(())
+}
+
+#[test]
+fn sources_are_admitted_to_open(rt: HostRuntime) -> Result<(), Fail> {
+    let [one, two, again] = OF_SOURCES;
+    for admit in [Admit::One(1), Admit::FirstSeen] {
+        let mut side = opening(&rt, rt.alloc(), &ADMITS, admit)?;
+        for (row, wanted) in [(one, Ok(5)), (two, Err(SsrcUnknown)), (again, Ok(5))] {
+            let told = opens(&rt, rt.alloc(), &mut side, row)?;
+            assert!(rt; told == wanted, "{}", row.0);
         }
     }
     Ok(())
@@ -386,10 +400,8 @@ fn opened_by(
 #[test]
 fn either_generation_opens(rt: HostRuntime) -> Result<(), Fail> {
     let [before, _, now, _] = &OF_ONE_KEY;
-    let half = half_of(rt.alloc(), before.suite, before.kind, before.master)?;
-    let mut earlier = OpenSide::make(of_one(&rt, half, before, Admit::Any));
-    let half = half_of(rt.alloc(), now.suite, now.kind, now.master)?;
-    let mut current = OpenSide::make(of_one(&rt, half, now, Admit::Any));
+    let mut earlier = opening(&rt, rt.alloc(), before, Admit::Any)?;
+    let mut current = opening(&rt, rt.alloc(), now, Admit::Any)?;
     for (datagram, told) in [
         (before.datagram, Ok(Which::Earlier)),
         (before.datagram, Err(BadTag)),
