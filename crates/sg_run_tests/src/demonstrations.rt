@@ -102,9 +102,14 @@ fn four_calls(rt: HostRuntime) -> Result<(), Fail> {
 
 #[test]
 fn other_numbers(rt: HostRuntime) -> Result<(), Fail> {
-    assert!(rt; shown(&rt, rt.alloc(), 1, 7, 3)? == ONE);
-    assert!(rt; shown(&rt, rt.alloc(), 4, 0, 1)? == FROM_ZERO);
-    assert!(rt; shown(&rt, rt.alloc(), 4, u64::MAX, 1)? == FROM_LAST);
+    for (calls, start, workers, wanted) in [
+        (1, 7, 3, ONE),
+        (4, 0, 1, FROM_ZERO),
+        (4, u64::MAX, 1, FROM_LAST),
+    ] {
+        let summary = shown(&rt, rt.alloc(), calls, start, workers)?;
+        assert!(rt; summary == wanted);
+    }
     Ok(())
 }
 

@@ -52,22 +52,12 @@ pub struct Outside {
 impl Outside {
     /// The script is in parts. The noise is twice 304 octets, the n-th of each n modulo 256.
     pub fn of(alloc: Global, script: &[&str], given: Given) -> Result<Outside, AllocError> {
-        let most = given.most.max(1);
-        let mut words = Vec::new(alloc);
-        for word in given.words {
-            words.push(String::from_str(alloc, word)?)?;
-        }
-        let script = Octets::from_vec(joined(alloc, script)?);
-        let receipts = copies(alloc, given.datagrams)?;
         Ok(Outside {
-            words,
-            source: MemSource::limited(script, most, given.reads_fail.to_vec(alloc)?),
-            sink: MemSink::limited(alloc, most, given.writes_fail.to_vec(alloc)?),
-            link: MemLink::make(alloc, receipts, given.link_fails.to_vec(alloc)?),
-            clock: MemClock::make(
-                given.readings.to_vec(alloc)?,
-                given.clock_fails.to_vec(alloc)?,
-            ),
+            words: words(alloc, given.words)?,
+            source: source(alloc, script, given)?,
+            sink: sink(alloc, given)?,
+            link: link(alloc, given)?,
+            clock: clock(alloc, given)?,
             noise: MemNoise::make(noise(alloc)?, given.draws_fail.to_vec(alloc)?),
         })
     }
@@ -105,6 +95,36 @@ pub fn joined(alloc: Global, texts: &[&str]) -> Result<Vec<u8>, AllocError> {
         octets.extend_from_slice(text.as_bytes())?;
     }
     Ok(octets)
+}
+
+fn words(alloc: Global, texts: &[&str]) -> Result<Vec<String>, AllocError> {
+    let mut words = Vec::new(alloc);
+    for text in texts {
+        words.push(String::from_str(alloc, text)?)?;
+    }
+    Ok(words)
+}
+
+fn source(alloc: Global, script: &[&str], given: Given) -> Result<MemSource, AllocError> {
+    let script = Octets::from_vec(joined(alloc, script)?);
+    let fails = given.reads_fail.to_vec(alloc)?;
+    Ok(MemSource::limited(script, given.most.max(1), fails))
+}
+
+fn sink(alloc: Global, given: Given) -> Result<MemSink, AllocError> {
+    let fails = given.writes_fail.to_vec(alloc)?;
+    Ok(MemSink::limited(alloc, given.most.max(1), fails))
+}
+
+fn link(alloc: Global, given: Given) -> Result<MemLink, AllocError> {
+    let receipts = copies(alloc, given.datagrams)?;
+    let fails = given.link_fails.to_vec(alloc)?;
+    Ok(MemLink::make(alloc, receipts, fails))
+}
+
+fn clock(alloc: Global, given: Given) -> Result<MemClock, AllocError> {
+    let fails = given.clock_fails.to_vec(alloc)?;
+    Ok(MemClock::make(given.readings.to_vec(alloc)?, fails))
 }
 
 fn copies(

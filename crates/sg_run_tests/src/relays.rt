@@ -209,58 +209,61 @@ fn breaks(
 }
 
 #[test]
-fn each_call_fails_once(rt: HostRuntime) -> Result<(), Fail> {
-    let alloc = rt.alloc();
+fn each_write_fails_once(rt: HostRuntime) -> Result<(), Fail> {
     for k in 1..=5 {
-        breaks(
-            &rt,
-            alloc,
-            Given {
-                writes_fail: &[k],
-                ..BOTH_WAYS
-            },
-            Status::Write,
-        )?;
-        breaks(
-            &rt,
-            alloc,
-            Given {
-                clock_fails: &[k],
-                ..BOTH_WAYS
-            },
-            Status::Clock,
-        )?;
+        let given = Given {
+            writes_fail: &[k],
+            ..BOTH_WAYS
+        };
+        breaks(&rt, rt.alloc(), given, Status::Write)?;
     }
+    Ok(())
+}
+
+#[test]
+fn each_reading_fails_once(rt: HostRuntime) -> Result<(), Fail> {
+    for k in 1..=5 {
+        let given = Given {
+            clock_fails: &[k],
+            ..BOTH_WAYS
+        };
+        breaks(&rt, rt.alloc(), given, Status::Clock)?;
+    }
+    Ok(())
+}
+
+#[test]
+fn each_draw_fails_once(rt: HostRuntime) -> Result<(), Fail> {
     for k in 1..=2 {
-        breaks(
-            &rt,
-            alloc,
-            Given {
-                draws_fail: &[k],
-                ..BOTH_WAYS
-            },
-            Status::Noise,
-        )?;
-        breaks(
-            &rt,
-            alloc,
-            Given {
-                reads_fail: &[k],
-                ..BOTH_WAYS
-            },
-            Status::Read,
-        )?;
+        let given = Given {
+            draws_fail: &[k],
+            ..BOTH_WAYS
+        };
+        breaks(&rt, rt.alloc(), given, Status::Noise)?;
     }
+    Ok(())
+}
+
+#[test]
+fn each_read_fails_once(rt: HostRuntime) -> Result<(), Fail> {
+    for k in 1..=2 {
+        let given = Given {
+            reads_fail: &[k],
+            ..BOTH_WAYS
+        };
+        breaks(&rt, rt.alloc(), given, Status::Read)?;
+    }
+    Ok(())
+}
+
+#[test]
+fn each_call_of_the_link_fails_once(rt: HostRuntime) -> Result<(), Fail> {
     for k in [1, 2, 3, 4, 5, 7, 9, 11, 13, 14, 15, 16] {
-        breaks(
-            &rt,
-            alloc,
-            Given {
-                link_fails: &[k],
-                ..BOTH_WAYS
-            },
-            Status::Link,
-        )?;
+        let given = Given {
+            link_fails: &[k],
+            ..BOTH_WAYS
+        };
+        breaks(&rt, rt.alloc(), given, Status::Link)?;
     }
     Ok(())
 }

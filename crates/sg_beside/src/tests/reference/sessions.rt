@@ -36,105 +36,109 @@ fn both_ways(
     Ok(())
 }
 
-#[test]
-fn rtp_both_ways(rt: HostRuntime) -> Result<(), Fail> {
-    let alloc = rt.alloc();
-    let short = Rules { tag_len: 4, ..RTP };
-    both_ways(
-        &rt,
-        alloc,
-        &RTP,
-        (0, Suite::Cm128Tag80, SMALL, "", 10),
+/// A session's rules, its key's suite, octets and MKI, and its packets.
+type Session = (Rules, Suite, &'static str, &'static str, &'static [Row]);
+
+/// Sessions of RTP of each suite.
+const OF_RTP: [Session; 7] = [
+    (
+        RTP,
+        Suite::Cm128Tag80,
+        SMALL,
+        "",
         &[(
             "800f1234decafbadcafebabeabababababababababababababababab",
             "800f1234decafbadcafebabe4e55dc4ce79978d88ca4d215949d2402b78d6acc99ea179b8dbb",
         )],
-    )?;
-    both_ways(
-        &rt,
-        alloc,
-        &Rules {
+    ),
+    (
+        Rules {
             roc: 0x10203,
-            ..short
+            tag_len: 4,
+            ..RTP
         },
-        (0, Suite::Cm128Tag32, SMALL, "00000001", 10),
+        Suite::Cm128Tag32,
+        SMALL,
+        "00000001",
         &[(
             LISTED,
             "92830102decafbadcafebabe1111111122222222bede000151aa0000a480c6458028c96e944ed2bc5258a3300b0edc3b1f00000001c03bfc61",
         )],
-    )?;
-    both_ways(
-        &rt,
-        alloc,
-        &Rules {
+    ),
+    (
+        Rules {
             roc: u32::MAX,
             ..RTP
         },
-        (0, Suite::Cm192Tag80, MIDDLE, "", 10),
+        Suite::Cm192Tag80,
+        MIDDLE,
+        "",
         &[(
             LISTED,
             "92830102decafbadcafebabe1111111122222222bede000151aa00002a4ce2c106d0f5dc7f01dea1900b1712d527712db7d47f5fab8be09c42f723",
         )],
-    )?;
-    both_ways(
-        &rt,
-        alloc,
-        &Rules { roc: 1, ..short },
-        (0, Suite::Cm192Tag32, MIDDLE, "", 10),
+    ),
+    (
+        Rules {
+            roc: 1,
+            tag_len: 4,
+            ..RTP
+        },
+        Suite::Cm192Tag32,
+        MIDDLE,
+        "",
         &[(
             "800f0009decafbadcafebabeabababababababababababababababab",
             "800f0009decafbadcafebabe597e954dcc7f15af1a2d279cbcba70e06204c3f2",
         )],
-    )?;
-    both_ways(
-        &rt,
-        alloc,
-        &RTP,
-        (0, Suite::Cm256Tag80, LARGE, "", 10),
+    ),
+    (
+        RTP,
+        Suite::Cm256Tag80,
+        LARGE,
+        "",
         &[(
             "800f0007decafbadcafebabe",
             "800f0007decafbadcafebabeb02a3545989d7fb0d6e1",
         )],
-    )?;
-    both_ways(
-        &rt,
-        alloc,
-        &Rules { roc: 2, ..short },
-        (0, Suite::Cm256Tag32, LARGE, "0102030405", 10),
+    ),
+    (
+        Rules {
+            roc: 2,
+            tag_len: 4,
+            ..RTP
+        },
+        Suite::Cm256Tag32,
+        LARGE,
+        "0102030405",
         &[(
             "800fffffdecafbadcafebabeabababababababababababababababab",
             "800fffffdecafbadcafebabe71e14aae33800904620a3fdd51e791470102030405f0c7499d",
         )],
-    )?;
-    both_ways(
-        &rt,
-        alloc,
-        &Rules {
+    ),
+    (
+        Rules {
             roc: 3,
             encrypts: false,
             ..RTP
         },
-        (0, Suite::Cm128Tag80, SMALL, "", 10),
+        Suite::Cm128Tag80,
+        SMALL,
+        "",
         &[(
             "800f1234decafbadcafebabeabababababababababababababababab",
             "800f1234decafbadcafebabeababababababababababababababababf1f54c1a2765fee16a39",
         )],
-    )?;
-    Ok(())
-}
+    ),
+];
 
-#[test]
-fn rtcp_both_ways(rt: HostRuntime) -> Result<(), Fail> {
-    let alloc = rt.alloc();
-    let clear = Rules {
-        encrypts: false,
-        ..RTCP
-    };
-    both_ways(
-        &rt,
-        alloc,
-        &RTCP,
-        (0, Suite::Cm128Tag80, SMALL, "", 10),
+/// Sessions of RTCP, one of which nobody encrypts.
+const OF_RTCP: [Session; 5] = [
+    (
+        RTCP,
+        Suite::Cm128Tag80,
+        SMALL,
+        "",
         &[
             (
                 REPORT,
@@ -145,12 +149,12 @@ fn rtcp_both_ways(rt: HostRuntime) -> Result<(), Fail> {
                 "80c80006cafebabe595b1e1082e1dfdbd89ef6279f11c3ceb389dee780000001a48185495f05c57bc935",
             ),
         ],
-    )?;
-    both_ways(
-        &rt,
-        alloc,
-        &RTCP,
-        (0, Suite::Cm192Tag32, MIDDLE, "00000001", 10),
+    ),
+    (
+        RTCP,
+        Suite::Cm192Tag32,
+        MIDDLE,
+        "00000001",
         &[
             (
                 REPORT,
@@ -161,12 +165,12 @@ fn rtcp_both_ways(rt: HostRuntime) -> Result<(), Fail> {
                 "80c80006cafebabe12f842f638cdaff2f88af4625cfc2d3e8db0ee6c8000000100000001a4bf911965744bd4d4f3",
             ),
         ],
-    )?;
-    both_ways(
-        &rt,
-        alloc,
-        &RTCP,
-        (0, Suite::Cm256Tag80, LARGE, "", 10),
+    ),
+    (
+        RTCP,
+        Suite::Cm256Tag80,
+        LARGE,
+        "",
         &[
             (
                 REPORT,
@@ -177,12 +181,15 @@ fn rtcp_both_ways(rt: HostRuntime) -> Result<(), Fail> {
                 "80c80006cafebabe9ca3fae271b42df9ccdfb5d0741d5dc04425eb0180000001c6cf275e5f1248e9be77",
             ),
         ],
-    )?;
-    both_ways(
-        &rt,
-        alloc,
-        &clear,
-        (0, Suite::Cm128Tag80, SMALL, "", 10),
+    ),
+    (
+        Rules {
+            encrypts: false,
+            ..RTCP
+        },
+        Suite::Cm128Tag80,
+        SMALL,
+        "",
         &[
             (
                 REPORT,
@@ -193,18 +200,34 @@ fn rtcp_both_ways(rt: HostRuntime) -> Result<(), Fail> {
                 "80c80006cafebabe83d8b6e0cdcdcdcdcdcdcdcdcdcdcdcdcdcdcdcd00000001cacd3a00f551da510762",
             ),
         ],
-    )?;
-    both_ways(
-        &rt,
-        alloc,
-        &RTCP,
-        (0, Suite::Cm128Tag32, SMALL, "", 10),
+    ),
+    (
+        RTCP,
+        Suite::Cm128Tag32,
+        SMALL,
+        "",
         &[(
             "80c80006cafebabe",
             "80c80006cafebabe80000000c95303fed59454dbfc21",
         )],
-    )?;
+    ),
+];
+
+fn all_both_ways(rt: &impl Abort, alloc: Global, sessions: &[Session]) -> Result<(), Fail> {
+    for (rules, suite, octets, mki, rows) in sessions {
+        both_ways(rt, alloc, rules, (0, *suite, octets, mki, 10), rows)?;
+    }
     Ok(())
+}
+
+#[test]
+fn rtp_both_ways(rt: HostRuntime) -> Result<(), Fail> {
+    all_both_ways(&rt, rt.alloc(), &OF_RTP)
+}
+
+#[test]
+fn rtcp_both_ways(rt: HostRuntime) -> Result<(), Fail> {
+    all_both_ways(&rt, rt.alloc(), &OF_RTCP)
 }
 
 #[test]

@@ -49,27 +49,28 @@ fn sealed(
     Ok(hex::encode(alloc, &text)?)
 }
 
-#[test]
-fn the_known_packet(rt: HostRuntime) -> Result<(), Fail> {
-    let alloc = rt.alloc();
-    let text = sealed(&rt, alloc, Suite::Cm128Tag80, 10, true, &[], 0x1234)?;
-    assert!(rt; text.as_str() == SEALED);
-    let short = sealed(&rt, alloc, Suite::Cm128Tag32, 4, true, &[], 0x1234)?;
-    assert!(rt;
-        short.as_str() == "800f1234decafbadcafebabe4e55dc4ce79978d88ca4d215949d2402b78d6acc"
-    );
-    let marked = sealed(
-        &rt,
-        alloc,
+/// A suite, the octets of its tag, an MKI, and the packet so sealed.
+const KNOWN: [(Suite, usize, &[u8], &str); 3] = [
+    (Suite::Cm128Tag80, 10, &[], SEALED),
+    (
+        Suite::Cm128Tag32,
+        4,
+        &[],
+        "800f1234decafbadcafebabe4e55dc4ce79978d88ca4d215949d2402b78d6acc",
+    ),
+    (
         Suite::Cm128Tag80,
         10,
-        true,
         &[0, 0, 0, 1],
-        0x1234,
-    )?;
-    assert!(rt;
-        marked.as_str()
-            == "800f1234decafbadcafebabe4e55dc4ce79978d88ca4d215949d240200000001b78d6acc99ea179b8dbb"
-    );
+        "800f1234decafbadcafebabe4e55dc4ce79978d88ca4d215949d240200000001b78d6acc99ea179b8dbb",
+    ),
+];
+
+#[test]
+fn the_known_packet(rt: HostRuntime) -> Result<(), Fail> {
+    for (suite, tag_len, mki, wanted) in KNOWN {
+        let text = sealed(&rt, rt.alloc(), suite, tag_len, true, mki, 0x1234)?;
+        assert!(rt; text.as_str() == wanted);
+    }
     Ok(())
 }
