@@ -1,7 +1,7 @@
 -- How what was done for outcomes adds up.
 use Rattle.std.proofs.Common.{◌≡◌, ◌<◌, ◌≤◌, ◌+◌, Option, ℕ, zero, suc, arith, Bool, true, false, List, [], ◌∷◌, ◌++◌, length, map, take, get_or, Some, Result, Ok, Err, refl, sym, ap, ap₂, ◌∙◌, subst, append_assoc, inl, inr}
 use Rattle.std.specs.Prelude.{is_ok, IfErr, IsOk, ◌⊎◌}
-use Rattle.std.specs.List.{AllByRecursion, flat_map}
+use Rattle.std.specs.List.{flat_map}
 use Rattle.std.proofs.lemmas.Bool.{false≢true}
 use Rattle.std.proofs.lemmas.List.{append-nil, map-append}
 use Rattle.sg_base.specs.declared.addresses.Address.{Address}
@@ -18,8 +18,8 @@ use Rattle.sg_gateway.specs.Step.{Event}
 use Rattle.sg_gateway.specs.World.{World}
 use Rattle.sg_outcome.specs.OutcomeText.{outcome_line}
 use Rattle.sg_outcome.specs.declared.outcomes.Outcome.{Outcome}
-use Rattle.sg_outcome.specs.declared.outcomes.Outcome.TheVariants.{Made, Live, Sdp, Refused, Ended, Out, Dropped, Unsent}
-use Rattle.sg_relay.specs.Asked.{AreGood, AreSent, Ask, EndsBadly, IsCutOff, IsDone, IsGood, IsPart, Told, ask_in, asks_in, asks_of, hold, ports_from, receipt_in, receipts_in, sends_in, sent_as, sent_in, sent_of, written_as, written_of}
+use Rattle.sg_outcome.specs.declared.outcomes.Outcome.TheVariants.{Out, Unsent}
+use Rattle.sg_relay.specs.Asked.{AreGood, Ask, EndsBadly, IsAtNext, IsCutOff, IsDone, IsGood, IsPart, IsUntold, Told, ask_in, asks_in, asks_of, hold, ports_from, receipt_in, receipts_in, sent_as, sent_in, sent_of, written_as, written_of}
 use Rattle.sg_relay.specs.Parts.{AreCarriedOut, AreHandled, IsHeld, StopsWith}
 
 -- the statuses of a line that couldn't be written
@@ -49,9 +49,6 @@ bad_after a b good ends = record {
 pub none_after : (a b : List LinkCall) → receipts_in a ≡ [] → receipts_in b ≡ [] → receipts_in (a ++ b) ≡ []
 none_after a b none more = flat_append receipt_in a b ∙ ap₂ (λ (x y : List Received). x ++ y) none more
 
-pub front_none : {X : Type 0} (all : List X) → IsPrefixOf [] all
-front_none all = (all, refl)
-
 pub front_all : {X : Type 0} (all : List X) → IsPrefixOf all all
 front_all all = ([], sym (append-nil all))
 
@@ -60,38 +57,6 @@ front_longer a all more front = (front.0 ++ more, ap (λ l. l ++ more) front.1 �
 
 pub front_after : {X : Type 0} (a b all : List X) → IsPrefixOf b all → IsPrefixOf (a ++ b) (a ++ all)
 front_after a b all front = (front.0, ap (λ l. a ++ l) front.1 ∙ sym (append_assoc a b front.0))
-
--- ---- sends
-
-abbrev AreTrue : List Bool → Type 0
-AreTrue l = AllByRecursion (λ ok. ok ≡ true) l
-
-AreTrue-append : (a b : List Bool) → AreTrue a → AreTrue b → AreTrue (a ++ b)
-AreTrue-append [] b first more = more
-AreTrue-append (x ∷ a) b first more = (first.0, AreTrue-append a b first.1 more)
-
-sent_all : (made sent : List Bool) → made ≡ sent → AreSent made sent
-sent_all made sent is = ([], sym (append-nil made ∙ is), tt)
-
-sent_after : (a b all : List Bool) → AreSent b all → AreSent (a ++ b) (a ++ all)
-sent_after a b all sent = (sent.0, ap (λ l. a ++ l) sent.1 ∙ sym (append_assoc a b sent.0), sent.2)
-
-sent_longer : (a all more : List Bool) → AreSent a all → AreTrue more → AreSent a (all ++ more)
-sent_longer a all more sent true_all = (sent.0 ++ more, ap (λ l. l ++ more) sent.1 ∙ append_assoc a sent.0 more, AreTrue-append sent.0 more sent.2 true_all)
-
-sent_as_true : (o : Outcome) → AreTrue (sent_as o true)
-sent_as_true (Made call slot media) = tt
-sent_as_true (Live call) = tt
-sent_as_true (Sdp call side text) = tt
-sent_as_true (Refused call cause) = tt
-sent_as_true (Ended call slot media why) = tt
-sent_as_true (Out port to octets) = (refl, tt)
-sent_as_true (Dropped port cause) = tt
-sent_as_true (Unsent port to) = tt
-
--- no send is made
-sent_none : (o : Outcome) (made : List Bool) → made ≡ [] → AreSent made (sent_as o true ++ [])
-sent_none o made none = (sent_as o true ++ [], ap (λ (l : List Bool). l ++ (sent_as o true ++ [])) (sym none), AreTrue-append (sent_as o true) [] (sent_as_true o) tt)
 
 -- ---- outcomes
 
@@ -110,48 +75,67 @@ done_more o p a b x y first more = record {
 
 pub part_of : (o : List Outcome) (a : List LinkCall) (x : List ℕ) → IsDone o a x → IsPart o a x
 part_of o a x done = record {
-  told = done.told;
-  of_outcomes = done.of_outcomes;
-  asked = ([], sym (append-nil _ ∙ done.asked));
-  sent = sent_all _ _ done.sent;
-  written = ([], sym (append-nil _ ∙ done.written));
+  done = o;
+  others = [];
+  outcomes_are = sym (append-nil o);
+  before = a;
+  last = [];
+  calls_are = sym (append-nil a);
+  lines = x;
+  piece = [];
+  out_is = sym (append-nil x);
+  whole = done;
+  next = inl (refl, refl);
 }
 
 pub part_after : (o p : List Outcome) (a b : List LinkCall) (x y : List ℕ) → IsDone o a x → IsPart p b y → IsPart (o ++ p) (a ++ b) (x ++ y)
 part_after o p a b x y first more = record {
-  told = first.told ++ more.told;
-  of_outcomes = map-append (λ (t : Told). t.outcome) first.told more.told ∙ ap₂ (λ (l m : List Outcome). l ++ m) first.of_outcomes more.of_outcomes;
-  asked = subst (λ l. IsPrefixOf l (flat_map asks_of (o ++ p))) (sym (flat_append ask_in a b))
-      (subst (λ l. IsPrefixOf (asks_in a ++ asks_in b) l) (ap (λ l. l ++ flat_map asks_of p) first.asked ∙ sym (flat_append asks_of o p)) (front_after (asks_in a) (asks_in b) _ more.asked));
-  sent = subst (λ l. AreSent l (flat_map sent_of (first.told ++ more.told))) (sym (flat_append sent_in a b))
-      (subst (λ l. AreSent (sends_in a ++ sends_in b) l) (ap (λ l. l ++ flat_map sent_of more.told) first.sent ∙ sym (flat_append sent_of first.told more.told)) (sent_after (sends_in a) (sends_in b) _ more.sent));
-  written = subst (λ l. IsPrefixOf (x ++ y) l)
-      (ap (λ l. l ++ text (flat_map written_of more.told)) first.written ∙ sym (text-append (flat_map written_of first.told) (flat_map written_of more.told)) ∙ ap text (sym (flat_append written_of first.told more.told)))
-      (front_after x y _ more.written);
+  done = o ++ more.done;
+  others = more.others;
+  outcomes_are = ap (λ l. o ++ l) more.outcomes_are ∙ sym (append_assoc o more.done more.others);
+  before = a ++ more.before;
+  last = more.last;
+  calls_are = ap (λ l. a ++ l) more.calls_are ∙ sym (append_assoc a more.before more.last);
+  lines = x ++ more.lines;
+  piece = more.piece;
+  out_is = ap (λ l. x ++ l) more.out_is ∙ sym (append_assoc x more.lines more.piece);
+  whole = done_more o more.done a more.before x more.lines first more.whole;
+  next = more.next;
 }
 
--- outcomes of which nothing is done yet
-abbrev pub all_sent : List Outcome → List Told
-all_sent [] = []
-all_sent (o ∷ os) = record { outcome = o; sent = true } ∷ all_sent os
-
-of_all_sent : (os : List Outcome) → map (λ (t : Told). t.outcome) (all_sent os) ≡ os
-of_all_sent [] = refl
-of_all_sent (o ∷ os) = ap (λ l. o ∷ l) (of_all_sent os)
-
-all_sent_true : (os : List Outcome) → AreTrue (flat_map sent_of (all_sent os))
-all_sent_true [] = tt
-all_sent_true (o ∷ os) = AreTrue-append (sent_as o true) (flat_map sent_of (all_sent os)) (sent_as_true o) (all_sent_true os)
+next_longer : (others p : List Outcome) (last : List LinkCall) (piece : List ℕ) → IsAtNext others last piece → IsAtNext (others ++ p) last piece
+next_longer others p last piece (inl none) = inl none
+next_longer others p last piece (inr (next, rest, is, untold)) = inr (next, rest ++ p, ap (λ (l : List Outcome). l ++ p) is, untold)
 
 pub part_longer : (o p : List Outcome) (a : List LinkCall) (x : List ℕ) → IsPart o a x → IsPart (o ++ p) a x
 part_longer o p a x part = record {
-  told = part.told ++ all_sent p;
-  of_outcomes = map-append (λ (t : Told). t.outcome) part.told (all_sent p) ∙ ap₂ (λ (l m : List Outcome). l ++ m) part.of_outcomes (of_all_sent p);
-  asked = subst (λ l. IsPrefixOf (asks_in a) l) (sym (flat_append asks_of o p)) (front_longer (asks_in a) (flat_map asks_of o) (flat_map asks_of p) part.asked);
-  sent = subst (λ l. AreSent (sends_in a) l) (sym (flat_append sent_of part.told (all_sent p))) (sent_longer (sends_in a) (flat_map sent_of part.told) (flat_map sent_of (all_sent p)) part.sent (all_sent_true p));
-  written = subst (λ l. IsPrefixOf x l)
-      (sym (text-append (flat_map written_of part.told) (flat_map written_of (all_sent p))) ∙ ap text (sym (flat_append written_of part.told (all_sent p))))
-      (front_longer x (text (flat_map written_of part.told)) (text (flat_map written_of (all_sent p))) part.written);
+  done = part.done;
+  others = part.others ++ p;
+  outcomes_are = ap (λ l. l ++ p) part.outcomes_are ∙ append_assoc part.done part.others p;
+  before = part.before;
+  last = part.last;
+  calls_are = part.calls_are;
+  lines = part.lines;
+  piece = part.piece;
+  out_is = part.out_is;
+  whole = part.whole;
+  next = next_longer part.others p part.last part.piece part.next;
+}
+
+-- an outcome whose line isn't written whole
+untold_part : (o : Outcome) (calls : List LinkCall) (out : List ℕ) → IsUntold o calls out → IsPart (o ∷ []) calls out
+untold_part o calls out untold = record {
+  done = [];
+  others = o ∷ [];
+  outcomes_are = refl;
+  before = [];
+  last = calls;
+  calls_are = refl;
+  lines = [];
+  piece = out;
+  out_is = refl;
+  whole = done_none;
+  next = inr (o, [], refl, untold);
 }
 
 -- ---- outcomes that were cut off
@@ -303,13 +287,12 @@ told_held (Ok u) o asks calls out is plain held front whole only = (
 )
 told_held (Err s) o asks calls out is plain held front whole only = (
   stops_writing s (o ∷ []) calls out only
-      (record {
-        told = record { outcome = o; sent = true } ∷ [];
-        of_outcomes = refl;
-        asked = subst (λ l. IsPrefixOf (asks_in calls) l) (held.0 ∙ sym is ∙ sym (append-nil (asks_of o))) (front_all (asks_in calls));
-        sent = sent_none o (sends_in calls) held.2;
-        written = subst (λ l. IsPrefixOf out l) (sym (ap (λ (l : List Outcome). text (l ++ [])) (plain true).0 ∙ append-nil (outcome_line o))) front;
-      })
+      (untold_part o calls out (record {
+        sent = true;
+        asked = held.0 ∙ sym is;
+        sends = held.2 ∙ sym (plain true).1;
+        written = subst (λ l. IsPrefixOf out l) (sym (ap text (plain true).0 ∙ append-nil (outcome_line o))) front;
+      }))
       held.1,
   held.3,
 )
@@ -375,13 +358,12 @@ told_unsent (Ok u) port to octets out front whole only = (
 )
 told_unsent (Err s) port to octets out front whole only = (
   stops_writing s (Out port to octets ∷ []) (links.Send port to octets false ∷ []) out only
-      (record {
-        told = record { outcome = Out port to octets; sent = false } ∷ [];
-        of_outcomes = refl;
-        asked = front_all _;
-        sent = sent_all _ _ refl;
+      (untold_part (Out port to octets) (links.Send port to octets false ∷ []) out (record {
+        sent = false;
+        asked = refl;
+        sends = refl;
         written = subst (λ l. IsPrefixOf out l) (sym (append-nil (outcome_line (Unsent port to)))) front;
-      })
+      }))
       (tt, tt),
   refl,
 )

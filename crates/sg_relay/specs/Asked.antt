@@ -1,5 +1,5 @@
 -- What outcomes ask of a link, and what is written of them.
-use Rattle.std.specs.Prelude.{◌≡◌, ℕ, ◌+◌, ◌*◌, zero, suc, Bool, true, false, List, [], ◌∷◌, ◌++◌, map}
+use Rattle.std.specs.Prelude.{◌≡◌, ◌⊎◌, ℕ, ◌+◌, ◌*◌, zero, suc, Bool, true, false, List, [], ◌∷◌, ◌++◌, map}
 use Rattle.std.specs.List.{AllByRecursion, flat_map}
 use Rattle.sg_base.specs.declared.addresses.Address.{Address}
 use Rattle.sg_edge.specs.Links.{LinkCall, Received, Came, Nothing, Failing}
@@ -102,17 +102,31 @@ pub record IsDone (outcomes : List Outcome) (calls : List LinkCall) (out : List 
   pub sent : sends_in calls ≡ flat_map sent_of told
   pub written : out ≡ text (flat_map written_of told)
 
--- The sends that were made went so, and of those that weren't none is told to have failed.
-abbrev pub AreSent : List Bool → List Bool → Type 0
-AreSent made sent = (rest : List Bool) × (sent ≡ made ++ rest) × AllByRecursion (λ ok. ok ≡ true) rest
+-- What the outcome asks for was asked, and of what is written of it a front was.
+pub record IsUntold (outcome : Outcome) (calls : List LinkCall) (out : List ℕ) : Type 0 where
+  pub sent : Bool
+  pub asked : asks_in calls ≡ asks_of outcome
+  pub sends : sends_in calls ≡ sent_as outcome sent
+  pub written : IsPrefixOf out (text (written_as outcome sent))
 
--- Of both a front.
+-- of the first of these, where there is one, all was asked and its line is untold; or nothing of it was done
+abbrev pub IsAtNext : List Outcome → List LinkCall → List ℕ → Type 0
+IsAtNext others calls out = ((calls ≡ []) × (out ≡ [])) ⊎ ((next : Outcome) × (rest : List Outcome) × (others ≡ next ∷ rest) × IsUntold next calls out)
+
+-- The outcomes before the next one are done, what was asked and what was written alike. Of the next one nothing was
+-- done, or what it asks for was asked and a front of its line was written.
 pub record IsPart (outcomes : List Outcome) (calls : List LinkCall) (out : List ℕ) : Type 0 where
-  pub told : List Told
-  pub of_outcomes : map (λ t. t.outcome) told ≡ outcomes
-  pub asked : IsPrefixOf (asks_in calls) (flat_map asks_of outcomes)
-  pub sent : AreSent (sends_in calls) (flat_map sent_of told)
-  pub written : IsPrefixOf out (text (flat_map written_of told))
+  pub done : List Outcome
+  pub others : List Outcome
+  pub outcomes_are : outcomes ≡ done ++ others
+  pub before : List LinkCall
+  pub last : List LinkCall
+  pub calls_are : calls ≡ before ++ last
+  pub lines : List ℕ
+  pub piece : List ℕ
+  pub out_is : out ≡ lines ++ piece
+  pub whole : IsDone done before lines
+  pub next : IsAtNext others last piece
 
 -- the call went well, or is a send
 abbrev pub IsGood : LinkCall → Type 0

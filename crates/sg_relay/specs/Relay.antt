@@ -38,7 +38,7 @@ pub record IsWhole (p : Passed) (stop : Rattle.sg_course.specs.Course.Stop) : Ty
   pub done : IsDone (outcomes (course_of p).events) p.calls p.out
   pub good : AreGood p.calls
 
--- Of what the events ask for a front was done, and no call of the link but a send has failed.
+-- Of what the events ask for a front was done and written, and no call of the link but a send has failed.
 pub record IsBroken (p : Passed) : Type 0 where
   pub part : IsPart (outcomes (course_of p).events) p.calls p.out
   pub good : AreGood p.calls
@@ -48,8 +48,8 @@ pub record IsBroken (p : Passed) : Type 0 where
 -- first outside the grammar, with its first fault, whatever would come behind what was read; Unended comes
 -- only at the source's end. With TurnsSpent all turns were taken, and a `tick` line asks for one more. With
 -- Clock a reading comes next, within the turns, with Noise a draw. With Link the link's last call failed: a receive
--- comes next, or an outcome whose ports are bound or given up, and all before it was done. With every other status a
--- front of all was done.
+-- comes next, or an outcome whose ports are bound or given up, and all before it was done. With every other status all
+-- before some outcome was done and written; of that one nothing was, or what it asks for and a front of its line.
 abbrev pub Ends : Status → ℕ → Passed → Option (List ℕ) → Type 0
 Ends Done turns p left = IsWhole p BehindAll × AtEnd left
 Ends (Script n fault) turns p left =
