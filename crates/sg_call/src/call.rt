@@ -218,11 +218,11 @@ impl Call {
             Ok((open, out)) => {
                 self.media = open.media();
                 self.moment = now;
-                self.state = State::Offered(open);
+                self.go_on(State::Offered(open));
                 Ok(out)
             }
             Err((state, fault)) => {
-                self.state = state;
+                self.go_on(state);
                 Err(fault)
             }
         }
@@ -250,7 +250,7 @@ impl Call {
         match mem::replace(&mut self.state, State::Idle(Idle::make(self.slot))) {
             State::Offered(open) => {
                 let Ok(mut paths) = Vec::with_capacity(alloc, PATHS) else {
-                    self.state = State::Offered(open);
+                    self.go_on(State::Offered(open));
                     return Err(Fault::NoMemory);
                 };
                 match open.answer(alloc, text, noise, books) {
@@ -260,13 +260,13 @@ impl Call {
                         Ok(out)
                     }
                     Err((open, fault)) => {
-                        self.state = State::Offered(open);
+                        self.go_on(State::Offered(open));
                         Err(fault)
                     }
                 }
             }
             state => {
-                self.state = state;
+                self.go_on(state);
                 Err(Fault::Refused(Refusal::State))
             }
         }
@@ -297,7 +297,7 @@ impl Call {
         match mem::replace(&mut self.state, State::Idle(Idle::make(self.slot))) {
             State::Idle(idle) => {
                 let Ok(mut paths) = Vec::with_capacity(alloc, MEDIUM_PATHS) else {
-                    self.state = State::Idle(idle);
+                    self.go_on(State::Idle(idle));
                     return Err(Fault::NoMemory);
                 };
                 match idle.manual(alloc, secure, plain, roc, window, from_peer, to_peer, books) {
@@ -308,16 +308,23 @@ impl Call {
                         Ok(())
                     }
                     Err((idle, fault)) => {
-                        self.state = State::Idle(idle);
+                        self.go_on(State::Idle(idle));
                         Err(fault)
                     }
                 }
             }
             state => {
-                self.state = state;
+                self.go_on(state);
                 Err(Fault::Refused(Refusal::State))
             }
         }
+    }
+
+    /// Puts the call into this state, in the place of the one that was taken out.
+    fn go_on(&mut self, state: State)
+        ensures { self.new ≡ record self.old { state = state } }
+    {
+        self.state = state;
     }
 
     /// A new generation begins. Of the one before, what opens is kept.
@@ -343,14 +350,14 @@ impl Call {
         match mem::replace(&mut self.state, State::Idle(Idle::make(self.slot))) {
             State::Offered(open) => match open.reject() {
                 Ok(live) => {
-                    self.state = State::Live(live);
                     self.moment = now;
+                    self.go_on(State::Live(live));
                     Ok(true)
                 }
                 Err(Ended) => Ok(false),
             },
             state => {
-                self.state = state;
+                self.go_on(state);
                 Err(Refusal::State)
             }
         }
