@@ -1,8 +1,6 @@
 -- Each arrival of a batch has ended as its datagram does, in the world that those before it leave.
-use Rattle.std.proofs.Common.{◌≡◌, ℕ, List, [], ◌∷◌, ◌++◌, map, Option, Some, None, refl, sym, ap, ◌∙◌, subst}
-use Rattle.sg_base.specs.declared.addresses.Address.{Address}
+use Rattle.std.proofs.Common.{◌≡◌, List, [], ◌∷◌, ◌++◌, map, Option, Some, None, refl, sym, ap, ◌∙◌, subst}
 use Rattle.sg_call.specs.Handling.{handled_of}
-use Rattle.sg_call.specs.declared.handled.Handled.{Handled}
 use Rattle.sg_gateway.specs.Datagrams.{Given, Drops, Puts, arrived_at, arrived_in, given_to}
 use Rattle.sg_gateway.specs.Events.{outcomes_from}
 use Rattle.sg_gateway.specs.Octets.{as_octets}

@@ -22,8 +22,8 @@ use Rattle.sg_table.proofs.Batching.{events_same}
 use Rattle.sg_table.proofs.Ended.{AreEnded}
 use Rattle.sg_table.proofs.Stepped.{after_append}
 use Rattle.sg_table.proofs.Turns.{turn, turn_same, same_ports, one_turn, turns_on, same_moment, moments, books_stay}
-use Rattle.sg_table.specs.Batches.{arrived, told_by}
-use Rattle.sg_table.specs.Orders.{at_call, at_no_call, comes_to, told_where, told_at_call, told_at_no_call, told_each, AgreeByCall, TellTheSame, SameInEveryOrder, HaveToldAs, IsBatchedAs}
+use Rattle.sg_table.specs.Batches.{arrived}
+use Rattle.sg_table.specs.Orders.{at_call, at_no_call, comes_to, told_where, told_at_call, told_at_no_call, told_each, TellTheSame, SameInEveryOrder, IsBatchedAs}
 use Rattle.sg_table.specs.Parts.{datagram_of, TakesTurns}
 use Rattle.sg_table.specs.Standing.{TableStandsFor}
 use Rattle.sg_table.specs.Values.{TableValue}

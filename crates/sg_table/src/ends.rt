@@ -49,7 +49,7 @@ impl Calls {
         match reject_at(&mut self.by_slot, i, self.moment) {
             Ok(true) => nothing(),
             Ok(false) => {
-                self.by_slot.remove(i);
+                drop(self.by_slot.remove(i));
                 one(Outcome::Ended {
                     call: id,
                     slot,
@@ -70,7 +70,7 @@ impl Calls {
             return refused(id, Refusal::CallUnknown);
         };
         let told = ended(&self.by_slot[i], Why::Bye);
-        self.by_slot.remove(i);
+        drop(self.by_slot.remove(i));
         one(told)
     }
 }

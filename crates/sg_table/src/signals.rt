@@ -102,8 +102,14 @@ impl Calls {
             &mut self.books,
         ) {
             Ok(()) => Ok(self.seat(id, slot, call, Outcome::Live { call: id })),
-            Err(Fault::Refused(cause)) => Ok(refused(id, cause)),
-            Err(Fault::NoMemory) => Err(NoMemory),
+            Err(Fault::Refused(cause)) => {
+                drop(call);
+                Ok(refused(id, cause))
+            }
+            Err(Fault::NoMemory) => {
+                drop(call);
+                Err(NoMemory)
+            }
         }
     }
 
@@ -170,8 +176,14 @@ impl Calls {
                 };
                 Ok(self.seat(id, slot, call, outcome))
             }
-            Err(Fault::Refused(why)) => Ok(refused(id, why)),
-            Err(Fault::NoMemory) => Err(NoMemory),
+            Err(Fault::Refused(why)) => {
+                drop(call);
+                Ok(refused(id, why))
+            }
+            Err(Fault::NoMemory) => {
+                drop(call);
+                Err(NoMemory)
+            }
         }
     }
 

@@ -46,8 +46,8 @@ returns-in_err-call-clause-needs c =
     let e : is_some (position (has_id c.args.id) c.args.self.now.calls) ≡ false = ap (λ l. is_some (position (has_id c.args.id) l)) (sym at) ∙ ap is_some (sym c.position_of.ensures.value) ∙ sym c.is_some.ensures ∙ c.if-is_some.false in
     manual_needs c.args.self.now w s.holds c.args.id e (subst (λ (l : List CallValue). length l < 256) at2 c.in-Some.ensures.room))
 
-pub returns-clause-needs : goal.returns-clause-needs
-returns-clause-needs c = λ w s.
+pub returns-in-Err-NoMemory-clause-needs : goal.returns-in-Err-NoMemory-clause-needs
+returns-in-Err-NoMemory-clause-needs c = λ w s.
     let at : c.deref.result.now ≡ c.args.self.now.calls = c.deref.ensures.value ∙ ap (λ (v : TableValue). v.calls) c.self.view_is in
     let at2 : c.deref-2.result.now ≡ c.args.self.now.calls = c.deref-2.ensures.value ∙ ap (λ (v : TableValue). v.calls) c.self.view_is in
     let e : is_some (position (has_id c.args.id) c.args.self.now.calls) ≡ false = ap (λ l. is_some (position (has_id c.args.id) l)) (sym at) ∙ ap is_some (sym c.position_of.ensures.value) ∙ sym c.is_some.ensures ∙ c.if-is_some.false in
@@ -68,7 +68,7 @@ returns-in-Ok-clause-told c = λ w s.
 
 pub returns-in-Err-Refused-clause-told : goal.returns-in-Err-Refused-clause-told
 returns-in-Err-Refused-clause-told c = λ w s.
-    let tells : Tells c.refused-in-Err-Refused.result.items (Refused (Some c.args.id) c.in-Err-Refused.cause ∷ []) = rw c.in-Err-Refused.field-0-is at c.refused-in-Err-Refused.ensures in
+    let tells : Tells c.refused-in-Err-Refused.result.items (Refused (Some c.args.id) c.in-Err-Refused.cause ∷ []) = c.refused-in-Err-Refused.ensures in
     let h : ManualCall = record { id = c.args.id; secure = c.args.secure; plain = c.args.plain; roc = c.args.roc; window = c.args.window; from_peer = c.args.from_peer.now; to_peer = c.args.to_peer.now } in
     let s' : TableStandsFor (the_view c.self.inside) w = subst (λ v. TableStandsFor v w) (sym c.self.view_is) s in
     let order = order_of c.calls_in_order.ensures (the_view c.self.inside) w s' in

@@ -22,8 +22,8 @@ pub returns-in_err-call-clause-needs : goal.returns-in_err-call-clause-needs
 returns-in_err-call-clause-needs c =
     on_err _ ((w : World) → TableStandsFor c.args.self.now w → early_offer w (call_of w c.args.id) ≡ None) (λ w s. offer_needs c.args.self.now w s.holds c.args.id c.requires.new c.requires.room)
 
-pub returns-clause-needs : goal.returns-clause-needs
-returns-clause-needs c = λ w s. offer_needs c.args.self.now w s.holds c.args.id c.requires.new c.requires.room
+pub returns-in-Err-NoMemory-clause-needs : goal.returns-in-Err-NoMemory-clause-needs
+returns-in-Err-NoMemory-clause-needs c = λ w s. offer_needs c.args.self.now w s.holds c.args.id c.requires.new c.requires.room
 
 pub returns-in-Ok-clause-told : goal.returns-in-Ok-clause-told
 returns-in-Ok-clause-told c = λ w s.
