@@ -59,7 +59,9 @@ fn write_numbers<R: Threads + Sync, K: Sink, G: Gate + Sync>(
     let Ok(mut table) = Table::make(alloc) else {
         return Err(Status::NoMemory);
     };
-    let Ok(summary) = traffic(rt, alloc, calls, start, &mut table, workers, gate) else {
+    let counted = traffic(rt, alloc, calls, start, &mut table, workers, gate);
+    drop(table);
+    let Ok(summary) = counted else {
         return Err(Status::NoMemory);
     };
     let Ok(text) = summary_text(alloc, &summary) else {
