@@ -52,7 +52,19 @@ not_relayed turns old = record {
     read = added_none old.readings;
     drew = added_none old.drawn;
     ends = record {
-      part = record { told = []; of_outcomes = refl; asked = ([], refl); sent = ([], refl, tt); written = ([], refl) };
+      part = record {
+        done = [];
+        others = [];
+        outcomes_are = refl;
+        before = [];
+        last = [];
+        calls_are = refl;
+        lines = [];
+        piece = [];
+        out_is = refl;
+        whole = record { told = []; of_outcomes = refl; asked = refl; sent = refl; written = refl };
+        next = inl (refl, refl);
+      };
       good = tt;
     };
     bound = omega arith;
