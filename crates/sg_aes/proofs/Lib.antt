@@ -3,4 +3,3 @@ pub mod LaneLemmas
 pub mod PairLemmas
 pub mod KeyLemmas
 pub mod CipherLemmas
-pub mod ReferenceLemmas

@@ -4,7 +4,6 @@
 mod keys;
 mod lanes;
 pub mod laws;
-pub mod reference;
 mod schedule;
 
 pub use schedule::Schedule;

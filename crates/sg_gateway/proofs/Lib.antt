@@ -13,7 +13,6 @@ pub mod Highest
 pub mod InTurn
 pub mod Kept
 pub mod Lives
-pub mod ManualCalls
 pub mod NewSessions
 pub mod OnlySeals
 pub mod OpenedAndPut
@@ -34,6 +33,5 @@ pub mod Sessions
 pub mod Signals
 pub mod Sound
 pub mod StaysAway
-pub mod ToldInCall
 pub mod ToldInWorld
 pub mod Used

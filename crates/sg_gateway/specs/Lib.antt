@@ -12,7 +12,6 @@ pub mod Events
 pub mod Generations
 pub mod Legs
 pub mod Lives
-pub mod ManualCalls
 pub mod Octets
 pub mod Order
 pub mod Owned

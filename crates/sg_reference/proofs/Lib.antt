@@ -1,8 +1,0 @@
-mod Answers
-mod DoneLists
-mod ManyKeys
-mod ManualCalls
-mod NextPorts
-mod Reused
-mod ToldInCall
-mod ToldInWorld

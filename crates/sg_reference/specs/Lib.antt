@@ -1,4 +1,0 @@
-pub mod Answers
-pub mod Passed
-pub mod Reused
-pub mod Served
