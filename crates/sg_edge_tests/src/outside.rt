@@ -3,8 +3,7 @@ ghost use Rattle.std.specs.Prelude.{◌≡◌, IfOk};
 use sg_base::{Address, Failed, Octets, PAD_MOST, Pad};
 use sg_edge::{
     Clock, Kept, Link, MemClock, MemLink, MemNoise, MemSink, MemSource, Noise, Receipt, RngNoise,
-    Sink, Source, StdSink, StdSource, SureClock, SureLink, SureNoise, SureSink, SureSource,
-    SystemRng, UdpLink, WallClock, write_all,
+    Source, StdSink, StdSource, SureSink, SystemRng, UdpLink, WallClock, write_all,
 };
 use std::io;
 use std::io::{ErrorKind, Read, Write};
@@ -121,15 +120,6 @@ fn source_in_memory(rt: HostRuntime) -> Result<(), Fail> {
 }
 
 #[test]
-fn slow_source_in_memory(rt: HostRuntime) -> Result<(), Fail> {
-    let octets = Octets::copy_of(rt.alloc(), b"ab")?;
-    let mut slow = MemSource::limited(octets, 1, [1, 3].to_vec(rt.alloc())?);
-    reads(&rt, &mut slow, &[None, Some((*b"a\0\0\0", 1))]);
-    reads(&rt, &mut slow, &[None, Some((*b"b\0\0\0", 1))]);
-    Ok(())
-}
-
-#[test]
 fn sink_in_memory(rt: HostRuntime) -> Result<(), Fail> {
     let mut sink = MemSink::make(rt.alloc(), [2].to_vec(rt.alloc())?);
     for (octets, told) in [(b"abc", Ok(())), (b"def", Err(Failed)), (b"ghi", Ok(()))] {
@@ -140,11 +130,10 @@ fn sink_in_memory(rt: HostRuntime) -> Result<(), Fail> {
 }
 
 #[test]
-fn slow_sink_in_memory(rt: HostRuntime) -> Result<(), Fail> {
-    let mut slow = MemSink::limited(rt.alloc(), 1, [3].to_vec(rt.alloc())?);
-    assert!(rt; write_all(&mut slow, b"abc") == Err(Failed));
-    assert!(rt; slow.written() == Some(b"ab".as_slice()));
-    assert!(rt; slow.write(b"xyz") == Ok(1));
+fn sure_sink_in_memory(rt: HostRuntime) -> Result<(), Fail> {
+    let mut sink = SureSink::make(rt.alloc());
+    assert!(rt; write_all(&mut sink, b"abc") == Ok(()));
+    assert!(rt; sink.written() == Some(b"abc".as_slice()));
     Ok(())
 }
 
@@ -154,17 +143,6 @@ const FIVE: [Option<([u8; 4], usize)>; 3] = [
     Some((*b"e\0\0\0", 1)),
     Some(([0; 4], 0)),
 ];
-
-#[test]
-fn sure_forms(rt: HostRuntime) -> Result<(), Fail> {
-    let mut source = SureSource::make(Octets::copy_of(rt.alloc(), b"abcde")?);
-    reads(&rt, &mut source, &FIVE);
-    let mut sink = SureSink::make(rt.alloc());
-    assert!(rt; write_all(&mut sink, b"abc") == Ok(()));
-    assert!(rt; sink.write(b"de") == Ok(2));
-    assert!(rt; sink.written() == Some(b"abcde".as_slice()));
-    Ok(())
-}
 
 #[test]
 fn forms_of_the_system(rt: HostRuntime) -> Result<(), Fail> {
@@ -262,20 +240,6 @@ fn link_in_memory(rt: HostRuntime) -> Result<(), Fail> {
     Ok(())
 }
 
-#[test]
-fn sure_link(rt: HostRuntime) -> Result<(), Fail> {
-    let mut link = SureLink::make(rt.alloc(), receipts(&rt)?);
-    let mut pad = Pad::make(rt.alloc())?;
-    assert!(rt; link.bind(20000) == Ok(()));
-    assert!(rt; link.receive(&mut pad) == got(20000, PEER));
-    assert!(rt; link.receive(&mut pad) == Ok(Receipt::Nothing));
-    assert!(rt; link.receive(&mut pad) == got(20002, PEER));
-    assert!(rt; link.receive(&mut pad) == Ok(Receipt::Nothing));
-    assert!(rt; link.send(20002, PEER, b"xy") == Ok(()));
-    assert!(rt; link.unbind(20000) == Ok(()));
-    Ok(())
-}
-
 /// Two octets of noise; none where the draw failed.
 fn one_draw<N: Noise>(noise: &mut N) -> Option<[u8; 2]> {
     let mut part = [1; 2];
@@ -296,29 +260,12 @@ fn clock_in_memory(rt: HostRuntime) -> Result<(), Fail> {
 }
 
 #[test]
-fn sure_clock(rt: HostRuntime) -> Result<(), Fail> {
-    let mut sure = SureClock::make([7].to_vec(rt.alloc())?);
-    assert!(rt; sure.now() == Ok(7));
-    assert!(rt; sure.now() == Ok(7));
-    assert!(rt; SureClock::make(Vec::new(rt.alloc())).now() == Ok(0));
-    Ok(())
-}
-
-#[test]
 fn noise_in_memory(rt: HostRuntime) -> Result<(), Fail> {
     let octets = Octets::copy_of(rt.alloc(), b"abc")?;
     let mut noise = MemNoise::make(octets, [2].to_vec(rt.alloc())?);
     for drawn in [Some(*b"ab"), None, Some(*b"c\0"), Some([0; 2])] {
         assert!(rt; one_draw(&mut noise) == drawn);
     }
-    Ok(())
-}
-
-#[test]
-fn sure_noise(rt: HostRuntime) -> Result<(), Fail> {
-    let mut sure = SureNoise::make(Octets::copy_of(rt.alloc(), b"xyz")?);
-    assert!(rt; one_draw(&mut sure) == Some(*b"xy"));
-    assert!(rt; one_draw(&mut sure) == Some(*b"z\0"));
     Ok(())
 }
 
