@@ -25,8 +25,8 @@ from pathlib import Path
 BENCH = Path(__file__).resolve().parent
 sys.path.insert(0, str(BENCH.parent / "examples/live"))
 
-from driver import Driver  # noqa: E402
 from ends import PLAIN, SECURE, program, require_free  # noqa: E402
+from driver import Driver  # noqa: E402
 from rtpengine import Far, port_of, text_of  # noqa: E402
 
 SUITE = "AES_CM_128_HMAC_SHA1_80"
@@ -75,7 +75,7 @@ class Srtpgw:
 
 def key_of(text):
     """The key of a text's crypto line."""
-    return base64.b64decode(re.search(r"a=crypto:1 \S+ inline:([A-Za-z0-9+/=]+)", text)[1]).hex()
+    return base64.b64decode(re.search(rb"a=crypto:1 \S+ inline:([A-Za-z0-9+/=]+)", text)[1]).hex()
 
 
 class Rtpengine:

@@ -19,20 +19,15 @@ import socket
 import sys
 import time
 
-from driver import Driver, Refused
 from ends import program, require_free
+from descriptions import carried, looked_at
+from driver import Driver, Refused
 
 HOME = "127.0.0.1"
 PORTS = {"secure": 5070, "plain": 5072}
 FAR = {"secure": "plain", "plain": "secure"}
 # The short names of headers (RFC 3261, 7.3.3).
 SHORT = {"v": "via", "f": "from", "t": "to", "i": "call-id", "m": "contact"}
-KEYS = ("a=crypto", "a=key-mgmt")
-# What would lead media past the gateway isn't handed on (docs/driving.md).
-LEFT_OUT = {
-    "crypto", "key-mgmt", "rtcp", "rtcp-mux", "candidate", "end-of-candidates", "remote-candidates", "ice-ufrag",
-    "ice-pwd", "ice-options", "ice-lite", "fingerprint", "setup",
-}
 
 
 class Message:
@@ -46,7 +41,7 @@ class Message:
         self.headers = [(SHORT.get(name, name), value) for name, value in names]
         # A telephone of several addresses may name another one than that which it sends from, and the gateway takes
         # plain packets from the named one alone. So a text gets the address that its message came from.
-        self.body = re.sub(rb"(?m)^c=IN IP4 \S+", b"c=IN IP4 " + source[0].encode(), body).decode(errors="replace")
+        self.body = re.sub(rb"(?m)^c=IN IP4 \S+", b"c=IN IP4 " + source[0].encode(), body)
         self.source = source
 
     def all(self, name):
@@ -71,7 +66,7 @@ class Dialog:
         self.number = 1
         self.waiting = None    # the INVITE from this side that hasn't been answered
         self.invited = None    # the INVITE to this side that hasn't been answered
-        self.said, self.given = "", ""   # its last accepted text, and the gateway's last one for it
+        self.said, self.given = b"", b""   # its last accepted text, and the gateway's last one for it
         self.passes = False    # whether the open offer goes past the gateway
 
 
@@ -96,7 +91,7 @@ class Server:
 
     # ---- messages
 
-    def reply(self, side, request, code, words, text="", tag=""):
+    def reply(self, side, request, code, words, text=b"", tag=""):
         lines = [f"SIP/2.0 {code} {words}"] + [f"Via: {via}" for via in request.all("via")]
         to = request.get("to")
         to += f";tag={tag}" if tag and ";tag=" not in to else ""
@@ -104,7 +99,7 @@ class Server:
                   f"CSeq: {request.get('cseq')}", f"Contact: <sip:gateway@{HOME}:{PORTS[side]}>"]
         self.send(side, lines, text, request.source)
 
-    def ask(self, half, method, text="", number=None):
+    def ask(self, half, method, text=b"", number=None):
         number, place = number or half.number, f"{HOME}:{PORTS[half.side]}"
         # ACK and CANCEL belong to their INVITE.
         branch = f"z9hG4bK{half.call_id}.{number}" + ("" if method == "BYE" else ".i")
@@ -115,8 +110,7 @@ class Server:
             half.number += 1
         self.send(half.side, lines, text, half.target)
 
-    def send(self, side, lines, text, target):
-        body = text.encode()
+    def send(self, side, lines, body, target):
         lines += ["Content-Type: application/sdp"] if body else []
         octets = "\r\n".join(lines + [f"Content-Length: {len(body)}", "", ""]).encode() + body
         self.sockets[side].sendto(octets, target)
@@ -262,35 +256,6 @@ class Server:
     def close(self):
         for own in self.sockets.values():
             own.close()
-
-
-def parts(text):
-    """The session part and the media of a text, each a list of lines."""
-    found = [[]]
-    for line in text.splitlines():
-        if line.startswith("m="):
-            found.append([])
-        found[-1].append(line)
-    return found
-
-
-def looked_at(text):
-    """What the gateway looks at in a text: ports, profiles, addresses and keys."""
-    lines = (line for part in parts(text) for line in part if line.startswith(("m=", "c=", *KEYS)))
-    return [line.split(" ")[:3] if line.startswith("m=") else line for line in lines]
-
-
-def carried(text, given):
-    """A text for the other side, with the ports and keys of the one that the gateway gave it before."""
-    told = []
-    for part, ours in zip(parts(text), parts(given)):
-        for line in part:
-            if line.startswith("m="):
-                line = " ".join([line.split(" ")[0], *ours[0].split(" ")[1:3], *line.split(" ")[3:]])
-            if not line.startswith("a=") or line[2:].split(":")[0] not in LEFT_OUT:
-                told.append(f"c=IN IP4 {HOME}" if line.startswith("c=") else line)
-        told += [line for line in ours if line.startswith(KEYS)]
-    return "".join(line + "\r\n" for line in told)
 
 
 def inner(value):

@@ -14,8 +14,8 @@ import wave
 from pathlib import Path
 
 from b2bua import PORTS, Server
-from driver import Driver
 from ends import PLAIN_RTP, is_bound, program, require_free, wait_until
+from driver import Driver
 
 SECONDS = 10
 PHONE, PLAIN_PHONE, ECHO = ("127.0.0.1", 5060), ("127.0.0.1", 5062), ("127.0.0.1", 5080)

@@ -8,11 +8,11 @@ import tempfile
 import time
 from pathlib import Path
 
-from driver import Driver
 from ends import (
     End, Key, NEAR_WRAP, PLAIN, PLAIN_RTP, SECURE, is_bound, numbers_of, packets_of, payloads_of, program, require_free,
     speech, told, wait_until,
 )
+from driver import Driver
 
 SECONDS = 8
 

@@ -11,6 +11,10 @@ import threading
 import time
 from pathlib import Path
 
+TOP = Path(__file__).resolve().parents[2]
+# The driver stands there; so a program of this folder imports from here before it imports the driver.
+sys.path.insert(0, str(TOP / "tools"))
+
 # Where the ends of the call stand, and the gateway's ports of the first call.
 SECURE, PLAIN = ("127.0.0.1", 40000), ("127.0.0.1", 41000)
 SECURE_RTP, SECURE_RTCP, PLAIN_RTP, PLAIN_RTCP = range(20000, 20004)
@@ -24,11 +28,10 @@ SSRC = 0x5EED
 def program():
     """The gateway to try: what SRTPGW names, or the one at the top of the repository. Ends the program with 77 where
     that one isn't built."""
-    top = Path(__file__).resolve().parents[2]
-    if not os.environ.get("SRTPGW") and not (top / "crates/srtpgw/out/srtpgw").exists():
+    if not os.environ.get("SRTPGW") and not (TOP / "crates/srtpgw/out/srtpgw").exists():
         print("not run: the program isn't built; `./srtpgw replay < /dev/null` builds it, in up to an hour", file=sys.stderr)
         sys.exit(77)
-    return os.environ.get("SRTPGW") or str(top / "srtpgw")
+    return os.environ.get("SRTPGW") or str(TOP / "srtpgw")
 
 
 def speech(seconds, seed=1):

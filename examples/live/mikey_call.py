@@ -6,11 +6,11 @@ import sys
 import threading
 import time
 
-from driver import Driver
 from ends import (
     End, PLAIN, PLAIN_RTCP, PLAIN_RTP, SECURE, SECURE_RTCP, SECURE_RTP, numbers_of, packets_of, payloads_of, program,
     require_free, speech, told,
 )
+from driver import Driver
 from sealed import MasterKey, Opening, Sealing, text_of
 
 from mikey import DEFAULTS, Exchange, accept, answered, read_parts
@@ -46,7 +46,7 @@ def masters(exchange):
 def offered_by_the_gateway(driver, call):
     """The plain side calls, and the gateway is the initiator."""
     offer = driver.offer_plain(call, text_of("bob", PLAIN_MEDIA, SSRC_LINE), peer=PHONE.decode())
-    message = message_of(offer)
+    message = message_of(offer.decode())
     _, keys = accept(message, [(PHONE, GATEWAY, SHARED)], [], now())
     _, csb, entries, payloads = read_parts(message)
     exchange = Exchange(SHARED, 0, keys, entries, [], [GATEWAY, PHONE], csb=csb, random=payloads[1][1][1:])
@@ -67,7 +67,7 @@ def offered_by_the_telephone(driver, call):
     driver.offer_secure(call, text_of("alice", SECURE_MEDIA, session=[line_of(message)]))
     text = driver.answer(call, text_of("bob", PLAIN_MEDIA, SSRC_LINE))
     expected = exchange.response(GATEWAY, answered(exchange.entries, [GATEWAYS_SSRC]))
-    if message_of(text) != expected:
+    if message_of(text.decode()) != expected:
         raise ValueError("the gateway's response isn't the expected one")
     print(f"the telephone's message has {len(message)} octets, the gateway's response is as expected")
     own, gateways = masters(exchange)

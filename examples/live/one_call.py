@@ -9,8 +9,11 @@ the UDP ports 20000 to 20003, 40000 and 41000 of 127.0.0.1.
 
 import socket
 import sys
+from pathlib import Path
 
-from gateway import Gateway
+sys.path.insert(0, str(Path(__file__).resolve().parents[2] / "tools"))
+
+from gateway import Gateway  # noqa: E402
 
 PEER, PLAIN = ("127.0.0.1", 40000), ("127.0.0.1", 41000)
 KEYS = ("RAW80:cebe321f6ff7716b6fd4ab49af256a156d38baa4", "RAW80:" + "0b" * 20)

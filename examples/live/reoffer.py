@@ -6,10 +6,10 @@ import sys
 import threading
 import time
 
-from driver import Driver
 from ends import (
     End, PLAIN, PLAIN_RTP, SECURE, SECURE_RTP, numbers_of, packets_of, payloads_of, program, require_free, speech, told,
 )
+from driver import Driver
 from sealed import MasterKey, Opening, Sealing, crypto_line, crypto_of, text_of
 
 SECONDS = 6
@@ -56,14 +56,14 @@ def offered_by_the_telephone(driver, telephone, late=0.0):
     own = new_master()
     driver.offer_secure(CALL, text_of("alice", SECURE_MEDIA, crypto_line(1, own)))
     answer = driver.answer(CALL, text_of("bob", PLAIN_MEDIA))
-    telephone.agree(own, crypto_of(answer)["1"], late)
+    telephone.agree(own, crypto_of(answer.decode())["1"], late)
 
 
 def offered_to_the_telephone(driver, telephone, late=0.0):
     own = new_master()
     offer = driver.offer_plain(CALL, text_of("bob", PLAIN_MEDIA))
     driver.answer(CALL, text_of("alice", SECURE_MEDIA, crypto_line(1, own)))
-    telephone.agree(own, crypto_of(offer)["1"], late)
+    telephone.agree(own, crypto_of(offer.decode())["1"], late)
 
 
 def main():

@@ -9,11 +9,11 @@ import tempfile
 import threading
 import time
 
-from driver import Driver, Refused
 from ends import (
     End, PLAIN, PLAIN_RTP, is_bound, numbers_of, packets_of, payloads_of, program, require_free,
     speech, told, wait_until,
 )
+from driver import Driver, Refused
 
 SECONDS = 4
 CONTROL, FAR = ("127.0.0.1", 22_222), ("127.0.0.1", 45_000)
@@ -30,7 +30,7 @@ def bencoded(value):
         return b"d" + b"".join(bencoded(key) + bencoded(value[key]) for key in sorted(value)) + b"e"
     if isinstance(value, list):
         return b"l" + b"".join(map(bencoded, value)) + b"e"
-    octets = value.encode()
+    octets = value.encode() if isinstance(value, str) else value
     return b"%d:%s" % (len(octets), octets)
 
 
@@ -49,7 +49,7 @@ class Far:
         wait_until(lambda: is_bound(CONTROL[1]), what="rtpengine")
 
     def ask(self, command, call, text=None, **more):
-        """The session description that it gives, or None."""
+        """The session description that it gives, as octets, or None."""
         request = {"command": command, "call-id": f"call-{call}", "from-tag": "near", **more}
         if text is not None:
             request |= {"sdp": text, "replace": ["origin", "session-connection"], "ICE": "remove"}
@@ -59,7 +59,7 @@ class Far:
         found = re.search(rb"3:sdp(\d+):", answer)
         if b"6:result2:ok" not in answer:
             raise RuntimeError(answer)
-        return answer[found.end():found.end() + int(found[1])].decode() if found else None
+        return answer[found.end():found.end() + int(found[1])] if found else None
 
     def close(self):
         self.process.terminate()
@@ -98,11 +98,11 @@ def offered_there(driver, far, call, suite):
 
 
 def port_of(text):
-    return int(re.search(r"m=audio (\d+)", text)[1])
+    return int(re.search(rb"m=audio (\d+)", text)[1])
 
 
 def suite_of(text):
-    return re.search(r"a=crypto:\d+ (\S+)", text)[1]
+    return re.search(rb"a=crypto:\d+ (\S+)", text)[1].decode()
 
 
 def one_call(driver, far, call, keyed, suite):

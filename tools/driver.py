@@ -6,8 +6,11 @@
     driver.bye(7)
     status = driver.close()
 
-A refused signal raises `Refused`, and the call is as it was. Signals may come from several threads; they are
-handled one by one. Needs Python 3.8 and nothing else.
+Texts are octets, in and out; a `str` is taken as UTF-8. A call's number is the caller's choice, from 1 to 4294967293.
+Each signal waits for its outcomes, some two steps of the gateway's ticks (`Gateway`), and raises `Refused` where it is
+refused, with the call as it was, or `Gone` where the gateway's process has ended, with all its calls. Signals may come
+from several threads: those that are told meanwhile are handled behind the same tick, so a server of many calls tells
+each call's signals by a thread of a pool. Needs Python 3.8 and nothing else.
 """
 
 import collections
@@ -21,12 +24,18 @@ TEXT_MOST = 32_768
 
 
 class Refused(Exception):
-    """The gateway's cause, as `KeyReused 3`; docs/refusals.md says what each means."""
+    """The signal is refused, and nothing has changed. Its text is the gateway's cause, as `KeyReused 3`;
+    docs/refusals.md says what each means. `TooLong` and `Field` are the driver's own: such a line would end the
+    gateway's run."""
 
 
 class Driver:
-    """Keeps calls, of numbers from 1. `drops` counts causes by port, `unsent` ports, and `slots` has the slot of each
-    call. `on_end(call, why)` is told of a call that ended by itself; it runs in a thread of the driver's."""
+    """Keeps the calls of one gateway.
+
+    `drops` counts dropped datagrams by `(port, cause)`, `unsent` packets that weren't sent by port, and `slots` has the
+    slot of each call that is there. `on_end(call, why)` is told of a call that ended by itself: `idle` where nothing of
+    it was put out for a minute, `gone` where the gateway's process has ended. It runs in a thread of the driver's own,
+    and may tell signals."""
 
     def __init__(self, program="./srtpgw", on_end=lambda call, why: None, **options):
         self.gateway = Gateway(program, **options)
@@ -39,17 +48,18 @@ class Driver:
     # ---- signals
 
     def offer_secure(self, call, text):
-        """An offer of the secure side. The text for the plain side."""
+        """An offer of the secure side, of a new call or within one. The text for the plain side."""
         return self._signal("sdp", "offer-secure", str(call), "-", hexed(text))
 
     def offer_plain(self, call, text, peer=None):
-        """An offer of the plain side, keyed by crypto lines, or by MIKEY to a named peer. The text for the
-        secure side."""
+        """An offer of the plain side, of a new call or within one; to be keyed by crypto lines, or by MIKEY to the peer
+        of this name, whose key `psk` has told. The text for the secure side."""
         keyed = ["mikey", peer] if peer else ["sdes"]
         return self._signal("sdp", "offer-plain", str(call), *keyed, "-", hexed(text))
 
     def answer(self, call, text):
-        """The answer of the side that didn't offer. The text for the one that did; the call is live."""
+        """The answer of the side that didn't offer. The text for the one that did; the call is live. A refused answer
+        leaves the offer open: `answer` again, or `reject`."""
         return self._signal("live", "answer", str(call), "-", hexed(text))
 
     def manual(self, call, secure, plain, from_peer, to_peer, rollover=0, window=64):
@@ -58,7 +68,7 @@ class Driver:
         self._signal("live", "manual", str(call), *addresses, f"{rollover:08x}", str(window), from_peer, to_peer)
 
     def psk(self, own, peer, key):
-        """A pre-shared key between the gateway's name and a peer's."""
+        """A pre-shared key, 16 to 64 octets, between the gateway's name and a peer's."""
         self._quiet("psk", own, peer, key.hex())
 
     def reject(self, call):
@@ -66,6 +76,7 @@ class Driver:
         self._quiet("reject", str(call))
 
     def bye(self, call):
+        """The call ends."""
         self._signal("ended", "bye", str(call))
 
     def ports(self, call, medium=0):
@@ -89,7 +100,7 @@ class Driver:
                 if outcome[0] == "refused":
                     raise Refused(" ".join(outcome[2:]))
                 if outcome[0] == "sdp":
-                    text = bytes.fromhex(outcome[3]).decode()
+                    text = bytes.fromhex(outcome[3])
                 if outcome[0] == last:
                     return text
 
