@@ -51,8 +51,7 @@ pub fn active_media_are_agreed()
         → (s : Sdp) × (description_of answer ≡ Ok s) × AreAgreedWhereActive a.offer.side a.offer.description.media s.media g.media }
 {}
 
-/// An open offer describes as many media as its call has from then on, and those are as many as the call had, where
-/// it had some.
+/// An accepted offer has as many media as its call from then on; if the call had media before, it is the same number.
 pub fn offers_fit_their_calls()
     ensures described { (h : AtHand) (way : Way) (text : List ℕ) (a : AgreedOffer) → agreed_offer h way text ≡ Ok a
         → length a.offer.description.media ≡ a.media }

@@ -22,7 +22,7 @@ pub wrote_front : (a b : Option (List ℕ)) (part : List ℕ) (r : Result (Unit 
 wrote_front a b part (Ok u) err wrote = absurd (false≢true err)
 wrote_front a b part (Err e) err wrote = (wrote.0, (wrote.1, wrote.2), wrote.3)
 
--- nothing is a front of all
+-- nothing is a prefix of all
 pub none_written : (a : Option (List ℕ)) (octets : List ℕ) → WroteFront a a octets
 none_written a octets = ([], (octets, refl), λ after is. (after, is, sym (append-nil after)))
 

@@ -26,11 +26,11 @@ output_from w events = text (outcomes_from w events)
 abbrev pub IsPrefixOf : {X : Type 0} → List X → List X → Type 0
 IsPrefixOf {X} front all = (rest : List X) × (all ≡ front ++ rest)
 
--- a front of the octets was written
+-- a prefix of the octets was written
 abbrev pub WroteFront : Option (List ℕ) → Option (List ℕ) → List ℕ → Type 0
 WroteFront written written' octets = (front : List ℕ) × IsPrefixOf front octets × Wrote written written' front
 
--- The octets were written, or a front of them.
+-- The octets were written, or a prefix of them.
 abbrev pub IsWritten : Result (Unit {0}) Status → Option (List ℕ) → Option (List ℕ) → List ℕ → Type 0
 IsWritten (Ok u) written written' octets = Wrote written written' octets
 IsWritten (Err Write) written written' octets = WroteFront written written' octets

@@ -80,7 +80,7 @@ rounds_in_whole n calls start below =
     let same : 320 - n + n ≡ 320 = omega (arith, below) in
     subst (λ (m : ℕ). IsFront (with_rounds n (calls_made calls start)).events (with_rounds m (calls_made calls start)).events) same (rounds_front (320 - n) n (calls_made calls start))
 
--- a table that has taken a front of a front has taken a front
+-- a table that has taken a prefix of a prefix has taken a prefix
 pub taken_further : (t : TableValue) (es fs : List Event) → HasTakenFront t es → IsFront es fs → HasTakenFront t fs
 taken_further t es fs taken front =
     let further = front_further taken.taken es fs (record { rest = taken.rest; are = taken.are }) front in

@@ -17,7 +17,7 @@ summary_text s =
     ++ number_line (codes "out") s.out ++ number_line (codes "repeat") s.repeat ++ number_line (codes "badtag") s.badtag
     ++ number_line (codes "other") s.other ++ number_line (codes "sent") s.sent ++ number_line (codes "opened") s.opened
 
--- The octets were written, or a front of them where the sink failed or memory was wanting.
+-- The octets were written, or a prefix of them where the sink failed or memory ran out.
 abbrev pub IsShown : Status → Option (List ℕ) → Option (List ℕ) → List ℕ → Type 0
 IsShown Done written written' octets = IsWritten (Ok tt) written written' octets
 IsShown other written written' octets = IsWritten (Err other) written written' octets

@@ -24,7 +24,7 @@ complete (Script n f) old new octets draws out run a b c = λ all rest told told
     let ends = run.ends in
     absurd (no_fault old.left new.left octets all rest f (λ o. (replayed o draws).stop ≡ AtFault n f) run.took told told' script (λ o whole. in_replay n f o draws whole) ends.0.stops ends.1 ends.2)
 
--- memory was wanting before anything was read
+-- memory ran out before anything was read
 pub untouched : (old : Tellings) → IsReplay NoMemory old old [] [] []
 untouched old = record {
   took = took_none old.left;

@@ -36,7 +36,7 @@ module _ (octets drawn : List ℕ) where
     told = sym (ap (λ (c : Course). output c.events) is ∙ ap output (append-nil es));
   }
 
-  -- where a front of further events' text was written
+  -- where a prefix of further events' text was written
   front_so : (es fs : List Event) (rest : Course) (front : List ℕ) → replayed octets drawn ≡ with_events (es ++ fs) rest → IsPrefixOf front (output_from (world_after empty es) fs)
       → IsPrefixOf (output es ++ front) (output (replayed octets drawn).events)
   front_so es fs rest front is part =

@@ -31,7 +31,7 @@ outcomes_in (Some outcome) = outcome ∷ []
 abbrev pub told_in : List (Option Outcome) → List Outcome
 told_in told = flat_map outcomes_in told
 
--- the sink failed, or memory was wanting
+-- the sink failed, or memory ran out
 abbrev pub IsWant : Status → Type 0
 IsWant status = (status ≡ Write) ⊎ (status ≡ NoMemory)
 
@@ -54,7 +54,7 @@ abbrev pub IsSettled : Result (Unit {0}) Status → World → List Event → Lis
 IsSettled (Ok u) w waited waits stands_for out = (waits ≡ []) × IsStepped (Ok u) w waited stands_for out
 IsSettled (Err status) w waited waits stands_for out = IsStepped (Err status) w waited stands_for out
 
--- What was handled and told is a front of what waited, or all of it.
+-- What was handled and told is a prefix of what waited, or all of it.
 abbrev pub HasRoom : Result (Unit {0}) Status → World → List Event → List Event → (World → Type 0) → List ℕ → Type 0
 HasRoom (Ok u) w waited waits stands_for out = (front : List Event) × (waited ≡ front ++ waits) × IsStepped (Ok u) w front stands_for out
 HasRoom (Err status) w waited waits stands_for out = IsStepped (Err status) w waited stands_for out
@@ -94,7 +94,7 @@ IsPlayed (Err Link) l w waited waits stands_for draws out = ⊥
 IsPlayed (Err Clock) l w waited waits stands_for draws out = ⊥
 IsPlayed (Err TurnsSpent) l w waited waits stands_for draws out = ⊥
 
--- The status is that end, and all that waited was told; or the sink failed or memory was wanting, and a front was.
+-- The status is that end, and all that waited was told; or the sink failed or memory ran out, and a prefix was.
 abbrev pub Closes : Status → Status → World → List Event → List ℕ → Type 0
 Closes end status w waited out =
     ((status ≡ end) × (out ≡ output_from w waited)) ⊎ (IsWant status × IsPrefixOf out (output_from w waited))

@@ -48,6 +48,6 @@ pub record IsReplay (status : Status) (old new : Tellings) (octets draws out : L
   pub ends : Ends status octets draws out new.left
   pub bound : length octets ≤ 2 ^ 30 + 1
 
--- Where the source's octets are a script, the replay handles it to its end, or memory is wanting.
+-- Where the source's octets are a script, the replay handles it to its end, or memory runs out.
 abbrev pub IsComplete : Status → Option (List ℕ) → Option (List ℕ) → Type 0
 IsComplete status left left' = (all rest : List ℕ) → left ≡ Some all → left' ≡ Some rest → IsScript all → (status ≡ Done) ⊎ (status ≡ NoMemory)

@@ -271,7 +271,7 @@ line_so (Err Clock) a b line never = absurd never
 line_so (Err Noise) a b line never = absurd never
 line_so (Err TurnsSpent) a b line never = absurd never
 
--- the ports are held, and the line is written or a front of it
+-- the ports are held, and the line is written or a prefix of it
 pub told_held : (r : Result (Unit {0}) Status) (o : Outcome) (asks : List Ask) (calls : List LinkCall) (out : List ℕ) → asks_of o ≡ asks → ((ok : Bool) → (written_as o ok ≡ o ∷ []) × (sent_as o ok ≡ []))
     → IsHeld (Ok tt) asks calls → IsPrefixOf out (outcome_line o) → (IsOk r → out ≡ outcome_line o) → IfErr r IsOfWriting → AreCarriedOut r (o ∷ []) calls out
 told_held (Ok u) o asks calls out is plain held front whole only = (
@@ -338,7 +338,7 @@ pub handled_none : {T : Type 0} (r : Result T Status) (w : World) (es : List Eve
 handled_none (Ok x) w es stands_for calls out handled = handled.2
 handled_none (Err s) w es stands_for calls out handled = handled.1
 
--- one outcome more was told, or a front of it
+-- one outcome more was told, or a prefix of it
 pub told_more : (r : Result (Unit {0}) Status) (os ps : List Outcome) (a b : List LinkCall) (x y : List ℕ) → AreCarriedOut (Ok tt) os a x → AreCarriedOut r ps b y → AreCarriedOut r (os ++ ps) (a ++ b) (x ++ y)
 told_more (Ok u) os ps a b x y first then = (done_more os ps a b x y first.0 then.0, AreGood-append a b first.1 then.1, none_after a b first.2 then.2)
 told_more (Err s) os ps a b x y first then = (stops_after s os ps a b x y first.0 first.1 then.0, none_after a b first.2 then.1)
@@ -348,7 +348,7 @@ told_longer s os more a x told = (stops_longer s os more a x told.0, told.1)
 
 -- ---- a packet
 
--- the send failed, and the line is written that says so, or a front of it
+-- the send failed, and the line is written that says so, or a prefix of it
 pub told_unsent : (r : Result (Unit {0}) Status) (port : ℕ) (to : Address) (octets : List ℕ) (out : List ℕ) → IsPrefixOf out (outcome_line (Unsent port to)) → (IsOk r → out ≡ outcome_line (Unsent port to))
     → IfErr r IsOfWriting → AreCarriedOut r (Out port to octets ∷ []) (links.Send port to octets false ∷ []) out
 told_unsent (Ok u) port to octets out front whole only = (

@@ -114,7 +114,7 @@ abbrev pub IsAtNext : List Outcome → List LinkCall → List ℕ → Type 0
 IsAtNext others calls out = ((calls ≡ []) × (out ≡ [])) ⊎ ((next : Outcome) × (rest : List Outcome) × (others ≡ next ∷ rest) × IsUntold next calls out)
 
 -- The outcomes before the next one are done, what was asked and what was written alike. Of the next one nothing was
--- done, or what it asks for was asked and a front of its line was written.
+-- done, or what it asks for was asked and a prefix of its line was written.
 pub record IsPart (outcomes : List Outcome) (calls : List LinkCall) (out : List ℕ) : Type 0 where
   pub done : List Outcome
   pub others : List Outcome

@@ -1,4 +1,4 @@
--- Whose failure a part of a relay tells.
+-- Which object's failure each status blames, and which statuses each part of a relay may answer.
 use Rattle.std.specs.Prelude.{◌≡◌, ◌⊎◌, ◌≤◌, ℕ, Bool, Option, Result, Ok, Err}
 use Rattle.sg_edge.specs.Told.{Rose}
 use Rattle.sg_course.specs.Causes.{HasFailed}

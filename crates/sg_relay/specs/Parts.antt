@@ -22,13 +22,13 @@ abbrev pub IsHeld : Result (Unit {0}) Failed → List Ask → List LinkCall → 
 IsHeld (Ok u) asks calls = (asks_in calls ≡ asks) × AreGood calls × (sends_in calls ≡ []) × (receipts_in calls ≡ [])
 IsHeld (Err e) asks calls = IsPrefixOf (asks_in calls) asks × EndsBadly calls × (sends_in calls ≡ []) × (receipts_in calls ≡ [])
 
--- With Link the outcomes were cut off; with every other status a front of them was done, and no call but sends has
+-- With Link the outcomes were cut off; with every other status a prefix of them was done, and no call but sends has
 -- failed.
 abbrev pub StopsWith : Status → List Outcome → List LinkCall → List ℕ → Type 0
 StopsWith Link outcomes calls out = IsCutOff outcomes calls out
 StopsWith other outcomes calls out = IsPart outcomes calls out × AreGood calls
 
--- What the outcomes ask for was done, or a front of it; nothing was received.
+-- What the outcomes ask for was done, or a prefix of it; nothing was received.
 abbrev pub AreCarriedOut : Result (Unit {0}) Status → List Outcome → List LinkCall → List ℕ → Type 0
 AreCarriedOut (Ok u) outcomes calls out = IsDone outcomes calls out × AreGood calls × (receipts_in calls ≡ [])
 AreCarriedOut (Err status) outcomes calls out = StopsWith status outcomes calls out × (receipts_in calls ≡ [])

@@ -49,7 +49,7 @@ pub record IsBroken (p : Passed) : Type 0 where
 -- only at the source's end. With TurnsSpent all turns were taken, and a `tick` line asks for one more. With
 -- Clock a reading comes next, within the turns, with Noise a draw. With Link the link's last call failed: a receive
 -- comes next, or an outcome whose ports are bound or given up, and all before it was done. With every other status all
--- before some outcome was done and written; of that one nothing was, or what it asks for and a front of its line.
+-- before some outcome was done and written; of that one nothing was, or what it asks for and a prefix of its line.
 abbrev pub Ends : Status → ℕ → Passed → Option (List ℕ) → Type 0
 Ends Done turns p left = IsWhole p BehindAll × AtEnd left
 Ends (Script n fault) turns p left =

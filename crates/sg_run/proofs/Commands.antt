@@ -25,7 +25,7 @@ use Rattle.sg_words.specs.declared.command.Command.TheVariants.{Replay, Relay, D
 use Rattle.sg_words.specs.declared.command.CommandFault.{CommandFault}
 use Rattle.sg_words.specs.declared.command.CommandFault.TheVariants as faults
 
--- ---- memory was wanting before anything was done
+-- ---- memory ran out before anything was done
 
 not_replayed : (old : Outside) → HasReplayed NoMemory old old []
 not_replayed old = record {
@@ -220,7 +220,7 @@ replay_not_clock status old new octets draws out run is = replay_not Clock statu
 pub relay_not_usage : (status : Status) (turns : ℕ) (old new : relays.Tellings) (p : Passed) → IsRelay status turns old new p → status ≡ Usage → ⊥
 relay_not_usage status turns old new p run is = (subst (λ s. IsRelay s turns old new p) is run).ends
 
--- a demonstration is done, or the sink failed or memory was wanting
+-- a demonstration is done, or the sink failed or memory ran out
 abbrev IsOfDemo : Status → Type 0
 IsOfDemo status = (status ≡ Done) ⊎ ((status ≡ Write) ⊎ (status ≡ NoMemory))
 
@@ -255,7 +255,7 @@ demo_not_clock status written written' octets shown is = demo_not Clock status w
 pub demo_not_noise : (status : Status) (written written' : Option (List ℕ)) (octets : List ℕ) → IsShown status written written' octets → status ≡ Noise → ⊥
 demo_not_noise status written written' octets shown is = demo_not Noise status written written' octets (λ s. s) shown is
 
--- where the sink didn't fail, a demonstration is done, or memory was wanting
+-- where the sink didn't fail, a demonstration is done, or memory ran out
 pub demo_done : (status : Status) (written written' : Option (List ℕ)) (octets : List ℕ) (old new : ℕ) (failed : Option Bool) → IsShown status written written' octets
     → HasFailed (status ≡ Write) old new failed → ¬ Rose old new → (status ≡ Done) ⊎ (status ≡ NoMemory)
 demo_done status written written' octets old new failed shown cause quiet = elim (of_demo status written written' octets shown) [

@@ -57,7 +57,7 @@ pub record OnlyLinkFailed (old new : Failures) : Type 0 where
   pub noise : ¬ Rose old.noise new.noise
 
 -- This passed between a relay and the outside, and these are its events. Where nothing fails, a send aside, it
--- handles its script to the end, or memory is wanting.
+-- handles its script to the end, or memory runs out.
 pub record HasRelayed (turns : ℕ) (status : Status) (old new : Outside) (events : List Event) : Type 0 where
   pub passed : Passed
   pub is : IsRelay status turns (of_relay old) (of_relay new) passed
@@ -70,7 +70,7 @@ abbrev pub AreTaken : Status → List Event → List Event → Type 0
 AreTaken Done events all = events ≡ all
 AreTaken other events all = IsPrefixOf events all
 
--- The nine lines of the demonstration were written, or a front of them, and these are its events.
+-- The nine lines of the demonstration were written, or a prefix of them, and these are its events.
 pub record HasShown (calls start : ℕ) (status : Status) (old new : Outside) (events : List Event) : Type 0 where
   pub is : IsShown status old.written new.written (summary_text (demonstration calls start))
   pub events_are : AreTaken status events (events_in calls start)

@@ -193,7 +193,7 @@ fn a_call_both_ways(rt: HostRuntime) -> Result<(), Fail> {
     are_sent(&rt, outside.link.calls().ok_or("no record")?, &GOING)
 }
 
-/// A relay in which a call fails answers this, and what it has written is a front of the whole.
+/// A relay in which a call fails answers this, and what it has written is a prefix of the whole.
 fn breaks(
     rt: &(impl Abort + Threads + Sync),
     alloc: Global,

@@ -222,7 +222,7 @@ fn reads_writes_and_draws_that_fail(rt: HostRuntime) -> Result<(), Fail> {
     Ok(())
 }
 
-/// What a replay of the whole call answers, and whether it writes all that is told of it. What it writes is a front of
+/// What a replay of the whole call answers, and whether it writes all that is told of it. What it writes is a prefix of
 /// that.
 fn replays(
     rt: &(impl Abort + Threads + Sync),

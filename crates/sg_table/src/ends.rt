@@ -19,7 +19,7 @@ use sg_gateway::calls_in_order;
 use sg_outcome::{Outcome, Why};
 
 impl Calls {
-    /// A tick: idle calls end, by rising slot, and the others are at this moment. None is before the last one.
+    /// A tick. Idle calls end, in order of slot; the others take this moment, which is not before the last one.
     pub(crate) fn tick(&mut self, now: u64) -> Told
         requires timely { now ≤ 2085978495999 }
         ensures { (w : World) → TableStandsFor self.old w → IsAnswered result.items self.new (ticked w now) }

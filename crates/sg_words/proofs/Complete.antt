@@ -127,7 +127,7 @@ among_some : (k : ErrorKind) (ks : Kinds) → IsAmong k ks → no_fault ks ≡ f
 among_some k [] among = absurd among
 among_some k (x ∷ ks) among = refl
 
--- clap refuses the words of a command for want of memory alone
+-- clap refuses the words of a command only when out of memory
 pub refused_so : (words : Words) (k : ErrorKind) (f : CommandFault) (c : Command) → (k ≡ kind.OutOfMemory) ⊎ IsAmong k (fault_of srtpgw words)
     → (k ≡ kind.OutOfMemory → f ≡ NoMemory) → AreWordsOf words c → (f ≡ NoMemory)
 refused_so words k f c (inl memory) told are = told memory
