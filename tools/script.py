@@ -6,111 +6,59 @@
 
 The options that are events come into the script in the order in which they stand. A capture is a file of the
 classic pcap form; its UDP datagrams to the gateway's ports become `in` lines, each behind a `tick` of its moment.
-Where they were captured elsewhere, `--port CAPTURED=GATEWAY` says which port stands for which. Needs Python 3.8
-alone. What is written holds keys wherever the texts do.
+Where they were captured elsewhere, `--port CAPTURED=GATEWAY` says which port stands for which. With `--live` the
+script is for a relay: a moment would be a wait there, so `tick` and `in` lines are left out. Nothing is written
+unless the whole script can be made. Needs Python 3.8 alone. What is written holds keys wherever the texts do.
 """
 
 import argparse
-import struct
+import collections
 import sys
 from pathlib import Path
 
+from captures import Fault, datagrams, records
+
 GATEWAY_PORTS = range(20_000, 20_000 + 16 * 256)
 DATAGRAM_MOST, TEXT_MOST = 4_352, 32_768
-# By link type (as tcpdump numbers them): where the number of the protocol stands, and where its octets begin.
-LINKS = {1: (12, 14), 113: (14, 16), 276: (0, 20)}
-IP_VERSION_4, VLAN = 0x0800, 0x8100
-RAW, LOOPBACK = 101, 0
-
-
-class Fault(Exception):
-    pass
+# What a relay doesn't take of a replay's script: it has its own clock and its own datagrams.
+NOT_LIVE = ("tick", "in")
 
 
 # ---- captures
 
-def records(octets):
-    """The link type, and of each record its moment in milliseconds and its octets."""
-    if len(octets) < 24:
-        raise Fault("the capture has no header")
-    forms = {b"\xa1\xb2\xc3\xd4": (">", 1_000), b"\xd4\xc3\xb2\xa1": ("<", 1_000),
-             b"\xa1\xb2\x3c\x4d": (">", 1_000_000), b"\x4d\x3c\xb2\xa1": ("<", 1_000_000)}
-    if octets[:4] not in forms:
-        raise Fault("the capture isn't of the classic pcap form (`tcpdump -r FILE -w NEW` makes it of pcapng)")
-    order, fraction = forms[octets[:4]]
-    yield struct.unpack(order + "I", octets[20:24])[0] & 0xFFFFFFF
-    at = 24
-    while at < len(octets):
-        if len(octets) < at + 16:
-            raise Fault(f"the capture is cut at octet {at}")
-        seconds, parts, kept, _ = struct.unpack(order + "IIII", octets[at:at + 16])
-        if len(octets) < at + 16 + kept:
-            raise Fault(f"the capture is cut at octet {at}")
-        yield 1_000 * seconds + parts // fraction, octets[at + 16:at + 16 + kept]
-        at += 16 + kept
-
-
-def packet_of(link, frame):
-    """The IPv4 packet of a frame, or a word why there is none."""
-    if link in (RAW, LOOPBACK):
-        packet = frame[4 * (link == LOOPBACK):]
-    elif link in LINKS:
-        named, begins = LINKS[link]
-        while frame[named:named + 2] == struct.pack(">H", VLAN):
-            named, begins = begins + 2, begins + 4
-        if frame[named:named + 2] != struct.pack(">H", IP_VERSION_4):
-            return "not IPv4"
-        packet = frame[begins:]
-    else:
-        raise Fault(f"link type {link} isn't known")
-    return packet if packet[:1] and packet[0] >> 4 == 4 else "not IPv4"
-
-
-def datagram_of(packet):
-    """Source address, destination port and octets of a packet's UDP datagram, or a word why there is none."""
-    if len(packet) < 20:
-        return "cut short"
-    head, total, fragment = 4 * (packet[0] & 15), int.from_bytes(packet[2:4], "big"), int.from_bytes(packet[6:8], "big")
-    if packet[9] != 17:
-        return "not UDP"
-    if fragment & 0x3FFF:
-        return "fragments"
-    if len(packet) < total or total < head + 8:
-        return "cut short"
-    source, port, length = struct.unpack(">HHH", packet[head:head + 6])
-    if length < 8 or head + length > total:
-        return "malformed"
-    return ".".join(map(str, packet[12:16])) + f":{source}", port, packet[head + 8:head + length]
+def why_not(datagram, port):
+    """A word why a datagram to a port isn't taken, or None."""
+    if port not in GATEWAY_PORTS:
+        return "other ports"
+    return "too long" if len(datagram.octets) > DATAGRAM_MOST else None
 
 
 def lines_of(path, ports, skipped):
     """The lines of a capture. What isn't taken is counted by its cause."""
-    found = records(Path(path).read_bytes())
-    link, last = next(found), -1
-    for moment, frame in found:
-        datagram = packet_of(link, frame)
-        datagram = datagram if isinstance(datagram, str) else datagram_of(datagram)
+    last = -1
+    for datagram in datagrams(Path(path).read_bytes()):
         if isinstance(datagram, str):
-            skipped[datagram] = skipped.get(datagram, 0) + 1
+            skipped[datagram] += 1
             continue
-        source, port, octets = datagram
+        port = int(datagram.to.rsplit(":", 1)[1])
         port = ports.get(port, port)
-        why = "other ports" if port not in GATEWAY_PORTS else "too long" if len(octets) > DATAGRAM_MOST else None
+        why = why_not(datagram, port)
         if why:
-            skipped[why] = skipped.get(why, 0) + 1
+            skipped[why] += 1
             continue
-        if moment > last:
-            yield f"tick {moment}"
-            last = moment
-        yield f"in {port} {source} {octets.hex() or '-'}"
+        if datagram.moment > last:
+            yield f"tick {datagram.moment}"
+            last = datagram.moment
+        yield f"in {port} {datagram.source} {datagram.octets.hex() or '-'}"
 
 
 # ---- signals
 
 def text_of(path):
-    """A session description as a field. Its lines get their ends, and empty lines behind them go."""
-    lines = Path(path).read_text().rstrip().splitlines()
-    octets = "".join(line + "\r\n" for line in lines).encode()
+    """A session description as a field, its octets as they are. Its lines end with a line feed in the file, with or
+    without a carriage return, and get both; empty lines behind them go."""
+    lines = Path(path).read_bytes().rstrip(b"\r\n").split(b"\n")
+    octets = b"".join(line[:-1] + b"\r\n" if line.endswith(b"\r") else line + b"\r\n" for line in lines)
     if len(octets) > TEXT_MOST:
         raise Fault(f"{path} has more than {TEXT_MOST} octets")
     return octets.hex() or "-"
@@ -157,9 +105,16 @@ def words():
     parser.add_argument("--call", type=int, default=1, help="the call's number, by default 1")
     parser.add_argument("--window", type=int, default=64, help="the window of a call with keys by hand")
     parser.add_argument("--noise", default="-", metavar="HEX", help="304 octets for the gateway's keys, else drawn")
+    parser.add_argument("--live", action="store_true", help="for a relay: no `tick` and no `in` lines")
     parser.add_argument(
-        "--port", action="append", default=[], metavar="CAPTURED=GATEWAY", help="which port stands for which")
+        "--port", action="append", default=[], type=pair, metavar="CAPTURED=GATEWAY", help="which port stands for which")
     return parser
+
+
+def pair(text):
+    """The two ports of `CAPTURED=GATEWAY`."""
+    captured, _, own = text.partition("=")
+    return int(captured), int(own)
 
 
 def starting(events):
@@ -171,22 +126,30 @@ def starting(events):
     return [f"tick {moment}" for moment, _ in list(records(Path(captures[0]).read_bytes()))[1:2]]
 
 
+def script(given, skipped):
+    """All lines of the script."""
+    events = getattr(given, "events", None) or []
+    made = ["srtpgw 1", *starting(events)]
+    for name, values in events:
+        made += lines_of(values, dict(given.port), skipped) if name == "capture" else [line(name, values, given)]
+    if given.live:
+        kept = [text for text in made if text.split(" ")[0] not in NOT_LIVE]
+        skipped["`tick` and `in` lines, which a relay has of itself"] += len(made) - len(kept)
+        return kept
+    return made
+
+
 def main():
     given = words().parse_args()
-    events = getattr(given, "events", None) or []
-    ports = {int(captured): int(own) for captured, own in (pair.split("=") for pair in given.port)}
-    skipped = {}
+    skipped = collections.Counter()
     try:
-        for text in ["srtpgw 1", *starting(events)]:
-            print(text)
-        for name, values in events:
-            for text in lines_of(values, ports, skipped) if name == "capture" else [line(name, values, given)]:
-                print(text)
+        made = script(given, skipped)
     except (Fault, OSError) as fault:
         sys.exit(f"script.py: {fault}")
-    if skipped:
-        counts = ", ".join(f"{count} {why}" for why, count in skipped.items())
-        print(f"script.py: not taken of captures: {counts}", file=sys.stderr)
+    sys.stdout.write("".join(text + "\n" for text in made))
+    counts = ", ".join(f"{count} {why}" for why, count in skipped.items() if count)
+    if counts:
+        print(f"script.py: not taken: {counts}", file=sys.stderr)
 
 
 if __name__ == "__main__":
