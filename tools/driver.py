@@ -6,146 +6,339 @@
     driver.bye(7)
     status = driver.close()
 
-Texts are octets, in and out; a `str` is taken as UTF-8. A call's number is the caller's choice, from 1 to 4294967293.
+Texts are octets, in and out; a `str` is taken as UTF-8. A call's number is the caller's choice, from 1 to 4294967294.
 Each signal waits for its outcomes, some two steps of the gateway's ticks (`Gateway`), and raises `Refused` where it is
 refused, with the call as it was, or `Gone` where the gateway's process has ended, with all its calls. Signals may come
 from several threads: those that are told meanwhile are handled behind the same tick, so a server of many calls tells
-each call's signals by a thread of a pool. Needs Python 3.8 and nothing else.
+each call's signals by a thread of a pool. Needs Python 3.8, Linux, and nothing else.
 """
 
 import collections
+import concurrent.futures
+import contextlib
+import logging
 import queue
 import threading
+import time
 
-from gateway import Gateway
+from fields import Refused, address, call_number, digits, identity, keys_of, manual_key, number, octets_of, shared_key
+from fields import WINDOW_LEAST, WINDOW_MOST
+from gateway import Age, FILES_MOST, Fifos, Gateway, Gone, Program, Taken
 
-# The gateway takes no longer text in a line; it would end its run.
-TEXT_MOST = 32_768
+__all__ = ["Bounds", "Driver", "Fifos", "Gone", "Program", "Refused", "Taken"]
+
+# So much may be spent before new calls are refused: an eighth is left for the calls that are there.
+Bounds = collections.namedtuple("Bounds", "keys octets messages turns", defaults=[57_344, 7 * 2**27, 896, None])
+# The seconds between two looks at the gateway, and between two at the system's tables.
+LOOK, LOOK_AROUND = 0.5, 5.0
+# Signals that may make a call.
+NEW = {"offer-secure", "offer-plain", "manual"}
+# What is answered only where it is refused is followed by the end of call 0, which isn't there: that is always answered.
+QUIET, QUIET_END = "quiet", ["refused", "0", "CallUnknown"]
 
 
-class Refused(Exception):
-    """The signal is refused, and nothing has changed. Its text is the gateway's cause, as `KeyReused 3`;
-    docs/refusals.md says what each means. `TooLong` and `Field` are the driver's own: such a line would end the
-    gateway's run."""
+class Signal:
+    """A line that was told, and the outcome that it waits for."""
+
+    def __init__(self, call, last, keys):
+        self.call, self.last, self.keys, self.age = str(call), last, keys, Age()
+        self.text, self.refusal, self.result = None, None, concurrent.futures.Future()
+
+    def take(self, outcome):
+        """Whether this outcome is its last one. Raises ValueError where it isn't one of its own."""
+        word, number = outcome[:2]
+        if self.last == QUIET and outcome == QUIET_END:
+            return True
+        if number != self.call:
+            raise ValueError(f"{word} of call {number}, where one of call {self.call} was due")
+        if word == "refused":
+            self.refusal = Refused(" ".join(outcome[2:]))
+        elif word == "sdp":
+            self.text = bytes.fromhex(outcome[3])
+            self.keys += keys_of(self.text) if outcome[2] == "secure" else 0
+        return self.last != QUIET and word in ("refused", self.last)
+
+    def finish(self):
+        if self.refusal:
+            self.result.set_exception(self.refusal)
+        else:
+            self.result.set_result(self.text)
 
 
 class Driver:
-    """Keeps the calls of one gateway.
+    """Keeps the calls of one gateway. `program` is its path, or a `Program` or `Fifos` of gateway.py; `options` are those
+    of `Gateway`.
 
-    `drops` counts dropped datagrams by `(port, cause)`, `unsent` packets that weren't sent by port, and `slots` has the
-    slot of each call that is there. `on_end(call, why)` is told of a call that ended by itself: `idle` where nothing of
-    it was put out for a minute, `gone` where the gateway's process has ended. It runs in a thread of the driver's own,
-    and may tell signals."""
+    `drops` counts dropped datagrams by `(port, cause)`, `unsent` packets that weren't sent by port, `overflows`
+    datagrams that the system threw away in front of a port; `slots` has the slot of each call that is there.
 
-    def __init__(self, program="./srtpgw", on_end=lambda call, why: None, **options):
-        self.gateway = Gateway(program, **options)
-        self.on_end = on_end
-        self.drops, self.unsent, self.slots = collections.Counter(), collections.Counter(), {}
-        self.one_by_one = threading.Lock()
-        self.answers = queue.Queue()
-        threading.Thread(target=self._sort, daemon=True).start()
+    `on_end(call, why)` is told of a call that ended by itself: `idle` where nothing of it was put out for a minute,
+    `gone` where the gateway's process has ended. It runs in a thread of the driver's own, and may tell signals.
+
+    With `restarts` the next process is started where one has ended, and is told the pre-shared keys again. `wait` is how
+    many seconds an outcome may be late; then the process is ended. Where more than `bounds` is spent, the driver
+    drains: see `drain`. `warn(text)` is told what an operator should know."""
+
+    def __init__(self, program="./srtpgw", on_end=lambda call, why: None, restarts=False, wait=10.0, bounds=Bounds(),
+                 warn=logging.getLogger("srtpgw").warning, **options):
+        self.opener = program if hasattr(program, "open") else Program(program)
+        self.on_end, self.restarts, self.wait, self.bounds, self.warn = on_end, restarts, wait, bounds, warn
+        self.options, self.shared = options, []
+        self.drops, self.unsent, self.overflows = (collections.Counter() for _ in range(3))
+        self.slots, self.pending, self.notices = {}, collections.deque(), queue.Queue()
+        # Keys of offers that aren't answered, by call; what is spent for good; and the overflows of the last look.
+        self.open_keys, self.spent, self.seen = {}, collections.Counter(), {}
+        # `over` says that no process is to follow, `gone` that none is there, and `drained` both.
+        self.lock, self.over, self.drained = threading.RLock(), threading.Event(), threading.Event()
+        self.gone, self.draining = None, False
+        self.gateway = self._started()
+        self.threads = [threading.Thread(target=work, daemon=True) for work in (self._run, self._notify, self._watch)]
+        for thread in self.threads:
+            thread.start()
 
     # ---- signals
 
     def offer_secure(self, call, text):
         """An offer of the secure side, of a new call or within one. The text for the plain side."""
-        return self._signal("sdp", "offer-secure", str(call), "-", hexed(text))
+        text = octets_of(text)
+        given = self._offer(call, "offer-secure", [], text, keys_of(text))
+        self._spend("messages", text.count(b"a=key-mgmt:"))
+        return given
 
     def offer_plain(self, call, text, peer=None):
         """An offer of the plain side, of a new call or within one; to be keyed by crypto lines, or by MIKEY to the peer
         of this name, whose key `psk` has told. The text for the secure side."""
-        keyed = ["mikey", peer] if peer else ["sdes"]
-        return self._signal("sdp", "offer-plain", str(call), *keyed, "-", hexed(text))
+        keyed = ["mikey", identity(peer)] if peer else ["sdes"]
+        return self._offer(call, "offer-plain", keyed, octets_of(text), 0)
 
     def answer(self, call, text):
         """The answer of the side that didn't offer. The text for the one that did; the call is live. A refused answer
         leaves the offer open: `answer` again, or `reject`."""
-        return self._signal("live", "answer", str(call), "-", hexed(text))
+        text = octets_of(text)
+        # Keys are in the secure side's text, whichever of the two it is.
+        signal = self._signal(call, "live", keys_of(text), "answer", call_number(call), "-", digits(text))
+        self._spend("keys", self.open_keys.pop(call, 0) + signal.keys)
+        return signal.text
 
     def manual(self, call, secure, plain, from_peer, to_peer, rollover=0, window=64):
         """A call with keys by hand, each as `SUITE:HEX`; addresses are pairs of host and port."""
-        addresses = ["%s:%d" % secure, "%s:%d" % plain]
-        self._signal("live", "manual", str(call), *addresses, f"{rollover:08x}", str(window), from_peer, to_peer)
+        fields = address(secure), address(plain), number(rollover) and f"{rollover:08x}"
+        keys = number(window, WINDOW_MOST, WINDOW_LEAST), manual_key(from_peer), manual_key(to_peer)
+        self._signal(call, "live", 0, "manual", call_number(call), *fields, *keys)
+        self._spend("keys", 2)
 
     def psk(self, own, peer, key):
-        """A pre-shared key, 16 to 64 octets, between the gateway's name and a peer's."""
-        self._quiet("psk", own, peer, key.hex())
+        """A pre-shared key, 16 to 64 octets, between the gateway's name and a peer's. 64 pairs can be held."""
+        fields = "psk", identity(own), identity(peer), shared_key(key)
+        self._signal("-", QUIET, 0, *fields)
+        self.shared.append(fields)
 
     def reject(self, call):
         """The open offer is rejected. A first one ends its call; behind a later one the call goes on."""
-        self._quiet("reject", str(call))
+        self._signal(call, QUIET, 0, "reject", call_number(call))
+        self.open_keys.pop(call, None)
 
     def bye(self, call):
-        """The call ends."""
-        self._signal("ended", "bye", str(call))
+        """The call ends. Refused where it has just ended by itself."""
+        self._signal(call, "ended", 0, "bye", call_number(call))
 
     def ports(self, call, medium=0):
-        """The gateway's four ports: secure RTP, secure RTCP, plain RTP, plain RTCP."""
+        """The gateway's four ports of a call that is there: secure RTP, secure RTCP, plain RTP, plain RTCP."""
         first = 20_000 + 16 * self.slots[call] + 4 * medium
         return range(first, first + 4)
 
+    # ---- the end
+
+    def drain(self):
+        """From now on new calls are refused (`State`), and the gateway's run ends with its last call. With `restarts`,
+        which may be set to False before, the next process is started then; without, `drained` is set, and each further
+        signal raises Gone."""
+        with self.lock:
+            self.draining = True
+            self._end_if_drained()
+
     def close(self):
-        """Ends the run; its status."""
-        return self.gateway.close()
+        """Ends the run, with the calls that are there, which aren't told to `on_end`. Answers its status, once all that
+        it told is counted."""
+        self.over.set()
+        with self.lock:
+            gateway = self.gateway
+        status = gateway.close()
+        for thread in self.threads:
+            if thread is not threading.current_thread():
+                thread.join(2 * self.wait)
+        return status
+
+    # ---- telling
+
+    def _offer(self, call, word, keyed, text, keys):
+        signal = self._signal(call, "sdp", keys, word, call_number(call), *keyed, "-", digits(text))
+        self.open_keys[call] = signal.keys
+        return signal.text
+
+    def _signal(self, call, last, keys, *fields):
+        """Hands a line on and waits for its last outcome."""
+        signal = Signal(call, last, keys)
+        with self.lock:
+            if self.gone:
+                raise self.gone
+            if self.draining and fields[0] in NEW and call not in self.slots:
+                raise Refused("State")
+            # Outcomes come in the order of the lines, so this signal is answered behind those before it.
+            self.pending.append(signal)
+            self.gateway.tell(*fields)
+            if last == QUIET:
+                self.gateway.tell("bye", "0")
+        signal.result.result()
+        return signal
+
+    def _spend(self, what, count):
+        self.spent[what] += count
+        self._drain_if_spent()
+
+    def _drain_if_spent(self):
+        gateway = self.gateway
+        spent = Bounds(self.spent["keys"], gateway.octets, self.spent["messages"], gateway.turns_taken())
+        bounds = self.bounds._replace(turns=self.bounds.turns or gateway.turns * 7 // 8)
+        over = [f"{name}, {count} of {most}" for name, count, most in zip(Bounds._fields, spent, bounds) if count > most]
+        if over and not self.draining:
+            self.warn(f"new calls are refused from now on, since enough is spent of {'; '.join(over)}")
+            self.drain()
 
     # ---- outcomes
 
-    def _signal(self, last, *fields):
-        """Hands a line on and waits for its last outcome. The text that came with it, if one came."""
-        text = None
-        with self.one_by_one:
-            self.gateway.tell(*fields)
-            while True:
-                outcome = self._take()
-                if outcome[0] == "refused":
-                    raise Refused(" ".join(outcome[2:]))
-                if outcome[0] == "sdp":
-                    text = bytes.fromhex(outcome[3])
-                if outcome[0] == last:
-                    return text
+    def _started(self):
+        """A process that is ready to be told signals."""
+        gateway = Gateway(self.opener, **self.options)
+        if gateway.files is not None and gateway.files < FILES_MOST:
+            self.warn(f"the gateway may open {gateway.files} files, and a full table needs {FILES_MOST}")
+        if gateway.never_waits():
+            self.warn("the gateway's standard input never waits, which takes it half a processor")
+        for fields in self.shared:
+            gateway.tell(*fields)
+        return gateway
 
-    def _quiet(self, *fields):
-        """Hands a line on that is answered only where it is refused: call 0, which isn't there, is ended behind
-        it, and this is always answered."""
-        with self.one_by_one:
-            self.gateway.tell(*fields)
-            self.gateway.tell("bye", "0")
-            first = self._take()
-            if first != ["refused", "0", "CallUnknown"]:
-                self._take()
-                raise Refused(" ".join(first[2:]))
-
-    def _take(self):
-        outcome = self.answers.get(timeout=10)
-        if isinstance(outcome, Exception):
-            self.answers.put(outcome)
-            raise outcome
-        return outcome
-
-    def _sort(self):
-        """Tells apart what answers a signal and what comes by itself."""
+    def _run(self):
         while True:
             try:
-                outcome = self.gateway.next(timeout=None)
-            except Exception as gone:
-                return self.answers.put(gone)
-            word, call = outcome[0], outcome[1]
+                self._sort(self.gateway.next(timeout=None))
+            except Gone as gone:
+                self._ended(gone)
+                if not self._restarted():
+                    self.drained.set()
+                    return self.notices.put(None)
+
+    def _sort(self, outcome):
+        """Tells apart what answers a signal and what comes by itself."""
+        try:
+            word, of, *rest = outcome
             if word == "drop":
-                self.drops[int(call), " ".join(outcome[2:])] += 1
+                self.drops[int(of), " ".join(rest)] += 1
             elif word == "unsent":
-                self.unsent[int(call)] += 1
-            elif word == "ended" and outcome[4] != "bye":
-                if outcome[4] == "idle":
-                    self.on_end(int(call), "idle")
+                self.unsent[int(of)] += 1
             else:
-                if word == "made":
-                    self.slots[int(call)] = int(outcome[2])
-                self.answers.put(outcome)
+                with self.lock:
+                    self._keep(word, of, rest)
+                    # The end of a rejected call comes before the outcome that its signal waits for.
+                    if word != "ended" or rest[2] == "bye":
+                        self._answer(outcome)
+                    self._end_if_drained()
+        except (ValueError, IndexError) as fault:
+            self.gateway.end(f"an outcome that wasn't due: {' '.join(outcome[:3])}: {fault}")
 
+    def _keep(self, word, of, rest):
+        """Keeps the book of calls."""
+        if word == "made":
+            self.slots[int(of)] = int(rest[0])
+        elif word == "ended":
+            self.slots.pop(int(of), None)
+            if rest[2] == "idle":
+                self.notices.put((int(of), "idle"))
 
-def hexed(text):
-    """A session description as a field of a line."""
-    octets = text.encode() if isinstance(text, str) else text
-    if len(octets) > TEXT_MOST:
-        raise Refused("TooLong")
-    return octets.hex() or "-"
+    def _answer(self, outcome):
+        if not self.pending:
+            raise ValueError("no signal waits")
+        if self.pending[0].take(outcome):
+            self.pending.popleft().finish()
+
+    # ---- the end of a process
+
+    def _end_if_drained(self):
+        if self.draining and not (self.slots or self.pending or self.gone):
+            self.gone = Gone(0, "all calls of a drained gateway have ended")
+            # By another thread, since this one may have to sort what is told at the end.
+            threading.Thread(target=self.gateway.close, daemon=True).start()
+
+    def _ended(self, gone):
+        with self.lock:
+            self.gone = gone
+            pending, self.pending = self.pending, collections.deque()
+            calls, self.slots = list(self.slots), {}
+        for signal in pending:
+            signal.result.set_exception(gone)
+        if not self.over.is_set():
+            if gone.status != 0 or calls:
+                self.warn(f"the gateway has ended, and {len(calls)} calls with it: {gone}")
+            for call in calls:
+                self.notices.put((call, "gone"))
+
+    def _restarted(self):
+        """Starts the next process, where one is to follow, and tries again each second."""
+        while self.restarts and not self.over.is_set():
+            try:
+                gateway = self._started()
+            except (Gone, Taken, OSError) as fault:
+                self.warn(f"the gateway can't be started: {fault}")
+                self.over.wait(1)
+                continue
+            with self.lock:
+                self.gateway, self.gone, self.draining = gateway, None, False
+                self.spent.clear()
+                self.open_keys.clear()
+            # `close` may have ended the one before.
+            return not self.over.is_set() or gateway.close() and False
+        return False
+
+    # ---- threads
+
+    def _notify(self):
+        """Tells of calls that ended by themselves."""
+        while True:
+            notice = self.notices.get()
+            if notice is None:
+                return
+            try:
+                self.on_end(*notice)
+            except Exception as fault:
+                self.warn(f"on_end of call {notice[0]} ({notice[1]}): {type(fault).__name__}: {fault}")
+
+    def _watch(self):
+        """Ends a process that doesn't answer, and looks at what an operator should know."""
+        around = time.monotonic() + LOOK_AROUND
+        while not self.over.wait(LOOK) and not self.drained.is_set():
+            gateway = self.gateway
+            if max(gateway.waited(), self._oldest()) > self.wait:
+                gateway.end(f"no outcome came within {self.wait:g} s")
+            elif time.monotonic() > around:
+                around = time.monotonic() + LOOK_AROUND
+                self._look_around(gateway)
+
+    def _oldest(self):
+        with contextlib.suppress(IndexError):
+            return self.pending[0].age.seconds()
+        return 0.0
+
+    def _look_around(self, gateway):
+        late, gateway.worst = gateway.worst, 0.0
+        if late > 2 * gateway.step:
+            self.warn(f"the gateway's turns ran late, by {1000 * late:.0f} ms: give it a higher priority, or less to do")
+        now = gateway.overflows()
+        lost = {port: count - self.seen.get(port, 0) for port, count in now.items()}
+        # A port that was given up and taken again counts from 0.
+        lost = {port: count if count > 0 else now[port] for port, count in lost.items() if count}
+        self.seen = now
+        if lost:
+            self.overflows.update(lost)
+            self.warn(f"datagrams were lost in front of full sockets, by port: {lost}")
+        if not self.gone:
+            self._drain_if_spent()

@@ -1,88 +1,359 @@
 """Keeps one gateway process: lines go in, outcomes come out, and ticks keep it going between them.
 
-Needs Python 3.8 and nothing else. docs/driving.md says what this file does and why.
+    gateway = Gateway("./srtpgw")                                  # starts the program
+    gateway = Gateway(Fifos("/run/srtpgw/lines", "/run/srtpgw/outcomes"))    # takes one that a unit keeps
+    gateway.tell("bye", "7")
+    print(gateway.next())                                          # ['refused', '7', 'CallUnknown']
+    status = gateway.close()
+
+driver.py keeps calls over it. Needs Python 3.8, Linux, and nothing else. docs/driving.md says what this file does and why.
 """
 
+import collections
+import contextlib
+import errno
+import os
 import queue
+import resource
+import select
+import signal
+import socket
 import subprocess
+import tempfile
 import threading
 import time
+from pathlib import Path
 
 STATUSES = {
     0: "done", 1: "usage", 2: "script", 3: "read", 4: "write", 5: "link", 6: "no memory", 7: "clock",
-    8: "noise", 9: "turns spent",
+    8: "noise", 9: "turns spent", None: "ended",
 }
+HOST, PORTS = "127.0.0.1", range(20_000, 24_096)
+# The files that a full table has open: four ports for each of 1,024 media, and a few.
+FILES_MOST = 4_200
+TURNS_MOST = 1_000_000_000
+# A call that is never there. What is told of it says that the tick before it is over.
+PROBE = 2**32 - 1
+PROBED = f"refused {PROBE} CallUnknown\n".encode()
+# So many of the latest probes count for the start of the gateway's clock.
+WINDOW = 50
+# How long a turn without a datagram takes at least.
+TURN = 0.004
+# How long a process that was asked to end may take.
+ENDING = 10.0
 
 
 class Gone(Exception):
-    """The gateway's process has ended; its status number and what it said on standard error."""
+    """The gateway's process has ended. `status` is its number, None where that isn't known, and below 0 where a signal
+    of the system ended it; `said` is what it said on standard error."""
 
     def __init__(self, status, said):
         super().__init__(f"{STATUSES.get(status, 'unknown')} ({status}): {said}")
         self.status, self.said = status, said
 
 
-class Gateway:
-    """One process of `srtpgw relay`. `outcomes` is a queue of its lines, each a list of fields."""
+class Taken(Exception):
+    """Another program has UDP ports of the gateway's, `ports`. The gateway would end at the call that needs one."""
 
-    def __init__(self, program, turns=1_000_000_000, step=0.02, patience=300):
-        # A tick reaches two steps ahead at most, so a line waits as long at most.
-        self.step = step
-        self.outcomes = queue.Queue()
-        self.lock = threading.Lock()
-        self.ending = threading.Event()
+    def __init__(self, ports):
+        super().__init__(f"another program has UDP port {', '.join(map(str, ports))} of {HOST}")
+        self.ports = ports
+
+
+def taken_ports(ports=PORTS):
+    """Those of the gateway's ports that can't be bound."""
+    return [port for port in ports if not can_bind(port)]
+
+
+def can_bind(port):
+    with socket.socket(socket.AF_INET, socket.SOCK_DGRAM) as end:
+        try:
+            end.bind((HOST, port))
+        except OSError as fault:
+            return fault.errno != errno.EADDRINUSE
+    return True
+
+
+class Program:
+    """Starts the gateway. `program` is its path, or a list of words to stand before `relay`."""
+
+    def __init__(self, program, turns=TURNS_MOST):
+        words = program if isinstance(program, (list, tuple)) else [program]
+        self.words, self.turns = [*map(str, words), "relay", "--turns", str(turns)], turns
+
+    def open(self, patience):
+        """A new process. Raises Taken where another program has one of its ports."""
+        taken = taken_ports()
+        if taken:
+            raise Taken(taken)
+        return Started(self.words)
+
+
+class Started:
+    """A process of this program's own, in a session of its own: it isn't ended by the terminal's Ctrl-C, and ends when
+    its input does."""
+
+    def __init__(self, words):
+        self.errors = tempfile.TemporaryFile()
         self.process = subprocess.Popen(
-            [program, "relay", "--turns", str(turns)],
-            stdin=subprocess.PIPE, stdout=subprocess.PIPE, stderr=subprocess.PIPE)
-        self.threads = [threading.Thread(target=work, daemon=True) for work in (self._read, self._tick)]
-        self.threads[0].start()
-        # The program may have to be built first. What it tells of a call that isn't there says that it runs; its
-        # ticks count from a moment before this one.
-        self._write("srtpgw 1")
-        self._write("bye 0")
-        self.next(timeout=patience)
-        self.began = time.time()
-        self.threads[1].start()
+            words, stdin=subprocess.PIPE, stdout=subprocess.PIPE, stderr=self.errors, start_new_session=True)
+        self.lines, self.outcomes, self.pid = self.process.stdin, self.process.stdout, self.process.pid
+        self.files = raised_files(self.pid)
+
+    def kill(self):
+        """Ends it at once, with what it has started itself."""
+        if self.process.poll() is None:
+            with contextlib.suppress(ProcessLookupError):
+                os.killpg(self.pid, signal.SIGKILL)
+
+    def end(self):
+        """Waits for its end: its status, and what it said."""
+        try:
+            status = self.process.wait(ENDING)
+        except subprocess.TimeoutExpired:
+            self.kill()
+            status = self.process.wait()
+        self.errors.seek(0)
+        return status, self.errors.read().decode(errors="replace").strip()
+
+
+class Fifos:
+    """A gateway that somebody else keeps (docs/srtpgw.service): it reads its lines from one FIFO and writes outcomes to
+    another. `turns` is what it was started with."""
+
+    def __init__(self, lines, outcomes, turns=TURNS_MOST):
+        self.paths, self.turns = (lines, outcomes), turns
+
+    def open(self, patience):
+        """Its two FIFOs, once it has opened the first. Raises Gone where none does in time."""
+        lines, until = None, time.monotonic() + patience
+        while lines is None:
+            try:
+                lines = os.open(self.paths[0], os.O_WRONLY | os.O_NONBLOCK)
+            except OSError as fault:
+                # No reader yet, or no FIFO.
+                if fault.errno not in (errno.ENXIO, errno.ENOENT) or time.monotonic() > until:
+                    raise Gone(None, f"{self.paths[0]}: {fault.strerror}") from fault
+                time.sleep(0.05)
+        # The gateway opens this one only behind the other, so there is nothing to wait for here.
+        outcomes = os.open(self.paths[1], os.O_RDONLY | os.O_NONBLOCK)
+        for end in (lines, outcomes):
+            os.set_blocking(end, True)
+        return Opened(lines, outcomes)
+
+
+class Opened:
+    """The two FIFOs of a process that isn't this program's."""
+
+    pid, files = None, None
+
+    def __init__(self, lines, outcomes):
+        self.lines, self.outcomes = os.fdopen(lines, "wb"), Held(outcomes)
+
+    def kill(self):
+        """It ends by itself at its next outcome, which nobody reads."""
+        self.outcomes.stop()
+
+    def end(self):
+        self.kill()
+        with contextlib.suppress(OSError, ValueError):
+            self.lines.close()
+        return None, "its outcomes have ended"
+
+
+class Held:
+    """The lines of a FIFO until its writer has gone. Before a writer has come it would read as ended."""
+
+    def __init__(self, number):
+        self.number, self.over = number, threading.Event()
+
+    def __iter__(self):
+        rest, poll = b"", select.poll()
+        poll.register(self.number, select.POLLIN)
+        while not self.over.is_set():
+            if poll.poll(100):
+                octets = os.read(self.number, 65_536)
+                if not octets:
+                    break
+                *lines, rest = (rest + octets).split(b"\n")
+                yield from (line + b"\n" for line in lines)
+        os.close(self.number)
+
+    def stop(self):
+        self.over.set()
+
+
+def raised_files(pid):
+    """Has a process open as many files as it may at all; how many."""
+    with contextlib.suppress(ProcessLookupError, PermissionError):
+        most = resource.prlimit(pid, resource.RLIMIT_NOFILE)[1]
+        resource.prlimit(pid, resource.RLIMIT_NOFILE, (most, most))
+        return most
+    return None
+
+
+class Age:
+    """How long ago something was. A clock that was set doesn't make it older: where it was set back the gateway
+    itself waits, and where it was set forward nothing has waited."""
+
+    def __init__(self):
+        self.steady, self.set = time.monotonic(), time.time()
+
+    def seconds(self):
+        return min(time.monotonic() - self.steady, time.time() - self.set)
+
+
+class Gateway:
+    """One process of `srtpgw relay`. `program` is a path, a `Program` or `Fifos`.
+
+    A tick is written each `step` seconds and reaches two steps ahead, so a signal waits as long at most; the media
+    don't wait. Behind each tick stands a probe, whose answer says where the gateway's clock began. `patience` is how
+    many seconds the first answer may take, behind which the process is ended. `outcomes` is a queue of its lines, each
+    a list of fields; `octets` counts what was written to it, and `late` has by how many seconds the latest answer
+    to a probe was late. Raises Gone where it doesn't answer, and Taken where another program has its ports."""
+
+    def __init__(self, program, step=0.1, patience=60.0):
+        opener = program if hasattr(program, "open") else Program(program)
+        self.step, self.turns = step, opener.turns
+        self.outcomes, self.gone, self.why = queue.Queue(), None, None
+        self.octets, self.ticks, self.late, self.worst = 0, 0, 0.0, 0.0
+        self.lock, self.answered, self.ending = threading.Lock(), threading.Event(), threading.Event()
+        # Ticks that were written and aren't answered, and the starts of its clock that the latest answers tell of.
+        self.probes, self.starts, self.began = collections.deque(), collections.deque(maxlen=WINDOW), None
+        self.ends = opener.open(patience)
+        self.pid, self.files = self.ends.pid, self.ends.files
+        self.reader = threading.Thread(target=self._read, daemon=True)
+        self.ticker = threading.Thread(target=self._tick, daemon=True)
+        self.reader.start()
+        self._probe("srtpgw 1", 0)
+        self.answered.wait(patience)
+        if self.began is None:
+            self.end(f"it didn't answer within {patience:g} s")
+            self.reader.join(ENDING)
+            raise self.gone or Gone(None, self.why)
+        self.age, self.taken = Age(), self._datagrams()
+        self.ticker.start()
 
     def tell(self, *fields):
-        """Hands on a signal line. Its outcomes follow in the queue."""
+        """Hands on a signal line. Its outcomes follow in the queue. Raises ValueError, and writes nothing, where a
+        field isn't of printing characters: it would be another line, and might end the run."""
+        for field in fields:
+            if not field or not all("!" <= letter <= "~" for letter in field):
+                raise ValueError(f"no field of a line: {field!r}")
         self._write(" ".join(fields))
 
     def next(self, timeout=5.0):
-        """The next outcome. Raises Gone where the process has ended, and queue.Empty where none comes in time."""
+        """The next outcome, a list of fields. Raises Gone where the process has ended, and queue.Empty where none comes
+        in time."""
         fields = self.outcomes.get(timeout=timeout)
         if fields is None:
             self.outcomes.put(None)
-            raise Gone(self.process.wait(), self.process.stderr.read().decode(errors="replace").strip())
+            raise self.gone
         return fields
 
     def close(self):
-        """Ends the script, and with it the run. Answers the status, 0 where all was handled."""
+        """Ends the script, and with it the run. Answers the status, 0 where all was handled, once all that it told
+        stands in `outcomes`."""
         self.ending.set()
-        self.threads[1].join()
-        with self.lock:
-            try:
-                self.process.stdin.close()
-            except BrokenPipeError:
-                pass
-        return self.process.wait()
+        self.ticker.join(ENDING)
+        if not self.ticker.is_alive():
+            # Else it waits to write into a pipe that nobody reads.
+            with self.lock, contextlib.suppress(OSError, ValueError):
+                self.ends.lines.close()
+        self.reader.join(ENDING)
+        if self.gone is None:
+            self.end("it didn't end with its input")
+            self.reader.join(ENDING)
+        return self.gone.status if self.gone else None
 
-    def _write(self, line):
-        with self.lock:
-            try:
-                self.process.stdin.write(line.encode() + b"\n")
-                self.process.stdin.flush()
-            except (BrokenPipeError, ValueError):
-                pass  # The process has ended: `next` tells its status.
+    def end(self, why):
+        """Ends a process that can't be gone on with: `Gone` says why."""
+        self.why = self.why or why
+        self.ending.set()
+        self.ends.kill()
+
+    def waited(self):
+        """How many seconds the oldest tick without an answer is over."""
+        with contextlib.suppress(IndexError):
+            number, age = self.probes[0]
+            return max(0.0, age.seconds() - 2 * self.step)
+        return 0.0
+
+    def turns_taken(self):
+        """How many turns it has taken, at most: one for each datagram that it and other programs of its network
+        namespace took, one for each 4 ms without one, and one for each tick."""
+        idle = (time.monotonic() - self.age.steady) / TURN
+        return self._datagrams() - self.taken + round(idle) + self.ticks
+
+    def overflows(self):
+        """How many datagrams the system threw away in front of each socket of the gateway's, by port, where some."""
+        rows = (line.split() for line in _network(self.pid, "udp")[1:])
+        lost = ((int(row[1].split(":")[1], 16), int(row[-1])) for row in rows)
+        return {port: count for port, count in lost if count and port in PORTS}
+
+    def never_waits(self):
+        """Whether its standard input was opened so that a read never waits: it would read on all the time."""
+        try:
+            flags = Path(f"/proc/{self.pid}/fdinfo/0").read_text().split("flags:")[1].split()[0]
+        except (OSError, IndexError):
+            return False
+        return bool(int(flags, 8) & os.O_NONBLOCK)
+
+    def _write(self, text):
+        octets = text.encode() + b"\n"
+        with self.lock, contextlib.suppress(OSError, ValueError):
+            # Else the process has ended: `next` tells its status.
+            self.octets += len(octets)
+            self.ends.lines.write(octets)
+            self.ends.lines.flush()
+
+    def _probe(self, line, number):
+        self.probes.append((number, Age()))
+        self._write(f"{line}\nbye {PROBE}")
 
     def _read(self):
-        for line in self.process.stdout:
-            self.outcomes.put(line.decode("ascii").split())
+        for line in self.ends.outcomes:
+            if line == PROBED:
+                self._learn()
+            else:
+                self.outcomes.put(line.decode("ascii", "replace").split())
+        status, said = self.ends.end()
+        self.gone = Gone(status, "; ".join(filter(None, (self.why, said))))
+        self.ending.set()
         self.outcomes.put(None)
+        self.answered.set()
+
+    def _learn(self):
+        """The answer behind `tick N` comes N milliseconds after the gateway's first reading of its clock, or later. So
+        of several the earliest start is the nearest."""
+        number, _ = self.probes.popleft()
+        start = time.time() - number / 1000
+        self.starts.append(start)
+        self.began = min(self.starts)
+        self.late = start - self.began
+        self.worst = max(self.worst, self.late)
+        self.answered.set()
 
     def _tick(self):
         # By the clock that the gateway reads: after a jump of a steadier one its ticks would be over at once.
-        while not self.ending.is_set() and self.process.poll() is None:
-            ahead = time.time() - self.began + 2 * self.step
-            self._write(f"tick {max(0, round(ahead * 1000))}")
+        last = 0
+        while not self.ending.is_set():
+            ahead = round((time.time() - self.began + 2 * self.step) * 1000)
+            # Where the clock was set back, the tick under way goes on until it is caught up.
+            if ahead > last:
+                last = ahead
+                self._probe(f"tick {ahead}", ahead)
+                self.ticks += 1
             self.ending.wait(self.step)
+
+    def _datagrams(self):
+        values = [line.split() for line in _network(self.pid, "snmp") if line.startswith("Udp:")]
+        return int(dict(zip(*values))["InDatagrams"]) if values else 0
+
+
+def _network(pid, table):
+    """The lines of a table of the network namespace of a process, or of this one's."""
+    try:
+        return Path(f"/proc/{pid or 'self'}/net/{table}").read_text().splitlines()
+    except OSError:
+        return []

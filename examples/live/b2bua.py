@@ -21,11 +21,13 @@ import time
 
 from ends import program, require_free
 from descriptions import carried, looked_at
-from driver import Driver, Refused
+from driver import Driver, Gone, Refused, Taken
 
 HOME = "127.0.0.1"
 PORTS = {"secure": 5070, "plain": 5072}
 FAR = {"secure": "plain", "plain": "secure"}
+# Causes for which the gateway has no room: another call may be made later, or elsewhere.
+FULL = {"TableFull", "RingFull", "State"}
 # The short names of headers (RFC 3261, 7.3.3).
 SHORT = {"v": "via", "f": "from", "t": "to", "i": "call-id", "m": "contact"}
 
@@ -81,9 +83,9 @@ class Server:
         self.calls = {}                     # by the SIP name of either half: number, and the two halves by side
         self.names = itertools.count(1)
         self.log = []
-        # Calls that the gateway ended by itself; it tells of them in a thread of the driver's.
-        self.idle = collections.deque()
-        driver.on_end = lambda call, why: self.idle.append(call)
+        # Calls that ended by themselves, and why; the driver tells of them in a thread of its own.
+        self.over = collections.deque()
+        driver.on_end = lambda call, why: self.over.append((call, why))
 
     def note(self, line):
         self.log.append(line)
@@ -132,9 +134,11 @@ class Server:
         near.passes = bool(near.said) and looked_at(request.body) == looked_at(near.said)
         try:
             text = carried(request.body, far.given) if near.passes else self.offer(call, side, request.body)
-        except Refused as refused:
-            self.note(f"call {call}: offer refused: {refused}")
-            self.reply(side, request, 488, "Not Acceptable Here", tag=f"g{call}")
+        except (Refused, Gone) as fault:
+            self.note(f"call {call}: offer refused: {fault}")
+            is_full = isinstance(fault, Gone) or not near.said and str(fault) in FULL
+            code, words = (503, "Service Unavailable") if is_full else (488, "Not Acceptable Here")
+            self.reply(side, request, code, words, tag=f"g{call}")
             return None if near.said else self.forget(call)
         near.waiting, far.invited, near.offer, far.offer = request, far.number, request.body, text
         return self.ask(far, "INVITE", text)
@@ -170,11 +174,11 @@ class Server:
         half.uri = inner(response.get("contact")) or half.uri
         try:
             text = self.answer(call, near, half, response.body)
-        except Refused as refused:
+        except (Refused, Gone) as fault:
             # The far telephone holds to a text that the gateway doesn't: nothing is left but to end the call.
-            self.note(f"call {call}: answer refused: {refused}")
+            self.note(f"call {call}: answer refused: {fault}")
             self.ask(half, "BYE")
-            self.refuse(call, near, request, 488)
+            self.refuse(call, near, request, 503 if isinstance(fault, Gone) else 488)
             return self.hang_up(call, near) if near.said else None
         near.said, near.given, half.said, half.given = near.offer, text, response.body, half.offer
         self.note(f"call {call}: agreed{', past the gateway' if near.passes else ''}")
@@ -189,15 +193,21 @@ class Server:
 
     def refuse(self, call, near, request, code):
         if not near.passes:
-            self.driver.reject(call)
+            self.tell(self.driver.reject, call)
         self.reply(near.side, request, code, "Refused", tag=f"g{call}")
         if not near.said:
             self.forget(call)
 
     def hang_up(self, call, near):
         self.ask(near, "BYE")
-        self.driver.bye(call)
+        self.tell(self.driver.bye, call)
         self.forget(call)
+
+    @staticmethod
+    def tell(signal, call):
+        """Tells the gateway of an end. It may have ended the call by itself just now, or may have ended."""
+        with contextlib.suppress(Refused, Gone):
+            signal(call)
 
     def ended(self, side, request):
         """A BYE, or a CANCEL of what isn't answered."""
@@ -206,22 +216,24 @@ class Server:
         self.reply(side, request, 200, "OK")
         if request.method() == "BYE":
             self.ask(far, "BYE")
-            self.driver.bye(call)
+            self.tell(self.driver.bye, call)
         elif near.waiting:
             self.ask(far, "CANCEL", number=far.invited)
             return
         self.forget(call)
 
-    def went_idle(self, call):
-        """The gateway ended a call that had no media for a minute; the telephones are told."""
+    def went(self, call, why):
+        """A call had no media for a minute, or the gateway has ended with all calls; the telephones are told."""
         halves = next((halves for number, halves in self.calls.values() if number == call), {})
+        code, words = (480, "Temporarily Unavailable") if why == "idle" else (503, "Service Unavailable")
         for half in halves.values():
             if half.waiting:
-                self.reply(half.side, half.waiting, 480, "Temporarily Unavailable", tag=f"g{call}")
+                self.reply(half.side, half.waiting, code, words, tag=f"g{call}")
             else:
                 self.ask(half, "CANCEL" if half.invited else "BYE", number=half.invited)
-        self.note(f"call {call}: ended, since it was idle")
-        self.forget(call)
+        if halves:
+            self.note(f"call {call}: ended: {why}")
+            self.forget(call)
 
     def forget(self, call):
         self.calls = {name: known for name, known in self.calls.items() if known[0] != call}
@@ -250,8 +262,8 @@ class Server:
                     # Else it is nothing of SIP, as what keeps a way through a firewall open.
                     if message.get("call-id") and message.get("cseq"):
                         self.handle(side, message)
-            while self.idle:
-                self.went_idle(self.idle.popleft())
+            while self.over:
+                self.went(*self.over.popleft())
 
     def close(self):
         for own in self.sockets.values():
@@ -275,7 +287,12 @@ def main():
     words.add_argument("--seconds", type=float, default=3_600, help="when it ends by itself")
     given = words.parse_args()
     require_free(*PORTS.values())
-    driver = Driver(program())
+    try:
+        # The next process follows where one ends.
+        driver = Driver(program(), restarts=True)
+    except (Gone, Taken) as fault:
+        print(f"the gateway can't be started: {fault}", file=sys.stderr)
+        return 1
     end = time.monotonic() + given.seconds
     server = Server(driver, {"secure": given.secure, "plain": given.plain}, lambda line: print(line, flush=True))
     print(f"telephones of the secure side call {HOME}:{PORTS['secure']}, of the plain side {HOME}:{PORTS['plain']};"
@@ -283,7 +300,9 @@ def main():
     with contextlib.suppress(KeyboardInterrupt):
         server.serve(lambda: time.monotonic() > end)
     status = driver.close()
-    print(f"dropped {dict(driver.drops)}, unsent {dict(driver.unsent)}, status {status}")
+    for (port, cause), count in sorted(driver.drops.items()):
+        print(f"dropped at port {port}: {count} by {cause}")
+    print(f"unsent: {sum(driver.unsent.values())}; status {status}")
     return status
 
 
