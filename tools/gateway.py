@@ -210,11 +210,12 @@ class Gateway:
     don't wait. Behind each tick stands a probe, whose answer says where the gateway's clock began. `patience` is how
     many seconds the first answer may take, behind which the process is ended. `outcomes` is a queue of its lines, each
     a list of fields; `octets` counts what was written to it, and `late` has by how many seconds the latest answer
-    to a probe was late. Raises Gone where it doesn't answer, and Taken where another program has its ports."""
+    to a probe was late. `log` is a file of octets that gets each outcome but for session descriptions, which hold keys
+    (tools/watch.py reads it). Raises Gone where it doesn't answer, and Taken where another program has its ports."""
 
-    def __init__(self, program, step=0.1, patience=60.0):
+    def __init__(self, program, step=0.1, patience=60.0, log=None):
         opener = program if hasattr(program, "open") else Program(program)
-        self.step, self.turns = step, opener.turns
+        self.step, self.turns, self.log = step, opener.turns, log
         self.outcomes, self.gone, self.why = queue.Queue(), None, None
         self.octets, self.ticks, self.late, self.worst = 0, 0, 0.0, 0.0
         self.lock, self.answered, self.ending = threading.Lock(), threading.Event(), threading.Event()
@@ -316,12 +317,20 @@ class Gateway:
             if line == PROBED:
                 self._learn()
             else:
+                self._copy(line)
                 self.outcomes.put(line.decode("ascii", "replace").split())
         status, said = self.ends.end()
         self.gone = Gone(status, "; ".join(filter(None, (self.why, said))))
         self.ending.set()
         self.outcomes.put(None)
         self.answered.set()
+
+    def _copy(self, line):
+        if self.log and not line.startswith(b"sdp "):
+            with contextlib.suppress(OSError, ValueError):
+                # A log that can't be written ends no call.
+                self.log.write(line)
+                self.log.flush()
 
     def _learn(self):
         """The answer behind `tick N` comes N milliseconds after the gateway's first reading of its clock, or later. So
