@@ -24,6 +24,7 @@ from pathlib import Path
 
 from mixed import Mixer
 from model.replay import Told
+from usage import words_or_usage
 
 TOP = Path(__file__).resolve().parent.parent
 MEMORY = 32 << 20
@@ -152,11 +153,10 @@ def fault(run, wanted):
 
 
 def main():
-    program = sys.argv[1]
-    count = int(sys.argv[2]) if len(sys.argv) > 2 else 20000
-    seed = sys.argv[3] if len(sys.argv) > 3 else "1"
+    program, *rest = words_or_usage(__doc__)
+    count, seed = (rest + ["20000", "1"][len(rest):])[:2]
     ends, bad = Counter(), 0
-    for number, (name, script) in enumerate(cases(count, seed)):
+    for number, (name, script) in enumerate(cases(int(count), seed)):
         if number and number % 1000 == 0:
             print(f"{number} played, {bad} bad, {sum(os.times()[:4]):.0f} s of processor", flush=True)
         wanted = Told(script)

@@ -21,6 +21,7 @@ from signals import (
     noise, octets_of, offer_sdes, offer_secure, psk, secure_text, text,
 )
 from srtp import MasterKey
+from usage import words_or_usage
 
 
 def full_book():
@@ -134,13 +135,13 @@ def resident(program, script, told):
 
 
 def main():
-    bad = 0
+    program, bad = words_or_usage(__doc__)[0], 0
     for made in ALL:
         lines = list(made())
         script = "".join(line + "\n" for line in ["srtpgw 1"] + lines).encode()
-        fault, told = difference(sys.argv[1], script), Told(script)
+        fault, told = difference(program, script), Told(script)
         bad += bool(fault)
-        memory = f", {resident(sys.argv[1], script, len(told.octets()))} KiB" if told.status == 0 and not fault else ""
+        memory = f", {resident(program, script, len(told.octets()))} KiB" if told.status == 0 and not fault else ""
         print(f"{made.__name__}: {len(lines)} lines, {fault or 'the same'}{memory}", flush=True)
     print(f"limits: {len(ALL)} scripts, {bad} with a difference, {sum(os.times()[:4]):.0f} s of processor")
     sys.exit(bool(bad))

@@ -3,7 +3,7 @@ import base64
 
 from signals import (
     ALICE, ALICE_CARRIED, ALICE_KEYED, ALICE_OFFERS, BOB, BOB_ANSWERS, BOB_CARRIED, CM, COUNTING, MADE, MANUAL,
-    ONE, OWN, PCMU, SHIFTED, Script, alice_live, answer, at_slot, crypto, key, made, master, noise, octets_of,
+    ONE, OWN, PCMU, SHIFTED, Script, alice_live, answer, at_slot, crypto, key, made, noise, octets_of,
     offer_mikey, offer_sdes, offer_secure, own_key, own_lines, plain_text, sdp, secure_text,
 )
 from srtp import MasterKey, SMALL, rtcp, rtp

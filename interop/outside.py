@@ -8,12 +8,12 @@ by the texts that the gateway sends: its MIKEY messages have the clock's moment,
 """
 import base64
 import socket
-import sys
 import time
 
 from hostile_relay import HOST, Gateway, has_own_loopback
 from mikey import ERA
 from signals import BOB, BOB_ANSWERS, PEER, hexed, psk
+from usage import words_or_usage
 
 # How many messages are looked at, and how many draws.
 MOMENTS, DRAWS = 4, 8
@@ -87,7 +87,7 @@ def draws_every_octet(gateway):
 
 def main():
     has_own_loopback()
-    gateway = Gateway(sys.argv[1], 1)
+    gateway = Gateway(words_or_usage(__doc__)[0], 1)
     try:
         for check in (listens_at_one_address, tells_the_systems_time, draws_every_octet):
             print(f"{check.__name__}: {check(gateway)}", flush=True)

@@ -13,6 +13,8 @@ import sys
 import tempfile
 from pathlib import Path
 
+from usage import words_or_usage
+
 TOP = Path(__file__).resolve().parent.parent
 DONE, NO_MEMORY = 0, 6
 SCRIPTS = [
@@ -53,7 +55,8 @@ def refuse_each(program, shim, name, room):
 
 
 def main():
-    program, names = str(Path(sys.argv[1]).resolve()), sys.argv[2:] or SCRIPTS
+    program, *names = words_or_usage(__doc__)
+    program, names = str(Path(program).resolve()), names or SCRIPTS
     with tempfile.TemporaryDirectory() as folder:
         room = Path(folder)
         shim = str(room / "refuse.so")

@@ -1,4 +1,6 @@
+# shellcheck shell=bash
 # Read by the scripts beside it. `needs COMMAND PACKAGE` ends the script with 77 where the command isn't there.
+# shellcheck disable=SC2034 # the scripts read it
 here=$(cd "$(dirname "${BASH_SOURCE[0]}")" && pwd)
 needs() {
   command -v "$1" > /dev/null && return
