@@ -82,7 +82,7 @@ class Server:
             self.sockets[side].bind((HOME, port))
         self.calls = {}                     # by the SIP name of either half: number, and the two halves by side
         self.names = itertools.count(1)
-        self.log = []
+        self.log, self.ended_calls = [], 0
         # Calls that ended by themselves, and why; the driver tells of them in a thread of its own.
         self.over = collections.deque()
         driver.on_end = lambda call, why: self.over.append((call, why))
@@ -236,6 +236,7 @@ class Server:
             self.forget(call)
 
     def forget(self, call):
+        self.ended_calls += any(known[0] == call for known in self.calls.values())
         self.calls = {name: known for name, known in self.calls.items() if known[0] != call}
 
     # ---- the loop
@@ -285,12 +286,13 @@ def main():
     words.add_argument("--secure", type=address, required=True, help="the telephone on the secure side")
     words.add_argument("--plain", type=address, required=True, help="the telephone on the plain side")
     words.add_argument("--seconds", type=float, default=3_600, help="when it ends by itself")
+    words.add_argument("--calls", type=int, default=0, help="that it ends once so many calls have ended; 0 for never")
     given = words.parse_args()
     require_free(*PORTS.values())
     try:
         # The next process follows where one ends.
         driver = Driver(program(), restarts=True)
-    except (Gone, Taken) as fault:
+    except (Gone, Taken, OSError) as fault:
         print(f"the gateway can't be started: {fault}", file=sys.stderr)
         return 1
     end = time.monotonic() + given.seconds
@@ -298,7 +300,7 @@ def main():
     print(f"telephones of the secure side call {HOME}:{PORTS['secure']}, of the plain side {HOME}:{PORTS['plain']};"
           f" until {given.seconds:g} seconds have passed, or Ctrl-C", flush=True)
     with contextlib.suppress(KeyboardInterrupt):
-        server.serve(lambda: time.monotonic() > end)
+        server.serve(lambda: time.monotonic() > end or 0 < given.calls <= server.ended_calls)
     status = driver.close()
     for (port, cause), count in sorted(driver.drops.items()):
         print(f"dropped at port {port}: {count} by {cause}")

@@ -20,6 +20,8 @@ from driver import Driver
 SECONDS = 10
 PHONE, PLAIN_PHONE, ECHO = ("127.0.0.1", 5060), ("127.0.0.1", 5062), ("127.0.0.1", 5080)
 ECHO_RTP = 43_000
+# How many packets one telephone may have under way when the other one takes its first, or hangs up.
+UNDER_WAY = 3
 # The samples of a frame of 20 ms.
 FRAME = 160
 CONFIG = """sip_listen {host}:{port}
@@ -108,7 +110,7 @@ class Phone:
     def counts(self):
         """The packets that it sent and took, by its own count."""
         found = re.findall(r"packets:\s+(\d+)\s+(\d+)", (self.folder / "log").read_text(errors="replace"))
-        return found[-1] if found else ("none", "none")
+        return tuple(map(int, found[-1])) if found else (0, 0)
 
     def suite(self):
         found = re.findall(r"cryptosuite=(\w+)", (self.folder / "log").read_text(errors="replace"))
@@ -190,9 +192,8 @@ def is_held(driver, folder):
         print(f"{phone.name} ({phone.suite()}): {own} packets sent, {other} taken")
     early = driver.drops[PLAIN_RTP, "NotLive"] - early
     print(f"of {erin.name}'s {early} came before its answer had gone through")
-    # What comes before a telephone has its answer, or after it has hung up, it doesn't count.
     held = sum("past" in line for line in server.log) == 4
-    return held and int(sent) - int(heard) < 10 and int(back) - early - int(took) < 10
+    return held and 0 <= sent - heard <= UNDER_WAY and 0 <= back - early - took <= UNDER_WAY
 
 
 def main():

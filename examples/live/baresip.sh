@@ -7,10 +7,11 @@
 #
 # Keys are agreed by crypto lines. It says what arrived where, and ends with 0 where each telephone heard the
 # samples that the other one played, in their order and without a gap; in the third call, where each took the
-# packets that the other one sent.
+# packets that the other one sent, but for at most three that were under way when it hung up.
 #
 #   examples/live/baresip.sh                 with ./srtpgw, or with the program that SRTPGW names
 . "$(dirname "$0")/needs.sh"
 needs baresip baresip-core
 needs sipp sip-tester
+hostname -I | grep -q '\.' || { echo 'not run: baresip needs an IPv4 address besides the loopback' >&2; exit 77; }
 exec timeout -k 5 600 python3 "$here/baresip.py"

@@ -1,0 +1,357 @@
+#!/usr/bin/env python3
+"""Drives a gateway by tools/driver.py, and looks at what a driver must not get wrong: where the count of ticks begins,
+whose outcome is whose, what is told when the process ends, and what is spent. Needs Python 3.8, Linux, the UDP ports of
+the gateway, and 40000 and 41000 of 127.0.0.1; nothing else.
+
+    python3 interop/driving.py crates/srtpgw/out/srtpgw
+"""
+
+import base64
+import contextlib
+import hashlib
+import hmac
+import os
+import random
+import re
+import signal
+import socket
+import subprocess
+import sys
+import tempfile
+import threading
+import time
+from pathlib import Path
+
+HERE = Path(__file__).resolve().parent
+sys.path.insert(0, str(HERE.parent / "tools"))
+
+from driver import Bounds, Driver, Fifos, Gone, Program, Refused, Taken  # noqa: E402
+
+HOST = "127.0.0.1"
+SECURE, PLAIN = (HOST, 40_000), (HOST, 41_000)
+SECURE_RTP, PLAIN_RTP = 20_000, 20_002
+PACKETS, PACE = 300, 0.01
+DELAYS = [0, 50, 100, 500]
+PATIENCE = 20.0
+DROPS = 3_000
+
+
+class Wrong(Exception):
+    """The driver did something else than it should."""
+
+
+def require(holds, what):
+    if not holds:
+        raise Wrong(what)
+
+
+def wait_until(holds, what):
+    end = time.monotonic() + PATIENCE
+    while not holds():
+        require(time.monotonic() < end, f"waited {PATIENCE:g} s for {what}")
+        time.sleep(0.02)
+
+
+class Key:
+    """A key of `RAW80`: HMAC-SHA-1 under it, of the packet and the rollover, is the tag (RFC 3711, 4.2.1), and nothing is
+    encrypted."""
+
+    def __init__(self):
+        self.octets = os.urandom(20)
+
+    def field(self):
+        return f"RAW80:{self.octets.hex()}"
+
+    def sealed(self, packet, rollover=0):
+        return packet + hmac.new(self.octets, packet + rollover.to_bytes(4, "big"), hashlib.sha1).digest()[:10]
+
+
+class Call:
+    """The two ends of a call with keys by hand. One at a time, since they have one address each."""
+
+    def __init__(self, driver, number):
+        self.from_peer, self.to_peer = Key(), Key()
+        self.ends = [bound(address) for address in (SECURE, PLAIN)]
+        driver.manual(number, SECURE, PLAIN, self.from_peer.field(), self.to_peer.field())
+        self.ports = driver.ports(number)
+
+    def talk(self, count, what):
+        """Sends packets each way at once, and looks at what arrives."""
+        there, back = packets(count), packets(count)
+        sealed = [self.from_peer.sealed(packet) for packet in there]
+        began = time.monotonic()
+        for place, pair in enumerate(zip(sealed, back)):
+            time.sleep(max(0, began + PACE * place - time.monotonic()))
+            for end, octets, port in zip(self.ends, pair, (self.ports[0], self.ports[2])):
+                end.sendto(octets, (HOST, port))
+        arrived = [taken(end, count) for end in self.ends]
+        require(arrived[1] == there, f"{what}: {len(arrived[1])} of {count} packets came to the plain side")
+        wanted = [self.to_peer.sealed(packet) for packet in back]
+        require(arrived[0] == wanted, f"{what}: {len(arrived[0])} of {count} packets came to the secure side")
+
+    def close(self):
+        for end in self.ends:
+            end.close()
+
+
+def bound(address):
+    end = socket.socket(socket.AF_INET, socket.SOCK_DGRAM)
+    end.setsockopt(socket.SOL_SOCKET, socket.SO_RCVBUF, 1 << 20)
+    end.bind(address)
+    return end
+
+
+def packets(count):
+    """RTP packets of PCMU, of random octets."""
+    ssrc, first = os.urandom(4), random.randrange(30_000)
+    heads = [bytes([0x80, 0]) + (first + place).to_bytes(2, "big") + (160 * place).to_bytes(4, "big") for place in range(count)]
+    return [head + ssrc + os.urandom(160) for head in heads]
+
+
+def taken(end, count):
+    """What came to an end, until nothing more comes within two seconds."""
+    arrived = []
+    end.settimeout(2)
+    with contextlib.suppress(socket.timeout):
+        while len(arrived) < count:
+            arrived.append(end.recv(4_096))
+    return arrived
+
+
+def text_of(name, port, profile, *rest):
+    lines = [b"v=0", b"o=- 1 1 IN IP4 127.0.0.1", b"s=" + name, b"c=IN IP4 127.0.0.1", b"t=0 0",
+             b"m=audio %d %s 0" % (port, profile), *rest]
+    return b"".join(line + b"\r\n" for line in lines)
+
+
+def secure_text(name):
+    key = base64.b64encode(os.urandom(30))
+    return text_of(name, SECURE[1], b"RTP/SAVP", b"a=crypto:1 AES_CM_128_HMAC_SHA1_80 inline:" + key)
+
+
+@contextlib.contextmanager
+def driving(program, **options):
+    """A driver for the time being, what it warned of, and the ends of calls that it told of."""
+    warned, ended = [], []
+    options.setdefault("on_end", lambda call, why: ended.append((call, why)))
+    driver = Driver(program, warn=warned.append, **options)
+    try:
+        yield driver, warned, ended
+    finally:
+        driver.close()
+
+
+def is_there(pid):
+    with contextlib.suppress(ProcessLookupError):
+        os.kill(pid, 0)
+        return True
+    return False
+
+
+def counts_from_the_start(program):
+    """the first answer is late by"""
+    for delay in DELAYS:
+        with driving(Program([sys.executable, HERE / "slowed.py", "first", str(delay), program])) as (driver, _, _):
+            call = Call(driver, 1)
+            call.talk(PACKETS, f"{delay} ms late")
+            call.close()
+            require(not driver.drops, f"{delay} ms late: dropped {dict(driver.drops)}")
+    return f"{', '.join(map(str, DELAYS))} ms: {PACKETS} of {PACKETS} packets each way each time"
+
+
+def each_has_its_own(program):
+    """texts that aren't UTF-8, of four calls at once"""
+    given, numbers = {}, range(1, 5)
+
+    def agree(driver, number):
+        driver.offer_secure(number, secure_text(b"offer"))
+        given[number] = driver.answer(number, text_of(b"caf\xe9 %d" % number, PLAIN[1], b"RTP/AVP"))
+
+    with driving(program) as (driver, _, _):
+        threads = [threading.Thread(target=agree, args=(driver, number)) for number in numbers]
+        for thread in threads:
+            thread.start()
+        for thread in threads:
+            thread.join()
+        require(sorted(given) == list(numbers), f"answers of calls {sorted(given)}")
+        for number in numbers:
+            require(b"s=caf\xe9 %d\r\n" % number in given[number], f"the text of call {number} is another one's")
+            port = int(re.search(rb"m=audio (\d+)", given[number])[1])
+            require(port == driver.ports(number)[0], f"call {number} has the port of another one")
+        keys = {re.search(rb"inline:(\S+)", text)[1] for text in given.values()}
+        require(len(keys) == len(given), "two calls have one key")
+    return "each has its own text, port and key"
+
+
+def a_late_outcome_ends_the_process(program):
+    """an outcome that doesn't come in time"""
+    with driving(program, wait=1.0) as (driver, _, ended):
+        driver.offer_secure(1, secure_text(b"one"))
+        pid = driver.gateway.pid
+        os.kill(pid, signal.SIGSTOP)
+        with contextlib.suppress(Gone):
+            driver.offer_secure(2, secure_text(b"two"))
+            raise Wrong("the outcome of a stopped process")
+        require(not is_there(pid), "the process is still there")
+        wait_until(lambda: ended == [(1, "gone")], "the end of the call")
+        with contextlib.suppress(Gone):
+            driver.bye(1)
+            raise Wrong("a signal to a process that has ended")
+    return "the process is ended, and its call told as gone"
+
+
+def calls_are_told_and_made_anew(program):
+    """a process that is killed"""
+    told, made = [], []
+
+    def on_end(call, why):
+        told.append((call, why))
+        if call == 1:
+            raise ZeroDivisionError("a fault of the server")
+        # A signal from within: call 2 is made anew as soon as that can be.
+        while not made:
+            with contextlib.suppress(Gone):
+                made.append(driver.offer_secure(call, secure_text(b"anew")))
+            time.sleep(0.02)
+
+    with driving(program, on_end=on_end, restarts=True) as (driver, warned, _):
+        for number in (1, 2):
+            driver.offer_secure(number, secure_text(b"one"))
+        os.kill(driver.gateway.pid, signal.SIGKILL)
+        wait_until(lambda: made, "a call of the next process")
+        require(told == [(1, "gone"), (2, "gone")], f"told {told}")
+        require(any("ZeroDivisionError" in line for line in warned), f"warned {warned}")
+        driver.bye(2)
+        call = Call(driver, 3)
+        call.talk(50, "the next process")
+        call.close()
+    return "both calls are told as gone, one fault in on_end, one call made anew from within it"
+
+
+def it_drains(program):
+    """what is spent"""
+    with driving(program, restarts=True, bounds=Bounds(keys=3)) as (driver, _, ended):
+        pid, call = driver.gateway.pid, Call(driver, 1)
+        for number in (2, 3):
+            with contextlib.suppress(Refused):
+                driver.manual(number, SECURE, PLAIN, Key().field(), Key().field())
+        require(list(driver.slots) == [1, 2], f"calls {list(driver.slots)} with four keys spent")
+        call.talk(50, "while it drains")
+        driver.bye(2)
+        call.talk(50, "with the last call")
+        driver.bye(1)
+        call.close()
+        wait_until(lambda: driver.gateway.pid != pid and not driver.gone, "the next process")
+        require(not is_there(pid) and not ended, f"told {ended}")
+        driver.manual(3, SECURE, PLAIN, Key().field(), Key().field())
+        driver.restarts = False
+        driver.drain()
+        driver.bye(3)
+        require(driver.drained.wait(PATIENCE), "it doesn't end with its last call")
+        require(driver.gone.status == 0, f"{driver.gone}")
+    return "new calls are refused, the others go on, the process ends with the last one, and the next one follows"
+
+
+def close_waits_for_drops(program):
+    """drops that are told at the end"""
+    with driving(Program([sys.executable, HERE / "slowed.py", "drops", "0", program])) as (driver, _, _):
+        call = Call(driver, 1)
+        for _ in range(DROPS // 20):
+            for _ in range(20):
+                call.ends[0].sendto(b"x", (HOST, call.ports[0]))
+            time.sleep(PACE)
+        time.sleep(0.5)
+        require(not driver.drops, "drops weren't held back")
+        require(driver.close() == 0, "the status")
+        call.close()
+        held = int(driver.gateway.gone.said.split()[0])
+        counted = driver.drops[SECURE_RTP, "Short"]
+        require(held == counted and held > DROPS // 2, f"{counted} of {held} are counted")
+    return f"{held} of {held} are counted when it is closed"
+
+
+def fields_are_fields(program):
+    """fields that would be another line"""
+    with driving(program) as (driver, _, _):
+        tries = [
+            lambda: driver.offer_plain(1, b"v=0\r\n", peer="sip:a b"),
+            lambda: driver.psk("gateway", "peer\nbye 1", bytes(16)),
+            lambda: driver.psk("gateway", "peer", bytes(15)),
+            lambda: driver.manual(1, SECURE, ("localhost", 1), Key().field(), Key().field()),
+            lambda: driver.manual(1, SECURE, PLAIN, Key().field() + "00", Key().field()),
+            lambda: driver.offer_secure(1, bytes(32_769)),
+            lambda: driver.bye(2**32 - 1),
+        ]
+        for attempt in tries:
+            with contextlib.suppress(Refused):
+                attempt()
+                raise Wrong("a field that isn't one was told")
+        require(driver.close() == 0, "the status")
+    return f"{len(tries)} are refused, and the run goes on"
+
+
+def ports_and_answers_are_looked_at(program):
+    """a port that is taken, and a process that doesn't answer"""
+    with bound((HOST, 20_017)):
+        try:
+            Driver(program)
+            raise Wrong("it starts with a port that is taken")
+        except Taken as fault:
+            require(fault.ports == [20_017], f"{fault}")
+    try:
+        Driver(["sh", "-c", "echo $$ building >&2; sleep 60"], patience=0.5)
+        raise Wrong("a process that doesn't answer")
+    except Gone as gone:
+        pid = int(re.search(r"(\d+) building", gone.said)[1])
+        require(not is_there(pid), "it is still there")
+    return "the first is named, the second ended with what it said"
+
+
+def sockets_overflow(program):
+    """datagrams that wait too long"""
+    with driving(program) as (driver, _, _):
+        call = Call(driver, 1)
+        os.kill(driver.gateway.pid, signal.SIGSTOP)
+        for packet in packets(2 * PACKETS):
+            call.ends[1].sendto(packet, (HOST, call.ports[2]))
+        lost = driver.gateway.overflows()
+        os.kill(driver.gateway.pid, signal.SIGCONT)
+        arrived = len(taken(call.ends[0], 2 * PACKETS))
+        call.close()
+        require(lost.get(PLAIN_RTP) and arrived + lost[PLAIN_RTP] == 2 * PACKETS, f"{arrived} arrived, lost {lost}")
+    return f"{lost[PLAIN_RTP]} of {2 * PACKETS} were lost in front of a socket, and counted"
+
+
+def a_unit_keeps_it(program):
+    """a gateway behind two FIFOs"""
+    with tempfile.TemporaryDirectory() as folder:
+        lines, outcomes = (Path(folder) / name for name in ("lines", "outcomes"))
+        os.mkfifo(lines), os.mkfifo(outcomes)
+        command = f'exec "{program}" relay --turns 1000000 < "{lines}" > "{outcomes}"'
+        for _ in range(2):
+            with subprocess.Popen(["sh", "-c", command]) as run:
+                with driving(Fifos(lines, outcomes)) as (driver, _, _):
+                    call = Call(driver, 1)
+                    call.talk(50, "behind FIFOs")
+                    call.close()
+                require(run.wait(PATIENCE) == 0, f"its status is {run.returncode}")
+    return "two in turn, 50 of 50 packets each way"
+
+
+def main(program):
+    program = str(Path(program).resolve())
+    checks = [
+        counts_from_the_start, each_has_its_own, a_late_outcome_ends_the_process, calls_are_told_and_made_anew, it_drains,
+        close_waits_for_drops, fields_are_fields, ports_and_answers_are_looked_at, sockets_overflow, a_unit_keeps_it,
+    ]
+    for check in checks:
+        try:
+            print(f"driver: {check.__doc__}: {check(program)}", flush=True)
+        except Wrong as fault:
+            print(f"driver: {check.__doc__}: WRONG: {fault}")
+            return 1
+    return 0
+
+
+if __name__ == "__main__":
+    sys.exit(main(*sys.argv[1:]))
