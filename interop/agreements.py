@@ -471,8 +471,27 @@ def carried_lines():
     return s
 
 
+def profiles_with_feedback():
+    """RTP/SAVPF and RTP/AVPF stand for each other as RTP/SAVP and RTP/AVP do, whoever offers."""
+    s = Script()
+    theirs, drawn = key("of a line"), noise("feedback")
+    secure, plain = "m=audio 40000 RTP/SAVPF 0", "m=audio 41000 RTP/AVPF 0"
+    towards_plain, towards_secure = ALICE + ["m=audio 20002 RTP/AVPF 0"], BOB + ["m=audio 20000 RTP/SAVPF 0"]
+    s.says(offer_secure(7, secure_text(crypto(1, theirs), media=secure)), made(7), sdp(7, "plain", towards_plain))
+    s.says(answer(7, plain_text(media=plain)), sdp(7, "secure", towards_secure + [crypto(1, OWN)]), "live 7")
+    s.both_ways(theirs, OWN)
+    s.says("bye 7", "ended 7 0 1 bye")
+    told = sdp(8, "secure", towards_secure + own_lines(drawn))
+    s.says(offer_sdes(8, plain_text(media=plain), drawn), made(8), told)
+    other = key("of another line")
+    s.says(answer(8, secure_text(crypto(1, other), media=secure)), sdp(8, "plain", towards_plain), "live 8")
+    s.both_ways(other, own_key(drawn))
+    return s
+
+
 ALL = (
     offered_by_the_secure_side, offered_by_the_plain_side, refused_lines, lines_of_the_second_medium,
     lines_passed_over, lifetimes, lifetimes_of_an_answer, windows, windows_at_bounds, unencrypted, echoed_key,
     idle_media, no_medium_is_left, no_media, faulty_texts, cut_offers, cut_texts_of_the_plain_side, carried_lines,
+    profiles_with_feedback,
 )

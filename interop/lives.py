@@ -105,7 +105,7 @@ def states():
 
 
 def rejected_offers():
-    """A first offer that is rejected ends its call; a later one leaves the generation that is there."""
+    """A first offer that is rejected ends its call; a later one is closed, and leaves the generation that is there."""
     s = Script()
     alice_live(s)
     s.opened(20000, ALICE_KEYED, rtp(7), 7, ONE)
@@ -113,6 +113,7 @@ def rejected_offers():
     s.says(offer_sdes(7, BOB_ANSWERS, SHIFTED), sdp(7, "secure", told))
     s.opened(20000, ALICE_KEYED, rtp(8), 8, ONE)
     s.says("reject 7")
+    s.refused("reject 7", "State")
     s.dropped(20000, ALICE_KEYED.srtp(rtp(8), 8, ONE), "Repeat")
     s.opened(20000, ALICE_KEYED, rtp(9), 9, ONE)
     s.sealed(20002, OWN, rtp(7), 7)

@@ -1,10 +1,11 @@
 """Rows of offers and answers by MIKEY messages, and of pre-shared keys."""
 import struct
 
+from agreements import edge_of
 from mikey import DEFAULTS, ERA, answered, flipped, stamp_of
 from signals import (
     ALICE, BOB, BOB_ANSWERS, COUNTING, GATEWAY, LAST, NOW, OTHER, PCMU, PEER, SHIFTED, Script, TGK, answer,
-    crypto, key, made, master, message_line, octets_of, offer_mikey, offer_secure, own_exchange, peers_exchange,
+    crypto, key, made, master, message_line, noise, octets_of, offer_mikey, offer_secure, own_exchange, peers_exchange,
     plain_text, psk, sdp, secure_text,
 )
 from srtp import rtcp, rtp
@@ -383,8 +384,129 @@ def noted_once():
     s.says(answer(9, BOB + ["m=audio 0 RTP/AVP 0", "m=audio 41010 RTP/AVP 0"]), sdp(9, "secure", told), "live 9")
     return s
 
+
+# ---- a call by a message of the peer, and its bounds
+
+CARRIED = ALICE + ["m=audio 20002 RTP/AVP 0"]
+ENDED = "ended 9 0 1 bye"
+
+
+def offer_by(exchange, drawn=COUNTING):
+    """An offer of the secure side under the peer's message."""
+    return offer_secure(9, secure_text(session=[message_line(exchange.initial())]), drawn)
+
+
+def live_by(s, exchange):
+    """A call under the peer's message, and the gateway's response to the octet."""
+    s.says(offer_by(exchange), made(9), sdp(9, "plain", CARRIED))
+    line = message_line(exchange.response(GATEWAY.encode(), answered(exchange.entries, [0])))
+    s.says(answer(9, plain_text()), sdp(9, "secure", BOB + [line, "m=audio 20000 RTP/SAVP 0"]), "live 9")
+
+
+def windows_of_messages():
+    """By a message the gateway opens in a window of 64, whoever offers."""
+    s = Script()
+    s.says(psk())
+    s.tick(NOW)
+    exchange = peers_exchange()
+    live_by(s, exchange)
+    theirs = exchange.sessions(16)[0][0]
+    edge_of(s, master(theirs), 3000, 64, 5)
+    later = own_exchange(SHIFTED, [0], NOW)
+    told = BOB + [message_line(later.initial()), "m=audio 20000 RTP/SAVP 0", PCMU]
+    s.says(offer_mikey(9, PEER, BOB_ANSWERS, SHIFTED), sdp(9, "secure", told))
+    reply = message_line(later.response(PEER.encode(), answered(later.entries, [0x11])))
+    s.says(answer(9, secure_text(session=[reply])), sdp(9, "plain", CARRIED), "live 9")
+    theirs = later.sessions(16)[1][0]
+    edge_of(s, master(theirs), 3000, 64, 0x11)
+    return s
+
+
+def last_source():
+    """The last SSRC, 2^32 - 1, is a source as any other."""
+    s = Script()
+    last = 2**32 - 1
+    s.says(psk())
+    exchange = own_exchange(COUNTING, [last])
+    source = f"a=ssrc:{last} cname:x"
+    told = BOB + [message_line(exchange.initial()), "m=audio 20000 RTP/SAVP 0", source]
+    s.says(offer_mikey(9, PEER, plain_text(source)), made(9), sdp(9, "secure", told))
+    reply = message_line(exchange.response(PEER.encode(), answered(exchange.entries, [last])))
+    s.says(answer(9, secure_text(session=[reply])), sdp(9, "plain", CARRIED), "live 9")
+    (own,), (theirs,) = exchange.sessions(16)
+    s.dropped(20002, rtp(7), "SsrcUnknown")
+    s.sealed(20002, master(own), rtp(7, ssrc=last), 7)
+    s.opened(20000, master(theirs), rtp(7, ssrc=last), 7)
+    return s
+
+
+def bounds_of_message_keys():
+    """Keys have 16 to 64 octets; SPIs 1 to 128 octets and a value below 2^128; a message has eight keys at most."""
+    s = Script()
+    s.says(psk())
+    s.tick(NOW)
+    numbers = iter(range(1, 99))
+    message = lambda keys: peers_exchange(next(numbers), keys=keys)
+    long = lambda length: (octets_of("a", 64) + b"x")[:length]
+    under = lambda *spis: [(long(16 + n), spi) for n, spi in enumerate(spis)]
+    largest = bytes(112) + b"\xff" * 16
+    single = [bytes([n]) for n in range(9)]
+    for keys in (
+        [(long(16), None)], [(long(64), None)],
+        *map(under, (b"\1", b"\0", bytes(128), largest, largest[112:])), under(*single[:8]),
+    ):
+        s.says(offer_by(message(keys)), made(9), sdp(9, "plain", CARRIED))
+        s.says("bye 9", ENDED)
+    for keys in (
+        [(b"", None)], [(long(15), None)], [(long(65), None)],
+        *map(under, (b"", bytes(129), b"\1" + bytes(16), bytes(111) + b"\1" + bytes(16), b"\xff" * 17, b"\2" + bytes(16))),
+        under(*single),
+    ):
+        s.refused(offer_by(message(keys)), "Psk 255 KeyType")
+    for spi in (b"\7", largest):
+        exchange = message(under(spi))
+        live_by(s, exchange)
+        (theirs,), (own,) = exchange.sessions(16)
+        s.opened(20000, master(theirs), rtp(7), 7, spi)
+        s.sealed(20002, master(own), rtp(7), 7, spi)
+        s.says("bye 9", ENDED)
+    return s
+
+
+def stamps_of_own_messages():
+    """The stamp of the gateway's own message at moments of whole and of broken seconds, the last moment too."""
+    s = Script()
+    s.says(psk())
+    last = 2_085_978_495_999
+    for now in (0, 1, 999, 1000, 1001, 1002, 1999, 2000, 59_999, NOW + 2, 1_234_567_891, last):
+        s.tick(now)
+        drawn = noise(f"stamp {now}")
+        told = BOB + [message_line(own_exchange(drawn, [0], now).initial()), "m=audio 20000 RTP/SAVP 0", PCMU]
+        s.says(offer_mikey(9, PEER, BOB_ANSWERS, drawn), made(9), sdp(9, "secure", told))
+        s.says("bye 9", ENDED)
+    return s
+
+
+def skews_of_broken_seconds():
+    """A stamp's fraction counts: at a half and at three quarters of a second, 300,000 ms off and 1 ms more, both ways."""
+    s = Script()
+    s.says(psk())
+    numbers = iter(range(1, 99))
+    for stamp in (NOW + 500, NOW + 10_000_750):
+        offer = lambda: offer_by(peers_exchange(next(numbers), now=stamp))
+        for now in (stamp - 300_001, stamp - 300_000, stamp + 300_000, stamp + 300_001):
+            s.tick(now)
+            if abs(now - stamp) > 300_000:
+                s.refused(offer(), f"Psk 255 Skew {stamp} {now}")
+            else:
+                s.says(offer(), made(9), sdp(9, "plain", CARRIED))
+                s.says("bye 9", ENDED)
+    return s
+
+
 ALL = (
     pairs, mikey_by_the_gateway, mikey_by_the_peer, first_source, messages_of_media, session_of_two_media,
     mikey_of_three_media, pair_of_a_message, skews, early_stamps, refused_messages, cut_messages, needed_messages,
-    noted_once,
+    noted_once, windows_of_messages, last_source, bounds_of_message_keys, stamps_of_own_messages,
+    skews_of_broken_seconds,
 )

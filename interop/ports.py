@@ -1,8 +1,9 @@
 """A datagram at every port of a slot in each state of its call, and what becomes of it, worked out by hand."""
 from signals import (
-    ALICE, BOB, COUNTING, PLAIN, SHIFTED, Script, answer, crypto, key, made, offer_secure, own_key, sdp,
+    ALICE, BOB, COUNTING, MANUAL, OWN, PLAIN, SHIFTED, Script, answer, crypto, key, made, offer_secure, own_key,
+    plain_text, sdp, secure_text,
 )
-from srtp import MasterKey
+from srtp import MasterKey, rtcp, rtp
 
 RAW = "RAW80"
 # One octet is Short wherever a session takes it.
@@ -69,4 +70,23 @@ def every_port_in_each_state():
     return s
 
 
-ALL = (every_port_in_each_state,)
+def no_control_above_the_plain_sides_last_port():
+    """A medium whose plain port is 65535 has no RTCP: by a manual line, and by crypto lines of either side."""
+    s = Script()
+    last = PLAIN.replace("41000", "65535")
+    mine, own = key("mine"), key("own")
+    s.manual(1, mine, own, MANUAL, plain=last)
+    s.dropped(20001, mine.srtcp(rtcp(), 0), "PortUnused")
+    s.dropped(20003, rtcp(), "PortUnused", last)
+    s.opened(20000, mine, rtp(7), 7, to=last)
+    s.says("bye 1", "ended 1 0 1 bye")
+    line = key("of a line")
+    s.says(offer_secure(7, secure_text(crypto(1, line))), made(7), sdp(7, "plain", ALICE + ["m=audio 20002 RTP/AVP 0"]))
+    told = BOB + ["m=audio 20000 RTP/SAVP 0", crypto(1, OWN)]
+    s.says(answer(7, plain_text(media="m=audio 65535 RTP/AVP 0")), sdp(7, "secure", told), "live 7")
+    s.dropped(20001, line.srtcp(rtcp(), 0), "PortUnused")
+    s.opened(20000, line, rtp(7), 7, to=last)
+    return s
+
+
+ALL = (every_port_in_each_state, no_control_above_the_plain_sides_last_port)

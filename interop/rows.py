@@ -10,6 +10,7 @@ import agreements
 import calls
 import lives
 import messages
+import policies
 import ports
 from model import replay
 
@@ -24,7 +25,7 @@ def written(name, script, told):
 
 def main():
     ROWS.mkdir(exist_ok=True)
-    for row in agreements.ALL + messages.ALL + lives.ALL + ports.ALL:
+    for row in agreements.ALL + messages.ALL + policies.ALL + lives.ALL + ports.ALL:
         s = row()
         lines = ["".join(line + "\n" for line in part) for part in (s.lines, s.told)]
         written(row.__name__.replace("_", "-"), *lines)
