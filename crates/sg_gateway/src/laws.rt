@@ -1,25 +1,33 @@
-//! The laws of every run: nothing forged, nothing twice, nothing within reach lost, no counter block
-//! sealed twice. Their bodies call laws alone.
+//! The laws of every run: nothing forged, nothing twice, nothing within reach lost, no counter block sealed twice;
+//! and that signals are carried out. Their bodies call laws alone.
 
 ghost use Rattle.std.specs.Prelude.{◌≡◌, ◌<◌, ℕ, Bool, List, length, get_or, set, nat_lt, Some};
 ghost use Rattle.std.specs.List.{AllPairs, insert, remove, position_from, position_or_len};
 ghost use Rattle.sg_base.specs.declared.faults.Refusal.{Refusal};
 ghost use Rattle.sg_session.specs.Reach.{Sealed, AreSealed};
+ghost use Rattle.sg_session.specs.Session.{Session};
 ghost use Rattle.sg_gateway.specs.Arriving.{EachArrivingIsPutOut};
 ghost use Rattle.sg_gateway.specs.Batch.{Arrived, AreDrained, IsToldAlone};
+ghost use Rattle.sg_gateway.specs.Busy.{EachCallIsBusy};
+ghost use Rattle.sg_gateway.specs.CarriedOut.{ByesEnd, TicksMove, RejectionsClose, AnswersRenew, AnswersKeepEarlier};
 ghost use Rattle.sg_gateway.specs.Coming.{EachOpeningCame, EachSealCame};
 ghost use Rattle.sg_gateway.specs.Departing.{EachDepartingIsSealed};
 ghost use Rattle.sg_gateway.specs.Earlier.{EarlierServeNoLonger};
 ghost use Rattle.sg_gateway.specs.Early.{IsRefusedFirst, early};
 ghost use Rattle.sg_gateway.specs.Ended.{EachEndFrees, EndedStayAway};
+ghost use Rattle.sg_gateway.specs.Forgotten.{NoKeyIsForgotten};
 ghost use Rattle.sg_gateway.specs.Lives.{EachKeyIsWithinLife};
+ghost use Rattle.sg_gateway.specs.Moments.{MomentComesOnce};
+ghost use Rattle.sg_gateway.specs.Newness.{IsNewIn, IsFresh, EachNewIsPutOut};
 ghost use Rattle.sg_gateway.specs.Order.{EachWorldIsOrderly};
 ghost use Rattle.sg_gateway.specs.Owned.{EachKeyIsOwned};
 ghost use Rattle.sg_gateway.specs.PeersPackets.{EachOpeningIsSealed, EachOpeningGoesOut, EachHighestIsSealed, OnlyOpeningsGoOut};
 ghost use Rattle.sg_gateway.specs.Places.{DifferInSerial};
+ghost use Rattle.sg_gateway.specs.PlainTexts.{NoKeyGoesToThePlainSide};
 ghost use Rattle.sg_gateway.specs.Refusing.{EachRefusalChangesNothing, EachRefusedOfferStaysOpen};
 ghost use Rattle.sg_gateway.specs.Runs.{world_after};
 ghost use Rattle.sg_gateway.specs.SealedOut.{EachSealGoesOut, OnlySealsGoOut, SignalsPutNothingOut};
+ghost use Rattle.sg_gateway.specs.Served.{EachKeyServesItsLife, NoKeyIsOverspent};
 ghost use Rattle.sg_gateway.specs.Signals.{Signal};
 ghost use Rattle.sg_gateway.specs.Step.{Event};
 ghost use Rattle.sg_gateway.specs.Twice.{NoneTwice, NoneTwiceUnderKey, KeysHaveOneOwner};
@@ -27,12 +35,15 @@ ghost use Rattle.sg_gateway.specs.Unforged.{Unforged};
 ghost use Rattle.sg_gateway.specs.Used.{NoBlockTwice};
 ghost use Rattle.sg_gateway.specs.World.{Call, World, empty, find_call, with_call, without_call, and_call};
 
-use sg_agreement::{active_media_are_agreed, agreements_are_sound, offers_fit_their_calls};
+use sg_agreement::{
+    active_media_are_agreed, agreements_are_sound, no_key_goes_to_the_plain_side,
+    offers_fit_their_calls,
+};
 
 /// Where no tag is forged, each packet put out on a plain leg is bit for bit one that was sealed under a key of
 /// its session, at the index at which it was sealed, and each opened stream's highest index is that of such a
-/// packet. Forged or not, what is opened came to its session's secure
-/// port and goes out, and nothing else goes out on a plain port.
+/// packet. Forged or not, what is opened, under a key of its session, came to that session's secure port and goes
+/// out, and nothing else goes out on a plain port.
 pub fn nothing_forged()
     ensures sealed { (events : List Event) (sealed : List Sealed) → AreSealed sealed → Unforged sealed events → EachOpeningIsSealed sealed events }
     ensures highest { (events : List Event) (sealed : List Sealed) → AreSealed sealed → Unforged sealed events → EachHighestIsSealed sealed events }
@@ -90,8 +101,8 @@ pub fn no_counter_block_twice()
 }
 
 /// In every world of a run the calls stand by rising slot, below 256, with four media at most and serial numbers
-/// below the number of calls made. No two sessions have one name; those of a call are of its current generation
-/// and, behind them, opening ones of the generation before.
+/// below the number of calls made. No two sessions have one name; those of a call are of its media, of its current
+/// generation and, behind them, opening ones of the generation before.
 pub fn calls_in_order()
     ensures { (events : List Event) → EachWorldIsOrderly events }
 {
@@ -149,4 +160,64 @@ pub fn earlier_generations_serve_no_longer()
     agreements_are_sound();
     active_media_are_agreed();
     offers_fit_their_calls();
+}
+
+/// A tick to the last moment tells nothing and leaves the world as it is.
+pub fn a_moment_comes_once()
+    ensures { (events : List Event) → MomentComesOnce events }
+{}
+
+/// In every world of a run each call's latest accepted signal or packet put out was less than 60,000 ms ago.
+pub fn no_call_stays_idle()
+    ensures { (events : List Event) → EachCallIsBusy events }
+{}
+
+/// After a bye no call has the id. After a tick the last moment is its own, unless it was before the last one. After
+/// a rejection no offer of the call is open. An answer that isn't refused gives its call a generation and closes the
+/// offer, and what opens of the generation that it replaces is still there.
+pub fn signals_are_carried_out()
+    ensures byes { (events : List Event) → ByesEnd events }
+    ensures ticks { (events : List Event) → TicksMove events }
+    ensures rejections { (events : List Event) → RejectionsClose events }
+    ensures answers { (events : List Event) → AnswersRenew events }
+    ensures earlier { (events : List Event) → AnswersKeepEarlier events }
+{
+    agreements_are_sound();
+    active_media_are_agreed();
+    offers_fit_their_calls();
+}
+
+/// No text that the plain side is told has a crypto attribute or a key-mgmt attribute.
+pub fn plain_texts_have_no_key()
+    ensures { (events : List Event) → NoKeyGoesToThePlainSide events }
+{
+    active_media_are_agreed();
+    no_key_goes_to_the_plain_side();
+}
+
+/// No key that came into use is forgotten: the ring keeps what it holds, each key at its place.
+pub fn no_key_is_forgotten()
+    ensures { (events : List Event) → NoKeyIsForgotten events }
+{}
+
+/// No key serves past its life, counted in the journal. When a packet is opened or sealed, its key has served fewer
+/// packets of that session than its life; and by the end of the run it has served no more than its life.
+pub fn no_key_serves_past_its_life()
+    ensures in_turn { (events : List Event) → EachKeyServesItsLife events }
+    ensures all { (events : List Event) → NoKeyIsOverspent events }
+{
+    agreements_are_sound();
+    active_media_are_agreed();
+    offers_fit_their_calls();
+}
+
+/// An index is fresh exactly where it isn't done and none that is done of its source is a window or more ahead of it.
+/// Each sealed packet that arrives so, near, from an admitted source and under a key under which fewer packets are done
+/// than its life, is opened and put out.
+pub fn what_is_new_is_put_out()
+    ensures fresh { (s : Session) (ssrc index : ℕ) → IsNewIn s ssrc index → IsFresh s ssrc index }
+    ensures new { (s : Session) (ssrc index : ℕ) → IsFresh s ssrc index → IsNewIn s ssrc index }
+    ensures each { (events : List Event) (sealed : List Sealed) → AreSealed sealed → EachNewIsPutOut sealed events }
+{
+    nothing_within_reach_lost();
 }

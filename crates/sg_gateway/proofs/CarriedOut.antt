@@ -1,0 +1,180 @@
+-- A signal that is taken does its part.
+use Rattle.std.proofs.Common.{◌≡◌, ℕ, ◌+◌, ◌<◌, ◌≤◌, Bool, true, false, cond, not, ◌&&◌, List, [], ◌∷◌, ◌++◌, get_or, map, Option, Some, None, Result, Ok, Err, refl, sym, ap, ◌∙◌, subst, arith, eqb, ltb, eq-eqb}
+use Rattle.std.proofs.lemmas.Bool.{cond-true, and_from, eqb-true, eqb-false, ltb-true}
+use Rattle.std.specs.List.{AllByRecursion, Any, Contains, filter}
+use Rattle.std.specs.Option.{is_some}
+use Rattle.sg_agreement.specs.Answers.{agreed_answer}
+use Rattle.sg_agreement.specs.Generations.{generation_of}
+use Rattle.sg_agreement.specs.Keying.{Offer}
+use Rattle.sg_base.specs.declared.addresses.CallId.{CallId}
+use Rattle.sg_base.specs.declared.faults.Refusal.{Refusal}
+use Rattle.sg_base.specs.declared.faults.Refusal.TheVariants.{State, TickBack}
+use Rattle.sg_base.proofs.Cases.{some_is, none_some}
+use Rattle.sg_outcome.specs.declared.outcomes.Why.TheVariants as why
+use Rattle.sg_session.proofs.Inversions.{after_ok_is, ok_is}
+use Rattle.sg_session.proofs.Lists.{each_weaker, any_here, any_there, both}
+use Rattle.sg_session.specs.Session.{Session, same_direction}
+use Rattle.sg_session.specs.declared.names.Direction.TheVariants.{Opening}
+use Rattle.sg_gateway.proofs.Freed.{Frees, event_frees}
+use Rattle.sg_gateway.proofs.InTurn.{found_passes}
+use Rattle.sg_gateway.proofs.Pairs.{Pairs}
+use Rattle.sg_gateway.specs.CallSignals.{answered_to, answered_in, rejected_in, is_idle, call_at_tick}
+use Rattle.sg_gateway.specs.Generations.{Settled, is_current, is_opening, keyed}
+use Rattle.sg_gateway.specs.Order.{IsBefore}
+use Rattle.sg_gateway.specs.Refusing.{IsRefusal}
+use Rattle.sg_gateway.specs.Signals.{Reject, Bye, answer, refused, ended, ticked, in_old, offering_side, tells_answer, answered, rejected_to, rejected, left, answer_to}
+use Rattle.sg_gateway.specs.Step.{Signalled}
+use Rattle.sg_gateway.specs.World.{Books, Call, World, call_of, find_call, same_id, with_call}
+
+-- the call that is found has the id
+id_found : (id : CallId) (c : Call) (cs : List Call) → find_call (λ x. same_id x.id id) cs ≡ Some c → same_id c.id id ≡ true
+id_found id c cs e = found_passes (λ x. same_id x.id id) cs c e
+
+id_is : (id : CallId) (c : Call) (cs : List Call) → find_call (λ x. same_id x.id id) cs ≡ Some c → c.id ≡ id
+id_is id c cs e = let is : c.id.0 ≡ id.0 = eqb-true _ _ (id_found id c cs e) in (λ i. record { 0 = is i })
+
+-- a call that is put in the place of the one of an id is found by that id
+found_with : (id : CallId) (c d : Call) (cs : List Call) → d.serial ≡ c.serial → same_id d.id id ≡ true → find_call (λ x. same_id x.id id) cs ≡ Some c
+    → find_call (λ x. same_id x.id id) (with_call d cs) ≡ Some d
+found_with id c d [] serial own e = absurd cc
+found_with id c d (x ∷ xs) serial own e = at (find_call (λ x. same_id x.id id) (with_call d xs)) (found_with id c d xs serial own) (eqb x.serial d.serial) refl
+  where
+    by_id : (later : Option Call) → (find_call (λ x. same_id x.id id) xs ≡ Some c → later ≡ Some d) → (x.serial ≡ d.serial → ⊥) → (b : Bool)
+        → cond b (Some x) (find_call (λ x. same_id x.id id) xs) ≡ Some c → cond b (Some x) later ≡ Some d
+    by_id later rest other true e = absurd (other (ap (λ (y : Call). y.serial) (some_is x c e) ∙ sym serial))
+    by_id later rest other false e = rest e
+
+    at : (later : Option Call) → (find_call (λ x. same_id x.id id) xs ≡ Some c → later ≡ Some d) → (b : Bool) → eqb x.serial d.serial ≡ b
+        → cond (same_id (cond b d x).id id) (Some (cond b d x)) later ≡ Some d
+    at later rest true is = cond-true (same_id d.id id) (Some d) later own
+    at later rest false is = by_id later rest (eqb-false x.serial d.serial is) (same_id x.id id) e
+
+-- ---- a tick
+
+pub tick_moves : (w : World) (now : ℕ) → w.moment ≤ now → (ticked w now).world.moment ≡ now
+tick_moves w now le = go (ltb now w.moment) refl
+  where
+    go : (b : Bool) → ltb now w.moment ≡ b
+        → (cond b (refused w None (TickBack w.moment)) (answer (map (ended why.Idle) (filter (is_idle now) w.calls))
+        (record w { calls = map (call_at_tick now) (filter (λ c. not (is_idle now c)) w.calls); moment = now }))).world.moment ≡ now
+    go true is = let lt = ltb-true now w.moment is in absurd (omega (arith, le, lt))
+    go false is = refl
+
+-- ---- a bye and a rejection
+
+module _ (w : World) (before : Pairs IsBefore w.calls) (older : AllByRecursion (λ c. c.serial < w.made) w.calls) where
+  bye_at : (id : CallId) (o : Option Call) → call_of w id ≡ o → AllByRecursion (Frees w (left w id o).world) (left w id o).outcomes → call_of (left w id o).world id ≡ None
+  bye_at id None is free = is
+  bye_at id (Some c) is free =
+      subst (λ i. call_of (left w id (Some c)).world i ≡ None) (id_is id c w.calls is) (free.0 c.id c.slot c.media why.Bye refl).id_free
+
+  pub bye_ends : (id : CallId) → call_of (answer_to w (Bye id)).world id ≡ None
+  bye_ends id = bye_at id (call_of w id) refl (event_frees w before older (Signalled (Bye id)))
+
+  rejection_at : (id : CallId) (o : Option Call) → call_of w id ≡ o → AllByRecursion (Frees w (rejected w id o).world) (rejected w id o).outcomes
+      → (d : Call) → call_of (rejected w id o).world id ≡ Some d → d.offer ≡ None
+  rejection_at id None is free d e = absurd (none_some d (sym is ∙ e))
+  rejection_at id (Some c) is free d e = go (rejected_in w.moment c) refl free e
+    where
+      closed : (cause : Refusal) (next : Result (Option Call) Refusal) (o : Option Offer) → ((r : Option Call) × (next ≡ Ok r)) → cond (is_some o) next (Err State) ≡ Err cause → o ≡ None
+      closed cause next None ok e = refl
+      closed cause next (Some o) ok e = absurd (let same = ok.1 in cc)
+
+      next_is : (x y : Call) (a b : Bool) → cond a (Ok (cond b None (Some x))) (Err State) ≡ Ok (Some y) → x ≡ y
+      next_is x y true true e = absurd cc
+      next_is x y true false e = cc
+      next_is x y false b e = absurd cc
+
+      go : (r : Result (Option Call) Refusal) → rejected_in w.moment c ≡ r → AllByRecursion (Frees w (rejected_to w c r).world) (rejected_to w c r).outcomes
+          → call_of (rejected_to w c r).world id ≡ Some d → d.offer ≡ None
+      go (Err cause) r free e = subst (λ (x : Call). x.offer ≡ None) (some_is c d (sym is ∙ e)) (closed cause _ c.offer (_, refl) r)
+      go (Ok None) r free e = absurd (none_some d (sym (subst (λ i. call_of (rejected_to w c (Ok None)).world i ≡ None) (id_is id c w.calls is) (free.0 c.id c.slot c.media why.Rejected refl).id_free) ∙ e))
+      go (Ok (Some next)) r free e =
+          let same : record c { offer = None; moment = w.moment } ≡ next = next_is (record c { offer = None; moment = w.moment }) next (is_some c.offer) (eqb c.generations 0) r in
+          let at = found_with id c next w.calls (sym (ap (λ (x : Call). x.serial) same)) (subst (λ (x : Call). same_id x.id id ≡ true) same (id_found id c w.calls is)) is in
+          subst (λ (x : Call). x.offer ≡ None) (same ∙ some_is next d (sym at ∙ e)) refl
+
+  pub rejection_closes : (id : CallId) (d : Call) → call_of (answer_to w (Reject id)).world id ≡ Some d → d.offer ≡ None
+  rejection_closes id d e = rejection_at id (call_of w id) refl (event_frees w before older (Signalled (Reject id))) d e
+
+-- ---- an answer
+
+abbrev stays : Call → Session → Bool
+stays c s = is_opening s && is_current c s
+
+-- the call with one generation more
+record IsRenewed (c d : Call) : Type 0 where
+  serial : d.serial ≡ c.serial
+  id : d.id ≡ c.id
+  generations : d.generations ≡ c.generations + 1
+  offer : d.offer ≡ None
+  news : List Session
+  sessions : d.sessions ≡ news ++ filter (stays c) c.sessions
+
+renews : (now : ℕ) (books : Books) (c : Call) (noise text : List ℕ) (o : Option Offer) (r : Settled) → answered_to now books c noise text o ≡ Ok r → IsRenewed c r.call
+renews now books c noise text None r e = absurd cc
+renews now books c noise text (Some o) r e =
+    let a = after_ok_is (agreed_answer c.slot o noise text) (λ a. keyed now books c a.text a.media) r e in
+    let b = after_ok_is (generation_of c.serial c.generations books.ring a.0.media) _ r a.2 in
+    subst (λ (r : Settled). IsRenewed c r.call) (ok_is _ r b.2) (record { serial = refl; id = refl; generations = refl; offer = refl; news = b.0.sessions; sessions = refl })
+
+module _ {X : Type 0} where
+  -- what passes a test stays
+  stays_in : (test : X → Bool) (xs : List X) → AllByRecursion (λ x. test x ≡ true → Any (λ y. y ≡ x) (filter test xs)) xs
+  stays_in test [] = tt
+  stays_in test (x ∷ xs) = (
+    λ on. subst (λ (l : List X). Any (λ y. y ≡ x) l) (sym (cond-true (test x) (x ∷ filter test xs) (filter test xs) on)) (any_here (λ y. y ≡ x) x (filter test xs) refl),
+    each_weaker (λ z. test z ≡ true → Any (λ y. y ≡ z) (filter test xs)) _
+        (λ z h on. both (λ (l : List X). Any (λ y. y ≡ z) l) (test x) (x ∷ filter test xs) (filter test xs) (any_there (λ y. y ≡ z) x (filter test xs) (h on)) (h on)) xs (stays_in test xs),
+  )
+
+  any_behind : (P : X → Type 0) (xs ys : List X) → Any P ys → Any P (xs ++ ys)
+  any_behind P [] ys a = a
+  any_behind P (x ∷ xs) ys a = any_there P x (xs ++ ys) (any_behind P xs ys a)
+
+  contains : (x : X) (xs : List X) → Any (λ y. y ≡ x) xs → Contains xs x
+  contains x xs a = (a.0, a.2, subst (λ (y : X). get_or xs a.0 y ≡ y) a.4 a.3)
+
+kept_behind : (c d : Call) → IsRenewed c d
+    → AllByRecursion (λ s. s.name.owner.direction ≡ Opening → s.name.owner.generation + 1 ≡ c.generations → Contains d.sessions s) c.sessions
+kept_behind c d is = each_weaker (λ s. stays c s ≡ true → Any (λ y. y ≡ s) (filter (stays c) c.sessions)) _
+    (λ s h opening current. contains s d.sessions (subst (λ (l : List Session). Any (λ y. y ≡ s) l) (sym is.sessions)
+    (any_behind (λ y. y ≡ s) is.news (filter (stays c) c.sessions) (h (and_from _ _ (ap (λ x. same_direction x Opening) opening) (eq-eqb _ _ current))))))
+    c.sessions (stays_in (stays c) c.sessions)
+
+module _ (w : World) (id : CallId) (noise text : List ℕ) (c : Call) (is : call_of w id ≡ Some c) where
+  -- the call that is put in its place is found again
+  found_again : (r : Settled) → IsRenewed c r.call → call_of (record w { calls = with_call r.call w.calls; books = r.books }) id ≡ Some r.call
+  found_again r new = found_with id c r.call w.calls new.serial (subst (λ i. same_id i id ≡ true) (sym new.id) (id_found id c w.calls is)) is
+
+  abbrev Renews : Option Call → Type 0
+  Renews o = ¬ Any IsRefusal (answered w id noise text o).outcomes
+      → (d : Call) × (call_of (answered w id noise text o).world id ≡ Some d) × (d.generations ≡ c.generations + 1) × (d.offer ≡ None)
+
+  abbrev KeepsEarlier : Option Call → Type 0
+  KeepsEarlier o = (d : Call) → call_of (answered w id noise text o).world id ≡ Some d → d.generations ≡ c.generations + 1
+      → AllByRecursion (λ s. s.name.owner.direction ≡ Opening → s.name.owner.generation + 1 ≡ c.generations → Contains d.sessions s) c.sessions
+
+  of_call : Renews (Some c) × KeepsEarlier (Some c)
+  of_call = go (answered_in w.moment w.books c noise text) refl
+    where
+      go : (q : Result Settled Refusal) → answered_in w.moment w.books c noise text ≡ q
+          → (¬ Any IsRefusal (in_old w id (tells_answer id (offering_side c.offer)) q).outcomes → (d : Call) × (call_of (in_old w id (tells_answer id (offering_side c.offer)) q).world id ≡ Some d) × (d.generations ≡ c.generations + 1) × (d.offer ≡ None))
+          × ((d : Call) → call_of (in_old w id (tells_answer id (offering_side c.offer)) q).world id ≡ Some d → d.generations ≡ c.generations + 1
+          → AllByRecursion (λ s. s.name.owner.direction ≡ Opening → s.name.owner.generation + 1 ≡ c.generations → Contains d.sessions s) c.sessions)
+      go (Err cause) e = (
+        λ free. absurd (free (any_here IsRefusal _ [] tt)),
+        λ d at more. let same = ap (λ (x : Call). x.generations) (some_is c d (sym is ∙ at)) in absurd (omega (arith, same, more)),
+      )
+      go (Ok r) e =
+          let new = renews w.moment w.books c noise text c.offer r e in (
+            λ free. (r.call, found_again r new, new.generations, new.offer),
+            λ d at more. subst (λ (d : Call). AllByRecursion (λ s. s.name.owner.direction ≡ Opening → s.name.owner.generation + 1 ≡ c.generations → Contains d.sessions s) c.sessions)
+                (some_is r.call d (sym (found_again r new) ∙ at)) (kept_behind c r.call new),
+          )
+
+  pub answer_renews : Renews (call_of w id)
+  answer_renews = subst Renews (sym is) of_call.0
+
+  pub answer_keeps_earlier : KeepsEarlier (call_of w id)
+  answer_keeps_earlier = subst KeepsEarlier (sym is) of_call.1
