@@ -1,0 +1,124 @@
+"""What the system counts at the gateway's ports, and what the gateway tells of them: packets and octets by nftables' sets
+(examples/network/srtpgw.nft), sockets by /proc/net/udp, calls and drops by lines of outcomes. Needs Python 3.8 alone.
+"""
+
+import collections
+import json
+
+FIRST_PORT, PORTS = 20_000, 16 * 256
+LEGS = ("secure RTP", "secure RTCP", "plain RTP", "plain RTCP")
+# The octets of a packet that aren't its datagram's: nftables counts the IPv4 and UDP heads, too.
+HEADS = 28
+
+# `quiet` is for how many seconds no packet came, or None where the set has no time-out.
+Count = collections.namedtuple("Count", "packets octets quiet")
+Socket = collections.namedtuple("Socket", "waiting drops")
+NOTHING = Count(0, 0, None)
+# A leg of a medium of a call.
+Leg = collections.namedtuple("Leg", "call medium name")
+
+
+class Fault(Exception):
+    """What was to be read can't be."""
+
+
+def is_port(port):
+    return FIRST_PORT <= port < FIRST_PORT + PORTS
+
+
+def port_of(slot, medium, leg):
+    return FIRST_PORT + 16 * slot + 4 * medium + leg
+
+
+def counts(octets):
+    """The sets of counters by name, each by port, of what `nft -j list table ip srtpgw` writes."""
+    try:
+        objects = json.loads(octets)["nftables"]
+        return {found["set"]["name"]: dict(elements(found["set"])) for found in objects if "set" in found}
+    except (KeyError, TypeError, ValueError) as fault:
+        raise Fault(f"nft's answer can't be read: {type(fault).__name__} {fault}") from None
+
+
+def elements(found):
+    """The ports of a set with what was counted at each."""
+    for element in found.get("elem", []):
+        if isinstance(element, dict) and "counter" in element["elem"]:
+            element = element["elem"]
+            packets, octets = element["counter"]["packets"], element["counter"]["bytes"]
+            quiet = None
+            if "expires" in element:
+                quiet = max(0, element.get("timeout", found.get("timeout", 0)) - element["expires"])
+            yield element["val"], Count(packets, octets - HEADS * packets, quiet)
+
+
+def sockets(text):
+    """The sockets at the gateway's ports, by port, of /proc/net/udp: octets that wait in each, and datagrams that the
+    system threw away in front of it."""
+    found = {}
+    for line in text.splitlines()[1:]:
+        fields = line.split()
+        port = int(fields[1].split(":")[1], 16)
+        if is_port(port):
+            found[port] = Socket(int(fields[4].split(":")[1], 16), int(fields[-1]))
+    return found
+
+
+class Call:
+    """A call of a slot. Moments are those at which its lines were read."""
+
+    def __init__(self, number, slot, media, now):
+        self.number, self.slot, self.media, self.made, self.live = number, slot, media, now, None
+        self.drops, self.unsent = collections.Counter(), collections.Counter()
+
+
+class Calls:
+    """What lines of outcomes tell: calls by slot, drops by leg and cause, refusals and ends."""
+
+    def __init__(self):
+        self.by_slot, self.refused, self.ended = {}, collections.Counter(), collections.Counter()
+        # Drops of all calls, also those that have ended, by leg and cause; ports without a call as `None`.
+        self.drops, self.unsent, self.made = collections.Counter(), collections.Counter(), 0
+        # Slots in which a call has ended since somebody looked.
+        self.over = set()
+
+    def take(self, line, now):
+        """A line of outcomes. Lines that aren't outcomes are passed over: the log may end in the middle of one."""
+        word, *fields = line.split()[:5] or [""]
+        does = getattr(self, f"take_{word}", None)
+        try:
+            if does:
+                does(now, *fields)
+        except (TypeError, ValueError, IndexError):
+            pass
+
+    def take_made(self, now, call, slot, media):
+        self.by_slot[int(slot)] = Call(call, int(slot), int(media), now)
+        self.made += 1
+
+    def take_live(self, now, call):
+        for one in self.by_slot.values():
+            if one.number == call and one.live is None:
+                one.live = now
+
+    def take_ended(self, now, call, slot, media, why):
+        self.by_slot.pop(int(slot), None)
+        self.over.add(int(slot))
+        self.ended[why] += 1
+
+    def take_refused(self, now, call, cause, *numbers):
+        self.refused[" ".join([cause, *(word for word in numbers if not word.lstrip("-").isdigit())])] += 1
+
+    def take_drop(self, now, port, cause, *numbers):
+        self.tell(self.drops, "drops", int(port), cause)
+
+    def take_unsent(self, now, port, address):
+        self.tell(self.unsent, "unsent", int(port), None)
+
+    def tell(self, all_of_them, name, port, cause):
+        slot, rest = divmod(port - FIRST_PORT, 16)
+        call = self.by_slot.get(slot) if is_port(port) else None
+        leg = LEGS[rest % 4] if is_port(port) else None
+        all_of_them[(leg, cause) if cause else leg] += 1
+        if call:
+            place = rest // 4, LEGS[rest % 4]
+            getattr(call, name)[(*place, cause) if cause else place] += 1

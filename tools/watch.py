@@ -1,0 +1,340 @@
+#!/usr/bin/env python3
+"""Watches a live gateway: by call and leg packets, octets and the last packet, drops by cause, and what the system threw
+away in front of a socket; and says where audio goes one way only, or has stopped.
+
+    python3 tools/watch.py --outcomes outcomes.log                       # a screen, anew every two seconds
+    python3 tools/watch.py --outcomes outcomes.log --json                # once
+    python3 tools/watch.py --outcomes outcomes.log --prometheus --every 5 --to srtpgw.prom
+
+Packets are those that the sets of examples/network/srtpgw.nft count (docs/network.md): it runs where they are, as root
+or with CAP_NET_ADMIN, and in their namespace: `ip netns exec NAME python3 tools/watch.py ..`. Calls and drops are those
+of a log of outcomes (`Gateway(.., log=FILE)` of gateway.py), read from its beginning; without one only ports are told.
+Needs Python 3.8 and nft.
+"""
+
+import argparse
+import collections
+import contextlib
+import json
+import os
+import signal
+import subprocess
+import sys
+import time
+from pathlib import Path
+
+from counters import Calls, Fault, LEGS, NOTHING, Socket, counts, is_port, port_of, sockets
+from sentences import Missing, meaning
+
+SETS = ["nft", "-j", "list", "table", "ip", "srtpgw"]
+SECURE, PLAIN = LEGS[0], LEGS[2]
+# What leaves from a leg came to the other one.
+ACROSS = {LEGS[leg]: LEGS[leg ^ 2] for leg in range(4)}
+
+
+def read_sets():
+    """The sets as they are now. Raises Fault where nft or the table isn't there."""
+    try:
+        run = subprocess.run(SETS, capture_output=True, timeout=20)
+    except (OSError, subprocess.TimeoutExpired) as fault:
+        raise Fault(f"nft: {fault}") from None
+    if run.returncode:
+        raise Fault(f"nft: {run.stderr.decode(errors='replace').strip().splitlines()[0]}")
+    return counts(run.stdout)
+
+
+def read_sockets():
+    return sockets(Path("/proc/net/udp").read_text())
+
+
+class Log:
+    """A file that grows. It is read on from where it was, and from its beginning where it was begun anew."""
+
+    def __init__(self, path):
+        self.path, self.at, self.rest, self.file = path, 0, b"", None
+
+    def lines(self):
+        """The whole lines that have come since the last look."""
+        try:
+            status = os.stat(self.path)
+        except OSError:
+            return []
+        if (status.st_ino, status.st_dev) != self.file or status.st_size < self.at:
+            self.file, self.at, self.rest = (status.st_ino, status.st_dev), 0, b""
+        with open(self.path, "rb") as octets:
+            octets.seek(self.at)
+            came = octets.read()
+        self.at += len(came)
+        *lines, self.rest = (self.rest + came).split(b"\n")
+        return [line.decode("ascii", "replace") for line in lines]
+
+
+class Watch:
+    """Keeps what was seen. `look` answers what is to be shown; `after` is how many seconds without a packet are told.
+
+    The counters of a port go on over its calls. A call's are those since the look at which the one before it in its slot
+    had ended, so what is shown of a call is right to a look."""
+
+    def __init__(self, path=None, after=5.0, sets=read_sets, sockets_=read_sockets, clock=time.time):
+        self.log, self.after, self.clock = Log(path) if path else None, after, clock
+        self.sets, self.sockets = sets, sockets_
+        self.calls, self.bases, self.last, self.moment = Calls(), {}, {}, None
+        self.lost = collections.Counter()
+        self.seen_lost = {}
+
+    def look(self):
+        """What there is to be shown now, as lists and dictionaries."""
+        now = self.clock()
+        for line in self.log.lines() if self.log else []:
+            self.calls.take(line, now)
+        try:
+            found, fault = self.sets(), None
+        except Fault as why:
+            found, fault = {}, str(why)
+        self.begin(found)
+        ends = self.sockets()
+        self.add_lost(ends)
+        calls = [self.call(call, found, ends, now) for _, call in sorted(self.calls.by_slot.items())]
+        self.last, self.moment = found, now
+        return {"moment": now, "fault": fault, "calls": calls, "totals": self.totals(found)}
+
+    def begin(self, found):
+        """Counters of slots in which a call has ended begin anew."""
+        for slot in self.calls.over:
+            for port in range(port_of(slot, 0, 0), port_of(slot + 1, 0, 0)):
+                self.bases.update({(way, port): ports[port] for way, ports in found.items() if port in ports})
+        self.calls.over.clear()
+
+    def add_lost(self, ends):
+        """A socket that was closed and opened again counts from 0."""
+        for port, end in ends.items():
+            before = self.seen_lost.get(port, 0)
+            self.lost[port] += end.drops - before if end.drops >= before else end.drops
+        self.seen_lost = {port: end.drops for port, end in ends.items()}
+
+    def counted(self, name, port, found):
+        """A port's counts since its call began."""
+        count, base = found.get(name, {}).get(port, NOTHING), self.bases.get((name, port), NOTHING)
+        if count.packets < base.packets:
+            # The sets were loaded anew.
+            self.bases.pop((name, port))
+            base = NOTHING
+        return count._replace(packets=count.packets - base.packets, octets=count.octets - base.octets)
+
+    def leg(self, call, medium, leg, found, ends, now):
+        port, name = port_of(call.slot, medium, leg), LEGS[leg]
+        shown = {"leg": name, "port": port}
+        for way in ("arrived", "left"):
+            count = self.counted(way, port, found)
+            rate = None
+            if self.moment is not None and now > self.moment:
+                came = found.get(way, {}).get(port, NOTHING).packets - self.last.get(way, {}).get(port, NOTHING).packets
+                rate = max(0.0, round(came / (now - self.moment), 1))
+            quiet = count.quiet if count.packets else None
+            shown[way] = {"packets": count.packets, "octets": count.octets, "quiet": quiet, "rate": rate}
+        drops = {cause: n for (at, of, cause), n in sorted(call.drops.items()) if (at, of) == (medium, name)}
+        end = ends.get(port, Socket(0, 0))
+        return {**shown, "drops": drops, "unsent": call.unsent[medium, name], "overflows": end.drops,
+                "waiting": end.waiting}
+
+    def call(self, call, found, ends, now):
+        legs = [[self.leg(call, medium, leg, found, ends, now) for leg in range(4)] for medium in range(call.media)]
+        media = [{"medium": medium, "legs": of, "says": self.says(call, of, bool(found), now)}
+                 for medium, of in enumerate(legs)]
+        return {"call": call.number, "slot": call.slot, "state": "live" if call.live else "offered",
+                "seconds": round(now - (call.live or call.made), 1), "media": media}
+
+    def says(self, call, legs, counted, now):
+        """What an operator should know of a medium, in words."""
+        of = {leg["leg"]: leg for leg in legs}
+        said = [f"{leg['overflows']} datagrams were lost in front of the full socket of {leg['leg']}"
+                for leg in legs if leg["overflows"]]
+        if not counted or not call.live or now - call.live < self.after:
+            return said
+
+        def quiet(leg, way):
+            return of[leg][way]["quiet"] if of[leg][way]["quiet"] is not None else now - call.live
+
+        silent = {leg: quiet(leg, "arrived") for leg in (SECURE, PLAIN)}
+        sides = {SECURE: "secure", PLAIN: "plain"}
+        if min(silent.values()) >= self.after:
+            said.append(f"silence: no packet from either side for {min(silent.values()):.0f} s")
+        elif max(silent.values()) >= self.after:
+            dumb = max(silent, key=silent.get)
+            said.append(f"one-way: no packet from the {sides[dumb]} side for {silent[dumb]:.0f} s")
+        for leg in (SECURE, PLAIN):
+            if silent[leg] < self.after <= quiet(ACROSS[leg], "left"):
+                said.append(f"what the {sides[leg]} side sends isn't put out: {worst(of[leg]['drops'])}")
+        return said
+
+    def totals(self, found):
+        """Counts over all calls."""
+        ways = {way: collections.Counter() for way in ("arrived", "left")}
+        for way, legs in ways.items():
+            for port, count in found.get(way, {}).items():
+                if is_port(port):
+                    legs[LEGS[port % 4]] += count.packets
+        drops = [{"leg": leg or "no port of the gateway", "cause": cause, "datagrams": n}
+                 for (leg, cause), n in sorted(self.calls.drops.items(), key=str)]
+        return {"made": self.calls.made, "refused": dict(self.calls.refused), "ended": dict(self.calls.ended),
+                "drops": drops, "unsent": sum(self.calls.unsent.values()), "overflows": sum(self.lost.values()),
+                **{way: dict(legs) for way, legs in ways.items()}}
+
+
+def worst(drops):
+    """The most frequent cause of drops, in words."""
+    if not drops:
+        return "no drop is told, so look at the way behind the gateway"
+    cause = max(drops, key=drops.get)
+    with contextlib.suppress(Missing):
+        return f"{drops[cause]} {cause}, {meaning(cause, 'drop')}"
+    return f"{drops[cause]} {cause}"
+
+
+# ---- shown
+
+def screen(view):
+    """Lines for a terminal."""
+    lines = [time.strftime("%H:%M:%S", time.localtime(view["moment"])) + f"  {len(view['calls'])} calls"]
+    if view["fault"]:
+        lines.append(f"no counters of packets (docs/network.md): {view['fault']}")
+    for call in view["calls"]:
+        lines.append(f"call {call['call']}, slot {call['slot']}, {call['state']} for {call['seconds']:.0f} s")
+        for medium in call["media"]:
+            for leg in medium["legs"]:
+                lines += leg_lines(medium["medium"], leg)
+            lines += [f"  ! {words}" for words in medium["says"]]
+    totals = view["totals"]
+    for name in ("refused", "ended"):
+        if totals[name]:
+            lines.append(f"{name}: " + ", ".join(f"{n} {cause}" for cause, n in sorted(totals[name].items())))
+    if totals["drops"]:
+        lines.append("dropped: " + ", ".join(f"{row['datagrams']} {row['cause']} at {row['leg']}"
+                                             for row in totals["drops"]))
+    lines.append(f"unsent: {totals['unsent']}, lost in front of sockets: {totals['overflows']}")
+    return lines
+
+
+def leg_lines(medium, leg):
+    """A leg in a line; none where it has nothing to tell."""
+    came, left = leg["arrived"], leg["left"]
+    if not (came["packets"] or left["packets"] or leg["drops"] or leg["waiting"]):
+        return []
+    ago = f", the last {came['quiet']} s ago" if came["quiet"] is not None else ""
+    drops = "".join(f", {n} {cause}" for cause, n in leg["drops"].items())
+    return [f"  medium {medium}  {leg['leg']:<11} {leg['port']}  in {came['packets']} ({came['octets']} octets{ago})  "
+            f"out {left['packets']} ({left['octets']} octets){drops}"]
+
+
+def prometheus(view):
+    """Lines of Prometheus's text format, version 0.0.4."""
+    rows = Metrics()
+    rows.add("srtpgw_up", "gauge", "Whether the counters of packets could be read", 0 if view["fault"] else 1)
+    rows.add("srtpgw_calls", "gauge", "Calls that are there", len(view["calls"]))
+    totals = view["totals"]
+    rows.add("srtpgw_calls_made_total", "counter", "Calls that were made", totals["made"])
+    for cause, n in sorted(totals["refused"].items()):
+        rows.add("srtpgw_refused_total", "counter", "Refused signals", n, cause=cause)
+    for why, n in sorted(totals["ended"].items()):
+        rows.add("srtpgw_ended_total", "counter", "Calls that have ended", n, why=why)
+    for row in totals["drops"]:
+        rows.add("srtpgw_drops_total", "counter", "Dropped datagrams", row["datagrams"], leg=row["leg"],
+                 cause=row["cause"])
+    rows.add("srtpgw_unsent_total", "counter", "Packets that couldn't be sent", totals["unsent"])
+    rows.add("srtpgw_overflows_total", "counter", "Datagrams lost in front of full sockets", totals["overflows"])
+    for way in ("arrived", "left"):
+        for leg, n in sorted(totals[way].items()):
+            rows.add(f"srtpgw_packets_{way}_total", "counter", f"Packets of all calls that {way}", n, leg=leg)
+    for call in view["calls"]:
+        for medium in call["media"]:
+            names = {"call": call["call"], "medium": str(medium["medium"])}
+            rows.add("srtpgw_call_troubles", "gauge", "What watch.py says of a medium: one-way audio, silence, overflows",
+                     len(medium["says"]), **names)
+            for leg in medium["legs"]:
+                rows.add_leg(leg, {**names, "leg": leg["leg"]})
+    return rows.lines()
+
+
+def escaped(text):
+    return str(text).replace("\\", r"\\").replace('"', r"\"").replace("\n", r"\n")
+
+
+class Metrics:
+    """Samples by metric."""
+
+    def __init__(self):
+        self.heads, self.samples = {}, {}
+
+    def add(self, name, kind, says, value, **labels):
+        self.heads[name] = [f"# HELP {name} {says}", f"# TYPE {name} {kind}"]
+        inner = ",".join(f'{key}="{escaped(text)}"' for key, text in labels.items())
+        self.samples.setdefault(name, []).append(f"{name}{{{inner}}} {value}" if inner else f"{name} {value}")
+
+    def add_leg(self, leg, names):
+        for way in ("arrived", "left"):
+            said = leg[way]
+            for what in ("packets", "octets"):
+                self.add(f"srtpgw_call_{what}_total", "counter", f"{what.capitalize()} of a leg", said[what], way=way, **names)
+            if said["quiet"] is not None:
+                self.add("srtpgw_call_quiet_seconds", "gauge", "Seconds since the last packet of a leg", said["quiet"],
+                         way=way, **names)
+        for cause, n in leg["drops"].items():
+            self.add("srtpgw_call_drops_total", "counter", "Dropped datagrams of a leg", n, cause=cause, **names)
+        self.add("srtpgw_socket_waiting_octets", "gauge", "Octets that wait in a leg's socket", leg["waiting"], **names)
+        self.add("srtpgw_socket_drops_total", "counter", "Datagrams lost in front of a leg's socket", leg["overflows"],
+                 **names)
+
+    def lines(self):
+        return [line for name, head in self.heads.items() for line in [*head, *self.samples[name]]]
+
+
+# ---- the words
+
+def words():
+    parser = argparse.ArgumentParser(description="watches a live gateway")
+    parser.add_argument("--outcomes", metavar="FILE", help="a log of outcomes, which is read on as it grows")
+    parser.add_argument("--after", type=float, default=5.0, metavar="S", help="seconds without a packet, by default 5")
+    parser.add_argument("--every", type=float, metavar="S", help="looks every S seconds; the screen does every 2")
+    parser.add_argument("--looks", type=int, metavar="N", help="ends behind N looks")
+    parser.add_argument("--to", metavar="FILE", help="a file that each look replaces as a whole")
+    shape = parser.add_mutually_exclusive_group()
+    shape.add_argument("--json", action="store_true", help="a line of JSON a look")
+    shape.add_argument("--prometheus", action="store_true", help="Prometheus's text format")
+    return parser
+
+
+def text_of(view, given):
+    if given.json:
+        return json.dumps(view) + "\n"
+    return "".join(line + "\n" for line in (prometheus if given.prometheus else screen)(view))
+
+
+def put(text, given):
+    """Prints a look, or puts it in its file's place."""
+    if given.to:
+        beside = Path(f"{given.to}.new")
+        beside.write_text(text, encoding="utf-8")
+        os.replace(beside, given.to)
+        return
+    is_screen = not given.json and not given.prometheus and sys.stdout.isatty()
+    sys.stdout.write("\x1b[H\x1b[2J" * is_screen + text)
+    sys.stdout.flush()
+
+
+def main():
+    given = words().parse_args()
+    signal.signal(signal.SIGPIPE, signal.SIG_DFL)
+    once = given.json or given.prometheus
+    every = given.every or (None if once else 2.0)
+    watch, looks = Watch(given.outcomes, given.after), 0
+    with contextlib.suppress(KeyboardInterrupt):
+        while True:
+            put(text_of(watch.look(), given), given)
+            looks += 1
+            if every is None or looks == given.looks:
+                return
+            time.sleep(every)
+
+
+if __name__ == "__main__":
+    main()
