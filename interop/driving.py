@@ -1,9 +1,10 @@
 #!/usr/bin/env python3
 """Drives a gateway by tools/driver.py, and looks at what a driver must not get wrong: where the count of ticks begins,
-whose outcome is whose, what is told when the process ends, and what is spent. Needs Python 3.8, Linux, the UDP ports of
-the gateway, and 40000 and 41000 of 127.0.0.1; nothing else.
+whose outcome is whose, what is told when the process ends, and what is spent.
 
-    python3 interop/driving.py crates/srtpgw/out/srtpgw
+    interop/driving.py PROGRAM
+
+Needs Python 3.8, Linux, the UDP ports of the gateway, and 40000 and 41000 of 127.0.0.1; nothing else.
 """
 
 import base64
@@ -21,6 +22,8 @@ import tempfile
 import threading
 import time
 from pathlib import Path
+
+from usage import words_or_usage
 
 HERE = Path(__file__).resolve().parent
 sys.path.insert(0, str(HERE.parent / "tools"))
@@ -354,4 +357,4 @@ def main(program):
 
 
 if __name__ == "__main__":
-    sys.exit(main(*sys.argv[1:]))
+    sys.exit(main(words_or_usage(__doc__)[0]))

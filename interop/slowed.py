@@ -9,6 +9,8 @@ import subprocess
 import sys
 import time
 
+from usage import words_or_usage
+
 
 def main(what, milliseconds, *words):
     write, held, first = sys.stdout.buffer, [], what == "first"
@@ -29,4 +31,4 @@ def main(what, milliseconds, *words):
 
 
 if __name__ == "__main__":
-    sys.exit(main(*sys.argv[1:]))
+    sys.exit(main(*words_or_usage(__doc__)))
