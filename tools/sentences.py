@@ -17,9 +17,12 @@ from pathlib import Path
 PAGE = Path(__file__).resolve().parent.parent / "docs" / "refusals.md"
 # The heading of each table, and what its names are names of.
 TABLES = {
-    "Dropped datagrams": "drop", "Refused signals": "refused", "Faults that a refusal names": "fault",
-    "Other lines": "line", "The end of a run": "status",
+    "Dropped datagrams": "drop", "Refused signals": "refused", "Refusals of the driver's own": "refused",
+    "Faults that a refusal names": "fault", "Other lines": "line", "The end of a run": "status",
 }
+
+# Refusals that name a fault.
+FAULTY = ("Sdp", "Sdes", "Mikey", "Psk", "Cs")
 
 
 class Missing(Exception):
@@ -52,13 +55,11 @@ def found(kind, *names):
 
 def entry(cause, kind="refused"):
     """Meaning and advice of a cause with its numbers, by the fault that it names where it names one."""
-    words = cause.split()
-    if not words:
-        raise Missing(f"{PAGE.name} says nothing of no cause")
-    faults = [f"{words[0]} {word}" for word in words[1:] if not word.lstrip("-").isdigit()]
-    if kind == "refused" and faults:
+    name, *rest = cause.split() or [""]
+    faults = [f"{name} {word}" for word in rest if not word.lstrip("-").isdigit()]
+    if kind == "refused" and faults and name in FAULTY:
         return found("fault", *faults)
-    return found(kind, words[0])
+    return found(kind, name.rstrip(":"))
 
 
 def meaning(cause, kind="refused"):
@@ -78,20 +79,23 @@ def place(cause):
         return ""
     if words[0] == "Sdp":
         return f" at line {words[1]}" if words[1] != "0" else " in the whole text"
-    if words[0] in ("Sdes", "KeyMgmt", "Mikey", "Psk", "Cs"):
+    if words[0] in (*FAULTY, "KeyMgmt"):
         return " in the session part" if words[1] == "255" else f" in medium {words[1]}"
     return ""
 
 
-def worded(entered, advises):
-    """A meaning, and the advice behind it where that is wanted."""
-    means, do = entered
+def worded(kind, cause, advises):
+    """A meaning, and the advice behind it where that is wanted. Of a cause that the page hasn't, that."""
+    try:
+        means, do = entry(cause, kind) if kind in ("refused", "drop") else found(kind, cause)
+    except Missing as missing:
+        return f"{missing}."
     return f"{means}. {do[:1].upper()}{do[1:]}." if advises else f"{means}."
 
 
 def refusal(cause, advises=False):
     """The sentence of a refusal's cause, as `Sdes 0 NoLine`."""
-    return f"refused ({cause}){place(cause)}: {worded(entry(cause), advises)}"
+    return f"refused ({cause}){place(cause)}: {worded('refused', cause, advises)}"
 
 
 def status(number, said="", advises=True):
@@ -99,7 +103,7 @@ def status(number, said="", advises=True):
     if number == 0:
         return "the gateway has ended: all lines were handled."
     said = f" ({said})" if said else ""
-    return f"the gateway has ended with {number}{said}: {worded(found('status', str(number)), advises)}"
+    return f"the gateway has ended with {number}{said}: {worded('status', str(number), advises)}"
 
 
 def sentence(outcome, advises=False):
@@ -110,11 +114,11 @@ def sentence(outcome, advises=False):
         return f"{'a signal' if rest[0] == '-' else f'call {rest[0]}'} {refusal(' '.join(rest[1:]), advises)}"
     if word == "drop":
         cause = " ".join(rest[1:])
-        return f"port {rest[0]} dropped a datagram ({cause}): {worded(entry(cause, 'drop'), advises)}"
+        return f"port {rest[0]} dropped a datagram ({cause}): {worded('drop', cause, advises)}"
     if word == "unsent":
-        return f"port {rest[0]} couldn't send to {rest[1]}: {worded(found('line', 'unsent'), advises)}"
+        return f"port {rest[0]} couldn't send to {rest[1]}: {worded('line', 'unsent', advises)}"
     if word == "ended":
-        return f"call {rest[0]} has ended ({rest[3]}): {worded(found('line', 'ended ' + rest[3]), advises)}"
+        return f"call {rest[0]} has ended ({rest[3]}): {worded('line', 'ended ' + rest[3], advises)}"
     short = {"made": "call {} is there, in slot {}", "live": "call {} is live", "sdp": "a text of call {} for the {} side",
              "out": "port {} put a packet out"}
     if word not in short:
