@@ -99,10 +99,13 @@ def refusal(cause, advises=False):
 
 
 def status(number, said="", advises=True):
-    """The sentence of a process that ended with a status; what it said on standard error stands in it."""
+    """The sentence of a process that ended with a status, None where that isn't known, or by a signal of the system,
+    below 0; what it said on standard error stands in it."""
     if number == 0:
         return "the gateway has ended: all lines were handled."
     said = f" ({said})" if said else ""
+    if number is None or number < 0:
+        return f"the gateway has ended{'' if number is None else f' by signal {-number} of the system'}{said}."
     return f"the gateway has ended with {number}{said}: {worded('status', str(number), advises)}"
 
 
