@@ -312,17 +312,21 @@ def ports_and_answers_are_looked_at(program):
 
 def sockets_overflow(program):
     """datagrams that wait too long"""
-    with driving(program) as (driver, _, _):
+    with driving(program) as (driver, warned, _):
         call = Call(driver, 1)
         os.kill(driver.gateway.pid, signal.SIGSTOP)
         for packet in packets(2 * PACKETS):
             call.ends[1].sendto(packet, (HOST, call.ports[2]))
-        lost = driver.gateway.overflows()
+        time.sleep(0.5)
         os.kill(driver.gateway.pid, signal.SIGCONT)
         arrived = len(taken(call.ends[0], 2 * PACKETS))
+        wait_until(lambda: driver.overflows, "a look at the sockets")
         call.close()
-        require(lost.get(PLAIN_RTP) and arrived + lost[PLAIN_RTP] == 2 * PACKETS, f"{arrived} arrived, lost {lost}")
-    return f"{lost[PLAIN_RTP]} of {2 * PACKETS} were lost in front of a socket, and counted"
+        lost = driver.overflows[PLAIN_RTP]
+        require(lost and arrived + lost == 2 * PACKETS, f"{arrived} arrived, lost {driver.overflows}")
+        for what in ("late", "full sockets"):
+            require(any(what in line for line in warned), f"warned {warned}")
+    return f"{lost} of {2 * PACKETS} were lost in front of a socket, and told, as is that turns ran late"
 
 
 def a_unit_keeps_it(program):

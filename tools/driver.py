@@ -21,8 +21,8 @@ import queue
 import threading
 import time
 
-from fields import Refused, address, call_number, digits, identity, keys_of, manual_key, number, octets_of, shared_key
-from fields import WINDOW_LEAST, WINDOW_MOST
+import fields
+from fields import Refused, keys_of, octets_of
 from gateway import Age, FILES_MOST, Fifos, Gateway, Gone, Program, Taken
 
 __all__ = ["Bounds", "Driver", "Fifos", "Gone", "Program", "Refused", "Taken"]
@@ -108,7 +108,7 @@ class Driver:
     def offer_plain(self, call, text, peer=None):
         """An offer of the plain side, of a new call or within one; to be keyed by crypto lines, or by MIKEY to the peer
         of this name, whose key `psk` has told. The text for the secure side."""
-        keyed = ["mikey", identity(peer)] if peer else ["sdes"]
+        keyed = ["mikey", fields.identity(peer)] if peer else ["sdes"]
         return self._offer(call, "offer-plain", keyed, octets_of(text), 0)
 
     def answer(self, call, text):
@@ -116,31 +116,31 @@ class Driver:
         leaves the offer open: `answer` again, or `reject`."""
         text = octets_of(text)
         # Keys are in the secure side's text, whichever of the two it is.
-        signal = self._signal(call, "live", keys_of(text), "answer", call_number(call), "-", digits(text))
+        signal = self._signal(call, "live", keys_of(text), "answer", fields.call_number(call), "-", fields.digits(text))
         self._spend("keys", self.open_keys.pop(call, 0) + signal.keys)
         return signal.text
 
     def manual(self, call, secure, plain, from_peer, to_peer, rollover=0, window=64):
         """A call with keys by hand, each as `SUITE:HEX`; addresses are pairs of host and port."""
-        fields = address(secure), address(plain), number(rollover) and f"{rollover:08x}"
-        keys = number(window, WINDOW_MOST, WINDOW_LEAST), manual_key(from_peer), manual_key(to_peer)
-        self._signal(call, "live", 0, "manual", call_number(call), *fields, *keys)
+        places = fields.address(secure), fields.address(plain), fields.rollover(rollover), fields.window(window)
+        keys = fields.manual_key(from_peer), fields.manual_key(to_peer)
+        self._signal(call, "live", 0, "manual", fields.call_number(call), *places, *keys)
         self._spend("keys", 2)
 
     def psk(self, own, peer, key):
         """A pre-shared key, 16 to 64 octets, between the gateway's name and a peer's. 64 pairs can be held."""
-        fields = "psk", identity(own), identity(peer), shared_key(key)
-        self._signal("-", QUIET, 0, *fields)
-        self.shared.append(fields)
+        line = "psk", fields.identity(own), fields.identity(peer), fields.shared_key(key)
+        self._signal("-", QUIET, 0, *line)
+        self.shared.append(line)
 
     def reject(self, call):
         """The open offer is rejected. A first one ends its call; behind a later one the call goes on."""
-        self._signal(call, QUIET, 0, "reject", call_number(call))
+        self._signal(call, QUIET, 0, "reject", fields.call_number(call))
         self.open_keys.pop(call, None)
 
     def bye(self, call):
         """The call ends. Refused where it has just ended by itself."""
-        self._signal(call, "ended", 0, "bye", call_number(call))
+        self._signal(call, "ended", 0, "bye", fields.call_number(call))
 
     def ports(self, call, medium=0):
         """The gateway's four ports of a call that is there: secure RTP, secure RTCP, plain RTP, plain RTCP."""
@@ -172,21 +172,21 @@ class Driver:
     # ---- telling
 
     def _offer(self, call, word, keyed, text, keys):
-        signal = self._signal(call, "sdp", keys, word, call_number(call), *keyed, "-", digits(text))
+        signal = self._signal(call, "sdp", keys, word, fields.call_number(call), *keyed, "-", fields.digits(text))
         self.open_keys[call] = signal.keys
         return signal.text
 
-    def _signal(self, call, last, keys, *fields):
+    def _signal(self, call, last, keys, *line):
         """Hands a line on and waits for its last outcome."""
         signal = Signal(call, last, keys)
         with self.lock:
             if self.gone:
                 raise self.gone
-            if self.draining and fields[0] in NEW and call not in self.slots:
+            if self.draining and line[0] in NEW and call not in self.slots:
                 raise Refused("State")
             # Outcomes come in the order of the lines, so this signal is answered behind those before it.
             self.pending.append(signal)
-            self.gateway.tell(*fields)
+            self.gateway.tell(*line)
             if last == QUIET:
                 self.gateway.tell("bye", "0")
         signal.result.result()
@@ -214,8 +214,8 @@ class Driver:
             self.warn(f"the gateway may open {gateway.files} files, and a full table needs {FILES_MOST}")
         if gateway.never_waits():
             self.warn("the gateway's standard input never waits, which takes it half a processor")
-        for fields in self.shared:
-            gateway.tell(*fields)
+        for line in self.shared:
+            gateway.tell(*line)
         return gateway
 
     def _run(self):

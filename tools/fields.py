@@ -27,7 +27,7 @@ def require(holds, what):
 
 
 def number(value, most=NUMBER_MOST, least=0):
-    """A number as a field."""
+    """A number as a field, in decimal digits."""
     require(isinstance(value, int) and least <= value <= most, f"a number of {least} to {most} is needed: {value!r}")
     return str(value)
 
@@ -35,6 +35,17 @@ def number(value, most=NUMBER_MOST, least=0):
 def call_number(call):
     """A call's number. The first and the last one are the driver's own."""
     return number(call, NUMBER_MOST - 1, 1)
+
+
+def rollover(value):
+    """A rollover counter as a field, of eight hexadecimal digits."""
+    number(value)
+    return f"{value:08x}"
+
+
+def window(value):
+    """A replay window as a field."""
+    return number(value, WINDOW_MOST, WINDOW_LEAST)
 
 
 def identity(name):
@@ -69,8 +80,8 @@ def manual_key(key):
 
 
 def octets_of(text):
-    """A session description, as octets."""
-    octets = text.encode() if isinstance(text, str) else bytes(text)
+    """A session description, as octets. A `str` is taken as UTF-8."""
+    octets = text.encode() if isinstance(text, str) else bytes(memoryview(text))
     if len(octets) > TEXT_MOST:
         raise Refused("TooLong")
     return octets

@@ -37,6 +37,8 @@ PROBE = 2**32 - 1
 PROBED = f"refused {PROBE} CallUnknown\n".encode()
 # So many of the latest probes count for the start of the gateway's clock.
 WINDOW = 50
+# So much of what it says on standard error is kept.
+SAID_MOST = 4_096
 # How long a turn without a datagram takes at least.
 TURN = 0.004
 # How long a process that was asked to end may take.
@@ -113,7 +115,7 @@ class Started:
         except subprocess.TimeoutExpired:
             self.kill()
             status = self.process.wait()
-        self.errors.seek(0)
+        self.errors.seek(max(0, os.fstat(self.errors.fileno()).st_size - SAID_MOST))
         return status, self.errors.read().decode(errors="replace").strip()
 
 
@@ -184,11 +186,11 @@ class Held:
 
 
 def raised_files(pid):
-    """Has a process open as many files as it may at all; how many."""
+    """Has a process open as many files as it may at all; how many, or None where that isn't known or isn't bounded."""
     with contextlib.suppress(ProcessLookupError, PermissionError):
         most = resource.prlimit(pid, resource.RLIMIT_NOFILE)[1]
         resource.prlimit(pid, resource.RLIMIT_NOFILE, (most, most))
-        return most
+        return None if most == resource.RLIM_INFINITY else most
     return None
 
 
@@ -316,7 +318,8 @@ class Gateway:
         for line in self.ends.outcomes:
             if line == PROBED:
                 self._learn()
-            else:
+            # A run that fails may end in the middle of a line, which would read as another one.
+            elif line.endswith(b"\n"):
                 self._copy(line)
                 self.outcomes.put(line.decode("ascii", "replace").split())
         status, said = self.ends.end()
