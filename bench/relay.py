@@ -55,7 +55,7 @@ class Srtpgw:
 
     def __init__(self, folder):
         self.driver = Driver(program())
-        self.pid, self.made = self.driver.gateway.process.pid, 0
+        self.pid, self.made = self.driver.gateway.pid, 0
 
     def call(self):
         """The secure and the plain port of a new call, and its two keys."""

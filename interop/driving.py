@@ -320,10 +320,10 @@ def sockets_overflow(program):
         time.sleep(0.5)
         os.kill(driver.gateway.pid, signal.SIGCONT)
         arrived = len(taken(call.ends[0], 2 * PACKETS))
-        wait_until(lambda: driver.overflows, "a look at the sockets")
+        wait_until(lambda: arrived + driver.overflows[PLAIN_RTP] == 2 * PACKETS, f"what was lost, where {arrived} arrived")
         call.close()
         lost = driver.overflows[PLAIN_RTP]
-        require(lost and arrived + lost == 2 * PACKETS, f"{arrived} arrived, lost {driver.overflows}")
+        require(lost, "nothing was lost")
         for what in ("late", "full sockets"):
             require(any(what in line for line in warned), f"warned {warned}")
     return f"{lost} of {2 * PACKETS} were lost in front of a socket, and told, as is that turns ran late"
