@@ -143,7 +143,8 @@ def rates_of(report):
     """The clock rates of payload types: those of RFC 3551, and what the session descriptions say of others."""
     rates = dict(rtp.RATES)
     for _, _, text in report.texts:
-        rates.update((int(kind), int(rate)) for kind, rate in re.findall(r"(?m)^a=rtpmap:(\d{1,3}) [^/\s]+/(\d{1,6})", text))
+        said = re.findall(r"(?m)^a=rtpmap:(\d{1,3}) [^/\s]+/(\d{1,6})", text)
+        rates.update((int(kind), int(rate)) for kind, rate in said)
     return rates
 
 

@@ -121,7 +121,7 @@ def line_fault(number, text, media):
         return ("Form", *bad)
     first = ("v=0", "o=", "s=")[number - 1] if number <= 3 else ""
     if not text.startswith(first) or number == 1 and text != first:
-        return "Order", 0, f"line {number} has to be {'' if number == 1 else 'an '}`{first}`{'' if number == 1 else ' line'}"
+        return "Order", 0, f"line {number} has to be " + ("`v=0`" if number == 1 else f"an `{first}` line")
     if text.startswith("c="):
         bad = address_form(text)
         return ("Address", *bad) if bad else None

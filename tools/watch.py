@@ -274,7 +274,8 @@ class Metrics:
         for way in ("arrived", "left"):
             said = leg[way]
             for what in ("packets", "octets"):
-                self.add(f"srtpgw_call_{what}_total", "counter", f"{what.capitalize()} of a leg", said[what], way=way, **names)
+                self.add(f"srtpgw_call_{what}_total", "counter", f"{what.capitalize()} of a leg", said[what], way=way,
+                         **names)
             if said["quiet"] is not None:
                 self.add("srtpgw_call_quiet_seconds", "gauge", "Seconds since the last packet of a leg", said["quiet"],
                          way=way, **names)

@@ -91,8 +91,9 @@ def digits(text):
     if other and other[0] in "ABCDEF":
         raise Fault("Hex", other.start(), "a capital digit: hexadecimal digits are small letters here")
     if other:
-        clear = " (octets are written as hexadecimal digits, not as they are)" if len(set(text) - set("0123456789abcdefABCDEF")) > 3 else ""
-        raise Fault("Hex", other.start(), f"`{shown(other[0])}` isn't a hexadecimal digit{clear}")
+        in_clear = len(set(re.findall("[^0-9a-fA-F]", text))) > 3
+        hint = " (octets are written as hexadecimal digits, not as they are)" if in_clear else ""
+        raise Fault("Hex", other.start(), f"`{shown(other[0])}` isn't a hexadecimal digit{hint}")
     if not text:
         raise Fault("Hex", 0, "no digits: no octets at all are written `-`")
     if len(text) % 2:
@@ -314,8 +315,8 @@ class Book:
     def take_offer_plain(self, place, texts, values):
         if len(texts) == 3:
             return self.offered(place, texts[0], lambda live: looked_at(values[2], PLAIN, live=live))
-        known = texts[1] in self.peers
-        return self.offered(place, texts[0], lambda live: looked_at(values[3], PLAIN, live=live, keyed="mikey", known=known))
+        keyed = {"keyed": "mikey", "known": texts[1] in self.peers}
+        return self.offered(place, texts[0], lambda live: looked_at(values[3], PLAIN, live=live, **keyed))
 
     def offered(self, place, call, looks):
         if call in self.offers and call not in self.perhaps or self.stands.get(call) == self.MANUAL:
@@ -413,7 +414,8 @@ class Why:
         if self.fault:
             place, fault = self.fault
             where = f"line {place}, column {fault.at + 1}{f', {fault.field}' if fault.field else ''}"
-            said.append(f"{where}: {fault.name}: {fault.words}. The run ends here (`srtpgw: script line {place}: {fault.name}`).")
+            ends = f"The run ends here (`srtpgw: script line {place}: {fault.name}`)."
+            said.append(f"{where}: {fault.name}: {fault.words}. {ends}")
         if self.further:
             said.append(f"{self.further} further line(s) are outside the grammar, too")
         return said

@@ -59,7 +59,8 @@ class Telephone:
     def text(self, *more):
         host, port = TELEPHONES[self.side]
         profile = "RTP/SAVP" if self.side == "secure" else "RTP/AVP"
-        return lines("v=0", f"o=- 1 1 IN IP4 {host}", "s=-", f"c=IN IP4 {host}", "t=0 0", f"m=audio {port} {profile} 0", *more)
+        session = "v=0", f"o=- 1 1 IN IP4 {host}", "s=-", f"c=IN IP4 {host}", "t=0 0"
+        return lines(*session, f"m=audio {port} {profile} 0", *more)
 
     def send(self, octets, first=65_400):
         """Sends packets to the gateway, one each 20 ms; over the wrap of their numbers."""
@@ -137,7 +138,8 @@ def counted(watch, packets):
     found = [(legs[leg][way]["packets"], legs[leg][way]["octets"])
              for leg in ("secure RTP", "plain RTP") for way in ("arrived", "left")]
     print(f"watch.py counts {found}", flush=True)
-    return said("as many as were sent and arrived", found == [(packets, 182 * packets)] * 2 + [(packets, 172 * packets)] * 2)
+    sealed, plain = (packets, 182 * packets), (packets, 172 * packets)
+    return said("as many as were sent and arrived", found == [sealed, sealed, plain, plain])
 
 
 # ---- the guard
@@ -146,9 +148,8 @@ def knock(to):
     """A datagram from the secure telephone's network to an address of the gateway's machine, as a frame: its own system
     wouldn't route it."""
     frames = socket_in("secure", "socket.AF_PACKET, socket.SOCK_RAW", "made.bind(('telephone', 0))")
-    hardware = Path("/sys/class/net/secure/address").read_text() if Path("/sys/class/net/secure").exists() else None
-    hardware = hardware or subprocess.run(["ip", "-br", "link", "show", "secure"], capture_output=True, text=True).stdout.split()[2]
-    head = bytes.fromhex(hardware.strip().replace(":", "")) + frames.getsockname()[4] + b"\x08\x00"
+    gateway = bytes.fromhex(Path("/sys/class/net/secure/address").read_text().strip().replace(":", ""))
+    head = gateway + frames.getsockname()[4] + b"\x08\x00"
     with frames:
         frames.send(head + packet("10.1.0.2:5000", "%s:%d" % to, b"knock"))
 
@@ -165,14 +166,14 @@ def arrives(service, to):
 
 def guarded():
     """The guard rule, with it and without."""
-    rules = ["nft", "-f", "-"]
+    guard = ["chain", "ip", "srtpgw", "guard"]
     with socket.socket(socket.AF_INET, socket.SOCK_DGRAM) as service:
         service.bind(SERVICE)
         shut = arrives(service, SERVICE)
-        kept = subprocess.run(["nft", "-s", "list", "chain", "ip", "srtpgw", "guard"], capture_output=True, check=True).stdout
-        subprocess.run(["nft", "flush", "chain", "ip", "srtpgw", "guard"], check=True)
+        kept = subprocess.run(["nft", "-s", "list", *guard], capture_output=True, check=True).stdout
+        subprocess.run(["nft", "flush", *guard], check=True)
         wide = arrives(service, SERVICE)
-        subprocess.run(rules, input=b"flush chain ip srtpgw guard\n" + kept, check=True)
+        subprocess.run(["nft", "-f", "-"], input=kept, check=True)
         again = arrives(service, SERVICE)
     print(f"a datagram from the secure network to {SERVICE[0]}:{SERVICE[1]} arrives with the guard: {shut}, without it: "
           f"{wide}, with it again: {again}", flush=True)

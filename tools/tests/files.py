@@ -105,7 +105,7 @@ def call(program, folder):
     check("a script from a capture", status == 0 and "1 other ports" in said)
     live = tool("script.py", "--live", *events, "--bye")
     check("--live leaves out what a relay has of itself",
-          [line.split()[0] for line in live[1].decode().splitlines()] == ["srtpgw", "manual", "bye"] and "--live" not in live[2])
+          [line.split()[0] for line in live[1].decode().splitlines()] == ["srtpgw", "manual", "bye"])
     # The datagram to a port of nobody comes in by hand: a capture's are left out.
     text = text.replace(b"tick 1150\n", b"tick 1150\nin 5 10.0.0.1:4000 00\n")
     script.write_bytes(text)
@@ -120,7 +120,8 @@ def row_of(lines, *begins):
 
 
 def reports(script, out, folder):
-    status, text, _ = tool("outcomes.py", out, "--script", script, "--pcap", folder / "clear.pcap", "--wav", folder / "w.wav")
+    asked = "--pcap", folder / "clear.pcap", "--wav", folder / "w.wav"
+    status, text, _ = tool("outcomes.py", out, "--script", script, *asked)
     lines = text.decode().splitlines()
     check("a drop at a port of nobody has no slot", status == 0 and "-     -       port 5      PortUnused  1" in lines)
     # Late by 0, 0, 0, 25, 0, 16 and 0 ms: the jitter is 0, 0, 0, 1.5625.., and so on.
@@ -159,7 +160,8 @@ def streams():
         stream.take(rtp.Packet(moment, 0, seq, stamp, 1, b""))
     check("a stream over its turns", (stream.expected(), stream.lost(), stream.disordered()) == (4, 0, 0))
     check("the interarrival jitter", stream.jitters() == [0, 0, 1.0, 1.0 + 15 / 16] and stream.lateness() == [0, 0, 16, 0])
-    edges = {rtp.MU_LAW: {0xFF: 0, 0x7F: 0, 0x80: 32124, 0x00: -32124, 0xFE: 8}, rtp.A_LAW: {0xD5: 8, 0x55: -8, 0xAA: 32256, 0x2A: -32256}}
+    edges = {rtp.MU_LAW: {0xFF: 0, 0x7F: 0, 0x80: 32124, 0x00: -32124, 0xFE: 8},
+             rtp.A_LAW: {0xD5: 8, 0x55: -8, 0xAA: 32256, 0x2A: -32256}}
     check("the ends of G.711's tables", all(struct.unpack("<h", rtp.DECODED[kind][octet])[0] == value
                                            for kind, table in edges.items() for octet, value in table.items()))
 
@@ -167,18 +169,22 @@ def streams():
 # ---- outcomes.py alone
 
 SECRET = "WVNfX19zZW1jdGwgKCkgewkyMjA7fQp9CnVubGVz"
-TEXT = "\r\n".join(["v=0", "o=- 1 1 IN IP4 1.2.3.4", "s=\x1b[2J", f"k=clear:{SECRET}", f"a=Crypto:1 AES_CM_128_HMAC_SHA1_80 INLINE:{SECRET}",
-                    f"a=crypto:2 X inline:{SECRET}|2^20", f"a=Key-Mgmt:mikey {SECRET}", f"a=ICE-pwd:{SECRET}", f"a=x inline:{SECRET}", ""])
+TEXT = "\r\n".join([
+    "v=0", "o=- 1 1 IN IP4 1.2.3.4", "s=\x1b[2J", f"k=clear:{SECRET}", f"a=Crypto:1 AES_CM_128_HMAC_SHA1_80 INLINE:{SECRET}",
+    f"a=crypto:2 X inline:{SECRET}|2^20", f"a=Key-Mgmt:mikey {SECRET}", f"a=ICE-pwd:{SECRET}", f"a=x inline:{SECRET}", ""])
 
 
 def covered(folder):
     line = b"sdp 1 secure " + (TEXT.encode() + b"i=caf\xe9\r\n").hex().encode() + b"\n"
     status, out, _ = tool("outcomes.py", stdin=line)
     text = out.decode()
-    check("all keys are covered up, whatever their letters", status == 0 and SECRET not in text and text.count("(covered)") == 6)
-    check("octets that are no text are told by their numbers", "caf\\xe9" in text and "\\x1b[2J" in text and "\x1b" not in text)
+    check("all keys are covered up, whatever their letters",
+          status == 0 and SECRET not in text and text.count("(covered)") == 6)
+    check("octets that are no text are told by their numbers",
+          "caf\\xe9" in text and "\\x1b[2J" in text and "\x1b" not in text)
     check("--keys shows them", tool("outcomes.py", "--keys", stdin=line)[1].decode().count(SECRET) == 6)
-    check("what is no outcome", tool("outcomes.py", stdin=b"made 1\n")[0] == 1 and tool("outcomes.py", stdin=b"\xff\n")[0] == 1)
+    for line in (b"made 1\n", b"\xff\n"):
+        check(f"{line} is no outcome", tool("outcomes.py", stdin=line)[0] == 1)
 
 
 def refused(script, out, folder):

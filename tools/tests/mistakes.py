@@ -180,7 +180,8 @@ def check_fault(program, name, script, line, column, words):
     if said[:1] != [wanted]:
         return [f"{name}: says {said}, and not {wanted}"]
     status, text, _ = played(program, script)
-    return [] if (status, text) == (2, f"srtpgw: script line {line}: {fault}") else [f"{name}: the program says {status} {text}"]
+    same = (status, text) == (2, f"srtpgw: script line {line}: {fault}")
+    return [] if same else [f"{name}: the program says {status} {text}"]
 
 
 def check_refusal(program, name, script, words, cause):

@@ -1,0 +1,168 @@
+#!/usr/bin/env python3
+"""What tools/watch.py reads of nftables (an answer that nft 1.0.6 wrote), of /proc/net/udp (of Linux 6.18) and of a log of
+outcomes, and what it says of calls by it.
+
+    python3 tools/tests/watching.py
+"""
+
+import json
+import re
+import sys
+import tempfile
+from pathlib import Path
+
+sys.path.insert(0, str(Path(__file__).resolve().parent.parent))
+from counters import Count, Fault, Socket, counts, sockets  # noqa: E402
+from watch import Watch, prometheus, screen  # noqa: E402
+
+# Three datagrams of two octets came to port 20000, and three of six and one of five left it; three seconds ago.
+RECORDED = """{"nftables": [{"metainfo": {"version": "1.0.6", "release_name": "Lester Gooch #5", "json_schema_version": 1}},
+{"table": {"family": "ip", "name": "srtpgw", "handle": 2}},
+{"set": {"family": "ip", "name": "arrived", "table": "srtpgw", "type": "inet_service", "handle": 7, "size": 8192,
+ "flags": ["timeout"], "timeout": 86400, "elem": [{"elem": {"val": 20000, "expires": 86396, "counter": {"packets": 3,
+ "bytes": 90}}}], "stmt": [{"counter": null}]}},
+{"set": {"family": "ip", "name": "left", "table": "srtpgw", "type": "inet_service", "handle": 8, "size": 8192,
+ "flags": ["timeout"], "timeout": 86400, "elem": [{"elem": {"val": 20000, "expires": 86396, "counter": {"packets": 4,
+ "bytes": 135}}}], "stmt": [{"counter": null}]}},
+{"set": {"family": "ip", "name": "empty", "table": "srtpgw", "type": "inet_service", "handle": 9, "size": 8192}},
+{"chain": {"family": "ip", "table": "srtpgw", "name": "guard", "handle": 1, "type": "filter", "hook": "prerouting",
+ "prio": -310, "policy": "accept"}}]}"""
+# 400 datagrams of 172 octets went to port 20002, and nobody read them.
+UDP = """\
+   sl  local_address rem_address   st tx_queue rx_queue tr tm->when retrnsmt   uid  timeout inode ref pointer drops
+ 1685: 0100007F:4E22 00000000:0000 07 00000000:00034000 00:00000000 00000000     0        0 549599 2 00000000f493dcc2 144
+ 7831: 00000000:A624 00000000:0000 07 00000000:00000000 00:00000000 00000000     0        0 549600 2 00000000dcce1bfd 0
+"""
+SAMPLE = re.compile(r'[a-z_]+(\{[a-z]+="[^"\n]*"(,[a-z]+="[^"\n]*")*\})? -?[0-9.]+')
+CLAIMS = []
+
+
+def check(what, holds):
+    CLAIMS.append((what, bool(holds)))
+
+
+def read():
+    wanted = {"arrived": {20_000: Count(3, 6, 4)}, "left": {20_000: Count(4, 23, 4)}, "empty": {}}
+    check("an answer of nft", counts(RECORDED) == wanted)
+    check("sockets", sockets(UDP) == {20_002: Socket(0x34000, 144)})
+    cut = '{"nftables": [{"set": {"name": "a", "elem": [{"elem": {"counter": {}}}]}}]}'
+    for text in ("", "{}", '{"nftables": [{"set": {}}]}', cut):
+        try:
+            counts(text)
+            check(f"no answer of nft: {text}", False)
+        except Fault:
+            pass
+
+
+class World:
+    """What a Watch sees: a log, sets and sockets that the test changes, and a clock."""
+
+    def __init__(self, folder):
+        self.log, self.now, self.seen, self.ends = folder / "outcomes.log", 1000.0, {"arrived": {}, "left": {}}, {}
+        self.log.write_text("")
+        self.watch = Watch(self.log, 5.0, lambda: self.seen, lambda: self.ends, lambda: self.now)
+
+    def tell(self, *lines):
+        with self.log.open("a") as log:
+            log.writelines(line + "\n" for line in lines)
+
+    def count(self, **ways):
+        for way, ports in ways.items():
+            self.seen = {**self.seen, way: {**self.seen[way], **{port: Count(*count) for port, count in ports.items()}}}
+
+    def look(self, seconds=0):
+        self.now += seconds
+        return self.watch.look()
+
+    def says(self, seconds=0):
+        return self.look(seconds)["calls"][0]["media"][0]["says"]
+
+
+def leg(view, name, call=0):
+    return next(leg for leg in view["calls"][call]["media"][0]["legs"] if leg["leg"] == name)
+
+
+def one_call(world):
+    """A call whose telephones fall silent one behind the other."""
+    world.tell("made 7 0 1", "live 7")
+    world.count(arrived={20_000: (100, 18_200, 0), 20_002: (90, 15_480, 0)},
+                left={20_002: (100, 17_200, 0), 20_000: (90, 16_380, 0)})
+    view = world.look()
+    came = {"packets": 100, "octets": 18_200, "quiet": 0, "rate": None}
+    check("packets and octets by leg",
+          leg(view, "secure RTP")["arrived"] == came and leg(view, "plain RTP")["left"]["packets"] == 100)
+    check("nothing is said of a call that has just become live", view["calls"][0]["media"][0]["says"] == [])
+    world.count(arrived={20_000: (600, 109_200, 0)}, left={20_002: (600, 103_200, 0)})
+    view = world.look(10)
+    check("a rate", leg(view, "secure RTP")["arrived"]["rate"] == 50.0)
+    world.count(arrived={20_002: (90, 15_480, 10)})
+    check("one way", world.says() == ["one-way: no packet from the plain side for 10 s"])
+    world.count(arrived={20_000: (600, 109_200, 6)})
+    check("silence", world.says() == ["silence: no packet from either side for 6 s"])
+    world.tell("drop 20000 BadTag", "drop 20000 BadTag", "drop 20000 KeySpent 3 9", "drop 20001 Short")
+    world.count(arrived={20_000: (603, 1, 0), 20_002: (91, 1, 0)}, left={20_002: (600, 1, 9), 20_000: (91, 1, 0)})
+    said = world.says()
+    check("what comes and doesn't go out", len(said) == 1 and said[0].startswith(
+        "what the secure side sends isn't put out: 2 BadTag, the tag isn't the one that the key gives"))
+    check("drops by leg", leg(world.look(), "secure RTP")["drops"] == {"BadTag": 2, "KeySpent": 1})
+    world.ends = {20_000: Socket(4096, 12)}
+    check("a full socket", "12 datagrams were lost in front of the full socket of secure RTP" in world.says())
+
+
+def next_call(world):
+    """The counters of a port go on; those of the next call in a slot begin anew."""
+    world.tell("ended 7 0 1 bye", "made 8 0 1")
+    check("the next call in a slot", leg(world.look(), "secure RTP")["arrived"]["packets"] == 0)
+    world.count(arrived={20_000: (613, 1, 0)})
+    check("counts of its own", leg(world.look(), "secure RTP")["arrived"]["packets"] == 10)
+    world.seen = {"arrived": {20_000: Count(3, 3, 0)}, "left": {}}
+    check("sets that were loaded anew", leg(world.look(), "secure RTP")["arrived"]["packets"] == 3)
+    world.tell("refused 9 Sdes 0 NoLine", "refused 9 KeyReused 3", "unsent 20002 1.2.3.4:5", "drop 5 PortUnused")
+    with world.log.open("a") as log:
+        log.write("ended 8 0 1")
+    totals = world.look()["totals"]
+    check("totals", totals["refused"] == {"Sdes NoLine": 1, "KeyReused": 1} and totals["unsent"] == 1
+          and totals["ended"] == {"bye": 1})
+    world.tell(" idle")
+    view = world.look()
+    check("a line that came in two pieces", view["calls"] == [] and view["totals"]["ended"] == {"bye": 1, "idle": 1})
+    world.log.write_text("made 1 1 1\nlive 1\n")
+    check("a log that was begun anew", [call["call"] for call in world.look()["calls"]] == ["1"])
+
+
+def shapes(world):
+    """The three shapes of one look."""
+    view = world.look()
+    lines = prometheus(view)
+    samples = [line for line in lines if not line.startswith("#")]
+    check("Prometheus's samples", samples and all(SAMPLE.fullmatch(line) for line in samples))
+    heads = [line.split()[2] for line in lines if line.startswith("# TYPE")]
+    named = {re.split("[{ ]", line)[0] for line in samples}
+    check("each metric once", len(heads) == len(set(heads)) and named == set(heads))
+    check("JSON", json.loads(json.dumps(view)) == view)
+    check("a screen", any(line.startswith("call 1, slot 1, live") for line in screen(view)))
+
+    def fails():
+        raise Fault("nft: not here")
+
+    world.watch.sets = fails
+    view = world.look()
+    check("no counters", view["fault"] == "nft: not here" and "srtpgw_up 0" in prometheus(view)
+          and "nft: not here" in screen(view)[1])
+
+
+def main():
+    read()
+    with tempfile.TemporaryDirectory() as folder:
+        world = World(Path(folder))
+        one_call(world)
+        next_call(world)
+        shapes(world)
+    bad = [what for what, holds in CLAIMS if not holds]
+    print(*(f"NOT SO: {what}" for what in bad), sep="\n", end="\n" * bool(bad))
+    print(f"watching: {len(CLAIMS)} looked at, {len(bad)} are otherwise")
+    return bool(bad)
+
+
+if __name__ == "__main__":
+    sys.exit(main())
