@@ -11,14 +11,12 @@ rollovers by replay.
 
 It makes a loopback of its own where the system lets it; else the ports 20000 to 21023 of 127.0.0.1 have to be free.
 """
-import ctypes
 import fcntl
 import itertools
 import os
 import select
 import signal
 import socket
-import struct
 import subprocess
 import sys
 import tempfile
@@ -28,6 +26,7 @@ import time
 from collections import deque
 from pathlib import Path
 
+from loopback import has_own_loopback
 from signals import CM, octets_of
 from srtp import MasterKey, rtp
 
@@ -465,32 +464,6 @@ ALL = (
     over_rollovers,
 )
 PACED = (at_a_pace, rollovers)
-
-
-def makes_own_loopback():
-    """Moves this process and those that it starts to a network that has nothing but a loopback."""
-    new_user, new_net, set_flags, up = 0x10000000, 0x40000000, 0x8914, 1
-    unshare = ctypes.CDLL(None).unshare
-    if unshare(new_net) != 0 and unshare(new_user | new_net) != 0:
-        raise OSError("no network of its own")
-    with Peer().socket as one:
-        fcntl.ioctl(one, set_flags, struct.pack("16sh14x", b"lo", up))
-        one.sendto(b"", one.getsockname())
-
-
-def has_own_loopback():
-    """Makes one where the system lets it, which another process tries first."""
-    child = os.fork()
-    if child == 0:
-        try:
-            makes_own_loopback()
-        except OSError:
-            os._exit(1)
-        os._exit(0)
-    if os.waitpid(child, 0)[1] != 0:
-        return False
-    makes_own_loopback()
-    return True
 
 
 def is_too_long(*_):

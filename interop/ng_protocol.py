@@ -1,0 +1,539 @@
+#!/usr/bin/env python3
+"""Uses the NG daemon (tools/ng) as a SIP server does, and badly, and checks what it answers.
+
+    interop/ng_protocol.py PROGRAM
+
+It starts the daemon over the program, which is a gateway by its command `relay`. What must come stands here, or in the
+pages that say so; requests are written by a writer of its own. It makes a network of its own where the system lets it;
+else UDP port 2223 and the gateway's ports 20000 to 20063 of 127.0.0.1 have to be free.
+"""
+import base64
+import contextlib
+import http.server
+import itertools
+import json
+import os
+import random
+import re
+import signal
+import socket
+import subprocess
+import sys
+import threading
+import time
+from pathlib import Path
+
+from loopback import has_own_loopback
+
+TOP = Path(__file__).resolve().parents[1]
+sys.path.insert(0, str(TOP / "tools"))
+from ng import bencode  # noqa: E402
+
+HOST, NG = "127.0.0.1", ("127.0.0.1", 2223)
+SECURE, PLAIN = (HOST, 4000), (HOST, 4010)
+ALL_SECONDS = 300
+SUITE = "AES_CM_128_HMAC_SHA1_80"
+
+# The examples of BEP 3, and values that differ from them by a rule of its text.
+VALUES = {
+    b"4:spam": b"spam", b"i3e": 3, b"i-3e": -3, b"i0e": 0, b"l4:spam4:eggse": [b"spam", b"eggs"],
+    b"d3:cow3:moo4:spam4:eggse": {b"cow": b"moo", b"spam": b"eggs"}, b"d4:spaml1:a1:bee": {b"spam": [b"a", b"b"]},
+    b"0:": b"", b"le": [], b"de": {},
+}
+NO_VALUES = (
+    b"", b"i-0e", b"i03e", b"ie", b"i3", b"i+3e", b"5:spam", b"04:spam", b"-1:", b"4spam", b"l4:spam", b"d3:cowe",
+    b"di3e3:mooe", b"d3:cow3:moo3:cow3:mooe", b"e", b"4:spami3e", b"x",
+)
+# Datagrams as Kamailio 5.6.3 sends them, a ping and an offer; only the text and the Call-ID are other ones.
+PING = b"777_1 d7:command4:pinge"
+
+
+def bencoded(value):
+    """A writer of its own: keys stand as they come."""
+    if isinstance(value, dict):
+        return b"d" + b"".join(bencoded(key) + bencoded(held) for key, held in value.items()) + b"e"
+    if isinstance(value, list):
+        return b"l" + b"".join(map(bencoded, value)) + b"e"
+    if isinstance(value, int):
+        return b"i%de" % value
+    octets = value.encode() if isinstance(value, str) else value
+    return b"%d:%b" % (len(octets), octets)
+
+
+class Server:
+    """A SIP server's end of the protocol."""
+
+    numbers = itertools.count()
+
+    def __init__(self):
+        self.socket = socket.socket(socket.AF_INET, socket.SOCK_DGRAM)
+        self.socket.bind((HOST, 0))
+        self.socket.settimeout(20)
+        self.socket.connect(NG)
+
+    def sends(self, octets):
+        self.socket.send(octets)
+
+    def takes(self):
+        return self.socket.recv(65_536)
+
+    def asks(self, command, **fields):
+        """The answer to a request, as a dictionary of octets."""
+        message = {key.replace("_", "-"): value for key, value in fields.items()}
+        return bencode.decoded(self.hears(bencoded({**message, "command": command})))
+
+    def hears(self, body):
+        """The answer to a body, whatever else comes before."""
+        cookie = b"%d_%d " % (os.getpid(), next(self.numbers))
+        self.sends(cookie + body)
+        while True:
+            answer = self.takes()
+            if answer.startswith(cookie):
+                return answer[len(cookie):]
+
+    def offers(self, call, tag, text, to, **more):
+        return self.asks("offer", **{"call_id": call, "from_tag": tag, "sdp": text, "transport_protocol": to, **more})
+
+    def answers(self, call, tags, text, **more):
+        return self.asks("answer", call_id=call, from_tag=tags[0], to_tag=tags[1], sdp=text, **more)
+
+    def is_answered(self):
+        return self.hears(b"d7:command4:pinge") == b"d6:result4:ponge"
+
+
+class Daemon:
+    """The daemon, and the lines of its log."""
+
+    def __init__(self, program, *words):
+        command = [sys.executable, TOP / "tools" / "ng", "--listen", "%s:%d" % NG, "--program", program, *words]
+        self.process = subprocess.Popen(command, stdout=subprocess.PIPE, text=True, errors="replace")
+        self.lines = []
+        self.begins = threading.Event()
+        self.reader = threading.Thread(target=self.reads, daemon=True)
+        self.reader.start()
+        assert self.begins.wait(20), f"the daemon does not begin: {self.process.poll()}"
+
+    def reads(self):
+        for line in self.process.stdout:
+            self.lines.append(line)
+            if "answers NG requests" in line:
+                self.begins.set()
+
+    def has_said(self, pattern, seconds=20):
+        end = time.monotonic() + seconds
+        while time.monotonic() < end:
+            if any(re.search(pattern, line) for line in list(self.lines)):
+                return True
+            time.sleep(0.05)
+        raise AssertionError(f"no line of the log says {pattern}: {self.lines[-5:]}")
+
+    def ends(self, number=signal.SIGTERM):
+        """Its status, behind a signal or by itself."""
+        if number:
+            self.process.send_signal(number)
+        try:
+            return self.process.wait(60)
+        finally:
+            self.process.kill()
+            self.reader.join()
+
+
+@contextlib.contextmanager
+def running(program, *words):
+    daemon = Daemon(program, *words)
+    try:
+        yield daemon, Server()
+        assert daemon.ends() == 0, "the daemon's status"
+    finally:
+        daemon.process.kill()
+
+
+def text_of(address, profile, *rest, version=1):
+    host, port = address
+    lines = ["v=0", f"o=user 1 {version} IN IP4 10.0.0.99", "s=-", f"c=IN IP4 {host}", "t=0 0",
+             f"m=audio {port} {profile} 0", "a=rtpmap:0 PCMU/8000", *rest]
+    return "".join(line + "\r\n" for line in lines)
+
+
+def key():
+    return f"a=crypto:1 {SUITE} inline:{base64.b64encode(os.urandom(30)).decode()}"
+
+
+def secure(*rest, crypto=None, **more):
+    return text_of(SECURE, "RTP/SAVP", crypto or key(), *rest, **more)
+
+
+def plain(*rest, **more):
+    return text_of(PLAIN, "RTP/AVP", *rest, **more)
+
+
+def lines_of(answer):
+    assert answer.get(b"result") == b"ok", answer
+    return answer[b"sdp"].decode().splitlines()
+
+
+def port_of(lines):
+    return int(re.search(r"^m=audio (\d+)", "\n".join(lines), re.M)[1])
+
+
+def reason_of(answer):
+    assert answer.get(b"result") == b"error", answer
+    return answer[b"error-reason"].decode()
+
+
+def sentence(name):
+    """What the page says of a refusal."""
+    for line in (TOP / "docs" / "refusals.md").read_text().splitlines():
+        cells = [cell.strip() for cell in line.strip("|").split(" | ")]
+        if re.match(rf"{name}\b", cells[0]) and len(cells) == 3:
+            return cells[1]
+    raise AssertionError(f"the page has no {name}")
+
+
+@contextlib.contextmanager
+def sockets():
+    with contextlib.ExitStack() as kept:
+        pair = [kept.enter_context(socket.socket(socket.AF_INET, socket.SOCK_DGRAM)) for _ in (SECURE, PLAIN)]
+        for one, address in zip(pair, (SECURE, PLAIN)):
+            one.bind(address)
+            one.settimeout(20)
+        yield pair
+
+
+def call(server, name, tags=("a", "b")):
+    """A call that the secure side makes: the lines of both texts."""
+    to_plain = lines_of(server.offers(name, tags[0], secure(), "RTP/AVP"))
+    return to_plain, lines_of(server.answers(name, tags, plain()))
+
+
+# ---- checks
+
+
+def values(_):
+    for octets, value in VALUES.items():
+        assert bencode.decoded(octets) == value, octets
+        assert bencode.encoded(value) == octets, octets
+    for octets in NO_VALUES:
+        try:
+            bencode.decoded(octets)
+        except bencode.Bad:
+            continue
+        raise AssertionError(f"{octets} is taken as a value")
+    return f"{len(VALUES)} values, {len(NO_VALUES)} that are none"
+
+
+def a_call(program):
+    """Offered by either side, answered, with a packet, and deleted."""
+    with running(program) as (daemon, server), sockets() as (at_secure, at_plain):
+        server.sends(PING)
+        assert server.takes() == b"777_1 d6:result4:ponge"
+        to_plain, to_secure = call(server, "one")
+        assert "c=IN IP4 127.0.0.1" in to_plain and not any("crypto" in line for line in to_plain), to_plain
+        assert [line for line in to_plain if line.startswith("m=")] == [f"m=audio {port_of(to_plain)} RTP/AVP 0"]
+        assert any(line.startswith(f"a=crypto:1 {SUITE} inline:") for line in to_secure), to_secure
+        passes(at_plain, at_secure, port_of(to_plain))
+        at_plain.sendto(b"\x80\x00", (HOST, port_of(to_plain)))
+        while not server.asks("query", call_id="one")[b"drops"]:
+            time.sleep(0.05)
+        asked = server.asks("query", call_id="one")
+        assert set(asked[b"tags"]) == {b"a", b"b"} and asked[b"tags"][b"a"][b"in dialogue with"] == b"b", asked
+        ended = ends(server, "one", daemon)
+        assert ended[b"totals"][b"RTP"][b"errors"] == 1 and ended[b"drops"] == {b"Short": 1}, ended
+        to_secure = lines_of(server.offers("two", "c", plain(), "RTP/SAVP"))
+        assert sum(line.startswith("a=crypto:") for line in to_secure) == 2, to_secure
+        lines_of(server.answers("two", ("c", "d"), secure()))
+        assert server.asks("list")[b"calls"] == [b"two"]
+        assert server.asks("statistics")[b"statistics"][b"currentstatistics"][b"sessionsown"] == 1
+        ends(server, "two", daemon)
+    return "two calls and a packet"
+
+
+def passes(at_plain, at_secure, port):
+    """A plain packet comes out sealed: its head, and ten octets more."""
+    packet = bytes.fromhex("8000001000000020000000ab") + bytes(160)
+    at_plain.sendto(packet, (HOST, port))
+    sealed = at_secure.recv(2048)
+    assert sealed[:12] == packet[:12] and len(sealed) == len(packet) + 10, sealed
+
+
+def ends(server, name, daemon):
+    ended = server.asks("delete", call_id=name)
+    assert ended[b"result"] == b"ok" and b"warning" not in ended, ended
+    assert b"warning" in server.asks("delete", call_id=name)
+    assert daemon.has_said(rf"call \d+ \({name}\) deleted after")
+    return ended
+
+
+def cookies(program):
+    """The same request again is answered by the same octets, and obeyed once."""
+    with running(program) as (_, server):
+        message = {"sdp": plain(), "call-id": "one", "from-tag": "a", "command": "offer",
+                   "transport-protocol": "RTP/SAVP"}
+        first, second = (twice(server, b"7_1 " + bencoded(message)) for _ in range(2))
+        assert first == second
+        assert server.asks("statistics")[b"statistics"][b"totalstatistics"][b"managedsessions"] == 1
+        assert b"warning" not in server.asks("delete", call_id="one")
+        assert server.asks("list")[b"calls"] == []
+        other = Server()
+        other.sends(b"7_1 " + bencoded({"command": "ping"}))
+        assert other.takes() == b"7_1 d6:result4:ponge", "another sender's cookie"
+        return "a request three times: one call, the same answer"
+
+
+def twice(server, octets):
+    """The answer to a datagram that comes twice at once."""
+    server.sends(octets)
+    server.sends(octets)
+    return server.takes()
+
+
+def flags(program):
+    """What a server asks of texts is done, and what can't be is refused."""
+    words = ["--secure", "10.1.0.1", "--plain", "10.2.0.1", "--interface", "outside=10.3.0.1"]
+    with running(program, *words) as (_, server):
+        asked = {"replace": ["origin", "session-connection"], "flags": ["SIP-source-address"],
+                 "received_from": ["IP4", HOST], "ICE": "remove", "rtcp_mux": ["demux"]}
+        lines = lines_of(server.offers("one", "a", plain("a=rtcp-mux", "a=candidate:x"), "RTP/SAVP", **asked))
+        assert lines[1] == "o=user 1 1 IN IP4 10.1.0.1" and lines[3] == "c=IN IP4 10.1.0.1", lines
+        assert not any("rtcp-mux" in line or "candidate" in line for line in lines), lines
+        lines = lines_of(server.answers("one", "ab", secure()))
+        assert lines[1] == "o=user 1 1 IN IP4 10.0.0.99" and lines[3] == "c=IN IP4 10.2.0.1", lines
+        more = {"media_address": "10.4.0.1", "SDES": [f"no-{SUITE}"]}
+        lines = lines_of(server.offers("two", "a", plain(), "RTP/SAVPF", **more))
+        assert lines[3] == "c=IN IP4 10.4.0.1" and sum("a=crypto" in line for line in lines) == 1, lines
+        assert [line.split()[2] for line in lines if line.startswith("m=")] == ["RTP/SAVPF"], lines
+        lines = lines_of(server.offers("three", "a", plain(), "RTP/SAVP", direction=["outside", "outside"]))
+        assert lines[3] == "c=IN IP4 10.3.0.1", lines
+        best_effort = text_of(SECURE, "RTP/AVP", key())
+        lines_of(server.offers("four", "a", best_effort, "RTP/AVP"))
+        lines = lines_of(server.answers("four", "ab", plain()))
+        assert "RTP/AVP" in lines[5] and any(line.startswith("a=crypto:1") for line in lines), lines
+        for wrong, said in NOT_DONE:
+            asked = {"transport_protocol": "RTP/SAVP", "call_id": "five", "from_tag": "a", "sdp": plain(), **wrong}
+            assert said in reason_of(server.asks("offer", **asked)), wrong
+    return f"texts as the flags ask; {len(NOT_DONE)} flags refused"
+
+
+NOT_DONE = (
+    ({"transport_protocol": "UDP/TLS/RTP/SAVPF"}, "DTLS"),
+    ({"transport_protocol": "RTP/AVP"}, "both sides would be plain"),
+    ({"ICE": "force"}, "ICE"), ({"rtcp_mux": ["require"]}, "rtcp-mux"), ({"media_address": "::1"}, "IPv4"),
+    ({"address_family": "IP6"}, "IP4"),
+    ({"flags": ["SIP source address"], "received_from": ["IP6", "::1"]}, "IPv4"), ({"SDES": ["only-F8"]}, "suite"),
+    ({"flags": 3}, "flags isn't a list"), ({"sdp": 3}, "sdp isn't a string"), ({"from_tag": ""}, "No from-tag"),
+)
+
+
+def offers_again(program):
+    """Offers within a call: the same again, in place of one that wasn't answered, past the gateway, with new keys."""
+    with running(program) as (daemon, server):
+        first = lines_of(server.offers("one", "a", secure(crypto=KEEPS), "RTP/AVP"))
+        assert lines_of(server.offers("one", "a", secure(crypto=KEEPS), "RTP/AVP")) == first, "the same offer again"
+        early = lines_of(server.answers("one", "ab", plain()))
+        final = lines_of(server.answers("one", "ab", plain("a=sendrecv")))
+        assert final == early[:7] + ["a=sendrecv"] + early[7:], final
+        assert sentence("State") in reason_of(server.answers("one", "ab", text_of((HOST, 4020), "RTP/AVP")))
+        held = lines_of(server.offers("one", "a", secure("a=sendonly", crypto=KEEPS, version=2), "RTP/AVP", to_tag="b"))
+        assert port_of(held) == port_of(first) and "a=sendonly" in held, held
+        back = lines_of(server.answers("one", "ab", plain("a=recvonly")))
+        assert crypto_in(back) == crypto_in(early) and "a=recvonly" in back, back
+        nowhere = plain().replace(f"c=IN IP4 {HOST}", "c=IN IP4 0.0.0.0")
+        held = lines_of(server.offers("one", "b", nowhere, "RTP/SAVP", to_tag="a"))
+        assert "c=IN IP4 0.0.0.0" in held and crypto_in(held) == crypto_in(early), held
+        lines_of(server.answers("one", "ba", secure(crypto=KEEPS)))
+        moved = text_of((HOST, 4020), "RTP/AVP")
+        refused = lines_of(server.offers("one", "b", moved, "RTP/SAVP", to_tag="a"))
+        assert sentence("KeyReused") in reason_of(server.answers("one", "ba", secure(crypto=KEEPS)))
+        anew = lines_of(server.offers("one", "b", plain("a=x", version=3), "RTP/SAVP", to_tag="a"))
+        assert crypto_in(anew) != crypto_in(refused), "the second offer is in place of the first"
+        lines_of(server.offers("one", "a", secure(), "RTP/AVP", to_tag="b"))
+        lines_of(server.answers("one", "ab", plain()))
+        ends(server, "one", daemon)
+        first = lines_of(server.offers("two", "a", plain(), "RTP/SAVP"))
+        second = lines_of(server.offers("two", "a", moved, "RTP/SAVP"))
+        assert crypto_in(first) != crypto_in(second) and server.asks("list")[b"calls"] == [b"two"]
+        ends(server, "two", daemon)
+        branches(server)
+    return "again, past the gateway, in place of another, by branches"
+
+
+KEEPS = key()
+
+
+def crypto_in(lines):
+    return [line for line in lines if line.startswith("a=crypto:")]
+
+
+def branches(server):
+    """Two branches of a call have ports of their own; one may go alone."""
+    ports = [port_of(lines_of(server.offers("three", "a", plain(), "RTP/SAVP", via_branch=name))) for name in "xy"]
+    assert ports[0] != ports[1], ports
+    lines_of(server.answers("three", "ab", secure(), via_branch="y"))
+    assert b"warning" not in server.asks("delete", call_id="three", from_tag="a", via_branch="x")
+    assert b"warning" in server.asks("delete", call_id="three", from_tag="other")
+    assert b"warning" not in server.asks("delete", call_id="three", from_tag="b")
+    assert server.asks("list")[b"calls"] == []
+
+
+def refusals(program):
+    """A refused text is told by the page's sentence, in the answer and in the log."""
+    with running(program) as (daemon, server):
+        assert sentence("Sdp [^|]*Order") in reason_of(server.offers("one", "a", "v=0\r\n", "RTP/SAVP"))
+        no_key = text_of(SECURE, "RTP/SAVP")
+        assert sentence("Sdes NoLine") in reason_of(server.offers("one", "a", no_key, "RTP/AVP"))
+        assert daemon.has_said(r"offer of one refused \(Sdes 0 NoLine\)")
+        too_long = plain() + "a=" + 40_000 * "x" + "\r\n"
+        assert "TooLong" in reason_of(server.offers("one", "a", too_long, "RTP/SAVP"))
+        assert reason_of(server.asks("query", call_id="one")) == "Unknown call-id"
+        assert "Unrecognized command" in reason_of(server.asks("play media", call_id="one"))
+        assert reason_of(server.answers("one", "ab", plain())) == "Unknown call-id"
+        assert server.asks("list")[b"calls"] == []
+        return "by the page's sentences"
+
+
+def hostile(program):
+    """Datagrams that are no requests, or bad ones: none ends the daemon or a call."""
+    with running(program) as (_, server), sockets() as (at_secure, at_plain):
+        to_plain, _ = call(server, "kept")
+        count = 0
+        for datagram in itertools.chain(cut(), malformed(), mistyped(), drawn(2_000)):
+            server.sends(datagram[:65_507])
+            count += 1
+            if count % 50 == 0:
+                assert server.is_answered(), count
+        assert server.is_answered()
+        while server.asks("list", limit=1_000_000)[b"calls"] != [b"kept"]:
+            for name in server.asks("list", limit=1_000_000)[b"calls"]:
+                if name != b"kept":
+                    server.asks("delete", call_id=name)
+        passes(at_plain, at_secure, port_of(to_plain))
+        server.asks("delete", call_id="kept")
+        return f"{count} datagrams"
+
+
+def cut():
+    """An offer cut at every octet."""
+    whole = b"9_9 " + bencoded({
+        "ICE": "remove", "flags": ["SIP-source-address"], "replace": ["origin"], "transport-protocol": "RTP/SAVP",
+        "call-id": "cut", "received-from": ["IP4", HOST], "from-tag": "a", "sdp": plain(), "command": "offer"})
+    return (b"%d" % place + whole[:place] for place in range(len(whole)))
+
+
+def malformed():
+    cookies = (b"m%d " % number for number in itertools.count())
+    for body in (
+        b"", b" ", b"d", b"l" * 10_000, b"d1:a" * 10_000, b"d" * 65_000, b"l" * 30_000 + b"e" * 30_000, b"e" * 65_000,
+        b"d9999999999:x", b"d99999999999999999999:x", b"i" + b"9" * 60_000 + b"e", b"di1ei2ee", b"d7:command4:pingei3e",
+        b"d7:command" + b"9" * 50_000, b"{\"command\": \"ping\"}", b"\xff\xfe",
+        b"d7:command5:offer7:call-id2:\xff\xfee",
+    ):
+        yield next(cookies) + body
+    yield from (b"", b" ", b"x" * 60_000, b"x" * 300 + b" d7:command4:pinge", b"\n\r\0 d7:command4:pinge")
+
+
+def mistyped():
+    """Each field of an offer, an answer and others as each other type, and with octets that are no UTF-8."""
+    fields = {
+        "call-id": "wrong", "from-tag": "a", "to-tag": "b", "sdp": plain(), "flags": [], "replace": [],
+        "received-from": ["IP4", HOST], "transport-protocol": "RTP/SAVP", "media-address": HOST,
+        "direction": ["a", "b"], "via-branch": "z", "ICE": "remove", "rtcp-mux": [], "SDES": [], "supports": [],
+        "limit": 3, "address-family": "IP4"}
+    wrong = (-1, 10**18, "", b"\xff\0\n", [], [3], [[]], {}, {"a": 1}, ["IP4"], ["IP4", "300.1.1.1"], "x" * 40_000)
+    for number, (command, name, value) in enumerate(itertools.product(
+            ("offer", "answer", "delete", "query", "list", "statistics"), fields, wrong)):
+        # By many calls, which are obeyed side by side.
+        message = {**fields, "call-id": f"wrong {number % 64}", name: value, "command": command}
+        yield b"t%d " % number + bencoded(message)
+    yield b"t " + bencoded({"command": ["ping"]})
+
+
+def drawn(count):
+    """Requests with octets changed, left out or doubled, from a seed."""
+    random.seed(7)
+    message = {"from-tag": "a", "sdp": plain(), "transport-protocol": "RTP/SAVP", "command": "offer"}
+    for number in range(count):
+        octets = bytearray(bencoded({"call-id": f"drawn {number % 64}", **message}))
+        for _ in range(random.randint(1, 4)):
+            place = random.randrange(len(octets))
+            octets[place:place + random.randint(0, 2)] = bytes(random.choices(range(256), k=random.randint(0, 2)))
+        yield b"r%d " % number + octets
+
+
+class Kamailio(http.server.BaseHTTPRequestHandler):
+    """What is told of calls that have ended: the lists of Call-ID and tags."""
+
+    told = []
+
+    def do_POST(self):
+        asked = json.loads(self.rfile.read(int(self.headers["Content-Length"])))
+        self.told.append([asked["method"], *asked["params"]])
+        self.send_response(200)
+        self.end_headers()
+        self.wfile.write(json.dumps({"jsonrpc": "2.0", "id": asked["id"], "result": {}}).encode())
+
+    def log_message(self, *_):
+        pass
+
+
+def drains(program):
+    """A daemon that drains takes no new call, keeps those that it has, and ends with the last one."""
+    with running(program) as (daemon, server):
+        call(server, "one")
+        daemon.process.send_signal(signal.SIGUSR1)
+        daemon.has_said("takes no new calls")
+        asked = server.offers("two", "a", plain(), "RTP/SAVP", supports=["load limit"])
+        assert asked[b"result"] == b"load limit", asked
+        assert reason_of(server.offers("two", "a", plain(), "RTP/SAVP")) == "Parallel session limit reached"
+        lines_of(server.offers("one", "b", text_of((HOST, 4030), "RTP/AVP"), "RTP/SAVP", to_tag="a"))
+        lines_of(server.answers("one", "ba", secure()))
+        assert daemon.process.poll() is None
+        server.asks("delete", call_id="one")
+        assert daemon.process.wait(30) == 0
+    return "no new call, a new key for one that is there, and the end"
+
+
+def gateway_dies(program):
+    """Where the gateway's process is killed, the SIP server is told of each call, and new calls go on by the next."""
+    place = http.server.ThreadingHTTPServer((HOST, 0), Kamailio)
+    threading.Thread(target=place.serve_forever, daemon=True).start()
+    with running(program, "--tell", f"http://{HOST}:{place.server_port}/RPC") as (daemon, server):
+        for name in ("one", "two"):
+            call(server, name)
+        children = Path(f"/proc/{daemon.process.pid}/task/{daemon.process.pid}/children").read_text().split()
+        assert len(children) == 1, children
+        os.kill(int(children[0]), signal.SIGKILL)
+        end = time.monotonic() + 20
+        while len(Kamailio.told) < 2 and time.monotonic() < end:
+            time.sleep(0.05)
+        wanted = [["dlg.terminate_dlg", name, "a", "b"] for name in ("one", "two")]
+        assert sorted(Kamailio.told) == wanted, Kamailio.told
+        while server.offers("three", "a", plain(), "RTP/SAVP")[b"result"] != b"ok":
+            assert time.monotonic() < end, "no next gateway"
+            time.sleep(0.2)
+        assert server.asks("list")[b"calls"] == [b"three"]
+        server.asks("delete", call_id="three")
+    place.shutdown()
+    return "two calls told, and the next call by the next process"
+
+
+ALL = (values, a_call, cookies, flags, offers_again, refusals, hostile, drains, gateway_dies)
+
+
+def is_too_long(*_):
+    sys.exit(f"the checks take more than {ALL_SECONDS} seconds")
+
+
+def main():
+    signal.signal(signal.SIGALRM, is_too_long)
+    signal.alarm(ALL_SECONDS)
+    has_own_loopback()
+    begun = time.monotonic()
+    wanted = [check for check in ALL if check.__name__ in sys.argv[2:]] or ALL
+    for check in wanted:
+        since = time.monotonic()
+        print(f"{check.__name__}: {check(sys.argv[1])}; {time.monotonic() - since:.1f} s", flush=True)
+    print(f"the NG daemon: as it should be, in {time.monotonic() - begun:.1f} s")
+
+
+if __name__ == "__main__":
+    main()

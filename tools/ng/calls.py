@@ -1,0 +1,310 @@
+"""The calls that a SIP server names by Call-ID and tags, over the gateway's own numbers.
+
+A `Book` obeys offers, answers and deletions as rtpengine's control protocol has them: an offer may come again, may be
+made within a call, or in place of one that was never answered; an answer may come again with another provisional
+response; a call may have branches, each of them a call of the gateway's own. An offer within a call that changes
+nothing which the gateway looks at goes past it (tools/descriptions.py).
+"""
+
+import collections
+import itertools
+import threading
+import time
+
+from descriptions import carried, looked_at, parts
+from driver import Refused
+from gateway import Gone
+from ng.request import Bad, PROFILES, text_of
+from ng.texts import (
+    NOWHERE, addressed, addresses, has_keys, holds, profile, profiled, secured, shown, without_suites,
+)
+
+FAR = {"secure": "plain", "plain": "secure"}
+# Causes for which another gateway may take the call (docs/refusals.md); of a new call `State` says that it drains.
+FULL = ("TableFull", "RingFull", "State")
+DRAINING = "this gateway takes no new calls, and ends with its last one"
+
+# An open offer: who made it, its text and the gateway's for the other side, whether it went past the gateway, and
+# whether it holds by naming no address.
+Offer = collections.namedtuple("Offer", "side tag text given passes nowhere")
+# A call with its drops by port and cause, and its packets and octets by port.
+Report = collections.namedtuple("Report", "call dropped arrived")
+
+
+class Full(Bad):
+    """This gateway takes no new call now; another one may."""
+
+
+class Call:
+    """One call of the gateway. `tags` has the side of each SIP tag; `said` a side's last accepted text, `given` the
+    gateway's last one for it, `wears` the profile that its texts have, `interface` the name of its interface."""
+
+    def __init__(self, number, request):
+        self.number, self.id, self.branch = number, request.call_id, request.branch
+        self.tags, self.said, self.given, self.wears, self.interface = {}, {}, {}, {}, {}
+        self.open, self.live = None, False
+        self.made = self.told = time.time()
+        self.offers = self.passed = 0
+        self.ports, self.dropped_before, self.arrived_before = {}, {}, {}
+
+    def name(self):
+        return f"call {self.number} ({text_of(self.id)})"
+
+    def known_address(self, side):
+        """The address that this side's text had before."""
+        return next((address for address in addresses(self.said.get(side, b"")) if address != NOWHERE), None)
+
+
+class Book:
+    """`addresses` has by side the address that its telephones reach, `interfaces` more of them by name. `log` is given
+    a line for each call, `tell` each call that has ended by itself, and why. `arrived` answers packets and octets by
+    port where something counts them."""
+
+    def __init__(self, driver, addresses, interfaces=None, log=print, tell=lambda call, why: None,
+                 arrived=lambda ports: {}):
+        self.driver, self.addresses, self.interfaces = driver, addresses, interfaces or {}
+        self.log, self.tell, self.arrived = log, tell, arrived
+        self.lock = threading.RLock()
+        self.by_id, self.by_number = {}, {}
+        self.numbers = itertools.count(1)
+        self.counts = collections.Counter()
+
+    # ---- offers
+
+    def offer(self, request):
+        """The text for the side that is offered to."""
+        request.needs("call_id", "from_tag", "sdp")
+        request.check()
+        call = self.offered_within(request) or self.new(request)
+        side = side_of(request, call)
+        text = taken(request, call, side)
+        known = call.open
+        if known and known.tag == request.from_tag and looked_at(text) == looked_at(known.text):
+            call.open = known._replace(text=text, given=carried(text, known.given), nowhere=holds(request.sdp))
+        else:
+            if known:
+                call = self.withdrawn(call, request)
+            self.opened(request, call, side, text)
+        call.told = time.time()
+        self.remember(request, call, side)
+        return self.for_side(request, call, FAR[side], call.open.given, call.open.nowhere)
+
+    def offered_within(self, request):
+        """The call within which an offer is made, or whose offer it is once more."""
+        tags = {request.from_tag, request.to_tag} - {b""}
+        for call in reversed(self.by_id.get(request.call_id, [])):
+            if request.to_tag and call.live and tags <= call.tags.keys():
+                return call
+            if not request.to_tag and not call.live and call.branch == request.branch and tags <= call.tags.keys():
+                return call
+        return None
+
+    def new(self, request):
+        """A call that isn't in the book yet."""
+        if self.driver.draining:
+            raise Full(DRAINING)
+        return Call(next(self.numbers), request)
+
+    def withdrawn(self, call, request):
+        """A call without its open offer: SIP's refusals of an offer aren't told to rtpengine, so the next offer is what
+        tells that the one before came to nothing. A first offer takes its call with it."""
+        if not call.open.passes:
+            self.driver.reject(call.number)
+        call.open = None
+        if call.live:
+            return call
+        self.forget(call)
+        return self.new(request)
+
+    def opened(self, request, call, side, text):
+        """Makes the offer, through the gateway or past it."""
+        passes = call.live and looked_at(text) == looked_at(call.said[side])
+        given = carried(text, call.given[FAR[side]]) if passes else self.signalled(call, side, text)
+        if side == "plain" and not passes:
+            given = without_suites(given, request.suites())
+        call.open = Offer(side, request.from_tag, text, given, passes, holds(request.sdp))
+        call.offers += 1
+        call.passed += passes
+
+    def signalled(self, call, side, text):
+        signal = self.driver.offer_secure if side == "secure" else self.driver.offer_plain
+        try:
+            return signal(call.number, text)
+        except Refused as refused:
+            if not call.live and str(refused).split()[0] in FULL:
+                raise Full(str(refused)) from refused
+            raise
+        except Gone as gone:
+            raise (Bad if call.live else Full)(f"the gateway has ended: {gone}") from gone
+
+    def remember(self, request, call, side):
+        """Keeps what the offer told of the call beside its text."""
+        call.tags[request.from_tag] = side
+        call.wears[side] = profile(request.sdp)
+        if request.transport:
+            call.wears[FAR[side]] = request.transport
+        if len(request.direction) > 1:
+            call.interface[side], call.interface[FAR[side]] = map(text_of, request.direction[:2])
+        with self.lock:
+            if call.number in self.by_number:
+                return
+            self.by_number[call.number] = call
+            self.by_id.setdefault(call.id, []).append(call)
+            self.counts["managed"] += 1
+        call.ports = self.ports_of(call)
+        call.dropped_before, call.arrived_before = self.dropped(call.ports), self.arrived(call.ports)
+
+    # ---- answers
+
+    def answer(self, request):
+        """The text for the side that offered."""
+        request.needs("call_id", "from_tag", "to_tag", "sdp")
+        request.check()
+        call = self.answered(request)
+        offer, call.told = call.open, time.time()
+        if offer is None:
+            return self.answered_again(request, call)
+        side = FAR[offer.side]
+        text = taken(request, call, side)
+        if not offer.passes:
+            given = self.driver.answer(call.number, text)
+        elif looked_at(text) == looked_at(call.said[side]):
+            given = carried(text, call.given[offer.side])
+        else:
+            raise Bad("the answer to an offer that went past the gateway changes ports, addresses or keys")
+        call.said.update({offer.side: offer.text, side: text})
+        call.given.update({offer.side: given, side: offer.given})
+        call.tags[request.to_tag] = side
+        if not call.live:
+            self.log(f"{call.name()} is live: the {offer.side} side offered")
+        call.live, call.open = True, None
+        return self.for_side(request, call, offer.side, given, holds(request.sdp))
+
+    def answered(self, request):
+        """The call whose offer is answered, or was answered before by the same telephone."""
+        calls = [call for call in self.by_id.get(request.call_id, []) if request.from_tag in call.tags]
+        calls = [call for call in calls if not request.branch or call.branch == request.branch] or calls
+        if not calls:
+            raise Bad("Unknown call-id" if request.call_id not in self.by_id else "Unknown from-tag")
+        waiting = [call for call in calls if call.open and call.open.tag == request.from_tag]
+        return (waiting or calls)[-1]
+
+    def answered_again(self, request, call):
+        """The answer of a provisional response comes again with the final one, with nothing changed that counts."""
+        side = FAR[call.tags[request.from_tag]]
+        text = taken(request, call, side)
+        if not call.live or looked_at(text) != looked_at(call.said[side]):
+            raise Refused("State")
+        call.tags[request.to_tag] = side
+        return self.for_side(request, call, FAR[side], carried(text, call.given[FAR[side]]), holds(request.sdp))
+
+    def for_side(self, request, call, side, text, nowhere):
+        """A text as this side is to see it."""
+        named = self.interfaces.get(call.interface.get(side))
+        address = request.media_address or named or self.addresses[side]
+        text = profiled(text, call.wears[side]) if call.wears.get(side) in PROFILES else text
+        return shown(text, address, b"origin" in request.replace, nowhere)
+
+    # ---- ends
+
+    def delete(self, request):
+        """Ends the call, or the branches that are named; a report of each, none where nothing fits."""
+        request.needs("call_id")
+        calls = [call for call in self.by_id.get(request.call_id, []) if fits(call, request)]
+        self.counts["deleted"] += len(calls)
+        return [self.ended(call, "deleted") for call in calls]
+
+    def ended(self, call, why):
+        """Ends a call by a signal; its report."""
+        try:
+            if call.live:
+                self.driver.bye(call.number)
+            else:
+                self.driver.reject(call.number)
+        except (Refused, Gone):
+            pass  # It has ended by itself meanwhile, and is told so.
+        report = self.report(call)
+        self.forget(call)
+        self.log(f"{call.name()} {why} after {time.time() - call.made:.1f} s{in_words(report)}")
+        return report
+
+    def gone(self, number, why):
+        """The gateway has ended a call by itself."""
+        with self.lock:
+            call = self.by_number.get(number)
+        if call is None:
+            return
+        self.forget(call)
+        self.counts[why] += 1
+        self.log(f"{call.name()} has ended by itself ({why}) after {time.time() - call.made:.1f} s")
+        self.tell(call, why)
+
+    def forget(self, call):
+        with self.lock:
+            self.by_number.pop(call.number, None)
+            left = [other for other in self.by_id.get(call.id, []) if other is not call]
+            if left:
+                self.by_id[call.id] = left
+            else:
+                self.by_id.pop(call.id, None)
+
+    def all(self):
+        with self.lock:
+            return list(self.by_number.values())
+
+    # ---- counts
+
+    def ports_of(self, call):
+        """The call's ports, each with its medium, its leg and its kind."""
+        legs = list(itertools.product(("secure", "plain"), ("RTP", "RTCP")))
+        media = [self.driver.ports(call.number, medium) for medium in range(len(parts(call.open.text)) - 1)]
+        return {port: (medium, *leg) for medium, ports in enumerate(media) for port, leg in zip(ports, legs)}
+
+    def dropped(self, ports):
+        """What was ever dropped at some ports, by port and cause."""
+        return {key: count for key, count in list(self.driver.drops.items()) if key[0] in ports}
+
+    def report(self, call):
+        """What is known of a call's packets. Calls before it had the same ports."""
+        dropped, arrived = collections.Counter(self.dropped(call.ports)), self.arrived(call.ports)
+        dropped.subtract(call.dropped_before)
+        before = {port: call.arrived_before.get(port, (0, 0)) for port in arrived}
+        arrived = {port: tuple(map(int.__sub__, counts, before[port])) for port, counts in arrived.items()}
+        return Report(call, +dropped, arrived)
+
+
+def side_of(request, call):
+    """The side of the one who offers: what it was in the call before, or else what its text and the profile that the
+    other side is to have make of it. A telephone that encrypts though its profile doesn't say so is secure where the
+    other side isn't to be."""
+    to = PROFILES.get(request.transport)
+    own = PROFILES.get(profile(request.sdp), FAR.get(to, "secure"))
+    if own == "plain" == to and has_keys(request.sdp):
+        own = "secure"
+    side = call.tags.get(request.from_tag, own)
+    if to == side:
+        asked = text_of(request.transport)
+        raise Bad(f"transport-protocol {asked}: both sides would be {side}, and the gateway has one of each")
+    return side
+
+
+def taken(request, call, side):
+    """The text as the gateway is to have it."""
+    text = addressed(request.sdp, request.source(), call.known_address(side))
+    return secured(text) if side == "secure" and has_keys(text) else text
+
+
+def fits(call, request):
+    """Whether a deletion means this call."""
+    return (not request.branch or call.branch == request.branch) and (
+        not request.from_tag or request.from_tag in call.tags)
+
+
+def in_words(report):
+    """Offers and drops of a call, for its line in the log."""
+    call, causes = report.call, collections.Counter()
+    offers = f": {call.offers} offer{'s' * (call.offers != 1)}"
+    offers += f", {call.passed} of them past the gateway" if call.passed else ""
+    for (port, cause), count in report.dropped.items():
+        causes[f"{cause} at {' '.join(call.ports[port][1:])}"] += count
+    return offers + "".join(f"; dropped {count} {cause}" for cause, count in sorted(causes.items()))

@@ -1,0 +1,96 @@
+"""What becomes of a session description between a SIP server and the gateway: addresses and profiles, as flags ask.
+
+A text that comes in names what the gateway knows: its own peer's address, and the profile of its side. A text that goes
+out names what the other side is to see: an address that it reaches, and the profile that it is to have.
+"""
+
+import re
+
+from descriptions import parts
+from ng.request import Bad, PROFILES
+
+# The gateway's own address (docs/formats.md, "Ports").
+HOME = b"127.0.0.1"
+# A telephone of the older kind says by this address that it holds (RFC 3264, 8.4).
+NOWHERE = b"0.0.0.0"
+CONNECTION = re.compile(rb"c=IN IP4 ([0-9.]+)")
+ORIGIN = re.compile(rb"(o=\S+ \S+ \S+ IN) IP[46] \S+")
+SECURED = {b"RTP/AVP": b"RTP/SAVP", b"RTP/AVPF": b"RTP/SAVPF"}
+
+
+def printed(found):
+    """The text of a session part and media."""
+    return b"".join(line + b"\r\n" for part in found for line in part)
+
+
+def changed(text, change):
+    """The text with each line changed."""
+    return printed([[change(line) for line in part] for part in parts(text)])
+
+
+def addresses(text):
+    """The addresses of its c= lines, in their order."""
+    found = (CONNECTION.fullmatch(line) for part in parts(text) for line in part)
+    return [match[1] for match in found if match]
+
+
+def holds(text):
+    """Whether it holds by naming no address at all."""
+    return set(addresses(text)) == {NOWHERE}
+
+
+def addressed(text, source, known=None):
+    """The text with its peer's address: where the SIP message came from, if that is given, and else its own; in place
+    of none that which is known from before."""
+    def change(line):
+        match = CONNECTION.fullmatch(line)
+        if source and line.startswith(b"c="):
+            return b"c=IN IP4 " + source
+        return b"c=IN IP4 " + known if match and known and match[1] == NOWHERE else line
+    return changed(text, change)
+
+
+def profile(text):
+    """The profile of the first medium that is active, or of the first one; none where it has no medium."""
+    media = [part[0].split(b" ") for part in parts(text)[1:]]
+    media = [words for words in media if len(words) >= 4]
+    active = [words for words in media if words[1] != b"0"] or media
+    return active[0][2] if active else b""
+
+
+def has_keys(text):
+    return any(line.startswith((b"a=crypto:", b"a=key-mgmt:")) for part in parts(text) for line in part)
+
+
+def profiled(text, proto):
+    """The text with its media of RTP in this profile."""
+    def change(line):
+        words = line.split(b" ")
+        if line.startswith(b"m=") and len(words) >= 4 and words[2] in PROFILES:
+            return b" ".join([*words[:2], proto, *words[3:]])
+        return line
+    return changed(text, change)
+
+
+def secured(text):
+    """The text of a telephone that encrypts though its profile doesn't say so, as the gateway takes it."""
+    return profiled(text, SECURED.get(profile(text), profile(text)))
+
+
+def shown(text, address, replaces_origin, nowhere):
+    """The gateway's text with the address that the side is to see; it holds where the text that it stands for did."""
+    def change(line):
+        if line == b"c=IN IP4 " + HOME:
+            return b"c=IN IP4 " + (NOWHERE if nowhere else address)
+        return ORIGIN.sub(rb"\1 IP4 " + address, line) if replaces_origin else line
+    return changed(text, change)
+
+
+def without_suites(text, may):
+    """The text without the crypto lines of suites that may not be offered."""
+    def keeps(line):
+        return not line.startswith(b"a=crypto:") or may(b"".join(line.split(b" ")[1:2]))
+    kept = [[line for line in part if keeps(line)] for part in parts(text)]
+    if any(has_keys(printed([part])) and not has_keys(printed([left])) for part, left in zip(parts(text), kept)):
+        raise Bad("SDES: no suite of the gateway's is left to be offered")
+    return printed(kept)
