@@ -144,14 +144,14 @@ def counted(watch, packets):
 
 # ---- the guard
 
-def knock(to):
+def knock(to, source="10.1.0.2:5000"):
     """A datagram from the secure telephone's network to an address of the gateway's machine, as a frame: its own system
-    wouldn't route it."""
+    wouldn't route it, or wouldn't let it have another's address."""
     frames = socket_in("secure", "socket.AF_PACKET, socket.SOCK_RAW", "made.bind(('telephone', 0))")
     gateway = bytes.fromhex(Path("/sys/class/net/secure/address").read_text().strip().replace(":", ""))
     head = gateway + frames.getsockname()[4] + b"\x08\x00"
     with frames:
-        frames.send(head + packet("10.1.0.2:5000", "%s:%d" % to, b"knock"))
+        frames.send(head + packet(source, "%s:%d" % to, b"knock"))
 
 
 def arrives(service, to):
@@ -181,11 +181,12 @@ def guarded():
 
 
 def wrong_side(watch):
-    """A datagram from the secure network to a plain port isn't handed to the gateway."""
+    """A datagram from the secure network to a plain port, under the plain telephone's address, isn't handed to the
+    gateway."""
     before = watch.look()["totals"]["arrived"].get("plain RTP", 0)
-    knock(("10.1.0.1", PLAIN_RTP))
+    knock(("10.1.0.1", PLAIN_RTP), "%s:%d" % TELEPHONES["plain"])
     time.sleep(0.2)
-    return said("a plain port can't be reached from the secure network",
+    return said("a plain port can't be reached from the secure network, under the plain telephone's address either",
                 watch.look()["totals"]["arrived"].get("plain RTP", 0) == before)
 
 
