@@ -329,6 +329,35 @@ def sockets_overflow(program):
     return f"{lost} of {2 * PACKETS} were lost in front of a socket, and told, as is that turns ran late"
 
 
+def refusal_of(signal, *words):
+    """The cause by which a signal is refused."""
+    try:
+        signal(*words)
+    except Refused as refused:
+        return str(refused)
+    return "none"
+
+
+def telephones_have_their_ways(program):
+    """early media, best effort and the name of a session"""
+    with driving(program) as (driver, _, _):
+        origin, offer = b"o=- 7 7 IN IP4 192.0.2.1\r\n", secure_text(b"one")
+        offer = offer.replace(b"o=- 1 1 IN IP4 127.0.0.1\r\n", origin)
+        given = driver.offer_secure(1, offer)
+        require(origin in given and b"c=IN IP4 127.0.0.1\r\n" in given, "the o= line is another one")
+        driver.answer(1, text_of(b"early media", PLAIN[1], b"RTP/AVP"))
+        other = text_of(b"another branch", PLAIN[1] + 10, b"RTP/AVP")
+        found = [refusal_of(driver.answer, 1, other)]
+        driver.offer_plain(1, other)
+        found.append(refusal_of(driver.answer, 1, offer).split()[0])
+        driver.reject(1)
+        best = secure_text(b"two")
+        found.append(refusal_of(driver.offer_secure, 2, best.replace(b"RTP/SAVP", b"RTP/AVP")))
+        driver.offer_secure(2, best)
+        require(found == ["State", "KeyReused", "NoMedia"], f"refused by {found}")
+    return "as docs/driving.md has it"
+
+
 def a_unit_keeps_it(program):
     """a gateway behind two FIFOs"""
     with tempfile.TemporaryDirectory() as folder:
@@ -349,7 +378,8 @@ def main(program):
     program = str(Path(program).resolve())
     checks = [
         counts_from_the_start, each_has_its_own, a_late_outcome_ends_the_process, calls_are_told_and_made_anew, it_drains,
-        close_waits_for_drops, fields_are_fields, ports_and_answers_are_looked_at, sockets_overflow, a_unit_keeps_it,
+        close_waits_for_drops, fields_are_fields, ports_and_answers_are_looked_at, sockets_overflow,
+        telephones_have_their_ways, a_unit_keeps_it,
     ]
     for check in checks:
         try:
