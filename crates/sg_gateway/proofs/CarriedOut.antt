@@ -1,6 +1,7 @@
 -- A signal that is taken does its part.
-use Rattle.std.proofs.Common.{◌≡◌, ℕ, ◌+◌, ◌<◌, ◌≤◌, Bool, true, false, cond, not, ◌&&◌, List, [], ◌∷◌, ◌++◌, get_or, map, Option, Some, None, Result, Ok, Err, refl, sym, ap, ◌∙◌, subst, arith, eqb, ltb, eq-eqb}
-use Rattle.std.proofs.lemmas.Bool.{cond-true, and_from, eqb-true, eqb-false, ltb-true}
+use Rattle.std.proofs.Common.{◌≡◌, ◌⊎◌, inl, inr, ℕ, ◌+◌, ◌<◌, ◌≤◌, Bool, true, false, cond, not, ◌&&◌, List, [], ◌∷◌, ◌++◌, get_or, map, Option, Some, None, Result, Ok, Err, refl, sym, ap, ◌∙◌, subst, arith, eqb, ltb, eq-eqb}
+use Rattle.std.proofs.lemmas.Bool.{cond-true, and_from, eqb-true, eqb-false, ltb-true, leb-true, lt-leb}
+use Rattle.std.proofs.lemmas.List.Elements.{All-from_recursion}
 use Rattle.std.specs.List.{AllByRecursion, Any, Contains, filter}
 use Rattle.std.specs.Option.{is_some}
 use Rattle.sg_agreement.specs.Answers.{agreed_answer}
@@ -12,13 +13,14 @@ use Rattle.sg_base.specs.declared.faults.Refusal.TheVariants.{State, TickBack}
 use Rattle.sg_base.proofs.Cases.{some_is, none_some}
 use Rattle.sg_outcome.specs.declared.outcomes.Why.TheVariants as why
 use Rattle.sg_session.proofs.Inversions.{after_ok_is, ok_is}
-use Rattle.sg_session.proofs.Lists.{each_weaker, any_here, any_there, both}
+use Rattle.sg_session.proofs.Lists.{each_weaker, any_here, any_there, any_weaker, any_cases, any_none, both}
 use Rattle.sg_session.specs.Session.{Session, same_direction}
 use Rattle.sg_session.specs.declared.names.Direction.TheVariants.{Opening}
 use Rattle.sg_gateway.proofs.Freed.{Frees, event_frees}
 use Rattle.sg_gateway.proofs.InTurn.{found_passes}
 use Rattle.sg_gateway.proofs.Pairs.{Pairs}
-use Rattle.sg_gateway.specs.CallSignals.{answered_to, answered_in, rejected_in, is_idle, call_at_tick}
+use Rattle.sg_gateway.specs.CallSignals.{answered_to, answered_in, rejected_in, is_idle, drops_earlier, without_earlier, call_at_tick}
+use Rattle.sg_gateway.specs.CarriedOut.{IsKeptTo}
 use Rattle.sg_gateway.specs.Generations.{Settled, is_current, is_opening, keyed}
 use Rattle.sg_gateway.specs.Order.{IsBefore}
 use Rattle.sg_gateway.specs.Refusing.{IsRefusal}
@@ -27,14 +29,14 @@ use Rattle.sg_gateway.specs.Step.{Signalled}
 use Rattle.sg_gateway.specs.World.{Books, Call, World, call_of, find_call, same_id, with_call}
 
 -- the call that is found has the id
-id_found : (id : CallId) (c : Call) (cs : List Call) → find_call (λ x. same_id x.id id) cs ≡ Some c → same_id c.id id ≡ true
+pub id_found : (id : CallId) (c : Call) (cs : List Call) → find_call (λ x. same_id x.id id) cs ≡ Some c → same_id c.id id ≡ true
 id_found id c cs e = found_passes (λ x. same_id x.id id) cs c e
 
 id_is : (id : CallId) (c : Call) (cs : List Call) → find_call (λ x. same_id x.id id) cs ≡ Some c → c.id ≡ id
 id_is id c cs e = let is : c.id.0 ≡ id.0 = eqb-true _ _ (id_found id c cs e) in (λ i. record { 0 = is i })
 
 -- a call that is put in the place of the one of an id is found by that id
-found_with : (id : CallId) (c d : Call) (cs : List Call) → d.serial ≡ c.serial → same_id d.id id ≡ true → find_call (λ x. same_id x.id id) cs ≡ Some c
+pub found_with : (id : CallId) (c d : Call) (cs : List Call) → d.serial ≡ c.serial → same_id d.id id ≡ true → find_call (λ x. same_id x.id id) cs ≡ Some c
     → find_call (λ x. same_id x.id id) (with_call d cs) ≡ Some d
 found_with id c d [] serial own e = absurd cc
 found_with id c d (x ∷ xs) serial own e = at (find_call (λ x. same_id x.id id) (with_call d xs)) (found_with id c d xs serial own) (eqb x.serial d.serial) refl
@@ -99,7 +101,7 @@ module _ (w : World) (before : Pairs IsBefore w.calls) (older : AllByRecursion (
 
 -- ---- an answer
 
-abbrev stays : Call → Session → Bool
+abbrev pub stays : Call → Session → Bool
 stays c s = is_opening s && is_current c s
 
 -- the call with one generation more
@@ -178,3 +180,54 @@ module _ (w : World) (id : CallId) (noise text : List ℕ) (c : Call) (is : call
 
   pub answer_keeps_earlier : KeepsEarlier (call_of w id)
   answer_keeps_earlier = subst KeepsEarlier (sym is) of_call.1
+
+-- ---- what a tick leaves
+
+module _ {X : Type 0} where
+  any_mapped : {Y : Type 0} (P : Y → Type 0) (f : X → Y) (x : X) (xs : List X) → P (f x) → Any (λ y. y ≡ x) xs → Any P (map f xs)
+  any_mapped P f x [] p a = absurd (any_none (λ y. y ≡ x) a)
+  any_mapped P f x (y ∷ ys) p a = go (any_mapped P f x ys p) (any_cases (λ z. z ≡ x) y ys a)
+    where
+      go : (Any (λ z. z ≡ x) ys → Any P (map f ys)) → (y ≡ x) ⊎ Any (λ z. z ≡ x) ys → Any P (f y ∷ map f ys)
+      go rest (inl same) = any_here P (f y) (map f ys) (subst (λ z. P (f z)) (sym same) p)
+      go rest (inr more) = any_there P (f y) (map f ys) (rest more)
+
+each_among : {X : Type 0} (xs : List X) → AllByRecursion (λ x. Any (λ y. y ≡ x) xs) xs
+each_among [] = tt
+each_among (x ∷ xs) = (any_here (λ y. y ≡ x) x xs refl, each_weaker _ _ (λ z a. any_there (λ y. y ≡ z) x xs a) xs (each_among xs))
+
+itself : (now : ℕ) (c : Call) → IsKeptTo now c c
+itself now c = record {
+  serial = refl;
+  offer = refl;
+  current = All-from_recursion _ c.sessions
+      (each_weaker (λ s. Any (λ y. y ≡ s) c.sessions) (λ s. s.name.owner.generation + 1 ≡ c.generations → Contains c.sessions s) (λ s a of_it. contains s c.sessions a) c.sessions (each_among c.sessions));
+  earlier = λ before. refl;
+}
+
+kept_at : (now : ℕ) (c : Call) → IsKeptTo now c (call_at_tick now c)
+kept_at now c = go (drops_earlier now c) refl
+  where
+    go : (b : Bool) → drops_earlier now c ≡ b → IsKeptTo now c (cond b (without_earlier c) c)
+    go true drops = record {
+      serial = refl;
+      offer = refl;
+      current = All-from_recursion _ c.sessions
+          (each_weaker (λ s. is_current c s ≡ true → Any (λ y. y ≡ s) (filter (is_current c) c.sessions)) (λ s. s.name.owner.generation + 1 ≡ c.generations → Contains (filter (is_current c) c.sessions) s)
+          (λ s h of_it. contains s (filter (is_current c) c.sessions) (h (eq-eqb _ _ of_it))) c.sessions (stays_in (is_current c) c.sessions));
+      earlier = λ before. let le = leb-true (c.replaced + 2000) now drops in absurd (omega (arith, le, before));
+    }
+    go false stays = itself now c
+
+pub tick_keeps : (w : World) (now : ℕ) → AllByRecursion (λ c. now < c.moment + 60000 → Any (IsKeptTo now c) (ticked w now).world.calls) w.calls
+tick_keeps w now = go (ltb now w.moment)
+  where
+    go : (b : Bool) → AllByRecursion (λ c. now < c.moment + 60000 → Any (IsKeptTo now c)
+        (cond b (refused w None (TickBack w.moment)) (answer (map (ended why.Idle) (filter (is_idle now) w.calls))
+        (record w { calls = map (call_at_tick now) (filter (λ c. not (is_idle now c)) w.calls); moment = now }))).world.calls) w.calls
+    go true = each_weaker (λ c. Any (λ y. y ≡ c) w.calls) (λ c. now < c.moment + 60000 → Any (IsKeptTo now c) w.calls) (λ c a busy. any_weaker (λ y. y ≡ c) (IsKeptTo now c) (λ y same. subst (IsKeptTo now c) (sym same) (itself now c)) w.calls a) w.calls (each_among w.calls)
+    go false =
+        each_weaker (λ c. not (is_idle now c) ≡ true → Any (λ y. y ≡ c) (filter (λ c. not (is_idle now c)) w.calls))
+        (λ c. now < c.moment + 60000 → Any (IsKeptTo now c) (map (call_at_tick now) (filter (λ c. not (is_idle now c)) w.calls)))
+        (λ c h busy. any_mapped (IsKeptTo now c) (call_at_tick now) c (filter (λ c. not (is_idle now c)) w.calls) (kept_at now c) (h (ap not (lt-leb (c.moment + 60000) now busy))))
+        w.calls (stays_in (λ c. not (is_idle now c)) w.calls)

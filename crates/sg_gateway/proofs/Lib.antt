@@ -40,5 +40,8 @@ pub mod Sessions
 pub mod Signals
 pub mod Sound
 pub mod StaysAway
+pub mod Tags
+pub mod Taken
 pub mod ToldInWorld
+pub mod UnderBlocks
 pub mod Used

@@ -1,6 +1,6 @@
 -- Signals are carried out: a call ends, time goes on, an offer is closed, a generation is made.
-use Rattle.std.specs.Prelude.{◌≡◌, ℕ, ◌+◌, ◌≤◌, List, Some, None}
-use Rattle.std.specs.List.{All, Contains}
+use Rattle.std.specs.Prelude.{◌≡◌, ℕ, ◌+◌, ◌<◌, ◌≤◌, List, Some, None}
+use Rattle.std.specs.List.{All, Any, Contains}
 use Rattle.sg_base.specs.declared.addresses.CallId.{CallId}
 use Rattle.sg_session.specs.declared.names.Direction.TheVariants.{Opening}
 use Rattle.sg_gateway.specs.Refusing.{IsRefused}
@@ -22,6 +22,22 @@ TickMoves t = (now : ℕ) → t.event ≡ Signalled (Tick now) → t.before.mome
 
 abbrev pub TicksMove : List Event → Type 0
 TicksMove events = All TickMoves (turns events)
+
+-- what is left of a call at a moment: its offer and its sessions, but for those of the generation before the current one
+-- from 2,000 ms after that was replaced
+pub record IsKeptTo (now : ℕ) (c d : Call) : Type 0 where
+  pub serial : d.serial ≡ c.serial
+  pub offer : d.offer ≡ c.offer
+  pub current : All (λ s. s.name.owner.generation + 1 ≡ c.generations → Contains d.sessions s) c.sessions
+  pub earlier : now < c.replaced + 2000 → d.sessions ≡ c.sessions
+
+-- after a tick each call is left that isn't idle at its moment
+abbrev pub TickKeeps : Turn → Type 0
+TickKeeps t =
+    (now : ℕ) → t.event ≡ Signalled (Tick now) → All (λ c. now < c.moment + 60000 → Any (IsKeptTo now c) (after_turn t).calls) t.before.calls
+
+abbrev pub TicksKeep : List Event → Type 0
+TicksKeep events = All TickKeeps (turns events)
 
 -- after a rejection no offer of the call is open
 abbrev pub RejectionCloses : Turn → Type 0

@@ -31,6 +31,7 @@ pub mod SealedOut
 pub mod Served
 pub mod Signals
 pub mod Step
+pub mod Taken
 pub mod Twice
 pub mod Unforged
 pub mod Used

@@ -1,15 +1,16 @@
 //! The laws of every run: nothing forged, nothing twice, nothing within reach lost, no counter block sealed twice;
 //! and that signals are carried out. Their bodies call laws alone.
 
-ghost use Rattle.std.specs.Prelude.{◌≡◌, ◌<◌, ℕ, Bool, List, length, get_or, set, nat_lt, Some};
+ghost use Rattle.std.specs.Prelude.{◌≡◌, ◌<◌, ℕ, Bool, true, List, length, get_or, set, nat_lt, Ok, Some};
 ghost use Rattle.std.specs.List.{AllPairs, insert, remove, position_from, position_or_len};
 ghost use Rattle.sg_base.specs.declared.faults.Refusal.{Refusal};
+ghost use Rattle.sg_session.specs.Opening.{Check, checked, tag_fits};
 ghost use Rattle.sg_session.specs.Reach.{Sealed, AreSealed};
 ghost use Rattle.sg_session.specs.Session.{Session};
 ghost use Rattle.sg_gateway.specs.Arriving.{EachArrivingIsPutOut};
 ghost use Rattle.sg_gateway.specs.Batch.{Arrived, AreDrained, IsToldAlone};
 ghost use Rattle.sg_gateway.specs.Busy.{EachCallIsBusy};
-ghost use Rattle.sg_gateway.specs.CarriedOut.{ByesEnd, TicksMove, RejectionsClose, AnswersRenew, AnswersKeepEarlier};
+ghost use Rattle.sg_gateway.specs.CarriedOut.{ByesEnd, TicksMove, TicksKeep, RejectionsClose, AnswersRenew, AnswersKeepEarlier};
 ghost use Rattle.sg_gateway.specs.Coming.{EachOpeningCame, EachSealCame};
 ghost use Rattle.sg_gateway.specs.Departing.{EachDepartingIsSealed};
 ghost use Rattle.sg_gateway.specs.Earlier.{EarlierServeNoLonger};
@@ -30,9 +31,10 @@ ghost use Rattle.sg_gateway.specs.SealedOut.{EachSealGoesOut, OnlySealsGoOut, Si
 ghost use Rattle.sg_gateway.specs.Served.{EachKeyServesItsLife, NoKeyIsOverspent};
 ghost use Rattle.sg_gateway.specs.Signals.{Signal};
 ghost use Rattle.sg_gateway.specs.Step.{Event};
+ghost use Rattle.sg_gateway.specs.Taken.{OffersAreTaken, ManualCallsAreTaken};
 ghost use Rattle.sg_gateway.specs.Twice.{NoneTwice, NoneTwiceUnderKey, KeysHaveOneOwner};
-ghost use Rattle.sg_gateway.specs.Unforged.{Unforged};
-ghost use Rattle.sg_gateway.specs.Used.{NoBlockTwice};
+ghost use Rattle.sg_gateway.specs.Unforged.{HasTag, Unforged};
+ghost use Rattle.sg_gateway.specs.Used.{NoBlockTwice, EachSealUsesItsBlocks};
 ghost use Rattle.sg_gateway.specs.World.{Call, World, empty, find_call, with_call, without_call, and_call};
 
 use sg_agreement::{
@@ -55,6 +57,12 @@ pub fn nothing_forged()
     active_media_are_agreed();
     offers_fit_their_calls();
 }
+
+/// What the premise `Unforged` calls a tag is what the definition of opening compares.
+pub fn a_tag_is_a_code()
+    ensures code { (s : Session) (d : List ℕ) (k : Check) → checked s d ≡ Ok k → tag_fits s k d ≡ true → HasTag s k d }
+    ensures fits { (s : Session) (d : List ℕ) (k : Check) → checked s d ≡ Ok k → HasTag s k d → tag_fits s k d ≡ true }
+{}
 
 /// Nothing is opened or sealed twice, in a session or under a master key. Each key that served, and each
 /// key of a session, has one owner, and no key serves more packets than its life.
@@ -98,6 +106,14 @@ pub fn no_counter_block_twice()
     agreements_are_sound();
     active_media_are_agreed();
     offers_fit_their_calls();
+}
+
+/// What is sealed and encrypted goes out, behind its head, as the packet's octets with the octets of the seal's own blocks
+/// on them by XOR.
+pub fn seals_use_their_blocks()
+    ensures { (events : List Event) → EachSealUsesItsBlocks events }
+{
+    what_is_sealed_goes_out();
 }
 
 /// In every world of a run the calls stand by rising slot, below 256, with four media at most and serial numbers
@@ -172,12 +188,14 @@ pub fn no_call_stays_idle()
     ensures { (events : List Event) → EachCallIsBusy events }
 {}
 
-/// After a bye no call has the id. After a tick the last moment is its own, unless it was before the last one. After
-/// a rejection no offer of the call is open. An answer that isn't refused gives its call a generation and closes the
+/// After a bye no call has the id. After a tick the last moment is its own, unless it was before the last one, and each
+/// call is left that isn't idle: with its sessions, but for those of an earlier generation from 2,000 ms on. After a
+/// rejection no offer of the call is open. An answer that isn't refused gives its call a generation and closes the
 /// offer, and what opens of the generation that it replaces is still there.
 pub fn signals_are_carried_out()
     ensures byes { (events : List Event) → ByesEnd events }
     ensures ticks { (events : List Event) → TicksMove events }
+    ensures kept { (events : List Event) → TicksKeep events }
     ensures rejections { (events : List Event) → RejectionsClose events }
     ensures answers { (events : List Event) → AnswersRenew events }
     ensures earlier { (events : List Event) → AnswersKeepEarlier events }
@@ -186,6 +204,14 @@ pub fn signals_are_carried_out()
     active_media_are_agreed();
     offers_fit_their_calls();
 }
+
+/// An offer on which a call agrees is open where nothing of the world speaks against it: a call that is there has no open
+/// offer and isn't keyed manually, and for a new one there is room. A call that is keyed manually is made and live where
+/// its id is free, there is room and its keys can come into use.
+pub fn signals_are_taken()
+    ensures offers { (events : List Event) → OffersAreTaken events }
+    ensures manual { (events : List Event) → ManualCallsAreTaken events }
+{}
 
 /// No text that the plain side is told has a crypto attribute or a key-mgmt attribute.
 pub fn plain_texts_have_no_key()

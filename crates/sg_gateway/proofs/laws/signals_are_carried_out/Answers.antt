@@ -1,12 +1,12 @@
-use Rattle.std.proofs.Common.{◌≡◌, ◌+◌, Some, None, sym, subst}
+use Rattle.std.proofs.Common.{◌≡◌, ◌+◌, ◌<◌, Some, None, sym, subst}
 use Rattle.std.proofs.lemmas.List.Elements.{All-from_recursion}
-use Rattle.std.specs.List.{All, Contains}
+use Rattle.std.specs.List.{All, Any, Contains}
 use Rattle.sg_gateway.proofs.Agreements.{Agreements}
-use Rattle.sg_gateway.proofs.CarriedOut.{tick_moves, bye_ends, rejection_closes, answer_renews, answer_keeps_earlier}
+use Rattle.sg_gateway.proofs.CarriedOut.{tick_moves, tick_keeps, bye_ends, rejection_closes, answer_renews, answer_keeps_earlier}
 use Rattle.sg_gateway.proofs.Datagrams.{every_turn}
 use Rattle.sg_gateway.proofs.Orderly.{Ordered}
 use Rattle.sg_gateway.proofs.Reached.{Anything, anything_on, anything_had, ordered_worlds}
-use Rattle.sg_gateway.specs.CarriedOut.{ByeEnds, TickMoves, RejectionCloses, AnswerRenews, AnswerKeepsEarlier}
+use Rattle.sg_gateway.specs.CarriedOut.{ByeEnds, TickMoves, IsKeptTo, TickKeeps, RejectionCloses, AnswerRenews, AnswerKeepsEarlier}
 use Rattle.sg_gateway.specs.Refusing.{IsRefused}
 use Rattle.sg_gateway.specs.Runs.{turns, turn_of}
 use Rattle.sg_gateway.specs.Step.{Event, step}
@@ -28,6 +28,14 @@ returns-clause-ticks c = λ events.
     All-from_recursion TickMoves (turns events)
     (every_turn Anything anything_on anything_had (λ t. Unit {0}) TickMoves
     (λ past w e kept u now same later. subst (λ (e : Event). (step w e).world.moment ≡ now) (sym same) (tick_moves w now later))
+    events (each_of (λ t. Unit {0}) (λ t. tt) (turns events)))
+
+pub returns-clause-kept : goal.returns-clause-kept
+returns-clause-kept c = λ events.
+    All-from_recursion TickKeeps (turns events)
+    (every_turn Anything anything_on anything_had (λ t. Unit {0}) TickKeeps
+    (λ past w e kept u now same. subst (λ (e : Event). All (λ c. now < c.moment + 60000 → Any (IsKeptTo now c) (step w e).world.calls) w.calls) (sym same)
+    (All-from_recursion _ w.calls (tick_keeps w now)))
     events (each_of (λ t. Unit {0}) (λ t. tt) (turns events)))
 
 pub returns-clause-rejections : goal.returns-clause-rejections

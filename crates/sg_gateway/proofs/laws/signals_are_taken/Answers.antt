@@ -1,0 +1,42 @@
+use Rattle.std.proofs.Common.{◌≡◌, [], ◌∷◌, Some, sym, subst}
+use Rattle.std.proofs.lemmas.List.Elements.{All-from_recursion}
+use Rattle.sg_agreement.specs.Sides.{side_of, other_side}
+use Rattle.sg_outcome.specs.declared.outcomes.Outcome.TheVariants.{Made, Live, Sdp}
+use Rattle.sg_gateway.proofs.Datagrams.{every_turn}
+use Rattle.sg_gateway.proofs.Reached.{Anything, anything_on, anything_had}
+use Rattle.sg_gateway.proofs.Taken.{new_offer_taken, later_offer_taken, manual_call_taken}
+use Rattle.sg_gateway.specs.Runs.{turns, turn_of}
+use Rattle.sg_gateway.specs.Signals.{new_call}
+use Rattle.sg_gateway.specs.Step.{Event, step}
+use Rattle.sg_gateway.specs.Taken.{HasOpen, NewOfferIsTaken, LaterOfferIsTaken, ManualCallIsTaken}
+use Rattle.sg_gateway.specs.World.{Call, World, call_of}
+use Rattle.sg_session.proofs.Lists.{each_of}
+use Rattle.sg_gateway.proofs.laws.signals_are_taken.Goals as goal
+
+offers_at : (w : World) (e : Event) → NewOfferIsTaken (turn_of w e) × LaterOfferIsTaken (turn_of w e)
+offers_at w e = (
+  λ id way noise text a same none room agreed.
+      subst (λ (e : Event). HasOpen (step w e).world id 0 a × ((step w e).outcomes ≡ Made id (new_call w id).slot a.media ∷ Sdp id (other_side (side_of way)) a.text ∷ []))
+      (sym same) (new_offer_taken w id way noise text a none room agreed),
+  λ id way noise text call a same is by_offers closed agreed.
+      subst (λ (e : Event). HasOpen (step w e).world id call.generations a × ((step w e).outcomes ≡ Sdp id (other_side (side_of way)) a.text ∷ []))
+      (sym same) (later_offer_taken w id way noise text a call is by_offers closed agreed),
+)
+
+pub returns-clause-offers : goal.returns-clause-offers
+returns-clause-offers c = λ events.
+    All-from_recursion (λ t. NewOfferIsTaken t × LaterOfferIsTaken t) (turns events)
+    (every_turn Anything anything_on anything_had (λ t. Unit {0}) (λ t. NewOfferIsTaken t × LaterOfferIsTaken t) (λ past w e kept u. offers_at w e)
+    events (each_of (λ t. Unit {0}) (λ t. tt) (turns events)))
+
+manual_at : (w : World) (e : Event) → ManualCallIsTaken (turn_of w e)
+manual_at w e h g same none room agreed =
+    subst (λ (e : Event). ((step w e).outcomes ≡ Made h.id (new_call w h.id).slot 1 ∷ Live h.id ∷ [])
+    × ((d : Call) × (call_of (step w e).world h.id ≡ Some d) × (d.generations ≡ 1) × (d.sessions ≡ g.sessions)))
+    (sym same) (manual_call_taken w h g none room agreed)
+
+pub returns-clause-manual : goal.returns-clause-manual
+returns-clause-manual c = λ events.
+    All-from_recursion ManualCallIsTaken (turns events)
+    (every_turn Anything anything_on anything_had (λ t. Unit {0}) ManualCallIsTaken (λ past w e kept u. manual_at w e)
+    events (each_of (λ t. Unit {0}) (λ t. tt) (turns events)))
