@@ -5,7 +5,8 @@
 import collections
 import json
 
-FIRST_PORT, PORTS = 20_000, 16 * 256
+FIRST_PORT, SLOTS = 20_000, 256
+PORTS = 16 * SLOTS
 LEGS = ("secure RTP", "secure RTCP", "plain RTP", "plain RTCP")
 # The octets of a packet that aren't its datagram's: nftables counts the IPv4 and UDP heads, too.
 HEADS = 28

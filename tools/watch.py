@@ -23,7 +23,7 @@ import sys
 import time
 from pathlib import Path
 
-from counters import Calls, Fault, LEGS, NOTHING, Socket, counts, is_port, port_of, sockets
+from counters import Calls, Fault, LEGS, NOTHING, SLOTS, Socket, counts, is_port, port_of, sockets
 from sentences import Missing, meaning
 
 SETS = ["nft", "-j", "list", "table", "ip", "srtpgw"]
@@ -73,7 +73,7 @@ class Watch:
     """Keeps what was seen. `look` answers what is to be shown; `after` is how many seconds without a packet are told.
 
     The counters of a port go on over its calls. A call's are those since the look at which the one before it in its slot
-    had ended, so what is shown of a call is right to a look."""
+    had ended, so what is shown of a call is right to a look; of a call that is there at the first look, all are its own."""
 
     def __init__(self, path=None, after=5.0, sets=read_sets, sockets_=read_sockets, clock=time.time):
         self.log, self.after, self.clock = Log(path) if path else None, after, clock
@@ -99,7 +99,9 @@ class Watch:
         return {"moment": now, "fault": fault, "calls": calls, "totals": self.totals(found)}
 
     def begin(self, found):
-        """Counters of slots in which a call has ended begin anew."""
+        """Counters of slots in which a call has ended begin anew, at the first look those of slots without a call."""
+        if self.moment is None:
+            self.calls.over.update(set(range(SLOTS)) - set(self.calls.by_slot))
         for slot in self.calls.over:
             for port in range(port_of(slot, 0, 0), port_of(slot + 1, 0, 0)):
                 self.bases.update({(way, port): ports[port] for way, ports in found.items() if port in ports})

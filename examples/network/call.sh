@@ -1,7 +1,8 @@
 #!/usr/bin/env bash
 # Calls between two networks, through the gateway in a third one behind real (virtual) interfaces: it makes the three
 # namespaces, offers a call by either side, compares every octet both ways and the counts of tools/watch.py, shows what
-# the guard rule is for, and takes all down. As root; it ends with 0 where all was as it should be.
+# the guard rule is for, and takes all down. The protected telephone is a program in Python, and then ffmpeg, where that
+# is there. As root; it ends with 0 where all was as it should be.
 #
 #   examples/network/call.sh               with ./srtpgw, or with the program that SRTPGW names
 here=$(cd "$(dirname "${BASH_SOURCE[0]}")" && pwd)
@@ -13,4 +14,7 @@ if [ "$(id -u)" -ne 0 ]; then echo "${0##*/}: not run: namespaces are for root t
 export NAME=srtpgw-$$
 trap '"$here/namespaces.sh" down' EXIT
 "$here/namespaces.sh" up || exit 77
-timeout -k 5 300 ip netns exec "$NAME-gateway" python3 "$here/call.py"
+plays() { timeout -k 5 300 ip netns exec "$NAME-gateway" python3 "$here/$1"; }
+plays call.py || exit
+command -v ffmpeg > /dev/null || { echo "${0##*/}: without ffmpeg, which isn't there"; exit 0; }
+plays ffmpeg.py

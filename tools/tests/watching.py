@@ -109,6 +109,16 @@ def one_call(world):
     check("a full socket", "12 datagrams were lost in front of the full socket of secure RTP" in world.says())
 
 
+def late_look(folder):
+    """What was counted before a log began is no call's of it."""
+    world = World(folder)
+    world.count(arrived={20_000: (50, 1, 9)})
+    world.look()
+    world.tell("made 1 0 1")
+    world.count(arrived={20_000: (60, 1, 0)})
+    check("counts from before the log", leg(world.look(), "secure RTP")["arrived"]["packets"] == 10)
+
+
 def next_call(world):
     """The counters of a port go on; those of the next call in a slot begin anew."""
     world.tell("ended 7 0 1 bye", "made 8 0 1")
@@ -158,6 +168,7 @@ def main():
         one_call(world)
         next_call(world)
         shapes(world)
+        late_look(Path(folder))
     bad = [what for what, holds in CLAIMS if not holds]
     print(*(f"NOT SO: {what}" for what in bad), sep="\n", end="\n" * bool(bad))
     print(f"watching: {len(CLAIMS)} looked at, {len(bad)} are otherwise")
