@@ -8,7 +8,7 @@ help:
 gate: ## every proof, wrong body, test and program, and the checks behind them
 	bash .ci/run
 check: ## one crate, CRATE=..
-	cd crates/$(CRATE) && rt check
+	cd crates/$(or $(CRATE),$(error name the crate: make check CRATE=sg_index)) && rt check
 rows: ## interop/rows and examples, written anew
 	cd interop && $(PYTHON) rows.py && $(PYTHON) examples.py
 	for file in examples/demo-*.out; do of=$${file#examples/demo-}; of=$${of%.out}; \
