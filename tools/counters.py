@@ -92,6 +92,12 @@ class Calls:
         except (TypeError, ValueError, IndexError):
             pass
 
+    def take_srtpgw(self, now, version):
+        """Another process begins: the calls of the one before have ended with it."""
+        self.ended["gone"] += len(self.by_slot)
+        self.over.update(self.by_slot)
+        self.by_slot.clear()
+
     def take_made(self, now, call, slot, media):
         self.by_slot[int(slot)] = Call(call, int(slot), int(media), now)
         self.made += 1

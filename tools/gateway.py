@@ -212,8 +212,8 @@ class Gateway:
     don't wait. Behind each tick stands a probe, whose answer says where the gateway's clock began. `patience` is how
     many seconds the first answer may take, behind which the process is ended. `outcomes` is a queue of its lines, each
     a list of fields; `octets` counts what was written to it, and `late` has by how many seconds the latest answer
-    to a probe was late. `log` is a file of octets that gets each outcome but for session descriptions, which hold keys
-    (tools/watch.py reads it). Raises Gone where it doesn't answer, and Taken where another program has its ports."""
+    to a probe was late. `log` is a file of octets that gets `srtpgw 1` where a process begins, and each outcome but for
+    session descriptions, which hold keys (tools/watch.py reads it). Raises Gone where it doesn't answer, and Taken where another program has its ports."""
 
     def __init__(self, program, step=0.1, patience=60.0, log=None):
         opener = program if hasattr(program, "open") else Program(program)
@@ -227,6 +227,7 @@ class Gateway:
         self.pid, self.files = self.ends.pid, self.ends.files
         self.reader = threading.Thread(target=self._read, daemon=True)
         self.ticker = threading.Thread(target=self._tick, daemon=True)
+        self._copy(b"srtpgw 1\n")
         self.reader.start()
         self._probe("srtpgw 1", 0)
         self.answered.wait(patience)

@@ -25,6 +25,7 @@ import rtp
 LEGS = ["secure RTP", "secure RTCP", "plain RTP", "plain RTCP"]
 SECURE_RTP, PLAIN_RTP, PLAIN_RTCP = 0, 2, 3
 FIRST_PORT, PORTS = 20_000, 16 * 256
+GOES_ON = "goes on"
 # Attributes and fields that hold keys or passwords, whatever their letters: what stands behind the first group.
 SECRETS = re.compile(
     r"(?im)^(a=crypto:\d* *[\w-]* *|a=key-mgmt:\w* *|k=|a=ice-pwd:|[^\r\n]*?inline:)([^\r\n]*)")
@@ -76,8 +77,13 @@ class Report:
     def take(self, fields):
         getattr(self, "take_" + fields[0])(*fields[1:])
 
+    def take_srtpgw(self, version):
+        """In a driver's log: another process begins, and the calls of the one before have ended with it."""
+        for ones in self.calls.values():
+            ones[-1].update({"end": "gone"} if ones[-1]["end"] == GOES_ON else {})
+
     def take_made(self, call, slot, media):
-        self.calls.setdefault(call, []).append({"slot": slot, "media": media, "answers": 0, "end": "goes on"})
+        self.calls.setdefault(call, []).append({"slot": slot, "media": media, "answers": 0, "end": GOES_ON})
 
     def take_live(self, call):
         self.calls[call][-1]["answers"] += 1

@@ -43,6 +43,25 @@ def read_sets():
     return counts(run.stdout)
 
 
+class Arrived:
+    """What came to ports: packets and octets by port, of a reading that is half a second old at most. None where nothing
+    counts them."""
+
+    AGE = 0.5
+
+    def __init__(self, sets=read_sets):
+        self.sets, self.found, self.until = sets, {}, 0.0
+
+    def __call__(self, ports):
+        if time.monotonic() >= self.until:
+            try:
+                self.found = self.sets().get("arrived", {})
+            except Fault:
+                self.found = {}
+            self.until = time.monotonic() + self.AGE
+        return {port: self.found[port][:2] for port in ports if port in self.found}
+
+
 def read_sockets():
     return sockets(Path("/proc/net/udp").read_text())
 

@@ -20,6 +20,7 @@ from ng.calls import Book, DRAINING  # noqa: E402
 from driver import Bounds, Driver, Gone, Taken  # noqa: E402
 from ng.server import Server  # noqa: E402
 from ng.telling import Telling  # noqa: E402
+from watch import Arrived  # noqa: E402
 
 TOP = Path(__file__).resolve().parents[2]
 
@@ -29,11 +30,13 @@ def main():
     log = Log()
     telling = Telling(given.tell, log)
     try:
-        driver = Driver(given.program, restarts=True, warn=log, bounds=Bounds(**dict(given.bound)))
+        driver = Driver(given.program, restarts=True, warn=log, bounds=Bounds(**dict(given.bound)),
+                        log=given.outcomes and open(given.outcomes, "wb"))
     except (Gone, Taken, OSError) as fault:
         log(f"the gateway can't be started: {fault}")
         return 1
-    book = Book(driver, {"secure": given.secure, "plain": given.plain}, dict(given.interface), log, telling.tell)
+    arrived = Arrived() if given.counters else lambda ports: {}
+    book = Book(driver, {"secure": given.secure, "plain": given.plain}, dict(given.interface), log, telling.tell, arrived)
     driver.on_end = book.gone
     server = Server(book, given.listen, log)
     for number in (signal.SIGTERM, signal.SIGINT):
@@ -88,6 +91,9 @@ def words():
                        help="Kamailio's JSON-RPC over HTTP, which is told of calls that have ended by themselves")
     given.add_argument("--bound", type=bound, action="append", default=[], metavar="WHAT=NUMBER",
                        help=f"how much may be spent before it drains and begins anew: {', '.join(Bounds._fields)}")
+    given.add_argument("--counters", action="store_true",
+                       help="what `query` tells of packets is what nftables counts (docs/network.md); as root")
+    given.add_argument("--outcomes", metavar="FILE", help="a log of outcomes for tools/watch.py, begun anew")
     given.add_argument("--program", default=os.environ.get("SRTPGW") or str(TOP / "srtpgw"),
                        help="the gateway (the environment's SRTPGW, or srtpgw at the top of the repository)")
     return given

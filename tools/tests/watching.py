@@ -136,6 +136,9 @@ def next_call(world):
     world.tell(" idle")
     view = world.look()
     check("a line that came in two pieces", view["calls"] == [] and view["totals"]["ended"] == {"bye": 1, "idle": 1})
+    world.tell("made 3 2 1", "srtpgw 1")
+    view = world.look()
+    check("calls of a process that has ended", view["calls"] == [] and view["totals"]["ended"]["gone"] == 1)
     world.log.write_text("made 1 1 1\nlive 1\n")
     check("a log that was begun anew", [call["call"] for call in world.look()["calls"]] == ["1"])
 
