@@ -19,6 +19,7 @@ import signal
 import socket
 import subprocess
 import sys
+import tempfile
 import threading
 import time
 from pathlib import Path
@@ -516,7 +517,27 @@ def gateway_dies(program):
     return "two calls told, and the next call by the next process"
 
 
-ALL = (values, a_call, cookies, flags, offers_again, refusals, hostile, drains, gateway_dies)
+def daemon_dies(program):
+    """Where the daemon itself is killed, the next one tells of the calls that were there."""
+    place = http.server.ThreadingHTTPServer((HOST, 0), Kamailio)
+    threading.Thread(target=place.serve_forever, daemon=True).start()
+    Kamailio.told.clear()
+    with tempfile.TemporaryDirectory() as folder:
+        words = ["--tell", f"http://{HOST}:{place.server_port}/RPC", "--calls", f"{folder}/calls"]
+        with contextlib.suppress(AssertionError), running(program, *words) as (daemon, server):
+            call(server, "one")
+            call(server, "two")
+            server.asks("delete", call_id="one")
+            daemon.process.kill()
+        assert not Kamailio.told
+        with running(program, *words) as (_, server):
+            assert server.asks("list")[b"calls"] == []
+    assert Kamailio.told == [["dlg.terminate_dlg", "two", "a", "b"]], Kamailio.told
+    place.shutdown()
+    return "the call that was left is told"
+
+
+ALL = (values, a_call, cookies, flags, offers_again, refusals, hostile, drains, gateway_dies, daemon_dies)
 
 
 def is_too_long(*_):

@@ -19,7 +19,7 @@ import sentences  # noqa: E402
 from ng.calls import Book, DRAINING  # noqa: E402
 from driver import Bounds, Driver, Gone, Taken  # noqa: E402
 from ng.server import Server  # noqa: E402
-from ng.telling import Telling  # noqa: E402
+from ng.telling import Kept, Telling, dialog  # noqa: E402
 from watch import Arrived  # noqa: E402
 
 TOP = Path(__file__).resolve().parents[2]
@@ -30,21 +30,34 @@ def main():
     log = Log()
     telling = Telling(given.tell, log)
     try:
-        driver = Driver(given.program, restarts=True, warn=log, bounds=Bounds(**dict(given.bound)),
-                        log=given.outcomes and open(given.outcomes, "wb"))
+        book = begun(given, log, telling)
+        server = Server(book, given.listen, log)
     except (Gone, Taken, OSError) as fault:
-        log(f"the gateway can't be started: {fault}")
+        log(f"it can't begin: {fault}")
         return 1
-    arrived = Arrived() if given.counters else lambda ports: {}
-    book = Book(driver, {"secure": given.secure, "plain": given.plain}, dict(given.interface), log, telling.tell, arrived)
-    driver.on_end = book.gone
-    server = Server(book, given.listen, log)
     for number in (signal.SIGTERM, signal.SIGINT):
         signal.signal(number, lambda *_: server.close())
     signal.signal(signal.SIGUSR1, lambda *_: threading.Thread(target=drain, args=(book, log)).start())
     log(f"answers NG requests at {given.listen[0]}:{given.listen[1]}")
-    server.serve(driver.drained.is_set)
+    server.serve(book.driver.drained.is_set)
     return ended(book, telling, log)
+
+
+def begun(given, log, telling):
+    """The book of a gateway that has been started, and which tells of what a daemon before it has left."""
+    outcomes = open(given.outcomes, "wb") if given.outcomes else None
+    driver = Driver(given.program, restarts=True, warn=log, bounds=Bounds(**dict(given.bound)), log=outcomes)
+    kept = Kept(given.calls)
+    for told in kept.left():
+        log(f"{told.id[:128]!r} has ended with the daemon before this one")
+        telling.tell(told, "gone")
+    kept.keep([])
+    book = Book(driver, {"secure": given.secure, "plain": given.plain}, dict(given.interface), log)
+    book.tell, book.keep = lambda call, why: telling.tell(dialog(call), why), kept.keep
+    if given.counters:
+        book.arrived = Arrived()
+    driver.on_end = book.gone
+    return book
 
 
 def drain(book, log):
@@ -58,7 +71,7 @@ def ended(book, telling, log):
     """Ends the calls that are left, and tells of them; 0 where all went well."""
     for call in book.all():
         book.ended(call, "ended with the daemon")
-        telling.tell(call, "stopped")
+        telling.tell(dialog(call), "stopped")
     telling.close()
     status = book.driver.close()
     log(sentences.status(status) if status is not None else "the gateway has ended")
@@ -89,6 +102,8 @@ def words():
                        help="an address by the name that the flag `direction` gives it")
     given.add_argument("--tell", metavar="URL",
                        help="Kamailio's JSON-RPC over HTTP, which is told of calls that have ended by themselves")
+    given.add_argument("--calls", metavar="FILE",
+                       help="keeps the dialogs that are there: where this daemon is killed, the next one tells of them")
     given.add_argument("--bound", type=bound, action="append", default=[], metavar="WHAT=NUMBER",
                        help=f"how much may be spent before it drains and begins anew: {', '.join(Bounds._fields)}")
     given.add_argument("--counters", action="store_true",

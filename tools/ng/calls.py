@@ -57,13 +57,12 @@ class Call:
 
 class Book:
     """`addresses` has by side the address that its telephones reach, `interfaces` more of them by name. `log` is given
-    a line for each call, `tell` each call that has ended by itself, and why. `arrived` answers packets and octets by
-    port where something counts them."""
+    a line for each call. To be set: `tell`, which is given each call that has ended by itself, and why; `arrived`,
+    which answers packets and octets by port; `keep`, which is given all calls where one is live, or there no more."""
 
-    def __init__(self, driver, addresses, interfaces=None, log=print, tell=lambda call, why: None,
-                 arrived=lambda ports: {}):
-        self.driver, self.addresses, self.interfaces = driver, addresses, interfaces or {}
-        self.log, self.tell, self.arrived = log, tell, arrived
+    def __init__(self, driver, addresses, interfaces, log):
+        self.driver, self.addresses, self.interfaces, self.log = driver, addresses, interfaces, log
+        self.tell, self.arrived, self.keep = lambda call, why: None, lambda ports: {}, lambda calls: None
         self.lock = threading.RLock()
         self.by_id, self.by_number = {}, {}
         self.numbers = itertools.count(1)
@@ -175,9 +174,10 @@ class Book:
         call.said.update({offer.side: offer.text, side: text})
         call.given.update({offer.side: given, side: offer.given})
         call.tags[request.to_tag] = side
-        if not call.live:
+        was_live, call.live, call.open = call.live, True, None
+        if not was_live:
             self.log(f"{call.name()} is live: the {offer.side} side offered")
-        call.live, call.open = True, None
+            self.keep(self.all())
         return self.for_side(request, call, offer.side, given, holds(request.sdp))
 
     def answered(self, request):
@@ -247,6 +247,8 @@ class Book:
                 self.by_id[call.id] = left
             else:
                 self.by_id.pop(call.id, None)
+        if call.live:
+            self.keep(self.all())
 
     def all(self):
         with self.lock:

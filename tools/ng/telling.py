@@ -1,56 +1,83 @@
 """Tells Kamailio of calls that have ended without it, by JSON-RPC over HTTP: `dlg.terminate_dlg` of its module `dialog`
-has it send BYE to both telephones. Another thread tells, so that no call waits for it.
+has it send BYE to both telephones. Another thread tells, so that no call waits for it. A file keeps the dialogs that
+are there, so that where the daemon itself was killed the next one can tell.
 """
 
+import collections
 import json
+import os
 import queue
 import threading
 import urllib.request
 
 PATIENCE = 5
 
+# A SIP dialog: its Call-ID, and the tags of the one who offered first and of the other side.
+Dialog = collections.namedtuple("Dialog", "id near far")
+
+
+def dialog(call):
+    """The dialog of a call."""
+    near = next(iter(call.tags), b"")
+    others = [tag for tag, side in call.tags.items() if side != call.tags.get(near)]
+    return Dialog(*(octets.decode("utf-8", "replace") for octets in (call.id, near, others[-1] if others else b"")))
+
 
 class Telling:
-    """Tells of calls at a URL, or of none where there is no URL."""
+    """Tells of dialogs at a URL, or of none where there is no URL."""
 
     def __init__(self, url, log=print):
         self.url, self.log = url, log
-        self.calls = queue.Queue()
+        self.waiting = queue.Queue()
         self.thread = threading.Thread(target=self.work, daemon=True)
         self.thread.start()
 
-    def tell(self, call, why):
-        """Has the dialog of a call ended."""
-        self.calls.put((call, why))
+    def tell(self, told, why):
+        """Has a dialog ended."""
+        self.waiting.put((told, why))
 
     def close(self):
         """Waits until all are told."""
-        self.calls.put(None)
+        self.waiting.put(None)
         self.thread.join()
 
     def work(self):
-        for call, why in iter(self.calls.get, None):
+        for told, why in iter(self.waiting.get, None):
             if not self.url:
                 continue
             try:
-                self.ask(call)
+                self.ask(told)
             except (OSError, ValueError) as fault:
-                self.log(f"{call.name()} has ended ({why}), and the SIP server couldn't be told: {fault}")
+                self.log(f"the SIP server couldn't be told that {told.id[:128]!r} has ended ({why}): {fault}")
 
-    def ask(self, call):
-        tags = tags_of(call)
-        names = [name.decode("utf-8", "replace") for name in (call.id, *tags)]
-        body = {"jsonrpc": "2.0", "id": call.number, "method": "dlg.terminate_dlg", "params": names}
-        request = urllib.request.Request(
-            self.url, json.dumps(body).encode(), {"Content-Type": "application/json"})
+    def ask(self, told):
+        body = {"jsonrpc": "2.0", "id": 1, "method": "dlg.terminate_dlg", "params": list(told)}
+        request = urllib.request.Request(self.url, json.dumps(body).encode(), {"Content-Type": "application/json"})
         with urllib.request.urlopen(request, timeout=PATIENCE) as answer:
             said = json.load(answer)
         if "error" in said:
             raise ValueError(said["error"].get("message", said["error"]))
 
 
-def tags_of(call):
-    """The tag of the first one who offered, and the latest of the other side."""
-    first = next(iter(call.tags), b"")
-    others = [tag for tag, side in call.tags.items() if side != call.tags.get(first)]
-    return first, others[-1] if others else b""
+class Kept:
+    """The dialogs of the calls that are there, in a file; in none where there is no path."""
+
+    def __init__(self, path=None):
+        self.path, self.lock = path, threading.Lock()
+
+    def left(self):
+        """Those that a daemon before this one has left."""
+        try:
+            with open(self.path, encoding="utf-8") as file:
+                return [Dialog(*fields) for fields in json.load(file)]
+        except (OSError, TypeError, ValueError):
+            return []
+
+    def keep(self, calls):
+        """Has the file say that these calls are there."""
+        if not self.path:
+            return
+        with self.lock:
+            with open(f"{self.path}.new", "w", encoding="utf-8") as file:
+                json.dump([dialog(call) for call in calls if call.live], file)
+            os.replace(f"{self.path}.new", self.path)

@@ -1,0 +1,196 @@
+"""Calls through Kamailio and a gateway behind it. See calls.sh."""
+
+import os
+import re
+import subprocess
+import sys
+import tempfile
+import threading
+import time
+from pathlib import Path
+
+from stack import HERE, asked, dialogs, kamailio, ng, rtpengine
+
+from baresip import Phone, SECONDS, told  # noqa: E402
+from ends import is_bound, speech, wait_until  # noqa: E402
+from telephone import Media, Refused, SUITES, Telephone, master, registers  # noqa: E402
+
+HOST, PROXY, NG = "127.0.0.1", ("127.0.0.1", 5070), ("127.0.0.1", 2223)
+ALICE, BOB, ECHO = (HOST, 5060), (HOST, 5062), (HOST, 5080)
+AT_ONCE, FOR = 40, 6
+
+
+def echo(folder, calls, seconds):
+    """SIPp, which ends behind so many calls."""
+    words = ["sipp", "-sf", HERE / "echo.xml", "-i", HOST, "-p", "5080", "-mi", HOST, "-mp", "43000", "-ci", HOST,
+             "-rtp_echo", "-m", str(calls), "-timeout", str(seconds), "-timeout_error", "-nostdin"]
+    log = open(Path(folder) / "sipp.log", "wb")
+    started = subprocess.Popen(words, stdout=log, stderr=subprocess.STDOUT, cwd=folder)
+    wait_until(lambda: is_bound(ECHO[1]), what="SIPp")
+    return started
+
+
+def calls_an_echo(folder):
+    """baresip, which encrypts, calls SIPp, which doesn't and sends back what comes."""
+    phone = Phone(folder, "alice", ALICE, 42_000, True, 1)
+    sipp = echo(folder, 1, 60)
+    phone.run(SECONDS + 1, f"sip:echo@{HOST}:{PROXY[1]}").wait(timeout=60)
+    ended = sipp.wait(timeout=60)
+    print(f"SIPp ended with {ended}, 0 where its one call was whole")
+    return told(phone, phone) and ended == 0
+
+
+def is_called(folder):
+    """A baresip without SRTP calls one that encrypts."""
+    alice, bob = Phone(folder, "carol", ALICE, 42_100, True, 2), Phone(folder, "bob", BOB, 42_200, False, 3)
+    registers("carol", ALICE, PROXY)
+    answering = alice.run(SECONDS + 4)
+    wait_until(lambda: is_bound(ALICE[1]), what="baresip")
+    bob.run(SECONDS + 1, f"sip:carol@{HOST}:{PROXY[1]}").wait(timeout=60)
+    answering.wait(timeout=60)
+    return told(alice, bob) & told(bob, alice)
+
+
+def is_held(folder):
+    """baresip calls baresip, and each holds and resumes, which are four offers within the call."""
+    dave, erin = Phone(folder, "dave", ALICE, 42_300, True, 4), Phone(folder, "erin", BOB, 42_400, False, 5)
+    registers("erin", BOB, PROXY)
+    answering = erin.run(SECONDS + 4)
+    wait_until(lambda: is_bound(BOB[1]), what="baresip")
+    calling = dave.run(SECONDS + 1, f"sip:erin@{HOST}:{PROXY[1]}")
+    for phone, key in ((dave, "hold"), (dave, "resume"), (erin, "hold"), (erin, "resume")):
+        time.sleep(1.5)
+        phone.press(key)
+    calling.wait(timeout=60), answering.wait(timeout=60)
+    (sent, took), (back, heard) = dave.counts(), erin.counts()
+    for phone, own, other in ((dave, sent, took), (erin, back, heard)):
+        print(f"{phone.name} ({phone.suite()}): {own} packets sent, {other} taken")
+    # The called one sends before its answer has gone through, and some are under way when the other one hangs up.
+    return sent > 100 and back > 100 and abs(sent - heard) < 10 and abs(back - took) < 30
+
+
+def new_keys(folder):
+    """A telephone in Python offers new keys within the call, twice."""
+    plain = []
+    bob = Telephone("fred", BOB, PROXY, lambda: plain.append(Media((HOST, 44_000))) or plain[0])
+    registers("fred", BOB, PROXY)
+    alice = Telephone("gina", ALICE, PROXY)
+    media = Media((HOST, 44_010), master())
+    call = alice.calls("fred", media)
+    there, back = speech(FOR, 11), speech(FOR, 12)
+    threads = [threading.Thread(target=one.sends, args=(octets,)) for one, octets in ((media, there), (plain[0], back))]
+    for thread in threads:
+        thread.start()
+    time.sleep(1.5)
+    call.offers(master())
+    time.sleep(1.5)
+    call.offers(master("AES_CM_128_HMAC_SHA1_32"))
+    for thread in threads:
+        thread.join()
+    time.sleep(0.5)
+    good = same("to the plain side", there, plain[0].heard()) & same("to the secure side", back, media.heard())
+    print(f"under {len(media.openings)} keys of the gateway's in turn")
+    ended = call.ends()
+    wait_until(bob.came[0].ended.is_set, what="BYE at the far telephone")
+    for one in (alice, bob, media, plain[0]):
+        one.close()
+    return good and ended == 200 and len(media.openings) == 3
+
+
+def same(name, sent, heard):
+    print(f"{name}: {len(heard)} of {len(sent)} octets:", "the same" if sent == heard else "NOT THE SAME", flush=True)
+    return sent == heard
+
+
+def is_cancelled(folder):
+    """A call that rings is cancelled by the caller; another one isn't taken, since its text has no key."""
+    henry = Telephone("henry", BOB, PROXY)
+    registers("henry", BOB, PROXY)
+    alice = Telephone("iris", ALICE, PROXY)
+    media = Media((HOST, 44_020), master())
+    status = alice.call("henry", media).cancels()
+    wait_until(henry.came[0].ended.is_set, what="CANCEL at the far telephone")
+    print(f"the cancelled INVITE: {status}")
+    media.text = lambda *_: Media.text(media).replace(b"a=crypto:1", b"a=crypto:none")
+    try:
+        alice.calls("henry", media)
+        refused = 200
+    except Refused as fault:
+        refused = fault.args[0]
+    print(f"the one without a key: {refused}")
+    for one in (alice, henry, media):
+        one.close()
+    return status == 487 and refused == (488 if NAME == "srtpgw" else refused)
+
+
+def forty(folder):
+    """Forty calls at once of telephones that encrypt, in four suites, to SIPp."""
+    sipp = echo(folder, AT_ONCE, 90)
+    alice = Telephone("judy", ALICE, PROXY)
+    suites = [suite for suite in SUITES if NAME == "srtpgw" or "192" not in suite]
+    media = [Media((HOST, 44_100 + 2 * place), master(suites[place % len(suites)])) for place in range(AT_ONCE)]
+    began = time.monotonic()
+    calls = [alice.call("echo", one) for one in media]
+    together(lambda call: call.offers(), calls)
+    print(f"{AT_ONCE} calls made within {time.monotonic() - began:.1f} s")
+    sent = [speech(FOR, 100 + place) for place in range(AT_ONCE)]
+    together(lambda pair: pair[0].sends(pair[1]), list(zip(media, sent)))
+    time.sleep(1)
+    whole = sum(one.heard() == octets for one, octets in zip(media, sent))
+    packets = sum(len(one.came) for one in media)
+    print(f"{packets} of {AT_ONCE * FOR * 50} packets came back, sealed twice; {whole} of {AT_ONCE} calls whole")
+    together(lambda call: call.ends(), calls)
+    ended = sipp.wait(timeout=60)
+    for one in (alice, *media):
+        one.close()
+    return whole == AT_ONCE and ended == 0
+
+
+def together(work, items):
+    threads = [threading.Thread(target=work, args=(item,)) for item in items]
+    for thread in threads:
+        thread.start()
+    for thread in threads:
+        thread.join()
+
+
+SCENES = (calls_an_echo, is_called, is_held, new_keys, is_cancelled, forty)
+NAME = "rtpengine" if "rtpengine" in sys.argv[1:] else "srtpgw"
+
+
+def version(*words):
+    out = subprocess.run(words, capture_output=True, text=True)
+    return next((line for line in (out.stdout + out.stderr).splitlines() if re.search(r"\d\.\d", line)), "?").strip()
+
+
+def main():
+    for words in (("kamailio", "-v"), ("baresip", "-h"), ("sipp", "-v"), ("rtpengine", "--version")):
+        print(version(*words))
+    print(f"through {NAME}", flush=True)
+    wanted = [scene for scene in SCENES if scene.__name__ in sys.argv[1:]] or SCENES
+    good = []
+    with tempfile.TemporaryDirectory() as folder:
+        gateway = rtpengine(folder) if NAME == "rtpengine" else ng(
+            folder, NG, None, "ng", "--tell", f"http://{HOST}:5071/RPC")
+        proxy = kamailio(folder)
+        try:
+            for scene in wanted:
+                print(f"{scene.__name__}: {scene.__doc__}", flush=True)
+                good.append(scene(folder))
+            time.sleep(1)
+            left = asked(NG, "list").get(b"calls")
+            print(f"left at the end: {left}, {dialogs()} dialogs")
+            good.append(left == [])
+        finally:
+            proxy.ends()
+            status = gateway.ends()
+            if os.environ.get("LOGS"):
+                print(proxy.text(), gateway.text())
+            elif NAME == "srtpgw":
+                print(gateway.text(), end="")
+    print(f"{NAME} ended with {status}; {sum(good)} of {len(good)} as they should be")
+    return 0 if all(good) and status == 0 else 1
+
+
+if __name__ == "__main__":
+    sys.exit(main())
