@@ -1,8 +1,11 @@
-//! Keys in turn, sessions that don't encrypt, and the sources that a session admits, over both sides.
+//! Packets of each suite and kind, keys in turn, and the sources that a session admits, over both sides.
 //!
 //! The datagrams are those of `interop/sessions.py`, a program that has nothing of this project.
 
-ghost use Rattle.std.specs.Prelude.{◌≡◌, length, IfOk};
+ghost use Rattle.std.specs.Prelude.{◌≡◌, ◌<◌, ◌∷◌, [], length, true, IfOk, IsTrue};
+ghost use Rattle.sg_keys.specs.Live.{is_cipher_len};
+ghost use Rattle.sg_keys.specs.PreparedKey.{live_of};
+ghost use Rattle.sg_media.specs.Ciphers.{may_encrypt};
 ghost use Rattle.sg_media.specs.Sides.{CanBeMade, is_tag_len};
 
 use arrayvec::ArrayVec;
@@ -17,6 +20,11 @@ use std::test::Fail;
 
 /// The master key and salt of RFC 3711, B.3.
 const SMALL: &str = "e1f97a0d3e018be0d64fa32c06de41390ec675ad498afeebb6960b3aabe6";
+
+const MIDDLE: &str = "73edc66c4fa15776fb57f9505c17136550ffda71f3e8e5f1c8522f3acd4ce86d5add78edbb11";
+
+const LARGE: &str =
+    "f0f04914b513f2763a1b1fa130f10e2998f6f6e43e4309d1e622a0e332b9f1b63b04803de51ee7c96423ab5b78d2";
 
 /// Octets that count up.
 const OTHER: &str = "000102030405060708090a0b0c0d0e0f101112131415161718191a1b1c1d";
@@ -50,60 +58,174 @@ const IN_TURN: [Row; 4] = [
 /// A fifth packet.
 const MORE: &str = "800f0005decafbadcafebabeabababababababababababababababab";
 
-const PACKET: &str = "800f0009decafbadcafebabeabababababababababababababababab";
-
-const REPORT: &str = "80c80006cafebabe83d8b6e0cdcdcdcdcdcdcdcdcdcdcdcdcdcdcdcd";
-
-/// A session of one key, with what it makes of its first packet.
+/// A session of one key, with the rollover counter that it begins with and what it makes of its first packet.
+/// An MKI is a value and its length.
 #[derive(Clone, Copy)]
 struct Case {
     suite: Suite,
     master: &'static str,
+    mki: Option<(u128, u8)>,
     kind: Kind,
     encrypt: bool,
     tag_len: u8,
+    roc: u32,
     packet: &'static str,
     datagram: &'static str,
 }
 
-/// Packets that aren't encrypted, under raw keys too, and one under a tag of four octets that is. The E bit
-/// of the report is 0 (RFC 3711, 3.4).
-const OF_ONE_KEY: [Case; 4] = [
+const PACKET: &str = "800f1234decafbadcafebabeabababababababababababababababab";
+
+/// A packet with two sources listed and an extension of one word.
+const LISTED: &str =
+    "92830102decafbadcafebabe1111111122222222bede000151aa00000b0b0b0b0b0b0b0b0b0b0b0b0b0b0b0b0b0b0b0b0b";
+
+const REPORT: &str = "80c80006cafebabe83d8b6e0cdcdcdcdcdcdcdcdcdcdcdcdcdcdcdcd";
+
+/// Packets under each suite, with and without an MKI, and some that aren't encrypted; then reports. The E bit
+/// of a report that isn't encrypted is 0 (RFC 3711, 3.4).
+const OF_ONE_KEY: [Case; 13] = [
     Case {
         suite: Suite::Cm128Tag80,
         master: SMALL,
+        mki: None,
         kind: Kind::Rtp,
-        encrypt: false,
+        encrypt: true,
         tag_len: 10,
+        roc: 0,
         packet: PACKET,
-        datagram: "800f0009decafbadcafebabeabababababababababababababababab905f756bf37082151f01",
+        datagram: "800f1234decafbadcafebabe4e55dc4ce79978d88ca4d215949d2402b78d6acc99ea179b8dbb",
     },
     Case {
         suite: Suite::Cm128Tag32,
         master: SMALL,
+        mki: Some((1, 4)),
         kind: Kind::Rtp,
         encrypt: true,
         tag_len: 4,
-        packet: PACKET,
-        datagram: "800f0009decafbadcafebabeb673d8b4e6dac253a6fc3a257f5deae58cfcf2cc",
+        roc: 0x1_0203,
+        packet: LISTED,
+        datagram: "92830102decafbadcafebabe1111111122222222bede000151aa0000a480c6458028c96e944ed2bc5258a3300b0edc3b1f00000001c03bfc61",
     },
     Case {
-        suite: Suite::Raw80,
-        master: RAW,
+        suite: Suite::Cm192Tag80,
+        master: MIDDLE,
+        mki: None,
         kind: Kind::Rtp,
-        encrypt: false,
+        encrypt: true,
         tag_len: 10,
-        packet: PACKET,
-        datagram: "800f0009decafbadcafebabeabababababababababababababababab5238f2bd4d346270fc71",
+        roc: 0xffff_ffff,
+        packet: LISTED,
+        datagram: "92830102decafbadcafebabe1111111122222222bede000151aa00002a4ce2c106d0f5dc7f01dea1900b1712d527712db7d47f5fab8be09c42f723",
+    },
+    Case {
+        suite: Suite::Cm192Tag32,
+        master: MIDDLE,
+        mki: None,
+        kind: Kind::Rtp,
+        encrypt: true,
+        tag_len: 4,
+        roc: 1,
+        packet: "800f0009decafbadcafebabeabababababababababababababababab",
+        datagram: "800f0009decafbadcafebabe597e954dcc7f15af1a2d279cbcba70e06204c3f2",
+    },
+    Case {
+        suite: Suite::Cm256Tag80,
+        master: LARGE,
+        mki: None,
+        kind: Kind::Rtp,
+        encrypt: true,
+        tag_len: 10,
+        roc: 0,
+        packet: "800f0007decafbadcafebabe",
+        datagram: "800f0007decafbadcafebabeb02a3545989d7fb0d6e1",
+    },
+    Case {
+        suite: Suite::Cm256Tag32,
+        master: LARGE,
+        mki: Some((0x01_0203_0405, 5)),
+        kind: Kind::Rtp,
+        encrypt: true,
+        tag_len: 4,
+        roc: 2,
+        packet: "800fffffdecafbadcafebabeabababababababababababababababab",
+        datagram: "800fffffdecafbadcafebabe71e14aae33800904620a3fdd51e791470102030405f0c7499d",
     },
     Case {
         suite: Suite::Cm128Tag80,
         master: SMALL,
+        mki: None,
+        kind: Kind::Rtp,
+        encrypt: false,
+        tag_len: 10,
+        roc: 3,
+        packet: PACKET,
+        datagram: "800f1234decafbadcafebabeababababababababababababababababf1f54c1a2765fee16a39",
+    },
+    Case {
+        suite: Suite::Raw80,
+        master: RAW,
+        mki: None,
+        kind: Kind::Rtp,
+        encrypt: false,
+        tag_len: 10,
+        roc: 5,
+        packet: "800f0001decafbadcafebabeabababababababababababababababab",
+        datagram: "800f0001decafbadcafebabeabababababababababababababababab49429d9af2520da29b10",
+    },
+    Case {
+        suite: Suite::Cm128Tag80,
+        master: SMALL,
+        mki: None,
+        kind: Kind::Rtcp,
+        encrypt: true,
+        tag_len: 10,
+        roc: 0,
+        packet: REPORT,
+        datagram: "80c80006cafebabe99ef3cd16e0d0a1c807be86d98d2d859e2fb6f2f80000000844d8f40c052c77a4949",
+    },
+    Case {
+        suite: Suite::Cm192Tag80,
+        master: MIDDLE,
+        mki: Some((1, 4)),
+        kind: Kind::Rtcp,
+        encrypt: true,
+        tag_len: 10,
+        roc: 0,
+        packet: REPORT,
+        datagram: "80c80006cafebabeacbe4756d8a7221cc825d9af8fb4f7326ceaa5068000000000000001d3583d14d13c25e588bd",
+    },
+    Case {
+        suite: Suite::Cm256Tag80,
+        master: LARGE,
+        mki: None,
+        kind: Kind::Rtcp,
+        encrypt: true,
+        tag_len: 10,
+        roc: 0,
+        packet: REPORT,
+        datagram: "80c80006cafebabe4abe323f886b49ae28824b64153a83d81ed634f68000000069e9bf4999f930095131",
+    },
+    Case {
+        suite: Suite::Cm128Tag80,
+        master: SMALL,
+        mki: None,
         kind: Kind::Rtcp,
         encrypt: false,
         tag_len: 10,
+        roc: 0,
         packet: REPORT,
         datagram: "80c80006cafebabe83d8b6e0cdcdcdcdcdcdcdcdcdcdcdcdcdcdcdcd00000000d1dd28aee92dd015ba1e",
+    },
+    Case {
+        suite: Suite::Cm128Tag80,
+        master: SMALL,
+        mki: None,
+        kind: Kind::Rtcp,
+        encrypt: true,
+        tag_len: 10,
+        roc: 0,
+        packet: "80c80006cafebabe",
+        datagram: "80c80006cafebabe80000000c95303fed59454dbfc21",
     },
 ];
 
@@ -160,19 +282,45 @@ fn is_tag_len(kind: Kind, tag_len: u8) -> bool
     }
 }
 
-/// A session of one key, number 5, without an MKI.
+/// The MKI of a case.
+fn mki_of(case: &Case) -> Option<Mki> {
+    let (value, length) = case.mki?;
+    Mki::new(value, length)
+}
+
+/// Whether a case may have these keys: none encrypts where nothing is encrypted.
+fn fits(case: &Case, half: &HalfKeys) -> bool
+    ensures cipher { IsTrue result → is_cipher_len (length half.now.encrypt) ≡ true }
+    ensures some { IsTrue result → may_encrypt case.now.kind case.now.encrypt ≡ true → 0 < length half.now.encrypt }
+{
+    match half.encrypt.as_slice().len() {
+        16 | 24 | 32 => true,
+        0 => case.kind == Kind::Rtp && !case.encrypt,
+        _ => false,
+    }
+}
+
+/// The set of one key.
+fn set_of(only: LiveKey) -> KeySet
+    requires cipher { is_cipher_len (length only.half.encrypt) ≡ true }
+    requires count { only.count ≡ 0 }
+    ensures { result ≡ live_of only ∷ [] }
+{
+    let mut keys = ArrayVec::new();
+    keys.push(only);
+    KeySet::make(keys)
+}
+
+/// A session of one key, number 5.
 fn of_one(rt: &impl Abort, half: HalfKeys, case: &Case, admit: Admit) -> SessionSpec
     ensures { CanBeMade result }
 {
-    let count = half.encrypt.as_slice().len();
-    assert!(rt; count == 16 || (count == 0 && !case.encrypt && case.kind == Kind::Rtp));
+    assert!(rt; fits(case, &half));
     assert!(rt; is_tag_len(case.kind, case.tag_len));
-    let mut keys = ArrayVec::new();
-    keys.push(key(5, None, half, 1 << 31));
     SessionSpec {
         kind: case.kind,
-        keys: KeySet::make(keys),
-        roc: 0,
+        keys: set_of(key(5, mki_of(case), half, 1 << 31)),
+        roc: case.roc,
         window: 1024,
         admit,
         encrypt: case.encrypt,
@@ -346,9 +494,11 @@ fn sessions_of_one_key_open(rt: HostRuntime) -> Result<(), Fail> {
 const ADMITS: Case = Case {
     suite: Suite::Cm128Tag80,
     master: SMALL,
+    mki: None,
     kind: Kind::Rtp,
     encrypt: true,
     tag_len: 10,
+    roc: 0,
     packet: "",
     datagram: "",
 };
@@ -399,7 +549,7 @@ fn opened_by(
 // A datagram under the earlier keys is opened once; then the current side's cause is told.
 #[test]
 fn either_generation_opens(rt: HostRuntime) -> Result<(), Fail> {
-    let [before, _, now, _] = &OF_ONE_KEY;
+    let [before, _, _, _, _, _, _, now, ..] = &OF_ONE_KEY;
     let mut earlier = opening(&rt, rt.alloc(), before, Admit::Any)?;
     let mut current = opening(&rt, rt.alloc(), now, Admit::Any)?;
     for (datagram, told) in [
