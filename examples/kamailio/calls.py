@@ -94,7 +94,8 @@ def new_keys(folder):
     wait_until(bob.came[0].ended.is_set, what="BYE at the far telephone")
     for one in (alice, bob, media, plain[0]):
         one.close()
-    return good and ended == 200 and len(media.openings) == 3
+    # rtpengine keeps its key where the suite stays.
+    return good and ended == 200 and len(media.openings) == (3 if NAME == "srtpgw" else 2)
 
 
 def same(name, sent, heard):
@@ -111,16 +112,21 @@ def is_cancelled(folder):
     status = alice.call("henry", media).cancels()
     wait_until(henry.came[0].ended.is_set, what="CANCEL at the far telephone")
     print(f"the cancelled INVITE: {status}")
+    good = status == 487 and (NAME == "rtpengine" or is_refused(alice, media))
+    for one in (alice, henry, media):
+        one.close()
+    return good
+
+
+def is_refused(alice, media):
+    """rtpengine lets such a text by."""
     media.text = lambda *_: Media.text(media).replace(b"a=crypto:1", b"a=crypto:none")
     try:
         alice.calls("henry", media)
-        refused = 200
     except Refused as fault:
-        refused = fault.args[0]
-    print(f"the one without a key: {refused}")
-    for one in (alice, henry, media):
-        one.close()
-    return status == 487 and refused == (488 if NAME == "srtpgw" else refused)
+        print(f"the one without a key: {fault}")
+        return fault.args[0] == 488
+    return False
 
 
 def forty(folder):
@@ -143,7 +149,8 @@ def forty(folder):
     ended = sipp.wait(timeout=60)
     for one in (alice, *media):
         one.close()
-    return whole == AT_ONCE and ended == 0
+    # rtpengine leaves out some packets at the start of a stream.
+    return (whole == AT_ONCE if NAME == "srtpgw" else packets > 0.95 * AT_ONCE * FOR * 50) and ended == 0
 
 
 def together(work, items):

@@ -67,7 +67,7 @@ def ng(folder, listen=("127.0.0.1", 2223), space=None, name="ng", *words):
 def rtpengine(folder, listen=("127.0.0.1", 2223), address="127.0.0.1"):
     """rtpengine in the gateway's place, without its kernel module."""
     words = ["rtpengine", "--config-file=none", "-f", "-E", "-t", "-1", "-i", address, "-L", "4", "-m", "30000",
-             "-M", "31000", "-n", "%s:%d" % listen, "-p", f"{folder}/rtpengine.pid"]
+             "-M", "31000", "-d", "0", "-n", "%s:%d" % listen, "-p", f"{folder}/rtpengine.pid"]
     started = Process("rtpengine", words, folder)
     wait_until(lambda: asked(listen, "ping").get(b"result") == b"pong", what="rtpengine")
     return started

@@ -64,7 +64,7 @@ class Media:
         host = re.search(rb"(?m)^c=IN IP4 (\S+)", text)[1].decode()
         self.to = host, int(re.search(rb"(?m)^m=audio (\d+)", text)[1])
         if self.key:
-            keys = list(crypto_of(text.decode()).values())
+            keys = list(crypto_of(padded(text).decode()).values())
             if keys and (not self.openings or keys[0].octets != self.openings[0].master.octets):
                 self.openings.insert(0, Opening(keys[0]))
             if not self.sealing or self.sealing.master is not self.key:
@@ -72,7 +72,7 @@ class Media:
 
     def tag(self, text):
         """The crypto line that it answers with: the first one of its suite."""
-        for tag, key in crypto_of(text.decode()).items():
+        for tag, key in crypto_of(padded(text).decode()).items():
             if self.key and key.suite == self.key.suite:
                 return tag.encode()
         return b"1"
@@ -296,6 +296,11 @@ class Call:
 def inner(value):
     """The address in a Contact header."""
     return value.split("<", 1)[1].split(">")[0] if "<" in value else value.split(";")[0]
+
+
+def padded(text):
+    """A text whose keys have base64 with its padding, which rtpengine leaves out."""
+    return re.sub(rb"inline:([A-Za-z0-9+/]+)=*", lambda key: b"inline:" + key[1] + b"=" * (-len(key[1]) % 4), text)
 
 
 def registers(name, address, proxy):

@@ -6,6 +6,7 @@ docs/kamailio.md says how it is used. Needs Python 3.8 and nothing else.
 """
 
 import argparse
+import concurrent.futures
 import os
 import signal
 import sys
@@ -18,7 +19,7 @@ sys.path.insert(0, str(Path(__file__).resolve().parents[1]))
 import sentences  # noqa: E402
 from ng.calls import Book, DRAINING  # noqa: E402
 from driver import Bounds, Driver, Gone, Taken  # noqa: E402
-from ng.server import Server  # noqa: E402
+from ng.server import Server, WORKERS  # noqa: E402
 from ng.telling import Kept, Telling, dialog  # noqa: E402
 from watch import Arrived  # noqa: E402
 
@@ -69,8 +70,10 @@ def drain(book, log):
 
 def ended(book, telling, log):
     """Ends the calls that are left, and tells of them; 0 where all went well."""
-    for call in book.all():
-        book.ended(call, "ended with the daemon")
+    left = book.all()
+    with concurrent.futures.ThreadPoolExecutor(WORKERS) as pool:
+        list(pool.map(lambda call: book.ended(call, "ended with the daemon"), left))
+    for call in left:
         telling.tell(dialog(call), "stopped")
     telling.close()
     status = book.driver.close()
