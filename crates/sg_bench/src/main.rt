@@ -10,7 +10,10 @@ mod rounds;
 mod sides;
 mod summary;
 
+ghost use Rattle.std.specs.Prelude.{◌≤◌};
+
 use crate::fault::Fault;
+use crate::parts::{Bench, PARTS};
 use crate::rounds::{Costs, medians};
 use crate::summary::seal_and_open;
 use sg_base::Suite;
@@ -25,60 +28,69 @@ const SUITES: [Suite; 6] = [
     Suite::Cm256Tag32,
 ];
 
-/// The octets of a plain packet: 20 milliseconds of G.711 with a head, and a full Ethernet frame.
-const SIZES: [usize; 2] = [172, 1400];
-
 fn main(rt: HostRuntime) -> Result<(), Fault> {
-    if is_timed(&rt)? {
-        time_all(&rt)
-    } else {
-        digest_all(&rt)
+    let is_timed = is_timed(&rt)?;
+    for suite in &SUITES {
+        // A plain packet of 20 milliseconds of G.711 with its head, and a full Ethernet frame.
+        show(&rt, is_timed, *suite, 172)?;
+        show(&rt, is_timed, *suite, 1400)?;
     }
-}
-
-// Whether the one word is `time`.
-fn is_timed(rt: &HostRuntime) -> Result<bool, Fault> {
-    let words = std::env::args(rt)?
-        .skip(1)
-        .collect::<Vec<String>>(rt.alloc())?;
-    match words.as_slice() {
-        [word] => Ok(word.as_str() == "time"),
-        _ => Ok(false),
-    }
-}
-
-fn digest_all(rt: &HostRuntime) -> Result<(), Fault> {
-    for suite in SUITES {
-        for size in SIZES {
-            let summary = seal_and_open(rt.alloc(), suite, size)?;
-            let sha1 = hex::encode(rt.alloc(), &summary.sha1)?;
-            let name = suite_name(suite);
-            let sealed = summary.sealed;
-            let octets = summary.octets;
-            let opened = summary.opened;
-            println!(rt;
-                "{name} {size} sealed {sealed} octets {octets} sha1 {sha1} opened {opened}"
-            )?;
-        }
+    if is_timed {
+        time_parts(&rt)?;
     }
     Ok(())
 }
 
-fn time_all(rt: &HostRuntime) -> Result<(), Fault> {
-    for suite in SUITES {
-        for size in SIZES {
-            let Costs { seal, open } = medians(rt, suite, size)?;
-            let name = suite_name(suite);
-            println!(rt; "srtpgw {name} {size} seal {seal}")?;
-            println!(rt; "srtpgw {name} {size} open {open}")?;
-        }
+// Whether the first word is `time`.
+fn is_timed(rt: &HostRuntime) -> Result<bool, Fault> {
+    match std::env::args(rt)?.nth(1) {
+        Some(word) => Ok(word.as_str() == "time"),
+        None => Ok(false),
     }
-    let blocks = parts::four_blocks(rt)?;
-    println!(rt; "part four-blocks-of-AES {blocks}")?;
-    let keystream = parts::keystream(rt)?;
-    println!(rt; "part keystream-of-160-octets {keystream}")?;
-    let code = parts::code(rt)?;
-    println!(rt; "part HMAC-of-176-octets {code}")?;
+}
+
+// Packets of so many octets under a suite: what is sealed of them, or how long it takes.
+fn show(rt: &HostRuntime, is_timed: bool, suite: Suite, size: usize) -> Result<(), Fault>
+    requires { size ≤ 1400 }
+{
+    if is_timed {
+        time_packets(rt, suite, size)
+    } else {
+        digest(rt, suite, size)
+    }
+}
+
+fn digest(rt: &HostRuntime, suite: Suite, size: usize) -> Result<(), Fault>
+    requires { size ≤ 1400 }
+{
+    let summary = seal_and_open(rt.alloc(), suite, size)?;
+    let sha1 = hex::encode(rt.alloc(), &summary.sha1)?;
+    let name = suite_name(suite);
+    let sealed = summary.sealed;
+    let octets = summary.octets;
+    let opened = summary.opened;
+    println!(rt; "{name} {size} sealed {sealed} octets {octets} sha1 {sha1} opened {opened}")?;
+    Ok(())
+}
+
+fn time_packets(rt: &HostRuntime, suite: Suite, size: usize) -> Result<(), Fault>
+    requires { size ≤ 1400 }
+{
+    let Costs { seal, open } = medians(rt, suite, size)?;
+    let name = suite_name(suite);
+    println!(rt; "srtpgw {name} {size} seal {seal}")?;
+    println!(rt; "srtpgw {name} {size} open {open}")?;
+    Ok(())
+}
+
+fn time_parts(rt: &HostRuntime) -> Result<(), Fault> {
+    let Some(mut bench) = Bench::new() else {
+        return Err(Fault::Suite);
+    };
+    for (part, name) in &PARTS {
+        let cost = bench.cost(rt, *part)?;
+        println!(rt; "part {name} {cost}")?;
+    }
     Ok(())
 }
 

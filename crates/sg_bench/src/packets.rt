@@ -44,8 +44,10 @@ pub fn packets(alloc: Global, first: u16, count: u16, size: usize) -> Result<Vec
 {
     let mut pads = Vec::with_capacity(alloc, usize::from(count))?;
     for place in 0..count {
-        pads.push(packet(alloc, first.wrapping_add(place), size)?)
-            .map_err(|_| Fault::NoMemory)?;
+        let pad = packet(alloc, first.wrapping_add(place), size)?;
+        if pads.push(pad).is_err() {
+            return Err(Fault::NoMemory);
+        }
     }
     Ok(pads)
 }

@@ -7,16 +7,28 @@ use crate::rounds::{ROUNDS, median};
 use sg_aes::Schedule;
 use sg_ctr::apply;
 use sg_hmac::MacKey;
-use std::time::{CpuClock, Duration};
+use std::time::CpuClock;
 
 /// How many calls a round has.
 const CALLS: u32 = 20000;
 
-// Nanoseconds a call of a round that began then.
-fn since(rt: &HostRuntime, start: Duration) -> Result<u128, Fault> {
-    let end = rt.thread_cpu_time()?;
-    Ok(end.saturating_sub(start).as_nanos() / u128::from(CALLS))
+/// A part of what a packet costs.
+#[derive(Clone, Copy)]
+pub enum Part {
+    /// Four blocks of AES under a key of 16 octets.
+    Blocks,
+    /// A keystream of 160 octets onto as many.
+    Keystream,
+    /// HMAC-SHA-1 of 176 octets under a key whose pads are hashed already.
+    Code,
 }
+
+/// The parts with their names.
+pub const PARTS: [(Part, &str); 3] = [
+    (Part::Blocks, "four-blocks-of-AES"),
+    (Part::Keystream, "keystream-of-160-octets"),
+    (Part::Code, "HMAC-of-176-octets"),
+];
 
 fn run_blocks(schedule: &Schedule, blocks: &mut [[u8; 16]; 4]) {
     for _ in 0..CALLS {
@@ -39,45 +51,48 @@ fn run_codes(key: &MacKey, text: &mut [u8; 176]) {
     }
 }
 
-/// Four blocks of AES under a key of 16 octets: nanoseconds.
-pub fn four_blocks(rt: &HostRuntime) -> Result<u128, Fault> {
-    let Some(schedule) = Schedule::new(&[1; 16]) else {
-        return Err(Fault::Suite);
-    };
-    let mut blocks = [[2; 16]; 4];
-    let mut costs = Vec::new(rt.alloc());
-    for _ in 0..ROUNDS {
-        let start = rt.thread_cpu_time()?;
-        run_blocks(&schedule, &mut blocks);
-        costs.push(since(rt, start)?).map_err(|_| Fault::NoMemory)?;
-    }
-    Ok(median(costs))
+/// What the parts are run over.
+#[derive(Drop)]
+pub struct Bench {
+    schedule: Schedule,
+    key: MacKey,
+    blocks: [[u8; 16]; 4],
+    octets: [u8; 160],
+    text: [u8; 176],
 }
 
-/// A keystream of 160 octets onto as many: nanoseconds.
-pub fn keystream(rt: &HostRuntime) -> Result<u128, Fault> {
-    let Some(schedule) = Schedule::new(&[1; 16]) else {
-        return Err(Fault::Suite);
-    };
-    let mut part = [2; 160];
-    let mut costs = Vec::new(rt.alloc());
-    for _ in 0..ROUNDS {
-        let start = rt.thread_cpu_time()?;
-        run_keystreams(&schedule, &mut part);
-        costs.push(since(rt, start)?).map_err(|_| Fault::NoMemory)?;
+impl Bench {
+    /// None where a key of 16 octets is none of the cipher.
+    pub fn new() -> Option<Bench> {
+        Some(Bench {
+            schedule: Schedule::new(&[1; 16])?,
+            key: MacKey::new(&[1; 20]),
+            blocks: [[2; 16]; 4],
+            octets: [2; 160],
+            text: [2; 176],
+        })
     }
-    Ok(median(costs))
-}
 
-/// HMAC-SHA-1 of 176 octets under a key whose pads are hashed already: nanoseconds.
-pub fn code(rt: &HostRuntime) -> Result<u128, Fault> {
-    let key = MacKey::new(&[1; 20]);
-    let mut text = [2; 176];
-    let mut costs = Vec::new(rt.alloc());
-    for _ in 0..ROUNDS {
-        let start = rt.thread_cpu_time()?;
-        run_codes(&key, &mut text);
-        costs.push(since(rt, start)?).map_err(|_| Fault::NoMemory)?;
+    fn run(&mut self, part: Part) {
+        match part {
+            Part::Blocks => run_blocks(&self.schedule, &mut self.blocks),
+            Part::Keystream => run_keystreams(&self.schedule, &mut self.octets),
+            Part::Code => run_codes(&self.key, &mut self.text),
+        }
     }
-    Ok(median(costs))
+
+    /// The median of the rounds, in nanoseconds a call.
+    pub fn cost(&mut self, rt: &HostRuntime, part: Part) -> Result<u128, Fault> {
+        let mut costs = Vec::new(rt.alloc());
+        for _ in 0..ROUNDS {
+            let start = rt.thread_cpu_time()?;
+            self.run(part);
+            let end = rt.thread_cpu_time()?;
+            let cost = end.saturating_sub(start).as_nanos() / u128::from(CALLS);
+            if costs.push(cost).is_err() {
+                return Err(Fault::NoMemory);
+            }
+        }
+        Ok(median(costs))
+    }
 }

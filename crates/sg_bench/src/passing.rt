@@ -28,7 +28,10 @@ fn open(side: &mut OpenSide, pad: Pad) -> Result<Pad, Fault> {
 pub fn seal_each(alloc: Global, side: &mut SealSide, pads: Vec<Pad>) -> Result<Vec<Pad>, Fault> {
     let mut sealed = Vec::with_capacity(alloc, pads.len())?;
     for pad in pads {
-        sealed.push(seal(side, pad)?).map_err(|_| Fault::NoMemory)?;
+        let pad = seal(side, pad)?;
+        if sealed.push(pad).is_err() {
+            return Err(Fault::NoMemory);
+        }
     }
     Ok(sealed)
 }
@@ -37,7 +40,10 @@ pub fn seal_each(alloc: Global, side: &mut SealSide, pads: Vec<Pad>) -> Result<V
 pub fn open_each(alloc: Global, side: &mut OpenSide, pads: Vec<Pad>) -> Result<Vec<Pad>, Fault> {
     let mut opened = Vec::with_capacity(alloc, pads.len())?;
     for pad in pads {
-        opened.push(open(side, pad)?).map_err(|_| Fault::NoMemory)?;
+        let pad = open(side, pad)?;
+        if opened.push(pad).is_err() {
+            return Err(Fault::NoMemory);
+        }
     }
     Ok(opened)
 }

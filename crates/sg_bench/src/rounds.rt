@@ -87,8 +87,9 @@ pub fn medians(rt: &HostRuntime, suite: Suite, size: usize) -> Result<Costs, Fau
     let mut open = Vec::new(rt.alloc());
     for round in 0..ROUNDS {
         let costs = one_round(rt, suite, size, round)?;
-        seal.push(costs.seal).map_err(|_| Fault::NoMemory)?;
-        open.push(costs.open).map_err(|_| Fault::NoMemory)?;
+        if seal.push(costs.seal).is_err() || open.push(costs.open).is_err() {
+            return Err(Fault::NoMemory);
+        }
     }
     Ok(Costs {
         seal: median(seal),
