@@ -94,7 +94,7 @@ class Calls:
 
     def take_srtpgw(self, now, version):
         """Another process begins: the calls of the one before have ended with it."""
-        self.ended["gone"] += len(self.by_slot)
+        self.ended.update(["gone"] * len(self.by_slot))
         self.over.update(self.by_slot)
         self.by_slot.clear()
 
