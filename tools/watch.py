@@ -17,6 +17,7 @@ import collections
 import contextlib
 import json
 import os
+import shutil
 import signal
 import subprocess
 import sys
@@ -215,17 +216,23 @@ def worst(drops):
 # ---- shown
 
 def screen(view):
-    """Lines for a terminal."""
+    """Lines for a terminal, calls of which something is to be said first."""
     lines = [time.strftime("%H:%M:%S", time.localtime(view["moment"])) + f"  {len(view['calls'])} calls"]
     if view["fault"]:
         lines.append(f"no counters of packets (docs/network.md): {view['fault']}")
-    for call in view["calls"]:
+    lines += total_lines(view["totals"])
+    for call in sorted(view["calls"], key=lambda call: not any(medium["says"] for medium in call["media"])):
         lines.append(f"call {call['call']}, slot {call['slot']}, {call['state']} for {call['seconds']:.0f} s")
         for medium in call["media"]:
             for leg in medium["legs"]:
                 lines += leg_lines(medium["medium"], leg)
             lines += [f"  ! {words}" for words in medium["says"]]
-    totals = view["totals"]
+    return lines
+
+
+def total_lines(totals):
+    """Counts over all calls, in lines."""
+    lines = []
     for name in ("refused", "ended"):
         if totals[name]:
             lines.append(f"{name}: " + ", ".join(f"{n} {cause}" for cause, n in sorted(totals[name].items())))
@@ -338,9 +345,18 @@ def put(text, given):
         beside.write_text(text, encoding="utf-8")
         os.replace(beside, given.to)
         return
-    is_screen = not given.json and not given.prometheus and sys.stdout.isatty()
-    sys.stdout.write("\x1b[H\x1b[2J" * is_screen + text)
+    if not given.json and not given.prometheus and sys.stdout.isatty():
+        text = "\x1b[H\x1b[2J" + fitted(text, shutil.get_terminal_size().lines - 1)
+    sys.stdout.write(text)
     sys.stdout.flush()
+
+
+def fitted(text, most):
+    """As many lines as a terminal has."""
+    lines = text.splitlines(keepends=True)
+    if len(lines) <= most:
+        return text
+    return "".join(lines[:most - 1]) + f"and {len(lines) - most + 1} further lines, which --json has\n"
 
 
 def main():
