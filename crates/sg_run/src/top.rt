@@ -100,9 +100,18 @@ fn headline()
     sg_gateway::nothing_twice();
     sg_gateway::nothing_within_reach_lost();
     sg_gateway::no_counter_block_twice();
+    sg_gateway::seals_use_their_blocks();
     sg_gateway::what_is_sealed_goes_out();
     sg_gateway::calls_in_order();
     sg_gateway::refusals_change_nothing();
     sg_gateway::ended_calls_stay_away();
     sg_gateway::earlier_generations_serve_no_longer();
+    sg_gateway::what_is_new_is_put_out();
+    sg_gateway::no_key_serves_past_its_life();
+    sg_gateway::no_key_is_forgotten();
+    sg_gateway::no_call_stays_idle();
+    sg_gateway::a_moment_comes_once();
+    sg_gateway::signals_are_carried_out();
+    sg_gateway::signals_are_taken();
+    sg_gateway::plain_texts_have_no_key();
 }
