@@ -6,8 +6,8 @@ daemon's errors and the tools.
     status(5)                           # of a process that has ended
     meaning("KeyReused 3"), advice("KeyReused 3")
 
-The page is read once, from the repository that this file stands in; a table that isn't there is an error at the first
-call, so no sentence stands twice. Needs Python 3.8 alone.
+The page is read once, from the repository that this file stands in, so no sentence stands twice. `meaning` and `advice`
+raise Missing where the page hasn't the name; sentences say so, so that no log ends for it. Needs Python 3.8 alone.
 """
 
 import functools
@@ -33,7 +33,11 @@ class Missing(Exception):
 def page(path=PAGE):
     """What the page says: (table, name) to (meaning, advice)."""
     said, kind = {}, None
-    for line in Path(path).read_text(encoding="utf-8").splitlines():
+    try:
+        lines = Path(path).read_text(encoding="utf-8").splitlines()
+    except OSError as fault:
+        raise Missing(f"{path} can't be read: {fault.strerror}") from None
+    for line in lines:
         if line.startswith("#"):
             kind = TABLES.get(line.lstrip("# "))
         elif kind and line.startswith("| ") and line.count("|") == 4:
