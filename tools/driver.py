@@ -23,7 +23,7 @@ import time
 
 import fields
 from fields import Refused, keys_of, octets_of
-from gateway import Age, FILES_MOST, Fifos, Gateway, Gone, Program, Taken
+from gateway import FILES_MOST, Fifos, Gateway, Gone, Program, Taken
 
 __all__ = ["Bounds", "Driver", "Fifos", "Gone", "Program", "Refused", "Taken"]
 
@@ -41,7 +41,7 @@ class Signal:
     """A line that was told, and the outcome that it waits for."""
 
     def __init__(self, call, last, keys):
-        self.call, self.last, self.keys, self.age = str(call), last, keys, Age()
+        self.call, self.last, self.keys, self.due = str(call), last, keys, None
         self.text, self.refusal, self.result = None, None, concurrent.futures.Future()
 
     def take(self, outcome):
@@ -185,6 +185,7 @@ class Driver:
             if self.draining and line[0] in NEW and call not in self.slots:
                 raise Refused("State")
             # Outcomes come in the order of the lines, so this signal is answered behind those before it.
+            signal.due = self.gateway.due()
             self.pending.append(signal)
             self.gateway.tell(*line)
             if last == QUIET:
@@ -325,7 +326,7 @@ class Driver:
 
     def _oldest(self):
         with contextlib.suppress(IndexError):
-            return self.pending[0].age.seconds()
+            return self.pending[0].due.late()
         return 0.0
 
     def _look_around(self, gateway):

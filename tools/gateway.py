@@ -194,15 +194,16 @@ def raised_files(pid):
     return None
 
 
-class Age:
-    """How long ago something was. A clock that was set doesn't make it older: where it was set back the gateway
-    itself waits, and where it was set forward nothing has waited."""
+class Due:
+    """When something is due, by the clock that the gateway waits by."""
 
-    def __init__(self):
-        self.steady, self.set = time.monotonic(), time.time()
+    def __init__(self, moment):
+        self.moment, self.written = moment, time.monotonic()
 
-    def seconds(self):
-        return min(time.monotonic() - self.steady, time.time() - self.set)
+    def late(self):
+        """By how many seconds it is late. A clock that was set doesn't make it so: where it was set back the gateway
+        itself waits, and where it was set forward nothing has waited longer than since it was written."""
+        return max(0.0, min(time.time() - self.moment, time.monotonic() - self.written))
 
 
 class Gateway:
@@ -211,9 +212,10 @@ class Gateway:
     A tick is written each `step` seconds and reaches two steps ahead, so a signal waits as long at most; the media
     don't wait. Behind each tick stands a probe, whose answer says where the gateway's clock began. `patience` is how
     many seconds the first answer may take, behind which the process is ended. `outcomes` is a queue of its lines, each
-    a list of fields; `octets` counts what was written to it, and `late` has by how many seconds the latest answer
-    to a probe was late. `log` is a file of octets that gets `srtpgw 1` where a process begins, and each outcome but for
-    session descriptions, which hold keys (tools/watch.py reads it). Raises Gone where it doesn't answer, and Taken where another program has its ports."""
+    a list of fields, and `octets` counts what was written to it. `late` has by how many seconds the latest answer to a
+    probe was late, and `worst` the most of it, and of gaps between ticks, since it was set to 0. `log` is a file of
+    octets that gets `srtpgw 1` where a process begins, and each outcome but for session descriptions, which hold keys
+    (tools/watch.py reads it). Raises Gone where it doesn't answer, and Taken where another program has its ports."""
 
     def __init__(self, program, step=0.1, patience=60.0, log=None):
         opener = program if hasattr(program, "open") else Program(program)
@@ -221,21 +223,23 @@ class Gateway:
         self.outcomes, self.gone, self.why = queue.Queue(), None, None
         self.octets, self.ticks, self.late, self.worst = 0, 0, 0.0, 0.0
         self.lock, self.answered, self.ending = threading.Lock(), threading.Event(), threading.Event()
-        # Ticks that were written and aren't answered, and the starts of its clock that the latest answers tell of.
-        self.probes, self.starts, self.began = collections.deque(), collections.deque(maxlen=WINDOW), None
+        # Ticks that were written and aren't answered, with when they are due; the starts of its clock that the latest
+        # answers tell of, and the earliest; the tick that reaches farthest.
+        self.probes, self.starts = collections.deque(), collections.deque(maxlen=WINDOW)
+        self.began, self.last = time.time(), 0
         self.ends = opener.open(patience)
         self.pid, self.files = self.ends.pid, self.ends.files
         self.reader = threading.Thread(target=self._read, daemon=True)
         self.ticker = threading.Thread(target=self._tick, daemon=True)
         self._copy(b"srtpgw 1\n")
         self.reader.start()
-        self._probe("srtpgw 1", 0)
+        self._probe("srtpgw 1")
         self.answered.wait(patience)
-        if self.began is None:
+        if not self.starts:
             self.end(f"it didn't answer within {patience:g} s")
             self.reader.join(ENDING)
             raise self.gone or Gone(None, self.why)
-        self.age, self.taken = Age(), self._datagrams()
+        self.ready, self.taken = time.monotonic(), self._datagrams()
         self.ticker.start()
 
     def tell(self, *fields):
@@ -276,17 +280,20 @@ class Gateway:
         self.ending.set()
         self.ends.kill()
 
+    def due(self):
+        """When what is told now is due: behind the ticks that are written."""
+        return Due(self.began + self.last / 1000)
+
     def waited(self):
-        """How many seconds the oldest tick without an answer is over."""
+        """By how many seconds the oldest answer to a probe is late."""
         with contextlib.suppress(IndexError):
-            number, age = self.probes[0]
-            return max(0.0, age.seconds() - 2 * self.step)
+            return self.probes[0][1].late()
         return 0.0
 
     def turns_taken(self):
         """How many turns it has taken, at most: one for each datagram that it and other programs of its network
         namespace took, one for each 4 ms without one, and one for each tick."""
-        idle = (time.monotonic() - self.age.steady) / TURN
+        idle = (time.monotonic() - self.ready) / TURN
         return self._datagrams() - self.taken + round(idle) + self.ticks
 
     def overflows(self):
@@ -311,8 +318,8 @@ class Gateway:
             self.ends.lines.write(octets)
             self.ends.lines.flush()
 
-    def _probe(self, line, number):
-        self.probes.append((number, Age()))
+    def _probe(self, line):
+        self.probes.append((self.last, self.due()))
         self._write(f"{line}\nbye {PROBE}")
 
     def _read(self):
@@ -339,25 +346,28 @@ class Gateway:
     def _learn(self):
         """The answer behind `tick N` comes N milliseconds after the gateway's first reading of its clock, or later. So
         of several the earliest start is the nearest."""
-        number, _ = self.probes.popleft()
-        start = time.time() - number / 1000
-        self.starts.append(start)
+        number, due = self.probes.popleft()
+        self.starts.append(time.time() - number / 1000)
         self.began = min(self.starts)
-        self.late = start - self.began
-        self.worst = max(self.worst, self.late)
+        self._was_late(due.late())
         self.answered.set()
+
+    def _was_late(self, seconds):
+        self.late, self.worst = seconds, max(self.worst, seconds)
 
     def _tick(self):
         # By the clock that the gateway reads: after a jump of a steadier one its ticks would be over at once.
-        last = 0
         while not self.ending.is_set():
             ahead = round((time.time() - self.began + 2 * self.step) * 1000)
             # Where the clock was set back, the tick under way goes on until it is caught up.
-            if ahead > last:
-                last = ahead
-                self._probe(f"tick {ahead}", ahead)
+            if ahead > self.last:
+                self.last = ahead
+                self._probe(f"tick {ahead}")
                 self.ticks += 1
+            before = self.due()
             self.ending.wait(self.step)
+            # Where this thread itself comes late, no tick was there for a time.
+            self.worst = max(self.worst, before.late())
 
     def _datagrams(self):
         values = [line.split() for line in _network(self.pid, "snmp") if line.startswith("Udp:")]
