@@ -72,10 +72,10 @@ def is_held(folder):
 def new_keys(folder):
     """A telephone in Python offers new keys within the call, twice."""
     plain = []
-    bob = Telephone("fred", BOB, PROXY, lambda: plain.append(Media((HOST, 44_000))) or plain[0])
+    bob = Telephone("fred", BOB, PROXY, lambda: plain.append(Media((HOST, 26_000))) or plain[0])
     registers("fred", BOB, PROXY)
     alice = Telephone("gina", ALICE, PROXY)
-    media = Media((HOST, 44_010), master())
+    media = Media((HOST, 26_010), master())
     call = alice.calls("fred", media)
     there, back = speech(FOR, 11), speech(FOR, 12)
     threads = [threading.Thread(target=one.sends, args=(octets,)) for one, octets in ((media, there), (plain[0], back))]
@@ -89,7 +89,7 @@ def new_keys(folder):
         thread.join()
     time.sleep(0.5)
     good = same("to the plain side", there, plain[0].heard()) & same("to the secure side", back, media.heard())
-    print(f"under {len(media.openings)} keys of the gateway's in turn")
+    print(f"under {len(media.openings)} keys of the gateway's in turn, {len(media.early)} under none")
     ended = call.ends()
     wait_until(bob.came[0].ended.is_set, what="BYE at the far telephone")
     for one in (alice, bob, media, plain[0]):
@@ -108,7 +108,7 @@ def is_cancelled(folder):
     henry = Telephone("henry", BOB, PROXY)
     registers("henry", BOB, PROXY)
     alice = Telephone("iris", ALICE, PROXY)
-    media = Media((HOST, 44_020), master())
+    media = Media((HOST, 26_020), master())
     status = alice.call("henry", media).cancels()
     wait_until(henry.came[0].ended.is_set, what="CANCEL at the far telephone")
     print(f"the cancelled INVITE: {status}")
@@ -134,7 +134,7 @@ def forty(folder):
     sipp = echo(folder, AT_ONCE, 90)
     alice = Telephone("judy", ALICE, PROXY)
     suites = [suite for suite in SUITES if NAME == "srtpgw" or "192" not in suite]
-    media = [Media((HOST, 44_100 + 2 * place), master(suites[place % len(suites)])) for place in range(AT_ONCE)]
+    media = [Media((HOST, 26_100 + 2 * place), master(suites[place % len(suites)])) for place in range(AT_ONCE)]
     began = time.monotonic()
     calls = [alice.call("echo", one) for one in media]
     together(lambda call: call.offers(), calls)

@@ -119,7 +119,7 @@ class Caller:
 
     def __init__(self, phone):
         self.phone, self.lock = phone, threading.Lock()
-        self.ports = iter(range(30_000, 60_000, 2))
+        self.ports = iter(range(26_000, 32_000, 2))
         self.whole, self.broken, self.refused = [], [], []
         self.threads = []
 
@@ -193,7 +193,7 @@ def killed(caller, one, two, which):
     caller.ends()
     print(f"whole: {len(caller.whole)} ({by_gateway(caller.whole)}); not whole: {len(caller.broken)}"
           f" ({by_gateway(caller.broken)}), of which {sum(ended for *_, ended in caller.broken)} had BYE")
-    print(f"six new calls meanwhile: {len(later.whole)} whole ({by_gateway(later.whole)}),"
+    print(f"six new calls meanwhile: {len(later.whole)} whole ({by_gateway(later.whole)}), {len(later.broken)} not,"
           f" {len(later.refused)} refused")
     good = len(caller.whole) == before[1] and len(caller.broken) == before[0] and len(later.whole) == 6
     return good and not caller.refused and all(ended for *_, ended in caller.broken)

@@ -45,7 +45,9 @@ class Media:
         self.socket = socket.socket(socket.AF_INET, socket.SOCK_DGRAM)
         self.socket.setsockopt(socket.SOL_SOCKET, socket.SO_RCVBUF, 1 << 20)
         self.socket.bind(address)
-        self.openings, self.sealing, self.came, self.version = [], None, [], 0
+        self.openings, self.sealing, self.version = [], None, 0
+        # Payloads by sequence number, and what came under a key that the answer hadn't told yet.
+        self.came, self.early, self.lock = {}, [], threading.Lock()
         self.over = threading.Event()
         self.thread = threading.Thread(target=self.gathers, daemon=True)
         self.thread.start()
@@ -65,8 +67,12 @@ class Media:
         self.to = host, int(re.search(rb"(?m)^m=audio (\d+)", text)[1])
         if self.key:
             keys = list(crypto_of(padded(text).decode()).values())
-            if keys and (not self.openings or keys[0].octets != self.openings[0].master.octets):
-                self.openings.insert(0, Opening(keys[0]))
+            with self.lock:
+                if keys and (not self.openings or keys[0].octets != self.openings[0].master.octets):
+                    self.openings.insert(0, Opening(keys[0]))
+                early, self.early = self.early, []
+                for octets in early:
+                    self.takes(octets)
             if not self.sealing or self.sealing.master is not self.key:
                 self.sealing = Sealing(self.key)
 
@@ -91,15 +97,20 @@ class Media:
                 octets = self.socket.recv(4096)
             except OSError:
                 continue
-            packet = octets if not self.key else self.opens(octets)
-            if packet:
-                self.came.append(packet[12:])
+            with self.lock:
+                self.takes(octets)
 
-    def opens(self, octets):
-        return next(filter(None, (opening.open(octets) for opening in self.openings)), None)
+    def takes(self, octets):
+        packet = next(filter(None, (opening.open(octets) for opening in self.openings)), None) if self.key else octets
+        if packet:
+            self.came[int.from_bytes(packet[2:4], "big")] = packet[12:]
+        else:
+            self.early.append(octets)
 
     def heard(self):
-        return b"".join(self.came)
+        """The payloads by the order of their numbers, which don't pass 65535 here."""
+        with self.lock:
+            return b"".join(payload for _, payload in sorted(self.came.items()))
 
     def close(self):
         self.over.set()

@@ -25,7 +25,7 @@ COOKIE_MOST = 255
 DATAGRAM_MOST = 65_507
 # How many requests may wait for one of the workers, how many answers are kept, for how long, and of how many octets.
 WAITING_MOST, KEPT_MOST, KEPT_SECONDS, KEPT_OCTETS = 256, 10_000, 60, 16 << 20
-WORKERS = 16
+WORKERS = 64
 # What a server that doesn't know `load limit` takes for it.
 LIMIT_OF_OLD = "Parallel session limit reached"
 
