@@ -214,7 +214,7 @@ class Driver:
         if gateway.files is not None and gateway.files < FILES_MOST:
             self.warn(f"the gateway may open {gateway.files} files, and a full table needs {FILES_MOST}")
         if gateway.never_waits():
-            self.warn("the gateway's standard input never waits, which takes it half a processor")
+            self.warn("the gateway's standard input never waits (O_NONBLOCK), so it takes a processor that nobody else wants")
         for line in self.shared:
             gateway.tell(*line)
         return gateway

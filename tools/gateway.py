@@ -50,7 +50,8 @@ class Gone(Exception):
     of the system ended it; `said` is what it said on standard error."""
 
     def __init__(self, status, said):
-        super().__init__(f"{STATUSES.get(status, 'unknown')} ({status}): {said}")
+        ended = f"ended by signal {-status}" if status is not None and status < 0 else STATUSES.get(status, "unknown")
+        super().__init__(": ".join(filter(None, [f"{ended} ({status})", said])))
         self.status, self.said = status, said
 
 
