@@ -42,7 +42,6 @@ def kinds():
         row(name, report, key(master).srtcp(report, 0, bytes.fromhex(mki)))
     row("rtcp_clear", report, key("small").srtcp(report, 0, encrypts=False))
     row("rtcp_bare", rtcp(payload=b""), key("small").srtcp(rtcp(payload=b""), 0))
-    row("rtcp_last", report, key("small").srtcp(report, 2**31 - 1))
 
 
 def sides():

@@ -12,7 +12,7 @@ use Rattle.sg_base.specs.Fields.{number_at}
 use Rattle.sg_base.proofs.Decimals.{number_again}
 use Rattle.sg_base.proofs.FourNumbers.{decimal_lacks}
 use Rattle.sg_words.proofs.Among.{in_left, of_map}
-use Rattle.sg_words.proofs.Shapes.{IsDemoSeen, IsValue, are_written, demo_with, demo_without, relay_seen, relay_with, replay_seen, replay_with, replay_without, value_of}
+use Rattle.sg_words.proofs.Shapes.{IsDemoSeen, IsValue, are_written, demo_found_so, demo_with, demo_without, relay_seen, relay_with, replay_seen, replay_with, replay_without, value_of}
 use Rattle.sg_words.specs.Commands.{AreWordsOf, IsOneOf, IsWorkers, Text, Words, ended, with_option, with_workers}
 use Rattle.sg_words.specs.Grammar.{srtpgw}
 use Rattle.sg_words.specs.Reading.{are_ended, command_by, demo_by, first_said, have_option, no_fault, positive, relay_by, replay_by, text_in, workers_by}
@@ -87,9 +87,10 @@ demo_known rest n s w o b seen reads =
     let calls_read : positive 256 (decimal n) ≡ Some n = positive_known 256 n b.some b.few (omega arith) in
     let most : 18446744073709551615 < 10 ^ 64 = omega arith in
     let start_read : number_at 18446744073709551615 (decimal s) ≡ Some s = number_again 18446744073709551615 s (omega (arith, b.small)) most in
-    found_by (codes "demo" ∷ rest) (Demo n s w) (ap (λ x. x.0) seen.found)
-    (ap (λ (t : Option Text). demo_by rest t (text_in (codes "start") (codes "demo" ∷ rest)) (text_in (codes "workers") (codes "demo" ∷ rest))) (ap (λ x. x.1) seen.found)
-    ∙ ap₂ (λ (t u : Option Text). demo_by rest (Some (decimal n)) t u) (ap (λ x. x.2) seen.found) (ap (λ x. x.3) seen.found)
+    let found = demo_found_so rest ∙ seen.found in
+    found_by (codes "demo" ∷ rest) (Demo n s w) (ap (λ x. x.0) found)
+    (ap (λ (t : Option Text). demo_by rest t (text_in (codes "start") (codes "demo" ∷ rest)) (text_in (codes "workers") (codes "demo" ∷ rest))) (ap (λ x. x.1) found)
+    ∙ ap₂ (λ (t u : Option Text). demo_by rest (Some (decimal n)) t u) (ap (λ x. x.2) found) (ap (λ x. x.3) found)
     ∙ ap (option_and_then (λ (c : ℕ). option_and_then (λ (k : ℕ). option_map (λ (x : ℕ). Demo c k x) (workers_by rest (decimal n ∷ decimal s ∷ []) o)) (number_at 18446744073709551615 (decimal s)))) calls_read
     ∙ ap (option_and_then (λ (k : ℕ). option_map (λ (x : ℕ). Demo n k x) (workers_by rest (decimal n ∷ decimal s ∷ []) o))) start_read
     ∙ ap (option_map (λ (x : ℕ). Demo n s x)) (reads seen.written))

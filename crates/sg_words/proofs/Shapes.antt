@@ -1,8 +1,9 @@
 -- What clap takes and finds of each way to write a command, whatever its numbers are.
 use Rattle.std.proofs.Common.{◌≡◌, ◌⊎◌, ◌∙◌, ◌<◌, Bool, List, [], ◌∷◌, ◌++◌, codes, refl, sym, ap, subst, arith, inl, inr, true, false, Option, Some, None, take, length}
+use Rattle.std.specs.Prelude.{option_and_then}
 use Rattle.std.specs.Str.{bytes_eq}
 use Rattle.std.proofs.lemmas.Slice.Eq.{bytes_eq-Decides}
-use Rattle.clap.specs.Words.{Kinds, fault_of}
+use Rattle.clap.specs.Words.{Kinds, Row, fault_of, first_of, subcommand_of}
 use Rattle.clap.specs.Lexer.{long_of, short_of}
 use Rattle.clap.proofs.OnLiterals.{clap_on_literals}
 use Rattle.sg_base.specs.Fields.{Lacks}
@@ -51,9 +52,24 @@ relay_seen o rest = (fault_of srtpgw (codes "relay" ∷ rest), text_in (codes "t
 abbrev pub Found : Type 0
 Found = Kinds × Option Text × Option Text × Option Text
 
+-- the same, of the rows that clap found: computed from these once
+pub texts_found : Kinds → Option (Text × List Row) → Found
+texts_found faults None = (faults, None, None, None)
+texts_found faults (Some p) = (faults, first_of (codes "calls") p.1, first_of (codes "start") p.1, first_of (codes "workers") p.1)
+
 abbrev pub demo_found : Words → Found
-demo_found rest =
-    (fault_of srtpgw (codes "demo" ∷ rest), text_in (codes "calls") (codes "demo" ∷ rest), text_in (codes "start") (codes "demo" ∷ rest), text_in (codes "workers") (codes "demo" ∷ rest))
+demo_found rest = texts_found (fault_of srtpgw (codes "demo" ∷ rest)) (subcommand_of srtpgw (codes "demo" ∷ rest))
+
+texts_so : (faults : Kinds) (rows : Option (Text × List Row))
+    → (faults, option_and_then (λ p. first_of (codes "calls") p.1) rows, option_and_then (λ p. first_of (codes "start") p.1) rows, option_and_then (λ p. first_of (codes "workers") p.1) rows) ≡ texts_found faults rows
+unfolding texts_found
+texts_so faults None = refl
+texts_so faults (Some p) = refl
+
+-- they are the texts in the words
+pub demo_found_so : (rest : Words)
+    → (fault_of srtpgw (codes "demo" ∷ rest), text_in (codes "calls") (codes "demo" ∷ rest), text_in (codes "start") (codes "demo" ∷ rest), text_in (codes "workers") (codes "demo" ∷ rest)) ≡ demo_found rest
+demo_found_so rest = texts_so (fault_of srtpgw (codes "demo" ∷ rest)) (subcommand_of srtpgw (codes "demo" ∷ rest))
 
 -- and what is seen in its words: its two numbers are found too
 pub record IsDemoSeen (c s : Text) (o : Option Text) (rest : Words) : Type 0 where
@@ -101,7 +117,7 @@ relay_with v iv rest others (inr (inr (inr (inr o)))) = inr o
 -- the same of `demo` with its option: both numbers are found too
 pub demo_with : (c s v : Text) → IsValue c → IsValue s → IsValue v → (rest : Words) (others : List Words) → IsOneOf rest (with_option (codes "--workers") v (c ∷ s ∷ []) ++ others)
     → IsDemoSeen c s (Some v) rest ⊎ IsOneOf rest others
-unfolding clap_on_literals
+unfolding clap_on_literals texts_found
 demo_with c s v ic is iv rest others (inl e) =
     inl (subst (IsDemoSeen c s (Some v)) (sym e) (record {
       found = rw (ic.end, ic.long, ic.short, is.end, is.long, is.short) refl;
@@ -197,7 +213,7 @@ demo_with c s v ic is iv rest others (inr (inr (inr (inr (inr (inr (inr (inr (in
 -- and without it
 pub demo_without : (c s : Text) → IsValue c → IsValue s → (rest : Words) (others : List Words) → IsOneOf rest (ended (c ∷ s ∷ []) ++ others)
     → IsDemoSeen c s None rest ⊎ IsOneOf rest others
-unfolding clap_on_literals
+unfolding clap_on_literals texts_found
 demo_without c s ic is rest others (inl e) =
     inl (subst (IsDemoSeen c s None) (sym e) (record {
       found = rw (ic.end, ic.long, ic.short, is.end, is.long, is.short) refl;

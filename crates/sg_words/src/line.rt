@@ -78,17 +78,33 @@ fn with_replay<'a>(alloc: Global) -> Result<Command<'a>, AllocError>
 fn with_relay<'a>(alloc: Global) -> Result<Command<'a>, AllocError>
     ensures { IfOk result (λ c. app_of c ≡ with_subcommand (with_subcommand (new_app (codes "srtpgw")) grammar.replay.top) grammar.relay.top) }
 {
-    let command = with_replay(alloc)?;
     let relay = relay(alloc)?;
-    command.subcommand(relay)
+    match with_replay(alloc) {
+        Ok(command) => command.subcommand(relay),
+        Err(fault) => {
+            drop(relay);
+            Err(fault)
+        }
+    }
+}
+
+/// The same with `demo`, too.
+fn with_demo<'a>(alloc: Global) -> Result<Command<'a>, AllocError>
+    ensures { IfOk result (λ c. app_of c ≡ with_subcommand (with_subcommand (with_subcommand (new_app (codes "srtpgw")) grammar.replay.top) grammar.relay.top) grammar.demo.top) }
+{
+    let demo = demo(alloc)?;
+    match with_relay(alloc) {
+        Ok(command) => command.subcommand(demo),
+        Err(fault) => {
+            drop(demo);
+            Err(fault)
+        }
+    }
 }
 
 /// The whole command line.
 pub(crate) fn command_line<'a>(alloc: Global) -> Result<Command<'a>, AllocError>
     ensures { IfOk result (λ c. app_of c ≡ grammar.srtpgw) }
 {
-    let command = with_relay(alloc)?;
-    let demo = demo(alloc)?;
-    let command = command.subcommand(demo)?;
-    Ok(without_program(command))
+    Ok(without_program(with_demo(alloc)?))
 }
