@@ -45,8 +45,23 @@ NO_VALUES = (
     b"", b"i-0e", b"i03e", b"ie", b"i3", b"i+3e", b"5:spam", b"04:spam", b"-1:", b"4spam", b"l4:spam", b"d3:cowe",
     b"di3e3:mooe", b"d3:cow3:moo3:cow3:mooe", b"e", b"4:spami3e", b"x",
 )
-# Datagrams as Kamailio 5.6.3 sends them, a ping and an offer; only the text and the Call-ID are other ones.
-PING = b"777_1 d7:command4:pinge"
+# Datagrams of Kamailio 5.6.3 as they were captured: a ping, baresip's offer and SIPp's answer; the key is another one.
+PING = b"0_17582_0 d7:command4:pinge"
+OFFER = (
+    b"0_17584_0 d8:supportsl10:load limite3:sdp396:v=0\r\no=- 359279170 934334464 IN IP4 10.99.0.1\r\ns=-\r\n"
+    b"c=IN IP4 10.99.0.1\r\nt=0 0\r\na=tool:baresip 1.0.0\r\nm=audio 42004 RTP/SAVP 0 101\r\na=rtpmap:0 PCMU/8000\r\n"
+    b"a=rtpmap:101 telephone-event/8000\r\na=fmtp:101 0-15\r\na=sendrecv\r\na=label:1\r\na=rtcp-rsize\r\n"
+    b"a=ssrc:58050736 cname:sip:alice@127.0.0.1\r\n"
+    b"a=crypto:1 AES_CM_128_HMAC_SHA1_80 inline:AAECAwQFBgcICQoLDA0ODxAREhMUFRYXGBkaGxwd\r\na=minptime:20\r\n"
+    b"a=ptime:20\r\n3:ICE6:remove5:flagsl18:SIP-source-addresse7:replacel6:origin18:session-connectione"
+    b"18:transport-protocol7:RTP/AVP8:rtcp-muxl5:demuxe7:call-id16:f80697588c6f308a13:received-froml3:IP49:127.0.0.1e"
+    b"8:from-tag16:380d2bf4ccb3361f7:command5:offere")
+ANSWER = (
+    b"0_17587_0 d8:supportsl10:load limite3:sdp113:v=0\r\no=echo 1 1 IN IP4 127.0.0.1\r\ns=-\r\nc=IN IP4 127.0.0.1\r\n"
+    b"t=0 0\r\nm=audio 43000 RTP/AVP 0\r\na=rtpmap:0 PCMU/8000\r\n3:ICE6:remove5:flagsl18:SIP-source-addresse"
+    b"7:replacel6:origin18:session-connectione18:transport-protocol8:RTP/SAVP8:rtcp-muxl5:demuxe"
+    b"7:call-id16:f80697588c6f308a13:received-froml3:IP49:127.0.0.1e8:from-tag16:380d2bf4ccb3361f6:to-tag10:17624echo1"
+    b"7:command6:answere")
 
 
 def bencoded(value):
@@ -226,8 +241,6 @@ def values(_):
 def a_call(program):
     """Offered by either side, answered, with a packet, and deleted."""
     with running(program) as (daemon, server), sockets() as (at_secure, at_plain):
-        server.sends(PING)
-        assert server.takes() == b"777_1 d6:result4:ponge"
         to_plain, to_secure = call(server, "one")
         assert "c=IN IP4 127.0.0.1" in to_plain and not any("crypto" in line for line in to_plain), to_plain
         assert [line for line in to_plain if line.startswith("m=")] == [f"m=audio {port_of(to_plain)} RTP/AVP 0"]
@@ -247,6 +260,27 @@ def a_call(program):
         assert server.asks("statistics")[b"statistics"][b"currentstatistics"][b"sessionsown"] == 1
         ends(server, "two", daemon)
     return "two calls and a packet"
+
+
+def as_kamailio_asks(program):
+    """Its own datagrams: baresip's offer goes out plain, and SIPp's answer with a key."""
+    with running(program) as (_, server):
+        server.sends(PING)
+        assert server.takes() == b"0_17582_0 d6:result4:ponge"
+        server.sends(OFFER)
+        cookie, _, body = server.takes().partition(b" ")
+        lines = lines_of(bencode.decoded(body))
+        assert cookie == b"0_17584_0" and lines[1] == "o=- 359279170 934334464 IN IP4 127.0.0.1", lines
+        assert "m=audio 20002 RTP/AVP 0 101" in lines and not crypto_in(lines), lines
+        server.sends(ANSWER)
+        cookie, _, body = server.takes().partition(b" ")
+        lines = lines_of(bencode.decoded(body))
+        assert cookie == b"0_17587_0" and "m=audio 20000 RTP/SAVP 0" in lines and len(crypto_in(lines)) == 1, lines
+        asked = server.asks("query", call_id="f80697588c6f308a")
+        medium = asked[b"tags"][b"380d2bf4ccb3361f"][b"medias"][0][b"streams"][0]
+        assert medium[b"endpoint"] == {b"family": b"IPv4", b"address": HOST.encode(), b"port": 42_004}, medium
+        server.asks("delete", call_id="f80697588c6f308a")
+    return "a ping, an offer, an answer"
 
 
 def passes(at_plain, at_secure, port):
@@ -309,6 +343,10 @@ def flags(program):
         lines_of(server.offers("four", "a", best_effort, "RTP/AVP"))
         lines = lines_of(server.answers("four", "ab", plain()))
         assert "RTP/AVP" in lines[5] and any(line.startswith("a=crypto:1") for line in lines), lines
+        video = "m=video 4012 RTP/{}F 96"
+        lines_of(server.offers("six", "a", plain(video.format("AVP")), "RTP/SAVP"))
+        lines = lines_of(server.answers("six", "ab", secure(video.format("SAVP"), key())))
+        assert [line.split()[2] for line in lines if line.startswith("m=")] == ["RTP/AVP", "RTP/AVPF"], lines
         for wrong, said in NOT_DONE:
             asked = {"transport_protocol": "RTP/SAVP", "call_id": "five", "from_tag": "a", "sdp": plain(), **wrong}
             assert said in reason_of(server.asks("offer", **asked)), wrong
@@ -537,7 +575,10 @@ def daemon_dies(program):
     return "the call that was left is told"
 
 
-ALL = (values, a_call, cookies, flags, offers_again, refusals, hostile, drains, gateway_dies, daemon_dies)
+ALL = (
+    values, as_kamailio_asks, a_call, cookies, flags, offers_again, refusals, hostile, drains, gateway_dies,
+    daemon_dies,
+)
 
 
 def is_too_long(*_):

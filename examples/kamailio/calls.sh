@@ -6,6 +6,7 @@
 #   examples/kamailio/calls.sh               with ./srtpgw, or with the program that SRTPGW names
 #   examples/kamailio/calls.sh rtpengine     the same by rtpengine in the gateway's place
 #   examples/kamailio/calls.sh [..] SCENE..  some of its scenes
+#   STEP=0.02 examples/kamailio/calls.sh     with srtpgw-ng --step 0.02
 here=$(cd "$(dirname "${BASH_SOURCE[0]}")" && pwd)
 . "$here/needs.sh"
 needs kamailio kamailio

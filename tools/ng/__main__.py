@@ -47,8 +47,9 @@ def main():
 def begun(given, log, telling):
     """The book of a gateway that has been started, and which tells of what a daemon before it has left."""
     outcomes = open(given.outcomes, "wb") if given.outcomes else None
-    driver = Driver(given.program, restarts=True, warn=log, bounds=Bounds(**dict(given.bound)), log=outcomes)
-    kept = Kept(given.calls)
+    driver = Driver(given.program, restarts=True, warn=log, bounds=Bounds(**dict(given.bound)), log=outcomes,
+                    step=given.step)
+    kept = Kept(given.calls, log)
     for told in kept.left():
         log(f"{told.id[:128]!r} has ended with the daemon before this one")
         telling.tell(told, "gone")
@@ -109,6 +110,8 @@ def words():
                        help="keeps the dialogs that are there: where this daemon is killed, the next one tells of them")
     given.add_argument("--bound", type=bound, action="append", default=[], metavar="WHAT=NUMBER",
                        help=f"how much may be spent before it drains and begins anew: {', '.join(Bounds._fields)}")
+    given.add_argument("--step", type=float, default=0.1, metavar="SECONDS",
+                       help="how often the gateway is told to go on (0.1): an offer waits up to two of them")
     given.add_argument("--counters", action="store_true",
                        help="what `query` tells of packets is what nftables counts (docs/network.md); as root")
     given.add_argument("--outcomes", metavar="FILE", help="a log of outcomes for tools/watch.py, begun anew")

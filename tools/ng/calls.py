@@ -16,7 +16,7 @@ from driver import Refused
 from gateway import Gone
 from ng.request import Bad, PROFILES, text_of
 from ng.texts import (
-    NOWHERE, addressed, addresses, has_keys, holds, profile, profiled, secured, shown, without_suites,
+    NOWHERE, addressed, addresses, has_keys, holds, profile, profiled, profiles, secured, shown, without_suites,
 )
 
 FAR = {"secure": "plain", "plain": "secure"}
@@ -37,7 +37,7 @@ class Full(Bad):
 
 class Call:
     """One call of the gateway. `tags` has the side of each SIP tag; `said` a side's last accepted text, `given` the
-    gateway's last one for it, `wears` the profile that its texts have, `interface` the name of its interface."""
+    gateway's last one for it, `wears` the profiles that its texts have, `interface` the name of its interface."""
 
     def __init__(self, number, request):
         self.number, self.id, self.branch = number, request.call_id, request.branch
@@ -139,9 +139,9 @@ class Book:
     def remember(self, request, call, side):
         """Keeps what the offer told of the call beside its text."""
         call.tags[request.from_tag] = side
-        call.wears[side] = profile(request.sdp)
+        call.wears[side] = profiles(request.sdp)
         if request.transport:
-            call.wears[FAR[side]] = request.transport
+            call.wears[FAR[side]] = [request.transport] * len(call.wears[side])
         if len(request.direction) > 1:
             call.interface[side], call.interface[FAR[side]] = map(text_of, request.direction[:2])
         with self.lock:
@@ -202,7 +202,7 @@ class Book:
         """A text as this side is to see it."""
         named = self.interfaces.get(call.interface.get(side))
         address = request.media_address or named or self.addresses[side]
-        text = profiled(text, call.wears[side]) if call.wears.get(side) in PROFILES else text
+        text = profiled(text, call.wears.get(side, []))
         return shown(text, address, b"origin" in request.replace, nowhere)
 
     # ---- ends

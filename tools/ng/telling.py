@@ -37,9 +37,9 @@ class Telling:
         self.waiting.put((told, why))
 
     def close(self):
-        """Waits until all are told."""
+        """Waits until all are told, or some seconds."""
         self.waiting.put(None)
-        self.thread.join()
+        self.thread.join(2 * PATIENCE)
 
     def work(self):
         for told, why in iter(self.waiting.get, None):
@@ -62,8 +62,8 @@ class Telling:
 class Kept:
     """The dialogs of the calls that are there, in a file; in none where there is no path."""
 
-    def __init__(self, path=None):
-        self.path, self.lock = path, threading.Lock()
+    def __init__(self, path, log=print):
+        self.path, self.log, self.lock = path, log, threading.Lock()
 
     def left(self):
         """Those that a daemon before this one has left."""
@@ -77,7 +77,11 @@ class Kept:
         """Has the file say that these calls are there."""
         if not self.path:
             return
-        with self.lock:
-            with open(f"{self.path}.new", "w", encoding="utf-8") as file:
-                json.dump([dialog(call) for call in calls if call.live], file)
-            os.replace(f"{self.path}.new", self.path)
+        told = [dialog(call) for call in calls if call.live]
+        try:
+            with self.lock:
+                with open(f"{self.path}.new", "w", encoding="utf-8") as file:
+                    json.dump(told, file)
+                os.replace(f"{self.path}.new", self.path)
+        except OSError as fault:
+            self.log(f"the dialogs couldn't be kept: {fault}")

@@ -50,11 +50,20 @@ def addressed(text, source, known=None):
     return changed(text, change)
 
 
+def media(text):
+    """The words of its m= lines."""
+    return [part[0].split(b" ") for part in parts(text)[1:]]
+
+
+def profiles(text):
+    """The profile of each medium; none of a line that isn't whole."""
+    return [words[2] if len(words) >= 4 else b"" for words in media(text)]
+
+
 def profile(text):
     """The profile of the first medium that is active, or of the first one; none where it has no medium."""
-    media = [part[0].split(b" ") for part in parts(text)[1:]]
-    media = [words for words in media if len(words) >= 4]
-    active = [words for words in media if words[1] != b"0"] or media
+    whole = [words for words in media(text) if len(words) >= 4]
+    active = [words for words in whole if words[1] != b"0"] or whole
     return active[0][2] if active else b""
 
 
@@ -62,19 +71,18 @@ def has_keys(text):
     return any(line.startswith((b"a=crypto:", b"a=key-mgmt:")) for part in parts(text) for line in part)
 
 
-def profiled(text, proto):
-    """The text with its media of RTP in this profile."""
-    def change(line):
-        words = line.split(b" ")
-        if line.startswith(b"m=") and len(words) >= 4 and words[2] in PROFILES:
-            return b" ".join([*words[:2], proto, *words[3:]])
-        return line
-    return changed(text, change)
+def profiled(text, protos):
+    """The text with its media of RTP in these profiles, in their order."""
+    found = parts(text)
+    for part, words, proto in zip(found[1:], media(text), protos):
+        if len(words) >= 4 and words[2] in PROFILES and proto in PROFILES:
+            part[0] = b" ".join([*words[:2], proto, *words[3:]])
+    return printed(found)
 
 
 def secured(text):
     """The text of a telephone that encrypts though its profile doesn't say so, as the gateway takes it."""
-    return profiled(text, SECURED.get(profile(text), profile(text)))
+    return profiled(text, [SECURED.get(proto, proto) for proto in profiles(text)])
 
 
 def shown(text, address, replaces_origin, nowhere):
