@@ -188,7 +188,8 @@ def killed(caller, one, two, which):
         one.process.process.wait()
         one.begins()
     wait_until(lambda: sum(call.ended.is_set() for call in calls) >= before[0], 10, "BYE")
-    print(f"each of its calls had BYE within {time.monotonic() - since:.1f} s")
+    late = max(call.ended_at - since for call in calls if call.ended.is_set())
+    print(f"each of its calls had BYE within {late:.1f} s")
     later.ends()
     caller.ends()
     print(f"whole: {len(caller.whole)} ({by_gateway(caller.whole)}); not whole: {len(caller.broken)}"

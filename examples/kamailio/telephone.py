@@ -24,6 +24,8 @@ from ends import packets_of  # noqa: E402
 from sealed import MasterKey, Opening, Sealing, crypto_line, crypto_of, lines  # noqa: E402
 
 PATIENCE = 20
+# The number of a stream's first packet.
+FIRST = 1_000
 SUITES = {"AES_CM_128_HMAC_SHA1_80": 30, "AES_CM_128_HMAC_SHA1_32": 30, "AES_256_CM_HMAC_SHA1_80": 46,
           "AES_192_CM_HMAC_SHA1_80": 38}
 
@@ -52,12 +54,12 @@ class Media:
         self.thread = threading.Thread(target=self.gathers, daemon=True)
         self.thread.start()
 
-    def text(self, tag=b"1"):
+    def text(self, tag="1"):
         """Its session description; the version counts up."""
         self.version += 1
         host, port = self.address
         profile = "RTP/SAVP" if self.key else "RTP/AVP"
-        keyed = [crypto_line(tag.decode(), self.key)] if self.key else []
+        keyed = [crypto_line(tag, self.key)] if self.key else []
         return lines("v=0", f"o=user 1 {self.version} IN IP4 {host}", "s=-", f"c=IN IP4 {host}", "t=0 0",
                      f"m=audio {port} {profile} 0", "a=rtpmap:0 PCMU/8000", *keyed).encode()
 
@@ -76,14 +78,16 @@ class Media:
             if not self.sealing or self.sealing.master is not self.key:
                 self.sealing = Sealing(self.key)
 
-    def tag(self, text):
-        """The crypto line that it answers with: the first one of its suite."""
-        for tag, key in crypto_of(padded(text).decode()).items():
-            if self.key and key.suite == self.key.suite:
-                return tag.encode()
-        return b"1"
+    def answers(self, text):
+        """Its answer to a description: under a new key, of its own suite if that is offered, or else of the first."""
+        tag = "1"
+        if self.key:
+            offered = {key.suite: tag for tag, key in reversed(crypto_of(padded(text).decode()).items())}
+            suite = self.key.suite if self.key.suite in offered else list(offered)[-1]
+            self.key, tag = master(suite), offered[suite]
+        return self.text(tag)
 
-    def sends(self, octets, first=1_000):
+    def sends(self, octets, first=FIRST):
         """Sends octets of PCMU, 20 ms each packet, wherever the latest text says."""
         began = time.monotonic()
         for place, packet in enumerate(packets_of(octets, first)):
@@ -210,7 +214,8 @@ class Call:
         self.telephone, self.id, self.media = telephone, call_id, media
         self.uri, self.own, self.other = uri, f"{telephone.contact()};tag={os.urandom(4).hex()}", f"<{uri}>"
         self.routes, self.number, self.responses = [], 0, queue.Queue()
-        self.ended, self.waiting, self.acknowledged = threading.Event(), None, threading.Event()
+        # When the other one ended it, and an INVITE that rings.
+        self.ended, self.ended_at, self.waiting = threading.Event(), None, None
 
     # ---- what it asks
 
@@ -285,19 +290,15 @@ class Call:
         if not self.media:
             self.waiting = request
             return
-        if self.media.key and self.media.version:
-            self.media.key = master(self.media.key.suite)
-        text = self.media.text(self.media.tag(request.body))
-        self.replies(request, sender, "200 OK", text)
+        self.replies(request, sender, "200 OK", self.media.answers(request.body))
         self.media.agrees(request.body)
 
     def is_asked(self, request, sender):
         method = request.method()
         if method == "INVITE":
             self.is_invited(request, sender)
-        elif method == "ACK":
-            self.acknowledged.set()
         elif method in ("BYE", "CANCEL"):
+            self.ended_at = time.monotonic()
             self.replies(request, sender, "200 OK")
             if method == "CANCEL" and self.waiting:
                 self.replies(self.waiting, sender, "487 Request Terminated")
