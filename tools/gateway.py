@@ -240,7 +240,8 @@ class Gateway:
             self.end(f"it didn't answer within {patience:g} s")
             self.reader.join(ENDING)
             raise self.gone or Gone(None, self.why)
-        self.ready, self.taken = time.monotonic(), self._datagrams()
+        # That the first answer came late is no concern of the calls.
+        self.ready, self.taken, self.worst = time.monotonic(), self._datagrams(), 0.0
         self.ticker.start()
 
     def tell(self, *fields):
