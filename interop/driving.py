@@ -152,6 +152,15 @@ def is_there(pid):
     return False
 
 
+def refusal_of(signal, *words):
+    """The cause by which a signal is refused."""
+    try:
+        signal(*words)
+    except Refused as refused:
+        return str(refused)
+    return "none"
+
+
 def counts_from_the_start(program):
     """the first answer is late by"""
     for delay in DELAYS:
@@ -234,6 +243,11 @@ def calls_are_told_and_made_anew(program):
 
 def it_drains(program):
     """what is spent"""
+    for bounds in (Bounds(octets=100), Bounds(turns=1)):
+        with driving(program, bounds=bounds) as (driver, _, _):
+            driver.manual(1, SECURE, PLAIN, Key().field(), Key().field())
+            refused = refusal_of(driver.manual, 2, SECURE, PLAIN, Key().field(), Key().field())
+            require(refused == "State", f"a call behind {bounds} is refused by {refused}")
     with driving(program, restarts=True, bounds=Bounds(keys=3)) as (driver, _, ended):
         pid, call = driver.gateway.pid, Call(driver, 1)
         for number in (2, 3):
@@ -328,15 +342,6 @@ def sockets_overflow(program):
         for what in ("late", "full sockets"):
             require(any(what in line for line in warned), f"warned {warned}")
     return f"{lost} of {2 * PACKETS} were lost in front of a socket, and told, as is that turns ran late"
-
-
-def refusal_of(signal, *words):
-    """The cause by which a signal is refused."""
-    try:
-        signal(*words)
-    except Refused as refused:
-        return str(refused)
-    return "none"
 
 
 def telephones_have_their_ways(program):
