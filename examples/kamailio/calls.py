@@ -70,7 +70,7 @@ def is_held(folder):
 
 
 def new_keys(folder):
-    """A telephone in Python offers new keys within the call, twice; then the other one moves its media."""
+    """A telephone in Python offers new keys within the call, twice; through srtpgw the other one then moves its media."""
     plain = []
     bob = Telephone("fred", BOB, PROXY, lambda: plain.append(Media((HOST, 26_000))) or plain[0])
     registers("fred", BOB, PROXY)
@@ -87,9 +87,10 @@ def new_keys(folder):
     call.offers(master("AES_CM_128_HMAC_SHA1_32"))
     time.sleep(1.5)
     far = bob.came[0]
-    far.media = Media((HOST, 26_004))
-    far.media.came = plain[0].came
-    far.offers()
+    if NAME == "srtpgw":
+        far.media = Media((HOST, 26_004))
+        far.media.came = plain[0].came
+        far.offers()
     for thread in threads:
         thread.join()
     time.sleep(0.5)
@@ -98,7 +99,7 @@ def new_keys(folder):
     print(f"under {len(media.openings)} keys of the gateway's in turn, {len(media.early)} under none")
     ended = call.ends()
     wait_until(far.ended.is_set, what="BYE at the far telephone")
-    for one in (alice, bob, media, plain[0], far.media):
+    for one in {alice, bob, media, plain[0], far.media}:
         one.close()
     # rtpengine keeps its key where the suite stays.
     return good and ended == 200 and (len(media.openings) == 4 or NAME == "rtpengine")
@@ -138,6 +139,22 @@ def is_refused(alice, media):
     return False
 
 
+def is_answered_badly(folder):
+    """The called telephone answers without a key, so the gateway refuses its text: both have BYE behind the ACK."""
+    media = Media((HOST, 26_032), master())
+    media.text = lambda *_: Media.text(media).replace(b"a=crypto:1", b"a=crypto:none")
+    kate, louis = Telephone("kate", ALICE, PROXY, lambda: media), Telephone("louis", BOB, PROXY)
+    registers("kate", ALICE, PROXY)
+    own = Media((HOST, 26_030))
+    call = louis.calls("kate", own)
+    for one, name in ((call, "the caller"), (kate.came[0], "the called one")):
+        wait_until(one.ended.is_set, what=f"BYE at {name}")
+    print("both had BYE")
+    for one in (kate, louis, media, own):
+        one.close()
+    return True
+
+
 def forty(folder):
     """Forty calls at once of telephones that encrypt, in four suites, to SIPp."""
     sipp = echo(folder, AT_ONCE, 90)
@@ -170,8 +187,8 @@ def together(work, items):
         thread.join()
 
 
-SCENES = (calls_an_echo, is_called, is_held, new_keys, is_cancelled, forty)
 NAME = "rtpengine" if "rtpengine" in sys.argv[1:] else "srtpgw"
+SCENES = [calls_an_echo, is_called, is_held, new_keys, is_cancelled, *[is_answered_badly] * (NAME == "srtpgw"), forty]
 
 
 def version(*words):

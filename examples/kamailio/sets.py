@@ -231,11 +231,13 @@ def rolls(caller, one, two):
 
 
 def bounded(caller, one, two):
-    """One that may install 24 keys drains by itself each time that they are spent, and begins anew; no call is lost."""
+    """One that drains above ten keys does so by itself again and again, and begins anew; no call is lost."""
     for _ in range(60):
         caller.begins(2)
         time.sleep(0.25)
-    return no_call_lost(caller) and one.process.text().count("enough is spent") >= 1
+    good, drained = no_call_lost(caller), one.process.text().count("enough is spent")
+    print(f"it drained {drained} times")
+    return good and drained >= 2
 
 
 def no_call_lost(caller):
@@ -245,7 +247,7 @@ def no_call_lost(caller):
     return not caller.broken and not caller.refused and len(caller.whole) > 20
 
 
-SCENES = {kill_gateway: [], kill_daemon: [], rolls: [], bounded: ["--bound", "keys=24"]}
+SCENES = {kill_gateway: [], kill_daemon: [], rolls: [], bounded: ["--bound", "keys=10"]}
 
 
 def play(scene, words, phone, folder):

@@ -79,11 +79,11 @@ class Media:
                 self.sealing = Sealing(self.key)
 
     def answers(self, text):
-        """Its answer to a description: under a new key, of its own suite if that is offered, or else of the first."""
+        """Its answer to a description: under a new key, of its own suite if that is offered."""
         tag = "1"
         if self.key:
-            offered = {key.suite: tag for tag, key in reversed(crypto_of(padded(text).decode()).items())}
-            suite = self.key.suite if self.key.suite in offered else list(offered)[-1]
+            offered = {suite: tag for tag, suite in re.findall(r"(?m)^a=crypto:(\d+) (\S+)", text.decode())}
+            suite = next(suite for suite in (self.key.suite, *offered) if suite in offered and suite in SUITES)
             self.key, tag = master(suite), offered[suite]
         return self.text(tag)
 
