@@ -410,7 +410,7 @@ def branches(server):
     lines_of(server.answers("three", "ab", secure(), via_branch="y"))
     assert b"warning" not in server.asks("delete", call_id="three", from_tag="a", via_branch="x")
     assert b"warning" in server.asks("delete", call_id="three", from_tag="other")
-    assert b"warning" not in server.asks("delete", call_id="three", from_tag="b")
+    assert b"warning" not in server.asks("delete", call_id="three", from_tag="b", via_branch="of the BYE")
     assert server.asks("list")[b"calls"] == []
 
 

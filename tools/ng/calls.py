@@ -210,9 +210,17 @@ class Book:
     def delete(self, request):
         """Ends the call, or the branches that are named; a report of each, none where nothing fits."""
         request.needs("call_id")
-        calls = [call for call in self.by_id.get(request.call_id, []) if fits(call, request)]
+        calls = self.meant(request)
         self.counts["deleted"] += len(calls)
         return [self.ended(call, "deleted") for call in calls]
+
+    def meant(self, request):
+        """The calls of a deletion: those of the branch, or what is live where no call has it, as at a BYE."""
+        calls = [call for call in self.by_id.get(request.call_id, [])
+                 if not request.from_tag or request.from_tag in call.tags]
+        if not request.branch:
+            return calls
+        return [call for call in calls if call.branch == request.branch] or [call for call in calls if call.live]
 
     def ended(self, call, why):
         """Ends a call by a signal; its report."""
@@ -294,12 +302,6 @@ def taken(request, call, side):
     """The text as the gateway is to have it."""
     text = addressed(request.sdp, request.source(), call.known_address(side))
     return secured(text) if side == "secure" and has_keys(text) else text
-
-
-def fits(call, request):
-    """Whether a deletion means this call."""
-    return (not request.branch or call.branch == request.branch) and (
-        not request.from_tag or request.from_tag in call.tags)
 
 
 def in_words(report):
