@@ -33,6 +33,8 @@ from ng import bencode  # noqa: E402
 HOST, NG = "127.0.0.1", ("127.0.0.1", 2223)
 SECURE, PLAIN = (HOST, 4000), (HOST, 4010)
 ALL_SECONDS = 300
+# The calls that a gateway has at most (docs/formats.md).
+CALLS_MOST = 256
 SUITE = "AES_CM_128_HMAC_SHA1_80"
 
 # The examples of BEP 3, and values that differ from them by a rule of its text.
@@ -414,6 +416,28 @@ def branches(server):
     assert server.asks("list")[b"calls"] == []
 
 
+def side_by_side(program):
+    """A full table of calls offered at once has ports of its own for each; one more is for another gateway."""
+    with running(program) as (_, server):
+        answers = at_once(server, [{"command": "offer", "call-id": f"call {number}", "from-tag": "a", "sdp": plain(),
+                                    "transport-protocol": "RTP/SAVP"} for number in range(CALLS_MOST)])
+        ports = {port_of(lines_of(answer)) for answer in answers}
+        assert ports == {20_000 + 16 * slot for slot in range(CALLS_MOST)}, len(ports)
+        asked = server.offers("one more", "a", plain(), "RTP/SAVP", supports=["load limit"])
+        assert asked[b"result"] == b"load limit" and sentence("TableFull") in asked[b"message"].decode(), asked
+        at_once(server, [{"command": "delete", "call-id": f"call {number}"} for number in range(CALLS_MOST)])
+        assert server.asks("list")[b"calls"] == []
+    return f"{CALLS_MOST} calls at once, and one too many"
+
+
+def at_once(server, messages):
+    """The answers to requests that are sent without waiting for any."""
+    for number, message in enumerate(messages):
+        server.sends(f"{message['command']}_{number} ".encode() + bencoded(message))
+    answers = (server.takes().partition(b" ")[2] for _ in messages)
+    return [bencode.decoded(answer) for answer in answers]
+
+
 def refusals(program):
     """A refused text is told by the page's sentence, in the answer and in the log."""
     with running(program) as (daemon, server):
@@ -550,9 +574,10 @@ def gateway_dies(program):
             assert time.monotonic() < end, "no next gateway"
             time.sleep(0.2)
         assert server.asks("list")[b"calls"] == [b"three"]
-        server.asks("delete", call_id="three")
+        lines_of(server.answers("three", "ab", secure()))
+    assert Kamailio.told[2:] == [["dlg.terminate_dlg", "three", "a", "b"]], Kamailio.told
     place.shutdown()
-    return "two calls told, and the next call by the next process"
+    return "two calls told, the next call by the next process, and told where the daemon ends"
 
 
 def daemon_dies(program):
@@ -576,8 +601,8 @@ def daemon_dies(program):
 
 
 ALL = (
-    values, as_kamailio_asks, a_call, cookies, flags, offers_again, refusals, hostile, drains, gateway_dies,
-    daemon_dies,
+    values, as_kamailio_asks, a_call, cookies, flags, offers_again, side_by_side, refusals, hostile, drains,
+    gateway_dies, daemon_dies,
 )
 
 
