@@ -70,7 +70,7 @@ def is_held(folder):
 
 
 def new_keys(folder):
-    """A telephone in Python offers new keys within the call, twice; through srtpgw the other one then moves its media."""
+    """A telephone in Python offers new keys within the call, twice; by srtpgw the other one then moves its media."""
     plain = []
     bob = Telephone("fred", BOB, PROXY, lambda: plain.append(Media((HOST, 26_000))) or plain[0])
     registers("fred", BOB, PROXY)
@@ -139,6 +139,31 @@ def is_refused(alice, media):
     return False
 
 
+def has_early_media(folder):
+    """The called telephone answers by 183 first, and talks before it is picked up."""
+    plain, media, back = [], Media((HOST, 26_042), master()), speech(3, 21)
+    mary = Telephone("mary", BOB, PROXY, lambda: plain.append(Media((HOST, 26_040))) or plain[0], early=2)
+    registers("mary", BOB, PROXY)
+    nick = Telephone("nick", ALICE, PROXY)
+
+    def talks():
+        wait_until(lambda: plain and plain[0].to, what="the 183")
+        time.sleep(0.5)
+        plain[0].sends(back)
+    thread = threading.Thread(target=talks)
+    thread.start()
+    call = nick.calls("mary", media)
+    early = len(media.came)
+    thread.join()
+    time.sleep(0.5)
+    good = arrived("to the secure side", back, media, 0) and early > 25
+    print(f"{early} of them before it was picked up")
+    call.ends()
+    for one in (mary, nick, media, plain[0]):
+        one.close()
+    return good
+
+
 def is_answered_badly(folder):
     """The called telephone answers without a key, so the gateway refuses its text: both have BYE behind the ACK."""
     media = Media((HOST, 26_032), master())
@@ -188,7 +213,8 @@ def together(work, items):
 
 
 NAME = "rtpengine" if "rtpengine" in sys.argv[1:] else "srtpgw"
-SCENES = [calls_an_echo, is_called, is_held, new_keys, is_cancelled, *[is_answered_badly] * (NAME == "srtpgw"), forty]
+SCENES = [calls_an_echo, is_called, is_held, new_keys, has_early_media, is_cancelled]
+SCENES += [is_answered_badly] * (NAME == "srtpgw") + [forty]
 
 
 def version(*words):

@@ -146,12 +146,12 @@ class Message:
 
 class Telephone:
     """A telephone at one address, of any number of calls. `answers` makes the media of a call that comes; with none it
-    rings for ever."""
+    rings for ever. It answers at once, or so many seconds behind a 183 with the same text."""
 
     numbers = itertools.count(1)
 
-    def __init__(self, name, address, proxy, answers=None):
-        self.name, self.address, self.proxy, self.answers = name, address, proxy, answers
+    def __init__(self, name, address, proxy, answers=None, early=0):
+        self.name, self.address, self.proxy, self.answers, self.early = name, address, proxy, answers, early
         self.by_id, self.came, self.over = {}, [], threading.Event()
         self.socket = socket.socket(socket.AF_INET, socket.SOCK_DGRAM)
         self.socket.bind(address)
@@ -234,6 +234,8 @@ class Call:
         end = time.monotonic() + seconds
         while True:
             response = self.responses.get(timeout=max(0.01, end - time.monotonic()))
+            if response.status() == 183:
+                self.media.agrees(response.body)
             if response.status() >= 200 and response.get("cseq") == f"{self.number} {method}":
                 return response
 
@@ -290,7 +292,12 @@ class Call:
         if not self.media:
             self.waiting = request
             return
-        self.replies(request, sender, "200 OK", self.media.answers(request.body))
+        text = self.media.answers(request.body)
+        if self.telephone.early:
+            self.replies(request, sender, "183 Session Progress", text)
+            self.media.agrees(request.body)
+            time.sleep(self.telephone.early)
+        self.replies(request, sender, "200 OK", text)
         self.media.agrees(request.body)
 
     def is_asked(self, request, sender):
