@@ -129,7 +129,7 @@ class Daemon:
         self.begins = threading.Event()
         self.reader = threading.Thread(target=self.reads, daemon=True)
         self.reader.start()
-        assert self.begins.wait(20), f"the daemon does not begin: {self.process.poll()}"
+        assert self.begins.wait(60), f"the daemon does not begin: {self.process.poll()}"
 
     def reads(self):
         for line in self.process.stdout:

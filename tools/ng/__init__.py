@@ -1,1 +1,1 @@
-"""rtpengine's NG protocol before a gateway: see docs/kamailio.md, and `__main__.py` for the program."""
+"""rtpengine's NG protocol for a gateway: see docs/kamailio.md, and `__main__.py` for the program."""

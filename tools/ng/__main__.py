@@ -95,7 +95,7 @@ class Log:
 
 def words():
     given = argparse.ArgumentParser(
-        prog="srtpgw-ng", description="rtpengine's NG protocol before srtpgw; SIGUSR1 drains it, SIGTERM ends it")
+        prog="srtpgw-ng", description="rtpengine's NG protocol for srtpgw; SIGUSR1 drains it, SIGTERM ends it")
     given.add_argument("--listen", type=address, default=("127.0.0.1", 2223), metavar="HOST:PORT",
                        help="where NG requests come (127.0.0.1:2223); whoever reaches it has the gateway obey")
     given.add_argument("--secure", type=host, default=b"127.0.0.1", metavar="ADDRESS",
