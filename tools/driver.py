@@ -340,6 +340,7 @@ class Driver:
         self.seen = now
         if lost:
             self.overflows.update(lost)
-            self.warn(f"datagrams were lost in front of full sockets, by port: {lost}")
+            port, most = max(lost.items(), key=lambda item: item[1])
+            self.warn(f"{sum(lost.values())} datagrams were lost before full sockets of {len(lost)} ports, {most} at port {port}")
         if not self.gone:
             self._drain_if_spent()
