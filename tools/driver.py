@@ -31,6 +31,8 @@ __all__ = ["Bounds", "Driver", "Fifos", "Gone", "Program", "Refused", "Taken"]
 Bounds = collections.namedtuple("Bounds", "keys octets messages turns", defaults=[57_344, 7 * 2**27, 896, None])
 # The seconds between two looks at the gateway, and between two at the system's tables.
 LOOK, LOOK_AROUND = 0.5, 5.0
+# The seconds between two starts.
+AGAIN = 1.0
 # Signals that may make a call.
 NEW = {"offer-secure", "offer-plain", "manual"}
 # What is answered only where it is refused is followed by the end of call 0, which isn't there: that is always answered.
@@ -203,7 +205,7 @@ class Driver:
         bounds = self.bounds._replace(turns=self.bounds.turns or gateway.turns * 7 // 8)
         over = [f"{name}, {count} of {most}" for name, count, most in zip(Bounds._fields, spent, bounds) if count > most]
         if over and not self.draining:
-            self.warn(f"new calls are refused from now on, since enough is spent of {'; '.join(over)}")
+            self._warn(f"new calls are refused from now on, since enough is spent of {'; '.join(over)}")
             self.drain()
 
     # ---- outcomes
@@ -212,9 +214,9 @@ class Driver:
         """A process that is ready to be told signals."""
         gateway = Gateway(self.opener, **self.options)
         if gateway.files is not None and gateway.files < FILES_MOST:
-            self.warn(f"the gateway may open {gateway.files} files, and a full table needs {FILES_MOST}")
+            self._warn(f"the gateway may open {gateway.files} files, and a full table needs {FILES_MOST}")
         if gateway.never_waits():
-            self.warn("the gateway's standard input never waits (O_NONBLOCK), so it takes a processor that nobody else wants")
+            self._warn("the gateway's standard input never waits (O_NONBLOCK), so it takes a processor that nobody else wants")
         for line in self.shared:
             gateway.tell(*line)
         return gateway
@@ -279,18 +281,20 @@ class Driver:
             signal.result.set_exception(gone)
         if not self.over.is_set():
             if gone.status != 0 or calls:
-                self.warn(f"the gateway has ended, and {len(calls)} calls with it: {gone}")
+                self._warn(f"the gateway has ended, and {len(calls)} calls with it: {gone}")
             for call in calls:
                 self.notices.put((call, "gone"))
 
     def _restarted(self):
-        """Starts the next process, where one is to follow, and tries again each second."""
+        """Starts the next process, where one is to follow, no more than one each second."""
+        if time.monotonic() - self.gateway.ready < AGAIN:
+            self.over.wait(AGAIN)
         while self.restarts and not self.over.is_set():
             try:
                 gateway = self._started()
             except (Gone, Taken, OSError) as fault:
-                self.warn(f"the gateway can't be started: {fault}")
-                self.over.wait(1)
+                self._warn(f"the gateway can't be started: {fault}")
+                self.over.wait(AGAIN)
                 continue
             with self.lock:
                 self.gateway, self.gone, self.draining = gateway, None, False
@@ -299,6 +303,11 @@ class Driver:
             # `close` may have ended the one before.
             return not self.over.is_set() or gateway.close() and False
         return False
+
+    def _warn(self, text):
+        # Who can't be told mustn't end the thread that tells.
+        with contextlib.suppress(Exception):
+            self.warn(text)
 
     # ---- threads
 
@@ -311,7 +320,7 @@ class Driver:
             try:
                 self.on_end(*notice)
             except Exception as fault:
-                self.warn(f"on_end of call {notice[0]} ({notice[1]}): {type(fault).__name__}: {fault}")
+                self._warn(f"on_end of call {notice[0]} ({notice[1]}): {type(fault).__name__}: {fault}")
 
     def _watch(self):
         """Ends a process that doesn't answer, and looks at what an operator should know."""
@@ -332,7 +341,7 @@ class Driver:
     def _look_around(self, gateway):
         late, gateway.worst = gateway.worst, 0.0
         if late > 2 * gateway.step:
-            self.warn(f"the gateway's turns ran late, by {1000 * late:.0f} ms: give it a higher priority, or less to do")
+            self._warn(f"the gateway's turns ran late, by {1000 * late:.0f} ms: give it a higher priority, or less to do")
         now = gateway.overflows()
         lost = {port: count - self.seen.get(port, 0) for port, count in now.items()}
         # A port that was given up and taken again counts from 0.
@@ -341,6 +350,6 @@ class Driver:
         if lost:
             self.overflows.update(lost)
             port, most = max(lost.items(), key=lambda item: item[1])
-            self.warn(f"{sum(lost.values())} datagrams were lost before full sockets of {len(lost)} ports, {most} at port {port}")
+            self._warn(f"{sum(lost.values())} datagrams were lost before full sockets of {len(lost)} ports, {most} at port {port}")
         if not self.gone:
             self._drain_if_spent()
