@@ -105,7 +105,8 @@ abbrev pub stays : Call → Session → Bool
 stays c s = is_opening s && is_current c s
 
 -- the call with one generation more
-record IsRenewed (c d : Call) : Type 0 where
+record IsRenewed (now : ℕ) (c d : Call) : Type 0 where
+  moment : d.moment ≡ now
   serial : d.serial ≡ c.serial
   id : d.id ≡ c.id
   generations : d.generations ≡ c.generations + 1
@@ -113,12 +114,12 @@ record IsRenewed (c d : Call) : Type 0 where
   news : List Session
   sessions : d.sessions ≡ news ++ filter (stays c) c.sessions
 
-renews : (now : ℕ) (books : Books) (c : Call) (noise text : List ℕ) (o : Option Offer) (r : Settled) → answered_to now books c noise text o ≡ Ok r → IsRenewed c r.call
+renews : (now : ℕ) (books : Books) (c : Call) (noise text : List ℕ) (o : Option Offer) (r : Settled) → answered_to now books c noise text o ≡ Ok r → IsRenewed now c r.call
 renews now books c noise text None r e = absurd cc
 renews now books c noise text (Some o) r e =
     let a = after_ok_is (agreed_answer c.slot o noise text) (λ a. keyed now books c a.text a.media) r e in
     let b = after_ok_is (generation_of c.serial c.generations books.ring a.0.media) _ r a.2 in
-    subst (λ (r : Settled). IsRenewed c r.call) (ok_is _ r b.2) (record { serial = refl; id = refl; generations = refl; offer = refl; news = b.0.sessions; sessions = refl })
+    subst (λ (r : Settled). IsRenewed now c r.call) (ok_is _ r b.2) (record { moment = refl; serial = refl; id = refl; generations = refl; offer = refl; news = b.0.sessions; sessions = refl })
 
 module _ {X : Type 0} where
   -- what passes a test stays
@@ -137,21 +138,21 @@ module _ {X : Type 0} where
   contains : (x : X) (xs : List X) → Any (λ y. y ≡ x) xs → Contains xs x
   contains x xs a = (a.0, a.2, subst (λ (y : X). get_or xs a.0 y ≡ y) a.4 a.3)
 
-kept_behind : (c d : Call) → IsRenewed c d
+kept_behind : (now : ℕ) (c d : Call) → IsRenewed now c d
     → AllByRecursion (λ s. s.name.owner.direction ≡ Opening → s.name.owner.generation + 1 ≡ c.generations → Contains d.sessions s) c.sessions
-kept_behind c d is = each_weaker (λ s. stays c s ≡ true → Any (λ y. y ≡ s) (filter (stays c) c.sessions)) _
+kept_behind now c d is = each_weaker (λ s. stays c s ≡ true → Any (λ y. y ≡ s) (filter (stays c) c.sessions)) _
     (λ s h opening current. contains s d.sessions (subst (λ (l : List Session). Any (λ y. y ≡ s) l) (sym is.sessions)
     (any_behind (λ y. y ≡ s) is.news (filter (stays c) c.sessions) (h (and_from _ _ (ap (λ x. same_direction x Opening) opening) (eq-eqb _ _ current))))))
     c.sessions (stays_in (stays c) c.sessions)
 
 module _ (w : World) (id : CallId) (noise text : List ℕ) (c : Call) (is : call_of w id ≡ Some c) where
   -- the call that is put in its place is found again
-  found_again : (r : Settled) → IsRenewed c r.call → call_of (record w { calls = with_call r.call w.calls; books = r.books }) id ≡ Some r.call
+  found_again : (r : Settled) → IsRenewed w.moment c r.call → call_of (record w { calls = with_call r.call w.calls; books = r.books }) id ≡ Some r.call
   found_again r new = found_with id c r.call w.calls new.serial (subst (λ i. same_id i id ≡ true) (sym new.id) (id_found id c w.calls is)) is
 
   abbrev Renews : Option Call → Type 0
   Renews o = ¬ Any IsRefusal (answered w id noise text o).outcomes
-      → (d : Call) × (call_of (answered w id noise text o).world id ≡ Some d) × (d.generations ≡ c.generations + 1) × (d.offer ≡ None)
+      → (d : Call) × (call_of (answered w id noise text o).world id ≡ Some d) × (d.generations ≡ c.generations + 1) × (d.offer ≡ None) × (d.moment ≡ w.moment)
 
   abbrev KeepsEarlier : Option Call → Type 0
   KeepsEarlier o = (d : Call) → call_of (answered w id noise text o).world id ≡ Some d → d.generations ≡ c.generations + 1
@@ -161,7 +162,7 @@ module _ (w : World) (id : CallId) (noise text : List ℕ) (c : Call) (is : call
   of_call = go (answered_in w.moment w.books c noise text) refl
     where
       go : (q : Result Settled Refusal) → answered_in w.moment w.books c noise text ≡ q
-          → (¬ Any IsRefusal (in_old w id (tells_answer id (offering_side c.offer)) q).outcomes → (d : Call) × (call_of (in_old w id (tells_answer id (offering_side c.offer)) q).world id ≡ Some d) × (d.generations ≡ c.generations + 1) × (d.offer ≡ None))
+          → (¬ Any IsRefusal (in_old w id (tells_answer id (offering_side c.offer)) q).outcomes → (d : Call) × (call_of (in_old w id (tells_answer id (offering_side c.offer)) q).world id ≡ Some d) × (d.generations ≡ c.generations + 1) × (d.offer ≡ None) × (d.moment ≡ w.moment))
           × ((d : Call) → call_of (in_old w id (tells_answer id (offering_side c.offer)) q).world id ≡ Some d → d.generations ≡ c.generations + 1
           → AllByRecursion (λ s. s.name.owner.direction ≡ Opening → s.name.owner.generation + 1 ≡ c.generations → Contains d.sessions s) c.sessions)
       go (Err cause) e = (
@@ -170,9 +171,9 @@ module _ (w : World) (id : CallId) (noise text : List ℕ) (c : Call) (is : call
       )
       go (Ok r) e =
           let new = renews w.moment w.books c noise text c.offer r e in (
-            λ free. (r.call, found_again r new, new.generations, new.offer),
+            λ free. (r.call, found_again r new, new.generations, new.offer, new.moment),
             λ d at more. subst (λ (d : Call). AllByRecursion (λ s. s.name.owner.direction ≡ Opening → s.name.owner.generation + 1 ≡ c.generations → Contains d.sessions s) c.sessions)
-                (some_is r.call d (sym (found_again r new) ∙ at)) (kept_behind c r.call new),
+                (some_is r.call d (sym (found_again r new) ∙ at)) (kept_behind w.moment c r.call new),
           )
 
   pub answer_renews : Renews (call_of w id)
@@ -184,7 +185,7 @@ module _ (w : World) (id : CallId) (noise text : List ℕ) (c : Call) (is : call
 -- ---- what a tick leaves
 
 module _ {X : Type 0} where
-  any_mapped : {Y : Type 0} (P : Y → Type 0) (f : X → Y) (x : X) (xs : List X) → P (f x) → Any (λ y. y ≡ x) xs → Any P (map f xs)
+  pub any_mapped : {Y : Type 0} (P : Y → Type 0) (f : X → Y) (x : X) (xs : List X) → P (f x) → Any (λ y. y ≡ x) xs → Any P (map f xs)
   any_mapped P f x [] p a = absurd (any_none (λ y. y ≡ x) a)
   any_mapped P f x (y ∷ ys) p a = go (any_mapped P f x ys p) (any_cases (λ z. z ≡ x) y ys a)
     where

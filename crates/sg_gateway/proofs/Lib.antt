@@ -1,5 +1,8 @@
+pub mod Addressed
 pub mod Agreements
 pub mod Arrivals
+pub mod Authentic
+pub mod Between
 pub mod CallList
 pub mod Came
 pub mod CarriedOut
@@ -11,6 +14,7 @@ pub mod Found
 pub mod Freed
 pub mod GoesOut
 pub mod Growth
+pub mod Heard
 pub mod Highest
 pub mod InTurn
 pub mod Kept
@@ -45,3 +49,4 @@ pub mod Taken
 pub mod ToldInWorld
 pub mod UnderBlocks
 pub mod Used
+pub mod WholeTags

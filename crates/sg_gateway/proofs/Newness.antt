@@ -1,5 +1,5 @@
 -- An index is new by what is done exactly where it is by the replay list.
-use Rattle.std.proofs.Common.{◌≡◌, ℕ, ◌+◌, ◌<◌, Bool, true, false, cond, ◌||◌, List, [], ◌∷◌, Option, Some, None, max, refl, sym, arith, eqb, leb, eq-eqb}
+use Rattle.std.proofs.Common.{◌≡◌, ℕ, ◌+◌, ◌<◌, Bool, true, false, cond, ◌||◌, List, [], ◌∷◌, Option, Some, None, refl, sym, arith, eqb, eq-eqb}
 use Rattle.std.proofs.lemmas.Bool.{ne_eqb, eqb-true, eqb-false, false≢true, leb-false, lt-leb, lt-ltb}
 use Rattle.std.specs.List.{AllByRecursion}
 use Rattle.sg_replay.specs.Freshness.{highest_of, highest_with, is_behind, is_in}

@@ -1,7 +1,7 @@
 -- What is sealed is, behind its head, under the blocks that its entry says.
-use Rattle.std.proofs.Common.{◌≡◌, ℕ, ◌+◌, ◌-◌, ◌<◌, ◌≤◌, ◌/◌, ◌%◌, Bool, true, List, [], ◌∷◌, ◌++◌, bit_xor, length, slice_index, take, drop, refl, sym, ap, ◌∙◌, subst, arith, length-append}
+use Rattle.std.proofs.Common.{◌≡◌, ℕ, ◌+◌, ◌-◌, ◌<◌, ◌/◌, ◌%◌, true, List, [], ◌∷◌, ◌++◌, bit_xor, length, slice_index, take, drop, sym, ap, ◌∙◌, subst, arith, length-append}
 use Rattle.std.proofs.lemmas.List.{get_or-append_right, get_or_append_left, get_or-drop, length-take-le, length-drop}
-use Rattle.std.specs.List.{All, AllByRecursion, Any}
+use Rattle.std.specs.List.{Any}
 use Rattle.sg_base.specs.Octets.{xor_octets}
 use Rattle.sg_base.specs.declared.addresses.Address.{Address}
 use Rattle.sg_base.specs.declared.addresses.Kind.{Kind}
@@ -10,19 +10,16 @@ use Rattle.sg_base.specs.declared.keys.HalfKeys.{HalfKeys}
 use Rattle.sg_ctr.proofs.StreamLemmas.{length-keystream, octet_of_keystream, octet_of_xor}
 use Rattle.sg_ctr.specs.Keystream.{counter_value, key_block, keystream}
 use Rattle.sg_kdf.specs.SessionKeys.{session_keys}
-use Rattle.sg_outcome.specs.declared.outcomes.Outcome.{Outcome}
 use Rattle.sg_outcome.specs.declared.outcomes.Outcome.TheVariants.{Out}
 use Rattle.sg_session.proofs.Texts.{length-crypted}
 use Rattle.sg_session.specs.Halves.{half_of}
-use Rattle.sg_session.specs.Reach.{Sealed, choice_of, text_in}
+use Rattle.sg_session.specs.Reach.{choice_of, text_in}
 use Rattle.sg_session.specs.Sealed.{crypted, head_size, index_word, rtcp_tag, rtp_tag, sealed_text}
 use Rattle.sg_session.specs.Session.{Session}
-use Rattle.sg_session.specs.declared.names.Direction.TheVariants.{Sealing}
 use Rattle.sg_gateway.specs.Datagrams.{Entry}
 use Rattle.sg_gateway.specs.Runs.{Turn}
 use Rattle.sg_gateway.specs.SealedOut.{IsSealedOutOf, sealed_by}
 use Rattle.sg_gateway.specs.Used.{IsUnderItsBlocks}
-use Rattle.sg_gateway.specs.World.{Call}
 
 -- an octet that the keystream stands on is one of the blocks
 module _ (half : HalfKeys) (ssrc index size : ℕ) (p : List ℕ) where

@@ -46,11 +46,12 @@ RejectionCloses t = (id : CallId) (c : Call) → t.event ≡ Signalled (Reject i
 abbrev pub RejectionsClose : List Event → Type 0
 RejectionsClose events = All RejectionCloses (turns events)
 
--- after an answer that isn't refused the call is there with one generation more, and no offer of it is open
+-- after an answer that isn't refused the call is there with one generation more and no open offer, and this moment is
+-- its own
 abbrev pub AnswerRenews : Turn → Type 0
 AnswerRenews t =
     (id : CallId) (noise text : List ℕ) (c : Call) → t.event ≡ Signalled (Answered id noise text) → call_of t.before id ≡ Some c → ¬ IsRefused t
-    → (d : Call) × (call_of (after_turn t) id ≡ Some d) × (d.generations ≡ c.generations + 1) × (d.offer ≡ None)
+    → (d : Call) × (call_of (after_turn t) id ≡ Some d) × (d.generations ≡ c.generations + 1) × (d.offer ≡ None) × (d.moment ≡ t.before.moment)
 
 abbrev pub AnswersRenew : List Event → Type 0
 AnswersRenew events = All AnswerRenews (turns events)

@@ -1,4 +1,6 @@
+pub mod Addressed
 pub mod Arriving
+pub mod Authentic
 pub mod Batch
 pub mod Busy
 pub mod CallSignals
@@ -31,6 +33,7 @@ pub mod SealedOut
 pub mod Served
 pub mod Signals
 pub mod Step
+pub mod Tags
 pub mod Taken
 pub mod Twice
 pub mod Unforged

@@ -7,7 +7,6 @@ use Rattle.sg_agreement.specs.Offers.{AgreedOffer, agreed_offer}
 use Rattle.sg_agreement.specs.Sides.{side_of, other_side}
 use Rattle.sg_agreement.specs.declared.ways.Way.{Way}
 use Rattle.sg_base.specs.declared.addresses.CallId.{CallId}
-use Rattle.sg_outcome.specs.declared.outcomes.Outcome.{Outcome}
 use Rattle.sg_outcome.specs.declared.outcomes.Outcome.TheVariants.{Made, Live, Sdp}
 use Rattle.sg_gateway.specs.CallSignals.{at_hand}
 use Rattle.sg_gateway.specs.Runs.{Turn, turns, after_turn}
@@ -19,12 +18,13 @@ use Rattle.sg_gateway.specs.World.{Call, World, call_of}
 abbrev pub IsAgreed : World → Call → Way → List ℕ → List ℕ → AgreedOffer → Type 0
 IsAgreed w c way noise text a = agreed_offer (at_hand w.moment w.books c noise) way text ≡ Ok a
 
--- the call of this id has so many generations, and this offer is open
+-- the call of this id has so many generations, this offer is open, and the world's moment is the call's own
 pub record HasOpen (w : World) (id : CallId) (generations : ℕ) (a : AgreedOffer) : Type 0 where
   pub call : Call
   pub found : call_of w id ≡ Some call
   pub same : call.generations ≡ generations
   pub offer : call.offer ≡ Some a.offer
+  pub heard : call.moment ≡ w.moment
 
 -- An offer of a call that isn't there, on which a new call agrees, is open where fewer than 256 calls are there. It is
 -- told with the call's slot and number of media, and its text goes to the other side.

@@ -7,9 +7,11 @@ ghost use Rattle.sg_base.specs.declared.faults.Refusal.{Refusal};
 ghost use Rattle.sg_session.specs.Opening.{Check, checked, tag_fits};
 ghost use Rattle.sg_session.specs.Reach.{Sealed, AreSealed};
 ghost use Rattle.sg_session.specs.Session.{Session};
+ghost use Rattle.sg_gateway.specs.Addressed.{OffersAreTheirTexts, AnswersHaveAddresses};
 ghost use Rattle.sg_gateway.specs.Arriving.{EachArrivingIsPutOut};
+ghost use Rattle.sg_gateway.specs.Authentic.{MessagesAreAcceptedOnce};
 ghost use Rattle.sg_gateway.specs.Batch.{Arrived, AreDrained, IsToldAlone};
-ghost use Rattle.sg_gateway.specs.Busy.{EachCallIsBusy};
+ghost use Rattle.sg_gateway.specs.Busy.{EachCallIsBusy, EachPacketKeepsItsCall};
 ghost use Rattle.sg_gateway.specs.CarriedOut.{ByesEnd, TicksMove, TicksKeep, RejectionsClose, AnswersRenew, AnswersKeepEarlier};
 ghost use Rattle.sg_gateway.specs.Coming.{EachOpeningCame, EachSealCame};
 ghost use Rattle.sg_gateway.specs.Departing.{EachDepartingIsSealed};
@@ -31,6 +33,7 @@ ghost use Rattle.sg_gateway.specs.SealedOut.{EachSealGoesOut, OnlySealsGoOut, Si
 ghost use Rattle.sg_gateway.specs.Served.{EachKeyServesItsLife, NoKeyIsOverspent};
 ghost use Rattle.sg_gateway.specs.Signals.{Signal};
 ghost use Rattle.sg_gateway.specs.Step.{Event};
+ghost use Rattle.sg_gateway.specs.Tags.{EachSessionHasWholeTags};
 ghost use Rattle.sg_gateway.specs.Taken.{OffersAreTaken, ManualCallsAreTaken};
 ghost use Rattle.sg_gateway.specs.Twice.{NoneTwice, NoneTwiceUnderKey, KeysHaveOneOwner};
 ghost use Rattle.sg_gateway.specs.Unforged.{HasTag, Unforged};
@@ -183,9 +186,11 @@ pub fn a_moment_comes_once()
     ensures { (events : List Event) → MomentComesOnce events }
 {}
 
-/// In every world of a run each call's latest accepted signal or packet put out was less than 60,000 ms ago.
+/// In every world of a run each call's latest accepted signal or packet put out was less than 60,000 ms ago; and what is
+/// put out makes the moment its call's own.
 pub fn no_call_stays_idle()
-    ensures { (events : List Event) → EachCallIsBusy events }
+    ensures busy { (events : List Event) → EachCallIsBusy events }
+    ensures heard { (events : List Event) → EachPacketKeepsItsCall events }
 {}
 
 /// After a bye no call has the id. After a tick the last moment is its own, unless it was before the last one, and each
@@ -211,6 +216,24 @@ pub fn signals_are_carried_out()
 pub fn signals_are_taken()
     ensures offers { (events : List Event) → OffersAreTaken events }
     ensures manual { (events : List Event) → ManualCallsAreTaken events }
+{}
+
+/// Each MIKEY message that an accepted offer is keyed by is authentic under a key that is held of its two names, its stamp is
+/// within 300,000 ms of the moment, it wasn't noted and is noted afterwards; and what is noted stays noted.
+pub fn messages_are_accepted_once()
+    ensures { (events : List Event) → MessagesAreAcceptedOnce events }
+{}
+
+/// The open offer is what its text describes. After its answer each session of the new generation has the addresses of its
+/// medium: the secure side's in the secure side's text, the plain side's in the plain side's.
+pub fn texts_tell_addresses()
+    ensures offers { (events : List Event) → OffersAreTheirTexts events }
+    ensures answers { (events : List Event) → AnswersHaveAddresses events }
+{}
+
+/// In every world of a run the tags of each session have 32 or 80 bits, and those of RTCP 80.
+pub fn tags_are_whole()
+    ensures { (events : List Event) → EachSessionHasWholeTags events }
 {}
 
 /// No text that the plain side is told has a crypto attribute or a key-mgmt attribute.

@@ -50,7 +50,7 @@ pub returns-clause-answers : goal.returns-clause-answers
 returns-clause-answers c = λ events.
     All-from_recursion AnswerRenews (turns events)
     (every_turn Anything anything_on anything_had (λ t. Unit {0}) AnswerRenews
-    (λ past w e kept u id noise text call same is. subst (λ (e : Event). ¬ IsRefused (turn_of w e) → (d : Call) × (call_of (step w e).world id ≡ Some d) × (d.generations ≡ call.generations + 1) × (d.offer ≡ None)) (sym same)
+    (λ past w e kept u id noise text call same is. subst (λ (e : Event). ¬ IsRefused (turn_of w e) → (d : Call) × (call_of (step w e).world id ≡ Some d) × (d.generations ≡ call.generations + 1) × (d.offer ≡ None) × (d.moment ≡ w.moment)) (sym same)
     (answer_renews w id noise text call is))
     events (each_of (λ t. Unit {0}) (λ t. tt) (turns events)))
 

@@ -1,0 +1,177 @@
+-- The sessions of an answer's generation have the addresses of its texts.
+use Rattle.std.proofs.Common.{◌≡◌, ℕ, suc, ◌+◌, Bool, true, false, cond, List, [], ◌∷◌, ◌++◌, length, Option, Some, None, Result, Ok, Err, refl, sym, ap, ◌∙◌, subst, arith, eqb-true}
+use Rattle.std.proofs.lemmas.Bool.{and_parts}
+use Rattle.std.proofs.lemmas.List.Elements.{All-from_recursion}
+use Rattle.std.specs.List.{All, AllByRecursion, Any, filter}
+use Rattle.sg_agreement.specs.Answers.{AgreedAnswer, agreed_answer}
+use Rattle.sg_agreement.specs.Generations.{Generation, generation_of, keys_from, numbered, owner_at, sessions_from, stream_session, stream_sessions}
+use Rattle.sg_agreement.specs.Keying.{Offer}
+use Rattle.sg_agreement.specs.Media.{Medium, Stream}
+use Rattle.sg_base.proofs.Cases.{some_is}
+use Rattle.sg_base.specs.declared.addresses.CallId.{CallId}
+use Rattle.sg_base.specs.declared.addresses.Kind.{Kind}
+use Rattle.sg_base.specs.declared.addresses.Kind.TheVariants.{Rtp, Rtcp}
+use Rattle.sg_base.specs.declared.addresses.Side.{Side}
+use Rattle.sg_base.specs.declared.faults.Refusal.{Refusal}
+use Rattle.sg_sdp.specs.Reading.{description_of}
+use Rattle.sg_sdp.specs.declared.medium.Medium as descriptions
+use Rattle.sg_sdp.specs.declared.sdp.Sdp.{Sdp}
+use Rattle.sg_session.proofs.Inversions.{after_ok_is, ok_is}
+use Rattle.sg_session.proofs.Lists.{each_append, each_weaker}
+use Rattle.sg_session.specs.Ring.{install}
+use Rattle.sg_session.specs.Session.{Key, Session}
+use Rattle.sg_session.specs.declared.names.Direction.TheVariants.{Opening, Sealing}
+use Rattle.sg_session.specs.declared.names.Owner.{Owner}
+use Rattle.sg_gateway.proofs.Arrivals.{kept_by}
+use Rattle.sg_gateway.proofs.Between.{AreBetween, answer_between}
+use Rattle.sg_gateway.proofs.CarriedOut.{found_with, id_found, stays}
+use Rattle.sg_gateway.proofs.Kept.{IsOffered, WasOffered}
+use Rattle.sg_gateway.proofs.Signals.{found}
+use Rattle.sg_gateway.specs.Addressed.{IsBetween, IsMediumAt, HasAddresses}
+use Rattle.sg_gateway.specs.CallSignals.{answered_to}
+use Rattle.sg_gateway.specs.Generations.{Settled, is_current, is_opening, keyed}
+use Rattle.sg_gateway.specs.Signals.{Answered, Answer, answer_to, answered, in_old, offering_side, tells_answer}
+use Rattle.sg_gateway.specs.World.{Books, Call, World, call_of, same_id}
+
+-- ---- the sessions of media, from one on
+
+module _ (side : Side) where
+  -- the addresses of its medium, where the media begin at that of number k
+  pub record HasFrom (k : ℕ) (ms ns : List descriptions.Medium) (s : Session) : Type 0 where
+    pub of_offer : descriptions.Medium
+    pub of_answer : descriptions.Medium
+    pub at : ℕ
+    pub place : s.name.owner.medium ≡ k + at
+    pub in_offer : IsMediumAt ms at of_offer
+    pub in_answer : IsMediumAt ns at of_answer
+    pub between : IsBetween side of_offer of_answer s.secure s.plain
+
+  next : (k : ℕ) (m n : descriptions.Medium) (ms ns : List descriptions.Medium) (s : Session) → HasFrom (k + 1) ms ns s → HasFrom k (m ∷ ms) (n ∷ ns) s
+  next k m n ms ns s is = record {
+    of_offer = is.of_offer;
+    of_answer = is.of_answer;
+    at = suc is.at;
+    place = let e = is.place in omega (arith, e);
+    in_offer = ((let lt = is.in_offer.0 in omega (arith, lt)), is.in_offer.1);
+    in_answer = ((let lt = is.in_answer.0 in omega (arith, lt)), is.in_answer.1);
+    between = is.between;
+  }
+
+  stream_from : (k : ℕ) (m n : descriptions.Medium) (ms ns : List descriptions.Medium) (owner : Owner) (keys : List Key) (st : Stream) (window : ℕ) (x : Medium)
+      → owner.medium ≡ k → IsBetween side m n x.secure x.plain → AllByRecursion (HasFrom k (m ∷ ms) (n ∷ ns)) (stream_sessions owner keys st window x)
+  stream_from k m n ms ns owner keys st window x of_medium is = (this Rtp st.encrypts_rtp st.tag_len, go x.has_rtcp)
+    where
+      this : (kind : Kind) (encrypts : Bool) (tag_len : ℕ) → HasFrom k (m ∷ ms) (n ∷ ns) (stream_session owner keys st window x kind encrypts tag_len)
+      this kind encrypts tag_len = record { of_offer = m; of_answer = n; at = 0; place = (let e = of_medium in omega (arith, e)); in_offer = (omega arith, refl); in_answer = (omega arith, refl); between = is }
+
+      go : (b : Bool) → AllByRecursion (HasFrom k (m ∷ ms) (n ∷ ns)) (cond b (stream_session owner keys st window x Rtcp st.encrypts_rtcp 10 ∷ []) [])
+      go true = (this Rtcp st.encrypts_rtcp 10, tt)
+      go false = tt
+
+  pub sessions_between : (call generation k number : ℕ) (ms ns : List descriptions.Medium) (xs : List (Option Medium)) → AreBetween side ms ns xs
+      → AllByRecursion (HasFrom k ms ns) (sessions_from call generation k number xs)
+  sessions_between call generation k number [] [] [] are = tt
+  sessions_between call generation k number [] [] (x ∷ xs) are = absurd are
+  sessions_between call generation k number [] (n ∷ ns) [] are = absurd are
+  sessions_between call generation k number [] (n ∷ ns) (x ∷ xs) are = absurd are
+  sessions_between call generation k number (m ∷ ms) [] [] are = absurd are
+  sessions_between call generation k number (m ∷ ms) [] (x ∷ xs) are = absurd are
+  sessions_between call generation k number (m ∷ ms) (n ∷ ns) [] are = absurd are
+  sessions_between call generation k number (m ∷ ms) (n ∷ ns) (None ∷ xs) are =
+      each_weaker (HasFrom (k + 1) ms ns) (HasFrom k (m ∷ ms) (n ∷ ns)) (next k m n ms ns) (sessions_from call generation (k + 1) number xs)
+      (sessions_between call generation (k + 1) number ms ns xs are.1)
+  sessions_between call generation k number (m ∷ ms) (n ∷ ns) (Some x ∷ xs) are =
+      let opening : List Session = stream_sessions (owner_at call generation k Opening) (numbered number x.from_peer.keys) x.from_peer x.window x in
+      let sealing : List Session = stream_sessions (owner_at call generation k Sealing) (numbered (number + length x.from_peer.keys) x.to_peer.keys) x.to_peer 1024 x in
+      let later : List Session = sessions_from call generation (k + 1) (number + length x.from_peer.keys + length x.to_peer.keys) xs in
+      each_append (HasFrom k (m ∷ ms) (n ∷ ns)) opening (sealing ++ later) (stream_from k m n ms ns (owner_at call generation k Opening) _ x.from_peer x.window x refl are.0)
+      (each_append (HasFrom k (m ∷ ms) (n ∷ ns)) sealing later (stream_from k m n ms ns (owner_at call generation k Sealing) _ x.to_peer 1024 x refl are.0)
+      (each_weaker (HasFrom (k + 1) ms ns) (HasFrom k (m ∷ ms) (n ∷ ns)) (next k m n ms ns) later
+      (sessions_between call generation (k + 1) (number + length x.from_peer.keys + length x.to_peer.keys) ms ns xs are.1)))
+
+  -- from the first medium on
+  from_first : (ms ns : List descriptions.Medium) (s : Session) → HasFrom 0 ms ns s → HasAddresses side ms ns s
+  from_first ms ns s is =
+      let same : is.at ≡ s.name.owner.medium = (let e = is.place in omega (arith, e)) in
+      record {
+        of_offer = is.of_offer;
+        of_answer = is.of_answer;
+        in_offer = subst (λ k. IsMediumAt ms k is.of_offer) same is.in_offer;
+        in_answer = subst (λ k. IsMediumAt ns k is.of_answer) same is.in_answer;
+        between = is.between;
+      }
+
+-- ---- an answer
+
+-- the call with the sessions of this agreement, and behind them what stays of the generation before
+record IsAnswered (c d : Call) (o : Offer) (noise text : List ℕ) : Type 0 where
+  serial : d.serial ≡ c.serial
+  id : d.id ≡ c.id
+  generations : d.generations ≡ c.generations + 1
+  agreement : AgreedAnswer
+  agreed : agreed_answer c.slot o noise text ≡ Ok agreement
+  number : ℕ
+  sessions : d.sessions ≡ sessions_from c.serial c.generations 0 number agreement.media ++ filter (stays c) c.sessions
+
+answer_is : (now : ℕ) (books : Books) (c : Call) (noise text : List ℕ) (o : Offer) (r : Settled) → answered_to now books c noise text (Some o) ≡ Ok r → IsAnswered c r.call o noise text
+answer_is now books c noise text o r e =
+    let a = after_ok_is (agreed_answer c.slot o noise text) (λ a. keyed now books c a.text a.media) r e in
+    let b = after_ok_is (generation_of c.serial c.generations books.ring a.0.media) _ r a.2 in
+    let g = after_ok_is (install books.ring (keys_from c.serial c.generations 0 a.0.media)) _ b.0 b.1 in
+    let news : sessions_from c.serial c.generations 0 (length books.ring) a.0.media ≡ b.0.sessions = ap (λ (g : Generation). g.sessions) (ok_is _ b.0 g.2) in
+    subst (λ (r : Settled). IsAnswered c r.call o noise text) (ok_is _ r b.2) (record {
+      serial = refl;
+      id = refl;
+      generations = refl;
+      agreement = a.0;
+      agreed = a.1;
+      number = length books.ring;
+      sessions = ap (λ (ss : List Session). ss ++ filter (stays c) c.sessions) (sym news);
+    })
+
+abbrev pub AreAddressed : Offer → List ℕ → Call → Type 0
+AreAddressed o text d =
+    (answer : Sdp) × (description_of text ≡ Ok answer)
+    × All (λ s. s.name.owner.generation + 1 ≡ d.generations → HasAddresses o.side o.description.media answer.media s) d.sessions
+
+answered_between : (c d : Call) (o : Offer) (noise text : List ℕ) → WasOffered o → IsAnswered c d o noise text → AreAddressed o text d
+answered_between c d o noise text was is =
+    let b = answer_between was.hand was.way was.text noise text c.slot was.accepted is.agreement was.agreed (ap (λ (o : Offer). agreed_answer c.slot o noise text) was.same ∙ is.agreed) in
+    let between : AreBetween o.side o.description.media b.0.media is.agreement.media = subst (λ (o : Offer). AreBetween o.side o.description.media b.0.media is.agreement.media) was.same b.2 in
+    let new : List Session = sessions_from c.serial c.generations 0 is.number is.agreement.media in
+    let old : List Session = filter (stays c) c.sessions in (
+      b.0,
+      b.1,
+      All-from_recursion (λ s. s.name.owner.generation + 1 ≡ d.generations → HasAddresses o.side o.description.media b.0.media s) d.sessions
+          (subst (AllByRecursion (λ s. s.name.owner.generation + 1 ≡ d.generations → HasAddresses o.side o.description.media b.0.media s)) (sym is.sessions)
+          (each_append (λ s. s.name.owner.generation + 1 ≡ d.generations → HasAddresses o.side o.description.media b.0.media s) new old
+          (each_weaker (HasFrom o.side 0 o.description.media b.0.media) (λ s. s.name.owner.generation + 1 ≡ d.generations → HasAddresses o.side o.description.media b.0.media s)
+          (λ s has at. from_first o.side o.description.media b.0.media s has) new (sessions_between o.side c.serial c.generations 0 is.number o.description.media b.0.media is.agreement.media between))
+          (each_weaker (λ s. (stays c s ≡ true) × Any (λ x. x ≡ s) c.sessions) (λ s. s.name.owner.generation + 1 ≡ d.generations → HasAddresses o.side o.description.media b.0.media s)
+          (λ s p at.
+          let old_one : s.name.owner.generation + 1 ≡ c.generations = eqb-true _ _ (and_parts (is_opening s) (is_current c s) p.0).1 in
+          let more = is.generations in
+          absurd (omega (arith, old_one, at, more)))
+          old (kept_by (stays c) c.sessions)))),
+    )
+
+module _ (w : World) (offered_are : AllByRecursion (λ c. IsOffered c.offer) w.calls) (id : CallId) (noise text : List ℕ) (c : Call) (o : Offer)
+    (is : call_of w id ≡ Some c) (open_one : c.offer ≡ Some o) where
+  abbrev Addresses : Answer → Type 0
+  Addresses a = (d : Call) → call_of a.world id ≡ Some d → d.generations ≡ c.generations + 1 → AreAddressed o text d
+
+  was : WasOffered o
+  was = subst IsOffered open_one (found (λ c. IsOffered c.offer) (λ x. same_id x.id id) w.calls c is offered_are)
+
+  settled_addresses : (q : Result Settled Refusal) → answered_to w.moment w.books c noise text (Some o) ≡ q → Addresses (in_old w id (tells_answer id (offering_side c.offer)) q)
+  settled_addresses (Err cause) e d at more = let same = ap (λ (x : Call). x.generations) (some_is c d (sym is ∙ at)) in absurd (omega (arith, same, more))
+  settled_addresses (Ok r) e d at more =
+      let a = answer_is w.moment w.books c noise text o r e in
+      let here = found_with id c r.call w.calls a.serial (subst (λ i. same_id i id ≡ true) (sym a.id) (id_found id c w.calls is)) is in
+      subst (AreAddressed o text) (some_is r.call d (sym here ∙ at)) (answered_between c r.call o noise text was a)
+
+  pub answer_addresses : Addresses (answer_to w (Answered id noise text))
+  answer_addresses =
+      subst (λ x. Addresses (answered w id noise text x)) (sym is)
+      (subst (λ x. Addresses (in_old w id (tells_answer id (offering_side c.offer)) (answered_to w.moment w.books c noise text x))) (sym open_one)
+      (settled_addresses (answered_to w.moment w.books c noise text (Some o)) refl))

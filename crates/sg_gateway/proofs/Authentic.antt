@@ -1,0 +1,442 @@
+-- What is accepted of MIKEY messages is authentic, of the time and new, and is noted.
+use Rattle.std.proofs.Common.{◌≡◌, inl, inr, ℕ, ◌+◌, Bool, true, false, cond, not, ◌&&◌, ◌||◌, List, [], ◌∷◌, ◌++◌, length, Option, Some, None, Result, Ok, Err, refl, sym, ap, ◌∙◌, subst, append_assoc, append-nil, eqb, eq-eqb, ltb, eqb-true}
+use Rattle.std.proofs.lemmas.Bool.{and_parts, false≢true, ltb-false, not-false, and_from}
+use Rattle.std.specs.List.{AllByRecursion, Any, filter_map, find}
+use Rattle.std.specs.Option.{is_some}
+use Rattle.sg_agreement.specs.Answers.{agreed_answer}
+use Rattle.sg_agreement.specs.Generations.{generation_of}
+use Rattle.sg_agreement.specs.Manual.{manual_medium}
+use Rattle.sg_agreement.specs.Media.{Medium}
+use Rattle.sg_agreement.proofs.AllAgreed.{offer_is}
+use Rattle.sg_agreement.proofs.KeyedSound.{Sometimes}
+use Rattle.sg_agreement.specs.Attributes.{has_message, mikey_octets, mikey_value, ssrcs_of}
+use Rattle.sg_agreement.specs.Described.{described}
+use Rattle.sg_agreement.specs.EachMedium.{each_active, if_active}
+use Rattle.sg_agreement.specs.Keying.{Keying, PeerLines, OwnLines, PeerMessage, PeerMessages, OwnMessage, Offer, note_in, notes_of}
+use Rattle.sg_agreement.specs.Messages.{Bundle, bundle_in, message_in}
+use Rattle.sg_agreement.specs.Offers.{AgreedOffer, agreed_offer, chosen_in, keying_by_messages, keying_of, noise_of}
+use Rattle.sg_agreement.specs.Refusals.{of_cs, of_message, of_psk, or_refusal}
+use Rattle.sg_agreement.specs.Sides.{active_count, is_active, other_side, side_of}
+use Rattle.sg_agreement.specs.declared.ways.Way.{Way}
+use Rattle.sg_agreement.specs.declared.ways.Way.TheVariants.{FromSecure, SdesFromPlain, MikeyFromPlain}
+use Rattle.sg_base.proofs.Cases.{some_is}
+use Rattle.sg_base.proofs.SameOctets.{same_octets_is, same_octets_true}
+use Rattle.sg_base.specs.Octets.{same_octets}
+use Rattle.sg_base.specs.declared.addresses.Address.{Address}
+use Rattle.sg_base.specs.declared.addresses.CallId.{CallId}
+use Rattle.sg_base.specs.declared.addresses.Side.TheVariants.{Secure, Plain}
+use Rattle.sg_base.specs.declared.faults.MikeyFault.TheVariants.{DataType}
+use Rattle.sg_base.specs.declared.faults.PskFault.{PskFault}
+use Rattle.sg_base.specs.declared.faults.PskFault.TheVariants.{Algorithm, BadMac, Skew, Repeated, CacheFull}
+use Rattle.sg_base.specs.declared.faults.Refusal.{Refusal}
+use Rattle.sg_base.specs.declared.faults.Refusal.TheVariants.{KeyMgmt, Mikey, State, TableFull}
+use Rattle.sg_csmap.specs.CryptoSessions.{streams_of}
+use Rattle.sg_mikey.specs.Reading as messages
+use Rattle.sg_mikey.specs.declared.message.Message.{Message}
+use Rattle.sg_mikey.specs.declared.message.Tgk.{Tgk}
+use Rattle.sg_psk.specs.Accepting.{Accepted, accepted_with, fault_of, initial_fits, initial_of, initial_under, is_served, keys_in, note_of, unless, with_keys}
+use Rattle.sg_psk.specs.Envelope.{mac_of}
+use Rattle.sg_sdes.specs.Answers.{offered_by}
+use Rattle.sg_sdp.specs.Reading.{description_of}
+use Rattle.sg_sdp.specs.declared.medium.Medium as descriptions
+use Rattle.sg_sdp.specs.declared.sdp.Sdp.{Sdp}
+use Rattle.sg_outcome.specs.declared.outcomes.Outcome.{Outcome}
+use Rattle.sg_psk.specs.Pairs.{has_pair, is_noted, is_of, is_same, is_with, note, pair_named, pair_with, with_note}
+use Rattle.sg_psk.specs.Parts.{closing_in, names_in, stamp_in}
+use Rattle.sg_psk.specs.Sending.{sent_under}
+use Rattle.sg_psk.specs.Stamps.{distance, is_skewed, moment_of, since_1900}
+use Rattle.sg_psk.specs.declared.pairs.Pair.{Pair}
+use Rattle.sg_psk.specs.declared.replays.Noted.{Noted}
+use Rattle.sg_session.proofs.Inversions.{after_ok_is, ok_is, stop_if_is}
+use Rattle.sg_session.proofs.Lists.{any_cases, any_here, any_none, any_there, both, each_weaker}
+use Rattle.sg_session.specs.Stages.{after_ok}
+use Rattle.sg_gateway.specs.Authentic.{AreNamesOf, IsNoteOf, IsAuthentic, IsBundleAcceptedOnce, AreAcceptedOnce}
+use Rattle.sg_gateway.proofs.CarriedOut.{found_with, id_found}
+use Rattle.sg_gateway.proofs.Taken.{found_new, same_id_itself}
+use Rattle.sg_gateway.specs.CallSignals.{answered_to, at_hand, has_begun, keyed_manually, media_of, offered_in, rejected_in, takes_offer, with_notes}
+use Rattle.sg_gateway.specs.Datagrams.{Given, Drops, Puts, given_to, arrived_in, arrived_at}
+use Rattle.sg_gateway.specs.Generations.{Settled, keyed}
+use Rattle.sg_gateway.specs.Ports.{call_at}
+use Rattle.sg_gateway.specs.Refusing.{IsRefusal}
+use Rattle.sg_gateway.specs.Signals.{Signal, Tick, Psk, Manual, Offered, Answered, Reject, Bye, Answer, refused, new_call, in_new, in_old, tells_live, tells_text, offered_to, offering_side, tells_answer, answered, rejected_to, rejected, left, answer_to}
+use Rattle.sg_gateway.specs.Step.{Event, Signalled, Datagram, step}
+use Rattle.sg_gateway.specs.World.{Books, Call, World, call_of, is_full, same_id}
+
+-- ---- stages
+
+none_unless : {X : Type 0} (b : Bool) (x : X) (r : Option X) → cond b (Some x) r ≡ None → (b ≡ false) × (r ≡ None)
+none_unless true x r e = absurd cc
+none_unless false x r e = (refl, e)
+
+unless_is : {X : Type 0} (fault : Option PskFault) (next : Result X PskFault) (x : X) → unless fault next ≡ Ok x → (fault ≡ None) × (next ≡ Ok x)
+unless_is None next x e = (refl, e)
+unless_is (Some fault) next x e = absurd cc
+
+psk_is : {X : Type 0} (medium : ℕ) (r : Result X PskFault) (x : X) → of_psk medium r ≡ Ok x → r ≡ Ok x
+psk_is medium (Ok y) x e = let same : y ≡ x = cc in ap Ok same
+psk_is medium (Err fault) x e = absurd cc
+
+message_is : (medium : ℕ) (r : Result Message messages.Place) (m : Message) → of_message medium r ≡ Ok m → r ≡ Ok m
+message_is medium (Ok y) m e = let same : y ≡ m = cc in ap Ok same
+message_is medium (Err place) m e = absurd cc
+
+-- ---- the pair
+
+find_any : {X : Type 0} (test : X → Bool) (xs : List X) (x : X) → find test xs ≡ Some x → Any (λ y. y ≡ x) xs × (test x ≡ true)
+find_any test [] x e = absurd cc
+find_any test (y ∷ ys) x e = go (test y) refl (find_any test ys x) e
+  where
+    go : (b : Bool) → test y ≡ b → (find test ys ≡ Some x → Any (λ z. z ≡ x) ys × (test x ≡ true)) → cond b (Some y) (find test ys) ≡ Some x → Any (λ z. z ≡ x) (y ∷ ys) × (test x ≡ true)
+    go true is rest e = (any_here (λ z. z ≡ x) y ys (some_is y x e), subst (λ z. test z ≡ true) (some_is y x e) is)
+    go false is rest e = let r = rest e in (any_there (λ z. z ≡ x) y ys r.0, r.1)
+
+pair_is : (pairs : List Pair) (names : List (List ℕ)) (p : Pair) → pair_named pairs names ≡ Some p → Any (λ q. q ≡ p) pairs × AreNamesOf p names
+pair_is pairs [] p e = absurd cc
+pair_is pairs (peer ∷ []) p e =
+    let f = find_any (is_with peer) pairs p e in
+    (f.0, inl (ap (λ n. n ∷ []) (sym (same_octets_is p.peer peer f.1))))
+pair_is pairs (peer ∷ own ∷ names) p e =
+    let f = find_any (is_of own peer) pairs p e in
+    let both = and_parts (same_octets p.own own) (is_with peer p) f.1 in
+    let of_own : own ≡ p.own = sym (same_octets_is p.own own both.0) in
+    let of_peer : peer ≡ p.peer = sym (same_octets_is p.peer peer both.1) in
+    (f.0, inr (names, λ i. of_peer i ∷ of_own i ∷ names))
+
+-- ---- what is noted
+
+not_noted : (a : Accepted) (noted : List Noted) → is_noted noted (note_of a) ≡ false → AllByRecursion (λ n. ¬ IsNoteOf a n) noted
+not_noted a [] e = tt
+not_noted a (n ∷ ns) e = go (is_same (note_of a) n) refl (not_noted a ns) e
+  where
+    go : (b : Bool) → is_same (note_of a) n ≡ b → (is_noted ns (note_of a) ≡ false → AllByRecursion (λ n. ¬ IsNoteOf a n) ns) → (b || is_noted ns (note_of a)) ≡ false
+        → AllByRecursion (λ n. ¬ IsNoteOf a n) (n ∷ ns)
+    go true is rest e = absurd cc
+    go false is rest e = (
+      (λ of. false≢true (sym is ∙ and_from _ _ (and_from _ _ (same_octets_true a.pair.peer n.peer (sym of.0)) (eq-eqb a.csb n.csb (sym of.1))) (same_octets_true a.stamp n.stamp (sym of.2)))),
+      rest e,
+    )
+
+-- ---- one message
+
+module _ (books : Books) (now : ℕ) where
+  initial_is : (lines : List (List ℕ)) (octets : List ℕ) (m : Message) (a : Accepted) → mikey_octets (mikey_value lines) ≡ Some octets → messages.message_of octets ≡ Ok m → initial_of octets m books.pairs books.noted now ≡ Ok a → IsAuthentic books now lines a
+  unfolding initial_of initial_under fault_of with_keys initial_fits mac_of
+  initial_is lines octets m a carried read e = go (pair_named books.pairs (names_in m.payloads)) refl e
+    where
+      keys : (pair : Pair) (tgks : Option (List Tgk)) → with_keys m pair (length books.noted) tgks ≡ Ok a → (ts : List Tgk) × (accepted_with m pair ts ≡ a)
+      keys pair None e = absurd cc
+      keys pair (Some ts) e = at (ltb 1020 (length books.noted)) e
+        where
+          at : (b : Bool) → cond b (Err CacheFull) (Ok (accepted_with m pair ts)) ≡ Ok a → (ts : List Tgk) × (accepted_with m pair ts ≡ a)
+          at true e = absurd cc
+          at false e = (ts, ok_is _ a e)
+
+      go : (p : Option Pair) → pair_named books.pairs (names_in m.payloads) ≡ p → initial_under octets m books.noted now p ≡ Ok a → IsAuthentic books now lines a
+      go None is e = absurd cc
+      go (Some pair) is e =
+          let u = unless_is (fault_of octets m pair books.noted now) (with_keys m pair (length books.noted) (keys_in m pair)) a e in
+          let served = none_unless (not (is_served (closing_in m.payloads))) Algorithm _ u.0 in
+          let mac = none_unless (not (initial_fits octets m pair)) BadMac _ served.1 in
+          let skew = none_unless (is_skewed (stamp_in m.payloads) now) (Skew (moment_of (stamp_in m.payloads)) now) _ mac.1 in
+          let repeated = none_unless (is_noted books.noted (note pair.peer m.csb (stamp_in m.payloads))) Repeated None skew.1 in
+          let k = keys pair (keys_in m pair) u.1 in
+          let p = pair_is books.pairs (names_in m.payloads) pair is in
+          let x : Accepted = accepted_with m pair k.0 in
+          subst (IsAuthentic books now lines) k.1 (record {
+            octets = octets;
+            carried = carried;
+            message = m;
+            read = read;
+            csb = refl;
+            stamp = refl;
+            held = p.0;
+            names = p.1;
+            code = same_octets_is _ _ (not-false _ mac.0);
+            near = ltb-false 300000 (distance (since_1900 (stamp_in m.payloads)) (now + 2208988800000)) skew.0;
+            new = not_noted (accepted_with m pair k.0) books.noted repeated.0;
+          })
+
+  refusal_is : {X : Type 0} (refusal : Refusal) (o : Option X) (x : X) → or_refusal refusal o ≡ Ok x → o ≡ Some x
+  refusal_is refusal None x e = absurd cc
+  refusal_is refusal (Some y) x e = ap Some (ok_is y x e)
+
+  bundle_is : (c : Call) (noise : List ℕ) (medium count : ℕ) (lines : List (List ℕ)) (value : Option (List ℕ)) (b : Bundle) → mikey_value lines ≡ value
+      → bundle_in (at_hand now books c noise) medium count value ≡ Ok b → IsAuthentic books now lines b.initial
+  unfolding bundle_in message_in
+  bundle_is c noise medium count lines value b is e =
+      let p = after_ok_is (message_in medium 0 value) _ b e in
+      let q = after_ok_is (of_psk medium (initial_of p.0.0 p.0.1 books.pairs books.noted now)) _ b p.2 in
+      let r = after_ok_is (of_cs medium (streams_of q.0.csb q.0.random q.0.map q.0.policies q.0.tgks count)) _ b q.2 in
+      let s = after_ok_is (or_refusal (KeyMgmt medium) (mikey_octets value)) _ p.0 p.1 in
+      let t = after_ok_is (of_message medium (messages.message_of s.0)) _ p.0 s.2 in
+      let u = stop_if_is (not (eqb t.0.kind 0)) (Mikey medium 1 DataType) (Ok (s.0, t.0)) p.0 t.2 in
+      let same : (s.0, t.0) ≡ p.0 = ok_is _ p.0 u.1 in
+      let carried : mikey_octets (mikey_value lines) ≡ Some p.0.0 =
+      ap mikey_octets is ∙ refusal_is (KeyMgmt medium) (mikey_octets value) s.0 s.1 ∙ ap (λ (x : List ℕ × Message). Some x.0) same in
+      let read : messages.message_of p.0.0 ≡ Ok p.0.1 = subst (λ (x : List ℕ × Message). messages.message_of x.0 ≡ Ok x.1) same (message_is medium (messages.message_of s.0) t.0 t.1) in
+      subst (λ (b : Bundle). IsAuthentic books now lines b.initial) (ok_is _ b r.2)
+      (initial_is lines p.0.0 p.0.1 q.0 carried read (psk_is medium (initial_of p.0.0 p.0.1 books.pairs books.noted now) q.0 q.1))
+
+  -- each message that an offer of this description is keyed by
+  abbrev IsOfMedium : List descriptions.Medium → Bundle → Type 0
+  IsOfMedium ms b = Any (λ m. IsAuthentic books now m.lines b.initial) ms
+
+  abbrev AreAuthentic : Sdp → Keying → Type 0
+  AreAuthentic s (PeerMessage b) = IsAuthentic books now s.session b.initial
+  AreAuthentic s (PeerMessages bs) = AllByRecursion (Sometimes (IsOfMedium s.media)) bs
+  AreAuthentic s (PeerLines lines) = Unit {0}
+  AreAuthentic s (OwnLines lines) = Unit {0}
+  AreAuthentic s (OwnMessage sent) = Unit {0}
+
+  abbrev of_medium : Call → List ℕ → ℕ → descriptions.Medium → Result Bundle Refusal
+  of_medium c noise k m = bundle_in (at_hand now books c noise) k 1 (mikey_value m.lines)
+
+  one_medium : (c : Call) (noise : List ℕ) (k : ℕ) (m : descriptions.Medium) (ms : List descriptions.Medium) (on : Bool) (b : Option Bundle) → if_active on (of_medium c noise k m) ≡ Ok b → Sometimes (IsOfMedium (m ∷ ms)) b
+  one_medium c noise k m ms false b e = subst (Sometimes (IsOfMedium (m ∷ ms))) (ok_is None b e) tt
+  one_medium c noise k m ms true b e =
+      let a = after_ok_is (of_medium c noise k m) (λ x. Ok (Some x)) b e in
+      subst (Sometimes (IsOfMedium (m ∷ ms))) (ok_is (Some a.0) b a.2)
+      (any_here (λ m. IsAuthentic books now m.lines a.0.initial) m ms (bundle_is c noise k 1 m.lines (mikey_value m.lines) a.0 refl a.1))
+
+  later_medium : (m : descriptions.Medium) (ms : List descriptions.Medium) (b : Option Bundle) → Sometimes (IsOfMedium ms) b → Sometimes (IsOfMedium (m ∷ ms)) b
+  later_medium m ms None p = tt
+  later_medium m ms (Some b) p = any_there (λ m. IsAuthentic books now m.lines b.initial) m ms p
+
+  each_medium : (c : Call) (noise : List ℕ) (k : ℕ) (ms : List descriptions.Medium) (bs : List (Option Bundle)) → each_active Secure (of_medium c noise) k ms ≡ Ok bs
+      → AllByRecursion (Sometimes (IsOfMedium ms)) bs
+  each_medium c noise k [] bs e = subst (AllByRecursion (Sometimes (IsOfMedium []))) (ok_is [] bs e) tt
+  each_medium c noise k (m ∷ ms) bs e =
+      let a = after_ok_is (if_active (is_active Secure m) (of_medium c noise k m)) _ bs e in
+      let b = after_ok_is (each_active Secure (of_medium c noise) (k + 1) ms) _ bs a.2 in
+      subst (AllByRecursion (Sometimes (IsOfMedium (m ∷ ms)))) (ok_is (a.0 ∷ b.0) bs b.2)
+      (one_medium c noise k m ms (is_active Secure m) a.0 a.1, each_weaker (Sometimes (IsOfMedium ms)) (Sometimes (IsOfMedium (m ∷ ms))) (later_medium m ms) b.0 (each_medium c noise (k + 1) ms b.0 b.1))
+
+  by_messages : (c : Call) (noise : List ℕ) (s : Sdp) (value : Option (List ℕ)) (k : Keying) → mikey_value s.session ≡ value → keying_by_messages (at_hand now books c noise) s value ≡ Ok k → AreAuthentic s k
+  by_messages c noise s (Some value) k is e =
+      let a = after_ok_is (bundle_in (at_hand now books c noise) 255 (active_count Secure s.media) (Some value)) _ k e in
+      subst (AreAuthentic s) (ok_is (PeerMessage a.0) k a.2) (bundle_is c noise 255 (active_count Secure s.media) s.session (Some value) a.0 is a.1)
+  by_messages c noise s None k is e =
+      let a = after_ok_is (each_active Secure (of_medium c noise) 0 s.media) _ k e in
+      subst (AreAuthentic s) (ok_is (PeerMessages a.0) k a.2) (each_medium c noise 0 s.media a.0 a.1)
+
+  keying_authentic : (c : Call) (noise : List ℕ) (s : Sdp) (way : Way) (k : Keying) → keying_of (at_hand now books c noise) s way ≡ Ok k → AreAuthentic s k
+  keying_authentic c noise s FromSecure k e = go (has_message s) e
+    where
+      go : (b : Bool) → cond b (keying_by_messages (at_hand now books c noise) s (mikey_value s.session)) (after_ok (each_active Secure chosen_in 0 s.media) (λ ls. Ok (PeerLines ls))) ≡ Ok k → AreAuthentic s k
+      go true e = by_messages c noise s (mikey_value s.session) k refl e
+      go false e = let a = after_ok_is (each_active Secure chosen_in 0 s.media) _ k e in subst (AreAuthentic s) (ok_is (PeerLines a.0) k a.2) tt
+  keying_authentic c noise s SdesFromPlain k e =
+      let a = after_ok_is (each_active Plain (λ k m. Ok (offered_by (noise_of k noise))) 0 s.media) _ k e in
+      subst (AreAuthentic s) (ok_is (OwnLines a.0) k a.2) tt
+  keying_authentic c noise s (MikeyFromPlain peer) k e =
+      let a = after_ok_is (of_psk 255 (sent_under now noise (ssrcs_of Plain s.media) (pair_with books.pairs peer))) _ k e in
+      subst (AreAuthentic s) (ok_is (OwnMessage a.0) k a.2) tt
+
+  pub offer_authentic : (c : Call) (way : Way) (noise text : List ℕ) (a : AgreedOffer) → agreed_offer (at_hand now books c noise) way text ≡ Ok a
+      → AreAuthentic a.offer.description a.offer.keying × (a.noted ≡ notes_of a.offer.keying)
+  unfolding agreed_offer
+  offer_authentic c way noise text a e =
+      let p = after_ok_is (described (side_of way) (media_of c) text) _ a e in
+      let q = after_ok_is (keying_of (at_hand now books c noise) p.0 way) _ a p.2 in
+      subst (λ (a : AgreedOffer). AreAuthentic a.offer.description a.offer.keying × (a.noted ≡ notes_of a.offer.keying)) (ok_is _ a q.2) (keying_authentic c noise p.0 way q.0 q.1, refl)
+
+-- ---- the book
+
+abbrev IsNote : Noted → Noted → Type 0
+IsNote n x = (x.peer ≡ n.peer) × (x.csb ≡ n.csb) × (x.stamp ≡ n.stamp)
+
+noted_is : (noted : List Noted) (n : Noted) → is_noted noted n ≡ true → Any (IsNote n) noted
+noted_is [] n e = absurd cc
+noted_is (x ∷ xs) n e = go (is_same n x) refl (noted_is xs n) e
+  where
+    go : (b : Bool) → is_same n x ≡ b → (is_noted xs n ≡ true → Any (IsNote n) xs) → (b || is_noted xs n) ≡ true → Any (IsNote n) (x ∷ xs)
+    go true is rest e =
+        let p = and_parts (same_octets n.peer x.peer && eqb n.csb x.csb) (same_octets n.stamp x.stamp) is in
+        let q = and_parts (same_octets n.peer x.peer) (eqb n.csb x.csb) p.0 in
+        any_here (IsNote n) x xs (sym (same_octets_is n.peer x.peer q.0), sym (eqb-true n.csb x.csb q.1), sym (same_octets_is n.stamp x.stamp p.1))
+    go false is rest e = any_there (IsNote n) x xs (rest e)
+
+any_front : {X : Type 0} (P : X → Type 0) (xs ys : List X) → Any P xs → Any P (xs ++ ys)
+any_front P [] ys a = absurd (any_none P a)
+any_front P (x ∷ xs) ys a = elim (any_cases P x xs a) [
+  | inl here ↦ any_here P x (xs ++ ys) here
+  | inr later ↦ any_there P x (xs ++ ys) (any_front P xs ys later)
+]
+
+any_at_end : {X : Type 0} (P : X → Type 0) (xs : List X) (x : X) → P x → Any P (xs ++ x ∷ [])
+any_at_end P [] x p = any_here P x [] p
+any_at_end P (y ∷ xs) x p = any_there P y (xs ++ x ∷ []) (any_at_end P xs x p)
+
+-- what is noted stays, and what comes is noted
+with_note_is : (noted : List Noted) (n : Noted) → ((new : List Noted) × (with_note noted n ≡ noted ++ new)) × Any (IsNote n) (with_note noted n)
+with_note_is noted n = go (is_noted noted n) refl
+  where
+    go : (b : Bool) → is_noted noted n ≡ b → ((new : List Noted) × (cond b noted (noted ++ n ∷ []) ≡ noted ++ new)) × Any (IsNote n) (cond b noted (noted ++ n ∷ []))
+    go true is = (([], sym (append-nil noted)), noted_is noted n is)
+    go false is = ((n ∷ [], refl), any_at_end (IsNote n) noted n (refl, refl, refl))
+
+pub notes_stay : (noted ns : List Noted) → (new : List Noted) × (with_notes noted ns ≡ noted ++ new)
+notes_stay noted [] = ([], sym (append-nil noted))
+notes_stay noted (n ∷ ns) =
+    let one = (with_note_is noted n).0 in
+    let rest = notes_stay (with_note noted n) ns in
+    (one.0 ++ rest.0, rest.1 ∙ ap (λ (l : List Noted). l ++ rest.0) one.1 ∙ append_assoc noted one.0 rest.0)
+
+all_noted : (noted ns : List Noted) → AllByRecursion (λ n. Any (IsNote n) (with_notes noted ns)) ns
+all_noted noted [] = tt
+all_noted noted (n ∷ ns) =
+    let rest = notes_stay (with_note noted n) ns in
+    (subst (Any (IsNote n)) (sym rest.1) (any_front (IsNote n) (with_note noted n) rest.0 (with_note_is noted n).1), all_noted (with_note noted n) ns)
+
+module _ (books : Books) (now : ℕ) where
+  bundles_once : (after : List Noted) (ms : List descriptions.Medium) (bs : List (Option Bundle)) → AllByRecursion (Sometimes (IsOfMedium books now ms)) bs
+      → AllByRecursion (λ n. Any (IsNote n) after) (filter_map note_in bs) → AllByRecursion (IsBundleAcceptedOnce books now after ms) bs
+  bundles_once after ms [] p q = tt
+  bundles_once after ms (None ∷ bs) p q = (tt, bundles_once after ms bs p.1 q)
+  bundles_once after ms (Some b ∷ bs) p q = ((p.0, q.0), bundles_once after ms bs p.1 q.1)
+
+  pub accepted_once : (after : List Noted) (s : Sdp) (k : Keying) → AreAuthentic books now s k → AllByRecursion (λ n. Any (IsNote n) after) (notes_of k) → AreAcceptedOnce books now after s k
+  accepted_once after s (PeerMessage b) p q = (p, q.0)
+  accepted_once after s (PeerMessages bs) p q = bundles_once after s.media bs p q
+  accepted_once after s (PeerLines lines) p q = tt
+  accepted_once after s (OwnLines lines) p q = tt
+  accepted_once after s (OwnMessage sent) p q = tt
+
+  -- an offer is open by what it was agreed by
+  pub record IsOpenBy (c : Call) (way : Way) (text : List ℕ) (d : Call) (after : List Noted) : Type 0 where
+    pub serial : d.serial ≡ c.serial
+    pub id : d.id ≡ c.id
+    pub offer : Offer
+    pub is_open : d.offer ≡ Some offer
+    pub once : AreAcceptedOnce books now after offer.description offer.keying
+    pub of_text : (offer.side ≡ side_of way) × (description_of text ≡ Ok offer.description)
+
+  pub opens_by : (c : Call) (way : Way) (noise text : List ℕ) (r : Settled) → offered_in now books c way noise text ≡ Ok r → IsOpenBy c way text r.call r.books.noted
+  opens_by c way noise text r e =
+      let a = stop_if_is (not (takes_offer c)) State _ r e in
+      let b = after_ok_is (agreed_offer (at_hand now books c noise) way text) _ r a.1 in
+      let is = offer_authentic books now c way noise text b.0 b.1 in
+      subst (λ (r : Settled). IsOpenBy c way text r.call r.books.noted) (ok_is _ r b.2) (record {
+        serial = refl;
+        id = refl;
+        offer = b.0.offer;
+        is_open = refl;
+        of_text = offer_is (at_hand now books c noise) way text b.0 b.1;
+        once = accepted_once (with_notes books.noted b.0.noted) b.0.offer.description b.0.offer.keying is.0
+            (subst (λ (ns : List Noted). AllByRecursion (λ n. Any (IsNote n) (with_notes books.noted b.0.noted)) ns) is.1 (all_noted books.noted b.0.noted));
+      })
+
+-- ---- an event
+
+module _ (w : World) (id : CallId) (way : Way) (noise text : List ℕ) where
+  abbrev IsTaken : Answer → Type 0
+  IsTaken a = ¬ Any IsRefusal a.outcomes
+      → (c : Call) × (o : Offer) × (call_of a.world id ≡ Some c) × (c.offer ≡ Some o) × AreAcceptedOnce w.books w.moment a.world.books.noted o.description o.keying
+      × ((o.side ≡ side_of way) × (description_of text ≡ Ok o.description))
+
+  refused_taken : (cause : Refusal) → IsTaken (refused w (Some id) cause)
+  refused_taken cause free = absurd (free (any_here IsRefusal _ [] tt))
+
+  new_taken : call_of w id ≡ None → (q : Result Settled Refusal) → offered_in w.moment w.books (new_call w id) way noise text ≡ q → IsTaken (in_new w id (tells_text id (other_side (side_of way))) q)
+  new_taken none (Err cause) e free = refused_taken cause free
+  new_taken none (Ok r) e free =
+      let is = opens_by w.books w.moment (new_call w id) way noise text r e in
+      (r.call, is.offer, found_new (λ c. same_id c.id id) r.call w.calls (subst (λ i. same_id i id ≡ true) (sym is.id) (same_id_itself id)) none, is.is_open, is.once, is.of_text)
+
+  old_taken : (c : Call) → call_of w id ≡ Some c → (q : Result Settled Refusal) → offered_in w.moment w.books c way noise text ≡ q → IsTaken (in_old w id (tells_text id (other_side (side_of way))) q)
+  old_taken c at (Err cause) e free = refused_taken cause free
+  old_taken c at (Ok r) e free =
+      let is = opens_by w.books w.moment c way noise text r e in
+      (r.call, is.offer, found_with id c r.call w.calls is.serial (subst (λ i. same_id i id ≡ true) (sym is.id) (id_found id c w.calls at)) at, is.is_open, is.once, is.of_text)
+
+  of_call : (o : Option Call) → call_of w id ≡ o → IsTaken (offered_to w id way noise text o)
+  of_call None none = both IsTaken (is_full w) _ _ (refused_taken TableFull) (new_taken none (offered_in w.moment w.books (new_call w id) way noise text) refl)
+  of_call (Some c) at = old_taken c at (offered_in w.moment w.books c way noise text) refl
+
+  pub offer_once : IsTaken (answer_to w (Offered id way noise text))
+  offer_once = of_call (call_of w id) refl
+
+-- ---- the book over every event
+
+module _ (w : World) where
+  abbrev Stay : List Noted → Type 0
+  Stay after = (new : List Noted) × (after ≡ w.books.noted ++ new)
+
+  stay : Stay w.books.noted
+  stay = ([], sym (append-nil w.books.noted))
+
+  abbrev Stays : Answer → Type 0
+  Stays a = Stay a.world.books.noted
+
+  keyed_stays : (c : Call) (text : List ℕ) (media : List (Option Medium)) (r : Settled) → keyed w.moment w.books c text media ≡ Ok r → Stay r.books.noted
+  keyed_stays c text media r e =
+      let a = after_ok_is (generation_of c.serial c.generations w.books.ring media) _ r e in
+      subst (λ (r : Settled). Stay r.books.noted) (ok_is _ r a.2) stay
+
+  manual_stays : (c : Call) (x : Medium) (r : Settled) → keyed_manually w.moment w.books c x ≡ Ok r → Stay r.books.noted
+  manual_stays c x r e =
+      let a = stop_if_is (has_begun c) State (keyed w.moment w.books (record c { media = 1; manual = true }) [] (Some x ∷ [])) r e in
+      keyed_stays (record c { media = 1; manual = true }) [] (Some x ∷ []) r a.1
+
+  answer_stays : (c : Call) (noise text : List ℕ) (o : Option Offer) (r : Settled) → answered_to w.moment w.books c noise text o ≡ Ok r → Stay r.books.noted
+  answer_stays c noise text None r e = absurd cc
+  answer_stays c noise text (Some o) r e =
+      let a = after_ok_is (agreed_answer c.slot o noise text) (λ a. keyed w.moment w.books c a.text a.media) r e in
+      keyed_stays c a.0.text a.0.media r a.2
+
+  offer_stays : (c : Call) (way : Way) (noise text : List ℕ) (r : Settled) → offered_in w.moment w.books c way noise text ≡ Ok r → Stay r.books.noted
+  offer_stays c way noise text r e =
+      let a = stop_if_is (not (takes_offer c)) State _ r e in
+      let b = after_ok_is (agreed_offer (at_hand w.moment w.books c noise) way text) _ r a.1 in
+      subst (λ (r : Settled). Stay r.books.noted) (ok_is _ r b.2) (notes_stay w.books.noted b.0.noted)
+
+  new_stays : (id : CallId) (told : Settled → List Outcome) (q : Result Settled Refusal) → ((r : Settled) → q ≡ Ok r → Stay r.books.noted) → Stays (in_new w id told q)
+  new_stays id told (Err cause) is = stay
+  new_stays id told (Ok r) is = is r refl
+
+  old_stays : (id : CallId) (told : Settled → List Outcome) (q : Result Settled Refusal) → ((r : Settled) → q ≡ Ok r → Stay r.books.noted) → Stays (in_old w id told q)
+  old_stays id told (Err cause) is = stay
+  old_stays id told (Ok r) is = is r refl
+
+  signal_stays : (signal : Signal) → Stays (answer_to w signal)
+  signal_stays (Tick now) = both Stays (ltb now w.moment) _ _ stay stay
+  signal_stays (Psk p) = both Stays (has_pair w.books.pairs p.own p.peer) _ _ stay (both Stays (ltb (length w.books.pairs) 64) _ _ stay stay)
+  signal_stays (Manual h) = both Stays (is_some (call_of w h.id)) _ _ stay
+      (both Stays (is_full w) _ _ stay (new_stays h.id (tells_live h.id) _ (λ r e. manual_stays (new_call w h.id) (manual_medium h) r e)))
+  signal_stays (Offered id way noise text) = go (call_of w id)
+    where
+      go : (o : Option Call) → Stays (offered_to w id way noise text o)
+      go None = both Stays (is_full w) _ _ stay (new_stays id (tells_text id (other_side (side_of way))) _ (λ r e. offer_stays (new_call w id) way noise text r e))
+      go (Some c) = old_stays id (tells_text id (other_side (side_of way))) _ (λ r e. offer_stays c way noise text r e)
+  signal_stays (Answered id noise text) = go (call_of w id)
+    where
+      go : (o : Option Call) → Stays (answered w id noise text o)
+      go None = stay
+      go (Some c) = old_stays id (tells_answer id (offering_side c.offer)) _ (λ r e. answer_stays c noise text c.offer r e)
+  signal_stays (Reject id) = go (call_of w id)
+    where
+      at : (c : Call) (r : Result (Option Call) Refusal) → Stays (rejected_to w c r)
+      at c (Err cause) = stay
+      at c (Ok None) = stay
+      at c (Ok (Some d)) = stay
+
+      go : (o : Option Call) → Stays (rejected w id o)
+      go None = stay
+      go (Some c) = at c (rejected_in w.moment c)
+  signal_stays (Bye id) = go (call_of w id)
+    where
+      go : (o : Option Call) → Stays (left w id o)
+      go None = stay
+      go (Some c) = stay
+
+  arrived_stays : (port : ℕ) (from : Address) (d : List ℕ) (o : Option Call) → Stay (arrived_at w port from d o).world.books.noted
+  arrived_stays port from d None = stay
+  arrived_stays port from d (Some c) = go (arrived_in w.moment port from d c)
+    where
+      go : (g : Given) → Stay (given_to w port g).world.books.noted
+      go (Drops cause) = stay
+      go (Puts p) = stay
+
+  pub event_stays : (e : Event) → Stay (step w e).world.books.noted
+  event_stays (Signalled signal) = signal_stays signal
+  event_stays (Datagram port from d) = arrived_stays port from d.items (call_at w port)

@@ -1,0 +1,36 @@
+use Rattle.std.proofs.Common.{◌≡◌, ◌+◌, Some, Ok, sym, subst}
+use Rattle.std.proofs.lemmas.List.Elements.{All-from_recursion}
+use Rattle.sg_agreement.specs.Keying.{Offer}
+use Rattle.sg_agreement.specs.Sides.{side_of}
+use Rattle.sg_sdp.specs.Reading.{description_of}
+use Rattle.sg_gateway.proofs.Addressed.{AreAddressed, answer_addresses}
+use Rattle.sg_gateway.proofs.Authentic.{offer_once}
+use Rattle.sg_gateway.proofs.Datagrams.{every_turn}
+use Rattle.sg_gateway.proofs.Kept.{IsOffered}
+use Rattle.sg_gateway.proofs.Reached.{Anything, anything_on, anything_had}
+use Rattle.sg_gateway.specs.Addressed.{OfferIsItsText, AnswerHasAddresses}
+use Rattle.sg_gateway.specs.Refusing.{IsRefused}
+use Rattle.sg_gateway.specs.Runs.{turns, turn_of}
+use Rattle.sg_gateway.specs.Step.{Event, step}
+use Rattle.sg_gateway.specs.World.{Call, World, call_of}
+use Rattle.sg_session.proofs.Lists.{each_of, each_weaker}
+use Rattle.sg_gateway.proofs.laws.texts_tell_addresses.Goals as goal
+
+text_at : (w : World) (e : Event) → OfferIsItsText (turn_of w e)
+text_at w e id way noise text same =
+    subst (λ (e : Event). ¬ IsRefused (turn_of w e)
+    → (call : Call) × (o : Offer) × (call_of (step w e).world id ≡ Some call) × (call.offer ≡ Some o) × (o.side ≡ side_of way) × (description_of text ≡ Ok o.description))
+    (sym same) (λ free. let is = offer_once w id way noise text free in (is.0, is.1, is.2, is.3, is.5.0, is.5.1))
+
+pub returns-clause-offers : goal.returns-clause-offers
+returns-clause-offers c = λ events.
+    All-from_recursion OfferIsItsText (turns events)
+    (every_turn Anything anything_on anything_had (λ t. Unit {0}) OfferIsItsText (λ past w e kept u. text_at w e) events (each_of (λ t. Unit {0}) (λ t. tt) (turns events)))
+
+pub returns-clause-answers : goal.returns-clause-answers
+returns-clause-answers c = λ events.
+    All-from_recursion AnswerHasAddresses (turns events)
+    (every_turn Anything anything_on anything_had (λ t. Unit {0}) AnswerHasAddresses
+    (λ past w e kept u id noise text call d o same is open_one. subst (λ (e : Event). call_of (step w e).world id ≡ Some d → d.generations ≡ call.generations + 1 → AreAddressed o text d) (sym same)
+    (answer_addresses w (each_weaker _ (λ c. IsOffered c.offer) (λ c k. k.offered) w.calls kept.calls) id noise text call o is open_one d))
+    events (each_of (λ t. Unit {0}) (λ t. tt) (turns events)))
