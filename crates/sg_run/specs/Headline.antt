@@ -1,8 +1,10 @@
 -- The headline.
 use Rattle.std.specs.Prelude.{List}
 use Rattle.sg_session.specs.Reach.{Sealed, AreSealed}
+use Rattle.sg_gateway.specs.Addressed.{OffersAreTheirTexts, AnswersHaveAddresses}
 use Rattle.sg_gateway.specs.Arriving.{EachArrivingIsPutOut}
-use Rattle.sg_gateway.specs.Busy.{EachCallIsBusy}
+use Rattle.sg_gateway.specs.Authentic.{MessagesAreAcceptedOnce}
+use Rattle.sg_gateway.specs.Busy.{EachCallIsBusy, EachPacketKeepsItsCall}
 use Rattle.sg_gateway.specs.CarriedOut.{ByesEnd, TicksMove, TicksKeep, RejectionsClose, AnswersRenew, AnswersKeepEarlier}
 use Rattle.sg_gateway.specs.Coming.{EachOpeningCame, EachSealCame}
 use Rattle.sg_gateway.specs.Departing.{EachDepartingIsSealed}
@@ -20,6 +22,7 @@ use Rattle.sg_gateway.specs.Refusing.{EachRefusalChangesNothing, EachRefusedOffe
 use Rattle.sg_gateway.specs.SealedOut.{EachSealGoesOut, OnlySealsGoOut, SignalsPutNothingOut}
 use Rattle.sg_gateway.specs.Served.{EachKeyServesItsLife, NoKeyIsOverspent}
 use Rattle.sg_gateway.specs.Step.{Event}
+use Rattle.sg_gateway.specs.Tags.{EachSessionHasWholeTags}
 use Rattle.sg_gateway.specs.Taken.{OffersAreTaken, ManualCallsAreTaken}
 use Rattle.sg_gateway.specs.Twice.{NoneTwice, NoneTwiceUnderKey, KeysHaveOneOwner}
 use Rattle.sg_gateway.specs.Unforged.{Unforged}
@@ -29,7 +32,8 @@ use Rattle.sg_gateway.specs.Used.{NoBlockTwice, EachSealUsesItsBlocks}
 -- out on a plain leg, and nothing unsealed on a secure one; nothing twice; nothing within reach lost; no
 -- counter block sealed twice. What these rest on: whose each key is, how many packets it may serve, that it is never
 -- forgotten, and the order of calls and names. What becomes of signals, taken and refused, of calls that end, and of
--- the generations before a call's current one. And no text that the plain side is told has a key.
+-- the generations before a call's current one. And what texts and messages have to do with it: no text that the plain
+-- side is told has a key, media go to the addresses that texts tell, and messages are accepted that are authentic.
 pub record Headline (events : List Event) : Type 0 where
   pub each_sealed : (sealed : List Sealed) → AreSealed sealed → Unforged sealed events → EachOpeningIsSealed sealed events
   pub highest : (sealed : List Sealed) → AreSealed sealed → Unforged sealed events → EachHighestIsSealed sealed events
@@ -60,6 +64,7 @@ pub record Headline (events : List Event) : Type 0 where
   pub not_overspent : NoKeyIsOverspent events
   pub not_forgotten : NoKeyIsForgotten events
   pub busy : EachCallIsBusy events
+  pub heard : EachPacketKeepsItsCall events
   pub moments : MomentComesOnce events
   pub byes : ByesEnd events
   pub ticks : TicksMove events
@@ -70,3 +75,7 @@ pub record Headline (events : List Event) : Type 0 where
   pub answers : AnswersRenew events
   pub earlier_kept : AnswersKeepEarlier events
   pub plain_texts : NoKeyGoesToThePlainSide events
+  pub offer_texts : OffersAreTheirTexts events
+  pub addresses : AnswersHaveAddresses events
+  pub tags : EachSessionHasWholeTags events
+  pub messages : MessagesAreAcceptedOnce events

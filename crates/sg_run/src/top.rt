@@ -114,4 +114,7 @@ fn headline()
     sg_gateway::signals_are_carried_out();
     sg_gateway::signals_are_taken();
     sg_gateway::plain_texts_have_no_key();
+    sg_gateway::texts_tell_addresses();
+    sg_gateway::tags_are_whole();
+    sg_gateway::messages_are_accepted_once();
 }
