@@ -36,8 +36,9 @@ SECONDS, ALL_SECONDS = 60, 900
 # How many packets may be on their way through a port at once: a buffer holds more.
 WINDOW = 64
 # Datagrams at each of 128 ports; at one port; packets of a call beside a flood, and forged ones that are handled
-# meanwhile; to closed ports; outcomes of each of 64 calls that nobody reads; and packets over a rollover.
-QUEUED, AT_ONE_PORT, TALKED, FORGED, CLOSED, UNREAD, ROLLED = 79, 10_000, 1000, 200_000, 200, 125, 65536
+# meanwhile; to closed ports; outcomes of each of 64 calls that nobody reads; packets over a rollover; and calls that
+# are made in the slot of one that has ended.
+QUEUED, AT_ONE_PORT, TALKED, FORGED, CLOSED, UNREAD, ROLLED, ANEW = 79, 10_000, 1000, 200_000, 200, 125, 65536, 20
 
 
 def keys_of(call):
@@ -89,8 +90,9 @@ class Peer:
 
 
 class Call:
-    def __init__(self, number, rollover=0):
-        self.number, self.ports = number, (20000 + 16 * number, 20002 + 16 * number)
+    def __init__(self, number, rollover=0, slot=None):
+        first = 20000 + 16 * (number if slot is None else slot)
+        self.number, self.ports = number, (first, first + 2)
         self.secure, self.plain, self.rollover = Peer(), Peer(), rollover
         self.from_peer, self.to_peer = keys_of(number)
 
@@ -355,6 +357,32 @@ def closed_ports(program):
     return f"{closed}; 100 to opened ones: 100 of 100 each way, status 0"
 
 
+def made_anew(program):
+    """Of two calls under traffic one ends and another is made in its slot, again and again. What waits at the ports of
+    the other call is put out all the same, and each new call carries its packets."""
+    gateway = Gateway(program, 2)
+    staying, leaving = gateway.calls
+    for number in range(2, 2 + ANEW):
+        indices = range(WINDOW * number, WINDOW * (number + 1))
+        ways = [staying.to_plain(indices), staying.to_secure(indices)]
+        for way in ways:
+            way.goes_on()
+        for seq in range(WINDOW):
+            leaving.secure.sends(leaving.ports[0], leaving.seals(WINDOW + seq))
+            leaving.plain.sends(leaving.ports[1], rtp(WINDOW + seq))
+        coming = Call(number, slot=1)
+        # One turn: the system tells of all four ports, and one datagram is handled.
+        gateway.write("tick 0", f"bye {leaving.number}", coming.line())
+        gateway.turns_until(3 * (number - 1), lambda: len(gateway.lines))
+        gateway.carries(*ways, coming.to_plain(range(WINDOW)), coming.to_secure(range(WINDOW)))
+        leaving = coming
+    told = gateway.ends()
+    wanted = [[f"ended {n - 1} 1 1 bye", f"made {n} 1 1", f"live {n}"] for n in range(2, 2 + ANEW)]
+    assert told == [line for lines in wanted for line in lines], told[:5]
+    packets = 2 * WINDOW * ANEW
+    return f"{ANEW} calls made anew in a slot beside a call that talks: {packets} of {packets} of its packets are out"
+
+
 def slow_reader(program):
     """8,000 outcomes that nobody reads until the pipe is full, and for two seconds more: the gateway waits, and then
     tells them all."""
@@ -460,7 +488,7 @@ def rollovers(program):
 
 
 ALL = (
-    queued_before_the_first_turn, queued_at_one_port, flooded, closed_ports, slow_reader, reader_that_goes,
+    queued_before_the_first_turn, queued_at_one_port, flooded, closed_ports, made_anew, slow_reader, reader_that_goes,
     over_rollovers,
 )
 PACED = (at_a_pace, rollovers)

@@ -1,15 +1,18 @@
 //! Datagrams of the system, on sockets of 127.0.0.1. The link tells no list.
 
-ghost use Rattle.std.specs.Prelude.{◌≡◌, ◌≤◌, length, IfOk, IfSome};
+ghost use Rattle.std.specs.Prelude.{◌≡◌, ◌≤◌, ◌∷◌, [], ◌++◌, ℕ, List, None, length, IfOk, IfSome, IsSome, OnOk, OnSome};
+ghost use Rattle.std.specs.Result.{is_ok};
+ghost use Rattle.sg_edge.specs.Links.{Added, Bind, LinkCall, Receive, Send, Unbind, received};
+ghost use Rattle.sg_edge.specs.Ports.{AreAsked, AreSame, AreSameBut, IsAsked, IsLeftBy, socket_at, without};
 ghost use Rattle.sg_edge.specs.Told.{HasCause, Rose};
 
 use crate::link::{Link, Receipt};
+use crate::ports::Ports;
 use crate::standard::is_passing;
 use mio::net::UdpSocket;
 use mio::{Events, Interest, Poll, Token};
 use sg_base::{Address, Failed, NoMemory, PAD_MOST, Pad};
 use std::alloc::Global;
-use std::collections::{BTreeMap, VecDeque};
 use std::io::ErrorKind;
 use std::net::{Ipv4Addr, Net, SocketAddr, SocketAddrV4};
 use std::thread;
@@ -24,22 +27,30 @@ const EVENTS_MOST: usize = 256;
 /// After so many datagrams the system is asked again which sockets have some.
 const LOOK_AFTER: u32 = 64;
 
-/// The socket of a port, and whether the port stands among the waiting ones.
+/// What the system tells of the sockets: which have a datagram.
 #[derive(Drop)]
-struct Bound {
-    socket: UdpSocket,
-    is_waiting: bool,
+struct Watch {
+    poll: Poll,
+    events: Events,
+}
+
+impl Watch {
+    /// Watches no socket. None out of memory, or where the system gives no descriptor for it.
+    fn make(alloc: Global, net: &impl Net) -> Option<Watch> {
+        let poll = Poll::new(net).ok()?;
+        let events = Events::with_capacity(alloc, EVENTS_MOST).ok()?;
+        Some(Watch { poll, events })
+    }
 }
 
 /// The sockets of the ports that are bound. Those that may have a datagram, as the system said, are asked in
 /// turn, one datagram each; the others aren't asked.
 #[derive(Drop)]
 pub struct UdpLink<R: Net + Drop> {
+    alloc: Global,
     net: R,
-    poll: Poll,
-    events: Events,
-    bound: BTreeMap<u16, Bound>,
-    waiting: VecDeque<u16>,
+    watch: Option<Watch>,
+    ports: Ports,
     given: u32,
     part: [u8; PAD_MOST],
     faults: u64,
@@ -82,89 +93,111 @@ fn send_again(socket: &UdpSocket, part: &[u8], to: SocketAddr) -> Result<(), Fai
     Err(Failed)
 }
 
+/// The ports of which the system tells wait from now on, behind the others.
+fn join_all(ports: &mut Ports, events: &Events) -> Result<(), NoMemory>
+    ensures bound { AreSame ports.old.bound ports.new.bound }
+    ensures behind { (more : List ℕ) × (ports.new.waiting.items ≡ ports.old.waiting.items ++ more) }
+{
+    for event in events {
+        if let Ok(port) = u16::try_from(event.token().0) {
+            ports.join(port)?;
+        }
+    }
+    Ok(())
+}
+
 impl<R: Net + Drop> UdpLink<R> {
-    /// A link without ports. It isn't made where memory is wanting, or the system gives no more of what tells
-    /// which sockets are ready.
-    pub fn make(alloc: Global, net: R) -> Result<UdpLink<R>, NoMemory> {
-        let Ok(poll) = Poll::new(&net) else {
-            return Err(NoMemory);
-        };
-        Ok(UdpLink {
+    /// A link without ports. What it needs of the system it takes at its first call.
+    pub fn make(alloc: Global, net: R) -> UdpLink<R>
+        ensures bound { (port : ℕ) → socket_at result.ports.bound port ≡ None }
+        ensures waiting { result.ports.waiting.items ≡ [] }
+    {
+        UdpLink {
+            alloc,
             net,
-            poll,
-            events: Events::with_capacity(alloc, EVENTS_MOST)?,
-            bound: BTreeMap::new(alloc),
-            waiting: VecDeque::new(alloc),
+            watch: None,
+            ports: Ports::new(alloc),
             given: 0,
             part: [0; PAD_MOST],
             faults: 0,
-        })
+        }
     }
 
     fn fail(&mut self) -> Failed
         ensures later { self.old.faults ≤ self.new.faults }
         ensures rose { Rose self.old.faults self.new.faults }
+        ensures ports { self.new.ports ≡ self.old.ports }
     {
         self.faults = self.faults.saturating_add(1);
         Failed
     }
 
-    /// A socket at the port, which the system watches. All memory that the port needs is taken here.
-    fn open(&mut self, port: u16) -> Option<()>
-        ensures { self.new.faults ≡ self.old.faults }
+    /// Has the system tell of the sockets from now on.
+    fn begin(&mut self) -> Option<()>
+        ensures faults { self.new.faults ≡ self.old.faults }
+        ensures ports { self.new.ports ≡ self.old.ports }
     {
-        let mut socket = UdpSocket::bind(&self.net, local(port)).ok()?;
-        self.poll
-            .registry()
-            .register(&mut socket, Token(usize::from(port)), Interest::READABLE)
-            .ok()?;
-        self.waiting.try_reserve(self.bound.len() + 1).ok()?;
-        let is_waiting = false;
-        self.bound.insert(port, Bound { socket, is_waiting }).ok()?;
+        if self.watch.is_none() {
+            self.watch = Some(Watch::make(self.alloc, &self.net)?);
+        }
         Some(())
     }
 
-    /// Asks the system which sockets have a datagram.
+    /// A socket at the port, which the system watches.
+    fn open(&mut self, port: u16) -> Option<()>
+        ensures faults { self.new.faults ≡ self.old.faults }
+        ensures bound { OnSome result (IsSome (socket_at self.new.ports.bound port)) }
+        ensures others { AreSameBut port self.old.ports.bound self.new.ports.bound }
+        ensures waiting { self.new.ports.waiting.items ≡ self.old.ports.waiting.items }
+    {
+        if self.ports.socket(port).is_some() {
+            return None;
+        }
+        self.begin()?;
+        let watch = self.watch.as_ref()?;
+        let mut socket = UdpSocket::bind(&self.net, local(port)).ok()?;
+        let token = Token(usize::from(port));
+        watch
+            .poll
+            .registry()
+            .register(&mut socket, token, Interest::READABLE)
+            .ok()?;
+        self.ports.add(port, socket).ok()
+    }
+
+    /// Asks the system which sockets have a datagram; these wait behind the others.
     fn look(&mut self, wait: Duration) -> Option<()>
-        ensures { self.new.faults ≡ self.old.faults }
+        ensures faults { self.new.faults ≡ self.old.faults }
+        ensures bound { AreSame self.old.ports.bound self.new.ports.bound }
+        ensures behind { (more : List ℕ) × (self.new.ports.waiting.items ≡ self.old.ports.waiting.items ++ more) }
     {
         self.given = 0;
-        if let Err(error) = self.poll.poll(&mut self.events, Some(wait)) {
+        self.begin()?;
+        let watch = self.watch.as_mut()?;
+        if let Err(error) = watch.poll.poll(&mut watch.events, Some(wait)) {
             if !is_passing(&error) {
                 return None;
             }
         }
-        for event in &self.events {
-            let Ok(port) = u16::try_from(event.token().0) else {
-                continue;
-            };
-            let Some(bound) = self.bound.get_mut(&port) else {
-                continue;
-            };
-            if !bound.is_waiting {
-                bound.is_waiting = true;
-                self.waiting.push_back(port).ok()?;
-            }
-        }
-        Some(())
+        join_all(&mut self.ports, &watch.events).ok()
     }
 
-    /// Asks the next socket that may have a datagram: the datagram, or that it has none.
+    /// Asks the socket whose turn it is: the datagram, or that it has none.
     fn ask(&mut self, pad: &mut Pad) -> Result<Receipt, Failed>
         ensures cause { HasCause self.old.faults self.new.faults result }
+        ensures bound { AreSame self.old.ports.bound self.new.ports.bound }
+        ensures asked { IsAsked result self.old.ports.waiting.items self.new.ports.waiting.items }
     {
-        let Some(port) = self.waiting.pop_front() else {
+        let Some((port, socket)) = self.ports.first() else {
             return Ok(Receipt::Nothing);
         };
-        let Some(bound) = self.bound.get_mut(&port) else {
-            return Ok(Receipt::Nothing);
-        };
-        match datagram_of(&bound.socket, &mut self.part) {
-            Err(Failed) => Err(self.fail()),
+        match datagram_of(socket, &mut self.part) {
+            Err(Failed) => {
+                self.ports.turn();
+                Err(self.fail())
+            }
             Ok(Some((count, SocketAddr::V4(from)))) => {
-                if self.waiting.push_back(port).is_err() {
-                    bound.is_waiting = false;
-                }
+                self.ports.turn();
                 self.given = self.given.saturating_add(1);
                 let _ = pad.fill(&self.part[..count]);
                 let from = Address {
@@ -174,7 +207,7 @@ impl<R: Net + Drop> UdpLink<R> {
                 Ok(Receipt::Got { port, from })
             }
             Ok(_) => {
-                bound.is_waiting = false;
+                self.ports.leave();
                 Ok(Receipt::Nothing)
             }
         }
@@ -183,12 +216,14 @@ impl<R: Net + Drop> UdpLink<R> {
     /// Asks each socket that may have a datagram once, up to the first that has one.
     fn ask_all(&mut self, pad: &mut Pad) -> Result<Receipt, Failed>
         ensures cause { HasCause self.old.faults self.new.faults result }
+        ensures bound { AreSame self.old.ports.bound self.new.ports.bound }
+        ensures asked { AreAsked result self.old.ports.waiting.items self.new.ports.waiting.items }
     {
-        for _ in 0..self.waiting.len() {
+        for _ in 0..self.ports.count() {
             match self.ask(pad) {
                 Err(Failed) => return Err(Failed),
+                Ok(Receipt::Got { port, from }) => return Ok(Receipt::Got { port, from }),
                 Ok(Receipt::Nothing) => {}
-                Ok(got) => return Ok(got),
             }
         }
         Ok(Receipt::Nothing)
@@ -196,29 +231,40 @@ impl<R: Net + Drop> UdpLink<R> {
 }
 
 impl<R: Net + Drop> Link for UdpLink<R> {
-    ghost use Rattle.std.specs.Prelude.{None};
-
     ghost told = { λ _. None };
 
     ghost faults = { λ l. l.faults };
 
-    fn bind(&mut self, port: u16) -> Result<(), Failed> {
+    fn bind(&mut self, port: u16) -> Result<(), Failed>
+        ensures told { Added {X = LinkCall} None None (Bind port (is_ok result) ∷ []) }
+        ensures cause { HasCause self.old.faults self.new.faults result }
+        ensures bound { OnOk result (IsSome (socket_at self.new.ports.bound port)) }
+        ensures others { AreSameBut port self.old.ports.bound self.new.ports.bound }
+        ensures waiting { self.new.ports.waiting.items ≡ self.old.ports.waiting.items }
+    {
         match self.open(port) {
             Some(()) => Ok(()),
             None => Err(self.fail()),
         }
     }
 
-    fn unbind(&mut self, port: u16) -> Result<(), Failed> {
-        if let Some(bound) = self.bound.remove(&port) {
-            if bound.is_waiting {
-                self.waiting.retain(|other| *other != port);
-            }
-        }
+    fn unbind(&mut self, port: u16) -> Result<(), Failed>
+        ensures told { Added {X = LinkCall} None None (Unbind port (is_ok result) ∷ []) }
+        ensures cause { HasCause self.old.faults self.new.faults result }
+        ensures gone { socket_at self.new.ports.bound port ≡ None }
+        ensures others { AreSameBut port self.old.ports.bound self.new.ports.bound }
+        ensures waiting { self.new.ports.waiting.items ≡ without port self.old.ports.waiting.items }
+    {
+        self.ports.remove(port);
         Ok(())
     }
 
-    fn receive(&mut self, pad: &mut Pad) -> Result<Receipt, Failed> {
+    fn receive(&mut self, pad: &mut Pad) -> Result<Receipt, Failed>
+        ensures told { Added {X = LinkCall} None None (Receive (received result pad.new) ∷ []) }
+        ensures cause { HasCause self.old.faults self.new.faults result }
+        ensures bound { AreSame self.old.ports.bound self.new.ports.bound }
+        ensures left { IsLeftBy result self.new.ports.waiting.items }
+    {
         if self.given >= LOOK_AFTER && self.look(Duration::from_millis(0)).is_none() {
             return Err(self.fail());
         }
@@ -233,11 +279,15 @@ impl<R: Net + Drop> Link for UdpLink<R> {
         self.ask_all(pad)
     }
 
-    fn send(&mut self, port: u16, to: Address, part: &[u8]) -> Result<(), Failed> {
+    fn send(&mut self, port: u16, to: Address, part: &[u8]) -> Result<(), Failed>
+        ensures told { Added {X = LinkCall} None None (Send port to part.now (is_ok result) ∷ []) }
+        ensures cause { HasCause self.old.faults self.new.faults result }
+        ensures ports { self.new.ports ≡ self.old.ports }
+    {
         let [a, b, c, d] = to.ip;
         let to = SocketAddr::V4(SocketAddrV4::new(Ipv4Addr::new(a, b, c, d), to.port));
-        if let Some(bound) = self.bound.get(&port) {
-            if let Ok(()) = send_again(&bound.socket, part, to) {
+        if let Some(socket) = self.ports.socket(port) {
+            if let Ok(()) = send_again(socket, part, to) {
                 return Ok(());
             }
         }

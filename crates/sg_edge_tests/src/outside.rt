@@ -307,7 +307,7 @@ fn next_receipt<L: Link>(link: &mut L, pad: &mut Pad) -> Result<Receipt, Failed>
 
 #[test]
 fn datagrams_of_the_system(rt: HostRuntime) -> Result<(), Fail> {
-    let mut link = UdpLink::make(rt.alloc(), &rt)?;
+    let mut link = UdpLink::make(rt.alloc(), &rt);
     let mut pad = Pad::make(rt.alloc())?;
     let near = bind_one(&rt, &mut link)?;
     let far = bind_one(&rt, &mut link)?;
@@ -331,7 +331,7 @@ fn send_long(rt: &HostRuntime, port: u16) -> Result<(Address, usize), Fail> {
 
 #[test]
 fn a_long_datagram_of_the_system(rt: HostRuntime) -> Result<(), Fail> {
-    let mut link = UdpLink::make(rt.alloc(), &rt)?;
+    let mut link = UdpLink::make(rt.alloc(), &rt);
     let mut pad = Pad::make(rt.alloc())?;
     let near = bind_one(&rt, &mut link)?;
     let (home, sent) = send_long(&rt, near.port)?;
@@ -344,7 +344,7 @@ fn a_long_datagram_of_the_system(rt: HostRuntime) -> Result<(), Fail> {
 
 #[test]
 fn ports_of_the_system(rt: HostRuntime) -> Result<(), Fail> {
-    let mut link = UdpLink::make(rt.alloc(), &rt)?;
+    let mut link = UdpLink::make(rt.alloc(), &rt);
     let (_socket, taken) = socket_of_its_own(&rt)?;
     assert!(rt; link.bind(taken.port) == Err(Failed));
     let home = bind_one(&rt, &mut link)?;
@@ -384,7 +384,7 @@ fn time_and_noise_of_the_system(rt: HostRuntime) -> Result<(), Fail> {
 /// The link listens at 127.0.0.1 alone: at another address the port is free.
 #[test]
 fn other_addresses_are_free(rt: HostRuntime) -> Result<(), Fail> {
-    let mut link = UdpLink::make(rt.alloc(), &rt)?;
+    let mut link = UdpLink::make(rt.alloc(), &rt);
     let home = bind_one(&rt, &mut link)?;
     let other = SocketAddr::V4(SocketAddrV4::new(Ipv4Addr::new(127, 0, 0, 2), home.port));
     let socket = UdpSocket::bind(&rt, other)?;
@@ -403,7 +403,7 @@ fn next_port<L: Link>(link: &mut L, pad: &mut Pad) -> u16 {
 /// Two ports that both have datagrams take turns.
 #[test]
 fn ports_take_turns(rt: HostRuntime) -> Result<(), Fail> {
-    let mut link = UdpLink::make(rt.alloc(), &rt)?;
+    let mut link = UdpLink::make(rt.alloc(), &rt);
     let mut pad = Pad::make(rt.alloc())?;
     let near = bind_one(&rt, &mut link)?;
     let far = bind_one(&rt, &mut link)?;
@@ -414,6 +414,23 @@ fn ports_take_turns(rt: HostRuntime) -> Result<(), Fail> {
     let second = next_port(&mut link, &mut pad);
     assert!(rt; first != second);
     assert!(rt; first != 0 && second != 0);
+    Ok(())
+}
+
+/// A port that is given up takes nothing from the others, and each keeps what waits.
+#[test]
+fn a_port_given_up_leaves_the_others(rt: HostRuntime) -> Result<(), Fail> {
+    let mut link = UdpLink::make(rt.alloc(), &rt);
+    let mut pad = Pad::make(rt.alloc())?;
+    let near = bind_one(&rt, &mut link)?;
+    let far = bind_one(&rt, &mut link)?;
+    for to in [near, far, near, far, near, far] {
+        assert!(rt; link.send(near.port, to, b"x") == Ok(()));
+    }
+    assert!(rt; next_port(&mut link, &mut pad) != 0);
+    assert!(rt; link.unbind(near.port) == Ok(()));
+    assert!(rt; next_port(&mut link, &mut pad) == far.port);
+    assert!(rt; next_port(&mut link, &mut pad) == far.port);
     Ok(())
 }
 

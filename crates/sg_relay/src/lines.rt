@@ -95,6 +95,7 @@ pub(crate) fn say<K: Sink, L: Link, C: Clock, N: Noise>(
     ensures link { IsDueToLink result (L.faults link.old) (L.faults link.new) }
     ensures clock { IsDueTo Status.Clock result (C.faults clock.old) (C.faults clock.new) (C.failed clock.new) }
     ensures noise { IsDueTo Status.Noise result (N.faults noise.old) (N.faults noise.new) (N.failed noise.new) }
+    ensures count { C.count clock.new + turns.new ≤ C.count clock.old + turns.old }
 {
     match line {
         Line::Header => Ok(pad),
@@ -129,6 +130,7 @@ pub(crate) fn begin<K: Sink, L: Link, C: Clock>(
     ensures write { IsDueTo Status.Write result (K.faults sink.old) (K.faults sink.new) (K.failed sink.new) }
     ensures link { IsDueToLink result (L.faults link.old) (L.faults link.new) }
     ensures clock { IsDueTo Status.Clock result (C.faults clock.old) (C.faults clock.new) (C.failed clock.new) }
+    ensures count { C.count clock.new ≤ C.count clock.old + 1 }
 {
     let began = match clock.now() {
         Err(Failed) => return Err(Status::Clock),

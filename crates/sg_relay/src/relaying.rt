@@ -33,6 +33,7 @@ pub fn relay<S: Source, K: Sink, L: Link, C: Clock, N: Noise>(
         × (¬ Rose (S.faults source.old) (S.faults source.new) → ¬ Rose (K.faults sink.old) (K.faults sink.new) → ¬ Rose (C.faults clock.old) (C.faults clock.new)
         → ¬ Rose (N.faults noise.old) (N.faults noise.new) → IsComplete result turns (S.left source.old) (S.left source.new) (L.faults link.old) (L.faults link.new) p) }
     ensures given { S.given source.new ≤ S.given source.old + (2 ^ 30 + 1) }
+    ensures count { C.count clock.new ≤ C.count clock.old + (turns + 1) }
     ensures read { HasFailed (result ≡ Status.Read) (S.faults source.old) (S.faults source.new) (S.failed source.new) }
     ensures write { HasFailed (result ≡ Status.Write) (K.faults sink.old) (K.faults sink.new) (K.failed sink.new) }
     ensures link { result ≡ Status.Link → Rose (L.faults link.old) (L.faults link.new) }

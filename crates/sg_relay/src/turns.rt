@@ -1,6 +1,6 @@
 //! The turns of a relay: a reading of the clock, then a receive.
 
-ghost use Rattle.std.specs.Prelude.{◌≡◌, ◌≤◌, ℕ, List, Bool, IfErr, false, max};
+ghost use Rattle.std.specs.Prelude.{◌≡◌, ◌≤◌, ◌+◌, ℕ, List, Bool, IfErr, false, max};
 ghost use Rattle.sg_course.specs.Course.{arrivals_of, last_moment, ticks_at};
 ghost use Rattle.sg_edge.specs.Links.{Added, Came, LinkCall, Received};
 ghost use Rattle.sg_edge.specs.Told.{Wrote};
@@ -133,6 +133,7 @@ fn turn<K: Sink, L: Link, C: Clock>(
     ensures write { IsDueTo Status.Write result (K.faults sink.old) (K.faults sink.new) (K.failed sink.new) }
     ensures link { IsDueToLink result (L.faults link.old) (L.faults link.new) }
     ensures clock { IsDueTo Status.Clock result (C.faults clock.old) (C.faults clock.new) (C.failed clock.new) }
+    ensures count { C.count clock.new ≤ C.count clock.old + 1 }
 {
     let moment = match clock.now() {
         Err(Failed) => return Err(Status::Clock),
@@ -169,6 +170,7 @@ pub(crate) fn wait<K: Sink, L: Link, C: Clock>(
     ensures write { IsDueTo Status.Write result (K.faults sink.old) (K.faults sink.new) (K.failed sink.new) }
     ensures link { IsDueToLink result (L.faults link.old) (L.faults link.new) }
     ensures clock { IsDueTo Status.Clock result (C.faults clock.old) (C.faults clock.new) (C.failed clock.new) }
+    ensures count { C.count clock.new + turns.new ≤ C.count clock.old + turns.old }
 {
     let mut pad = pad;
     'turns: while *turns > 0 {

@@ -161,6 +161,10 @@ pub no_relay_of_demo : (words : Words) (read : Command) (calls start many turns 
 no_relay_of_demo words read calls start many turns told is are =
     demo_not_relay calls start many turns (sym is ∙ read_is read (Relay turns) (told (Relay turns) are))
 
+-- a relay has as many turns as its words say
+pub turns_are : (words : Words) (read : Command) (turns turns' : ℕ) → IsToldOf words read → read ≡ Relay turns → AreWordsOf words (Relay turns') → turns ≡ turns'
+turns_are words read turns turns' told is are = same_turns turns turns' (sym is ∙ read_is read (Relay turns') (told (Relay turns') are))
+
 -- ---- what was run
 
 pub has_replayed : (words : Words) (read : Command) (many : ℕ) (status : Status) (old new : Outside) (events : List Event) → IsToldOf words read → read ≡ Replay many
@@ -175,7 +179,7 @@ pub has_relayed : (words : Words) (read : Command) (turns : ℕ) (status : Statu
     → HasRelayed turns status old new events → HasRun words status old new events
 has_relayed words read turns status old new events told is ran = record {
   replay = λ workers are. absurd (no_replay_of_relay words read turns workers told is are);
-  relay = λ turns' are. subst (λ n. HasRelayed n status old new events) (same_turns turns turns' (sym is ∙ read_is read (Relay turns') (told (Relay turns') are))) ran;
+  relay = λ turns' are. subst (λ n. HasRelayed n status old new events) (turns_are words read turns turns' told is are) ran;
   demo = λ calls start workers are. absurd (no_demo_of_relay words read turns calls start workers told is are);
 }
 

@@ -8,7 +8,7 @@ ghost use Rattle.sg_playback.specs.Replay.{IsComplete};
 ghost use Rattle.sg_run.specs.Headline.{Headline};
 ghost use Rattle.sg_run.specs.Run.{HasRun};
 ghost use Rattle.sg_words.specs.Commands.{AreWordsOf, IsNoCommand};
-ghost use Rattle.sg_words.specs.declared.command.Command.TheVariants.{Replay, Demo};
+ghost use Rattle.sg_words.specs.declared.command.Command.TheVariants.{Replay, Relay, Demo};
 
 use sg_course::Status;
 use sg_demo::demo;
@@ -57,6 +57,7 @@ pub fn run<R: Threads + Sync, S: Source, K: Sink, L: Link, C: Clock, N: Noise, G
         events
         × Headline events }
     ensures given { S.given source.new ≤ S.given source.old + (2 ^ 30 + 1) }
+    ensures turns { (turns : ℕ) → AreWordsOf (map string_bytes words.now) (Relay turns) → C.count clock.new ≤ C.count clock.old + (turns + 1) }
     ensures usage { result ≡ Status.Usage → IsNoCommand (map string_bytes words.now) }
     ensures no_command { IsNoCommand (map string_bytes words.now) → (result ≡ Status.Usage) ⊎ (result ≡ Status.NoMemory) }
     ensures untouched { IsNoCommand (map string_bytes words.now)

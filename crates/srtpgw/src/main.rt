@@ -7,28 +7,34 @@ mod progress;
 use crate::progress::Progress;
 use sg_edge::{RngNoise, StdSink, StdSource, SystemRng, UdpLink, WallClock};
 use sg_run::Status;
+use std::io::ErrorKind;
 use std::process::ExitCode;
 
-/// The words after the program's name; none out of memory.
-fn words(rt: &HostRuntime) -> Option<Vec<String>> {
-    let args = std::env::args(rt).ok()?;
-    args.skip(1).collect::<Vec<String>>(rt.alloc()).ok()
+/// The words after the program's name. `Usage` where one of all words isn't UTF-8.
+fn words(rt: &HostRuntime) -> Result<Vec<String>, Status> {
+    let args = std::env::args(rt).map_err(|error| match error.kind() {
+        ErrorKind::InvalidData => Status::Usage,
+        _ => Status::NoMemory,
+    })?;
+    args.skip(1)
+        .collect(rt.alloc())
+        .map_err(|_| Status::NoMemory)
 }
 
 fn main(rt: HostRuntime) -> ExitCode {
-    let status = match (words(&rt), UdpLink::make(rt.alloc(), &rt)) {
-        (Some(words), Ok(mut link)) => sg_run::run(
+    let status = match words(&rt) {
+        Err(status) => status,
+        Ok(words) => sg_run::run(
             &rt,
             rt.alloc(),
             &words,
             &mut StdSource::make(rt.reader()),
             &mut StdSink::make(std::io::writer(&rt)),
-            &mut link,
+            &mut UdpLink::make(rt.alloc(), &rt),
             &mut WallClock::make(&rt),
             &mut RngNoise::make(SystemRng(&rt)),
             &Progress::make(&rt, &words),
         ),
-        _ => Status::NoMemory,
     };
     if status != Status::Done {
         let _ = eprintln!(rt; "{status}");

@@ -60,6 +60,7 @@ lines-init g c =
       c.in-Ok-begin.ensures.link,
       c.in-Ok-begin.ensures.clock,
       refl,
+      omega (arith, c.in-Ok-begin.ensures.count),
     )
 
 pub returns-in-Err-next-clause-ran : goal.returns-in-Err-next-clause-ran
@@ -135,4 +136,5 @@ lines-preserved g c =
       omega (arith, c.lines.invariant.5, c.in-Ok-say.ensures.link),
       c.in-Ok-say.ensures.clock ∙ c.lines.invariant.6,
       c.in-Ok-say.ensures.noise ∙ c.lines.invariant.7,
+      omega (arith, c.lines.invariant.8, c.in-Ok-say.ensures.count),
     )

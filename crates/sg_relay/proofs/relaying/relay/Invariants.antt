@@ -19,6 +19,7 @@ invariant-lines g l =
     × (l.began ≤ last_moment) × (g.S.Source.given l.source + l.script.budget ≤ g.S.Source.given l.fn.source + (2 ^ 30 + 1))
     × (g.S.Source.faults l.source ≡ g.S.Source.faults l.fn.source) × (g.K.Sink.faults l.sink ≡ g.K.Sink.faults l.fn.sink)
     × (g.L.Link.faults l.fn.link ≤ g.L.Link.faults l.link) × (g.C.Clock.faults l.clock ≡ g.C.Clock.faults l.fn.clock) × (g.N.Noise.faults l.noise ≡ g.N.Noise.faults l.fn.noise)
+    × (g.C.Clock.count l.clock + l.left ≤ g.C.Clock.count l.fn.clock + (l.turns + 1))
 
 abbrev pub decreases-lines : goal.decreases-lines
 decreases-lines g l = 2 ^ 30 - l.script.offset

@@ -14,6 +14,7 @@ turns-init g c = (
   search rules,
   search rules,
   search rules,
+  omega arith,
 )
 
 pub returns-in-Err-clause-waited : goal.returns-in-Err-clause-waited
@@ -74,6 +75,7 @@ turns-preserved g c = (
   c.in-Ok.ensures.write ∙ c.turns.invariant.1,
   omega (arith, c.turns.invariant.2, c.in-Ok.ensures.link),
   c.in-Ok.ensures.clock ∙ c.turns.invariant.3,
+  omega (arith, c.turns.invariant.4, c.in-Ok.ensures.count, c.turns-test.true),
 )
 
 pub returns-clause-waited : goal.returns-clause-waited

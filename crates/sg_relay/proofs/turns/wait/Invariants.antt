@@ -20,6 +20,7 @@ invariant-turns g l =
     × IsDone (outcomes_from w es) calls out × AreGood calls × TableStandsFor l.table (world_after w es)
     × (length readings ≡ length (receipts_in calls)) × (length readings + l.turns ≡ l.fn.turns) × IsWaitInOrder l.until w l.fn.top readings calls)
     × (g.K.Sink.faults l.sink ≡ g.K.Sink.faults l.fn.sink) × (g.L.Link.faults l.fn.link ≤ g.L.Link.faults l.link) × (g.C.Clock.faults l.clock ≡ g.C.Clock.faults l.fn.clock)
+    × (g.C.Clock.count l.clock + l.turns ≤ g.C.Clock.count l.fn.clock + l.fn.turns)
 
 abbrev pub decreases-turns : goal.decreases-turns
 decreases-turns g l = l.turns
