@@ -1,5 +1,5 @@
 -- The ports that a link has bound, and those that wait to be asked.
-use Rattle.std.specs.Prelude.{◌≡◌, ◌≢◌, ◌==◌, ⊤, ℕ, Bool, true, false, not, cond, List, [], ◌∷◌, ◌++◌, count_by, drop, filter, take, Option, Some, None, Result, Ok, Err, option_map}
+use Rattle.std.specs.Prelude.{◌≡◌, ◌≢◌, ◌==◌, ⊤, ℕ, Bool, false, not, cond, List, [], ◌∷◌, ◌++◌, count_by, drop, filter, take, Option, Some, None, Result, Ok, Err, option_map}
 use Rattle.std.specs.BTreeMap.{BTreeMap, get}
 use Rattle.std.specs.Ordering.{nat_cmp}
 use Rattle.mio.specs.declared.net.udp.UdpSocket.{UdpSocket}

@@ -1,6 +1,6 @@
 //! Datagrams of the system, on sockets of 127.0.0.1. The link tells no list.
 
-ghost use Rattle.std.specs.Prelude.{◌≡◌, ◌≤◌, ◌∷◌, [], ◌++◌, ℕ, List, None, length, IfOk, IfSome, IsSome, OnOk, OnSome};
+ghost use Rattle.std.specs.Prelude.{◌≡◌, ◌≤◌, ◌∷◌, [], ◌++◌, ℕ, List, None, length, IfNone, IfOk, IfSome, IsSome, OnErr, OnOk, OnSome};
 ghost use Rattle.std.specs.Result.{is_ok};
 ghost use Rattle.sg_edge.specs.Links.{Added, Bind, LinkCall, Receive, Send, Unbind, received};
 ghost use Rattle.sg_edge.specs.Ports.{AreAsked, AreSame, AreSameBut, IsAsked, IsLeftBy, socket_at, without};
@@ -147,6 +147,7 @@ impl<R: Net + Drop> UdpLink<R> {
     fn open(&mut self, port: u16) -> Option<()>
         ensures faults { self.new.faults ≡ self.old.faults }
         ensures bound { OnSome result (IsSome (socket_at self.new.ports.bound port)) }
+        ensures none { IfNone result (AreSame self.old.ports.bound self.new.ports.bound) }
         ensures others { AreSameBut port self.old.ports.bound self.new.ports.bound }
         ensures waiting { self.new.ports.waiting.items ≡ self.old.ports.waiting.items }
     {
@@ -239,6 +240,7 @@ impl<R: Net + Drop> Link for UdpLink<R> {
         ensures told { Added {X = LinkCall} None None (Bind port (is_ok result) ∷ []) }
         ensures cause { HasCause self.old.faults self.new.faults result }
         ensures bound { OnOk result (IsSome (socket_at self.new.ports.bound port)) }
+        ensures err { OnErr result (AreSame self.old.ports.bound self.new.ports.bound) }
         ensures others { AreSameBut port self.old.ports.bound self.new.ports.bound }
         ensures waiting { self.new.ports.waiting.items ≡ self.old.ports.waiting.items }
     {
