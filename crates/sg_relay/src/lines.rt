@@ -1,6 +1,6 @@
 //! What a relay does at a line of its script.
 
-ghost use Rattle.std.specs.Prelude.{◌≡◌, ◌≤◌, ℕ, [], List, Bool, IfErr, IfOk, None, length};
+ghost use Rattle.std.specs.Prelude.{◌≡◌, ◌≤◌, ◌+◌, ℕ, [], List, Bool, IfErr, IfOk, None, length};
 ghost use Rattle.sg_course.specs.Course.{Command, Relays, last_moment, wait_in};
 ghost use Rattle.sg_edge.specs.Links.{Added, LinkCall};
 ghost use Rattle.sg_edge.specs.Told.{Wrote};
