@@ -23,16 +23,23 @@ use Rattle.sg_gateway.specs.Passing.{taken_from, taken_towards, sent_towards, se
 use Rattle.sg_gateway.specs.Ports.{address_out}
 use Rattle.sg_gateway.proofs.Arrivals.{same_direction_at}
 use Rattle.sg_call.proofs.Paired.{stands_at, stands_set, position_same}
+use Rattle.sg_media.specs.Either.{if_refused}
 use Rattle.sg_gateway.specs.Batch as batch
 use Rattle.sg_gateway.specs.Datagrams.{Given, Drops, put, call_after, opened_or, drop_of, sealed_or, arrived_towards, arrived_among, arrived_in}
 use Rattle.sg_gateway.specs.Ports.{sessions_at, port_out, port_in}
 use Rattle.sg_gateway.specs.Generations.{is_current}
 use Rattle.sg_gateway.specs.World.{Call}
-use Rattle.sg_call.specs.Handling.{kept_or, handled_of, handled_by, handled_by_either, if_refused, unused, IsPassed}
-use Rattle.sg_call.specs.Standing.{PathStandsFor, SessionsStand}
-use Rattle.sg_call.specs.declared.handled.End.TheVariants.{Dropped}
+use Rattle.sg_call.specs.Handling.{OnDrop, kept_or, handled_of, handled_by, handled_by_either, unused, IsPassed}
+use Rattle.sg_call.specs.Standing.{OpensFor, PathStandsFor, SessionsStand}
+use Rattle.sg_call.specs.declared.handled.End.{End}
+use Rattle.sg_call.specs.declared.handled.End.TheVariants.{Out, Dropped}
 use Rattle.sg_call.specs.declared.handled.Handled.{Handled}
 use Rattle.sg_call.specs.declared.path.Path.{Path}
+
+-- what follows where a datagram is dropped
+pub on_drop : {P Q : Type 0} (e : End) → (P → Q) → OnDrop e P → OnDrop e Q
+on_drop (Out port to) f p = tt
+on_drop (Dropped cause) f p = f p
 
 -- what one session gives
 given_of : ℕ → Call → Session → Direction → Result Taken DropCause → Given
@@ -275,10 +282,10 @@ module _ (now port : ℕ) (from : Address) (d : List ℕ) (c : Call) where
       by_earlier = let at_session : position (At c.slot port) stand.before ≡ Some i = sym place_before ∙ at in with_some _ i (λ t. before_one t at_session) stand.before at_session
 
     module _ (i j : ℕ) (at : position at_path current ≡ Some i) (at_too : position at_path earlier ≡ Some j) (other new other_too new_too : Path) (h : Handled)
-        (answers : (slot : ℕ) (s e : Session) → PathStandsFor slot (get_or current i other) s → PathStandsFor slot (get_or earlier j other_too) e
+        (answers : (slot : ℕ) (s e : Session) → OpensFor slot (get_or current i other) s → OpensFor slot (get_or earlier j other_too) e
         → h ≡ handled_by_either (get_or current i other).out (get_or current i other).to (get_or earlier j other_too).out (get_or earlier j other_too).to d (sent_by s (taken_from from d s)) (sent_by e (taken_from from d e)))
-        (left : (slot : ℕ) (s : Session) → PathStandsFor slot (get_or current i other) s → PathStandsFor slot new (after s (taken_from from d s)))
-        (left_too : (slot : ℕ) (s e : Session) → PathStandsFor slot (get_or current i other) s → PathStandsFor slot (get_or earlier j other_too) e
+        (left : (slot : ℕ) (s : Session) → OpensFor slot (get_or current i other) s → PathStandsFor slot new (after s (taken_from from d s)))
+        (left_too : (slot : ℕ) (s e : Session) → OpensFor slot (get_or current i other) s → OpensFor slot (get_or earlier j other_too) e
         → PathStandsFor slot new_too (after e (if_refused (taken_from from d s) (taken_from from d e)))) where
       two_one : (t u : Session) → position (At c.slot port) stand.now ≡ Some i → position (At c.slot port) stand.before ≡ Some j → IsPassed now port from d c h (set current i new) (set earlier j new_too)
       unfolding stand_now
@@ -297,10 +304,10 @@ module _ (now port : ℕ) (from : Address) (d : List ℕ) (c : Call) where
           let q : Result Taken DropCause = taken_from from d e in
           record {
             after = with_taken now (with_taken now c s r) e (if_refused r q);
-            is = answers c.slot s e s_stands e_stands ∙ (λ k. handled_by_either (s_stands.out k) (s_stands.to k) (e_stands.out k) (e_stands.to k) d (sent_towards s r (of_s k)) (sent_towards e q (of_e k)))
+            is = answers c.slot s e (s_stands, of_s) (e_stands, of_e) ∙ (λ k. handled_by_either (s_stands.out k) (s_stands.to k) (e_stands.out k) (e_stands.to k) d (sent_towards s r (of_s k)) (sent_towards e q (of_e k)))
                 ∙ handled_two s e r q ∙ sym (ap (handled_of d) given);
             after_is = after_two s e r q ∙ sym (ap (λ g. batch.after g c) given);
-            stand = two_stand t u at_now at_before r q (left c.slot s s_stands) (left_too c.slot s e s_stands e_stands);
+            stand = two_stand t u at_now at_before r q (left c.slot s (s_stands, of_s)) (left_too c.slot s e (s_stands, of_s) (e_stands, of_e));
           }
         where
           at_port : (ss : List Session) (s : Session) → filter (At c.slot port) ss ≡ s ∷ [] → port_in c s ≡ port

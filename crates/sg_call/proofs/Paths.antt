@@ -25,11 +25,11 @@ same_address : (s : Session) (done : List Done) (dir : Direction) → address_to
 same_address s done Opening = refl
 same_address s done Sealing = refl
 
-path_after : (slot : ℕ) (path : Path) (side : MediaSide) (s : Session) (r : Result Taken DropCause) → PathStandsFor slot path s → SideStandsFor side (after s r) → PathStandsFor slot (record path { side = side }) (after s r)
+pub path_after : (slot : ℕ) (path : Path) (side : MediaSide) (s : Session) (r : Result Taken DropCause) → PathStandsFor slot path s → SideStandsFor side (after s r) → PathStandsFor slot (record path { side = side }) (after s r)
 path_after slot path side s (Ok t) h k = record { port = h.port; out = h.out; to = h.to ∙ same_address s (after s (Ok t)).done s.name.owner.direction; plain = h.plain; side = k }
 path_after slot path side s (Err cause) h k = record { port = h.port; out = h.out; to = h.to; plain = h.plain; side = k }
 
-opens_after : (side : SideValue) (s : Session) (r : Result Taken DropCause) → s.name.owner.direction ≡ Opening → StandsFor side (after s r) → SideStandsFor (Opens side) (after s r)
+pub opens_after : (side : SideValue) (s : Session) (r : Result Taken DropCause) → s.name.owner.direction ≡ Opening → StandsFor side (after s r) → SideStandsFor (Opens side) (after s r)
 opens_after side s (Ok t) e h = (e, h)
 opens_after side s (Err cause) e h = (e, h)
 
@@ -59,6 +59,13 @@ module _ (slot : ℕ) (path : Path) (from : Address) (d : List ℕ) (s : Session
     pub sealing_after : (new : SideValue) → (s.plain ≡ path.plain → StandsFor side s → StandsFor new (after s (taken_towards from d s Sealing))) → PathStandsFor slot (record path { side = Seals new }) (after s (taken_from from d s))
     sealing_after new left = path_after slot path (Seals new) s (taken_from from d s) stands
         (seals_after new s (taken_from from d s) sealing.0 (subst (λ dir. StandsFor new (after s (taken_towards from d s dir))) (sym sealing.0) (left (sym stands.plain) sealing.1)))
+
+-- a path whose side stays stays
+pub opening_stays : (path : Path) (side new : SideValue) → path.side ≡ Opens side → new ≡ side → record path { side = Opens new } ≡ path
+opening_stays path side new is same = λ i. record path { side = (ap Opens same ∙ sym is) i }
+
+pub sealing_stays : (path : Path) (side new : SideValue) → path.side ≡ Seals side → new ≡ side → record path { side = Seals new } ≡ path
+sealing_stays path side new is same = λ i. record path { side = (ap Seals same ∙ sym is) i }
 
 -- what no side opens is handed back with its cause
 pub refused_so : (kind : Kind) (d : List ℕ) (e : List ℕ × DropCause) (b : Bool) (r : Result Taken DropCause) → b ≡ false → (let x : Result Opened (List ℕ × DropCause) = Err e in x ≡ opened_of kind d r)

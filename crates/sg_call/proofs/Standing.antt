@@ -7,9 +7,11 @@ use Rattle.sg_gateway.specs.Batch as batch
 use Rattle.sg_gateway.specs.Datagrams.{Given, arrived_in}
 use Rattle.sg_gateway.specs.World.{Call}
 use Rattle.sg_call.specs.Drained.{IsDrained, IsNextHandled}
-use Rattle.sg_call.specs.Handling.{handled_of, moment_after, gives, call_after, all_handled, IsPassed}
+use Rattle.sg_call.specs.Handling.{OnDrop, handled_of, moment_after, gives, call_after, all_handled, IsPassed}
 use Rattle.sg_call.specs.Standing.{SessionsStand, CallStandsFor}
 use Rattle.sg_call.specs.Values.{CallValue, WaitingValue}
+use Rattle.sg_call.specs.declared.handled.End.{End}
+use Rattle.sg_call.specs.declared.handled.End.TheVariants.{Out, Dropped}
 use Rattle.sg_call.specs.declared.handled.Handled.{Handled}
 use Rattle.sg_call.specs.States.{StateStandsFor, IsFormer}
 use Rattle.sg_call.specs.declared.path.Path.{Path}
@@ -32,6 +34,15 @@ kept : (now port : ℕ) (d : List ℕ) (c : Call) (g : Given) → Arrival now po
 kept now port d c g (IsDrop cause is) = subst (IsKeptBy d now c) (sym is) (record { id_is = refl; slot_is = refl; media_are = refl; generations_are = refl; replaced_is = refl; moment_is = refl })
 kept now port d c g (IsOpening o) = subst (IsKeptBy d now c) (sym o.gives) (record { id_is = refl; slot_is = refl; media_are = refl; generations_are = refl; replaced_is = refl; moment_is = refl })
 kept now port d c g (IsSeal o) = subst (IsKeptBy d now c) (sym o.gives) (record { id_is = refl; slot_is = refl; media_are = refl; generations_are = refl; replaced_is = refl; moment_is = refl })
+
+-- a call whose paths stay where the datagram is dropped stays there
+pub drop_stays : (P : Type 0) (v w : CallValue) (e : End) (now n : ℕ) (current current' now_paths earlier earlier' before_paths : List Path)
+    → v ≡ w → current' ≡ current → now_paths ≡ v.current → earlier' ≡ earlier → before_paths ≡ v.earlier → n ≡ moment_after e now v.moment
+    → OnDrop e (P × (current ≡ now_paths) × (earlier ≡ before_paths)) → OnDrop e (P × (record v { current = current'; earlier = earlier'; moment = n } ≡ w))
+drop_stays P v w (Out port to) now n current current' now_paths earlier earlier' before_paths same a b c d at p = tt
+drop_stays P v w (Dropped cause) now n current current' now_paths earlier earlier' before_paths same a b c d at p =
+    let stays : record v { current = current'; earlier = earlier'; moment = n } ≡ v = λ i. record v { current = (a ∙ p.1 ∙ b) i; earlier = (c ∙ p.2 ∙ d) i; moment = at i } in
+    (p.0, stays ∙ same)
 
 -- sessions and moment are nothing to the state
 pub state_moved : (pairs : List Pair) (st : State) (c : Call) (ss : List Session) (n : ℕ) → StateStandsFor pairs st c → StateStandsFor pairs st (record c { sessions = ss; moment = n })

@@ -1,87 +1,103 @@
--- What two paths hand back, of which the second is tried where the first refuses.
-use Rattle.std.proofs.Common.{◌≡◌, ℕ, List, Result, Ok, Err, refl, sym, ap, ◌∙◌, subst}
+-- What two paths that open hand back of one datagram, of which the second is tried where the first refuses.
+use Rattle.std.proofs.Common.{◌≡◌, ℕ, Bool, true, false, cond, List, length, ltb, Result, Ok, Err, refl, sym, ap, ◌∙◌, subst}
 use Rattle.sg_base.specs.declared.addresses.Address.{Address}
+use Rattle.sg_base.specs.declared.addresses.Kind.{Kind}
 use Rattle.sg_base.specs.declared.faults.DropCause.{DropCause}
+use Rattle.sg_base.specs.declared.faults.DropCause.TheVariants.{TooLong}
 use Rattle.sg_session.specs.OneSession.{after}
-use Rattle.sg_session.specs.Opening.{Taken}
+use Rattle.sg_session.specs.Opening.{Taken, opens}
 use Rattle.sg_session.specs.Session.{Session}
 use Rattle.sg_session.specs.declared.names.Direction.{Direction}
 use Rattle.sg_session.specs.declared.names.Direction.TheVariants.{Opening, Sealing}
-use Rattle.sg_gateway.specs.Passing.{sent_by, sent_towards, taken_from}
-use Rattle.sg_call.specs.Handling.{kept_or, handled_by, handled_by_either, if_refused}
-use Rattle.sg_call.specs.Standing.{PathStandsFor}
+use Rattle.sg_gateway.specs.Passing.{packet_in, sent_by, sent_towards, taken_from, taken_towards}
+use Rattle.sg_media.specs.Answers.{opened_of}
+use Rattle.sg_media.specs.Either.{first_opened, if_refused}
+use Rattle.sg_media.specs.Sides.{SideValue, StandsFor}
+use Rattle.sg_media.specs.declared.either.Which.{Which}
+use Rattle.sg_media.specs.declared.either.Which.TheVariants.{Current, Earlier}
+use Rattle.sg_media.specs.declared.inbound.Opened.{Opened}
+use Rattle.sg_call.proofs.Paths.{opens_after, path_after}
+use Rattle.sg_call.specs.Handling.{handled_by_either}
+use Rattle.sg_call.specs.Standing.{OpensFor, PathStandsFor, SideStandsFor}
 use Rattle.sg_call.specs.declared.handled.End.TheVariants.{Out, Dropped}
 use Rattle.sg_call.specs.declared.handled.Handled.{Handled}
 use Rattle.sg_call.specs.declared.path.Path.{Path}
+use Rattle.sg_call.specs.declared.path.MediaSide.TheVariants.{Opens, Seals}
 
-not_dropped : (p : ℕ) (t : Address) (cause : DropCause) → Out p t ≡ Dropped cause → ⊥
-not_dropped p t cause e = cc
+-- what two sides open, handed back
+abbrev pub given_by : ℕ → Address → ℕ → Address → Result (Which × Opened) (List ℕ × DropCause) → Handled
+given_by out to out' to' (Ok (Current, o)) = record { pad = o.pad; end = Out out to }
+given_by out to out' to' (Ok (Earlier, o)) = record { pad = o.pad; end = Out out' to' }
+given_by out to out' to' (Err (pad, cause)) = record { pad = pad; end = Dropped cause }
 
--- what is forwarded was sent, and what is dropped was not
-record WasSent (out : ℕ) (to : Address) (h : Handled) (r : Result (List ℕ) DropCause) : Type 0 where
-  octets : List ℕ
-  sent : r ≡ Ok octets
-  handled : h ≡ record { pad = octets; end = Out out to }
+-- one of the two has opened it
+pub told_as : (which of_it : Which) (o : Opened) (r x : Result (Which × Opened) (List ℕ × DropCause)) → r ≡ Ok (of_it, o) → of_it ≡ which → r ≡ x → (let y : Result (Which × Opened) (List ℕ × DropCause) = Ok (which, o) in y ≡ x)
+told_as which of_it o r x is same e = ap (λ (w : Which). Ok (w, o)) (sym same) ∙ sym is ∙ e
 
-was_sent : (out : ℕ) (to : Address) (d : List ℕ) (h : Handled) (p : ℕ) (t : Address) (r : Result (List ℕ) DropCause) → h ≡ handled_by out to (kept_or d r) → h.end ≡ Out p t → WasSent out to h r
-was_sent out to d h p t (Ok octets) is end = record { octets = octets; sent = refl; handled = is }
-was_sent out to d h p t (Err cause) is end = absurd (not_dropped p t cause (sym end ∙ ap (λ (h : Handled). h.end) is))
+-- a path that seals isn't one of a session that opens
+pub no_seal : (slot : ℕ) (path : Path) (s : Session) (side : SideValue) → OpensFor slot path s → path.side ≡ Seals side → ⊥
+no_seal slot path s side opening is = two s.name.owner.direction opening.1 (subst (λ m. SideStandsFor m s) is opening.0.side).0
+  where
+    two : (dir : Direction) → dir ≡ Opening → dir ≡ Sealing → ⊥
+    two Opening a b = cc
+    two Sealing a b = cc
 
-same_cause : (a b : DropCause) → Dropped a ≡ Dropped b → a ≡ b
-same_cause a b e = cc
+-- the side of a path that opens stands for its session
+pub opening_side : (slot : ℕ) (path : Path) (s : Session) (side : SideValue) → OpensFor slot path s → path.side ≡ Opens side → StandsFor side s
+opening_side slot path s side opening is = (subst (λ m. SideStandsFor m s) is opening.0.side).1
 
-was_refused : (out : ℕ) (to : Address) (d : List ℕ) (h : Handled) (cause : DropCause) (r : Result (List ℕ) DropCause) → h ≡ handled_by out to (kept_or d r) → h.end ≡ Dropped cause
-    → (let e : Result (List ℕ) DropCause = Err cause in r ≡ e) × (h.pad ≡ d)
-was_refused out to d h cause (Ok octets) is end = absurd (not_dropped out to cause (sym (ap (λ (h : Handled). h.end) is) ∙ end))
-was_refused out to d h cause (Err other) is end =
-    (ap (λ c. Err c) (same_cause other cause (sym (ap (λ (h : Handled). h.end) is) ∙ end)), ap (λ (h : Handled). h.pad) is)
+module _ (kind other : Kind) (d : List ℕ) (out : ℕ) (to : Address) (out' : ℕ) (to' : Address) where
+  fits_both : (b : Bool) (r q : Result Taken DropCause) → b ≡ false
+      → given_by out to out' to' (first_opened (opened_of kind d r) (opened_of other d q)) ≡ handled_by_either out to out' to' d (packet_in (cond b (Err TooLong) r)) (packet_in (cond b (Err TooLong) q))
+  fits_both true r q e = absurd cc
+  fits_both false (Ok t) q e = refl
+  fits_both false (Err cause) (Ok t) e = refl
+  fits_both false (Err cause) (Err last) e = refl
 
--- what was sent was taken, and what was refused was not
-took : (s : Session) (dir : Direction) (octets : List ℕ) (r : Result Taken DropCause) → (let e : Result (List ℕ) DropCause = Ok octets in sent_towards s r dir ≡ e) → (t : Taken) × (r ≡ Ok t)
-took s dir octets (Ok t) e = (t, refl)
-took s Opening octets (Err cause) e = absurd cc
-took s Sealing octets (Err cause) e = absurd cc
+  neither_fits : (b : Bool) (r q : Result Taken DropCause) → b ≡ true
+      → record { pad = d; end = Dropped TooLong } ≡ handled_by_either out to out' to' d (packet_in (cond b (Err TooLong) r)) (packet_in (cond b (Err TooLong) q))
+  neither_fits true r q e = refl
+  neither_fits false r q e = absurd cc
 
-refused : (s : Session) (dir : Direction) (cause : DropCause) (r : Result Taken DropCause) → (let e : Result (List ℕ) DropCause = Err cause in sent_towards s r dir ≡ e) → r ≡ Err cause
-refused s Opening cause (Ok t) e = absurd cc
-refused s Sealing cause (Ok t) e = absurd cc
-refused s Opening cause (Err other) e = let same : other ≡ cause = cc in ap (λ c. Err c) same
-refused s Sealing cause (Err other) e = let same : other ≡ cause = cc in ap (λ c. Err c) same
+both_fit : (P : Result Taken DropCause → Result Taken DropCause → Type 0) (b : Bool) (r q : Result Taken DropCause) → b ≡ false → P r q → P (cond b (Err TooLong) r) (cond b (Err TooLong) q)
+both_fit P true r q e p = absurd cc
+both_fit P false r q e p = p
 
-module _ (from : Address) (d : List ℕ) (s e : Session) (out : ℕ) (to : Address) (out' : ℕ) (to' : Address) (h : Handled) where
-  abbrev sent : List ℕ → Session → Result (List ℕ) DropCause
-  sent x t = sent_by t (taken_from from x t)
+none_fit : (P : Result Taken DropCause → Result Taken DropCause → Type 0) (b : Bool) (r q : Result Taken DropCause) → b ≡ true → P (Err TooLong) (Err TooLong) → P (cond b (Err TooLong) r) (cond b (Err TooLong) q)
+none_fit P true r q e p = p
+none_fit P false r q e p = absurd cc
 
-  module _ (is : h ≡ handled_by out to (kept_or d (sent d s))) where
-    -- the first takes it
-    module _ (p : ℕ) (t : Address) (end : h.end ≡ Out p t) where
-      pub either_first : h ≡ handled_by_either out to out' to' d (sent d s) (sent d e)
-      either_first = let w = was_sent out to d h p t (sent d s) is end in
-          w.handled ∙ ap (λ r. handled_by_either out to out' to' d r (sent d e)) (sym w.sent)
+module _ (from : Address) (d : List ℕ) (s e : Session) (of_s : s.name.owner.direction ≡ Opening) (of_e : e.name.owner.direction ≡ Opening) where
+  -- of two that open
+  sent : (out : ℕ) (to : Address) (out' : ℕ) (to' : Address)
+      → handled_by_either out to out' to' d (packet_in (taken_towards from d s Opening)) (packet_in (taken_towards from d e Opening)) ≡ handled_by_either out to out' to' d (sent_by s (taken_from from d s)) (sent_by e (taken_from from d e))
+  sent out to out' to' =
+      λ i. handled_by_either out to out' to' d (sent_towards s (taken_towards from d s (sym of_s i)) (sym of_s i)) (sent_towards e (taken_towards from d e (sym of_e i)) (sym of_e i))
 
-      pub second_stays : (slot : ℕ) (path : Path) → PathStandsFor slot path e → PathStandsFor slot path (after e (if_refused (taken_from from d s) (taken_from from d e)))
-      second_stays slot path stands =
-          let w = was_sent out to d h p t (sent d s) is end in
-          let (t, taken) = took s s.name.owner.direction w.octets (taken_from from d s) w.sent in
-          subst (λ r. PathStandsFor slot path (after e (if_refused r (taken_from from d e)))) (sym taken) stands
+  -- what they take, by what they take where they open
+  taken : (P : Result Taken DropCause → Result Taken DropCause → Type 0) → P (taken_towards from d s Opening) (taken_towards from d e Opening) → P (taken_from from d s) (taken_from from d e)
+  taken P p = subst (λ dir. P (taken_towards from d s dir) (taken_from from d e)) (sym of_s) (subst (λ dir. P (taken_towards from d s Opening) (taken_towards from d e dir)) (sym of_e) p)
 
-    -- the first refuses it, and the second has its turn
-    module _ (cause : DropCause) (end : h.end ≡ Dropped cause) (again : Handled) where
-      pub either_second : again ≡ handled_by out' to' (kept_or h.pad (sent h.pad e)) → (p : ℕ) (t : Address) → again.end ≡ Out p t → again ≡ handled_by_either out to out' to' d (sent d s) (sent d e)
-      either_second next p t ends =
-          let r = was_refused out to d h cause (sent d s) is end in
-          let w = was_sent out' to' h.pad again p t (sent h.pad e) next ends in
-          w.handled ∙ (λ i. handled_by_either out to out' to' d (sym r.0 i) (sym (sym (ap (λ x. sent x e) r.1) ∙ w.sent) i))
+  pub either_answers : (out : ℕ) (to : Address) (out' : ℕ) (to' : Address) → ltb 4238 (length d) ≡ false → (x : Result (Which × Opened) (List ℕ × DropCause))
+      → x ≡ first_opened (opened_of s.name.kind d (opens s d)) (opened_of e.name.kind d (opens e d))
+      → given_by out to out' to' x ≡ handled_by_either out to out' to' d (sent_by s (taken_from from d s)) (sent_by e (taken_from from d e))
+  either_answers out to out' to' fits x is =
+      ap (given_by out to out' to') is ∙ fits_both s.name.kind e.name.kind d out to out' to' (ltb 4238 (length d)) (opens s d) (opens e d) fits ∙ sent out to out' to'
 
-      pub either_none : again ≡ handled_by out' to' (kept_or h.pad (sent h.pad e)) → (other : DropCause) → again.end ≡ Dropped other
-          → record { pad = again.pad; end = Dropped cause } ≡ handled_by_either out to out' to' d (sent d s) (sent d e)
-      either_none next other ends =
-          let r = was_refused out to d h cause (sent d s) is end in
-          let q = was_refused out' to' h.pad again other (sent h.pad e) next ends in
-          (λ i. record { pad = (q.1 ∙ r.1) i; end = Dropped cause }) ∙ (λ i. handled_by_either out to out' to' d (sym r.0 i) (sym (sym (ap (λ x. sent x e) r.1) ∙ q.0) i))
+  pub either_too_long : (out : ℕ) (to : Address) (out' : ℕ) (to' : Address) → ltb 4238 (length d) ≡ true
+      → record { pad = d; end = Dropped TooLong } ≡ handled_by_either out to out' to' d (sent_by s (taken_from from d s)) (sent_by e (taken_from from d e))
+  either_too_long out to out' to' long =
+      neither_fits s.name.kind e.name.kind d out to out' to' (ltb 4238 (length d)) (opens s d) (opens e d) long ∙ sent out to out' to'
 
-      pub second_takes : (slot : ℕ) (path : Path) → PathStandsFor slot path (after e (taken_from from h.pad e)) → PathStandsFor slot path (after e (if_refused (taken_from from d s) (taken_from from d e)))
-      second_takes slot path stands =
-          let r = was_refused out to d h cause (sent d s) is end in
-          let not_taken : taken_from from d s ≡ Err cause = refused s s.name.owner.direction cause (taken_from from d s) r.0 in
-          subst (λ r. PathStandsFor slot path (after e (if_refused r (taken_from from d e)))) (sym not_taken) (subst (λ x. PathStandsFor slot path (after e (taken_from from x e))) r.1 stands)
+  module _ (slot : ℕ) (path : Path) (stands : PathStandsFor slot path e) where
+    pub second_stays : ltb 4238 (length d) ≡ true → PathStandsFor slot path (after e (if_refused (taken_from from d s) (taken_from from d e)))
+    second_stays long = taken (λ r q. PathStandsFor slot path (after e (if_refused r q)))
+        (none_fit (λ r q. PathStandsFor slot path (after e (if_refused r q))) (ltb 4238 (length d)) (opens s d) (opens e d) long stands)
+
+    pub second_takes : ltb 4238 (length d) ≡ false → (side new : SideValue) → path.side ≡ Opens side → (StandsFor side e → StandsFor new (after e (if_refused (opens s d) (opens e d))))
+        → PathStandsFor slot (record path { side = Opens new }) (after e (if_refused (taken_from from d s) (taken_from from d e)))
+    second_takes fits side new is left =
+        path_after slot path (Opens new) e (if_refused (taken_from from d s) (taken_from from d e)) stands
+        (opens_after new e (if_refused (taken_from from d s) (taken_from from d e)) of_e
+        (taken (λ r q. StandsFor new (after e (if_refused r q)))
+        (both_fit (λ r q. StandsFor new (after e (if_refused r q))) (ltb 4238 (length d)) (opens s d) (opens e d) fits (left (subst (λ m. SideStandsFor m e) is stands.side).1))))

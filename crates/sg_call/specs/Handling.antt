@@ -3,7 +3,6 @@ use Rattle.std.specs.Prelude.{◌≡◌, ℕ, Bool, if◌then◌else◌, List, [
 use Rattle.sg_base.specs.declared.addresses.Address.{Address}
 use Rattle.sg_base.specs.declared.faults.DropCause.{DropCause}
 use Rattle.sg_base.specs.declared.faults.DropCause.TheVariants.{PortUnused, NotLive}
-use Rattle.sg_session.specs.Opening.{Taken}
 use Rattle.sg_gateway.specs.Batch as batch
 use Rattle.sg_gateway.specs.Datagrams.{Given, Drops, Puts, arrived_in}
 use Rattle.sg_gateway.specs.World as world
@@ -35,10 +34,10 @@ handled_by_either out to out' to' d (Ok octets) r = record { pad = octets; end =
 handled_by_either out to out' to' d (Err cause) (Ok octets) = record { pad = octets; end = Out out' to' }
 handled_by_either out to out' to' d (Err cause) (Err other) = record { pad = d; end = Dropped cause }
 
--- what the second takes
-abbrev pub if_refused : Result Taken DropCause → Result Taken DropCause → Result Taken DropCause
-if_refused (Ok t) r = Err PortUnused
-if_refused (Err cause) r = r
+-- it holds where the datagram is dropped
+abbrev pub OnDrop : End → Type 0 → Type 0
+OnDrop (Out port to) P = Unit {0}
+OnDrop (Dropped cause) P = P
 
 -- the answer is what the datagram gives in the call, and the paths stand for the sessions after it
 pub record IsPassed (now port : ℕ) (from : Address) (d : List ℕ) (c : world.Call) (h : Handled) (current earlier : List Path) : Type 0 where

@@ -30,6 +30,10 @@ pub record PathStandsFor (slot : ℕ) (path : Path) (s : Session) : Type 0 where
   pub plain : path.plain ≡ s.plain
   pub side : SideStandsFor path.side s
 
+-- the same of a session that opens
+abbrev pub OpensFor : ℕ → Path → Session → Type 0
+OpensFor slot path s = PathStandsFor slot path s × (s.name.owner.direction ≡ Opening)
+
 -- paths of a call stand for sessions of which each has a port of its own
 pub record PathsStandFor (slot : ℕ) (paths : List Path) (ss : List Session) : Type 0 where
   pub own : HaveOwnPorts slot ss

@@ -139,15 +139,17 @@ impl Call {
 }
 
 impl Call {
-    ghost use Rattle.sg_call.specs.Handling.{handled_of};
+    ghost use Rattle.sg_call.specs.Handling.{OnDrop, handled_of};
     ghost use Rattle.sg_call.specs.Standing.{CallStandsFor};
 
     /// Handles a datagram that comes to a port at this moment: what the current generation opens or seals, else
-    /// what the earlier one opens, else a drop with the current one's cause. It doesn't allocate.
+    /// what the earlier one opens, else a drop with the current one's cause. A datagram that is dropped comes back as it
+    /// was and changes nothing. It doesn't allocate.
     pub fn datagram(&mut self, port: u16, from: Address, pad: Pad, now: u64) -> Handled
         ensures answer { (pairs : List psk.Pair) (c : world.Call) → CallStandsFor pairs self.old c → result ≡ handled_of pad (arrived_in now port from pad c) }
         ensures stands { (pairs : List psk.Pair) (c : world.Call) → CallStandsFor pairs self.old c
             → CallStandsFor pairs self.new (batch.after (arrived_in now port from pad c) c) }
+        ensures refused { OnDrop result.end ((result.pad ≡ pad) × (self.new ≡ self.old)) }
         ensures inbox { (self.new.waiting ≡ self.old.waiting) × (self.new.handled ≡ self.old.handled) }
         ensures same { (self.new.slot ≡ self.old.slot) × (self.new.media ≡ self.old.media) × (self.new.id ≡ self.old.id) }
     {

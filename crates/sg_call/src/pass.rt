@@ -2,15 +2,15 @@
 
 ghost use Rattle.std.specs.Prelude.{◌≡◌, ◌==◌, ℕ, position};
 ghost use Rattle.sg_gateway.specs.World as world;
-ghost use Rattle.sg_call.specs.Handling.{IsPassed, unused};
+ghost use Rattle.sg_call.specs.Handling.{IsPassed, OnDrop, unused};
 ghost use Rattle.sg_call.specs.Standing.{SessionsStand};
 
 use crate::handled::{End, Handled};
-use crate::path::Path;
+use crate::path::{Path, pass_either};
 use sg_base::{Address, DropCause, Pad};
 
-/// Hands a datagram to the path at its port, and where that refuses it, to the earlier generation's. Refused by
-/// both, it is dropped with the cause of the current one.
+/// Hands a datagram to the path at its port, in the current generation and in the earlier one. Dropped, it comes back as
+/// it was, and so are all paths.
 pub(crate) fn pass(
     current: &mut [Path],
     earlier: &mut [Path],
@@ -19,8 +19,9 @@ pub(crate) fn pass(
     from: Address,
     pad: Pad,
 ) -> Handled
-    ensures { (now : ℕ) (c : world.Call) → (c.generations == 0) ≡ is_new → SessionsStand current.old earlier.old c
+    ensures passed { (now : ℕ) (c : world.Call) → (c.generations == 0) ≡ is_new → SessionsStand current.old earlier.old c
         → IsPassed now port from pad c result current.new earlier.new }
+    ensures refused { OnDrop result.end ((result.pad ≡ pad) × (current.new ≡ current.old) × (earlier.new ≡ earlier.old)) }
 {
     match (place(current, port), place(earlier, port)) {
         (None, None) => Handled {
@@ -29,20 +30,7 @@ pub(crate) fn pass(
         },
         (None, Some(j)) => earlier[j].pass(from, pad),
         (Some(i), None) => current[i].pass(from, pad),
-        (Some(i), Some(j)) => {
-            let handled = current[i].pass(from, pad);
-            let End::Dropped(cause) = handled.end else {
-                return handled;
-            };
-            let again = earlier[j].pass(from, handled.pad);
-            match again.end {
-                End::Out { .. } => again,
-                End::Dropped(_) => Handled {
-                    pad: again.pad,
-                    end: End::Dropped(cause),
-                },
-            }
-        }
+        (Some(i), Some(j)) => pass_either(&mut current[i], &mut earlier[j], from, pad),
     }
 }
 

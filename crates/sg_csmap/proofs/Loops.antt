@@ -6,7 +6,7 @@ use Rattle.sg_base.specs.declared.faults.CsFault.TheVariants.{PolicyValue}
 use Rattle.sg_mikey.specs.declared.message.CsEntry.{CsEntry}
 use Rattle.sg_mikey.specs.declared.message.Tgk.{Tgk}
 use Rattle.sg_mikey.specs.declared.policy.Policy.{Policy}
-use Rattle.sg_csmap.specs.CryptoSessions.{Gives, OnNoMemory, or_fault, pair_in, pairs_from}
+use Rattle.sg_csmap.specs.CryptoSessions.{Gives, GivesList, OnNoMemory, or_fault, pair_in, pairs_from}
 use Rattle.sg_csmap.specs.declared.sessions.StreamKeys.{StreamKeys}
 use Rattle.sg_csmap.specs.declared.faults.CsError.{CsError}
 use Rattle.sg_csmap.specs.declared.faults.CsError.TheVariants as errors
@@ -33,7 +33,7 @@ err_through (errors.Cs f) None next is = let same : PolicyValue ≡ f = cc in ap
 err_through errors.NoMemory x next is = tt
 
 pub err_at : {A B : Type 0} (e : CsError) (done : List B) (x : Option A) (next : A → Option (List B)) (total : Option (List B)) → Gives {X = A} (Err e) (or_fault PolicyValue x)
-    → behind done (x >>= next) ≡ total → Gives {X = List B} (Err e) (or_fault PolicyValue total)
+    → behind done (x >>= next) ≡ total → GivesList {X = B} (Err e) (or_fault PolicyValue total)
 err_at (errors.Cs f) done (Some a) next total is so_far = absurd cc
 err_at (errors.Cs f) done None next total is so_far = let same : PolicyValue ≡ f = cc in ap (or_fault PolicyValue) (sym so_far) ∙ ap Err same
 err_at errors.NoMemory done x next total is so_far = tt

@@ -1,5 +1,6 @@
 -- The crypto sessions of a bundle: what each side sends (RFC 3830, 4.1.3 and 6.1.1).
 use Rattle.std.specs.Prelude.{◌≡◌, ℕ, ◌+◌, ◌*◌, List, [], ◌∷◌, length, map, not, Bool, Option, Some, None, option_map, is_none, Result, Ok, Err, ◌==◌, if◌then◌else◌}
+use Rattle.std.specs.Global.{Vec}
 use Rattle.std.specs.List.{find, list_any}
 use Rattle.sg_base.specs.Fields.{◌>>=◌}
 use Rattle.sg_base.specs.Keys.{Master}
@@ -95,6 +96,12 @@ abbrev pub Gives : {X : Type 0} → Result X CsError → Result X CsFault → Ty
 Gives (Ok x) is = is ≡ Ok x
 Gives (Err (errors.Cs fault)) is = is ≡ Err fault
 Gives (Err errors.NoMemory) is = Unit {0}
+
+-- the same of a list
+abbrev pub GivesList : {X : Type 0} → Result (Vec X) CsError → Result (List X) CsFault → Type 0
+GivesList (Ok xs) is = is ≡ Ok xs.items
+GivesList (Err (errors.Cs fault)) is = is ≡ Err fault
+GivesList (Err errors.NoMemory) is = Unit {0}
 
 -- out of memory is answered only where this holds
 abbrev pub OnNoMemory : {X : Type 0} → Result X CsError → Type 0 → Type 0

@@ -4,7 +4,7 @@ ghost use Rattle.std.specs.Prelude.{◌≡◌, ◌≤◌, ◌<◌, ◌∷◌, le
 ghost use Rattle.std.specs.List.{list_any};
 ghost use Rattle.sg_base.specs.Suites.{salt_len_of};
 ghost use Rattle.sg_base.specs.declared.faults.CsFault.TheVariants.{PolicyValue};
-ghost use Rattle.sg_csmap.specs.CryptoSessions.{Gives, OnNoMemory, early_of, keys_in, lacks_policy, master_in, or_fault, pair_in, pairs_from, policy_at, stream_in, stream_keys, streams_of};
+ghost use Rattle.sg_csmap.specs.CryptoSessions.{Gives, GivesList, OnNoMemory, early_of, keys_in, lacks_policy, master_in, or_fault, pair_in, pairs_from, policy_at, stream_in, stream_keys, streams_of};
 
 use crate::CsError;
 use crate::policies::{Protection, protection_of};
@@ -169,9 +169,9 @@ fn pairs_of(
     policies: &[Policy],
     tgks: &[Tgk],
     map: &[CsEntry],
-) -> Result<Items<(StreamKeys, StreamKeys)>, CsError>
+) -> Result<Vec<(StreamKeys, StreamKeys)>, CsError>
     requires { length map.now ≤ 254 }
-    ensures { Gives result (or_fault PolicyValue (pairs_from csb random.now policies.now tgks.now 1 map.now)) }
+    ensures { GivesList result (or_fault PolicyValue (pairs_from csb random.now policies.now tgks.now 1 map.now)) }
 {
     let mut pairs = Vec::new(alloc);
     let mut rest = map;
@@ -184,7 +184,7 @@ fn pairs_of(
         session += 2;
         rest = others;
     }
-    Ok(Items::from_vec(pairs))
+    Ok(pairs)
 }
 
 /// What the initiator sends and what the responder sends in each of so many media, by their crypto
@@ -202,9 +202,9 @@ pub fn streams(
     policies: &[Policy],
     tgks: &Tgks,
     media: usize,
-) -> Result<Items<(StreamKeys, StreamKeys)>, CsError>
+) -> Result<Vec<(StreamKeys, StreamKeys)>, CsError>
     requires { media ≤ 127 }
-    ensures value { Gives result (streams_of csb random.now map.now policies.now tgks.now.keys media) }
+    ensures value { GivesList result (streams_of csb random.now map.now policies.now tgks.now.keys media) }
     ensures needs { OnNoMemory result (early_of map.now policies.now media ≡ None) }
 {
     if map.len() != 2 * media {

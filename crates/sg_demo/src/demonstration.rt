@@ -9,7 +9,7 @@ ghost use Rattle.sg_demo.specs.Demonstration.{demonstration, events_in, HasTaken
 use crate::state::Demo;
 use crate::summary::Summary;
 use sg_base::NoMemory;
-use sg_lanes::Gate;
+use sg_lanes::{Gate, OpenGate};
 use sg_table::Table;
 use std::alloc::Global;
 use std::thread::Threads;
@@ -21,7 +21,27 @@ const ROUNDS: u32 = 320;
 /// sides send for 320 rounds, and counts what became of it. So many workers handle what arrives.
 ///
 /// Out of memory, the table has taken the first of the demonstration's events, up to some of them.
-pub fn traffic<R: Threads + Sync, G: Gate + Sync>(
+pub fn traffic<R: Threads + Sync>(
+    rt: &R,
+    alloc: Global,
+    calls: u16,
+    start: u64,
+    table: &mut Table,
+    workers: usize,
+) -> Result<Summary, NoMemory>
+    requires some { 0 < calls }
+    requires most { calls ≤ 256 }
+    requires workers { 0 < workers }
+    requires empty { TableStandsFor table.old empty }
+    ensures summary { IfOk result (λ summary. summary ≡ demonstration calls start) }
+    ensures table { OnOk result (TableStandsFor table.new (world_after empty (events_in calls start))) }
+    ensures failed { OnErr result (HasTakenFront table.new (events_in calls start)) }
+{
+    gated_traffic(rt, alloc, calls, start, table, workers, &OpenGate)
+}
+
+/// The same, where each call's worker enters a gate first.
+pub(crate) fn gated_traffic<R: Threads + Sync, G: Gate + Sync>(
     rt: &R,
     alloc: Global,
     calls: u16,

@@ -7,7 +7,7 @@ ghost use Rattle.sg_demo.specs.Demonstration.{demonstration};
 ghost use Rattle.sg_demo.specs.Text.{IsShown};
 ghost use Rattle.sg_demo.specs.Text as lines;
 
-use crate::demonstration::traffic;
+use crate::demonstration::gated_traffic;
 use crate::text::summary_text;
 use sg_course::Status;
 use sg_edge::{Sink, write_all};
@@ -59,7 +59,7 @@ fn write_numbers<R: Threads + Sync, K: Sink, G: Gate + Sync>(
     let Ok(mut table) = Table::make(alloc) else {
         return Err(Status::NoMemory);
     };
-    let counted = traffic(rt, alloc, calls, start, &mut table, workers, gate);
+    let counted = gated_traffic(rt, alloc, calls, start, &mut table, workers, gate);
     drop(table);
     let Ok(summary) = counted else {
         return Err(Status::NoMemory);

@@ -1,11 +1,9 @@
 //! A demonstration: calls that are keyed with drawn keys, and rounds of their traffic.
 
-ghost use Rattle.std.specs.Prelude.{◌≡◌, ◌≤◌, ◌<◌, ◌+◌, ◌^◌, ℕ, List, length, vec_len, All, OnOk, OnErr, IsSome};
+ghost use Rattle.std.specs.Prelude.{◌≡◌, ◌≤◌, ◌<◌, ◌+◌, ◌^◌, ℕ, length, vec_len, All, OnOk, OnErr, IsSome};
 ghost use Rattle.sg_gateway.specs.World.{World, empty};
-ghost use Rattle.sg_outcome.specs.declared.outcomes.Outcome as outcomes;
 ghost use Rattle.sg_table.specs.Batches.{IsBatched};
 ghost use Rattle.sg_table.specs.Standing.{TableStandsFor};
-ghost use Rattle.sg_table.specs.Telling.{Tells};
 ghost use Rattle.sg_table.specs.Values.{TableValue};
 ghost use Rattle.sg_demo.specs.Demonstration as model;
 ghost use Rattle.sg_demo.specs.Demonstration.{calls_made, with_call, with_round, HasTakenFront};
@@ -22,7 +20,7 @@ use sg_base::{BATCH_MOST, CallId, NoMemory};
 use sg_lanes::Gate;
 use sg_lines::Signal;
 use sg_outcome::Outcome;
-use sg_table::{Arrival, Table, Told};
+use sg_table::{Arrival, Outcomes, Table};
 use std::alloc::Global;
 use std::thread::Threads;
 
@@ -120,11 +118,11 @@ impl Demo {
 }
 
 /// The slot of the call that is told of first, where it was made.
-fn slot_told(told: &Told) -> Option<u8>
-    ensures { (os : List outcomes.Outcome) → Tells told.now.items os → result ≡ model.slot_told os }
+fn slot_told(told: &Outcomes) -> Option<u8>
+    ensures { result ≡ model.slot_told told.now.items }
 {
     match told.as_slice().first() {
-        Some(Some(Outcome::Made { slot, .. })) => Some(*slot),
+        Some(Outcome::Made { slot, .. }) => Some(*slot),
         _ => None,
     }
 }

@@ -65,7 +65,7 @@ fn streams_of(alloc: Global, row: &Sessions) -> Result<Vec<(StreamKeys, StreamKe
     let tgks = tgks_of(alloc, row.key)?;
     let random = random.as_slice();
     let made = streams(alloc, 0x10203040, random, &MAP, &policies, &tgks, 1);
-    Ok(made.map_err(|_| "refused")?.into_vec())
+    Ok(made.map_err(|_| "refused")?)
 }
 
 /// Whether a stream has the one key that the text says.

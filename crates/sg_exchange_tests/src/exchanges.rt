@@ -90,7 +90,7 @@ fn response_to(
     count: usize,
 ) -> Result<Octets, Fail> {
     let ssrcs = [0xa0, 0xa1];
-    if initial.pair >= book.pairs().len() || count > ssrcs.len() {
+    if usize::from(initial.pair) >= book.pairs().len() || count > ssrcs.len() {
         return Err("no such pair".into());
     }
     Ok(respond(alloc, initial, book, &ssrcs[..count])?)
@@ -205,7 +205,7 @@ fn refuses_each_changed_octet(rt: HostRuntime) -> Result<(), Fail> {
 }
 
 fn answer_of(alloc: Global, octets: &[u8], waiting: &Waiting, book: &PskBook) -> Result<u32, u8> {
-    if octets.len() > 1_000_000 || waiting.pair >= book.pairs().len() {
+    if octets.len() > 1_000_000 || usize::from(waiting.pair) >= book.pairs().len() {
         return Err(254);
     }
     let Ok(message) = read(alloc, octets) else {

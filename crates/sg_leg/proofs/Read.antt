@@ -147,7 +147,7 @@ module _ (h : AtHand) (now : ℕ) (pairs : List Pair) (noted : List Noted) (at :
             record { initial = a.2; streams = refl },
           )
 
-      pub not_served : psk.Gives (IsAccepted pairs) (Ok i) (initial_of octets m pairs noted now) → (f : CsError) → cs.Gives {X = List (StreamKeys × StreamKeys)} (Err f) (streams_of i.csb i.random i.map i.policies i.tgks.keys count)
+      pub not_served : psk.Gives (IsAccepted pairs) (Ok i) (initial_of octets m pairs noted now) → (f : CsError) → cs.GivesList {X = StreamKeys × StreamKeys} (Err f) (streams_of i.csb i.random i.map i.policies i.tgks.keys count)
           → Gives Of (Err (cs_fault medium f)) (bundle_in h medium count value)
       not_served given (cs_errors.Cs fault) e =
           let a = accepted_of (initial_of octets m pairs noted now) given in

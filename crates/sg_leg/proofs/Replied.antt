@@ -1,6 +1,7 @@
 -- Media keyed by messages, step by step.
 use Rattle.std.proofs.Common.{◌≡◌, ◌<◌, get_or, slice_get, false, ℕ, zero, suc, ◌+◌, Bool, List, [], ◌∷◌, ◌++◌, length, map, drop, Option, Some, None, Result, Ok, Err, refl, sym, ap, ◌∙◌, subst, arith}
 use Rattle.std.proofs.lemmas.List.{append-nil}
+use Rattle.std.specs.Global.{Vec}
 use Rattle.std.specs.List.{AllByRecursion}
 use Rattle.sg_agreement.proofs.Walks.{kept_next}
 use Rattle.sg_agreement.specs.EachMedium.{if_kept, each_kept}
@@ -97,9 +98,9 @@ some_bundle pairs b (Some d) p = (d, refl, p)
 
 -- ---- a response
 
-pub map_of : (entries : List CsEntry) (r : Result (List CsEntry) PskFault) → psk.Gives {X = List CsEntry} {A = List CsEntry} (λ map entries. map ≡ entries) (Ok entries) r → r ≡ Ok entries
-map_of entries (Ok a) is = ap Ok (sym is)
-map_of entries (Err fault) is = absurd is
+pub map_of : (map : Vec CsEntry) (r : Result (List CsEntry) PskFault) → psk.Gives {X = Vec CsEntry} {A = List CsEntry} (λ map entries. map.items ≡ entries) (Ok map) r → r ≡ Ok map.items
+map_of map (Ok a) is = ap Ok (sym is)
+map_of map (Err fault) is = absurd is
 
 module _ (s : Sent) (count : ℕ) (value : Option (List ℕ)) where
   answered_as : (r : Result (List ℕ × Message) Refusal) → message_in 255 1 value ≡ r → streams_answered s count value
@@ -116,7 +117,7 @@ module _ (s : Sent) (count : ℕ) (value : Option (List ℕ)) where
         → streams_answered s count value ≡ after_ok (of_psk 255 r) (λ map. after_ok (of_cs 255 (streams_of s.csb s.random s.map (own_policy ∷ []) s.tgks count)) (λ streams. Ok (responded streams map)))
     map_as r e = answered_as (Ok (octets, m)) read ∙ ap (λ r. after_ok (of_psk 255 r) (λ map. after_ok (of_cs 255 (streams_of s.csb s.random s.map (own_policy ∷ []) s.tgks count)) (λ streams. Ok (responded streams map)))) e
 
-    pub not_ours : (e : PskError) → psk.Gives {X = List CsEntry} {A = List CsEntry} (λ map entries. map ≡ entries) (Err e) (response_of octets m s)
+    pub not_ours : (e : PskError) → psk.Gives {X = Vec CsEntry} {A = List CsEntry} (λ map entries. map.items ≡ entries) (Err e) (response_of octets m s)
         → Tells {X = List (StreamKeys × StreamKeys)} (Err (psk_fault 255 e)) (streams_answered s count value)
     not_ours (psk_errors.Psk fault) e = map_as (Err fault) e
     not_ours psk_errors.NoMemory e = tt
@@ -126,7 +127,7 @@ module _ (s : Sent) (count : ℕ) (value : Option (List ℕ)) where
           → streams_answered s count value ≡ after_ok (of_cs 255 r) (λ streams. Ok (responded streams entries))
       streams_as r e = map_as (Ok entries) is ∙ ap (λ r. after_ok (of_cs 255 r) (λ streams. Ok (responded streams entries))) e
 
-      pub none_served : (f : CsError) → cs.Gives {X = List (StreamKeys × StreamKeys)} (Err f) (streams_of s.csb s.random s.map (own_policy ∷ []) s.tgks count)
+      pub none_served : (f : CsError) → cs.GivesList {X = StreamKeys × StreamKeys} (Err f) (streams_of s.csb s.random s.map (own_policy ∷ []) s.tgks count)
           → Tells {X = List (StreamKeys × StreamKeys)} (Err (cs_fault 255 f)) (streams_answered s count value)
       none_served (cs_errors.Cs fault) e = streams_as (Err fault) e
       none_served cs_errors.NoMemory e = tt

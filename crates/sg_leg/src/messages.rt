@@ -202,7 +202,10 @@ pub(crate) fn bundle_in(
         &initial.tgks,
         count,
     ) {
-        Ok(streams) => Ok(Bundle { initial, streams }),
+        Ok(streams) => Ok(Bundle {
+            initial,
+            streams: Items::from_vec(streams),
+        }),
         Err(fault) => Err(cs_fault(medium, fault)),
     }
 }

@@ -338,14 +338,14 @@ pub(crate) fn by_media_messages(
 /// What is sent in crypto sessions, the responder's with the SSRC and the rollover of the response.
 fn responded(
     alloc: Global,
-    streams: Items<(StreamKeys, StreamKeys)>,
+    streams: Vec<(StreamKeys, StreamKeys)>,
     map: &[CsEntry],
 ) -> Result<Items<(StreamKeys, StreamKeys)>, NoMemory>
-    ensures { IfOk result (λ all. all ≡ responded streams map.now) }
+    ensures { IfOk result (λ all. all ≡ responded streams.items map.now) }
 {
     let mut all = Vec::new(alloc);
     let mut left = map;
-    for pair in streams.into_vec() {
+    for pair in streams {
         let (initiator, responder) = pair;
         let [_, entry, others @ ..] = left else {
             break;

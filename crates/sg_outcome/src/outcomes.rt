@@ -58,3 +58,10 @@ pub enum Outcome {
         to: Address,
     },
 }
+
+/// The blank of a bounded list: an outcome that takes no memory.
+impl Default for Outcome {
+    fn default() -> Outcome {
+        Outcome::Live { call: CallId(0) }
+    }
+}

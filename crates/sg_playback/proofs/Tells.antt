@@ -1,4 +1,4 @@
--- The texts of what becomes of datagrams and of what signals tell, one by one.
+-- The texts of what is told, one by one.
 use Rattle.std.proofs.Common.{◌≡◌, ◌<◌, ◌+◌, ℕ, List, [], ◌∷◌, ◌++◌, length, map, take, drop, get_or, Option, Some, Err, refl, sym, ap, ◌∙◌, subst}
 use Rattle.std.specs.List.{flat_map}
 use Rattle.std.proofs.lemmas.Grind.{flat_map-append}
@@ -10,7 +10,6 @@ use Rattle.sg_edge.proofs.Passed.{wrote_more}
 use Rattle.sg_edge.specs.Told.{Wrote}
 use Rattle.sg_outcome.specs.OutcomeText.{outcome_line}
 use Rattle.sg_outcome.specs.declared.outcomes.Outcome.{Outcome}
-use Rattle.sg_playback.specs.Playing.{outcomes_in, told_in}
 use Rattle.sg_table.specs.Batches.{told_by, told_of}
 use Rattle.sg_table.specs.declared.arrival.Arrival.{Arrival}
 
@@ -24,8 +23,6 @@ module _ {A : Type 0} (text_of : A → List ℕ) (xs : List A) (i : ℕ) (x : A)
   part_written status next =
       subst (IsWritten (Err status) a c) (sym (all_text text_of xs i x within is)) (written_behind status a b c (flat_map text_of (take i xs)) (text_of x) (flat_map text_of (drop (i + 1) xs)) wrote next)
 
--- ---- datagrams
-
 abbrev pub text_at : Arrival → List ℕ
 text_at arrival = text (told_of (arrival ∷ []))
 
@@ -34,16 +31,3 @@ text_of_ends [] = refl
 text_of_ends (a ∷ more) =
     flat_map-append outcome_line (told_by a.port a.pad a.end) (told_of more)
     ∙ (λ i. text (sym (append-nil (told_by a.port a.pad a.end)) i) ++ text_of_ends more i)
-
--- ---- signals
-
-abbrev pub text_in : Option Outcome → List ℕ
-text_in told = text (outcomes_in told)
-
-pub text_of_told : (told : List (Option Outcome)) → text (told_in told) ≡ flat_map text_in told
-text_of_told [] = refl
-text_of_told (t ∷ ts) = flat_map-append outcome_line (outcomes_in t) (told_in ts) ∙ ap (λ (l : List ℕ). text_in t ++ l) (text_of_told ts)
-
-pub told_all : (outcomes : List Outcome) → told_in (map Some outcomes) ≡ outcomes
-told_all [] = refl
-told_all (o ∷ os) = ap (λ (l : List Outcome). o ∷ l) (told_all os)

@@ -23,14 +23,6 @@ pub record Playing : Type 0 where
 abbrev pub waiting : Playing → List Event
 waiting p = map arrived p.waits
 
-abbrev pub outcomes_in : Option Outcome → List Outcome
-outcomes_in None = []
-outcomes_in (Some outcome) = outcome ∷ []
-
--- the outcomes among these
-abbrev pub told_in : List (Option Outcome) → List Outcome
-told_in told = flat_map outcomes_in told
-
 -- the sink failed, or memory ran out
 abbrev pub IsWant : Status → Type 0
 IsWant status = (status ≡ Write) ⊎ (status ≡ NoMemory)

@@ -3,7 +3,6 @@
 ghost use Rattle.std.specs.Prelude.{◌≡◌, ◌∷◌, ◌++◌, [], IfOk, OnOk};
 ghost use Rattle.sg_course.specs.Causes.{IsCaused};
 ghost use Rattle.sg_course.specs.Output.{IsWritten, text};
-ghost use Rattle.sg_playback.specs.Playing.{outcomes_in, told_in};
 ghost use Rattle.sg_table.specs.Batches.{told_of};
 ghost use Rattle.sg_table.specs.Handling.{outcome_by};
 
@@ -69,30 +68,15 @@ fn outcome(alloc: Global, port: u16, pad: &Pad, end: End) -> Result<Outcome, NoM
 }
 
 /// Writes the outcomes of a signal, in order.
-pub fn tell_all<K: Sink>(
-    alloc: Global,
-    outcomes: &[Option<Outcome>],
-    sink: &mut K,
-) -> Result<(), Status>
-    ensures told { IsWritten result (K.written sink.old) (K.written sink.new) (text (told_in outcomes.now)) }
+pub fn tell_all<K: Sink>(alloc: Global, outcomes: &[Outcome], sink: &mut K) -> Result<(), Status>
+    ensures told { IsWritten result (K.written sink.old) (K.written sink.new) (text outcomes.now) }
     ensures write { IsCaused Status.Write result (K.faults sink.old) (K.faults sink.new) (K.failed sink.new) }
 {
-    for told in outcomes {
-        match tell_some(alloc, told, sink) {
+    for outcome in outcomes {
+        match tell(alloc, outcome, sink) {
             Err(status) => return Err(status),
             Ok(()) => {}
         }
     }
     Ok(())
-}
-
-/// Writes an outcome, where there is one.
-fn tell_some<K: Sink>(alloc: Global, told: &Option<Outcome>, sink: &mut K) -> Result<(), Status>
-    ensures told { IsWritten result (K.written sink.old) (K.written sink.new) (text (outcomes_in told.now)) }
-    ensures write { IsCaused Status.Write result (K.faults sink.old) (K.faults sink.new) (K.failed sink.new) }
-{
-    match told {
-        Some(outcome) => tell(alloc, outcome, sink),
-        None => Ok(()),
-    }
 }

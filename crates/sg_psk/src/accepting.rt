@@ -30,7 +30,7 @@ pub struct Initial {
     pub csb: u32,
     pub random: Octets,
     pub stamp: [u8; 8],
-    pub pair: usize,
+    pub pair: u8,
     pub peer: Identity,
     pub tgks: Tgks,
     pub map: Items<CsEntry>,
@@ -38,7 +38,7 @@ pub struct Initial {
 }
 
 // The position of the pair that a message's names name.
-fn place_named(book: &PskBook, payloads: &[Payload]) -> Option<usize>
+fn place_named(book: &PskBook, payloads: &[Payload]) -> Option<u8>
     ensures { IsAt book.now result (pair_named book.now (names_in payloads.now)) }
 {
     let (peer, rest) = next_name(payloads)?;
@@ -128,7 +128,7 @@ pub(crate) fn entries_of(alloc: Global, entries: &[CsEntry]) -> Result<Items<CsE
 fn accepted(
     alloc: Global,
     message: &Message,
-    place: usize,
+    place: u8,
     pair: &Pair,
     tgks: Tgks,
 ) -> Result<Initial, NoMemory>
@@ -152,7 +152,7 @@ fn accepted(
 fn with_keys(
     alloc: Global,
     message: &Message,
-    place: usize,
+    place: u8,
     pair: &Pair,
     kept: usize,
 ) -> Result<Initial, PskError>
@@ -176,7 +176,7 @@ fn initial_under(
     alloc: Global,
     octets: &[u8],
     message: &Message,
-    place: usize,
+    place: u8,
     pair: &Pair,
     seen: &ReplayBook,
     now: u64,

@@ -20,3 +20,4 @@ pub use own_policy::default_policy;
 pub use pairs::{Pair, PskBook};
 pub use replays::{Noted, ReplayBook};
 pub use sending::{Waiting, initiate, read_response, respond};
+pub use sg_base::Identity;

@@ -1,6 +1,6 @@
 //! Pre-shared keys, and the book that holds them (RFC 3830, 3.1).
 
-ghost use Rattle.std.specs.Prelude.{◌≡◌, ◌≤◌, ◌<◌, ◌∷◌, ◌++◌, [], Err, Some, length, position, slice_get, false, IfOk, IfErr, IsTrue, OnOk, OnErr};
+ghost use Rattle.std.specs.Prelude.{◌≡◌, ◌≤◌, ◌<◌, ◌∷◌, ◌++◌, [], Err, Some, length, position, slice_get, false, IfOk, IfErr, IfSome, IsTrue, OnOk, OnErr};
 ghost use Rattle.std.specs.List.{find, list_any};
 ghost use Rattle.sg_base.specs.Octets.{same_octets};
 ghost use Rattle.sg_base.specs.declared.faults.Fault.TheVariants as faults;
@@ -75,6 +75,17 @@ fn pair_of(alloc: Global, own: &Identity, peer: &Identity, key: &[u8]) -> Result
     })
 }
 
+// A position in the book as it is kept.
+fn place_at(position: Option<usize>) -> Option<u8>
+    requires { IfSome position (λ p. p < 64) }
+    ensures { result ≡ position }
+{
+    match position {
+        Some(place) => Some(place as u8),
+        None => None,
+    }
+}
+
 impl PskBook {
     /// An empty book; no memory is taken.
     pub fn make(alloc: Global) -> PskBook
@@ -104,39 +115,41 @@ impl PskBook {
     }
 
     /// The pair at a position.
-    pub(crate) fn pair(&self, place: usize) -> &Pair
+    pub(crate) fn pair(&self, place: u8) -> &Pair
         requires { place < length self.now }
         ensures { slice_get self.now place ≡ Some result.now }
     {
-        &self.pairs[place]
+        &self.pairs[usize::from(place)]
     }
 
     fn position_with(&self, peer: &[u8]) -> Option<usize>
-        ensures { result ≡ position (is_with peer.now) self.now }
+        ensures value { result ≡ position (is_with peer.now) self.now }
+        ensures within { IfSome result (λ p. p < 64) }
     {
         let pairs = self.pairs.as_slice();
         pairs.iter().position(|pair| is_with(peer, pair))
     }
 
     fn position_of(&self, own: &[u8], peer: &[u8]) -> Option<usize>
-        ensures { result ≡ position (is_of own.now peer.now) self.now }
+        ensures value { result ≡ position (is_of own.now peer.now) self.now }
+        ensures within { IfSome result (λ p. p < 64) }
     {
         let pairs = self.pairs.as_slice();
         pairs.iter().position(|pair| is_of(own, peer, pair))
     }
 
     /// The position of the first pair with a peer.
-    pub(crate) fn place_with(&self, peer: &[u8]) -> Option<usize>
+    pub(crate) fn place_with(&self, peer: &[u8]) -> Option<u8>
         ensures { IsAt self.now result (pair_with self.now peer.now) }
     {
-        self.position_with(peer)
+        place_at(self.position_with(peer))
     }
 
     /// The position of the first pair of two names.
-    pub(crate) fn place_of(&self, own: &[u8], peer: &[u8]) -> Option<usize>
+    pub(crate) fn place_of(&self, own: &[u8], peer: &[u8]) -> Option<u8>
         ensures { IsAt self.now result (find (is_of own.now peer.now) self.now) }
     {
-        self.position_of(own, peer)
+        place_at(self.position_of(own, peer))
     }
 
     /// Puts a pair behind the others. `PskKnown` where one of these two names is there, else `PskFull`

@@ -29,7 +29,7 @@ pub struct Waiting {
     pub csb: u32,
     pub random: [u8; 16],
     pub stamp: [u8; 8],
-    pub pair: usize,
+    pub pair: u8,
     pub tgks: Tgks,
     pub map: Items<CsEntry>,
 }
@@ -257,7 +257,7 @@ pub fn initiate(
 // What is kept of a message under the pair at a position.
 fn waiting_of(
     alloc: Global,
-    place: usize,
+    place: u8,
     now: u64,
     noise: &[u8; 304],
     ssrcs: &[u32],
@@ -283,7 +283,7 @@ fn waiting_of(
 fn sent_under(
     alloc: Global,
     pair: &Pair,
-    place: usize,
+    place: u8,
     now: u64,
     noise: &[u8; 304],
     ssrcs: &[u32],
@@ -420,8 +420,8 @@ fn answer_under(
     message: &Message,
     waiting: &Waiting,
     pair: &Pair,
-) -> Result<Items<CsEntry>, PskError>
-    ensures value { Gives (λ map entries. map ≡ entries) result (response_of octets.now message.now (sent_as waiting.now pair.now)) }
+) -> Result<Vec<CsEntry>, PskError>
+    ensures value { Gives (λ map entries. map.items ≡ entries) result (response_of octets.now message.now (sent_as waiting.now pair.now)) }
     ensures needs { OnNoMemory result (IsOk (response_of octets.now message.now (sent_as waiting.now pair.now))) }
 {
     if closing_in(message.payloads.as_slice()).mac != 1 {
@@ -433,9 +433,9 @@ fn answer_under(
     if !is_ours(message, waiting) {
         return Err(PskError::Psk(PskFault::OtherSession));
     }
-    match entries_of(alloc, message.map.as_slice()) {
+    match Vec::from_slice(alloc, message.map.as_slice()) {
         Ok(map) => Ok(map),
-        Err(NoMemory) => Err(PskError::NoMemory),
+        Err(_) => Err(PskError::NoMemory),
     }
 }
 
@@ -449,10 +449,10 @@ pub fn read_response(
     message: &Message,
     waiting: &Waiting,
     book: &PskBook,
-) -> Result<Items<CsEntry>, PskError>
+) -> Result<Vec<CsEntry>, PskError>
     requires { waiting.now.pair < length book.now }
     ensures value { (pair : Pair) → slice_get book.now waiting.now.pair ≡ Some pair
-        → Gives (λ map entries. map ≡ entries) result (response_of octets.now message.now (sent_as waiting.now pair)) }
+        → Gives (λ map entries. map.items ≡ entries) result (response_of octets.now message.now (sent_as waiting.now pair)) }
     ensures needs { (pair : Pair) → slice_get book.now waiting.now.pair ≡ Some pair
         → OnNoMemory result (IsOk (response_of octets.now message.now (sent_as waiting.now pair))) }
 {

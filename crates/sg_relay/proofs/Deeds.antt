@@ -370,18 +370,11 @@ told_unsent (Err s) port to octets out front whole only = (
 
 -- ---- outcomes that are told
 
--- the outcome at a place of a list of them
-pub told_at : (os : List Outcome) (i : ℕ) (item : Option Outcome) → i < length (map Some os) → item ≡ get_or (map Some os) i item
-    → (o : Outcome) × (item ≡ Some o) × (take (i + 1) os ≡ take i os ++ o ∷ [])
-told_at [] i item within is = absurd (omega (arith, within))
-told_at (x ∷ os) zero item within is = (x, is, refl)
-told_at (x ∷ os) (suc i) item within is =
-    let more = told_at os i item (omega (arith, within)) is in
+-- the outcomes up to one and that one
+pub next_told : (os : List Outcome) (i : ℕ) (o : Outcome) → i < length os → o ≡ get_or os i o → take (i + 1) os ≡ take i os ++ o ∷ []
+next_told [] i o within is = absurd (omega (arith, within))
+next_told (x ∷ os) zero o within is = ap (λ (y : Outcome). y ∷ []) (sym is)
+next_told (x ∷ os) (suc i) o within is =
+    let more = next_told os i o (omega (arith, within)) is in
     let n : suc i + 1 ≡ suc (i + 1) = omega arith in
-    (more.0, more.1, ap (λ (m : ℕ). take m (x ∷ os)) n ∙ ap (λ (l : List Outcome). x ∷ l) more.2)
-
-pub take_past : (os : List Outcome) (i : ℕ) → length (map Some os) ≤ i → take i os ≡ os
-take_past [] zero past = refl
-take_past [] (suc i) past = refl
-take_past (x ∷ os) zero past = absurd (omega (arith, past))
-take_past (x ∷ os) (suc i) past = ap (λ (l : List Outcome). x ∷ l) (take_past os i (omega (arith, past)))
+    ap (λ (m : ℕ). take m (x ∷ os)) n ∙ ap (λ (l : List Outcome). x ∷ l) more

@@ -4,12 +4,10 @@ ghost use Rattle.std.specs.Prelude.{◌≡◌, ◌∷◌, [], ℕ, List, Bool, I
 ghost use Rattle.sg_edge.specs.Links.{Added, LinkCall};
 ghost use Rattle.sg_edge.specs.Told.{HasCause, Wrote};
 ghost use Rattle.sg_outcome.specs.declared.outcomes.Outcome.TheVariants.{Out};
-ghost use Rattle.sg_outcome.specs.declared.outcomes.Outcome as outcomes;
 ghost use Rattle.sg_relay.specs.Asked.{asks_of, hold, ports_of, sent_as, written_as};
 ghost use Rattle.sg_relay.specs.Causes.{IsDueTo, IsDueToLink, IsOfOutcomes};
 ghost use Rattle.sg_relay.specs.Parts.{AreCarriedOut, IsHeld};
 ghost use Rattle.sg_table.specs.Handling.{outcome_of};
-ghost use Rattle.sg_table.specs.Telling.{Tells};
 
 use sg_base::{Address, Failed, MEDIUM_PORTS};
 use sg_course::{Status, tell};
@@ -117,42 +115,21 @@ fn carry_out<K: Sink, L: Link>(
     }
 }
 
-/// The same, where there is an outcome.
-fn carry_out_told<K: Sink, L: Link>(
-    alloc: Global,
-    told: &Option<Outcome>,
-    sink: &mut K,
-    link: &mut L,
-) -> Result<(), Status>
-    ensures done { (o : outcomes.Outcome) → told.now ≡ Some o
-        → (calls : List LinkCall) × (out : List ℕ) × Added (L.told link.old) (L.told link.new) calls × Wrote (K.written sink.old) (K.written sink.new) out
-        × AreCarriedOut result (o ∷ []) calls out }
-    ensures only { IfErr result IsOfOutcomes }
-    ensures write { IsDueTo Status.Write result (K.faults sink.old) (K.faults sink.new) (K.failed sink.new) }
-    ensures link { IsDueToLink result (L.faults link.old) (L.faults link.new) }
-{
-    match told {
-        None => Ok(()),
-        Some(outcome) => carry_out(alloc, outcome, sink, link),
-    }
-}
-
 /// Does what outcomes ask for, and writes their lines, one outcome after the other.
 pub(crate) fn carry_out_all<K: Sink, L: Link>(
     alloc: Global,
-    told: &[Option<Outcome>],
+    outcomes: &[Outcome],
     sink: &mut K,
     link: &mut L,
 ) -> Result<(), Status>
-    ensures done { (os : List outcomes.Outcome) → Tells told.now os
-        → (calls : List LinkCall) × (out : List ℕ) × Added (L.told link.old) (L.told link.new) calls × Wrote (K.written sink.old) (K.written sink.new) out
-        × AreCarriedOut result os calls out }
+    ensures done { (calls : List LinkCall) × (out : List ℕ) × Added (L.told link.old) (L.told link.new) calls × Wrote (K.written sink.old) (K.written sink.new) out
+        × AreCarriedOut result outcomes.now calls out }
     ensures only { IfErr result IsOfOutcomes }
     ensures write { IsDueTo Status.Write result (K.faults sink.old) (K.faults sink.new) (K.failed sink.new) }
     ensures link { IsDueToLink result (L.faults link.old) (L.faults link.new) }
 {
-    for outcome in told {
-        match carry_out_told(alloc, outcome, sink, link) {
+    for outcome in outcomes {
+        match carry_out(alloc, outcome, sink, link) {
             Err(status) => return Err(status),
             Ok(()) => {}
         }

@@ -4,4 +4,5 @@
 mod top;
 
 pub use sg_course::Status;
+pub use sg_demo::{Summary, traffic};
 pub use top::run;

@@ -1,8 +1,8 @@
 //! A demonstration, whose numbers are those of `interop/demonstration.py`, a program that has nothing of this
 //! project. The gate plays others through the program (`examples/`).
 
-use sg_demo::{Summary, summary_text, traffic};
-use sg_lanes::OpenGate;
+use sg_demo::summary_text;
+use sg_run::{Summary, traffic};
 use sg_table::Table;
 use std::alloc::Global;
 use std::process::Abort;
@@ -35,7 +35,7 @@ fn shown<R: Threads + Sync + Abort>(
 ) -> Result<Summary, Fail> {
     let mut table = Table::make(alloc)?;
     assert!(rt; 0 < calls && calls <= 256 && 0 < workers);
-    Ok(traffic(rt, alloc, calls, start, &mut table, workers, &OpenGate)?)
+    Ok(traffic(rt, alloc, calls, start, &mut table, workers)?)
 }
 
 #[test]

@@ -26,7 +26,7 @@ use Rattle.sg_table.proofs.Found.{CallAt}
 use Rattle.sg_table.proofs.FreeSlot.{put_stands, quiet_insert}
 use Rattle.sg_table.specs.Free.{free_shape}
 use Rattle.sg_table.specs.Standing.{Holds, TableStandsFor}
-use Rattle.sg_table.specs.Telling.{Tells, IsAnswered}
+use Rattle.sg_table.specs.Telling.{IsAnswered}
 use Rattle.sg_table.specs.Values.{TableValue, shapes_of, IsQuiet, AreQuiet}
 
 -- the calls of a world of a run stand in order
@@ -52,7 +52,7 @@ pub back_at : (calls : List CallValue) (i : ℕ) (d new : CallValue) → new ≡
 back_at calls i d new e = ap (set calls i) e ∙ set-get_or calls i d
 
 -- a refusal leaves what was held
-pub refused_holds : (table : TableValue) (w : World) → Holds table w → (id : Option CallId) (cause : Refusal) (outs : List (Option Outcome)) → Tells outs (Refused id cause ∷ []) → IsAnswered outs table (refused w id cause)
+pub refused_holds : (table : TableValue) (w : World) → Holds table w → (id : Option CallId) (cause : Refusal) (outs : List Outcome) → outs ≡ Refused id cause ∷ [] → IsAnswered outs table (refused w id cause)
 refused_holds table w holds id cause outs tells = record { tells = tells; holds = holds }
 
 module _ (calls : List CallValue) (books : Books) (now : ℕ) (w : World) (holds : Holds (record { calls = calls; books = books; moment = now }) w) (order : Pairs IsBefore w.calls) where
@@ -61,10 +61,10 @@ module _ (calls : List CallValue) (books : Books) (now : ℕ) (w : World) (holds
 
   module _ (id : CallId) (told : Settled → List Outcome) (r : Result Settled Refusal) where
     -- a refusal where something could be settled
-    pub refused_new : (cause : Refusal) → r ≡ Err cause → (outs : List (Option Outcome)) → Tells outs (Refused (Some id) cause ∷ []) → IsAnswered outs table (in_new w id told r)
+    pub refused_new : (cause : Refusal) → r ≡ Err cause → (outs : List Outcome) → outs ≡ Refused (Some id) cause ∷ [] → IsAnswered outs table (in_new w id told r)
     refused_new cause is outs tells = subst (λ x. IsAnswered outs table (in_new w id told x)) (sym is) (record { tells = tells; holds = holds })
 
-    pub refused_old : (cause : Refusal) → r ≡ Err cause → (outs : List (Option Outcome)) → Tells outs (Refused (Some id) cause ∷ []) → IsAnswered outs table (in_old w id told r)
+    pub refused_old : (cause : Refusal) → r ≡ Err cause → (outs : List Outcome) → outs ≡ Refused (Some id) cause ∷ [] → IsAnswered outs table (in_old w id told r)
     refused_old cause is outs tells = subst (λ x. IsAnswered outs table (in_old w id told x)) (sym is) (record { tells = tells; holds = holds })
 
     module _ (new : CallValue) (text : List ℕ) (books' : Books) (settles : Settles CallStandsFor new text books' r) (psks : books'.psks ≡ books.psks) (quiet : IsQuiet new) where
@@ -75,7 +75,7 @@ module _ (calls : List CallValue) (books : Books) (now : ℕ) (w : World) (holds
       new_stands = subst (λ ps. CallStandsFor ps new settles.settled.call) pairs_same settles.stands
 
       -- a call that was there
-      pub settled_at : (i : ℕ) (at : CallAt w.books.pairs id calls w.calls i) → settles.settled.call.serial ≡ at.call.serial → (outs : List (Option Outcome)) → Tells outs (told settles.settled)
+      pub settled_at : (i : ℕ) (at : CallAt w.books.pairs id calls w.calls i) → settles.settled.call.serial ≡ at.call.serial → (outs : List Outcome) → outs ≡ told settles.settled
           → IsAnswered outs (record { calls = set calls i new; books = books'; moment = now }) (in_old w id told r)
       settled_at i at serial outs tells =
           subst (λ x. IsAnswered outs (record { calls = set calls i new; books = books'; moment = now }) (in_old w id told x)) (sym settles.is_settled) (record {
@@ -91,11 +91,11 @@ module _ (calls : List CallValue) (books : Books) (now : ℕ) (w : World) (holds
           })
 
       -- a call that is new
-      pub settled_new : (slot : ℕ) → slot ≡ free_shape 0 (shapes_of calls) → settles.settled.call.slot ≡ free_slot 0 w.calls → (outs : List (Option Outcome))
-          → Tells outs (Made id new.slot new.media ∷ told settles.settled) → IsAnswered outs (record { calls = insert calls slot new; books = books'; moment = now }) (in_new w id told r)
+      pub settled_new : (slot : ℕ) → slot ≡ free_shape 0 (shapes_of calls) → settles.settled.call.slot ≡ free_slot 0 w.calls → (outs : List Outcome)
+          → outs ≡ Made id new.slot new.media ∷ told settles.settled → IsAnswered outs (record { calls = insert calls slot new; books = books'; moment = now }) (in_new w id told r)
       settled_new slot at is_free outs tells =
           subst (λ x. IsAnswered outs (record { calls = insert calls slot new; books = books'; moment = now }) (in_new w id told x)) (sym settles.is_settled) (record {
-            tells = tells ∙ (λ i. Some (Made id (sym new_stands.slot_is i) (sym new_stands.media_are i)) ∷ map Some (told settles.settled));
+            tells = tells ∙ (λ i. Made id (sym new_stands.slot_is i) (sym new_stands.media_are i) ∷ told settles.settled);
             holds = record {
               calls = subst (λ ps. EachPair (CallStandsFor ps) (insert calls slot new) (and_call settles.settled.call w.calls)) (sym pairs_same)
                   (put_stands w.books.pairs new calls w.calls settles.settled.call slot holds.calls order new_stands is_free at);

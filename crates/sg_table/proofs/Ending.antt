@@ -34,7 +34,7 @@ use Rattle.sg_table.proofs.Found.{CallAt}
 use Rattle.sg_table.specs.Ends.{ended_as, IsRejectedAt}
 use Rattle.sg_table.specs.Found.{has_id}
 use Rattle.sg_table.specs.Standing.{Holds}
-use Rattle.sg_table.specs.Telling.{Tells, IsAnswered}
+use Rattle.sg_table.specs.Telling.{IsAnswered}
 use Rattle.sg_table.specs.Values.{TableValue, IsQuiet, AreQuiet}
 
 pairs_remove : {X Y : Type 0} (R : X → Y → Type 0) (i : ℕ) (xs : List X) (ys : List Y) → EachPair R xs ys → EachPair R (remove xs i) (remove ys i)
@@ -75,23 +75,23 @@ module _ (calls : List CallValue) (books : Books) (now : ℕ) (w : World) (holds
   abbrev with_calls : List CallValue → TableValue
   with_calls calls' = record { calls = calls'; books = books; moment = now }
 
-  module _ (outs : List (Option Outcome)) where
+  module _ (outs : List Outcome) where
     -- no call has this id
-    pub unknown_left : position (has_id id) calls ≡ None → Tells outs (Refused (Some id) CallUnknown ∷ []) → IsAnswered outs table (left w id (call_of w id))
+    pub unknown_left : position (has_id id) calls ≡ None → outs ≡ Refused (Some id) CallUnknown ∷ [] → IsAnswered outs table (left w id (call_of w id))
     unknown_left none tells = subst (λ o. IsAnswered outs table (left w id o)) (sym (no_call table w holds id none)) (record { tells = tells; holds = holds })
 
-    pub unknown_rejected : position (has_id id) calls ≡ None → Tells outs (Refused (Some id) CallUnknown ∷ []) → IsAnswered outs table (rejected w id (call_of w id))
+    pub unknown_rejected : position (has_id id) calls ≡ None → outs ≡ Refused (Some id) CallUnknown ∷ [] → IsAnswered outs table (rejected w id (call_of w id))
     unknown_rejected none tells = subst (λ o. IsAnswered outs table (rejected w id o)) (sym (no_call table w holds id none)) (record { tells = tells; holds = holds })
 
     module _ (i : ℕ) (found : position (has_id id) calls ≡ Some i) where
       at : CallAt w.books.pairs id calls w.calls i
       at = some_call table w holds id i found
 
-      ends : (d : CallValue) (y : Why) → Tells outs (ended_as y (get_or calls i d) ∷ []) → IsAnswered outs (with_calls (remove calls i)) (ending w at.call y)
+      ends : (d : CallValue) (y : Why) → outs ≡ ended_as y (get_or calls i d) ∷ [] → IsAnswered outs (with_calls (remove calls i)) (ending w at.call y)
       ends d y tells =
           let s = at.stands d in
           record {
-            tells = tells ∙ (λ j. Some (Ended (sym s.id_is j) (sym s.slot_is j) (sym s.media_are j) y) ∷ []);
+            tells = tells ∙ (λ j. Ended (sym s.id_is j) (sym s.slot_is j) (sym s.media_are j) y ∷ []);
             holds = record {
               calls = subst (EachPair (CallStandsFor w.books.pairs) (remove calls i)) (sym (without_at w.calls i at.call (serials w.calls order) at.within at.at))
                   (pairs_remove (CallStandsFor w.books.pairs) i calls w.calls holds.calls);
@@ -101,7 +101,7 @@ module _ (calls : List CallValue) (books : Books) (now : ℕ) (w : World) (holds
             };
           }
 
-      pub left_at : (d : CallValue) → Tells outs (ended_as why.Bye (get_or calls i d) ∷ []) → IsAnswered outs (with_calls (remove calls i)) (left w id (call_of w id))
+      pub left_at : (d : CallValue) → outs ≡ ended_as why.Bye (get_or calls i d) ∷ [] → IsAnswered outs (with_calls (remove calls i)) (left w id (call_of w id))
       left_at d tells = subst (λ o. IsAnswered outs (with_calls (remove calls i)) (left w id o)) (sym at.is_call) (ends d why.Bye tells)
 
       rejected_by : (t : TableValue) (r : Result (Option Call) Refusal) → rejected_in now at.call ≡ r → IsAnswered outs t (rejected_to w at.call r) → IsAnswered outs t (rejected w id (call_of w id))
@@ -110,12 +110,12 @@ module _ (calls : List CallValue) (books : Books) (now : ℕ) (w : World) (holds
 
       -- it ends
       pub rejected_ends : (d e : CallValue) → ((pairs : List Pair) (c : Call) → CallStandsFor pairs (get_or calls i d) c → IsRejected pairs (Ok false) e (rejected_in now c))
-          → Tells outs (ended_as why.Rejected (get_or calls i d) ∷ []) → IsAnswered outs (with_calls (remove calls i)) (rejected w id (call_of w id))
+          → outs ≡ ended_as why.Rejected (get_or calls i d) ∷ [] → IsAnswered outs (with_calls (remove calls i)) (rejected w id (call_of w id))
       rejected_ends d e says tells = rejected_by (with_calls (remove calls i)) (Ok None) (says w.books.pairs at.call (at.stands d)) (ends d why.Rejected tells)
 
       -- it goes on
       pub rejected_goes_on : (d new : CallValue) → ((pairs : List Pair) (c : Call) → CallStandsFor pairs (get_or calls i d) c → IsRejected pairs (Ok true) new (rejected_in now c))
-          → IsQuiet new → Tells outs [] → IsAnswered outs (with_calls (set calls i new)) (rejected w id (call_of w id))
+          → IsQuiet new → outs ≡ [] → IsAnswered outs (with_calls (set calls i new)) (rejected w id (call_of w id))
       rejected_goes_on d new says quiet tells =
           let (e, is, stands) = says w.books.pairs at.call (at.stands d) in
           rejected_by (with_calls (set calls i new)) (Ok (Some e)) is (record {
@@ -134,9 +134,9 @@ module _ (calls : List CallValue) (books : Books) (now : ℕ) (w : World) (holds
 
       -- it has no open offer
       pub rejected_refused : (d e : CallValue) (cause : Refusal) → ((pairs : List Pair) (c : Call) → CallStandsFor pairs (get_or calls i d) c → IsRejected pairs (Err cause) e (rejected_in now c))
-          → Tells outs (Refused (Some id) cause ∷ []) → IsAnswered outs table (rejected w id (call_of w id))
+          → outs ≡ Refused (Some id) cause ∷ [] → IsAnswered outs table (rejected w id (call_of w id))
       rejected_refused d e cause says tells = rejected_by table (Err cause) (says w.books.pairs at.call (at.stands d))
-          (record { tells = tells ∙ ap (λ n. Some (Refused (Some n) cause) ∷ []) (sym same_call); holds = holds })
+          (record { tells = tells ∙ ap (λ n. Refused (Some n) cause ∷ []) (sym same_call); holds = holds })
 
       -- ---- by what was done at its position
       module _ (r : Result Bool Refusal) (calls' : List CallValue) (done : IsRejectedAt now i r calls calls') where
@@ -151,19 +151,19 @@ module _ (calls : List CallValue) (books : Books) (now : ℕ) (w : World) (holds
             let q : IsQuiet done.before = subst IsQuiet (done.was done.before) (quiet_at calls i done.before holds.quiet within) in
             (done.inbox.0 ∙ q.0, done.inbox.1 ∙ q.1)
 
-        pub went_on : r ≡ Ok true → Tells outs [] → IsAnswered outs (with_calls calls') (rejected w id (call_of w id))
+        pub went_on : r ≡ Ok true → outs ≡ [] → IsAnswered outs (with_calls calls') (rejected w id (call_of w id))
         went_on e tells = subst (λ cs. IsAnswered outs (with_calls cs) (rejected w id (call_of w id))) (sym done.is) (rejected_goes_on done.before done.after (says (Ok true) e) quiet_after tells)
 
-        pub has_ended : r ≡ Ok false → (calls'' : List CallValue) → calls'' ≡ remove calls' i → Tells outs (Ended id done.before.slot done.before.media why.Rejected ∷ [])
+        pub has_ended : r ≡ Ok false → (calls'' : List CallValue) → calls'' ≡ remove calls' i → outs ≡ Ended id done.before.slot done.before.media why.Rejected ∷ []
             → IsAnswered outs (with_calls calls'') (rejected w id (call_of w id))
         has_ended e calls'' is tells =
             let of_call = at.stands done.before in
             let was = done.was done.before in
             subst (λ cs. IsAnswered outs (with_calls cs) (rejected w id (call_of w id))) (sym (is ∙ ap (λ cs. remove cs i) done.is ∙ remove_set i calls done.after))
             (rejected_ends done.before done.after (says (Ok false) e)
-            (tells ∙ (λ j. Some (Ended ((sym same_call ∙ of_call.id_is) j) (sym was j).slot (sym was j).media why.Rejected) ∷ [])))
+            (tells ∙ (λ j. Ended ((sym same_call ∙ of_call.id_is) j) (sym was j).slot (sym was j).media why.Rejected ∷ [])))
 
-        pub was_refused : (cause : Refusal) → r ≡ Err cause → Tells outs (Refused (Some id) cause ∷ []) → IsAnswered outs (with_calls calls') (rejected w id (call_of w id))
+        pub was_refused : (cause : Refusal) → r ≡ Err cause → outs ≡ Refused (Some id) cause ∷ [] → IsAnswered outs (with_calls calls') (rejected w id (call_of w id))
         was_refused cause e tells =
             let back : done.after ≡ done.before = subst (λ r. OnErr r (done.after ≡ done.before)) e done.back in
             let same : calls' ≡ calls = done.is ∙ ap (set calls i) (back ∙ sym (done.was done.before)) ∙ set-get_or calls i done.before in

@@ -19,7 +19,7 @@ use Rattle.sg_psk.specs.Pairs.{has_pair, pair_of}
 use Rattle.sg_psk.specs.declared.pairs.Pair.{Pair}
 use Rattle.sg_table.proofs.Pairing.{pairs_weaker}
 use Rattle.sg_table.specs.Standing.{Holds}
-use Rattle.sg_table.specs.Telling.{Tells, IsAnswered}
+use Rattle.sg_table.specs.Telling.{IsAnswered}
 use Rattle.sg_table.specs.Values.{TableValue}
 
 -- what the book of the pairs answers, by what is there
@@ -71,7 +71,7 @@ module _ (calls : List CallValue) (books : Books) (now : ℕ) (w : World) (holds
         (λ i. cond ((ap (λ ps. has_pair ps own peer) (sym same) ∙ is) i) (Some PskKnown) (cond ((ap (λ (ps : List Pair). ltb (length ps) 64) (sym same) ∙ less) i) None (Some PskFull)))
 
   -- it is added: the calls stand under more pairs too
-  pub pair_added : (new : List Pair) (outs : List (Option Outcome)) → Adds books.psks own peer (Ok tt) → new ≡ books.psks ++ pair ∷ [] → Tells outs []
+  pub pair_added : (new : List Pair) (outs : List Outcome) → Adds books.psks own peer (Ok tt) → new ≡ books.psks ++ pair ∷ [] → outs ≡ []
       → IsAnswered outs (record { calls = calls; books = record books { psks = new }; moment = now }) (with_pair w pair)
   pair_added new outs adds is tells = go (cases books.psks own peer (Ok tt) adds)
     where
@@ -92,7 +92,7 @@ module _ (calls : List CallValue) (books : Books) (now : ℕ) (w : World) (holds
       })
 
   -- it is refused
-  pub pair_refused : (cause : Refusal) (outs : List (Option Outcome)) → Adds books.psks own peer (Err (faults.Refused cause)) → Tells outs (Refused None cause ∷ [])
+  pub pair_refused : (cause : Refusal) (outs : List Outcome) → Adds books.psks own peer (Err (faults.Refused cause)) → outs ≡ Refused None cause ∷ []
       → IsAnswered outs (record { calls = calls; books = books; moment = now }) (with_pair w pair)
   pair_refused cause outs adds tells = go (cases books.psks own peer (Err (faults.Refused cause)) adds)
     where
@@ -100,7 +100,7 @@ module _ (calls : List CallValue) (books : Books) (now : ℕ) (w : World) (holds
       table = record { calls = calls; books = books; moment = now }
 
       told : (other : Refusal) → cause ≡ other → IsAnswered outs table (refused w None other)
-      told other same = record { tells = tells ∙ ap (λ c. Some (Refused None c) ∷ []) same; holds = holds }
+      told other same = record { tells = tells ∙ ap (λ c. Refused None c ∷ []) same; holds = holds }
 
       go : Cases books.psks own peer (Err (faults.Refused cause)) → IsAnswered outs table (with_pair w pair)
       go (Known has e) = subst (IsAnswered outs table) (sym (by true (ltb (length books.psks) 64) has refl)) (told PskKnown (refusal_is cause PskKnown (not_both _ _ e)))

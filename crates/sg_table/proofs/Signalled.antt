@@ -38,7 +38,7 @@ use Rattle.sg_table.proofs.Settled.{manual_same, offered_same, answered_same}
 use Rattle.sg_table.specs.Found.{has_id}
 use Rattle.sg_table.specs.Free.{free_shape}
 use Rattle.sg_table.specs.Standing.{Holds}
-use Rattle.sg_table.specs.Telling.{Tells, IsAnswered}
+use Rattle.sg_table.specs.Telling.{IsAnswered}
 use Rattle.sg_table.specs.Values.{TableValue, shapes_of, IsQuiet}
 
 -- what is known whatever the result
@@ -64,7 +64,7 @@ module _ (calls : List CallValue) (books : Books) (now : ℕ) (w : World) (holds
 
     module _ (new : CallValue) (books' : Books) (psks : books'.psks ≡ books.psks) (quiet : IsQuiet new) where
       pub manual_told : (h : ManualCall) → h.id ≡ id → is_new h.id → has_room → ((c : Call) (b : world.Books) → CallStandsFor b.pairs call c → BooksStandFor books b → IsKeyed (Ok tt) new books' (keyed_manually now b c (manual_medium h)))
-          → (outs : List (Option Outcome)) → Tells outs (Made id new.slot new.media ∷ Live id ∷ []) → IsAnswered outs (held (insert calls slot new) books' now) (manual_answer w h)
+          → (outs : List Outcome) → outs ≡ Made id new.slot new.media ∷ Live id ∷ [] → IsAnswered outs (held (insert calls slot new) books' now) (manual_answer w h)
       manual_told h same e f answer outs tells =
           let settles : Settles CallStandsFor new [] books' (keyed_manually w.moment w.books (new_call w h.id) (manual_medium h)) =
           subst (λ (j : CallId). Settles CallStandsFor new [] books' (keyed_manually w.moment w.books (new_call w j) (manual_medium h))) (sym same)
@@ -72,11 +72,11 @@ module _ (calls : List CallValue) (books : Books) (now : ℕ) (w : World) (holds
           subst (IsAnswered outs (held (insert calls slot new) books' now)) (sym (manual_new (held calls books now) w holds h e f))
           (settled_new calls books now w holds order h.id (tells_live h.id) (keyed_manually w.moment w.books (new_call w h.id) (manual_medium h)) new [] books' settles psks quiet slot is_free
           (manual_same w.moment w.books (new_call w h.id) (manual_medium h) settles.settled settles.is_settled).slot
-          outs (tells ∙ (λ i. Some (Made (sym same i) new.slot new.media) ∷ (Some (Live (sym same i)) ∷ []))))
+          outs (tells ∙ (λ i. Made (sym same i) new.slot new.media ∷ Live (sym same i) ∷ [])))
 
       pub offer_new_told : (way : Way) (noise text out : List ℕ) → position (has_id id) calls ≡ None → has_room
           → ((c : Call) (b : world.Books) → CallStandsFor b.pairs call c → BooksStandFor books b → IsSettled (Ok out) new books' (offered_in now b c way noise text))
-          → (outs : List (Option Outcome)) → Tells outs (Made id new.slot new.media ∷ Sdp id (other_side (side_of way)) out ∷ [])
+          → (outs : List Outcome) → outs ≡ Made id new.slot new.media ∷ Sdp id (other_side (side_of way)) out ∷ []
           → IsAnswered outs (held (insert calls slot new) books' now) (offered_to w id way noise text (call_of w id))
       offer_new_told way noise text out e f answer outs tells =
           let settles : Settles CallStandsFor new out books' (offered_in w.moment w.books (new_call w id) way noise text) =
@@ -84,21 +84,21 @@ module _ (calls : List CallValue) (books : Books) (now : ℕ) (w : World) (holds
           subst (IsAnswered outs (held (insert calls slot new) books' now)) (sym (offer_new (held calls books now) w holds id way noise text e f))
           (settled_new calls books now w holds order id (tells_text id (other_side (side_of way))) (offered_in w.moment w.books (new_call w id) way noise text) new out books' settles psks quiet slot is_free
           (offered_same w.moment w.books (new_call w id) way noise text settles.settled settles.is_settled).slot
-          outs (tells ∙ (λ i. Some (Made id new.slot new.media) ∷ (Some (Sdp id (other_side (side_of way)) (settles.text_is i)) ∷ []))))
+          outs (tells ∙ (λ i. Made id new.slot new.media ∷ Sdp id (other_side (side_of way)) (settles.text_is i) ∷ [])))
 
     pub manual_refused : (h : ManualCall) → h.id ≡ id → is_new h.id → has_room → (cause : Refusal) → ((c : Call) (b : world.Books) → CallStandsFor b.pairs call c → BooksStandFor books b → keyed_manually now b c (manual_medium h) ≡ Err cause)
-        → (outs : List (Option Outcome)) → Tells outs (Refused (Some id) cause ∷ []) → IsAnswered outs (held calls books now) (manual_answer w h)
+        → (outs : List Outcome) → outs ≡ Refused (Some id) cause ∷ [] → IsAnswered outs (held calls books now) (manual_answer w h)
     manual_refused h same e f cause answer outs tells =
         let is : keyed_manually w.moment w.books (new_call w h.id) (manual_medium h) ≡ Err cause =
         subst (λ (j : CallId). keyed_manually w.moment w.books (new_call w j) (manual_medium h) ≡ Err cause) (sym same)
         (subst (λ n. keyed_manually n w.books (new_call w id) (manual_medium h) ≡ Err cause) (sym holds.moment_is) (answer (new_call w id) w.books new_idle holds.books)) in
         subst (IsAnswered outs (held calls books now)) (sym (manual_new (held calls books now) w holds h e f))
         (refused_new calls books now w holds order h.id (tells_live h.id) (keyed_manually w.moment w.books (new_call w h.id) (manual_medium h)) cause is outs
-        (tells ∙ (λ i. Some (Refused (Some (sym same i)) cause) ∷ [])))
+        (tells ∙ (λ i. Refused (Some (sym same i)) cause ∷ [])))
 
     pub offer_new_refused : (way : Way) (noise text : List ℕ) → position (has_id id) calls ≡ None → has_room → (cause : Refusal)
         → ((c : Call) (b : world.Books) → CallStandsFor b.pairs call c → BooksStandFor books b → offered_in now b c way noise text ≡ Err cause)
-        → (outs : List (Option Outcome)) → Tells outs (Refused (Some id) cause ∷ []) → IsAnswered outs (held calls books now) (offered_to w id way noise text (call_of w id))
+        → (outs : List Outcome) → outs ≡ Refused (Some id) cause ∷ [] → IsAnswered outs (held calls books now) (offered_to w id way noise text (call_of w id))
     offer_new_refused way noise text e f cause answer outs tells =
         subst (IsAnswered outs (held calls books now)) (sym (offer_new (held calls books now) w holds id way noise text e f))
         (refused_new calls books now w holds order id (tells_text id (other_side (side_of way))) (offered_in w.moment w.books (new_call w id) way noise text) cause
@@ -116,7 +116,7 @@ module _ (calls : List CallValue) (books : Books) (now : ℕ) (w : World) (holds
     module _ (new : CallValue) (out : List ℕ) (books' : Books) (psks : books'.psks ≡ books.psks) (quiet : IsQuiet new) where
       pub offer_at_told : (way : Way) (noise text : List ℕ)
           → ((c : Call) (b : world.Books) → CallStandsFor b.pairs (get_or calls i d) c → BooksStandFor books b → IsSettled (Ok out) new books' (offered_in now b c way noise text))
-          → (outs : List (Option Outcome)) → Tells outs (Sdp id (other_side (side_of way)) out ∷ [])
+          → (outs : List Outcome) → outs ≡ Sdp id (other_side (side_of way)) out ∷ []
           → IsAnswered outs (held (set calls i new) books' now) (offered_to w id way noise text (call_of w id))
       offer_at_told way noise text answer outs tells =
           let settles : Settles CallStandsFor new out books' (offered_in w.moment w.books at.call way noise text) =
@@ -124,7 +124,7 @@ module _ (calls : List CallValue) (books : Books) (now : ℕ) (w : World) (holds
           subst (IsAnswered outs (held (set calls i new) books' now)) (sym (offer_old (held calls books now) w holds id way noise text i e))
           (settled_at calls books now w holds order id (tells_text id (other_side (side_of way))) (offered_in w.moment w.books at.call way noise text) new out books' settles psks quiet i at
           (offered_same w.moment w.books at.call way noise text settles.settled settles.is_settled).serial
-          outs (tells ∙ (λ i. Some (Sdp id (other_side (side_of way)) (settles.text_is i)) ∷ [])))
+          outs (tells ∙ (λ i. Sdp id (other_side (side_of way)) (settles.text_is i) ∷ [])))
 
       side_is : (side : Side) (o : Option Offer) → Some side ≡ option_map (λ (o : Offer). o.side) o → offering_side o ≡ side
       side_is side None is = absurd cc
@@ -132,7 +132,7 @@ module _ (calls : List CallValue) (books : Books) (now : ℕ) (w : World) (holds
 
       pub answer_told : (side : Side) (noise text : List ℕ) → ((pairs : List Pair) (c : Call) → CallStandsFor pairs (get_or calls i d) c → Some side ≡ option_map (λ (o : Offer). o.side) c.offer)
           → ((c : Call) (b : world.Books) → CallStandsFor b.pairs (get_or calls i d) c → BooksStandFor books b → IsSettled (Ok out) new books' (answered_in now b c noise text))
-          → (outs : List (Option Outcome)) → Tells outs (Sdp id side out ∷ Live id ∷ [])
+          → (outs : List Outcome) → outs ≡ Sdp id side out ∷ Live id ∷ []
           → IsAnswered outs (held (set calls i new) books' now) (answered w id noise text (call_of w id))
       answer_told side noise text of_side answer outs tells =
           let settles : Settles CallStandsFor new out books' (answered_in w.moment w.books at.call noise text) =
@@ -141,11 +141,11 @@ module _ (calls : List CallValue) (books : Books) (now : ℕ) (w : World) (holds
           subst (IsAnswered outs (held (set calls i new) books' now)) (sym (ap (answered w id noise text) at.is_call))
           (settled_at calls books now w holds order id (tells_answer id (offering_side at.call.offer)) (answered_in w.moment w.books at.call noise text) new out books' settles psks quiet i at
           (answered_same w.moment w.books at.call noise text settles.settled settles.is_settled).serial
-          outs (tells ∙ (λ i. Some (Sdp id (sym is_side i) (settles.text_is i)) ∷ (Some (Live id) ∷ []))))
+          outs (tells ∙ (λ i. Sdp id (sym is_side i) (settles.text_is i) ∷ Live id ∷ [])))
 
     pub offer_at_refused : (way : Way) (noise text : List ℕ) (cause : Refusal)
         → ((c : Call) (b : world.Books) → CallStandsFor b.pairs (get_or calls i d) c → BooksStandFor books b → offered_in now b c way noise text ≡ Err cause)
-        → (outs : List (Option Outcome)) → Tells outs (Refused (Some id) cause ∷ []) → IsAnswered outs (held calls books now) (offered_to w id way noise text (call_of w id))
+        → (outs : List Outcome) → outs ≡ Refused (Some id) cause ∷ [] → IsAnswered outs (held calls books now) (offered_to w id way noise text (call_of w id))
     offer_at_refused way noise text cause answer outs tells =
         subst (IsAnswered outs (held calls books now)) (sym (offer_old (held calls books now) w holds id way noise text i e))
         (refused_old calls books now w holds order id (tells_text id (other_side (side_of way))) (offered_in w.moment w.books at.call way noise text) cause
@@ -153,7 +153,7 @@ module _ (calls : List CallValue) (books : Books) (now : ℕ) (w : World) (holds
 
     pub answer_refused : (noise text : List ℕ) (cause : Refusal)
         → ((c : Call) (b : world.Books) → CallStandsFor b.pairs (get_or calls i d) c → BooksStandFor books b → answered_in now b c noise text ≡ Err cause)
-        → (outs : List (Option Outcome)) → Tells outs (Refused (Some id) cause ∷ []) → IsAnswered outs (held calls books now) (answered w id noise text (call_of w id))
+        → (outs : List Outcome) → outs ≡ Refused (Some id) cause ∷ [] → IsAnswered outs (held calls books now) (answered w id noise text (call_of w id))
     answer_refused noise text cause answer outs tells =
         subst (IsAnswered outs (held calls books now)) (sym (ap (answered w id noise text) at.is_call))
         (refused_old calls books now w holds order id (tells_answer id (offering_side at.call.offer)) (answered_in w.moment w.books at.call noise text) cause
@@ -177,7 +177,7 @@ module _ (calls : List CallValue) (books : Books) (now : ℕ) (w : World) (holds
 
     -- without an open offer
     pub answer_state : (noise text : List ℕ) → ((pairs : List Pair) (c : Call) → CallStandsFor pairs (get_or calls i d) c → None ≡ option_map (λ (o : Offer). o.side) c.offer)
-        → (outs : List (Option Outcome)) → Tells outs (Refused (Some id) State ∷ []) → IsAnswered outs (held calls books now) (answered w id noise text (call_of w id))
+        → (outs : List Outcome) → outs ≡ Refused (Some id) State ∷ [] → IsAnswered outs (held calls books now) (answered w id noise text (call_of w id))
     answer_state noise text of_side outs tells =
         subst (IsAnswered outs (held calls books now)) (sym (ap (answered w id noise text) at.is_call))
         (refused_old calls books now w holds order id (tells_answer id (offering_side at.call.offer)) (answered_in w.moment w.books at.call noise text) State

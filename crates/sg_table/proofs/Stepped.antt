@@ -1,5 +1,5 @@
 -- A table at the start of a run, and after a signal as an event of it.
-use Rattle.std.proofs.Common.{◌≡◌, false, cond, List, [], ◌∷◌, ◌++◌, map, Option, Some, refl, sym, ap, ◌∙◌, subst}
+use Rattle.std.proofs.Common.{◌≡◌, false, cond, List, [], ◌∷◌, ◌++◌, refl, sym, ap, ◌∙◌, subst}
 use Rattle.std.proofs.lemmas.List.{append-nil}
 use Rattle.sg_call.specs.Standing.{CallStandsFor}
 use Rattle.sg_call.specs.Values.{CallValue}
@@ -41,9 +41,9 @@ run_goes_on old new w events stands holds = record {
   holds = holds;
 }
 
-pub told_of_signal : (old new : TableValue) (w : World) (signal : Signal) (outs : List (Option Outcome)) → signal_lacks_noise signal ≡ false → TableStandsFor old w
+pub told_of_signal : (old new : TableValue) (w : World) (signal : Signal) (outs : List Outcome) → signal_lacks_noise signal ≡ false → TableStandsFor old w
     → IsAnswered outs new (answer_to w (signal_of signal)) → IsTold outs new w (events_of_signal signal)
 told_of_signal old new w signal outs has stands answered =
     let es : List Event = Signalled (signal_of signal) ∷ [] in
     let is : events_of_signal signal ≡ es = ap (λ b. cond b [] es) has in
-    subst (IsTold outs new w) (sym is) (answered.tells ∙ ap (map Some) (sym (append-nil (answer_to w (signal_of signal)).outcomes)), run_goes_on old new w es stands answered.holds)
+    subst (IsTold outs new w) (sym is) (answered.tells ∙ sym (append-nil (answer_to w (signal_of signal)).outcomes), run_goes_on old new w es stands answered.holds)

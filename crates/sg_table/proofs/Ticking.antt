@@ -21,7 +21,7 @@ use Rattle.sg_psk.specs.declared.pairs.Pair.{Pair}
 use Rattle.sg_table.proofs.Pairing.{pairs_from_each}
 use Rattle.sg_table.specs.Ends.{ended_as, idles, IsTicked}
 use Rattle.sg_table.specs.Standing.{Holds}
-use Rattle.sg_table.specs.Telling.{Tells, IsAnswered}
+use Rattle.sg_table.specs.Telling.{IsAnswered}
 use Rattle.sg_table.specs.Values.{AreQuiet}
 
 module _ (pairs : List Pair) (now : ℕ) where
@@ -78,22 +78,22 @@ quiet_ticked now [] (n ∷ ns) t q = absurd t
 quiet_ticked now (c ∷ cs) [] t q = absurd t
 quiet_ticked now (c ∷ cs) (n ∷ ns) t q = ((t.0.waiting ∙ q.0.0, t.0.handled ∙ q.0.1), quiet_ticked now cs ns t.1 q.1)
 
-module _ (calls : List CallValue) (books : Books) (last now : ℕ) (w : World) (holds : Holds (record { calls = calls; books = books; moment = last }) w) (outs : List (Option Outcome)) where
+module _ (calls : List CallValue) (books : Books) (last now : ℕ) (w : World) (holds : Holds (record { calls = calls; books = books; moment = last }) w) (outs : List Outcome) where
   abbrev goes_on : Answer
   goes_on = answer (map (ended why.Idle) (filter (is_idle now) w.calls)) (record w { calls = map (call_at_tick now) (filter (λ c. not (is_idle now c)) w.calls); moment = now })
 
   ticked_by : (b : Bool) → ltb now last ≡ b → ticked w now ≡ cond b (refused w None (TickBack w.moment)) goes_on
   ticked_by b is = ap (λ t. cond t (refused w None (TickBack w.moment)) goes_on) (ap (ltb now) holds.moment_is ∙ is)
 
-  pub tick_back : now < last → Tells outs (Refused None (TickBack last) ∷ []) → IsAnswered outs (record { calls = calls; books = books; moment = last }) (ticked w now)
+  pub tick_back : now < last → outs ≡ Refused None (TickBack last) ∷ [] → IsAnswered outs (record { calls = calls; books = books; moment = last }) (ticked w now)
   tick_back lt tells = subst (IsAnswered outs (record { calls = calls; books = books; moment = last })) (sym (ticked_by true (lt-ltb now last lt)))
-      (record { tells = tells ∙ ap (λ n. Some (Refused None (TickBack n)) ∷ []) (sym holds.moment_is); holds = holds })
+      (record { tells = tells ∙ ap (λ n. Refused None (TickBack n) ∷ []) (sym holds.moment_is); holds = holds })
 
-  pub tick_on : (awake new : List CallValue) → last ≤ now → Tells outs (map (ended_as why.Idle) (filter (idles now) calls)) → awake ≡ filter (λ c. not (idles now c)) calls → EachPair (IsTicked now) awake new
+  pub tick_on : (awake new : List CallValue) → last ≤ now → outs ≡ map (ended_as why.Idle) (filter (idles now) calls) → awake ≡ filter (λ c. not (idles now c)) calls → EachPair (IsTicked now) awake new
       → IsAnswered outs (record { calls = new; books = books; moment = now }) (ticked w now)
   tick_on awake new le tells are ticks = subst (IsAnswered outs (record { calls = new; books = books; moment = now })) (sym (ticked_by false (le-ltb now last le)))
       (record {
-        tells = tells ∙ ap (map Some) (told_same w.books.pairs now calls w.calls holds.calls);
+        tells = tells ∙ told_same w.books.pairs now calls w.calls holds.calls;
         holds = record {
           calls = ticked_stand w.books.pairs now awake new (filter (λ c. not (is_idle now c)) w.calls)
               (subst (λ l. EachPair (CallStandsFor w.books.pairs) l (filter (λ c. not (is_idle now c)) w.calls)) (sym are) (kept w.books.pairs now calls w.calls holds.calls)) ticks;

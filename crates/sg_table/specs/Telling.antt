@@ -1,5 +1,5 @@
 -- What a signal tells.
-use Rattle.std.specs.Prelude.{◌≡◌, ◌≤◌, List, map, Option, Some}
+use Rattle.std.specs.Prelude.{◌≡◌, ◌≤◌, List}
 use Rattle.sg_gateway.specs.Events.{outcomes_from}
 use Rattle.sg_gateway.specs.Runs.{world_after}
 use Rattle.sg_gateway.specs.Signals.{Answer}
@@ -11,18 +11,14 @@ use Rattle.sg_outcome.specs.declared.outcomes.Outcome.{Outcome}
 use Rattle.sg_table.specs.Standing.{Holds, TableStandsFor}
 use Rattle.sg_table.specs.Values.{TableValue}
 
--- the list has these outcomes, in order
-abbrev pub Tells : List (Option Outcome) → List Outcome → Type 0
-Tells told outcomes = told ≡ map Some outcomes
-
 -- what is told is the answer's, and the table holds the world after it
-pub record IsAnswered (told : List (Option Outcome)) (table : TableValue) (a : Answer) : Type 0 where
-  pub tells : Tells told a.outcomes
+pub record IsAnswered (told : List Outcome) (table : TableValue) (a : Answer) : Type 0 where
+  pub tells : told ≡ a.outcomes
   pub holds : Holds table a.world
 
 -- what is told of events, and the table stands for the world after them
-abbrev pub IsTold : List (Option Outcome) → TableValue → World → List Event → Type 0
-IsTold told table w events = Tells told (outcomes_from w events) × TableStandsFor table (world_after w events)
+abbrev pub IsTold : List Outcome → TableValue → World → List Event → Type 0
+IsTold told table w events = (told ≡ outcomes_from w events) × TableStandsFor table (world_after w events)
 
 -- a tick is no later than the last moment that an NTP stamp of era 0 can name (RFC 5905, 6)
 abbrev pub IsTimely : Signal → Type 0

@@ -10,7 +10,7 @@ ghost use Rattle.sg_table.specs.Telling.{IsAnswered, IsTimely};
 ghost use Rattle.sg_table.specs.Values.{AreIndexed, shapes_of};
 
 use crate::places;
-use crate::told::Told;
+use crate::told::Outcomes;
 use sg_base::{Identity, NoMemory, Noise304};
 use sg_call::Call;
 use sg_leg::{Books, Way};
@@ -68,7 +68,7 @@ impl Calls {
     }
 
     /// Takes a signal and tells its outcomes. Out of memory, nothing has changed.
-    pub(crate) fn take(&mut self, alloc: Global, signal: &Signal) -> Result<Told, NoMemory>
+    pub(crate) fn take(&mut self, alloc: Global, signal: &Signal) -> Result<Outcomes, NoMemory>
         requires noise { signal_lacks_noise signal.now ≡ false }
         requires timely { IsTimely signal.now }
         requires stands { Stands self.old }

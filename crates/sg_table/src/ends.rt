@@ -7,12 +7,12 @@ ghost use Rattle.sg_leg.specs.Pairs.{EachPair};
 ghost use Rattle.sg_outcome.specs.declared.outcomes.Why.TheVariants as whys;
 ghost use Rattle.sg_table.specs.Ends.{ended_as, idles, IsRejectedAt, IsTicked};
 ghost use Rattle.sg_table.specs.Standing.{TableStandsFor};
-ghost use Rattle.sg_table.specs.Telling.{IsAnswered, Tells};
+ghost use Rattle.sg_table.specs.Telling.{IsAnswered};
 
 use crate::calls::Calls;
 use crate::places::position_of;
 use crate::signals::refused;
-use crate::told::{Told, nothing, one, tell};
+use crate::told::{Outcomes, nothing, one, tell};
 use sg_base::{CallId, IDLE_MILLIS, Refusal};
 use sg_call::Call;
 use sg_gateway::calls_in_order;
@@ -20,7 +20,7 @@ use sg_outcome::{Outcome, Why};
 
 impl Calls {
     /// A tick. Idle calls end, in order of slot; the others take this moment, which is not before the last one.
-    pub(crate) fn tick(&mut self, now: u64) -> Told
+    pub(crate) fn tick(&mut self, now: u64) -> Outcomes
         requires timely { now ≤ 2085978495999 }
         ensures { (w : World) → TableStandsFor self.old w → IsAnswered result.items self.new (ticked w now) }
     {
@@ -38,7 +38,7 @@ impl Calls {
     }
 
     /// The open offer of a call is rejected. A call without a generation ends.
-    pub(crate) fn reject(&mut self, id: CallId) -> Told
+    pub(crate) fn reject(&mut self, id: CallId) -> Outcomes
         ensures { (w : World) → TableStandsFor self.old w → IsAnswered result.items self.new (rejected w id (call_of w id)) }
     {
         calls_in_order();
@@ -62,7 +62,7 @@ impl Calls {
     }
 
     /// A call ends.
-    pub(crate) fn bye(&mut self, id: CallId) -> Told
+    pub(crate) fn bye(&mut self, id: CallId) -> Outcomes
         ensures { (w : World) → TableStandsFor self.old w → IsAnswered result.items self.new (left w id (call_of w id)) }
     {
         calls_in_order();
@@ -108,9 +108,9 @@ fn idles(call: &Call, now: u64) -> bool
 }
 
 /// Tells which calls are idle.
-fn tell_idle(calls: &[Call], now: u64) -> Told
+fn tell_idle(calls: &[Call], now: u64) -> Outcomes
     requires few { length calls.now ≤ 256 }
-    ensures { Tells result.items (map (ended_as whys.Idle) (filter (idles now) calls.now)) }
+    ensures { result.items ≡ map (ended_as whys.Idle) (filter (idles now) calls.now) }
 {
     let mut told = nothing();
     for call in calls.iter() {

@@ -20,4 +20,4 @@ pub use arrival::Arrival;
 pub use laws::{every_order_gives_the_same, only_its_own_call_counts};
 pub use sg_call::{End, Handled};
 pub use table::Table;
-pub use told::Told;
+pub use told::Outcomes;

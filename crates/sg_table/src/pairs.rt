@@ -10,7 +10,7 @@ ghost use Rattle.sg_table.specs.Standing.{TableStandsFor};
 ghost use Rattle.sg_table.specs.Telling.{IsAnswered};
 
 use crate::calls::Calls;
-use crate::told::{Told, nothing, one};
+use crate::told::{Outcomes, nothing, one};
 use sg_base::{Fault, Identity, NoMemory};
 use sg_outcome::Outcome;
 use std::alloc::Global;
@@ -24,7 +24,7 @@ impl Calls {
         own: &Identity,
         peer: &Identity,
         key: &[u8],
-    ) -> Result<Told, NoMemory>
+    ) -> Result<Outcomes, NoMemory>
         ensures told { IfOk result (λ told. (w : World) → TableStandsFor self.old w → IsAnswered told.items self.new (with_pair w (pair_of own.now peer.now key.now))) }
         ensures same { OnErr result (self.new ≡ self.old) }
         ensures needs { OnErr result ((w : World) → TableStandsFor self.old w → early w (signals.Psk (pair_of own.now peer.now key.now)) ≡ None) }

@@ -9,12 +9,12 @@ ghost use Rattle.sg_gateway.specs.World.{World, call_of};
 ghost use Rattle.sg_outcome.specs.declared.outcomes.Outcome.TheVariants as tells;
 ghost use Rattle.sg_table.specs.Free.{free_shape};
 ghost use Rattle.sg_table.specs.Standing.{Stands, TableStandsFor};
-ghost use Rattle.sg_table.specs.Telling.{IsAnswered, Tells};
+ghost use Rattle.sg_table.specs.Telling.{IsAnswered};
 ghost use Rattle.sg_table.specs.Values.{shapes_of};
 
 use crate::calls::Calls;
 use crate::places::{free_slot, position_of, put_in};
-use crate::told::{Told, one, two};
+use crate::told::{Outcomes, one, two};
 use sg_base::{Address, CallId, Fault, MasterKey, NoMemory, Refusal, Side};
 use sg_call::Call;
 use sg_gateway::calls_in_order;
@@ -23,8 +23,8 @@ use sg_outcome::Outcome;
 use std::alloc::Global;
 
 /// A refusal of a call's signal.
-pub(crate) fn refused(id: CallId, cause: Refusal) -> Told
-    ensures { Tells result.items (tells.Refused (Some id) cause ∷ []) }
+pub(crate) fn refused(id: CallId, cause: Refusal) -> Outcomes
+    ensures { result.items ≡ tells.Refused (Some id) cause ∷ [] }
 {
     one(Outcome::Refused {
         call: Some(id),
@@ -54,10 +54,10 @@ fn other_side(side: Side) -> Side
 
 impl Calls {
     /// Puts a new call into its slot. It tells that the call was made, and then this outcome.
-    fn seat(&mut self, id: CallId, slot: u8, call: Call, outcome: Outcome) -> Told
+    fn seat(&mut self, id: CallId, slot: u8, call: Call, outcome: Outcome) -> Outcomes
         requires room { length self.old.calls < 256 }
         requires slot { slot ≡ free_shape 0 (shapes_of self.old.calls) }
-        ensures told { Tells result.items (tells.Made id call.slot call.media ∷ outcome ∷ []) }
+        ensures told { result.items ≡ tells.Made id call.slot call.media ∷ outcome ∷ [] }
         ensures calls { self.new ≡ record self.old { calls = insert self.old.calls slot call } }
     {
         let told = two(made(id, &call), outcome);
@@ -76,7 +76,7 @@ impl Calls {
         window: u16,
         from_peer: &MasterKey,
         to_peer: &MasterKey,
-    ) -> Result<Told, NoMemory>
+    ) -> Result<Outcomes, NoMemory>
         ensures told { IfOk result (λ told. (w : World) → TableStandsFor self.old w → IsAnswered told.items self.new
             (manual_answer w (record { id = id; secure = secure; plain = plain; roc = roc; window = window; from_peer = from_peer.now; to_peer = to_peer.now }))) }
         ensures same { OnErr result (self.new ≡ self.old) }
@@ -121,7 +121,7 @@ impl Calls {
         way: Way,
         noise: &[u8; 304],
         text: &[u8],
-    ) -> Result<Told, NoMemory>
+    ) -> Result<Outcomes, NoMemory>
         ensures told { IfOk result (λ told. (w : World) → TableStandsFor self.old w
             → IsAnswered told.items self.new (offered_to w id way noise.now text.now (call_of w id))) }
         ensures same { OnErr result (self.new ≡ self.old) }
@@ -155,7 +155,7 @@ impl Calls {
         way: Way,
         noise: &[u8; 304],
         text: &[u8],
-    ) -> Result<Told, NoMemory>
+    ) -> Result<Outcomes, NoMemory>
         requires new { position (has_id id) self.old.calls ≡ None }
         requires room { length self.old.calls < 256 }
         requires slot { slot ≡ free_shape 0 (shapes_of self.old.calls) }
@@ -194,7 +194,7 @@ impl Calls {
         id: CallId,
         noise: &[u8; 304],
         text: &[u8],
-    ) -> Result<Told, NoMemory>
+    ) -> Result<Outcomes, NoMemory>
         requires stands { Stands self.old }
         ensures told { IfOk result (λ told. (w : World) → TableStandsFor self.old w
             → IsAnswered told.items self.new (answered w id noise.now text.now (call_of w id))) }
@@ -228,7 +228,7 @@ fn offer_at(
     way: Way,
     noise: &[u8; 304],
     text: &[u8],
-) -> Result<Told, NoMemory>
+) -> Result<Outcomes, NoMemory>
     requires found { position (has_id id) calls.old ≡ Some i }
     requires within { i < length calls.old }
     requires moment { now ≤ 2085978495999 }
@@ -262,7 +262,7 @@ fn answer_at(
     id: CallId,
     noise: &[u8; 304],
     text: &[u8],
-) -> Result<Told, NoMemory>
+) -> Result<Outcomes, NoMemory>
     requires found { position (has_id id) calls.old ≡ Some i }
     requires within { i < length calls.old }
     requires stands { Stands (record { calls = calls.old; books = books.old; moment = now }) }

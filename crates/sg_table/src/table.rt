@@ -8,7 +8,7 @@ ghost use Rattle.sg_table.specs.Standing.{TableStandsFor};
 ghost use Rattle.sg_table.specs.Telling.{IsTimely, IsTold};
 
 use crate::calls::Calls;
-use crate::told::Told;
+use crate::told::Outcomes;
 use sg_base::{CALLS_MOST, NoMemory};
 use sg_keys::Ring;
 use sg_leg::Books;
@@ -61,7 +61,7 @@ impl Table {
     /// most two outcomes of another kind. Out of memory, the table is what it was; that comes to no tick, no
     /// rejection and no bye, nor where the calls and the pre-shared keys that are there tell the refusal. A tick is
     /// at most 2,085,978,495,999 ms since 1970.
-    pub fn step(&mut self, alloc: Global, signal: &Signal) -> Result<Told, NoMemory>
+    pub fn step(&mut self, alloc: Global, signal: &Signal) -> Result<Outcomes, NoMemory>
         requires noise { signal_lacks_noise signal.now ≡ false }
         requires timely { IsTimely signal.now }
         ensures told { IfOk result (λ told. (w : World) → TableStandsFor self.old w → IsTold told.items self.new w (events_of_signal signal.now)) }

@@ -1,48 +1,46 @@
 //! The outcomes that a signal tells.
 
-ghost use Rattle.std.specs.Prelude.{◌<◌, ◌≡◌, ◌+◌, List, [], ◌∷◌, ◌++◌};
+ghost use Rattle.std.specs.Prelude.{◌<◌, ◌≡◌, ◌+◌, [], ◌∷◌, ◌++◌};
 ghost use Rattle.arrayvec.specs.ArrayVec.{array_vec_len};
-ghost use Rattle.sg_outcome.specs.declared.outcomes.Outcome as outcomes;
-ghost use Rattle.sg_table.specs.Telling.{Tells};
 
 use arrayvec::ArrayVec;
 use sg_base::CALLS_MOST;
 use sg_outcome::Outcome;
 
 /// Up to 256 outcomes, in order.
-pub type Told = ArrayVec<Option<Outcome>, CALLS_MOST>;
+pub type Outcomes = ArrayVec<Outcome, CALLS_MOST>;
 
 /// No outcome.
-pub(crate) fn nothing() -> Told
-    ensures { Tells result.items [] }
+pub(crate) fn nothing() -> Outcomes
+    ensures { result.items ≡ [] }
 {
     ArrayVec::new()
 }
 
 /// One outcome.
-pub(crate) fn one(outcome: Outcome) -> Told
-    ensures { Tells result.items (outcome ∷ []) }
+pub(crate) fn one(outcome: Outcome) -> Outcomes
+    ensures { result.items ≡ outcome ∷ [] }
 {
     let mut told = ArrayVec::new();
-    told.push(Some(outcome));
+    told.push(outcome);
     told
 }
 
 /// Two outcomes.
-pub(crate) fn two(first: Outcome, second: Outcome) -> Told
-    ensures { Tells result.items (first ∷ second ∷ []) }
+pub(crate) fn two(first: Outcome, second: Outcome) -> Outcomes
+    ensures { result.items ≡ first ∷ second ∷ [] }
 {
     let mut told = ArrayVec::new();
-    told.push(Some(first));
-    told.push(Some(second));
+    told.push(first);
+    told.push(second);
     told
 }
 
 /// Tells one outcome more.
-pub(crate) fn tell(told: &mut Told, outcome: Outcome)
+pub(crate) fn tell(told: &mut Outcomes, outcome: Outcome)
     requires room { array_vec_len told.old < 256 }
-    ensures more { (before : List outcomes.Outcome) → Tells told.old.items before → Tells told.new.items (before ++ outcome ∷ []) }
+    ensures more { told.new.items ≡ told.old.items ++ outcome ∷ [] }
     ensures len { array_vec_len told.new ≡ array_vec_len told.old + 1 }
 {
-    told.push(Some(outcome));
+    told.push(outcome);
 }

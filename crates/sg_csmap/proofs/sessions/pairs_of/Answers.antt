@@ -1,4 +1,4 @@
-use Rattle.std.proofs.Common.{◌+◌, Ok, length, sym, ap, ◌∙◌, arith}
+use Rattle.std.proofs.Common.{◌+◌, length, ap, ◌∙◌, arith}
 use Rattle.sg_csmap.specs.CryptoSessions.{pairs_from}
 use Rattle.sg_csmap.proofs.Loops.{behind, ends, none_left, one_more}
 use Rattle.sg_csmap.proofs.sessions.pairs_of.Goals as goal
@@ -16,4 +16,3 @@ pub returns : goal.returns
 returns c =
     ends c.media.pairs.items (pairs_from c.args.csb c.args.random.now c.args.policies.now c.args.tgks.now c.media.session c.media.rest.now) _
     (none_left c.args.csb c.args.random.now c.args.policies.now c.args.tgks.now c.media.session c.media.rest.now c.in_default.ensures.none) c.media.invariant.1
-    ∙ ap (λ pairs. Ok pairs) (sym c.from_vec.ensures)

@@ -1,4 +1,4 @@
-use Rattle.std.proofs.Common.{sym, subst, ◌∙◌, Err, Ok}
+use Rattle.std.proofs.Common.{ap, sym, subst, ◌∙◌, Err, Ok}
 use Rattle.sg_agreement.specs.Attributes.{mikey_value}
 use Rattle.sg_agreement.specs.Messages.{bundle_in}
 use Rattle.sg_csmap.specs.CryptoSessions as cs
@@ -24,8 +24,8 @@ pub returns-in-Ok-streams-clause-bundle : goal.returns-in-Ok-streams-clause-bund
 returns-in-Ok-streams-clause-bundle c = λ h at.
     bundled h c.args.now c.args.psks.now c.args.seen.now at c.args.medium c.args.count (mikey_value c.args.lines.now) c.in-Ok.read.0 c.in-Ok.read.1 c.in-Ok.ensures.message c.in-Ok-read_initial.initial
     (subst (λ o. psk.Gives (IsAccepted c.args.psks.now) (Ok c.in-Ok-read_initial.initial) (initial_of o c.in-Ok.read.1 c.args.psks.now c.args.seen.now c.args.now)) c.as_slice.ensures c.in-Ok-read_initial.ensures.value)
-    c.in-Ok-streams.streams
-    ((λ i. streams_of c.in-Ok-read_initial.initial.csb (sym c.as_slice-random.ensures i) (sym c.as_slice-map.ensures i) (sym c.as_slice-policies.ensures i) c.in-Ok-read_initial.initial.tgks.keys c.args.count) ∙ c.in-Ok-streams.ensures.value)
+    c.from_vec.result
+    ((λ i. streams_of c.in-Ok-read_initial.initial.csb (sym c.as_slice-random.ensures i) (sym c.as_slice-map.ensures i) (sym c.as_slice-policies.ensures i) c.in-Ok-read_initial.initial.tgks.keys c.args.count) ∙ c.in-Ok-streams.ensures.value ∙ ap Ok (sym c.from_vec.ensures))
 
 pub returns-clause-bundle : goal.returns-clause-bundle
 returns-clause-bundle c = λ h at.
@@ -33,7 +33,7 @@ returns-clause-bundle c = λ h at.
     (not_served h c.args.now c.args.psks.now c.args.seen.now at c.args.medium c.args.count (mikey_value c.args.lines.now) c.in-Ok.read.0 c.in-Ok.read.1 c.in-Ok.ensures.message c.in-Ok-read_initial.initial
     (subst (λ o. psk.Gives (IsAccepted c.args.psks.now) (Ok c.in-Ok-read_initial.initial) (initial_of o c.in-Ok.read.1 c.args.psks.now c.args.seen.now c.args.now)) c.as_slice.ensures c.in-Ok-read_initial.ensures.value)
     c.in-Err-streams.fault
-    (subst (λ r. cs.Gives (Err c.in-Err-streams.fault) r)
+    (subst (λ r. cs.GivesList (Err c.in-Err-streams.fault) r)
     (λ i. streams_of c.in-Ok-read_initial.initial.csb (c.as_slice-random.ensures i) (c.as_slice-map.ensures i) (c.as_slice-policies.ensures i) c.in-Ok-read_initial.initial.tgks.keys c.args.count) c.in-Err-streams.ensures.value))
 
 pub returns-in-Ok-streams-clause-room : goal.returns-in-Ok-streams-clause-room

@@ -1,14 +1,11 @@
 use Rattle.std.proofs.Common.{◌≡◌, ◌≤◌, List, ℕ, take, Ok}
 use Rattle.sg_edge.specs.Links.{Added, LinkCall}
 use Rattle.sg_edge.specs.Told.{Wrote}
-use Rattle.sg_outcome.specs.declared.outcomes.Outcome.{Outcome}
-use Rattle.sg_table.specs.Telling.{Tells}
 use Rattle.sg_relay.specs.Parts.{AreCarriedOut}
 use Rattle.sg_relay.proofs.telling.carry_out_all.Given as goal
 
 abbrev pub invariant-loop-outcome : goal.invariant-loop-outcome
 invariant-loop-outcome g l =
-    ((os : List Outcome) → Tells l.told os
-    → (calls : List LinkCall) × (out : List ℕ) × Added (g.L.Link.told l.fn.link) (g.L.Link.told l.link) calls × Wrote (g.K.Sink.written l.fn.sink) (g.K.Sink.written l.sink) out
-    × AreCarriedOut (Ok tt) (take l.outcome-index os) calls out)
+    ((calls : List LinkCall) × (out : List ℕ) × Added (g.L.Link.told l.fn.link) (g.L.Link.told l.link) calls × Wrote (g.K.Sink.written l.fn.sink) (g.K.Sink.written l.sink) out
+    × AreCarriedOut (Ok tt) (take l.outcome-index l.outcomes) calls out)
     × (g.K.Sink.faults l.sink ≡ g.K.Sink.faults l.fn.sink) × (g.L.Link.faults l.fn.link ≤ g.L.Link.faults l.link)

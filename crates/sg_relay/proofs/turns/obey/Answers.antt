@@ -1,7 +1,7 @@
-use Rattle.std.proofs.Common.{[], ◌∙◌, refl}
+use Rattle.std.proofs.Common.{[], ◌∙◌}
 use Rattle.sg_edge.proofs.Links.{added_none}
 use Rattle.sg_edge.proofs.Passed.{wrote_none}
-use Rattle.sg_gateway.specs.Events.{events_of_signal, outcomes_from}
+use Rattle.sg_gateway.specs.Events.{events_of_signal}
 use Rattle.sg_table.specs.Standing.{TableStandsFor}
 use Rattle.sg_relay.proofs.Deeds.{handled_told, unhandled}
 use Rattle.sg_relay.proofs.turns.obey.Goals as goal
@@ -13,5 +13,5 @@ pub returns-in-Ok-clause-handled : goal.returns-in-Ok-clause-handled
 returns-in-Ok-clause-handled g c = λ w stands.
     let told = c.in-Ok.ensures.told w stands in
     let events = events_of_signal c.args.signal.now in
-    let done = c.carry_out_all.ensures.done (outcomes_from w events) (c.as_slice.ensures.value ∙ told.0) in
-    (done.0, done.1, done.2, done.3, handled_told c.carry_out_all.result w events (TableStandsFor c.step.new.self) (outcomes_from w events) done.0 done.1 done.4 refl told.1)
+    let done = c.carry_out_all.ensures.done in
+    (done.0, done.1, done.2, done.3, handled_told c.carry_out_all.result w events (TableStandsFor c.step.new.self) c.as_slice.result.now done.0 done.1 done.4 (c.as_slice.ensures.value ∙ told.0) told.1)

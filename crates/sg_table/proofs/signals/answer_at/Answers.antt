@@ -1,4 +1,4 @@
-use Rattle.std.proofs.Common.{◌∙◌, sym, subst, [], ◌∷◌, Some, Err}
+use Rattle.std.proofs.Common.{◌≡◌, ◌∙◌, sym, subst, [], ◌∷◌, Some, Err}
 use Rattle.sg_call.specs.Settling.{IsSettled}
 use Rattle.sg_call.specs.Standing.{CallStandsFor}
 use Rattle.sg_gateway.specs.CallSignals.{answered_in}
@@ -8,7 +8,7 @@ use Rattle.sg_outcome.specs.declared.outcomes.Outcome.TheVariants.{Refused}
 use Rattle.sg_table.proofs.Answered.{order_of, quiet_at, back_at}
 use Rattle.sg_table.proofs.Found.{get_any}
 use Rattle.sg_table.proofs.Signalled.{held, answer_told, answer_refused, answer_state, answer_needs, pairs_there}
-use Rattle.sg_table.specs.Telling.{Tells, IsAnswered}
+use Rattle.sg_table.specs.Telling.{IsAnswered}
 use Rattle.sg_table.proofs.signals.answer_at.Goals as goal
 
 pub returns-in_default-clause-told : goal.returns-in_default-clause-told
@@ -34,7 +34,7 @@ returns-in-Ok-clause-told c = λ w s.
 
 pub returns-in-Err-Refused-clause-told : goal.returns-in-Err-Refused-clause-told
 returns-in-Err-Refused-clause-told c = λ w s.
-    let tells : Tells c.refused-in-Err-Refused.result.items (Refused (Some c.args.id) c.in-Err-Refused.cause ∷ []) = rw c.in-Err-Refused.field-0-is at c.refused-in-Err-Refused.ensures in
+    let tells : c.refused-in-Err-Refused.result.items ≡ Refused (Some c.args.id) c.in-Err-Refused.cause ∷ [] = rw c.in-Err-Refused.field-0-is at c.refused-in-Err-Refused.ensures in
     let order = order_of c.calls_in_order.ensures (held c.args.calls.now c.args.books.now c.args.now) w s in
     let back = c.in-Err-Refused.ensures.back in
     let same = back_at c.args.calls.now c.args.i c.index-calls-i-2.result c.answer.new.self back.0 in

@@ -1,9 +1,8 @@
-use Rattle.std.proofs.Common.{◌+◌, ◌∷◌, [], refl, sym, subst}
+use Rattle.std.proofs.Common.{◌+◌, ◌∷◌, ◌∙◌, [], ap, refl, sym, subst}
 use Rattle.sg_base.specs.Keys.{Master}
-use Rattle.sg_gateway.specs.Events.{outcomes_from}
 use Rattle.sg_table.specs.Telling.{IsTold}
 use Rattle.sg_table.specs.Values.{TableValue}
-use Rattle.sg_demo.specs.Demonstration.{Demo, HasTakenFront, called_by, with_call, with_keys, world_of}
+use Rattle.sg_demo.specs.Demonstration.{Demo, HasTakenFront, called_by, slot_told, with_call, with_keys, world_of}
 use Rattle.sg_demo.specs.Going.{DemoStandsFor}
 use Rattle.sg_demo.specs.declared.state.Demo as declared
 use Rattle.sg_demo.proofs.Acting.{on_err}
@@ -29,7 +28,7 @@ returns-in-None-clause-called c = λ d stands.
     let taken = call_taken c.args.number d a b after c.step.new.self told.1 in
     let shown : declared.Demo = record { words = after; callers = self.callers; summary = self.summary } in
     subst (λ (e : Demo). DemoStandsFor shown c.step.new.self e) (sym is)
-    (call_refused shown c.step.new.self c.args.number d a b after refl stands.callers stands.summary (c.in-None.ensures (outcomes_from (world_of d) (called_by c.args.number a b ∷ [])) told.0) taken)
+    (call_refused shown c.step.new.self c.args.number d a b after refl stands.callers stands.summary (c.in-None.ensures ∙ ap slot_told told.0) taken)
 
 pub returns-in_err-push-in-Some-clause-failed : goal.returns-in_err-push-in-Some-clause-failed
 returns-in_err-push-in-Some-clause-failed c =
@@ -59,4 +58,4 @@ returns-clause-called c = λ d stands.
     let shown : declared.Demo = record { words = after; callers = c.push.new.self; summary = record self.summary { calls = self.summary.calls + 1 } } in
     subst (λ (e : Demo). DemoStandsFor shown c.step.new.self e) (sym is)
     (call_made shown c.step.new.self c.args.number c.in-Some.slot d a b after self.callers.items c.make.result self.summary refl c.in_ok-push-in-Some.ensures.items stands.callers c.make.ensures refl stands.summary
-    (c.in-Some.ensures (outcomes_from (world_of d) (called_by c.args.number a b ∷ [])) told.0) taken)
+    (c.in-Some.ensures ∙ ap slot_told told.0) taken)

@@ -3,8 +3,7 @@ use Rattle.sg_course.specs.Output.{output_from, text}
 use Rattle.sg_edge.proofs.Passed.{wrote_none}
 use Rattle.sg_gateway.specs.Events.{events_of_signal}
 use Rattle.sg_playback.proofs.Plays.{stepped, written_only}
-use Rattle.sg_playback.proofs.Tells.{told_all}
-use Rattle.sg_playback.specs.Playing.{Playing, told_in}
+use Rattle.sg_playback.specs.Playing.{Playing}
 use Rattle.sg_table.specs.Standing.{TableStandsFor}
 use Rattle.sg_playback.proofs.player.Player.step.Goals as goal
 
@@ -14,8 +13,8 @@ returns-in-Err-clause-stepped g c = λ w stands. (Rattle.std.proofs.Common.[], w
 pub returns-clause-stepped : goal.returns-clause-stepped
 returns-clause-stepped g c = λ w stands.
     let told = c.in-Ok.ensures.told w (subst (λ (v : Playing). TableStandsFor v.table w) (sym c.self.view_is) stands) in
-    stepped c.tell_all.result w (events_of_signal c.args.signal.now) (TableStandsFor c.step.new.self) _ _ (text (told_in c.as_slice.result.now)) c.tell_all.ensures.told
-    (ap (λ l. text (told_in l)) (c.as_slice.ensures.value ∙ told.0) ∙ ap text (told_all _)) told.1
+    stepped c.tell_all.result w (events_of_signal c.args.signal.now) (TableStandsFor c.step.new.self) _ _ (text c.as_slice.result.now) c.tell_all.ensures.told
+    (ap text (c.as_slice.ensures.value ∙ told.0)) told.1
 
 pub returns-clause-only : goal.returns-clause-only
 returns-clause-only g c = written_only c.tell_all.result _ _ _ c.tell_all.ensures.told

@@ -29,7 +29,7 @@ pub returns-in-Some-clause-told : goal.returns-in-Some-clause-told
 returns-in-Some-clause-told c =
     let before : List CallValue → TableValue = λ l. held l c.self.inside.books c.self.inside.moment in
     let after : TableValue = held c.answer_at.new.calls c.answer_at.new.books c.self.inside.moment in
-    let go : (told : ArrayVec (Option Outcome)) → ((w : World) → TableStandsFor (before c.deref_mut.result.now) w → IsAnswered told.items after (answered w c.args.id c.args.noise.now c.args.text.now (call_of w c.args.id)))
+    let go : (told : ArrayVec Outcome) → ((w : World) → TableStandsFor (before c.deref_mut.result.now) w → IsAnswered told.items after (answered w c.args.id c.args.noise.now c.args.text.now (call_of w c.args.id)))
     → (w : World) → TableStandsFor c.args.self.now w → IsAnswered told.items after (answered w c.args.id c.args.noise.now c.args.text.now (call_of w c.args.id)) =
     λ told f w s. f w (subst (λ l. TableStandsFor (before l) w) (sym c.deref_mut.ensures.value) (subst (λ v. TableStandsFor v w) (sym c.self.view_is) s)) in
     subst (λ cs. IfOk c.answer_at.result (λ told. (w : World) → TableStandsFor c.args.self.now w → IsAnswered told.items (held cs c.answer_at.new.books c.self.inside.moment) (answered w c.args.id c.args.noise.now c.args.text.now (call_of w c.args.id))))

@@ -24,4 +24,4 @@ returns c w stands =
     subst (λ cs. IsAnswered c.one.result.items (record { calls = cs; books = c.self.inside.books; moment = c.self.inside.moment }) (left w c.args.id (call_of w c.args.id))) (sym c.remove.ensures.items)
     (left_at c.self.inside.by_slot.items c.self.inside.books c.self.inside.moment w viewed.holds (order_of c.calls_in_order.ensures (the_view c.self.inside) w viewed) c.args.id c.one.result.items c.in-Some.i
     (ap (position (has_id c.args.id)) (sym c.deref.ensures.value) ∙ sym c.position_of.ensures.value ∙ c.in-Some.is) c.index.result.now
-    (c.one.ensures ∙ (λ j. Some ((c.ended-told.ensures ∙ ap (ended_as Bye) c.index.ensures) j) ∷ [])))
+    (c.one.ensures ∙ (λ j. (c.ended-told.ensures ∙ ap (ended_as Bye) c.index.ensures) j ∷ [])))

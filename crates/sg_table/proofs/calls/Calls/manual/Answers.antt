@@ -16,7 +16,7 @@ use Rattle.sg_table.proofs.Signalled.{held, on_err, manual_told, manual_refused}
 use Rattle.sg_table.specs.Found.{has_id}
 use Rattle.sg_table.specs.Free.{free_shape}
 use Rattle.sg_table.specs.Standing.{TableStandsFor}
-use Rattle.sg_table.specs.Telling.{Tells, IsAnswered}
+use Rattle.sg_table.specs.Telling.{IsAnswered}
 use Rattle.sg_table.specs.Values.{TableValue, shapes_of}
 use Rattle.sg_table.specs.contracts.calls.Calls.{the_view}
 use Rattle.sg_table.proofs.calls.Calls.manual.Goals as goal
@@ -68,7 +68,7 @@ returns-in-Ok-clause-told c = λ w s.
 
 pub returns-in-Err-Refused-clause-told : goal.returns-in-Err-Refused-clause-told
 returns-in-Err-Refused-clause-told c = λ w s.
-    let tells : Tells c.refused-in-Err-Refused.result.items (Refused (Some c.args.id) c.in-Err-Refused.cause ∷ []) = c.refused-in-Err-Refused.ensures in
+    let tells : c.refused-in-Err-Refused.result.items ≡ Refused (Some c.args.id) c.in-Err-Refused.cause ∷ [] = c.refused-in-Err-Refused.ensures in
     let h : ManualCall = record { id = c.args.id; secure = c.args.secure; plain = c.args.plain; roc = c.args.roc; window = c.args.window; from_peer = c.args.from_peer.now; to_peer = c.args.to_peer.now } in
     let s' : TableStandsFor (the_view c.self.inside) w = subst (λ v. TableStandsFor v w) (sym c.self.view_is) s in
     let order = order_of c.calls_in_order.ensures (the_view c.self.inside) w s' in

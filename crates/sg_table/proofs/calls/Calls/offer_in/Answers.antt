@@ -13,7 +13,7 @@ use Rattle.sg_table.proofs.Signalled.{held, on_err, offer_new_told, offer_new_re
 use Rattle.sg_table.specs.Found.{has_id}
 use Rattle.sg_table.specs.Free.{free_shape}
 use Rattle.sg_table.specs.Standing.{TableStandsFor}
-use Rattle.sg_table.specs.Telling.{Tells, IsAnswered}
+use Rattle.sg_table.specs.Telling.{IsAnswered}
 use Rattle.sg_table.specs.Values.{TableValue, shapes_of}
 use Rattle.sg_table.specs.contracts.calls.Calls.{the_view}
 use Rattle.sg_table.proofs.calls.Calls.offer_in.Goals as goal
@@ -37,11 +37,11 @@ returns-in-Ok-clause-told c = λ w s.
     (offer_new_told c.self.inside.by_slot.items c.self.inside.books c.self.inside.moment w s'.holds order c.args.id c.args.slot is_free c.in_ok-call.call c.in_ok-call.ensures.stands
     c.offer.new.self c.offer.new.books c.in-Ok.ensures.psks (c.in-Ok.ensures.inbox.0 ∙ c.in_ok-call.ensures.inbox.0, c.in-Ok.ensures.inbox.1 ∙ c.in_ok-call.ensures.inbox.1)
     c.args.way c.args.noise.now c.args.text.now c.in-Ok.text none room c.in-Ok.ensures.answer c.seat.result.items
-    (c.seat.ensures.told ∙ (λ j. Some (Made c.args.id c.offer.new.self.slot c.offer.new.self.media) ∷ (Some (Sdp c.args.id (side_is j) c.in-Ok.text) ∷ []))))
+    (c.seat.ensures.told ∙ (λ j. Made c.args.id c.offer.new.self.slot c.offer.new.self.media ∷ Sdp c.args.id (side_is j) c.in-Ok.text ∷ [])))
 
 pub returns-in-Err-Refused-clause-told : goal.returns-in-Err-Refused-clause-told
 returns-in-Err-Refused-clause-told c = λ w s.
-    let tells : Tells c.refused.result.items (Refused (Some c.args.id) c.in-Err-Refused.why ∷ []) = rw c.in-Err-Refused.field-0-is at c.refused.ensures in
+    let tells : c.refused.result.items ≡ Refused (Some c.args.id) c.in-Err-Refused.why ∷ [] = rw c.in-Err-Refused.field-0-is at c.refused.ensures in
     let s' : TableStandsFor (the_view c.self.inside) w = subst (λ v. TableStandsFor v w) (sym c.self.view_is) s in
     let order = order_of c.calls_in_order.ensures (the_view c.self.inside) w s' in
     let none : position (has_id c.args.id) c.self.inside.by_slot.items ≡ None = subst (λ (v : TableValue). position (has_id c.args.id) v.calls ≡ None) (sym c.self.view_is) c.requires.new in

@@ -38,7 +38,7 @@ returns-in-Ok-false c w stands =
     has_ended c.self.inside.by_slot.items c.self.inside.books c.self.inside.moment w viewed.holds (order_of c.calls_in_order.ensures (the_view c.self.inside) w viewed) c.args.id c.one.result.items c.in-Some.i
     (ap (position (has_id c.args.id)) (sym c.deref.ensures.value) ∙ sym c.position_of.ensures.value ∙ c.in-Some.is) c.reject_at.result c.reject_at.new.calls done (c.in-Ok-false.is ∙ ap (λ b. Ok b) c.in-Ok-false.field-0-test) c.remove.new.self.items
     (c.remove.ensures.items ∙ ap (λ cs. remove cs c.in-Some.i) (with_items_is c.self.inside.by_slot c.reject_at.new.calls (c.reject_at.auto.calls ∙ c.deref_mut.ensures.len)))
-    (c.one.ensures ∙ (λ j. Some (Ended c.args.id (at j).0 (at j).1 why.Rejected) ∷ []))
+    (c.one.ensures ∙ (λ j. Ended c.args.id (at j).0 (at j).1 why.Rejected ∷ []))
 
 pub returns-in-Err : goal.returns-in-Err
 returns-in-Err c w stands =

@@ -5,7 +5,7 @@ use Rattle.sg_demo.specs.Going.{DemoStandsFor}
 use Rattle.sg_demo.proofs.Acting.{on_err}
 use Rattle.sg_demo.proofs.Fronts.{call_in_whole, called_is, no_rounds, round_in_whole, round_is, whole_is}
 use Rattle.sg_demo.proofs.Within.{more_within}
-use Rattle.sg_demo.proofs.demonstration.traffic.Goals as goal
+use Rattle.sg_demo.proofs.demonstration.gated_traffic.Goals as goal
 
 pub loop-number-init : goal.loop-number-init
 loop-number-init g c = (c.new-demo.ensures.stands c.args.table.now c.requires.empty, omega (arith, c.new-demo.ensures.size), c.new-demo.ensures.within)

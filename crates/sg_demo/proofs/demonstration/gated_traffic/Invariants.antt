@@ -2,7 +2,7 @@ use Rattle.std.proofs.Common.{◌+◌, ◌*◌, ◌≤◌, vec_len}
 use Rattle.sg_demo.specs.Demonstration.{calls_made, with_rounds}
 use Rattle.sg_demo.specs.Going.{DemoStandsFor}
 use Rattle.sg_demo.specs.Standing.{IsWithin}
-use Rattle.sg_demo.proofs.demonstration.traffic.Given as goal
+use Rattle.sg_demo.proofs.demonstration.gated_traffic.Given as goal
 
 abbrev pub invariant-loop-number : goal.invariant-loop-number
 invariant-loop-number g l = DemoStandsFor l.demo l.table (calls_made l.number l.start) × (vec_len l.demo.callers ≤ l.number) × IsWithin l.number l.demo.summary
