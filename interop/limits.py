@@ -119,7 +119,13 @@ def longer_line():
     yield "x" * 70_000
 
 
-ALL = full_book, full_ring, full_table, cut_at_each_octet, changed_at_each_octet, longest_line, longer_line
+def longest_datagram():
+    """A datagram of 4,352 octets is read, and one of an octet more isn't."""
+    for count in 4352, 4353:
+        yield "in 20000 127.0.0.1:40000 " + "80" * count
+
+
+ALL = full_book, full_ring, full_table, cut_at_each_octet, changed_at_each_octet, longest_line, longer_line, longest_datagram
 
 
 def resident(program, script, told):

@@ -1,5 +1,5 @@
-//! Tests of the commands: replay, relay and demonstration. They stand in a crate of their own, since a crate with tests
-//! is proved twice.
+//! Tests of the commands, replay, relay and demonstration, and of the table. They stand in a crate of their own, since
+//! a crate with tests is proved twice.
 #![tactic(auto)]
 
 #[cfg(test)]
@@ -16,5 +16,7 @@ mod relays;
 mod replays;
 #[cfg(test)]
 mod statuses;
+#[cfg(test)]
+mod tables;
 #[cfg(test)]
 mod workers;

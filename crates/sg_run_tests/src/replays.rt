@@ -262,3 +262,18 @@ fn one_octet_a_call(rt: HostRuntime) -> Result<(), Fail> {
     assert!(rt; answer == Status::Done && is_all);
     Ok(())
 }
+
+// 4,353 octets are one more than a datagram may have.
+#[test]
+fn a_datagram_above_the_most_is_no_line(rt: HostRuntime) -> Result<(), Fail> {
+    let mut line = String::from_str(rt.alloc(), "in 20000 127.0.0.1:40000 ")?;
+    for _ in 0..4353 {
+        line.push_str("80")?;
+    }
+    line.push_str("\n")?;
+    let status = Status::Script {
+        line: 2,
+        fault: ScriptFault::Length,
+    };
+    tells(&rt, rt.alloc(), &[HEADER, &line], REPLAY, status, &[])
+}
