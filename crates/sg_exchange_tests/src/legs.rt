@@ -1,5 +1,7 @@
 //! A call that is keyed manually; and the texts of worked offers.
 
+ghost use Rattle.std.specs.Prelude.{◌≡◌, [], IfOk};
+
 use sg_base::{Address, Fault, Kind, MasterKey, Refusal, Suite};
 use sg_keys::Ring;
 use sg_leg::{Books, Idle, Live, MediaSpec};
@@ -7,17 +9,19 @@ use sg_psk::{PskBook, ReplayBook};
 use std::alloc::Global;
 use std::test::Fail;
 
-const SECURE: Address = Address {
+pub(crate) const SECURE: Address = Address {
     ip: [127, 0, 0, 1],
     port: 40000,
 };
 
-const PLAIN: Address = Address {
+pub(crate) const PLAIN: Address = Address {
     ip: [127, 0, 0, 1],
     port: 41000,
 };
 
-pub(crate) fn books(alloc: Global) -> Result<Books, Fail> {
+pub(crate) fn books(alloc: Global) -> Result<Books, Fail>
+    ensures { IfOk result (λ books. books.ring ≡ []) }
+{
     Ok(Books {
         psks: PskBook::make(alloc),
         seen: ReplayBook::make(alloc)?,
@@ -25,7 +29,7 @@ pub(crate) fn books(alloc: Global) -> Result<Books, Fail> {
     })
 }
 
-fn key(suite: Suite, octets: &[u8]) -> Result<MasterKey, Fail> {
+pub(crate) fn key(suite: Suite, octets: &[u8]) -> Result<MasterKey, Fail> {
     Ok(MasterKey::new(suite, octets).ok_or("another length")?)
 }
 

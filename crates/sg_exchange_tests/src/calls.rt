@@ -1,0 +1,123 @@
+//! A call, each of whose calls is made once.
+
+ghost use Rattle.std.specs.Prelude.{◌≡◌, [], IfOk};
+ghost use Rattle.sg_call.specs.States.{HasPairs};
+
+use crate::answers::{BACK_TO_SECURE, PLAIN_ANSWER};
+use crate::legs::{PLAIN, SECURE, SECURE_OFFER, TO_PLAIN, books, key, noise};
+use sg_base::{CallId, DropCause, Pad, Refusal, Side, Suite};
+use sg_call::{Call, End, Handled};
+use sg_lanes::Lane;
+use sg_leg::{Books, Way};
+use std::alloc::Global;
+use std::process::Abort;
+use std::test::Fail;
+
+/// The authentication key of RFC 3711, B.3, and what is sealed under it from 28 octets (`interop/srtp.py`).
+const AUTHENTICATION: [u8; 20] = [
+    0xce, 0xbe, 0x32, 0x1f, 0x6f, 0xf7, 0x71, 0x6b, 0x6f, 0xd4, 0xab, 0x49, 0xaf, 0x25, 0x6a, 0x15,
+    0x6d, 0x38, 0xba, 0xa4,
+];
+
+const KNOWN: &[u8] =
+    b"\x80\x0f\x12\x34\xde\xca\xfb\xad\xca\xfe\xba\xbe\x4e\x55\xdc\x4c\xe7\x99\x78\xd8\x8c\xa4\xd2\x15\x94\x9d\x24\x02\xb7\x8d\x6a\xcc\x99\xea\x17\x9b\x8d\xbb";
+
+/// A call with an open offer of the secure side, which was taken at moment 1.
+fn offered(alloc: Global) -> Result<(Call, Books), Fail>
+    ensures { IfOk result (λ made. HasPairs made.1.psks made.0.state) }
+{
+    let mut books = books(alloc)?;
+    let mut call = Call::make(alloc, CallId(7), 0)?;
+    match call.offer(
+        alloc,
+        Way::FromSecure,
+        SECURE_OFFER,
+        &noise(),
+        1,
+        &mut books,
+    ) {
+        Ok(out) if out.as_slice() == TO_PLAIN => Ok((call, books)),
+        _ => Err("not offered")?,
+    }
+}
+
+#[test]
+fn an_offer_is_answered(rt: HostRuntime) -> Result<(), Fail> {
+    let alloc = rt.alloc();
+    let (mut call, mut books) = offered(alloc)?;
+    assert!(rt; call.side() == Some(Side::Secure) && call.media() == 1);
+    match call.answer(alloc, PLAIN_ANSWER, &noise(), 2, &mut books) {
+        Ok(back) => assert!(rt; back.as_slice() == BACK_TO_SECURE),
+        Err(_) => Err("not answered")?,
+    }
+    call.tick(3);
+    assert!(rt; call.id() == CallId(7) && call.slot() == 0 && call.moment() == 2);
+    assert!(rt; matches!(call.reject(4), Err(Refusal::State)));
+    Ok(())
+}
+
+#[test]
+fn a_first_offer_is_rejected(rt: HostRuntime) -> Result<(), Fail> {
+    let (mut call, _) = offered(rt.alloc())?;
+    assert!(rt; matches!(call.reject(2), Ok(false)));
+    Ok(())
+}
+
+/// A call that is keyed manually, under the known key and another one.
+fn keyed(alloc: Global) -> Result<Call, Fail>
+    ensures { IfOk result (λ call. (call.waiting ≡ []) × (call.handled ≡ [])) }
+{
+    let mut books = books(alloc)?;
+    let from_peer = key(Suite::Raw80, &AUTHENTICATION)?;
+    let to_peer = key(Suite::Raw80, &[11; 20])?;
+    let mut call = Call::make(alloc, CallId(1), 0)?;
+    match call.manual(
+        alloc, SECURE, PLAIN, 0, 64, &from_peer, &to_peer, 5, &mut books,
+    ) {
+        Ok(()) => Ok(call),
+        Err(_) => Err("not keyed")?,
+    }
+}
+
+/// A pad with the known datagram.
+fn known(alloc: Global) -> Result<Pad, Fail> {
+    let mut pad = Pad::make(alloc)?;
+    match pad.fill(KNOWN) {
+        Ok(()) => Ok(pad),
+        Err(_) => Err("too long")?,
+    }
+}
+
+#[test]
+fn a_datagram_is_handled(rt: HostRuntime) -> Result<(), Fail> {
+    let mut call = keyed(rt.alloc())?;
+    let Handled { pad, end } = call.datagram(20000, SECURE, known(rt.alloc())?, 6);
+    assert!(rt;
+        end == End::Out {
+            port: 20002,
+            to: PLAIN
+        }
+    );
+    assert!(rt; pad.octets() == &KNOWN[..28] && call.moment() == 6);
+    Ok(())
+}
+
+#[test]
+fn datagrams_wait_and_are_drained(rt: HostRuntime) -> Result<(), Fail> {
+    let mut call = keyed(rt.alloc())?;
+    call.push(8, 20000, SECURE, known(rt.alloc())?, 6);
+    call.push(9, 20000, SECURE, known(rt.alloc())?, 7);
+    call.drain();
+    let out = End::Out {
+        port: 20002,
+        to: PLAIN,
+    };
+    for wanted in [(8, out), (9, End::Dropped(DropCause::Repeat))] {
+        match call.pop() {
+            Some((number, handled)) => assert!(rt; (number, handled.end) == wanted),
+            None => Err("none is handled")?,
+        }
+    }
+    assert!(rt; call.pop().is_none() && call.moment() == 6);
+    Ok(())
+}
