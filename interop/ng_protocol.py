@@ -5,7 +5,7 @@
 
 It starts the daemon over the program, which is a gateway by its command `relay`. What must come stands here, or in the
 pages that say so; requests are written by a writer of its own. It makes a network of its own where the system lets it;
-else UDP port 2223 and the gateway's ports 20000 to 20063 of 127.0.0.1 have to be free.
+else UDP port 2223 and the gateway's ports 20000 to 24095 of 127.0.0.1 have to be free.
 """
 import base64
 import contextlib

@@ -73,7 +73,7 @@ def datagram_of(moment, packet):
     if len(packet) < total or total < head + 8:
         return "cut short"
     source, to, length = struct.unpack(">HHH", packet[head:head + 6])
-    if length < 8 or head + length > total:
+    if head < 20 or length < 8 or head + length > total:
         return "malformed"
     hosts = (".".join(map(str, packet[at:at + 4])) for at in (12, 16))
     addresses = (f"{host}:{port}" for host, port in zip(hosts, (source, to)))

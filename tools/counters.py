@@ -5,8 +5,9 @@
 import collections
 import json
 
-FIRST_PORT, SLOTS = 20_000, 256
-PORTS = 16 * SLOTS
+# The gateway's ports: sixteen a slot, four a medium, one a leg (docs/formats.md, "Ports").
+SLOTS = 256
+PORTS = range(20_000, 20_000 + 16 * SLOTS)
 LEGS = ("secure RTP", "secure RTCP", "plain RTP", "plain RTCP")
 # The octets of a packet that aren't its datagram's: nftables counts the IPv4 and UDP heads, too.
 HEADS = 28
@@ -24,11 +25,17 @@ class Fault(Exception):
 
 
 def is_port(port):
-    return FIRST_PORT <= port < FIRST_PORT + PORTS
+    return port in PORTS
 
 
 def port_of(slot, medium, leg):
-    return FIRST_PORT + 16 * slot + 4 * medium + leg
+    return PORTS.start + 16 * slot + 4 * medium + leg
+
+
+def place_of(port):
+    """The slot, the medium and the leg of one of the gateway's ports."""
+    slot, rest = divmod(port - PORTS.start, 16)
+    return slot, rest // 4, LEGS[rest % 4]
 
 
 def counts(octets):
@@ -122,10 +129,8 @@ class Calls:
         self.tell(self.unsent, "unsent", int(port), None)
 
     def tell(self, all_of_them, name, port, cause):
-        slot, rest = divmod(port - FIRST_PORT, 16)
-        call = self.by_slot.get(slot) if is_port(port) else None
-        leg = LEGS[rest % 4] if is_port(port) else None
+        slot, medium, leg = place_of(port) if is_port(port) else (None, None, None)
         all_of_them[(leg, cause) if cause else leg] += 1
+        call = self.by_slot.get(slot)
         if call:
-            place = rest // 4, LEGS[rest % 4]
-            getattr(call, name)[(*place, cause) if cause else place] += 1
+            getattr(call, name)[(medium, leg, cause) if cause else (medium, leg)] += 1

@@ -22,6 +22,7 @@ import threading
 import time
 
 import fields
+from counters import port_of
 from fields import Refused, keys_of, octets_of
 from gateway import FILES_MOST, Fifos, Gateway, Gone, Program, Taken
 
@@ -146,7 +147,7 @@ class Driver:
 
     def ports(self, call, medium=0):
         """The gateway's four ports of a call that is there: secure RTP, secure RTCP, plain RTP, plain RTCP."""
-        first = 20_000 + 16 * self.slots[call] + 4 * medium
+        first = port_of(self.slots[call], medium, 0)
         return range(first, first + 4)
 
     # ---- the end
@@ -300,8 +301,10 @@ class Driver:
                 self.gateway, self.gone, self.draining = gateway, None, False
                 self.spent.clear()
                 self.open_keys.clear()
-            # `close` may have ended the one before.
-            return not self.over.is_set() or gateway.close() and False
+            if self.over.is_set():
+                # `close` may have ended the one before. What was told to this one is answered by its end.
+                gateway.close()
+            return True
         return False
 
     def _warn(self, text):

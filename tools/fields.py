@@ -5,14 +5,14 @@
 import ipaddress
 import re
 
-TEXT_MOST = 32_768
+TEXT_MOST, DATAGRAM_MOST = 32_768, 4_352
 NUMBER_MOST = 2**32 - 1
 WINDOW_LEAST, WINDOW_MOST = 64, 1_024
 SHARED_KEY_LEAST, SHARED_KEY_MOST = 16, 64
-# The octets of a suite's key and salt.
+# The octets of a suite's key and salt (RFC 4568, 6.2; RFC 6188, 2), and those of a key by hand, with the form for tests.
 CIPHERS = {"AES_CM_128": 30, "AES_192_CM": 38, "AES_256_CM": 46}
 SUITES = {f"{cipher}_HMAC_SHA1_{tag}": length for cipher, length in CIPHERS.items() for tag in (80, 32)}
-SUITES["RAW80"] = 20
+KEY_OCTETS = {"RAW80": 20, **SUITES}
 
 
 class Refused(Exception):
@@ -74,8 +74,8 @@ def address(pair):
 def manual_key(key):
     """`SUITE:HEX`."""
     suite, _, digits = key.partition(":")
-    fits = suite in SUITES and re.fullmatch(r"[0-9a-f]*", digits) and len(digits) == 2 * SUITES[suite]
-    require(fits, f"a key is a suite of {', '.join(SUITES)}, a colon, and its octets")
+    fits = suite in KEY_OCTETS and re.fullmatch(r"[0-9a-f]*", digits) and len(digits) == 2 * KEY_OCTETS[suite]
+    require(fits, f"a key is a suite of {', '.join(KEY_OCTETS)}, a colon, and its octets")
     return key
 
 

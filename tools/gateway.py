@@ -24,11 +24,13 @@ import threading
 import time
 from pathlib import Path
 
+from counters import PORTS, sockets
+
 STATUSES = {
     0: "done", 1: "usage", 2: "script", 3: "read", 4: "write", 5: "link", 6: "no memory", 7: "clock",
     8: "noise", 9: "turns spent", None: "ended",
 }
-HOST, PORTS = "127.0.0.1", range(20_000, 24_096)
+HOST = "127.0.0.1"
 # The files that a full table has open: four ports for each of 1,024 media, and a few.
 FILES_MOST = 4_200
 TURNS_MOST = 1_000_000_000
@@ -116,8 +118,11 @@ class Started:
         except subprocess.TimeoutExpired:
             self.kill()
             status = self.process.wait()
-        self.errors.seek(max(0, os.fstat(self.errors.fileno()).st_size - SAID_MOST))
-        return status, self.errors.read().decode(errors="replace").strip()
+        with contextlib.suppress(OSError, ValueError):
+            self.lines.close()
+        with self.errors, self.outcomes:
+            self.errors.seek(max(0, os.fstat(self.errors.fileno()).st_size - SAID_MOST))
+            return status, self.errors.read().decode(errors="replace").strip()
 
 
 class Fifos:
@@ -138,8 +143,12 @@ class Fifos:
                 if fault.errno not in (errno.ENXIO, errno.ENOENT) or time.monotonic() > until:
                     raise Gone(None, f"{self.paths[0]}: {fault.strerror}") from fault
                 time.sleep(0.05)
-        # The gateway opens this one only behind the other, so there is nothing to wait for here.
-        outcomes = os.open(self.paths[1], os.O_RDONLY | os.O_NONBLOCK)
+        try:
+            # The gateway opens this one only behind the other, so there is nothing to wait for here.
+            outcomes = os.open(self.paths[1], os.O_RDONLY | os.O_NONBLOCK)
+        except OSError:
+            os.close(lines)
+            raise
         for end in (lines, outcomes):
             os.set_blocking(end, True)
         return Opened(lines, outcomes)
@@ -300,9 +309,8 @@ class Gateway:
 
     def overflows(self):
         """How many datagrams the system threw away in front of each socket of the gateway's, by port, where some."""
-        rows = (line.split() for line in _network(self.pid, "udp")[1:])
-        lost = ((int(row[1].split(":")[1], 16), int(row[-1])) for row in rows)
-        return {port: count for port, count in lost if count and port in PORTS}
+        ends = sockets(_network(self.pid, "udp"))
+        return {port: end.drops for port, end in ends.items() if end.drops}
 
     def never_waits(self):
         """Whether its standard input was opened so that a read never waits: it would read on all the time."""
@@ -351,11 +359,9 @@ class Gateway:
         number, due = self.probes.popleft()
         self.starts.append(time.time() - number / 1000)
         self.began = min(self.starts)
-        self._was_late(due.late())
+        self.late = due.late()
+        self.worst = max(self.worst, self.late)
         self.answered.set()
-
-    def _was_late(self, seconds):
-        self.late, self.worst = seconds, max(self.worst, seconds)
 
     def _tick(self):
         # By the clock that the gateway reads: after a jump of a steadier one its ticks would be over at once.
@@ -372,13 +378,13 @@ class Gateway:
             self.worst = max(self.worst, before.late())
 
     def _datagrams(self):
-        values = [line.split() for line in _network(self.pid, "snmp") if line.startswith("Udp:")]
+        values = [line.split() for line in _network(self.pid, "snmp").splitlines() if line.startswith("Udp:")]
         return int(dict(zip(*values))["InDatagrams"]) if values else 0
 
 
 def _network(pid, table):
-    """The lines of a table of the network namespace of a process, or of this one's."""
+    """A table of the network namespace of a process, or of this one's; nothing where it can't be read."""
     try:
-        return Path(f"/proc/{pid or 'self'}/net/{table}").read_text().splitlines()
+        return Path(f"/proc/{pid or 'self'}/net/{table}").read_text()
     except OSError:
-        return []
+        return ""

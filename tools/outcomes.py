@@ -21,10 +21,9 @@ from pathlib import Path
 
 import captures
 import rtp
+from counters import LEGS, is_port, place_of
 
-LEGS = ["secure RTP", "secure RTCP", "plain RTP", "plain RTCP"]
 SECURE_RTP, PLAIN_RTP, PLAIN_RTCP = 0, 2, 3
-FIRST_PORT, PORTS = 20_000, 16 * 256
 GOES_ON = "goes on"
 # Attributes and fields that hold keys or passwords, whatever their letters: what stands behind the first group.
 SECRETS = re.compile(
@@ -40,15 +39,12 @@ class Fault(Exception):
 
 
 def leg_of(port):
-    """The slot, the medium and the leg of a gateway's port (20000 + 16 slot + 4 medium + leg); of another port, that."""
-    if not FIRST_PORT <= port < FIRST_PORT + PORTS:
-        return "-", "-", f"port {port}"
-    slot, rest = divmod(port - FIRST_PORT, 16)
-    return slot, rest // 4, LEGS[rest % 4]
+    """The slot, the medium and the leg of a gateway's port; of another port, that."""
+    return place_of(port) if is_port(port) else ("-", "-", f"port {port}")
 
 
 def of_leg(port, leg):
-    return FIRST_PORT <= port < FIRST_PORT + PORTS and (port - FIRST_PORT) % 4 == leg
+    return is_port(port) and place_of(port)[2] == LEGS[leg]
 
 
 def octets_of(field):

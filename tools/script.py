@@ -17,9 +17,9 @@ import sys
 from pathlib import Path
 
 from captures import Fault, datagrams, records
+from counters import is_port
+from fields import DATAGRAM_MOST, TEXT_MOST
 
-GATEWAY_PORTS = range(20_000, 20_000 + 16 * 256)
-DATAGRAM_MOST, TEXT_MOST = 4_352, 32_768
 # What a relay doesn't take of a replay's script: it has its own clock and its own datagrams.
 NOT_LIVE = ("tick", "in")
 
@@ -28,7 +28,7 @@ NOT_LIVE = ("tick", "in")
 
 def why_not(datagram, port):
     """A word why a datagram to a port isn't taken, or None."""
-    if port not in GATEWAY_PORTS:
+    if not is_port(port):
         return "other ports"
     return "too long" if len(datagram.octets) > DATAGRAM_MOST else None
 

@@ -13,11 +13,9 @@ import collections
 import re
 
 import mikey_messages
+from fields import SUITES
 
 SECURE, PLAIN = "secure", "plain"
-# The octets of a suite's master key and master salt (RFC 4568, 6.2; RFC 6188, 2).
-SUITES = {f"{cipher}_HMAC_SHA1_{tag}": octets for cipher, octets in
-          (("AES_CM_128", 30), ("AES_192_CM", 38), ("AES_256_CM", 46)) for tag in (80, 32)}
 SALT = 14
 PROFILES = {SECURE: ("RTP/SAVP", "RTP/SAVPF"), PLAIN: ("RTP/AVP", "RTP/AVPF")}
 LINE_MOST, TEXT_MOST, MEDIA_MOST, KEYS_MOST, LIFE_MOST = 2_048, 16_384, 4, 8, 2**48

@@ -40,7 +40,8 @@ def read_sets():
     except (OSError, subprocess.TimeoutExpired) as fault:
         raise Fault(f"nft: {fault}") from None
     if run.returncode:
-        raise Fault(f"nft: {run.stderr.decode(errors='replace').strip().splitlines()[0]}")
+        said = run.stderr.decode(errors="replace").strip().splitlines() or [f"it ended with {run.returncode}"]
+        raise Fault(f"nft: {said[0]}")
     return counts(run.stdout)
 
 
@@ -76,12 +77,13 @@ class Log:
     def lines(self):
         """The whole lines that have come since the last look."""
         try:
-            status = os.stat(self.path)
+            octets = open(self.path, "rb")
         except OSError:
             return []
-        if (status.st_ino, status.st_dev) != self.file or status.st_size < self.at:
-            self.file, self.at, self.rest = (status.st_ino, status.st_dev), 0, b""
-        with open(self.path, "rb") as octets:
+        with octets:
+            status = os.fstat(octets.fileno())
+            if (status.st_ino, status.st_dev) != self.file or status.st_size < self.at:
+                self.file, self.at, self.rest = (status.st_ino, status.st_dev), 0, b""
             octets.seek(self.at)
             came = octets.read()
         self.at += len(came)

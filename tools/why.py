@@ -20,14 +20,15 @@ import signal
 import sys
 from pathlib import Path
 
+from fields import (
+    DATAGRAM_MOST, KEY_OCTETS, NUMBER_MOST, SHARED_KEY_LEAST, SHARED_KEY_MOST, TEXT_MOST, WINDOW_LEAST, WINDOW_MOST,
+)
 from sentences import refusal
-from texts import PLAIN, SALT, SECURE, SUITES, looked_at
+from texts import PLAIN, SALT, SECURE, looked_at
 
-LINE_MOST, SCRIPT_MOST, TEXT_MOST, DATAGRAM_MOST, NOISE = 70_000, 2**30, 32_768, 4_352, 304
-LAST_TICK, CALL_MOST, PORT_MOST = 2_085_978_495_999, 2**32 - 1, 65_535
+LINE_MOST, SCRIPT_MOST, NOISE = 70_000, 2**30, 304
+LAST_TICK, PORT_MOST = 2_085_978_495_999, 65_535
 HEADER = b"srtpgw 1"
-# The octets of key and salt by suite, with the form for tests.
-KEY_OCTETS = {"RAW80": 20, **SUITES}
 # The fields behind each first word; those of `offer-plain` hang on its third word.
 FIELDS = {
     "in": "PORT ADDRESS OCTETS", "tick": "MOMENT", "psk": "OWN PEER SECRET",
@@ -145,9 +146,9 @@ READS = {
     "PORT": lambda text: number(text, PORT_MOST, 0, "the port"), "ADDRESS": address, "SECURE": address, "PLAIN": address,
     "OCTETS": lambda text: octets(text, 0, DATAGRAM_MOST, "the datagram"),
     "MOMENT": lambda text: number(text, LAST_TICK, 0, "the moment"), "OWN": identity, "PEER": identity,
-    "SECRET": lambda text: octets(text, 16, 64, "the pre-shared key"),
-    "CALL": lambda text: number(text, CALL_MOST, 0, "the call's number"), "ROLLOVER": rollover,
-    "WINDOW": lambda text: number(text, 1_024, 64, "the window"), "KEY": key, "NOISE": noise,
+    "SECRET": lambda text: octets(text, SHARED_KEY_LEAST, SHARED_KEY_MOST, "the pre-shared key"),
+    "CALL": lambda text: number(text, NUMBER_MOST, 0, "the call's number"), "ROLLOVER": rollover,
+    "WINDOW": lambda text: number(text, WINDOW_MOST, WINDOW_LEAST, "the window"), "KEY": key, "NOISE": noise,
     "TEXT": lambda text: octets(text, 0, TEXT_MOST, "the session description"),
 }
 

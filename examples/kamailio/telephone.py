@@ -3,8 +3,8 @@ that is cancelled. SIP over UDP by a proxy, without a password; RTP in the clear
 telephone's pace. Needs Python's package `cryptography`.
 
     alice = Telephone("alice", ("127.0.0.1", 5060), proxy=("127.0.0.1", 5070))
-    call = alice.calls("bob", Media(("127.0.0.1", 42_000), master))
-    call.offers(new_master)                       # a re-INVITE
+    call = alice.calls("bob", Media(("127.0.0.1", 42_000), master()))
+    call.offers(master())                         # a re-INVITE
     call.ends()
 """
 

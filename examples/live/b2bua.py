@@ -26,8 +26,8 @@ from driver import Driver, Gone, Refused, Taken
 HOME = "127.0.0.1"
 PORTS = {"secure": 5070, "plain": 5072}
 FAR = {"secure": "plain", "plain": "secure"}
-# Causes for which the gateway has no room: another call may be made later, or elsewhere.
-FULL = {"TableFull", "RingFull", "State"}
+# Causes of a refused offer for which the gateway has no room: another call may be made later, or elsewhere.
+FULL = {"TableFull", "State"}
 # The short names of headers (RFC 3261, 7.3.3).
 SHORT = {"v": "via", "f": "from", "t": "to", "i": "call-id", "m": "contact"}
 

@@ -14,6 +14,7 @@ from pathlib import Path
 TOP = Path(__file__).resolve().parents[2]
 # The driver stands there; so a program of this folder imports from here before it imports the driver.
 sys.path.insert(0, str(TOP / "tools"))
+from gateway import taken_ports  # noqa: E402
 
 # Where the ends of the call stand, and the gateway's ports of the first call.
 SECURE, PLAIN = ("127.0.0.1", 40000), ("127.0.0.1", 41000)
@@ -110,10 +111,10 @@ def is_bound(port):
 
 
 def require_free(*more):
-    """Ends the program with 77 where another one has a port that it needs: the first call's of the gateway, the
-    ends' two with the next above, or one of `more`."""
+    """Ends the program with 77 where another one has a port that it needs: one of the gateway's, the ends' two with
+    the next above, or one of `more`."""
     ends = [port + above for _, port in (SECURE, PLAIN) for above in (0, 1)]
-    taken = [port for port in (*range(SECURE_RTP, PLAIN_RTCP + 1), *ends, *more) if is_bound(port)]
+    taken = [*taken_ports(), *(port for port in (*ends, *more) if is_bound(port))]
     if taken:
         print(f"not run: another program has UDP port {', '.join(map(str, taken))}", file=sys.stderr)
         sys.exit(77)

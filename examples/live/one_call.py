@@ -4,7 +4,7 @@
     python3 examples/live/one_call.py ./srtpgw
 
 The packet is the one of examples/raw-key.script, sealed under the authentication key of RFC 3711, B.3. Needs
-the UDP ports 20000 to 20003, 40000 and 41000 of 127.0.0.1.
+the UDP ports 20000 to 24095, which are the gateway's, 40000 and 41000 of 127.0.0.1.
 """
 
 import socket

@@ -7,6 +7,8 @@ docs/kamailio.md says how it is used. Needs Python 3.8 and nothing else.
 
 import argparse
 import concurrent.futures
+import contextlib
+import ipaddress
 import os
 import signal
 import sys
@@ -35,6 +37,8 @@ def main():
         server = Server(book, given.listen, log)
     except (Gone, Taken, OSError) as fault:
         log(f"it can't begin: {fault}")
+        # What the daemon before it has left may have to be told yet.
+        telling.close()
         return 1
     for number in (signal.SIGTERM, signal.SIGINT):
         signal.signal(number, lambda *_: server.close())
@@ -53,7 +57,7 @@ def begun(given, log, telling):
     for told in kept.left():
         log(f"{told.id[:128]!r} has ended with the daemon before this one")
         telling.tell(told, "gone")
-    kept.keep([])
+    kept.keep(lambda: [])
     book = Book(driver, {"secure": given.secure, "plain": given.plain}, dict(given.interface), log)
     book.tell, book.keep = lambda call, why: telling.tell(dialog(call), why), kept.keep
     if given.counters:
@@ -83,13 +87,13 @@ def ended(book, telling, log):
 
 
 class Log:
-    """Lines on standard output, each with its moment."""
+    """Lines on standard output, each with its moment. One that can't be written ends no call."""
 
     def __init__(self):
         self.lock = threading.Lock()
 
     def __call__(self, line):
-        with self.lock:
+        with self.lock, contextlib.suppress(OSError):
             print(time.strftime("%Y-%m-%d %H:%M:%S"), line, flush=True)
 
 
@@ -126,7 +130,7 @@ def address(text):
 
 
 def host(text):
-    return text.encode()
+    return str(ipaddress.IPv4Address(text)).encode()
 
 
 def bound(text):
@@ -138,7 +142,7 @@ def bound(text):
 
 def named(text):
     name, _, place = text.partition("=")
-    return name, place.encode()
+    return name, host(place)
 
 
 if __name__ == "__main__":

@@ -20,8 +20,8 @@ from ng.texts import (
 )
 
 FAR = {"secure": "plain", "plain": "secure"}
-# Causes for which another gateway may take the call (docs/refusals.md); of a new call `State` says that it drains.
-FULL = ("TableFull", "RingFull", "State")
+# Causes of a refused offer for which another gateway may take the call; of a new call `State` says that it drains.
+FULL = ("TableFull", "State")
 DRAINING = "this gateway takes no new calls, and ends with its last one"
 
 # An open offer: who made it, its text and the gateway's for the other side, whether it went past the gateway, and
@@ -58,7 +58,7 @@ class Call:
 class Book:
     """`addresses` has by side the address that its telephones reach, `interfaces` more of them by name. `log` is given
     a line for each call. To be set: `tell`, which is given each call that has ended by itself, and why; `arrived`,
-    which answers packets and octets by port; `keep`, which is given all calls where one is live, or there no more."""
+    which answers packets and octets by port; `keep`, which is given `all` where a call is live, or there no more."""
 
     def __init__(self, driver, addresses, interfaces, log):
         self.driver, self.addresses, self.interfaces, self.log = driver, addresses, interfaces, log
@@ -150,7 +150,12 @@ class Book:
             self.by_number[call.number] = call
             self.by_id.setdefault(call.id, []).append(call)
             self.counts["managed"] += 1
-        call.ports = self.ports_of(call)
+        try:
+            call.ports = self.ports_of(call)
+        except KeyError:
+            # The gateway has ended meanwhile, and `gone` didn't know of this call.
+            self.forget(call)
+            raise Full("the gateway has ended") from None
         call.dropped_before, call.arrived_before = self.dropped(call.ports), self.arrived(call.ports)
 
     # ---- answers
@@ -177,7 +182,7 @@ class Book:
         was_live, call.live, call.open = call.live, True, None
         if not was_live:
             self.log(f"{call.name()} is live: the {offer.side} side offered")
-            self.keep(self.all())
+            self.keep(self.all)
         return self.for_side(request, call, offer.side, given, holds(request.sdp))
 
     def answered(self, request):
@@ -256,7 +261,7 @@ class Book:
             else:
                 self.by_id.pop(call.id, None)
         if call.live:
-            self.keep(self.all())
+            self.keep(self.all)
 
     def all(self):
         with self.lock:

@@ -230,6 +230,7 @@ def error(reason):
 def sentence_of(cause):
     """The sentence of docs/refusals.md for the gateway's cause; the text itself where it is none."""
     try:
-        return sentences.refusal(cause)
+        sentences.meaning(cause)
     except sentences.Missing:
         return cause
+    return sentences.refusal(cause)

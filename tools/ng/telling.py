@@ -4,6 +4,7 @@ are there, so that where the daemon itself was killed the next one can tell.
 """
 
 import collections
+import http.client
 import json
 import os
 import queue
@@ -18,8 +19,9 @@ Dialog = collections.namedtuple("Dialog", "id near far")
 
 def dialog(call):
     """The dialog of a call."""
-    near = next(iter(call.tags), b"")
-    others = [tag for tag, side in call.tags.items() if side != call.tags.get(near)]
+    tags = list(call.tags.items())  # Another thread may add one meanwhile.
+    near, own = tags[0] if tags else (b"", None)
+    others = [tag for tag, side in tags if side != own]
     return Dialog(*(octets.decode("utf-8", "replace") for octets in (call.id, near, others[-1] if others else b"")))
 
 
@@ -47,7 +49,7 @@ class Telling:
                 continue
             try:
                 self.ask(told)
-            except (OSError, ValueError) as fault:
+            except (OSError, ValueError, http.client.HTTPException) as fault:
                 self.log(f"the SIP server couldn't be told that {told.id[:128]!r} has ended ({why}): {fault}")
 
     def ask(self, told):
@@ -55,8 +57,8 @@ class Telling:
         request = urllib.request.Request(self.url, json.dumps(body).encode(), {"Content-Type": "application/json"})
         with urllib.request.urlopen(request, timeout=PATIENCE) as answer:
             said = json.load(answer)
-        if "error" in said:
-            raise ValueError(said["error"].get("message", said["error"]))
+        if not isinstance(said, dict) or "error" in said:
+            raise ValueError(f"it answered {str(said)[:256]}")
 
 
 class Kept:
@@ -74,12 +76,12 @@ class Kept:
             return []
 
     def keep(self, calls):
-        """Has the file say that these calls are there."""
+        """Has the file say which calls are there now, as `calls` answers."""
         if not self.path:
             return
-        told = [dialog(call) for call in calls if call.live]
         try:
             with self.lock:
+                told = [dialog(call) for call in calls() if call.live]
                 with open(f"{self.path}.new", "w", encoding="utf-8") as file:
                     json.dump(told, file)
                 os.replace(f"{self.path}.new", self.path)

@@ -14,7 +14,7 @@ HOME = b"127.0.0.1"
 # A telephone of the older kind says by this address that it holds (RFC 3264, 8.4).
 NOWHERE = b"0.0.0.0"
 CONNECTION = re.compile(rb"c=IN IP4 ([0-9.]+)")
-ORIGIN = re.compile(rb"(o=\S+ \S+ \S+ IN) IP[46] \S+")
+ORIGIN = re.compile(rb"^(o=\S+ \S+ \S+ IN) IP[46] \S+")
 SECURED = {b"RTP/AVP": b"RTP/SAVP", b"RTP/AVPF": b"RTP/SAVPF"}
 
 
