@@ -60,8 +60,8 @@ def elements(found):
 
 
 def sockets(text):
-    """The sockets at the gateway's ports, by port, of /proc/net/udp: octets that wait in each, and datagrams that the
-    system threw away in front of it."""
+    """The sockets at the gateway's ports, by port, of /proc/net/udp: how many octets of its buffer waiting datagrams take,
+    and how many datagrams the system threw away in front of it."""
     found = {}
     for line in text.splitlines()[1:]:
         fields = line.split()

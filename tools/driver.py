@@ -144,6 +144,7 @@ class Driver:
     def bye(self, call):
         """The call ends. Refused where it has just ended by itself."""
         self._signal(call, "ended", 0, "bye", fields.call_number(call))
+        self.open_keys.pop(call, None)
 
     def ports(self, call, medium=0):
         """The gateway's four ports of a call that is there: secure RTP, secure RTCP, plain RTP, plain RTCP."""
@@ -257,6 +258,7 @@ class Driver:
         elif word == "ended":
             self.slots.pop(int(of), None)
             if rest[2] == "idle":
+                self.open_keys.pop(int(of), None)
                 self.notices.put((int(of), "idle"))
 
     def _answer(self, outcome):

@@ -252,8 +252,9 @@ def leg_lines(medium, leg):
         return []
     ago = f", the last {came['quiet']} s ago" if came["quiet"] is not None else ""
     drops = "".join(f", {n} {cause}" for cause, n in leg["drops"].items())
+    waiting = f", {leg['waiting']} octets wait" if leg["waiting"] else ""
     return [f"  medium {medium}  {leg['leg']:<11} {leg['port']}  in {came['packets']} ({came['octets']} octets{ago})  "
-            f"out {left['packets']} ({left['octets']} octets){drops}"]
+            f"out {left['packets']} ({left['octets']} octets){drops}{waiting}"]
 
 
 def prometheus(view):
@@ -311,7 +312,8 @@ class Metrics:
                          way=way, **names)
         for cause, n in leg["drops"].items():
             self.add("srtpgw_call_drops_total", "counter", "Dropped datagrams of a leg", n, cause=cause, **names)
-        self.add("srtpgw_socket_waiting_octets", "gauge", "Octets that wait in a leg's socket", leg["waiting"], **names)
+        self.add("srtpgw_socket_waiting_octets", "gauge", "Octets of a leg's socket buffer that waiting datagrams take",
+                 leg["waiting"], **names)
         self.add("srtpgw_socket_drops_total", "counter", "Datagrams lost in front of a leg's socket", leg["overflows"],
                  **names)
 

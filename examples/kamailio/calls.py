@@ -24,8 +24,8 @@ def echo(folder, calls, seconds):
     """SIPp, which ends behind so many calls."""
     words = ["sipp", "-sf", HERE / "echo.xml", "-i", HOST, "-p", "5080", "-mi", HOST, "-mp", "43000", "-ci", HOST,
              "-rtp_echo", "-m", str(calls), "-timeout", str(seconds), "-timeout_error", "-nostdin"]
-    log = open(Path(folder) / "sipp.log", "wb")
-    started = subprocess.Popen(words, stdout=log, stderr=subprocess.STDOUT, cwd=folder)
+    with open(Path(folder) / "sipp.log", "wb") as log:
+        started = subprocess.Popen(words, stdout=log, stderr=subprocess.STDOUT, cwd=folder)
     wait_until(lambda: is_bound(ECHO[1]), what="SIPp")
     return started
 

@@ -1,6 +1,7 @@
 """Two gateways in one set of Kamailio's. See sets.sh."""
 
 import contextlib
+import ctypes
 import http.client
 import os
 import re
@@ -46,7 +47,7 @@ def networks():
         for name, (own, far) in GATEWAYS.items():
             joined(f"{SPACE}-{name}", name, own, far)
         with open(f"/run/netns/{SPACE}") as space:
-            os.setns(space.fileno(), os.CLONE_NEWNET) if hasattr(os, "setns") else enters(space.fileno())
+            enters(space.fileno())
         yield
     finally:
         for name in names:
@@ -54,7 +55,7 @@ def networks():
 
 
 def enters(number):
-    import ctypes
+    """Moves this thread, and what it starts, to the network namespace of a file."""
     if ctypes.CDLL(None, use_errno=True).setns(number, 0x40000000) != 0:
         raise OSError(ctypes.get_errno(), "setns")
 
@@ -67,12 +68,12 @@ def joined(space, name, own, far):
     ip("-n", SPACE, "addr", "add", f"{far}/24", "dev", name)
     ip("-n", SPACE, "link", "set", name, "up")
     ip("-n", space, "route", "add", "default", "via", far)
-    has_ended(["ip", "netns", "exec", space, "sysctl", "-qw", "net.ipv4.conf.phones.route_localnet=1"])
     rules = (TOP / "examples" / "network" / "srtpgw.nft").read_text()
     rules = re.sub(r'(?m)^define (secure|plain) = .*', r'define \1 = "phones"', rules)
     rules = re.sub(r"(?m)^define (secure|plain)_address = .*", rf"define \1_address = {own}", rules)
     rules = re.sub(r" udp dport & 2 == [02]", "", rules).replace("{ $secure, $plain }", "$secure")
     has_ended(["ip", "netns", "exec", space, "nft", "-f", "-"], input=rules)
+    has_ended(["ip", "netns", "exec", space, "sysctl", "-qw", "net.ipv4.conf.phones.route_localnet=1"])
 
 
 # ---- gateways and calls

@@ -227,8 +227,8 @@ def one_call(driver, watch, call, offering, seed):
 
 
 def main():
-    with tempfile.NamedTemporaryFile() as log:
-        driver, watch = Driver(program(), log=open(log.name, "wb")), Watch(log.name, AFTER)
+    with tempfile.NamedTemporaryFile() as log, open(log.name, "wb") as outcomes:
+        driver, watch = Driver(program(), log=outcomes), Watch(log.name, AFTER)
         good = [one_call(driver, watch, call, side, 2 * call) for call, side in ((1, "secure"), (2, "plain"))]
         status = driver.close()
     print(f"dropped {dict(driver.drops)}, unsent {dict(driver.unsent)}, status {status}")

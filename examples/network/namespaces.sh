@@ -28,10 +28,10 @@ side() {
 up() {
   ip netns add "$name-gateway" &&
     ip -n "$name-gateway" link set lo up &&
+    ip netns exec "$name-gateway" nft -f "$here/srtpgw.nft" &&
     side secure 10.1.0.1 10.1.0.2 &&
     side plain 10.2.0.1 10.2.0.2 &&
-    ip netns exec "$name-gateway" sysctl -qw net.ipv4.ip_local_reserved_ports=20000-24095 &&
-    ip netns exec "$name-gateway" nft -f "$here/srtpgw.nft"
+    ip netns exec "$name-gateway" sysctl -qw net.ipv4.ip_local_reserved_ports=20000-24095
 }
 
 down() {

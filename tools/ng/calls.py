@@ -120,7 +120,12 @@ class Book:
         passes = call.live and looked_at(text) == looked_at(call.said[side])
         given = carried(text, call.given[FAR[side]]) if passes else self.signalled(call, side, text)
         if side == "plain" and not passes:
-            given = without_suites(given, request.suites())
+            try:
+                given = without_suites(given, request.suites())
+            except Bad:
+                # The gateway has taken the offer by then.
+                self.driver.reject(call.number)
+                raise
         call.open = Offer(side, request.from_tag, text, given, passes, holds(request.sdp))
         call.offers += 1
         call.passed += passes

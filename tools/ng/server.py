@@ -7,6 +7,7 @@ came, those of several calls side by side.
 """
 
 import collections
+import contextlib
 import queue
 import socket
 import threading
@@ -26,6 +27,8 @@ DATAGRAM_MOST = 65_507
 # How many requests may wait for one of the workers, how many answers are kept, for how long, and of how many octets.
 WAITING_MOST, KEPT_MOST, KEPT_SECONDS, KEPT_OCTETS = 256, 10_000, 60, 16 << 20
 WORKERS = 64
+# How many seconds the workers have at the end for what waits.
+ENDING = 5
 # What a server that doesn't know `load limit` takes for it.
 LIMIT_OF_OLD = "Parallel session limit reached"
 
@@ -75,20 +78,31 @@ class Server:
         self.socket.bind(address)
         self.socket.settimeout(0.2)
         self.queues = [queue.Queue(WAITING_MOST) for _ in range(WORKERS)]
-        for waiting in self.queues:
-            threading.Thread(target=self.work, args=(waiting,), daemon=True).start()
+        self.threads = [threading.Thread(target=self.work, args=(waiting,), daemon=True) for waiting in self.queues]
+        for thread in self.threads:
+            thread.start()
 
     def serve(self, is_over=lambda: False):
-        """Takes datagrams until `close`, or until `is_over()` is true."""
+        """Takes datagrams until `close`, or until `is_over()` is true, and then answers what waits."""
         while not self.over.is_set() and not is_over():
             try:
                 octets, sender = self.socket.recvfrom(65_536)
             except OSError:
                 continue  # None came in time; or the system tells of a datagram that was sent before.
             self.take(octets, sender)
+        self.finish()
 
     def close(self):
         self.over.set()
+
+    def finish(self):
+        """Waits for the workers, some seconds at most."""
+        until = time.monotonic() + ENDING
+        for waiting in self.queues:
+            with contextlib.suppress(queue.Full):
+                waiting.put_nowait(None)
+        for thread in self.threads:
+            thread.join(max(0, until - time.monotonic()))
 
     # ---- datagrams
 
@@ -120,8 +134,7 @@ class Server:
             self.reply(sender, cookie, error("too many requests wait"))
 
     def work(self, waiting):
-        while True:
-            message, cookie, sender = waiting.get()
+        for message, cookie, sender in iter(waiting.get, None):
             self.reply(sender, cookie, self.obeyed(message))
 
     def reply(self, sender, cookie, answer):
