@@ -59,6 +59,12 @@ class Message:
     def method(self):
         return self.get("cseq").split()[-1] if self.status() else self.first.split()[0]
 
+    def is_whole(self):
+        """Whether it is a request or a response. Else it is nothing of SIP, as what keeps a way through a firewall
+        open."""
+        first = re.fullmatch(r"SIP/2\.0 [1-6][0-9][0-9]( .*)?|[A-Z]+ \S+ SIP/2\.0", self.first)
+        return bool(first and self.get("call-id") and re.fullmatch(r"[0-9]+\s+[A-Z]+", self.get("cseq")))
+
 
 class Dialog:
     """One telephone's half of a call: the headers that name it, and its next number."""
@@ -260,8 +266,7 @@ class Server:
             for side, own in self.sockets.items():
                 if own in ready:
                     message = Message(*own.recvfrom(65_536))
-                    # Else it is nothing of SIP, as what keeps a way through a firewall open.
-                    if message.get("call-id") and message.get("cseq"):
+                    if message.is_whole():
                         self.handle(side, message)
             while self.over:
                 self.went(*self.over.popleft())
