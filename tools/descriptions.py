@@ -4,6 +4,8 @@ gateway, and what such a text becomes for the other side.
 All texts are octets, as they came: a line may hold octets that are no UTF-8. Needs Python 3.8 and nothing else.
 """
 
+# The gateway's own address (docs/formats.md, "Ports").
+HOME = b"127.0.0.1"
 KEYS = (b"a=crypto", b"a=key-mgmt")
 # What would lead media past the gateway isn't handed on (docs/driving.md).
 LEFT_OUT = {
@@ -29,7 +31,7 @@ def looked_at(text):
     return [line.split(b" ")[:3] if line.startswith(b"m=") else line for line in lines]
 
 
-def carried(text, given, host=b"127.0.0.1"):
+def carried(text, given, host=HOME):
     """A text for the other side, past the gateway: its lines, with the ports, profiles and keys of `given`, which is the
     text that the gateway gave that side before, and with `host` as the address."""
     told = []

@@ -14,6 +14,7 @@ from ends import (
     speech, told, wait_until,
 )
 from driver import Driver, Refused
+from ng.bencode import encoded
 
 SECONDS = 4
 CONTROL, FAR = ("127.0.0.1", 22_222), ("127.0.0.1", 45_000)
@@ -23,15 +24,6 @@ OFFERED_THERE = [f"{cipher}_HMAC_SHA1_{tag}" for cipher in CIPHERS for tag in (8
 # All suites of rtpengine.
 KNOWN = OFFERED_THERE + [f"{name}_{tag}" for name in ("F8_128_HMAC_SHA1", "NULL_HMAC_SHA1") for tag in (80, 32)] + [
     "AEAD_AES_128_GCM", "AEAD_AES_256_GCM"]
-
-
-def bencoded(value):
-    if isinstance(value, dict):
-        return b"d" + b"".join(bencoded(key) + bencoded(value[key]) for key in sorted(value)) + b"e"
-    if isinstance(value, list):
-        return b"l" + b"".join(map(bencoded, value)) + b"e"
-    octets = value.encode() if isinstance(value, str) else value
-    return b"%d:%s" % (len(octets), octets)
 
 
 class Far:
@@ -54,7 +46,7 @@ class Far:
         if text is not None:
             request |= {"sdp": text, "replace": ["origin", "session-connection"], "ICE": "remove"}
         # It gives the same answer to a request of the same number again.
-        self.socket.sendto(b"%d " % next(self.numbers) + bencoded(request), CONTROL)
+        self.socket.sendto(b"%d " % next(self.numbers) + encoded(request), CONTROL)
         answer = self.socket.recv(65_536)
         found = re.search(rb"3:sdp(\d+):", answer)
         if b"6:result2:ok" not in answer:

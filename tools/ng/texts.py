@@ -6,11 +6,9 @@ out names what the other side is to see: an address that it reaches, and the pro
 
 import re
 
-from descriptions import parts
+from descriptions import HOME, parts
 from ng.request import Bad, PROFILES
 
-# The gateway's own address (docs/formats.md, "Ports").
-HOME = b"127.0.0.1"
 # A telephone of the older kind says by this address that it holds (RFC 3264, 8.4).
 NOWHERE = b"0.0.0.0"
 CONNECTION = re.compile(rb"c=IN IP4 ([0-9.]+)")
