@@ -1,14 +1,11 @@
-//! A call, each of whose calls is made once.
+//! A call that is keyed manually: what it makes of datagrams, one at a time and drained.
 
 ghost use Rattle.std.specs.Prelude.{◌≡◌, [], IfOk};
-ghost use Rattle.sg_call.specs.States.{HasPairs};
 
-use crate::answers::{BACK_TO_SECURE, PLAIN_ANSWER};
-use crate::legs::{PLAIN, SECURE, SECURE_OFFER, TO_PLAIN, books, key, noise};
-use sg_base::{CallId, DropCause, Pad, Refusal, Side, Suite};
+use crate::legs::{PLAIN, SECURE, books, key};
+use sg_base::{CallId, DropCause, Pad, Suite};
 use sg_call::{Call, End, Handled};
 use sg_lanes::Lane;
-use sg_leg::{Books, Way};
 use std::alloc::Global;
 use std::process::Abort;
 use std::test::Fail;
@@ -21,47 +18,6 @@ const AUTHENTICATION: [u8; 20] = [
 
 const KNOWN: &[u8] =
     b"\x80\x0f\x12\x34\xde\xca\xfb\xad\xca\xfe\xba\xbe\x4e\x55\xdc\x4c\xe7\x99\x78\xd8\x8c\xa4\xd2\x15\x94\x9d\x24\x02\xb7\x8d\x6a\xcc\x99\xea\x17\x9b\x8d\xbb";
-
-/// A call with an open offer of the secure side, which was taken at moment 1.
-fn offered(alloc: Global) -> Result<(Call, Books), Fail>
-    ensures { IfOk result (λ made. HasPairs made.1.psks made.0.state) }
-{
-    let mut books = books(alloc)?;
-    let mut call = Call::make(alloc, CallId(7), 0)?;
-    match call.offer(
-        alloc,
-        Way::FromSecure,
-        SECURE_OFFER,
-        &noise(),
-        1,
-        &mut books,
-    ) {
-        Ok(out) if out.as_slice() == TO_PLAIN => Ok((call, books)),
-        _ => Err("not offered")?,
-    }
-}
-
-#[test]
-fn an_offer_is_answered(rt: HostRuntime) -> Result<(), Fail> {
-    let alloc = rt.alloc();
-    let (mut call, mut books) = offered(alloc)?;
-    assert!(rt; call.side() == Some(Side::Secure) && call.media() == 1);
-    match call.answer(alloc, PLAIN_ANSWER, &noise(), 2, &mut books) {
-        Ok(back) => assert!(rt; back.as_slice() == BACK_TO_SECURE),
-        Err(_) => Err("not answered")?,
-    }
-    call.tick(3);
-    assert!(rt; call.id() == CallId(7) && call.slot() == 0 && call.moment() == 2);
-    assert!(rt; matches!(call.reject(4), Err(Refusal::State)));
-    Ok(())
-}
-
-#[test]
-fn a_first_offer_is_rejected(rt: HostRuntime) -> Result<(), Fail> {
-    let (mut call, _) = offered(rt.alloc())?;
-    assert!(rt; matches!(call.reject(2), Ok(false)));
-    Ok(())
-}
 
 /// A call that is keyed manually, under the known key and another one.
 fn keyed(alloc: Global) -> Result<Call, Fail>
