@@ -1,9 +1,9 @@
 -- The lines of the demonstration's numbers.
 use Rattle.std.specs.Prelude.{ℕ, List, ◌++◌, Option, Ok, Err, codes}
 use Rattle.std.specs.Fmt.{decimal}
-use Rattle.sg_course.specs.Output.{IsWritten}
-use Rattle.sg_course.specs.declared.status.Status.{Status}
-use Rattle.sg_course.specs.declared.status.Status.TheVariants.{Done}
+use Rattle.sg_trace.specs.Output.{IsWritten}
+use Rattle.sg_trace.specs.declared.status.Status.{Status}
+use Rattle.sg_trace.specs.declared.status.Status.TheVariants.{Done}
 use Rattle.sg_demo.specs.declared.summary.Summary.{Summary}
 
 -- a line: a word, a space, a number and a line end

@@ -1,18 +1,18 @@
 //! The command that shows a demonstration.
 
 ghost use Rattle.std.specs.Prelude.{◌≡◌, ◌≤◌, ◌<◌};
-ghost use Rattle.sg_course.specs.Causes.{HasFailed, IsCaused};
-ghost use Rattle.sg_course.specs.Output.{IsWritten};
+ghost use Rattle.sg_trace.specs.Causes.{HasFailed, IsCaused};
+ghost use Rattle.sg_trace.specs.Output.{IsWritten};
 ghost use Rattle.sg_demo.specs.Demonstration.{demonstration};
 ghost use Rattle.sg_demo.specs.Text.{IsShown};
 ghost use Rattle.sg_demo.specs.Text as lines;
 
 use crate::demonstration::gated_traffic;
 use crate::text::summary_text;
-use sg_course::Status;
 use sg_edge::{Sink, write_all};
 use sg_lanes::Gate;
 use sg_table::Table;
+use sg_trace::Status;
 use std::alloc::Global;
 use std::thread::Threads;
 
@@ -40,7 +40,7 @@ pub fn demo<R: Threads + Sync, K: Sink, G: Gate + Sync>(
 }
 
 /// Writes the lines of a demonstration's numbers, once it is over.
-#[tactic(auto, using(sg_course::proofs::Writings::none_written))]
+#[tactic(auto, using(sg_trace::proofs::Writings::none_written))]
 fn write_numbers<R: Threads + Sync, K: Sink, G: Gate + Sync>(
     rt: &R,
     alloc: Global,

@@ -1,10 +1,10 @@
 -- A script in the grammar is played to its end, where nothing fails.
 use Rattle.std.proofs.Common.{◌≡◌, ℕ, List, [], refl, inl, inr, arith}
-use Rattle.sg_course.proofs.Grammars.{in_replay, no_fault}
-use Rattle.sg_course.specs.Course.{AtFault, replayed}
-use Rattle.sg_course.specs.Output.{output}
-use Rattle.sg_course.specs.declared.status.Status.{Status}
-use Rattle.sg_course.specs.declared.status.Status.TheVariants.{Done, Usage, Script, Read, Write, Link, NoMemory, Clock, Noise, TurnsSpent}
+use Rattle.sg_trace.proofs.Grammars.{in_replay, no_fault}
+use Rattle.sg_trace.specs.Trace.{AtFault, replayed}
+use Rattle.sg_trace.specs.Output.{output}
+use Rattle.sg_trace.specs.declared.status.Status.{Status}
+use Rattle.sg_trace.specs.declared.status.Status.TheVariants.{Done, Usage, Script, Read, Write, Link, NoMemory, Clock, Noise, TurnsSpent}
 use Rattle.sg_edge.proofs.Links.{added_none}
 use Rattle.sg_edge.proofs.Passed.{took_none, wrote_none}
 use Rattle.sg_playback.specs.Replay.{IsComplete, IsReplay, Tellings}

@@ -1,12 +1,12 @@
 -- What playing a line leaves, from what its parts leave.
 use Rattle.std.proofs.Common.{◌≡◌, ◌⊎◌, ◌<◌, ℕ, true, false, List, [], ◌++◌, length, Option, Result, Ok, Err, IfErr, OnOk, arith, refl, sym, ap, ◌∙◌, subst, inl, inr, append_assoc}
 use Rattle.std.proofs.lemmas.List.{append-nil}
-use Rattle.sg_course.proofs.Courses.{output_from-append, world_after-append}
-use Rattle.sg_course.specs.Course.{Later, drawing, handled, handled_as, with_events}
-use Rattle.sg_course.specs.Output.{IsPrefixOf, IsWritten, output_from}
-use Rattle.sg_course.specs.Supplying.{IsSupplied}
-use Rattle.sg_course.specs.declared.status.Status.{Status}
-use Rattle.sg_course.specs.declared.status.Status.TheVariants.{Done, Usage, Script, Read, Write, Link, NoMemory, Clock, Noise, TurnsSpent}
+use Rattle.sg_trace.proofs.Traces.{output_from-append, world_after-append}
+use Rattle.sg_trace.specs.Trace.{Later, drawing, handled, handled_as, with_events}
+use Rattle.sg_trace.specs.Output.{IsPrefixOf, IsWritten, output_from}
+use Rattle.sg_trace.specs.Supplying.{IsSupplied}
+use Rattle.sg_trace.specs.declared.status.Status.{Status}
+use Rattle.sg_trace.specs.declared.status.Status.TheVariants.{Done, Usage, Script, Read, Write, Link, NoMemory, Clock, Noise, TurnsSpent}
 use Rattle.sg_edge.specs.Told.{Wrote}
 use Rattle.sg_gateway.specs.Events.{events_of}
 use Rattle.sg_gateway.specs.Runs.{world_after}

@@ -2,12 +2,12 @@
 use Rattle.std.proofs.Common.{◌≡◌, ◌⊎◌, ◌+◌, ◌≤◌, ◌^◌, ℕ, List, [], ◌++◌, length, Option, Err, refl, sym, ap, ◌∙◌, subst, inl, inr, append_assoc, length-append, arith}
 use Rattle.std.proofs.lemmas.List.{append-nil}
 use Rattle.sg_base.specs.declared.faults.ScriptFault.{ScriptFault}
-use Rattle.sg_course.proofs.Courses.{output-append, reads_on, stops_at, with_events_again}
-use Rattle.sg_course.specs.Course.{AtEnd as BehindAll, AtFault, Course, ForDraw, Later, Replays, Stop, course_from, drawing, handled, replayed, stopped, with_events}
-use Rattle.sg_course.specs.Output.{IsPrefixOf, output, output_from}
-use Rattle.sg_course.specs.Reading.{IsFault, IsNext, IsRead, Reading}
-use Rattle.sg_course.specs.declared.status.Status.{Status}
-use Rattle.sg_course.specs.declared.status.Status.TheVariants.{Done, Usage, Script, Read, Write, Link, NoMemory, Clock, Noise, TurnsSpent}
+use Rattle.sg_trace.proofs.Traces.{output-append, reads_on, stops_at, with_events_again}
+use Rattle.sg_trace.specs.Trace.{AtEnd as BehindAll, AtFault, Trace, ForDraw, Later, Replays, Stop, trace_from, drawing, handled, replayed, stopped, with_events}
+use Rattle.sg_trace.specs.Output.{IsPrefixOf, output, output_from}
+use Rattle.sg_trace.specs.Reading.{IsFault, IsNext, IsRead, Reading}
+use Rattle.sg_trace.specs.declared.status.Status.{Status}
+use Rattle.sg_trace.specs.declared.status.Status.TheVariants.{Done, Usage, Script, Read, Write, Link, NoMemory, Clock, Noise, TurnsSpent}
 use Rattle.sg_edge.proofs.Links.{added_more, added_none}
 use Rattle.sg_edge.proofs.Passed.{took_more, wrote_more, wrote_none}
 use Rattle.sg_edge.specs.Links.{Added}
@@ -25,24 +25,24 @@ pub record IsReplaying (old now : Tellings) (taken waits drawn : List ℕ) (es p
   pub took : TookIn old.left now.left (taken ++ waits)
   pub drew : Added old.drawn now.drawn drawn
   pub wrote : Wrote old.written now.written (output es)
-  pub goes : (rest more : List ℕ) → replayed (taken ++ rest) (drawn ++ more) ≡ with_events (es ++ ps) (course_from Replays n at (lines_of rest) 0 (drawing more))
+  pub goes : (rest more : List ℕ) → replayed (taken ++ rest) (drawn ++ more) ≡ with_events (es ++ ps) (trace_from Replays n at (lines_of rest) 0 (drawing more))
 
 module _ (octets drawn : List ℕ) where
   -- where all events were told
   whole_so : (es : List Event) (stop : Stop) → replayed octets drawn ≡ with_events es (stopped stop (drawing [])) → IsWhole octets drawn (output es) stop
   whole_so es stop is = record {
-    stops = ap (λ (c : Course). c.stop) is;
-    left = ap (λ (c : Course). c.left) is;
-    told = sym (ap (λ (c : Course). output c.events) is ∙ ap output (append-nil es));
+    stops = ap (λ (c : Trace). c.stop) is;
+    left = ap (λ (c : Trace). c.left) is;
+    told = sym (ap (λ (c : Trace). output c.events) is ∙ ap output (append-nil es));
   }
 
   -- where a prefix of further events' text was written
-  front_so : (es fs : List Event) (rest : Course) (front : List ℕ) → replayed octets drawn ≡ with_events (es ++ fs) rest → IsPrefixOf front (output_from (world_after empty es) fs)
+  front_so : (es fs : List Event) (rest : Trace) (front : List ℕ) → replayed octets drawn ≡ with_events (es ++ fs) rest → IsPrefixOf front (output_from (world_after empty es) fs)
       → IsPrefixOf (output es ++ front) (output (replayed octets drawn).events)
   front_so es fs rest front is part =
       let tail = output_from (world_after empty (es ++ fs)) rest.events in (
         part.0 ++ tail,
-        ap (λ (c : Course). output c.events) is ∙ output-append (es ++ fs) rest.events
+        ap (λ (c : Trace). output c.events) is ∙ output-append (es ++ fs) rest.events
             ∙ ap (λ (l : List ℕ). l ++ tail) (output-append es fs ∙ ap (λ (l : List ℕ). output es ++ l) part.1 ∙ sym (append_assoc (output es) front part.0))
             ∙ append_assoc (output es ++ front) part.0 tail,
       )
@@ -62,28 +62,28 @@ module _ (old now : Tellings) (taken drawn : List ℕ) (es ps : List Event) (scr
   pub took_all : TookIn old.left left' octets
   took_all = subst (TookIn old.left left') (append_assoc taken script.waits got) (took_more old.left now.left left' (taken ++ script.waits) got going.took came)
 
-  course_is : (draws : List ℕ) → replayed octets (drawn ++ draws) ≡ with_events (es ++ ps) (course_from Replays script.number script.offset (lines_of (script.waits ++ got)) 0 (drawing draws))
-  course_is draws = going.goes (script.waits ++ got) draws
+  trace_is : (draws : List ℕ) → replayed octets (drawn ++ draws) ≡ with_events (es ++ ps) (trace_from Replays script.number script.offset (lines_of (script.waits ++ got)) 0 (drawing draws))
+  trace_is draws = going.goes (script.waits ++ got) draws
 
   no_draw : replayed octets drawn ≡ replayed octets (drawn ++ [])
   no_draw = ap (replayed octets) (sym (append-nil drawn))
 
   -- whatever comes, what is written is a front
   pub is_front : IsPrefixOf (output es ++ []) (output (replayed octets drawn).events)
-  is_front = front_so octets drawn es ps _ [] (no_draw ∙ course_is []) (output_from (world_after empty es) ps, refl)
+  is_front = front_so octets drawn es ps _ [] (no_draw ∙ trace_is []) (output_from (world_after empty es) ps, refl)
 
   -- at an end that is closed
-  closed_whole : (end status : Status) (stop : Stop) (out : List ℕ) → course_from Replays script.number script.offset (lines_of (script.waits ++ got)) 0 (drawing []) ≡ stopped stop (drawing [])
+  closed_whole : (end status : Status) (stop : Stop) (out : List ℕ) → trace_from Replays script.number script.offset (lines_of (script.waits ++ got)) 0 (drawing []) ≡ stopped stop (drawing [])
       → (IsWhole octets drawn (output es ++ out) stop → Ends end octets drawn (output es ++ out) left') → Closes end status (world_after empty es) ps out → Ends status octets drawn (output es ++ out) left'
   closed_whole end status stop out stops ends (inl all) =
       subst (λ s. Ends s octets drawn (output es ++ out) left') (sym all.0)
-      (ends (subst (λ (o : List ℕ). IsWhole octets drawn o stop) (output-append es ps ∙ ap (λ (o : List ℕ). output es ++ o) (sym all.1)) (whole_so octets drawn (es ++ ps) stop (no_draw ∙ course_is [] ∙ ap (with_events (es ++ ps)) stops))))
-  closed_whole end status stop out stops ends (inr cut) = ends_cut status octets drawn (output es ++ out) left' cut.0 (front_so octets drawn es ps _ out (no_draw ∙ course_is []) cut.1)
+      (ends (subst (λ (o : List ℕ). IsWhole octets drawn o stop) (output-append es ps ∙ ap (λ (o : List ℕ). output es ++ o) (sym all.1)) (whole_so octets drawn (es ++ ps) stop (no_draw ∙ trace_is [] ∙ ap (with_events (es ++ ps)) stops))))
+  closed_whole end status stop out stops ends (inr cut) = ends_cut status octets drawn (output es ++ out) left' cut.0 (front_so octets drawn es ps _ out (no_draw ∙ trace_is []) cut.1)
 
   -- at the end of the source
   pub closed_at_end : (status : Status) (out : List ℕ) → script.waits ++ got ≡ [] → AtEnd left' → Closes Done status (world_after empty es) ps out → Ends status octets drawn (output es ++ out) left'
   closed_at_end status out none end closed =
-      closed_whole Done status BehindAll out (ap (λ (l : List ℕ). course_from Replays script.number script.offset (lines_of l) 0 (drawing [])) none) (λ whole. (whole, end)) closed
+      closed_whole Done status BehindAll out (ap (λ (l : List ℕ). trace_from Replays script.number script.offset (lines_of l) 0 (drawing [])) none) (λ whole. (whole, end)) closed
 
   closed_at_fault : (fault : ScriptFault) (status : Status) (out : List ℕ) → IsFault script.number script.offset (script.waits ++ got) fault left'
       → Closes (Script script.number fault) status (world_after empty es) ps out → Ends status octets drawn (output es ++ out) left'
@@ -95,8 +95,8 @@ module _ (old now : Tellings) (taken drawn : List ℕ) (es ps : List Event) (scr
         λ other more.
             ap (λ (l : List ℕ). (replayed l drawn).stop) (append_assoc taken (script.waits ++ got) more)
             ∙ ap (λ (d : List ℕ). (replayed (taken ++ ((script.waits ++ got) ++ more)) d).stop) (sym (append-nil drawn))
-            ∙ ap (λ (c : Course). c.stop) (going.goes ((script.waits ++ got) ++ more) [])
-            ∙ ap (λ (c : Course). c.stop) (stops_at Replays script.number script.offset ((script.waits ++ got) ++ more) fault 0 (drawing []) (is.still other more)),
+            ∙ ap (λ (c : Trace). c.stop) (going.goes ((script.waits ++ got) ++ more) [])
+            ∙ ap (λ (c : Trace). c.stop) (stops_at Replays script.number script.offset ((script.waits ++ got) ++ more) fault 0 (drawing []) (is.still other more)),
       )) closed
 
   -- where no line was read
@@ -119,15 +119,15 @@ module _ (old now : Tellings) (taken drawn : List ℕ) (es ps : List Event) (scr
   module _ (l : Line) (new : Reading) (read : IsRead l script new got) where
     -- what the rest makes of what follows
     abbrev later : List ℕ → Later
-    later rest = course_from Replays (script.number + 1) (script.offset + length read.line) (lines_of rest)
+    later rest = trace_from Replays (script.number + 1) (script.offset + length read.line) (lines_of rest)
 
-    line_goes : (rest draws : List ℕ) → course_from Replays script.number script.offset (lines_of (read.line ++ rest)) 0 (drawing draws) ≡ handled l (later rest) 0 (drawing draws)
+    line_goes : (rest draws : List ℕ) → trace_from Replays script.number script.offset (lines_of (read.line ++ rest)) 0 (drawing draws) ≡ handled l (later rest) 0 (drawing draws)
     line_goes rest draws = reads_on Replays script.number script.offset read.line rest l 0 (drawing draws) read.whole read.is
 
     -- all octets read, with those drawn
     all_is : (draws : List ℕ) → replayed octets (drawn ++ draws) ≡ with_events (es ++ ps) (handled l (later new.waits) 0 (drawing draws))
     all_is draws =
-        course_is draws ∙ ap (λ (r : List ℕ). with_events (es ++ ps) (course_from Replays script.number script.offset (lines_of r) 0 (drawing draws))) read.split
+        trace_is draws ∙ ap (λ (r : List ℕ). with_events (es ++ ps) (trace_from Replays script.number script.offset (lines_of r) 0 (drawing draws))) read.split
         ∙ ap (with_events (es ++ ps)) (line_goes new.waits draws)
 
     cut_so : (draws out : List ℕ) → IsCut l (world_after empty es) ps draws out → IsPrefixOf (output es ++ out) (output (replayed octets (drawn ++ draws)).events)
@@ -168,7 +168,7 @@ module _ (old now : Tellings) (taken drawn : List ℕ) (es ps : List Event) (scr
           ∙ with_events_again (es ++ ps) taken_so.events _
           ∙ ap (λ (f : List Event). with_events f (later rest 0 (drawing more)))
           (append_assoc es ps taken_so.events ∙ ap (λ (f : List Event). es ++ f) taken_so.all ∙ sym (append_assoc es taken_so.front waits'))
-          ∙ (λ i. with_events ((es ++ taken_so.front) ++ waits') (course_from Replays (sym read.number i) (sym read.offset i) (lines_of rest) 0 (drawing more)));
+          ∙ (λ i. with_events ((es ++ taken_so.front) ++ waits') (trace_from Replays (sym read.number i) (sym read.offset i) (lines_of rest) 0 (drawing more)));
     }
 
 -- how many octets were read
@@ -182,7 +182,7 @@ begins old ps script none is = record {
   took = subst (λ (s : Reading). TookIn old.left old.left s.waits) (sym is) (λ after left. left);
   drew = added_none old.drawn;
   wrote = wrote_none old.written;
-  goes = λ rest more. (λ i. with_events (sym none i) (course_from Replays (sym (ap (λ (s : Reading). s.number) is) i) (sym (ap (λ (s : Reading). s.offset) is) i) (lines_of rest) 0 (drawing more)));
+  goes = λ rest more. (λ i. with_events (sym none i) (trace_from Replays (sym (ap (λ (s : Reading). s.number) is) i) (sym (ap (λ (s : Reading). s.offset) is) i) (lines_of rest) 0 (drawing more)));
 }
 
 -- ---- whose failure it was

@@ -3,9 +3,9 @@ use Rattle.std.proofs.Common.{◌≡◌, ◌<◌, ◌+◌, ℕ, List, [], ◌∷
 use Rattle.std.specs.List.{flat_map}
 use Rattle.std.proofs.lemmas.Grind.{flat_map-append}
 use Rattle.std.proofs.lemmas.List.{append-nil}
-use Rattle.sg_course.proofs.Writings.{all_text, next_text, written_behind}
-use Rattle.sg_course.specs.Output.{IsWritten, text}
-use Rattle.sg_course.specs.declared.status.Status.{Status}
+use Rattle.sg_trace.proofs.Writings.{all_text, next_text, written_behind}
+use Rattle.sg_trace.specs.Output.{IsWritten, text}
+use Rattle.sg_trace.specs.declared.status.Status.{Status}
 use Rattle.sg_edge.proofs.Passed.{wrote_more}
 use Rattle.sg_edge.specs.Told.{Wrote}
 use Rattle.sg_outcome.specs.OutcomeText.{outcome_line}

@@ -1,10 +1,10 @@
 -- What playing the lines of a script leaves, one by one.
 use Rattle.std.specs.Prelude.{◌≡◌, ◌⊎◌, ℕ, Bool, true, false, List, [], ◌∷◌, ◌++◌, map, Option, Some, None, Result, Ok, Err}
 use Rattle.std.specs.List.{flat_map}
-use Rattle.sg_course.specs.Course.{Course, ForDraw, Later, drawing, handled, stopped, with_events}
-use Rattle.sg_course.specs.Output.{IsPrefixOf, output_from}
-use Rattle.sg_course.specs.declared.status.Status.{Status}
-use Rattle.sg_course.specs.declared.status.Status.TheVariants.{Done, Usage, Script, Read, Write, Link, NoMemory, Clock, Noise, TurnsSpent}
+use Rattle.sg_trace.specs.Trace.{Trace, ForDraw, Later, drawing, handled, stopped, with_events}
+use Rattle.sg_trace.specs.Output.{IsPrefixOf, output_from}
+use Rattle.sg_trace.specs.declared.status.Status.{Status}
+use Rattle.sg_trace.specs.declared.status.Status.TheVariants.{Done, Usage, Script, Read, Write, Link, NoMemory, Clock, Noise, TurnsSpent}
 use Rattle.sg_gateway.specs.Runs.{world_after}
 use Rattle.sg_gateway.specs.Step.{Event}
 use Rattle.sg_gateway.specs.World.{World}
@@ -64,7 +64,7 @@ pub record IsTaken (l : Line) (w : World) (waited waits : List Event) (stands_fo
 -- A front of what they tell was told.
 pub record IsCut (l : Line) (w : World) (waited : List Event) (draws out : List ℕ) : Type 0 where
   pub events : List Event
-  pub goes : (later : Later) → (rest : Course) × (handled l later 0 (drawing draws) ≡ with_events events rest)
+  pub goes : (later : Later) → (rest : Trace) × (handled l later 0 (drawing draws) ≡ with_events events rest)
   pub told : IsPrefixOf out (output_from w (waited ++ events))
 
 -- The line lacks noise, and none was drawn. All that waited was told.

@@ -1,11 +1,11 @@
 -- What a replay answers, and what has passed between it and the outside by then.
 use Rattle.std.specs.Prelude.{◌≡◌, ◌⊎◌, ◌≤◌, ◌+◌, ◌^◌, length, ℕ, List, [], ◌++◌, Option, Some}
 use Rattle.sg_base.specs.declared.faults.ScriptFault.TheVariants.{Unended}
-use Rattle.sg_course.specs.Course.{AtEnd as BehindAll, AtFault, ForDraw, Stop, drawing, replayed}
-use Rattle.sg_course.specs.Grammar.{IsScript}
-use Rattle.sg_course.specs.Output.{IsPrefixOf, output}
-use Rattle.sg_course.specs.declared.status.Status.{Status}
-use Rattle.sg_course.specs.declared.status.Status.TheVariants.{Done, Usage, Script, Read, Write, Link, NoMemory, Clock, Noise, TurnsSpent}
+use Rattle.sg_trace.specs.Trace.{AtEnd as BehindAll, AtFault, ForDraw, Stop, drawing, replayed}
+use Rattle.sg_trace.specs.Grammar.{IsScript}
+use Rattle.sg_trace.specs.Output.{IsPrefixOf, output}
+use Rattle.sg_trace.specs.declared.status.Status.{Status}
+use Rattle.sg_trace.specs.declared.status.Status.TheVariants.{Done, Usage, Script, Read, Write, Link, NoMemory, Clock, Noise, TurnsSpent}
 use Rattle.sg_edge.specs.Links.{Added}
 use Rattle.sg_edge.specs.Told.{AtEnd, TookIn, Wrote}
 

@@ -1,8 +1,8 @@
 //! What plays the lines of a script.
 
 ghost use Rattle.std.specs.Prelude.{◌≡◌, ◌≢◌, ◌≤◌, ◌<◌, ◌∷◌, ◌++◌, [], ℕ, List, IfErr, IfOk, OnErr, OnOk, false, length};
-ghost use Rattle.sg_course.specs.Causes.{HasFailed, IsCaused};
-ghost use Rattle.sg_course.specs.Output.{WroteFront, text};
+ghost use Rattle.sg_trace.specs.Causes.{HasFailed, IsCaused};
+ghost use Rattle.sg_trace.specs.Output.{WroteFront, text};
 ghost use Rattle.sg_edge.specs.Links.{Added};
 ghost use Rattle.sg_edge.specs.Told.{Wrote};
 ghost use Rattle.sg_gateway.specs.Events.{events_of_signal, signal_lacks_noise};
@@ -17,11 +17,11 @@ ghost use Rattle.sg_table.specs.Telling.{IsTimely};
 
 use crate::telling::{tell_all, tell_ends};
 use sg_base::{Address, BATCH_MOST, NoMemory, Pad};
-use sg_course::{Status, supply};
 use sg_edge::{Noise, Sink};
 use sg_lanes::Gate;
 use sg_lines::{Line, Signal};
 use sg_table::{Arrival, Table};
+use sg_trace::{Status, supply};
 use std::alloc::Global;
 use std::marker::Model;
 use std::mem;

@@ -1,7 +1,7 @@
 //! The command `replay`: the lines of a script, in order.
 
 ghost use Rattle.std.specs.Prelude.{◌≡◌, ◌<◌, ◌≤◌, ◌+◌, ◌^◌, ℕ, List, []};
-ghost use Rattle.sg_course.specs.Causes.{HasFailed};
+ghost use Rattle.sg_trace.specs.Causes.{HasFailed};
 ghost use Rattle.sg_edge.specs.Told.{Rose};
 ghost use Rattle.sg_gateway.specs.World.{empty};
 ghost use Rattle.sg_playback.specs.Replay.{IsComplete, IsReplay};
@@ -9,9 +9,9 @@ ghost use Rattle.sg_table.specs.Standing.{TableStandsFor};
 
 use crate::player::Player;
 use sg_base::NoMemory;
-use sg_course::{ScriptReader, Status};
 use sg_edge::{Noise, Sink, Source};
 use sg_lanes::Gate;
+use sg_trace::{ScriptReader, Status};
 use std::alloc::Global;
 use std::thread::Threads;
 

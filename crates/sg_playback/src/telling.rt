@@ -1,16 +1,16 @@
 //! What is written of datagrams and of signals.
 
 ghost use Rattle.std.specs.Prelude.{◌≡◌, ◌∷◌, ◌++◌, [], IfOk, OnOk};
-ghost use Rattle.sg_course.specs.Causes.{IsCaused};
-ghost use Rattle.sg_course.specs.Output.{IsWritten, text};
+ghost use Rattle.sg_trace.specs.Causes.{IsCaused};
+ghost use Rattle.sg_trace.specs.Output.{IsWritten, text};
 ghost use Rattle.sg_table.specs.Batches.{told_of};
 ghost use Rattle.sg_table.specs.Handling.{outcome_by};
 
 use sg_base::{NoMemory, Octets, Pad};
-use sg_course::{Status, tell};
 use sg_edge::{Sink, write_all};
 use sg_outcome::{Outcome, print_outcome};
 use sg_table::{Arrival, End};
+use sg_trace::{Status, tell};
 use std::alloc::Global;
 
 /// Writes what became of datagrams, in order, once all of it is printed.

@@ -1,10 +1,10 @@
 -- How the causes of a part's answers follow one another.
 use Rattle.std.proofs.Common.{◌≡◌, ◌≤◌, ℕ, Bool, Option, Result, Ok, Err, sym, ap, ◌∙◌, inl, inr, arith}
 use Rattle.std.specs.Prelude.{IfErr}
-use Rattle.sg_course.proofs.Causes.{failed_as}
-use Rattle.sg_course.specs.Causes.{HasFailed, IsCaused}
-use Rattle.sg_course.specs.declared.status.Status.{Status}
-use Rattle.sg_course.specs.declared.status.Status.TheVariants.{Read, Write, Link, NoMemory, Clock, Noise, TurnsSpent}
+use Rattle.sg_trace.proofs.Causes.{failed_as}
+use Rattle.sg_trace.specs.Causes.{HasFailed, IsCaused}
+use Rattle.sg_trace.specs.declared.status.Status.{Status}
+use Rattle.sg_trace.specs.declared.status.Status.TheVariants.{Read, Write, Link, NoMemory, Clock, Noise, TurnsSpent}
 use Rattle.sg_relay.specs.Causes.{IsDueTo, IsDueToLink, IsOfLines, IsOfOutcomes, IsOfTurns}
 use Rattle.sg_relay.proofs.Deeds.{IsOfWriting}
 

@@ -1,9 +1,9 @@
 -- A script in the grammar is relayed to its end, where nothing but sends fails.
 use Rattle.std.proofs.Common.{◌≡◌, List, [], ◌∷◌, ◌++◌, ℕ, Option, refl, subst, inl, inr, arith}
-use Rattle.sg_course.proofs.Grammars.{in_relay, no_fault}
-use Rattle.sg_course.specs.Course.{AtFault, woven}
-use Rattle.sg_course.specs.declared.status.Status.{Status}
-use Rattle.sg_course.specs.declared.status.Status.TheVariants.{Done, Usage, Script, Read, Write, Link, NoMemory, Clock, Noise, TurnsSpent}
+use Rattle.sg_trace.proofs.Grammars.{in_relay, no_fault}
+use Rattle.sg_trace.specs.Trace.{AtFault, woven}
+use Rattle.sg_trace.specs.declared.status.Status.{Status}
+use Rattle.sg_trace.specs.declared.status.Status.TheVariants.{Done, Usage, Script, Read, Write, Link, NoMemory, Clock, Noise, TurnsSpent}
 use Rattle.sg_edge.specs.Links.{Failing, LinkCall, Receive}
 use Rattle.sg_edge.specs.Told.{Rose}
 use Rattle.sg_edge.proofs.Links.{added_none}

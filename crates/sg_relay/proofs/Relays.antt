@@ -2,11 +2,11 @@
 use Rattle.std.proofs.Common.{◌≡◌, ◌⊎◌, ◌<◌, ◌≤◌, ◌+◌, ◌^◌, ℕ, List, [], ◌∷◌, ◌++◌, length, Option, Result, Ok, Err, refl, sym, ap, ap₂, ◌∙◌, subst, append_assoc, length-append, inl, inr, arith}
 use Rattle.std.proofs.lemmas.List.{append-nil}
 use Rattle.sg_base.specs.declared.faults.ScriptFault.{ScriptFault}
-use Rattle.sg_course.proofs.Courses.{outcomes_from-append, reads_on, stops_at, whole_some, with_events_again}
-use Rattle.sg_course.specs.Course.{AtEnd as BehindAll, AtFault, Course, ForDraw, ForReading, ForReceive, Later, Outside, Relays, Stop, course_from, moment_of, said, stopped, with_events, woven}
-use Rattle.sg_course.specs.Reading.{IsFault, IsNext, IsRead, Reading}
-use Rattle.sg_course.specs.declared.status.Status.{Status}
-use Rattle.sg_course.specs.declared.status.Status.TheVariants.{Done, Usage, Script, Read, Write, Link, NoMemory, Clock, Noise, TurnsSpent}
+use Rattle.sg_trace.proofs.Traces.{outcomes_from-append, reads_on, stops_at, whole_some, with_events_again}
+use Rattle.sg_trace.specs.Trace.{AtEnd as BehindAll, AtFault, Trace, ForDraw, ForReading, ForReceive, Later, Outside, Relays, Stop, trace_from, moment_of, said, stopped, with_events, woven}
+use Rattle.sg_trace.specs.Reading.{IsFault, IsNext, IsRead, Reading}
+use Rattle.sg_trace.specs.declared.status.Status.{Status}
+use Rattle.sg_trace.specs.declared.status.Status.TheVariants.{Done, Usage, Script, Read, Write, Link, NoMemory, Clock, Noise, TurnsSpent}
 use Rattle.sg_edge.specs.Links.{Added, Failing, LinkCall, Receive, Received}
 use Rattle.sg_edge.specs.Told.{AtEnd, TookIn, Wrote}
 use Rattle.sg_edge.proofs.Links.{added_more}
@@ -23,12 +23,12 @@ use Rattle.sg_outcome.specs.declared.outcomes.Outcome.{Outcome}
 use Rattle.sg_relay.specs.Asked.{AreGood, AreInOrder, AtFailedReceive, IsDone, IsPart, receipt_in, receipts_in}
 use Rattle.sg_relay.specs.Causes.{IsOfLines, IsOfTurns}
 use Rattle.sg_relay.specs.Parts.{ArePairs, IsBegun, IsLineCut, IsLineInOrder, IsSaid, IsStopped, StopsWith, taken, taking}
-use Rattle.sg_relay.specs.Relay.{ArePaced, Ends, IsBroken, IsRelay, IsWhole, Passed, Tellings, course_of, nothing}
+use Rattle.sg_relay.specs.Relay.{ArePaced, Ends, IsBroken, IsRelay, IsWhole, Passed, Tellings, trace_of, nothing}
 use Rattle.sg_relay.proofs.Deeds.{AreGood-append, done_more, done_none, flat_append, part_longer, part_of, stops_after, stops_longer}
 use Rattle.sg_relay.proofs.Order.{order_more, order_none}
 use Rattle.sg_relay.proofs.Waits.{of_turns}
 
--- the outcomes of a course, by its receives
+-- the outcomes of a trace, by its receives
 abbrev pub outcomes_at : List ℕ → List ℕ → List ℕ → List Received → List Outcome
 outcomes_at octets readings draws receipts = outcomes (woven octets readings receipts draws).events
 
@@ -40,7 +40,7 @@ pub record IsRelaying (old now : Tellings) (turns began : ℕ) (p : Passed) (at 
   pub read : Added old.readings now.readings p.readings
   pub drew : Added old.draws now.draws p.draws
   pub goes : (rest : List ℕ) (o : Outside) → woven (p.octets ++ rest) (p.readings ++ o.readings) (receipts_in p.calls ++ o.receipts) (p.draws ++ o.draws)
-      ≡ with_events es (course_from (Relays began) at.number at.offset (lines_of rest) top o)
+      ≡ with_events es (trace_from (Relays began) at.number at.offset (lines_of rest) top o)
   pub done : IsDone (outcomes es) p.calls p.out
   pub good : AreGood p.calls
   pub paced : length p.readings ≡ length (receipts_in p.calls) + 1
@@ -56,24 +56,24 @@ pace_so [] receipts (inr same) = absurd (omega (arith, same))
 pace_so (r ∷ rs) receipts (inl same) = inl (omega (arith, same))
 pace_so (r ∷ rs) receipts (inr same) = inr (omega (arith, same))
 
--- a course whose events begin with some that were handled, in part or whole
-pub part_in : (p : Passed) (es : List Event) (rest : Course) → course_of p ≡ with_events es rest → IsPart (outcomes_from empty es) p.calls p.out → IsPart (outcomes (course_of p).events) p.calls p.out
+-- a trace whose events begin with some that were handled, in part or whole
+pub part_in : (p : Passed) (es : List Event) (rest : Trace) → trace_of p ≡ with_events es rest → IsPart (outcomes_from empty es) p.calls p.out → IsPart (outcomes (trace_of p).events) p.calls p.out
 part_in p es rest is part =
-    subst (λ (c : Course). IsPart (outcomes c.events) p.calls p.out) (sym is)
+    subst (λ (c : Trace). IsPart (outcomes c.events) p.calls p.out) (sym is)
     (subst (λ (os : List Outcome). IsPart os p.calls p.out) (sym (outcomes_from-append empty es rest.events))
     (part_longer (outcomes_from empty es) (outcomes_from (world_after empty es) rest.events) p.calls p.out part))
 
-pub stops_in : (s : Status) (p : Passed) (es : List Event) (rest : Course) → course_of p ≡ with_events es rest → StopsWith s (outcomes_from empty es) p.calls p.out → StopsWith s (outcomes (course_of p).events) p.calls p.out
+pub stops_in : (s : Status) (p : Passed) (es : List Event) (rest : Trace) → trace_of p ≡ with_events es rest → StopsWith s (outcomes_from empty es) p.calls p.out → StopsWith s (outcomes (trace_of p).events) p.calls p.out
 stops_in s p es rest is stops =
-    subst (λ (c : Course). StopsWith s (outcomes c.events) p.calls p.out) (sym is)
+    subst (λ (c : Trace). StopsWith s (outcomes c.events) p.calls p.out) (sym is)
     (subst (λ (os : List Outcome). StopsWith s os p.calls p.out) (sym (outcomes_from-append empty es rest.events))
     (stops_longer s (outcomes_from empty es) (outcomes_from (world_after empty es) rest.events) p.calls p.out stops))
 
-pub whole_at : (p : Passed) (es : List Event) (stop : Stop) → course_of p ≡ with_events es (stopped stop nothing) → IsDone (outcomes es) p.calls p.out → AreGood p.calls → IsWhole p stop
+pub whole_at : (p : Passed) (es : List Event) (stop : Stop) → trace_of p ≡ with_events es (stopped stop nothing) → IsDone (outcomes es) p.calls p.out → AreGood p.calls → IsWhole p stop
 whole_at p es stop is done good = record {
-  stops = ap (λ (c : Course). c.stop) is;
-  left = ap (λ (c : Course). c.left) is;
-  done = subst (λ (l : List Event). IsDone (outcomes l) p.calls p.out) (sym (ap (λ (c : Course). c.events) is ∙ append-nil es)) done;
+  stops = ap (λ (c : Trace). c.stop) is;
+  left = ap (λ (c : Trace). c.left) is;
+  done = subst (λ (l : List Event). IsDone (outcomes l) p.calls p.out) (sym (ap (λ (c : Trace). c.events) is ∙ append-nil es)) done;
   good = good;
 }
 
@@ -100,12 +100,12 @@ module _ (old now : Tellings) (turns began : ℕ) (p : Passed) (at : Reading) (e
   bounded : (budget : ℕ) → length got + budget ≡ at.budget → length (p.octets ++ (at.waits ++ got)) ≤ 2 ^ 30 + 1
   bounded budget paid = omega (arith, going.size, going.room, paid, length-append p.octets (at.waits ++ got), length-append at.waits got)
 
-  course_is : course_of passed ≡ with_events es (course_from (Relays began) at.number at.offset (lines_of (at.waits ++ got)) top nothing)
-  course_is = (λ i. woven (p.octets ++ (at.waits ++ got)) (sym (append-nil p.readings) i) (sym (append-nil (receipts_in p.calls)) i) (sym (append-nil p.draws) i)) ∙ going.goes (at.waits ++ got) nothing
+  trace_is : trace_of passed ≡ with_events es (trace_from (Relays began) at.number at.offset (lines_of (at.waits ++ got)) top nothing)
+  trace_is = (λ i. woven (p.octets ++ (at.waits ++ got)) (sym (append-nil p.readings) i) (sym (append-nil (receipts_in p.calls)) i) (sym (append-nil p.draws) i)) ∙ going.goes (at.waits ++ got) nothing
 
   -- nothing more was handled
   broken : IsBroken passed
-  broken = record { part = part_in passed es _ course_is (part_of (outcomes es) p.calls p.out going.done); good = going.good }
+  broken = record { part = part_in passed es _ trace_is (part_of (outcomes es) p.calls p.out going.done); good = going.good }
 
   -- the run ends before a line was handled
   ended : (s : Status) (budget : ℕ) → length got + budget ≡ at.budget → Ends s turns passed left' → IsRelay s turns old (record now { left = left' }) passed
@@ -126,20 +126,20 @@ module _ (old now : Tellings) (turns began : ℕ) (p : Passed) (at : Reading) (e
   pub at_end : (budget : ℕ) → length got + budget ≡ at.budget → at.waits ++ got ≡ [] → AtEnd left' ⊎ (2 ^ 30 < at.offset) → IsRelay Done turns old (record now { left = left' }) passed
   at_end budget paid none (inr far) = absurd (let near = going.within in omega (arith, far, near))
   at_end budget paid none (inl end) = ended Done budget paid (
-    whole_at passed es BehindAll (course_is ∙ ap (λ (l : List ℕ). with_events es (course_from (Relays began) at.number at.offset (lines_of l) top nothing)) none) going.done going.good,
+    whole_at passed es BehindAll (trace_is ∙ ap (λ (l : List ℕ). with_events es (trace_from (Relays began) at.number at.offset (lines_of l) top nothing)) none) going.done going.good,
     end,
   )
 
   -- at a line with a fault, and whatever comes after it
   at_fault : (fault : ScriptFault) → IsFault at.number at.offset (at.waits ++ got) fault left' → Ends (Script at.number fault) turns passed left'
   at_fault fault is = (
-    whole_at passed es (AtFault at.number fault) (course_is ∙ ap (with_events es) (stops_at (Relays began) at.number at.offset (at.waits ++ got) fault top nothing is.first)) going.done going.good,
+    whole_at passed es (AtFault at.number fault) (trace_is ∙ ap (with_events es) (stops_at (Relays began) at.number at.offset (at.waits ++ got) fault top nothing is.first)) going.done going.good,
     is.ended,
     λ not_end more.
         let parts : (p.octets ++ (at.waits ++ got)) ++ more ≡ p.octets ++ ((at.waits ++ got) ++ more) = append_assoc p.octets (at.waits ++ got) more in
         (λ i. (woven (parts i) (sym (append-nil p.readings) i) (sym (append-nil (receipts_in p.calls)) i) (sym (append-nil p.draws) i)).stop)
-        ∙ ap (λ (c : Course). c.stop) (going.goes ((at.waits ++ got) ++ more) nothing)
-        ∙ ap (λ (c : Course). c.stop) (stops_at (Relays began) at.number at.offset ((at.waits ++ got) ++ more) fault top nothing (is.still not_end more)),
+        ∙ ap (λ (c : Trace). c.stop) (going.goes ((at.waits ++ got) ++ more) nothing)
+        ∙ ap (λ (c : Trace). c.stop) (stops_at (Relays began) at.number at.offset ((at.waits ++ got) ++ more) fault top nothing (is.still not_end more)),
   )
 
   -- the next line isn't read
@@ -159,14 +159,14 @@ module _ (old now : Tellings) (turns began : ℕ) (p : Passed) (at : Reading) (e
   module _ (l : Line) (at' : Reading) (paid : length got + at'.budget ≡ at.budget) (is : IsRead l at at' got) (readings : List ℕ) (calls : List LinkCall) (draws out : List ℕ) where
     -- what follows the line
     abbrev later : Later
-    later = course_from (Relays began) (at.number + 1) (at.offset + length is.line) (lines_of at'.waits)
+    later = trace_from (Relays began) (at.number + 1) (at.offset + length is.line) (lines_of at'.waits)
 
     receipts_are : receipts_in (p.calls ++ calls) ≡ receipts_in p.calls ++ receipts_in calls
     receipts_are = flat_append receipt_in p.calls calls
 
-    -- the course, up to what follows the line
+    -- the trace, up to what follows the line
     says : (more : List ℕ) (o : Outside) → woven ((p.octets ++ is.line) ++ more) ((p.readings ++ readings) ++ o.readings) (receipts_in (p.calls ++ calls) ++ o.receipts) ((p.draws ++ draws) ++ o.draws)
-        ≡ with_events es (said (Relays began) l (course_from (Relays began) (at.number + 1) (at.offset + length is.line) (lines_of more)) top (taking readings (receipts_in calls) draws o))
+        ≡ with_events es (said (Relays began) l (trace_from (Relays began) (at.number + 1) (at.offset + length is.line) (lines_of more)) top (taking readings (receipts_in calls) draws o))
     says more o =
         let receipts : receipts_in (p.calls ++ calls) ++ o.receipts ≡ receipts_in p.calls ++ (receipts_in calls ++ o.receipts) =
         ap (λ (xs : List Received). xs ++ o.receipts) receipts_are ∙ append_assoc (receipts_in p.calls) (receipts_in calls) o.receipts in
@@ -181,8 +181,8 @@ module _ (old now : Tellings) (turns began : ℕ) (p : Passed) (at : Reading) (e
     octets_are : p.octets ++ (at.waits ++ got) ≡ (p.octets ++ is.line) ++ at'.waits
     octets_are = ap (λ (l : List ℕ). p.octets ++ l) is.split ∙ sym (append_assoc p.octets is.line at'.waits)
 
-    -- the course, where nothing more was taken
-    says_all : course_of with_line ≡ with_events es (said (Relays began) l later top (taken readings (receipts_in calls) draws))
+    -- the trace, where nothing more was taken
+    says_all : trace_of with_line ≡ with_events es (said (Relays began) l later top (taken readings (receipts_in calls) draws))
     says_all =
         (λ i. woven (octets_are i) (sym (append-nil (p.readings ++ readings)) i) (sym (append-nil (receipts_in (p.calls ++ calls))) i) (sym (append-nil (p.draws ++ draws)) i))
         ∙ says at'.waits nothing
@@ -196,13 +196,13 @@ module _ (old now : Tellings) (turns began : ℕ) (p : Passed) (at : Reading) (e
     line_order : IsLineInOrder (Relays began) l (world_after empty es) top readings calls draws → (more : List ℕ) (o : Outside)
         → AreInOrder (outcomes_at ((p.octets ++ is.line) ++ more) ((p.readings ++ readings) ++ o.readings) ((p.draws ++ draws) ++ o.draws)) (p.calls ++ calls)
     line_order order more o =
-        let next : Later = course_from (Relays began) (at.number + 1) (at.offset + length is.line) (lines_of more) in
+        let next : Later = trace_from (Relays began) (at.number + 1) (at.offset + length is.line) (lines_of more) in
         let after_it : List Received → Outside = λ xs. taken (readings ++ o.readings) xs (draws ++ o.draws) in
         subst (λ (f : List Received → List Outcome). AreInOrder f (p.calls ++ calls))
         (λ i. outcomes_at (sym (append_assoc p.octets is.line more) i) (sym (append_assoc p.readings readings o.readings) i) (sym (append_assoc p.draws draws o.draws) i))
         (order_more (outcomes_at (p.octets ++ (is.line ++ more)) (p.readings ++ (readings ++ o.readings)) (p.draws ++ (draws ++ o.draws)))
         (λ xs. outcomes_from (world_after empty es) (said (Relays began) l next top (after_it xs)).events) (outcomes es) p.calls calls
-        (λ xs. ap (λ (c : Course). outcomes c.events)
+        (λ xs. ap (λ (c : Trace). outcomes c.events)
         (going.goes (is.line ++ more) (after_it xs) ∙ ap (with_events es) (reads_on (Relays began) at.number at.offset is.line more l top (after_it xs) is.whole is.is))
         ∙ outcomes_from-append empty es (said (Relays began) l next top (after_it xs)).events)
         going.done.asked (going.in_order (is.line ++ more) (after_it [])) (order next o))
@@ -219,9 +219,9 @@ module _ (old now : Tellings) (turns began : ℕ) (p : Passed) (at : Reading) (e
       read = added_more old.readings now.readings now'.readings p.readings readings going.read read;
       drew = added_more old.draws now.draws now'.draws p.draws draws going.drew drew;
       goes = λ more o. says more o
-          ∙ ap (with_events es) (said.1 (course_from (Relays began) (at.number + 1) (at.offset + length is.line) (lines_of more)) o)
-          ∙ with_events_again es said.0 (course_from (Relays began) (at.number + 1) (at.offset + length is.line) (lines_of more) top' o)
-          ∙ ap₂ (λ (n a : ℕ). with_events (es ++ said.0) (course_from (Relays began) n a (lines_of more) top' o)) (sym is.number) (sym is.offset);
+          ∙ ap (with_events es) (said.1 (trace_from (Relays began) (at.number + 1) (at.offset + length is.line) (lines_of more)) o)
+          ∙ with_events_again es said.0 (trace_from (Relays began) (at.number + 1) (at.offset + length is.line) (lines_of more) top' o)
+          ∙ ap₂ (λ (n a : ℕ). with_events (es ++ said.0) (trace_from (Relays began) n a (lines_of more) top' o)) (sym is.number) (sym is.offset);
       done = subst (λ (os : List Outcome). IsDone os (p.calls ++ calls) (p.out ++ out)) (sym (outcomes_from-append empty es said.0))
           (done_more (outcomes es) (outcomes_from (world_after empty es) said.0) p.calls calls p.out out going.done said.2);
       good = AreGood-append p.calls calls going.good said.3;
@@ -264,7 +264,7 @@ module _ (old now : Tellings) (turns began : ℕ) (p : Passed) (at : Reading) (e
     }
 
     -- the line was cut
-    stops_so : (x : Status) → IsLineCut x (Relays began) l (world_after empty es) top readings calls draws out → StopsWith x (outcomes (course_of with_line).events) (p.calls ++ calls) (p.out ++ out)
+    stops_so : (x : Status) → IsLineCut x (Relays began) l (world_after empty es) top readings calls draws out → StopsWith x (outcomes (trace_of with_line).events) (p.calls ++ calls) (p.out ++ out)
     stops_so x (events, rest, stops, pairs) =
         stops_in x with_line (es ++ events) (rest later).0 (says_all ∙ ap (with_events es) (rest later).1 ∙ with_events_again es events (rest later).0)
         (subst (λ (os : List Outcome). StopsWith x os (p.calls ++ calls) (p.out ++ out)) (sym (outcomes_from-append empty es events))
@@ -281,7 +281,7 @@ module _ (old now : Tellings) (turns began : ℕ) (p : Passed) (at : Reading) (e
     )
     cut_link whole (inr cut, few) = (inr (stops_so Link cut), counts_of cut.3 few)
 
-    broken_so : (s : Status) → ((x : Passed) → IsBroken x → Ends s turns x left') → IsPart (outcomes (course_of with_line).events) (p.calls ++ calls) (p.out ++ out) × AreGood (p.calls ++ calls) → Ends s turns with_line left'
+    broken_so : (s : Status) → ((x : Passed) → IsBroken x → Ends s turns x left') → IsPart (outcomes (trace_of with_line).events) (p.calls ++ calls) (p.out ++ out) × AreGood (p.calls ++ calls) → Ends s turns with_line left'
     broken_so s ends (part, good) = ends with_line (record { part = part; good = good })
 
     cut_with : (T : Type 0) (s : Status) (top' left2 : ℕ) (stands_for : World → Type 0) → IsOfLines s
@@ -334,11 +334,11 @@ first_tick r = events_of (lines.Signal (Tick (moment_of r)))
 abbrev pub only_begun : List ℕ → List LinkCall → List ℕ → Passed
 only_begun readings calls out = record { octets = []; out = out; calls = calls; readings = readings; draws = [] }
 
-first_course : (r : ℕ) (calls : List LinkCall) (out : List ℕ) → receipts_in calls ≡ [] → course_of (only_begun (r ∷ []) calls out) ≡ with_events (first_tick r) (stopped BehindAll nothing)
-first_course r calls out none = ap (λ (xs : List Received). woven [] (r ∷ []) xs []) none
+first_trace : (r : ℕ) (calls : List LinkCall) (out : List ℕ) → receipts_in calls ≡ [] → trace_of (only_begun (r ∷ []) calls out) ≡ with_events (first_tick r) (stopped BehindAll nothing)
+first_trace r calls out none = ap (λ (xs : List Received). woven [] (r ∷ []) xs []) none
 
-begun_stops : (s : Status) (r : ℕ) (calls : List LinkCall) (out : List ℕ) → receipts_in calls ≡ [] → StopsWith s (outcomes_from empty (first_tick r)) calls out → StopsWith s (outcomes (course_of (only_begun (r ∷ []) calls out)).events) calls out
-begun_stops s r calls out none stops = stops_in s (only_begun (r ∷ []) calls out) (first_tick r) (stopped BehindAll nothing) (first_course r calls out none) stops
+begun_stops : (s : Status) (r : ℕ) (calls : List LinkCall) (out : List ℕ) → receipts_in calls ≡ [] → StopsWith s (outcomes_from empty (first_tick r)) calls out → StopsWith s (outcomes (trace_of (only_begun (r ∷ []) calls out)).events) calls out
+begun_stops s r calls out none stops = stops_in s (only_begun (r ∷ []) calls out) (first_tick r) (stopped BehindAll nothing) (first_trace r calls out none) stops
 
 begun_pace : (turns r : ℕ) (calls : List LinkCall) → receipts_in calls ≡ [] → ArePaced (r ∷ []) (receipts_in calls) × (length (let one : List ℕ = r ∷ [] in one) ≤ turns + 1)
 begun_pace turns r calls none = (subst (λ (xs : List Received). ArePaced (r ∷ []) xs) (sym none) (inl refl), omega arith)
@@ -349,7 +349,7 @@ module _ (turns : ℕ) (left : Option (List ℕ)) (stands_for : World → Type 0
   EndsAtOnce s = Ends s turns (only_begun readings calls out) left × ArePaced readings (receipts_in calls) × (length readings ≤ turns + 1) × (receipts_in calls ≡ [])
 
   -- the tick of the first reading was handled in part
-  cut_tick : (s : Status) (ends : (r : ℕ) → StopsWith s (outcomes (course_of (only_begun (r ∷ []) calls out)).events) calls out → Ends s turns (only_begun (r ∷ []) calls out) left)
+  cut_tick : (s : Status) (ends : (r : ℕ) → StopsWith s (outcomes (trace_of (only_begun (r ∷ []) calls out)).events) calls out → Ends s turns (only_begun (r ∷ []) calls out) left)
       → (r : ℕ) → readings ≡ r ∷ [] → receipts_in calls ≡ [] → StopsWith s (outcomes_from empty (first_tick r)) calls out → EndsAtOnce s
   cut_tick s ends r one none stops =
       subst (λ (l : List ℕ). Ends s turns (only_begun l calls out) left × ArePaced l (receipts_in calls) × (length l ≤ turns + 1) × (receipts_in calls ≡ [])) (sym one)
@@ -384,7 +384,7 @@ begins_so old now turns began stands_for readings calls out took wrote called re
   called = called;
   read = read;
   drew = drew;
-  goes = λ rest o. (λ i. woven rest (one i ++ o.readings) (none i ++ o.receipts) o.draws) ∙ ap (λ (m : ℕ). with_events (first_tick r) (course_from (Relays m) 1 0 (lines_of rest) m o)) (sym is);
+  goes = λ rest o. (λ i. woven rest (one i ++ o.readings) (none i ++ o.receipts) o.draws) ∙ ap (λ (m : ℕ). with_events (first_tick r) (trace_from (Relays m) 1 0 (lines_of rest) m o)) (sym is);
   done = done;
   good = good;
   paced = omega (arith, ap length one, ap length none);

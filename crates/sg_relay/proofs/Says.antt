@@ -2,10 +2,10 @@
 use Rattle.std.proofs.Common.{◌≡◌, ℕ, List, [], ◌∷◌, ◌++◌, length, Option, Some, None, Result, Ok, Err, refl, sym, ap, ap₂, ◌∙◌, subst, inl, inr, arith}
 use Rattle.std.specs.Prelude.{IfErr}
 use Rattle.std.proofs.lemmas.List.{append-nil}
-use Rattle.sg_course.specs.Course.{Command, ForReading, ForReceive, Later, Outside, Relays, Replays, Stop, arrivals_of, handled, handled_as, moment_of, said, said_by, wait_in, waited, with_events}
-use Rattle.sg_course.specs.Supplying.{IsSupplied}
-use Rattle.sg_course.specs.declared.status.Status.{Status}
-use Rattle.sg_course.specs.declared.status.Status.TheVariants.{Done, Usage, Script, Read, Write, Link, NoMemory, Clock, Noise, TurnsSpent}
+use Rattle.sg_trace.specs.Trace.{Command, ForReading, ForReceive, Later, Outside, Relays, Replays, Stop, arrivals_of, handled, handled_as, moment_of, said, said_by, wait_in, waited, with_events}
+use Rattle.sg_trace.specs.Supplying.{IsSupplied}
+use Rattle.sg_trace.specs.declared.status.Status.{Status}
+use Rattle.sg_trace.specs.declared.status.Status.TheVariants.{Done, Usage, Script, Read, Write, Link, NoMemory, Clock, Noise, TurnsSpent}
 use Rattle.sg_base.specs.declared.addresses.Address.{Address}
 use Rattle.sg_edge.specs.Links.{Came, LinkCall, Received}
 use Rattle.sg_gateway.specs.Events.{events_of, events_of_signal, outcomes_from}

@@ -3,10 +3,10 @@ use Rattle.std.proofs.Common.{◌≡◌, ◌⊎◌, ◌<◌, ◌≤◌, ◌+◌,
 use Rattle.std.specs.Prelude.{nat_le, if◌then◌else◌}
 use Rattle.std.proofs.lemmas.Bool.{cond-true, cond-false, le-leb, lt-leb}
 use Rattle.std.proofs.lemmas.List.{append-nil}
-use Rattle.sg_course.proofs.Courses.{outcomes_from-append, with_events_again, world_after-append}
-use Rattle.sg_course.specs.Course.{Course, ForReading, ForReceive, Later, arrivals_of, moment_of, stopped, ticks_of, waited, with_events}
-use Rattle.sg_course.specs.declared.status.Status.{Status}
-use Rattle.sg_course.specs.declared.status.Status.TheVariants.{Write, Link, NoMemory, Clock, Noise}
+use Rattle.sg_trace.proofs.Traces.{outcomes_from-append, with_events_again, world_after-append}
+use Rattle.sg_trace.specs.Trace.{Trace, ForReading, ForReceive, Later, arrivals_of, moment_of, stopped, ticks_of, waited, with_events}
+use Rattle.sg_trace.specs.declared.status.Status.{Status}
+use Rattle.sg_trace.specs.declared.status.Status.TheVariants.{Write, Link, NoMemory, Clock, Noise}
 use Rattle.sg_edge.specs.Links.{Failing, LinkCall, Received}
 use Rattle.sg_edge.specs.Links as links
 use Rattle.sg_gateway.specs.Events.{outcomes_from}
@@ -146,13 +146,13 @@ module _ (until top : ℕ) (readings : List ℕ) (receipts : List Received) (es 
       ∙ with_events_again es (ticks_of top' r) (stopped ForReceive (record { readings = []; receipts = []; draws = draws }))
 
   pub in_turn : (r : ℕ) (xs : List Received) → length xs ≤ 1 → (later : Later) (draws : List ℕ)
-      → (rest : Course) × (waited until later top (readings ++ r ∷ []) (receipts ++ xs) draws ≡ with_events (es ++ turned top' r xs) rest)
+      → (rest : Trace) × (waited until later top (readings ++ r ∷ []) (receipts ++ xs) draws ≡ with_events (es ++ turned top' r xs) rest)
   in_turn r [] one later draws = (
     stopped ForReceive (record { readings = []; receipts = []; draws = draws }),
     goes later (r ∷ []) [] draws ∙ with_events_again es (ticks_of top' r) (stopped ForReceive (record { readings = []; receipts = []; draws = draws })),
   )
   in_turn r (x ∷ []) one later draws =
-      let rest : Course = (if nat_le until (moment_of r) then later (max top' (moment_of r)) (record { readings = []; receipts = []; draws = draws }) else waited until later (max top' (moment_of r)) [] [] draws) in
+      let rest : Trace = (if nat_le until (moment_of r) then later (max top' (moment_of r)) (record { readings = []; receipts = []; draws = draws }) else waited until later (max top' (moment_of r)) [] [] draws) in
       (rest, goes later (r ∷ []) (x ∷ []) draws ∙ with_events_again es (ticks_of top' r ++ arrivals_of x) rest)
   in_turn r (x ∷ y ∷ xs) one later draws = absurd (omega (arith, one))
 
@@ -274,7 +274,7 @@ module _ (until top : ℕ) (readings : List ℕ) (receipts : List Received) (es 
           subst (λ (l : List ℕ). AreInOrder (λ xs. outcomes_from w (waited until later top l xs draws).events) (calls ++ calls')) (sym (append_assoc readings readings' rs))
           (order_more (λ xs. outcomes_from w (waited until later top (readings ++ (readings' ++ rs)) xs draws).events)
           (λ xs. outcomes_from (world_after w es) (waited until later top' (readings' ++ rs) xs draws).events) (outcomes_from w es) calls calls'
-          (λ xs. ap (λ (c : Course). outcomes_from w c.events)
+          (λ xs. ap (λ (c : Trace). outcomes_from w c.events)
           (ap (λ (m : List Received). waited until later top (readings ++ (readings' ++ rs)) (m ++ xs) draws) is ∙ goes later (readings' ++ rs) xs draws)
           ∙ outcomes_from-append w es (waited until later top' (readings' ++ rs) xs draws).events)
           done.asked (before later (readings' ++ rs) draws) (rest_order turn later rs draws))

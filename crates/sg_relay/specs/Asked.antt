@@ -7,7 +7,7 @@ use Rattle.sg_edge.specs.Links as links
 use Rattle.sg_gateway.specs.Ports.{port_at}
 use Rattle.sg_outcome.specs.declared.outcomes.Outcome.{Outcome}
 use Rattle.sg_outcome.specs.declared.outcomes.Outcome.TheVariants.{Made, Live, Sdp, Refused, Ended, Out, Dropped, Unsent}
-use Rattle.sg_course.specs.Output.{IsPrefixOf, text}
+use Rattle.sg_trace.specs.Output.{IsPrefixOf, text}
 
 -- what an outcome asks of a link
 pub data Ask : Type 0 where

@@ -1,9 +1,9 @@
 -- Which object's failure each status blames, and which statuses each part of a relay may answer.
 use Rattle.std.specs.Prelude.{◌≡◌, ◌⊎◌, ◌≤◌, ℕ, Bool, Option, Result, Ok, Err}
 use Rattle.sg_edge.specs.Told.{Rose}
-use Rattle.sg_course.specs.Causes.{HasFailed}
-use Rattle.sg_course.specs.declared.status.Status.{Status}
-use Rattle.sg_course.specs.declared.status.Status.TheVariants.{Write, Link, NoMemory, Clock, Noise, TurnsSpent}
+use Rattle.sg_trace.specs.Causes.{HasFailed}
+use Rattle.sg_trace.specs.declared.status.Status.{Status}
+use Rattle.sg_trace.specs.declared.status.Status.TheVariants.{Write, Link, NoMemory, Clock, Noise, TurnsSpent}
 
 -- The count of failures stays where none is told, and else has this cause.
 abbrev pub IsDueTo : {T : Type 0} → Status → Result T Status → ℕ → ℕ → Option Bool → Type 0

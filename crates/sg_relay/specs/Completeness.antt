@@ -1,16 +1,16 @@
 -- Where nothing but sends fails, a relay handles its script to the end.
 use Rattle.std.specs.Prelude.{◌≡◌, ◌⊎◌, ℕ, ◌+◌, List, length, Option, Some}
-use Rattle.sg_course.specs.Course.{ForReading}
-use Rattle.sg_course.specs.Grammar.{IsScript}
-use Rattle.sg_course.specs.declared.status.Status.{Status}
-use Rattle.sg_course.specs.declared.status.Status.TheVariants.{Done, NoMemory}
+use Rattle.sg_trace.specs.Trace.{ForReading}
+use Rattle.sg_trace.specs.Grammar.{IsScript}
+use Rattle.sg_trace.specs.declared.status.Status.{Status}
+use Rattle.sg_trace.specs.declared.status.Status.TheVariants.{Done, NoMemory}
 use Rattle.sg_edge.specs.Told.{Rose}
 use Rattle.sg_relay.specs.Asked.{AreGood}
-use Rattle.sg_relay.specs.Relay.{Passed, course_of}
+use Rattle.sg_relay.specs.Relay.{Passed, trace_of}
 
 -- no `tick` line asks for a turn beyond these
 abbrev pub AsksNoMore : ℕ → Passed → Type 0
-AsksNoMore turns p = (course_of p).stop ≡ ForReading → length p.readings ≡ turns + 1 → ⊥
+AsksNoMore turns p = (trace_of p).stop ≡ ForReading → length p.readings ≡ turns + 1 → ⊥
 
 -- Where the source's octets are a script, its `tick` lines ask for no more turns, and no call of the link has
 -- failed, or none but sends has, the relay handles the script to its end, or memory runs out.

@@ -1,10 +1,10 @@
 -- What the parts of a relay leave.
 use Rattle.std.specs.Prelude.{◌≡◌, ◌⊎◌, ◌<◌, ◌≤◌, ◌+◌, length, max, ℕ, List, [], ◌∷◌, ◌++◌, Result, Ok, Err, ⊤}
 use Rattle.sg_base.specs.declared.faults.Failed.{Failed}
-use Rattle.sg_course.specs.Course.{Command, Course, ForDraw, ForReading, ForReceive, Later, Outside, Stop, arrivals_of, moment_of, said, stopped, ticks_of, waited, with_events}
-use Rattle.sg_course.specs.Output.{IsPrefixOf}
-use Rattle.sg_course.specs.declared.status.Status.{Status}
-use Rattle.sg_course.specs.declared.status.Status.TheVariants.{Link, Clock, Noise, TurnsSpent}
+use Rattle.sg_trace.specs.Trace.{Command, Trace, ForDraw, ForReading, ForReceive, Later, Outside, Stop, arrivals_of, moment_of, said, stopped, ticks_of, waited, with_events}
+use Rattle.sg_trace.specs.Output.{IsPrefixOf}
+use Rattle.sg_trace.specs.declared.status.Status.{Status}
+use Rattle.sg_trace.specs.declared.status.Status.TheVariants.{Link, Clock, Noise, TurnsSpent}
 use Rattle.sg_edge.specs.Links.{Failing, LinkCall, Receive, Received}
 use Rattle.sg_gateway.specs.Events.{events_of, outcomes_from}
 use Rattle.sg_gateway.specs.Runs.{world_after}
@@ -87,7 +87,7 @@ ArePairs readings calls = (length readings ≡ length (receipts_in calls)) ⊎ (
 abbrev pub IsWaitCut : Status → ℕ → World → ℕ → List ℕ → List LinkCall → List ℕ → Type 0
 IsWaitCut status until w top readings calls out =
     (events : List Event)
-    × ((later : Later) (draws : List ℕ) → (rest : Course) × (waited until later top readings (receipts_in calls) draws ≡ with_events events rest))
+    × ((later : Later) (draws : List ℕ) → (rest : Trace) × (waited until later top readings (receipts_in calls) draws ≡ with_events events rest))
     × StopsWith status (outcomes_from w events) calls out × ArePairs readings calls
 
 -- A wait is over, or comes to its next reading, or ended in a turn.
@@ -133,7 +133,7 @@ pub record IsStopped (k : Command) (l : Line) (w : World) (top : ℕ) (stop : St
 abbrev pub IsLineCut : Status → Command → Line → World → ℕ → List ℕ → List LinkCall → List ℕ → List ℕ → Type 0
 IsLineCut status k l w top readings calls draws out =
     (events : List Event)
-    × ((later : Later) → (rest : Course) × (said k l later top (taken readings (receipts_in calls) draws) ≡ with_events events rest))
+    × ((later : Later) → (rest : Trace) × (said k l later top (taken readings (receipts_in calls) draws) ≡ with_events events rest))
     × StopsWith status (outcomes_from w events) calls out × ArePairs readings calls
 
 -- A line was handled, or a front was done.

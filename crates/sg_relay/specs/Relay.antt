@@ -5,10 +5,10 @@ use Rattle.sg_edge.specs.Links.{Added, LinkCall, Received}
 use Rattle.sg_edge.specs.Told.{TookIn, Wrote, AtEnd}
 use Rattle.sg_gateway.specs.Runs.{outcomes}
 use Rattle.sg_outcome.specs.declared.outcomes.Outcome.{Outcome}
-use Rattle.sg_course.specs.declared.status.Status.{Status}
-use Rattle.sg_course.specs.declared.status.Status.TheVariants.{Done, Usage, Script, Read, Write, Link, NoMemory, Clock, Noise, TurnsSpent}
+use Rattle.sg_trace.specs.declared.status.Status.{Status}
+use Rattle.sg_trace.specs.declared.status.Status.TheVariants.{Done, Usage, Script, Read, Write, Link, NoMemory, Clock, Noise, TurnsSpent}
 use Rattle.sg_relay.specs.Asked.{AreGood, AreInOrder, AtFailedReceive, IsCutOff, IsDone, IsPart, receipts_in}
-use Rattle.sg_course.specs.Course.{AtEnd as BehindAll, AtFault, Course, ForDraw, ForReading, ForReceive, Outside, woven}
+use Rattle.sg_trace.specs.Trace.{AtEnd as BehindAll, AtFault, Trace, ForDraw, ForReading, ForReceive, Outside, woven}
 
 -- what passed between a run and the outside, each in order: the octets read and those written, the calls of
 -- the link, the readings of the clock and the octets drawn
@@ -19,9 +19,9 @@ pub record Passed : Type 0 where
   pub readings : List ℕ
   pub draws : List ℕ
 
--- the course that it makes
-abbrev pub course_of : Passed → Course
-course_of p = woven p.octets p.readings (receipts_in p.calls) p.draws
+-- the trace that it makes
+abbrev pub trace_of : Passed → Trace
+trace_of p = woven p.octets p.readings (receipts_in p.calls) p.draws
 
 -- the outcomes of its events, had it received no more than this
 abbrev pub outcomes_by : Passed → List Received → List Outcome
@@ -32,15 +32,15 @@ nothing = record { readings = []; receipts = []; draws = [] }
 
 -- All that the events ask for was done, and no reading, receive or draw was taken besides. No call of the link
 -- but a send has failed.
-pub record IsWhole (p : Passed) (stop : Rattle.sg_course.specs.Course.Stop) : Type 0 where
-  pub stops : (course_of p).stop ≡ stop
-  pub left : (course_of p).left ≡ nothing
-  pub done : IsDone (outcomes (course_of p).events) p.calls p.out
+pub record IsWhole (p : Passed) (stop : Rattle.sg_trace.specs.Trace.Stop) : Type 0 where
+  pub stops : (trace_of p).stop ≡ stop
+  pub left : (trace_of p).left ≡ nothing
+  pub done : IsDone (outcomes (trace_of p).events) p.calls p.out
   pub good : AreGood p.calls
 
 -- Of what the events ask for a front was done and written, and no call of the link but a send has failed.
 pub record IsBroken (p : Passed) : Type 0 where
-  pub part : IsPart (outcomes (course_of p).events) p.calls p.out
+  pub part : IsPart (outcomes (trace_of p).events) p.calls p.out
   pub good : AreGood p.calls
 
 -- The status, by what passed, what the source has left, and the most turns. With Done all is handled and the
@@ -54,11 +54,11 @@ abbrev pub Ends : Status → ℕ → Passed → Option (List ℕ) → Type 0
 Ends Done turns p left = IsWhole p BehindAll × AtEnd left
 Ends (Script n fault) turns p left =
     IsWhole p (AtFault n fault) × (fault ≡ Unended → AtEnd left)
-    × (¬ (fault ≡ Unended) → (more : List ℕ) → (course_of (record p { octets = p.octets ++ more })).stop ≡ AtFault n fault)
+    × (¬ (fault ≡ Unended) → (more : List ℕ) → (trace_of (record p { octets = p.octets ++ more })).stop ≡ AtFault n fault)
 Ends TurnsSpent turns p left = IsWhole p ForReading × (length p.readings ≡ turns + 1)
 Ends Clock turns p left = IsWhole p ForReading × (length p.readings ≤ turns)
 Ends Noise turns p left = IsWhole p ForDraw
-Ends Link turns p left = AtFailedReceive (λ before. IsWhole (record p { calls = before }) ForReceive) p.calls ⊎ IsCutOff (outcomes (course_of p).events) p.calls p.out
+Ends Link turns p left = AtFailedReceive (λ before. IsWhole (record p { calls = before }) ForReceive) p.calls ⊎ IsCutOff (outcomes (trace_of p).events) p.calls p.out
 Ends Read turns p left = IsBroken p
 Ends Write turns p left = IsBroken p
 Ends NoMemory turns p left = IsBroken p

@@ -1,7 +1,7 @@
 //! What a relay does at a line of its script.
 
 ghost use Rattle.std.specs.Prelude.{◌≡◌, ◌≤◌, ◌+◌, ℕ, [], List, Bool, IfErr, IfOk, None, length};
-ghost use Rattle.sg_course.specs.Course.{Command, Relays, last_moment, wait_in};
+ghost use Rattle.sg_trace.specs.Trace.{Command, Relays, last_moment, wait_in};
 ghost use Rattle.sg_edge.specs.Links.{Added, LinkCall};
 ghost use Rattle.sg_edge.specs.Told.{Wrote};
 ghost use Rattle.sg_gateway.specs.World.{World};
@@ -14,10 +14,10 @@ ghost use Rattle.sg_table.specs.Telling.{IsTimely};
 
 use crate::turns::{arrive, obey, wait};
 use sg_base::{Failed, Pad, TICK_MOST};
-use sg_course::{Status, supply};
 use sg_edge::{Clock, Link, Noise, Sink};
 use sg_lines::{Line, Signal};
 use sg_table::Table;
+use sg_trace::{Status, supply};
 use std::alloc::Global;
 
 /// The moment until which a relay that began at this moment waits, where the signal is a tick.

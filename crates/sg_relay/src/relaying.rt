@@ -1,16 +1,16 @@
 //! The relay.
 
 ghost use Rattle.std.specs.Prelude.{◌≡◌, ◌≤◌, ◌+◌, ◌^◌, ℕ};
-ghost use Rattle.sg_course.specs.Causes.{HasFailed};
+ghost use Rattle.sg_trace.specs.Causes.{HasFailed};
 ghost use Rattle.sg_edge.specs.Told.{Rose};
 ghost use Rattle.sg_relay.specs.Completeness.{IsComplete};
 ghost use Rattle.sg_relay.specs.Relay.{IsRelay, Passed};
 
 use crate::lines::{begin, say};
 use sg_base::{NoMemory, Pad};
-use sg_course::{ScriptReader, Status};
 use sg_edge::{Clock, Link, Noise, Sink, Source};
 use sg_table::Table;
+use sg_trace::{ScriptReader, Status};
 use std::alloc::Global;
 
 /// Handles the lines of the source in order, and at a `tick` line takes turns until a reading of the clock is

@@ -10,11 +10,11 @@ ghost use Rattle.sg_relay.specs.Parts.{AreCarriedOut, IsHeld};
 ghost use Rattle.sg_table.specs.Handling.{outcome_of};
 
 use sg_base::{Address, Failed, MEDIUM_PORTS};
-use sg_course::{Status, tell};
 use sg_edge::{Link, Sink};
 use sg_gateway::port_at;
 use sg_outcome::Outcome;
 use sg_table::{End, Handled};
+use sg_trace::{Status, tell};
 use std::alloc::Global;
 
 /// Binds a port, or gives it up.

@@ -1,7 +1,7 @@
 //! The turns of a relay: a reading of the clock, then a receive.
 
 ghost use Rattle.std.specs.Prelude.{◌≡◌, ◌≤◌, ◌+◌, ℕ, List, Bool, IfErr, false, max};
-ghost use Rattle.sg_course.specs.Course.{arrivals_of, last_moment, ticks_at};
+ghost use Rattle.sg_trace.specs.Trace.{arrivals_of, last_moment, ticks_at};
 ghost use Rattle.sg_edge.specs.Links.{Added, Came, LinkCall, Received};
 ghost use Rattle.sg_edge.specs.Told.{Wrote};
 ghost use Rattle.sg_gateway.specs.Events.{events_of_signal, signal_lacks_noise};
@@ -13,10 +13,10 @@ ghost use Rattle.sg_table.specs.Telling.{IsTimely};
 
 use crate::telling::{carry_out_all, pass_on};
 use sg_base::{Address, Failed, NoMemory, Pad, TICK_MOST};
-use sg_course::Status;
 use sg_edge::{Clock, Link, Receipt, Sink};
 use sg_lines::Signal;
 use sg_table::Table;
+use sg_trace::Status;
 use std::alloc::Global;
 
 /// Has the table handle a signal, and does what its outcomes ask for.

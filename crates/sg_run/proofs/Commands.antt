@@ -1,12 +1,12 @@
 -- What a run did, by how its words were read.
 use Rattle.std.proofs.Common.{◌≡◌, ◌⊎◌, ◌≤◌, ℕ, List, [], Bool, Option, Result, Ok, Err, refl, sym, ap, ◌∙◌, subst, inl, inr, arith}
 use Rattle.std.proofs.lemmas.List.{append-nil}
-use Rattle.sg_course.proofs.Causes.{not_failed}
-use Rattle.sg_course.specs.Causes.{HasFailed}
-use Rattle.sg_course.specs.Course.{replayed}
-use Rattle.sg_course.specs.Output.{output}
-use Rattle.sg_course.specs.declared.status.Status.{Status}
-use Rattle.sg_course.specs.declared.status.Status.TheVariants.{Done, Usage, Script, Read, Write, Link, NoMemory, Clock, Noise, TurnsSpent}
+use Rattle.sg_trace.proofs.Causes.{not_failed}
+use Rattle.sg_trace.specs.Causes.{HasFailed}
+use Rattle.sg_trace.specs.Trace.{replayed}
+use Rattle.sg_trace.specs.Output.{output}
+use Rattle.sg_trace.specs.declared.status.Status.{Status}
+use Rattle.sg_trace.specs.declared.status.Status.TheVariants.{Done, Usage, Script, Read, Write, Link, NoMemory, Clock, Noise, TurnsSpent}
 use Rattle.sg_demo.specs.Demonstration.{demonstration, events_in}
 use Rattle.sg_demo.specs.Text.{IsShown, summary_text}
 use Rattle.sg_edge.proofs.Links.{added_none}

@@ -1,9 +1,9 @@
 -- What a run did, by the command that its words are.
 use Rattle.std.specs.Prelude.{◌≡◌, ℕ, List, Option}
-use Rattle.sg_course.specs.Course.{replayed}
-use Rattle.sg_course.specs.Output.{IsPrefixOf}
-use Rattle.sg_course.specs.declared.status.Status.{Status}
-use Rattle.sg_course.specs.declared.status.Status.TheVariants.{Done}
+use Rattle.sg_trace.specs.Trace.{replayed}
+use Rattle.sg_trace.specs.Output.{IsPrefixOf}
+use Rattle.sg_trace.specs.declared.status.Status.{Status}
+use Rattle.sg_trace.specs.declared.status.Status.TheVariants.{Done}
 use Rattle.sg_demo.specs.Demonstration.{demonstration, events_in}
 use Rattle.sg_demo.specs.Text.{IsShown, summary_text}
 use Rattle.sg_edge.specs.Links.{LinkCall}
@@ -12,7 +12,7 @@ use Rattle.sg_gateway.specs.Step.{Event}
 use Rattle.sg_playback.specs.Replay.{IsReplay}
 use Rattle.sg_playback.specs.Replay as replays
 use Rattle.sg_relay.specs.Completeness.{IsComplete}
-use Rattle.sg_relay.specs.Relay.{IsRelay, Passed, course_of}
+use Rattle.sg_relay.specs.Relay.{IsRelay, Passed, trace_of}
 use Rattle.sg_relay.specs.Relay as relays
 use Rattle.sg_words.specs.Commands.{AreWordsOf, Words}
 use Rattle.sg_words.specs.declared.command.Command.TheVariants.{Replay, Relay, Demo}
@@ -61,7 +61,7 @@ pub record OnlyLinkFailed (old new : Failures) : Type 0 where
 pub record HasRelayed (turns : ℕ) (status : Status) (old new : Outside) (events : List Event) : Type 0 where
   pub passed : Passed
   pub is : IsRelay status turns (of_relay old) (of_relay new) passed
-  pub events_are : events ≡ (course_of passed).events
+  pub events_are : events ≡ (trace_of passed).events
   pub complete : OnlyLinkFailed old.failures new.failures
       → IsComplete status turns old.left new.left old.failures.link new.failures.link passed
 

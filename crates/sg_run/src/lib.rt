@@ -3,6 +3,6 @@
 
 mod top;
 
-pub use sg_course::Status;
 pub use sg_demo::{Summary, traffic};
+pub use sg_trace::Status;
 pub use top::run;

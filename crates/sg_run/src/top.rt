@@ -1,7 +1,7 @@
 //! The top call.
 
 ghost use Rattle.std.specs.Prelude.{◌≡◌, ◌⊎◌, ◌≤◌, ◌+◌, ◌^◌, ℕ, List, map, string_bytes, None};
-ghost use Rattle.sg_course.specs.Causes.{HasFailed};
+ghost use Rattle.sg_trace.specs.Causes.{HasFailed};
 ghost use Rattle.sg_edge.specs.Told.{Rose};
 ghost use Rattle.sg_gateway.specs.Step.{Event};
 ghost use Rattle.sg_playback.specs.Replay.{IsComplete};
@@ -10,12 +10,12 @@ ghost use Rattle.sg_run.specs.Run.{HasRun};
 ghost use Rattle.sg_words.specs.Commands.{AreWordsOf, IsNoCommand};
 ghost use Rattle.sg_words.specs.declared.command.Command.TheVariants.{Replay, Relay, Demo};
 
-use sg_course::Status;
 use sg_demo::demo;
 use sg_edge::{Clock, Link, Noise, Sink, Source};
 use sg_lanes::Gate;
 use sg_playback::replay;
 use sg_relay::relay;
+use sg_trace::Status;
 use sg_words::{Command, CommandFault, read_command};
 use std::alloc::Global;
 use std::thread::Threads;

@@ -1,10 +1,10 @@
 use Rattle.std.proofs.Common.{rules, ◌≡◌, ◌⊎◌, ℕ, List, [], ◌++◌, length, map, None, IfSome, Ok, Err, sym, ap, ◌∙◌, subst, inl, inr, arith, length-append}
-use Rattle.sg_course.proofs.Courses.{whole_some, world_after-append}
-use Rattle.sg_course.proofs.Causes.{failed_as, failed_now, not_failed, ok_not}
-use Rattle.sg_course.specs.declared.status.Status.TheVariants.{Read, Noise}
+use Rattle.sg_trace.proofs.Traces.{whole_some, world_after-append}
+use Rattle.sg_trace.proofs.Causes.{failed_as, failed_now, not_failed, ok_not}
+use Rattle.sg_trace.specs.declared.status.Status.TheVariants.{Read, Noise}
 use Rattle.sg_lines.specs.LineText.{FitsLine}
-use Rattle.sg_course.specs.Reading.{IsNext, IsRead, Reading}
-use Rattle.sg_course.specs.Output.{output}
+use Rattle.sg_trace.specs.Reading.{IsNext, IsRead, Reading}
+use Rattle.sg_trace.specs.Output.{output}
 use Rattle.sg_edge.proofs.Links.{added_more}
 use Rattle.sg_edge.proofs.Passed.{wrote_more}
 use Rattle.sg_gateway.specs.Runs.{world_after}

@@ -1,7 +1,7 @@
 use Rattle.std.proofs.Common.{◌≡◌, ◌∙◌, take, subst, ap}
 use Rattle.std.proofs.lemmas.List.{take_all}
 use Rattle.std.specs.List.{flat_map}
-use Rattle.sg_course.proofs.Causes.{failed_now}
+use Rattle.sg_trace.proofs.Causes.{failed_now}
 use Rattle.sg_edge.specs.Told.{Wrote}
 use Rattle.sg_outcome.specs.OutcomeText.{outcome_line}
 use Rattle.sg_playback.proofs.Tells.{more_written, part_written}

@@ -1,6 +1,6 @@
 use Rattle.std.proofs.Common.{ℕ, [], ◌∷◌, refl, subst}
 use Rattle.std.specs.Prelude.{Ok, Err}
-use Rattle.sg_course.specs.Course.{moment_of}
+use Rattle.sg_trace.specs.Trace.{moment_of}
 use Rattle.sg_gateway.specs.Events.{events_of}
 use Rattle.sg_lines.specs.declared.lines.Line.TheVariants as lines
 use Rattle.sg_lines.specs.declared.lines.Signal.TheVariants.{Tick}

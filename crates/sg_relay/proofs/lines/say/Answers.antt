@@ -1,5 +1,5 @@
 use Rattle.std.proofs.Common.{sym, ap, [], ◌∙◌, refl}
-use Rattle.sg_course.specs.Course.{Relays, arrivals_of, wait_in}
+use Rattle.sg_trace.specs.Trace.{Relays, arrivals_of, wait_in}
 use Rattle.sg_edge.proofs.Links.{added_none}
 use Rattle.sg_edge.specs.Links.{Came}
 use Rattle.sg_edge.proofs.Passed.{wrote_none}

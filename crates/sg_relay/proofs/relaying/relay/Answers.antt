@@ -1,8 +1,8 @@
 use Rattle.std.proofs.Common.{rules, ◌≡◌, ◌⊎◌, ◌<◌, ◌^◌, ℕ, List, [], ◌++◌, Ok, Err, sym, ◌∙◌, subst, refl, arith}
-use Rattle.sg_course.proofs.Causes.{failed_now}
-use Rattle.sg_course.proofs.Courses.{world_after-append}
-use Rattle.sg_course.specs.Reading.{IsNext, IsRead}
-use Rattle.sg_course.specs.declared.status.Status.TheVariants.{Done, Read, Write, Link, Clock, Noise}
+use Rattle.sg_trace.proofs.Causes.{failed_now}
+use Rattle.sg_trace.proofs.Traces.{world_after-append}
+use Rattle.sg_trace.specs.Reading.{IsNext, IsRead}
+use Rattle.sg_trace.specs.declared.status.Status.TheVariants.{Done, Read, Write, Link, Clock, Noise}
 use Rattle.sg_edge.specs.Told.{AtEnd}
 use Rattle.sg_edge.proofs.Links.{added_none}
 use Rattle.sg_edge.proofs.Passed.{rose_later, took_none}

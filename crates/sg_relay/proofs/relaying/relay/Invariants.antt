@@ -1,5 +1,5 @@
 use Rattle.std.proofs.Common.{◌≡◌, ◌≤◌, ◌+◌, ◌-◌, ◌^◌, List}
-use Rattle.sg_course.specs.Course.{last_moment}
+use Rattle.sg_trace.specs.Trace.{last_moment}
 use Rattle.sg_gateway.specs.Runs.{world_after}
 use Rattle.sg_gateway.specs.Step.{Event}
 use Rattle.sg_gateway.specs.World.{empty}

@@ -1,5 +1,5 @@
 use Rattle.std.proofs.Common.{[], ◌∷◌, subst}
-use Rattle.sg_course.specs.Course.{arrivals_of}
+use Rattle.sg_trace.specs.Trace.{arrivals_of}
 use Rattle.sg_edge.specs.Links.{Came}
 use Rattle.sg_table.specs.Handling.{outcome_of}
 use Rattle.sg_table.specs.Standing.{TableStandsFor}

@@ -3,7 +3,7 @@ use Rattle.std.specs.Prelude.{Ok}
 use Rattle.sg_edge.specs.Links.{Added, Came, Failing, Nothing, Receive, received}
 use Rattle.sg_edge.proofs.Links.{added_more}
 use Rattle.sg_edge.proofs.Passed.{wrote_none}
-use Rattle.sg_course.specs.Course.{arrivals_of}
+use Rattle.sg_trace.specs.Trace.{arrivals_of}
 use Rattle.sg_table.specs.Standing.{TableStandsFor}
 use Rattle.sg_relay.proofs.Deeds.{handled_none}
 use Rattle.sg_relay.proofs.Waits.{received_more, received_none}

@@ -1,6 +1,6 @@
 use Rattle.std.proofs.Common.{◌≤◌, ℕ, List, [], ◌∷◌, ◌++◌, length, max, refl, sym, ap, subst, ◌∙◌, arith}
 use Rattle.std.specs.Prelude.{Ok}
-use Rattle.sg_course.specs.Course.{ticks_at, ticks_of}
+use Rattle.sg_trace.specs.Trace.{ticks_at, ticks_of}
 use Rattle.sg_edge.specs.Links.{Received}
 use Rattle.sg_edge.proofs.Links.{added_more}
 use Rattle.sg_edge.proofs.Passed.{wrote_more}

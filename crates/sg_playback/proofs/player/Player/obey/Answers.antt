@@ -1,5 +1,5 @@
 use Rattle.std.proofs.Common.{◌∙◌, [], ◌++◌, map, refl, ap}
-use Rattle.sg_course.proofs.Causes.{not_failed, ok_not}
+use Rattle.sg_trace.proofs.Causes.{not_failed, ok_not}
 use Rattle.sg_edge.proofs.Links.{added_none}
 use Rattle.sg_edge.proofs.Passed.{wrote_more}
 use Rattle.sg_gateway.specs.Runs.{world_after}

@@ -1,5 +1,5 @@
 use Rattle.std.proofs.Common.{rules, ◌≡◌, ◌∙◌, ℕ, List, [], Ok, refl, sym, ap, subst}
-use Rattle.sg_course.proofs.Causes.{not_failed}
+use Rattle.sg_trace.proofs.Causes.{not_failed}
 use Rattle.sg_edge.proofs.Links.{added_none}
 use Rattle.sg_edge.proofs.Passed.{wrote_none}
 use Rattle.sg_gateway.specs.Runs.{world_after}

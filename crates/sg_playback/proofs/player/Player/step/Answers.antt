@@ -1,5 +1,5 @@
 use Rattle.std.proofs.Common.{◌≡◌, ap, sym, subst, ◌∙◌, refl}
-use Rattle.sg_course.specs.Output.{output_from, text}
+use Rattle.sg_trace.specs.Output.{output_from, text}
 use Rattle.sg_edge.proofs.Passed.{wrote_none}
 use Rattle.sg_gateway.specs.Events.{events_of_signal}
 use Rattle.sg_playback.proofs.Plays.{stepped, written_only}

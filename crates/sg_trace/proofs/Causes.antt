@@ -1,0 +1,42 @@
+-- How failures of the outside follow one another.
+use Rattle.std.proofs.Common.{◌≡◌, ◌≤◌, ℕ, Bool, true, Option, Ok, Err, ◌∙◌, arith}
+use Rattle.sg_edge.specs.Told.{Rose, Tells}
+use Rattle.sg_edge.proofs.Passed.{rose_later}
+use Rattle.sg_trace.specs.Causes.{HasFailed}
+
+-- what fails now has not failed before
+pub failed_now : (p : Type 0) (a b c : ℕ) (failed : Option Bool) → b ≡ a → HasFailed p b c failed → HasFailed p a c failed
+failed_now p a b c failed same now = record {
+  later = omega (arith, same, now.later);
+  rose = λ is. rose_later a b c (omega (arith, same)) (now.rose is);
+  told = now.told;
+  quiet = λ isnt. now.quiet isnt ∙ same;
+}
+
+-- by another name
+pub failed_as : (p q : Type 0) (a b : ℕ) (failed : Option Bool) → (q → p) → (p → q) → HasFailed p a b failed → HasFailed q a b failed
+failed_as p q a b failed to from now = record {
+  later = now.later;
+  rose = λ is. now.rose (to is);
+  told = λ is. now.told (to is);
+  quiet = λ isnt. now.quiet (λ is. isnt (from is));
+}
+
+pub not_failed : (p : Type 0) (a b : ℕ) (failed : Option Bool) → b ≡ a → (p → ⊥) → HasFailed p a b failed
+not_failed p a b failed same isnt = record {
+  later = omega (arith, same);
+  rose = λ is. absurd (isnt is);
+  told = λ is. absurd (isnt is);
+  quiet = λ isnt. same;
+}
+
+pub has_failed : (p : Type 0) (a b : ℕ) (failed : Option Bool) → p → a ≤ b → Rose a b → Tells failed true → HasFailed p a b failed
+has_failed p a b failed is later rose told = record {
+  later = later;
+  rose = λ is. rose;
+  told = λ is. told;
+  quiet = λ isnt. absurd (isnt is);
+}
+
+pub ok_not : {T E : Type 0} (x : T) (e : E) → Ok x ≡ Err e → ⊥
+ok_not x e is = cc

@@ -1,0 +1,84 @@
+-- The trace of a script in the grammar comes to no fault.
+use Rattle.std.proofs.Common.{◌≡◌, ◌⊎◌, ◌+◌, ℕ, Bool, true, false, List, [], ◌∷◌, ◌++◌, length, max, Option, Some, None, Result, Ok, Err, refl, sym, ap, ◌∙◌, inl, inr}
+use Rattle.std.specs.Prelude.{nat_le, cond}
+use Rattle.std.proofs.lemmas.List.{append-nil}
+use Rattle.sg_base.specs.declared.faults.ScriptFault.{ScriptFault}
+use Rattle.sg_base.specs.declared.faults.ScriptFault.TheVariants.{Word, Number, Hex, Length, Version, Unended}
+use Rattle.sg_edge.specs.Links.{Received}
+use Rattle.sg_edge.specs.Told.{AtEnd, TookIn}
+use Rattle.sg_gateway.specs.Drawn.{Supplied, supplied}
+use Rattle.sg_lines.specs.ScriptLines.{lines_of}
+use Rattle.sg_lines.specs.declared.lines.Line.{Line}
+use Rattle.sg_trace.specs.Trace.{AtFault, Command, Trace, Later, Outside, Relays, Replays, after_line, trace_from, handled_as, line_at, moment_of, replayed, said_by, wait_in, waited, woven}
+use Rattle.sg_trace.specs.Grammar.{IsScript, fault_after, fault_from, fault_in}
+
+-- what follows tells no such fault
+abbrev Spares : Later → ℕ → ScriptFault → Type 0
+Spares later n f = (top : ℕ) (o : Outside) → (later top o).stop ≡ AtFault n f → ⊥
+
+module _ (n : ℕ) (f : ScriptFault) where
+  at_over : (b : Bool) (later : Later) (top : ℕ) (o : Outside) (c : Trace) → Spares later n f → (c.stop ≡ AtFault n f → ⊥) → (cond b (later top o) c).stop ≡ AtFault n f → ⊥
+  at_over true later top o c none more is = none top o is
+  at_over false later top o c none more is = more is
+
+  in_wait : (until : ℕ) (later : Later) → Spares later n f → (rs : List ℕ) (xs : List Received) (top : ℕ) (draws : List ℕ) → (waited until later top rs xs draws).stop ≡ AtFault n f → ⊥
+  in_wait until later none [] xs top draws is = absurd cc
+  in_wait until later none (r ∷ rs) [] top draws is = absurd cc
+  in_wait until later none (r ∷ rs) (x ∷ xs) top draws is =
+      at_over (nat_le until (moment_of r)) later (max top (moment_of r)) (record { readings = rs; receipts = xs; draws = draws }) (waited until later (max top (moment_of r)) rs xs draws) none
+      (in_wait until later none rs xs (max top (moment_of r)) draws) is
+
+  in_line : (s : Option Supplied) (later : Later) → Spares later n f → (top : ℕ) (o : Outside) → (handled_as s later top o).stop ≡ AtFault n f → ⊥
+  in_line None later none top o is = absurd cc
+  in_line (Some s) later none top o is = none top (record o { draws = s.draws }) is
+
+  in_said : (l : Line) (w : Option ℕ) (later : Later) → Spares later n f → (top : ℕ) (o : Outside) → (said_by l w later top o).stop ≡ AtFault n f → ⊥
+  in_said l (Some until) later none top o is = in_wait until later none o.readings o.receipts top o.draws is
+  in_said l None later none top o is = in_line (supplied o.draws l) later none top o is
+
+  in_lines : (k : Command) (m at : ℕ) (ls : List (List ℕ)) → (fault_from m at ls ≡ Some (n, f) → ⊥) → (top : ℕ) (o : Outside) → (trace_from k m at ls top o).stop ≡ AtFault n f → ⊥
+  in_lines k m at [] none top o is = absurd cc
+  in_lines k m at (l ∷ ls) none top o is = by_line (line_at m at l) (λ none. in_lines k (m + 1) (at + length l) ls none) none is
+    where
+      by_line : (r : Result Line ScriptFault) → ((fault_from (m + 1) (at + length l) ls ≡ Some (n, f) → ⊥) → Spares (trace_from k (m + 1) (at + length l) ls) n f) → (fault_after m r (fault_from (m + 1) (at + length l) ls) ≡ Some (n, f) → ⊥)
+          → (after_line k m r (trace_from k (m + 1) (at + length l) ls) top o).stop ≡ AtFault n f → ⊥
+      by_line (Err e) again none is = none (let same : AtFault m e ≡ AtFault n f = is in cc)
+      by_line (Ok l') again none is = in_said l' (wait_in k l') (trace_from k (m + 1) (at + length l) ls) (again none) top o is
+
+  none_some : (let none : Option (ℕ × ScriptFault) = None in none ≡ Some (n, f)) → ⊥
+  none_some is = cc
+
+  pub in_replay : (octets draws : List ℕ) → IsScript octets → (replayed octets draws).stop ≡ AtFault n f → ⊥
+  in_replay octets draws script is = in_lines Replays 1 0 (lines_of octets) (λ e. none_some (sym script ∙ e)) 0 _ is
+
+  pub in_relay : (octets readings : List ℕ) (receipts : List Received) (draws : List ℕ) → IsScript octets → (woven octets readings receipts draws).stop ≡ AtFault n f → ⊥
+  in_relay octets [] receipts draws script is = absurd cc
+  in_relay octets (r ∷ rs) receipts draws script is = in_lines (Relays (moment_of r)) 1 0 (lines_of octets) (λ e. none_some (sym script ∙ e)) (moment_of r) _ is
+
+-- ---- what was read of a source
+
+none_left : (left : Option (List ℕ)) (rest : List ℕ) → AtEnd left → left ≡ Some rest → rest ≡ []
+none_left None rest end is = cc
+none_left (Some l) rest end is = let same : l ≡ rest = cc in sym same ∙ end
+
+either : (f : ScriptFault) → (f ≡ Unended) ⊎ (¬ (f ≡ Unended))
+either Unended = inl refl
+either Word = inr (λ is. cc)
+either Number = inr (λ is. cc)
+either Hex = inr (λ is. cc)
+either Length = inr (λ is. cc)
+either Version = inr (λ is. cc)
+
+-- No fault is told of a source's script, where it would be that of the octets read, or of all octets.
+pub no_fault : (left left' : Option (List ℕ)) (octets all rest : List ℕ) (fault : ScriptFault) (fails : List ℕ → Type 0) → TookIn left left' octets → left ≡ Some all → left' ≡ Some rest
+    → IsScript all → ((o : List ℕ) → IsScript o → fails o → ⊥) → fails octets → (fault ≡ Unended → AtEnd left') → (¬ (fault ≡ Unended) → (more : List ℕ) → fails (octets ++ more)) → ⊥
+no_fault left left' octets all rest fault fails took told told' script spares here ended still =
+    let told_so : left ≡ Some (octets ++ rest) = took rest told' in
+    let same : all ≡ octets ++ rest = (let both : Some all ≡ Some (octets ++ rest) = sym told ∙ told_so in cc) in
+    let whole : IsScript (octets ++ rest) = ap fault_in (sym same) ∙ script in
+    elim (either fault) [
+      | inl end ↦
+          let octets_are : octets ++ rest ≡ octets = ap (λ (l : List ℕ). octets ++ l) (none_left left' rest (ended end) told') ∙ append-nil octets in
+          spares octets (ap fault_in (sym octets_are) ∙ whole) here
+      | inr other ↦ spares (octets ++ rest) whole (still other rest)
+    ]

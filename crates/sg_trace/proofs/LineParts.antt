@@ -1,0 +1,58 @@
+-- How the front of what waits becomes part of a line.
+use Rattle.std.proofs.Common.{◌≡◌, ◌⊎◌, ◌+◌, ◌-◌, ◌≤◌, ◌<◌, ℕ, true, false, List, [], ◌∷◌, ◌++◌, length, take, drop, sym, ap, ◌∙◌, subst, inl, inr, arith, append_assoc, length-append}
+use Rattle.std.specs.Prelude.{min}
+use Rattle.std.proofs.lemmas.Bool.{false≢true, eq-eqb, cases_lt}
+use Rattle.std.proofs.lemmas.List.{length-take-le, length-drop, drop-take, drop-drop, take-append-le}
+use Rattle.std.proofs.Math.ListN.{drop_of_length-le}
+use Rattle.std.proofs.Math.Seq.{take-append_seam, drop-append_seam}
+use Rattle.sg_base.specs.Fields.{Lacks}
+use Rattle.sg_lines.specs.ScriptLines.{NoEnd}
+use Rattle.sg_trace.specs.Fed.{EndsLine}
+
+no_end : (xs : List ℕ) → Lacks 10 xs → NoEnd xs
+no_end [] lacks = tt
+no_end (x ∷ xs) lacks = ((λ (e : x ≡ 10). false≢true (sym lacks.0 ∙ eq-eqb x 10 e)), no_end xs lacks.1)
+
+-- a line end in the front: the part up to it is whole
+pub cut_part : (waiting front before behind rest : List ℕ) (most : ℕ) → front ++ rest ≡ waiting → (front ≡ before ++ 10 ∷ behind) × Lacks 10 before
+    → EndsLine true (take (length before + 1) waiting) (drop (length before + 1) waiting) most
+cut_part waiting front before behind rest most is parts =
+    let whole : waiting ≡ (before ++ 10 ∷ []) ++ (behind ++ rest) = sym is ∙ ap (λ (l : List ℕ). l ++ rest) parts.0 ∙ append_assoc before (10 ∷ behind) rest ∙ sym (append_assoc before (10 ∷ []) (behind ++ rest)) in
+    let count : length before + 1 ≡ length (before ++ 10 ∷ []) = sym (length-append before (10 ∷ [])) in
+    let taken : take (length before + 1) waiting ≡ before ++ 10 ∷ [] = rw (count, whole) (take-append_seam (before ++ 10 ∷ []) (behind ++ rest)) in
+    (before, taken, no_end before parts.1)
+
+-- the octets up to the one at that place
+pub whole_at : (waiting front rest : List ℕ) (k most : ℕ) → front ++ rest ≡ waiting → k < length front → (front ≡ take k front ++ 10 ∷ drop (k + 1) front) × Lacks 10 (take k front)
+    → EndsLine true (take (k + 1) waiting) (drop (k + 1) waiting) most
+whole_at waiting front rest k most is lt parts =
+    let size : length (take k front) ≡ k = length-take-le k front (omega (arith, lt)) in
+    subst (λ (n : ℕ). EndsLine true (take (n + 1) waiting) (drop (n + 1) waiting) most) size (cut_part waiting front (take k front) (drop (k + 1) front) rest most is parts)
+
+-- no line end in the front, which is all of what waits or as much as may be
+pub uncut_part : (waiting front rest : List ℕ) (most : ℕ) → front ++ rest ≡ waiting → ((rest ≡ []) ⊎ (length front ≡ most)) → Lacks 10 front
+    → EndsLine false (take (length front) waiting) (drop (length front) waiting) most
+uncut_part waiting front rest most is all none =
+    let taken : take (length front) waiting ≡ front = subst (λ (w : List ℕ). take (length front) w ≡ front) is (take-append_seam front rest) in
+    let left : drop (length front) waiting ≡ rest = subst (λ (w : List ℕ). drop (length front) w ≡ rest) is (drop-append_seam front rest) in
+    rw (taken, left) (no_end front none, all)
+
+-- the front has as many octets as may be, or is all of what waits
+pub all_or_most : (waiting : List ℕ) (most m : ℕ) → m ≡ min (length waiting) most → (drop m waiting ≡ []) ⊎ (length (take m waiting) ≡ most)
+all_or_most waiting most m is =
+    elim (cases_lt most (length waiting)) [
+      | inl lt ↦ inr (length-take-le m waiting (omega (arith, is, lt)) ∙ omega (arith, is, lt))
+      | inr le ↦ inl (drop_of_length-le waiting (omega (arith, is, le)))
+    ]
+
+-- what is left of a part of a row behind its first octets
+pub behind_part : (row : List ℕ) (at end count : ℕ) → at ≤ end → end ≤ length row → count ≤ length (take (end - at) (drop at row))
+    → drop count (take (end - at) (drop at row)) ≡ take (end - (at + count)) (drop (at + count) row)
+behind_part row at end count order within few =
+    let size : length (take (end - at) (drop at row)) ≡ end - at = length-take-le (end - at) (drop at row) (omega (arith, length-drop at row, order, within)) in
+    let sum : end - at ≡ count + (end - (at + count)) = omega (arith, size, few, order) in
+    ap (λ (n : ℕ). drop count (take n (drop at row))) sum ∙ drop-take count (end - (at + count)) (drop at row) ∙ ap (λ (l : List ℕ). take (end - (at + count)) l) (drop-drop count at row)
+
+-- what was read to the front of a row is what waits
+pub read_part : (read behind : List ℕ) (n : ℕ) → n ≤ length read → take (n - 0) (drop 0 (read ++ behind)) ≡ take n read
+read_part read behind n within = let all : n - 0 ≡ n = omega arith in ap (λ (m : ℕ). take m (read ++ behind)) all ∙ take-append-le n read behind within

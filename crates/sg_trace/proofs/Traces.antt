@@ -1,0 +1,63 @@
+-- How a trace goes on, line by line.
+use Rattle.std.proofs.Common.{◌≡◌, ◌<◌, ◌+◌, ℕ, List, [], ◌∷◌, ◌++◌, length, Ok, refl, sym, ap, ◌∙◌, append_assoc, length-append, arith}
+use Rattle.std.specs.List.{flat_map}
+use Rattle.std.proofs.lemmas.Grind.{flat_map-append}
+use Rattle.sg_base.specs.declared.faults.ScriptFault.{ScriptFault}
+use Rattle.sg_gateway.specs.Events.{outcomes_from}
+use Rattle.sg_gateway.specs.Runs.{Turn, outcomes, turns_from, world_after}
+use Rattle.sg_gateway.specs.Step.{Event, step}
+use Rattle.sg_gateway.specs.World.{World, empty}
+use Rattle.sg_lines.proofs.Splits.{lines_of_whole}
+use Rattle.sg_lines.specs.ScriptLines.{IsWhole, lines_of}
+use Rattle.sg_lines.specs.declared.lines.Line.{Line}
+use Rattle.sg_outcome.specs.OutcomeText.{outcome_line}
+use Rattle.sg_trace.specs.Trace.{AtFault, Command, Trace, Outside, after_line, trace_from, line_at, said, stopped, with_events}
+use Rattle.sg_trace.specs.Output.{output, output_from, text}
+use Rattle.sg_trace.specs.Reading.{FirstFails}
+
+-- ---- lines
+
+pub whole_some : (line : List ℕ) → IsWhole line → 0 < length line
+whole_some line whole = omega (arith, ap length whole.1, length-append whole.0 (10 ∷ []))
+
+-- a line that is read
+pub reads_on : (k : Command) (n at : ℕ) (line rest : List ℕ) (l : Line) (top : ℕ) (o : Outside) → IsWhole line → line_at n at line ≡ Ok l
+    → trace_from k n at (lines_of (line ++ rest)) top o ≡ said k l (trace_from k (n + 1) (at + length line) (lines_of rest)) top o
+reads_on k n at line rest l top o whole is =
+    ap (λ ls. trace_from k n at ls top o) (lines_of_whole line rest whole)
+    ∙ ap (λ r. after_line k n r (trace_from k (n + 1) (at + length line) (lines_of rest)) top o) is
+
+-- a line outside the grammar
+pub stops_at : (k : Command) (n at : ℕ) (octets : List ℕ) (fault : ScriptFault) (top : ℕ) (o : Outside) → FirstFails n at octets fault
+    → trace_from k n at (lines_of octets) top o ≡ stopped (AtFault n fault) o
+stops_at k n at octets fault top o first =
+    ap (λ ls. trace_from k n at ls top o) first.split
+    ∙ ap (λ r. after_line k n r (trace_from k (n + 1) (at + length first.line) first.others) top o) first.fails
+
+-- ---- events
+
+pub with_events_again : (es fs : List Event) (c : Trace) → with_events es (with_events fs c) ≡ with_events (es ++ fs) c
+with_events_again es fs c = ap (λ (l : List Event). record c { events = l }) (sym (append_assoc es fs c.events))
+
+turns_from-append : (w : World) (es fs : List Event) → turns_from w (es ++ fs) ≡ turns_from w es ++ turns_from (world_after w es) fs
+turns_from-append w [] fs = refl
+turns_from-append w (e ∷ es) fs = ap (λ (l : List Turn). record { before = w; event = e; outcomes = (step w e).outcomes; entries = (step w e).entries } ∷ l) (turns_from-append (step w e).world es fs)
+
+pub world_after-append : (w : World) (es fs : List Event) → world_after w (es ++ fs) ≡ world_after (world_after w es) fs
+world_after-append w [] fs = refl
+world_after-append w (e ∷ es) fs = world_after-append (step w e).world es fs
+
+-- what events tell, and what further ones tell in the world after them
+pub outcomes_from-append : (w : World) (es fs : List Event) → outcomes_from w (es ++ fs) ≡ outcomes_from w es ++ outcomes_from (world_after w es) fs
+outcomes_from-append w es fs =
+    ap (λ ts. flat_map (λ (t : Turn). t.outcomes) ts) (turns_from-append w es fs)
+    ∙ flat_map-append (λ (t : Turn). t.outcomes) (turns_from w es) (turns_from (world_after w es) fs)
+
+pub outcomes-append : (es fs : List Event) → outcomes (es ++ fs) ≡ outcomes es ++ outcomes_from (world_after empty es) fs
+outcomes-append es fs = outcomes_from-append empty es fs
+
+pub output_from-append : (w : World) (es fs : List Event) → output_from w (es ++ fs) ≡ output_from w es ++ output_from (world_after w es) fs
+output_from-append w es fs = ap text (outcomes_from-append w es fs) ∙ flat_map-append outcome_line (outcomes_from w es) (outcomes_from (world_after w es) fs)
+
+pub output-append : (es fs : List Event) → output (es ++ fs) ≡ output es ++ output_from (world_after empty es) fs
+output-append es fs = output_from-append empty es fs

@@ -1,0 +1,81 @@
+-- How octets are written part by part.
+use Rattle.std.proofs.Common.{◌≡◌, ◌<◌, ◌+◌, ℕ, true, false, List, [], ◌∷◌, ◌++◌, length, take, drop, get_or, Option, Result, Ok, Err, refl, sym, ap, ◌∙◌, append_assoc}
+use Rattle.std.specs.Prelude.{is_ok}
+use Rattle.std.specs.List.{flat_map}
+use Rattle.std.proofs.lemmas.Bool.{false≢true}
+use Rattle.std.proofs.lemmas.Grind.{flat_map-append}
+use Rattle.std.proofs.lemmas.List.{append-nil, take-append-drop, take_more}
+use Rattle.sg_base.specs.declared.faults.Failed.{Failed}
+use Rattle.sg_edge.proofs.Passed.{wrote_more}
+use Rattle.sg_edge.specs.Told.{Wrote, WroteAll}
+use Rattle.sg_trace.specs.Output.{IsWritten, WroteFront}
+use Rattle.sg_trace.specs.declared.status.Status.{Status}
+use Rattle.sg_trace.specs.declared.status.Status.TheVariants.{Done, Usage, Script, Read, Write, Link, NoMemory, Clock, Noise, TurnsSpent}
+
+-- a call that answers well has written all
+pub wrote_all : (a b : Option (List ℕ)) (part : List ℕ) (r : Result (Unit {0}) Failed) → true ≡ is_ok r → WroteAll a b part r → Wrote a b part
+wrote_all a b part (Ok u) ok wrote = wrote
+wrote_all a b part (Err e) ok wrote = absurd (false≢true (sym ok))
+
+-- and one that doesn't a front
+pub wrote_front : (a b : Option (List ℕ)) (part : List ℕ) (r : Result (Unit {0}) Failed) → false ≡ is_ok r → WroteAll a b part r → WroteFront a b part
+wrote_front a b part (Ok u) err wrote = absurd (false≢true err)
+wrote_front a b part (Err e) err wrote = (wrote.0, (wrote.1, wrote.2), wrote.3)
+
+-- nothing is a prefix of all
+pub none_written : (a : Option (List ℕ)) (octets : List ℕ) → WroteFront a a octets
+none_written a octets = ([], (octets, refl), λ after is. (after, is, sym (append-nil after)))
+
+-- a front behind what was written
+pub front_behind : (a b c : Option (List ℕ)) (before octets behind : List ℕ) → Wrote a b before → WroteFront b c octets → WroteFront a c (before ++ (octets ++ behind))
+front_behind a b c before octets behind wrote front = (
+  before ++ front.0,
+  (
+    front.1.0 ++ behind,
+    ap (λ (l : List ℕ). before ++ (l ++ behind)) front.1.1 ∙ ap (λ (l : List ℕ). before ++ l) (append_assoc front.0 front.1.0 behind) ∙ sym (append_assoc before front.0 (front.1.0 ++ behind)),
+  ),
+  wrote_more a b c before front.0 wrote front.2,
+)
+
+-- what was written by an error is a front
+pub written_front : (status : Status) (a b : Option (List ℕ)) (octets : List ℕ) → IsWritten (Err status) a b octets → WroteFront a b octets
+written_front Write a b octets is = is
+written_front NoMemory a b octets is = is
+written_front Done a b octets is = absurd is
+written_front Usage a b octets is = absurd is
+written_front (Script n fault) a b octets is = absurd is
+written_front Read a b octets is = absurd is
+written_front Link a b octets is = absurd is
+written_front Clock a b octets is = absurd is
+written_front Noise a b octets is = absurd is
+written_front TurnsSpent a b octets is = absurd is
+
+-- and so it is of more octets, behind others
+pub written_behind : (status : Status) (a b c : Option (List ℕ)) (before octets behind : List ℕ) → Wrote a b before → IsWritten (Err status) b c octets
+    → IsWritten (Err status) a c (before ++ (octets ++ behind))
+written_behind Write a b c before octets behind wrote is = front_behind a b c before octets behind wrote is
+written_behind NoMemory a b c before octets behind wrote is = front_behind a b c before octets behind wrote is
+written_behind Done a b c before octets behind wrote is = absurd is
+written_behind Usage a b c before octets behind wrote is = absurd is
+written_behind (Script n fault) a b c before octets behind wrote is = absurd is
+written_behind Read a b c before octets behind wrote is = absurd is
+written_behind Link a b c before octets behind wrote is = absurd is
+written_behind Clock a b c before octets behind wrote is = absurd is
+written_behind Noise a b c before octets behind wrote is = absurd is
+written_behind TurnsSpent a b c before octets behind wrote is = absurd is
+
+-- ---- the texts of a list, one by one
+
+module _ {A : Type 0} (text_of : A → List ℕ) (xs : List A) (i : ℕ) (x : A) (within : i < length xs) (is : x ≡ get_or xs i x) where
+  -- the text of one more
+  pub next_text : flat_map text_of (take (i + 1) xs) ≡ flat_map text_of (take i xs) ++ text_of x
+  next_text =
+      ap (flat_map text_of) (take_more xs i x within ∙ ap (λ y. take i xs ++ y ∷ []) (sym is))
+      ∙ flat_map-append text_of (take i xs) (x ∷ []) ∙ ap (λ (l : List ℕ). flat_map text_of (take i xs) ++ l) (append-nil (text_of x))
+
+  -- the text of all, by that of one
+  pub all_text : flat_map text_of xs ≡ flat_map text_of (take i xs) ++ (text_of x ++ flat_map text_of (drop (i + 1) xs))
+  all_text =
+      ap (flat_map text_of) (sym (take-append-drop (i + 1) xs)) ∙ flat_map-append text_of (take (i + 1) xs) (drop (i + 1) xs)
+      ∙ ap (λ (l : List ℕ). l ++ flat_map text_of (drop (i + 1) xs)) next_text
+      ∙ append_assoc (flat_map text_of (take i xs)) (text_of x) (flat_map text_of (drop (i + 1) xs))

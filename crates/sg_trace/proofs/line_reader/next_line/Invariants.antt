@@ -1,0 +1,13 @@
+use Rattle.std.proofs.Common.{◌≡◌, ◌≤◌, ◌-◌, ◌++◌, ◌+◌, length, List, ℕ, vec_len}
+use Rattle.sg_edge.specs.Told.{TookIn}
+use Rattle.sg_lines.specs.ScriptLines.{NoEnd}
+use Rattle.sg_trace.proofs.line_reader.next_line.Given as goal
+
+abbrev pub invariant-loop-read_buffer : goal.invariant-loop-read_buffer
+invariant-loop-read_buffer g l =
+    ((got : List ℕ) × TookIn (g.S.Source.left l.fn.source) (g.S.Source.left l.source) got × (l.fn.read_buffer ++ got ≡ l.line.items ++ l.read_buffer) × (length got + l.budget ≡ l.fn.budget))
+    × NoEnd l.line.items × (g.S.Source.faults l.source ≡ g.S.Source.faults l.fn.source)
+    × (g.S.Source.given l.source + l.budget ≤ g.S.Source.given l.fn.source + l.fn.budget)
+
+abbrev pub decreases-loop-read_buffer : goal.decreases-loop-read_buffer
+decreases-loop-read_buffer g l = 70001 - vec_len l.line

@@ -1,0 +1,10 @@
+use Rattle.std.proofs.Common.{rules, ◌≡◌, ◌≤◌, ℕ, List, [], ◌++◌, length, take, sym, ap, ◌∙◌}
+use Rattle.sg_trace.proofs.LineParts.{read_part}
+use Rattle.sg_trace.proofs.read_buffer.ReadBuffer.fill.Goals as goal
+
+pub returns-clause-got : goal.returns-clause-got
+returns-clause-got g c =
+    let none : c.args.self.now ≡ [] = search rules in
+    let within : c.in_ok-n.n ≤ length c.read.new.part = search rules in
+    let got : List ℕ = take c.in_ok-n.n c.read.new.part in
+    (got, c.in_ok-n.ensures.took, read_part c.read.new.part _ c.in_ok-n.n within ∙ ap (λ (l : List ℕ). l ++ got) (sym none), search rules)

@@ -1,0 +1,45 @@
+-- What is written of outcomes.
+use Rattle.std.specs.Prelude.{◌≡◌, ℕ, List, ◌++◌, Option, Result, Ok, Err}
+use Rattle.std.specs.List.{flat_map}
+use Rattle.sg_trace.specs.declared.status.Status.{Status}
+use Rattle.sg_trace.specs.declared.status.Status.TheVariants.{Done, Usage, Script, Read, Write, Link, NoMemory, Clock, Noise, TurnsSpent}
+use Rattle.sg_edge.specs.Told.{Wrote}
+use Rattle.sg_gateway.specs.Events.{outcomes_from}
+use Rattle.sg_gateway.specs.Runs.{outcomes}
+use Rattle.sg_gateway.specs.Step.{Event}
+use Rattle.sg_gateway.specs.World.{World}
+use Rattle.sg_outcome.specs.declared.outcomes.Outcome.{Outcome}
+use Rattle.sg_outcome.specs.OutcomeText.{outcome_line}
+
+-- the lines of outcomes, joined
+abbrev pub text : List Outcome → List ℕ
+text told = flat_map outcome_line told
+
+-- what the events tell
+abbrev pub output : List Event → List ℕ
+output events = text (outcomes events)
+
+-- what they tell from a world on
+abbrev pub output_from : World → List Event → List ℕ
+output_from w events = text (outcomes_from w events)
+
+abbrev pub IsPrefixOf : {X : Type 0} → List X → List X → Type 0
+IsPrefixOf {X} front all = (rest : List X) × (all ≡ front ++ rest)
+
+-- a prefix of the octets was written
+abbrev pub WroteFront : Option (List ℕ) → Option (List ℕ) → List ℕ → Type 0
+WroteFront written written' octets = (front : List ℕ) × IsPrefixOf front octets × Wrote written written' front
+
+-- The octets were written, or a prefix of them.
+abbrev pub IsWritten : Result (Unit {0}) Status → Option (List ℕ) → Option (List ℕ) → List ℕ → Type 0
+IsWritten (Ok u) written written' octets = Wrote written written' octets
+IsWritten (Err Write) written written' octets = WroteFront written written' octets
+IsWritten (Err NoMemory) written written' octets = WroteFront written written' octets
+IsWritten (Err Done) written written' octets = ⊥
+IsWritten (Err Usage) written written' octets = ⊥
+IsWritten (Err (Script n fault)) written written' octets = ⊥
+IsWritten (Err Read) written written' octets = ⊥
+IsWritten (Err Link) written written' octets = ⊥
+IsWritten (Err Clock) written written' octets = ⊥
+IsWritten (Err Noise) written written' octets = ⊥
+IsWritten (Err TurnsSpent) written written' octets = ⊥

@@ -1,0 +1,21 @@
+-- What drawing the noise of a signal gives.
+use Rattle.std.specs.Prelude.{◌≡◌, ℕ, List, [], ◌++◌, Some, None, Result, Ok, Err}
+use Rattle.sg_gateway.specs.Drawn.{supplied}
+use Rattle.sg_lines.specs.declared.lines.Line.TheVariants as lines
+use Rattle.sg_lines.specs.declared.lines.Signal.{Signal}
+use Rattle.sg_trace.specs.declared.status.Status.{Status}
+use Rattle.sg_trace.specs.declared.status.Status.TheVariants.{Done, Usage, Script, Read, Write, Link, NoMemory, Clock, Noise, TurnsSpent}
+
+-- The signal has its noise, for which these octets were drawn and no other; or it lacks it, and none were.
+abbrev pub IsSupplied : Result Signal Status → Signal → List ℕ → Type 0
+IsSupplied (Ok s) signal draws = (later : List ℕ) → supplied (draws ++ later) (lines.Signal signal) ≡ Some (record { line = lines.Signal s; draws = later })
+IsSupplied (Err Noise) signal draws = (draws ≡ []) × (supplied [] (lines.Signal signal) ≡ None)
+IsSupplied (Err Done) signal draws = ⊥
+IsSupplied (Err Usage) signal draws = ⊥
+IsSupplied (Err (Script line fault)) signal draws = ⊥
+IsSupplied (Err Read) signal draws = ⊥
+IsSupplied (Err Write) signal draws = ⊥
+IsSupplied (Err Link) signal draws = ⊥
+IsSupplied (Err NoMemory) signal draws = ⊥
+IsSupplied (Err Clock) signal draws = ⊥
+IsSupplied (Err TurnsSpent) signal draws = ⊥

@@ -1,0 +1,133 @@
+-- The trace of a run: its events, by the lines of its script and by what it took of the outside.
+use Rattle.std.specs.Prelude.{ℕ, ◌+◌, ◌^◌, min, max, nat_lt, nat_le, if◌then◌else◌, List, [], ◌∷◌, ◌++◌, length, Option, Some, None, Result, Ok, Err}
+use Rattle.sg_base.specs.declared.faults.ScriptFault.{ScriptFault}
+use Rattle.sg_base.specs.declared.faults.ScriptFault.TheVariants.{Length}
+use Rattle.sg_edge.specs.Links.{Received, Came, Nothing, Failing}
+use Rattle.sg_lines.specs.LineOf.{line_of}
+use Rattle.sg_lines.specs.ScriptLines.{lines_of}
+use Rattle.sg_lines.specs.declared.lines.Line.{Line}
+use Rattle.sg_lines.specs.declared.lines.Line.TheVariants as lines
+use Rattle.sg_lines.specs.declared.lines.Signal.TheVariants.{Tick}
+use Rattle.sg_gateway.specs.Drawn.{Supplied, supplied}
+use Rattle.sg_gateway.specs.Events.{events_of}
+use Rattle.sg_gateway.specs.Step.{Event}
+
+-- the n-th line, which begins at this offset, or its first fault; a line ends within the first 2^30 octets
+-- of the script
+unfoldable pub line_at : ℕ → ℕ → List ℕ → Result Line ScriptFault
+line_at n at line = if nat_lt (2 ^ 30) (at + length line) then Err Length else line_of n line
+
+-- what a run took of the outside, each in order: readings of the clock, answers of receives, octets of noise
+pub record Outside : Type 0 where
+  pub readings : List ℕ
+  pub receipts : List Received
+  pub draws : List ℕ
+
+-- where the events of a run end: behind the last line; before the first line outside the grammar; or
+-- where a reading, a receive or a draw comes next that wasn't taken
+pub data Stop : Type 0 where
+  AtEnd : Stop
+  AtFault : ℕ → ScriptFault → Stop
+  ForReading : Stop
+  ForReceive : Stop
+  ForDraw : Stop
+
+-- the events of a run, where they end, and what of the outside they leave
+pub record Trace : Type 0 where
+  pub events : List Event
+  pub stop : Stop
+  pub left : Outside
+
+abbrev pub stopped : Stop → Outside → Trace
+stopped stop o = record { events = []; stop = stop; left = o }
+
+abbrev pub with_events : List Event → Trace → Trace
+with_events front c = record c { events = front ++ c.events }
+
+-- what the rest of a run makes of the greatest reading so far and of what was not taken yet
+abbrev pub Later : Type 0
+Later = ℕ → Outside → Trace
+
+-- ---- lines
+
+-- the line's events, once it has its noise, and what follows
+abbrev pub handled_as : Option Supplied → Later → Later
+handled_as None later top o = stopped ForDraw o
+handled_as (Some s) later top o = with_events (events_of s.line) (later top (record o { draws = s.draws }))
+
+abbrev pub handled : Line → Later → Later
+handled l later top o = handled_as (supplied o.draws l) later top o
+
+-- ---- time
+
+-- a reading counts as this at most
+abbrev pub last_moment : ℕ
+last_moment = 2085978495999
+
+abbrev pub moment_of : ℕ → ℕ
+moment_of reading = min reading last_moment
+
+-- a moment greater than all before is a tick
+abbrev pub ticks_at : ℕ → ℕ → List Event
+ticks_at top moment = if nat_lt top moment then events_of (lines.Signal (Tick moment)) else []
+
+abbrev pub ticks_of : ℕ → ℕ → List Event
+ticks_of top reading = ticks_at top (moment_of reading)
+
+-- a receive that gave a datagram is its arrival
+abbrev pub arrivals_of : Received → List Event
+arrivals_of (Came port from octets) = events_of (lines.Datagram port from octets)
+arrivals_of Nothing = []
+arrivals_of Failing = []
+
+-- A wait: turns are taken until a reading is at least this. A turn is one reading, then one receive.
+abbrev pub waited : ℕ → Later → ℕ → List ℕ → List Received → List ℕ → Trace
+waited until later top [] receipts draws = stopped ForReading (record { readings = []; receipts = receipts; draws = draws })
+waited until later top (r ∷ rs) [] draws = with_events (ticks_of top r) (stopped ForReceive (record { readings = rs; receipts = []; draws = draws }))
+waited until later top (r ∷ rs) (x ∷ xs) draws =
+    with_events (ticks_of top r ++ arrivals_of x)
+    (if nat_le until (moment_of r) then later (max top (moment_of r)) (record { readings = rs; receipts = xs; draws = draws })
+    else waited until later (max top (moment_of r)) rs xs draws)
+
+-- ---- scripts
+
+-- what a run does at a `tick` line: a replay hands it on; a relay, which began at this moment, waits
+pub data Command : Type 0 where
+  Replays : Command
+  Relays : ℕ → Command
+
+-- the moment of a `tick` line at which this run waits
+abbrev pub wait_in : Command → Line → Option ℕ
+wait_in (Relays began) (lines.Signal (Tick t)) = Some (began + t)
+wait_in k other = None
+
+abbrev pub said_by : Line → Option ℕ → Later → Later
+said_by l (Some until) later top o = waited until later top o.readings o.receipts o.draws
+said_by l None later top o = handled l later top o
+
+abbrev pub said : Command → Line → Later → Later
+said k l later top o = said_by l (wait_in k l) later top o
+
+abbrev pub after_line : Command → ℕ → Result Line ScriptFault → Later → Later
+after_line k n (Err fault) later top o = stopped (AtFault n fault) o
+after_line k n (Ok l) later top o = said k l later top o
+
+-- the lines from the n-th on, which begin at this offset
+abbrev pub trace_from : Command → ℕ → ℕ → List (List ℕ) → Later
+trace_from k n at [] top o = stopped AtEnd o
+trace_from k n at (l ∷ ls) top o = after_line k n (line_at n at l) (trace_from k (n + 1) (at + length l) ls) top o
+
+-- these octets of noise and nothing else
+abbrev pub drawing : List ℕ → Outside
+drawing draws = record { readings = []; receipts = []; draws = draws }
+
+-- The trace of a replay of these octets, of which each signal without noise takes the next 304 octets drawn.
+abbrev pub replayed : List ℕ → List ℕ → Trace
+replayed octets draws = trace_from Replays 1 0 (lines_of octets) 0 (drawing draws)
+
+-- The trace of a relay of these octets: the first reading is a tick, then come the lines.
+abbrev pub woven : List ℕ → List ℕ → List Received → List ℕ → Trace
+woven octets [] receipts draws = stopped ForReading (record { readings = []; receipts = receipts; draws = draws })
+woven octets (r ∷ rs) receipts draws =
+    with_events (events_of (lines.Signal (Tick (moment_of r))))
+    (trace_from (Relays (moment_of r)) 1 0 (lines_of octets) (moment_of r) (record { readings = rs; receipts = receipts; draws = draws }))

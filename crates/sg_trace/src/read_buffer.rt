@@ -1,0 +1,95 @@
+//! Octets that wait to be read into lines.
+
+ghost use Rattle.std.specs.Prelude.{◌≡◌, ◌↔◌, ◌⊎◌, ◌<◌, ◌≤◌, ◌+◌, ◌-◌, length, ◌++◌, ℕ, List, [], take, drop, IfOk, OnOk, OnErr, true};
+ghost use Rattle.sg_edge.specs.Told.{AtEnd, HasCause, Tells, TookIn};
+ghost use Rattle.sg_trace.specs.Fed.{EndsLine, MovesPart};
+
+use memchr::memchr;
+use sg_base::{Failed, NoMemory};
+use sg_edge::Source;
+use std::marker::Model;
+
+/// The octet that ends a line.
+const LINE_END: u8 = 10;
+
+/// Up to 4,096 octets of a source that wait, seen as their list.
+#[derive(Drop)]
+pub struct ReadBuffer {
+    part: [u8; 4096],
+    at: usize,
+    end: usize,
+}
+
+impl Model for ReadBuffer {
+    ghost Value = { List ℕ };
+
+    ghost view = { λ f. take (f.end - f.at) (drop f.at f.part) };
+
+    ghost invariant = { λ f. (f.at ≤ f.end) × (f.end ≤ 4096) };
+}
+
+impl ReadBuffer {
+    /// Nothing waits.
+    pub fn new() -> ReadBuffer
+        ensures { result ≡ [] }
+    {
+        ReadBuffer {
+            part: [0; 4096],
+            at: 0,
+            end: 0,
+        }
+    }
+
+    /// Whether nothing waits.
+    pub fn is_empty(&self) -> bool
+        ensures { (result ≡ true) ↔ (self.now ≡ []) }
+    {
+        self.at == self.end
+    }
+
+    /// Moves a line's octets from the front to the end of `line`: all up to the first line end, or as many
+    /// as there are. At most `most` are moved. True where a line end was.
+    pub fn move_line(&mut self, line: &mut Vec<u8>, most: usize) -> Result<bool, NoMemory>
+        ensures moved { IfOk result (λ ended. (part : List ℕ) × MovesPart self.old self.new line.old.items line.new.items part × EndsLine ended part self.new most) }
+        ensures err { OnErr result ((self.new ≡ self.old) × (line.new.items ≡ line.old.items)) }
+    {
+        let waiting = &self.part[self.at..self.end];
+        let (count, ended) = line_in(waiting, most);
+        line.extend_from_slice(&waiting[..count])?;
+        self.at += count;
+        Ok(ended)
+    }
+
+    /// Where nothing waits, reads the next octets, within the budget; none at the end of the source, or where
+    /// the budget is spent.
+    pub fn fill<S: Source>(&mut self, source: &mut S, budget: &mut u64) -> Result<(), Failed>
+        ensures got { (got : List ℕ) × TookIn (S.left source.old) (S.left source.new) got × (self.new ≡ self.old ++ got) × (length got + budget.new ≡ budget.old) }
+        ensures ended { OnOk result (self.new ≡ [] → AtEnd (S.left source.new) ⊎ (budget.new ≡ 0)) }
+        ensures given { S.given source.new + budget.new ≤ S.given source.old + budget.old }
+        ensures cause { HasCause (S.faults source.old) (S.faults source.new) result }
+        ensures told { OnErr result (Tells (S.failed source.new) true) }
+    {
+        if !self.is_empty() || *budget == 0 {
+            return Ok(());
+        }
+        let most = (*budget).min(self.part.len() as u64) as usize;
+        self.at = 0;
+        self.end = 0;
+        let n = source.read(&mut self.part[..most])?;
+        self.end = n;
+        *budget -= n as u64;
+        Ok(())
+    }
+}
+
+/// How many octets of the front belong to the line, of at most `most`, and whether the last is its end.
+fn line_in(waiting: &[u8], most: usize) -> (usize, bool)
+    ensures count { result.0 ≤ length waiting.now }
+    ensures line { EndsLine result.1 (take result.0 waiting.now) (drop result.0 waiting.now) most }
+{
+    let near = &waiting[..waiting.len().min(most)];
+    match memchr(LINE_END, near) {
+        Some(place) => (place + 1, true),
+        None => (near.len(), false),
+    }
+}
