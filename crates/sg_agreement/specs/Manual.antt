@@ -4,7 +4,7 @@ use Rattle.sg_base.specs.Keys.{Master}
 use Rattle.sg_base.specs.Suites.{is_raw, tag_len_of}
 use Rattle.sg_base.specs.declared.addresses.Address.{Address}
 use Rattle.sg_base.specs.declared.addresses.CallId.{CallId}
-use Rattle.sg_session.specs.declared.sources.Admit.TheVariants as admit
+use Rattle.sg_base.specs.declared.sources.Admit.TheVariants as admit
 use Rattle.sg_agreement.specs.Media.{Stream, Medium}
 
 -- what one side sends under one key, which serves 2^48 RTP packets (RFC 3711, 9.2)

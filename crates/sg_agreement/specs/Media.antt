@@ -2,7 +2,7 @@
 use Rattle.std.specs.Prelude.{ℕ, Bool, List}
 use Rattle.sg_base.specs.Keys.{Master}
 use Rattle.sg_base.specs.declared.addresses.Address.{Address}
-use Rattle.sg_session.specs.declared.sources.Admit.{Admit}
+use Rattle.sg_base.specs.declared.sources.Admit.{Admit}
 
 -- a master key that one side has chosen, its MKI's octets, and how many packets it may serve
 pub record AgreedKey : Type 0 where

@@ -7,8 +7,8 @@ use Rattle.sg_base.specs.Suites.{tag_len_of}
 use Rattle.sg_csmap.specs.declared.sessions.StreamKeys.{StreamKeys}
 use Rattle.sg_sdes.specs.declared.lines.CryptoLine.{CryptoLine}
 use Rattle.sg_sdes.specs.declared.lines.InlineKey.{InlineKey}
-use Rattle.sg_session.specs.declared.sources.Admit.{Admit}
-use Rattle.sg_session.specs.declared.sources.Admit.TheVariants as admit
+use Rattle.sg_base.specs.declared.sources.Admit.{Admit}
+use Rattle.sg_base.specs.declared.sources.Admit.TheVariants as admit
 use Rattle.sg_agreement.specs.Media.{AgreedKey, Stream}
 
 -- the octets of an MKI, none where there is none

@@ -5,5 +5,6 @@ pub mod DigitLemmas
 pub mod FourNumbers
 pub mod Pairs
 mod Places
+pub mod Refills
 pub mod SameOctets
 pub mod SuiteLemmas

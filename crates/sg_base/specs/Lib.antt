@@ -2,6 +2,7 @@ pub mod Faults
 pub mod Fields
 pub mod Identities
 pub mod Keys
+pub mod Lists
 pub mod Mkis
 pub mod Octets
 pub mod Pads

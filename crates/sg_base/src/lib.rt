@@ -6,12 +6,14 @@ mod digits;
 mod faults;
 mod fields;
 mod identities;
+mod items;
 mod keys;
 mod limits;
 mod mkis;
 mod numbers;
 mod octets;
 mod pad;
+mod sources;
 mod spellings;
 mod suite_names;
 mod suites;
@@ -24,6 +26,7 @@ pub use faults::{
 };
 pub use fields::{cut, read_address, read_four, read_number};
 pub use identities::{Identity, Noise304};
+pub use items::Items;
 pub use keys::{CipherKey, HalfKeys, MasterKey, SessionKeys};
 pub use limits::{
     BATCH_MOST, CALLS_MOST, EARLIER_MILLIS, FIRST_PORT, IDLE_MILLIS, LINE_MOST, MEDIA_MOST,
@@ -36,6 +39,7 @@ pub use mkis::{Mki, mkis_differ};
 pub use numbers::{octets_of_u32, read_u16, read_u32};
 pub use octets::Octets;
 pub use pad::{Pad, TooLong};
+pub use sources::Admit;
 pub use spellings::{
     address_spelling, cut_spelling, four_spelling, number_spelling, octets_spelling,
 };

@@ -14,7 +14,7 @@ use Rattle.sg_session.specs.Sealing.{datagram_of, seals}
 use Rattle.sg_session.specs.Session.{Session}
 use Rattle.sg_session.specs.declared.names.Direction.{Direction}
 use Rattle.sg_session.specs.declared.names.Direction.TheVariants.{Opening, Sealing}
-use Rattle.sg_session.specs.declared.sources.Admit.TheVariants.{One}
+use Rattle.sg_base.specs.declared.sources.Admit.TheVariants.{One}
 use Rattle.sg_demo.specs.Packets.{packet}
 
 -- the addresses of each call: where its protected side and its plain side are

@@ -7,8 +7,8 @@ use Rattle.sg_replay.specs.declared.seen.Freshness.TheVariants.{New, Repeat, Too
 use Rattle.sg_session.proofs.Lists.{each_weaker}
 use Rattle.sg_session.specs.Reach.{Sealed}
 use Rattle.sg_session.specs.Session.{Done, Key, Session, indices_of, is_admitted, is_live}
-use Rattle.sg_session.specs.declared.sources.Admit.{Admit}
-use Rattle.sg_session.specs.declared.sources.Admit.TheVariants as admit
+use Rattle.sg_base.specs.declared.sources.Admit.{Admit}
+use Rattle.sg_base.specs.declared.sources.Admit.TheVariants as admit
 use Rattle.sg_gateway.proofs.Pairs.{each_two}
 use Rattle.sg_gateway.specs.Arriving.{Arrives}
 use Rattle.sg_gateway.specs.Newness.{IsNewIn, IsLiveIn, IsFresh, IsAdmittedBy, ArrivesNew}

@@ -7,8 +7,8 @@ use Rattle.sg_replay.specs.Freshness.{freshness}
 use Rattle.sg_replay.specs.declared.seen.Freshness.TheVariants.{New}
 use Rattle.sg_session.specs.Reach.{Sealed, IsNearIn}
 use Rattle.sg_session.specs.Session.{Done, Key, Session, indices_of, has_room}
-use Rattle.sg_session.specs.declared.sources.Admit.{Admit}
-use Rattle.sg_session.specs.declared.sources.Admit.TheVariants as admit
+use Rattle.sg_base.specs.declared.sources.Admit.{Admit}
+use Rattle.sg_base.specs.declared.sources.Admit.TheVariants as admit
 use Rattle.sg_gateway.specs.Arriving.{Comes, IsPutOut}
 use Rattle.sg_gateway.specs.Octets.{Octets}
 use Rattle.sg_gateway.specs.Runs.{Turn, turns}

@@ -16,5 +16,5 @@ mod spec;
 pub use key_set::{KeySet, OpenKeyFault, Spent};
 pub use live_key::LiveKey;
 pub use ring::{Ring, RingFault};
-pub use sg_session::Admit;
+pub use sg_base::Admit;
 pub use spec::SessionSpec;

@@ -1,8 +1,7 @@
 //! What a session is made of.
 
 use crate::KeySet;
-use sg_base::Kind;
-use sg_session::Admit;
+use sg_base::{Admit, Kind};
 
 /// A session in which nothing is done: its kind, its keys, the starting rollover, the replay window in
 /// indices, the sources that it admits, whether RTP is encrypted, and the octets of a tag.

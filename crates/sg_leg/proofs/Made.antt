@@ -14,7 +14,7 @@ use Rattle.sg_media.specs.Accepting.{IsMadeOf}
 use Rattle.sg_media.specs.Ciphers.{may_encrypt, EachEncrypts}
 use Rattle.sg_media.specs.Sides.{CanBeMade}
 use Rattle.sg_session.specs.declared.names.Owner.{Owner}
-use Rattle.sg_session.specs.declared.sources.Admit.{Admit}
+use Rattle.sg_base.specs.declared.sources.Admit.{Admit}
 use Rattle.sg_states.specs.Parts.{is_tag_len}
 use Rattle.sg_leg.proofs.Fresh.{HaveOctets, live_fresh, fresh_none_served, fresh_encrypt}
 use Rattle.sg_leg.specs.FreshKeys.{fresh_keys, encrypts_for, tag_for}

@@ -5,7 +5,7 @@ use Rattle.sg_keys.specs.Live.{Live}
 use Rattle.sg_keys.specs.Stands.{live}
 use Rattle.sg_keys.specs.declared.spec.SessionSpec.{SessionSpec}
 use Rattle.sg_session.specs.Session.{Session}
-use Rattle.sg_session.specs.declared.sources.Admit.{Admit}
+use Rattle.sg_base.specs.declared.sources.Admit.{Admit}
 pub use Rattle.sg_states.specs.Parts.{is_tag_len}
 use Rattle.sg_states.specs.StreamValues.{StreamValue}
 use Rattle.sg_media.specs.Ciphers.{HaveCiphers}

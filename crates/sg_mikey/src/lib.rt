@@ -4,7 +4,6 @@
 mod chain;
 mod faults;
 mod fields;
-mod items;
 mod laws;
 mod message;
 mod payload;
@@ -14,10 +13,10 @@ mod printing;
 mod reading;
 
 pub use faults::ReadMikeyFault;
-pub use items::Items;
 pub use laws::{message_law, steps_law};
 pub use message::{CsEntry, Message, Tgk, Tgks};
 pub use payload::Payload;
 pub use policy::Policy;
 pub use printing::print;
 pub use reading::read;
+pub use sg_base::Items;

@@ -6,7 +6,7 @@ use Rattle.sg_base.specs.declared.addresses.Kind.TheVariants.{Rtp}
 use Rattle.sg_kdf.specs.SessionKeys.{is_raw}
 use Rattle.sg_media.specs.Sides.{SideValue}
 use Rattle.sg_session.specs.Session.{Key, Session}
-use Rattle.sg_session.specs.declared.sources.Admit.TheVariants.{One}
+use Rattle.sg_base.specs.declared.sources.Admit.TheVariants.{One}
 
 -- the one key of a peer's session: number 0, no MKI, and the longest life (RFC 3711, 9.2)
 abbrev pub peer_key : Master → Key

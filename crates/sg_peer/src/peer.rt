@@ -10,9 +10,8 @@ ghost use Rattle.sg_session.specs.Session.{Session};
 
 use arrayvec::ArrayVec;
 use sg_base::{DropCause, HalfKeys, Kind, MasterKey, Pad, RTP_LIFE, WINDOW_LEAST, WINDOW_MOST};
-use sg_keys::{KeySet, LiveKey, SessionSpec};
+use sg_keys::{Admit, KeySet, LiveKey, SessionSpec};
 use sg_media::{OpenSide, Opened, SealSide, Sealed};
-use sg_session::Admit;
 use std::marker::Model;
 
 /// Who sends and receives the packets of one source under one key. It takes no memory.

@@ -5,11 +5,9 @@ ghost use Rattle.sg_sdp.specs.Carrying.{attribute_name, carried, carried_line, c
 ghost use Rattle.std.specs.List.{list_any};
 ghost use Rattle.std.specs.Str.{bytes_eq};
 
-use crate::addresses::first_address;
+use crate::addresses::{address_all, first_address};
 use crate::form::profile_of;
-use crate::lines::Lines;
-use crate::media::Media;
-use crate::medium::{Medium, Profile};
+use crate::medium::{Lines, Media, Medium, Profile};
 use crate::sdp::Sdp;
 use sg_base::{NoMemory, Octets, cut};
 use std::alloc::Global;
@@ -150,7 +148,7 @@ impl Sdp {
     {
         let session = carried_lines(alloc, self.session.as_slice())?;
         let mut media = carried_media(alloc, ports, profiles, self.media.as_slice())?;
-        media.set_addresses(first_address(session.as_slice()));
+        address_all(media.as_mut_slice(), first_address(session.as_slice()));
         Ok(Sdp { session, media })
     }
 }

@@ -6,8 +6,6 @@ mod carrying;
 mod faults;
 mod form;
 mod laws;
-mod lines;
-mod media;
 mod medium;
 mod printing;
 mod reading;
@@ -17,8 +15,6 @@ pub use faults::ReadSdpFault;
 pub use laws::{
     a_carried_text_is_a_description, a_description_stays_one, descriptions_have_one_value,
 };
-pub use lines::Lines;
-pub use media::Media;
-pub use medium::{Medium, Profile};
+pub use medium::{Lines, Media, Medium, Profile};
 pub use reading::read;
 pub use sdp::Sdp;

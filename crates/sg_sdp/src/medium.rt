@@ -1,7 +1,12 @@
-//! One medium of a description.
+//! The media of a description.
 
-use crate::lines::Lines;
-use sg_base::Octets;
+use sg_base::{Items, Octets};
+
+/// Lines without their ends, seen as their list.
+pub type Lines = Items<Octets>;
+
+/// The media of a description, seen as their list.
+pub type Media = Items<Medium>;
 
 /// How a medium is transported, by the protocol word of its `m=` line.
 #[derive(Clone, Copy, Debug, PartialEq, Eq)]

@@ -8,12 +8,10 @@ ghost use Rattle.sg_sdp.specs.LineForm.{view_head, without_cr};
 ghost use Rattle.sg_sdp.specs.Reading.{Changes, Gives, at_line, description_of, description_within, end_of, form_of, lines_of, opened, step, view_form};
 ghost use Rattle.sg_sdp.specs.declared.sdp.Sdp.{Sdp};
 
-use crate::addresses::first_address;
+use crate::addresses::{address_all, first_address};
 use crate::faults::ReadSdpFault;
 use crate::form::{Head, connection, has_form, profile_of, read_head, without_cr};
-use crate::lines::Lines;
-use crate::media::Media;
-use crate::medium::Medium;
+use crate::medium::{Lines, Media, Medium};
 use crate::sdp::Sdp;
 use sg_base::{MEDIA_MOST, NoMemory, Octets, SDP_LINE_MOST, SDP_MOST, SdpFault};
 use std::alloc::{AllocError, Global};
@@ -165,7 +163,7 @@ fn described(alloc: Global, text: &[u8]) -> Result<Sdp, ReadSdpFault>
     let parts = parts(alloc, text)?;
     let mut sdp = lines(alloc, &parts)?;
     let session = first_address(sdp.session.as_slice());
-    sdp.media.set_addresses(session);
+    address_all(sdp.media.as_mut_slice(), session);
     Ok(sdp)
 }
 

@@ -1,7 +1,6 @@
 //! A description and its edits.
 
-use crate::lines::Lines;
-use crate::media::Media;
+use crate::medium::{Lines, Media};
 use sg_base::NoMemory;
 
 /// A session description (RFC 4566): the lines before the first medium, and the media.
@@ -32,7 +31,7 @@ impl Sdp {
         ensures err { OnErr result (self.new ≡ self.old) }
         ensures count { length self.new.media ≡ length self.old.media }
     {
-        self.media.push_line(medium, line)
+        self.media.as_mut_slice()[medium].lines.push_copy(line)
     }
 
     // Puts a copy of the line last in the part that is open: the last medium, or else the session part.

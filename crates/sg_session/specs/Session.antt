@@ -12,8 +12,8 @@ use Rattle.sg_session.specs.declared.names.Direction.{Direction}
 use Rattle.sg_session.specs.declared.names.Direction.TheVariants.{Opening, Sealing}
 use Rattle.sg_session.specs.declared.names.Name.{Name}
 use Rattle.sg_session.specs.declared.names.Owner.{Owner}
-use Rattle.sg_session.specs.declared.sources.Admit.{Admit}
-use Rattle.sg_session.specs.declared.sources.Admit.TheVariants as admit
+use Rattle.sg_base.specs.declared.sources.Admit.{Admit}
+use Rattle.sg_base.specs.declared.sources.Admit.TheVariants as admit
 use Rattle.sg_index.specs.Nearest.{nearest_index, within_life}
 use Rattle.sg_replay.specs.Freshness.{highest_of, is_in}
 

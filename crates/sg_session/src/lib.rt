@@ -3,10 +3,8 @@
 
 mod laws;
 mod names;
-mod sources;
 
 pub use laws::{
     no_key_past_its_life, none_twice_in_a_session, sealed_is_opened, what_can_be_sealed_is,
 };
 pub use names::{Direction, Name, Owner};
-pub use sources::Admit;
