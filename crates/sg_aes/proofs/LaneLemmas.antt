@@ -16,7 +16,7 @@ use lib.Bits.{xor_assoc, xor_comm}
 use Rattle.std.proofs.lemmas.List.FromFn.{length-map-range_with_len}
 use Rattle.std.proofs.lemmas.List.{get_or-map}
 use Rattle.std.proofs.lemmas.Grind.{same_number_lists}
-use Rattle.sg_aes.specs.declared.lanes.TheConstants.{FROM_LOW, FROM_HIGH, INVERSE, QUOTIENT, FIRST, SECOND}
+use Rattle.sg_aes.specs.declared.vectors.TheConstants.{FROM_LOW, FROM_HIGH, INVERSE, QUOTIENT, FIRST, SECOND}
 
 -- so many octets
 abbrev pub IsOctets : ℕ → List ℕ → Type 0

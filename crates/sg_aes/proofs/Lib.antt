@@ -1,5 +1,5 @@
-pub mod Octets
-pub mod LaneLemmas
-pub mod PairLemmas
-pub mod KeyLemmas
+mod Octets
+mod LaneLemmas
+mod PairLemmas
+mod KeyLemmas
 pub mod CipherLemmas

@@ -1,6 +1,6 @@
 -- Look-ups of 16 octets at a time, and the substitution by the nibbles of an octet.
 use Rattle.std.specs.Prelude.{ℕ, ◌≡◌, ◌<◌, ◌/◌, ◌^◌, List, ◌||◌, nat_le, nat_lt, T, ◌++◌, length, map, slice_index, if◌then◌else◌, bit_and, bit_xor}
-use Rattle.sg_aes.specs.declared.lanes.TheConstants.{FROM_LOW, FROM_HIGH, INVERSE, QUOTIENT, FIRST, SECOND, ONCE_FIRST, ONCE_SECOND, TWICE_FIRST, TWICE_SECOND}
+use Rattle.sg_aes.specs.declared.vectors.TheConstants.{FROM_LOW, FROM_HIGH, INVERSE, QUOTIENT, FIRST, SECOND, ONCE_FIRST, ONCE_SECOND, TWICE_FIRST, TWICE_SECOND}
 
 -- what a look-up in 16 octets may ask for: a place, or 128 and more, which gives 0
 abbrev pub IsPlace : ℕ → Type 0

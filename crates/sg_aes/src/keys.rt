@@ -4,7 +4,7 @@ ghost use Rattle.std.specs.Prelude.{◌≡◌, ◌+◌, ◌*◌, ◌/◌, ◌<�
 ghost use Rattle.sg_aes.specs.KeyExpansion.{add_words, added, key_word, power_of_x, round_key};
 ghost use Rattle.sg_aes.specs.Schedule.{AreKept, key_of, IsKeyWords, IsKeyLength, IsExpanded};
 
-use crate::lanes::{key_nibbles, sub_word};
+use crate::vectors::{key_nibbles, sub_word};
 use std::simd::prelude::*;
 
 /// The words of the round keys: four for each of up to 15 round keys.
@@ -84,10 +84,10 @@ pub(crate) fn round_key(words: &Words, r: usize) -> u8x16
 }
 
 /// The nibbles of round keys 1 to `last` - 1, as `round` takes them.
-pub(crate) type Kept = [[u8; 16]; 15];
+pub(crate) type RoundKeys = [[u8; 16]; 15];
 
 /// The nibbles of the round keys of the words, but for the first and the last.
-pub(crate) fn kept_keys(words: &Words, last: usize) -> Kept
+pub(crate) fn kept_keys(words: &Words, last: usize) -> RoundKeys
     requires { last < 15 }
     ensures { AreKept words.now result last }
 {
@@ -100,7 +100,7 @@ pub(crate) fn kept_keys(words: &Words, last: usize) -> Kept
 
 /// The nibbles of round key r.
 #[inline(always)]
-pub(crate) fn kept_key(kept: &Kept, r: usize) -> u8x16
+pub(crate) fn kept_key(kept: &RoundKeys, r: usize) -> u8x16
     requires { r < 15 }
     ensures { result ≡ slice_index_or kept.now r [] }
 {

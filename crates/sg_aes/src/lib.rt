@@ -2,8 +2,8 @@
 #![tactic(auto)]
 
 mod keys;
-mod lanes;
 pub mod laws;
 mod schedule;
+mod vectors;
 
 pub use schedule::Schedule;

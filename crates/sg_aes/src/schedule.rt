@@ -4,8 +4,8 @@ ghost use Rattle.std.specs.Prelude.{◌≡◌, ◌+◌, ◌≤◌, ℕ, List, le
 ghost use Rattle.sg_aes.specs.Cipher.{aes_encrypt};
 ghost use Rattle.sg_aes.specs.Schedule.{key_of, IsKeyLength, IsSchedule};
 
-use crate::keys::{Kept, Words, expand, kept_key, kept_keys, round_key};
-use crate::lanes::{doubled, keyed, last_round, round};
+use crate::keys::{RoundKeys, Words, expand, kept_key, kept_keys, round_key};
+use crate::vectors::{doubled, keyed, last_round, round};
 use std::marker::Model;
 
 // The number of rounds under a key of so many words: 10, 12 or 14.
@@ -22,7 +22,7 @@ pub struct Schedule {
     words: Words,
     key_words: usize,
     // The nibbles of the round keys between the first and the last.
-    kept: Kept,
+    kept: RoundKeys,
 }
 
 impl Model for Schedule {
