@@ -20,7 +20,7 @@ mod wall_clock;
 pub use clock::Clock;
 pub use link::{Link, Receipt};
 pub use mem_clock::{MemClock, SureClock};
-pub use mem_link::{Kept, MemLink, SureLink};
+pub use mem_link::{LinkRecord, MemLink, SureLink};
 pub use mem_noise::{MemNoise, SureNoise};
 pub use memory::{MemSink, MemSource};
 pub use noise::Noise;

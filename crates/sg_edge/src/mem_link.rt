@@ -16,7 +16,7 @@ use std::marker::Model;
 
 /// One call of a link, as it is kept.
 #[derive(Drop)]
-pub enum Kept {
+pub enum LinkRecord {
     Bound {
         port: u16,
         ok: bool,
@@ -46,7 +46,7 @@ struct LinkBook {
     alloc: Global,
     receipts: Vec<Option<(u16, Address, Octets)>>,
     at: usize,
-    kept: Vec<Kept>,
+    kept: Vec<LinkRecord>,
     tells: bool,
 }
 
@@ -74,7 +74,7 @@ impl LinkBook {
     }
 
     /// Adds a call to the record; answers false where no memory is found for it.
-    fn keep(&mut self, call: Kept) -> bool
+    fn keep(&mut self, call: LinkRecord) -> bool
         ensures kept { result ≡ true → self.new.told ≡ option_map (λ l. l ++ call_of call ∷ []) self.old.told }
         ensures lost { result ≡ false → (self.new.told ≡ None) × IsSome self.old.told }
         ensures left { self.new.left ≡ self.old.left }
@@ -100,7 +100,7 @@ impl LinkBook {
                 self.tells = false;
                 false
             }
-            Ok(octets) => self.keep(Kept::Got { port, from, octets }),
+            Ok(octets) => self.keep(LinkRecord::Got { port, from, octets }),
         }
     }
 
@@ -112,7 +112,7 @@ impl LinkBook {
     {
         match receipt {
             Receipt::Got { port, from } => self.keep_got(port, from, octets),
-            Receipt::Nothing => self.keep(Kept::Nothing),
+            Receipt::Nothing => self.keep(LinkRecord::Nothing),
         }
     }
 
@@ -130,7 +130,7 @@ impl LinkBook {
                 self.tells = false;
                 false
             }
-            Ok(octets) => self.keep(Kept::Sent {
+            Ok(octets) => self.keep(LinkRecord::Sent {
                 port,
                 to,
                 octets,
@@ -147,7 +147,7 @@ impl LinkBook {
     {
         let receipt = match self.receipts.get(self.at) {
             Some(Some((port, from, octets))) => {
-                fill_front(pad, octets.as_slice());
+                fill_prefix(pad, octets.as_slice());
                 Receipt::Got {
                     port: *port,
                     from: *from,
@@ -161,7 +161,7 @@ impl LinkBook {
 }
 
 /// The pad's octets become these, of more than 4,352 the first so many.
-fn fill_front(pad: &mut Pad, octets: &[u8])
+fn fill_prefix(pad: &mut Pad, octets: &[u8])
     ensures { pad.new ≡ take 4352 octets.now }
 {
     let count = octets.len().min(PAD_MOST);
@@ -205,7 +205,7 @@ impl MemLink {
     }
 
     /// The calls so far, where they are told.
-    pub fn calls(&self) -> Option<&[Kept]>
+    pub fn calls(&self) -> Option<&[LinkRecord]>
         ensures { option_map (λ kept. history kept.now) result ≡ self.now.link.told }
     {
         if self.link.tells {
@@ -257,7 +257,7 @@ impl Link for MemLink {
         ensures left { self.new.link.left ≡ self.old.link.left }
     {
         let fails = self.book.fails();
-        let kept = self.link.keep(Kept::Bound { port, ok: !fails });
+        let kept = self.link.keep(LinkRecord::Bound { port, ok: !fails });
         self.note(fails, kept)
     }
 
@@ -268,7 +268,7 @@ impl Link for MemLink {
         ensures left { self.new.link.left ≡ self.old.link.left }
     {
         let fails = self.book.fails();
-        let kept = self.link.keep(Kept::Unbound { port, ok: !fails });
+        let kept = self.link.keep(LinkRecord::Unbound { port, ok: !fails });
         self.note(fails, kept)
     }
 
@@ -281,7 +281,7 @@ impl Link for MemLink {
         ensures stays { IsTrue (fails_next self.old.calls) → (self.new.link.left ≡ self.old.link.left) × (pad.new ≡ pad.old) }
     {
         if self.book.fails() {
-            let kept = self.link.keep(Kept::Failing);
+            let kept = self.link.keep(LinkRecord::Failing);
             return self.gave(true, kept, Receipt::Nothing);
         }
         let receipt = self.link.next(pad);
@@ -339,7 +339,7 @@ impl Link for SureLink {
         ensures sure { IsOk result }
         ensures left { self.new.left ≡ self.old.left }
     {
-        let _kept = self.link.keep(Kept::Bound { port, ok: true });
+        let _kept = self.link.keep(LinkRecord::Bound { port, ok: true });
         Ok(())
     }
 
@@ -349,7 +349,7 @@ impl Link for SureLink {
         ensures sure { IsOk result }
         ensures left { self.new.left ≡ self.old.left }
     {
-        let _kept = self.link.keep(Kept::Unbound { port, ok: true });
+        let _kept = self.link.keep(LinkRecord::Unbound { port, ok: true });
         Ok(())
     }
 

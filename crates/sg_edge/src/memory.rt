@@ -122,8 +122,8 @@ impl MemSource {
     }
 }
 
-/// Copies so many octets from that place on to the front of the part.
-pub(crate) fn copy_front(octets: &[u8], at: usize, count: usize, part: &mut [u8])
+/// Copies so many octets from that place on to the start of the part.
+pub(crate) fn copy_prefix(octets: &[u8], at: usize, count: usize, part: &mut [u8])
     requires there { at + count ≤ length octets.now }
     requires room { count ≤ length part.old }
     ensures { part.new ≡ take count (drop at octets.now) ++ drop count part.old }
@@ -159,7 +159,7 @@ impl Source for MemSource {
         }
         let octets = self.octets.as_slice();
         let count = self.book.passes(octets.len() - self.at, part.len());
-        copy_front(octets, self.at, count, part);
+        copy_prefix(octets, self.at, count, part);
         self.at += count;
         Ok(count)
     }
