@@ -2,7 +2,7 @@ ghost use Rattle.std.specs.Prelude.{◌≡◌, IfOk};
 
 use sg_base::{Address, Failed, Octets, PAD_MOST, Pad};
 use sg_edge::{
-    Clock, Kept, Link, MemClock, MemLink, MemNoise, MemSink, MemSource, Noise, Receipt, RngNoise,
+    Clock, LinkRecord, Link, MemClock, MemLink, MemNoise, MemSink, MemSource, Noise, Receipt, RngNoise,
     Source, StdSink, StdSource, SureSink, SystemRng, UdpLink, WallClock, write_all,
 };
 use std::io;
@@ -205,7 +205,7 @@ fn got(port: u16, from: Address) -> Result<Receipt, Failed> {
 fn sent_at(link: &MemLink, at: usize) -> Option<(u16, Address, bool)> {
     let calls = link.calls()?;
     match calls.get(at)? {
-        Kept::Sent { port, to, ok, .. } => Some((*port, *to, *ok)),
+        LinkRecord::Sent { port, to, ok, .. } => Some((*port, *to, *ok)),
         _ => None,
     }
 }

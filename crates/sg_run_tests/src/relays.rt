@@ -5,7 +5,7 @@ use crate::calls::{
 };
 use crate::outside::{Datagram, Given, Outside, REPLAY, joined};
 use sg_base::{Address, ScriptFault};
-use sg_edge::Kept;
+use sg_edge::LinkRecord;
 use sg_lanes::OpenGate;
 use sg_run::Status;
 use std::alloc::Global;
@@ -158,10 +158,10 @@ fn turns_and_readings(rt: HostRuntime) -> Result<(), Fail> {
 }
 
 /// The packets that were sent, with their ports and addresses, are these.
-fn are_sent(rt: &impl Abort, calls: &[Kept], packets: &[Datagram]) -> Result<(), Fail> {
+fn are_sent(rt: &impl Abort, calls: &[LinkRecord], packets: &[Datagram]) -> Result<(), Fail> {
     let mut left = packets.iter();
     for call in calls {
-        if let Kept::Sent {
+        if let LinkRecord::Sent {
             port,
             to,
             octets,
