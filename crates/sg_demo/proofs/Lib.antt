@@ -1,5 +1,5 @@
 mod Batching
-mod Fronts
+mod Prefixes
 mod Lists
 mod Rounds
 mod Turning

@@ -2,14 +2,14 @@
 use Rattle.std.proofs.Common.{◌≡◌, ℕ, zero, suc, ◌+◌, ◌<◌, ◌∙◌, drop, List, [], ◌∷◌, ◌++◌, length, get_or, set, slice_get, Some, None, ◌≤◌, ap, arith, refl}
 use Rattle.std.specs.List.{AllZip}
 
--- what stands for the item behind the front
+-- what stands for the item behind the prefix
 pub zip_at : {X Y : Type 0} (R : X → Y → Type 0) (xs : List X) (ys : List Y) (y : Y) (zs : List Y) (d : X) → AllZip R xs (ys ++ y ∷ zs) → R (get_or xs (length ys) d) y
 zip_at R [] [] y zs d stands = absurd stands
 zip_at R [] (b ∷ ys) y zs d stands = absurd stands
 zip_at R (x ∷ xs) [] y zs d stands = stands.0
 zip_at R (x ∷ xs) (b ∷ ys) y zs d stands = zip_at R xs ys y zs d stands.1
 
--- with another pair behind the front, which then belongs to the front
+-- with another pair behind the prefix, which then belongs to the prefix
 pub zip_more : {X Y : Type 0} (R : X → Y → Type 0) (xs : List X) (ys : List Y) (y : Y) (zs : List Y) (x : X) (b : Y) → AllZip R xs (ys ++ y ∷ zs) → R x b
     → AllZip R (set xs (length ys) x) ((ys ++ b ∷ []) ++ zs)
 zip_more R [] [] y zs x b stands new = absurd stands

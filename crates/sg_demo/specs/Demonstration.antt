@@ -108,7 +108,7 @@ abbrev pub events_in : ℕ → ℕ → List Event
 events_in calls start = (demo_of calls start).events
 
 -- the table has taken the first of these events, up to some of them
-pub record HasTakenFront (table : TableValue) (events : List Event) : Type 0 where
+pub record HasTakenPrefix (table : TableValue) (events : List Event) : Type 0 where
   pub taken : List Event
   pub rest : List Event
   pub are : taken ++ rest ≡ events

@@ -4,7 +4,7 @@ ghost use Rattle.std.specs.Prelude.{◌≡◌, ◌≤◌, ◌<◌, IfOk, OnOk, O
 ghost use Rattle.sg_gateway.specs.World.{empty};
 ghost use Rattle.sg_gateway.specs.Runs.{world_after};
 ghost use Rattle.sg_table.specs.Standing.{TableStandsFor};
-ghost use Rattle.sg_demo.specs.Demonstration.{demonstration, events_in, HasTakenFront};
+ghost use Rattle.sg_demo.specs.Demonstration.{demonstration, events_in, HasTakenPrefix};
 
 use crate::state::Demo;
 use crate::summary::Summary;
@@ -35,7 +35,7 @@ pub fn traffic<R: Threads + Sync>(
     requires empty { TableStandsFor table.old empty }
     ensures summary { IfOk result (λ summary. summary ≡ demonstration calls start) }
     ensures table { OnOk result (TableStandsFor table.new (world_after empty (events_in calls start))) }
-    ensures failed { OnErr result (HasTakenFront table.new (events_in calls start)) }
+    ensures failed { OnErr result (HasTakenPrefix table.new (events_in calls start)) }
 {
     gated_traffic(rt, alloc, calls, start, table, workers, &OpenGate)
 }
@@ -56,7 +56,7 @@ pub(crate) fn gated_traffic<R: Threads + Sync, G: Gate + Sync>(
     requires empty { TableStandsFor table.old empty }
     ensures summary { IfOk result (λ summary. summary ≡ demonstration calls start) }
     ensures table { OnOk result (TableStandsFor table.new (world_after empty (events_in calls start))) }
-    ensures failed { OnErr result (HasTakenFront table.new (events_in calls start)) }
+    ensures failed { OnErr result (HasTakenPrefix table.new (events_in calls start)) }
 {
     let mut demo = Demo::new(alloc, start);
     for number in 0..calls {

@@ -6,7 +6,7 @@ ghost use Rattle.sg_table.specs.Batches.{IsBatched};
 ghost use Rattle.sg_table.specs.Standing.{TableStandsFor};
 ghost use Rattle.sg_table.specs.Values.{TableValue};
 ghost use Rattle.sg_demo.specs.Demonstration as model;
-ghost use Rattle.sg_demo.specs.Demonstration.{calls_made, with_call, with_round, HasTakenFront};
+ghost use Rattle.sg_demo.specs.Demonstration.{calls_made, with_call, with_round, HasTakenPrefix};
 ghost use Rattle.sg_demo.specs.Standing.{IsWithin};
 ghost use Rattle.sg_demo.specs.Going.{DemoStandsFor};
 
@@ -60,7 +60,7 @@ impl Demo {
     pub fn call(&mut self, alloc: Global, number: u32, table: &mut Table) -> Result<(), NoMemory>
         requires within { self.old.summary.calls < 256 }
         ensures called { OnOk result ((d : model.Demo) → DemoStandsFor self.old table.old d → DemoStandsFor self.new table.new (with_call number d)) }
-        ensures failed { OnErr result ((d : model.Demo) → DemoStandsFor self.old table.old d → HasTakenFront table.new (with_call number d).events) }
+        ensures failed { OnErr result ((d : model.Demo) → DemoStandsFor self.old table.old d → HasTakenPrefix table.new (with_call number d).events) }
         ensures size { vec_len self.new.callers ≤ vec_len self.old.callers + 1 }
         ensures within { (n : ℕ) → IsWithin n self.old.summary → IsWithin (n + 1) self.new.summary }
     {
@@ -100,7 +100,7 @@ impl Demo {
         requires few { vec_len self.old.callers ≤ 256 }
         requires within { IsWithin (2 ^ 61) self.old.summary }
         ensures round { OnOk result ((d : model.Demo) → DemoStandsFor self.old table.old d → DemoStandsFor self.new table.new (with_round d)) }
-        ensures failed { OnErr result ((d : model.Demo) → DemoStandsFor self.old table.old d → HasTakenFront table.new (with_round d).events) }
+        ensures failed { OnErr result ((d : model.Demo) → DemoStandsFor self.old table.old d → HasTakenPrefix table.new (with_round d).events) }
         ensures size { vec_len self.new.callers ≡ vec_len self.old.callers }
         ensures within { (n : ℕ) → IsWithin n self.old.summary → IsWithin (n + 1024) self.new.summary }
     {

@@ -1,3 +1,3 @@
-pub mod Differences
+mod Differences
 pub mod PrfLemmas
 pub mod Sizes

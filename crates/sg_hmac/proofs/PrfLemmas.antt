@@ -91,22 +91,22 @@ pub piece_more : (xs zs macs mac ys : List ℕ) (at k : ℕ) → at ≤ length x
     → ys ≡ xor_octets (take k (drop at zs)) mac
     → take at zs ++ (ys ++ drop k (drop at zs)) ≡ xor_octets (take (at + 20) xs) (macs ++ mac) ++ drop (at + 20) xs
 piece_more xs zs macs mac ys at k inside long twenty most fits last is onto =
-    let front : List ℕ = xor_octets (take at xs) macs in
+    let prefix : List ℕ = xor_octets (take at xs) macs in
     let rest : List ℕ = drop at xs in
     let taken : length (take at xs) ≡ at = length-take-le at xs inside in
-    let size : length front ≡ at = length-xor (take at xs) macs (omega (arith, taken, long)) ∙ taken in
+    let size : length prefix ≡ at = length-xor (take at xs) macs (omega (arith, taken, long)) ∙ taken in
     let left : length rest ≡ length xs - at = length-drop at xs in
-    let here : take at zs ≡ front = ap (take at) is ∙ take_at front rest at size in
-    let behind : drop at zs ≡ rest = ap (drop at) is ∙ drop_at front rest at size in
+    let here : take at zs ≡ prefix = ap (take at) is ∙ take_at prefix rest at size in
+    let behind : drop at zs ≡ rest = ap (drop at) is ∙ drop_at prefix rest at size in
     let ends : k < 20 → length rest ≤ k = λ lt. (let l = last lt in omega (arith, l, left)) in
     let taken_k : take k rest ≡ take 20 rest = pieces_take k rest most (omega (arith, left, fits)) ends in
     let dropped_k : drop k rest ≡ drop 20 rest = pieces_drop k rest most (omega (arith, left, fits)) ends in
     let mid : ys ≡ xor_octets (take 20 rest) mac = onto ∙ ap (λ t. xor_octets (take k t) mac) behind ∙ ap (λ t. xor_octets t mac) taken_k in
     let tail : drop k (drop at zs) ≡ drop 20 rest = ap (drop k) behind ∙ dropped_k in
-    let whole : xor_octets (take (at + 20) xs) (macs ++ mac) ≡ front ++ xor_octets (take 20 rest) mac =
+    let whole : xor_octets (take (at + 20) xs) (macs ++ mac) ≡ prefix ++ xor_octets (take 20 rest) mac =
     ap (λ t. xor_octets t (macs ++ mac)) (take-add at 20 xs) ∙ xor-append (take at xs) (take 20 rest) macs mac (taken ∙ sym long) in
     (λ i. here i ++ (mid i ++ tail i))
-    ∙ sym (append_assoc front (xor_octets (take 20 rest) mac) (drop 20 rest))
+    ∙ sym (append_assoc prefix (xor_octets (take 20 rest) mac) (drop 20 rest))
     ∙ sym (λ i. whole i ++ sym (drop-drop 20 at xs) i)
 
 -- one MAC more, and the next A

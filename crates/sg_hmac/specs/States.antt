@@ -15,6 +15,6 @@ pub record Covers (octets text : List ℕ) (mac : Mac) : Type 0 where
   pub inner : Holds mac.inner (padded_key 0x36 octets ++ text)
   pub outer : Holds mac.outer (padded_key 0x5c octets)
 
--- the tag is a front of the whole
+-- the tag is a prefix of the whole
 abbrev pub IsTagOf : List ℕ → List ℕ → Type 0
 IsTagOf tag whole = (rest : List ℕ) × (whole ≡ tag ++ rest)

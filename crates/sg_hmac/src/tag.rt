@@ -5,7 +5,7 @@ ghost use Rattle.sg_hmac.specs.States.{IsTagOf};
 
 use crate::MAC_LEN;
 
-/// Whether the tag is a front of the whole code (RFC 2104, section 5). Each octet of the tag is
+/// Whether the tag is a prefix of the whole code (RFC 2104, section 5). Each octet of the tag is
 /// looked at, whatever the earlier ones were. A tag of no octets fits every code.
 pub fn tag_fits(whole: &[u8; MAC_LEN], tag: &[u8]) -> bool
     ensures { IsTrue result ↔ IsTagOf tag.now whole.now }

@@ -31,7 +31,7 @@ impl Gate for OpenGate {
 /// Drains each lane once, whatever the gate does.
 ///
 /// The lanes are cut in their order into runs of one length, which is their number divided by `workers` and
-/// rounded up; the last run may be shorter. The runs are drained at once, each from its front, in a thread of
+/// rounded up; the last run may be shorter. The runs are drained at once, each in order, in a thread of
 /// its own where one can be made. Before a lane is drained the gate is entered with the lane's place.
 pub fn drain_all<R: Threads + Sync, L: Lane + Send, G: Gate + Sync>(
     rt: &R,

@@ -3,7 +3,7 @@ use Rattle.sg_table.specs.Standing.{TableStandsFor}
 use Rattle.sg_demo.specs.Demonstration.{Demo, calls_made, with_rounds, world_of}
 use Rattle.sg_demo.specs.Going.{DemoStandsFor}
 use Rattle.sg_demo.proofs.Acting.{on_err}
-use Rattle.sg_demo.proofs.Fronts.{call_in_whole, called_is, no_rounds, round_in_whole, round_is, whole_is}
+use Rattle.sg_demo.proofs.Prefixes.{call_in_whole, called_is, no_rounds, round_in_whole, round_is, whole_is}
 use Rattle.sg_demo.proofs.Within.{more_within}
 use Rattle.sg_demo.proofs.demonstration.gated_traffic.Goals as goal
 

@@ -2,18 +2,18 @@ use Rattle.std.proofs.Common.{◌+◌, ◌∷◌, ◌∙◌, [], ap, refl, sym, 
 use Rattle.sg_base.specs.Keys.{Master}
 use Rattle.sg_table.specs.Telling.{IsTold}
 use Rattle.sg_table.specs.Values.{TableValue}
-use Rattle.sg_demo.specs.Demonstration.{Demo, HasTakenFront, called_by, slot_told, with_call, with_keys, world_of}
+use Rattle.sg_demo.specs.Demonstration.{Demo, HasTakenPrefix, called_by, slot_told, with_call, with_keys, world_of}
 use Rattle.sg_demo.specs.Going.{DemoStandsFor}
 use Rattle.sg_demo.specs.declared.state.Demo as declared
 use Rattle.sg_demo.proofs.Acting.{on_err}
 use Rattle.sg_demo.proofs.Calling.{call_made, call_refused, call_taken, with_call_is}
-use Rattle.sg_demo.proofs.Fronts.{call_front, front_whole, taken_so_far}
+use Rattle.sg_demo.proofs.Prefixes.{call_prefix, prefix_whole, taken_so_far}
 use Rattle.sg_demo.proofs.state.Demo.call.Goals as goal
 
 pub returns-in_err-told-clause-failed : goal.returns-in_err-told-clause-failed
 returns-in_err-told-clause-failed c =
     on_err c.from_residual.result (λ d stands.
-    subst (λ (t : TableValue). HasTakenFront t (with_call c.args.number d).events) (sym c.in_err-told.ensures.same) (taken_so_far c.args.table.now d.events _ stands.taken (call_front c.args.number d)))
+    subst (λ (t : TableValue). HasTakenPrefix t (with_call c.args.number d).events) (sym c.in_err-told.ensures.same) (taken_so_far c.args.table.now d.events _ stands.taken (call_prefix c.args.number d)))
 
 pub returns-in-None-clause-called : goal.returns-in-None-clause-called
 returns-in-None-clause-called c = λ d stands.
@@ -42,7 +42,7 @@ returns-in_err-push-in-Some-clause-failed c =
     subst (λ (m : Master). IsTold c.in_ok-told.told.items c.step.new.self (world_of d) (called_by c.args.number a m ∷ [])) c.clone-2.ensures
     (subst (λ (m : Master). IsTold c.in_ok-told.told.items c.step.new.self (world_of d) (called_by c.args.number m c.clone-2.result ∷ [])) c.clone.ensures (c.in_ok-told.ensures.told (world_of d) stands.taken)) in
     let taken = call_taken c.args.number d a b after c.step.new.self told.1 in
-    subst (λ (e : Demo). HasTakenFront c.step.new.self e.events) (sym is) (taken_so_far c.step.new.self (with_keys c.args.number a b after d).events (with_keys c.args.number a b after d).events taken (front_whole (with_keys c.args.number a b after d).events)))
+    subst (λ (e : Demo). HasTakenPrefix c.step.new.self e.events) (sym is) (taken_so_far c.step.new.self (with_keys c.args.number a b after d).events (with_keys c.args.number a b after d).events taken (prefix_whole (with_keys c.args.number a b after d).events)))
 
 pub returns-clause-called : goal.returns-clause-called
 returns-clause-called c = λ d stands.

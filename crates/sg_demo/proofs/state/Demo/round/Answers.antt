@@ -14,13 +14,13 @@ use Rattle.sg_demo.specs.declared.caller.Caller.{Caller}
 use Rattle.sg_demo.specs.declared.state.Demo as declared
 use Rattle.sg_demo.specs.declared.summary.Summary.{Summary}
 use Rattle.sg_demo.proofs.Acting.{on_err, on_ok}
-use Rattle.sg_demo.proofs.Fronts.{front_whole, round_front, taken_so_far}
+use Rattle.sg_demo.proofs.Prefixes.{prefix_whole, round_prefix, taken_so_far}
 use Rattle.sg_demo.proofs.Rounds.{batch_handled, round_goes, round_taken}
 use Rattle.sg_demo.proofs.Within.{more_within, within_sealed}
 use Rattle.sg_demo.proofs.state.Demo.round.Goals as goal
 
 pub returns-in_err-round-clause-failed : goal.returns-in_err-round-clause-failed
-returns-in_err-round-clause-failed g c = on_err c.from_residual.result (λ d stands. taken_so_far c.args.table.now d.events _ stands.taken (round_front d))
+returns-in_err-round-clause-failed g c = on_err c.from_residual.result (λ d stands. taken_so_far c.args.table.now d.events _ stands.taken (round_prefix d))
 
 pub returns-clause-round : goal.returns-clause-round
 returns-clause-round g c =
@@ -60,7 +60,7 @@ returns-clause-failed g c =
     subst (λ (g : Lcg). (c.take_turns.new.words ≡ (turns_of g d.callers).words) × AllZip CallerStandsFor c.take_turns.new.callers (turns_of g d.callers).callers × HasGathered round (turns_of g d.callers).sealed (turns_of g d.callers).arrivals) stands.words
     (c.in_ok-round.ensures.turns d.callers (subst (λ (l : List Caller). AllZip CallerStandsFor l d.callers) (sym c.deref_mut.ensures.value) stands.callers)) in
     let batched : IsBatched (world_of d) c.deref_mut-2.result.now c.handle.new.arrivals c.handle.new.table = c.handle.ensures.handled (world_of d) stands.taken in
-    taken_so_far c.handle.new.table (with_round d).events (with_round d).events (round_taken c.handle.new.table d c.deref_mut-2.result.now c.handle.new.arrivals (c.deref_mut-2.ensures.value ∙ turns.2.datagrams) batched) (front_whole (with_round d).events))
+    taken_so_far c.handle.new.table (with_round d).events (with_round d).events (round_taken c.handle.new.table d c.deref_mut-2.result.now c.handle.new.arrivals (c.deref_mut-2.ensures.value ∙ turns.2.datagrams) batched) (prefix_whole (with_round d).events))
 
 pub returns-clause-within : goal.returns-clause-within
 returns-clause-within g c = λ n w.
