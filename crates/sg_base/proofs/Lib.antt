@@ -1,10 +1,10 @@
 pub mod Cases
 pub mod Cuts
 pub mod Decimals
-pub mod DigitLemmas
+mod DigitLemmas
 pub mod FourNumbers
+pub mod Lists
 pub mod Pairs
 mod Places
-pub mod Refills
 pub mod SameOctets
 pub mod SuiteLemmas

@@ -1,1 +1,1 @@
-pub mod NearestFaults
+mod NearestFaults

@@ -1,7 +1,7 @@
-pub mod Choosing
-pub mod Indexing
-pub mod MkiTests
-pub mod Octets
-pub mod Reusing
-pub mod Sets
+mod Choosing
+mod Indexing
+mod MkiTests
+mod Octets
+mod Reusing
+mod Sets
 pub mod Spending

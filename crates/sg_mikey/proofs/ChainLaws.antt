@@ -1,5 +1,6 @@
 -- A chain that is read is the chain that was written, and what was written is read again.
 use Rattle.std.proofs.Common.{◌≡◌, ℕ, zero, suc, ◌+◌, ◌<◌, ◌≤◌, Bool, true, false, ◌&&◌, nat_eq, List, [], ◌∷◌, ◌++◌, length, map, Option, Some, None, Result, Ok, Err, refl, sym, ap, subst, ◌∙◌, append_assoc, length-append, arith, inl, inr}
+use Rattle.std.proofs.Math.Bool.{and-false}
 use Rattle.std.specs.List.{AllByRecursion}
 use Rattle.std.proofs.lemmas.Bool.{cases_Bool, eqb-true, and_parts}
 use Rattle.sg_base.proofs.Cases.{chosen}
@@ -9,10 +10,10 @@ use Rattle.sg_mikey.specs.declared.payload.Payload.{Payload}
 use Rattle.sg_mikey.specs.declared.payload.Payload.TheVariants.{Time, Random, Id, Sp, Extension, Kemac, Verify}
 use Rattle.sg_mikey.specs.Chain.{stage_after, is_over}
 use Rattle.sg_mikey.specs.Spelling.{payload_number, next_number, body_octets, chain_octets, IsPayload}
-use Rattle.sg_mikey.specs.Reading.{◌>>=◌, Link, is_number, in_place, payload_at, chain_at}
+use Rattle.sg_mikey.specs.Reading.{◌>>=◌, Chained, is_number, in_place, payload_at, chain_at}
 use Rattle.sg_mikey.proofs.FieldLaws.{IsOctets, bind_ok, ok_is, Takes, Takes-then}
 use Rattle.sg_mikey.proofs.Orders.{Accepts, placed_of}
-use Rattle.sg_mikey.proofs.PayloadLaws.{TakesLink, payload_takes, payload_again}
+use Rattle.sg_mikey.proofs.PayloadLaws.{TakesChained, payload_takes, payload_again}
 
 -- what the reader of a chain took
 pub record TakesChain (octets : List ℕ) (kind : ℕ) (stage : Stage) (next : ℕ) (ps : List Payload) (rest : List ℕ) : Type 0 where
@@ -26,8 +27,8 @@ place_ok None octets behind e = absurd cc
 place_ok (Some s) octets behind e = ap Some (ok_is s behind e)
 
 -- one payload, and a chain behind it
-linked : (octets : List ℕ) (kind : ℕ) (stage behind : Stage) (next : ℕ) (link : Link) (ps : List Payload) (rest : List ℕ) → stage_after kind stage next ≡ Some behind
-    → TakesLink octets next link → TakesChain link.2 kind behind link.1 ps rest → TakesChain octets kind stage next (link.0 ∷ ps) rest
+linked : (octets : List ℕ) (kind : ℕ) (stage behind : Stage) (next : ℕ) (link : Chained) (ps : List Payload) (rest : List ℕ) → stage_after kind stage next ≡ Some behind
+    → TakesChained octets next link → TakesChain link.2 kind behind link.1 ps rest → TakesChain octets kind stage next (link.0 ∷ ps) rest
 linked octets kind stage behind next link ps rest here first others =
     let named : Takes octets (next_number ps ∷ body_octets link.0) link.2 = subst (λ (n : ℕ). Takes octets (n ∷ body_octets link.0) link.2) others.first first.takes in
     record {
@@ -75,19 +76,15 @@ pub next_known : (ps : List Payload) → is_number (next_number ps) ≡ true
 next_known [] = refl
 next_known (p ∷ ps) = number_known p
 
-and_false : (b : Bool) → (b && false) ≡ false
-and_false true = refl
-and_false false = refl
-
 -- a payload's number isn't 0
 not_over : (stage : Stage) (p : Payload) → (is_over stage && nat_eq (payload_number p) 0) ≡ false
-not_over stage (Kemac cipher inner mac tag) = and_false (is_over stage)
-not_over stage (Time form stamp) = and_false (is_over stage)
-not_over stage (Id form name) = and_false (is_over stage)
-not_over stage (Verify mac tag) = and_false (is_over stage)
-not_over stage (Sp policy) = and_false (is_over stage)
-not_over stage (Random inner) = and_false (is_over stage)
-not_over stage (Extension form inner) = and_false (is_over stage)
+not_over stage (Kemac cipher inner mac tag) = and-false (is_over stage)
+not_over stage (Time form stamp) = and-false (is_over stage)
+not_over stage (Id form name) = and-false (is_over stage)
+not_over stage (Verify mac tag) = and-false (is_over stage)
+not_over stage (Sp policy) = and-false (is_over stage)
+not_over stage (Random inner) = and-false (is_over stage)
+not_over stage (Extension form inner) = and-false (is_over stage)
 
 pub chain_again : (ps : List Payload) (fuel kind : ℕ) (stage : Stage) (rest : List ℕ) → AllByRecursion IsPayload ps → Accepts kind stage (map payload_number ps) → length ps < fuel
     → chain_at fuel kind stage (next_number ps) (chain_octets ps ++ rest) ≡ Ok (ps, rest)
@@ -114,7 +111,7 @@ length-chain_octets (p ∷ ps) =
 
 -- ---- as many steps as octets are enough
 
-shrinks : (octets : List ℕ) (number : ℕ) (link : Link) → TakesLink octets number link → length link.2 < length octets
+shrinks : (octets : List ℕ) (number : ℕ) (link : Chained) → TakesChained octets number link → length link.2 < length octets
 shrinks octets number link t =
     let whole : length octets ≡ length (link.1 ∷ (body_octets link.0 ++ link.2)) = ap length t.takes.parts in
     omega (arith, whole, length-append (body_octets link.0) link.2)
@@ -122,7 +119,7 @@ shrinks octets number link t =
 abbrev with_payload : Payload → List Payload × List ℕ → Result (List Payload × List ℕ) Stop
 with_payload p others = Ok (p ∷ others.0, others.1)
 
-enough_behind : (fuel more kind : ℕ) (stage : Stage) (next : ℕ) (octets : List ℕ) (o : Option Stage) (r : Result Link Stop) → stage_after kind stage next ≡ o → payload_at next octets ≡ r → IsOctets octets
+enough_behind : (fuel more kind : ℕ) (stage : Stage) (next : ℕ) (octets : List ℕ) (o : Option Stage) (r : Result Chained Stop) → stage_after kind stage next ≡ o → payload_at next octets ≡ r → IsOctets octets
     → ((s : Stage) (n : ℕ) (rest : List ℕ) → IsOctets rest → length rest < fuel → chain_at (fuel + more) kind s n rest ≡ chain_at fuel kind s n rest)
     → length octets < suc fuel
     → (in_place o octets >>= λ behind. r >>= λ link. chain_at (fuel + more) kind behind link.1 link.2 >>= λ others. with_payload link.0 others)

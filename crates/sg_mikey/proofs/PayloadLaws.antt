@@ -9,11 +9,11 @@ use Rattle.sg_mikey.specs.declared.payload.Payload.{Payload}
 use Rattle.sg_mikey.specs.declared.payload.Payload.TheVariants.{Time, Random, Id, Sp, Extension, Kemac, Verify}
 use Rattle.sg_mikey.specs.declared.policy.Policy.{Policy}
 use Rattle.sg_mikey.specs.Spelling.{payload_number, short, sized, item_octets, body_octets, tag_length, FitsItem, IsPayload}
-use Rattle.sg_mikey.specs.Reading.{◌>>=◌, Link, octet_at, up_to_at, octets_at, number_at, sized_at, is_number, next_at, kemac_at, time_at, id_at, verify_at, random_at, extension_at, item_type_at, item_at, items_at, policy_at, payload_at}
+use Rattle.sg_mikey.specs.Reading.{◌>>=◌, Chained, octet_at, up_to_at, octets_at, number_at, sized_at, is_number, next_at, kemac_at, time_at, id_at, verify_at, random_at, extension_at, item_type_at, item_at, items_at, policy_at, payload_at}
 use Rattle.sg_mikey.proofs.FieldLaws.{IsOctets, bind_ok, ok_is, Takes, Takes-then, octet_takes, octet_again, up_to_takes, up_to_again, octets_takes, octets_again, wide_two, number_takes, number_again, sized_takes, sized_again, next_takes, next_again, item_type_takes, item_type_again}
 
 -- what a reader of a payload took
-pub record TakesLink (octets : List ℕ) (number : ℕ) (link : Link) : Type 0 where
+pub record TakesChained (octets : List ℕ) (number : ℕ) (link : Chained) : Type 0 where
   pub takes : Takes octets (link.1 ∷ body_octets link.0) link.2
   pub payload : IsPayload link.0
   pub number_is : payload_number link.0 ≡ number
@@ -21,7 +21,7 @@ pub record TakesLink (octets : List ℕ) (number : ℕ) (link : Link) : Type 0 w
 
 -- ---- KEMAC
 
-kemac_takes : (octets : List ℕ) (y : Link) → IsOctets octets → kemac_at octets ≡ Ok y → TakesLink octets 1 y
+kemac_takes : (octets : List ℕ) (y : Chained) → IsOctets octets → kemac_at octets ≡ Ok y → TakesChained octets 1 y
 unfolding kemac_at
 kemac_takes octets y fits e =
     let a = bind_ok (next_at octets) (λ next. up_to_at 2 faults.Value next.1 >>= λ cipher. sized_at cipher.1 >>= λ inner. up_to_at 1 faults.Value inner.1 >>= λ mac. octets_at (tag_length mac.0) mac.1 >>= λ tag. Ok (Kemac cipher.0 inner.0 mac.0 tag.0, next.0, tag.1)) y e in
@@ -38,8 +38,8 @@ kemac_takes octets y fits e =
     let e2 = Takes-then b.0.1 (sized c.0.0) c.0.1 (d.0.0 ∷ t.0.0) t.0.1 tc.0 e1 in
     let e3 = Takes-then a.0.1 (b.0.0 ∷ []) b.0.1 (sized c.0.0 ++ d.0.0 ∷ t.0.0) t.0.1 tb.0 e2 in
     let e4 = Takes-then octets (a.0.0 ∷ []) a.0.1 (b.0.0 ∷ (sized c.0.0 ++ d.0.0 ∷ t.0.0)) t.0.1 ta.0 e3 in
-    let made : Link = (Kemac b.0.0 c.0.0 d.0.0 t.0.0, a.0.0, t.0.1) in
-    subst (λ (z : Link). TakesLink octets 1 z) (ok_is made y t.2)
+    let made : Chained = (Kemac b.0.0 c.0.0 d.0.0 t.0.0, a.0.0, t.0.1) in
+    subst (λ (z : Chained). TakesChained octets 1 z) (ok_is made y t.2)
     (record { takes = e4; payload = (tc.1, (tb.1, td.1, tt'.1)); number_is = refl; known = ta.1 })
 
 kemac_again : (cipher : ℕ) (inner : List ℕ) (mac : ℕ) (tag : List ℕ) (next : ℕ) (rest : List ℕ) → IsPayload (Kemac cipher inner mac tag) → is_number next ≡ true
@@ -58,7 +58,7 @@ kemac_again cipher inner mac tag next rest p known =
 
 -- ---- T
 
-time_takes : (octets : List ℕ) (y : Link) → IsOctets octets → time_at octets ≡ Ok y → TakesLink octets 5 y
+time_takes : (octets : List ℕ) (y : Chained) → IsOctets octets → time_at octets ≡ Ok y → TakesChained octets 5 y
 unfolding time_at
 time_takes octets y fits e =
     let a = bind_ok (next_at octets) (λ next. up_to_at 1 faults.Value next.1 >>= λ form. octets_at 8 form.1 >>= λ stamp. Ok (Time form.0 stamp.0, next.0, stamp.1)) y e in
@@ -69,8 +69,8 @@ time_takes octets y fits e =
     let tc = octets_takes 8 b.0.1 c.0 tb.0.rest_fits c.1 in
     let e1 = Takes-then a.0.1 (b.0.0 ∷ []) b.0.1 c.0.0 c.0.1 tb.0 tc.0 in
     let e2 = Takes-then octets (a.0.0 ∷ []) a.0.1 (b.0.0 ∷ c.0.0) c.0.1 ta.0 e1 in
-    let made : Link = (Time b.0.0 c.0.0, a.0.0, c.0.1) in
-    subst (λ (z : Link). TakesLink octets 5 z) (ok_is made y c.2)
+    let made : Chained = (Time b.0.0 c.0.0, a.0.0, c.0.1) in
+    subst (λ (z : Chained). TakesChained octets 5 z) (ok_is made y c.2)
     (record { takes = e2; payload = (tt, (tb.1, tc.1)); number_is = refl; known = ta.1 })
 
 time_again : (form : ℕ) (stamp : List ℕ) (next : ℕ) (rest : List ℕ) → IsPayload (Time form stamp) → is_number next ≡ true
@@ -81,7 +81,7 @@ time_again form stamp next rest p known =
 
 -- ---- ID
 
-id_takes : (octets : List ℕ) (y : Link) → IsOctets octets → id_at octets ≡ Ok y → TakesLink octets 6 y
+id_takes : (octets : List ℕ) (y : Chained) → IsOctets octets → id_at octets ≡ Ok y → TakesChained octets 6 y
 unfolding id_at
 id_takes octets y fits e =
     let a = bind_ok (next_at octets) (λ next. up_to_at 1 faults.Value next.1 >>= λ form. sized_at form.1 >>= λ name. Ok (Id form.0 name.0, next.0, name.1)) y e in
@@ -92,8 +92,8 @@ id_takes octets y fits e =
     let tc = sized_takes b.0.1 c.0 tb.0.rest_fits c.1 in
     let e1 = Takes-then a.0.1 (b.0.0 ∷ []) b.0.1 (sized c.0.0) c.0.1 tb.0 tc.0 in
     let e2 = Takes-then octets (a.0.0 ∷ []) a.0.1 (b.0.0 ∷ sized c.0.0) c.0.1 ta.0 e1 in
-    let made : Link = (Id b.0.0 c.0.0, a.0.0, c.0.1) in
-    subst (λ (z : Link). TakesLink octets 6 z) (ok_is made y c.2)
+    let made : Chained = (Id b.0.0 c.0.0, a.0.0, c.0.1) in
+    subst (λ (z : Chained). TakesChained octets 6 z) (ok_is made y c.2)
     (record { takes = e2; payload = (tc.1, tb.1); number_is = refl; known = ta.1 })
 
 id_again : (form : ℕ) (name : List ℕ) (next : ℕ) (rest : List ℕ) → IsPayload (Id form name) → is_number next ≡ true
@@ -104,7 +104,7 @@ id_again form name next rest p known =
 
 -- ---- V
 
-verify_takes : (octets : List ℕ) (y : Link) → IsOctets octets → verify_at octets ≡ Ok y → TakesLink octets 9 y
+verify_takes : (octets : List ℕ) (y : Chained) → IsOctets octets → verify_at octets ≡ Ok y → TakesChained octets 9 y
 unfolding verify_at
 verify_takes octets y fits e =
     let a = bind_ok (next_at octets) (λ next. up_to_at 1 faults.Value next.1 >>= λ mac. octets_at (tag_length mac.0) mac.1 >>= λ tag. Ok (Verify mac.0 tag.0, next.0, tag.1)) y e in
@@ -115,8 +115,8 @@ verify_takes octets y fits e =
     let tc = octets_takes (tag_length b.0.0) b.0.1 c.0 tb.0.rest_fits c.1 in
     let e1 = Takes-then a.0.1 (b.0.0 ∷ []) b.0.1 c.0.0 c.0.1 tb.0 tc.0 in
     let e2 = Takes-then octets (a.0.0 ∷ []) a.0.1 (b.0.0 ∷ c.0.0) c.0.1 ta.0 e1 in
-    let made : Link = (Verify b.0.0 c.0.0, a.0.0, c.0.1) in
-    subst (λ (z : Link). TakesLink octets 9 z) (ok_is made y c.2)
+    let made : Chained = (Verify b.0.0 c.0.0, a.0.0, c.0.1) in
+    subst (λ (z : Chained). TakesChained octets 9 z) (ok_is made y c.2)
     (record { takes = e2; payload = (tt, (tb.1, tc.1)); number_is = refl; known = ta.1 })
 
 verify_again : (mac : ℕ) (tag : List ℕ) (next : ℕ) (rest : List ℕ) → IsPayload (Verify mac tag) → is_number next ≡ true
@@ -127,7 +127,7 @@ verify_again mac tag next rest p known =
 
 -- ---- RAND
 
-random_takes : (octets : List ℕ) (y : Link) → IsOctets octets → random_at octets ≡ Ok y → TakesLink octets 11 y
+random_takes : (octets : List ℕ) (y : Chained) → IsOctets octets → random_at octets ≡ Ok y → TakesChained octets 11 y
 unfolding random_at
 random_takes octets y fits e =
     let a = bind_ok (next_at octets) (λ next. octet_at next.1 >>= λ size. octets_at size.0 size.1 >>= λ inner. Ok (Random inner.0, next.0, inner.1)) y e in
@@ -140,8 +140,8 @@ random_takes octets y fits e =
     let front : Takes a.0.1 (be (length c.0.0) 1) b.0.1 = subst (λ (n : ℕ). Takes a.0.1 (n ∷ []) b.0.1) size tb.0 in
     let e1 = Takes-then a.0.1 (be (length c.0.0) 1) b.0.1 c.0.0 c.0.1 front tc.0 in
     let e2 = Takes-then octets (a.0.0 ∷ []) a.0.1 (short c.0.0) c.0.1 ta.0 e1 in
-    let made : Link = (Random c.0.0, a.0.0, c.0.1) in
-    subst (λ (z : Link). TakesLink octets 11 z) (ok_is made y c.2)
+    let made : Chained = (Random c.0.0, a.0.0, c.0.1) in
+    subst (λ (z : Chained). TakesChained octets 11 z) (ok_is made y c.2)
     (record { takes = e2; payload = (rw tc.1 tb.1, tt); number_is = refl; known = ta.1 })
 
 random_again : (inner : List ℕ) (next : ℕ) (rest : List ℕ) → length inner < 2 ^ 8 → is_number next ≡ true
@@ -154,7 +154,7 @@ random_again inner next rest fits known =
 
 -- ---- general extension
 
-extension_takes : (octets : List ℕ) (y : Link) → IsOctets octets → extension_at octets ≡ Ok y → TakesLink octets 21 y
+extension_takes : (octets : List ℕ) (y : Chained) → IsOctets octets → extension_at octets ≡ Ok y → TakesChained octets 21 y
 unfolding extension_at
 extension_takes octets y fits e =
     let a = bind_ok (next_at octets) (λ next. octet_at next.1 >>= λ form. sized_at form.1 >>= λ inner. Ok (Extension form.0 inner.0, next.0, inner.1)) y e in
@@ -165,8 +165,8 @@ extension_takes octets y fits e =
     let tc = sized_takes b.0.1 c.0 tb.0.rest_fits c.1 in
     let e1 = Takes-then a.0.1 (b.0.0 ∷ []) b.0.1 (sized c.0.0) c.0.1 tb.0 tc.0 in
     let e2 = Takes-then octets (a.0.0 ∷ []) a.0.1 (b.0.0 ∷ sized c.0.0) c.0.1 ta.0 e1 in
-    let made : Link = (Extension b.0.0 c.0.0, a.0.0, c.0.1) in
-    subst (λ (z : Link). TakesLink octets 21 z) (ok_is made y c.2)
+    let made : Chained = (Extension b.0.0 c.0.0, a.0.0, c.0.1) in
+    subst (λ (z : Chained). TakesChained octets 21 z) (ok_is made y c.2)
     (record { takes = e2; payload = (tc.1, tt); number_is = refl; known = ta.1 })
 
 extension_again : (form : ℕ) (inner : List ℕ) (next : ℕ) (rest : List ℕ) → IsPayload (Extension form inner) → is_number next ≡ true
@@ -292,14 +292,14 @@ items_enough (suc fuel) more room octets le =
 
 -- ---- SP
 
-abbrev ok_link : Link → Result Link Stop
+abbrev ok_link : Chained → Result Chained Stop
 ok_link x = Ok x
 
 -- the parts of a policy, put together
-policy_made : (octets : List ℕ) (a b c d : ℕ × List ℕ) (i : List Item × List ℕ) (y : Link)
+policy_made : (octets : List ℕ) (a b c d : ℕ × List ℕ) (i : List Item × List ℕ) (y : Chained)
     → Takes octets (a.0 ∷ []) a.1 → is_number a.0 ≡ true → Takes a.1 (b.0 ∷ []) b.1 → Takes b.1 (c.0 ∷ []) c.1 → c.0 ≤ 0 → Takes c.1 (be d.0 2) d.1 → d.0 < 2 ^ 16
     → Takes d.1 (flat_map item_octets i.0) i.1 → length (flat_map item_octets i.0) ≡ d.0 → AllByRecursion FitsItem i.0
-    → ok_link (Sp (record { number = b.0; items = i.0 }), a.0, i.1) ≡ ok_link y → TakesLink octets 10 y
+    → ok_link (Sp (record { number = b.0; items = i.0 }), a.0, i.1) ≡ ok_link y → TakesChained octets 10 y
 policy_made octets a b c d i y ta known tb tc least td small ti size fit e =
     let zero_is : c.0 ≡ 0 = omega arith in
     let protocol : Takes b.1 (0 ∷ []) c.1 = subst (λ (n : ℕ). Takes b.1 (n ∷ []) c.1) zero_is tc in
@@ -308,11 +308,11 @@ policy_made octets a b c d i y ta known tb tc least td small ti size fit e =
     let e2 = Takes-then b.1 (0 ∷ []) c.1 (sized (flat_map item_octets i.0)) i.1 protocol e1 in
     let e3 = Takes-then a.1 (b.0 ∷ []) b.1 (0 ∷ sized (flat_map item_octets i.0)) i.1 tb e2 in
     let e4 = Takes-then octets (a.0 ∷ []) a.1 (b.0 ∷ 0 ∷ sized (flat_map item_octets i.0)) i.1 ta e3 in
-    let made : Link = (Sp (record { number = b.0; items = i.0 }), a.0, i.1) in
-    subst (λ (z : Link). TakesLink octets 10 z) (ok_is made y e)
+    let made : Chained = (Sp (record { number = b.0; items = i.0 }), a.0, i.1) in
+    subst (λ (z : Chained). TakesChained octets 10 z) (ok_is made y e)
     (record { takes = e4; payload = ((rw size small, fit), tt); number_is = refl; known = known })
 
-policy_takes : (octets : List ℕ) (y : Link) → IsOctets octets → policy_at octets ≡ Ok y → TakesLink octets 10 y
+policy_takes : (octets : List ℕ) (y : Chained) → IsOctets octets → policy_at octets ≡ Ok y → TakesChained octets 10 y
 unfolding policy_at
 policy_takes octets y fits e =
     let a = bind_ok (next_at octets) (λ next. octet_at next.1 >>= λ number. up_to_at 0 faults.Value number.1 >>= λ protocol. number_at 2 protocol.1 >>= λ size. items_at size.0 size.0 size.1 >>= λ items. Ok (Sp (record { number = number.0; items = items.0 }), next.0, items.1)) y e in
@@ -346,7 +346,7 @@ policy_again policy next rest p known =
 abbrev pub IsPlaced : ℕ → Type 0
 IsPlaced n = (n ≡ 1) ⊎ ((n ≡ 5) ⊎ ((n ≡ 6) ⊎ ((n ≡ 9) ⊎ ((n ≡ 10) ⊎ ((n ≡ 11) ⊎ (n ≡ 21))))))
 
-pub payload_takes : (number : ℕ) (octets : List ℕ) (y : Link) → IsPlaced number → IsOctets octets → payload_at number octets ≡ Ok y → TakesLink octets number y
+pub payload_takes : (number : ℕ) (octets : List ℕ) (y : Chained) → IsPlaced number → IsOctets octets → payload_at number octets ≡ Ok y → TakesChained octets number y
 unfolding payload_at
 payload_takes number octets y (inl n) fits e = rw n (kemac_takes octets y fits (rw n at e))
 payload_takes number octets y (inr (inl n)) fits e = rw n (time_takes octets y fits (rw n at e))

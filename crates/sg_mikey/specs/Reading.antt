@@ -68,10 +68,10 @@ next_at (octet ∷ rest) = if is_number octet then Ok (octet, rest) else Err (st
 
 -- ---- payloads: the payload, the next one's number, and the octets behind
 
-abbrev pub Link : Type 0
-Link = Payload × ℕ × List ℕ
+abbrev pub Chained : Type 0
+Chained = Payload × ℕ × List ℕ
 
-unfoldable pub kemac_at : List ℕ → Result Link Stop
+unfoldable pub kemac_at : List ℕ → Result Chained Stop
 kemac_at octets = do
   next ← next_at octets
   cipher ← up_to_at 2 faults.Value next.1
@@ -80,35 +80,35 @@ kemac_at octets = do
   tag ← octets_at (tag_length mac.0) mac.1
   Ok (Kemac cipher.0 inner.0 mac.0 tag.0, next.0, tag.1)
 
-unfoldable pub time_at : List ℕ → Result Link Stop
+unfoldable pub time_at : List ℕ → Result Chained Stop
 time_at octets = do
   next ← next_at octets
   form ← up_to_at 1 faults.Value next.1
   stamp ← octets_at 8 form.1
   Ok (Time form.0 stamp.0, next.0, stamp.1)
 
-unfoldable pub id_at : List ℕ → Result Link Stop
+unfoldable pub id_at : List ℕ → Result Chained Stop
 id_at octets = do
   next ← next_at octets
   form ← up_to_at 1 faults.Value next.1
   name ← sized_at form.1
   Ok (Id form.0 name.0, next.0, name.1)
 
-unfoldable pub verify_at : List ℕ → Result Link Stop
+unfoldable pub verify_at : List ℕ → Result Chained Stop
 verify_at octets = do
   next ← next_at octets
   mac ← up_to_at 1 faults.Value next.1
   tag ← octets_at (tag_length mac.0) mac.1
   Ok (Verify mac.0 tag.0, next.0, tag.1)
 
-unfoldable pub random_at : List ℕ → Result Link Stop
+unfoldable pub random_at : List ℕ → Result Chained Stop
 random_at octets = do
   next ← next_at octets
   size ← octet_at next.1
   inner ← octets_at size.0 size.1
   Ok (Random inner.0, next.0, inner.1)
 
-unfoldable pub extension_at : List ℕ → Result Link Stop
+unfoldable pub extension_at : List ℕ → Result Chained Stop
 extension_at octets = do
   next ← next_at octets
   form ← octet_at next.1
@@ -137,7 +137,7 @@ items_at (suc more) (suc room) octets = do
   others ← items_at more (suc room - (2 + length item.0.1)) item.1
   Ok (item.0 ∷ others.0, others.1)
 
-unfoldable pub policy_at : List ℕ → Result Link Stop
+unfoldable pub policy_at : List ℕ → Result Chained Stop
 policy_at octets = do
   next ← next_at octets
   number ← octet_at next.1
@@ -147,7 +147,7 @@ policy_at octets = do
   Ok (Sp (record { number = number.0; items = items.0 }), next.0, items.1)
 
 -- the payload of a number
-unfoldable pub payload_at : ℕ → List ℕ → Result Link Stop
+unfoldable pub payload_at : ℕ → List ℕ → Result Chained Stop
 payload_at number octets =
     if number == 1 then kemac_at octets
     else if number == 5 then time_at octets

@@ -14,7 +14,7 @@ use sg_base::{MikeyFault, Octets};
 use std::alloc::Global;
 
 // What a reader of a payload answers.
-type Link<'a> = (Payload, u8, &'a [u8]);
+type Chained<'a> = (Payload, u8, &'a [u8]);
 
 // How many octets a MAC has.
 fn tag_size(mac: u8) -> usize
@@ -27,7 +27,7 @@ fn tag_size(mac: u8) -> usize
 //
 //   | next payload: 8 | cipher: 8 | length: 16 | key data, encrypted | MAC: 8 | MAC: 0 or 160 |
 #[tactic(auto, unfolding(crate::specs::Reading::kemac_at))]
-fn read_kemac(alloc: Global, octets: &[u8]) -> Result<Link<'_>, Halt>
+fn read_kemac(alloc: Global, octets: &[u8]) -> Result<Chained<'_>, Halt>
     ensures { Gives (λ x. (x.0, x.1, x.2.now)) result (kemac_at octets.now) }
 {
     let (next, rest) = read_next(octets)?;
@@ -50,7 +50,7 @@ fn read_kemac(alloc: Global, octets: &[u8]) -> Result<Link<'_>, Halt>
 //
 //   | next payload: 8 | type: 8 | stamp: 64 |
 #[tactic(auto, unfolding(crate::specs::Reading::time_at))]
-fn read_time(octets: &[u8]) -> Result<Link<'_>, Halt>
+fn read_time(octets: &[u8]) -> Result<Chained<'_>, Halt>
     ensures { Gives (λ x. (x.0, x.1, x.2.now)) result (time_at octets.now) }
 {
     let (next, rest) = read_next(octets)?;
@@ -65,7 +65,7 @@ fn read_time(octets: &[u8]) -> Result<Link<'_>, Halt>
 //
 //   | next payload: 8 | type: 8 | length: 16 | name |
 #[tactic(auto, unfolding(crate::specs::Reading::id_at))]
-fn read_id(alloc: Global, octets: &[u8]) -> Result<Link<'_>, Halt>
+fn read_id(alloc: Global, octets: &[u8]) -> Result<Chained<'_>, Halt>
     ensures { Gives (λ x. (x.0, x.1, x.2.now)) result (id_at octets.now) }
 {
     let (next, rest) = read_next(octets)?;
@@ -79,7 +79,7 @@ fn read_id(alloc: Global, octets: &[u8]) -> Result<Link<'_>, Halt>
 //
 //   | next payload: 8 | MAC: 8 | MAC: 0 or 160 |
 #[tactic(auto, unfolding(crate::specs::Reading::verify_at))]
-fn read_verify(alloc: Global, octets: &[u8]) -> Result<Link<'_>, Halt>
+fn read_verify(alloc: Global, octets: &[u8]) -> Result<Chained<'_>, Halt>
     ensures { Gives (λ x. (x.0, x.1, x.2.now)) result (verify_at octets.now) }
 {
     let (next, rest) = read_next(octets)?;
@@ -93,7 +93,7 @@ fn read_verify(alloc: Global, octets: &[u8]) -> Result<Link<'_>, Halt>
 //
 //   | next payload: 8 | length: 8 | octets |
 #[tactic(auto, unfolding(crate::specs::Reading::random_at))]
-fn read_random(alloc: Global, octets: &[u8]) -> Result<Link<'_>, Halt>
+fn read_random(alloc: Global, octets: &[u8]) -> Result<Chained<'_>, Halt>
     ensures { Gives (λ x. (x.0, x.1, x.2.now)) result (random_at octets.now) }
 {
     let (next, rest) = read_next(octets)?;
@@ -107,7 +107,7 @@ fn read_random(alloc: Global, octets: &[u8]) -> Result<Link<'_>, Halt>
 //
 //   | next payload: 8 | type: 8 | length: 16 | octets |
 #[tactic(auto, unfolding(crate::specs::Reading::extension_at))]
-fn read_extension(alloc: Global, octets: &[u8]) -> Result<Link<'_>, Halt>
+fn read_extension(alloc: Global, octets: &[u8]) -> Result<Chained<'_>, Halt>
     ensures { Gives (λ x. (x.0, x.1, x.2.now)) result (extension_at octets.now) }
 {
     let (next, rest) = read_next(octets)?;
@@ -153,7 +153,7 @@ fn read_items(alloc: Global, octets: &[u8], size: u16) -> Result<(Items<(u8, Oct
 //
 //   | next payload: 8 | policy number: 8 | protocol: 8 | length: 16 | items |
 #[tactic(auto, unfolding(crate::specs::Reading::policy_at))]
-fn read_policy(alloc: Global, octets: &[u8]) -> Result<Link<'_>, Halt>
+fn read_policy(alloc: Global, octets: &[u8]) -> Result<Chained<'_>, Halt>
     ensures { Gives (λ x. (x.0, x.1, x.2.now)) result (policy_at octets.now) }
 {
     let (next, rest) = read_next(octets)?;
@@ -166,7 +166,7 @@ fn read_policy(alloc: Global, octets: &[u8]) -> Result<Link<'_>, Halt>
 
 // The payload of this number.
 #[tactic(auto, unfolding(crate::specs::Reading::payload_at))]
-pub fn read_payload(alloc: Global, octets: &[u8], number: u8) -> Result<Link<'_>, Halt>
+pub fn read_payload(alloc: Global, octets: &[u8], number: u8) -> Result<Chained<'_>, Halt>
     ensures { Gives (λ x. (x.0, x.1, x.2.now)) result (payload_at number octets.now) }
 {
     match number {

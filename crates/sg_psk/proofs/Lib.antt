@@ -1,8 +1,8 @@
-pub mod AcceptLemmas
-pub mod ExchangeLaws
-pub mod KeyLemmas
-pub mod Literals
-pub mod MacLemmas
-pub mod MessageEnds
-pub mod PairLemmas
-pub mod SentLaws
+mod AcceptLemmas
+mod ExchangeLaws
+mod KeyLemmas
+mod Literals
+mod MacLemmas
+mod MessageEnds
+mod PairLemmas
+mod SentLaws

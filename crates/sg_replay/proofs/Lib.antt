@@ -1,3 +1,3 @@
 pub mod DoneLists
 pub mod MarkLists
-pub mod RowBits
+mod RowBits

@@ -1,5 +1,6 @@
 -- The marks of a row, and the lists that they stand for.
 use Rattle.std.proofs.Common.{◌≡◌, ◌≢◌, ℕ, ◌+◌, ◌-◌, ◌%◌, ◌<◌, ◌≤◌, Bool, true, false, ◌&&◌, nat_eq, nat_le, List, [], ◌∷◌, ◌++◌, Option, Some, None, arith, refl, ap, subst, ◌∙◌, sym, inl, inr, zero, suc}
+use Rattle.std.proofs.Math.Bool.{and-false, and-true}
 use Rattle.std.specs.List.{filter, range_with_len}
 use Rattle.std.proofs.lemmas.Bool.{cases_Bool, cases_eq, cases_lt, lt-ltb, le-ltb, lt-leb, le-leb, leb-false, ne_eqb, eq-eqb, eqb-true, or_left, or_right}
 use Rattle.std.proofs.lemmas.Map.Views.{any-filter_same}
@@ -24,12 +25,6 @@ range_lacks a zero i p = refl
 range_lacks a (suc n) i p = rw (ne_eqb a i (omega arith), range_lacks (a + 1) n i (omega arith)) refl
 
 -- ---- the marked indices inside the window
-and_true : (b : Bool) → (b && true) ≡ b
-and_true b = elim b as (λ v. (v && true) ≡ v) [ true ↦ refl | false ↦ refl ]
-
-and_false : (b : Bool) → (b && false) ≡ false
-and_false b = elim b as (λ v. (v && false) ≡ false) [ true ↦ refl | false ↦ refl ]
-
 marked_among : (row : List ℕ) (i : ℕ) (xs : List ℕ) → is_in (filter (mark_of row) xs) i ≡ (mark_of row i && is_in xs i)
 marked_among row i xs =
     any-filter_same (λ x. nat_eq x i) (mark_of row) (mark_of row i) (λ k e. ap (mark_of row) (eqb-true k i e)) xs
@@ -39,14 +34,14 @@ unfolding marks_inside
 inside_here window h row i p q =
     marked_among row i (range_with_len (h + 1 - window) (h + 1 - (h + 1 - window)))
     ∙ ap (λ b. mark_of row i && b) (range_has (h + 1 - window) (h + 1 - (h + 1 - window)) i (omega arith) (omega arith))
-    ∙ and_true (mark_of row i)
+    ∙ and-true (mark_of row i)
 
 inside_above : (window h : ℕ) (row : List ℕ) (i : ℕ) → h < i → is_in (marks_inside window (Some h) row) i ≡ false
 unfolding marks_inside
 inside_above window h row i p =
     marked_among row i (range_with_len (h + 1 - window) (h + 1 - (h + 1 - window)))
     ∙ ap (λ b. mark_of row i && b) (range_lacks (h + 1 - window) (h + 1 - (h + 1 - window)) i (omega arith))
-    ∙ and_false (mark_of row i)
+    ∙ and-false (mark_of row i)
 
 -- ---- what a `Seen` answers
 -- what a `Seen` shows of its fields

@@ -1,5 +1,7 @@
 -- What is spelled of a line with a spelling is read as that line.
 use Rattle.std.proofs.Common.{◌≡◌, ℕ, ◌+◌, ◌-◌, ◌^◌, ◌<◌, ◌≤◌, Bool, true, false, cond, eqb, List, [], ◌∷◌, ◌++◌, length, take, drop, map, Option, Some, None, Result, Ok, refl, sym, ap, ◌∙◌, arith, append_assoc, length-append}
+use Rattle.std.proofs.Math.Seq.{drop-append_seam}
+use Rattle.std.proofs.Math.Bool.{and-false}
 use Rattle.std.specs.Prelude.{◌&&◌, codes, IfSome}
 use Rattle.std.specs.Char.{is_ascii_digit}
 use Rattle.std.specs.List.{AllByRecursion, join_with_byte, list_all, slice_split, starts_with}
@@ -59,12 +61,8 @@ crypto_suite_again s other = suite_step s None other (suite_again s)
 
 -- ---- one key
 
-dropped : (a b : List ℕ) → drop (length a) (a ++ b) ≡ b
-dropped [] b = refl
-dropped (x ∷ a) b = dropped a b
-
 drop_at : (a b : List ℕ) (n : ℕ) → length a ≡ n → drop n (a ++ b) ≡ b
-drop_at a b n e = rw (← e) (dropped a b)
+drop_at a b n e = rw (← e) (drop-append_seam a b)
 
 same_key : (suite : Suite) (k : InlineKey) → IsInlineKey suite k → master_of suite (k.key.key ++ k.key.salt) ≡ k.key
 same_key suite k fits =
@@ -85,14 +83,10 @@ key_of suite b k fits decoded =
 key_again : (suite : Suite) (k : InlineKey) → IsInlineKey suite k → key_at suite (encode_of standard (k.key.key ++ k.key.salt)) ≡ Some k.key
 key_again suite k fits = key_of suite (encode_of standard (k.key.key ++ k.key.salt)) k fits (base64_padded (k.key.key ++ k.key.salt) fits.octets)
 
-and_false : (b : Bool) → (b && false) ≡ false
-and_false true = refl
-and_false false = refl
-
 not_power : (t : List ℕ) → Lacks 94 t → starts_with nat_eq t (codes "2^") ≡ false
 not_power [] lacks = refl
-not_power (x ∷ []) lacks = and_false (eqb 50 x)
-not_power (x ∷ y ∷ ys) lacks = rw (ne_eqb 94 y (λ e. eqb-false y 94 lacks.1.0 (sym e))) (and_false (eqb 50 x))
+not_power (x ∷ []) lacks = and-false (eqb 50 x)
+not_power (x ∷ y ∷ ys) lacks = rw (ne_eqb 94 y (λ e. eqb-false y 94 lacks.1.0 (sym e))) (and-false (eqb 50 x))
 
 pub lifetime_again : (n : ℕ) → 1 ≤ n → n ≤ 2 ^ 48 → lifetime_at (decimal n) ≡ Some n
 unfolding lifetime_at

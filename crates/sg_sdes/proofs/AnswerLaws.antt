@@ -12,14 +12,12 @@ use Rattle.sg_base.specs.Suites.{key_len_of, salt_len_of}
 use Rattle.sg_base.specs.declared.SdesFault.{SdesFault}
 use Rattle.sg_base.specs.declared.SdesFault.TheVariants.{NoLine, Tag, Suite as NoSuite}
 use Rattle.sg_sdes.specs.declared.lines.CryptoLine.{CryptoLine}
+use Rattle.sg_base.proofs.Lists.{split_here}
 use Rattle.sg_sdes.specs.Answers.{chosen_of, or_next, IsUnread, fresh_line, matched, same_suite}
 use Rattle.sg_sdes.specs.CryptoOf.{crypto_of}
 use Rattle.sg_sdes.specs.CryptoText.{IsCryptoLine}
 use Rattle.sg_sdes.specs.Keys.{all_differ, or_fault}
 use Rattle.sg_sdes.proofs.ValidLaws.{crypto_valid, made_key, inline_made, longest, bind_ok}
-
-split_here : (vs : List (List ℕ)) (i : ℕ) (v : List ℕ) → i < length vs → v ≡ get_or vs i v → drop i vs ≡ v ∷ drop (i + 1) vs
-split_here vs i v lt is = rw (add-one, drop-cons vs i v lt) (ap (λ (x : List ℕ). x ∷ drop (suc i) vs) (sym is))
 
 pub is_read : (vs : List (List ℕ)) (i : ℕ) (v : List ℕ) (l : CryptoLine) (total : Result CryptoLine SdesFault) → i < length vs → v ≡ get_or vs i v → Ok l ≡ crypto_of v
     → chosen_of (drop i vs) ≡ total → Ok l ≡ total

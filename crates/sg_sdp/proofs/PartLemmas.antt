@@ -3,7 +3,7 @@ use Rattle.std.proofs.Common.{◌≡◌, ℕ, zero, suc, ◌<◌, List, [], ◌�
 use Rattle.std.proofs.lemmas.List.{length-set}
 use Rattle.std.specs.List.{refill}
 use Rattle.std.specs.Prelude.{slice_index_or, slice_set}
-use Rattle.sg_base.proofs.Refills.{refill_same}
+use Rattle.sg_base.proofs.Lists.{refill_same}
 use Rattle.sg_sdp.specs.declared.medium.Medium.{Medium}
 use Rattle.sg_sdp.specs.Parts.{with_line_at}
 

@@ -2,6 +2,7 @@
 use Rattle.std.proofs.Common.{◌≡◌, ℕ, ◌+◌, ◌-◌, ◌<◌, ◌≤◌, List, [], ◌∷◌, length, get_or, take, drop, map, Result, Ok, Err, refl, sym, ap, ◌∙◌, Bor, add-one, drop-cons}
 use Rattle.std.proofs.lemmas.List.{take-map, length-map}
 use Rattle.std.proofs.Math.ListN.{get_or-map, drop_of_length-le}
+use Rattle.sg_base.proofs.Lists.{drop_next}
 use Rattle.sg_sdp.specs.declared.faults.ReadSdpFault.{ReadSdpFault}
 use Rattle.sg_sdp.specs.declared.faults.ReadSdpFault.TheVariants as errors
 use Rattle.sg_sdp.specs.declared.sdp.Sdp.{Sdp}
@@ -12,13 +13,10 @@ use Rattle.sg_sdp.specs.Reading.{◌>>=◌, Gives, Changes, at_line, step, steps
 abbrev pub texts : List (Bor (List ℕ)) → List (List ℕ)
 texts xs = map (λ x. x.now) xs
 
-split_here : (xs : List (Bor (List ℕ))) (i : ℕ) (d : Bor (List ℕ)) → i < length xs → drop i xs ≡ get_or xs i d ∷ drop (i + 1) xs
-split_here xs i d lt = rw add-one (drop-cons xs i d lt)
-
 one : (most : ℕ) (xs : List (Bor (List ℕ))) (i n : ℕ) (s : Sdp) (raw : List ℕ) (d : Bor (List ℕ)) → i < length xs → raw ≡ without_cr (get_or xs i d).now
     → steps most n s (texts (drop i xs)) ≡ (at_line n (step most n s raw) >>= λ t. steps most (n + 1) t (texts (drop (i + 1) xs)))
 unfolding steps
-one most xs i n s raw d lt e = rw (split_here xs i d lt, e) refl
+one most xs i n s raw d lt e = rw (drop_next xs i d lt, e) refl
 
 pub goes_on : (most : ℕ) (xs : List (Bor (List ℕ))) (i n : ℕ) (s t : Sdp) (raw : List ℕ) (d : Bor (List ℕ)) (total : Result Sdp Fault) → i < length xs → raw ≡ without_cr (get_or xs i d).now
     → at_line n (step most n s raw) ≡ Ok t → steps most n s (texts (drop i xs)) ≡ total → steps most (n + 1) t (texts (drop (i + 1) xs)) ≡ total

@@ -3,7 +3,7 @@ use Rattle.std.specs.Prelude.{ℕ, ◌-◌, List, [], ◌∷◌, length, take, d
 use Rattle.std.specs.List.{list_all, starts_with}
 use Rattle.std.specs.Str.{bytes_eq}
 use Rattle.sg_base.specs.Fields.{◌>>=◌, cut_at, four_at, number_at}
-use Rattle.sg_sdp.specs.declared.form.Head.{Head}
+use Rattle.sg_sdp.specs.declared.form.MediaLine.{MediaLine}
 use Rattle.sg_sdp.specs.declared.medium.Profile.{Profile}
 use Rattle.sg_sdp.specs.declared.medium.Profile.TheVariants.{Avp, Savp, Avpf, Savpf, Other}
 
@@ -62,5 +62,5 @@ unfoldable pub connection_of : List ℕ → Option (List ℕ)
 connection_of text = if starts_with nat_eq text (codes "IN IP4 ") then four_at (drop 7 text) else None
 
 -- as the code holds it
-abbrev pub view_head : Head → HeadParts
+abbrev pub view_head : MediaLine → HeadParts
 view_head h = record { word = h.word.now; port = h.port; proto = h.proto.now; formats = h.formats.now }

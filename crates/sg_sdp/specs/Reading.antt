@@ -5,7 +5,7 @@ use Rattle.sg_base.specs.declared.SdpFault.{SdpFault}
 use Rattle.sg_base.specs.declared.SdpFault.TheVariants.{Order, Form, TooLong, TooManyMedia, Address}
 use Rattle.sg_sdp.specs.declared.faults.ReadSdpFault.{ReadSdpFault}
 use Rattle.sg_sdp.specs.declared.faults.ReadSdpFault.TheVariants as errors
-use Rattle.sg_sdp.specs.declared.form.Head.{Head}
+use Rattle.sg_sdp.specs.declared.form.MediaLine.{MediaLine}
 use Rattle.sg_sdp.specs.declared.medium.Medium.{Medium}
 use Rattle.sg_sdp.specs.declared.sdp.Sdp.{Sdp}
 use Rattle.sg_sdp.specs.Addresses.{addressed}
@@ -98,6 +98,6 @@ Changes (Ok u) new read = read ≡ Ok new
 Changes (Err (errors.Sdp line fault)) new read = read ≡ Err (line, fault)
 Changes (Err errors.NoMemory) new read = Unit {0}
 
-abbrev pub view_form : Result (Option Head) SdpFault → Result (Option HeadParts) SdpFault
+abbrev pub view_form : Result (Option MediaLine) SdpFault → Result (Option HeadParts) SdpFault
 view_form (Ok head) = Ok (option_map view_head head)
 view_form (Err f) = Err f

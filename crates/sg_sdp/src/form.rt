@@ -9,7 +9,7 @@ use sg_base::{cut, read_four, read_number};
 
 // What stands behind `m=`.
 #[derive(Clone, Copy)]
-pub struct Head<'a> {
+pub struct MediaLine<'a> {
     pub word: &'a [u8],
     pub port: u16,
     pub proto: &'a [u8],
@@ -82,7 +82,7 @@ pub fn profile_of(proto: &[u8]) -> Profile
 //
 //   | word | space | port | space | proto | space | formats |
 #[tactic(auto, unfolding(crate::specs::LineForm::head_of))]
-pub fn read_head(text: &[u8]) -> Option<Head<'_>>
+pub fn read_head(text: &[u8]) -> Option<MediaLine<'_>>
     ensures { option_map view_head result ≡ head_of text.now }
 {
     let (word, rest) = cut(b' ', text)?;
@@ -90,7 +90,7 @@ pub fn read_head(text: &[u8]) -> Option<Head<'_>>
     let (proto, formats) = cut(b' ', rest)?;
     let port = read_number(65535, port)? as u16;
     if is_word(word) && is_word(proto) && !formats.is_empty() {
-        Some(Head {
+        Some(MediaLine {
             word,
             port,
             proto,

@@ -10,7 +10,7 @@ ghost use Rattle.sg_sdp.specs.declared.sdp.Sdp.{Sdp};
 
 use crate::addresses::{address_all, first_address};
 use crate::faults::ReadSdpFault;
-use crate::form::{Head, connection, has_form, profile_of, read_head, without_cr};
+use crate::form::{MediaLine, connection, has_form, profile_of, read_head, without_cr};
 use crate::medium::{Lines, Media, Medium};
 use crate::sdp::Sdp;
 use sg_base::{MEDIA_MOST, NoMemory, Octets, SDP_LINE_MOST, SDP_MOST, SdpFault};
@@ -18,7 +18,7 @@ use std::alloc::{AllocError, Global};
 
 // The head of a medium at an `m=` line, and nothing at another.
 #[tactic(auto, unfolding(crate::specs::Reading::form_of))]
-fn form(line: &[u8]) -> Result<Option<Head<'_>>, SdpFault>
+fn form(line: &[u8]) -> Result<Option<MediaLine<'_>>, SdpFault>
     ensures value { view_form result ≡ form_of 2048 line.now }
     ensures long { IfOk result (λ _. 2 ≤ length line.now) }
 {
@@ -52,7 +52,7 @@ fn is_in_order(number: u32, line: &[u8]) -> bool
 
 // A medium with no line yet.
 #[tactic(auto, unfolding(crate::specs::Reading::opened))]
-fn open(alloc: Global, head: Head<'_>) -> Result<Medium, NoMemory>
+fn open(alloc: Global, head: MediaLine<'_>) -> Result<Medium, NoMemory>
     ensures { IfOk result (λ m. m ≡ opened (view_head head.entry)) }
 {
     Ok(Medium {

@@ -1,5 +1,5 @@
 pub mod CanSeal
-pub mod Fits
+mod Fits
 pub mod Inversions
 pub mod Leaves
 pub mod Lists
