@@ -11,6 +11,7 @@ pub mod MessagesSound
 pub mod SessionsSound
 mod SideWalks
 mod Sound
+pub mod TextLines
 mod Texts
 mod TwoSided
 pub mod Walks

@@ -16,4 +16,5 @@ pub mod Refusals
 pub mod Sides
 pub mod Sound
 pub mod Streams
+pub mod TextLines
 pub mod Walks

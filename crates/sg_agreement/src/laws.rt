@@ -10,6 +10,7 @@ ghost use Rattle.sg_agreement.specs.Messages.{AtHand};
 ghost use Rattle.sg_agreement.specs.Offers.{AgreedOffer, agreed_offer};
 ghost use Rattle.sg_agreement.specs.Sides.{is_active, side_of};
 ghost use Rattle.sg_agreement.specs.Sound.{AreAgreedWhereActive, IsSoundMedium};
+ghost use Rattle.sg_agreement.specs.TextLines.{HasNoMessage, StandInTexts};
 ghost use Rattle.sg_agreement.specs.Walks.{prefixed};
 ghost use Rattle.sg_agreement.specs.declared.ways.Way.{Way};
 ghost use Rattle.sg_agreement.specs.declared.ways.Way.TheVariants as ways;
@@ -68,6 +69,20 @@ pub fn no_key_goes_to_the_plain_side()
 {
     a_carried_text_is_a_description();
 }
+
+/// What is agreed by crypto lines stands in the texts. A medium that is agreed opens under a line of the peer's text and
+/// seals under a line of the text for the peer: under their keys, with their lives and MKIs and the tags of their suites,
+/// from rollover 0 on, in the window of the peer's line, and encrypted where the peer's line doesn't say that it isn't.
+pub fn what_is_agreed_stands_in_the_texts()
+    // The peer offered, without a MIKEY message: its line is in the offer, the gateway's in the text of the answer.
+    ensures offered { (h : AtHand) (offered noise answer : List ℕ) (slot : ℕ) (a : AgreedOffer) (g : AgreedAnswer)
+        → agreed_offer h ways.FromSecure offered ≡ Ok a → HasNoMessage a.offer.description → agreed_answer slot a.offer noise answer ≡ Ok g
+        → StandInTexts a.offer.description.media g.text g.media }
+    // The gateway offered: its line is in the text of the offer, the peer's in the answer.
+    ensures answered { (h : AtHand) (offered noise answer : List ℕ) (slot : ℕ) (a : AgreedOffer) (g : AgreedAnswer)
+        → agreed_offer h ways.SdesFromPlain offered ≡ Ok a → agreed_answer slot a.offer noise answer ≡ Ok g
+        → (s : Sdp) × (description_of answer ≡ Ok s) × StandInTexts s.media a.text g.media }
+{}
 
 /// A walk that has taken the media before this one goes on with this one: what a loop over media keeps.
 pub fn active_media_are_taken_in_order()
