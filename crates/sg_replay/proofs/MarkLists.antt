@@ -1,5 +1,5 @@
 -- The marks of a row, and the lists that they stand for.
-use Rattle.std.proofs.Common.{◌≡◌, ◌≢◌, ℕ, ◌+◌, ◌-◌, ◌%◌, ◌<◌, ◌≤◌, Bool, true, false, ◌&&◌, nat_eq, nat_le, List, [], ◌∷◌, ◌++◌, Option, Some, None, arith, refl, ap, subst, ◌∙◌, sym, inl, inr, zero, suc}
+use Rattle.std.proofs.Common.{◌≡◌, ◌≢◌, ℕ, ◌+◌, ◌-◌, ◌%◌, ◌<◌, ◌≤◌, true, false, ◌&&◌, nat_eq, nat_le, List, [], ◌∷◌, ◌++◌, Option, Some, None, arith, refl, ap, subst, ◌∙◌, sym, inl, inr, zero, suc}
 use Rattle.std.proofs.Math.Bool.{and-false, and-true}
 use Rattle.std.specs.List.{filter, range_with_len}
 use Rattle.std.proofs.lemmas.Bool.{cases_Bool, cases_eq, cases_lt, lt-ltb, le-ltb, lt-leb, le-leb, leb-false, ne_eqb, eq-eqb, eqb-true, or_left, or_right}

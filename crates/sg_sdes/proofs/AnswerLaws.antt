@@ -1,5 +1,5 @@
 -- Choosing a line, value by value.
-use Rattle.std.proofs.Common.{◌≡◌, ◌≢◌, ℕ, ◌+◌, ◌^◌, ◌<◌, ◌≤◌, List, [], ◌∷◌, Bool, true, false, cond, None, length, drop, get_or, Result, Ok, Err, refl, sym, ap, ◌∙◌, subst, suc, add-one, drop-cons, arith}
+use Rattle.std.proofs.Common.{◌≡◌, ◌≢◌, ℕ, ◌+◌, ◌^◌, ◌<◌, ◌≤◌, List, [], ◌∷◌, Bool, true, false, cond, None, length, drop, get_or, Result, Ok, Err, refl, sym, ◌∙◌, subst, arith}
 use Rattle.std.specs.Prelude.{IfOk, IfErr}
 use Rattle.std.specs.List.{AllByRecursion, find}
 use Rattle.std.specs.Prelude.{◌==◌}

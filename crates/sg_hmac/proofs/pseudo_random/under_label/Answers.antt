@@ -22,7 +22,7 @@ loop-preserved c =
     let onto = c.expand_onto.ensures ∙ ap (λ n. xor_octets c.loop.part (expanded c.split_at.result.0.now label n)) c.loop.invariant.0 in (
       ap length onto ∙ onto_length c.split_at.result.0.now label c.loop.part (length c.args.part.now) (omega (arith, c.loop.invariant.0)) ∙ c.loop.invariant.0,
       next_block c.div_ceil-end.result c.loop.counter c.min.result (length c.args.part.now) c.loop.rest.now c.split_at.result.0.now c.split_at.result.1.now
-          c.loop.part c.expand_onto.new.part label _ c.loop-test.true (omega arith) (λ lt. omega (arith, lt)) c.split_at.ensures.prefix c.split_at.ensures.back
+          c.loop.part c.expand_onto.new.part label _ c.loop-test.true (omega arith) (λ lt. omega (arith, lt)) c.split_at.ensures.front c.split_at.ensures.back
           onto c.loop.invariant.1,
     )
 
