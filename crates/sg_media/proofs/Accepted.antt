@@ -1,33 +1,31 @@
 -- From the steps of opening to what a side opens, and from there to the sessions that it stands for.
-use Rattle.std.proofs.Common.{◌≡◌, ℕ, Bool, true, false, not, List, Result, Ok, Err, IfOk, refl, ap, subst, sym, ◌∙◌}
+use Rattle.std.proofs.Common.{◌≡◌, ℕ, Bool, true, false, not, List, Result, Ok, Err, refl, ap, subst, sym, ◌∙◌}
+use Rattle.std.specs.Prelude.{MatchResult}
 use Rattle.sg_base.specs.declared.addresses.Kind.{Kind}
 use Rattle.sg_base.specs.declared.faults.DropCause.{DropCause}
 use Rattle.sg_base.specs.declared.faults.DropCause.TheVariants.{SsrcUnknown}
-use Rattle.sg_keys.specs.Live.{Live, mki_len as live_mki_len, spent}
+use Rattle.sg_keys.specs.Live.{Live, mki_len as live_mki_len}
 use Rattle.sg_session.specs.OneSession.{after}
 use Rattle.sg_session.specs.Opening.{Head, Taken, mki_len, opens}
 use Rattle.sg_session.specs.Session.{Done, Session, is_admitted}
 use Rattle.sg_session.specs.Stages.{after_ok, stop_if}
 use Rattle.sg_states.specs.Choosing.{chosen_for}
-use Rattle.sg_states.specs.Inbound.{Heading, Keying, IsKeyed}
+use Rattle.sg_states.specs.Inbound.{Heading, Keying, IsHeaded, IsKeyed}
 use Rattle.sg_states.specs.Parts.{heading, mki_of}
 use Rattle.sg_states.specs.Steps.{done_of, opening_steps}
-use Rattle.sg_states.specs.StreamValues.{StreamValue}
 use Rattle.sg_states.proofs.OpeningLaw.{mki_len_is, opening_is}
 use Rattle.sg_media.specs.declared.inbound.Opened.{Opened}
 use Rattle.sg_media.specs.Accepting.{IsAccepted}
 use Rattle.sg_media.specs.Answers.{answer_at, entry_of, opened_among, opened_of}
 use Rattle.sg_media.specs.Sides.{SideValue, StandsFor}
-use Rattle.sg_media.specs.Standing.{StreamsTake}
-use Rattle.sg_media.specs.States.{IsHeadedAs}
-use Rattle.sg_media.specs.Steps.{SideTakes, heading_at, opened_headed, side_opens}
+use Rattle.sg_media.specs.Steps.{heading_at, opened_headed, side_opens}
 
 -- ---- a datagram with its head
 pub record IsHeadAt (v : SideValue) (d : List ℕ) (h : Heading) : Type 0 where
   pub reads : heading v.kind v.encrypts (live_mki_len v.keys) v.tag_len d ≡ Ok h.head
   pub same : h ≡ heading_at v d h.head
 
-pub headed_at : (v : SideValue) (d : List ℕ) (m : ℕ) (h : Heading) → m ≡ live_mki_len v.keys → IsHeadedAs d v.kind v.encrypts m v.tag_len h → IsHeadAt v d h
+pub headed_at : (v : SideValue) (d : List ℕ) (m : ℕ) (h : Heading) → m ≡ live_mki_len v.keys → IsHeaded d v.kind v.encrypts m v.tag_len h → IsHeadAt v d h
 headed_at v d m h e is = record {
   reads = sym (ap (λ n. heading v.kind v.encrypts n v.tag_len d) e) ∙ is.reads;
   same = λ i. record { pad = is.same_pad i; kind = is.same_kind i; mki_len = (is.same_mki_len ∙ e) i; tag_len = is.same_tag_len i; head = h.head };
@@ -102,18 +100,11 @@ module _ (v : SideValue) (s : Session) (d : List ℕ) (st : StandsFor v s) where
   stands_refused c e = subst (λ r. StandsFor v (after s r)) (sym (cause_is (opens s d) c (sym (steps_are ∙ opening_is s d) ∙ e))) st
 
 -- ---- what an answer tells
-pub opened_ok : (kind : Kind) (d : List ℕ) (r : Result Taken DropCause) (o : Opened) → Ok o ≡ opened_of kind d r → (t : Taken) × (r ≡ Ok t) × (entry_of o ≡ t.done)
-opened_ok kind d (Ok t) o e =
+pub opened_tells : (kind : Kind) (d : List ℕ) (said : Result Taken DropCause) (r : Result Opened (List ℕ × DropCause)) → r ≡ opened_of kind d said
+    → MatchResult r (λ o. (t : Taken) × (said ≡ Ok t) × (entry_of o ≡ t.done)) (λ e. (c : DropCause) × (said ≡ Err c))
+opened_tells kind d (Ok t) (Ok o) e =
     let same : o ≡ record { pad = t.done.packet; kind = kind; ssrc = t.done.ssrc; index = t.done.index; key = t.done.key } = cc in
     (t, refl, ap entry_of same)
-opened_ok kind d (Err c) o e = cc
-
-pub opened_err : (kind : Kind) (d : List ℕ) (r : Result Taken DropCause) (x : List ℕ × DropCause) → Err x ≡ opened_of kind d r → (c : DropCause) × (r ≡ Err c)
-opened_err kind d (Ok t) x e = cc
-opened_err kind d (Err c) x e = (c, refl)
-
-pub side_takes : (E : Type 0) (v : SideValue) (r : Result Opened E) (keys : List Live) (streams : List StreamValue)
-    → IfOk r (λ o. StreamsTake v.streams streams v.roc v.window (entry_of o)) → IfOk r (λ o. keys ≡ spent o.key v.keys)
-    → IfOk r (λ o. SideTakes v (record v { keys = keys; streams = streams }) (entry_of o))
-side_takes E v (Ok o) keys streams grown served = record { rest = ap (λ (ks : List Live). record v { keys = ks; streams = streams }) served; streams = grown }
-side_takes E v (Err e) keys streams grown served = tt
+opened_tells kind d (Err c) (Err x) e = (c, refl)
+opened_tells kind d (Ok t) (Err x) e = cc
+opened_tells kind d (Err c) (Ok o) e = cc

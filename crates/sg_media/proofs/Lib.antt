@@ -1,9 +1,8 @@
-pub mod Accepted
-pub mod Admitted
-mod EitherKind
-pub mod OpeningSteps
-pub mod SealingSteps
-pub mod SideSteps
-pub mod Sources
-pub mod Standing
+mod Accepted
+mod Admitted
+mod OpeningSteps
+mod SealingSteps
+mod SideSteps
+mod Sources
+mod Standing
 pub mod TagLengths

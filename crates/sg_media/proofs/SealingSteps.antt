@@ -7,8 +7,8 @@ use Rattle.sg_keys.specs.Live.{Live, spent, spent_if}
 use Rattle.sg_keys.proofs.Spending.{same_half, same_mki, same_number}
 use Rattle.sg_session.specs.Stages.{after_ok}
 use Rattle.sg_states.specs.Choosing.{chosen_to_seal}
-use Rattle.sg_states.specs.Outbound.{Outgoing, Numbering, CanSeal, IsNumbered, closed, encrypted_at, numbered}
-use Rattle.sg_media.specs.States.{IsSealedAs}
+use Rattle.sg_states.specs.Outbound.{Outgoing, Numbering, CanSeal, IsNumbered, IsSealedOf, closed, datagram_at, encrypted_at, numbered}
+use Rattle.sg_states.specs.declared.outbound.Sealed.{Sealed as StateSealed}
 use Rattle.sg_media.specs.declared.outbound.Sealed.{Sealed}
 use Rattle.sg_media.specs.Answers.{closed_at, sealed_at, told_of}
 use Rattle.sg_media.specs.Ciphers.{EachEncrypts}
@@ -32,23 +32,19 @@ can_seal keys new at number k encrypted c e n s = record {
 abbrev text_under : Outgoing → ℕ → ℕ → HalfKeys → List ℕ → List ℕ
 text_under h tag_len index half mki = closed h.kind half h.head.encrypted tag_len index mki (encrypted_at h h.head.encrypted half index)
 
-sealed_is : (o : Sealed) (pad : List ℕ) (kind : Kind) (ssrc index key : ℕ) → o.pad ≡ pad → o.kind ≡ kind → o.ssrc ≡ ssrc → o.index ≡ index → o.key ≡ key
-    → o ≡ record { pad = pad; kind = kind; ssrc = ssrc; index = index; key = key }
-sealed_is o pad kind ssrc index key a b c d e = λ i. record { pad = a i; kind = b i; ssrc = c i; index = d i; key = e i }
-
 -- the datagram of the served key is that of the key
 served_text : (h : Outgoing) (tag_len index : ℕ) (k : Live) → text_under h tag_len index (spent_if k.number k).half (spent_if k.number k).mki ≡ text_under h tag_len index k.half k.mki
 served_text h tag_len index k = λ i. text_under h tag_len index (same_half k.number k i) (same_mki k.number k i)
 
-pub seal_says : (h : Outgoing) (keys : List Live) (tag_len : ℕ) (r : Result ℕ DropCause) (n : Numbering) (x : IsNumbered h keys n) (o : Sealed) → r ≡ Ok n.index
-    → IsSealedAs n (spent_if x.key.number x.key) tag_len o → Ok o ≡ told_of h.kind h.pad (sealed_at h keys tag_len r)
-seal_says h keys tag_len r n x o e s =
-    ap Ok (sealed_is o _ _ _ _ _
-    (s.text ∙ ap (λ (g : Outgoing). text_under g tag_len n.index (spent_if x.key.number x.key).half (spent_if x.key.number x.key).mki) x.same ∙ served_text h tag_len n.index x.key)
-    (s.kind ∙ ap (λ (g : Outgoing). g.kind) x.same)
-    (s.ssrc ∙ ap (λ (g : Outgoing). g.head.ssrc) x.same)
-    s.index
-    (s.number ∙ same_number x.key.number x.key))
+pub seal_says : (h : Outgoing) (keys : List Live) (tag_len : ℕ) (r : Result ℕ DropCause) (n : Numbering) (x : IsNumbered h keys n) (kind : Kind) (o : StateSealed) → r ≡ Ok n.index
+    → kind ≡ h.kind → IsSealedOf n (spent_if x.key.number x.key) h.head.encrypted tag_len o
+    → Ok (record { pad = o.pad; kind = kind; ssrc = o.ssrc; index = o.index; key = o.key }) ≡ told_of h.kind h.pad (sealed_at h keys tag_len r)
+seal_says h keys tag_len r n x kind o e k s =
+    let text : o.pad ≡ text_under h tag_len n.index x.key.half x.key.mki =
+    s.text ∙ ap (λ (g : Outgoing). datagram_at (record n { headed = g }) (spent_if x.key.number x.key) h.head.encrypted tag_len) x.same ∙ served_text h tag_len n.index x.key in
+    let ssrc : o.ssrc ≡ h.head.ssrc = s.ssrc ∙ ap (λ (g : Outgoing). g.head.ssrc) x.same in
+    let number : o.key ≡ x.key.number = s.number ∙ same_number x.key.number x.key in
+    (λ i. let y : Result Sealed (List ℕ × DropCause) = Ok (record { pad = text i; kind = k i; ssrc = ssrc i; index = s.index i; key = number i }) in y)
     ∙ sym (λ i. told_of h.kind h.pad (after_ok (x.choice i) (λ key. after_ok (e i) (λ j. Ok (closed_at h tag_len key j)))))
 
 told_err : (h : Outgoing) (tag_len : ℕ) (k : Result Live DropCause) (r : Result ℕ DropCause) (c : DropCause) → after_ok k (λ key. r) ≡ Err c

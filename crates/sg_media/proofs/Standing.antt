@@ -1,6 +1,6 @@
 -- Streams after one datagram more.
 use Rattle.std.proofs.Common.{◌≡◌, ◌≢◌, ℕ, zero, suc, ◌+◌, ◌<◌, ◌≤◌, true, false, not, nat_eq, nat_lt, List, [], ◌∷◌, ◌++◌, length, map, take, get_or, slice_get, slice_set, Some, None, refl, arith, ap, subst, sym, ◌∙◌, ◌⊎◌, inl, inr}
-use Rattle.std.proofs.lemmas.Bool.{cases_eq, both_ways, ne_eqb, lt-ltb}
+use Rattle.std.proofs.lemmas.Bool.{cases_eq, both_ways, ne_eqb, lt-ltb, or_left}
 use Rattle.std.proofs.lemmas.List.{map-append, length-map, length-set, take_more}
 use Rattle.std.proofs.lemmas.Option.{get_or_from_slice_get}
 use Rattle.std.proofs.Math.Seq.{map-set_same, take-append_seam}
@@ -9,7 +9,7 @@ use Rattle.sg_base.specs.declared.addresses.Kind.{Kind}
 use Rattle.sg_replay.specs.Freshness.{is_in}
 use Rattle.sg_states.specs.StreamValues.{StreamValue}
 use Rattle.sg_session.specs.Session.{Done, sources, is_first, indices_of}
-use Rattle.sg_states.specs.Streams.{StreamStands}
+use Rattle.sg_states.specs.Streams.{IsStreamOf, StreamStands}
 use Rattle.sg_media.specs.Standing.{source_of, AreOfKind, StreamsStand, IsAt, room_in}
 use Rattle.sg_media.proofs.Sources.{sources_from-push, indices_of-push_same, indices_of-push_other, none_of, first_source, first_is, Distinct, distinct_sources, is_in-map, is_in-push, distinct_places}
 
@@ -33,7 +33,7 @@ module _ {X : Type 0} where
   get_push (z ∷ zs) (suc i) x y e = get_push zs i x y e
 
 -- the kind of all streams
-pub of_kind-set : (streams : List StreamValue) (kind : Kind) (at : ℕ) (t : StreamValue) → AreOfKind streams kind → t.kind ≡ kind → AreOfKind (slice_set streams at t) kind
+of_kind-set : (streams : List StreamValue) (kind : Kind) (at : ℕ) (t : StreamValue) → AreOfKind streams kind → t.kind ≡ kind → AreOfKind (slice_set streams at t) kind
 of_kind-set streams kind at t all is i u e = elim (cases_eq i at) [
   | inl here ↦ ap (λ (v : StreamValue). v.kind) (sym (get_set_same streams at t u (subst (λ j. slice_get (slice_set streams at t) j ≡ Some u) here e))) ∙ is
   | inr ne ↦ all i u (sym (get_set_other streams at i t ne) ∙ e)
@@ -49,19 +49,19 @@ of_kind-push streams kind t all is i u e = elim (get_push streams i t u e) [
 refill_same : {X : Type 0} (n : ℕ) (xs ys : List X) → length ys ≡ n → refill n xs ys ≡ ys
 refill_same n xs ys e = rw (← e) (take-append_seam ys _)
 
-pub refilled : (xs ys : List StreamValue) (i : ℕ) (t : StreamValue) → ys ≡ xs → refill (length xs) xs (slice_set ys i t) ≡ slice_set ys i t
+refilled : (xs ys : List StreamValue) (i : ℕ) (t : StreamValue) → ys ≡ xs → refill (length xs) xs (slice_set ys i t) ≡ slice_set ys i t
 refilled xs ys i t e = refill_same (length xs) xs (slice_set ys i t) (length-set ys i t ∙ ap length e)
 
 -- a stream that was found
-pub known_in : (streams : List StreamValue) (roc window : ℕ) (done : List Done) (ssrc at : ℕ) → StreamsStand streams roc window done → IsAt streams ssrc at → is_in (sources done) ssrc ≡ true
+known_in : (streams : List StreamValue) (roc window : ℕ) (done : List Done) (ssrc at : ℕ) → StreamsStand streams roc window done → IsAt streams ssrc at → is_in (sources done) ssrc ≡ true
 known_in streams roc window done ssrc at s f =
     subst (λ n. is_in (sources done) n ≡ true) f.source
     (subst (λ ns. is_in ns (f.stream).ssrc ≡ true) s.each_source (is_in-map source_of streams at f.stream f.here))
 
-pub known_stream : (streams : List StreamValue) (roc window : ℕ) (done : List Done) (ssrc at : ℕ) → StreamsStand streams roc window done → (f : IsAt streams ssrc at) → StreamStands f.stream ssrc roc window (indices_of done ssrc)
+known_stream : (streams : List StreamValue) (roc window : ℕ) (done : List Done) (ssrc at : ℕ) → StreamsStand streams roc window done → (f : IsAt streams ssrc at) → StreamStands f.stream ssrc roc window (indices_of done ssrc)
 known_stream streams roc window done ssrc at s f = subst (λ n. StreamStands f.stream n roc window (indices_of done n)) f.source (s.each_stream at f.stream f.here)
 
-pub known_stands : (streams : List StreamValue) (roc window : ℕ) (done : List Done) (at : ℕ) (t : StreamValue) (d : Done) → StreamsStand streams roc window done → IsAt streams d.ssrc at
+known_stands : (streams : List StreamValue) (roc window : ℕ) (done : List Done) (at : ℕ) (t : StreamValue) (d : Done) → StreamsStand streams roc window done → IsAt streams d.ssrc at
     → StreamStands t d.ssrc roc window (indices_of done d.ssrc ++ d.index ∷ [])
     → StreamsStand (slice_set streams at t) roc window (done ++ d ∷ [])
 known_stands streams roc window done at t d s f new = record {
@@ -83,11 +83,51 @@ known_stands streams roc window done at t d s f new = record {
       ];
 }
 
+-- ---- a stream that is lent of the list
+pub known_at : (found streams : List StreamValue) (n ssrc at : ℕ) → found ≡ streams → n ≡ ssrc → IsAt found n at → IsAt streams ssrc at
+known_at found streams n ssrc at e f is = subst (λ (ts : List StreamValue). IsAt ts ssrc at) e (subst (λ m. IsAt found m at) f is)
+
+pub known_room : (streams : List StreamValue) (roc window : ℕ) (done : List Done) (ssrc at : ℕ) → StreamsStand streams roc window done → IsAt streams ssrc at → true ≡ room_in done ssrc
+known_room streams roc window done ssrc at s f = sym (or_left _ _ (known_in streams roc window done ssrc at s f))
+
+pub lent_of : (lent streams : List StreamValue) (kind : Kind) (ssrc at : ℕ) (other : StreamValue) → lent ≡ streams → AreOfKind streams kind → IsAt streams ssrc at → IsStreamOf (get_or lent at other) kind ssrc
+lent_of lent streams kind ssrc at other e kinds f =
+    subst (λ (ts : List StreamValue). IsStreamOf (get_or ts at other) kind ssrc) (sym e)
+    (subst (λ (t : StreamValue). IsStreamOf t kind ssrc) (sym (get_or_from_slice_get streams at f.stream other f.here)) (record { same_kind = kinds at f.stream f.here; same_source = f.source }))
+
+pub lent_stands : (lent streams : List StreamValue) (roc window : ℕ) (done : List Done) (ssrc at : ℕ) (other : StreamValue) → lent ≡ streams → StreamsStand streams roc window done → IsAt streams ssrc at
+    → StreamStands (get_or lent at other) ssrc roc window (indices_of done ssrc)
+lent_stands lent streams roc window done ssrc at other e s f =
+    subst (λ (ts : List StreamValue). StreamStands (get_or ts at other) ssrc roc window (indices_of done ssrc)) (sym e)
+    (subst (λ (t : StreamValue). StreamStands t ssrc roc window (indices_of done ssrc)) (sym (get_or_from_slice_get streams at f.stream other f.here)) (known_stream streams roc window done ssrc at s f))
+
+pub given_back : (lent streams : List StreamValue) (roc window : ℕ) (done : List Done) (at : ℕ) (t : StreamValue) (d : Done) → lent ≡ streams → StreamsStand streams roc window done → IsAt streams d.ssrc at
+    → StreamStands t d.ssrc roc window (indices_of done d.ssrc ++ d.index ∷ [])
+    → StreamsStand (refill (length streams) streams (slice_set lent at t)) roc window (done ++ d ∷ [])
+given_back lent streams roc window done at t d e s f new =
+    subst (λ (ts : List StreamValue). StreamsStand ts roc window (done ++ d ∷ [])) (ap (λ (ts : List StreamValue). slice_set ts at t) (sym e) ∙ sym (refilled streams lent at t e))
+    (known_stands streams roc window done at t d s f new)
+
+pub kinds_given_back : (lent streams : List StreamValue) (kind : Kind) (ssrc at : ℕ) (t other : StreamValue) → lent ≡ streams → AreOfKind streams kind → IsAt streams ssrc at → t.kind ≡ (get_or lent at other).kind
+    → AreOfKind (refill (length streams) streams (slice_set lent at t)) kind
+kinds_given_back lent streams kind ssrc at t other e kinds f same =
+    subst (λ (ts : List StreamValue). AreOfKind ts kind) (ap (λ (ts : List StreamValue). slice_set ts at t) (sym e) ∙ sym (refilled streams lent at t e))
+    (of_kind-set streams kind at t kinds (same ∙ (lent_of lent streams kind ssrc at other e kinds f).same_kind))
+
+-- ---- a stream of a new source
+pub new_source : (found streams : List StreamValue) (n ssrc : ℕ) → found ≡ streams → n ≡ ssrc → is_in (map source_of found) n ≡ false → is_in (map source_of streams) ssrc ≡ false
+new_source found streams n ssrc e f new = subst (λ (ts : List StreamValue). is_in (map source_of ts) ssrc ≡ false) e (subst (λ m. is_in (map source_of found) m ≡ false) f new)
+
 pub new_in : (streams : List StreamValue) (roc window : ℕ) (done : List Done) (ssrc : ℕ) → StreamsStand streams roc window done → is_in (map source_of streams) ssrc ≡ false → is_in (sources done) ssrc ≡ false
 new_in streams roc window done ssrc s h = subst (λ ns. is_in ns ssrc ≡ false) s.each_source h
 
 pub new_indices : (streams : List StreamValue) (roc window : ℕ) (done : List Done) (ssrc : ℕ) → StreamsStand streams roc window done → is_in (map source_of streams) ssrc ≡ false → indices_of done ssrc ≡ []
 new_indices streams roc window done ssrc s h = none_of [] done ssrc (new_in streams roc window done ssrc s h)
+
+pub fresh_stands : (t : StreamValue) (streams : List StreamValue) (roc window : ℕ) (done : List Done) (n ssrc : ℕ) → n ≡ ssrc → StreamStands t n roc window [] → StreamsStand streams roc window done
+    → is_in (map source_of streams) ssrc ≡ false → StreamStands t ssrc roc window (indices_of done ssrc)
+fresh_stands t streams roc window done n ssrc e fresh s new =
+    subst (StreamStands t ssrc roc window) (sym (new_indices streams roc window done ssrc s new)) (subst (λ m. StreamStands t m roc window []) e fresh)
 
 pub new_stands : (streams : List StreamValue) (roc window : ℕ) (done : List Done) (t : StreamValue) (d : Done) → StreamsStand streams roc window done → is_in (map source_of streams) d.ssrc ≡ false
     → StreamStands t d.ssrc roc window (indices_of done d.ssrc ++ d.index ∷ [])

@@ -2,8 +2,6 @@ pub mod Accepting
 pub mod Answers
 pub mod Ciphers
 pub mod Either
-pub mod Kinds
 pub mod Sides
 pub mod Standing
-pub mod States
 pub mod Steps

@@ -7,8 +7,7 @@ ghost use Rattle.sg_states.specs.Faults.{number_cause, place_cause, rtcp_number_
 
 use sg_base::{DropCause, HeadFault};
 use sg_keys::OpenKeyFault;
-use sg_srtcp::{RtcpNumberFault, Stale};
-use sg_srtp::{NumberFault, PlaceFault};
+use sg_states::{NumberFault, PlaceFault, RtcpNumberFault, Stale};
 
 pub(crate) fn of_head(fault: HeadFault) -> DropCause
     ensures { result ≡ head_cause fault }

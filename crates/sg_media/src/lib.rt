@@ -9,7 +9,6 @@ mod opening;
 mod outbound;
 mod seal_side;
 mod sealing;
-mod stream;
 mod streams;
 
 pub use either::{Which, receive_either};

@@ -4,13 +4,15 @@ ghost use Rattle.std.specs.Prelude.{◌≡◌, ◌≤◌, List, IfOk, IfErr, Mat
 ghost use Rattle.sg_states.specs.Inbound.{CanServe};
 ghost use Rattle.sg_media.specs.Steps.{HasDone, SideTakes, side_opens};
 
-use crate::inbound::{Headed, Keyed, Opened};
+use crate::faults::{of_head, of_key};
+use crate::inbound::Opened;
 use crate::opening::open_among;
-use crate::stream::Stream;
 use crate::streams::admits;
 use arrayvec::ArrayVec;
 use sg_base::{DropCause, Kind, Pad};
 use sg_keys::{Admit, KeySet, SessionSpec};
+use sg_states::Stream;
+use sg_states::inbound::{Headed, Keyed};
 use std::marker::Model;
 
 /// What opens the datagrams of a session (RFC 3711, 3.3 and 3.4): its keys with their counts, and a stream
@@ -99,14 +101,14 @@ impl OpenSide {
             pad,
         ) {
             Ok(headed) => headed,
-            Err(refused) => return Err(refused),
+            Err((pad, fault)) => return Err((pad, of_head(fault))),
         };
         if !admits(self.admit, self.streams.as_slice(), headed.ssrc()) {
             return Err((headed.refuse(), DropCause::SsrcUnknown));
         }
         match headed.key(&self.keys) {
             Ok(keyed) => Ok(keyed),
-            Err(refused) => Err(refused),
+            Err((pad, fault)) => Err((pad, of_key(fault))),
         }
     }
 

@@ -1,20 +1,42 @@
 //! Opening a datagram in one stream, and among the streams of a side.
 
-ghost use Rattle.std.specs.Prelude.{◌≡◌, ℕ, ◌≤◌, List, IfOk, IfErr, OnOk, OnErr, true, slice_get, Some};
+ghost use Rattle.std.specs.Prelude.{◌≡◌, ℕ, ◌≤◌, List, IfOk, IfErr, MatchResult, OnOk, OnErr, true, slice_get, Some};
 ghost use Rattle.sg_keys.specs.Live.{Live, spent};
 ghost use Rattle.sg_session.specs.Session.{Done};
-ghost use Rattle.sg_states.specs.Inbound.{CanServe};
+ghost use Rattle.sg_states.specs.Inbound.{CanServe, IsPlacedAs};
 ghost use Rattle.sg_states.specs.Placing.{placed};
-ghost use Rattle.sg_states.specs.Streams.{IsStreamOf, StreamStands, TakesIn};
+ghost use Rattle.sg_states.specs.Streams.{ForIndicesOf, IsOpenPlace, IsStreamOf, StreamStands, TakesIn};
 ghost use Rattle.sg_media.specs.Answers.{answer_at, entry_of, opened_among, opened_at};
 ghost use Rattle.sg_media.specs.Standing.{AreOfKind, StreamsStand, StreamsTake};
 
-use crate::inbound::{Keyed, Opened};
-use crate::stream::Stream;
+use crate::faults::{of_place, of_stale};
+use crate::inbound::Opened;
 use crate::streams::find;
 use arrayvec::ArrayVec;
-use sg_base::{DropCause, Pad};
+use sg_base::{DropCause, Kind, Pad};
 use sg_keys::KeySet;
+use sg_states::Stream;
+use sg_states::inbound::{Keyed, Placed};
+
+// Finds the datagram's index in the stream of its source, which is only read (RFC 3711, 3.3.1 and 3.3.2). Of
+// RTCP the datagram carries it (3.4).
+#[inline(always)]
+fn place(keyed: Keyed, stream: &Stream) -> Result<Placed, (Pad, DropCause)>
+    requires { IsStreamOf stream.now keyed.headed.kind keyed.headed.head.ssrc }
+    ensures open { MatchResult result (λ p. (p.keyed ≡ keyed) × IsOpenPlace stream.now p.index) (λ e. e.0 ≡ keyed.headed.pad) }
+    ensures answer { ForIndicesOf stream.now (λ roc window indices. IsPlacedAs (λ cause. cause) (placed keyed.headed.kind roc window indices keyed.headed.head.number) result) }
+{
+    match keyed.kind() {
+        Kind::Rtp => match keyed.place(stream) {
+            Ok(placed) => Ok(placed),
+            Err((pad, fault)) => Err((pad, of_place(fault))),
+        },
+        Kind::Rtcp => match keyed.place_carried(stream) {
+            Ok(placed) => Ok(placed),
+            Err((pad, fault)) => Err((pad, of_stale(fault))),
+        },
+    }
+}
 
 // Opens a datagram in the stream of its source. The stream may be a new one, for which there may be no
 // room.
@@ -38,18 +60,27 @@ fn open_in(
     ensures back { IfErr result (λ e. e.0 ≡ keyed.headed.pad) }
     ensures stays { OnErr result ((stream.new ≡ stream.old) × (keys.new ≡ keys.old)) }
 {
-    let placed = match keyed.place(stream) {
+    let kind = keyed.kind();
+    let placed = match place(keyed, stream) {
         Ok(placed) => placed,
         Err(refused) => return Err(refused),
     };
     let verified = match placed.verify(keys) {
         Ok(verified) => verified,
-        Err(refused) => return Err(refused),
+        Err((pad, _)) => return Err((pad, DropCause::BadTag)),
     };
     if !room {
         return Err((verified.refuse(), DropCause::StreamsFull));
     }
-    Ok(verified.decrypt(stream, keys))
+    let encrypted = verified.encrypted();
+    let opened = verified.decrypt(stream, keys, encrypted);
+    Ok(Opened {
+        pad: opened.pad,
+        kind,
+        ssrc: opened.ssrc,
+        index: opened.index,
+        key: opened.key,
+    })
 }
 
 /// Opens a datagram whose key is chosen. A new source's stream takes a place only where the datagram is

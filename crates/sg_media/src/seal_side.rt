@@ -4,13 +4,15 @@ ghost use Rattle.std.specs.Prelude.{◌≡◌, ◌≤◌, List, length, IfOk, If
 ghost use Rattle.sg_media.specs.Ciphers.{EachEncrypts};
 ghost use Rattle.sg_media.specs.Steps.{HasDone, SideTakes, side_seals};
 
-use crate::outbound::{Headed, Sealed};
+use crate::faults::of_head;
+use crate::outbound::Sealed;
 use crate::sealing::seal_among;
-use crate::stream::Stream;
 use crate::streams::admits;
 use arrayvec::ArrayVec;
 use sg_base::{DropCause, Kind, Pad};
 use sg_keys::{Admit, KeySet, SessionSpec};
+use sg_states::Stream;
+use sg_states::outbound::Headed;
 use std::marker::Model;
 
 /// What seals the packets of a session (RFC 3711, 3.3 and 3.4): its keys with their counts, and a stream
@@ -94,7 +96,7 @@ impl SealSide {
     {
         let headed = match Headed::read(self.kind, self.encrypts, pad) {
             Ok(headed) => headed,
-            Err(refused) => return Err(refused),
+            Err((pad, fault)) => return Err((pad, of_head(fault))),
         };
         if !admits(self.admit, self.streams.as_slice(), headed.ssrc()) {
             return Err((headed.refuse(), DropCause::SsrcUnknown));

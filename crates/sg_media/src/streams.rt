@@ -5,8 +5,8 @@ ghost use Rattle.sg_replay.specs.Freshness.{is_in};
 ghost use Rattle.sg_session.specs.Session.{Done, is_admitted};
 ghost use Rattle.sg_media.specs.Standing.{source_of, IsAt, StreamsStand};
 
-use crate::stream::Stream;
 use sg_keys::Admit;
+use sg_states::Stream;
 
 /// The place of the stream of a source.
 pub(crate) fn find(streams: &[Stream], ssrc: u32) -> Option<usize>

@@ -119,10 +119,10 @@ impl Arrived {
     #[inline(always)]
     pub fn head(self, mki_len: usize) -> Result<Headed, (Pad, HeadFault)>
         requires { mki_len ≤ 128 }
-        ensures { MatchResult result (IsHeaded self kind.Rtcp mki_len 10)
+        ensures { MatchResult result (IsHeaded self kind.Rtcp false mki_len 10)
             (λ e. (e.0 ≡ self) × (heading kind.Rtcp false mki_len 10 self ≡ Err (head_cause e.1))) }
     {
-        match states::Headed::read(Kind::Rtcp, mki_len, RTCP_TAG, self.pad) {
+        match states::Headed::read(Kind::Rtcp, false, mki_len, RTCP_TAG, self.pad) {
             Ok(headed) => Ok(Headed { headed }),
             Err(refused) => Err(refused),
         }
@@ -146,7 +146,8 @@ impl Headed {
         self.headed.refuse()
     }
 
-    /// Chooses the key by the MKI, where it may serve a packet more.
+    /// Chooses the first key that has the datagram's MKI (RFC 3711, 3.3). Refusals: MkiUnknown, where none has
+    /// it; KeySpent, with its number and its count of packets, where it has served all that it may (9.2).
     #[inline(always)]
     pub fn key(self, keys: &KeySet) -> Result<Keyed, (Pad, OpenKeyFault)>
         ensures { MatchResult result (IsKeyed self keys.now)

@@ -83,9 +83,9 @@ impl Arrived {
     /// Reads the head.
     #[inline(always)]
     pub fn head(self) -> Result<Headed, (Pad, HeadFault)>
-        ensures { MatchResult result (IsOutHeaded self kind.Rtcp) (λ e. (e.0 ≡ self) × (heading_out kind.Rtcp false self ≡ Err (head_cause e.1))) }
+        ensures { MatchResult result (IsOutHeaded self kind.Rtcp false) (λ e. (e.0 ≡ self) × (heading_out kind.Rtcp false self ≡ Err (head_cause e.1))) }
     {
-        match states::Headed::read(Kind::Rtcp, self.pad) {
+        match states::Headed::read(Kind::Rtcp, false, self.pad) {
             Ok(headed) => Ok(Headed { headed }),
             Err(refused) => Err(refused),
         }

@@ -47,7 +47,7 @@ impl RtcpStream {
         self.stream.ssrc()
     }
 
-    /// The highest index, where something is done.
+    /// The highest index that is done, of 31 bits (RFC 3711, 3.4). None before the first packet.
     pub fn highest(&self) -> Option<u32>
         ensures { result ≡ self.now.highest }
     {

@@ -120,10 +120,10 @@ impl Arrived {
     pub fn head(self, mki_len: usize, tag_len: usize) -> Result<Headed, (Pad, HeadFault)>
         requires mki { mki_len ≤ 128 }
         requires tag { is_tag_len kind.Rtp tag_len ≡ true }
-        ensures { MatchResult result (IsHeaded self kind.Rtp mki_len tag_len)
+        ensures { MatchResult result (IsHeaded self kind.Rtp false mki_len tag_len)
             (λ e. (e.0 ≡ self) × (heading kind.Rtp false mki_len tag_len self ≡ Err (head_cause e.1))) }
     {
-        match states::Headed::read(Kind::Rtp, mki_len, tag_len, self.pad) {
+        match states::Headed::read(Kind::Rtp, false, mki_len, tag_len, self.pad) {
             Ok(headed) => Ok(Headed { headed }),
             Err(refused) => Err(refused),
         }
@@ -147,7 +147,8 @@ impl Headed {
         self.headed.refuse()
     }
 
-    /// Chooses the key by the MKI, where it may serve a packet more.
+    /// Chooses the first key that has the datagram's MKI (RFC 3711, 3.3). Refusals: MkiUnknown, where none has
+    /// it; KeySpent, with its number and its count of packets, where it has served all that it may (9.2).
     #[inline(always)]
     pub fn key(self, keys: &KeySet) -> Result<Keyed, (Pad, OpenKeyFault)>
         ensures { MatchResult result (IsKeyed self keys.now)

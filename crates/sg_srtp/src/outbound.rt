@@ -83,9 +83,9 @@ impl Arrived {
     /// Reads the head.
     #[inline(always)]
     pub fn head(self) -> Result<Headed, (Pad, HeadFault)>
-        ensures { MatchResult result (IsOutHeaded self kind.Rtp) (λ e. (e.0 ≡ self) × (heading_out kind.Rtp false self ≡ Err (head_cause e.1))) }
+        ensures { MatchResult result (IsOutHeaded self kind.Rtp false) (λ e. (e.0 ≡ self) × (heading_out kind.Rtp false self ≡ Err (head_cause e.1))) }
     {
-        match states::Headed::read(Kind::Rtp, self.pad) {
+        match states::Headed::read(Kind::Rtp, false, self.pad) {
             Ok(headed) => Ok(Headed { headed }),
             Err(refused) => Err(refused),
         }

@@ -47,7 +47,7 @@ impl Stream {
         self.stream.ssrc()
     }
 
-    /// The highest index, where something is done.
+    /// The highest index that is done, of 48 bits (RFC 3711, 3.3.1). None before the first packet.
     pub fn highest(&self) -> Option<u64>
         ensures { result ≡ self.now.highest }
     {

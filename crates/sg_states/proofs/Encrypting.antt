@@ -11,7 +11,7 @@ use Rattle.sg_rtp.specs.declared.heads.RtpHead.{RtpHead}
 use Rattle.sg_rtp.specs.declared.heads.RtcpHead.{RtcpHead}
 use Rattle.sg_session.specs.Opening.{Head, of_rtp, of_rtcp}
 use Rattle.sg_session.specs.Stages.{stop_if}
-use Rattle.sg_states.specs.Heads.{with_encrypting}
+use Rattle.sg_states.specs.Headers.{with_encrypting}
 use Rattle.sg_states.specs.Parts.{heading, heading_out, prefix_of}
 
 rtp_with : (e : Bool) (r : Result RtpHead HeadFault) → of_rtp e r ≡ with_encrypting e (of_rtp false r)

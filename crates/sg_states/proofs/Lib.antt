@@ -1,7 +1,7 @@
-pub mod Alive
-pub mod Encrypting
+mod Alive
+mod Encrypting
 pub mod OpeningLaw
-pub mod Placings
+mod Placings
 pub mod SealingLaw
-pub mod Tags
-pub mod Words
+mod Tags
+mod Words

@@ -36,12 +36,12 @@ pub record IsHeading (kind : Kind) (m t : ℕ) (d : List ℕ) (head : Head) : Ty
   pub tag : t ≤ 20
 
 -- the head that the datagram has
-pub record IsHeaded (d : List ℕ) (kind : Kind) (m t : ℕ) (h : Heading) : Type 0 where
+pub record IsHeaded (d : List ℕ) (kind : Kind) (encrypts : Bool) (m t : ℕ) (h : Heading) : Type 0 where
   pub same_pad : h.pad ≡ d
   pub same_kind : h.kind ≡ kind
   pub same_mki_len : h.mki_len ≡ m
   pub same_tag_len : h.tag_len ≡ t
-  pub reads : heading kind false m t d ≡ Ok h.head
+  pub reads : heading kind encrypts m t d ≡ Ok h.head
 
 -- the chosen key stands there, and has the number
 pub record IsKeyed (h : Heading) (keys : List Live) (k : Keying) : Type 0 where

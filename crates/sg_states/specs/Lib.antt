@@ -1,6 +1,6 @@
 pub mod Choosing
 pub mod Faults
-pub mod Heads
+pub mod Headers
 pub mod Inbound
 pub mod Outbound
 pub mod Parts

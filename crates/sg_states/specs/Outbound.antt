@@ -32,10 +32,10 @@ pub record IsOutgoing (p : List ℕ) (kind : Kind) (head : Head) : Type 0 where
   pub number : IsNumber kind head.number
 
 -- the head that the packet has
-pub record IsOutHeaded (p : List ℕ) (kind : Kind) (h : Outgoing) : Type 0 where
+pub record IsOutHeaded (p : List ℕ) (kind : Kind) (encrypts : Bool) (h : Outgoing) : Type 0 where
   pub same_pad : h.pad ≡ p
   pub same_kind : h.kind ≡ kind
-  pub reads : heading_out kind false p ≡ Ok h.head
+  pub reads : heading_out kind encrypts p ≡ Ok h.head
 
 -- the chosen key stands there, and has the number
 pub record IsNumbered (h : Outgoing) (keys : List Live) (n : Numbering) : Type 0 where

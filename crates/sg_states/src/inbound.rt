@@ -2,7 +2,7 @@
 //!
 //! Each refusal hands back the pad with the octets that it came with, and the fault.
 
-ghost use Rattle.std.specs.Prelude.{◌≡◌, ℕ, ◌+◌, ◌<◌, ◌≤◌, ◌^◌, List, [], ◌∷◌, ◌++◌, length, MatchResult, IfOk, IsTrue, IsSome, true, false, Ok, Err, Some, slice_get, option_copied};
+ghost use Rattle.std.specs.Prelude.{◌≡◌, ℕ, ◌+◌, ◌<◌, ◌≤◌, ◌^◌, List, [], ◌∷◌, ◌++◌, length, MatchResult, IfOk, IsTrue, IsSome, true, Ok, Err, Some, slice_get, option_copied};
 ghost use Rattle.sg_base.specs.declared.keys.HalfKeys.{HalfKeys};
 ghost use Rattle.sg_replay.specs.Freshness.{highest_with};
 ghost use Rattle.sg_keys.specs.Live.{Live, schedule_key, spent};
@@ -16,7 +16,7 @@ ghost use Rattle.sg_states.specs.Streams.{ForIndicesOf, IsOpenPlace, IsStreamOf,
 ghost use Rattle.sg_states.specs.Inbound.{Heading, Keying, Placing, IsHeaded, IsKeyed, IsVerified, IsUnverified, IsKeyOf, IsPlacedAs, CanServe, IsOpened, packet_at};
 
 use crate::faults::{BadTag, PlaceFault, Stale};
-use crate::head::{Head, head_in};
+use crate::header::{Header, head_in};
 use crate::keystream::apply_keystream;
 use crate::mac::mac_over;
 use crate::stream::Stream;
@@ -33,13 +33,13 @@ pub struct Headed {
     kind: Kind,
     mki_len: usize,
     tag_len: usize,
-    head: Head,
+    head: Header,
 }
 
 impl Model for Headed {
     ghost use Rattle.std.specs.Prelude.{◌≤◌};
     ghost use Rattle.sg_states.specs.Inbound.{Heading, IsHeading};
-    ghost use Rattle.sg_states.specs.Heads.{head_of};
+    ghost use Rattle.sg_states.specs.Headers.{head_of};
 
     ghost Value = { Heading };
 
@@ -106,20 +106,23 @@ pub struct Opened {
 }
 
 impl Headed {
-    /// Reads the head of a datagram that ends in an MKI and a tag of these lengths.
+    /// Reads the header of a datagram that ends in an MKI of at most 128 octets and a tag of ten or, for RTP
+    /// alone, of four. RTP is encrypted where `encrypts` says so; a datagram of RTCP says it itself (RFC 3711,
+    /// 3.4). Refusals: Short, Version, CsrcCut, ExtensionCut.
     #[tactic(auto, using(crate::proofs::Tags::tag_within))]
     #[inline(always)]
     pub fn read(
         kind: Kind,
+        encrypts: bool,
         mki_len: usize,
         tag_len: usize,
         pad: Pad,
     ) -> Result<Headed, (Pad, HeadFault)>
         requires mki { mki_len ≤ 128 }
         requires tag { is_tag_len kind tag_len ≡ true }
-        ensures { MatchResult result (IsHeaded pad kind mki_len tag_len) (λ e. (e.0 ≡ pad) × (heading kind false mki_len tag_len pad ≡ Err (head_cause e.1))) }
+        ensures { MatchResult result (IsHeaded pad kind encrypts mki_len tag_len) (λ e. (e.0 ≡ pad) × (heading kind encrypts mki_len tag_len pad ≡ Err (head_cause e.1))) }
     {
-        match head_in(kind, mki_len, tag_len, pad.octets()) {
+        match head_in(kind, encrypts, mki_len, tag_len, pad.octets()) {
             Ok(head) => Ok(Headed {
                 pad,
                 kind,
@@ -166,7 +169,8 @@ impl Headed {
         &end[..self.mki_len]
     }
 
-    /// Chooses the key by the MKI.
+    /// Chooses the first key that has the datagram's MKI (RFC 3711, 3.3). Refusals: MkiUnknown, where none has
+    /// it; KeySpent, with its number and its count of packets, where it has served all that it may (9.2).
     #[inline(always)]
     pub fn key(self, keys: &KeySet) -> Result<Keyed, (Pad, OpenKeyFault)>
         ensures { MatchResult result (IsKeyed self keys.now)
@@ -184,6 +188,14 @@ impl Headed {
 }
 
 impl Keyed {
+    /// The kind.
+    #[inline(always)]
+    pub fn kind(&self) -> Kind
+        ensures { result ≡ self.now.headed.kind }
+    {
+        self.headed.kind
+    }
+
     /// The source.
     #[inline(always)]
     pub fn ssrc(&self) -> u32
@@ -306,7 +318,7 @@ impl Verified {
         keyed.refuse()
     }
 
-    /// Whether the datagram says that it is encrypted, which only RTCP does.
+    /// Whether the packet is encrypted, as its header was read.
     #[inline(always)]
     pub fn encrypted(&self) -> bool
         ensures { result ≡ self.now.keyed.headed.head.encrypted }

@@ -6,7 +6,7 @@ ghost use Rattle.sg_base.specs.declared.addresses.Kind.TheVariants as kind;
 ghost use Rattle.sg_session.specs.Opening.{opens};
 ghost use Rattle.sg_session.specs.Sealing.{seals};
 ghost use Rattle.sg_session.specs.Session.{Session};
-ghost use Rattle.sg_states.specs.Heads.{with_encrypting};
+ghost use Rattle.sg_states.specs.Headers.{with_encrypting};
 ghost use Rattle.sg_states.specs.Parts.{heading, heading_out};
 ghost use Rattle.sg_states.specs.Steps.{done_of, opening_steps, sealing_steps, text_of};
 

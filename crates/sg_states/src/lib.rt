@@ -3,7 +3,7 @@
 #![tactic(auto)]
 
 mod faults;
-mod head;
+mod header;
 pub mod inbound;
 mod keystream;
 pub mod laws;
@@ -12,5 +12,5 @@ pub mod outbound;
 mod stream;
 
 pub use faults::{BadTag, NumberFault, PlaceFault, RtcpNumberFault, Stale};
-pub use head::Head;
+pub use header::Header;
 pub use stream::Stream;

@@ -2,7 +2,7 @@
 //!
 //! Each refusal hands back the pad with the octets that it came with, and the fault.
 
-ghost use Rattle.std.specs.Prelude.{◌≡◌, ℕ, ◌+◌, ◌<◌, ◌≤◌, ◌^◌, List, [], ◌∷◌, ◌++◌, length, take, MatchResult, IfOk, IsTrue, IsSome, true, false, Ok, Err, Some, slice_get, option_copied};
+ghost use Rattle.std.specs.Prelude.{◌≡◌, ℕ, ◌+◌, ◌<◌, ◌≤◌, ◌^◌, List, [], ◌∷◌, ◌++◌, length, take, MatchResult, IfOk, IsTrue, IsSome, true, Ok, Err, Some, slice_get, option_copied};
 ghost use Rattle.sg_base.specs.declared.keys.HalfKeys.{HalfKeys};
 ghost use Rattle.sg_hmac.specs.States.{IsMacKey};
 ghost use Rattle.sg_replay.specs.Freshness.{highest_with};
@@ -17,7 +17,7 @@ ghost use Rattle.sg_states.specs.Streams.{ForIndicesOf, IsOpenPlace, IsStreamOf,
 ghost use Rattle.sg_states.specs.Outbound.{CanSeal, IsOutHeaded, IsNumbered, IsNumberedAs, IsSealedOf, encrypted_at};
 
 use crate::faults::{NumberFault, RtcpNumberFault, of_place};
-use crate::head::{Head, head_out};
+use crate::header::{Header, head_out};
 use crate::keystream::apply_keystream;
 use crate::mac::mac_over;
 use crate::stream::Stream;
@@ -32,12 +32,12 @@ use std::marker::Model;
 pub struct Headed {
     pad: Pad,
     kind: Kind,
-    head: Head,
+    head: Header,
 }
 
 impl Model for Headed {
     ghost use Rattle.sg_states.specs.Outbound.{Outgoing, IsOutgoing};
-    ghost use Rattle.sg_states.specs.Heads.{head_of};
+    ghost use Rattle.sg_states.specs.Headers.{head_of};
 
     ghost Value = { Outgoing };
 
@@ -77,16 +77,25 @@ pub struct Sealed {
 }
 
 impl Headed {
-    /// Reads the head of a plain packet.
+    /// Reads the header of a plain packet of at most 4,096 octets, which is to be encrypted or not. Refusals:
+    /// Short, Version, CsrcCut, ExtensionCut.
     #[inline(always)]
-    pub fn read(kind: Kind, pad: Pad) -> Result<Headed, (Pad, HeadFault)>
+    pub fn read(kind: Kind, encrypts: bool, pad: Pad) -> Result<Headed, (Pad, HeadFault)>
         requires { length pad ≤ 4096 }
-        ensures { MatchResult result (IsOutHeaded pad kind) (λ e. (e.0 ≡ pad) × (heading_out kind false pad ≡ Err (head_cause e.1))) }
+        ensures { MatchResult result (IsOutHeaded pad kind encrypts) (λ e. (e.0 ≡ pad) × (heading_out kind encrypts pad ≡ Err (head_cause e.1))) }
     {
-        match head_out(kind, pad.octets()) {
+        match head_out(kind, encrypts, pad.octets()) {
             Ok(head) => Ok(Headed { pad, kind, head }),
             Err(fault) => Err((pad, fault)),
         }
+    }
+
+    /// The kind.
+    #[inline(always)]
+    pub fn kind(&self) -> Kind
+        ensures { result ≡ self.now.kind }
+    {
+        self.kind
     }
 
     /// The source.
@@ -95,6 +104,14 @@ impl Headed {
         ensures { result ≡ self.now.head.ssrc }
     {
         self.head.ssrc
+    }
+
+    /// Whether the packet is to be encrypted, as its header was read.
+    #[inline(always)]
+    pub fn encrypted(&self) -> bool
+        ensures { result ≡ self.now.head.encrypted }
+    {
+        self.head.encrypted
     }
 
     /// The pad, as it came.

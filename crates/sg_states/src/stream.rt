@@ -18,7 +18,8 @@ use std::marker::Model;
 /// The last index of an RTCP stream.
 const LAST: u64 = 2147483647;
 
-/// A stream: its kind and source, the rollover it starts at, its highest index and its replay list.
+/// What is kept of a source (RFC 3711, 3.2.1): its kind, the rollover that it starts at, its highest index and
+/// its replay list. Only `decrypt`, `number` and `number_next` change it.
 #[derive(Drop)]
 pub struct Stream {
     kind: Kind,
@@ -71,7 +72,8 @@ impl Stream {
         self.ssrc
     }
 
-    /// The highest index, where something is done.
+    /// The highest index that is done: of RTP of 48 bits, of RTCP of 31 (RFC 3711, 3.3.1 and 3.4). None before
+    /// the first packet.
     pub fn highest(&self) -> Option<u64>
         ensures { result ≡ self.now.highest }
     {

@@ -1,4 +1,7 @@
-use Rattle.std.proofs.Common.{◌≡◌, List, subst, sym, ap, ◌∙◌}
+use Rattle.std.proofs.Common.{◌≡◌, List, Result, Err, subst, sym, ap, ◌∙◌}
+use Rattle.sg_base.specs.declared.faults.DropCause.{DropCause}
+use Rattle.sg_keys.specs.Live.{Live}
+use Rattle.sg_session.specs.Opening.{Head}
 use Rattle.sg_session.specs.Session.{is_admitted}
 use Rattle.sg_states.specs.StreamValues.{StreamValue}
 use Rattle.sg_media.specs.Accepting.{IsAccepted}
@@ -12,7 +15,7 @@ pub returns-in-Err-clause-told : goal.returns-in-Err-clause-told
 returns-in-Err-clause-told c = λ done has.
     let side : SideValue = record { kind = c.self.inside.kind; keys = c.self.inside.keys; streams = c.self.inside.streams.items; roc = c.self.inside.roc; window = c.self.inside.window; admit = c.self.inside.admit; encrypts = c.self.inside.encrypts; tag_len = c.self.inside.tag_len } in (
       c.in-Err.ensures.0,
-      ap (λ (v : SideValue). side_opens v done c.args.pad) (sym (c.self.view_is)) ∙ unheaded side done c.args.pad c.mki_len.result (c.in-Err.refused.1) c.mki_len.ensures.value c.in-Err.ensures.1,
+      ap (λ (v : SideValue). side_opens v done c.args.pad) (sym (c.self.view_is)) ∙ unheaded side done c.args.pad c.mki_len.result c.of_head.result c.mki_len.ensures.value (c.in-Err.ensures.1 ∙ ap (λ x. let r : Result Head DropCause = Err x in r) (sym c.of_head.ensures)),
     )
 
 pub returns-then-not-admits-clause-told : goal.returns-then-not-admits-clause-told
@@ -44,5 +47,5 @@ returns-in-Err-key-clause-told c = λ done has.
     let streams = subst (λ (ts : List StreamValue). StreamsStand ts c.self.inside.roc c.self.inside.window done) (sym (c.as_slice.ensures.value)) here in
     let told : c.admits.result ≡ is_admitted c.self.inside.admit done c.in-Ok.headed.head.ssrc = c.admits.ensures c.self.inside.roc c.self.inside.window done streams ∙ ap (is_admitted c.self.inside.admit done) c.ssrc.ensures in (
       c.in-Err-key.ensures.0 ∙ c.in-Ok.ensures.same_pad,
-      ap (λ (v : SideValue). side_opens v done c.args.pad) (sym (c.self.view_is)) ∙ unkeyed side done c.args.pad c.in-Ok.headed c.in-Err-key.refused.1 is (sym told ∙ c.if-not-admits.false) c.in-Err-key.ensures.1,
+      ap (λ (v : SideValue). side_opens v done c.args.pad) (sym (c.self.view_is)) ∙ unkeyed side done c.args.pad c.in-Ok.headed c.of_key.result is (sym told ∙ c.if-not-admits.false) (c.in-Err-key.ensures.1 ∙ ap (λ x. let r : Result Live DropCause = Err x in r) (sym c.of_key.ensures)),
     )

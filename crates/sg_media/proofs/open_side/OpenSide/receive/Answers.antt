@@ -1,11 +1,13 @@
 use Rattle.std.proofs.Common.{◌≡◌, IfOk, subst, sym, ap, ◌∙◌}
+use Rattle.sg_session.specs.Opening.{opens}
+use Rattle.sg_media.specs.declared.inbound.Opened.{Opened}
 use Rattle.sg_media.specs.Accepting.{IsAccepted}
 use Rattle.sg_media.specs.Answers.{answer_at, entry_of}
 use Rattle.sg_media.specs.Sides.{SideValue, StandsFor}
 use Rattle.sg_media.specs.Standing.{AreOfKind}
 use Rattle.sg_media.specs.Steps.{HasDone, SideTakes, side_opens}
-use Rattle.sg_media.proofs.Accepted.{keyed_opens, refused_as, session_opens, side_takes, stands_refused}
-use Rattle.sg_media.proofs.SideSteps.{ciphers_after, some_after, stands_after, streams_in}
+use Rattle.sg_media.proofs.Accepted.{keyed_opens, opened_tells, refused_as, session_opens, stands_refused}
+use Rattle.sg_media.proofs.SideSteps.{ciphers_after, side_takes, some_after, stands_after, streams_in}
 use Rattle.sg_media.proofs.open_side.OpenSide.receive.Goals as goal
 use Rattle.sg_media.proofs.open_side.OpenSide.receive.Goals.{in-Ok-open_among, in-Err-open_among}
 
@@ -14,8 +16,8 @@ invariant_of-self c = record {
   at_least = c.self.invariant.at_least;
   at_most = c.self.invariant.at_most;
   tag = c.self.invariant.tag;
-  some = some_after _ _ c.open_among.result c.open_among.new.keys c.self.inside.keys c.open_among.ensures.keys c.open_among.ensures.stays c.self.invariant.some;
-  ciphers = ciphers_after _ _ c.open_among.result c.open_among.new.keys c.self.inside.keys c.self.inside.kind c.self.inside.encrypts c.open_among.ensures.keys c.open_among.ensures.stays c.self.invariant.ciphers;
+  some = some_after (λ (o : Opened). o.key) _ c.open_among.result c.open_among.new.keys c.self.inside.keys c.open_among.ensures.keys c.open_among.ensures.stays c.self.invariant.some;
+  ciphers = ciphers_after (λ (o : Opened). o.key) _ c.open_among.result c.open_among.new.keys c.self.inside.keys c.self.inside.kind c.self.inside.encrypts c.open_among.ensures.keys c.open_among.ensures.stays c.self.invariant.ciphers;
   kinds = subst (AreOfKind c.open_among.new.streams.items) (c.in-Ok.ensures.back.1 ∙ sym (ap (λ (v : SideValue). v.kind) c.self.view_is)) c.open_among.ensures.kinds;
 }
 
@@ -74,7 +76,7 @@ returns-clause-takes c =
     ] in
     subst (λ r. IfOk r (λ o. SideTakes c.args.self.now new (entry_of o))) (sym same)
     (subst (λ (v : SideValue). IfOk c.open_among.result (λ o. SideTakes v new (entry_of o))) c.self.view_is
-    (side_takes _ side c.open_among.result c.open_among.new.keys c.open_among.new.streams.items c.open_among.ensures.streams c.open_among.ensures.keys))
+    (side_takes entry_of side c.open_among.result c.open_among.new.keys c.open_among.new.streams.items c.open_among.ensures.streams c.open_among.ensures.keys))
 
 pub returns-clause-after : goal.returns-clause-after
 returns-clause-after c = λ s standing.
@@ -86,4 +88,5 @@ returns-clause-after c = λ s standing.
     c.open_among.ensures.answer s.done a.key here a.at
     ∙ keyed_opens _ s.done c.args.pad c.in-Ok.keyed a
     ∙ session_opens _ s c.args.pad st in
-    stands_after _ s c.args.pad c.open_among.result c.open_among.new.keys c.open_among.new.streams.items st answer c.open_among.ensures.streams c.open_among.ensures.keys c.open_among.ensures.stays
+    stands_after entry_of _ s (opens s c.args.pad) c.open_among.result c.open_among.new.keys c.open_among.new.streams.items st
+    (opened_tells s.name.kind c.args.pad (opens s c.args.pad) c.open_among.result answer) c.open_among.ensures.streams c.open_among.ensures.keys c.open_among.ensures.stays

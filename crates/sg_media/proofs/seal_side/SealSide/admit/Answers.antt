@@ -1,4 +1,6 @@
-use Rattle.std.proofs.Common.{◌≡◌, List, subst, sym, ap, ◌∙◌}
+use Rattle.std.proofs.Common.{◌≡◌, List, Result, Err, subst, sym, ap, ◌∙◌}
+use Rattle.sg_base.specs.declared.faults.DropCause.{DropCause}
+use Rattle.sg_session.specs.Opening.{Head}
 use Rattle.sg_session.specs.Session.{is_admitted}
 use Rattle.sg_states.specs.StreamValues.{StreamValue}
 use Rattle.sg_media.specs.Accepting.{IsAdmitted}
@@ -12,7 +14,7 @@ pub returns-in-Err-clause-told : goal.returns-in-Err-clause-told
 returns-in-Err-clause-told c = λ done has.
     let side : SideValue = record { kind = c.self.inside.kind; keys = c.self.inside.keys; streams = c.self.inside.streams.items; roc = c.self.inside.roc; window = c.self.inside.window; admit = c.self.inside.admit; encrypts = c.self.inside.encrypts; tag_len = c.self.inside.tag_len } in (
       c.in-Err.ensures.0,
-      ap (λ (v : SideValue). side_seals v done c.args.pad) (sym (c.self.view_is)) ∙ unheaded_out side done c.args.pad (c.in-Err.refused.1) c.in-Err.ensures.1,
+      ap (λ (v : SideValue). side_seals v done c.args.pad) (sym (c.self.view_is)) ∙ unheaded_out side done c.args.pad c.of_head.result (c.in-Err.ensures.1 ∙ ap (λ x. let r : Result Head DropCause = Err x in r) (sym c.of_head.ensures)),
     )
 
 pub returns-then-not-admits-clause-told : goal.returns-then-not-admits-clause-told

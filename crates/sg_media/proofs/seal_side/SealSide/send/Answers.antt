@@ -1,12 +1,14 @@
-use Rattle.std.proofs.Common.{◌≡◌, true, ◌<◌, length, IfOk, subst, sym, ap, ◌∙◌}
+use Rattle.std.proofs.Common.{◌≡◌, true, ◌<◌, length, IfOk, refl, subst, sym, ap, ◌∙◌}
 use Rattle.sg_states.specs.Parts.{is_tag_len}
+use Rattle.sg_session.specs.Sealing.{seals}
+use Rattle.sg_media.specs.declared.outbound.Sealed.{Sealed}
 use Rattle.sg_media.specs.Accepting.{IsAdmitted}
 use Rattle.sg_media.specs.Answers.{entry_out, told_of}
 use Rattle.sg_media.specs.Sides.{SideValue, StandsFor}
 use Rattle.sg_media.specs.Standing.{AreOfKind, StreamsTake}
 use Rattle.sg_media.specs.Steps.{HasDone, SideTakes, side_seals}
-use Rattle.sg_media.proofs.Admitted.{admitted_seals, ciphers_sealed, refused_out, session_seals, side_takes_out, some_sealed, stands_refused_out, stands_sealed}
-use Rattle.sg_media.proofs.SideSteps.{streams_in}
+use Rattle.sg_media.proofs.Admitted.{admitted_seals, refused_out, sealed_tells, session_seals, stands_refused_out}
+use Rattle.sg_media.proofs.SideSteps.{ciphers_after, side_takes, some_after, stands_after, streams_in}
 use Rattle.sg_media.proofs.seal_side.SealSide.send.Goals as goal
 use Rattle.sg_media.proofs.seal_side.SealSide.send.Goals.{in-Ok-seal_among, in-Err-seal_among}
 
@@ -15,8 +17,8 @@ invariant_of-self c = record {
   at_least = c.self.invariant.at_least;
   at_most = c.self.invariant.at_most;
   tag = c.self.invariant.tag;
-  some = some_sealed _ _ c.seal_among.result c.seal_among.new.keys c.self.inside.keys c.seal_among.ensures.keys c.seal_among.ensures.stays c.self.invariant.some;
-  ciphers = ciphers_sealed _ _ c.seal_among.result c.seal_among.new.keys c.self.inside.keys c.self.inside.kind c.self.inside.encrypts c.seal_among.ensures.keys c.seal_among.ensures.stays c.self.invariant.ciphers;
+  some = some_after (λ (o : Sealed). o.key) _ c.seal_among.result c.seal_among.new.keys c.self.inside.keys c.seal_among.ensures.keys c.seal_among.ensures.stays c.self.invariant.some;
+  ciphers = ciphers_after (λ (o : Sealed). o.key) _ c.seal_among.result c.seal_among.new.keys c.self.inside.keys c.self.inside.kind c.self.inside.encrypts c.seal_among.ensures.keys c.seal_among.ensures.stays c.self.invariant.ciphers;
   kinds = subst (AreOfKind c.seal_among.new.streams.items) (c.in-Ok.ensures.back.1 ∙ sym (ap (λ (v : SideValue). v.kind) c.self.view_is)) c.seal_among.ensures.kinds;
 }
 
@@ -83,7 +85,7 @@ returns-clause-takes c =
     let grown = subst (λ p. IfOk c.seal_among.result (λ o. StreamsTake c.self.inside.streams.items c.seal_among.new.streams.items c.self.inside.roc c.self.inside.window (entry_out p o))) pad c.seal_among.ensures.streams in
     subst (λ r. IfOk r (λ o. SideTakes c.args.self.now new (entry_out c.args.pad o))) (sym same)
     (subst (λ (v : SideValue). IfOk c.seal_among.result (λ o. SideTakes v new (entry_out c.args.pad o))) c.self.view_is
-    (side_takes_out _ c.args.pad side c.seal_among.result c.seal_among.new.keys c.seal_among.new.streams.items grown c.seal_among.ensures.keys))
+    (side_takes (entry_out c.args.pad) side c.seal_among.result c.seal_among.new.keys c.seal_among.new.streams.items grown c.seal_among.ensures.keys))
 
 pub returns-clause-after : goal.returns-clause-after
 returns-clause-after c = λ s standing.
@@ -97,4 +99,5 @@ returns-clause-after c = λ s standing.
     ∙ session_seals _ s c.args.pad st c.self.invariant.some in
     let pad : c.in-Ok.headed.pad ≡ c.args.pad = c.in-Ok.ensures.back.0 in
     let grown = subst (λ p. IfOk c.seal_among.result (λ o. StreamsTake c.self.inside.streams.items c.seal_among.new.streams.items c.self.inside.roc c.self.inside.window (entry_out p o))) pad c.seal_among.ensures.streams in
-    stands_sealed _ s c.args.pad c.seal_among.result c.seal_among.new.keys c.seal_among.new.streams.items st answer grown c.seal_among.ensures.keys c.seal_among.ensures.stays
+    stands_after (entry_out c.args.pad) _ s (seals s c.args.pad) c.seal_among.result c.seal_among.new.keys c.seal_among.new.streams.items st
+    (sealed_tells s c.args.pad (seals s c.args.pad) c.seal_among.result refl answer) grown c.seal_among.ensures.keys c.seal_among.ensures.stays

@@ -2,7 +2,7 @@ use Rattle.std.proofs.Common.{◌≡◌, ◌≤◌, true, false, length, Option,
 use Rattle.std.specs.Prelude.{IfSome}
 use Rattle.sg_hmac.specs.States.{IsMacKey}
 use Rattle.sg_keys.specs.Live.{Live}
-use Rattle.sg_states.specs.Heads.{head_of}
+use Rattle.sg_states.specs.Headers.{head_of}
 use Rattle.sg_states.specs.Inbound.{Placing, fits_under}
 use Rattle.sg_states.specs.Parts.{tag_fits_at}
 use Rattle.sg_states.proofs.Tags.{tag_says}

@@ -1,15 +1,15 @@
--- Heads as the definitions have them.
+-- Headers that are read, as the heads of the definitions.
 use Rattle.std.specs.Prelude.{◌≡◌, Bool, Result, Ok, Err, MatchResult}
 use Rattle.sg_base.specs.declared.faults.DropCause.{DropCause}
 use Rattle.sg_base.specs.declared.faults.HeadFault.{HeadFault}
 use Rattle.sg_session.specs.Opening.{Head, head_cause}
-use Rattle.sg_states.specs.declared.head.Head.{Head as PacketHead}
+use Rattle.sg_states.specs.declared.header.Header.{Header}
 
-abbrev pub head_of : PacketHead → Head
+abbrev pub head_of : Header → Head
 head_of h = record { size = h.size; ssrc = h.ssrc; number = h.number; encrypted = h.encrypted }
 
 -- what was read is what the definition says
-abbrev pub IsReadAs : Result PacketHead HeadFault → Result Head DropCause → Type 0
+abbrev pub IsReadAs : Result Header HeadFault → Result Head DropCause → Type 0
 IsReadAs result r = MatchResult result (λ h. r ≡ Ok (head_of h)) (λ fault. r ≡ Err (head_cause fault))
 
 -- the head of a packet that is encrypted or not
