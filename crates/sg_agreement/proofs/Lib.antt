@@ -8,6 +8,7 @@ pub mod LinesSound
 pub mod MessageKeys
 pub mod MessageOctets
 pub mod MessagesSound
+pub mod OwnMessages
 pub mod SessionsSound
 mod SideWalks
 mod Sound

@@ -12,6 +12,7 @@ pub mod Media
 pub mod MessageAnswers
 pub mod Messages
 pub mod Offers
+pub mod OwnMessages
 pub mod Refusals
 pub mod Sides
 pub mod Sound

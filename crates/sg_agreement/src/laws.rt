@@ -8,6 +8,7 @@ ghost use Rattle.sg_agreement.specs.Described.{unaddressed};
 ghost use Rattle.sg_agreement.specs.EachMedium.{each_active, if_active};
 ghost use Rattle.sg_agreement.specs.Messages.{AtHand};
 ghost use Rattle.sg_agreement.specs.Offers.{AgreedOffer, agreed_offer};
+ghost use Rattle.sg_agreement.specs.OwnMessages.{AreByMessageOf};
 ghost use Rattle.sg_agreement.specs.Sides.{is_active, side_of};
 ghost use Rattle.sg_agreement.specs.Sound.{AreAgreedWhereActive, IsSoundMedium};
 ghost use Rattle.sg_agreement.specs.TextLines.{HasNoMessage, StandInTexts};
@@ -82,6 +83,15 @@ pub fn what_is_agreed_stands_in_the_texts()
     ensures answered { (h : AtHand) (offered noise answer : List ℕ) (slot : ℕ) (a : AgreedOffer) (g : AgreedAnswer)
         → agreed_offer h ways.SdesFromPlain offered ≡ Ok a → agreed_answer slot a.offer noise answer ≡ Ok g
         → (s : Sdp) × (description_of answer ≡ Ok s) × StandInTexts s.media a.text g.media }
+{}
+
+/// What the gateway's own MIKEY message keys encrypts RTP and RTCP both ways: the gateway sends in crypto sessions of odd
+/// numbers of the message that the peer was told, the peer in those behind them. The answer carries the response to it,
+/// with the code under the pair's key.
+pub fn own_messages_encrypt()
+    ensures { (h : AtHand) (peer offered noise answer : List ℕ) (slot : ℕ) (a : AgreedOffer) (g : AgreedAnswer)
+        → agreed_offer h (ways.MikeyFromPlain peer) offered ≡ Ok a → agreed_answer slot a.offer noise answer ≡ Ok g
+        → (s : Sdp) × (description_of answer ≡ Ok s) × AreByMessageOf a.text s g.media }
 {}
 
 /// A walk that has taken the media before this one goes on with this one: what a loop over media keeps.

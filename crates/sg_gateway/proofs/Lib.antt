@@ -3,6 +3,7 @@ pub mod Agreements
 pub mod Arrivals
 pub mod Authentic
 pub mod Between
+pub mod ByTexts
 pub mod CallList
 pub mod Came
 pub mod CarriedOut
@@ -18,6 +19,8 @@ pub mod Heard
 pub mod Highest
 pub mod InTurn
 pub mod Kept
+pub mod Lasting
+pub mod LineSessions
 pub mod Lives
 pub mod NewSessions
 pub mod Newness

@@ -3,6 +3,7 @@ pub mod Arriving
 pub mod Authentic
 pub mod Batch
 pub mod Busy
+pub mod ByTexts
 pub mod CallSignals
 pub mod CarriedOut
 pub mod Coming
@@ -15,6 +16,7 @@ pub mod Ended
 pub mod Events
 pub mod Forgotten
 pub mod Generations
+pub mod Lasting
 pub mod Legs
 pub mod Lives
 pub mod Moments

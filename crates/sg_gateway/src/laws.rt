@@ -12,6 +12,7 @@ ghost use Rattle.sg_gateway.specs.Arriving.{EachArrivingIsPutOut};
 ghost use Rattle.sg_gateway.specs.Authentic.{MessagesAreAcceptedOnce};
 ghost use Rattle.sg_gateway.specs.Batch.{Arrived, AreDrained, IsToldAlone};
 ghost use Rattle.sg_gateway.specs.Busy.{EachCallIsBusy, EachPacketKeepsItsCall};
+ghost use Rattle.sg_gateway.specs.ByTexts.{AnswersAreByTexts};
 ghost use Rattle.sg_gateway.specs.CarriedOut.{ByesEnd, TicksMove, TicksKeep, RejectionsClose, AnswersRenew, AnswersKeepEarlier};
 ghost use Rattle.sg_gateway.specs.Coming.{EachOpeningCame, EachSealCame};
 ghost use Rattle.sg_gateway.specs.Departing.{EachDepartingIsSealed};
@@ -19,6 +20,7 @@ ghost use Rattle.sg_gateway.specs.Earlier.{EarlierServeNoLonger};
 ghost use Rattle.sg_gateway.specs.Early.{IsRefusedFirst, early};
 ghost use Rattle.sg_gateway.specs.Ended.{EachEndFrees, EndedStayAway};
 ghost use Rattle.sg_gateway.specs.Forgotten.{NoKeyIsForgotten};
+ghost use Rattle.sg_gateway.specs.Lasting.{SessionsLast, ManualCallsAreAsTold};
 ghost use Rattle.sg_gateway.specs.Lives.{EachKeyIsWithinLife};
 ghost use Rattle.sg_gateway.specs.Moments.{MomentComesOnce};
 ghost use Rattle.sg_gateway.specs.Newness.{IsNewIn, IsFresh, EachNewIsPutOut};
@@ -229,6 +231,22 @@ pub fn messages_are_accepted_once()
 pub fn texts_tell_addresses()
     ensures offers { (events : List Event) → OffersAreTheirTexts events }
     ensures answers { (events : List Event) → AnswersHaveAddresses events }
+{}
+
+/// The offer that an answer closes was made in an earlier turn. Where crypto lines key them, the sessions of the answer's
+/// generation open under lines of the peer's text and seal under lines of the text that was told for the peer. Where the
+/// gateway's own MIKEY message does, they are of its crypto sessions and encrypt, and the answer carries the response to it,
+/// with the code under the pair's key.
+pub fn answers_are_by_their_texts()
+    ensures { (events : List Event) → AnswersAreByTexts events }
+{}
+
+/// Each session of every world was made in an earlier turn, by an answer or where its call was keyed manually, and is what it
+/// was made, but for what it has done. One that is made manually is under the key of its direction, and encrypts but for
+/// RTP in the raw form.
+pub fn sessions_stay_what_they_were_made()
+    ensures last { (events : List Event) → SessionsLast events }
+    ensures manual { (events : List Event) → ManualCallsAreAsTold events }
 {}
 
 /// In every world of a run the tags of each session have 32 or 80 bits, and those of RTCP 80.
