@@ -3,12 +3,12 @@ use Rattle.std.proofs.Common.{◌≡◌, ℕ, zero, suc, ◌+◌, ◌<◌, true,
 use Rattle.std.specs.Prelude.{slice_index}
 use Rattle.std.proofs.lemmas.Bool.{cases_Bool, eqb-true}
 use Rattle.std.proofs.Math.Seq.{take-length}
-use Rattle.std.proofs.lemmas.List.{length-drop, length-take, map-append}
+use Rattle.std.proofs.lemmas.List.{length-drop, length-map, length-take, map-append, take_all, take_at}
 use Rattle.std.proofs.lemmas.List.Splits.{slice_split_at, slice_split_none}
 use Rattle.memchr.specs.Find.{IsFirstByte, is_byte}
 use Rattle.sg_base.specs.Fields.{Lacks}
 use Rattle.sg_base.proofs.Cuts.{lacks_all}
-use Rattle.sg_lines.specs.LineOf.{fields_of}
+use Rattle.sg_lines.specs.LineOf.{fields_of, said_by}
 
 lost_from : (c : ℕ) (xs : List ℕ) → ((k : ℕ) → k < length xs → ¬ (eqb (slice_index xs k) c ≡ true)) → Lacks c xs
 lost_from c [] none = tt
@@ -65,3 +65,28 @@ pub last_field : {A : Type 0} (fields next : List A) (x : A) (octets : A → Lis
 last_field fields next x octets whole rest is field e none =
     ap (map octets) is ∙ map-append octets fields (x ∷ []) ∙ ap (λ (l : List ℕ). map octets fields ++ l ∷ []) field
     ∙ ap (λ (ls : List (List ℕ)). map octets fields ++ ls) (sym (slice_split_none (λ b. eqb b 32) rest (lacks_all 32 rest (lost_by 32 rest none)))) ∙ e
+
+-- where nine are taken, they are the first nine
+pub nine_fields : {A : Type 0} (fields : List A) (octets : A → List ℕ) (rest whole : List (List ℕ)) → length fields ≡ 9 → map octets fields ++ rest ≡ whole → map octets fields ≡ take 9 whole
+nine_fields fields octets rest whole nine e =
+    let count : length (map octets fields) ≡ 9 = length-map fields octets ∙ nine in
+    sym (ap (take 9) (sym e) ∙ take_at (map octets fields) rest 9 count)
+
+-- where all are taken, and they aren't more than nine
+pub all_fields : {A : Type 0} (fields : List A) (octets : A → List ℕ) (whole : List (List ℕ)) → length fields ≤ 9 → map octets fields ≡ whole → map octets fields ≡ take 9 whole
+all_fields fields octets whole most e =
+    let few : length whole ≤ 9 = omega (arith, most, length-map fields octets, ap (λ (l : List (List ℕ)). length l) e) in
+    e ∙ sym (take_all 9 whole few)
+
+-- behind eight fields nothing is told apart
+pub first_nine : (fs : List (List ℕ)) → said_by (take 9 fs) ≡ said_by fs
+first_nine [] = refl
+first_nine (a ∷ []) = refl
+first_nine (a ∷ b ∷ []) = refl
+first_nine (a ∷ b ∷ c ∷ []) = refl
+first_nine (a ∷ b ∷ c ∷ d ∷ []) = refl
+first_nine (a ∷ b ∷ c ∷ d ∷ e ∷ []) = refl
+first_nine (a ∷ b ∷ c ∷ d ∷ e ∷ f ∷ []) = refl
+first_nine (a ∷ b ∷ c ∷ d ∷ e ∷ f ∷ g ∷ []) = refl
+first_nine (a ∷ b ∷ c ∷ d ∷ e ∷ f ∷ g ∷ h ∷ []) = refl
+first_nine (a ∷ b ∷ c ∷ d ∷ e ∷ f ∷ g ∷ h ∷ i ∷ rest) = refl

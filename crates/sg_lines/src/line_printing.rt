@@ -2,12 +2,13 @@
 
 ghost use Rattle.std.specs.Prelude.{◌≡◌, ◌<◌, ◌∷◌, ◌++◌, [], map, length, decimal, IfOk};
 ghost use Rattle.std.specs.List.{join_with_byte};
+ghost use Rattle.sg_base.specs.Fields.{address_text};
 ghost use Rattle.sg_lines.specs.LineText.{hex_text, key_text, line_fields, line_text, noise_text, rollover_text, signal_fields};
 
-use crate::field_printing::{address_of, push_hex};
+use crate::field_printing::{push_address, push_hex};
 use crate::{Line, Signal};
 use itoa::Buffer;
-use sg_base::{CallId, MasterKey, NoMemory, Noise304, Octets};
+use sg_base::{Address, CallId, MasterKey, NoMemory, Noise304, Octets};
 use std::alloc::Global;
 
 /// The fields joined by single spaces, and the line end.
@@ -30,7 +31,15 @@ fn hex_of(alloc: Global, octets: &[u8]) -> Result<Vec<u8>, NoMemory>
     ensures { IfOk result (λ v. v.items ≡ hex_text octets.now) }
 {
     let mut text = Vec::new(alloc);
-    push_hex(alloc, &mut text, octets)?;
+    push_hex(&mut text, octets)?;
+    Ok(text)
+}
+
+fn address_of(alloc: Global, a: &Address) -> Result<Vec<u8>, NoMemory>
+    ensures { IfOk result (λ v. v.items ≡ address_text a.now) }
+{
+    let mut text = Vec::new(alloc);
+    push_address(&mut text, a)?;
     Ok(text)
 }
 

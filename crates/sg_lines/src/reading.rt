@@ -1,6 +1,7 @@
-//! Script lines, read.
+//! Script lines, read. What reads a signal's line isn't inlined, so that a datagram's pays for no room that it
+//! doesn't need.
 
-ghost use Rattle.std.specs.Prelude.{◌≡◌, ◌==◌, ◌≤◌, ◌++◌, ℕ, List, [], ◌∷◌, map, length, IfOk};
+ghost use Rattle.std.specs.Prelude.{◌≡◌, ◌==◌, ◌≤◌, ◌++◌, ℕ, List, [], ◌∷◌, map, take, length, IfOk};
 ghost use Rattle.sg_lines.specs.Fields.{Gives};
 ghost use Rattle.sg_lines.specs.LineText.{FitsLine, line_text};
 ghost use Rattle.sg_lines.specs.declared.lines.Line.{Line};
@@ -9,12 +10,16 @@ ghost use Rattle.sg_lines.specs.LineOf.{answer_in, bye_in, datagram_in, eight_fi
 use crate::faults::WORD;
 use crate::fields::{address, call, identity, key, noise, number, octets, port, rollover, window};
 use crate::{Line, ReadLineFault, Signal};
+use arrayvec::ArrayVec;
 use memchr::memchr;
 use sg_base::{LINE_MOST, PAD_MOST, ScriptFault, TICK_MOST};
-use std::alloc::{AllocError, Global};
+use std::alloc::Global;
 
 /// The most octets of a session description in a script.
 const TEXT_MOST: usize = 32_768;
+
+/// One field more than a line of any word has.
+const FIELDS_MOST: usize = 9;
 
 #[tactic(auto, unfolding(crate::specs::LineOf::tick_in))]
 fn tick(now: &[u8]) -> Result<Line, ScriptFault>
@@ -56,6 +61,7 @@ pub(crate) fn datagram(
 }
 
 #[tactic(auto, unfolding(crate::specs::LineOf::psk_in))]
+#[inline(never)]
 fn psk(alloc: Global, own: &[u8], peer: &[u8], hex: &[u8]) -> Result<Line, ReadLineFault>
     ensures { Gives result (psk_in own.now peer.now hex.now) }
 {
@@ -66,6 +72,7 @@ fn psk(alloc: Global, own: &[u8], peer: &[u8], hex: &[u8]) -> Result<Line, ReadL
 }
 
 #[tactic(auto, unfolding(crate::specs::LineOf::offer_secure_in))]
+#[inline(never)]
 fn offer_secure(
     alloc: Global,
     name: &[u8],
@@ -81,6 +88,7 @@ fn offer_secure(
 }
 
 #[tactic(auto, unfolding(crate::specs::LineOf::offer_sdes_in))]
+#[inline(never)]
 fn offer_sdes(alloc: Global, name: &[u8], random: &[u8], hex: &[u8]) -> Result<Line, ReadLineFault>
     ensures { Gives result (offer_sdes_in name.now random.now hex.now) }
 {
@@ -91,6 +99,7 @@ fn offer_sdes(alloc: Global, name: &[u8], random: &[u8], hex: &[u8]) -> Result<L
 }
 
 #[tactic(auto, unfolding(crate::specs::LineOf::offer_mikey_in))]
+#[inline(never)]
 fn offer_mikey(
     alloc: Global,
     name: &[u8],
@@ -113,6 +122,7 @@ fn offer_mikey(
 }
 
 #[tactic(auto, unfolding(crate::specs::LineOf::answer_in))]
+#[inline(never)]
 fn answer(alloc: Global, name: &[u8], random: &[u8], hex: &[u8]) -> Result<Line, ReadLineFault>
     ensures { Gives result (answer_in name.now random.now hex.now) }
 {
@@ -123,6 +133,7 @@ fn answer(alloc: Global, name: &[u8], random: &[u8], hex: &[u8]) -> Result<Line,
 }
 
 #[tactic(auto, unfolding(crate::specs::LineOf::manual_in))]
+#[inline(never)]
 fn manual(
     alloc: Global,
     name: &[u8],
@@ -276,18 +287,32 @@ pub(crate) fn line_of_fields(alloc: Global, fields: &[&[u8]]) -> Result<Line, Re
     }
 }
 
-/// What stands between single spaces.
-pub fn fields(alloc: Global, body: &[u8]) -> Result<Vec<&[u8]>, AllocError>
-    ensures { IfOk result (λ v. map (λ x. x.now) v.items ≡ fields_of body.now) }
+/// The first nine of what stands between single spaces.
+pub fn fields(body: &[u8]) -> ArrayVec<&[u8], FIELDS_MOST>
+    ensures { map (λ x. x.now) result.items ≡ take 9 (fields_of body.now) }
 {
-    let mut fields = Vec::new(alloc);
+    let mut fields = ArrayVec::new();
     let mut rest = body;
     'spaces: while let Some(place) = memchr(b' ', rest) {
-        fields.push(&rest[..place])?;
+        if fields.is_full() {
+            return fields;
+        }
+        fields.push(&rest[..place]);
         rest = &rest[place + 1..];
     }
-    fields.push(rest)?;
-    Ok(fields)
+    if fields.is_full() {
+        return fields;
+    }
+    fields.push(rest);
+    fields
+}
+
+/// The line without its end, where it isn't the first.
+fn body_line(alloc: Global, body: &[u8]) -> Result<Line, ReadLineFault>
+    ensures { Gives result (said_by (fields_of body.now)) }
+{
+    let fields = fields(body);
+    line_of_fields(alloc, fields.as_slice())
 }
 
 /// The first line.
@@ -313,8 +338,7 @@ fn line(alloc: Global, number: u64, octets: &[u8]) -> Result<Line, ReadLineFault
     if number == 1 {
         return Ok(header(body)?);
     }
-    let fields = fields(alloc, body)?;
-    line_of_fields(alloc, &fields)
+    body_line(alloc, body)
 }
 
 /// The line that the octets are, its end among them. Lines are numbered from 1, and the first one is the

@@ -1,5 +1,5 @@
 -- Each outcome has one line: what is spelled so is read, and what is read is spelled so.
-use Rattle.std.proofs.Common.{◌≡◌, ℕ, ◌^◌, ◌<◌, ◌≤◌, true, false, ltb, List, [], ◌∷◌, ◌++◌, length, Option, Some, None, Result, Ok, Err, refl, sym, ap, subst, ◌∙◌, arith, inl, inr, append_assoc, lit<}
+use Rattle.std.proofs.Common.{◌≡◌, ℕ, ◌^◌, ◌<◌, ◌≤◌, true, false, ltb, List, [], ◌∷◌, ◌++◌, length, take, Option, Some, None, Result, Ok, Err, refl, sym, ap, subst, ◌∙◌, arith, inl, inr, append_assoc, lit<}
 use Rattle.std.specs.Prelude.{codes, IfOk, not}
 use Rattle.std.specs.List.{join_with_byte}
 use Rattle.std.specs.Fmt.{decimal}
@@ -429,3 +429,17 @@ outcome_takes t o e =
 pub is_found : (t : List ℕ) (r : Result Outcome ReadLineFault) → Gives r (outcome_of t) → IfOk r (λ o. FitsOutcome o × (t ≡ outcome_line o))
 is_found t (Ok o) given = let p = outcome_takes t o given in (p.1, p.0)
 is_found t (Err e) given = tt
+
+-- behind eight fields nothing is told apart
+pub first_nine : (fs : List (List ℕ)) → outcome_in (take 9 fs) ≡ outcome_in fs
+unfolding outcome_by refused_in dropped_in
+first_nine [] = refl
+first_nine (w ∷ []) = refl
+first_nine (w ∷ a ∷ []) = refl
+first_nine (w ∷ a ∷ b ∷ []) = refl
+first_nine (w ∷ a ∷ b ∷ c ∷ []) = refl
+first_nine (w ∷ a ∷ b ∷ c ∷ d ∷ []) = refl
+first_nine (w ∷ a ∷ b ∷ c ∷ d ∷ e ∷ []) = refl
+first_nine (w ∷ a ∷ b ∷ c ∷ d ∷ e ∷ f ∷ []) = refl
+first_nine (w ∷ a ∷ b ∷ c ∷ d ∷ e ∷ f ∷ g ∷ []) = refl
+first_nine (w ∷ a ∷ b ∷ c ∷ d ∷ e ∷ f ∷ g ∷ h ∷ rest) = refl

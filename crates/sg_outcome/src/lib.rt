@@ -11,4 +11,4 @@ mod printing;
 pub use laws::outcomes_have_one_spelling;
 pub use outcome_reading::read_outcome;
 pub use outcomes::{Outcome, Why};
-pub use printing::print_outcome;
+pub use printing::{print_outcome, push_out, push_outcome};

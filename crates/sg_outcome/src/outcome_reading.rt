@@ -2,6 +2,7 @@
 
 ghost use Rattle.std.specs.Prelude.{◌≡◌, ◌≤◌, ◌++◌, map, length, IfOk};
 ghost use Rattle.sg_lines.specs.Fields.{Gives};
+ghost use Rattle.sg_lines.specs.LineOf.{fields_of};
 ghost use Rattle.sg_outcome.specs.OutcomeText.{outcome_line};
 ghost use Rattle.sg_outcome.specs.OutcomeFields.{FitsOutcome};
 ghost use Rattle.sg_outcome.specs.declared.outcomes.Outcome.{Outcome};
@@ -218,6 +219,14 @@ fn outcome_of_fields(alloc: Global, fields: &[&[u8]]) -> Result<Outcome, ReadLin
     }
 }
 
+/// The outcome of a line without its end.
+fn body_outcome(alloc: Global, body: &[u8]) -> Result<Outcome, ReadLineFault>
+    ensures { Gives result (outcome_in (fields_of body.now)) }
+{
+    let fields = fields(body);
+    outcome_of_fields(alloc, fields.as_slice())
+}
+
 #[tactic(auto, unfolding(crate::specs::OutcomeOf::outcome_of))]
 fn outcome(alloc: Global, octets: &[u8]) -> Result<Outcome, ReadLineFault>
     ensures { Gives result (outcome_of octets.now) }
@@ -228,8 +237,7 @@ fn outcome(alloc: Global, octets: &[u8]) -> Result<Outcome, ReadLineFault>
     let Some((b'\n', body)) = octets.split_last() else {
         return Err(ReadLineFault::Script(ScriptFault::Unended));
     };
-    let fields = fields(alloc, body)?;
-    outcome_of_fields(alloc, &fields)
+    body_outcome(alloc, body)
 }
 
 /// The outcome that the line is, its end among the octets. The first fault is Length above 70,000 octets,

@@ -6,6 +6,7 @@ ghost use Rattle.sg_outcome.specs.declared.outcomes.Outcome.TheVariants.{Made, L
 ghost use Rattle.sg_outcome.specs.OutcomeText.{side_name, why_name, drop_cause_name, drop_cause_numbers, sdp_fault_name, sdes_fault_name, mikey_fault_name, psk_fault_text, cs_fault_name, refusal_text, call_text, outcome_line};
 
 use crate::{Outcome, Why};
+use itoa::Buffer;
 use sg_base::{
     Address, CallId, CsFault, DropCause, MikeyFault, NoMemory, Octets, PskFault, Refusal,
     SdesFault, SdpFault, Side,
@@ -13,11 +14,11 @@ use sg_base::{
 use sg_lines::field_printing::{push, push_address, push_hex, push_number};
 use std::alloc::Global;
 
-fn push_signed(alloc: Global, out: &mut Vec<u8>, n: i64) -> Result<(), NoMemory>
+fn push_signed(out: &mut Vec<u8>, n: i64) -> Result<(), NoMemory>
     ensures { OnOk result (out.new.items ≡ out.old.items ++ signed_decimal n) }
 {
-    let text = n.to_string(alloc)?;
-    push(out, text.as_str().as_bytes())
+    let mut digits = Buffer::new();
+    push(out, digits.format(n).as_bytes())
 }
 
 pub(crate) fn side_word(side: Side) -> &'static [u8]
@@ -64,15 +65,15 @@ pub(crate) fn drop_cause_word(cause: DropCause) -> &'static [u8]
     }
 }
 
-fn push_drop_numbers(alloc: Global, out: &mut Vec<u8>, cause: DropCause) -> Result<(), NoMemory>
+fn push_drop_numbers(out: &mut Vec<u8>, cause: DropCause) -> Result<(), NoMemory>
     ensures { OnOk result (out.new.items ≡ out.old.items ++ drop_cause_numbers cause) }
 {
     match cause {
         DropCause::KeySpent { number, count } => {
             push(out, b" ")?;
-            push_number(alloc, out, number as u64)?;
+            push_number(out, number as u64)?;
             push(out, b" ")?;
-            push_number(alloc, out, count)
+            push_number(out, count)
         }
         _ => Ok(()),
     }
@@ -118,22 +119,22 @@ pub(crate) fn mikey_fault_word(fault: MikeyFault) -> &'static [u8]
     }
 }
 
-fn push_skew(alloc: Global, out: &mut Vec<u8>, stamp: i64, now: u64) -> Result<(), NoMemory>
+fn push_skew(out: &mut Vec<u8>, stamp: i64, now: u64) -> Result<(), NoMemory>
     ensures { OnOk result (out.new.items ≡ out.old.items ++ psk_fault_text (PskFault.Skew stamp now)) }
 {
     push(out, b"Skew ")?;
-    push_signed(alloc, out, stamp)?;
+    push_signed(out, stamp)?;
     push(out, b" ")?;
-    push_number(alloc, out, now)
+    push_number(out, now)
 }
 
-fn push_psk_fault(alloc: Global, out: &mut Vec<u8>, fault: PskFault) -> Result<(), NoMemory>
+fn push_psk_fault(out: &mut Vec<u8>, fault: PskFault) -> Result<(), NoMemory>
     ensures { OnOk result (out.new.items ≡ out.old.items ++ psk_fault_text fault) }
 {
     match fault {
         PskFault::IdUnknown => push(out, b"IdUnknown"),
         PskFault::BadMac => push(out, b"BadMac"),
-        PskFault::Skew { stamp, now } => push_skew(alloc, out, stamp, now),
+        PskFault::Skew { stamp, now } => push_skew(out, stamp, now),
         PskFault::Repeated => push(out, b"Repeated"),
         PskFault::Algorithm => push(out, b"Algorithm"),
         PskFault::KeyType => push(out, b"KeyType"),
@@ -153,23 +154,16 @@ pub(crate) fn cs_fault_word(fault: CsFault) -> &'static [u8]
 }
 
 // A refusal's word, the number of its medium or line, and the name of its fault.
-fn push_fault(
-    alloc: Global,
-    out: &mut Vec<u8>,
-    word: &[u8],
-    number: u64,
-    fault: &[u8],
-) -> Result<(), NoMemory>
+fn push_fault(out: &mut Vec<u8>, word: &[u8], number: u64, fault: &[u8]) -> Result<(), NoMemory>
     ensures { OnOk result (out.new.items ≡ out.old.items ++ word.now ++ decimal number ++ codes " " ++ fault.now) }
 {
     push(out, word)?;
-    push_number(alloc, out, number)?;
+    push_number(out, number)?;
     push(out, b" ")?;
     push(out, fault)
 }
 
 fn push_mikey_fault(
-    alloc: Global,
     out: &mut Vec<u8>,
     medium: u64,
     offset: u64,
@@ -178,55 +172,50 @@ fn push_mikey_fault(
     ensures { OnOk result (out.new.items ≡ out.old.items ++ codes "Mikey " ++ decimal medium ++ codes " " ++ decimal offset ++ codes " " ++ mikey_fault_name fault) }
 {
     push(out, b"Mikey ")?;
-    push_number(alloc, out, medium)?;
+    push_number(out, medium)?;
     push(out, b" ")?;
-    push_number(alloc, out, offset)?;
+    push_number(out, offset)?;
     push(out, b" ")?;
     push(out, mikey_fault_word(fault))
 }
 
-fn push_psk(alloc: Global, out: &mut Vec<u8>, medium: u64, fault: PskFault) -> Result<(), NoMemory>
+fn push_psk(out: &mut Vec<u8>, medium: u64, fault: PskFault) -> Result<(), NoMemory>
     ensures { OnOk result (out.new.items ≡ out.old.items ++ codes "Psk " ++ decimal medium ++ codes " " ++ psk_fault_text fault) }
 {
     push(out, b"Psk ")?;
-    push_number(alloc, out, medium)?;
+    push_number(out, medium)?;
     push(out, b" ")?;
-    push_psk_fault(alloc, out, fault)
+    push_psk_fault(out, fault)
 }
 
-fn push_word_number(
-    alloc: Global,
-    out: &mut Vec<u8>,
-    word: &[u8],
-    number: u64,
-) -> Result<(), NoMemory>
+fn push_word_number(out: &mut Vec<u8>, word: &[u8], number: u64) -> Result<(), NoMemory>
     ensures { OnOk result (out.new.items ≡ out.old.items ++ word.now ++ decimal number) }
 {
     push(out, word)?;
-    push_number(alloc, out, number)
+    push_number(out, number)
 }
 
-fn push_refusal(alloc: Global, out: &mut Vec<u8>, cause: Refusal) -> Result<(), NoMemory>
+fn push_refusal(out: &mut Vec<u8>, cause: Refusal) -> Result<(), NoMemory>
     ensures { OnOk result (out.new.items ≡ out.old.items ++ refusal_text cause) }
 {
     match cause {
         Refusal::Sdp { line, fault } => {
-            push_fault(alloc, out, b"Sdp ", line as u64, sdp_fault_word(fault))
+            push_fault(out, b"Sdp ", line as u64, sdp_fault_word(fault))
         }
         Refusal::Sdes { medium, fault } => {
-            push_fault(alloc, out, b"Sdes ", medium as u64, sdes_fault_word(fault))
+            push_fault(out, b"Sdes ", medium as u64, sdes_fault_word(fault))
         }
         Refusal::Mikey {
             medium,
             offset,
             fault,
-        } => push_mikey_fault(alloc, out, medium as u64, offset as u64, fault),
-        Refusal::Psk { medium, fault } => push_psk(alloc, out, medium as u64, fault),
+        } => push_mikey_fault(out, medium as u64, offset as u64, fault),
+        Refusal::Psk { medium, fault } => push_psk(out, medium as u64, fault),
         Refusal::Cs { medium, fault } => {
-            push_fault(alloc, out, b"Cs ", medium as u64, cs_fault_word(fault))
+            push_fault(out, b"Cs ", medium as u64, cs_fault_word(fault))
         }
-        Refusal::KeyMgmt { medium } => push_word_number(alloc, out, b"KeyMgmt ", medium as u64),
-        Refusal::KeyReused { number } => push_word_number(alloc, out, b"KeyReused ", number as u64),
+        Refusal::KeyMgmt { medium } => push_word_number(out, b"KeyMgmt ", medium as u64),
+        Refusal::KeyReused { number } => push_word_number(out, b"KeyReused ", number as u64),
         Refusal::RingFull => push(out, b"RingFull"),
         Refusal::NoMedia => push(out, b"NoMedia"),
         Refusal::MediaCount => push(out, b"MediaCount"),
@@ -235,96 +224,78 @@ fn push_refusal(alloc: Global, out: &mut Vec<u8>, cause: Refusal) -> Result<(), 
         Refusal::CallUnknown => push(out, b"CallUnknown"),
         Refusal::PskKnown => push(out, b"PskKnown"),
         Refusal::PskFull => push(out, b"PskFull"),
-        Refusal::TickBack { last } => push_word_number(alloc, out, b"TickBack ", last),
+        Refusal::TickBack { last } => push_word_number(out, b"TickBack ", last),
         Refusal::State => push(out, b"State"),
     }
 }
 
-fn push_call(alloc: Global, out: &mut Vec<u8>, call: Option<CallId>) -> Result<(), NoMemory>
+fn push_call(out: &mut Vec<u8>, call: Option<CallId>) -> Result<(), NoMemory>
     ensures { OnOk result (out.new.items ≡ out.old.items ++ call_text call) }
 {
     match call {
         None => push(out, b"-"),
-        Some(CallId(number)) => push_number(alloc, out, number as u64),
+        Some(CallId(number)) => push_number(out, number as u64),
     }
 }
 
 #[tactic(auto, unfolding(crate::specs::OutcomeText::outcome_line))]
-fn push_made(
-    alloc: Global,
-    out: &mut Vec<u8>,
-    call: CallId,
-    slot: u8,
-    media: u8,
-) -> Result<(), NoMemory>
+fn push_made(out: &mut Vec<u8>, call: CallId, slot: u8, media: u8) -> Result<(), NoMemory>
     ensures { OnOk result (out.new.items ≡ out.old.items ++ outcome_line (Made call slot media)) }
 {
     push(out, b"made ")?;
-    push_number(alloc, out, call.0 as u64)?;
+    push_number(out, call.0 as u64)?;
     push(out, b" ")?;
-    push_number(alloc, out, slot as u64)?;
+    push_number(out, slot as u64)?;
     push(out, b" ")?;
-    push_number(alloc, out, media as u64)?;
+    push_number(out, media as u64)?;
     push(out, b"\n")
 }
 
 #[tactic(auto, unfolding(crate::specs::OutcomeText::outcome_line))]
-fn push_live(alloc: Global, out: &mut Vec<u8>, call: CallId) -> Result<(), NoMemory>
+fn push_live(out: &mut Vec<u8>, call: CallId) -> Result<(), NoMemory>
     ensures { OnOk result (out.new.items ≡ out.old.items ++ outcome_line (Live call)) }
 {
     push(out, b"live ")?;
-    push_number(alloc, out, call.0 as u64)?;
+    push_number(out, call.0 as u64)?;
     push(out, b"\n")
 }
 
 #[tactic(auto, unfolding(crate::specs::OutcomeText::outcome_line))]
-fn push_sdp(
-    alloc: Global,
-    out: &mut Vec<u8>,
-    call: CallId,
-    side: Side,
-    text: &[u8],
-) -> Result<(), NoMemory>
+fn push_sdp(out: &mut Vec<u8>, call: CallId, side: Side, text: &[u8]) -> Result<(), NoMemory>
     ensures { OnOk result (out.new.items ≡ out.old.items ++ outcome_line (Sdp call side text.now)) }
 {
     push(out, b"sdp ")?;
-    push_number(alloc, out, call.0 as u64)?;
+    push_number(out, call.0 as u64)?;
     push(out, b" ")?;
     push(out, side_word(side))?;
     push(out, b" ")?;
-    push_hex(alloc, out, text)?;
+    push_hex(out, text)?;
     push(out, b"\n")
 }
 
 #[tactic(auto, unfolding(crate::specs::OutcomeText::outcome_line))]
-fn push_refused(
-    alloc: Global,
-    out: &mut Vec<u8>,
-    call: Option<CallId>,
-    cause: Refusal,
-) -> Result<(), NoMemory>
+fn push_refused(out: &mut Vec<u8>, call: Option<CallId>, cause: Refusal) -> Result<(), NoMemory>
     ensures { OnOk result (out.new.items ≡ out.old.items ++ outcome_line (Refused call cause)) }
 {
     push(out, b"refused ")?;
-    push_call(alloc, out, call)?;
+    push_call(out, call)?;
     push(out, b" ")?;
-    push_refusal(alloc, out, cause)?;
+    push_refusal(out, cause)?;
     push(out, b"\n")
 }
 
-fn push_slot(alloc: Global, out: &mut Vec<u8>, slot: u8, media: u8) -> Result<(), NoMemory>
+fn push_slot(out: &mut Vec<u8>, slot: u8, media: u8) -> Result<(), NoMemory>
     ensures { OnOk result (out.new.items ≡ out.old.items ++ codes " " ++ decimal slot ++ codes " " ++ decimal media ++ codes " ") }
 {
     push(out, b" ")?;
-    push_number(alloc, out, slot as u64)?;
+    push_number(out, slot as u64)?;
     push(out, b" ")?;
-    push_number(alloc, out, media as u64)?;
+    push_number(out, media as u64)?;
     push(out, b" ")
 }
 
 #[tactic(auto, unfolding(crate::specs::OutcomeText::outcome_line))]
 fn push_ended(
-    alloc: Global,
     out: &mut Vec<u8>,
     call: CallId,
     slot: u8,
@@ -334,76 +305,67 @@ fn push_ended(
     ensures { OnOk result (out.new.items ≡ out.old.items ++ outcome_line (Ended call slot media why)) }
 {
     push(out, b"ended ")?;
-    push_number(alloc, out, call.0 as u64)?;
-    push_slot(alloc, out, slot, media)?;
+    push_number(out, call.0 as u64)?;
+    push_slot(out, slot, media)?;
     push(out, why_word(why))?;
     push(out, b"\n")
 }
 
+/// Adds the line of a packet that goes out.
 #[tactic(auto, unfolding(crate::specs::OutcomeText::outcome_line))]
-fn push_out(
-    alloc: Global,
-    out: &mut Vec<u8>,
-    port: u16,
-    to: &Address,
-    octets: &[u8],
-) -> Result<(), NoMemory>
+pub fn push_out(out: &mut Vec<u8>, port: u16, to: &Address, octets: &[u8]) -> Result<(), NoMemory>
     ensures { OnOk result (out.new.items ≡ out.old.items ++ outcome_line (Out port to.now octets.now)) }
 {
     push(out, b"out ")?;
-    push_number(alloc, out, port as u64)?;
+    push_number(out, port as u64)?;
     push(out, b" ")?;
-    push_address(alloc, out, to)?;
+    push_address(out, to)?;
     push(out, b" ")?;
-    push_hex(alloc, out, octets)?;
+    push_hex(out, octets)?;
     push(out, b"\n")
 }
 
 #[tactic(auto, unfolding(crate::specs::OutcomeText::outcome_line))]
-fn push_dropped(
-    alloc: Global,
-    out: &mut Vec<u8>,
-    port: u16,
-    cause: DropCause,
-) -> Result<(), NoMemory>
+fn push_dropped(out: &mut Vec<u8>, port: u16, cause: DropCause) -> Result<(), NoMemory>
     ensures { OnOk result (out.new.items ≡ out.old.items ++ outcome_line (Dropped port cause)) }
 {
     push(out, b"drop ")?;
-    push_number(alloc, out, port as u64)?;
+    push_number(out, port as u64)?;
     push(out, b" ")?;
     push(out, drop_cause_word(cause))?;
-    push_drop_numbers(alloc, out, cause)?;
+    push_drop_numbers(out, cause)?;
     push(out, b"\n")
 }
 
 #[tactic(auto, unfolding(crate::specs::OutcomeText::outcome_line))]
-fn push_unsent(alloc: Global, out: &mut Vec<u8>, port: u16, to: &Address) -> Result<(), NoMemory>
+fn push_unsent(out: &mut Vec<u8>, port: u16, to: &Address) -> Result<(), NoMemory>
     ensures { OnOk result (out.new.items ≡ out.old.items ++ outcome_line (Unsent port to.now)) }
 {
     push(out, b"unsent ")?;
-    push_number(alloc, out, port as u64)?;
+    push_number(out, port as u64)?;
     push(out, b" ")?;
-    push_address(alloc, out, to)?;
+    push_address(out, to)?;
     push(out, b"\n")
 }
 
-fn push_outcome(alloc: Global, out: &mut Vec<u8>, outcome: &Outcome) -> Result<(), NoMemory>
+/// Adds the line of an outcome, with its line end.
+pub fn push_outcome(out: &mut Vec<u8>, outcome: &Outcome) -> Result<(), NoMemory>
     ensures { OnOk result (out.new.items ≡ out.old.items ++ outcome_line outcome.now) }
 {
     match outcome {
-        Outcome::Made { call, slot, media } => push_made(alloc, out, *call, *slot, *media),
-        Outcome::Live { call } => push_live(alloc, out, *call),
-        Outcome::Sdp { call, side, text } => push_sdp(alloc, out, *call, *side, text.as_slice()),
-        Outcome::Refused { call, cause } => push_refused(alloc, out, *call, *cause),
+        Outcome::Made { call, slot, media } => push_made(out, *call, *slot, *media),
+        Outcome::Live { call } => push_live(out, *call),
+        Outcome::Sdp { call, side, text } => push_sdp(out, *call, *side, text.as_slice()),
+        Outcome::Refused { call, cause } => push_refused(out, *call, *cause),
         Outcome::Ended {
             call,
             slot,
             media,
             why,
-        } => push_ended(alloc, out, *call, *slot, *media, *why),
-        Outcome::Out { port, to, octets } => push_out(alloc, out, *port, to, octets.as_slice()),
-        Outcome::Dropped { port, cause } => push_dropped(alloc, out, *port, *cause),
-        Outcome::Unsent { port, to } => push_unsent(alloc, out, *port, to),
+        } => push_ended(out, *call, *slot, *media, *why),
+        Outcome::Out { port, to, octets } => push_out(out, *port, to, octets.as_slice()),
+        Outcome::Dropped { port, cause } => push_dropped(out, *port, *cause),
+        Outcome::Unsent { port, to } => push_unsent(out, *port, to),
     }
 }
 
@@ -412,6 +374,6 @@ pub fn print_outcome(alloc: Global, outcome: &Outcome) -> Result<Octets, NoMemor
     ensures { IfOk result (λ o. o ≡ outcome_line outcome.now) }
 {
     let mut out = Vec::new(alloc);
-    push_outcome(alloc, &mut out, outcome)?;
+    push_outcome(&mut out, outcome)?;
     Ok(Octets::from_vec(out))
 }
