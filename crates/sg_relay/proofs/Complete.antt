@@ -10,8 +10,11 @@ use Rattle.sg_edge.proofs.Links.{added_none}
 use Rattle.sg_edge.proofs.Passed.{took_none, wrote_none}
 use Rattle.sg_relay.specs.Asked.{AreGood, EndsBadly, IsGood, receipts_in}
 use Rattle.sg_relay.specs.Completeness.{IsComplete}
-use Rattle.sg_relay.specs.Relay.{Ends, IsRelay, Passed, Tellings}
+use Rattle.sg_gateway.specs.Step.{Event}
+use Rattle.sg_relay.specs.Held.{PortsAreOfCalls}
+use Rattle.sg_relay.specs.Relay.{Ends, HoldsItsCallsPorts, IsRelay, Passed, Tellings}
 use Rattle.sg_relay.proofs.Deeds.{cut_off_bad, done_none, part_of}
+use Rattle.sg_relay.proofs.Holds.{holds}
 use Rattle.sg_relay.proofs.Order.{order_none}
 use Rattle.sg_relay.proofs.Relays.{outcomes_at}
 
@@ -45,20 +48,21 @@ complete (Script n f) turns link link' old new p run a b c d e = λ all rest tol
     (no_fault old.left new.left p.octets all rest f (λ (o : List ℕ). (woven o p.readings (receipts_in p.calls) p.draws).stop ≡ AtFault n f) run.took told told' script
     (λ o is. in_relay n f o p.readings (receipts_in p.calls) p.draws is) run.ends.0.stops run.ends.1 run.ends.2)
 
--- a run, and its completeness, where a failure shows in these
-pub with_complete : (s : Status) (turns link link' : ℕ) (old new : Tellings) (p : Passed) (source sink clock noise : Type 0) → IsRelay s turns old new p
+-- a run, its ports, and its completeness, where a failure shows in these
+pub with_complete : ((es : List Event) → PortsAreOfCalls es) → (s : Status) (turns link link' : ℕ) (old new : Tellings) (p : Passed) (source sink clock noise : Type 0) → IsRelay s turns old new p
     → (s ≡ Read → source) → (s ≡ Write → sink) → (s ≡ Clock → clock) → (s ≡ Noise → noise) → (s ≡ Link → Rose link link')
-    → (p : Passed) × IsRelay s turns old new p × (¬ source → ¬ sink → ¬ clock → ¬ noise → IsComplete s turns old.left new.left link link' p)
-with_complete s turns link link' old new p source sink clock noise run read write clocks noises links = (
+    → (p : Passed) × IsRelay s turns old new p × HoldsItsCallsPorts p × (¬ source → ¬ sink → ¬ clock → ¬ noise → IsComplete s turns old.left new.left link link' p)
+with_complete law s turns link link' old new p source sink clock noise run read write clocks noises links = (
   p,
   run,
+  holds law s turns old new p run,
   λ no_source no_sink no_clock no_noise. complete s turns link link' old new p run (λ is. no_source (read is)) (λ is. no_sink (write is)) (λ is. no_clock (clocks is)) (λ is. no_noise (noises is)) links,
 )
 
 -- a run that ends before anything is done
-pub at_once : (old : Tellings) (turns link link' : ℕ) (source sink clock noise : Type 0)
-    → (p : Passed) × IsRelay NoMemory turns old old p × (¬ source → ¬ sink → ¬ clock → ¬ noise → IsComplete NoMemory turns old.left old.left link link' p)
-at_once old turns link link' source sink clock noise = with_complete NoMemory turns link link' old old (record { octets = []; out = []; calls = []; readings = []; draws = [] }) source sink clock noise
+pub at_once : ((es : List Event) → PortsAreOfCalls es) → (old : Tellings) (turns link link' : ℕ) (source sink clock noise : Type 0)
+    → (p : Passed) × IsRelay NoMemory turns old old p × HoldsItsCallsPorts p × (¬ source → ¬ sink → ¬ clock → ¬ noise → IsComplete NoMemory turns old.left old.left link link' p)
+at_once law old turns link link' source sink clock noise = with_complete law NoMemory turns link link' old old (record { octets = []; out = []; calls = []; readings = []; draws = [] }) source sink clock noise
     (record {
       took = took_none _;
       wrote = wrote_none _;

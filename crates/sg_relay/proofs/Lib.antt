@@ -1,6 +1,10 @@
+mod Accounts
 mod Blames
+mod CallPorts
 mod Complete
 mod Deeds
+mod Held
+pub mod Holds
 pub mod Order
 mod Relays
 mod Says

@@ -1,5 +1,6 @@
 pub mod Asked
 pub mod Causes
 pub mod Completeness
+pub mod Held
 pub mod Parts
 pub mod Relay

@@ -2,12 +2,15 @@
 use Rattle.std.specs.Prelude.{◌≡◌, ◌⊎◌, ◌≤◌, ◌+◌, ◌^◌, length, ℕ, List, [], ◌∷◌, ◌++◌, Option}
 use Rattle.sg_base.specs.declared.faults.ScriptFault.TheVariants.{Unended}
 use Rattle.sg_edge.specs.Links.{Added, LinkCall, Received}
+use Rattle.sg_edge.specs.Links as links
 use Rattle.sg_edge.specs.Told.{TookIn, Wrote, AtEnd}
-use Rattle.sg_gateway.specs.Runs.{outcomes}
+use Rattle.sg_gateway.specs.Runs.{outcomes, world_after}
+use Rattle.sg_gateway.specs.World.{World, empty}
 use Rattle.sg_outcome.specs.declared.outcomes.Outcome.{Outcome}
 use Rattle.sg_trace.specs.declared.status.Status.{Status}
 use Rattle.sg_trace.specs.declared.status.Status.TheVariants.{Done, Usage, Script, Read, Write, Link, NoMemory, Clock, Noise, TurnsSpent}
-use Rattle.sg_relay.specs.Asked.{AreGood, AreInOrder, AtFailedReceive, IsCutOff, IsDone, IsPart, receipts_in}
+use Rattle.sg_relay.specs.Asked.{AreGood, AreInOrder, AtFailedReceive, IsCutOff, IsDone, IsPart, asks_in, receipts_in}
+use Rattle.sg_relay.specs.Held.{AreOfCalls, EachFits}
 use Rattle.sg_trace.specs.Trace.{AtEnd as BehindAll, AtFault, Trace, ForDraw, ForReading, ForReceive, Outside, woven}
 
 -- what passed between a run and the outside, each in order: the octets read and those written, the calls of
@@ -91,3 +94,13 @@ pub record IsRelay (status : Status) (turns : ℕ) (old new : Tellings) (p : Pas
   pub most : length p.readings ≤ turns + 1
   pub paced : ArePaced p.readings (receipts_in p.calls)
   pub in_order : AreInOrder (outcomes_by p) p.calls
+
+-- the world of its events, had it received no more than this
+abbrev pub world_by : Passed → List Received → World
+world_by p receipts = world_after empty (woven p.octets p.readings receipts p.draws).events
+
+-- Whenever the relay asked for a receive, the ports that it had bound and not given up were those of the calls that were
+-- there by then. It bound no port that it held, and gave none up, and sent from none, that it didn't hold.
+pub record HoldsItsCallsPorts (p : Passed) : Type 0 where
+  pub at_receives : (before after : List LinkCall) (x : Received) → p.calls ≡ before ++ links.Receive x ∷ after → AreOfCalls (asks_in before) (world_by p (receipts_in before))
+  pub each : EachFits (asks_in p.calls)

@@ -4,8 +4,9 @@ ghost use Rattle.std.specs.Prelude.{◌≡◌, ◌≤◌, ◌+◌, ◌^◌, ℕ}
 ghost use Rattle.sg_trace.specs.Causes.{HasFailed};
 ghost use Rattle.sg_edge.specs.Told.{Rose};
 ghost use Rattle.sg_relay.specs.Completeness.{IsComplete};
-ghost use Rattle.sg_relay.specs.Relay.{IsRelay, Passed};
+ghost use Rattle.sg_relay.specs.Relay.{HoldsItsCallsPorts, IsRelay, Passed};
 
+use crate::laws::ports_are_of_calls;
 use crate::lines::{begin, say};
 use sg_base::{NoMemory, Pad};
 use sg_edge::{Clock, Link, Noise, Sink, Source};
@@ -30,6 +31,7 @@ pub fn relay<S: Source, K: Sink, L: Link, C: Clock, N: Noise>(
         (record { left = S.left source.old; written = K.written sink.old; calls = L.told link.old; readings = C.given clock.old; draws = N.given noise.old })
         (record { left = S.left source.new; written = K.written sink.new; calls = L.told link.new; readings = C.given clock.new; draws = N.given noise.new })
         p
+        × HoldsItsCallsPorts p
         × (¬ Rose (S.faults source.old) (S.faults source.new) → ¬ Rose (K.faults sink.old) (K.faults sink.new) → ¬ Rose (C.faults clock.old) (C.faults clock.new)
         → ¬ Rose (N.faults noise.old) (N.faults noise.new) → IsComplete result turns (S.left source.old) (S.left source.new) (L.faults link.old) (L.faults link.new) p) }
     ensures given { S.given source.new ≤ S.given source.old + (2 ^ 30 + 1) }
@@ -40,6 +42,7 @@ pub fn relay<S: Source, K: Sink, L: Link, C: Clock, N: Noise>(
     ensures clock { HasFailed (result ≡ Status.Clock) (C.faults clock.old) (C.faults clock.new) (C.failed clock.new) }
     ensures noise { HasFailed (result ≡ Status.Noise) (N.faults noise.old) (N.faults noise.new) (N.failed noise.new) }
 {
+    ports_are_of_calls();
     let mut table = match Table::make(alloc) {
         Err(NoMemory) => return Status::NoMemory,
         Ok(table) => table,

@@ -15,6 +15,7 @@ use Rattle.sg_edge.specs.Told.{Rose}
 use Rattle.sg_gateway.specs.Step.{Event}
 use Rattle.sg_playback.specs.Replay.{IsReplay}
 use Rattle.sg_playback.specs.Replay as replays
+use Rattle.sg_relay.proofs.Holds.{holds_none}
 use Rattle.sg_relay.proofs.Order.{order_none}
 use Rattle.sg_relay.specs.Relay.{IsRelay, Passed}
 use Rattle.sg_relay.specs.Relay as relays
@@ -73,6 +74,7 @@ not_relayed turns old = record {
     in_order = order_none (relays.outcomes_by (record { octets = []; out = []; calls = []; readings = []; draws = [] })) [] refl;
   };
   events_are = refl;
+  ports = holds_none (record { octets = []; out = []; calls = []; readings = []; draws = [] }) refl;
   complete = λ only all rest left left' whole more link. inr refl;
 }
 

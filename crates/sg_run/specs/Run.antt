@@ -12,7 +12,7 @@ use Rattle.sg_gateway.specs.Step.{Event}
 use Rattle.sg_playback.specs.Replay.{IsReplay}
 use Rattle.sg_playback.specs.Replay as replays
 use Rattle.sg_relay.specs.Completeness.{IsComplete}
-use Rattle.sg_relay.specs.Relay.{IsRelay, Passed, trace_of}
+use Rattle.sg_relay.specs.Relay.{HoldsItsCallsPorts, IsRelay, Passed, trace_of}
 use Rattle.sg_relay.specs.Relay as relays
 use Rattle.sg_words.specs.Commands.{AreWordsOf, Words}
 use Rattle.sg_words.specs.declared.command.Command.TheVariants.{Replay, Relay, Demo}
@@ -56,12 +56,13 @@ pub record OnlyLinkFailed (old new : Failures) : Type 0 where
   pub clock : ¬ Rose old.clock new.clock
   pub noise : ¬ Rose old.noise new.noise
 
--- This passed between a relay and the outside, and these are its events. Where nothing fails, a send aside, it
--- handles its script to the end, or memory runs out.
+-- This passed between a relay and the outside, and these are its events. It listened at the ports of the calls that were
+-- there, and at no others. Where nothing fails, a send aside, it handles its script to the end, or memory runs out.
 pub record HasRelayed (turns : ℕ) (status : Status) (old new : Outside) (events : List Event) : Type 0 where
   pub passed : Passed
   pub is : IsRelay status turns (of_relay old) (of_relay new) passed
   pub events_are : events ≡ (trace_of passed).events
+  pub ports : HoldsItsCallsPorts passed
   pub complete : OnlyLinkFailed old.failures new.failures
       → IsComplete status turns old.left new.left old.failures.link new.failures.link passed
 
