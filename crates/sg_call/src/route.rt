@@ -1,12 +1,12 @@
-//! The path of one session's packets through a call.
+//! The route of one session's packets through a call.
 
 ghost use Rattle.std.specs.Prelude.{◌≡◌, ◌≤◌, ℕ, length, nat_lt};
 ghost use Rattle.sg_gateway.specs.Passing.{taken_from, sent_by};
 ghost use Rattle.sg_session.specs.OneSession.{after};
 ghost use Rattle.sg_session.specs.Session.{Session};
-ghost use Rattle.sg_call.specs.Adding.{opens_path};
+ghost use Rattle.sg_call.specs.Adding.{opens_route};
 ghost use Rattle.sg_call.specs.Handling.{OnDrop, handled_by, handled_by_either, kept_or};
-ghost use Rattle.sg_call.specs.Standing.{OpensFor, PathStandsFor};
+ghost use Rattle.sg_call.specs.Standing.{OpensFor, RouteStandsFor};
 ghost use Rattle.sg_media.specs.Either.{if_refused};
 
 use crate::handled::{End, Handled};
@@ -21,10 +21,10 @@ pub enum MediaSide {
     Seals(SealSide),
 }
 
-/// The path of one session's packets: the port at which its datagrams come, the port on the other side, from
+/// The route of one session's packets: the port at which its datagrams come, the port on the other side, from
 /// which its packets are forwarded, the address to which they go, and the plain side's address.
 #[derive(Drop)]
-pub struct Path {
+pub struct Route {
     pub port: u16,
     pub out: u16,
     pub to: Address,
@@ -32,10 +32,10 @@ pub struct Path {
     pub side: MediaSide,
 }
 
-impl Path {
+impl Route {
     /// Whether it opens.
     pub(crate) fn opens(&self) -> bool
-        ensures { result ≡ opens_path self.now }
+        ensures { result ≡ opens_route self.now }
     {
         match self.side {
             MediaSide::Opens(_) => true,
@@ -46,10 +46,10 @@ impl Path {
     /// Opens a datagram of at most 4,238 octets, whoever sent it, or seals a packet of at most 4,096 octets from
     /// the plain side's IPv4 address; or hands it back with the first cause why not, and is as it was.
     pub(crate) fn pass(&mut self, from: Address, pad: Pad) -> Handled
-        ensures answer { (slot : ℕ) (s : Session) → PathStandsFor slot self.old s
+        ensures answer { (slot : ℕ) (s : Session) → RouteStandsFor slot self.old s
             → result ≡ handled_by self.old.out self.old.to (kept_or pad (sent_by s (taken_from from pad s))) }
         ensures refused { OnDrop result.end ((result.pad ≡ pad) × (self.new ≡ self.old)) }
-        ensures after { (slot : ℕ) (s : Session) → PathStandsFor slot self.old s → PathStandsFor slot self.new (after s (taken_from from pad s)) }
+        ensures after { (slot : ℕ) (s : Session) → RouteStandsFor slot self.old s → RouteStandsFor slot self.new (after s (taken_from from pad s)) }
     {
         let plain = self.plain;
         let port = self.out;
@@ -108,20 +108,20 @@ fn is_too_long(pad: &Pad) -> bool
     pad.octets().len() > PROTECTED_MOST
 }
 
-/// Opens a datagram of at most 4,238 octets by the current generation's path, or where that refuses it by the earlier
+/// Opens a datagram of at most 4,238 octets by the current generation's route, or where that refuses it by the earlier
 /// one's at the same port; or hands it back with the first cause of the current one, and both are as they were.
 pub(crate) fn pass_either(
-    current: &mut Path,
-    earlier: &mut Path,
+    current: &mut Route,
+    earlier: &mut Route,
     from: Address,
     pad: Pad,
 ) -> Handled
     ensures answer { (slot : ℕ) (s e : Session) → OpensFor slot current.old s → OpensFor slot earlier.old e
         → result ≡ handled_by_either current.old.out current.old.to earlier.old.out earlier.old.to pad (sent_by s (taken_from from pad s)) (sent_by e (taken_from from pad e)) }
     ensures refused { OnDrop result.end ((result.pad ≡ pad) × (current.new ≡ current.old) × (earlier.new ≡ earlier.old)) }
-    ensures current { (slot : ℕ) (s : Session) → OpensFor slot current.old s → PathStandsFor slot current.new (after s (taken_from from pad s)) }
+    ensures current { (slot : ℕ) (s : Session) → OpensFor slot current.old s → RouteStandsFor slot current.new (after s (taken_from from pad s)) }
     ensures earlier { (slot : ℕ) (s e : Session) → OpensFor slot current.old s → OpensFor slot earlier.old e
-        → PathStandsFor slot earlier.new (after e (if_refused (taken_from from pad s) (taken_from from pad e))) }
+        → RouteStandsFor slot earlier.new (after e (if_refused (taken_from from pad s) (taken_from from pad e))) }
 {
     let forward = End::Out {
         port: current.out,

@@ -4,13 +4,13 @@ use Rattle.sg_media.specs.declared.either.Which.TheVariants.{Current, Earlier}
 use Rattle.sg_session.specs.OneSession.{after}
 use Rattle.sg_session.specs.Opening.{opens}
 use Rattle.sg_call.proofs.Passing.{on_drop}
-use Rattle.sg_call.proofs.Paths.{not_too_long, opening_after}
+use Rattle.sg_call.proofs.OneRoute.{not_too_long, opening_after}
 use Rattle.sg_call.proofs.Taking.{either_answers, no_seal, opening_side, second_takes, told_as}
-use Rattle.sg_call.specs.Standing.{PathStandsFor}
-use Rattle.sg_call.specs.declared.path.MediaSide.{MediaSide}
-use Rattle.sg_call.proofs.path.pass_either.Goals as goal
+use Rattle.sg_call.specs.Standing.{RouteStandsFor}
+use Rattle.sg_call.specs.declared.route.MediaSide.{MediaSide}
+use Rattle.sg_call.proofs.route.pass_either.Goals as goal
 
--- no session that opens has a path that seals
+-- no session that opens has a route that seals
 pub returns-in-Seals-clause-answer : goal.returns-in-Seals-clause-answer
 returns-in-Seals-clause-answer c = λ slot s e current earlier. absurd (no_seal slot c.args.current.now s c.in-Seals.field-0 current c.in-Seals.is)
 
@@ -25,7 +25,7 @@ returns-in-Seals-clause-earlier c = λ slot s e current earlier. absurd (no_seal
 
 pub returns-in-Seals-side-clause-current : goal.returns-in-Seals-side-clause-current
 returns-in-Seals-side-clause-current c = λ slot s current.
-    c.pass-in-Seals-side.ensures.after slot s (subst (λ (m : MediaSide). PathStandsFor slot (record c.args.current.now { side = m }) s) c.in-Opens.is current.0)
+    c.pass-in-Seals-side.ensures.after slot s (subst (λ (m : MediaSide). RouteStandsFor slot (record c.args.current.now { side = m }) s) c.in-Opens.is current.0)
 
 -- both open
 pub returns-in-Ok-Current-default-clause-answer : goal.returns-in-Ok-Current-default-clause-answer

@@ -5,9 +5,9 @@ use Rattle.sg_media.specs.Sides.{StandsFor}
 use Rattle.sg_session.specs.OneSession.{after}
 use Rattle.sg_session.specs.Opening.{opens}
 use Rattle.sg_session.specs.Sealing.{seals}
-use Rattle.sg_call.proofs.Paths.{opening_answer, opening_after, sealing_answer, sealing_after, refused_so, seal_refused, not_too_long, from_there, opening_stays, sealing_stays}
+use Rattle.sg_call.proofs.OneRoute.{opening_answer, opening_after, sealing_answer, sealing_after, refused_so, seal_refused, not_too_long, from_there, opening_stays, sealing_stays}
 use Rattle.sg_call.specs.Handling.{handled_by}
-use Rattle.sg_call.proofs.path.Path.pass.Goals as goal
+use Rattle.sg_call.proofs.route.Route.pass.Goals as goal
 
 pub returns-in-Ok-clause-after : goal.returns-in-Ok-clause-after
 returns-in-Ok-clause-after c slot s h =
