@@ -96,7 +96,10 @@ pub(crate) fn open(
         &books.seen,
     ) {
         Ok(opening) => opening,
-        Err(fault) => return Err(fault),
+        Err(fault) => {
+            drop(description);
+            return Err(fault);
+        }
     };
     let session = opening.session.as_slice();
     let Ok(out) = offered_text(alloc, slot, side, &description, session, &opening.media) else {
@@ -146,7 +149,11 @@ impl Offered {
         ensures others { (books.new.psks ≡ books.old.psks) × (books.new.seen ≡ books.old.seen) }
     {
         match self.new_generation(alloc, text, noise, books) {
-            Ok((text, specs)) => Ok((Live::new(self.slot, self.media(), false), text, specs)),
+            Ok((text, specs)) => {
+                let live = Live::new(self.slot, self.media(), false);
+                drop(self);
+                Ok((live, text, specs))
+            }
             Err(fault) => Err((self, fault)),
         }
     }
@@ -292,6 +299,7 @@ impl Offered {
 
     /// The call ends.
     pub fn bye(self) -> Ended {
+        drop(self);
         Ended
     }
 }

@@ -26,7 +26,7 @@ use crate::attributes::own_ssrc;
 use crate::keyed::KeyedMedium;
 use crate::keying::Bundle;
 use crate::media::SideKeys;
-use crate::messages::{active_count, cs_fault, message_in, mikey_attribute, psk_fault};
+use crate::messages::{active_count, cs_fault, message_in, mikey_lines, psk_fault};
 use arrayvec::ArrayVec;
 use sg_agreement::is_active;
 use sg_base::{Fault, MasterKey, Mki, NoMemory, Octets, RTP_LIFE, Side, WINDOW_LEAST};
@@ -240,9 +240,7 @@ fn response_line(
         → IfOk result (λ lines. lines ≡ mikey_attribute (response_octets a ssrcs.now) ∷ []) }
 {
     let octets = respond(alloc, initial, psks, ssrcs)?;
-    let mut lines = Lines::new(alloc);
-    lines.push(mikey_attribute(alloc, octets.as_slice())?)?;
-    Ok(lines)
+    mikey_lines(alloc, octets.as_slice())
 }
 
 /// The answer to an offer with a message in its session part, to which the response is added.
