@@ -9,16 +9,16 @@ use Rattle.sg_leg.specs.Pairs.{EachPair}
 use Rattle.sg_leg.specs.Replying.{HaveFewKeys}
 use Rattle.sg_leg.specs.Values.{OfferedValue}
 use Rattle.sg_leg.proofs.Kept.{all_few, bundle_few, bundles_are, bundles_long, lines_long, own_lines_long, sent_few}
-use Rattle.sg_leg.proofs.offered.Offered.answered.Goals as goal
+use Rattle.sg_leg.proofs.offered.Offered.keyed_media.Goals as goal
 
-pub by_peer_lines-media-requires-clause-lines : goal.by_peer_lines-media-requires-clause-lines
-by_peer_lines-media-requires-clause-lines c =
+pub answered_by_peer_lines-media-requires-clause-lines : goal.answered_by_peer_lines-media-requires-clause-lines
+answered_by_peer_lines-media-requires-clause-lines c =
     ap length c.as_slice.ensures
     ∙ lines_long c.args.psks.now c.args.self.now c.requires.open.0 c.requires.open.1 c.in-PeerLines.lines (ap (λ (o : OfferedValue). o.keying) (sym c.self.view_is) ∙ c.in-PeerLines.is)
     ∙ sym c.requires.answers ∙ ap length (sym c.as_slice-media.ensures)
 
-pub by_own_lines-media-requires-clause-lines : goal.by_own_lines-media-requires-clause-lines
-by_own_lines-media-requires-clause-lines c =
+pub answered_by_own_lines-media-requires-clause-lines : goal.answered_by_own_lines-media-requires-clause-lines
+answered_by_own_lines-media-requires-clause-lines c =
     ap length c.as_slice-in-OwnLines.ensures
     ∙ own_lines_long c.args.psks.now c.args.self.now c.requires.open.0 c.requires.open.1 c.in-OwnLines.lines (ap (λ (o : OfferedValue). o.keying) (sym c.self.view_is) ∙ c.in-OwnLines.is)
     ∙ sym c.requires.answers ∙ ap length (sym c.as_slice-media.ensures)

@@ -2,7 +2,7 @@ use Rattle.std.proofs.Common.{◌≡◌, drop}
 use Rattle.sg_agreement.specs.EachMedium.{each_kept}
 use Rattle.sg_agreement.specs.LineAnswers.{keyed_by_peer_line}
 use Rattle.sg_agreement.specs.Walks.{prefixed}
-use Rattle.sg_leg.proofs.answering.by_peer_lines.Given as goal
+use Rattle.sg_leg.proofs.answering.answered_by_peer_lines.Given as goal
 
 abbrev pub invariant-loop-m : goal.invariant-loop-m
 invariant-loop-m l =

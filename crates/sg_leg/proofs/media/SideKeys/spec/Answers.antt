@@ -3,7 +3,7 @@ use Rattle.sg_agreement.specs.Media as agreed
 use Rattle.sg_agreement.specs.Streams.{line_key}
 use Rattle.sg_leg.specs.FreshKeys.{fresh_keys}
 use Rattle.sg_leg.proofs.Made.{can, made, octets_of}
-use Rattle.sg_leg.proofs.media.Stream.spec.Goals as goal
+use Rattle.sg_leg.proofs.media.SideKeys.spec.Goals as goal
 
 pub returns-clause-can : goal.returns-clause-can
 returns-clause-can c =

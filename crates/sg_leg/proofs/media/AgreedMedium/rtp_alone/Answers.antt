@@ -6,7 +6,7 @@ use Rattle.sg_session.specs.declared.names.Direction.TheVariants.{Opening, Seali
 use Rattle.sg_leg.specs.Pairs.{EachPair}
 use Rattle.sg_leg.specs.Planned.{IsPlanned}
 use Rattle.sg_leg.proofs.Planning.{MadeFor, one, without}
-use Rattle.sg_leg.proofs.media.Medium.rtp_alone.Goals as goal
+use Rattle.sg_leg.proofs.media.AgreedMedium.rtp_alone.Goals as goal
 
 pub returns : goal.returns
 returns c = λ call generation.

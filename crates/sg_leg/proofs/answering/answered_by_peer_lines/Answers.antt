@@ -3,7 +3,7 @@ use Rattle.std.proofs.Math.ListN.{drop_of_length-le}
 use Rattle.sg_agreement.proofs.Walks.{split_at}
 use Rattle.sg_agreement.specs.LineAnswers.{keyed_by_peer_line}
 use Rattle.sg_leg.proofs.Replied.{kept_step, kept_stop, kept_end, split_read}
-use Rattle.sg_leg.proofs.answering.by_peer_lines.Goals as goal
+use Rattle.sg_leg.proofs.answering.answered_by_peer_lines.Goals as goal
 
 pub returns-in-Err : goal.returns-in-Err
 returns-in-Err c =

@@ -2,7 +2,7 @@ use Rattle.std.proofs.Common.{sym, subst}
 use Rattle.sg_agreement.specs.Answers.{Answered}
 use Rattle.sg_leg.specs.Open.{AreAddressed}
 use Rattle.sg_leg.specs.Values.{OfferedValue}
-use Rattle.sg_leg.proofs.offered.Offered.agreed_by.Goals as goal
+use Rattle.sg_leg.proofs.offered.Offered.text_and_media.Goals as goal
 
 pub media_agreed-requires-clause-addressed : goal.media_agreed-requires-clause-addressed
 media_agreed-requires-clause-addressed c =
