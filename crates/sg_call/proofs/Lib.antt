@@ -1,11 +1,11 @@
-pub mod AddedPaths
+mod AddedRoutes
 pub mod MorePairs
-pub mod Offering
+mod Offering
+mod OneRoute
 pub mod Paired
 pub mod Passing
-pub mod Paths
-pub mod Places
-pub mod Renewing
-pub mod Signalled
+mod Places
+mod Renewing
+mod Signalled
 pub mod Standing
-pub mod Taking
+mod Taking

@@ -30,11 +30,11 @@ use Rattle.sg_gateway.specs.Ports.{sessions_at, port_out, port_in}
 use Rattle.sg_gateway.specs.Generations.{is_current}
 use Rattle.sg_gateway.specs.World.{Call}
 use Rattle.sg_call.specs.Handling.{OnDrop, kept_or, handled_of, handled_by, handled_by_either, unused, IsPassed}
-use Rattle.sg_call.specs.Standing.{OpensFor, PathStandsFor, SessionsStand}
+use Rattle.sg_call.specs.Standing.{OpensFor, RouteStandsFor, SessionsStand}
 use Rattle.sg_call.specs.declared.handled.End.{End}
 use Rattle.sg_call.specs.declared.handled.End.TheVariants.{Out, Dropped}
 use Rattle.sg_call.specs.declared.handled.Handled.{Handled}
-use Rattle.sg_call.specs.declared.path.Path.{Path}
+use Rattle.sg_call.specs.declared.route.Route.{Route}
 
 -- what follows where a datagram is dropped
 pub on_drop : {P Q : Type 0} (e : End) → (P → Q) → OnDrop e P → OnDrop e Q
@@ -68,11 +68,11 @@ module _ (now : ℕ) (c : Call) where
   current_by_name : (s t : Session) → s.name ≡ t.name → is_current c s ≡ is_current c t
   current_by_name s t e = ap (λ (n : Name). eqb (n.owner.generation + 1) c.generations) e
 
-  module _ (current earlier : List Path) (stand : SessionsStand current earlier c) where
+  module _ (current earlier : List Route) (stand : SessionsStand current earlier c) where
     -- a session of the current generation takes
-    pub stand_now : (port i : ℕ) (t : Session) → position (At c.slot port) stand.now ≡ Some i → (path : Path) (r : Result Taken DropCause)
-        → PathStandsFor c.slot path (after (get_or stand.now i t) r) → SessionsStand (set current i path) earlier (with_taken now c (get_or stand.now i t) r)
-    stand_now port i t at path (Ok x) new =
+    pub stand_now : (port i : ℕ) (t : Session) → position (At c.slot port) stand.now ≡ Some i → (route : Route) (r : Result Taken DropCause)
+        → RouteStandsFor c.slot route (after (get_or stand.now i t) r) → SessionsStand (set current i route) earlier (with_taken now c (get_or stand.now i t) r)
+    stand_now port i t at route (Ok x) new =
         let one : Session = get_or stand.now i t in
         let here : FoundAt c.slot port stand.now i one = found c.slot port stand.now i t stand.now_stand.own at in
         let is_now : is_current c one ≡ true = All-from_recursion _ stand.now stand.now_current i t here.within in
@@ -84,21 +84,21 @@ module _ (now : ℕ) (c : Call) where
               (each_weaker _ _ (λ b not e. false≢true (sym not ∙ current_by_name b one e ∙ is_now)) stand.before stand.before_not));
           now_stand = record {
             own = ports_set c.slot stand.now i (after one (Ok x)) t stand.now_stand.own refl;
-            each = stands_set (PathStandsFor c.slot) current stand.now i path (after one (Ok x)) stand.now_stand.each new;
+            each = stands_set (RouteStandsFor c.slot) current stand.now i route (after one (Ok x)) stand.now_stand.each new;
           };
           before_stand = stand.before_stand;
           now_current = each_set _ stand.now i (after one (Ok x)) stand.now_current is_now;
           before_not = stand.before_not;
           before_open = stand.before_open;
         }
-    stand_now port i t at path (Err cause) new = record {
+    stand_now port i t at route (Err cause) new = record {
       now = stand.now;
       before = stand.before;
       are = stand.are;
       now_stand = record {
         own = stand.now_stand.own;
-        each = subst (λ ss. Rattle.sg_leg.specs.Pairs.EachPair (PathStandsFor c.slot) (set current i path) ss) (set-get_or stand.now i t)
-            (stands_set (PathStandsFor c.slot) current stand.now i path (get_or stand.now i t) stand.now_stand.each new);
+        each = subst (λ ss. Rattle.sg_leg.specs.Pairs.EachPair (RouteStandsFor c.slot) (set current i route) ss) (set-get_or stand.now i t)
+            (stands_set (RouteStandsFor c.slot) current stand.now i route (get_or stand.now i t) stand.now_stand.each new);
       };
       before_stand = stand.before_stand;
       now_current = stand.now_current;
@@ -107,9 +107,9 @@ module _ (now : ℕ) (c : Call) where
     }
 
     -- a session of the earlier generation takes
-    pub stand_before : (port i : ℕ) (t : Session) → position (At c.slot port) stand.before ≡ Some i → (path : Path) (r : Result Taken DropCause)
-        → PathStandsFor c.slot path (after (get_or stand.before i t) r) → SessionsStand current (set earlier i path) (with_taken now c (get_or stand.before i t) r)
-    stand_before port i t at path (Ok x) new =
+    pub stand_before : (port i : ℕ) (t : Session) → position (At c.slot port) stand.before ≡ Some i → (route : Route) (r : Result Taken DropCause)
+        → RouteStandsFor c.slot route (after (get_or stand.before i t) r) → SessionsStand current (set earlier i route) (with_taken now c (get_or stand.before i t) r)
+    stand_before port i t at route (Ok x) new =
         let one : Session = get_or stand.before i t in
         let here : FoundAt c.slot port stand.before i one = found c.slot port stand.before i t stand.before_stand.own at in
         let not_now : is_current c one ≡ false = All-from_recursion _ stand.before stand.before_not i t here.within in
@@ -122,21 +122,21 @@ module _ (now : ℕ) (c : Call) where
           now_stand = stand.now_stand;
           before_stand = record {
             own = ports_set c.slot stand.before i (after one (Ok x)) t stand.before_stand.own refl;
-            each = stands_set (PathStandsFor c.slot) earlier stand.before i path (after one (Ok x)) stand.before_stand.each new;
+            each = stands_set (RouteStandsFor c.slot) earlier stand.before i route (after one (Ok x)) stand.before_stand.each new;
           };
           now_current = stand.now_current;
           before_not = each_set _ stand.before i (after one (Ok x)) stand.before_not not_now;
           before_open = each_set _ stand.before i (after one (Ok x)) stand.before_open (All-from_recursion _ stand.before stand.before_open i t here.within);
         }
-    stand_before port i t at path (Err cause) new = record {
+    stand_before port i t at route (Err cause) new = record {
       now = stand.now;
       before = stand.before;
       are = stand.are;
       now_stand = stand.now_stand;
       before_stand = record {
         own = stand.before_stand.own;
-        each = subst (λ ss. Rattle.sg_leg.specs.Pairs.EachPair (PathStandsFor c.slot) (set earlier i path) ss) (set-get_or stand.before i t)
-            (stands_set (PathStandsFor c.slot) earlier stand.before i path (get_or stand.before i t) stand.before_stand.each new);
+        each = subst (λ ss. Rattle.sg_leg.specs.Pairs.EachPair (RouteStandsFor c.slot) (set earlier i route) ss) (set-get_or stand.before i t)
+            (stands_set (RouteStandsFor c.slot) earlier stand.before i route (get_or stand.before i t) stand.before_stand.each new);
       };
       now_current = stand.now_current;
       before_not = stand.before_not;
@@ -213,15 +213,15 @@ module _ (now port : ℕ) (from : Address) (d : List ℕ) (c : Call) where
   after_two s e (Err cause) (Ok t) = refl
   after_two s e (Err cause) (Err other) = refl
 
-  module _ (current earlier : List Path) (stand : SessionsStand current earlier c) where
-    abbrev at_path : Path → Bool
-    at_path l = eqb l.port port
+  module _ (current earlier : List Route) (stand : SessionsStand current earlier c) where
+    abbrev at_route : Route → Bool
+    at_route l = eqb l.port port
 
-    place_now : position at_path current ≡ position (At c.slot port) stand.now
-    place_now = position_same (PathStandsFor c.slot) at_path (At c.slot port) (λ l s h. ap (λ n. eqb n port) h.port) current stand.now stand.now_stand.each
+    place_now : position at_route current ≡ position (At c.slot port) stand.now
+    place_now = position_same (RouteStandsFor c.slot) at_route (At c.slot port) (λ l s h. ap (λ n. eqb n port) h.port) current stand.now stand.now_stand.each
 
-    place_before : position at_path earlier ≡ position (At c.slot port) stand.before
-    place_before = position_same (PathStandsFor c.slot) at_path (At c.slot port) (λ l s h. ap (λ n. eqb n port) h.port) earlier stand.before stand.before_stand.each
+    place_before : position at_route earlier ≡ position (At c.slot port) stand.before
+    place_before = position_same (RouteStandsFor c.slot) at_route (At c.slot port) (λ l s h. ap (λ n. eqb n port) h.port) earlier stand.before stand.before_stand.each
 
     sessions_are : sessions_at c port ≡ filter (At c.slot port) stand.now ++ filter (At c.slot port) stand.before
     sessions_are = ap (filter (At c.slot port)) stand.are ∙ filter_append (At c.slot port) stand.now stand.before
@@ -234,21 +234,21 @@ module _ (now port : ℕ) (from : Address) (d : List ℕ) (c : Call) where
     with_some P i f [] e = absurd (none_some i e)
     with_some P i f (s ∷ ss) e = f s
 
-    pub no_path : position at_path current ≡ None → position at_path earlier ≡ None → (idle : Bool) → eqb c.generations 0 ≡ idle
+    pub no_route : position at_route current ≡ None → position at_route earlier ≡ None → (idle : Bool) → eqb c.generations 0 ≡ idle
         → IsPassed now port from d c (record { pad = d; end = Dropped (unused idle) }) current earlier
-    no_path none_now none_before idle is =
+    no_route none_now none_before idle is =
         let empty : sessions_at c port ≡ [] = sessions_are ∙ ap₂ (λ a b. a ++ b) (none_found c.slot port stand.now (sym place_now ∙ none_now)) (none_found c.slot port stand.before (sym place_before ∙ none_before)) in
         let given : arrived_in now port from d c ≡ Drops (unused idle) = ap (arrived_among now from d c) empty ∙ ap (λ b. Drops (unused b)) is in
         record { after = c; is = sym (ap (handled_of d) given); after_is = sym (ap (λ g. batch.after g c) given); stand = stand }
 
-    module _ (i : ℕ) (at : position at_path current ≡ Some i) (none : position at_path earlier ≡ None) (other new : Path) (h : Handled)
-        (answers : (slot : ℕ) (s : Session) → PathStandsFor slot (get_or current i other) s → h ≡ handled_by (get_or current i other).out (get_or current i other).to (kept_or d (sent_by s (taken_from from d s))))
-        (left : (slot : ℕ) (s : Session) → PathStandsFor slot (get_or current i other) s → PathStandsFor slot new (after s (taken_from from d s))) where
+    module _ (i : ℕ) (at : position at_route current ≡ Some i) (none : position at_route earlier ≡ None) (other new : Route) (h : Handled)
+        (answers : (slot : ℕ) (s : Session) → RouteStandsFor slot (get_or current i other) s → h ≡ handled_by (get_or current i other).out (get_or current i other).to (kept_or d (sent_by s (taken_from from d s))))
+        (left : (slot : ℕ) (s : Session) → RouteStandsFor slot (get_or current i other) s → RouteStandsFor slot new (after s (taken_from from d s))) where
       now_one : (t : Session) → position (At c.slot port) stand.now ≡ Some i → IsPassed now port from d c h (set current i new) earlier
       now_one t at_session =
           let one : Session = get_or stand.now i t in
           let here : FoundAt c.slot port stand.now i one = found c.slot port stand.now i t stand.now_stand.own at_session in
-          let stands : PathStandsFor c.slot (get_or current i other) one = stands_at (PathStandsFor c.slot) current stand.now i other t stand.now_stand.each here.within in
+          let stands : RouteStandsFor c.slot (get_or current i other) one = stands_at (RouteStandsFor c.slot) current stand.now i other t stand.now_stand.each here.within in
           let only : sessions_at c port ≡ one ∷ [] = sessions_are ∙ ap₂ (λ a b. a ++ b) here.only (none_found c.slot port stand.before (sym place_before ∙ none)) in
           let given = one_arrives one only in
           record {
@@ -261,14 +261,14 @@ module _ (now port : ℕ) (from : Address) (d : List ℕ) (c : Call) where
       pub by_current : IsPassed now port from d c h (set current i new) earlier
       by_current = let at_session : position (At c.slot port) stand.now ≡ Some i = sym place_now ∙ at in with_some _ i (λ t. now_one t at_session) stand.now at_session
 
-    module _ (i : ℕ) (none : position at_path current ≡ None) (at : position at_path earlier ≡ Some i) (other new : Path) (h : Handled)
-        (answers : (slot : ℕ) (s : Session) → PathStandsFor slot (get_or earlier i other) s → h ≡ handled_by (get_or earlier i other).out (get_or earlier i other).to (kept_or d (sent_by s (taken_from from d s))))
-        (left : (slot : ℕ) (s : Session) → PathStandsFor slot (get_or earlier i other) s → PathStandsFor slot new (after s (taken_from from d s))) where
+    module _ (i : ℕ) (none : position at_route current ≡ None) (at : position at_route earlier ≡ Some i) (other new : Route) (h : Handled)
+        (answers : (slot : ℕ) (s : Session) → RouteStandsFor slot (get_or earlier i other) s → h ≡ handled_by (get_or earlier i other).out (get_or earlier i other).to (kept_or d (sent_by s (taken_from from d s))))
+        (left : (slot : ℕ) (s : Session) → RouteStandsFor slot (get_or earlier i other) s → RouteStandsFor slot new (after s (taken_from from d s))) where
       before_one : (t : Session) → position (At c.slot port) stand.before ≡ Some i → IsPassed now port from d c h current (set earlier i new)
       before_one t at_session =
           let one : Session = get_or stand.before i t in
           let here : FoundAt c.slot port stand.before i one = found c.slot port stand.before i t stand.before_stand.own at_session in
-          let stands : PathStandsFor c.slot (get_or earlier i other) one = stands_at (PathStandsFor c.slot) earlier stand.before i other t stand.before_stand.each here.within in
+          let stands : RouteStandsFor c.slot (get_or earlier i other) one = stands_at (RouteStandsFor c.slot) earlier stand.before i other t stand.before_stand.each here.within in
           let only : sessions_at c port ≡ one ∷ [] = sessions_are ∙ ap₂ (λ a b. a ++ b) (none_found c.slot port stand.now (sym place_now ∙ none)) here.only in
           let given = one_arrives one only in
           record {
@@ -281,12 +281,12 @@ module _ (now port : ℕ) (from : Address) (d : List ℕ) (c : Call) where
       pub by_earlier : IsPassed now port from d c h current (set earlier i new)
       by_earlier = let at_session : position (At c.slot port) stand.before ≡ Some i = sym place_before ∙ at in with_some _ i (λ t. before_one t at_session) stand.before at_session
 
-    module _ (i j : ℕ) (at : position at_path current ≡ Some i) (at_too : position at_path earlier ≡ Some j) (other new other_too new_too : Path) (h : Handled)
+    module _ (i j : ℕ) (at : position at_route current ≡ Some i) (at_too : position at_route earlier ≡ Some j) (other new other_too new_too : Route) (h : Handled)
         (answers : (slot : ℕ) (s e : Session) → OpensFor slot (get_or current i other) s → OpensFor slot (get_or earlier j other_too) e
         → h ≡ handled_by_either (get_or current i other).out (get_or current i other).to (get_or earlier j other_too).out (get_or earlier j other_too).to d (sent_by s (taken_from from d s)) (sent_by e (taken_from from d e)))
-        (left : (slot : ℕ) (s : Session) → OpensFor slot (get_or current i other) s → PathStandsFor slot new (after s (taken_from from d s)))
+        (left : (slot : ℕ) (s : Session) → OpensFor slot (get_or current i other) s → RouteStandsFor slot new (after s (taken_from from d s)))
         (left_too : (slot : ℕ) (s e : Session) → OpensFor slot (get_or current i other) s → OpensFor slot (get_or earlier j other_too) e
-        → PathStandsFor slot new_too (after e (if_refused (taken_from from d s) (taken_from from d e)))) where
+        → RouteStandsFor slot new_too (after e (if_refused (taken_from from d s) (taken_from from d e)))) where
       two_one : (t u : Session) → position (At c.slot port) stand.now ≡ Some i → position (At c.slot port) stand.before ≡ Some j → IsPassed now port from d c h (set current i new) (set earlier j new_too)
       unfolding stand_now
       two_one t u at_now at_before =
@@ -294,8 +294,8 @@ module _ (now port : ℕ) (from : Address) (d : List ℕ) (c : Call) where
           let e : Session = get_or stand.before j u in
           let here : FoundAt c.slot port stand.now i s = found c.slot port stand.now i t stand.now_stand.own at_now in
           let there : FoundAt c.slot port stand.before j e = found c.slot port stand.before j u stand.before_stand.own at_before in
-          let s_stands : PathStandsFor c.slot (get_or current i other) s = stands_at (PathStandsFor c.slot) current stand.now i other t stand.now_stand.each here.within in
-          let e_stands : PathStandsFor c.slot (get_or earlier j other_too) e = stands_at (PathStandsFor c.slot) earlier stand.before j other_too u stand.before_stand.each there.within in
+          let s_stands : RouteStandsFor c.slot (get_or current i other) s = stands_at (RouteStandsFor c.slot) current stand.now i other t stand.now_stand.each here.within in
+          let e_stands : RouteStandsFor c.slot (get_or earlier j other_too) e = stands_at (RouteStandsFor c.slot) earlier stand.before j other_too u stand.before_stand.each there.within in
           let are : sessions_at c port ≡ s ∷ (e ∷ []) = sessions_are ∙ ap₂ (λ a b. a ++ b) here.only there.only in
           let of_e : e.name.owner.direction ≡ Opening = All-from_recursion _ stand.before stand.before_open j u there.within in
           let of_s : s.name.owner.direction ≡ Opening = same_direction_at c s e (at_port stand.now s here.only ∙ sym (at_port stand.before e there.only)) ∙ of_e in
@@ -314,7 +314,7 @@ module _ (now port : ℕ) (from : Address) (d : List ℕ) (c : Call) where
           at_port ss s only = eqb-true _ _ (subst (AllByRecursion (λ x. At c.slot port x ≡ true)) only (each_weaker _ _ (λ x p. p.0) (filter (At c.slot port) ss) (Rattle.sg_gateway.proofs.Arrivals.kept_by (At c.slot port) ss))).0
 
           two_stand : (t u : Session) → position (At c.slot port) stand.now ≡ Some i → position (At c.slot port) stand.before ≡ Some j → (r q : Result Taken DropCause)
-              → PathStandsFor c.slot new (after (get_or stand.now i t) r) → PathStandsFor c.slot new_too (after (get_or stand.before j u) (if_refused r q))
+              → RouteStandsFor c.slot new (after (get_or stand.now i t) r) → RouteStandsFor c.slot new_too (after (get_or stand.before j u) (if_refused r q))
               → SessionsStand (set current i new) (set earlier j new_too) (with_taken now (with_taken now c (get_or stand.now i t) r) (get_or stand.before j u) (if_refused r q))
           two_stand t u at_now at_before (Ok x) q a b =
               stand_before now (call_after now c (get_or stand.now i t) x) (set current i new) earlier (stand_now now c current earlier stand port i t at_now new (Ok x) a) port j u at_before new_too (Err PortUnused) b

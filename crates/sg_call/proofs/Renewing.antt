@@ -39,14 +39,14 @@ use Rattle.sg_session.specs.declared.names.Direction.{Direction}
 use Rattle.sg_session.specs.declared.names.Direction.TheVariants.{Opening, Sealing}
 use Rattle.sg_call.proofs.Offering.{idle_begun}
 use Rattle.sg_call.proofs.Passing.{filter_append}
-use Rattle.sg_call.specs.Adding.{Adds, opens_path, opens_side, renewed_value}
+use Rattle.sg_call.specs.Adding.{Adds, opens_route, opens_side, renewed_value}
 use Rattle.sg_call.specs.Settling.{BooksStandFor, IsKeyed, IsSettled, Settles}
-use Rattle.sg_call.specs.Standing.{SideStandsFor, PathStandsFor, SessionsStand, CallStandsFor}
+use Rattle.sg_call.specs.Standing.{SideStandsFor, RouteStandsFor, SessionsStand, CallStandsFor}
 use Rattle.sg_call.specs.States.{IsIdle, IsOffered}
 use Rattle.sg_call.specs.Values.{CallValue}
-use Rattle.sg_call.specs.declared.path.MediaSide.{MediaSide}
-use Rattle.sg_call.specs.declared.path.MediaSide.TheVariants.{Opens, Seals}
-use Rattle.sg_call.specs.declared.path.Path.{Path}
+use Rattle.sg_call.specs.declared.route.MediaSide.{MediaSide}
+use Rattle.sg_call.specs.declared.route.MediaSide.TheVariants.{Opens, Seals}
+use Rattle.sg_call.specs.declared.route.Route.{Route}
 
 -- Within a generation a session's owner is told by medium and direction.
 abbrev pub IsOwn : ℕ → ℕ → Session → Type 0
@@ -104,10 +104,10 @@ name_same : (slot call generation : ℕ) (s t : Session) → IsOwn call generati
 name_same slot call generation s t p q e =
     let a : leg_of s.name.owner.direction s.name.kind ≤ 3 = leg_most s.name.owner.direction s.name.kind in
     let b : leg_of t.name.owner.direction t.name.kind ≤ 3 = leg_most t.name.owner.direction t.name.kind in
-    let path : leg_of s.name.owner.direction s.name.kind ≡ leg_of t.name.owner.direction t.name.kind = omega (arith, a, b, e) in
+    let route : leg_of s.name.owner.direction s.name.kind ≡ leg_of t.name.owner.direction t.name.kind = omega (arith, a, b, e) in
     let medium : s.name.owner.medium ≡ t.name.owner.medium = omega (arith, a, b, e) in
-    let dir : s.name.owner.direction ≡ t.name.owner.direction = direction_same s.name.owner.direction t.name.owner.direction s.name.kind t.name.kind path in
-    let kind : s.name.kind ≡ t.name.kind = kind_same s.name.owner.direction t.name.owner.direction s.name.kind t.name.kind path in
+    let dir : s.name.owner.direction ≡ t.name.owner.direction = direction_same s.name.owner.direction t.name.owner.direction s.name.kind t.name.kind route in
+    let kind : s.name.kind ≡ t.name.kind = kind_same s.name.owner.direction t.name.owner.direction s.name.kind t.name.kind route in
     let owner : s.name.owner ≡ t.name.owner = p ∙ (λ i. owner_at call generation (medium i) (dir i)) ∙ sym q in
     (λ i. record { owner = owner i; kind = kind i })
 
@@ -119,7 +119,7 @@ own_ports : (slot call generation : ℕ) (ss : List Session) → AllByRecursion 
 own_ports slot call generation [] q d = tt
 own_ports slot call generation (s ∷ ss) q d = (ports_apart slot call generation s ss q.0 q.1 d.0, own_ports slot call generation ss q.1 d.1)
 
--- The opening paths of the generation before.
+-- The opening routes of the generation before.
 each_place : (P : ℕ → Type 0) (g : Session → ℕ) (test : Session → Bool) (ss : List Session) → AllByRecursion P (map g ss) → AllByRecursion P (map g (filter test ss))
 each_place P g test [] p = tt
 each_place P g test (s ∷ ss) p = go (test s) (each_place P g test ss p.1)
@@ -140,16 +140,16 @@ opens_same : (side : MediaSide) (s : Session) → SideStandsFor side s → opens
 opens_same (Opens o) s h = ap (λ d. same_direction d Opening) (sym h.0)
 opens_same (Seals o) s h = ap (λ d. same_direction d Opening) (sym h.0)
 
-fewer_paths : (slot : ℕ) (paths : List Path) (ss : List Session) → EachPair (PathStandsFor slot) paths ss → EachPair (PathStandsFor slot) (filter opens_path paths) (filter is_opening ss)
-fewer_paths slot [] [] h = tt
-fewer_paths slot [] (s ∷ ss) h = absurd h
-fewer_paths slot (path ∷ paths) [] h = absurd h
-fewer_paths slot (path ∷ paths) (s ∷ ss) h =
-    subst (λ b. EachPair (PathStandsFor slot) (cond (opens_path path) (path ∷ filter opens_path paths) (filter opens_path paths)) (cond b (s ∷ filter is_opening ss) (filter is_opening ss))) (opens_same path.side s h.0.side)
-    (go (opens_path path) (fewer_paths slot paths ss h.1))
+fewer_routes : (slot : ℕ) (routes : List Route) (ss : List Session) → EachPair (RouteStandsFor slot) routes ss → EachPair (RouteStandsFor slot) (filter opens_route routes) (filter is_opening ss)
+fewer_routes slot [] [] h = tt
+fewer_routes slot [] (s ∷ ss) h = absurd h
+fewer_routes slot (route ∷ routes) [] h = absurd h
+fewer_routes slot (route ∷ routes) (s ∷ ss) h =
+    subst (λ b. EachPair (RouteStandsFor slot) (cond (opens_route route) (route ∷ filter opens_route routes) (filter opens_route routes)) (cond b (s ∷ filter is_opening ss) (filter is_opening ss))) (opens_same route.side s h.0.side)
+    (go (opens_route route) (fewer_routes slot routes ss h.1))
   where
-    go : (b : Bool) → EachPair (PathStandsFor slot) (filter opens_path paths) (filter is_opening ss)
-        → EachPair (PathStandsFor slot) (cond b (path ∷ filter opens_path paths) (filter opens_path paths)) (cond b (s ∷ filter is_opening ss) (filter is_opening ss))
+    go : (b : Bool) → EachPair (RouteStandsFor slot) (filter opens_route routes) (filter is_opening ss)
+        → EachPair (RouteStandsFor slot) (cond b (route ∷ filter opens_route routes) (filter opens_route routes)) (cond b (s ∷ filter is_opening ss) (filter is_opening ss))
     go true rest = (h.0, rest)
     go false rest = rest
 
@@ -243,10 +243,10 @@ are_new c ring media g e =
       differ = generation_differ c.serial c.generations 0 (length ring) media;
     })
 
-call_renewed : (pairs : List Pair) (call : CallValue) (c : Call) (now : ℕ) (l : LiveValue) (news : List Session) (specs : List MediaSpec) (paths : List Path) → IsBefore call c → AreNew c news
-    → l ≡ record { slot = c.slot; media = c.media; manual = c.manual } → ArePlanned specs news → Adds call.slot (planned specs) [] paths
-    → CallStandsFor pairs (renewed_value call now l paths) (renewed now c news)
-call_renewed pairs call c now l news specs paths h new live each adds =
+call_renewed : (pairs : List Pair) (call : CallValue) (c : Call) (now : ℕ) (l : LiveValue) (news : List Session) (specs : List MediaSpec) (routes : List Route) → IsBefore call c → AreNew c news
+    → l ≡ record { slot = c.slot; media = c.media; manual = c.manual } → ArePlanned specs news → Adds call.slot (planned specs) [] routes
+    → CallStandsFor pairs (renewed_value call now l routes) (renewed now c news)
+call_renewed pairs call c now l news specs routes h new live each adds =
     let some : eqb (c.generations + 1) 0 ≡ false = not_equal (c.generations + 1) 0 (λ e. (let x = e in absurd (omega (arith, x)))) in
     record {
       id_is = h.id_is;
@@ -261,11 +261,11 @@ call_renewed pairs call c now l news specs paths h new live each adds =
             ∙ (λ i. now_kept c h.sessions.now h.sessions.now_current i ++ before_gone c h.sessions.before h.sessions.before_not i) ∙ append-nil (filter is_opening h.sessions.now));
         now_stand = record {
           own = own_ports c.slot c.serial c.generations news new.own new.differ;
-          each = subst (λ n. EachPair (PathStandsFor n) paths news) (sym h.slot_is) (adds [] news tt each);
+          each = subst (λ n. EachPair (RouteStandsFor n) routes news) (sym h.slot_is) (adds [] news tt each);
         };
         before_stand = record {
           own = fewer_ports c.slot is_opening h.sessions.now h.sessions.now_stand.own;
-          each = fewer_paths c.slot call.current h.sessions.now h.sessions.now_stand.each;
+          each = fewer_routes c.slot call.current h.sessions.now h.sessions.now_stand.each;
         };
         now_current = each_weaker _ _ (λ s p. ap (λ n. eqb (n + 1) (c.generations + 1)) p.0 ∙ self_equal (c.generations + 1)) news new.named;
         before_not = each_filter (λ (s : Session). eqb (s.name.owner.generation + 1) (c.generations + 1) ≡ false) is_opening h.sessions.now
@@ -327,16 +327,16 @@ module _ (now : ℕ) (b : world.Books) (c : Call) (noise text : List ℕ) (o : O
       })
 
   module _ (old new : Books) (books : BooksStandFor old b) (same : (new.psks ≡ old.psks) × (new.seen ≡ old.seen)) (call : CallValue) (h : CallStandsFor b.pairs call c) (v : OfferedValue) (open_is : IsOffered b.pairs v c)
-      (out : List ℕ) (specs : List MediaSpec) (paths : List Path) where
-    pub answered_so : IsGiven out specs new.ring (answered_with c.slot o noise text c.serial c.generations b.ring) → Adds call.slot (planned specs) [] paths
-        → Settles CallStandsFor (renewed_value call now (live_after v) paths) out new (answered_in now b c noise text)
+      (out : List ℕ) (specs : List MediaSpec) (routes : List Route) where
+    pub answered_so : IsGiven out specs new.ring (answered_with c.slot o noise text c.serial c.generations b.ring) → Adds call.slot (planned specs) [] routes
+        → Settles CallStandsFor (renewed_value call now (live_after v) routes) out new (answered_in now b c noise text)
     answered_so (x, is, text_is, g) adds =
         let w = was_answered x is in
         record {
           settled = with_generation x.0 x.1;
           is_settled = w.gives;
           text_is = text_is;
-          stands = call_renewed b.pairs call c now (live_after v) x.1.sessions specs paths
+          stands = call_renewed b.pairs call c now (live_after v) x.1.sessions specs routes
               (record { id_is = h.id_is; slot_is = h.slot_is; media_are = h.media_are; few = h.few; sessions = h.sessions })
               (are_new c b.ring w.media x.1 w.begun)
               (λ i. record { slot = open_is.slot_is i; media = open_is.media_are i; manual = sym open_is.not_manual i })
@@ -366,16 +366,16 @@ module _ (now : ℕ) (b : world.Books) (c : Call) (x : Medium) where
     manual_refused call new (Refused cause) ring e = keyed_as (idle_begun slot c idle) (Err cause) e
     manual_refused call new NoMemory ring e = tt
 
-    pub keyed_so : (old new : Books) → BooksStandFor old b → (new.psks ≡ old.psks) × (new.seen ≡ old.seen) → (call : CallValue) → CallStandsFor b.pairs call c → (spec : MediaSpec) (paths : List Path)
-        → Begins (Ok (spec ∷ [])) new.ring manual_generation → Adds call.slot (planned_in spec) [] paths
-        → Settles CallStandsFor (renewed_value (record call { media = 1 }) now (manual_live slot) paths) [] new (keyed_manually now b c x)
-    keyed_so old new books same call h spec paths (g, is, begun) adds = record {
+    pub keyed_so : (old new : Books) → BooksStandFor old b → (new.psks ≡ old.psks) × (new.seen ≡ old.seen) → (call : CallValue) → CallStandsFor b.pairs call c → (spec : MediaSpec) (routes : List Route)
+        → Begins (Ok (spec ∷ [])) new.ring manual_generation → Adds call.slot (planned_in spec) [] routes
+        → Settles CallStandsFor (renewed_value (record call { media = 1 }) now (manual_live slot) routes) [] new (keyed_manually now b c x)
+    keyed_so old new books same call h spec routes (g, is, begun) adds = record {
       settled = record { text = []; call = renewed now one_medium g.sessions; books = record b { ring = g.ring } };
       is_settled = keyed_as (idle_begun slot c idle) (Ok g) is;
       text_is = refl;
-      stands = call_renewed b.pairs (record call { media = 1 }) one_medium now (manual_live slot) g.sessions (spec ∷ []) paths (before_manual b.pairs call c h)
+      stands = call_renewed b.pairs (record call { media = 1 }) one_medium now (manual_live slot) g.sessions (spec ∷ []) routes (before_manual b.pairs call c h)
           (let n = are_new c b.ring (Some x ∷ []) g is in record { own = n.own; named = n.named; differ = n.differ })
           (λ i. record { slot = idle.slot_is i; media = 1; manual = true }) begun.planned
-          (subst (λ ps. Adds call.slot ps [] paths) (sym (append-nil (planned_in spec))) adds);
+          (subst (λ ps. Adds call.slot ps [] routes) (sym (append-nil (planned_in spec))) adds);
       books_stand = record { pairs = same.0 ∙ books.pairs; noted = same.1 ∙ books.noted; ring = begun.installed };
     }

@@ -19,10 +19,10 @@ use Rattle.sg_session.specs.Stages.{after_ok, stop_if}
 use Rattle.sg_call.proofs.Passing.{filter_append}
 use Rattle.sg_call.proofs.Standing.{state_moved}
 use Rattle.sg_call.specs.Settling.{IsRejected, Settles}
-use Rattle.sg_call.specs.Standing.{CallStandsFor, PathsStandFor, SessionsStand}
+use Rattle.sg_call.specs.Standing.{CallStandsFor, RoutesStandFor, SessionsStand}
 use Rattle.sg_call.specs.States.{IsIdle, IsLive, IsOffered, StateStandsFor, former_live}
 use Rattle.sg_call.specs.Values.{CallValue}
-use Rattle.sg_call.specs.declared.path.Path.{Path}
+use Rattle.sg_call.specs.declared.route.Route.{Route}
 use Rattle.sg_call.specs.declared.state.State.TheVariants.{Offered, Live}
 
 -- an offer changes media, offer and moment alone
@@ -45,14 +45,14 @@ offered_keeps now b c way noise text s e = go (not (takes_offer c)) (agreed_offe
     go false (Ok a) e = same a (let is : with_agreed a ≡ s = cc in is)
     go false (Err cause) e = absurd cc
 
--- what doesn't touch generations and sessions leaves the paths' part
-sessions_as : (current earlier : List Path) (c d : Call) → d.slot ≡ c.slot → d.generations ≡ c.generations → d.sessions ≡ c.sessions → SessionsStand current earlier c → SessionsStand current earlier d
+-- what doesn't touch generations and sessions leaves the routes' part
+sessions_as : (current earlier : List Route) (c d : Call) → d.slot ≡ c.slot → d.generations ≡ c.generations → d.sessions ≡ c.sessions → SessionsStand current earlier c → SessionsStand current earlier d
 sessions_as current earlier c d slot generations sessions h = record {
   now = h.now;
   before = h.before;
   are = sessions ∙ h.are;
-  now_stand = subst (λ n. PathsStandFor n current h.now) (sym slot) h.now_stand;
-  before_stand = subst (λ n. PathsStandFor n earlier h.before) (sym slot) h.before_stand;
+  now_stand = subst (λ n. RoutesStandFor n current h.now) (sym slot) h.now_stand;
+  before_stand = subst (λ n. RoutesStandFor n earlier h.before) (sym slot) h.before_stand;
   now_current = subst (λ n. AllByRecursion (λ (s : Session). eqb (s.name.owner.generation + 1) n ≡ true) h.now) (sym generations) h.now_current;
   before_not = subst (λ n. AllByRecursion (λ (s : Session). eqb (s.name.owner.generation + 1) n ≡ false) h.before) (sym generations) h.before_not;
   before_open = h.before_open;

@@ -1,5 +1,5 @@
 -- A call after a datagram.
-use Rattle.std.proofs.Common.{◌≡◌, ℕ, Option, Some, None, List, [], ◌∷◌, ◌++◌, ◌≤◌, append_assoc, refl, sym, ap, ◌∙◌, subst, eqb}
+use Rattle.std.proofs.Common.{◌≡◌, ℕ, Option, Some, None, List, [], ◌∷◌, ◌++◌, ◌≤◌, append_assoc, drop, refl, sym, ap, ◌∙◌, subst, eqb}
 use Rattle.std.proofs.lemmas.List.{append-nil}
 use Rattle.sg_base.specs.declared.addresses.Address.{Address}
 use Rattle.sg_gateway.proofs.Arrivals.{Arrival, IsDrop, IsOpening, IsSeal, arrival}
@@ -9,12 +9,12 @@ use Rattle.sg_gateway.specs.World.{Call}
 use Rattle.sg_call.specs.Drained.{IsDrained, IsNextHandled}
 use Rattle.sg_call.specs.Handling.{OnDrop, handled_of, moment_after, gives, call_after, all_handled, IsPassed}
 use Rattle.sg_call.specs.Standing.{SessionsStand, CallStandsFor}
-use Rattle.sg_call.specs.Values.{CallValue, WaitingValue}
+use Rattle.sg_call.specs.Values.{CallValue, InboxValue, QueuedValue, RoutesValue}
 use Rattle.sg_call.specs.declared.handled.End.{End}
 use Rattle.sg_call.specs.declared.handled.End.TheVariants.{Out, Dropped}
 use Rattle.sg_call.specs.declared.handled.Handled.{Handled}
 use Rattle.sg_call.specs.States.{StateStandsFor, IsFormer}
-use Rattle.sg_call.specs.declared.path.Path.{Path}
+use Rattle.sg_call.specs.declared.route.Route.{Route}
 use Rattle.sg_call.specs.declared.state.State.{State}
 use Rattle.sg_call.specs.declared.state.State.TheVariants.{Idle, Offered, Live}
 use Rattle.sg_psk.specs.declared.pairs.Pair.{Pair}
@@ -35,14 +35,11 @@ kept now port d c g (IsDrop cause is) = subst (IsKeptBy d now c) (sym is) (recor
 kept now port d c g (IsOpening o) = subst (IsKeptBy d now c) (sym o.gives) (record { id_is = refl; slot_is = refl; media_are = refl; generations_are = refl; replaced_is = refl; moment_is = refl })
 kept now port d c g (IsSeal o) = subst (IsKeptBy d now c) (sym o.gives) (record { id_is = refl; slot_is = refl; media_are = refl; generations_are = refl; replaced_is = refl; moment_is = refl })
 
--- a call whose paths stay where the datagram is dropped stays there
-pub drop_stays : (P : Type 0) (v w : CallValue) (e : End) (now n : ℕ) (current current' now_paths earlier earlier' before_paths : List Path)
-    → v ≡ w → current' ≡ current → now_paths ≡ v.current → earlier' ≡ earlier → before_paths ≡ v.earlier → n ≡ moment_after e now v.moment
-    → OnDrop e (P × (current ≡ now_paths) × (earlier ≡ before_paths)) → OnDrop e (P × (record v { current = current'; earlier = earlier'; moment = n } ≡ w))
-drop_stays P v w (Out port to) now n current current' now_paths earlier earlier' before_paths same a b c d at p = tt
-drop_stays P v w (Dropped cause) now n current current' now_paths earlier earlier' before_paths same a b c d at p =
-    let stays : record v { current = current'; earlier = earlier'; moment = n } ≡ v = λ i. record v { current = (a ∙ p.1 ∙ b) i; earlier = (c ∙ p.2 ∙ d) i; moment = at i } in
-    (p.0, stays ∙ same)
+-- a call whose routes stay where the datagram is dropped stays there
+pub drop_stays : (P : Type 0) (v w : CallValue) (e : End) (now n : ℕ) (routes : RoutesValue) → v ≡ w → n ≡ moment_after e now v.moment
+    → OnDrop e (P × (routes ≡ record { current = v.current; earlier = v.earlier })) → OnDrop e (P × (record v { current = routes.current; earlier = routes.earlier; moment = n } ≡ w))
+drop_stays P v w (Out port to) now n routes same at p = tt
+drop_stays P v w (Dropped cause) now n routes same at p = (p.0, (λ i. record v { current = (p.1 i).current; earlier = (p.1 i).earlier; moment = at i }) ∙ same)
 
 -- sessions and moment are nothing to the state
 pub state_moved : (pairs : List Pair) (st : State) (c : Call) (ss : List Session) (n : ℕ) → StateStandsFor pairs st c → StateStandsFor pairs st (record c { sessions = ss; moment = n })
@@ -59,7 +56,7 @@ state_after pairs now port d st c g (IsDrop cause is) h = subst (λ g. StateStan
 state_after pairs now port d st c g (IsOpening o) h = subst (λ g. StateStandsFor pairs st (batch.after g c)) (sym o.gives) (state_moved pairs st c _ now h)
 state_after pairs now port d st c g (IsSeal o) h = subst (λ g. StateStandsFor pairs st (batch.after g c)) (sym o.gives) (state_moved pairs st c _ now h)
 
-pub call_passed : (pairs : List Pair) (now port : ℕ) (from : Address) (d : List ℕ) (call : CallValue) (c : Call) (h : Handled) (current earlier : List Path) → CallStandsFor pairs call c → IsPassed now port from d c h current earlier
+pub call_passed : (pairs : List Pair) (now port : ℕ) (from : Address) (d : List ℕ) (call : CallValue) (c : Call) (h : Handled) (current earlier : List Route) → CallStandsFor pairs call c → IsPassed now port from d c h current earlier
     → CallStandsFor pairs (record call { current = current; earlier = earlier; moment = moment_after h.end now call.moment }) (batch.after (arrived_in now port from d c) c)
 call_passed pairs now port from d call c h current earlier s p =
     let k = kept now port d c (arrived_in now port from d c) (arrival now port from d c) in
@@ -89,7 +86,7 @@ Drains start call =
 pub drains_none : (call : CallValue) → Drains call call
 drains_none call pairs c s = (c, s, refl, refl)
 
-pub drains_next : (start call next : CallValue) (a : WaitingValue) (later : List WaitingValue) → call.waiting ≡ a ∷ later → next.waiting ≡ later
+pub drains_next : (start call next : CallValue) (a : QueuedValue) (later : List QueuedValue) → call.waiting ≡ a ∷ later → next.waiting ≡ later
     → ((pairs : List Pair) (c : Call) → CallStandsFor pairs call c → IsNextHandled a pairs c call next) → Drains start call → Drains start next
 drains_next start call next a later first rest one drains pairs c s =
     let (d, stands, handled, after) = drains pairs c s in
@@ -111,6 +108,14 @@ drained_all start call none same drains = record {
   stands = λ pairs c s. (let (d, stands, handled, after) = drains pairs c s in subst (CallStandsFor pairs call) (sym (ap (call_after d) none) ∙ after) stands);
 }
 
+-- where none waits, taking the next out of the inbox changes nothing
+pub drained_none : (start call : CallValue) (inbox : InboxValue) → call.waiting ≡ [] → inbox ≡ record { waiting = drop 1 call.waiting; handled = call.handled }
+    → (call.slot ≡ start.slot) × (call.media ≡ start.media) × (call.id ≡ start.id) → Drains start call → IsDrained start (record call { waiting = inbox.waiting; handled = inbox.handled })
+drained_none start call inbox none is same drains =
+    let stays : ◌≡◌ {A = CallValue} (record call { waiting = inbox.waiting; handled = inbox.handled }) call =
+    ap (λ (x : InboxValue). record call { waiting = x.waiting; handled = x.handled }) is ∙ (λ i. record call { waiting = (ap (drop 1) none ∙ sym none) i }) in
+    subst (IsDrained start) (sym stays) (drained_all start call none same drains)
+
 -- the same value under another name
-pub next_as : (a : WaitingValue) (pairs : List Pair) (c : Call) (old view new : CallValue) → view.handled ≡ old.handled → IsNextHandled a pairs c view new → IsNextHandled a pairs c old new
+pub next_as : (a : QueuedValue) (pairs : List Pair) (c : Call) (old view new : CallValue) → view.handled ≡ old.handled → IsNextHandled a pairs c view new → IsNextHandled a pairs c old new
 next_as a pairs c old view new same n = record { handles = n.handles ∙ ap (λ hs. hs ++ (a.number, handled_of a.octets (gives c a)) ∷ []) same; stands = n.stands }

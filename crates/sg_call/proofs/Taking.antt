@@ -1,4 +1,4 @@
--- What two paths that open hand back of one datagram, of which the second is tried where the first refuses.
+-- What two routes that open hand back of one datagram, of which the second is tried where the first refuses.
 use Rattle.std.proofs.Common.{◌≡◌, ℕ, Bool, true, false, cond, List, length, ltb, Result, Ok, Err, refl, sym, ap, ◌∙◌, subst}
 use Rattle.sg_base.specs.declared.addresses.Address.{Address}
 use Rattle.sg_base.specs.declared.addresses.Kind.{Kind}
@@ -16,13 +16,13 @@ use Rattle.sg_media.specs.Sides.{SideValue, StandsFor}
 use Rattle.sg_media.specs.declared.either.Which.{Which}
 use Rattle.sg_media.specs.declared.either.Which.TheVariants.{Current, Earlier}
 use Rattle.sg_media.specs.declared.inbound.Opened.{Opened}
-use Rattle.sg_call.proofs.Paths.{opens_after, path_after}
+use Rattle.sg_call.proofs.OneRoute.{opens_after, route_after}
 use Rattle.sg_call.specs.Handling.{handled_by_either}
-use Rattle.sg_call.specs.Standing.{OpensFor, PathStandsFor, SideStandsFor}
+use Rattle.sg_call.specs.Standing.{OpensFor, RouteStandsFor, SideStandsFor}
 use Rattle.sg_call.specs.declared.handled.End.TheVariants.{Out, Dropped}
 use Rattle.sg_call.specs.declared.handled.Handled.{Handled}
-use Rattle.sg_call.specs.declared.path.Path.{Path}
-use Rattle.sg_call.specs.declared.path.MediaSide.TheVariants.{Opens, Seals}
+use Rattle.sg_call.specs.declared.route.Route.{Route}
+use Rattle.sg_call.specs.declared.route.MediaSide.TheVariants.{Opens, Seals}
 
 -- what two sides open, handed back
 abbrev pub given_by : ℕ → Address → ℕ → Address → Result (Which × Opened) (List ℕ × DropCause) → Handled
@@ -34,17 +34,17 @@ given_by out to out' to' (Err (pad, cause)) = record { pad = pad; end = Dropped 
 pub told_as : (which of_it : Which) (o : Opened) (r x : Result (Which × Opened) (List ℕ × DropCause)) → r ≡ Ok (of_it, o) → of_it ≡ which → r ≡ x → (let y : Result (Which × Opened) (List ℕ × DropCause) = Ok (which, o) in y ≡ x)
 told_as which of_it o r x is same e = ap (λ (w : Which). Ok (w, o)) (sym same) ∙ sym is ∙ e
 
--- a path that seals isn't one of a session that opens
-pub no_seal : (slot : ℕ) (path : Path) (s : Session) (side : SideValue) → OpensFor slot path s → path.side ≡ Seals side → ⊥
-no_seal slot path s side opening is = two s.name.owner.direction opening.1 (subst (λ m. SideStandsFor m s) is opening.0.side).0
+-- a route that seals isn't one of a session that opens
+pub no_seal : (slot : ℕ) (route : Route) (s : Session) (side : SideValue) → OpensFor slot route s → route.side ≡ Seals side → ⊥
+no_seal slot route s side opening is = two s.name.owner.direction opening.1 (subst (λ m. SideStandsFor m s) is opening.0.side).0
   where
     two : (dir : Direction) → dir ≡ Opening → dir ≡ Sealing → ⊥
     two Opening a b = cc
     two Sealing a b = cc
 
--- the side of a path that opens stands for its session
-pub opening_side : (slot : ℕ) (path : Path) (s : Session) (side : SideValue) → OpensFor slot path s → path.side ≡ Opens side → StandsFor side s
-opening_side slot path s side opening is = (subst (λ m. SideStandsFor m s) is opening.0.side).1
+-- the side of a route that opens stands for its session
+pub opening_side : (slot : ℕ) (route : Route) (s : Session) (side : SideValue) → OpensFor slot route s → route.side ≡ Opens side → StandsFor side s
+opening_side slot route s side opening is = (subst (λ m. SideStandsFor m s) is opening.0.side).1
 
 module _ (kind other : Kind) (d : List ℕ) (out : ℕ) (to : Address) (out' : ℕ) (to' : Address) where
   fits_both : (b : Bool) (r q : Result Taken DropCause) → b ≡ false
@@ -89,15 +89,15 @@ module _ (from : Address) (d : List ℕ) (s e : Session) (of_s : s.name.owner.di
   either_too_long out to out' to' long =
       neither_fits s.name.kind e.name.kind d out to out' to' (ltb 4238 (length d)) (opens s d) (opens e d) long ∙ sent out to out' to'
 
-  module _ (slot : ℕ) (path : Path) (stands : PathStandsFor slot path e) where
-    pub second_stays : ltb 4238 (length d) ≡ true → PathStandsFor slot path (after e (if_refused (taken_from from d s) (taken_from from d e)))
-    second_stays long = taken (λ r q. PathStandsFor slot path (after e (if_refused r q)))
-        (none_fit (λ r q. PathStandsFor slot path (after e (if_refused r q))) (ltb 4238 (length d)) (opens s d) (opens e d) long stands)
+  module _ (slot : ℕ) (route : Route) (stands : RouteStandsFor slot route e) where
+    pub second_stays : ltb 4238 (length d) ≡ true → RouteStandsFor slot route (after e (if_refused (taken_from from d s) (taken_from from d e)))
+    second_stays long = taken (λ r q. RouteStandsFor slot route (after e (if_refused r q)))
+        (none_fit (λ r q. RouteStandsFor slot route (after e (if_refused r q))) (ltb 4238 (length d)) (opens s d) (opens e d) long stands)
 
-    pub second_takes : ltb 4238 (length d) ≡ false → (side new : SideValue) → path.side ≡ Opens side → (StandsFor side e → StandsFor new (after e (if_refused (opens s d) (opens e d))))
-        → PathStandsFor slot (record path { side = Opens new }) (after e (if_refused (taken_from from d s) (taken_from from d e)))
+    pub second_takes : ltb 4238 (length d) ≡ false → (side new : SideValue) → route.side ≡ Opens side → (StandsFor side e → StandsFor new (after e (if_refused (opens s d) (opens e d))))
+        → RouteStandsFor slot (record route { side = Opens new }) (after e (if_refused (taken_from from d s) (taken_from from d e)))
     second_takes fits side new is left =
-        path_after slot path (Opens new) e (if_refused (taken_from from d s) (taken_from from d e)) stands
+        route_after slot route (Opens new) e (if_refused (taken_from from d s) (taken_from from d e)) stands
         (opens_after new e (if_refused (taken_from from d s) (taken_from from d e)) of_e
         (taken (λ r q. StandsFor new (after e (if_refused r q)))
         (both_fit (λ r q. StandsFor new (after e (if_refused r q))) (ltb 4238 (length d)) (opens s d) (opens e d) fits (left (subst (λ m. SideStandsFor m e) is stands.side).1))))

@@ -1,4 +1,4 @@
-//! A call: its state, the paths of its generations, and its inbox.
+//! A call: its state, the routes of its generations, and its inbox.
 
 ghost use Rattle.std.specs.Prelude.{◌≡◌, ◌≤◌, ◌<◌, ◌+◌, ◌++◌, [], ◌∷◌, ℕ, List, length, filter, IfOk, OnErr, MatchOption, drop, nat_le, Err, false, true, option_map, is_some};
 ghost use Rattle.sg_base.specs.declared.faults.Fault.TheVariants as faults;
@@ -7,33 +7,32 @@ ghost use Rattle.sg_gateway.specs.Batch as batch;
 ghost use Rattle.sg_gateway.specs.Datagrams.{arrived_in};
 ghost use Rattle.sg_gateway.specs.World as world;
 ghost use Rattle.sg_psk.specs.declared.pairs.Pair as psk;
-ghost use Rattle.sg_call.specs.Adding.{opens_path, renewed_value};
+ghost use Rattle.sg_call.specs.Adding.{renewed_value};
 ghost use Rattle.sg_call.specs.Handling.{moment_after};
 
 use crate::handled::{End, Handled};
-use crate::inbox::Waiting;
+use crate::inbox::{Inbox, Queued};
 use crate::making::{add_all, add_medium};
-use crate::pass::pass;
-use crate::path::Path;
+use crate::route::Route;
+use crate::routes::Routes;
 use crate::state::State;
 use sg_base::{
-    Address, BATCH_MOST, CallId, EARLIER_MILLIS, Fault, MEDIA_MOST, MasterKey, NoMemory, Octets,
-    Pad, Refusal, Side,
+    Address, CallId, EARLIER_MILLIS, Fault, MEDIA_MOST, MasterKey, NoMemory, Octets, Pad, Refusal,
+    Side,
 };
 use sg_lanes::Lane;
 use sg_leg::{Books, Ended, Idle, Live, Way};
 use std::alloc::Global;
-use std::collections::VecDeque;
 use std::marker::Model;
 use std::mem;
 
-/// The most paths of a medium: RTP and RTCP, opened and sealed.
-const MEDIUM_PATHS: usize = 4;
+/// The most routes of a medium: RTP and RTCP, opened and sealed.
+const MEDIUM_ROUTES: usize = 4;
 
-/// The most paths of a generation.
-const PATHS: usize = MEDIA_MOST * MEDIUM_PATHS;
+/// The most routes of a generation.
+const ROUTES: usize = MEDIA_MOST * MEDIUM_ROUTES;
 
-/// A call of up to four media, with the paths of its current generation and those of the one before that still
+/// A call of up to four media, with the routes of its current generation and those of the one before that still
 /// open, and an inbox.
 #[derive(Drop)]
 pub struct Call {
@@ -42,17 +41,14 @@ pub struct Call {
     media: u8,
     is_new: bool,
     state: State,
-    current: Vec<Path>,
-    earlier: Vec<Path>,
+    routes: Routes,
     replaced: u64,
     moment: u64,
-    waiting: VecDeque<Waiting>,
-    handled: VecDeque<(u32, Handled)>,
+    inbox: Inbox,
 }
 
 impl Model for Call {
-    ghost use Rattle.std.specs.Prelude.{◌≤◌, ◌+◌};
-    ghost use Rattle.std.specs.VecDeque.{deque_capacity, deque_items, deque_len};
+    ghost use Rattle.std.specs.Prelude.{◌≤◌};
     ghost use Rattle.sg_call.specs.Values.{CallValue};
 
     ghost Value = { CallValue };
@@ -63,15 +59,15 @@ impl Model for Call {
       media = c.media;
       is_new = c.is_new;
       state = c.state;
-      current = c.current.items;
-      earlier = c.earlier.items;
+      current = c.routes.current;
+      earlier = c.routes.earlier;
       replaced = c.replaced;
       moment = c.moment;
-      waiting = deque_items c.waiting;
-      handled = deque_items c.handled;
+      waiting = c.inbox.waiting;
+      handled = c.inbox.handled;
     } };
 
-    ghost invariant = { λ c. (c.media ≤ 4) × (256 ≤ deque_capacity c.waiting) × (256 ≤ deque_capacity c.handled) × (deque_len c.waiting + deque_len c.handled ≤ 256) };
+    ghost invariant = { λ c. c.media ≤ 4 };
 }
 
 impl Call {
@@ -84,20 +80,17 @@ impl Call {
         ensures stands { IfOk result (λ call. (pairs : List psk.Pair) (serial : ℕ) → CallStandsFor pairs call (idle_call serial id slot)) }
         ensures inbox { IfOk result (λ call. (call.waiting ≡ []) × (call.handled ≡ [])) }
     {
-        let waiting = VecDeque::with_capacity(alloc, BATCH_MOST)?;
-        let handled = VecDeque::with_capacity(alloc, BATCH_MOST)?;
+        let inbox = Inbox::make(alloc)?;
         Ok(Call {
             id,
             slot,
             media: 0,
             is_new: true,
             state: State::Idle(Idle::make(slot)),
-            current: Vec::new(alloc),
-            earlier: Vec::new(alloc),
+            routes: Routes::make(alloc),
             replaced: 0,
             moment: 0,
-            waiting,
-            handled,
+            inbox,
         })
     }
 
@@ -153,14 +146,7 @@ impl Call {
         ensures inbox { (self.new.waiting ≡ self.old.waiting) × (self.new.handled ≡ self.old.handled) }
         ensures same { (self.new.slot ≡ self.old.slot) × (self.new.media ≡ self.old.media) × (self.new.id ≡ self.old.id) }
     {
-        let handled = pass(
-            &mut self.current,
-            &mut self.earlier,
-            self.is_new,
-            port,
-            from,
-            pad,
-        );
+        let handled = self.routes.pass(self.is_new, port, from, pad);
         self.moment = moment_after(handled.end, now, self.moment);
         handled
     }
@@ -170,7 +156,7 @@ impl Call {
         requires room { length self.old.waiting + length self.old.handled < 256 }
         ensures { self.new ≡ record self.old { waiting = self.old.waiting ++ record { number = number; port = port; from = from; octets = pad; now = now } ∷ [] } }
     {
-        self.waiting.push_back_reserved(Waiting {
+        self.inbox.add(Queued {
             number,
             port,
             from,
@@ -184,7 +170,7 @@ impl Call {
         ensures first { MatchOption result (self.old.handled ≡ []) (λ h. self.old.handled ≡ h ∷ self.new.handled) }
         ensures rest { self.new ≡ record self.old { handled = drop 1 self.old.handled } }
     {
-        self.handled.pop_front()
+        self.inbox.take()
     }
 }
 
@@ -251,14 +237,14 @@ impl Call {
     {
         match mem::replace(&mut self.state, State::Idle(Idle::make(self.slot))) {
             State::Offered(open) => {
-                let Ok(mut paths) = Vec::with_capacity(alloc, PATHS) else {
+                let Ok(mut routes) = Vec::with_capacity(alloc, ROUTES) else {
                     self.go_on(State::Offered(open));
                     return Err(Fault::NoMemory);
                 };
                 match open.answer(alloc, text, noise, books) {
                     Ok((live, out, specs)) => {
-                        add_all(self.slot, specs, &mut paths);
-                        self.renew(live, paths, now);
+                        add_all(self.slot, specs, &mut routes);
+                        self.renew(live, routes, now);
                         Ok(out)
                     }
                     Err((open, fault)) => {
@@ -298,15 +284,15 @@ impl Call {
     {
         match mem::replace(&mut self.state, State::Idle(Idle::make(self.slot))) {
             State::Idle(idle) => {
-                let Ok(mut paths) = Vec::with_capacity(alloc, MEDIUM_PATHS) else {
+                let Ok(mut routes) = Vec::with_capacity(alloc, MEDIUM_ROUTES) else {
                     self.go_on(State::Idle(idle));
                     return Err(Fault::NoMemory);
                 };
                 match idle.manual(alloc, secure, plain, roc, window, from_peer, to_peer, books) {
                     Ok((live, spec)) => {
-                        add_medium(self.slot, spec, &mut paths);
+                        add_medium(self.slot, spec, &mut routes);
                         self.media = 1;
-                        self.renew(live, paths, now);
+                        self.renew(live, routes, now);
                         Ok(())
                     }
                     Err((idle, fault)) => {
@@ -330,12 +316,10 @@ impl Call {
     }
 
     /// A new generation begins. Of the one before, what opens is kept.
-    fn renew(&mut self, live: Live, paths: Vec<Path>, now: u64)
-        ensures { self.new ≡ renewed_value self.old now live paths.items }
+    fn renew(&mut self, live: Live, routes: Vec<Route>, now: u64)
+        ensures { self.new ≡ renewed_value self.old now live routes.items }
     {
-        let mut former = mem::replace(&mut self.current, paths);
-        keep_opening(&mut former);
-        self.earlier = former;
+        self.routes.renew(routes);
         self.is_new = false;
         self.replaced = now;
         self.moment = now;
@@ -372,16 +356,9 @@ impl Call {
         ensures same { (self.new.slot ≡ self.old.slot) × (self.new.media ≡ self.old.media) × (self.new.id ≡ self.old.id) }
     {
         if is_past(self.replaced, now) {
-            self.earlier.clear();
+            self.routes.drop_earlier();
         }
     }
-}
-
-/// Keeps the paths that open.
-fn keep_opening(paths: &mut Vec<Path>)
-    ensures { paths.new.items ≡ filter opens_path paths.old.items }
-{
-    paths.retain(|path| path.opens());
 }
 
 /// Whether a generation that was replaced at this moment opens no longer.
@@ -398,11 +375,8 @@ impl Lane for Call {
 
     /// Handles each datagram that waits, in order, at its own moment.
     fn drain(&mut self) {
-        while !self.waiting.is_empty() {
-            let Some(waiting) = self.waiting.pop_front() else {
-                unreachable!()
-            };
-            self.handle(waiting);
+        while let Some(queued) = self.inbox.next() {
+            self.handle(queued);
         }
     }
 }
@@ -412,22 +386,22 @@ impl Call {
     ghost use Rattle.sg_call.specs.Standing.{CallStandsFor};
 
     /// Handles a datagram that has waited.
-    fn handle(&mut self, waiting: Waiting)
+    fn handle(&mut self, queued: Queued)
         requires room { length self.old.waiting + length self.old.handled < 256 }
-        ensures next { (pairs : List psk.Pair) (c : world.Call) → CallStandsFor pairs self.old c → IsNextHandled waiting pairs c self.old self.new }
+        ensures next { (pairs : List psk.Pair) (c : world.Call) → CallStandsFor pairs self.old c → IsNextHandled queued pairs c self.old self.new }
         ensures waiting { self.new.waiting ≡ self.old.waiting }
         ensures same { (self.new.slot ≡ self.old.slot) × (self.new.media ≡ self.old.media) × (self.new.id ≡ self.old.id) }
         ensures more { length self.new.handled ≡ length self.old.handled + 1 }
     {
-        let Waiting {
+        let Queued {
             number,
             port,
             from,
             pad,
             now,
-        } = waiting;
+        } = queued;
         let handled = self.datagram(port, from, pad, now);
-        self.handled.push_back_reserved((number, handled));
+        self.inbox.keep(number, handled);
     }
 }
 

@@ -1,12 +1,12 @@
-//! One call: its state, the paths of its packets and its inbox.
+//! One call: its state, the routes of its packets and its inbox.
 #![tactic(auto)]
 
 mod call;
 mod handled;
 mod inbox;
 mod making;
-mod pass;
-mod path;
+mod route;
+mod routes;
 mod state;
 
 pub use call::Call;

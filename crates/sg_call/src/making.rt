@@ -1,4 +1,4 @@
-//! The paths of a new generation.
+//! The routes of a new generation.
 
 ghost use Rattle.std.specs.Prelude.{◌≡◌, ◌≤◌, ◌<◌, ◌+◌, vec_len, vec_capacity, Some};
 ghost use Rattle.sg_base.specs.declared.addresses.Address as base;
@@ -8,9 +8,9 @@ ghost use Rattle.sg_media.specs.Sides.{CanBeMade};
 ghost use Rattle.sg_session.specs.Session.{Session};
 ghost use Rattle.sg_session.specs.declared.names.Direction.TheVariants as direction;
 ghost use Rattle.sg_call.specs.Adding.{Adds, as_planned, if_planned};
-ghost use Rattle.sg_call.specs.Standing.{PathStandsFor};
+ghost use Rattle.sg_call.specs.Standing.{RouteStandsFor};
 
-use crate::path::{MediaSide, Path};
+use crate::route::{MediaSide, Route};
 use arrayvec::ArrayVec;
 use sg_base::{Address, Kind};
 use sg_gateway::{leg_of, next_port, port_at};
@@ -19,14 +19,14 @@ use sg_leg::MediaSpec;
 use sg_media::{OpenSide, SealSide};
 use sg_session::Direction;
 
-/// The path that opens what comes to the secure side, whose packets go to the plain side's address.
-fn opening(slot: u8, medium: u8, spec: SessionSpec, plain: Address) -> Path
+/// The route that opens what comes to the secure side, whose packets go to the plain side's address.
+fn opening(slot: u8, medium: u8, spec: SessionSpec, plain: Address) -> Route
     requires can { CanBeMade spec }
     requires next { spec.kind ≡ Kind.Rtcp → plain.port < 65535 }
-    ensures { (secure : base.Address) (s : Session) → IsPlanned (as_planned medium direction.Opening spec secure plain) s → PathStandsFor slot result s }
+    ensures { (secure : base.Address) (s : Session) → IsPlanned (as_planned medium direction.Opening spec secure plain) s → RouteStandsFor slot result s }
 {
     let kind = spec.kind;
-    Path {
+    Route {
         port: port_at(slot, medium, leg_of(Direction::Opening, kind)),
         out: port_at(slot, medium, leg_of(Direction::Sealing, kind)),
         to: next_port(kind, plain),
@@ -35,14 +35,14 @@ fn opening(slot: u8, medium: u8, spec: SessionSpec, plain: Address) -> Path
     }
 }
 
-/// The path that seals what comes to the plain side, whose datagrams go to the secure side's address.
-fn sealing(slot: u8, medium: u8, spec: SessionSpec, secure: Address, plain: Address) -> Path
+/// The route that seals what comes to the plain side, whose datagrams go to the secure side's address.
+fn sealing(slot: u8, medium: u8, spec: SessionSpec, secure: Address, plain: Address) -> Route
     requires can { CanBeMade spec }
     requires next { spec.kind ≡ Kind.Rtcp → secure.port < 65535 }
-    ensures { (s : Session) → IsPlanned (as_planned medium direction.Sealing spec secure plain) s → PathStandsFor slot result s }
+    ensures { (s : Session) → IsPlanned (as_planned medium direction.Sealing spec secure plain) s → RouteStandsFor slot result s }
 {
     let kind = spec.kind;
-    Path {
+    Route {
         port: port_at(slot, medium, leg_of(Direction::Sealing, kind)),
         out: port_at(slot, medium, leg_of(Direction::Opening, kind)),
         to: next_port(kind, secure),
@@ -51,53 +51,53 @@ fn sealing(slot: u8, medium: u8, spec: SessionSpec, secure: Address, plain: Addr
     }
 }
 
-/// Adds the path that opens, where there is one.
+/// Adds the route that opens, where there is one.
 fn add_opening(
     slot: u8,
     medium: u8,
     spec: Option<SessionSpec>,
     plain: Address,
-    paths: &mut Vec<Path>,
+    routes: &mut Vec<Route>,
 )
     requires can { (x : keys.SessionSpec) → spec ≡ Some x → CanBeMade x }
     requires next { (x : keys.SessionSpec) → spec ≡ Some x → x.kind ≡ Kind.Rtcp → plain.port < 65535 }
-    requires room { vec_len paths.old < vec_capacity paths.old }
-    ensures adds { (secure : base.Address) → Adds slot (if_planned medium direction.Opening spec secure plain) paths.old.items paths.new.items }
-    ensures one { vec_len paths.new ≤ vec_len paths.old + 1 }
-    ensures capacity { vec_capacity paths.new ≡ vec_capacity paths.old }
+    requires room { vec_len routes.old < vec_capacity routes.old }
+    ensures adds { (secure : base.Address) → Adds slot (if_planned medium direction.Opening spec secure plain) routes.old.items routes.new.items }
+    ensures one { vec_len routes.new ≤ vec_len routes.old + 1 }
+    ensures capacity { vec_capacity routes.new ≡ vec_capacity routes.old }
 {
     if let Some(spec) = spec {
-        paths.push_reserved(opening(slot, medium, spec, plain));
+        routes.push_reserved(opening(slot, medium, spec, plain));
     }
 }
 
-/// Adds the path that seals, where there is one.
+/// Adds the route that seals, where there is one.
 fn add_sealing(
     slot: u8,
     medium: u8,
     spec: Option<SessionSpec>,
     secure: Address,
     plain: Address,
-    paths: &mut Vec<Path>,
+    routes: &mut Vec<Route>,
 )
     requires can { (x : keys.SessionSpec) → spec ≡ Some x → CanBeMade x }
     requires next { (x : keys.SessionSpec) → spec ≡ Some x → x.kind ≡ Kind.Rtcp → secure.port < 65535 }
-    requires room { vec_len paths.old < vec_capacity paths.old }
-    ensures adds { Adds slot (if_planned medium direction.Sealing spec secure plain) paths.old.items paths.new.items }
-    ensures one { vec_len paths.new ≤ vec_len paths.old + 1 }
-    ensures capacity { vec_capacity paths.new ≡ vec_capacity paths.old }
+    requires room { vec_len routes.old < vec_capacity routes.old }
+    ensures adds { Adds slot (if_planned medium direction.Sealing spec secure plain) routes.old.items routes.new.items }
+    ensures one { vec_len routes.new ≤ vec_len routes.old + 1 }
+    ensures capacity { vec_capacity routes.new ≡ vec_capacity routes.old }
 {
     if let Some(spec) = spec {
-        paths.push_reserved(sealing(slot, medium, spec, secure, plain));
+        routes.push_reserved(sealing(slot, medium, spec, secure, plain));
     }
 }
 
-/// Adds the paths of a medium: those that open, then those that seal, RTP before RTCP. They are two to four.
-pub(crate) fn add_medium(slot: u8, spec: MediaSpec, paths: &mut Vec<Path>)
-    requires room { vec_len paths.old + 4 ≤ vec_capacity paths.old }
-    ensures adds { Adds slot (planned_in spec) paths.old.items paths.new.items }
-    ensures four { vec_len paths.new ≤ vec_len paths.old + 4 }
-    ensures capacity { vec_capacity paths.new ≡ vec_capacity paths.old }
+/// Adds the routes of a medium: those that open, then those that seal, RTP before RTCP. They are two to four.
+pub(crate) fn add_medium(slot: u8, spec: MediaSpec, routes: &mut Vec<Route>)
+    requires room { vec_len routes.old + 4 ≤ vec_capacity routes.old }
+    ensures adds { Adds slot (planned_in spec) routes.old.items routes.new.items }
+    ensures four { vec_len routes.new ≤ vec_len routes.old + 4 }
+    ensures capacity { vec_capacity routes.new ≡ vec_capacity routes.old }
 {
     let MediaSpec {
         medium,
@@ -108,18 +108,18 @@ pub(crate) fn add_medium(slot: u8, spec: MediaSpec, paths: &mut Vec<Path>)
         secure,
         plain,
     } = spec;
-    add_opening(slot, medium, Some(open_rtp), plain, paths);
-    add_opening(slot, medium, open_rtcp, plain, paths);
-    add_sealing(slot, medium, Some(seal_rtp), secure, plain, paths);
-    add_sealing(slot, medium, seal_rtcp, secure, plain, paths);
+    add_opening(slot, medium, Some(open_rtp), plain, routes);
+    add_opening(slot, medium, open_rtcp, plain, routes);
+    add_sealing(slot, medium, Some(seal_rtp), secure, plain, routes);
+    add_sealing(slot, medium, seal_rtcp, secure, plain, routes);
 }
 
-/// Adds the paths of all media of a generation.
-pub(crate) fn add_all(slot: u8, specs: ArrayVec<MediaSpec, 4>, paths: &mut Vec<Path>)
-    requires room { vec_len paths.old + 16 ≤ vec_capacity paths.old }
-    ensures { Adds slot (planned specs.items) paths.old.items paths.new.items }
+/// Adds the routes of all media of a generation.
+pub(crate) fn add_all(slot: u8, specs: ArrayVec<MediaSpec, 4>, routes: &mut Vec<Route>)
+    requires room { vec_len routes.old + 16 ≤ vec_capacity routes.old }
+    ensures { Adds slot (planned specs.items) routes.old.items routes.new.items }
 {
     for spec in specs {
-        add_medium(slot, spec, paths);
+        add_medium(slot, spec, routes);
     }
 }

@@ -15,8 +15,8 @@ ghost use Rattle.sg_leg.specs.Answering.{Tells};
 ghost use Rattle.sg_leg.specs.Open.{AreAddressed};
 
 use crate::carrying::{carried_text, exchanged, ports_of};
-use crate::keyed::{Keyed, keyed_by_own_lines, keyed_by_peer_line};
-use crate::media::Medium;
+use crate::keyed::{KeyedMedium, keyed_by_own_lines, keyed_by_peer_line};
+use crate::media::AgreedMedium;
 use arrayvec::ArrayVec;
 use sg_agreement::is_active;
 use sg_base::{Address, Fault, NoMemory, Octets, Side};
@@ -32,7 +32,7 @@ use std::marker::Model;
 #[derive(Drop)]
 pub(crate) struct Answered {
     pub session: Lines,
-    pub media: Items<Option<Keyed>>,
+    pub media: Items<Option<KeyedMedium>>,
 }
 
 impl Model for Answered {
@@ -81,14 +81,14 @@ pub(crate) fn actives_after(
     active
 }
 
-fn by_peer_line_if(
+fn answered_by_peer_line_if(
     alloc: Global,
     noise: &[u8; 304],
     m: u8,
     active: bool,
     line: &Option<CryptoLine>,
     answer: &sdp::Medium,
-) -> Result<Option<Keyed>, Fault>
+) -> Result<Option<KeyedMedium>, Fault>
     requires { m < 4 }
     ensures { Tells result (if_kept active line.now (λ x. keyed_by_peer_line noise.now m x answer.now)) }
 {
@@ -102,13 +102,13 @@ fn by_peer_line_if(
 }
 
 /// The media of an answer to an offer that is keyed by lines of the peer's.
-pub(crate) fn by_peer_lines(
+pub(crate) fn answered_by_peer_lines(
     alloc: Global,
     noise: &[u8; 304],
     active: &[bool],
     lines: &[Option<CryptoLine>],
     media: &[sdp::Medium],
-) -> Result<Items<Option<Keyed>>, Fault>
+) -> Result<Items<Option<KeyedMedium>>, Fault>
     requires few { length media.now ≤ 4 }
     requires actives { length active.now ≡ length media.now }
     requires lines { length lines.now ≡ length media.now }
@@ -116,7 +116,7 @@ pub(crate) fn by_peer_lines(
 {
     let mut keyed = Vec::new(alloc);
     for (m, medium) in media.iter().enumerate() {
-        match by_peer_line_if(alloc, noise, m as u8, active[m], &lines[m], medium) {
+        match answered_by_peer_line_if(alloc, noise, m as u8, active[m], &lines[m], medium) {
             Ok(next) => keyed.push(next)?,
             Err(fault) => return Err(fault),
         }
@@ -124,13 +124,13 @@ pub(crate) fn by_peer_lines(
     Ok(Items::from_vec(keyed))
 }
 
-fn by_own_lines_if(
+fn answered_by_own_lines_if(
     alloc: Global,
     m: u8,
     active: bool,
     lines: &Option<[CryptoLine; 2]>,
     answer: &sdp::Medium,
-) -> Result<Option<Keyed>, Fault>
+) -> Result<Option<KeyedMedium>, Fault>
     ensures { Tells result (if_kept active lines.now (λ x. keyed_by_own_lines m x answer.now)) }
 {
     match lines {
@@ -143,12 +143,12 @@ fn by_own_lines_if(
 }
 
 /// The media of an answer to an offer that is keyed by lines of the gateway's.
-pub(crate) fn by_own_lines(
+pub(crate) fn answered_by_own_lines(
     alloc: Global,
     active: &[bool],
     lines: &[Option<[CryptoLine; 2]>],
     media: &[sdp::Medium],
-) -> Result<Items<Option<Keyed>>, Fault>
+) -> Result<Items<Option<KeyedMedium>>, Fault>
     requires few { length media.now ≤ 4 }
     requires actives { length active.now ≡ length media.now }
     requires lines { length lines.now ≡ length media.now }
@@ -156,7 +156,7 @@ pub(crate) fn by_own_lines(
 {
     let mut keyed = Vec::new(alloc);
     for (m, medium) in media.iter().enumerate() {
-        match by_own_lines_if(alloc, m as u8, active[m], &lines[m], medium) {
+        match answered_by_own_lines_if(alloc, m as u8, active[m], &lines[m], medium) {
             Ok(next) => keyed.push(next)?,
             Err(fault) => return Err(fault),
         }
@@ -167,7 +167,7 @@ pub(crate) fn by_own_lines(
 /// An answer whose media are keyed so, with no line of the session part.
 pub(crate) fn of_media(
     alloc: Global,
-    media: Result<Items<Option<Keyed>>, Fault>,
+    media: Result<Items<Option<KeyedMedium>>, Fault>,
 ) -> Result<Answered, Fault>
     ensures { (r : Result (List (Option agreed.Keyed)) Refusal) → Tells media r → Tells result (answered [] r) }
 {
@@ -181,7 +181,7 @@ pub(crate) fn of_media(
 }
 
 /// The lines that are added to each medium.
-pub(crate) fn lines_of(alloc: Global, keyed: &[Option<Keyed>]) -> Result<Vec<Lines>, NoMemory>
+pub(crate) fn lines_of(alloc: Global, keyed: &[Option<KeyedMedium>]) -> Result<Vec<Lines>, NoMemory>
     ensures { IfOk result (λ lines. lines.items ≡ map lines_of keyed.now) }
 {
     let mut all = Vec::new(alloc);
@@ -191,7 +191,7 @@ pub(crate) fn lines_of(alloc: Global, keyed: &[Option<Keyed>]) -> Result<Vec<Lin
     Ok(all)
 }
 
-fn lines_in(alloc: Global, keyed: &Option<Keyed>) -> Result<Lines, NoMemory>
+fn lines_in(alloc: Global, keyed: &Option<KeyedMedium>) -> Result<Lines, NoMemory>
     ensures { IfOk result (λ lines. lines ≡ lines_of keyed.now) }
 {
     let mut lines = Lines::new(alloc);
@@ -217,12 +217,12 @@ fn address_of(medium: &sdp::Medium) -> Address
     }
 }
 
-fn medium_between(keyed: &Keyed, secure: &sdp::Medium, plain: &sdp::Medium) -> Medium
+fn medium_between(keyed: &KeyedMedium, secure: &sdp::Medium, plain: &sdp::Medium) -> AgreedMedium
     requires secure { is_some secure.now.address ≡ true }
     requires plain { is_some plain.now.address ≡ true }
     ensures { result ≡ medium_between keyed.now secure.now plain.now }
 {
-    Medium {
+    AgreedMedium {
         from_peer: keyed.from_peer.clone(),
         to_peer: keyed.to_peer.clone(),
         window: keyed.window,
@@ -233,7 +233,12 @@ fn medium_between(keyed: &Keyed, secure: &sdp::Medium, plain: &sdp::Medium) -> M
 }
 
 /// What an offered medium of this side and that of the answer agree.
-fn medium_agreed(side: Side, keyed: &Keyed, offered: &sdp::Medium, answered: &sdp::Medium) -> Medium
+fn medium_agreed(
+    side: Side,
+    keyed: &KeyedMedium,
+    offered: &sdp::Medium,
+    answered: &sdp::Medium,
+) -> AgreedMedium
     requires offered { is_some offered.now.address ≡ true }
     requires answered { is_some answered.now.address ≡ true }
     ensures { result ≡ medium_agreed side keyed.now offered.now answered.now }
@@ -246,10 +251,10 @@ fn medium_agreed(side: Side, keyed: &Keyed, offered: &sdp::Medium, answered: &sd
 
 fn agreed_if(
     side: Side,
-    keyed: &Option<Keyed>,
+    keyed: &Option<KeyedMedium>,
     offered: &sdp::Medium,
     answered: &sdp::Medium,
-) -> Option<Medium>
+) -> Option<AgreedMedium>
     requires offered { is_some keyed.now ≡ true → is_some offered.now.address ≡ true }
     requires answered { is_some keyed.now ≡ true → is_some answered.now.address ≡ true }
     ensures { result ≡ option_map (λ k. medium_agreed side k offered.now answered.now) keyed.now }
@@ -266,8 +271,8 @@ pub(crate) fn media_agreed(
     side: Side,
     offered: &[sdp::Medium],
     answered: &[sdp::Medium],
-    keyed: &[Option<Keyed>],
-) -> Result<Vec<Option<Medium>>, NoMemory>
+    keyed: &[Option<KeyedMedium>],
+) -> Result<Vec<Option<AgreedMedium>>, NoMemory>
     requires answers { length answered.now ≡ length offered.now }
     requires keyed { length keyed.now ≡ length offered.now }
     requires addressed { AreAddressed offered.now answered.now keyed.now }
@@ -290,7 +295,7 @@ pub(crate) fn answered_text(
     answer: &sdp::Sdp,
     active: &[bool],
     session: &[Octets],
-    keyed: &[Option<Keyed>],
+    keyed: &[Option<KeyedMedium>],
 ) -> Result<Octets, NoMemory>
     requires few { length offered.now ≤ 4 }
     requires answers { length answer.now.media ≡ length offered.now }

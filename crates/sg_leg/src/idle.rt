@@ -10,7 +10,7 @@ ghost use Rattle.sg_session.specs.Ring.{Installed};
 ghost use Rattle.sg_leg.specs.Served.{IsServedMedium};
 ghost use Rattle.sg_leg.specs.Standing.{IsManual};
 
-use crate::media::{Medium, Stream};
+use crate::media::{AgreedMedium, SideKeys};
 use crate::offered::open;
 use crate::settling::settle_one;
 use crate::{Books, Live, MediaSpec, Offered, Way};
@@ -35,10 +35,10 @@ impl Model for Idle {
 }
 
 /// What one side sends under one key.
-fn manual_stream(roc: u32, key: &MasterKey) -> Stream
+fn manual_stream(roc: u32, key: &MasterKey) -> SideKeys
     ensures { result ≡ manual_stream roc key.now }
 {
-    Stream {
+    SideKeys {
         suite: key.suite(),
         keys: InlineKeys::one(InlineKey {
             key: key.clone(),
@@ -60,12 +60,12 @@ fn manual_medium(
     window: u16,
     from_peer: &MasterKey,
     to_peer: &MasterKey,
-) -> Medium
+) -> AgreedMedium
     ensures medium { result ≡ medium_under secure plain roc window from_peer.now to_peer.now }
     ensures served { IsServedMedium result }
 {
     let secret = !from_peer.suite().is_raw() && !to_peer.suite().is_raw();
-    Medium {
+    AgreedMedium {
         from_peer: manual_stream(roc, from_peer),
         to_peer: manual_stream(roc, to_peer),
         window: window.clamp(WINDOW_LEAST, WINDOW_MOST),

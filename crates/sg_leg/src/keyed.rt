@@ -11,7 +11,7 @@ ghost use Rattle.sg_agreement.specs.Streams.{stream_of_line, window_of};
 ghost use Rattle.sg_leg.specs.Answering.{Tells};
 
 use crate::attributes::first_crypto_value;
-use crate::media::Stream;
+use crate::media::SideKeys;
 use sg_base::{Fault, NoMemory, Octets, Refusal, SdesFault, WINDOW_LEAST, WINDOW_MOST};
 use sg_keys::Admit;
 use sg_sdes::{CryptoLine, answer_line, match_answer, print_crypto};
@@ -22,14 +22,14 @@ use std::marker::Model;
 /// What both sides of a medium send, the window in which the gateway opens, and the lines that it adds to the
 /// medium of the answer.
 #[derive(Drop)]
-pub(crate) struct Keyed {
-    pub from_peer: Stream,
-    pub to_peer: Stream,
+pub(crate) struct KeyedMedium {
+    pub from_peer: SideKeys,
+    pub to_peer: SideKeys,
     pub window: u16,
     pub lines: Lines,
 }
 
-impl Model for Keyed {
+impl Model for KeyedMedium {
     ghost use Rattle.sg_agreement.specs.Keyed as agreed;
 
     ghost Value = { agreed.Keyed };
@@ -38,10 +38,10 @@ impl Model for Keyed {
 }
 
 /// What the sender of a line sends under it. What isn't encrypted, the peer's line says.
-fn stream_of_line(peer: &CryptoLine, line: &CryptoLine) -> Stream
+fn stream_of_line(peer: &CryptoLine, line: &CryptoLine) -> SideKeys
     ensures { result ≡ stream_of_line peer.now line.now }
 {
-    Stream {
+    SideKeys {
         suite: line.suite,
         keys: line.keys.clone(),
         roc: 0,
@@ -87,14 +87,14 @@ pub(crate) fn keyed_by_peer_line(
     noise: &[u8; 304],
     medium: u8,
     peer: &CryptoLine,
-) -> Result<Keyed, NoMemory>
+) -> Result<KeyedMedium, NoMemory>
     requires { medium < 4 }
     ensures { IfOk result (λ k. k ≡ keyed_by_answer peer.now (answer_by peer.now (noise_of medium noise.now))) }
 {
     let own = answer_line(peer, &noise_of(medium, noise));
     let mut lines = Lines::new(alloc);
     lines.push(crypto_attribute(alloc, &own)?)?;
-    Ok(Keyed {
+    Ok(KeyedMedium {
         from_peer: stream_of_line(peer, peer),
         to_peer: stream_of_line(peer, &own),
         window: window_of(peer.window),
@@ -115,10 +115,10 @@ fn lines_matched(
     }
 }
 
-fn keyed_by_matched(alloc: Global, own: &CryptoLine, peer: &CryptoLine) -> Keyed
+fn keyed_by_matched(alloc: Global, own: &CryptoLine, peer: &CryptoLine) -> KeyedMedium
     ensures { result ≡ keyed_by_matched (own.now, peer.now) }
 {
-    Keyed {
+    KeyedMedium {
         from_peer: stream_of_line(peer, peer),
         to_peer: stream_of_line(peer, own),
         window: window_of(peer.window),
@@ -132,7 +132,7 @@ pub(crate) fn keyed_by_own_lines(
     medium: u8,
     offered: &[CryptoLine; 2],
     answer: &Medium,
-) -> Result<Keyed, Refusal>
+) -> Result<KeyedMedium, Refusal>
     ensures { result ≡ keyed_by_own_lines medium offered.now answer.now }
 {
     match lines_matched(offered, answer) {

@@ -24,7 +24,7 @@ use std::marker::Model;
 /// What one side sends: the suite, its keys, the starting rollover, the sources that are admitted, and what is
 /// encrypted.
 #[derive(Drop)]
-pub(crate) struct Stream {
+pub(crate) struct SideKeys {
     pub suite: Suite,
     pub keys: InlineKeys,
     pub roc: u32,
@@ -33,7 +33,7 @@ pub(crate) struct Stream {
     pub encrypts_rtcp: bool,
 }
 
-impl Model for Stream {
+impl Model for SideKeys {
     ghost use Rattle.std.specs.Prelude.{map};
     ghost use Rattle.sg_agreement.specs.Media as agreed;
     ghost use Rattle.sg_agreement.specs.Streams.{line_key};
@@ -54,16 +54,16 @@ impl Model for Stream {
 /// What both sides of a medium send, the window in which the gateway opens, whether there is RTCP, and the
 /// addresses of the two sides.
 #[derive(Drop)]
-pub(crate) struct Medium {
-    pub from_peer: Stream,
-    pub to_peer: Stream,
+pub(crate) struct AgreedMedium {
+    pub from_peer: SideKeys,
+    pub to_peer: SideKeys,
     pub window: u16,
     pub has_rtcp: bool,
     pub secure: Address,
     pub plain: Address,
 }
 
-impl Model for Medium {
+impl Model for AgreedMedium {
     ghost use Rattle.sg_agreement.specs.Media as agreed;
 
     ghost Value = { agreed.Medium };
@@ -138,7 +138,7 @@ fn key_set(kind: Kind, first: u32, keys: &[InlineKey]) -> KeySet
     KeySet::make(live_keys(kind, first, keys))
 }
 
-impl Stream {
+impl SideKeys {
     /// What a side of one kind is made of, whose keys' numbers begin at `first`.
     pub(crate) fn spec(&self, kind: Kind, first: u32, window: u16) -> SessionSpec
         requires served { IsServed kind self.now }
@@ -164,10 +164,10 @@ impl Stream {
     }
 
     /// The same; it doesn't allocate.
-    pub(crate) fn clone(&self) -> Stream
+    pub(crate) fn clone(&self) -> SideKeys
         ensures { result ≡ self.now }
     {
-        Stream {
+        SideKeys {
             suite: self.suite,
             keys: self.keys.clone(),
             roc: self.roc,
@@ -204,7 +204,7 @@ impl Stream {
     }
 }
 
-impl Medium {
+impl AgreedMedium {
     /// What the sides of this medium are made of, whose keys' numbers begin at `first`.
     pub(crate) fn spec(&self, medium: u8, first: u32) -> MediaSpec
         requires served { IsServedMedium self.now }

@@ -344,12 +344,21 @@ pub(crate) fn by_messages(
 }
 
 /// A key management attribute that carries a message.
-pub(crate) fn mikey_attribute(alloc: Global, octets: &[u8]) -> Result<Octets, NoMemory>
+fn mikey_attribute(alloc: Global, octets: &[u8]) -> Result<Octets, NoMemory>
     ensures { IfOk result (λ text. text ≡ mikey_attribute octets.now) }
 {
     let mut text = Vec::from_slice(alloc, b"a=key-mgmt:mikey ")?;
     text.extend_from_slice(STANDARD.encode(alloc, octets)?.as_bytes())?;
     Ok(Octets::from_vec(text))
+}
+
+/// The same as the one line of a part.
+pub(crate) fn mikey_lines(alloc: Global, octets: &[u8]) -> Result<Lines, NoMemory>
+    ensures { IfOk result (λ lines. lines ≡ mikey_attribute octets.now ∷ []) }
+{
+    let mut lines = Lines::new(alloc);
+    lines.push(mikey_attribute(alloc, octets)?)?;
+    Ok(lines)
 }
 
 /// The gateway's SSRCs of the active media of the plain side.
@@ -387,11 +396,7 @@ pub(crate) fn by_own_message(
         Ok(sent) => sent,
         Err(fault) => return Err(psk_fault(255, fault)),
     };
-    let Ok(line) = mikey_attribute(alloc, octets.as_slice()) else {
-        return Err(Fault::NoMemory);
-    };
-    let mut session = Lines::new(alloc);
-    let Ok(()) = session.push(line) else {
+    let Ok(session) = mikey_lines(alloc, octets.as_slice()) else {
         return Err(Fault::NoMemory);
     };
     Ok(Opening {

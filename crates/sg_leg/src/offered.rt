@@ -15,12 +15,12 @@ ghost use Rattle.sg_leg.specs.Open.{AreAddressed, IsAgreed, IsAnswerOf, IsAnswer
 ghost use Rattle.sg_leg.specs.Served.{IsServedIf};
 
 use crate::answering::{
-    Answered, actives_after, answered_text, by_own_lines, by_peer_lines, media_agreed, of_media,
-    offered_text, other_side,
+    Answered, actives_after, answered_by_own_lines, answered_by_peer_lines, answered_text,
+    media_agreed, of_media, offered_text, other_side,
 };
 use crate::describing::describe;
 use crate::keying::{Keying, keying_of};
-use crate::media::Medium;
+use crate::media::AgreedMedium;
 use crate::noting::note_all;
 use crate::replying::{by_media_messages, by_response, by_session_message};
 use crate::settling::settle;
@@ -96,7 +96,10 @@ pub(crate) fn open(
         &books.seen,
     ) {
         Ok(opening) => opening,
-        Err(fault) => return Err(fault),
+        Err(fault) => {
+            drop(description);
+            return Err(fault);
+        }
     };
     let session = opening.session.as_slice();
     let Ok(out) = offered_text(alloc, slot, side, &description, session, &opening.media) else {
@@ -145,14 +148,19 @@ impl Offered {
         ensures back { IfErr result (λ e. (e.0 ≡ self) × (books.new ≡ books.old)) }
         ensures others { (books.new.psks ≡ books.old.psks) × (books.new.seen ≡ books.old.seen) }
     {
-        match self.settled(alloc, text, noise, books) {
-            Ok((text, specs)) => Ok((Live::new(self.slot, self.media(), false), text, specs)),
+        match self.new_generation(alloc, text, noise, books) {
+            Ok((text, specs)) => {
+                let live = Live::new(self.slot, self.media(), false);
+                drop(self);
+                Ok((live, text, specs))
+            }
             Err(fault) => Err((self, fault)),
         }
     }
 
-    /// The text for the side that offered, and the specs. Memory is taken before the ring changes.
-    fn settled(
+    /// The text for the side that offered, and the specs of the new generation. Memory is taken before the ring
+    /// changes.
+    fn new_generation(
         &self,
         alloc: Global,
         text: &[u8],
@@ -160,12 +168,12 @@ impl Offered {
         books: &mut Books,
     ) -> Result<(Octets, ArrayVec<MediaSpec, 4>), Fault>
         requires open { (offer : Offer) × IsOpen books.old.psks self.now offer }
-        ensures settled { (offer : Offer) (call generation : ℕ) (ring : List Installed) → IsOpen books.old.psks self.now offer → keys_of ring ≡ books.old.ring
+        ensures given { (offer : Offer) (call generation : ℕ) (ring : List Installed) → IsOpen books.old.psks self.now offer → keys_of ring ≡ books.old.ring
             → IsAgreed result books.new.ring (answered_with self.now.slot offer noise.now text.now call generation ring) }
         ensures err { OnErr result (books.new ≡ books.old) }
         ensures others { (books.new.psks ≡ books.old.psks) × (books.new.seen ≡ books.old.seen) }
     {
-        let (text, media) = match self.agreed(alloc, text, noise, &books.psks) {
+        let (text, media) = match self.read_answer(alloc, text, noise, &books.psks) {
             Ok(agreed) => agreed,
             Err(fault) => return Err(fault),
         };
@@ -175,14 +183,15 @@ impl Offered {
         }
     }
 
-    /// The text for the side that offered, and what is agreed of each medium.
-    fn agreed(
+    /// Reads the answer and decides: the text for the side that offered, and what is agreed of each medium, or the
+    /// first cause why not.
+    fn read_answer(
         &self,
         alloc: Global,
         text: &[u8],
         noise: &[u8; 304],
         psks: &PskBook,
-    ) -> Result<(Octets, Items<Option<Medium>>), Fault>
+    ) -> Result<(Octets, Items<Option<AgreedMedium>>), Fault>
         requires open { (offer : Offer) × IsOpen psks.now self.now offer }
         ensures agreed { (offer : Offer) → IsOpen psks.now self.now offer → IsAnswerOf (answer_of result) (agreed_answer self.now.slot offer noise.now text.now) }
         ensures few { IfOk result (λ r. length r.1 ≤ 4) }
@@ -196,18 +205,18 @@ impl Offered {
             Err(fault) => return Err(fault),
         };
         let active = actives_after(self.side, offered, answer.media.as_slice());
-        let answered = match self.answered(alloc, noise, &answer, active.as_slice(), psks) {
-            Ok(answered) => answered,
+        let keyed = match self.keyed_media(alloc, noise, &answer, active.as_slice(), psks) {
+            Ok(keyed) => keyed,
             Err(fault) => return Err(fault),
         };
-        match self.agreed_by(alloc, &answer, active.as_slice(), &answered) {
+        match self.text_and_media(alloc, &answer, active.as_slice(), &keyed) {
             Ok(agreed) => Ok(agreed),
             Err(NoMemory) => Err(Fault::NoMemory),
         }
     }
 
-    /// How the media of an answer are keyed.
-    fn answered(
+    /// How each medium of an answer is keyed, by what was kept of the offer's keying.
+    fn keyed_media(
         &self,
         alloc: Global,
         noise: &[u8; 304],
@@ -226,11 +235,11 @@ impl Offered {
         let offered = self.description.media.as_slice();
         match &self.keying {
             Keying::PeerLines(lines) => {
-                let media = by_peer_lines(alloc, noise, active, lines.as_slice(), media);
+                let media = answered_by_peer_lines(alloc, noise, active, lines.as_slice(), media);
                 of_media(alloc, media)
             }
             Keying::OwnLines(lines) => {
-                let media = by_own_lines(alloc, active, lines.as_slice(), media);
+                let media = answered_by_own_lines(alloc, active, lines.as_slice(), media);
                 of_media(alloc, media)
             }
             Keying::PeerMessage(bundle) => {
@@ -252,13 +261,13 @@ impl Offered {
     }
 
     /// The text for the side that offered, and what is agreed of each medium, once they are keyed.
-    fn agreed_by(
+    fn text_and_media(
         &self,
         alloc: Global,
         answer: &Sdp,
         active: &[bool],
         keyed: &Answered,
-    ) -> Result<(Octets, Items<Option<Medium>>), NoMemory>
+    ) -> Result<(Octets, Items<Option<AgreedMedium>>), NoMemory>
         requires answers { length answer.now.media ≡ length self.now.description.media }
         requires actives { length active.now ≡ length self.now.description.media }
         requires keyed { length keyed.now.media ≡ length self.now.description.media }
@@ -290,6 +299,7 @@ impl Offered {
 
     /// The call ends.
     pub fn bye(self) -> Ended {
+        drop(self);
         Ended
     }
 }

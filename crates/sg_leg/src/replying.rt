@@ -23,10 +23,10 @@ ghost use Rattle.sg_leg.specs.Replying.{HaveFewKeys, WillHaveFewKeys, keyed_as};
 
 use crate::answering::Answered;
 use crate::attributes::own_ssrc;
-use crate::keyed::Keyed;
+use crate::keyed::KeyedMedium;
 use crate::keying::Bundle;
-use crate::media::Stream;
-use crate::messages::{active_count, cs_fault, message_in, mikey_attribute, psk_fault};
+use crate::media::SideKeys;
+use crate::messages::{active_count, cs_fault, message_in, mikey_lines, psk_fault};
 use arrayvec::ArrayVec;
 use sg_agreement::is_active;
 use sg_base::{Fault, MasterKey, Mki, NoMemory, Octets, RTP_LIFE, Side, WINDOW_LEAST};
@@ -72,11 +72,11 @@ fn admit_of(ssrc: u32) -> Admit
 }
 
 /// What is sent in a crypto session by this source, from this rollover on.
-fn stream_of_session(keys: &StreamKeys, ssrc: u32, roc: u32) -> Stream
+fn stream_of_session(keys: &StreamKeys, ssrc: u32, roc: u32) -> SideKeys
     requires { length keys.now.keys ≤ 8 }
     ensures { result ≡ stream_of_session (with_source ssrc roc keys.now) }
 {
-    Stream {
+    SideKeys {
         suite: keys.suite,
         keys: session_keys(keys.keys.as_slice()),
         roc,
@@ -87,12 +87,16 @@ fn stream_of_session(keys: &StreamKeys, ssrc: u32, roc: u32) -> Stream
 }
 
 /// The peer is the initiator.
-fn keyed_as_responder(lines: Lines, streams: &(StreamKeys, StreamKeys), answer: &Medium) -> Keyed
+fn keyed_as_responder(
+    lines: Lines,
+    streams: &(StreamKeys, StreamKeys),
+    answer: &Medium,
+) -> KeyedMedium
     requires { HasFewKeys streams.now }
     ensures { result ≡ keyed_as_responder lines streams.now answer.now }
 {
     let (peer, own) = streams;
-    Keyed {
+    KeyedMedium {
         from_peer: stream_of_session(peer, peer.ssrc, peer.roc),
         to_peer: stream_of_session(own, own_ssrc(answer.lines.as_slice()), 0),
         window: WINDOW_LEAST,
@@ -101,13 +105,13 @@ fn keyed_as_responder(lines: Lines, streams: &(StreamKeys, StreamKeys), answer: 
 }
 
 /// The gateway is the initiator.
-fn keyed_as_initiator(lines: Lines, streams: &(StreamKeys, StreamKeys)) -> Keyed
+fn keyed_as_initiator(lines: Lines, streams: &(StreamKeys, StreamKeys)) -> KeyedMedium
     requires few { HasFewKeys streams.now }
     requires none { lines ≡ [] }
     ensures { result ≡ keyed_as_initiator streams.now }
 {
     let (own, peer) = streams;
-    Keyed {
+    KeyedMedium {
         from_peer: stream_of_session(peer, peer.ssrc, peer.roc),
         to_peer: stream_of_session(own, own.ssrc, own.roc),
         window: WINDOW_LEAST,
@@ -115,7 +119,12 @@ fn keyed_as_initiator(lines: Lines, streams: &(StreamKeys, StreamKeys)) -> Keyed
     }
 }
 
-fn keyed_as(alloc: Global, role: Role, streams: &(StreamKeys, StreamKeys), answer: &Medium) -> Keyed
+fn keyed_as(
+    alloc: Global,
+    role: Role,
+    streams: &(StreamKeys, StreamKeys),
+    answer: &Medium,
+) -> KeyedMedium
     requires { HasFewKeys streams.now }
     ensures { result ≡ keyed_as role streams.now answer.now }
 {
@@ -179,7 +188,7 @@ fn by_streams_if(
     active: bool,
     streams: Option<&(StreamKeys, StreamKeys)>,
     answer: &Medium,
-) -> Option<Keyed>
+) -> Option<KeyedMedium>
     requires { IfSome streams (λ s. HasFewKeys s.now) }
     ensures { if_kept active (option_map (λ s. s.now) streams.entry) (λ x. Ok (keyed_as role x answer.now)) ≡ Ok result }
 {
@@ -201,7 +210,7 @@ fn by_streams(
     answer: &[Medium],
     streams: &[(StreamKeys, StreamKeys)],
     active: &[bool],
-) -> Result<Items<Option<Keyed>>, NoMemory>
+) -> Result<Items<Option<KeyedMedium>>, NoMemory>
     requires few { length offered.now ≤ 4 }
     requires keys { AllByRecursion HasFewKeys streams.now }
     requires answers { length answer.now ≡ length offered.now }
@@ -231,9 +240,7 @@ fn response_line(
         → IfOk result (λ lines. lines ≡ mikey_attribute (response_octets a ssrcs.now) ∷ []) }
 {
     let octets = respond(alloc, initial, psks, ssrcs)?;
-    let mut lines = Lines::new(alloc);
-    lines.push(mikey_attribute(alloc, octets.as_slice())?)?;
-    Ok(lines)
+    mikey_lines(alloc, octets.as_slice())
 }
 
 /// The answer to an offer with a message in its session part, to which the response is added.
@@ -275,7 +282,7 @@ fn by_message(
     psks: &PskBook,
     bundle: &Bundle,
     answer: &Medium,
-) -> Result<Option<Keyed>, NoMemory>
+) -> Result<Option<KeyedMedium>, NoMemory>
     requires known { (c : messages.Bundle) × IsBundleOf psks.now bundle.now c }
     requires keys { AllByRecursion HasFewKeys bundle.now.streams }
     ensures { (c : messages.Bundle) → IsBundleOf psks.now bundle.now c
@@ -297,7 +304,7 @@ fn by_message_if(
     bundle: &Option<Bundle>,
     answer: &Medium,
     active: bool,
-) -> Result<Option<Keyed>, NoMemory>
+) -> Result<Option<KeyedMedium>, NoMemory>
     requires known { (c : Option messages.Bundle) × IsBundleIf psks.now bundle.now c }
     requires keys { HaveFewKeys bundle.now }
     ensures { (c : Option messages.Bundle) → IsBundleIf psks.now bundle.now c
@@ -319,7 +326,7 @@ pub(crate) fn by_media_messages(
     bundles: &[Option<Bundle>],
     answer: &[Medium],
     active: &[bool],
-) -> Result<Items<Option<Keyed>>, NoMemory>
+) -> Result<Items<Option<KeyedMedium>>, NoMemory>
     requires known { (cs : List (Option messages.Bundle)) × EachPair (IsBundleIf psks.now) bundles.now cs }
     requires keys { AllByRecursion HaveFewKeys bundles.now }
     requires bundles { length bundles.now ≡ length answer.now }

@@ -13,7 +13,7 @@ ghost use Rattle.sg_leg.specs.Planned.{ArePlanned, IsNext};
 ghost use Rattle.sg_leg.specs.Served.{IsServedIf, IsServedMedium};
 
 use crate::MediaSpec;
-use crate::media::Medium;
+use crate::media::AgreedMedium;
 use arrayvec::ArrayVec;
 use sg_base::{Fault, MasterKey, NoMemory, Refusal, SessionKeys};
 use sg_keys::{Ring, RingFault};
@@ -48,7 +48,7 @@ fn add_keys(keys: &[InlineKey], out: &mut Vec<Derived>) -> Result<(), NoMemory>
 }
 
 /// Adds the keys of a medium, the peer's before the gateway's.
-fn add_medium_keys(medium: &Medium, out: &mut Vec<Derived>) -> Result<(), NoMemory>
+fn add_medium_keys(medium: &AgreedMedium, out: &mut Vec<Derived>) -> Result<(), NoMemory>
     ensures given { OnOk result (map given out.new.items ≡ map given out.old.items ++ media_keys (Some medium.now ∷ [])) }
     ensures count { OnOk result (vec_len out.new ≡ vec_len out.old + length medium.now.from_peer.keys + length medium.now.to_peer.keys) }
 {
@@ -59,7 +59,7 @@ fn add_medium_keys(medium: &Medium, out: &mut Vec<Derived>) -> Result<(), NoMemo
 
 /// Adds the keys of a medium and what its sides are made of.
 fn add_medium(
-    medium: &Medium,
+    medium: &AgreedMedium,
     m: u8,
     first: u32,
     keys: &mut Vec<Derived>,
@@ -81,7 +81,7 @@ fn add_medium(
 
 /// The same of a medium that may be idle; nothing is added then.
 fn add(
-    medium: &Option<Medium>,
+    medium: &Option<AgreedMedium>,
     m: u8,
     first: u32,
     keys: &mut Vec<Derived>,
@@ -103,7 +103,7 @@ fn add(
 }
 
 /// The keys of media and what their sides are made of, where the first key has this number.
-fn prepare(alloc: Global, media: &[Option<Medium>], first: u32) -> Result<Prepared, NoMemory>
+fn prepare(alloc: Global, media: &[Option<AgreedMedium>], first: u32) -> Result<Prepared, NoMemory>
     requires few { length media.now ≤ 4 }
     requires first { first ≤ 65536 }
     requires served { All IsServedIf media.now }
@@ -147,7 +147,7 @@ fn install(ring: &mut Ring, keys: &[Derived]) -> Result<(), Fault>
 /// Puts the keys of media into the ring, all or none, and tells what their sides are made of.
 pub(crate) fn settle(
     alloc: Global,
-    media: &[Option<Medium>],
+    media: &[Option<AgreedMedium>],
     ring: &mut Ring,
 ) -> Result<ArrayVec<MediaSpec, 4>, Fault>
     requires few { length media.now ≤ 4 }
@@ -168,7 +168,7 @@ pub(crate) fn settle(
 /// The same of one medium.
 pub(crate) fn settle_one(
     alloc: Global,
-    medium: &Medium,
+    medium: &AgreedMedium,
     ring: &mut Ring,
 ) -> Result<MediaSpec, Fault>
     requires served { IsServedMedium medium.now }

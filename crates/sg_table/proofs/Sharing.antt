@@ -7,7 +7,7 @@ use Rattle.sg_call.proofs.Standing.{other_inbox}
 use Rattle.sg_call.specs.Drained.{IsDrained}
 use Rattle.sg_call.specs.Handling.{handled_of, call_after, all_handled}
 use Rattle.sg_call.specs.Standing.{CallStandsFor}
-use Rattle.sg_call.specs.Values.{CallValue, WaitingValue}
+use Rattle.sg_call.specs.Values.{CallValue, QueuedValue}
 use Rattle.sg_gateway.specs.Batch.{Arrived, after, given_by, drained, own}
 use Rattle.sg_gateway.specs.Datagrams.{arrived_in}
 use Rattle.sg_gateway.specs.Ports.{has_port, is_in_slot}
@@ -50,17 +50,17 @@ module _ (pairs : List Pair) (now : ℕ) where
   ready_first call c s w h = record { stands = s; waits = subst (EachPair (Waits now) []) (sym w) tt; none_handled = h }
 
 -- what waits gives what the datagram gives
-gives_same : (now : ℕ) (c : Call) (a : Arrived) (w : WaitingValue) → Waits now a w → arrived_in w.now w.port w.from w.octets c ≡ given_by now c a
+gives_same : (now : ℕ) (c : Call) (a : Arrived) (w : QueuedValue) → Waits now a w → arrived_in w.now w.port w.from w.octets c ≡ given_by now c a
 gives_same now c a w h = let moment = h.moment in let port = h.port in let from = h.from in let octets = h.octets in (λ i. arrived_in (moment i) (port i) (from i) (octets i) c)
 
-pub waits_after : (now : ℕ) (c : Call) (came : List Arrived) (ws : List WaitingValue) → EachPair (Waits now) came ws → call_after c ws ≡ drained now c came
+pub waits_after : (now : ℕ) (c : Call) (came : List Arrived) (ws : List QueuedValue) → EachPair (Waits now) came ws → call_after c ws ≡ drained now c came
 waits_after now c [] [] h = refl
 waits_after now c [] (w ∷ ws) h = absurd h
 waits_after now c (a ∷ later) [] h = absurd h
 waits_after now c (a ∷ later) (w ∷ ws) h =
     ap (λ g. call_after (after g c) ws) (gives_same now c a w h.0) ∙ waits_after now (after (given_by now c a) c) later ws h.1
 
-pub waits_handled : (now : ℕ) (c : Call) (came : List Arrived) (ws : List WaitingValue) → EachPair (Waits now) came ws → map (λ h. h.1) (all_handled c ws) ≡ handled_all now c came
+pub waits_handled : (now : ℕ) (c : Call) (came : List Arrived) (ws : List QueuedValue) → EachPair (Waits now) came ws → map (λ h. h.1) (all_handled c ws) ≡ handled_all now c came
 waits_handled now c [] [] h = refl
 waits_handled now c [] (w ∷ ws) h = absurd h
 waits_handled now c (a ∷ later) [] h = absurd h

@@ -4,7 +4,7 @@ use Rattle.std.specs.List.{AllByRecursion, list_any}
 use Rattle.sg_base.specs.declared.faults.DropCause.TheVariants.{PortUnused}
 use Rattle.sg_call.specs.Handling.{handled_of}
 use Rattle.sg_call.specs.Standing.{CallStandsFor}
-use Rattle.sg_call.specs.Values.{CallValue, WaitingValue}
+use Rattle.sg_call.specs.Values.{CallValue, QueuedValue}
 use Rattle.sg_call.specs.declared.handled.End.TheVariants.{Dropped}
 use Rattle.sg_call.specs.declared.handled.Handled.{Handled}
 use Rattle.sg_gateway.specs.Batch.{Arrived, AreDrained, after, given_by, drained, delivered, own}
@@ -20,10 +20,10 @@ use Rattle.sg_table.specs.declared.arrival.Arrival.{Arrival}
 -- ---- calls and arrivals as lists
 
 -- a call with one datagram more that waits
-abbrev pub pushed : WaitingValue → CallValue → CallValue
+abbrev pub pushed : QueuedValue → CallValue → CallValue
 pushed a c = record c { waiting = c.waiting ++ a ∷ [] }
 
-abbrev pub pushed_at : WaitingValue → CallValue → CallValue
+abbrev pub pushed_at : QueuedValue → CallValue → CallValue
 pushed_at a c = if has_call_port a.port c then pushed a c else c
 
 -- a call without the first datagram that it has handled
@@ -33,7 +33,7 @@ popped c = record c { handled = drop 1 c.handled }
 abbrev pub popped_at : ℕ → CallValue → CallValue
 popped_at port c = if has_call_port port c then popped c else c
 
-abbrev pub waiting_of : ℕ → ℕ → Arrival → WaitingValue
+abbrev pub waiting_of : ℕ → ℕ → Arrival → QueuedValue
 waiting_of number now a = record { number = number; port = a.port; from = a.from; octets = octets_of a.pad; now = now }
 
 -- some call has this port
@@ -74,7 +74,7 @@ abbrev pub HasOctets : Arrival → Type 0
 HasOctets a = IsSome a.pad × AreOctets (octets_of a.pad)
 
 -- this datagram waits, to be handled at this moment
-pub record Waits (now : ℕ) (a : Arrived) (waiting : WaitingValue) : Type 0 where
+pub record Waits (now : ℕ) (a : Arrived) (waiting : QueuedValue) : Type 0 where
   pub port : waiting.port ≡ a.port
   pub from : waiting.from ≡ a.from
   pub octets : waiting.octets ≡ a.octets.items

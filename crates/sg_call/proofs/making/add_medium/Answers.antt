@@ -1,9 +1,9 @@
-use Rattle.sg_call.proofs.AddedPaths.{adds_four}
+use Rattle.sg_call.proofs.AddedRoutes.{adds_four}
 use Rattle.sg_call.proofs.making.add_medium.Goals as goal
 
 pub returns-clause-adds : goal.returns-clause-adds
 returns-clause-adds c =
-    adds_four c.args.slot c.args.spec c.args.paths.now.items c.add_opening.new.paths.items c.add_opening-2.new.paths.items c.add_sealing.new.paths.items c.add_sealing-2.new.paths.items
+    adds_four c.args.slot c.args.spec c.args.routes.now.items c.add_opening.new.routes.items c.add_opening-2.new.routes.items c.add_sealing.new.routes.items c.add_sealing-2.new.routes.items
     (c.add_opening.ensures.adds c.args.spec.secure) (c.add_opening-2.ensures.adds c.args.spec.secure) c.add_sealing.ensures.adds c.add_sealing-2.ensures.adds
 
 pub add_opening-requires-2-clause-can : goal.add_opening-requires-2-clause-can

@@ -1,4 +1,4 @@
-use Rattle.std.proofs.Common.{subst, ap, ◌∙◌, ◌∷◌, [], ◌++◌, Ok}
+use Rattle.std.proofs.Common.{subst, ap, ◌∙◌, ◌∷◌, [], Ok}
 use Rattle.sg_agreement.specs.Attributes.{ssrcs_of}
 use Rattle.sg_agreement.specs.CarriedTexts.{mikey_attribute}
 use Rattle.sg_agreement.specs.Keying.{OwnMessage}
@@ -18,8 +18,7 @@ returns-clause-keying c =
       p.1,
       record {
         keying = p.2.1;
-        session = c.in-Ok-push.ensures.ok ∙ ap (λ l. l ++ c.in-Ok-mikey_attribute.line ∷ []) c.new-session.ensures
-            ∙ ap (λ x. x ∷ []) (c.in-Ok-mikey_attribute.ensures ∙ ap mikey_attribute (c.as_slice-2.ensures ∙ p.2.0));
+        session = c.in-Ok-mikey_lines.ensures ∙ ap (λ o. mikey_attribute o ∷ []) (c.as_slice-2.ensures ∙ p.2.0);
         media = c.new.ensures.items;
       },
     )

@@ -17,12 +17,12 @@ returns-in-Ok-answer-clause-answer c k b stands books =
     let state : IsOffered b.pairs c.in-Offered.open k = subst (λ st. StateStandsFor b.pairs st k) (sym c.replace.ensures.value ∙ c.in-Offered.is) viewed.state_stands in
     let opened : IsOpen c.args.books.now.psks c.in-Offered.open state.offer = subst (λ ps. IsOpen ps c.in-Offered.open state.offer) (sym books.pairs) state.is_open in
     let (live_is, given) = c.in-Ok-answer.ensures.answer state.offer k.serial k.generations b.ring opened books.ring in
-    let adds : Adds c.self.inside.slot (planned c.in-Ok-answer.specs.items) [] c.add_all.new.paths.items =
-    subst (λ l. Adds c.self.inside.slot (planned c.in-Ok-answer.specs.items) l c.add_all.new.paths.items) c.in-Ok.ensures.items c.add_all.ensures in
+    let adds : Adds c.self.inside.slot (planned c.in-Ok-answer.specs.items) [] c.add_all.new.routes.items =
+    subst (λ l. Adds c.self.inside.slot (planned c.in-Ok-answer.specs.items) l c.add_all.new.routes.items) c.in-Ok.ensures.items c.add_all.ensures in
     subst (λ v. Settles CallStandsFor v c.in-Ok-answer.out c.answer.new.books (answered_in c.args.now b k c.args.noise.now c.args.text.now)) (sym c.renew.ensures)
-    (subst (λ l. Settles CallStandsFor (renewed_value (the_view c.self.inside) c.args.now l c.add_all.new.paths.items) c.in-Ok-answer.out c.answer.new.books (answered_in c.args.now b k c.args.noise.now c.args.text.now)) (sym live_is)
+    (subst (λ l. Settles CallStandsFor (renewed_value (the_view c.self.inside) c.args.now l c.add_all.new.routes.items) c.in-Ok-answer.out c.answer.new.books (answered_in c.args.now b k c.args.noise.now c.args.text.now)) (sym live_is)
     (answered_so c.args.now b k c.args.noise.now c.args.text.now state.offer state.is_offer c.args.books.now c.answer.new.books books c.in-Ok-answer.ensures.others
-    (the_view c.self.inside) viewed c.in-Offered.open state c.in-Ok-answer.out c.in-Ok-answer.specs.items c.add_all.new.paths.items
+    (the_view c.self.inside) viewed c.in-Offered.open state c.in-Ok-answer.out c.in-Ok-answer.specs.items c.add_all.new.routes.items
     (subst (λ n. IsGiven c.in-Ok-answer.out c.in-Ok-answer.specs.items c.answer.new.books.ring (answered_with n state.offer c.args.noise.now c.args.text.now k.serial k.generations b.ring)) state.slot_is given)
     adds))
 

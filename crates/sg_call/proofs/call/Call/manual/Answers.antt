@@ -16,8 +16,8 @@ returns-in-Ok-manual-clause-answer c k b stands books =
     let viewed : CallStandsFor b.pairs (the_view c.self.inside) k = subst (λ v. CallStandsFor b.pairs v k) (sym c.self.view_is) stands in
     let state : IsIdle c.in-Idle.idle k = subst (λ st. StateStandsFor b.pairs st k) (sym c.replace.ensures.value ∙ c.in-Idle.is) viewed.state_stands in
     let (live_is, begins) = c.in-Ok-manual.ensures.answer k.serial k.generations b.ring books.ring in
-    let adds : Adds c.self.inside.slot (planned_in c.in-Ok-manual.spec) [] c.add_medium.new.paths.items =
-    subst (λ l. Adds c.self.inside.slot (planned_in c.in-Ok-manual.spec) l c.add_medium.new.paths.items) c.in-Ok.ensures.items c.add_medium.ensures.adds in
+    let adds : Adds c.self.inside.slot (planned_in c.in-Ok-manual.spec) [] c.add_medium.new.routes.items =
+    subst (λ l. Adds c.self.inside.slot (planned_in c.in-Ok-manual.spec) l c.add_medium.new.routes.items) c.in-Ok.ensures.items c.add_medium.ensures.adds in
     subst (λ v. Settles CallStandsFor v [] c.manual.new.books (keyed_manually c.args.now b k x)) (sym c.renew.ensures)
-    (subst (λ l. Settles CallStandsFor (renewed_value (record (the_view c.self.inside) { media = 1 }) c.args.now l c.add_medium.new.paths.items) [] c.manual.new.books (keyed_manually c.args.now b k x)) (sym live_is)
-    (keyed_so c.args.now b k x c.in-Idle.idle state c.args.books.now c.manual.new.books books c.in-Ok-manual.ensures.others (the_view c.self.inside) viewed c.in-Ok-manual.spec c.add_medium.new.paths.items begins adds))
+    (subst (λ l. Settles CallStandsFor (renewed_value (record (the_view c.self.inside) { media = 1 }) c.args.now l c.add_medium.new.routes.items) [] c.manual.new.books (keyed_manually c.args.now b k x)) (sym live_is)
+    (keyed_so c.args.now b k x c.in-Idle.idle state c.args.books.now c.manual.new.books books c.in-Ok-manual.ensures.others (the_view c.self.inside) viewed c.in-Ok-manual.spec c.add_medium.new.routes.items begins adds))

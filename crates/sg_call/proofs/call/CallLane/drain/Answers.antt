@@ -1,11 +1,15 @@
-use Rattle.std.proofs.Common.{◌∙◌, sym, ap}
-use Rattle.std.proofs.lemmas.Bool.{eqb-true}
-use Rattle.std.proofs.lemmas.List.{nil_from_length}
-use Rattle.sg_call.proofs.Standing.{drained_all}
+use Rattle.std.proofs.Common.{◌≡◌, sym, subst}
+use Rattle.sg_call.proofs.Standing.{Drains, drained_none}
 use Rattle.sg_call.specs.Values.{CallValue}
+use Rattle.sg_call.specs.contracts.call.Call.{the_view}
 use Rattle.sg_call.proofs.call.CallLane.drain.Goals as goal
 
 pub returns : goal.returns
-returns c = drained_all c.args.self.now c.loop-self.self
-    (ap (λ (v : CallValue). v.waiting) (sym c.self.view_is) ∙ nil_from_length c.self.inside.waiting.items (sym c.self.inside.waiting.ok.0 ∙ eqb-true _ _ (sym c.loop-self-test.ensures)))
-    (c.loop-self.invariant.1, c.loop-self.invariant.2, c.loop-self.invariant.3) c.loop-self.invariant.0
+returns c =
+    drained_none c.args.self.now (the_view c.self.inside) c.next.new.self c.in_default.ensures.first c.in_default.ensures.rest
+    (subst (λ (v : CallValue). (v.slot ≡ c.args.self.now.slot) × (v.media ≡ c.args.self.now.media) × (v.id ≡ c.args.self.now.id)) (sym c.self.view_is)
+    (c.loop-queued.invariant.1, c.loop-queued.invariant.2, c.loop-queued.invariant.3))
+    (subst (Drains c.args.self.now) (sym c.self.view_is) c.loop-queued.invariant.0)
+
+pub handle-requires : goal.handle-requires
+handle-requires c = record { room = c.in-Some.ensures.room }
