@@ -1,5 +1,5 @@
 -- What a table holds after a signal, by what it settles.
-use Rattle.std.proofs.Common.{◌≡◌, ◌<◌, arith, get_or, ℕ, zero, suc, List, [], ◌∷◌, length, map, Option, Some, Result, Err, sym, ap, ◌∙◌, subst}
+use Rattle.std.proofs.Common.{◌≡◌, ◌<◌, arith, get_or, ℕ, zero, suc, List, [], ◌∷◌, ◌++◌, length, Option, Some, Result, Err, sym, ap, ◌∙◌, subst}
 use Rattle.std.proofs.Math.ListN.{set}
 use Rattle.std.proofs.lemmas.List.{set-get_or}
 use Rattle.std.specs.List.{insert}
@@ -28,6 +28,13 @@ use Rattle.sg_table.specs.Free.{free_shape}
 use Rattle.sg_table.specs.Standing.{Holds, TableStandsFor}
 use Rattle.sg_table.specs.Telling.{IsAnswered}
 use Rattle.sg_table.specs.Values.{TableValue, shapes_of, IsQuiet, AreQuiet}
+
+-- what is told first, and next
+pub told_one : (none more : List Outcome) (o : Outcome) → none ≡ [] → more ≡ none ++ o ∷ [] → more ≡ o ∷ []
+told_one none more o is e = e ∙ ap (λ l. l ++ o ∷ []) is
+
+pub told_two : (none one more : List Outcome) (o p : Outcome) → none ≡ [] → one ≡ none ++ o ∷ [] → more ≡ one ++ p ∷ [] → more ≡ o ∷ p ∷ []
+told_two none one more o p is e f = f ∙ ap (λ l. l ++ p ∷ []) (told_one none one o is e)
 
 -- the calls of a world of a run stand in order
 pub order_of : ((events : List Event) → EachWorldIsOrderly events) → (table : TableValue) (w : World) → TableStandsFor table w → Pairs IsBefore w.calls

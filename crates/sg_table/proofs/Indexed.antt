@@ -1,24 +1,125 @@
--- The positions of calls, by slot.
-use Rattle.std.proofs.Common.{inl, inr, ◌≡◌, ℕ, ◌+◌, ◌<◌, Bool, cond, List, [], ◌∷◌, length, get_or, Option, Some, refl, sym, ap, ◌∙◌, subst, arith, eqb}
+-- The positions of calls, by slot, written in one pass over the calls; and calls of the same slots have the same ones.
+use Rattle.std.proofs.Common.{inl, inr, ◌≡◌, ℕ, zero, suc, ◌+◌, ◌<◌, ◌≤◌, Bool, true, false, cond, List, [], ◌∷◌, ◌++◌, length, get_or, replicate, take, map, Option, Some, None, refl, sym, ap, ◌∙◌, subst, arith, eqb}
 use Rattle.std.proofs.Math.ListN.{set}
-use Rattle.std.proofs.lemmas.Bool.{cases_Bool, eqb-true, eq-eqb, false≢true}
+use Rattle.std.proofs.Math.Seq.{take-suc}
+use Rattle.std.proofs.lemmas.Bool.{cases_Bool, eqb-true, eq-eqb, ne_eqb, false≢true}
 use Rattle.std.proofs.lemmas.Iterator.Adapters.{position_from-zero}
-use Rattle.std.proofs.lemmas.List.{get_or-set_same, get_or-set_other}
-use Rattle.std.specs.List.{position, position_from}
+use Rattle.std.proofs.lemmas.List.{get_or-replicate, get_or-set_same, get_or-set_other, length-replicate}
+use Rattle.std.specs.List.{AllByRecursion, position_from}
 use Rattle.sg_call.specs.Values.{CallValue}
-use Rattle.sg_table.specs.Values.{Shape, shape_of, shapes_of, is_at_slot}
+use Rattle.sg_table.specs.Values.{Shape, shape_of, shapes_of, AreIndexed, AreRising}
 
-pub position_map : (p : Shape → Bool) (k : ℕ) (calls : List CallValue) → position_from p k (shapes_of calls) ≡ position_from (λ c. p (shape_of c)) k calls
-position_map p k [] = refl
-position_map p k (c ∷ cs) = ap (λ o. cond (p (shape_of c)) (Some k) o) (position_map p (k + 1) cs)
+abbrev pub is_at : ℕ → Shape → Bool
+is_at slot s = eqb s.slot slot
 
-pub at_slot_is : (slot : ℕ) (calls : List CallValue) → position (is_at_slot slot) calls ≡ position (λ (s : Shape). eqb s.slot slot) (shapes_of calls)
-at_slot_is slot calls = position_from-zero (is_at_slot slot) calls ∙ sym (position_map (λ s. eqb s.slot slot) 0 calls) ∙ sym (position_from-zero (λ (s : Shape). eqb s.slot slot) (shapes_of calls))
+-- ---- one call more is written
 
--- one place more is written
-pub index_next : (places : List (Option ℕ)) (n : ℕ) (F : ℕ → Option ℕ) (new : Option ℕ) → n < length places → new ≡ F n → ((s : ℕ) (d : Option ℕ) → s < n → get_or places s d ≡ F s)
-    → (s : ℕ) (d : Option ℕ) → s < n + 1 → get_or (set places n new) s d ≡ F s
-index_next places n F new lt is before s d le = elim (cases_Bool (eqb s n)) [
-  | inl y ↦ (let same : s ≡ n = eqb-true s n y in subst (λ t. get_or (set places n new) t d ≡ F t) (sym same) (get_or-set_same places n new d lt ∙ is))
-  | inr x ↦ (let differ : s ≡ n → ⊥ = (λ e. false≢true (sym x ∙ eq-eqb s n e)) in get_or-set_other places n s new d differ ∙ before s d (omega (arith, le, differ)))
-]
+-- the calls before one have other slots
+slot_above : (s : Shape) (ss : List Shape) (k : ℕ) (d : Shape) → AllByRecursion (λ (t : Shape). s.slot < t.slot) ss → k < length ss → s.slot < (get_or ss k d).slot
+slot_above s [] k d p lt = absurd (omega (arith, lt))
+slot_above s (t ∷ ss) zero d p lt = p.0
+slot_above s (t ∷ ss) (suc k) d p lt = slot_above s ss k d p.1 (omega (arith, lt))
+
+none_before : (ss : List Shape) (k j : ℕ) (d : Shape) → AreRising ss → k < length ss → position_from (is_at (get_or ss k d).slot) j (take k ss) ≡ None
+none_before [] k j d r lt = absurd (omega (arith, lt))
+none_before (s ∷ ss) zero j d r lt = refl
+none_before (s ∷ ss) (suc k) j d r lt =
+    let above = slot_above s ss k d r.2 (omega (arith, lt)) in
+    let other : eqb s.slot (get_or ss k d).slot ≡ false = ne_eqb _ _ (λ e. omega (arith, above, e)) in
+    ap (λ b. cond b (Some j) (position_from (is_at (get_or ss k d).slot) (j + 1) (take k ss))) other ∙ none_before ss k (j + 1) d r.3 (omega (arith, lt))
+
+-- a call behind others: its own slot has its position, and the other slots what they had
+last_at : (slot j : ℕ) (s : Shape) (ss : List Shape) → eqb s.slot slot ≡ true → position_from (is_at slot) j ss ≡ None → position_from (is_at slot) j (ss ++ s ∷ []) ≡ Some (j + length ss)
+last_at slot j s [] is e =
+    let at : j ≡ j + 0 = omega arith in ap (λ b. cond b (Some j) None) is ∙ ap (λ n. Some n) at
+last_at slot j s (t ∷ ss) is e = go (eqb t.slot slot) e (last_at slot (j + 1) s ss is)
+  where
+    go : (b : Bool) → cond b (Some j) (position_from (is_at slot) (j + 1) ss) ≡ None
+        → (position_from (is_at slot) (j + 1) ss ≡ None → position_from (is_at slot) (j + 1) (ss ++ s ∷ []) ≡ Some (j + 1 + length ss))
+        → cond b (Some j) (position_from (is_at slot) (j + 1) (ss ++ s ∷ [])) ≡ Some (j + suc (length ss))
+    go true e rest = absurd cc
+    go false e rest = let at : j + 1 + length ss ≡ j + suc (length ss) = omega arith in rest e ∙ ap (λ n. Some n) at
+
+other_at : (slot j : ℕ) (s : Shape) (ss : List Shape) → eqb s.slot slot ≡ false → position_from (is_at slot) j (ss ++ s ∷ []) ≡ position_from (is_at slot) j ss
+other_at slot j s [] other = ap (λ b. cond b (Some j) None) other
+other_at slot j s (t ∷ ss) other = ap (λ o. cond (eqb t.slot slot) (Some j) o) (other_at slot (j + 1) s ss other)
+
+length_taken : (ss : List Shape) (k : ℕ) → k < length ss → length (take k ss) ≡ k
+length_taken [] k lt = absurd (omega (arith, lt))
+length_taken (s ∷ ss) zero lt = refl
+length_taken (s ∷ ss) (suc k) lt = ap suc (length_taken ss k (omega (arith, lt)))
+
+-- the first k calls are written
+abbrev pub AreWritten : List (Option ℕ) → ℕ → List Shape → Type 0
+AreWritten places k shapes = (slot : ℕ) (d : Option ℕ) → slot < 256 → get_or places slot d ≡ position_from (is_at slot) 0 (take k shapes)
+
+written_next : (places : List (Option ℕ)) (k : ℕ) (shapes : List Shape) (s : Shape) → length places ≡ 256 → AreRising shapes → k < length shapes → s ≡ get_or shapes k s
+    → AreWritten places k shapes → AreWritten (set places s.slot (Some k)) (k + 1) shapes
+written_next places k shapes s all rising lt is before slot d le =
+    let more : take (k + 1) shapes ≡ take k shapes ++ s ∷ [] =
+    ap (λ n. take n shapes) (let e : k + 1 ≡ suc k = omega arith in e) ∙ take-suc shapes k s lt ∙ ap (λ t. take k shapes ++ t ∷ []) (sym is) in
+    elim (cases_Bool (eqb s.slot slot)) [
+      | inl y ↦ (
+          let same : s.slot ≡ slot = eqb-true s.slot slot y in
+          let none : position_from (is_at slot) 0 (take k shapes) ≡ None =
+          subst (λ n. position_from (is_at n) 0 (take k shapes) ≡ None) (ap (λ (t : Shape). t.slot) (sym is) ∙ same) (none_before shapes k 0 s rising lt) in
+          subst (λ n. get_or (set places n (Some k)) slot d ≡ Some k) (sym same) (get_or-set_same places slot (Some k) d (omega (arith, le, all)))
+          ∙ sym (ap (position_from (is_at slot) 0) more ∙ last_at slot 0 s (take k shapes) y none ∙ ap (λ n. Some n) (let len = length_taken shapes k lt in let e : 0 + length (take k shapes) ≡ k = omega (arith, len) in e))
+          )
+      | inr x ↦ (
+          let differ : slot ≡ s.slot → ⊥ = (λ e. false≢true (sym x ∙ eq-eqb s.slot slot (sym e))) in
+          get_or-set_other places s.slot slot (Some k) d differ ∙ before slot d le ∙ sym (ap (position_from (is_at slot) 0) more ∙ other_at slot 0 s (take k shapes) x)
+          )
+    ]
+
+-- ---- of calls
+
+shape_at : (calls : List CallValue) (k : ℕ) (call : CallValue) → k < length calls → get_or (shapes_of calls) k (shape_of call) ≡ shape_of (get_or calls k call)
+shape_at [] k call lt = absurd (omega (arith, lt))
+shape_at (c ∷ cs) zero call lt = refl
+shape_at (c ∷ cs) (suc k) call lt = shape_at cs k call (omega (arith, lt))
+
+count_shapes : (calls : List CallValue) → length (shapes_of calls) ≡ length calls
+count_shapes [] = refl
+count_shapes (c ∷ cs) = ap suc (count_shapes cs)
+
+pub call_written : (places : List (Option ℕ)) (k : ℕ) (calls : List CallValue) (call : CallValue) → length places ≡ 256 → AreRising (shapes_of calls) → k < length calls → call ≡ get_or calls k call
+    → AreWritten places k (shapes_of calls) → AreWritten (set places call.slot (Some k)) (k + 1) (shapes_of calls)
+call_written places k calls call all rising lt is before =
+    written_next places k (shapes_of calls) (shape_of call) all rising (subst (λ n. k < n) (sym (count_shapes calls)) lt) (ap shape_of is ∙ sym (shape_at calls k call lt)) before
+
+take_all : (ss : List Shape) (k : ℕ) → length ss ≤ k → take k ss ≡ ss
+take_all [] zero le = refl
+take_all [] (suc k) le = refl
+take_all (s ∷ ss) zero le = absurd (omega (arith, le))
+take_all (s ∷ ss) (suc k) le = ap (λ l. s ∷ l) (take_all ss k (omega (arith, le)))
+
+pub all_written : (places : List (Option ℕ)) (k : ℕ) (calls : List CallValue) → length places ≡ 256 → length calls ≤ k → AreWritten places k (shapes_of calls) → AreIndexed places (shapes_of calls)
+all_written places k calls all le written = record {
+  all = all;
+  at = λ slot d lt. written slot d lt ∙ ap (position_from (is_at slot) 0) (take_all (shapes_of calls) k (subst (λ n. n ≤ k) (sym (count_shapes calls)) le)) ∙ sym (position_from-zero (is_at slot) (shapes_of calls));
+}
+
+-- where no calls are
+abbrev no_place : Option ℕ
+no_place = None
+
+pub empty_indexed : (calls : List CallValue) → calls ≡ [] → AreIndexed (replicate 256 None) (shapes_of calls)
+empty_indexed calls none = subst (λ l. AreIndexed (replicate 256 None) (shapes_of l)) (sym none) (record { all = length-replicate 256 no_place; at = λ slot d lt. get_or-replicate 256 slot no_place d lt })
+
+-- ---- where calls keep their slots
+
+abbrev pub slots_of : List Shape → List ℕ
+slots_of shapes = map (λ (s : Shape). s.slot) shapes
+
+same_position : (slot k : ℕ) (ss : List Shape) → position_from (is_at slot) k ss ≡ position_from (λ n. eqb n slot) k (slots_of ss)
+same_position slot k [] = refl
+same_position slot k (s ∷ ss) = ap (λ o. cond (eqb s.slot slot) (Some k) o) (same_position slot (k + 1) ss)
+
+pub indexed_still : (places : List (Option ℕ)) (old new : List Shape) → slots_of new ≡ slots_of old → AreIndexed places old → AreIndexed places new
+indexed_still places old new same indexed = record {
+  all = indexed.all;
+  at = λ slot d lt.
+      indexed.at slot d lt ∙ position_from-zero (is_at slot) old ∙ same_position slot 0 old ∙ ap (position_from (λ n. eqb n slot) 0) (sym same) ∙ sym (same_position slot 0 new)
+      ∙ sym (position_from-zero (is_at slot) new);
+}

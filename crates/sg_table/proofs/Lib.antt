@@ -10,6 +10,7 @@ pub mod Found
 pub mod FreeSlot
 pub mod Gathering
 pub mod Indexed
+pub mod KeptSlots
 pub mod Orders
 pub mod Outing
 pub mod PairAdded

@@ -1,10 +1,10 @@
 -- What a table holds after a tick.
-use Rattle.std.proofs.Common.{◌≡◌, ℕ, zero, suc, ◌+◌, ◌<◌, ◌≤◌, Bool, true, false, cond, not, List, [], ◌∷◌, ◌++◌, length, get_or, map, take, Option, Some, None, refl, sym, ap, ◌∙◌, subst, arith, eqb, leb, ltb, inl, inr}
+use Rattle.std.proofs.Common.{◌≡◌, ℕ, zero, suc, ◌+◌, ◌<◌, ◌≤◌, Bool, true, false, cond, not, ◌||◌, List, [], ◌∷◌, ◌++◌, length, get_or, map, take, None, refl, sym, ap, ◌∙◌, subst, arith, eqb, leb, ltb, inl, inr}
 use Rattle.std.proofs.Math.ListN.{set}
 use Rattle.std.proofs.lemmas.Bool.{cases_Bool, eqb-true, eq-eqb, false≢true, lt-ltb, le-ltb}
 use Rattle.std.proofs.Math.Seq.{take-suc}
 use Rattle.std.proofs.lemmas.List.{get_or-set_same, get_or-set_other, map-append}
-use Rattle.std.specs.List.{filter}
+use Rattle.std.specs.List.{filter, list_any}
 use Rattle.sg_base.specs.declared.faults.Refusal.TheVariants.{TickBack}
 use Rattle.sg_call.proofs.Passing.{filter_append}
 use Rattle.sg_call.specs.Standing.{CallStandsFor}
@@ -102,6 +102,41 @@ module _ (calls : List CallValue) (books : Books) (last now : ℕ) (w : World) (
           quiet = quiet_ticked now awake new ticks (subst AreQuiet (sym are) (quiet_kept (λ c. not (idles now c)) calls holds.quiet));
         };
       })
+
+-- where no call is idle
+none_idle : (now : ℕ) (calls : List CallValue) → list_any (idles now) calls ≡ false → (filter (idles now) calls ≡ []) × (filter (λ c. not (idles now c)) calls ≡ calls)
+none_idle now [] e = (refl, refl)
+none_idle now (c ∷ cs) e = go (idles now c) e (none_idle now cs)
+  where
+    go : (b : Bool) → (b || list_any (idles now) cs) ≡ false → (list_any (idles now) cs ≡ false → (filter (idles now) cs ≡ []) × (filter (λ c. not (idles now c)) cs ≡ cs))
+        → (cond b (c ∷ filter (idles now) cs) (filter (idles now) cs) ≡ []) × (cond (not b) (c ∷ filter (λ c. not (idles now c)) cs) (filter (λ c. not (idles now c)) cs) ≡ c ∷ cs)
+    go true e rest = absurd (false≢true (sym e))
+    go false e rest = let r = rest e in (r.0, ap (λ l. c ∷ l) r.1)
+
+-- where one is
+some_idle : (now : ℕ) (calls : List CallValue) → list_any (idles now) calls ≡ true → map (ended_as why.Idle) (filter (idles now) calls) ≡ [] → ⊥
+some_idle now [] e none = false≢true e
+some_idle now (c ∷ cs) e none = go (idles now c) e none (some_idle now cs)
+  where
+    go : (b : Bool) → (b || list_any (idles now) cs) ≡ true → map (ended_as why.Idle) (cond b (c ∷ filter (idles now) cs) (filter (idles now) cs)) ≡ []
+        → (list_any (idles now) cs ≡ true → map (ended_as why.Idle) (filter (idles now) cs) ≡ [] → ⊥) → ⊥
+    go true e none rest = cc
+    go false e none rest = rest e none
+
+module _ (calls : List CallValue) (books : Books) (last now : ℕ) (w : World) (holds : Holds (record { calls = calls; books = books; moment = last }) w) where
+  pub tick_quiet : (new : List CallValue) → last ≤ now → list_any (idles now) calls ≡ false → EachPair (IsTicked now) calls new → IsAnswered [] (record { calls = new; books = books; moment = now }) (ticked w now)
+  tick_quiet new le quiet ticks =
+      let none = none_idle now calls quiet in
+      tick_on calls books last now w holds [] calls new le (sym (ap (map (ended_as why.Idle)) none.0)) (sym none.1) ticks
+
+  pub back_tells : now < last → (ticked w now).outcomes ≡ [] → ⊥
+  back_tells lt none =
+      let told : Refused None (TickBack w.moment) ∷ [] ≡ [] = sym (ap (λ (a : Answer). a.outcomes) (ticked_by calls books last now w holds [] true (lt-ltb now last lt))) ∙ none in
+      cc
+
+  pub idle_tells : last ≤ now → list_any (idles now) calls ≡ true → (ticked w now).outcomes ≡ [] → ⊥
+  idle_tells le some none =
+      some_idle now calls some (told_same w.books.pairs now calls w.calls holds.calls ∙ sym (ap (λ (a : Answer). a.outcomes) (ticked_by calls books last now w holds [] false (le-ltb now last le))) ∙ none)
 
 -- the calls before this position are ticked
 pub record Ticks (now k : ℕ) (old calls : List CallValue) : Type 0 where

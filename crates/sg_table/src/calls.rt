@@ -1,16 +1,14 @@
 //! The calls that are there, and what they share.
 
-ghost use Rattle.std.specs.Prelude.{◌≡◌, IfOk, OnErr, IsSome, IfSome, ◌≤◌, length, false};
+ghost use Rattle.std.specs.Prelude.{◌≡◌, [], OnOk, OnErr, IsSome, length, false};
 ghost use Rattle.sg_gateway.specs.Early.{MayWant};
 ghost use Rattle.sg_gateway.specs.Events.{noise_octets, signal_lacks_noise, signal_of};
 ghost use Rattle.sg_gateway.specs.Signals.{answer_to};
 ghost use Rattle.sg_gateway.specs.World.{World};
 ghost use Rattle.sg_table.specs.Standing.{Stands, TableStandsFor};
 ghost use Rattle.sg_table.specs.Telling.{IsAnswered, IsTimely};
-ghost use Rattle.sg_table.specs.Values.{AreIndexed, shapes_of};
 
-use crate::places;
-use crate::told::Outcomes;
+use crate::outcomes::Outcomes;
 use sg_base::{Identity, NoMemory, Noise304};
 use sg_call::Call;
 use sg_leg::{Books, Way};
@@ -59,26 +57,34 @@ fn copy_of(name: &Identity) -> Identity
 }
 
 impl Calls {
-    /// Writes of each slot the position of its call.
-    pub(crate) fn index(&self, places: &mut [Option<u8>])
-        requires all { length places.old ≡ 256 }
-        ensures { AreIndexed places.new (shapes_of self.now.calls) }
+    /// The number of calls.
+    pub(crate) fn count(&self) -> usize
+        ensures { result ≡ length self.now.calls }
     {
-        places::index(&self.by_slot, places);
+        self.by_slot.len()
     }
 
     /// Takes a signal and tells its outcomes. Out of memory, nothing has changed.
-    pub(crate) fn take(&mut self, alloc: Global, signal: &Signal) -> Result<Outcomes, NoMemory>
+    pub(crate) fn take(
+        &mut self,
+        alloc: Global,
+        signal: &Signal,
+        told: &mut Outcomes,
+    ) -> Result<(), NoMemory>
         requires noise { signal_lacks_noise signal.now ≡ false }
         requires timely { IsTimely signal.now }
         requires stands { Stands self.old }
-        ensures told { IfOk result (λ told. (w : World) → TableStandsFor self.old w → IsAnswered told.items self.new (answer_to w (signal_of signal.now))) }
+        requires none { told.old.items ≡ [] }
+        ensures told { OnOk result ((w : World) → TableStandsFor self.old w → IsAnswered told.new.items self.new (answer_to w (signal_of signal.now))) }
         ensures same { OnErr result (self.new ≡ self.old) }
         ensures needs { OnErr result ((w : World) → TableStandsFor self.old w → MayWant w (signal_of signal.now)) }
     {
         match signal {
-            Signal::Tick { now } => Ok(self.tick(*now)),
-            Signal::Psk { own, peer, key } => self.psk(alloc, own, peer, key.as_slice()),
+            Signal::Tick { now } => {
+                self.tick(*now, told);
+                Ok(())
+            }
+            Signal::Psk { own, peer, key } => self.psk(alloc, own, peer, key.as_slice(), told),
             Signal::Manual {
                 call,
                 secure,
@@ -88,7 +94,7 @@ impl Calls {
                 from_peer,
                 to_peer,
             } => self.manual(
-                alloc, *call, *secure, *plain, *roc, *window, from_peer, to_peer,
+                alloc, *call, *secure, *plain, *roc, *window, from_peer, to_peer, told,
             ),
             Signal::OfferSecure { call, noise, text } => self.offer(
                 alloc,
@@ -96,6 +102,7 @@ impl Calls {
                 Way::FromSecure,
                 given(noise),
                 text.as_slice(),
+                told,
             ),
             Signal::OfferSdes { call, noise, text } => self.offer(
                 alloc,
@@ -103,6 +110,7 @@ impl Calls {
                 Way::SdesFromPlain,
                 given(noise),
                 text.as_slice(),
+                told,
             ),
             Signal::OfferMikey {
                 call,
@@ -111,13 +119,19 @@ impl Calls {
                 text,
             } => {
                 let way = Way::MikeyFromPlain(copy_of(peer));
-                self.offer(alloc, *call, way, given(noise), text.as_slice())
+                self.offer(alloc, *call, way, given(noise), text.as_slice(), told)
             }
             Signal::Answer { call, noise, text } => {
-                self.answer(alloc, *call, given(noise), text.as_slice())
+                self.answer(alloc, *call, given(noise), text.as_slice(), told)
             }
-            Signal::Reject { call } => Ok(self.reject(*call)),
-            Signal::Bye { call } => Ok(self.bye(*call)),
+            Signal::Reject { call } => {
+                self.reject(*call, told);
+                Ok(())
+            }
+            Signal::Bye { call } => {
+                self.bye(*call, told);
+                Ok(())
+            }
         }
     }
 }

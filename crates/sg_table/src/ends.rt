@@ -1,6 +1,7 @@
 //! Ticks, and the signals that end calls. They don't allocate.
 
-ghost use Rattle.std.specs.Prelude.{◌≡◌, ◌<◌, ◌≤◌, [], ◌∷◌, map, filter, not, length, vec_len, vec_capacity};
+ghost use Rattle.std.specs.Prelude.{◌≡◌, ◌≢◌, ◌<◌, ◌≤◌, [], map, filter, not, true, false, length, vec_len, vec_capacity};
+ghost use Rattle.std.specs.List.{list_any};
 ghost use Rattle.sg_gateway.specs.Signals.{left, rejected, ticked};
 ghost use Rattle.sg_gateway.specs.World.{World, call_of};
 ghost use Rattle.sg_leg.specs.Pairs.{EachPair};
@@ -10,9 +11,9 @@ ghost use Rattle.sg_table.specs.Standing.{TableStandsFor};
 ghost use Rattle.sg_table.specs.Telling.{IsAnswered};
 
 use crate::calls::Calls;
+use crate::outcomes::Outcomes;
 use crate::places::position_of;
 use crate::signals::refused;
-use crate::told::{Outcomes, nothing, one, tell};
 use sg_base::{CallId, IDLE_MILLIS, Refusal};
 use sg_call::Call;
 use sg_gateway::calls_in_order;
@@ -20,58 +21,82 @@ use sg_outcome::{Outcome, Why};
 
 impl Calls {
     /// A tick. Idle calls end, in order of slot; the others take this moment, which is not before the last one.
-    pub(crate) fn tick(&mut self, now: u64) -> Outcomes
+    pub(crate) fn tick(&mut self, now: u64, told: &mut Outcomes)
         requires timely { now ≤ 2085978495999 }
-        ensures { (w : World) → TableStandsFor self.old w → IsAnswered result.items self.new (ticked w now) }
+        requires none { told.old.items ≡ [] }
+        ensures { (w : World) → TableStandsFor self.old w → IsAnswered told.new.items self.new (ticked w now) }
     {
         if now < self.moment {
-            return one(Outcome::Refused {
+            told.push(Outcome::Refused {
                 call: None,
                 cause: Refusal::TickBack { last: self.moment },
             });
+            return;
         }
-        let told = tell_idle(&self.by_slot, now);
+        tell_idle(&self.by_slot, now, told);
         drop_idle(&mut self.by_slot, now);
         tick_each(&mut self.by_slot, now);
         self.moment = now;
-        told
+    }
+
+    /// A tick that is not before the last one, where no call is idle: the calls take this moment. Else nothing is
+    /// done, and it is false.
+    pub(crate) fn tick_quietly(&mut self, now: u64) -> bool
+        requires timely { now ≤ 2085978495999 }
+        ensures told { result ≡ true → (w : World) → TableStandsFor self.old w → IsAnswered [] self.new (ticked w now) }
+        ensures tells { result ≡ false → (w : World) → TableStandsFor self.old w → (ticked w now).outcomes ≢ [] }
+        ensures same { result ≡ false → self.new ≡ self.old }
+        ensures count { length self.new.calls ≡ length self.old.calls }
+    {
+        if now < self.moment {
+            return false;
+        }
+        if has_idle(&self.by_slot, now) {
+            return false;
+        }
+        tick_each(&mut self.by_slot, now);
+        self.moment = now;
+        true
     }
 
     /// The open offer of a call is rejected. A call without a generation ends.
-    pub(crate) fn reject(&mut self, id: CallId) -> Outcomes
-        ensures { (w : World) → TableStandsFor self.old w → IsAnswered result.items self.new (rejected w id (call_of w id)) }
+    pub(crate) fn reject(&mut self, id: CallId, told: &mut Outcomes)
+        requires none { told.old.items ≡ [] }
+        ensures { (w : World) → TableStandsFor self.old w → IsAnswered told.new.items self.new (rejected w id (call_of w id)) }
     {
         calls_in_order();
         let Some(i) = position_of(&self.by_slot, id) else {
-            return refused(id, Refusal::CallUnknown);
+            refused(id, Refusal::CallUnknown, told);
+            return;
         };
         let (slot, media) = place_of(&self.by_slot[i]);
         match reject_at(&mut self.by_slot, i, self.moment) {
-            Ok(true) => nothing(),
+            Ok(true) => {}
             Ok(false) => {
                 drop(self.by_slot.remove(i));
-                one(Outcome::Ended {
+                told.push(Outcome::Ended {
                     call: id,
                     slot,
                     media,
                     why: Why::Rejected,
-                })
+                });
             }
-            Err(cause) => refused(id, cause),
+            Err(cause) => refused(id, cause, told),
         }
     }
 
     /// A call ends.
-    pub(crate) fn bye(&mut self, id: CallId) -> Outcomes
-        ensures { (w : World) → TableStandsFor self.old w → IsAnswered result.items self.new (left w id (call_of w id)) }
+    pub(crate) fn bye(&mut self, id: CallId, told: &mut Outcomes)
+        requires none { told.old.items ≡ [] }
+        ensures { (w : World) → TableStandsFor self.old w → IsAnswered told.new.items self.new (left w id (call_of w id)) }
     {
         calls_in_order();
         let Some(i) = position_of(&self.by_slot, id) else {
-            return refused(id, Refusal::CallUnknown);
+            refused(id, Refusal::CallUnknown, told);
+            return;
         };
-        let told = ended(&self.by_slot[i], Why::Bye);
+        told.push(ended(&self.by_slot[i], Why::Bye));
         drop(self.by_slot.remove(i));
-        one(told)
     }
 }
 
@@ -107,18 +132,24 @@ fn idles(call: &Call, now: u64) -> bool
     now >= IDLE_MILLIS && call.moment() <= now - IDLE_MILLIS
 }
 
-/// Tells which calls are idle.
-fn tell_idle(calls: &[Call], now: u64) -> Outcomes
-    requires few { length calls.now ≤ 256 }
-    ensures { result.items ≡ map (ended_as whys.Idle) (filter (idles now) calls.now) }
+/// Whether a call is idle.
+fn has_idle(calls: &[Call], now: u64) -> bool
+    ensures { result ≡ list_any (idles now) calls.now }
 {
-    let mut told = nothing();
+    calls.iter().any(|call| idles(call, now))
+}
+
+/// Tells which calls are idle.
+fn tell_idle(calls: &[Call], now: u64, told: &mut Outcomes)
+    requires few { length calls.now ≤ 256 }
+    requires none { told.old.items ≡ [] }
+    ensures { told.new.items ≡ map (ended_as whys.Idle) (filter (idles now) calls.now) }
+{
     for call in calls.iter() {
         if idles(call, now) {
-            tell(&mut told, ended(call, Why::Idle));
+            told.push(ended(call, Why::Idle));
         }
     }
-    told
 }
 
 /// Drops the calls that are idle.

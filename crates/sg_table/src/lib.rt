@@ -9,15 +9,15 @@ mod delivery;
 mod ends;
 mod laws;
 mod octets;
+mod outcomes;
 mod pairs;
 mod places;
 mod ports;
 mod signals;
 mod table;
-mod told;
 
 pub use arrival::Arrival;
 pub use laws::{every_order_gives_the_same, only_its_own_call_counts};
+pub use outcomes::Outcomes;
 pub use sg_call::{End, Handled};
 pub use table::Table;
-pub use told::Outcomes;

@@ -1,6 +1,6 @@
 //! Pre-shared keys.
 
-ghost use Rattle.std.specs.Prelude.{◌≡◌, IfOk, OnErr, None};
+ghost use Rattle.std.specs.Prelude.{◌≡◌, [], OnOk, OnErr, None};
 ghost use Rattle.sg_gateway.specs.Early.{early};
 ghost use Rattle.sg_gateway.specs.Signals.{with_pair};
 ghost use Rattle.sg_gateway.specs.Signals as signals;
@@ -10,7 +10,7 @@ ghost use Rattle.sg_table.specs.Standing.{TableStandsFor};
 ghost use Rattle.sg_table.specs.Telling.{IsAnswered};
 
 use crate::calls::Calls;
-use crate::told::{Outcomes, nothing, one};
+use crate::outcomes::Outcomes;
 use sg_base::{Fault, Identity, NoMemory};
 use sg_outcome::Outcome;
 use std::alloc::Global;
@@ -24,14 +24,19 @@ impl Calls {
         own: &Identity,
         peer: &Identity,
         key: &[u8],
-    ) -> Result<Outcomes, NoMemory>
-        ensures told { IfOk result (λ told. (w : World) → TableStandsFor self.old w → IsAnswered told.items self.new (with_pair w (pair_of own.now peer.now key.now))) }
+        told: &mut Outcomes,
+    ) -> Result<(), NoMemory>
+        requires none { told.old.items ≡ [] }
+        ensures told { OnOk result ((w : World) → TableStandsFor self.old w → IsAnswered told.new.items self.new (with_pair w (pair_of own.now peer.now key.now))) }
         ensures same { OnErr result (self.new ≡ self.old) }
         ensures needs { OnErr result ((w : World) → TableStandsFor self.old w → early w (signals.Psk (pair_of own.now peer.now key.now)) ≡ None) }
     {
         match self.books.psks.add(alloc, own, peer, key) {
-            Ok(()) => Ok(nothing()),
-            Err(Fault::Refused(cause)) => Ok(one(Outcome::Refused { call: None, cause })),
+            Ok(()) => Ok(()),
+            Err(Fault::Refused(cause)) => {
+                told.push(Outcome::Refused { call: None, cause });
+                Ok(())
+            }
             Err(Fault::NoMemory) => Err(NoMemory),
         }
     }

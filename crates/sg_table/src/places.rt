@@ -4,8 +4,9 @@ ghost use Rattle.std.specs.Prelude.{◌≡◌, ◌<◌, ◌≤◌, ◌+◌, List
 ghost use Rattle.sg_gateway.specs.World.{same_id};
 ghost use Rattle.sg_table.specs.Found.{has_id};
 ghost use Rattle.sg_table.specs.Free.{free_shape};
-ghost use Rattle.sg_table.specs.Values.{AreIndexed, shapes_of, is_at_slot};
+ghost use Rattle.sg_table.specs.Values.{AreIndexed, AreRising, shapes_of};
 
+use crate::calls::Calls;
 use sg_base::{CALLS_MOST, CallId};
 use sg_call::Call;
 
@@ -60,39 +61,16 @@ pub(crate) fn put_in(calls: &mut Vec<Call>, slot: u8, call: Call)
     let _ = calls.insert(usize::from(slot), call);
 }
 
-/// The position of the call in a slot.
-fn at_slot(calls: &[Call], slot: usize) -> Option<u8>
-    requires few { length calls.now ≤ 256 }
-    ensures { result ≡ position (is_at_slot slot) calls.now }
-{
-    match find(calls, slot) {
-        None => None,
-        Some(i) => Some(i as u8),
-    }
-}
-
-/// The same, as a position in the list.
-fn find(calls: &[Call], slot: usize) -> Option<usize>
-    ensures value { result ≡ position (is_at_slot slot) calls.now }
-    ensures within { IfSome result (λ i. i < length calls.now) }
-{
-    calls.iter().position(|call| is_at(call, slot))
-}
-
-/// Whether a call is in this slot.
-fn is_at(call: &Call, slot: usize) -> bool
-    ensures { result ≡ is_at_slot slot call.now }
-{
-    usize::from(call.slot()) == slot
-}
-
-/// Writes of each slot the position of its call.
-pub(crate) fn index(calls: &[Call], places: &mut [Option<u8>])
-    requires few { length calls.now ≤ 256 }
-    requires all { length places.old ≡ 256 }
-    ensures { AreIndexed places.new (shapes_of calls.now) }
-{
-    for (slot, place) in places.iter_mut().enumerate() {
-        *place = at_slot(calls, slot);
+impl Calls {
+    /// Writes of each slot the position of its call.
+    pub(crate) fn index(&self, places: &mut [Option<u8>])
+        requires rising { AreRising (shapes_of self.now.calls) }
+        requires all { length places.old ≡ 256 }
+        ensures { AreIndexed places.new (shapes_of self.now.calls) }
+    {
+        places.fill(None);
+        for (i, call) in self.by_slot.iter().enumerate() {
+            places[usize::from(call.slot())] = Some(i as u8);
+        }
     }
 }

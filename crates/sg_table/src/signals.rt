@@ -1,6 +1,6 @@
 //! Signals that make and key calls. Memory is taken before anything changes.
 
-ghost use Rattle.std.specs.Prelude.{◌≡◌, None, Some, [], ◌∷◌, ◌<◌, ◌≤◌, IfOk, OnErr, position, insert, length};
+ghost use Rattle.std.specs.Prelude.{◌≡◌, None, Some, [], ◌∷◌, ◌<◌, ◌≤◌, OnOk, OnErr, position, insert, length};
 ghost use Rattle.sg_table.specs.Found.{has_id};
 ghost use Rattle.sg_agreement.specs.Sides.{other_side};
 ghost use Rattle.sg_gateway.specs.Early.{early_manual, early_offer, early_answer};
@@ -13,8 +13,8 @@ ghost use Rattle.sg_table.specs.Telling.{IsAnswered};
 ghost use Rattle.sg_table.specs.Values.{shapes_of};
 
 use crate::calls::Calls;
+use crate::outcomes::Outcomes;
 use crate::places::{free_slot, position_of, put_in};
-use crate::told::{Outcomes, one, two};
 use sg_base::{Address, CallId, Fault, MasterKey, NoMemory, Refusal, Side};
 use sg_call::Call;
 use sg_gateway::calls_in_order;
@@ -23,13 +23,14 @@ use sg_outcome::Outcome;
 use std::alloc::Global;
 
 /// A refusal of a call's signal.
-pub(crate) fn refused(id: CallId, cause: Refusal) -> Outcomes
-    ensures { result.items ≡ tells.Refused (Some id) cause ∷ [] }
+pub(crate) fn refused(id: CallId, cause: Refusal, told: &mut Outcomes)
+    requires none { told.old.items ≡ [] }
+    ensures { told.new.items ≡ tells.Refused (Some id) cause ∷ [] }
 {
-    one(Outcome::Refused {
+    told.push(Outcome::Refused {
         call: Some(id),
         cause,
-    })
+    });
 }
 
 /// That a call of this id was made.
@@ -54,15 +55,16 @@ fn other_side(side: Side) -> Side
 
 impl Calls {
     /// Puts a new call into its slot. It tells that the call was made, and then this outcome.
-    fn seat(&mut self, id: CallId, slot: u8, call: Call, outcome: Outcome) -> Outcomes
+    fn seat(&mut self, id: CallId, slot: u8, call: Call, outcome: Outcome, told: &mut Outcomes)
         requires room { length self.old.calls < 256 }
         requires slot { slot ≡ free_shape 0 (shapes_of self.old.calls) }
-        ensures told { result.items ≡ tells.Made id call.slot call.media ∷ outcome ∷ [] }
+        requires none { told.old.items ≡ [] }
+        ensures told { told.new.items ≡ tells.Made id call.slot call.media ∷ outcome ∷ [] }
         ensures calls { self.new ≡ record self.old { calls = insert self.old.calls slot call } }
     {
-        let told = two(made(id, &call), outcome);
+        told.push(made(id, &call));
+        told.push(outcome);
         put_in(&mut self.by_slot, slot, call);
-        told
     }
 
     /// A call that is keyed manually, under what its peer sends and what it is sent.
@@ -76,18 +78,22 @@ impl Calls {
         window: u16,
         from_peer: &MasterKey,
         to_peer: &MasterKey,
-    ) -> Result<Outcomes, NoMemory>
-        ensures told { IfOk result (λ told. (w : World) → TableStandsFor self.old w → IsAnswered told.items self.new
+        told: &mut Outcomes,
+    ) -> Result<(), NoMemory>
+        requires none { told.old.items ≡ [] }
+        ensures told { OnOk result ((w : World) → TableStandsFor self.old w → IsAnswered told.new.items self.new
             (manual_answer w (record { id = id; secure = secure; plain = plain; roc = roc; window = window; from_peer = from_peer.now; to_peer = to_peer.now }))) }
         ensures same { OnErr result (self.new ≡ self.old) }
         ensures needs { OnErr result ((w : World) → TableStandsFor self.old w → early_manual w (call_of w id) ≡ None) }
     {
         calls_in_order();
         if position_of(&self.by_slot, id).is_some() {
-            return Ok(refused(id, Refusal::CallKnown));
+            refused(id, Refusal::CallKnown, told);
+            return Ok(());
         }
         let Some(slot) = free_slot(&self.by_slot) else {
-            return Ok(refused(id, Refusal::TableFull));
+            refused(id, Refusal::TableFull, told);
+            return Ok(());
         };
         let mut call = Call::make(alloc, id, slot)?;
         match call.manual(
@@ -101,10 +107,14 @@ impl Calls {
             self.moment,
             &mut self.books,
         ) {
-            Ok(()) => Ok(self.seat(id, slot, call, Outcome::Live { call: id })),
+            Ok(()) => {
+                self.seat(id, slot, call, Outcome::Live { call: id }, told);
+                Ok(())
+            }
             Err(Fault::Refused(cause)) => {
                 drop(call);
-                Ok(refused(id, cause))
+                refused(id, cause, told);
+                Ok(())
             }
             Err(Fault::NoMemory) => {
                 drop(call);
@@ -121,9 +131,11 @@ impl Calls {
         way: Way,
         noise: &[u8; 304],
         text: &[u8],
-    ) -> Result<Outcomes, NoMemory>
-        ensures told { IfOk result (λ told. (w : World) → TableStandsFor self.old w
-            → IsAnswered told.items self.new (offered_to w id way noise.now text.now (call_of w id))) }
+        told: &mut Outcomes,
+    ) -> Result<(), NoMemory>
+        requires none { told.old.items ≡ [] }
+        ensures told { OnOk result ((w : World) → TableStandsFor self.old w
+            → IsAnswered told.new.items self.new (offered_to w id way noise.now text.now (call_of w id))) }
         ensures same { OnErr result (self.new ≡ self.old) }
         ensures needs { OnErr result ((w : World) → TableStandsFor self.old w → early_offer w (call_of w id) ≡ None) }
     {
@@ -138,10 +150,14 @@ impl Calls {
                 way,
                 noise,
                 text,
+                told,
             ),
             None => match free_slot(&self.by_slot) {
-                Some(slot) => self.offer_in(slot, alloc, id, way, noise, text),
-                None => Ok(refused(id, Refusal::TableFull)),
+                Some(slot) => self.offer_in(slot, alloc, id, way, noise, text, told),
+                None => {
+                    refused(id, Refusal::TableFull, told);
+                    Ok(())
+                }
             },
         }
     }
@@ -155,12 +171,14 @@ impl Calls {
         way: Way,
         noise: &[u8; 304],
         text: &[u8],
-    ) -> Result<Outcomes, NoMemory>
+        told: &mut Outcomes,
+    ) -> Result<(), NoMemory>
         requires new { position (has_id id) self.old.calls ≡ None }
         requires room { length self.old.calls < 256 }
         requires slot { slot ≡ free_shape 0 (shapes_of self.old.calls) }
-        ensures told { IfOk result (λ told. (w : World) → TableStandsFor self.old w
-            → IsAnswered told.items self.new (offered_to w id way noise.now text.now (call_of w id))) }
+        requires none { told.old.items ≡ [] }
+        ensures told { OnOk result ((w : World) → TableStandsFor self.old w
+            → IsAnswered told.new.items self.new (offered_to w id way noise.now text.now (call_of w id))) }
         ensures same { OnErr result (self.new ≡ self.old) }
         ensures needs { OnErr result ((w : World) → TableStandsFor self.old w → early_offer w (call_of w id) ≡ None) }
     {
@@ -174,11 +192,13 @@ impl Calls {
                     side,
                     text,
                 };
-                Ok(self.seat(id, slot, call, outcome))
+                self.seat(id, slot, call, outcome, told);
+                Ok(())
             }
             Err(Fault::Refused(why)) => {
                 drop(call);
-                Ok(refused(id, why))
+                refused(id, why, told);
+                Ok(())
             }
             Err(Fault::NoMemory) => {
                 drop(call);
@@ -194,10 +214,12 @@ impl Calls {
         id: CallId,
         noise: &[u8; 304],
         text: &[u8],
-    ) -> Result<Outcomes, NoMemory>
+        told: &mut Outcomes,
+    ) -> Result<(), NoMemory>
         requires stands { Stands self.old }
-        ensures told { IfOk result (λ told. (w : World) → TableStandsFor self.old w
-            → IsAnswered told.items self.new (answered w id noise.now text.now (call_of w id))) }
+        requires none { told.old.items ≡ [] }
+        ensures told { OnOk result ((w : World) → TableStandsFor self.old w
+            → IsAnswered told.new.items self.new (answered w id noise.now text.now (call_of w id))) }
         ensures same { OnErr result (self.new ≡ self.old) }
         ensures needs { OnErr result ((w : World) → TableStandsFor self.old w → early_answer (call_of w id) ≡ None) }
     {
@@ -211,8 +233,12 @@ impl Calls {
                 id,
                 noise,
                 text,
+                told,
             ),
-            None => Ok(refused(id, Refusal::CallUnknown)),
+            None => {
+                refused(id, Refusal::CallUnknown, told);
+                Ok(())
+            }
         }
     }
 }
@@ -228,12 +254,14 @@ fn offer_at(
     way: Way,
     noise: &[u8; 304],
     text: &[u8],
-) -> Result<Outcomes, NoMemory>
+    told: &mut Outcomes,
+) -> Result<(), NoMemory>
     requires found { position (has_id id) calls.old ≡ Some i }
     requires within { i < length calls.old }
     requires moment { now ≤ 2085978495999 }
-    ensures told { IfOk result (λ told. (w : World) → TableStandsFor (record { calls = calls.old; books = books.old; moment = now }) w
-        → IsAnswered told.items (record { calls = calls.new; books = books.new; moment = now }) (offered_to w id way noise.now text.now (call_of w id))) }
+    requires none { told.old.items ≡ [] }
+    ensures told { OnOk result ((w : World) → TableStandsFor (record { calls = calls.old; books = books.old; moment = now }) w
+        → IsAnswered told.new.items (record { calls = calls.new; books = books.new; moment = now }) (offered_to w id way noise.now text.now (call_of w id))) }
     ensures same { OnErr result ((calls.new ≡ calls.old) × (books.new ≡ books.old)) }
     ensures needs { OnErr result ((w : World) → TableStandsFor (record { calls = calls.old; books = books.old; moment = now }) w
         → early_offer w (call_of w id) ≡ None) }
@@ -242,12 +270,18 @@ fn offer_at(
     calls_in_order();
     let side = other_side(way.side());
     match calls[i].offer(alloc, way, text, noise, now, books) {
-        Ok(text) => Ok(one(Outcome::Sdp {
-            call: id,
-            side,
-            text,
-        })),
-        Err(Fault::Refused(cause)) => Ok(refused(id, cause)),
+        Ok(text) => {
+            told.push(Outcome::Sdp {
+                call: id,
+                side,
+                text,
+            });
+            Ok(())
+        }
+        Err(Fault::Refused(cause)) => {
+            refused(id, cause, told);
+            Ok(())
+        }
         Err(Fault::NoMemory) => Err(NoMemory),
     }
 }
@@ -262,12 +296,14 @@ fn answer_at(
     id: CallId,
     noise: &[u8; 304],
     text: &[u8],
-) -> Result<Outcomes, NoMemory>
+    told: &mut Outcomes,
+) -> Result<(), NoMemory>
     requires found { position (has_id id) calls.old ≡ Some i }
     requires within { i < length calls.old }
     requires stands { Stands (record { calls = calls.old; books = books.old; moment = now }) }
-    ensures told { IfOk result (λ told. (w : World) → TableStandsFor (record { calls = calls.old; books = books.old; moment = now }) w
-        → IsAnswered told.items (record { calls = calls.new; books = books.new; moment = now }) (answered w id noise.now text.now (call_of w id))) }
+    requires none { told.old.items ≡ [] }
+    ensures told { OnOk result ((w : World) → TableStandsFor (record { calls = calls.old; books = books.old; moment = now }) w
+        → IsAnswered told.new.items (record { calls = calls.new; books = books.new; moment = now }) (answered w id noise.now text.now (call_of w id))) }
     ensures same { OnErr result ((calls.new ≡ calls.old) × (books.new ≡ books.old)) }
     ensures needs { OnErr result ((w : World) → TableStandsFor (record { calls = calls.old; books = books.old; moment = now }) w
         → early_answer (call_of w id) ≡ None) }
@@ -275,18 +311,23 @@ fn answer_at(
 {
     calls_in_order();
     let Some(side) = calls[i].side() else {
-        return Ok(refused(id, Refusal::State));
+        refused(id, Refusal::State, told);
+        return Ok(());
     };
     match calls[i].answer(alloc, text, noise, now, books) {
         Ok(text) => {
-            let back = Outcome::Sdp {
+            told.push(Outcome::Sdp {
                 call: id,
                 side,
                 text,
-            };
-            Ok(two(back, Outcome::Live { call: id }))
+            });
+            told.push(Outcome::Live { call: id });
+            Ok(())
         }
-        Err(Fault::Refused(cause)) => Ok(refused(id, cause)),
+        Err(Fault::Refused(cause)) => {
+            refused(id, cause, told);
+            Ok(())
+        }
         Err(Fault::NoMemory) => Err(NoMemory),
     }
 }

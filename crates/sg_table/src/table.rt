@@ -1,15 +1,17 @@
 //! The table.
 
-ghost use Rattle.std.specs.Prelude.{◌≡◌, IfOk, OnErr, false};
+ghost use Rattle.std.specs.Prelude.{◌≡◌, ◌≢◌, ◌≤◌, [], IfOk, OnErr, true, false};
 ghost use Rattle.sg_gateway.specs.Early.{MayWant};
-ghost use Rattle.sg_gateway.specs.Events.{events_of_signal, signal_lacks_noise, signal_of};
+ghost use Rattle.sg_gateway.specs.Events.{events_of_signal, outcomes_from, signal_lacks_noise, signal_of};
 ghost use Rattle.sg_gateway.specs.World.{World, empty};
+ghost use Rattle.sg_lines.specs.declared.lines.Signal.TheVariants as signals;
 ghost use Rattle.sg_table.specs.Standing.{TableStandsFor};
 ghost use Rattle.sg_table.specs.Telling.{IsTimely, IsTold};
 
 use crate::calls::Calls;
-use crate::told::Outcomes;
+use crate::outcomes::Outcomes;
 use sg_base::{CALLS_MOST, NoMemory};
+use sg_gateway::calls_in_order;
 use sg_keys::Ring;
 use sg_leg::Books;
 use sg_lines::Signal;
@@ -52,9 +54,10 @@ impl Table {
             books,
             moment: 0,
         };
-        let mut places = [None; CALLS_MOST];
-        calls.index(&mut places);
-        Ok(Table { calls, places })
+        Ok(Table {
+            calls,
+            places: [None; CALLS_MOST],
+        })
     }
 
     /// Takes a signal, whose noise is there, and tells its outcomes: at most one `Ended` for each call, and at
@@ -68,8 +71,30 @@ impl Table {
         ensures same { OnErr result (self.new ≡ self.old) }
         ensures needs { OnErr result ((w : World) → TableStandsFor self.old w → MayWant w (signal_of signal.now)) }
     {
-        let told = self.calls.take(alloc, signal)?;
-        self.calls.index(&mut self.places);
-        Ok(told)
+        calls_in_order();
+        let before = self.calls.count();
+        let mut told = Outcomes::new();
+        match self.calls.take(alloc, signal, &mut told) {
+            Err(NoMemory) => Err(NoMemory),
+            Ok(()) => {
+                // A signal makes a call or ends some, never both.
+                if self.calls.count() != before {
+                    self.calls.index(&mut self.places);
+                }
+                Ok(told)
+            }
+        }
+    }
+
+    /// Takes a tick that tells nothing, as `step` does; where it tells something, nothing is done, and it is false.
+    /// It doesn't allocate. A tick is at most 2,085,978,495,999 ms since 1970.
+    pub fn tick_quietly(&mut self, now: u64) -> bool
+        requires timely { now ≤ 2085978495999 }
+        ensures told { result ≡ true → (w : World) → TableStandsFor self.old w → IsTold [] self.new w (events_of_signal (signals.Tick now)) }
+        ensures tells { result ≡ false → (w : World) → TableStandsFor self.old w → outcomes_from w (events_of_signal (signals.Tick now)) ≢ [] }
+        ensures same { result ≡ false → self.new ≡ self.old }
+    {
+        calls_in_order();
+        self.calls.tick_quietly(now)
     }
 }

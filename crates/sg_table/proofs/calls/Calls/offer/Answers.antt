@@ -1,14 +1,11 @@
-use Rattle.std.proofs.Common.{◌≡◌, ◌≤◌, ◌∙◌, sym, ap, subst, List, length, Option, Some, None}
-use Rattle.std.proofs.lemmas.Result.{IfOk-weaker}
+use Rattle.std.proofs.Common.{◌≡◌, ◌≤◌, ◌∙◌, sym, ap, subst, List, length, Some, None}
 use Rattle.std.proofs.lemmas.List.{with_items_is}
-use Rattle.arrayvec.specs.ArrayVec.{ArrayVec}
 use Rattle.std.specs.List.{position}
-use Rattle.std.specs.Result.{IfOk}
+use Rattle.std.specs.Result.{OnOk}
 use Rattle.sg_base.specs.declared.faults.Refusal.TheVariants.{TableFull}
 use Rattle.sg_call.specs.Values.{CallValue}
 use Rattle.sg_gateway.specs.Signals.{offered_to}
 use Rattle.sg_gateway.specs.World.{World, call_of}
-use Rattle.sg_outcome.specs.declared.outcomes.Outcome.{Outcome}
 use Rattle.sg_table.proofs.Answered.{refused_holds}
 use Rattle.sg_table.proofs.Early.{offer_full}
 use Rattle.sg_table.proofs.Signalled.{held}
@@ -23,17 +20,15 @@ returns-in-None-free_slot-clause-told c = λ w s.
     let at : c.deref.result.now ≡ c.args.self.now.calls = c.deref.ensures.value ∙ ap (λ (v : TableValue). v.calls) c.self.view_is in
     let at2 : c.deref-in-None.result.now ≡ c.args.self.now.calls = c.deref-in-None.ensures.value ∙ ap (λ (v : TableValue). v.calls) c.self.view_is in
     let none : position (has_id c.args.id) c.args.self.now.calls ≡ None = ap (position (has_id c.args.id)) (sym at) ∙ sym c.position_of.ensures.value ∙ c.in-None.is in
-    subst (IsAnswered c.refused.result.items c.args.self.now)
+    subst (IsAnswered c.refused.new.told.items c.args.self.now)
     (sym (offer_full c.args.self.now w s.holds c.args.id c.args.way c.args.noise.now c.args.text.now none (subst (λ (l : List CallValue). 256 ≤ length l) at2 c.in-None-free_slot.ensures.full)))
-    (refused_holds c.args.self.now w s.holds (Some c.args.id) TableFull c.refused.result.items c.refused.ensures)
+    (refused_holds c.args.self.now w s.holds (Some c.args.id) TableFull c.refused.new.told.items c.refused.ensures)
 
 pub returns-in-Some-clause-told : goal.returns-in-Some-clause-told
 returns-in-Some-clause-told c =
     let before : List CallValue → TableValue = λ l. held l c.self.inside.books c.self.inside.moment in
     let after : TableValue = held c.offer_at.new.calls c.offer_at.new.books c.self.inside.moment in
-    let go : (told : ArrayVec Outcome) → ((w : World) → TableStandsFor (before c.deref_mut.result.now) w → IsAnswered told.items after (offered_to w c.args.id c.args.way c.args.noise.now c.args.text.now (call_of w c.args.id)))
-    → (w : World) → TableStandsFor c.args.self.now w → IsAnswered told.items after (offered_to w c.args.id c.args.way c.args.noise.now c.args.text.now (call_of w c.args.id)) =
-    λ told f w s. f w (subst (λ l. TableStandsFor (before l) w) (sym c.deref_mut.ensures.value) (subst (λ v. TableStandsFor v w) (sym c.self.view_is) s)) in
-    subst (λ cs. IfOk c.offer_at.result (λ told. (w : World) → TableStandsFor c.args.self.now w → IsAnswered told.items (held cs c.offer_at.new.books c.self.inside.moment) (offered_to w c.args.id c.args.way c.args.noise.now c.args.text.now (call_of w c.args.id))))
+    let goes : TableValue → Type 0 = λ t. (w : World) → TableStandsFor t w → IsAnswered c.offer_at.new.told.items after (offered_to w c.args.id c.args.way c.args.noise.now c.args.text.now (call_of w c.args.id)) in
+    subst (λ cs. OnOk c.offer_at.result ((w : World) → TableStandsFor c.args.self.now w → IsAnswered c.offer_at.new.told.items (held cs c.offer_at.new.books c.self.inside.moment) (offered_to w c.args.id c.args.way c.args.noise.now c.args.text.now (call_of w c.args.id))))
     (sym (with_items_is c.self.inside.by_slot c.offer_at.new.calls (c.offer_at.auto.calls ∙ c.deref_mut.ensures.len)))
-    (IfOk-weaker c.offer_at.result _ _ go c.offer_at.ensures.told)
+    (subst (λ t. OnOk c.offer_at.result (goes t)) (ap before c.deref_mut.ensures.value ∙ c.self.view_is) c.offer_at.ensures.told)

@@ -33,23 +33,23 @@ returns-in-Ok-clause-told c = λ w s.
     let room : length c.self.inside.by_slot.items < 256 = subst (λ (v : TableValue). length v.calls < 256) (sym c.self.view_is) c.requires.room in
     let is_free : c.args.slot ≡ free_shape 0 (shapes_of c.self.inside.by_slot.items) = subst (λ (v : TableValue). c.args.slot ≡ free_shape 0 (shapes_of v.calls)) (sym c.self.view_is) c.requires.slot in
     let side_is = c.other_side-side.ensures ∙ ap other_side c.side.ensures in
-    subst (λ t. IsAnswered c.seat.result.items t (offered_to w c.args.id c.args.way c.args.noise.now c.args.text.now (call_of w c.args.id))) (sym c.seat.ensures.calls)
+    subst (λ t. IsAnswered c.seat.new.told.items t (offered_to w c.args.id c.args.way c.args.noise.now c.args.text.now (call_of w c.args.id))) (sym c.seat.ensures.calls)
     (offer_new_told c.self.inside.by_slot.items c.self.inside.books c.self.inside.moment w s'.holds order c.args.id c.args.slot is_free c.in_ok-call.call c.in_ok-call.ensures.stands
     c.offer.new.self c.offer.new.books c.in-Ok.ensures.psks (c.in-Ok.ensures.inbox.0 ∙ c.in_ok-call.ensures.inbox.0, c.in-Ok.ensures.inbox.1 ∙ c.in_ok-call.ensures.inbox.1)
-    c.args.way c.args.noise.now c.args.text.now c.in-Ok.text none room c.in-Ok.ensures.answer c.seat.result.items
+    c.args.way c.args.noise.now c.args.text.now c.in-Ok.text none room c.in-Ok.ensures.answer c.seat.new.told.items
     (c.seat.ensures.told ∙ (λ j. Made c.args.id c.offer.new.self.slot c.offer.new.self.media ∷ Sdp c.args.id (side_is j) c.in-Ok.text ∷ [])))
 
 pub returns-in-Err-Refused-clause-told : goal.returns-in-Err-Refused-clause-told
 returns-in-Err-Refused-clause-told c = λ w s.
-    let tells : c.refused.result.items ≡ Refused (Some c.args.id) c.in-Err-Refused.why ∷ [] = rw c.in-Err-Refused.field-0-is at c.refused.ensures in
+    let tells : c.refused.new.told.items ≡ Refused (Some c.args.id) c.in-Err-Refused.why ∷ [] = rw c.in-Err-Refused.field-0-is at c.refused.ensures in
     let s' : TableStandsFor (the_view c.self.inside) w = subst (λ v. TableStandsFor v w) (sym c.self.view_is) s in
     let order = order_of c.calls_in_order.ensures (the_view c.self.inside) w s' in
     let none : position (has_id c.args.id) c.self.inside.by_slot.items ≡ None = subst (λ (v : TableValue). position (has_id c.args.id) v.calls ≡ None) (sym c.self.view_is) c.requires.new in
     let room : length c.self.inside.by_slot.items < 256 = subst (λ (v : TableValue). length v.calls < 256) (sym c.self.view_is) c.requires.room in
     let is_free : c.args.slot ≡ free_shape 0 (shapes_of c.self.inside.by_slot.items) = subst (λ (v : TableValue). c.args.slot ≡ free_shape 0 (shapes_of v.calls)) (sym c.self.view_is) c.requires.slot in
-    subst (λ b. IsAnswered c.refused.result.items (held c.self.inside.by_slot.items b c.self.inside.moment) (offered_to w c.args.id c.args.way c.args.noise.now c.args.text.now (call_of w c.args.id)))
+    subst (λ b. IsAnswered c.refused.new.told.items (held c.self.inside.by_slot.items b c.self.inside.moment) (offered_to w c.args.id c.args.way c.args.noise.now c.args.text.now (call_of w c.args.id)))
     (sym c.in-Err-Refused.ensures.back.1)
     (offer_new_refused c.self.inside.by_slot.items c.self.inside.books c.self.inside.moment w s'.holds order c.args.id c.args.slot is_free c.in_ok-call.call c.in_ok-call.ensures.stands
     c.args.way c.args.noise.now c.args.text.now none room c.in-Err-Refused.why
     (λ k b stands books. subst (λ f. IsSettled (Err f) c.offer.new.self c.offer.new.books (offered_in c.self.inside.moment b k c.args.way c.args.noise.now c.args.text.now)) c.in-Err-Refused.field-0-is (c.in-Err-Refused.ensures.answer k b stands books))
-    c.refused.result.items tells)
+    c.refused.new.told.items tells)

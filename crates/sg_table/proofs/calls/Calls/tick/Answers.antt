@@ -14,8 +14,8 @@ use Rattle.sg_table.proofs.calls.Calls.tick.Goals as goal
 pub returns : goal.returns
 returns c w stands =
     let viewed : TableStandsFor (the_view c.self.inside) w = subst (λ t. TableStandsFor t w) (sym c.self.view_is) stands in
-    subst (λ cs. IsAnswered c.tell_idle-told.result.items (record { calls = cs; books = c.self.inside.books; moment = c.args.now }) (ticked w c.args.now))
+    subst (λ cs. IsAnswered c.tell_idle.new.told.items (record { calls = cs; books = c.self.inside.books; moment = c.args.now }) (ticked w c.args.now))
     (sym (with_items_is c.drop_idle.new.calls c.tick_each.new.calls (c.tick_each.auto.calls ∙ c.deref_mut.ensures.len)))
-    (tick_on c.self.inside.by_slot.items c.self.inside.books c.self.inside.moment c.args.now w viewed.holds c.tell_idle-told.result.items c.drop_idle.new.calls.items c.tick_each.new.calls c.if-now-self.false
-    (subst (λ cs. c.tell_idle-told.result.items ≡ map (ended_as why.Idle) (filter (idles c.args.now) cs)) c.deref.ensures.value c.tell_idle-told.ensures) c.drop_idle.ensures.items
+    (tick_on c.self.inside.by_slot.items c.self.inside.books c.self.inside.moment c.args.now w viewed.holds c.tell_idle.new.told.items c.drop_idle.new.calls.items c.tick_each.new.calls c.if-now-self.false
+    (subst (λ cs. c.tell_idle.new.told.items ≡ map (ended_as why.Idle) (filter (idles c.args.now) cs)) c.deref.ensures.value c.tell_idle.ensures) c.drop_idle.ensures.items
     (subst (λ cs. EachPair (IsTicked c.args.now) cs c.tick_each.new.calls) c.deref_mut.ensures.value c.tick_each.ensures))

@@ -1,29 +1,43 @@
-use Rattle.std.proofs.Common.{sym, subst}
-use Rattle.sg_gateway.specs.World.{World}
-use Rattle.sg_table.proofs.Signalled.{on_err}
-use Rattle.sg_table.specs.Standing.{TableStandsFor}
-use Rattle.sg_gateway.specs.Early.{MayWant}
-use Rattle.sg_gateway.specs.Events.{signal_of, events_of_signal}
+use Rattle.std.proofs.Common.{◌∙◌, sym, subst}
+use Rattle.sg_gateway.specs.Events.{events_of_signal, signal_of}
 use Rattle.sg_gateway.specs.Runs.{world_after}
+use Rattle.sg_table.proofs.Delivering.{rising_of}
+use Rattle.sg_table.proofs.KeptSlots.{indexed_as_before}
 use Rattle.sg_table.proofs.Stepped.{told_of_signal}
+use Rattle.sg_table.specs.Standing.{TableStandsFor}
+use Rattle.sg_table.proofs.table.Table.step.Goals.{then-count-before, else-count-before}
 use Rattle.sg_table.proofs.table.Table.step.Goals as goal
 
-pub returns-in_err-told-clause-needs : goal.returns-in_err-told-clause-needs
-returns-in_err-told-clause-needs c =
-    on_err _ ((w : World) → TableStandsFor c.args.self.now w → MayWant w (signal_of c.args.signal.now))
-    (λ w s. c.in_err-told.ensures.needs w (subst (λ v. TableStandsFor v w) (sym c.self.view_is) s))
+pub index-requires-clause-rising : goal.index-requires-clause-rising
+index-requires-clause-rising c =
+    let (w, s) = c.self.invariant.1 in
+    let told = told_of_signal c.self.inside.calls c.take.new.self w c.args.signal.now c.take.new.told.items c.requires.noise s (c.in-Ok.ensures.told w s) in
+    rising_of c.calls_in_order.ensures c.take.new.self (world_after w (events_of_signal c.args.signal.now)) told.1
 
-pub invariant_of-self-2 : goal.invariant_of-self-2
-invariant_of-self-2 c =
-    let (w, s) = c.self.invariant.1 in (
-      c.index.ensures,
-      (
-        world_after w (events_of_signal c.args.signal.now),
-        (told_of_signal c.self.inside.calls c.take.new.self w c.args.signal.now c.in_ok-told.told.items c.requires.noise s (c.in_ok-told.ensures.told w s)).1,
-      ),
+pub invariant_of-self-then-count-before : goal.invariant_of-self-then-count-before
+invariant_of-self-then-count-before c =
+    let (w, s) = c.self.invariant.1 in
+    let told = told_of_signal c.self.inside.calls c.take.new.self w c.args.signal.now c.take.new.told.items c.requires.noise s (c.in-Ok.ensures.told w s) in
+    (c.index.ensures, (world_after w (events_of_signal c.args.signal.now), told.1))
+
+pub invariant_of-self-else-count-before : goal.invariant_of-self-else-count-before
+invariant_of-self-else-count-before c =
+    let (w, s) = c.self.invariant.1 in
+    let answered = c.in-Ok.ensures.told w s in
+    let told = told_of_signal c.self.inside.calls c.take.new.self w c.args.signal.now c.take.new.told.items c.requires.noise s answered in (
+      indexed_as_before c.calls_in_order.ensures c.self.inside.places c.self.inside.calls c.take.new.self w s (signal_of c.args.signal.now) answered.holds
+          (sym c.count.ensures ∙ c.if-count-before.false ∙ c.count-before.ensures) c.self.invariant.0,
+      (world_after w (events_of_signal c.args.signal.now), told.1),
     )
 
-pub returns-clause-told : goal.returns-clause-told
-returns-clause-told c = λ w s.
+pub returns-in-Err-clause-needs : goal.returns-in-Err-clause-needs
+returns-in-Err-clause-needs c = λ w s. c.in-Err.ensures.needs w (subst (λ v. TableStandsFor v w) (sym c.self.view_is) s)
+
+pub returns-after-count-before-clause-told : goal.returns-after-count-before-clause-told
+returns-after-count-before-clause-told c = λ w s.
     let s' = subst (λ v. TableStandsFor v w) (sym c.self.view_is) s in
-    told_of_signal c.self.inside.calls c.take.new.self w c.args.signal.now c.in_ok-told.told.items c.requires.noise s' (c.in_ok-told.ensures.told w s')
+    let told = told_of_signal c.self.inside.calls c.take.new.self w c.args.signal.now c.take.new.told.items c.requires.noise s' (c.in-Ok.ensures.told w s') in
+    elim c.if-count-before.branch [
+      | then-count-before b ↦ (told.0, subst (λ v. TableStandsFor v (world_after w (events_of_signal c.args.signal.now))) (sym b.self-is) told.1)
+      | else-count-before b ↦ (told.0, subst (λ v. TableStandsFor v (world_after w (events_of_signal c.args.signal.now))) (sym b.self-is) told.1)
+    ]
