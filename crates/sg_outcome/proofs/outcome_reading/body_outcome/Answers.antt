@@ -1,4 +1,4 @@
-use Rattle.std.proofs.Common.{List, ℕ, ap, subst, map, ◌∙◌}
+use Rattle.std.proofs.Common.{ap, subst, map, ◌∙◌}
 use Rattle.sg_lines.specs.Fields.{Gives}
 use Rattle.sg_outcome.specs.OutcomeOf.{outcome_in}
 use Rattle.sg_outcome.proofs.OutcomeLaws.{first_nine}
