@@ -5,12 +5,14 @@ use Rattle.sg_gateway.specs.Addressed.{OffersAreTheirTexts, AnswersHaveAddresses
 use Rattle.sg_gateway.specs.Arriving.{EachArrivingIsPutOut}
 use Rattle.sg_gateway.specs.Authentic.{MessagesAreAcceptedOnce}
 use Rattle.sg_gateway.specs.Busy.{EachCallIsBusy, EachPacketKeepsItsCall}
+use Rattle.sg_gateway.specs.ByTexts.{AnswersAreByTexts}
 use Rattle.sg_gateway.specs.CarriedOut.{ByesEnd, TicksMove, TicksKeep, RejectionsClose, AnswersRenew, AnswersKeepEarlier}
 use Rattle.sg_gateway.specs.Coming.{EachOpeningCame, EachSealCame}
 use Rattle.sg_gateway.specs.Departing.{EachDepartingIsSealed}
 use Rattle.sg_gateway.specs.Earlier.{EarlierServeNoLonger}
 use Rattle.sg_gateway.specs.Ended.{EachEndFrees, EndedStayAway}
 use Rattle.sg_gateway.specs.Forgotten.{NoKeyIsForgotten}
+use Rattle.sg_gateway.specs.Lasting.{SessionsLast, ManualCallsAreAsTold}
 use Rattle.sg_gateway.specs.Lives.{EachKeyIsWithinLife}
 use Rattle.sg_gateway.specs.Moments.{MomentComesOnce}
 use Rattle.sg_gateway.specs.Newness.{EachNewIsPutOut}
@@ -33,7 +35,8 @@ use Rattle.sg_gateway.specs.Used.{NoBlockTwice, EachSealUsesItsBlocks}
 -- counter block sealed twice. What these rest on: whose each key is, how many packets it may serve, that it is never
 -- forgotten, and the order of calls and names. What becomes of signals, taken and refused, of calls that end, and of
 -- the generations before a call's current one. And what texts and messages have to do with it: no text that the plain
--- side is told has a key, media go to the addresses that texts tell, and messages are accepted that are authentic.
+-- side is told has a key, media go to the addresses that texts tell, under the keys that they tell, and messages are
+-- accepted that are authentic.
 pub record Headline (events : List Event) : Type 0 where
   pub each_sealed : (sealed : List Sealed) → AreSealed sealed → Unforged sealed events → EachOpeningIsSealed sealed events
   pub highest : (sealed : List Sealed) → AreSealed sealed → Unforged sealed events → EachHighestIsSealed sealed events
@@ -77,5 +80,8 @@ pub record Headline (events : List Event) : Type 0 where
   pub plain_texts : NoKeyGoesToThePlainSide events
   pub offer_texts : OffersAreTheirTexts events
   pub addresses : AnswersHaveAddresses events
+  pub by_texts : AnswersAreByTexts events
+  pub manual_keys : ManualCallsAreAsTold events
+  pub lasting : SessionsLast events
   pub tags : EachSessionHasWholeTags events
   pub messages : MessagesAreAcceptedOnce events

@@ -116,6 +116,8 @@ fn headline()
     sg_gateway::signals_are_taken();
     sg_gateway::plain_texts_have_no_key();
     sg_gateway::texts_tell_addresses();
+    sg_gateway::answers_are_by_their_texts();
+    sg_gateway::sessions_stay_what_they_were_made();
     sg_gateway::tags_are_whole();
     sg_gateway::messages_are_accepted_once();
 }

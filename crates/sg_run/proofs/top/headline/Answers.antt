@@ -44,6 +44,9 @@ returns c = λ events. record {
   plain_texts = c.plain_texts_have_no_key.ensures events;
   offer_texts = c.texts_tell_addresses.ensures.offers events;
   addresses = c.texts_tell_addresses.ensures.answers events;
+  by_texts = c.answers_are_by_their_texts.ensures events;
+  manual_keys = c.sessions_stay_what_they_were_made.ensures.manual events;
+  lasting = c.sessions_stay_what_they_were_made.ensures.last events;
   tags = c.tags_are_whole.ensures events;
   messages = c.messages_are_accepted_once.ensures events;
 }
