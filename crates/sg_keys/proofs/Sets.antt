@@ -1,5 +1,5 @@
 -- Sets of two keys.
-use Rattle.std.proofs.Common.{◌≡◌, ◌≢◌, ◌≤◌, ℕ, zero, suc, true, List, [], ◌∷◌, length, slice_get, Some, refl, sym, arith}
+use Rattle.std.proofs.Common.{◌≡◌, ◌≢◌, ◌≤◌, ℕ, zero, suc, true, [], ◌∷◌, length, slice_get, Some, refl, sym, arith}
 use Rattle.std.proofs.lemmas.List.Elements.{All-from_recursion}
 use Rattle.sg_keys.specs.KeySet.{AreApart, IsKeySet}
 use Rattle.sg_keys.specs.Live.{Live, is_cipher_len}
