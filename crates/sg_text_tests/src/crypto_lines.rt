@@ -271,12 +271,16 @@ fn bad_tags(rt: HostRuntime) -> Result<(), Fail> {
     Ok(())
 }
 
+const SAYING: &[u8] =
+    b"0017 AES_CM_128_HMAC_SHA1_80 inline:WVNfX19zZW1jdGwgKCkgewkyMjA7fQp9CnVubGVz|2^20|1:4 FEC_ORDER=FEC_SRTP WSH=0063 UNENCRYPTED_SRTCP";
+
+const SAYING_TWO: &[u8] =
+    b"1 AES_CM_128_HMAC_SHA1_80 inline:WVNfX19zZW1jdGwgKCkgewkyMjA7fQp9CnVubGVz|2|1:1;inline:AAECAwQFBgcICQoLDA0ODxAREhMUFRYXGBkaGxwd|2:1 UNENCRYPTED_SRTP";
+
 /// The line of RFC 4568, section 5.1, with a window, and what each of its words says.
 #[test]
 fn what_a_line_says(rt: HostRuntime) -> Result<(), Fail> {
-    let value =
-        b"0017 AES_CM_128_HMAC_SHA1_80 inline:WVNfX19zZW1jdGwgKCkgewkyMjA7fQp9CnVubGVz|2^20|1:4 FEC_ORDER=FEC_SRTP WSH=0063 UNENCRYPTED_SRTCP";
-    let line = read_crypto(value).ok().ok_or("it is a crypto line")?;
+    let line = read_crypto(SAYING).ok().ok_or("it is a crypto line")?;
     assert!(rt; line.tag == 17);
     assert!(rt; line.suite == Suite::Cm128Tag80);
     assert!(rt; line.window == Some(63));
@@ -294,9 +298,7 @@ fn what_a_line_says(rt: HostRuntime) -> Result<(), Fail> {
 /// Several keys in their order, with the longest lifetime where none is stated.
 #[test]
 fn what_two_keys_say(rt: HostRuntime) -> Result<(), Fail> {
-    let value =
-        b"1 AES_CM_128_HMAC_SHA1_80 inline:WVNfX19zZW1jdGwgKCkgewkyMjA7fQp9CnVubGVz|2|1:1;inline:AAECAwQFBgcICQoLDA0ODxAREhMUFRYXGBkaGxwd|2:1 UNENCRYPTED_SRTP";
-    let line = read_crypto(value).ok().ok_or("it is a crypto line")?;
+    let line = read_crypto(SAYING_TWO).ok().ok_or("it is a crypto line")?;
     assert!(rt; line.window == None);
     assert!(rt; (line.plain_rtp, line.plain_rtcp) == (true, false));
     let keys = line.keys.as_slice();

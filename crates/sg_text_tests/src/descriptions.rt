@@ -7,67 +7,6 @@ use std::alloc::Global;
 use std::process::Abort;
 use std::test::Fail;
 
-// An offer and its answer, and what each is carried as, put together by the test's author.
-const OFFER: &[u8] = b"v=0\r
-o=alice 2890844526 2890844526 IN IP4 127.0.0.1\r
-s=-\r
-c=IN IP4 127.0.0.1\r
-t=0 0\r
-m=audio 40000 RTP/SAVP 0 101\r
-a=rtpmap:0 PCMU/8000\r
-a=rtpmap:101 telephone-event/8000\r
-a=crypto:1 AES_CM_128_HMAC_SHA1_80 inline:WVNfX19zZW1jdGwgKCkgewkyMjA7fQp9CnVubGVz|2^20|1:4 FEC_ORDER=FEC_SRTP\r
-a=crypto:2 F8_128_HMAC_SHA1_80 inline:AAECAwQFBgcICQoLDA0ODxAREhMUFRYXGBkaGxwd\r
-a=sendrecv\r
-";
-
-const CARRIED_OFFER: &[u8] = b"v=0\r
-o=alice 2890844526 2890844526 IN IP4 127.0.0.1\r
-s=-\r
-c=IN IP4 127.0.0.1\r
-t=0 0\r
-m=audio 20002 RTP/AVP 0 101\r
-a=rtpmap:0 PCMU/8000\r
-a=rtpmap:101 telephone-event/8000\r
-a=sendrecv\r
-";
-
-const ANSWER: &[u8] = b"v=0\r
-o=bob 1 1 IN IP4 127.0.0.1\r
-s=-\r
-c=IN IP4 127.0.0.1\r
-t=0 0\r
-m=audio 41000 RTP/AVP 0\r
-a=rtpmap:0 PCMU/8000\r
-";
-
-const CARRIED_ANSWER: &[u8] = b"v=0\r
-o=bob 1 1 IN IP4 127.0.0.1\r
-s=-\r
-c=IN IP4 127.0.0.1\r
-t=0 0\r
-m=audio 20000 RTP/SAVP 0\r
-a=rtpmap:0 PCMU/8000\r
-";
-
-fn printed(alloc: Global, text: &[u8]) -> Result<Octets, Fail> {
-    Ok(read(alloc, text)?.print(alloc)?)
-}
-
-// One medium for the other side.
-fn carried_one(alloc: Global, sdp: &Sdp, port: u16, profile: Profile) -> Result<Sdp, Fail> {
-    if sdp.media.len() != 1 {
-        return Err("one medium".into());
-    }
-    Ok(sdp.carry(alloc, &[port], &[profile])?)
-}
-
-// The text of one medium for the other side.
-fn carried(alloc: Global, text: &[u8], port: u16, profile: Profile) -> Result<Octets, Fail> {
-    let sdp = read(alloc, text)?;
-    Ok(carried_one(alloc, &sdp, port, profile)?.print(alloc)?)
-}
-
 // Texts, one behind another.
 fn joined(alloc: Global, texts: &[&[u8]]) -> Result<Vec<u8>, NoMemory> {
     let mut all = Vec::new(alloc);
@@ -75,19 +14,6 @@ fn joined(alloc: Global, texts: &[&[u8]]) -> Result<Vec<u8>, NoMemory> {
         all.extend_from_slice(text)?;
     }
     Ok(all)
-}
-
-#[test]
-fn prints_and_carries_an_offer_and_its_answer(rt: HostRuntime) -> Result<(), Fail> {
-    let alloc = rt.alloc();
-    for text in [OFFER, CARRIED_OFFER, ANSWER, CARRIED_ANSWER] {
-        assert!(rt; printed(alloc, text)?.as_slice() == text);
-    }
-    let offer = carried(alloc, OFFER, 20002, Profile::Avp)?;
-    assert!(rt; offer.as_slice() == CARRIED_OFFER);
-    let answer = carried(alloc, ANSWER, 20000, Profile::Savp)?;
-    assert!(rt; answer.as_slice() == CARRIED_ANSWER);
-    Ok(())
 }
 
 // The fault of a text, and none of a description.
@@ -100,30 +26,6 @@ fn fault_of(rt: &impl Abort, alloc: Global, text: &[u8]) -> Option<(u32, SdpFaul
             None
         }
     }
-}
-
-#[test]
-fn a_cut_offer_is_told_where_it_ends(rt: HostRuntime) {
-    let mut whole_lines = 0_u32;
-    let mut in_line = false;
-    for (size, octet) in OFFER.iter().enumerate() {
-        let expected = if in_line {
-            Some((whole_lines.saturating_add(1), Form))
-        } else if whole_lines < 3 {
-            Some((whole_lines.saturating_add(1), Order))
-        } else {
-            None
-        };
-        assert!(rt;
-            fault_of(&rt, rt.alloc(), &OFFER[..size]) == expected,
-            "{size}"
-        );
-        in_line = *octet != b'\n';
-        if !in_line {
-            whole_lines = whole_lines.saturating_add(1);
-        }
-    }
-    assert!(rt; fault_of(&rt, rt.alloc(), OFFER) == None);
 }
 
 fn have_faults(rt: &impl Abort, alloc: Global, rows: &[(&[u8], Option<(u32, SdpFault)>)]) {
@@ -210,14 +112,14 @@ fn tells_the_first_fault(rt: HostRuntime) {
     have_faults(&rt, rt.alloc(), &ROWS);
 }
 
-// So many octets `x`.
-fn filled(alloc: Global, front: &[u8], count: usize, end: &[u8]) -> Result<Vec<u8>, NoMemory> {
-    let mut text = Vec::from_slice(alloc, front)?;
+// A line's front, so many octets `x`, and its end.
+fn put(text: &mut Vec<u8>, front: &[u8], count: usize, end: &[u8]) -> Result<(), NoMemory> {
+    text.extend_from_slice(front)?;
     for _ in 0..count {
         text.push(b'x')?;
     }
     text.extend_from_slice(end)?;
-    Ok(text)
+    Ok(())
 }
 
 #[test]
@@ -233,7 +135,8 @@ fn keeps_the_limit_of_a_line(rt: HostRuntime) -> Result<(), Fail> {
         (2047, b"", Some((4, TooLong))),
     ];
     for (count, end, fault) in ROWS {
-        let text = filled(rt.alloc(), b"v=0\no=x\ns=-\na=", count, end)?;
+        let mut text = Vec::new(rt.alloc());
+        put(&mut text, b"v=0\no=x\ns=-\na=", count, end)?;
         assert!(rt;
             fault_of(&rt, rt.alloc(), &text) == fault,
             "{count} {end:?}"
@@ -243,19 +146,19 @@ fn keeps_the_limit_of_a_line(rt: HostRuntime) -> Result<(), Fail> {
 }
 
 // 12 octets, then eight lines of 2,042 octets with their ends, and one of three octets and so many more.
-fn nine_lines(alloc: Global, last: usize) -> Result<Vec<u8>, NoMemory> {
-    let mut text = joined(alloc, &[b"v=0\no=x\ns=-\n"])?;
+fn put_nine_lines(text: &mut Vec<u8>, last: usize) -> Result<(), NoMemory> {
+    text.extend_from_slice(b"v=0\no=x\ns=-\n")?;
     for _ in 0..8 {
-        text.extend_from_slice(&filled(alloc, b"a=", 2039, b"\n")?)?;
+        put(text, b"a=", 2039, b"\n")?;
     }
-    text.extend_from_slice(&filled(alloc, b"b=", last, b"\n")?)?;
-    Ok(text)
+    put(text, b"b=", last, b"\n")
 }
 
 #[test]
 fn keeps_the_limit_of_a_text(rt: HostRuntime) -> Result<(), Fail> {
     for (last, fault) in [(33, None), (34, Some((0, TooLong)))] {
-        let text = nine_lines(rt.alloc(), last)?;
+        let mut text = Vec::new(rt.alloc());
+        put_nine_lines(&mut text, last)?;
         assert!(rt; text.len() == 16351 + last);
         assert!(rt; fault_of(&rt, rt.alloc(), &text) == fault, "{last}");
     }
@@ -353,59 +256,29 @@ const PROFILES: [(&[u8], Profile); 7] = [
     (b"RTP/AVPX", Profile::Other),
 ];
 
-// The description of one medium of a protocol.
-fn of_protocol(alloc: Global, protocol: &[u8]) -> Result<Sdp, Fail> {
+// The port and the profile of the one medium of a protocol.
+fn profile(alloc: Global, protocol: &[u8]) -> Result<(u16, Profile), Fail> {
     let head = b"v=0\no=x\ns=-\nm=audio 9 ";
     let text = joined(alloc, &[head, protocol, b" 0\n"])?;
-    Ok(read(alloc, &text)?)
-}
-
-#[test]
-fn knows_the_profiles(rt: HostRuntime) -> Result<(), Fail> {
-    for (protocol, profile) in PROFILES {
-        let sdp = of_protocol(rt.alloc(), protocol)?;
-        assert!(rt; sdp.media.len() == 1);
-        for medium in sdp.media.as_slice() {
-            let words = [&medium.word, &medium.proto, &medium.formats].map(|word| word.as_slice());
-            assert!(rt; (medium.port, medium.profile) == (9, profile));
-            assert!(rt; words == [b"audio".as_slice(), protocol, b"0"]);
-        }
-    }
-    Ok(())
-}
-
-// The port and the profile of one medium that is carried at port 7 where this profile is asked for.
-fn carried_as(alloc: Global, sdp: &Sdp, asked: Profile) -> Result<(u16, Profile), Fail> {
-    match carried_one(alloc, sdp, 7, asked)?.media.as_slice() {
+    match read(alloc, &text)?.media.as_slice() {
         [medium] => Ok((medium.port, medium.profile)),
         _ => Err("one medium".into()),
     }
 }
 
-// Each is carried as what is asked for, where that is one of the four.
 #[test]
-fn carries_the_profile_that_is_asked_for(rt: HostRuntime) -> Result<(), Fail> {
-    for (protocol, profile) in PROFILES {
-        let sdp = of_protocol(rt.alloc(), protocol)?;
-        for (_, asked) in PROFILES {
-            let expected = match asked {
-                Profile::Other => profile,
-                other => other,
-            };
-            let told = carried_as(rt.alloc(), &sdp, asked)?;
-            assert!(rt; told == (7, expected));
-        }
+fn knows_the_profiles(rt: HostRuntime) -> Result<(), Fail> {
+    for (protocol, told) in PROFILES {
+        assert!(rt; profile(rt.alloc(), protocol)? == (9, told));
     }
     Ok(())
 }
 
-// The addresses of the one medium behind these lines, and of that medium as it is carried.
-fn addresses(alloc: Global, lines: &[u8]) -> Result<[Option<[u8; 4]>; 2], Fail> {
+// The address of the one medium behind these lines.
+fn address(alloc: Global, lines: &[u8]) -> Result<Option<[u8; 4]>, Fail> {
     let text = joined(alloc, &[b"v=0\no=x\ns=-\n", lines])?;
-    let sdp = read(alloc, &text)?;
-    let other = carried_one(alloc, &sdp, 9, Profile::Other)?;
-    match (sdp.media.as_slice(), other.media.as_slice()) {
-        ([medium], [carried]) => Ok([medium.address, carried.address]),
+    match read(alloc, &text)?.media.as_slice() {
+        [medium] => Ok(medium.address),
         _ => Err("one medium".into()),
     }
 }
@@ -429,25 +302,32 @@ fn finds_each_address(rt: HostRuntime) -> Result<(), Fail> {
             Some([255; 4]),
         ),
     ];
-    for (lines, address) in ROWS {
-        let told = addresses(rt.alloc(), lines)?;
-        let own = address.map(|_| [127, 0, 0, 1]);
-        assert!(rt; told == [address, own], "{lines:?}");
+    for (lines, found) in ROWS {
+        assert!(rt; address(rt.alloc(), lines)? == found);
     }
     Ok(())
 }
 
-#[test]
-fn puts_added_lines_last(rt: HostRuntime) -> Result<(), Fail> {
-    let text = b"v=0\r\no=x\r\ns=-\r\nm=a 9 b c\r\na=x\r\nm=d 9 e f\r\n";
-    let expected =
-        b"v=0\r\no=x\r\ns=-\r\na=one\r\nm=a 9 b c\r\na=x\r\na=two\r\na=three\r\nm=d 9 e f\r\na=four\r\n";
-    let mut sdp = read(rt.alloc(), text)?;
-    assert!(rt; sdp.media.len() == 2);
+// A description of two media, and what it is with a line more of its own, two of the first medium and one of the second.
+const TWO: &[u8] = b"v=0\r\no=x\r\ns=-\r\nm=a 9 b c\r\na=x\r\nm=d 9 e f\r\n";
+
+const TWO_WITH_MORE: &[u8] =
+    b"v=0\r\no=x\r\ns=-\r\na=one\r\nm=a 9 b c\r\na=x\r\na=two\r\na=three\r\nm=d 9 e f\r\na=four\r\n";
+
+fn add_lines(sdp: &mut Sdp) -> Result<(), Fail> {
+    if sdp.media.len() != 2 {
+        return Err("two media".into());
+    }
     sdp.add_session_line(b"a=one")?;
     sdp.add_media_line(0, b"a=two")?;
     sdp.add_media_line(0, b"a=three")?;
-    sdp.add_media_line(1, b"a=four")?;
-    assert!(rt; sdp.print(rt.alloc())?.as_slice() == expected.as_slice());
+    Ok(sdp.add_media_line(1, b"a=four")?)
+}
+
+#[test]
+fn puts_added_lines_last(rt: HostRuntime) -> Result<(), Fail> {
+    let mut sdp = read(rt.alloc(), TWO)?;
+    add_lines(&mut sdp)?;
+    assert!(rt; sdp.print(rt.alloc())?.as_slice() == TWO_WITH_MORE);
     Ok(())
 }

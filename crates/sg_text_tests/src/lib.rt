@@ -15,6 +15,4 @@ mod messages;
 #[cfg(test)]
 mod outcomes;
 #[cfg(test)]
-mod scripts;
-#[cfg(test)]
 mod words;

@@ -1,8 +1,7 @@
 //! Script lines, read and printed.
 
-use sg_base::ScriptFault;
-use sg_lines::{ReadLineFault, print_line, read_line};
-use std::alloc::Global;
+use sg_script::{ReadLineFault, ScriptFault, print_line, read_line};
+use std::alloc::{AllocError, Global};
 use std::process::Abort;
 use std::test::Fail;
 
@@ -25,6 +24,15 @@ fn fault_of(rt: &impl Abort, alloc: Global, octets: &[u8]) -> Option<ScriptFault
     }
 }
 
+/// The fault of the first line of a script; none where it is the header.
+fn fault_of_first(alloc: Global, octets: &[u8]) -> Option<ScriptFault> {
+    match read_line(alloc, 1, octets) {
+        Ok(_) => None,
+        Err(ReadLineFault::Script(found)) => Some(found),
+        Err(ReadLineFault::NoMemory) => Some(ScriptFault::Length),
+    }
+}
+
 /// The first have these faults, and the others are lines.
 fn have_faults(rt: &impl Abort, alloc: Global, bad: &[(&[u8], ScriptFault)], good: &[&[u8]]) {
     for (row, fault) in bad {
@@ -38,7 +46,9 @@ fn have_faults(rt: &impl Abort, alloc: Global, bad: &[(&[u8], ScriptFault)], goo
 /// The fields of good lines, each form once, and their bounds.
 #[test]
 fn good_lines(rt: HostRuntime) {
-    const ROWS: [&[u8]; 21] = [
+    const ROWS: [&[u8]; 23] = [
+        b"manual 1 127.0.0.1:40000 127.0.0.1:41000 00000000 64 RAW80:cebe321f6ff7716b6fd4ab49af256a156d38baa4 RAW80:0b0b0b0b0b0b0b0b0b0b0b0b0b0b0b0b0b0b0b0b\n",
+        b"in 20000 127.0.0.1:40000 800f1234decafbadcafebabe4e55dc4ce79978d88ca4d215949d2402b78d6acc99ea179b8dbb\n",
         b"in 0 0.0.0.0:0 -\n",
         b"in 65535 255.255.255.255:65535 00ff\n",
         b"tick 0\n",
@@ -178,40 +188,29 @@ fn bad_lines(rt: HostRuntime) {
     have_faults(&rt, rt.alloc(), &ROWS, &[]);
 }
 
+/// The first line of a script is the header and nothing else.
 #[test]
 fn first_lines(rt: HostRuntime) {
-    let rows: [(&[u8], Option<ScriptFault>); 6] = [
-        (b"srtpgw 1\n", None),
-        (b"srtpgw 2\n", Some(ScriptFault::Version)),
-        (b"srtpgw 01\n", Some(ScriptFault::Version)),
-        (b"tick 1\n", Some(ScriptFault::Version)),
-        (b"srtpgw 1", Some(ScriptFault::Unended)),
-        (b"srtpgw 1 \n", Some(ScriptFault::Version)),
+    const ROWS: [(&[u8], ScriptFault); 5] = [
+        (b"srtpgw 2\n", ScriptFault::Version),
+        (b"srtpgw 01\n", ScriptFault::Version),
+        (b"tick 1\n", ScriptFault::Version),
+        (b"srtpgw 1", ScriptFault::Unended),
+        (b"srtpgw 1 \n", ScriptFault::Version),
     ];
-    for (row, fault) in &rows {
-        let found = match read_line(rt.alloc(), 1, row) {
-            Ok(_) => None,
-            Err(ReadLineFault::Script(found)) => Some(found),
-            Err(ReadLineFault::NoMemory) => Some(ScriptFault::Length),
-        };
-        assert!(rt; found == *fault);
+    for (row, fault) in ROWS {
+        assert!(rt; fault_of_first(rt.alloc(), row) == Some(fault));
     }
+    assert!(rt; fault_of_first(rt.alloc(), b"srtpgw 1\n") == None);
 }
 
-/// A line of these octets, then so many of one octet, and its end.
-fn filled(
-    alloc: Global,
-    front: &[u8],
-    octet: u8,
-    count: usize,
-    end: &[u8],
-) -> Result<Vec<u8>, Fail> {
-    let mut line = Vec::from_slice(alloc, front)?;
+/// Puts so many of one octet behind a line's front, and its end behind them.
+fn fill(line: &mut Vec<u8>, octet: u8, count: usize, end: &[u8]) -> Result<(), AllocError> {
     for _ in 0..count {
         line.push(octet)?;
     }
     line.extend_from_slice(end)?;
-    Ok(line)
+    Ok(())
 }
 
 /// A line's front, an octet, how many of it follow, and the line's end; and its fault.
@@ -222,7 +221,8 @@ const SHARED: &[u8] = b" b 00112233445566778899aabbccddeeff\n";
 
 fn have_limits(rt: &impl Abort, alloc: Global, rows: &[Row]) -> Result<(), Fail> {
     for (front, octet, count, end, fault) in rows {
-        let line = filled(alloc, front, *octet, *count, end)?;
+        let mut line = Vec::from_slice(alloc, front)?;
+        fill(&mut line, *octet, *count, end)?;
         assert!(rt; fault_of(rt, alloc, &line) == *fault);
     }
     Ok(())

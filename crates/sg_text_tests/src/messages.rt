@@ -2,7 +2,7 @@
 
 use sg_base::MikeyFault::{self, Cut, DataType, Order, Trailing, Value, Version};
 use sg_base::{Mki, Octets};
-use sg_mikey::{CsEntry, Items, Message, Payload, Policy, ReadMikeyFault, Tgk, Tgks, print, read};
+use sg_mikey::{Items, Message, ReadMikeyFault, Tgk, Tgks, print, read};
 use std::alloc::{AllocError, Global};
 use std::process::Abort;
 use std::test::Fail;
@@ -154,7 +154,7 @@ fn printed_again(alloc: Global, octets: &[u8]) -> Result<Octets, Fail> {
 
 #[test]
 fn prints_what_it_reads(rt: HostRuntime) -> Result<(), Fail> {
-    for octets in [INITIAL, RESPONSE] {
+    for octets in [INITIAL, RESPONSE, OFFER, ANSWER] {
         assert!(rt; printed_again(rt.alloc(), octets)?.as_slice() == octets);
     }
     Ok(())
@@ -179,150 +179,54 @@ const ANSWER: &[u8] = b"\x01\x01\x05\x00\xca\xfe\xba\xbe\x02\x00\
 \x09\x01\x00\x09sip:bob@b\
 \x00\x01MMMMMMMMMMMMMMMMMMMM";
 
-fn id(alloc: Global, name: &[u8]) -> Result<Payload, Fail> {
-    let name = Octets::copy_of(alloc, name)?;
-    Ok(Payload::Id { form: 1, name })
-}
-
-fn default_policy(alloc: Global) -> Result<Payload, Fail> {
-    let mut items = Vec::new(alloc);
-    for (kind, value) in [1, 16, 1, 20, 14, 0, 0, 1, 1, 0, 1, 10, 0]
-        .iter()
-        .enumerate()
-    {
-        items.push((kind as u8, Octets::copy_of(alloc, &[*value])?))?;
-    }
-    let items = Items::from_vec(items);
-    Ok(Payload::Sp(Policy { number: 0, items }))
-}
-
-fn message(
-    alloc: Global,
-    kind: u8,
-    second: CsEntry,
-    payloads: Vec<Payload>,
-) -> Result<Message, Fail> {
-    let first = CsEntry {
-        policy: 0,
-        ssrc: 0xdeca_fbad,
-        roc: 0,
-    };
-    Ok(Message {
-        kind,
-        verify: kind == 0,
-        csb: 0xcafe_babe,
-        map: Items::from_vec(vec![in alloc; first, second]?),
-        payloads: Items::from_vec(payloads),
-    })
-}
-
-fn offer(alloc: Global) -> Result<Message, Fail> {
-    let random = Octets::copy_of(alloc, &[0x52; 16])?;
-    let octets = Octets::copy_of(alloc, &[0x4b; 4])?;
-    let tag = Octets::copy_of(alloc, &[0x4d; 20])?;
-    let payloads = vec![in alloc;
-        Payload::Time {
-            form: 0,
-            stamp: [0x83, 0xaa, 0x7e, 0x80, 0, 0, 0, 0]
-        },
-        Payload::Random { octets: random },
-        id(alloc, b"sip:gw@a")?,
-        id(alloc, b"sip:bob@b")?,
-        default_policy(alloc)?,
-        Payload::Kemac {
-            cipher: 1,
-            octets,
-            mac: 1,
-            tag
-        },
-    ]?;
-    let second = CsEntry {
-        policy: 0,
-        ssrc: 0,
-        roc: 0,
-    };
-    message(alloc, 0, second, payloads)
-}
-
-fn answer(alloc: Global) -> Result<Message, Fail> {
-    let tag = Octets::copy_of(alloc, &[0x4d; 20])?;
-    let payloads = vec![in alloc;
-        Payload::Time {
-            form: 0,
-            stamp: [0x83, 0xaa, 0x7e, 0x80, 0x80, 0, 0, 0]
-        },
-        id(alloc, b"sip:bob@b")?,
-        Payload::Verify { mac: 1, tag },
-    ]?;
-    let second = CsEntry {
-        policy: 0,
-        ssrc: 0x0102_0304,
-        roc: 0,
-    };
-    message(alloc, 1, second, payloads)
-}
-
-// Messages that were put together here, their octets, and what is read of these.
-#[test]
-fn prints_what_is_put_together(rt: HostRuntime) -> Result<(), Fail> {
-    for (made, octets) in [(offer(rt.alloc())?, OFFER), (answer(rt.alloc())?, ANSWER)] {
-        assert!(rt; print(rt.alloc(), &made)?.as_slice() == octets);
-        assert!(rt; printed_again(rt.alloc(), octets)?.as_slice() == octets);
+// A payload of so many octets and of one octet, behind its number and its length.
+fn put(message: &mut Vec<u8>, front: &[u8], count: u16, octet: u8) -> Result<(), AllocError> {
+    message.extend_from_slice(front)?;
+    message.extend_from_slice(&count.to_be_bytes())?;
+    for _ in 0..count {
+        message.push(octet)?;
     }
     Ok(())
 }
 
-// A message of the initiator with RAND, an ID, an extension and a KEMAC of so many octets, RAND of at most 255.
-fn message_with(alloc: Global, count: u16) -> Result<Vec<u8>, AllocError> {
-    let size = count.to_be_bytes();
-    let mut octets = Vec::new(alloc);
-    octets.extend_from_slice(b"\x01\x00\x05\x00\xca\xfe\xba\xbe\x00\x00\x0b\x01ABCDEFGH\x06")?;
-    octets.push(count.min(255) as u8)?;
-    for _ in 0..count.min(255) {
-        octets.push(0x52)?;
-    }
-    octets.extend_from_slice(b"\x15\x00")?;
-    octets.extend_from_slice(&size)?;
-    for _ in 0..count {
-        octets.push(0x49)?;
-    }
-    octets.extend_from_slice(b"\x01\x07")?;
-    octets.extend_from_slice(&size)?;
-    for _ in 0..count {
-        octets.push(0x45)?;
-    }
-    octets.extend_from_slice(b"\x00\x02")?;
-    octets.extend_from_slice(&size)?;
-    for _ in 0..count {
-        octets.push(0x4b)?;
-    }
-    octets.push(0)?;
-    Ok(octets)
+// A message of the initiator with RAND of one octet, and an ID, an extension and a KEMAC of so many octets.
+fn put_all(message: &mut Vec<u8>, count: u16) -> Result<(), AllocError> {
+    message.extend_from_slice(
+        b"\x01\x00\x05\x00\xca\xfe\xba\xbe\x00\x00\x0b\x01ABCDEFGH\x06\x01R",
+    )?;
+    put(message, b"\x15\x00", count, 0x49)?;
+    put(message, b"\x01\x07", count, 0x45)?;
+    put(message, b"\x00\x02", count, 0x4b)?;
+    message.push(0)?;
+    Ok(())
 }
 
 #[test]
 fn keeps_every_length(rt: HostRuntime) -> Result<(), Fail> {
     for count in [0, 1, 255, 65535] {
-        let octets = message_with(rt.alloc(), count)?;
+        let mut octets = Vec::new(rt.alloc());
+        put_all(&mut octets, count)?;
         let again = printed_again(rt.alloc(), &octets)?;
         assert!(rt; again.as_slice() == octets.as_slice(), "{count}");
     }
     Ok(())
 }
 
-#[test]
-fn shows_a_message(rt: HostRuntime) -> Result<(), Fail> {
-    let message: Message = read(rt.alloc(), INITIAL)?;
+fn shows(rt: &impl Abort, message: &Message, numbers: &[u8]) {
     assert!(rt; (message.kind, message.verify, message.csb) == (0, true, 0xcafe_babe));
-    let numbers = [5, 11, 6, 21, 10, 1];
-    let payloads: &[Payload] = message.payloads.as_slice();
-    assert!(rt; payloads.len() == numbers.len());
-    for (payload, number) in payloads.iter().zip(numbers) {
-        assert!(rt; payload.number() == number);
+    assert!(rt; message.payloads.as_slice().len() == numbers.len());
+    for (payload, number) in message.payloads.as_slice().iter().zip(numbers) {
+        assert!(rt; payload.number() == *number);
     }
     for entry in message.map.as_slice() {
         assert!(rt; (entry.policy, entry.ssrc, entry.roc) == (0, 0xdeca_fbad, 7));
     }
+}
+
+#[test]
+fn shows_a_message(rt: HostRuntime) -> Result<(), Fail> {
+    let message = read(rt.alloc(), INITIAL)?;
+    shows(&rt, &message, &[5, 11, 6, 21, 10, 1]);
     Ok(())
 }
 

@@ -1,8 +1,6 @@
 //! Outcome lines, read and printed.
 
-use sg_base::ScriptFault;
-use sg_lines::ReadLineFault;
-use sg_outcome::{print_outcome, read_outcome};
+use sg_script::{ReadLineFault, ScriptFault, print_outcome, read_outcome};
 use std::alloc::Global;
 use std::process::Abort;
 
@@ -37,7 +35,10 @@ fn have_faults(rt: &impl Abort, alloc: Global, bad: &[(&[u8], ScriptFault)], goo
 /// Each outcome and each cause.
 #[test]
 fn outcomes_and_causes(rt: HostRuntime) {
-    const ROWS: [&[u8]; 72] = [
+    const ROWS: [&[u8]; 75] = [
+        b"made 1 0 1\n",
+        b"live 1\n",
+        b"out 20002 127.0.0.1:41000 800f1234decafbadcafebabe4e55dc4ce79978d88ca4d215949d2402\n",
         b"made 4294967295 255 4\n",
         b"live 0\n",
         b"sdp 1 secure 763d30\n",
