@@ -78,7 +78,7 @@ impl Table {
             Err(NoMemory) => Err(NoMemory),
             Ok(()) => {
                 // A signal makes a call or ends some, never both.
-                if self.calls.count() > before {
+                if self.calls.count() != before {
                     self.calls.index(&mut self.places);
                 }
                 Ok(told)
