@@ -1,24 +1,24 @@
-pub mod Alone
-pub mod Answered
-pub mod Answering
-pub mod Batching
-pub mod Delivering
-pub mod Early
-pub mod Ended
-pub mod Ending
-pub mod Found
-pub mod FreeSlot
-pub mod Gathering
-pub mod Indexed
-pub mod KeptSlots
-pub mod Orders
-pub mod Outing
-pub mod PairAdded
-pub mod Pairing
-pub mod Settled
-pub mod Sharing
-pub mod Signalled
-pub mod Slots
-pub mod Stepped
-pub mod Ticking
-pub mod Turns
+mod Alone
+mod Answered
+mod Answering
+mod Batching
+mod Delivering
+mod Early
+mod Ended
+mod Ending
+mod Found
+mod FreeSlot
+mod Gathering
+mod Indexed
+mod KeptSlots
+mod Orders
+mod Outing
+mod PairAdded
+mod Pairing
+mod Settled
+mod Sharing
+mod Signalled
+mod Slots
+mod Stepped
+mod Ticking
+mod Turns

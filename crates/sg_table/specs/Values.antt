@@ -28,10 +28,6 @@ has_shape_port port s = is_in_slot s.slot s.media port
 abbrev pub has_call_port : ℕ → CallValue → Bool
 has_call_port port c = has_shape_port port (shape_of c)
 
--- the call has this slot
-abbrev pub is_at_slot : ℕ → CallValue → Bool
-is_at_slot slot c = c.slot == slot
-
 -- the slots rise below 256, and no call has more than four media
 abbrev pub AreRising : List Shape → Type 0
 AreRising [] = Unit {0}

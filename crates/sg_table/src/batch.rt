@@ -3,9 +3,7 @@
 
 ghost use Rattle.std.specs.Prelude.{◌≡◌, ◌<◌, ◌≤◌, ℕ, List, [], length, map, All, IsSome};
 ghost use Rattle.std.specs.List.{AllByRecursion};
-ghost use Rattle.sg_call.specs.Drained.{IsDrained};
 ghost use Rattle.sg_gateway.specs.World.{World};
-ghost use Rattle.sg_leg.specs.Pairs.{EachPair};
 ghost use Rattle.sg_leg.specs.declared.books.Books as declared_books;
 ghost use Rattle.sg_table.specs.Batches.{octets_of, IsBatched};
 ghost use Rattle.sg_table.specs.Octets.{AreOctets};
@@ -70,7 +68,7 @@ impl Calls {
         ensures shapes { shapes_of self.new.calls ≡ shapes_of self.old.calls }
     {
         calls_in_order();
-        each(
+        handle_all(
             &mut self.by_slot,
             places,
             self.moment,
@@ -82,8 +80,9 @@ impl Calls {
     }
 }
 
-/// The three parts of a batch.
-fn each<R: Threads + Sync, G: Gate + Sync>(
+/// The arrivals are shared out, the calls handle theirs, as many at a time as there are workers, and all is taken
+/// back. Calls in a slice hand out no allocator.
+fn handle_all<R: Threads + Sync, G: Gate + Sync>(
     calls: &mut [Call],
     places: &[Option<u8>],
     now: u64,
@@ -104,7 +103,7 @@ fn each<R: Threads + Sync, G: Gate + Sync>(
 {
     each_call_by_itself();
     share_out(calls, places, now, arrivals);
-    work(rt, calls, workers, gate);
+    drain_all(rt, calls, workers, gate);
     gather(calls, places, arrivals);
 }
 
@@ -146,14 +145,6 @@ fn hand_out(calls: &mut [Call], places: &[Option<u8>], number: u32, now: u64, ar
         }
         Some(i) => calls[i].push(number, arrival.port, arrival.from, pad, now),
     }
-}
-
-/// The calls handle what waits, as many at a time as there are workers.
-fn work<R: Threads + Sync, G: Gate + Sync>(rt: &R, calls: &mut [Call], workers: usize, gate: &G)
-    requires workers { 0 < workers }
-    ensures { EachPair IsDrained calls.old calls.new }
-{
-    drain_all(rt, calls, workers, gate);
 }
 
 /// Takes back what the calls handled, in order of arrival.
