@@ -3,5 +3,5 @@ mod Indexing
 mod MkiTests
 mod Octets
 mod Reusing
-mod Sets
+pub mod Sets
 pub mod Spending
