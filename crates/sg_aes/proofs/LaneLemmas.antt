@@ -166,8 +166,8 @@ both_without a b =
     xor_assoc a 0x63 (bit_xor b 0x63) ∙ ap (bit_xor a) (ap (bit_xor 0x63) (xor_comm b 0x63) ∙ sym (xor_assoc 0x63 0x63 b))
 
 -- 2 a + b + 2 b of octets without the constant
-twice_front : (a b : ℕ) → a < 256 → b < 256 → bit_xor (bit_xor (times_x (without a)) (without b)) (times_x (without b)) ≡ without (bit_xor (times_x (bit_xor a b)) b)
-twice_front a b ha hb =
+twice_prefix : (a b : ℕ) → a < 256 → b < 256 → bit_xor (bit_xor (times_x (without a)) (without b)) (times_x (without b)) ≡ without (bit_xor (times_x (bit_xor a b)) b)
+twice_prefix a b ha hb =
     let f : ℕ → List ℕ = λ a. map (λ b. bit_xor (bit_xor (times_x (without a)) (without b)) (times_x (without b))) (range_with_len 0 256) in
     let g : ℕ → List ℕ = λ a. map (λ b. without (bit_xor (times_x (bit_xor a b)) b)) (range_with_len 0 256) in
     agree 0 (λ b. bit_xor (bit_xor (times_x (without a)) (without b)) (times_x (without b))) (λ b. without (bit_xor (times_x (bit_xor a b)) b)) 256 (agree [] f g 256 refl a ha) b hb
@@ -200,10 +200,10 @@ cell a b c d k ha hb hc hd hk =
     let hp : p < 256 = xor_of_8 _ _ (times_x_lt _ (xor_of_8 _ _ ha hb)) hb in
     let hq : q < 256 = xor_of_8 _ _ hc hd in
     let both : bit_xor (one b) (two b) ≡ nibbles (bit_xor (without b) (times_x (without b))) = nibbles_xor _ _ wb tb in
-    let front : bit_xor (two a) (bit_xor (one b) (two b)) ≡ nibbles (without p) =
-    ap (bit_xor (two a)) both ∙ nibbles_xor _ _ ta (xor_of_8 _ _ wb tb) ∙ ap nibbles (xor_right (times_x (without a)) (without b) (times_x (without b)) ∙ twice_front a b ha hb) in
+    let prefix : bit_xor (two a) (bit_xor (one b) (two b)) ≡ nibbles (without p) =
+    ap (bit_xor (two a)) both ∙ nibbles_xor _ _ ta (xor_of_8 _ _ wb tb) ∙ ap nibbles (xor_right (times_x (without a)) (without b) (times_x (without b)) ∙ twice_prefix a b ha hb) in
     let back : bit_xor (one c) (one d) ≡ nibbles q = nibbles_xor _ _ (without_lt c hc) (without_lt d hd) ∙ ap nibbles (both_without c d) in
-    ap (λ x. bit_xor x (key_nibbles k)) (ap₂ bit_xor front back ∙ nibbles_xor _ _ (without_lt p hp) hq ∙ ap nibbles (without_out p q))
+    ap (λ x. bit_xor x (key_nibbles k)) (ap₂ bit_xor prefix back ∙ nibbles_xor _ _ (without_lt p hp) hq ∙ ap nibbles (without_out p q))
     ∙ nibbles_xor _ _ (without_lt (bit_xor p q) (xor_of_8 _ _ hp hq)) (without_lt k hk)
     ∙ ap nibbles (both_without (bit_xor p q) k)
 

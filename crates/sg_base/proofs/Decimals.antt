@@ -71,11 +71,11 @@ not_digit most t i fits within other =
 -- the first digit of a number of more than one isn't zero
 leads : (n : ℕ) → n < 10 ^ 64 → (0 < length (decimal n)) × (0 < n → 48 < slice_index (decimal n) 0) × (n < 10 → length (decimal n) ≡ 1)
 leads = decimal_by_steps_wide (λ m ds. (0 < length ds) × (0 < m → 48 < slice_index ds 0) × (m < 10 → length ds ≡ 1)) (λ m l. (omega arith, λ some. omega (arith, some), λ less. refl))
-    (λ m ds l h. (omega (arith, length-append ds ((48 + m % 10) ∷ [])), λ some. front ds (48 + m % 10) h.0 (h.1 (omega (arith, l))), λ less. absurd (omega (arith, l, less))))
+    (λ m ds l h. (omega (arith, length-append ds ((48 + m % 10) ∷ [])), λ some. prefix ds (48 + m % 10) h.0 (h.1 (omega (arith, l))), λ less. absurd (omega (arith, l, less))))
   where
-    front : (ds : List ℕ) (x : ℕ) → 0 < length ds → 48 < slice_index ds 0 → 48 < slice_index (ds ++ x ∷ []) 0
-    front [] x some above = absurd (omega (arith, some))
-    front (d ∷ ds) x some above = above
+    prefix : (ds : List ℕ) (x : ℕ) → 0 < length ds → 48 < slice_index ds 0 → 48 < slice_index (ds ++ x ∷ []) 0
+    prefix [] x some above = absurd (omega (arith, some))
+    prefix (d ∷ ds) x some above = above
 
 -- nor with a zero before other digits
 pub not_led : (most : ℕ) (t : List ℕ) → most < 10 ^ 64 → slice_index t 0 ≡ 48 → 1 < length t → number_at most t ≡ None

@@ -7,7 +7,7 @@ pub const CALLS_MOST: usize = 256;
 pub const MEDIA_MOST: usize = 4;
 
 /// How many streams a session has at most.
-pub const STREAMS_MOST: usize = 16;
+pub const STREAMS_MOST: usize = 64;
 
 /// How many keys a session has at most.
 pub const SESSION_KEYS_MOST: usize = 8;

@@ -19,8 +19,8 @@ pub fn octets_spelling()
 
 /// A text is cut at the first octet of a value, which doesn't stand before the cut.
 pub fn cut_spelling()
-    ensures again { (octet : ℕ) (front rest : List ℕ) → Lacks octet front → cut_at octet (front ++ octet ∷ rest) ≡ Some (front, rest) }
-    ensures takes { (octet : ℕ) (text front rest : List ℕ) → cut_at octet text ≡ Some (front, rest) → (text ≡ front ++ octet ∷ rest) × Lacks octet front }
+    ensures again { (octet : ℕ) (prefix rest : List ℕ) → Lacks octet prefix → cut_at octet (prefix ++ octet ∷ rest) ≡ Some (prefix, rest) }
+    ensures takes { (octet : ℕ) (text prefix rest : List ℕ) → cut_at octet text ≡ Some (prefix, rest) → (text ≡ prefix ++ octet ∷ rest) × Lacks octet prefix }
 {}
 
 /// Four numbers have one spelling.

@@ -256,11 +256,11 @@ noted_is (x ∷ xs) n e = go (is_same n x) refl (noted_is xs n) e
         any_here (IsNote n) x xs (sym (same_octets_is n.peer x.peer q.0), sym (eqb-true n.csb x.csb q.1), sym (same_octets_is n.stamp x.stamp p.1))
     go false is rest e = any_there (IsNote n) x xs (rest e)
 
-any_front : {X : Type 0} (P : X → Type 0) (xs ys : List X) → Any P xs → Any P (xs ++ ys)
-any_front P [] ys a = absurd (any_none P a)
-any_front P (x ∷ xs) ys a = elim (any_cases P x xs a) [
+any_prefix : {X : Type 0} (P : X → Type 0) (xs ys : List X) → Any P xs → Any P (xs ++ ys)
+any_prefix P [] ys a = absurd (any_none P a)
+any_prefix P (x ∷ xs) ys a = elim (any_cases P x xs a) [
   | inl here ↦ any_here P x (xs ++ ys) here
-  | inr later ↦ any_there P x (xs ++ ys) (any_front P xs ys later)
+  | inr later ↦ any_there P x (xs ++ ys) (any_prefix P xs ys later)
 ]
 
 any_at_end : {X : Type 0} (P : X → Type 0) (xs : List X) (x : X) → P x → Any P (xs ++ x ∷ [])
@@ -286,7 +286,7 @@ all_noted : (noted ns : List Noted) → AllByRecursion (λ n. Any (IsNote n) (wi
 all_noted noted [] = tt
 all_noted noted (n ∷ ns) =
     let rest = notes_stay (with_note noted n) ns in
-    (subst (Any (IsNote n)) (sym rest.1) (any_front (IsNote n) (with_note noted n) rest.0 (with_note_is noted n).1), all_noted (with_note noted n) ns)
+    (subst (Any (IsNote n)) (sym rest.1) (any_prefix (IsNote n) (with_note noted n) rest.0 (with_note_is noted n).1), all_noted (with_note noted n) ns)
 
 module _ (books : Books) (now : ℕ) where
   bundles_once : (after : List Noted) (ms : List descriptions.Medium) (bs : List (Option Bundle)) → AllByRecursion (Sometimes (IsOfMedium books now ms)) bs

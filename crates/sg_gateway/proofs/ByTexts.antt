@@ -68,11 +68,11 @@ WasMade ts c = (o : Offer) → c.offer ≡ Some o → Any (MadeBy c.id o) ts
 abbrev pub WereMade : List Turn → World → Type 0
 WereMade ts w = AllByRecursion (WasMade ts) w.calls
 
-any_front : {X : Type 0} (P : X → Type 0) (xs ys : List X) → Any P xs → Any P (xs ++ ys)
-any_front P [] ys a = absurd (any_none P a)
-any_front P (x ∷ xs) ys a = elim (any_cases P x xs a) [
+any_prefix : {X : Type 0} (P : X → Type 0) (xs ys : List X) → Any P xs → Any P (xs ++ ys)
+any_prefix P [] ys a = absurd (any_none P a)
+any_prefix P (x ∷ xs) ys a = elim (any_cases P x xs a) [
   | inl here ↦ any_here P x (xs ++ ys) here
-  | inr later ↦ any_there P x (xs ++ ys) (any_front P xs ys later)
+  | inr later ↦ any_there P x (xs ++ ys) (any_prefix P xs ys later)
 ]
 
 any_last : {X : Type 0} (P : X → Type 0) (xs : List X) (x : X) → P x → Any P (xs ++ x ∷ [])
@@ -128,7 +128,7 @@ module _ (ts : List Turn) (w : World) (made : WereMade ts w) (e : Event) where
   Now = ts ++ turn_of w e ∷ []
 
   still : AllByRecursion (WasMade Now) w.calls
-  still = each_weaker (WasMade ts) (WasMade Now) (λ c was o open_one. any_front (MadeBy c.id o) ts (turn_of w e ∷ []) (was o open_one)) w.calls made
+  still = each_weaker (WasMade ts) (WasMade Now) (λ c was o open_one. any_prefix (MadeBy c.id o) ts (turn_of w e ∷ []) (was o open_one)) w.calls made
 
   abbrev Made : Answer → Type 0
   Made a = WereMade Now a.world

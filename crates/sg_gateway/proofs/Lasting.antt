@@ -110,11 +110,11 @@ Lasts ts c = AllByRecursion (λ s. Any (IsMadeIn c.id s) ts) c.sessions
 abbrev pub AllLast : List Turn → World → Type 0
 AllLast ts w = AllByRecursion (Lasts ts) w.calls
 
-any_front : {X : Type 0} (P : X → Type 0) (xs ys : List X) → Any P xs → Any P (xs ++ ys)
-any_front P [] ys a = absurd (any_none P a)
-any_front P (x ∷ xs) ys a = elim (any_cases P x xs a) [
+any_prefix : {X : Type 0} (P : X → Type 0) (xs ys : List X) → Any P xs → Any P (xs ++ ys)
+any_prefix P [] ys a = absurd (any_none P a)
+any_prefix P (x ∷ xs) ys a = elim (any_cases P x xs a) [
   | inl here ↦ any_here P x (xs ++ ys) here
-  | inr later ↦ any_there P x (xs ++ ys) (any_front P xs ys later)
+  | inr later ↦ any_there P x (xs ++ ys) (any_prefix P xs ys later)
 ]
 
 any_last : {X : Type 0} (P : X → Type 0) (xs : List X) (x : X) → P x → Any P (xs ++ x ∷ [])
@@ -142,7 +142,7 @@ module _ (ts : List Turn) (w : World) (last : AllLast ts w) (e : Event) where
   Now = ts ++ turn_of w e ∷ []
 
   still : AllLast Now w
-  still = each_weaker (Lasts ts) (Lasts Now) (λ c is. each_weaker _ _ (λ s made. any_front (IsMadeIn c.id s) ts (turn_of w e ∷ []) made) c.sessions is) w.calls last
+  still = each_weaker (Lasts ts) (Lasts Now) (λ c is. each_weaker _ _ (λ s made. any_prefix (IsMadeIn c.id s) ts (turn_of w e ∷ []) made) c.sessions is) w.calls last
 
   abbrev Last : Answer → Type 0
   Last a = AllLast Now a.world

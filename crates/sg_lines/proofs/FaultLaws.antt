@@ -181,5 +181,5 @@ unfolding line_of
 too_long number t long = rw (lt-ltb 70000 (length t) long) refl
 
 -- a line ends with its only line end
-pub whole : (number : ℕ) (t : List ℕ) (l : Line) → line_of number t ≡ Ok l → (front : List ℕ) × (t ≡ front ++ 10 ∷ []) × Lacks 10 front
+pub whole : (number : ℕ) (t : List ℕ) (l : Line) → line_of number t ≡ Ok l → (prefix : List ℕ) × (t ≡ prefix ++ 10 ∷ []) × Lacks 10 prefix
 whole number t l e = let p = line_takes number t l e in (join_with_byte 32 (line_fields l), p.0, joined_lacks (line_fields l) (dense_line number l p.1))

@@ -221,9 +221,9 @@ drop_at a b n e = rw (← e) (dropped a b)
 
 same_key : (k : Master) → FitsKey k → master_of k.suite (k.key ++ k.salt) ≡ k
 same_key k fits =
-    let front : take (key_len_of k.suite) (k.key ++ k.salt) ≡ k.key = take_at k.key k.salt (key_len_of k.suite) fits.key in
+    let prefix : take (key_len_of k.suite) (k.key ++ k.salt) ≡ k.key = take_at k.key k.salt (key_len_of k.suite) fits.key in
     let back : drop (key_len_of k.suite) (k.key ++ k.salt) ≡ k.salt = drop_at k.key k.salt (key_len_of k.suite) fits.key in
-    (λ i. record { suite = k.suite; key = front i; salt = back i })
+    (λ i. record { suite = k.suite; key = prefix i; salt = back i })
 
 pub key_again : (k : Master) → FitsKey k → key_in (key_text k) ≡ Ok k
 unfolding key_in
@@ -249,9 +249,9 @@ key_takes t k e =
     let spelled : t ≡ key_text made = two_parts t p.0.0 p.0.1 (suite_name s.0) (hex_text (made.key ++ made.salt)) whole name (h.0 ∙ ap hex_text (sym both)) in
     let low = h.1.low in
     let high = h.1.high in
-    let front : length made.key ≡ key_len_of s.0 = length-take (key_len_of s.0) o.0 ∙ omega (arith, low, high) in
+    let prefix : length made.key ≡ key_len_of s.0 = length-take (key_len_of s.0) o.0 ∙ omega (arith, low, high) in
     let back : length made.salt ≡ salt_len_of s.0 = length-drop (key_len_of s.0) o.0 ∙ omega (arith, low, high) in
-    subst (λ (x : Master). (t ≡ key_text x) × FitsKey x) (ok_is made k o.2) (spelled, record { octets = subst IsBytes (sym both) h.1.bytes; key = front; salt = back })
+    subst (λ (x : Master). (t ≡ key_text x) × FitsKey x) (ok_is made k o.2) (spelled, record { octets = subst IsBytes (sym both) h.1.bytes; key = prefix; salt = back })
 
 -- ---- names of peers
 

@@ -7,14 +7,14 @@ use Rattle.sg_lines.specs.ScriptLines.{lines_of, onto, NoEnd, IsWhole}
 lines_of_other : (b : ℕ) (bs : List ℕ) → (b ≡ 10 → ⊥) → lines_of (b ∷ bs) ≡ onto b (lines_of bs)
 lines_of_other b bs ne = cond-false (eqb b 10) _ _ (ne_eqb b 10 ne)
 
-front_ends : (front rest : List ℕ) → NoEnd front → lines_of ((front ++ 10 ∷ []) ++ rest) ≡ (front ++ 10 ∷ []) ∷ lines_of rest
-front_ends [] rest none = refl
-front_ends (b ∷ front) rest none = lines_of_other b ((front ++ 10 ∷ []) ++ rest) none.0 ∙ ap (onto b) (front_ends front rest none.1)
+prefix_ends : (prefix rest : List ℕ) → NoEnd prefix → lines_of ((prefix ++ 10 ∷ []) ++ rest) ≡ (prefix ++ 10 ∷ []) ∷ lines_of rest
+prefix_ends [] rest none = refl
+prefix_ends (b ∷ prefix) rest none = lines_of_other b ((prefix ++ 10 ∷ []) ++ rest) none.0 ∙ ap (onto b) (prefix_ends prefix rest none.1)
 
 -- a whole line is the first
 pub lines_of_whole : (line rest : List ℕ) → IsWhole line → lines_of (line ++ rest) ≡ line ∷ lines_of rest
 lines_of_whole line rest whole =
-    ap (λ (l : List ℕ). lines_of (l ++ rest)) whole.1 ∙ front_ends whole.0 rest whole.2 ∙ ap (λ (l : List ℕ). l ∷ lines_of rest) (sym whole.1)
+    ap (λ (l : List ℕ). lines_of (l ++ rest)) whole.1 ∙ prefix_ends whole.0 rest whole.2 ∙ ap (λ (l : List ℕ). l ∷ lines_of rest) (sym whole.1)
 
 -- a line without end is the only one
 pub lines_of_rest : (line : List ℕ) → NoEnd line → 0 < length line → lines_of line ≡ line ∷ []

@@ -18,4 +18,4 @@ NoEnd octets = AllByRecursion (λ b. b ≢ 10) octets
 
 -- a line with its line end
 abbrev pub IsWhole : List ℕ → Type 0
-IsWhole line = (front : List ℕ) × (line ≡ front ++ 10 ∷ []) × NoEnd front
+IsWhole line = (prefix : List ℕ) × (line ≡ prefix ++ 10 ∷ []) × NoEnd prefix

@@ -159,16 +159,16 @@ not_yet streams i t n h e ne f =
     ∙ is_in-push (map source_of (take i streams)) (get_or streams i t).ssrc n
     ∙ rw (f, ← e, ne_eqb t.ssrc n ne) refl
 
-not_full : (n : ℕ) → n ≤ 16 → nat_lt n 16 ≡ not (nat_eq n 16)
+not_full : (n : ℕ) → n ≤ 64 → nat_lt n 64 ≡ not (nat_eq n 64)
 not_full n h =
-    elim (cases_eq n 16) [
+    elim (cases_eq n 64) [
       | inl e ↦ rw e refl
-      | inr ne ↦ rw (lt-ltb n 16 (omega arith), ne_eqb n 16 ne) refl
+      | inr ne ↦ rw (lt-ltb n 64 (omega arith), ne_eqb n 64 ne) refl
     ]
 
 -- a source that isn't there has room where a place is free
-pub new_room : (streams : List StreamValue) (roc window : ℕ) (done : List Done) (ssrc : ℕ) → StreamsStand streams roc window done → is_in (map source_of streams) ssrc ≡ false → length streams ≤ 16
-    → room_in done ssrc ≡ not (nat_eq (length streams) 16)
+pub new_room : (streams : List StreamValue) (roc window : ℕ) (done : List Done) (ssrc : ℕ) → StreamsStand streams roc window done → is_in (map source_of streams) ssrc ≡ false → length streams ≤ 64
+    → room_in done ssrc ≡ not (nat_eq (length streams) 64)
 new_room streams roc window done ssrc s h fits =
     let count : length (sources done) ≡ length streams = ap length (sym (s.each_source)) ∙ length-map streams source_of in
     rw (new_in streams roc window done ssrc s h, count) (not_full (length streams) fits)

@@ -21,7 +21,7 @@ use std::marker::Model;
 pub struct OpenSide {
     kind: Kind,
     keys: KeySet,
-    streams: ArrayVec<Stream, 16>,
+    streams: ArrayVec<Stream, 64>,
     roc: u32,
     window: u16,
     admit: Admit,

@@ -87,7 +87,7 @@ fn open_in(
 /// opened.
 pub(crate) fn open_among(
     keyed: Keyed,
-    streams: &mut ArrayVec<Stream, 16>,
+    streams: &mut ArrayVec<Stream, 64>,
     keys: &mut KeySet,
     roc: u32,
     window: u16,

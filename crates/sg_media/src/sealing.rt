@@ -87,7 +87,7 @@ fn seal_in(
 /// Seals a packet whose source is admitted. A new source's stream takes a place only where the packet is sealed.
 pub(crate) fn seal_among(
     headed: Headed,
-    streams: &mut ArrayVec<Stream, 16>,
+    streams: &mut ArrayVec<Stream, 64>,
     keys: &mut KeySet,
     tag_len: usize,
     roc: u32,

@@ -152,9 +152,9 @@ number_takes size limit wide octets y fits e =
     let g = guard_ok (nat_lt (length octets) size) cut (number_of (take size octets), drop size octets) y e in
     let long : size ≤ length octets = ltb-false _ _ g.0 in
     let len : length (take size octets) ≡ size = omega (arith, length-take size octets) in
-    let front : be (number_of (take size octets)) size ≡ take size octets = wide.back (take size octets) len (IsOctets-take size octets fits) in
+    let prefix : be (number_of (take size octets)) size ≡ take size octets = wide.back (take size octets) len (IsOctets-take size octets fits) in
     subst (λ (z : ℕ × List ℕ). Takes octets (be z.0 size) z.1 × (z.0 < limit)) g.1
-    (record { parts = rw front (sym (take-append-drop size octets)); rest_fits = IsOctets-drop size octets fits }, wide.below (take size octets) len (IsOctets-take size octets fits))
+    (record { parts = rw prefix (sym (take-append-drop size octets)); rest_fits = IsOctets-drop size octets fits }, wide.below (take size octets) len (IsOctets-take size octets fits))
 
 pub number_again : (size limit : ℕ) (wide : IsWide size limit) (n : ℕ) (rest : List ℕ) → n < limit → number_at size (be n size ++ rest) ≡ Ok (n, rest)
 unfolding number_at

@@ -137,8 +137,8 @@ random_takes octets y fits e =
     let tb = octet_takes a.0.1 b.0 ta.0.rest_fits b.1 in
     let tc = octets_takes b.0.0 b.0.1 c.0 tb.0.rest_fits c.1 in
     let size : b.0.0 ≡ length c.0.0 % 256 = omega (arith, tb.1, tc.1) in
-    let front : Takes a.0.1 (be (length c.0.0) 1) b.0.1 = subst (λ (n : ℕ). Takes a.0.1 (n ∷ []) b.0.1) size tb.0 in
-    let e1 = Takes-then a.0.1 (be (length c.0.0) 1) b.0.1 c.0.0 c.0.1 front tc.0 in
+    let prefix : Takes a.0.1 (be (length c.0.0) 1) b.0.1 = subst (λ (n : ℕ). Takes a.0.1 (n ∷ []) b.0.1) size tb.0 in
+    let e1 = Takes-then a.0.1 (be (length c.0.0) 1) b.0.1 c.0.0 c.0.1 prefix tc.0 in
     let e2 = Takes-then octets (a.0.0 ∷ []) a.0.1 (short c.0.0) c.0.1 ta.0 e1 in
     let made : Chained = (Random c.0.0, a.0.0, c.0.1) in
     subst (λ (z : Chained). TakesChained octets 11 z) (ok_is made y c.2)
@@ -195,8 +195,8 @@ item_takes room octets y fits e =
     let tc = octets_takes b.0.0 b.0.1 c.0 tb.0.rest_fits c.1 in
     let small : b.0.0 < 256 = first_octet a.0.1 b.0.0 b.0.1 ta.0.rest_fits tb.0 in
     let size : b.0.0 ≡ length c.0.0 % 256 = omega (arith, small, tc.1) in
-    let front : Takes a.0.1 (be (length c.0.0) 1) b.0.1 = subst (λ (n : ℕ). Takes a.0.1 (n ∷ []) b.0.1) size tb.0 in
-    let e1 = Takes-then a.0.1 (be (length c.0.0) 1) b.0.1 c.0.0 c.0.1 front tc.0 in
+    let prefix : Takes a.0.1 (be (length c.0.0) 1) b.0.1 = subst (λ (n : ℕ). Takes a.0.1 (n ∷ []) b.0.1) size tb.0 in
+    let e1 = Takes-then a.0.1 (be (length c.0.0) 1) b.0.1 c.0.0 c.0.1 prefix tc.0 in
     let e2 = Takes-then octets (a.0.0 ∷ []) a.0.1 (short c.0.0) c.0.1 ta.0 e1 in
     let made : Item × List ℕ = ((a.0.0, c.0.0), c.0.1) in
     subst (λ (z : Item × List ℕ). Takes octets (item_octets z.0) z.1 × FitsItem z.0 × (2 + length z.0.1 ≤ room)) (ok_is made y c.2)

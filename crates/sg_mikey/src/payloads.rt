@@ -55,9 +55,9 @@ fn read_time(octets: &[u8]) -> Result<Chained<'_>, Halt>
 {
     let (next, rest) = read_next(octets)?;
     let (form, rest) = read_up_to(rest, 1, MikeyFault::Value)?;
-    let (front, rest) = read_octets(rest, 8)?;
+    let (prefix, rest) = read_octets(rest, 8)?;
     let mut stamp = [0; 8];
-    stamp.copy_from_slice(front);
+    stamp.copy_from_slice(prefix);
     Ok((Payload::Time { form, stamp }, next, rest))
 }
 

@@ -233,9 +233,9 @@ read_again o t fits short e =
     let s = some_fields o in
     let body = join_with_byte 32 (outcome_fields o) in
     let end : is_ended t ≡ true = ap is_ended e ∙ is_ended_so body in
-    let front : body_of t ≡ body = ap body_of e ∙ body_ends body in
+    let prefix : body_of t ≡ body = ap body_of e ∙ body_ends body in
     let cut : fields_of body ≡ outcome_fields o = cut_some (outcome_fields o) s.0 s.1 s.2 (dense_outcome o fits) in
-    rw (le-ltb 70000 (length t) short, end, front, cut) (outcome_in_again o fits)
+    rw (le-ltb 70000 (length t) short, end, prefix, cut) (outcome_in_again o fits)
 
 pub outcome_again : (o : Outcome) → FitsOutcome o → length (outcome_line o) ≤ 70000 → outcome_of (outcome_line o) ≡ Ok o
 outcome_again o fits short = read_again o (outcome_line o) fits short (outcome_joined o)

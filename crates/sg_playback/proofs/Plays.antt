@@ -19,16 +19,16 @@ use Rattle.sg_playback.specs.Playing.{Closes, HasRoom, IsClosed, IsCut, IsPlayed
 
 -- ---- fronts
 
-pub front_more : (front all more : List ℕ) → IsPrefixOf front all → IsPrefixOf front (all ++ more)
-front_more front all more is = (is.0 ++ more, ap (λ (l : List ℕ). l ++ more) is.1 ∙ append_assoc front is.0 more)
+pub prefix_more : (prefix all more : List ℕ) → IsPrefixOf prefix all → IsPrefixOf prefix (all ++ more)
+prefix_more prefix all more is = (is.0 ++ more, ap (λ (l : List ℕ). l ++ more) is.1 ∙ append_assoc prefix is.0 more)
 
-pub front_all : (w : World) (es fs : List Event) (front : List ℕ) → IsPrefixOf front (output_from w es) → IsPrefixOf front (output_from w (es ++ fs))
-front_all w es fs front is = subst (IsPrefixOf front) (sym (output_from-append w es fs)) (front_more front (output_from w es) (output_from (world_after w es) fs) is)
+pub prefix_all : (w : World) (es fs : List Event) (prefix : List ℕ) → IsPrefixOf prefix (output_from w es) → IsPrefixOf prefix (output_from w (es ++ fs))
+prefix_all w es fs prefix is = subst (IsPrefixOf prefix) (sym (output_from-append w es fs)) (prefix_more prefix (output_from w es) (output_from (world_after w es) fs) is)
 
-pub front_behind : (w : World) (es fs : List Event) (front : List ℕ) → IsPrefixOf front (output_from (world_after w es) fs) → IsPrefixOf (output_from w es ++ front) (output_from w (es ++ fs))
-front_behind w es fs front is = (
+pub prefix_behind : (w : World) (es fs : List Event) (prefix : List ℕ) → IsPrefixOf prefix (output_from (world_after w es) fs) → IsPrefixOf (output_from w es ++ prefix) (output_from w (es ++ fs))
+prefix_behind w es fs prefix is = (
   is.0,
-  output_from-append w es fs ∙ ap (λ (l : List ℕ). output_from w es ++ l) is.1 ∙ sym (append_assoc (output_from w es) front is.0),
+  output_from-append w es fs ∙ ap (λ (l : List ℕ). output_from w es ++ l) is.1 ∙ sym (append_assoc (output_from w es) prefix is.0),
 )
 
 -- ---- what was stepped
@@ -49,18 +49,18 @@ stepped (Err Noise) w events stands_for a b octets wrote is stands = absurd wrot
 stepped (Err TurnsSpent) w events stands_for a b octets wrote is stands = absurd wrote
 
 -- a front was told where it failed
-pub stepped_front : (status : Status) (w : World) (events : List Event) (stands_for : World → Type 0) (out : List ℕ) → IsStepped (Err status) w events stands_for out
+pub stepped_prefix : (status : Status) (w : World) (events : List Event) (stands_for : World → Type 0) (out : List ℕ) → IsStepped (Err status) w events stands_for out
     → ((status ≡ Write) ⊎ (status ≡ NoMemory)) × IsPrefixOf out (output_from w events)
-stepped_front Write w events stands_for out is = (inl refl, is)
-stepped_front NoMemory w events stands_for out is = (inr refl, is)
-stepped_front Done w events stands_for out is = absurd is
-stepped_front Usage w events stands_for out is = absurd is
-stepped_front (Script n fault) w events stands_for out is = absurd is
-stepped_front Read w events stands_for out is = absurd is
-stepped_front Link w events stands_for out is = absurd is
-stepped_front Clock w events stands_for out is = absurd is
-stepped_front Noise w events stands_for out is = absurd is
-stepped_front TurnsSpent w events stands_for out is = absurd is
+stepped_prefix Write w events stands_for out is = (inl refl, is)
+stepped_prefix NoMemory w events stands_for out is = (inr refl, is)
+stepped_prefix Done w events stands_for out is = absurd is
+stepped_prefix Usage w events stands_for out is = absurd is
+stepped_prefix (Script n fault) w events stands_for out is = absurd is
+stepped_prefix Read w events stands_for out is = absurd is
+stepped_prefix Link w events stands_for out is = absurd is
+stepped_prefix Clock w events stands_for out is = absurd is
+stepped_prefix Noise w events stands_for out is = absurd is
+stepped_prefix TurnsSpent w events stands_for out is = absurd is
 
 -- a line was cut by such a status
 pub played_cut : (status : Status) (l : Line) (w : World) (waited waits : List Event) (stands_for : World → Type 0) (draws out : List ℕ) → (status ≡ Write) ⊎ (status ≡ NoMemory)
@@ -73,7 +73,7 @@ pub cut_before : (l : Line) (w : World) (waited : List Event) (out : List ℕ) �
 cut_before l w waited out is = record {
   events = [];
   goes = λ later. (handled l later 0 (drawing []), refl);
-  told = front_all w waited [] out is;
+  told = prefix_all w waited [] out is;
 }
 
 -- ---- the header and datagrams
@@ -81,7 +81,7 @@ cut_before l w waited out is = record {
 pub header_taken : (w : World) (waited : List Event) (stands_for : World → Type 0) → stands_for w → IsTaken lines.Header w waited waited stands_for [] []
 header_taken w waited stands_for stands = record {
   events = [];
-  front = [];
+  prefix = [];
   goes = λ later more. refl;
   all = append-nil waited;
   told = refl;
@@ -89,15 +89,15 @@ header_taken w waited stands_for stands = record {
 }
 
 -- a datagram waits behind those that still wait
-pub datagram_taken : (port : ℕ) (from : _) (octets : List ℕ) (w : World) (waited mid waits front : List Event) (stands_for : World → Type 0) (out : List ℕ) → waited ≡ front ++ mid
-    → waits ≡ mid ++ events_of (lines.Datagram port from octets) → IsStepped (Ok tt) w front stands_for out → IsTaken (lines.Datagram port from octets) w waited waits stands_for [] out
-datagram_taken port from octets w waited mid waits front stands_for out split is stepped = record {
+pub datagram_taken : (port : ℕ) (from : _) (octets : List ℕ) (w : World) (waited mid waits prefix : List Event) (stands_for : World → Type 0) (out : List ℕ) → waited ≡ prefix ++ mid
+    → waits ≡ mid ++ events_of (lines.Datagram port from octets) → IsStepped (Ok tt) w prefix stands_for out → IsTaken (lines.Datagram port from octets) w waited waits stands_for [] out
+datagram_taken port from octets w waited mid waits prefix stands_for out split is stepped = record {
   events = events_of (lines.Datagram port from octets);
-  front = front;
+  prefix = prefix;
   goes = λ later more. refl;
   all =
-      ap (λ (l : List Event). l ++ events_of (lines.Datagram port from octets)) split ∙ append_assoc front mid (events_of (lines.Datagram port from octets))
-      ∙ ap (λ (l : List Event). front ++ l) (sym is);
+      ap (λ (l : List Event). l ++ events_of (lines.Datagram port from octets)) split ∙ append_assoc prefix mid (events_of (lines.Datagram port from octets))
+      ∙ ap (λ (l : List Event). prefix ++ l) (sym is);
   told = stepped.0;
   stands = stepped.1;
 }
@@ -112,7 +112,7 @@ module _ (signal s : Signal) (draws : List ℕ) (has : IsSupplied (Ok s) signal 
       → IsStepped (Ok tt) (world_after w waited) (events_of (lines.Signal s)) stands_for out' → IsTaken (lines.Signal signal) w waited waits stands_for draws (out ++ out')
   signal_taken w waited waits stands_for out out' none told stepped = record {
     events = events_of (lines.Signal s);
-    front = waited ++ events_of (lines.Signal s);
+    prefix = waited ++ events_of (lines.Signal s);
     goes = signal_goes;
     all = sym (append-nil (waited ++ events_of (lines.Signal s))) ∙ ap (λ (l : List Event). (waited ++ events_of (lines.Signal s)) ++ l) (sym none);
     told = (λ i. told i ++ stepped.0 i) ∙ sym (output_from-append w waited (events_of (lines.Signal s)));
@@ -124,7 +124,7 @@ module _ (signal s : Signal) (draws : List ℕ) (has : IsSupplied (Ok s) signal 
   signal_cut w waited out out' told is = record {
     events = events_of (lines.Signal s);
     goes = λ later. (later 0 (drawing []), ap (λ (d : List ℕ). handled (lines.Signal signal) later 0 (drawing d)) (sym (append-nil draws)) ∙ signal_goes later []);
-    told = subst (λ (o : List ℕ). IsPrefixOf (o ++ out') (output_from w (waited ++ events_of (lines.Signal s)))) (sym told) (front_behind w waited (events_of (lines.Signal s)) out' is);
+    told = subst (λ (o : List ℕ). IsPrefixOf (o ++ out') (output_from w (waited ++ events_of (lines.Signal s)))) (sym told) (prefix_behind w waited (events_of (lines.Signal s)) out' is);
   }
 
 -- its noise wasn't drawn
@@ -207,14 +207,14 @@ room_in (Ok u) waits none = omega (arith, ap length none)
 room_in (Err status) waits none = tt
 
 -- a datagram waits, or there was no memory for it
-pub datagram_played : (r : Result (Unit {0}) Status) (l : Line) (port : ℕ) (from : _) (octets : List ℕ) → l ≡ lines.Datagram port from octets → (w : World) (waited mid waits front : List Event) (stands_for : World → Type 0) (out : List ℕ)
-    → waited ≡ front ++ mid → OnOk r (waits ≡ mid ++ events_of (lines.Datagram port from octets)) → IfErr r (λ status. status ≡ NoMemory) → IsStepped (Ok tt) w front stands_for out
+pub datagram_played : (r : Result (Unit {0}) Status) (l : Line) (port : ℕ) (from : _) (octets : List ℕ) → l ≡ lines.Datagram port from octets → (w : World) (waited mid waits prefix : List Event) (stands_for : World → Type 0) (out : List ℕ)
+    → waited ≡ prefix ++ mid → OnOk r (waits ≡ mid ++ events_of (lines.Datagram port from octets)) → IfErr r (λ status. status ≡ NoMemory) → IsStepped (Ok tt) w prefix stands_for out
     → IsPlayed r l w waited waits stands_for [] out
-datagram_played (Ok u) l port from octets is w waited mid waits front stands_for out split waits_are only stepped =
-    subst (λ l. IsTaken l w waited waits stands_for [] out) (sym is) (datagram_taken port from octets w waited mid waits front stands_for out split waits_are stepped)
-datagram_played (Err status) l port from octets is w waited mid waits front stands_for out split waits_are only stepped =
+datagram_played (Ok u) l port from octets is w waited mid waits prefix stands_for out split waits_are only stepped =
+    subst (λ l. IsTaken l w waited waits stands_for [] out) (sym is) (datagram_taken port from octets w waited mid waits prefix stands_for out split waits_are stepped)
+datagram_played (Err status) l port from octets is w waited mid waits prefix stands_for out split waits_are only stepped =
     played_cut status l w waited waits stands_for [] out (inr only)
-    (cut_before l w waited out (subst (λ (es : List Event). IsPrefixOf out (output_from w es)) (sym split) (front_all w front mid out ([], sym stepped.0 ∙ sym (append-nil out)))))
+    (cut_before l w waited out (subst (λ (es : List Event). IsPrefixOf out (output_from w es)) (sym split) (prefix_all w prefix mid out ([], sym stepped.0 ∙ sym (append-nil out)))))
 
 -- ---- a signal that has its noise
 
@@ -222,5 +222,5 @@ pub signal_played : (r : Result (Unit {0}) Status) (signal s : Signal) (draws : 
     → waits ≡ [] → out ≡ output_from w waited → IsStepped r (world_after w waited) (events_of (lines.Signal s)) stands_for out' → IsPlayed r (lines.Signal signal) w waited waits stands_for draws (out ++ out')
 signal_played (Ok u) signal s draws has w waited waits stands_for out out' none told stepped = signal_taken signal s draws has w waited waits stands_for out out' none told stepped
 signal_played (Err status) signal s draws has w waited waits stands_for out out' none told stepped =
-    let front = stepped_front status (world_after w waited) (events_of (lines.Signal s)) stands_for out' stepped in
-    played_cut status (lines.Signal signal) w waited waits stands_for draws (out ++ out') front.0 (signal_cut signal s draws has w waited out out' told front.1)
+    let prefix = stepped_prefix status (world_after w waited) (events_of (lines.Signal s)) stands_for out' stepped in
+    played_cut status (lines.Signal signal) w waited waits stands_for draws (out ++ out') prefix.0 (signal_cut signal s draws has w waited out out' told prefix.1)

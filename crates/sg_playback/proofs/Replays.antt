@@ -37,20 +37,20 @@ module _ (octets drawn : List ℕ) where
   }
 
   -- where a prefix of further events' text was written
-  front_so : (es fs : List Event) (rest : Trace) (front : List ℕ) → replayed octets drawn ≡ with_events (es ++ fs) rest → IsPrefixOf front (output_from (world_after empty es) fs)
-      → IsPrefixOf (output es ++ front) (output (replayed octets drawn).events)
-  front_so es fs rest front is part =
+  prefix_so : (es fs : List Event) (rest : Trace) (prefix : List ℕ) → replayed octets drawn ≡ with_events (es ++ fs) rest → IsPrefixOf prefix (output_from (world_after empty es) fs)
+      → IsPrefixOf (output es ++ prefix) (output (replayed octets drawn).events)
+  prefix_so es fs rest prefix is part =
       let tail = output_from (world_after empty (es ++ fs)) rest.events in (
         part.0 ++ tail,
         ap (λ (c : Trace). output c.events) is ∙ output-append (es ++ fs) rest.events
-            ∙ ap (λ (l : List ℕ). l ++ tail) (output-append es fs ∙ ap (λ (l : List ℕ). output es ++ l) part.1 ∙ sym (append_assoc (output es) front part.0))
-            ∙ append_assoc (output es ++ front) part.0 tail,
+            ∙ ap (λ (l : List ℕ). l ++ tail) (output-append es fs ∙ ap (λ (l : List ℕ). output es ++ l) part.1 ∙ sym (append_assoc (output es) prefix part.0))
+            ∙ append_assoc (output es ++ prefix) part.0 tail,
       )
 
 -- a status of a run that was cut
 pub ends_cut : (status : Status) (octets draws out : List ℕ) (left : Option (List ℕ)) → (status ≡ Write) ⊎ (status ≡ NoMemory) → IsPrefixOf out (output (replayed octets draws).events) → Ends status octets draws out left
-ends_cut status octets draws out left (inl is) front = subst (λ s. Ends s octets draws out left) (sym is) front
-ends_cut status octets draws out left (inr is) front = subst (λ s. Ends s octets draws out left) (sym is) front
+ends_cut status octets draws out left (inl is) prefix = subst (λ s. Ends s octets draws out left) (sym is) prefix
+ends_cut status octets draws out left (inr is) prefix = subst (λ s. Ends s octets draws out left) (sym is) prefix
 
 module _ (old now : Tellings) (taken drawn : List ℕ) (es ps : List Event) (script : Reading)
     (going : IsReplaying old now taken script.waits drawn es ps script.number script.offset)
@@ -69,8 +69,8 @@ module _ (old now : Tellings) (taken drawn : List ℕ) (es ps : List Event) (scr
   no_draw = ap (replayed octets) (sym (append-nil drawn))
 
   -- whatever comes, what is written is a front
-  pub is_front : IsPrefixOf (output es ++ []) (output (replayed octets drawn).events)
-  is_front = front_so octets drawn es ps _ [] (no_draw ∙ trace_is []) (output_from (world_after empty es) ps, refl)
+  pub is_prefix : IsPrefixOf (output es ++ []) (output (replayed octets drawn).events)
+  is_prefix = prefix_so octets drawn es ps _ [] (no_draw ∙ trace_is []) (output_from (world_after empty es) ps, refl)
 
   -- at an end that is closed
   closed_whole : (end status : Status) (stop : Stop) (out : List ℕ) → trace_from Replays script.number script.offset (lines_of (script.waits ++ got)) 0 (drawing []) ≡ stopped stop (drawing [])
@@ -78,7 +78,7 @@ module _ (old now : Tellings) (taken drawn : List ℕ) (es ps : List Event) (scr
   closed_whole end status stop out stops ends (inl all) =
       subst (λ s. Ends s octets drawn (output es ++ out) left') (sym all.0)
       (ends (subst (λ (o : List ℕ). IsWhole octets drawn o stop) (output-append es ps ∙ ap (λ (o : List ℕ). output es ++ o) (sym all.1)) (whole_so octets drawn (es ++ ps) stop (no_draw ∙ trace_is [] ∙ ap (with_events (es ++ ps)) stops))))
-  closed_whole end status stop out stops ends (inr cut) = ends_cut status octets drawn (output es ++ out) left' cut.0 (front_so octets drawn es ps _ out (no_draw ∙ trace_is []) cut.1)
+  closed_whole end status stop out stops ends (inr cut) = ends_cut status octets drawn (output es ++ out) left' cut.0 (prefix_so octets drawn es ps _ out (no_draw ∙ trace_is []) cut.1)
 
   -- at the end of the source
   pub closed_at_end : (status : Status) (out : List ℕ) → script.waits ++ got ≡ [] → AtEnd left' → Closes Done status (world_after empty es) ps out → Ends status octets drawn (output es ++ out) left'
@@ -105,9 +105,9 @@ module _ (old now : Tellings) (taken drawn : List ℕ) (es ps : List Event) (scr
   closed_at_err (Script n fault) status new out next closed =
       closed_at_fault fault status out (subst (λ (m : ℕ). IsFault m script.offset (script.waits ++ got) fault left') next.0 next.1) (subst (λ (m : ℕ). Closes (Script m fault) status (world_after empty es) ps out) next.0 closed)
   closed_at_err Read status new out next closed =
-      subst (λ s. Ends s octets drawn (output es ++ out) left') (sym closed.0) (subst (λ (o : List ℕ). IsPrefixOf (output es ++ o) (output (replayed octets drawn).events)) (sym closed.1) is_front)
+      subst (λ s. Ends s octets drawn (output es ++ out) left') (sym closed.0) (subst (λ (o : List ℕ). IsPrefixOf (output es ++ o) (output (replayed octets drawn).events)) (sym closed.1) is_prefix)
   closed_at_err NoMemory status new out next closed =
-      subst (λ s. Ends s octets drawn (output es ++ out) left') (sym closed.0) (subst (λ (o : List ℕ). IsPrefixOf (output es ++ o) (output (replayed octets drawn).events)) (sym closed.1) is_front)
+      subst (λ s. Ends s octets drawn (output es ++ out) left') (sym closed.0) (subst (λ (o : List ℕ). IsPrefixOf (output es ++ o) (output (replayed octets drawn).events)) (sym closed.1) is_prefix)
   closed_at_err Done status new out next closed = absurd next
   closed_at_err Usage status new out next closed = absurd next
   closed_at_err Write status new out next closed = absurd next
@@ -133,7 +133,7 @@ module _ (old now : Tellings) (taken drawn : List ℕ) (es ps : List Event) (scr
     cut_so : (draws out : List ℕ) → IsCut l (world_after empty es) ps draws out → IsPrefixOf (output es ++ out) (output (replayed octets (drawn ++ draws)).events)
     cut_so draws out cut =
         let rest = cut.goes (later new.waits) in
-        front_so octets (drawn ++ draws) es (ps ++ cut.events) rest.0 out
+        prefix_so octets (drawn ++ draws) es (ps ++ cut.events) rest.0 out
         (all_is draws ∙ ap (with_events (es ++ ps)) rest.1 ∙ with_events_again (es ++ ps) cut.events rest.0 ∙ ap (λ (l : List Event). with_events l rest.0) (append_assoc es ps cut.events)) cut.told
 
     -- where a line ends the run
@@ -156,19 +156,19 @@ module _ (old now : Tellings) (taken drawn : List ℕ) (es ps : List Event) (scr
     -- where it doesn't
     pub goes_on : (drawn' written' : Option (List ℕ)) (waits' : List Event) (stands_for : World → Type 0) (draws out : List ℕ) (taken_so : IsTaken l (world_after empty es) ps waits' stands_for draws out)
         → Added now.drawn drawn' draws → Wrote now.written written' out
-        → IsReplaying old (record { left = left'; written = written'; drawn = drawn' }) (taken ++ read.line) new.waits (drawn ++ draws) (es ++ taken_so.front) waits' new.number new.offset
+        → IsReplaying old (record { left = left'; written = written'; drawn = drawn' }) (taken ++ read.line) new.waits (drawn ++ draws) (es ++ taken_so.prefix) waits' new.number new.offset
     goes_on drawn' written' waits' stands_for draws out taken_so drew wrote = record {
       took = subst (TookIn old.left left') (ap (λ (l : List ℕ). taken ++ l) read.split ∙ sym (append_assoc taken read.line new.waits)) took_all;
       drew = added_more old.drawn now.drawn drawn' drawn draws going.drew drew;
-      wrote = subst (Wrote old.written written') (ap (λ (o : List ℕ). output es ++ o) taken_so.told ∙ sym (output-append es taken_so.front)) (wrote_more old.written now.written written' (output es) out going.wrote wrote);
+      wrote = subst (Wrote old.written written') (ap (λ (o : List ℕ). output es ++ o) taken_so.told ∙ sym (output-append es taken_so.prefix)) (wrote_more old.written now.written written' (output es) out going.wrote wrote);
       goes = λ rest more.
           (λ i. replayed (append_assoc taken read.line rest i) (append_assoc drawn draws more i))
           ∙ going.goes (read.line ++ rest) (draws ++ more)
           ∙ ap (with_events (es ++ ps)) (line_goes rest (draws ++ more) ∙ taken_so.goes (later rest) more)
           ∙ with_events_again (es ++ ps) taken_so.events _
           ∙ ap (λ (f : List Event). with_events f (later rest 0 (drawing more)))
-          (append_assoc es ps taken_so.events ∙ ap (λ (f : List Event). es ++ f) taken_so.all ∙ sym (append_assoc es taken_so.front waits'))
-          ∙ (λ i. with_events ((es ++ taken_so.front) ++ waits') (trace_from Replays (sym read.number i) (sym read.offset i) (lines_of rest) 0 (drawing more)));
+          (append_assoc es ps taken_so.events ∙ ap (λ (f : List Event). es ++ f) taken_so.all ∙ sym (append_assoc es taken_so.prefix waits'))
+          ∙ (λ i. with_events ((es ++ taken_so.prefix) ++ waits') (trace_from Replays (sym read.number i) (sym read.offset i) (lines_of rest) 0 (drawing more)));
     }
 
 -- how many octets were read
@@ -190,8 +190,8 @@ begins old ps script none is = record {
 pub close_read : (end status : Status) (old new : Reading) (got : List ℕ) (left : Option (List ℕ)) (w : World) (waited : List Event) (out : List ℕ) → IsNext (Err end) old new got left → IsClosed end status w waited out
     → (status ≡ Read → end ≡ Read) × (end ≡ Read → status ≡ Read)
 close_read (Script n fault) status old new got left w waited out next (inl is) = ((λ same. absurd (let both : Script n fault ≡ Read = sym is.0 ∙ same in cc)), λ same. cc)
-close_read (Script n fault) status old new got left w waited out next (inr (inl is, front)) = ((λ same. absurd (let both : Write ≡ Read = sym is ∙ same in cc)), λ same. cc)
-close_read (Script n fault) status old new got left w waited out next (inr (inr is, front)) = ((λ same. absurd (let both : NoMemory ≡ Read = sym is ∙ same in cc)), λ same. cc)
+close_read (Script n fault) status old new got left w waited out next (inr (inl is, prefix)) = ((λ same. absurd (let both : Write ≡ Read = sym is ∙ same in cc)), λ same. cc)
+close_read (Script n fault) status old new got left w waited out next (inr (inr is, prefix)) = ((λ same. absurd (let both : NoMemory ≡ Read = sym is ∙ same in cc)), λ same. cc)
 close_read Read status old new got left w waited out next is = ((λ same. refl), λ same. is.0)
 close_read NoMemory status old new got left w waited out next is = ((λ same. absurd (let both : NoMemory ≡ Read = sym is.0 ∙ same in cc)), λ same. cc)
 close_read Done status old new got left w waited out next is = absurd next
@@ -205,8 +205,8 @@ close_read TurnsSpent status old new got left w waited out next is = absurd next
 pub close_noise : (end status : Status) (old new : Reading) (got : List ℕ) (left : Option (List ℕ)) (w : World) (waited : List Event) (out : List ℕ) → IsNext (Err end) old new got left → IsClosed end status w waited out
     → status ≡ Noise → ⊥
 close_noise (Script n fault) status old new got left w waited out next (inl is) same = let both : Script n fault ≡ Noise = sym is.0 ∙ same in cc
-close_noise (Script n fault) status old new got left w waited out next (inr (inl is, front)) same = let both : Write ≡ Noise = sym is ∙ same in cc
-close_noise (Script n fault) status old new got left w waited out next (inr (inr is, front)) same = let both : NoMemory ≡ Noise = sym is ∙ same in cc
+close_noise (Script n fault) status old new got left w waited out next (inr (inl is, prefix)) same = let both : Write ≡ Noise = sym is ∙ same in cc
+close_noise (Script n fault) status old new got left w waited out next (inr (inr is, prefix)) same = let both : NoMemory ≡ Noise = sym is ∙ same in cc
 close_noise Read status old new got left w waited out next is same = let both : Read ≡ Noise = sym is.0 ∙ same in cc
 close_noise NoMemory status old new got left w waited out next is same = let both : NoMemory ≡ Noise = sym is.0 ∙ same in cc
 close_noise Done status old new got left w waited out next is same = absurd next
@@ -219,8 +219,8 @@ close_noise TurnsSpent status old new got left w waited out next is same = absur
 
 pub done_not : (status other : Status) (w : World) (waited : List Event) (out : List ℕ) → Closes Done status w waited out → (Done ≡ other → ⊥) → (Write ≡ other → ⊥) → (NoMemory ≡ other → ⊥) → status ≡ other → ⊥
 done_not status other w waited out (inl is) a b c same = a (sym is.0 ∙ same)
-done_not status other w waited out (inr (inl is, front)) a b c same = b (sym is ∙ same)
-done_not status other w waited out (inr (inr is, front)) a b c same = c (sym is ∙ same)
+done_not status other w waited out (inr (inl is, prefix)) a b c same = b (sym is ∙ same)
+done_not status other w waited out (inr (inr is, prefix)) a b c same = c (sym is ∙ same)
 
 pub played_not_read : (status : Status) (l : Line) (w : World) (waited waits : List Event) (stands_for : World → Type 0) (draws out : List ℕ) → IsPlayed (Err status) l w waited waits stands_for draws out → status ≡ Read → ⊥
 played_not_read status l w waited waits stands_for draws out is same = subst (λ s. IsPlayed (Err s) l w waited waits stands_for draws out) same is

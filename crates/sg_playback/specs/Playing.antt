@@ -48,18 +48,18 @@ IsSettled (Err status) w waited waits stands_for out = IsStepped (Err status) w 
 
 -- What was handled and told is a prefix of what waited, or all of it.
 abbrev pub HasRoom : Result (Unit {0}) Status → World → List Event → List Event → (World → Type 0) → List ℕ → Type 0
-HasRoom (Ok u) w waited waits stands_for out = (front : List Event) × (waited ≡ front ++ waits) × IsStepped (Ok u) w front stands_for out
+HasRoom (Ok u) w waited waits stands_for out = (prefix : List Event) × (waited ≡ prefix ++ waits) × IsStepped (Ok u) w prefix stands_for out
 HasRoom (Err status) w waited waits stands_for out = IsStepped (Err status) w waited stands_for out
 
 -- The line's events, for which these octets were drawn, came behind those that waited. A front of them all was
 -- handled and told, the others wait.
 pub record IsTaken (l : Line) (w : World) (waited waits : List Event) (stands_for : World → Type 0) (draws out : List ℕ) : Type 0 where
   pub events : List Event
-  pub front : List Event
+  pub prefix : List Event
   pub goes : (later : Later) (more : List ℕ) → handled l later 0 (drawing (draws ++ more)) ≡ with_events events (later 0 (drawing more))
-  pub all : waited ++ events ≡ front ++ waits
-  pub told : out ≡ output_from w front
-  pub stands : stands_for (world_after w front)
+  pub all : waited ++ events ≡ prefix ++ waits
+  pub told : out ≡ output_from w prefix
+  pub stands : stands_for (world_after w prefix)
 
 -- A front of what they tell was told.
 pub record IsCut (l : Line) (w : World) (waited : List Event) (draws out : List ℕ) : Type 0 where

@@ -2,7 +2,7 @@
 
 ghost use Rattle.std.specs.Prelude.{◌≡◌, ◌≢◌, ◌≤◌, ◌<◌, ◌∷◌, ◌++◌, [], ℕ, List, IfErr, IfOk, OnErr, OnOk, false, length};
 ghost use Rattle.sg_trace.specs.Causes.{HasFailed, IsCaused};
-ghost use Rattle.sg_trace.specs.Output.{WroteFront, text};
+ghost use Rattle.sg_trace.specs.Output.{WrotePrefix, text};
 ghost use Rattle.sg_edge.specs.Links.{Added};
 ghost use Rattle.sg_edge.specs.Told.{Wrote};
 ghost use Rattle.sg_gateway.specs.Events.{events_of_signal, signal_lacks_noise};

@@ -74,7 +74,7 @@ initial_start_is w = ap before_mac (initial_ends w (replicate 20 0)) ∙ before_
 pub initial_spelled : (w : Sent) → initial_octets w ≡ message_octets (initial_sent w)
 unfolding initial_octets
 initial_spelled w =
-    ap (λ front. front ++ mac_of w.pair.key w.csb w.random (initial_start w)) (initial_start_is w)
+    ap (λ prefix. prefix ++ mac_of w.pair.key w.csb w.random (initial_start w)) (initial_start_is w)
     ∙ sym (initial_ends w (mac_of w.pair.key w.csb w.random (initial_start w)))
 
 initial_before : (w : Sent) → before_mac (initial_octets w) ≡ initial_start w
@@ -111,9 +111,9 @@ initial_read again w is = ap message_of (initial_spelled w) ∙ again (initial_s
 
 -- ---- the key inside
 
-front_at : (n : ℕ) (x rest : List ℕ) → length x ≡ n → octets_at n (x ++ rest) ≡ Some (x, rest)
+prefix_at : (n : ℕ) (x rest : List ℕ) → length x ≡ n → octets_at n (x ++ rest) ≡ Some (x, rest)
 unfolding octets_at
-front_at n x rest h =
+prefix_at n x rest h =
     let long : ltb (length (x ++ rest)) n ≡ false = le-ltb _ _ (omega (arith, length-append x rest)) in
     rw (long, take_at x rest n h, drop_at x rest n h) refl
 
@@ -121,8 +121,8 @@ key_read : (key : List ℕ) → 16 ≤ length key → length key ≤ 64 → tgks
 unfolding tgks_of keys_at key_part_at octet_at validity_at all_differ
 key_read key least most =
     let number : number_of (be (length key) 2) ≡ length key = omega arith in
-    let size : octets_at 2 (be (length key) 2 ++ key) ≡ Some (be (length key) 2, key) = front_at 2 (be (length key) 2) key refl in
-    let whole : octets_at (number_of (be (length key) 2)) key ≡ Some (key, []) = ap (octets_at (number_of (be (length key) 2))) (sym (append-nil key)) ∙ front_at (number_of (be (length key) 2)) key [] (sym number) in
+    let size : octets_at 2 (be (length key) 2 ++ key) ≡ Some (be (length key) 2, key) = prefix_at 2 (be (length key) 2) key refl in
+    let whole : octets_at (number_of (be (length key) 2)) key ≡ Some (key, []) = ap (octets_at (number_of (be (length key) 2))) (sym (append-nil key)) ∙ prefix_at (number_of (be (length key) 2)) key [] (sym number) in
     rw (size, whole, number, le-leb 16 (length key) least, le-leb (length key) 64 most) refl
 
 -- ---- the message is accepted
@@ -154,7 +154,7 @@ response_mac i ssrcs = mac_of i.pair.key i.csb i.random (response_covers (respon
 
 pub response_spelled : (i : Accepted) (ssrcs : List ℕ) → response_octets i ssrcs ≡ message_octets (response_sent i ssrcs)
 unfolding response_octets
-response_spelled i ssrcs = ap (λ front. front ++ response_mac i ssrcs) (response_start_is i ssrcs) ∙ sym (response_ends i ssrcs (response_mac i ssrcs))
+response_spelled i ssrcs = ap (λ prefix. prefix ++ response_mac i ssrcs) (response_start_is i ssrcs) ∙ sym (response_ends i ssrcs (response_mac i ssrcs))
 
 response_before : (i : Accepted) (ssrcs : List ℕ) → before_mac (response_octets i ssrcs) ≡ response_start i ssrcs
 unfolding response_octets
@@ -201,7 +201,7 @@ pub response_accepted : (w : Sent) (ssrcs : List ℕ) → IsSendable w → lengt
 unfolding response_of response_fits closing_in
 response_accepted w ssrcs is two =
     let fits : same_octets (response_mac (received w) ssrcs) (mac_of w.pair.key w.csb w.random (response_covers (before_mac (response_octets (received w) ssrcs)) w.pair.own w.pair.peer w.stamp)) ≡ true =
-    same_octets_true _ _ (ap (λ front. mac_of w.pair.key w.csb w.random (response_covers front w.pair.own w.pair.peer w.stamp)) (sym (response_before (received w) ssrcs))) in
+    same_octets_true _ _ (ap (λ prefix. mac_of w.pair.key w.csb w.random (response_covers prefix w.pair.own w.pair.peer w.stamp)) (sym (response_before (received w) ssrcs))) in
     let same : eqb w.csb w.csb ≡ true = eq-eqb w.csb w.csb refl in
     let count : eqb (length (answered_map w.map ssrcs)) (length w.map) ≡ true = eq-eqb _ _ (count_answered w.map ssrcs two) in
     rw (fits, same, count) refl

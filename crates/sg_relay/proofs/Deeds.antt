@@ -49,14 +49,14 @@ bad_after a b good ends = record {
 pub none_after : (a b : List LinkCall) → receipts_in a ≡ [] → receipts_in b ≡ [] → receipts_in (a ++ b) ≡ []
 none_after a b none more = flat_append receipt_in a b ∙ ap₂ (λ (x y : List Received). x ++ y) none more
 
-pub front_all : {X : Type 0} (all : List X) → IsPrefixOf all all
-front_all all = ([], sym (append-nil all))
+pub prefix_all : {X : Type 0} (all : List X) → IsPrefixOf all all
+prefix_all all = ([], sym (append-nil all))
 
-pub front_longer : {X : Type 0} (a all more : List X) → IsPrefixOf a all → IsPrefixOf a (all ++ more)
-front_longer a all more front = (front.0 ++ more, ap (λ l. l ++ more) front.1 ∙ append_assoc a front.0 more)
+pub prefix_longer : {X : Type 0} (a all more : List X) → IsPrefixOf a all → IsPrefixOf a (all ++ more)
+prefix_longer a all more prefix = (prefix.0 ++ more, ap (λ l. l ++ more) prefix.1 ∙ append_assoc a prefix.0 more)
 
-pub front_after : {X : Type 0} (a b all : List X) → IsPrefixOf b all → IsPrefixOf (a ++ b) (a ++ all)
-front_after a b all front = (front.0, ap (λ l. a ++ l) front.1 ∙ sym (append_assoc a b front.0))
+pub prefix_after : {X : Type 0} (a b all : List X) → IsPrefixOf b all → IsPrefixOf (a ++ b) (a ++ all)
+prefix_after a b all prefix = (prefix.0, ap (λ l. a ++ l) prefix.1 ∙ sym (append_assoc a b prefix.0))
 
 -- ---- outcomes
 
@@ -223,7 +223,7 @@ held_more (Ok u) asks more a b first then = (
   none_after a b first.3 then.3,
 )
 held_more (Err e) asks more a b first then = (
-  subst (λ l. IsPrefixOf l (asks ++ more)) (sym (flat_append ask_in a b ∙ ap (λ (l : List Ask). l ++ asks_in b) first.0)) (front_after asks (asks_in b) more then.0),
+  subst (λ l. IsPrefixOf l (asks ++ more)) (sym (flat_append ask_in a b ∙ ap (λ (l : List Ask). l ++ asks_in b) first.0)) (prefix_after asks (asks_in b) more then.0),
   bad_after a b first.1 then.1,
   flat_append sent_in a b ∙ ap₂ (λ (l m : List Bool). l ++ m) first.2 then.2,
   none_after a b first.3 then.3,
@@ -231,7 +231,7 @@ held_more (Err e) asks more a b first then = (
 
 -- a call that wasn't made
 pub held_longer : (asks more : List Ask) (a : List LinkCall) (e : Failed) → IsHeld (Err e) asks a → IsHeld (Err e) (asks ++ more) a
-held_longer asks more a e held = (front_longer (asks_in a) asks more held.0, held.1, held.2, held.3)
+held_longer asks more a e held = (prefix_longer (asks_in a) asks more held.0, held.1, held.2, held.3)
 
 -- the ports couldn't be held
 pub told_unheld : (o : Outcome) (asks : List Ask) (calls : List LinkCall) (e : Failed) → asks_of o ≡ asks → IsHeld (Err e) asks calls → AreCarriedOut (Err Link) (o ∷ []) calls []
@@ -259,9 +259,9 @@ stops_writing s o calls out (inr is) part good = subst (λ (x : Status). StopsWi
 -- what was written of a line, by how that went
 pub line_so : (r : Result (Unit {0}) Status) (a b : Option (List ℕ)) (line : List ℕ) → IsWritten r a b line
     → (out : List ℕ) × Wrote a b out × IsPrefixOf out line × (IsOk r → out ≡ line) × IfErr r IsOfWriting
-line_so (Ok u) a b line wrote = (line, wrote, front_all line, (λ ok. refl), tt)
-line_so (Err Write) a b line front = (front.0, front.2, front.1, (λ ok. absurd (false≢true ok)), inl refl)
-line_so (Err NoMemory) a b line front = (front.0, front.2, front.1, (λ ok. absurd (false≢true ok)), inr refl)
+line_so (Ok u) a b line wrote = (line, wrote, prefix_all line, (λ ok. refl), tt)
+line_so (Err Write) a b line prefix = (prefix.0, prefix.2, prefix.1, (λ ok. absurd (false≢true ok)), inl refl)
+line_so (Err NoMemory) a b line prefix = (prefix.0, prefix.2, prefix.1, (λ ok. absurd (false≢true ok)), inr refl)
 line_so (Err Done) a b line never = absurd never
 line_so (Err Usage) a b line never = absurd never
 line_so (Err (Script n f)) a b line never = absurd never
@@ -274,7 +274,7 @@ line_so (Err TurnsSpent) a b line never = absurd never
 -- the ports are held, and the line is written or a prefix of it
 pub told_held : (r : Result (Unit {0}) Status) (o : Outcome) (asks : List Ask) (calls : List LinkCall) (out : List ℕ) → asks_of o ≡ asks → ((ok : Bool) → (written_as o ok ≡ o ∷ []) × (sent_as o ok ≡ []))
     → IsHeld (Ok tt) asks calls → IsPrefixOf out (outcome_line o) → (IsOk r → out ≡ outcome_line o) → IfErr r IsOfWriting → AreCarriedOut r (o ∷ []) calls out
-told_held (Ok u) o asks calls out is plain held front whole only = (
+told_held (Ok u) o asks calls out is plain held prefix whole only = (
   record {
     told = record { outcome = o; sent = true } ∷ [];
     of_outcomes = refl;
@@ -285,13 +285,13 @@ told_held (Ok u) o asks calls out is plain held front whole only = (
   held.1,
   held.3,
 )
-told_held (Err s) o asks calls out is plain held front whole only = (
+told_held (Err s) o asks calls out is plain held prefix whole only = (
   stops_writing s (o ∷ []) calls out only
       (untold_part o calls out (record {
         sent = true;
         asked = held.0 ∙ sym is;
         sends = held.2 ∙ sym (plain true).1;
-        written = subst (λ l. IsPrefixOf out l) (sym (ap text (plain true).0 ∙ append-nil (outcome_line o))) front;
+        written = subst (λ l. IsPrefixOf out l) (sym (ap text (plain true).0 ∙ append-nil (outcome_line o))) prefix;
       }))
       held.1,
   held.3,
@@ -351,18 +351,18 @@ told_longer s os more a x told = (stops_longer s os more a x told.0, told.1)
 -- the send failed, and the line is written that says so, or a prefix of it
 pub told_unsent : (r : Result (Unit {0}) Status) (port : ℕ) (to : Address) (octets : List ℕ) (out : List ℕ) → IsPrefixOf out (outcome_line (Unsent port to)) → (IsOk r → out ≡ outcome_line (Unsent port to))
     → IfErr r IsOfWriting → AreCarriedOut r (Out port to octets ∷ []) (links.Send port to octets false ∷ []) out
-told_unsent (Ok u) port to octets out front whole only = (
+told_unsent (Ok u) port to octets out prefix whole only = (
   record { told = record { outcome = Out port to octets; sent = false } ∷ []; of_outcomes = refl; asked = refl; sent = refl; written = whole refl ∙ sym (append-nil (outcome_line (Unsent port to))) },
   (tt, tt),
   refl,
 )
-told_unsent (Err s) port to octets out front whole only = (
+told_unsent (Err s) port to octets out prefix whole only = (
   stops_writing s (Out port to octets ∷ []) (links.Send port to octets false ∷ []) out only
       (untold_part (Out port to octets) (links.Send port to octets false ∷ []) out (record {
         sent = false;
         asked = refl;
         sends = refl;
-        written = subst (λ l. IsPrefixOf out l) (sym (append-nil (outcome_line (Unsent port to)))) front;
+        written = subst (λ l. IsPrefixOf out l) (sym (append-nil (outcome_line (Unsent port to)))) prefix;
       }))
       (tt, tt),
   refl,

@@ -13,25 +13,25 @@ use Rattle.sg_outcome.specs.declared.outcomes.Outcome.{Outcome}
 use Rattle.sg_relay.specs.Asked.{Ask, IsAtNext, IsCutOff, IsPart, ask_in, asks_in, asks_of, receipts_in}
 use Rattle.sg_relay.specs.Held.{AreOfCalls, EachFits, PortsAreOfCalls}
 use Rattle.sg_relay.specs.Relay.{Ends, HoldsItsCallsPorts, IsRelay, IsWhole, Passed, Tellings, trace_of, world_by}
-use Rattle.sg_relay.proofs.Deeds.{flat_append, front_after, front_all, front_longer}
+use Rattle.sg_relay.proofs.Deeds.{flat_append, prefix_after, prefix_all, prefix_longer}
 
 -- the asks are a front of those of the outcomes of some events
-abbrev IsFront : List Ask → Type 0
-IsFront asks = (es : List Event) × IsPrefixOf asks (flat_map asks_of (outcomes es))
+abbrev IsPrefix : List Ask → Type 0
+IsPrefix asks = (es : List Event) × IsPrefixOf asks (flat_map asks_of (outcomes es))
 
 -- calls whose asks are of some outcomes, and others of which a front is of the next outcome
-front_of : (done others : List Outcome) (next : Outcome) (before last : List LinkCall) → asks_in before ≡ flat_map asks_of done → IsPrefixOf (asks_in last) (asks_of next)
+prefix_of : (done others : List Outcome) (next : Outcome) (before last : List LinkCall) → asks_in before ≡ flat_map asks_of done → IsPrefixOf (asks_in last) (asks_of next)
     → IsPrefixOf (asks_in (before ++ last)) (flat_map asks_of (done ++ next ∷ others))
-front_of done others next before last asked front =
+prefix_of done others next before last asked prefix =
     subst (λ (a : List Ask). IsPrefixOf a (flat_map asks_of (done ++ next ∷ others))) (ap (λ (l : List Ask). l ++ asks_in last) (sym asked) ∙ sym (flat_append ask_in before last))
     (subst (IsPrefixOf (flat_map asks_of done ++ asks_in last)) (sym (flat_append asks_of done (next ∷ others)))
-    (front_after (flat_map asks_of done) (asks_in last) (asks_of next ++ flat_map asks_of others) (front_longer (asks_in last) (asks_of next) (flat_map asks_of others) front)))
+    (prefix_after (flat_map asks_of done) (asks_in last) (asks_of next ++ flat_map asks_of others) (prefix_longer (asks_in last) (asks_of next) (flat_map asks_of others) prefix)))
 
-whole_front : (p : Passed) (stop : _) → IsWhole p stop → IsFront (asks_in p.calls)
-whole_front p stop whole = ((trace_of p).events, subst (IsPrefixOf (asks_in p.calls)) whole.done.asked (front_all (asks_in p.calls)))
+whole_prefix : (p : Passed) (stop : _) → IsWhole p stop → IsPrefix (asks_in p.calls)
+whole_prefix p stop whole = ((trace_of p).events, subst (IsPrefixOf (asks_in p.calls)) whole.done.asked (prefix_all (asks_in p.calls)))
 
-part_front : (es : List Event) (calls : List LinkCall) (out : List ℕ) → IsPart (outcomes es) calls out → IsFront (asks_in calls)
-part_front es calls out part = (
+part_prefix : (es : List Event) (calls : List LinkCall) (out : List ℕ) → IsPart (outcomes es) calls out → IsPrefix (asks_in calls)
+part_prefix es calls out part = (
   es,
   subst (λ (os : List Outcome). IsPrefixOf (asks_in calls) (flat_map asks_of os)) (sym part.outcomes_are)
       (subst (λ (l : List LinkCall). IsPrefixOf (asks_in l) (flat_map asks_of (part.done ++ part.others))) (sym part.calls_are) (go part.others part.last part.piece part.next)),
@@ -44,40 +44,40 @@ part_front es calls out part = (
         (flat_map asks_of others, flat_append asks_of part.done others))
     go others last piece (inr (next, rest, is, untold)) =
         subst (λ (os : List Outcome). IsPrefixOf (asks_in (part.before ++ last)) (flat_map asks_of (part.done ++ os))) (sym is)
-        (front_of part.done rest next part.before last part.whole.asked (subst (IsPrefixOf (asks_in last)) untold.asked (front_all (asks_in last))))
+        (prefix_of part.done rest next part.before last part.whole.asked (subst (IsPrefixOf (asks_in last)) untold.asked (prefix_all (asks_in last))))
 
-cut_front : (es : List Event) (calls : List LinkCall) (out : List ℕ) → IsCutOff (outcomes es) calls out → IsFront (asks_in calls)
-cut_front es calls out cut = (
+cut_prefix : (es : List Event) (calls : List LinkCall) (out : List ℕ) → IsCutOff (outcomes es) calls out → IsPrefix (asks_in calls)
+cut_prefix es calls out cut = (
   es,
   subst (λ (os : List Outcome). IsPrefixOf (asks_in calls) (flat_map asks_of os)) (sym cut.outcomes_are)
       (subst (λ (l : List LinkCall). IsPrefixOf (asks_in l) (flat_map asks_of (cut.done ++ cut.next ∷ cut.others))) (sym cut.calls_are)
-      (front_of cut.done cut.others cut.next cut.before cut.last cut.whole.asked cut.fails.asked)),
+      (prefix_of cut.done cut.others cut.next cut.before cut.last cut.whole.asked cut.fails.asked)),
 )
 
-front : (s : Status) (turns : ℕ) (p : Passed) (left : Option (List ℕ)) → Ends s turns p left → IsFront (asks_in p.calls)
-front Done turns p left ends = whole_front p _ ends.0
-front (Script n fault) turns p left ends = whole_front p _ ends.0
-front TurnsSpent turns p left ends = whole_front p _ ends.0
-front Clock turns p left ends = whole_front p _ ends.0
-front Noise turns p left ends = whole_front p _ ends
-front Link turns p left (inl (before, failed, whole)) =
-    subst (λ (l : List LinkCall). IsFront (asks_in l)) (sym failed) (subst IsFront (sym (flat_append ask_in before (Receive Failing ∷ []) ∙ append-nil (asks_in before))) (whole_front (record p { calls = before }) _ whole))
-front Link turns p left (inr cut) = cut_front (trace_of p).events p.calls p.out cut
-front Read turns p left ends = part_front (trace_of p).events p.calls p.out ends.part
-front Write turns p left ends = part_front (trace_of p).events p.calls p.out ends.part
-front NoMemory turns p left ends = part_front (trace_of p).events p.calls p.out ends.part
-front Usage turns p left ends = absurd ends
+prefix : (s : Status) (turns : ℕ) (p : Passed) (left : Option (List ℕ)) → Ends s turns p left → IsPrefix (asks_in p.calls)
+prefix Done turns p left ends = whole_prefix p _ ends.0
+prefix (Script n fault) turns p left ends = whole_prefix p _ ends.0
+prefix TurnsSpent turns p left ends = whole_prefix p _ ends.0
+prefix Clock turns p left ends = whole_prefix p _ ends.0
+prefix Noise turns p left ends = whole_prefix p _ ends
+prefix Link turns p left (inl (before, failed, whole)) =
+    subst (λ (l : List LinkCall). IsPrefix (asks_in l)) (sym failed) (subst IsPrefix (sym (flat_append ask_in before (Receive Failing ∷ []) ∙ append-nil (asks_in before))) (whole_prefix (record p { calls = before }) _ whole))
+prefix Link turns p left (inr cut) = cut_prefix (trace_of p).events p.calls p.out cut
+prefix Read turns p left ends = part_prefix (trace_of p).events p.calls p.out ends.part
+prefix Write turns p left ends = part_prefix (trace_of p).events p.calls p.out ends.part
+prefix NoMemory turns p left ends = part_prefix (trace_of p).events p.calls p.out ends.part
+prefix Usage turns p left ends = absurd ends
 
-fits_front : (asks all : List Ask) → IsPrefixOf asks all → EachFits all → EachFits asks
-fits_front asks all (rest, is) fits = λ before more ask at. fits before (more ++ rest) ask (is ∙ ap (λ (l : List Ask). l ++ rest) at ∙ append_assoc before (ask ∷ more) rest)
+fits_prefix : (asks all : List Ask) → IsPrefixOf asks all → EachFits all → EachFits asks
+fits_prefix asks all (rest, is) fits = λ before more ask at. fits before (more ++ rest) ask (is ∙ ap (λ (l : List Ask). l ++ rest) at ∙ append_assoc before (ask ∷ more) rest)
 
 pub holds : ((es : List Event) → PortsAreOfCalls es) → (s : Status) (turns : ℕ) (old new : Tellings) (p : Passed) → IsRelay s turns old new p → HoldsItsCallsPorts p
 holds law s turns old new p run =
-    let asked = front s turns p new.left run.ends in
+    let asked = prefix s turns p new.left run.ends in
     record {
       at_receives = λ before rest x is. subst (λ (a : List Ask). AreOfCalls a (world_by p (receipts_in before))) (sym (run.in_order before rest x is))
           (law (woven p.octets p.readings (receipts_in before) p.draws).events).ports;
-      each = fits_front (asks_in p.calls) (flat_map asks_of (outcomes asked.0)) asked.1 (law asked.0).each;
+      each = fits_prefix (asks_in p.calls) (flat_map asks_of (outcomes asked.0)) asked.1 (law asked.0).each;
     }
 
 -- a relay that asked its link for nothing

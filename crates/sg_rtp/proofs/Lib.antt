@@ -1,2 +1,2 @@
-pub mod HeadFronts
+pub mod HeadPrefixes
 mod Numbers

@@ -10,7 +10,7 @@ pub fn rtp_head_law()
     ensures head { (o : List ℕ) (head : RtpHead) → (rtp_head o ≡ Ok head) ↔ IsRtpHead o head }
     ensures bounds { (o : List ℕ) (head : RtpHead) → rtp_head o ≡ Ok head
         → (12 ≤ head.length) × (head.length ≤ length o) }
-    ensures front { (o p : List ℕ) (head : RtpHead) → rtp_head o ≡ Ok head
+    ensures prefix { (o p : List ℕ) (head : RtpHead) → rtp_head o ≡ Ok head
         → take head.length p ≡ take head.length o → rtp_head p ≡ Ok head }
 {}
 
@@ -18,6 +18,6 @@ pub fn rtp_head_law()
 pub fn rtcp_head_law()
     ensures head { (o : List ℕ) (head : RtcpHead) → (rtcp_head o ≡ Ok head) ↔ IsRtcpHead o head }
     ensures bounds { (o : List ℕ) (head : RtcpHead) → rtcp_head o ≡ Ok head → 8 ≤ length o }
-    ensures front { (o p : List ℕ) (head : RtcpHead) → rtcp_head o ≡ Ok head
+    ensures prefix { (o p : List ℕ) (head : RtcpHead) → rtcp_head o ≡ Ok head
         → take 8 p ≡ take 8 o → rtcp_head p ≡ Ok head }
 {}

@@ -66,10 +66,10 @@ drop_at a b n e = rw (← e) (drop-append_seam a b)
 
 same_key : (suite : Suite) (k : InlineKey) → IsInlineKey suite k → master_of suite (k.key.key ++ k.key.salt) ≡ k.key
 same_key suite k fits =
-    let front : take (key_len_of suite) (k.key.key ++ k.key.salt) ≡ k.key.key = take_at k.key.key k.key.salt (key_len_of suite) fits.key in
+    let prefix : take (key_len_of suite) (k.key.key ++ k.key.salt) ≡ k.key.key = take_at k.key.key k.key.salt (key_len_of suite) fits.key in
     let back : drop (key_len_of suite) (k.key.key ++ k.key.salt) ≡ k.key.salt = drop_at k.key.key k.key.salt (key_len_of suite) fits.key in
     let is = sym fits.suite_is in
-    (λ i. record { suite = is i; key = front i; salt = back i })
+    (λ i. record { suite = is i; key = prefix i; salt = back i })
 
 -- a text that decodes to a key's octets
 pub key_of : (suite : Suite) (b : List ℕ) (k : InlineKey) → IsInlineKey suite k → base64_at b ≡ Some (k.key.key ++ k.key.salt) → key_at suite b ≡ Some k.key

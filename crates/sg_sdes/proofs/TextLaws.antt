@@ -99,15 +99,15 @@ inline_lacks suite k c fits head base bar colon numbers = at_mki k.mki fits.mki
     life : Lacks c (lifetime_text k.lifetime)
     life = let most = fits.most in lifetime_lacks c k.lifetime (bar, numbers k.lifetime (omega (arith, most)))
 
-    front : Lacks c (codes "inline:" ++ encode_of standard (k.key.key ++ k.key.salt) ++ lifetime_text k.lifetime)
-    front = lacks_append c (codes "inline:" ++ encode_of standard (k.key.key ++ k.key.salt)) (lifetime_text k.lifetime) (lacks_append c (codes "inline:") (encode_of standard (k.key.key ++ k.key.salt)) head base) life
+    prefix : Lacks c (codes "inline:" ++ encode_of standard (k.key.key ++ k.key.salt) ++ lifetime_text k.lifetime)
+    prefix = lacks_append c (codes "inline:" ++ encode_of standard (k.key.key ++ k.key.salt)) (lifetime_text k.lifetime) (lacks_append c (codes "inline:") (encode_of standard (k.key.key ++ k.key.salt)) head base) life
 
     at_mki : (mki : Option MkiValue) → IfSome mki (λ m. IsMki m.value m.length × (m.value < 2 ^ 128))
         → Lacks c (codes "inline:" ++ encode_of standard (k.key.key ++ k.key.salt) ++ lifetime_text k.lifetime ++ mki_text mki)
-    at_mki None is = lacks_append c (codes "inline:" ++ encode_of standard (k.key.key ++ k.key.salt) ++ lifetime_text k.lifetime) [] front tt
+    at_mki None is = lacks_append c (codes "inline:" ++ encode_of standard (k.key.key ++ k.key.salt) ++ lifetime_text k.lifetime) [] prefix tt
     at_mki (Some m) is =
         let most = is.0.most in
-        lacks_append c (codes "inline:" ++ encode_of standard (k.key.key ++ k.key.salt) ++ lifetime_text k.lifetime) (mki_text (Some m)) front
+        lacks_append c (codes "inline:" ++ encode_of standard (k.key.key ++ k.key.salt) ++ lifetime_text k.lifetime) (mki_text (Some m)) prefix
         (some_mki_lacks c m bar (mki_lacks c m (numbers m.value is.1) colon (numbers m.length (omega (arith, most)))))
 
 pub inline_lacks_semicolon : (suite : Suite) (k : InlineKey) → IsInlineKey suite k → Lacks 59 (inline_text k)

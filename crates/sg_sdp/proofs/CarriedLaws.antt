@@ -12,7 +12,7 @@ use Rattle.sg_sdp.specs.declared.medium.Profile.TheVariants.{Avp, Savp, Avpf, Sa
 use Rattle.sg_sdp.specs.declared.sdp.Sdp.{Sdp}
 use Rattle.sg_sdp.specs.Addresses.{first_address}
 use Rattle.sg_sdp.specs.Carrying.{carried, carried_line, carried_lines, carried_media, carried_medium, carried_proto, is_one_sided}
-use Rattle.sg_sdp.specs.Descriptions.{HasFront, IsKept, IsMedium, IsSdp, all_lines, medium_line, medium_lines}
+use Rattle.sg_sdp.specs.Descriptions.{HasPrefix, IsKept, IsMedium, IsSdp, all_lines, medium_line, medium_lines}
 use Rattle.sg_sdp.specs.LineForm.{connection_of, has_form, is_letter, is_word}
 use Rattle.sg_sdp.proofs.Cases.{all_append}
 use Rattle.sg_sdp.proofs.Described.{addressed_is, lines_addressed}
@@ -68,20 +68,20 @@ lines_kept : (ls : List (List ℕ)) → AllByRecursion IsKept ls → AllByRecurs
 lines_kept [] kept = tt
 lines_kept (l ∷ ls) kept = filtered IsKept carried_line (not (is_one_sided l)) l (filter (λ line. not (is_one_sided line)) ls) (line_kept l kept.0) (lines_kept ls kept.1)
 
-front_kept : (session : List (List ℕ)) → HasFront session → HasFront (carried_lines session)
-front_kept [] front = absurd front
-front_kept (v ∷ []) front = absurd front
-front_kept (v ∷ o ∷ []) front = absurd front
-front_kept (v ∷ o ∷ s ∷ rest) front =
-    let version : is_letter 118 v ≡ true = rw front.0 refl in
+prefix_kept : (session : List (List ℕ)) → HasPrefix session → HasPrefix (carried_lines session)
+prefix_kept [] prefix = absurd prefix
+prefix_kept (v ∷ []) prefix = absurd prefix
+prefix_kept (v ∷ o ∷ []) prefix = absurd prefix
+prefix_kept (v ∷ o ∷ s ∷ rest) prefix =
+    let version : is_letter 118 v ≡ true = rw prefix.0 refl in
     rw (
       two_sided_unless v (letter_differs 118 97 v version (λ e. omega (arith, e))),
-      two_sided_unless o (letter_differs 111 97 o front.1 (λ e. omega (arith, e))),
-      two_sided_unless s (letter_differs 115 97 s front.2 (λ e. omega (arith, e))),
+      two_sided_unless o (letter_differs 111 97 o prefix.1 (λ e. omega (arith, e))),
+      two_sided_unless s (letter_differs 115 97 s prefix.2 (λ e. omega (arith, e))),
       same_unless v (letter_differs 118 99 v version (λ e. omega (arith, e))),
-      same_unless o (letter_differs 111 99 o front.1 (λ e. omega (arith, e))),
-      same_unless s (letter_differs 115 99 s front.2 (λ e. omega (arith, e))),
-    ) front
+      same_unless o (letter_differs 111 99 o prefix.1 (λ e. omega (arith, e))),
+      same_unless s (letter_differs 115 99 s prefix.2 (λ e. omega (arith, e))),
+    ) prefix
 
 -- ---- media
 
@@ -114,7 +114,7 @@ pub carried_is : (ports : List ℕ) (ps : List Profile) (s : Sdp) → IsSdp s �
 carried_is ports ps s is small =
     addressed_is (record { session = carried_lines s.session; media = carried_media ports ps s.media })
     (record { session = lines_kept s.session is.session; media = media_are ports ps s.media small is.media; few = omega (arith, no_more ports ps s.media, is.few) })
-    (front_kept s.session is.front)
+    (prefix_kept s.session is.prefix)
 
 pub media_count : (ports : List ℕ) (ps : List Profile) (ms : List Medium) → length ports ≡ length ms → length ps ≡ length ms → length (carried_media ports ps ms) ≡ length ms
 media_count [] ps [] a b = refl

@@ -10,11 +10,11 @@ use Rattle.sg_sdp.specs.declared.faults.ReadSdpFault.{ReadSdpFault}
 use Rattle.sg_sdp.specs.declared.medium.Medium.{Medium}
 use Rattle.sg_sdp.specs.declared.sdp.Sdp.{Sdp}
 use Rattle.sg_sdp.specs.Addresses.{addressed, first_address, with_address}
-use Rattle.sg_sdp.specs.Descriptions.{HasFront, IsAddressed, IsMedium, IsSdp, IsShort, IsWithinLimits, Spells, all_lines, medium_lines, spelling}
+use Rattle.sg_sdp.specs.Descriptions.{HasPrefix, IsAddressed, IsMedium, IsSdp, IsShort, IsWithinLimits, Spells, all_lines, medium_lines, spelling}
 use Rattle.sg_sdp.specs.Faults.{Fault}
 use Rattle.sg_sdp.specs.Reading.{Gives, description_of, description_within, lines_of}
 use Rattle.sg_sdp.proofs.Cases.{bind_ok, err_ok, ok_is}
-use Rattle.sg_sdp.proofs.Fronts.{front_takes}
+use Rattle.sg_sdp.proofs.Prefixes.{prefix_takes}
 use Rattle.sg_sdp.proofs.Prints.{spells_again}
 use Rattle.sg_sdp.proofs.TextAgain.{bare, bare_medium, lines_again}
 use Rattle.sg_sdp.proofs.TextTakes.{Good, lines_take}
@@ -38,10 +38,10 @@ each_addressed session [] = tt
 each_addressed session (m ∷ ms) = (refl, each_addressed session ms)
 
 -- with its addresses it is a description
-pub addressed_is : (s : Sdp) → Good s → HasFront s.session → IsSdp (addressed s)
-addressed_is s good front =
+pub addressed_is : (s : Sdp) → Good s → HasPrefix s.session → IsSdp (addressed s)
+addressed_is s good prefix =
     record {
-      front = front;
+      prefix = prefix;
       session = good.session;
       media = media_addressed (first_address s.session) s.media good.media;
       few = omega (arith, length-map s.media (with_address (first_address s.session)), good.few);
@@ -68,7 +68,7 @@ within_takes most text s e =
     let same : addressed b.0 ≡ s = ok_is {E = Fault} (addressed b.0) s b.2 in
     let lines : all_lines b.0 ≡ all_lines (addressed b.0) = sym (all_addressed b.0) in
     subst (IsRead most text) same (record {
-      is = addressed_is b.0 t.good (front_takes b.0.session b.0.media t.order t.three);
+      is = addressed_is b.0 t.good (prefix_takes b.0.session b.0.media t.order t.three);
       spelled = subst (λ (ls : List (List ℕ)). Spells ls text) lines t.spelled;
       short = subst (AllByRecursion (IsShort most)) lines t.short;
     })

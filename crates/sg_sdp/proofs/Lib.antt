@@ -3,7 +3,7 @@ mod CarriedLaws
 mod Cases
 mod Described
 mod FaultLaws
-mod Fronts
+mod Prefixes
 mod HeadLaws
 mod MediaLoops
 mod PartLemmas

@@ -34,15 +34,15 @@ shape most xs d e =
 pub fails : (most : ℕ) (xs ys : List (Bor (List ℕ))) (i n : ℕ) (s t : Sdp) (raw : List ℕ) (d : Bor (List ℕ)) (f : ReadSdpFault) → ys ≡ take (length xs - 1) xs → i < length ys → raw ≡ without_cr (get_or ys i d).now
     → Changes (Err f) t (at_line n (step most n s raw)) → steps most n s (texts (drop i ys)) ≡ steps most 1 none_yet (texts ys) → Gives {X = Sdp} (Err f) (lines_of most (texts xs))
 unfolding lines_of
-fails most xs ys i n s t raw d errors.NoMemory front lt e given so_far = tt
-fails most xs ys i n s t raw d (errors.Sdp line fault) front lt e given so_far =
+fails most xs ys i n s t raw d errors.NoMemory prefix lt e given so_far = tt
+fails most xs ys i n s t raw d (errors.Sdp line fault) prefix lt e given so_far =
     let bad : steps most 1 none_yet (texts ys) ≡ Err (line, fault) = sym so_far ∙ one most ys i n s raw d lt e ∙ ap (λ (r : Result Sdp Fault). r >>= λ u. steps most (n + 1) u (texts (drop (i + 1) ys))) given in
-    shape most xs (record { ref_ptr = (0, 0); now = [] }) refl ∙ ap (λ (r : Result Sdp Fault). r >>= λ s. at_line (length xs) (end_of most (length xs) (get_or xs (length xs - 1) (record { ref_ptr = (0, 0); now = [] })).now) >>= λ u. Ok s) (ap (λ (l : List (Bor (List ℕ))). steps most 1 none_yet (texts l)) (sym front) ∙ bad)
+    shape most xs (record { ref_ptr = (0, 0); now = [] }) refl ∙ ap (λ (r : Result Sdp Fault). r >>= λ s. at_line (length xs) (end_of most (length xs) (get_or xs (length xs - 1) (record { ref_ptr = (0, 0); now = [] })).now) >>= λ u. Ok s) (ap (λ (l : List (Bor (List ℕ))). steps most 1 none_yet (texts l)) (sym prefix) ∙ bad)
 
 pub finished : (most : ℕ) (xs ys : List (Bor (List ℕ))) (i n : ℕ) (s : Sdp) (d : Bor (List ℕ)) → ys ≡ take (length xs - 1) xs → length ys ≤ i → d.now ≡ [] → n ≡ length xs
     → steps most n s (texts (drop i ys)) ≡ steps most 1 none_yet (texts ys) → lines_of most (texts xs) ≡ (at_line n (end_of most n (get_or xs (length xs - 1) d).now) >>= λ u. Ok s)
 unfolding steps
-finished most xs ys i n s d front le blank here so_far =
+finished most xs ys i n s d prefix le blank here so_far =
     let over : steps most n s (texts (drop i ys)) ≡ Ok s = rw (drop_of_length-le ys le) refl in
-    let all : steps most 1 none_yet (texts (take (length xs - 1) xs)) ≡ Ok s = ap (λ (l : List (Bor (List ℕ))). steps most 1 none_yet (texts l)) (sym front) ∙ sym so_far ∙ over in
+    let all : steps most 1 none_yet (texts (take (length xs - 1) xs)) ≡ Ok s = ap (λ (l : List (Bor (List ℕ))). steps most 1 none_yet (texts l)) (sym prefix) ∙ sym so_far ∙ over in
     rw here (shape most xs d blank ∙ ap (λ (r : Result Sdp Fault). r >>= λ s. at_line (length xs) (end_of most (length xs) (get_or xs (length xs - 1) d).now) >>= λ u. Ok s) all)

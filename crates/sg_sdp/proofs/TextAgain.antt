@@ -18,7 +18,7 @@ use Rattle.sg_sdp.specs.Parts.{with_last_line, with_line_at, with_medium}
 use Rattle.sg_sdp.specs.Faults.{Fault, is_in_order, last_part}
 use Rattle.sg_sdp.specs.Reading.{◌>>=◌, at_line, end_of, form_of, lines_of, none_yet, opened, placed, step, steps}
 use Rattle.sg_sdp.proofs.Cases.{all_append, none_is}
-use Rattle.sg_sdp.proofs.Fronts.{InOrder, front_again, front_three}
+use Rattle.sg_sdp.proofs.Prefixes.{InOrder, prefix_again, prefix_three}
 use Rattle.sg_sdp.proofs.HeadLaws.{head_again, head_text, medium_form}
 
 -- ---- one line
@@ -153,7 +153,7 @@ run_media most n session before (m ∷ ms) is few stands =
 run_all : (most : ℕ) (s : Sdp) → IsSdp s → AllByRecursion (IsShort most) (all_lines s) → run most 1 none_yet (all_lines s) ≡ Ok (bare s)
 unfolding Stands
 run_all most s is short =
-    let rest = run_session most 1 [] s.session (flat_map medium_lines s.media) is.session (front_again s.session (flat_map medium_lines s.media) is.front, short) in
+    let rest = run_session most 1 [] s.session (flat_map medium_lines s.media) is.session (prefix_again s.session (flat_map medium_lines s.media) is.prefix, short) in
     rest.same ∙ run_media most rest.from s.session [] s.media is.media (omega (arith, is.few)) rest.stands
 
 -- ---- the text
@@ -242,12 +242,12 @@ unfolding lines_of
 whole_again most s raws is short lines =
     let n : length (raws ++ [] ∷ []) ≡ length raws + 1 = length-append raws ([] ∷ []) in
     let k : length (raws ++ [] ∷ []) - 1 ≡ length raws = omega arith in
-    let front : take (length (raws ++ [] ∷ []) - 1) (raws ++ [] ∷ []) ≡ raws = rw k (take_at raws ([] ∷ []) (length raws) refl) in
+    let prefix : take (length (raws ++ [] ∷ []) - 1) (raws ++ [] ∷ []) ≡ raws = rw k (take_at raws ([] ∷ []) (length raws) refl) in
     let last : last_part (raws ++ [] ∷ []) ≡ [] = rw k (get_or-append_seam raws [] [] []) in
     let read : steps most 1 none_yet raws ≡ Ok (bare s) = steps-run most 1 none_yet raws ∙ ap (run most 1 none_yet) lines ∙ run_all most s is short in
-    let three : 3 ≤ length s.session = front_three s.session is.front in
+    let three : 3 ≤ length s.session = prefix_three s.session is.prefix in
     let many : 3 < length (raws ++ [] ∷ []) = omega (arith, sym (length-map raws without_cr) ∙ ap length lines, length-append s.session (flat_map medium_lines s.media)) in
-    rw (front, last, read, end_fine most (length (raws ++ [] ∷ [])) many) refl
+    rw (prefix, last, read, end_fine most (length (raws ++ [] ∷ [])) many) refl
 
 -- what a text spells is read of it, before its addresses
 pub lines_again : (most : ℕ) (text : List ℕ) (s : Sdp) → IsSdp s → AllByRecursion (IsShort most) (all_lines s) → Spells (all_lines s) text → lines_of most (slice_split (λ b. eqb b 10) text) ≡ Ok (bare s)

@@ -17,7 +17,7 @@ use Rattle.sg_sdp.specs.Parts.{with_last_line, with_line_at, with_medium}
 use Rattle.sg_sdp.specs.Faults.{Fault, is_in_order, last_part}
 use Rattle.sg_sdp.specs.Reading.{at_line, end_of, form_of, lines_of, none_yet, opened, placed, some_head, step, steps}
 use Rattle.sg_sdp.proofs.Cases.{all_append, at_line_ok, bind_ok, err_ok, guard_false, none_some, ok_is}
-use Rattle.sg_sdp.proofs.Fronts.{InOrder}
+use Rattle.sg_sdp.proofs.Prefixes.{InOrder}
 use Rattle.sg_sdp.proofs.HeadLaws.{FitsHead, head_takes, head_text, inner_end}
 
 -- ---- the lines of what was read
@@ -265,15 +265,15 @@ pub record Read (most : ℕ) (text : List ℕ) (s : Sdp) : Type 0 where
 whole_takes : (most : ℕ) (text : List ℕ) (p : List ℕ) (ps : List (List ℕ)) (s : Sdp) → slice_split (λ b. eqb b 10) text ≡ p ∷ ps → lines_of most (p ∷ ps) ≡ Ok s → Read most text s
 unfolding lines_of
 whole_takes most text p ps s parts e =
-    let front = take (length (p ∷ ps) - 1) (p ∷ ps) in
-    let a = bind_ok (steps most 1 none_yet front) _ s e in
+    let prefix = take (length (p ∷ ps) - 1) (p ∷ ps) in
+    let a = bind_ok (steps most 1 none_yet prefix) _ s e in
     let u = bind_ok (at_line (length (p ∷ ps)) (end_of most (length (p ∷ ps)) (last_part (p ∷ ps)))) _ s a.2 in
     let fine = end_takes most (length (p ∷ ps)) (last_part (p ∷ ps)) u.0 (at_line_ok (length (p ∷ ps)) (end_of most (length (p ∷ ps)) (last_part (p ∷ ps))) u.0 u.1) in
-    let read = steps_take most 1 none_yet a.0 front none_good a.1 in
+    let read = steps_take most 1 none_yet a.0 prefix none_good a.1 in
     let same : a.0 ≡ s = ok_is {E = Fault} a.0 s u.2 in
-    let lines : all_lines a.0 ≡ map without_cr front = read.lines in
+    let lines : all_lines a.0 ≡ map without_cr prefix = read.lines in
     let text_is : join_with_byte 10 (p ∷ ps) ≡ text = ap (join_with_byte 10) (sym parts) ∙ join_with_byte-slice_split 10 text in
-    let count : length (all_lines a.0) ≡ length (p ∷ ps) - 1 = ap length lines ∙ length-map front without_cr ∙ (omega (arith, length-take (length (p ∷ ps) - 1) (p ∷ ps))) in
+    let count : length (all_lines a.0) ≡ length (p ∷ ps) - 1 = ap length lines ∙ length-map prefix without_cr ∙ (omega (arith, length-take (length (p ∷ ps) - 1) (p ∷ ps))) in
     subst (λ (x : Sdp). Read most text x) same (record {
       good = read.good;
       order = subst (InOrder 1) (sym lines) read.order;

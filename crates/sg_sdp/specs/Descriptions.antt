@@ -47,16 +47,16 @@ pub record IsMedium (m : Medium) : Type 0 where
   pub lines : AllByRecursion IsKept m.lines
 
 -- `v=0`, an `o=` line and an `s=` line come first
-abbrev pub HasFront : List (List ℕ) → Type 0
-HasFront (version ∷ origin ∷ name ∷ rest) = (version ≡ codes "v=0") × (is_letter 111 origin ≡ true) × (is_letter 115 name ≡ true)
-HasFront _ = ⊥
+abbrev pub HasPrefix : List (List ℕ) → Type 0
+HasPrefix (version ∷ origin ∷ name ∷ rest) = (version ≡ codes "v=0") × (is_letter 111 origin ≡ true) × (is_letter 115 name ≡ true)
+HasPrefix _ = ⊥
 
 -- a medium has its address: that of its own first `c=` line, else of the session part's first
 abbrev pub IsAddressed : List (List ℕ) → Medium → Type 0
 IsAddressed session m = m.address ≡ medium_address (first_address session) m.lines
 
 pub record IsSdp (s : Sdp) : Type 0 where
-  pub front : HasFront s.session
+  pub prefix : HasPrefix s.session
   pub session : AllByRecursion IsKept s.session
   pub media : AllByRecursion IsMedium s.media
   pub few : length s.media ≤ 4

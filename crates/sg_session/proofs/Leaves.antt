@@ -11,7 +11,7 @@ use Rattle.sg_kdf.specs.SessionKeys.{is_raw}
 use Rattle.sg_base.specs.declared.faults.IndexFault.TheVariants as index_fault
 use Rattle.sg_kdf.proofs.KdfLemmas.{rtp_keys, rtcp_keys, some_octets}
 use Rattle.sg_ctr.proofs.CounterLemmas.{counters_differ}
-use Rattle.sg_rtp.proofs.HeadFronts.{rtp_head_again}
+use Rattle.sg_rtp.proofs.HeadPrefixes.{rtp_head_again}
 use Rattle.sg_session.proofs.Inversions.{ok_is, stop_if_is, stop_if_of}
 use Rattle.sg_base.specs.declared.faults.HeadFault.{HeadFault}
 use Rattle.sg_base.specs.declared.faults.HeadFault.TheVariants as head_fault
@@ -54,10 +54,10 @@ rtp_size p h e =
 
 -- lists that begin alike have the same octets there
 same_octet : (c p : List ℕ) (size : ℕ) → take size c ≡ take size p → (k : ℕ) → k < size → get_or c k 0 ≡ get_or p k 0
-same_octet c p size front k lt = sym (get_or-take size c k 0 lt) ∙ ap (λ l. get_or l k 0) front ∙ get_or-take size p k 0 lt
+same_octet c p size prefix k lt = sym (get_or-take size c k 0 lt) ∙ ap (λ l. get_or l k 0) prefix ∙ get_or-take size p k 0 lt
 
 pub rtp_stays : (c p : List ℕ) (h : RtpHead) → take h.length c ≡ take h.length p → rtp_head p ≡ Ok h → rtp_head c ≡ Ok h
-rtp_stays c p h front e = rtp_head_again p c h e front
+rtp_stays c p h prefix e = rtp_head_again p c h e prefix
 
 octet_low : (p : List ℕ) (k : ℕ) → AllByRecursion (λ x. x < 256) p → get_or p k 0 < 256
 octet_low [] k all = omega arith
@@ -93,9 +93,9 @@ pub rtcp_size : (p : List ℕ) (h : RtcpHead) → rtcp_head p ≡ Ok h → 8 ≤
 rtcp_size p h e = ltb-false _ _ (rtcp_parts p h e).long
 
 pub rtcp_stays : (c p : List ℕ) (h : RtcpHead) → take 8 c ≡ take 8 p → length c ≡ length p → rtcp_head p ≡ Ok h → rtcp_head c ≡ Ok h
-rtcp_stays c p h front same e =
+rtcp_stays c p h prefix same e =
     let is = rtcp_parts p h e in
-    let octet = λ (k : ℕ) (lt : k < 8). same_octet c p 8 front k lt in
+    let octet = λ (k : ℕ) (lt : k < 8). same_octet c p 8 prefix k lt in
     let a = octet 4 (omega arith) in
     let b = octet 5 (omega arith) in
     let d = octet 6 (omega arith) in

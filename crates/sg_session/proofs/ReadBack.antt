@@ -28,7 +28,7 @@ use Rattle.sg_session.proofs.Leaves.{rtp_size, rtp_stays, rtcp_size, rtcp_stays,
 use Rattle.sg_session.proofs.Lists.{any_none, any_cases, each_at_this}
 use Rattle.sg_base.proofs.SameOctets.{same_octets_true, same_octets_is}
 use Rattle.sg_session.proofs.Taking.{IsCheckOf, checked_is}
-use Rattle.sg_session.proofs.Texts.{length-crypted, take-crypted, crypted_twice, length-parts, front_part, mki_part, tag_part}
+use Rattle.sg_session.proofs.Texts.{length-crypted, take-crypted, crypted_twice, length-parts, prefix_part, mki_part, tag_part}
 
 -- what is read of a sealing of x in s
 pub record Reads (s : Session) (x : Sealed) (half : HalfKeys) (mki d : List ℕ) : Type 0 where
@@ -76,15 +76,15 @@ module _ (s : Session) (x : Sealed) (mki : List ℕ) (of_mki : length mki ≡ mk
         let long = sizes.0 in
         let within : n ≤ length p = sizes.1 in
         let same : length c ≡ length p = ap length is ∙ length-crypted half x.ssrc x.index n p within s.encrypts in
-        let front : take n c ≡ take n p = ap (take n) is ∙ take-crypted half x.ssrc x.index n p within s.encrypts in
+        let prefix : take n c ≡ take n p = ap (take n) is ∙ take-crypted half x.ssrc x.index n p within s.encrypts in
         let tag : List ℕ = take s.tag_len (hmac_sha1 half.auth (c ++ be (x.index / 65536) 4)) in
         let of_tag : length tag ≡ s.tag_len = length-tag s.tag_len half.auth (c ++ be (x.index / 65536) 4) low in
         let size : length d ≡ length c + mki_len s + s.tag_len = ap length is_d ∙ length-parts c mki tag (mki_len s) s.tag_len of_mki of_tag in
-        let before : before_mki s d ≡ c = ap (before_mki s) is_d ∙ front_part c mki tag (mki_len s) s.tag_len of_mki of_tag in
+        let before : before_mki s d ≡ c = ap (before_mki s) is_d ∙ prefix_part c mki tag (mki_len s) s.tag_len of_mki of_tag in
         let part : packet_part s d ≡ c = ap (λ k. part_of_kind k s d) sk ∙ before in
         let head : head_in s d ≡ Ok (head_of s.encrypts h) =
         stop_if_of (ltb (length d) (12 + end_len s)) cause.Short (head_of_kind s.name.kind s d) (le-ltb _ _ (omega (arith, size, same, long, within)))
-        ∙ ap (λ k. head_of_kind k s d) sk ∙ ap (λ o. of_rtp s.encrypts (rtp_head o)) part ∙ ap (of_rtp s.encrypts) (rtp_stays c p h front is_head) in (
+        ∙ ap (λ k. head_of_kind k s d) sk ∙ ap (λ o. of_rtp s.encrypts (rtp_head o)) part ∙ ap (of_rtp s.encrypts) (rtp_stays c p h prefix is_head) in (
           record {
             head = head_of s.encrypts h;
             reads_head = head;
@@ -109,13 +109,13 @@ module _ (s : Session) (x : Sealed) (mki : List ℕ) (of_mki : length mki ≡ mk
         let w : List ℕ = index_word x.encrypted x.index in
         let within : 8 ≤ length p = rtcp_size p h is_head in
         let same : length c ≡ length p = ap length is_c ∙ length-crypted half x.ssrc x.index 8 p within x.encrypted in
-        let front : take 8 c ≡ take 8 p = ap (take 8) is_c ∙ take-crypted half x.ssrc x.index 8 p within x.encrypted in
+        let prefix : take 8 c ≡ take 8 p = ap (take 8) is_c ∙ take-crypted half x.ssrc x.index 8 p within x.encrypted in
         let tag : List ℕ = take 10 (hmac_sha1 half.auth (c ++ w)) in
         let of_tag : length tag ≡ s.tag_len = length-tag 10 half.auth (c ++ w) (omega arith) ∙ sym tags in
         let size : length d ≡ length (c ++ w) + mki_len s + s.tag_len = ap length is_d ∙ length-parts (c ++ w) mki tag (mki_len s) s.tag_len of_mki of_tag in
         let four : length w ≡ 4 = refl in
         let size2 : length (c ++ w) ≡ length c + 4 = omega (arith, length-append c w, four) in
-        let before : before_mki s d ≡ c ++ w = ap (before_mki s) is_d ∙ front_part (c ++ w) mki tag (mki_len s) s.tag_len of_mki of_tag in
+        let before : before_mki s d ≡ c ++ w = ap (before_mki s) is_d ∙ prefix_part (c ++ w) mki tag (mki_len s) s.tag_len of_mki of_tag in
         let cut : length d - (end_len s + 4) ≡ length c = omega (arith, size, size2) in
         let part : packet_part s d ≡ c =
         ap (λ k. part_of_kind k s d) sk ∙ (λ i. take (cut i) (is_d i)) ∙ ap (take (length c)) (append_assoc c w (mki ++ tag)) ∙ take_at c (w ++ (mki ++ tag)) (length c) refl in
@@ -126,7 +126,7 @@ module _ (s : Session) (x : Sealed) (mki : List ℕ) (of_mki : length mki ≡ mk
         let head : head_in s d ≡ Ok (rtcp_head_of x.index x.encrypted) =
         stop_if_of (ltb (length d) (12 + end_len s)) cause.Short (head_of_kind s.name.kind s d) (le-ltb _ _ (omega (arith, size, size2, same, within)))
         ∙ ap (λ k. head_of_kind k s d) sk ∙ (λ i. of_rtcp (number i) (on i) (rtcp_head (part i)))
-        ∙ ap (of_rtcp x.index x.encrypted) (rtcp_stays c p h front same is_head) in (
+        ∙ ap (of_rtcp x.index x.encrypted) (rtcp_stays c p h prefix same is_head) in (
           record {
             head = rtcp_head_of x.index x.encrypted;
             reads_head = head;
@@ -222,13 +222,13 @@ with_mki s x d h kind tags is_head e =
     let sizes : length a + length t ≡ length (before_mki s d) + length (tag_in s d) =
     sym (length-append a t) ∙ ap length same ∙ length-append (before_mki s d) (tag_in s d) in
     let of_a : length a ≡ length (before_mki s d) = omega (arith, sizes, of_tag, of_t) in
-    let front : a ≡ before_mki s d = sym (take_at a t (length a) refl) ∙ (λ i. take (of_a i) (same i)) ∙ take_at (before_mki s d) (tag_in s d) (length (before_mki s d)) refl in
+    let prefix : a ≡ before_mki s d = sym (take_at a t (length a) refl) ∙ (λ i. take (of_a i) (same i)) ∙ take_at (before_mki s d) (tag_in s d) (length (before_mki s d)) refl in
     let back : t ≡ tag_in s d = sym (drop_at a t (length a) refl) ∙ (λ i. drop (of_a i) (same i)) ∙ drop_at (before_mki s d) (tag_in s d) (length (before_mki s d)) refl in
     let tail : tag_in s d ≡ drop (mki_len s) (drop (length d - end_len s) d) =
     ap (λ k. drop k d) (omega (arith, long)) ∙ sym (drop-drop (mki_len s) (length d - end_len s) d) in
     let rest : mki_in s d ++ tag_in s d ≡ drop (length d - end_len s) d =
     ap (λ l. mki_in s d ++ l) tail ∙ take-append-drop (mki_len s) (drop (length d - end_len s) d) in
-    parts.3 (mki_in s d) ∙ (λ i. front i ++ (mki_in s d ++ back i)) ∙ ap (λ l. before_mki s d ++ l) rest ∙ take-append-drop (length d - end_len s) d
+    parts.3 (mki_in s d) ∙ (λ i. prefix i ++ (mki_in s d ++ back i)) ∙ ap (λ l. before_mki s d ++ l) rest ∙ take-append-drop (length d - end_len s) d
 
 pub reads_as_sealed : (s : Session) (d : List ℕ) (k : Check) (x : Sealed) → IsSound s → IsSealed x → checked s d ≡ Ok k
     → IsAt k.key.master s.name.kind k.head.ssrc k.index x → text_in s [] x ≡ without_mki s d → packet_of s k d ≡ x.packet

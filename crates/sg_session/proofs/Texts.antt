@@ -50,10 +50,10 @@ module _ (half : HalfKeys) (ssrc index size : ℕ) (p : List ℕ) (within : size
   pub crypted_twice : (on : Bool) → crypted on half ssrc index size (crypted on half ssrc index size p) ≡ p
   crypted_twice false = refl
   crypted_twice true =
-      let front = take-crypted true in
+      let prefix = take-crypted true in
       let rest = drop-crypted in
       let same = length-crypted true in
-      (λ i. front i ++ xor_octets (rest i) (keystream half.encrypt half.salt ssrc index (same i - size)))
+      (λ i. prefix i ++ xor_octets (rest i) (keystream half.encrypt half.salt ssrc index (same i - size)))
       ∙ ap (λ xs. take size p ++ xs) (octets_twice (drop size p) (keystream half.encrypt half.salt ssrc index (length p - size)) long)
       ∙ take-append-drop size p
 
@@ -62,8 +62,8 @@ module _ (a mki tag : List ℕ) (m t : ℕ) (of_mki : length mki ≡ m) (of_tag 
   pub length-parts : length (a ++ (mki ++ tag)) ≡ length a + m + t
   length-parts = omega (arith, length-append a (mki ++ tag), length-append mki tag, of_mki, of_tag)
 
-  pub front_part : take (length (a ++ (mki ++ tag)) - (m + t)) (a ++ (mki ++ tag)) ≡ a
-  front_part = take_at a (mki ++ tag) _ (let size = length-parts in omega (arith, size))
+  pub prefix_part : take (length (a ++ (mki ++ tag)) - (m + t)) (a ++ (mki ++ tag)) ≡ a
+  prefix_part = take_at a (mki ++ tag) _ (let size = length-parts in omega (arith, size))
 
   pub mki_part : take m (drop (length (a ++ (mki ++ tag)) - (m + t)) (a ++ (mki ++ tag))) ≡ mki
   mki_part = ap (take m) (drop_at a (mki ++ tag) _ (let size = length-parts in omega (arith, size))) ∙ take_at mki tag m of_mki

@@ -126,9 +126,9 @@ sources_from ssrcs (d ∷ ds) = sources_from (source_with ssrcs d.ssrc) ds
 abbrev pub sources : List Done → List ℕ
 sources done = sources_from [] done
 
--- the source is there, or one of 16 places is free
+-- the source is there, or one of 64 places is free
 abbrev pub has_room : Session → ℕ → Bool
-has_room s ssrc = is_in (sources s.done) ssrc || nat_lt (length (sources s.done)) 16
+has_room s ssrc = is_in (sources s.done) ssrc || nat_lt (length (sources s.done)) 64
 
 -- the session of this name with one thing more done, and every other as it was
 abbrev pub with_done : Name → Done → Session → Session

@@ -21,7 +21,7 @@ pub tag_test : (r : Bool) (tag whole : List ℕ) (t : ℕ) → length tag ≡ t 
 tag_test r tag whole t size says =
     is_same_octets r tag (take t whole)
     (λ is. let fits = says.0 is in sym (take_at tag fits.0 t size) ∙ ap (take t) (sym fits.1))
-    (λ same. says.1 (drop t whole, sym (take-append-drop t whole) ∙ ap (λ front. front ++ drop t whole) (sym same)))
+    (λ same. says.1 (drop t whole, sym (take-append-drop t whole) ∙ ap (λ prefix. prefix ++ drop t whole) (sym same)))
 
 -- a tag is no longer than a code
 pub tag_within : (kind : Kind) (n : ℕ) → is_tag_len kind n ≡ true → n ≤ 20

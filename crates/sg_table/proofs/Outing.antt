@@ -50,17 +50,17 @@ module _ (now : ℕ) (came : List Arrival) (calls0 : List CallValue) (k : ℕ) (
   abbrev this : Arrival
   this = get_or came k d
 
-  abbrev front : List Arrival
-  front = all_handed (shapes_of calls0) (take k came)
+  abbrev prefix : List Arrival
+  prefix = all_handed (shapes_of calls0) (take k came)
 
-  front_length : length front ≡ k
-  front_length = length-map (take k came) (λ (a : Arrival). handed (is_taken a.port (shapes_of calls0)) a) ∙ length-take-le k came (omega (arith, lt))
+  prefix_length : length prefix ≡ k
+  prefix_length = length-map (take k came) (λ (a : Arrival). handed (is_taken a.port (shapes_of calls0)) a) ∙ length-take-le k came (omega (arith, lt))
 
-  arrivals_so : arrivals ≡ front ++ this ∷ drop (k + 1) came
-  arrivals_so = s.arrivals_are ∙ ap (λ l. front ++ l) (drop_more came k d lt)
+  arrivals_so : arrivals ≡ prefix ++ this ∷ drop (k + 1) came
+  arrivals_so = s.arrivals_are ∙ ap (λ l. prefix ++ l) (drop_more came k d lt)
 
   pub this_is : get_or arrivals k d ≡ this
-  this_is = (λ i. get_or (arrivals_so i) (sym front_length i) d) ∙ get_or-append_seam front this (drop (k + 1) came) d
+  this_is = (λ i. get_or (arrivals_so i) (sym prefix_length i) d) ∙ get_or-append_seam prefix this (drop (k + 1) came) d
 
   pub shares_next : (number : ℕ) (calls' : List CallValue) (new : Arrival) → calls' ≡ map (pushed_at (waiting_of number now (get_or arrivals k d))) calls
       → new ≡ handed (is_taken (get_or arrivals k d).port (shapes_of calls)) (get_or arrivals k d) → AreOctets (octets_of (get_or arrivals k d).pad) → Shares now came calls0 (k + 1) (set arrivals k new) calls'
@@ -74,8 +74,8 @@ module _ (now : ℕ) (came : List Arrival) (calls0 : List CallValue) (k : ℕ) (
             (subst (λ l. AreReady now l (map (pushed_at (waiting_of number now this)) calls) w) (sym (ap (map datagram_of) more ∙ map-append datagram_of (take k came) (this ∷ [])))
             (pairs_left (IsReady w.books.pairs now (map datagram_of (take k came))) (IsReady w.books.pairs now (map datagram_of (take k came) ++ datagram_of this ∷ [])) (pushed_at (waiting_of number now this))
             (λ call c h. ready_more w.books.pairs now number (map datagram_of (take k came)) this call c octets_are h) calls w.calls (s.ready w r)));
-        arrivals_are = (λ i. set (arrivals_so i) (sym front_length i) new) ∙ set-append_seam front this (drop (k + 1) came) new ∙ ap (λ x. front ++ x ∷ drop (k + 1) came) new_is
-            ∙ sym (append_assoc front (handed (is_taken this.port (shapes_of calls0)) this ∷ []) (drop (k + 1) came))
+        arrivals_are = (λ i. set (arrivals_so i) (sym prefix_length i) new) ∙ set-append_seam prefix this (drop (k + 1) came) new ∙ ap (λ x. prefix ++ x ∷ drop (k + 1) came) new_is
+            ∙ sym (append_assoc prefix (handed (is_taken this.port (shapes_of calls0)) this ∷ []) (drop (k + 1) came))
             ∙ ap (λ l. l ++ drop (k + 1) came) (sym (ap (all_handed (shapes_of calls0)) more ∙ map-append (λ a. handed (is_taken a.port (shapes_of calls0)) a) (take k came) (this ∷ [])));
         shapes_are = ap shapes_of calls_are ∙ shapes_pushed now number this calls ∙ s.shapes_are;
         room = subst (HaveRoom (k + 1)) (sym calls_are) (room_pushed now number k this calls s.room);

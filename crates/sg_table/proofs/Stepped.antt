@@ -29,9 +29,9 @@ empty_stands calls books none psks seen ring = record {
   };
 }
 
-pub after_append : (w : World) (front later : List Event) → world_after w (front ++ later) ≡ world_after (world_after w front) later
+pub after_append : (w : World) (prefix later : List Event) → world_after w (prefix ++ later) ≡ world_after (world_after w prefix) later
 after_append w [] later = refl
-after_append w (e ∷ front) later = after_append (step w e).world front later
+after_append w (e ∷ prefix) later = after_append (step w e).world prefix later
 
 -- the world after events is of a run where the world before is
 pub run_goes_on : (old new : TableValue) (w : World) (events : List Event) → TableStandsFor old w → Holds new (world_after w events) → TableStandsFor new (world_after w events)

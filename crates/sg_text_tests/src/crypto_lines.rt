@@ -15,8 +15,8 @@ const STATED: &[u8] =
     b"1 AES_CM_128_HMAC_SHA1_80 inline:WVNfX19zZW1jdGwgKCkgewkyMjA7fQp9CnVubGVz|2^20|1:4 FEC_ORDER=FEC_SRTP";
 
 /// The fault of a value in two parts.
-fn fault_of(alloc: Global, front: &[u8], back: &[u8]) -> Result<Option<SdesFault>, Fail> {
-    let mut value = Vec::from_slice(alloc, front)?;
+fn fault_of(alloc: Global, prefix: &[u8], back: &[u8]) -> Result<Option<SdesFault>, Fail> {
+    let mut value = Vec::from_slice(alloc, prefix)?;
     value.extend_from_slice(back)?;
     Ok(read_crypto(&value).err())
 }
@@ -62,9 +62,9 @@ const GOOD_STATED: [&[u8]; 6] = [
 ];
 
 /// These are crypto lines with that front.
-fn are_lines(rt: &impl Abort, alloc: Global, front: &[u8], backs: &[&[u8]]) -> Result<(), Fail> {
+fn are_lines(rt: &impl Abort, alloc: Global, prefix: &[u8], backs: &[&[u8]]) -> Result<(), Fail> {
     for back in backs {
-        let told = fault_of(alloc, front, back)?;
+        let told = fault_of(alloc, prefix, back)?;
         assert!(rt; told == None);
     }
     Ok(())
@@ -242,11 +242,11 @@ const BAD_STATED: [(&[u8], SdesFault); 12] = [
 fn have_faults(
     rt: &impl Abort,
     alloc: Global,
-    front: &[u8],
+    prefix: &[u8],
     rows: &[(&[u8], SdesFault)],
 ) -> Result<(), Fail> {
     for (back, fault) in rows {
-        let told = fault_of(alloc, front, back)?;
+        let told = fault_of(alloc, prefix, back)?;
         assert!(rt; told == Some(*fault));
     }
     Ok(())

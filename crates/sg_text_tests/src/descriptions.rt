@@ -113,8 +113,8 @@ fn tells_the_first_fault(rt: HostRuntime) {
 }
 
 // A line's front, so many octets `x`, and its end.
-fn put(text: &mut Vec<u8>, front: &[u8], count: usize, end: &[u8]) -> Result<(), NoMemory> {
-    text.extend_from_slice(front)?;
+fn put(text: &mut Vec<u8>, prefix: &[u8], count: usize, end: &[u8]) -> Result<(), NoMemory> {
+    text.extend_from_slice(prefix)?;
     for _ in 0..count {
         text.push(b'x')?;
     }

@@ -220,8 +220,8 @@ type Row = (&'static [u8], u8, usize, &'static [u8], Option<ScriptFault>);
 const SHARED: &[u8] = b" b 00112233445566778899aabbccddeeff\n";
 
 fn have_limits(rt: &impl Abort, alloc: Global, rows: &[Row]) -> Result<(), Fail> {
-    for (front, octet, count, end, fault) in rows {
-        let mut line = Vec::from_slice(alloc, front)?;
+    for (prefix, octet, count, end, fault) in rows {
+        let mut line = Vec::from_slice(alloc, prefix)?;
         fill(&mut line, *octet, *count, end)?;
         assert!(rt; fault_of(rt, alloc, &line) == *fault);
     }

@@ -180,8 +180,8 @@ const ANSWER: &[u8] = b"\x01\x01\x05\x00\xca\xfe\xba\xbe\x02\x00\
 \x00\x01MMMMMMMMMMMMMMMMMMMM";
 
 // A payload of so many octets and of one octet, behind its number and its length.
-fn put(message: &mut Vec<u8>, front: &[u8], count: u16, octet: u8) -> Result<(), AllocError> {
-    message.extend_from_slice(front)?;
+fn put(message: &mut Vec<u8>, prefix: &[u8], count: u16, octet: u8) -> Result<(), AllocError> {
+    message.extend_from_slice(prefix)?;
     message.extend_from_slice(&count.to_be_bytes())?;
     for _ in 0..count {
         message.push(octet)?;

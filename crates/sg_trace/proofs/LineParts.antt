@@ -14,28 +14,28 @@ no_end [] lacks = tt
 no_end (x ∷ xs) lacks = ((λ (e : x ≡ 10). false≢true (sym lacks.0 ∙ eq-eqb x 10 e)), no_end xs lacks.1)
 
 -- a line end in the front: the part up to it is whole
-pub cut_part : (waiting front before behind rest : List ℕ) (most : ℕ) → front ++ rest ≡ waiting → (front ≡ before ++ 10 ∷ behind) × Lacks 10 before
+pub cut_part : (waiting prefix before behind rest : List ℕ) (most : ℕ) → prefix ++ rest ≡ waiting → (prefix ≡ before ++ 10 ∷ behind) × Lacks 10 before
     → EndsLine true (take (length before + 1) waiting) (drop (length before + 1) waiting) most
-cut_part waiting front before behind rest most is parts =
+cut_part waiting prefix before behind rest most is parts =
     let whole : waiting ≡ (before ++ 10 ∷ []) ++ (behind ++ rest) = sym is ∙ ap (λ (l : List ℕ). l ++ rest) parts.0 ∙ append_assoc before (10 ∷ behind) rest ∙ sym (append_assoc before (10 ∷ []) (behind ++ rest)) in
     let count : length before + 1 ≡ length (before ++ 10 ∷ []) = sym (length-append before (10 ∷ [])) in
     let taken : take (length before + 1) waiting ≡ before ++ 10 ∷ [] = rw (count, whole) (take-append_seam (before ++ 10 ∷ []) (behind ++ rest)) in
     (before, taken, no_end before parts.1)
 
 -- the octets up to the one at that place
-pub whole_at : (waiting front rest : List ℕ) (k most : ℕ) → front ++ rest ≡ waiting → k < length front → (front ≡ take k front ++ 10 ∷ drop (k + 1) front) × Lacks 10 (take k front)
+pub whole_at : (waiting prefix rest : List ℕ) (k most : ℕ) → prefix ++ rest ≡ waiting → k < length prefix → (prefix ≡ take k prefix ++ 10 ∷ drop (k + 1) prefix) × Lacks 10 (take k prefix)
     → EndsLine true (take (k + 1) waiting) (drop (k + 1) waiting) most
-whole_at waiting front rest k most is lt parts =
-    let size : length (take k front) ≡ k = length-take-le k front (omega (arith, lt)) in
-    subst (λ (n : ℕ). EndsLine true (take (n + 1) waiting) (drop (n + 1) waiting) most) size (cut_part waiting front (take k front) (drop (k + 1) front) rest most is parts)
+whole_at waiting prefix rest k most is lt parts =
+    let size : length (take k prefix) ≡ k = length-take-le k prefix (omega (arith, lt)) in
+    subst (λ (n : ℕ). EndsLine true (take (n + 1) waiting) (drop (n + 1) waiting) most) size (cut_part waiting prefix (take k prefix) (drop (k + 1) prefix) rest most is parts)
 
 -- no line end in the front, which is all of what waits or as much as may be
-pub uncut_part : (waiting front rest : List ℕ) (most : ℕ) → front ++ rest ≡ waiting → ((rest ≡ []) ⊎ (length front ≡ most)) → Lacks 10 front
-    → EndsLine false (take (length front) waiting) (drop (length front) waiting) most
-uncut_part waiting front rest most is all none =
-    let taken : take (length front) waiting ≡ front = subst (λ (w : List ℕ). take (length front) w ≡ front) is (take-append_seam front rest) in
-    let left : drop (length front) waiting ≡ rest = subst (λ (w : List ℕ). drop (length front) w ≡ rest) is (drop-append_seam front rest) in
-    rw (taken, left) (no_end front none, all)
+pub uncut_part : (waiting prefix rest : List ℕ) (most : ℕ) → prefix ++ rest ≡ waiting → ((rest ≡ []) ⊎ (length prefix ≡ most)) → Lacks 10 prefix
+    → EndsLine false (take (length prefix) waiting) (drop (length prefix) waiting) most
+uncut_part waiting prefix rest most is all none =
+    let taken : take (length prefix) waiting ≡ prefix = subst (λ (w : List ℕ). take (length prefix) w ≡ prefix) is (take-append_seam prefix rest) in
+    let left : drop (length prefix) waiting ≡ rest = subst (λ (w : List ℕ). drop (length prefix) w ≡ rest) is (drop-append_seam prefix rest) in
+    rw (taken, left) (no_end prefix none, all)
 
 -- the front has as many octets as may be, or is all of what waits
 pub all_or_most : (waiting : List ℕ) (most m : ℕ) → m ≡ min (length waiting) most → (drop m waiting ≡ []) ⊎ (length (take m waiting) ≡ most)

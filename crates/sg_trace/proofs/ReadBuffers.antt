@@ -20,8 +20,8 @@ filled f0 g l f1 g2 f2 first second =
 
 -- a part moved from what waits to the line
 pub moved : (all l0 f1 f2 part l1 : List ℕ) → all ≡ l0 ++ f1 → f1 ≡ part ++ f2 → l1 ≡ l0 ++ part → all ≡ l1 ++ f2
-moved all l0 f1 f2 part l1 is front line =
-    is ∙ ap (λ (x : List ℕ). l0 ++ x) front ∙ sym (append_assoc l0 part f2) ∙ ap (λ (x : List ℕ). x ++ f2) (sym line)
+moved all l0 f1 f2 part l1 is prefix line =
+    is ∙ ap (λ (x : List ℕ). l0 ++ x) prefix ∙ sym (append_assoc l0 part f2) ∙ ap (λ (x : List ℕ). x ++ f2) (sym line)
 
 -- where there is no line, all came to be nothing
 pub nothing : (all line new : List ℕ) → all ≡ line ++ new → line ≡ [] → new ≡ [] → all ≡ []

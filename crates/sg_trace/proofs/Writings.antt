@@ -8,7 +8,7 @@ use Rattle.std.proofs.lemmas.List.{append-nil, take-append-drop, take_more}
 use Rattle.sg_base.specs.declared.faults.Failed.{Failed}
 use Rattle.sg_edge.proofs.Passed.{wrote_more}
 use Rattle.sg_edge.specs.Told.{Wrote, WroteAll}
-use Rattle.sg_trace.specs.Output.{IsWritten, WroteFront}
+use Rattle.sg_trace.specs.Output.{IsWritten, WrotePrefix}
 use Rattle.sg_trace.specs.declared.status.Status.{Status}
 use Rattle.sg_trace.specs.declared.status.Status.TheVariants.{Done, Usage, Script, Read, Write, Link, NoMemory, Clock, Noise, TurnsSpent}
 
@@ -18,43 +18,43 @@ wrote_all a b part (Ok u) ok wrote = wrote
 wrote_all a b part (Err e) ok wrote = absurd (false≢true (sym ok))
 
 -- and one that doesn't a front
-pub wrote_front : (a b : Option (List ℕ)) (part : List ℕ) (r : Result (Unit {0}) Failed) → false ≡ is_ok r → WroteAll a b part r → WroteFront a b part
-wrote_front a b part (Ok u) err wrote = absurd (false≢true err)
-wrote_front a b part (Err e) err wrote = (wrote.0, (wrote.1, wrote.2), wrote.3)
+pub wrote_prefix : (a b : Option (List ℕ)) (part : List ℕ) (r : Result (Unit {0}) Failed) → false ≡ is_ok r → WroteAll a b part r → WrotePrefix a b part
+wrote_prefix a b part (Ok u) err wrote = absurd (false≢true err)
+wrote_prefix a b part (Err e) err wrote = (wrote.0, (wrote.1, wrote.2), wrote.3)
 
 -- nothing is a prefix of all
-pub none_written : (a : Option (List ℕ)) (octets : List ℕ) → WroteFront a a octets
+pub none_written : (a : Option (List ℕ)) (octets : List ℕ) → WrotePrefix a a octets
 none_written a octets = ([], (octets, refl), λ after is. (after, is, sym (append-nil after)))
 
 -- a front behind what was written
-pub front_behind : (a b c : Option (List ℕ)) (before octets behind : List ℕ) → Wrote a b before → WroteFront b c octets → WroteFront a c (before ++ (octets ++ behind))
-front_behind a b c before octets behind wrote front = (
-  before ++ front.0,
+pub prefix_behind : (a b c : Option (List ℕ)) (before octets behind : List ℕ) → Wrote a b before → WrotePrefix b c octets → WrotePrefix a c (before ++ (octets ++ behind))
+prefix_behind a b c before octets behind wrote prefix = (
+  before ++ prefix.0,
   (
-    front.1.0 ++ behind,
-    ap (λ (l : List ℕ). before ++ (l ++ behind)) front.1.1 ∙ ap (λ (l : List ℕ). before ++ l) (append_assoc front.0 front.1.0 behind) ∙ sym (append_assoc before front.0 (front.1.0 ++ behind)),
+    prefix.1.0 ++ behind,
+    ap (λ (l : List ℕ). before ++ (l ++ behind)) prefix.1.1 ∙ ap (λ (l : List ℕ). before ++ l) (append_assoc prefix.0 prefix.1.0 behind) ∙ sym (append_assoc before prefix.0 (prefix.1.0 ++ behind)),
   ),
-  wrote_more a b c before front.0 wrote front.2,
+  wrote_more a b c before prefix.0 wrote prefix.2,
 )
 
 -- what was written by an error is a front
-pub written_front : (status : Status) (a b : Option (List ℕ)) (octets : List ℕ) → IsWritten (Err status) a b octets → WroteFront a b octets
-written_front Write a b octets is = is
-written_front NoMemory a b octets is = is
-written_front Done a b octets is = absurd is
-written_front Usage a b octets is = absurd is
-written_front (Script n fault) a b octets is = absurd is
-written_front Read a b octets is = absurd is
-written_front Link a b octets is = absurd is
-written_front Clock a b octets is = absurd is
-written_front Noise a b octets is = absurd is
-written_front TurnsSpent a b octets is = absurd is
+pub written_prefix : (status : Status) (a b : Option (List ℕ)) (octets : List ℕ) → IsWritten (Err status) a b octets → WrotePrefix a b octets
+written_prefix Write a b octets is = is
+written_prefix NoMemory a b octets is = is
+written_prefix Done a b octets is = absurd is
+written_prefix Usage a b octets is = absurd is
+written_prefix (Script n fault) a b octets is = absurd is
+written_prefix Read a b octets is = absurd is
+written_prefix Link a b octets is = absurd is
+written_prefix Clock a b octets is = absurd is
+written_prefix Noise a b octets is = absurd is
+written_prefix TurnsSpent a b octets is = absurd is
 
 -- and so it is of more octets, behind others
 pub written_behind : (status : Status) (a b c : Option (List ℕ)) (before octets behind : List ℕ) → Wrote a b before → IsWritten (Err status) b c octets
     → IsWritten (Err status) a c (before ++ (octets ++ behind))
-written_behind Write a b c before octets behind wrote is = front_behind a b c before octets behind wrote is
-written_behind NoMemory a b c before octets behind wrote is = front_behind a b c before octets behind wrote is
+written_behind Write a b c before octets behind wrote is = prefix_behind a b c before octets behind wrote is
+written_behind NoMemory a b c before octets behind wrote is = prefix_behind a b c before octets behind wrote is
 written_behind Done a b c before octets behind wrote is = absurd is
 written_behind Usage a b c before octets behind wrote is = absurd is
 written_behind (Script n fault) a b c before octets behind wrote is = absurd is

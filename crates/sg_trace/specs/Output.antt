@@ -24,17 +24,17 @@ abbrev pub output_from : World → List Event → List ℕ
 output_from w events = text (outcomes_from w events)
 
 abbrev pub IsPrefixOf : {X : Type 0} → List X → List X → Type 0
-IsPrefixOf {X} front all = (rest : List X) × (all ≡ front ++ rest)
+IsPrefixOf {X} prefix all = (rest : List X) × (all ≡ prefix ++ rest)
 
 -- a prefix of the octets was written
-abbrev pub WroteFront : Option (List ℕ) → Option (List ℕ) → List ℕ → Type 0
-WroteFront written written' octets = (front : List ℕ) × IsPrefixOf front octets × Wrote written written' front
+abbrev pub WrotePrefix : Option (List ℕ) → Option (List ℕ) → List ℕ → Type 0
+WrotePrefix written written' octets = (prefix : List ℕ) × IsPrefixOf prefix octets × Wrote written written' prefix
 
 -- The octets were written, or a prefix of them.
 abbrev pub IsWritten : Result (Unit {0}) Status → Option (List ℕ) → Option (List ℕ) → List ℕ → Type 0
 IsWritten (Ok u) written written' octets = Wrote written written' octets
-IsWritten (Err Write) written written' octets = WroteFront written written' octets
-IsWritten (Err NoMemory) written written' octets = WroteFront written written' octets
+IsWritten (Err Write) written written' octets = WrotePrefix written written' octets
+IsWritten (Err NoMemory) written written' octets = WrotePrefix written written' octets
 IsWritten (Err Done) written written' octets = ⊥
 IsWritten (Err Usage) written written' octets = ⊥
 IsWritten (Err (Script n fault)) written written' octets = ⊥

@@ -42,7 +42,7 @@ abbrev pub stopped : Stop → Outside → Trace
 stopped stop o = record { events = []; stop = stop; left = o }
 
 abbrev pub with_events : List Event → Trace → Trace
-with_events front c = record c { events = front ++ c.events }
+with_events prefix c = record c { events = prefix ++ c.events }
 
 -- what the rest of a run makes of the greatest reading so far and of what was not taken yet
 abbrev pub Later : Type 0

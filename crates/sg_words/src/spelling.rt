@@ -53,8 +53,8 @@ fn is_joined(word: &[u8], option: &str, value: &str) -> bool
     ensures { result ≡ is_joined word.now option.now value.now }
 {
     let count = word.len().min(option.len());
-    let (front, rest) = word.split_at(count);
-    front == option.as_bytes() && rest == value.as_bytes()
+    let (prefix, rest) = word.split_at(count);
+    prefix == option.as_bytes() && rest == value.as_bytes()
 }
 
 /// Whether the words are the value, and then these texts.

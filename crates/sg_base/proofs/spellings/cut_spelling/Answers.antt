@@ -5,4 +5,4 @@ pub returns-clause-again : goal.returns-clause-again
 returns-clause-again c = cut_again
 
 pub returns-clause-takes : goal.returns-clause-takes
-returns-clause-takes c = λ octet text front rest e. (cut_takes octet text front rest e, cut_lacks octet text front rest e)
+returns-clause-takes c = λ octet text prefix rest e. (cut_takes octet text prefix rest e, cut_lacks octet text prefix rest e)

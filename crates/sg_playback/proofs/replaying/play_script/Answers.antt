@@ -96,10 +96,10 @@ lines-preserved g c =
       (
         so_far.0 ++ read.line,
         so_far.1 ++ played.0,
-        so_far.2 ++ played.4.front,
+        so_far.2 ++ played.4.prefix,
         goes_on _ _ so_far.0 so_far.1 so_far.2 (waiting c.lines.player) c.lines.script so_far.3 _ got.0 got.1 c.in-Ok-Some.line c.next.new.self read _ _ _ _ played.0 played.1 played.4 played.2 played.3,
         omega (arith, so_far.4, read.offset, length-append so_far.0 read.line),
-        subst (TableStandsFor c.play.new.self.table) (sym (world_after-append empty so_far.2 played.4.front)) played.4.stands,
+        subst (TableStandsFor c.play.new.self.table) (sym (world_after-append empty so_far.2 played.4.prefix)) played.4.stands,
       ),
       omega (arith, read.offset, got.3, c.lines.invariant.1, length-append c.lines.script.waits got.0, ap length read.split, length-append read.line c.next.new.self.waits),
       read.within,

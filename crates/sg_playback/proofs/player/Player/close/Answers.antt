@@ -1,6 +1,6 @@
 use Rattle.std.proofs.Common.{rules, ◌≡◌, true, false, [], refl, inl, inr}
 use Rattle.sg_edge.proofs.Passed.{wrote_none}
-use Rattle.sg_playback.proofs.Plays.{closed_bare, closed_told, stepped_front}
+use Rattle.sg_playback.proofs.Plays.{closed_bare, closed_told, stepped_prefix}
 use Rattle.sg_playback.specs.Playing.{tells_waiting, waiting}
 use Rattle.sg_table.specs.Standing.{TableStandsFor}
 use Rattle.sg_playback.proofs.player.Player.close.Goals as goal
@@ -14,8 +14,8 @@ pub returns-in-Err-clause-closed : goal.returns-in-Err-clause-closed
 returns-in-Err-clause-closed g c = λ w stands.
     let on : tells_waiting c.args.end ≡ true = search rules in
     let s = c.in-Err.ensures.settled w stands in
-    let front = stepped_front c.in-Err.status w (waiting c.args.self.now) (TableStandsFor c.settle.new.self.table) s.0 s.2 in
-    (s.0, s.1, closed_told c.args.end c.in-Err.status w (waiting c.args.self.now) s.0 on (inr front))
+    let prefix = stepped_prefix c.in-Err.status w (waiting c.args.self.now) (TableStandsFor c.settle.new.self.table) s.0 s.2 in
+    (s.0, s.1, closed_told c.args.end c.in-Err.status w (waiting c.args.self.now) s.0 on (inr prefix))
 
 pub returns-in-Ok-clause-closed : goal.returns-in-Ok-clause-closed
 returns-in-Ok-clause-closed g c = λ w stands.

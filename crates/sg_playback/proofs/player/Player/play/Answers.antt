@@ -4,7 +4,7 @@ use Rattle.sg_edge.proofs.Links.{added_none}
 use Rattle.sg_edge.proofs.Passed.{wrote_none}
 use Rattle.sg_gateway.specs.Runs.{world_after}
 use Rattle.sg_lines.specs.declared.lines.Line.TheVariants as lines
-use Rattle.sg_playback.proofs.Plays.{cut_before, datagram_played, header_taken, played_cut, stepped_front, want_not}
+use Rattle.sg_playback.proofs.Plays.{cut_before, datagram_played, header_taken, played_cut, stepped_prefix, want_not}
 use Rattle.sg_playback.specs.Playing.{IsPlayed, waiting}
 use Rattle.sg_table.specs.Standing.{TableStandsFor}
 use Rattle.sg_playback.proofs.player.Player.play.Goals as goal
@@ -12,13 +12,13 @@ use Rattle.sg_playback.proofs.player.Player.play.Goals as goal
 pub returns-in-Err-clause-played : goal.returns-in-Err-clause-played
 returns-in-Err-clause-played g c = λ w stands.
     let s = c.in-Err.ensures.made w stands in
-    let front = stepped_front c.in-Err.status w (waiting c.args.self.now) (TableStandsFor c.make_room.new.self.table) s.0 s.2 in (
+    let prefix = stepped_prefix c.in-Err.status w (waiting c.args.self.now) (TableStandsFor c.make_room.new.self.table) s.0 s.2 in (
       [],
       s.0,
       added_none _,
       s.1,
-      played_cut c.in-Err.status c.args.line w (waiting c.args.self.now) (waiting c.make_room.new.self) (TableStandsFor c.make_room.new.self.table) [] s.0 front.0
-          (cut_before c.args.line w (waiting c.args.self.now) s.0 front.1),
+      played_cut c.in-Err.status c.args.line w (waiting c.args.self.now) (waiting c.make_room.new.self) (TableStandsFor c.make_room.new.self.table) [] s.0 prefix.0
+          (cut_before c.args.line w (waiting c.args.self.now) s.0 prefix.1),
     )
 
 pub returns-in-Err-clause-noise : goal.returns-in-Err-clause-noise
