@@ -27,7 +27,7 @@ use Rattle.sg_base.proofs.FourNumbers.{address_again, address_takes}
 use Rattle.sg_base.proofs.Pairs.{octets_again, octets_take}
 use Rattle.sg_base.proofs.SuiteLemmas.{suite_again, suite_takes, suite_lacks_colon}
 use Rattle.sg_base.proofs.Cases.{chosen}
-use Rattle.sg_lines.specs.Fields.{◌>>=◌, or_fault, number_in, call_in, address_in, hex_in, octets_in, rollover_in, window_in, noise_in, key_in, identity_in}
+use Rattle.sg_lines.specs.Fields.{◌>>=◌, or_fault, number_from, call_from, address_from, hex_from, octets_from, rollover_from, window_from, noise_from, key_from, identity_from}
 use Rattle.sg_lines.specs.LineText.{hex_text, key_text, rollover_text, noise_text, FitsKey, FitsNoise, FitsOctets}
 
 pub bind_ok : {A B : Type 0} (r : Result A ScriptFault) (f : A → Result B ScriptFault) (y : B) → (r >>= f) ≡ Ok y → (x : A) × (r ≡ Ok x) × (f x ≡ Ok y)
@@ -57,42 +57,42 @@ guard_false false d x y e = (refl, cc)
 
 -- ---- numbers
 
-pub number_in_again : (most n : ℕ) → n ≤ most → most < 10 ^ 64 → number_in most (decimal n) ≡ Ok n
+pub number_in_again : (most n : ℕ) → n ≤ most → most < 10 ^ 64 → number_from most (decimal n) ≡ Ok n
 number_in_again most n small wide = rw (number_again most n small wide) refl
 
-pub number_in_takes : (most : ℕ) (t : List ℕ) (n : ℕ) → number_in most t ≡ Ok n → (t ≡ decimal n) × (n ≤ most)
+pub number_in_takes : (most : ℕ) (t : List ℕ) (n : ℕ) → number_from most t ≡ Ok n → (t ≡ decimal n) × (n ≤ most)
 number_in_takes most t n e = number_takes most t n (or_fault_ok Number (number_at most t) n e)
 
-pub call_again : (c : CallId) → c.0 < 2 ^ 32 → call_in (decimal c.0) ≡ Ok c
-unfolding call_in
+pub call_again : (c : CallId) → c.0 < 2 ^ 32 → call_from (decimal c.0) ≡ Ok c
+unfolding call_from
 call_again c fits = rw (number_again 4294967295 c.0 (omega (arith, fits)) (lit< tt)) refl
 
-pub call_takes : (t : List ℕ) (c : CallId) → call_in t ≡ Ok c → (t ≡ decimal c.0) × (c.0 < 2 ^ 32)
-unfolding call_in
+pub call_takes : (t : List ℕ) (c : CallId) → call_from t ≡ Ok c → (t ≡ decimal c.0) × (c.0 < 2 ^ 32)
+unfolding call_from
 call_takes t c e =
-    let n = bind_ok (number_in 4294967295 t) (λ n. Ok (record { 0 = n })) c e in
+    let n = bind_ok (number_from 4294967295 t) (λ n. Ok (record { 0 = n })) c e in
     let p = number_in_takes 4294967295 t n.0 n.1 in
     let made : CallId = record { 0 = n.0 } in
     subst (λ (c : CallId). (t ≡ decimal c.0) × (c.0 < 2 ^ 32)) (ok_is made c n.2) (p.0, omega (arith, p.1))
 
-pub window_again : (n : ℕ) → 64 ≤ n → n ≤ 1024 → window_in (decimal n) ≡ Ok n
-unfolding window_in
+pub window_again : (n : ℕ) → 64 ≤ n → n ≤ 1024 → window_from (decimal n) ≡ Ok n
+unfolding window_from
 window_again n low high = rw (number_again 1024 n high (lit< tt), le-ltb n 64 low) refl
 
-pub window_takes : (t : List ℕ) (n : ℕ) → window_in t ≡ Ok n → (t ≡ decimal n) × (64 ≤ n) × (n ≤ 1024)
-unfolding window_in
+pub window_takes : (t : List ℕ) (n : ℕ) → window_from t ≡ Ok n → (t ≡ decimal n) × (64 ≤ n) × (n ≤ 1024)
+unfolding window_from
 window_takes t n e =
-    let m = bind_ok (number_in 1024 t) (λ n. cond (ltb n 64) (Err Number) (Ok n)) n e in
+    let m = bind_ok (number_from 1024 t) (λ n. cond (ltb n 64) (Err Number) (Ok n)) n e in
     let p = number_in_takes 1024 t m.0 m.1 in
     let g = guard_false (ltb m.0 64) Number m.0 n m.2 in
     subst (λ (x : ℕ). (t ≡ decimal x) × (64 ≤ x) × (x ≤ 1024)) g.1 (p.0, ltb-false _ _ g.0, p.1)
 
 -- ---- addresses
 
-pub address_in_again : (a : Address) → IsAddress a → address_in (address_text a) ≡ Ok a
+pub address_in_again : (a : Address) → IsAddress a → address_from (address_text a) ≡ Ok a
 address_in_again a fits = rw (address_again a fits) refl
 
-pub address_in_takes : (t : List ℕ) (a : Address) → address_in t ≡ Ok a → (t ≡ address_text a) × IsAddress a
+pub address_in_takes : (t : List ℕ) (a : Address) → address_from t ≡ Ok a → (t ≡ address_text a) × IsAddress a
 address_in_takes t a e = address_takes t a (or_fault_ok Number (address_at t) a e)
 
 -- ---- octets
@@ -110,16 +110,16 @@ unfolding encode_with
 some_hex t [] some e = absurd (some (ap length e))
 some_hex t (b ∷ octets) some e = e
 
-pub hex_again : (octets : List ℕ) → IsBytes octets → hex_in (hex_text octets) ≡ Ok octets
-unfolding hex_in
+pub hex_again : (octets : List ℕ) → IsBytes octets → hex_from (hex_text octets) ≡ Ok octets
+unfolding hex_from
 hex_again [] fits = refl
 hex_again (b ∷ octets) fits =
     let longer : bytes_eq (encode_lower (b ∷ octets)) (45 ∷ []) ≡ false = not_hyphen b octets in
     let some : eqb (length (encode_lower (b ∷ octets))) 0 ≡ false = not_empty b octets in
     rw (longer, some, octets_again (b ∷ octets) fits) refl
 
-pub hex_takes : (t octets : List ℕ) → hex_in t ≡ Ok octets → (t ≡ hex_text octets) × IsBytes octets
-unfolding hex_in
+pub hex_takes : (t octets : List ℕ) → hex_from t ≡ Ok octets → (t ≡ hex_text octets) × IsBytes octets
+unfolding hex_from
 hex_takes t octets e =
     elim (chosen (bytes_eq t (45 ∷ [])) _ _ (Ok octets) e) [
       | inl p ↦ let f : [] ≡ octets = ok_is [] octets p.1 in rw (← f) ((bytes_eq-Decides t (45 ∷ [])).0 p.0, λ i. omega arith)
@@ -132,14 +132,14 @@ hex_takes t octets e =
           ]
     ]
 
-pub octets_in_again : (least most : ℕ) (octets : List ℕ) → FitsOctets least most octets → octets_in least most (hex_text octets) ≡ Ok octets
-unfolding octets_in
+pub octets_in_again : (least most : ℕ) (octets : List ℕ) → FitsOctets least most octets → octets_from least most (hex_text octets) ≡ Ok octets
+unfolding octets_from
 octets_in_again least most octets fits = rw (hex_again octets fits.bytes, le-leb least (length octets) fits.low, le-leb (length octets) most fits.high) refl
 
-pub octets_in_takes : (least most : ℕ) (t octets : List ℕ) → octets_in least most t ≡ Ok octets → (t ≡ hex_text octets) × FitsOctets least most octets
-unfolding octets_in
+pub octets_in_takes : (least most : ℕ) (t octets : List ℕ) → octets_from least most t ≡ Ok octets → (t ≡ hex_text octets) × FitsOctets least most octets
+unfolding octets_from
 octets_in_takes least most t octets e =
-    let p = bind_ok (hex_in t) _ octets e in
+    let p = bind_ok (hex_from t) _ octets e in
     let g = guard_true (leb least (length p.0) && leb (length p.0) most) Length p.0 octets p.2 in
     let b = and_parts (leb least (length p.0)) (leb (length p.0) most) g.0 in
     let s = hex_takes t p.0 p.1 in
@@ -156,12 +156,12 @@ four_bytes n fits (suc (suc zero)) = omega arith
 four_bytes n fits (suc (suc (suc zero))) = omega arith
 four_bytes n fits (suc (suc (suc (suc i)))) = omega arith
 
-pub rollover_again : (n : ℕ) → n < 2 ^ 32 → rollover_in (rollover_text n) ≡ Ok n
-unfolding rollover_in
+pub rollover_again : (n : ℕ) → n < 2 ^ 32 → rollover_from (rollover_text n) ≡ Ok n
+unfolding rollover_from
 rollover_again n fits = rw (octets_again (to_be_bytes w32 n) (four_bytes n fits), from_be_bytes-to_be_bytes_4 n fits) refl
 
-pub rollover_takes : (t : List ℕ) (n : ℕ) → rollover_in t ≡ Ok n → (t ≡ rollover_text n) × (n < 2 ^ 32)
-unfolding rollover_in
+pub rollover_takes : (t : List ℕ) (n : ℕ) → rollover_from t ≡ Ok n → (t ≡ rollover_text n) × (n < 2 ^ 32)
+unfolding rollover_from
 rollover_takes t n e =
     let b = bind_ok (or_fault Hex (octets_at t)) _ n e in
     let p = octets_take t b.0 (or_fault_ok Hex (octets_at t) b.0 b.1) in
@@ -179,21 +179,21 @@ some_noise noise fits size = long noise.0 size
     long [] size = absurd (omega (arith, size))
     long (b ∷ octets) size = not_hyphen b octets
 
-pub noise_again : (noise : Option Noise304) → FitsNoise noise → noise_in (noise_text noise) ≡ Ok noise
-unfolding noise_in
+pub noise_again : (noise : Option Noise304) → FitsNoise noise → noise_from (noise_text noise) ≡ Ok noise
+unfolding noise_from
 noise_again None fits = refl
 noise_again (Some noise) fits =
     rw (some_noise noise fits.0 fits.1, octets_in_again 304 304 noise.0 (record { bytes = fits.0; low = omega (arith, fits.1); high = omega (arith, fits.1) })) refl
 
-pub noise_takes : (t : List ℕ) (noise : Option Noise304) → noise_in t ≡ Ok noise → (t ≡ noise_text noise) × FitsNoise noise
-unfolding noise_in
+pub noise_takes : (t : List ℕ) (noise : Option Noise304) → noise_from t ≡ Ok noise → (t ≡ noise_text noise) × FitsNoise noise
+unfolding noise_from
 noise_takes t noise e =
     elim (chosen (bytes_eq t (45 ∷ [])) _ _ (Ok noise) e) [
       | inl p ↦
           let none : None ≡ noise = ok_is None noise p.1 in
           subst (λ (o : Option Noise304). (t ≡ noise_text o) × FitsNoise o) none ((bytes_eq-Decides t (45 ∷ [])).0 p.0, tt)
       | inr p ↦
-          let o = bind_ok (octets_in 304 304 t) (λ octets. Ok (Some (record { 0 = octets }))) noise p.1 in
+          let o = bind_ok (octets_from 304 304 t) (λ octets. Ok (Some (record { 0 = octets }))) noise p.1 in
           let s = octets_in_takes 304 304 t o.0 o.1 in
           let made : Option Noise304 = Some (record { 0 = o.0 }) in
           let low = s.1.low in
@@ -225,22 +225,22 @@ same_key k fits =
     let back : drop (key_len_of k.suite) (k.key ++ k.salt) ≡ k.salt = drop_at k.key k.salt (key_len_of k.suite) fits.key in
     (λ i. record { suite = k.suite; key = prefix i; salt = back i })
 
-pub key_again : (k : Master) → FitsKey k → key_in (key_text k) ≡ Ok k
-unfolding key_in
+pub key_again : (k : Master) → FitsKey k → key_from (key_text k) ≡ Ok k
+unfolding key_from
 key_again k fits =
     let n = key_len_of k.suite + salt_len_of k.suite in
     let size = sizes k fits in
-    let octets : octets_in n n (hex_text (k.key ++ k.salt)) ≡ Ok (k.key ++ k.salt) = octets_in_again n n (k.key ++ k.salt) (record { bytes = fits.octets; low = omega (arith, size); high = omega (arith, size) }) in
+    let octets : octets_from n n (hex_text (k.key ++ k.salt)) ≡ Ok (k.key ++ k.salt) = octets_in_again n n (k.key ++ k.salt) (record { bytes = fits.octets; low = omega (arith, size); high = omega (arith, size) }) in
     rw (colon (suite_name k.suite) (hex_text (k.key ++ k.salt)), cut_again 58 (suite_name k.suite) (hex_text (k.key ++ k.salt)) (suite_lacks_colon k.suite), suite_again k.suite, octets)
     (ap Ok (same_key k fits))
 
-pub key_takes : (t : List ℕ) (k : Master) → key_in t ≡ Ok k → (t ≡ key_text k) × FitsKey k
-unfolding key_in
+pub key_takes : (t : List ℕ) (k : Master) → key_from t ≡ Ok k → (t ≡ key_text k) × FitsKey k
+unfolding key_from
 key_takes t k e =
     let p = bind_ok (or_fault Word (cut_at 58 t)) _ k e in
     let s = bind_ok (or_fault Word (suite_at p.0.0)) _ k p.2 in
     let n = key_len_of s.0 + salt_len_of s.0 in
-    let o = bind_ok (octets_in n n p.0.1) _ k s.2 in
+    let o = bind_ok (octets_from n n p.0.1) _ k s.2 in
     let whole = cut_takes 58 t p.0.0 p.0.1 (or_fault_ok Word (cut_at 58 t) p.0 p.1) in
     let name = suite_takes p.0.0 s.0 (or_fault_ok Word (suite_at p.0.0) s.0 s.1) in
     let h = octets_in_takes n n p.0.1 o.0 o.1 in
@@ -255,12 +255,12 @@ key_takes t k e =
 
 -- ---- names of peers
 
-pub identity_again : (t : List ℕ) → is_identity t ≡ true → identity_in t ≡ Ok t
-unfolding identity_in
+pub identity_again : (t : List ℕ) → is_identity t ≡ true → identity_from t ≡ Ok t
+unfolding identity_from
 identity_again t e = let p = and_parts _ (list_all is_printing t) e in rw (p.1, p.0) refl
 
-pub identity_takes : (t x : List ℕ) → identity_in t ≡ Ok x → (t ≡ x) × (is_identity x ≡ true)
-unfolding identity_in
+pub identity_takes : (t x : List ℕ) → identity_from t ≡ Ok x → (t ≡ x) × (is_identity x ≡ true)
+unfolding identity_from
 identity_takes t x e =
     elim (chosen (list_all is_printing t) _ _ (Ok x) e) [
       | inl p ↦

@@ -4,7 +4,7 @@
 ghost use Rattle.std.specs.Prelude.{◌≡◌, ◌≤◌, length, IfOk};
 ghost use Rattle.std.specs.List.{list_all};
 ghost use Rattle.sg_base.specs.Identities.{is_printing};
-ghost use Rattle.sg_lines.specs.Fields.{Gives, address_in, call_in, hex_in, identity_in, key_in, noise_in, number_in, octets_in, port_in, rollover_in, window_in};
+ghost use Rattle.sg_lines.specs.Fields.{Gives, address_from, call_from, hex_from, identity_from, key_from, noise_from, number_from, octets_from, port_from, rollover_from, window_from};
 
 use crate::ReadLineFault;
 use sg_base::{
@@ -15,16 +15,16 @@ use std::alloc::Global;
 
 /// A number up to the most, without a leading zero.
 pub fn number(most: u128, text: &[u8]) -> Result<u128, ScriptFault>
-    ensures value { result ≡ number_in most text.now }
+    ensures value { result ≡ number_from most text.now }
     ensures most { IfOk result (λ n. n ≤ most) }
 {
     read_number(most, text).ok_or(ScriptFault::Number)
 }
 
 /// The number of a call.
-#[tactic(auto, unfolding(crate::specs::Fields::call_in))]
+#[tactic(auto, unfolding(crate::specs::Fields::call_from))]
 pub fn call(text: &[u8]) -> Result<CallId, ScriptFault>
-    ensures { result ≡ call_in text.now }
+    ensures { result ≡ call_from text.now }
 {
     let number = number(4294967295, text)?;
     Ok(CallId(number as u32))
@@ -32,7 +32,7 @@ pub fn call(text: &[u8]) -> Result<CallId, ScriptFault>
 
 /// A port.
 pub fn port(text: &[u8]) -> Result<u16, ScriptFault>
-    ensures { result ≡ port_in text.now }
+    ensures { result ≡ port_from text.now }
 {
     let number = number(65535, text)?;
     Ok(number as u16)
@@ -40,15 +40,15 @@ pub fn port(text: &[u8]) -> Result<u16, ScriptFault>
 
 /// Four numbers with points between them, a colon and a port.
 pub fn address(text: &[u8]) -> Result<Address, ScriptFault>
-    ensures { result ≡ address_in text.now }
+    ensures { result ≡ address_from text.now }
 {
     read_address(text).ok_or(ScriptFault::Number)
 }
 
 /// Pairs of digits, one pair or more, or a hyphen for no octets.
-#[tactic(auto, unfolding(crate::specs::Fields::hex_in))]
+#[tactic(auto, unfolding(crate::specs::Fields::hex_from))]
 pub fn hex_octets(alloc: Global, text: &[u8]) -> Result<Octets, ReadLineFault>
-    ensures { Gives result (hex_in text.now) }
+    ensures { Gives result (hex_from text.now) }
 {
     if text == b"-".as_slice() {
         return Ok(Octets::from_vec(Vec::new(alloc)));
@@ -61,14 +61,14 @@ pub fn hex_octets(alloc: Global, text: &[u8]) -> Result<Octets, ReadLineFault>
 }
 
 /// Octets in hexadecimal, whose number is from the least to the most.
-#[tactic(auto, unfolding(crate::specs::Fields::octets_in))]
+#[tactic(auto, unfolding(crate::specs::Fields::octets_from))]
 pub(crate) fn octets(
     alloc: Global,
     least: usize,
     most: usize,
     text: &[u8],
 ) -> Result<Octets, ReadLineFault>
-    ensures value { Gives result (octets_in least most text.now) }
+    ensures value { Gives result (octets_from least most text.now) }
     ensures within { IfOk result (λ o. (least ≤ length o) × (length o ≤ most)) }
 {
     let octets = hex_octets(alloc, text)?;
@@ -80,9 +80,9 @@ pub(crate) fn octets(
 }
 
 /// A rollover counter in 8 digits.
-#[tactic(auto, unfolding(crate::specs::Fields::rollover_in))]
+#[tactic(auto, unfolding(crate::specs::Fields::rollover_from))]
 pub(crate) fn rollover(alloc: Global, text: &[u8]) -> Result<u32, ReadLineFault>
-    ensures { Gives result (rollover_in text.now) }
+    ensures { Gives result (rollover_from text.now) }
 {
     let octets = read_octets(alloc, text)?.ok_or(ScriptFault::Hex)?;
     if octets.as_slice().len() != 4 {
@@ -94,9 +94,9 @@ pub(crate) fn rollover(alloc: Global, text: &[u8]) -> Result<u32, ReadLineFault>
 }
 
 /// A replay window of 64 to 1,024.
-#[tactic(auto, unfolding(crate::specs::Fields::window_in))]
+#[tactic(auto, unfolding(crate::specs::Fields::window_from))]
 pub(crate) fn window(text: &[u8]) -> Result<u16, ScriptFault>
-    ensures { result ≡ window_in text.now }
+    ensures { result ≡ window_from text.now }
 {
     let window = number(WINDOW_MOST as u128, text)?;
     if window < WINDOW_LEAST as u128 {
@@ -106,9 +106,9 @@ pub(crate) fn window(text: &[u8]) -> Result<u16, ScriptFault>
 }
 
 /// Noise of 304 octets, or none where it is to be drawn.
-#[tactic(auto, unfolding(crate::specs::Fields::noise_in))]
+#[tactic(auto, unfolding(crate::specs::Fields::noise_from))]
 pub(crate) fn noise(alloc: Global, text: &[u8]) -> Result<Option<Noise304>, ReadLineFault>
-    ensures { Gives result (noise_in text.now) }
+    ensures { Gives result (noise_from text.now) }
 {
     if text == b"-".as_slice() {
         return Ok(None);
@@ -120,9 +120,9 @@ pub(crate) fn noise(alloc: Global, text: &[u8]) -> Result<Option<Noise304>, Read
 }
 
 /// A suite's name, a colon, and the octets of its key and salt.
-#[tactic(auto, unfolding(crate::specs::Fields::key_in))]
+#[tactic(auto, unfolding(crate::specs::Fields::key_from))]
 pub(crate) fn key(alloc: Global, text: &[u8]) -> Result<MasterKey, ReadLineFault>
-    ensures { Gives result (key_in text.now) }
+    ensures { Gives result (key_from text.now) }
 {
     let (name, hex) = cut(b':', text).ok_or(ScriptFault::Word)?;
     let suite = read_suite(name).ok_or(ScriptFault::Word)?;
@@ -139,9 +139,9 @@ fn all_printing(text: &[u8]) -> bool
 }
 
 /// The name of a peer.
-#[tactic(auto, unfolding(crate::specs::Fields::identity_in))]
+#[tactic(auto, unfolding(crate::specs::Fields::identity_from))]
 pub(crate) fn identity(text: &[u8]) -> Result<Identity, ScriptFault>
-    ensures { result ≡ identity_in text.now }
+    ensures { result ≡ identity_from text.now }
 {
     if !all_printing(text) {
         return Err(ScriptFault::Word);

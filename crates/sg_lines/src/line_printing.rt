@@ -163,12 +163,27 @@ pub fn print_line(alloc: Global, line: &Line) -> Result<Octets, NoMemory>
 {
     match line {
         Line::Header => Ok(Octets::copy_of(alloc, b"srtpgw 1\n")?),
+        Line::HeaderTwo => Ok(Octets::copy_of(alloc, b"srtpgw 2\n")?),
         Line::Datagram { port, from, octets } => {
             let mut number = Buffer::new();
             let port = number.format(*port).as_bytes();
             let from = address_of(alloc, from)?;
             let octets = hex_of(alloc, octets.as_slice())?;
             joined(alloc, &[b"in", port, &from, &octets])
+        }
+        Line::DatagramAt {
+            now,
+            port,
+            from,
+            octets,
+        } => {
+            let mut moment = Buffer::new();
+            let now = moment.format(*now).as_bytes();
+            let mut number = Buffer::new();
+            let port = number.format(*port).as_bytes();
+            let from = address_of(alloc, from)?;
+            let octets = hex_of(alloc, octets.as_slice())?;
+            joined(alloc, &[b"in", now, port, &from, &octets])
         }
         Line::Signal(signal) => print_signal(alloc, signal),
     }

@@ -1,18 +1,18 @@
 //! Script lines, read. What reads a signal's line isn't inlined, so that a datagram's pays for no room that it
 //! doesn't need.
 
-ghost use Rattle.std.specs.Prelude.{◌≡◌, ◌==◌, ◌≤◌, ◌++◌, ℕ, List, [], ◌∷◌, map, take, length, IfOk};
-ghost use Rattle.sg_lines.specs.Fields.{Gives};
+ghost use Rattle.std.specs.Prelude.{◌≡◌, ◌⊎◌, ◌==◌, ◌≤◌, ◌++◌, ℕ, List, [], ◌∷◌, map, take, length, IfOk};
+ghost use Rattle.sg_lines.specs.Fields.{Gives, octets_from};
 ghost use Rattle.sg_lines.specs.LineText.{FitsLine, line_text};
 ghost use Rattle.sg_lines.specs.declared.lines.Line.{Line};
-ghost use Rattle.sg_lines.specs.LineOf.{answer_in, bye_in, datagram_in, eight_fields, fields_of, five_fields, four_fields, header_in, line_of, manual_in, more_fields, offer_mikey_in, offer_sdes_in, offer_secure_in, psk_in, reject_in, said_by, six_fields, tick_in, two_fields};
+ghost use Rattle.sg_lines.specs.LineOf.{answer_from, bye_from, datagram_at_from, datagram_from, eight_fields, fields_of, five_fields, four_fields, header_from, line_of, manual_from, more_fields, offer_mikey_from, offer_sdes_from, offer_secure_from, psk_from, reject_from, said_by, six_fields, tick_from, two_fields};
 
 use crate::faults::WORD;
 use crate::fields::{address, call, identity, key, noise, number, octets, port, rollover, window};
 use crate::{Line, ReadLineFault, Signal};
 use arrayvec::ArrayVec;
 use memchr::memchr;
-use sg_base::{LINE_MOST, PAD_MOST, ScriptFault, TICK_MOST};
+use sg_base::{LINE_MOST, Octets, PAD_MOST, ScriptFault, TICK_MOST};
 use std::alloc::Global;
 
 /// The most octets of a session description in a script.
@@ -21,49 +21,78 @@ const TEXT_MOST: usize = 32_768;
 /// One field more than a line of any word has.
 const FIELDS_MOST: usize = 9;
 
-#[tactic(auto, unfolding(crate::specs::LineOf::tick_in))]
+#[tactic(auto, unfolding(crate::specs::LineOf::tick_from))]
 fn tick(now: &[u8]) -> Result<Line, ScriptFault>
-    ensures { result ≡ tick_in now.now }
+    ensures { result ≡ tick_from now.now }
 {
     let now = number(TICK_MOST as u128, now)? as u64;
     Ok(Line::Signal(Signal::Tick { now }))
 }
 
-#[tactic(auto, unfolding(crate::specs::LineOf::reject_in))]
+#[tactic(auto, unfolding(crate::specs::LineOf::reject_from))]
 fn reject(text: &[u8]) -> Result<Line, ScriptFault>
-    ensures { result ≡ reject_in text.now }
+    ensures { result ≡ reject_from text.now }
 {
     let call = call(text)?;
     Ok(Line::Signal(Signal::Reject { call }))
 }
 
-#[tactic(auto, unfolding(crate::specs::LineOf::bye_in))]
+#[tactic(auto, unfolding(crate::specs::LineOf::bye_from))]
 fn bye(text: &[u8]) -> Result<Line, ScriptFault>
-    ensures { result ≡ bye_in text.now }
+    ensures { result ≡ bye_from text.now }
 {
     let call = call(text)?;
     Ok(Line::Signal(Signal::Bye { call }))
 }
 
-#[tactic(auto, unfolding(crate::specs::LineOf::datagram_in))]
+/// The octets of a datagram.
+fn payload(alloc: Global, hex: &[u8]) -> Result<Octets, ReadLineFault>
+    ensures { Gives result (octets_from 0 4352 hex.now) }
+{
+    octets(alloc, 0, PAD_MOST, hex)
+}
+
+#[tactic(auto, unfolding(crate::specs::LineOf::datagram_from))]
 pub(crate) fn datagram(
     alloc: Global,
     to: &[u8],
     from: &[u8],
     hex: &[u8],
 ) -> Result<Line, ReadLineFault>
-    ensures { Gives result (datagram_in to.now from.now hex.now) }
+    ensures { Gives result (datagram_from to.now from.now hex.now) }
 {
     let port = port(to)?;
     let from = address(from)?;
-    let octets = octets(alloc, 0, PAD_MOST, hex)?;
+    let octets = payload(alloc, hex)?;
     Ok(Line::Datagram { port, from, octets })
 }
 
-#[tactic(auto, unfolding(crate::specs::LineOf::psk_in))]
+#[tactic(auto, unfolding(crate::specs::LineOf::datagram_at_from))]
+fn datagram_at(
+    alloc: Global,
+    moment: &[u8],
+    to: &[u8],
+    from: &[u8],
+    hex: &[u8],
+) -> Result<Line, ReadLineFault>
+    ensures { Gives result (datagram_at_from moment.now to.now from.now hex.now) }
+{
+    let now = number(TICK_MOST as u128, moment)? as u64;
+    let port = port(to)?;
+    let from = address(from)?;
+    let octets = payload(alloc, hex)?;
+    Ok(Line::DatagramAt {
+        now,
+        port,
+        from,
+        octets,
+    })
+}
+
+#[tactic(auto, unfolding(crate::specs::LineOf::psk_from))]
 #[inline(never)]
 fn psk(alloc: Global, own: &[u8], peer: &[u8], hex: &[u8]) -> Result<Line, ReadLineFault>
-    ensures { Gives result (psk_in own.now peer.now hex.now) }
+    ensures { Gives result (psk_from own.now peer.now hex.now) }
 {
     let own = identity(own)?;
     let peer = identity(peer)?;
@@ -71,7 +100,7 @@ fn psk(alloc: Global, own: &[u8], peer: &[u8], hex: &[u8]) -> Result<Line, ReadL
     Ok(Line::Signal(Signal::Psk { own, peer, key }))
 }
 
-#[tactic(auto, unfolding(crate::specs::LineOf::offer_secure_in))]
+#[tactic(auto, unfolding(crate::specs::LineOf::offer_secure_from))]
 #[inline(never)]
 fn offer_secure(
     alloc: Global,
@@ -79,7 +108,7 @@ fn offer_secure(
     random: &[u8],
     hex: &[u8],
 ) -> Result<Line, ReadLineFault>
-    ensures { Gives result (offer_secure_in name.now random.now hex.now) }
+    ensures { Gives result (offer_secure_from name.now random.now hex.now) }
 {
     let call = call(name)?;
     let noise = noise(alloc, random)?;
@@ -87,10 +116,10 @@ fn offer_secure(
     Ok(Line::Signal(Signal::OfferSecure { call, noise, text }))
 }
 
-#[tactic(auto, unfolding(crate::specs::LineOf::offer_sdes_in))]
+#[tactic(auto, unfolding(crate::specs::LineOf::offer_sdes_from))]
 #[inline(never)]
 fn offer_sdes(alloc: Global, name: &[u8], random: &[u8], hex: &[u8]) -> Result<Line, ReadLineFault>
-    ensures { Gives result (offer_sdes_in name.now random.now hex.now) }
+    ensures { Gives result (offer_sdes_from name.now random.now hex.now) }
 {
     let call = call(name)?;
     let noise = noise(alloc, random)?;
@@ -98,7 +127,7 @@ fn offer_sdes(alloc: Global, name: &[u8], random: &[u8], hex: &[u8]) -> Result<L
     Ok(Line::Signal(Signal::OfferSdes { call, noise, text }))
 }
 
-#[tactic(auto, unfolding(crate::specs::LineOf::offer_mikey_in))]
+#[tactic(auto, unfolding(crate::specs::LineOf::offer_mikey_from))]
 #[inline(never)]
 fn offer_mikey(
     alloc: Global,
@@ -107,7 +136,7 @@ fn offer_mikey(
     random: &[u8],
     hex: &[u8],
 ) -> Result<Line, ReadLineFault>
-    ensures { Gives result (offer_mikey_in name.now peer.now random.now hex.now) }
+    ensures { Gives result (offer_mikey_from name.now peer.now random.now hex.now) }
 {
     let call = call(name)?;
     let peer = identity(peer)?;
@@ -121,10 +150,10 @@ fn offer_mikey(
     }))
 }
 
-#[tactic(auto, unfolding(crate::specs::LineOf::answer_in))]
+#[tactic(auto, unfolding(crate::specs::LineOf::answer_from))]
 #[inline(never)]
 fn answer(alloc: Global, name: &[u8], random: &[u8], hex: &[u8]) -> Result<Line, ReadLineFault>
-    ensures { Gives result (answer_in name.now random.now hex.now) }
+    ensures { Gives result (answer_from name.now random.now hex.now) }
 {
     let call = call(name)?;
     let noise = noise(alloc, random)?;
@@ -132,7 +161,7 @@ fn answer(alloc: Global, name: &[u8], random: &[u8], hex: &[u8]) -> Result<Line,
     Ok(Line::Signal(Signal::Answer { call, noise, text }))
 }
 
-#[tactic(auto, unfolding(crate::specs::LineOf::manual_in))]
+#[tactic(auto, unfolding(crate::specs::LineOf::manual_from))]
 #[inline(never)]
 fn manual(
     alloc: Global,
@@ -144,7 +173,7 @@ fn manual(
     from_peer: &[u8],
     to_peer: &[u8],
 ) -> Result<Line, ReadLineFault>
-    ensures { Gives result (manual_in name.now secure.now plain.now roc.now width.now from_peer.now to_peer.now) }
+    ensures { Gives result (manual_from name.now secure.now plain.now roc.now width.now from_peer.now to_peer.now) }
 {
     let call = call(name)?;
     let secure = address(secure)?;
@@ -184,10 +213,17 @@ fn of_two(word: &[u8], a: &[u8]) -> Result<Line, ScriptFault>
 }
 
 #[tactic(auto, unfolding(crate::specs::LineOf::four_fields))]
-fn of_four(alloc: Global, word: &[u8], a: &[u8], b: &[u8], c: &[u8]) -> Result<Line, ReadLineFault>
-    ensures { Gives result (four_fields word.now a.now b.now c.now) }
+fn of_four(
+    alloc: Global,
+    version: u8,
+    word: &[u8],
+    a: &[u8],
+    b: &[u8],
+    c: &[u8],
+) -> Result<Line, ReadLineFault>
+    ensures { Gives result (four_fields version word.now a.now b.now c.now) }
 {
-    if word == b"in".as_slice() {
+    if word == b"in".as_slice() && version != 2 {
         return datagram(alloc, a, b, c);
     }
     if word == b"psk".as_slice() {
@@ -205,14 +241,18 @@ fn of_four(alloc: Global, word: &[u8], a: &[u8], b: &[u8], c: &[u8]) -> Result<L
 #[tactic(auto, unfolding(crate::specs::LineOf::five_fields))]
 fn of_five(
     alloc: Global,
+    version: u8,
     word: &[u8],
     a: &[u8],
     b: &[u8],
     c: &[u8],
     d: &[u8],
 ) -> Result<Line, ReadLineFault>
-    ensures { Gives result (five_fields word.now a.now b.now c.now d.now) }
+    ensures { Gives result (five_fields version word.now a.now b.now c.now d.now) }
 {
+    if word == b"in".as_slice() && version == 2 {
+        return datagram_at(alloc, a, b, c, d);
+    }
     if word == b"offer-plain".as_slice() && b == b"sdes".as_slice() {
         return offer_sdes(alloc, a, c, d);
     }
@@ -259,30 +299,35 @@ fn of_eight(
 
 fn of_more(
     alloc: Global,
+    version: u8,
     word: &[u8],
     a: &[u8],
     b: &[u8],
     c: &[u8],
     more: &[&[u8]],
 ) -> Result<Line, ReadLineFault>
-    ensures { Gives result (more_fields word.now a.now b.now c.now (map (λ x. x.now) more.now)) }
+    ensures { Gives result (more_fields version word.now a.now b.now c.now (map (λ x. x.now) more.now)) }
 {
     match *more {
-        [] => of_four(alloc, word, a, b, c),
-        [d] => of_five(alloc, word, a, b, c, d),
+        [] => of_four(alloc, version, word, a, b, c),
+        [d] => of_five(alloc, version, word, a, b, c, d),
         [d, e] => of_six(alloc, word, a, b, c, d, e),
         [d, e, f, g] => of_eight(alloc, word, a, b, c, d, e, f, g),
         _ => Err(WORD),
     }
 }
 
-/// The line of its fields, the first one the word.
-pub(crate) fn line_of_fields(alloc: Global, fields: &[&[u8]]) -> Result<Line, ReadLineFault>
-    ensures { Gives result (said_by (map (λ x. x.now) fields.now)) }
+/// The line of its fields, the first one the word, in a script of that version.
+pub(crate) fn line_of_fields(
+    alloc: Global,
+    version: u8,
+    fields: &[&[u8]],
+) -> Result<Line, ReadLineFault>
+    ensures { Gives result (said_by version (map (λ x. x.now) fields.now)) }
 {
     match fields {
         [word, a] => Ok(of_two(word, a)?),
-        [word, a, b, c, more @ ..] => of_more(alloc, word, a, b, c, more),
+        [word, a, b, c, more @ ..] => of_more(alloc, version, word, a, b, c, more),
         _ => Err(WORD),
     }
 }
@@ -308,26 +353,29 @@ pub fn fields(body: &[u8]) -> ArrayVec<&[u8], FIELDS_MOST>
 }
 
 /// The line without its end, where it isn't the first.
-fn body_line(alloc: Global, body: &[u8]) -> Result<Line, ReadLineFault>
-    ensures { Gives result (said_by (fields_of body.now)) }
+fn body_line(alloc: Global, version: u8, body: &[u8]) -> Result<Line, ReadLineFault>
+    ensures { Gives result (said_by version (fields_of body.now)) }
 {
     let fields = fields(body);
-    line_of_fields(alloc, fields.as_slice())
+    line_of_fields(alloc, version, fields.as_slice())
 }
 
 /// The first line.
 pub(crate) fn header(body: &[u8]) -> Result<Line, ScriptFault>
-    ensures { result ≡ header_in body.now }
+    ensures { result ≡ header_from body.now }
 {
-    if body != b"srtpgw 1".as_slice() {
-        return Err(ScriptFault::Version);
+    if body == b"srtpgw 1".as_slice() {
+        return Ok(Line::Header);
     }
-    Ok(Line::Header)
+    if body == b"srtpgw 2".as_slice() {
+        return Ok(Line::HeaderTwo);
+    }
+    Err(ScriptFault::Version)
 }
 
 #[tactic(auto, unfolding(crate::specs::LineOf::line_of))]
-fn line(alloc: Global, number: u64, octets: &[u8]) -> Result<Line, ReadLineFault>
-    ensures { Gives result (line_of number octets.now) }
+fn line(alloc: Global, version: u8, number: u64, octets: &[u8]) -> Result<Line, ReadLineFault>
+    ensures { Gives result (line_of version number octets.now) }
 {
     if octets.len() > LINE_MOST {
         return Err(ReadLineFault::Script(ScriptFault::Length));
@@ -338,20 +386,26 @@ fn line(alloc: Global, number: u64, octets: &[u8]) -> Result<Line, ReadLineFault
     if number == 1 {
         return Ok(header(body)?);
     }
-    body_line(alloc, body)
+    body_line(alloc, version, body)
 }
 
-/// The line that the octets are, its end among them. Lines are numbered from 1, and the first one is the
-/// header. A line's first fault is Length above 70,000 octets, Unended without a line end, Version
-/// where the first line isn't the header, Word for an unknown word or another number of fields than it
-/// has, and then that of the first field from the left; the rule on the two keys of a manual call comes
-/// last.
-pub fn read_line(alloc: Global, number: u64, octets: &[u8]) -> Result<Line, ReadLineFault>
-    ensures exact { Gives result (line_of number octets.now) }
+/// The line that the octets are, its end among them, in a script of version 1 or 2. Lines are numbered from 1, and
+/// the first one is the header of either version, whatever the version is. A line's first fault is Length above
+/// 70,000 octets, Unended without a line end, Version where the first line is no header, Word for an unknown word or
+/// another number of fields than it has in that version, and then that of the first field from the left; the rule on
+/// the two keys of a manual call comes last.
+pub fn read_line(
+    alloc: Global,
+    version: u8,
+    number: u64,
+    octets: &[u8],
+) -> Result<Line, ReadLineFault>
+    requires { (version ≡ 1) ⊎ (version ≡ 2) }
+    ensures exact { Gives result (line_of version number octets.now) }
     // What is read is spelled so.
-    ensures found { IfOk result (λ l. FitsLine number l × (octets.now ≡ line_text l)) }
+    ensures found { IfOk result (λ l. FitsLine version number l × (octets.now ≡ line_text l)) }
     // What is spelled so is read, unless out of memory.
-    ensures only { (l : Line) → FitsLine number l → octets.now ≡ line_text l → Gives result (Ok l) }
+    ensures only { (l : Line) → FitsLine version number l → octets.now ≡ line_text l → Gives result (Ok l) }
 {
-    line(alloc, number, octets)
+    line(alloc, version, number, octets)
 }

@@ -19,7 +19,7 @@ use Rattle.sg_base.proofs.Cases.{and_then_some, chosen, is_name, map_some, some_
 use Rattle.sg_lines.specs.Fields.{or_fault}
 use Rattle.sg_outcome.specs.OutcomeText.{drop_cause_name}
 use Rattle.sg_outcome.specs.OutcomeFields.{drop_cause_fields, psk_fault_name, psk_fault_fields, refusal_name, refusal_fields, FitsStamp, FitsDropCause, FitsPskFault, FitsRefusal}
-use Rattle.sg_outcome.specs.OutcomeOf.{below, signed_at, word_in, long_in, byte_in, plain_drop_cause_at, sdp_fault_at, sdes_fault_at, mikey_fault_at, plain_psk_fault_at, cs_fault_at, plain_refusal_at, key_spent_in, drop_cause_in, skew_in, key_mgmt_in, key_reused_in, tick_back_in, one_number_in, sdp_in, sdes_in, psk_in, cs_in, one_fault_in, mikey_in, two_numbers_in, psk_skew_in, fault_with_numbers_in, refusal_in}
+use Rattle.sg_outcome.specs.OutcomeOf.{below, signed_at, word_from, long_from, byte_from, plain_drop_cause_at, sdp_fault_at, sdes_fault_at, mikey_fault_at, plain_psk_fault_at, cs_fault_at, plain_refusal_at, key_spent_from, drop_cause_from, skew_from, key_mgmt_from, key_reused_from, tick_back_from, one_number_from, sdp_from, sdes_from, psk_from, cs_from, one_fault_from, mikey_from, two_numbers_from, psk_skew_from, fault_with_numbers_from, refusal_from}
 use Rattle.sg_lines.proofs.Dense.{IsDense, AreDense, dense_test, dense_decimal}
 use Rattle.sg_lines.proofs.FieldLaws
 use Rattle.sg_outcome.proofs.NameLaws
@@ -76,22 +76,22 @@ signed_takes (x ∷ rest) z e =
           subst (λ (w : ℤ). (x ∷ rest ≡ signed_decimal w) × FitsStamp w) n.2 (s.0, omega (arith, small))
     ]
 
-word_again : (n : ℕ) → n < 2 ^ 32 → word_in (decimal n) ≡ Ok n
+word_again : (n : ℕ) → n < 2 ^ 32 → word_from (decimal n) ≡ Ok n
 word_again n fits = FieldLaws.number_in_again 4294967295 n (omega (arith, fits)) (lit< tt)
 
-word_takes : (t : List ℕ) (n : ℕ) → word_in t ≡ Ok n → (t ≡ decimal n) × (n < 2 ^ 32)
+word_takes : (t : List ℕ) (n : ℕ) → word_from t ≡ Ok n → (t ≡ decimal n) × (n < 2 ^ 32)
 word_takes t n e = let p = FieldLaws.number_in_takes 4294967295 t n e in let small = p.1 in (p.0, omega (arith, small))
 
-long_again : (n : ℕ) → n < 2 ^ 64 → long_in (decimal n) ≡ Ok n
+long_again : (n : ℕ) → n < 2 ^ 64 → long_from (decimal n) ≡ Ok n
 long_again n fits = FieldLaws.number_in_again 18446744073709551615 n (omega (arith, fits)) (lit< tt)
 
-long_takes : (t : List ℕ) (n : ℕ) → long_in t ≡ Ok n → (t ≡ decimal n) × (n < 2 ^ 64)
+long_takes : (t : List ℕ) (n : ℕ) → long_from t ≡ Ok n → (t ≡ decimal n) × (n < 2 ^ 64)
 long_takes t n e = let p = FieldLaws.number_in_takes 18446744073709551615 t n e in let small = p.1 in (p.0, omega (arith, small))
 
-pub byte_again : (n : ℕ) → n ≤ 255 → byte_in (decimal n) ≡ Ok n
+pub byte_again : (n : ℕ) → n ≤ 255 → byte_from (decimal n) ≡ Ok n
 byte_again n fits = FieldLaws.number_in_again 255 n fits (lit< tt)
 
-pub byte_takes : (t : List ℕ) (n : ℕ) → byte_in t ≡ Ok n → (t ≡ decimal n) × (n ≤ 255)
+pub byte_takes : (t : List ℕ) (n : ℕ) → byte_from t ≡ Ok n → (t ≡ decimal n) × (n ≤ 255)
 byte_takes t n e = FieldLaws.number_in_takes 255 t n e
 
 -- ---- fields
@@ -133,8 +133,8 @@ plain_drop_cause_fields drops.NotLive e = (refl, tt)
 plain_drop_cause_fields drops.TooLong e = (refl, tt)
 plain_drop_cause_fields drops.SourceUnknown e = (refl, tt)
 
-pub drop_cause_again : (x : DropCause) → FitsDropCause x → drop_cause_in (drop_cause_fields x) ≡ Ok x
-unfolding key_spent_in
+pub drop_cause_again : (x : DropCause) → FitsDropCause x → drop_cause_from (drop_cause_fields x) ≡ Ok x
+unfolding key_spent_from
 drop_cause_again drops.Short fits = rw (NameLaws.plain_drop_cause_again drops.Short refl) refl
 drop_cause_again drops.Version fits = rw (NameLaws.plain_drop_cause_again drops.Version refl) refl
 drop_cause_again drops.CsrcCut fits = rw (NameLaws.plain_drop_cause_again drops.CsrcCut refl) refl
@@ -154,8 +154,8 @@ drop_cause_again drops.NotLive fits = rw (NameLaws.plain_drop_cause_again drops.
 drop_cause_again drops.TooLong fits = rw (NameLaws.plain_drop_cause_again drops.TooLong refl) refl
 drop_cause_again drops.SourceUnknown fits = rw (NameLaws.plain_drop_cause_again drops.SourceUnknown refl) refl
 
-pub drop_cause_takes : (fs : List (List ℕ)) (x : DropCause) → drop_cause_in fs ≡ Ok x → (fs ≡ drop_cause_fields x) × FitsDropCause x
-unfolding key_spent_in
+pub drop_cause_takes : (fs : List (List ℕ)) (x : DropCause) → drop_cause_from fs ≡ Ok x → (fs ≡ drop_cause_fields x) × FitsDropCause x
+unfolding key_spent_from
 drop_cause_takes [] x e = absurd (FieldLaws.err_ok script.Word x e)
 drop_cause_takes (name ∷ []) x e =
     let p = NameLaws.plain_drop_cause_takes name x (FieldLaws.or_fault_ok script.Word (plain_drop_cause_at name) x e) in
@@ -165,8 +165,8 @@ drop_cause_takes (name ∷ a ∷ []) x e = absurd (FieldLaws.err_ok script.Word 
 drop_cause_takes (name ∷ a ∷ b ∷ []) x e =
     elim (chosen (bytes_eq name (codes "KeySpent")) _ _ (Ok x) e) [
       | inl p ↦
-          let n = FieldLaws.bind_ok (word_in a) _ x p.1 in
-          let c = FieldLaws.bind_ok (long_in b) _ x n.2 in
+          let n = FieldLaws.bind_ok (word_from a) _ x p.1 in
+          let c = FieldLaws.bind_ok (long_from b) _ x n.2 in
           let na = word_takes a n.0 n.1 in
           let cb = long_takes b c.0 c.1 in
           subst (λ (y : DropCause). (name ∷ a ∷ b ∷ [] ≡ drop_cause_fields y) × FitsDropCause y) (FieldLaws.ok_is (drops.KeySpent n.0 c.0) x c.2)
@@ -209,17 +209,17 @@ plain_psk_fault_fields psk.KeyType e = (refl, tt)
 plain_psk_fault_fields psk.CacheFull e = (refl, tt)
 plain_psk_fault_fields psk.OtherSession e = (refl, tt)
 
-skew_again : (stamp : ℤ) (now : ℕ) → FitsPskFault (psk.Skew stamp now) → skew_in (codes "Skew") (signed_decimal stamp) (decimal now) ≡ Ok (psk.Skew stamp now)
-unfolding skew_in
+skew_again : (stamp : ℤ) (now : ℕ) → FitsPskFault (psk.Skew stamp now) → skew_from (codes "Skew") (signed_decimal stamp) (decimal now) ≡ Ok (psk.Skew stamp now)
+unfolding skew_from
 skew_again stamp now fits = rw (signed_again stamp fits.0, long_again now fits.1) refl
 
-skew_takes : (name a b : List ℕ) (x : PskFault) → skew_in name a b ≡ Ok x → (name ∷ a ∷ b ∷ [] ≡ psk_fault_fields x) × FitsPskFault x
-unfolding skew_in
+skew_takes : (name a b : List ℕ) (x : PskFault) → skew_from name a b ≡ Ok x → (name ∷ a ∷ b ∷ [] ≡ psk_fault_fields x) × FitsPskFault x
+unfolding skew_from
 skew_takes name a b x e =
     elim (chosen (bytes_eq name (codes "Skew")) _ _ (Ok x) e) [
       | inl p ↦
           let s = FieldLaws.bind_ok (or_fault script.Number (signed_at a)) _ x p.1 in
-          let n = FieldLaws.bind_ok (long_in b) _ x s.2 in
+          let n = FieldLaws.bind_ok (long_from b) _ x s.2 in
           let sa = signed_takes a s.0 (FieldLaws.or_fault_ok script.Number (signed_at a) s.0 s.1) in
           let nb = long_takes b n.0 n.1 in
           subst (λ (y : PskFault). (name ∷ a ∷ b ∷ [] ≡ psk_fault_fields y) × FitsPskFault y) (FieldLaws.ok_is (psk.Skew s.0 n.0) x n.2)
@@ -263,8 +263,8 @@ plain_refusal_fields refusals.PskFull e = (refl, tt)
 plain_refusal_fields (refusals.TickBack last) e = absurd cc
 plain_refusal_fields refusals.State e = (refl, tt)
 
-pub refusal_again : (x : Refusal) → FitsRefusal x → refusal_in (refusal_fields x) ≡ Ok x
-unfolding one_number_in key_mgmt_in key_reused_in tick_back_in one_fault_in sdp_in sdes_in psk_in cs_in two_numbers_in mikey_in fault_with_numbers_in psk_skew_in
+pub refusal_again : (x : Refusal) → FitsRefusal x → refusal_from (refusal_fields x) ≡ Ok x
+unfolding one_number_from key_mgmt_from key_reused_from tick_back_from one_fault_from sdp_from sdes_from psk_from cs_from two_numbers_from mikey_from fault_with_numbers_from psk_skew_from
 refusal_again (refusals.Sdp line fault) fits = rw (word_again line fits, NameLaws.sdp_fault_again fault) refl
 refusal_again (refusals.Sdes medium fault) fits = rw (byte_again medium fits, NameLaws.sdes_fault_again fault) refl
 refusal_again (refusals.Mikey medium offset fault) fits = rw (byte_again medium fits.0, word_again offset fits.1, NameLaws.mikey_fault_again fault) refl
@@ -293,49 +293,49 @@ refusal_again refusals.State fits = rw (NameLaws.plain_refusal_again refusals.St
 unfoldable Reads : List (List ℕ) → Refusal → Type 0
 Reads fs x = (fs ≡ refusal_fields x) × FitsRefusal x
 
-key_mgmt_takes : (name a : List ℕ) (x : Refusal) → name ≡ codes "KeyMgmt" → key_mgmt_in a ≡ Ok x → Reads (name ∷ a ∷ []) x
-unfolding key_mgmt_in Reads
+key_mgmt_takes : (name a : List ℕ) (x : Refusal) → name ≡ codes "KeyMgmt" → key_mgmt_from a ≡ Ok x → Reads (name ∷ a ∷ []) x
+unfolding key_mgmt_from Reads
 key_mgmt_takes name a x word e =
-    let n = FieldLaws.bind_ok (byte_in a) _ x e in
+    let n = FieldLaws.bind_ok (byte_from a) _ x e in
     let p = byte_takes a n.0 n.1 in
     subst (Reads (name ∷ a ∷ [])) (FieldLaws.ok_is (refusals.KeyMgmt n.0) x n.2) (two_same name a _ _ word p.0, p.1)
 
-key_reused_takes : (name a : List ℕ) (x : Refusal) → name ≡ codes "KeyReused" → key_reused_in a ≡ Ok x → Reads (name ∷ a ∷ []) x
-unfolding key_reused_in Reads
+key_reused_takes : (name a : List ℕ) (x : Refusal) → name ≡ codes "KeyReused" → key_reused_from a ≡ Ok x → Reads (name ∷ a ∷ []) x
+unfolding key_reused_from Reads
 key_reused_takes name a x word e =
-    let n = FieldLaws.bind_ok (word_in a) _ x e in
+    let n = FieldLaws.bind_ok (word_from a) _ x e in
     let p = word_takes a n.0 n.1 in
     subst (Reads (name ∷ a ∷ [])) (FieldLaws.ok_is (refusals.KeyReused n.0) x n.2) (two_same name a _ _ word p.0, p.1)
 
-tick_back_takes : (name a : List ℕ) (x : Refusal) → name ≡ codes "TickBack" → tick_back_in a ≡ Ok x → Reads (name ∷ a ∷ []) x
-unfolding tick_back_in Reads
+tick_back_takes : (name a : List ℕ) (x : Refusal) → name ≡ codes "TickBack" → tick_back_from a ≡ Ok x → Reads (name ∷ a ∷ []) x
+unfolding tick_back_from Reads
 tick_back_takes name a x word e =
-    let n = FieldLaws.bind_ok (long_in a) _ x e in
+    let n = FieldLaws.bind_ok (long_from a) _ x e in
     let p = long_takes a n.0 n.1 in
     subst (Reads (name ∷ a ∷ [])) (FieldLaws.ok_is (refusals.TickBack n.0) x n.2) (two_same name a _ _ word p.0, p.1)
 
-sdp_takes : (name a b : List ℕ) (x : Refusal) → name ≡ codes "Sdp" → sdp_in a b ≡ Ok x → Reads (name ∷ a ∷ b ∷ []) x
-unfolding sdp_in Reads
+sdp_takes : (name a b : List ℕ) (x : Refusal) → name ≡ codes "Sdp" → sdp_from a b ≡ Ok x → Reads (name ∷ a ∷ b ∷ []) x
+unfolding sdp_from Reads
 sdp_takes name a b x word e =
-    let n = FieldLaws.bind_ok (word_in a) _ x e in
+    let n = FieldLaws.bind_ok (word_from a) _ x e in
     let f = FieldLaws.bind_ok (or_fault script.Word (sdp_fault_at b)) _ x n.2 in
     let p = word_takes a n.0 n.1 in
     let q = NameLaws.sdp_fault_takes b f.0 (FieldLaws.or_fault_ok script.Word (sdp_fault_at b) f.0 f.1) in
     subst (Reads (name ∷ a ∷ b ∷ [])) (FieldLaws.ok_is (refusals.Sdp n.0 f.0) x f.2) (three_same name a b _ _ _ word p.0 q, p.1)
 
-sdes_takes : (name a b : List ℕ) (x : Refusal) → name ≡ codes "Sdes" → sdes_in a b ≡ Ok x → Reads (name ∷ a ∷ b ∷ []) x
-unfolding sdes_in Reads
+sdes_takes : (name a b : List ℕ) (x : Refusal) → name ≡ codes "Sdes" → sdes_from a b ≡ Ok x → Reads (name ∷ a ∷ b ∷ []) x
+unfolding sdes_from Reads
 sdes_takes name a b x word e =
-    let n = FieldLaws.bind_ok (byte_in a) _ x e in
+    let n = FieldLaws.bind_ok (byte_from a) _ x e in
     let f = FieldLaws.bind_ok (or_fault script.Word (sdes_fault_at b)) _ x n.2 in
     let p = byte_takes a n.0 n.1 in
     let q = NameLaws.sdes_fault_takes b f.0 (FieldLaws.or_fault_ok script.Word (sdes_fault_at b) f.0 f.1) in
     subst (Reads (name ∷ a ∷ b ∷ [])) (FieldLaws.ok_is (refusals.Sdes n.0 f.0) x f.2) (three_same name a b _ _ _ word p.0 q, p.1)
 
-cs_takes : (name a b : List ℕ) (x : Refusal) → name ≡ codes "Cs" → cs_in a b ≡ Ok x → Reads (name ∷ a ∷ b ∷ []) x
-unfolding cs_in Reads
+cs_takes : (name a b : List ℕ) (x : Refusal) → name ≡ codes "Cs" → cs_from a b ≡ Ok x → Reads (name ∷ a ∷ b ∷ []) x
+unfolding cs_from Reads
 cs_takes name a b x word e =
-    let n = FieldLaws.bind_ok (byte_in a) _ x e in
+    let n = FieldLaws.bind_ok (byte_from a) _ x e in
     let f = FieldLaws.bind_ok (or_fault script.Word (cs_fault_at b)) _ x n.2 in
     let p = byte_takes a n.0 n.1 in
     let q = NameLaws.cs_fault_takes b f.0 (FieldLaws.or_fault_ok script.Word (cs_fault_at b) f.0 f.1) in
@@ -344,10 +344,10 @@ cs_takes name a b x word e =
 psk_joined : (name a : List ℕ) (m : ℕ) (fault : PskFault) (fs : List (List ℕ)) → name ≡ codes "Psk" → a ≡ decimal m → fs ≡ psk_fault_fields fault → name ∷ a ∷ fs ≡ refusal_fields (refusals.Psk m fault)
 psk_joined name a m fault fs p q r = rw (p, q, r) refl
 
-psk_takes : (name a b : List ℕ) (x : Refusal) → name ≡ codes "Psk" → psk_in a b ≡ Ok x → Reads (name ∷ a ∷ b ∷ []) x
-unfolding psk_in Reads
+psk_takes : (name a b : List ℕ) (x : Refusal) → name ≡ codes "Psk" → psk_from a b ≡ Ok x → Reads (name ∷ a ∷ b ∷ []) x
+unfolding psk_from Reads
 psk_takes name a b x word e =
-    let n = FieldLaws.bind_ok (byte_in a) _ x e in
+    let n = FieldLaws.bind_ok (byte_from a) _ x e in
     let f = FieldLaws.bind_ok (or_fault script.Word (plain_psk_fault_at b)) _ x n.2 in
     let p = byte_takes a n.0 n.1 in
     let q = NameLaws.plain_psk_fault_takes b f.0 (FieldLaws.or_fault_ok script.Word (plain_psk_fault_at b) f.0 f.1) in
@@ -355,29 +355,29 @@ psk_takes name a b x word e =
     subst (Reads (name ∷ a ∷ b ∷ [])) (FieldLaws.ok_is (refusals.Psk n.0 f.0) x f.2)
     (psk_joined name a n.0 f.0 (b ∷ []) word p.0 (one_same b (psk_fault_name f.0) q.0 ∙ sym g.0), (p.1, g.1))
 
-psk_skew_takes : (name a b c d : List ℕ) (x : Refusal) → name ≡ codes "Psk" → psk_skew_in a b c d ≡ Ok x → Reads (name ∷ a ∷ b ∷ c ∷ d ∷ []) x
-unfolding psk_skew_in Reads
+psk_skew_takes : (name a b c d : List ℕ) (x : Refusal) → name ≡ codes "Psk" → psk_skew_from a b c d ≡ Ok x → Reads (name ∷ a ∷ b ∷ c ∷ d ∷ []) x
+unfolding psk_skew_from Reads
 psk_skew_takes name a b c d x word e =
-    let n = FieldLaws.bind_ok (byte_in a) _ x e in
-    let f = FieldLaws.bind_ok (skew_in b c d) _ x n.2 in
+    let n = FieldLaws.bind_ok (byte_from a) _ x e in
+    let f = FieldLaws.bind_ok (skew_from b c d) _ x n.2 in
     let p = byte_takes a n.0 n.1 in
     let q = skew_takes b c d f.0 f.1 in
     subst (Reads (name ∷ a ∷ b ∷ c ∷ d ∷ [])) (FieldLaws.ok_is (refusals.Psk n.0 f.0) x f.2)
     (psk_joined name a n.0 f.0 (b ∷ c ∷ d ∷ []) word p.0 q.0, (p.1, q.1))
 
-mikey_takes : (name a b c : List ℕ) (x : Refusal) → name ≡ codes "Mikey" → mikey_in a b c ≡ Ok x → Reads (name ∷ a ∷ b ∷ c ∷ []) x
-unfolding mikey_in Reads
+mikey_takes : (name a b c : List ℕ) (x : Refusal) → name ≡ codes "Mikey" → mikey_from a b c ≡ Ok x → Reads (name ∷ a ∷ b ∷ c ∷ []) x
+unfolding mikey_from Reads
 mikey_takes name a b c x word e =
-    let n = FieldLaws.bind_ok (byte_in a) _ x e in
-    let k = FieldLaws.bind_ok (word_in b) _ x n.2 in
+    let n = FieldLaws.bind_ok (byte_from a) _ x e in
+    let k = FieldLaws.bind_ok (word_from b) _ x n.2 in
     let f = FieldLaws.bind_ok (or_fault script.Word (mikey_fault_at c)) _ x k.2 in
     let p = byte_takes a n.0 n.1 in
     let q = word_takes b k.0 k.1 in
     let r = NameLaws.mikey_fault_takes c f.0 (FieldLaws.or_fault_ok script.Word (mikey_fault_at c) f.0 f.1) in
     subst (Reads (name ∷ a ∷ b ∷ c ∷ [])) (FieldLaws.ok_is (refusals.Mikey n.0 k.0 f.0) x f.2) (four_same name a b c _ _ _ _ word p.0 q.0 r, (p.1, q.1))
 
-one_number_takes : (name a : List ℕ) (x : Refusal) → one_number_in name a ≡ Ok x → Reads (name ∷ a ∷ []) x
-unfolding one_number_in
+one_number_takes : (name a : List ℕ) (x : Refusal) → one_number_from name a ≡ Ok x → Reads (name ∷ a ∷ []) x
+unfolding one_number_from
 one_number_takes name a x e =
     elim (chosen (bytes_eq name (codes "KeyMgmt")) _ _ (Ok x) e) [
       | inl p ↦ key_mgmt_takes name a x (is_name name _ p.0) p.1
@@ -392,8 +392,8 @@ one_number_takes name a x e =
           ]
     ]
 
-one_fault_takes : (name a b : List ℕ) (x : Refusal) → one_fault_in name a b ≡ Ok x → Reads (name ∷ a ∷ b ∷ []) x
-unfolding one_fault_in
+one_fault_takes : (name a b : List ℕ) (x : Refusal) → one_fault_from name a b ≡ Ok x → Reads (name ∷ a ∷ b ∷ []) x
+unfolding one_fault_from
 one_fault_takes name a b x e =
     elim (chosen (bytes_eq name (codes "Sdp")) _ _ (Ok x) e) [
       | inl p ↦ sdp_takes name a b x (is_name name _ p.0) p.1
@@ -412,8 +412,8 @@ one_fault_takes name a b x e =
           ]
     ]
 
-pub refusal_takes : (fs : List (List ℕ)) (x : Refusal) → refusal_in fs ≡ Ok x → (fs ≡ refusal_fields x) × FitsRefusal x
-unfolding Reads two_numbers_in fault_with_numbers_in
+pub refusal_takes : (fs : List (List ℕ)) (x : Refusal) → refusal_from fs ≡ Ok x → (fs ≡ refusal_fields x) × FitsRefusal x
+unfolding Reads two_numbers_from fault_with_numbers_from
 refusal_takes [] x e = absurd (FieldLaws.err_ok script.Word x e)
 refusal_takes (name ∷ []) x e =
     let p = NameLaws.plain_refusal_takes name x (FieldLaws.or_fault_ok script.Word (plain_refusal_at name) x e) in

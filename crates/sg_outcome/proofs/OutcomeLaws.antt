@@ -21,12 +21,12 @@ use Rattle.sg_base.proofs.Cases.{chosen, is_name}
 use Rattle.sg_outcome.specs.declared.outcomes.Outcome.{Outcome}
 use Rattle.sg_outcome.specs.declared.outcomes.Outcome.TheVariants.{Made, Live, Sdp, Refused, Ended, Out, Dropped, Unsent}
 use Rattle.sg_lines.specs.declared.ReadLineFault.{ReadLineFault}
-use Rattle.sg_lines.specs.Fields.{Gives, or_fault, call_in, port_in, address_in, hex_in}
+use Rattle.sg_lines.specs.Fields.{Gives, or_fault, call_from, port_from, address_from, hex_from}
 use Rattle.sg_lines.specs.LineOf.{fields_of, body_of, is_ended}
 use Rattle.sg_lines.specs.LineText.{hex_text}
 use Rattle.sg_outcome.specs.OutcomeText.{drop_cause_name, drop_cause_numbers, psk_fault_text, refusal_text, call_text, outcome_line}
 use Rattle.sg_outcome.specs.OutcomeFields.{drop_cause_fields, psk_fault_fields, refusal_fields, outcome_fields, FitsCall, FitsOutcome}
-use Rattle.sg_outcome.specs.OutcomeOf.{side_at, why_at, byte_in, some_call_in, drop_cause_in, refusal_in, made_in, live_in, described_in, refused_in, ended_in, out_in, dropped_in, unsent_in, made_by, live_by, described_by, ended_by, out_by, unsent_by, outcome_by, outcome_in, outcome_of}
+use Rattle.sg_outcome.specs.OutcomeOf.{side_at, why_at, byte_from, some_call_from, drop_cause_from, refusal_from, made_from, live_from, described_from, refused_from, ended_from, out_from, dropped_from, unsent_from, made_by, live_by, described_by, ended_by, out_by, unsent_by, outcome_by, outcome_from, outcome_of}
 use Rattle.sg_lines.proofs.Dense.{IsDense, AreDense, dense_test, dense_decimal, dense_address, dense_hex}
 use Rattle.sg_lines.proofs.FieldLaws
 use Rattle.sg_lines.proofs.LineLaws.{cut_some, body_ends, is_ended_so, last_is}
@@ -201,13 +201,13 @@ not_hyphen n (x ∷ xs) e fits =
     let lacks : Lacks 45 (x ∷ xs) = subst (Lacks 45) (sym e) (decimal_lacks 45 n (omega (arith, fits)) (inl (omega arith))) in
     rw lacks.0 refl
 
-some_call_again : (o : Option CallId) → FitsCall o → some_call_in (call_text o) ≡ Ok o
-unfolding some_call_in
+some_call_again : (o : Option CallId) → FitsCall o → some_call_from (call_text o) ≡ Ok o
+unfolding some_call_from
 some_call_again None fits = refl
 some_call_again (Some call) fits = rw (not_hyphen call.0 (decimal call.0) refl fits, FieldLaws.call_again call fits) refl
 
-outcome_in_again : (o : Outcome) → FitsOutcome o → outcome_in (outcome_fields o) ≡ Ok o
-unfolding outcome_by made_in live_in described_in refused_in ended_in out_in dropped_in unsent_in
+outcome_in_again : (o : Outcome) → FitsOutcome o → outcome_from (outcome_fields o) ≡ Ok o
+unfolding outcome_by made_from live_from described_from refused_from ended_from out_from dropped_from unsent_from
 outcome_in_again (Made call slot media) fits = rw (FieldLaws.call_again call fits.0, byte_again slot fits.1, byte_again media fits.2) refl
 outcome_in_again (Live call) fits = rw (FieldLaws.call_again call fits) refl
 outcome_in_again (Sdp call side text) fits = rw (FieldLaws.call_again call fits.0, NameLaws.side_again side, FieldLaws.hex_again text fits.1) refl
@@ -248,63 +248,63 @@ Reads fs o = (fs ≡ outcome_fields o) × FitsOutcome o
 more_same : (a b a' b' : List ℕ) (fs fs' : List (List ℕ)) → a ≡ a' → b ≡ b' → fs ≡ fs' → a ∷ b ∷ fs ≡ a' ∷ b' ∷ fs'
 more_same a b a' b' fs fs' p q r = rw (p, q, r) refl
 
-some_call_takes : (t : List ℕ) (o : Option CallId) → some_call_in t ≡ Ok o → (t ≡ call_text o) × FitsCall o
-unfolding some_call_in
+some_call_takes : (t : List ℕ) (o : Option CallId) → some_call_from t ≡ Ok o → (t ≡ call_text o) × FitsCall o
+unfolding some_call_from
 some_call_takes t o e =
     elim (chosen (bytes_eq t (codes "-")) _ _ (Ok o) e) [
       | inl p ↦
           let none : None ≡ o = FieldLaws.ok_is None o p.1 in
           subst (λ (x : Option CallId). (t ≡ call_text x) × FitsCall x) none (is_name t (codes "-") p.0, tt)
       | inr p ↦
-          let c = FieldLaws.bind_ok (call_in t) (λ call. Ok (Some call)) o p.1 in
+          let c = FieldLaws.bind_ok (call_from t) (λ call. Ok (Some call)) o p.1 in
           let s = FieldLaws.call_takes t c.0 c.1 in
           subst (λ (x : Option CallId). (t ≡ call_text x) × FitsCall x) (FieldLaws.ok_is (Some c.0) o c.2) s
     ]
 
-made_takes : (w a b c : List ℕ) (o : Outcome) → w ≡ codes "made" → made_in a b c ≡ Ok o → Reads (w ∷ a ∷ b ∷ c ∷ []) o
-unfolding made_in Reads
+made_takes : (w a b c : List ℕ) (o : Outcome) → w ≡ codes "made" → made_from a b c ≡ Ok o → Reads (w ∷ a ∷ b ∷ c ∷ []) o
+unfolding made_from Reads
 made_takes w a b c o word e =
-    let x = FieldLaws.bind_ok (call_in a) _ o e in
-    let y = FieldLaws.bind_ok (byte_in b) _ o x.2 in
-    let z = FieldLaws.bind_ok (byte_in c) _ o y.2 in
+    let x = FieldLaws.bind_ok (call_from a) _ o e in
+    let y = FieldLaws.bind_ok (byte_from b) _ o x.2 in
+    let z = FieldLaws.bind_ok (byte_from c) _ o y.2 in
     let p = FieldLaws.call_takes a x.0 x.1 in
     let q = byte_takes b y.0 y.1 in
     let r = byte_takes c z.0 z.1 in
     subst (Reads (w ∷ a ∷ b ∷ c ∷ [])) (FieldLaws.ok_is (Made x.0 y.0 z.0) o z.2) (four_same w a b c _ _ _ _ word p.0 q.0 r.0, (p.1, q.1, r.1))
 
-live_takes : (w a : List ℕ) (o : Outcome) → w ≡ codes "live" → live_in a ≡ Ok o → Reads (w ∷ a ∷ []) o
-unfolding live_in Reads
+live_takes : (w a : List ℕ) (o : Outcome) → w ≡ codes "live" → live_from a ≡ Ok o → Reads (w ∷ a ∷ []) o
+unfolding live_from Reads
 live_takes w a o word e =
-    let x = FieldLaws.bind_ok (call_in a) _ o e in
+    let x = FieldLaws.bind_ok (call_from a) _ o e in
     let p = FieldLaws.call_takes a x.0 x.1 in
     subst (Reads (w ∷ a ∷ [])) (FieldLaws.ok_is (Live x.0) o x.2) (two_same w a _ _ word p.0, p.1)
 
-described_takes : (w a b c : List ℕ) (o : Outcome) → w ≡ codes "sdp" → described_in a b c ≡ Ok o → Reads (w ∷ a ∷ b ∷ c ∷ []) o
-unfolding described_in Reads
+described_takes : (w a b c : List ℕ) (o : Outcome) → w ≡ codes "sdp" → described_from a b c ≡ Ok o → Reads (w ∷ a ∷ b ∷ c ∷ []) o
+unfolding described_from Reads
 described_takes w a b c o word e =
-    let x = FieldLaws.bind_ok (call_in a) _ o e in
+    let x = FieldLaws.bind_ok (call_from a) _ o e in
     let y = FieldLaws.bind_ok (or_fault script.Word (side_at b)) _ o x.2 in
-    let z = FieldLaws.bind_ok (hex_in c) _ o y.2 in
+    let z = FieldLaws.bind_ok (hex_from c) _ o y.2 in
     let p = FieldLaws.call_takes a x.0 x.1 in
     let q = NameLaws.side_takes b y.0 (FieldLaws.or_fault_ok script.Word (side_at b) y.0 y.1) in
     let r = FieldLaws.hex_takes c z.0 z.1 in
     subst (Reads (w ∷ a ∷ b ∷ c ∷ [])) (FieldLaws.ok_is (Sdp x.0 y.0 z.0) o z.2) (four_same w a b c _ _ _ _ word p.0 q r.0, (p.1, r.1))
 
-refused_takes : (w a : List ℕ) (fs : List (List ℕ)) (o : Outcome) → w ≡ codes "refused" → refused_in a fs ≡ Ok o → Reads (w ∷ a ∷ fs) o
-unfolding refused_in Reads
+refused_takes : (w a : List ℕ) (fs : List (List ℕ)) (o : Outcome) → w ≡ codes "refused" → refused_from a fs ≡ Ok o → Reads (w ∷ a ∷ fs) o
+unfolding refused_from Reads
 refused_takes w a fs o word e =
-    let x = FieldLaws.bind_ok (some_call_in a) _ o e in
-    let y = FieldLaws.bind_ok (refusal_in fs) _ o x.2 in
+    let x = FieldLaws.bind_ok (some_call_from a) _ o e in
+    let y = FieldLaws.bind_ok (refusal_from fs) _ o x.2 in
     let p = some_call_takes a x.0 x.1 in
     let q = refusal_takes fs y.0 y.1 in
     subst (Reads (w ∷ a ∷ fs)) (FieldLaws.ok_is (Refused x.0 y.0) o y.2) (more_same w a _ _ fs _ word p.0 q.0, (p.1, q.1))
 
-ended_takes : (w a b c d : List ℕ) (o : Outcome) → w ≡ codes "ended" → ended_in a b c d ≡ Ok o → Reads (w ∷ a ∷ b ∷ c ∷ d ∷ []) o
-unfolding ended_in Reads
+ended_takes : (w a b c d : List ℕ) (o : Outcome) → w ≡ codes "ended" → ended_from a b c d ≡ Ok o → Reads (w ∷ a ∷ b ∷ c ∷ d ∷ []) o
+unfolding ended_from Reads
 ended_takes w a b c d o word e =
-    let x = FieldLaws.bind_ok (call_in a) _ o e in
-    let y = FieldLaws.bind_ok (byte_in b) _ o x.2 in
-    let z = FieldLaws.bind_ok (byte_in c) _ o y.2 in
+    let x = FieldLaws.bind_ok (call_from a) _ o e in
+    let y = FieldLaws.bind_ok (byte_from b) _ o x.2 in
+    let z = FieldLaws.bind_ok (byte_from c) _ o y.2 in
     let v = FieldLaws.bind_ok (or_fault script.Word (why_at d)) _ o z.2 in
     let p = FieldLaws.call_takes a x.0 x.1 in
     let q = byte_takes b y.0 y.1 in
@@ -312,31 +312,31 @@ ended_takes w a b c d o word e =
     let s = NameLaws.why_takes d v.0 (FieldLaws.or_fault_ok script.Word (why_at d) v.0 v.1) in
     subst (Reads (w ∷ a ∷ b ∷ c ∷ d ∷ [])) (FieldLaws.ok_is (Ended x.0 y.0 z.0 v.0) o v.2) (five_same w a b c d _ _ _ _ _ word p.0 q.0 r.0 s, (p.1, q.1, r.1))
 
-out_takes : (w a b c : List ℕ) (o : Outcome) → w ≡ codes "out" → out_in a b c ≡ Ok o → Reads (w ∷ a ∷ b ∷ c ∷ []) o
-unfolding out_in Reads
+out_takes : (w a b c : List ℕ) (o : Outcome) → w ≡ codes "out" → out_from a b c ≡ Ok o → Reads (w ∷ a ∷ b ∷ c ∷ []) o
+unfolding out_from Reads
 out_takes w a b c o word e =
-    let x = FieldLaws.bind_ok (port_in a) _ o e in
-    let y = FieldLaws.bind_ok (address_in b) _ o x.2 in
-    let z = FieldLaws.bind_ok (hex_in c) _ o y.2 in
+    let x = FieldLaws.bind_ok (port_from a) _ o e in
+    let y = FieldLaws.bind_ok (address_from b) _ o x.2 in
+    let z = FieldLaws.bind_ok (hex_from c) _ o y.2 in
     let p = FieldLaws.number_in_takes 65535 a x.0 x.1 in
     let q = FieldLaws.address_in_takes b y.0 y.1 in
     let r = FieldLaws.hex_takes c z.0 z.1 in
     subst (Reads (w ∷ a ∷ b ∷ c ∷ [])) (FieldLaws.ok_is (Out x.0 y.0 z.0) o z.2) (four_same w a b c _ _ _ _ word p.0 q.0 r.0, (p.1, q.1, r.1))
 
-dropped_takes : (w a : List ℕ) (fs : List (List ℕ)) (o : Outcome) → w ≡ codes "drop" → dropped_in a fs ≡ Ok o → Reads (w ∷ a ∷ fs) o
-unfolding dropped_in Reads
+dropped_takes : (w a : List ℕ) (fs : List (List ℕ)) (o : Outcome) → w ≡ codes "drop" → dropped_from a fs ≡ Ok o → Reads (w ∷ a ∷ fs) o
+unfolding dropped_from Reads
 dropped_takes w a fs o word e =
-    let x = FieldLaws.bind_ok (port_in a) _ o e in
-    let y = FieldLaws.bind_ok (drop_cause_in fs) _ o x.2 in
+    let x = FieldLaws.bind_ok (port_from a) _ o e in
+    let y = FieldLaws.bind_ok (drop_cause_from fs) _ o x.2 in
     let p = FieldLaws.number_in_takes 65535 a x.0 x.1 in
     let q = drop_cause_takes fs y.0 y.1 in
     subst (Reads (w ∷ a ∷ fs)) (FieldLaws.ok_is (Dropped x.0 y.0) o y.2) (more_same w a _ _ fs _ word p.0 q.0, (p.1, q.1))
 
-unsent_takes : (w a b : List ℕ) (o : Outcome) → w ≡ codes "unsent" → unsent_in a b ≡ Ok o → Reads (w ∷ a ∷ b ∷ []) o
-unfolding unsent_in Reads
+unsent_takes : (w a b : List ℕ) (o : Outcome) → w ≡ codes "unsent" → unsent_from a b ≡ Ok o → Reads (w ∷ a ∷ b ∷ []) o
+unfolding unsent_from Reads
 unsent_takes w a b o word e =
-    let x = FieldLaws.bind_ok (port_in a) _ o e in
-    let y = FieldLaws.bind_ok (address_in b) _ o x.2 in
+    let x = FieldLaws.bind_ok (port_from a) _ o e in
+    let y = FieldLaws.bind_ok (address_from b) _ o x.2 in
     let p = FieldLaws.number_in_takes 65535 a x.0 x.1 in
     let q = FieldLaws.address_in_takes b y.0 y.1 in
     subst (Reads (w ∷ a ∷ b ∷ [])) (FieldLaws.ok_is (Unsent x.0 y.0) o y.2) (three_same w a b _ _ _ word p.0 q.0, (p.1, q.1))
@@ -404,7 +404,7 @@ by_word w a fs o e =
       ]
     ]
 
-outcome_in_takes : (fs : List (List ℕ)) (o : Outcome) → outcome_in fs ≡ Ok o → Reads fs o
+outcome_in_takes : (fs : List (List ℕ)) (o : Outcome) → outcome_from fs ≡ Ok o → Reads fs o
 outcome_in_takes [] o e = absurd (FieldLaws.err_ok script.Word o e)
 outcome_in_takes (w ∷ []) o e = absurd (FieldLaws.err_ok script.Word o e)
 outcome_in_takes (w ∷ a ∷ fs) o e = by_word w a fs o e
@@ -431,8 +431,8 @@ is_found t (Ok o) given = let p = outcome_takes t o given in (p.1, p.0)
 is_found t (Err e) given = tt
 
 -- behind eight fields nothing is told apart
-pub first_nine : (fs : List (List ℕ)) → outcome_in (take 9 fs) ≡ outcome_in fs
-unfolding outcome_by refused_in dropped_in
+pub first_nine : (fs : List (List ℕ)) → outcome_from (take 9 fs) ≡ outcome_from fs
+unfolding outcome_by refused_from dropped_from
 first_nine [] = refl
 first_nine (w ∷ []) = refl
 first_nine (w ∷ a ∷ []) = refl

@@ -1,7 +1,7 @@
 //! Causes in outcome lines, read from their fields.
 
 ghost use Rattle.std.specs.Prelude.{◌≡◌, map};
-ghost use Rattle.sg_outcome.specs.OutcomeOf.{cs_in, drop_cause_in, fault_with_numbers_in, key_mgmt_in, key_reused_in, key_spent_in, mikey_in, one_fault_in, one_number_in, psk_in, psk_skew_in, refusal_in, sdes_in, sdp_in, signed_at, skew_in, tick_back_in, two_numbers_in};
+ghost use Rattle.sg_outcome.specs.OutcomeOf.{cs_from, drop_cause_from, fault_with_numbers_from, key_mgmt_from, key_reused_from, key_spent_from, mikey_from, one_fault_from, one_number_from, psk_from, psk_skew_from, refusal_from, sdes_from, sdp_from, signed_at, skew_from, tick_back_from, two_numbers_from};
 
 use crate::outcome_names::{
     cs_fault, mikey_fault, plain_drop_cause, plain_psk_fault, plain_refusal, sdes_fault, sdp_fault,
@@ -36,9 +36,9 @@ fn signed(text: &[u8]) -> Option<i64>
     }
 }
 
-#[tactic(auto, unfolding(crate::specs::OutcomeOf::key_spent_in))]
+#[tactic(auto, unfolding(crate::specs::OutcomeOf::key_spent_from))]
 fn key_spent(name: &[u8], a: &[u8], b: &[u8]) -> Result<DropCause, ScriptFault>
-    ensures { result ≡ key_spent_in name.now a.now b.now }
+    ensures { result ≡ key_spent_from name.now a.now b.now }
 {
     if name != b"KeySpent".as_slice() {
         return Err(ScriptFault::Word);
@@ -53,7 +53,7 @@ fn key_spent(name: &[u8], a: &[u8], b: &[u8]) -> Result<DropCause, ScriptFault>
 
 /// The cause of a dropped datagram.
 pub(crate) fn drop_cause(fields: &[&[u8]]) -> Result<DropCause, ScriptFault>
-    ensures { result ≡ drop_cause_in (map (λ x. x.now) fields.now) }
+    ensures { result ≡ drop_cause_from (map (λ x. x.now) fields.now) }
 {
     match *fields {
         [name] => plain_drop_cause(name).ok_or(ScriptFault::Word),
@@ -62,9 +62,9 @@ pub(crate) fn drop_cause(fields: &[&[u8]]) -> Result<DropCause, ScriptFault>
     }
 }
 
-#[tactic(auto, unfolding(crate::specs::OutcomeOf::skew_in))]
+#[tactic(auto, unfolding(crate::specs::OutcomeOf::skew_from))]
 fn skew(name: &[u8], a: &[u8], b: &[u8]) -> Result<PskFault, ScriptFault>
-    ensures { result ≡ skew_in name.now a.now b.now }
+    ensures { result ≡ skew_from name.now a.now b.now }
 {
     if name != b"Skew".as_slice() {
         return Err(ScriptFault::Word);
@@ -74,33 +74,33 @@ fn skew(name: &[u8], a: &[u8], b: &[u8]) -> Result<PskFault, ScriptFault>
     Ok(PskFault::Skew { stamp, now })
 }
 
-#[tactic(auto, unfolding(crate::specs::OutcomeOf::key_mgmt_in))]
+#[tactic(auto, unfolding(crate::specs::OutcomeOf::key_mgmt_from))]
 fn key_mgmt(a: &[u8]) -> Result<Refusal, ScriptFault>
-    ensures { result ≡ key_mgmt_in a.now }
+    ensures { result ≡ key_mgmt_from a.now }
 {
     let medium = number(BYTE_MOST, a)? as u8;
     Ok(Refusal::KeyMgmt { medium })
 }
 
-#[tactic(auto, unfolding(crate::specs::OutcomeOf::key_reused_in))]
+#[tactic(auto, unfolding(crate::specs::OutcomeOf::key_reused_from))]
 fn key_reused(a: &[u8]) -> Result<Refusal, ScriptFault>
-    ensures { result ≡ key_reused_in a.now }
+    ensures { result ≡ key_reused_from a.now }
 {
     let reused = number(WORD_MOST, a)? as u32;
     Ok(Refusal::KeyReused { number: reused })
 }
 
-#[tactic(auto, unfolding(crate::specs::OutcomeOf::tick_back_in))]
+#[tactic(auto, unfolding(crate::specs::OutcomeOf::tick_back_from))]
 fn tick_back(a: &[u8]) -> Result<Refusal, ScriptFault>
-    ensures { result ≡ tick_back_in a.now }
+    ensures { result ≡ tick_back_from a.now }
 {
     let last = number(LONG_MOST, a)? as u64;
     Ok(Refusal::TickBack { last })
 }
 
-#[tactic(auto, unfolding(crate::specs::OutcomeOf::one_number_in))]
+#[tactic(auto, unfolding(crate::specs::OutcomeOf::one_number_from))]
 fn one_number(name: &[u8], a: &[u8]) -> Result<Refusal, ScriptFault>
-    ensures { result ≡ one_number_in name.now a.now }
+    ensures { result ≡ one_number_from name.now a.now }
 {
     if name == b"KeyMgmt".as_slice() {
         return key_mgmt(a);
@@ -114,45 +114,45 @@ fn one_number(name: &[u8], a: &[u8]) -> Result<Refusal, ScriptFault>
     Err(ScriptFault::Word)
 }
 
-#[tactic(auto, unfolding(crate::specs::OutcomeOf::sdp_in))]
+#[tactic(auto, unfolding(crate::specs::OutcomeOf::sdp_from))]
 fn sdp(a: &[u8], b: &[u8]) -> Result<Refusal, ScriptFault>
-    ensures { result ≡ sdp_in a.now b.now }
+    ensures { result ≡ sdp_from a.now b.now }
 {
     let line = number(WORD_MOST, a)? as u32;
     let fault = sdp_fault(b).ok_or(ScriptFault::Word)?;
     Ok(Refusal::Sdp { line, fault })
 }
 
-#[tactic(auto, unfolding(crate::specs::OutcomeOf::sdes_in))]
+#[tactic(auto, unfolding(crate::specs::OutcomeOf::sdes_from))]
 fn sdes(a: &[u8], b: &[u8]) -> Result<Refusal, ScriptFault>
-    ensures { result ≡ sdes_in a.now b.now }
+    ensures { result ≡ sdes_from a.now b.now }
 {
     let medium = number(BYTE_MOST, a)? as u8;
     let fault = sdes_fault(b).ok_or(ScriptFault::Word)?;
     Ok(Refusal::Sdes { medium, fault })
 }
 
-#[tactic(auto, unfolding(crate::specs::OutcomeOf::psk_in))]
+#[tactic(auto, unfolding(crate::specs::OutcomeOf::psk_from))]
 fn psk(a: &[u8], b: &[u8]) -> Result<Refusal, ScriptFault>
-    ensures { result ≡ psk_in a.now b.now }
+    ensures { result ≡ psk_from a.now b.now }
 {
     let medium = number(BYTE_MOST, a)? as u8;
     let fault = plain_psk_fault(b).ok_or(ScriptFault::Word)?;
     Ok(Refusal::Psk { medium, fault })
 }
 
-#[tactic(auto, unfolding(crate::specs::OutcomeOf::cs_in))]
+#[tactic(auto, unfolding(crate::specs::OutcomeOf::cs_from))]
 fn cs(a: &[u8], b: &[u8]) -> Result<Refusal, ScriptFault>
-    ensures { result ≡ cs_in a.now b.now }
+    ensures { result ≡ cs_from a.now b.now }
 {
     let medium = number(BYTE_MOST, a)? as u8;
     let fault = cs_fault(b).ok_or(ScriptFault::Word)?;
     Ok(Refusal::Cs { medium, fault })
 }
 
-#[tactic(auto, unfolding(crate::specs::OutcomeOf::one_fault_in))]
+#[tactic(auto, unfolding(crate::specs::OutcomeOf::one_fault_from))]
 fn one_fault(name: &[u8], a: &[u8], b: &[u8]) -> Result<Refusal, ScriptFault>
-    ensures { result ≡ one_fault_in name.now a.now b.now }
+    ensures { result ≡ one_fault_from name.now a.now b.now }
 {
     if name == b"Sdp".as_slice() {
         return sdp(a, b);
@@ -169,9 +169,9 @@ fn one_fault(name: &[u8], a: &[u8], b: &[u8]) -> Result<Refusal, ScriptFault>
     Err(ScriptFault::Word)
 }
 
-#[tactic(auto, unfolding(crate::specs::OutcomeOf::mikey_in))]
+#[tactic(auto, unfolding(crate::specs::OutcomeOf::mikey_from))]
 fn mikey(a: &[u8], b: &[u8], c: &[u8]) -> Result<Refusal, ScriptFault>
-    ensures { result ≡ mikey_in a.now b.now c.now }
+    ensures { result ≡ mikey_from a.now b.now c.now }
 {
     let medium = number(BYTE_MOST, a)? as u8;
     let offset = number(WORD_MOST, b)? as u32;
@@ -183,9 +183,9 @@ fn mikey(a: &[u8], b: &[u8], c: &[u8]) -> Result<Refusal, ScriptFault>
     })
 }
 
-#[tactic(auto, unfolding(crate::specs::OutcomeOf::two_numbers_in))]
+#[tactic(auto, unfolding(crate::specs::OutcomeOf::two_numbers_from))]
 fn two_numbers(name: &[u8], a: &[u8], b: &[u8], c: &[u8]) -> Result<Refusal, ScriptFault>
-    ensures { result ≡ two_numbers_in name.now a.now b.now c.now }
+    ensures { result ≡ two_numbers_from name.now a.now b.now c.now }
 {
     if name == b"Mikey".as_slice() {
         return mikey(a, b, c);
@@ -193,16 +193,16 @@ fn two_numbers(name: &[u8], a: &[u8], b: &[u8], c: &[u8]) -> Result<Refusal, Scr
     Err(ScriptFault::Word)
 }
 
-#[tactic(auto, unfolding(crate::specs::OutcomeOf::psk_skew_in))]
+#[tactic(auto, unfolding(crate::specs::OutcomeOf::psk_skew_from))]
 fn psk_skew(a: &[u8], b: &[u8], c: &[u8], d: &[u8]) -> Result<Refusal, ScriptFault>
-    ensures { result ≡ psk_skew_in a.now b.now c.now d.now }
+    ensures { result ≡ psk_skew_from a.now b.now c.now d.now }
 {
     let medium = number(BYTE_MOST, a)? as u8;
     let fault = skew(b, c, d)?;
     Ok(Refusal::Psk { medium, fault })
 }
 
-#[tactic(auto, unfolding(crate::specs::OutcomeOf::fault_with_numbers_in))]
+#[tactic(auto, unfolding(crate::specs::OutcomeOf::fault_with_numbers_from))]
 fn fault_with_numbers(
     name: &[u8],
     a: &[u8],
@@ -210,7 +210,7 @@ fn fault_with_numbers(
     c: &[u8],
     d: &[u8],
 ) -> Result<Refusal, ScriptFault>
-    ensures { result ≡ fault_with_numbers_in name.now a.now b.now c.now d.now }
+    ensures { result ≡ fault_with_numbers_from name.now a.now b.now c.now d.now }
 {
     if name == b"Psk".as_slice() {
         return psk_skew(a, b, c, d);
@@ -220,7 +220,7 @@ fn fault_with_numbers(
 
 /// The cause of a refused signal.
 pub(crate) fn refusal(fields: &[&[u8]]) -> Result<Refusal, ScriptFault>
-    ensures { result ≡ refusal_in (map (λ x. x.now) fields.now) }
+    ensures { result ≡ refusal_from (map (λ x. x.now) fields.now) }
 {
     match *fields {
         [name] => plain_refusal(name).ok_or(ScriptFault::Word),

@@ -6,7 +6,7 @@ ghost use Rattle.sg_lines.specs.LineOf.{fields_of};
 ghost use Rattle.sg_outcome.specs.OutcomeText.{outcome_line};
 ghost use Rattle.sg_outcome.specs.OutcomeFields.{FitsOutcome};
 ghost use Rattle.sg_outcome.specs.declared.outcomes.Outcome.{Outcome};
-ghost use Rattle.sg_outcome.specs.OutcomeOf.{described_by, described_in, dropped_in, ended_by, ended_in, live_by, live_in, made_by, made_in, out_by, out_in, outcome_by, outcome_in, outcome_of, refused_in, some_call_in, unsent_by, unsent_in};
+ghost use Rattle.sg_outcome.specs.OutcomeOf.{described_by, described_from, dropped_from, ended_by, ended_from, live_by, live_from, made_by, made_from, out_by, out_from, outcome_by, outcome_from, outcome_of, refused_from, some_call_from, unsent_by, unsent_from};
 
 use crate::Outcome;
 use crate::causes::{drop_cause, refusal};
@@ -17,9 +17,9 @@ use sg_lines::reading::fields;
 use sg_lines::{ReadLineFault, WORD};
 use std::alloc::Global;
 
-#[tactic(auto, unfolding(crate::specs::OutcomeOf::made_in))]
+#[tactic(auto, unfolding(crate::specs::OutcomeOf::made_from))]
 fn made(a: &[u8], b: &[u8], c: &[u8]) -> Result<Outcome, ScriptFault>
-    ensures { result ≡ made_in a.now b.now c.now }
+    ensures { result ≡ made_from a.now b.now c.now }
 {
     let call = call(a)?;
     let slot = number(255, b)? as u8;
@@ -27,17 +27,17 @@ fn made(a: &[u8], b: &[u8], c: &[u8]) -> Result<Outcome, ScriptFault>
     Ok(Outcome::Made { call, slot, media })
 }
 
-#[tactic(auto, unfolding(crate::specs::OutcomeOf::live_in))]
+#[tactic(auto, unfolding(crate::specs::OutcomeOf::live_from))]
 fn live(a: &[u8]) -> Result<Outcome, ScriptFault>
-    ensures { result ≡ live_in a.now }
+    ensures { result ≡ live_from a.now }
 {
     let call = call(a)?;
     Ok(Outcome::Live { call })
 }
 
-#[tactic(auto, unfolding(crate::specs::OutcomeOf::described_in))]
+#[tactic(auto, unfolding(crate::specs::OutcomeOf::described_from))]
 fn described(alloc: Global, a: &[u8], b: &[u8], c: &[u8]) -> Result<Outcome, ReadLineFault>
-    ensures { Gives result (described_in a.now b.now c.now) }
+    ensures { Gives result (described_from a.now b.now c.now) }
 {
     let call = call(a)?;
     let side = side(b).ok_or(ScriptFault::Word)?;
@@ -46,9 +46,9 @@ fn described(alloc: Global, a: &[u8], b: &[u8], c: &[u8]) -> Result<Outcome, Rea
 }
 
 /// A call, or a hyphen for none.
-#[tactic(auto, unfolding(crate::specs::OutcomeOf::some_call_in))]
+#[tactic(auto, unfolding(crate::specs::OutcomeOf::some_call_from))]
 fn some_call(text: &[u8]) -> Result<Option<CallId>, ScriptFault>
-    ensures { result ≡ some_call_in text.now }
+    ensures { result ≡ some_call_from text.now }
 {
     if text == b"-".as_slice() {
         return Ok(None);
@@ -57,18 +57,18 @@ fn some_call(text: &[u8]) -> Result<Option<CallId>, ScriptFault>
     Ok(Some(call))
 }
 
-#[tactic(auto, unfolding(crate::specs::OutcomeOf::refused_in))]
+#[tactic(auto, unfolding(crate::specs::OutcomeOf::refused_from))]
 fn refused(a: &[u8], cause: &[&[u8]]) -> Result<Outcome, ScriptFault>
-    ensures { result ≡ refused_in a.now (map (λ x. x.now) cause.now) }
+    ensures { result ≡ refused_from a.now (map (λ x. x.now) cause.now) }
 {
     let call = some_call(a)?;
     let cause = refusal(cause)?;
     Ok(Outcome::Refused { call, cause })
 }
 
-#[tactic(auto, unfolding(crate::specs::OutcomeOf::ended_in))]
+#[tactic(auto, unfolding(crate::specs::OutcomeOf::ended_from))]
 fn ended(a: &[u8], b: &[u8], c: &[u8], d: &[u8]) -> Result<Outcome, ScriptFault>
-    ensures { result ≡ ended_in a.now b.now c.now d.now }
+    ensures { result ≡ ended_from a.now b.now c.now d.now }
 {
     let call = call(a)?;
     let slot = number(255, b)? as u8;
@@ -82,9 +82,9 @@ fn ended(a: &[u8], b: &[u8], c: &[u8], d: &[u8]) -> Result<Outcome, ScriptFault>
     })
 }
 
-#[tactic(auto, unfolding(crate::specs::OutcomeOf::out_in))]
+#[tactic(auto, unfolding(crate::specs::OutcomeOf::out_from))]
 fn out(alloc: Global, a: &[u8], b: &[u8], c: &[u8]) -> Result<Outcome, ReadLineFault>
-    ensures { Gives result (out_in a.now b.now c.now) }
+    ensures { Gives result (out_from a.now b.now c.now) }
 {
     let port = port(a)?;
     let to = address(b)?;
@@ -92,18 +92,18 @@ fn out(alloc: Global, a: &[u8], b: &[u8], c: &[u8]) -> Result<Outcome, ReadLineF
     Ok(Outcome::Out { port, to, octets })
 }
 
-#[tactic(auto, unfolding(crate::specs::OutcomeOf::dropped_in))]
+#[tactic(auto, unfolding(crate::specs::OutcomeOf::dropped_from))]
 fn dropped(a: &[u8], cause: &[&[u8]]) -> Result<Outcome, ScriptFault>
-    ensures { result ≡ dropped_in a.now (map (λ x. x.now) cause.now) }
+    ensures { result ≡ dropped_from a.now (map (λ x. x.now) cause.now) }
 {
     let port = port(a)?;
     let cause = drop_cause(cause)?;
     Ok(Outcome::Dropped { port, cause })
 }
 
-#[tactic(auto, unfolding(crate::specs::OutcomeOf::unsent_in))]
+#[tactic(auto, unfolding(crate::specs::OutcomeOf::unsent_from))]
 fn unsent(a: &[u8], b: &[u8]) -> Result<Outcome, ScriptFault>
-    ensures { result ≡ unsent_in a.now b.now }
+    ensures { result ≡ unsent_from a.now b.now }
 {
     let port = port(a)?;
     let to = address(b)?;
@@ -211,7 +211,7 @@ fn outcome_of_word(
 }
 
 fn outcome_of_fields(alloc: Global, fields: &[&[u8]]) -> Result<Outcome, ReadLineFault>
-    ensures { Gives result (outcome_in (map (λ x. x.now) fields.now)) }
+    ensures { Gives result (outcome_from (map (λ x. x.now) fields.now)) }
 {
     match fields {
         [word, a, more @ ..] => outcome_of_word(alloc, word, a, more),
@@ -221,7 +221,7 @@ fn outcome_of_fields(alloc: Global, fields: &[&[u8]]) -> Result<Outcome, ReadLin
 
 /// The outcome of a line without its end.
 fn body_outcome(alloc: Global, body: &[u8]) -> Result<Outcome, ReadLineFault>
-    ensures { Gives result (outcome_in (fields_of body.now)) }
+    ensures { Gives result (outcome_from (fields_of body.now)) }
 {
     let fields = fields(body);
     outcome_of_fields(alloc, fields.as_slice())

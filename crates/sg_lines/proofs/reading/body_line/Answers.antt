@@ -6,4 +6,4 @@ use Rattle.sg_lines.proofs.reading.body_line.Goals as goal
 
 pub returns : goal.returns
 returns c =
-    subst (Gives c.line_of_fields.result) (ap (λ l. said_by (map (λ x. x.now) l)) c.as_slice.ensures.value ∙ ap said_by c.fields-fields.ensures ∙ first_nine _) c.line_of_fields.ensures
+    subst (Gives c.line_of_fields.result) (ap (λ l. said_by c.args.version (map (λ x. x.now) l)) c.as_slice.ensures.value ∙ ap (said_by c.args.version) c.fields-fields.ensures ∙ first_nine _ _) c.line_of_fields.ensures
