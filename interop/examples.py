@@ -43,8 +43,8 @@ def drops():
     causes = {0x40: "Version", 0x81: "CsrcCut", 0x90: "ExtensionCut"}
     rows += [drop(20000, bytes([first]) + bytes(21), cause) for first, cause in causes.items()]
     rows.append(drop(20000, bytes([0x80]) + bytes(4238), "TooLong"))
-    rows += [opened(KEY, 7, 7, ssrc=ssrc) for ssrc in range(1, 16)]
-    rows.append(drop(20000, KEY.srtp(rtp(7, ssrc=16), 7), "StreamsFull"))
+    rows += [opened(KEY, 7, 7, ssrc=ssrc) for ssrc in range(1, 64)]
+    rows.append(drop(20000, KEY.srtp(rtp(7, ssrc=64), 7), "StreamsFull"))
     rows.append(drop(20002, rtp(1), "SourceUnknown", "127.0.0.2:41000"))
     rows += [sealed(ONES, rtp(1), 1), drop(20002, rtp(1, payload=b"\xcc" * 4), "Repeat")]
     return manual(KEY, ONES), rows

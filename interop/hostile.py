@@ -11,7 +11,7 @@ dropped, doubled or exchanged with another's, a number made larger or smaller, o
 - what is written is what the model tells, to the octet. Where a line asks for noise to be drawn, what is written begins
   with what the model tells of the lines before, the rest is outcomes of their grammar, and the status is 0 or 2.
 
-One run in eight has two workers and what memory it likes; its octets are the same.
+One run in eight has two workers and what memory it likes; its octets are the same. One in eight is a migration.
 """
 import os
 import random
@@ -23,7 +23,7 @@ from collections import Counter
 from pathlib import Path
 
 from mixed import Mixer
-from model.replay import Told
+from model import TOLD
 from usage import words_or_usage
 
 TOP = Path(__file__).resolve().parent.parent
@@ -44,7 +44,7 @@ def corpus(seed):
     paths = [path for folder in ("interop/rows", "examples") for path in sorted((TOP / folder).glob("*.script"))]
     scripts = [(path.stem, path.read_bytes()) for path in paths]
     for number in range(len(paths)):
-        mixer = Mixer(f"hostile {seed} {number}")
+        mixer = Mixer(f"hostile {seed} {number}", 1 + number % 2)
         mixer.mixed(20)
         scripts.append((f"mixed {number}", mixer.script()))
     return scripts
@@ -120,12 +120,16 @@ def cases(count, seed):
         yield f"{number} ({name})", script
 
 
-def played(program, script, workers):
+def words_of(number):
+    """The words that play a script."""
+    return {3: ["migrate"], 7: ["replay", "--workers", "2"]}.get(number % 8, ["replay"])
+
+
+def played(program, script, words):
     """Status, standard output and standard error. The bound on memory is there before the script is."""
-    words = ["replay", "--workers", "2"] if workers == 2 else ["replay"]
     pipes = {"stdin": subprocess.PIPE, "stdout": subprocess.PIPE, "stderr": subprocess.PIPE}
     with subprocess.Popen([program, *words], **pipes) as run:
-        if workers == 1:
+        if "--workers" not in words:
             resource.prlimit(run.pid, resource.RLIMIT_DATA, (MEMORY, MEMORY))
         try:
             written, said = run.communicate(script, SECONDS)
@@ -159,11 +163,12 @@ def main():
     for number, (name, script) in enumerate(cases(int(count), seed)):
         if number and number % 1000 == 0:
             print(f"{number} played, {bad} bad, {sum(os.times()[:4]):.0f} s of processor", flush=True)
-        wanted = Told(script)
-        told = fault(played(program, script, 2 if number % 8 == 7 else 1), wanted)
+        words = words_of(number)
+        wanted = TOLD[words[0]](script)
+        told = fault(played(program, script, words), wanted)
         ends[{0: "done", 2: "not in the grammar", None: "noise drawn"}[wanted.status]] += 1
         if told:
-            print(f"{name}: {told}", flush=True)
+            print(f"{name} by {' '.join(words)}: {told}", flush=True)
             Path(f"hostile-{number}.script").write_bytes(script)
             bad += 1
     print(f"hostile scripts: {count} played, {bad} bad, {sum(os.times()[:4]):.0f} s of processor; {dict(ends)}")

@@ -1,8 +1,11 @@
 #!/usr/bin/env python3
 """Writes the scripts of `interop/rows/` and, beside each, what must be told of it: calls that are agreed by
-offers and answers, by crypto lines and by MIKEY messages, how they are renewed and how they end; and calls that are
-keyed manually. What must be told is worked out by hand in the parts beside this file; the model (`model/`), which
-decides every line by the rules alone, has to tell the same.
+offers and answers, by crypto lines and by MIKEY messages, how they are renewed and how they end; calls that are
+keyed manually; and scripts of both versions. What must be told is worked out by hand in the parts beside this file; the
+model (`model/`), which decides every line by the rules alone, has to tell the same.
+
+A script is played by `replay`, or by the command that a file NAME.words beside it names; it is handled to its end, or
+ends as NAME.end says, with a status and a text on standard error.
 """
 from pathlib import Path
 
@@ -12,25 +15,46 @@ import lives
 import messages
 import policies
 import ports
-from model import replay
+import versions
+from model import TOLD
 
 ROWS = Path(__file__).resolve().parent / "rows"
 
 
-def written(name, script, told):
-    assert replay.Told(script.encode()).octets() == told.encode(), f"the model tells something else of {name}"
-    (ROWS / f"{name}.script").write_text(script)
-    (ROWS / f"{name}.out").write_text(told)
+def of_text(told):
+    """Outcomes as lines, or octets as they are."""
+    return told if isinstance(told, bytes) else "".join(line + "\n" for line in told).encode()
+
+
+def files(name, source, told, command="replay", end=None):
+    """The files of a row, with their octets. The model has to tell the same."""
+    model, (status, said) = TOLD[command](source), end or (0, "")
+    assert model.octets() == told, f"the model tells something else of {name}"
+    assert (model.status, model.said.decode()) == (status, said), f"the model ends {name} otherwise"
+    yield f"{name}.script", source
+    yield f"{name}.out", told
+    if command != "replay":
+        yield f"{name}.words", f"{command}\n".encode()
+    if end:
+        yield f"{name}.end", f"{status} {said}".encode()
+
+
+def rows():
+    for row in agreements.ALL + messages.ALL + policies.ALL + lives.ALL + ports.ALL + versions.ALL:
+        s = row()
+        yield from files(row.__name__.replace("_", "-"), s.source(), of_text(s.told), s.command, s.end)
+    for name, script, told in calls.scripts():
+        yield from files(name, script.encode(), told.encode())
 
 
 def main():
+    made = dict(rows())
     ROWS.mkdir(exist_ok=True)
-    for row in agreements.ALL + messages.ALL + policies.ALL + lives.ALL + ports.ALL:
-        s = row()
-        lines = ["".join(line + "\n" for line in part) for part in (s.lines, s.told)]
-        written(row.__name__.replace("_", "-"), *lines)
-    for row in calls.scripts():
-        written(*row)
+    for file in ROWS.iterdir():
+        if file.name not in (*made, "README.md"):
+            file.unlink()
+    for name, octets in made.items():
+        (ROWS / name).write_bytes(octets)
 
 
 if __name__ == "__main__":

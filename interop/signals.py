@@ -104,10 +104,15 @@ MARK = "bye 4294967295"
 
 
 class Script:
-    """A script, and what must be told of it."""
+    """A script of a version, the command that plays it, and what must be told of it; where a line is outside the
+    grammar, how the run ends: the status, and what is said."""
 
-    def __init__(self):
-        self.lines, self.told = ["srtpgw 1"], []
+    def __init__(self, version=1, command="replay"):
+        self.command, self.lines, self.told, self.end = command, [f"srtpgw {version}"], [], None
+
+    def source(self):
+        """The octets that are played."""
+        return "".join(line + "\n" for line in self.lines).encode()
 
     def says(self, line, *told):
         self.lines.append(line)
@@ -130,6 +135,11 @@ class Script:
         """Ports towards the secure side are the first two of four."""
         source = source or (SECURE if port % 4 < 2 else PLAIN)
         self.says(f"in {port} {source} {octets.hex() or '-'}", told)
+
+    def arrives_at(self, moment, port, octets, *told, source=None):
+        """The same in version 2, with the moment at which it comes."""
+        source = source or (SECURE if port % 4 < 2 else PLAIN)
+        self.says(f"in {moment} {port} {source} {octets.hex() or '-'}", *told)
 
     def dropped(self, port, octets, cause, source=None):
         self.arrives(port, octets, f"drop {port} {cause}", source)

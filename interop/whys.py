@@ -24,9 +24,9 @@ LONGEST = 6_000
 
 
 def rows():
-    """All lines of scripts that aren't long, but for their headers."""
+    """All lines of scripts that aren't long, but for their headers; each once."""
     files = sorted([*TOP.glob("interop/rows/*.script"), *TOP.glob("examples/*.script")])
-    lines = [line for file in files for line in file.read_bytes().split(b"\n")[1:]]
+    lines = dict.fromkeys(line for file in files for line in file.read_bytes().split(b"\n")[1:])
     return [line for line in lines if 0 < len(line) < LONGEST]
 
 
@@ -47,10 +47,10 @@ def changed(draw, octets, more=b""):
     return bytes(octets)
 
 
-def fault(read, faults, line):
-    """The name of a line's first fault, or None."""
+def fault(read, faults, line, version):
+    """The name of a line's first fault in a version, or None."""
     try:
-        read(2, line)
+        read(2, line, version)
     except faults as found:
         return getattr(found, "name", str(found))
     return None
@@ -59,8 +59,8 @@ def fault(read, faults, line):
 def lines_differ(draw, lines, count):
     """Changed lines of which two faults are told."""
     for _ in range(count):
-        line = changed(draw, draw.choice(lines)) + b"\n"
-        told = fault(why.read_line, why.Fault, line), fault(scripts.read, scripts.Fault, line)
+        line, version = changed(draw, draw.choice(lines)) + b"\n", draw.choice((1, 2))
+        told = fault(why.read_line, why.Fault, line, version), fault(scripts.read, scripts.Fault, line, version)
         if told[0] != told[1]:
             yield line, told
 

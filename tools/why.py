@@ -28,10 +28,11 @@ from texts import PLAIN, SALT, SECURE, looked_at
 
 LINE_MOST, SCRIPT_MOST, NOISE = 70_000, 2**30, 304
 LAST_TICK, PORT_MOST = 2_085_978_495_999, 65_535
-HEADER = b"srtpgw 1"
-# The fields behind each first word; those of `offer-plain` hang on its third word.
+HEADERS = {"srtpgw 1": 1, "srtpgw 2": 2}
+# The fields behind each first word; those of `offer-plain` hang on its third word, and a datagram's on the version.
+DATAGRAMS = {1: "PORT ADDRESS OCTETS", 2: "MOMENT PORT ADDRESS OCTETS"}
 FIELDS = {
-    "in": "PORT ADDRESS OCTETS", "tick": "MOMENT", "psk": "OWN PEER SECRET",
+    "in": DATAGRAMS[1], "tick": "MOMENT", "psk": "OWN PEER SECRET",
     "manual": "CALL SECURE PLAIN ROLLOVER WINDOW KEY KEY", "offer-secure": "CALL NOISE TEXT",
     "answer": "CALL NOISE TEXT", "reject": "CALL", "bye": "CALL",
 }
@@ -161,8 +162,8 @@ def shown(text):
 
 
 def header_fault(line):
-    """Why line 1 isn't the header."""
-    if line.rstrip("\r") == "srtpgw 1":
+    """Why line 1 isn't a header."""
+    if line.rstrip("\r") in HEADERS:
         return Fault("Version", 8, "the header is right, but the line ends with a carriage return (CRLF): "
                      "lines end with a line feed alone")
     if line.startswith("\xef\xbb\xbf"):
@@ -170,10 +171,10 @@ def header_fault(line):
     if line[:2] in ("\xff\xfe", "\xfe\xff"):
         return Fault("Version", 0, "the file is UTF-16: save it as plain text")
     if re.fullmatch(r"\s*srtpgw\s+[0-9.]+\s*", line, re.I):
-        return Fault("Version", 0, f"the header is `srtpgw 1`, to the letter; here is `{shown(line)}`")
+        return Fault("Version", 0, f"the header is `srtpgw 1` or `srtpgw 2`, to the letter; here is `{shown(line)}`")
     if line.split(" ")[0] in (*FIELDS, "offer-plain"):
-        return Fault("Version", 0, "the header is missing: line 1 is `srtpgw 1`")
-    return Fault("Version", 0, "line 1 isn't the header `srtpgw 1`")
+        return Fault("Version", 0, "the header is missing: line 1 is `srtpgw 1` or `srtpgw 2`")
+    return Fault("Version", 0, "line 1 isn't the header, `srtpgw 1` or `srtpgw 2`")
 
 
 def space_fault(line):
@@ -193,8 +194,8 @@ def word_fault(line, word):
         return Fault("Word", 0, "the line is empty: a script has no empty lines")
     if line[0] in "#;" or line.startswith("//"):
         return Fault("Word", 0, "a comment: a script has none")
-    if line == HEADER.decode():
-        return Fault("Word", 0, "the header again: it stands in line 1 alone")
+    if line in HEADERS:
+        return Fault("Word", 0, "a header again: it stands in line 1 alone")
     spaces = space_fault(line)
     if spaces:
         return spaces
@@ -204,14 +205,25 @@ def word_fault(line, word):
     return Fault("Word", 0, f"`{shown(word[:40])}` isn't a word of a script" + (f"; perhaps `{near[0]}`" if near else ""))
 
 
-def fields_of(line):
+def count_fault(line, word, names, given):
+    """Why a word hasn't so many fields."""
+    at_ = given[len(names)][0] if len(given) > len(names) else len(line)
+    hint = ""
+    if word == "in" and len(given) == 4:
+        hint = ": a datagram has a moment in front of its port in version 2, which begins with `srtpgw 2`"
+    elif word == "in" and len(given) == 3:
+        hint = ": in version 2 a datagram has its moment in front of its port"
+    return Fault("Word", at_, f"`{word}` has {len(names)} field(s), {' '.join(names)}; here are {len(given)}{hint}")
+
+
+def fields_of(line, version):
     """The first word, the names of its fields, and each field with its place; or the line's Word fault."""
     found, at = [], 0
     for text in line.split(" "):
         found.append((at, text))
         at += len(text) + 1
     word, given = found[0][1], found[1:]
-    names = FIELDS.get(word)
+    names = DATAGRAMS[version] if word == "in" else FIELDS.get(word)
     if word == "offer-plain":
         kind = given[1][1] if len(given) > 1 else ""
         names = OFFERS.get(kind)
@@ -222,14 +234,13 @@ def fields_of(line):
         raise word_fault(line, word)
     names = names.split(" ")
     if len(names) != len(given):
-        raise space_fault(line) or Fault("Word", given[len(names)][0] if len(given) > len(names) else len(line),
-                                         f"`{word}` has {len(names)} field(s), {' '.join(names)}; here are {len(given)}")
+        raise space_fault(line) or count_fault(line, word, names, given)
     return word, names, given
 
 
-def values_of(line):
+def values_of(line, version):
     """The first word and what each field says. Raises the line's first fault."""
-    word, names, given = fields_of(line)
+    word, names, given = fields_of(line, version)
     values = []
     for place, (name, (at, text)) in enumerate(zip(names, given), 1):
         if name.islower():
@@ -245,24 +256,24 @@ def values_of(line):
     return word, values
 
 
-def read_line(place, octets_):
-    """What the line at a place from 1 on says. Raises its first fault."""
+def read_line(place, octets_, version=1):
+    """What the line at a place from 1 on says in a version; of a header its version. Raises its first fault."""
     if len(octets_) > LINE_MOST:
         raise Fault("Length", LINE_MOST, f"the line has {len(octets_)} octets; {LINE_MOST} are the most")
     if not octets_.endswith(b"\n"):
         raise Fault("Unended", len(octets_), "the last line has no line end")
     line = octets_[:-1].decode("latin-1")
     if place == 1:
-        if line != HEADER.decode():
+        if line not in HEADERS:
             raise header_fault(line)
-        return "srtpgw", []
+        return "srtpgw", [("VERSION", HEADERS[line], line[-1])]
     if line.endswith("\r"):
         try:
-            values_of(line)
+            values_of(line, version)
         except Fault as fault:
             raise Fault(fault.name, len(line) - 1, "the line ends with a carriage return (CRLF): lines end with a line "
                         "feed alone") from None
-    return values_of(line)
+    return values_of(line, version)
 
 
 # ---- what the lines say to each other
@@ -296,6 +307,10 @@ class Book:
             return self.refuse(place, "-", f"TickBack {self.moment}")
         self.moment = int(texts[0])
         return []
+
+    def take_in(self, place, texts, values):
+        """Of version 2, a tick to the moment."""
+        return self.take_tick(place, texts, values) if len(texts) == len(DATAGRAMS[2].split(" ")) else []
 
     def take_psk(self, place, texts, values):
         self.peers.add(texts[1])
@@ -396,13 +411,15 @@ class Why:
 
     def __init__(self, octets_):
         self.remarks, self.fault, self.further, self.book = [], None, 0, Book()
-        begun = 0
+        begun, version = 0, 1
         for place, line in enumerate(re.findall(rb"[^\n]*\n|[^\n]+", octets_), 1):
             begun += len(line)
             try:
                 if begun > SCRIPT_MOST:
                     raise Fault("Length", SCRIPT_MOST - begun + len(line), f"the script has more than {SCRIPT_MOST} octets")
-                word, values = read_line(place, line)
+                word, values = read_line(place, line, version)
+                if word == "srtpgw":
+                    version = values[0][1]
                 if not self.fault:
                     self.remarks += [(place, words) for words in self.book.take(place, word, values)]
             except Fault as fault:

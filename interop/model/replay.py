@@ -7,25 +7,53 @@ class Told:
     """What is written, by line of the script that it comes of; the status and the text of its end. Where a line needs
     octets that the system draws, what is told ends before it, and the status is None."""
 
+    reader = scripts.Reader
+
     def __init__(self, script):
-        self.by_line, self.status, self.said = [], 0, b""
-        world = World()
-        for place, line in enumerate(scripts.lines(script), 1):
-            try:
-                self.by_line.append(told(world, *scripts.read(place, line)))
-            except scripts.Fault as fault:
-                self.status, self.said = 2, f"srtpgw: script line {place}: {fault}\n".encode()
-                return
-            except scripts.Drawn:
-                self.status = None
-                return
+        self.by_line, self.status, self.said, self.world = [], 0, b"", World()
+        lines = self.reader(script)
+        try:
+            for _, word, values in lines:
+                self.by_line.append(self.told(word, *values))
+        except scripts.Drawn:
+            self.status = None
+            return
+        if lines.ended:
+            self.status, self.said = 2, lines.ended
+        else:
+            self.follow(script[lines.at:])
+
+    def told(self, word, *values):
+        return told(self.world, word, *values)
+
+    def follow(self, rest):
+        """What comes behind the last line: nothing."""
 
     def octets(self):
         return "".join(line + "\n" for told in self.by_line for line in told).encode()
+
+
+class Relayed(Told):
+    """The same of a relay whose clock always reads one moment and to which nothing comes over the network. A line's own
+    moment isn't used, and a `tick` line can only be `tick 0`, whose one turn is an event of nothing."""
+
+    def __init__(self, script, now):
+        self.first = now
+        super().__init__(script)
+
+    def told(self, word, *values):
+        if word == "header":
+            return self.world.signal("tick", self.first)
+        if word == "at":
+            return super().told("in", *values[1:])
+        return [] if (word, *values) == ("tick", 0) else super().told(word, *values)
 
 
 def told(world, word, *values):
     """The outcomes of a line."""
     if word == "header":
         return []
+    if word == "at":
+        moment, *datagram = values
+        return world.signal("tick", moment) + [world.datagram(*datagram)]
     return [world.datagram(*values)] if word == "in" else world.signal(word, *values)

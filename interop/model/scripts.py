@@ -7,8 +7,10 @@ NUMBER = re.compile(rb"0|[1-9][0-9]*")
 HEX = re.compile(rb"(?:[0-9a-f]{2})+")
 LAST_TICK = 2_085_978_495_999
 LINE_MOST = 70_000
-# Fields behind the first word; those of `offer-plain` hang on its second one.
-FIELDS = {b"in": 3, b"tick": 1, b"psk": 3, b"manual": 7, b"offer-secure": 3, b"answer": 3, b"reject": 1, b"bye": 1}
+SCRIPT_MOST = 2**30
+HEADERS = {b"srtpgw 1": 1, b"srtpgw 2": 2}
+# Fields behind the first word; those of `offer-plain` hang on its second one, those of `in` on the version.
+FIELDS = {b"tick": 1, b"psk": 3, b"manual": 7, b"offer-secure": 3, b"answer": 3, b"reject": 1, b"bye": 1}
 
 
 class Fault(Exception):
@@ -84,17 +86,28 @@ def text(field):
     return octets(field, 0, 32768)
 
 
-def read(place, line):
-    """What the line at a place from 1 on says: its word and its fields' values."""
-    if len(line) > LINE_MOST:
+def datagram(fields, version):
+    """A datagram line: in version 2 its moment stands in front."""
+    if len(fields) != version + 2:
+        raise Fault("Word")
+    moment = [number(fields.pop(0), LAST_TICK)] if version == 2 else []
+    port, source, content = fields
+    values = number(port, 65535), address(source), octets(content, 0, 4352)
+    return "at" if moment else "in", *moment, *values
+
+
+def read(place, line, version=1, at=0):
+    """What the line at a place from 1 on, which begins at an octet of the script, says in a version: its word and its
+    fields' values. A datagram without a moment of its own is `in`, one with it `at`."""
+    if len(line) > LINE_MOST or at + len(line) > SCRIPT_MOST:
         raise Fault("Length")
     if not line.endswith(b"\n"):
         raise Fault("Unended")
     line = line[:-1]
     if place == 1:
-        if line != b"srtpgw 1":
+        if line not in HEADERS:
             raise Fault("Version")
-        return ("header",)
+        return "header", HEADERS[line]
     word, *fields = line.split(b" ")
     if word == b"offer-plain":
         kind = fields[1] if len(fields) > 1 else None
@@ -103,10 +116,10 @@ def read(place, line):
         if (kind, len(fields)) == (b"mikey", 5):
             return "mikey", call(fields[0]), identity(fields[2]), noise(fields[3]), text(fields[4])
         raise Fault("Word")
+    if word == b"in":
+        return datagram(fields, version)
     if len(fields) != FIELDS.get(word):
         raise Fault("Word")
-    if word == b"in":
-        return "in", number(fields[0], 65535), address(fields[1]), octets(fields[2], 0, 4352)
     if word == b"tick":
         return "tick", number(fields[0], LAST_TICK)
     if word == b"psk":
@@ -126,4 +139,34 @@ def read(place, line):
 
 def lines(script):
     """The lines, each with its end; a rest without an end is the last."""
-    return re.findall(rb"[^\n]*\n|[^\n]+", script)
+    return (found[0] for found in re.finditer(rb"[^\n]*\n|[^\n]+", script))
+
+
+class Reader:
+    """The lines of a script up to the first outside the grammar, each as itself, its word and its values. Behind them
+    `ended` is that line and its fault, or None, and `at` the octets that were read."""
+
+    def __init__(self, script):
+        self.script, self.at, self.place, self.version, self.ended = script, 0, 0, 1, None
+
+    def __iter__(self):
+        for line in lines(self.script):
+            self.place += 1
+            if self.is_end(line):
+                return
+            try:
+                word, *values = read(self.place, line, self.version, self.at)
+                self.accept(word, *values)
+            except Fault as fault:
+                self.ended = f"srtpgw: script line {self.place}: {fault}\n".encode()
+                return
+            self.at += len(line)
+            yield line, word, values
+
+    def is_end(self, line):
+        """Whether the lines end before this one, which is none of the grammar's."""
+        return False
+
+    def accept(self, word, *values):
+        if word == "header":
+            self.version, = values

@@ -3,6 +3,7 @@ from srtp import RTCP, RTP, rtp_head_len
 
 LAST_INDEX = 2**48
 LAST_RTCP_INDEX = 2**31 - 1
+SOURCES_MOST = 64
 FIRST_SEEN = object()
 
 
@@ -50,7 +51,7 @@ class Session:
             raise Drop("SsrcUnknown")
 
     def has_room(self, source):
-        return source in self.done or len(self.done) < 16
+        return source in self.done or len(self.done) < SOURCES_MOST
 
     def nearest(self, source, seq):
         """The index of a number that is nearest to the highest of its source."""

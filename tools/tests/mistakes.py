@@ -83,6 +83,8 @@ FAULTS = [
      "field 1 of `bye`, CALL: Number: the call's number has a zero in front"),
     ("one key is RAW80", manual("RAW80:" + "11" * 20), 2, 97, "Word",
      "Word: one of the two keys is `RAW80`: both are, or neither"),
+    ("a moment in version 1", "in 5 20000 10.0.0.1:4000 -\n", 2, 26, "Word", "Word: `in` has 3 field(s), PORT ADDRESS "
+     "OCTETS; here are 4: a datagram has a moment in front of its port in version 2, which begins with `srtpgw 2`"),
     ("no line end", "bye 1", 2, 6, "Unended", "Unended: the last line has no line end"),
     ("a text in clear", "offer-secure 1 - v=0\n", 2, 18, "Hex",
      "field 3 of `offer-secure`, TEXT: Hex: `v` isn't a hexadecimal digit"),
@@ -93,12 +95,21 @@ FAULTS = [
     ("CRLF behind the header", "bye 1\r\n", 2, 6, "Number",
      "Number: the line ends with a carriage return (CRLF): lines end with a line feed alone"),
 ]
+# The same in version 2.
+FAULTS_OF_2 = [
+    ("a datagram without a moment", "in 20000 10.0.0.1:4000 -\n", 2, 25, "Word", "Word: `in` has 4 field(s), MOMENT PORT "
+     "ADDRESS OCTETS; here are 3: in version 2 a datagram has its moment in front of its port"),
+    ("a moment above the last one", "in 2085978496000 20000 10.0.0.1:4000 -\n", 2, 4, "Number",
+     "field 1 of `in`, MOMENT: Number: the moment isn't of 0 to 2085978495999"),
+    ("the other header", "srtpgw 1\n", 2, 1, "Word", "Word: a header again: it stands in line 1 alone"),
+]
 # Whole files whose first line is the fault.
 HEADS = [
     ("CRLF", b"srtpgw 1\r\nbye 1\r\n", 9, "Version: the header is right, but the line ends with a carriage return (CRLF): "
      "lines end with a line feed alone"),
-    ("no header", b"bye 1\n", 1, "Version: the header is missing: line 1 is `srtpgw 1`"),
-    ("version 2", b"srtpgw 2\n", 1, "Version: the header is `srtpgw 1`, to the letter; here is `srtpgw 2`"),
+    ("no header", b"bye 1\n", 1, "Version: the header is missing: line 1 is `srtpgw 1` or `srtpgw 2`"),
+    ("version 3", b"srtpgw 3\n", 1,
+     "Version: the header is `srtpgw 1` or `srtpgw 2`, to the letter; here is `srtpgw 3`"),
     ("a byte order mark", b"\xef\xbb\xbfsrtpgw 1\n", 1,
      "Version: the file begins with a byte order mark (UTF-8): save it without one"),
     ("UTF-16", "srtpgw 1\n".encode("utf-16"), 1, "Version: the file is UTF-16: save it as plain text"),
@@ -197,15 +208,19 @@ def check_refusal(program, name, script, words, cause):
 
 
 def check_rows():
-    """Every script whose outcomes are worked out by hand."""
+    """Every script of a replay whose outcomes are worked out by hand."""
     bad, count = [], 0
     for script in sorted([*ROOT.glob("interop/rows/*.script"), *ROOT.glob("examples/*.script")]):
+        end = script.with_suffix(".end")
+        if script.with_suffix(".words").exists():
+            continue
         why = Why(script.read_bytes())
         told = [f"{call} {cause}" for _, call, cause in why.book.refused if cause.split()[0] in OF_TEXTS]
         lines = [line[8:] for line in script.with_suffix(".out").read_text().splitlines() if line.startswith("refused ")]
         wanted = [line for line in lines if line.split()[1] in OF_TEXTS]
         count += len(wanted)
-        if told != wanted or why.fault:
+        fault = f"2 srtpgw: script line {why.fault[0]}: {why.fault[1].name}\n" if why.fault else ""
+        if told != wanted or fault != (end.read_text() if end.exists() else ""):
             bad.append(f"{script.name}: {told} and not {wanted}")
     return bad, count
 
@@ -216,12 +231,14 @@ def main():
     for name, script, line, column, fault, words in FAULTS:
         assert f"{fault}: " in words
         bad += check_fault(program, name, b"srtpgw 1\n" + script.encode(), line, column, words)
+    for name, script, line, column, fault, words in FAULTS_OF_2:
+        bad += check_fault(program, name, b"srtpgw 2\n" + script.encode(), line, column, words)
     for name, script, column, words in HEADS:
         bad += check_fault(program, name, script, 1, column, words)
     for row in REFUSALS:
         bad += check_refusal(program, *row)
     print(*bad, sep="\n", end="\n" * bool(bad))
-    rows = len(FAULTS) + len(HEADS) + len(REFUSALS)
+    rows = len(FAULTS) + len(FAULTS_OF_2) + len(HEADS) + len(REFUSALS)
     print(f"mistakes: {rows} told as they are, and {count} refusals of interop/rows and examples: {len(bad)} differ")
     return bool(bad)
 
