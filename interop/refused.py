@@ -28,6 +28,8 @@ SCRIPTS = [
     "interop/rows/session-of-two-media",
     "interop/rows/keys-of-before-by-datagrams-moments",
     "interop/rows/migrated-lines-of-every-kind",
+    "interop/rows/captured-packet-in-version-2",
+    "interop/rows/captured-frames-that-are-malformed",
 ]
 
 
@@ -47,6 +49,8 @@ def play(program, shim, words, script, number=0, rest=False, count=None):
 def refuse_each(program, shim, name, room):
     """How many allocations there were, and how often each answer came."""
     script, wanted = (Path(TOP, name + end).read_bytes() for end in (".script", ".out"))
+    capture = Path(TOP, name + ".pcap")
+    script += capture.read_bytes() if capture.exists() else b""
     count, words = room / "count", words_of(name)
     if play(program, shim, words, script, count=count) != (DONE, wanted):
         sys.exit(f"{name}: other outcomes than wanted with all memory")
