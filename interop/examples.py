@@ -1,5 +1,5 @@
 #!/usr/bin/env python3
-"""Writes the scripts of `examples/` and, beside each, what `srtpgw replay` must write of it."""
+"""Writes the scripts of `examples/` and, beside each, what must be written of it."""
 from pathlib import Path
 
 from calls import (
@@ -71,6 +71,22 @@ def long_key():
     return manual(ours, theirs), [opened(ours, seq, index) for seq, index in order]
 
 
+def at(moment, row, *before):
+    """A row of version 2: the moment stands in front of the port, and what it brings about before what the datagram does."""
+    line, told = row
+    return line.replace("in ", f"in {moment} ", 1), "".join(it + "\n" for it in before) + told
+
+
+def moments():
+    """Moments on datagram lines: a packet each 20 ms, one line that is earlier than the one before, and a minute later the
+    call has ended."""
+    rows = [at(20 * n, opened(KEY, n, n)) for n in range(3)]
+    rows.append(at(39, opened(KEY, 3, 3), "refused - TickBack 40"))
+    rows.append(at(60, sealed(ONES, rtp(7), 7)))
+    rows.append(at(60_060, drop(20000, KEY.srtp(rtp(4), 4), "PortUnused"), "ended 1 0 1 idle"))
+    return manual(KEY, ONES), rows
+
+
 def main():
     for name, example, told in (
         ("raw-key", raw_key, MADE),
@@ -80,9 +96,11 @@ def main():
         ("last-index", last_index, MADE),
         ("clashing-keys", clashing_keys, "refused 1 KeyReused 0\n"),
         ("long-key", long_key, MADE),
+        ("moments", moments, MADE),
     ):
         call, rows = example()
-        (EXAMPLES / f"{name}.script").write_text("srtpgw 1\n" + call + "".join(row[0] for row in rows))
+        header = "srtpgw 2\n" if example is moments else "srtpgw 1\n"
+        (EXAMPLES / f"{name}.script").write_text(header + call + "".join(row[0] for row in rows))
         (EXAMPLES / f"{name}.out").write_text(told + "".join(row[1] for row in rows))
 
 

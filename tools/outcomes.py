@@ -125,14 +125,16 @@ def reported(octets, covers):
 
 
 def arrivals_of(octets):
-    """The datagram lines of a script, each with its moment in milliseconds; 0 before the first tick."""
+    """The datagram lines of a script, each with its moment in milliseconds: that of the tick before it, 0 before the first
+    one, or, in version 2, its own."""
     now, found = 0, []
+    is_timed = octets.startswith(b"srtpgw 2\n")
     for number, line in enumerate(lines_of(octets), 1):
         word, *fields = line.decode("latin-1").split(" ")
         try:
-            if word == "tick":
-                now = max(now, int(fields[0]))
-            elif word == "in":
+            if word == "tick" or word == "in" and is_timed:
+                now = max(now, int(fields.pop(0)))
+            if word == "in":
                 found.append(Arrival(now, int(fields[0]), fields[1], octets_of(fields[2])))
         except (IndexError, ValueError):
             raise Fault(f"line {number} of the script can't be read: tools/why.py says why") from None
