@@ -67,6 +67,7 @@ class Report:
         self.calls, self.texts, self.refusals = {}, [], []
         self.packets, self.octets = collections.Counter(), collections.Counter()
         self.drops, self.unsent = collections.Counter(), collections.Counter()
+        self.skips = collections.Counter()
         # Of each datagram in its order what became of it.
         self.datagrams = []
 
@@ -106,6 +107,10 @@ class Report:
 
     def take_unsent(self, port, address):
         self.unsent[leg_of(int(port))] += 1
+
+    def take_skip(self, record, cause):
+        """Of a capture: no datagram could be taken of this record."""
+        self.skips[cause] += 1
 
 
 def lines_of(octets):
@@ -240,6 +245,9 @@ def told(report):
     if report.unsent:
         title("Packets that couldn't be sent")
         table(("slot", "medium", "leg", "packets"), [(*leg, count) for leg, count in in_order(report.unsent)])
+    if report.skips:
+        title("Records that were skipped")
+        table(("cause", "records"), sorted(report.skips.items()))
     for call, side, text in report.texts:
         title(f"Session description of call {call} for the {side} side")
         print(text.rstrip("\n"))
