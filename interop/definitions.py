@@ -1,8 +1,9 @@
 #!/usr/bin/env python3
 """Computes definitions of specs/*.antt on values, and plays a script by them.
 
-  interop/definitions.py SCRIPT [CRATES [COMMAND]]     what a replay of SCRIPT tells, or what COMMAND writes of it (migrate),
-                                                       by the definitions in the folder CRATES
+  interop/definitions.py SCRIPT [CRATES [COMMAND]]     what a replay of SCRIPT tells, or what COMMAND writes of it (migrate;
+                                                       capture, with the capture behind it), by the definitions in
+                                                       the folder CRATES
 
 It reads clauses, records, data, lambdas, `let`, `if` and `do`; types are passed over, so it is no checker. Lists of numbers
 are tuples. The words of std are written by hand below, the block cipher and the code are those of Python, and session keys
@@ -697,7 +698,14 @@ def migrated(script):
     yield bytes(call(definition("sg_migrate.specs.Migrated", "migrated"), tuple(script)))
 
 
-COMMANDS = {"replay": replayed, "migrate": migrated}
+def captured(source):
+    """What is written of a script and the capture behind it, by the definition of their trace's text."""
+    trace = call(definition("sg_trace.specs.Captured", "captured"), tuple(source), ())
+    world, output = definition("sg_gateway.specs.World", "empty"), definition("sg_trace.specs.Captured", "output_of")
+    yield bytes(call(output, world, trace.fields["occurrences"]))
+
+
+COMMANDS = {"replay": replayed, "migrate": migrated, "capture": captured}
 
 
 def main(words):
