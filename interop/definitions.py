@@ -1,7 +1,9 @@
 #!/usr/bin/env python3
 """Computes definitions of specs/*.antt on values, and plays a script by them.
 
-  interop/definitions.py SCRIPT [CRATES]     what a replay of SCRIPT tells, by the definitions in the folder CRATES
+  interop/definitions.py SCRIPT [CRATES [COMMAND]]     what a replay of SCRIPT tells, or what COMMAND writes of it (migrate;
+                                                       capture, with the capture behind it), by the definitions in
+                                                       the folder CRATES
 
 It reads clauses, records, data, lambdas, `let`, `if` and `do`; types are passed over, so it is no checker. Lists of numbers
 are tuples. The words of std are written by hand below, the block cipher and the code are those of Python, and session keys
@@ -679,7 +681,7 @@ def definition(path, name):
     return Module.at(path).value(name)
 
 
-def told_by(script):
+def replayed(script):
     """The lines of what a replay of these octets tells, by the definitions of a trace, of a step and of an outcome's text."""
     step, line = definition("sg_gateway.specs.Step", "step"), definition("sg_outcome.specs.OutcomeText", "outcome_line")
     world = definition("sg_gateway.specs.World", "empty")
@@ -691,12 +693,28 @@ def told_by(script):
             yield bytes(call(line, outcome))
 
 
+def migrated(script):
+    """A script of version 1 in version 2, by its definition."""
+    yield bytes(call(definition("sg_migrate.specs.Migrated", "migrated"), tuple(script)))
+
+
+def captured(source):
+    """What is written of a script and the capture behind it, by the definition of their trace's text."""
+    trace = call(definition("sg_trace.specs.Captured", "captured"), tuple(source), ())
+    world, output = definition("sg_gateway.specs.World", "empty"), definition("sg_trace.specs.Captured", "output_of")
+    yield bytes(call(output, world, trace.fields["occurrences"]))
+
+
+COMMANDS = {"replay": replayed, "migrate": migrated, "capture": captured}
+
+
 def main(words):
-    if len(words) not in (1, 2):
+    if len(words) not in (1, 2, 3) or words[2:] and words[2] not in COMMANDS:
         print(__doc__, file=sys.stderr)
         return 2
     if words[1:]:
         Module.crates = words[1]
+    told_by = COMMANDS[words[2] if words[2:] else "replay"]
     with open(words[0], "rb") as file:
         for line in told_by(file.read()):
             sys.stdout.buffer.write(line)

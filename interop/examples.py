@@ -1,11 +1,13 @@
 #!/usr/bin/env python3
-"""Writes the scripts of `examples/` and, beside each, what `srtpgw replay` must write of it."""
+"""Writes the scripts of `examples/` and, beside each, what must be written of it."""
 from pathlib import Path
 
 from calls import (
     KEY, MADE, ONES, ONES_SALTED, PLAIN, RAW, RAW_OTHER,
     comes, drop, manual, opened, out, rtcp_opened, rtcp_sealed, sealed,
 )
+from captured import ARP, Captured, ethernet, frame
+from signals import MANUAL
 from srtp import KNOWN, KNOWN_SEALED, MasterKey, rtcp, rtp
 
 EXAMPLES = Path(__file__).resolve().parent.parent / "examples"
@@ -71,6 +73,42 @@ def long_key():
     return manual(ours, theirs), [opened(ours, seq, index) for seq, index in order]
 
 
+def at(moment, row, *before):
+    """A row of version 2: the moment stands in front of the port, and what it brings about before what the datagram does."""
+    line, told = row
+    return line.replace("in ", f"in {moment} ", 1), "".join(it + "\n" for it in before) + told
+
+
+def moments():
+    """Moments on datagram lines: a packet each 20 ms, one line that is earlier than the one before, and a minute later the
+    call has ended."""
+    rows = [at(20 * n, opened(KEY, n, n)) for n in range(3)]
+    rows.append(at(39, opened(KEY, 3, 3), "refused - TickBack 40"))
+    rows.append(at(60, sealed(ONES, rtp(7), 7)))
+    rows.append(at(60_060, drop(20000, KEY.srtp(rtp(4), 4), "PortUnused"), "ended 1 0 1 idle"))
+    return manual(KEY, ONES), rows
+
+
+def captured():
+    """A capture behind a script of one call: what is put out, dropped, skipped and passed over, and a minute later the call
+    has ended."""
+    s, began = Captured(), 1_764_000_000_000
+    s.says(f"tick {began}")
+    s.manual(1, KEY, ONES, MANUAL)
+    s.begins()
+    for n in range(3):
+        s.has(frame(KEY.srtp(rtp(n), n)), f"out 20002 {PLAIN} {rtp(n).hex()}", millis=began + 20 * n)
+    forged = KEY.srtp(rtp(3), 3)[:-1] + b"\0"
+    s.has(frame(forged), "drop 20000 BadTag", millis=began + 60)
+    s.has(frame(rtp(7), 20002), f"out 20000 127.0.0.1:40000 {ONES.srtp(rtp(7), 7).hex()}", millis=began + 61)
+    s.has(frame(rtp(8), 20002, host="127.0.0.2"), "drop 20002 SourceUnknown", millis=began + 81)
+    s.skips(frame(KEY.srtp(rtp(4), 4), flags=0x2000), "Fragment", millis=began + 90)
+    s.has(ethernet(bytes(28), ARP), millis=began + 95)
+    s.has(frame(b"", 53), "drop 53 PortUnused", millis=began + 99)
+    s.has(frame(KEY.srtp(rtp(5), 5)), "ended 1 0 1 idle", "drop 20000 PortUnused", millis=began + 60_061)
+    return s
+
+
 def main():
     for name, example, told in (
         ("raw-key", raw_key, MADE),
@@ -80,10 +118,17 @@ def main():
         ("last-index", last_index, MADE),
         ("clashing-keys", clashing_keys, "refused 1 KeyReused 0\n"),
         ("long-key", long_key, MADE),
+        ("moments", moments, MADE),
     ):
         call, rows = example()
-        (EXAMPLES / f"{name}.script").write_text("srtpgw 1\n" + call + "".join(row[0] for row in rows))
+        header = "srtpgw 2\n" if example is moments else "srtpgw 1\n"
+        (EXAMPLES / f"{name}.script").write_text(header + call + "".join(row[0] for row in rows))
         (EXAMPLES / f"{name}.out").write_text(told + "".join(row[1] for row in rows))
+    s, of = captured(), EXAMPLES / "captured"
+    of.with_suffix(".script").write_bytes(s.text())
+    of.with_suffix(".pcap").write_bytes(s.capture)
+    of.with_suffix(".words").write_text("capture\n")
+    of.with_suffix(".out").write_text("".join(line + "\n" for line in s.told))
 
 
 if __name__ == "__main__":

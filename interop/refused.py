@@ -3,8 +3,8 @@
 
     interop/refused.py PROGRAM [SCRIPT..]
 
-Each script (by default some of `examples` and `interop/rows`) is replayed with all memory first; its output must be
-the file beside it. Then, with the Nth allocation refused, for each N, the program must answer `no memory` (6) with a
+Each script (by default some of `examples` and `interop/rows`) is played with all memory first, by `replay` or by the words
+beside it; its output must be the file beside it. Then, with the Nth allocation refused, for each N, the program must answer `no memory` (6) with a
 prefix of that output, or, where it can do without, done (0) with the whole of it. `refuse.c` refuses."""
 
 import os
@@ -26,28 +26,39 @@ SCRIPTS = [
     "interop/rows/mikey-by-the-gateway",
     "interop/rows/mikey-by-the-peer",
     "interop/rows/session-of-two-media",
+    "interop/rows/keys-of-before-by-datagrams-moments",
+    "interop/rows/migrated-lines-of-every-kind",
+    "interop/rows/captured-packet-in-version-2",
+    "interop/rows/captured-frames-that-are-malformed",
 ]
 
 
-def replay(program, shim, script, number=0, rest=False, count=None):
+def words_of(name):
+    words = Path(TOP, name + ".words")
+    return words.read_text().split() if words.exists() else ["replay"]
+
+
+def play(program, shim, words, script, number=0, rest=False, count=None):
     told = {**os.environ, "LD_PRELOAD": shim, "REFUSE": str(number)}
     told.update({"REFUSE_REST": "1"} if rest else {})
     told.update({"REFUSE_COUNT": str(count)} if count else {})
-    ran = subprocess.run([program, "replay"], input=script, capture_output=True, env=told, timeout=60)
+    ran = subprocess.run([program, *words], input=script, capture_output=True, env=told, timeout=60)
     return ran.returncode, ran.stdout
 
 
 def refuse_each(program, shim, name, room):
     """How many allocations there were, and how often each answer came."""
     script, wanted = (Path(TOP, name + end).read_bytes() for end in (".script", ".out"))
-    count = room / "count"
-    if replay(program, shim, script, count=count) != (DONE, wanted):
+    capture = Path(TOP, name + ".pcap")
+    script += capture.read_bytes() if capture.exists() else b""
+    count, words = room / "count", words_of(name)
+    if play(program, shim, words, script, count=count) != (DONE, wanted):
         sys.exit(f"{name}: other outcomes than wanted with all memory")
     answers = {DONE: 0, NO_MEMORY: 0}
     allocations = int.from_bytes(count.read_bytes(), sys.byteorder)
     for number in range(1, allocations + 1):
         for rest in (False, True):
-            status, written = replay(program, shim, script, number, rest)
+            status, written = play(program, shim, words, script, number, rest)
             if not (status == DONE and written == wanted or status == NO_MEMORY and wanted.startswith(written)):
                 sys.exit(f"{name}: allocation {number} refused{' with all behind it' * rest}: status {status}")
             answers[status] += 1

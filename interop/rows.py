@@ -4,13 +4,15 @@ offers and answers, by crypto lines and by MIKEY messages, how they are renewed 
 keyed manually; and scripts of both versions. What must be told is worked out by hand in the parts beside this file; the
 model (`model/`), which decides every line by the rules alone, has to tell the same.
 
-A script is played by `replay`, or by the command that a file NAME.words beside it names; it is handled to its end, or
-ends as NAME.end says, with a status and a text on standard error.
+A script is played by `replay`, or by the command that a file NAME.words beside it names, then with the octets of
+NAME.pcap behind it where that is there; it is handled to its end, or ends as NAME.end says, with a status and a text on
+standard error.
 """
 from pathlib import Path
 
 import agreements
 import calls
+import captured
 import lives
 import messages
 import policies
@@ -26,23 +28,25 @@ def of_text(told):
     return told if isinstance(told, bytes) else "".join(line + "\n" for line in told).encode()
 
 
-def files(name, source, told, command="replay", end=None):
+def files(name, script, told, command="replay", end=None, capture=b""):
     """The files of a row, with their octets. The model has to tell the same."""
-    model, (status, said) = TOLD[command](source), end or (0, "")
+    model, (status, said) = TOLD[command](script + capture), end or (0, "")
     assert model.octets() == told, f"the model tells something else of {name}"
     assert (model.status, model.said.decode()) == (status, said), f"the model ends {name} otherwise"
-    yield f"{name}.script", source
+    yield f"{name}.script", script
     yield f"{name}.out", told
     if command != "replay":
         yield f"{name}.words", f"{command}\n".encode()
     if end:
         yield f"{name}.end", f"{status} {said}".encode()
+    if capture:
+        yield f"{name}.pcap", capture
 
 
 def rows():
-    for row in agreements.ALL + messages.ALL + policies.ALL + lives.ALL + ports.ALL + versions.ALL:
+    for row in agreements.ALL + messages.ALL + policies.ALL + lives.ALL + ports.ALL + versions.ALL + captured.ALL:
         s = row()
-        yield from files(row.__name__.replace("_", "-"), s.source(), of_text(s.told), s.command, s.end)
+        yield from files(row.__name__.replace("_", "-"), s.text(), of_text(s.told), s.command, s.end, s.capture)
     for name, script, told in calls.scripts():
         yield from files(name, script.encode(), told.encode())
 

@@ -109,9 +109,10 @@ class Script:
 
     def __init__(self, version=1, command="replay"):
         self.command, self.lines, self.told, self.end = command, [f"srtpgw {version}"], [], None
+        # Octets behind the lines.
+        self.capture = b""
 
-    def source(self):
-        """The octets that are played."""
+    def text(self):
         return "".join(line + "\n" for line in self.lines).encode()
 
     def says(self, line, *told):

@@ -67,6 +67,7 @@ class Report:
         self.calls, self.texts, self.refusals = {}, [], []
         self.packets, self.octets = collections.Counter(), collections.Counter()
         self.drops, self.unsent = collections.Counter(), collections.Counter()
+        self.skips = collections.Counter()
         # Of each datagram in its order what became of it.
         self.datagrams = []
 
@@ -107,6 +108,10 @@ class Report:
     def take_unsent(self, port, address):
         self.unsent[leg_of(int(port))] += 1
 
+    def take_skip(self, record, cause):
+        """Of a capture: no datagram could be taken of this record."""
+        self.skips[cause] += 1
+
 
 def lines_of(octets):
     """The lines of a file, which line feeds alone end."""
@@ -125,14 +130,16 @@ def reported(octets, covers):
 
 
 def arrivals_of(octets):
-    """The datagram lines of a script, each with its moment in milliseconds; 0 before the first tick."""
+    """The datagram lines of a script, each with its moment in milliseconds: that of the tick before it, 0 before the first
+    one, or, in version 2, its own."""
     now, found = 0, []
+    is_timed = octets.startswith(b"srtpgw 2\n")
     for number, line in enumerate(lines_of(octets), 1):
         word, *fields = line.decode("latin-1").split(" ")
         try:
-            if word == "tick":
-                now = max(now, int(fields[0]))
-            elif word == "in":
+            if word == "tick" or word == "in" and is_timed:
+                now = max(now, int(fields.pop(0)))
+            if word == "in":
                 found.append(Arrival(now, int(fields[0]), fields[1], octets_of(fields[2])))
         except (IndexError, ValueError):
             raise Fault(f"line {number} of the script can't be read: tools/why.py says why") from None
@@ -238,6 +245,9 @@ def told(report):
     if report.unsent:
         title("Packets that couldn't be sent")
         table(("slot", "medium", "leg", "packets"), [(*leg, count) for leg, count in in_order(report.unsent)])
+    if report.skips:
+        title("Records that were skipped")
+        table(("cause", "records"), sorted(report.skips.items()))
     for call, side, text in report.texts:
         title(f"Session description of call {call} for the {side} side")
         print(text.rstrip("\n"))

@@ -126,6 +126,8 @@ def sentence(outcome, advises=False):
         return f"port {rest[0]} couldn't send to {rest[1]}: {worded('line', 'unsent', advises)}"
     if word == "ended":
         return f"call {rest[0]} has ended ({rest[3]}): {worded('line', 'ended ' + rest[3], advises)}"
+    if word == "skip":
+        return f"record {rest[0]} of the capture is skipped ({rest[1]}): {worded('line', 'skip ' + rest[1], advises)}"
     short = {"made": "call {} is there, in slot {}", "live": "call {} is live", "sdp": "a text of call {} for the {} side",
              "out": "port {} put a packet out"}
     if word not in short:

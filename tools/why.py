@@ -3,6 +3,7 @@
 and in words.
 
     python3 tools/why.py call.script
+    python3 tools/why.py --capture call.script     # one for the command `capture`, with the capture behind it or without
     python3 tools/why.py --secure alice.sdp        # a text of the secure side by itself, as an offer
     python3 tools/why.py --plain bob.sdp
 
@@ -28,6 +29,7 @@ from texts import PLAIN, SALT, SECURE, looked_at
 
 LINE_MOST, SCRIPT_MOST, NOISE = 70_000, 2**30, 304
 LAST_TICK, PORT_MOST = 2_085_978_495_999, 65_535
+CAPTURE = "capture"
 HEADERS = {"srtpgw 1": 1, "srtpgw 2": 2}
 # The fields behind each first word; those of `offer-plain` hang on its third word, and a datagram's on the version.
 DATAGRAMS = {1: "PORT ADDRESS OCTETS", 2: "MOMENT PORT ADDRESS OCTETS"}
@@ -192,6 +194,8 @@ def word_fault(line, word):
     known = [*FIELDS, "offer-plain"]
     if not line:
         return Fault("Word", 0, "the line is empty: a script has no empty lines")
+    if line == CAPTURE:
+        return Fault("Word", 0, "a capture follows: the command `capture` alone takes one (here: `--capture`)")
     if line[0] in "#;" or line.startswith("//"):
         return Fault("Word", 0, "a comment: a script has none")
     if line in HEADERS:
@@ -409,11 +413,13 @@ def at(line, column):
 class Why:
     """What is to be said of a script: remarks by line, and the first fault."""
 
-    def __init__(self, octets_):
+    def __init__(self, octets_, is_captured=False):
         self.remarks, self.fault, self.further, self.book = [], None, 0, Book()
         begun, version = 0, 1
         for place, line in enumerate(re.findall(rb"[^\n]*\n|[^\n]+", octets_), 1):
             begun += len(line)
+            if is_captured and place > 1 and line == CAPTURE.encode() + b"\n":
+                break
             try:
                 if begun > SCRIPT_MOST:
                     raise Fault("Length", SCRIPT_MOST - begun + len(line), f"the script has more than {SCRIPT_MOST} octets")
@@ -443,6 +449,7 @@ def words():
     parser = argparse.ArgumentParser(description="says why the gateway doesn't take a script or a session description")
     what = parser.add_mutually_exclusive_group(required=True)
     what.add_argument("script", nargs="?", help="a script, or - for standard input")
+    parser.add_argument("--capture", action="store_true", help="a line `capture` ends the script")
     what.add_argument("--secure", metavar="SDP", help="a session description of the secure side, as an offer")
     what.add_argument("--plain", metavar="SDP", help="one of the plain side")
     return parser
@@ -457,7 +464,7 @@ def main():
     except OSError as fault:
         print(f"why.py: {fault}", file=sys.stderr)
         sys.exit(2)
-    said = Why(octets_).lines() if given.script else told(looked_at(octets_, SECURE if given.secure else PLAIN))
+    said = Why(octets_, given.capture).lines() if given.script else told(looked_at(octets_, SECURE if given.secure else PLAIN))
     for line in said:
         print(line)
     sys.exit(1 if said else 0)

@@ -2,10 +2,10 @@
 
 It keeps every list whole and decides each event by the rules alone: `scripts.py` reads the lines of a script,
 `texts.py` session descriptions, `crypto.py` crypto lines, `messages.py` MIKEY messages; `sessions.py` opens and
-seals packets; `world.py` has the calls, `replay.py` what a replay of a script writes and how it ends, and `migration.py`
-what a migration does. Nothing here is of srtpgw, and srtpgw has nothing of this.
+seals packets; `world.py` has the calls, `replay.py` what a replay of a script writes and how it ends, `migration.py`
+what a migration does, and `captures.py` what captured datagrams behind a script tell. Nothing here is of srtpgw, and srtpgw has nothing of this.
 """
-from . import migration, replay
+from . import captures, migration, replay
 
 # What each command that a script alone decides writes, and how it ends.
-TOLD = {"replay": replay.Told, "migrate": migration.Told}
+TOLD = {"replay": replay.Told, "migrate": migration.Told, "capture": captures.Told}

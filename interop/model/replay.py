@@ -21,12 +21,12 @@ class Told:
         if lines.ended:
             self.status, self.said = 2, lines.ended
         else:
-            self.follow(script[lines.at:])
+            self.follow(script[lines.at:], lines)
 
     def told(self, word, *values):
         return told(self.world, word, *values)
 
-    def follow(self, rest):
+    def follow(self, rest, lines):
         """What comes behind the last line: nothing."""
 
     def octets(self):

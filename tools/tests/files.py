@@ -115,6 +115,17 @@ def call(program, folder):
     return script, out
 
 
+def with_moments(script):
+    """A script of version 1 as one of version 2 that has no ticks."""
+    now, made = b"0", []
+    for line in script.split(b"\n")[1:]:
+        if line.startswith(b"tick "):
+            now = line[5:]
+        else:
+            made.append(line.replace(b"in ", b"in " + now + b" ", 1) if line.startswith(b"in ") else line)
+    return b"\n".join([b"srtpgw 2", *made])
+
+
 def row_of(lines, *begins):
     return next((line.split() for line in lines if line.split()[:len(begins)] == list(begins)), [])
 
@@ -133,6 +144,9 @@ def reports(script, out, folder):
     assert late == [0, 0, 0, 25, 0, 16, 0]
     wanted = ["7", "1", "0", "1", f"{jitter:.1f}", "0", "25"]
     check("loss, order, jitter and lateness", row_of(lines, "0", "0", "plain", "RTP", "0000cafe")[5:] == wanted)
+    timed = folder / "timed.script"
+    timed.write_bytes(with_moments(script.read_bytes()))
+    check("the same of a script of version 2", tool("outcomes.py", out, "--script", timed)[1] == tool("outcomes.py", out, "--script", script)[1])
     check("drops by second", "0       BadTag      1" in lines and "0       PortUnused  1" in lines)
 
 
