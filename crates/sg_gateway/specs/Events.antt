@@ -52,10 +52,12 @@ events_of_signal signal = if signal_lacks_noise signal then [] else Signalled (s
 
 -- ---- lines
 
--- the events of a line: none of the header
+-- the events of a line: none of a header; of a datagram with its moment a tick, and then the datagram
 abbrev pub events_of : Line → List Event
 events_of lines.Header = []
+events_of lines.HeaderTwo = []
 events_of (lines.Datagram port from octets) = Datagram port from (as_octets octets) ∷ []
+events_of (lines.DatagramAt now port from octets) = Signalled (signals.Tick now) ∷ Datagram port from (as_octets octets) ∷ []
 events_of (lines.Signal signal) = events_of_signal signal
 
 -- what the events tell, from a world on
