@@ -1,5 +1,5 @@
 -- How a capture is read from its front: what its first octets say stays, whatever comes behind them.
-use Rattle.std.proofs.Common.{◌≡◌, ◌⊎◌, ◌+◌, ◌-◌, ◌*◌, ◌≤◌, ◌<◌, ℕ, zero, suc, Bool, true, cond, not, eqb, ltb, List, [], ◌∷◌, ◌++◌, length, take, drop, slice_index, Option, Some, None, Result, Ok, Err, refl, sym, ap, ◌∙◌, subst, inl, inr, arith, length-append}
+use Rattle.std.proofs.Common.{◌≡◌, ◌⊎◌, ◌+◌, ◌-◌, ◌*◌, ◌≤◌, ◌<◌, ℕ, zero, suc, Bool, true, false, cond, not, eqb, ltb, List, [], ◌∷◌, ◌++◌, length, take, drop, slice_index, Option, Some, None, Result, Ok, Err, refl, sym, ap, ◌∙◌, subst, inl, inr, arith, length-append}
 use Rattle.std.specs.Prelude.{◌/◌, min}
 use Rattle.std.proofs.Math.Seq.{take-append_seam, take-append-add, drop-append_seam, take-length}
 use Rattle.std.proofs.lemmas.Bool.{cases_lt, cond-true, cond-false, le-ltb, lt-ltb, ltb-false, ltb-true}
@@ -252,6 +252,26 @@ record_front form xs more long =
     let b = u32_front form.big xs more 4 (omega (arith, long)) in
     let c = u32_front form.big xs more 8 (omega (arith, long)) in
     λ i. said form (a i) (b i) (c i)
+
+-- ---- how many octets a record has
+
+pub length_front : (form : Form) (xs more : List ℕ) → 12 ≤ length xs → record_length form (xs ++ more) ≡ record_length form xs
+length_front form xs more long =
+    cond-false (ltb (length (xs ++ more)) 12) _ _ (le-ltb (length (xs ++ more)) 12 (omega (arith, long, length-append xs more)))
+    ∙ ap length_by (record_front form xs more long)
+    ∙ sym (cond-false (ltb (length xs) 12) 16 (length_by (record_of form xs)) (le-ltb (length xs) 12 long))
+
+pub length_least : (form : Form) (xs : List ℕ) → 16 ≤ record_length form xs
+length_least form xs = by_bit (ltb (length xs) 12) (record_of form xs)
+  where
+    by_answer : (r : Result Record CaptureFault) → 16 ≤ length_by r
+    by_answer (Err f) = omega arith
+    by_answer (Ok r) = omega arith
+    by_bit : (b : Bool) (r : Result Record CaptureFault) → 16 ≤ cond b 16 (length_by r)
+    by_bit true r = omega arith
+    by_bit false r = by_answer r
+
+-- ---- faults of records
 
 too_long : (form : Form) (xs : List ℕ) (f : CaptureFault) → record_of form xs ≡ Err f → ¬ (f ≡ Cut)
 too_long form xs f is same = elim (chosen (ltb 262144 (u32_at form.big xs 8)) _ _ (Err f) is) [

@@ -20,35 +20,35 @@ use Rattle.sg_trace.specs.Reading.{FirstFails}
 abbrev pub too_far : ℕ → List ℕ → Bool
 too_far at line = ltb (2 ^ 30) (at + length line)
 
-pub at_is : (n at : ℕ) (line : List ℕ) → line_at n at line ≡ cond (too_far at line) (Err Length) (line_of n line)
+pub at_is : (version n at : ℕ) (line : List ℕ) → line_at version n at line ≡ cond (too_far at line) (Err Length) (line_of version n line)
 unfolding line_at
-at_is n at line = refl
+at_is version n at line = refl
 
-at_long : (n at : ℕ) (line : List ℕ) → 70000 < length line → line_at n at line ≡ Err Length
-at_long n at line long = at_is n at line ∙ ap (λ r. cond (too_far at line) (Err Length) r) (too_long n line long) ∙ both (too_far at line)
+at_long : (version n at : ℕ) (line : List ℕ) → 70000 < length line → line_at version n at line ≡ Err Length
+at_long version n at line long = at_is version n at line ∙ ap (λ r. cond (too_far at line) (Err Length) r) (too_long version n line long) ∙ both (too_far at line)
   where
     both : (b : Bool) → (let r : Result Line ScriptFault = cond b (Err Length) (Err Length) in r) ≡ Err Length
     both true = refl
     both false = refl
 
-pub at_far : (n at : ℕ) (line : List ℕ) → too_far at line ≡ true → line_at n at line ≡ Err Length
-at_far n at line far = at_is n at line ∙ cond-true _ _ _ far
+pub at_far : (version n at : ℕ) (line : List ℕ) → too_far at line ≡ true → line_at version n at line ≡ Err Length
+at_far version n at line far = at_is version n at line ∙ cond-true _ _ _ far
 
-at_open : (n at : ℕ) (line : List ℕ) → too_far at line ≡ false → NoEnd line → length line ≤ 70000 → line_at n at line ≡ Err Unended
-at_open n at line near none short = at_is n at line ∙ cond-false _ _ _ near ∙ open_line n line none short
+at_open : (version n at : ℕ) (line : List ℕ) → too_far at line ≡ false → NoEnd line → length line ≤ 70000 → line_at version n at line ≡ Err Unended
+at_open version n at line near none short = at_is version n at line ∙ cond-false _ _ _ near ∙ open_line version n line none short
 
-data Opening (n at : ℕ) (line : List ℕ) : Type 0 where
-  IsFar : too_far at line ≡ true → Opening n at line
-  IsLong : 70000 < length line → Opening n at line
-  IsOpen : line_at n at line ≡ Err Unended → Opening n at line
+data Opening (version n at : ℕ) (line : List ℕ) : Type 0 where
+  IsFar : too_far at line ≡ true → Opening version n at line
+  IsLong : 70000 < length line → Opening version n at line
+  IsOpen : line_at version n at line ≡ Err Unended → Opening version n at line
 
 -- an unended line is too far, too long or unended
-opening : (n at : ℕ) (line : List ℕ) → NoEnd line → Opening n at line
-opening n at line none = elim (cases_Bool (too_far at line)) [
+opening : (version n at : ℕ) (line : List ℕ) → NoEnd line → Opening version n at line
+opening version n at line none = elim (cases_Bool (too_far at line)) [
   | inl far ↦ IsFar far
   | inr near ↦ elim (cases_lt 70000 (length line)) [
     | inl long ↦ IsLong long
-    | inr short ↦ IsOpen (at_open n at line near none short)
+    | inr short ↦ IsOpen (at_open version n at line near none short)
   ]
 ]
 
@@ -60,30 +60,30 @@ abbrev pub IsLine : List ℕ → List ℕ → Type 0 → Type 0
 IsLine line rest ended = IsWhole line ⊎ (NoEnd line × (0 < length line) × (((rest ≡ []) × ended) ⊎ (70000 < length line)))
 
 -- what says something is whole, and lies in the first 2^30 octets
-pub line_whole : (n at : ℕ) (line rest : List ℕ) (ended : Type 0) (l : Line) → IsLine line rest ended → line_at n at line ≡ Ok l → IsWhole line × (at + length line ≤ 2 ^ 30)
-line_whole n at line rest ended l (inl whole) is = (whole, at_bit (too_far at line) refl (sym (at_is n at line) ∙ is))
+pub line_whole : (version n at : ℕ) (line rest : List ℕ) (ended : Type 0) (l : Line) → IsLine line rest ended → line_at version n at line ≡ Ok l → IsWhole line × (at + length line ≤ 2 ^ 30)
+line_whole version n at line rest ended l (inl whole) is = (whole, at_bit (too_far at line) refl (sym (at_is version n at line) ∙ is))
   where
-    at_bit : (b : Bool) → too_far at line ≡ b → cond b (Err Length) (line_of n line) ≡ Ok l → at + length line ≤ 2 ^ 30
+    at_bit : (b : Bool) → too_far at line ≡ b → cond b (Err Length) (line_of version n line) ≡ Ok l → at + length line ≤ 2 ^ 30
     at_bit true was said = absurd (err_ok _ _ said)
     at_bit false was said = ltb-false _ _ was
-line_whole n at line rest ended l (inr unended) is = absurd (elim (opening n at line unended.0) [
-  | IsFar far ↦ err_ok _ _ (sym (at_far n at line far) ∙ is)
-  | IsLong long ↦ err_ok _ _ (sym (at_long n at line long) ∙ is)
+line_whole version n at line rest ended l (inr unended) is = absurd (elim (opening version n at line unended.0) [
+  | IsFar far ↦ err_ok _ _ (sym (at_far version n at line far) ∙ is)
+  | IsLong long ↦ err_ok _ _ (sym (at_long version n at line long) ∙ is)
   | IsOpen open_so ↦ err_ok _ _ (sym open_so ∙ is)
 ])
 
 -- the first line of all the octets has the fault
-pub first_fails : (n at : ℕ) (line rest : List ℕ) (ended : Type 0) (fault : ScriptFault) → IsLine line rest ended → line_at n at line ≡ Err fault → FirstFails n at (line ++ rest) fault
-first_fails n at line rest ended fault (inl whole) is = record { line = line; others = lines_of rest; split = lines_of_whole line rest whole; fails = is }
-first_fails n at line rest ended fault (inr (none, some, inl end)) is =
+pub first_fails : (version n at : ℕ) (line rest : List ℕ) (ended : Type 0) (fault : ScriptFault) → IsLine line rest ended → line_at version n at line ≡ Err fault → FirstFails version n at (line ++ rest) fault
+first_fails version n at line rest ended fault (inl whole) is = record { line = line; others = lines_of rest; split = lines_of_whole line rest whole; fails = is }
+first_fails version n at line rest ended fault (inr (none, some, inl end)) is =
     record { line = line; others = []; split = ap (λ (l : List ℕ). lines_of (line ++ l)) end.0 ∙ ap lines_of (append-nil line) ∙ lines_of_rest line none some; fails = is }
-first_fails n at line rest ended fault (inr (none, some, inr long)) is =
+first_fails version n at line rest ended fault (inr (none, some, inr long)) is =
     let begun = begins line rest none some in
     record {
       line = line ++ begun.more;
       others = begun.others;
       split = begun.split;
-      fails = at_long n at (line ++ begun.more) (omega (arith, long, length-append line begun.more)) ∙ sym (at_long n at line long) ∙ is;
+      fails = at_long version n at (line ++ begun.more) (omega (arith, long, length-append line begun.more)) ∙ sym (at_long version n at line long) ∙ is;
     }
 
 length_unended : Length ≡ Unended → ⊥
@@ -93,39 +93,39 @@ fault_is : {A : Type 0} (f g : ScriptFault) → (let r : Result A ScriptFault = 
 fault_is f g is = cc
 
 -- an unended line is told only at the end
-pub unended_at_end : (n at : ℕ) (line rest : List ℕ) (ended : Type 0) → IsLine line rest ended → line_at n at line ≡ Err Unended → (rest ≡ []) × ended × (at + length line ≤ 2 ^ 30)
-unended_at_end n at line rest ended (inl whole) is = absurd (at_bit (too_far at line) (sym (at_is n at line) ∙ is))
+pub unended_at_end : (version n at : ℕ) (line rest : List ℕ) (ended : Type 0) → IsLine line rest ended → line_at version n at line ≡ Err Unended → (rest ≡ []) × ended × (at + length line ≤ 2 ^ 30)
+unended_at_end version n at line rest ended (inl whole) is = absurd (at_bit (too_far at line) (sym (at_is version n at line) ∙ is))
   where
-    at_bit : (b : Bool) → cond b (Err Length) (line_of n line) ≡ Err Unended → ⊥
+    at_bit : (b : Bool) → cond b (Err Length) (line_of version n line) ≡ Err Unended → ⊥
     at_bit true is = length_unended (fault_is _ _ is)
-    at_bit false is = whole_line n line whole is
-unended_at_end n at line rest ended (inr (none, some, inl (last, end))) is = (last, end, within (too_far at line) refl)
+    at_bit false is = whole_line version n line whole is
+unended_at_end version n at line rest ended (inr (none, some, inl (last, end))) is = (last, end, within (too_far at line) refl)
   where
     within : (b : Bool) → too_far at line ≡ b → at + length line ≤ 2 ^ 30
-    within true far = absurd (length_unended (fault_is _ _ (sym (at_far n at line far) ∙ is)))
+    within true far = absurd (length_unended (fault_is _ _ (sym (at_far version n at line far) ∙ is)))
     within false near = ltb-false _ _ near
-unended_at_end n at line rest ended (inr (none, some, inr long)) is = absurd (length_unended (fault_is _ _ (sym (at_long n at line long) ∙ is)))
+unended_at_end version n at line rest ended (inr (none, some, inr long)) is = absurd (length_unended (fault_is _ _ (sym (at_long version n at line long) ∙ is)))
 
 further : (at : ℕ) (line more : List ℕ) → too_far at line ≡ true → too_far at (line ++ more) ≡ true
 further at line more is = lt-ltb (2 ^ 30) (at + length (line ++ more)) (let b = ltb-true (2 ^ 30) (at + length line) is in omega (arith, b, length-append line more))
 
 -- a fault other than a missing end stays, whatever comes
-pub still_fails : (n at : ℕ) (line rest : List ℕ) (ended : Type 0) (fault : ScriptFault) → IsLine line rest ended → line_at n at line ≡ Err fault → ¬ (fault ≡ Unended)
-    → (more : List ℕ) → FirstFails n at (line ++ more) fault
-still_fails n at line rest ended fault (inl whole) is not_end more = record { line = line; others = lines_of more; split = lines_of_whole line more whole; fails = is }
-still_fails n at line rest ended fault (inr unended) is not_end more = at_opening (opening n at line unended.0)
+pub still_fails : (version n at : ℕ) (line rest : List ℕ) (ended : Type 0) (fault : ScriptFault) → IsLine line rest ended → line_at version n at line ≡ Err fault → ¬ (fault ≡ Unended)
+    → (more : List ℕ) → FirstFails version n at (line ++ more) fault
+still_fails version n at line rest ended fault (inl whole) is not_end more = record { line = line; others = lines_of more; split = lines_of_whole line more whole; fails = is }
+still_fails version n at line rest ended fault (inr unended) is not_end more = at_opening (opening version n at line unended.0)
   where
-    at_opening : Opening n at line → FirstFails n at (line ++ more) fault
+    at_opening : Opening version n at line → FirstFails version n at (line ++ more) fault
     at_opening (IsFar far) =
         let begun = begins line more unended.0 unended.1 in
-        record { line = line ++ begun.more; others = begun.others; split = begun.split; fails = at_far n at (line ++ begun.more) (further at line begun.more far) ∙ sym (at_far n at line far) ∙ is }
+        record { line = line ++ begun.more; others = begun.others; split = begun.split; fails = at_far version n at (line ++ begun.more) (further at line begun.more far) ∙ sym (at_far version n at line far) ∙ is }
     at_opening (IsLong long) =
         let begun = begins line more unended.0 unended.1 in
-        record { line = line ++ begun.more; others = begun.others; split = begun.split; fails = at_long n at (line ++ begun.more) (omega (arith, long, length-append line begun.more)) ∙ sym (at_long n at line long) ∙ is }
+        record { line = line ++ begun.more; others = begun.others; split = begun.split; fails = at_long version n at (line ++ begun.more) (omega (arith, long, length-append line begun.more)) ∙ sym (at_long version n at line long) ∙ is }
     at_opening (IsOpen open_so) = absurd (not_end (fault_is _ _ (sym is ∙ open_so)))
 
 -- what reading gives is what the line says
-pub gives_at : (n at : ℕ) (line : List ℕ) (r : Result Line ReadLineFault) → too_far at line ≡ false → Gives r (line_of n line) → Gives r (line_at n at line)
-gives_at n at line (Ok l) near is = at_is n at line ∙ cond-false _ _ _ near ∙ is
-gives_at n at line (Err faults.NoMemory) near is = tt
-gives_at n at line (Err (faults.Script f)) near is = at_is n at line ∙ cond-false _ _ _ near ∙ is
+pub gives_at : (version n at : ℕ) (line : List ℕ) (r : Result Line ReadLineFault) → too_far at line ≡ false → Gives r (line_of version n line) → Gives r (line_at version n at line)
+gives_at version n at line (Ok l) near is = at_is version n at line ∙ cond-false _ _ _ near ∙ is
+gives_at version n at line (Err faults.NoMemory) near is = tt
+gives_at version n at line (Err (faults.Script f)) near is = at_is version n at line ∙ cond-false _ _ _ near ∙ is

@@ -7,9 +7,10 @@ use Rattle.sg_base.specs.declared.faults.ScriptFault.TheVariants.{Word, Number, 
 use Rattle.sg_edge.specs.Links.{Received}
 use Rattle.sg_edge.specs.Told.{AtEnd, TookIn}
 use Rattle.sg_gateway.specs.Drawn.{Supplied, supplied}
+use Rattle.sg_lines.specs.LineOf.{version_after}
 use Rattle.sg_lines.specs.ScriptLines.{lines_of}
 use Rattle.sg_lines.specs.declared.lines.Line.{Line}
-use Rattle.sg_trace.specs.Trace.{AtFault, Command, Trace, Later, Outside, Relays, Replays, after_line, trace_from, handled_as, line_at, moment_of, replayed, said_by, wait_in, waited, woven}
+use Rattle.sg_trace.specs.Trace.{AtCapture, AtFault, Command, Trace, Later, Outside, Relays, Replays, after_line, begins_capture, trace_from, handled_as, line_at, line_in, moment_of, replayed, said_by, stopped, wait_in, waited, woven}
 use Rattle.sg_trace.specs.Grammar.{IsScript, fault_after, fault_from, fault_in}
 
 -- what follows tells no such fault
@@ -36,24 +37,31 @@ module _ (n : ℕ) (f : ScriptFault) where
   in_said l (Some until) later none top o is = in_wait until later none o.readings o.receipts top o.draws is
   in_said l None later none top o is = in_line (supplied o.draws l) later none top o is
 
-  in_lines : (k : Command) (m at : ℕ) (ls : List (List ℕ)) → (fault_from m at ls ≡ Some (n, f) → ⊥) → (top : ℕ) (o : Outside) → (trace_from k m at ls top o).stop ≡ AtFault n f → ⊥
-  in_lines k m at [] none top o is = absurd cc
-  in_lines k m at (l ∷ ls) none top o is = by_line (line_at m at l) (λ none. in_lines k (m + 1) (at + length l) ls none) none is
+  in_lines : (k : Command) (version m at : ℕ) (ls : List (List ℕ)) → (fault_from k version m at ls ≡ Some (n, f) → ⊥) → (top : ℕ) (o : Outside) → (trace_from k version m at ls top o).stop ≡ AtFault n f → ⊥
+  in_lines k version m at [] none top o is = absurd cc
+  in_lines k version m at (l ∷ ls) none top o is = by_test (begins_capture k m at l) (line_at version m at l) (λ v none. in_lines k v (m + 1) (at + length l) ls none) none is
     where
-      by_line : (r : Result Line ScriptFault) → ((fault_from (m + 1) (at + length l) ls ≡ Some (n, f) → ⊥) → Spares (trace_from k (m + 1) (at + length l) ls) n f) → (fault_after m r (fault_from (m + 1) (at + length l) ls) ≡ Some (n, f) → ⊥)
-          → (after_line k m r (trace_from k (m + 1) (at + length l) ls) top o).stop ≡ AtFault n f → ⊥
+      by_line : (r : Result Line ScriptFault) → ((v : ℕ) → (fault_from k v (m + 1) (at + length l) ls ≡ Some (n, f) → ⊥) → Spares (trace_from k v (m + 1) (at + length l) ls) n f)
+          → (fault_after version m r (λ v. fault_from k v (m + 1) (at + length l) ls) ≡ Some (n, f) → ⊥)
+          → (after_line k version m r (λ v. trace_from k v (m + 1) (at + length l) ls) top o).stop ≡ AtFault n f → ⊥
       by_line (Err e) again none is = none (let same : AtFault m e ≡ AtFault n f = is in cc)
-      by_line (Ok l') again none is = in_said l' (wait_in k l') (trace_from k (m + 1) (at + length l) ls) (again none) top o is
+      by_line (Ok l') again none is = in_said (line_in k l') (wait_in k l') (trace_from k (version_after version l') (m + 1) (at + length l) ls) (again (version_after version l') none) top o is
+
+      by_test : (b : Bool) (r : Result Line ScriptFault) → ((v : ℕ) → (fault_from k v (m + 1) (at + length l) ls ≡ Some (n, f) → ⊥) → Spares (trace_from k v (m + 1) (at + length l) ls) n f)
+          → (cond b None (fault_after version m r (λ v. fault_from k v (m + 1) (at + length l) ls)) ≡ Some (n, f) → ⊥)
+          → (cond b (stopped (AtCapture (at + length l)) o) (after_line k version m r (λ v. trace_from k v (m + 1) (at + length l) ls) top o)).stop ≡ AtFault n f → ⊥
+      by_test true r again none is = absurd (let other : AtCapture (at + length l) ≡ AtFault n f = is in cc)
+      by_test false r again none is = by_line r again none is
 
   none_some : (let none : Option (ℕ × ScriptFault) = None in none ≡ Some (n, f)) → ⊥
   none_some is = cc
 
   pub in_replay : (octets draws : List ℕ) → IsScript octets → (replayed octets draws).stop ≡ AtFault n f → ⊥
-  in_replay octets draws script is = in_lines Replays 1 0 (lines_of octets) (λ e. none_some (sym script ∙ e)) 0 _ is
+  in_replay octets draws script is = in_lines Replays 1 1 0 (lines_of octets) (λ e. none_some (sym script ∙ e)) 0 _ is
 
   pub in_relay : (octets readings : List ℕ) (receipts : List Received) (draws : List ℕ) → IsScript octets → (woven octets readings receipts draws).stop ≡ AtFault n f → ⊥
   in_relay octets [] receipts draws script is = absurd cc
-  in_relay octets (r ∷ rs) receipts draws script is = in_lines (Relays (moment_of r)) 1 0 (lines_of octets) (λ e. none_some (sym script ∙ e)) (moment_of r) _ is
+  in_relay octets (r ∷ rs) receipts draws script is = in_lines (Relays (moment_of r)) 1 1 0 (lines_of octets) (λ e. none_some (sym script ∙ e)) (moment_of r) _ is
 
 -- ---- what was read of a source
 
@@ -75,10 +83,10 @@ pub no_fault : (left left' : Option (List ℕ)) (octets all rest : List ℕ) (fa
 no_fault left left' octets all rest fault fails took told told' script spares here ended still =
     let told_so : left ≡ Some (octets ++ rest) = took rest told' in
     let same : all ≡ octets ++ rest = (let both : Some all ≡ Some (octets ++ rest) = sym told ∙ told_so in cc) in
-    let whole : IsScript (octets ++ rest) = ap fault_in (sym same) ∙ script in
+    let whole : IsScript (octets ++ rest) = ap (fault_in Replays) (sym same) ∙ script in
     elim (either fault) [
       | inl end ↦
           let octets_are : octets ++ rest ≡ octets = ap (λ (l : List ℕ). octets ++ l) (none_left left' rest (ended end) told') ∙ append-nil octets in
-          spares octets (ap fault_in (sym octets_are) ∙ whole) here
+          spares octets (ap (fault_in Replays) (sym octets_are) ∙ whole) here
       | inr other ↦ spares (octets ++ rest) whole (still other rest)
     ]

@@ -2,12 +2,12 @@
 use Rattle.std.proofs.Common.{◌≡◌, ◌⊎◌, ◌+◌, ◌-◌, ◌≤◌, ◌<◌, ℕ, true, false, List, [], ◌∷◌, ◌++◌, length, take, drop, sym, ap, ◌∙◌, subst, inl, inr, arith, append_assoc, length-append}
 use Rattle.std.specs.Prelude.{min}
 use Rattle.std.proofs.lemmas.Bool.{false≢true, eq-eqb, cases_lt}
-use Rattle.std.proofs.lemmas.List.{length-take-le, length-drop, drop-take, drop-drop, take-append-le}
+use Rattle.std.proofs.lemmas.List.{length-take, length-take-le, length-drop, drop-take, drop-drop, take-append-le}
 use Rattle.std.proofs.Math.ListN.{drop_of_length-le}
 use Rattle.std.proofs.Math.Seq.{take-append_seam, drop-append_seam}
 use Rattle.sg_base.specs.Fields.{Lacks}
 use Rattle.sg_lines.specs.ScriptLines.{NoEnd}
-use Rattle.sg_trace.specs.Fed.{EndsLine}
+use Rattle.sg_trace.specs.Fed.{EndsLine, HasMoved}
 
 no_end : (xs : List ℕ) → Lacks 10 xs → NoEnd xs
 no_end [] lacks = tt
@@ -44,6 +44,10 @@ all_or_most waiting most m is =
       | inl lt ↦ inr (length-take-le m waiting (omega (arith, is, lt)) ∙ omega (arith, is, lt))
       | inr le ↦ inl (drop_of_length-le waiting (omega (arith, is, le)))
     ]
+
+-- so many octets at the prefix, or all
+pub moved_part : (waiting : List ℕ) (most m : ℕ) → m ≡ min (length waiting) most → HasMoved (take m waiting) (drop m waiting) most
+moved_part waiting most m is = (omega (arith, is, length-take m waiting), all_or_most waiting most m is)
 
 -- what is left of a part of a row behind its first octets
 pub behind_part : (row : List ℕ) (at end count : ℕ) → at ≤ end → end ≤ length row → count ≤ length (take (end - at) (drop at row))

@@ -1,5 +1,5 @@
 -- How a trace goes on, line by line.
-use Rattle.std.proofs.Common.{◌≡◌, ◌<◌, ◌+◌, ℕ, List, [], ◌∷◌, ◌++◌, length, Ok, refl, sym, ap, ◌∙◌, append_assoc, length-append, arith}
+use Rattle.std.proofs.Common.{◌≡◌, ◌<◌, ◌+◌, ℕ, false, List, [], ◌∷◌, ◌++◌, length, Ok, refl, sym, ap, ◌∙◌, append_assoc, length-append, arith}
 use Rattle.std.specs.List.{flat_map}
 use Rattle.std.proofs.lemmas.Grind.{flat_map-append}
 use Rattle.sg_base.specs.declared.faults.ScriptFault.{ScriptFault}
@@ -8,10 +8,12 @@ use Rattle.sg_gateway.specs.Runs.{Turn, outcomes, turns_from, world_after}
 use Rattle.sg_gateway.specs.Step.{Event, step}
 use Rattle.sg_gateway.specs.World.{World, empty}
 use Rattle.sg_lines.proofs.Splits.{lines_of_whole}
+use Rattle.sg_lines.specs.LineOf.{version_after}
 use Rattle.sg_lines.specs.ScriptLines.{IsWhole, lines_of}
 use Rattle.sg_lines.specs.declared.lines.Line.{Line}
 use Rattle.sg_outcome.specs.OutcomeText.{outcome_line}
-use Rattle.sg_trace.specs.Trace.{AtFault, Command, Trace, Outside, after_line, trace_from, line_at, said, stopped, with_events}
+use Rattle.std.proofs.lemmas.Bool.{cond-false}
+use Rattle.sg_trace.specs.Trace.{AtFault, Command, begins_capture, Trace, Outside, after_line, trace_from, line_at, said, stopped, with_events}
 use Rattle.sg_trace.specs.Output.{output, output_from, text}
 use Rattle.sg_trace.specs.Reading.{FirstFails}
 
@@ -21,18 +23,20 @@ pub whole_some : (line : List ℕ) → IsWhole line → 0 < length line
 whole_some line whole = omega (arith, ap length whole.1, length-append whole.0 (10 ∷ []))
 
 -- a line that is read
-pub reads_on : (k : Command) (n at : ℕ) (line rest : List ℕ) (l : Line) (top : ℕ) (o : Outside) → IsWhole line → line_at n at line ≡ Ok l
-    → trace_from k n at (lines_of (line ++ rest)) top o ≡ said k l (trace_from k (n + 1) (at + length line) (lines_of rest)) top o
-reads_on k n at line rest l top o whole is =
-    ap (λ ls. trace_from k n at ls top o) (lines_of_whole line rest whole)
-    ∙ ap (λ r. after_line k n r (trace_from k (n + 1) (at + length line) (lines_of rest)) top o) is
+pub reads_on : (k : Command) (version n at : ℕ) (line rest : List ℕ) (l : Line) (top : ℕ) (o : Outside) → begins_capture k n at line ≡ false → IsWhole line → line_at version n at line ≡ Ok l
+    → trace_from k version n at (lines_of (line ++ rest)) top o ≡ said k l (trace_from k (version_after version l) (n + 1) (at + length line) (lines_of rest)) top o
+reads_on k version n at line rest l top o other whole is =
+    ap (λ ls. trace_from k version n at ls top o) (lines_of_whole line rest whole)
+    ∙ cond-false (begins_capture k n at line) _ _ other
+    ∙ ap (λ r. after_line k version n r (λ v. trace_from k v (n + 1) (at + length line) (lines_of rest)) top o) is
 
 -- a line outside the grammar
-pub stops_at : (k : Command) (n at : ℕ) (octets : List ℕ) (fault : ScriptFault) (top : ℕ) (o : Outside) → FirstFails n at octets fault
-    → trace_from k n at (lines_of octets) top o ≡ stopped (AtFault n fault) o
-stops_at k n at octets fault top o first =
-    ap (λ ls. trace_from k n at ls top o) first.split
-    ∙ ap (λ r. after_line k n r (trace_from k (n + 1) (at + length first.line) first.others) top o) first.fails
+pub stops_at : (k : Command) (version n at : ℕ) (octets : List ℕ) (fault : ScriptFault) (top : ℕ) (o : Outside) → (first : FirstFails version n at octets fault) → begins_capture k n at first.line ≡ false
+    → trace_from k version n at (lines_of octets) top o ≡ stopped (AtFault n fault) o
+stops_at k version n at octets fault top o first other =
+    ap (λ ls. trace_from k version n at ls top o) first.split
+    ∙ cond-false (begins_capture k n at first.line) _ _ other
+    ∙ ap (λ r. after_line k version n r (λ v. trace_from k v (n + 1) (at + length first.line) first.others) top o) first.fails
 
 -- ---- events
 

@@ -10,7 +10,7 @@ use Rattle.sg_edge.proofs.Passed.{wrote_more}
 use Rattle.sg_edge.specs.Told.{Wrote, WroteAll}
 use Rattle.sg_trace.specs.Output.{IsWritten, WrotePrefix}
 use Rattle.sg_trace.specs.declared.status.Status.{Status}
-use Rattle.sg_trace.specs.declared.status.Status.TheVariants.{Done, Usage, Script, Read, Write, Link, NoMemory, Clock, Noise, TurnsSpent}
+use Rattle.sg_trace.specs.declared.status.Status.TheVariants.{Done, Usage, Script, Read, Write, Link, NoMemory, Clock, Noise, TurnsSpent, Capture}
 
 -- a call that answers well has written all
 pub wrote_all : (a b : Option (List ℕ)) (part : List ℕ) (r : Result (Unit {0}) Failed) → true ≡ is_ok r → WroteAll a b part r → Wrote a b part
@@ -49,6 +49,7 @@ written_prefix Link a b octets is = absurd is
 written_prefix Clock a b octets is = absurd is
 written_prefix Noise a b octets is = absurd is
 written_prefix TurnsSpent a b octets is = absurd is
+written_prefix (Capture offset fault) a b octets is = absurd is
 
 -- and so it is of more octets, behind others
 pub written_behind : (status : Status) (a b c : Option (List ℕ)) (before octets behind : List ℕ) → Wrote a b before → IsWritten (Err status) b c octets
@@ -63,6 +64,7 @@ written_behind Link a b c before octets behind wrote is = absurd is
 written_behind Clock a b c before octets behind wrote is = absurd is
 written_behind Noise a b c before octets behind wrote is = absurd is
 written_behind TurnsSpent a b c before octets behind wrote is = absurd is
+written_behind (Capture offset fault) a b c before octets behind wrote is = absurd is
 
 -- ---- the texts of a list, one by one
 

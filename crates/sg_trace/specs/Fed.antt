@@ -1,5 +1,5 @@
 -- What a read buffer and a line reader give.
-use Rattle.std.specs.Prelude.{◌≡◌, ◌⊎◌, ◌<◌, ℕ, Bool, true, false, List, [], ◌++◌, length, Option, Result, Ok, Err}
+use Rattle.std.specs.Prelude.{◌≡◌, ◌⊎◌, ◌<◌, ◌≤◌, ℕ, Bool, true, false, List, [], ◌++◌, length, Option, Result, Ok, Err}
 use Rattle.sg_lines.specs.ScriptLines.{NoEnd, IsWhole}
 use Rattle.sg_edge.specs.Told.{AtEnd}
 
@@ -11,6 +11,10 @@ MovesPart waited waits had has part = (waited ≡ part ++ waits) × (has ≡ had
 abbrev pub EndsLine : Bool → List ℕ → List ℕ → ℕ → Type 0
 EndsLine true part waits most = IsWhole part
 EndsLine false part waits most = NoEnd part × ((waits ≡ []) ⊎ (length part ≡ most))
+
+-- All that waited was moved, or as much as may be.
+abbrev pub HasMoved : List ℕ → List ℕ → ℕ → Type 0
+HasMoved part waits most = (length part ≤ most) × ((waits ≡ []) ⊎ (length part ≡ most))
 
 -- a line: whole, or unended at the end of the source or of the budget, or too long
 abbrev pub IsLine : List ℕ → List ℕ → Option (List ℕ) → ℕ → Type 0

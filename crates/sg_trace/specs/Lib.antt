@@ -1,3 +1,4 @@
+pub mod Captured
 pub mod Causes
 pub mod Trace
 pub mod Fed

@@ -2,7 +2,7 @@
 use Rattle.std.specs.Prelude.{◌≡◌, ℕ, List, ◌++◌, Option, Result, Ok, Err}
 use Rattle.std.specs.List.{flat_map}
 use Rattle.sg_trace.specs.declared.status.Status.{Status}
-use Rattle.sg_trace.specs.declared.status.Status.TheVariants.{Done, Usage, Script, Read, Write, Link, NoMemory, Clock, Noise, TurnsSpent}
+use Rattle.sg_trace.specs.declared.status.Status.TheVariants.{Done, Usage, Script, Read, Write, Link, NoMemory, Clock, Noise, TurnsSpent, Capture}
 use Rattle.sg_edge.specs.Told.{Wrote}
 use Rattle.sg_gateway.specs.Events.{outcomes_from}
 use Rattle.sg_gateway.specs.Runs.{outcomes}
@@ -43,3 +43,4 @@ IsWritten (Err Link) written written' octets = ⊥
 IsWritten (Err Clock) written written' octets = ⊥
 IsWritten (Err Noise) written written' octets = ⊥
 IsWritten (Err TurnsSpent) written written' octets = ⊥
+IsWritten (Err (Capture offset fault)) written written' octets = ⊥

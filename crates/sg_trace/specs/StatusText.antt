@@ -3,8 +3,9 @@ use Rattle.std.specs.Prelude.{ℕ, List, [], ◌++◌, codes}
 use Rattle.std.specs.Fmt.{decimal}
 use Rattle.sg_base.specs.declared.faults.ScriptFault.{ScriptFault}
 use Rattle.sg_base.specs.declared.faults.ScriptFault.TheVariants.{Word, Number, Hex, Length, Version, Unended}
+use Rattle.sg_pcap.specs.Skips.{capture_fault_name}
 use Rattle.sg_trace.specs.declared.status.Status.{Status}
-use Rattle.sg_trace.specs.declared.status.Status.TheVariants.{Done, Usage, Script, Read, Write, Link, NoMemory, Clock, Noise, TurnsSpent}
+use Rattle.sg_trace.specs.declared.status.Status.TheVariants.{Done, Usage, Script, Read, Write, Link, NoMemory, Clock, Noise, TurnsSpent, Capture}
 
 abbrev pub script_fault_name : ScriptFault → List ℕ
 script_fault_name Word = codes "Word"
@@ -25,6 +26,7 @@ status_number NoMemory = 6
 status_number Clock = 7
 status_number Noise = 8
 status_number TurnsSpent = 9
+status_number (Capture offset fault) = 10
 
 abbrev pub status_text : Status → List ℕ
 status_text Done = []
@@ -37,3 +39,4 @@ status_text NoMemory = codes "srtpgw: no memory"
 status_text Clock = codes "srtpgw: clock failed"
 status_text Noise = codes "srtpgw: noise failed"
 status_text TurnsSpent = codes "srtpgw: turns spent"
+status_text (Capture offset fault) = codes "srtpgw: capture octet " ++ decimal offset ++ codes ": " ++ capture_fault_name fault

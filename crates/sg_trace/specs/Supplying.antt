@@ -4,7 +4,7 @@ use Rattle.sg_gateway.specs.Drawn.{supplied}
 use Rattle.sg_lines.specs.declared.lines.Line.TheVariants as lines
 use Rattle.sg_lines.specs.declared.lines.Signal.{Signal}
 use Rattle.sg_trace.specs.declared.status.Status.{Status}
-use Rattle.sg_trace.specs.declared.status.Status.TheVariants.{Done, Usage, Script, Read, Write, Link, NoMemory, Clock, Noise, TurnsSpent}
+use Rattle.sg_trace.specs.declared.status.Status.TheVariants.{Done, Usage, Script, Read, Write, Link, NoMemory, Clock, Noise, TurnsSpent, Capture}
 
 -- The signal has its noise, for which these octets were drawn and no other; or it lacks it, and none were.
 abbrev pub IsSupplied : Result Signal Status → Signal → List ℕ → Type 0
@@ -19,3 +19,4 @@ IsSupplied (Err Link) signal draws = ⊥
 IsSupplied (Err NoMemory) signal draws = ⊥
 IsSupplied (Err Clock) signal draws = ⊥
 IsSupplied (Err TurnsSpent) signal draws = ⊥
+IsSupplied (Err (Capture offset fault)) signal draws = ⊥

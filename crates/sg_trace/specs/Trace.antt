@@ -1,9 +1,10 @@
 -- The trace of a run: its events, by the lines of its script and by what it took of the outside.
-use Rattle.std.specs.Prelude.{ℕ, ◌+◌, ◌^◌, min, max, nat_lt, nat_le, if◌then◌else◌, List, [], ◌∷◌, ◌++◌, length, Option, Some, None, Result, Ok, Err}
+use Rattle.std.specs.Prelude.{ℕ, ◌+◌, ◌^◌, min, max, Bool, false, ◌&&◌, nat_lt, nat_le, if◌then◌else◌, List, [], ◌∷◌, ◌++◌, length, codes, Option, Some, None, Result, Ok, Err}
+use Rattle.std.specs.Str.{bytes_eq}
 use Rattle.sg_base.specs.declared.faults.ScriptFault.{ScriptFault}
 use Rattle.sg_base.specs.declared.faults.ScriptFault.TheVariants.{Length}
 use Rattle.sg_edge.specs.Links.{Received, Came, Nothing, Failing}
-use Rattle.sg_lines.specs.LineOf.{line_of}
+use Rattle.sg_lines.specs.LineOf.{line_of, version_after}
 use Rattle.sg_lines.specs.ScriptLines.{lines_of}
 use Rattle.sg_lines.specs.declared.lines.Line.{Line}
 use Rattle.sg_lines.specs.declared.lines.Line.TheVariants as lines
@@ -12,10 +13,10 @@ use Rattle.sg_gateway.specs.Drawn.{Supplied, supplied}
 use Rattle.sg_gateway.specs.Events.{events_of}
 use Rattle.sg_gateway.specs.Step.{Event}
 
--- the n-th line, which begins at this offset, or its first fault; a line ends within the first 2^30 octets
--- of the script
-unfoldable pub line_at : ℕ → ℕ → List ℕ → Result Line ScriptFault
-line_at n at line = if nat_lt (2 ^ 30) (at + length line) then Err Length else line_of n line
+-- the n-th line of a script of that version, which begins at this offset, or its first fault; a line ends within
+-- the first 2^30 octets of the script
+unfoldable pub line_at : ℕ → ℕ → ℕ → List ℕ → Result Line ScriptFault
+line_at version n at line = if nat_lt (2 ^ 30) (at + length line) then Err Length else line_of version n line
 
 -- what a run took of the outside, each in order: readings of the clock, answers of receives, octets of noise
 pub record Outside : Type 0 where
@@ -23,11 +24,13 @@ pub record Outside : Type 0 where
   pub receipts : List Received
   pub draws : List ℕ
 
--- where the events of a run end: behind the last line; before the first line outside the grammar; or
--- where a reading, a receive or a draw comes next that wasn't taken
+-- where the events of a run end: behind the last line; before the first line outside the grammar; behind the line
+-- at which a capture begins, with the capture's offset; or where a reading, a receive or a draw comes next that
+-- wasn't taken
 pub data Stop : Type 0 where
   AtEnd : Stop
   AtFault : ℕ → ScriptFault → Stop
+  AtCapture : ℕ → Stop
   ForReading : Stop
   ForReceive : Stop
   ForDraw : Stop
@@ -91,10 +94,12 @@ waited until later top (r ∷ rs) (x ∷ xs) draws =
 
 -- ---- scripts
 
--- what a run does at a `tick` line: a replay hands it on; a relay, which began at this moment, waits
+-- what plays the script: a replay; a relay, which began at this moment, and waits at `tick` lines; or a replay that
+-- may end in a capture
 pub data Command : Type 0 where
   Replays : Command
   Relays : ℕ → Command
+  Captures : Command
 
 -- the moment of a `tick` line at which this run waits
 abbrev pub wait_in : Command → Line → Option ℕ
@@ -105,29 +110,43 @@ abbrev pub said_by : Line → Option ℕ → Later → Later
 said_by l (Some until) later top o = waited until later top o.readings o.receipts o.draws
 said_by l None later top o = handled l later top o
 
+-- the line as this run takes it: a relay, whose moments are those of its clock, leaves out that of a datagram
+abbrev pub line_in : Command → Line → Line
+line_in (Relays began) (lines.DatagramAt now port from octets) = lines.Datagram port from octets
+line_in k other = other
+
 abbrev pub said : Command → Line → Later → Later
-said k l later top o = said_by l (wait_in k l) later top o
+said k l later top o = said_by (line_in k l) (wait_in k l) later top o
 
-abbrev pub after_line : Command → ℕ → Result Line ScriptFault → Later → Later
-after_line k n (Err fault) later top o = stopped (AtFault n fault) o
-after_line k n (Ok l) later top o = said k l later top o
+-- a capture begins behind the line `capture`, which isn't the first, within the first 2^30 octets of the script
+abbrev pub begins_capture : Command → ℕ → ℕ → List ℕ → Bool
+begins_capture Captures n at l = nat_lt 1 n && (nat_le (at + length l) (2 ^ 30) && bytes_eq l (codes "capture\n"))
+begins_capture other n at l = false
 
--- the lines from the n-th on, which begin at this offset
-abbrev pub trace_from : Command → ℕ → ℕ → List (List ℕ) → Later
-trace_from k n at [] top o = stopped AtEnd o
-trace_from k n at (l ∷ ls) top o = after_line k n (line_at n at l) (trace_from k (n + 1) (at + length l) ls) top o
+-- a line, and what follows it in the script's version
+abbrev pub after_line : Command → ℕ → ℕ → Result Line ScriptFault → (ℕ → Later) → Later
+after_line k version n (Err fault) later top o = stopped (AtFault n fault) o
+after_line k version n (Ok l) later top o = said k l (later (version_after version l)) top o
+
+-- the lines from the n-th on, which begin at this offset, in a script of that version
+abbrev pub trace_from : Command → ℕ → ℕ → ℕ → List (List ℕ) → Later
+trace_from k version n at [] top o = stopped AtEnd o
+trace_from k version n at (l ∷ ls) top o =
+    if begins_capture k n at l then stopped (AtCapture (at + length l)) o
+    else after_line k version n (line_at version n at l) (λ v. trace_from k v (n + 1) (at + length l) ls) top o
 
 -- these octets of noise and nothing else
 abbrev pub drawing : List ℕ → Outside
 drawing draws = record { readings = []; receipts = []; draws = draws }
 
--- The trace of a replay of these octets, of which each signal without noise takes the next 304 octets drawn.
+-- The trace of a replay of these octets, of which each signal without noise takes the next 304 octets drawn. The
+-- first line says which version the script has.
 abbrev pub replayed : List ℕ → List ℕ → Trace
-replayed octets draws = trace_from Replays 1 0 (lines_of octets) 0 (drawing draws)
+replayed octets draws = trace_from Replays 1 1 0 (lines_of octets) 0 (drawing draws)
 
 -- The trace of a relay of these octets: the first reading is a tick, then come the lines.
 abbrev pub woven : List ℕ → List ℕ → List Received → List ℕ → Trace
 woven octets [] receipts draws = stopped ForReading (record { readings = []; receipts = receipts; draws = draws })
 woven octets (r ∷ rs) receipts draws =
     with_events (events_of (lines.Signal (Tick (moment_of r))))
-    (trace_from (Relays (moment_of r)) 1 0 (lines_of octets) (moment_of r) (record { readings = rs; receipts = receipts; draws = draws }))
+    (trace_from (Relays (moment_of r)) 1 1 0 (lines_of octets) (moment_of r) (record { readings = rs; receipts = receipts; draws = draws }))

@@ -2,7 +2,7 @@
 
 ghost use Rattle.std.specs.Prelude.{◌≡◌, ◌↔◌, ◌⊎◌, ◌<◌, ◌≤◌, ◌+◌, ◌-◌, length, ◌++◌, ℕ, List, [], take, drop, IfOk, OnOk, OnErr, true};
 ghost use Rattle.sg_edge.specs.Told.{AtEnd, HasCause, Tells, TookIn};
-ghost use Rattle.sg_trace.specs.Fed.{EndsLine, MovesPart};
+ghost use Rattle.sg_trace.specs.Fed.{EndsLine, HasMoved, MovesPart};
 
 use memchr::memchr;
 use sg_base::{Failed, NoMemory};
@@ -58,6 +58,18 @@ impl ReadBuffer {
         line.extend_from_slice(&waiting[..count])?;
         self.at += count;
         Ok(ended)
+    }
+
+    /// Moves octets from the front to the end of `part`: `most`, or as many as there are.
+    pub fn move_part(&mut self, part: &mut Vec<u8>, most: usize) -> Result<(), NoMemory>
+        ensures moved { OnOk result ((moved : List ℕ) × MovesPart self.old self.new part.old.items part.new.items moved × HasMoved moved self.new most) }
+        ensures err { OnErr result ((self.new ≡ self.old) × (part.new.items ≡ part.old.items)) }
+    {
+        let waiting = &self.part[self.at..self.end];
+        let count = waiting.len().min(most);
+        part.extend_from_slice(&waiting[..count])?;
+        self.at += count;
+        Ok(())
     }
 
     /// Where nothing waits, reads the next octets, within the budget; none at the end of the source, or where

@@ -1,11 +1,12 @@
 //! Scripts, read line by line.
 
-ghost use Rattle.std.specs.Prelude.{◌≡◌, ◌↔◌, ◌≤◌, ◌+◌, ◌^◌, ℕ, List, [], length, IfOk, IfSome};
+ghost use Rattle.std.specs.Prelude.{◌≡◌, ◌↔◌, ◌⊎◌, ◌≤◌, ◌+◌, ◌^◌, ℕ, List, [], length, IfOk, IfSome};
 ghost use Rattle.sg_trace.specs.Causes.{IsCaused};
 ghost use Rattle.sg_trace.specs.Trace.{line_at};
 ghost use Rattle.sg_trace.specs.Reading.{IsNext, refused_as};
 ghost use Rattle.sg_edge.specs.Told.{TookIn};
 ghost use Rattle.sg_lines.specs.Fields.{Gives};
+ghost use Rattle.sg_lines.specs.LineOf.{version_after};
 ghost use Rattle.sg_lines.specs.LineText.{FitsLine};
 
 use crate::line_reader::next_line;
@@ -17,40 +18,42 @@ use sg_lines::{Line, ReadLineFault, read_line};
 use std::alloc::Global;
 use std::marker::Model;
 
-/// Reads a script line by line. It is seen as what waits to be read, the number of the next line, from 1,
-/// its offset in the script, and how many octets it may still ask for: of a script the first 2^30 count, and
-/// one more shows that there are more.
+/// Reads a script line by line. It is seen as what waits to be read, the script's version, which its first line
+/// says, the number of the next line, from 1, its offset in the script, and how many octets it may still ask for:
+/// of a script the first 2^30 count, and one more shows that there are more.
 #[derive(Drop)]
 pub struct ScriptReader {
     read_buffer: ReadBuffer,
     /// The line that was read last, at this offset.
     line: Vec<u8>,
     at: u64,
+    version: u8,
     /// How many lines were read.
     count: u64,
     budget: u64,
 }
 
 impl Model for ScriptReader {
-    ghost use Rattle.std.specs.Prelude.{◌+◌, ◌≡◌, ◌≤◌, ◌^◌, length};
+    ghost use Rattle.std.specs.Prelude.{◌+◌, ◌≡◌, ◌⊎◌, ◌≤◌, ◌^◌, length};
     ghost use Rattle.sg_trace.specs.Reading.{Reading};
 
     ghost Value = { Reading };
 
-    ghost view = { λ r. record { waits = r.read_buffer; number = r.count + 1; offset = r.at + length r.line.items; budget = r.budget } };
+    ghost view = { λ r. record { waits = r.read_buffer; version = r.version; number = r.count + 1; offset = r.at + length r.line.items; budget = r.budget } };
 
-    ghost invariant = { λ r. (r.at + length r.line.items + length r.read_buffer + r.budget ≡ 2 ^ 30 + 1) × (r.count ≤ r.at + length r.line.items) };
+    ghost invariant = { λ r. (r.at + length r.line.items + length r.read_buffer + r.budget ≡ 2 ^ 30 + 1) × (r.count ≤ r.at + length r.line.items) × ((r.version ≡ 1) ⊎ (r.version ≡ 2)) };
 }
 
 impl ScriptReader {
     /// At the first line.
     pub fn new(alloc: Global) -> ScriptReader
-        ensures { result ≡ record { waits = []; number = 1; offset = 0; budget = 2 ^ 30 + 1 } }
+        ensures { result ≡ record { waits = []; version = 1; number = 1; offset = 0; budget = 2 ^ 30 + 1 } }
     {
         ScriptReader {
             read_buffer: ReadBuffer::new(),
             line: Vec::new(alloc),
             at: 0,
+            version: 1,
             count: 0,
             budget: SCRIPT_MOST + 1,
         }
@@ -61,7 +64,7 @@ impl ScriptReader {
     pub fn next<S: Source>(&mut self, alloc: Global, source: &mut S) -> Result<Option<Line>, Status>
         ensures next { (got : List ℕ) × TookIn (S.left source.old) (S.left source.new) got
             × IsNext result self.old self.new got (S.left source.new) × (length got + self.new.budget ≡ self.old.budget) }
-        ensures fits { IfOk result (λ found. IfSome found (λ line. FitsLine self.old.number line)) }
+        ensures fits { IfOk result (λ found. IfSome found (λ line. FitsLine self.old.version self.old.number line)) }
         ensures given { S.given source.new + self.new.budget ≤ S.given source.old + self.old.budget }
         ensures cause { IsCaused Status.Read result (S.faults source.old) (S.faults source.new) (S.failed source.new) }
     {
@@ -78,23 +81,46 @@ impl ScriptReader {
         }
         let number = self.count + 1;
         self.count = number;
-        match line_at(alloc, number, self.at, &self.line) {
-            Ok(line) => Ok(Some(line)),
+        match line_at(alloc, self.version, number, self.at, &self.line) {
+            Ok(line) => {
+                self.version = version_after(self.version, &line);
+                Ok(Some(line))
+            }
             Err(fault) => Err(refused(number, fault)),
         }
     }
 }
 
-/// The line of this number, which begins at this offset of the script.
-fn line_at(alloc: Global, number: u64, at: u64, line: &[u8]) -> Result<Line, ReadLineFault>
-    requires { at + length line.now ≤ 2 ^ 30 + 1 }
-    ensures exact { Gives result (line_at number at line.now) }
-    ensures fits { IfOk result (λ l. FitsLine number l) }
+/// The version of what follows a line.
+fn version_after(version: u8, line: &Line) -> u8
+    requires { (version ≡ 1) ⊎ (version ≡ 2) }
+    ensures is { result ≡ version_after version line.now }
+    ensures one_of_two { (result ≡ 1) ⊎ (result ≡ 2) }
+{
+    match line {
+        Line::Header => 1,
+        Line::HeaderTwo => 2,
+        _ => version,
+    }
+}
+
+/// The line of this number, which begins at this offset of a script of that version.
+fn line_at(
+    alloc: Global,
+    version: u8,
+    number: u64,
+    at: u64,
+    line: &[u8],
+) -> Result<Line, ReadLineFault>
+    requires version { (version ≡ 1) ⊎ (version ≡ 2) }
+    requires within { at + length line.now ≤ 2 ^ 30 + 1 }
+    ensures exact { Gives result (line_at version number at line.now) }
+    ensures fits { IfOk result (λ l. FitsLine version number l) }
 {
     if at + line.len() as u64 > SCRIPT_MOST {
         return Err(ReadLineFault::Script(ScriptFault::Length));
     }
-    read_line(alloc, number, line)
+    read_line(alloc, version, number, line)
 }
 
 fn refused(number: u64, fault: ReadLineFault) -> Status

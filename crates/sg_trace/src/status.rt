@@ -2,8 +2,10 @@
 
 ghost use Rattle.std.specs.Prelude.{◌≡◌, Some};
 ghost use Rattle.sg_trace.specs.StatusText.{script_fault_name, status_number, status_text};
+ghost use Rattle.sg_pcap.specs.Skips.{capture_fault_name};
 
 use sg_base::ScriptFault;
+use sg_pcap::CaptureFault;
 use std::fmt;
 
 /// How a run has ended. It holds no octet of a key.
@@ -29,6 +31,8 @@ pub enum Status {
     Noise,
     /// All turns were taken, and a `tick` line asks for one more.
     TurnsSpent,
+    /// At this offset of a capture stands its first fault.
+    Capture { offset: u64, fault: CaptureFault },
 }
 
 fn fault_name(fault: ScriptFault) -> &'static str
@@ -41,6 +45,18 @@ fn fault_name(fault: ScriptFault) -> &'static str
         ScriptFault::Length => "Length",
         ScriptFault::Version => "Version",
         ScriptFault::Unended => "Unended",
+    }
+}
+
+fn capture_fault_name(fault: CaptureFault) -> &'static str
+    ensures { result.now ≡ capture_fault_name fault }
+{
+    match fault {
+        CaptureFault::Magic => "Magic",
+        CaptureFault::Version => "Version",
+        CaptureFault::LinkType => "LinkType",
+        CaptureFault::Cut => "Cut",
+        CaptureFault::Length => "Length",
     }
 }
 
@@ -60,6 +76,7 @@ impl Status {
             Status::Clock => 7,
             Status::Noise => 8,
             Status::TurnsSpent => 9,
+            Status::Capture { .. } => 10,
         }
     }
 }
@@ -83,6 +100,10 @@ impl fmt::Display for Status {
             Status::Clock => write!(f, "srtpgw: clock failed"),
             Status::Noise => write!(f, "srtpgw: noise failed"),
             Status::TurnsSpent => write!(f, "srtpgw: turns spent"),
+            Status::Capture { offset, fault } => {
+                let name = capture_fault_name(fault);
+                write!(f, "srtpgw: capture octet {offset}: {name}")
+            }
         }
     }
 }
