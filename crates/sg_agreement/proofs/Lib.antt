@@ -1,17 +1,18 @@
 pub mod AllAgreed
 mod DistinctMkis
 pub mod FewMedia
-mod Inversions
+pub mod Inversions
 pub mod KeyedSound
 pub mod LineNumbers
 pub mod LinesSound
 pub mod MessageKeys
 pub mod MessageOctets
 pub mod MessagesSound
+mod OneLines
 pub mod OwnMessages
 pub mod SessionsSound
 mod SideWalks
-mod Sound
+pub mod Sound
 pub mod TextLines
 mod Texts
 mod TwoSided

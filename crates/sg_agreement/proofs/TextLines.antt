@@ -47,14 +47,14 @@ use Rattle.sg_agreement.specs.declared.ways.Way.TheVariants.{FromSecure, SdesFro
 
 -- ---- attributes
 
-behind_is : (prefix line value : List ℕ) → behind prefix line ≡ Some value → line ≡ prefix ++ value
+pub behind_is : (prefix line value : List ℕ) → behind prefix line ≡ Some value → line ≡ prefix ++ value
 behind_is prefix line value e =
     let g = guarded (starts_with nat_eq line prefix) (drop (length prefix) line) value e in
     sym (take-append-drop (length prefix) line)
     ∙ (ap (λ (l : List ℕ). l ++ drop (length prefix) line) (sym ((bytes_eq-Decides prefix _).0 g.0)) ∙ ap (λ (l : List ℕ). prefix ++ l) g.1)
 
 -- what a filter keeps first, is of a line
-first_is : (f : List ℕ → Option (List ℕ)) (ls : List (List ℕ)) (value : List ℕ) → first_of (filter_map f ls) ≡ Some value → Any (λ line. f line ≡ Some value) ls
+pub first_is : (f : List ℕ → Option (List ℕ)) (ls : List (List ℕ)) (value : List ℕ) → first_of (filter_map f ls) ≡ Some value → Any (λ line. f line ≡ Some value) ls
 first_is f [] value e = absurd cc
 first_is f (l ∷ ls) value e = go (first_is f ls value) (f l) refl e
   where
@@ -135,7 +135,7 @@ mapped f g h same (x ∷ xs) =
     let rest = mapped f g h same xs in
     λ i. this i ∷ rest i
 
-octets_are : (m : Option MkiValue) → octets_of m ≡ identifier m
+pub octets_are : (m : Option MkiValue) → octets_of m ≡ identifier m
 octets_are None = refl
 octets_are (Some m) = refl
 
@@ -155,14 +155,14 @@ window_is (Some size) = refl
 
 -- ---- the offer is the peer's
 
-kept_some : {X Y : Type 0} (b : Bool) (o : Option X) (value : X → Result Y Refusal) (y : Y) → if_kept b o value ≡ Ok (Some y) → (x : X) × (o ≡ Some x) × (value x ≡ Ok y)
+pub kept_some : {X Y : Type 0} (b : Bool) (o : Option X) (value : X → Result Y Refusal) (y : Y) → if_kept b o value ≡ Ok (Some y) → (x : X) × (o ≡ Some x) × (value x ≡ Ok y)
 kept_some false o value y e = absurd cc
 kept_some true None value y e = absurd cc
 kept_some true (Some x) value y e =
     let a = after_ok_is (value x) (λ y. Ok (Some y)) (Some y) e in
     (x, refl, a.1 ∙ ap Ok (some_is a.0 y (ok_is (Some a.0) (Some y) a.2)))
 
-active_some : {X : Type 0} (b : Bool) (r : Result X Refusal) (x : X) → if_active b r ≡ Ok (Some x) → r ≡ Ok x
+pub active_some : {X : Type 0} (b : Bool) (r : Result X Refusal) (x : X) → if_active b r ≡ Ok (Some x) → r ≡ Ok x
 active_some false r x e = absurd cc
 active_some true r x e =
     let a = after_ok_is r (λ x. Ok (Some x)) (Some x) e in

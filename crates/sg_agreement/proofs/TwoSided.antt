@@ -9,16 +9,20 @@ use Rattle.sg_sdes.specs.Answers.{offered_by}
 use Rattle.sg_sdes.specs.declared.lines.CryptoLine.{CryptoLine}
 use Rattle.sg_sdp.specs.Carrying.{carried, is_one_sided}
 use Rattle.sg_sdp.specs.Descriptions.{all_lines, medium_line, medium_lines}
+use Rattle.sg_sdp.specs.Reading.{description_of}
 use Rattle.sg_sdp.specs.declared.medium.Medium as descriptions
 use Rattle.sg_sdp.specs.declared.medium.Profile.{Profile}
 use Rattle.sg_sdp.specs.declared.sdp.Sdp.{Sdp}
 use Rattle.sg_session.proofs.Inversions.{after_ok_is, ok_is}
 use Rattle.sg_session.specs.Stages.{after_ok}
+use Rattle.sg_agreement.proofs.FewMedia.{described_is}
 use Rattle.sg_agreement.proofs.KeyedSound.{Sometimes}
+use Rattle.sg_agreement.proofs.OneLines.{carried_one}
 use Rattle.sg_agreement.proofs.Sound.{each_kept_is}
+use Rattle.sg_agreement.proofs.Texts.{Takes}
 use Rattle.sg_agreement.specs.Answers.{Answered, answered_by, AgreedAnswer, accepted_answer, agreed_answer, lines_of}
 use Rattle.sg_agreement.specs.Attributes.{crypto_values, first_of, has_message, mikey_value, ssrcs_of}
-use Rattle.sg_agreement.specs.CarriedTexts.{Added, nothing, with_media_lines, with_added, carried_text, IsTwoSided}
+use Rattle.sg_agreement.specs.CarriedTexts.{Added, nothing, with_media_lines, with_added, carried_text, IsOneLine, IsTwoSided}
 use Rattle.sg_agreement.specs.Described.{described}
 use Rattle.sg_agreement.specs.EachMedium.{each_active, each_kept}
 use Rattle.sg_agreement.specs.Keyed.{Keyed}
@@ -55,14 +59,16 @@ same_all added s none empty =
     let media = same_media s.media added.media empty in
     λ i. session i ++ media i
 
-two_sided_text : TwoSided → (ports : List ℕ) (profiles : List Profile) (added : Added) (s : Sdp) → IsEmpty added.session → AllByRecursion IsEmpty added.media
-    → IsTwoSided (carried_text ports profiles added s)
+two_sided_text : TwoSided → Takes → (ports : List ℕ) (profiles : List Profile) (added : Added) (text : List ℕ) (s : Sdp) → description_of text ≡ Ok s
+    → IsEmpty added.session → AllByRecursion IsEmpty added.media → IsTwoSided (carried_text ports profiles added s)
 unfolding carried_text
-two_sided_text two ports profiles added s none empty = (
-  with_added added (carried ports profiles s),
-  refl,
-  subst (λ (ls : List (List ℕ)). AllByRecursion (λ line. is_one_sided line ≡ false) ls) (sym (same_all added (carried ports profiles s) none empty)) (two ports profiles s),
-)
+two_sided_text two takes ports profiles added text s read none empty =
+    let same = sym (same_all added (carried ports profiles s) none empty) in (
+      with_added added (carried ports profiles s),
+      refl,
+      subst (λ (ls : List (List ℕ)). AllByRecursion (λ line. is_one_sided line ≡ false) ls) same (two ports profiles s),
+      subst (λ (ls : List (List ℕ)). AllByRecursion IsOneLine ls) same (carried_one takes ports profiles text s read),
+    )
 
 -- ---- an offer from the secure side
 
@@ -86,14 +92,14 @@ secure_added h s k e = go (has_message s) e
 abbrev AddsNothing : Added → Type 0
 AddsNothing added = IsEmpty added.session × AllByRecursion IsEmpty added.media
 
-pub offer_two_sided : TwoSided → (h : AtHand) (text : List ℕ) (a : AgreedOffer) → agreed_offer h FromSecure text ≡ Ok a → IsTwoSided a.text
+pub offer_two_sided : TwoSided → Takes → (h : AtHand) (text : List ℕ) (a : AgreedOffer) → agreed_offer h FromSecure text ≡ Ok a → IsTwoSided a.text
 unfolding agreed_offer
-offer_two_sided two h text a e =
+offer_two_sided two takes h text a e =
     let p = after_ok_is (described Secure h.media text) _ a e in
     let q = after_ok_is (keying_of h p.0 FromSecure) _ a p.2 in
     let o : Offer = record { side = Secure; description = p.0; keying = q.0 } in
     let none : AddsNothing (added_by q.0) = subst AddsNothing (sym (secure_added h p.0 q.0 q.1)) (refl, tt) in
-    subst (λ (a : AgreedOffer). IsTwoSided a.text) (ok_is (accepted_offer h.slot o) a q.2) (two_sided_text two _ _ (added_by q.0) p.0 none.0 none.1)
+    subst (λ (a : AgreedOffer). IsTwoSided a.text) (ok_is (accepted_offer h.slot o) a q.2) (two_sided_text two takes _ _ (added_by q.0) text p.0 (described_is Secure h.media text p.0 p.1) none.0 none.1)
 
 -- ---- an answer to an offer from the plain side
 
@@ -161,14 +167,15 @@ no_lines [] p = tt
 no_lines (None ∷ ks) p = (refl, no_lines ks p.1)
 no_lines (Some k ∷ ks) p = (p.0, no_lines ks p.1)
 
-pub answer_two_sided : TwoSided → (h : AtHand) (way : Way) (offered noise text : List ℕ) (slot : ℕ) (a : AgreedOffer) (g : AgreedAnswer)
+pub answer_two_sided : TwoSided → Takes → (h : AtHand) (way : Way) (offered noise text : List ℕ) (slot : ℕ) (a : AgreedOffer) (g : AgreedAnswer)
     → side_of way ≡ Plain → agreed_offer h way offered ≡ Ok a → agreed_answer slot a.offer noise text ≡ Ok g → IsTwoSided g.text
 unfolding agreed_answer
-answer_two_sided two h way offered noise text slot a g plain made e =
+answer_two_sided two takes h way offered noise text slot a g plain made e =
     let o : Offer = a.offer in
     let p = after_ok_is (described (other_side o.side) (Some (length o.description.media)) text) _ g e in
     let active : List Bool = actives_after o.side o.description.media p.0.media in
     let q = after_ok_is (answered_by o noise p.0 active o.keying) _ g p.2 in
     let none = answered_none o noise p.0 active o.keying q.0 (own_offer h way offered a plain made) q.1 in
     subst (λ (g : AgreedAnswer). IsTwoSided g.text) (ok_is (accepted_answer slot o p.0 active q.0) g q.2)
-    (two_sided_text two _ _ (record { session = q.0.session; media = map lines_of q.0.media }) p.0 none.0 (no_lines q.0.media none.1))
+    (two_sided_text two takes _ _ (record { session = q.0.session; media = map lines_of q.0.media }) text p.0
+    (described_is (other_side o.side) (Some (length o.description.media)) text p.0 p.1) none.0 (no_lines q.0.media none.1))

@@ -3,6 +3,7 @@ use Rattle.std.specs.Prelude.{◌≡◌, ℕ, ◌+◌, ◌*◌, List, [], ◌∷
 use Rattle.std.specs.List.{AllByRecursion}
 use Rattle.base64.specs.GeneralPurpose.{encode_of}
 use Rattle.base64.specs.Engines.{standard}
+use Rattle.sg_base.specs.Fields.{Lacks}
 use Rattle.sg_base.specs.declared.addresses.Side.{Side}
 use Rattle.sg_base.specs.declared.addresses.Side.TheVariants.{Secure, Plain}
 use Rattle.sg_sdes.specs.CryptoText.{crypto_text}
@@ -60,6 +61,11 @@ with_added added s = record { session = s.session ++ added.session; media = with
 unfoldable pub carried_text : List ℕ → List Profile → Added → Sdp → List ℕ
 carried_text ports profiles added s = spelling (with_added added (carried ports profiles s))
 
--- the text spells a description of which no attribute holds for one side alone, as those of keys do
+-- no line ends within these octets: neither CR nor LF is among them
+abbrev pub IsOneLine : List ℕ → Type 0
+IsOneLine line = Lacks 10 line × Lacks 13 line
+
+-- The text spells a description of which no attribute holds for one side alone, as those of keys do; and each of its lines is
+-- one line of the text.
 abbrev pub IsTwoSided : List ℕ → Type 0
-IsTwoSided text = (s : Sdp) × (text ≡ spelling s) × AllByRecursion (λ line. is_one_sided line ≡ false) (all_lines s)
+IsTwoSided text = (s : Sdp) × (text ≡ spelling s) × AllByRecursion (λ line. is_one_sided line ≡ false) (all_lines s) × AllByRecursion IsOneLine (all_lines s)

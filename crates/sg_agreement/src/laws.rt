@@ -62,13 +62,15 @@ pub fn offers_fit_their_calls()
 {}
 
 /// No attribute that holds for one side alone, such as a crypto line or a MIKEY message, goes to the plain side: neither
-/// in the text of an offer from the secure side, nor in that of the answer to an offer from the plain side.
+/// in the text of an offer from the secure side, nor in that of the answer to an offer from the plain side. Each line of
+/// the description is one line of the text.
 pub fn no_key_goes_to_the_plain_side()
     ensures offer { (h : AtHand) (text : List ℕ) (a : AgreedOffer) → agreed_offer h ways.FromSecure text ≡ Ok a → IsTwoSided a.text }
     ensures answer { (h : AtHand) (way : Way) (offered noise answer : List ℕ) (slot : ℕ) (a : AgreedOffer) (g : AgreedAnswer)
         → side_of way ≡ Plain → agreed_offer h way offered ≡ Ok a → agreed_answer slot a.offer noise answer ≡ Ok g → IsTwoSided g.text }
 {
     a_carried_text_is_a_description();
+    descriptions_have_one_value();
 }
 
 /// What is agreed by crypto lines stands in the texts. A medium that is agreed opens under a line of the peer's text and
