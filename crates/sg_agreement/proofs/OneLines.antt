@@ -1,5 +1,5 @@
 -- No line of a carried text has the end of a line within.
-use Rattle.std.proofs.Common.{◌≡◌, ℕ, zero, suc, ◌+◌, ◌/◌, ◌%◌, ◌<◌, ◌≤◌, Bool, true, false, cond, eqb, ltb, not, List, [], ◌∷◌, ◌++◌, length, map, Ok, refl, sym, ap, subst, arith, codes, eqb-true}
+use Rattle.std.proofs.Common.{◌≡◌, ℕ, zero, suc, ◌+◌, ◌/◌, ◌%◌, ◌≤◌, Bool, true, false, cond, eqb, ltb, not, List, [], ◌∷◌, ◌++◌, length, map, Ok, refl, sym, ap, subst, arith, codes, eqb-true}
 use Rattle.std.proofs.lemmas.Bool.{and_parts, leb-true, ne_eqb, not-true}
 use Rattle.std.specs.Fmt.{decimal, digits, digit_glyph, digits_onto}
 use Rattle.std.specs.List.{AllByRecursion, filter, flat_map, list_all, starts_with}

@@ -68,7 +68,7 @@ none_unless : {X : Type 0} (b : Bool) (x : X) (r : Option X) → cond b (Some x)
 none_unless true x r e = absurd cc
 none_unless false x r e = (refl, e)
 
-unless_is : {X : Type 0} (fault : Option PskFault) (next : Result X PskFault) (x : X) → unless fault next ≡ Ok x → (fault ≡ None) × (next ≡ Ok x)
+pub unless_is : {X : Type 0} (fault : Option PskFault) (next : Result X PskFault) (x : X) → unless fault next ≡ Ok x → (fault ≡ None) × (next ≡ Ok x)
 unless_is None next x e = (refl, e)
 unless_is (Some fault) next x e = absurd cc
 
@@ -76,7 +76,7 @@ psk_is : {X : Type 0} (medium : ℕ) (r : Result X PskFault) (x : X) → of_psk 
 psk_is medium (Ok y) x e = let same : y ≡ x = cc in ap Ok same
 psk_is medium (Err fault) x e = absurd cc
 
-message_is : (medium : ℕ) (r : Result Message messages.Place) (m : Message) → of_message medium r ≡ Ok m → r ≡ Ok m
+pub message_is : (medium : ℕ) (r : Result Message messages.Place) (m : Message) → of_message medium r ≡ Ok m → r ≡ Ok m
 message_is medium (Ok y) m e = let same : y ≡ m = cc in ap Ok same
 message_is medium (Err place) m e = absurd cc
 
@@ -90,7 +90,7 @@ find_any test (y ∷ ys) x e = go (test y) refl (find_any test ys x) e
     go true is rest e = (any_here (λ z. z ≡ x) y ys (some_is y x e), subst (λ z. test z ≡ true) (some_is y x e) is)
     go false is rest e = let r = rest e in (any_there (λ z. z ≡ x) y ys r.0, r.1)
 
-pair_is : (pairs : List Pair) (names : List (List ℕ)) (p : Pair) → pair_named pairs names ≡ Some p → Any (λ q. q ≡ p) pairs × AreNamesOf p names
+pub pair_is : (pairs : List Pair) (names : List (List ℕ)) (p : Pair) → pair_named pairs names ≡ Some p → Any (λ q. q ≡ p) pairs × AreNamesOf p names
 pair_is pairs [] p e = absurd cc
 pair_is pairs (peer ∷ []) p e =
     let f = find_any (is_with peer) pairs p e in

@@ -1,4 +1,4 @@
--- An open offer was made in an earlier turn, and the sessions of its answer are by the lines of the texts.
+-- An open offer was made in an earlier turn, and the sessions of its answer are by the texts.
 use Rattle.std.proofs.Common.{◌≡◌, inl, inr, ℕ, ◌+◌, Bool, true, false, cond, not, List, [], ◌∷◌, ◌++◌, length, Option, Some, None, Result, Ok, Err, refl, sym, ap, ◌∙◌, subst, append_assoc, append-nil, arith, eqb, ltb, eqb-true}
 use Rattle.std.proofs.lemmas.Bool.{and_parts}
 use Rattle.std.proofs.lemmas.List.Elements.{All-from_recursion}
@@ -28,6 +28,7 @@ use Rattle.sg_base.specs.declared.faults.Refusal.TheVariants.{State}
 use Rattle.sg_outcome.specs.declared.outcomes.Outcome.{Outcome}
 use Rattle.sg_outcome.specs.declared.outcomes.Outcome.TheVariants.{Sdp, Live}
 use Rattle.sg_psk.specs.Pairs.{has_pair}
+use Rattle.sg_psk.specs.declared.pairs.Pair.{Pair}
 use Rattle.sg_sdp.specs.Reading.{description_of}
 use Rattle.sg_sdp.specs.declared.medium.Medium as descriptions
 use Rattle.sg_sdp.specs.declared.sdp.Sdp as sdp
@@ -38,11 +39,14 @@ use Rattle.sg_session.specs.Session.{Session}
 use Rattle.sg_gateway.proofs.Arrivals.{Arrival, IsDrop, IsOpening, IsSeal, arrival, kept_by}
 use Rattle.sg_gateway.proofs.CarriedOut.{found_with, id_found, stays}
 use Rattle.sg_gateway.proofs.LineSessions.{all_by_message, all_lined}
+use Rattle.sg_gateway.proofs.MessageSessions.{by_own, by_part}
+use Rattle.sg_gateway.proofs.PeersMessages.{by_peers_message}
 use Rattle.sg_gateway.proofs.Signals.{each_and_call, each_with_call, found}
 use Rattle.sg_gateway.specs.ByTexts.{AnswerIsByTexts, AnswersAreByTexts, AreByTexts, Exchange, HasItsLines, HaveLines, IsByMessage}
 use Rattle.sg_gateway.specs.CallSignals.{answered_to, at_hand, call_at_tick, drops_earlier, has_begun, is_idle, keyed_manually, offered_in, rejected_in, takes_offer, without_earlier}
 use Rattle.sg_gateway.specs.Datagrams.{Given, arrived_at, arrived_in, given_to}
 use Rattle.sg_gateway.specs.Generations.{Settled, is_current, is_opening, keyed}
+use Rattle.sg_gateway.specs.PeersMessages.{IsByPeersMessage}
 use Rattle.sg_gateway.specs.Ports.{call_at, has_port}
 use Rattle.sg_gateway.specs.Runs.{Turn, turn_of, turns_from}
 use Rattle.sg_gateway.specs.Signals.{Tick, Psk, Manual, Offered, Answered, Reject, Bye, Answer, answer_to, answered, in_new, in_old, left, new_call, offered_to, offering_side, rejected, rejected_to, tells_answer, tells_live, tells_text}
@@ -55,6 +59,7 @@ pub record MadeBy (id : CallId) (o : Offer) (u : Turn) : Type 0 where
   pub noise : List ℕ
   pub text : List ℕ
   pub hand : AtHand
+  pub pairs : hand.pairs ≡ u.before.books.pairs
   pub accepted : AgreedOffer
   pub agreed : agreed_offer hand way text ≡ Ok accepted
   pub same : accepted.offer ≡ o
@@ -111,6 +116,7 @@ rejection_closed now c d e = go (is_some c.offer) (eqb c.generations 0) e
 -- what an offer settles, and what is told of it
 record IsSettledBy (w : World) (id : CallId) (way : Way) (text : List ℕ) (r : Settled) : Type 0 where
   hand : AtHand
+  pairs : hand.pairs ≡ w.books.pairs
   accepted : AgreedOffer
   agreed : agreed_offer hand way text ≡ Ok accepted
   id_is : r.call.id ≡ id
@@ -121,7 +127,7 @@ settled_by : (w : World) (id : CallId) (c : Call) (way : Way) (noise text : List
 settled_by w id c way noise text r of_id e =
     let a = stop_if_is (not (takes_offer c)) State _ r e in
     let b = after_ok_is (agreed_offer (at_hand w.moment w.books c noise) way text) _ r a.1 in
-    subst (IsSettledBy w id way text) (ok_is _ r b.2) (record { hand = at_hand w.moment w.books c noise; accepted = b.0; agreed = b.1; id_is = of_id; offer = refl; told = refl })
+    subst (IsSettledBy w id way text) (ok_is _ r b.2) (record { hand = at_hand w.moment w.books c noise; pairs = refl; accepted = b.0; agreed = b.1; id_is = of_id; offer = refl; told = refl })
 
 module _ (ts : List Turn) (w : World) (made : WereMade ts w) (e : Event) where
   abbrev Now : List Turn
@@ -151,6 +157,7 @@ module _ (ts : List Turn) (w : World) (made : WereMade ts w) (e : Event) where
         noise = noise;
         text = text;
         hand = by.hand;
+        pairs = by.pairs;
         accepted = by.accepted;
         agreed = by.agreed;
         same = of_offer;
@@ -306,9 +313,19 @@ have_lines c d number peers text media stand sessions generations = (
 by_way : (way : Way) (hand : AtHand) (offered noise text : List ℕ) (c d : Call) (number : ℕ) (answer : sdp.Sdp) (a : AgreedOffer) (g : AgreedAnswer)
     → agreed_offer hand way offered ≡ Ok a → agreed_answer c.slot a.offer noise text ≡ Ok g → description_of text ≡ Ok answer
     → d.sessions ≡ sessions_from c.serial c.generations 0 number g.media ++ filter (stays c) c.sessions → d.generations ≡ c.generations + 1
-    → AreByTexts way a.offer.description answer a.text g.text d
-by_way FromSecure hand offered noise text c d number answer a g agreed e of_text sessions generations =
-    λ none. have_lines c d number a.offer.description.media g.text g.media (from_secure hand offered noise text c.slot a g agreed none e) sessions generations
+    → AreByTexts hand.pairs way a.offer.description answer a.text g.text d
+by_way FromSecure hand offered noise text c d number answer a g agreed e of_text sessions generations = (
+  (λ none. have_lines c d number a.offer.description.media g.text g.media (from_secure hand offered noise text c.slot a g agreed none e) sessions generations),
+  (λ some.
+      let is = by_peers_message hand offered noise text c.slot a g agreed some e in
+      let same : is.0 ≡ answer = ok_is is.0 answer (sym is.1 ∙ of_text) in
+      let by : AllByRecursion (IsByPeersMessage hand.pairs a.offer.description is.0) (sessions_from c.serial c.generations 0 number g.media) = elim is.2 [
+        | inl part ↦ by_part hand a.offer.description is.0 part.0 c.serial c.generations number g.media part.1
+        | inr own ↦ by_own hand a.offer.description is.0 own.0 c.serial c.generations number g.media own.1
+      ] in
+      of_generation c d (sessions_from c.serial c.generations 0 number g.media) (IsByPeersMessage hand.pairs a.offer.description answer) sessions generations
+      (subst (λ (answer : sdp.Sdp). AllByRecursion (IsByPeersMessage hand.pairs a.offer.description answer) (sessions_from c.serial c.generations 0 number g.media)) same by)),
+)
 by_way SdesFromPlain hand offered noise text c d number answer a g agreed e of_text sessions generations =
     let is = from_plain hand offered noise text c.slot a g agreed e in
     let same : is.0 ≡ answer = ok_is is.0 answer (sym is.1 ∙ of_text) in
@@ -328,7 +345,7 @@ module _ (ts : List Turn) (w : World) (made : WereMade ts w) (id : CallId) (nois
   answering = Signalled (Answered id noise text)
 
   abbrev IsByTexts : Call → Type 0
-  IsByTexts d = (x : Exchange ts (turn_of w answering) id c text) × AreByTexts x.way x.offer x.answer x.forth x.back d
+  IsByTexts d = (x : Exchange ts (turn_of w answering) id c text) × AreByTexts x.of_offer.before.books.pairs x.way x.offer x.answer x.forth x.back d
 
   texts_are : (o : Offer) (r : Settled) → c.offer ≡ Some o → IsAnswered c o noise text r → (u : Turn) → Any (λ x. x ≡ u) ts → MadeBy id o u
       → Any (λ x. x ≡ Sdp id o.side r.text) (step w answering).outcomes → IsByTexts r.call
@@ -361,7 +378,8 @@ module _ (ts : List Turn) (w : World) (made : WereMade ts w) (id : CallId) (nois
           back = is.agreement.text;
           tells_back = back;
         },
-        by_way by.way by.hand by.text noise text c r.call is.number of_answer.0 by.accepted is.agreement by.agreed agreed of_answer.1 is.sessions is.generations,
+        subst (λ (pairs : List Pair). AreByTexts pairs by.way by.accepted.offer.description of_answer.0 by.accepted.text is.agreement.text r.call) by.pairs
+            (by_way by.way by.hand by.text noise text c r.call is.number of_answer.0 by.accepted is.agreement by.agreed agreed of_answer.1 is.sessions is.generations),
       )
 
   refused_texts : (d : Call) → call_of w id ≡ Some d → d.generations ≡ c.generations + 1 → IsByTexts d
@@ -389,7 +407,7 @@ module _ (ts : List Turn) (w : World) (made : WereMade ts w) (id : CallId) (nois
 turn_texts : (ts : List Turn) (w : World) → WereMade ts w → (e : Event) → AnswerIsByTexts ts (turn_of w e)
 turn_texts ts w made e id noise text c d same at =
     subst (λ (e : Event). call_of (step w e).world id ≡ Some d → d.generations ≡ c.generations + 1
-    → (x : Exchange ts (turn_of w e) id c text) × AreByTexts x.way x.offer x.answer x.forth x.back d)
+    → (x : Exchange ts (turn_of w e) id c text) × AreByTexts x.of_offer.before.books.pairs x.way x.offer x.answer x.forth x.back d)
     (sym same) (answer_texts ts w made id noise text c at d)
 
 run_texts : (ts : List Turn) (w : World) (es : List Event) → WereMade ts w → (earlier later : List Turn) (t : Turn) → turns_from w es ≡ earlier ++ t ∷ later → AnswerIsByTexts (ts ++ earlier) t

@@ -22,6 +22,7 @@ pub mod Kept
 pub mod Lasting
 pub mod LineSessions
 pub mod Lives
+pub mod MessageSessions
 pub mod NewSessions
 pub mod Newness
 pub mod OnlySeals
@@ -34,8 +35,10 @@ pub mod Owned
 pub mod Owners
 pub mod Pairs
 pub mod Passing
+pub mod PeersMessages
 pub mod Places
 pub mod PlainTexts
+pub mod PolicySays
 pub mod PutOut
 pub mod Reached
 pub mod Refusals

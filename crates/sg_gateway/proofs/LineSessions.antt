@@ -16,7 +16,8 @@ use Rattle.sg_session.specs.Session.{Session}
 use Rattle.sg_session.specs.declared.names.Direction.{Direction}
 use Rattle.sg_session.specs.declared.names.Direction.TheVariants.{Opening, Sealing}
 use Rattle.sg_gateway.specs.Addressed.{IsMediumAt}
-use Rattle.sg_gateway.specs.ByTexts.{is_plain, life_of, line_of, tag_of, HasWindow, IsByLinesOf, HasItsLines, number_towards, IsByMessage}
+use Rattle.sg_gateway.specs.ByTexts.{is_plain, life_of, line_of, HasWindow, IsByLinesOf, HasItsLines, number_towards, IsByMessage}
+use Rattle.sg_gateway.specs.PeersMessages.{tag_octets}
 
 -- ---- keys
 
@@ -24,13 +25,13 @@ mapped_again : {X Y Z : Type 0} (g : Y → Z) (f : X → Y) (xs : List X) → ma
 mapped_again g f [] = refl
 mapped_again g f (x ∷ xs) = ap (λ ys. g (f x) ∷ ys) (mapped_again g f xs)
 
-masters_of : (kind : Kind) (n : ℕ) (ks : List AgreedKey) → map (λ k. k.master) (keys_of kind (numbered n ks)) ≡ map (λ k. k.master) ks
+pub masters_of : (kind : Kind) (n : ℕ) (ks : List AgreedKey) → map (λ k. k.master) (keys_of kind (numbered n ks)) ≡ map (λ k. k.master) ks
 masters_of Rtp n [] = refl
 masters_of Rtp n (k ∷ ks) = ap (λ ms. k.master ∷ ms) (masters_of Rtp (n + 1) ks)
 masters_of Rtcp n [] = refl
 masters_of Rtcp n (k ∷ ks) = ap (λ ms. k.master ∷ ms) (masters_of Rtcp (n + 1) ks)
 
-mkis_of : (kind : Kind) (n : ℕ) (ks : List AgreedKey) → map (λ k. k.mki) (keys_of kind (numbered n ks)) ≡ map (λ k. k.mki) ks
+pub mkis_of : (kind : Kind) (n : ℕ) (ks : List AgreedKey) → map (λ k. k.mki) (keys_of kind (numbered n ks)) ≡ map (λ k. k.mki) ks
 mkis_of Rtp n [] = refl
 mkis_of Rtp n (k ∷ ks) = ap (λ ms. k.mki ∷ ms) (mkis_of Rtp (n + 1) ks)
 mkis_of Rtcp n [] = refl
@@ -57,7 +58,7 @@ module _ (peers told : descriptions.Medium) (peer own : CryptoLine) (has : HasLi
       line : CryptoLine
       line = line_of direction peer own
 
-      this : (kind : Kind) (encrypts : Bool) (tag_len : ℕ) → encrypts ≡ not (is_plain kind peer) → tag_len ≡ tag_of kind line.suite
+      this : (kind : Kind) (encrypts : Bool) (tag_len : ℕ) → encrypts ≡ not (is_plain kind peer) → tag_len ≡ tag_octets kind line.suite
           → IsByLinesOf peers told (stream_session (owner_at call generation medium direction) (numbered n st.keys) st window x kind encrypts tag_len)
       this kind encrypts tag_len is_open tags = record {
         peer = peer;

@@ -1,5 +1,5 @@
 -- The sessions of an answer are by the texts that came and by those that were told: under crypto lines of theirs (RFC 4568, 5.1),
--- or in the crypto sessions of the gateway's MIKEY message (RFC 3830, 6.1.1).
+-- or in the crypto sessions of the peer's MIKEY message or of the gateway's (RFC 3830, 6.1.1).
 use Rattle.std.specs.Prelude.{◌≡◌, ℕ, ◌+◌, ◌*◌, List, ◌∷◌, ◌++◌, map, min, not, Bool, true, Some, Ok}
 use Rattle.std.specs.List.{All, Any}
 use Rattle.sg_agreement.specs.Keying.{Offer}
@@ -8,15 +8,14 @@ use Rattle.sg_agreement.specs.Sides.{other_side, side_of}
 use Rattle.sg_agreement.specs.TextLines.{HasNoMessage, HasLine, TellsLine, IsWindow, identifier}
 use Rattle.sg_agreement.specs.declared.ways.Way.{Way}
 use Rattle.sg_agreement.specs.declared.ways.Way.TheVariants.{FromSecure, SdesFromPlain, MikeyFromPlain}
-use Rattle.sg_base.specs.Suites.{tag_len_of}
 use Rattle.sg_base.specs.declared.addresses.CallId.{CallId}
 use Rattle.sg_base.specs.declared.addresses.Kind.{Kind}
 use Rattle.sg_base.specs.declared.addresses.Kind.TheVariants.{Rtp, Rtcp}
-use Rattle.sg_base.specs.declared.suites.Suite.{Suite}
 use Rattle.sg_base.specs.declared.suites.Suite.TheVariants.{Cm128Tag80}
 use Rattle.sg_csmap.specs.CryptoSessions.{master_in}
 use Rattle.sg_outcome.specs.declared.outcomes.Outcome.TheVariants as outcomes
 use Rattle.sg_psk.specs.Sending.{Sent}
+use Rattle.sg_psk.specs.declared.pairs.Pair.{Pair}
 use Rattle.sg_sdes.specs.declared.lines.CryptoLine.{CryptoLine}
 use Rattle.sg_sdp.specs.Descriptions.{spelling}
 use Rattle.sg_sdp.specs.Reading.{description_of}
@@ -27,6 +26,7 @@ use Rattle.sg_session.specs.declared.names.Direction.{Direction}
 use Rattle.sg_session.specs.declared.names.Direction.TheVariants.{Opening, Sealing}
 use Rattle.sg_base.specs.declared.sources.Admit.TheVariants as admit
 use Rattle.sg_gateway.specs.Addressed.{IsMediumAt}
+use Rattle.sg_gateway.specs.PeersMessages.{IsByPeersMessage, tag_octets}
 use Rattle.sg_gateway.specs.Runs.{Turn, turns, after_turn}
 use Rattle.sg_gateway.specs.Signals.{Offered, Answered}
 use Rattle.sg_gateway.specs.Step.{Event, Signalled}
@@ -43,11 +43,6 @@ line_of Sealing peer own = own
 abbrev pub life_of : Kind → ℕ → ℕ
 life_of Rtp life = life
 life_of Rtcp life = min life 2147483648
-
--- the octets of a tag, 10 of RTCP's in every suite (RFC 3711, 5.2)
-abbrev pub tag_of : Kind → Suite → ℕ
-tag_of Rtp suite = tag_len_of suite
-tag_of Rtcp suite = 10
 
 -- the line says that it is not encrypted (6.3.2)
 abbrev pub is_plain : Kind → CryptoLine → Bool
@@ -67,7 +62,7 @@ pub record IsUnderLine (s : Session) (peer line : CryptoLine) : Type 0 where
   pub lives : map (λ k. k.life) s.keys ≡ map (λ k. life_of s.name.kind k.lifetime) line.keys
   pub roc : s.roc ≡ 0
   pub sources : s.admit ≡ admit.Any
-  pub tags : s.tag_len ≡ tag_of s.name.kind line.suite
+  pub tags : s.tag_len ≡ tag_octets s.name.kind line.suite
   pub window : HasWindow s.name.owner.direction peer s.window
   pub encrypts : s.encrypts ≡ not (is_plain s.name.kind peer)
 
@@ -137,19 +132,23 @@ pub record Exchange (earlier : List Turn) (t : Turn) (id : CallId) (c : Call) (t
   pub back : List ℕ
   pub tells_back : Any (λ x. x ≡ outcomes.Sdp id (side_of way) back) t.outcomes
 
--- By lines where the secure side offered without a MIKEY message, and where the gateway offered lines to it; by the gateway's
--- message where it offered one.
-abbrev pub AreByTexts : Way → Sdp → Sdp → List ℕ → List ℕ → Call → Type 0
-AreByTexts FromSecure offer answer forth back d = HasNoMessage offer → HaveLines offer.media back d
-AreByTexts SdesFromPlain offer answer forth back d = HaveLines answer.media forth d
-AreByTexts (MikeyFromPlain peer) offer answer forth back d = AreByMessage forth answer d
+-- each session of the call's current generation is by a message of the secure side's offer
+abbrev pub AreByPeersMessages : List Pair → Sdp → Sdp → Call → Type 0
+AreByPeersMessages pairs offer answer d = All (λ s. s.name.owner.generation + 1 ≡ d.generations → IsByPeersMessage pairs offer answer s) d.sessions
+
+-- By lines where the secure side offered without a MIKEY message, and else by its messages, under the keys that were held when it
+-- offered; by lines where the gateway offered lines to it, and by the gateway's message where it offered one.
+abbrev pub AreByTexts : List Pair → Way → Sdp → Sdp → List ℕ → List ℕ → Call → Type 0
+AreByTexts pairs FromSecure offer answer forth back d = (HasNoMessage offer → HaveLines offer.media back d) × (¬ HasNoMessage offer → AreByPeersMessages pairs offer answer d)
+AreByTexts pairs SdesFromPlain offer answer forth back d = HaveLines answer.media forth d
+AreByTexts pairs (MikeyFromPlain peer) offer answer forth back d = AreByMessage forth answer d
 
 -- after an answer that makes a generation, each of its sessions is by the texts
 abbrev pub AnswerIsByTexts : List Turn → Turn → Type 0
 AnswerIsByTexts earlier t =
     (id : CallId) (noise text : List ℕ) (c d : Call) → t.event ≡ Signalled (Answered id noise text)
     → call_of t.before id ≡ Some c → call_of (after_turn t) id ≡ Some d → d.generations ≡ c.generations + 1
-    → (x : Exchange earlier t id c text) × AreByTexts x.way x.offer x.answer x.forth x.back d
+    → (x : Exchange earlier t id c text) × AreByTexts x.of_offer.before.books.pairs x.way x.offer x.answer x.forth x.back d
 
 abbrev pub AnswersAreByTexts : List Event → Type 0
 AnswersAreByTexts events = (earlier later : List Turn) (t : Turn) → turns events ≡ earlier ++ t ∷ later → AnswerIsByTexts earlier t

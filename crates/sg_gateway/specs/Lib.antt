@@ -25,6 +25,7 @@ pub mod Octets
 pub mod Order
 pub mod Owned
 pub mod Passing
+pub mod PeersMessages
 pub mod PeersPackets
 pub mod Places
 pub mod PlainTexts

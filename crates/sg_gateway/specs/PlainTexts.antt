@@ -1,11 +1,9 @@
 -- No text that the plain side is told has a key.
-use Rattle.std.specs.Prelude.{◌≡◌, ◌⊎◌, ℕ, List, ◌++◌, codes}
-use Rattle.std.specs.List.{All}
+use Rattle.std.specs.Prelude.{◌≡◌, ◌⊎◌, ℕ, Bool, List, ◌++◌, ◌==◌, ◌||◌, codes}
+use Rattle.std.specs.List.{All, slice_split}
 use Rattle.sg_base.specs.declared.addresses.Side.TheVariants.{Plain}
 use Rattle.sg_outcome.specs.declared.outcomes.Outcome.{Outcome}
 use Rattle.sg_outcome.specs.declared.outcomes.Outcome.TheVariants.{Sdp}
-use Rattle.sg_sdp.specs.Descriptions.{all_lines, spelling}
-use Rattle.sg_sdp.specs.declared.sdp.Sdp as descriptions
 use Rattle.sg_gateway.specs.Runs.{turns}
 use Rattle.sg_gateway.specs.Step.{Event}
 
@@ -13,9 +11,13 @@ use Rattle.sg_gateway.specs.Step.{Event}
 abbrev pub IsKeyLine : List ℕ → Type 0
 IsKeyLine line = (rest : List ℕ) × ((line ≡ codes "a=crypto:" ++ rest) ⊎ (line ≡ codes "a=key-mgmt:" ++ rest))
 
--- the text spells a description that has no such line
+-- a line ends at a CR and at an LF: between the two of one end stands a line without octets (RFC 4566, 5)
+abbrev pub ends_line : ℕ → Bool
+ends_line octet = octet == 13 || octet == 10
+
+-- no line of these octets is one, wherever a reader takes lines to end
 abbrev pub HasNoKey : List ℕ → Type 0
-HasNoKey text = (s : descriptions.Sdp) × (text ≡ spelling s) × All (λ line. ¬ IsKeyLine line) (all_lines s)
+HasNoKey text = All (λ line. ¬ IsKeyLine line) (slice_split ends_line text)
 
 -- it is no text for the plain side, or one that has no key
 abbrev pub TellsNoKey : Outcome → Type 0
