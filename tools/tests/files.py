@@ -197,6 +197,8 @@ def covered(folder):
     check("octets that are no text are told by their numbers",
           "caf\\xe9" in text and "\\x1b[2J" in text and "\x1b" not in text)
     check("--keys shows them", tool("outcomes.py", "--keys", stdin=line)[1].decode().count(SECRET) == 6)
+    status, out, _ = tool("outcomes.py", stdin=b"skip 3 Fragment\nskip 4 Fragment\nskip 9 CutShort\n")
+    check("skipped records are counted", status == 0 and b"CutShort  1\nFragment  2\n" in out)
     for line in (b"made 1\n", b"\xff\n"):
         check(f"{line} is no outcome", tool("outcomes.py", stdin=line)[0] == 1)
 

@@ -62,6 +62,8 @@ FAULTS = [
     ("an offer-plain without sdes", f"offer-plain 1 - {PLAIN.encode().hex()}\n", 2, 15, "Word",
      "Word: behind the call's number stands `sdes` or `mikey`"),
     ("a comment", "# the second call\n", 2, 1, "Word", "Word: a comment: a script has none"),
+    ("a capture's line", "capture\n", 2, 1, "Word",
+     "Word: a capture follows: the command `capture` alone takes one (here: `--capture`)"),
     ("an empty line", "\n", 2, 1, "Word", "Word: the line is empty: a script has no empty lines"),
     ("two spaces", "bye  1\n", 2, 4, "Word", "Word: two spaces: fields are separated by one"),
     ("a space at the end", "bye 1 \n", 2, 6, "Word", "Word: a space behind the last field"),
@@ -207,6 +209,14 @@ def check_refusal(program, name, script, words, cause):
     return [] if causes == [cause] else [f"{name}: the program refuses {causes}"]
 
 
+def check_captures():
+    """A line `capture` behind line 1 ends a script for the command of that name; in line 1 it is a fault."""
+    for script, said in ((b"srtpgw 2\nbye 1\ncapture\n\xd4\xc3", 1), (b"srtpgw 1\ncapture\n", 0), (b"capture\n", 1)):
+        lines = Why(script, True).lines()
+        if len(lines) != said or said and b"srtpgw" not in script and "Version" not in lines[0]:
+            yield f"{script}: says {lines}"
+
+
 def check_rows():
     """Every script of a replay whose outcomes are worked out by hand."""
     bad, count = [], 0
@@ -228,6 +238,7 @@ def check_rows():
 def main():
     program = sys.argv[1]
     bad, count = check_rows()
+    bad += check_captures()
     for name, script, line, column, fault, words in FAULTS:
         assert f"{fault}: " in words
         bad += check_fault(program, name, b"srtpgw 1\n" + script.encode(), line, column, words)
