@@ -1,5 +1,6 @@
 -- Streams after one datagram more.
-use Rattle.std.proofs.Common.{◌≡◌, ◌≢◌, ℕ, zero, suc, ◌+◌, ◌<◌, ◌≤◌, true, false, not, nat_eq, nat_lt, List, [], ◌∷◌, ◌++◌, length, map, take, get_or, slice_get, slice_set, Some, None, refl, arith, ap, subst, sym, ◌∙◌, ◌⊎◌, inl, inr}
+use Rattle.std.proofs.Common.{◌≡◌, ◌≢◌, ℕ, zero, suc, ◌+◌, ◌<◌, ◌≤◌, true, false, not, nat_eq, nat_lt, List, [], ◌∷◌, ◌++◌, length, map, take, get_or, slice_get, slice_set, Option, Some, None, refl, arith, ap, subst, sym, ◌∙◌, ◌⊎◌, inl, inr}
+use Rattle.std.specs.Prelude.{MatchOption}
 use Rattle.std.proofs.lemmas.Bool.{cases_eq, both_ways, ne_eqb, lt-ltb, or_left}
 use Rattle.std.proofs.lemmas.List.{map-append, length-map, length-set, take_more}
 use Rattle.std.proofs.lemmas.Option.{get_or_from_slice_get}
@@ -84,8 +85,8 @@ known_stands streams roc window done at t d s f new = record {
 }
 
 -- ---- a stream that is lent of the list
-pub known_at : (found streams : List StreamValue) (n ssrc at : ℕ) → found ≡ streams → n ≡ ssrc → IsAt found n at → IsAt streams ssrc at
-known_at found streams n ssrc at e f is = subst (λ (ts : List StreamValue). IsAt ts ssrc at) e (subst (λ m. IsAt found m at) f is)
+pub known_at : (streams : List StreamValue) (n ssrc at : ℕ) → n ≡ ssrc → IsAt streams n at → IsAt streams ssrc at
+known_at streams n ssrc at f is = subst (λ m. IsAt streams m at) f is
 
 pub known_room : (streams : List StreamValue) (roc window : ℕ) (done : List Done) (ssrc at : ℕ) → StreamsStand streams roc window done → IsAt streams ssrc at → true ≡ room_in done ssrc
 known_room streams roc window done ssrc at s f = sym (or_left _ _ (known_in streams roc window done ssrc at s f))
@@ -114,9 +115,16 @@ kinds_given_back lent streams kind ssrc at t other e kinds f same =
     subst (λ (ts : List StreamValue). AreOfKind ts kind) (ap (λ (ts : List StreamValue). slice_set ts at t) (sym e) ∙ sym (refilled streams lent at t e))
     (of_kind-set streams kind at t kinds (same ∙ (lent_of lent streams kind ssrc at other e kinds f).same_kind))
 
+pub row_given_back : (lent streams : List StreamValue) (row : List ℕ) (at : ℕ) (t other : StreamValue) → lent ≡ streams → row ≡ map source_of streams → t.ssrc ≡ (get_or lent at other).ssrc
+    → row ≡ map source_of (refill (length streams) streams (slice_set lent at t))
+row_given_back lent streams row at t other e in_row same =
+    in_row
+    ∙ sym (map-set_same source_of streams at t other (same ∙ ap (λ (ts : List StreamValue). (get_or ts at other).ssrc) e))
+    ∙ ap (map source_of) (ap (λ (ts : List StreamValue). slice_set ts at t) (sym e) ∙ sym (refilled streams lent at t e))
+
 -- ---- a stream of a new source
-pub new_source : (found streams : List StreamValue) (n ssrc : ℕ) → found ≡ streams → n ≡ ssrc → is_in (map source_of found) n ≡ false → is_in (map source_of streams) ssrc ≡ false
-new_source found streams n ssrc e f new = subst (λ (ts : List StreamValue). is_in (map source_of ts) ssrc ≡ false) e (subst (λ m. is_in (map source_of found) m ≡ false) f new)
+pub new_source : (streams : List StreamValue) (n ssrc : ℕ) → n ≡ ssrc → is_in (map source_of streams) n ≡ false → is_in (map source_of streams) ssrc ≡ false
+new_source streams n ssrc f new = subst (λ m. is_in (map source_of streams) m ≡ false) f new
 
 pub new_in : (streams : List StreamValue) (roc window : ℕ) (done : List Done) (ssrc : ℕ) → StreamsStand streams roc window done → is_in (map source_of streams) ssrc ≡ false → is_in (sources done) ssrc ≡ false
 new_in streams roc window done ssrc s h = subst (λ ns. is_in ns ssrc ≡ false) s.each_source h
@@ -150,14 +158,23 @@ new_stands streams roc window done t d s h new = record {
       ];
 }
 
--- one stream more that isn't of this source
-pub not_yet : (streams : List StreamValue) (i : ℕ) (t : StreamValue) (n : ℕ) → i < length streams → t ≡ get_or streams i t → t.ssrc ≢ n
-    → is_in (map source_of (take i streams)) n ≡ false → is_in (map source_of (take (i + 1) streams)) n ≡ false
-not_yet streams i t n h e ne f =
-    ap (λ xs. is_in (map source_of xs) n) (take_more streams i t h)
-    ∙ ap (λ xs. is_in xs n) (map-append source_of (take i streams) (get_or streams i t ∷ []))
-    ∙ is_in-push (map source_of (take i streams)) (get_or streams i t).ssrc n
-    ∙ rw (f, ← e, ne_eqb t.ssrc n ne) refl
+-- the stream at the position of a source
+stream_at : (streams : List StreamValue) (at ssrc : ℕ) → slice_get (map source_of streams) at ≡ Some ssrc → IsAt streams ssrc at
+stream_at [] at ssrc e = cc
+stream_at (t ∷ ts) zero ssrc e = record { stream = t; here = refl; source = cc }
+stream_at (t ∷ ts) (suc at) ssrc e = let is = stream_at ts at ssrc e in record { stream = is.stream; here = is.here; source = is.source }
+
+pub found_stream : (streams : List StreamValue) (row : List ℕ) (ssrc : ℕ) (r : Option ℕ) → row ≡ map source_of streams → MatchOption r (is_in row ssrc ≡ false) (λ at. slice_get row at ≡ Some ssrc)
+    → MatchOption r (is_in (map source_of streams) ssrc ≡ false) (IsAt streams ssrc)
+found_stream streams row ssrc None in_row new = subst (λ xs. is_in xs ssrc ≡ false) in_row new
+found_stream streams row ssrc (Some at) in_row here = stream_at streams at ssrc (subst (λ xs. slice_get xs at ≡ Some ssrc) in_row here)
+
+-- one source more that isn't this one
+pub not_yet : (row : List ℕ) (i x n : ℕ) → i < length row → x ≡ get_or row i x → x ≢ n → is_in (take i row) n ≡ false → is_in (take (i + 1) row) n ≡ false
+not_yet row i x n h e ne f =
+    ap (λ xs. is_in xs n) (take_more row i x h)
+    ∙ is_in-push (take i row) (get_or row i x) n
+    ∙ rw (f, ← e, ne_eqb x n ne) refl
 
 not_full : (n : ℕ) → n ≤ 64 → nat_lt n 64 ≡ not (nat_eq n 64)
 not_full n h =
@@ -173,10 +190,10 @@ new_room streams roc window done ssrc s h fits =
     let count : length (sources done) ≡ length streams = ap length (sym (s.each_source)) ∙ length-map streams source_of in
     rw (new_in streams roc window done ssrc s h, count) (not_full (length streams) fits)
 
-pub no_first : (streams : List StreamValue) (done : List Done) (ssrc : ℕ) → None ≡ slice_get streams 0 → map source_of streams ≡ sources done → true ≡ is_first done ssrc
+pub no_first : (row : List ℕ) (done : List Done) (ssrc : ℕ) → None ≡ slice_get row 0 → row ≡ sources done → true ≡ is_first done ssrc
 no_first [] done ssrc e s = sym (first_source done ssrc ∙ ap (λ ns. first_is ns ssrc) (sym s))
-no_first (t ∷ ts) done ssrc e s = cc
+no_first (x ∷ xs) done ssrc e s = cc
 
-pub some_first : (streams : List StreamValue) (t : StreamValue) (done : List Done) (ssrc : ℕ) → Some t ≡ slice_get streams 0 → map source_of streams ≡ sources done → nat_eq t.ssrc ssrc ≡ is_first done ssrc
-some_first [] t done ssrc e s = cc
-some_first (u ∷ us) t done ssrc e s = let same : t ≡ u = cc in ap (λ (v : StreamValue). nat_eq v.ssrc ssrc) same ∙ sym (first_source done ssrc ∙ ap (λ ns. first_is ns ssrc) (sym s))
+pub some_first : (row : List ℕ) (first : ℕ) (done : List Done) (ssrc : ℕ) → Some first ≡ slice_get row 0 → row ≡ sources done → nat_eq first ssrc ≡ is_first done ssrc
+some_first [] first done ssrc e s = cc
+some_first (x ∷ xs) first done ssrc e s = let same : first ≡ x = cc in ap (λ n. nat_eq n ssrc) same ∙ sym (first_source done ssrc ∙ ap (λ ns. first_is ns ssrc) (sym s))

@@ -1,5 +1,5 @@
 -- What a side shows, and the sessions that it stands for.
-use Rattle.std.specs.Prelude.{◌≡◌, ℕ, ◌<◌, ◌≤◌, Bool, true, List, [], length, All}
+use Rattle.std.specs.Prelude.{◌≡◌, ℕ, ◌<◌, ◌≤◌, Bool, true, List, [], length, map, All}
 use Rattle.sg_base.specs.declared.addresses.Kind.{Kind}
 use Rattle.sg_keys.specs.Live.{Live}
 use Rattle.sg_keys.specs.Stands.{live}
@@ -9,7 +9,7 @@ use Rattle.sg_base.specs.declared.sources.Admit.{Admit}
 pub use Rattle.sg_states.specs.Parts.{is_tag_len}
 use Rattle.sg_states.specs.StreamValues.{StreamValue}
 use Rattle.sg_media.specs.Ciphers.{HaveCiphers}
-use Rattle.sg_media.specs.Standing.{AreOfKind, StreamsStand}
+use Rattle.sg_media.specs.Standing.{source_of, AreOfKind, StreamsStand}
 
 pub record SideValue : Type 0 where
   pub kind : Kind
@@ -22,13 +22,14 @@ pub record SideValue : Type 0 where
   pub tag_len : ℕ
 
 -- what is always true of a side
-pub record IsSide (keys : List Live) (streams : List StreamValue) (kind : Kind) (window : ℕ) (encrypts : Bool) (tag_len : ℕ) : Type 0 where
+pub record IsSide (keys : List Live) (streams : List StreamValue) (row : List ℕ) (kind : Kind) (window : ℕ) (encrypts : Bool) (tag_len : ℕ) : Type 0 where
   pub at_least : 64 ≤ window
   pub at_most : window ≤ 1024
   pub tag : is_tag_len kind tag_len ≡ true
   pub some : 0 < length keys
   pub ciphers : HaveCiphers keys kind encrypts
   pub kinds : AreOfKind streams kind
+  pub in_row : row ≡ map source_of streams
 
 -- A side stands for a session: it has its keys with their counts, and its streams stand for what is done.
 pub record StandsFor (side : SideValue) (s : Session) : Type 0 where

@@ -7,11 +7,9 @@ ghost use Rattle.sg_media.specs.Steps.{HasDone, SideTakes, side_opens};
 use crate::faults::{of_head, of_key};
 use crate::inbound::Opened;
 use crate::opening::open_among;
-use crate::streams::admits;
-use arrayvec::ArrayVec;
+use crate::streams::{Streams, admits};
 use sg_base::{DropCause, Kind, Pad};
 use sg_keys::{Admit, KeySet, SessionSpec};
-use sg_states::Stream;
 use sg_states::inbound::{Headed, Keyed};
 use std::marker::Model;
 
@@ -21,7 +19,7 @@ use std::marker::Model;
 pub struct OpenSide {
     kind: Kind,
     keys: KeySet,
-    streams: ArrayVec<Stream, 64>,
+    streams: Streams,
     roc: u32,
     window: u16,
     admit: Admit,
@@ -37,7 +35,7 @@ impl Model for OpenSide {
     ghost view = { λ s. record {
       kind = s.kind;
       keys = s.keys;
-      streams = s.streams.items;
+      streams = s.streams.list.items;
       roc = s.roc;
       window = s.window;
       admit = s.admit;
@@ -45,7 +43,7 @@ impl Model for OpenSide {
       tag_len = s.tag_len;
     } };
 
-    ghost invariant = { λ s. IsSide s.keys s.streams.items s.kind s.window s.encrypts s.tag_len };
+    ghost invariant = { λ s. IsSide s.keys s.streams.list.items s.streams.row.items s.kind s.window s.encrypts s.tag_len };
 }
 
 impl OpenSide {
@@ -77,7 +75,7 @@ impl OpenSide {
         OpenSide {
             kind,
             keys,
-            streams: ArrayVec::new(),
+            streams: Streams::new(),
             roc,
             window,
             admit,
@@ -103,7 +101,7 @@ impl OpenSide {
             Ok(headed) => headed,
             Err((pad, fault)) => return Err((pad, of_head(fault))),
         };
-        if !admits(self.admit, self.streams.as_slice(), headed.ssrc()) {
+        if !admits(self.admit, self.streams.row.as_slice(), headed.ssrc()) {
             return Err((headed.refuse(), DropCause::SsrcUnknown));
         }
         match headed.key(&self.keys) {

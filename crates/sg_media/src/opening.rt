@@ -1,18 +1,17 @@
 //! Opening a datagram in one stream, and among the streams of a side.
 
-ghost use Rattle.std.specs.Prelude.{◌≡◌, ℕ, ◌≤◌, List, IfOk, IfErr, MatchResult, OnOk, OnErr, true, slice_get, Some};
+ghost use Rattle.std.specs.Prelude.{◌≡◌, ℕ, ◌≤◌, List, map, IfOk, IfErr, MatchResult, OnOk, OnErr, true, slice_get, Some};
 ghost use Rattle.sg_keys.specs.Live.{Live, spent};
 ghost use Rattle.sg_session.specs.Session.{Done};
 ghost use Rattle.sg_states.specs.Inbound.{CanServe, IsPlacedAs};
 ghost use Rattle.sg_states.specs.Placing.{placed};
 ghost use Rattle.sg_states.specs.Streams.{ForIndicesOf, IsOpenPlace, IsStreamOf, StreamStands, TakesIn};
 ghost use Rattle.sg_media.specs.Answers.{answer_at, entry_of, opened_among, opened_at};
-ghost use Rattle.sg_media.specs.Standing.{AreOfKind, StreamsStand, StreamsTake};
+ghost use Rattle.sg_media.specs.Standing.{source_of, AreOfKind, StreamsStand, StreamsTake};
 
 use crate::faults::{of_place, of_stale};
 use crate::inbound::Opened;
-use crate::streams::find;
-use arrayvec::ArrayVec;
+use crate::streams::Streams;
 use sg_base::{DropCause, Kind, Pad};
 use sg_keys::KeySet;
 use sg_states::Stream;
@@ -52,7 +51,7 @@ fn open_in(
     ensures answer { (ssrc roc window : ℕ) (indices : List ℕ) (key : Live) → StreamStands stream.old ssrc roc window indices
         → slice_get keys.old keyed.key ≡ Some key
         → result ≡ answer_at keyed.headed.kind keyed.headed.pad (opened_at keyed.headed key room (placed keyed.headed.kind roc window indices keyed.headed.head.number)) }
-    ensures of { stream.new.kind ≡ stream.old.kind }
+    ensures of { (stream.new.kind ≡ stream.old.kind) × (stream.new.ssrc ≡ stream.old.ssrc) }
     ensures stream { IfOk result (λ o. TakesIn stream.old stream.new o.index) }
     ensures keys { IfOk result (λ o. keys.new ≡ spent o.key keys.old) }
     ensures source { IfOk result (λ o. o.ssrc ≡ keyed.headed.head.ssrc) }
@@ -87,26 +86,28 @@ fn open_in(
 /// opened.
 pub(crate) fn open_among(
     keyed: Keyed,
-    streams: &mut ArrayVec<Stream, 64>,
+    streams: &mut Streams,
     keys: &mut KeySet,
     roc: u32,
     window: u16,
 ) -> Result<Opened, (Pad, DropCause)>
     requires at_least { 64 ≤ window }
     requires at_most { window ≤ 1024 }
-    requires kinds { AreOfKind streams.old.items keyed.headed.kind }
+    requires kinds { AreOfKind streams.old.list.items keyed.headed.kind }
+    requires row { streams.old.row.items ≡ map source_of streams.old.list.items }
     requires key { CanServe keys.old keyed.key keyed.number keyed.headed.head.encrypted }
-    ensures answer { (done : List Done) (key : Live) → StreamsStand streams.old.items roc window done
+    ensures answer { (done : List Done) (key : Live) → StreamsStand streams.old.list.items roc window done
         → slice_get keys.old keyed.key ≡ Some key → result ≡ answer_at keyed.headed.kind keyed.headed.pad (opened_among keyed.headed key roc window done) }
-    ensures streams { IfOk result (λ o. StreamsTake streams.old.items streams.new.items roc window (entry_of o)) }
+    ensures streams { IfOk result (λ o. StreamsTake streams.old.list.items streams.new.list.items roc window (entry_of o)) }
     ensures keys { IfOk result (λ o. keys.new ≡ spent o.key keys.old) }
-    ensures kinds { AreOfKind streams.new.items keyed.headed.kind }
+    ensures kinds { AreOfKind streams.new.list.items keyed.headed.kind }
+    ensures row { streams.new.row.items ≡ map source_of streams.new.list.items }
     ensures back { IfErr result (λ e. e.0 ≡ keyed.headed.pad) }
-    ensures stays { OnErr result ((streams.new.items ≡ streams.old.items) × (keys.new ≡ keys.old)) }
+    ensures stays { OnErr result ((streams.new.list.items ≡ streams.old.list.items) × (keys.new ≡ keys.old)) }
 {
-    match find(streams.as_slice(), keyed.ssrc()) {
+    match streams.find(keyed.ssrc()) {
         Some(at) => {
-            let known = streams.as_mut_slice();
+            let known = streams.list.as_mut_slice();
             match open_in(keyed, &mut known[at], keys, true) {
                 Ok(opened) => Ok(opened),
                 Err(refused) => Err(refused),
@@ -114,7 +115,7 @@ pub(crate) fn open_among(
         }
         None => {
             let mut stream = Stream::fresh(keyed.kind(), keyed.ssrc(), roc, window);
-            let room = !streams.is_full();
+            let room = !streams.list.is_full();
             match open_in(keyed, &mut stream, keys, room) {
                 Ok(opened) => {
                     streams.push(stream);

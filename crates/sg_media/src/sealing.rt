@@ -1,6 +1,6 @@
 //! Sealing a packet in one stream, and among the streams of a side.
 
-ghost use Rattle.std.specs.Prelude.{◌≡◌, ℕ, ◌≤◌, List, IfOk, IfErr, MatchResult, OnErr, true};
+ghost use Rattle.std.specs.Prelude.{◌≡◌, ℕ, ◌≤◌, List, map, IfOk, IfErr, MatchResult, OnErr, true};
 ghost use Rattle.sg_keys.specs.Live.{spent};
 ghost use Rattle.sg_session.specs.Session.{Done};
 ghost use Rattle.sg_states.specs.Outbound.{IsNumbered, IsNumberedAs};
@@ -9,12 +9,11 @@ ghost use Rattle.sg_states.specs.Placing.{next_index};
 ghost use Rattle.sg_states.specs.Streams.{ForIndicesOf, IsStreamOf, StreamStands, TakesIn};
 ghost use Rattle.sg_media.specs.Answers.{closed_among, entry_out, roomed, sealed_at, told_of};
 ghost use Rattle.sg_media.specs.Ciphers.{EachEncrypts};
-ghost use Rattle.sg_media.specs.Standing.{AreOfKind, StreamsStand, StreamsTake, room_in};
+ghost use Rattle.sg_media.specs.Standing.{source_of, AreOfKind, StreamsStand, StreamsTake, room_in};
 
 use crate::faults::{of_number, of_rtcp_number};
 use crate::outbound::Sealed;
-use crate::streams::find;
-use arrayvec::ArrayVec;
+use crate::streams::Streams;
 use sg_base::{DropCause, Kind, Pad};
 use sg_keys::KeySet;
 use sg_states::Stream;
@@ -31,7 +30,7 @@ fn number(
     requires { IsStreamOf stream.old headed.kind headed.head.ssrc }
     ensures kept { MatchResult result (IsNumbered headed keys.old) (λ e. e.0 ≡ headed.pad) }
     ensures answer { ForIndicesOf stream.old (λ roc window indices. IsNumberedAs (λ cause. cause) keys.old (next_index headed.kind roc window indices headed.head.number) result) }
-    ensures of { stream.new.kind ≡ stream.old.kind }
+    ensures of { (stream.new.kind ≡ stream.old.kind) × (stream.new.ssrc ≡ stream.old.ssrc) }
     ensures taken { MatchResult result (λ n. TakesIn stream.old stream.new n.index) (λ _. stream.new ≡ stream.old) }
     ensures spent { MatchResult result (λ n. keys.new ≡ spent n.number keys.old) (λ _. keys.new ≡ keys.old) }
 {
@@ -60,7 +59,7 @@ fn seal_in(
     requires ciphers { EachEncrypts keys.old headed.head.encrypted }
     ensures answer { (ssrc roc window : ℕ) (indices : List ℕ) → StreamStands stream.old ssrc roc window indices
         → result ≡ told_of headed.kind headed.pad (sealed_at headed keys.old tag_len (next_index headed.kind roc window indices headed.head.number)) }
-    ensures of { stream.new.kind ≡ stream.old.kind }
+    ensures of { (stream.new.kind ≡ stream.old.kind) × (stream.new.ssrc ≡ stream.old.ssrc) }
     ensures stream { IfOk result (λ o. TakesIn stream.old stream.new o.index) }
     ensures keys { IfOk result (λ o. keys.new ≡ spent o.key keys.old) }
     ensures source { IfOk result (λ o. o.ssrc ≡ headed.head.ssrc) }
@@ -87,7 +86,7 @@ fn seal_in(
 /// Seals a packet whose source is admitted. A new source's stream takes a place only where the packet is sealed.
 pub(crate) fn seal_among(
     headed: Headed,
-    streams: &mut ArrayVec<Stream, 64>,
+    streams: &mut Streams,
     keys: &mut KeySet,
     tag_len: usize,
     roc: u32,
@@ -96,26 +95,28 @@ pub(crate) fn seal_among(
     requires at_least { 64 ≤ window }
     requires at_most { window ≤ 1024 }
     requires tag { is_tag_len headed.kind tag_len ≡ true }
-    requires kinds { AreOfKind streams.old.items headed.kind }
+    requires kinds { AreOfKind streams.old.list.items headed.kind }
+    requires row { streams.old.row.items ≡ map source_of streams.old.list.items }
     requires ciphers { EachEncrypts keys.old headed.head.encrypted }
-    ensures answer { (done : List Done) → StreamsStand streams.old.items roc window done
+    ensures answer { (done : List Done) → StreamsStand streams.old.list.items roc window done
         → result ≡ told_of headed.kind headed.pad (roomed (room_in done headed.head.ssrc) (closed_among headed keys.old tag_len roc window done)) }
-    ensures streams { IfOk result (λ o. StreamsTake streams.old.items streams.new.items roc window (entry_out headed.pad o)) }
+    ensures streams { IfOk result (λ o. StreamsTake streams.old.list.items streams.new.list.items roc window (entry_out headed.pad o)) }
     ensures keys { IfOk result (λ o. keys.new ≡ spent o.key keys.old) }
-    ensures kinds { AreOfKind streams.new.items headed.kind }
+    ensures kinds { AreOfKind streams.new.list.items headed.kind }
+    ensures row { streams.new.row.items ≡ map source_of streams.new.list.items }
     ensures back { IfErr result (λ e. e.0 ≡ headed.pad) }
-    ensures stays { OnErr result ((streams.new.items ≡ streams.old.items) × (keys.new ≡ keys.old)) }
+    ensures stays { OnErr result ((streams.new.list.items ≡ streams.old.list.items) × (keys.new ≡ keys.old)) }
 {
-    match find(streams.as_slice(), headed.ssrc()) {
+    match streams.find(headed.ssrc()) {
         Some(at) => {
-            let known = streams.as_mut_slice();
+            let known = streams.list.as_mut_slice();
             match seal_in(headed, &mut known[at], keys, tag_len) {
                 Ok(sealed) => Ok(sealed),
                 Err(refused) => Err(refused),
             }
         }
         None => {
-            if streams.is_full() {
+            if streams.list.is_full() {
                 return Err((headed.refuse(), DropCause::StreamsFull));
             }
             let mut stream = Stream::fresh(headed.kind(), headed.ssrc(), roc, window);

@@ -18,11 +18,12 @@ invariant_of-self c = record {
   tag = c.self.invariant.tag;
   some = some_after (λ (o : Opened). o.key) _ c.open_among.result c.open_among.new.keys c.self.inside.keys c.open_among.ensures.keys c.open_among.ensures.stays c.self.invariant.some;
   ciphers = ciphers_after (λ (o : Opened). o.key) _ c.open_among.result c.open_among.new.keys c.self.inside.keys c.self.inside.kind c.self.inside.encrypts c.open_among.ensures.keys c.open_among.ensures.stays c.self.invariant.ciphers;
-  kinds = subst (AreOfKind c.open_among.new.streams.items) (c.in-Ok.ensures.back.1 ∙ sym (ap (λ (v : SideValue). v.kind) c.self.view_is)) c.open_among.ensures.kinds;
+  kinds = subst (AreOfKind c.open_among.new.streams.list.items) (c.in-Ok.ensures.back.1 ∙ sym (ap (λ (v : SideValue). v.kind) c.self.view_is)) c.open_among.ensures.kinds;
+  in_row = c.open_among.ensures.row;
 }
 
 pub open_among-requires-clause-kinds : goal.open_among-requires-clause-kinds
-open_among-requires-clause-kinds c = subst (AreOfKind c.self.inside.streams.items) (ap (λ (v : SideValue). v.kind) c.self.view_is ∙ sym (c.in-Ok.ensures.back.1)) c.self.invariant.kinds
+open_among-requires-clause-kinds c = subst (AreOfKind c.self.inside.streams.list.items) (ap (λ (v : SideValue). v.kind) c.self.view_is ∙ sym (c.in-Ok.ensures.back.1)) c.self.invariant.kinds
 
 pub returns-in-Err-clause-steps : goal.returns-in-Err-clause-steps
 returns-in-Err-clause-steps c = λ done has.
@@ -68,15 +69,15 @@ returns-clause-answer c = λ s standing.
 
 pub returns-clause-takes : goal.returns-clause-takes
 returns-clause-takes c =
-    let side : SideValue = record { kind = c.self.inside.kind; keys = c.self.inside.keys; streams = c.self.inside.streams.items; roc = c.self.inside.roc; window = c.self.inside.window; admit = c.self.inside.admit; encrypts = c.self.inside.encrypts; tag_len = c.self.inside.tag_len } in
-    let new : SideValue = record { kind = c.self.inside.kind; keys = c.open_among.new.keys; streams = c.open_among.new.streams.items; roc = c.self.inside.roc; window = c.self.inside.window; admit = c.self.inside.admit; encrypts = c.self.inside.encrypts; tag_len = c.self.inside.tag_len } in
+    let side : SideValue = record { kind = c.self.inside.kind; keys = c.self.inside.keys; streams = c.self.inside.streams.list.items; roc = c.self.inside.roc; window = c.self.inside.window; admit = c.self.inside.admit; encrypts = c.self.inside.encrypts; tag_len = c.self.inside.tag_len } in
+    let new : SideValue = record { kind = c.self.inside.kind; keys = c.open_among.new.keys; streams = c.open_among.new.streams.list.items; roc = c.self.inside.roc; window = c.self.inside.window; admit = c.self.inside.admit; encrypts = c.self.inside.encrypts; tag_len = c.self.inside.tag_len } in
     let same : c.match-open_among.result ≡ c.open_among.result = elim c.match-open_among.branch [
       | in-Ok-open_among w ↦ w.result-is ∙ sym (w.in-Ok-open_among.is)
       | in-Err-open_among w ↦ w.result-is ∙ sym (w.in-Err-open_among.is)
     ] in
     subst (λ r. IfOk r (λ o. SideTakes c.args.self.now new (entry_of o))) (sym same)
     (subst (λ (v : SideValue). IfOk c.open_among.result (λ o. SideTakes v new (entry_of o))) c.self.view_is
-    (side_takes entry_of side c.open_among.result c.open_among.new.keys c.open_among.new.streams.items c.open_among.ensures.streams c.open_among.ensures.keys))
+    (side_takes entry_of side c.open_among.result c.open_among.new.keys c.open_among.new.streams.list.items c.open_among.ensures.streams c.open_among.ensures.keys))
 
 pub returns-clause-after : goal.returns-clause-after
 returns-clause-after c = λ s standing.
@@ -88,5 +89,5 @@ returns-clause-after c = λ s standing.
     c.open_among.ensures.answer s.done a.key here a.at
     ∙ keyed_opens _ s.done c.args.pad c.in-Ok.keyed a
     ∙ session_opens _ s c.args.pad st in
-    stands_after entry_of _ s (opens s c.args.pad) c.open_among.result c.open_among.new.keys c.open_among.new.streams.items st
+    stands_after entry_of _ s (opens s c.args.pad) c.open_among.result c.open_among.new.keys c.open_among.new.streams.list.items st
     (opened_tells s.name.kind c.args.pad (opens s c.args.pad) c.open_among.result answer) c.open_among.ensures.streams c.open_among.ensures.keys c.open_among.ensures.stays

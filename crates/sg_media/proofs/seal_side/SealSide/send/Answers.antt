@@ -19,7 +19,8 @@ invariant_of-self c = record {
   tag = c.self.invariant.tag;
   some = some_after (λ (o : Sealed). o.key) _ c.seal_among.result c.seal_among.new.keys c.self.inside.keys c.seal_among.ensures.keys c.seal_among.ensures.stays c.self.invariant.some;
   ciphers = ciphers_after (λ (o : Sealed). o.key) _ c.seal_among.result c.seal_among.new.keys c.self.inside.keys c.self.inside.kind c.self.inside.encrypts c.seal_among.ensures.keys c.seal_among.ensures.stays c.self.invariant.ciphers;
-  kinds = subst (AreOfKind c.seal_among.new.streams.items) (c.in-Ok.ensures.back.1 ∙ sym (ap (λ (v : SideValue). v.kind) c.self.view_is)) c.seal_among.ensures.kinds;
+  kinds = subst (AreOfKind c.seal_among.new.streams.list.items) (c.in-Ok.ensures.back.1 ∙ sym (ap (λ (v : SideValue). v.kind) c.self.view_is)) c.seal_among.ensures.kinds;
+  in_row = c.seal_among.ensures.row;
 }
 
 pub seal_among-requires-clause-tag : goal.seal_among-requires-clause-tag
@@ -27,7 +28,7 @@ seal_among-requires-clause-tag c =
     subst (λ k. is_tag_len k c.self.inside.tag_len ≡ true) (ap (λ (v : SideValue). v.kind) c.self.view_is ∙ sym (c.in-Ok.ensures.back.1)) c.self.invariant.tag
 
 pub seal_among-requires-clause-kinds : goal.seal_among-requires-clause-kinds
-seal_among-requires-clause-kinds c = subst (AreOfKind c.self.inside.streams.items) (ap (λ (v : SideValue). v.kind) c.self.view_is ∙ sym (c.in-Ok.ensures.back.1)) c.self.invariant.kinds
+seal_among-requires-clause-kinds c = subst (AreOfKind c.self.inside.streams.list.items) (ap (λ (v : SideValue). v.kind) c.self.view_is ∙ sym (c.in-Ok.ensures.back.1)) c.self.invariant.kinds
 
 pub returns-in-Err-clause-steps : goal.returns-in-Err-clause-steps
 returns-in-Err-clause-steps c = λ done has.
@@ -75,17 +76,17 @@ returns-clause-answer c = λ s standing.
 
 pub returns-clause-takes : goal.returns-clause-takes
 returns-clause-takes c =
-    let side : SideValue = record { kind = c.self.inside.kind; keys = c.self.inside.keys; streams = c.self.inside.streams.items; roc = c.self.inside.roc; window = c.self.inside.window; admit = c.self.inside.admit; encrypts = c.self.inside.encrypts; tag_len = c.self.inside.tag_len } in
-    let new : SideValue = record { kind = c.self.inside.kind; keys = c.seal_among.new.keys; streams = c.seal_among.new.streams.items; roc = c.self.inside.roc; window = c.self.inside.window; admit = c.self.inside.admit; encrypts = c.self.inside.encrypts; tag_len = c.self.inside.tag_len } in
+    let side : SideValue = record { kind = c.self.inside.kind; keys = c.self.inside.keys; streams = c.self.inside.streams.list.items; roc = c.self.inside.roc; window = c.self.inside.window; admit = c.self.inside.admit; encrypts = c.self.inside.encrypts; tag_len = c.self.inside.tag_len } in
+    let new : SideValue = record { kind = c.self.inside.kind; keys = c.seal_among.new.keys; streams = c.seal_among.new.streams.list.items; roc = c.self.inside.roc; window = c.self.inside.window; admit = c.self.inside.admit; encrypts = c.self.inside.encrypts; tag_len = c.self.inside.tag_len } in
     let same : c.match-seal_among.result ≡ c.seal_among.result = elim c.match-seal_among.branch [
       | in-Ok-seal_among w ↦ w.result-is ∙ sym (w.in-Ok-seal_among.is)
       | in-Err-seal_among w ↦ w.result-is ∙ sym (w.in-Err-seal_among.is)
     ] in
     let pad : c.in-Ok.headed.pad ≡ c.args.pad = c.in-Ok.ensures.back.0 in
-    let grown = subst (λ p. IfOk c.seal_among.result (λ o. StreamsTake c.self.inside.streams.items c.seal_among.new.streams.items c.self.inside.roc c.self.inside.window (entry_out p o))) pad c.seal_among.ensures.streams in
+    let grown = subst (λ p. IfOk c.seal_among.result (λ o. StreamsTake c.self.inside.streams.list.items c.seal_among.new.streams.list.items c.self.inside.roc c.self.inside.window (entry_out p o))) pad c.seal_among.ensures.streams in
     subst (λ r. IfOk r (λ o. SideTakes c.args.self.now new (entry_out c.args.pad o))) (sym same)
     (subst (λ (v : SideValue). IfOk c.seal_among.result (λ o. SideTakes v new (entry_out c.args.pad o))) c.self.view_is
-    (side_takes (entry_out c.args.pad) side c.seal_among.result c.seal_among.new.keys c.seal_among.new.streams.items grown c.seal_among.ensures.keys))
+    (side_takes (entry_out c.args.pad) side c.seal_among.result c.seal_among.new.keys c.seal_among.new.streams.list.items grown c.seal_among.ensures.keys))
 
 pub returns-clause-after : goal.returns-clause-after
 returns-clause-after c = λ s standing.
@@ -98,6 +99,6 @@ returns-clause-after c = λ s standing.
     ∙ admitted_seals _ s.done c.args.pad c.in-Ok.headed a
     ∙ session_seals _ s c.args.pad st c.self.invariant.some in
     let pad : c.in-Ok.headed.pad ≡ c.args.pad = c.in-Ok.ensures.back.0 in
-    let grown = subst (λ p. IfOk c.seal_among.result (λ o. StreamsTake c.self.inside.streams.items c.seal_among.new.streams.items c.self.inside.roc c.self.inside.window (entry_out p o))) pad c.seal_among.ensures.streams in
-    stands_after (entry_out c.args.pad) _ s (seals s c.args.pad) c.seal_among.result c.seal_among.new.keys c.seal_among.new.streams.items st
+    let grown = subst (λ p. IfOk c.seal_among.result (λ o. StreamsTake c.self.inside.streams.list.items c.seal_among.new.streams.list.items c.self.inside.roc c.self.inside.window (entry_out p o))) pad c.seal_among.ensures.streams in
+    stands_after (entry_out c.args.pad) _ s (seals s c.args.pad) c.seal_among.result c.seal_among.new.keys c.seal_among.new.streams.list.items st
     (sealed_tells s c.args.pad (seals s c.args.pad) c.seal_among.result refl answer) grown c.seal_among.ensures.keys c.seal_among.ensures.stays
