@@ -16,8 +16,8 @@ use Rattle.sg_session.specs.Session.{Session}
 use Rattle.sg_session.specs.declared.names.Direction.{Direction}
 use Rattle.sg_session.specs.declared.names.Direction.TheVariants.{Opening, Sealing}
 use Rattle.sg_gateway.specs.Addressed.{IsMediumAt}
-use Rattle.sg_gateway.specs.ByTexts.{is_plain, life_of, line_of, HasWindow, IsByLinesOf, HasItsLines, number_towards, IsByMessage}
-use Rattle.sg_gateway.specs.PeersMessages.{tag_octets}
+use Rattle.sg_gateway.specs.ByTexts.{is_plain, line_towards, HasWindow, IsByLinesOf, HasItsLines, number_towards, IsByMessage}
+use Rattle.sg_gateway.specs.PeersMessages.{life_of, tag_octets}
 
 -- ---- keys
 
@@ -51,12 +51,12 @@ IsKindOf direction peer st window = HasWindow direction peer window × (st.encry
 
 module _ (peers told : descriptions.Medium) (peer own : CryptoLine) (has : HasLine peers peer) (tells : TellsLine told own) (tag : own.tag ≡ peer.tag)
     (call generation medium n : ℕ) (x : Medium) where
-  stream_lined : (direction : Direction) (st : Stream) (window : ℕ) → IsUnder st (line_of direction peer own) → IsKindOf direction peer st window
+  stream_lined : (direction : Direction) (st : Stream) (window : ℕ) → IsUnder st (line_towards direction peer own) → IsKindOf direction peer st window
       → AllByRecursion (IsByLinesOf peers told) (stream_sessions (owner_at call generation medium direction) (numbered n st.keys) st window x)
   stream_lined direction st window under of_kind = (this Rtp st.encrypts_rtp st.tag_len of_kind.1 under.tags, go x.has_rtcp)
     where
       line : CryptoLine
-      line = line_of direction peer own
+      line = line_towards direction peer own
 
       this : (kind : Kind) (encrypts : Bool) (tag_len : ℕ) → encrypts ≡ not (is_plain kind peer) → tag_len ≡ tag_octets kind line.suite
           → IsByLinesOf peers told (stream_session (owner_at call generation medium direction) (numbered n st.keys) st window x kind encrypts tag_len)

@@ -1,17 +1,16 @@
 -- The sessions of media that are agreed by the peer's messages are in the crypto sessions of these.
-use Rattle.std.proofs.Common.{◌≡◌, inl, inr, ℕ, suc, zero, ◌+◌, ◌*◌, ◌<◌, Bool, true, false, cond, not, eqb, eqb-true, List, [], ◌∷◌, ◌++◌, length, map, take, filter, Option, Some, None, refl, sym, ap, ◌∙◌, subst, arith}
+use Rattle.std.proofs.Common.{◌≡◌, inl, inr, ℕ, suc, ◌^◌, ◌+◌, Bool, true, false, cond, not, eqb, eqb-true, List, [], ◌∷◌, ◌++◌, length, map, take, filter, Option, Some, None, refl, sym, ap, ◌∙◌, subst, arith}
 use Rattle.std.proofs.lemmas.Bool.{eqb-false}
 use Rattle.std.specs.List.{AllByRecursion}
 use Rattle.sg_agreement.proofs.TextLines.{octets_are}
 use Rattle.sg_agreement.specs.Attributes.{own_ssrc}
 use Rattle.sg_agreement.specs.Generations.{keys_of, numbered, owner_at, sessions_from, stream_session, stream_sessions}
-use Rattle.sg_agreement.specs.Media.{AgreedKey, Medium, Stream}
+use Rattle.sg_agreement.specs.Media.{Medium, Stream}
 use Rattle.sg_agreement.specs.Messages.{AtHand}
 use Rattle.sg_agreement.specs.Sides.{is_active}
-use Rattle.sg_agreement.specs.Streams.{admit_of, octets_of, session_key, stream_of_session, with_source}
+use Rattle.sg_agreement.specs.Streams.{admit_of, session_key, stream_of_session, with_source}
 use Rattle.sg_agreement.specs.TextLines.{IsMessageLine, identifier}
 use Rattle.sg_base.specs.Keys.{Master}
-use Rattle.sg_base.specs.Mkis.{MkiValue}
 use Rattle.sg_base.specs.declared.addresses.Kind.{Kind}
 use Rattle.sg_base.specs.declared.addresses.Kind.TheVariants.{Rtp, Rtcp}
 use Rattle.sg_base.specs.declared.addresses.Side.TheVariants.{Secure}
@@ -19,11 +18,9 @@ use Rattle.sg_base.specs.declared.sources.Admit.TheVariants as admit
 use Rattle.sg_base.specs.declared.suites.Suite.{Suite}
 use Rattle.sg_csmap.specs.CryptoSessions.{keys_in, stream_keys}
 use Rattle.sg_csmap.specs.declared.sessions.StreamKeys.{StreamKeys}
-use Rattle.sg_mikey.specs.declared.message.CsEntry.{CsEntry}
 use Rattle.sg_mikey.specs.declared.message.Message.{Message}
 use Rattle.sg_mikey.specs.declared.message.Tgk.{Tgk}
 use Rattle.sg_psk.specs.Parts.{random_in}
-use Rattle.sg_psk.specs.declared.pairs.Pair.{Pair}
 use Rattle.sg_sdp.specs.declared.medium.Medium as descriptions
 use Rattle.sg_sdp.specs.declared.sdp.Sdp.{Sdp}
 use Rattle.sg_session.proofs.Lists.{each_append, each_weaker}
@@ -34,7 +31,7 @@ use Rattle.sg_gateway.proofs.LineSessions.{masters_of, mkis_of}
 use Rattle.sg_gateway.proofs.PeersMessages.{IsBetween, IsOfOwn, IsOfPart, IsPair, IsSent, MediaFrom}
 use Rattle.sg_gateway.proofs.PolicySays.{IsByItems, by_items}
 use Rattle.sg_gateway.specs.Addressed.{IsMediumAt}
-use Rattle.sg_gateway.specs.PeersMessages.{PeersMessage, IsByPeersMessage, IsInCryptoSession, IsKeyedByPeer, IsRollover, IsSource, Says, encryption_item, master_under, most_of, session_of, source_told, tag_octets, window_towards}
+use Rattle.sg_gateway.specs.PeersMessages.{PeersMessage, IsByPeersMessage, IsInCryptoSession, IsKeyedByPeer, IsRollover, IsSource, Says, encryption_item, life_of, master_under, session_of, source_told, tag_octets, window_towards}
 
 -- ---- keys
 
@@ -52,7 +49,7 @@ mkis_in m number suite (k ∷ ks) =
     λ i. this i ∷ rest i
 
 lives_in : (m : Message) (number n : ℕ) (suite : Suite) (kind : Kind) (tgks : List Tgk)
-    → AllByRecursion (λ k. k.life ≡ most_of kind) (keys_of kind (numbered n (map session_key (keys_in m.csb (random_in m.payloads) number suite tgks))))
+    → AllByRecursion (λ k. k.life ≡ life_of kind (2 ^ 48)) (keys_of kind (numbered n (map session_key (keys_in m.csb (random_in m.payloads) number suite tgks))))
 lives_in m number n suite Rtp [] = tt
 lives_in m number n suite Rtcp [] = tt
 lives_in m number n suite Rtp (k ∷ ks) = (refl, lives_in m number (n + 1) suite Rtp ks)
@@ -260,8 +257,8 @@ module _ (h : AtHand) (offer answer : Sdp) where
       all_by (IsOfOwn h) P (λ others m n s is. inr (none, is.0, is.1))
       (λ others m n call generation medium a x q. (
         each_weaker (IsInCryptoSession q.0.message q.0.tgks 0 n) (P others m n) (λ s is. (q.0, is)) (stream_sessions (owner_at call generation medium Opening) (numbered a x.from_peer.keys) x.from_peer x.window x)
-      (opening_in q.0.message q.0.tgks 0 n call generation medium a x q.1 q.2 q.3),
+            (opening_in q.0.message q.0.tgks 0 n call generation medium a x q.1 q.2 q.3),
         each_weaker (IsInCryptoSession q.0.message q.0.tgks 0 n) (P others m n) (λ s is. (q.0, is)) (stream_sessions (owner_at call generation medium Sealing) (numbered (a + length x.from_peer.keys) x.to_peer.keys) x.to_peer 1024 x)
-      (sealing_in q.0.message q.0.tgks 0 n call generation medium (a + length x.from_peer.keys) x q.1 q.2 q.3),
+            (sealing_in q.0.message q.0.tgks 0 n call generation medium (a + length x.from_peer.keys) x q.1 q.2 q.3),
       ))
       call generation a xs are

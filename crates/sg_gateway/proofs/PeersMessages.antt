@@ -1,7 +1,7 @@
 -- What the peer's own MIKEY message keys is under the keys that it carries, in the crypto sessions of its medium.
-use Rattle.std.proofs.Common.{◌≡◌, ◌⊎◌, inl, inr, ℕ, ◌+◌, ◌*◌, Bool, true, false, cond, not, ◌&&◌, ◌||◌, eqb, eqb-true, ltb, List, [], ◌∷◌, ◌++◌, length, map, codes, Option, Some, None, Result, Ok, Err, refl, sym, ap, ◌∙◌, subst, arith, append_assoc, length-append}
+use Rattle.std.proofs.Common.{◌≡◌, ◌⊎◌, inl, inr, ℕ, ◌+◌, ◌*◌, Bool, true, false, cond, not, ◌&&◌, ◌||◌, eqb, eqb-true, ltb, List, [], ◌∷◌, ◌++◌, length, map, codes, Option, Some, None, Result, Ok, refl, sym, ap, ◌∙◌, subst, arith, append_assoc, length-append}
 use Rattle.std.proofs.lemmas.Bool.{not-false}
-use Rattle.std.specs.List.{AllByRecursion, Any, cons_option, filter_map, find, list_any}
+use Rattle.std.specs.List.{AllByRecursion, cons_option, filter_map, list_any}
 use Rattle.std.specs.Option.{is_some, option_map}
 use Rattle.sg_agreement.proofs.FewMedia.{described_is}
 use Rattle.sg_agreement.proofs.Inversions.{or_refusal_is}
@@ -14,11 +14,11 @@ use Rattle.sg_agreement.specs.EachMedium.{each_active, each_kept, if_active, if_
 use Rattle.sg_agreement.specs.Keyed.{Keyed, media_agreed, medium_agreed}
 use Rattle.sg_agreement.specs.Keying.{Keying, PeerLines, PeerMessage, PeerMessages, Offer}
 use Rattle.sg_agreement.specs.Media.{Medium}
-use Rattle.sg_agreement.specs.MessageAnswers.{first_streams, keyed_as_responder, keyed_by_message, next_if, over_active, own_streams, response_line}
+use Rattle.sg_agreement.specs.MessageAnswers.{first_streams, keyed_as_responder, keyed_by_message, next_if, over_active, own_streams}
 use Rattle.sg_agreement.specs.Messages.{AtHand, Bundle, bundle_in, message_in}
 use Rattle.sg_agreement.specs.Offers.{AgreedOffer, agreed_offer, chosen_in, keying_by_messages, keying_of}
 use Rattle.sg_agreement.specs.Refusals.{of_cs, of_message, of_psk, or_refusal}
-use Rattle.sg_agreement.specs.Sides.{active_count, actives_after, is_active, other_side}
+use Rattle.sg_agreement.specs.Sides.{active_count, actives_after, is_active}
 use Rattle.sg_agreement.specs.Streams.{stream_of_session, with_source}
 use Rattle.sg_agreement.specs.TextLines.{IsMessageLine, HasNoMessage}
 use Rattle.sg_agreement.specs.declared.ways.Way.TheVariants.{FromSecure}
@@ -26,7 +26,6 @@ use Rattle.sg_base.proofs.Cases.{and_then_some, guarded, map_some, none_some, so
 use Rattle.sg_base.specs.declared.addresses.Side.TheVariants.{Secure, Plain}
 use Rattle.sg_base.specs.declared.faults.CsFault.TheVariants.{CsCount, PolicyMissing}
 use Rattle.sg_base.specs.declared.faults.MikeyFault.TheVariants.{DataType}
-use Rattle.sg_base.specs.declared.faults.PskFault.{PskFault}
 use Rattle.sg_base.specs.declared.faults.PskFault.TheVariants.{CacheFull}
 use Rattle.sg_base.specs.declared.faults.Refusal.{Refusal}
 use Rattle.sg_base.specs.declared.faults.Refusal.TheVariants.{KeyMgmt, Mikey}
@@ -40,7 +39,7 @@ use Rattle.sg_mikey.specs.declared.message.CsEntry.{CsEntry}
 use Rattle.sg_mikey.specs.declared.message.Message.{Message}
 use Rattle.sg_mikey.specs.declared.message.Tgk.{Tgk}
 use Rattle.sg_mikey.specs.declared.policy.Policy.{Policy}
-use Rattle.sg_psk.specs.Accepting.{Accepted, accepted_with, fault_of, initial_of, initial_under, keys_in, unless, with_keys}
+use Rattle.sg_psk.specs.Accepting.{Accepted, accepted_with, fault_of, initial_of, initial_under, keys_in, with_keys}
 use Rattle.sg_psk.specs.Pairs.{pair_named}
 use Rattle.sg_psk.specs.Parts.{names_in, policies_in, random_in}
 use Rattle.sg_psk.specs.declared.pairs.Pair.{Pair}

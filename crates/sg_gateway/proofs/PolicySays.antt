@@ -1,14 +1,13 @@
 -- What a policy means is what its items say.
-use Rattle.std.proofs.Common.{◌≡◌, ◌⊎◌, inl, inr, ℕ, ◌+◌, ◌*◌, ◌/◌, ◌%◌, Bool, true, false, cond, not, ◌&&◌, ◌||◌, eqb, eqb-true, List, [], ◌∷◌, Option, Some, None, refl, sym, ap, ◌∙◌, subst, arith}
+use Rattle.std.proofs.Common.{◌≡◌, ◌⊎◌, inl, inr, ℕ, ◌*◌, ◌/◌, ◌%◌, Bool, true, false, cond, ◌&&◌, ◌||◌, eqb, eqb-true, List, [], ◌∷◌, Option, Some, None, refl, sym, ap, ◌∙◌, subst, arith}
 use Rattle.std.proofs.lemmas.Bool.{and_parts, eqb-false}
 use Rattle.std.proofs.lemmas.List.Elements.{All-from_recursion}
-use Rattle.std.specs.List.{All, AllByRecursion, Any, find, list_all, list_any}
+use Rattle.std.specs.List.{AllByRecursion, Any, find, list_all, list_any}
 use Rattle.std.specs.Option.{is_some, option_and_then}
 use Rattle.sg_agreement.proofs.Inversions.{each_true, find_all}
 use Rattle.sg_base.proofs.Cases.{and_then_some, guarded, some_is}
 use Rattle.sg_base.specs.Octets.{number_of}
 use Rattle.sg_base.specs.Suites.{key_len_of, tag_len_of}
-use Rattle.sg_base.specs.declared.suites.Suite.{Suite}
 use Rattle.sg_base.specs.declared.suites.Suite.TheVariants.{Cm128Tag80, Cm128Tag32, Cm192Tag80, Cm192Tag32, Cm256Tag80, Cm256Tag32}
 use Rattle.sg_csmap.specs.Policies.{Row, are_served, each_once, is_served, is_short, meaning, protection_by, protection_of, rows, said_by, said_or, suite_of, value_in, value_of}
 use Rattle.sg_csmap.specs.declared.policies.Protection.{Protection}

@@ -12,7 +12,7 @@ use Rattle.sg_session.proofs.Inversions.{stop_if_is}
 use Rattle.sg_session.proofs.Taking.{IsCheckOf, checked_is}
 use Rattle.sg_session.specs.Opening.{Check, Head, before_mki, checked, covered_of_kind, end_len, half_in, head_in, head_of_kind, mki_in, mki_len, tag_fits, tag_in}
 use Rattle.sg_session.specs.Session.{Session}
-use Rattle.sg_gateway.specs.Unforged.{HasTag, covered_by}
+use Rattle.sg_gateway.specs.Unforged.{HasTag, under_tag}
 
 mki_long : (s : Session) (d : List ℕ) (h : Head) → head_in s d ≡ Ok h → length (mki_in s d) ≡ mki_len s
 mki_long s d h e =
@@ -25,11 +25,11 @@ module _ (s : Session) (d : List ℕ) (k : Check) (checks : checked s d ≡ Ok k
       let is : IsCheckOf s d k = checked_is s d k checks in
       ap (λ n. take (length d - (n + s.tag_len)) d) (ap length (same_octets_is _ _ is.mki) ∙ mki_long s d k.head is.head)
 
-  covers : (kind : Kind) → covered_by kind k.index (take (length d - (length k.key.mki + s.tag_len)) d) ≡ covered_of_kind kind s k d
+  covers : (kind : Kind) → under_tag kind k.index (take (length d - (length k.key.mki + s.tag_len)) d) ≡ covered_of_kind kind s k d
   covers Rtp = ap (λ octets. octets ++ be (k.index / 65536) 4) before_is
   covers Rtcp = before_is
 
-  code_is : take s.tag_len (hmac_sha1 (half_in s k.key).auth (covered_by s.name.kind k.index (take (length d - (length k.key.mki + s.tag_len)) d)))
+  code_is : take s.tag_len (hmac_sha1 (half_in s k.key).auth (under_tag s.name.kind k.index (take (length d - (length k.key.mki + s.tag_len)) d)))
       ≡ take s.tag_len (hmac_sha1 (half_in s k.key).auth (covered_of_kind s.name.kind s k d))
   code_is = ap (λ octets. take s.tag_len (hmac_sha1 (half_in s k.key).auth octets)) (covers s.name.kind)
 

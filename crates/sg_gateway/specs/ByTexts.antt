@@ -1,6 +1,6 @@
 -- The sessions of an answer are by the texts that came and by those that were told: under crypto lines of theirs (RFC 4568, 5.1),
 -- or in the crypto sessions of the peer's MIKEY message or of the gateway's (RFC 3830, 6.1.1).
-use Rattle.std.specs.Prelude.{◌≡◌, ℕ, ◌+◌, ◌*◌, List, ◌∷◌, ◌++◌, map, min, not, Bool, true, Some, Ok}
+use Rattle.std.specs.Prelude.{◌≡◌, ℕ, ◌+◌, ◌*◌, List, ◌∷◌, ◌++◌, map, not, Bool, true, Some, Ok}
 use Rattle.std.specs.List.{All, Any}
 use Rattle.sg_agreement.specs.Keying.{Offer}
 use Rattle.sg_agreement.specs.OwnMessages.{TellsMessage, IsResponseTo}
@@ -26,7 +26,7 @@ use Rattle.sg_session.specs.declared.names.Direction.{Direction}
 use Rattle.sg_session.specs.declared.names.Direction.TheVariants.{Opening, Sealing}
 use Rattle.sg_base.specs.declared.sources.Admit.TheVariants as admit
 use Rattle.sg_gateway.specs.Addressed.{IsMediumAt}
-use Rattle.sg_gateway.specs.PeersMessages.{IsByPeersMessage, tag_octets}
+use Rattle.sg_gateway.specs.PeersMessages.{IsByPeersMessage, life_of, tag_octets}
 use Rattle.sg_gateway.specs.Runs.{Turn, turns, after_turn}
 use Rattle.sg_gateway.specs.Signals.{Offered, Answered}
 use Rattle.sg_gateway.specs.Step.{Event, Signalled}
@@ -35,14 +35,9 @@ use Rattle.sg_gateway.specs.World.{Call, call_of}
 -- ---- one session
 
 -- what is opened is under the peer's line, and what is sealed under the gateway's
-abbrev pub line_of : Direction → CryptoLine → CryptoLine → CryptoLine
-line_of Opening peer own = peer
-line_of Sealing peer own = own
-
--- a key serves 2^31 SRTCP packets at most (RFC 3711, 9.2)
-abbrev pub life_of : Kind → ℕ → ℕ
-life_of Rtp life = life
-life_of Rtcp life = min life 2147483648
+abbrev pub line_towards : Direction → CryptoLine → CryptoLine → CryptoLine
+line_towards Opening peer own = peer
+line_towards Sealing peer own = own
 
 -- the line says that it is not encrypted (6.3.2)
 abbrev pub is_plain : Kind → CryptoLine → Bool
@@ -73,7 +68,7 @@ pub record IsByLinesOf (peers told : descriptions.Medium) (s : Session) : Type 0
   pub has : HasLine peers peer
   pub tells : TellsLine told own
   pub tag : own.tag ≡ peer.tag
-  pub under : IsUnderLine s peer (line_of s.name.owner.direction peer own)
+  pub under : IsUnderLine s peer (line_towards s.name.owner.direction peer own)
 
 -- so by the lines of its own medium
 pub record HasItsLines (peers told : List descriptions.Medium) (s : Session) : Type 0 where

@@ -1,10 +1,10 @@
 -- The sessions that the peer's own MIKEY message keys: under the keys that the message carries, in the crypto sessions of
 -- their medium, as the message's policy and map say (RFC 3830, 4.1.3, 6.1.1 and 6.10.1; RFC 4567, 3.1).
-use Rattle.std.specs.Prelude.{◌≡◌, ◌⊎◌, ℕ, ◌+◌, ◌*◌, ◌^◌, List, [], ◌∷◌, ◌++◌, length, take, map, filter, min, not, Option, Some, Ok, ◌==◌, codes}
+use Rattle.std.specs.Prelude.{◌≡◌, ◌⊎◌, ℕ, ◌+◌, ◌*◌, ◌^◌, List, ◌∷◌, ◌++◌, length, take, map, filter, min, not, Some, Ok, ◌==◌, codes}
 use Rattle.std.specs.List.{All, AllByRecursion, Any, find}
 use Rattle.sg_agreement.specs.Attributes.{own_ssrc}
 use Rattle.sg_agreement.specs.Sides.{is_active}
-use Rattle.sg_agreement.specs.TextLines.{IsMessageLine, HasNoMessage, identifier}
+use Rattle.sg_agreement.specs.TextLines.{IsMessageLine, identifier}
 use Rattle.sg_base.specs.Keys.{Master}
 use Rattle.sg_base.specs.Octets.{number_of}
 use Rattle.sg_base.specs.Suites.{key_len_of, tag_len_of}
@@ -88,10 +88,10 @@ abbrev pub tag_octets : Kind → Suite → ℕ
 tag_octets Rtp suite = tag_len_of suite
 tag_octets Rtcp suite = 10
 
--- a key serves 2^48 SRTP packets and 2^31 SRTCP packets at most (RFC 3711, 9.2)
-abbrev pub most_of : Kind → ℕ
-most_of Rtp = 2 ^ 48
-most_of Rtcp = 2 ^ 31
+-- a key serves 2^31 SRTCP packets at most (RFC 3711, 9.2)
+abbrev pub life_of : Kind → ℕ → ℕ
+life_of Rtp life = life
+life_of Rtcp life = min life 2147483648
 
 -- what the sender of a crypto session says of itself: the peer in the map, and the gateway, which begins at 0, in the answer
 abbrev pub IsRollover : Direction → CsEntry → ℕ → Type 0
@@ -124,7 +124,7 @@ pub record IsInCryptoSession (m : Message) (tgks : List Tgk) (others : ℕ) (ans
   pub tag_len : Says policy.items 11 10 (tag_len_of suite)
   pub masters : map (λ k. k.master) s.keys ≡ map (master_under m (session_of s.name.owner.direction others) suite) tgks
   pub mkis : map (λ k. k.mki) s.keys ≡ map (λ k. identifier k.spi) tgks
-  pub lives : AllByRecursion (λ k. k.life ≡ most_of s.name.kind) s.keys
+  pub lives : AllByRecursion (λ k. k.life ≡ life_of s.name.kind (2 ^ 48)) s.keys
   pub tags : s.tag_len ≡ tag_octets s.name.kind suite
   pub on : ℕ
   pub says_on : Says policy.items (encryption_item s.name.kind) 1 on
