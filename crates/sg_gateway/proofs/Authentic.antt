@@ -64,7 +64,7 @@ use Rattle.sg_gateway.specs.World.{Books, Call, World, call_of, is_full, same_id
 
 -- ---- stages
 
-none_unless : {X : Type 0} (b : Bool) (x : X) (r : Option X) → cond b (Some x) r ≡ None → (b ≡ false) × (r ≡ None)
+pub none_unless : {X : Type 0} (b : Bool) (x : X) (r : Option X) → cond b (Some x) r ≡ None → (b ≡ false) × (r ≡ None)
 none_unless true x r e = absurd cc
 none_unless false x r e = (refl, e)
 

@@ -23,10 +23,11 @@ use Rattle.sg_agreement.specs.Streams.{stream_of_session, with_source}
 use Rattle.sg_agreement.specs.TextLines.{IsMessageLine, HasNoMessage}
 use Rattle.sg_agreement.specs.declared.ways.Way.TheVariants.{FromSecure}
 use Rattle.sg_base.proofs.Cases.{and_then_some, guarded, map_some, none_some, some_is}
+use Rattle.sg_base.proofs.SameOctets.{same_octets_is}
 use Rattle.sg_base.specs.declared.addresses.Side.TheVariants.{Secure, Plain}
 use Rattle.sg_base.specs.declared.faults.CsFault.TheVariants.{CsCount, PolicyMissing}
 use Rattle.sg_base.specs.declared.faults.MikeyFault.TheVariants.{DataType}
-use Rattle.sg_base.specs.declared.faults.PskFault.TheVariants.{CacheFull}
+use Rattle.sg_base.specs.declared.faults.PskFault.TheVariants.{Algorithm, BadMac, CacheFull}
 use Rattle.sg_base.specs.declared.faults.Refusal.{Refusal}
 use Rattle.sg_base.specs.declared.faults.Refusal.TheVariants.{KeyMgmt, Mikey}
 use Rattle.sg_csmap.proofs.Loops.{is_there}
@@ -39,9 +40,10 @@ use Rattle.sg_mikey.specs.declared.message.CsEntry.{CsEntry}
 use Rattle.sg_mikey.specs.declared.message.Message.{Message}
 use Rattle.sg_mikey.specs.declared.message.Tgk.{Tgk}
 use Rattle.sg_mikey.specs.declared.policy.Policy.{Policy}
-use Rattle.sg_psk.specs.Accepting.{Accepted, accepted_with, fault_of, initial_of, initial_under, keys_in, with_keys}
+use Rattle.sg_psk.specs.Accepting.{Accepted, accepted_with, fault_of, initial_fits, initial_of, is_served, initial_under, keys_in, with_keys}
+use Rattle.sg_psk.specs.Envelope.{mac_of}
 use Rattle.sg_psk.specs.Pairs.{pair_named}
-use Rattle.sg_psk.specs.Parts.{names_in, policies_in, random_in}
+use Rattle.sg_psk.specs.Parts.{closing_in, names_in, policies_in, random_in}
 use Rattle.sg_psk.specs.declared.pairs.Pair.{Pair}
 use Rattle.sg_psk.specs.declared.replays.Noted.{Noted}
 use Rattle.sg_sdes.specs.KeyTexts.{base64_at}
@@ -51,7 +53,7 @@ use Rattle.sg_sdp.specs.declared.sdp.Sdp.{Sdp}
 use Rattle.sg_session.proofs.Inversions.{after_ok_is, ok_is, stop_if_is}
 use Rattle.sg_session.proofs.Lists.{any_weaker}
 use Rattle.sg_session.specs.Stages.{after_ok}
-use Rattle.sg_gateway.proofs.Authentic.{message_is, pair_is, unless_is}
+use Rattle.sg_gateway.proofs.Authentic.{message_is, none_unless, pair_is, unless_is}
 use Rattle.sg_gateway.specs.PeersMessages.{Carries, PeersMessage, IsEntryOf}
 
 -- ---- the attribute
@@ -118,7 +120,7 @@ has_none s e =
 module _ (pairs : List Pair) (lines : List (List ℕ)) where
   initial_is : (octets : List ℕ) (m : Message) (noted : List Noted) (now : ℕ) (a : Accepted) → mikey_octets (mikey_value lines) ≡ Some octets → messages.message_of octets ≡ Ok m → m.kind ≡ 0
       → initial_of octets m pairs noted now ≡ Ok a → (p : PeersMessage pairs lines) × (accepted_with p.message p.pair p.tgks ≡ a)
-  unfolding initial_of initial_under with_keys keys_in
+  unfolding initial_of initial_under with_keys keys_in fault_of initial_fits mac_of
   initial_is octets m noted now a carried read kind e = go (pair_named pairs (names_in m.payloads)) refl e
     where
       keys : (pair : Pair) (o : Option (List Tgk)) → with_keys m pair (length noted) o ≡ Ok a → (ts : List Tgk) × (o ≡ Some ts) × (accepted_with m pair ts ≡ a)
@@ -131,7 +133,9 @@ module _ (pairs : List Pair) (lines : List (List ℕ)) where
           let u = unless_is (fault_of octets m pair noted now) (with_keys m pair (length noted) (keys_in m pair)) a e in
           let k = keys pair (keys_in m pair) u.1 in
           let p = pair_is pairs (names_in m.payloads) pair is in
-          (record { octets = octets; carried = octets_carried lines octets carried; message = m; read = read; kind = kind; pair = pair; held = p.0; names = p.1; tgks = k.0; keys = k.1 }, k.2)
+          let served = none_unless (not (is_served (closing_in m.payloads))) Algorithm _ u.0 in
+          let mac = none_unless (not (initial_fits octets m pair)) BadMac _ served.1 in
+          (record { octets = octets; carried = octets_carried lines octets carried; message = m; read = read; kind = kind; pair = pair; held = p.0; names = p.1; code = same_octets_is _ _ (not-false _ mac.0); tgks = k.0; keys = k.1 }, k.2)
 
 -- ---- its crypto sessions
 

@@ -14,13 +14,14 @@ use Rattle.sg_base.specs.declared.addresses.Side.TheVariants.{Secure}
 use Rattle.sg_base.specs.declared.sources.Admit.{Admit}
 use Rattle.sg_base.specs.declared.sources.Admit.TheVariants as admit
 use Rattle.sg_base.specs.declared.suites.Suite.{Suite}
-use Rattle.sg_hmac.specs.Labels.{traffic_key, traffic_salt}
+use Rattle.sg_hmac.specs.Hmac.{hmac_sha1}
+use Rattle.sg_hmac.specs.Labels.{authentication_key, traffic_key, traffic_salt}
 use Rattle.sg_mikey.specs.Reading.{message_of}
 use Rattle.sg_mikey.specs.declared.message.CsEntry.{CsEntry}
 use Rattle.sg_mikey.specs.declared.message.Message.{Message}
 use Rattle.sg_mikey.specs.declared.message.Tgk.{Tgk}
 use Rattle.sg_mikey.specs.declared.policy.Policy.{Policy}
-use Rattle.sg_psk.specs.Envelope.{enciphered}
+use Rattle.sg_psk.specs.Envelope.{before_mac, enciphered}
 use Rattle.sg_psk.specs.KeyData.{tgks_of}
 use Rattle.sg_psk.specs.Parts.{closing_in, names_in, policies_in, random_in, stamp_in}
 use Rattle.sg_psk.specs.declared.pairs.Pair.{Pair}
@@ -39,8 +40,8 @@ use Rattle.sg_gateway.specs.Authentic.{AreNamesOf}
 abbrev pub Carries : List (List ℕ) → List ℕ → Type 0
 Carries lines octets = Any (λ line. (text : List ℕ) × (line ≡ codes "a=key-mgmt:mikey " ++ text) × (base64_at text ≡ Some octets)) lines
 
--- A message of an initiator that these lines carry, from one of whom a key is held, and the keys that it has under its
--- cipher, which that key opens.
+-- A message of an initiator that these lines carry, from one of whom a key is held, under which its MAC is the code of all
+-- before it; and the keys that it has under its cipher, which that key opens.
 pub record PeersMessage (pairs : List Pair) (lines : List (List ℕ)) : Type 0 where
   pub octets : List ℕ
   pub carried : Carries lines octets
@@ -50,6 +51,7 @@ pub record PeersMessage (pairs : List Pair) (lines : List (List ℕ)) : Type 0 w
   pub pair : Pair
   pub held : Any (λ p. p ≡ pair) pairs
   pub names : AreNamesOf pair (names_in message.payloads)
+  pub code : (closing_in message.payloads).tag ≡ hmac_sha1 (authentication_key pair.key message.csb (random_in message.payloads)) (before_mac octets)
   pub tgks : List Tgk
   pub keys : tgks_of (enciphered pair.key message.csb (random_in message.payloads) (stamp_in message.payloads) (closing_in message.payloads).octets) ≡ Some tgks
 
