@@ -4,10 +4,10 @@
     bench/moments.py [COUNT] [--rounds N] [--program FILE]
 
 COUNT (100,000) datagrams of one call: packets of 172 octets that are opened and sealed in turns, or datagrams of no octets,
-which are dropped (of these 59,000 at most: the call ends a minute later). In version 1; in version 2 all at one moment; in version 2 each a millisecond behind the one before; and
-in version 1 with a `tick` line before each, which says the same. Seconds are those of the processor, medians of N rounds
-(5) with the rows in turns. What is written is compared. Ends with 1 where moments of their own take more than twice the
-time of version 1."""
+which are dropped (of these 59,000 at most: the call ends a minute later). In version 1; in version 2 all at one moment; in
+version 2 each a millisecond behind the one before; and in version 1 with a `tick` line before each, which says the same.
+Seconds are those of the processor, medians of N rounds (5) with the rows in turns. What is written is compared. Ends with 1
+where moments of their own take more than twice the time of version 1."""
 
 import argparse
 import os
@@ -101,7 +101,8 @@ def main():
     if words.program == PROGRAM:
         # The program is built where it isn't.
         subprocess.run([WRAPPER, "replay"], stdin=subprocess.DEVNULL, check=True)
-    print(f"{words.count:,} datagrams, {os.cpu_count()} processors, load average {os.getloadavg()[0]:.2f}, medians of {words.rounds} rounds")
+    load = f"{os.cpu_count()} processors, load average {os.getloadavg()[0]:.2f}"
+    print(f"{words.count:,} datagrams, {load}, medians of {words.rounds} rounds")
     print()
     print("| datagrams | script | seconds of the processor | of version 1 |")
     print("| --- | --- | ---: | ---: |")

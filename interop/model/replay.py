@@ -34,8 +34,8 @@ class Told:
 
 
 class Relayed(Told):
-    """The same of a relay whose clock always reads one moment and to which nothing comes over the network. A line's own
-    moment isn't used, and a `tick` line can only be `tick 0`, whose one turn is an event of nothing."""
+    """The same of a relay whose clock always reads one moment and to which nothing comes over the network: packets are sent
+    and not written, a line's own moment isn't used, and a `tick` line can only be `tick 0`, whose turn brings nothing."""
 
     def __init__(self, script, now):
         self.first = now
@@ -44,9 +44,11 @@ class Relayed(Told):
     def told(self, word, *values):
         if word == "header":
             return self.world.signal("tick", self.first)
-        if word == "at":
-            return super().told("in", *values[1:])
-        return [] if (word, *values) == ("tick", 0) else super().told(word, *values)
+        if word == "tick":
+            assert values == (0,), "a relay's wait"
+            return []
+        told = super().told(*(("in", *values[1:]) if word == "at" else (word, *values)))
+        return [line for line in told if not line.startswith("out ")]
 
 
 def told(world, word, *values):
