@@ -2,17 +2,16 @@
 
 ghost use Rattle.std.specs.Prelude.{◌≡◌};
 ghost use Rattle.sg_gateway.specs.World.{World};
-ghost use Rattle.sg_leg.specs.declared.books.Books as declared_books;
 ghost use Rattle.sg_table.specs.Handling.{IsHandled};
 ghost use Rattle.sg_table.specs.Standing.{Stands, TableStandsFor};
-ghost use Rattle.sg_table.specs.Values.{AreIndexed, AreRising, shapes_of};
+ghost use Rattle.sg_table.specs.Values.{AreIndexed, shapes_of};
 
 use crate::calls::Calls;
 use crate::octets::holds_octets;
 use crate::ports::place;
 use crate::table::Table;
 use sg_base::{Address, DropCause, Pad};
-use sg_call::{Call, End, Handled};
+use sg_call::{End, Handled};
 use sg_gateway::{calls_in_order, each_call_by_itself};
 
 impl Table {
@@ -26,7 +25,7 @@ impl Table {
 }
 
 impl Calls {
-    /// Handles a datagram, by the position of each slot's call.
+    /// Hands a datagram to the call that has its port, by the position of each slot's call.
     fn datagram(&mut self, places: &[Option<u8>], port: u16, from: Address, pad: Pad) -> Handled
         requires indexed { AreIndexed places.now (shapes_of self.old.calls) }
         requires stands { Stands self.old }
@@ -34,32 +33,15 @@ impl Calls {
         ensures shapes { shapes_of self.new.calls ≡ shapes_of self.old.calls }
     {
         calls_in_order();
-        deliver(&mut self.by_slot, places, self.moment, port, from, pad)
-    }
-}
-
-/// Hands a datagram to the call that has its port. Calls in a slice hand out no allocator.
-fn deliver(
-    calls: &mut [Call],
-    places: &[Option<u8>],
-    now: u64,
-    port: u16,
-    from: Address,
-    pad: Pad,
-) -> Handled
-    requires indexed { AreIndexed places.now (shapes_of calls.old) }
-    requires rising { AreRising (shapes_of calls.old) }
-    ensures handled { (books : declared_books.Books) (w : World) → TableStandsFor (record { calls = calls.old; books = books; moment = now }) w
-        → IsHandled w port from pad result (record { calls = calls.new; books = books; moment = now }) }
-    ensures shapes { shapes_of calls.new ≡ shapes_of calls.old }
-{
-    each_call_by_itself();
-    holds_octets(&pad);
-    match place(calls, places, port) {
-        None => Handled {
-            pad,
-            end: End::Dropped(DropCause::PortUnused),
-        },
-        Some(i) => calls[i].datagram(port, from, pad, now),
+        each_call_by_itself();
+        holds_octets(&pad);
+        let calls = self.by_slot.as_mut_slice();
+        match place(calls, places, port) {
+            None => Handled {
+                pad,
+                end: End::Dropped(DropCause::PortUnused),
+            },
+            Some(i) => calls[i].datagram(port, from, pad, self.moment),
+        }
     }
 }

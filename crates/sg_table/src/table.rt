@@ -60,6 +60,14 @@ impl Table {
         })
     }
 
+    /// The last moment, in milliseconds since 1970; 0 before the first tick.
+    pub fn moment(&self) -> u64
+        ensures shown { result ≡ self.now.moment }
+        ensures stands { (w : World) → TableStandsFor self.now w → result ≡ w.moment }
+    {
+        self.calls.moment
+    }
+
     /// Takes a signal, whose noise is there, and tells its outcomes: at most one `Ended` for each call, and at
     /// most two outcomes of another kind. Out of memory, the table is what it was; that comes to no tick, no
     /// rejection and no bye, nor where the calls and the pre-shared keys that are there tell the refusal. A tick is

@@ -3,7 +3,7 @@ use Rattle.sg_edge.proofs.Links.{added_more}
 use Rattle.sg_relay.specs.Asked.{Ask, hold, ports_from}
 use Rattle.sg_relay.specs.Parts.{IsHeld}
 use Rattle.sg_relay.proofs.Deeds.{asks_in_all, asks_so_far, held_longer, held_more}
-use Rattle.sg_relay.proofs.telling.hold_ports.Goals as goal
+use Rattle.sg_relay.proofs.carrying_out.hold_ports.Goals as goal
 
 pub loop-i-preserved : goal.loop-i-preserved
 loop-i-preserved g c =

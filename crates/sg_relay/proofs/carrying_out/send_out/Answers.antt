@@ -5,7 +5,7 @@ use Rattle.sg_outcome.specs.declared.outcomes.Outcome.TheVariants.{Out}
 use Rattle.sg_trace.specs.declared.status.Status.TheVariants.{Write}
 use Rattle.sg_relay.proofs.Blames.{due_so, written_link, written_only}
 use Rattle.sg_relay.proofs.Deeds.{line_so, told_unsent}
-use Rattle.sg_relay.proofs.telling.send_out.Goals as goal
+use Rattle.sg_relay.proofs.carrying_out.send_out.Goals as goal
 
 pub returns-in-Ok-clause-done : goal.returns-in-Ok-clause-done
 returns-in-Ok-clause-done g c = (

@@ -111,6 +111,7 @@ fn carry_out<K: Sink, L: Link>(
         Outcome::Out { port, to, octets } => {
             send_out(alloc, *port, *to, octets.as_slice(), sink, link)
         }
+        // No other outcome asks anything of the link: it has no medium whose ports are bound.
         _ => hold_and_tell(alloc, outcome, true, 0, 0, sink, link),
     }
 }

@@ -3,7 +3,7 @@ use Rattle.sg_edge.proofs.Passed.{wrote_none}
 use Rattle.sg_trace.specs.declared.status.Status.TheVariants.{Write}
 use Rattle.sg_relay.proofs.Blames.{due_so, written_link, written_only}
 use Rattle.sg_relay.proofs.Deeds.{line_so, told_held, told_unheld}
-use Rattle.sg_relay.proofs.telling.hold_and_tell.Goals as goal
+use Rattle.sg_relay.proofs.carrying_out.hold_and_tell.Goals as goal
 
 pub returns-in-Err-clause-done : goal.returns-in-Err-clause-done
 returns-in-Err-clause-done g c =

@@ -2,7 +2,7 @@ use Rattle.std.proofs.Common.{◌≡◌, ◌≤◌, List, ℕ, take, Ok}
 use Rattle.sg_edge.specs.Links.{Added, LinkCall}
 use Rattle.sg_edge.specs.Told.{Wrote}
 use Rattle.sg_relay.specs.Parts.{AreCarriedOut}
-use Rattle.sg_relay.proofs.telling.carry_out_all.Given as goal
+use Rattle.sg_relay.proofs.carrying_out.carry_out_all.Given as goal
 
 abbrev pub invariant-loop-outcome : goal.invariant-loop-outcome
 invariant-loop-outcome g l =

@@ -6,7 +6,7 @@ use Rattle.sg_edge.proofs.Passed.{wrote_more, wrote_none}
 use Rattle.sg_outcome.specs.declared.outcomes.Outcome.{Outcome}
 use Rattle.sg_relay.specs.Parts.{AreCarriedOut}
 use Rattle.sg_relay.proofs.Deeds.{done_none, next_told, told_longer, told_more}
-use Rattle.sg_relay.proofs.telling.carry_out_all.Goals as goal
+use Rattle.sg_relay.proofs.carrying_out.carry_out_all.Goals as goal
 
 pub loop-outcome-init : goal.loop-outcome-init
 loop-outcome-init g c = (([], [], added_none _, wrote_none _, (done_none, tt, refl)), search rules, search rules)

@@ -2,7 +2,7 @@ use Rattle.std.proofs.Common.{◌≡◌, List, map, Ok}
 use Rattle.sg_edge.specs.Links.{Added, LinkCall}
 use Rattle.sg_relay.specs.Asked.{hold, ports_from}
 use Rattle.sg_relay.specs.Parts.{IsHeld}
-use Rattle.sg_relay.proofs.telling.hold_ports.Given as goal
+use Rattle.sg_relay.proofs.carrying_out.hold_ports.Given as goal
 
 abbrev pub invariant-loop-i : goal.invariant-loop-i
 invariant-loop-i g l =

@@ -4,7 +4,7 @@ use Rattle.sg_edge.specs.Links.{Bind, Unbind}
 use Rattle.sg_relay.specs.Asked.{hold}
 use Rattle.sg_relay.specs.Parts.{IsHeld}
 use Rattle.sg_relay.proofs.Deeds.{held_one}
-use Rattle.sg_relay.proofs.telling.hold_port.Goals as goal
+use Rattle.sg_relay.proofs.carrying_out.hold_port.Goals as goal
 
 pub returns-then-bound-clause-held : goal.returns-then-bound-clause-held
 returns-then-bound-clause-held g c = (
