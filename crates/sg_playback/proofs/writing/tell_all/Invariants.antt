@@ -2,7 +2,7 @@ use Rattle.std.proofs.Common.{take, ◌≡◌}
 use Rattle.std.specs.List.{flat_map}
 use Rattle.sg_edge.specs.Told.{Wrote}
 use Rattle.sg_outcome.specs.OutcomeText.{outcome_line}
-use Rattle.sg_playback.proofs.telling.tell_all.Given as goal
+use Rattle.sg_playback.proofs.writing.tell_all.Given as goal
 
 abbrev pub invariant-loop-outcome : goal.invariant-loop-outcome
 invariant-loop-outcome g l =

@@ -2,7 +2,7 @@ use Rattle.std.proofs.Common.{◌≡◌, ◌∙◌, take, sym, ap}
 use Rattle.std.proofs.lemmas.List.{take_all}
 use Rattle.std.specs.List.{flat_map}
 use Rattle.sg_playback.proofs.Tells.{text_at, text_of_ends}
-use Rattle.sg_playback.proofs.telling.lines_of.Goals as goal
+use Rattle.sg_playback.proofs.writing.lines_of.Goals as goal
 
 pub returns : goal.returns
 returns c =

@@ -5,7 +5,7 @@ use Rattle.sg_trace.proofs.Causes.{failed_now}
 use Rattle.sg_edge.specs.Told.{Wrote}
 use Rattle.sg_outcome.specs.OutcomeText.{outcome_line}
 use Rattle.sg_playback.proofs.Tells.{more_written, part_written}
-use Rattle.sg_playback.proofs.telling.tell_all.Goals as goal
+use Rattle.sg_playback.proofs.writing.tell_all.Goals as goal
 
 pub returns-in-Err-clause-told : goal.returns-in-Err-clause-told
 returns-in-Err-clause-told g c =
