@@ -4,7 +4,7 @@ use Rattle.sg_trace.proofs.Grammars.{in_replay, no_fault}
 use Rattle.sg_trace.specs.Trace.{AtFault, replayed}
 use Rattle.sg_trace.specs.Output.{output}
 use Rattle.sg_trace.specs.declared.status.Status.{Status}
-use Rattle.sg_trace.specs.declared.status.Status.TheVariants.{Done, Usage, Script, Read, Write, Link, NoMemory, Clock, Noise, TurnsSpent}
+use Rattle.sg_trace.specs.declared.status.Status.TheVariants.{Done, Usage, Script, Read, Write, Link, NoMemory, Clock, Noise, TurnsSpent, Capture}
 use Rattle.sg_edge.proofs.Links.{added_none}
 use Rattle.sg_edge.proofs.Passed.{took_none, wrote_none}
 use Rattle.sg_playback.specs.Replay.{IsComplete, IsReplay, Tellings}
@@ -20,6 +20,7 @@ complete Usage old new octets draws out run a b c = absurd run.ends
 complete Link old new octets draws out run a b c = absurd run.ends
 complete Clock old new octets draws out run a b c = absurd run.ends
 complete TurnsSpent old new octets draws out run a b c = absurd run.ends
+complete (Capture offset fault) old new octets draws out run a b c = absurd run.ends
 complete (Script n f) old new octets draws out run a b c = λ all rest told told' script.
     let ends = run.ends in
     absurd (no_fault old.left new.left octets all rest f (λ o. (replayed o draws).stop ≡ AtFault n f) run.took told told' script (λ o whole. in_replay n f o draws whole) ends.0.stops ends.1 ends.2)

@@ -1,3 +1,4 @@
+mod Alike
 mod Completes
 mod Plays
 mod Replays

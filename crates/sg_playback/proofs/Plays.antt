@@ -1,21 +1,24 @@
 -- What playing a line leaves, from what its parts leave.
-use Rattle.std.proofs.Common.{◌≡◌, ◌⊎◌, ◌<◌, ℕ, true, false, List, [], ◌++◌, length, Option, Result, Ok, Err, IfErr, OnOk, arith, refl, sym, ap, ◌∙◌, subst, inl, inr, append_assoc}
+use Rattle.std.proofs.Common.{◌≡◌, ◌⊎◌, ◌<◌, ℕ, true, false, List, [], ◌∷◌, ◌++◌, length, map, Option, Result, Ok, Err, IfErr, OnOk, arith, refl, sym, ap, ◌∙◌, subst, inl, inr, append_assoc}
 use Rattle.std.proofs.lemmas.List.{append-nil}
 use Rattle.sg_trace.proofs.Traces.{output_from-append, world_after-append}
 use Rattle.sg_trace.specs.Trace.{Later, drawing, handled, handled_as, with_events}
 use Rattle.sg_trace.specs.Output.{IsPrefixOf, IsWritten, output_from}
 use Rattle.sg_trace.specs.Supplying.{IsSupplied}
 use Rattle.sg_trace.specs.declared.status.Status.{Status}
-use Rattle.sg_trace.specs.declared.status.Status.TheVariants.{Done, Usage, Script, Read, Write, Link, NoMemory, Clock, Noise, TurnsSpent}
+use Rattle.sg_trace.specs.declared.status.Status.TheVariants.{Done, Usage, Script, Read, Write, Link, NoMemory, Clock, Noise, TurnsSpent, Capture}
 use Rattle.sg_edge.specs.Told.{Wrote}
 use Rattle.sg_gateway.specs.Events.{events_of}
 use Rattle.sg_gateway.specs.Runs.{world_after}
-use Rattle.sg_gateway.specs.Step.{Event}
+use Rattle.sg_gateway.specs.Signals.{Tick}
+use Rattle.sg_gateway.specs.Step.{Event, Signalled}
 use Rattle.sg_gateway.specs.World.{World}
 use Rattle.sg_lines.specs.declared.lines.Line.{Line}
 use Rattle.sg_lines.specs.declared.lines.Line.TheVariants as lines
 use Rattle.sg_lines.specs.declared.lines.Signal.{Signal}
-use Rattle.sg_playback.specs.Playing.{Closes, HasRoom, IsClosed, IsCut, IsPlayed, IsSettled, IsStepped, IsTaken, IsWant, tells_waiting}
+use Rattle.sg_table.specs.Batches.{arrived}
+use Rattle.sg_playback.proofs.Alike.{alike_more, same_alike}
+use Rattle.sg_playback.specs.Playing.{AreAlike, Closes, HasCome, HasRoom, IsClosed, IsCut, IsPlayed, IsSettled, IsStepped, IsTaken, IsWant, Playing, tells_waiting, waiting}
 
 -- ---- fronts
 
@@ -47,6 +50,7 @@ stepped (Err Link) w events stands_for a b octets wrote is stands = absurd wrote
 stepped (Err Clock) w events stands_for a b octets wrote is stands = absurd wrote
 stepped (Err Noise) w events stands_for a b octets wrote is stands = absurd wrote
 stepped (Err TurnsSpent) w events stands_for a b octets wrote is stands = absurd wrote
+stepped (Err (Capture offset fault)) w events stands_for a b octets wrote is stands = absurd wrote
 
 -- a front was told where it failed
 pub stepped_prefix : (status : Status) (w : World) (events : List Event) (stands_for : World → Type 0) (out : List ℕ) → IsStepped (Err status) w events stands_for out
@@ -61,6 +65,7 @@ stepped_prefix Link w events stands_for out is = absurd is
 stepped_prefix Clock w events stands_for out is = absurd is
 stepped_prefix Noise w events stands_for out is = absurd is
 stepped_prefix TurnsSpent w events stands_for out is = absurd is
+stepped_prefix (Capture offset fault) w events stands_for out is = absurd is
 
 -- a line was cut by such a status
 pub played_cut : (status : Status) (l : Line) (w : World) (waited waits : List Event) (stands_for : World → Type 0) (draws out : List ℕ) → (status ≡ Write) ⊎ (status ≡ NoMemory)
@@ -76,31 +81,59 @@ cut_before l w waited out is = record {
   told = prefix_all w waited [] out is;
 }
 
--- ---- the header and datagrams
+-- ---- headers and datagrams
 
-pub header_taken : (w : World) (waited : List Event) (stands_for : World → Type 0) → stands_for w → IsTaken lines.Header w waited waited stands_for [] []
-header_taken w waited stands_for stands = record {
-  events = [];
+-- the line has its events without a draw
+abbrev pub Goes : Line → Type 0
+Goes l = (later : Later) (more : List ℕ) → handled l later 0 (drawing more) ≡ with_events (events_of l) (later 0 (drawing more))
+
+-- a line without events
+pub header_taken : (l : Line) (w : World) (waited : List Event) (stands_for : World → Type 0) → Goes l → events_of l ≡ [] → stands_for w → IsTaken l w waited waited stands_for [] []
+header_taken l w waited stands_for goes none stands = record {
+  events = events_of l;
   prefix = [];
-  goes = λ later more. refl;
-  all = append-nil waited;
+  goes = goes;
+  alike = same_alike w (waited ++ events_of l) waited (ap (λ (es : List Event). waited ++ es) none ∙ append-nil waited);
   told = refl;
   stands = stands;
 }
 
--- a datagram waits behind those that still wait
-pub datagram_taken : (port : ℕ) (from : _) (octets : List ℕ) (w : World) (waited mid waits prefix : List Event) (stands_for : World → Type 0) (out : List ℕ) → waited ≡ prefix ++ mid
-    → waits ≡ mid ++ events_of (lines.Datagram port from octets) → IsStepped (Ok tt) w prefix stands_for out → IsTaken (lines.Datagram port from octets) w waited waits stands_for [] out
-datagram_taken port from octets w waited mid waits prefix stands_for out split is stepped = record {
-  events = events_of (lines.Datagram port from octets);
-  prefix = prefix;
-  goes = λ later more. refl;
-  all =
-      ap (λ (l : List Event). l ++ events_of (lines.Datagram port from octets)) split ∙ append_assoc prefix mid (events_of (lines.Datagram port from octets))
-      ∙ ap (λ (l : List Event). prefix ++ l) (sym is);
-  told = stepped.0;
-  stands = stepped.1;
-}
+-- A line whose last event arrives, once a prefix of what is like the others was handled and told, and the rest waits.
+module _ (l : Line) (goes : Goes l) (w : World) (waited others : List Event) (e : Event) (splits : events_of l ≡ others ++ e ∷ []) (waits prefix : List Event)
+    (alike : AreAlike w (waited ++ others) (prefix ++ waits)) (out : List ℕ) (told : out ≡ output_from w prefix) where
+  all_alike : AreAlike w (waited ++ events_of l) (prefix ++ (waits ++ e ∷ []))
+  all_alike =
+      subst (λ (es : List Event). AreAlike w es (prefix ++ (waits ++ e ∷ []))) (append_assoc waited others (e ∷ []) ∙ ap (λ (es : List Event). waited ++ es) (sym splits))
+      (subst (λ (es : List Event). AreAlike w ((waited ++ others) ++ e ∷ []) es) (append_assoc prefix waits (e ∷ [])) (alike_more w (waited ++ others) (prefix ++ waits) (e ∷ []) alike))
+
+  pub line_arrived : (r : Result (Unit {0}) Status) (waits' : List Event) (stands_for : World → Type 0) (out' : List ℕ) → HasRoom r (world_after w prefix) (waits ++ e ∷ []) waits' stands_for out'
+      → IsPlayed r l w waited waits' stands_for [] (out ++ out')
+  line_arrived (Ok u) waits' stands_for out' room = record {
+    events = events_of l;
+    prefix = prefix ++ room.0;
+    goes = goes;
+    alike = subst (λ (es : List Event). AreAlike w (waited ++ events_of l) es) (ap (λ (es : List Event). prefix ++ es) room.1 ∙ sym (append_assoc prefix room.0 waits')) all_alike;
+    told = (λ i. told i ++ room.2.0 i) ∙ sym (output_from-append w prefix room.0);
+    stands = subst stands_for (sym (world_after-append w prefix room.0)) room.2.1;
+  }
+  line_arrived (Err status) waits' stands_for out' stepped =
+      let cut = stepped_prefix status (world_after w prefix) (waits ++ e ∷ []) stands_for out' stepped in
+      played_cut status l w waited waits' stands_for [] (out ++ out') cut.0 (record {
+        events = events_of l;
+        goes = λ later. (later 0 (drawing []), goes later []);
+        told = subst (IsPrefixOf (out ++ out')) (sym all_alike.told) (subst (λ (o : List ℕ). IsPrefixOf (o ++ out') (output_from w (prefix ++ (waits ++ e ∷ [])))) (sym told) (prefix_behind w prefix (waits ++ e ∷ []) out' cut.1));
+      })
+
+-- a line that was cut in the events before its last one
+pub line_cut : (l : Line) → Goes l → (w : World) (waited others : List Event) (e : Event) → events_of l ≡ others ++ e ∷ [] → (status : Status) (waits' : List Event) (stands_for : World → Type 0) (out : List ℕ)
+    → IsStepped (Err status) w (waited ++ others) stands_for out → IsPlayed (Err status) l w waited waits' stands_for [] out
+line_cut l goes w waited others e splits status waits' stands_for out stepped =
+    let cut = stepped_prefix status w (waited ++ others) stands_for out stepped in
+    played_cut status l w waited waits' stands_for [] out cut.0 (record {
+      events = events_of l;
+      goes = λ later. (later 0 (drawing []), goes later []);
+      told = subst (λ (es : List Event). IsPrefixOf out (output_from w es)) (append_assoc waited others (e ∷ []) ∙ ap (λ (es : List Event). waited ++ es) (sym splits)) (prefix_all w (waited ++ others) (e ∷ []) out cut.1);
+    })
 
 -- ---- signals
 
@@ -114,7 +147,9 @@ module _ (signal s : Signal) (draws : List ℕ) (has : IsSupplied (Ok s) signal 
     events = events_of (lines.Signal s);
     prefix = waited ++ events_of (lines.Signal s);
     goes = signal_goes;
-    all = sym (append-nil (waited ++ events_of (lines.Signal s))) ∙ ap (λ (l : List Event). (waited ++ events_of (lines.Signal s)) ++ l) (sym none);
+    alike =
+        same_alike w (waited ++ events_of (lines.Signal s)) ((waited ++ events_of (lines.Signal s)) ++ waits)
+        (sym (append-nil (waited ++ events_of (lines.Signal s))) ∙ ap (λ (l : List Event). (waited ++ events_of (lines.Signal s)) ++ l) (sym none));
     told = (λ i. told i ++ stepped.0 i) ∙ sym (output_from-append w waited (events_of (lines.Signal s)));
     stands = subst stands_for (sym (world_after-append w waited (events_of (lines.Signal s)))) stepped.1;
   }
@@ -144,6 +179,7 @@ unsupplied Link signal w waited waits stands_for draws out is told = absurd is
 unsupplied NoMemory signal w waited waits stands_for draws out is told = absurd is
 unsupplied Clock signal w waited waits stands_for draws out is told = absurd is
 unsupplied TurnsSpent signal w waited waits stands_for draws out is told = absurd is
+unsupplied (Capture offset fault) signal w waited waits stands_for draws out is told = absurd is
 
 -- ---- closing
 
@@ -159,6 +195,7 @@ closed_bare NoMemory w waited off = (refl, refl)
 closed_bare Clock w waited off = (refl, refl)
 closed_bare Noise w waited off = (refl, refl)
 closed_bare TurnsSpent w waited off = (refl, refl)
+closed_bare (Capture offset fault) w waited off = absurd cc
 
 -- and one that does
 pub closed_told : (end status : Status) (w : World) (waited : List Event) (out : List ℕ) → tells_waiting end ≡ true → Closes end status w waited out → IsClosed end status w waited out
@@ -172,6 +209,7 @@ closed_told NoMemory status w waited out on closes = absurd cc
 closed_told Clock status w waited out on closes = absurd cc
 closed_told Noise status w waited out on closes = absurd cc
 closed_told TurnsSpent status w waited out on closes = absurd cc
+closed_told (Capture offset fault) status w waited out on closes = closes
 
 -- ---- what was wanting
 
@@ -182,6 +220,14 @@ want_not status (inr is) same = let noise : status ≡ Noise = cc in absurd (let
 pub only_not : (r : Result (Unit {0}) Status) → IfErr r (λ status. IsWant status) → r ≡ Err Noise → ⊥
 only_not (Ok u) only is = cc
 only_not (Err status) only is = want_not status only is
+
+pub none_waiting : (r : Result (Unit {0}) Status) (p : Playing) → OnOk r (p.waits ≡ []) → OnOk r (waiting p ≡ [])
+none_waiting (Ok u) p none = ap (map arrived) none
+none_waiting (Err status) p none = tt
+
+pub memory_only : (r : Result (Unit {0}) Status) → IfErr r (λ status. status ≡ NoMemory) → IfErr r (λ status. IsWant status)
+memory_only (Ok u) only = tt
+memory_only (Err status) only = inr only
 
 pub written_only : (r : Result (Unit {0}) Status) (a b : Option (List ℕ)) (octets : List ℕ) → IsWritten r a b octets → IfErr r (λ status. IsWant status)
 written_only (Ok u) a b octets wrote = tt
@@ -195,6 +241,7 @@ written_only (Err NoMemory) a b octets wrote = inr refl
 written_only (Err Clock) a b octets wrote = absurd wrote
 written_only (Err Noise) a b octets wrote = absurd wrote
 written_only (Err TurnsSpent) a b octets wrote = absurd wrote
+written_only (Err (Capture offset fault)) a b octets wrote = absurd wrote
 
 -- ---- room for a datagram
 
@@ -206,15 +253,53 @@ pub room_in : {A : Type 0} (r : Result (Unit {0}) Status) (waits : List A) → O
 room_in (Ok u) waits none = omega (arith, ap length none)
 room_in (Err status) waits none = tt
 
--- a datagram waits, or there was no memory for it
-pub datagram_played : (r : Result (Unit {0}) Status) (l : Line) (port : ℕ) (from : _) (octets : List ℕ) → l ≡ lines.Datagram port from octets → (w : World) (waited mid waits prefix : List Event) (stands_for : World → Type 0) (out : List ℕ)
-    → waited ≡ prefix ++ mid → OnOk r (waits ≡ mid ++ events_of (lines.Datagram port from octets)) → IfErr r (λ status. status ≡ NoMemory) → IsStepped (Ok tt) w prefix stands_for out
-    → IsPlayed r l w waited waits stands_for [] out
-datagram_played (Ok u) l port from octets is w waited mid waits prefix stands_for out split waits_are only stepped =
-    subst (λ l. IsTaken l w waited waits stands_for [] out) (sym is) (datagram_taken port from octets w waited mid waits prefix stands_for out split waits_are stepped)
-datagram_played (Err status) l port from octets is w waited mid waits prefix stands_for out split waits_are only stepped =
-    played_cut status l w waited waits stands_for [] out (inr only)
-    (cut_before l w waited out (subst (λ (es : List Event). IsPrefixOf out (output_from w es)) (sym split) (prefix_all w prefix mid out ([], sym stepped.0 ∙ sym (append-nil out)))))
+-- a datagram waits behind those that still wait, or there was no memory for it
+pub arrived_room : (r : Result (Unit {0}) Status) (w : World) (waited mid waits prefix : List Event) (e : Event) (stands_for : World → Type 0) (out : List ℕ) → waited ≡ prefix ++ mid → OnOk r (waits ≡ mid ++ e ∷ [])
+    → IfErr r (λ status. status ≡ NoMemory) → IsStepped (Ok tt) w prefix stands_for out → HasRoom r w (waited ++ e ∷ []) waits stands_for out
+arrived_room (Ok u) w waited mid waits prefix e stands_for out split waits_are only stepped = (
+  prefix,
+  ap (λ (l : List Event). l ++ e ∷ []) split ∙ append_assoc prefix mid (e ∷ []) ∙ ap (λ (l : List Event). prefix ++ l) (sym waits_are),
+  stepped,
+)
+arrived_room (Err status) w waited mid waits prefix e stands_for out split waits_are only stepped =
+    subst (λ s. IsStepped (Err s) w (waited ++ e ∷ []) stands_for out) (sym only)
+    (prefix_all w waited (e ∷ []) out (subst (λ (es : List Event). IsPrefixOf out (output_from w es)) (sym split) (prefix_all w prefix mid out ([], sym stepped.0 ∙ sym (append-nil out)))))
+
+-- where there was no room
+pub room_cut : (status : Status) (w : World) (waited more : List Event) (stands_for : World → Type 0) (out : List ℕ) → IsStepped (Err status) w waited stands_for out → IsStepped (Err status) w (waited ++ more) stands_for out
+room_cut status w waited more stands_for out stepped =
+    let cut = stepped_prefix status w waited stands_for out stepped in
+    let prefix = prefix_all w waited more out cut.1 in
+    either cut.0 prefix
+  where
+    either : (status ≡ Write) ⊎ (status ≡ NoMemory) → IsPrefixOf out (output_from w (waited ++ more)) → IsStepped (Err status) w (waited ++ more) stands_for out
+    either (inl is) prefix = subst (λ s. IsStepped (Err s) w (waited ++ more) stands_for out) (sym is) prefix
+    either (inr is) prefix = subst (λ s. IsStepped (Err s) w (waited ++ more) stands_for out) (sym is) prefix
+
+-- ---- ticks
+
+-- what waited was told, and then the tick
+pub ticked : (r : Result (Unit {0}) Status) (w : World) (waited events : List Event) (stands_for : World → Type 0) (out out' : List ℕ) → out ≡ output_from w waited → IsStepped r (world_after w waited) events stands_for out'
+    → IsStepped r w (waited ++ events) stands_for (out ++ out')
+ticked (Ok u) w waited events stands_for out out' told stepped = (
+  (λ i. told i ++ stepped.0 i) ∙ sym (output_from-append w waited events),
+  subst stands_for (sym (world_after-append w waited events)) stepped.1,
+)
+ticked (Err status) w waited events stands_for out out' told stepped =
+    let cut = stepped_prefix status (world_after w waited) events stands_for out' stepped in
+    either cut.0 (subst (λ (o : List ℕ). IsPrefixOf (o ++ out') (output_from w (waited ++ events))) (sym told) (prefix_behind w waited events out' cut.1))
+  where
+    either : (status ≡ Write) ⊎ (status ≡ NoMemory) → IsPrefixOf (out ++ out') (output_from w (waited ++ events)) → IsStepped (Err status) w (waited ++ events) stands_for (out ++ out')
+    either (inl is) prefix = subst (λ s. IsStepped (Err s) w (waited ++ events) stands_for (out ++ out')) (sym is) prefix
+    either (inr is) prefix = subst (λ s. IsStepped (Err s) w (waited ++ events) stands_for (out ++ out')) (sym is) prefix
+
+-- a tick that was taken, and nothing waits
+pub come : (r : Result (Unit {0}) Status) (now : ℕ) (w : World) (waited waits : List Event) (stands_for : World → Type 0) (out : List ℕ) → OnOk r (waits ≡ []) → IsStepped r w (waited ++ Signalled (Tick now) ∷ []) stands_for out
+    → HasCome r now w waited waits stands_for out
+come (Ok u) now w waited waits stands_for out none stepped =
+    let all : List Event = waited ++ Signalled (Tick now) ∷ [] in
+    (all, same_alike w all (all ++ waits) (sym (append-nil all) ∙ ap (λ (l : List Event). all ++ l) (sym none)), stepped)
+come (Err status) now w waited waits stands_for out none stepped = stepped
 
 -- ---- a signal that has its noise
 

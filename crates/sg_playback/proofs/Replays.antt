@@ -7,7 +7,7 @@ use Rattle.sg_trace.specs.Trace.{AtEnd as BehindAll, AtFault, Trace, ForDraw, La
 use Rattle.sg_trace.specs.Output.{IsPrefixOf, output, output_from}
 use Rattle.sg_trace.specs.Reading.{IsFault, IsNext, IsRead, Reading}
 use Rattle.sg_trace.specs.declared.status.Status.{Status}
-use Rattle.sg_trace.specs.declared.status.Status.TheVariants.{Done, Usage, Script, Read, Write, Link, NoMemory, Clock, Noise, TurnsSpent}
+use Rattle.sg_trace.specs.declared.status.Status.TheVariants.{Done, Usage, Script, Read, Write, Link, NoMemory, Clock, Noise, TurnsSpent, Capture}
 use Rattle.sg_edge.proofs.Links.{added_more, added_none}
 use Rattle.sg_edge.proofs.Passed.{took_more, wrote_more, wrote_none}
 use Rattle.sg_edge.specs.Links.{Added}
@@ -15,35 +15,40 @@ use Rattle.sg_edge.specs.Told.{AtEnd, TookIn, Wrote}
 use Rattle.sg_gateway.specs.Runs.{world_after}
 use Rattle.sg_gateway.specs.Step.{Event}
 use Rattle.sg_gateway.specs.World.{World, empty}
+use Rattle.sg_lines.specs.LineOf.{version_after}
 use Rattle.sg_lines.specs.ScriptLines.{lines_of}
 use Rattle.sg_lines.specs.declared.lines.Line.{Line}
-use Rattle.sg_playback.specs.Playing.{Closes, IsClosed, IsCut, IsPlayed, IsTaken}
+use Rattle.sg_playback.proofs.Alike.{alike_behind, alike_more, same_alike, then_alike}
+use Rattle.sg_playback.specs.Playing.{AreAlike, Closes, IsClosed, IsCut, IsPlayed, IsTaken}
 use Rattle.sg_playback.specs.Replay.{Ends, IsWhole, Tellings}
 
--- The replay has taken whole lines and drawn octets. A front of their events was handled and told, the others wait.
-pub record IsReplaying (old now : Tellings) (taken waits drawn : List ℕ) (es ps : List Event) (n at : ℕ) : Type 0 where
+-- The replay has taken whole lines and drawn octets. A prefix of what is like their events was handled and told, and
+-- the rest waits.
+pub record IsReplaying (old now : Tellings) (taken waits drawn : List ℕ) (es ps : List Event) (version n at : ℕ) : Type 0 where
+  pub events : List Event
+  pub alike : AreAlike empty events (es ++ ps)
   pub took : TookIn old.left now.left (taken ++ waits)
   pub drew : Added old.drawn now.drawn drawn
   pub wrote : Wrote old.written now.written (output es)
-  pub goes : (rest more : List ℕ) → replayed (taken ++ rest) (drawn ++ more) ≡ with_events (es ++ ps) (trace_from Replays n at (lines_of rest) 0 (drawing more))
+  pub goes : (rest more : List ℕ) → replayed (taken ++ rest) (drawn ++ more) ≡ with_events events (trace_from Replays version n at (lines_of rest) 0 (drawing more))
 
 module _ (octets drawn : List ℕ) where
-  -- where all events were told
-  whole_so : (es : List Event) (stop : Stop) → replayed octets drawn ≡ with_events es (stopped stop (drawing [])) → IsWhole octets drawn (output es) stop
-  whole_so es stop is = record {
+  -- where what is like all events was told
+  whole_so : (events es : List Event) (stop : Stop) → AreAlike empty events es → replayed octets drawn ≡ with_events events (stopped stop (drawing [])) → IsWhole octets drawn (output es) stop
+  whole_so events es stop alike is = record {
     stops = ap (λ (c : Trace). c.stop) is;
     left = ap (λ (c : Trace). c.left) is;
-    told = sym (ap (λ (c : Trace). output c.events) is ∙ ap output (append-nil es));
+    told = sym (ap (λ (c : Trace). output c.events) is ∙ ap output (append-nil events) ∙ alike.told);
   }
 
   -- where a prefix of further events' text was written
-  prefix_so : (es fs : List Event) (rest : Trace) (prefix : List ℕ) → replayed octets drawn ≡ with_events (es ++ fs) rest → IsPrefixOf prefix (output_from (world_after empty es) fs)
+  prefix_so : (events es fs : List Event) (rest : Trace) (prefix : List ℕ) → AreAlike empty events (es ++ fs) → replayed octets drawn ≡ with_events events rest → IsPrefixOf prefix (output_from (world_after empty es) fs)
       → IsPrefixOf (output es ++ prefix) (output (replayed octets drawn).events)
-  prefix_so es fs rest prefix is part =
-      let tail = output_from (world_after empty (es ++ fs)) rest.events in (
+  prefix_so events es fs rest prefix alike is part =
+      let tail = output_from (world_after empty events) rest.events in (
         part.0 ++ tail,
-        ap (λ (c : Trace). output c.events) is ∙ output-append (es ++ fs) rest.events
-            ∙ ap (λ (l : List ℕ). l ++ tail) (output-append es fs ∙ ap (λ (l : List ℕ). output es ++ l) part.1 ∙ sym (append_assoc (output es) prefix part.0))
+        ap (λ (c : Trace). output c.events) is ∙ output-append events rest.events
+            ∙ ap (λ (l : List ℕ). l ++ tail) (alike.told ∙ output-append es fs ∙ ap (λ (l : List ℕ). output es ++ l) part.1 ∙ sym (append_assoc (output es) prefix part.0))
             ∙ append_assoc (output es ++ prefix) part.0 tail,
       )
 
@@ -53,7 +58,7 @@ ends_cut status octets draws out left (inl is) prefix = subst (λ s. Ends s octe
 ends_cut status octets draws out left (inr is) prefix = subst (λ s. Ends s octets draws out left) (sym is) prefix
 
 module _ (old now : Tellings) (taken drawn : List ℕ) (es ps : List Event) (script : Reading)
-    (going : IsReplaying old now taken script.waits drawn es ps script.number script.offset)
+    (going : IsReplaying old now taken script.waits drawn es ps script.version script.number script.offset)
     (left' : Option (List ℕ)) (got : List ℕ) (came : TookIn now.left left' got) where
   -- the octets read by then
   abbrev pub octets : List ℕ
@@ -62,33 +67,33 @@ module _ (old now : Tellings) (taken drawn : List ℕ) (es ps : List Event) (scr
   pub took_all : TookIn old.left left' octets
   took_all = subst (TookIn old.left left') (append_assoc taken script.waits got) (took_more old.left now.left left' (taken ++ script.waits) got going.took came)
 
-  trace_is : (draws : List ℕ) → replayed octets (drawn ++ draws) ≡ with_events (es ++ ps) (trace_from Replays script.number script.offset (lines_of (script.waits ++ got)) 0 (drawing draws))
+  trace_is : (draws : List ℕ) → replayed octets (drawn ++ draws) ≡ with_events going.events (trace_from Replays script.version script.number script.offset (lines_of (script.waits ++ got)) 0 (drawing draws))
   trace_is draws = going.goes (script.waits ++ got) draws
 
   no_draw : replayed octets drawn ≡ replayed octets (drawn ++ [])
   no_draw = ap (replayed octets) (sym (append-nil drawn))
 
-  -- whatever comes, what is written is a front
+  -- whatever comes, what is written is a prefix
   pub is_prefix : IsPrefixOf (output es ++ []) (output (replayed octets drawn).events)
-  is_prefix = prefix_so octets drawn es ps _ [] (no_draw ∙ trace_is []) (output_from (world_after empty es) ps, refl)
+  is_prefix = prefix_so octets drawn going.events es ps _ [] going.alike (no_draw ∙ trace_is []) (output_from (world_after empty es) ps, refl)
 
   -- at an end that is closed
-  closed_whole : (end status : Status) (stop : Stop) (out : List ℕ) → trace_from Replays script.number script.offset (lines_of (script.waits ++ got)) 0 (drawing []) ≡ stopped stop (drawing [])
+  closed_whole : (end status : Status) (stop : Stop) (out : List ℕ) → trace_from Replays script.version script.number script.offset (lines_of (script.waits ++ got)) 0 (drawing []) ≡ stopped stop (drawing [])
       → (IsWhole octets drawn (output es ++ out) stop → Ends end octets drawn (output es ++ out) left') → Closes end status (world_after empty es) ps out → Ends status octets drawn (output es ++ out) left'
   closed_whole end status stop out stops ends (inl all) =
       subst (λ s. Ends s octets drawn (output es ++ out) left') (sym all.0)
-      (ends (subst (λ (o : List ℕ). IsWhole octets drawn o stop) (output-append es ps ∙ ap (λ (o : List ℕ). output es ++ o) (sym all.1)) (whole_so octets drawn (es ++ ps) stop (no_draw ∙ trace_is [] ∙ ap (with_events (es ++ ps)) stops))))
-  closed_whole end status stop out stops ends (inr cut) = ends_cut status octets drawn (output es ++ out) left' cut.0 (prefix_so octets drawn es ps _ out (no_draw ∙ trace_is []) cut.1)
+      (ends (subst (λ (o : List ℕ). IsWhole octets drawn o stop) (output-append es ps ∙ ap (λ (o : List ℕ). output es ++ o) (sym all.1)) (whole_so octets drawn going.events (es ++ ps) stop going.alike (no_draw ∙ trace_is [] ∙ ap (with_events going.events) stops))))
+  closed_whole end status stop out stops ends (inr cut) = ends_cut status octets drawn (output es ++ out) left' cut.0 (prefix_so octets drawn going.events es ps _ out going.alike (no_draw ∙ trace_is []) cut.1)
 
   -- at the end of the source
   pub closed_at_end : (status : Status) (out : List ℕ) → script.waits ++ got ≡ [] → AtEnd left' → Closes Done status (world_after empty es) ps out → Ends status octets drawn (output es ++ out) left'
   closed_at_end status out none end closed =
-      closed_whole Done status BehindAll out (ap (λ (l : List ℕ). trace_from Replays script.number script.offset (lines_of l) 0 (drawing [])) none) (λ whole. (whole, end)) closed
+      closed_whole Done status BehindAll out (ap (λ (l : List ℕ). trace_from Replays script.version script.number script.offset (lines_of l) 0 (drawing [])) none) (λ whole. (whole, end)) closed
 
-  closed_at_fault : (fault : ScriptFault) (status : Status) (out : List ℕ) → IsFault script.number script.offset (script.waits ++ got) fault left'
+  closed_at_fault : (fault : ScriptFault) (status : Status) (out : List ℕ) → IsFault script.version script.number script.offset (script.waits ++ got) fault left'
       → Closes (Script script.number fault) status (world_after empty es) ps out → Ends status octets drawn (output es ++ out) left'
   closed_at_fault fault status out is closed =
-      closed_whole (Script script.number fault) status (AtFault script.number fault) out (stops_at Replays script.number script.offset (script.waits ++ got) fault 0 (drawing []) is.first)
+      closed_whole (Script script.number fault) status (AtFault script.number fault) out (stops_at Replays script.version script.number script.offset (script.waits ++ got) fault 0 (drawing []) is.first refl)
       (λ whole. (
         whole,
         is.ended,
@@ -96,14 +101,14 @@ module _ (old now : Tellings) (taken drawn : List ℕ) (es ps : List Event) (scr
             ap (λ (l : List ℕ). (replayed l drawn).stop) (append_assoc taken (script.waits ++ got) more)
             ∙ ap (λ (d : List ℕ). (replayed (taken ++ ((script.waits ++ got) ++ more)) d).stop) (sym (append-nil drawn))
             ∙ ap (λ (c : Trace). c.stop) (going.goes ((script.waits ++ got) ++ more) [])
-            ∙ ap (λ (c : Trace). c.stop) (stops_at Replays script.number script.offset ((script.waits ++ got) ++ more) fault 0 (drawing []) (is.still other more)),
+            ∙ ap (λ (c : Trace). c.stop) (stops_at Replays script.version script.number script.offset ((script.waits ++ got) ++ more) fault 0 (drawing []) (is.still other more) refl),
       )) closed
 
   -- where no line was read
   pub closed_at_err : (end status : Status) (new : Reading) (out : List ℕ) → IsNext (Err end) script new got left' → IsClosed end status (world_after empty es) ps out
       → Ends status octets drawn (output es ++ out) left'
   closed_at_err (Script n fault) status new out next closed =
-      closed_at_fault fault status out (subst (λ (m : ℕ). IsFault m script.offset (script.waits ++ got) fault left') next.0 next.1) (subst (λ (m : ℕ). Closes (Script m fault) status (world_after empty es) ps out) next.0 closed)
+      closed_at_fault fault status out (subst (λ (m : ℕ). IsFault script.version m script.offset (script.waits ++ got) fault left') next.0 next.1) (subst (λ (m : ℕ). Closes (Script m fault) status (world_after empty es) ps out) next.0 closed)
   closed_at_err Read status new out next closed =
       subst (λ s. Ends s octets drawn (output es ++ out) left') (sym closed.0) (subst (λ (o : List ℕ). IsPrefixOf (output es ++ o) (output (replayed octets drawn).events)) (sym closed.1) is_prefix)
   closed_at_err NoMemory status new out next closed =
@@ -115,26 +120,31 @@ module _ (old now : Tellings) (taken drawn : List ℕ) (es ps : List Event) (scr
   closed_at_err Clock status new out next closed = absurd next
   closed_at_err Noise status new out next closed = absurd next
   closed_at_err TurnsSpent status new out next closed = absurd next
+  closed_at_err (Capture offset fault) status new out next closed = absurd next
 
   module _ (l : Line) (new : Reading) (read : IsRead l script new got) where
     -- what the rest makes of what follows
     abbrev later : List ℕ → Later
-    later rest = trace_from Replays (script.number + 1) (script.offset + length read.line) (lines_of rest)
+    later rest = trace_from Replays (version_after script.version l) (script.number + 1) (script.offset + length read.line) (lines_of rest)
 
-    line_goes : (rest draws : List ℕ) → trace_from Replays script.number script.offset (lines_of (read.line ++ rest)) 0 (drawing draws) ≡ handled l (later rest) 0 (drawing draws)
-    line_goes rest draws = reads_on Replays script.number script.offset read.line rest l 0 (drawing draws) read.whole read.is
+    line_goes : (rest draws : List ℕ) → trace_from Replays script.version script.number script.offset (lines_of (read.line ++ rest)) 0 (drawing draws) ≡ handled l (later rest) 0 (drawing draws)
+    line_goes rest draws = reads_on Replays script.version script.number script.offset read.line rest l 0 (drawing draws) refl read.whole read.is
 
     -- all octets read, with those drawn
-    all_is : (draws : List ℕ) → replayed octets (drawn ++ draws) ≡ with_events (es ++ ps) (handled l (later new.waits) 0 (drawing draws))
+    all_is : (draws : List ℕ) → replayed octets (drawn ++ draws) ≡ with_events going.events (handled l (later new.waits) 0 (drawing draws))
     all_is draws =
-        trace_is draws ∙ ap (λ (r : List ℕ). with_events (es ++ ps) (trace_from Replays script.number script.offset (lines_of r) 0 (drawing draws))) read.split
-        ∙ ap (with_events (es ++ ps)) (line_goes new.waits draws)
+        trace_is draws ∙ ap (λ (r : List ℕ). with_events going.events (trace_from Replays script.version script.number script.offset (lines_of r) 0 (drawing draws))) read.split
+        ∙ ap (with_events going.events) (line_goes new.waits draws)
+
+    -- the line's events behind all others
+    line_alike : (events : List Event) → AreAlike empty (going.events ++ events) (es ++ (ps ++ events))
+    line_alike events = subst (AreAlike empty (going.events ++ events)) (append_assoc es ps events) (alike_more empty going.events (es ++ ps) events going.alike)
 
     cut_so : (draws out : List ℕ) → IsCut l (world_after empty es) ps draws out → IsPrefixOf (output es ++ out) (output (replayed octets (drawn ++ draws)).events)
     cut_so draws out cut =
         let rest = cut.goes (later new.waits) in
-        prefix_so octets (drawn ++ draws) es (ps ++ cut.events) rest.0 out
-        (all_is draws ∙ ap (with_events (es ++ ps)) rest.1 ∙ with_events_again (es ++ ps) cut.events rest.0 ∙ ap (λ (l : List Event). with_events l rest.0) (append_assoc es ps cut.events)) cut.told
+        prefix_so octets (drawn ++ draws) (going.events ++ cut.events) es (ps ++ cut.events) rest.0 out (line_alike cut.events)
+        (all_is draws ∙ ap (with_events going.events) rest.1 ∙ with_events_again going.events cut.events rest.0) cut.told
 
     -- where a line ends the run
     pub ends_played : (status : Status) (waits' : List Event) (stands_for : World → Type 0) (draws out : List ℕ) → IsPlayed (Err status) l (world_after empty es) ps waits' stands_for draws out
@@ -142,9 +152,9 @@ module _ (old now : Tellings) (taken drawn : List ℕ) (es ps : List Event) (scr
     ends_played Write waits' stands_for draws out cut = cut_so draws out cut
     ends_played NoMemory waits' stands_for draws out cut = cut_so draws out cut
     ends_played Noise waits' stands_for draws out is =
-        let nothing : replayed octets (drawn ++ draws) ≡ with_events (es ++ ps) (stopped ForDraw (drawing [])) =
-        all_is draws ∙ ap (λ (d : List ℕ). with_events (es ++ ps) (handled l (later new.waits) 0 (drawing d))) is.drew ∙ ap (with_events (es ++ ps)) (is.stops (later new.waits)) in
-        subst (λ (o : List ℕ). IsWhole octets (drawn ++ draws) o ForDraw) (output-append es ps ∙ ap (λ (o : List ℕ). output es ++ o) (sym is.told)) (whole_so octets (drawn ++ draws) (es ++ ps) ForDraw nothing)
+        let nothing : replayed octets (drawn ++ draws) ≡ with_events going.events (stopped ForDraw (drawing [])) =
+        all_is draws ∙ ap (λ (d : List ℕ). with_events going.events (handled l (later new.waits) 0 (drawing d))) is.drew ∙ ap (with_events going.events) (is.stops (later new.waits)) in
+        subst (λ (o : List ℕ). IsWhole octets (drawn ++ draws) o ForDraw) (output-append es ps ∙ ap (λ (o : List ℕ). output es ++ o) (sym is.told)) (whole_so octets (drawn ++ draws) going.events (es ++ ps) ForDraw going.alike nothing)
     ends_played Done waits' stands_for draws out is = absurd is
     ends_played Usage waits' stands_for draws out is = absurd is
     ends_played (Script n fault) waits' stands_for draws out is = absurd is
@@ -152,23 +162,27 @@ module _ (old now : Tellings) (taken drawn : List ℕ) (es ps : List Event) (scr
     ends_played Link waits' stands_for draws out is = absurd is
     ends_played Clock waits' stands_for draws out is = absurd is
     ends_played TurnsSpent waits' stands_for draws out is = absurd is
+    ends_played (Capture offset fault) waits' stands_for draws out is = absurd is
 
     -- where it doesn't
     pub goes_on : (drawn' written' : Option (List ℕ)) (waits' : List Event) (stands_for : World → Type 0) (draws out : List ℕ) (taken_so : IsTaken l (world_after empty es) ps waits' stands_for draws out)
         → Added now.drawn drawn' draws → Wrote now.written written' out
-        → IsReplaying old (record { left = left'; written = written'; drawn = drawn' }) (taken ++ read.line) new.waits (drawn ++ draws) (es ++ taken_so.prefix) waits' new.number new.offset
+        → IsReplaying old (record { left = left'; written = written'; drawn = drawn' }) (taken ++ read.line) new.waits (drawn ++ draws) (es ++ taken_so.prefix) waits' new.version new.number new.offset
     goes_on drawn' written' waits' stands_for draws out taken_so drew wrote = record {
+      events = going.events ++ taken_so.events;
+      alike =
+          subst (AreAlike empty (going.events ++ taken_so.events)) (sym (append_assoc es taken_so.prefix waits'))
+          (then_alike empty (going.events ++ taken_so.events) (es ++ (ps ++ taken_so.events)) (es ++ (taken_so.prefix ++ waits')) (line_alike taken_so.events)
+          (alike_behind empty es (ps ++ taken_so.events) (taken_so.prefix ++ waits') taken_so.alike));
       took = subst (TookIn old.left left') (ap (λ (l : List ℕ). taken ++ l) read.split ∙ sym (append_assoc taken read.line new.waits)) took_all;
       drew = added_more old.drawn now.drawn drawn' drawn draws going.drew drew;
       wrote = subst (Wrote old.written written') (ap (λ (o : List ℕ). output es ++ o) taken_so.told ∙ sym (output-append es taken_so.prefix)) (wrote_more old.written now.written written' (output es) out going.wrote wrote);
       goes = λ rest more.
           (λ i. replayed (append_assoc taken read.line rest i) (append_assoc drawn draws more i))
           ∙ going.goes (read.line ++ rest) (draws ++ more)
-          ∙ ap (with_events (es ++ ps)) (line_goes rest (draws ++ more) ∙ taken_so.goes (later rest) more)
-          ∙ with_events_again (es ++ ps) taken_so.events _
-          ∙ ap (λ (f : List Event). with_events f (later rest 0 (drawing more)))
-          (append_assoc es ps taken_so.events ∙ ap (λ (f : List Event). es ++ f) taken_so.all ∙ sym (append_assoc es taken_so.prefix waits'))
-          ∙ (λ i. with_events ((es ++ taken_so.prefix) ++ waits') (trace_from Replays (sym read.number i) (sym read.offset i) (lines_of rest) 0 (drawing more)));
+          ∙ ap (with_events going.events) (line_goes rest (draws ++ more) ∙ taken_so.goes (later rest) more)
+          ∙ with_events_again going.events taken_so.events _
+          ∙ (λ i. with_events (going.events ++ taken_so.events) (trace_from Replays (sym read.version i) (sym read.number i) (sym read.offset i) (lines_of rest) 0 (drawing more)));
     }
 
 -- how many octets were read
@@ -176,13 +190,15 @@ pub bounded : (taken waits got : List ℕ) (at budget budget' : ℕ) → length 
 bounded taken waits got at budget budget' size room paid = omega (arith, size, room, paid, length-append taken (waits ++ got), length-append waits got)
 
 -- nothing is read, drawn, handled or written yet
-pub begins : (old : Tellings) (ps : List Event) (script : Reading) → ps ≡ [] → script ≡ record { waits = []; number = 1; offset = 0; budget = 2 ^ 30 + 1 }
-    → IsReplaying old old [] script.waits [] [] ps script.number script.offset
+pub begins : (old : Tellings) (ps : List Event) (script : Reading) → ps ≡ [] → script ≡ record { waits = []; version = 1; number = 1; offset = 0; budget = 2 ^ 30 + 1 }
+    → IsReplaying old old [] script.waits [] [] ps script.version script.number script.offset
 begins old ps script none is = record {
+  events = [];
+  alike = same_alike empty [] ps (sym none);
   took = subst (λ (s : Reading). TookIn old.left old.left s.waits) (sym is) (λ after left. left);
   drew = added_none old.drawn;
   wrote = wrote_none old.written;
-  goes = λ rest more. (λ i. with_events (sym none i) (trace_from Replays (sym (ap (λ (s : Reading). s.number) is) i) (sym (ap (λ (s : Reading). s.offset) is) i) (lines_of rest) 0 (drawing more)));
+  goes = λ rest more. (λ i. trace_from Replays (sym is i).version (sym is i).number (sym is i).offset (lines_of rest) 0 (drawing more));
 }
 
 -- ---- whose failure it was
@@ -201,6 +217,7 @@ close_read Link status old new got left w waited out next is = absurd next
 close_read Clock status old new got left w waited out next is = absurd next
 close_read Noise status old new got left w waited out next is = absurd next
 close_read TurnsSpent status old new got left w waited out next is = absurd next
+close_read (Capture offset fault) status old new got left w waited out next is = absurd next
 
 pub close_noise : (end status : Status) (old new : Reading) (got : List ℕ) (left : Option (List ℕ)) (w : World) (waited : List Event) (out : List ℕ) → IsNext (Err end) old new got left → IsClosed end status w waited out
     → status ≡ Noise → ⊥
@@ -216,6 +233,7 @@ close_noise Link status old new got left w waited out next is same = absurd next
 close_noise Clock status old new got left w waited out next is same = absurd next
 close_noise Noise status old new got left w waited out next is same = absurd next
 close_noise TurnsSpent status old new got left w waited out next is same = absurd next
+close_noise (Capture offset fault) status old new got left w waited out next is same = absurd next
 
 pub done_not : (status other : Status) (w : World) (waited : List Event) (out : List ℕ) → Closes Done status w waited out → (Done ≡ other → ⊥) → (Write ≡ other → ⊥) → (NoMemory ≡ other → ⊥) → status ≡ other → ⊥
 done_not status other w waited out (inl is) a b c same = a (sym is.0 ∙ same)

@@ -1,5 +1,5 @@
 -- Where a batch was handled there is room again.
-use Rattle.std.proofs.Common.{◌≡◌, ℕ, List, [], ◌++◌, Result, Ok, Err, sym, ap, ◌∙◌}
+use Rattle.std.proofs.Common.{ℕ, List, ◌++◌, Result, Ok, Err, sym, ap, ◌∙◌}
 use Rattle.std.proofs.lemmas.List.{append-nil}
 use Rattle.sg_trace.specs.declared.status.Status.{Status}
 use Rattle.sg_gateway.specs.Step.{Event}

@@ -1,5 +1,5 @@
 -- The texts of what is told, one by one.
-use Rattle.std.proofs.Common.{◌≡◌, ◌<◌, ◌+◌, ℕ, List, [], ◌∷◌, ◌++◌, length, map, take, drop, get_or, Option, Some, Err, refl, sym, ap, ◌∙◌, subst}
+use Rattle.std.proofs.Common.{◌≡◌, ◌<◌, ◌+◌, ℕ, List, [], ◌∷◌, ◌++◌, length, take, drop, get_or, Option, Err, refl, sym, ◌∙◌, subst}
 use Rattle.std.specs.List.{flat_map}
 use Rattle.std.proofs.lemmas.Grind.{flat_map-append}
 use Rattle.std.proofs.lemmas.List.{append-nil}
@@ -9,7 +9,6 @@ use Rattle.sg_trace.specs.declared.status.Status.{Status}
 use Rattle.sg_edge.proofs.Passed.{wrote_more}
 use Rattle.sg_edge.specs.Told.{Wrote}
 use Rattle.sg_outcome.specs.OutcomeText.{outcome_line}
-use Rattle.sg_outcome.specs.declared.outcomes.Outcome.{Outcome}
 use Rattle.sg_table.specs.Batches.{told_by, told_of}
 use Rattle.sg_table.specs.declared.arrival.Arrival.{Arrival}
 

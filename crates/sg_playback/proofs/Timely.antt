@@ -8,16 +8,16 @@ use Rattle.sg_lines.specs.declared.lines.Signal.{Signal}
 use Rattle.sg_lines.specs.declared.lines.Signal.TheVariants.{Tick, Psk, Manual, OfferSecure, OfferSdes, OfferMikey, Answer, Reject, Bye}
 use Rattle.sg_table.specs.Telling.{IsTimely}
 
-pub timely : (n : ℕ) (s : Signal) → FitsLine n (lines.Signal s) → IsTimely s
-timely n (Tick now) fits = fits.1
-timely n (Psk own peer key) fits = tt
-timely n (Manual call secure plain rollover window from_peer to_peer) fits = tt
-timely n (OfferSecure call noise text) fits = tt
-timely n (OfferSdes call noise text) fits = tt
-timely n (OfferMikey call peer noise text) fits = tt
-timely n (Answer call noise text) fits = tt
-timely n (Reject call) fits = tt
-timely n (Bye call) fits = tt
+pub timely : (version n : ℕ) (s : Signal) → FitsLine version n (lines.Signal s) → IsTimely s
+timely version n (Tick now) fits = fits.1
+timely version n (Psk own peer key) fits = tt
+timely version n (Manual call secure plain rollover window from_peer to_peer) fits = tt
+timely version n (OfferSecure call noise text) fits = tt
+timely version n (OfferSdes call noise text) fits = tt
+timely version n (OfferMikey call peer noise text) fits = tt
+timely version n (Answer call noise text) fits = tt
+timely version n (Reject call) fits = tt
+timely version n (Bye call) fits = tt
 
 timely_with : (drawn : Noise304) (s : Signal) → IsTimely s → IsTimely (signal_with_noise drawn s)
 timely_with drawn (Tick now) is = is

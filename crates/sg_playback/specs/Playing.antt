@@ -1,15 +1,14 @@
 -- What playing the lines of a script leaves, one by one.
-use Rattle.std.specs.Prelude.{◌≡◌, ◌⊎◌, ℕ, Bool, true, false, List, [], ◌∷◌, ◌++◌, map, Option, Some, None, Result, Ok, Err}
-use Rattle.std.specs.List.{flat_map}
+use Rattle.std.specs.Prelude.{◌≡◌, ◌⊎◌, ℕ, Bool, true, false, List, [], ◌∷◌, ◌++◌, map, Result, Ok, Err}
 use Rattle.sg_trace.specs.Trace.{Trace, ForDraw, Later, drawing, handled, stopped, with_events}
 use Rattle.sg_trace.specs.Output.{IsPrefixOf, output_from}
 use Rattle.sg_trace.specs.declared.status.Status.{Status}
-use Rattle.sg_trace.specs.declared.status.Status.TheVariants.{Done, Usage, Script, Read, Write, Link, NoMemory, Clock, Noise, TurnsSpent}
+use Rattle.sg_trace.specs.declared.status.Status.TheVariants.{Done, Usage, Script, Read, Write, Link, NoMemory, Clock, Noise, TurnsSpent, Capture}
 use Rattle.sg_gateway.specs.Runs.{world_after}
-use Rattle.sg_gateway.specs.Step.{Event}
+use Rattle.sg_gateway.specs.Signals.{Tick}
+use Rattle.sg_gateway.specs.Step.{Event, Signalled}
 use Rattle.sg_gateway.specs.World.{World}
 use Rattle.sg_lines.specs.declared.lines.Line.{Line}
-use Rattle.sg_outcome.specs.declared.outcomes.Outcome.{Outcome}
 use Rattle.sg_table.specs.Batches.{arrived}
 use Rattle.sg_table.specs.Values.{TableValue}
 use Rattle.sg_table.specs.declared.arrival.Arrival.{Arrival}
@@ -27,7 +26,12 @@ waiting p = map arrived p.waits
 abbrev pub IsWant : Status → Type 0
 IsWant status = (status ≡ Write) ⊎ (status ≡ NoMemory)
 
--- The events were handled and told, and the table stands for the world after them; or a front was told.
+-- From this world on they tell the same, and leave the same world.
+pub record AreAlike (w : World) (es fs : List Event) : Type 0 where
+  pub told : output_from w es ≡ output_from w fs
+  pub left : world_after w es ≡ world_after w fs
+
+-- The events were handled and told, and the table stands for the world after them; or a prefix was told.
 abbrev pub IsStepped : Result (Unit {0}) Status → World → List Event → (World → Type 0) → List ℕ → Type 0
 IsStepped (Ok u) w events stands_for out = (out ≡ output_from w events) × stands_for (world_after w events)
 IsStepped (Err Write) w events stands_for out = IsPrefixOf out (output_from w events)
@@ -40,8 +44,9 @@ IsStepped (Err Link) w events stands_for out = ⊥
 IsStepped (Err Clock) w events stands_for out = ⊥
 IsStepped (Err TurnsSpent) w events stands_for out = ⊥
 IsStepped (Err Noise) w events stands_for out = ⊥
+IsStepped (Err (Capture offset fault)) w events stands_for out = ⊥
 
--- What waited was handled and told, and the table stands for the world after it; or a front was told.
+-- What waited was handled and told, and the table stands for the world after it; or a prefix was told.
 abbrev pub IsSettled : Result (Unit {0}) Status → World → List Event → List Event → (World → Type 0) → List ℕ → Type 0
 IsSettled (Ok u) w waited waits stands_for out = (waits ≡ []) × IsStepped (Ok u) w waited stands_for out
 IsSettled (Err status) w waited waits stands_for out = IsStepped (Err status) w waited stands_for out
@@ -51,17 +56,24 @@ abbrev pub HasRoom : Result (Unit {0}) Status → World → List Event → List 
 HasRoom (Ok u) w waited waits stands_for out = (prefix : List Event) × (waited ≡ prefix ++ waits) × IsStepped (Ok u) w prefix stands_for out
 HasRoom (Err status) w waited waits stands_for out = IsStepped (Err status) w waited stands_for out
 
--- The line's events, for which these octets were drawn, came behind those that waited. A front of them all was
--- handled and told, the others wait.
+-- A tick to this moment came behind what waited. A prefix of what is like them all was handled and told, and the rest
+-- waits: a tick to the last moment is left out.
+abbrev pub HasCome : Result (Unit {0}) Status → ℕ → World → List Event → List Event → (World → Type 0) → List ℕ → Type 0
+HasCome (Ok u) now w waited waits stands_for out =
+    (prefix : List Event) × AreAlike w (waited ++ Signalled (Tick now) ∷ []) (prefix ++ waits) × IsStepped (Ok u) w prefix stands_for out
+HasCome (Err status) now w waited waits stands_for out = IsStepped (Err status) w (waited ++ Signalled (Tick now) ∷ []) stands_for out
+
+-- The line's events, for which these octets were drawn, came behind those that waited. A prefix of what is like them
+-- all was handled and told, and the rest waits.
 pub record IsTaken (l : Line) (w : World) (waited waits : List Event) (stands_for : World → Type 0) (draws out : List ℕ) : Type 0 where
   pub events : List Event
   pub prefix : List Event
   pub goes : (later : Later) (more : List ℕ) → handled l later 0 (drawing (draws ++ more)) ≡ with_events events (later 0 (drawing more))
-  pub all : waited ++ events ≡ prefix ++ waits
+  pub alike : AreAlike w (waited ++ events) (prefix ++ waits)
   pub told : out ≡ output_from w prefix
   pub stands : stands_for (world_after w prefix)
 
--- A front of what they tell was told.
+-- A prefix of what they tell was told.
 pub record IsCut (l : Line) (w : World) (waited : List Event) (draws out : List ℕ) : Type 0 where
   pub events : List Event
   pub goes : (later : Later) → (rest : Trace) × (handled l later 0 (drawing draws) ≡ with_events events rest)
@@ -85,6 +97,7 @@ IsPlayed (Err Read) l w waited waits stands_for draws out = ⊥
 IsPlayed (Err Link) l w waited waits stands_for draws out = ⊥
 IsPlayed (Err Clock) l w waited waits stands_for draws out = ⊥
 IsPlayed (Err TurnsSpent) l w waited waits stands_for draws out = ⊥
+IsPlayed (Err (Capture offset fault)) l w waited waits stands_for draws out = ⊥
 
 -- The status is that end, and all that waited was told; or the sink failed or memory ran out, and a prefix was.
 abbrev pub Closes : Status → Status → World → List Event → List ℕ → Type 0
@@ -94,6 +107,7 @@ Closes end status w waited out =
 abbrev pub IsClosed : Status → Status → World → List Event → List ℕ → Type 0
 IsClosed Done status w waited out = Closes Done status w waited out
 IsClosed (Script n fault) status w waited out = Closes (Script n fault) status w waited out
+IsClosed (Capture offset fault) status w waited out = Closes (Capture offset fault) status w waited out
 IsClosed Usage status w waited out = (status ≡ Usage) × (out ≡ [])
 IsClosed Read status w waited out = (status ≡ Read) × (out ≡ [])
 IsClosed Write status w waited out = (status ≡ Write) × (out ≡ [])
@@ -107,6 +121,7 @@ IsClosed TurnsSpent status w waited out = (status ≡ TurnsSpent) × (out ≡ []
 abbrev pub tells_waiting : Status → Bool
 tells_waiting Done = true
 tells_waiting (Script n fault) = true
+tells_waiting (Capture offset fault) = true
 tells_waiting Usage = false
 tells_waiting Read = false
 tells_waiting Write = false

@@ -5,7 +5,7 @@ use Rattle.sg_trace.specs.Trace.{AtEnd as BehindAll, AtFault, ForDraw, Stop, dra
 use Rattle.sg_trace.specs.Grammar.{IsScript}
 use Rattle.sg_trace.specs.Output.{IsPrefixOf, output}
 use Rattle.sg_trace.specs.declared.status.Status.{Status}
-use Rattle.sg_trace.specs.declared.status.Status.TheVariants.{Done, Usage, Script, Read, Write, Link, NoMemory, Clock, Noise, TurnsSpent}
+use Rattle.sg_trace.specs.declared.status.Status.TheVariants.{Done, Usage, Script, Read, Write, Link, NoMemory, Clock, Noise, TurnsSpent, Capture}
 use Rattle.sg_edge.specs.Links.{Added}
 use Rattle.sg_edge.specs.Told.{AtEnd, TookIn, Wrote}
 
@@ -19,7 +19,7 @@ pub record IsWhole (octets draws out : List ℕ) (stop : Stop) : Type 0 where
 -- The status, by the octets read, drawn and written, and by what the source has left. With Done all is handled and
 -- the source is at its end. With Script the lines before the named one are handled, and the named line is the first
 -- outside the grammar, with its first fault, whatever would come behind what was read; Unended comes only at the
--- source's end. With Noise a draw comes next. With every other status a front was written.
+-- source's end. With Noise a draw comes next. With every other status a prefix was written.
 abbrev pub Ends : Status → List ℕ → List ℕ → List ℕ → Option (List ℕ) → Type 0
 Ends Done octets draws out left = IsWhole octets draws out BehindAll × AtEnd left
 Ends (Script n fault) octets draws out left =
@@ -33,6 +33,7 @@ Ends Usage octets draws out left = ⊥
 Ends Link octets draws out left = ⊥
 Ends Clock octets draws out left = ⊥
 Ends TurnsSpent octets draws out left = ⊥
+Ends (Capture offset fault) octets draws out left = ⊥
 
 -- what a source, a sink and a source of noise tell
 pub record Tellings : Type 0 where

@@ -1,21 +1,21 @@
 //! What plays the lines of a script.
 
-ghost use Rattle.std.specs.Prelude.{◌≡◌, ◌≢◌, ◌≤◌, ◌<◌, ◌∷◌, ◌++◌, [], ℕ, List, IfErr, IfOk, OnErr, OnOk, false, length};
+ghost use Rattle.std.specs.Prelude.{◌≡◌, ◌≢◌, ◌≤◌, ◌<◌, ◌∷◌, ◌++◌, [], ℕ, List, IfErr, IfOk, OnOk, true, false, length};
 ghost use Rattle.sg_trace.specs.Causes.{HasFailed, IsCaused};
-ghost use Rattle.sg_trace.specs.Output.{WrotePrefix, text};
 ghost use Rattle.sg_edge.specs.Links.{Added};
 ghost use Rattle.sg_edge.specs.Told.{Wrote};
 ghost use Rattle.sg_gateway.specs.Events.{events_of_signal, signal_lacks_noise};
 ghost use Rattle.sg_gateway.specs.Octets.{as_octets};
-ghost use Rattle.sg_gateway.specs.Step.{Datagram};
+ghost use Rattle.sg_gateway.specs.Signals.{Tick};
+ghost use Rattle.sg_gateway.specs.Step.{Datagram, Signalled};
 ghost use Rattle.sg_gateway.specs.World.{World, empty};
 ghost use Rattle.sg_lines.specs.LineText.{FitsLine};
 ghost use Rattle.sg_lines.specs.declared.lines.Line.TheVariants as lines;
-ghost use Rattle.sg_playback.specs.Playing.{HasRoom, IsClosed, IsPlayed, IsSettled, IsStepped, IsWant, tells_waiting, waiting};
+ghost use Rattle.sg_playback.specs.Playing.{HasCome, HasRoom, IsClosed, IsPlayed, IsSettled, IsStepped, IsWant, tells_waiting, waiting};
 ghost use Rattle.sg_table.specs.Standing.{TableStandsFor};
-ghost use Rattle.sg_table.specs.Telling.{IsTimely};
+ghost use Rattle.sg_table.specs.Telling.{IsTimely, IsTold};
 
-use crate::telling::{tell_all, tell_ends};
+use crate::writing::{tell_all, tell_ends};
 use sg_base::{Address, BATCH_MOST, NoMemory, Pad};
 use sg_edge::{Noise, Sink};
 use sg_lanes::Gate;
@@ -27,8 +27,8 @@ use std::marker::Model;
 use std::mem;
 use std::thread::Threads;
 
-/// A table, and the datagrams that wait for their batch. It is seen as the table and the datagrams, in order of
-/// arrival.
+/// Plays the lines of a script, or ticks and datagrams one by one. It is seen as a table, and the datagrams that
+/// wait for their batch, in order of arrival.
 #[derive(Drop)]
 pub struct Player {
     table: Table,
@@ -37,6 +37,8 @@ pub struct Player {
     arrivals: Vec<Arrival>,
     /// Pads of earlier batches, to be used again.
     spare: Vec<Pad>,
+    /// The moment of the last line that was a datagram with its moment.
+    line_moment: Option<u64>,
 }
 
 impl Model for Player {
@@ -61,11 +63,13 @@ impl Player {
             workers,
             arrivals: Vec::new(alloc),
             spare: Vec::new(alloc),
+            line_moment: None,
         })
     }
 
-    /// Handles a line. A datagram waits for its batch, and what waits is handled before a signal, and before a
-    /// datagram for which the batch has no room; the noise that a signal lacks is drawn.
+    /// Handles a line. A datagram waits for its batch, and what waits is handled before a signal, before a datagram
+    /// of another moment than the line before it, and before one for which the batch has no room; the noise that a
+    /// signal lacks is drawn.
     pub fn play<R: Threads + Sync, K: Sink, N: Noise, G: Gate + Sync>(
         &mut self,
         rt: &R,
@@ -75,7 +79,7 @@ impl Player {
         noise: &mut N,
         gate: &G,
     ) -> Result<(), Status>
-        requires { (n : ℕ) × FitsLine n line }
+        requires { (version number : ℕ) × FitsLine version number line }
         ensures played { (w : World) → TableStandsFor self.old.table w → (draws out : List ℕ)
             × Added (N.given noise.old) (N.given noise.new) draws × Wrote (K.written sink.old) (K.written sink.new) out
             × IsPlayed result line w (waiting self.old) (waiting self.new) (TableStandsFor self.new.table) draws out }
@@ -83,13 +87,21 @@ impl Player {
         ensures noise { IsCaused Status.Noise result (N.faults noise.old) (N.faults noise.new) (N.failed noise.new) }
     {
         match line {
-            Line::Header => Ok(()),
+            Line::Header | Line::HeaderTwo => Ok(()),
             Line::Datagram { port, from, octets } => {
-                match self.make_room(rt, alloc, sink, gate) {
+                self.arrive(rt, alloc, port, from, octets.as_slice(), sink, gate)
+            }
+            Line::DatagramAt {
+                now,
+                port,
+                from,
+                octets,
+            } => {
+                match self.come_to(rt, alloc, now, sink, gate) {
                     Err(status) => return Err(status),
                     Ok(()) => {}
                 }
-                self.wait(alloc, port, from, octets.as_slice())
+                self.arrive(rt, alloc, port, from, octets.as_slice(), sink, gate)
             }
             Line::Signal(signal) => self.obey(rt, alloc, signal, sink, noise, gate),
         }
@@ -120,6 +132,86 @@ impl Player {
             Err(status) => Err(status),
             Ok(supplied) => self.step(alloc, &supplied, sink),
         }
+    }
+
+    /// The tick before a datagram that has its moment. It is left out where it would be one to the last moment, which
+    /// changes nothing, and the line before had this moment too: so the datagrams of one moment share a batch.
+    fn come_to<R: Threads + Sync, K: Sink, G: Gate + Sync>(
+        &mut self,
+        rt: &R,
+        alloc: Global,
+        now: u64,
+        sink: &mut K,
+        gate: &G,
+    ) -> Result<(), Status>
+        requires { now ≤ 2085978495999 }
+        ensures came { (w : World) → TableStandsFor self.old.table w → (out : List ℕ)
+            × Wrote (K.written sink.old) (K.written sink.new) out × HasCome result now w (waiting self.old) (waiting self.new) (TableStandsFor self.new.table) out }
+        ensures only { IfErr result (λ status. IsWant status) }
+        ensures write { IsCaused Status.Write result (K.faults sink.old) (K.faults sink.new) (K.failed sink.new) }
+    {
+        if self.line_moment == Some(now) && self.table.moment() == now {
+            return Ok(());
+        }
+        self.line_moment = Some(now);
+        self.tick(rt, alloc, now, sink, gate)
+    }
+
+    /// Handles and tells what waits, then a tick, at most 2,085,978,495,999 ms since 1970. `Write` where the sink fails.
+    pub fn tick<R: Threads + Sync, K: Sink, G: Gate + Sync>(
+        &mut self,
+        rt: &R,
+        alloc: Global,
+        now: u64,
+        sink: &mut K,
+        gate: &G,
+    ) -> Result<(), Status>
+        requires { now ≤ 2085978495999 }
+        ensures ticked { (w : World) → TableStandsFor self.old.table w → (out : List ℕ)
+            × Wrote (K.written sink.old) (K.written sink.new) out
+            × IsStepped result w (waiting self.old ++ Signalled (Tick now) ∷ []) (TableStandsFor self.new.table) out }
+        ensures none { OnOk result (self.new.waits ≡ []) }
+        ensures only { IfErr result (λ status. IsWant status) }
+        ensures write { IsCaused Status.Write result (K.faults sink.old) (K.faults sink.new) (K.failed sink.new) }
+    {
+        match self.settle(rt, alloc, sink, gate) {
+            Err(status) => return Err(status),
+            Ok(()) => {}
+        }
+        self.step(alloc, &Signal::Tick { now }, sink)
+    }
+
+    /// The last moment, in milliseconds since 1970; 0 before the first tick.
+    pub fn moment(&self) -> u64
+        ensures { result ≡ self.now.table.moment }
+    {
+        self.table.moment()
+    }
+
+    /// A datagram of at most 4,352 octets waits for its batch; where the batch is full, that is handled and told first.
+    /// `Write` where the sink fails.
+    pub fn arrive<R: Threads + Sync, K: Sink, G: Gate + Sync>(
+        &mut self,
+        rt: &R,
+        alloc: Global,
+        port: u16,
+        from: Address,
+        octets: &[u8],
+        sink: &mut K,
+        gate: &G,
+    ) -> Result<(), Status>
+        requires { length octets.now ≤ 4352 }
+        ensures came { (w : World) → TableStandsFor self.old.table w → (out : List ℕ)
+            × Wrote (K.written sink.old) (K.written sink.new) out
+            × HasRoom result w (waiting self.old ++ Datagram port from (as_octets octets.now) ∷ []) (waiting self.new) (TableStandsFor self.new.table) out }
+        ensures only { IfErr result (λ status. IsWant status) }
+        ensures write { IsCaused Status.Write result (K.faults sink.old) (K.faults sink.new) (K.failed sink.new) }
+    {
+        match self.make_room(rt, alloc, sink, gate) {
+            Err(status) => return Err(status),
+            Ok(()) => {}
+        }
+        self.wait(alloc, port, from, octets)
     }
 
     /// Where the batch is full, it is handled and told.
@@ -160,8 +252,8 @@ impl Player {
             return Ok(());
         }
         let mut arrivals = mem::replace(&mut self.arrivals, Vec::new(alloc));
-        self.table
-            .batch(rt, arrivals.as_mut_slice(), self.workers, gate);
+        let workers = self.workers.min(arrivals.len());
+        self.table.batch(rt, arrivals.as_mut_slice(), workers, gate);
         match tell_ends(alloc, &arrivals, sink) {
             Err(status) => return Err(status),
             Ok(()) => {}
@@ -171,7 +263,8 @@ impl Player {
         Ok(())
     }
 
-    /// The status of a run that has come to this end. Before `Done` and `Script` what waits is handled and told.
+    /// The status of a run that has come to this end. Before `Done`, `Script` and `Capture` what waits is handled and
+    /// told.
     pub fn close<R: Threads + Sync, K: Sink, G: Gate + Sync>(
         &mut self,
         rt: &R,
@@ -229,6 +322,19 @@ impl Player {
         }
     }
 
+    /// Takes a signal that is a tick and tells nothing; else nothing is done, and it is false.
+    fn passes_quietly(&mut self, signal: &Signal) -> bool
+        requires { IsTimely signal.now }
+        ensures told { result ≡ true → (w : World) → TableStandsFor self.old.table w → IsTold [] self.new.table w (events_of_signal signal.now) }
+        ensures same { result ≡ false → self.new.table ≡ self.old.table }
+        ensures waits { self.new.waits ≡ self.old.waits }
+    {
+        match signal {
+            Signal::Tick { now } => self.table.tick_quietly(*now),
+            _ => false,
+        }
+    }
+
     /// Handles a signal that has its noise, and writes what it tells.
     fn step<K: Sink>(&mut self, alloc: Global, signal: &Signal, sink: &mut K) -> Result<(), Status>
         requires ready { signal_lacks_noise signal.now ≡ false }
@@ -239,6 +345,9 @@ impl Player {
         ensures only { IfErr result (λ status. IsWant status) }
         ensures write { IsCaused Status.Write result (K.faults sink.old) (K.faults sink.new) (K.failed sink.new) }
     {
+        if self.passes_quietly(signal) {
+            return Ok(());
+        }
         let told = match self.table.step(alloc, signal) {
             Err(NoMemory) => return Err(Status::NoMemory),
             Ok(told) => told,
@@ -251,7 +360,10 @@ impl Player {
 fn tells_waiting(end: Status) -> bool
     ensures { result ≡ tells_waiting end }
 {
-    matches!(end, Status::Done | Status::Script { .. })
+    matches!(
+        end,
+        Status::Done | Status::Script { .. } | Status::Capture { .. }
+    )
 }
 
 /// Keeps the pads of datagrams that are told, to be used again; none of them is left.

@@ -16,9 +16,10 @@ use std::alloc::Global;
 use std::thread::Threads;
 
 /// Plays the script of the source: its lines in order, from an empty table, and what they tell is written to
-/// the sink. Consecutive datagrams form batches of at most 256, which the workers share out, each of them
-/// passing the gate; what is written is the same for every number of workers and every gate. Where a signal
-/// lacks its noise, 304 octets are drawn.
+/// the sink. In a script of version 2 a tick to its moment comes before a datagram. Consecutive datagram lines form
+/// batches of at most 256, which in version 2 also end before a line whose moment isn't that of the line before.
+/// The workers share out a batch, each of them passing the gate; what is written is the same for every number of
+/// workers and every gate. Where a signal lacks its noise, 304 octets are drawn.
 pub fn replay<R: Threads + Sync, S: Source, K: Sink, N: Noise, G: Gate + Sync>(
     rt: &R,
     alloc: Global,

@@ -3,7 +3,7 @@ use Rattle.std.proofs.Common.{◌≡◌, List, [], ◌∷◌, ◌++◌, ℕ, Opt
 use Rattle.sg_trace.proofs.Grammars.{in_relay, no_fault}
 use Rattle.sg_trace.specs.Trace.{AtFault, woven}
 use Rattle.sg_trace.specs.declared.status.Status.{Status}
-use Rattle.sg_trace.specs.declared.status.Status.TheVariants.{Done, Usage, Script, Read, Write, Link, NoMemory, Clock, Noise, TurnsSpent}
+use Rattle.sg_trace.specs.declared.status.Status.TheVariants.{Done, Usage, Script, Read, Write, Link, NoMemory, Clock, Noise, TurnsSpent, Capture}
 use Rattle.sg_edge.specs.Links.{Failing, LinkCall, Receive}
 use Rattle.sg_edge.specs.Told.{Rose}
 use Rattle.sg_edge.proofs.Links.{added_none}
@@ -35,6 +35,7 @@ pub complete : (status : Status) (turns link link' : ℕ) (old new : Tellings) (
 complete Done turns link link' old new p run a b c d e = λ all rest told told' script few well. inl refl
 complete NoMemory turns link link' old new p run a b c d e = λ all rest told told' script few well. inr refl
 complete Usage turns link link' old new p run a b c d e = absurd run.ends
+complete (Capture offset fault) turns link link' old new p run a b c d e = absurd run.ends
 complete Read turns link link' old new p run a b c d e = absurd (a refl)
 complete Write turns link link' old new p run a b c d e = absurd (b refl)
 complete Clock turns link link' old new p run a b c d e = absurd (c refl)

@@ -1,5 +1,5 @@
 -- How what was done for outcomes adds up.
-use Rattle.std.proofs.Common.{◌≡◌, ◌<◌, ◌≤◌, ◌+◌, Option, ℕ, zero, suc, arith, Bool, true, false, List, [], ◌∷◌, ◌++◌, length, map, take, get_or, Some, Result, Ok, Err, refl, sym, ap, ap₂, ◌∙◌, subst, append_assoc, inl, inr}
+use Rattle.std.proofs.Common.{◌≡◌, ◌<◌, ◌+◌, Option, ℕ, zero, suc, arith, Bool, true, false, List, [], ◌∷◌, ◌++◌, length, map, take, get_or, Result, Ok, Err, refl, sym, ap, ap₂, ◌∙◌, subst, append_assoc, inl, inr}
 use Rattle.std.specs.Prelude.{is_ok, IfErr, IsOk, ◌⊎◌}
 use Rattle.std.specs.List.{flat_map}
 use Rattle.std.proofs.lemmas.Bool.{false≢true}
@@ -8,7 +8,7 @@ use Rattle.sg_base.specs.declared.addresses.Address.{Address}
 use Rattle.sg_base.specs.declared.faults.Failed.{Failed}
 use Rattle.sg_trace.specs.Output.{IsPrefixOf, IsWritten, text}
 use Rattle.sg_trace.specs.declared.status.Status.{Status}
-use Rattle.sg_trace.specs.declared.status.Status.TheVariants.{Done, Usage, Script, Read, Write, Link, NoMemory, Clock, Noise, TurnsSpent}
+use Rattle.sg_trace.specs.declared.status.Status.TheVariants.{Done, Usage, Script, Read, Write, Link, NoMemory, Clock, Noise, TurnsSpent, Capture}
 use Rattle.sg_edge.specs.Links.{LinkCall, Received}
 use Rattle.sg_edge.specs.Links as links
 use Rattle.sg_edge.specs.Told.{Wrote}
@@ -186,6 +186,7 @@ stops_after NoMemory o p a b x y first good stops = part_good_after o p a b x y 
 stops_after Clock o p a b x y first good stops = part_good_after o p a b x y first good stops
 stops_after Noise o p a b x y first good stops = part_good_after o p a b x y first good stops
 stops_after TurnsSpent o p a b x y first good stops = part_good_after o p a b x y first good stops
+stops_after (Capture offset fault) o p a b x y first good stops = part_good_after o p a b x y first good stops
 
 part_good_longer : (o p : List Outcome) (a : List LinkCall) (x : List ℕ) → IsPart o a x × AreGood a → IsPart (o ++ p) a x × AreGood a
 part_good_longer o p a x (part, good) = (part_longer o p a x part, good)
@@ -201,6 +202,7 @@ stops_longer NoMemory o p a x stops = part_good_longer o p a x stops
 stops_longer Clock o p a x stops = part_good_longer o p a x stops
 stops_longer Noise o p a x stops = part_good_longer o p a x stops
 stops_longer TurnsSpent o p a x stops = part_good_longer o p a x stops
+stops_longer (Capture offset fault) o p a x stops = part_good_longer o p a x stops
 
 -- ---- one outcome
 
@@ -270,6 +272,7 @@ line_so (Err Link) a b line never = absurd never
 line_so (Err Clock) a b line never = absurd never
 line_so (Err Noise) a b line never = absurd never
 line_so (Err TurnsSpent) a b line never = absurd never
+line_so (Err (Capture offset fault)) a b line never = absurd never
 
 -- the ports are held, and the line is written or a prefix of it
 pub told_held : (r : Result (Unit {0}) Status) (o : Outcome) (asks : List Ask) (calls : List LinkCall) (out : List ℕ) → asks_of o ≡ asks → ((ok : Bool) → (written_as o ok ≡ o ∷ []) × (sent_as o ok ≡ []))

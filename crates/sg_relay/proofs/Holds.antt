@@ -5,7 +5,7 @@ use Rattle.std.specs.List.{flat_map}
 use Rattle.sg_trace.specs.Output.{IsPrefixOf}
 use Rattle.sg_trace.specs.Trace.{woven}
 use Rattle.sg_trace.specs.declared.status.Status.{Status}
-use Rattle.sg_trace.specs.declared.status.Status.TheVariants.{Done, Usage, Script, Read, Write, Link, NoMemory, Clock, Noise, TurnsSpent}
+use Rattle.sg_trace.specs.declared.status.Status.TheVariants.{Done, Usage, Script, Read, Write, Link, NoMemory, Clock, Noise, TurnsSpent, Capture}
 use Rattle.sg_edge.specs.Links.{Failing, LinkCall, Receive}
 use Rattle.sg_gateway.specs.Runs.{outcomes}
 use Rattle.sg_gateway.specs.Step.{Event}
@@ -67,6 +67,7 @@ prefix Read turns p left ends = part_prefix (trace_of p).events p.calls p.out en
 prefix Write turns p left ends = part_prefix (trace_of p).events p.calls p.out ends.part
 prefix NoMemory turns p left ends = part_prefix (trace_of p).events p.calls p.out ends.part
 prefix Usage turns p left ends = absurd ends
+prefix (Capture offset fault) turns p left ends = absurd ends
 
 fits_prefix : (asks all : List Ask) → IsPrefixOf asks all → EachFits all → EachFits asks
 fits_prefix asks all (rest, is) fits = λ before more ask at. fits before (more ++ rest) ask (is ∙ ap (λ (l : List Ask). l ++ rest) at ∙ append_assoc before (ask ∷ more) rest)

@@ -1,12 +1,12 @@
 -- How a relay goes on, line by line.
-use Rattle.std.proofs.Common.{◌≡◌, ◌⊎◌, ◌<◌, ◌≤◌, ◌+◌, ◌^◌, ℕ, List, [], ◌∷◌, ◌++◌, length, Option, Result, Ok, Err, refl, sym, ap, ap₂, ◌∙◌, subst, append_assoc, length-append, inl, inr, arith}
+use Rattle.std.proofs.Common.{◌≡◌, ◌⊎◌, ◌<◌, ◌≤◌, ◌+◌, ◌^◌, ℕ, List, [], ◌∷◌, ◌++◌, length, Option, Result, Ok, Err, refl, sym, ap, ◌∙◌, subst, append_assoc, length-append, inl, inr, arith}
 use Rattle.std.proofs.lemmas.List.{append-nil}
 use Rattle.sg_base.specs.declared.faults.ScriptFault.{ScriptFault}
 use Rattle.sg_trace.proofs.Traces.{outcomes_from-append, reads_on, stops_at, whole_some, with_events_again}
 use Rattle.sg_trace.specs.Trace.{AtEnd as BehindAll, AtFault, Trace, ForDraw, ForReading, ForReceive, Later, Outside, Relays, Stop, trace_from, moment_of, said, stopped, with_events, woven}
 use Rattle.sg_trace.specs.Reading.{IsFault, IsNext, IsRead, Reading}
 use Rattle.sg_trace.specs.declared.status.Status.{Status}
-use Rattle.sg_trace.specs.declared.status.Status.TheVariants.{Done, Usage, Script, Read, Write, Link, NoMemory, Clock, Noise, TurnsSpent}
+use Rattle.sg_trace.specs.declared.status.Status.TheVariants.{Done, Usage, Script, Read, Write, Link, NoMemory, Clock, Noise, TurnsSpent, Capture}
 use Rattle.sg_edge.specs.Links.{Added, Failing, LinkCall, Receive, Received}
 use Rattle.sg_edge.specs.Told.{AtEnd, TookIn, Wrote}
 use Rattle.sg_edge.proofs.Links.{added_more}
@@ -15,6 +15,7 @@ use Rattle.sg_gateway.specs.Events.{events_of, outcomes_from}
 use Rattle.sg_gateway.specs.Runs.{outcomes, world_after}
 use Rattle.sg_gateway.specs.Step.{Event}
 use Rattle.sg_gateway.specs.World.{World, empty}
+use Rattle.sg_lines.specs.LineOf.{version_after}
 use Rattle.sg_lines.specs.ScriptLines.{lines_of}
 use Rattle.sg_lines.specs.declared.lines.Line.{Line}
 use Rattle.sg_lines.specs.declared.lines.Line.TheVariants as lines
@@ -40,7 +41,7 @@ pub record IsRelaying (old now : Tellings) (turns began : ℕ) (p : Passed) (at 
   pub read : Added old.readings now.readings p.readings
   pub drew : Added old.draws now.draws p.draws
   pub goes : (rest : List ℕ) (o : Outside) → woven (p.octets ++ rest) (p.readings ++ o.readings) (receipts_in p.calls ++ o.receipts) (p.draws ++ o.draws)
-      ≡ with_events es (trace_from (Relays began) at.number at.offset (lines_of rest) top o)
+      ≡ with_events es (trace_from (Relays began) at.version at.number at.offset (lines_of rest) top o)
   pub done : IsDone (outcomes es) p.calls p.out
   pub good : AreGood p.calls
   pub paced : length p.readings ≡ length (receipts_in p.calls) + 1
@@ -100,7 +101,7 @@ module _ (old now : Tellings) (turns began : ℕ) (p : Passed) (at : Reading) (e
   bounded : (budget : ℕ) → length got + budget ≡ at.budget → length (p.octets ++ (at.waits ++ got)) ≤ 2 ^ 30 + 1
   bounded budget paid = omega (arith, going.size, going.room, paid, length-append p.octets (at.waits ++ got), length-append at.waits got)
 
-  trace_is : trace_of passed ≡ with_events es (trace_from (Relays began) at.number at.offset (lines_of (at.waits ++ got)) top nothing)
+  trace_is : trace_of passed ≡ with_events es (trace_from (Relays began) at.version at.number at.offset (lines_of (at.waits ++ got)) top nothing)
   trace_is = (λ i. woven (p.octets ++ (at.waits ++ got)) (sym (append-nil p.readings) i) (sym (append-nil (receipts_in p.calls)) i) (sym (append-nil p.draws) i)) ∙ going.goes (at.waits ++ got) nothing
 
   -- nothing more was handled
@@ -126,26 +127,26 @@ module _ (old now : Tellings) (turns began : ℕ) (p : Passed) (at : Reading) (e
   pub at_end : (budget : ℕ) → length got + budget ≡ at.budget → at.waits ++ got ≡ [] → AtEnd left' ⊎ (2 ^ 30 < at.offset) → IsRelay Done turns old (record now { left = left' }) passed
   at_end budget paid none (inr far) = absurd (let near = going.within in omega (arith, far, near))
   at_end budget paid none (inl end) = ended Done budget paid (
-    whole_at passed es BehindAll (trace_is ∙ ap (λ (l : List ℕ). with_events es (trace_from (Relays began) at.number at.offset (lines_of l) top nothing)) none) going.done going.good,
+    whole_at passed es BehindAll (trace_is ∙ ap (λ (l : List ℕ). with_events es (trace_from (Relays began) at.version at.number at.offset (lines_of l) top nothing)) none) going.done going.good,
     end,
   )
 
   -- at a line with a fault, and whatever comes after it
-  at_fault : (fault : ScriptFault) → IsFault at.number at.offset (at.waits ++ got) fault left' → Ends (Script at.number fault) turns passed left'
+  at_fault : (fault : ScriptFault) → IsFault at.version at.number at.offset (at.waits ++ got) fault left' → Ends (Script at.number fault) turns passed left'
   at_fault fault is = (
-    whole_at passed es (AtFault at.number fault) (trace_is ∙ ap (with_events es) (stops_at (Relays began) at.number at.offset (at.waits ++ got) fault top nothing is.first)) going.done going.good,
+    whole_at passed es (AtFault at.number fault) (trace_is ∙ ap (with_events es) (stops_at (Relays began) at.version at.number at.offset (at.waits ++ got) fault top nothing is.first refl)) going.done going.good,
     is.ended,
     λ not_end more.
         let parts : (p.octets ++ (at.waits ++ got)) ++ more ≡ p.octets ++ ((at.waits ++ got) ++ more) = append_assoc p.octets (at.waits ++ got) more in
         (λ i. (woven (parts i) (sym (append-nil p.readings) i) (sym (append-nil (receipts_in p.calls)) i) (sym (append-nil p.draws) i)).stop)
         ∙ ap (λ (c : Trace). c.stop) (going.goes ((at.waits ++ got) ++ more) nothing)
-        ∙ ap (λ (c : Trace). c.stop) (stops_at (Relays began) at.number at.offset ((at.waits ++ got) ++ more) fault top nothing (is.still not_end more)),
+        ∙ ap (λ (c : Trace). c.stop) (stops_at (Relays began) at.version at.number at.offset ((at.waits ++ got) ++ more) fault top nothing (is.still not_end more) refl),
   )
 
   -- the next line isn't read
   pub at_error : (s : Status) (at' : Reading) → length got + at'.budget ≡ at.budget → (let r : Result (Option Line) Status = Err s in IsNext r at at' got left')
       → IsRelay s turns old (record now { left = left' }) passed
-  at_error (Script n f) at' paid (same, fault) = subst (λ (m : ℕ). IsRelay (Script m f) turns old (record now { left = left' }) passed) (sym same) (ended (Script at.number f) at'.budget paid (at_fault f (subst (λ (m : ℕ). IsFault m at.offset (at.waits ++ got) f left') same fault)))
+  at_error (Script n f) at' paid (same, fault) = subst (λ (m : ℕ). IsRelay (Script m f) turns old (record now { left = left' }) passed) (sym same) (ended (Script at.number f) at'.budget paid (at_fault f (subst (λ (m : ℕ). IsFault at.version m at.offset (at.waits ++ got) f left') same fault)))
   at_error Read at' paid next = ended Read at'.budget paid broken
   at_error NoMemory at' paid next = ended NoMemory at'.budget paid broken
   at_error Done at' paid next = absurd next
@@ -155,24 +156,25 @@ module _ (old now : Tellings) (turns began : ℕ) (p : Passed) (at : Reading) (e
   at_error Clock at' paid next = absurd next
   at_error Noise at' paid next = absurd next
   at_error TurnsSpent at' paid next = absurd next
+  at_error (Capture offset fault) at' paid next = absurd next
 
   module _ (l : Line) (at' : Reading) (paid : length got + at'.budget ≡ at.budget) (is : IsRead l at at' got) (readings : List ℕ) (calls : List LinkCall) (draws out : List ℕ) where
     -- what follows the line
     abbrev later : Later
-    later = trace_from (Relays began) (at.number + 1) (at.offset + length is.line) (lines_of at'.waits)
+    later = trace_from (Relays began) (version_after at.version l) (at.number + 1) (at.offset + length is.line) (lines_of at'.waits)
 
     receipts_are : receipts_in (p.calls ++ calls) ≡ receipts_in p.calls ++ receipts_in calls
     receipts_are = flat_append receipt_in p.calls calls
 
     -- the trace, up to what follows the line
     says : (more : List ℕ) (o : Outside) → woven ((p.octets ++ is.line) ++ more) ((p.readings ++ readings) ++ o.readings) (receipts_in (p.calls ++ calls) ++ o.receipts) ((p.draws ++ draws) ++ o.draws)
-        ≡ with_events es (said (Relays began) l (trace_from (Relays began) (at.number + 1) (at.offset + length is.line) (lines_of more)) top (taking readings (receipts_in calls) draws o))
+        ≡ with_events es (said (Relays began) l (trace_from (Relays began) (version_after at.version l) (at.number + 1) (at.offset + length is.line) (lines_of more)) top (taking readings (receipts_in calls) draws o))
     says more o =
         let receipts : receipts_in (p.calls ++ calls) ++ o.receipts ≡ receipts_in p.calls ++ (receipts_in calls ++ o.receipts) =
         ap (λ (xs : List Received). xs ++ o.receipts) receipts_are ∙ append_assoc (receipts_in p.calls) (receipts_in calls) o.receipts in
         (λ i. woven (append_assoc p.octets is.line more i) (append_assoc p.readings readings o.readings i) (receipts i) (append_assoc p.draws draws o.draws i))
         ∙ going.goes (is.line ++ more) (taking readings (receipts_in calls) draws o)
-        ∙ ap (with_events es) (reads_on (Relays began) at.number at.offset is.line more l top (taking readings (receipts_in calls) draws o) is.whole is.is)
+        ∙ ap (with_events es) (reads_on (Relays began) at.version at.number at.offset is.line more l top (taking readings (receipts_in calls) draws o) refl is.whole is.is)
 
     -- what has passed with the line
     abbrev pub with_line : Passed
@@ -196,14 +198,14 @@ module _ (old now : Tellings) (turns began : ℕ) (p : Passed) (at : Reading) (e
     line_order : IsLineInOrder (Relays began) l (world_after empty es) top readings calls draws → (more : List ℕ) (o : Outside)
         → AreInOrder (outcomes_at ((p.octets ++ is.line) ++ more) ((p.readings ++ readings) ++ o.readings) ((p.draws ++ draws) ++ o.draws)) (p.calls ++ calls)
     line_order order more o =
-        let next : Later = trace_from (Relays began) (at.number + 1) (at.offset + length is.line) (lines_of more) in
+        let next : Later = trace_from (Relays began) (version_after at.version l) (at.number + 1) (at.offset + length is.line) (lines_of more) in
         let after_it : List Received → Outside = λ xs. taken (readings ++ o.readings) xs (draws ++ o.draws) in
         subst (λ (f : List Received → List Outcome). AreInOrder f (p.calls ++ calls))
         (λ i. outcomes_at (sym (append_assoc p.octets is.line more) i) (sym (append_assoc p.readings readings o.readings) i) (sym (append_assoc p.draws draws o.draws) i))
         (order_more (outcomes_at (p.octets ++ (is.line ++ more)) (p.readings ++ (readings ++ o.readings)) (p.draws ++ (draws ++ o.draws)))
         (λ xs. outcomes_from (world_after empty es) (said (Relays began) l next top (after_it xs)).events) (outcomes es) p.calls calls
         (λ xs. ap (λ (c : Trace). outcomes c.events)
-        (going.goes (is.line ++ more) (after_it xs) ∙ ap (with_events es) (reads_on (Relays began) at.number at.offset is.line more l top (after_it xs) is.whole is.is))
+        (going.goes (is.line ++ more) (after_it xs) ∙ ap (with_events es) (reads_on (Relays began) at.version at.number at.offset is.line more l top (after_it xs) refl is.whole is.is))
         ∙ outcomes_from-append empty es (said (Relays began) l next top (after_it xs)).events)
         going.done.asked (going.in_order (is.line ++ more) (after_it [])) (order next o))
 
@@ -219,9 +221,9 @@ module _ (old now : Tellings) (turns began : ℕ) (p : Passed) (at : Reading) (e
       read = added_more old.readings now.readings now'.readings p.readings readings going.read read;
       drew = added_more old.draws now.draws now'.draws p.draws draws going.drew drew;
       goes = λ more o. says more o
-          ∙ ap (with_events es) (said.1 (trace_from (Relays began) (at.number + 1) (at.offset + length is.line) (lines_of more)) o)
-          ∙ with_events_again es said.0 (trace_from (Relays began) (at.number + 1) (at.offset + length is.line) (lines_of more) top' o)
-          ∙ ap₂ (λ (n a : ℕ). with_events (es ++ said.0) (trace_from (Relays began) n a (lines_of more) top' o)) (sym is.number) (sym is.offset);
+          ∙ ap (with_events es) (said.1 (trace_from (Relays began) (version_after at.version l) (at.number + 1) (at.offset + length is.line) (lines_of more)) o)
+          ∙ with_events_again es said.0 (trace_from (Relays began) (version_after at.version l) (at.number + 1) (at.offset + length is.line) (lines_of more) top' o)
+          ∙ (λ i. with_events (es ++ said.0) (trace_from (Relays began) (sym is.version i) (sym is.number i) (sym is.offset i) (lines_of more) top' o));
       done = subst (λ (os : List Outcome). IsDone os (p.calls ++ calls) (p.out ++ out)) (sym (outcomes_from-append empty es said.0))
           (done_more (outcomes es) (outcomes_from (world_after empty es) said.0) p.calls calls p.out out going.done said.2);
       good = AreGood-append p.calls calls going.good said.3;
@@ -377,14 +379,14 @@ module _ (turns : ℕ) (left : Option (List ℕ)) (stands_for : World → Type 0
 pub begins_so : (old now : Tellings) (turns began : ℕ) (stands_for : World → Type 0) (readings : List ℕ) (calls : List LinkCall) (out : List ℕ)
     → TookIn old.left now.left [] → Wrote old.written now.written out → Added old.calls now.calls calls → Added old.readings now.readings readings → Added old.draws now.draws []
     → (begun : IsBegun (Ok began) empty stands_for readings calls out)
-    → IsRelaying old now turns began (only_begun readings calls out) (record { waits = []; number = 1; offset = 0; budget = 2 ^ 30 + 1 }) (first_tick begun.0) began turns
+    → IsRelaying old now turns began (only_begun readings calls out) (record { waits = []; version = 1; number = 1; offset = 0; budget = 2 ^ 30 + 1 }) (first_tick begun.0) began turns
 begins_so old now turns began stands_for readings calls out took wrote called read drew (r, one, is, none, done, good, stands) = record {
   took = took;
   wrote = wrote;
   called = called;
   read = read;
   drew = drew;
-  goes = λ rest o. (λ i. woven rest (one i ++ o.readings) (none i ++ o.receipts) o.draws) ∙ ap (λ (m : ℕ). with_events (first_tick r) (trace_from (Relays m) 1 0 (lines_of rest) m o)) (sym is);
+  goes = λ rest o. (λ i. woven rest (one i ++ o.readings) (none i ++ o.receipts) o.draws) ∙ ap (λ (m : ℕ). with_events (first_tick r) (trace_from (Relays m) 1 1 0 (lines_of rest) m o)) (sym is);
   done = done;
   good = good;
   paced = omega (arith, ap length one, ap length none);

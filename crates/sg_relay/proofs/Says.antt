@@ -1,11 +1,11 @@
 -- What a line of a relay makes of what was taken of the outside.
 use Rattle.std.proofs.Common.{◌≡◌, ℕ, List, [], ◌∷◌, ◌++◌, length, Option, Some, None, Result, Ok, Err, refl, sym, ap, ap₂, ◌∙◌, subst, inl, inr, arith}
-use Rattle.std.specs.Prelude.{IfErr}
+use Rattle.std.specs.Prelude.{◌⊎◌, IfErr}
 use Rattle.std.proofs.lemmas.List.{append-nil}
-use Rattle.sg_trace.specs.Trace.{Command, ForReading, ForReceive, Later, Outside, Relays, Replays, Stop, arrivals_of, handled, handled_as, moment_of, said, said_by, wait_in, waited, with_events}
+use Rattle.sg_trace.specs.Trace.{Captures, Command, ForReading, ForReceive, Later, Outside, Relays, Replays, Stop, arrivals_of, handled, handled_as, line_in, moment_of, said, said_by, wait_in, waited, with_events}
 use Rattle.sg_trace.specs.Supplying.{IsSupplied}
 use Rattle.sg_trace.specs.declared.status.Status.{Status}
-use Rattle.sg_trace.specs.declared.status.Status.TheVariants.{Done, Usage, Script, Read, Write, Link, NoMemory, Clock, Noise, TurnsSpent}
+use Rattle.sg_trace.specs.declared.status.Status.TheVariants.{Done, Usage, Script, Read, Write, Link, NoMemory, Clock, Noise, TurnsSpent, Capture}
 use Rattle.sg_base.specs.declared.addresses.Address.{Address}
 use Rattle.sg_edge.specs.Links.{Came, LinkCall, Received}
 use Rattle.sg_gateway.specs.Events.{events_of, events_of_signal, outcomes_from}
@@ -28,7 +28,7 @@ use Rattle.sg_relay.proofs.Waits.{of_outcomes, of_signals, of_turns}
 -- ---- a `tick` line
 
 said_wait : (k : Command) (l : Line) (until : ℕ) → wait_in k l ≡ Some until → (later : Later) (top : ℕ) (o : Outside) → said k l later top o ≡ waited until later top o.readings o.receipts o.draws
-said_wait k l until is later top o = ap (λ (w : Option ℕ). said_by l w later top o) is
+said_wait k l until is later top o = ap (λ (w : Option ℕ). said_by (line_in k l) w later top o) is
 
 -- a line at which a wait stops
 waiting_so : (k : Command) (l : Line) (until : ℕ) (w : World) (top : ℕ) (readings : List ℕ) (out : List ℕ) → wait_in k l ≡ Some until → (stop : Stop) (calls : List LinkCall)
@@ -76,14 +76,22 @@ unreceived_order k l w top readings calls draws none = λ later o. order_none (�
 
 -- ---- another line
 
-said_other : (k : Command) (l : Line) → wait_in k l ≡ None → (later : Later) (top : ℕ) (o : Outside) → said k l later top o ≡ handled l later top o
-said_other k l is later top o = ap (λ (w : Option ℕ). said_by l w later top o) is
+-- each run takes a signal as it stands
+signal_line : (k : Command) (signal : Signal) → line_in k (lines.Signal signal) ≡ lines.Signal signal
+signal_line Replays signal = refl
+signal_line (Relays began) signal = refl
+signal_line Captures signal = refl
+
+said_other : (k : Command) (signal : Signal) → wait_in k (lines.Signal signal) ≡ None → (later : Later) (top : ℕ) (o : Outside)
+    → said k (lines.Signal signal) later top o ≡ handled (lines.Signal signal) later top o
+said_other k signal is later top o =
+    ap (λ (w : Option ℕ). said_by (line_in k (lines.Signal signal)) w later top o) is ∙ ap (λ (l : Line). handled l later top o) (signal_line k signal)
 
 -- the signal with its noise
 said_signal : (k : Command) (signal s : Signal) (draws : List ℕ) → wait_in k (lines.Signal signal) ≡ None → IsSupplied (Ok s) signal draws → (later : Later) (top : ℕ) (o : Outside)
     → said k (lines.Signal signal) later top (taking [] [] draws o) ≡ with_events (events_of_signal s) (later top o)
 said_signal k signal s draws is supplies later top o =
-    said_other k (lines.Signal signal) is later top (taking [] [] draws o)
+    said_other k signal is later top (taking [] [] draws o)
     ∙ ap (λ found. handled_as found later top (taking [] [] draws o)) (supplies o.draws)
 
 -- a draw failed
@@ -93,7 +101,7 @@ undrawn_said T k signal w top turns stands_for draws is (none, lacks) = (
   record {
     events = [];
     stops = λ later. ap (λ (d : List ℕ). said k (lines.Signal signal) later top (taken [] [] d)) none
-        ∙ said_other k (lines.Signal signal) is later top (taken [] [] []) ∙ ap (λ found. handled_as found later top (taken [] [] [])) lacks;
+        ∙ said_other k signal is later top (taken [] [] []) ∙ ap (λ found. handled_as found later top (taken [] [] [])) lacks;
     done = done_none;
     good = tt;
   },
@@ -113,6 +121,7 @@ unsupplied_said T k signal w top turns stands_for draws Link is lacks = absurd l
 unsupplied_said T k signal w top turns stands_for draws NoMemory is lacks = absurd lacks
 unsupplied_said T k signal w top turns stands_for draws Clock is lacks = absurd lacks
 unsupplied_said T k signal w top turns stands_for draws TurnsSpent is lacks = absurd lacks
+unsupplied_said T k signal w top turns stands_for draws (Capture offset fault) is lacks = absurd lacks
 
 module _ (k : Command) (l : Line) (w : World) (es : List Event) (top turns : ℕ) (stands_for : World → Type 0) (calls : List LinkCall) (draws out : List ℕ)
     (says : (later : Later) (o : Outside) → said k l later top (taking [] [] draws o) ≡ with_events es (later top o)) where
@@ -150,28 +159,36 @@ pub signal_said : {T : Type 0} (r : Result T Status) (k : Command) (signal s : S
 signal_said r k signal s w top turns stands_for calls draws out is supplies only handled =
     handled_said k (lines.Signal signal) w (events_of_signal s) top turns stands_for calls draws out (λ later o. said_signal k signal s draws is supplies later top o) r only handled
 
-plain_header : (k : Command) (later : Later) (top : ℕ) (o : Outside) → said k lines.Header later top o ≡ with_events [] (later top o)
-plain_header Replays later top o = refl
-plain_header (Relays began) later top o = refl
+-- a header, of either version
+abbrev pub IsHeader : Line → Type 0
+IsHeader l = (l ≡ lines.Header) ⊎ (l ≡ lines.HeaderTwo)
 
--- the header does nothing
-pub header_said : (pad : List ℕ) (k : Command) (l : Line) → l ≡ lines.Header → (w : World) (top turns : ℕ) (stands_for : World → Type 0) → stands_for w
-    → IsSaid (Ok pad) k l w top top turns turns stands_for [] [] [] []
-header_said pad k l is w top turns stands_for stands =
-    handled_said k l w [] top turns stands_for [] [] [] (λ later o. ap (λ (m : Line). said k m later top o) is ∙ plain_header k later top o) (Ok pad) (λ s same. absurd cc) (done_none, tt, refl, stands)
+plain_header : (began : ℕ) (l : Line) → IsHeader l → (later : Later) (top : ℕ) (o : Outside) → said (Relays began) l later top o ≡ with_events [] (later top o)
+plain_header began l (inl is) later top o = ap (λ (m : Line). said (Relays began) m later top o) is
+plain_header began l (inr is) later top o = ap (λ (m : Line). said (Relays began) m later top o) is
 
-plain_datagram : (k : Command) (port : ℕ) (from : Address) (octets : List ℕ) (later : Later) (top : ℕ) (o : Outside)
-    → said k (lines.Datagram port from octets) later top o ≡ with_events (arrivals_of (Came port from octets)) (later top o)
-plain_datagram Replays port from octets later top o = refl
-plain_datagram (Relays began) port from octets later top o = refl
+-- it does nothing
+pub header_said : (pad : List ℕ) (began : ℕ) (l : Line) → IsHeader l → (w : World) (top turns : ℕ) (stands_for : World → Type 0) → stands_for w
+    → IsSaid (Ok pad) (Relays began) l w top top turns turns stands_for [] [] [] []
+header_said pad began l is w top turns stands_for stands =
+    handled_said (Relays began) l w [] top turns stands_for [] [] [] (λ later o. plain_header began l is later top o) (Ok pad) (λ s same. absurd cc) (done_none, tt, refl, stands)
+
+-- a datagram, of which a relay leaves out the moment where it has one
+abbrev pub IsDatagram : Line → ℕ → Address → List ℕ → Type 0
+IsDatagram l port from octets = (l ≡ lines.Datagram port from octets) ⊎ ((now : ℕ) × (l ≡ lines.DatagramAt now port from octets))
+
+plain_datagram : (began : ℕ) (l : Line) (port : ℕ) (from : Address) (octets : List ℕ) → IsDatagram l port from octets → (later : Later) (top : ℕ) (o : Outside)
+    → said (Relays began) l later top o ≡ with_events (arrivals_of (Came port from octets)) (later top o)
+plain_datagram began l port from octets (inl is) later top o = ap (λ (m : Line). said (Relays began) m later top o) is
+plain_datagram began l port from octets (inr (now, is)) later top o = ap (λ (m : Line). said (Relays began) m later top o) is
 
 -- a datagram of a line was handled
-pub datagram_said : (r : Result (List ℕ) Status) (k : Command) (l : Line) (port : ℕ) (from : Address) (octets pad : List ℕ) → l ≡ lines.Datagram port from octets → pad ≡ octets
+pub datagram_said : (r : Result (List ℕ) Status) (began : ℕ) (l : Line) (port : ℕ) (from : Address) (octets pad : List ℕ) → IsDatagram l port from octets → pad ≡ octets
     → (w : World) (top turns : ℕ) (stands_for : World → Type 0) (calls : List LinkCall) (out : List ℕ) → ((status : Status) → r ≡ Err status → IsOfOutcomes status)
-    → AreHandled r w (arrivals_of (Came port from pad)) stands_for calls out → IsSaid r k l w top top turns turns stands_for [] calls [] out
-datagram_said r k l port from octets pad is filled w top turns stands_for calls out only handled =
-    handled_said k l w (arrivals_of (Came port from pad)) top turns stands_for calls [] out
-    (λ later o. ap (λ (m : Line). said k m later top o) is ∙ plain_datagram k port from octets later top o ∙ ap (λ (d : List ℕ). with_events (arrivals_of (Came port from d)) (later top o)) (sym filled))
+    → AreHandled r w (arrivals_of (Came port from pad)) stands_for calls out → IsSaid r (Relays began) l w top top turns turns stands_for [] calls [] out
+datagram_said r began l port from octets pad is filled w top turns stands_for calls out only handled =
+    handled_said (Relays began) l w (arrivals_of (Came port from pad)) top turns stands_for calls [] out
+    (λ later o. plain_datagram began l port from octets is later top o ∙ ap (λ (d : List ℕ). with_events (arrivals_of (Came port from d)) (later top o)) (sym filled))
     r only handled
 
 pub fits_timely : (l : Line) (signal : Signal) → l ≡ lines.Signal signal → FitsRelay l → IsTimely signal
@@ -209,15 +226,17 @@ cut_begun s w stands_for r calls out only = of_outcomes
 -- ---- a line that was read
 
 -- a line of the grammar names no later moment than the last, and no longer datagram than fits a pad
-pub fits_relay : (n : ℕ) (l : Line) → FitsLine n l → FitsRelay l
-fits_relay n lines.Header fits = tt
-fits_relay n (lines.Datagram port from octets) fits = fits.1.2.high
-fits_relay n (lines.Signal (Tick now)) fits = fits.1
-fits_relay n (lines.Signal (Psk own peer key)) fits = tt
-fits_relay n (lines.Signal (Manual call secure plain roc window from_peer to_peer)) fits = tt
-fits_relay n (lines.Signal (OfferSecure call noise text)) fits = tt
-fits_relay n (lines.Signal (OfferSdes call noise text)) fits = tt
-fits_relay n (lines.Signal (OfferMikey call peer noise text)) fits = tt
-fits_relay n (lines.Signal (Answer call noise text)) fits = tt
-fits_relay n (lines.Signal (Reject call)) fits = tt
-fits_relay n (lines.Signal (Bye call)) fits = tt
+pub fits_relay : (version n : ℕ) (l : Line) → FitsLine version n l → FitsRelay l
+fits_relay version n lines.Header fits = tt
+fits_relay version n lines.HeaderTwo fits = tt
+fits_relay version n (lines.Datagram port from octets) fits = fits.1.2.high
+fits_relay version n (lines.DatagramAt now port from octets) fits = fits.1.2.high
+fits_relay version n (lines.Signal (Tick now)) fits = fits.1
+fits_relay version n (lines.Signal (Psk own peer key)) fits = tt
+fits_relay version n (lines.Signal (Manual call secure plain roc window from_peer to_peer)) fits = tt
+fits_relay version n (lines.Signal (OfferSecure call noise text)) fits = tt
+fits_relay version n (lines.Signal (OfferSdes call noise text)) fits = tt
+fits_relay version n (lines.Signal (OfferMikey call peer noise text)) fits = tt
+fits_relay version n (lines.Signal (Answer call noise text)) fits = tt
+fits_relay version n (lines.Signal (Reject call)) fits = tt
+fits_relay version n (lines.Signal (Bye call)) fits = tt

@@ -112,7 +112,9 @@ IsWaited (Err status) until w top top' turns turns' stands_for readings calls ou
 -- the line's signal is timely, or its datagram fits a pad
 abbrev pub FitsRelay : Line → Type 0
 FitsRelay lines.Header = ⊤
+FitsRelay lines.HeaderTwo = ⊤
 FitsRelay (lines.Datagram port from octets) = length octets ≤ 4352
+FitsRelay (lines.DatagramAt now port from octets) = length octets ≤ 4352
 FitsRelay (lines.Signal signal) = IsTimely signal
 
 -- what was taken of the outside, and what follows

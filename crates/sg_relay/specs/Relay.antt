@@ -8,7 +8,7 @@ use Rattle.sg_gateway.specs.Runs.{outcomes, world_after}
 use Rattle.sg_gateway.specs.World.{World, empty}
 use Rattle.sg_outcome.specs.declared.outcomes.Outcome.{Outcome}
 use Rattle.sg_trace.specs.declared.status.Status.{Status}
-use Rattle.sg_trace.specs.declared.status.Status.TheVariants.{Done, Usage, Script, Read, Write, Link, NoMemory, Clock, Noise, TurnsSpent}
+use Rattle.sg_trace.specs.declared.status.Status.TheVariants.{Done, Usage, Script, Read, Write, Link, NoMemory, Clock, Noise, TurnsSpent, Capture}
 use Rattle.sg_relay.specs.Asked.{AreGood, AreInOrder, AtFailedReceive, IsCutOff, IsDone, IsPart, asks_in, receipts_in}
 use Rattle.sg_relay.specs.Held.{AreOfCalls, EachFits}
 use Rattle.sg_trace.specs.Trace.{AtEnd as BehindAll, AtFault, Trace, ForDraw, ForReading, ForReceive, Outside, woven}
@@ -66,6 +66,7 @@ Ends Read turns p left = IsBroken p
 Ends Write turns p left = IsBroken p
 Ends NoMemory turns p left = IsBroken p
 Ends Usage turns p left = ⊥
+Ends (Capture offset fault) turns p left = ⊥
 
 -- Each reading after the first is followed by one receive, but for the last where the run ended between.
 abbrev pub ArePaced : List ℕ → List Received → Type 0

@@ -1,10 +1,10 @@
 //! The command `relay`: the lines of a script, and at its `tick` lines the datagrams of a link.
 #![tactic(auto)]
 
+mod carrying_out;
 mod laws;
 mod lines;
 mod relaying;
-mod telling;
 mod turns;
 
 pub use laws::ports_are_of_calls;

@@ -69,7 +69,8 @@ fn filled(pad: Pad, octets: &[u8]) -> Pad
     pad
 }
 
-/// Handles a line of the script, and hands the pad back: at a `tick` line turns are taken.
+/// Handles a line of the script, and hands the pad back: at a `tick` line turns are taken. The moment of a datagram
+/// line isn't used: a relay's moments are those of its clock.
 pub(crate) fn say<K: Sink, L: Link, C: Clock, N: Noise>(
     alloc: Global,
     table: &mut Table,
@@ -98,8 +99,14 @@ pub(crate) fn say<K: Sink, L: Link, C: Clock, N: Noise>(
     ensures count { C.count clock.new + turns.new ≤ C.count clock.old + turns.old }
 {
     match line {
-        Line::Header => Ok(pad),
-        Line::Datagram { port, from, octets } => {
+        Line::Header | Line::HeaderTwo => Ok(pad),
+        Line::Datagram { port, from, octets }
+        | Line::DatagramAt {
+            port,
+            from,
+            octets,
+            ..
+        } => {
             let pad = filled(pad, octets.as_slice());
             arrive(alloc, table, port, from, pad, sink, link)
         }

@@ -11,7 +11,7 @@ ghost use Rattle.sg_relay.specs.Parts.{AreHandled, IsReceived, IsReceivedFirst, 
 ghost use Rattle.sg_table.specs.Standing.{TableStandsFor};
 ghost use Rattle.sg_table.specs.Telling.{IsTimely};
 
-use crate::telling::{carry_out_all, pass_on};
+use crate::carrying_out::{carry_out_all, pass_on};
 use sg_base::{Address, Failed, NoMemory, Pad, TICK_MOST};
 use sg_edge::{Clock, Link, Receipt, Sink};
 use sg_lines::Signal;
@@ -66,7 +66,7 @@ pub(crate) fn arrive<K: Sink, L: Link>(
     }
 }
 
-/// Hands a moment on as a tick, where it is greater than all before.
+/// Hands a moment on as a tick, where it is greater than all before. A tick that tells nothing is only that.
 fn tick<K: Sink, L: Link>(
     alloc: Global,
     table: &mut Table,
@@ -88,6 +88,9 @@ fn tick<K: Sink, L: Link>(
         return Ok(());
     }
     *top = moment;
+    if table.tick_quietly(moment) {
+        return Ok(());
+    }
     obey(alloc, table, &Signal::Tick { now: moment }, sink, link)
 }
 

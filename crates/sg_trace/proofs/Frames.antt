@@ -24,7 +24,7 @@ pub at_is : (version n at : ℕ) (line : List ℕ) → line_at version n at line
 unfolding line_at
 at_is version n at line = refl
 
-at_long : (version n at : ℕ) (line : List ℕ) → 70000 < length line → line_at version n at line ≡ Err Length
+pub at_long : (version n at : ℕ) (line : List ℕ) → 70000 < length line → line_at version n at line ≡ Err Length
 at_long version n at line long = at_is version n at line ∙ ap (λ r. cond (too_far at line) (Err Length) r) (too_long version n line long) ∙ both (too_far at line)
   where
     both : (b : Bool) → (let r : Result Line ScriptFault = cond b (Err Length) (Err Length) in r) ≡ Err Length
@@ -37,13 +37,13 @@ at_far version n at line far = at_is version n at line ∙ cond-true _ _ _ far
 at_open : (version n at : ℕ) (line : List ℕ) → too_far at line ≡ false → NoEnd line → length line ≤ 70000 → line_at version n at line ≡ Err Unended
 at_open version n at line near none short = at_is version n at line ∙ cond-false _ _ _ near ∙ open_line version n line none short
 
-data Opening (version n at : ℕ) (line : List ℕ) : Type 0 where
+pub data Opening (version n at : ℕ) (line : List ℕ) : Type 0 where
   IsFar : too_far at line ≡ true → Opening version n at line
   IsLong : 70000 < length line → Opening version n at line
   IsOpen : line_at version n at line ≡ Err Unended → Opening version n at line
 
 -- an unended line is too far, too long or unended
-opening : (version n at : ℕ) (line : List ℕ) → NoEnd line → Opening version n at line
+pub opening : (version n at : ℕ) (line : List ℕ) → NoEnd line → Opening version n at line
 opening version n at line none = elim (cases_Bool (too_far at line)) [
   | inl far ↦ IsFar far
   | inr near ↦ elim (cases_lt 70000 (length line)) [
@@ -106,7 +106,7 @@ unended_at_end version n at line rest ended (inr (none, some, inl (last, end))) 
     within false near = ltb-false _ _ near
 unended_at_end version n at line rest ended (inr (none, some, inr long)) is = absurd (length_unended (fault_is _ _ (sym (at_long version n at line long) ∙ is)))
 
-further : (at : ℕ) (line more : List ℕ) → too_far at line ≡ true → too_far at (line ++ more) ≡ true
+pub further : (at : ℕ) (line more : List ℕ) → too_far at line ≡ true → too_far at (line ++ more) ≡ true
 further at line more is = lt-ltb (2 ^ 30) (at + length (line ++ more)) (let b = ltb-true (2 ^ 30) (at + length line) is in omega (arith, b, length-append line more))
 
 -- a fault other than a missing end stays, whatever comes

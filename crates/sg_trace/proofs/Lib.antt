@@ -1,6 +1,8 @@
+mod CaptureReads
 pub mod Causes
 pub mod Traces
 mod ReadBuffers
+mod Findings
 pub mod Frames
 pub mod Grammars
 mod LineParts

@@ -1,7 +1,9 @@
 pub mod Captured
+pub mod CaptureReading
 pub mod Causes
 pub mod Trace
 pub mod Fed
+pub mod Finding
 pub mod Grammar
 pub mod Output
 pub mod Reading

@@ -2,14 +2,17 @@
 //! outcomes. Each command of the program stands on it.
 #![tactic(auto)]
 
+mod capture_reader;
 mod line_reader;
+mod part_reader;
 mod read_buffer;
 mod script_reader;
 mod status;
 mod supplying;
 mod telling;
 
-pub use script_reader::ScriptReader;
+pub use capture_reader::CaptureReader;
+pub use script_reader::{Found, ScriptReader};
 pub use status::Status;
 pub use supplying::supply;
 pub use telling::tell;

@@ -131,7 +131,7 @@ lines-init g c =
     )
 
 pub play-requires-after_bounds : goal.play-requires-after_bounds
-play-requires-after_bounds g c = λ bounds outlives. (c.lines.script.number, subst (λ r. IfSome r (λ line. FitsLine c.lines.script.number line)) c.in-Ok-Some.field-0-is c.in-Ok-Some.ensures.fits)
+play-requires-after_bounds g c = λ bounds outlives. (c.lines.script.version, c.lines.script.number, subst (λ r. IfSome r (λ line. FitsLine c.lines.script.version c.lines.script.number line)) c.in-Ok-Some.field-0-is c.in-Ok-Some.ensures.fits)
 
 -- ---- whose failure it was
 

@@ -12,7 +12,7 @@ invariant-lines g l =
     ((taken drawn : List ℕ) × (es : List Event)
     × IsReplaying (record { left = g.S.Source.left l.fn.source; written = g.K.Sink.written l.fn.sink; drawn = g.N.Noise.given l.fn.noise })
     (record { left = g.S.Source.left l.source; written = g.K.Sink.written l.sink; drawn = g.N.Noise.given l.noise })
-    taken l.script.waits drawn es (waiting l.player) l.script.number l.script.offset
+    taken l.script.waits drawn es (waiting l.player) l.script.version l.script.number l.script.offset
     × (length taken ≡ l.script.offset) × TableStandsFor l.player.table (world_after empty es))
     × (l.script.offset + length l.script.waits + l.script.budget ≡ 2 ^ 30 + 1) × (l.script.offset ≤ 2 ^ 30)
     × (g.S.Source.faults l.source ≡ g.S.Source.faults l.fn.source) × (g.K.Sink.faults l.sink ≡ g.K.Sink.faults l.fn.sink) × (g.N.Noise.faults l.noise ≡ g.N.Noise.faults l.fn.noise)

@@ -28,7 +28,7 @@ returns-in-Some-clause-said g c = λ w stands.
 
 pub returns-in-Header-clause-said : goal.returns-in-Header-clause-said
 returns-in-Header-clause-said g c = λ w stands.
-    ([], [], [], [], added_none _, added_none _, added_none _, wrote_none _, header_said c.args.pad (Relays c.args.began) c.args.line c.in-Header.is w c.args.top.now c.args.turns.now (TableStandsFor c.args.table.now) stands, unreceived_order (Relays c.args.began) c.args.line w c.args.top.now [] [] [] refl)
+    ([], [], [], [], added_none _, added_none _, added_none _, wrote_none _, header_said c.args.pad c.args.began c.args.line c.in-Header.is w c.args.top.now c.args.turns.now (TableStandsFor c.args.table.now) stands, unreceived_order (Relays c.args.began) c.args.line w c.args.top.now [] [] [] refl)
 
 pub returns-in-Datagram-clause-said : goal.returns-in-Datagram-clause-said
 returns-in-Datagram-clause-said g c = λ w stands.
@@ -41,7 +41,7 @@ returns-in-Datagram-clause-said g c = λ w stands.
       handled.2,
       added_none _,
       handled.3,
-      datagram_said c.arrive.result (Relays c.args.began) c.args.line c.in-Datagram.port c.in-Datagram.from c.in-Datagram.octets c.filled-pad.result c.in-Datagram.is (c.filled-pad.ensures ∙ c.as_slice.ensures) w c.args.top.now c.args.turns.now
+      datagram_said c.arrive.result c.args.began c.args.line c.in-Datagram.port c.in-Datagram.from c.in-Datagram.octets c.filled-pad.result c.in-Datagram.is (c.filled-pad.ensures ∙ c.as_slice.ensures) w c.args.top.now c.args.turns.now
           (TableStandsFor c.arrive.new.table) handled.0 handled.1 (only_at IsOfOutcomes c.arrive.result c.arrive.ensures.only) handled.4,
       unreceived_order (Relays c.args.began) c.args.line w c.args.top.now [] handled.0 []
           (handled_none c.arrive.result w (arrivals_of (Came c.in-Datagram.port c.in-Datagram.from c.filled-pad.result)) (TableStandsFor c.arrive.new.table) handled.0 handled.1 handled.4),

@@ -1,0 +1,26 @@
+use Rattle.std.proofs.Common.{[]}
+use Rattle.sg_edge.proofs.Passed.{wrote_none}
+use Rattle.sg_trace.specs.declared.status.Status.TheVariants.{Write}
+use Rattle.sg_relay.proofs.Blames.{due_so, written_link, written_only}
+use Rattle.sg_relay.proofs.Deeds.{line_so, told_held, told_unheld}
+use Rattle.sg_relay.proofs.carrying_out.hold_and_tell.Goals as goal
+
+pub returns-in-Err-clause-done : goal.returns-in-Err-clause-done
+returns-in-Err-clause-done g c =
+    let held = c.in-Err.ensures.held in
+    (held.0, [], held.1, wrote_none _, told_unheld c.args.outcome.now _ held.0 _ c.requires.asks held.2)
+
+pub returns-in-Ok-clause-done : goal.returns-in-Ok-clause-done
+returns-in-Ok-clause-done g c =
+    let held = c.in-Ok.ensures.held in
+    let wrote = line_so c.tell.result _ _ _ c.tell.ensures.told in
+    (held.0, wrote.0, held.1, wrote.1, told_held c.tell.result c.args.outcome.now _ held.0 wrote.0 c.requires.asks c.requires.plain held.2 wrote.2 wrote.3 wrote.4)
+
+pub returns-in-Ok-clause-only : goal.returns-in-Ok-clause-only
+returns-in-Ok-clause-only g c = written_only c.tell.result (line_so c.tell.result _ _ _ c.tell.ensures.told).4
+
+pub returns-in-Ok-clause-write : goal.returns-in-Ok-clause-write
+returns-in-Ok-clause-write g c = due_so Write c.tell.result _ _ _ c.tell.ensures.cause
+
+pub returns-in-Ok-clause-link : goal.returns-in-Ok-clause-link
+returns-in-Ok-clause-link g c = written_link c.tell.result _ _ (line_so c.tell.result _ _ _ c.tell.ensures.told).4 c.in-Ok.ensures.cause.later

@@ -1,0 +1,178 @@
+-- How a capture is read part by part.
+use Rattle.std.proofs.Common.{◌≡◌, ◌⊎◌, ◌+◌, ◌≤◌, ◌<◌, ℕ, List, [], ◌∷◌, ◌++◌, length, max, Option, Some, None, Result, Ok, Err, refl, sym, ap, ◌∙◌, subst, inl, inr, append_assoc, length-append, arith}
+use Rattle.std.proofs.lemmas.List.{append-nil}
+use Rattle.sg_edge.specs.Told.{AtEnd}
+use Rattle.sg_pcap.proofs.Captures.{header_faulty, header_stays, header_there, length_front, length_least, record_faulty, record_stays, record_there}
+use Rattle.sg_pcap.specs.Capture.{Capture, capture_of, faulty, header_within, records_in, record_within}
+use Rattle.sg_pcap.specs.Records.{record_length}
+use Rattle.sg_pcap.specs.declared.faults.CaptureFault.{CaptureFault}
+use Rattle.sg_pcap.specs.declared.faults.CaptureFault.TheVariants.{Cut}
+use Rattle.sg_pcap.specs.declared.header.Form.{Form}
+use Rattle.sg_pcap.specs.declared.records.Record.{Record}
+use Rattle.sg_trace.specs.CaptureReading.{Capturing, HasPart, HasRecord, IsCaptureFault, IsRecordRead, IsHeaderRead, Moves}
+use Rattle.sg_trace.specs.declared.status.Status.{Status}
+use Rattle.sg_trace.specs.declared.status.Status.TheVariants as statuses
+
+-- nothing was moved
+pub moves_none : (waits had : List ℕ) → Moves waits [] waits had had
+moves_none waits had = ([], (append-nil waits, sym (append-nil had)))
+
+-- once more has come to wait
+pub moves_filled : (waited got waits had has more waits' : List ℕ) → Moves waited got waits had has → waits' ≡ waits ++ more → Moves waited (got ++ more) waits' had has
+moves_filled waited got waits had has more waits' moves is =
+    (moves.0, (sym (append_assoc waited got more) ∙ ap (λ (l : List ℕ). l ++ more) moves.1.0 ∙ append_assoc moves.0 waits more ∙ ap (λ (l : List ℕ). moves.0 ++ l) (sym is), moves.1.1))
+
+-- once more was moved
+pub moves_more : (waited got waits had has part waits' has' : List ℕ) → Moves waited got waits had has → waits ≡ part ++ waits' → has' ≡ has ++ part → Moves waited got waits' had has'
+moves_more waited got waits had has part waits' has' moves is now =
+    (moves.0 ++ part, (moves.1.0 ∙ ap (λ (l : List ℕ). moves.0 ++ l) is ∙ sym (append_assoc moves.0 part waits'), now ∙ ap (λ (l : List ℕ). l ++ part) moves.1.1 ∙ append_assoc had moves.0 part))
+
+-- ---- how many octets there are
+
+pub moves_of : {E : Type 0} (r : Result (Unit {0}) E) (count : ℕ) (had has waited waits got : List ℕ) (left : Option (List ℕ)) (budget : ℕ) → HasPart r count had has waited waits got left budget → Moves waited got waits had has
+moves_of (Ok u) count had has waited waits got left budget is = is.0
+moves_of (Err e) count had has waited waits got left budget is = is
+
+pub split_of : {E : Type 0} (form : Form) (r : Result (Unit {0}) E) (has waited waits got : List ℕ) (left : Option (List ℕ)) (budget : ℕ) → HasRecord form r has waited waits got left budget → waited ++ got ≡ has ++ waits
+split_of form (Ok u) has waited waits got left budget is = is.0
+split_of form (Err e) has waited waits got left budget is = is
+
+pub room_so : (at most budget budget' : ℕ) (waited got waits had part : List ℕ) → Moves waited got waits had part → at + length had + length waited + budget ≡ most + 1 → length got + budget' ≡ budget
+    → at + length part + length waits + budget' ≡ most + 1
+room_so at most budget budget' waited got waits had part moves room paid =
+    omega (arith, room, paid, ap length moves.1.0, ap length moves.1.1, length-append waited got, length-append moves.0 waits, length-append had moves.0)
+
+-- ---- a record
+
+module _ (form : Form) (waited got waits had head more waits' part : List ℕ) (none : had ≡ []) (first : Moves waited got waits had head) where
+  split_so : Moves waits more waits' head part → waited ++ (got ++ more) ≡ part ++ waits'
+  split_so then =
+      let front : head ≡ first.0 = first.1.1 ∙ ap (λ (l : List ℕ). l ++ first.0) none in
+      sym (append_assoc waited got more) ∙ ap (λ (l : List ℕ). l ++ more) (first.1.0 ∙ ap (λ (l : List ℕ). l ++ waits) (sym front)) ∙ append_assoc head waits more
+      ∙ ap (λ (l : List ℕ). head ++ l) then.1.0 ∙ sym (append_assoc head then.0 waits') ∙ ap (λ (l : List ℕ). l ++ waits') (sym then.1.1)
+
+  -- a head, and then as many octets as it says
+  pub record_so : {E : Type 0} (r : Result (Unit {0}) E) (count : ℕ) (left : Option (List ℕ)) (budget : ℕ) → count ≡ record_length form head → length head ≤ max 16 (length had) → 16 ≤ length head
+      → HasPart r count head part waits waits' more left budget → HasRecord form r part waited waits' (got ++ more) left budget
+  record_so (Err e) count left budget is short long then = split_so then
+  record_so (Ok u) count left budget is short long then =
+      let least : 16 ≤ record_length form head = length_least form head in
+      let same : record_length form part ≡ count = ap (record_length form) then.0.1.1 ∙ length_front form head then.0.0 (omega (arith, long)) ∙ sym is in
+      let few = then.1 in (
+        split_so then.0,
+        omega (arith, few, same, is, least, short, ap length none),
+        subst (λ (n : ℕ). (n ≤ length part) ⊎ ((waits' ≡ []) × (AtEnd left ⊎ (budget ≡ 0)))) (sym same) then.2,
+      )
+
+-- ---- faults
+
+-- a fault of the part that was read, at the end of the source or whatever comes behind
+fault_so : (reads : List ℕ → Capture) (octets part waits : List ℕ) (fault : ℕ × CaptureFault) (left : Option (List ℕ)) → octets ≡ part ++ waits
+    → ((fault.1 ≡ Cut) × (waits ≡ []) × AtEnd left × (reads part ≡ faulty fault)) ⊎ ((¬ (fault.1 ≡ Cut)) × ((more : List ℕ) → reads (part ++ more) ≡ faulty fault)) → IsCaptureFault reads octets fault left
+fault_so reads octets part waits fault left split (inl (cut, none, end, is)) = record {
+  first = ap reads (split ∙ ap (λ (l : List ℕ). part ++ l) none ∙ append-nil part) ∙ is;
+  ended = λ same. end;
+  still = λ other more. absurd (other cut);
+}
+fault_so reads octets part waits fault left split (inr (other, is)) = record {
+  first = ap reads split ∙ is waits;
+  ended = λ same. absurd (other same);
+  still = λ other more. ap reads (ap (λ (l : List ℕ). l ++ more) split ∙ append_assoc part waits more) ∙ is (waits ++ more);
+}
+
+end_so : {P Q : Type 0} → P ⊎ Q → (Q → ⊥) → P
+end_so (inl p) isnt = p
+end_so (inr q) isnt = absurd (isnt q)
+
+other_so : {P Q : Type 0} → P ⊎ Q → (P → ⊥) → Q
+other_so (inl p) isnt = absurd (isnt p)
+other_so (inr q) isnt = q
+
+module _ (most at before budget budget' : ℕ) (had waited got waits part : List ℕ) (left : Option (List ℕ)) (room : at + length part + length waits + budget' ≡ most + 1) (same_at : before ≡ at) where
+  abbrev old_so : Capturing
+  old_so = record { waits = waited; part = had; at = before; most = most; budget = budget }
+
+  abbrev new_so : Capturing
+  new_so = record { waits = waits; part = part; at = at + length part; most = most; budget = budget' }
+
+  pub header_ok : (form : Form) → had ≡ [] → at ≡ 0 → HasPart {E = Status} (Ok tt) 24 had part waited waits got left budget' → header_within most part ≡ Ok form → IsHeaderRead (Ok form) old_so new_so got left
+  header_ok form none first has is =
+      let there = header_there most part form is in
+      let long = there.0 in
+      let within = there.1 in
+      let few = has.1 in
+      let size : length part ≡ 24 = omega (arith, few, long, ap length none) in (
+        record {
+          split = has.0.1.0 ∙ ap (λ (l : List ℕ). l ++ waits) (sym (has.0.1.1 ∙ ap (λ (l : List ℕ). l ++ has.0.0) none));
+          whole = size;
+          at = omega (arith, size, same_at);
+          within = omega (arith, size, within, first);
+        },
+        is,
+      )
+
+  pub header_err : (offset : ℕ) (fault : CaptureFault) → had ≡ [] → at ≡ 0 → HasPart {E = Status} (Ok tt) 24 had part waited waits got left budget' → header_within most part ≡ Err (offset, fault)
+      → IsHeaderRead (Err (statuses.Capture offset fault)) old_so new_so got left
+  header_err offset fault none first has is =
+      fault_so (capture_of most) (waited ++ got) part waits (offset, fault) left (has.0.1.0 ∙ ap (λ (l : List ℕ). l ++ waits) (sym (has.0.1.1 ∙ ap (λ (l : List ℕ). l ++ has.0.0) none)))
+      (elim (header_stays most part (offset, fault) is) [
+        | inl wants ↦
+            (let short = wants.0.1 in
+            let near = wants.1 in
+            let last = other_so has.2 (λ long. omega (arith, short, long)) in
+            inl (wants.0.0, last.0, end_so last.1 (λ zero. omega (arith, zero, near, room, first, ap length last.0)), header_faulty most part (offset, fault) is))
+        | inr stays ↦ inr (stays.0, λ more. header_faulty most (part ++ more) (offset, fault) (stays.1 more))
+      ])
+
+  module _ (form : Form) (has : HasRecord {E = Status} form (Ok tt) part waited waits got left budget') where
+    pub record_none : part ≡ [] → IsRecordRead form (Ok None) old_so new_so got left
+    record_none empty =
+        let least = length_least form part in
+        let last = other_so has.2 (λ long. omega (arith, long, least, ap length empty)) in
+        (has.0 ∙ (λ i. empty i ++ last.0 i), to_budget last.1 (λ zero. omega (arith, zero, room, same_at, ap length empty, ap length last.0)))
+      where
+        to_budget : {P Q R : Type 0} → P ⊎ Q → (Q → R) → P ⊎ R
+        to_budget (inl p) f = inl p
+        to_budget (inr q) f = inr (f q)
+
+    pub record_ok : (r : Record) → record_within most form at part ≡ Ok r → IsRecordRead form (Ok (Some r)) old_so new_so got left
+    record_ok r is =
+        let there = record_there most form at part r is in
+        let long = there.0 in
+        let within = there.1 in
+        let few = has.1 in
+        let size : length part ≡ 16 + r.length = omega (arith, few, long, there.2) in (
+          record {
+            split = has.0;
+            whole = size;
+            at = omega (arith, size, same_at);
+            within = omega (arith, size, within);
+          },
+          subst (λ (n : ℕ). record_within most form n part ≡ Ok r) (sym same_at) is,
+        )
+
+    pub record_err : (offset : ℕ) (fault : CaptureFault) → 0 < length part → record_within most form at part ≡ Err (offset, fault) → IsRecordRead form (Err (statuses.Capture offset fault)) old_so new_so got left
+    record_err offset fault some is =
+        subst (λ (n : ℕ). IsCaptureFault (records_in most form n) (waited ++ got) (offset, fault) left) (sym same_at)
+        (fault_so (records_in most form at) (waited ++ got) part waits (offset, fault) left has.0
+        (elim (record_stays most form at part (offset, fault) is) [
+          | inl wants ↦
+              (let short = wants.0.1 in
+              let near = wants.1 in
+              let last = other_so has.2 (λ long. omega (arith, short, long)) in
+              inl (wants.0.0, last.0, end_so last.1 (λ zero. omega (arith, zero, near, room, ap length last.0)), record_faulty most form at part (offset, fault) some is))
+          | inr stays ↦ inr (stays.0, λ more. record_faulty most form at (part ++ more) (offset, fault) (omega (arith, some, length-append part more)) (stays.1 more))
+        ]))
+
+-- an error of the source or of memory
+pub header_none : (status : Status) (old new : Capturing) (got : List ℕ) (left : Option (List ℕ)) → (status ≡ statuses.Read) ⊎ (status ≡ statuses.NoMemory) → IsHeaderRead (Err status) old new got left
+header_none status old new got left (inl is) = subst (λ s. IsHeaderRead (Err s) old new got left) (sym is) tt
+header_none status old new got left (inr is) = subst (λ s. IsHeaderRead (Err s) old new got left) (sym is) tt
+
+pub record_not : (form : Form) (status : Status) (old new : Capturing) (got : List ℕ) (left : Option (List ℕ)) → (status ≡ statuses.Read) ⊎ (status ≡ statuses.NoMemory) → IsRecordRead form (Err status) old new got left
+record_not form status old new got left (inl is) = subst (λ s. IsRecordRead form (Err s) old new got left) (sym is) tt
+record_not form status old new got left (inr is) = subst (λ s. IsRecordRead form (Err s) old new got left) (sym is) tt
+
+pub nothing_had : (had : List ℕ) → length had ≡ 0 → had ≡ []
+nothing_had [] is = refl
+nothing_had (x ∷ had) is = absurd (omega (arith, is))

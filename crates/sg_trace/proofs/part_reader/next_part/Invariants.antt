@@ -1,0 +1,13 @@
+use Rattle.std.proofs.Common.{◌≡◌, ◌≤◌, ◌-◌, ◌+◌, length, List, ℕ, max, vec_len}
+use Rattle.sg_edge.specs.Told.{TookIn}
+use Rattle.sg_trace.specs.CaptureReading.{Moves}
+use Rattle.sg_trace.proofs.part_reader.next_part.Given as goal
+
+abbrev pub invariant-loop-read_buffer : goal.invariant-loop-read_buffer
+invariant-loop-read_buffer g l =
+    ((got : List ℕ) × TookIn (g.S.Source.left l.fn.source) (g.S.Source.left l.source) got × Moves l.fn.read_buffer got l.read_buffer l.fn.part.items l.part.items × (length got + l.budget ≡ l.fn.budget))
+    × (length l.part.items ≤ max l.fn.count (length l.fn.part.items)) × (g.S.Source.faults l.source ≡ g.S.Source.faults l.fn.source)
+    × (g.S.Source.given l.source + l.budget ≤ g.S.Source.given l.fn.source + l.fn.budget)
+
+abbrev pub decreases-loop-read_buffer : goal.decreases-loop-read_buffer
+decreases-loop-read_buffer g l = l.fn.count - vec_len l.part

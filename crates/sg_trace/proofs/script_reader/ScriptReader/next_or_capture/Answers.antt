@@ -1,0 +1,158 @@
+use Rattle.std.proofs.Common.{rules, ◌≡◌, ◌+◌, ◌<◌, ◌^◌, ℕ, true, false, List, [], ◌++◌, length, Ok, Err, ap, sym, ◌∙◌, subst, refl, arith, length-append}
+use Rattle.sg_edge.specs.Told.{TookIn}
+use Rattle.sg_trace.proofs.Findings.{found_capture, found_err, found_line}
+use Rattle.sg_trace.proofs.ReadBuffers.{all_given}
+use Rattle.sg_trace.proofs.Readings.{given_at, line_some}
+use Rattle.sg_trace.specs.Fed.{IsLine}
+use Rattle.sg_trace.specs.Finding.{IsFound}
+use Rattle.sg_trace.specs.Reading.{Reading}
+use Rattle.sg_trace.specs.Trace.{Captures, begins_capture}
+use Rattle.sg_trace.specs.declared.script_reader.Found.TheVariants as founds
+use Rattle.sg_trace.specs.declared.status.Status.{Status}
+use Rattle.sg_trace.proofs.script_reader.ScriptReader.next_or_capture.Goals as goal
+
+pub invariant_of-self : goal.invariant_of-self
+invariant_of-self g c =
+    let got = c.next_line.ensures.got in
+    let size : c.len.result ≡ length c.self.inside.line.items = search rules in
+    let all : c.self.inside.read_buffer ++ got.0 ≡ c.next_line.new.line.items ++ c.next_line.new.read_buffer = all_given c.next_line.result _ _ _ _ _ _ got.2 in (
+      omega (arith, size, c.self.invariant.0, got.3, ap length all, length-append c.self.inside.read_buffer got.0, length-append c.next_line.new.line.items c.next_line.new.read_buffer),
+      omega (arith, size, c.self.invariant.1),
+      c.self.invariant.2,
+    )
+
+pub invariant_of-self-then-not-found : goal.invariant_of-self-then-not-found
+invariant_of-self-then-not-found g c =
+    let got = c.next_line.ensures.got in
+    let size : c.len.result ≡ length c.self.inside.line.items = search rules in
+    let all : c.self.inside.read_buffer ++ got.0 ≡ c.next_line.new.line.items ++ c.next_line.new.read_buffer = all_given c.next_line.result _ _ _ _ _ _ got.2 in (
+      omega (arith, size, c.self.invariant.0, got.3, ap length all, length-append c.self.inside.read_buffer got.0, length-append c.next_line.new.line.items c.next_line.new.read_buffer),
+      omega (arith, size, c.self.invariant.1),
+      c.self.invariant.2,
+    )
+
+pub line_at-requires-clause-version : goal.line_at-requires-clause-version
+line_at-requires-clause-version g c = c.self.invariant.2
+
+pub begins_capture-requires : goal.begins_capture-requires
+begins_capture-requires g c =
+    let got = c.next_line.ensures.got in
+    let size : c.len.result ≡ length c.self.inside.line.items = search rules in
+    let all : c.self.inside.read_buffer ++ got.0 ≡ c.next_line.new.line.items ++ c.next_line.new.read_buffer = all_given c.next_line.result _ _ _ _ _ _ got.2 in
+    omega (arith, size, c.self.invariant.0, got.3, ap length all, length-append c.self.inside.read_buffer got.0, length-append c.next_line.new.line.items c.next_line.new.read_buffer, ap length c.deref.ensures.value)
+
+pub line_at-requires-clause-within : goal.line_at-requires-clause-within
+line_at-requires-clause-within g c =
+    let got = c.next_line.ensures.got in
+    let size : c.len.result ≡ length c.self.inside.line.items = search rules in
+    let all : c.self.inside.read_buffer ++ got.0 ≡ c.next_line.new.line.items ++ c.next_line.new.read_buffer = all_given c.next_line.result _ _ _ _ _ _ got.2 in
+    omega (arith, size, c.self.invariant.0, got.3, ap length all, length-append c.self.inside.read_buffer got.0, length-append c.next_line.new.line.items c.next_line.new.read_buffer, ap length c.deref-2.ensures.value)
+
+pub invariant_of-self-then-begins_capture : goal.invariant_of-self-then-begins_capture
+invariant_of-self-then-begins_capture g c =
+    let got = c.in_ok-found.ensures.got in
+    let size : c.len.result ≡ length c.self.inside.line.items = search rules in
+    let found : c.in_ok-found.found ≡ true = search rules in
+    let given : (c.self.inside.read_buffer ++ got.0 ≡ c.next_line.new.line.items ++ c.next_line.new.read_buffer) × IsLine c.next_line.new.line.items c.next_line.new.read_buffer (g.S.Source.left c.next_line.new.source) c.next_line.new.budget =
+    given_at Status c.in_ok-found.found true c.next_line.new.line.items c.self.inside.read_buffer c.next_line.new.read_buffer got.0 _ _ found got.2 in
+    let some = line_some c.next_line.new.line.items c.next_line.new.read_buffer (g.S.Source.left c.next_line.new.source) c.next_line.new.budget given.1 in (
+      omega (arith, size, c.self.invariant.0, got.3, ap length given.0, length-append c.self.inside.read_buffer got.0, length-append c.next_line.new.line.items c.next_line.new.read_buffer),
+      omega (arith, size, c.self.invariant.1, some),
+      c.self.invariant.2,
+    )
+
+pub invariant_of-self-in-Ok : goal.invariant_of-self-in-Ok
+invariant_of-self-in-Ok g c =
+    let got = c.in_ok-found.ensures.got in
+    let size : c.len.result ≡ length c.self.inside.line.items = search rules in
+    let found : c.in_ok-found.found ≡ true = search rules in
+    let given : (c.self.inside.read_buffer ++ got.0 ≡ c.next_line.new.line.items ++ c.next_line.new.read_buffer) × IsLine c.next_line.new.line.items c.next_line.new.read_buffer (g.S.Source.left c.next_line.new.source) c.next_line.new.budget =
+    given_at Status c.in_ok-found.found true c.next_line.new.line.items c.self.inside.read_buffer c.next_line.new.read_buffer got.0 _ _ found got.2 in
+    let some = line_some c.next_line.new.line.items c.next_line.new.read_buffer (g.S.Source.left c.next_line.new.source) c.next_line.new.budget given.1 in (
+      omega (arith, size, c.self.invariant.0, got.3, ap length given.0, length-append c.self.inside.read_buffer got.0, length-append c.next_line.new.line.items c.next_line.new.read_buffer),
+      omega (arith, size, c.self.invariant.1, some),
+      c.version_after-self-inside.ensures.one_of_two,
+    )
+
+pub invariant_of-self-in-Err : goal.invariant_of-self-in-Err
+invariant_of-self-in-Err g c =
+    let got = c.in_ok-found.ensures.got in
+    let size : c.len.result ≡ length c.self.inside.line.items = search rules in
+    let found : c.in_ok-found.found ≡ true = search rules in
+    let given : (c.self.inside.read_buffer ++ got.0 ≡ c.next_line.new.line.items ++ c.next_line.new.read_buffer) × IsLine c.next_line.new.line.items c.next_line.new.read_buffer (g.S.Source.left c.next_line.new.source) c.next_line.new.budget =
+    given_at Status c.in_ok-found.found true c.next_line.new.line.items c.self.inside.read_buffer c.next_line.new.read_buffer got.0 _ _ found got.2 in
+    let some = line_some c.next_line.new.line.items c.next_line.new.read_buffer (g.S.Source.left c.next_line.new.source) c.next_line.new.budget given.1 in (
+      omega (arith, size, c.self.invariant.0, got.3, ap length given.0, length-append c.self.inside.read_buffer got.0, length-append c.next_line.new.line.items c.next_line.new.read_buffer),
+      omega (arith, size, c.self.invariant.1, some),
+      c.self.invariant.2,
+    )
+
+pub returns-in-Ok-clause-found : goal.returns-in-Ok-clause-found
+returns-in-Ok-clause-found g c =
+    let got = c.in_ok-found.ensures.got in
+    let left = g.S.Source.left c.next_line.new.source in
+    let line = c.next_line.new.line.items in
+    let at : ℕ = c.self.inside.at + c.len.result in
+    let n : ℕ = c.self.inside.count + 1 in
+    let v : ℕ = c.self.inside.version in
+    let size : c.len.result ≡ length c.self.inside.line.items = search rules in
+    let found : c.in_ok-found.found ≡ true = search rules in
+    let given : (c.self.inside.read_buffer ++ got.0 ≡ line ++ c.next_line.new.read_buffer) × IsLine line c.next_line.new.read_buffer left c.next_line.new.budget =
+    given_at Status c.in_ok-found.found true line c.self.inside.read_buffer c.next_line.new.read_buffer got.0 _ _ found got.2 in
+    let spent : c.next_line.new.budget ≡ 0 → c.next_line.new.read_buffer ≡ [] → 2 ^ 30 < at + length line = λ zero none. omega (arith, zero, size, got.3, c.self.invariant.0, ap length given.0, length-append c.self.inside.read_buffer got.0, length-append line c.next_line.new.read_buffer, ap length none) in
+    let old : Reading = record { waits = c.self.inside.read_buffer; version = v; number = n; offset = at; budget = c.self.inside.budget } in
+    let is_false : c.begins_capture.result ≡ false = search rules in
+    let other : begins_capture Captures n at line ≡ false = ap (begins_capture Captures n at) (sym c.deref.ensures.value) ∙ sym c.begins_capture.ensures ∙ is_false in
+    let after : ℕ = c.version_after-self-inside.result in
+    let new : Reading = record { waits = c.next_line.new.read_buffer; version = after; number = n + 1; offset = at + length line; budget = c.next_line.new.budget } in
+    let next : IsFound (Ok (founds.Line c.in-Ok.line)) old new got.0 left =
+    found_line v n at line c.self.inside.read_buffer c.next_line.new.read_buffer got.0 left c.next_line.new.budget given.0 given.1 spent other c.in-Ok.line c.self.inside.budget after c.version_after-self-inside.ensures.is
+    (ap (Rattle.sg_trace.specs.Trace.line_at v n at) (sym c.deref-2.ensures.value) ∙ c.in-Ok.ensures.exact) in
+    subst (λ (r : Reading). (x : List ℕ) × TookIn (g.S.Source.left c.args.source.now) left x × IsFound (Ok (founds.Line c.in-Ok.line)) r new x left × (length x + c.next_line.new.budget ≡ r.budget)) c.self.view_is
+    (got.0, got.1, subst (λ (m : ℕ). IsFound (Ok (founds.Line c.in-Ok.line)) (record { waits = c.self.inside.read_buffer; version = v; number = n; offset = c.self.inside.at + m; budget = c.self.inside.budget }) new got.0 left) size next, got.3)
+
+pub returns-in-Err-clause-found : goal.returns-in-Err-clause-found
+returns-in-Err-clause-found g c =
+    let got = c.in_ok-found.ensures.got in
+    let left = g.S.Source.left c.next_line.new.source in
+    let line = c.next_line.new.line.items in
+    let at : ℕ = c.self.inside.at + c.len.result in
+    let n : ℕ = c.self.inside.count + 1 in
+    let v : ℕ = c.self.inside.version in
+    let size : c.len.result ≡ length c.self.inside.line.items = search rules in
+    let found : c.in_ok-found.found ≡ true = search rules in
+    let given : (c.self.inside.read_buffer ++ got.0 ≡ line ++ c.next_line.new.read_buffer) × IsLine line c.next_line.new.read_buffer left c.next_line.new.budget =
+    given_at Status c.in_ok-found.found true line c.self.inside.read_buffer c.next_line.new.read_buffer got.0 _ _ found got.2 in
+    let spent : c.next_line.new.budget ≡ 0 → c.next_line.new.read_buffer ≡ [] → 2 ^ 30 < at + length line = λ zero none. omega (arith, zero, size, got.3, c.self.invariant.0, ap length given.0, length-append c.self.inside.read_buffer got.0, length-append line c.next_line.new.read_buffer, ap length none) in
+    let old : Reading = record { waits = c.self.inside.read_buffer; version = v; number = n; offset = at; budget = c.self.inside.budget } in
+    let is_false : c.begins_capture.result ≡ false = search rules in
+    let other : begins_capture Captures n at line ≡ false = ap (begins_capture Captures n at) (sym c.deref.ensures.value) ∙ sym c.begins_capture.ensures ∙ is_false in
+    let new : Reading = record { waits = c.next_line.new.read_buffer; version = v; number = n + 1; offset = at + length line; budget = c.next_line.new.budget } in
+    let next : IsFound (Err c.refused.result) old new got.0 left =
+    subst (λ s. IsFound (Err s) old new got.0 left) (sym c.refused.ensures)
+    (found_err v n at line c.self.inside.read_buffer c.next_line.new.read_buffer got.0 left c.next_line.new.budget given.0 given.1 spent other c.in-Err.fault c.self.inside.budget new
+    (subst (λ (l : List ℕ). Rattle.sg_lines.specs.Fields.Gives (Err c.in-Err.fault) (Rattle.sg_trace.specs.Trace.line_at v n at l)) c.deref-2.ensures.value c.in-Err.ensures.exact)) in
+    subst (λ (r : Reading). (x : List ℕ) × TookIn (g.S.Source.left c.args.source.now) left x × IsFound (Err c.refused.result) r new x left × (length x + c.next_line.new.budget ≡ r.budget)) c.self.view_is
+    (got.0, got.1, subst (λ (m : ℕ). IsFound (Err c.refused.result) (record { waits = c.self.inside.read_buffer; version = v; number = n; offset = c.self.inside.at + m; budget = c.self.inside.budget }) new got.0 left) size next, got.3)
+
+pub returns-then-begins_capture-clause-found : goal.returns-then-begins_capture-clause-found
+returns-then-begins_capture-clause-found g c =
+    let got = c.in_ok-found.ensures.got in
+    let left = g.S.Source.left c.next_line.new.source in
+    let line = c.next_line.new.line.items in
+    let at : ℕ = c.self.inside.at + c.len.result in
+    let n : ℕ = c.self.inside.count + 1 in
+    let v : ℕ = c.self.inside.version in
+    let size : c.len.result ≡ length c.self.inside.line.items = search rules in
+    let found : c.in_ok-found.found ≡ true = search rules in
+    let given : (c.self.inside.read_buffer ++ got.0 ≡ line ++ c.next_line.new.read_buffer) × IsLine line c.next_line.new.read_buffer left c.next_line.new.budget =
+    given_at Status c.in_ok-found.found true line c.self.inside.read_buffer c.next_line.new.read_buffer got.0 _ _ found got.2 in
+    let spent : c.next_line.new.budget ≡ 0 → c.next_line.new.read_buffer ≡ [] → 2 ^ 30 < at + length line = λ zero none. omega (arith, zero, size, got.3, c.self.invariant.0, ap length given.0, length-append c.self.inside.read_buffer got.0, length-append line c.next_line.new.read_buffer, ap length none) in
+    let old : Reading = record { waits = c.self.inside.read_buffer; version = v; number = n; offset = at; budget = c.self.inside.budget } in
+    let is_true : c.begins_capture.result ≡ true = search rules in
+    let begins_so : begins_capture Captures n at line ≡ true = ap (begins_capture Captures n at) (sym c.deref.ensures.value) ∙ sym c.begins_capture.ensures ∙ is_true in
+    let new : Reading = record { waits = c.next_line.new.read_buffer; version = v; number = n + 1; offset = at + length line; budget = c.next_line.new.budget } in
+    let next : IsFound (Ok founds.Capture) old new got.0 left =
+    found_capture v n at line c.self.inside.read_buffer c.next_line.new.read_buffer got.0 left c.next_line.new.budget given.0 given.1 spent c.self.inside.budget new refl refl begins_so in
+    subst (λ (r : Reading). (x : List ℕ) × TookIn (g.S.Source.left c.args.source.now) left x × IsFound (Ok founds.Capture) r new x left × (length x + c.next_line.new.budget ≡ r.budget)) c.self.view_is
+    (got.0, got.1, subst (λ (m : ℕ). IsFound (Ok founds.Capture) (record { waits = c.self.inside.read_buffer; version = v; number = n; offset = c.self.inside.at + m; budget = c.self.inside.budget }) new got.0 left) size next, got.3)
