@@ -267,6 +267,7 @@ length_least form xs = by_bit (ltb (length xs) 12) (record_of form xs)
     by_answer : (r : Result Record CaptureFault) → 16 ≤ length_by r
     by_answer (Err f) = omega arith
     by_answer (Ok r) = omega arith
+
     by_bit : (b : Bool) (r : Result Record CaptureFault) → 16 ≤ cond b 16 (length_by r)
     by_bit true r = omega arith
     by_bit false r = by_answer r
