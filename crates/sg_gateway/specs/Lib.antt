@@ -27,6 +27,7 @@ pub mod Owned
 pub mod Passing
 pub mod PeersPackets
 pub mod Places
+pub mod PlainOf
 pub mod PlainTexts
 pub mod Ports
 pub mod Refusing
