@@ -2,6 +2,7 @@ mod AddedRoutes
 pub mod MorePairs
 mod Offering
 mod OneRoute
+mod Onward
 pub mod Paired
 pub mod Passing
 mod Places

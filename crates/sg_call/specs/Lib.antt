@@ -1,6 +1,7 @@
 pub mod Adding
 pub mod Drained
 pub mod Handling
+pub mod Onward
 pub mod Settling
 pub mod Standing
 pub mod States

@@ -73,6 +73,7 @@ impl Model for Call {
 impl Call {
     ghost use Rattle.sg_gateway.specs.CallSignals.{idle_call};
     ghost use Rattle.sg_gateway.specs.Ports.{is_in_slot};
+    ghost use Rattle.sg_gateway.specs.PlainOf.{plain_of};
     ghost use Rattle.sg_call.specs.Standing.{CallStandsFor};
 
     /// A new call in this slot: idle, with an inbox for 256 datagrams.
@@ -121,6 +122,14 @@ impl Call {
         ensures { result ≡ self.now.moment }
     {
         self.moment
+    }
+
+    /// The plain address of the current generation's session on a plain port, for packets of its kind; none where no
+    /// such session is there. It doesn't allocate.
+    pub fn plain_of(&self, port: u16) -> Option<Address>
+        ensures { (pairs : List psk.Pair) (c : world.Call) → CallStandsFor pairs self.now c → result ≡ plain_of c port }
+    {
+        self.routes.plain_of(port)
     }
 
     /// The side of the open offer.

@@ -4,6 +4,7 @@ ghost use Rattle.std.specs.Prelude.{◌≡◌, ◌==◌, [], ℕ, filter, positi
 ghost use Rattle.sg_gateway.specs.World as world;
 ghost use Rattle.sg_call.specs.Adding.{opens_route};
 ghost use Rattle.sg_call.specs.Handling.{IsPassed, OnDrop, unused};
+ghost use Rattle.sg_call.specs.Onward.{plain_by};
 ghost use Rattle.sg_call.specs.Standing.{SessionsStand};
 
 use crate::handled::{End, Handled};
@@ -58,6 +59,19 @@ impl Routes {
             (Some(i), None) => current[i].pass(from, pad),
             (Some(i), Some(j)) => pass_either(&mut current[i], &mut earlier[j], from, pad),
         }
+    }
+
+    /// The plain address of the current generation's session on a plain port.
+    pub(crate) fn plain_of(&self, port: u16) -> Option<Address>
+        ensures { result ≡ plain_by port self.now.current }
+    {
+        let current = self.current.as_slice();
+        for route in current {
+            if route.opens() && route.out == port {
+                return Some(route.to);
+            }
+        }
+        None
     }
 
     /// A new generation's routes come; of the one before, what opens is kept. It doesn't allocate.

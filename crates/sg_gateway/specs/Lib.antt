@@ -28,6 +28,7 @@ pub mod Passing
 pub mod PeersMessages
 pub mod PeersPackets
 pub mod Places
+pub mod PlainOf
 pub mod PlainTexts
 pub mod Ports
 pub mod Refusing

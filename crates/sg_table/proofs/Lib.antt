@@ -15,6 +15,7 @@ mod Orders
 mod Outing
 mod PairAdded
 mod Pairing
+mod PortFound
 mod Settled
 mod Sharing
 mod Signalled

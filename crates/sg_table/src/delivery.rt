@@ -1,6 +1,7 @@
 //! One datagram: it goes to the call that has its port.
 
 ghost use Rattle.std.specs.Prelude.{◌≡◌};
+ghost use Rattle.sg_gateway.specs.PlainOf.{plain_at};
 ghost use Rattle.sg_gateway.specs.World.{World};
 ghost use Rattle.sg_table.specs.Handling.{IsHandled};
 ghost use Rattle.sg_table.specs.Standing.{Stands, TableStandsFor};
@@ -22,6 +23,14 @@ impl Table {
     {
         self.calls.datagram(&self.places, port, from, pad)
     }
+
+    /// The plain address of the session on a plain port, for packets of its kind; none where no current generation
+    /// has a session there. It doesn't allocate.
+    pub fn plain_of(&self, port: u16) -> Option<Address>
+        ensures { (w : World) → TableStandsFor self.now w → result ≡ plain_at w port }
+    {
+        self.calls.plain_of(&self.places, port)
+    }
 }
 
 impl Calls {
@@ -42,6 +51,20 @@ impl Calls {
                 end: End::Dropped(DropCause::PortUnused),
             },
             Some(i) => calls[i].datagram(port, from, pad, self.moment),
+        }
+    }
+
+    /// The plain address of the session on a plain port, by the position of each slot's call.
+    fn plain_of(&self, places: &[Option<u8>], port: u16) -> Option<Address>
+        requires indexed { AreIndexed places.now (shapes_of self.now.calls) }
+        requires stands { Stands self.now }
+        ensures { (w : World) → TableStandsFor self.now w → result ≡ plain_at w port }
+    {
+        calls_in_order();
+        let calls = self.by_slot.as_slice();
+        match place(calls, places, port) {
+            None => None,
+            Some(i) => calls[i].plain_of(port),
         }
     }
 }
