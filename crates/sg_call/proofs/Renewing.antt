@@ -2,6 +2,7 @@
 use Rattle.std.proofs.Common.{◌≡◌, ℕ, ◌+◌, ◌≤◌, Bool, true, false, cond, ◌&&◌, List, [], ◌∷◌, ◌++◌, map, length, Option, Some, None, Result, Ok, Err, refl, sym, ap, ◌∙◌, subst, eqb, arith}
 use Rattle.std.proofs.lemmas.Bool.{eqb-true, eq-eqb, false≢true}
 use Rattle.std.proofs.lemmas.List.{append-nil}
+use Rattle.std.specs.Global.{Vec}
 use Rattle.std.specs.List.{AllByRecursion, filter}
 use Rattle.sg_agreement.specs.Answers.{AgreedAnswer, agreed_answer}
 use Rattle.sg_agreement.specs.Generations.{Generation, generation_of, keys_from, owner_at, numbered, stream_session, stream_sessions, sessions_from}
@@ -24,7 +25,7 @@ use Rattle.sg_gateway.specs.World as world
 use Rattle.sg_gateway.specs.World.{Call}
 use Rattle.sg_leg.specs.Open.{IsAnswered, IsGiven, answered_with, live_after}
 use Rattle.sg_leg.specs.Pairs.{EachPair}
-use Rattle.sg_leg.specs.Planned.{ArePlanned, planned, planned_in}
+use Rattle.sg_leg.specs.Planned.{ArePlanned, planned}
 use Rattle.sg_leg.specs.Standing.{Begins, manual_live}
 use Rattle.sg_leg.specs.Values.{LiveValue, OfferedValue}
 use Rattle.sg_leg.specs.declared.books.Books.{Books}
@@ -306,7 +307,7 @@ module _ (now : ℕ) (b : world.Books) (c : Call) (noise text : List ℕ) (o : O
 
   -- no answer is given
   pub answer_failed : {F : Type 0} (v : OfferedValue) (f : F) (fault : Fault) (ring : List RingKey) (call : CallValue) (new : Books)
-      → IsAnswered {F = F} v (Err (f, fault)) ring (answered_with c.slot o noise text c.serial c.generations b.ring) → IsSettled (Err fault) call new (answered_in now b c noise text)
+      → IsAnswered {S = Vec MediaSpec} {F = F} (λ (specs : Vec MediaSpec). specs.items) v (Err (f, fault)) ring (answered_with c.slot o noise text c.serial c.generations b.ring) → IsSettled (Err fault) call new (answered_in now b c noise text)
   answer_failed v f (Refused cause) ring call new e = answer_refused cause e
   answer_failed v f NoMemory ring call new e = tt
 
@@ -366,16 +367,15 @@ module _ (now : ℕ) (b : world.Books) (c : Call) (x : Medium) where
     manual_refused call new (Refused cause) ring e = keyed_as (idle_begun slot c idle) (Err cause) e
     manual_refused call new NoMemory ring e = tt
 
-    pub keyed_so : (old new : Books) → BooksStandFor old b → (new.psks ≡ old.psks) × (new.seen ≡ old.seen) → (call : CallValue) → CallStandsFor b.pairs call c → (spec : MediaSpec) (routes : List Route)
-        → Begins (Ok (spec ∷ [])) new.ring manual_generation → Adds call.slot (planned_in spec) [] routes
+    pub keyed_so : (old new : Books) → BooksStandFor old b → (new.psks ≡ old.psks) × (new.seen ≡ old.seen) → (call : CallValue) → CallStandsFor b.pairs call c → (specs : List MediaSpec) (routes : List Route)
+        → Begins (Ok specs) new.ring manual_generation → Adds call.slot (planned specs) [] routes
         → Settles CallStandsFor (renewed_value (record call { media = 1 }) now (manual_live slot) routes) [] new (keyed_manually now b c x)
-    keyed_so old new books same call h spec routes (g, is, begun) adds = record {
+    keyed_so old new books same call h specs routes (g, is, begun) adds = record {
       settled = record { text = []; call = renewed now one_medium g.sessions; books = record b { ring = g.ring } };
       is_settled = keyed_as (idle_begun slot c idle) (Ok g) is;
       text_is = refl;
-      stands = call_renewed b.pairs (record call { media = 1 }) one_medium now (manual_live slot) g.sessions (spec ∷ []) routes (before_manual b.pairs call c h)
+      stands = call_renewed b.pairs (record call { media = 1 }) one_medium now (manual_live slot) g.sessions specs routes (before_manual b.pairs call c h)
           (let n = are_new c b.ring (Some x ∷ []) g is in record { own = n.own; named = n.named; differ = n.differ })
-          (λ i. record { slot = idle.slot_is i; media = 1; manual = true }) begun.planned
-          (subst (λ ps. Adds call.slot ps [] routes) (sym (append-nil (planned_in spec))) adds);
+          (λ i. record { slot = idle.slot_is i; media = 1; manual = true }) begun.planned adds;
       books_stand = record { pairs = same.0 ∙ books.pairs; noted = same.1 ∙ books.noted; ring = begun.installed };
     }

@@ -1,6 +1,6 @@
 //! A call: its state, the routes of its generations, and its inbox.
 
-ghost use Rattle.std.specs.Prelude.{◌≡◌, ◌≤◌, ◌<◌, ◌+◌, ◌++◌, [], ◌∷◌, ℕ, List, length, filter, IfOk, OnErr, MatchOption, drop, nat_le, Err, false, true, option_map, is_some};
+ghost use Rattle.std.specs.Prelude.{◌≡◌, ◌≤◌, ◌<◌, ◌+◌, ◌++◌, [], ◌∷◌, ℕ, List, length, filter, IfOk, OnOk, OnErr, MatchOption, drop, nat_le, Err, false, true, option_map, is_some};
 ghost use Rattle.sg_base.specs.declared.faults.Fault.TheVariants as faults;
 ghost use Rattle.sg_base.specs.declared.faults.Refusal.TheVariants as refusals;
 ghost use Rattle.sg_gateway.specs.Batch as batch;
@@ -12,7 +12,7 @@ ghost use Rattle.sg_call.specs.Handling.{moment_after};
 
 use crate::handled::{End, Handled};
 use crate::inbox::{Inbox, Queued};
-use crate::making::{add_all, add_medium};
+use crate::making::add_all;
 use crate::route::Route;
 use crate::routes::Routes;
 use crate::state::State;
@@ -190,8 +190,13 @@ impl Call {
     ghost use Rattle.sg_call.specs.Standing.{CallStandsFor};
     ghost use Rattle.sg_call.specs.States.{HasPairs};
 
-    /// Takes an offer and tells the text for the other side. Refused or out of memory, the call is what it was, and
-    /// so are the books; while an offer is open and of a call that is keyed manually it is `State`.
+    // Offers, answers and manual keys aren't inlined, so that the stack that they take is no part of what other signals
+    // and datagrams take.
+
+    /// Takes an offer and tells the text for the other side; what `answer` asks of the books then holds. Refused or out
+    /// of memory, the call is what it was, and so are the books; while an offer is open and of a call that is keyed
+    /// manually it is `State`.
+    #[inline(never)]
     pub fn offer(
         &mut self,
         alloc: Global,
@@ -207,6 +212,7 @@ impl Call {
         ensures back { OnErr result ((self.new ≡ self.old) × (books.new ≡ books.old)) }
         ensures inbox { (self.new.waiting ≡ self.old.waiting) × (self.new.handled ≡ self.old.handled) }
         ensures psks { books.new.psks ≡ books.old.psks }
+        ensures pairs { OnOk result (HasPairs books.new.psks self.new.state) }
         ensures state { (pairs : List psk.Pair) (c : world.Call) → CallStandsFor pairs self.old c → takes_offer c ≡ false
             → result ≡ Err (faults.Refused refusals.State) }
     {
@@ -227,6 +233,7 @@ impl Call {
 
     /// Takes the answer to the open offer and tells the text for the side that offered; a new generation begins.
     /// Refused or out of memory, the call is what it was, and so are the books; without an open offer it is `State`.
+    #[inline(never)]
     pub fn answer(
         &mut self,
         alloc: Global,
@@ -250,7 +257,7 @@ impl Call {
                     self.go_on(State::Offered(open));
                     return Err(Fault::NoMemory);
                 };
-                match open.answer(alloc, text, noise, books) {
+                match open.settle(alloc, text, noise, books) {
                     Ok((live, out, specs)) => {
                         add_all(self.slot, specs, &mut routes);
                         self.renew(live, routes, now);
@@ -271,6 +278,7 @@ impl Call {
 
     /// Keys an idle call manually, under what the peer sends and what the gateway sends to it. Refused or out of
     /// memory, the call is what it was, and so are the books; once an offer was accepted it is `State`.
+    #[inline(never)]
     pub fn manual(
         &mut self,
         alloc: Global,
@@ -297,9 +305,9 @@ impl Call {
                     self.go_on(State::Idle(idle));
                     return Err(Fault::NoMemory);
                 };
-                match idle.manual(alloc, secure, plain, roc, window, from_peer, to_peer, books) {
-                    Ok((live, spec)) => {
-                        add_medium(self.slot, spec, &mut routes);
+                match idle.settle(alloc, secure, plain, roc, window, from_peer, to_peer, books) {
+                    Ok((live, specs)) => {
+                        add_all(self.slot, specs, &mut routes);
                         self.media = 1;
                         self.renew(live, routes, now);
                         Ok(())

@@ -1,6 +1,6 @@
 //! The routes of a new generation.
 
-ghost use Rattle.std.specs.Prelude.{◌≡◌, ◌≤◌, ◌<◌, ◌+◌, vec_len, vec_capacity, Some};
+ghost use Rattle.std.specs.Prelude.{◌≡◌, ◌≤◌, ◌<◌, ◌+◌, ◌*◌, length, vec_len, vec_capacity, Some};
 ghost use Rattle.sg_base.specs.declared.addresses.Address as base;
 ghost use Rattle.sg_keys.specs.declared.spec.SessionSpec as keys;
 ghost use Rattle.sg_leg.specs.Planned.{IsPlanned, planned_in, planned};
@@ -11,7 +11,6 @@ ghost use Rattle.sg_call.specs.Adding.{Adds, as_planned, if_planned};
 ghost use Rattle.sg_call.specs.Standing.{RouteStandsFor};
 
 use crate::route::{MediaSide, Route};
-use arrayvec::ArrayVec;
 use sg_base::{Address, Kind};
 use sg_gateway::{leg_of, next_port, port_at};
 use sg_keys::SessionSpec;
@@ -92,8 +91,10 @@ fn add_sealing(
     }
 }
 
-/// Adds the routes of a medium: those that open, then those that seal, RTP before RTCP. They are two to four.
-pub(crate) fn add_medium(slot: u8, spec: MediaSpec, routes: &mut Vec<Route>)
+/// Adds the routes of a medium: those that open, then those that seal, RTP before RTCP. They are two to four. It isn't
+/// inlined, so that its frame, some 30 KB, is no part of a caller's.
+#[inline(never)]
+fn add_medium(slot: u8, spec: MediaSpec, routes: &mut Vec<Route>)
     requires room { vec_len routes.old + 4 ≤ vec_capacity routes.old }
     ensures adds { Adds slot (planned_in spec) routes.old.items routes.new.items }
     ensures four { vec_len routes.new ≤ vec_len routes.old + 4 }
@@ -114,9 +115,10 @@ pub(crate) fn add_medium(slot: u8, spec: MediaSpec, routes: &mut Vec<Route>)
     add_sealing(slot, medium, seal_rtcp, secure, plain, routes);
 }
 
-/// Adds the routes of all media of a generation.
-pub(crate) fn add_all(slot: u8, specs: ArrayVec<MediaSpec, 4>, routes: &mut Vec<Route>)
-    requires room { vec_len routes.old + 16 ≤ vec_capacity routes.old }
+/// Adds the routes of all media of a generation, four at most of each. It isn't inlined either.
+#[inline(never)]
+pub(crate) fn add_all(slot: u8, specs: Vec<MediaSpec>, routes: &mut Vec<Route>)
+    requires room { vec_len routes.old + 4 * length specs.items ≤ vec_capacity routes.old }
     ensures { Adds slot (planned specs.items) routes.old.items routes.new.items }
 {
     for spec in specs {

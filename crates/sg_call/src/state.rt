@@ -1,13 +1,14 @@
 //! What a call has agreed on so far: a state that moves.
 
-ghost use Rattle.std.specs.Prelude.{◌≡◌, ◌≤◌, List, Err, IfErr, false, option_map};
+ghost use Rattle.std.specs.Prelude.{◌≡◌, ◌≤◌, List, Err, IfOk, IfErr, false, option_map};
 ghost use Rattle.sg_base.specs.declared.faults.Fault.TheVariants as faults;
 ghost use Rattle.sg_base.specs.declared.faults.Refusal.TheVariants as refusals;
 ghost use Rattle.sg_gateway.specs.CallSignals.{offered_in, takes_offer};
 ghost use Rattle.sg_gateway.specs.World as world;
 ghost use Rattle.sg_psk.specs.declared.pairs.Pair as psk;
 ghost use Rattle.sg_call.specs.Settling.{BooksStandFor, IsTaken};
-ghost use Rattle.sg_call.specs.States.{StateStandsFor};
+ghost use Rattle.sg_call.specs.States.{HasPairs, StateStandsFor};
+ghost use Rattle.sg_call.specs.declared.state.State.TheVariants as states;
 
 use sg_agreement::offers_fit_their_calls;
 use sg_base::{Fault, Octets, Refusal, Side};
@@ -42,6 +43,7 @@ impl State {
             → IsTaken result books.new (offered_in now b c way noise.now text.now) }
         ensures back { IfErr result (λ e. (e.0 ≡ self) × (books.new ≡ books.old)) }
         ensures psks { books.new.psks ≡ books.old.psks }
+        ensures pairs { IfOk result (λ opened. HasPairs books.new.psks (states.Offered opened.0)) }
         ensures state { (pairs : List psk.Pair) (c : world.Call) → StateStandsFor pairs self c → takes_offer c ≡ false
             → result ≡ Err (self, faults.Refused refusals.State) }
     {

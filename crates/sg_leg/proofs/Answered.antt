@@ -1,5 +1,6 @@
 -- An answer and the generation that it begins.
 use Rattle.std.proofs.Common.{◌≡◌, ℕ, List, Option, Result, Ok, Err, refl, ap, ◌∙◌}
+use Rattle.std.specs.Global.{Vec}
 use Rattle.sg_agreement.specs.Answers.{AgreedAnswer, agreed_answer}
 use Rattle.sg_agreement.specs.Generations.{Generation, generation_of}
 use Rattle.sg_agreement.specs.Keying.{Offer}
@@ -34,6 +35,6 @@ module _ (slot : ℕ) (o : Offer) (noise text : List ℕ) (call generation : ℕ
     not_given (Refused cause) ring e = begun_as (Err cause) e
     not_given NoMemory ring e = tt
 
-pub given_back : {F : Type 0} (o : OfferedValue) (state : F) (fault : Fault) (ring : List RingKey) (r : Result (List ℕ × Generation) Refusal) → IsAgreed (Err fault) ring r → IsAnswered {F = F} o (Err (state, fault)) ring r
+pub given_back : {F : Type 0} (o : OfferedValue) (state : F) (fault : Fault) (ring : List RingKey) (r : Result (List ℕ × Generation) Refusal) → IsAgreed (Err fault) ring r → IsAnswered {S = Vec MediaSpec} {F = F} (λ (specs : Vec MediaSpec). specs.items) o (Err (state, fault)) ring r
 given_back o state (Refused cause) ring r e = e
 given_back o state NoMemory ring r e = tt

@@ -3,7 +3,7 @@ use Rattle.std.proofs.Common.{◌≡◌, ℕ, zero, suc, List, [], ◌∷◌, �
 use Rattle.sg_agreement.specs.Keying as agreed
 use Rattle.sg_agreement.specs.Messages as messages
 use Rattle.sg_psk.specs.Accepting.{Accepted}
-use Rattle.sg_psk.specs.StandsFor.{IsAccepted, IsSent}
+use Rattle.sg_psk.specs.StandsFor.{IsAccepted}
 use Rattle.sg_psk.specs.declared.accepting.Initial.{Initial}
 use Rattle.sg_psk.specs.declared.pairs.Pair.{Pair}
 use Rattle.sg_leg.specs.Open.{IsBundleIf, IsBundleOf, IsKeyingOf, IsOpen}

@@ -1,5 +1,5 @@
 -- Keys that come into use, and the sessions that they serve.
-use Rattle.std.specs.Prelude.{◌≡◌, ℕ, List, [], ◌∷◌, ◌++◌, length, Option, Result, Ok, Err}
+use Rattle.std.specs.Prelude.{◌≡◌, ℕ, List, ◌++◌, length, Option, Result, Ok, Err}
 use Rattle.sg_agreement.specs.Generations.{keys_from, sessions_from}
 use Rattle.sg_agreement.specs.Media.{Medium}
 use Rattle.sg_base.specs.declared.faults.Fault.{Fault}
@@ -9,7 +9,7 @@ use Rattle.sg_keys.specs.Installing.{keys_of}
 use Rattle.sg_keys.specs.declared.ring.RingFault.{RingFault}
 use Rattle.sg_keys.specs.declared.ring.RingFault.TheVariants as ring
 use Rattle.sg_session.specs.Ring.{Installed, RingKey, install}
-use Rattle.arrayvec.specs.ArrayVec.{ArrayVec}
+use Rattle.std.specs.Global.{Vec}
 use Rattle.sg_leg.specs.Planned.{ArePlanned}
 use Rattle.sg_leg.specs.declared.media_spec.MediaSpec.{MediaSpec}
 
@@ -20,13 +20,9 @@ IsKeyed call generation old media (Ok specs) ring =
 IsKeyed call generation old media (Err (Refused cause)) ring = install old (keys_from call generation 0 media) ≡ Err cause
 IsKeyed call generation old media (Err NoMemory) ring = Unit {0}
 
-abbrev pub specs_of : Result (ArrayVec MediaSpec) Fault → Result (List MediaSpec) Fault
+abbrev pub specs_of : Result (Vec MediaSpec) Fault → Result (List MediaSpec) Fault
 specs_of (Ok specs) = Ok specs.items
 specs_of (Err fault) = Err fault
-
-abbrev pub one_spec : Result MediaSpec Fault → Result (List MediaSpec) Fault
-one_spec (Ok spec) = Ok (spec ∷ [])
-one_spec (Err fault) = Err fault
 
 abbrev pub fault_of : RingFault → Fault
 fault_of (ring.KeyReused n) = Refused (KeyReused n)

@@ -1,6 +1,6 @@
 -- Open offers, as they are kept, and what offers and answers give.
 use Rattle.std.specs.Prelude.{◌≡◌, ◌≤◌, ℕ, true, is_some, List, [], ◌∷◌, length, slice_get, Option, Some, None, option_map, Result, Ok, Err}
-use Rattle.arrayvec.specs.ArrayVec.{ArrayVec}
+use Rattle.std.specs.Global.{Vec}
 use Rattle.sg_agreement.specs.Answers.{AgreedAnswer, agreed_answer}
 use Rattle.sg_agreement.specs.Generations.{Generation, generation_of}
 use Rattle.sg_agreement.specs.Keyed.{Keyed}
@@ -130,7 +130,7 @@ IsAnswerOf a r = Tells a r
 abbrev pub IsGiven : List ℕ → List MediaSpec → List RingKey → Result (List ℕ × Generation) Refusal → Type 0
 IsGiven text specs ring r = (x : List ℕ × Generation) × (r ≡ Ok x) × (text ≡ x.0) × IsGeneration specs ring x.1
 
-abbrev pub IsAgreed : Result (List ℕ × ArrayVec MediaSpec) Fault → List RingKey → Result (List ℕ × Generation) Refusal → Type 0
+abbrev pub IsAgreed : Result (List ℕ × Vec MediaSpec) Fault → List RingKey → Result (List ℕ × Generation) Refusal → Type 0
 IsAgreed (Ok (text, specs)) ring r = IsGiven text specs.items ring r
 IsAgreed (Err (Refused cause)) ring r = r ≡ Err cause
 IsAgreed (Err NoMemory) ring r = Unit {0}
@@ -139,10 +139,11 @@ IsAgreed (Err NoMemory) ring r = Unit {0}
 abbrev pub live_after : OfferedValue → LiveValue
 live_after o = record { slot = o.slot; media = length o.description.media; manual = Rattle.std.specs.Prelude.false }
 
-abbrev pub IsAnswered : {F : Type 0} → OfferedValue → Result (LiveValue × List ℕ × ArrayVec MediaSpec) (F × Fault) → List RingKey → Result (List ℕ × Generation) Refusal → Type 0
-IsAnswered o (Ok (live, text, specs)) ring r = (live ≡ live_after o) × IsGiven text specs.items ring r
-IsAnswered o (Err (state, Refused cause)) ring r = r ≡ Err cause
-IsAnswered o (Err (state, NoMemory)) ring r = Unit {0}
+-- the specs stand in a list, of which `items` is what it holds
+abbrev pub IsAnswered : {S F : Type 0} → (S → List MediaSpec) → OfferedValue → Result (LiveValue × List ℕ × S) (F × Fault) → List RingKey → Result (List ℕ × Generation) Refusal → Type 0
+IsAnswered items o (Ok (live, text, specs)) ring r = (live ≡ live_after o) × IsGiven text (items specs) ring r
+IsAnswered items o (Err (state, Refused cause)) ring r = r ≡ Err cause
+IsAnswered items o (Err (state, NoMemory)) ring r = Unit {0}
 
 -- ---- addresses
 

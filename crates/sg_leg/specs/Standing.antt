@@ -1,6 +1,6 @@
 -- What the calls of a leg answer. A leg doesn't know the serial number of its call, the number of the generation, or
 -- whose the ring's keys are, so each clause holds for all of them.
-use Rattle.std.specs.Prelude.{◌≡◌, ℕ, true, List, [], ◌∷◌, Result, Ok, Err}
+use Rattle.std.specs.Prelude.{◌≡◌, ℕ, true, List, Result, Ok, Err}
 use Rattle.sg_agreement.specs.Generations.{Generation}
 use Rattle.sg_base.specs.declared.faults.Fault.{Fault}
 use Rattle.sg_base.specs.declared.faults.Fault.TheVariants.{Refused, NoMemory}
@@ -26,7 +26,8 @@ Begins (Err NoMemory) ring r = Unit {0}
 abbrev pub manual_live : ℕ → LiveValue
 manual_live slot = record { slot = slot; media = 1; manual = true }
 
--- A call that is keyed manually is live under the one medium. Refused or out of memory, it is what it was.
-abbrev pub IsManual : {F : Type 0} → ℕ → Result (LiveValue × MediaSpec) (F × Fault) → List RingKey → Result Generation Refusal → Type 0
-IsManual slot (Ok (live, spec)) ring r = (live ≡ manual_live slot) × Begins (Ok (spec ∷ [])) ring r
-IsManual slot (Err (former, fault)) ring r = Begins (Err fault) ring r
+-- A call that is keyed manually is live under the one medium, whose specs `items` takes out. Refused or out of memory, it
+-- is what it was.
+abbrev pub IsManual : {S F : Type 0} → (S → List MediaSpec) → ℕ → Result (LiveValue × S) (F × Fault) → List RingKey → Result Generation Refusal → Type 0
+IsManual items slot (Ok (live, specs)) ring r = (live ≡ manual_live slot) × Begins (Ok (items specs)) ring r
+IsManual items slot (Err (former, fault)) ring r = Begins (Err fault) ring r

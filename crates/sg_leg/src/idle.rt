@@ -1,6 +1,6 @@
 //! A call without a generation.
 
-ghost use Rattle.std.specs.Prelude.{◌≡◌, ◌≤◌, ℕ, List, [], ◌∷◌, Some, None, IfErr};
+ghost use Rattle.std.specs.Prelude.{◌≡◌, ◌≤◌, ℕ, List, [], ◌∷◌, Some, None, IfOk, IfErr, length};
 ghost use Rattle.sg_agreement.specs.Offers.{agreed_offer};
 ghost use Rattle.sg_leg.specs.Open.{IsOffered, at_hand};
 ghost use Rattle.sg_agreement.specs.Generations.{generation_of};
@@ -75,6 +75,14 @@ fn manual_medium(
     }
 }
 
+/// The spec of the one medium.
+fn only(mut specs: Vec<MediaSpec>) -> MediaSpec
+    requires { length specs.items ≡ 1 }
+    ensures { result ∷ [] ≡ specs.items }
+{
+    specs.remove(0)
+}
+
 impl Idle {
     /// A call in this slot.
     pub fn make(slot: u8) -> Idle
@@ -107,6 +115,31 @@ impl Idle {
     /// Keys the call manually and tells what the sides of its one medium are made of: what the peer sends under
     /// `from_peer`, and what the gateway sends to it under `to_peer`, both from this rollover on. Refused as the
     /// ring refuses keys, or out of memory, the call is what it was, and so are the books.
+    pub fn settle(
+        self,
+        alloc: Global,
+        secure: Address,
+        plain: Address,
+        roc: u32,
+        window: u16,
+        from_peer: &MasterKey,
+        to_peer: &MasterKey,
+        books: &mut Books,
+    ) -> Result<(Live, Vec<MediaSpec>), (Idle, Fault)>
+        ensures answer { (call generation : ℕ) (ring : List Installed) → keys_of ring ≡ books.old.ring → IsManual (λ specs. specs.items) self result books.new.ring
+            (generation_of call generation ring (Some (medium_under secure plain roc window from_peer.now to_peer.now) ∷ [])) }
+        ensures one { IfOk result (λ r. length r.1.items ≡ 1) }
+        ensures back { IfErr result (λ e. (e.0 ≡ self) × (books.new ≡ books.old)) }
+        ensures others { (books.new.psks ≡ books.old.psks) × (books.new.seen ≡ books.old.seen) }
+    {
+        let medium = manual_medium(secure, plain, roc, window, from_peer, to_peer);
+        match settle_one(alloc, &medium, &mut books.ring) {
+            Ok(specs) => Ok((Live::new(self.slot, 1, true), specs)),
+            Err(fault) => Err((self, fault)),
+        }
+    }
+
+    /// The same, with what the sides are made of on the stack: some 32 KB.
     pub fn manual(
         self,
         alloc: Global,
@@ -118,15 +151,14 @@ impl Idle {
         to_peer: &MasterKey,
         books: &mut Books,
     ) -> Result<(Live, MediaSpec), (Idle, Fault)>
-        ensures answer { (call generation : ℕ) (ring : List Installed) → keys_of ring ≡ books.old.ring → IsManual self result books.new.ring
+        ensures answer { (call generation : ℕ) (ring : List Installed) → keys_of ring ≡ books.old.ring → IsManual (λ spec. spec ∷ []) self result books.new.ring
             (generation_of call generation ring (Some (medium_under secure plain roc window from_peer.now to_peer.now) ∷ [])) }
         ensures back { IfErr result (λ e. (e.0 ≡ self) × (books.new ≡ books.old)) }
         ensures others { (books.new.psks ≡ books.old.psks) × (books.new.seen ≡ books.old.seen) }
     {
-        let medium = manual_medium(secure, plain, roc, window, from_peer, to_peer);
-        match settle_one(alloc, &medium, &mut books.ring) {
-            Ok(spec) => Ok((Live::new(self.slot, 1, true), spec)),
-            Err(fault) => Err((self, fault)),
+        match self.settle(alloc, secure, plain, roc, window, from_peer, to_peer, books) {
+            Ok((live, specs)) => Ok((live, only(specs))),
+            Err(back) => Err(back),
         }
     }
 }

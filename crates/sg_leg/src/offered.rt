@@ -116,6 +116,18 @@ pub(crate) fn open(
     Ok((offered, out))
 }
 
+/// The same specs in a list of four at most.
+fn bounded(specs: Vec<MediaSpec>) -> ArrayVec<MediaSpec, 4>
+    requires { length specs.items ≤ 4 }
+    ensures { result.items ≡ specs.items }
+{
+    let mut list = ArrayVec::new();
+    for spec in specs {
+        list.push(spec);
+    }
+    list
+}
+
 impl Offered {
     /// The number of media.
     pub fn media(&self) -> u8
@@ -132,19 +144,20 @@ impl Offered {
         self.side
     }
 
-    /// Takes the answer of the other side and tells the text for the side that offered, and what the sides of the new
-    /// generation are made of; or gives the state back with the first cause why not, and then the books are as they
-    /// were.
-    pub fn answer(
+    /// Settles the offer by the answer of the other side: tells the text for the side that offered, and what the sides of
+    /// the new generation are made of; or gives the state back with the first cause why not, and then the books are as
+    /// they were.
+    pub fn settle(
         self,
         alloc: Global,
         text: &[u8],
         noise: &[u8; 304],
         books: &mut Books,
-    ) -> Result<(Live, Octets, ArrayVec<MediaSpec, 4>), (Offered, Fault)>
+    ) -> Result<(Live, Octets, Vec<MediaSpec>), (Offered, Fault)>
         requires open { (offer : Offer) × IsOpen books.old.psks self offer }
         ensures answer { (offer : Offer) (call generation : ℕ) (ring : List Installed) → IsOpen books.old.psks self offer → keys_of ring ≡ books.old.ring
-            → IsAnswered self result books.new.ring (answered_with self.slot offer noise.now text.now call generation ring) }
+            → IsAnswered (λ specs. specs.items) self result books.new.ring (answered_with self.slot offer noise.now text.now call generation ring) }
+        ensures few { IfOk result (λ r. length r.2.items ≤ 4) }
         ensures back { IfErr result (λ e. (e.0 ≡ self) × (books.new ≡ books.old)) }
         ensures others { (books.new.psks ≡ books.old.psks) × (books.new.seen ≡ books.old.seen) }
     {
@@ -158,6 +171,26 @@ impl Offered {
         }
     }
 
+    /// The same, with what the sides are made of in a list of four at most, which lies on the stack: some 128 KB.
+    pub fn answer(
+        self,
+        alloc: Global,
+        text: &[u8],
+        noise: &[u8; 304],
+        books: &mut Books,
+    ) -> Result<(Live, Octets, ArrayVec<MediaSpec, 4>), (Offered, Fault)>
+        requires open { (offer : Offer) × IsOpen books.old.psks self offer }
+        ensures answer { (offer : Offer) (call generation : ℕ) (ring : List Installed) → IsOpen books.old.psks self offer → keys_of ring ≡ books.old.ring
+            → IsAnswered (λ specs. specs.items) self result books.new.ring (answered_with self.slot offer noise.now text.now call generation ring) }
+        ensures back { IfErr result (λ e. (e.0 ≡ self) × (books.new ≡ books.old)) }
+        ensures others { (books.new.psks ≡ books.old.psks) × (books.new.seen ≡ books.old.seen) }
+    {
+        match self.settle(alloc, text, noise, books) {
+            Ok((live, text, specs)) => Ok((live, text, bounded(specs))),
+            Err(back) => Err(back),
+        }
+    }
+
     /// The text for the side that offered, and the specs of the new generation. Memory is taken before the ring
     /// changes.
     fn new_generation(
@@ -166,10 +199,11 @@ impl Offered {
         text: &[u8],
         noise: &[u8; 304],
         books: &mut Books,
-    ) -> Result<(Octets, ArrayVec<MediaSpec, 4>), Fault>
+    ) -> Result<(Octets, Vec<MediaSpec>), Fault>
         requires open { (offer : Offer) × IsOpen books.old.psks self.now offer }
         ensures given { (offer : Offer) (call generation : ℕ) (ring : List Installed) → IsOpen books.old.psks self.now offer → keys_of ring ≡ books.old.ring
             → IsAgreed result books.new.ring (answered_with self.now.slot offer noise.now text.now call generation ring) }
+        ensures few { IfOk result (λ r. length r.1.items ≤ 4) }
         ensures err { OnErr result (books.new ≡ books.old) }
         ensures others { (books.new.psks ≡ books.old.psks) × (books.new.seen ≡ books.old.seen) }
     {
@@ -184,7 +218,8 @@ impl Offered {
     }
 
     /// Reads the answer and decides: the text for the side that offered, and what is agreed of each medium, or the
-    /// first cause why not.
+    /// first cause why not. It isn't inlined, so that its frame is gone when keys are put into the ring.
+    #[inline(never)]
     fn read_answer(
         &self,
         alloc: Global,

@@ -1,6 +1,6 @@
 //! Keys into the ring, all or none, and the specs of their sessions.
 
-ghost use Rattle.std.specs.Prelude.{◌≡◌, ◌≤◌, ◌<◌, ◌++◌, ◌+◌, ℕ, List, [], ◌∷◌, Some, Ok, Err, length, map, vec_len, All, IfOk, OnOk, OnErr};
+ghost use Rattle.std.specs.Prelude.{◌≡◌, ◌≤◌, ◌<◌, ◌++◌, ◌+◌, ℕ, List, [], ◌∷◌, Some, Ok, Err, length, map, vec_len, vec_capacity, All, IfOk, OnOk, OnErr};
 ghost use Rattle.sg_agreement.specs.Generations.{sessions_from};
 ghost use Rattle.sg_agreement.specs.Streams.{line_key};
 ghost use Rattle.sg_keys.specs.Installing.{keys_of};
@@ -8,14 +8,14 @@ ghost use Rattle.sg_keys.specs.Reused.{given};
 ghost use Rattle.sg_session.specs.Ring as ring;
 ghost use Rattle.sg_session.specs.Ring.{Installed};
 ghost use Rattle.sg_leg.specs.FreshKeys.{media_keys, ring_keys};
-ghost use Rattle.sg_leg.specs.Installing.{IsKeyed, IsInstalled, fault_of, one_spec, specs_of};
-ghost use Rattle.sg_leg.specs.Planned.{ArePlanned, IsNext};
+ghost use Rattle.sg_leg.specs.Installing.{IsKeyed, IsInstalled, fault_of, specs_of};
+ghost use Rattle.sg_leg.specs.Planned.{AreOfMedium, ArePlanned, IsNext};
+ghost use Rattle.sg_leg.specs.declared.media_spec.MediaSpec.{MediaSpec};
 ghost use Rattle.sg_leg.specs.Served.{IsServedIf, IsServedMedium};
 
 use crate::MediaSpec;
 use crate::media::AgreedMedium;
-use arrayvec::ArrayVec;
-use sg_base::{Fault, MasterKey, NoMemory, Refusal, SessionKeys};
+use sg_base::{Fault, MEDIA_MOST, MasterKey, NoMemory, Refusal, SessionKeys};
 use sg_keys::{Ring, RingFault};
 use sg_sdes::InlineKey;
 use std::alloc::Global;
@@ -27,7 +27,7 @@ type Derived = (MasterKey, SessionKeys);
 #[derive(Drop)]
 struct Prepared {
     keys: Vec<Derived>,
-    specs: ArrayVec<MediaSpec, 4>,
+    specs: Vec<MediaSpec>,
 }
 
 fn derived(master: &MasterKey) -> Derived
@@ -57,24 +57,40 @@ fn add_medium_keys(medium: &AgreedMedium, out: &mut Vec<Derived>) -> Result<(), 
     Ok(())
 }
 
+/// Adds what the sides of a medium are made of, whose first key has this number. It isn't inlined, so that its frame,
+/// some 100 KB, is no part of a caller's.
+#[inline(never)]
+fn add_spec(medium: &AgreedMedium, m: u8, first: u32, specs: &mut Vec<MediaSpec>)
+    requires served { IsServedMedium medium.now }
+    requires numbers { first + length medium.now.from_peer.keys ≤ 65600 }
+    requires room { vec_len specs.old < vec_capacity specs.old }
+    ensures spec { (spec : MediaSpec) × (specs.new.items ≡ specs.old.items ++ spec ∷ [])
+        × ((call generation : ℕ) → AreOfMedium spec (sessions_from call generation m first (Some medium.now ∷ []))) }
+    ensures len { vec_len specs.new ≡ vec_len specs.old + 1 }
+    ensures capacity { vec_capacity specs.new ≡ vec_capacity specs.old }
+{
+    specs.push_reserved(medium.spec(m, first));
+}
+
 /// Adds the keys of a medium and what its sides are made of.
 fn add_medium(
     medium: &AgreedMedium,
     m: u8,
     first: u32,
     keys: &mut Vec<Derived>,
-    specs: &mut ArrayVec<MediaSpec, 4>,
+    specs: &mut Vec<MediaSpec>,
 ) -> Result<(), NoMemory>
     requires served { IsServedMedium medium.now }
     requires first { first ≤ 65536 }
     requires few { vec_len keys.old ≤ 48 }
-    requires room { length specs.old.items < 4 }
+    requires room { vec_len specs.old < vec_capacity specs.old }
     ensures given { OnOk result (map given keys.new.items ≡ map given keys.old.items ++ media_keys (Some medium.now ∷ [])) }
     ensures next { OnOk result (IsNext m first (Some medium.now) specs.old.items (vec_len keys.old) specs.new.items (vec_len keys.new)) }
     ensures few { OnOk result (vec_len keys.new ≤ vec_len keys.old + 16) }
-    ensures one { OnOk result (length specs.new.items ≤ length specs.old.items + 1) }
+    ensures one { OnOk result (vec_len specs.new ≤ vec_len specs.old + 1) }
+    ensures capacity { OnOk result (vec_capacity specs.new ≡ vec_capacity specs.old) }
 {
-    specs.push(medium.spec(m, first + keys.len() as u32));
+    add_spec(medium, m, first + keys.len() as u32, specs);
     add_medium_keys(medium, keys)?;
     Ok(())
 }
@@ -85,16 +101,17 @@ fn add(
     m: u8,
     first: u32,
     keys: &mut Vec<Derived>,
-    specs: &mut ArrayVec<MediaSpec, 4>,
+    specs: &mut Vec<MediaSpec>,
 ) -> Result<(), NoMemory>
     requires served { IsServedIf medium.now }
     requires first { first ≤ 65536 }
     requires few { vec_len keys.old ≤ 48 }
-    requires room { length specs.old.items < 4 }
+    requires room { vec_len specs.old < vec_capacity specs.old }
     ensures given { OnOk result (map given keys.new.items ≡ map given keys.old.items ++ media_keys (medium.now ∷ [])) }
     ensures next { OnOk result (IsNext m first medium.now specs.old.items (vec_len keys.old) specs.new.items (vec_len keys.new)) }
     ensures few { OnOk result (vec_len keys.new ≤ vec_len keys.old + 16) }
-    ensures one { OnOk result (length specs.new.items ≤ length specs.old.items + 1) }
+    ensures one { OnOk result (vec_len specs.new ≤ vec_len specs.old + 1) }
+    ensures capacity { OnOk result (vec_capacity specs.new ≡ vec_capacity specs.old) }
 {
     match medium {
         None => Ok(()),
@@ -109,10 +126,11 @@ fn prepare(alloc: Global, media: &[Option<AgreedMedium>], first: u32) -> Result<
     requires served { All IsServedIf media.now }
     ensures given { IfOk result (λ p. map given p.keys.items ≡ media_keys media.now) }
     ensures few { IfOk result (λ p. length p.keys.items ≤ 65536) }
+    ensures four { IfOk result (λ p. length p.specs.items ≤ 4) }
     ensures planned { IfOk result (λ p. (call generation : ℕ) → ArePlanned p.specs.items (sessions_from call generation 0 first media.now)) }
 {
     let mut keys = Vec::new(alloc);
-    let mut specs = ArrayVec::new();
+    let mut specs = Vec::with_capacity(alloc, MEDIA_MOST)?;
     for (m, medium) in media.iter().enumerate() {
         add(medium, m as u8, first, &mut keys, &mut specs)?;
     }
@@ -149,11 +167,12 @@ pub(crate) fn settle(
     alloc: Global,
     media: &[Option<AgreedMedium>],
     ring: &mut Ring,
-) -> Result<ArrayVec<MediaSpec, 4>, Fault>
+) -> Result<Vec<MediaSpec>, Fault>
     requires few { length media.now ≤ 4 }
     requires served { All IsServedIf media.now }
     ensures keyed { (call generation : ℕ) (old : List Installed) → keys_of old ≡ ring.old
         → IsKeyed call generation old media.now (specs_of result) ring.new }
+    ensures few { IfOk result (λ specs. length specs.items ≤ 4) }
     ensures err { OnErr result (ring.new ≡ ring.old) }
 {
     let Ok(prepared) = prepare(alloc, media, ring.count()) else {
@@ -170,19 +189,23 @@ pub(crate) fn settle_one(
     alloc: Global,
     medium: &AgreedMedium,
     ring: &mut Ring,
-) -> Result<MediaSpec, Fault>
+) -> Result<Vec<MediaSpec>, Fault>
     requires served { IsServedMedium medium.now }
     ensures keyed { (call generation : ℕ) (old : List Installed) → keys_of old ≡ ring.old
-        → IsKeyed call generation old (Some medium.now ∷ []) (one_spec result) ring.new }
+        → IsKeyed call generation old (Some medium.now ∷ []) (specs_of result) ring.new }
+    ensures one { IfOk result (λ specs. length specs.items ≡ 1) }
     ensures err { OnErr result (ring.new ≡ ring.old) }
 {
-    let spec = medium.spec(0, ring.count());
     let mut keys = Vec::new(alloc);
     let Ok(()) = add_medium_keys(medium, &mut keys) else {
         return Err(Fault::NoMemory);
     };
+    let Ok(mut specs) = Vec::with_capacity(alloc, 1) else {
+        return Err(Fault::NoMemory);
+    };
+    add_spec(medium, 0, ring.count(), &mut specs);
     match install(ring, &keys) {
-        Ok(()) => Ok(spec),
+        Ok(()) => Ok(specs),
         Err(fault) => Err(fault),
     }
 }

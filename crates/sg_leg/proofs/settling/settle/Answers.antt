@@ -14,8 +14,8 @@ returns-in-Ok-install-clause-keyed c = λ call generation old stand.
     (new_keys call generation old c.args.media.now keys c.args.ring.now c.install.new.ring stand are))
     c.in-Ok-install.ensures.ok c.count.ensures.same (c.in-Ok.ensures.planned call generation)
 
-pub returns-clause-keyed : goal.returns-clause-keyed
-returns-clause-keyed c = λ call generation old stand.
+pub returns-in-Err-clause-keyed : goal.returns-in-Err-clause-keyed
+returns-in-Err-clause-keyed c = λ call generation old stand.
     let keys : List RingKey = map given c.deref.result.now in
     let are : keys ≡ media_keys c.args.media.now = ap (map given) c.deref.ensures.value ∙ c.in-Ok.ensures.given in
     unsettled call generation old c.args.media.now keys c.args.ring.now c.install.new.ring stand are c.in-Err.fault
