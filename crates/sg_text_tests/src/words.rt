@@ -6,7 +6,7 @@ use std::process::Abort;
 use std::test::Fail;
 
 /// Words, and the command that they are.
-const COMMANDS: [(&[&str], Command); 23] = [
+const COMMANDS: [(&[&str], Command); 25] = [
     (&["replay"], Command::Replay { workers: 1 }),
     (&["replay", "--"], Command::Replay { workers: 1 }),
     (
@@ -133,6 +133,8 @@ const COMMANDS: [(&[&str], Command); 23] = [
             workers: 2,
         },
     ),
+    (&["migrate"], Command::Migrate),
+    (&["migrate", "--"], Command::Migrate),
 ];
 
 /// What is read of these words.

@@ -3,13 +3,18 @@ use Rattle.std.proofs.Common.{◌≡◌, ◌⊎◌, ◌∙◌, ◌<◌, Bool, Li
 use Rattle.std.specs.Prelude.{option_and_then}
 use Rattle.std.specs.Str.{bytes_eq}
 use Rattle.std.proofs.lemmas.Slice.Eq.{bytes_eq-Decides}
-use Rattle.clap.specs.Words.{Kinds, Row, fault_of, first_of, subcommand_of}
+use Rattle.clap.specs.Words.{Kinds, Row, fault_of, first_of, is_simple_and_free, subcommand_of}
 use Rattle.clap.specs.Lexer.{long_of, short_of}
 use Rattle.clap.proofs.OnLiterals.{clap_on_literals}
 use Rattle.sg_base.specs.Fields.{Lacks}
 use Rattle.sg_words.specs.Commands.{IsOneOf, Text, Words, ended, with_option}
 use Rattle.sg_words.specs.Grammar.{srtpgw}
 use Rattle.sg_words.specs.Reading.{are_ended, have_option, text_in}
+
+-- of this command line clap says why it refuses words
+pub srtpgw_simple : is_simple_and_free srtpgw ≡ true
+unfolding clap_on_literals
+srtpgw_simple = refl
 
 -- a word that is no option and not the lone `--`
 pub record IsValue (w : Text) : Type 0 where
@@ -113,6 +118,17 @@ relay_with v iv rest others (inr (inr (inl e))) =
 relay_with v iv rest others (inr (inr (inr (inl e)))) =
     inl (ap (relay_seen (Some v)) e ∙ (rw (iv.end, iv.long, iv.short, iv.itself) refl))
 relay_with v iv rest others (inr (inr (inr (inr o)))) = inr o
+
+-- what is seen in the words of a command that is alone: the faults, and whether nothing or a lone `--` is behind its name
+abbrev pub migrate_seen : Words → Kinds × Bool
+migrate_seen rest = (fault_of srtpgw (codes "migrate" ∷ rest), are_ended rest [])
+
+-- the same of `migrate`
+pub migrate_alone : (rest : Words) → IsOneOf rest (ended []) → migrate_seen rest ≡ ([], true)
+unfolding clap_on_literals
+migrate_alone rest (inl e) = ap migrate_seen e ∙ refl
+migrate_alone rest (inr (inl e)) = ap migrate_seen e ∙ refl
+migrate_alone rest (inr (inr none)) = absurd none
 
 -- the same of `demo` with its option: both numbers are found too
 pub demo_with : (c s v : Text) → IsValue c → IsValue s → IsValue v → (rest : Words) (others : List Words) → IsOneOf rest (with_option (codes "--workers") v (c ∷ s ∷ []) ++ others)

@@ -11,9 +11,9 @@ use Rattle.sg_base.proofs.Decimals.{number_takes}
 use Rattle.sg_words.proofs.Among.{in_left, in_map, in_right}
 use Rattle.sg_words.specs.Commands.{AreWordsOf, IsOneOf, IsWorkers, Text, Words, ended, option_before, put_in, with_option, with_workers}
 use Rattle.sg_words.specs.Grammar.{srtpgw}
-use Rattle.sg_words.specs.Reading.{are, are_ended, command_by, demo_by, first_said, follows, have_option, is_joined, led_by, no_fault, positive, relay_by, replay_by, text_in, workers_by}
+use Rattle.sg_words.specs.Reading.{alone_by, are, are_ended, command_by, demo_by, first_said, follows, have_option, is_joined, led_by, no_fault, positive, relay_by, said_by, text_in, workers_by}
 use Rattle.sg_words.specs.declared.command.Command.{Command}
-use Rattle.sg_words.specs.declared.command.Command.TheVariants.{Replay, Relay, Demo}
+use Rattle.sg_words.specs.declared.command.Command.TheVariants.{Replay, Relay, Demo, Migrate}
 
 same : (a b : List ℕ) → bytes_eq a b ≡ true → a ≡ b
 same a b is = (bytes_eq-Decides a b).0 is
@@ -192,27 +192,37 @@ demo_so ws (Some calls) (Some start) o c found = demo_calls ws calls start o c (
 named : (name : Text) (word : Text) (ws : Words) (c : Command) → bytes_eq name word ≡ true → AreWordsOf (word ∷ ws) c → AreWordsOf (name ∷ ws) c
 named name word ws c is so = subst (λ (x : Text). AreWordsOf (x ∷ ws) c) (sym (same name word is)) so
 
-said_demo : (name : Text) (ws : Words) (text : Text → Option Text) (c : Command) (b : Bool) → bytes_eq name (codes "demo") ≡ b
-    → cond b (demo_by ws (text (codes "calls")) (text (codes "start")) (text (codes "workers"))) None ≡ Some c → AreWordsOf (name ∷ ws) c
-said_demo name ws text c true e found = named name (codes "demo") ws c e (demo_so ws (text (codes "calls")) (text (codes "start")) (text (codes "workers")) c found)
-said_demo name ws text c false e found = absurd cc
+alone_so : (ws : Words) (command c : Command) → alone_by command ws ≡ Some c → (command ≡ c) × IsOneOf ws (ended [])
+alone_so ws command c found =
+    let p = chosen (are_ended ws []) (Some command) c found in
+    let same_command : command ≡ c = (let e = p.1 in cc) in
+    (same_command, ended_so ws [] p.0)
 
-said_relay : (name : Text) (ws : Words) (text : Text → Option Text) (c : Command) (b : Bool) → bytes_eq name (codes "relay") ≡ b
-    → cond b (relay_by ws (text (codes "turns"))) (cond (bytes_eq name (codes "demo")) (demo_by ws (text (codes "calls")) (text (codes "start")) (text (codes "workers"))) None) ≡ Some c
-    → AreWordsOf (name ∷ ws) c
-said_relay name ws text c true e found = named name (codes "relay") ws c e (relay_so ws (text (codes "turns")) c found)
-said_relay name ws text c false e found = said_demo name ws text c (bytes_eq name (codes "demo")) refl found
+migrate_so : (ws : Words) (c : Command) → alone_by Migrate ws ≡ Some c → AreWordsOf (codes "migrate" ∷ ws) c
+migrate_so ws c found =
+    let p = alone_so ws Migrate c found in
+    subst (AreWordsOf (codes "migrate" ∷ ws)) p.0 (tt, in_map (λ others. codes "migrate" ∷ others) ws (ended []) p.1)
 
-said_replay : (name : Text) (ws : Words) (text : Text → Option Text) (c : Command) (b : Bool) → bytes_eq name (codes "replay") ≡ b
-    → cond b (replay_by ws (text (codes "workers"))) (cond (bytes_eq name (codes "relay")) (relay_by ws (text (codes "turns")))
-    (cond (bytes_eq name (codes "demo")) (demo_by ws (text (codes "calls")) (text (codes "start")) (text (codes "workers"))) None)) ≡ Some c
-    → AreWordsOf (name ∷ ws) c
-said_replay name ws text c true e found = named name (codes "replay") ws c e (replay_at ws (text (codes "workers")) c (workers_by ws [] (text (codes "workers"))) refl found)
-said_replay name ws text c false e found = said_relay name ws text c (bytes_eq name (codes "relay")) refl found
+-- the command is that of this word, or of a later one
+module _ (name : Text) (ws : Words) (c : Command) where
+  in_turn : (word : Text) (here others : Option Command) → (here ≡ Some c → AreWordsOf (word ∷ ws) c) → (others ≡ Some c → AreWordsOf (name ∷ ws) c) → cond (bytes_eq name word) here others ≡ Some c
+      → AreWordsOf (name ∷ ws) c
+  in_turn word here others so later found = at (bytes_eq name word) refl found
+    where
+      at : (b : Bool) → bytes_eq name word ≡ b → cond b here others ≡ Some c → AreWordsOf (name ∷ ws) c
+      at true e found = named name word ws c e (so found)
+      at false e found = later found
+
+  said_so : (text : Text → Option Text) → said_by name ws text ≡ Some c → AreWordsOf (name ∷ ws) c
+  said_so text =
+      in_turn (codes "replay") _ _ (replay_at ws (text (codes "workers")) c (workers_by ws [] (text (codes "workers"))) refl)
+      (in_turn (codes "relay") _ _ (relay_so ws (text (codes "turns")) c)
+      (in_turn (codes "demo") _ _ (demo_so ws (text (codes "calls")) (text (codes "start")) (text (codes "workers")) c)
+      (in_turn (codes "migrate") _ _ (migrate_so ws c) (λ none. cc))))
 
 first_so : (words : Words) (text : Text → Option Text) (c : Command) → first_said words text ≡ Some c → AreWordsOf words c
 first_so [] text c found = absurd cc
-first_so (name ∷ ws) text c found = said_replay name ws text c (bytes_eq name (codes "replay")) refl found
+first_so (name ∷ ws) text c found = said_so name ws c text found
 
 pub sound : (words : Words) (c : Command) → command_by words ≡ Some c → AreWordsOf words c
 sound words c found =

@@ -1,8 +1,8 @@
 -- The words of the command line, and the command that they are.
-use Rattle.std.specs.Prelude.{◌≡◌, ◌⊎◌, ◌≤◌, ◌<◌, ◌^◌, ◌==◌, ℕ, if◌then◌else◌, List, [], ◌∷◌, ◌++◌, codes, map}
+use Rattle.std.specs.Prelude.{◌≡◌, ◌⊎◌, ◌≤◌, ◌<◌, ◌^◌, ◌==◌, ℕ, if◌then◌else◌, List, [], ◌∷◌, ◌++◌, codes, map, ⊤}
 use Rattle.std.specs.Fmt.{decimal}
 use Rattle.sg_words.specs.declared.command.Command.{Command}
-use Rattle.sg_words.specs.declared.command.Command.TheVariants.{Replay, Relay, Demo}
+use Rattle.sg_words.specs.declared.command.Command.TheVariants.{Replay, Relay, Demo, Migrate}
 
 abbrev pub Text : Type 0
 Text = List ℕ
@@ -40,6 +40,7 @@ spellings (Replay workers) = map (λ others. codes "replay" ∷ others) (with_wo
 spellings (Relay turns) = map (λ others. codes "relay" ∷ others) (with_option (codes "--turns") (decimal turns) [])
 spellings (Demo calls start workers) =
     map (λ others. codes "demo" ∷ others) (with_workers workers (decimal calls ∷ decimal start ∷ []))
+spellings Migrate = map (λ others. codes "migrate" ∷ others) (ended [])
 
 -- 1 to 16 workers
 abbrev pub IsWorkers : ℕ → Type 0
@@ -50,6 +51,7 @@ abbrev pub IsCommand : Command → Type 0
 IsCommand (Replay workers) = IsWorkers workers
 IsCommand (Relay turns) = (1 ≤ turns) × (turns ≤ 1000000000)
 IsCommand (Demo calls start workers) = (1 ≤ calls) × (calls ≤ 256) × (start < 2 ^ 64) × IsWorkers workers
+IsCommand Migrate = ⊤
 
 -- the words are in the list
 abbrev pub IsOneOf : Words → List Words → Type 0

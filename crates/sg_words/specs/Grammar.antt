@@ -23,8 +23,11 @@ relay = with_rule (new_app (codes "relay")) turns
 abbrev pub demo : App
 demo = with_rule (with_rule (with_rule (new_app (codes "demo")) workers) calls) start
 
+abbrev pub migrate : App
+migrate = new_app (codes "migrate")
+
 abbrev pub whole_line : App → App
 whole_line a = record a { top = record a.top { no_binary_name = true; subcommand_required = true } }
 
 abbrev pub srtpgw : App
-srtpgw = whole_line (with_subcommand (with_subcommand (with_subcommand (new_app (codes "srtpgw")) replay.top) relay.top) demo.top)
+srtpgw = whole_line (with_subcommand (with_subcommand (with_subcommand (with_subcommand (new_app (codes "srtpgw")) replay.top) relay.top) demo.top) migrate.top)

@@ -6,7 +6,7 @@ use Rattle.sg_base.specs.Fields.{number_at}
 use Rattle.sg_words.specs.Commands.{Text, Words}
 use Rattle.sg_words.specs.Grammar.{srtpgw}
 use Rattle.sg_words.specs.declared.command.Command.{Command}
-use Rattle.sg_words.specs.declared.command.Command.TheVariants.{Replay, Relay, Demo}
+use Rattle.sg_words.specs.declared.command.Command.TheVariants.{Replay, Relay, Demo, Migrate}
 
 -- there are no words
 abbrev pub are_none : Words → Bool
@@ -71,6 +71,10 @@ demo_by words (Some calls) (Some start) workers =
     option_and_then (λ c. option_and_then (λ s. option_map (λ w. Demo c s w) (workers_by words (calls ∷ start ∷ []) workers))
     (number_at 18446744073709551615 start)) (positive 256 calls)
 
+-- a command that has neither options nor numbers, by the words behind its name
+abbrev pub alone_by : Command → Words → Option Command
+alone_by command words = if are_ended words [] then Some command else None
+
 -- the text that clap found for an argument
 abbrev pub text_in : Text → Words → Option Text
 text_in id words = option_and_then (λ p. first_of id p.1) (subcommand_of srtpgw words)
@@ -80,7 +84,8 @@ abbrev pub said_by : Text → Words → (Text → Option Text) → Option Comman
 said_by name words text =
     if bytes_eq name (codes "replay") then replay_by words (text (codes "workers"))
     else (if bytes_eq name (codes "relay") then relay_by words (text (codes "turns"))
-    else (if bytes_eq name (codes "demo") then demo_by words (text (codes "calls")) (text (codes "start")) (text (codes "workers")) else None))
+    else (if bytes_eq name (codes "demo") then demo_by words (text (codes "calls")) (text (codes "start")) (text (codes "workers"))
+    else (if bytes_eq name (codes "migrate") then alone_by Migrate words else None)))
 
 -- the first word is the command's name
 abbrev pub first_said : Words → (Text → Option Text) → Option Command

@@ -1,7 +1,8 @@
 //! Commands, and why words are none.
 
 /// What a command line asks for: to play a script with so many workers, to relay for so many turns at most,
-/// or to show so many calls that begin with the words of a start, with so many workers.
+/// to show so many calls that begin with the words of a start, with so many workers, or to write a script of
+/// version 1 as one of version 2.
 #[derive(Clone, Copy, Debug, PartialEq, Eq)]
 pub enum Command {
     Replay {
@@ -15,6 +16,7 @@ pub enum Command {
         start: u64,
         workers: usize,
     },
+    Migrate,
 }
 
 /// Why no command was read.

@@ -59,6 +59,13 @@ fn demo<'a>(alloc: Global) -> Result<Command<'a>, AllocError>
     two.arg(start(alloc))
 }
 
+fn migrate<'a>(alloc: Global) -> Command<'a>
+    ensures shape { app_of result ≡ grammar.migrate }
+    ensures local { (out-Command result).has_globals ≡ false }
+{
+    Command::new(alloc, "migrate")
+}
+
 /// The words don't begin with the program's name, and a command is required.
 fn without_program<'a>(command: Command<'a>) -> Command<'a>
     ensures { app_of result ≡ grammar.whole_line (app_of command.entry) }
@@ -102,9 +109,17 @@ fn with_demo<'a>(alloc: Global) -> Result<Command<'a>, AllocError>
     }
 }
 
+/// The same with `migrate`, too.
+fn with_migrate<'a>(alloc: Global) -> Result<Command<'a>, AllocError>
+    ensures { IfOk result (λ c. app_of c ≡ with_subcommand (with_subcommand (with_subcommand (with_subcommand (new_app (codes "srtpgw")) grammar.replay.top) grammar.relay.top) grammar.demo.top) grammar.migrate.top) }
+{
+    let command = with_demo(alloc)?;
+    command.subcommand(migrate(alloc))
+}
+
 /// The whole command line.
 pub(crate) fn command_line<'a>(alloc: Global) -> Result<Command<'a>, AllocError>
     ensures { IfOk result (λ c. app_of c ≡ grammar.srtpgw) }
 {
-    Ok(without_program(with_demo(alloc)?))
+    Ok(without_program(with_migrate(alloc)?))
 }

@@ -4,7 +4,7 @@ ghost use Rattle.std.specs.Prelude.{◌≡◌, ◌≢◌, ◌≤◌, ◌⊎◌, 
 ghost use Rattle.clap.specs.Words.{FailsBy, fault_of, subcommand_of, subcommand_rows_of, first_of};
 ghost use Rattle.sg_words.specs.Commands.{AreWordsOf, IsNoCommand};
 ghost use Rattle.sg_words.specs.Grammar.{srtpgw};
-ghost use Rattle.sg_words.specs.Reading.{command_by, demo_by, first_said, positive, relay_by, replay_by, text_in, workers_by};
+ghost use Rattle.sg_words.specs.Reading.{alone_by, command_by, demo_by, first_said, positive, relay_by, replay_by, text_in, workers_by};
 ghost use Rattle.sg_words.specs.declared.command.Command.{Command};
 
 use crate::line::command_line;
@@ -113,6 +113,16 @@ fn demo_of(words: &[String], matches: &ArgMatches<'_>) -> Option<Command>
     })
 }
 
+/// A command that has neither options nor numbers, by the words behind its name.
+fn alone(words: &[String], command: Command) -> Option<Command>
+    ensures { result ≡ alone_by command (map string_bytes words.now) }
+{
+    if !are_ended(words, &[]) {
+        return None;
+    }
+    Some(command)
+}
+
 /// The command that the words spell, where clap found these.
 fn said(words: &[String], matches: &ArgMatches<'_>) -> Option<Command>
     ensures { result ≡ first_said (map string_bytes words.now) (λ id. option_and_then (λ p. first_of id p.1) (subcommand_rows_of matches.now)) }
@@ -128,6 +138,9 @@ fn said(words: &[String], matches: &ArgMatches<'_>) -> Option<Command>
     }
     if is(name, "demo") {
         return demo_of(words, matches);
+    }
+    if is(name, "migrate") {
+        return alone(words, Command::Migrate);
     }
     None
 }
@@ -145,9 +158,9 @@ fn refused(kind: ErrorKind) -> CommandFault
 
 /// The command that the words after the program's name are, or `Usage` exactly where they are none.
 ///
-/// `replay [--workers W]`, `relay --turns T` and `demo CALLS START [--workers W]`. An option stands in front
-/// of the numbers, between or behind them, once at most, as `--workers 4` or `--workers=4`; a lone `--` says
-/// that none is behind it.
+/// `replay [--workers W]`, `relay --turns T`, `demo CALLS START [--workers W]` and `migrate`. An option stands
+/// in front of the numbers, between or behind them, once at most, as `--workers 4` or `--workers=4`; a lone
+/// `--` says that none is behind it.
 pub fn read_command(alloc: Global, words: &[String]) -> Result<Command, CommandFault>
     ensures command { IfOk result (λ c. AreWordsOf (map string_bytes words.now) c) }
     ensures usage { result ≡ Err CommandFault.Usage → IsNoCommand (map string_bytes words.now) }

@@ -1,0 +1,9 @@
+//! The command `migrate`: a script of version 1 is written as one of version 2.
+#![tactic(auto)]
+
+mod laws;
+mod lines;
+mod migrating;
+
+pub use laws::migrated_scripts_tell_the_same;
+pub use migrating::migrate;
