@@ -1,14 +1,18 @@
 //! Script lines, read and printed.
 
+ghost use Rattle.std.specs.Prelude.{◌≡◌, ◌⊎◌};
+
 use sg_script::{ReadLineFault, ScriptFault, print_line, read_line};
 use std::alloc::{AllocError, Global};
 use std::process::Abort;
 use std::test::Fail;
 
-/// The fault of the second line of a script; none where it is a line, which must then be printed as it
-/// was.
-fn fault_of(rt: &impl Abort, alloc: Global, octets: &[u8]) -> Option<ScriptFault> {
-    match read_line(alloc, 2, octets) {
+/// The fault of the second line of a script of that version; none where it is a line, which must then be
+/// printed as it was.
+fn fault_of(rt: &impl Abort, alloc: Global, version: u8, octets: &[u8]) -> Option<ScriptFault>
+    requires { (version ≡ 1) ⊎ (version ≡ 2) }
+{
+    match read_line(alloc, version, 2, octets) {
         Ok(line) => {
             match print_line(alloc, &line) {
                 Ok(printed) => assert!(rt; printed.as_slice() == octets),
@@ -24,22 +28,32 @@ fn fault_of(rt: &impl Abort, alloc: Global, octets: &[u8]) -> Option<ScriptFault
     }
 }
 
-/// The fault of the first line of a script; none where it is the header.
-fn fault_of_first(alloc: Global, octets: &[u8]) -> Option<ScriptFault> {
-    match read_line(alloc, 1, octets) {
+/// The fault of the first line of a script, which is read as that version's; none where it is a header.
+fn fault_of_first(alloc: Global, version: u8, octets: &[u8]) -> Option<ScriptFault>
+    requires { (version ≡ 1) ⊎ (version ≡ 2) }
+{
+    match read_line(alloc, version, 1, octets) {
         Ok(_) => None,
         Err(ReadLineFault::Script(found)) => Some(found),
         Err(ReadLineFault::NoMemory) => Some(ScriptFault::Length),
     }
 }
 
-/// The first have these faults, and the others are lines.
-fn have_faults(rt: &impl Abort, alloc: Global, bad: &[(&[u8], ScriptFault)], good: &[&[u8]]) {
+/// In a script of that version the first have these faults, and the others are lines.
+fn have_faults(
+    rt: &impl Abort,
+    alloc: Global,
+    version: u8,
+    bad: &[(&[u8], ScriptFault)],
+    good: &[&[u8]],
+)
+    requires { (version ≡ 1) ⊎ (version ≡ 2) }
+{
     for (row, fault) in bad {
-        assert!(rt; fault_of(rt, alloc, row) == Some(*fault));
+        assert!(rt; fault_of(rt, alloc, version, row) == Some(*fault));
     }
     for row in good {
-        assert!(rt; fault_of(rt, alloc, row) == None);
+        assert!(rt; fault_of(rt, alloc, version, row) == None);
     }
 }
 
@@ -71,7 +85,7 @@ fn good_lines(rt: HostRuntime) {
         b"answer 0 - 0a0d00\n",
         b"in 20000 10.0.0.1:1 0a20\n",
     ];
-    have_faults(&rt, rt.alloc(), &[], &ROWS);
+    have_faults(&rt, rt.alloc(), 1, &[], &ROWS);
 }
 
 /// One fault a row, each of the first kind that the line has.
@@ -185,23 +199,57 @@ fn bad_lines(rt: HostRuntime) {
             Word,
         ),
     ];
-    have_faults(&rt, rt.alloc(), &ROWS, &[]);
+    have_faults(&rt, rt.alloc(), 1, &ROWS, &[]);
 }
 
-/// The first line of a script is the header and nothing else.
+/// The first line of a script is one of the two headers and nothing else, whichever version it is read as.
 #[test]
 fn first_lines(rt: HostRuntime) {
-    const ROWS: [(&[u8], ScriptFault); 5] = [
-        (b"srtpgw 2\n", ScriptFault::Version),
-        (b"srtpgw 01\n", ScriptFault::Version),
-        (b"tick 1\n", ScriptFault::Version),
-        (b"srtpgw 1", ScriptFault::Unended),
-        (b"srtpgw 1 \n", ScriptFault::Version),
+    const ROWS: [(&[u8], Option<ScriptFault>); 10] = [
+        (b"srtpgw 1\n", None),
+        (b"srtpgw 2\n", None),
+        (b"srtpgw 3\n", Some(ScriptFault::Version)),
+        (b"srtpgw 01\n", Some(ScriptFault::Version)),
+        (b"srtpgw 12\n", Some(ScriptFault::Version)),
+        (b"tick 1\n", Some(ScriptFault::Version)),
+        (b"srtpgw 1", Some(ScriptFault::Unended)),
+        (b"srtpgw 2", Some(ScriptFault::Unended)),
+        (b"srtpgw 1 \n", Some(ScriptFault::Version)),
+        (b"srtpgw 2 \n", Some(ScriptFault::Version)),
     ];
     for (row, fault) in ROWS {
-        assert!(rt; fault_of_first(rt.alloc(), row) == Some(fault));
+        assert!(rt; fault_of_first(rt.alloc(), 1, row) == fault);
+        assert!(rt; fault_of_first(rt.alloc(), 2, row) == fault);
     }
-    assert!(rt; fault_of_first(rt.alloc(), b"srtpgw 1\n") == None);
+}
+
+/// A datagram has its moment in version 2, and none in version 1.
+#[test]
+fn datagrams_with_moments(rt: HostRuntime) {
+    use ScriptFault::{Hex, Length, Number, Word};
+    const GOOD: [&[u8]; 3] = [
+        b"in 0 20000 127.0.0.1:40000 -\n",
+        b"in 2085978495999 0 0.0.0.0:0 80\n",
+        b"in 5 65535 255.255.255.255:65535 00ff\n",
+    ];
+    const BAD: [(&[u8], ScriptFault); 12] = [
+        (b"in 20000 127.0.0.1:40000 -\n", Word),
+        (b"in 5 20000 127.0.0.1:40000 - -\n", Word),
+        (b"srtpgw 1\n", Word),
+        (b"srtpgw 2\n", Word),
+        (b"tick 5 5\n", Word),
+        (b"in 2085978496000 20000 127.0.0.1:40000 -\n", Number),
+        (b"in 01 20000 127.0.0.1:40000 -\n", Number),
+        (b"in - 20000 127.0.0.1:40000 -\n", Number),
+        (b"in  20000 127.0.0.1:40000 -\n", Number),
+        (b"in 5 65536 127.0.0.1 8G\n", Number),
+        (b"in 5 20000 127.0.0.1:40000 8G\n", Hex),
+        (b"answer 1 00 -\n", Length),
+    ];
+    have_faults(&rt, rt.alloc(), 2, &BAD, &GOOD);
+    for row in GOOD {
+        assert!(rt; fault_of(&rt, rt.alloc(), 1, row) == Some(Word));
+    }
 }
 
 /// Puts so many of one octet behind a line's front, and its end behind them.
@@ -213,7 +261,7 @@ fn fill(line: &mut Vec<u8>, octet: u8, count: usize, end: &[u8]) -> Result<(), A
     Ok(())
 }
 
-/// A line's front, an octet, how many of it follow, and the line's end; and its fault.
+/// A line's beginning, an octet, how many of it follow, and the line's end; and its fault.
 type Row = (&'static [u8], u8, usize, &'static [u8], Option<ScriptFault>);
 
 /// The end of a line that shares a key.
@@ -223,7 +271,7 @@ fn have_limits(rt: &impl Abort, alloc: Global, rows: &[Row]) -> Result<(), Fail>
     for (prefix, octet, count, end, fault) in rows {
         let mut line = Vec::from_slice(alloc, prefix)?;
         fill(&mut line, *octet, *count, end)?;
-        assert!(rt; fault_of(rt, alloc, &line) == *fault);
+        assert!(rt; fault_of(rt, alloc, 1, &line) == *fault);
     }
     Ok(())
 }

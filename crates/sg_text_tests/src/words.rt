@@ -6,7 +6,7 @@ use std::process::Abort;
 use std::test::Fail;
 
 /// Words, and the command that they are.
-const COMMANDS: [(&[&str], Command); 25] = [
+const COMMANDS: [(&[&str], Command); 27] = [
     (&["replay"], Command::Replay { workers: 1 }),
     (&["replay", "--"], Command::Replay { workers: 1 }),
     (
@@ -135,6 +135,8 @@ const COMMANDS: [(&[&str], Command); 25] = [
     ),
     (&["migrate"], Command::Migrate),
     (&["migrate", "--"], Command::Migrate),
+    (&["capture"], Command::Capture),
+    (&["capture", "--"], Command::Capture),
 ];
 
 /// What is read of these words.

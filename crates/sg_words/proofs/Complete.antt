@@ -12,12 +12,12 @@ use Rattle.sg_base.specs.Fields.{number_at}
 use Rattle.sg_base.proofs.Decimals.{number_again}
 use Rattle.sg_base.proofs.FourNumbers.{decimal_lacks}
 use Rattle.sg_words.proofs.Among.{in_left, of_map}
-use Rattle.sg_words.proofs.Shapes.{IsDemoSeen, IsValue, are_written, demo_found_so, demo_with, demo_without, migrate_alone, relay_seen, relay_with, replay_seen, replay_with, replay_without, value_of}
+use Rattle.sg_words.proofs.Shapes.{IsDemoSeen, IsValue, are_written, capture_alone, demo_found_so, demo_with, demo_without, migrate_alone, relay_seen, relay_with, replay_seen, replay_with, replay_without, value_of}
 use Rattle.sg_words.specs.Commands.{AreWordsOf, IsOneOf, IsWorkers, Text, Words, ended, with_option, with_workers}
 use Rattle.sg_words.specs.Grammar.{srtpgw}
 use Rattle.sg_words.specs.Reading.{are_ended, command_by, demo_by, first_said, have_option, no_fault, positive, relay_by, replay_by, text_in, workers_by}
 use Rattle.sg_words.specs.declared.command.Command.{Command}
-use Rattle.sg_words.specs.declared.command.Command.TheVariants.{Replay, Relay, Demo, Migrate}
+use Rattle.sg_words.specs.declared.command.Command.TheVariants.{Replay, Relay, Demo, Migrate, Capture}
 use Rattle.sg_words.specs.declared.command.CommandFault.{CommandFault}
 use Rattle.sg_words.specs.declared.command.CommandFault.TheVariants.{NoMemory}
 
@@ -116,6 +116,11 @@ migrate_of rest among =
     let seen = migrate_alone rest among in
     found_by (codes "migrate" ∷ rest) Migrate (ap (λ x. x.0) seen) (cond-true _ _ _ (ap (λ x. x.1) seen))
 
+capture_of : (rest : Words) → IsOneOf rest (ended []) → command_by (codes "capture" ∷ rest) ≡ Some Capture
+capture_of rest among =
+    let seen = capture_alone rest among in
+    found_by (codes "capture" ∷ rest) Capture (ap (λ x. x.0) seen) (cond-true _ _ _ (ap (λ x. x.1) seen))
+
 pub complete : (words : Words) (c : Command) → AreWordsOf words c → command_by words ≡ Some c
 complete words (Replay n) are =
     let made = of_map (λ others. codes "replay" ∷ others) words (with_workers n []) are.1 in
@@ -129,6 +134,9 @@ complete words (Demo n s w) are =
 complete words Migrate are =
     let made = of_map (λ others. codes "migrate" ∷ others) words (ended []) are.1 in
     ap command_by made.is ∙ migrate_of made.others made.among
+complete words Capture are =
+    let made = of_map (λ others. codes "capture" ∷ others) words (ended []) are.1 in
+    ap command_by made.is ∙ capture_of made.others made.among
 
 -- ---- what is answered
 

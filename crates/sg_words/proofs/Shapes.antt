@@ -130,6 +130,16 @@ migrate_alone rest (inl e) = ap migrate_seen e ∙ refl
 migrate_alone rest (inr (inl e)) = ap migrate_seen e ∙ refl
 migrate_alone rest (inr (inr none)) = absurd none
 
+abbrev pub capture_seen : Words → Kinds × Bool
+capture_seen rest = (fault_of srtpgw (codes "capture" ∷ rest), are_ended rest [])
+
+-- the same of `capture`
+pub capture_alone : (rest : Words) → IsOneOf rest (ended []) → capture_seen rest ≡ ([], true)
+unfolding clap_on_literals
+capture_alone rest (inl e) = ap capture_seen e ∙ refl
+capture_alone rest (inr (inl e)) = ap capture_seen e ∙ refl
+capture_alone rest (inr (inr none)) = absurd none
+
 -- the same of `demo` with its option: both numbers are found too
 pub demo_with : (c s v : Text) → IsValue c → IsValue s → IsValue v → (rest : Words) (others : List Words) → IsOneOf rest (with_option (codes "--workers") v (c ∷ s ∷ []) ++ others)
     → IsDemoSeen c s (Some v) rest ⊎ IsOneOf rest others

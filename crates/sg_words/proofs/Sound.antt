@@ -13,7 +13,7 @@ use Rattle.sg_words.specs.Commands.{AreWordsOf, IsOneOf, IsWorkers, Text, Words,
 use Rattle.sg_words.specs.Grammar.{srtpgw}
 use Rattle.sg_words.specs.Reading.{alone_by, are, are_ended, command_by, demo_by, first_said, follows, have_option, is_joined, led_by, no_fault, positive, relay_by, said_by, text_in, workers_by}
 use Rattle.sg_words.specs.declared.command.Command.{Command}
-use Rattle.sg_words.specs.declared.command.Command.TheVariants.{Replay, Relay, Demo, Migrate}
+use Rattle.sg_words.specs.declared.command.Command.TheVariants.{Replay, Relay, Demo, Migrate, Capture}
 
 same : (a b : List ℕ) → bytes_eq a b ≡ true → a ≡ b
 same a b is = (bytes_eq-Decides a b).0 is
@@ -203,6 +203,11 @@ migrate_so ws c found =
     let p = alone_so ws Migrate c found in
     subst (AreWordsOf (codes "migrate" ∷ ws)) p.0 (tt, in_map (λ others. codes "migrate" ∷ others) ws (ended []) p.1)
 
+capture_so : (ws : Words) (c : Command) → alone_by Capture ws ≡ Some c → AreWordsOf (codes "capture" ∷ ws) c
+capture_so ws c found =
+    let p = alone_so ws Capture c found in
+    subst (AreWordsOf (codes "capture" ∷ ws)) p.0 (tt, in_map (λ others. codes "capture" ∷ others) ws (ended []) p.1)
+
 -- the command is that of this word, or of a later one
 module _ (name : Text) (ws : Words) (c : Command) where
   in_turn : (word : Text) (here others : Option Command) → (here ≡ Some c → AreWordsOf (word ∷ ws) c) → (others ≡ Some c → AreWordsOf (name ∷ ws) c) → cond (bytes_eq name word) here others ≡ Some c
@@ -218,7 +223,8 @@ module _ (name : Text) (ws : Words) (c : Command) where
       in_turn (codes "replay") _ _ (replay_at ws (text (codes "workers")) c (workers_by ws [] (text (codes "workers"))) refl)
       (in_turn (codes "relay") _ _ (relay_so ws (text (codes "turns")) c)
       (in_turn (codes "demo") _ _ (demo_so ws (text (codes "calls")) (text (codes "start")) (text (codes "workers")) c)
-      (in_turn (codes "migrate") _ _ (migrate_so ws c) (λ none. cc))))
+      (in_turn (codes "migrate") _ _ (migrate_so ws c)
+      (in_turn (codes "capture") _ _ (capture_so ws c) (λ none. cc)))))
 
 first_so : (words : Words) (text : Text → Option Text) (c : Command) → first_said words text ≡ Some c → AreWordsOf words c
 first_so [] text c found = absurd cc

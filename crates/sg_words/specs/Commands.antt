@@ -2,7 +2,7 @@
 use Rattle.std.specs.Prelude.{◌≡◌, ◌⊎◌, ◌≤◌, ◌<◌, ◌^◌, ◌==◌, ℕ, if◌then◌else◌, List, [], ◌∷◌, ◌++◌, codes, map, ⊤}
 use Rattle.std.specs.Fmt.{decimal}
 use Rattle.sg_words.specs.declared.command.Command.{Command}
-use Rattle.sg_words.specs.declared.command.Command.TheVariants.{Replay, Relay, Demo, Migrate}
+use Rattle.sg_words.specs.declared.command.Command.TheVariants.{Replay, Relay, Demo, Migrate, Capture}
 
 abbrev pub Text : Type 0
 Text = List ℕ
@@ -41,6 +41,7 @@ spellings (Relay turns) = map (λ others. codes "relay" ∷ others) (with_option
 spellings (Demo calls start workers) =
     map (λ others. codes "demo" ∷ others) (with_workers workers (decimal calls ∷ decimal start ∷ []))
 spellings Migrate = map (λ others. codes "migrate" ∷ others) (ended [])
+spellings Capture = map (λ others. codes "capture" ∷ others) (ended [])
 
 -- 1 to 16 workers
 abbrev pub IsWorkers : ℕ → Type 0
@@ -52,6 +53,7 @@ IsCommand (Replay workers) = IsWorkers workers
 IsCommand (Relay turns) = (1 ≤ turns) × (turns ≤ 1000000000)
 IsCommand (Demo calls start workers) = (1 ≤ calls) × (calls ≤ 256) × (start < 2 ^ 64) × IsWorkers workers
 IsCommand Migrate = ⊤
+IsCommand Capture = ⊤
 
 -- the words are in the list
 abbrev pub IsOneOf : Words → List Words → Type 0

@@ -6,7 +6,7 @@ use Rattle.sg_base.specs.Fields.{number_at}
 use Rattle.sg_words.specs.Commands.{Text, Words}
 use Rattle.sg_words.specs.Grammar.{srtpgw}
 use Rattle.sg_words.specs.declared.command.Command.{Command}
-use Rattle.sg_words.specs.declared.command.Command.TheVariants.{Replay, Relay, Demo, Migrate}
+use Rattle.sg_words.specs.declared.command.Command.TheVariants.{Replay, Relay, Demo, Migrate, Capture}
 
 -- there are no words
 abbrev pub are_none : Words → Bool
@@ -85,7 +85,8 @@ said_by name words text =
     if bytes_eq name (codes "replay") then replay_by words (text (codes "workers"))
     else (if bytes_eq name (codes "relay") then relay_by words (text (codes "turns"))
     else (if bytes_eq name (codes "demo") then demo_by words (text (codes "calls")) (text (codes "start")) (text (codes "workers"))
-    else (if bytes_eq name (codes "migrate") then alone_by Migrate words else None)))
+    else (if bytes_eq name (codes "migrate") then alone_by Migrate words
+    else (if bytes_eq name (codes "capture") then alone_by Capture words else None))))
 
 -- the first word is the command's name
 abbrev pub first_said : Words → (Text → Option Text) → Option Command

@@ -1,8 +1,8 @@
 //! Commands, and why words are none.
 
 /// What a command line asks for: to play a script with so many workers, to relay for so many turns at most,
-/// to show so many calls that begin with the words of a start, with so many workers, or to write a script of
-/// version 1 as one of version 2.
+/// to show so many calls that begin with the words of a start, with so many workers, to write a script of
+/// version 1 as one of version 2, or to play a script and the capture behind it.
 #[derive(Clone, Copy, Debug, PartialEq, Eq)]
 pub enum Command {
     Replay {
@@ -17,6 +17,7 @@ pub enum Command {
         workers: usize,
     },
     Migrate,
+    Capture,
 }
 
 /// Why no command was read.

@@ -66,6 +66,13 @@ fn migrate<'a>(alloc: Global) -> Command<'a>
     Command::new(alloc, "migrate")
 }
 
+fn capture<'a>(alloc: Global) -> Command<'a>
+    ensures shape { app_of result ≡ grammar.capture }
+    ensures local { (out-Command result).has_globals ≡ false }
+{
+    Command::new(alloc, "capture")
+}
+
 /// The words don't begin with the program's name, and a command is required.
 fn without_program<'a>(command: Command<'a>) -> Command<'a>
     ensures { app_of result ≡ grammar.whole_line (app_of command.entry) }
@@ -117,9 +124,17 @@ fn with_migrate<'a>(alloc: Global) -> Result<Command<'a>, AllocError>
     command.subcommand(migrate(alloc))
 }
 
+/// The same with `capture`, too.
+fn with_capture<'a>(alloc: Global) -> Result<Command<'a>, AllocError>
+    ensures { IfOk result (λ c. app_of c ≡ with_subcommand (with_subcommand (with_subcommand (with_subcommand (with_subcommand (new_app (codes "srtpgw")) grammar.replay.top) grammar.relay.top) grammar.demo.top) grammar.migrate.top) grammar.capture.top) }
+{
+    let command = with_migrate(alloc)?;
+    command.subcommand(capture(alloc))
+}
+
 /// The whole command line.
 pub(crate) fn command_line<'a>(alloc: Global) -> Result<Command<'a>, AllocError>
     ensures { IfOk result (λ c. app_of c ≡ grammar.srtpgw) }
 {
-    Ok(without_program(with_migrate(alloc)?))
+    Ok(without_program(with_capture(alloc)?))
 }

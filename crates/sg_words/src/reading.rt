@@ -142,6 +142,9 @@ fn said(words: &[String], matches: &ArgMatches<'_>) -> Option<Command>
     if is(name, "migrate") {
         return alone(words, Command::Migrate);
     }
+    if is(name, "capture") {
+        return alone(words, Command::Capture);
+    }
     None
 }
 
@@ -158,9 +161,9 @@ fn refused(kind: ErrorKind) -> CommandFault
 
 /// The command that the words after the program's name are, or `Usage` exactly where they are none.
 ///
-/// `replay [--workers W]`, `relay --turns T`, `demo CALLS START [--workers W]` and `migrate`. An option stands
-/// in front of the numbers, between or behind them, once at most, as `--workers 4` or `--workers=4`; a lone
-/// `--` says that none is behind it.
+/// `replay [--workers W]`, `relay --turns T`, `demo CALLS START [--workers W]`, `migrate` and `capture`. An
+/// option stands in front of the numbers, between or behind them, once at most, as `--workers 4` or
+/// `--workers=4`; a lone `--` says that none is behind it.
 pub fn read_command(alloc: Global, words: &[String]) -> Result<Command, CommandFault>
     ensures command { IfOk result (λ c. AreWordsOf (map string_bytes words.now) c) }
     ensures usage { result ≡ Err CommandFault.Usage → IsNoCommand (map string_bytes words.now) }
