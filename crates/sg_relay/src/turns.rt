@@ -66,7 +66,8 @@ pub(crate) fn arrive<K: Sink, L: Link>(
     }
 }
 
-/// Hands a moment on as a tick, where it is greater than all before. A tick that tells nothing is only that.
+/// Hands a moment on as a tick, where it is greater than all before. A tick that tells nothing makes no list of
+/// outcomes.
 fn tick<K: Sink, L: Link>(
     alloc: Global,
     table: &mut Table,
