@@ -1,6 +1,6 @@
-mod Alike
+pub mod Alike
 mod Completes
-mod Plays
+pub mod Plays
 mod Replays
 mod Tells
 mod Timely

@@ -1,0 +1,163 @@
+-- A script, and the capture behind it, make one run; and a run without a fault comes to its end.
+use Rattle.std.proofs.Common.{◌≡◌, ◌⊎◌, ◌+◌, ◌-◌, ◌≤◌, ◌^◌, ℕ, List, [], ◌∷◌, ◌++◌, length, map, drop, Option, Some, None, refl, sym, ap, ◌∙◌, subst, inl, inr, append_assoc, length-append, arith}
+use Rattle.std.proofs.Math.Seq.{drop-append_seam}
+use Rattle.std.proofs.lemmas.List.{append-nil}
+use Rattle.sg_base.specs.declared.faults.ScriptFault.{ScriptFault}
+use Rattle.sg_base.specs.declared.faults.ScriptFault.TheVariants.{Word, Number, Hex, Length, Version, Unended}
+use Rattle.sg_capture.proofs.Captureds.{captured_at}
+use Rattle.sg_capture.proofs.Outputs.{happens_events, happens_output, output_of-append}
+use Rattle.sg_capture.specs.Capturing.{Ends, IsBehindScript, IsCapture, IsComplete, IsFaultless, IsWhole}
+use Rattle.sg_capture.specs.Meeting.{EndsReading, all_behind}
+use Rattle.sg_edge.proofs.Links.{added_none}
+use Rattle.sg_edge.proofs.Passed.{took_more, took_none, wrote_more, wrote_none}
+use Rattle.sg_edge.specs.Told.{AtEnd, TookIn, Wrote}
+use Rattle.sg_gateway.specs.Runs.{world_after}
+use Rattle.sg_gateway.specs.Step.{Event}
+use Rattle.sg_gateway.specs.World.{World, empty}
+use Rattle.sg_pcap.specs.Capture.{Capture, capture_of}
+use Rattle.sg_pcap.specs.declared.faults.CaptureFault.{CaptureFault}
+use Rattle.sg_pcap.specs.declared.faults.CaptureFault.TheVariants as capture_faults
+use Rattle.sg_playback.specs.Replay.{Tellings}
+use Rattle.sg_trace.specs.Captured.{CaptureStop, CaptureTrace, Happens, InCapture, InScript, Occurrence, after_script, capture_occurs, captured, events_in, output_of, then_capture}
+use Rattle.sg_trace.specs.Output.{IsPrefixOf, output}
+use Rattle.sg_trace.specs.Reading.{Reading}
+use Rattle.sg_trace.specs.Trace.{AtCapture, AtFault, Trace, drawing, stopped, with_events}
+use Rattle.sg_trace.specs.declared.status.Status.{Status}
+use Rattle.sg_trace.specs.declared.status.Status.TheVariants as statuses
+
+module _ (old mid new : Tellings) (script : Reading) (stands_for : World → Type 0) (octets draws out : List ℕ) (so_far : IsBehindScript old mid script stands_for octets draws out)
+    (got out' : List ℕ) (took : TookIn mid.left new.left got) (wrote : Wrote mid.written new.written out') (drawn : new.drawn ≡ mid.drawn) (few : length got ≤ script.budget)
+    (last : ℕ) (moment : last ≡ (world_after empty so_far.events).moment) where
+  abbrev most : ℕ
+  most = 2 ^ 30 - script.offset
+
+  abbrev script_trace : Trace
+  script_trace = with_events so_far.events (stopped (AtCapture script.offset) (drawing []))
+
+  -- what these octets behind the lines give
+  captured_is : (rest : List ℕ) → captured (so_far.lines ++ rest) draws ≡ then_capture script_trace (capture_of most rest)
+  captured_is rest =
+      captured_at (so_far.lines ++ rest) draws script_trace (so_far.goes rest)
+      ∙ ap (λ (l : List ℕ). then_capture script_trace (capture_of most l)) (ap (λ (n : ℕ). drop n (so_far.lines ++ rest)) (sym so_far.size) ∙ drop-append_seam so_far.lines rest)
+
+  told_so : (rest : List ℕ) → output_of empty (captured (so_far.lines ++ rest) draws).occurrences ≡ output so_far.events ++ output_of (world_after empty so_far.events) (all_behind [] last (capture_of most rest))
+  told_so rest =
+      let records = (capture_of most rest).records in
+      ap (λ (t : CaptureTrace). output_of empty t.occurrences) (captured_is rest)
+      ∙ ap (λ (es : List Event). output_of empty (map Happens es ++ capture_occurs (world_after empty es).moment records)) (append-nil so_far.events)
+      ∙ ap (λ (m : ℕ). output_of empty (map Happens so_far.events ++ capture_occurs m records)) (sym moment)
+      ∙ output_of-append empty (map Happens so_far.events) (capture_occurs last records)
+      ∙ (λ i. happens_output empty so_far.events i ++ output_of (world_after empty (happens_events so_far.events i)) (capture_occurs last records))
+
+  all_octets : octets ++ got ≡ so_far.lines ++ (script.waits ++ got)
+  all_octets = ap (λ (l : List ℕ). l ++ got) so_far.split ∙ append_assoc so_far.lines script.waits got
+
+  whole_so : (fault : Option (ℕ × CaptureFault)) → (capture_of most (script.waits ++ got)).fault ≡ fault → out' ≡ output_of (world_after empty so_far.events) (all_behind [] last (capture_of most (script.waits ++ got)))
+      → IsWhole (octets ++ got) draws (out ++ out') (InCapture fault)
+  whole_so fault is told =
+      subst (λ (o : List ℕ). IsWhole o draws (out ++ out') (InCapture fault)) (sym all_octets)
+      (record {
+        stops = ap (λ (t : CaptureTrace). t.stop) (captured_is (script.waits ++ got)) ∙ ap InCapture is;
+        left = ap (λ (t : CaptureTrace). t.left) (captured_is (script.waits ++ got));
+        told = (λ i. so_far.told i ++ told i) ∙ sym (told_so (script.waits ++ got));
+      })
+
+  prefix_so : IsPrefixOf out' (output_of (world_after empty so_far.events) (all_behind [] last (capture_of most (script.waits ++ got)))) → IsPrefixOf (out ++ out') (output_of empty (captured (octets ++ got) draws).occurrences)
+  prefix_so part = (
+    part.0,
+    ap (λ (o : List ℕ). output_of empty (captured o draws).occurrences) all_octets ∙ told_so (script.waits ++ got) ∙ (λ i. sym so_far.told i ++ part.1 i) ∙ sym (append_assoc out out' part.0),
+  )
+
+  ends_so : (status : Status) → EndsReading status (world_after empty so_far.events) [] last (capture_of most) (script.waits ++ got) out' new.left → Ends status (octets ++ got) draws (out ++ out') new.left
+  ends_so statuses.Done ends = (inr (whole_so None ends.1 ends.0), ends.2)
+  ends_so (statuses.Capture offset fault) ends = (
+    whole_so (Some (offset, fault)) ends.is ends.told,
+    ends.ended,
+    λ other more.
+        ap (λ (o : List ℕ). (captured o draws).stop) (ap (λ (l : List ℕ). l ++ more) all_octets ∙ append_assoc so_far.lines (script.waits ++ got) more)
+        ∙ ap (λ (t : CaptureTrace). t.stop) (captured_is ((script.waits ++ got) ++ more)) ∙ ap InCapture (ends.still other more),
+  )
+  ends_so statuses.Read ends = prefix_so ends
+  ends_so statuses.Write ends = prefix_so ends
+  ends_so statuses.NoMemory ends = prefix_so ends
+  ends_so statuses.Usage ends = absurd ends
+  ends_so (statuses.Script n fault) ends = absurd ends
+  ends_so statuses.Link ends = absurd ends
+  ends_so statuses.Clock ends = absurd ends
+  ends_so statuses.Noise ends = absurd ends
+  ends_so statuses.TurnsSpent ends = absurd ends
+
+  pub composed : (status : Status) → EndsReading status (world_after empty so_far.events) [] last (capture_of most) (script.waits ++ got) out' new.left → IsCapture status old new (octets ++ got) draws (out ++ out')
+  composed status ends =
+      let room = so_far.room in record {
+        took = took_more old.left mid.left new.left octets got so_far.took took;
+        drew = subst (λ (d : Option (List ℕ)). Rattle.sg_edge.specs.Links.Added old.drawn d draws) (sym drawn) so_far.drew;
+        wrote = wrote_more old.written mid.written new.written out out' so_far.wrote wrote;
+        ends = ends_so status ends;
+        bound = omega (arith, room, few, length-append octets got);
+      }
+
+-- nothing of the script's noise is drawn by a capture
+pub ends_not_noise : (status : Status) (w : World) (waited : List Event) (last : ℕ) (reads : List ℕ → Capture) (octets out : List ℕ) (left : Option (List ℕ)) → EndsReading status w waited last reads octets out left → status ≡ statuses.Noise → ⊥
+ends_not_noise status w waited last reads octets out left ends same = subst (λ s. EndsReading s w waited last reads octets out left) same ends
+
+-- ---- where nothing fails
+
+none_left : (left : Option (List ℕ)) (rest : List ℕ) → AtEnd left → left ≡ Some rest → rest ≡ []
+none_left None rest end is = cc
+none_left (Some l) rest end is = let same : l ≡ rest = cc in sym same ∙ end
+
+script_either : (f : ScriptFault) → (f ≡ Unended) ⊎ (¬ (f ≡ Unended))
+script_either Unended = inl refl
+script_either Word = inr (λ is. cc)
+script_either Number = inr (λ is. cc)
+script_either Hex = inr (λ is. cc)
+script_either Length = inr (λ is. cc)
+script_either Version = inr (λ is. cc)
+
+capture_either : (f : CaptureFault) → (f ≡ capture_faults.Cut) ⊎ (¬ (f ≡ capture_faults.Cut))
+capture_either capture_faults.Cut = inl refl
+capture_either capture_faults.Magic = inr (λ is. cc)
+capture_either capture_faults.Version = inr (λ is. cc)
+capture_either capture_faults.LinkType = inr (λ is. cc)
+capture_either capture_faults.Length = inr (λ is. cc)
+
+-- a trace that stops so for the octets read stops so for all octets
+stops_all : {E : Type 0} (left left' : Option (List ℕ)) (octets all rest draws : List ℕ) (stop : CaptureStop) (last : E) (at : E) → TookIn left left' octets → left ≡ Some all → left' ≡ Some rest → (captured octets draws).stop ≡ stop
+    → (at ≡ last) ⊎ (¬ (at ≡ last)) → (at ≡ last → AtEnd left') → (¬ (at ≡ last) → (more : List ℕ) → (captured (octets ++ more) draws).stop ≡ stop) → (captured all draws).stop ≡ stop
+stops_all left left' octets all rest draws stop last at took told told' here which ended still =
+    let same : all ≡ octets ++ rest = (let both : Some all ≡ Some (octets ++ rest) = sym told ∙ took rest told' in cc) in
+    elim which [
+      | inl end ↦
+          (let none : octets ++ rest ≡ octets = ap (λ (l : List ℕ). octets ++ l) (none_left left' rest (ended end) told') ∙ append-nil octets in
+          ap (λ (o : List ℕ). (captured o draws).stop) (same ∙ none) ∙ here)
+      | inr other ↦ ap (λ (o : List ℕ). (captured o draws).stop) same ∙ still other rest
+    ]
+
+pub complete : (status : Status) (old new : Tellings) (octets draws out : List ℕ) → IsCapture status old new octets draws out
+    → (status ≡ statuses.Read → ⊥) → (status ≡ statuses.Write → ⊥) → (status ≡ statuses.Noise → ⊥) → IsComplete status old.left new.left
+complete statuses.Done old new octets draws out run a b c = λ all rest told told' none. inl refl
+complete statuses.NoMemory old new octets draws out run a b c = λ all rest told told' none. inr refl
+complete (statuses.Script n fault) old new octets draws out run a b c = λ all rest told told' none.
+    let ends = run.ends in
+    absurd (none.script draws n fault (stops_all old.left new.left octets all rest draws (InScript (AtFault n fault)) Unended fault run.took told told' ends.0.stops (script_either fault) ends.1 ends.2))
+complete (statuses.Capture offset fault) old new octets draws out run a b c = λ all rest told told' none.
+    let ends = run.ends in
+    absurd (none.capture draws (offset, fault) (stops_all old.left new.left octets all rest draws (InCapture (Some (offset, fault))) capture_faults.Cut fault run.took told told' ends.0.stops (capture_either fault) ends.1 ends.2))
+complete statuses.Read old new octets draws out run a b c = absurd (a refl)
+complete statuses.Write old new octets draws out run a b c = absurd (b refl)
+complete statuses.Noise old new octets draws out run a b c = absurd (c refl)
+complete statuses.Usage old new octets draws out run a b c = absurd run.ends
+complete statuses.Link old new octets draws out run a b c = absurd run.ends
+complete statuses.Clock old new octets draws out run a b c = absurd run.ends
+complete statuses.TurnsSpent old new octets draws out run a b c = absurd run.ends
+
+-- nothing was done
+pub untouched : (old : Tellings) → IsCapture statuses.NoMemory old old [] [] []
+untouched old = record {
+  took = took_none old.left;
+  drew = added_none old.drawn;
+  wrote = wrote_none old.written;
+  ends = (output_of empty (captured [] []).occurrences, refl);
+  bound = omega arith;
+}

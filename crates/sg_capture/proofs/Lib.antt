@@ -1,0 +1,6 @@
+mod Captureds
+mod Compositions
+mod Meets
+mod Outputs
+mod Readings
+mod Scripts

@@ -1,0 +1,71 @@
+use Rattle.std.proofs.Common.{rules, ◌≡◌, ◌∙◌, ◌≤◌, ◌-◌, ◌^◌, ◌++◌, ℕ, List, [], length, map, Result, Ok, Err, refl, sym, ap, subst, arith}
+use Rattle.sg_capture.proofs.Compositions.{composed, ends_not_noise}
+use Rattle.sg_capture.specs.Meeting.{EndsReading}
+use Rattle.sg_gateway.specs.Runs.{world_after}
+use Rattle.sg_gateway.specs.Step.{Event}
+use Rattle.sg_gateway.specs.World.{World, empty}
+use Rattle.sg_pcap.specs.Capture.{capture_of}
+use Rattle.sg_playback.specs.Playing.{waiting}
+use Rattle.sg_table.specs.Batches.{arrived}
+use Rattle.sg_table.specs.Standing.{TableStandsFor}
+use Rattle.sg_trace.proofs.Causes.{failed_as, failed_now, not_failed, ok_not}
+use Rattle.sg_trace.specs.CaptureReading.{Capturing}
+use Rattle.sg_trace.specs.declared.status.Status.{Status}
+use Rattle.sg_trace.specs.declared.status.Status.TheVariants.{Noise}
+use Rattle.sg_capture.proofs.capturing.play_source.Goals as goal
+
+err_so : (a b : Status) → (let r : Result (Unit {0}) Status = Err a in r ≡ Err b) → a ≡ b
+err_so a b is = cc
+
+pub returns-in-Err-clause-ran : goal.returns-in-Err-clause-ran
+returns-in-Err-clause-ran g c = let ran = c.in-Err.ensures.ran in (ran.0, ran.1, ran.2, ran.3)
+
+pub returns-in-Err-clause-read : goal.returns-in-Err-clause-read
+returns-in-Err-clause-read g c = failed_as _ _ _ _ _ (λ is. ap Err is) (λ is. err_so _ _ is) c.in-Err.ensures.read
+
+pub returns-in-Err-clause-write : goal.returns-in-Err-clause-write
+returns-in-Err-clause-write g c = failed_as _ _ _ _ _ (λ is. ap Err is) (λ is. err_so _ _ is) c.in-Err.ensures.write
+
+pub returns-in-Err-clause-noise : goal.returns-in-Err-clause-noise
+returns-in-Err-clause-noise g c = failed_as _ _ _ _ _ (λ is. ap Err is) (λ is. err_so _ _ is) c.in-Err.ensures.noise
+
+pub new-reader-requires : goal.new-reader-requires
+new-reader-requires g c = c.in-Ok.ensures.ran.3.within
+
+pub play_capture-requires-clause-stands : goal.play_capture-requires-clause-stands
+play_capture-requires-clause-stands g c = λ bounds outlives. (let so_far = c.in-Ok.ensures.ran.3 in (world_after empty so_far.events, so_far.stands))
+
+pub returns-in-Ok-clause-ran : goal.returns-in-Ok-clause-ran
+returns-in-Ok-clause-ran g c =
+    let ran = c.in-Ok.ensures.ran in
+    let so_far = ran.3 in
+    let w : World = world_after empty so_far.events in
+    let then = c.play_capture.ensures.ran in
+    let r = then.3 w so_far.stands in
+    let left = g.S.Source.left c.play_capture.new.source in
+    let script = c.play_lines.new.script in
+    let last : ℕ = c.play_lines.new.player.table.moment in
+    let none : waiting c.play_lines.new.player ≡ [] = ap (map arrived) c.in-Ok.ensures.none in
+    let ends : EndsReading c.play_capture.result w [] last (capture_of (2 ^ 30 - script.offset)) (script.waits ++ then.0) r.0 left =
+    subst (λ (v : Capturing). EndsReading c.play_capture.result w [] last (capture_of v.most) (v.waits ++ then.0) r.0 left) c.new-reader.ensures
+    (subst (λ (es : List Event). EndsReading c.play_capture.result w es last (capture_of c.new-reader.result.most) (c.new-reader.result.waits ++ then.0) r.0 left) none r.2) in
+    let few : length then.0 ≤ script.budget = omega (arith, then.2, ap (λ (v : Capturing). v.budget) c.new-reader.ensures) in (
+      ran.0 ++ then.0,
+      ran.1,
+      ran.2 ++ r.0,
+      composed _ _ (record { left = left; written = g.K.Sink.written c.play_capture.new.sink; drawn = g.N.Noise.given c.play_lines.new.noise }) script (TableStandsFor c.play_lines.new.player.table) ran.0 ran.1 ran.2 so_far
+          then.0 r.0 then.1 r.1 refl few last (sym so_far.stands.holds.moment_is) c.play_capture.result ends,
+    )
+
+pub returns-in-Ok-clause-read : goal.returns-in-Ok-clause-read
+returns-in-Ok-clause-read g c = failed_now _ _ _ _ _ (c.in-Ok.ensures.read.quiet (λ is. ok_not _ _ is)) c.play_capture.ensures.read
+
+pub returns-in-Ok-clause-write : goal.returns-in-Ok-clause-write
+returns-in-Ok-clause-write g c = failed_now _ _ _ _ _ (c.in-Ok.ensures.write.quiet (λ is. ok_not _ _ is)) c.play_capture.ensures.write
+
+pub returns-in-Ok-clause-noise : goal.returns-in-Ok-clause-noise
+returns-in-Ok-clause-noise g c =
+    let so_far = c.in-Ok.ensures.ran.3 in
+    let then = c.play_capture.ensures.ran in
+    let r = then.3 (world_after empty so_far.events) so_far.stands in
+    not_failed _ _ _ _ (c.in-Ok.ensures.noise.quiet (λ is. ok_not _ _ is)) (ends_not_noise c.play_capture.result _ _ _ _ _ r.0 _ r.2)

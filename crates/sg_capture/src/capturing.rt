@@ -1,0 +1,118 @@
+//! The command `capture`: the lines of a script, and then a capture.
+
+ghost use Rattle.std.specs.Prelude.{◌≡◌, ◌≤◌, ◌+◌, ◌^◌, ℕ, List, [], OnOk};
+ghost use Rattle.sg_capture.specs.Capturing.{IsCapture, IsComplete, IsScriptPlayed};
+ghost use Rattle.sg_edge.specs.Told.{Rose};
+ghost use Rattle.sg_gateway.specs.World.{empty};
+ghost use Rattle.sg_table.specs.Standing.{TableStandsFor};
+ghost use Rattle.sg_trace.specs.Causes.{HasFailed, IsCaused};
+
+use crate::records::play_capture;
+use sg_base::NoMemory;
+use sg_edge::{Noise, Sink, Source};
+use sg_lanes::Gate;
+use sg_playback::Player;
+use sg_trace::{CaptureReader, Found, ScriptReader, Status};
+use std::alloc::Global;
+use std::thread::Threads;
+
+/// Plays the script of the source, and then the capture behind its line `capture`: its UDP datagrams at the moments of
+/// their records, the first of which has the script's last moment. What they tell is written to the sink, with a line for
+/// each record whose datagram can't be had. Without that line it is a replay by one worker.
+pub fn capture<R: Threads + Sync, S: Source, K: Sink, N: Noise, G: Gate + Sync>(
+    rt: &R,
+    alloc: Global,
+    source: &mut S,
+    sink: &mut K,
+    noise: &mut N,
+    gate: &G,
+) -> Status
+    ensures ran { (octets draws out : List ℕ)
+        × IsCapture result
+        (record { left = S.left source.old; written = K.written sink.old; drawn = N.given noise.old })
+        (record { left = S.left source.new; written = K.written sink.new; drawn = N.given noise.new })
+        octets draws out }
+    ensures given { S.given source.new ≤ S.given source.old + (2 ^ 30 + 1) }
+    ensures read { HasFailed (result ≡ Status.Read) (S.faults source.old) (S.faults source.new) (S.failed source.new) }
+    ensures write { HasFailed (result ≡ Status.Write) (K.faults sink.old) (K.faults sink.new) (K.failed sink.new) }
+    ensures noise { HasFailed (result ≡ Status.Noise) (N.faults noise.old) (N.faults noise.new) (N.failed noise.new) }
+    ensures complete { ¬ Rose (S.faults source.old) (S.faults source.new) → ¬ Rose (K.faults sink.old) (K.faults sink.new) → ¬ Rose (N.faults noise.old) (N.faults noise.new)
+        → IsComplete result (S.left source.old) (S.left source.new) }
+{
+    match Player::make(alloc, 1) {
+        Err(NoMemory) => Status::NoMemory,
+        Ok(mut player) => play_source(rt, alloc, &mut player, source, sink, noise, gate),
+    }
+}
+
+/// The same by a player whose table is empty.
+fn play_source<R: Threads + Sync, S: Source, K: Sink, N: Noise, G: Gate + Sync>(
+    rt: &R,
+    alloc: Global,
+    player: &mut Player,
+    source: &mut S,
+    sink: &mut K,
+    noise: &mut N,
+    gate: &G,
+) -> Status
+    requires table { TableStandsFor player.old.table empty }
+    requires waits { player.old.waits ≡ [] }
+    ensures ran { (octets draws out : List ℕ)
+        × IsCapture result
+        (record { left = S.left source.old; written = K.written sink.old; drawn = N.given noise.old })
+        (record { left = S.left source.new; written = K.written sink.new; drawn = N.given noise.new })
+        octets draws out }
+    ensures given { S.given source.new ≤ S.given source.old + (2 ^ 30 + 1) }
+    ensures read { HasFailed (result ≡ Status.Read) (S.faults source.old) (S.faults source.new) (S.failed source.new) }
+    ensures write { HasFailed (result ≡ Status.Write) (K.faults sink.old) (K.faults sink.new) (K.failed sink.new) }
+    ensures noise { HasFailed (result ≡ Status.Noise) (N.faults noise.old) (N.faults noise.new) (N.failed noise.new) }
+{
+    let mut script = ScriptReader::new(alloc);
+    match play_lines(rt, alloc, player, &mut script, source, sink, noise, gate) {
+        Err(status) => status,
+        Ok(()) => {
+            let mut reader = CaptureReader::new(alloc, script);
+            play_capture(rt, alloc, player, &mut reader, source, sink, gate)
+        }
+    }
+}
+
+/// Plays the lines up to the one behind which the capture begins, and tells all of them; the status of the run where it
+/// ends before.
+fn play_lines<R: Threads + Sync, S: Source, K: Sink, N: Noise, G: Gate + Sync>(
+    rt: &R,
+    alloc: Global,
+    player: &mut Player,
+    script: &mut ScriptReader,
+    source: &mut S,
+    sink: &mut K,
+    noise: &mut N,
+    gate: &G,
+) -> Result<(), Status>
+    requires table { TableStandsFor player.old.table empty }
+    requires waits { player.old.waits ≡ [] }
+    requires start { script.old ≡ record { waits = []; version = 1; number = 1; offset = 0; budget = 2 ^ 30 + 1 } }
+    ensures ran { (octets draws out : List ℕ)
+        × IsScriptPlayed result
+        (record { left = S.left source.old; written = K.written sink.old; drawn = N.given noise.old })
+        (record { left = S.left source.new; written = K.written sink.new; drawn = N.given noise.new })
+        script.new (TableStandsFor player.new.table) octets draws out }
+    ensures none { OnOk result (player.new.waits ≡ []) }
+    ensures given { S.given source.new + script.new.budget ≤ S.given source.old + (2 ^ 30 + 1) }
+    ensures read { IsCaused Status.Read result (S.faults source.old) (S.faults source.new) (S.failed source.new) }
+    ensures write { IsCaused Status.Write result (K.faults sink.old) (K.faults sink.new) (K.failed sink.new) }
+    ensures noise { IsCaused Status.Noise result (N.faults noise.old) (N.faults noise.new) (N.failed noise.new) }
+{
+    'lines: loop {
+        let line = match script.next_or_capture(alloc, source) {
+            Err(status) => return Err(player.close(rt, alloc, status, sink, gate)),
+            Ok(Found::End) => return Err(player.close(rt, alloc, Status::Done, sink, gate)),
+            Ok(Found::Capture) => return player.settle(rt, alloc, sink, gate),
+            Ok(Found::Line(line)) => line,
+        };
+        match player.play(rt, alloc, line, sink, noise, gate) {
+            Err(status) => return Err(status),
+            Ok(()) => {}
+        }
+    }
+}

@@ -1,0 +1,9 @@
+//! The command `capture`: a script is played, and then the datagrams of the capture behind it.
+#![tactic(auto)]
+
+mod capturing;
+mod frames;
+mod progress;
+mod records;
+
+pub use capturing::capture;

@@ -1,0 +1,121 @@
+//! The records of a capture, in order.
+
+ghost use Rattle.std.specs.Prelude.{◌≡◌, ◌≤◌, ◌<◌, ◌+◌, ◌^◌, ◌++◌, ℕ, List, length};
+ghost use Rattle.sg_capture.specs.Meeting.{EndsReading, IsMet, first_of, record_occurs};
+ghost use Rattle.sg_edge.specs.Told.{TookIn, Wrote};
+ghost use Rattle.sg_gateway.specs.World.{World};
+ghost use Rattle.sg_pcap.specs.Capture.{capture_of, records_in};
+ghost use Rattle.sg_playback.specs.Playing.{waiting};
+ghost use Rattle.sg_table.specs.Standing.{TableStandsFor};
+ghost use Rattle.sg_trace.specs.Causes.{HasFailed, IsCaused};
+
+use crate::frames::{come_to, play_frame};
+use crate::progress::Progress;
+use sg_edge::{Sink, Source};
+use sg_lanes::Gate;
+use sg_pcap::Form;
+use sg_playback::Player;
+use sg_trace::{CaptureReader, Status};
+use std::alloc::Global;
+use std::thread::Threads;
+
+/// Plays a capture, of which nothing was read, to its end or its first fault.
+pub(crate) fn play_capture<R: Threads + Sync, S: Source, K: Sink, G: Gate + Sync>(
+    rt: &R,
+    alloc: Global,
+    player: &mut Player,
+    reader: &mut CaptureReader,
+    source: &mut S,
+    sink: &mut K,
+    gate: &G,
+) -> Status
+    requires stands { (w : World) × TableStandsFor player.old.table w }
+    requires start { reader.old.at ≡ 0 }
+    requires most { reader.old.most ≤ 2 ^ 30 }
+    ensures ran { (got : List ℕ) × TookIn (S.left source.old) (S.left source.new) got × (length got ≤ reader.old.budget)
+        × ((w : World) → TableStandsFor player.old.table w → (out : List ℕ) × Wrote (K.written sink.old) (K.written sink.new) out
+        × EndsReading result w (waiting player.old) player.old.table.moment (capture_of reader.old.most) (reader.old.waits ++ got) out (S.left source.new)) }
+    ensures given { S.given source.new ≤ S.given source.old + reader.old.budget }
+    ensures read { HasFailed (result ≡ Status.Read) (S.faults source.old) (S.faults source.new) (S.failed source.new) }
+    ensures write { HasFailed (result ≡ Status.Write) (K.faults sink.old) (K.faults sink.new) (K.failed sink.new) }
+{
+    match reader.header(source) {
+        Err(status) => player.close(rt, alloc, status, sink, gate),
+        Ok(form) => play_records(rt, alloc, player, reader, form, source, sink, gate),
+    }
+}
+
+/// Plays the records that come next.
+fn play_records<R: Threads + Sync, S: Source, K: Sink, G: Gate + Sync>(
+    rt: &R,
+    alloc: Global,
+    player: &mut Player,
+    reader: &mut CaptureReader,
+    form: Form,
+    source: &mut S,
+    sink: &mut K,
+    gate: &G,
+) -> Status
+    requires stands { (w : World) × TableStandsFor player.old.table w }
+    requires start { 1 ≤ reader.old.at }
+    requires within { reader.old.at ≤ reader.old.most }
+    requires most { reader.old.most ≤ 2 ^ 30 }
+    ensures ran { (got : List ℕ) × TookIn (S.left source.old) (S.left source.new) got × (length got ≤ reader.old.budget)
+        × ((w : World) → TableStandsFor player.old.table w → (out : List ℕ) × Wrote (K.written sink.old) (K.written sink.new) out
+        × EndsReading result w (waiting player.old) player.old.table.moment (records_in reader.old.most form reader.old.at) (reader.old.waits ++ got) out (S.left source.new)) }
+    ensures given { S.given source.new ≤ S.given source.old + reader.old.budget }
+    ensures read { HasFailed (result ≡ Status.Read) (S.faults source.old) (S.faults source.new) (S.failed source.new) }
+    ensures write { HasFailed (result ≡ Status.Write) (K.faults sink.old) (K.faults sink.new) (K.failed sink.new) }
+{
+    let last = player.moment();
+    let mut progress = Progress {
+        last,
+        first: None,
+        top: last,
+        number: 1,
+    };
+    'records: loop {
+        let record = match reader.next(source, form) {
+            Err(status) => return player.close(rt, alloc, status, sink, gate),
+            Ok(None) => return player.close(rt, alloc, Status::Done, sink, gate),
+            Ok(Some(record)) => record,
+        };
+        match play_record(
+            rt,
+            alloc,
+            player,
+            progress,
+            record.millis,
+            reader.frame(),
+            sink,
+            gate,
+        ) {
+            Err(status) => return status,
+            Ok(()) => {}
+        }
+        progress = progress.after(record.millis);
+    }
+}
+
+/// Plays the next record: its tick, and then what its frame gives.
+fn play_record<R: Threads + Sync, K: Sink, G: Gate + Sync>(
+    rt: &R,
+    alloc: Global,
+    player: &mut Player,
+    progress: Progress,
+    millis: u64,
+    frame: &[u8],
+    sink: &mut K,
+    gate: &G,
+) -> Result<(), Status>
+    ensures met { (w : World) → TableStandsFor player.old.table w → (out : List ℕ) × Wrote (K.written sink.old) (K.written sink.new) out
+        × IsMet result w (waiting player.old) (waiting player.new) (record_occurs progress.last (first_of progress.first millis) progress.top progress.number (record { millis = millis; frame = frame.now })) (TableStandsFor player.new.table) out }
+    ensures write { IsCaused Status.Write result (K.faults sink.old) (K.faults sink.new) (K.failed sink.new) }
+{
+    let moment = progress.moment_of(millis);
+    match come_to(rt, alloc, player, progress.top, moment, sink, gate) {
+        Err(status) => return Err(status),
+        Ok(()) => {}
+    }
+    play_frame(rt, alloc, player, progress.number, frame, sink, gate)
+}
