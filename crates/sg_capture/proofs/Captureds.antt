@@ -1,11 +1,10 @@
 -- The trace of a run, from the trace of its script.
-use Rattle.std.proofs.Common.{◌≡◌, ℕ, List, [], ◌++◌, map, Option, refl, sym, ap, ◌∙◌, append_assoc}
+use Rattle.std.proofs.Common.{◌≡◌, ℕ, List, [], ◌++◌, map, sym, ap, ◌∙◌, append_assoc}
 use Rattle.std.proofs.lemmas.List.{append-nil}
-use Rattle.sg_base.specs.declared.faults.ScriptFault.{ScriptFault}
-use Rattle.sg_capture.proofs.Outputs.{happens_events, happens_output, output_of-append}
+use Rattle.sg_capture.proofs.Outputs.{happens_output, output_of-append}
 use Rattle.sg_gateway.specs.Runs.{world_after}
 use Rattle.sg_gateway.specs.World.{empty}
-use Rattle.sg_trace.specs.Captured.{CaptureTrace, Happens, after_script, capture_occurs, captured, events_in, output_of, script_of}
+use Rattle.sg_trace.specs.Captured.{Happens, after_script, capture_occurs, captured, events_in, output_of, script_of}
 use Rattle.sg_trace.specs.Output.{IsPrefixOf, output}
 use Rattle.sg_trace.specs.Trace.{AtCapture, AtEnd, AtFault, ForDraw, ForReading, ForReceive, Stop, Trace}
 use Rattle.sg_pcap.specs.Capture.{capture_of}

@@ -1,12 +1,12 @@
 -- A script, and the capture behind it, make one run; and a run without a fault comes to its end.
-use Rattle.std.proofs.Common.{◌≡◌, ◌⊎◌, ◌+◌, ◌-◌, ◌≤◌, ◌^◌, ℕ, List, [], ◌∷◌, ◌++◌, length, map, drop, Option, Some, None, refl, sym, ap, ◌∙◌, subst, inl, inr, append_assoc, length-append, arith}
+use Rattle.std.proofs.Common.{◌≡◌, ◌⊎◌, ◌-◌, ◌≤◌, ◌^◌, ℕ, List, [], ◌++◌, length, map, drop, Option, Some, None, refl, sym, ap, ◌∙◌, subst, inl, inr, append_assoc, length-append, arith}
 use Rattle.std.proofs.Math.Seq.{drop-append_seam}
 use Rattle.std.proofs.lemmas.List.{append-nil}
 use Rattle.sg_base.specs.declared.faults.ScriptFault.{ScriptFault}
 use Rattle.sg_base.specs.declared.faults.ScriptFault.TheVariants.{Word, Number, Hex, Length, Version, Unended}
 use Rattle.sg_capture.proofs.Captureds.{captured_at}
 use Rattle.sg_capture.proofs.Outputs.{happens_events, happens_output, output_of-append}
-use Rattle.sg_capture.specs.Capturing.{Ends, IsBehindScript, IsCapture, IsComplete, IsFaultless, IsWhole}
+use Rattle.sg_capture.specs.Capturing.{Ends, IsBehindScript, IsCapture, IsComplete, IsWhole}
 use Rattle.sg_capture.specs.Meeting.{EndsReading, all_behind}
 use Rattle.sg_edge.proofs.Links.{added_none}
 use Rattle.sg_edge.proofs.Passed.{took_more, took_none, wrote_more, wrote_none}
@@ -18,7 +18,7 @@ use Rattle.sg_pcap.specs.Capture.{Capture, capture_of}
 use Rattle.sg_pcap.specs.declared.faults.CaptureFault.{CaptureFault}
 use Rattle.sg_pcap.specs.declared.faults.CaptureFault.TheVariants as capture_faults
 use Rattle.sg_playback.specs.Replay.{Tellings}
-use Rattle.sg_trace.specs.Captured.{CaptureStop, CaptureTrace, Happens, InCapture, InScript, Occurrence, after_script, capture_occurs, captured, events_in, output_of, then_capture}
+use Rattle.sg_trace.specs.Captured.{CaptureStop, CaptureTrace, Happens, InCapture, InScript, capture_occurs, captured, output_of, then_capture}
 use Rattle.sg_trace.specs.Output.{IsPrefixOf, output}
 use Rattle.sg_trace.specs.Reading.{Reading}
 use Rattle.sg_trace.specs.Trace.{AtCapture, AtFault, Trace, drawing, stopped, with_events}

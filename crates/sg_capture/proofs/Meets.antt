@@ -1,12 +1,11 @@
 -- How what a record gives is handled, part by part.
-use Rattle.std.proofs.Common.{◌≡◌, ◌⊎◌, ◌≤◌, ◌<◌, ℕ, ltb, List, [], ◌∷◌, ◌++◌, length, take, map, Option, Result, Ok, Err, refl, sym, ap, ◌∙◌, subst, inl, inr, append_assoc, arith}
+use Rattle.std.proofs.Common.{◌≡◌, ◌≤◌, ◌<◌, ℕ, ltb, List, [], ◌∷◌, ◌++◌, length, take, map, Option, Result, Ok, Err, refl, sym, ap, ◌∙◌, subst, inl, inr, append_assoc, arith}
 use Rattle.std.specs.Prelude.{min}
 use Rattle.std.proofs.Math.Seq.{take-length}
 use Rattle.std.proofs.lemmas.Bool.{cases_lt, cond-false, cond-true, le-ltb, lt-ltb}
 use Rattle.std.proofs.lemmas.List.{append-nil, take_all}
 use Rattle.sg_capture.proofs.Outputs.{events_in-append, happens-append, happens_events, happens_output, output_of-append}
 use Rattle.sg_capture.specs.Meeting.{IsMet, IsToldOf}
-use Rattle.sg_edge.proofs.Passed.{wrote_more}
 use Rattle.sg_edge.specs.Told.{Wrote}
 use Rattle.sg_gateway.specs.Runs.{world_after}
 use Rattle.sg_gateway.specs.Signals.{Tick}
@@ -18,7 +17,7 @@ use Rattle.sg_playback.proofs.Plays.{stepped_prefix}
 use Rattle.sg_playback.specs.Playing.{HasRoom, IsSettled, IsStepped, IsWant}
 use Rattle.sg_trace.proofs.Traces.{world_after-append}
 use Rattle.sg_trace.specs.Captured.{Happens, Occurrence, Skipped, events_in, output_of}
-use Rattle.sg_trace.specs.Output.{IsPrefixOf, IsWritten, output_from}
+use Rattle.sg_trace.specs.Output.{IsPrefixOf, IsWritten}
 use Rattle.sg_trace.specs.Trace.{ticks_at}
 use Rattle.sg_trace.specs.declared.status.Status.{Status}
 use Rattle.sg_trace.specs.declared.status.Status.TheVariants as statuses

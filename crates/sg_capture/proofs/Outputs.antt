@@ -1,14 +1,13 @@
 -- What occurrences tell, one behind the other.
 use Rattle.std.proofs.Common.{◌≡◌, ℕ, List, [], ◌∷◌, ◌++◌, map, refl, sym, ap, ◌∙◌, append_assoc}
-use Rattle.std.proofs.lemmas.List.{append-nil}
 use Rattle.sg_gateway.specs.Events.{outcomes_from}
 use Rattle.sg_gateway.specs.Runs.{world_after}
 use Rattle.sg_gateway.specs.Step.{Event, step}
-use Rattle.sg_gateway.specs.World.{World, empty}
+use Rattle.sg_gateway.specs.World.{World}
 use Rattle.sg_pcap.specs.Skips.{skip_line}
 use Rattle.sg_trace.proofs.Traces.{output_from-append}
 use Rattle.sg_trace.specs.Captured.{Happens, Occurrence, Skipped, events_in, output_of}
-use Rattle.sg_trace.specs.Output.{output, output_from, text}
+use Rattle.sg_trace.specs.Output.{output_from, text}
 
 pub output_of-append : (w : World) (os ps : List Occurrence) → output_of w (os ++ ps) ≡ output_of w os ++ output_of (world_after w (events_in os)) ps
 output_of-append w [] ps = refl

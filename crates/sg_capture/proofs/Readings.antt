@@ -1,9 +1,9 @@
 -- How the records of a capture are played, one by one, and how that ends.
-use Rattle.std.proofs.Common.{◌≡◌, ◌⊎◌, ◌+◌, ◌≤◌, ◌<◌, ℕ, max, List, [], ◌∷◌, ◌++◌, length, map, drop, Option, Some, None, Result, Ok, Err, refl, sym, ap, ◌∙◌, subst, inl, inr, append_assoc}
+use Rattle.std.proofs.Common.{◌≡◌, ◌+◌, ℕ, max, List, [], ◌∷◌, ◌++◌, length, map, drop, Option, Some, None, Ok, Err, refl, sym, ap, ◌∙◌, subst, inl, inr, append_assoc}
 use Rattle.std.proofs.lemmas.List.{append-nil}
 use Rattle.sg_capture.proofs.Meets.{prefix_of-behind, prefix_of-more}
 use Rattle.sg_capture.proofs.Outputs.{happens_output, output_of-append}
-use Rattle.sg_capture.specs.Meeting.{EndsReading, IsFaultTold, IsMet, IsToldOf, all_behind, first_of, record_occurs}
+use Rattle.sg_capture.specs.Meeting.{EndsReading, IsMet, IsToldOf, all_behind, first_of, record_occurs}
 use Rattle.sg_capture.specs.declared.progress.Progress.{Progress}
 use Rattle.sg_edge.specs.Told.{AtEnd}
 use Rattle.sg_gateway.specs.Runs.{world_after}
@@ -11,16 +11,13 @@ use Rattle.sg_gateway.specs.Step.{Event}
 use Rattle.sg_gateway.specs.World.{World}
 use Rattle.sg_pcap.proofs.Captures.{next_record}
 use Rattle.sg_pcap.specs.Capture.{Captured, Capture, capture_of, faulty, records_in, record_within, with_record}
-use Rattle.sg_pcap.specs.Frames.{frame_of}
 use Rattle.sg_pcap.specs.declared.faults.CaptureFault.{CaptureFault}
-use Rattle.sg_pcap.specs.declared.faults.CaptureFault.TheVariants.{Cut}
 use Rattle.sg_pcap.specs.declared.header.Form.{Form}
 use Rattle.sg_pcap.specs.declared.records.Record.{Record}
 use Rattle.sg_playback.specs.Playing.{Closes, IsClosed, IsWant}
-use Rattle.sg_trace.specs.Captured.{Happens, Occurrence, capture_occurs, events_in, frame_occurs, moment_in, output_of, records_occur}
+use Rattle.sg_trace.specs.Captured.{Happens, Occurrence, capture_occurs, events_in, moment_in, output_of, records_occur}
 use Rattle.sg_trace.specs.CaptureReading.{Capturing, IsCaptureFault, IsHeaderRead, IsRecordRead}
 use Rattle.sg_trace.specs.Output.{IsPrefixOf, output_from}
-use Rattle.sg_trace.specs.Trace.{ticks_at}
 use Rattle.sg_trace.specs.declared.status.Status.{Status}
 use Rattle.sg_trace.specs.declared.status.Status.TheVariants as statuses
 

@@ -1,12 +1,12 @@
 -- How the script of a run goes on, line by line, and how it ends.
-use Rattle.std.proofs.Common.{◌≡◌, ◌⊎◌, ◌+◌, ◌≤◌, ◌^◌, ℕ, true, false, List, [], ◌∷◌, ◌++◌, length, Option, Result, Ok, Err, refl, sym, ap, ◌∙◌, subst, inl, inr, append_assoc, length-append, arith}
+use Rattle.std.proofs.Common.{◌≡◌, ◌⊎◌, ◌+◌, ◌≤◌, ◌^◌, ℕ, true, false, List, [], ◌++◌, length, Option, Result, Ok, Err, refl, sym, ap, ◌∙◌, subst, inl, inr, append_assoc, length-append, arith}
 use Rattle.std.specs.Prelude.{codes}
 use Rattle.std.proofs.lemmas.Bool.{cond-true}
 use Rattle.std.proofs.lemmas.List.{append-nil}
 use Rattle.sg_base.specs.declared.faults.ScriptFault.{ScriptFault}
 use Rattle.sg_capture.proofs.Captureds.{captured_at, captured_prefix}
 use Rattle.sg_capture.proofs.Outputs.{happens_output}
-use Rattle.sg_capture.specs.Capturing.{Ends, IsBehindScript, IsCapture, IsScriptPlayed, IsWhole}
+use Rattle.sg_capture.specs.Capturing.{Ends, IsScriptPlayed, IsWhole}
 use Rattle.sg_trace.proofs.Traces.{output-append, reads_on, stops_at, with_events_again, world_after-append}
 use Rattle.sg_trace.specs.Captured.{CaptureTrace, InScript, after_script, captured, output_of, script_alone, script_of}
 use Rattle.sg_trace.specs.Finding.{IsCaptureLine, IsFound, IsOtherFault}

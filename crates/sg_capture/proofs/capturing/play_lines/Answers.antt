@@ -1,5 +1,4 @@
 use Rattle.std.proofs.Common.{rules, ◌≡◌, ◌⊎◌, ◌+◌, ◌^◌, ℕ, false, List, [], ◌++◌, length, map, Ok, Err, sym, ap, ◌∙◌, subst, inl, inr, arith, length-append}
-use Rattle.std.specs.Prelude.{IfOk}
 use Rattle.sg_capture.proofs.Scripts.{begins, behind_script, bounded, close_not, closed_at_end, closed_at_err, done_not, ends_played, goes_on, played_not_read, took_all}
 use Rattle.sg_edge.proofs.Links.{added_more}
 use Rattle.sg_edge.proofs.Passed.{wrote_more}

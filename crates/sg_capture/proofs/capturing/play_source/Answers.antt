@@ -1,4 +1,4 @@
-use Rattle.std.proofs.Common.{rules, ◌≡◌, ◌∙◌, ◌≤◌, ◌-◌, ◌^◌, ◌++◌, ℕ, List, [], length, map, Result, Ok, Err, refl, sym, ap, subst, arith}
+use Rattle.std.proofs.Common.{◌≡◌, ◌≤◌, ◌-◌, ◌^◌, ◌++◌, ℕ, List, [], length, map, Result, Err, refl, sym, ap, subst, arith}
 use Rattle.sg_capture.proofs.Compositions.{composed, ends_not_noise}
 use Rattle.sg_capture.specs.Meeting.{EndsReading}
 use Rattle.sg_gateway.specs.Runs.{world_after}
@@ -11,7 +11,6 @@ use Rattle.sg_table.specs.Standing.{TableStandsFor}
 use Rattle.sg_trace.proofs.Causes.{failed_as, failed_now, not_failed, ok_not}
 use Rattle.sg_trace.specs.CaptureReading.{Capturing}
 use Rattle.sg_trace.specs.declared.status.Status.{Status}
-use Rattle.sg_trace.specs.declared.status.Status.TheVariants.{Noise}
 use Rattle.sg_capture.proofs.capturing.play_source.Goals as goal
 
 err_so : (a b : Status) → (let r : Result (Unit {0}) Status = Err a in r ≡ Err b) → a ≡ b

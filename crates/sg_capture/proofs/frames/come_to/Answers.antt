@@ -1,4 +1,4 @@
-use Rattle.std.proofs.Common.{rules, ◌≡◌, [], map, ap}
+use Rattle.std.proofs.Common.{rules, [], map, ap}
 use Rattle.sg_capture.proofs.Meets.{on_ok, tick_met, tick_none}
 use Rattle.sg_edge.proofs.Passed.{wrote_none}
 use Rattle.sg_playback.specs.Playing.{waiting}

@@ -1,4 +1,4 @@
-use Rattle.std.proofs.Common.{◌≡◌, ◌∷◌, ◌++◌, [], map, Ok, Err, ap, refl}
+use Rattle.std.proofs.Common.{◌∷◌, ◌++◌, [], map, Ok, Err, ap, refl}
 use Rattle.sg_capture.proofs.Meets.{met_before, met_then, settled_met, skip_met}
 use Rattle.sg_capture.specs.Meeting.{IsToldOf}
 use Rattle.sg_edge.proofs.Passed.{wrote_more}

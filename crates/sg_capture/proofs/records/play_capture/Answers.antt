@@ -1,10 +1,10 @@
-use Rattle.std.proofs.Common.{rules, ◌≡◌, ◌∙◌, ◌≤◌, ◌+◌, ◌++◌, ℕ, List, [], length, Ok, Err, refl, sym, ap, subst, append_assoc, length-append, arith}
+use Rattle.std.proofs.Common.{◌≡◌, ◌∙◌, ◌++◌, ℕ, List, Err, refl, sym, ap, append_assoc, length-append, arith}
 use Rattle.sg_capture.proofs.Readings.{behind_header, header_close_read, header_err}
 use Rattle.sg_edge.proofs.Passed.{took_more}
 use Rattle.sg_pcap.proofs.Captures.{capture_begins}
-use Rattle.sg_pcap.specs.Capture.{Capture, capture_of, records_in}
+use Rattle.sg_pcap.specs.Capture.{capture_of, records_in}
 use Rattle.sg_playback.specs.Playing.{waiting}
-use Rattle.sg_trace.proofs.Causes.{failed_as, failed_now}
+use Rattle.sg_trace.proofs.Causes.{failed_as}
 use Rattle.sg_trace.specs.declared.status.Status.TheVariants.{Read}
 use Rattle.sg_capture.proofs.records.play_capture.Goals as goal
 

@@ -1,4 +1,4 @@
-use Rattle.std.proofs.Common.{◌≡◌, ◌++◌, ℕ, map, Err, subst}
+use Rattle.std.proofs.Common.{◌++◌, ℕ, map, Err, subst}
 use Rattle.sg_capture.proofs.Meets.{met_before, met_then}
 use Rattle.sg_capture.specs.Meeting.{IsMet}
 use Rattle.sg_edge.proofs.Passed.{wrote_more}

@@ -1,4 +1,4 @@
-use Rattle.std.proofs.Common.{rules, ◌≡◌, ◌⊎◌, ◌∙◌, ◌≤◌, ◌+◌, ◌++◌, ℕ, List, [], length, drop, Some, None, Ok, Err, refl, sym, ap, subst, inl, inr, append_assoc, length-append, arith}
+use Rattle.std.proofs.Common.{rules, ◌≡◌, ◌⊎◌, ◌∙◌, ◌++◌, ℕ, List, [], drop, Some, None, Ok, Err, refl, sym, ap, subst, inl, inr, append_assoc, length-append, arith}
 use Rattle.std.proofs.lemmas.List.{append-nil}
 use Rattle.sg_capture.proofs.Readings.{IsReadingOn, close_read, closed_at_end, closed_at_err, ends_met, met_not_read, record_goes, starts}
 use Rattle.sg_capture.proofs.Scripts.{done_not}
@@ -8,7 +8,6 @@ use Rattle.sg_capture.proofs.Outputs.{events_in-append, output_of-append}
 use Rattle.sg_edge.proofs.Passed.{took_more, took_none, wrote_more, wrote_none}
 use Rattle.sg_edge.specs.Told.{Wrote}
 use Rattle.sg_gateway.specs.Runs.{world_after}
-use Rattle.sg_gateway.specs.World.{World}
 use Rattle.sg_pcap.specs.Capture.{records_in, record_within}
 use Rattle.sg_playback.specs.Playing.{waiting}
 use Rattle.sg_table.specs.Standing.{TableStandsFor}
