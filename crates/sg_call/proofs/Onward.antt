@@ -5,7 +5,7 @@ use Rattle.std.specs.List.{AllByRecursion}
 use Rattle.sg_base.specs.declared.addresses.Address.{Address}
 use Rattle.sg_gateway.proofs.GoesOut.{port_out_is, address_out_is}
 use Rattle.sg_gateway.specs.Generations.{is_current, is_opening}
-use Rattle.sg_gateway.specs.Legs.{plain_address, plain_port}
+use Rattle.sg_gateway.specs.Legs.{plain_leg_address, plain_leg_port}
 use Rattle.sg_gateway.specs.World as world
 use Rattle.sg_leg.specs.Pairs.{EachPair}
 use Rattle.sg_gateway.specs.PlainOf.{plain_in, plain_of}
@@ -20,7 +20,7 @@ use Rattle.sg_call.specs.declared.route.MediaSide.TheVariants.{Opens, Seals}
 
 module _ (c : world.Call) (port : ℕ) where
   abbrev of_session : Session → Option Address → Option Address
-  of_session s y = cond (is_current c s && is_opening s && eqb (plain_port c s) port) (Some (plain_address s)) y
+  of_session s y = cond (is_current c s && is_opening s && eqb (plain_leg_port c s) port) (Some (plain_leg_address s)) y
 
   abbrev of_route : Route → Option Address → Option Address
   of_route p x = cond (opens_route p && eqb p.out port) (Some p.to) x
@@ -37,15 +37,15 @@ module _ (c : world.Call) (port : ℕ) where
       go : (m : MediaSide) → p.side ≡ m → of_route p x ≡ of_session s y
       go (Opens side) is =
           let opening : s.name.owner.direction ≡ Opening = (subst (λ m. SideStandsFor m s) is h.side).0 in
-          let out : p.out ≡ plain_port c s = h.out ∙ port_out_is c s s.name.owner.direction opening in
-          let to : p.to ≡ plain_address s = h.to ∙ address_out_is s s.name.owner.direction opening in
-          let left : of_route p x ≡ cond (eqb (plain_port c s) port) (Some (plain_address s)) y = λ i. cond (opens_side (is i) && eqb (out i) port) (Some (to i)) (e i) in
-          let right : of_session s y ≡ cond (eqb (plain_port c s) port) (Some (plain_address s)) y = λ i. cond (now i && opening_is s opening i && eqb (plain_port c s) port) (Some (plain_address s)) y in
+          let out : p.out ≡ plain_leg_port c s = h.out ∙ port_out_is c s s.name.owner.direction opening in
+          let to : p.to ≡ plain_leg_address s = h.to ∙ address_out_is s s.name.owner.direction opening in
+          let left : of_route p x ≡ cond (eqb (plain_leg_port c s) port) (Some (plain_leg_address s)) y = λ i. cond (opens_side (is i) && eqb (out i) port) (Some (to i)) (e i) in
+          let right : of_session s y ≡ cond (eqb (plain_leg_port c s) port) (Some (plain_leg_address s)) y = λ i. cond (now i && opening_is s opening i && eqb (plain_leg_port c s) port) (Some (plain_leg_address s)) y in
           left ∙ sym right
       go (Seals side) is =
           let sealing : s.name.owner.direction ≡ Sealing = (subst (λ m. SideStandsFor m s) is h.side).0 in
           let left : of_route p x ≡ y = λ i. cond (opens_side (is i) && eqb p.out port) (Some p.to) (e i) in
-          let right : of_session s y ≡ y = λ i. cond (now i && sealing_is s sealing i && eqb (plain_port c s) port) (Some (plain_address s)) y in
+          let right : of_session s y ≡ y = λ i. cond (now i && sealing_is s sealing i && eqb (plain_leg_port c s) port) (Some (plain_leg_address s)) y in
           left ∙ sym right
 
   current : (routes : List Route) (ss : List Session) → EachPair (RouteStandsFor c.slot) routes ss → AllByRecursion (λ s. is_current c s ≡ true) ss → plain_by port routes ≡ plain_in c port ss
@@ -57,7 +57,7 @@ module _ (c : world.Call) (port : ℕ) where
   earlier : (ss : List Session) → AllByRecursion (λ s. is_current c s ≡ false) ss → plain_in c port ss ≡ None
   earlier [] before = refl
   earlier (s ∷ ss) before =
-      let skip : of_session s (plain_in c port ss) ≡ plain_in c port ss = λ i. cond (before.0 i && is_opening s && eqb (plain_port c s) port) (Some (plain_address s)) (plain_in c port ss) in
+      let skip : of_session s (plain_in c port ss) ≡ plain_in c port ss = λ i. cond (before.0 i && is_opening s && eqb (plain_leg_port c s) port) (Some (plain_leg_address s)) (plain_in c port ss) in
       skip ∙ earlier ss before.1
 
   both : (now before : List Session) → AllByRecursion (λ s. is_current c s ≡ false) before → plain_in c port (now ++ before) ≡ plain_in c port now
