@@ -9,10 +9,10 @@ use sg_leg::{Books, Idle, MediaSpec, Offered, Way};
 use std::alloc::Global;
 use std::test::Fail;
 
-pub(crate) const PLAIN_ANSWER: &[u8] =
+const PLAIN_ANSWER: &[u8] =
     b"v=0\r\no=bob 1 1 IN IP4 127.0.0.1\r\ns=-\r\nc=IN IP4 127.0.0.1\r\nt=0 0\r\nm=audio 41000 RTP/AVP 0\r\na=rtpmap:0 PCMU/8000\r\n";
 
-pub(crate) const BACK_TO_SECURE: &[u8] =
+const BACK_TO_SECURE: &[u8] =
     b"v=0\r\no=bob 1 1 IN IP4 127.0.0.1\r\ns=-\r\nc=IN IP4 127.0.0.1\r\nt=0 0\r\nm=audio 20000 RTP/SAVP 0\r\na=rtpmap:0 PCMU/8000\r\na=crypto:1 AES_CM_128_HMAC_SHA1_80 inline:AAECAwQFBgcICQoLDA0ODxAREhMUFRYXGBkaGxwd\r\n";
 
 const SECURE_ANSWER: &[u8] =

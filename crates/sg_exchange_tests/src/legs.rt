@@ -9,12 +9,12 @@ use sg_psk::{PskBook, ReplayBook};
 use std::alloc::Global;
 use std::test::Fail;
 
-pub(crate) const SECURE: Address = Address {
+const SECURE: Address = Address {
     ip: [127, 0, 0, 1],
     port: 40000,
 };
 
-pub(crate) const PLAIN: Address = Address {
+const PLAIN: Address = Address {
     ip: [127, 0, 0, 1],
     port: 41000,
 };
@@ -29,7 +29,7 @@ pub(crate) fn books(alloc: Global) -> Result<Books, Fail>
     })
 }
 
-pub(crate) fn key(suite: Suite, octets: &[u8]) -> Result<MasterKey, Fail> {
+fn key(suite: Suite, octets: &[u8]) -> Result<MasterKey, Fail> {
     Ok(MasterKey::new(suite, octets).ok_or("another length")?)
 }
 

@@ -1,11 +1,9 @@
-//! Tests of MIKEY exchanges and crypto sessions, of legs and of a call. They stand in a crate of their own, since a
+//! Tests of MIKEY exchanges and crypto sessions, and of legs. They stand in a crate of their own, since a
 //! crate with tests is proved twice.
 #![tactic(auto)]
 
 #[cfg(test)]
 mod answers;
-#[cfg(test)]
-mod calls;
 #[cfg(test)]
 mod crypto_sessions;
 #[cfg(test)]

@@ -2,13 +2,23 @@
 
 ghost use Rattle.std.specs.Prelude.{◌≡◌, [], IfOk};
 
-use crate::legs::{PLAIN, SECURE, books, key};
-use sg_base::{CallId, DropCause, Pad, Suite};
+use crate::books::empty_books;
+use sg_base::{Address, CallId, DropCause, MasterKey, Pad, Suite};
 use sg_call::{Call, End, Handled};
 use sg_lanes::Lane;
 use std::alloc::Global;
 use std::process::Abort;
 use std::test::Fail;
+
+const SECURE: Address = Address {
+    ip: [127, 0, 0, 1],
+    port: 40000,
+};
+
+const PLAIN: Address = Address {
+    ip: [127, 0, 0, 1],
+    port: 41000,
+};
 
 /// The authentication key of RFC 3711, B.3, and what is sealed under it from 28 octets (`interop/srtp.py`).
 const AUTHENTICATION: [u8; 20] = [
@@ -19,13 +29,17 @@ const AUTHENTICATION: [u8; 20] = [
 const KNOWN: &[u8] =
     b"\x80\x0f\x12\x34\xde\xca\xfb\xad\xca\xfe\xba\xbe\x4e\x55\xdc\x4c\xe7\x99\x78\xd8\x8c\xa4\xd2\x15\x94\x9d\x24\x02\xb7\x8d\x6a\xcc\x99\xea\x17\x9b\x8d\xbb";
 
+fn key(octets: &[u8; 20]) -> Result<MasterKey, Fail> {
+    Ok(MasterKey::new(Suite::Raw80, octets).ok_or("another length")?)
+}
+
 /// A call that is keyed manually, under the known key and another one.
 fn keyed(alloc: Global) -> Result<Call, Fail>
     ensures { IfOk result (λ call. (call.waiting ≡ []) × (call.handled ≡ [])) }
 {
-    let mut books = books(alloc)?;
-    let from_peer = key(Suite::Raw80, &AUTHENTICATION)?;
-    let to_peer = key(Suite::Raw80, &[11; 20])?;
+    let mut books = empty_books(alloc)?;
+    let from_peer = key(&AUTHENTICATION)?;
+    let to_peer = key(&[11; 20])?;
     let mut call = Call::make(alloc, CallId(1), 0)?;
     match call.manual(
         alloc, SECURE, PLAIN, 0, 64, &from_peer, &to_peer, 5, &mut books,
