@@ -1,28 +1,35 @@
 -- What a run did, by how its words were read.
-use Rattle.std.proofs.Common.{◌≡◌, ◌⊎◌, ◌≤◌, ℕ, List, [], Bool, Option, Result, Ok, Err, refl, sym, ap, ◌∙◌, subst, inl, inr, arith}
+use Rattle.std.proofs.Common.{◌≡◌, ◌⊎◌, ◌≤◌, ℕ, List, [], Bool, Option, Result, Ok, Err, refl, sym, ap, ◌∙◌, subst, inl, inr, arith, eqb, false}
+use Rattle.std.proofs.lemmas.Bool.{false≢true, eq-eqb}
 use Rattle.std.proofs.lemmas.List.{append-nil}
 use Rattle.sg_trace.proofs.Causes.{not_failed}
 use Rattle.sg_trace.specs.Causes.{HasFailed}
+use Rattle.sg_capture.specs.Capturing.{IsCapture}
+use Rattle.sg_trace.specs.Captured.{captured, events_in as captured_events, output_of}
 use Rattle.sg_trace.specs.Trace.{replayed}
 use Rattle.sg_trace.specs.Output.{output}
 use Rattle.sg_trace.specs.declared.status.Status.{Status}
-use Rattle.sg_trace.specs.declared.status.Status.TheVariants.{Done, Usage, Script, Read, Write, Link, NoMemory, Clock, Noise, TurnsSpent}
+use Rattle.sg_trace.specs.declared.status.Status.TheVariants.{Done, Usage, Script, Read, Write, Link, NoMemory, Clock, Noise, TurnsSpent, Capture}
 use Rattle.sg_demo.specs.Demonstration.{demonstration, events_in}
 use Rattle.sg_demo.specs.Text.{IsShown, summary_text}
 use Rattle.sg_edge.proofs.Links.{added_none}
 use Rattle.sg_edge.proofs.Passed.{took_none, wrote_none}
 use Rattle.sg_edge.specs.Told.{Rose}
 use Rattle.sg_gateway.specs.Step.{Event}
+use Rattle.sg_gateway.specs.World.{empty}
+use Rattle.sg_migrate.specs.Migration.{IsMigration}
+use Rattle.sg_migrate.specs.Migration as migrations
 use Rattle.sg_playback.specs.Replay.{IsReplay}
 use Rattle.sg_playback.specs.Replay as replays
 use Rattle.sg_relay.proofs.Holds.{holds_none}
 use Rattle.sg_relay.proofs.Order.{order_none}
 use Rattle.sg_relay.specs.Relay.{IsRelay, Passed}
 use Rattle.sg_relay.specs.Relay as relays
-use Rattle.sg_run.specs.Run.{AreTaken, HasRelayed, HasReplayed, HasRun, HasShown, Outside, of_relay, of_replay}
+use Rattle.sg_run.specs.Run.{AreTaken, HasCaptured, HasMigrated, HasRelayed, HasReplayed, HasRun, HasShown, Outside, of_relay, of_replay}
 use Rattle.sg_words.specs.Commands.{AreWordsOf, IsNoCommand, Words}
 use Rattle.sg_words.specs.declared.command.Command.{Command}
-use Rattle.sg_words.specs.declared.command.Command.TheVariants.{Replay, Relay, Demo}
+use Rattle.sg_words.specs.declared.command.Command.TheVariants.{Replay, Relay, Demo, Migrate}
+use Rattle.sg_words.specs.declared.command.Command.TheVariants as commands
 use Rattle.sg_words.specs.declared.command.CommandFault.{CommandFault}
 use Rattle.sg_words.specs.declared.command.CommandFault.TheVariants as faults
 
@@ -84,11 +91,41 @@ not_shown calls start old = record {
   events_are = (events_in calls start, refl);
 }
 
+not_migrated : (old : Outside) → HasMigrated NoMemory old old []
+not_migrated old = record {
+  octets = [];
+  out = [];
+  is = record {
+    took = took_none old.left;
+    wrote = wrote_none old.written;
+    ends = ([], refl);
+    bound = omega arith;
+  };
+  events_are = refl;
+}
+
+not_captured : (old : Outside) → HasCaptured NoMemory old old []
+not_captured old = record {
+  octets = [];
+  draws = [];
+  out = [];
+  is = record {
+    took = took_none old.left;
+    drew = added_none old.drawn;
+    wrote = wrote_none old.written;
+    ends = (output_of empty (captured [] []).occurrences, refl);
+    bound = omega arith;
+  };
+  events_are = refl;
+}
+
 pub not_begun : (words : Words) (old : Outside) → HasRun words NoMemory old old []
 not_begun words old = record {
   replay = λ workers are. not_replayed old;
   relay = λ turns are. not_relayed turns old;
   demo = λ calls start workers are. not_shown calls start old;
+  migrate = λ are. not_migrated old;
+  capture = λ are. not_captured old;
 }
 
 -- words that are no command
@@ -97,6 +134,8 @@ no_run words status old new none = record {
   replay = λ workers are. absurd (none (Replay workers) are);
   relay = λ turns are. absurd (none (Relay turns) are);
   demo = λ calls start workers are. absurd (none (Demo calls start workers) are);
+  migrate = λ are. absurd (none Migrate are);
+  capture = λ are. absurd (none commands.Capture are);
 }
 
 -- ---- the command that was read is the one that the words are
@@ -108,15 +147,6 @@ pub read_is : (read k : Command) → IsReadAs read k → read ≡ k
 read_is read k (inl is) = cc
 read_is read k (inr is) = absurd cc
 
-relay_not_replay : (turns workers : ℕ) → Relay turns ≡ Replay workers → ⊥
-relay_not_replay turns workers is = cc
-
-demo_not_replay : (calls start many workers : ℕ) → Demo calls start many ≡ Replay workers → ⊥
-demo_not_replay calls start many workers is = cc
-
-demo_not_relay : (calls start many turns : ℕ) → Demo calls start many ≡ Relay turns → ⊥
-demo_not_relay calls start many turns is = cc
-
 same_turns : (turns turns' : ℕ) → Relay turns ≡ Relay turns' → turns ≡ turns'
 same_turns turns turns' is = cc
 
@@ -127,41 +157,19 @@ same_calls calls start workers calls' start' workers' is = (cc, cc)
 abbrev pub IsToldOf : Words → Command → Type 0
 IsToldOf words read = (k : Command) → AreWordsOf words k → IsReadAs read k
 
-pub replay_not_demo : (workers calls start many : ℕ) → Replay workers ≡ Demo calls start many → ⊥
-replay_not_demo workers calls start many is = cc
+-- each command has a number of its own
+abbrev pub command_number : Command → ℕ
+command_number (Replay workers) = 0
+command_number (Relay turns) = 1
+command_number (Demo calls start workers) = 2
+command_number Migrate = 3
+command_number commands.Capture = 4
 
-pub relay_not_demo : (turns calls start many : ℕ) → Relay turns ≡ Demo calls start many → ⊥
-relay_not_demo turns calls start many is = cc
-
-replay_not_relay : (workers turns : ℕ) → Replay workers ≡ Relay turns → ⊥
-replay_not_relay workers turns is = cc
-
--- where a replay was read, the words are no relay and no demonstration
-pub no_relay_of_replay : (words : Words) (read : Command) (many turns : ℕ) → IsToldOf words read → read ≡ Replay many → AreWordsOf words (Relay turns) → ⊥
-no_relay_of_replay words read many turns told is are = replay_not_relay many turns (sym is ∙ read_is read (Relay turns) (told (Relay turns) are))
-
-pub no_demo_of_replay : (words : Words) (read : Command) (many calls start workers : ℕ) → IsToldOf words read → read ≡ Replay many
-    → AreWordsOf words (Demo calls start workers) → ⊥
-no_demo_of_replay words read many calls start workers told is are =
-    replay_not_demo many calls start workers (sym is ∙ read_is read (Demo calls start workers) (told (Demo calls start workers) are))
-
-pub no_replay_of_relay : (words : Words) (read : Command) (turns workers : ℕ) → IsToldOf words read → read ≡ Relay turns → AreWordsOf words (Replay workers) → ⊥
-no_replay_of_relay words read turns workers told is are = relay_not_replay turns workers (sym is ∙ read_is read (Replay workers) (told (Replay workers) are))
-
-pub no_demo_of_relay : (words : Words) (read : Command) (turns calls start workers : ℕ) → IsToldOf words read → read ≡ Relay turns
-    → AreWordsOf words (Demo calls start workers) → ⊥
-no_demo_of_relay words read turns calls start workers told is are =
-    relay_not_demo turns calls start workers (sym is ∙ read_is read (Demo calls start workers) (told (Demo calls start workers) are))
-
-pub no_replay_of_demo : (words : Words) (read : Command) (calls start many workers : ℕ) → IsToldOf words read → read ≡ Demo calls start many
-    → AreWordsOf words (Replay workers) → ⊥
-no_replay_of_demo words read calls start many workers told is are =
-    demo_not_replay calls start many workers (sym is ∙ read_is read (Replay workers) (told (Replay workers) are))
-
-pub no_relay_of_demo : (words : Words) (read : Command) (calls start many turns : ℕ) → IsToldOf words read → read ≡ Demo calls start many
-    → AreWordsOf words (Relay turns) → ⊥
-no_relay_of_demo words read calls start many turns told is are =
-    demo_not_relay calls start many turns (sym is ∙ read_is read (Relay turns) (told (Relay turns) are))
+-- the words of one command are none of another
+pub no_other : (words : Words) (read this other : Command) → IsToldOf words read → read ≡ this → eqb (command_number this) (command_number other) ≡ false → AreWordsOf words other → ⊥
+no_other words read this other told is differs are =
+    let same : this ≡ other = sym is ∙ read_is read other (told other are) in
+    false≢true (sym differs ∙ eq-eqb (command_number this) (command_number other) (ap command_number same))
 
 -- a relay has as many turns as its words say
 pub turns_are : (words : Words) (read : Command) (turns turns' : ℕ) → IsToldOf words read → read ≡ Relay turns → AreWordsOf words (Relay turns') → turns ≡ turns'
@@ -173,26 +181,52 @@ pub has_replayed : (words : Words) (read : Command) (many : ℕ) (status : Statu
     → HasReplayed status old new events → HasRun words status old new events
 has_replayed words read many status old new events told is ran = record {
   replay = λ workers are. ran;
-  relay = λ turns are. absurd (no_relay_of_replay words read many turns told is are);
-  demo = λ calls start workers are. absurd (no_demo_of_replay words read many calls start workers told is are);
+  relay = λ turns are. absurd (no_other words read (Replay many) (Relay turns) told is refl are);
+  demo = λ calls start workers are. absurd (no_other words read (Replay many) (Demo calls start workers) told is refl are);
+  migrate = λ are. absurd (no_other words read (Replay many) Migrate told is refl are);
+  capture = λ are. absurd (no_other words read (Replay many) commands.Capture told is refl are);
 }
 
 pub has_relayed : (words : Words) (read : Command) (turns : ℕ) (status : Status) (old new : Outside) (events : List Event) → IsToldOf words read → read ≡ Relay turns
     → HasRelayed turns status old new events → HasRun words status old new events
 has_relayed words read turns status old new events told is ran = record {
-  replay = λ workers are. absurd (no_replay_of_relay words read turns workers told is are);
+  replay = λ workers are. absurd (no_other words read (Relay turns) (Replay workers) told is refl are);
   relay = λ turns' are. subst (λ n. HasRelayed n status old new events) (turns_are words read turns turns' told is are) ran;
-  demo = λ calls start workers are. absurd (no_demo_of_relay words read turns calls start workers told is are);
+  demo = λ calls start workers are. absurd (no_other words read (Relay turns) (Demo calls start workers) told is refl are);
+  migrate = λ are. absurd (no_other words read (Relay turns) Migrate told is refl are);
+  capture = λ are. absurd (no_other words read (Relay turns) commands.Capture told is refl are);
 }
 
 pub has_shown : (words : Words) (read : Command) (calls start many : ℕ) (status : Status) (old new : Outside) (events : List Event) → IsToldOf words read
     → read ≡ Demo calls start many → HasShown calls start status old new events → HasRun words status old new events
 has_shown words read calls start many status old new events told is ran = record {
-  replay = λ workers are. absurd (no_replay_of_demo words read calls start many workers told is are);
-  relay = λ turns are. absurd (no_relay_of_demo words read calls start many turns told is are);
+  replay = λ workers are. absurd (no_other words read (Demo calls start many) (Replay workers) told is refl are);
+  relay = λ turns are. absurd (no_other words read (Demo calls start many) (Relay turns) told is refl are);
   demo = λ calls' start' workers are.
       let same = same_calls calls start many calls' start' workers (sym is ∙ read_is read (Demo calls' start' workers) (told (Demo calls' start' workers) are)) in
       subst (λ n. HasShown calls' n status old new events) same.1 (subst (λ n. HasShown n start status old new events) same.0 ran);
+  migrate = λ are. absurd (no_other words read (Demo calls start many) Migrate told is refl are);
+  capture = λ are. absurd (no_other words read (Demo calls start many) commands.Capture told is refl are);
+}
+
+pub has_migrated : (words : Words) (read : Command) (status : Status) (old new : Outside) (events : List Event) → IsToldOf words read → read ≡ Migrate
+    → HasMigrated status old new events → HasRun words status old new events
+has_migrated words read status old new events told is ran = record {
+  replay = λ workers are. absurd (no_other words read Migrate (Replay workers) told is refl are);
+  relay = λ turns are. absurd (no_other words read Migrate (Relay turns) told is refl are);
+  demo = λ calls start workers are. absurd (no_other words read Migrate (Demo calls start workers) told is refl are);
+  migrate = λ are. ran;
+  capture = λ are. absurd (no_other words read Migrate commands.Capture told is refl are);
+}
+
+pub has_captured : (words : Words) (read : Command) (status : Status) (old new : Outside) (events : List Event) → IsToldOf words read → read ≡ commands.Capture
+    → HasCaptured status old new events → HasRun words status old new events
+has_captured words read status old new events told is ran = record {
+  replay = λ workers are. absurd (no_other words read commands.Capture (Replay workers) told is refl are);
+  relay = λ turns are. absurd (no_other words read commands.Capture (Relay turns) told is refl are);
+  demo = λ calls start workers are. absurd (no_other words read commands.Capture (Demo calls start workers) told is refl are);
+  migrate = λ are. absurd (no_other words read commands.Capture Migrate told is refl are);
+  capture = λ are. ran;
 }
 
 -- all of a demonstration's events were taken
@@ -207,6 +241,7 @@ all_taken NoMemory events = ([], sym (append-nil events))
 all_taken Clock events = ([], sym (append-nil events))
 all_taken Noise events = ([], sym (append-nil events))
 all_taken TurnsSpent events = ([], sym (append-nil events))
+all_taken (Capture offset fault) events = ([], sym (append-nil events))
 
 -- ---- what a command doesn't answer
 
@@ -222,6 +257,35 @@ replay_not_link status old new octets draws out run is = replay_not Link status 
 
 pub replay_not_clock : (status : Status) (old new : replays.Tellings) (octets draws out : List ℕ) → IsReplay status old new octets draws out → status ≡ Clock → ⊥
 replay_not_clock status old new octets draws out run is = replay_not Clock status old new octets draws out (λ r. r.ends) run is
+
+migration_not : (other status : Status) (old new : migrations.Tellings) (octets out : List ℕ) → (IsMigration other old new octets out → ⊥)
+    → IsMigration status old new octets out → status ≡ other → ⊥
+migration_not other status old new octets out isnt run is = isnt (subst (λ s. IsMigration s old new octets out) is run)
+
+pub migration_not_usage : (status : Status) (old new : migrations.Tellings) (octets out : List ℕ) → IsMigration status old new octets out → status ≡ Usage → ⊥
+migration_not_usage status old new octets out run is = migration_not Usage status old new octets out (λ r. r.ends) run is
+
+pub migration_not_link : (status : Status) (old new : migrations.Tellings) (octets out : List ℕ) → IsMigration status old new octets out → status ≡ Link → ⊥
+migration_not_link status old new octets out run is = migration_not Link status old new octets out (λ r. r.ends) run is
+
+pub migration_not_clock : (status : Status) (old new : migrations.Tellings) (octets out : List ℕ) → IsMigration status old new octets out → status ≡ Clock → ⊥
+migration_not_clock status old new octets out run is = migration_not Clock status old new octets out (λ r. r.ends) run is
+
+pub migration_not_noise : (status : Status) (old new : migrations.Tellings) (octets out : List ℕ) → IsMigration status old new octets out → status ≡ Noise → ⊥
+migration_not_noise status old new octets out run is = migration_not Noise status old new octets out (λ r. r.ends) run is
+
+capture_not : (other status : Status) (old new : replays.Tellings) (octets draws out : List ℕ) → (IsCapture other old new octets draws out → ⊥)
+    → IsCapture status old new octets draws out → status ≡ other → ⊥
+capture_not other status old new octets draws out isnt run is = isnt (subst (λ s. IsCapture s old new octets draws out) is run)
+
+pub capture_not_usage : (status : Status) (old new : replays.Tellings) (octets draws out : List ℕ) → IsCapture status old new octets draws out → status ≡ Usage → ⊥
+capture_not_usage status old new octets draws out run is = capture_not Usage status old new octets draws out (λ r. r.ends) run is
+
+pub capture_not_link : (status : Status) (old new : replays.Tellings) (octets draws out : List ℕ) → IsCapture status old new octets draws out → status ≡ Link → ⊥
+capture_not_link status old new octets draws out run is = capture_not Link status old new octets draws out (λ r. r.ends) run is
+
+pub capture_not_clock : (status : Status) (old new : replays.Tellings) (octets draws out : List ℕ) → IsCapture status old new octets draws out → status ≡ Clock → ⊥
+capture_not_clock status old new octets draws out run is = capture_not Clock status old new octets draws out (λ r. r.ends) run is
 
 pub relay_not_usage : (status : Status) (turns : ℕ) (old new : relays.Tellings) (p : Passed) → IsRelay status turns old new p → status ≡ Usage → ⊥
 relay_not_usage status turns old new p run is = (subst (λ s. IsRelay s turns old new p) is run).ends
@@ -241,6 +305,7 @@ of_demo Link written written' octets shown = absurd shown
 of_demo Clock written written' octets shown = absurd shown
 of_demo Noise written written' octets shown = absurd shown
 of_demo TurnsSpent written written' octets shown = absurd shown
+of_demo (Capture offset fault) written written' octets shown = absurd shown
 
 demo_not : (other status : Status) (written written' : Option (List ℕ)) (octets : List ℕ) → (IsShown other written written' octets → ⊥)
     → IsShown status written written' octets → status ≡ other → ⊥

@@ -1,5 +1,7 @@
 -- What a run did, by the command that its words are.
-use Rattle.std.specs.Prelude.{◌≡◌, ℕ, List, Option}
+use Rattle.std.specs.Prelude.{◌≡◌, ℕ, List, [], Option}
+use Rattle.sg_capture.specs.Capturing.{IsCapture}
+use Rattle.sg_trace.specs.Captured.{captured, events_in as captured_events}
 use Rattle.sg_trace.specs.Trace.{replayed}
 use Rattle.sg_trace.specs.Output.{IsPrefixOf}
 use Rattle.sg_trace.specs.declared.status.Status.{Status}
@@ -9,13 +11,15 @@ use Rattle.sg_demo.specs.Text.{IsShown, summary_text}
 use Rattle.sg_edge.specs.Links.{LinkCall}
 use Rattle.sg_edge.specs.Told.{Rose}
 use Rattle.sg_gateway.specs.Step.{Event}
+use Rattle.sg_migrate.specs.Migration.{IsMigration}
+use Rattle.sg_migrate.specs.Migration as migrations
 use Rattle.sg_playback.specs.Replay.{IsReplay}
 use Rattle.sg_playback.specs.Replay as replays
 use Rattle.sg_relay.specs.Completeness.{IsComplete}
 use Rattle.sg_relay.specs.Relay.{HoldsItsCallsPorts, IsRelay, Passed, trace_of}
 use Rattle.sg_relay.specs.Relay as relays
 use Rattle.sg_words.specs.Commands.{AreWordsOf, Words}
-use Rattle.sg_words.specs.declared.command.Command.TheVariants.{Replay, Relay, Demo}
+use Rattle.sg_words.specs.declared.command.Command.TheVariants.{Replay, Relay, Demo, Migrate, Capture}
 
 -- how often a source, a sink, a link, a clock and a source of noise have failed
 pub record Failures : Type 0 where
@@ -40,6 +44,9 @@ of_replay o = record { left = o.left; written = o.written; drawn = o.drawn }
 
 abbrev pub of_relay : Outside → relays.Tellings
 of_relay o = record { left = o.left; written = o.written; calls = o.calls; readings = o.readings; draws = o.drawn }
+
+abbrev pub of_migration : Outside → migrations.Tellings
+of_migration o = record { left = o.left; written = o.written }
 
 -- A replay read, drew and wrote these octets, and these are its events.
 pub record HasReplayed (status : Status) (old new : Outside) (events : List Event) : Type 0 where
@@ -76,8 +83,25 @@ pub record HasShown (calls start : ℕ) (status : Status) (old new : Outside) (e
   pub is : IsShown status old.written new.written (summary_text (demonstration calls start))
   pub events_are : AreTaken status events (events_in calls start)
 
+-- A migration read and wrote these octets. It hands no event to the gateway.
+pub record HasMigrated (status : Status) (old new : Outside) (events : List Event) : Type 0 where
+  pub octets : List ℕ
+  pub out : List ℕ
+  pub is : IsMigration status (of_migration old) (of_migration new) octets out
+  pub events_are : events ≡ []
+
+-- A script and the capture behind it were read, drew and wrote these octets, and these are their events.
+pub record HasCaptured (status : Status) (old new : Outside) (events : List Event) : Type 0 where
+  pub octets : List ℕ
+  pub draws : List ℕ
+  pub out : List ℕ
+  pub is : IsCapture status (of_replay old) (of_replay new) octets draws out
+  pub events_are : events ≡ captured_events (captured octets draws).occurrences
+
 -- The command that the words are was run, and these are the run's events.
 pub record HasRun (words : Words) (status : Status) (old new : Outside) (events : List Event) : Type 0 where
   pub replay : (workers : ℕ) → AreWordsOf words (Replay workers) → HasReplayed status old new events
   pub relay : (turns : ℕ) → AreWordsOf words (Relay turns) → HasRelayed turns status old new events
   pub demo : (calls start workers : ℕ) → AreWordsOf words (Demo calls start workers) → HasShown calls start status old new events
+  pub migrate : AreWordsOf words Migrate → HasMigrated status old new events
+  pub capture : AreWordsOf words Capture → HasCaptured status old new events

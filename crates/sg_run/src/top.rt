@@ -1,18 +1,25 @@
 //! The top call.
 
-ghost use Rattle.std.specs.Prelude.{◌≡◌, ◌⊎◌, ◌≤◌, ◌+◌, ◌^◌, ℕ, List, map, string_bytes, None};
+ghost use Rattle.std.specs.Prelude.{◌≡◌, ◌⊎◌, ◌≤◌, ◌+◌, ◌^◌, ℕ, List, length, map, string_bytes, None};
+ghost use Rattle.sg_capture.specs.Capturing as captures;
 ghost use Rattle.sg_trace.specs.Causes.{HasFailed};
+ghost use Rattle.sg_trace.specs.Trace.{replayed};
 ghost use Rattle.sg_edge.specs.Told.{Rose};
+ghost use Rattle.sg_gateway.specs.Runs.{outcomes};
 ghost use Rattle.sg_gateway.specs.Step.{Event};
+ghost use Rattle.sg_migrate.specs.Migrated.{IsOfVersionOne, migrated};
+ghost use Rattle.sg_migrate.specs.Migration as migrations;
 ghost use Rattle.sg_playback.specs.Replay.{IsComplete};
 ghost use Rattle.sg_run.specs.Headline.{Headline};
 ghost use Rattle.sg_run.specs.Run.{HasRun};
 ghost use Rattle.sg_words.specs.Commands.{AreWordsOf, IsNoCommand};
-ghost use Rattle.sg_words.specs.declared.command.Command.TheVariants.{Replay, Relay, Demo};
+ghost use Rattle.sg_words.specs.declared.command.Command.TheVariants.{Replay, Relay, Demo, Migrate, Capture};
 
+use sg_capture::capture;
 use sg_demo::demo;
 use sg_edge::{Clock, Link, Noise, Sink, Source};
 use sg_lanes::Gate;
+use sg_migrate::{migrate, migrated_scripts_tell_the_same};
 use sg_playback::replay;
 use sg_relay::relay;
 use sg_trace::Status;
@@ -23,8 +30,9 @@ use std::thread::Threads;
 /// Runs the command that the words name. `replay` plays the script of the source, writes what it tells to the
 /// sink, and draws the noise that its signals lack; the link and the clock aren't touched. `relay` handles
 /// its lines likewise, and at a `tick` line it takes what the link receives and sends what goes out, until the clock
-/// says that the moment has come. `demo` writes the numbers of a demonstration. Words that are no command are answered
-/// `Usage`, and then nothing is touched.
+/// says that the moment has come. `demo` writes the numbers of a demonstration. `migrate` writes the script of version 1 that
+/// the source holds as one of version 2. `capture` plays a script and the capture behind it, whose datagrams come at the
+/// moments of their records. Words that are no command are answered `Usage`, and then nothing is touched.
 pub fn run<R: Threads + Sync, S: Source, K: Sink, L: Link, C: Clock, N: Noise, G: Gate + Sync>(
     rt: &R,
     alloc: Global,
@@ -70,6 +78,16 @@ pub fn run<R: Threads + Sync, S: Source, K: Sink, L: Link, C: Clock, N: Noise, G
         → (source.new ≡ source.old) × (link.new ≡ link.old) × (clock.new ≡ clock.old) × (noise.new ≡ noise.old) }
     ensures demo_complete { (calls start workers : ℕ) → AreWordsOf (map string_bytes words.now) (Demo calls start workers)
         → ¬ Rose (K.faults sink.old) (K.faults sink.new) → (result ≡ Status.Done) ⊎ (result ≡ Status.NoMemory) }
+    ensures migrate_untouched { AreWordsOf (map string_bytes words.now) Migrate → (link.new ≡ link.old) × (clock.new ≡ clock.old) × (noise.new ≡ noise.old) }
+    ensures migrate_complete { AreWordsOf (map string_bytes words.now) Migrate
+        → ¬ Rose (S.faults source.old) (S.faults source.new) → ¬ Rose (K.faults sink.old) (K.faults sink.new)
+        → migrations.IsComplete result (S.left source.old) (S.left source.new) }
+    ensures capture_untouched { AreWordsOf (map string_bytes words.now) Capture → (link.new ≡ link.old) × (clock.new ≡ clock.old) }
+    ensures capture_complete { AreWordsOf (map string_bytes words.now) Capture
+        → ¬ Rose (S.faults source.old) (S.faults source.new) → ¬ Rose (K.faults sink.old) (K.faults sink.new) → ¬ Rose (N.faults noise.old) (N.faults noise.new)
+        → captures.IsComplete result (S.left source.old) (S.left source.new) }
+    ensures migrated_alike { (octets draws : List ℕ) → IsOfVersionOne octets → length (migrated octets) ≤ 2 ^ 30
+        → outcomes (replayed (migrated octets) draws).events ≡ outcomes (replayed octets draws).events }
     ensures read { HasFailed (result ≡ Status.Read) (S.faults source.old) (S.faults source.new) (S.failed source.new) }
     ensures write { HasFailed (result ≡ Status.Write) (K.faults sink.old) (K.faults sink.new) (K.failed sink.new) }
     ensures link { result ≡ Status.Link → Rose (L.faults link.old) (L.faults link.new) }
@@ -77,6 +95,7 @@ pub fn run<R: Threads + Sync, S: Source, K: Sink, L: Link, C: Clock, N: Noise, G
     ensures noise { HasFailed (result ≡ Status.Noise) (N.faults noise.old) (N.faults noise.new) (N.failed noise.new) }
 {
     headline();
+    migrated_scripts_tell_the_same();
     let command = match read_command(alloc, words) {
         Err(CommandFault::Usage) => return Status::Usage,
         Err(CommandFault::NoMemory) => return Status::NoMemory,
@@ -90,6 +109,8 @@ pub fn run<R: Threads + Sync, S: Source, K: Sink, L: Link, C: Clock, N: Noise, G
             start,
             workers,
         } => demo(rt, alloc, calls, start, workers, sink, gate),
+        Command::Migrate => migrate(alloc, source, sink),
+        Command::Capture => capture(rt, alloc, source, sink, noise, gate),
     }
 }
 

@@ -31,7 +31,7 @@ fn tells(
 }
 
 /// Scripts in parts, what they are answered, and what is written.
-const SCRIPTS: [(&[&str], Status, &[&str]); 10] = [
+const SCRIPTS: [(&[&str], Status, &[&str]); 11] = [
     (&[], Status::Done, &[]),
     (&[HEADER], Status::Done, &[]),
     (
@@ -96,12 +96,28 @@ const SCRIPTS: [(&[&str], Status, &[&str]); 10] = [
         &[KEYED_TOLD],
     ),
     (
-        &["srtpgw 2\n", KEYED],
+        &["srtpgw 3\n", KEYED],
         Status::Script {
             line: 1,
             fault: ScriptFault::Version,
         },
         &[],
+    ),
+    (
+        &[
+            "srtpgw 2\n",
+            KEYED,
+            "in 60000 20000 127.0.0.1:40000 -\n",
+            "in 59999 20000 127.0.0.1:40000 -\n",
+        ],
+        Status::Done,
+        &[
+            KEYED_TOLD,
+            "ended 1 0 1 idle\n",
+            "drop 20000 PortUnused\n",
+            "refused - TickBack 60000\n",
+            "drop 20000 PortUnused\n",
+        ],
     ),
 ];
 
@@ -127,8 +143,38 @@ fn scripts_and_their_outcomes(rt: HostRuntime) -> Result<(), Fail> {
     Ok(())
 }
 
+/// Scripts that are migrated, what they are answered, and what is written.
+const MIGRATED: [(&[&str], Status, &[&str]); 3] = [
+    (&[], Status::Done, &[]),
+    (
+        &[HEADER, "tick 5\n", "in 20000 127.0.0.1:40000 -\n"],
+        Status::Done,
+        &["srtpgw 2\n", "tick 5\n", "in 5 20000 127.0.0.1:40000 -\n"],
+    ),
+    (
+        &["srtpgw 2\n", "tick 5\n"],
+        Status::Script {
+            line: 1,
+            fault: ScriptFault::Version,
+        },
+        &[],
+    ),
+];
+
+#[test]
+fn scripts_are_migrated(rt: HostRuntime) -> Result<(), Fail> {
+    for (script, status, told) in MIGRATED {
+        let given = Given {
+            words: &["migrate"],
+            ..REPLAY
+        };
+        tells(&rt, rt.alloc(), script, given, status, told)?;
+    }
+    Ok(())
+}
+
 /// Words that are no command.
-const OTHER_WORDS: [&[&str]; 13] = [
+const OTHER_WORDS: [&[&str]; 15] = [
     &[],
     &["frob"],
     &["--help"],
@@ -142,6 +188,8 @@ const OTHER_WORDS: [&[&str]; 13] = [
     &["relay", "--turns", "1", "--turns", "1"],
     &["demo", "1"],
     &["demo", "257", "1"],
+    &["migrate", "1"],
+    &["capture", "1"],
 ];
 
 #[test]

@@ -1,6 +1,7 @@
 //! What the statuses of a run are told as.
 
 use sg_base::ScriptFault;
+use sg_pcap::CaptureFault;
 use sg_run::Status;
 use std::test::Fail;
 
@@ -9,6 +10,10 @@ fn numbers_and_texts(rt: HostRuntime) -> Result<(), Fail> {
     let script = Status::Script {
         line: 7,
         fault: ScriptFault::Hex,
+    };
+    let capture = Status::Capture {
+        offset: 20,
+        fault: CaptureFault::LinkType,
     };
     let rows = [
         (Status::Done, 0, ""),
@@ -21,6 +26,7 @@ fn numbers_and_texts(rt: HostRuntime) -> Result<(), Fail> {
         (Status::Clock, 7, "srtpgw: clock failed"),
         (Status::Noise, 8, "srtpgw: noise failed"),
         (Status::TurnsSpent, 9, "srtpgw: turns spent"),
+        (capture, 10, "srtpgw: capture octet 20: LinkType"),
     ];
     for (status, number, text) in rows {
         let told = format!(in rt.alloc(); "{status}")?;
