@@ -37,15 +37,11 @@ const BIG_NANO: [u8; 40] = [
 ];
 
 /// The capture with two octets changed.
-fn changed(place: usize, octets: [u8; 2]) -> [u8; 120] {
+fn changed(place: usize, octets: [u8; 2]) -> Option<[u8; 120]> {
     let mut part = CAPTURE;
-    if let Some(octet) = part.get_mut(place) {
-        *octet = octets[0];
-    }
-    if let Some(octet) = part.get_mut(place + 1) {
-        *octet = octets[1];
-    }
-    part
+    *part.get_mut(place)? = octets[0];
+    *part.get_mut(place + 1)? = octets[1];
+    Some(part)
 }
 
 /// The lines and a capture in two parts: what is answered, and written behind what the lines tell.
@@ -126,8 +122,10 @@ fn captures_and_what_they_tell(rt: HostRuntime) -> Result<(), Fail> {
         ),
         (118, [0x8d, 0xbb], 24, Status::Done, b"".as_slice()),
     ] {
-        let part = changed(place, octets);
-        tells(&rt, rt.alloc(), &part[..count.min(120)], &[], status, told)?;
+        match changed(place, octets) {
+            Some(part) => tells(&rt, rt.alloc(), &part[..count.min(120)], &[], status, told)?,
+            None => assert!(rt; false),
+        }
     }
     tells(
         &rt,
