@@ -50,7 +50,8 @@ fn sealing(slot: u8, medium: u8, spec: SessionSpec, secure: Address, plain: Addr
     }
 }
 
-/// Adds the route that opens, where there is one.
+/// Adds the route that opens, where there is one. A route has some 20,000 octets, so it is made in a frame of its own.
+#[inline(never)]
 fn add_opening(
     slot: u8,
     medium: u8,
@@ -70,7 +71,8 @@ fn add_opening(
     }
 }
 
-/// Adds the route that seals, where there is one.
+/// Adds the route that seals, where there is one. A route has some 20,000 octets, so it is made in a frame of its own.
+#[inline(never)]
 fn add_sealing(
     slot: u8,
     medium: u8,
