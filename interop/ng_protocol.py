@@ -580,6 +580,21 @@ def gateway_dies(program):
     return "two calls told, the next call by the next process, and told where the daemon ends"
 
 
+def has_ended_its_calls(seconds=30):
+    """Waits until the gateway of a daemon that was killed has ended: its calls have their ports until then, and the next
+    daemon can't begin."""
+    end = time.monotonic() + seconds
+    while True:
+        try:
+            for port in range(20000, 20032):
+                with socket.socket(socket.AF_INET, socket.SOCK_DGRAM) as one:
+                    one.bind((HOST, port))
+            return
+        except OSError:
+            assert time.monotonic() < end, "the gateway of a daemon that was killed goes on"
+            time.sleep(0.1)
+
+
 def daemon_dies(program):
     """Where the daemon itself is killed, the next one tells of the calls that were there."""
     place = http.server.ThreadingHTTPServer((HOST, 0), Kamailio)
@@ -593,6 +608,7 @@ def daemon_dies(program):
             server.asks("delete", call_id="one")
             daemon.process.kill()
         assert not Kamailio.told
+        has_ended_its_calls()
         with running(program, *words) as (_, server):
             assert server.asks("list")[b"calls"] == []
     assert Kamailio.told == [["dlg.terminate_dlg", "two", "a", "b"]], Kamailio.told
