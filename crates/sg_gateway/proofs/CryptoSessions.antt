@@ -1,6 +1,6 @@
 -- What is sent in the crypto sessions of a MIKEY exchange is what its two messages say.
-use Rattle.std.proofs.Common.{◌≡◌, ℕ, ◌+◌, ◌*◌, ◌<◌, ◌≤◌, Bool, true, false, cond, not, eqb, List, [], ◌∷◌, ◌++◌, length, map, Option, Some, None, Result, Ok, refl, sym, ap, ◌∙◌, subst, arith, append_assoc, length-append}
-use Rattle.std.specs.List.{AllByRecursion, list_any}
+use Rattle.std.proofs.Common.{◌≡◌, ℕ, ◌+◌, ◌*◌, ◌<◌, ◌≤◌, not, eqb, List, [], ◌∷◌, ◌++◌, length, Some, Ok, refl, sym, ap, ◌∙◌, subst, arith, append_assoc, length-append}
+use Rattle.std.specs.List.{list_any}
 use Rattle.sg_agreement.specs.Keyed.{medium_agreed}
 use Rattle.sg_agreement.specs.Media.{Medium, Stream}
 use Rattle.sg_agreement.specs.MessageAnswers.{keyed_as_initiator, keyed_as_responder, responded}

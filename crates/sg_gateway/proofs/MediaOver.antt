@@ -1,5 +1,5 @@
 -- What holds of each medium that is agreed by a message, in the order of those that are active in the offer.
-use Rattle.std.proofs.Common.{◌≡◌, ℕ, ◌+◌, Bool, true, false, cond, ◌&&◌, List, [], ◌∷◌, Option, Some, None, Result, Ok, refl, sym, ap, ◌∙◌, subst}
+use Rattle.std.proofs.Common.{◌≡◌, ℕ, ◌+◌, Bool, true, false, cond, ◌&&◌, List, [], ◌∷◌, Option, Some, None, Result, Ok, refl, ap, ◌∙◌, subst}
 use Rattle.std.specs.Option.{option_map}
 use Rattle.sg_agreement.proofs.TextLines.{kept_some}
 use Rattle.sg_agreement.specs.EachMedium.{each_kept, if_kept}

@@ -1,5 +1,5 @@
 -- The sessions of media that are agreed by messages are in the crypto sessions of these.
-use Rattle.std.proofs.Common.{◌≡◌, inl, inr, ℕ, suc, ◌^◌, ◌+◌, Bool, true, false, cond, not, eqb, eqb-true, List, [], ◌∷◌, ◌++◌, length, map, take, filter, Option, Some, None, refl, sym, ap, ◌∙◌, subst, arith}
+use Rattle.std.proofs.Common.{◌≡◌, inl, inr, ℕ, suc, ◌^◌, ◌+◌, Bool, true, false, cond, not, eqb, eqb-true, List, [], ◌∷◌, ◌++◌, length, map, take, filter, Option, Some, None, refl, ap, ◌∙◌, subst, arith}
 use Rattle.std.proofs.lemmas.Bool.{eqb-false}
 use Rattle.std.specs.List.{AllByRecursion}
 use Rattle.sg_agreement.proofs.TextLines.{octets_are}
@@ -22,7 +22,6 @@ use Rattle.sg_mikey.specs.declared.message.CsEntry.{CsEntry}
 use Rattle.sg_mikey.specs.declared.message.Message.{Message}
 use Rattle.sg_mikey.specs.declared.message.Tgk.{Tgk}
 use Rattle.sg_psk.specs.Parts.{random_in}
-use Rattle.sg_psk.specs.declared.pairs.Pair.{Pair}
 use Rattle.sg_sdp.specs.declared.medium.Medium as descriptions
 use Rattle.sg_sdp.specs.declared.sdp.Sdp.{Sdp}
 use Rattle.sg_session.proofs.Lists.{each_append, each_weaker}
@@ -37,7 +36,7 @@ use Rattle.sg_gateway.proofs.PolicySays.{IsByItems, by_items}
 use Rattle.sg_gateway.specs.Addressed.{IsMediumAt}
 use Rattle.sg_gateway.specs.CryptoSessions.{IsInCryptoSession, IsSource, Says, encryption_item, life_of, master_under, others_before, session_of, tag_octets, window_towards}
 use Rattle.sg_gateway.specs.OwnMessages.{IsInOwnSession}
-use Rattle.sg_gateway.specs.PeersMessages.{IsByPeersMessage, IsInPeersSession, IsKeyedByOwn, IsKeyedByPart, OwnResponse, PeersMessage}
+use Rattle.sg_gateway.specs.PeersMessages.{IsByPeersMessage, IsInPeersSession, OwnResponse, PeersMessage}
 
 -- ---- keys
 

@@ -1,6 +1,6 @@
 -- What the gateway's own message keys is under the key that it carries, in the crypto sessions of its medium, and the response to
 -- it is authentic.
-use Rattle.std.proofs.Common.{◌≡◌, ℕ, ◌+◌, Bool, true, false, cond, not, ◌&&◌, eqb, eqb-true, List, [], ◌∷◌, ◌++◌, length, map, Option, Some, None, Result, Ok, Err, refl, sym, ap, ◌∙◌, subst}
+use Rattle.std.proofs.Common.{◌≡◌, ℕ, ◌+◌, Bool, true, false, cond, not, ◌&&◌, eqb, eqb-true, List, [], ◌∷◌, length, map, Option, Some, None, Ok, refl, sym, ap, ◌∙◌, subst}
 use Rattle.std.proofs.lemmas.Bool.{and_parts, false≢true, not-false}
 use Rattle.std.specs.List.{Any, filter}
 use Rattle.sg_agreement.proofs.FewMedia.{described_is}
@@ -34,12 +34,11 @@ use Rattle.sg_mikey.specs.declared.message.Tgk.{Tgk}
 use Rattle.sg_psk.specs.Ends.{initial_sent}
 use Rattle.sg_psk.specs.Envelope.{mac_of}
 use Rattle.sg_psk.specs.Pairs.{is_with, pair_with}
-use Rattle.sg_psk.specs.Parts.{closing_in, policies_in, random_in, stamp_in}
+use Rattle.sg_psk.specs.Parts.{closing_in, random_in, stamp_in}
 use Rattle.sg_psk.specs.Policy.{own_policy}
-use Rattle.sg_base.specs.declared.faults.PskFault.{PskFault}
 use Rattle.sg_psk.specs.Sending.{Sent, initial_octets, key_of, one_key, own_map, response_fits, response_of, sent_of, sent_under}
 use Rattle.sg_psk.specs.declared.pairs.Pair.{Pair}
-use Rattle.sg_sdp.specs.Carrying.{carried, carried_lines}
+use Rattle.sg_sdp.specs.Carrying.{carried}
 use Rattle.sg_sdp.specs.Descriptions.{spelling}
 use Rattle.sg_sdp.specs.Reading.{description_of}
 use Rattle.sg_sdp.specs.declared.medium.Medium as descriptions

@@ -1,6 +1,6 @@
 -- What the peer's own MIKEY message keys is under the keys that it carries, in the crypto sessions of its medium, and the peer is
 -- told the response to it.
-use Rattle.std.proofs.Common.{◌≡◌, ◌⊎◌, inl, inr, ℕ, ◌+◌, ◌*◌, Bool, true, false, cond, not, ◌&&◌, ◌||◌, eqb, eqb-true, ltb, List, [], ◌∷◌, ◌++◌, length, map, codes, Option, Some, None, Result, Ok, refl, sym, ap, ◌∙◌, subst, arith, append_assoc, length-append}
+use Rattle.std.proofs.Common.{◌≡◌, ◌⊎◌, inl, inr, ℕ, ◌+◌, Bool, true, false, cond, not, ◌&&◌, ◌||◌, eqb, eqb-true, ltb, List, [], ◌∷◌, ◌++◌, length, map, codes, Option, Some, None, Result, Ok, refl, sym, ap, ◌∙◌, subst}
 use Rattle.std.proofs.lemmas.Bool.{false≢true, not-false}
 use Rattle.std.specs.List.{AllByRecursion, cons_option, filter, filter_map, list_any, starts_with}
 use Rattle.std.specs.Prelude.{nat_eq}
@@ -45,7 +45,6 @@ use Rattle.sg_psk.specs.Parts.{closing_in, names_in, policies_in, random_in}
 use Rattle.sg_psk.specs.Sending.{response_octets}
 use Rattle.sg_psk.specs.declared.pairs.Pair.{Pair}
 use Rattle.sg_psk.specs.declared.replays.Noted.{Noted}
-use Rattle.sg_sdes.specs.KeyTexts.{base64_at}
 use Rattle.sg_sdp.specs.Addresses.{with_address}
 use Rattle.sg_sdp.specs.Carrying.{attribute_name, carried, carried_line, carried_lines, carried_media, carried_medium, is_one_sided}
 use Rattle.sg_sdp.specs.Descriptions.{spelling}

@@ -1,11 +1,9 @@
 -- The messages that the gateway tells are spelled with their MACs: what stands before a MAC doesn't depend on it.
-use Rattle.std.proofs.Common.{◌≡◌, ℕ, ◌-◌, Bool, true, false, cond, List, [], ◌∷◌, ◌++◌, length, map, codes, take, replicate, refl, sym, ap, ◌∙◌, subst, arith, append_assoc, length-append}
+use Rattle.std.proofs.Common.{◌≡◌, ℕ, ◌-◌, Bool, true, false, cond, List, [], ◌∷◌, ◌++◌, length, take, replicate, refl, sym, ap, ◌∙◌, arith, append_assoc, length-append}
 use Rattle.std.proofs.lemmas.List.{append-nil}
-use Rattle.std.specs.List.{AllByRecursion, Any, flat_map}
+use Rattle.std.specs.List.{Any, flat_map}
 use Rattle.sg_base.specs.Octets.{be}
 use Rattle.sg_csmap.specs.CryptoSessions.{streams_of}
-use Rattle.sg_csmap.specs.declared.sessions.StreamKeys.{StreamKeys}
-use Rattle.sg_base.specs.declared.faults.CsFault.{CsFault}
 use Rattle.sg_hmac.proofs.Sizes.{length-hmac_sha1}
 use Rattle.sg_hmac.specs.Hmac.{hmac_sha1}
 use Rattle.sg_hmac.specs.Labels.{authentication_key}

@@ -9,7 +9,6 @@ use Rattle.sg_hmac.specs.Labels.{authentication_key}
 use Rattle.sg_mikey.specs.Reading.{message_of}
 use Rattle.sg_mikey.specs.Spelling.{message_octets}
 use Rattle.sg_mikey.specs.declared.message.Message.{Message}
-use Rattle.sg_mikey.specs.declared.message.Tgk.{Tgk}
 use Rattle.sg_psk.specs.Envelope.{before_mac, enciphered}
 use Rattle.sg_psk.specs.Parts.{closing_in, names_in, random_in, stamp_in}
 use Rattle.sg_psk.specs.declared.pairs.Pair.{Pair}
