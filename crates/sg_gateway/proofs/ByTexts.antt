@@ -343,7 +343,7 @@ by_way (MikeyFromPlain peer) hand offered noise text c d number answer a g agree
       by.message,
       by.response,
       of_generation c d (sessions_from c.serial c.generations 0 number g.media) (IsInOwnSession by.message.message by.message.key by.response.response a.offer.description) sessions generations
-          (by_message by.message.message by.message.key by.response.response a.offer.description is.0 c.serial c.generations number g.media by.agreed),
+          (by_message by.message.message by.policies by.message.key by.response.response a.offer.description is.0 c.serial c.generations number g.media by.agreed),
     )
 
 module _ (ts : List Turn) (w : World) (made : WereMade ts w) (id : CallId) (noise text : List ℕ) (c : Call) (at : call_of w id ≡ Some c) where

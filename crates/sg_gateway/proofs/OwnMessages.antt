@@ -34,7 +34,7 @@ use Rattle.sg_mikey.specs.declared.message.Tgk.{Tgk}
 use Rattle.sg_psk.specs.Ends.{initial_sent}
 use Rattle.sg_psk.specs.Envelope.{mac_of}
 use Rattle.sg_psk.specs.Pairs.{is_with, pair_with}
-use Rattle.sg_psk.specs.Parts.{closing_in, random_in, stamp_in}
+use Rattle.sg_psk.specs.Parts.{closing_in, policies_in, random_in, stamp_in}
 use Rattle.sg_psk.specs.Policy.{own_policy}
 use Rattle.sg_psk.specs.Sending.{Sent, initial_octets, key_of, one_key, own_map, response_fits, response_of, sent_of, sent_under}
 use Rattle.sg_psk.specs.declared.pairs.Pair.{Pair}
@@ -145,6 +145,7 @@ module _ (w : Sent) where
 pub record IsByMessageOf (pairs : List Pair) (peer : List ℕ) (offer answer told : Sdp) (xs : List (Option Medium)) : Type 0 where
   pub message : OwnMessage pairs peer told.session
   pub response : PeersResponse message.message message.pair answer.session
+  pub policies : policies_in message.message.payloads ≡ own_policy ∷ []
   pub agreed : MediaFrom Plain (IsOfMessage message.message message.key response.response.map) 0 offer.media answer.media answer.media xs
 
 -- the pair is one that is held with the peer
@@ -154,6 +155,10 @@ sent_is pairs peer now noise ssrcs None w at e = absurd cc
 sent_is pairs peer now noise ssrcs (Some pair) w at e =
     let f = find_any (is_with peer) pairs pair at in
     (pair, f.0, same_octets_is pair.peer peer f.1, ok_is (sent_of pair now noise ssrcs) w e)
+
+own_policies : (w : Sent) → policies_in (initial_sent w).payloads ≡ own_policy ∷ []
+unfolding policies_in
+own_policies w = refl
 
 -- what the two messages say, of this message as it is told
 abbrev Is : Sdp → Sdp → List (Option Medium) → Message → Pair → List ℕ → Type 0
@@ -166,7 +171,7 @@ by_told pairs peer offer answer told xs w m of_message of_pair of_key p =
     let is : Is offer answer xs m.message m.pair m.key =
     subst (λ message. Is offer answer xs message m.pair m.key) (sym of_message)
     (subst (λ pair. Is offer answer xs (initial_sent w) pair m.key) (sym of_pair) (subst (λ key. Is offer answer xs (initial_sent w) w.pair key) (sym of_key) p)) in
-    record { message = m; response = is.0; agreed = is.1 }
+    record { message = m; response = is.0; policies = ap (λ (m : Message). policies_in m.payloads) of_message ∙ own_policies w; agreed = is.1 }
 
 -- by the two texts and the two descriptions
 abbrev pub IsByOwnMessage : AtHand → List ℕ → List ℕ → Sdp → List ℕ → List (Option Medium) → Type 0

@@ -1,9 +1,10 @@
 -- The sessions that the gateway's own MIKEY message keys: under the key that the message carries, in the crypto sessions of
 -- their medium, as the message that the peer is told and its response say (RFC 3830, 3.1, 5.2, 6.1.1 and 6.13).
-use Rattle.std.specs.Prelude.{◌≡◌, ℕ, List, [], ◌∷◌, ◌++◌, length, None, Ok}
+use Rattle.std.specs.Prelude.{◌≡◌, ℕ, List, [], ◌∷◌, ◌++◌, true, length, None, Ok}
 use Rattle.std.specs.List.{Any}
 use Rattle.sg_base.specs.Octets.{be}
 use Rattle.sg_base.specs.declared.addresses.Side.TheVariants.{Plain}
+use Rattle.sg_base.specs.declared.suites.Suite.TheVariants.{Cm128Tag80}
 use Rattle.sg_hmac.specs.Hmac.{hmac_sha1}
 use Rattle.sg_hmac.specs.Labels.{authentication_key}
 use Rattle.sg_mikey.specs.Reading.{message_of}
@@ -50,9 +51,11 @@ pub record PeersResponse (initial : Message) (pair : Pair) (lines : List (List �
   pub as_many : length response.map ≡ length initial.map
 
 -- The gateway is the initiator, and the plain side's medium is that of the offer: the session is in the crypto session of its
--- medium.
+-- medium, under AES with 128 bits and tags of 80, and always encrypts.
 pub record IsInOwnSession (m : Message) (key : List ℕ) (response : Message) (offer : Sdp) (s : Session) : Type 0 where
   pub offered : descriptions.Medium
   pub in_offer : IsMediumAt offer.media s.name.owner.medium offered
   pub keyed : IsInCryptoSession m (record { key = key; spi = None } ∷ []) response.map m.map
       (session_of Sealing s.name.owner.direction (others_before Plain offer.media s.name.owner.medium)) offered s
+  pub suite : keyed.suite ≡ Cm128Tag80
+  pub encrypts : s.encrypts ≡ true
