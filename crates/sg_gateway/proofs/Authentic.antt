@@ -82,7 +82,7 @@ message_is medium (Err place) m e = absurd cc
 
 -- ---- the pair
 
-find_any : {X : Type 0} (test : X → Bool) (xs : List X) (x : X) → find test xs ≡ Some x → Any (λ y. y ≡ x) xs × (test x ≡ true)
+pub find_any : {X : Type 0} (test : X → Bool) (xs : List X) (x : X) → find test xs ≡ Some x → Any (λ y. y ≡ x) xs × (test x ≡ true)
 find_any test [] x e = absurd cc
 find_any test (y ∷ ys) x e = go (test y) refl (find_any test ys x) e
   where

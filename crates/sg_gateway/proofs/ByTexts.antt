@@ -5,7 +5,6 @@ use Rattle.std.proofs.lemmas.List.Elements.{All-from_recursion}
 use Rattle.std.specs.List.{All, AllByRecursion, Any, filter}
 use Rattle.std.specs.Option.{is_some}
 use Rattle.sg_agreement.proofs.AllAgreed.{all_agreed, offer_is}
-use Rattle.sg_agreement.proofs.OwnMessages.{by_own_message}
 use Rattle.sg_agreement.proofs.TextLines.{from_plain, from_secure}
 use Rattle.sg_agreement.specs.Answers.{AgreedAnswer, agreed_answer}
 use Rattle.sg_agreement.specs.Generations.{Generation, generation_of, keys_from, sessions_from}
@@ -14,7 +13,6 @@ use Rattle.sg_agreement.specs.Manual.{ManualCall, manual_medium}
 use Rattle.sg_agreement.specs.Media.{Medium}
 use Rattle.sg_agreement.specs.Messages.{AtHand}
 use Rattle.sg_agreement.specs.Offers.{AgreedOffer, agreed_offer}
-use Rattle.sg_agreement.specs.OwnMessages.{IsResponseTo}
 use Rattle.sg_agreement.specs.Sides.{other_side, side_of}
 use Rattle.sg_agreement.specs.TextLines.{StandInTexts}
 use Rattle.sg_agreement.specs.declared.ways.Way.{Way}
@@ -38,14 +36,16 @@ use Rattle.sg_session.specs.Ring.{install}
 use Rattle.sg_session.specs.Session.{Session}
 use Rattle.sg_gateway.proofs.Arrivals.{Arrival, IsDrop, IsOpening, IsSeal, arrival, kept_by}
 use Rattle.sg_gateway.proofs.CarriedOut.{found_with, id_found, stays}
-use Rattle.sg_gateway.proofs.LineSessions.{all_by_message, all_lined}
-use Rattle.sg_gateway.proofs.MessageSessions.{by_own, by_part}
+use Rattle.sg_gateway.proofs.LineSessions.{all_lined}
+use Rattle.sg_gateway.proofs.MessageSessions.{by_message, by_own, by_part}
+use Rattle.sg_gateway.proofs.OwnMessages.{by_own_message}
 use Rattle.sg_gateway.proofs.PeersMessages.{by_peers_message}
 use Rattle.sg_gateway.proofs.Signals.{each_and_call, each_with_call, found}
-use Rattle.sg_gateway.specs.ByTexts.{AnswerIsByTexts, AnswersAreByTexts, AreByTexts, Exchange, HasItsLines, HaveLines, IsByMessage}
+use Rattle.sg_gateway.specs.ByTexts.{AnswerIsByTexts, AnswersAreByTexts, AreByOwnMessage, AreByTexts, Exchange, HasItsLines, HaveLines}
 use Rattle.sg_gateway.specs.CallSignals.{answered_to, at_hand, call_at_tick, drops_earlier, has_begun, is_idle, keyed_manually, offered_in, rejected_in, takes_offer, without_earlier}
 use Rattle.sg_gateway.specs.Datagrams.{Given, arrived_at, arrived_in, given_to}
 use Rattle.sg_gateway.specs.Generations.{Settled, is_current, is_opening, keyed}
+use Rattle.sg_gateway.specs.OwnMessages.{IsInOwnSession}
 use Rattle.sg_gateway.specs.PeersMessages.{IsByPeersMessage}
 use Rattle.sg_gateway.specs.Ports.{call_at, has_port}
 use Rattle.sg_gateway.specs.Runs.{Turn, turn_of, turns_from}
@@ -319,12 +319,15 @@ by_way FromSecure hand offered noise text c d number answer a g agreed e of_text
   (λ some.
       let is = by_peers_message hand offered noise text c.slot a g agreed some e in
       let same : is.0 ≡ answer = ok_is is.0 answer (sym is.1 ∙ of_text) in
-      let by : AllByRecursion (IsByPeersMessage hand.pairs a.offer.description is.0) (sessions_from c.serial c.generations 0 number g.media) = elim is.2 [
-        | inl part ↦ by_part hand a.offer.description is.0 part.0 c.serial c.generations number g.media part.1
-        | inr own ↦ by_own hand a.offer.description is.0 own.0 c.serial c.generations number g.media own.1
-      ] in
-      of_generation c d (sessions_from c.serial c.generations 0 number g.media) (IsByPeersMessage hand.pairs a.offer.description answer) sessions generations
-      (subst (λ (answer : sdp.Sdp). AllByRecursion (IsByPeersMessage hand.pairs a.offer.description answer) (sessions_from c.serial c.generations 0 number g.media)) same by)),
+      let by : AllByRecursion (IsByPeersMessage hand.pairs a.offer.description is.0 is.2) (sessions_from c.serial c.generations 0 number g.media) = elim is.4 [
+        | inl part ↦ by_part hand a.offer.description is.0 is.2 part.0 part.1 c.serial c.generations number g.media part.2
+        | inr own ↦ by_own hand a.offer.description is.0 is.2 own.0 c.serial c.generations number g.media own.1
+      ] in (
+        is.2,
+        is.3,
+        of_generation c d (sessions_from c.serial c.generations 0 number g.media) (IsByPeersMessage hand.pairs a.offer.description answer is.2) sessions generations
+            (subst (λ (answer : sdp.Sdp). AllByRecursion (IsByPeersMessage hand.pairs a.offer.description answer is.2) (sessions_from c.serial c.generations 0 number g.media)) same by),
+      )),
 )
 by_way SdesFromPlain hand offered noise text c d number answer a g agreed e of_text sessions generations =
     let is = from_plain hand offered noise text c.slot a g agreed e in
@@ -332,12 +335,15 @@ by_way SdesFromPlain hand offered noise text c d number answer a g agreed e of_t
     subst (λ (answer : sdp.Sdp). HaveLines answer.media a.text d) same (have_lines c d number is.0.media a.text g.media is.2 sessions generations)
 by_way (MikeyFromPlain peer) hand offered noise text c d number answer a g agreed e of_text sessions generations =
     let is = by_own_message hand peer offered noise text c.slot a g agreed e in
-    let by = is.2 in
-    let same : is.0 ≡ answer = ok_is is.0 answer (sym is.1 ∙ of_text) in (
-      by.sent,
-      by.tells,
-      subst (λ (answer : sdp.Sdp). IsResponseTo by.sent answer.session) same by.responds,
-      of_generation c d (sessions_from c.serial c.generations 0 number g.media) (IsByMessage by.sent) sessions generations (all_by_message by.sent c.serial c.generations 0 number g.media by.agreed),
+    let same : is.0 ≡ answer = ok_is is.0 answer (sym is.1 ∙ of_text) in
+    let by = is.4 in
+    subst (λ (answer : sdp.Sdp). AreByOwnMessage hand.pairs peer a.offer.description answer a.text d) same (
+      is.2,
+      is.3,
+      by.message,
+      by.response,
+      of_generation c d (sessions_from c.serial c.generations 0 number g.media) (IsInOwnSession by.message.message by.message.key by.response.response a.offer.description) sessions generations
+          (by_message by.message.message by.policies by.message.key by.response.response a.offer.description is.0 c.serial c.generations number g.media by.agreed),
     )
 
 module _ (ts : List Turn) (w : World) (made : WereMade ts w) (id : CallId) (noise text : List ℕ) (c : Call) (at : call_of w id ≡ Some c) where

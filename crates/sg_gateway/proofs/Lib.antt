@@ -7,6 +7,7 @@ pub mod ByTexts
 pub mod CallList
 pub mod Came
 pub mod CarriedOut
+pub mod CryptoSessions
 pub mod Datagrams
 pub mod Deliveries
 pub mod Departs
@@ -22,6 +23,7 @@ pub mod Kept
 pub mod Lasting
 pub mod LineSessions
 pub mod Lives
+pub mod MediaOver
 pub mod MessageSessions
 pub mod NewSessions
 pub mod Newness
@@ -31,6 +33,7 @@ pub mod Ordered
 pub mod Orderly
 pub mod Origins
 pub mod Overspent
+pub mod OwnMessages
 pub mod Owned
 pub mod Owners
 pub mod Pairs
@@ -53,6 +56,7 @@ pub mod StaysAway
 pub mod Tags
 pub mod Taken
 pub mod ToldInWorld
+pub mod ToldMessages
 pub mod UnderBlocks
 pub mod Used
 pub mod WholeTags

@@ -1,14 +1,11 @@
--- The sessions of media that are agreed by crypto lines are under these lines, and those by the gateway's message in its crypto
--- sessions.
+-- The sessions of media that are agreed by crypto lines are under these lines.
 use Rattle.std.proofs.Common.{◌≡◌, not, ℕ, suc, ◌+◌, Bool, true, false, cond, List, [], ◌∷◌, ◌++◌, length, map, Option, Some, None, refl, ap, ◌∙◌, subst, arith}
 use Rattle.std.specs.List.{AllByRecursion}
 use Rattle.sg_agreement.specs.Generations.{keys_of, numbered, owner_at, sessions_from, stream_session, stream_sessions}
 use Rattle.sg_agreement.specs.Media.{AgreedKey, Medium, Stream}
-use Rattle.sg_agreement.specs.OwnMessages.{IsInSession, IsByOwnMessage, AreByOwnMessage}
 use Rattle.sg_agreement.specs.TextLines.{HasLine, TellsLine, IsUnder, IsByLines, IsOfTexts, AreOfTexts}
 use Rattle.sg_base.specs.declared.addresses.Kind.{Kind}
 use Rattle.sg_base.specs.declared.addresses.Kind.TheVariants.{Rtp, Rtcp}
-use Rattle.sg_psk.specs.Sending.{Sent}
 use Rattle.sg_sdes.specs.declared.lines.CryptoLine.{CryptoLine}
 use Rattle.sg_sdp.specs.declared.medium.Medium as descriptions
 use Rattle.sg_session.proofs.Lists.{each_append, each_weaker}
@@ -16,8 +13,8 @@ use Rattle.sg_session.specs.Session.{Session}
 use Rattle.sg_session.specs.declared.names.Direction.{Direction}
 use Rattle.sg_session.specs.declared.names.Direction.TheVariants.{Opening, Sealing}
 use Rattle.sg_gateway.specs.Addressed.{IsMediumAt}
-use Rattle.sg_gateway.specs.ByTexts.{is_plain, line_towards, HasWindow, IsByLinesOf, HasItsLines, number_towards, IsByMessage}
-use Rattle.sg_gateway.specs.PeersMessages.{life_of, tag_octets}
+use Rattle.sg_gateway.specs.ByTexts.{is_plain, line_towards, HasWindow, IsByLinesOf, HasItsLines}
+use Rattle.sg_gateway.specs.CryptoSessions.{life_of, tag_octets}
 
 -- ---- keys
 
@@ -160,31 +157,3 @@ all_lined call generation n ps ts xs are = each_weaker (LinesFrom 0 ps ts) (HasI
           in_told = subst (λ k. IsMediumAt ts k is.for_peer) same is.in_told;
           by_lines = is.by_lines;
         }
-
--- ---- by the gateway's message
-
-module _ (sent : Sent) where
-  stream_by : (direction : Direction) (k call generation medium n : ℕ) (st : Stream) (window : ℕ) (x : Medium) → IsInSession sent (number_towards direction k) st
-      → st.encrypts_rtp ≡ true → st.encrypts_rtcp ≡ true → AllByRecursion (IsByMessage sent) (stream_sessions (owner_at call generation medium direction) (numbered n st.keys) st window x)
-  stream_by direction k call generation medium n st window x is rtp rtcp = (this Rtp st.encrypts_rtp st.tag_len rtp, go x.has_rtcp)
-    where
-      this : (kind : Kind) (encrypts : Bool) (tag_len : ℕ) → encrypts ≡ true → IsByMessage sent (stream_session (owner_at call generation medium direction) (numbered n st.keys) st window x kind encrypts tag_len)
-      this kind encrypts tag_len on = record { number = k; masters = masters_of kind n st.keys ∙ is; encrypts = on }
-
-      go : (b : Bool) → AllByRecursion (IsByMessage sent) (cond b (stream_session (owner_at call generation medium direction) (numbered n st.keys) st window x Rtcp st.encrypts_rtcp 10 ∷ []) [])
-      go true = (this Rtcp st.encrypts_rtcp 10 rtcp, tt)
-      go false = tt
-
-  pub all_by_message : (call generation m n : ℕ) (xs : List (Option Medium)) → AreByOwnMessage sent xs → AllByRecursion (IsByMessage sent) (sessions_from call generation m n xs)
-  all_by_message call generation m n [] are = tt
-  all_by_message call generation m n (None ∷ xs) are = all_by_message call generation (m + 1) n xs are.1
-  all_by_message call generation m n (Some x ∷ xs) are =
-      let is : IsByOwnMessage sent x = are.0 x refl in
-      let opening : List Session = stream_sessions (owner_at call generation m Opening) (numbered n x.from_peer.keys) x.from_peer x.window x in
-      let sealing : List Session = stream_sessions (owner_at call generation m Sealing) (numbered (n + length x.from_peer.keys) x.to_peer.keys) x.to_peer 1024 x in
-      let later : List Session = sessions_from call generation (m + 1) (n + length x.from_peer.keys + length x.to_peer.keys) xs in
-      each_append (IsByMessage sent) opening (sealing ++ later)
-      (stream_by Opening is.number call generation m n x.from_peer x.window x is.opens is.opens_rtp is.opens_rtcp)
-      (each_append (IsByMessage sent) sealing later
-      (stream_by Sealing is.number call generation m (n + length x.from_peer.keys) x.to_peer 1024 x is.seals is.seals_rtp is.seals_rtcp)
-      (all_by_message call generation (m + 1) (n + length x.from_peer.keys + length x.to_peer.keys) xs are.1))

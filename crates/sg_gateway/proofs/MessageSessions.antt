@@ -1,37 +1,48 @@
--- The sessions of media that are agreed by the peer's messages are in the crypto sessions of these.
+-- The sessions of media that are agreed by messages are in the crypto sessions of these.
 use Rattle.std.proofs.Common.{◌≡◌, inl, inr, ℕ, suc, ◌^◌, ◌+◌, Bool, true, false, cond, not, eqb, eqb-true, List, [], ◌∷◌, ◌++◌, length, map, take, filter, Option, Some, None, refl, sym, ap, ◌∙◌, subst, arith}
 use Rattle.std.proofs.lemmas.Bool.{eqb-false}
 use Rattle.std.specs.List.{AllByRecursion}
 use Rattle.sg_agreement.proofs.TextLines.{octets_are}
-use Rattle.sg_agreement.specs.Attributes.{own_ssrc}
 use Rattle.sg_agreement.specs.Generations.{keys_of, numbered, owner_at, sessions_from, stream_session, stream_sessions}
 use Rattle.sg_agreement.specs.Media.{Medium, Stream}
 use Rattle.sg_agreement.specs.Messages.{AtHand}
 use Rattle.sg_agreement.specs.Sides.{is_active}
 use Rattle.sg_agreement.specs.Streams.{admit_of, session_key, stream_of_session, with_source}
 use Rattle.sg_agreement.specs.TextLines.{IsMessageLine, identifier}
+use Rattle.sg_base.proofs.Cases.{none_some, some_is}
 use Rattle.sg_base.specs.Keys.{Master}
 use Rattle.sg_base.specs.declared.addresses.Kind.{Kind}
 use Rattle.sg_base.specs.declared.addresses.Kind.TheVariants.{Rtp, Rtcp}
-use Rattle.sg_base.specs.declared.addresses.Side.TheVariants.{Secure}
+use Rattle.sg_base.specs.declared.addresses.Side.{Side}
+use Rattle.sg_base.specs.declared.addresses.Side.TheVariants.{Secure, Plain}
 use Rattle.sg_base.specs.declared.sources.Admit.TheVariants as admit
 use Rattle.sg_base.specs.declared.suites.Suite.{Suite}
-use Rattle.sg_csmap.specs.CryptoSessions.{keys_in, stream_keys}
+use Rattle.sg_base.specs.declared.suites.Suite.TheVariants.{Cm128Tag80}
+use Rattle.sg_csmap.specs.CryptoSessions.{keys_in, policy_at, stream_keys}
+use Rattle.sg_csmap.specs.Policies.{each_once, meaning, protection_of, said_by, value_of}
+use Rattle.sg_csmap.specs.declared.policies.Protection.{Protection}
 use Rattle.sg_csmap.specs.declared.sessions.StreamKeys.{StreamKeys}
+use Rattle.sg_mikey.specs.declared.message.CsEntry.{CsEntry}
 use Rattle.sg_mikey.specs.declared.message.Message.{Message}
 use Rattle.sg_mikey.specs.declared.message.Tgk.{Tgk}
-use Rattle.sg_psk.specs.Parts.{random_in}
+use Rattle.sg_mikey.specs.declared.policy.Policy.{Policy}
+use Rattle.sg_psk.specs.Parts.{policies_in, random_in}
+use Rattle.sg_psk.specs.Policy.{own_policy}
 use Rattle.sg_sdp.specs.declared.medium.Medium as descriptions
 use Rattle.sg_sdp.specs.declared.sdp.Sdp.{Sdp}
 use Rattle.sg_session.proofs.Lists.{each_append, each_weaker}
 use Rattle.sg_session.specs.Session.{Session}
 use Rattle.sg_session.specs.declared.names.Direction.{Direction}
 use Rattle.sg_session.specs.declared.names.Direction.TheVariants.{Opening, Sealing}
+use Rattle.sg_gateway.proofs.CryptoSessions.{IsMediumIn, IsSent, IsStreamIn}
 use Rattle.sg_gateway.proofs.LineSessions.{masters_of, mkis_of}
-use Rattle.sg_gateway.proofs.PeersMessages.{IsBetween, IsOfOwn, IsOfPart, IsPair, IsSent, MediaFrom}
+use Rattle.sg_gateway.proofs.MediaOver.{MediaFrom}
+use Rattle.sg_gateway.proofs.PeersMessages.{IsOfOwn, IsOfPart}
 use Rattle.sg_gateway.proofs.PolicySays.{IsByItems, by_items}
 use Rattle.sg_gateway.specs.Addressed.{IsMediumAt}
-use Rattle.sg_gateway.specs.PeersMessages.{PeersMessage, IsByPeersMessage, IsInCryptoSession, IsKeyedByPeer, IsRollover, IsSource, Says, encryption_item, life_of, master_under, session_of, source_told, tag_octets, window_towards}
+use Rattle.sg_gateway.specs.CryptoSessions.{IsInCryptoSession, IsSource, Says, encryption_item, life_of, master_under, others_before, session_of, tag_octets, window_towards}
+use Rattle.sg_gateway.specs.OwnMessages.{IsInOwnSession}
+use Rattle.sg_gateway.specs.PeersMessages.{IsByPeersMessage, IsInPeersSession, OwnResponse, PeersMessage}
 
 -- ---- keys
 
@@ -64,155 +75,217 @@ source_is ssrc = go (eqb ssrc 0) refl
 
 -- ---- a session
 
-module _ (m : Message) (tgks : List Tgk) (others : ℕ) (answered : descriptions.Medium) where
-  -- what is sent in a crypto session, under this source and from this rollover on
-  module _ (direction : Direction) (call generation medium n ssrc roc : ℕ) (x : Medium) (s : StreamKeys) (is : IsSent m tgks (session_of direction others) s)
-      (rollover : IsRollover direction is.entry roc) (source : source_told direction is.entry answered ≡ ssrc) where
+-- a protection says that this kind isn't encrypted
+abbrev is_plain : Kind → Protection → Bool
+is_plain Rtp p = p.plain_rtp
+is_plain Rtcp p = p.plain_rtcp
+
+module _ (m : Message) (tgks : List Tgk) (peers own : List CsEntry) (plain : descriptions.Medium) where
+  -- in this crypto session, in the suite of a protection, and encrypted unless that says not to
+  abbrev IsUnder : Protection → ℕ → Session → Type 0
+  IsUnder p number s = (i : IsInCryptoSession m tgks peers own number plain s) × (i.suite ≡ p.suite) × (s.encrypts ≡ not (is_plain s.name.kind p))
+
+  -- what is sent in a crypto session, with what its sender says of itself
+  module _ (direction : Direction) (number call generation medium n : ℕ) (x : Medium) (st : Stream) (is : IsStreamIn m tgks peers own plain direction number st) where
     abbrev stream : Stream
-    stream = stream_of_session (with_source ssrc roc (stream_keys m.csb (random_in m.payloads) tgks (session_of direction others) is.entry is.protection))
+    stream = stream_of_session (with_source is.says.ssrc is.says.roc (stream_keys m.csb (random_in m.payloads) tgks number is.sent.entry is.sent.protection))
 
-    items : IsByItems is.policy.items is.protection
-    items = by_items is.policy is.protection is.means
+    items : IsByItems is.sent.policy.items is.sent.protection
+    items = by_items is.sent.policy is.sent.protection is.sent.means
 
-    this : (kind : Kind) (encrypts : Bool) (tag_len on : ℕ) → Says is.policy.items (encryption_item kind) 1 on → encrypts ≡ not (eqb on 0) → tag_len ≡ tag_octets kind is.protection.suite
-        → IsInCryptoSession m tgks others answered (stream_session (owner_at call generation medium direction) (numbered n stream.keys) stream (window_towards direction) x kind encrypts tag_len)
-    this kind encrypts tag_len on says encrypted tags = record {
-      entry = is.entry;
-      in_map = is.in_map;
-      policy = is.policy;
-      named = is.named;
-      suite = is.protection.suite;
-      key_len = items.key_len;
-      tag_len = items.tag_len;
-      masters = masters_of kind n stream.keys ∙ masters_in m (session_of direction others) is.protection.suite tgks;
-      mkis = mkis_of kind n stream.keys ∙ mkis_in m (session_of direction others) is.protection.suite tgks;
-      lives = lives_in m (session_of direction others) n is.protection.suite kind tgks;
-      tags = tags;
-      on = on;
-      says_on = says;
-      encrypts = encrypted;
-      rollover = rollover;
-      source = subst (λ k. IsSource k (admit_of ssrc)) (sym source) (source_is ssrc);
-      window = refl;
-    }
+    this : (kind : Kind) (encrypts : Bool) (tag_len on : ℕ) → Says is.sent.policy.items (encryption_item kind) 1 on → encrypts ≡ not (eqb on 0) → tag_len ≡ tag_octets kind is.sent.protection.suite
+        → encrypts ≡ not (is_plain kind is.sent.protection)
+        → IsUnder is.sent.protection number (stream_session (owner_at call generation medium direction) (numbered n stream.keys) stream (window_towards direction) x kind encrypts tag_len)
+    this kind encrypts tag_len on says encrypted tags by_protection = (
+      record {
+        entry = is.sent.entry;
+        in_map = is.sent.in_map;
+        policy = is.sent.policy;
+        named = is.sent.named;
+        suite = is.sent.protection.suite;
+        key_len = items.key_len;
+        tag_len = items.tag_len;
+        masters = masters_of kind n stream.keys ∙ masters_in m number is.sent.protection.suite tgks;
+        mkis = mkis_of kind n stream.keys ∙ mkis_in m number is.sent.protection.suite tgks;
+        lives = lives_in m number n is.sent.protection.suite kind tgks;
+        tags = tags;
+        on = on;
+        says_on = says;
+        encrypts = encrypted;
+        senders = is.says;
+        in_senders = is.in_senders;
+        of_gateway = is.of_gateway;
+        rollover = refl;
+        source = source_is is.says.ssrc;
+        window = refl;
+      },
+      refl,
+      by_protection,
+    )
 
-    sessions_of_stream : AllByRecursion (IsInCryptoSession m tgks others answered) (stream_sessions (owner_at call generation medium direction) (numbered n stream.keys) stream (window_towards direction) x)
-    sessions_of_stream = (this Rtp stream.encrypts_rtp stream.tag_len items.rtp items.says_rtp (ap not items.plain_rtp) refl, go x.has_rtcp)
+    sessions_of_stream : AllByRecursion (IsUnder is.sent.protection number) (stream_sessions (owner_at call generation medium direction) (numbered n stream.keys) stream (window_towards direction) x)
+    sessions_of_stream = (this Rtp stream.encrypts_rtp stream.tag_len items.rtp items.says_rtp (ap not items.plain_rtp) refl refl, go x.has_rtcp)
       where
-        go : (b : Bool) → AllByRecursion (IsInCryptoSession m tgks others answered)
+        go : (b : Bool) → AllByRecursion (IsUnder is.sent.protection number)
             (cond b (stream_session (owner_at call generation medium direction) (numbered n stream.keys) stream (window_towards direction) x Rtcp stream.encrypts_rtcp 10 ∷ []) [])
-        go true = (this Rtcp stream.encrypts_rtcp 10 items.rtcp items.says_rtcp (ap not items.plain_rtcp) refl, tt)
+        go true = (this Rtcp stream.encrypts_rtcp 10 items.rtcp items.says_rtcp (ap not items.plain_rtcp) refl refl, tt)
         go false = tt
 
-  abbrev Of : ℕ → ℕ → ℕ → ℕ → Direction → Stream → ℕ → Medium → Type 0
-  Of call generation medium n direction st window x = AllByRecursion (IsInCryptoSession m tgks others answered) (stream_sessions (owner_at call generation medium direction) (numbered n st.keys) st window x)
+    sessions_of : AllByRecursion (IsUnder is.sent.protection number) (stream_sessions (owner_at call generation medium direction) (numbered n st.keys) st (window_towards direction) x)
+    sessions_of =
+        let same : stream ≡ st = ap (λ (s : StreamKeys). stream_of_session (with_source is.says.ssrc is.says.roc s)) is.sent.same ∙ is.same in
+        subst (λ (st : Stream). AllByRecursion (IsUnder is.sent.protection number) (stream_sessions (owner_at call generation medium direction) (numbered n st.keys) st (window_towards direction) x))
+        same sessions_of_stream
 
-  opening_in : (call generation medium n : ℕ) (x : Medium) (p : StreamKeys × StreamKeys) → IsPair m tgks others p → IsBetween p answered x → Of call generation medium n Opening x.from_peer x.window x
-  opening_in call generation medium n x p is b =
-      let keys : StreamKeys = stream_keys m.csb (random_in m.payloads) tgks (session_of Opening others) is.0.entry is.0.protection in
-      let same : stream_of_session keys ≡ x.from_peer = ap stream_of_session is.0.same ∙ b.from_peer in
-      subst (λ window. Of call generation medium n Opening x.from_peer window x) b.window
-      (subst (λ (st : Stream). Of call generation medium n Opening st 64 x) same
-      (sessions_of_stream Opening call generation medium n is.0.entry.ssrc is.0.entry.roc x p.0 is.0 refl refl))
+  -- of a medium, behind so many others
+  abbrev IsIn : Direction → ℕ → Session → Type 0
+  IsIn initiator others s = IsInCryptoSession m tgks peers own (session_of initiator s.name.owner.direction others) plain s
 
-  sealing_in : (call generation medium n : ℕ) (x : Medium) (p : StreamKeys × StreamKeys) → IsPair m tgks others p → IsBetween p answered x → Of call generation medium n Sealing x.to_peer 1024 x
-  sealing_in call generation medium n x p is b =
-      let keys : StreamKeys = stream_keys m.csb (random_in m.payloads) tgks (session_of Sealing others) is.1.entry is.1.protection in
-      let same : stream_of_session (with_source (own_ssrc answered.lines) 0 keys) ≡ x.to_peer =
-      ap (λ (s : StreamKeys). stream_of_session (with_source (own_ssrc answered.lines) 0 s)) is.1.same ∙ b.to_peer in
-      subst (λ (st : Stream). Of call generation medium n Sealing st 1024 x) same
-      (sessions_of_stream Sealing call generation medium n (own_ssrc answered.lines) 0 x p.1 is.1 refl refl)
+  -- the same, under a protection
+  abbrev IsInUnder : Protection → Direction → ℕ → Session → Type 0
+  IsInUnder p initiator others s = IsUnder p (session_of initiator s.name.owner.direction others) s
+
+  abbrev Opens : ℕ → ℕ → ℕ → ℕ → Medium → List Session
+  Opens call generation medium n x = stream_sessions (owner_at call generation medium Opening) (numbered n x.from_peer.keys) x.from_peer x.window x
+
+  abbrev Seals : ℕ → ℕ → ℕ → ℕ → Medium → List Session
+  Seals call generation medium n x = stream_sessions (owner_at call generation medium Sealing) (numbered n x.to_peer.keys) x.to_peer 1024 x
+
+  -- the sessions of one direction have that direction
+  towards : (p : Protection) (initiator direction : Direction) (others call generation medium n window : ℕ) (st : Stream) (x : Medium)
+      → AllByRecursion (IsUnder p (session_of initiator direction others)) (stream_sessions (owner_at call generation medium direction) (numbered n st.keys) st window x)
+      → AllByRecursion (IsInUnder p initiator others) (stream_sessions (owner_at call generation medium direction) (numbered n st.keys) st window x)
+  towards p initiator direction others call generation medium n window st x is = (is.0, go x.has_rtcp is.1)
+    where
+      rtcp : Session
+      rtcp = stream_session (owner_at call generation medium direction) (numbered n st.keys) st window x Rtcp st.encrypts_rtcp 10
+
+      go : (b : Bool) → AllByRecursion (IsUnder p (session_of initiator direction others)) (cond b (rtcp ∷ []) []) → AllByRecursion (IsInUnder p initiator others) (cond b (rtcp ∷ []) [])
+      go true is = (is.0, tt)
+      go false is = tt
+
+  opening_under : (initiator : Direction) (others call generation medium n : ℕ) (x : Medium) (is : IsMediumIn m tgks peers own plain initiator others x)
+      → AllByRecursion (IsInUnder is.opens.sent.protection initiator others) (Opens call generation medium n x)
+  opening_under initiator others call generation medium n x is =
+      subst (λ window. AllByRecursion (IsInUnder is.opens.sent.protection initiator others) (stream_sessions (owner_at call generation medium Opening) (numbered n x.from_peer.keys) x.from_peer window x)) is.window
+      (towards is.opens.sent.protection initiator Opening others call generation medium n 64 x.from_peer x
+      (sessions_of Opening (session_of initiator Opening others) call generation medium n x x.from_peer is.opens))
+
+  sealing_under : (initiator : Direction) (others call generation medium n : ℕ) (x : Medium) (is : IsMediumIn m tgks peers own plain initiator others x)
+      → AllByRecursion (IsInUnder is.seals.sent.protection initiator others) (Seals call generation medium n x)
+  sealing_under initiator others call generation medium n x is =
+      towards is.seals.sent.protection initiator Sealing others call generation medium n 1024 x.to_peer x
+      (sessions_of Sealing (session_of initiator Sealing others) call generation medium n x x.to_peer is.seals)
+
+  opening_in : (initiator : Direction) (others call generation medium n : ℕ) (x : Medium) → IsMediumIn m tgks peers own plain initiator others x → AllByRecursion (IsIn initiator others) (Opens call generation medium n x)
+  opening_in initiator others call generation medium n x is =
+      each_weaker (IsInUnder is.opens.sent.protection initiator others) (IsIn initiator others) (λ s is. is.0) (Opens call generation medium n x) (opening_under initiator others call generation medium n x is)
+
+  sealing_in : (initiator : Direction) (others call generation medium n : ℕ) (x : Medium) → IsMediumIn m tgks peers own plain initiator others x → AllByRecursion (IsIn initiator others) (Seals call generation medium n x)
+  sealing_in initiator others call generation medium n x is =
+      each_weaker (IsInUnder is.seals.sent.protection initiator others) (IsIn initiator others) (λ s is. is.0) (Seals call generation medium n x) (sealing_under initiator others call generation medium n x is)
 
 -- ---- the sessions of media, from one on
 
-abbrev others_at : List descriptions.Medium → ℕ → ℕ
-others_at ms at = length (filter (is_active Secure) (take at ms))
-
 -- what holds of a medium that is agreed, holds so of its sessions
-module _ (Q : ℕ → descriptions.Medium → descriptions.Medium → Medium → Type 0) (P : ℕ → descriptions.Medium → descriptions.Medium → Session → Type 0) where
+module _ (side : Side) (Q : ℕ → descriptions.Medium → descriptions.Medium → descriptions.Medium → Medium → Type 0)
+    (P : ℕ → descriptions.Medium → descriptions.Medium → descriptions.Medium → Session → Type 0) where
   abbrev GoesOver : Type 0
-  GoesOver = (others : ℕ) (m n : descriptions.Medium) (call generation medium a : ℕ) (x : Medium) → Q others m n x
-      → AllByRecursion (P others m n) (stream_sessions (owner_at call generation medium Opening) (numbered a x.from_peer.keys) x.from_peer x.window x)
-      × AllByRecursion (P others m n) (stream_sessions (owner_at call generation medium Sealing) (numbered (a + length x.from_peer.keys) x.to_peer.keys) x.to_peer 1024 x)
+  GoesOver = (others : ℕ) (m n t : descriptions.Medium) (call generation medium a : ℕ) (x : Medium) → Q others m n t x
+      → AllByRecursion (P others m n t) (stream_sessions (owner_at call generation medium Opening) (numbered a x.from_peer.keys) x.from_peer x.window x)
+      × AllByRecursion (P others m n t) (stream_sessions (owner_at call generation medium Sealing) (numbered (a + length x.from_peer.keys) x.to_peer.keys) x.to_peer 1024 x)
 
   -- by its medium, where the media begin at that of number k, behind so many others
-  record IsFrom (k others : ℕ) (ms ns : List descriptions.Medium) (s : Session) : Type 0 where
+  record IsFrom (k others : ℕ) (ms ns ts : List descriptions.Medium) (s : Session) : Type 0 where
     offered : descriptions.Medium
     answered : descriptions.Medium
+    told : descriptions.Medium
     at : ℕ
     place : s.name.owner.medium ≡ k + at
     in_offer : IsMediumAt ms at offered
     in_answer : IsMediumAt ns at answered
-    is : P (others + others_at ms at) offered answered s
+    in_told : IsMediumAt ts at told
+    is : P (others + others_before side ms at) offered answered told s
 
-  next : (k others : ℕ) (m n : descriptions.Medium) (ms ns : List descriptions.Medium) (s : Session) → IsFrom (k + 1) (cond (is_active Secure m) (others + 1) others) ms ns s → IsFrom k others (m ∷ ms) (n ∷ ns) s
-  next k others m n ms ns s is = record {
+  next : (k others : ℕ) (m n t : descriptions.Medium) (ms ns ts : List descriptions.Medium) (s : Session) → IsFrom (k + 1) (cond (is_active side m) (others + 1) others) ms ns ts s
+      → IsFrom k others (m ∷ ms) (n ∷ ns) (t ∷ ts) s
+  next k others m n t ms ns ts s is = record {
     offered = is.offered;
     answered = is.answered;
+    told = is.told;
     at = suc is.at;
     place = let e = is.place in omega (arith, e);
     in_offer = ((let lt = is.in_offer.0 in omega (arith, lt)), is.in_offer.1);
     in_answer = ((let lt = is.in_answer.0 in omega (arith, lt)), is.in_answer.1);
-    is = subst (λ o. P o is.offered is.answered s) (count (is_active Secure m)) is.is;
+    in_told = ((let lt = is.in_told.0 in omega (arith, lt)), is.in_told.1);
+    is = subst (λ o. P o is.offered is.answered is.told s) (count (is_active side m)) is.is;
   }
     where
       rest : List descriptions.Medium
-      rest = filter (is_active Secure) (take is.at ms)
+      rest = filter (is_active side) (take is.at ms)
 
       count : (b : Bool) → cond b (others + 1) others + length rest ≡ others + length (cond b (m ∷ rest) rest)
       count true = omega arith
       count false = refl
 
-  first : (k others : ℕ) (m n : descriptions.Medium) (ms ns : List descriptions.Medium) (s : Session) → s.name.owner.medium ≡ k → P others m n s → IsFrom k others (m ∷ ms) (n ∷ ns) s
-  first k others m n ms ns s of_medium is = record {
+  first : (k others : ℕ) (m n t : descriptions.Medium) (ms ns ts : List descriptions.Medium) (s : Session) → s.name.owner.medium ≡ k → P others m n t s → IsFrom k others (m ∷ ms) (n ∷ ns) (t ∷ ts) s
+  first k others m n t ms ns ts s of_medium is = record {
     offered = m;
     answered = n;
+    told = t;
     at = 0;
     place = (let e = of_medium in omega (arith, e));
     in_offer = (omega arith, refl);
     in_answer = (omega arith, refl);
-    is = subst (λ o. P o m n s) (none others) is;
+    in_told = (omega arith, refl);
+    is = subst (λ o. P o m n t s) (none others) is;
   }
     where
       none : (o : ℕ) → o ≡ o + 0
       none o = omega arith
 
-  of_stream : (k others : ℕ) (m n : descriptions.Medium) (ms ns : List descriptions.Medium) (call generation a : ℕ) (direction : Direction) (st : Stream) (window : ℕ) (x : Medium)
-      → AllByRecursion (P others m n) (stream_sessions (owner_at call generation k direction) (numbered a st.keys) st window x)
-      → AllByRecursion (IsFrom k others (m ∷ ms) (n ∷ ns)) (stream_sessions (owner_at call generation k direction) (numbered a st.keys) st window x)
-  of_stream k others m n ms ns call generation a direction st window x is = (first k others m n ms ns _ refl is.0, go x.has_rtcp is.1)
+  of_stream : (k others : ℕ) (m n t : descriptions.Medium) (ms ns ts : List descriptions.Medium) (call generation a : ℕ) (direction : Direction) (st : Stream) (window : ℕ) (x : Medium)
+      → AllByRecursion (P others m n t) (stream_sessions (owner_at call generation k direction) (numbered a st.keys) st window x)
+      → AllByRecursion (IsFrom k others (m ∷ ms) (n ∷ ns) (t ∷ ts)) (stream_sessions (owner_at call generation k direction) (numbered a st.keys) st window x)
+  of_stream k others m n t ms ns ts call generation a direction st window x is = (first k others m n t ms ns ts _ refl is.0, go x.has_rtcp is.1)
     where
       rtcp : Session
       rtcp = stream_session (owner_at call generation k direction) (numbered a st.keys) st window x Rtcp st.encrypts_rtcp 10
 
-      go : (b : Bool) → AllByRecursion (P others m n) (cond b (rtcp ∷ []) []) → AllByRecursion (IsFrom k others (m ∷ ms) (n ∷ ns)) (cond b (rtcp ∷ []) [])
-      go true is = (first k others m n ms ns rtcp refl is.0, tt)
+      go : (b : Bool) → AllByRecursion (P others m n t) (cond b (rtcp ∷ []) []) → AllByRecursion (IsFrom k others (m ∷ ms) (n ∷ ns) (t ∷ ts)) (cond b (rtcp ∷ []) [])
+      go true is = (first k others m n t ms ns ts rtcp refl is.0, tt)
       go false is = tt
 
-  all_from : GoesOver → (call generation k a others : ℕ) (ms ns : List descriptions.Medium) (xs : List (Option Medium)) → MediaFrom Q others ms ns xs → AllByRecursion (IsFrom k others ms ns) (sessions_from call generation k a xs)
-  all_from over call generation k a others ms ns [] are = tt
-  all_from over call generation k a others [] ns (x ∷ xs) are = absurd are
-  all_from over call generation k a others (m ∷ ms) [] (x ∷ xs) are = absurd are
-  all_from over call generation k a others (m ∷ ms) (n ∷ ns) (None ∷ xs) are =
-      each_weaker (IsFrom (k + 1) (cond (is_active Secure m) (others + 1) others) ms ns) (IsFrom k others (m ∷ ms) (n ∷ ns)) (next k others m n ms ns) (sessions_from call generation (k + 1) a xs)
-      (all_from over call generation (k + 1) a (cond (is_active Secure m) (others + 1) others) ms ns xs are.1)
-  all_from over call generation k a others (m ∷ ms) (n ∷ ns) (Some x ∷ xs) are =
-      let both = over others m n call generation k a x (are.0 x refl) in
+  all_from : GoesOver → (call generation k a others : ℕ) (ms ns ts : List descriptions.Medium) (xs : List (Option Medium)) → MediaFrom side Q others ms ns ts xs
+      → AllByRecursion (IsFrom k others ms ns ts) (sessions_from call generation k a xs)
+  all_from over call generation k a others ms ns ts [] are = tt
+  all_from over call generation k a others [] ns ts (x ∷ xs) are = absurd are
+  all_from over call generation k a others (m ∷ ms) [] ts (x ∷ xs) are = absurd are
+  all_from over call generation k a others (m ∷ ms) (n ∷ ns) [] (x ∷ xs) are = absurd are
+  all_from over call generation k a others (m ∷ ms) (n ∷ ns) (t ∷ ts) (None ∷ xs) are =
+      each_weaker (IsFrom (k + 1) (cond (is_active side m) (others + 1) others) ms ns ts) (IsFrom k others (m ∷ ms) (n ∷ ns) (t ∷ ts)) (next k others m n t ms ns ts) (sessions_from call generation (k + 1) a xs)
+      (all_from over call generation (k + 1) a (cond (is_active side m) (others + 1) others) ms ns ts xs are.1)
+  all_from over call generation k a others (m ∷ ms) (n ∷ ns) (t ∷ ts) (Some x ∷ xs) are =
+      let both = over others m n t call generation k a x (are.0 x refl) in
       let opening : List Session = stream_sessions (owner_at call generation k Opening) (numbered a x.from_peer.keys) x.from_peer x.window x in
       let sealing : List Session = stream_sessions (owner_at call generation k Sealing) (numbered (a + length x.from_peer.keys) x.to_peer.keys) x.to_peer 1024 x in
       let later : List Session = sessions_from call generation (k + 1) (a + length x.from_peer.keys + length x.to_peer.keys) xs in
-      each_append (IsFrom k others (m ∷ ms) (n ∷ ns)) opening (sealing ++ later)
-      (of_stream k others m n ms ns call generation a Opening x.from_peer x.window x both.0)
-      (each_append (IsFrom k others (m ∷ ms) (n ∷ ns)) sealing later
-      (of_stream k others m n ms ns call generation (a + length x.from_peer.keys) Sealing x.to_peer 1024 x both.1)
-      (each_weaker (IsFrom (k + 1) (cond (is_active Secure m) (others + 1) others) ms ns) (IsFrom k others (m ∷ ms) (n ∷ ns)) (next k others m n ms ns) later
-      (all_from over call generation (k + 1) (a + length x.from_peer.keys + length x.to_peer.keys) (cond (is_active Secure m) (others + 1) others) ms ns xs are.1)))
+      each_append (IsFrom k others (m ∷ ms) (n ∷ ns) (t ∷ ts)) opening (sealing ++ later)
+      (of_stream k others m n t ms ns ts call generation a Opening x.from_peer x.window x both.0)
+      (each_append (IsFrom k others (m ∷ ms) (n ∷ ns) (t ∷ ts)) sealing later
+      (of_stream k others m n t ms ns ts call generation (a + length x.from_peer.keys) Sealing x.to_peer 1024 x both.1)
+      (each_weaker (IsFrom (k + 1) (cond (is_active side m) (others + 1) others) ms ns ts) (IsFrom k others (m ∷ ms) (n ∷ ns) (t ∷ ts)) (next k others m n t ms ns ts) later
+      (all_from over call generation (k + 1) (a + length x.from_peer.keys + length x.to_peer.keys) (cond (is_active side m) (others + 1) others) ms ns ts xs are.1)))
 
--- ---- by the messages of an offer
-
-module _ (h : AtHand) (offer answer : Sdp) where
-  abbrev IsBy : Session → Type 0
-  IsBy s = IsByPeersMessage h.pairs offer answer s
+  -- from the first medium on
+  record IsOf (ms ns ts : List descriptions.Medium) (s : Session) : Type 0 where
+    offered : descriptions.Medium
+    answered : descriptions.Medium
+    told : descriptions.Medium
+    in_offer : IsMediumAt ms s.name.owner.medium offered
+    in_answer : IsMediumAt ns s.name.owner.medium answered
+    in_told : IsMediumAt ts s.name.owner.medium told
+    is : P (others_before side ms s.name.owner.medium) offered answered told s
 
   place_is : (k at : ℕ) → k ≡ 0 + at → at ≡ k
   place_is k at e = omega (arith, e)
@@ -220,45 +293,129 @@ module _ (h : AtHand) (offer answer : Sdp) where
   from_none : (o : ℕ) → 0 + o ≡ o
   from_none o = omega arith
 
-  -- from the first medium on
-  all_by : (Q : ℕ → descriptions.Medium → descriptions.Medium → Medium → Type 0) (P : ℕ → descriptions.Medium → descriptions.Medium → Session → Type 0)
-      → ((others : ℕ) (m n : descriptions.Medium) (s : Session) → P (others_at offer.media s.name.owner.medium) m n s → IsKeyedByPeer h.pairs offer m n s) → GoesOver Q P
-      → (call generation a : ℕ) (xs : List (Option Medium)) → MediaFrom Q 0 offer.media answer.media xs → AllByRecursion IsBy (sessions_from call generation 0 a xs)
-  all_by Q P keyed over call generation a xs are =
-      each_weaker (IsFrom Q P 0 0 offer.media answer.media) IsBy from_first (sessions_from call generation 0 a xs) (all_from Q P over call generation 0 a 0 offer.media answer.media xs are)
+  all_of : GoesOver → (call generation a : ℕ) (ms ns ts : List descriptions.Medium) (xs : List (Option Medium)) → MediaFrom side Q 0 ms ns ts xs → AllByRecursion (IsOf ms ns ts) (sessions_from call generation 0 a xs)
+  all_of over call generation a ms ns ts xs are =
+      each_weaker (IsFrom 0 0 ms ns ts) (IsOf ms ns ts) from_first (sessions_from call generation 0 a xs) (all_from over call generation 0 a 0 ms ns ts xs are)
     where
-      from_first : (s : Session) → IsFrom Q P 0 0 offer.media answer.media s → IsBy s
+      from_first : (s : Session) → IsFrom 0 0 ms ns ts s → IsOf ms ns ts s
       from_first s is =
           let same : is.at ≡ s.name.owner.medium = place_is s.name.owner.medium is.at is.place in
           record {
             offered = is.offered;
             answered = is.answered;
-            in_offer = subst (λ k. IsMediumAt offer.media k is.offered) same is.in_offer;
-            in_answer = subst (λ k. IsMediumAt answer.media k is.answered) same is.in_answer;
-            keyed = keyed 0 is.offered is.answered s (subst (λ k. P (others_at offer.media k) is.offered is.answered s) same (subst (λ o. P o is.offered is.answered s) (from_none (others_at offer.media is.at)) is.is));
+            told = is.told;
+            in_offer = subst (λ k. IsMediumAt ms k is.offered) same is.in_offer;
+            in_answer = subst (λ k. IsMediumAt ns k is.answered) same is.in_answer;
+            in_told = subst (λ k. IsMediumAt ts k is.told) same is.in_told;
+            is = subst (λ k. P (others_before side ms k) is.offered is.answered is.told s) same (subst (λ o. P o is.offered is.answered is.told s) (from_none (others_before side ms is.at)) is.is);
           }
 
+-- ---- by the messages of an offer
+
+module _ (h : AtHand) (offer answer told : Sdp) where
+  abbrev IsBy : Session → Type 0
+  IsBy s = IsByPeersMessage h.pairs offer answer told s
+
   -- a message of the session part
-  pub by_part : (i : PeersMessage h.pairs offer.session) (call generation a : ℕ) (xs : List (Option Medium)) → MediaFrom (IsOfPart i.message i.tgks) 0 offer.media answer.media xs
-      → AllByRecursion IsBy (sessions_from call generation 0 a xs)
-  by_part i call generation a xs are =
-      all_by (IsOfPart i.message i.tgks) (λ others m n s. IsInCryptoSession i.message i.tgks others n s) (λ others m n s is. inl (i, is))
-      (λ others m n call generation medium a x q. (
-        opening_in i.message i.tgks others n call generation medium a x q.0 q.1 q.2,
-        sealing_in i.message i.tgks others n call generation medium (a + length x.from_peer.keys) x q.0 q.1 q.2,
+  pub by_part : (i : PeersMessage h.pairs offer.session) (r : OwnResponse i.message i.pair told.session) (call generation a : ℕ) (xs : List (Option Medium))
+      → MediaFrom Secure (IsOfPart i r) 0 offer.media answer.media answer.media xs → AllByRecursion IsBy (sessions_from call generation 0 a xs)
+  by_part i r call generation a xs are =
+      let P : ℕ → descriptions.Medium → descriptions.Medium → descriptions.Medium → Session → Type 0 = λ others m n t s. IsInPeersSession i r others n s in
+      each_weaker (IsOf Secure (IsOfPart i r) P offer.media answer.media answer.media) IsBy
+      (λ s is. record { offered = is.offered; answered = is.answered; in_offer = is.in_offer; in_answer = is.in_answer; keyed = inl (i, r, is.is) })
+      (sessions_from call generation 0 a xs)
+      (all_of Secure (IsOfPart i r) P
+      (λ others m n t call generation medium a x q. (
+        opening_in i.message i.tgks i.message.map r.response.map n Opening others call generation medium a x q,
+        sealing_in i.message i.tgks i.message.map r.response.map n Opening others call generation medium (a + length x.from_peer.keys) x q,
       ))
-      call generation a xs are
+      call generation a offer.media answer.media answer.media xs are)
 
   -- messages of the media
-  pub by_own : AllByRecursion (λ line. ¬ IsMessageLine line) offer.session → (call generation a : ℕ) (xs : List (Option Medium)) → MediaFrom (IsOfOwn h) 0 offer.media answer.media xs
-      → AllByRecursion IsBy (sessions_from call generation 0 a xs)
+  abbrev IsByItsOwn : ℕ → descriptions.Medium → descriptions.Medium → descriptions.Medium → Session → Type 0
+  IsByItsOwn others m n t s = (i : PeersMessage h.pairs m.lines) × (r : OwnResponse i.message i.pair t.lines) × IsInPeersSession i r 0 n s
+
+  pub by_own : AllByRecursion (λ line. ¬ IsMessageLine line) offer.session → (call generation a : ℕ) (xs : List (Option Medium))
+      → MediaFrom Secure (IsOfOwn h) 0 offer.media answer.media told.media xs → AllByRecursion IsBy (sessions_from call generation 0 a xs)
   by_own none call generation a xs are =
-      let P : ℕ → descriptions.Medium → descriptions.Medium → Session → Type 0 = λ others m n s. (i : PeersMessage h.pairs m.lines) × IsInCryptoSession i.message i.tgks 0 n s in
-      all_by (IsOfOwn h) P (λ others m n s is. inr (none, is.0, is.1))
-      (λ others m n call generation medium a x q. (
-        each_weaker (IsInCryptoSession q.0.message q.0.tgks 0 n) (P others m n) (λ s is. (q.0, is)) (stream_sessions (owner_at call generation medium Opening) (numbered a x.from_peer.keys) x.from_peer x.window x)
-            (opening_in q.0.message q.0.tgks 0 n call generation medium a x q.1 q.2 q.3),
-        each_weaker (IsInCryptoSession q.0.message q.0.tgks 0 n) (P others m n) (λ s is. (q.0, is)) (stream_sessions (owner_at call generation medium Sealing) (numbered (a + length x.from_peer.keys) x.to_peer.keys) x.to_peer 1024 x)
-            (sealing_in q.0.message q.0.tgks 0 n call generation medium (a + length x.from_peer.keys) x q.1 q.2 q.3),
+      each_weaker (IsOf Secure (IsOfOwn h) IsByItsOwn offer.media answer.media told.media) IsBy
+      (λ s is. record {
+        offered = is.offered;
+        answered = is.answered;
+        in_offer = is.in_offer;
+        in_answer = is.in_answer;
+        keyed = inr (none, is.told, is.in_told, is.is.0, is.is.1, is.is.2);
+      })
+      (sessions_from call generation 0 a xs)
+      (all_of Secure (IsOfOwn h) IsByItsOwn
+      (λ others m n t call generation medium a x q. (
+        each_weaker (IsInPeersSession q.0 q.1 0 n) (IsByItsOwn others m n t) (λ s is. (q.0, q.1, is))
+            (stream_sessions (owner_at call generation medium Opening) (numbered a x.from_peer.keys) x.from_peer x.window x)
+            (opening_in q.0.message q.0.tgks q.0.message.map q.1.response.map n Opening 0 call generation medium a x q.2),
+        each_weaker (IsInPeersSession q.0 q.1 0 n) (IsByItsOwn others m n t) (λ s is. (q.0, q.1, is))
+            (stream_sessions (owner_at call generation medium Sealing) (numbered (a + length x.from_peer.keys) x.to_peer.keys) x.to_peer 1024 x)
+            (sealing_in q.0.message q.0.tgks q.0.message.map q.1.response.map n Opening 0 call generation medium (a + length x.from_peer.keys) x q.2),
       ))
-      call generation a xs are
+      call generation a offer.media answer.media told.media xs are)
+
+-- ---- by the gateway's message
+
+-- what is agreed of a medium of the offer by the gateway's message and a response of this map
+abbrev pub IsOfMessage : Message → List ℕ → List CsEntry → ℕ → descriptions.Medium → descriptions.Medium → descriptions.Medium → Medium → Type 0
+IsOfMessage m key peers others o n t x = IsMediumIn m (record { key = key; spi = None } ∷ []) peers m.map o Sealing others x
+
+-- what the gateway's one policy means
+abbrev own_protection : Protection
+own_protection = record { suite = Cm128Tag80; plain_rtp = false; plain_rtcp = false }
+
+own_means : protection_of own_policy ≡ Some own_protection
+unfolding protection_of said_by meaning each_once value_of
+own_means = refl
+
+own_policy_is : (entry : CsEntry) (p : Policy) → policy_at (own_policy ∷ []) entry ≡ Some p → own_policy ≡ p
+own_policy_is entry p e = go (eqb 0 entry.policy) e
+  where
+    go : (b : Bool) → cond b (Some own_policy) None ≡ Some p → own_policy ≡ p
+    go true e = some_is own_policy p e
+    go false e = absurd (none_some p e)
+
+module _ (m : Message) (only : policies_in m.payloads ≡ own_policy ∷ []) (key : List ℕ) (response : Message) (offer answer : Sdp) where
+  abbrev one : List Tgk
+  one = record { key = key; spi = None } ∷ []
+
+  protected : (number : ℕ) (s : StreamKeys) (is : IsSent m one number s) → is.protection ≡ own_protection
+  protected number s is =
+      let policy = own_policy_is is.entry is.policy (ap (λ (ps : List Policy). policy_at ps is.entry) (sym only) ∙ is.named) in
+      sym (some_is own_protection is.protection (sym own_means ∙ (ap protection_of policy ∙ is.means)))
+
+  -- in its crypto session, under AES with 128 bits, and encrypted
+  abbrev IsOwnIn : ℕ → descriptions.Medium → descriptions.Medium → descriptions.Medium → Session → Type 0
+  IsOwnIn others o n t s =
+      (i : IsInCryptoSession m one response.map m.map (session_of Sealing s.name.owner.direction others) o s) × (i.suite ≡ Cm128Tag80) × (s.encrypts ≡ true)
+
+  own_in : (others : ℕ) (o n t : descriptions.Medium) (p : Protection) → p ≡ own_protection → (s : Session) → IsInUnder m one response.map m.map o p Sealing others s → IsOwnIn others o n t s
+  own_in others o n t p own s is = (is.0, is.1 ∙ ap (λ (p : Protection). p.suite) own, is.2 ∙ encrypted s.name.kind)
+    where
+      encrypted : (kind : Kind) → not (is_plain kind p) ≡ true
+      encrypted Rtp = ap (λ (p : Protection). not p.plain_rtp) own
+      encrypted Rtcp = ap (λ (p : Protection). not p.plain_rtcp) own
+
+  pub by_message : (call generation a : ℕ) (xs : List (Option Medium)) → MediaFrom Plain (IsOfMessage m key response.map) 0 offer.media answer.media answer.media xs
+      → AllByRecursion (IsInOwnSession m key response offer) (sessions_from call generation 0 a xs)
+  by_message call generation a xs are =
+      each_weaker (IsOf Plain (IsOfMessage m key response.map) IsOwnIn offer.media answer.media answer.media) (IsInOwnSession m key response offer)
+      (λ s is. record { offered = is.offered; in_offer = is.in_offer; keyed = is.is.0; suite = is.is.1; encrypts = is.is.2 })
+      (sessions_from call generation 0 a xs)
+      (all_of Plain (IsOfMessage m key response.map) IsOwnIn over call generation a offer.media answer.media answer.media xs are)
+    where
+      over : (others : ℕ) (o n t : descriptions.Medium) (call generation medium a : ℕ) (x : Medium) → IsOfMessage m key response.map others o n t x
+          → AllByRecursion (IsOwnIn others o n t) (Opens m one response.map m.map o call generation medium a x)
+          × AllByRecursion (IsOwnIn others o n t) (Seals m one response.map m.map o call generation medium (a + length x.from_peer.keys) x)
+      over others o n t call generation medium a x q = (
+        each_weaker (IsInUnder m one response.map m.map o q.opens.sent.protection Sealing others) (IsOwnIn others o n t)
+            (own_in others o n t q.opens.sent.protection (protected _ q.opens.keys q.opens.sent)) (Opens m one response.map m.map o call generation medium a x)
+            (opening_under m one response.map m.map o Sealing others call generation medium a x q),
+        each_weaker (IsInUnder m one response.map m.map o q.seals.sent.protection Sealing others) (IsOwnIn others o n t)
+            (own_in others o n t q.seals.sent.protection (protected _ q.seals.keys q.seals.sent)) (Seals m one response.map m.map o call generation medium (a + length x.from_peer.keys) x)
+            (sealing_under m one response.map m.map o Sealing others call generation medium (a + length x.from_peer.keys) x q),
+      )

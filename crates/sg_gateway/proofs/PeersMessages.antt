@@ -1,81 +1,111 @@
--- What the peer's own MIKEY message keys is under the keys that it carries, in the crypto sessions of its medium.
-use Rattle.std.proofs.Common.{◌≡◌, ◌⊎◌, inl, inr, ℕ, ◌+◌, ◌*◌, Bool, true, false, cond, not, ◌&&◌, ◌||◌, eqb, eqb-true, ltb, List, [], ◌∷◌, ◌++◌, length, map, codes, Option, Some, None, Result, Ok, refl, sym, ap, ◌∙◌, subst, arith, append_assoc, length-append}
-use Rattle.std.proofs.lemmas.Bool.{not-false}
-use Rattle.std.specs.List.{AllByRecursion, cons_option, filter_map, list_any}
+-- What the peer's own MIKEY message keys is under the keys that it carries, in the crypto sessions of its medium, and the peer is
+-- told the response to it.
+use Rattle.std.proofs.Common.{◌≡◌, ◌⊎◌, inl, inr, ℕ, ◌+◌, Bool, true, false, cond, not, ◌&&◌, ◌||◌, eqb, eqb-true, ltb, List, [], ◌∷◌, ◌++◌, length, map, codes, Option, Some, None, Result, Ok, refl, sym, ap, ◌∙◌, subst}
+use Rattle.std.proofs.lemmas.Bool.{false≢true, not-false}
+use Rattle.std.specs.List.{AllByRecursion, cons_option, filter, filter_map, list_any, starts_with}
+use Rattle.std.specs.Prelude.{nat_eq}
 use Rattle.std.specs.Option.{is_some, option_map}
 use Rattle.sg_agreement.proofs.FewMedia.{described_is}
 use Rattle.sg_agreement.proofs.Inversions.{or_refusal_is}
 use Rattle.sg_agreement.proofs.MessagesSound.{cs_is, psk_is}
-use Rattle.sg_agreement.proofs.TextLines.{behind_is, first_is, kept_some, active_some}
-use Rattle.sg_agreement.specs.Answers.{Answered, AgreedAnswer, accepted_answer, agreed_answer, answered_by}
+use Rattle.sg_agreement.proofs.TextLines.{behind_is, kept_some, active_some}
+use Rattle.sg_agreement.specs.Answers.{Answered, AgreedAnswer, accepted_answer, agreed_answer, answered_by, lines_of}
 use Rattle.sg_agreement.specs.Attributes.{behind, ends_word, first_of, has_message, mikey_octets, mikey_rest, mikey_value, octets_behind, own_ssrc}
+use Rattle.sg_agreement.specs.CarriedTexts.{carried_text, mikey_attribute, ports_from, rtp_port, with_added, with_media_lines}
 use Rattle.sg_agreement.specs.Described.{described}
 use Rattle.sg_agreement.specs.EachMedium.{each_active, each_kept, if_active, if_kept}
 use Rattle.sg_agreement.specs.Keyed.{Keyed, media_agreed, medium_agreed}
 use Rattle.sg_agreement.specs.Keying.{Keying, PeerLines, PeerMessage, PeerMessages, Offer}
 use Rattle.sg_agreement.specs.Media.{Medium}
-use Rattle.sg_agreement.specs.MessageAnswers.{first_streams, keyed_as_responder, keyed_by_message, next_if, over_active, own_streams}
+use Rattle.sg_agreement.specs.MessageAnswers.{first_streams, keyed_as_responder, keyed_by_message, over_active, own_streams, ssrcs_answered}
 use Rattle.sg_agreement.specs.Messages.{AtHand, Bundle, bundle_in, message_in}
 use Rattle.sg_agreement.specs.Offers.{AgreedOffer, agreed_offer, chosen_in, keying_by_messages, keying_of}
 use Rattle.sg_agreement.specs.Refusals.{of_cs, of_message, of_psk, or_refusal}
 use Rattle.sg_agreement.specs.Sides.{active_count, actives_after, is_active}
-use Rattle.sg_agreement.specs.Streams.{stream_of_session, with_source}
 use Rattle.sg_agreement.specs.TextLines.{IsMessageLine, HasNoMessage}
 use Rattle.sg_agreement.specs.declared.ways.Way.TheVariants.{FromSecure}
 use Rattle.sg_base.proofs.Cases.{and_then_some, guarded, map_some, none_some, some_is}
 use Rattle.sg_base.proofs.SameOctets.{same_octets_is}
+use Rattle.sg_base.specs.Fields.{cut_at}
 use Rattle.sg_base.specs.declared.addresses.Side.TheVariants.{Secure, Plain}
-use Rattle.sg_base.specs.declared.faults.CsFault.TheVariants.{CsCount, PolicyMissing}
 use Rattle.sg_base.specs.declared.faults.MikeyFault.TheVariants.{DataType}
 use Rattle.sg_base.specs.declared.faults.PskFault.TheVariants.{Algorithm, BadMac, CacheFull}
 use Rattle.sg_base.specs.declared.faults.Refusal.{Refusal}
 use Rattle.sg_base.specs.declared.faults.Refusal.TheVariants.{KeyMgmt, Mikey}
-use Rattle.sg_csmap.proofs.Loops.{is_there}
-use Rattle.sg_csmap.specs.CryptoSessions.{lacks_policy, pair_in, pairs_from, policy_at, stream_in, stream_keys, streams_of}
-use Rattle.sg_csmap.specs.Policies.{protection_of}
-use Rattle.sg_csmap.specs.declared.policies.Protection.{Protection}
+use Rattle.sg_csmap.specs.CryptoSessions.{streams_of}
 use Rattle.sg_csmap.specs.declared.sessions.StreamKeys.{StreamKeys}
 use Rattle.sg_mikey.specs.Reading as messages
 use Rattle.sg_mikey.specs.declared.message.CsEntry.{CsEntry}
 use Rattle.sg_mikey.specs.declared.message.Message.{Message}
 use Rattle.sg_mikey.specs.declared.message.Tgk.{Tgk}
-use Rattle.sg_mikey.specs.declared.policy.Policy.{Policy}
 use Rattle.sg_psk.specs.Accepting.{Accepted, accepted_with, fault_of, initial_fits, initial_of, is_served, initial_under, keys_in, with_keys}
 use Rattle.sg_psk.specs.Envelope.{mac_of}
 use Rattle.sg_psk.specs.Pairs.{pair_named}
 use Rattle.sg_psk.specs.Parts.{closing_in, names_in, policies_in, random_in}
+use Rattle.sg_psk.specs.Sending.{response_octets}
 use Rattle.sg_psk.specs.declared.pairs.Pair.{Pair}
 use Rattle.sg_psk.specs.declared.replays.Noted.{Noted}
-use Rattle.sg_sdes.specs.KeyTexts.{base64_at}
+use Rattle.sg_sdp.specs.Addresses.{with_address}
+use Rattle.sg_sdp.specs.Carrying.{attribute_name, carried, carried_line, carried_lines, carried_media, carried_medium, is_one_sided}
+use Rattle.sg_sdp.specs.Descriptions.{spelling}
 use Rattle.sg_sdp.specs.Reading.{description_of}
 use Rattle.sg_sdp.specs.declared.medium.Medium as descriptions
 use Rattle.sg_sdp.specs.declared.sdp.Sdp.{Sdp}
 use Rattle.sg_session.proofs.Inversions.{after_ok_is, ok_is, stop_if_is}
-use Rattle.sg_session.proofs.Lists.{any_weaker}
+use Rattle.sg_session.specs.declared.names.Direction.TheVariants.{Opening}
 use Rattle.sg_session.specs.Stages.{after_ok}
 use Rattle.sg_gateway.proofs.Authentic.{message_is, none_unless, pair_is, unless_is}
-use Rattle.sg_gateway.specs.PeersMessages.{Carries, PeersMessage, IsEntryOf}
+use Rattle.sg_gateway.proofs.CryptoSessions.{AreAnswered, IsAnswered, IsMediumIn, IsPair, PairsFrom, all_answered, as_responder, streams_sent}
+use Rattle.sg_gateway.proofs.MediaOver.{MediaFrom, SaidFrom, media_over}
+use Rattle.sg_gateway.proofs.PlainTexts.{no_key_line}
+use Rattle.sg_gateway.proofs.ToldMessages.{own_response}
+use Rattle.sg_gateway.specs.CryptoSessions.{Carries, Tells}
+use Rattle.sg_gateway.specs.PeersMessages.{OwnResponse, PeersMessage}
+use Rattle.sg_gateway.specs.PlainTexts.{IsKeyLine}
 
 -- ---- the attribute
 
-octets_carried : (lines : List (List ℕ)) (octets : List ℕ) → mikey_octets (mikey_value lines) ≡ Some octets → Carries lines octets
+no_line : (l : List ℕ) → mikey_rest l ≡ None → IsMessageLine l → ⊥
+no_line l e (rest, inl is) = let some : mikey_rest l ≡ Some [] = ap mikey_rest is in none_some [] (sym e ∙ some)
+no_line l e (rest, inr is) = let some : mikey_rest l ≡ Some (32 ∷ rest) = ap mikey_rest is in none_some (32 ∷ rest) (sym e ∙ some)
+
+-- the first line that is kept, behind lines none of which is a MIKEY attribute
+record IsFirstKept (lines : List (List ℕ)) (value : List ℕ) : Type 0 where
+  before : List (List ℕ)
+  line : List ℕ
+  behind_it : List (List ℕ)
+  parts : lines ≡ before ++ line ∷ behind_it
+  none : AllByRecursion (λ line. ¬ IsMessageLine line) before
+  kept : mikey_rest line ≡ Some value
+
+first_kept : (ls : List (List ℕ)) (value : List ℕ) → first_of (filter_map mikey_rest ls) ≡ Some value → IsFirstKept ls value
+first_kept [] value e = absurd cc
+first_kept (l ∷ ls) value e = go (first_kept ls value) (mikey_rest l) refl e
+  where
+    go : (first_of (filter_map mikey_rest ls) ≡ Some value → IsFirstKept ls value) → (o : Option (List ℕ)) → mikey_rest l ≡ o → first_of (cons_option o (filter_map mikey_rest ls)) ≡ Some value → IsFirstKept (l ∷ ls) value
+    go rest None is e =
+        let r = rest e in
+        record { before = l ∷ r.before; line = r.line; behind_it = r.behind_it; parts = ap (λ (ls : List (List ℕ)). l ∷ ls) r.parts; none = (no_line l is, r.none); kept = r.kept }
+    go rest (Some v) is e = record { before = []; line = l; behind_it = ls; parts = refl; none = tt; kept = is ∙ e }
+
+pub octets_carried : (lines : List (List ℕ)) (octets : List ℕ) → mikey_octets (mikey_value lines) ≡ Some octets → Carries lines octets
 unfolding mikey_octets mikey_value
 octets_carried lines octets e =
     let a = and_then_some (first_of (filter_map mikey_rest lines)) octets_behind octets e in
-    any_weaker (λ line. mikey_rest line ≡ Some a.0) _ (λ line is. of_line line a.0 is a.2) lines (first_is mikey_rest lines a.0 a.1)
+    of_first a.0 (first_kept lines a.0 a.1) a.2
   where
-    IsCarrier : List ℕ → Type 0
-    IsCarrier line = (text : List ℕ) × (line ≡ codes "a=key-mgmt:mikey " ++ text) × (base64_at text ≡ Some octets)
+    go : (before behind_it : List (List ℕ)) (line rest : List ℕ) → lines ≡ before ++ line ∷ behind_it → AllByRecursion (λ line. ¬ IsMessageLine line) before
+        → line ≡ codes "a=key-mgmt:mikey" ++ rest → ends_word rest ≡ true → octets_behind rest ≡ Some octets → Carries lines octets
+    go before behind_it line [] parts none is ends e = absurd cc
+    go before behind_it line (x ∷ text) parts none is ends e =
+        let whole : line ≡ codes "a=key-mgmt:mikey " ++ text = is ∙ ap (λ x. codes "a=key-mgmt:mikey" ++ (x ∷ text)) (eqb-true x 32 ends) in
+        (text, record { before = before; behind = behind_it; parts = parts ∙ ap (λ (line : List ℕ). before ++ line ∷ behind_it) whole; none = none }, e)
 
-    go : (line rest : List ℕ) → line ≡ codes "a=key-mgmt:mikey" ++ rest → ends_word rest ≡ true → octets_behind rest ≡ Some octets → IsCarrier line
-    go line [] is ends e = absurd cc
-    go line (x ∷ text) is ends e = (text, is ∙ ap (λ x. codes "a=key-mgmt:mikey" ++ (x ∷ text)) (eqb-true x 32 ends), e)
-
-    of_line : (line value : List ℕ) → mikey_rest line ≡ Some value → octets_behind value ≡ Some octets → IsCarrier line
-    of_line line value e f =
-        let a = and_then_some (behind (codes "a=key-mgmt:mikey") line) _ value e in
-        let b = guarded (ends_word a.0) a.0 value a.2 in
-        go line value (behind_is (codes "a=key-mgmt:mikey") line a.0 a.1 ∙ ap (λ rest. codes "a=key-mgmt:mikey" ++ rest) b.1) (subst (λ rest. ends_word rest ≡ true) b.1 b.0) f
+    of_first : (value : List ℕ) → IsFirstKept lines value → octets_behind value ≡ Some octets → Carries lines octets
+    of_first value first e =
+        let b = and_then_some (behind (codes "a=key-mgmt:mikey") first.line) _ value first.kept in
+        let c = guarded (ends_word b.0) b.0 value b.2 in
+        go first.before first.behind_it first.line value first.parts first.none (behind_is (codes "a=key-mgmt:mikey") first.line b.0 b.1 ∙ ap (λ rest. codes "a=key-mgmt:mikey" ++ rest) c.1) (subst (λ rest. ends_word rest ≡ true) c.1 c.0) e
 
 none_kept : (l : List ℕ) (ls : List (List ℕ)) → first_of (filter_map mikey_rest (l ∷ ls)) ≡ None → (mikey_rest l ≡ None) × (first_of (filter_map mikey_rest ls) ≡ None)
 none_kept l ls e = go (mikey_rest l) refl e
@@ -83,10 +113,6 @@ none_kept l ls e = go (mikey_rest l) refl e
     go : (o : Option (List ℕ)) → mikey_rest l ≡ o → first_of (cons_option o (filter_map mikey_rest ls)) ≡ None → (mikey_rest l ≡ None) × (first_of (filter_map mikey_rest ls) ≡ None)
     go None is e = (is, e)
     go (Some v) is e = absurd cc
-
-no_line : (l : List ℕ) → mikey_rest l ≡ None → IsMessageLine l → ⊥
-no_line l e (rest, inl is) = let some : mikey_rest l ≡ Some [] = ap mikey_rest is in none_some [] (sym e ∙ some)
-no_line l e (rest, inr is) = let some : mikey_rest l ≡ Some (32 ∷ rest) = ap mikey_rest is in none_some (32 ∷ rest) (sym e ∙ some)
 
 no_lines : (ls : List (List ℕ)) → first_of (filter_map mikey_rest ls) ≡ None → AllByRecursion (λ line. ¬ IsMessageLine line) ls
 no_lines [] e = tt
@@ -137,75 +163,45 @@ module _ (pairs : List Pair) (lines : List (List ℕ)) where
           let mac = none_unless (not (initial_fits octets m pair)) BadMac _ served.1 in
           (record { octets = octets; carried = octets_carried lines octets carried; message = m; read = read; kind = kind; pair = pair; held = p.0; names = p.1; code = same_octets_is _ _ (not-false _ mac.0); tgks = k.0; keys = k.1 }, k.2)
 
--- ---- its crypto sessions
+-- ---- what is told
 
-module _ (m : Message) (tgks : List Tgk) where
-  -- what is sent in the crypto session of this number
-  pub record IsSent (number : ℕ) (s : StreamKeys) : Type 0 where
-    pub entry : CsEntry
-    pub in_map : IsEntryOf m.map number entry
-    pub policy : Policy
-    pub named : policy_at (policies_in m.payloads) entry ≡ Some policy
-    pub protection : Protection
-    pub means : protection_of policy ≡ Some protection
-    pub same : stream_keys m.csb (random_in m.payloads) tgks number entry protection ≡ s
+message_key : (line : List ℕ) → IsMessageLine line → IsKeyLine line
+message_key line (rest, inl is) = (codes "mikey", inr is)
+message_key line (rest, inr is) = (codes "mikey " ++ rest, inr is)
 
-  -- what both sides send in a medium, behind so many others
-  abbrev pub IsPair : ℕ → StreamKeys × StreamKeys → Type 0
-  IsPair others p = IsSent (2 * others + 1) p.0 × IsSent (2 * others + 2) p.1
+gateways_two : is_one_sided (codes "c=IN IP4 127.0.0.1") ≡ false
+unfolding is_one_sided attribute_name cut_at
+gateways_two = refl
 
-  abbrev pub PairsFrom : ℕ → List (StreamKeys × StreamKeys) → Type 0
-  PairsFrom others [] = Unit {0}
-  PairsFrom others (p ∷ ps) = IsPair others p × PairsFrom (others + 1) ps
+-- no line that is carried is a MIKEY attribute
+none_carried : (ls : List (List ℕ)) → AllByRecursion (λ line. ¬ IsMessageLine line) (carried_lines ls)
+unfolding carried_line
+none_carried [] = tt
+none_carried (l ∷ ls) = go (is_one_sided l) refl (none_carried ls)
+  where
+    Rest : Type 0
+    Rest = AllByRecursion (λ line. ¬ IsMessageLine line) (carried_lines ls)
 
-  stream_sent : (number : ℕ) (entry : CsEntry) (s : StreamKeys) → IsEntryOf m.map number entry → stream_in m.csb (random_in m.payloads) (policies_in m.payloads) tgks number entry ≡ Some s → IsSent number s
-  unfolding stream_in
-  stream_sent number entry s at e =
-      let a = and_then_some (policy_at (policies_in m.payloads) entry) _ s e in
-      let b = and_then_some (protection_of a.0) _ s a.2 in
-      record { entry = entry; in_map = at; policy = a.0; named = a.1; protection = b.0; means = b.1; same = some_is _ s b.2 }
+    its_own : (b : Bool) → is_one_sided l ≡ false → IsMessageLine (cond b (codes "c=IN IP4 127.0.0.1") l) → ⊥
+    its_own true two is = no_key_line (codes "c=IN IP4 127.0.0.1") gateways_two (message_key _ is)
+    its_own false two is = no_key_line l two (message_key l is)
 
-  pairs_sent : (others : ℕ) (before entries : List CsEntry) (ps : List (StreamKeys × StreamKeys)) → m.map ≡ before ++ entries → length before ≡ 2 * others
-      → pairs_from m.csb (random_in m.payloads) (policies_in m.payloads) tgks (2 * others + 1) entries ≡ Some ps → PairsFrom others ps
-  unfolding pairs_from pair_in
-  pairs_sent others before [] ps whole long e = subst (PairsFrom others) (some_is [] ps e) tt
-  pairs_sent others before (i ∷ []) ps whole long e = subst (PairsFrom others) (some_is [] ps e) tt
-  pairs_sent others before (i ∷ r ∷ entries) ps whole long e =
-      let first : ℕ = 2 * others + 1 in
-      let a = and_then_some (pair_in m.csb (random_in m.payloads) (policies_in m.payloads) tgks first i r) _ ps e in
-      let b = map_some (pairs_from m.csb (random_in m.payloads) (policies_in m.payloads) tgks (first + 2) entries) (λ pairs. a.0 ∷ pairs) ps a.2 in
-      let c = and_then_some (stream_in m.csb (random_in m.payloads) (policies_in m.payloads) tgks first i) _ a.0 a.1 in
-      let d = and_then_some (stream_in m.csb (random_in m.payloads) (policies_in m.payloads) tgks (first + 1) r) _ a.0 c.2 in
-      let second : first + 1 ≡ 2 * others + 2 = omega arith in
-      let one : m.map ≡ (before ++ i ∷ []) ++ r ∷ entries = whole ∙ sym (append_assoc before (i ∷ []) (r ∷ entries)) in
-      let two : m.map ≡ (before ++ i ∷ r ∷ []) ++ entries = whole ∙ sym (append_assoc before (i ∷ r ∷ []) entries) in
-      let of_i : IsEntryOf m.map first i = (before, r ∷ entries, whole, (let l = long in omega (arith, l))) in
-      let of_r : IsEntryOf m.map (2 * others + 2) r = (before ++ i ∷ [], entries, one, (let l = long in omega (arith, l, length-append before (i ∷ [])))) in
-      let more : length (before ++ i ∷ r ∷ []) ≡ 2 * (others + 1) = (let l = long in omega (arith, l, length-append before (i ∷ r ∷ []))) in
-      let next : first + 2 ≡ 2 * (others + 1) + 1 = omega arith in
-      let this : IsPair others (c.0, d.0) = (
-        stream_sent first i c.0 of_i c.1,
-        stream_sent (2 * others + 2) r d.0 of_r (ap (λ n. stream_in m.csb (random_in m.payloads) (policies_in m.payloads) tgks n r) (sym second) ∙ d.1),
-      ) in
-      subst (PairsFrom others) b.2 (
-        subst (IsPair others) (some_is (c.0, d.0) a.0 d.2) this,
-        pairs_sent (others + 1) (before ++ i ∷ r ∷ []) entries b.0 two more (ap (λ n. pairs_from m.csb (random_in m.payloads) (policies_in m.payloads) tgks n entries) (sym next) ∙ b.1),
-      )
+    go : (b : Bool) → is_one_sided l ≡ b → Rest → AllByRecursion (λ line. ¬ IsMessageLine line) (map carried_line (cond (not b) (l ∷ filter (λ line. not (is_one_sided line)) ls) (filter (λ line. not (is_one_sided line)) ls)))
+    go true is rest = rest
+    go false is rest = (its_own (starts_with nat_eq l (codes "c=")) is, rest)
 
-  streams_sent : (media : ℕ) (ps : List (StreamKeys × StreamKeys)) → streams_of m.csb (random_in m.payloads) m.map (policies_in m.payloads) tgks media ≡ Ok ps → PairsFrom 0 ps
-  unfolding streams_of
-  streams_sent media ps e =
-      let a = stop_if_is (not (eqb (length m.map) (2 * media))) CsCount _ ps e in
-      let b = stop_if_is (list_any (lacks_policy (policies_in m.payloads)) m.map) PolicyMissing _ ps a.1 in
-      pairs_sent 0 [] m.map ps refl refl (is_there (pairs_from m.csb (random_in m.payloads) (policies_in m.payloads) tgks 1 m.map) ps b.1)
+-- the gateway's message behind carried lines is the first
+pub first_told : (ls : List (List ℕ)) (octets : List ℕ) → Tells (carried_lines ls ++ mikey_attribute octets ∷ []) octets
+first_told ls octets = record { before = carried_lines ls; behind = []; parts = refl; none = none_carried ls }
 
 -- a message of these lines, and what both sides send in each medium that it covers
-pub record IsBundleOf (pairs : List Pair) (lines : List (List ℕ)) (streams : List (StreamKeys × StreamKeys)) : Type 0 where
-  pub message : PeersMessage pairs lines
-  pub sent : PairsFrom message.message message.tgks 0 streams
+record IsBundleOf (pairs : List Pair) (lines : List (List ℕ)) (b : Bundle) : Type 0 where
+  message : PeersMessage pairs lines
+  initial : accepted_with message.message message.pair message.tgks ≡ b.initial
+  sent : PairsFrom message.message message.tgks 0 b.streams
 
-pub bundle_is : (h : AtHand) (medium count : ℕ) (lines : List (List ℕ)) (value : Option (List ℕ)) (b : Bundle) → mikey_value lines ≡ value → bundle_in h medium count value ≡ Ok b
-    → IsBundleOf h.pairs lines b.streams
+bundle_is : (h : AtHand) (medium count : ℕ) (lines : List (List ℕ)) (value : Option (List ℕ)) (b : Bundle) → mikey_value lines ≡ value → bundle_in h medium count value ≡ Ok b
+    → IsBundleOf h.pairs lines b
 unfolding bundle_in message_in
 bundle_is h medium count lines value b is e =
     let p = after_ok_is (message_in medium 0 value) _ b e in
@@ -222,91 +218,40 @@ bundle_is h medium count lines value b is e =
     let i = initial_is h.pairs lines p.0.0 p.0.1 h.noted h.now q.0 carried read kind (psk_is medium _ q.0 q.1) in
     let streams : streams_of i.0.message.csb (random_in i.0.message.payloads) i.0.message.map (policies_in i.0.message.payloads) i.0.tgks count ≡ Ok r.0 =
     ap (λ (a : Accepted). streams_of a.csb a.random a.map a.policies a.tgks count) i.1 ∙ cs_is medium _ r.0 r.1 in
-    subst (λ (b : Bundle). IsBundleOf h.pairs lines b.streams) (ok_is _ b r.2) (record { message = i.0; sent = streams_sent i.0.message i.0.tgks count r.0 streams })
-
--- ---- a medium of an answer
-
--- The peer's stream of a pair and the gateway's, under the SSRC that the answer's medium names.
-pub record IsBetween (p : StreamKeys × StreamKeys) (n : descriptions.Medium) (x : Medium) : Type 0 where
-  pub from_peer : stream_of_session p.0 ≡ x.from_peer
-  pub to_peer : stream_of_session (with_source (own_ssrc n.lines) 0 p.1) ≡ x.to_peer
-  pub window : 64 ≡ x.window
-
-between : (k : Keyed) (p : StreamKeys × StreamKeys) (lines : List (List ℕ)) (m n : descriptions.Medium) → keyed_as_responder lines p n ≡ k → IsBetween p n (medium_agreed Secure k m n)
-between k p lines m n same = subst (λ (k : Keyed). IsBetween p n (medium_agreed Secure k m n)) same (record { from_peer = refl; to_peer = refl; window = refl })
-
--- what holds of each medium that is agreed, behind so many that were active in the offer
-abbrev pub MediaFrom : (ℕ → descriptions.Medium → descriptions.Medium → Medium → Type 0) → ℕ → List descriptions.Medium → List descriptions.Medium → List (Option Medium) → Type 0
-MediaFrom Q others ms ns [] = Unit {0}
-MediaFrom Q others (m ∷ ms) (n ∷ ns) (x ∷ xs) = ((y : Medium) → x ≡ Some y → Q others m n y) × MediaFrom Q (cond (is_active Secure m) (others + 1) others) ms ns xs
-MediaFrom Q others _ _ (x ∷ xs) = ⊥
+    subst (IsBundleOf h.pairs lines) (ok_is _ b r.2) (record { message = i.0; initial = i.1; sent = streams_sent i.0.message i.0.tgks count r.0 streams })
 
 -- ---- by a message of the session part
 
-module _ (m : Message) (tgks : List Tgk) where
-  abbrev pub IsOfPart : ℕ → descriptions.Medium → descriptions.Medium → Medium → Type 0
-  IsOfPart others offered n x = (p : StreamKeys × StreamKeys) × IsPair m tgks others p × IsBetween p n x
+abbrev pub IsOfPart : {pairs : List Pair} {lines told : List (List ℕ)} → (i : PeersMessage pairs lines) → OwnResponse i.message i.pair told
+    → ℕ → descriptions.Medium → descriptions.Medium → descriptions.Medium → Medium → Type 0
+IsOfPart i r others o n t x = IsMediumIn i.message i.tgks i.message.map r.response.map n Opening others x
 
-  abbrev as_responder : ℕ → StreamKeys × StreamKeys → descriptions.Medium → Result Keyed Refusal
-  as_responder k streams n = Ok (keyed_as_responder [] streams n)
+-- the sources that a response names are those of the answer's media
+answers_said : (entries own : List CsEntry) (others : ℕ) (ms ns : List descriptions.Medium) → AreAnswered entries own others (ssrcs_answered Secure ms ns)
+    → SaidFrom Secure (λ others o n. IsAnswered entries own others (own_ssrc n.lines)) others ms ns
+answers_said entries own others [] ns are = tt
+answers_said entries own others (o ∷ ms) [] are = tt
+answers_said entries own others (o ∷ ms) (n ∷ ns) are = go (λ others are. answers_said entries own others ms ns are) (is_active Secure o) are
+  where
+    Rest : ℕ → Type 0
+    Rest others = SaidFrom Secure (λ others o n. IsAnswered entries own others (own_ssrc n.lines)) others ms ns
 
-  one_of_part : (others : ℕ) (o n : descriptions.Medium) (on : Bool) (p : StreamKeys × StreamKeys) (k : Option Keyed) (x : Medium) → IsPair m tgks others p → if_kept on (Some p) (λ p. as_responder 0 p n) ≡ Ok k
-      → option_map (λ k. medium_agreed Secure k o n) k ≡ Some x → IsOfPart others o n x
-  one_of_part others o n on p None x is e f = absurd cc
-  one_of_part others o n on p (Some k) x is e f =
-      let v = kept_some on (Some p) (λ p. as_responder 0 p n) k e in
-      let same : p ≡ v.0 = some_is p v.0 v.1 in
-      (p, is, subst (IsBetween p n) (some_is (medium_agreed Secure k o n) x f) (between k p [] o n (ap (λ p. keyed_as_responder [] p n) same ∙ ok_is _ k v.2)))
-
-  none_of_part : (o n : descriptions.Medium) (on : Bool) (k : Option Keyed) (x : Medium) → if_kept {X = StreamKeys × StreamKeys} on None (λ p. as_responder 0 p n) ≡ Ok k
-      → option_map (λ k. medium_agreed Secure k o n) k ≡ Some x → ⊥
-  none_of_part o n on None x e f = absurd cc
-  none_of_part o n on (Some k) x e f = let v = kept_some on None (λ p. as_responder 0 p n) k e in none_some v.0 v.1
-
-  media_of_part : (others k : ℕ) (ms ns : List descriptions.Medium) (streams : List (StreamKeys × StreamKeys)) (ys : List (Option Keyed)) → PairsFrom m tgks others streams
-      → each_kept as_responder k (actives_after Secure ms ns) (over_active Secure ms streams) ns ≡ Ok ys → MediaFrom IsOfPart others ms ns (media_agreed Secure ms ns ys)
-  media_of_part others k [] ns streams ys are e = tt
-  media_of_part others k (o ∷ ms) [] streams ys are e = tt
-  media_of_part others k (o ∷ ms) (n ∷ ns) streams ys are e = one_more ys (go (λ others streams ys are e. media_of_part others (k + 1) ms ns streams ys are e) (is_active Secure o) streams are e)
-    where
-      Rest : Type 0
-      Rest = (others : ℕ) (streams : List (StreamKeys × StreamKeys)) (ys : List (Option Keyed)) → PairsFrom m tgks others streams
-          → each_kept as_responder (k + 1) (actives_after Secure ms ns) (over_active Secure ms streams) ns ≡ Ok ys → MediaFrom IsOfPart others ms ns (media_agreed Secure ms ns ys)
-
-      Is : Bool → List (Option Keyed) → Type 0
-      Is b [] = Unit {0}
-      Is b (y ∷ ys) = ((x : Medium) → option_map (λ k. medium_agreed Secure k o n) y ≡ Some x → IsOfPart others o n x) × MediaFrom IsOfPart (cond b (others + 1) others) ms ns (media_agreed Secure ms ns ys)
-
-      one_more : (ys : List (Option Keyed)) → Is (is_active Secure o) ys → MediaFrom IsOfPart others (o ∷ ms) (n ∷ ns) (media_agreed Secure (o ∷ ms) (n ∷ ns) ys)
-      one_more [] is = tt
-      one_more (y ∷ ys) is = is
-
-      others_too : List (StreamKeys × StreamKeys) → Option Keyed → Result (List (Option Keyed)) Refusal
-      others_too streams y = after_ok (each_kept as_responder (k + 1) (actives_after Secure ms ns) (over_active Secure ms streams) ns) (λ ys. Ok (y ∷ ys))
-
-      go : Rest → (b : Bool) (streams : List (StreamKeys × StreamKeys)) → PairsFrom m tgks others streams
-          → each_kept as_responder k ((b && is_active Plain n) ∷ actives_after Secure ms ns) (next_if b streams (over_active Secure ms)) (n ∷ ns) ≡ Ok ys → Is b ys
-      go rest true (p ∷ streams) are e =
-          let a = after_ok_is (if_kept (is_active Plain n) (Some p) (λ x. as_responder k x n)) (others_too streams) ys e in
-          let b = after_ok_is (each_kept as_responder (k + 1) (actives_after Secure ms ns) (over_active Secure ms streams) ns) (λ ys. Ok (a.0 ∷ ys)) ys a.2 in
-          subst (Is true) (ok_is (a.0 ∷ b.0) ys b.2)
-          ((λ x f. one_of_part others o n (is_active Plain n) p a.0 x are.0 a.1 f), rest (others + 1) streams b.0 are.1 b.1)
-      go rest true [] are e =
-          let a = after_ok_is (if_kept {X = StreamKeys × StreamKeys} (is_active Plain n) None (λ x. as_responder k x n)) (others_too []) ys e in
-          let b = after_ok_is (each_kept as_responder (k + 1) (actives_after Secure ms ns) (over_active Secure ms []) ns) (λ ys. Ok (a.0 ∷ ys)) ys a.2 in
-          subst (Is true) (ok_is (a.0 ∷ b.0) ys b.2)
-          ((λ x f. absurd (none_of_part o n (is_active Plain n) a.0 x a.1 f)), rest (others + 1) [] b.0 tt b.1)
-      go rest false streams are e =
-          let a = after_ok_is (if_kept {X = StreamKeys × StreamKeys} false None (λ x. as_responder k x n)) (others_too streams) ys e in
-          let b = after_ok_is (each_kept as_responder (k + 1) (actives_after Secure ms ns) (over_active Secure ms streams) ns) (λ ys. Ok (a.0 ∷ ys)) ys a.2 in
-          subst (Is false) (ok_is (a.0 ∷ b.0) ys b.2)
-          ((λ x f. absurd (none_of_part o n false a.0 x a.1 f)), rest others streams b.0 are b.1)
+    go : ((others : ℕ) → AreAnswered entries own others (ssrcs_answered Secure ms ns) → Rest others) → (b : Bool)
+        → AreAnswered entries own others (cond b (own_ssrc n.lines ∷ ssrcs_answered Secure ms ns) (ssrcs_answered Secure ms ns))
+        → (b ≡ true → IsAnswered entries own others (own_ssrc n.lines)) × Rest (cond b (others + 1) others)
+    go rest true are = ((λ e. are.0), rest (others + 1) are.1)
+    go rest false are = ((λ e. absurd (false≢true e)), rest others are)
 
 -- ---- by messages of the media
 
+-- the medium with these lines behind its own
+abbrev with_lines : descriptions.Medium → List (List ℕ) → descriptions.Medium
+with_lines m lines = record m { lines = m.lines ++ lines }
+
 module _ (h : AtHand) where
-  abbrev pub IsOfOwn : ℕ → descriptions.Medium → descriptions.Medium → Medium → Type 0
-  IsOfOwn others offered n x = (b : PeersMessage h.pairs offered.lines) × (p : StreamKeys × StreamKeys) × IsPair b.message b.tgks 0 p × IsBetween p n x
+  abbrev pub IsOfOwn : ℕ → descriptions.Medium → descriptions.Medium → descriptions.Medium → Medium → Type 0
+  IsOfOwn others o n t x =
+      (i : PeersMessage h.pairs o.lines) × (r : OwnResponse i.message i.pair t.lines) × IsMediumIn i.message i.tgks i.message.map r.response.map n Opening 0 x
 
   abbrev of_medium : ℕ → descriptions.Medium → Result Bundle Refusal
   of_medium k m = bundle_in h k 1 (mikey_value m.lines)
@@ -314,88 +259,126 @@ module _ (h : AtHand) where
   abbrev by_message : ℕ → Accepted × (StreamKeys × StreamKeys) → descriptions.Medium → Result Keyed Refusal
   by_message k x n = Ok (keyed_by_message x n)
 
-  first_is_of : (b : Bundle) (o : descriptions.Medium) (x : Accepted × (StreamKeys × StreamKeys)) → IsBundleOf h.pairs o.lines b.streams → own_streams (Some b) ≡ Some x
-      → (i : PeersMessage h.pairs o.lines) × IsPair i.message i.tgks 0 x.1
-  first_is_of b o x is e =
-      let a = map_some (first_streams b.streams) (λ streams. (b.initial, streams)) x e in
-      (is.message, subst (IsPair is.message.message is.message.tgks 0) (ap (λ (x : Accepted × (StreamKeys × StreamKeys)). x.1) a.2) (first b.streams is.sent a.0 a.1))
+  -- what both sides send in the first medium of a bundle
+  first_pair : (b : Bundle) (o : descriptions.Medium) (x : Accepted × (StreamKeys × StreamKeys)) (is : IsBundleOf h.pairs o.lines b) → own_streams (Some b) ≡ Some x
+      → (accepted_with is.message.message is.message.pair is.message.tgks ≡ x.0) × IsPair is.message.message is.message.tgks 0 x.1
+  first_pair b o x is e =
+      let a = map_some (first_streams b.streams) (λ streams. (b.initial, streams)) x e in (
+        is.initial ∙ ap (λ (x : Accepted × (StreamKeys × StreamKeys)). x.0) a.2,
+        subst (IsPair is.message.message is.message.tgks 0) (ap (λ (x : Accepted × (StreamKeys × StreamKeys)). x.1) a.2) (first b.streams is.sent a.0 a.1),
+      )
     where
       first : (ss : List (StreamKeys × StreamKeys)) → PairsFrom is.message.message is.message.tgks 0 ss → (s : StreamKeys × StreamKeys) → first_streams ss ≡ Some s → IsPair is.message.message is.message.tgks 0 s
       first [] are s e = absurd cc
       first (t ∷ ss) are s e = subst (IsPair is.message.message is.message.tgks 0) (some_is t s e) are.0
 
-  one_own : (others k : ℕ) (o n : descriptions.Medium) (active on : Bool) (b : Option Bundle) (y : Option Keyed) (x : Medium) → if_active active (of_medium k o) ≡ Ok b
-      → if_kept on (own_streams b) (λ x. by_message k x n) ≡ Ok y → option_map (λ k. medium_agreed Secure k o n) y ≡ Some x → IsOfOwn others o n x
-  one_own others k o n active on b None x e f g = absurd cc
-  one_own others k o n active on None (Some y) x e f g = let v = kept_some on None (λ x. by_message k x n) y f in absurd (none_some v.0 v.1)
-  one_own others k o n active on (Some b) (Some y) x e f g =
-      let v = kept_some on (own_streams (Some b)) (λ x. by_message k x n) y f in
-      let is = bundle_is h k 1 o.lines (mikey_value o.lines) b refl (active_some active (of_medium k o) b e) in
-      let i = first_is_of b o v.0 is v.1 in
-      (i.0, v.0.1, i.1, subst (IsBetween v.0.1 n) (some_is (medium_agreed Secure y o n) x g) (between y v.0.1 _ o n (ok_is (keyed_by_message v.0 n) y v.2)))
+module _ (h : AtHand) (f : Option (List ℕ)) where
+  -- the media of the text for the peer
+  abbrev told_media : ℕ → ℕ → List descriptions.Medium → List descriptions.Medium → List (Option Keyed) → List descriptions.Medium
+  told_media slot k ms ns ys =
+      with_media_lines (map (with_address f) (carried_media (ports_from slot k Secure (actives_after Secure ms ns)) (map (λ (m : descriptions.Medium). m.profile) ms) ns)) (map lines_of ys)
 
-  media_own : (others k : ℕ) (ms ns : List descriptions.Medium) (bs : List (Option Bundle)) (ys : List (Option Keyed)) → each_active Secure of_medium k ms ≡ Ok bs
-      → each_kept by_message k (actives_after Secure ms ns) (map own_streams bs) ns ≡ Ok ys → MediaFrom IsOfOwn others ms ns (media_agreed Secure ms ns ys)
-  media_own others k [] ns bs ys e f = tt
-  media_own others k (o ∷ ms) [] bs ys e f = tt
-  media_own others k (o ∷ ms) (n ∷ ns) bs ys e f =
-      let a = after_ok_is (if_active (is_active Secure o) (of_medium k o)) _ bs e in
-      let b = after_ok_is (each_active Secure of_medium (k + 1) ms) _ bs a.2 in
+  -- a medium and what the peer is told of it
+  abbrev IsToldOf : ℕ → descriptions.Medium → descriptions.Medium → ℕ → Keyed → Type 0
+  IsToldOf others o n port y = IsOfOwn h others o n (with_lines (with_address f (carried_medium port o.profile n)) y.lines) (medium_agreed Secure y o n)
+
+  by_bundle : (others : ℕ) (o n : descriptions.Medium) (port : ℕ) (i : PeersMessage h.pairs o.lines) (p : StreamKeys × StreamKeys) → IsPair i.message i.tgks 0 p
+      → IsToldOf others o n port (keyed_by_message (accepted_with i.message i.pair i.tgks, p) n)
+  unfolding carried_medium
+  by_bundle others o n port i p is =
+      let ssrcs : List ℕ = own_ssrc n.lines ∷ [] in
+      let octets : List ℕ = response_octets (accepted_with i.message i.pair i.tgks) ssrcs in
+      let r = own_response i.message i.pair i.tgks (carried_lines n.lines ++ mikey_attribute octets ∷ []) ssrcs (first_told n.lines octets) in
+      let answered = all_answered i.message.map r.0.response.map ssrcs r.1 in
+      (i, r.0, as_responder i.message i.tgks r.0.response.map 0 (mikey_attribute octets ∷ []) o n p is answered.0)
+
+  one_own : (others k : ℕ) (o n : descriptions.Medium) (port : ℕ) (active on : Bool) (b : Option Bundle) (y : Option Keyed) (x : Medium) → if_active active (of_medium h k o) ≡ Ok b
+      → if_kept on (own_streams b) (λ x. by_message h k x n) ≡ Ok y → option_map (λ k. medium_agreed Secure k o n) y ≡ Some x
+      → IsOfOwn h others o n (with_lines (with_address f (carried_medium port o.profile n)) (lines_of y)) x
+  one_own others k o n port active on b None x e made g = absurd cc
+  one_own others k o n port active on None (Some y) x e made g = let v = kept_some on None (λ x. by_message h k x n) y made in absurd (none_some v.0 v.1)
+  one_own others k o n port active on (Some b) (Some y) x e made g =
+      let v = kept_some on (own_streams (Some b)) (λ x. by_message h k x n) y made in
+      let is = bundle_is h k 1 o.lines (mikey_value o.lines) b refl (active_some active (of_medium h k o) b e) in
+      let p = first_pair h b o v.0 is v.1 in
+      let same : keyed_by_message (accepted_with is.message.message is.message.pair is.message.tgks, v.0.1) n ≡ y =
+      ap (λ (a : Accepted). keyed_by_message (a, v.0.1) n) p.0 ∙ ok_is (keyed_by_message v.0 n) y v.2 in
+      subst (λ (x : Medium). IsOfOwn h others o n (with_lines (with_address f (carried_medium port o.profile n)) y.lines) x) (some_is (medium_agreed Secure y o n) x g)
+      (subst (IsToldOf others o n port) same (by_bundle others o n port is.message v.0.1 p.1))
+
+  media_own : (slot others k : ℕ) (ms ns : List descriptions.Medium) (bs : List (Option Bundle)) (ys : List (Option Keyed)) → each_active Secure (of_medium h) k ms ≡ Ok bs
+      → each_kept (by_message h) k (actives_after Secure ms ns) (map own_streams bs) ns ≡ Ok ys → MediaFrom Secure (IsOfOwn h) others ms ns (told_media slot k ms ns ys) (media_agreed Secure ms ns ys)
+  media_own slot others k [] ns bs ys e made = tt
+  media_own slot others k (o ∷ ms) [] bs ys e made = tt
+  media_own slot others k (o ∷ ms) (n ∷ ns) bs ys e made =
+      let a = after_ok_is (if_active (is_active Secure o) (of_medium h k o)) _ bs e in
+      let b = after_ok_is (each_active Secure (of_medium h) (k + 1) ms) _ bs a.2 in
       let same : a.0 ∷ b.0 ≡ bs = ok_is (a.0 ∷ b.0) bs b.2 in
       let on : Bool = is_active Secure o && is_active Plain n in
-      let g : each_kept by_message k (actives_after Secure (o ∷ ms) (n ∷ ns)) (own_streams a.0 ∷ map own_streams b.0) (n ∷ ns) ≡ Ok ys =
-      ap (λ (bs : List (Option Bundle)). each_kept by_message k (actives_after Secure (o ∷ ms) (n ∷ ns)) (map own_streams bs) (n ∷ ns)) same ∙ f in
-      let c = after_ok_is (if_kept on (own_streams a.0) (λ x. by_message k x n)) _ ys g in
-      let d = after_ok_is (each_kept by_message (k + 1) (actives_after Secure ms ns) (map own_streams b.0) ns) _ ys c.2 in
-      subst (λ (ys : List (Option Keyed)). MediaFrom IsOfOwn others (o ∷ ms) (n ∷ ns) (media_agreed Secure (o ∷ ms) (n ∷ ns) ys)) (ok_is (c.0 ∷ d.0) ys d.2)
-      ((λ x i. one_own others k o n (is_active Secure o) on a.0 c.0 x a.1 c.1 i), media_own (cond (is_active Secure o) (others + 1) others) (k + 1) ms ns b.0 d.0 b.1 d.1)
+      let port : ℕ = cond on (rtp_port slot k Secure) 0 in
+      let g : each_kept (by_message h) k (actives_after Secure (o ∷ ms) (n ∷ ns)) (own_streams a.0 ∷ map own_streams b.0) (n ∷ ns) ≡ Ok ys =
+      ap (λ (bs : List (Option Bundle)). each_kept (by_message h) k (actives_after Secure (o ∷ ms) (n ∷ ns)) (map own_streams bs) (n ∷ ns)) same ∙ made in
+      let c = after_ok_is (if_kept on (own_streams a.0) (λ x. by_message h k x n)) _ ys g in
+      let d = after_ok_is (each_kept (by_message h) (k + 1) (actives_after Secure ms ns) (map own_streams b.0) ns) _ ys c.2 in
+      subst (λ (ys : List (Option Keyed)). MediaFrom Secure (IsOfOwn h) others (o ∷ ms) (n ∷ ns) (told_media slot k (o ∷ ms) (n ∷ ns) ys) (media_agreed Secure (o ∷ ms) (n ∷ ns) ys)) (ok_is (c.0 ∷ d.0) ys d.2)
+      ((λ x i. one_own others k o n port (is_active Secure o) on a.0 c.0 x a.1 c.1 i), media_own slot (cond (is_active Secure o) (others + 1) others) (k + 1) ms ns b.0 d.0 b.1 d.1)
 
 -- ---- the offer and the answer
 
--- of each medium that is agreed, by what message
-abbrev AreByMessage : AtHand → Sdp → List descriptions.Medium → List (Option Medium) → Type 0
-AreByMessage h offer ns xs =
-    ((i : PeersMessage h.pairs offer.session) × MediaFrom (IsOfPart i.message i.tgks) 0 offer.media ns xs)
-    ⊎ (AllByRecursion (λ line. ¬ IsMessageLine line) offer.session × MediaFrom (IsOfOwn h) 0 offer.media ns xs)
+-- the description that the peer is told of the answer
+abbrev told_to : ℕ → Sdp → Sdp → Answered → Sdp
+told_to slot offer answer a =
+    with_added (record { session = a.session; media = map lines_of a.media })
+    (carried (ports_from slot 0 Secure (actives_after Secure offer.media answer.media)) (map (λ (m : descriptions.Medium). m.profile) offer.media) answer)
 
-by_keying : (h : AtHand) (offer answer : Sdp) (value : Option (List ℕ)) (keying : Keying) (noise : List ℕ) (a : Answered) → mikey_value offer.session ≡ value → keying_by_messages h offer value ≡ Ok keying
+-- of each medium that is agreed, by what message
+abbrev AreByMessage : AtHand → Sdp → Sdp → Sdp → List (Option Medium) → Type 0
+AreByMessage h offer answer told xs =
+    ((i : PeersMessage h.pairs offer.session) × (r : OwnResponse i.message i.pair told.session) × MediaFrom Secure (IsOfPart i r) 0 offer.media answer.media answer.media xs)
+    ⊎ (AllByRecursion (λ line. ¬ IsMessageLine line) offer.session × MediaFrom Secure (IsOfOwn h) 0 offer.media answer.media told.media xs)
+
+by_keying : (h : AtHand) (slot : ℕ) (offer answer : Sdp) (value : Option (List ℕ)) (keying : Keying) (noise : List ℕ) (a : Answered) → mikey_value offer.session ≡ value
+    → keying_by_messages h offer value ≡ Ok keying
     → answered_by (record { side = Secure; description = offer; keying = keying }) noise answer (actives_after Secure offer.media answer.media) keying ≡ Ok a
-    → AreByMessage h offer answer.media (media_agreed Secure offer.media answer.media a.media)
-by_keying h offer answer (Some value) keying noise a is e f =
+    → AreByMessage h offer answer (told_to slot offer answer a) (media_agreed Secure offer.media answer.media a.media)
+by_keying h slot offer answer (Some value) keying noise a is e f =
     let p = after_ok_is (bundle_in h 255 (active_count Secure offer.media) (Some value)) _ keying e in
-    let i = bundle_is h 255 (active_count Secure offer.media) offer.session (Some value) p.0 is p.1 in
+    let b = bundle_is h 255 (active_count Secure offer.media) offer.session (Some value) p.0 is p.1 in
+    let i : PeersMessage h.pairs offer.session = b.message in
+    let ssrcs : List ℕ = ssrcs_answered Secure offer.media answer.media in
+    let initial : Accepted = accepted_with i.message i.pair i.tgks in
+    let line : List ℕ = mikey_attribute (response_octets initial ssrcs) in
     let g : answered_by (record { side = Secure; description = offer; keying = PeerMessage p.0 }) noise answer (actives_after Secure offer.media answer.media) (PeerMessage p.0) ≡ Ok a =
     ap (λ (k : Keying). answered_by (record { side = Secure; description = offer; keying = k }) noise answer (actives_after Secure offer.media answer.media) k) (ok_is (PeerMessage p.0) keying p.2) ∙ f in
-    let q = after_ok_is (each_kept (as_responder i.message.message i.message.tgks) 0 (actives_after Secure offer.media answer.media) (over_active Secure offer.media p.0.streams) answer.media) _ a g in
-    inl (
-      i.message,
-      subst (λ (a : Answered). MediaFrom (IsOfPart i.message.message i.message.tgks) 0 offer.media answer.media (media_agreed Secure offer.media answer.media a.media)) (ok_is _ a q.2)
-          (media_of_part i.message.message i.message.tgks 0 0 offer.media answer.media p.0.streams q.0 i.sent q.1),
-    )
-by_keying h offer answer None keying noise a is e f =
-    let p = after_ok_is (each_active Secure (of_medium h) 0 offer.media) _ keying e in
+    let q = after_ok_is (each_kept (λ k streams n. Ok (keyed_as_responder [] streams n)) 0 (actives_after Secure offer.media answer.media) (over_active Secure offer.media p.0.streams) answer.media) _ a g in
+    let r = own_response i.message i.pair i.tgks (carried_lines answer.session ++ line ∷ []) ssrcs (first_told answer.session (response_octets initial ssrcs)) in
+    let said = answers_said i.message.map r.0.response.map 0 offer.media answer.media (all_answered i.message.map r.0.response.map ssrcs r.1) in
+    let agreed : MediaFrom Secure (IsOfPart i r.0) 0 offer.media answer.media answer.media (media_agreed Secure offer.media answer.media q.0) = (
+    media_over Secure (IsPair i.message i.tgks) (λ p n. keyed_as_responder [] p n) (λ others o n. IsAnswered i.message.map r.0.response.map others (own_ssrc n.lines)) (IsOfPart i r.0)
+    (λ others o n t p is said. as_responder i.message i.tgks r.0.response.map others [] o n p is said)
+    0 0 offer.media answer.media p.0.streams q.0 b.sent said q.1
+    ) in
+    let same : record { session = line ∷ []; media = q.0 } ≡ a =
+    ap (λ (initial : Accepted). record { session = mikey_attribute (response_octets initial ssrcs) ∷ []; media = q.0 }) b.initial ∙ ok_is _ a q.2 in
+    subst (λ (a : Answered). AreByMessage h offer answer (told_to slot offer answer a) (media_agreed Secure offer.media answer.media a.media)) same (inl (i, r.0, agreed))
+by_keying h slot offer answer None keying noise a is e f =
+    let p = after_ok_is (each_active Secure (λ k m. bundle_in h k 1 (mikey_value m.lines)) 0 offer.media) _ keying e in
     let g : answered_by (record { side = Secure; description = offer; keying = PeerMessages p.0 }) noise answer (actives_after Secure offer.media answer.media) (PeerMessages p.0) ≡ Ok a =
     ap (λ (k : Keying). answered_by (record { side = Secure; description = offer; keying = k }) noise answer (actives_after Secure offer.media answer.media) k) (ok_is (PeerMessages p.0) keying p.2) ∙ f in
-    let q = after_ok_is (each_kept (by_message h) 0 (actives_after Secure offer.media answer.media) (map own_streams p.0) answer.media) _ a g in
-    inr (
-      no_value offer.session is,
-      subst (λ (a : Answered). MediaFrom (IsOfOwn h) 0 offer.media answer.media (media_agreed Secure offer.media answer.media a.media)) (ok_is _ a q.2)
-          (media_own h 0 0 offer.media answer.media p.0 q.0 p.1 q.1),
-    )
+    let q = after_ok_is (each_kept (λ k x n. Ok (keyed_by_message x n)) 0 (actives_after Secure offer.media answer.media) (map own_streams p.0) answer.media) _ a g in
+    subst (λ (a : Answered). AreByMessage h offer answer (told_to slot offer answer a) (media_agreed Secure offer.media answer.media a.media)) (ok_is _ a q.2)
+    (inr (no_value offer.session is, media_own h _ slot 0 0 offer.media answer.media p.0 q.0 p.1 q.1))
 
-abbrev pub IsByMessageOf : AtHand → Sdp → List ℕ → List (Option Medium) → Type 0
-IsByMessageOf h offer text xs = (s : Sdp) × (description_of text ≡ Ok s) × AreByMessage h offer s.media xs
-
-abbrev Agreed : AtHand → List ℕ → AgreedAnswer → Sdp → Type 0
-Agreed h text g s = ¬ HasNoMessage s → IsByMessageOf h s text g.media
+abbrev pub IsByMessageOf : AtHand → Sdp → List ℕ → AgreedAnswer → Type 0
+IsByMessageOf h offer text g = (s : Sdp) × (description_of text ≡ Ok s) × (told : Sdp) × (g.text ≡ spelling told) × AreByMessage h offer s told g.media
 
 pub by_peers_message : (h : AtHand) (offered noise text : List ℕ) (slot : ℕ) (a : AgreedOffer) (g : AgreedAnswer) → agreed_offer h FromSecure offered ≡ Ok a → ¬ HasNoMessage a.offer.description
-    → agreed_answer slot a.offer noise text ≡ Ok g → IsByMessageOf h a.offer.description text g.media
-unfolding agreed_offer agreed_answer
+    → agreed_answer slot a.offer noise text ≡ Ok g → IsByMessageOf h a.offer.description text g
+unfolding agreed_offer agreed_answer carried_text
 by_peers_message h offered noise text slot a g made some e = go made some e
   where
     of_answer : (offer : Sdp) (keying : Keying) → keying_of h offer FromSecure ≡ Ok keying → ¬ HasNoMessage offer
-        → agreed_answer slot (record { side = Secure; description = offer; keying = keying }) noise text ≡ Ok g → IsByMessageOf h offer text g.media
+        → agreed_answer slot (record { side = Secure; description = offer; keying = keying }) noise text ≡ Ok g → IsByMessageOf h offer text g
     of_answer offer keying k some e =
         let o : Offer = record { side = Secure; description = offer; keying = keying } in
         let p = after_ok_is (described Plain (Some (length offer.media)) text) _ g e in
@@ -404,7 +387,10 @@ by_peers_message h offered noise text slot a g made some e = go made some e
         let by : keying_by_messages h offer (mikey_value offer.session) ≡ Ok keying = with_message (has_message offer) refl k in (
           p.0,
           described_is Plain (Some (length offer.media)) text p.0 p.1,
-          subst (λ (g : AgreedAnswer). AreByMessage h offer p.0.media g.media) (ok_is (accepted_answer slot o p.0 active q.0) g q.2) (by_keying h offer p.0 (mikey_value offer.session) keying noise q.0 refl by q.1),
+          told_to slot offer p.0 q.0,
+          ap (λ (g : AgreedAnswer). g.text) (sym (ok_is (accepted_answer slot o p.0 active q.0) g q.2)),
+          subst (λ (g : AgreedAnswer). AreByMessage h offer p.0 (told_to slot offer p.0 q.0) g.media) (ok_is (accepted_answer slot o p.0 active q.0) g q.2)
+              (by_keying h slot offer p.0 (mikey_value offer.session) keying noise q.0 refl by q.1),
         )
       where
         with_message : (b : Bool) → has_message offer ≡ b → cond b (keying_by_messages h offer (mikey_value offer.session)) (after_ok (each_active Secure chosen_in 0 offer.media) (λ ls. Ok (PeerLines ls))) ≡ Ok keying
@@ -412,11 +398,11 @@ by_peers_message h offered noise text slot a g made some e = go made some e
         with_message true is k = k
         with_message false is k = absurd (some (has_none offer is))
 
-    go : agreed_offer h FromSecure offered ≡ Ok a → ¬ HasNoMessage a.offer.description → agreed_answer slot a.offer noise text ≡ Ok g → IsByMessageOf h a.offer.description text g.media
+    go : agreed_offer h FromSecure offered ≡ Ok a → ¬ HasNoMessage a.offer.description → agreed_answer slot a.offer noise text ≡ Ok g → IsByMessageOf h a.offer.description text g
     go made some e =
         let p = after_ok_is (described Secure h.media offered) _ a made in
         let q = after_ok_is (keying_of h p.0 FromSecure) _ a p.2 in
         let o : Offer = record { side = Secure; description = p.0; keying = q.0 } in
         let same : o ≡ a.offer = ap (λ (a : AgreedOffer). a.offer) (ok_is _ a q.2) in
-        subst (λ (o : Offer). IsByMessageOf h o.description text g.media) same
+        subst (λ (o : Offer). IsByMessageOf h o.description text g) same
         (of_answer p.0 q.0 q.1 (subst (λ (o : Offer). ¬ HasNoMessage o.description) (sym same) some) (subst (λ (o : Offer). agreed_answer slot o noise text ≡ Ok g) (sym same) e))

@@ -13,7 +13,7 @@ use Rattle.sg_csmap.specs.Policies.{Row, are_served, each_once, is_served, is_sh
 use Rattle.sg_csmap.specs.declared.policies.Protection.{Protection}
 use Rattle.sg_mikey.specs.declared.policy.Policy.{Policy}
 use Rattle.sg_session.proofs.Lists.{any_here, any_there, any_weaker}
-use Rattle.sg_gateway.specs.PeersMessages.{Says}
+use Rattle.sg_gateway.specs.CryptoSessions.{Says}
 
 -- ---- one value
 

@@ -1,9 +1,8 @@
 -- The sessions of an answer are by the texts that came and by those that were told: under crypto lines of theirs (RFC 4568, 5.1),
 -- or in the crypto sessions of the peer's MIKEY message or of the gateway's (RFC 3830, 6.1.1).
-use Rattle.std.specs.Prelude.{◌≡◌, ℕ, ◌+◌, ◌*◌, List, ◌∷◌, ◌++◌, map, not, Bool, true, Some, Ok}
+use Rattle.std.specs.Prelude.{◌≡◌, ℕ, ◌+◌, List, ◌∷◌, ◌++◌, map, not, Bool, Some, Ok}
 use Rattle.std.specs.List.{All, Any}
 use Rattle.sg_agreement.specs.Keying.{Offer}
-use Rattle.sg_agreement.specs.OwnMessages.{TellsMessage, IsResponseTo}
 use Rattle.sg_agreement.specs.Sides.{other_side, side_of}
 use Rattle.sg_agreement.specs.TextLines.{HasNoMessage, HasLine, TellsLine, IsWindow, identifier}
 use Rattle.sg_agreement.specs.declared.ways.Way.{Way}
@@ -11,10 +10,7 @@ use Rattle.sg_agreement.specs.declared.ways.Way.TheVariants.{FromSecure, SdesFro
 use Rattle.sg_base.specs.declared.addresses.CallId.{CallId}
 use Rattle.sg_base.specs.declared.addresses.Kind.{Kind}
 use Rattle.sg_base.specs.declared.addresses.Kind.TheVariants.{Rtp, Rtcp}
-use Rattle.sg_base.specs.declared.suites.Suite.TheVariants.{Cm128Tag80}
-use Rattle.sg_csmap.specs.CryptoSessions.{master_in}
 use Rattle.sg_outcome.specs.declared.outcomes.Outcome.TheVariants as outcomes
-use Rattle.sg_psk.specs.Sending.{Sent}
 use Rattle.sg_psk.specs.declared.pairs.Pair.{Pair}
 use Rattle.sg_sdes.specs.declared.lines.CryptoLine.{CryptoLine}
 use Rattle.sg_sdp.specs.Descriptions.{spelling}
@@ -26,7 +22,9 @@ use Rattle.sg_session.specs.declared.names.Direction.{Direction}
 use Rattle.sg_session.specs.declared.names.Direction.TheVariants.{Opening, Sealing}
 use Rattle.sg_base.specs.declared.sources.Admit.TheVariants as admit
 use Rattle.sg_gateway.specs.Addressed.{IsMediumAt}
-use Rattle.sg_gateway.specs.PeersMessages.{IsByPeersMessage, life_of, tag_octets}
+use Rattle.sg_gateway.specs.CryptoSessions.{life_of, tag_octets}
+use Rattle.sg_gateway.specs.OwnMessages.{OwnMessage, PeersResponse, IsInOwnSession}
+use Rattle.sg_gateway.specs.PeersMessages.{IsByPeersMessage}
 use Rattle.sg_gateway.specs.Runs.{Turn, turns, after_turn}
 use Rattle.sg_gateway.specs.Signals.{Offered, Answered}
 use Rattle.sg_gateway.specs.Step.{Event, Signalled}
@@ -83,25 +81,20 @@ abbrev pub HaveLines : List descriptions.Medium → List ℕ → Call → Type 0
 HaveLines peers text d =
     (told : Sdp) × (text ≡ spelling told) × All (λ s. s.name.owner.generation + 1 ≡ d.generations → HasItsLines peers told.media s) d.sessions
 
--- ---- by the gateway's message
+-- ---- by messages
 
--- crypto sessions have numbers from 1 on: the gateway sends in those of odd numbers, and the peer in those behind them
-abbrev pub number_towards : Direction → ℕ → ℕ
-number_towards Sealing k = 2 * k + 1
-number_towards Opening k = 2 * k + 2
+-- Each session of the call's current generation is by a message of the secure side's offer, and by the response in the text that
+-- this side is told.
+abbrev pub AreByPeersMessages : List Pair → Sdp → Sdp → List ℕ → Call → Type 0
+AreByPeersMessages pairs offer answer text d =
+    (told : Sdp) × (text ≡ spelling told) × All (λ s. s.name.owner.generation + 1 ≡ d.generations → IsByPeersMessage pairs offer answer told s) d.sessions
 
--- under the keys of a crypto session of the message, and encrypted
-pub record IsByMessage (sent : Sent) (s : Session) : Type 0 where
-  pub number : ℕ
-  pub masters : map (λ k. k.master) s.keys
-      ≡ map (λ k. master_in sent.csb sent.random (number_towards s.name.owner.direction number) Cm128Tag80 k.key) sent.tgks
-  pub encrypts : s.encrypts ≡ true
-
--- The text for the peer carries a message, its answer the response to it, and the sessions of the call's current generation are
--- by that message.
-abbrev pub AreByMessage : List ℕ → Sdp → Call → Type 0
-AreByMessage text answer d =
-    (sent : Sent) × TellsMessage text sent × IsResponseTo sent answer.session × All (λ s. s.name.owner.generation + 1 ≡ d.generations → IsByMessage sent s) d.sessions
+-- The text for the peer tells a message of the gateway's in its session part, that of the answer carries the response, and each
+-- session of the call's current generation is by the two.
+abbrev pub AreByOwnMessage : List Pair → List ℕ → Sdp → Sdp → List ℕ → Call → Type 0
+AreByOwnMessage pairs peer offer answer text d =
+    (told : Sdp) × (text ≡ spelling told) × (m : OwnMessage pairs peer told.session) × (r : PeersResponse m.message m.pair answer.session)
+    × All (λ s. s.name.owner.generation + 1 ≡ d.generations → IsInOwnSession m.message m.key r.response offer s) d.sessions
 
 -- ---- an answer
 
@@ -127,16 +120,12 @@ pub record Exchange (earlier : List Turn) (t : Turn) (id : CallId) (c : Call) (t
   pub back : List ℕ
   pub tells_back : Any (λ x. x ≡ outcomes.Sdp id (side_of way) back) t.outcomes
 
--- each session of the call's current generation is by a message of the secure side's offer
-abbrev pub AreByPeersMessages : List Pair → Sdp → Sdp → Call → Type 0
-AreByPeersMessages pairs offer answer d = All (λ s. s.name.owner.generation + 1 ≡ d.generations → IsByPeersMessage pairs offer answer s) d.sessions
-
 -- By lines where the secure side offered without a MIKEY message, and else by its messages, under the keys that were held when it
 -- offered; by lines where the gateway offered lines to it, and by the gateway's message where it offered one.
 abbrev pub AreByTexts : List Pair → Way → Sdp → Sdp → List ℕ → List ℕ → Call → Type 0
-AreByTexts pairs FromSecure offer answer forth back d = (HasNoMessage offer → HaveLines offer.media back d) × (¬ HasNoMessage offer → AreByPeersMessages pairs offer answer d)
+AreByTexts pairs FromSecure offer answer forth back d = (HasNoMessage offer → HaveLines offer.media back d) × (¬ HasNoMessage offer → AreByPeersMessages pairs offer answer back d)
 AreByTexts pairs SdesFromPlain offer answer forth back d = HaveLines answer.media forth d
-AreByTexts pairs (MikeyFromPlain peer) offer answer forth back d = AreByMessage forth answer d
+AreByTexts pairs (MikeyFromPlain peer) offer answer forth back d = AreByOwnMessage pairs peer offer answer forth d
 
 -- after an answer that makes a generation, each of its sessions is by the texts
 abbrev pub AnswerIsByTexts : List Turn → Turn → Type 0

@@ -7,6 +7,7 @@ pub mod ByTexts
 pub mod CallSignals
 pub mod CarriedOut
 pub mod Coming
+pub mod CryptoSessions
 pub mod Datagrams
 pub mod Departing
 pub mod Drawn
@@ -23,6 +24,7 @@ pub mod Moments
 pub mod Newness
 pub mod Octets
 pub mod Order
+pub mod OwnMessages
 pub mod Owned
 pub mod Passing
 pub mod PeersMessages

@@ -4,6 +4,8 @@ use Rattle.std.specs.List.{All, slice_split}
 use Rattle.sg_base.specs.declared.addresses.Side.TheVariants.{Plain}
 use Rattle.sg_outcome.specs.declared.outcomes.Outcome.{Outcome}
 use Rattle.sg_outcome.specs.declared.outcomes.Outcome.TheVariants.{Sdp}
+use Rattle.sg_sdp.specs.Descriptions.{all_lines, spelling}
+use Rattle.sg_sdp.specs.declared.sdp.Sdp as sdp
 use Rattle.sg_gateway.specs.Runs.{turns}
 use Rattle.sg_gateway.specs.Step.{Event}
 
@@ -15,9 +17,13 @@ IsKeyLine line = (rest : List ℕ) × ((line ≡ codes "a=crypto:" ++ rest) ⊎ 
 abbrev pub ends_line : ℕ → Bool
 ends_line octet = octet == 13 || octet == 10
 
--- no line of these octets is one, wherever a reader takes lines to end
-abbrev pub HasNoKey : List ℕ → Type 0
-HasNoKey text = All (λ line. ¬ IsKeyLine line) (slice_split ends_line text)
+-- These octets spell a description none of whose lines is one; and no line of the octets is one, wherever a reader takes lines
+-- to end.
+pub record HasNoKey (text : List ℕ) : Type 0 where
+  pub description : sdp.Sdp
+  pub spells : text ≡ spelling description
+  pub described : All (λ line. ¬ IsKeyLine line) (all_lines description)
+  pub read : All (λ line. ¬ IsKeyLine line) (slice_split ends_line text)
 
 -- it is no text for the plain side, or one that has no key
 abbrev pub TellsNoKey : Outcome → Type 0

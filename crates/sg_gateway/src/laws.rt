@@ -234,9 +234,9 @@ pub fn texts_tell_addresses()
 {}
 
 /// The offer that an answer closes was made in an earlier turn. Where crypto lines key them, the sessions of the answer's
-/// generation open under lines of the peer's text and seal under lines of the text that was told for the peer. Where the
-/// gateway's own MIKEY message does, they are of its crypto sessions and encrypt, and the answer carries the response to it,
-/// with the code under the pair's key.
+/// generation open under lines of the peer's text and seal under lines of the text that was told for the peer. Where MIKEY
+/// messages do, they are in the crypto sessions of their media, as the message of the one text and the response of the other
+/// say; both have the code under the pair's key.
 pub fn answers_are_by_their_texts()
     ensures { (events : List Event) → AnswersAreByTexts events }
 {}
@@ -254,7 +254,7 @@ pub fn tags_are_whole()
     ensures { (events : List Event) → EachSessionHasWholeTags events }
 {}
 
-/// No text that the plain side is told has a crypto attribute or a key-mgmt attribute.
+/// Each text that the plain side is told spells a description, and has no crypto attribute and no key-mgmt attribute.
 pub fn plain_texts_have_no_key()
     ensures { (events : List Event) → NoKeyGoesToThePlainSide events }
 {
