@@ -1,0 +1,4 @@
+mod Headlines
+mod Lifting
+mod Plainly
+mod Texts
