@@ -52,7 +52,8 @@ pub fn run<R: Threads + Sync, S: Source, K: Sink, L: Link, C: Clock, N: Noise, G
     noise: &mut N,
     gate: &G,
 ) -> Status
-    ensures ran { (events : List Event) (passages : List Passage)
+    ensures ran { (events : List Event)
+        × (passages : List Passage)
         × HasRun (map string_bytes words.now) result
         (record {
           left = S.left source.old;
@@ -117,7 +118,9 @@ pub fn run<R: Threads + Sync, S: Source, K: Sink, L: Link, C: Clock, N: Noise, G
         Ok(command) => command,
     };
     match command {
-        Command::Replay { workers, mux } => replay(rt, alloc, workers, mux, source, sink, noise, gate),
+        Command::Replay { workers, mux } => replay(
+            rt, alloc, workers, mux, source, sink, noise, gate,
+        ),
         Command::Relay { turns, mux } => relay(alloc, turns, mux, source, sink, link, clock, noise),
         Command::Demo {
             calls,
