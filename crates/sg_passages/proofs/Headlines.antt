@@ -31,7 +31,7 @@ use Rattle.sg_passages.specs.Told.{EachAsTold, OpensWhatGoesOut, PlainTextsHaveN
 -- ---- what is put out of one passage
 
 put_out : (p : Passage) → IsFaithful p → (e : Entry) → peers.IsPutOutOf p.turn e → told.IsPutOutOf p e
-put_out p f e a = any_weaker _ _ (λ c b. any_weaker _ _ (λ s is. (is.0, one_out p f _ _ _ is.1)) c.sessions b) p.turn.before.calls a
+put_out p f e a = any_weaker _ _ (λ c b. any_weaker _ _ (λ s is. record { name = is.name; key = is.key; out = one_out p f _ _ _ is.out }) c.sessions b) p.turn.before.calls a
 
 sealed_out : (p : Passage) → IsFaithful p → (e : Entry) (c : Call) (s : Session) → seals.IsSealedOutOf p.turn e c s → told.IsSealedOutOf p e c s
 sealed_out p f e c s is = record { name = is.name; encrypts = is.encrypts; key = is.key; out = one_out p f _ _ _ is.out }

@@ -1,17 +1,26 @@
 -- A run that tells everything as the gateway gives it.
-use Rattle.std.proofs.Common.{◌≡◌, inl, ℕ, List, [], ◌∷◌, map, refl, ap}
+use Rattle.std.proofs.Common.{◌≡◌, ◌⊎◌, inl, inr, ℕ, List, [], ◌∷◌, map, refl, ap}
 use Rattle.std.specs.List.{All, Any, AllByRecursion, slice_split}
 use Rattle.std.proofs.lemmas.List.Elements.{All-from_recursion}
 use Rattle.sg_outcome.specs.declared.outcomes.Outcome.{Outcome}
 use Rattle.sg_outcome.specs.declared.outcomes.Outcome.TheVariants.{Made, Live, Sdp, Refused, Ended, Out, Dropped, Unsent}
+use Rattle.sg_session.proofs.Lists.{any_here, any_there, each_weaker}
 use Rattle.sg_gateway.specs.PlainTexts.{ends_line}
 use Rattle.sg_gateway.specs.Runs.{Turn, turns}
 use Rattle.sg_gateway.specs.Step.{Event}
-use Rattle.sg_passages.specs.Passages.{AddsMuxLines, ArePassagesOf, AreToldAs, IsFaithful, IsToldAs, Leaves, Passage, out_by, plain_passages, plainly, straight}
+use Rattle.sg_passages.specs.Passages.{AddsMuxLines, ArePassagesOf, AreToldAs, IsFaithful, IsToldAs, Leaves, Passage, out_by, mux_line, plain_passages, plainly, straight}
 
 -- a text has its own lines and no others
+own_lines : (lines : List (List ℕ)) → AllByRecursion (λ line. Any (λ l. l ≡ line) lines ⊎ (line ≡ mux_line)) lines
+own_lines [] = tt
+own_lines (l ∷ ls) = (inl (any_here (λ m. m ≡ l) l ls refl), each_weaker (λ line. Any (λ m. m ≡ line) ls ⊎ (line ≡ mux_line)) _ further ls (own_lines ls))
+  where
+    further : (line : List ℕ) → Any (λ m. m ≡ line) ls ⊎ (line ≡ mux_line) → Any (λ m. m ≡ line) (l ∷ ls) ⊎ (line ≡ mux_line)
+    further line (inl own) = inl (any_there (λ m. m ≡ line) l ls own)
+    further line (inr added) = inr added
+
 pub same_text : (text : List ℕ) → AddsMuxLines text text
-same_text text k line lt = inl (k, line, lt, refl, refl)
+same_text text = All-from_recursion _ (slice_split ends_line text) (own_lines (slice_split ends_line text))
 
 pub as_it_is : (o : Outcome) → IsToldAs straight o o
 as_it_is (Out port to octets) = refl

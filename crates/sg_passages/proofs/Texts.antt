@@ -1,5 +1,5 @@
 -- A line of RFC 5761 is no key.
-use Rattle.std.proofs.Common.{◌≡◌, ◌⊎◌, inl, inr, ℕ, List, [], ◌∷◌, codes, refl, sym, subst, ap, ◌∙◌}
+use Rattle.std.proofs.Common.{◌≡◌, ◌⊎◌, inl, inr, ℕ, List, [], ◌∷◌, codes, refl, sym, subst, ap, arith, ◌∙◌}
 use Rattle.std.specs.List.{All, Any, AllByRecursion, slice_split}
 use Rattle.std.specs.Prelude.{slice_index}
 use Rattle.std.proofs.lemmas.List.Elements.{All-from_recursion, recursion_from_All}
@@ -13,8 +13,8 @@ use Rattle.sg_gateway.specs.PlainTexts.{HasNoKey, IsKeyLine, TellsNoKey, ends_li
 use Rattle.sg_passages.specs.Passages.{AddsMuxLines, AreToldAs, IsFaithful, IsToldAs, Leaves, Passage, mux_line}
 
 no_key : ¬ IsKeyLine mux_line
-no_key (rest, inl same) = let e : 114 ≡ 99 = ap (λ l. slice_index l 2) same in omega e
-no_key (rest, inr same) = let e : 114 ≡ 107 = ap (λ l. slice_index l 2) same in omega e
+no_key (rest, inl same) = let e : 114 ≡ 99 = ap (λ l. slice_index l 2) same in omega (arith, e)
+no_key (rest, inr same) = let e : 114 ≡ 107 = ap (λ l. slice_index l 2) same in omega (arith, e)
 
 stays_no_key : (first text : List ℕ) → AddsMuxLines first text → HasNoKey first → HasNoKey text
 stays_no_key first text adds none =
