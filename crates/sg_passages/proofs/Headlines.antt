@@ -1,10 +1,9 @@
 -- Each part of the headline that tells what becomes of an event, over passages.
-use Rattle.std.proofs.Common.{◌≡◌, ℕ, ◌<◌, List, [], ◌∷◌, get_or, sym, subst, ◌∙◌}
-use Rattle.std.specs.List.{All, Any, AllByRecursion, Contains}
+use Rattle.std.proofs.Common.{List, get_or, ◌∙◌}
+use Rattle.std.specs.List.{All}
 use Rattle.sg_session.proofs.Lists.{any_weaker}
 use Rattle.sg_session.specs.Reach.{Sealed}
 use Rattle.sg_session.specs.Session.{Session}
-use Rattle.sg_session.specs.declared.names.Direction.TheVariants.{Opening, Sealing}
 use Rattle.sg_gateway.specs.Addressed.{OfferIsItsText, OffersAreTheirTexts}
 use Rattle.sg_gateway.specs.Arriving as arriving
 use Rattle.sg_gateway.specs.Authentic.{MessagesAreAcceptedOnce, NotesStay, OfferIsAuthentic}

@@ -1,4 +1,4 @@
 mod Headlines
 mod Lifting
-mod Plainly
+pub mod Plainly
 mod Texts

@@ -1,5 +1,5 @@
 -- A line of RFC 5761 is no key.
-use Rattle.std.proofs.Common.{◌≡◌, ◌⊎◌, inl, inr, ℕ, List, [], ◌∷◌, codes, refl, sym, subst, ap, arith, ◌∙◌}
+use Rattle.std.proofs.Common.{◌≡◌, ◌⊎◌, inl, inr, ℕ, List, [], ◌∷◌, sym, subst, ap, arith, ◌∙◌}
 use Rattle.std.specs.List.{All, Any, AllByRecursion, slice_split}
 use Rattle.std.specs.Prelude.{slice_index}
 use Rattle.std.proofs.lemmas.List.Elements.{All-from_recursion, recursion_from_All}
