@@ -1,10 +1,10 @@
 -- What holds of turns, said of what is told of them.
 use Rattle.std.specs.Prelude.{◌≡◌, ℕ, List}
-use Rattle.std.specs.List.{All, AllByRecursion, Any}
+use Rattle.std.specs.List.{All, AllByRecursion, Any, slice_split}
 use Rattle.sg_base.specs.declared.addresses.CallId.{CallId}
 use Rattle.sg_base.specs.declared.addresses.Side.TheVariants.{Plain}
 use Rattle.sg_gateway.specs.PeersPackets.{IsOutPlain}
-use Rattle.sg_gateway.specs.PlainTexts.{HasNoKey}
+use Rattle.sg_gateway.specs.PlainTexts.{IsKeyLine, ends_line}
 use Rattle.sg_gateway.specs.Refusing.{IsRefused}
 use Rattle.sg_gateway.specs.Runs.{Turn, after_turn}
 use Rattle.sg_gateway.specs.SealedOut.{IsOut, IsOutSecure}
@@ -38,6 +38,8 @@ SignalStaysIn t = (signal : Signal) → t.event ≡ Signalled signal → All (λ
 abbrev pub RefusalChangesNothing : Turn → Type 0
 RefusalChangesNothing t = IsRefused t → after_turn t ≡ t.before
 
--- no text for the plain side has a line that is a key
+-- no line of a text for the plain side is a key, wherever a reader takes lines to end
 abbrev pub PlainTextsHaveNoKey : Turn → Type 0
-PlainTextsHaveNoKey t = (id : CallId) (text : List ℕ) → Any (λ o. o ≡ Sdp id Plain text) t.outcomes → HasNoKey text
+PlainTextsHaveNoKey t =
+    (id : CallId) (text : List ℕ) → Any (λ o. o ≡ Sdp id Plain text) t.outcomes
+    → All (λ line. ¬ IsKeyLine line) (slice_split ends_line text)
