@@ -4,8 +4,7 @@ use Rattle.std.proofs.lemmas.Bool.{false≢true, eq-eqb}
 use Rattle.std.proofs.lemmas.List.{append-nil}
 use Rattle.std.proofs.lemmas.List.Elements.{All-from_recursion}
 use Rattle.sg_bridge.specs.Bridged.{Crosses, StaysInside}
-use Rattle.sg_bridging.specs.Bridge.{IsBridge}
-use Rattle.sg_bridging.specs.Bridge as bridges
+use Rattle.sg_bridging.specs.Bridge.{IsBridge, bridge_text, bridge_trace}
 use Rattle.sg_trace.proofs.Causes.{not_failed}
 use Rattle.sg_trace.specs.Causes.{HasFailed}
 use Rattle.sg_capture.specs.Capturing.{IsCapture}
@@ -150,7 +149,7 @@ not_bridged old = record {
     took = took_none old.left;
     drew = added_none old.drawn;
     wrote = wrote_none old.written;
-    ends = (bridges.output [] [], refl);
+    ends = (bridge_text (bridge_trace [] []).said, refl);
     bound = omega arith;
   };
   events_are = refl;
@@ -276,17 +275,17 @@ capture_not_link status old new octets draws out run is = capture_not Link statu
 pub capture_not_clock : (status : Status) (old new : replays.Tellings) (octets draws out : List ℕ) → IsCapture status old new octets draws out → status ≡ Clock → ⊥
 capture_not_clock status old new octets draws out run is = capture_not Clock status old new octets draws out (λ r. r.ends) run is
 
-bridge_not : (other status : Status) (old new : bridges.Tellings) (octets draws out : List ℕ) → (IsBridge other old new octets draws out → ⊥)
+bridge_not : (other status : Status) (old new : replays.Tellings) (octets draws out : List ℕ) → (IsBridge other old new octets draws out → ⊥)
     → IsBridge status old new octets draws out → status ≡ other → ⊥
 bridge_not other status old new octets draws out isnt run is = isnt (subst (λ s. IsBridge s old new octets draws out) is run)
 
-pub bridge_not_usage : (status : Status) (old new : bridges.Tellings) (octets draws out : List ℕ) → IsBridge status old new octets draws out → status ≡ Usage → ⊥
+pub bridge_not_usage : (status : Status) (old new : replays.Tellings) (octets draws out : List ℕ) → IsBridge status old new octets draws out → status ≡ Usage → ⊥
 bridge_not_usage status old new octets draws out run is = bridge_not Usage status old new octets draws out (λ r. r.ends) run is
 
-pub bridge_not_link : (status : Status) (old new : bridges.Tellings) (octets draws out : List ℕ) → IsBridge status old new octets draws out → status ≡ Link → ⊥
+pub bridge_not_link : (status : Status) (old new : replays.Tellings) (octets draws out : List ℕ) → IsBridge status old new octets draws out → status ≡ Link → ⊥
 bridge_not_link status old new octets draws out run is = bridge_not Link status old new octets draws out (λ r. r.ends) run is
 
-pub bridge_not_clock : (status : Status) (old new : bridges.Tellings) (octets draws out : List ℕ) → IsBridge status old new octets draws out → status ≡ Clock → ⊥
+pub bridge_not_clock : (status : Status) (old new : replays.Tellings) (octets draws out : List ℕ) → IsBridge status old new octets draws out → status ≡ Clock → ⊥
 bridge_not_clock status old new octets draws out run is = bridge_not Clock status old new octets draws out (λ r. r.ends) run is
 
 pub relay_not_usage : (muxes : Bool) (status : Status) (turns : ℕ) (old new : relays.Tellings) (p : Passed) → IsRelay muxes status turns old new p → status ≡ Usage → ⊥

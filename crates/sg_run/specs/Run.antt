@@ -2,7 +2,6 @@
 use Rattle.std.specs.Prelude.{◌≡◌, ℕ, Bool, List, [], Option}
 use Rattle.sg_bridge.specs.Bridged.{EachCrossingIsSealed, JoinedStayInside, bridged_events}
 use Rattle.sg_bridging.specs.Bridge.{IsBridge, bridge_trace}
-use Rattle.sg_bridging.specs.Bridge as bridges
 use Rattle.sg_capture.specs.Capturing.{IsCapture}
 use Rattle.sg_trace.specs.Captured.{captured, events_in as captured_events}
 use Rattle.sg_trace.specs.Trace.{replayed}
@@ -44,7 +43,7 @@ pub record Outside : Type 0 where
   pub drawn : Option (List ℕ)
   pub failures : Failures
 
--- those of them that a replay is given
+-- those of them that a replay is given, and a capture's run and a bridge
 abbrev pub of_replay : Outside → replays.Tellings
 of_replay o = record { left = o.left; written = o.written; drawn = o.drawn }
 
@@ -53,9 +52,6 @@ of_relay o = record { left = o.left; written = o.written; calls = o.calls; readi
 
 abbrev pub of_migration : Outside → migrations.Tellings
 of_migration o = record { left = o.left; written = o.written }
-
-abbrev pub of_bridge : Outside → bridges.Tellings
-of_bridge o = record { left = o.left; written = o.written; drawn = o.drawn }
 
 -- A replay read, drew and wrote these octets; these are its events as they come to the gateway, and what is told of them.
 pub record HasReplayed (muxes : Bool) (status : Status) (old new : Outside) (events : List Event) (passages : List Passage) : Type 0 where
@@ -119,7 +115,7 @@ pub record HasBridged (status : Status) (old new : Outside) (events : List Event
   pub octets : List ℕ
   pub draws : List ℕ
   pub out : List ℕ
-  pub is : IsBridge status (of_bridge old) (of_bridge new) octets draws out
+  pub is : IsBridge status (of_replay old) (of_replay new) octets draws out
   pub events_are : events ≡ bridged_events (bridge_trace octets draws).said
   pub passages_are : passages ≡ plain_passages events
   pub inside : JoinedStayInside (bridge_trace octets draws).said
