@@ -16,7 +16,7 @@ use Rattle.sg_outcome.specs.declared.outcomes.Outcome.TheVariants.{Made, Live, S
 use Rattle.sg_passages.specs.Passages.{ArePassagesOf, AreToldAs, IsFaithful, IsToldAs, KeepsLegs, KeepsOffers, Leaves, Leaving, straight}
 use Rattle.sg_mux.proofs.Lines.{ReadIsSpelled, adds_lines, same_lines}
 use Rattle.sg_mux.specs.Legs.{is_muxed_at, is_muxed_rtcp, leaves}
-use Rattle.sg_mux.specs.Muxed.{agreed, answered, nobody, settled, signalled}
+use Rattle.sg_mux.specs.Muxed.{agreed, answered, nobody, offered_by, settled, signalled}
 use Rattle.sg_mux.specs.Via.{events_from, events_via, leaves_at, muxing_after, passage_at, passages_from, passages_via, stepped, told_at, via}
 use Rattle.sg_mux.specs.declared.known.Known.{Known}
 
@@ -54,7 +54,7 @@ all_as_they_are (o ∷ os) = (o, os, refl, as_it_is o, all_as_they_are os)
 
 module _ (spelled : ReadIsSpelled) where
   settled_told : (calls : List (Option Known)) (o : Outcome) → IsToldAs straight o (settled calls o).told
-  settled_told calls (Sdp id side text) = (_, refl, adds_lines spelled text (agreed id text calls))
+  settled_told calls (Sdp id side text) = (_, refl, adds_lines spelled text (agreed text (offered_by id calls)))
   settled_told calls (Out port to octets) = refl
   settled_told calls (Dropped port cause) = (port, refl)
   settled_told calls (Made id slot media) = refl
