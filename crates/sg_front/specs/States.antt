@@ -61,6 +61,11 @@ abbrev pub state_after : State → List Event → State
 state_after s [] = s
 state_after s (e ∷ es) = state_after (next s e) es
 
+-- the same events as they come to the world
+abbrev pub came_from : State → List Event → List Event
+came_from s [] = []
+came_from s (e ∷ es) = comes s.muxes s.calls e ∷ came_from (next s e) es
+
 -- ---- a front: a table, and before it the legs that share their ports
 
 pub record FrontValue : Type 0 where
