@@ -1,0 +1,4 @@
+pub mod Headline
+pub mod Passages
+pub mod PutOut
+pub mod Told

@@ -1,0 +1,89 @@
+-- What a run tells of its events: by which ports packets leave, and the outcomes as they are told.
+use Rattle.std.specs.Prelude.{◌≡◌, ◌⊎◌, ℕ, ◌-◌, ◌/◌, List, [], ◌∷◌, map, codes}
+use Rattle.std.specs.List.{All, Any, slice_split}
+use Rattle.sg_agreement.specs.declared.ways.Way.{Way}
+use Rattle.sg_base.specs.declared.addresses.Address.{Address}
+use Rattle.sg_base.specs.declared.addresses.CallId.{CallId}
+use Rattle.sg_gateway.specs.PlainTexts.{ends_line}
+use Rattle.sg_gateway.specs.Runs.{Turn, turns}
+use Rattle.sg_gateway.specs.Signals.{Offered}
+use Rattle.sg_gateway.specs.Step.{Event, Signalled}
+use Rattle.sg_outcome.specs.declared.outcomes.Outcome.{Outcome}
+use Rattle.sg_outcome.specs.declared.outcomes.Outcome.TheVariants.{Made, Live, Sdp, Refused, Ended, Out, Dropped, Unsent}
+
+-- by which port of the gateway a packet leaves, and to which address
+pub record Leaving : Type 0 where
+  pub port : ℕ
+  pub to : Address
+
+-- where a packet leaves that a session puts out from a port to an address
+abbrev pub Leaves : Type 0
+Leaves = ℕ → Address → Leaving
+
+abbrev pub straight : Leaves
+straight port to = record { port = port; to = to }
+
+-- One event of a run: its turn at the gateway, by which ports what that puts out leaves, and what is told of it.
+pub record Passage : Type 0 where
+  pub turn : Turn
+  pub leaves : Leaves
+  pub told : List Outcome
+
+-- a packet that is put out, as it leaves
+abbrev pub out_by : Leaves → ℕ → Address → List ℕ → Outcome
+out_by leaves port to octets = Out (leaves port to).port (leaves port to).to octets
+
+-- ---- faithful telling
+
+-- the line by which a description says that RTP and RTCP share a medium's port (RFC 5761, 5.1.1)
+abbrev pub mux_line : List ℕ
+mux_line = codes "a=rtcp-mux"
+
+-- each line of the text, wherever a reader takes lines to end, is a line of the first one, or that line
+abbrev pub AddsMuxLines : List ℕ → List ℕ → Type 0
+AddsMuxLines first text = All (λ line. Any (λ l. l ≡ line) (slice_split ends_line first) ⊎ (line ≡ mux_line)) (slice_split ends_line text)
+
+-- What is told of an outcome: of a packet that it leaves; of a drop the cause, at the port at which the datagram arrived;
+-- of a description a text to the same side, with no line more but that of RFC 5761; everything else as it is.
+abbrev pub IsToldAs : Leaves → Outcome → Outcome → Type 0
+IsToldAs leaves (Out port to octets) o = o ≡ out_by leaves port to octets
+IsToldAs leaves (Dropped port cause) o = (arrived : ℕ) × (o ≡ Dropped arrived cause)
+IsToldAs leaves (Sdp id side first) o = (text : List ℕ) × (o ≡ Sdp id side text) × AddsMuxLines first text
+IsToldAs leaves (Made id slot media) o = o ≡ Made id slot media
+IsToldAs leaves (Live id) o = o ≡ Live id
+IsToldAs leaves (Refused id cause) o = o ≡ Refused id cause
+IsToldAs leaves (Ended id slot media why) o = o ≡ Ended id slot media why
+IsToldAs leaves (Unsent port to) o = o ≡ Unsent port to
+
+-- one for each, in order
+abbrev pub AreToldAs : Leaves → List Outcome → List Outcome → Type 0
+AreToldAs leaves [] told = told ≡ []
+AreToldAs leaves (o ∷ os) told = (t : Outcome) × (ts : List Outcome) × (told ≡ t ∷ ts) × IsToldAs leaves o t × AreToldAs leaves os ts
+
+-- What leaves goes by a port of the leg by which it was put out, to the same host. A leg has two ports: of RTP, and the next
+-- one of RTCP.
+pub record KeepsLegs (leaves : Leaves) : Type 0 where
+  pub leg : (port : ℕ) (to : Address) → ((leaves port to).port - 20000) / 2 ≡ (port - 20000) / 2
+  pub host : (port : ℕ) (to : Address) → (leaves port to).to.ip ≡ to.ip
+
+-- what is told of an offer is told as it is
+abbrev pub KeepsOffers : Passage → Type 0
+KeepsOffers p = (id : CallId) (way : Way) (noise text : List ℕ) → p.turn.event ≡ Signalled (Offered id way noise text) → p.told ≡ p.turn.outcomes
+
+pub record IsFaithful (p : Passage) : Type 0 where
+  pub told : AreToldAs p.leaves p.turn.outcomes p.told
+  pub legs : KeepsLegs p.leaves
+  pub offers : KeepsOffers p
+
+-- These are the passages of a run of the events.
+pub record ArePassagesOf (events : List Event) (passages : List Passage) : Type 0 where
+  pub turns_are : map (λ p. p.turn) passages ≡ turns events
+  pub faithful : All IsFaithful passages
+
+-- ---- a run that tells all as it is
+
+abbrev pub plainly : Turn → Passage
+plainly t = record { turn = t; leaves = straight; told = t.outcomes }
+
+abbrev pub plain_passages : List Event → List Passage
+plain_passages events = map plainly (turns events)
