@@ -1,0 +1,14 @@
+//! RTP and RTCP on one port (RFC 5761): which legs share a port, by which ports what comes is taken, and by which ports what
+//! leaves goes.
+#![tactic(auto)]
+
+mod known;
+mod laws;
+mod legs;
+mod mux;
+mod signals;
+mod texts;
+
+pub use known::Known;
+pub use laws::shared_ports_are_faithful;
+pub use mux::Mux;
