@@ -1,21 +1,19 @@
 -- What playing the lines of a script leaves, one by one.
 use Rattle.std.specs.Prelude.{◌≡◌, ◌⊎◌, ℕ, Bool, true, false, List, [], ◌∷◌, ◌++◌, map, Result, Ok, Err}
 use Rattle.sg_trace.specs.Trace.{Trace, ForDraw, Later, drawing, handled, stopped, with_events}
-use Rattle.sg_trace.specs.Output.{IsPrefixOf, output_from}
+use Rattle.sg_trace.specs.Output.{IsPrefixOf, text}
 use Rattle.sg_trace.specs.declared.status.Status.{Status}
 use Rattle.sg_trace.specs.declared.status.Status.TheVariants.{Done, Usage, Script, Read, Write, Link, NoMemory, Clock, Noise, TurnsSpent, Capture}
-use Rattle.sg_gateway.specs.Runs.{world_after}
+use Rattle.sg_front.specs.States.{FrontValue, State, state_after, told_from}
 use Rattle.sg_gateway.specs.Signals.{Tick}
 use Rattle.sg_gateway.specs.Step.{Event, Signalled}
-use Rattle.sg_gateway.specs.World.{World}
 use Rattle.sg_lines.specs.declared.lines.Line.{Line}
 use Rattle.sg_table.specs.Batches.{arrived}
-use Rattle.sg_table.specs.Values.{TableValue}
 use Rattle.sg_table.specs.declared.arrival.Arrival.{Arrival}
 
--- a table, and the datagrams that wait
+-- a front, and the datagrams that wait
 pub record Playing : Type 0 where
-  pub table : TableValue
+  pub front : FrontValue
   pub waits : List Arrival
 
 -- the events that wait
@@ -26,96 +24,100 @@ waiting p = map arrived p.waits
 abbrev pub IsWant : Status → Type 0
 IsWant status = (status ≡ Write) ⊎ (status ≡ NoMemory)
 
--- From this world on they tell the same, and leave the same world.
-pub record AreAlike (w : World) (es fs : List Event) : Type 0 where
-  pub told : output_from w es ≡ output_from w fs
-  pub left : world_after w es ≡ world_after w fs
+-- what the events tell from a state on, as it is written
+abbrev pub text_from : State → List Event → List ℕ
+text_from s events = text (told_from s events)
 
--- The events were handled and told, and the table stands for the world after them; or a prefix was told.
-abbrev pub IsStepped : Result (Unit {0}) Status → World → List Event → (World → Type 0) → List ℕ → Type 0
-IsStepped (Ok u) w events stands_for out = (out ≡ output_from w events) × stands_for (world_after w events)
-IsStepped (Err Write) w events stands_for out = IsPrefixOf out (output_from w events)
-IsStepped (Err NoMemory) w events stands_for out = IsPrefixOf out (output_from w events)
-IsStepped (Err Done) w events stands_for out = ⊥
-IsStepped (Err Usage) w events stands_for out = ⊥
-IsStepped (Err (Script n fault)) w events stands_for out = ⊥
-IsStepped (Err Read) w events stands_for out = ⊥
-IsStepped (Err Link) w events stands_for out = ⊥
-IsStepped (Err Clock) w events stands_for out = ⊥
-IsStepped (Err TurnsSpent) w events stands_for out = ⊥
-IsStepped (Err Noise) w events stands_for out = ⊥
-IsStepped (Err (Capture offset fault)) w events stands_for out = ⊥
+-- From this state on they tell the same, and leave the same state.
+pub record AreAlike (s : State) (es fs : List Event) : Type 0 where
+  pub told : text_from s es ≡ text_from s fs
+  pub left : state_after s es ≡ state_after s fs
 
--- What waited was handled and told, and the table stands for the world after it; or a prefix was told.
-abbrev pub IsSettled : Result (Unit {0}) Status → World → List Event → List Event → (World → Type 0) → List ℕ → Type 0
-IsSettled (Ok u) w waited waits stands_for out = (waits ≡ []) × IsStepped (Ok u) w waited stands_for out
-IsSettled (Err status) w waited waits stands_for out = IsStepped (Err status) w waited stands_for out
+-- The events were handled and told, and the front stands for the state after them; or a prefix was told.
+abbrev pub IsStepped : Result (Unit {0}) Status → State → List Event → (State → Type 0) → List ℕ → Type 0
+IsStepped (Ok u) s events stands_for out = (out ≡ text_from s events) × stands_for (state_after s events)
+IsStepped (Err Write) s events stands_for out = IsPrefixOf out (text_from s events)
+IsStepped (Err NoMemory) s events stands_for out = IsPrefixOf out (text_from s events)
+IsStepped (Err Done) s events stands_for out = ⊥
+IsStepped (Err Usage) s events stands_for out = ⊥
+IsStepped (Err (Script n fault)) s events stands_for out = ⊥
+IsStepped (Err Read) s events stands_for out = ⊥
+IsStepped (Err Link) s events stands_for out = ⊥
+IsStepped (Err Clock) s events stands_for out = ⊥
+IsStepped (Err TurnsSpent) s events stands_for out = ⊥
+IsStepped (Err Noise) s events stands_for out = ⊥
+IsStepped (Err (Capture offset fault)) s events stands_for out = ⊥
+
+-- What waited was handled and told, and the front stands for the state after it; or a prefix was told.
+abbrev pub IsSettled : Result (Unit {0}) Status → State → List Event → List Event → (State → Type 0) → List ℕ → Type 0
+IsSettled (Ok u) s waited waits stands_for out = (waits ≡ []) × IsStepped (Ok u) s waited stands_for out
+IsSettled (Err status) s waited waits stands_for out = IsStepped (Err status) s waited stands_for out
 
 -- What was handled and told is a prefix of what waited, or all of it.
-abbrev pub HasRoom : Result (Unit {0}) Status → World → List Event → List Event → (World → Type 0) → List ℕ → Type 0
-HasRoom (Ok u) w waited waits stands_for out = (prefix : List Event) × (waited ≡ prefix ++ waits) × IsStepped (Ok u) w prefix stands_for out
-HasRoom (Err status) w waited waits stands_for out = IsStepped (Err status) w waited stands_for out
+abbrev pub HasRoom : Result (Unit {0}) Status → State → List Event → List Event → (State → Type 0) → List ℕ → Type 0
+HasRoom (Ok u) s waited waits stands_for out = (prefix : List Event) × (waited ≡ prefix ++ waits) × IsStepped (Ok u) s prefix stands_for out
+HasRoom (Err status) s waited waits stands_for out = IsStepped (Err status) s waited stands_for out
 
 -- A tick to this moment came behind what waited. A prefix of what is like them all was handled and told, and the rest
 -- waits: a tick to the last moment is left out.
-abbrev pub HasCome : Result (Unit {0}) Status → ℕ → World → List Event → List Event → (World → Type 0) → List ℕ → Type 0
-HasCome (Ok u) now w waited waits stands_for out =
-    (prefix : List Event) × AreAlike w (waited ++ Signalled (Tick now) ∷ []) (prefix ++ waits) × IsStepped (Ok u) w prefix stands_for out
-HasCome (Err status) now w waited waits stands_for out = IsStepped (Err status) w (waited ++ Signalled (Tick now) ∷ []) stands_for out
+abbrev pub HasCome : Result (Unit {0}) Status → ℕ → State → List Event → List Event → (State → Type 0) → List ℕ → Type 0
+HasCome (Ok u) now s waited waits stands_for out =
+    (prefix : List Event) × AreAlike s (waited ++ Signalled (Tick now) ∷ []) (prefix ++ waits) × IsStepped (Ok u) s prefix stands_for out
+HasCome (Err status) now s waited waits stands_for out = IsStepped (Err status) s (waited ++ Signalled (Tick now) ∷ []) stands_for out
 
 -- The line's events, for which these octets were drawn, came behind those that waited. A prefix of what is like them
 -- all was handled and told, and the rest waits.
-pub record IsTaken (l : Line) (w : World) (waited waits : List Event) (stands_for : World → Type 0) (draws out : List ℕ) : Type 0 where
+pub record IsTaken (l : Line) (s : State) (waited waits : List Event) (stands_for : State → Type 0) (draws out : List ℕ) : Type 0 where
   pub events : List Event
   pub prefix : List Event
   pub goes : (later : Later) (more : List ℕ) → handled l later 0 (drawing (draws ++ more)) ≡ with_events events (later 0 (drawing more))
-  pub alike : AreAlike w (waited ++ events) (prefix ++ waits)
-  pub told : out ≡ output_from w prefix
-  pub stands : stands_for (world_after w prefix)
+  pub alike : AreAlike s (waited ++ events) (prefix ++ waits)
+  pub told : out ≡ text_from s prefix
+  pub stands : stands_for (state_after s prefix)
 
 -- A prefix of what they tell was told.
-pub record IsCut (l : Line) (w : World) (waited : List Event) (draws out : List ℕ) : Type 0 where
+pub record IsCut (l : Line) (s : State) (waited : List Event) (draws out : List ℕ) : Type 0 where
   pub events : List Event
   pub goes : (later : Later) → (rest : Trace) × (handled l later 0 (drawing draws) ≡ with_events events rest)
-  pub told : IsPrefixOf out (output_from w (waited ++ events))
+  pub told : IsPrefixOf out (text_from s (waited ++ events))
 
 -- The line lacks noise, and none was drawn. All that waited was told.
-pub record IsUnsupplied (l : Line) (w : World) (waited : List Event) (draws out : List ℕ) : Type 0 where
+pub record IsUnsupplied (l : Line) (s : State) (waited : List Event) (draws out : List ℕ) : Type 0 where
   pub drew : draws ≡ []
   pub stops : (later : Later) → handled l later 0 (drawing []) ≡ stopped ForDraw (drawing [])
-  pub told : out ≡ output_from w waited
+  pub told : out ≡ text_from s waited
 
-abbrev pub IsPlayed : Result (Unit {0}) Status → Line → World → List Event → List Event → (World → Type 0) → List ℕ → List ℕ → Type 0
-IsPlayed (Ok u) l w waited waits stands_for draws out = IsTaken l w waited waits stands_for draws out
-IsPlayed (Err Noise) l w waited waits stands_for draws out = IsUnsupplied l w waited draws out
-IsPlayed (Err Write) l w waited waits stands_for draws out = IsCut l w waited draws out
-IsPlayed (Err NoMemory) l w waited waits stands_for draws out = IsCut l w waited draws out
-IsPlayed (Err Done) l w waited waits stands_for draws out = ⊥
-IsPlayed (Err Usage) l w waited waits stands_for draws out = ⊥
-IsPlayed (Err (Script n fault)) l w waited waits stands_for draws out = ⊥
-IsPlayed (Err Read) l w waited waits stands_for draws out = ⊥
-IsPlayed (Err Link) l w waited waits stands_for draws out = ⊥
-IsPlayed (Err Clock) l w waited waits stands_for draws out = ⊥
-IsPlayed (Err TurnsSpent) l w waited waits stands_for draws out = ⊥
-IsPlayed (Err (Capture offset fault)) l w waited waits stands_for draws out = ⊥
+abbrev pub IsPlayed : Result (Unit {0}) Status → Line → State → List Event → List Event → (State → Type 0) → List ℕ → List ℕ → Type 0
+IsPlayed (Ok u) l s waited waits stands_for draws out = IsTaken l s waited waits stands_for draws out
+IsPlayed (Err Noise) l s waited waits stands_for draws out = IsUnsupplied l s waited draws out
+IsPlayed (Err Write) l s waited waits stands_for draws out = IsCut l s waited draws out
+IsPlayed (Err NoMemory) l s waited waits stands_for draws out = IsCut l s waited draws out
+IsPlayed (Err Done) l s waited waits stands_for draws out = ⊥
+IsPlayed (Err Usage) l s waited waits stands_for draws out = ⊥
+IsPlayed (Err (Script n fault)) l s waited waits stands_for draws out = ⊥
+IsPlayed (Err Read) l s waited waits stands_for draws out = ⊥
+IsPlayed (Err Link) l s waited waits stands_for draws out = ⊥
+IsPlayed (Err Clock) l s waited waits stands_for draws out = ⊥
+IsPlayed (Err TurnsSpent) l s waited waits stands_for draws out = ⊥
+IsPlayed (Err (Capture offset fault)) l s waited waits stands_for draws out = ⊥
 
 -- The status is that end, and all that waited was told; or the sink failed or memory ran out, and a prefix was.
-abbrev pub Closes : Status → Status → World → List Event → List ℕ → Type 0
-Closes end status w waited out =
-    ((status ≡ end) × (out ≡ output_from w waited)) ⊎ (IsWant status × IsPrefixOf out (output_from w waited))
+abbrev pub Closes : Status → Status → State → List Event → List ℕ → Type 0
+Closes end status s waited out =
+    ((status ≡ end) × (out ≡ text_from s waited)) ⊎ (IsWant status × IsPrefixOf out (text_from s waited))
 
-abbrev pub IsClosed : Status → Status → World → List Event → List ℕ → Type 0
-IsClosed Done status w waited out = Closes Done status w waited out
-IsClosed (Script n fault) status w waited out = Closes (Script n fault) status w waited out
-IsClosed (Capture offset fault) status w waited out = Closes (Capture offset fault) status w waited out
-IsClosed Usage status w waited out = (status ≡ Usage) × (out ≡ [])
-IsClosed Read status w waited out = (status ≡ Read) × (out ≡ [])
-IsClosed Write status w waited out = (status ≡ Write) × (out ≡ [])
-IsClosed Link status w waited out = (status ≡ Link) × (out ≡ [])
-IsClosed NoMemory status w waited out = (status ≡ NoMemory) × (out ≡ [])
-IsClosed Clock status w waited out = (status ≡ Clock) × (out ≡ [])
-IsClosed Noise status w waited out = (status ≡ Noise) × (out ≡ [])
-IsClosed TurnsSpent status w waited out = (status ≡ TurnsSpent) × (out ≡ [])
+abbrev pub IsClosed : Status → Status → State → List Event → List ℕ → Type 0
+IsClosed Done status s waited out = Closes Done status s waited out
+IsClosed (Script n fault) status s waited out = Closes (Script n fault) status s waited out
+IsClosed (Capture offset fault) status s waited out = Closes (Capture offset fault) status s waited out
+IsClosed Usage status s waited out = (status ≡ Usage) × (out ≡ [])
+IsClosed Read status s waited out = (status ≡ Read) × (out ≡ [])
+IsClosed Write status s waited out = (status ≡ Write) × (out ≡ [])
+IsClosed Link status s waited out = (status ≡ Link) × (out ≡ [])
+IsClosed NoMemory status s waited out = (status ≡ NoMemory) × (out ≡ [])
+IsClosed Clock status s waited out = (status ≡ Clock) × (out ≡ [])
+IsClosed Noise status s waited out = (status ≡ Noise) × (out ≡ [])
+IsClosed TurnsSpent status s waited out = (status ≡ TurnsSpent) × (out ≡ [])
 
 -- a run that ends so tells first what waits
 abbrev pub tells_waiting : Status → Bool

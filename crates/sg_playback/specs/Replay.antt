@@ -1,39 +1,45 @@
 -- What a replay answers, and what has passed between it and the outside by then.
-use Rattle.std.specs.Prelude.{◌≡◌, ◌⊎◌, ◌≤◌, ◌+◌, ◌^◌, length, ℕ, List, [], ◌++◌, Option, Some}
+use Rattle.std.specs.Prelude.{◌≡◌, ◌⊎◌, ◌≤◌, ◌+◌, ◌^◌, length, ℕ, Bool, List, [], ◌++◌, Option, Some}
 use Rattle.sg_base.specs.declared.faults.ScriptFault.TheVariants.{Unended}
 use Rattle.sg_trace.specs.Trace.{AtEnd as BehindAll, AtFault, ForDraw, Stop, drawing, replayed}
 use Rattle.sg_trace.specs.Grammar.{IsScript}
-use Rattle.sg_trace.specs.Output.{IsPrefixOf, output}
+use Rattle.sg_trace.specs.Output.{IsPrefixOf, text}
 use Rattle.sg_trace.specs.declared.status.Status.{Status}
 use Rattle.sg_trace.specs.declared.status.Status.TheVariants.{Done, Usage, Script, Read, Write, Link, NoMemory, Clock, Noise, TurnsSpent, Capture}
 use Rattle.sg_edge.specs.Links.{Added}
 use Rattle.sg_edge.specs.Told.{AtEnd, TookIn, Wrote}
+use Rattle.sg_gateway.specs.Step.{Event}
+use Rattle.sg_mux.specs.Via.{outcomes_in}
+
+-- what the events tell, where legs may share their ports or may not
+abbrev pub output_in : Bool → List Event → List ℕ
+output_in muxes events = text (outcomes_in muxes events)
 
 -- The events of these octets, with these drawn, end there. All that they tell was written, and no octet was drawn
 -- besides.
-pub record IsWhole (octets draws out : List ℕ) (stop : Stop) : Type 0 where
+pub record IsWhole (muxes : Bool) (octets draws out : List ℕ) (stop : Stop) : Type 0 where
   pub stops : (replayed octets draws).stop ≡ stop
   pub left : (replayed octets draws).left ≡ drawing []
-  pub told : out ≡ output (replayed octets draws).events
+  pub told : out ≡ output_in muxes (replayed octets draws).events
 
 -- The status, by the octets read, drawn and written, and by what the source has left. With Done all is handled and
 -- the source is at its end. With Script the lines before the named one are handled, and the named line is the first
 -- outside the grammar, with its first fault, whatever would come behind what was read; Unended comes only at the
 -- source's end. With Noise a draw comes next. With every other status a prefix was written.
-abbrev pub Ends : Status → List ℕ → List ℕ → List ℕ → Option (List ℕ) → Type 0
-Ends Done octets draws out left = IsWhole octets draws out BehindAll × AtEnd left
-Ends (Script n fault) octets draws out left =
-    IsWhole octets draws out (AtFault n fault) × (fault ≡ Unended → AtEnd left)
+abbrev pub Ends : Bool → Status → List ℕ → List ℕ → List ℕ → Option (List ℕ) → Type 0
+Ends muxes Done octets draws out left = IsWhole muxes octets draws out BehindAll × AtEnd left
+Ends muxes (Script n fault) octets draws out left =
+    IsWhole muxes octets draws out (AtFault n fault) × (fault ≡ Unended → AtEnd left)
     × (¬ (fault ≡ Unended) → (more : List ℕ) → (replayed (octets ++ more) draws).stop ≡ AtFault n fault)
-Ends Noise octets draws out left = IsWhole octets draws out ForDraw
-Ends Read octets draws out left = IsPrefixOf out (output (replayed octets draws).events)
-Ends Write octets draws out left = IsPrefixOf out (output (replayed octets draws).events)
-Ends NoMemory octets draws out left = IsPrefixOf out (output (replayed octets draws).events)
-Ends Usage octets draws out left = ⊥
-Ends Link octets draws out left = ⊥
-Ends Clock octets draws out left = ⊥
-Ends TurnsSpent octets draws out left = ⊥
-Ends (Capture offset fault) octets draws out left = ⊥
+Ends muxes Noise octets draws out left = IsWhole muxes octets draws out ForDraw
+Ends muxes Read octets draws out left = IsPrefixOf out (output_in muxes (replayed octets draws).events)
+Ends muxes Write octets draws out left = IsPrefixOf out (output_in muxes (replayed octets draws).events)
+Ends muxes NoMemory octets draws out left = IsPrefixOf out (output_in muxes (replayed octets draws).events)
+Ends muxes Usage octets draws out left = ⊥
+Ends muxes Link octets draws out left = ⊥
+Ends muxes Clock octets draws out left = ⊥
+Ends muxes TurnsSpent octets draws out left = ⊥
+Ends muxes (Capture offset fault) octets draws out left = ⊥
 
 -- what a source, a sink and a source of noise tell
 pub record Tellings : Type 0 where
@@ -42,11 +48,11 @@ pub record Tellings : Type 0 where
   pub drawn : Option (List ℕ)
 
 -- The replay read these octets, of which there are at most 2^30 + 1, drew these, and wrote those.
-pub record IsReplay (status : Status) (old new : Tellings) (octets draws out : List ℕ) : Type 0 where
+pub record IsReplay (muxes : Bool) (status : Status) (old new : Tellings) (octets draws out : List ℕ) : Type 0 where
   pub took : TookIn old.left new.left octets
   pub drew : Added old.drawn new.drawn draws
   pub wrote : Wrote old.written new.written out
-  pub ends : Ends status octets draws out new.left
+  pub ends : Ends muxes status octets draws out new.left
   pub bound : length octets ≤ 2 ^ 30 + 1
 
 -- Where the source's octets are a script, the replay handles it to its end, or memory runs out.

@@ -1,0 +1,7 @@
+//! The table of calls, and before it the legs that share their ports where they may (RFC 5761): what comes and what
+//! leaves goes by other ports there, and nothing else changes.
+#![tactic(auto)]
+
+mod front;
+
+pub use front::Front;
