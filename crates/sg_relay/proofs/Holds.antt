@@ -1,4 +1,4 @@
--- What a relay asked its link for is a front of what the outcomes of some events ask for, and so are the ports that it holds.
+-- What a relay asked its link for is a prefix of what the outcomes of some events ask for, and so are the ports that it holds.
 use Rattle.std.proofs.Common.{◌≡◌, inl, inr, ℕ, Bool, List, [], ◌∷◌, ◌++◌, length, Option, sym, ap, ◌∙◌, subst, append_assoc, length-append, arith}
 use Rattle.std.proofs.lemmas.List.{append-nil}
 use Rattle.std.specs.List.{flat_map}
@@ -14,11 +14,11 @@ use Rattle.sg_relay.specs.Held.{AreOfCalls, EachFits, PortsAreOfCalls}
 use Rattle.sg_relay.specs.Relay.{Ends, HoldsItsCallsPorts, IsRelay, IsWhole, Passed, Tellings, events_by, trace_of, world_by}
 use Rattle.sg_relay.proofs.Deeds.{flat_append, prefix_after, prefix_all, prefix_longer}
 
--- the asks are a front of those that are told of some events
+-- the asks are a prefix of those that are told of some events
 abbrev IsPrefix : Bool → List Ask → Type 0
 IsPrefix muxes asks = (es : List Event) × IsPrefixOf asks (flat_map asks_of (outcomes_in muxes es))
 
--- calls whose asks are of some outcomes, and others of which a front is of the next outcome
+-- calls whose asks are of some outcomes, and others of which a prefix is of the next outcome
 prefix_of : (done others : List Outcome) (next : Outcome) (before last : List LinkCall) → asks_in before ≡ flat_map asks_of done → IsPrefixOf (asks_in last) (asks_of next)
     → IsPrefixOf (asks_in (before ++ last)) (flat_map asks_of (done ++ next ∷ others))
 prefix_of done others next before last asked prefix =
@@ -79,10 +79,3 @@ holds law muxes s turns old new p run =
           (law muxes (events_by p (receipts_in before))).ports;
       each = fits_prefix (asks_in p.calls) (flat_map asks_of (outcomes_in muxes asked.0)) asked.1 (law muxes asked.0).each;
     }
-
--- a relay that asked its link for nothing
-pub holds_none : (muxes : Bool) (p : Passed) → p.calls ≡ [] → HoldsItsCallsPorts muxes p
-holds_none muxes p none = record {
-  at_receives = λ before rest x is. absurd (omega (arith, ap length (sym none ∙ is), length-append before (Receive x ∷ rest)));
-  each = λ before rest ask is. absurd (omega (arith, ap length (sym (ap asks_in none) ∙ is), length-append before (ask ∷ rest)));
-}

@@ -136,7 +136,7 @@ module _ (k : Command) (l : Line) (state : State) (es : List Event) (top turns :
     inl (sym (ap length none)),
   )
 
-  -- a line's events were handled, or a front was done
+  -- a line's events were handled, or a prefix of them
   pub handled_said : {T : Type 0} (r : Result T Status) → ((s : Status) → r ≡ Err s → IsOfOutcomes s) → AreHandled r state es stands_for calls out
       → IsSaid r k l state top top turns turns stands_for [] calls draws out
   handled_said (Ok x) only (done, good, none, stands) = (

@@ -39,7 +39,7 @@ of_signals P s (inr is) noise write link memory = of_outcomes P s is write link 
 pub received_none : (x : Received) → IsDone [] (links.Receive x ∷ []) []
 received_none x = record { told = []; of_outcomes = refl; asked = refl; sent = refl; written = refl }
 
--- the datagram that came is handled, or a front is done
+-- the datagram that came is handled, whole or in part
 pub received_more : {T : Type 0} (r : Result T Status) (state : State) (stands_for : State → Type 0) (x : Received) (calls : List LinkCall) (out : List ℕ) → IsGood (links.Receive x)
     → AreHandled r state (arrivals_of x) stands_for calls out → IsReceived r state stands_for x (links.Receive x ∷ calls) out
 received_more (Ok u) state stands_for x calls out good handled = (

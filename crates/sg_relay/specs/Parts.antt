@@ -32,13 +32,13 @@ abbrev pub AreCarriedOut : Result (Unit {0}) Status → List Outcome → List Li
 AreCarriedOut (Ok u) outcomes calls out = IsDone outcomes calls out × AreGood calls × (receipts_in calls ≡ [])
 AreCarriedOut (Err status) outcomes calls out = StopsWith status outcomes calls out × (receipts_in calls ≡ [])
 
--- The events were handled, and the table stands for the world after them; or a front was done.
+-- The events were handled, and the front stands for the state after them; or they were handled in part.
 abbrev pub AreHandled : {T : Type 0} → Result T Status → State → List Event → (State → Type 0) → List LinkCall → List ℕ → Type 0
 AreHandled (Ok x) state events stands_for calls out =
     IsDone (told_from state events) calls out × AreGood calls × (receipts_in calls ≡ []) × stands_for (state_after state events)
 AreHandled (Err status) state events stands_for calls out = StopsWith status (told_from state events) calls out × (receipts_in calls ≡ [])
 
--- A receive was made, and its datagram handled, or a front was done; or the receive failed.
+-- A receive was made, and its datagram handled, whole or in part; or the receive failed.
 abbrev pub IsReceived : {T : Type 0} → Result T Status → State → (State → Type 0) → Received → List LinkCall → List ℕ → Type 0
 IsReceived (Ok pad) state stands_for x calls out =
     (receipts_in calls ≡ x ∷ []) × IsDone (told_from state (arrivals_of x)) calls out × AreGood calls × stands_for (state_after state (arrivals_of x))
@@ -137,7 +137,7 @@ IsLineCut status k l state top readings calls draws out =
     × ((later : Later) → (rest : Trace) × (said k l later top (taken readings (receipts_in calls) draws) ≡ with_events events rest))
     × StopsWith status (told_from state events) calls out × ArePairs readings calls
 
--- A line was handled, or a front was done.
+-- A line was handled, or in part.
 abbrev pub IsSaid : {T : Type 0} → Result T Status → Command → Line → State → ℕ → ℕ → ℕ → ℕ → (State → Type 0) → List ℕ → List LinkCall → List ℕ → List ℕ → Type 0
 IsSaid (Ok x) k l state top top' turns turns' stands_for readings calls draws out =
     (events : List Event)

@@ -47,7 +47,7 @@ pub record IsWhole (muxes : Bool) (p : Passed) (stop : Rattle.sg_trace.specs.Tra
   pub done : IsDone (outcomes_in muxes (trace_of p).events) p.calls p.out
   pub good : AreGood p.calls
 
--- Of what the events ask for a front was done and written, and no call of the link but a send has failed.
+-- Of what the events ask for a prefix was done and written, and no call of the link but a send has failed.
 pub record IsBroken (muxes : Bool) (p : Passed) : Type 0 where
   pub part : IsPart (outcomes_in muxes (trace_of p).events) p.calls p.out
   pub good : AreGood p.calls
