@@ -1,6 +1,6 @@
 -- What is told of an event asks for what its outcomes ask for, and a packet that leaves by the port that its leg shares
 -- leaves by another port of its call: so after each event the ports that are held are those of the calls that are there.
-use Rattle.std.proofs.Common.{◌≡◌, inl, inr, ℕ, Bool, true, false, cond, not, ◌&&◌, ◌||◌, eqb, List, [], ◌∷◌, ◌++◌, map, Option, Some, None, refl, sym, ap, ◌∙◌, subst, append_assoc, arith}
+use Rattle.std.proofs.Common.{◌≡◌, inl, inr, ℕ, ◌-◌, ◌%◌, Bool, true, false, cond, not, ◌&&◌, ◌||◌, eqb, List, [], ◌∷◌, ◌++◌, map, Option, Some, None, refl, sym, ap, ◌∙◌, subst, append_assoc, arith}
 use Rattle.std.proofs.lemmas.Bool.{and_parts, eqb-true, or_cases, or_left, or_right}
 use Rattle.std.specs.List.{AllByRecursion, flat_map}
 use Rattle.sg_base.specs.declared.addresses.Address.{Address}
@@ -56,7 +56,7 @@ signalled_asks (Bye id) calls os = refl
 -- a port of RTCP is the second of two of its call
 before_rtcp : (known : List (Option Known)) (port : ℕ) (c : Call) → is_muxed_rtcp known port ≡ true → has_port port c ≡ true → has_port (port - 1) c ≡ true
 before_rtcp known port c muxed has =
-    let odd = eqb-true _ _ (and_parts _ (is_muxed_at known port) muxed).0 in
+    let odd : (port - 20000) % 2 ≡ 1 = eqb-true _ _ (and_parts (eqb ((port - 20000) % 2) 1) (is_muxed_at known port) muxed).0 in
     let at = within port c has in
     has_within (port - 1) c (omega (arith, odd, at.0)) (omega (arith, at.1))
 
