@@ -50,9 +50,9 @@ offered_by id [] = no_marks
 offered_by id (None ∷ others) = offered_by id others
 offered_by id (Some k ∷ others) = if same_id k.id id then k.offered else offered_by id others
 
--- the media that this text of an answer muxes
-abbrev pub agreed : CallId → List ℕ → List (Option Known) → List Bool
-agreed id text calls = both (answers_port text) (offered_by id calls)
+-- the media that this text of an answer muxes, of those whose offer has the line
+abbrev pub agreed : List ℕ → List Bool → List Bool
+agreed text offered = both (answers_port text) offered
 
 pub record Settling : Type 0 where
   pub calls : List (Option Known)
@@ -62,8 +62,8 @@ pub record Settling : Type 0 where
 -- in each of them.
 abbrev pub settled : List (Option Known) → Outcome → Settling
 settled calls (Sdp id side text) = record {
-  calls = with_change id (λ k. record k { side = side; muxed = agreed id text calls }) calls;
-  told = Sdp id side (with_mux_lines text (agreed id text calls));
+  calls = with_change id (λ k. record k { side = side; muxed = agreed text k.offered }) calls;
+  told = Sdp id side (with_mux_lines text (agreed text (offered_by id calls)));
 }
 settled calls (Made id slot media) = record { calls = calls; told = Made id slot media }
 settled calls (Live id) = record { calls = calls; told = Live id }

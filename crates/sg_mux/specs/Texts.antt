@@ -1,5 +1,5 @@
 -- The line by which a description says that RTP and RTCP share a medium's port (RFC 5761, 5.1.1).
-use Rattle.std.specs.Prelude.{ℕ, Bool, false, ◌&&◌, not, ◌==◌, nat_lt, if◌then◌else◌, List, [], ◌∷◌, codes, length, slice_index_or, Option, Some, None, Result, Ok, Err}
+use Rattle.std.specs.Prelude.{ℕ, Bool, false, ◌&&◌, not, ◌==◌, nat_lt, if◌then◌else◌, List, [], ◌∷◌, length, slice_index_or, Option, Some, None, Result, Ok, Err}
 use Rattle.std.specs.List.{list_any, slice_get}
 use Rattle.std.specs.Str.{bytes_eq}
 use Rattle.sg_sdp.specs.Descriptions.{spelling}
@@ -8,9 +8,7 @@ use Rattle.sg_sdp.specs.Parts.{with_media_line}
 use Rattle.sg_sdp.specs.Reading.{description_of}
 use Rattle.sg_sdp.specs.declared.medium.Medium.{Medium}
 use Rattle.sg_sdp.specs.declared.sdp.Sdp.{Sdp}
-
-abbrev pub mux_line : List ℕ
-mux_line = codes "a=rtcp-mux"
+use Rattle.sg_passages.specs.Passages.{mux_line}
 
 -- ---- marks: of which of up to four media something is true
 

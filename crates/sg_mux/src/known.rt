@@ -3,8 +3,9 @@
 ghost use Rattle.std.specs.Prelude.{◌≡◌};
 ghost use Rattle.sg_mux.specs.Legs.{muxes, same_side};
 ghost use Rattle.sg_mux.specs.Muxed.{changed_at, fresh};
+ghost use Rattle.sg_mux.specs.Texts.{both};
 
-use crate::texts::{Marks, NO_MARKS, mark};
+use crate::texts::{Marks, NO_MARKS, both, mark};
 use sg_base::{CallId, Side};
 
 /// Of a call: its id, which media of the offer that it accepted last have the line `a=rtcp-mux`, and of its current
@@ -40,14 +41,15 @@ pub(crate) fn offer(known: &mut Option<Known>, id: CallId, marks: Marks)
     }
 }
 
-/// Notes the media that an answer muxes in the call of this id, where it is this one, and their side.
-pub(crate) fn settle(known: &mut Option<Known>, id: CallId, side: Side, marks: Marks)
-    ensures { known.new ≡ changed_at id (λ k. record k { side = side; muxed = marks }) known.old }
+/// Notes an answer to the side that offered, whose media with a port are marked, in the call of this id, where it is this
+/// one.
+pub(crate) fn settle(known: &mut Option<Known>, id: CallId, side: Side, ports: Marks)
+    ensures { known.new ≡ changed_at id (λ k. record k { side = side; muxed = both ports k.offered }) known.old }
 {
     if let Some(k) = known {
         if k.id == id {
             k.side = side;
-            k.muxed = marks;
+            k.muxed = both(&ports, &k.offered);
         }
     }
 }

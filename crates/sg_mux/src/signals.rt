@@ -4,7 +4,7 @@ ghost use Rattle.std.specs.Prelude.{◌≡◌, length, IfErr, OnOk, OnErr, true}
 ghost use Rattle.std.specs.List.{list_any};
 ghost use Rattle.sg_gateway.specs.Events.{signal_of};
 ghost use Rattle.sg_mux.specs.Muxed.{agreed, answered, is_text, noted, noted_all, offered_by, settled, signalled, with_change};
-ghost use Rattle.sg_mux.specs.Texts.{no_marks, offers_mux, or_same, with_mux_lines};
+ghost use Rattle.sg_mux.specs.Texts.{both, no_marks, offers_mux, or_same, with_mux_lines};
 
 use crate::known::{Known, fresh, offer, settle};
 use crate::texts::{Marks, NO_MARKS, answered, offers_mux};
@@ -121,11 +121,11 @@ fn offer_all(calls: &mut [Option<Known>], id: CallId, marks: Marks)
 }
 
 /// Notes an answer in the call of this id.
-fn settle_all(calls: &mut [Option<Known>], id: CallId, side: Side, marks: Marks)
-    ensures { calls.new ≡ with_change id (λ k. record k { side = side; muxed = marks }) calls.old }
+fn settle_all(calls: &mut [Option<Known>], id: CallId, side: Side, ports: Marks)
+    ensures { calls.new ≡ with_change id (λ k. record k { side = side; muxed = both ports k.offered }) calls.old }
 {
     for known in calls {
-        settle(known, id, side, marks);
+        settle(known, id, side, ports);
     }
 }
 
@@ -185,17 +185,17 @@ fn settle_text(
     side: Side,
     text: &mut Octets,
 ) -> Result<(), NoMemory>
-    ensures calls { OnOk result (calls.new ≡ with_change id (λ k. record k { side = side; muxed = agreed id text.old calls.old }) calls.old) }
-    ensures text { OnOk result (text.new ≡ with_mux_lines text.old (agreed id text.old calls.old)) }
+    ensures calls { OnOk result (calls.new ≡ with_change id (λ k. record k { side = side; muxed = agreed text.old k.offered }) calls.old) }
+    ensures text { OnOk result (text.new ≡ with_mux_lines text.old (agreed text.old (offered_by id calls.old))) }
     ensures same { OnErr result ((calls.new ≡ calls.old) × (text.new ≡ text.old)) }
 {
     let offered = offered_by(calls, id);
-    let agreed = match answered(alloc, text.as_slice(), &offered) {
+    let answer = match answered(alloc, text.as_slice(), &offered) {
         Err(NoMemory) => return Err(NoMemory),
-        Ok(agreed) => agreed,
+        Ok(answer) => answer,
     };
-    settle_all(calls, id, side, agreed.marks);
-    put(text, agreed.text);
+    settle_all(calls, id, side, answer.ports);
+    put(text, answer.text);
     Ok(())
 }
 

@@ -1,0 +1,4 @@
+mod Lines
+mod Loops
+mod Noted
+mod Vias
