@@ -4,9 +4,11 @@ use Rattle.std.specs.Prelude.{min}
 use Rattle.std.proofs.Math.Seq.{take-length}
 use Rattle.std.proofs.lemmas.Bool.{cases_lt, cond-false, cond-true, le-ltb, lt-ltb}
 use Rattle.std.proofs.lemmas.List.{append-nil, take_all}
-use Rattle.sg_capture.proofs.Outputs.{events_in-append, happens-append, happens_events, happens_output, output_of-append}
+use Rattle.sg_capture.proofs.Outputs.{events_in-append, happens-append, happens_events, happens_text, output_of-append}
 use Rattle.sg_capture.specs.Meeting.{IsMet, IsToldOf}
 use Rattle.sg_edge.specs.Told.{Wrote}
+use Rattle.sg_front.proofs.Runs.{unshared_after}
+use Rattle.sg_front.specs.States.{State, unshared}
 use Rattle.sg_gateway.specs.Runs.{world_after}
 use Rattle.sg_gateway.specs.Signals.{Tick}
 use Rattle.sg_gateway.specs.Step.{Event, Signalled}
@@ -61,41 +63,37 @@ pub met_before : (status : Status) (w : World) (waited waits waits' : List Event
 met_before status w waited waits waits' os ps stands_for stands_for' out first =
     (first.0, subst (λ (l : List Occurrence). IsPrefixOf out (output_of w l)) (append_assoc (map Happens waited) os ps) (prefix_of-more w (map Happens waited ++ os) ps out first.1))
 
--- ---- events
+-- ---- events, by a player none of whose legs may share its ports
 
-events_met : (w : World) (waited events prefix waits : List Event) (stands_for : World → Type 0) (out : List ℕ) → waited ++ events ≡ prefix ++ waits → IsStepped (Ok tt) w prefix stands_for out
-    → IsToldOf w waited waits (map Happens events) stands_for out
-events_met w waited events prefix waits stands_for out all stepped = record {
-  told = map Happens prefix;
-  all = sym (happens-append waited events) ∙ ap (map Happens) all ∙ happens-append prefix waits;
-  written = stepped.0 ∙ sym (happens_output w prefix);
-  stands = subst (λ (es : List Event). stands_for (world_after w es)) (sym (happens_events prefix)) stepped.1;
-}
+module _ (w : World) (waited events : List Event) (stands_for : State → Type 0) (out : List ℕ) where
+  events_met : (prefix waits : List Event) → waited ++ events ≡ prefix ++ waits → IsStepped (Ok tt) (unshared w) prefix stands_for out → IsToldOf w waited waits (map Happens events) (λ v. stands_for (unshared v)) out
+  events_met prefix waits all stepped = record {
+    told = map Happens prefix;
+    all = sym (happens-append waited events) ∙ ap (map Happens) all ∙ happens-append prefix waits;
+    written = stepped.0 ∙ sym (happens_text w prefix);
+    stands = subst (λ (es : List Event). stands_for (unshared (world_after w es))) (sym (happens_events prefix)) (subst stands_for (unshared_after w prefix) stepped.1);
+  }
 
-events_cut : (status : Status) (w : World) (waited events : List Event) (stands_for : World → Type 0) (out : List ℕ) → IsStepped (Err status) w (waited ++ events) stands_for out
-    → IsWant status × IsPrefixOf out (output_of w (map Happens waited ++ map Happens events))
-events_cut status w waited events stands_for out stepped =
-    let cut = stepped_prefix status w (waited ++ events) stands_for out stepped in
-    (cut.0, subst (IsPrefixOf out) (sym (ap (output_of w) (sym (happens-append waited events)) ∙ happens_output w (waited ++ events))) cut.1)
+  events_cut : (status : Status) → IsStepped (Err status) (unshared w) (waited ++ events) stands_for out → IsWant status × IsPrefixOf out (output_of w (map Happens waited ++ map Happens events))
+  events_cut status stepped =
+      let cut = stepped_prefix status (unshared w) (waited ++ events) stands_for out stepped in
+      (cut.0, subst (IsPrefixOf out) (sym (ap (output_of w) (sym (happens-append waited events)) ∙ happens_text w (waited ++ events))) cut.1)
 
--- all of them were handled
-pub stepped_met : (r : Result (Unit {0}) Status) (w : World) (waited events waits : List Event) (stands_for : World → Type 0) (out : List ℕ) → (r ≡ Ok tt → waits ≡ []) → IsStepped r w (waited ++ events) stands_for out
-    → IsMet r w waited waits (map Happens events) stands_for out
-stepped_met (Ok tt) w waited events waits stands_for out none stepped =
-    events_met w waited events (waited ++ events) waits stands_for out (sym (ap (λ (l : List Event). (waited ++ events) ++ l) (none refl) ∙ append-nil (waited ++ events))) stepped
-stepped_met (Err status) w waited events waits stands_for out none stepped = events_cut status w waited events stands_for out stepped
+  -- all of them were handled
+  pub stepped_met : (r : Result (Unit {0}) Status) (waits : List Event) → (r ≡ Ok tt → waits ≡ []) → IsStepped r (unshared w) (waited ++ events) stands_for out → IsMet r w waited waits (map Happens events) (λ v. stands_for (unshared v)) out
+  stepped_met (Ok tt) waits none stepped = events_met (waited ++ events) waits (sym (ap (λ (l : List Event). (waited ++ events) ++ l) (none refl) ∙ append-nil (waited ++ events))) stepped
+  stepped_met (Err status) waits none stepped = events_cut status stepped
 
--- some of them, the others wait
-pub room_met : (r : Result (Unit {0}) Status) (w : World) (waited events waits : List Event) (stands_for : World → Type 0) (out : List ℕ) → HasRoom r w (waited ++ events) waits stands_for out
-    → IsMet r w waited waits (map Happens events) stands_for out
-room_met (Ok tt) w waited events waits stands_for out came = events_met w waited events came.0 waits stands_for out came.1 came.2
-room_met (Err status) w waited events waits stands_for out came = events_cut status w waited events stands_for out came
+  -- some of them, the others wait
+  pub room_met : (r : Result (Unit {0}) Status) (waits : List Event) → HasRoom r (unshared w) (waited ++ events) waits stands_for out → IsMet r w waited waits (map Happens events) (λ v. stands_for (unshared v)) out
+  room_met (Ok tt) waits came = events_met came.0 waits came.1 came.2
+  room_met (Err status) waits came = events_cut status came
 
 -- what waited
-pub settled_met : (r : Result (Unit {0}) Status) (w : World) (waited waits : List Event) (stands_for : World → Type 0) (out : List ℕ) → IsSettled r w waited waits stands_for out → IsMet r w waited waits [] stands_for out
-settled_met (Ok tt) w waited waits stands_for out settled =
-    events_met w waited [] waited waits stands_for out (ap (λ (l : List Event). waited ++ l) (sym settled.0)) settled.1
-settled_met (Err status) w waited waits stands_for out settled = events_cut status w waited [] stands_for out (subst (λ (l : List Event). IsStepped (Err status) w l stands_for out) (sym (append-nil waited)) settled)
+pub settled_met : (r : Result (Unit {0}) Status) (w : World) (waited waits : List Event) (stands_for : State → Type 0) (out : List ℕ) → IsSettled r (unshared w) waited waits stands_for out
+    → IsMet r w waited waits [] (λ v. stands_for (unshared v)) out
+settled_met (Ok tt) w waited waits stands_for out settled = events_met w waited [] stands_for out waited waits (ap (λ (l : List Event). waited ++ l) (sym settled.0)) settled.1
+settled_met (Err status) w waited waits stands_for out settled = events_cut w waited [] stands_for out status (subst (λ (l : List Event). IsStepped (Err status) (unshared w) l stands_for out) (sym (append-nil waited)) settled)
 
 -- ---- the line of a skip
 
@@ -133,11 +131,11 @@ tick_none top moment w waited stands_for le stands =
     subst (λ (es : List Event). IsToldOf w waited waited (map Happens es) stands_for []) (sym (cond-false (ltb top moment) _ _ (le-ltb top moment le))) (met_none w waited stands_for stands)
 
 -- one that is
-pub tick_met : (r : Result (Unit {0}) Status) (top moment : ℕ) (w : World) (waited waits : List Event) (stands_for : World → Type 0) (out : List ℕ) → top < moment → (r ≡ Ok tt → waits ≡ [])
-    → IsStepped r w (waited ++ Signalled (Tick moment) ∷ []) stands_for out → IsMet r w waited waits (map Happens (ticks_at top moment)) stands_for out
+pub tick_met : (r : Result (Unit {0}) Status) (top moment : ℕ) (w : World) (waited waits : List Event) (stands_for : State → Type 0) (out : List ℕ) → top < moment → (r ≡ Ok tt → waits ≡ [])
+    → IsStepped r (unshared w) (waited ++ Signalled (Tick moment) ∷ []) stands_for out → IsMet r w waited waits (map Happens (ticks_at top moment)) (λ v. stands_for (unshared v)) out
 tick_met r top moment w waited waits stands_for out lt none stepped =
-    subst (λ (es : List Event). IsMet r w waited waits (map Happens es) stands_for out) (sym (cond-true (ltb top moment) _ _ (lt-ltb top moment lt)))
-    (stepped_met r w waited (Signalled (Tick moment) ∷ []) waits stands_for out none stepped)
+    subst (λ (es : List Event). IsMet r w waited waits (map Happens es) (λ v. stands_for (unshared v)) out) (sym (cond-true (ltb top moment) _ _ (lt-ltb top moment lt)))
+    (stepped_met w waited (Signalled (Tick moment) ∷ []) stands_for out r waits none stepped)
 
 -- a datagram counts as its first octets
 pub take_counted : (n : ℕ) (xs : List ℕ) → take (min (length xs) n) xs ≡ take n xs

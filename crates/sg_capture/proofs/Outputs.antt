@@ -1,10 +1,13 @@
 -- What occurrences tell, one behind the other.
 use Rattle.std.proofs.Common.{◌≡◌, ℕ, List, [], ◌∷◌, ◌++◌, map, refl, sym, ap, ◌∙◌, append_assoc}
+use Rattle.sg_front.proofs.Runs.{unshared_told}
+use Rattle.sg_front.specs.States.{unshared}
 use Rattle.sg_gateway.specs.Events.{outcomes_from}
 use Rattle.sg_gateway.specs.Runs.{world_after}
 use Rattle.sg_gateway.specs.Step.{Event, step}
 use Rattle.sg_gateway.specs.World.{World}
 use Rattle.sg_pcap.specs.Skips.{skip_line}
+use Rattle.sg_playback.specs.Playing.{text_from}
 use Rattle.sg_trace.proofs.Traces.{output_from-append}
 use Rattle.sg_trace.specs.Captured.{Happens, Occurrence, Skipped, events_in, output_of}
 use Rattle.sg_trace.specs.Output.{output_from, text}
@@ -30,6 +33,10 @@ happens_events (e ∷ es) = ap (λ (l : List Event). e ∷ l) (happens_events es
 pub happens_output : (w : World) (es : List Event) → output_of w (map Happens es) ≡ output_from w es
 happens_output w [] = refl
 happens_output w (e ∷ es) = ap (λ (l : List ℕ). output_from w (e ∷ []) ++ l) (happens_output (step w e).world es) ∙ sym (output_from-append w (e ∷ []) es)
+
+-- as a player tells them, none of whose legs may share its ports
+pub happens_text : (w : World) (es : List Event) → output_of w (map Happens es) ≡ text_from (unshared w) es
+happens_text w es = happens_output w es ∙ ap text (sym (unshared_told w es))
 
 pub happens-append : (es fs : List Event) → map Happens (es ++ fs) ≡ map Happens es ++ map Happens fs
 happens-append [] fs = refl

@@ -2,10 +2,11 @@
 use Rattle.std.proofs.Common.{◌≡◌, ◌+◌, ℕ, max, List, [], ◌∷◌, ◌++◌, length, map, drop, Option, Some, None, Ok, Err, refl, sym, ap, ◌∙◌, subst, inl, inr, append_assoc}
 use Rattle.std.proofs.lemmas.List.{append-nil}
 use Rattle.sg_capture.proofs.Meets.{prefix_of-behind, prefix_of-more}
-use Rattle.sg_capture.proofs.Outputs.{happens_output, output_of-append}
+use Rattle.sg_capture.proofs.Outputs.{happens_text, output_of-append}
 use Rattle.sg_capture.specs.Meeting.{EndsReading, IsMet, IsToldOf, all_behind, first_of, record_occurs}
 use Rattle.sg_capture.specs.declared.progress.Progress.{Progress}
 use Rattle.sg_edge.specs.Told.{AtEnd}
+use Rattle.sg_front.specs.States.{State, unshared}
 use Rattle.sg_gateway.specs.Runs.{world_after}
 use Rattle.sg_gateway.specs.Step.{Event}
 use Rattle.sg_gateway.specs.World.{World}
@@ -14,10 +15,10 @@ use Rattle.sg_pcap.specs.Capture.{Captured, Capture, capture_of, faulty, records
 use Rattle.sg_pcap.specs.declared.faults.CaptureFault.{CaptureFault}
 use Rattle.sg_pcap.specs.declared.header.Form.{Form}
 use Rattle.sg_pcap.specs.declared.records.Record.{Record}
-use Rattle.sg_playback.specs.Playing.{Closes, IsClosed, IsWant}
+use Rattle.sg_playback.specs.Playing.{Closes, IsClosed, IsWant, text_from}
 use Rattle.sg_trace.specs.Captured.{Happens, Occurrence, capture_occurs, events_in, moment_in, output_of, records_occur}
 use Rattle.sg_trace.specs.CaptureReading.{Capturing, IsCaptureFault, IsHeaderRead, IsRecordRead}
-use Rattle.sg_trace.specs.Output.{IsPrefixOf, output_from}
+use Rattle.sg_trace.specs.Output.{IsPrefixOf}
 use Rattle.sg_trace.specs.declared.status.Status.{Status}
 use Rattle.sg_trace.specs.declared.status.Status.TheVariants as statuses
 
@@ -99,8 +100,8 @@ module _ (reads : List ℕ → Capture) (most : ℕ) (form : Form) (consumed : L
         subst (λ (l : List Occurrence). IsPrefixOf (output_of w told ++ out) (output_of w l)) (sym (all_is octets c is)) (prefix_of-behind w told (map Happens ps ++ occurs_on p c.records) out part)
 
     -- a prefix of what waits
-    waits_prefix : (c : Capture) (out : List ℕ) → IsPrefixOf out (output_from now ps) → IsPrefixOf out (output_of now (map Happens ps ++ occurs_on p c.records))
-    waits_prefix c out part = prefix_of-more now (map Happens ps) (occurs_on p c.records) out (subst (IsPrefixOf out) (sym (happens_output now ps)) part)
+    waits_prefix : (c : Capture) (out : List ℕ) → IsPrefixOf out (text_from (unshared now) ps) → IsPrefixOf out (output_of now (map Happens ps ++ occurs_on p c.records))
+    waits_prefix c out part = prefix_of-more now (map Happens ps) (occurs_on p c.records) out (subst (IsPrefixOf out) (sym (happens_text now ps)) part)
 
     pub ends_cut : (status : Status) (octets out : List ℕ) (left : Option (List ℕ)) → IsWant status → IsPrefixOf out (output_of w (all_behind waited last (reads octets))) → EndsReading status w waited last reads octets out left
     ends_cut status octets out left (inl is) prefix = subst (λ s. EndsReading s w waited last reads octets out left) (sym is) prefix
@@ -109,18 +110,18 @@ module _ (reads : List ℕ → Capture) (most : ℕ) (form : Form) (consumed : L
     -- at an end that is closed, where no record comes
     closed_so : (end status : Status) (octets : List ℕ) (c : Capture) (out : List ℕ) (left : Option (List ℕ)) → reads octets ≡ with_records going.seen c → c.records ≡ []
         → (output_of w told ++ out ≡ output_of w (all_behind waited last (reads octets)) → EndsReading end w waited last reads octets (output_of w told ++ out) left)
-        → Closes end status now ps out → EndsReading status w waited last reads octets (output_of w told ++ out) left
+        → Closes end status (unshared now) ps out → EndsReading status w waited last reads octets (output_of w told ++ out) left
     closed_so end status octets c out left is none ends (inl all) =
         subst (λ s. EndsReading s w waited last reads octets (output_of w told ++ out) left) (sym all.0)
         (ends
-        (ap (λ (l : List ℕ). output_of w told ++ l) (all.1 ∙ sym (happens_output now ps)) ∙ sym (output_of-append w told (map Happens ps))
+        (ap (λ (l : List ℕ). output_of w told ++ l) (all.1 ∙ sym (happens_text now ps)) ∙ sym (output_of-append w told (map Happens ps))
         ∙ ap (λ (l : List Occurrence). output_of w (told ++ l)) (sym (append-nil (map Happens ps)) ∙ ap (λ (l : List Captured). map Happens ps ++ occurs_on p l) (sym none))
         ∙ ap (output_of w) (sym (all_is octets c is))))
     closed_so end status octets c out left is none ends (inr cut) =
         ends_cut status octets (output_of w told ++ out) left cut.0 (prefix_so octets c out is (waits_prefix c out cut.1))
 
     -- at the end
-    pub closed_at_end : (status : Status) (rest out : List ℕ) (left : Option (List ℕ)) → rest ≡ [] → AtEnd left → Closes statuses.Done status now ps out
+    pub closed_at_end : (status : Status) (rest out : List ℕ) (left : Option (List ℕ)) → rest ≡ [] → AtEnd left → Closes statuses.Done status (unshared now) ps out
         → EndsReading status w waited last reads (consumed ++ rest) (output_of w told ++ out) left
     closed_at_end status rest out left none end closed =
         let is : reads (consumed ++ rest) ≡ with_records going.seen (record { records = []; fault = None }) = going.reads_on rest ∙ ap (λ (l : List ℕ). with_records going.seen (records_in most form at l)) none in
@@ -128,7 +129,7 @@ module _ (reads : List ℕ → Capture) (most : ℕ) (form : Form) (consumed : L
 
     -- at a fault
     closed_at_fault : (offset : ℕ) (fault : CaptureFault) (status : Status) (rest out : List ℕ) (left : Option (List ℕ)) → IsCaptureFault (records_in most form at) rest (offset, fault) left
-        → Closes (statuses.Capture offset fault) status now ps out → EndsReading status w waited last reads (consumed ++ rest) (output_of w told ++ out) left
+        → Closes (statuses.Capture offset fault) status (unshared now) ps out → EndsReading status w waited last reads (consumed ++ rest) (output_of w told ++ out) left
     closed_at_fault offset fault status rest out left is closed =
         let here : reads (consumed ++ rest) ≡ with_records going.seen (faulty (offset, fault)) = going.reads_on rest ∙ ap (with_records going.seen) is.first in
         closed_so (statuses.Capture offset fault) status (consumed ++ rest) (faulty (offset, fault)) out left here refl
@@ -144,7 +145,7 @@ module _ (reads : List ℕ → Capture) (most : ℕ) (form : Form) (consumed : L
     is_prefix rest = prefix_so (consumed ++ rest) (records_in most form at rest) [] (going.reads_on rest) (output_of now (map Happens ps ++ occurs_on p (records_in most form at rest).records), refl)
 
     -- where no record was read
-    pub closed_at_err : (end status : Status) (old new : Capturing) (got out : List ℕ) (left : Option (List ℕ)) → old.most ≡ most → old.at ≡ at → IsRecordRead form (Err end) old new got left → IsClosed end status now ps out
+    pub closed_at_err : (end status : Status) (old new : Capturing) (got out : List ℕ) (left : Option (List ℕ)) → old.most ≡ most → old.at ≡ at → IsRecordRead form (Err end) old new got left → IsClosed end status (unshared now) ps out
         → EndsReading status w waited last reads (consumed ++ (old.waits ++ got)) (output_of w told ++ out) left
     closed_at_err (statuses.Capture offset fault) status old new got out left same_most same_at next closed =
         closed_at_fault offset fault status (old.waits ++ got) out left (subst (λ (m : ℕ). IsCaptureFault (records_in m form at) (old.waits ++ got) (offset, fault) left) same_most
@@ -209,21 +210,21 @@ module _ (w : World) (waited : List Event) (last most : ℕ) where
   none_told : (octets : List ℕ) (c : Capture) → c.records ≡ [] → all_behind waited last c ≡ map Happens waited
   none_told octets c none = ap (λ (l : List Captured). map Happens waited ++ capture_occurs last l) none ∙ append-nil (map Happens waited)
 
-  pub header_err : (end status : Status) (old new : Capturing) (got out : List ℕ) (left : Option (List ℕ)) → old.most ≡ most → IsHeaderRead (Err end) old new got left → IsClosed end status w waited out
+  pub header_err : (end status : Status) (old new : Capturing) (got out : List ℕ) (left : Option (List ℕ)) → old.most ≡ most → IsHeaderRead (Err end) old new got left → IsClosed end status (unshared w) waited out
       → EndsReading status w waited last (capture_of most) (old.waits ++ got) out left
   header_err (statuses.Capture offset fault) status old new got out left same next (inl all) =
       let is : IsCaptureFault (capture_of most) (old.waits ++ got) (offset, fault) left = subst (λ (m : ℕ). IsCaptureFault (capture_of m) (old.waits ++ got) (offset, fault) left) same next in
       subst (λ s. EndsReading s w waited last (capture_of most) (old.waits ++ got) out left) (sym all.0)
       (record {
-        told = all.1 ∙ sym (happens_output w waited) ∙ ap (output_of w) (sym (ap (all_behind waited last) is.first ∙ append-nil (map Happens waited)));
+        told = all.1 ∙ sym (happens_text w waited) ∙ ap (output_of w) (sym (ap (all_behind waited last) is.first ∙ append-nil (map Happens waited)));
         is = ap (λ (c : Capture). c.fault) is.first;
         ended = is.ended;
         still = λ other more. ap (λ (c : Capture). c.fault) (is.still other more);
       })
   header_err (statuses.Capture offset fault) status old new got out left same next (inr (is, prefix)) = want_so status (old.waits ++ got) out left is (waited_prefix (old.waits ++ got) out prefix)
     where
-      waited_prefix : (octets out : List ℕ) → IsPrefixOf out (output_from w waited) → IsPrefixOf out (output_of w (all_behind waited last (capture_of most octets)))
-      waited_prefix octets out part = prefix_of-more w (map Happens waited) (capture_occurs last (capture_of most octets).records) out (subst (IsPrefixOf out) (sym (happens_output w waited)) part)
+      waited_prefix : (octets out : List ℕ) → IsPrefixOf out (text_from (unshared w) waited) → IsPrefixOf out (output_of w (all_behind waited last (capture_of most octets)))
+      waited_prefix octets out part = prefix_of-more w (map Happens waited) (capture_occurs last (capture_of most octets).records) out (subst (IsPrefixOf out) (sym (happens_text w waited)) part)
 
       want_so : (status : Status) (octets out : List ℕ) (left : Option (List ℕ)) → IsWant status → IsPrefixOf out (output_of w (all_behind waited last (capture_of most octets))) → EndsReading status w waited last (capture_of most) octets out left
       want_so status octets out left (inl is) prefix = subst (λ s. EndsReading s w waited last (capture_of most) octets out left) (sym is) prefix
@@ -245,38 +246,38 @@ module _ (w : World) (waited : List Event) (last most : ℕ) where
 
 -- ---- whose failure it was
 
-capture_not : (offset : ℕ) (fault : CaptureFault) (status : Status) (w : World) (waited : List Event) (out : List ℕ) → Closes (statuses.Capture offset fault) status w waited out → status ≡ statuses.Read → ⊥
-capture_not offset fault status w waited out (inl is) same = let both : statuses.Capture offset fault ≡ statuses.Read = sym is.0 ∙ same in cc
-capture_not offset fault status w waited out (inr (inl is, prefix)) same = let both : statuses.Write ≡ statuses.Read = sym is ∙ same in cc
-capture_not offset fault status w waited out (inr (inr is, prefix)) same = let both : statuses.NoMemory ≡ statuses.Read = sym is ∙ same in cc
+capture_not : (offset : ℕ) (fault : CaptureFault) (status : Status) (state : State) (waited : List Event) (out : List ℕ) → Closes (statuses.Capture offset fault) status state waited out → status ≡ statuses.Read → ⊥
+capture_not offset fault status state waited out (inl is) same = let both : statuses.Capture offset fault ≡ statuses.Read = sym is.0 ∙ same in cc
+capture_not offset fault status state waited out (inr (inl is, prefix)) same = let both : statuses.Write ≡ statuses.Read = sym is ∙ same in cc
+capture_not offset fault status state waited out (inr (inr is, prefix)) same = let both : statuses.NoMemory ≡ statuses.Read = sym is ∙ same in cc
 
-pub close_read : (form : Form) (end status : Status) (old new : Capturing) (got : List ℕ) (left : Option (List ℕ)) (w : World) (waited : List Event) (out : List ℕ) → IsRecordRead form (Err end) old new got left → IsClosed end status w waited out
+pub close_read : (form : Form) (end status : Status) (old new : Capturing) (got : List ℕ) (left : Option (List ℕ)) (state : State) (waited : List Event) (out : List ℕ) → IsRecordRead form (Err end) old new got left → IsClosed end status state waited out
     → (status ≡ statuses.Read → end ≡ statuses.Read) × (end ≡ statuses.Read → status ≡ statuses.Read)
-close_read form (statuses.Capture offset fault) status old new got left w waited out next is = ((λ same. absurd (capture_not offset fault status w waited out is same)), λ same. cc)
-close_read form statuses.Read status old new got left w waited out next is = ((λ same. refl), λ same. is.0)
-close_read form statuses.NoMemory status old new got left w waited out next is = ((λ same. absurd (let both : statuses.NoMemory ≡ statuses.Read = sym is.0 ∙ same in cc)), λ same. cc)
-close_read form statuses.Done status old new got left w waited out next is = absurd next
-close_read form statuses.Usage status old new got left w waited out next is = absurd next
-close_read form (statuses.Script n fault) status old new got left w waited out next is = absurd next
-close_read form statuses.Write status old new got left w waited out next is = absurd next
-close_read form statuses.Link status old new got left w waited out next is = absurd next
-close_read form statuses.Clock status old new got left w waited out next is = absurd next
-close_read form statuses.Noise status old new got left w waited out next is = absurd next
-close_read form statuses.TurnsSpent status old new got left w waited out next is = absurd next
+close_read form (statuses.Capture offset fault) status old new got left state waited out next is = ((λ same. absurd (capture_not offset fault status state waited out is same)), λ same. cc)
+close_read form statuses.Read status old new got left state waited out next is = ((λ same. refl), λ same. is.0)
+close_read form statuses.NoMemory status old new got left state waited out next is = ((λ same. absurd (let both : statuses.NoMemory ≡ statuses.Read = sym is.0 ∙ same in cc)), λ same. cc)
+close_read form statuses.Done status old new got left state waited out next is = absurd next
+close_read form statuses.Usage status old new got left state waited out next is = absurd next
+close_read form (statuses.Script n fault) status old new got left state waited out next is = absurd next
+close_read form statuses.Write status old new got left state waited out next is = absurd next
+close_read form statuses.Link status old new got left state waited out next is = absurd next
+close_read form statuses.Clock status old new got left state waited out next is = absurd next
+close_read form statuses.Noise status old new got left state waited out next is = absurd next
+close_read form statuses.TurnsSpent status old new got left state waited out next is = absurd next
 
-pub header_close_read : (end status : Status) (old new : Capturing) (got : List ℕ) (left : Option (List ℕ)) (w : World) (waited : List Event) (out : List ℕ) → IsHeaderRead (Err end) old new got left → IsClosed end status w waited out
+pub header_close_read : (end status : Status) (old new : Capturing) (got : List ℕ) (left : Option (List ℕ)) (state : State) (waited : List Event) (out : List ℕ) → IsHeaderRead (Err end) old new got left → IsClosed end status state waited out
     → (status ≡ statuses.Read → end ≡ statuses.Read) × (end ≡ statuses.Read → status ≡ statuses.Read)
-header_close_read (statuses.Capture offset fault) status old new got left w waited out next is = ((λ same. absurd (capture_not offset fault status w waited out is same)), λ same. cc)
-header_close_read statuses.Read status old new got left w waited out next is = ((λ same. refl), λ same. is.0)
-header_close_read statuses.NoMemory status old new got left w waited out next is = ((λ same. absurd (let both : statuses.NoMemory ≡ statuses.Read = sym is.0 ∙ same in cc)), λ same. cc)
-header_close_read statuses.Done status old new got left w waited out next is = absurd next
-header_close_read statuses.Usage status old new got left w waited out next is = absurd next
-header_close_read (statuses.Script n fault) status old new got left w waited out next is = absurd next
-header_close_read statuses.Write status old new got left w waited out next is = absurd next
-header_close_read statuses.Link status old new got left w waited out next is = absurd next
-header_close_read statuses.Clock status old new got left w waited out next is = absurd next
-header_close_read statuses.Noise status old new got left w waited out next is = absurd next
-header_close_read statuses.TurnsSpent status old new got left w waited out next is = absurd next
+header_close_read (statuses.Capture offset fault) status old new got left state waited out next is = ((λ same. absurd (capture_not offset fault status state waited out is same)), λ same. cc)
+header_close_read statuses.Read status old new got left state waited out next is = ((λ same. refl), λ same. is.0)
+header_close_read statuses.NoMemory status old new got left state waited out next is = ((λ same. absurd (let both : statuses.NoMemory ≡ statuses.Read = sym is.0 ∙ same in cc)), λ same. cc)
+header_close_read statuses.Done status old new got left state waited out next is = absurd next
+header_close_read statuses.Usage status old new got left state waited out next is = absurd next
+header_close_read (statuses.Script n fault) status old new got left state waited out next is = absurd next
+header_close_read statuses.Write status old new got left state waited out next is = absurd next
+header_close_read statuses.Link status old new got left state waited out next is = absurd next
+header_close_read statuses.Clock status old new got left state waited out next is = absurd next
+header_close_read statuses.Noise status old new got left state waited out next is = absurd next
+header_close_read statuses.TurnsSpent status old new got left state waited out next is = absurd next
 
 pub met_not_read : (status : Status) (w : World) (waited waits : List Event) (os : List Occurrence) (stands_for : World → Type 0) (out : List ℕ) → IsMet (Err status) w waited waits os stands_for out → status ≡ statuses.Read → ⊥
 met_not_read status w waited waits os stands_for out (inl is, prefix) same = let both : statuses.Write ≡ statuses.Read = sym is ∙ same in cc

@@ -1,6 +1,7 @@
 -- What playing the records of a capture leaves.
 use Rattle.std.specs.Prelude.{◌≡◌, ℕ, List, ◌++◌, map, Option, Some, None, Result, Ok, Err}
 use Rattle.sg_edge.specs.Told.{AtEnd}
+use Rattle.sg_front.specs.States.{FrontStandsFor, FrontValue, unshared}
 use Rattle.sg_gateway.specs.Runs.{world_after}
 use Rattle.sg_gateway.specs.Step.{Event}
 use Rattle.sg_gateway.specs.World.{World}
@@ -14,6 +15,10 @@ use Rattle.sg_trace.specs.Output.{IsPrefixOf}
 use Rattle.sg_trace.specs.Trace.{ticks_at}
 use Rattle.sg_trace.specs.declared.status.Status.{Status}
 use Rattle.sg_trace.specs.declared.status.Status.TheVariants as statuses
+
+-- the front stands for this world, and none of its legs may share its ports
+abbrev pub StandsFor : FrontValue → World → Type 0
+StandsFor front w = FrontStandsFor front (unshared w)
 
 -- the first record's moment, where the next one has this
 abbrev pub first_of : Option ℕ → ℕ → ℕ

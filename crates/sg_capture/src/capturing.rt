@@ -2,9 +2,9 @@
 
 ghost use Rattle.std.specs.Prelude.{◌≡◌, ◌≤◌, ◌+◌, ◌^◌, ℕ, List, [], OnOk};
 ghost use Rattle.sg_capture.specs.Capturing.{IsCapture, IsComplete, IsScriptPlayed};
+ghost use Rattle.sg_capture.specs.Meeting.{StandsFor};
 ghost use Rattle.sg_edge.specs.Told.{Rose};
 ghost use Rattle.sg_gateway.specs.World.{empty};
-ghost use Rattle.sg_table.specs.Standing.{TableStandsFor};
 ghost use Rattle.sg_trace.specs.Causes.{HasFailed, IsCaused};
 
 use crate::records::play_capture;
@@ -39,13 +39,13 @@ pub fn capture<R: Threads + Sync, S: Source, K: Sink, N: Noise, G: Gate + Sync>(
     ensures complete { ¬ Rose (S.faults source.old) (S.faults source.new) → ¬ Rose (K.faults sink.old) (K.faults sink.new) → ¬ Rose (N.faults noise.old) (N.faults noise.new)
         → IsComplete result (S.left source.old) (S.left source.new) }
 {
-    match Player::make(alloc, 1) {
+    match Player::make(alloc, 1, false) {
         Err(NoMemory) => Status::NoMemory,
         Ok(mut player) => play_source(rt, alloc, &mut player, source, sink, noise, gate),
     }
 }
 
-/// The same by a player whose table is empty.
+/// The same by a player that has played nothing.
 fn play_source<R: Threads + Sync, S: Source, K: Sink, N: Noise, G: Gate + Sync>(
     rt: &R,
     alloc: Global,
@@ -55,7 +55,7 @@ fn play_source<R: Threads + Sync, S: Source, K: Sink, N: Noise, G: Gate + Sync>(
     noise: &mut N,
     gate: &G,
 ) -> Status
-    requires table { TableStandsFor player.old.table empty }
+    requires front { StandsFor player.old.front empty }
     requires waits { player.old.waits ≡ [] }
     ensures ran { (octets draws out : List ℕ)
         × IsCapture result
@@ -89,14 +89,14 @@ fn play_lines<R: Threads + Sync, S: Source, K: Sink, N: Noise, G: Gate + Sync>(
     noise: &mut N,
     gate: &G,
 ) -> Result<(), Status>
-    requires table { TableStandsFor player.old.table empty }
+    requires front { StandsFor player.old.front empty }
     requires waits { player.old.waits ≡ [] }
     requires start { script.old ≡ record { waits = []; version = 1; number = 1; offset = 0; budget = 2 ^ 30 + 1 } }
     ensures ran { (octets draws out : List ℕ)
         × IsScriptPlayed result
         (record { left = S.left source.old; written = K.written sink.old; drawn = N.given noise.old })
         (record { left = S.left source.new; written = K.written sink.new; drawn = N.given noise.new })
-        script.new (TableStandsFor player.new.table) octets draws out }
+        script.new (StandsFor player.new.front) octets draws out }
     ensures none { OnOk result (player.new.waits ≡ []) }
     ensures given { S.given source.new + script.new.budget ≤ S.given source.old + (2 ^ 30 + 1) }
     ensures read { IsCaused Status.Read result (S.faults source.old) (S.faults source.new) (S.failed source.new) }

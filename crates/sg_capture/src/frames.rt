@@ -1,12 +1,11 @@
 //! What a record's frame gives.
 
 ghost use Rattle.std.specs.Prelude.{◌≡◌, ◌≤◌, ◌∷◌, [], ℕ, List, IfErr, map};
-ghost use Rattle.sg_capture.specs.Meeting.{IsMet};
+ghost use Rattle.sg_capture.specs.Meeting.{IsMet, StandsFor};
 ghost use Rattle.sg_edge.specs.Told.{Wrote};
 ghost use Rattle.sg_gateway.specs.World.{World};
 ghost use Rattle.sg_pcap.specs.Frames.{frame_of};
 ghost use Rattle.sg_playback.specs.Playing.{waiting};
-ghost use Rattle.sg_table.specs.Standing.{TableStandsFor};
 ghost use Rattle.sg_trace.specs.Captured.{Happens, Skipped, frame_occurs};
 ghost use Rattle.sg_trace.specs.Causes.{IsCaused};
 ghost use Rattle.sg_pcap.specs.Skips.{skip_line};
@@ -33,8 +32,8 @@ pub(crate) fn come_to<R: Threads + Sync, K: Sink, G: Gate + Sync>(
     gate: &G,
 ) -> Result<(), Status>
     requires { moment ≤ 2085978495999 }
-    ensures met { (w : World) → TableStandsFor player.old.table w → (out : List ℕ) × Wrote (K.written sink.old) (K.written sink.new) out
-        × IsMet result w (waiting player.old) (waiting player.new) (map Happens (ticks_at top moment)) (TableStandsFor player.new.table) out }
+    ensures met { (w : World) → StandsFor player.old.front w → (out : List ℕ) × Wrote (K.written sink.old) (K.written sink.new) out
+        × IsMet result w (waiting player.old) (waiting player.new) (map Happens (ticks_at top moment)) (StandsFor player.new.front) out }
     ensures write { IsCaused Status.Write result (K.faults sink.old) (K.faults sink.new) (K.failed sink.new) }
 {
     if moment <= top {
@@ -53,8 +52,8 @@ pub(crate) fn play_frame<R: Threads + Sync, K: Sink, G: Gate + Sync>(
     sink: &mut K,
     gate: &G,
 ) -> Result<(), Status>
-    ensures met { (w : World) → TableStandsFor player.old.table w → (out : List ℕ) × Wrote (K.written sink.old) (K.written sink.new) out
-        × IsMet result w (waiting player.old) (waiting player.new) (frame_occurs number (frame_of frame.now)) (TableStandsFor player.new.table) out }
+    ensures met { (w : World) → StandsFor player.old.front w → (out : List ℕ) × Wrote (K.written sink.old) (K.written sink.new) out
+        × IsMet result w (waiting player.old) (waiting player.new) (frame_occurs number (frame_of frame.now)) (StandsFor player.new.front) out }
     ensures write { IsCaused Status.Write result (K.faults sink.old) (K.faults sink.new) (K.failed sink.new) }
 {
     match read_frame(frame) {
@@ -77,8 +76,8 @@ fn tell_skip<R: Threads + Sync, K: Sink, G: Gate + Sync>(
     sink: &mut K,
     gate: &G,
 ) -> Result<(), Status>
-    ensures met { (w : World) → TableStandsFor player.old.table w → (out : List ℕ) × Wrote (K.written sink.old) (K.written sink.new) out
-        × IsMet result w (waiting player.old) (waiting player.new) (Skipped number cause ∷ []) (TableStandsFor player.new.table) out }
+    ensures met { (w : World) → StandsFor player.old.front w → (out : List ℕ) × Wrote (K.written sink.old) (K.written sink.new) out
+        × IsMet result w (waiting player.old) (waiting player.new) (Skipped number cause ∷ []) (StandsFor player.new.front) out }
     ensures write { IsCaused Status.Write result (K.faults sink.old) (K.faults sink.new) (K.failed sink.new) }
 {
     match player.settle(rt, alloc, sink, gate) {

@@ -6,7 +6,7 @@ use Rattle.sg_front.specs.States.{FrontStandsFor, FrontValue, State, came_from, 
 use Rattle.sg_base.specs.declared.addresses.Address.{Address}
 use Rattle.sg_gateway.proofs.Rested.{are_rested, arrived_moment, tick_again}
 use Rattle.sg_gateway.specs.Datagrams.{Happening}
-use Rattle.sg_gateway.specs.Octets.{Octets}
+use Rattle.sg_gateway.specs.Octets.{Octets, as_octets}
 use Rattle.sg_gateway.specs.Runs.{world_after}
 use Rattle.sg_gateway.specs.Signals.{Tick}
 use Rattle.sg_gateway.specs.Step.{Event, Datagram, Signalled, step}
@@ -14,7 +14,7 @@ use Rattle.sg_gateway.specs.World.{World, empty}
 use Rattle.sg_mux.specs.Legs.{arrived_port}
 use Rattle.sg_mux.specs.Muxed.{signalled}
 use Rattle.sg_mux.specs.declared.known.Known.{Known}
-use Rattle.sg_table.specs.Batches.{arrived}
+use Rattle.sg_table.specs.Batches.{arrived, octets_of}
 use Rattle.sg_table.specs.declared.arrival.Arrival.{Arrival}
 
 -- ---- worlds of runs
@@ -74,5 +74,6 @@ comes_datagram true calls port from octets = (arrived_port calls port octets.ite
 pub arrivals_moment : (s : State) (ds : List Arrival) → (state_after s (map arrived ds)).world.moment ≡ s.world.moment
 arrivals_moment s [] = refl
 arrivals_moment s (d ∷ ds) =
-    let at = comes_datagram s.muxes s.calls d.port d.from _ in
-    arrivals_moment (next s (arrived d)) ds ∙ arrived_moment s.world (comes s.muxes s.calls (arrived d)) at.0 d.from _ at.1
+    let octets = as_octets (octets_of d.pad) in
+    let at = comes_datagram s.muxes s.calls d.port d.from octets in
+    arrivals_moment (next s (arrived d)) ds ∙ arrived_moment s.world (comes s.muxes s.calls (arrived d)) at.0 d.from octets at.1

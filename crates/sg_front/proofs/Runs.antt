@@ -4,11 +4,11 @@ use Rattle.std.specs.List.{flat_map}
 use Rattle.sg_front.proofs.Sequences.{world_came}
 use Rattle.sg_front.specs.States.{State, came_from, start, state_after, told_from, unshared}
 use Rattle.sg_gateway.specs.Events.{outcomes_from}
-use Rattle.sg_gateway.specs.Runs as runs
+use Rattle.sg_gateway.specs.Runs.{world_after}
 use Rattle.sg_gateway.specs.Step.{Event, step}
 use Rattle.sg_gateway.specs.World.{World, empty}
 use Rattle.sg_mux.specs.Muxed.{nobody}
-use Rattle.sg_mux.specs.Via.{events_from, events_in, muxing_after, outcomes_in, passages_from, via, world_after}
+use Rattle.sg_mux.specs.Via.{events_from, events_in, muxing_after, outcomes_in, passages_from, stepped, via}
 use Rattle.sg_mux.specs.declared.known.Known.{Known}
 use Rattle.sg_outcome.specs.declared.outcomes.Outcome.{Outcome}
 
@@ -18,7 +18,7 @@ pub unshared_told : (w : World) (es : List Event) → told_from (unshared w) es 
 unshared_told w [] = refl
 unshared_told w (e ∷ es) = ap (λ (l : List Outcome). (step w e).outcomes ++ l) (unshared_told (step w e).world es)
 
-pub unshared_after : (w : World) (es : List Event) → state_after (unshared w) es ≡ unshared (runs.world_after w es)
+pub unshared_after : (w : World) (es : List Event) → state_after (unshared w) es ≡ unshared (world_after w es)
 unshared_after w [] = refl
 unshared_after w (e ∷ es) = unshared_after (step w e).world es
 
@@ -33,11 +33,11 @@ shared w calls = record { muxes = true; world = w; calls = calls }
 
 shared_told : (w : World) (calls : List (Option Known)) (es : List Event) → told_from (shared w calls) es ≡ flat_map (λ p. p.told) (passages_from w calls es)
 shared_told w calls [] = refl
-shared_told w calls (e ∷ es) = ap (λ (l : List Outcome). (muxing_after w calls e).told ++ l) (shared_told (world_after w calls e) (muxing_after w calls e).calls es)
+shared_told w calls (e ∷ es) = ap (λ (l : List Outcome). (muxing_after w calls e).told ++ l) (shared_told (stepped w calls e).world (muxing_after w calls e).calls es)
 
 shared_came : (w : World) (calls : List (Option Known)) (es : List Event) → came_from (shared w calls) es ≡ events_from w calls es
 shared_came w calls [] = refl
-shared_came w calls (e ∷ es) = ap (λ (l : List Event). via calls e ∷ l) (shared_came (world_after w calls e) (muxing_after w calls e).calls es)
+shared_came w calls (e ∷ es) = ap (λ (l : List Event). via calls e ∷ l) (shared_came (stepped w calls e).world (muxing_after w calls e).calls es)
 
 -- ---- from the start on
 
@@ -49,5 +49,5 @@ pub came_in : (muxes : Bool) (events : List Event) → came_from (start muxes) e
 came_in false events = unshared_came empty events
 came_in true events = shared_came empty nobody events
 
-pub world_in : (muxes : Bool) (events : List Event) → (state_after (start muxes) events).world ≡ runs.world_after empty (events_in muxes events)
-world_in muxes events = world_came (start muxes) events ∙ ap (runs.world_after empty) (came_in muxes events)
+pub world_in : (muxes : Bool) (events : List Event) → (state_after (start muxes) events).world ≡ world_after empty (events_in muxes events)
+world_in muxes events = world_came (start muxes) events ∙ ap (world_after empty) (came_in muxes events)

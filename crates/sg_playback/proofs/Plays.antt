@@ -1,84 +1,83 @@
 -- What playing a line leaves, from what its parts leave.
 use Rattle.std.proofs.Common.{◌≡◌, ◌⊎◌, ◌<◌, ℕ, true, false, List, [], ◌∷◌, ◌++◌, length, map, Option, Result, Ok, Err, IfErr, OnOk, arith, refl, sym, ap, ◌∙◌, subst, inl, inr, append_assoc}
 use Rattle.std.proofs.lemmas.List.{append-nil}
-use Rattle.sg_trace.proofs.Traces.{output_from-append, world_after-append}
 use Rattle.sg_trace.specs.Trace.{Later, drawing, handled, handled_as, with_events}
-use Rattle.sg_trace.specs.Output.{IsPrefixOf, IsWritten, output_from}
+use Rattle.sg_trace.specs.Output.{IsPrefixOf, IsWritten}
 use Rattle.sg_trace.specs.Supplying.{IsSupplied}
 use Rattle.sg_trace.specs.declared.status.Status.{Status}
 use Rattle.sg_trace.specs.declared.status.Status.TheVariants.{Done, Usage, Script, Read, Write, Link, NoMemory, Clock, Noise, TurnsSpent, Capture}
 use Rattle.sg_edge.specs.Told.{Wrote}
+use Rattle.sg_front.proofs.Sequences.{state_after-append}
+use Rattle.sg_front.specs.States.{State, state_after}
 use Rattle.sg_gateway.specs.Events.{events_of}
-use Rattle.sg_gateway.specs.Runs.{world_after}
 use Rattle.sg_gateway.specs.Signals.{Tick}
 use Rattle.sg_gateway.specs.Step.{Event, Signalled}
-use Rattle.sg_gateway.specs.World.{World}
 use Rattle.sg_lines.specs.declared.lines.Line.{Line}
 use Rattle.sg_lines.specs.declared.lines.Line.TheVariants as lines
 use Rattle.sg_lines.specs.declared.lines.Signal.{Signal}
 use Rattle.sg_table.specs.Batches.{arrived}
-use Rattle.sg_playback.proofs.Alike.{alike_more, same_alike}
-use Rattle.sg_playback.specs.Playing.{AreAlike, Closes, HasCome, HasRoom, IsClosed, IsCut, IsPlayed, IsSettled, IsStepped, IsTaken, IsWant, Playing, tells_waiting, waiting}
+use Rattle.sg_playback.proofs.Alike.{alike_more, same_alike, text_from-append}
+use Rattle.sg_playback.specs.Playing.{AreAlike, Closes, HasCome, HasRoom, IsClosed, IsCut, IsPlayed, IsSettled, IsStepped, IsTaken, IsWant, Playing, tells_waiting, text_from, waiting}
 
 -- ---- fronts
 
 pub prefix_more : (prefix all more : List ℕ) → IsPrefixOf prefix all → IsPrefixOf prefix (all ++ more)
 prefix_more prefix all more is = (is.0 ++ more, ap (λ (l : List ℕ). l ++ more) is.1 ∙ append_assoc prefix is.0 more)
 
-pub prefix_all : (w : World) (es fs : List Event) (prefix : List ℕ) → IsPrefixOf prefix (output_from w es) → IsPrefixOf prefix (output_from w (es ++ fs))
-prefix_all w es fs prefix is = subst (IsPrefixOf prefix) (sym (output_from-append w es fs)) (prefix_more prefix (output_from w es) (output_from (world_after w es) fs) is)
+pub prefix_all : (state : State) (es fs : List Event) (prefix : List ℕ) → IsPrefixOf prefix (text_from state es) → IsPrefixOf prefix (text_from state (es ++ fs))
+prefix_all state es fs prefix is = subst (IsPrefixOf prefix) (sym (text_from-append state es fs)) (prefix_more prefix (text_from state es) (text_from (state_after state es) fs) is)
 
-pub prefix_behind : (w : World) (es fs : List Event) (prefix : List ℕ) → IsPrefixOf prefix (output_from (world_after w es) fs) → IsPrefixOf (output_from w es ++ prefix) (output_from w (es ++ fs))
-prefix_behind w es fs prefix is = (
+pub prefix_behind : (state : State) (es fs : List Event) (prefix : List ℕ) → IsPrefixOf prefix (text_from (state_after state es) fs) → IsPrefixOf (text_from state es ++ prefix) (text_from state (es ++ fs))
+prefix_behind state es fs prefix is = (
   is.0,
-  output_from-append w es fs ∙ ap (λ (l : List ℕ). output_from w es ++ l) is.1 ∙ sym (append_assoc (output_from w es) prefix is.0),
+  text_from-append state es fs ∙ ap (λ (l : List ℕ). text_from state es ++ l) is.1 ∙ sym (append_assoc (text_from state es) prefix is.0),
 )
 
 -- ---- what was stepped
 
 -- what was written of the events' text, as what they tell
-pub stepped : (r : Result (Unit {0}) Status) (w : World) (events : List Event) (stands_for : World → Type 0) (a b : Option (List ℕ)) (octets : List ℕ) → IsWritten r a b octets → octets ≡ output_from w events
-    → stands_for (world_after w events) → (out : List ℕ) × Wrote a b out × IsStepped r w events stands_for out
-stepped (Ok u) w events stands_for a b octets wrote is stands = (octets, wrote, (is, stands))
-stepped (Err Write) w events stands_for a b octets wrote is stands = (wrote.0, wrote.2, subst (IsPrefixOf wrote.0) is wrote.1)
-stepped (Err NoMemory) w events stands_for a b octets wrote is stands = (wrote.0, wrote.2, subst (IsPrefixOf wrote.0) is wrote.1)
-stepped (Err Done) w events stands_for a b octets wrote is stands = absurd wrote
-stepped (Err Usage) w events stands_for a b octets wrote is stands = absurd wrote
-stepped (Err (Script n fault)) w events stands_for a b octets wrote is stands = absurd wrote
-stepped (Err Read) w events stands_for a b octets wrote is stands = absurd wrote
-stepped (Err Link) w events stands_for a b octets wrote is stands = absurd wrote
-stepped (Err Clock) w events stands_for a b octets wrote is stands = absurd wrote
-stepped (Err Noise) w events stands_for a b octets wrote is stands = absurd wrote
-stepped (Err TurnsSpent) w events stands_for a b octets wrote is stands = absurd wrote
-stepped (Err (Capture offset fault)) w events stands_for a b octets wrote is stands = absurd wrote
+pub stepped : (r : Result (Unit {0}) Status) (state : State) (events : List Event) (stands_for : State → Type 0) (a b : Option (List ℕ)) (octets : List ℕ) → IsWritten r a b octets → octets ≡ text_from state events
+    → stands_for (state_after state events) → (out : List ℕ) × Wrote a b out × IsStepped r state events stands_for out
+stepped (Ok u) state events stands_for a b octets wrote is stands = (octets, wrote, (is, stands))
+stepped (Err Write) state events stands_for a b octets wrote is stands = (wrote.0, wrote.2, subst (IsPrefixOf wrote.0) is wrote.1)
+stepped (Err NoMemory) state events stands_for a b octets wrote is stands = (wrote.0, wrote.2, subst (IsPrefixOf wrote.0) is wrote.1)
+stepped (Err Done) state events stands_for a b octets wrote is stands = absurd wrote
+stepped (Err Usage) state events stands_for a b octets wrote is stands = absurd wrote
+stepped (Err (Script n fault)) state events stands_for a b octets wrote is stands = absurd wrote
+stepped (Err Read) state events stands_for a b octets wrote is stands = absurd wrote
+stepped (Err Link) state events stands_for a b octets wrote is stands = absurd wrote
+stepped (Err Clock) state events stands_for a b octets wrote is stands = absurd wrote
+stepped (Err Noise) state events stands_for a b octets wrote is stands = absurd wrote
+stepped (Err TurnsSpent) state events stands_for a b octets wrote is stands = absurd wrote
+stepped (Err (Capture offset fault)) state events stands_for a b octets wrote is stands = absurd wrote
 
 -- a front was told where it failed
-pub stepped_prefix : (status : Status) (w : World) (events : List Event) (stands_for : World → Type 0) (out : List ℕ) → IsStepped (Err status) w events stands_for out
-    → ((status ≡ Write) ⊎ (status ≡ NoMemory)) × IsPrefixOf out (output_from w events)
-stepped_prefix Write w events stands_for out is = (inl refl, is)
-stepped_prefix NoMemory w events stands_for out is = (inr refl, is)
-stepped_prefix Done w events stands_for out is = absurd is
-stepped_prefix Usage w events stands_for out is = absurd is
-stepped_prefix (Script n fault) w events stands_for out is = absurd is
-stepped_prefix Read w events stands_for out is = absurd is
-stepped_prefix Link w events stands_for out is = absurd is
-stepped_prefix Clock w events stands_for out is = absurd is
-stepped_prefix Noise w events stands_for out is = absurd is
-stepped_prefix TurnsSpent w events stands_for out is = absurd is
-stepped_prefix (Capture offset fault) w events stands_for out is = absurd is
+pub stepped_prefix : (status : Status) (state : State) (events : List Event) (stands_for : State → Type 0) (out : List ℕ) → IsStepped (Err status) state events stands_for out
+    → ((status ≡ Write) ⊎ (status ≡ NoMemory)) × IsPrefixOf out (text_from state events)
+stepped_prefix Write state events stands_for out is = (inl refl, is)
+stepped_prefix NoMemory state events stands_for out is = (inr refl, is)
+stepped_prefix Done state events stands_for out is = absurd is
+stepped_prefix Usage state events stands_for out is = absurd is
+stepped_prefix (Script n fault) state events stands_for out is = absurd is
+stepped_prefix Read state events stands_for out is = absurd is
+stepped_prefix Link state events stands_for out is = absurd is
+stepped_prefix Clock state events stands_for out is = absurd is
+stepped_prefix Noise state events stands_for out is = absurd is
+stepped_prefix TurnsSpent state events stands_for out is = absurd is
+stepped_prefix (Capture offset fault) state events stands_for out is = absurd is
 
 -- a line was cut by such a status
-pub played_cut : (status : Status) (l : Line) (w : World) (waited waits : List Event) (stands_for : World → Type 0) (draws out : List ℕ) → (status ≡ Write) ⊎ (status ≡ NoMemory)
-    → IsCut l w waited draws out → IsPlayed (Err status) l w waited waits stands_for draws out
-played_cut status l w waited waits stands_for draws out (inl is) cut = subst (λ s. IsPlayed (Err s) l w waited waits stands_for draws out) (sym is) cut
-played_cut status l w waited waits stands_for draws out (inr is) cut = subst (λ s. IsPlayed (Err s) l w waited waits stands_for draws out) (sym is) cut
+pub played_cut : (status : Status) (l : Line) (state : State) (waited waits : List Event) (stands_for : State → Type 0) (draws out : List ℕ) → (status ≡ Write) ⊎ (status ≡ NoMemory)
+    → IsCut l state waited draws out → IsPlayed (Err status) l state waited waits stands_for draws out
+played_cut status l state waited waits stands_for draws out (inl is) cut = subst (λ other. IsPlayed (Err other) l state waited waits stands_for draws out) (sym is) cut
+played_cut status l state waited waits stands_for draws out (inr is) cut = subst (λ other. IsPlayed (Err other) l state waited waits stands_for draws out) (sym is) cut
 
 -- before the line's own events
-pub cut_before : (l : Line) (w : World) (waited : List Event) (out : List ℕ) → IsPrefixOf out (output_from w waited) → IsCut l w waited [] out
-cut_before l w waited out is = record {
+pub cut_before : (l : Line) (state : State) (waited : List Event) (out : List ℕ) → IsPrefixOf out (text_from state waited) → IsCut l state waited [] out
+cut_before l state waited out is = record {
   events = [];
   goes = λ later. (handled l later 0 (drawing []), refl);
-  told = prefix_all w waited [] out is;
+  told = prefix_all state waited [] out is;
 }
 
 -- ---- headers and datagrams
@@ -88,51 +87,51 @@ abbrev pub Goes : Line → Type 0
 Goes l = (later : Later) (more : List ℕ) → handled l later 0 (drawing more) ≡ with_events (events_of l) (later 0 (drawing more))
 
 -- a line without events
-pub header_taken : (l : Line) (w : World) (waited : List Event) (stands_for : World → Type 0) → Goes l → events_of l ≡ [] → stands_for w → IsTaken l w waited waited stands_for [] []
-header_taken l w waited stands_for goes none stands = record {
+pub header_taken : (l : Line) (state : State) (waited : List Event) (stands_for : State → Type 0) → Goes l → events_of l ≡ [] → stands_for state → IsTaken l state waited waited stands_for [] []
+header_taken l state waited stands_for goes none stands = record {
   events = events_of l;
   prefix = [];
   goes = goes;
-  alike = same_alike w (waited ++ events_of l) waited (ap (λ (es : List Event). waited ++ es) none ∙ append-nil waited);
+  alike = same_alike state (waited ++ events_of l) waited (ap (λ (es : List Event). waited ++ es) none ∙ append-nil waited);
   told = refl;
   stands = stands;
 }
 
 -- A line whose last event arrives, once a prefix of what is like the others was handled and told, and the rest waits.
-module _ (l : Line) (goes : Goes l) (w : World) (waited others : List Event) (e : Event) (splits : events_of l ≡ others ++ e ∷ []) (waits prefix : List Event)
-    (alike : AreAlike w (waited ++ others) (prefix ++ waits)) (out : List ℕ) (told : out ≡ output_from w prefix) where
-  all_alike : AreAlike w (waited ++ events_of l) (prefix ++ (waits ++ e ∷ []))
+module _ (l : Line) (goes : Goes l) (state : State) (waited others : List Event) (e : Event) (splits : events_of l ≡ others ++ e ∷ []) (waits prefix : List Event)
+    (alike : AreAlike state (waited ++ others) (prefix ++ waits)) (out : List ℕ) (told : out ≡ text_from state prefix) where
+  all_alike : AreAlike state (waited ++ events_of l) (prefix ++ (waits ++ e ∷ []))
   all_alike =
-      subst (λ (es : List Event). AreAlike w es (prefix ++ (waits ++ e ∷ []))) (append_assoc waited others (e ∷ []) ∙ ap (λ (es : List Event). waited ++ es) (sym splits))
-      (subst (λ (es : List Event). AreAlike w ((waited ++ others) ++ e ∷ []) es) (append_assoc prefix waits (e ∷ [])) (alike_more w (waited ++ others) (prefix ++ waits) (e ∷ []) alike))
+      subst (λ (es : List Event). AreAlike state es (prefix ++ (waits ++ e ∷ []))) (append_assoc waited others (e ∷ []) ∙ ap (λ (es : List Event). waited ++ es) (sym splits))
+      (subst (λ (es : List Event). AreAlike state ((waited ++ others) ++ e ∷ []) es) (append_assoc prefix waits (e ∷ [])) (alike_more state (waited ++ others) (prefix ++ waits) (e ∷ []) alike))
 
-  pub line_arrived : (r : Result (Unit {0}) Status) (waits' : List Event) (stands_for : World → Type 0) (out' : List ℕ) → HasRoom r (world_after w prefix) (waits ++ e ∷ []) waits' stands_for out'
-      → IsPlayed r l w waited waits' stands_for [] (out ++ out')
+  pub line_arrived : (r : Result (Unit {0}) Status) (waits' : List Event) (stands_for : State → Type 0) (out' : List ℕ) → HasRoom r (state_after state prefix) (waits ++ e ∷ []) waits' stands_for out'
+      → IsPlayed r l state waited waits' stands_for [] (out ++ out')
   line_arrived (Ok u) waits' stands_for out' room = record {
     events = events_of l;
     prefix = prefix ++ room.0;
     goes = goes;
-    alike = subst (λ (es : List Event). AreAlike w (waited ++ events_of l) es) (ap (λ (es : List Event). prefix ++ es) room.1 ∙ sym (append_assoc prefix room.0 waits')) all_alike;
-    told = (λ i. told i ++ room.2.0 i) ∙ sym (output_from-append w prefix room.0);
-    stands = subst stands_for (sym (world_after-append w prefix room.0)) room.2.1;
+    alike = subst (λ (es : List Event). AreAlike state (waited ++ events_of l) es) (ap (λ (es : List Event). prefix ++ es) room.1 ∙ sym (append_assoc prefix room.0 waits')) all_alike;
+    told = (λ i. told i ++ room.2.0 i) ∙ sym (text_from-append state prefix room.0);
+    stands = subst stands_for (sym (state_after-append state prefix room.0)) room.2.1;
   }
   line_arrived (Err status) waits' stands_for out' stepped =
-      let cut = stepped_prefix status (world_after w prefix) (waits ++ e ∷ []) stands_for out' stepped in
-      played_cut status l w waited waits' stands_for [] (out ++ out') cut.0 (record {
+      let cut = stepped_prefix status (state_after state prefix) (waits ++ e ∷ []) stands_for out' stepped in
+      played_cut status l state waited waits' stands_for [] (out ++ out') cut.0 (record {
         events = events_of l;
         goes = λ later. (later 0 (drawing []), goes later []);
-        told = subst (IsPrefixOf (out ++ out')) (sym all_alike.told) (subst (λ (o : List ℕ). IsPrefixOf (o ++ out') (output_from w (prefix ++ (waits ++ e ∷ [])))) (sym told) (prefix_behind w prefix (waits ++ e ∷ []) out' cut.1));
+        told = subst (IsPrefixOf (out ++ out')) (sym all_alike.told) (subst (λ (o : List ℕ). IsPrefixOf (o ++ out') (text_from state (prefix ++ (waits ++ e ∷ [])))) (sym told) (prefix_behind state prefix (waits ++ e ∷ []) out' cut.1));
       })
 
 -- a line that was cut in the events before its last one
-pub line_cut : (l : Line) → Goes l → (w : World) (waited others : List Event) (e : Event) → events_of l ≡ others ++ e ∷ [] → (status : Status) (waits' : List Event) (stands_for : World → Type 0) (out : List ℕ)
-    → IsStepped (Err status) w (waited ++ others) stands_for out → IsPlayed (Err status) l w waited waits' stands_for [] out
-line_cut l goes w waited others e splits status waits' stands_for out stepped =
-    let cut = stepped_prefix status w (waited ++ others) stands_for out stepped in
-    played_cut status l w waited waits' stands_for [] out cut.0 (record {
+pub line_cut : (l : Line) → Goes l → (state : State) (waited others : List Event) (e : Event) → events_of l ≡ others ++ e ∷ [] → (status : Status) (waits' : List Event) (stands_for : State → Type 0) (out : List ℕ)
+    → IsStepped (Err status) state (waited ++ others) stands_for out → IsPlayed (Err status) l state waited waits' stands_for [] out
+line_cut l goes state waited others e splits status waits' stands_for out stepped =
+    let cut = stepped_prefix status state (waited ++ others) stands_for out stepped in
+    played_cut status l state waited waits' stands_for [] out cut.0 (record {
       events = events_of l;
       goes = λ later. (later 0 (drawing []), goes later []);
-      told = subst (λ (es : List Event). IsPrefixOf out (output_from w es)) (append_assoc waited others (e ∷ []) ∙ ap (λ (es : List Event). waited ++ es) (sym splits)) (prefix_all w (waited ++ others) (e ∷ []) out cut.1);
+      told = subst (λ (es : List Event). IsPrefixOf out (text_from state es)) (append_assoc waited others (e ∷ []) ∙ ap (λ (es : List Event). waited ++ es) (sym splits)) (prefix_all state (waited ++ others) (e ∷ []) out cut.1);
     })
 
 -- ---- signals
@@ -141,75 +140,75 @@ module _ (signal s : Signal) (draws : List ℕ) (has : IsSupplied (Ok s) signal 
   signal_goes : (later : Later) (more : List ℕ) → handled (lines.Signal signal) later 0 (drawing (draws ++ more)) ≡ with_events (events_of (lines.Signal s)) (later 0 (drawing more))
   signal_goes later more = ap (λ x. handled_as x later 0 (drawing (draws ++ more))) (has more)
 
-  pub signal_taken : (w : World) (waited waits : List Event) (stands_for : World → Type 0) (out out' : List ℕ) → waits ≡ [] → out ≡ output_from w waited
-      → IsStepped (Ok tt) (world_after w waited) (events_of (lines.Signal s)) stands_for out' → IsTaken (lines.Signal signal) w waited waits stands_for draws (out ++ out')
-  signal_taken w waited waits stands_for out out' none told stepped = record {
+  pub signal_taken : (state : State) (waited waits : List Event) (stands_for : State → Type 0) (out out' : List ℕ) → waits ≡ [] → out ≡ text_from state waited
+      → IsStepped (Ok tt) (state_after state waited) (events_of (lines.Signal s)) stands_for out' → IsTaken (lines.Signal signal) state waited waits stands_for draws (out ++ out')
+  signal_taken state waited waits stands_for out out' none told stepped = record {
     events = events_of (lines.Signal s);
     prefix = waited ++ events_of (lines.Signal s);
     goes = signal_goes;
     alike =
-        same_alike w (waited ++ events_of (lines.Signal s)) ((waited ++ events_of (lines.Signal s)) ++ waits)
+        same_alike state (waited ++ events_of (lines.Signal s)) ((waited ++ events_of (lines.Signal s)) ++ waits)
         (sym (append-nil (waited ++ events_of (lines.Signal s))) ∙ ap (λ (l : List Event). (waited ++ events_of (lines.Signal s)) ++ l) (sym none));
-    told = (λ i. told i ++ stepped.0 i) ∙ sym (output_from-append w waited (events_of (lines.Signal s)));
-    stands = subst stands_for (sym (world_after-append w waited (events_of (lines.Signal s)))) stepped.1;
+    told = (λ i. told i ++ stepped.0 i) ∙ sym (text_from-append state waited (events_of (lines.Signal s)));
+    stands = subst stands_for (sym (state_after-append state waited (events_of (lines.Signal s)))) stepped.1;
   }
 
-  pub signal_cut : (w : World) (waited : List Event) (out out' : List ℕ) → out ≡ output_from w waited → IsPrefixOf out' (output_from (world_after w waited) (events_of (lines.Signal s)))
-      → IsCut (lines.Signal signal) w waited draws (out ++ out')
-  signal_cut w waited out out' told is = record {
+  pub signal_cut : (state : State) (waited : List Event) (out out' : List ℕ) → out ≡ text_from state waited → IsPrefixOf out' (text_from (state_after state waited) (events_of (lines.Signal s)))
+      → IsCut (lines.Signal signal) state waited draws (out ++ out')
+  signal_cut state waited out out' told is = record {
     events = events_of (lines.Signal s);
     goes = λ later. (later 0 (drawing []), ap (λ (d : List ℕ). handled (lines.Signal signal) later 0 (drawing d)) (sym (append-nil draws)) ∙ signal_goes later []);
-    told = subst (λ (o : List ℕ). IsPrefixOf (o ++ out') (output_from w (waited ++ events_of (lines.Signal s)))) (sym told) (prefix_behind w waited (events_of (lines.Signal s)) out' is);
+    told = subst (λ (o : List ℕ). IsPrefixOf (o ++ out') (text_from state (waited ++ events_of (lines.Signal s)))) (sym told) (prefix_behind state waited (events_of (lines.Signal s)) out' is);
   }
 
 -- its noise wasn't drawn
-pub unsupplied : (status : Status) (signal : Signal) (w : World) (waited waits : List Event) (stands_for : World → Type 0) (draws out : List ℕ) → IsSupplied (Err status) signal draws → out ≡ output_from w waited
-    → IsPlayed (Err status) (lines.Signal signal) w waited waits stands_for draws out
-unsupplied Noise signal w waited waits stands_for draws out is told = record {
+pub unsupplied : (status : Status) (signal : Signal) (state : State) (waited waits : List Event) (stands_for : State → Type 0) (draws out : List ℕ) → IsSupplied (Err status) signal draws → out ≡ text_from state waited
+    → IsPlayed (Err status) (lines.Signal signal) state waited waits stands_for draws out
+unsupplied Noise signal state waited waits stands_for draws out is told = record {
   drew = is.0;
   stops = λ later. ap (λ x. handled_as x later 0 (drawing [])) is.1;
   told = told;
 }
-unsupplied Done signal w waited waits stands_for draws out is told = absurd is
-unsupplied Usage signal w waited waits stands_for draws out is told = absurd is
-unsupplied (Script n fault) signal w waited waits stands_for draws out is told = absurd is
-unsupplied Read signal w waited waits stands_for draws out is told = absurd is
-unsupplied Write signal w waited waits stands_for draws out is told = absurd is
-unsupplied Link signal w waited waits stands_for draws out is told = absurd is
-unsupplied NoMemory signal w waited waits stands_for draws out is told = absurd is
-unsupplied Clock signal w waited waits stands_for draws out is told = absurd is
-unsupplied TurnsSpent signal w waited waits stands_for draws out is told = absurd is
-unsupplied (Capture offset fault) signal w waited waits stands_for draws out is told = absurd is
+unsupplied Done signal state waited waits stands_for draws out is told = absurd is
+unsupplied Usage signal state waited waits stands_for draws out is told = absurd is
+unsupplied (Script n fault) signal state waited waits stands_for draws out is told = absurd is
+unsupplied Read signal state waited waits stands_for draws out is told = absurd is
+unsupplied Write signal state waited waits stands_for draws out is told = absurd is
+unsupplied Link signal state waited waits stands_for draws out is told = absurd is
+unsupplied NoMemory signal state waited waits stands_for draws out is told = absurd is
+unsupplied Clock signal state waited waits stands_for draws out is told = absurd is
+unsupplied TurnsSpent signal state waited waits stands_for draws out is told = absurd is
+unsupplied (Capture offset fault) signal state waited waits stands_for draws out is told = absurd is
 
 -- ---- closing
 
 -- an end that tells nothing
-pub closed_bare : (end : Status) (w : World) (waited : List Event) → tells_waiting end ≡ false → IsClosed end end w waited []
-closed_bare Done w waited off = absurd cc
-closed_bare Usage w waited off = (refl, refl)
-closed_bare (Script n fault) w waited off = absurd cc
-closed_bare Read w waited off = (refl, refl)
-closed_bare Write w waited off = (refl, refl)
-closed_bare Link w waited off = (refl, refl)
-closed_bare NoMemory w waited off = (refl, refl)
-closed_bare Clock w waited off = (refl, refl)
-closed_bare Noise w waited off = (refl, refl)
-closed_bare TurnsSpent w waited off = (refl, refl)
-closed_bare (Capture offset fault) w waited off = absurd cc
+pub closed_bare : (end : Status) (state : State) (waited : List Event) → tells_waiting end ≡ false → IsClosed end end state waited []
+closed_bare Done state waited off = absurd cc
+closed_bare Usage state waited off = (refl, refl)
+closed_bare (Script n fault) state waited off = absurd cc
+closed_bare Read state waited off = (refl, refl)
+closed_bare Write state waited off = (refl, refl)
+closed_bare Link state waited off = (refl, refl)
+closed_bare NoMemory state waited off = (refl, refl)
+closed_bare Clock state waited off = (refl, refl)
+closed_bare Noise state waited off = (refl, refl)
+closed_bare TurnsSpent state waited off = (refl, refl)
+closed_bare (Capture offset fault) state waited off = absurd cc
 
 -- and one that does
-pub closed_told : (end status : Status) (w : World) (waited : List Event) (out : List ℕ) → tells_waiting end ≡ true → Closes end status w waited out → IsClosed end status w waited out
-closed_told Done status w waited out on closes = closes
-closed_told Usage status w waited out on closes = absurd cc
-closed_told (Script n fault) status w waited out on closes = closes
-closed_told Read status w waited out on closes = absurd cc
-closed_told Write status w waited out on closes = absurd cc
-closed_told Link status w waited out on closes = absurd cc
-closed_told NoMemory status w waited out on closes = absurd cc
-closed_told Clock status w waited out on closes = absurd cc
-closed_told Noise status w waited out on closes = absurd cc
-closed_told TurnsSpent status w waited out on closes = absurd cc
-closed_told (Capture offset fault) status w waited out on closes = closes
+pub closed_told : (end status : Status) (state : State) (waited : List Event) (out : List ℕ) → tells_waiting end ≡ true → Closes end status state waited out → IsClosed end status state waited out
+closed_told Done status state waited out on closes = closes
+closed_told Usage status state waited out on closes = absurd cc
+closed_told (Script n fault) status state waited out on closes = closes
+closed_told Read status state waited out on closes = absurd cc
+closed_told Write status state waited out on closes = absurd cc
+closed_told Link status state waited out on closes = absurd cc
+closed_told NoMemory status state waited out on closes = absurd cc
+closed_told Clock status state waited out on closes = absurd cc
+closed_told Noise status state waited out on closes = absurd cc
+closed_told TurnsSpent status state waited out on closes = absurd cc
+closed_told (Capture offset fault) status state waited out on closes = closes
 
 -- ---- what was wanting
 
@@ -245,67 +244,67 @@ written_only (Err (Capture offset fault)) a b octets wrote = absurd wrote
 
 -- ---- room for a datagram
 
-pub room_settled : (r : Result (Unit {0}) Status) (w : World) (waited waits : List Event) (stands_for : World → Type 0) (out : List ℕ) → IsSettled r w waited waits stands_for out → HasRoom r w waited waits stands_for out
-room_settled (Ok u) w waited waits stands_for out is = (waited, sym (append-nil waited) ∙ ap (λ (l : List Event). waited ++ l) (sym is.0), is.1)
-room_settled (Err status) w waited waits stands_for out is = is
+pub room_settled : (r : Result (Unit {0}) Status) (state : State) (waited waits : List Event) (stands_for : State → Type 0) (out : List ℕ) → IsSettled r state waited waits stands_for out → HasRoom r state waited waits stands_for out
+room_settled (Ok u) state waited waits stands_for out is = (waited, sym (append-nil waited) ∙ ap (λ (l : List Event). waited ++ l) (sym is.0), is.1)
+room_settled (Err status) state waited waits stands_for out is = is
 
 pub room_in : {A : Type 0} (r : Result (Unit {0}) Status) (waits : List A) → OnOk r (waits ≡ []) → OnOk r (length waits < 256)
 room_in (Ok u) waits none = omega (arith, ap length none)
 room_in (Err status) waits none = tt
 
 -- a datagram waits behind those that still wait, or there was no memory for it
-pub arrived_room : (r : Result (Unit {0}) Status) (w : World) (waited mid waits prefix : List Event) (e : Event) (stands_for : World → Type 0) (out : List ℕ) → waited ≡ prefix ++ mid → OnOk r (waits ≡ mid ++ e ∷ [])
-    → IfErr r (λ status. status ≡ NoMemory) → IsStepped (Ok tt) w prefix stands_for out → HasRoom r w (waited ++ e ∷ []) waits stands_for out
-arrived_room (Ok u) w waited mid waits prefix e stands_for out split waits_are only stepped = (
+pub arrived_room : (r : Result (Unit {0}) Status) (state : State) (waited mid waits prefix : List Event) (e : Event) (stands_for : State → Type 0) (out : List ℕ) → waited ≡ prefix ++ mid → OnOk r (waits ≡ mid ++ e ∷ [])
+    → IfErr r (λ status. status ≡ NoMemory) → IsStepped (Ok tt) state prefix stands_for out → HasRoom r state (waited ++ e ∷ []) waits stands_for out
+arrived_room (Ok u) state waited mid waits prefix e stands_for out split waits_are only stepped = (
   prefix,
   ap (λ (l : List Event). l ++ e ∷ []) split ∙ append_assoc prefix mid (e ∷ []) ∙ ap (λ (l : List Event). prefix ++ l) (sym waits_are),
   stepped,
 )
-arrived_room (Err status) w waited mid waits prefix e stands_for out split waits_are only stepped =
-    subst (λ s. IsStepped (Err s) w (waited ++ e ∷ []) stands_for out) (sym only)
-    (prefix_all w waited (e ∷ []) out (subst (λ (es : List Event). IsPrefixOf out (output_from w es)) (sym split) (prefix_all w prefix mid out ([], sym stepped.0 ∙ sym (append-nil out)))))
+arrived_room (Err status) state waited mid waits prefix e stands_for out split waits_are only stepped =
+    subst (λ other. IsStepped (Err other) state (waited ++ e ∷ []) stands_for out) (sym only)
+    (prefix_all state waited (e ∷ []) out (subst (λ (es : List Event). IsPrefixOf out (text_from state es)) (sym split) (prefix_all state prefix mid out ([], sym stepped.0 ∙ sym (append-nil out)))))
 
 -- where there was no room
-pub room_cut : (status : Status) (w : World) (waited more : List Event) (stands_for : World → Type 0) (out : List ℕ) → IsStepped (Err status) w waited stands_for out → IsStepped (Err status) w (waited ++ more) stands_for out
-room_cut status w waited more stands_for out stepped =
-    let cut = stepped_prefix status w waited stands_for out stepped in
-    let prefix = prefix_all w waited more out cut.1 in
+pub room_cut : (status : Status) (state : State) (waited more : List Event) (stands_for : State → Type 0) (out : List ℕ) → IsStepped (Err status) state waited stands_for out → IsStepped (Err status) state (waited ++ more) stands_for out
+room_cut status state waited more stands_for out stepped =
+    let cut = stepped_prefix status state waited stands_for out stepped in
+    let prefix = prefix_all state waited more out cut.1 in
     either cut.0 prefix
   where
-    either : (status ≡ Write) ⊎ (status ≡ NoMemory) → IsPrefixOf out (output_from w (waited ++ more)) → IsStepped (Err status) w (waited ++ more) stands_for out
-    either (inl is) prefix = subst (λ s. IsStepped (Err s) w (waited ++ more) stands_for out) (sym is) prefix
-    either (inr is) prefix = subst (λ s. IsStepped (Err s) w (waited ++ more) stands_for out) (sym is) prefix
+    either : (status ≡ Write) ⊎ (status ≡ NoMemory) → IsPrefixOf out (text_from state (waited ++ more)) → IsStepped (Err status) state (waited ++ more) stands_for out
+    either (inl is) prefix = subst (λ other. IsStepped (Err other) state (waited ++ more) stands_for out) (sym is) prefix
+    either (inr is) prefix = subst (λ other. IsStepped (Err other) state (waited ++ more) stands_for out) (sym is) prefix
 
 -- ---- ticks
 
 -- what waited was told, and then the tick
-pub ticked : (r : Result (Unit {0}) Status) (w : World) (waited events : List Event) (stands_for : World → Type 0) (out out' : List ℕ) → out ≡ output_from w waited → IsStepped r (world_after w waited) events stands_for out'
-    → IsStepped r w (waited ++ events) stands_for (out ++ out')
-ticked (Ok u) w waited events stands_for out out' told stepped = (
-  (λ i. told i ++ stepped.0 i) ∙ sym (output_from-append w waited events),
-  subst stands_for (sym (world_after-append w waited events)) stepped.1,
+pub ticked : (r : Result (Unit {0}) Status) (state : State) (waited events : List Event) (stands_for : State → Type 0) (out out' : List ℕ) → out ≡ text_from state waited → IsStepped r (state_after state waited) events stands_for out'
+    → IsStepped r state (waited ++ events) stands_for (out ++ out')
+ticked (Ok u) state waited events stands_for out out' told stepped = (
+  (λ i. told i ++ stepped.0 i) ∙ sym (text_from-append state waited events),
+  subst stands_for (sym (state_after-append state waited events)) stepped.1,
 )
-ticked (Err status) w waited events stands_for out out' told stepped =
-    let cut = stepped_prefix status (world_after w waited) events stands_for out' stepped in
-    either cut.0 (subst (λ (o : List ℕ). IsPrefixOf (o ++ out') (output_from w (waited ++ events))) (sym told) (prefix_behind w waited events out' cut.1))
+ticked (Err status) state waited events stands_for out out' told stepped =
+    let cut = stepped_prefix status (state_after state waited) events stands_for out' stepped in
+    either cut.0 (subst (λ (o : List ℕ). IsPrefixOf (o ++ out') (text_from state (waited ++ events))) (sym told) (prefix_behind state waited events out' cut.1))
   where
-    either : (status ≡ Write) ⊎ (status ≡ NoMemory) → IsPrefixOf (out ++ out') (output_from w (waited ++ events)) → IsStepped (Err status) w (waited ++ events) stands_for (out ++ out')
-    either (inl is) prefix = subst (λ s. IsStepped (Err s) w (waited ++ events) stands_for (out ++ out')) (sym is) prefix
-    either (inr is) prefix = subst (λ s. IsStepped (Err s) w (waited ++ events) stands_for (out ++ out')) (sym is) prefix
+    either : (status ≡ Write) ⊎ (status ≡ NoMemory) → IsPrefixOf (out ++ out') (text_from state (waited ++ events)) → IsStepped (Err status) state (waited ++ events) stands_for (out ++ out')
+    either (inl is) prefix = subst (λ other. IsStepped (Err other) state (waited ++ events) stands_for (out ++ out')) (sym is) prefix
+    either (inr is) prefix = subst (λ other. IsStepped (Err other) state (waited ++ events) stands_for (out ++ out')) (sym is) prefix
 
 -- a tick that was taken, and nothing waits
-pub come : (r : Result (Unit {0}) Status) (now : ℕ) (w : World) (waited waits : List Event) (stands_for : World → Type 0) (out : List ℕ) → OnOk r (waits ≡ []) → IsStepped r w (waited ++ Signalled (Tick now) ∷ []) stands_for out
-    → HasCome r now w waited waits stands_for out
-come (Ok u) now w waited waits stands_for out none stepped =
+pub come : (r : Result (Unit {0}) Status) (now : ℕ) (state : State) (waited waits : List Event) (stands_for : State → Type 0) (out : List ℕ) → OnOk r (waits ≡ []) → IsStepped r state (waited ++ Signalled (Tick now) ∷ []) stands_for out
+    → HasCome r now state waited waits stands_for out
+come (Ok u) now state waited waits stands_for out none stepped =
     let all : List Event = waited ++ Signalled (Tick now) ∷ [] in
-    (all, same_alike w all (all ++ waits) (sym (append-nil all) ∙ ap (λ (l : List Event). all ++ l) (sym none)), stepped)
-come (Err status) now w waited waits stands_for out none stepped = stepped
+    (all, same_alike state all (all ++ waits) (sym (append-nil all) ∙ ap (λ (l : List Event). all ++ l) (sym none)), stepped)
+come (Err status) now state waited waits stands_for out none stepped = stepped
 
 -- ---- a signal that has its noise
 
-pub signal_played : (r : Result (Unit {0}) Status) (signal s : Signal) (draws : List ℕ) → IsSupplied (Ok s) signal draws → (w : World) (waited waits : List Event) (stands_for : World → Type 0) (out out' : List ℕ)
-    → waits ≡ [] → out ≡ output_from w waited → IsStepped r (world_after w waited) (events_of (lines.Signal s)) stands_for out' → IsPlayed r (lines.Signal signal) w waited waits stands_for draws (out ++ out')
-signal_played (Ok u) signal s draws has w waited waits stands_for out out' none told stepped = signal_taken signal s draws has w waited waits stands_for out out' none told stepped
-signal_played (Err status) signal s draws has w waited waits stands_for out out' none told stepped =
-    let prefix = stepped_prefix status (world_after w waited) (events_of (lines.Signal s)) stands_for out' stepped in
-    played_cut status (lines.Signal signal) w waited waits stands_for draws (out ++ out') prefix.0 (signal_cut signal s draws has w waited out out' told prefix.1)
+pub signal_played : (r : Result (Unit {0}) Status) (signal s : Signal) (draws : List ℕ) → IsSupplied (Ok s) signal draws → (state : State) (waited waits : List Event) (stands_for : State → Type 0) (out out' : List ℕ)
+    → waits ≡ [] → out ≡ text_from state waited → IsStepped r (state_after state waited) (events_of (lines.Signal s)) stands_for out' → IsPlayed r (lines.Signal signal) state waited waits stands_for draws (out ++ out')
+signal_played (Ok u) signal s draws has state waited waits stands_for out out' none told stepped = signal_taken signal s draws has state waited waits stands_for out out' none told stepped
+signal_played (Err status) signal s draws has state waited waits stands_for out out' none told stepped =
+    let prefix = stepped_prefix status (state_after state waited) (events_of (lines.Signal s)) stands_for out' stepped in
+    played_cut status (lines.Signal signal) state waited waits stands_for draws (out ++ out') prefix.0 (signal_cut signal s draws has state waited out out' told prefix.1)

@@ -2,11 +2,11 @@
 use Rattle.std.proofs.Common.{ℕ, List, ◌++◌, Result, Ok, Err, sym, ap, ◌∙◌}
 use Rattle.std.proofs.lemmas.List.{append-nil}
 use Rattle.sg_trace.specs.declared.status.Status.{Status}
+use Rattle.sg_front.specs.States.{State}
 use Rattle.sg_gateway.specs.Step.{Event}
-use Rattle.sg_gateway.specs.World.{World}
 use Rattle.sg_playback.specs.Playing.{HasRoom, IsSettled}
 
-pub has_room : (r : Result (Unit {0}) Status) (w : World) (waited waits : List Event) (stands_for : World → Type 0) (out : List ℕ)
-    → IsSettled r w waited waits stands_for out → HasRoom r w waited waits stands_for out
-has_room (Ok u) w waited waits stands_for out settled = (waited, sym (ap (λ (later : List Event). waited ++ later) settled.0 ∙ append-nil waited), settled.1)
-has_room (Err status) w waited waits stands_for out settled = settled
+pub has_room : (r : Result (Unit {0}) Status) (state : State) (waited waits : List Event) (stands_for : State → Type 0) (out : List ℕ)
+    → IsSettled r state waited waits stands_for out → HasRoom r state waited waits stands_for out
+has_room (Ok u) state waited waits stands_for out settled = (waited, sym (ap (λ (later : List Event). waited ++ later) settled.0 ∙ append-nil waited), settled.1)
+has_room (Err status) state waited waits stands_for out settled = settled

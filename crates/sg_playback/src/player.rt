@@ -4,34 +4,34 @@ ghost use Rattle.std.specs.Prelude.{◌≡◌, ◌≢◌, ◌≤◌, ◌<◌, �
 ghost use Rattle.sg_trace.specs.Causes.{HasFailed, IsCaused};
 ghost use Rattle.sg_edge.specs.Links.{Added};
 ghost use Rattle.sg_edge.specs.Told.{Wrote};
+ghost use Rattle.sg_front.specs.States.{FrontStandsFor, IsTold, State, start};
 ghost use Rattle.sg_gateway.specs.Events.{events_of_signal, signal_lacks_noise};
 ghost use Rattle.sg_gateway.specs.Octets.{as_octets};
 ghost use Rattle.sg_gateway.specs.Signals.{Tick};
 ghost use Rattle.sg_gateway.specs.Step.{Datagram, Signalled};
-ghost use Rattle.sg_gateway.specs.World.{World, empty};
 ghost use Rattle.sg_lines.specs.LineText.{FitsLine};
 ghost use Rattle.sg_lines.specs.declared.lines.Line.TheVariants as lines;
 ghost use Rattle.sg_playback.specs.Playing.{HasCome, HasRoom, IsClosed, IsPlayed, IsSettled, IsStepped, IsWant, tells_waiting, waiting};
-ghost use Rattle.sg_table.specs.Standing.{TableStandsFor};
-ghost use Rattle.sg_table.specs.Telling.{IsTimely, IsTold};
+ghost use Rattle.sg_table.specs.Telling.{IsTimely};
 
 use crate::writing::{tell_all, tell_ends};
 use sg_base::{Address, BATCH_MOST, NoMemory, Pad};
 use sg_edge::{Noise, Sink};
+use sg_front::Front;
 use sg_lanes::Gate;
 use sg_lines::{Line, Signal};
-use sg_table::{Arrival, Table};
+use sg_table::Arrival;
 use sg_trace::{Status, supply};
 use std::alloc::Global;
 use std::marker::Model;
 use std::mem;
 use std::thread::Threads;
 
-/// Plays the lines of a script, or ticks and datagrams one by one. It is seen as a table, and the datagrams that
+/// Plays the lines of a script, or ticks and datagrams one by one. It is seen as a front, and the datagrams that
 /// wait for their batch, in order of arrival.
 #[derive(Drop)]
 pub struct Player {
-    table: Table,
+    front: Front,
     /// How many workers share out a batch.
     workers: usize,
     arrivals: Vec<Arrival>,
@@ -47,19 +47,19 @@ impl Model for Player {
 
     ghost Value = { Playing };
 
-    ghost view = { λ p. record { table = p.table; waits = p.arrivals.items } };
+    ghost view = { λ p. record { front = p.front; waits = p.arrivals.items } };
 
     ghost invariant = { λ p. (0 < p.workers) × (length p.arrivals.items ≤ 256) × All (λ a. IsSome a.pad) p.arrivals.items };
 }
 
 impl Player {
-    /// An empty table, and no datagram waits.
-    pub fn make(alloc: Global, workers: usize) -> Result<Player, NoMemory>
+    /// A front without calls, whose legs may share their ports or may not, and no datagram waits.
+    pub fn make(alloc: Global, workers: usize, muxes: bool) -> Result<Player, NoMemory>
         requires { 0 < workers }
-        ensures { IfOk result (λ player. TableStandsFor player.table empty × (player.waits ≡ [])) }
+        ensures { IfOk result (λ player. FrontStandsFor player.front (start muxes) × (player.waits ≡ [])) }
     {
         Ok(Player {
-            table: Table::make(alloc)?,
+            front: Front::make(alloc, muxes)?,
             workers,
             arrivals: Vec::new(alloc),
             spare: Vec::new(alloc),
@@ -80,9 +80,9 @@ impl Player {
         gate: &G,
     ) -> Result<(), Status>
         requires { (version number : ℕ) × FitsLine version number line }
-        ensures played { (w : World) → TableStandsFor self.old.table w → (draws out : List ℕ)
+        ensures played { (s : State) → FrontStandsFor self.old.front s → (draws out : List ℕ)
             × Added (N.given noise.old) (N.given noise.new) draws × Wrote (K.written sink.old) (K.written sink.new) out
-            × IsPlayed result line w (waiting self.old) (waiting self.new) (TableStandsFor self.new.table) draws out }
+            × IsPlayed result line s (waiting self.old) (waiting self.new) (FrontStandsFor self.new.front) draws out }
         ensures write { IsCaused Status.Write result (K.faults sink.old) (K.faults sink.new) (K.failed sink.new) }
         ensures noise { IsCaused Status.Noise result (N.faults noise.old) (N.faults noise.new) (N.failed noise.new) }
     {
@@ -118,9 +118,9 @@ impl Player {
         gate: &G,
     ) -> Result<(), Status>
         requires { IsTimely signal }
-        ensures played { (w : World) → TableStandsFor self.old.table w → (draws out : List ℕ)
+        ensures played { (s : State) → FrontStandsFor self.old.front s → (draws out : List ℕ)
             × Added (N.given noise.old) (N.given noise.new) draws × Wrote (K.written sink.old) (K.written sink.new) out
-            × IsPlayed result (lines.Signal signal) w (waiting self.old) (waiting self.new) (TableStandsFor self.new.table) draws out }
+            × IsPlayed result (lines.Signal signal) s (waiting self.old) (waiting self.new) (FrontStandsFor self.new.front) draws out }
         ensures write { IsCaused Status.Write result (K.faults sink.old) (K.faults sink.new) (K.failed sink.new) }
         ensures noise { IsCaused Status.Noise result (N.faults noise.old) (N.faults noise.new) (N.failed noise.new) }
     {
@@ -145,12 +145,12 @@ impl Player {
         gate: &G,
     ) -> Result<(), Status>
         requires { now ≤ 2085978495999 }
-        ensures came { (w : World) → TableStandsFor self.old.table w → (out : List ℕ)
-            × Wrote (K.written sink.old) (K.written sink.new) out × HasCome result now w (waiting self.old) (waiting self.new) (TableStandsFor self.new.table) out }
+        ensures came { (s : State) → FrontStandsFor self.old.front s → (out : List ℕ)
+            × Wrote (K.written sink.old) (K.written sink.new) out × HasCome result now s (waiting self.old) (waiting self.new) (FrontStandsFor self.new.front) out }
         ensures only { IfErr result (λ status. IsWant status) }
         ensures write { IsCaused Status.Write result (K.faults sink.old) (K.faults sink.new) (K.failed sink.new) }
     {
-        if self.line_moment == Some(now) && self.table.moment() == now {
+        if self.line_moment == Some(now) && self.front.moment() == now {
             return Ok(());
         }
         self.line_moment = Some(now);
@@ -167,9 +167,9 @@ impl Player {
         gate: &G,
     ) -> Result<(), Status>
         requires { now ≤ 2085978495999 }
-        ensures ticked { (w : World) → TableStandsFor self.old.table w → (out : List ℕ)
+        ensures ticked { (s : State) → FrontStandsFor self.old.front s → (out : List ℕ)
             × Wrote (K.written sink.old) (K.written sink.new) out
-            × IsStepped result w (waiting self.old ++ Signalled (Tick now) ∷ []) (TableStandsFor self.new.table) out }
+            × IsStepped result s (waiting self.old ++ Signalled (Tick now) ∷ []) (FrontStandsFor self.new.front) out }
         ensures none { OnOk result (self.new.waits ≡ []) }
         ensures only { IfErr result (λ status. IsWant status) }
         ensures write { IsCaused Status.Write result (K.faults sink.old) (K.faults sink.new) (K.failed sink.new) }
@@ -183,9 +183,9 @@ impl Player {
 
     /// The last moment, in milliseconds since 1970; 0 before the first tick.
     pub fn moment(&self) -> u64
-        ensures { result ≡ self.now.table.moment }
+        ensures { result ≡ self.now.front.table.moment }
     {
-        self.table.moment()
+        self.front.moment()
     }
 
     /// A datagram of at most 4,352 octets waits for its batch; where the batch is full, that is handled and told first.
@@ -201,9 +201,9 @@ impl Player {
         gate: &G,
     ) -> Result<(), Status>
         requires { length octets.now ≤ 4352 }
-        ensures came { (w : World) → TableStandsFor self.old.table w → (out : List ℕ)
+        ensures came { (s : State) → FrontStandsFor self.old.front s → (out : List ℕ)
             × Wrote (K.written sink.old) (K.written sink.new) out
-            × HasRoom result w (waiting self.old ++ Datagram port from (as_octets octets.now) ∷ []) (waiting self.new) (TableStandsFor self.new.table) out }
+            × HasRoom result s (waiting self.old ++ Datagram port from (as_octets octets.now) ∷ []) (waiting self.new) (FrontStandsFor self.new.front) out }
         ensures only { IfErr result (λ status. IsWant status) }
         ensures write { IsCaused Status.Write result (K.faults sink.old) (K.faults sink.new) (K.failed sink.new) }
     {
@@ -222,8 +222,8 @@ impl Player {
         sink: &mut K,
         gate: &G,
     ) -> Result<(), Status>
-        ensures made { (w : World) → TableStandsFor self.old.table w → (out : List ℕ)
-            × Wrote (K.written sink.old) (K.written sink.new) out × HasRoom result w (waiting self.old) (waiting self.new) (TableStandsFor self.new.table) out }
+        ensures made { (s : State) → FrontStandsFor self.old.front s → (out : List ℕ)
+            × Wrote (K.written sink.old) (K.written sink.new) out × HasRoom result s (waiting self.old) (waiting self.new) (FrontStandsFor self.new.front) out }
         ensures room { OnOk result (length self.new.waits < 256) }
         ensures only { IfErr result (λ status. IsWant status) }
         ensures write { IsCaused Status.Write result (K.faults sink.old) (K.faults sink.new) (K.failed sink.new) }
@@ -242,8 +242,8 @@ impl Player {
         sink: &mut K,
         gate: &G,
     ) -> Result<(), Status>
-        ensures settled { (w : World) → TableStandsFor self.old.table w → (out : List ℕ)
-            × Wrote (K.written sink.old) (K.written sink.new) out × IsSettled result w (waiting self.old) (waiting self.new) (TableStandsFor self.new.table) out }
+        ensures settled { (s : State) → FrontStandsFor self.old.front s → (out : List ℕ)
+            × Wrote (K.written sink.old) (K.written sink.new) out × IsSettled result s (waiting self.old) (waiting self.new) (FrontStandsFor self.new.front) out }
         ensures none { OnOk result (self.new.waits ≡ []) }
         ensures only { IfErr result (λ status. IsWant status) }
         ensures write { IsCaused Status.Write result (K.faults sink.old) (K.faults sink.new) (K.failed sink.new) }
@@ -253,7 +253,7 @@ impl Player {
         }
         let mut arrivals = mem::replace(&mut self.arrivals, Vec::new(alloc));
         let workers = self.workers.min(arrivals.len());
-        self.table.batch(rt, arrivals.as_mut_slice(), workers, gate);
+        self.front.batch(rt, arrivals.as_mut_slice(), workers, gate);
         match tell_ends(alloc, &arrivals, sink) {
             Err(status) => return Err(status),
             Ok(()) => {}
@@ -274,8 +274,8 @@ impl Player {
         gate: &G,
     ) -> Status
         requires { end ≢ Status.Write }
-        ensures closed { (w : World) → TableStandsFor self.old.table w → (out : List ℕ)
-            × Wrote (K.written sink.old) (K.written sink.new) out × IsClosed end result w (waiting self.old) out }
+        ensures closed { (s : State) → FrontStandsFor self.old.front s → (out : List ℕ)
+            × Wrote (K.written sink.old) (K.written sink.new) out × IsClosed end result s (waiting self.old) out }
         ensures write { HasFailed (result ≡ Status.Write) (K.faults sink.old) (K.faults sink.new) (K.failed sink.new) }
     {
         if !tells_waiting(end) {
@@ -292,7 +292,7 @@ impl Player {
         requires room { length self.old.waits < 256 }
         requires short { length octets.now ≤ 4352 }
         ensures waits { OnOk result (waiting self.new ≡ waiting self.old ++ Datagram port from (as_octets octets.now) ∷ []) }
-        ensures table { self.new.table ≡ self.old.table }
+        ensures front { self.new.front ≡ self.old.front }
         ensures only { IfErr result (λ status. status ≡ Status.NoMemory) }
     {
         let mut pad = match self.take_pad(alloc) {
@@ -325,12 +325,12 @@ impl Player {
     /// Takes a signal that is a tick and tells nothing; else nothing is done, and it is false.
     fn passes_quietly(&mut self, signal: &Signal) -> bool
         requires { IsTimely signal.now }
-        ensures told { result ≡ true → (w : World) → TableStandsFor self.old.table w → IsTold [] self.new.table w (events_of_signal signal.now) }
-        ensures same { result ≡ false → self.new.table ≡ self.old.table }
+        ensures told { result ≡ true → (s : State) → FrontStandsFor self.old.front s → IsTold [] self.new.front s (events_of_signal signal.now) }
+        ensures same { result ≡ false → self.new.front ≡ self.old.front }
         ensures waits { self.new.waits ≡ self.old.waits }
     {
         match signal {
-            Signal::Tick { now } => self.table.tick_quietly(*now),
+            Signal::Tick { now } => self.front.tick_quietly(*now),
             _ => false,
         }
     }
@@ -339,8 +339,8 @@ impl Player {
     fn step<K: Sink>(&mut self, alloc: Global, signal: &Signal, sink: &mut K) -> Result<(), Status>
         requires ready { signal_lacks_noise signal.now ≡ false }
         requires timely { IsTimely signal.now }
-        ensures stepped { (w : World) → TableStandsFor self.old.table w → (out : List ℕ)
-            × Wrote (K.written sink.old) (K.written sink.new) out × IsStepped result w (events_of_signal signal.now) (TableStandsFor self.new.table) out }
+        ensures stepped { (s : State) → FrontStandsFor self.old.front s → (out : List ℕ)
+            × Wrote (K.written sink.old) (K.written sink.new) out × IsStepped result s (events_of_signal signal.now) (FrontStandsFor self.new.front) out }
         ensures waits { self.new.waits ≡ self.old.waits }
         ensures only { IfErr result (λ status. IsWant status) }
         ensures write { IsCaused Status.Write result (K.faults sink.old) (K.faults sink.new) (K.failed sink.new) }
@@ -348,7 +348,7 @@ impl Player {
         if self.passes_quietly(signal) {
             return Ok(());
         }
-        let told = match self.table.step(alloc, signal) {
+        let told = match self.front.step(alloc, signal) {
             Err(NoMemory) => return Err(Status::NoMemory),
             Ok(told) => told,
         };

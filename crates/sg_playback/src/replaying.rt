@@ -3,9 +3,8 @@
 ghost use Rattle.std.specs.Prelude.{◌≡◌, ◌<◌, ◌≤◌, ◌+◌, ◌^◌, ℕ, List, []};
 ghost use Rattle.sg_trace.specs.Causes.{HasFailed};
 ghost use Rattle.sg_edge.specs.Told.{Rose};
-ghost use Rattle.sg_gateway.specs.World.{empty};
+ghost use Rattle.sg_front.specs.States.{FrontStandsFor, start};
 ghost use Rattle.sg_playback.specs.Replay.{IsComplete, IsReplay};
-ghost use Rattle.sg_table.specs.Standing.{TableStandsFor};
 
 use crate::player::Player;
 use sg_base::NoMemory;
@@ -15,15 +14,17 @@ use sg_trace::{ScriptReader, Status};
 use std::alloc::Global;
 use std::thread::Threads;
 
-/// Plays the script of the source: its lines in order, from an empty table, and what they tell is written to
-/// the sink. In a script of version 2 a tick to its moment comes before a datagram. Consecutive datagram lines form
-/// batches of at most 256, which in version 2 also end before a line whose moment isn't that of the line before.
-/// The workers share out a batch, each of them passing the gate; what is written is the same for every number of
-/// workers and every gate. Where a signal lacks its noise, 304 octets are drawn.
+/// Plays the script of the source: its lines in order, from a table without calls, and what they tell is written to
+/// the sink. With `muxes` legs share their ports where their descriptions agree on it (RFC 5761). In a script of version
+/// 2 a tick to its moment comes before a datagram. Consecutive datagram lines form batches of at most 256, which in
+/// version 2 also end before a line whose moment isn't that of the line before. The workers share out a batch, each of
+/// them passing the gate; what is written is the same for every number of workers and every gate. Where a signal lacks
+/// its noise, 304 octets are drawn.
 pub fn replay<R: Threads + Sync, S: Source, K: Sink, N: Noise, G: Gate + Sync>(
     rt: &R,
     alloc: Global,
     workers: usize,
+    muxes: bool,
     source: &mut S,
     sink: &mut K,
     noise: &mut N,
@@ -31,7 +32,7 @@ pub fn replay<R: Threads + Sync, S: Source, K: Sink, N: Noise, G: Gate + Sync>(
 ) -> Status
     requires { 0 < workers }
     ensures ran { (octets draws out : List ℕ)
-        × IsReplay result
+        × IsReplay muxes result
         (record { left = S.left source.old; written = K.written sink.old; drawn = N.given noise.old })
         (record { left = S.left source.new; written = K.written sink.new; drawn = N.given noise.new })
         octets draws out }
@@ -42,13 +43,13 @@ pub fn replay<R: Threads + Sync, S: Source, K: Sink, N: Noise, G: Gate + Sync>(
     ensures complete { ¬ Rose (S.faults source.old) (S.faults source.new) → ¬ Rose (K.faults sink.old) (K.faults sink.new) → ¬ Rose (N.faults noise.old) (N.faults noise.new)
         → IsComplete result (S.left source.old) (S.left source.new) }
 {
-    match Player::make(alloc, workers) {
+    match Player::make(alloc, workers, muxes) {
         Err(NoMemory) => Status::NoMemory,
         Ok(mut player) => play_script(rt, alloc, &mut player, source, sink, noise, gate),
     }
 }
 
-/// The same by a player whose table is empty.
+/// The same by a player that has played nothing.
 fn play_script<R: Threads + Sync, S: Source, K: Sink, N: Noise, G: Gate + Sync>(
     rt: &R,
     alloc: Global,
@@ -58,9 +59,9 @@ fn play_script<R: Threads + Sync, S: Source, K: Sink, N: Noise, G: Gate + Sync>(
     noise: &mut N,
     gate: &G,
 ) -> Status
-    requires { TableStandsFor player.old.table empty × (player.old.waits ≡ []) }
+    requires { FrontStandsFor player.old.front (start player.old.front.muxes) × (player.old.waits ≡ []) }
     ensures ran { (octets draws out : List ℕ)
-        × IsReplay result
+        × IsReplay player.old.front.muxes result
         (record { left = S.left source.old; written = K.written sink.old; drawn = N.given noise.old })
         (record { left = S.left source.new; written = K.written sink.new; drawn = N.given noise.new })
         octets draws out }

@@ -2,16 +2,14 @@ use Rattle.std.proofs.Common.{rules, ◌≡◌, ◌⊎◌, ◌+◌, ◌^◌, ℕ
 use Rattle.sg_capture.proofs.Scripts.{begins, behind_script, bounded, close_not, closed_at_end, closed_at_err, done_not, ends_played, goes_on, played_not_read, took_all}
 use Rattle.sg_edge.proofs.Links.{added_more}
 use Rattle.sg_edge.proofs.Passed.{wrote_more}
-use Rattle.sg_gateway.specs.Runs.{world_after}
+use Rattle.sg_front.proofs.Sequences.{state_after-append}
+use Rattle.sg_front.specs.States.{FrontStandsFor, start, state_after}
 use Rattle.sg_gateway.specs.Step.{Event}
-use Rattle.sg_gateway.specs.World.{empty}
-use Rattle.sg_playback.specs.Playing.{waiting}
+use Rattle.sg_playback.specs.Playing.{text_from, waiting}
 use Rattle.sg_table.specs.Batches.{arrived}
-use Rattle.sg_table.specs.Standing.{TableStandsFor}
 use Rattle.sg_trace.proofs.Causes.{failed_as, failed_now, not_failed, ok_not}
-use Rattle.sg_trace.proofs.Traces.{whole_some, world_after-append}
+use Rattle.sg_trace.proofs.Traces.{whole_some}
 use Rattle.sg_trace.specs.Finding.{FitsFound, IsCaptureLine, IsFound}
-use Rattle.sg_trace.specs.Output.{output}
 use Rattle.sg_trace.specs.Reading.{IsRead, Reading}
 use Rattle.sg_trace.specs.Trace.{Captures, begins_capture}
 use Rattle.sg_trace.specs.declared.script_reader.Found.TheVariants as founds
@@ -23,14 +21,14 @@ pub returns-in-Err-clause-ran : goal.returns-in-Err-clause-ran
 returns-in-Err-clause-ran g c =
     let so_far = c.lines.invariant.0 in
     let got = c.in-Err.ensures.found in
-    let closed = c.close.ensures.closed (world_after empty so_far.2) so_far.5 in (
+    let closed = c.close.ensures.closed (state_after (start false) so_far.2) so_far.5 in (
       so_far.0 ++ (c.lines.script.waits ++ got.0),
       so_far.1,
-      output so_far.2 ++ closed.0,
+      text_from (start false) so_far.2 ++ closed.0,
       record {
         took = took_all _ _ so_far.0 so_far.1 so_far.2 (waiting c.lines.player) c.lines.script so_far.3 _ got.0 got.1;
         drew = so_far.3.drew;
-        wrote = wrote_more _ _ _ (output so_far.2) closed.0 so_far.3.wrote closed.1;
+        wrote = wrote_more _ _ _ (text_from (start false) so_far.2) closed.0 so_far.3.wrote closed.1;
         ends = closed_at_err _ _ so_far.0 so_far.1 so_far.2 (waiting c.lines.player) c.lines.script so_far.3 _ got.0 got.1 c.in-Err.status c.close.result _ closed.0 got.2 closed.2;
         bound = bounded so_far.0 c.lines.script.waits got.0 c.lines.script.offset _ _ so_far.4 c.lines.invariant.1 got.3;
       },
@@ -42,14 +40,14 @@ returns-in-Ok-End-clause-ran g c =
     let got = c.in-Ok-End.ensures.found in
     let next : IsFound (Ok founds.End) c.lines.script c.next_or_capture.new.self got.0 (g.S.Source.left c.next_or_capture.new.source) =
     subst (λ r. IsFound (Ok r) c.lines.script c.next_or_capture.new.self got.0 (g.S.Source.left c.next_or_capture.new.source)) c.in-Ok-End.field-0-is got.2 in
-    let closed = c.close-in-Ok-End.ensures.closed (world_after empty so_far.2) so_far.5 in (
+    let closed = c.close-in-Ok-End.ensures.closed (state_after (start false) so_far.2) so_far.5 in (
       so_far.0 ++ (c.lines.script.waits ++ got.0),
       so_far.1,
-      output so_far.2 ++ closed.0,
+      text_from (start false) so_far.2 ++ closed.0,
       record {
         took = took_all _ _ so_far.0 so_far.1 so_far.2 (waiting c.lines.player) c.lines.script so_far.3 _ got.0 got.1;
         drew = so_far.3.drew;
-        wrote = wrote_more _ _ _ (output so_far.2) closed.0 so_far.3.wrote closed.1;
+        wrote = wrote_more _ _ _ (text_from (start false) so_far.2) closed.0 so_far.3.wrote closed.1;
         ends = closed_at_end _ _ so_far.0 so_far.1 so_far.2 (waiting c.lines.player) c.lines.script so_far.3 _ got.0 got.1 c.close-in-Ok-End.result closed.0 next.0
             (end_so next.1 (λ far. omega (arith, far, c.lines.invariant.2))) closed.2;
         bound = bounded so_far.0 c.lines.script.waits got.0 c.lines.script.offset _ _ so_far.4 c.lines.invariant.1 got.3;
@@ -66,13 +64,13 @@ returns-in-Ok-Capture-clause-ran g c =
     let got = c.in-Ok-Capture.ensures.found in
     let found : IsCaptureLine c.lines.script c.next_or_capture.new.self got.0 =
     subst (λ r. IsFound (Ok r) c.lines.script c.next_or_capture.new.self got.0 (g.S.Source.left c.next_or_capture.new.source)) c.in-Ok-Capture.field-0-is got.2 in
-    let settled = c.settle.ensures.settled (world_after empty so_far.2) so_far.5 in (
+    let settled = c.settle.ensures.settled (state_after (start false) so_far.2) so_far.5 in (
       so_far.0 ++ (c.lines.script.waits ++ got.0),
       so_far.1,
-      output so_far.2 ++ settled.0,
+      text_from (start false) so_far.2 ++ settled.0,
       behind_script _ _ so_far.0 so_far.1 so_far.2 (waiting c.lines.player) c.lines.script so_far.3 _ got.0 got.1 c.next_or_capture.new.self found so_far.4
           (omega (arith, so_far.4, got.3, c.lines.invariant.1, length-append so_far.0 (c.lines.script.waits ++ got.0), length-append c.lines.script.waits got.0))
-          _ c.settle.result (waiting c.settle.new.self) (TableStandsFor c.settle.new.self.table) settled.0 settled.2 settled.1,
+          _ c.settle.result (waiting c.settle.new.self) (FrontStandsFor c.settle.new.self.front) settled.0 settled.2 settled.1,
     )
 
 pub returns-in-Err-play-clause-ran : goal.returns-in-Err-play-clause-ran
@@ -81,16 +79,16 @@ returns-in-Err-play-clause-ran g c =
     let got = c.in-Ok-Line.ensures.found in
     let found : (read : IsRead c.in-Ok-Line.line c.lines.script c.next_or_capture.new.self got.0) × (begins_capture Captures c.lines.script.number c.lines.script.offset read.line ≡ false) =
     subst (λ r. IsFound (Ok r) c.lines.script c.next_or_capture.new.self got.0 (g.S.Source.left c.next_or_capture.new.source)) c.in-Ok-Line.field-0-is got.2 in
-    let played = c.in-Err-play.ensures.played (world_after empty so_far.2) so_far.5 in (
+    let played = c.in-Err-play.ensures.played (state_after (start false) so_far.2) so_far.5 in (
       so_far.0 ++ (c.lines.script.waits ++ got.0),
       so_far.1 ++ played.0,
-      output so_far.2 ++ played.1,
+      text_from (start false) so_far.2 ++ played.1,
       record {
         took = took_all _ _ so_far.0 so_far.1 so_far.2 (waiting c.lines.player) c.lines.script so_far.3 _ got.0 got.1;
         drew = added_more _ _ _ so_far.1 played.0 so_far.3.drew played.2;
-        wrote = wrote_more _ _ _ (output so_far.2) played.1 so_far.3.wrote played.3;
+        wrote = wrote_more _ _ _ (text_from (start false) so_far.2) played.1 so_far.3.wrote played.3;
         ends = ends_played _ _ so_far.0 so_far.1 so_far.2 (waiting c.lines.player) c.lines.script so_far.3 _ got.0 got.1 c.in-Ok-Line.line c.next_or_capture.new.self found.0 found.1 c.in-Err-play.status _
-            (TableStandsFor c.play.new.self.table) played.0 played.1 played.4;
+            (FrontStandsFor c.play.new.self.front) played.0 played.1 played.4;
         bound = bounded so_far.0 c.lines.script.waits got.0 c.lines.script.offset _ _ so_far.4 c.lines.invariant.1 got.3;
       },
     )
@@ -110,14 +108,14 @@ lines-preserved g c =
     let found : (read : IsRead c.in-Ok-Line.line c.lines.script c.next_or_capture.new.self got.0) × (begins_capture Captures c.lines.script.number c.lines.script.offset read.line ≡ false) =
     subst (λ r. IsFound (Ok r) c.lines.script c.next_or_capture.new.self got.0 (g.S.Source.left c.next_or_capture.new.source)) c.in-Ok-Line.field-0-is got.2 in
     let read = found.0 in
-    let played = c.in-Ok.ensures.played (world_after empty so_far.2) so_far.5 in (
+    let played = c.in-Ok.ensures.played (state_after (start false) so_far.2) so_far.5 in (
       (
         so_far.0 ++ read.line,
         so_far.1 ++ played.0,
         so_far.2 ++ played.4.prefix,
         goes_on _ _ so_far.0 so_far.1 so_far.2 (waiting c.lines.player) c.lines.script so_far.3 _ got.0 got.1 c.in-Ok-Line.line c.next_or_capture.new.self read found.1 _ _ _ _ played.0 played.1 played.4 played.2 played.3,
         omega (arith, so_far.4, read.offset, length-append so_far.0 read.line),
-        subst (TableStandsFor c.play.new.self.table) (sym (world_after-append empty so_far.2 played.4.prefix)) played.4.stands,
+        subst (FrontStandsFor c.play.new.self.front) (sym (state_after-append (start false) so_far.2 played.4.prefix)) played.4.stands,
       ),
       omega (arith, read.offset, got.3, c.lines.invariant.1, length-append c.lines.script.waits got.0, ap length read.split, length-append read.line c.next_or_capture.new.self.waits),
       read.within,
@@ -138,7 +136,7 @@ lines-init g c =
         es,
         begins _ (waiting c.args.player.now) c.args.script.now (ap (map arrived) c.requires.waits) c.requires.start,
         sym (ap (λ (s : Reading). s.offset) c.requires.start),
-        c.requires.table,
+        c.requires.front,
       ),
       search rules,
       search rules,
@@ -164,35 +162,35 @@ pub returns-in-Err-clause-read : goal.returns-in-Err-clause-read
 returns-in-Err-clause-read g c =
     let so_far = c.lines.invariant.0 in
     let got = c.in-Err.ensures.found in
-    let closed = c.close.ensures.closed (world_after empty so_far.2) so_far.5 in
-    let same = close_not c.in-Err.status c.close.result c.lines.script c.next_or_capture.new.self got.0 (g.S.Source.left c.next_or_capture.new.source) (world_after empty so_far.2) (waiting c.lines.player) closed.0 got.2 closed.2 in
+    let closed = c.close.ensures.closed (state_after (start false) so_far.2) so_far.5 in
+    let same = close_not c.in-Err.status c.close.result c.lines.script c.next_or_capture.new.self got.0 (g.S.Source.left c.next_or_capture.new.source) (state_after (start false) so_far.2) (waiting c.lines.player) closed.0 got.2 closed.2 in
     failed_now _ _ _ _ _ c.lines.invariant.3 (failed_as _ _ _ _ _ (λ is. ap Err (same.0 (err_so _ _ is))) (λ is. ap Err (same.1 (let told : c.in-Err.status ≡ Read = cc in told))) c.in-Err.ensures.cause)
 
 pub returns-in-Err-clause-noise : goal.returns-in-Err-clause-noise
 returns-in-Err-clause-noise g c =
     let so_far = c.lines.invariant.0 in
     let got = c.in-Err.ensures.found in
-    let closed = c.close.ensures.closed (world_after empty so_far.2) so_far.5 in
-    let same = close_not c.in-Err.status c.close.result c.lines.script c.next_or_capture.new.self got.0 (g.S.Source.left c.next_or_capture.new.source) (world_after empty so_far.2) (waiting c.lines.player) closed.0 got.2 closed.2 in
+    let closed = c.close.ensures.closed (state_after (start false) so_far.2) so_far.5 in
+    let same = close_not c.in-Err.status c.close.result c.lines.script c.next_or_capture.new.self got.0 (g.S.Source.left c.next_or_capture.new.source) (state_after (start false) so_far.2) (waiting c.lines.player) closed.0 got.2 closed.2 in
     not_failed _ _ _ _ c.lines.invariant.5 (λ is. same.2 (err_so _ _ is))
 
 pub returns-in-Ok-End-clause-read : goal.returns-in-Ok-End-clause-read
 returns-in-Ok-End-clause-read g c =
     let so_far = c.lines.invariant.0 in
-    let closed = c.close-in-Ok-End.ensures.closed (world_after empty so_far.2) so_far.5 in
+    let closed = c.close-in-Ok-End.ensures.closed (state_after (start false) so_far.2) so_far.5 in
     not_failed _ _ _ _ (c.in-Ok-End.ensures.cause.quiet (λ is. ok_not _ _ is) ∙ c.lines.invariant.3)
-    (λ is. done_not c.close-in-Ok-End.result Read (world_after empty so_far.2) (waiting c.lines.player) closed.0 closed.2 (λ is. cc) (λ is. cc) (λ is. cc) (err_so _ _ is))
+    (λ is. done_not c.close-in-Ok-End.result Read (state_after (start false) so_far.2) (waiting c.lines.player) closed.0 closed.2 (λ is. cc) (λ is. cc) (λ is. cc) (err_so _ _ is))
 
 pub returns-in-Ok-End-clause-noise : goal.returns-in-Ok-End-clause-noise
 returns-in-Ok-End-clause-noise g c =
     let so_far = c.lines.invariant.0 in
-    let closed = c.close-in-Ok-End.ensures.closed (world_after empty so_far.2) so_far.5 in
+    let closed = c.close-in-Ok-End.ensures.closed (state_after (start false) so_far.2) so_far.5 in
     not_failed _ _ _ _ c.lines.invariant.5
-    (λ is. done_not c.close-in-Ok-End.result Noise (world_after empty so_far.2) (waiting c.lines.player) closed.0 closed.2 (λ is. cc) (λ is. cc) (λ is. cc) (err_so _ _ is))
+    (λ is. done_not c.close-in-Ok-End.result Noise (state_after (start false) so_far.2) (waiting c.lines.player) closed.0 closed.2 (λ is. cc) (λ is. cc) (λ is. cc) (err_so _ _ is))
 
 pub returns-in-Err-play-clause-read : goal.returns-in-Err-play-clause-read
 returns-in-Err-play-clause-read g c =
     let so_far = c.lines.invariant.0 in
-    let played = c.in-Err-play.ensures.played (world_after empty so_far.2) so_far.5 in
+    let played = c.in-Err-play.ensures.played (state_after (start false) so_far.2) so_far.5 in
     not_failed _ _ _ _ (c.in-Ok-Line.ensures.cause.quiet (λ is. ok_not _ _ is) ∙ c.lines.invariant.3)
-    (λ is. played_not_read c.in-Err-play.status c.in-Ok-Line.line (world_after empty so_far.2) (waiting c.lines.player) _ _ played.0 played.1 played.4 (err_so _ _ is))
+    (λ is. played_not_read c.in-Err-play.status c.in-Ok-Line.line (state_after (start false) so_far.2) (waiting c.lines.player) _ _ played.0 played.1 played.4 (err_so _ _ is))

@@ -1,13 +1,12 @@
 use Rattle.std.proofs.Common.{◌≡◌, ◌≤◌, ◌-◌, ◌^◌, ◌++◌, ℕ, List, [], length, map, Result, Err, refl, sym, ap, subst, arith}
 use Rattle.sg_capture.proofs.Compositions.{composed, ends_not_noise}
-use Rattle.sg_capture.specs.Meeting.{EndsReading}
+use Rattle.sg_capture.specs.Meeting.{EndsReading, StandsFor}
 use Rattle.sg_gateway.specs.Runs.{world_after}
 use Rattle.sg_gateway.specs.Step.{Event}
 use Rattle.sg_gateway.specs.World.{World, empty}
 use Rattle.sg_pcap.specs.Capture.{capture_of}
 use Rattle.sg_playback.specs.Playing.{waiting}
 use Rattle.sg_table.specs.Batches.{arrived}
-use Rattle.sg_table.specs.Standing.{TableStandsFor}
 use Rattle.sg_trace.proofs.Causes.{failed_as, failed_now, not_failed, ok_not}
 use Rattle.sg_trace.specs.CaptureReading.{Capturing}
 use Rattle.sg_trace.specs.declared.status.Status.{Status}
@@ -43,7 +42,7 @@ returns-in-Ok-clause-ran g c =
     let r = then.3 w so_far.stands in
     let left = g.S.Source.left c.play_capture.new.source in
     let script = c.play_lines.new.script in
-    let last : ℕ = c.play_lines.new.player.table.moment in
+    let last : ℕ = c.play_lines.new.player.front.table.moment in
     let none : waiting c.play_lines.new.player ≡ [] = ap (map arrived) c.in-Ok.ensures.none in
     let ends : EndsReading c.play_capture.result w [] last (capture_of (2 ^ 30 - script.offset)) (script.waits ++ then.0) r.0 left =
     subst (λ (v : Capturing). EndsReading c.play_capture.result w [] last (capture_of v.most) (v.waits ++ then.0) r.0 left) c.new-reader.ensures
@@ -52,8 +51,8 @@ returns-in-Ok-clause-ran g c =
       ran.0 ++ then.0,
       ran.1,
       ran.2 ++ r.0,
-      composed _ _ (record { left = left; written = g.K.Sink.written c.play_capture.new.sink; drawn = g.N.Noise.given c.play_lines.new.noise }) script (TableStandsFor c.play_lines.new.player.table) ran.0 ran.1 ran.2 so_far
-          then.0 r.0 then.1 r.1 refl few last (sym so_far.stands.holds.moment_is) c.play_capture.result ends,
+      composed _ _ (record { left = left; written = g.K.Sink.written c.play_capture.new.sink; drawn = g.N.Noise.given c.play_lines.new.noise }) script (StandsFor c.play_lines.new.player.front) ran.0 ran.1 ran.2 so_far
+          then.0 r.0 then.1 r.1 refl few last (sym so_far.stands.world.holds.moment_is) c.play_capture.result ends,
     )
 
 pub returns-in-Ok-clause-read : goal.returns-in-Ok-clause-read

@@ -1,20 +1,21 @@
 use Rattle.std.proofs.Common.{rules, [], map, ap}
 use Rattle.sg_capture.proofs.Meets.{on_ok, tick_met, tick_none}
+use Rattle.sg_capture.specs.Meeting.{StandsFor}
 use Rattle.sg_edge.proofs.Passed.{wrote_none}
+use Rattle.sg_front.specs.States.{FrontStandsFor, unshared}
 use Rattle.sg_playback.specs.Playing.{waiting}
 use Rattle.sg_table.specs.Batches.{arrived}
-use Rattle.sg_table.specs.Standing.{TableStandsFor}
 use Rattle.sg_capture.proofs.frames.come_to.Goals as goal
 
 pub returns-then-moment-top-clause-met : goal.returns-then-moment-top-clause-met
 returns-then-moment-top-clause-met g c = λ w stands.
-    ([], wrote_none _, tick_none c.args.top c.args.moment w (waiting c.args.player.now) (TableStandsFor c.args.player.now.table) (search rules) stands)
+    ([], wrote_none _, tick_none c.args.top c.args.moment w (waiting c.args.player.now) (StandsFor c.args.player.now.front) (search rules) stands)
 
 pub returns-clause-met : goal.returns-clause-met
 returns-clause-met g c = λ w stands.
-    let t = c.tick.ensures.ticked w stands in (
+    let t = c.tick.ensures.ticked (unshared w) stands in (
       t.0,
       t.1,
-      tick_met c.tick.result c.args.top c.args.moment w (waiting c.args.player.now) (waiting c.tick.new.self) (TableStandsFor c.tick.new.self.table) t.0 (search rules)
+      tick_met c.tick.result c.args.top c.args.moment w (waiting c.args.player.now) (waiting c.tick.new.self) (FrontStandsFor c.tick.new.self.front) t.0 (search rules)
           (λ ok. ap (map arrived) (on_ok c.tick.result _ c.tick.ensures.none ok)) t.2,
     )

@@ -1,14 +1,14 @@
 use Rattle.std.proofs.Common.{rules, ◌≡◌, ◌∙◌, ◌∷◌, [], ℕ, List, length, take, Ok, ap, sym, subst}
 use Rattle.std.specs.Prelude.{min}
 use Rattle.sg_capture.proofs.Meets.{met_none, room_met, take_counted}
-use Rattle.sg_capture.specs.Meeting.{IsMet}
+use Rattle.sg_capture.specs.Meeting.{IsMet, StandsFor}
 use Rattle.sg_edge.proofs.Passed.{wrote_none}
+use Rattle.sg_front.specs.States.{FrontStandsFor, unshared}
 use Rattle.sg_gateway.specs.Octets.{as_octets}
 use Rattle.sg_gateway.specs.Step.{Datagram}
 use Rattle.sg_pcap.specs.Frames as frames
 use Rattle.sg_pcap.specs.Frames.{Framed, frame_of, framed}
 use Rattle.sg_playback.specs.Playing.{waiting}
-use Rattle.sg_table.specs.Standing.{TableStandsFor}
 use Rattle.sg_trace.specs.Captured.{Happens, frame_occurs}
 use Rattle.sg_capture.proofs.frames.play_frame.Goals as goal
 
@@ -17,15 +17,15 @@ returns-in-Passed-clause-met g c = λ w stands.
     let f : frames.Passed ≡ frame_of c.args.frame.now = ap framed (sym c.in-Passed.is) ∙ c.read_frame.ensures in (
       [],
       wrote_none _,
-      subst (λ (x : Framed). IsMet (Ok tt) w (waiting c.args.player.now) (waiting c.args.player.now) (frame_occurs c.args.number x) (TableStandsFor c.args.player.now.table) []) f
-          (met_none w (waiting c.args.player.now) (TableStandsFor c.args.player.now.table) stands),
+      subst (λ (x : Framed). IsMet (Ok tt) w (waiting c.args.player.now) (waiting c.args.player.now) (frame_occurs c.args.number x) (StandsFor c.args.player.now.front) []) f
+          (met_none w (waiting c.args.player.now) (StandsFor c.args.player.now.front) stands),
     )
 
 pub returns-in-Skip-clause-met : goal.returns-in-Skip-clause-met
 returns-in-Skip-clause-met g c = λ w stands.
     let f : frames.Skip c.in-Skip.cause ≡ frame_of c.args.frame.now = ap framed (sym c.in-Skip.is) ∙ c.read_frame.ensures in
     let t = c.tell_skip.ensures.met w stands in
-    (t.0, t.1, subst (λ (x : Framed). IsMet c.tell_skip.result w (waiting c.args.player.now) (waiting c.tell_skip.new.player) (frame_occurs c.args.number x) (TableStandsFor c.tell_skip.new.player.table) t.0) f t.2)
+    (t.0, t.1, subst (λ (x : Framed). IsMet c.tell_skip.result w (waiting c.args.player.now) (waiting c.tell_skip.new.player) (frame_occurs c.args.number x) (StandsFor c.tell_skip.new.player.front) t.0) f t.2)
 
 pub returns-in-Datagram-clause-met : goal.returns-in-Datagram-clause-met
 returns-in-Datagram-clause-met g c = λ w stands.
@@ -33,10 +33,10 @@ returns-in-Datagram-clause-met g c = λ w stands.
     let octets : List ℕ = c.in-Datagram.octets.now in
     let count : c.min-counted.result ≡ min (length octets) 4352 = search rules in
     let part : take c.min-counted.result octets ≡ take 4352 octets = ap (λ (n : ℕ). take n octets) count ∙ take_counted 4352 octets in
-    let t = c.arrive.ensures.came w stands in (
+    let t = c.arrive.ensures.came (unshared w) stands in (
       t.0,
       t.1,
-      subst (λ (x : Framed). IsMet c.arrive.result w (waiting c.args.player.now) (waiting c.arrive.new.self) (frame_occurs c.args.number x) (TableStandsFor c.arrive.new.self.table) t.0) f
-          (subst (λ (o : List ℕ). IsMet c.arrive.result w (waiting c.args.player.now) (waiting c.arrive.new.self) (Happens (Datagram c.in-Datagram.port c.in-Datagram.from (as_octets o)) ∷ []) (TableStandsFor c.arrive.new.self.table) t.0) part
-          (room_met c.arrive.result w (waiting c.args.player.now) (Datagram c.in-Datagram.port c.in-Datagram.from (as_octets (take c.min-counted.result octets)) ∷ []) (waiting c.arrive.new.self) (TableStandsFor c.arrive.new.self.table) t.0 t.2)),
+      subst (λ (x : Framed). IsMet c.arrive.result w (waiting c.args.player.now) (waiting c.arrive.new.self) (frame_occurs c.args.number x) (StandsFor c.arrive.new.self.front) t.0) f
+          (subst (λ (o : List ℕ). IsMet c.arrive.result w (waiting c.args.player.now) (waiting c.arrive.new.self) (Happens (Datagram c.in-Datagram.port c.in-Datagram.from (as_octets o)) ∷ []) (StandsFor c.arrive.new.self.front) t.0) part
+          (room_met w (waiting c.args.player.now) (Datagram c.in-Datagram.port c.in-Datagram.from (as_octets (take c.min-counted.result octets)) ∷ []) (FrontStandsFor c.arrive.new.self.front) t.0 c.arrive.result (waiting c.arrive.new.self) t.2)),
     )

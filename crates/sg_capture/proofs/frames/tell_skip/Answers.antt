@@ -1,31 +1,31 @@
 use Rattle.std.proofs.Common.{◌∷◌, ◌++◌, [], map, Ok, Err, ap, refl}
 use Rattle.sg_capture.proofs.Meets.{met_before, met_then, settled_met, skip_met}
-use Rattle.sg_capture.specs.Meeting.{IsToldOf}
+use Rattle.sg_capture.specs.Meeting.{IsToldOf, StandsFor}
 use Rattle.sg_edge.proofs.Passed.{wrote_more}
+use Rattle.sg_front.specs.States.{FrontStandsFor, unshared}
 use Rattle.sg_gateway.specs.Runs.{world_after}
 use Rattle.sg_playback.specs.Playing.{waiting}
 use Rattle.sg_table.specs.Batches.{arrived}
-use Rattle.sg_table.specs.Standing.{TableStandsFor}
 use Rattle.sg_trace.specs.Captured.{Skipped, events_in}
 use Rattle.sg_capture.proofs.frames.tell_skip.Goals as goal
 
 pub returns-in-Err-clause-met : goal.returns-in-Err-clause-met
 returns-in-Err-clause-met g c = λ w stands.
-    let s = c.in-Err.ensures.settled w stands in (
+    let s = c.in-Err.ensures.settled (unshared w) stands in (
       s.0,
       s.1,
-      met_before c.in-Err.status w (waiting c.args.player.now) (waiting c.settle.new.self) (waiting c.settle.new.self) [] (Skipped c.args.number c.args.cause ∷ []) (TableStandsFor c.settle.new.self.table) (TableStandsFor c.settle.new.self.table) s.0
-          (settled_met (Err c.in-Err.status) w (waiting c.args.player.now) (waiting c.settle.new.self) (TableStandsFor c.settle.new.self.table) s.0 s.2),
+      met_before c.in-Err.status w (waiting c.args.player.now) (waiting c.settle.new.self) (waiting c.settle.new.self) [] (Skipped c.args.number c.args.cause ∷ []) (StandsFor c.settle.new.self.front) (StandsFor c.settle.new.self.front) s.0
+          (settled_met (Err c.in-Err.status) w (waiting c.args.player.now) (waiting c.settle.new.self) (FrontStandsFor c.settle.new.self.front) s.0 s.2),
     )
 
 pub returns-clause-met : goal.returns-clause-met
 returns-clause-met g c = λ w stands.
-    let s = c.in-Ok.ensures.settled w stands in
+    let s = c.in-Ok.ensures.settled (unshared w) stands in
     let mid = waiting c.settle.new.self in
-    let first : IsToldOf w (waiting c.args.player.now) mid [] (TableStandsFor c.settle.new.self.table) s.0 =
-    settled_met (Ok tt) w (waiting c.args.player.now) mid (TableStandsFor c.settle.new.self.table) s.0 s.2 in
-    let t = skip_met c.write_skip.result (world_after w (events_in first.told)) mid mid c.args.number c.args.cause (TableStandsFor c.settle.new.self.table) _ _ (ap (map arrived) c.in-Ok.ensures.none) refl first.stands c.write_skip.ensures.told in (
+    let first : IsToldOf w (waiting c.args.player.now) mid [] (StandsFor c.settle.new.self.front) s.0 =
+    settled_met (Ok tt) w (waiting c.args.player.now) mid (FrontStandsFor c.settle.new.self.front) s.0 s.2 in
+    let t = skip_met c.write_skip.result (world_after w (events_in first.told)) mid mid c.args.number c.args.cause (StandsFor c.settle.new.self.front) _ _ (ap (map arrived) c.in-Ok.ensures.none) refl first.stands c.write_skip.ensures.told in (
       s.0 ++ t.0,
       wrote_more _ _ _ s.0 t.0 s.1 t.1,
-      met_then c.write_skip.result w (waiting c.args.player.now) mid mid [] (Skipped c.args.number c.args.cause ∷ []) (TableStandsFor c.settle.new.self.table) (TableStandsFor c.settle.new.self.table) s.0 t.0 first t.2,
+      met_then c.write_skip.result w (waiting c.args.player.now) mid mid [] (Skipped c.args.number c.args.cause ∷ []) (StandsFor c.settle.new.self.front) (StandsFor c.settle.new.self.front) s.0 t.0 first t.2,
     )

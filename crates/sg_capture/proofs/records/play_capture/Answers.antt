@@ -1,6 +1,7 @@
 use Rattle.std.proofs.Common.{◌≡◌, ◌∙◌, ◌++◌, ℕ, List, Err, refl, sym, ap, append_assoc, length-append, arith}
 use Rattle.sg_capture.proofs.Readings.{behind_header, header_close_read, header_err}
 use Rattle.sg_edge.proofs.Passed.{took_more}
+use Rattle.sg_front.specs.States.{unshared}
 use Rattle.sg_pcap.proofs.Captures.{capture_begins}
 use Rattle.sg_pcap.specs.Capture.{capture_of, records_in}
 use Rattle.sg_playback.specs.Playing.{waiting}
@@ -15,18 +16,18 @@ returns-in-Err-clause-ran g c =
       got.1,
       omega (arith, got.3),
       λ w stands.
-          (let closed = c.close.ensures.closed w stands in (
+          (let closed = c.close.ensures.closed (unshared w) stands in (
             closed.0,
             closed.1,
-            header_err w (waiting c.args.player.now) c.args.player.now.table.moment c.args.reader.now.most c.in-Err.status c.close.result c.args.reader.now c.header.new.self got.0 closed.0 (g.S.Source.left c.header.new.source) refl got.2 closed.2,
+            header_err w (waiting c.args.player.now) c.args.player.now.front.table.moment c.args.reader.now.most c.in-Err.status c.close.result c.args.reader.now c.header.new.self got.0 closed.0 (g.S.Source.left c.header.new.source) refl got.2 closed.2,
           )),
     )
 
 pub returns-in-Err-clause-read : goal.returns-in-Err-clause-read
 returns-in-Err-clause-read g c =
     let got = c.in-Err.ensures.header in
-    let closed = c.close.ensures.closed c.requires.stands.0 c.requires.stands.1 in
-    let same = header_close_read c.in-Err.status c.close.result c.args.reader.now c.header.new.self got.0 (g.S.Source.left c.header.new.source) c.requires.stands.0 (waiting c.args.player.now) closed.0 got.2 closed.2 in
+    let closed = c.close.ensures.closed (unshared c.requires.stands.0) c.requires.stands.1 in
+    let same = header_close_read c.in-Err.status c.close.result c.args.reader.now c.header.new.self got.0 (g.S.Source.left c.header.new.source) (unshared c.requires.stands.0) (waiting c.args.player.now) closed.0 got.2 closed.2 in
     failed_as _ _ _ _ _ (λ is. ap Err (same.0 is)) (λ is. same.1 (let told : c.in-Err.status ≡ Read = cc in told)) c.in-Err.ensures.cause
 
 pub returns-in-Ok-clause-ran : goal.returns-in-Ok-clause-ran
@@ -46,7 +47,7 @@ returns-in-Ok-clause-ran g c =
           (let r = then.3 w stands in (
             r.0,
             r.1,
-            behind_header c.play_records.result w (waiting c.args.player.now) c.args.player.now.table.moment (capture_of c.args.reader.now.most) (records_in c.header.new.self.most c.in-Ok.form c.header.new.self.at)
+            behind_header c.play_records.result w (waiting c.args.player.now) c.args.player.now.front.table.moment (capture_of c.args.reader.now.most) (records_in c.header.new.self.most c.in-Ok.form c.header.new.self.at)
                 (c.args.reader.now.waits ++ (got.0 ++ then.0)) part (c.header.new.self.waits ++ then.0) r.0 (g.S.Source.left c.play_records.new.source) same split r.2,
           )),
     )

@@ -1,11 +1,10 @@
 use Rattle.std.proofs.Common.{◌++◌, ℕ, map, Err, subst}
 use Rattle.sg_capture.proofs.Meets.{met_before, met_then}
-use Rattle.sg_capture.specs.Meeting.{IsMet}
+use Rattle.sg_capture.specs.Meeting.{IsMet, StandsFor}
 use Rattle.sg_edge.proofs.Passed.{wrote_more}
 use Rattle.sg_gateway.specs.Runs.{world_after}
 use Rattle.sg_pcap.specs.Frames.{frame_of}
 use Rattle.sg_playback.specs.Playing.{waiting}
-use Rattle.sg_table.specs.Standing.{TableStandsFor}
 use Rattle.sg_trace.specs.Captured.{Happens, events_in, frame_occurs}
 use Rattle.sg_trace.specs.Trace.{ticks_at}
 use Rattle.sg_capture.proofs.records.play_record.Goals as goal
@@ -14,7 +13,7 @@ pub returns-in-Err-clause-met : goal.returns-in-Err-clause-met
 returns-in-Err-clause-met g c = λ w stands.
     let t = c.in-Err.ensures.met w stands in
     let after = waiting c.come_to.new.player in
-    let stands_for = TableStandsFor c.come_to.new.player.table in (
+    let stands_for = StandsFor c.come_to.new.player.front in (
       t.0,
       t.1,
       subst (λ (m : ℕ). IsMet (Err c.in-Err.status) w (waiting c.args.player.now) after (map Happens (ticks_at c.args.progress.top m) ++ frame_occurs c.args.progress.number (frame_of c.args.frame.now)) stands_for t.0) c.moment_of-moment.ensures.is
@@ -27,8 +26,8 @@ returns-clause-met g c = λ w stands.
     let u = c.play_frame.ensures.met (world_after w (events_in t.2.told)) t.2.stands in (
       t.0 ++ u.0,
       wrote_more _ _ _ t.0 u.0 t.1 u.1,
-      subst (λ (m : ℕ). IsMet c.play_frame.result w (waiting c.args.player.now) (waiting c.play_frame.new.player) (map Happens (ticks_at c.args.progress.top m) ++ frame_occurs c.args.progress.number (frame_of c.args.frame.now)) (TableStandsFor c.play_frame.new.player.table) (t.0 ++ u.0))
+      subst (λ (m : ℕ). IsMet c.play_frame.result w (waiting c.args.player.now) (waiting c.play_frame.new.player) (map Happens (ticks_at c.args.progress.top m) ++ frame_occurs c.args.progress.number (frame_of c.args.frame.now)) (StandsFor c.play_frame.new.player.front) (t.0 ++ u.0))
           c.moment_of-moment.ensures.is
           (met_then c.play_frame.result w (waiting c.args.player.now) (waiting c.come_to.new.player) (waiting c.play_frame.new.player) (map Happens (ticks_at c.args.progress.top c.moment_of-moment.result)) (frame_occurs c.args.progress.number (frame_of c.args.frame.now))
-          (TableStandsFor c.come_to.new.player.table) (TableStandsFor c.play_frame.new.player.table) t.0 u.0 t.2 u.2),
+          (StandsFor c.come_to.new.player.front) (StandsFor c.play_frame.new.player.front) t.0 u.0 t.2 u.2),
     )

@@ -4,88 +4,87 @@ use Rattle.sg_trace.proofs.Causes.{not_failed}
 use Rattle.sg_edge.proofs.Links.{added_none}
 use Rattle.sg_edge.proofs.Passed.{wrote_more, wrote_none}
 use Rattle.sg_gateway.specs.Octets.{as_octets}
-use Rattle.sg_gateway.specs.Runs.{world_after}
 use Rattle.sg_gateway.specs.Signals.{Tick}
 use Rattle.sg_gateway.specs.Step.{Datagram, Signalled}
 use Rattle.sg_lines.specs.declared.lines.Line.TheVariants as lines
+use Rattle.sg_front.specs.States.{FrontStandsFor, state_after}
 use Rattle.sg_playback.proofs.Alike.{same_alike}
 use Rattle.sg_playback.proofs.Plays.{header_taken, line_arrived, line_cut, only_not, want_not}
 use Rattle.sg_playback.specs.Playing.{HasRoom, IsPlayed, waiting}
-use Rattle.sg_table.specs.Standing.{TableStandsFor}
 use Rattle.sg_playback.proofs.player.Player.play.Goals as goal
 
 pub returns-in-Header-clause-played : goal.returns-in-Header-clause-played
-returns-in-Header-clause-played g c = λ w stands. (
+returns-in-Header-clause-played g c = λ state stands. (
   [],
   [],
   added_none _,
   wrote_none _,
   elim c.in-Header.is [
     | inl is ↦
-        subst (λ l. IsPlayed (Ok tt) l w (waiting c.args.self.now) (waiting c.args.self.now) (TableStandsFor c.args.self.now.table) [] []) (sym is)
-        (header_taken lines.Header w (waiting c.args.self.now) (TableStandsFor c.args.self.now.table) (λ later more. refl) refl stands)
+        subst (λ l. IsPlayed (Ok tt) l state (waiting c.args.self.now) (waiting c.args.self.now) (FrontStandsFor c.args.self.now.front) [] []) (sym is)
+        (header_taken lines.Header state (waiting c.args.self.now) (FrontStandsFor c.args.self.now.front) (λ later more. refl) refl stands)
     | inr is ↦
-        subst (λ l. IsPlayed (Ok tt) l w (waiting c.args.self.now) (waiting c.args.self.now) (TableStandsFor c.args.self.now.table) [] []) (sym is)
-        (header_taken lines.HeaderTwo w (waiting c.args.self.now) (TableStandsFor c.args.self.now.table) (λ later more. refl) refl stands)
+        subst (λ l. IsPlayed (Ok tt) l state (waiting c.args.self.now) (waiting c.args.self.now) (FrontStandsFor c.args.self.now.front) [] []) (sym is)
+        (header_taken lines.HeaderTwo state (waiting c.args.self.now) (FrontStandsFor c.args.self.now.front) (λ later more. refl) refl stands)
   ],
 )
 
 pub returns-in-Datagram-clause-played : goal.returns-in-Datagram-clause-played
-returns-in-Datagram-clause-played g c = λ w stands.
-    let a = c.arrive.ensures.came w stands in
+returns-in-Datagram-clause-played g c = λ state stands.
+    let a = c.arrive.ensures.came state stands in
     let same : c.as_slice.result.now ≡ c.in-Datagram.octets = search rules in
     let line = lines.Datagram c.in-Datagram.port c.in-Datagram.from c.in-Datagram.octets in
     let waited = waiting c.args.self.now in
-    let came = subst (λ (o : List ℕ). HasRoom c.arrive.result w (waited ++ Datagram c.in-Datagram.port c.in-Datagram.from (as_octets o) ∷ []) (waiting c.arrive.new.self) (TableStandsFor c.arrive.new.self.table) a.0) same a.2 in (
+    let came = subst (λ (o : List ℕ). HasRoom c.arrive.result state (waited ++ Datagram c.in-Datagram.port c.in-Datagram.from (as_octets o) ∷ []) (waiting c.arrive.new.self) (FrontStandsFor c.arrive.new.self.front) a.0) same a.2 in (
       [],
       a.0,
       added_none _,
       a.1,
-      subst (λ l. IsPlayed c.arrive.result l w waited (waiting c.arrive.new.self) (TableStandsFor c.arrive.new.self.table) [] a.0) (sym c.in-Datagram.is)
-          (line_arrived line (λ later more. refl) w waited [] (Datagram c.in-Datagram.port c.in-Datagram.from (as_octets c.in-Datagram.octets)) refl waited [] (same_alike w (waited ++ []) waited (append-nil waited)) [] refl
-          c.arrive.result (waiting c.arrive.new.self) (TableStandsFor c.arrive.new.self.table) a.0 came),
+      subst (λ l. IsPlayed c.arrive.result l state waited (waiting c.arrive.new.self) (FrontStandsFor c.arrive.new.self.front) [] a.0) (sym c.in-Datagram.is)
+          (line_arrived line (λ later more. refl) state waited [] (Datagram c.in-Datagram.port c.in-Datagram.from (as_octets c.in-Datagram.octets)) refl waited [] (same_alike state (waited ++ []) waited (append-nil waited)) [] refl
+          c.arrive.result (waiting c.arrive.new.self) (FrontStandsFor c.arrive.new.self.front) a.0 came),
     )
 
 pub returns-in-Datagram-clause-noise : goal.returns-in-Datagram-clause-noise
 returns-in-Datagram-clause-noise g c = not_failed _ _ _ _ refl (only_not c.arrive.result c.arrive.ensures.only)
 
 pub returns-in-Err-clause-played : goal.returns-in-Err-clause-played
-returns-in-Err-clause-played g c = λ w stands.
-    let s = c.in-Err.ensures.came w stands in
+returns-in-Err-clause-played g c = λ state stands.
+    let s = c.in-Err.ensures.came state stands in
     let line = lines.DatagramAt c.in-DatagramAt.now c.in-DatagramAt.port c.in-DatagramAt.from c.in-DatagramAt.octets in (
       [],
       s.0,
       added_none _,
       s.1,
-      subst (λ l. IsPlayed (Err c.in-Err.status) l w (waiting c.args.self.now) (waiting c.come_to.new.self) (TableStandsFor c.come_to.new.self.table) [] s.0) (sym c.in-DatagramAt.is)
-          (line_cut line (λ later more. refl) w (waiting c.args.self.now) (Signalled (Tick c.in-DatagramAt.now) ∷ []) (Datagram c.in-DatagramAt.port c.in-DatagramAt.from (as_octets c.in-DatagramAt.octets)) refl
-          c.in-Err.status (waiting c.come_to.new.self) (TableStandsFor c.come_to.new.self.table) s.0 s.2),
+      subst (λ l. IsPlayed (Err c.in-Err.status) l state (waiting c.args.self.now) (waiting c.come_to.new.self) (FrontStandsFor c.come_to.new.self.front) [] s.0) (sym c.in-DatagramAt.is)
+          (line_cut line (λ later more. refl) state (waiting c.args.self.now) (Signalled (Tick c.in-DatagramAt.now) ∷ []) (Datagram c.in-DatagramAt.port c.in-DatagramAt.from (as_octets c.in-DatagramAt.octets)) refl
+          c.in-Err.status (waiting c.come_to.new.self) (FrontStandsFor c.come_to.new.self.front) s.0 s.2),
     )
 
 pub returns-in-Err-clause-noise : goal.returns-in-Err-clause-noise
 returns-in-Err-clause-noise g c = not_failed _ _ _ _ refl (want_not c.in-Err.status c.in-Err.ensures.only)
 
 pub returns-in-Ok-clause-played : goal.returns-in-Ok-clause-played
-returns-in-Ok-clause-played g c = λ w stands.
-    let m = c.in-Ok.ensures.came w stands in
-    let a = c.arrive-in-DatagramAt.ensures.came (world_after w m.2.0) m.2.2.1 in
+returns-in-Ok-clause-played g c = λ state stands.
+    let m = c.in-Ok.ensures.came state stands in
+    let a = c.arrive-in-DatagramAt.ensures.came (state_after state m.2.0) m.2.2.1 in
     let same : c.as_slice-in-DatagramAt.result.now ≡ c.in-DatagramAt.octets = search rules in
     let line = lines.DatagramAt c.in-DatagramAt.now c.in-DatagramAt.port c.in-DatagramAt.from c.in-DatagramAt.octets in
     let waits = waiting c.come_to.new.self in
-    let came = subst (λ (o : List ℕ). HasRoom c.arrive-in-DatagramAt.result (world_after w m.2.0) (waits ++ Datagram c.in-DatagramAt.port c.in-DatagramAt.from (as_octets o) ∷ []) (waiting c.arrive-in-DatagramAt.new.self) (TableStandsFor c.arrive-in-DatagramAt.new.self.table) a.0) same a.2 in (
+    let came = subst (λ (o : List ℕ). HasRoom c.arrive-in-DatagramAt.result (state_after state m.2.0) (waits ++ Datagram c.in-DatagramAt.port c.in-DatagramAt.from (as_octets o) ∷ []) (waiting c.arrive-in-DatagramAt.new.self) (FrontStandsFor c.arrive-in-DatagramAt.new.self.front) a.0) same a.2 in (
       [],
       m.0 ++ a.0,
       added_none _,
       wrote_more _ _ _ m.0 a.0 m.1 a.1,
-      subst (λ l. IsPlayed c.arrive-in-DatagramAt.result l w (waiting c.args.self.now) (waiting c.arrive-in-DatagramAt.new.self) (TableStandsFor c.arrive-in-DatagramAt.new.self.table) [] (m.0 ++ a.0)) (sym c.in-DatagramAt.is)
-          (line_arrived line (λ later more. refl) w (waiting c.args.self.now) (Signalled (Tick c.in-DatagramAt.now) ∷ []) (Datagram c.in-DatagramAt.port c.in-DatagramAt.from (as_octets c.in-DatagramAt.octets)) refl waits m.2.0 m.2.1 m.0 m.2.2.0
-          c.arrive-in-DatagramAt.result (waiting c.arrive-in-DatagramAt.new.self) (TableStandsFor c.arrive-in-DatagramAt.new.self.table) a.0 came),
+      subst (λ l. IsPlayed c.arrive-in-DatagramAt.result l state (waiting c.args.self.now) (waiting c.arrive-in-DatagramAt.new.self) (FrontStandsFor c.arrive-in-DatagramAt.new.self.front) [] (m.0 ++ a.0)) (sym c.in-DatagramAt.is)
+          (line_arrived line (λ later more. refl) state (waiting c.args.self.now) (Signalled (Tick c.in-DatagramAt.now) ∷ []) (Datagram c.in-DatagramAt.port c.in-DatagramAt.from (as_octets c.in-DatagramAt.octets)) refl waits m.2.0 m.2.1 m.0 m.2.2.0
+          c.arrive-in-DatagramAt.result (waiting c.arrive-in-DatagramAt.new.self) (FrontStandsFor c.arrive-in-DatagramAt.new.self.front) a.0 came),
     )
 
 pub returns-in-Ok-clause-noise : goal.returns-in-Ok-clause-noise
 returns-in-Ok-clause-noise g c = not_failed _ _ _ _ refl (only_not c.arrive-in-DatagramAt.result c.arrive-in-DatagramAt.ensures.only)
 
 pub returns-in-Signal-clause-played : goal.returns-in-Signal-clause-played
-returns-in-Signal-clause-played g c = λ w stands.
-    let o = c.obey.ensures.played w stands in
-    (o.0, o.1, o.2, o.3, subst (λ l. IsPlayed c.obey.result l w (waiting c.args.self.now) (waiting c.obey.new.self) (TableStandsFor c.obey.new.self.table) o.0 o.1) (sym c.in-Signal.is) o.4)
+returns-in-Signal-clause-played g c = λ state stands.
+    let o = c.obey.ensures.played state stands in
+    (o.0, o.1, o.2, o.3, subst (λ l. IsPlayed c.obey.result l state (waiting c.args.self.now) (waiting c.obey.new.self) (FrontStandsFor c.obey.new.self.front) o.0 o.1) (sym c.in-Signal.is) o.4)

@@ -1,27 +1,27 @@
 use Rattle.std.proofs.Common.{rules, ◌≡◌, true, false, [], ap, sym, subst, ◌∙◌, refl}
-use Rattle.sg_trace.specs.Output.{output_from, text}
+use Rattle.sg_trace.specs.Output.{text}
 use Rattle.sg_edge.proofs.Passed.{wrote_none}
 use Rattle.sg_gateway.specs.Events.{events_of_signal}
+use Rattle.sg_front.specs.States.{FrontStandsFor}
 use Rattle.sg_playback.proofs.Plays.{stepped, written_only}
-use Rattle.sg_playback.specs.Playing.{Playing}
-use Rattle.sg_table.specs.Standing.{TableStandsFor}
+use Rattle.sg_playback.specs.Playing.{Playing, text_from}
 use Rattle.sg_playback.proofs.player.Player.step.Goals as goal
 
 pub returns-then-passes_quietly-clause-stepped : goal.returns-then-passes_quietly-clause-stepped
-returns-then-passes_quietly-clause-stepped g c = λ w stands.
+returns-then-passes_quietly-clause-stepped g c = λ state stands.
     let quiet : c.passes_quietly.result ≡ true = search rules in
-    let told = c.passes_quietly.ensures.told quiet w stands in
+    let told = c.passes_quietly.ensures.told quiet state stands in
     ([], wrote_none _, (ap text told.0, told.1))
 
 pub returns-in-Err-clause-stepped : goal.returns-in-Err-clause-stepped
-returns-in-Err-clause-stepped g c = λ w stands. (Rattle.std.proofs.Common.[], wrote_none _, (output_from w (events_of_signal c.args.signal.now), refl))
+returns-in-Err-clause-stepped g c = λ state stands. (Rattle.std.proofs.Common.[], wrote_none _, (text_from state (events_of_signal c.args.signal.now), refl))
 
 pub returns-clause-stepped : goal.returns-clause-stepped
-returns-clause-stepped g c = λ w stands.
+returns-clause-stepped g c = λ state stands.
     let loud : c.passes_quietly.result ≡ false = search rules in
-    let as_before : TableStandsFor c.passes_quietly.new.self.table w = subst (λ t. TableStandsFor t w) (sym (c.passes_quietly.ensures.same loud)) stands in
-    let told = c.in-Ok.ensures.told w (subst (λ (v : Playing). TableStandsFor v.table w) (sym c.self.view_is) as_before) in
-    stepped c.tell_all.result w (events_of_signal c.args.signal.now) (TableStandsFor c.step.new.self) _ _ (text c.as_slice.result.now) c.tell_all.ensures.told
+    let as_before : FrontStandsFor c.passes_quietly.new.self.front state = subst (λ t. FrontStandsFor t state) (sym (c.passes_quietly.ensures.same loud)) stands in
+    let told = c.in-Ok.ensures state (subst (λ (v : Playing). FrontStandsFor v.front state) (sym c.self.view_is) as_before) in
+    stepped c.tell_all.result state (events_of_signal c.args.signal.now) (FrontStandsFor c.step.new.self) _ _ (text c.as_slice.result.now) c.tell_all.ensures.told
     (ap text (c.as_slice.ensures.value ∙ told.0)) told.1
 
 pub returns-clause-only : goal.returns-clause-only
