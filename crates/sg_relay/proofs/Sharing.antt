@@ -19,6 +19,7 @@ use Rattle.sg_mux.specs.Via.{events_in, told_at}
 use Rattle.sg_mux.specs.declared.known.Known.{Known}
 use Rattle.sg_outcome.specs.declared.outcomes.Outcome.{Outcome}
 use Rattle.sg_outcome.specs.declared.outcomes.Outcome.TheVariants as outcomes
+use Rattle.sg_passages.specs.Passages.{Leaving, straight}
 use Rattle.sg_relay.specs.Asked.{Ask, asks_of}
 use Rattle.sg_relay.specs.Held.{AreOfCalls, EachFits, PortsAreOfCalls, held_after}
 use Rattle.sg_relay.proofs.Accounts.{Accounts, Begun, HasFew, event_accounts}
@@ -63,7 +64,10 @@ before_rtcp known port c muxed has =
 leaves_call : (known : List (Option Known)) (port : ℕ) (to : Address) (c : Call) → has_port port c ≡ true → has_port (leaves known port to).port c ≡ true
 leaves_call known port to c has = go (is_muxed_rtcp known port && not (eqb to.port 0)) refl
   where
-    go : (b : Bool) → is_muxed_rtcp known port && not (eqb to.port 0) ≡ b → has_port (cond b (record { port = port - 1; to = record { ip = to.ip; port = to.port - 1 } }) (record { port = port; to = to })).port c ≡ true
+    left : Bool → Leaving
+    left b = cond b (record { port = port - 1; to = record { ip = to.ip; port = to.port - 1 } }) (straight port to)
+
+    go : (b : Bool) → is_muxed_rtcp known port && not (eqb to.port 0) ≡ b → has_port (left b).port c ≡ true
     go true is = before_rtcp known port c (and_parts (is_muxed_rtcp known port) (not (eqb to.port 0)) is).0 has
     go false is = has
 
