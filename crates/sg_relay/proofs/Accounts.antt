@@ -67,7 +67,7 @@ record IsFrom (c : Call) (r : Settled) : Type 0 where
   slot : r.call.slot ≡ c.slot
   begun : Begun r.call
 
-abbrev HasFew : Type 0
+abbrev pub HasFew : Type 0
 HasFew = (h : AtHand) (way : Way) (text : List ℕ) (a : AgreedOffer) (count : ℕ) → agreed_offer h way text ≡ Ok a → h.media ≡ Some count → a.media ≡ count
 
 renewed_begun : (n : ℕ) (o : Bool) → o || not (eqb (n + 1) 0) ≡ true
@@ -299,33 +299,3 @@ module _ (few : HasFew) (w : World) (orderly : IsOrderly w) (begun : AllByRecurs
   pub event_accounts : (e : Event) → IsOrderly (step w e).world → Accounts w (step w e).outcomes (step w e).world
   event_accounts (Signalled signal) orderly = signal_accounts signal orderly
   event_accounts (Datagram port from d) orderly = arrived_accounts port from d.items (call_at w port) refl
-
--- ---- from a world on
-
-abbrev asks_from : World → List Event → List Ask
-asks_from w es = flat_map asks_of (outcomes_from w es)
-
-flat_append : {A B : Type 0} (f : A → List B) (xs ys : List A) → flat_map f (xs ++ ys) ≡ flat_map f xs ++ flat_map f ys
-flat_append f [] ys = refl
-flat_append f (x ∷ xs) ys = ap (λ l. f x ++ l) (flat_append f xs ys) ∙ sym (Rattle.std.proofs.Common.append_assoc (f x) _ _)
-
-pub all_account : HasFew → (w : World) → ((es : List Event) → IsOrderly (world_after w es)) → AllByRecursion Begun w.calls → (es : List Event)
-    → AreFit (λ port. of_calls port w.calls) (asks_from w es) × ((port : ℕ) → held_after port (of_calls port w.calls) (asks_from w es) ≡ of_calls port (world_after w es).calls)
-all_account few w orderly begun [] = (tt, λ port. refl)
-all_account few w orderly begun (e ∷ es) =
-    let now = event_accounts few w (orderly []) begun e (orderly (e ∷ [])) in
-    let more = all_account few (step w e).world (λ es. orderly (e ∷ es)) now.begun es in
-    let first : List Ask = flat_map asks_of (step w e).outcomes in
-    let rest : List Ask = asks_from (step w e).world es in
-    let both : asks_from w (e ∷ es) ≡ first ++ rest = flat_append asks_of (step w e).outcomes (outcomes_from (step w e).world es) in (
-      subst (AreFit (λ port. of_calls port w.calls)) (sym both)
-          (fit_append (λ port. of_calls port w.calls) first rest now.fit (fit_same (λ port. of_calls port (step w e).world.calls) (after (λ port. of_calls port w.calls) first) rest (λ port. sym (now.held port)) more.0)),
-      λ port. ap (held_after port (of_calls port w.calls)) both ∙ held-append port (of_calls port w.calls) first rest ∙ ap (λ b. held_after port b rest) (now.held port) ∙ more.1 port,
-    )
-
-pub ports_of_run : HasFew → ((es : List Event) → IsOrderly (world_after empty es)) → (es : List Event) → PortsAreOfCalls es
-ports_of_run few orderly es =
-    let all = all_account few empty orderly tt es in record {
-      ports = record { held = λ port is. any_of_calls port _ (sym (all.1 port) ∙ is); all = λ port a. all.1 port ∙ of_any port _ a };
-      each = each_fits (asks_from empty es) all.0;
-    }

@@ -12,10 +12,8 @@ use Rattle.sg_trace.specs.declared.status.Status.TheVariants.{Done, Usage, Scrip
 use Rattle.sg_edge.specs.Links.{LinkCall, Received}
 use Rattle.sg_edge.specs.Links as links
 use Rattle.sg_edge.specs.Told.{Wrote}
-use Rattle.sg_gateway.specs.Events.{outcomes_from}
-use Rattle.sg_gateway.specs.Runs.{world_after}
+use Rattle.sg_front.specs.States.{State, state_after, told_from}
 use Rattle.sg_gateway.specs.Step.{Event}
-use Rattle.sg_gateway.specs.World.{World}
 use Rattle.sg_outcome.specs.OutcomeText.{outcome_line}
 use Rattle.sg_outcome.specs.declared.outcomes.Outcome.{Outcome}
 use Rattle.sg_outcome.specs.declared.outcomes.Outcome.TheVariants.{Out, Unsent}
@@ -328,18 +326,18 @@ asks_in_all h port i n lt =
 
 -- ---- what was told is handled
 
-pub handled_told : (r : Result (Unit {0}) Status) (w : World) (es : List Event) (stands_for : World → Type 0) (os : List Outcome) (calls : List LinkCall) (out : List ℕ)
-    → AreCarriedOut r os calls out → os ≡ outcomes_from w es → stands_for (world_after w es) → AreHandled r w es stands_for calls out
-handled_told (Ok u) w es stands_for os calls out told is stands = (subst (λ l. IsDone l calls out) is told.0, told.1, told.2, stands)
-handled_told (Err s) w es stands_for os calls out told is stands = (subst (λ l. StopsWith s l calls out) is told.0, told.1)
+pub handled_told : (r : Result (Unit {0}) Status) (state : State) (es : List Event) (stands_for : State → Type 0) (os : List Outcome) (calls : List LinkCall) (out : List ℕ)
+    → AreCarriedOut r os calls out → os ≡ told_from state es → stands_for (state_after state es) → AreHandled r state es stands_for calls out
+handled_told (Ok u) state es stands_for os calls out told is stands = (subst (λ l. IsDone l calls out) is told.0, told.1, told.2, stands)
+handled_told (Err s) state es stands_for os calls out told is stands = (subst (λ l. StopsWith s l calls out) is told.0, told.1)
 
-pub unhandled : (w : World) (es : List Event) (stands_for : World → Type 0) → AreHandled {T = Unit {0}} (Err NoMemory) w es stands_for [] []
-unhandled w es stands_for = ((part_longer [] (outcomes_from w es) [] [] (part_of [] [] [] done_none), tt), refl)
+pub unhandled : (state : State) (es : List Event) (stands_for : State → Type 0) → AreHandled {T = Unit {0}} (Err NoMemory) state es stands_for [] []
+unhandled state es stands_for = ((part_longer [] (told_from state es) [] [] (part_of [] [] [] done_none), tt), refl)
 
 -- nothing was received
-pub handled_none : {T : Type 0} (r : Result T Status) (w : World) (es : List Event) (stands_for : World → Type 0) (calls : List LinkCall) (out : List ℕ) → AreHandled r w es stands_for calls out → receipts_in calls ≡ []
-handled_none (Ok x) w es stands_for calls out handled = handled.2
-handled_none (Err s) w es stands_for calls out handled = handled.1
+pub handled_none : {T : Type 0} (r : Result T Status) (state : State) (es : List Event) (stands_for : State → Type 0) (calls : List LinkCall) (out : List ℕ) → AreHandled r state es stands_for calls out → receipts_in calls ≡ []
+handled_none (Ok x) state es stands_for calls out handled = handled.2
+handled_none (Err s) state es stands_for calls out handled = handled.1
 
 -- one outcome more was told, or a prefix of it
 pub told_more : (r : Result (Unit {0}) Status) (os ps : List Outcome) (a b : List LinkCall) (x y : List ℕ) → AreCarriedOut (Ok tt) os a x → AreCarriedOut r ps b y → AreCarriedOut r (os ++ ps) (a ++ b) (x ++ y)

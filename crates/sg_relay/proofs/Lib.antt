@@ -8,4 +8,5 @@ pub mod Holds
 pub mod Order
 mod Relays
 mod Says
+mod Sharing
 mod Waits

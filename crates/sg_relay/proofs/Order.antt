@@ -4,8 +4,7 @@ use Rattle.std.specs.List.{flat_map}
 use Rattle.std.proofs.lemmas.List.{append-nil}
 use Rattle.sg_trace.specs.Trace.{ticks_of}
 use Rattle.sg_edge.specs.Links.{LinkCall, Receive, Received}
-use Rattle.sg_gateway.specs.Events.{outcomes_from}
-use Rattle.sg_gateway.specs.World.{World}
+use Rattle.sg_front.specs.States.{State, told_from}
 use Rattle.sg_outcome.specs.declared.outcomes.Outcome.{Outcome}
 use Rattle.sg_relay.specs.Asked.{AreInOrder, Ask, ask_in, asks_in, asks_of, receipt_in, receipts_in}
 use Rattle.sg_relay.specs.Parts.{IsReceivedFirst, IsTurnInOrder, turned}
@@ -70,19 +69,19 @@ first_order x b (rest, is, none) = subst (λ (l : List LinkCall). AreInOrder (λ
     (order_more (λ receipts. []) (λ receipts. []) [] (Receive x ∷ []) rest (λ xs. refl) refl (order_one x) (order_none (λ receipts. []) rest none))
 
 -- the tick of a turn that comes to no receive
-pub ticked_order : (w : World) (top r : ℕ) (a : List LinkCall) → receipts_in a ≡ [] → IsTurnInOrder w top (r ∷ []) a
-ticked_order w top r a none = inr (r, refl, omega (arith, ap length none), order_none (λ receipts. outcomes_from w (turned top r receipts)) a none)
+pub ticked_order : (state : State) (top r : ℕ) (a : List LinkCall) → receipts_in a ≡ [] → IsTurnInOrder state top (r ∷ []) a
+ticked_order state top r a none = inr (r, refl, omega (arith, ap length none), order_none (λ receipts. told_from state (turned top r receipts)) a none)
 
 -- the tick of a turn, and its receive
-pub turn_order : (w : World) (top r : ℕ) (x : Received) (a b : List LinkCall) → receipts_in a ≡ [] → asks_in a ≡ flat_map asks_of (outcomes_from w (ticks_of top r)) → IsReceivedFirst x b
-    → IsTurnInOrder w top (r ∷ []) (a ++ b)
-turn_order w top r x a b none asked first =
-    let os : List Outcome = outcomes_from w (ticks_of top r) in
+pub turn_order : (state : State) (top r : ℕ) (x : Received) (a b : List LinkCall) → receipts_in a ≡ [] → asks_in a ≡ flat_map asks_of (told_from state (ticks_of top r)) → IsReceivedFirst x b
+    → IsTurnInOrder state top (r ∷ []) (a ++ b)
+turn_order state top r x a b none asked first =
+    let os : List Outcome = told_from state (ticks_of top r) in
     let come : receipts_in (a ++ b) ≡ x ∷ [] = flat_append receipt_in a b ∙ ap₂ (λ (l m : List Received). l ++ m) none (ap receipts_in first.1 ∙ ap (λ (l : List Received). x ∷ l) first.2) in
     let few : length (receipts_in (a ++ b)) ≤ 1 = omega (arith, ap length come) in inr (
       r,
       refl,
       few,
-      order_as (λ receipts. outcomes_from w (turned top r receipts)) (λ receipts. os) (a ++ b) few refl
+      order_as (λ receipts. told_from state (turned top r receipts)) (λ receipts. os) (a ++ b) few refl
           (order_more (λ receipts. os) (λ receipts. []) os a b (λ xs. sym (append-nil os)) asked (order_none (λ receipts. os) a none) (first_order x b first)),
     )

@@ -1,8 +1,9 @@
 -- How a relay goes on, line by line.
-use Rattle.std.proofs.Common.{◌≡◌, ◌⊎◌, ◌<◌, ◌≤◌, ◌+◌, ◌^◌, ℕ, List, [], ◌∷◌, ◌++◌, length, Option, Result, Ok, Err, refl, sym, ap, ◌∙◌, subst, append_assoc, length-append, inl, inr, arith}
+use Rattle.std.proofs.Common.{◌≡◌, ◌⊎◌, ◌<◌, ◌≤◌, ◌+◌, ◌^◌, ℕ, Bool, List, [], ◌∷◌, ◌++◌, length, Option, Result, Ok, Err, refl, sym, ap, ◌∙◌, subst, append_assoc, length-append, inl, inr, arith}
 use Rattle.std.proofs.lemmas.List.{append-nil}
+use Rattle.std.specs.List.{flat_map}
 use Rattle.sg_base.specs.declared.faults.ScriptFault.{ScriptFault}
-use Rattle.sg_trace.proofs.Traces.{outcomes_from-append, reads_on, stops_at, whole_some, with_events_again}
+use Rattle.sg_trace.proofs.Traces.{reads_on, stops_at, whole_some, with_events_again}
 use Rattle.sg_trace.specs.Trace.{AtEnd as BehindAll, AtFault, Trace, ForDraw, ForReading, ForReceive, Later, Outside, Relays, Stop, trace_from, moment_of, said, stopped, with_events, woven}
 use Rattle.sg_trace.specs.Reading.{IsFault, IsNext, IsRead, Reading}
 use Rattle.sg_trace.specs.declared.status.Status.{Status}
@@ -11,30 +12,32 @@ use Rattle.sg_edge.specs.Links.{Added, Failing, LinkCall, Receive, Received}
 use Rattle.sg_edge.specs.Told.{AtEnd, TookIn, Wrote}
 use Rattle.sg_edge.proofs.Links.{added_more}
 use Rattle.sg_edge.proofs.Passed.{took_more, wrote_more}
-use Rattle.sg_gateway.specs.Events.{events_of, outcomes_from}
-use Rattle.sg_gateway.specs.Runs.{outcomes, world_after}
+use Rattle.sg_front.proofs.Runs.{told_in}
+use Rattle.sg_front.proofs.Sequences.{told_from-append}
+use Rattle.sg_front.specs.States.{State, start, state_after, told_from}
+use Rattle.sg_gateway.specs.Events.{events_of}
+use Rattle.sg_mux.specs.Via.{outcomes_in}
 use Rattle.sg_gateway.specs.Step.{Event}
-use Rattle.sg_gateway.specs.World.{World, empty}
 use Rattle.sg_lines.specs.LineOf.{version_after}
 use Rattle.sg_lines.specs.ScriptLines.{lines_of}
 use Rattle.sg_lines.specs.declared.lines.Line.{Line}
 use Rattle.sg_lines.specs.declared.lines.Line.TheVariants as lines
 use Rattle.sg_lines.specs.declared.lines.Signal.TheVariants.{Tick}
 use Rattle.sg_outcome.specs.declared.outcomes.Outcome.{Outcome}
-use Rattle.sg_relay.specs.Asked.{AreGood, AreInOrder, AtFailedReceive, IsDone, IsPart, receipt_in, receipts_in}
+use Rattle.sg_relay.specs.Asked.{AreGood, AreInOrder, AtFailedReceive, IsDone, IsPart, asks_of, receipt_in, receipts_in}
 use Rattle.sg_relay.specs.Causes.{IsOfLines, IsOfTurns}
 use Rattle.sg_relay.specs.Parts.{ArePairs, IsBegun, IsLineCut, IsLineInOrder, IsSaid, IsStopped, StopsWith, taken, taking}
-use Rattle.sg_relay.specs.Relay.{ArePaced, Ends, IsBroken, IsRelay, IsWhole, Passed, Tellings, trace_of, nothing}
+use Rattle.sg_relay.specs.Relay.{ArePaced, Ends, IsBroken, IsRelay, IsWhole, Passed, Tellings, nothing, outcomes_by, trace_of}
 use Rattle.sg_relay.proofs.Deeds.{AreGood-append, done_more, done_none, flat_append, part_longer, part_of, stops_after, stops_longer}
 use Rattle.sg_relay.proofs.Order.{order_more, order_none}
 use Rattle.sg_relay.proofs.Waits.{of_turns}
 
--- the outcomes of a trace, by its receives
-abbrev pub outcomes_at : List ℕ → List ℕ → List ℕ → List Received → List Outcome
-outcomes_at octets readings draws receipts = outcomes (woven octets readings receipts draws).events
+-- what the events of a trace tell, by its receives
+abbrev pub told_by : Bool → List ℕ → List ℕ → List ℕ → List Received → List Outcome
+told_by muxes octets readings draws receipts = told_from (start muxes) (woven octets readings receipts draws).events
 
 -- The relay has taken whole lines, whose events it has handled, and what waits behind them.
-pub record IsRelaying (old now : Tellings) (turns began : ℕ) (p : Passed) (at : Reading) (es : List Event) (top left : ℕ) : Type 0 where
+pub record IsRelaying (muxes : Bool) (old now : Tellings) (turns began : ℕ) (p : Passed) (at : Reading) (es : List Event) (top left : ℕ) : Type 0 where
   pub took : TookIn old.left now.left (p.octets ++ at.waits)
   pub wrote : Wrote old.written now.written p.out
   pub called : Added old.calls now.calls p.calls
@@ -42,14 +45,14 @@ pub record IsRelaying (old now : Tellings) (turns began : ℕ) (p : Passed) (at 
   pub drew : Added old.draws now.draws p.draws
   pub goes : (rest : List ℕ) (o : Outside) → woven (p.octets ++ rest) (p.readings ++ o.readings) (receipts_in p.calls ++ o.receipts) (p.draws ++ o.draws)
       ≡ with_events es (trace_from (Relays began) at.version at.number at.offset (lines_of rest) top o)
-  pub done : IsDone (outcomes es) p.calls p.out
+  pub done : IsDone (told_from (start muxes) es) p.calls p.out
   pub good : AreGood p.calls
   pub paced : length p.readings ≡ length (receipts_in p.calls) + 1
   pub counted : length p.readings + left ≡ turns + 1
   pub size : length p.octets ≡ at.offset
   pub room : at.offset + length at.waits + at.budget ≡ 2 ^ 30 + 1
   pub within : at.offset ≤ 2 ^ 30
-  pub in_order : (rest : List ℕ) (o : Outside) → AreInOrder (outcomes_at (p.octets ++ rest) (p.readings ++ o.readings) (p.draws ++ o.draws)) p.calls
+  pub in_order : (rest : List ℕ) (o : Outside) → AreInOrder (told_by muxes (p.octets ++ rest) (p.readings ++ o.readings) (p.draws ++ o.draws)) p.calls
 
 pub pace_so : (readings : List ℕ) (receipts : List Received) → (length readings ≡ length receipts + 1) ⊎ (length readings ≡ (length receipts + 1) + 1) → ArePaced readings receipts
 pace_so [] receipts (inl same) = absurd (omega (arith, same))
@@ -57,24 +60,30 @@ pace_so [] receipts (inr same) = absurd (omega (arith, same))
 pace_so (r ∷ rs) receipts (inl same) = inl (omega (arith, same))
 pace_so (r ∷ rs) receipts (inr same) = inr (omega (arith, same))
 
+-- calls in order by what the events tell
+order_told : (muxes : Bool) (p : Passed) → AreInOrder (told_by muxes p.octets p.readings p.draws) p.calls → AreInOrder (outcomes_by muxes p) p.calls
+order_told muxes p order = λ before after x is. order before after x is ∙ ap (flat_map asks_of) (told_in muxes (woven p.octets p.readings (receipts_in before) p.draws).events)
+
 -- a trace whose events begin with some that were handled, in part or whole
-pub part_in : (p : Passed) (es : List Event) (rest : Trace) → trace_of p ≡ with_events es rest → IsPart (outcomes_from empty es) p.calls p.out → IsPart (outcomes (trace_of p).events) p.calls p.out
-part_in p es rest is part =
-    subst (λ (c : Trace). IsPart (outcomes c.events) p.calls p.out) (sym is)
-    (subst (λ (os : List Outcome). IsPart os p.calls p.out) (sym (outcomes_from-append empty es rest.events))
-    (part_longer (outcomes_from empty es) (outcomes_from (world_after empty es) rest.events) p.calls p.out part))
+pub part_in : (muxes : Bool) (p : Passed) (es : List Event) (rest : Trace) → trace_of p ≡ with_events es rest → IsPart (told_from (start muxes) es) p.calls p.out → IsPart (outcomes_in muxes (trace_of p).events) p.calls p.out
+part_in muxes p es rest is part =
+    subst (λ (c : Trace). IsPart (outcomes_in muxes c.events) p.calls p.out) (sym is)
+    (subst (λ (os : List Outcome). IsPart os p.calls p.out) (sym (told_from-append (start muxes) es rest.events) ∙ told_in muxes (es ++ rest.events))
+    (part_longer (told_from (start muxes) es) (told_from (state_after (start muxes) es) rest.events) p.calls p.out part))
 
-pub stops_in : (s : Status) (p : Passed) (es : List Event) (rest : Trace) → trace_of p ≡ with_events es rest → StopsWith s (outcomes_from empty es) p.calls p.out → StopsWith s (outcomes (trace_of p).events) p.calls p.out
-stops_in s p es rest is stops =
-    subst (λ (c : Trace). StopsWith s (outcomes c.events) p.calls p.out) (sym is)
-    (subst (λ (os : List Outcome). StopsWith s os p.calls p.out) (sym (outcomes_from-append empty es rest.events))
-    (stops_longer s (outcomes_from empty es) (outcomes_from (world_after empty es) rest.events) p.calls p.out stops))
+pub stops_in : (muxes : Bool) (s : Status) (p : Passed) (es : List Event) (rest : Trace) → trace_of p ≡ with_events es rest → StopsWith s (told_from (start muxes) es) p.calls p.out
+    → StopsWith s (outcomes_in muxes (trace_of p).events) p.calls p.out
+stops_in muxes s p es rest is stops =
+    subst (λ (c : Trace). StopsWith s (outcomes_in muxes c.events) p.calls p.out) (sym is)
+    (subst (λ (os : List Outcome). StopsWith s os p.calls p.out) (sym (told_from-append (start muxes) es rest.events) ∙ told_in muxes (es ++ rest.events))
+    (stops_longer s (told_from (start muxes) es) (told_from (state_after (start muxes) es) rest.events) p.calls p.out stops))
 
-pub whole_at : (p : Passed) (es : List Event) (stop : Stop) → trace_of p ≡ with_events es (stopped stop nothing) → IsDone (outcomes es) p.calls p.out → AreGood p.calls → IsWhole p stop
-whole_at p es stop is done good = record {
+pub whole_at : (muxes : Bool) (p : Passed) (es : List Event) (stop : Stop) → trace_of p ≡ with_events es (stopped stop nothing) → IsDone (told_from (start muxes) es) p.calls p.out → AreGood p.calls → IsWhole muxes p stop
+whole_at muxes p es stop is done good = record {
   stops = ap (λ (c : Trace). c.stop) is;
   left = ap (λ (c : Trace). c.left) is;
-  done = subst (λ (l : List Event). IsDone (outcomes l) p.calls p.out) (sym (ap (λ (c : Trace). c.events) is ∙ append-nil es)) done;
+  done = subst (λ (os : List Outcome). IsDone os p.calls p.out)
+      (sym (ap (λ (l : List Event). told_from (start muxes) l) (ap (λ (c : Trace). c.events) is ∙ append-nil es)) ∙ told_in muxes (trace_of p).events) done;
   good = good;
 }
 
@@ -89,7 +98,7 @@ of_lines P s (inl is) noise spent clock write link memory = subst P (sym is) noi
 of_lines P s (inr (inl is)) noise spent clock write link memory = subst P (sym is) spent
 of_lines P s (inr (inr is)) noise spent clock write link memory = of_turns P s is clock write link memory
 
-module _ (old now : Tellings) (turns began : ℕ) (p : Passed) (at : Reading) (es : List Event) (top left : ℕ) (going : IsRelaying old now turns began p at es top left)
+module _ (muxes : Bool) (old now : Tellings) (turns began : ℕ) (p : Passed) (at : Reading) (es : List Event) (top left : ℕ) (going : IsRelaying muxes old now turns began p at es top left)
     (left' : Option (List ℕ)) (got : List ℕ) (came : TookIn now.left left' got) where
   -- what has passed by then
   abbrev pub passed : Passed
@@ -105,11 +114,11 @@ module _ (old now : Tellings) (turns began : ℕ) (p : Passed) (at : Reading) (e
   trace_is = (λ i. woven (p.octets ++ (at.waits ++ got)) (sym (append-nil p.readings) i) (sym (append-nil (receipts_in p.calls)) i) (sym (append-nil p.draws) i)) ∙ going.goes (at.waits ++ got) nothing
 
   -- nothing more was handled
-  broken : IsBroken passed
-  broken = record { part = part_in passed es _ trace_is (part_of (outcomes es) p.calls p.out going.done); good = going.good }
+  broken : IsBroken muxes passed
+  broken = record { part = part_in muxes passed es _ trace_is (part_of (told_from (start muxes) es) p.calls p.out going.done); good = going.good }
 
   -- the run ends before a line was handled
-  ended : (s : Status) (budget : ℕ) → length got + budget ≡ at.budget → Ends s turns passed left' → IsRelay s turns old (record now { left = left' }) passed
+  ended : (s : Status) (budget : ℕ) → length got + budget ≡ at.budget → Ends muxes s turns passed left' → IsRelay muxes s turns old (record now { left = left' }) passed
   ended s budget paid ends = record {
     took = took_all;
     wrote = going.wrote;
@@ -120,21 +129,22 @@ module _ (old now : Tellings) (turns began : ℕ) (p : Passed) (at : Reading) (e
     bound = bounded budget paid;
     most = omega (arith, going.counted);
     paced = pace_so p.readings (receipts_in p.calls) (inl going.paced);
-    in_order = subst (λ (f : List Received → List Outcome). AreInOrder f p.calls) (λ i. outcomes_at (p.octets ++ (at.waits ++ got)) (append-nil p.readings i) (append-nil p.draws i)) (going.in_order (at.waits ++ got) nothing);
+    in_order = order_told muxes passed (subst (λ (f : List Received → List Outcome). AreInOrder f p.calls)
+        (λ i. told_by muxes (p.octets ++ (at.waits ++ got)) (append-nil p.readings i) (append-nil p.draws i)) (going.in_order (at.waits ++ got) nothing));
   }
 
   -- at the end of the source
-  pub at_end : (budget : ℕ) → length got + budget ≡ at.budget → at.waits ++ got ≡ [] → AtEnd left' ⊎ (2 ^ 30 < at.offset) → IsRelay Done turns old (record now { left = left' }) passed
+  pub at_end : (budget : ℕ) → length got + budget ≡ at.budget → at.waits ++ got ≡ [] → AtEnd left' ⊎ (2 ^ 30 < at.offset) → IsRelay muxes Done turns old (record now { left = left' }) passed
   at_end budget paid none (inr far) = absurd (let near = going.within in omega (arith, far, near))
   at_end budget paid none (inl end) = ended Done budget paid (
-    whole_at passed es BehindAll (trace_is ∙ ap (λ (l : List ℕ). with_events es (trace_from (Relays began) at.version at.number at.offset (lines_of l) top nothing)) none) going.done going.good,
+    whole_at muxes passed es BehindAll (trace_is ∙ ap (λ (l : List ℕ). with_events es (trace_from (Relays began) at.version at.number at.offset (lines_of l) top nothing)) none) going.done going.good,
     end,
   )
 
   -- at a line with a fault, and whatever comes after it
-  at_fault : (fault : ScriptFault) → IsFault at.version at.number at.offset (at.waits ++ got) fault left' → Ends (Script at.number fault) turns passed left'
+  at_fault : (fault : ScriptFault) → IsFault at.version at.number at.offset (at.waits ++ got) fault left' → Ends muxes (Script at.number fault) turns passed left'
   at_fault fault is = (
-    whole_at passed es (AtFault at.number fault) (trace_is ∙ ap (with_events es) (stops_at (Relays began) at.version at.number at.offset (at.waits ++ got) fault top nothing is.first refl)) going.done going.good,
+    whole_at muxes passed es (AtFault at.number fault) (trace_is ∙ ap (with_events es) (stops_at (Relays began) at.version at.number at.offset (at.waits ++ got) fault top nothing is.first refl)) going.done going.good,
     is.ended,
     λ not_end more.
         let parts : (p.octets ++ (at.waits ++ got)) ++ more ≡ p.octets ++ ((at.waits ++ got) ++ more) = append_assoc p.octets (at.waits ++ got) more in
@@ -145,8 +155,8 @@ module _ (old now : Tellings) (turns began : ℕ) (p : Passed) (at : Reading) (e
 
   -- the next line isn't read
   pub at_error : (s : Status) (at' : Reading) → length got + at'.budget ≡ at.budget → (let r : Result (Option Line) Status = Err s in IsNext r at at' got left')
-      → IsRelay s turns old (record now { left = left' }) passed
-  at_error (Script n f) at' paid (same, fault) = subst (λ (m : ℕ). IsRelay (Script m f) turns old (record now { left = left' }) passed) (sym same) (ended (Script at.number f) at'.budget paid (at_fault f (subst (λ (m : ℕ). IsFault at.version m at.offset (at.waits ++ got) f left') same fault)))
+      → IsRelay muxes s turns old (record now { left = left' }) passed
+  at_error (Script n f) at' paid (same, fault) = subst (λ (m : ℕ). IsRelay muxes (Script m f) turns old (record now { left = left' }) passed) (sym same) (ended (Script at.number f) at'.budget paid (at_fault f (subst (λ (m : ℕ). IsFault at.version m at.offset (at.waits ++ got) f left') same fault)))
   at_error Read at' paid next = ended Read at'.budget paid broken
   at_error NoMemory at' paid next = ended NoMemory at'.budget paid broken
   at_error Done at' paid next = absurd next
@@ -195,25 +205,25 @@ module _ (old now : Tellings) (turns began : ℕ) (p : Passed) (at : Reading) (e
     behind = record { octets = p.octets ++ is.line; out = p.out ++ out; calls = p.calls ++ calls; readings = p.readings ++ readings; draws = p.draws ++ draws }
 
     -- the calls by then are in order
-    line_order : IsLineInOrder (Relays began) l (world_after empty es) top readings calls draws → (more : List ℕ) (o : Outside)
-        → AreInOrder (outcomes_at ((p.octets ++ is.line) ++ more) ((p.readings ++ readings) ++ o.readings) ((p.draws ++ draws) ++ o.draws)) (p.calls ++ calls)
+    line_order : IsLineInOrder (Relays began) l (state_after (start muxes) es) top readings calls draws → (more : List ℕ) (o : Outside)
+        → AreInOrder (told_by muxes ((p.octets ++ is.line) ++ more) ((p.readings ++ readings) ++ o.readings) ((p.draws ++ draws) ++ o.draws)) (p.calls ++ calls)
     line_order order more o =
         let next : Later = trace_from (Relays began) (version_after at.version l) (at.number + 1) (at.offset + length is.line) (lines_of more) in
         let after_it : List Received → Outside = λ xs. taken (readings ++ o.readings) xs (draws ++ o.draws) in
         subst (λ (f : List Received → List Outcome). AreInOrder f (p.calls ++ calls))
-        (λ i. outcomes_at (sym (append_assoc p.octets is.line more) i) (sym (append_assoc p.readings readings o.readings) i) (sym (append_assoc p.draws draws o.draws) i))
-        (order_more (outcomes_at (p.octets ++ (is.line ++ more)) (p.readings ++ (readings ++ o.readings)) (p.draws ++ (draws ++ o.draws)))
-        (λ xs. outcomes_from (world_after empty es) (said (Relays began) l next top (after_it xs)).events) (outcomes es) p.calls calls
-        (λ xs. ap (λ (c : Trace). outcomes c.events)
+        (λ i. told_by muxes (sym (append_assoc p.octets is.line more) i) (sym (append_assoc p.readings readings o.readings) i) (sym (append_assoc p.draws draws o.draws) i))
+        (order_more (told_by muxes (p.octets ++ (is.line ++ more)) (p.readings ++ (readings ++ o.readings)) (p.draws ++ (draws ++ o.draws)))
+        (λ xs. told_from (state_after (start muxes) es) (said (Relays began) l next top (after_it xs)).events) (told_from (start muxes) es) p.calls calls
+        (λ xs. ap (λ (c : Trace). told_from (start muxes) c.events)
         (going.goes (is.line ++ more) (after_it xs) ∙ ap (with_events es) (reads_on (Relays began) at.version at.number at.offset is.line more l top (after_it xs) refl is.whole is.is))
-        ∙ outcomes_from-append empty es (said (Relays began) l next top (after_it xs)).events)
+        ∙ told_from-append (start muxes) es (said (Relays began) l next top (after_it xs)).events)
         going.done.asked (going.in_order (is.line ++ more) (after_it [])) (order next o))
 
     -- after the line was handled
-    pub after : {T : Type 0} (x : T) (now' : Tellings) (top' left2 : ℕ) (stands_for : World → Type 0) → now'.left ≡ left' → Wrote now.written now'.written out → Added now.calls now'.calls calls
+    pub after : {T : Type 0} (x : T) (now' : Tellings) (top' left2 : ℕ) (stands_for : State → Type 0) → now'.left ≡ left' → Wrote now.written now'.written out → Added now.calls now'.calls calls
         → Added now.readings now'.readings readings → Added now.draws now'.draws draws
-        → (said : (let r : Result T Status = Ok x in IsSaid r (Relays began) l (world_after empty es) top top' left left2 stands_for readings calls draws out))
-        → IsLineInOrder (Relays began) l (world_after empty es) top readings calls draws → IsRelaying old now' turns began behind at' (es ++ said.0) top' left2
+        → (said : (let r : Result T Status = Ok x in IsSaid r (Relays began) l (state_after (start muxes) es) top top' left left2 stands_for readings calls draws out))
+        → IsLineInOrder (Relays began) l (state_after (start muxes) es) top readings calls draws → IsRelaying muxes old now' turns began behind at' (es ++ said.0) top' left2
     after x now' top' left2 stands_for same wrote called read drew said order = record {
       took = subst (TookIn old.left now'.left) octets_are (subst (λ (o : Option (List ℕ)). TookIn old.left o (p.octets ++ (at.waits ++ got))) (sym same) took_all);
       wrote = wrote_more old.written now.written now'.written p.out out going.wrote wrote;
@@ -224,8 +234,8 @@ module _ (old now : Tellings) (turns began : ℕ) (p : Passed) (at : Reading) (e
           ∙ ap (with_events es) (said.1 (trace_from (Relays began) (version_after at.version l) (at.number + 1) (at.offset + length is.line) (lines_of more)) o)
           ∙ with_events_again es said.0 (trace_from (Relays began) (version_after at.version l) (at.number + 1) (at.offset + length is.line) (lines_of more) top' o)
           ∙ (λ i. with_events (es ++ said.0) (trace_from (Relays began) (sym is.version i) (sym is.number i) (sym is.offset i) (lines_of more) top' o));
-      done = subst (λ (os : List Outcome). IsDone os (p.calls ++ calls) (p.out ++ out)) (sym (outcomes_from-append empty es said.0))
-          (done_more (outcomes es) (outcomes_from (world_after empty es) said.0) p.calls calls p.out out going.done said.2);
+      done = subst (λ (os : List Outcome). IsDone os (p.calls ++ calls) (p.out ++ out)) (sym (told_from-append (start muxes) es said.0))
+          (done_more (told_from (start muxes) es) (told_from (state_after (start muxes) es) said.0) p.calls calls p.out out going.done said.2);
       good = AreGood-append p.calls calls going.good said.3;
       paced = omega (arith, going.paced, said.5, length-append p.readings readings, ap length receipts_are, length-append (receipts_in p.calls) (receipts_in calls));
       counted = omega (arith, going.counted, said.6, length-append p.readings readings);
@@ -240,12 +250,12 @@ module _ (old now : Tellings) (turns began : ℕ) (p : Passed) (at : Reading) (e
     farther = omega (arith, is.offset, whole_some is.line is.whole)
 
     -- a line that stops where nothing more was taken
-    stopped_so : (stop : Stop) → IsStopped (Relays began) l (world_after empty es) top stop readings calls draws out → IsWhole with_line stop
+    stopped_so : (stop : Stop) → IsStopped (Relays began) l (state_after (start muxes) es) top stop readings calls draws out → IsWhole muxes with_line stop
     stopped_so stop at_stop =
-        whole_at with_line (es ++ at_stop.events) stop
+        whole_at muxes with_line (es ++ at_stop.events) stop
         (says_all ∙ ap (with_events es) (at_stop.stops later) ∙ with_events_again es at_stop.events (stopped stop nothing))
-        (subst (λ (os : List Outcome). IsDone os (p.calls ++ calls) (p.out ++ out)) (sym (outcomes_from-append empty es at_stop.events))
-        (done_more (outcomes es) (outcomes_from (world_after empty es) at_stop.events) p.calls calls p.out out going.done at_stop.done))
+        (subst (λ (os : List Outcome). IsDone os (p.calls ++ calls) (p.out ++ out)) (sym (told_from-append (start muxes) es at_stop.events))
+        (done_more (told_from (start muxes) es) (told_from (state_after (start muxes) es) at_stop.events) p.calls calls p.out out going.done at_stop.done))
         (AreGood-append p.calls calls going.good at_stop.good)
 
     -- what a line says of its turns
@@ -266,31 +276,31 @@ module _ (old now : Tellings) (turns began : ℕ) (p : Passed) (at : Reading) (e
     }
 
     -- the line was cut
-    stops_so : (x : Status) → IsLineCut x (Relays began) l (world_after empty es) top readings calls draws out → StopsWith x (outcomes (trace_of with_line).events) (p.calls ++ calls) (p.out ++ out)
+    stops_so : (x : Status) → IsLineCut x (Relays began) l (state_after (start muxes) es) top readings calls draws out → StopsWith x (outcomes_in muxes (trace_of with_line).events) (p.calls ++ calls) (p.out ++ out)
     stops_so x (events, rest, stops, pairs) =
-        stops_in x with_line (es ++ events) (rest later).0 (says_all ∙ ap (with_events es) (rest later).1 ∙ with_events_again es events (rest later).0)
-        (subst (λ (os : List Outcome). StopsWith x os (p.calls ++ calls) (p.out ++ out)) (sym (outcomes_from-append empty es events))
-        (stops_after x (outcomes es) (outcomes_from (world_after empty es) events) p.calls calls p.out out going.done going.good stops))
+        stops_in muxes x with_line (es ++ events) (rest later).0 (says_all ∙ ap (with_events es) (rest later).1 ∙ with_events_again es events (rest later).0)
+        (subst (λ (os : List Outcome). StopsWith x os (p.calls ++ calls) (p.out ++ out)) (sym (told_from-append (start muxes) es events))
+        (stops_after x (told_from (start muxes) es) (told_from (state_after (start muxes) es) events) p.calls calls p.out out going.done going.good stops))
 
     -- what is said of a line whose receive failed, once that is so of the calls before it
-    cut_link : ((before : List LinkCall) → IsStopped (Relays began) l (world_after empty es) top ForReceive readings before draws out → IsWhole (record with_line { calls = p.calls ++ before }) ForReceive)
-        → ((AtFailedReceive (λ before. IsStopped (Relays began) l (world_after empty es) top ForReceive readings before draws out) calls × (length readings ≡ length (receipts_in calls)))
-        ⊎ IsLineCut Link (Relays began) l (world_after empty es) top readings calls draws out) × (length readings ≤ left)
-        → Ends Link turns with_line left' × Counts
+    cut_link : ((before : List LinkCall) → IsStopped (Relays began) l (state_after (start muxes) es) top ForReceive readings before draws out → IsWhole muxes (record with_line { calls = p.calls ++ before }) ForReceive)
+        → ((AtFailedReceive (λ before. IsStopped (Relays began) l (state_after (start muxes) es) top ForReceive readings before draws out) calls × (length readings ≡ length (receipts_in calls)))
+        ⊎ IsLineCut Link (Relays began) l (state_after (start muxes) es) top readings calls draws out) × (length readings ≤ left)
+        → Ends muxes Link turns with_line left' × Counts
     cut_link whole (inl ((before, failed, at_stop), paced), few) = (
       inl (p.calls ++ before, ap (λ (l : List LinkCall). p.calls ++ l) failed ∙ sym (append_assoc p.calls before (Receive Failing ∷ [])), whole before at_stop),
       counts_of (inl paced) few,
     )
     cut_link whole (inr cut, few) = (inr (stops_so Link cut), counts_of cut.3 few)
 
-    broken_so : (s : Status) → ((x : Passed) → IsBroken x → Ends s turns x left') → IsPart (outcomes (trace_of with_line).events) (p.calls ++ calls) (p.out ++ out) × AreGood (p.calls ++ calls) → Ends s turns with_line left'
+    broken_so : (s : Status) → ((x : Passed) → IsBroken muxes x → Ends muxes s turns x left') → IsPart (outcomes_in muxes (trace_of with_line).events) (p.calls ++ calls) (p.out ++ out) × AreGood (p.calls ++ calls) → Ends muxes s turns with_line left'
     broken_so s ends (part, good) = ends with_line (record { part = part; good = good })
 
-    cut_with : (T : Type 0) (s : Status) (top' left2 : ℕ) (stands_for : World → Type 0) → IsOfLines s
-        → ((before : List LinkCall) → IsStopped (Relays began) l (world_after empty es) top ForReceive readings before draws out → IsWhole (record with_line { calls = p.calls ++ before }) ForReceive)
-        → (let r : Result T Status = Err s in IsSaid r (Relays began) l (world_after empty es) top top' left left2 stands_for readings calls draws out) → Ends s turns with_line left' × Counts
+    cut_with : (T : Type 0) (s : Status) (top' left2 : ℕ) (stands_for : State → Type 0) → IsOfLines s
+        → ((before : List LinkCall) → IsStopped (Relays began) l (state_after (start muxes) es) top ForReceive readings before draws out → IsWhole muxes (record with_line { calls = p.calls ++ before }) ForReceive)
+        → (let r : Result T Status = Err s in IsSaid r (Relays began) l (state_after (start muxes) es) top top' left left2 stands_for readings calls draws out) → Ends muxes s turns with_line left' × Counts
     cut_with T s top' left2 stands_for only whole said = of_lines
-        (λ (x : Status). (let r : Result T Status = Err x in IsSaid r (Relays began) l (world_after empty es) top top' left left2 stands_for readings calls draws out) → Ends x turns with_line left' × Counts)
+        (λ (x : Status). (let r : Result T Status = Err x in IsSaid r (Relays began) l (state_after (start muxes) es) top top' left left2 stands_for readings calls draws out) → Ends muxes x turns with_line left' × Counts)
         s only
         (λ (at_stop, paced, few). (stopped_so ForDraw at_stop, counts_of (inl paced) few))
         (λ (at_stop, paced, all). ((stopped_so ForReading at_stop, omega (arith, going.counted, all, length-append p.readings readings)), counts_of (inl paced) (omega (arith, all))))
@@ -302,27 +312,27 @@ module _ (old now : Tellings) (turns began : ℕ) (p : Passed) (at : Reading) (e
 
     -- the run ends in a line
     pub ended_in : (s : Status) (now' : Tellings) → now'.left ≡ left' → Wrote now.written now'.written out → Added now.calls now'.calls calls
-        → Added now.readings now'.readings readings → Added now.draws now'.draws draws → Ends s turns with_line left' × Counts → IsLineInOrder (Relays began) l (world_after empty es) top readings calls draws
-        → IsRelay s turns old now' with_line
+        → Added now.readings now'.readings readings → Added now.draws now'.draws draws → Ends muxes s turns with_line left' × Counts → IsLineInOrder (Relays began) l (state_after (start muxes) es) top readings calls draws
+        → IsRelay muxes s turns old now' with_line
     ended_in s now' same wrote called read drew ends order = record {
       took = subst (λ (o : Option (List ℕ)). TookIn old.left o with_line.octets) (sym same) took_all;
       wrote = wrote_more old.written now.written now'.written p.out out going.wrote wrote;
       called = added_more old.calls now.calls now'.calls p.calls calls going.called called;
       read = added_more old.readings now.readings now'.readings p.readings readings going.read read;
       drew = added_more old.draws now.draws now'.draws p.draws draws going.drew drew;
-      ends = subst (Ends s turns with_line) (sym same) ends.0;
+      ends = subst (Ends muxes s turns with_line) (sym same) ends.0;
       bound = bounded at'.budget paid;
       most = ends.1.most;
       paced = ends.1.paced;
-      in_order = subst (λ (f : List Received → List Outcome). AreInOrder f (p.calls ++ calls))
-          (λ i. outcomes_at (sym octets_are i) (append-nil (p.readings ++ readings) i) (append-nil (p.draws ++ draws) i)) (line_order order at'.waits nothing);
+      in_order = order_told muxes with_line (subst (λ (f : List Received → List Outcome). AreInOrder f (p.calls ++ calls))
+          (λ i. told_by muxes (sym octets_are i) (append-nil (p.readings ++ readings) i) (append-nil (p.draws ++ draws) i)) (line_order order at'.waits nothing));
     }
 
   -- of a line that was cut
   pub cut : (l : Line) (at' : Reading) (paid : length got + at'.budget ≡ at.budget) (is : IsRead l at at' got) (readings : List ℕ) (calls : List LinkCall) (draws out : List ℕ)
-      (T : Type 0) (s : Status) (top' left2 : ℕ) (stands_for : World → Type 0) → IsOfLines s
-      → (let r : Result T Status = Err s in IsSaid r (Relays began) l (world_after empty es) top top' left left2 stands_for readings calls draws out)
-      → Ends s turns (with_line l at' paid is readings calls draws out) left' × Counts l at' paid is readings calls draws out
+      (T : Type 0) (s : Status) (top' left2 : ℕ) (stands_for : State → Type 0) → IsOfLines s
+      → (let r : Result T Status = Err s in IsSaid r (Relays began) l (state_after (start muxes) es) top top' left left2 stands_for readings calls draws out)
+      → Ends muxes s turns (with_line l at' paid is readings calls draws out) left' × Counts l at' paid is readings calls draws out
   cut l at' paid is readings calls draws out T s top' left2 stands_for only said =
       cut_with l at' paid is readings calls draws out T s top' left2 stands_for only (λ before at_stop. stopped_so l at' paid is readings before draws out ForReceive at_stop) said
 
@@ -339,29 +349,29 @@ only_begun readings calls out = record { octets = []; out = out; calls = calls; 
 first_trace : (r : ℕ) (calls : List LinkCall) (out : List ℕ) → receipts_in calls ≡ [] → trace_of (only_begun (r ∷ []) calls out) ≡ with_events (first_tick r) (stopped BehindAll nothing)
 first_trace r calls out none = ap (λ (xs : List Received). woven [] (r ∷ []) xs []) none
 
-begun_stops : (s : Status) (r : ℕ) (calls : List LinkCall) (out : List ℕ) → receipts_in calls ≡ [] → StopsWith s (outcomes_from empty (first_tick r)) calls out → StopsWith s (outcomes (trace_of (only_begun (r ∷ []) calls out)).events) calls out
-begun_stops s r calls out none stops = stops_in s (only_begun (r ∷ []) calls out) (first_tick r) (stopped BehindAll nothing) (first_trace r calls out none) stops
+begun_stops : (muxes : Bool) (s : Status) (r : ℕ) (calls : List LinkCall) (out : List ℕ) → receipts_in calls ≡ [] → StopsWith s (told_from (start muxes) (first_tick r)) calls out → StopsWith s (outcomes_in muxes (trace_of (only_begun (r ∷ []) calls out)).events) calls out
+begun_stops muxes s r calls out none stops = stops_in muxes s (only_begun (r ∷ []) calls out) (first_tick r) (stopped BehindAll nothing) (first_trace r calls out none) stops
 
 begun_pace : (turns r : ℕ) (calls : List LinkCall) → receipts_in calls ≡ [] → ArePaced (r ∷ []) (receipts_in calls) × (length (let one : List ℕ = r ∷ [] in one) ≤ turns + 1)
 begun_pace turns r calls none = (subst (λ (xs : List Received). ArePaced (r ∷ []) xs) (sym none) (inl refl), omega arith)
 
-module _ (turns : ℕ) (left : Option (List ℕ)) (stands_for : World → Type 0) (readings : List ℕ) (calls : List LinkCall) (out : List ℕ) where
+module _ (muxes : Bool) (turns : ℕ) (left : Option (List ℕ)) (stands_for : State → Type 0) (readings : List ℕ) (calls : List LinkCall) (out : List ℕ) where
   -- what a status says of a run that ends with its first reading
   abbrev EndsAtOnce : Status → Type 0
-  EndsAtOnce s = Ends s turns (only_begun readings calls out) left × ArePaced readings (receipts_in calls) × (length readings ≤ turns + 1) × (receipts_in calls ≡ [])
+  EndsAtOnce s = Ends muxes s turns (only_begun readings calls out) left × ArePaced readings (receipts_in calls) × (length readings ≤ turns + 1) × (receipts_in calls ≡ [])
 
   -- the tick of the first reading was handled in part
-  cut_tick : (s : Status) (ends : (r : ℕ) → StopsWith s (outcomes (trace_of (only_begun (r ∷ []) calls out)).events) calls out → Ends s turns (only_begun (r ∷ []) calls out) left)
-      → (r : ℕ) → readings ≡ r ∷ [] → receipts_in calls ≡ [] → StopsWith s (outcomes_from empty (first_tick r)) calls out → EndsAtOnce s
+  cut_tick : (s : Status) (ends : (r : ℕ) → StopsWith s (outcomes_in muxes (trace_of (only_begun (r ∷ []) calls out)).events) calls out → Ends muxes s turns (only_begun (r ∷ []) calls out) left)
+      → (r : ℕ) → readings ≡ r ∷ [] → receipts_in calls ≡ [] → StopsWith s (told_from (start muxes) (first_tick r)) calls out → EndsAtOnce s
   cut_tick s ends r one none stops =
-      subst (λ (l : List ℕ). Ends s turns (only_begun l calls out) left × ArePaced l (receipts_in calls) × (length l ≤ turns + 1) × (receipts_in calls ≡ [])) (sym one)
-      (ends r (begun_stops s r calls out none stops), (begun_pace turns r calls none).0, (begun_pace turns r calls none).1, none)
+      subst (λ (l : List ℕ). Ends muxes s turns (only_begun l calls out) left × ArePaced l (receipts_in calls) × (length l ≤ turns + 1) × (receipts_in calls ≡ [])) (sym one)
+      (ends r (begun_stops muxes s r calls out none stops), (begun_pace turns r calls none).0, (begun_pace turns r calls none).1, none)
 
-  pub begun_ends : (s : Status) → IsOfTurns s → IsBegun (Err s) empty stands_for readings calls out → EndsAtOnce s
-  begun_ends s only begun = of_turns (λ (x : Status). IsBegun (Err x) empty stands_for readings calls out → EndsAtOnce x) s only
+  pub begun_ends : (s : Status) → IsOfTurns s → IsBegun (Err s) (start muxes) stands_for readings calls out → EndsAtOnce s
+  begun_ends s only begun = of_turns (λ (x : Status). IsBegun (Err x) (start muxes) stands_for readings calls out → EndsAtOnce x) s only
       (λ (none, uncalled, unwritten). (
         (
-          whole_at (only_begun readings calls out) [] ForReading (λ i. woven [] (none i) (receipts_in (uncalled i)) [])
+          whole_at muxes (only_begun readings calls out) [] ForReading (λ i. woven [] (none i) (receipts_in (uncalled i)) [])
               (subst (λ (l : List ℕ). IsDone [] calls l) (sym unwritten) (subst (λ (l : List LinkCall). IsDone [] l []) (sym uncalled) done_none))
               (subst AreGood (sym uncalled) tt),
           omega (arith, ap length none),
@@ -376,11 +386,11 @@ module _ (turns : ℕ) (left : Option (List ℕ)) (stands_for : World → Type 0
       begun
 
 -- the first line comes next
-pub begins_so : (old now : Tellings) (turns began : ℕ) (stands_for : World → Type 0) (readings : List ℕ) (calls : List LinkCall) (out : List ℕ)
+pub begins_so : (muxes : Bool) (old now : Tellings) (turns began : ℕ) (stands_for : State → Type 0) (readings : List ℕ) (calls : List LinkCall) (out : List ℕ)
     → TookIn old.left now.left [] → Wrote old.written now.written out → Added old.calls now.calls calls → Added old.readings now.readings readings → Added old.draws now.draws []
-    → (begun : IsBegun (Ok began) empty stands_for readings calls out)
-    → IsRelaying old now turns began (only_begun readings calls out) (record { waits = []; version = 1; number = 1; offset = 0; budget = 2 ^ 30 + 1 }) (first_tick begun.0) began turns
-begins_so old now turns began stands_for readings calls out took wrote called read drew (r, one, is, none, done, good, stands) = record {
+    → (begun : IsBegun (Ok began) (start muxes) stands_for readings calls out)
+    → IsRelaying muxes old now turns began (only_begun readings calls out) (record { waits = []; version = 1; number = 1; offset = 0; budget = 2 ^ 30 + 1 }) (first_tick begun.0) began turns
+begins_so muxes old now turns began stands_for readings calls out took wrote called read drew (r, one, is, none, done, good, stands) = record {
   took = took;
   wrote = wrote;
   called = called;
@@ -394,10 +404,10 @@ begins_so old now turns began stands_for readings calls out took wrote called re
   size = refl;
   room = refl;
   within = omega arith;
-  in_order = λ rest o. order_none (outcomes_at rest (readings ++ o.readings) o.draws) calls none;
+  in_order = λ rest o. order_none (told_by muxes rest (readings ++ o.readings) o.draws) calls none;
 }
 
 -- the same of an equal reading
-pub reading_so : (old now : Tellings) (turns began : ℕ) (p : Passed) (at at' : Reading) (es : List Event) (top left : ℕ) → at ≡ at' → IsRelaying old now turns began p at' es top left
-    → IsRelaying old now turns began p at es top left
-reading_so old now turns began p at at' es top left same going = subst (λ (a : Reading). IsRelaying old now turns began p a es top left) (sym same) going
+pub reading_so : (muxes : Bool) (old now : Tellings) (turns began : ℕ) (p : Passed) (at at' : Reading) (es : List Event) (top left : ℕ) → at ≡ at' → IsRelaying muxes old now turns began p at' es top left
+    → IsRelaying muxes old now turns began p at es top left
+reading_so muxes old now turns began p at at' es top left same going = subst (λ (a : Reading). IsRelaying muxes old now turns began p a es top left) (sym same) going

@@ -3,16 +3,15 @@ use Rattle.std.proofs.Common.{◌≡◌, ◌⊎◌, ◌<◌, ◌≤◌, ◌+◌,
 use Rattle.std.specs.Prelude.{nat_le, if◌then◌else◌}
 use Rattle.std.proofs.lemmas.Bool.{cond-true, cond-false, le-leb, lt-leb}
 use Rattle.std.proofs.lemmas.List.{append-nil}
-use Rattle.sg_trace.proofs.Traces.{outcomes_from-append, with_events_again, world_after-append}
+use Rattle.sg_trace.proofs.Traces.{with_events_again}
 use Rattle.sg_trace.specs.Trace.{Trace, ForReading, ForReceive, Later, arrivals_of, moment_of, stopped, ticks_of, waited, with_events}
 use Rattle.sg_trace.specs.declared.status.Status.{Status}
 use Rattle.sg_trace.specs.declared.status.Status.TheVariants.{Write, Link, NoMemory, Clock, Noise}
 use Rattle.sg_edge.specs.Links.{Failing, LinkCall, Received}
 use Rattle.sg_edge.specs.Links as links
-use Rattle.sg_gateway.specs.Events.{outcomes_from}
-use Rattle.sg_gateway.specs.Runs.{world_after}
+use Rattle.sg_front.proofs.Sequences.{told_from-append, state_after-append}
+use Rattle.sg_front.specs.States.{State, state_after, told_from}
 use Rattle.sg_gateway.specs.Step.{Event}
-use Rattle.sg_gateway.specs.World.{World}
 use Rattle.sg_outcome.specs.declared.outcomes.Outcome.{Outcome}
 use Rattle.sg_relay.specs.Asked.{AreGood, AreInOrder, AtFailedReceive, IsDone, IsGood, receipt_in, receipts_in}
 use Rattle.sg_relay.specs.Causes.{IsOfOutcomes, IsOfSignals, IsOfTurns}
@@ -40,67 +39,67 @@ of_signals P s (inr is) noise write link memory = of_outcomes P s is write link 
 pub received_none : (x : Received) → IsDone [] (links.Receive x ∷ []) []
 received_none x = record { told = []; of_outcomes = refl; asked = refl; sent = refl; written = refl }
 
--- the datagram that came is handled, or a front is done
-pub received_more : {T : Type 0} (r : Result T Status) (w : World) (stands_for : World → Type 0) (x : Received) (calls : List LinkCall) (out : List ℕ) → IsGood (links.Receive x)
-    → AreHandled r w (arrivals_of x) stands_for calls out → IsReceived r w stands_for x (links.Receive x ∷ calls) out
-received_more (Ok u) w stands_for x calls out good handled = (
+-- the datagram that came is handled, whole or in part
+pub received_more : {T : Type 0} (r : Result T Status) (state : State) (stands_for : State → Type 0) (x : Received) (calls : List LinkCall) (out : List ℕ) → IsGood (links.Receive x)
+    → AreHandled r state (arrivals_of x) stands_for calls out → IsReceived r state stands_for x (links.Receive x ∷ calls) out
+received_more (Ok u) state stands_for x calls out good handled = (
   ap (λ l. x ∷ l) handled.2,
-  done_more [] (outcomes_from w (arrivals_of x)) (links.Receive x ∷ []) calls [] out (received_none x) handled.0,
+  done_more [] (told_from state (arrivals_of x)) (links.Receive x ∷ []) calls [] out (received_none x) handled.0,
   (good, handled.1),
   handled.3,
 )
-received_more (Err s) w stands_for x calls out good handled = inr (
+received_more (Err s) state stands_for x calls out good handled = inr (
   ap (λ l. x ∷ l) handled.1,
-  stops_after s [] (outcomes_from w (arrivals_of x)) (links.Receive x ∷ []) calls [] out (received_none x) (good, tt) handled.0,
+  stops_after s [] (told_from state (arrivals_of x)) (links.Receive x ∷ []) calls [] out (received_none x) (good, tt) handled.0,
 )
 
 -- ---- a turn
 
-pub cut_turn : (s : Status) (w : World) (top top' : ℕ) (stands_for : World → Type 0) (readings : List ℕ) (calls : List LinkCall) (out : List ℕ)
-    → IsOfOutcomes s → IsTurnCut s w top readings calls out → IsTurn (Err s) w top top' stands_for readings calls out
-cut_turn s w top top' stands_for readings calls out only =
-    of_outcomes (λ (x : Status). IsTurnCut x w top readings calls out → IsTurn (Err x) w top top' stands_for readings calls out) s only (λ cut. cut) (λ cut. inr cut) (λ cut. cut)
+pub cut_turn : (s : Status) (state : State) (top top' : ℕ) (stands_for : State → Type 0) (readings : List ℕ) (calls : List LinkCall) (out : List ℕ)
+    → IsOfOutcomes s → IsTurnCut s state top readings calls out → IsTurn (Err s) state top top' stands_for readings calls out
+cut_turn s state top top' stands_for readings calls out only =
+    of_outcomes (λ (x : Status). IsTurnCut x state top readings calls out → IsTurn (Err x) state top top' stands_for readings calls out) s only (λ cut. cut) (λ cut. inr cut) (λ cut. cut)
 
 -- a turn that was cut in its receive
-pub cut_received : (T : Type 0) (s : Status) (w : World) (top top' r : ℕ) (x : Received) (stands_for stands_for' : World → Type 0) (a b : List LinkCall) (o p : List ℕ)
-    → IsOfOutcomes s → AreHandled {T = Unit {0}} (Ok tt) w (ticks_of top r) stands_for a o → (let q : Result T Status = Err s in IsReceived q (world_after w (ticks_of top r)) stands_for' x b p)
-    → IsTurn (Err s) w top top' stands_for' (r ∷ []) (a ++ b) (o ++ p)
-cut_received T s w top top' r x stands_for stands_for' a b o p only ticked (inl (is, failed, unwritten)) =
-    subst (λ (m : Status). IsTurn (Err m) w top top' stands_for' (r ∷ []) (a ++ b) (o ++ p)) (sym is)
+pub cut_received : (T : Type 0) (s : Status) (state : State) (top top' r : ℕ) (x : Received) (stands_for stands_for' : State → Type 0) (a b : List LinkCall) (o p : List ℕ)
+    → IsOfOutcomes s → AreHandled {T = Unit {0}} (Ok tt) state (ticks_of top r) stands_for a o → (let q : Result T Status = Err s in IsReceived q (state_after state (ticks_of top r)) stands_for' x b p)
+    → IsTurn (Err s) state top top' stands_for' (r ∷ []) (a ++ b) (o ++ p)
+cut_received T s state top top' r x stands_for stands_for' a b o p only ticked (inl (is, failed, unwritten)) =
+    subst (λ (m : Status). IsTurn (Err m) state top top' stands_for' (r ∷ []) (a ++ b) (o ++ p)) (sym is)
     (inl (
       r,
       refl,
       (
         a,
         ap (λ (l : List LinkCall). a ++ l) failed,
-        (ticked.2, subst (λ (l : List ℕ). IsDone (outcomes_from w (ticks_of top r)) a l) (sym (ap (λ (l : List ℕ). o ++ l) unwritten ∙ append-nil o)) ticked.0, ticked.1),
+        (ticked.2, subst (λ (l : List ℕ). IsDone (told_from state (ticks_of top r)) a l) (sym (ap (λ (l : List ℕ). o ++ l) unwritten ∙ append-nil o)) ticked.0, ticked.1),
       ),
     ))
-cut_received T s w top top' r x stands_for stands_for' a b o p only ticked (inr (come, stops)) = cut_turn s w top top' stands_for' (r ∷ []) (a ++ b) (o ++ p) only (
+cut_received T s state top top' r x stands_for stands_for' a b o p only ticked (inr (come, stops)) = cut_turn s state top top' stands_for' (r ∷ []) (a ++ b) (o ++ p) only (
   r,
   x ∷ [],
   refl,
   flat_append receipt_in a b ∙ ap₂ (λ (l m : List Received). l ++ m) ticked.2 come,
   omega arith,
-  subst (λ (os : List Outcome). StopsWith s os (a ++ b) (o ++ p)) (sym (outcomes_from-append w (ticks_of top r) (arrivals_of x)))
-      (stops_after s (outcomes_from w (ticks_of top r)) (outcomes_from (world_after w (ticks_of top r)) (arrivals_of x)) a b o p ticked.0 ticked.1 stops),
+  subst (λ (os : List Outcome). StopsWith s os (a ++ b) (o ++ p)) (sym (told_from-append state (ticks_of top r) (arrivals_of x)))
+      (stops_after s (told_from state (ticks_of top r)) (told_from (state_after state (ticks_of top r)) (arrivals_of x)) a b o p ticked.0 ticked.1 stops),
 )
 
 -- a whole turn
-pub turn_done : (pad : List ℕ) (w : World) (top top' r : ℕ) (x : Received) (stands_for stands_for' : World → Type 0) (a b : List LinkCall) (o p : List ℕ)
-    → AreHandled {T = Unit {0}} (Ok tt) w (ticks_of top r) stands_for a o → IsReceived (Ok pad) (world_after w (ticks_of top r)) stands_for' x b p → top' ≡ max top (moment_of r)
-    → IsTurn (Ok (moment_of r, pad)) w top top' stands_for' (r ∷ []) (a ++ b) (o ++ p)
-turn_done pad w top top' r x stands_for stands_for' a b o p ticked received is = (
+pub turn_done : (pad : List ℕ) (state : State) (top top' r : ℕ) (x : Received) (stands_for stands_for' : State → Type 0) (a b : List LinkCall) (o p : List ℕ)
+    → AreHandled {T = Unit {0}} (Ok tt) state (ticks_of top r) stands_for a o → IsReceived (Ok pad) (state_after state (ticks_of top r)) stands_for' x b p → top' ≡ max top (moment_of r)
+    → IsTurn (Ok (moment_of r, pad)) state top top' stands_for' (r ∷ []) (a ++ b) (o ++ p)
+turn_done pad state top top' r x stands_for stands_for' a b o p ticked received is = (
   r,
   x,
   refl,
   flat_append receipt_in a b ∙ ap₂ (λ (l m : List Received). l ++ m) ticked.2 received.0,
   refl,
   is,
-  subst (λ (os : List Outcome). IsDone os (a ++ b) (o ++ p)) (sym (outcomes_from-append w (ticks_of top r) (arrivals_of x)))
-      (done_more (outcomes_from w (ticks_of top r)) (outcomes_from (world_after w (ticks_of top r)) (arrivals_of x)) a b o p ticked.0 received.1),
+  subst (λ (os : List Outcome). IsDone os (a ++ b) (o ++ p)) (sym (told_from-append state (ticks_of top r) (arrivals_of x)))
+      (done_more (told_from state (ticks_of top r)) (told_from (state_after state (ticks_of top r)) (arrivals_of x)) a b o p ticked.0 received.1),
   AreGood-append a b ticked.1 received.2,
-  subst stands_for' (sym (world_after-append w (ticks_of top r) (arrivals_of x))) received.3,
+  subst stands_for' (sym (state_after-append state (ticks_of top r) (arrivals_of x))) received.3,
 )
 
 -- ---- a wait
@@ -113,8 +112,8 @@ GoesOn until top readings receipts es top' =
 pub goes_none : (until top : ℕ) → GoesOn until top [] [] [] top
 goes_none until top = λ later rs xs draws. refl
 
-pub wait_order_none : (until : ℕ) (w : World) (top : ℕ) → IsWaitInOrder until w top [] []
-wait_order_none until w top = λ later rs draws. order_none (λ xs. outcomes_from w (waited until later top rs xs draws).events) [] refl
+pub wait_order_none : (until : ℕ) (state : State) (top : ℕ) → IsWaitInOrder until state top [] []
+wait_order_none until state top = λ later rs draws. order_none (λ xs. told_from state (waited until later top rs xs draws).events) [] refl
 
 module _ (until top : ℕ) (readings : List ℕ) (receipts : List Received) (es : List Event) (top' : ℕ) (goes : GoesOn until top readings receipts es top') where
   -- a whole turn, whatever follows
@@ -156,9 +155,9 @@ module _ (until top : ℕ) (readings : List ℕ) (receipts : List Received) (es 
       (rest, goes later (r ∷ []) (x ∷ []) draws ∙ with_events_again es (ticks_of top' r ++ arrivals_of x) rest)
   in_turn r (x ∷ y ∷ xs) one later draws = absurd (omega (arith, one))
 
-  module _ (w : World) (calls : List LinkCall) (out : List ℕ) (is : receipts_in calls ≡ receipts) (done : IsDone (outcomes_from w es) calls out) (good : AreGood calls)
+  module _ (state : State) (calls : List LinkCall) (out : List ℕ) (is : receipts_in calls ≡ receipts) (done : IsDone (told_from state es) calls out) (good : AreGood calls)
       (paced : length readings ≡ length receipts) (turns turns' : ℕ) (counted : length readings + turns' ≡ turns) where
-    pub reading_next : IsWaiting ForReading until w top readings calls out × (length readings ≡ length (receipts_in calls))
+    pub reading_next : IsWaiting ForReading until state top readings calls out × (length readings ≡ length (receipts_in calls))
     reading_next = (
       record {
         events = es;
@@ -179,8 +178,8 @@ module _ (until top : ℕ) (readings : List ℕ) (receipts : List Received) (es 
       pace (x ∷ []) one size more = inl (omega (arith, paced, size, more))
       pace (x ∷ y ∷ xs) one size more = absurd (omega (arith, one))
 
-      cut_so : (s : Status) → 0 < turns' → IsTurnCut s (world_after w es) top' readings' calls' out'
-          → IsWaitCut s until w top (readings ++ readings') (calls ++ calls') (out ++ out') × (length (readings ++ readings') ≤ turns)
+      cut_so : (s : Status) → 0 < turns' → IsTurnCut s (state_after state es) top' readings' calls' out'
+          → IsWaitCut s until state top (readings ++ readings') (calls ++ calls') (out ++ out') × (length (readings ++ readings') ≤ turns)
       cut_so s left (r, xs, one, come, few, stops) =
           let all : receipts_in (calls ++ calls') ≡ receipts ++ xs = receipts_are ∙ ap (λ (l : List Received). receipts ++ l) come in
           let size : length (readings ++ readings') ≡ length readings + 1 = length-append readings readings' ∙ ap (λ (l : List ℕ). length readings + length l) one in (
@@ -189,16 +188,16 @@ module _ (until top : ℕ) (readings : List ℕ) (receipts : List Received) (es 
               (λ later draws.
                   let at = in_turn r xs few later draws in
                   (at.0, ap₂ (λ (l : List ℕ) (m : List Received). waited until later top l m draws) (ap (λ (l : List ℕ). readings ++ l) one) all ∙ at.1)),
-              subst (λ (os : List Outcome). StopsWith s os (calls ++ calls') (out ++ out')) (sym (outcomes_from-append w es (turned top' r xs)))
-                  (stops_after s (outcomes_from w es) (outcomes_from (world_after w es) (turned top' r xs)) calls calls' out out' done good stops),
+              subst (λ (os : List Outcome). StopsWith s os (calls ++ calls') (out ++ out')) (sym (told_from-append state es (turned top' r xs)))
+                  (stops_after s (told_from state es) (told_from (state_after state es) (turned top' r xs)) calls calls' out out' done good stops),
               subst (λ (m : List Received). (length (readings ++ readings') ≡ length m) ⊎ (length (readings ++ readings') ≡ length m + 1)) (sym all) (pace xs few size (length-append receipts xs)),
             ),
             omega (arith, size, counted, left),
           )
 
       -- the receive of the turn failed
-      unreceived : 0 < turns' → IsTurnUnreceived (world_after w es) top' readings' calls' out'
-          → (AtFailedReceive (λ before. IsWaiting ForReceive until w top (readings ++ readings') before (out ++ out')) (calls ++ calls') × (length (readings ++ readings') ≡ length (receipts_in (calls ++ calls'))))
+      unreceived : 0 < turns' → IsTurnUnreceived (state_after state es) top' readings' calls' out'
+          → (AtFailedReceive (λ before. IsWaiting ForReceive until state top (readings ++ readings') before (out ++ out')) (calls ++ calls') × (length (readings ++ readings') ≡ length (receipts_in (calls ++ calls'))))
           × (length (readings ++ readings') ≤ turns)
       unreceived left (r, one, (before, failed, (none, done', good'))) =
           let none_more : receipts_in (calls ++ before) ≡ receipts = flat_append receipt_in calls before ∙ ap₂ (λ (l m : List Received). l ++ m) is none ∙ append-nil receipts in
@@ -212,8 +211,8 @@ module _ (until top : ℕ) (readings : List ℕ) (receipts : List Received) (es 
                   events = es ++ ticks_of top' r;
                   stops = λ later draws.
                       ap₂ (λ (l : List ℕ) (m : List Received). waited until later top l m draws) (ap (λ (l : List ℕ). readings ++ l) one) none_more ∙ receive_next r later draws;
-                  done = subst (λ (os : List Outcome). IsDone os (calls ++ before) (out ++ out')) (sym (outcomes_from-append w es (ticks_of top' r)))
-                      (done_more (outcomes_from w es) (outcomes_from (world_after w es) (ticks_of top' r)) calls before out out' done done');
+                  done = subst (λ (os : List Outcome). IsDone os (calls ++ before) (out ++ out')) (sym (told_from-append state es (ticks_of top' r)))
+                      (done_more (told_from state es) (told_from (state_after state es) (ticks_of top' r)) calls before out out' done done');
                   good = AreGood-append calls before good good';
                 },
               ),
@@ -222,66 +221,66 @@ module _ (until top : ℕ) (readings : List ℕ) (receipts : List Received) (es 
             omega (arith, size, counted, left),
           )
 
-      cut_link : 0 < turns' → IsTurnUnreceived (world_after w es) top' readings' calls' out' ⊎ IsTurnCut Link (world_after w es) top' readings' calls' out'
-          → ((AtFailedReceive (λ before. IsWaiting ForReceive until w top (readings ++ readings') before (out ++ out')) (calls ++ calls') × (length (readings ++ readings') ≡ length (receipts_in (calls ++ calls'))))
-          ⊎ IsWaitCut Link until w top (readings ++ readings') (calls ++ calls') (out ++ out')) × (length (readings ++ readings') ≤ turns)
+      cut_link : 0 < turns' → IsTurnUnreceived (state_after state es) top' readings' calls' out' ⊎ IsTurnCut Link (state_after state es) top' readings' calls' out'
+          → ((AtFailedReceive (λ before. IsWaiting ForReceive until state top (readings ++ readings') before (out ++ out')) (calls ++ calls') × (length (readings ++ readings') ≡ length (receipts_in (calls ++ calls'))))
+          ⊎ IsWaitCut Link until state top (readings ++ readings') (calls ++ calls') (out ++ out')) × (length (readings ++ readings') ≤ turns)
       cut_link left (inl failed) = let at = unreceived left failed in (inl at.0, at.1)
       cut_link left (inr cut) = let at = cut_so Link left cut in (inr at.0, at.1)
 
       -- there was no reading
       unread : 0 < turns' → (readings' ≡ []) × (calls' ≡ []) × (out' ≡ [])
-          → IsWaiting ForReading until w top (readings ++ readings') (calls ++ calls') (out ++ out') × (length (readings ++ readings') ≡ length (receipts_in (calls ++ calls')))
+          → IsWaiting ForReading until state top (readings ++ readings') (calls ++ calls') (out ++ out') × (length (readings ++ readings') ≡ length (receipts_in (calls ++ calls')))
           × (length (readings ++ readings') < turns)
       unread left (none, uncalled, unwritten) =
           let same : (readings ++ readings' ≡ readings) = ap (λ (l : List ℕ). readings ++ l) none ∙ append-nil readings in
           let uncalled_more : (calls ++ calls' ≡ calls) = ap (λ (l : List LinkCall). calls ++ l) uncalled ∙ append-nil calls in (
-            subst (λ (l : List ℕ). IsWaiting ForReading until w top l (calls ++ calls') (out ++ out')) (sym same)
-                (subst (λ (l : List LinkCall). IsWaiting ForReading until w top readings l (out ++ out')) (sym uncalled_more)
-                (subst (λ (l : List ℕ). IsWaiting ForReading until w top readings calls l) (sym (append-nil out) ∙ ap (λ (l : List ℕ). out ++ l) (sym unwritten)) reading_next.0)),
+            subst (λ (l : List ℕ). IsWaiting ForReading until state top l (calls ++ calls') (out ++ out')) (sym same)
+                (subst (λ (l : List LinkCall). IsWaiting ForReading until state top readings l (out ++ out')) (sym uncalled_more)
+                (subst (λ (l : List ℕ). IsWaiting ForReading until state top readings calls l) (sym (append-nil out) ∙ ap (λ (l : List ℕ). out ++ l) (sym unwritten)) reading_next.0)),
             ap length same ∙ reading_next.1 ∙ ap (λ (l : List LinkCall). length (receipts_in l)) (sym uncalled_more),
             omega (arith, counted, left, ap length same),
           )
 
       -- a turn that was cut, whose receive failed, or for which there was no reading
-      pub cut_wait : (s : Status) (stands_for stands_for' : World → Type 0) (top2 turns2 : ℕ) → IsOfTurns s → 0 < turns' → IsTurn (Err s) (world_after w es) top' top2 stands_for readings' calls' out'
-          → IsWaited (Err s) until w top top2 turns turns2 stands_for' (readings ++ readings') (calls ++ calls') (out ++ out')
+      pub cut_wait : (s : Status) (stands_for stands_for' : State → Type 0) (top2 turns2 : ℕ) → IsOfTurns s → 0 < turns' → IsTurn (Err s) (state_after state es) top' top2 stands_for readings' calls' out'
+          → IsWaited (Err s) until state top top2 turns turns2 stands_for' (readings ++ readings') (calls ++ calls') (out ++ out')
       cut_wait s stands_for stands_for' top2 turns2 only left = of_turns
-          (λ (x : Status). IsTurn (Err x) (world_after w es) top' top2 stands_for readings' calls' out' → IsWaited (Err x) until w top top2 turns turns2 stands_for' (readings ++ readings') (calls ++ calls') (out ++ out'))
+          (λ (x : Status). IsTurn (Err x) (state_after state es) top' top2 stands_for readings' calls' out' → IsWaited (Err x) until state top top2 turns turns2 stands_for' (readings ++ readings') (calls ++ calls') (out ++ out'))
           s only (unread left) (cut_so Write left) (cut_link left) (cut_so NoMemory left)
 
       -- a whole turn
-      all_done : (top2 moment : ℕ) (pad : List ℕ) (stands_for : World → Type 0) (turned : IsTurn (Ok (moment, pad)) (world_after w es) top' top2 stands_for readings' calls' out')
-          → let events : List Event = es ++ (ticks_of top' turned.0 ++ arrivals_of turned.1) in IsDone (outcomes_from w events) (calls ++ calls') (out ++ out') × AreGood (calls ++ calls') × stands_for (world_after w events)
+      all_done : (top2 moment : ℕ) (pad : List ℕ) (stands_for : State → Type 0) (turned : IsTurn (Ok (moment, pad)) (state_after state es) top' top2 stands_for readings' calls' out')
+          → let events : List Event = es ++ (ticks_of top' turned.0 ++ arrivals_of turned.1) in IsDone (told_from state events) (calls ++ calls') (out ++ out') × AreGood (calls ++ calls') × stands_for (state_after state events)
       all_done top2 moment pad stands_for (r, x, one, come, is, at, done', good', stands') = (
-        subst (λ (os : List Outcome). IsDone os (calls ++ calls') (out ++ out')) (sym (outcomes_from-append w es (ticks_of top' r ++ arrivals_of x)))
-            (done_more (outcomes_from w es) (outcomes_from (world_after w es) (ticks_of top' r ++ arrivals_of x)) calls calls' out out' done done'),
+        subst (λ (os : List Outcome). IsDone os (calls ++ calls') (out ++ out')) (sym (told_from-append state es (ticks_of top' r ++ arrivals_of x)))
+            (done_more (told_from state es) (told_from (state_after state es) (ticks_of top' r ++ arrivals_of x)) calls calls' out out' done done'),
         AreGood-append calls calls' good good',
-        subst stands_for (sym (world_after-append w es (ticks_of top' r ++ arrivals_of x))) stands',
+        subst stands_for (sym (state_after-append state es (ticks_of top' r ++ arrivals_of x))) stands',
       )
 
       -- the turn's calls by what follows the wait so far
-      rest_order : IsTurnInOrder (world_after w es) top' readings' calls' → (later : Later) (rs draws : List ℕ)
-          → AreInOrder (λ xs. outcomes_from (world_after w es) (waited until later top' (readings' ++ rs) xs draws).events) calls'
-      rest_order (inl none) later rs draws = order_none (λ xs. outcomes_from (world_after w es) (waited until later top' (readings' ++ rs) xs draws).events) calls' (ap receipts_in none)
+      rest_order : IsTurnInOrder (state_after state es) top' readings' calls' → (later : Later) (rs draws : List ℕ)
+          → AreInOrder (λ xs. told_from (state_after state es) (waited until later top' (readings' ++ rs) xs draws).events) calls'
+      rest_order (inl none) later rs draws = order_none (λ xs. told_from (state_after state es) (waited until later top' (readings' ++ rs) xs draws).events) calls' (ap receipts_in none)
       rest_order (inr (r, one, few, order)) later rs draws =
-          order_as (λ xs. outcomes_from (world_after w es) (waited until later top' (readings' ++ rs) xs draws).events) (λ xs. outcomes_from (world_after w es) (turned top' r xs)) calls' few
-          (ap (λ (l : List ℕ). outcomes_from (world_after w es) (waited until later top' (l ++ rs) [] draws).events) one ∙ ap (outcomes_from (world_after w es)) (append-nil (ticks_of top' r)))
+          order_as (λ xs. told_from (state_after state es) (waited until later top' (readings' ++ rs) xs draws).events) (λ xs. told_from (state_after state es) (turned top' r xs)) calls' few
+          (ap (λ (l : List ℕ). told_from (state_after state es) (waited until later top' (l ++ rs) [] draws).events) one ∙ ap (told_from (state_after state es)) (append-nil (ticks_of top' r)))
           order
 
       -- one turn more is in order
-      pub wait_order : IsWaitInOrder until w top readings calls → IsTurnInOrder (world_after w es) top' readings' calls' → IsWaitInOrder until w top (readings ++ readings') (calls ++ calls')
+      pub wait_order : IsWaitInOrder until state top readings calls → IsTurnInOrder (state_after state es) top' readings' calls' → IsWaitInOrder until state top (readings ++ readings') (calls ++ calls')
       wait_order before turn later rs draws =
-          subst (λ (l : List ℕ). AreInOrder (λ xs. outcomes_from w (waited until later top l xs draws).events) (calls ++ calls')) (sym (append_assoc readings readings' rs))
-          (order_more (λ xs. outcomes_from w (waited until later top (readings ++ (readings' ++ rs)) xs draws).events)
-          (λ xs. outcomes_from (world_after w es) (waited until later top' (readings' ++ rs) xs draws).events) (outcomes_from w es) calls calls'
-          (λ xs. ap (λ (c : Trace). outcomes_from w c.events)
+          subst (λ (l : List ℕ). AreInOrder (λ xs. told_from state (waited until later top l xs draws).events) (calls ++ calls')) (sym (append_assoc readings readings' rs))
+          (order_more (λ xs. told_from state (waited until later top (readings ++ (readings' ++ rs)) xs draws).events)
+          (λ xs. told_from (state_after state es) (waited until later top' (readings' ++ rs) xs draws).events) (told_from state es) calls calls'
+          (λ xs. ap (λ (c : Trace). told_from state c.events)
           (ap (λ (m : List Received). waited until later top (readings ++ (readings' ++ rs)) (m ++ xs) draws) is ∙ goes later (readings' ++ rs) xs draws)
-          ∙ outcomes_from-append w es (waited until later top' (readings' ++ rs) xs draws).events)
+          ∙ told_from-append state es (waited until later top' (readings' ++ rs) xs draws).events)
           done.asked (before later (readings' ++ rs) draws) (rest_order turn later rs draws))
 
       -- the last turn
-      pub over_wait : (moment : ℕ) (pad : List ℕ) (top2 turns2 : ℕ) (stands_for : World → Type 0) → until ≤ moment → turns2 + 1 ≡ turns' → IsTurn (Ok (moment, pad)) (world_after w es) top' top2 stands_for readings' calls' out'
-          → IsWaited (Ok pad) until w top top2 turns turns2 stands_for (readings ++ readings') (calls ++ calls') (out ++ out')
+      pub over_wait : (moment : ℕ) (pad : List ℕ) (top2 turns2 : ℕ) (stands_for : State → Type 0) → until ≤ moment → turns2 + 1 ≡ turns' → IsTurn (Ok (moment, pad)) (state_after state es) top' top2 stands_for readings' calls' out'
+          → IsWaited (Ok pad) until state top top2 turns turns2 stands_for (readings ++ readings') (calls ++ calls') (out ++ out')
       over_wait moment pad top2 turns2 stands_for late one_less (r, x, one, come, is, at, done', good', stands') =
           let all : receipts_in (calls ++ calls') ≡ receipts ++ x ∷ [] = receipts_are ∙ ap (λ (l : List Received). receipts ++ l) come in
           let over : nat_le until (moment_of r) ≡ true = le-leb until (moment_of r) (omega (arith, late, is)) in
@@ -300,9 +299,9 @@ module _ (until top : ℕ) (readings : List ℕ) (receipts : List Received) (es 
           )
 
       -- a turn that isn't the last
-      pub wait_more : (moment : ℕ) (pad : List ℕ) (top2 turns2 : ℕ) (stands_for : World → Type 0) → moment < until → turns2 + 1 ≡ turns' → IsTurn (Ok (moment, pad)) (world_after w es) top' top2 stands_for readings' calls' out'
+      pub wait_more : (moment : ℕ) (pad : List ℕ) (top2 turns2 : ℕ) (stands_for : State → Type 0) → moment < until → turns2 + 1 ≡ turns' → IsTurn (Ok (moment, pad)) (state_after state es) top' top2 stands_for readings' calls' out'
           → (events : List Event) × GoesOn until top (readings ++ readings') (receipts_in (calls ++ calls')) events top2
-          × IsDone (outcomes_from w events) (calls ++ calls') (out ++ out') × AreGood (calls ++ calls') × stands_for (world_after w events)
+          × IsDone (told_from state events) (calls ++ calls') (out ++ out') × AreGood (calls ++ calls') × stands_for (state_after state events)
           × (length (readings ++ readings') ≡ length (receipts_in (calls ++ calls'))) × (length (readings ++ readings') + turns2 ≡ turns)
       wait_more moment pad top2 turns2 stands_for early one_less (r, x, one, come, is, at, done', good', stands') =
           let all : receipts_in (calls ++ calls') ≡ receipts ++ x ∷ [] = receipts_are ∙ ap (λ (l : List Received). receipts ++ l) come in

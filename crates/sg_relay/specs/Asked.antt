@@ -102,7 +102,7 @@ pub record IsDone (outcomes : List Outcome) (calls : List LinkCall) (out : List 
   pub sent : sends_in calls ≡ flat_map sent_of told
   pub written : out ≡ text (flat_map written_of told)
 
--- What the outcome asks for was asked, and of what is written of it a front was.
+-- What the outcome asks for was asked, and of what is written of it a prefix was.
 pub record IsUntold (outcome : Outcome) (calls : List LinkCall) (out : List ℕ) : Type 0 where
   pub sent : Bool
   pub asked : asks_in calls ≡ asks_of outcome

@@ -6,10 +6,9 @@ use Rattle.sg_trace.specs.Output.{IsPrefixOf}
 use Rattle.sg_trace.specs.declared.status.Status.{Status}
 use Rattle.sg_trace.specs.declared.status.Status.TheVariants.{Link, Clock, Noise, TurnsSpent}
 use Rattle.sg_edge.specs.Links.{Failing, LinkCall, Receive, Received}
-use Rattle.sg_gateway.specs.Events.{events_of, outcomes_from}
-use Rattle.sg_gateway.specs.Runs.{world_after}
+use Rattle.sg_front.specs.States.{State, state_after, told_from}
+use Rattle.sg_gateway.specs.Events.{events_of}
 use Rattle.sg_gateway.specs.Step.{Event}
-use Rattle.sg_gateway.specs.World.{World}
 use Rattle.sg_lines.specs.declared.lines.Line.{Line}
 use Rattle.sg_lines.specs.declared.lines.Line.TheVariants as lines
 use Rattle.sg_lines.specs.declared.lines.Signal.TheVariants.{Tick}
@@ -33,18 +32,18 @@ abbrev pub AreCarriedOut : Result (Unit {0}) Status → List Outcome → List Li
 AreCarriedOut (Ok u) outcomes calls out = IsDone outcomes calls out × AreGood calls × (receipts_in calls ≡ [])
 AreCarriedOut (Err status) outcomes calls out = StopsWith status outcomes calls out × (receipts_in calls ≡ [])
 
--- The events were handled, and the table stands for the world after them; or a front was done.
-abbrev pub AreHandled : {T : Type 0} → Result T Status → World → List Event → (World → Type 0) → List LinkCall → List ℕ → Type 0
-AreHandled (Ok x) w events stands_for calls out =
-    IsDone (outcomes_from w events) calls out × AreGood calls × (receipts_in calls ≡ []) × stands_for (world_after w events)
-AreHandled (Err status) w events stands_for calls out = StopsWith status (outcomes_from w events) calls out × (receipts_in calls ≡ [])
+-- The events were handled, and the front stands for the state after them; or they were handled in part.
+abbrev pub AreHandled : {T : Type 0} → Result T Status → State → List Event → (State → Type 0) → List LinkCall → List ℕ → Type 0
+AreHandled (Ok x) state events stands_for calls out =
+    IsDone (told_from state events) calls out × AreGood calls × (receipts_in calls ≡ []) × stands_for (state_after state events)
+AreHandled (Err status) state events stands_for calls out = StopsWith status (told_from state events) calls out × (receipts_in calls ≡ [])
 
--- A receive was made, and its datagram handled, or a front was done; or the receive failed.
-abbrev pub IsReceived : {T : Type 0} → Result T Status → World → (World → Type 0) → Received → List LinkCall → List ℕ → Type 0
-IsReceived (Ok pad) w stands_for x calls out =
-    (receipts_in calls ≡ x ∷ []) × IsDone (outcomes_from w (arrivals_of x)) calls out × AreGood calls × stands_for (world_after w (arrivals_of x))
-IsReceived (Err status) w stands_for x calls out =
-    ((status ≡ Link) × (calls ≡ Receive Failing ∷ []) × (out ≡ [])) ⊎ ((receipts_in calls ≡ x ∷ []) × StopsWith status (outcomes_from w (arrivals_of x)) calls out)
+-- A receive was made, and its datagram handled, whole or in part; or the receive failed.
+abbrev pub IsReceived : {T : Type 0} → Result T Status → State → (State → Type 0) → Received → List LinkCall → List ℕ → Type 0
+IsReceived (Ok pad) state stands_for x calls out =
+    (receipts_in calls ≡ x ∷ []) × IsDone (told_from state (arrivals_of x)) calls out × AreGood calls × stands_for (state_after state (arrivals_of x))
+IsReceived (Err status) state stands_for x calls out =
+    ((status ≡ Link) × (calls ≡ Receive Failing ∷ []) × (out ≡ [])) ⊎ ((receipts_in calls ≡ x ∷ []) × StopsWith status (told_from state (arrivals_of x)) calls out)
 
 -- the events of a turn that took this reading and these answers of its receive, of which there is one at most
 abbrev pub turned : ℕ → ℕ → List Received → List Event
@@ -52,31 +51,31 @@ turned top r [] = ticks_of top r
 turned top r (x ∷ xs) = ticks_of top r ++ arrivals_of x
 
 -- a turn that was cut, which took its reading and at most its receive
-abbrev pub IsTurnCut : Status → World → ℕ → List ℕ → List LinkCall → List ℕ → Type 0
-IsTurnCut status w top readings calls out =
-    (r : ℕ) × (xs : List Received) × (readings ≡ r ∷ []) × (receipts_in calls ≡ xs) × (length xs ≤ 1) × StopsWith status (outcomes_from w (turned top r xs)) calls out
+abbrev pub IsTurnCut : Status → State → ℕ → List ℕ → List LinkCall → List ℕ → Type 0
+IsTurnCut status state top readings calls out =
+    (r : ℕ) × (xs : List Received) × (readings ≡ r ∷ []) × (receipts_in calls ≡ xs) × (length xs ≤ 1) × StopsWith status (told_from state (turned top r xs)) calls out
 
 -- a turn whose receive failed
-abbrev pub IsTurnUnreceived : World → ℕ → List ℕ → List LinkCall → List ℕ → Type 0
-IsTurnUnreceived w top readings calls out =
-    (r : ℕ) × (readings ≡ r ∷ []) × AtFailedReceive (λ before. (receipts_in before ≡ []) × IsDone (outcomes_from w (ticks_of top r)) before out × AreGood before) calls
+abbrev pub IsTurnUnreceived : State → ℕ → List ℕ → List LinkCall → List ℕ → Type 0
+IsTurnUnreceived state top readings calls out =
+    (r : ℕ) × (readings ≡ r ∷ []) × AtFailedReceive (λ before. (receipts_in before ≡ []) × IsDone (told_from state (ticks_of top r)) before out × AreGood before) calls
 
 -- A turn took one reading and one receive. With Clock it took none; where it ended otherwise, it was cut, or its
 -- receive failed.
-abbrev pub IsTurn : Result (ℕ × List ℕ) Status → World → ℕ → ℕ → (World → Type 0) → List ℕ → List LinkCall → List ℕ → Type 0
-IsTurn (Ok given) w top top' stands_for readings calls out =
+abbrev pub IsTurn : Result (ℕ × List ℕ) Status → State → ℕ → ℕ → (State → Type 0) → List ℕ → List LinkCall → List ℕ → Type 0
+IsTurn (Ok given) state top top' stands_for readings calls out =
     (r : ℕ) × (x : Received) × (readings ≡ r ∷ []) × (receipts_in calls ≡ x ∷ []) × (given.0 ≡ moment_of r) × (top' ≡ max top given.0)
-    × IsDone (outcomes_from w (ticks_of top r ++ arrivals_of x)) calls out × AreGood calls × stands_for (world_after w (ticks_of top r ++ arrivals_of x))
-IsTurn (Err Clock) w top top' stands_for readings calls out = (readings ≡ []) × (calls ≡ []) × (out ≡ [])
-IsTurn (Err Link) w top top' stands_for readings calls out = IsTurnUnreceived w top readings calls out ⊎ IsTurnCut Link w top readings calls out
-IsTurn (Err status) w top top' stands_for readings calls out = IsTurnCut status w top readings calls out
+    × IsDone (told_from state (ticks_of top r ++ arrivals_of x)) calls out × AreGood calls × stands_for (state_after state (ticks_of top r ++ arrivals_of x))
+IsTurn (Err Clock) state top top' stands_for readings calls out = (readings ≡ []) × (calls ≡ []) × (out ≡ [])
+IsTurn (Err Link) state top top' stands_for readings calls out = IsTurnUnreceived state top readings calls out ⊎ IsTurnCut Link state top readings calls out
+IsTurn (Err status) state top top' stands_for readings calls out = IsTurnCut status state top readings calls out
 
 -- A wait comes to a reading or a receive that wasn't taken, and all its events were handled.
-pub record IsWaiting (stop : Stop) (until : ℕ) (w : World) (top : ℕ) (readings : List ℕ) (calls : List LinkCall) (out : List ℕ) : Type 0 where
+pub record IsWaiting (stop : Stop) (until : ℕ) (state : State) (top : ℕ) (readings : List ℕ) (calls : List LinkCall) (out : List ℕ) : Type 0 where
   pub events : List Event
   pub stops : (later : Later) (draws : List ℕ)
       → waited until later top readings (receipts_in calls) draws ≡ with_events events (stopped stop (record { readings = []; receipts = []; draws = draws }))
-  pub done : IsDone (outcomes_from w events) calls out
+  pub done : IsDone (told_from state events) calls out
   pub good : AreGood calls
 
 -- a receive for each reading, or for each but the last
@@ -84,28 +83,28 @@ abbrev pub ArePairs : List ℕ → List LinkCall → Type 0
 ArePairs readings calls = (length readings ≡ length (receipts_in calls)) ⊎ (length readings ≡ length (receipts_in calls) + 1)
 
 -- a wait that was cut
-abbrev pub IsWaitCut : Status → ℕ → World → ℕ → List ℕ → List LinkCall → List ℕ → Type 0
-IsWaitCut status until w top readings calls out =
+abbrev pub IsWaitCut : Status → ℕ → State → ℕ → List ℕ → List LinkCall → List ℕ → Type 0
+IsWaitCut status until state top readings calls out =
     (events : List Event)
     × ((later : Later) (draws : List ℕ) → (rest : Trace) × (waited until later top readings (receipts_in calls) draws ≡ with_events events rest))
-    × StopsWith status (outcomes_from w events) calls out × ArePairs readings calls
+    × StopsWith status (told_from state events) calls out × ArePairs readings calls
 
 -- A wait is over, or comes to its next reading, or ended in a turn.
-abbrev pub IsWaited : Result (List ℕ) Status → ℕ → World → ℕ → ℕ → ℕ → ℕ → (World → Type 0) → List ℕ → List LinkCall → List ℕ → Type 0
-IsWaited (Ok pad) until w top top' turns turns' stands_for readings calls out =
+abbrev pub IsWaited : Result (List ℕ) Status → ℕ → State → ℕ → ℕ → ℕ → ℕ → (State → Type 0) → List ℕ → List LinkCall → List ℕ → Type 0
+IsWaited (Ok pad) until state top top' turns turns' stands_for readings calls out =
     (events : List Event)
     × ((later : Later) (rs : List ℕ) (xs : List Received) (draws : List ℕ)
     → waited until later top (readings ++ rs) (receipts_in calls ++ xs) draws ≡ with_events events (later top' (record { readings = rs; receipts = xs; draws = draws })))
-    × IsDone (outcomes_from w events) calls out × AreGood calls × stands_for (world_after w events)
+    × IsDone (told_from state events) calls out × AreGood calls × stands_for (state_after state events)
     × (length readings ≡ length (receipts_in calls)) × (length readings + turns' ≡ turns)
-IsWaited (Err TurnsSpent) until w top top' turns turns' stands_for readings calls out =
-    IsWaiting ForReading until w top readings calls out × (length readings ≡ length (receipts_in calls)) × (length readings ≡ turns)
-IsWaited (Err Clock) until w top top' turns turns' stands_for readings calls out =
-    IsWaiting ForReading until w top readings calls out × (length readings ≡ length (receipts_in calls)) × (length readings < turns)
-IsWaited (Err Link) until w top top' turns turns' stands_for readings calls out =
-    ((AtFailedReceive (λ before. IsWaiting ForReceive until w top readings before out) calls × (length readings ≡ length (receipts_in calls)))
-    ⊎ IsWaitCut Link until w top readings calls out) × (length readings ≤ turns)
-IsWaited (Err status) until w top top' turns turns' stands_for readings calls out = IsWaitCut status until w top readings calls out × (length readings ≤ turns)
+IsWaited (Err TurnsSpent) until state top top' turns turns' stands_for readings calls out =
+    IsWaiting ForReading until state top readings calls out × (length readings ≡ length (receipts_in calls)) × (length readings ≡ turns)
+IsWaited (Err Clock) until state top top' turns turns' stands_for readings calls out =
+    IsWaiting ForReading until state top readings calls out × (length readings ≡ length (receipts_in calls)) × (length readings < turns)
+IsWaited (Err Link) until state top top' turns turns' stands_for readings calls out =
+    ((AtFailedReceive (λ before. IsWaiting ForReceive until state top readings before out) calls × (length readings ≡ length (receipts_in calls)))
+    ⊎ IsWaitCut Link until state top readings calls out) × (length readings ≤ turns)
+IsWaited (Err status) until state top top' turns turns' stands_for readings calls out = IsWaitCut status until state top readings calls out × (length readings ≤ turns)
 
 -- ---- lines
 
@@ -125,45 +124,45 @@ abbrev pub taken : List ℕ → List Received → List ℕ → Outside
 taken readings receipts draws = record { readings = readings; receipts = receipts; draws = draws }
 
 -- A line comes to a reading, a receive or a draw that wasn't taken, and all its events were handled.
-pub record IsStopped (k : Command) (l : Line) (w : World) (top : ℕ) (stop : Stop) (readings : List ℕ) (calls : List LinkCall) (draws : List ℕ) (out : List ℕ) : Type 0 where
+pub record IsStopped (k : Command) (l : Line) (state : State) (top : ℕ) (stop : Stop) (readings : List ℕ) (calls : List LinkCall) (draws : List ℕ) (out : List ℕ) : Type 0 where
   pub events : List Event
   pub stops : (later : Later) → said k l later top (taken readings (receipts_in calls) draws) ≡ with_events events (stopped stop (taken [] [] []))
-  pub done : IsDone (outcomes_from w events) calls out
+  pub done : IsDone (told_from state events) calls out
   pub good : AreGood calls
 
 -- a line that was cut
-abbrev pub IsLineCut : Status → Command → Line → World → ℕ → List ℕ → List LinkCall → List ℕ → List ℕ → Type 0
-IsLineCut status k l w top readings calls draws out =
+abbrev pub IsLineCut : Status → Command → Line → State → ℕ → List ℕ → List LinkCall → List ℕ → List ℕ → Type 0
+IsLineCut status k l state top readings calls draws out =
     (events : List Event)
     × ((later : Later) → (rest : Trace) × (said k l later top (taken readings (receipts_in calls) draws) ≡ with_events events rest))
-    × StopsWith status (outcomes_from w events) calls out × ArePairs readings calls
+    × StopsWith status (told_from state events) calls out × ArePairs readings calls
 
--- A line was handled, or a front was done.
-abbrev pub IsSaid : {T : Type 0} → Result T Status → Command → Line → World → ℕ → ℕ → ℕ → ℕ → (World → Type 0) → List ℕ → List LinkCall → List ℕ → List ℕ → Type 0
-IsSaid (Ok x) k l w top top' turns turns' stands_for readings calls draws out =
+-- A line was handled, or in part.
+abbrev pub IsSaid : {T : Type 0} → Result T Status → Command → Line → State → ℕ → ℕ → ℕ → ℕ → (State → Type 0) → List ℕ → List LinkCall → List ℕ → List ℕ → Type 0
+IsSaid (Ok x) k l state top top' turns turns' stands_for readings calls draws out =
     (events : List Event)
     × ((later : Later) (o : Outside) → said k l later top (taking readings (receipts_in calls) draws o) ≡ with_events events (later top' o))
-    × IsDone (outcomes_from w events) calls out × AreGood calls × stands_for (world_after w events)
+    × IsDone (told_from state events) calls out × AreGood calls × stands_for (state_after state events)
     × (length readings ≡ length (receipts_in calls)) × (length readings + turns' ≡ turns)
-IsSaid (Err TurnsSpent) k l w top top' turns turns' stands_for readings calls draws out =
-    IsStopped k l w top ForReading readings calls draws out × (length readings ≡ length (receipts_in calls)) × (length readings ≡ turns)
-IsSaid (Err Clock) k l w top top' turns turns' stands_for readings calls draws out =
-    IsStopped k l w top ForReading readings calls draws out × (length readings ≡ length (receipts_in calls)) × (length readings < turns)
-IsSaid (Err Noise) k l w top top' turns turns' stands_for readings calls draws out =
-    IsStopped k l w top ForDraw readings calls draws out × (length readings ≡ length (receipts_in calls)) × (length readings ≤ turns)
-IsSaid (Err Link) k l w top top' turns turns' stands_for readings calls draws out =
-    ((AtFailedReceive (λ before. IsStopped k l w top ForReceive readings before draws out) calls × (length readings ≡ length (receipts_in calls)))
-    ⊎ IsLineCut Link k l w top readings calls draws out) × (length readings ≤ turns)
-IsSaid (Err status) k l w top top' turns turns' stands_for readings calls draws out = IsLineCut status k l w top readings calls draws out × (length readings ≤ turns)
+IsSaid (Err TurnsSpent) k l state top top' turns turns' stands_for readings calls draws out =
+    IsStopped k l state top ForReading readings calls draws out × (length readings ≡ length (receipts_in calls)) × (length readings ≡ turns)
+IsSaid (Err Clock) k l state top top' turns turns' stands_for readings calls draws out =
+    IsStopped k l state top ForReading readings calls draws out × (length readings ≡ length (receipts_in calls)) × (length readings < turns)
+IsSaid (Err Noise) k l state top top' turns turns' stands_for readings calls draws out =
+    IsStopped k l state top ForDraw readings calls draws out × (length readings ≡ length (receipts_in calls)) × (length readings ≤ turns)
+IsSaid (Err Link) k l state top top' turns turns' stands_for readings calls draws out =
+    ((AtFailedReceive (λ before. IsStopped k l state top ForReceive readings before draws out) calls × (length readings ≡ length (receipts_in calls)))
+    ⊎ IsLineCut Link k l state top readings calls draws out) × (length readings ≤ turns)
+IsSaid (Err status) k l state top top' turns turns' stands_for readings calls draws out = IsLineCut status k l state top readings calls draws out × (length readings ≤ turns)
 
 -- A relay has begun with its first reading as a tick; with Clock there was none.
-abbrev pub IsBegun : Result ℕ Status → World → (World → Type 0) → List ℕ → List LinkCall → List ℕ → Type 0
-IsBegun (Ok began) w stands_for readings calls out =
+abbrev pub IsBegun : Result ℕ Status → State → (State → Type 0) → List ℕ → List LinkCall → List ℕ → Type 0
+IsBegun (Ok began) state stands_for readings calls out =
     (r : ℕ) × (readings ≡ r ∷ []) × (began ≡ moment_of r) × (receipts_in calls ≡ [])
-    × IsDone (outcomes_from w (events_of (lines.Signal (Tick (moment_of r))))) calls out × AreGood calls × stands_for (world_after w (events_of (lines.Signal (Tick (moment_of r)))))
-IsBegun (Err Clock) w stands_for readings calls out = (readings ≡ []) × (calls ≡ []) × (out ≡ [])
-IsBegun (Err status) w stands_for readings calls out =
-    (r : ℕ) × (readings ≡ r ∷ []) × (receipts_in calls ≡ []) × StopsWith status (outcomes_from w (events_of (lines.Signal (Tick (moment_of r))))) calls out
+    × IsDone (told_from state (events_of (lines.Signal (Tick (moment_of r))))) calls out × AreGood calls × stands_for (state_after state (events_of (lines.Signal (Tick (moment_of r)))))
+IsBegun (Err Clock) state stands_for readings calls out = (readings ≡ []) × (calls ≡ []) × (out ≡ [])
+IsBegun (Err status) state stands_for readings calls out =
+    (r : ℕ) × (readings ≡ r ∷ []) × (receipts_in calls ≡ []) × StopsWith status (told_from state (events_of (lines.Signal (Tick (moment_of r))))) calls out
 
 -- ---- in which order the link was called
 
@@ -172,16 +171,16 @@ abbrev pub IsReceivedFirst : Received → List LinkCall → Type 0
 IsReceivedFirst x calls = (rest : List LinkCall) × (calls ≡ Receive x ∷ rest) × (receipts_in rest ≡ [])
 
 -- in a turn; without its reading there was no call
-abbrev pub IsTurnInOrder : World → ℕ → List ℕ → List LinkCall → Type 0
-IsTurnInOrder w top readings calls =
-    (calls ≡ []) ⊎ ((r : ℕ) × (readings ≡ r ∷ []) × (length (receipts_in calls) ≤ 1) × AreInOrder (λ receipts. outcomes_from w (turned top r receipts)) calls)
+abbrev pub IsTurnInOrder : State → ℕ → List ℕ → List LinkCall → Type 0
+IsTurnInOrder state top readings calls =
+    (calls ≡ []) ⊎ ((r : ℕ) × (readings ≡ r ∷ []) × (length (receipts_in calls) ≤ 1) × AreInOrder (λ receipts. told_from state (turned top r receipts)) calls)
 
 -- in a wait, whatever is taken after it
-abbrev pub IsWaitInOrder : ℕ → World → ℕ → List ℕ → List LinkCall → Type 0
-IsWaitInOrder until w top readings calls =
-    (later : Later) (rs draws : List ℕ) → AreInOrder (λ receipts. outcomes_from w (waited until later top (readings ++ rs) receipts draws).events) calls
+abbrev pub IsWaitInOrder : ℕ → State → ℕ → List ℕ → List LinkCall → Type 0
+IsWaitInOrder until state top readings calls =
+    (later : Later) (rs draws : List ℕ) → AreInOrder (λ receipts. told_from state (waited until later top (readings ++ rs) receipts draws).events) calls
 
 -- in a line, whatever is taken after it
-abbrev pub IsLineInOrder : Command → Line → World → ℕ → List ℕ → List LinkCall → List ℕ → Type 0
-IsLineInOrder k l w top readings calls draws =
-    (later : Later) (o : Outside) → AreInOrder (λ receipts. outcomes_from w (said k l later top (taken (readings ++ o.readings) receipts (draws ++ o.draws))).events) calls
+abbrev pub IsLineInOrder : Command → Line → State → ℕ → List ℕ → List LinkCall → List ℕ → Type 0
+IsLineInOrder k l state top readings calls draws =
+    (later : Later) (o : Outside) → AreInOrder (λ receipts. told_from state (said k l later top (taken (readings ++ o.readings) receipts (draws ++ o.draws))).events) calls

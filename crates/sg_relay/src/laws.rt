@@ -1,17 +1,17 @@
 //! The law of a relay's ports: its contract is the law, and its body calls laws alone.
 
-ghost use Rattle.std.specs.Prelude.{List};
+ghost use Rattle.std.specs.Prelude.{Bool, List};
 ghost use Rattle.sg_gateway.specs.Step.{Event};
 ghost use Rattle.sg_relay.specs.Held.{PortsAreOfCalls};
 
 use sg_agreement::offers_fit_their_calls;
 use sg_gateway::calls_in_order;
 
-/// After any events the ports that their outcomes ask to bind, and not to give up again, are the four of each medium of
-/// each call that is there. Each is bound while it isn't held, and given up while it is, and packets are sent from ports
-/// that are held.
+/// After any events the ports that they ask to bind, and not to give up again, are the four of each medium of each call
+/// that is there. Each is bound while it isn't held, and given up while it is, and packets are sent from ports that are
+/// held, also where a packet leaves by a port that its leg shares.
 pub fn ports_are_of_calls()
-    ensures { (events : List Event) → PortsAreOfCalls events }
+    ensures { (muxes : Bool) (events : List Event) → PortsAreOfCalls muxes events }
 {
     calls_in_order();
     offers_fit_their_calls();

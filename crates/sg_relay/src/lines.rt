@@ -4,19 +4,18 @@ ghost use Rattle.std.specs.Prelude.{◌≡◌, ◌≤◌, ◌+◌, ℕ, [], List
 ghost use Rattle.sg_trace.specs.Trace.{Command, Relays, last_moment, wait_in};
 ghost use Rattle.sg_edge.specs.Links.{Added, LinkCall};
 ghost use Rattle.sg_edge.specs.Told.{Wrote};
-ghost use Rattle.sg_gateway.specs.World.{World};
+ghost use Rattle.sg_front.specs.States.{FrontStandsFor, State};
 ghost use Rattle.sg_lines.specs.declared.lines.Line.TheVariants as lines;
 ghost use Rattle.sg_relay.specs.Asked.{receipts_in};
 ghost use Rattle.sg_relay.specs.Causes.{IsDueTo, IsDueToLink, IsOfLines, IsOfSignals, IsOfTurns};
 ghost use Rattle.sg_relay.specs.Parts.{FitsRelay, IsBegun, IsLineInOrder, IsSaid};
-ghost use Rattle.sg_table.specs.Standing.{TableStandsFor};
 ghost use Rattle.sg_table.specs.Telling.{IsTimely};
 
 use crate::turns::{arrive, obey, wait};
 use sg_base::{Failed, Pad, TICK_MOST};
 use sg_edge::{Clock, Link, Noise, Sink};
+use sg_front::Front;
 use sg_lines::{Line, Signal};
-use sg_table::Table;
 use sg_trace::{Status, supply};
 use std::alloc::Global;
 
@@ -32,20 +31,20 @@ fn wait_of(began: u64, signal: &Signal) -> Option<u64>
     }
 }
 
-/// Has the table handle a signal that isn't a tick, with noise where it lacks some.
+/// Has the front handle a signal that isn't a tick, with noise where it lacks some.
 fn handle<K: Sink, L: Link, N: Noise>(
     alloc: Global,
-    table: &mut Table,
+    front: &mut Front,
     signal: Signal,
     sink: &mut K,
     link: &mut L,
     noise: &mut N,
 ) -> Result<(), Status>
     requires timely { IsTimely signal }
-    ensures said { (w : World) → TableStandsFor table.old w
+    ensures said { (state : State) → FrontStandsFor front.old state
         → (calls : List LinkCall) × (draws : List ℕ) × (out : List ℕ)
         × Added (L.told link.old) (L.told link.new) calls × Added (N.given noise.old) (N.given noise.new) draws × Wrote (K.written sink.old) (K.written sink.new) out
-        × ((k : Command) (top turns : ℕ) → wait_in k (lines.Signal signal) ≡ None → IsSaid result k (lines.Signal signal) w top top turns turns (TableStandsFor table.new) [] calls draws out)
+        × ((k : Command) (top turns : ℕ) → wait_in k (lines.Signal signal) ≡ None → IsSaid result k (lines.Signal signal) state top top turns turns (FrontStandsFor front.new) [] calls draws out)
         × (receipts_in calls ≡ []) }
     ensures only { IfErr result IsOfSignals }
     ensures write { IsDueTo Status.Write result (K.faults sink.old) (K.faults sink.new) (K.failed sink.new) }
@@ -54,7 +53,7 @@ fn handle<K: Sink, L: Link, N: Noise>(
 {
     match supply(noise, signal) {
         Err(status) => Err(status),
-        Ok(signal) => obey(alloc, table, &signal, sink, link),
+        Ok(signal) => obey(alloc, front, &signal, sink, link),
     }
 }
 
@@ -73,7 +72,7 @@ fn filled(pad: Pad, octets: &[u8]) -> Pad
 /// line isn't used: a relay's moments are those of its clock.
 pub(crate) fn say<K: Sink, L: Link, C: Clock, N: Noise>(
     alloc: Global,
-    table: &mut Table,
+    front: &mut Front,
     began: u64,
     line: Line,
     turns: &mut u64,
@@ -86,11 +85,11 @@ pub(crate) fn say<K: Sink, L: Link, C: Clock, N: Noise>(
 ) -> Result<Pad, Status>
     requires began { began ≤ last_moment }
     requires fits { FitsRelay line }
-    ensures said { (w : World) → TableStandsFor table.old w
+    ensures said { (state : State) → FrontStandsFor front.old state
         → (readings : List ℕ) × (calls : List LinkCall) × (draws : List ℕ) × (out : List ℕ)
         × Added (C.given clock.old) (C.given clock.new) readings × Added (L.told link.old) (L.told link.new) calls × Added (N.given noise.old) (N.given noise.new) draws × Wrote (K.written sink.old) (K.written sink.new) out
-        × IsSaid result (Relays began) line w top.old top.new turns.old turns.new (TableStandsFor table.new) readings calls draws out
-        × IsLineInOrder (Relays began) line w top.old readings calls draws }
+        × IsSaid result (Relays began) line state top.old top.new turns.old turns.new (FrontStandsFor front.new) readings calls draws out
+        × IsLineInOrder (Relays began) line state top.old readings calls draws }
     ensures only { IfErr result IsOfLines }
     ensures write { IsDueTo Status.Write result (K.faults sink.old) (K.faults sink.new) (K.failed sink.new) }
     ensures link { IsDueToLink result (L.faults link.old) (L.faults link.new) }
@@ -108,11 +107,11 @@ pub(crate) fn say<K: Sink, L: Link, C: Clock, N: Noise>(
             ..
         } => {
             let pad = filled(pad, octets.as_slice());
-            arrive(alloc, table, port, from, pad, sink, link)
+            arrive(alloc, front, port, from, pad, sink, link)
         }
         Line::Signal(signal) => match wait_of(began, &signal) {
-            Some(until) => wait(alloc, table, until, turns, top, pad, sink, link, clock),
-            None => match handle(alloc, table, signal, sink, link, noise) {
+            Some(until) => wait(alloc, front, until, turns, top, pad, sink, link, clock),
+            None => match handle(alloc, front, signal, sink, link, noise) {
                 Err(status) => Err(status),
                 Ok(()) => Ok(pad),
             },
@@ -123,15 +122,15 @@ pub(crate) fn say<K: Sink, L: Link, C: Clock, N: Noise>(
 /// Takes the first reading, which is a tick, and answers its moment.
 pub(crate) fn begin<K: Sink, L: Link, C: Clock>(
     alloc: Global,
-    table: &mut Table,
+    front: &mut Front,
     sink: &mut K,
     link: &mut L,
     clock: &mut C,
 ) -> Result<u64, Status>
-    ensures begun { (w : World) → TableStandsFor table.old w
+    ensures begun { (state : State) → FrontStandsFor front.old state
         → (readings : List ℕ) × (calls : List LinkCall) × (out : List ℕ)
         × Added (C.given clock.old) (C.given clock.new) readings × Added (L.told link.old) (L.told link.new) calls × Wrote (K.written sink.old) (K.written sink.new) out
-        × IsBegun result w (TableStandsFor table.new) readings calls out }
+        × IsBegun result state (FrontStandsFor front.new) readings calls out }
     ensures timely { IfOk result (λ began. began ≤ last_moment) }
     ensures only { IfErr result IsOfTurns }
     ensures write { IsDueTo Status.Write result (K.faults sink.old) (K.faults sink.new) (K.failed sink.new) }
@@ -143,7 +142,7 @@ pub(crate) fn begin<K: Sink, L: Link, C: Clock>(
         Err(Failed) => return Err(Status::Clock),
         Ok(reading) => reading.min(TICK_MOST),
     };
-    match obey(alloc, table, &Signal::Tick { now: began }, sink, link) {
+    match obey(alloc, front, &Signal::Tick { now: began }, sink, link) {
         Err(status) => Err(status),
         Ok(()) => Ok(began),
     }

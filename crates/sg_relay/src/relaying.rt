@@ -10,16 +10,17 @@ use crate::laws::ports_are_of_calls;
 use crate::lines::{begin, say};
 use sg_base::{NoMemory, Pad};
 use sg_edge::{Clock, Link, Noise, Sink, Source};
-use sg_table::Table;
+use sg_front::Front;
 use sg_trace::{ScriptReader, Status};
 use std::alloc::Global;
 
 /// Handles the lines of the source in order, and at a `tick` line takes turns until a reading of the clock is
-/// at least so many milliseconds after the first reading; at most so many turns in all. A datagram is handled in
-/// the one pad that the relay keeps.
+/// at least so many milliseconds after the first reading; at most so many turns in all. Where `muxes`, RTP and RTCP of a
+/// leg share a port if its peer offered so (RFC 5761). A datagram is handled in the one pad that the relay keeps.
 pub fn relay<S: Source, K: Sink, L: Link, C: Clock, N: Noise>(
     alloc: Global,
     turns: u64,
+    muxes: bool,
     source: &mut S,
     sink: &mut K,
     link: &mut L,
@@ -27,11 +28,11 @@ pub fn relay<S: Source, K: Sink, L: Link, C: Clock, N: Noise>(
     noise: &mut N,
 ) -> Status
     ensures ran { (p : Passed)
-        × IsRelay result turns
+        × IsRelay muxes result turns
         (record { left = S.left source.old; written = K.written sink.old; calls = L.told link.old; readings = C.given clock.old; draws = N.given noise.old })
         (record { left = S.left source.new; written = K.written sink.new; calls = L.told link.new; readings = C.given clock.new; draws = N.given noise.new })
         p
-        × HoldsItsCallsPorts p
+        × HoldsItsCallsPorts muxes p
         × (¬ Rose (S.faults source.old) (S.faults source.new) → ¬ Rose (K.faults sink.old) (K.faults sink.new) → ¬ Rose (C.faults clock.old) (C.faults clock.new)
         → ¬ Rose (N.faults noise.old) (N.faults noise.new) → IsComplete result turns (S.left source.old) (S.left source.new) (L.faults link.old) (L.faults link.new) p) }
     ensures given { S.given source.new ≤ S.given source.old + (2 ^ 30 + 1) }
@@ -43,15 +44,15 @@ pub fn relay<S: Source, K: Sink, L: Link, C: Clock, N: Noise>(
     ensures noise { HasFailed (result ≡ Status.Noise) (N.faults noise.old) (N.faults noise.new) (N.failed noise.new) }
 {
     ports_are_of_calls();
-    let mut table = match Table::make(alloc) {
+    let mut front = match Front::make(alloc, muxes) {
         Err(NoMemory) => return Status::NoMemory,
-        Ok(table) => table,
+        Ok(front) => front,
     };
     let mut pad = match Pad::make(alloc) {
         Err(NoMemory) => return Status::NoMemory,
         Ok(pad) => pad,
     };
-    let began = match begin(alloc, &mut table, sink, link, clock) {
+    let began = match begin(alloc, &mut front, sink, link, clock) {
         Err(status) => return status,
         Ok(began) => began,
     };
@@ -65,7 +66,7 @@ pub fn relay<S: Source, K: Sink, L: Link, C: Clock, N: Noise>(
             Ok(Some(line)) => line,
         };
         pad = match say(
-            alloc, &mut table, began, line, &mut left, &mut top, pad, sink, link, clock, noise,
+            alloc, &mut front, began, line, &mut left, &mut top, pad, sink, link, clock, noise,
         ) {
             Err(status) => return status,
             Ok(pad) => pad,

@@ -4,62 +4,61 @@ ghost use Rattle.std.specs.Prelude.{◌≡◌, ◌≤◌, ◌+◌, ℕ, List, Bo
 ghost use Rattle.sg_trace.specs.Trace.{arrivals_of, last_moment, ticks_at};
 ghost use Rattle.sg_edge.specs.Links.{Added, Came, LinkCall, Received};
 ghost use Rattle.sg_edge.specs.Told.{Wrote};
+ghost use Rattle.sg_front.specs.States.{FrontStandsFor, State};
 ghost use Rattle.sg_gateway.specs.Events.{events_of_signal, signal_lacks_noise};
-ghost use Rattle.sg_gateway.specs.World.{World};
 ghost use Rattle.sg_relay.specs.Causes.{IsDueTo, IsDueToLink, IsOfOutcomes, IsOfTurns, IsOfWaits};
 ghost use Rattle.sg_relay.specs.Parts.{AreHandled, IsReceived, IsReceivedFirst, IsTurn, IsTurnInOrder, IsWaitInOrder, IsWaited};
-ghost use Rattle.sg_table.specs.Standing.{TableStandsFor};
 ghost use Rattle.sg_table.specs.Telling.{IsTimely};
 
 use crate::carrying_out::{carry_out_all, pass_on};
 use sg_base::{Address, Failed, NoMemory, Pad, TICK_MOST};
 use sg_edge::{Clock, Link, Receipt, Sink};
+use sg_front::Front;
 use sg_lines::Signal;
-use sg_table::Table;
 use sg_trace::Status;
 use std::alloc::Global;
 
-/// Has the table handle a signal, and does what its outcomes ask for.
+/// Has the front handle a signal, and does what its outcomes ask for.
 pub(crate) fn obey<K: Sink, L: Link>(
     alloc: Global,
-    table: &mut Table,
+    front: &mut Front,
     signal: &Signal,
     sink: &mut K,
     link: &mut L,
 ) -> Result<(), Status>
     requires noise { signal_lacks_noise signal.now ≡ false }
     requires timely { IsTimely signal.now }
-    ensures handled { (w : World) → TableStandsFor table.old w
+    ensures handled { (state : State) → FrontStandsFor front.old state
         → (calls : List LinkCall) × (out : List ℕ) × Added (L.told link.old) (L.told link.new) calls × Wrote (K.written sink.old) (K.written sink.new) out
-        × AreHandled result w (events_of_signal signal.now) (TableStandsFor table.new) calls out }
+        × AreHandled result state (events_of_signal signal.now) (FrontStandsFor front.new) calls out }
     ensures only { IfErr result IsOfOutcomes }
     ensures write { IsDueTo Status.Write result (K.faults sink.old) (K.faults sink.new) (K.failed sink.new) }
     ensures link { IsDueToLink result (L.faults link.old) (L.faults link.new) }
 {
-    match table.step(alloc, signal) {
+    match front.step(alloc, signal) {
         Err(NoMemory) => Err(Status::NoMemory),
         Ok(told) => carry_out_all(alloc, told.as_slice(), sink, link),
     }
 }
 
-/// Has the table handle the datagram in the pad, sends the packet that it becomes, and hands the pad back.
+/// Has the front handle the datagram in the pad, sends the packet that it becomes, and hands the pad back.
 pub(crate) fn arrive<K: Sink, L: Link>(
     alloc: Global,
-    table: &mut Table,
+    front: &mut Front,
     port: u16,
     from: Address,
     pad: Pad,
     sink: &mut K,
     link: &mut L,
 ) -> Result<Pad, Status>
-    ensures handled { (w : World) → TableStandsFor table.old w
+    ensures handled { (state : State) → FrontStandsFor front.old state
         → (calls : List LinkCall) × (out : List ℕ) × Added (L.told link.old) (L.told link.new) calls × Wrote (K.written sink.old) (K.written sink.new) out
-        × AreHandled result w (arrivals_of (Came port from pad)) (TableStandsFor table.new) calls out }
+        × AreHandled result state (arrivals_of (Came port from pad)) (FrontStandsFor front.new) calls out }
     ensures only { IfErr result IsOfOutcomes }
     ensures write { IsDueTo Status.Write result (K.faults sink.old) (K.faults sink.new) (K.failed sink.new) }
     ensures link { IsDueToLink result (L.faults link.old) (L.faults link.new) }
 {
-    let handled = table.datagram(port, from, pad);
+    let handled = front.datagram(port, from, pad);
     match pass_on(alloc, port, &handled, sink, link) {
         Err(status) => Err(status),
         Ok(()) => Ok(handled.pad),
@@ -70,16 +69,16 @@ pub(crate) fn arrive<K: Sink, L: Link>(
 /// outcomes.
 fn tick<K: Sink, L: Link>(
     alloc: Global,
-    table: &mut Table,
+    front: &mut Front,
     moment: u64,
     top: &mut u64,
     sink: &mut K,
     link: &mut L,
 ) -> Result<(), Status>
     requires timely { moment ≤ last_moment }
-    ensures handled { (w : World) → TableStandsFor table.old w
+    ensures handled { (state : State) → FrontStandsFor front.old state
         → (calls : List LinkCall) × (out : List ℕ) × Added (L.told link.old) (L.told link.new) calls × Wrote (K.written sink.old) (K.written sink.new) out
-        × AreHandled result w (ticks_at top.old moment) (TableStandsFor table.new) calls out }
+        × AreHandled result state (ticks_at top.old moment) (FrontStandsFor front.new) calls out }
     ensures top { top.new ≡ max top.old moment }
     ensures only { IfErr result IsOfOutcomes }
     ensures write { IsDueTo Status.Write result (K.faults sink.old) (K.faults sink.new) (K.failed sink.new) }
@@ -89,23 +88,23 @@ fn tick<K: Sink, L: Link>(
         return Ok(());
     }
     *top = moment;
-    if table.tick_quietly(moment) {
+    if front.tick_quietly(moment) {
         return Ok(());
     }
-    obey(alloc, table, &Signal::Tick { now: moment }, sink, link)
+    obey(alloc, front, &Signal::Tick { now: moment }, sink, link)
 }
 
-/// Receives once into the pad, has the table handle the datagram that came, and hands the pad back.
+/// Receives once into the pad, has the front handle the datagram that came, and hands the pad back.
 fn receive<K: Sink, L: Link>(
     alloc: Global,
-    table: &mut Table,
+    front: &mut Front,
     pad: Pad,
     sink: &mut K,
     link: &mut L,
 ) -> Result<Pad, Status>
-    ensures received { (w : World) → TableStandsFor table.old w
+    ensures received { (state : State) → FrontStandsFor front.old state
         → (x : Received) × (calls : List LinkCall) × (out : List ℕ) × Added (L.told link.old) (L.told link.new) calls × Wrote (K.written sink.old) (K.written sink.new) out
-        × IsReceived result w (TableStandsFor table.new) x calls out × IsReceivedFirst x calls }
+        × IsReceived result state (FrontStandsFor front.new) x calls out × IsReceivedFirst x calls }
     ensures only { IfErr result IsOfOutcomes }
     ensures write { IsDueTo Status.Write result (K.faults sink.old) (K.faults sink.new) (K.failed sink.new) }
     ensures link { IsDueToLink result (L.faults link.old) (L.faults link.new) }
@@ -114,7 +113,7 @@ fn receive<K: Sink, L: Link>(
     match link.receive(&mut pad) {
         Err(Failed) => Err(Status::Link),
         Ok(Receipt::Nothing) => Ok(pad),
-        Ok(Receipt::Got { port, from }) => arrive(alloc, table, port, from, pad, sink, link),
+        Ok(Receipt::Got { port, from }) => arrive(alloc, front, port, from, pad, sink, link),
     }
 }
 
@@ -122,17 +121,17 @@ fn receive<K: Sink, L: Link>(
 /// moment that was read, and hands the pad back.
 fn turn<K: Sink, L: Link, C: Clock>(
     alloc: Global,
-    table: &mut Table,
+    front: &mut Front,
     top: &mut u64,
     pad: Pad,
     sink: &mut K,
     link: &mut L,
     clock: &mut C,
 ) -> Result<(u64, Pad), Status>
-    ensures turned { (w : World) → TableStandsFor table.old w
+    ensures turned { (state : State) → FrontStandsFor front.old state
         → (readings : List ℕ) × (calls : List LinkCall) × (out : List ℕ)
         × Added (C.given clock.old) (C.given clock.new) readings × Added (L.told link.old) (L.told link.new) calls × Wrote (K.written sink.old) (K.written sink.new) out
-        × IsTurn result w top.old top.new (TableStandsFor table.new) readings calls out × IsTurnInOrder w top.old readings calls }
+        × IsTurn result state top.old top.new (FrontStandsFor front.new) readings calls out × IsTurnInOrder state top.old readings calls }
     ensures only { IfErr result IsOfTurns }
     ensures write { IsDueTo Status.Write result (K.faults sink.old) (K.faults sink.new) (K.failed sink.new) }
     ensures link { IsDueToLink result (L.faults link.old) (L.faults link.new) }
@@ -143,11 +142,11 @@ fn turn<K: Sink, L: Link, C: Clock>(
         Err(Failed) => return Err(Status::Clock),
         Ok(reading) => reading.min(TICK_MOST),
     };
-    match tick(alloc, table, moment, top, sink, link) {
+    match tick(alloc, front, moment, top, sink, link) {
         Err(status) => return Err(status),
         Ok(()) => {}
     }
-    match receive(alloc, table, pad, sink, link) {
+    match receive(alloc, front, pad, sink, link) {
         Err(status) => Err(status),
         Ok(pad) => Ok((moment, pad)),
     }
@@ -157,7 +156,7 @@ fn turn<K: Sink, L: Link, C: Clock>(
 /// left and one more is asked for.
 pub(crate) fn wait<K: Sink, L: Link, C: Clock>(
     alloc: Global,
-    table: &mut Table,
+    front: &mut Front,
     until: u64,
     turns: &mut u64,
     top: &mut u64,
@@ -166,10 +165,10 @@ pub(crate) fn wait<K: Sink, L: Link, C: Clock>(
     link: &mut L,
     clock: &mut C,
 ) -> Result<Pad, Status>
-    ensures waited { (w : World) → TableStandsFor table.old w
+    ensures waited { (state : State) → FrontStandsFor front.old state
         → (readings : List ℕ) × (calls : List LinkCall) × (out : List ℕ)
         × Added (C.given clock.old) (C.given clock.new) readings × Added (L.told link.old) (L.told link.new) calls × Wrote (K.written sink.old) (K.written sink.new) out
-        × IsWaited result until w top.old top.new turns.old turns.new (TableStandsFor table.new) readings calls out × IsWaitInOrder until w top.old readings calls }
+        × IsWaited result until state top.old top.new turns.old turns.new (FrontStandsFor front.new) readings calls out × IsWaitInOrder until state top.old readings calls }
     ensures only { IfErr result IsOfWaits }
     ensures write { IsDueTo Status.Write result (K.faults sink.old) (K.faults sink.new) (K.failed sink.new) }
     ensures link { IsDueToLink result (L.faults link.old) (L.faults link.new) }
@@ -179,7 +178,7 @@ pub(crate) fn wait<K: Sink, L: Link, C: Clock>(
     let mut pad = pad;
     'turns: while *turns > 0 {
         *turns -= 1;
-        match turn(alloc, table, top, pad, sink, link, clock) {
+        match turn(alloc, front, top, pad, sink, link, clock) {
             Err(status) => return Err(status),
             Ok((moment, back)) => {
                 if until <= moment {

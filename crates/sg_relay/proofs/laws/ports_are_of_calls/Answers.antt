@@ -1,4 +1,4 @@
-use Rattle.sg_relay.proofs.Accounts.{ports_of_run}
+use Rattle.sg_relay.proofs.Sharing.{ports_of_run}
 use Rattle.sg_relay.proofs.laws.ports_are_of_calls.Goals as goal
 
 pub returns : goal.returns

@@ -4,42 +4,41 @@ use Rattle.std.proofs.lemmas.Bool.{cond-false, cond-true, le-ltb, lt-ltb}
 use Rattle.sg_edge.proofs.Links.{added_none}
 use Rattle.sg_edge.proofs.Passed.{wrote_none}
 use Rattle.sg_outcome.specs.declared.outcomes.Outcome.{Outcome}
-use Rattle.sg_table.specs.Standing.{TableStandsFor}
-use Rattle.sg_table.specs.Values.{TableValue}
+use Rattle.sg_front.specs.States.{FrontStandsFor, FrontValue}
 use Rattle.sg_relay.specs.Asked.{IsDone}
 use Rattle.sg_relay.specs.Parts.{AreHandled}
 use Rattle.sg_relay.proofs.Deeds.{done_none}
 use Rattle.sg_relay.proofs.turns.tick.Goals as goal
 
 pub returns-then-moment-top-clause-handled : goal.returns-then-moment-top-clause-handled
-returns-then-moment-top-clause-handled g c = λ w stands. (
+returns-then-moment-top-clause-handled g c = λ state stands. (
   [],
   [],
   added_none _,
   wrote_none _,
-  subst (λ es. AreHandled {T = Unit {0}} (Ok tt) w es (TableStandsFor c.args.table.now) [] []) (sym (cond-false _ _ _ (le-ltb c.args.top.now c.args.moment c.if-moment-top.true))) (done_none, tt, refl, stands),
+  subst (λ es. AreHandled {T = Unit {0}} (Ok tt) state es (FrontStandsFor c.args.front.now) [] []) (sym (cond-false _ _ _ (le-ltb c.args.top.now c.args.moment c.if-moment-top.true))) (done_none, tt, refl, stands),
 )
 
 pub returns-then-tick_quietly-clause-handled : goal.returns-then-tick_quietly-clause-handled
-returns-then-tick_quietly-clause-handled g c = λ w stands.
-    let told = c.tick_quietly.ensures.told c.if-tick_quietly.true w stands in (
+returns-then-tick_quietly-clause-handled g c = λ state stands.
+    let told = c.tick_quietly.ensures.told c.if-tick_quietly.true state stands in (
       [],
       [],
       added_none _,
       wrote_none _,
-      subst (λ es. AreHandled {T = Unit {0}} (Ok tt) w es (TableStandsFor c.tick_quietly.new.self) [] [])
+      subst (λ es. AreHandled {T = Unit {0}} (Ok tt) state es (FrontStandsFor c.tick_quietly.new.self) [] [])
           (sym (cond-true _ _ _ (lt-ltb c.args.top.now c.args.moment (omega (arith, c.if-moment-top.false)))))
           (subst (λ (os : List Outcome). IsDone os [] []) told.0 done_none, tt, refl, told.1),
     )
 
 pub returns-clause-handled : goal.returns-clause-handled
-returns-clause-handled g c = λ w stands.
-    let as_it_was = subst (λ (t : TableValue). TableStandsFor t w) (sym (c.tick_quietly.ensures.same c.if-tick_quietly.false)) stands in
-    let told = c.obey.ensures.handled w as_it_was in (
+returns-clause-handled g c = λ state stands.
+    let as_it_was = subst (λ (t : FrontValue). FrontStandsFor t state) (sym (c.tick_quietly.ensures.same c.if-tick_quietly.false)) stands in
+    let told = c.obey.ensures.handled state as_it_was in (
       told.0,
       told.1,
       told.2,
       told.3,
-      subst (λ es. AreHandled c.obey.result w es (TableStandsFor c.obey.new.table) told.0 told.1)
+      subst (λ es. AreHandled c.obey.result state es (FrontStandsFor c.obey.new.front) told.0 told.1)
           (sym (cond-true _ _ _ (lt-ltb c.args.top.now c.args.moment (omega (arith, c.if-moment-top.false))))) told.4,
     )

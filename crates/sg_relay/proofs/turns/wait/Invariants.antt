@@ -1,11 +1,8 @@
 use Rattle.std.proofs.Common.{◌≡◌, ◌≤◌, ◌+◌, List, ℕ, length}
 use Rattle.sg_edge.specs.Links.{Added, LinkCall}
 use Rattle.sg_edge.specs.Told.{Wrote}
-use Rattle.sg_gateway.specs.Events.{outcomes_from}
-use Rattle.sg_gateway.specs.Runs.{world_after}
+use Rattle.sg_front.specs.States.{FrontStandsFor, State, state_after, told_from}
 use Rattle.sg_gateway.specs.Step.{Event}
-use Rattle.sg_gateway.specs.World.{World}
-use Rattle.sg_table.specs.Standing.{TableStandsFor}
 use Rattle.sg_relay.specs.Asked.{AreGood, IsDone, receipts_in}
 use Rattle.sg_relay.specs.Parts.{IsWaitInOrder}
 use Rattle.sg_relay.proofs.Waits.{GoesOn}
@@ -13,12 +10,12 @@ use Rattle.sg_relay.proofs.turns.wait.Given as goal
 
 abbrev pub invariant-turns : goal.invariant-turns
 invariant-turns g l =
-    ((w : World) → TableStandsFor l.fn.table w
+    ((state : State) → FrontStandsFor l.fn.front state
     → (readings : List ℕ) × (calls : List LinkCall) × (out : List ℕ) × (es : List Event)
     × Added (g.C.Clock.given l.fn.clock) (g.C.Clock.given l.clock) readings × Added (g.L.Link.told l.fn.link) (g.L.Link.told l.link) calls × Wrote (g.K.Sink.written l.fn.sink) (g.K.Sink.written l.sink) out
     × GoesOn l.until l.fn.top readings (receipts_in calls) es l.top
-    × IsDone (outcomes_from w es) calls out × AreGood calls × TableStandsFor l.table (world_after w es)
-    × (length readings ≡ length (receipts_in calls)) × (length readings + l.turns ≡ l.fn.turns) × IsWaitInOrder l.until w l.fn.top readings calls)
+    × IsDone (told_from state es) calls out × AreGood calls × FrontStandsFor l.front (state_after state es)
+    × (length readings ≡ length (receipts_in calls)) × (length readings + l.turns ≡ l.fn.turns) × IsWaitInOrder l.until state l.fn.top readings calls)
     × (g.K.Sink.faults l.sink ≡ g.K.Sink.faults l.fn.sink) × (g.L.Link.faults l.fn.link ≤ g.L.Link.faults l.link) × (g.C.Clock.faults l.clock ≡ g.C.Clock.faults l.fn.clock)
     × (g.C.Clock.count l.clock + l.turns ≤ g.C.Clock.count l.fn.clock + l.fn.turns)
 
