@@ -5,6 +5,7 @@ mod ReadBuffers
 mod Findings
 pub mod Frames
 pub mod Grammars
+mod LineOctets
 mod LineParts
 mod Readings
 mod Supplies

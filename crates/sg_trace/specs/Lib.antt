@@ -5,6 +5,7 @@ pub mod Trace
 pub mod Fed
 pub mod Finding
 pub mod Grammar
+pub mod LineOctets
 pub mod Output
 pub mod Reading
 pub mod StatusText

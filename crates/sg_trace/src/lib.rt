@@ -12,7 +12,7 @@ mod supplying;
 mod telling;
 
 pub use capture_reader::CaptureReader;
-pub use script_reader::{Found, ScriptReader};
+pub use script_reader::{Found, Place, ScriptReader};
 pub use status::Status;
 pub use supplying::supply;
 pub use telling::tell;

@@ -3,6 +3,7 @@
 ghost use Rattle.std.specs.Prelude.{◌≡◌, ◌↔◌, ◌⊎◌, ◌≤◌, ◌+◌, ◌^◌, ℕ, List, [], length, IfOk, IfSome};
 ghost use Rattle.sg_trace.specs.Causes.{IsCaused};
 ghost use Rattle.sg_trace.specs.Finding.{FitsFound, IsFound};
+ghost use Rattle.sg_trace.specs.LineOctets.{GivesOctets};
 ghost use Rattle.sg_trace.specs.Trace.{Captures, begins_capture, line_at};
 ghost use Rattle.sg_trace.specs.Reading.{IsNext, refused_as};
 ghost use Rattle.sg_edge.specs.Told.{TookIn};
@@ -43,6 +44,14 @@ impl Model for ScriptReader {
     ghost view = { λ r. record { waits = r.read_buffer; version = r.version; number = r.count + 1; offset = r.at + length r.line.items; budget = r.budget } };
 
     ghost invariant = { λ r. (r.at + length r.line.items + length r.read_buffer + r.budget ≡ 2 ^ 30 + 1) × (r.count ≤ r.at + length r.line.items) × ((r.version ≡ 1) ⊎ (r.version ≡ 2)) };
+}
+
+/// Where a line stands: in a script of this version, its number, from 1, and its offset.
+#[derive(Clone, Copy)]
+pub struct Place {
+    pub version: u8,
+    pub number: u64,
+    pub offset: u64,
 }
 
 /// What stands next in a script behind which a capture may stand.
@@ -138,6 +147,45 @@ impl ScriptReader {
             }
             Err(fault) => Err(refused(number, fault)),
         }
+    }
+
+    /// Reads the octets of the next line, whatever they say, into the empty `line`; none at the end of the source.
+    /// `Read` where the source fails.
+    pub fn next_octets<S: Source>(
+        &mut self,
+        source: &mut S,
+        line: &mut Vec<u8>,
+    ) -> Result<Option<Place>, Status>
+        requires { line.old.items ≡ [] }
+        ensures next { (got : List ℕ) × TookIn (S.left source.old) (S.left source.new) got
+            × GivesOctets result line.new.items self.old self.new got (S.left source.new) × (length got + self.new.budget ≡ self.old.budget) }
+        ensures given { S.given source.new + self.new.budget ≤ S.given source.old + self.old.budget }
+        ensures cause { IsCaused Status.Read result (S.faults source.old) (S.faults source.new) (S.failed source.new) }
+    {
+        self.at += self.line.len() as u64;
+        self.line.clear();
+        let place = Place {
+            version: self.version,
+            number: self.count + 1,
+            offset: self.at,
+        };
+        let found = next_line(&mut self.read_buffer, source, line, &mut self.budget);
+        self.at += line.len() as u64;
+        match found {
+            Err(status) => Err(status),
+            Ok(false) => Ok(None),
+            Ok(true) => {
+                self.count = place.number;
+                Ok(Some(place))
+            }
+        }
+    }
+
+    /// The lines behind this one are of the version that it says, where it is the first.
+    pub fn follow(&mut self, line: &Line)
+        ensures { self.new ≡ record self.old { version = version_after self.old.version line.now } }
+    {
+        self.version = version_after(self.version, line);
     }
 
     /// What waits behind the lines that were read, with its offset, and how many octets may still be asked for.
