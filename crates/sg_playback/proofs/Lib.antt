@@ -3,5 +3,5 @@ mod Completes
 pub mod Plays
 mod Replays
 mod Tells
-mod Timely
+pub mod Timely
 pub mod Room

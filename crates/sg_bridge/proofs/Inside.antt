@@ -1,0 +1,295 @@
+-- What is opened in a joined call stays inside, and is sealed in the other.
+use Rattle.std.proofs.Common.{◌≡◌, inl, inr, ◌⊎◌, ℕ, ◌+◌, ◌-◌, ◌*◌, ◌/◌, ◌%◌, ◌<◌, ◌≤◌, Bool, true, false, cond, List, [], ◌∷◌, ◌++◌, map, Option, Some, None, Result, Ok, Err, refl, sym, ap, ◌∙◌, subst, arith, leb, ltb}
+use Rattle.std.specs.Prelude.{◌&&◌, option_to_list}
+use Rattle.std.proofs.lemmas.Bool.{and_parts, leb-true}
+use Rattle.std.proofs.lemmas.Bool.Decides.{leb_tells}
+use Rattle.std.proofs.lemmas.List.Elements.{All-from_recursion}
+use Rattle.std.specs.List.{All, Any, AllByRecursion}
+use Rattle.std.specs.Option.{option_map}
+use Rattle.sg_base.specs.declared.addresses.Address.{Address}
+use Rattle.sg_base.specs.declared.addresses.CallId.{CallId}
+use Rattle.sg_base.specs.declared.faults.DropCause.{DropCause}
+use Rattle.sg_base.specs.declared.faults.DropCause.TheVariants.{PortUnused}
+use Rattle.sg_gateway.proofs.Came.{seals_came}
+use Rattle.sg_gateway.proofs.OnlySeals.{signal_quiet}
+use Rattle.sg_gateway.proofs.SealsOut.{LeavesSealed, seals_leave_at}
+use Rattle.sg_gateway.specs.Coming.{IsSealedFrom}
+use Rattle.sg_gateway.specs.Datagrams.{Entry, Put}
+use Rattle.sg_gateway.specs.Legs.{secure_leg_port}
+use Rattle.sg_gateway.specs.Octets.{Octets, as_octets}
+use Rattle.sg_gateway.specs.Runs.{turn_of}
+use Rattle.sg_gateway.specs.SealedOut.{IsOut, IsSealedOutOf}
+use Rattle.sg_gateway.specs.Signals.{Signal}
+use Rattle.sg_gateway.specs.Step.{Event, Signalled, Datagram, step}
+use Rattle.sg_gateway.specs.World.{Call, World}
+use Rattle.sg_outcome.specs.declared.outcomes.Outcome.{Outcome}
+use Rattle.sg_outcome.specs.declared.outcomes.Outcome.TheVariants.{Made, Live, Sdp, Refused, Ended, Out, Dropped, Unsent}
+use Rattle.sg_gateway.specs.PlainOf.{plain_at}
+use Rattle.sg_session.proofs.Lists.{any_cases, any_here, any_none, any_weaker}
+use Rattle.sg_session.specs.declared.names.Direction.TheVariants.{Opening, Sealing}
+use Rattle.sg_bridge.proofs.PutAt.{Coming, IsDropped, IsPut, PutBy, FromPlain, comes, from_plain, from_secure}
+use Rattle.sg_bridge.specs.Bridged.{Bridging, Crosses, Following, IsCrossing, IsSealOf, Said, Happens, Joins, Parts, StaysInside, TellsOut, arrived, behind, bridging, bridgings_from, followed, handed_on, happened, happens, inner, inner_told, joining, nothing_happens, opened, parting, passed}
+use Rattle.sg_bridge.specs.Onward.{is_plain_port, medium_of, onward, onward_in, port_like, slot_of}
+use Rattle.sg_bridge.specs.Pairs.{Joining, Members, Noted, Parting, ended, joined, member_at, noted, other_slot, pair_of, parted_from, tells_parted}
+use Rattle.sg_bridge.specs.declared.faults.JoinFault.{JoinFault}
+use Rattle.sg_bridge.specs.declared.members.Member.{Member}
+use Rattle.sg_bridge.specs.declared.members.Pair.{Pair}
+use Rattle.sg_bridge.specs.declared.outcomes.BridgeOutcome.{BridgeOutcome}
+use Rattle.sg_bridge.specs.declared.outcomes.BridgeOutcome.TheVariants as tells
+
+-- ---- ports
+
+is_plain : (p : ℕ) → is_plain_port p ≡ true → 2 ≤ (p - 20000) % 4
+is_plain p is = leb-true 2 ((p - 20000) % 4) (and_parts (leb 20000 p && ltb p 24096) (leb 2 ((p - 20000) % 4)) is).1
+
+abbrev IsHighAt : Option ℕ → Type 0
+IsHighAt None = Unit {0}
+IsHighAt (Some n) = 2 ≤ (n - 20000) % 4
+
+plain_onward : (calls : Members) (p q : ℕ) → onward calls p ≡ Some q → (2 ≤ (p - 20000) % 4) × (2 ≤ (q - 20000) % 4)
+plain_onward calls p q is = go (is_plain_port p) refl is
+  where
+    like : (slot : ℕ) → 2 ≤ (p - 20000) % 4 → 2 ≤ (port_like p slot - 20000) % 4
+    like slot h = omega (arith, h)
+
+    of_pair : 2 ≤ (p - 20000) % 4 → (o : Option Pair) → option_map (λ (x : Pair). port_like p (other_slot x (slot_of p))) o ≡ Some q → 2 ≤ (q - 20000) % 4
+    of_pair h None e = absurd cc
+    of_pair h (Some x) e = subst IsHighAt e (like (other_slot x (slot_of p)) h)
+
+    of_member : 2 ≤ (p - 20000) % 4 → (o : Option Member) → onward_in p o ≡ Some q → 2 ≤ (q - 20000) % 4
+    of_member h None e = absurd cc
+    of_member h (Some m) e = by (ltb (medium_of p) m.media) e
+      where
+        by : (b : Bool) → cond b (option_map (λ (x : Pair). port_like p (other_slot x (slot_of p))) m.pair) None ≡ Some q → 2 ≤ (q - 20000) % 4
+        by true e = of_pair h m.pair e
+        by false e = absurd cc
+
+    go : (b : Bool) → is_plain_port p ≡ b → cond b (onward_in p (member_at calls (slot_of p))) None ≡ Some q → (2 ≤ (p - 20000) % 4) × (2 ≤ (q - 20000) % 4)
+    go true plain e = (is_plain p plain, of_member (is_plain p plain) (member_at calls (slot_of p)) e)
+    go false plain e = absurd cc
+
+not_onward : (calls : Members) (p : ℕ) → (p - 20000) % 4 < 2 → onward calls p ≡ None
+not_onward calls p secure = go (is_plain_port p) refl
+  where
+    go : (b : Bool) → is_plain_port p ≡ b → cond b (onward_in p (member_at calls (slot_of p))) None ≡ None
+    go true plain = absurd (let h = is_plain p plain in omega (arith, h, secure))
+    go false plain = refl
+
+-- ---- what is told of a signal
+
+abbrev outs : BridgeOutcome → Type 0
+outs (tells.Table o) = IsOut o
+outs (tells.Joined first second) = Unit {0}
+outs (tells.Parted first second) = Unit {0}
+outs (tells.Unjoined call cause) = Unit {0}
+outs (tells.Lost port cause) = Unit {0}
+
+module _ (port : ℕ) (to : Address) (octets : List ℕ) where
+  abbrev Is : BridgeOutcome → Type 0
+  Is o = o ≡ tells.Table (Out port to octets)
+
+  abbrev NoOut : List BridgeOutcome → Type 0
+  NoOut told = Any Is told → ⊥
+
+  one : (o : BridgeOutcome) → (Is o → ⊥) → NoOut (o ∷ [])
+  one o not a = elim (any_cases Is o [] a) [ inl is ↦ not is | inr rest ↦ any_none Is rest ]
+
+  parted_not : (calls : Members) (o : Outcome) → NoOut (option_to_list (noted calls o).parted)
+  parted_not calls (Made id slot media) a = any_none Is a
+  parted_not calls (Live id) a = any_none Is a
+  parted_not calls (Ended id slot media why) a = go (pair_of (member_at calls slot)) a
+    where
+      go : (p : Option Pair) → NoOut (option_to_list (ended slot calls p).parted)
+      go None a = any_none Is a
+      go (Some p) a = one (tells_parted p) (λ is. absurd cc) a
+  parted_not calls (Sdp id side text) a = any_none Is a
+  parted_not calls (Refused id cause) a = any_none Is a
+  parted_not calls (Out p t d) a = any_none Is a
+  parted_not calls (Dropped p cause) a = any_none Is a
+  parted_not calls (Unsent p t) a = any_none Is a
+
+  behind_not : (o : Outcome) → ¬ IsOut o → (parted : Option BridgeOutcome) → NoOut (option_to_list parted) → (f : Following) → NoOut f.told → NoOut (behind o parted f).told
+  behind_not o not None none f rest a = elim (any_cases Is (tells.Table o) f.told a) [ inl is ↦ not (subst outs (sym is) tt) | inr r ↦ rest r ]
+  behind_not o not (Some p) none f rest a = elim (any_cases Is (tells.Table o) (p ∷ f.told) a) [
+    | inl is ↦ not (subst outs (sym is) tt)
+    | inr r ↦ elim (any_cases Is p f.told r) [ inl is ↦ none (any_one is) | inr s ↦ rest s ]
+  ]
+    where
+      any_one : Is p → Any Is (p ∷ [])
+      any_one is = any_here Is p [] is
+
+  followed_not : (calls : Members) (os : List Outcome) → AllByRecursion (λ o. ¬ IsOut o) os → NoOut (followed calls os).told
+  followed_not calls [] none a = any_none Is a
+  followed_not calls (o ∷ os) none a =
+      behind_not o none.0 (noted calls o).parted (parted_not calls o) (followed (noted calls o).calls os) (followed_not (noted calls o).calls os none.1) a
+
+-- ---- lines that join and part
+
+joins_inside : (w : World) (calls : Members) (first second : CallId) (j : Joining) (port : ℕ) (to : Address) (octets : List ℕ)
+    → NoOut port to octets (joining w calls first second j).told
+joins_inside w calls first second (Ok after) port to octets a = one port to octets (tells.Joined first second) (λ is. absurd cc) a
+joins_inside w calls first second (Err (call, cause)) port to octets a = one port to octets (tells.Unjoined call cause) (λ is. absurd cc) a
+
+parts_inside : (w : World) (calls : Members) (call : CallId) (r : Result Parting JoinFault) (port : ℕ) (to : Address) (octets : List ℕ)
+    → NoOut port to octets (parting w calls call r).told
+parts_inside w calls call (Ok p) port to octets a = one port to octets (tells.Parted p.pair.first.id p.pair.second.id) (λ is. absurd cc) a
+parts_inside w calls call (Err cause) port to octets a = one port to octets (tells.Unjoined call cause) (λ is. absurd cc) a
+
+-- ---- a datagram
+
+abbrev told_port : Outcome → ℕ
+told_port (Out p t d) = p
+told_port (Made id slot media) = 0
+told_port (Live id) = 0
+told_port (Sdp id side text) = 0
+told_port (Refused id cause) = 0
+told_port (Ended id slot media why) = 0
+told_port (Dropped p cause) = 0
+told_port (Unsent p t) = 0
+
+abbrev out_port : BridgeOutcome → ℕ
+out_port (tells.Table o) = told_port o
+out_port (tells.Joined first second) = 0
+out_port (tells.Parted first second) = 0
+out_port (tells.Unjoined call cause) = 0
+out_port (tells.Lost port cause) = 0
+
+abbrev first_port : List Outcome → ℕ
+first_port [] = 0
+first_port (o ∷ os) = told_port o
+
+-- the one packet that is told
+only_out : (p : ℕ) (t : Address) (d : List ℕ) (port : ℕ) (to : Address) (octets : List ℕ) → Any (Is port to octets) (tells.Table (Out p t d) ∷ [])
+    → Is port to octets (tells.Table (Out p t d))
+only_out p t d port to octets a = elim (any_cases (Is port to octets) (tells.Table (Out p t d)) [] a) [ inl is ↦ is | inr rest ↦ absurd (any_none (Is port to octets) rest) ]
+
+side : (n : ℕ) → ((n - 20000) % 4 < 2) ⊎ (2 ≤ (n - 20000) % 4)
+side n = elim (leb_tells 2 ((n - 20000) % 4)) [ inl high ↦ inr high.1 | inr low ↦ inl low.1 ]
+
+-- a bridging that puts nothing out stays inside, and nothing crosses in it
+abbrev TellsNone : Bridging → Type 0
+TellsNone b = (port : ℕ) (to : Address) (octets : List ℕ) → TellsOut b port to octets → ⊥
+
+none_stays : (b : Bridging) → TellsNone b → StaysInside b
+none_stays b none port to octets a = absurd (none port to octets a)
+
+none_crosses : (b : Bridging) → TellsNone b → Crosses b
+none_crosses b none port q to octets a low on = absurd (none port to octets a)
+
+abbrev Both : Bridging → Type 0
+Both b = StaysInside b × Crosses b
+
+none_both : (b : Bridging) → TellsNone b → Both b
+none_both b none = (none_stays b none, none_crosses b none)
+
+module _ (w : World) (calls : Members) (port : ℕ) (from : Address) (d : Octets) where
+  abbrev e : Event
+  e = Datagram port from d
+
+  abbrev after : World
+  after = (step w e).world
+
+  -- the inner datagram
+  inner_both : (p q : ℕ) (to : Address) (x : List ℕ) → (step w e).outcomes ≡ Out p to x ∷ [] → onward calls p ≡ Some q → (a : Address)
+      → Coming after q (step after (inner q a x)).outcomes (step after (inner q a x)).entries
+      → Both (happens w calls (e ∷ inner q a x ∷ []) (map inner_told (step after (inner q a x)).outcomes) (step after (inner q a x)).world)
+  inner_both p q to x was on a (IsDropped cause is) = none_both (happens w calls (e ∷ inner q a x ∷ []) (map inner_told (step after (inner q a x)).outcomes) (step after (inner q a x)).world) (λ port' to' octets' t.
+      one port' to' octets' (tells.Lost q cause) (λ is. absurd cc) (subst (λ os. Any (Is port' to' octets') (map inner_told os)) is t))
+  inner_both p q to x was on a (IsPut c o by is es) = (
+    (λ port' to' octets' t. subst (λ n. onward calls n ≡ None) (ap out_port (told_is port' to' octets' t)) (not_onward calls o.port plain.low)),
+    (λ port' q' to' octets' t low on'.
+        let same : o.port ≡ port' = ap out_port (told_is port' to' octets' t) in
+        record {
+          first = e;
+          second = inner q a x;
+          events_are = refl;
+          out = p;
+          opened_to = to;
+          packet = x;
+          opened = was;
+          other = on ∙ ap (λ n. Some n) (plain.out ∙ ap (λ n. n + 2) same);
+          sealed = subst (λ (es : List _). Any (IsSealOf (turn_of after (inner q a x)) port' (as_octets x).items) es) (sym es) (0, o.entry, omega arith, refl, (plain.sealing, packet_is, sealed_at port' same));
+          told = ap (map inner_told) is ∙ ap (λ b. b ∷ []) (told_is port' to' octets' t);
+        }),
+  )
+    where
+      plain : FromPlain q o
+      plain = from_plain q c o by (plain_onward calls p q on).1
+
+      told_is : (port' : ℕ) (to' : Address) (octets' : List ℕ) → Any (Is port' to' octets') (map inner_told (step after (inner q a x)).outcomes)
+          → Is port' to' octets' (tells.Table (Out o.port o.to o.octets))
+      told_is port' to' octets' t = only_out o.port o.to o.octets port' to' octets' (subst (λ os. Any (Is port' to' octets') (map inner_told os)) is t)
+
+      leaves : LeavesSealed (turn_of after (inner q a x)) o.entry
+      leaves = (subst (λ (es : List _). AllByRecursion (LeavesSealed (turn_of after (inner q a x))) es) es (seals_leave_at after (inner q a x))).0
+
+      came : o.entry.session.owner.direction ≡ Sealing → Any (λ c. Any (λ s. (s.name ≡ o.entry.session) × IsSealedFrom (inner q a x) c s o.entry.done.packet) c.sessions) after.calls
+      came = (subst (λ (es : List _). AllByRecursion (λ en. en.session.owner.direction ≡ Sealing → Any (λ c. Any (λ s. (s.name ≡ en.session) × IsSealedFrom (inner q a x) c s en.done.packet) c.sessions) after.calls) es) es (seals_came after (inner q a x))).0
+
+      packet_is : o.entry.done.packet ≡ (as_octets x).items
+      packet_is = (let c = came plain.sealing in let s = c.4 in sym s.4.1.2)
+
+      sealed_at : (port' : ℕ) → o.port ≡ port' → Any (λ c. Any (λ s. IsSealedOutOf (turn_of after (inner q a x)) o.entry c s × (secure_leg_port c s ≡ port')) c.sessions) after.calls
+      sealed_at port' same = any_weaker (λ c. Any (IsSealedOutOf (turn_of after (inner q a x)) o.entry c) c.sessions) (λ c. Any (λ s. IsSealedOutOf (turn_of after (inner q a x)) o.entry c s × (secure_leg_port c s ≡ port')) c.sessions)
+          (λ c b. any_weaker (IsSealedOutOf (turn_of after (inner q a x)) o.entry c) (λ s. IsSealedOutOf (turn_of after (inner q a x)) o.entry c s × (secure_leg_port c s ≡ port')) (λ s out. (out, ap first_port (sym out.out ∙ is) ∙ same)) c.sessions b) after.calls (leaves plain.sealing)
+
+  handed_both : (p q : ℕ) (to : Address) (x : List ℕ) → (step w e).outcomes ≡ Out p to x ∷ [] → onward calls p ≡ Some q → (o : Option Address)
+      → Both (handed_on w calls e after q x o)
+  handed_both p q to x is on None = none_both (happens w calls (e ∷ []) (tells.Lost q PortUnused ∷ []) after) (λ port' to' octets'. one port' to' octets' (tells.Lost q PortUnused) (λ is. absurd cc))
+  handed_both p q to x is on (Some a) = inner_both p q to x is on a (comes after q a (as_octets x))
+
+  opened_both : (p : ℕ) (to : Address) (x : List ℕ) → (step w e).outcomes ≡ Out p to x ∷ [] → onward calls port ≡ None
+      → ((p - 20000) % 4 < 2 → port ≡ p + 2) → (o : Option ℕ) → onward calls p ≡ o → Both (opened w calls e after p to x o)
+  opened_both p to x is unjoined beside None on = (
+    (λ port' to' octets' t. subst (λ n. onward calls n ≡ None) (ap out_port (only_out p to x port' to' octets' t)) on),
+    (λ port' q to' octets' t low on'.
+        let same : p ≡ port' = ap out_port (only_out p to x port' to' octets' t) in
+        let at : port ≡ port' + 2 = beside (subst (λ n. (n - 20000) % 4 < 2) (sym same) low) ∙ ap (λ n. n + 2) same in
+        absurd (none_some (sym unjoined ∙ ap (onward calls) at ∙ on'))),
+  )
+    where
+      none_some : {q : ℕ} → None ≡ Some q → ⊥
+      none_some e = absurd cc
+  opened_both p to x is unjoined beside (Some q) on = handed_both p q to x is on (plain_at after q)
+
+  passed_both : onward calls port ≡ None → (os : List Outcome) → (step w e).outcomes ≡ os → Coming w port os (step w e).entries → Both (passed w calls e after os)
+  passed_both unjoined os was (IsDropped cause is) = subst (λ os. Both (passed w calls e after os)) (sym is)
+      (none_both (passed w calls e after (Dropped port cause ∷ [])) (λ port' to' octets'. one port' to' octets' (tells.Table (Dropped port cause)) (λ is. absurd cc)))
+  passed_both unjoined os was (IsPut c p by is es) = subst (λ os. Both (passed w calls e after os)) (sym is)
+      (opened_both p.port p.to p.octets (was ∙ is) unjoined (beside c p by) (onward calls p.port) refl)
+    where
+      beside : (c : Call) (p : Put) → PutBy port c p → (p.port - 20000) % 4 < 2 → port ≡ p.port + 2
+      beside c p by low = elim (side port) [
+        | inl secure ↦ absurd (let h = from_secure port c p by secure in omega (arith, h, low))
+        | inr plain ↦ (from_plain port c p by plain).out
+      ]
+
+  datagram_both : (o : Option ℕ) → onward calls port ≡ o → Both (arrived w calls port e (step w e) o)
+  datagram_both None on = passed_both on (step w e).outcomes refl (comes w port from d)
+  datagram_both (Some q) on = none_both (nothing_happens w calls (tells.Table (Dropped port PortUnused))) (λ port' to' octets'. one port' to' octets' (tells.Table (Dropped port PortUnused)) (λ is. absurd cc))
+
+-- ---- a run
+
+said_both : (w : World) (calls : Members) (s : Said) → Both (bridging w calls s)
+said_both w calls (Happens (Signalled signal)) = none_both (happened w calls (Signalled signal)) (λ port to octets. followed_not port to octets calls (step w (Signalled signal)).outcomes (signal_quiet w signal))
+said_both w calls (Happens (Datagram port from d)) = datagram_both w calls port from d (onward calls port) refl
+said_both w calls (Joins first second) = none_both (bridging w calls (Joins first second)) (joins_inside w calls first second (joined first second calls))
+said_both w calls (Parts call) = none_both (bridging w calls (Parts call)) (parts_inside w calls call (parted_from call calls))
+
+all_both : (w : World) (calls : Members) (said : List Said) → AllByRecursion Both (bridgings_from w calls said)
+all_both w calls [] = tt
+all_both w calls (s ∷ ss) = (said_both w calls s, all_both (bridging w calls s).world (bridging w calls s).calls ss)
+
+firsts : (bs : List Bridging) → AllByRecursion Both bs → AllByRecursion StaysInside bs
+firsts [] all = tt
+firsts (b ∷ bs) all = (all.0.0, firsts bs all.1)
+
+seconds : (bs : List Bridging) → AllByRecursion Both bs → AllByRecursion Crosses bs
+seconds [] all = tt
+seconds (b ∷ bs) all = (all.0.1, seconds bs all.1)
+
+pub all_inside : (w : World) (calls : Members) (said : List Said) → All StaysInside (bridgings_from w calls said)
+all_inside w calls said = All-from_recursion StaysInside _ (firsts _ (all_both w calls said))
+
+pub all_cross : (w : World) (calls : Members) (said : List Said) → All Crosses (bridgings_from w calls said)
+all_cross w calls said = All-from_recursion Crosses _ (seconds _ (all_both w calls said))

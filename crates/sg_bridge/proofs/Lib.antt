@@ -1,0 +1,5 @@
+pub mod BridgeFrames
+mod Inside
+mod Loops
+mod LostLines
+mod PutAt

@@ -1,0 +1,165 @@
+-- A run of a bridge: the table's events, each inner datagram right after the one that opened it, and what is told.
+use Rattle.std.specs.Prelude.{◌≡◌, ℕ, ◌+◌, ◌-◌, ◌%◌, ◌<◌, List, [], ◌∷◌, ◌++◌, map, Option, Some, None, option_to_list, Result, Ok, Err}
+use Rattle.std.specs.List.{All, Any, flat_map}
+use Rattle.sg_base.specs.declared.addresses.Address.{Address}
+use Rattle.sg_base.specs.declared.addresses.CallId.{CallId}
+use Rattle.sg_base.specs.declared.faults.DropCause.TheVariants.{PortUnused}
+use Rattle.sg_gateway.specs.Datagrams.{Entry, Happening}
+use Rattle.sg_gateway.specs.Legs.{secure_leg_port}
+use Rattle.sg_gateway.specs.Octets.{Octets, as_octets}
+use Rattle.sg_gateway.specs.PlainOf.{plain_at}
+use Rattle.sg_gateway.specs.Runs.{Turn, turn_of}
+use Rattle.sg_gateway.specs.SealedOut.{IsSealedOutOf}
+use Rattle.sg_gateway.specs.Step.{Event, Signalled, Datagram, step}
+use Rattle.sg_gateway.specs.World.{World, empty}
+use Rattle.sg_outcome.specs.declared.outcomes.Outcome.{Outcome}
+use Rattle.sg_outcome.specs.declared.outcomes.Outcome.TheVariants.{Out, Dropped}
+use Rattle.sg_session.specs.declared.names.Direction.TheVariants.{Sealing}
+use Rattle.sg_bridge.specs.Onward.{onward}
+use Rattle.sg_bridge.specs.Pairs.{Joining, Members, Parting, joined, nobody, noted, parted_from}
+use Rattle.sg_bridge.specs.declared.faults.JoinFault.{JoinFault}
+use Rattle.sg_bridge.specs.declared.outcomes.BridgeOutcome.{BridgeOutcome}
+use Rattle.sg_bridge.specs.declared.outcomes.BridgeOutcome.TheVariants as tells
+
+-- what a line says, once a signal has its noise: an event happens, two calls are to be joined, or one is to be parted
+pub data Said : Type 0 where
+  Happens : Event → Said
+  Joins : CallId → CallId → Said
+  Parts : CallId → Said
+
+-- What one of them gives: the world and the calls before it, events of the table in order, what is told, and the world and
+-- the calls after it.
+pub record Bridging : Type 0 where
+  pub before : World
+  pub pairs : Members
+  pub events : List Event
+  pub told : List BridgeOutcome
+  pub world : World
+  pub calls : Members
+
+-- ---- what is told of a signal
+
+-- what is told of outcomes, each with the pair that it parts behind it, and the calls after them
+pub record Following : Type 0 where
+  pub told : List BridgeOutcome
+  pub calls : Members
+
+abbrev pub behind : Outcome → Option BridgeOutcome → Following → Following
+behind o parted f = record { told = tells.Table o ∷ option_to_list parted ++ f.told; calls = f.calls }
+
+abbrev pub followed : Members → List Outcome → Following
+followed calls [] = record { told = []; calls = calls }
+followed calls (o ∷ os) = behind o (noted calls o).parted (followed (noted calls o).calls os)
+
+abbrev pub signalled : World → Members → Event → Happening → Following → Bridging
+signalled w calls e h f = record { before = w; pairs = calls; events = e ∷ []; told = f.told; world = h.world; calls = f.calls }
+
+-- ---- what becomes of a datagram
+
+abbrev pub nothing_happens : World → Members → BridgeOutcome → Bridging
+nothing_happens w calls o = record { before = w; pairs = calls; events = []; told = o ∷ []; world = w; calls = calls }
+
+abbrev pub happens : World → Members → List Event → List BridgeOutcome → World → Bridging
+happens w calls events told after = record { before = w; pairs = calls; events = events; told = told; world = after; calls = calls }
+
+-- what is told of an inner datagram
+abbrev pub inner_told : Outcome → BridgeOutcome
+inner_told (Dropped port cause) = tells.Lost port cause
+inner_told other = tells.Table other
+
+-- what was opened comes to the other call's plain port, from the plain address there
+abbrev pub inner : ℕ → Address → List ℕ → Event
+inner q from d = Datagram q from (as_octets d)
+
+abbrev pub handed_on : World → Members → Event → World → ℕ → List ℕ → Option Address → Bridging
+handed_on w calls e after q d None = happens w calls (e ∷ []) (tells.Lost q PortUnused ∷ []) after
+handed_on w calls e after q d (Some from) =
+    happens w calls (e ∷ inner q from d ∷ []) (map inner_told (step after (inner q from d)).outcomes) (step after (inner q from d)).world
+
+abbrev pub opened : World → Members → Event → World → ℕ → Address → List ℕ → Option ℕ → Bridging
+opened w calls e after p to d None = happens w calls (e ∷ []) (tells.Table (Out p to d) ∷ []) after
+opened w calls e after p to d (Some q) = handed_on w calls e after q d (plain_at after q)
+
+-- a packet that is put out, where it is all that is told, and else what is told
+abbrev pub passed : World → Members → Event → World → List Outcome → Bridging
+passed w calls e after (Out p to d ∷ []) = opened w calls e after p to d (onward calls p)
+passed w calls e after told = happens w calls (e ∷ []) (map tells.Table told) after
+
+-- a plain port of a joined call is unused
+abbrev pub arrived : World → Members → ℕ → Event → Happening → Option ℕ → Bridging
+arrived w calls port e h None = passed w calls e h.world h.outcomes
+arrived w calls port e h (Some q) = nothing_happens w calls (tells.Table (Dropped port PortUnused))
+
+-- ---- what is said
+
+abbrev pub happened : World → Members → Event → Bridging
+happened w calls (Signalled signal) =
+    signalled w calls (Signalled signal) (step w (Signalled signal)) (followed calls (step w (Signalled signal)).outcomes)
+happened w calls (Datagram port from octets) =
+    arrived w calls port (Datagram port from octets) (step w (Datagram port from octets)) (onward calls port)
+
+abbrev pub joining : World → Members → CallId → CallId → Joining → Bridging
+joining w calls first second (Ok after) = record (nothing_happens w calls (tells.Joined first second)) { calls = after }
+joining w calls first second (Err (call, cause)) = nothing_happens w calls (tells.Unjoined call cause)
+
+abbrev pub parting : World → Members → CallId → Result Parting JoinFault → Bridging
+parting w calls call (Ok p) = record (nothing_happens w calls (tells.Parted p.pair.first.id p.pair.second.id)) { calls = p.calls }
+parting w calls call (Err cause) = nothing_happens w calls (tells.Unjoined call cause)
+
+abbrev pub bridging : World → Members → Said → Bridging
+bridging w calls (Happens e) = happened w calls e
+bridging w calls (Joins first second) = joining w calls first second (joined first second calls)
+bridging w calls (Parts call) = parting w calls call (parted_from call calls)
+
+abbrev pub bridgings_from : World → Members → List Said → List Bridging
+bridgings_from w calls [] = []
+bridgings_from w calls (s ∷ ss) = bridging w calls s ∷ bridgings_from (bridging w calls s).world (bridging w calls s).calls ss
+
+-- A bridge's run of what its lines say: its parts, the table's events, and what is told.
+abbrev pub bridgings : List Said → List Bridging
+bridgings said = bridgings_from empty nobody said
+
+abbrev pub bridged_events : List Said → List Event
+bridged_events said = flat_map (λ b. b.events) (bridgings said)
+
+abbrev pub bridged_outcomes : List Said → List BridgeOutcome
+bridged_outcomes said = flat_map (λ b. b.told) (bridgings said)
+
+-- ---- what stays inside
+
+abbrev pub TellsOut : Bridging → ℕ → Address → List ℕ → Type 0
+TellsOut b port to octets = Any (λ o. o ≡ tells.Table (Out port to octets)) b.told
+
+-- nothing is put out on a plain port of a joined call
+abbrev pub StaysInside : Bridging → Type 0
+StaysInside b = (port : ℕ) (to : Address) (octets : List ℕ) → TellsOut b port to octets → onward b.pairs port ≡ None
+
+abbrev pub JoinedStayInside : List Said → Type 0
+JoinedStayInside said = All StaysInside (bridgings said)
+
+-- The entry seals this packet, under a key of the session at that secure port.
+abbrev pub IsSealOf : Turn → ℕ → List ℕ → Entry → Type 0
+IsSealOf t port packet e = (e.session.owner.direction ≡ Sealing) × (e.done.packet ≡ packet)
+    × Any (λ c. Any (λ s. IsSealedOutOf t e c s × (secure_leg_port c s ≡ port)) c.sessions) t.before.calls
+
+-- An event opened this packet, and puts it out on a plain port whose onward port is the plain one beside this secure port.
+-- The event right after it comes there, and seals the packet: that one sealing is all that is told.
+pub record IsCrossing (b : Bridging) (port : ℕ) (to : Address) (octets : List ℕ) : Type 0 where
+  pub first : Event
+  pub second : Event
+  pub events_are : b.events ≡ first ∷ second ∷ []
+  pub out : ℕ
+  pub opened_to : Address
+  pub packet : List ℕ
+  pub opened : (step b.before first).outcomes ≡ Out out opened_to packet ∷ []
+  pub other : onward b.pairs out ≡ Some (port + 2)
+  pub sealed : Any (IsSealOf (turn_of (step b.before first).world second) port (as_octets packet).items) (step (step b.before first).world second).entries
+  pub told : b.told ≡ tells.Table (Out port to octets) ∷ []
+
+-- what is put out on a secure port of a joined call was opened in the other call, by the event before
+abbrev pub Crosses : Bridging → Type 0
+Crosses b = (port q : ℕ) (to : Address) (octets : List ℕ) → TellsOut b port to octets → (port - 20000) % 4 < 2
+    → onward b.pairs (port + 2) ≡ Some q → IsCrossing b port to octets
+
+abbrev pub EachCrossingIsSealed : List Said → Type 0
+EachCrossingIsSealed said = All Crosses (bridgings said)

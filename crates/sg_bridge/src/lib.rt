@@ -1,0 +1,21 @@
+//! Calls that are joined: what the peer of the one seals is opened, goes on to the other call, and is sealed
+//! for its peer.
+#![tactic(auto)]
+
+mod bridge;
+mod faults;
+mod laws;
+mod lines;
+mod members;
+mod outcomes;
+mod printing;
+mod reading;
+
+pub use bridge::Bridge;
+pub use faults::JoinFault;
+pub use laws::joined_calls_stay_inside;
+pub use lines::BridgeLine;
+pub use members::{Member, Pair, Party};
+pub use outcomes::BridgeOutcome;
+pub use printing::{print_bridge, push_bridge_outcome};
+pub use reading::read_bridge_line;

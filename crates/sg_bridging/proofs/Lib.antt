@@ -1,0 +1,4 @@
+mod Bridges
+mod Completes
+mod Frames
+mod Steps

@@ -1,0 +1,3 @@
+pub mod Bridge
+pub mod BridgeReading
+pub mod Steps

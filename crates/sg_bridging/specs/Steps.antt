@@ -1,0 +1,89 @@
+-- What the parts of a bridge leave, one by one.
+use Rattle.std.specs.Prelude.{◌≡◌, ◌⊎◌, ℕ, List, [], ◌∷◌, ◌++◌, option_to_list, Result, Ok, Err}
+use Rattle.std.specs.List.{flat_map}
+use Rattle.sg_bridge.specs.BridgeText.{bridge_outcome_line}
+use Rattle.sg_bridge.specs.Bridged.{Bridging, Said, bridging, bridgings_from}
+use Rattle.sg_bridge.specs.Pairs.{Members, nobody, noted}
+use Rattle.sg_bridge.specs.declared.lines.BridgeLine.{BridgeLine}
+use Rattle.sg_bridge.specs.declared.outcomes.BridgeOutcome.TheVariants as tells
+use Rattle.sg_bridging.specs.Bridge.{BridgeTrace, LaterSaid, said_of, stopped_at, with_said}
+use Rattle.sg_gateway.specs.World.{World, empty}
+use Rattle.sg_outcome.specs.declared.outcomes.Outcome.{Outcome}
+use Rattle.sg_table.specs.Standing.{TableStandsFor}
+use Rattle.sg_table.specs.Values.{TableValue}
+use Rattle.sg_trace.specs.Output.{IsPrefixOf}
+use Rattle.sg_trace.specs.Trace.{ForDraw}
+use Rattle.sg_trace.specs.declared.status.Status.{Status}
+use Rattle.sg_trace.specs.declared.status.Status.TheVariants as statuses
+
+-- a world, and what is known of its calls
+pub record State : Type 0 where
+  pub world : World
+  pub calls : Members
+
+abbrev pub start : State
+start = record { world = empty; calls = nobody }
+
+-- a table, and what is known of its calls
+pub record SwitchboardValue : Type 0 where
+  pub table : TableValue
+  pub calls : Members
+
+abbrev pub StandsFor : SwitchboardValue → State → Type 0
+StandsFor board s = TableStandsFor board.table s.world × (board.calls ≡ s.calls)
+
+abbrev pub after : Bridging → State
+after b = record { world = b.world; calls = b.calls }
+
+-- what it tells from a state on, and the state behind it
+abbrev pub text_from : State → List Said → List ℕ
+text_from s said = flat_map bridge_outcome_line (flat_map (λ b. b.told) (bridgings_from s.world s.calls said))
+
+abbrev pub state_after : State → List Said → State
+state_after s [] = s
+state_after s (x ∷ xs) = state_after (after (bridging s.world s.calls x)) xs
+
+-- what is told of an outcome of the table, and of the pair that it parts
+abbrev pub told_next : Members → Outcome → List ℕ
+told_next calls o = flat_map bridge_outcome_line (tells.Table o ∷ option_to_list (noted calls o).parted)
+
+-- This text was written, and that is so; or a prefix of it was written.
+abbrev pub HasTold : Result (Unit {0}) Status → List ℕ → Type 0 → List ℕ → Type 0
+HasTold (Ok u) text so out = (out ≡ text) × so
+HasTold (Err statuses.Write) text so out = IsPrefixOf out text
+HasTold (Err statuses.NoMemory) text so out = IsPrefixOf out text
+HasTold (Err other) text so out = ⊥
+
+-- What is told was written, and the switchboard stands for the state behind it.
+abbrev pub IsBridged : Result (Unit {0}) Status → Bridging → SwitchboardValue → List ℕ → Type 0
+IsBridged result b board out = HasTold result (flat_map bridge_outcome_line b.told) (StandsFor board (after b)) out
+
+-- the same of all that was said
+abbrev pub IsStepped : Result (Unit {0}) Status → State → List Said → SwitchboardValue → List ℕ → Type 0
+IsStepped result s said board out = HasTold result (text_from s said) (StandsFor board (state_after s said)) out
+
+-- What the line says, for which these octets were drawn, was handled and told.
+pub record IsTaken (l : BridgeLine) (s : State) (board : SwitchboardValue) (draws out : List ℕ) : Type 0 where
+  pub said : List Said
+  pub goes : (later : LaterSaid) (more : List ℕ) → said_of l later (draws ++ more) ≡ with_said said (later more)
+  pub told : out ≡ text_from s said
+  pub stands : StandsFor board (state_after s said)
+
+-- A prefix of what it tells was told.
+pub record IsCut (l : BridgeLine) (s : State) (draws out : List ℕ) : Type 0 where
+  pub said : List Said
+  pub goes : (later : LaterSaid) → (rest : BridgeTrace) × (said_of l later draws ≡ with_said said rest)
+  pub told : IsPrefixOf out (text_from s said)
+
+-- The line lacks noise, and none was drawn. Nothing is told.
+pub record IsUnsupplied (l : BridgeLine) (draws out : List ℕ) : Type 0 where
+  pub drew : draws ≡ []
+  pub stops : (later : LaterSaid) → said_of l later [] ≡ stopped_at ForDraw []
+  pub told : out ≡ []
+
+abbrev pub IsPlayed : Result (Unit {0}) Status → BridgeLine → State → SwitchboardValue → List ℕ → List ℕ → Type 0
+IsPlayed (Ok u) l s board draws out = IsTaken l s board draws out
+IsPlayed (Err statuses.Noise) l s board draws out = IsUnsupplied l draws out
+IsPlayed (Err statuses.Write) l s board draws out = IsCut l s draws out
+IsPlayed (Err statuses.NoMemory) l s board draws out = IsCut l s draws out
+IsPlayed (Err other) l s board draws out = ⊥

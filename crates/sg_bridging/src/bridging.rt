@@ -1,0 +1,76 @@
+//! The command `bridge`: the lines of a script, in order.
+
+ghost use Rattle.std.specs.Prelude.{◌≡◌, ◌≤◌, ◌+◌, ◌^◌, ℕ, List};
+ghost use Rattle.sg_bridging.specs.Bridge.{IsBridge, IsComplete};
+ghost use Rattle.sg_bridging.specs.Steps.{StandsFor, start};
+ghost use Rattle.sg_edge.specs.Told.{Rose};
+ghost use Rattle.sg_trace.specs.Causes.{HasFailed};
+
+use crate::reading::next_line;
+use crate::switchboard::Switchboard;
+use sg_base::NoMemory;
+use sg_edge::{Noise, Sink, Source};
+use sg_trace::{ScriptReader, Status};
+use std::alloc::Global;
+
+/// Plays the script of the source: its lines in order, from an empty table, and what they tell is written to the
+/// sink. Where two calls are joined, a packet that is opened in the one goes on to the other, and is sealed there.
+/// In a script of version 2 a tick to its moment comes before a datagram. Where a signal lacks its noise, 304 octets
+/// are drawn.
+pub fn bridge<S: Source, K: Sink, N: Noise>(
+    alloc: Global,
+    source: &mut S,
+    sink: &mut K,
+    noise: &mut N,
+) -> Status
+    ensures ran { (octets draws out : List ℕ)
+        × IsBridge result
+        (record { left = S.left source.old; written = K.written sink.old; drawn = N.given noise.old })
+        (record { left = S.left source.new; written = K.written sink.new; drawn = N.given noise.new })
+        octets draws out }
+    ensures given { S.given source.new ≤ S.given source.old + (2 ^ 30 + 1) }
+    ensures read { HasFailed (result ≡ Status.Read) (S.faults source.old) (S.faults source.new) (S.failed source.new) }
+    ensures write { HasFailed (result ≡ Status.Write) (K.faults sink.old) (K.faults sink.new) (K.failed sink.new) }
+    ensures noise { HasFailed (result ≡ Status.Noise) (N.faults noise.old) (N.faults noise.new) (N.failed noise.new) }
+    ensures complete { ¬ Rose (S.faults source.old) (S.faults source.new) → ¬ Rose (K.faults sink.old) (K.faults sink.new) → ¬ Rose (N.faults noise.old) (N.faults noise.new)
+        → IsComplete result (S.left source.old) (S.left source.new) }
+{
+    match Switchboard::make(alloc) {
+        Err(NoMemory) => Status::NoMemory,
+        Ok(mut switchboard) => play_script(alloc, &mut switchboard, source, sink, noise),
+    }
+}
+
+/// The same by a switchboard whose table is empty.
+fn play_script<S: Source, K: Sink, N: Noise>(
+    alloc: Global,
+    switchboard: &mut Switchboard,
+    source: &mut S,
+    sink: &mut K,
+    noise: &mut N,
+) -> Status
+    requires { StandsFor switchboard.old start }
+    ensures ran { (octets draws out : List ℕ)
+        × IsBridge result
+        (record { left = S.left source.old; written = K.written sink.old; drawn = N.given noise.old })
+        (record { left = S.left source.new; written = K.written sink.new; drawn = N.given noise.new })
+        octets draws out }
+    ensures given { S.given source.new ≤ S.given source.old + (2 ^ 30 + 1) }
+    ensures read { HasFailed (result ≡ Status.Read) (S.faults source.old) (S.faults source.new) (S.failed source.new) }
+    ensures write { HasFailed (result ≡ Status.Write) (K.faults sink.old) (K.faults sink.new) (K.failed sink.new) }
+    ensures noise { HasFailed (result ≡ Status.Noise) (N.faults noise.old) (N.faults noise.new) (N.failed noise.new) }
+{
+    let mut script = ScriptReader::new(alloc);
+    let mut octets = Vec::new(alloc);
+    'lines: loop {
+        let line = match next_line(alloc, &mut script, source, &mut octets) {
+            Err(status) => return status,
+            Ok(None) => return Status::Done,
+            Ok(Some(line)) => line,
+        };
+        match switchboard.play(alloc, line, sink, noise) {
+            Err(status) => return status,
+            Ok(()) => {}
+        }
+    }
+}

@@ -1,0 +1,118 @@
+//! What is written of a bridge's outcomes.
+
+ghost use Rattle.std.specs.Prelude.{◌≡◌, OnOk};
+ghost use Rattle.std.specs.List.{flat_map};
+ghost use Rattle.sg_bridge.specs.BridgeText.{bridge_outcome_line};
+ghost use Rattle.sg_bridge.specs.Bridged.{followed};
+ghost use Rattle.sg_bridge.specs.Pairs.{noted};
+ghost use Rattle.sg_bridge.specs.declared.outcomes.BridgeOutcome.TheVariants as tells;
+ghost use Rattle.sg_bridging.specs.Steps.{told_next};
+ghost use Rattle.sg_outcome.specs.OutcomeText.{outcome_line};
+ghost use Rattle.sg_outcome.specs.declared.outcomes.Outcome.TheVariants.{Dropped, Out};
+ghost use Rattle.sg_trace.specs.Causes.{IsCaused};
+ghost use Rattle.sg_trace.specs.Output.{IsWritten};
+
+use sg_base::{Address, DropCause, NoMemory};
+use sg_bridge::{Bridge, BridgeOutcome, print_bridge};
+use sg_edge::{Sink, write_all};
+use sg_outcome::{Outcome, push_out};
+use sg_trace::{Status, tell};
+use std::alloc::Global;
+
+/// Writes the line of an outcome, once it is printed. Where that fails, a prefix of it is written.
+pub(crate) fn tell_bridge<K: Sink>(
+    alloc: Global,
+    outcome: &BridgeOutcome,
+    sink: &mut K,
+) -> Result<(), Status>
+    ensures told { IsWritten result (K.written sink.old) (K.written sink.new) (bridge_outcome_line outcome.now) }
+    ensures cause { IsCaused Status.Write result (K.faults sink.old) (K.faults sink.new) (K.failed sink.new) }
+{
+    let line = print_bridge(alloc, outcome).map_err(|_| Status::NoMemory)?;
+    write_all(sink, line.as_slice()).map_err(|_| Status::Write)
+}
+
+/// Writes the line of a packet that goes out.
+pub(crate) fn tell_out<K: Sink>(
+    alloc: Global,
+    port: u16,
+    to: &Address,
+    octets: &[u8],
+    sink: &mut K,
+) -> Result<(), Status>
+    ensures told { IsWritten result (K.written sink.old) (K.written sink.new) (outcome_line (Out port to.now octets.now)) }
+    ensures cause { IsCaused Status.Write result (K.faults sink.old) (K.faults sink.new) (K.failed sink.new) }
+{
+    let mut line = Vec::new(alloc);
+    match push_out(&mut line, port, to, octets) {
+        Err(NoMemory) => Err(Status::NoMemory),
+        Ok(()) => write_all(sink, line.as_slice()).map_err(|_| Status::Write),
+    }
+}
+
+/// Writes that a datagram at this port is dropped.
+pub(crate) fn tell_drop<K: Sink>(
+    alloc: Global,
+    port: u16,
+    cause: DropCause,
+    sink: &mut K,
+) -> Result<(), Status>
+    ensures told { IsWritten result (K.written sink.old) (K.written sink.new) (outcome_line (Dropped port cause)) }
+    ensures cause { IsCaused Status.Write result (K.faults sink.old) (K.faults sink.new) (K.failed sink.new) }
+{
+    tell(alloc, &Outcome::Dropped { port, cause }, sink)
+}
+
+/// Writes that what was opened isn't sealed at this port.
+pub(crate) fn tell_lost<K: Sink>(
+    alloc: Global,
+    port: u16,
+    cause: DropCause,
+    sink: &mut K,
+) -> Result<(), Status>
+    ensures told { IsWritten result (K.written sink.old) (K.written sink.new) (bridge_outcome_line (tells.Lost port cause)) }
+    ensures cause { IsCaused Status.Write result (K.faults sink.old) (K.faults sink.new) (K.failed sink.new) }
+{
+    tell_bridge(alloc, &BridgeOutcome::Lost { port, cause }, sink)
+}
+
+/// Writes what the table tells, and which pair that parts.
+fn tell_next<K: Sink>(
+    alloc: Global,
+    bridge: &mut Bridge,
+    outcome: &Outcome,
+    sink: &mut K,
+) -> Result<(), Status>
+    ensures told { IsWritten result (K.written sink.old) (K.written sink.new) (told_next bridge.old outcome.now) }
+    ensures calls { OnOk result (bridge.new ≡ (noted bridge.old outcome.now).calls) }
+    ensures write { IsCaused Status.Write result (K.faults sink.old) (K.faults sink.new) (K.failed sink.new) }
+{
+    match tell(alloc, outcome, sink) {
+        Err(status) => return Err(status),
+        Ok(()) => {}
+    }
+    match bridge.note(outcome) {
+        None => Ok(()),
+        Some(parted) => tell_bridge(alloc, &parted, sink),
+    }
+}
+
+/// Writes what the table tells of a signal, in order, each end of a joined call with the pair that it parts.
+pub(crate) fn tell_all<K: Sink>(
+    alloc: Global,
+    bridge: &mut Bridge,
+    outcomes: &[Outcome],
+    sink: &mut K,
+) -> Result<(), Status>
+    ensures told { IsWritten result (K.written sink.old) (K.written sink.new) (flat_map bridge_outcome_line (followed bridge.old outcomes.now).told) }
+    ensures calls { OnOk result (bridge.new ≡ (followed bridge.old outcomes.now).calls) }
+    ensures write { IsCaused Status.Write result (K.faults sink.old) (K.faults sink.new) (K.failed sink.new) }
+{
+    for outcome in outcomes {
+        match tell_next(alloc, bridge, outcome, sink) {
+            Err(status) => return Err(status),
+            Ok(()) => {}
+        }
+    }
+    Ok(())
+}
