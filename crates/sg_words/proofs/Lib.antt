@@ -1,5 +1,10 @@
 mod Among
+mod Arguments
 mod Complete
+mod Entered
+mod Kinds
+mod Reads
 mod Rows
 mod Shapes
 mod Sound
+mod Written
