@@ -1,5 +1,5 @@
 -- Words of a command are read as that command.
-use Rattle.std.proofs.Common.{◌≡◌, ◌⊎◌, ◌≤◌, ◌<◌, ◌^◌, ◌==◌, ℕ, Bool, true, false, cond, List, [], ◌∷◌, codes, Option, Some, None, refl, sym, ap, ap₂, ◌∙◌, inl, inr, arith, tt, length}
+use Rattle.std.proofs.Common.{◌≡◌, ◌⊎◌, ◌≤◌, ◌<◌, ◌^◌, ◌==◌, ℕ, Bool, true, false, cond, List, [], ◌∷◌, codes, Option, Some, None, refl, sym, ap, ap₂, ◌∙◌, inl, inr, arith, length}
 use Rattle.std.specs.Prelude.{nat_le, option_map, option_and_then}
 use Rattle.std.specs.Str.{bytes_eq}
 use Rattle.std.specs.Fmt.{decimal}
@@ -14,7 +14,7 @@ use Rattle.sg_base.proofs.Decimals.{number_again}
 use Rattle.sg_base.proofs.FourNumbers.{decimal_lacks}
 use Rattle.sg_words.proofs.Among.{either, of_map}
 use Rattle.sg_words.proofs.Entered.{IsSeen}
-use Rattle.sg_words.proofs.Reads.{IsValue, value_of}
+use Rattle.sg_words.proofs.ReadWords.{IsValue, value_of}
 use Rattle.sg_words.proofs.Shapes.{bridge_alone, capture_alone, demo_with, demo_without, flag_text, migrate_alone, relay_with, replay_with, replay_without}
 use Rattle.sg_words.proofs.Written.{AreOthers, HaveNoEnd, IsOption, ended_known, itself, option_known}
 use Rattle.sg_words.specs.Commands.{AreWordsOf, IsOneOf, IsWorkers, Text, Words, closed, ended, mux_option, with_option, with_workers}
@@ -146,13 +146,13 @@ calls_number : (n s : ℕ) → AreBounded n s → IsNumber (decimal n)
 calls_number n s b = number n (omega (arith, b.few))
 
 numbers_no_end : (n s : ℕ) → AreBounded n s → HaveNoEnd (numbers_of n s)
-numbers_no_end n s b = ((calls_number n s b).value.end, (number s b.small).value.end, tt)
+numbers_no_end n s b = ((calls_number n s b).value.end, ((number s b.small).value.end, tt))
 
 numbers_no_workers : (n s : ℕ) (v : Text) → AreBounded n s → AreOthers (codes "--workers") v (numbers_of n s)
 numbers_no_workers n s v b =
     let p = calls_number n s b in
     let q = number s b.small in
-    ((p.joined v, p.apart), (q.joined v, q.apart), tt)
+    ((p.joined v, p.apart), ((q.joined v, q.apart), tt))
 
 abbrev demo_from : Words → List (Option Text) → Option Command
 demo_from rest (calls ∷ start ∷ workers ∷ []) = demo_by rest calls start workers

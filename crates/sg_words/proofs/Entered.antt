@@ -2,16 +2,16 @@
 use Rattle.std.proofs.Common.{◌≡◌, ◌∙◌, Bool, List, [], ◌∷◌, map, fold, refl, sym, ap, ap₂, true, false, Option, Some, None, find}
 use Rattle.std.specs.Prelude.{is_some, option_and_then, option_map}
 use Rattle.std.specs.Option.{option_map_or}
-use Rattle.clap.specs.Words.{App, Kinds, Shape, Text, fault_of, first_of, is_simple_and_free, subcommand_of, built}
+use Rattle.clap.specs.Words.{App, Kinds, Shape, Text, built, fault_of, first_of, is_simple_and_free}
 use Rattle.clap.specs.Kinds.{or_else}
-use Rattle.clap.specs.Faults.{built_fault, check_fault, defaults_fault, entered_fault, level_fault, settle_fault, turn_fault, walk_fault}
-use Rattle.clap.specs.Simple.{built_leaf, entered, inherited, label_of, marked_built, names_of, rows_at, with_leaf_noted}
-use Rattle.clap.specs.Walk.{Walk, answers_to, finished, nothing_held, rows_after, settled, stop_after, walk, walk_from, walked}
+use Rattle.clap.specs.Faults.{check_fault, defaults_fault, entered_fault, level_fault, settle_fault, turn_fault, walk_fault}
+use Rattle.clap.specs.Simple.{entered, label_of, names_of, rows_at}
+use Rattle.clap.specs.Walk.{Walk, answers_to, finished, nothing_held, rows_after, settled, walk, walk_from, walked}
 use Rattle.clap.proofs.FaultLemmas.{stopped_fault}
 use Rattle.clap.proofs.OnLiterals.{clap_on_literals}
 use Rattle.clap.proofs.WalkLemmas.{walk_stopped}
-use Rattle.sg_words.proofs.Reads.{Read, fault_by, level_is, rows_are, rows_by, word}
-use Rattle.sg_words.specs.Commands.{IsOneOf, Words}
+use Rattle.sg_words.proofs.ReadWords.{Read, fault_by, level_is, rows_are, rows_by, word}
+use Rattle.sg_words.specs.Commands.{Words}
 use Rattle.sg_words.specs.Grammar.{srtpgw}
 use Rattle.sg_words.specs.Reading.{text_in}
 
@@ -70,9 +70,9 @@ text_is name s words id is =
 -- ---- what is seen in the words behind a name
 
 -- clap takes them, and finds these texts of these arguments
-pub record IsSeen (name : Text) (ids : List Text) (texts : List (Option Text)) (words : Words) : Type 0 where
+pub record IsSeen (name : Text) (ids : List Text) (found : List (Option Text)) (words : Words) : Type 0 where
   pub taken : fault_of srtpgw (name ∷ words) ≡ []
-  pub texts : map (λ id. text_in id (name ∷ words)) ids ≡ texts
+  pub texts : map (λ id. text_in id (name ∷ words)) ids ≡ found
 
 abbrev pub seen_by : Shape → List Text → List Read → Kinds × List (Option Text)
 seen_by s ids rs = (fault_by s rs, map (λ id. first_of id (rows_by s rs)) ids)
@@ -83,9 +83,9 @@ texts_are name s rs [] is = refl
 texts_are name s rs (id ∷ ids) is =
     ap₂ (λ (t : Option Text) (ts : List (Option Text)). t ∷ ts) (text_is name s (map word rs) id is ∙ ap (first_of id) (rows_are s rs)) (texts_are name s rs ids is)
 
-seen_so : (name : Text) (s : Shape) (ids : List Text) (texts : List (Option Text)) (rs : List Read) → IsName name s → seen_by s ids rs ≡ ([], texts)
-    → IsSeen name ids texts (map word rs)
-seen_so name s ids texts rs is seen = record {
+pub seen_so : (name : Text) (s : Shape) (ids : List Text) (found : List (Option Text)) (rs : List Read) → IsName name s → seen_by s ids rs ≡ ([], found)
+    → IsSeen name ids found (map word rs)
+seen_so name s ids found rs is seen = record {
   taken = fault_is name s (map word rs) is (level_is s rs ∙ ap (λ p. p.0) seen);
   texts = texts_are name s rs ids is ∙ ap (λ p. p.1) seen;
 }

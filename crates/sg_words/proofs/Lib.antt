@@ -1,9 +1,9 @@
 mod Among
 mod Arguments
 mod Complete
+mod Endings
 mod Entered
-mod Kinds
-mod Reads
+mod ReadWords
 mod Rows
 mod Shapes
 mod Sound

@@ -4,8 +4,8 @@ use Rattle.clap.specs.Words.{Shape}
 use Rattle.clap.specs.Simple.{built_leaf, inherited, marked_built, with_leaf_noted}
 use Rattle.clap.proofs.OnLiterals.{clap_on_literals}
 use Rattle.sg_words.proofs.Entered.{IsName, IsSeen, seen_by, seen_so}
-use Rattle.sg_words.proofs.Kinds.{ends}
-use Rattle.sg_words.proofs.Reads.{IsValue, Read, marked, plain, word}
+use Rattle.sg_words.proofs.Endings.{ends}
+use Rattle.sg_words.proofs.ReadWords.{IsValue, Read, marked, plain, word}
 use Rattle.sg_words.specs.Commands.{IsOneOf, Text, Words, closed, mux_option, with_option}
 use Rattle.sg_words.specs.Grammar.{demo, migrate, capture, bridge, relay, replay, srtpgw}
 use Rattle.sg_words.specs.declared.spelling.Kind.{Kind}
@@ -42,8 +42,8 @@ mux_read false = []
 module _ (name : Text) (s : Shape) (ids : List Text) (texts : List (Option Text)) (is : IsName name s) where
   all_seen : (rest : Words) (xs : List (List Read)) → map (seen_by s ids) xs ≡ map (λ x. ([], texts)) xs → IsOneOf rest (map (map word) xs) → IsSeen name ids texts rest
   all_seen rest [] same among = absurd among
-  all_seen rest (x ∷ xs) same (inl e) = subst (IsSeen name ids texts) (sym e) (seen_so name s ids texts x is cc)
-  all_seen rest (x ∷ xs) same (inr among) = all_seen rest xs cc among
+  all_seen rest (x ∷ xs) same (inl e) = subst (IsSeen name ids texts) (sym e) (seen_so name s ids texts x is (cc))
+  all_seen rest (x ∷ xs) same (inr among) = all_seen rest xs (cc) among
 
 -- ---- the commands
 

@@ -9,7 +9,7 @@ use Rattle.clap.specs.Words.{fault_of}
 use Rattle.sg_base.specs.Fields.{number_at}
 use Rattle.sg_base.proofs.Decimals.{number_takes}
 use Rattle.sg_words.proofs.Among.{in_left, in_map, in_right}
-use Rattle.sg_words.proofs.Kinds.{ends}
+use Rattle.sg_words.proofs.Endings.{ends}
 use Rattle.sg_words.specs.Commands.{AreWordsOf, IsOneOf, IsWorkers, Text, Words, closed, ended, mux_option, option_before, put_in, with_option, with_workers}
 use Rattle.sg_words.specs.Grammar.{srtpgw}
 use Rattle.sg_words.specs.Reading.{alone_by, are, are_ended, command_by, demo_by, first_said, follows, have_option, is_joined, is_set, led_by, may_end, no_fault, positive, relay_by, replay_by, said_by, text_in, workers_by}

@@ -1,10 +1,11 @@
 -- Each way to write texts, with an option among them or without, is told to be one.
-use Rattle.std.proofs.Common.{◌≡◌, ◌∙◌, ◌⊎◌, ◌&&◌, Bool, List, [], ◌∷◌, ◌++◌, codes, map, refl, sym, ap, ap₂, subst, true, false, inl, inr, cond, ⊤, tt}
+use Rattle.std.proofs.Common.{◌≡◌, ◌∙◌, ◌⊎◌, ◌&&◌, Bool, List, [], ◌∷◌, ◌++◌, codes, map, refl, sym, ap, ap₂, subst, true, false, inl, inr}
+use Rattle.std.specs.Bool.{⊤}
 use Rattle.std.specs.Str.{bytes_eq}
 use Rattle.std.proofs.lemmas.Bool.{cond-true, cond-false}
 use Rattle.std.proofs.lemmas.Slice.Eq.{bytes_eq-Decides}
 use Rattle.sg_words.proofs.Among.{either, of_map}
-use Rattle.sg_words.proofs.Kinds.{ends}
+use Rattle.sg_words.proofs.Endings.{ends}
 use Rattle.sg_words.specs.Commands.{IsOneOf, Text, Words, option_before, put_in, with_option}
 use Rattle.sg_words.specs.Reading.{are, are_ended, follows, have_option, is_joined, led_by, may_end}
 use Rattle.sg_words.specs.declared.spelling.Kind.{Kind}
@@ -28,7 +29,7 @@ are_known (t ∷ ts) = both_true (bytes_eq t t) (are ts ts) (itself t) (are_know
 -- a text in front, which is no lone `--`
 led_known : (t : Text) (ws : Words) (kind : Kind) (ts : Words) → bytes_eq t (codes "--") ≡ false → are_ended ws kind ts ≡ true
     → are_ended (t ∷ ws) kind (t ∷ ts) ≡ true
-led_known t ws kind ts no is = cond-false _ _ _ no ∙ both_true (bytes_eq t t) (are_ended ws kind ts) (itself t) is
+led_known t ws kind ts apart is = cond-false _ _ _ apart ∙ both_true (bytes_eq t t) (are_ended ws kind ts) (itself t) is
 
 whole_known : (kind : Kind) (ts : Words) → HaveNoEnd ts → are_ended ts kind ts ≡ true
 whole_known kind [] none = refl
@@ -36,7 +37,7 @@ whole_known kind (t ∷ ts) none = led_known t ts kind ts none.0 (whole_known ki
 
 put_known : (ws ts : Words) → HaveNoEnd ts → IsOneOf ws (put_in (codes "--") ts) → are_ended ws Numbers ts ≡ true
 put_known ws [] none (inl e) = ap (λ (l : Words). are_ended l Numbers []) e
-put_known ws [] none (inr no) = absurd no
+put_known ws [] none (inr other) = absurd other
 put_known ws (t ∷ ts) none (inl e) = ap (λ (l : Words). are_ended l Numbers (t ∷ ts)) e ∙ are_known (t ∷ ts)
 put_known ws (t ∷ ts) none (inr among) =
     let made = of_map (λ others. t ∷ others) ws (put_in (codes "--") ts) among in
@@ -51,7 +52,7 @@ ended_known ws Numbers ts none (inl e) = ap (λ (l : Words). are_ended l Numbers
 ended_known ws Numbers ts none (inr put) = put_known ws ts none put
 ended_known ws Options ts none (inl e) = ap (λ (l : Words). are_ended l Options ts) e ∙ whole_known Options ts none
 ended_known ws Options ts none (inr (inl e)) = ap (λ (l : Words). are_ended l Options ts) e ∙ last_known ts none
-ended_known ws Options ts none (inr (inr no)) = absurd no
+ended_known ws Options ts none (inr (inr other)) = absurd other
 
 -- an option is told from its value behind an equals sign
 pub record IsOption (option value : Text) : Type 0 where

@@ -26,7 +26,9 @@ fn mux<'a>(alloc: Global) -> Arg<'a>
     ensures rule { rule_of result ≡ grammar.mux }
     ensures local { result.global ≡ false }
 {
-    Arg::new(alloc, "mux").long("mux").action(ArgAction::SetTrue)
+    Arg::new(alloc, "mux")
+        .long("mux")
+        .action(ArgAction::SetTrue)
 }
 
 fn calls<'a>(alloc: Global) -> Arg<'a>

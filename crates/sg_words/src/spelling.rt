@@ -93,7 +93,12 @@ fn follows(words: &[String], value: &str, kind: Kind, texts: &[&str]) -> bool
 }
 
 /// Whether the words are these texts with the option among them.
-pub(crate) fn have_option(words: &[String], written: &Written<'_>, kind: Kind, texts: &[&str]) -> bool
+pub(crate) fn have_option(
+    words: &[String],
+    written: &Written<'_>,
+    kind: Kind,
+    texts: &[&str],
+) -> bool
     requires { written.now.joined.now ≡ written.now.option.now ++ codes "=" }
     ensures { result ≡ have_option (map string_bytes words.now) written.now.option.now written.now.value.now kind (map (λ t. t.now) texts.now) }
 {

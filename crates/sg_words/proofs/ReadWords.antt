@@ -1,6 +1,6 @@
 -- The words of a command, each read as clap reads it. How a number or another value is read rests on no test of its octets,
 -- so that what clap finds is computed for all of them at once.
-use Rattle.std.proofs.Common.{◌≡◌, ◌∙◌, ◌<◌, Bool, List, [], ◌∷◌, ◌++◌, map, fold, cond, refl, ap, ap₂, true, false, Option, Some, None, arith, length}
+use Rattle.std.proofs.Common.{◌≡◌, ◌∙◌, ◌<◌, ℕ, Bool, List, [], ◌∷◌, ◌++◌, map, fold, cond, refl, ap, ap₂, true, false, Option, Some, None, arith, length}
 use Rattle.std.specs.Prelude.{is_some}
 use Rattle.std.specs.Str.{bytes_eq}
 use Rattle.clap.specs.Words.{Kinds, Row, Rule, Shape, Text, first_of}
