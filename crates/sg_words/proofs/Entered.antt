@@ -1,5 +1,5 @@
 -- What clap takes and finds of the words behind a command's name.
-use Rattle.std.proofs.Common.{◌≡◌, ◌∙◌, Bool, List, [], ◌∷◌, map, fold, refl, sym, ap, ap₂, true, false, Option, Some, None, find}
+use Rattle.std.proofs.Common.{◌≡◌, ◌∙◌, List, [], ◌∷◌, map, fold, refl, sym, ap, ap₂, true, false, Option, Some, find}
 use Rattle.std.specs.Prelude.{is_some, option_and_then, option_map}
 use Rattle.std.specs.Option.{option_map_or}
 use Rattle.clap.specs.Words.{App, Kinds, Shape, Text, built, fault_of, first_of, is_simple_and_free}

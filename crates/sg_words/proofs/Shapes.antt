@@ -1,5 +1,5 @@
 -- What clap takes and finds of each way to write a command, whatever its numbers are.
-use Rattle.std.proofs.Common.{◌≡◌, Bool, List, [], ◌∷◌, ◌++◌, codes, map, refl, ap, subst, sym, true, false, Option, Some, None, inl, inr, cond}
+use Rattle.std.proofs.Common.{◌≡◌, Bool, List, [], ◌∷◌, ◌++◌, codes, map, refl, subst, sym, true, false, Option, Some, None, inl, inr}
 use Rattle.clap.specs.Words.{Shape}
 use Rattle.clap.specs.Simple.{built_leaf, inherited, marked_built, with_leaf_noted}
 use Rattle.clap.proofs.OnLiterals.{clap_on_literals}

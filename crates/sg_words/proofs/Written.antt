@@ -1,5 +1,5 @@
 -- Each way to write texts, with an option among them or without, is told to be one.
-use Rattle.std.proofs.Common.{◌≡◌, ◌∙◌, ◌⊎◌, ◌&&◌, Bool, List, [], ◌∷◌, ◌++◌, codes, map, refl, sym, ap, ap₂, subst, true, false, inl, inr}
+use Rattle.std.proofs.Common.{◌≡◌, ◌∙◌, ◌&&◌, Bool, [], ◌∷◌, ◌++◌, codes, map, refl, ap, ap₂, true, false, inl, inr}
 use Rattle.std.specs.Bool.{⊤}
 use Rattle.std.specs.Str.{bytes_eq}
 use Rattle.std.proofs.lemmas.Bool.{cond-true, cond-false}
@@ -7,7 +7,7 @@ use Rattle.std.proofs.lemmas.Slice.Eq.{bytes_eq-Decides}
 use Rattle.sg_words.proofs.Among.{either, of_map}
 use Rattle.sg_words.proofs.Endings.{ends}
 use Rattle.sg_words.specs.Commands.{IsOneOf, Text, Words, option_before, put_in, with_option}
-use Rattle.sg_words.specs.Reading.{are, are_ended, follows, have_option, is_joined, led_by, may_end}
+use Rattle.sg_words.specs.Reading.{are, are_ended, have_option, is_joined}
 use Rattle.sg_words.specs.declared.spelling.Kind.{Kind}
 use Rattle.sg_words.specs.declared.spelling.Kind.TheVariants.{Numbers, Options}
 
