@@ -6,29 +6,168 @@ use std::process::Abort;
 use std::test::Fail;
 
 /// Words, and the command that they are.
-const COMMANDS: [(&[&str], Command); 27] = [
-    (&["replay"], Command::Replay { workers: 1 }),
-    (&["replay", "--"], Command::Replay { workers: 1 }),
+const COMMANDS: [(&[&str], Command); 42] = [
+    (
+        &["replay"],
+        Command::Replay {
+            workers: 1,
+            mux: false,
+        },
+    ),
+    (
+        &["replay", "--"],
+        Command::Replay {
+            workers: 1,
+            mux: false,
+        },
+    ),
     (
         &["replay", "--workers", "4"],
-        Command::Replay { workers: 4 },
+        Command::Replay {
+            workers: 4,
+            mux: false,
+        },
     ),
-    (&["replay", "--workers=16"], Command::Replay { workers: 16 }),
+    (
+        &["replay", "--workers=16"],
+        Command::Replay {
+            workers: 16,
+            mux: false,
+        },
+    ),
     (
         &["replay", "--workers", "1", "--"],
-        Command::Replay { workers: 1 },
+        Command::Replay {
+            workers: 1,
+            mux: false,
+        },
     ),
     (
         &["replay", "--workers=4", "--"],
-        Command::Replay { workers: 4 },
+        Command::Replay {
+            workers: 4,
+            mux: false,
+        },
     ),
-    (&["relay", "--turns", "5"], Command::Relay { turns: 5 }),
-    (&["relay", "--turns=5"], Command::Relay { turns: 5 }),
+    (
+        &["replay", "--mux"],
+        Command::Replay {
+            workers: 1,
+            mux: true,
+        },
+    ),
+    (
+        &["replay", "--mux", "--"],
+        Command::Replay {
+            workers: 1,
+            mux: true,
+        },
+    ),
+    (
+        &["replay", "--mux", "--workers", "4"],
+        Command::Replay {
+            workers: 4,
+            mux: true,
+        },
+    ),
+    (
+        &["replay", "--mux", "--workers=4", "--"],
+        Command::Replay {
+            workers: 4,
+            mux: true,
+        },
+    ),
+    (
+        &["replay", "--workers", "16", "--mux"],
+        Command::Replay {
+            workers: 16,
+            mux: true,
+        },
+    ),
+    (
+        &["replay", "--workers=1", "--mux"],
+        Command::Replay {
+            workers: 1,
+            mux: true,
+        },
+    ),
+    (
+        &["replay", "--workers=4", "--mux", "--"],
+        Command::Replay {
+            workers: 4,
+            mux: true,
+        },
+    ),
+    (
+        &["relay", "--turns", "5"],
+        Command::Relay {
+            turns: 5,
+            mux: false,
+        },
+    ),
+    (
+        &["relay", "--turns=5"],
+        Command::Relay {
+            turns: 5,
+            mux: false,
+        },
+    ),
     (
         &["relay", "--turns", "1000000000", "--"],
-        Command::Relay { turns: 1000000000 },
+        Command::Relay {
+            turns: 1000000000,
+            mux: false,
+        },
     ),
-    (&["relay", "--turns=1", "--"], Command::Relay { turns: 1 }),
+    (
+        &["relay", "--turns=1", "--"],
+        Command::Relay {
+            turns: 1,
+            mux: false,
+        },
+    ),
+    (
+        &["relay", "--mux", "--turns", "5"],
+        Command::Relay {
+            turns: 5,
+            mux: true,
+        },
+    ),
+    (
+        &["relay", "--mux", "--turns=5"],
+        Command::Relay {
+            turns: 5,
+            mux: true,
+        },
+    ),
+    (
+        &["relay", "--mux", "--turns", "5", "--"],
+        Command::Relay {
+            turns: 5,
+            mux: true,
+        },
+    ),
+    (
+        &["relay", "--turns", "5", "--mux"],
+        Command::Relay {
+            turns: 5,
+            mux: true,
+        },
+    ),
+    (
+        &["relay", "--turns=5", "--mux"],
+        Command::Relay {
+            turns: 5,
+            mux: true,
+        },
+    ),
+    (
+        &["relay", "--turns=1000000000", "--mux", "--"],
+        Command::Relay {
+            turns: 1000000000,
+            mux: true,
+        },
+    ),
     (
         &["demo", "4", "1"],
         Command::Demo {
@@ -137,6 +276,8 @@ const COMMANDS: [(&[&str], Command); 27] = [
     (&["migrate", "--"], Command::Migrate),
     (&["capture"], Command::Capture),
     (&["capture", "--"], Command::Capture),
+    (&["bridge"], Command::Bridge),
+    (&["bridge", "--"], Command::Bridge),
 ];
 
 /// What is read of these words.

@@ -1,5 +1,10 @@
 mod Among
+mod Arguments
 mod Complete
+mod Endings
+mod Entered
+mod ReadWords
 mod Rows
 mod Shapes
 mod Sound
+mod Written

@@ -1,263 +1,127 @@
 -- What clap takes and finds of each way to write a command, whatever its numbers are.
-use Rattle.std.proofs.Common.{◌≡◌, ◌⊎◌, ◌∙◌, ◌<◌, Bool, List, [], ◌∷◌, ◌++◌, codes, refl, sym, ap, subst, arith, inl, inr, true, false, Option, Some, None, take, length}
-use Rattle.std.specs.Prelude.{option_and_then}
-use Rattle.std.specs.Str.{bytes_eq}
-use Rattle.std.proofs.lemmas.Slice.Eq.{bytes_eq-Decides}
-use Rattle.clap.specs.Words.{Kinds, Row, fault_of, first_of, is_simple_and_free, subcommand_of}
-use Rattle.clap.specs.Lexer.{long_of, short_of}
+use Rattle.std.proofs.Common.{◌≡◌, Bool, List, [], ◌∷◌, ◌++◌, codes, map, refl, subst, sym, true, false, Option, Some, None, inl, inr}
+use Rattle.clap.specs.Words.{Shape}
+use Rattle.clap.specs.Simple.{built_leaf, inherited, marked_built, with_leaf_noted}
 use Rattle.clap.proofs.OnLiterals.{clap_on_literals}
-use Rattle.sg_base.specs.Fields.{Lacks}
-use Rattle.sg_words.specs.Commands.{IsOneOf, Text, Words, ended, with_option}
-use Rattle.sg_words.specs.Grammar.{srtpgw}
-use Rattle.sg_words.specs.Reading.{are_ended, have_option, text_in}
+use Rattle.sg_words.proofs.Entered.{IsName, IsSeen, seen_by, seen_so}
+use Rattle.sg_words.proofs.Endings.{ends}
+use Rattle.sg_words.proofs.ReadWords.{IsValue, Read, marked, plain, word}
+use Rattle.sg_words.specs.Commands.{IsOneOf, Text, Words, closed, mux_option, with_option}
+use Rattle.sg_words.specs.Grammar.{demo, migrate, capture, bridge, relay, replay, srtpgw}
+use Rattle.sg_words.specs.declared.spelling.Kind.{Kind}
+use Rattle.sg_words.specs.declared.spelling.Kind.TheVariants.{Numbers, Options}
 
--- of this command line clap says why it refuses words
-pub srtpgw_simple : is_simple_and_free srtpgw ≡ true
+-- ---- the ways to write a command, as they are read
+
+abbrev end : Read
+end = marked (codes "--")
+
+abbrev put_in : Read → List Read → List (List Read)
+put_in r [] = (r ∷ []) ∷ []
+put_in r (x ∷ xs) = (r ∷ x ∷ xs) ∷ map (λ others. x ∷ others) (put_in r xs)
+
+abbrev reads_ended : Kind → List Read → List (List Read)
+reads_ended Numbers rs = rs ∷ put_in end rs
+reads_ended Options rs = rs ∷ (rs ++ end ∷ []) ∷ []
+
+module _ (option value : Text) (is : IsValue value) (kind : Kind) where
+  abbrev reads_before : List Read → List (List Read)
+  reads_before rs =
+      map (λ others. marked (option ++ codes "=" ++ value) ∷ others) (reads_ended kind rs) ++ map (λ others. marked option ∷ plain value is ∷ others) (reads_ended kind rs)
+
+  abbrev reads_with : List Read → List (List Read)
+  reads_with [] = reads_before []
+  reads_with (r ∷ rs) = reads_before (r ∷ rs) ++ map (λ others. r ∷ others) (reads_with rs)
+
+abbrev mux_read : Bool → List Read
+mux_read true = marked (codes "--mux") ∷ []
+mux_read false = []
+
+-- ---- of all of them clap finds the same
+
+module _ (name : Text) (s : Shape) (ids : List Text) (texts : List (Option Text)) (is : IsName name s) where
+  all_seen : (rest : Words) (xs : List (List Read)) → map (seen_by s ids) xs ≡ map (λ x. ([], texts)) xs → IsOneOf rest (map (map word) xs) → IsSeen name ids texts rest
+  all_seen rest [] same among = absurd among
+  all_seen rest (x ∷ xs) same (inl e) = subst (IsSeen name ids texts) (sym e) (seen_so name s ids texts x is (cc))
+  all_seen rest (x ∷ xs) same (inr among) = all_seen rest xs (cc) among
+
+-- ---- the commands
+
+-- a subcommand, built
+abbrev leaf : Shape → Shape
+leaf s = built_leaf (inherited (with_leaf_noted (marked_built srtpgw.top)) s)
+
+replay_named : IsName (codes "replay") (leaf replay.top)
 unfolding clap_on_literals
-srtpgw_simple = refl
+replay_named = record { met = refl; passes = refl; found = refl }
 
--- a word that is no option and not the lone `--`
-pub record IsValue (w : Text) : Type 0 where
-  pub end : bytes_eq w (45 ∷ 45 ∷ []) ≡ false
-  pub long : long_of w ≡ None
-  pub short : short_of w ≡ None
-  pub itself : bytes_eq w w ≡ true
-  pub apart : bytes_eq w (codes "--workers") ≡ false
-  pub joined : bytes_eq (take 10 w) (codes "--workers=") ≡ false
-
--- a word that doesn't begin with a hyphen
-pub value_of : (w : Text) → 0 < length w → Lacks 45 w → IsValue w
-value_of [] some lacks = absurd (omega (arith, some))
-value_of (d ∷ ds) some lacks = record {
-  end = rw (lacks.0) refl;
-  long = rw (lacks.0) refl;
-  short = rw (lacks.0) refl;
-  itself = (bytes_eq-Decides (d ∷ ds) (d ∷ ds)).1 refl;
-  apart = rw (lacks.0) refl;
-  joined = rw (lacks.0) refl;
-}
-
--- the words are these texts, with that option's value among them where there is one
-abbrev pub are_written : Words → Words → Text → Option Text → Bool
-are_written words texts option None = are_ended words texts
-are_written words texts option (Some value) = have_option words option value texts
-
--- what is seen in the words of a command with one option: the faults, the option's text, and whether the words are
--- a way to write it
-abbrev pub Seen : Type 0
-Seen = Kinds × Option Text × Bool
-
-abbrev pub replay_seen : Option Text → Words → Seen
-replay_seen o rest = (fault_of srtpgw (codes "replay" ∷ rest), text_in (codes "workers") (codes "replay" ∷ rest), are_written rest [] (codes "--workers") o)
-
-abbrev pub relay_seen : Option Text → Words → Seen
-relay_seen o rest = (fault_of srtpgw (codes "relay" ∷ rest), text_in (codes "turns") (codes "relay" ∷ rest), are_written rest [] (codes "--turns") o)
-
--- what clap says of a demonstration: the faults, and the texts of its numbers and of its option
-abbrev pub Found : Type 0
-Found = Kinds × Option Text × Option Text × Option Text
-
--- the same, of the rows that clap found: computed from these once
-pub texts_found : Kinds → Option (Text × List Row) → Found
-texts_found faults None = (faults, None, None, None)
-texts_found faults (Some p) = (faults, first_of (codes "calls") p.1, first_of (codes "start") p.1, first_of (codes "workers") p.1)
-
-abbrev pub demo_found : Words → Found
-demo_found rest = texts_found (fault_of srtpgw (codes "demo" ∷ rest)) (subcommand_of srtpgw (codes "demo" ∷ rest))
-
-texts_so : (faults : Kinds) (rows : Option (Text × List Row))
-    → (faults, option_and_then (λ p. first_of (codes "calls") p.1) rows, option_and_then (λ p. first_of (codes "start") p.1) rows, option_and_then (λ p. first_of (codes "workers") p.1) rows) ≡ texts_found faults rows
-unfolding texts_found
-texts_so faults None = refl
-texts_so faults (Some p) = refl
-
--- they are the texts in the words
-pub demo_found_so : (rest : Words)
-    → (fault_of srtpgw (codes "demo" ∷ rest), text_in (codes "calls") (codes "demo" ∷ rest), text_in (codes "start") (codes "demo" ∷ rest), text_in (codes "workers") (codes "demo" ∷ rest)) ≡ demo_found rest
-demo_found_so rest = texts_so (fault_of srtpgw (codes "demo" ∷ rest)) (subcommand_of srtpgw (codes "demo" ∷ rest))
-
--- and what is seen in its words: its two numbers are found too
-pub record IsDemoSeen (c s : Text) (o : Option Text) (rest : Words) : Type 0 where
-  pub found : demo_found rest ≡ ([], Some c, Some s, o)
-  pub written : are_written rest (c ∷ s ∷ []) (codes "--workers") o ≡ true
-
--- clap takes each way to write `replay` with its option, and finds its value
-pub replay_with : (v : Text) → IsValue v → (rest : Words) (others : List Words) → IsOneOf rest (with_option (codes "--workers") v [] ++ others)
-    → (replay_seen (Some v) rest ≡ ([], Some v, true)) ⊎ IsOneOf rest others
+relay_named : IsName (codes "relay") (leaf relay.top)
 unfolding clap_on_literals
-replay_with v iv rest others (inl e) =
-    inl (ap (replay_seen (Some v)) e ∙ (rw (iv.itself) refl))
-replay_with v iv rest others (inr (inl e)) =
-    inl (ap (replay_seen (Some v)) e ∙ (rw (iv.itself) refl))
-replay_with v iv rest others (inr (inr (inl e))) =
-    inl (ap (replay_seen (Some v)) e ∙ (rw (iv.end, iv.long, iv.short, iv.itself) refl))
-replay_with v iv rest others (inr (inr (inr (inl e)))) =
-    inl (ap (replay_seen (Some v)) e ∙ (rw (iv.end, iv.long, iv.short, iv.itself) refl))
-replay_with v iv rest others (inr (inr (inr (inr o)))) = inr o
+relay_named = record { met = refl; passes = refl; found = refl }
 
--- and each way without it
-pub replay_without : (rest : Words) (others : List Words) → IsOneOf rest (ended [] ++ others)
-    → (replay_seen None rest ≡ ([], None, true)) ⊎ IsOneOf rest others
+demo_named : IsName (codes "demo") (leaf demo.top)
 unfolding clap_on_literals
-replay_without rest others (inl e) =
-    inl (ap (replay_seen None) e ∙ refl)
-replay_without rest others (inr (inl e)) =
-    inl (ap (replay_seen None) e ∙ refl)
-replay_without rest others (inr (inr o)) = inr o
+demo_named = record { met = refl; passes = refl; found = refl }
 
--- the same of `relay`
-pub relay_with : (v : Text) → IsValue v → (rest : Words) (others : List Words) → IsOneOf rest (with_option (codes "--turns") v [] ++ others)
-    → (relay_seen (Some v) rest ≡ ([], Some v, true)) ⊎ IsOneOf rest others
+migrate_named : IsName (codes "migrate") (leaf migrate.top)
 unfolding clap_on_literals
-relay_with v iv rest others (inl e) =
-    inl (ap (relay_seen (Some v)) e ∙ (rw (iv.itself) refl))
-relay_with v iv rest others (inr (inl e)) =
-    inl (ap (relay_seen (Some v)) e ∙ (rw (iv.itself) refl))
-relay_with v iv rest others (inr (inr (inl e))) =
-    inl (ap (relay_seen (Some v)) e ∙ (rw (iv.end, iv.long, iv.short, iv.itself) refl))
-relay_with v iv rest others (inr (inr (inr (inl e)))) =
-    inl (ap (relay_seen (Some v)) e ∙ (rw (iv.end, iv.long, iv.short, iv.itself) refl))
-relay_with v iv rest others (inr (inr (inr (inr o)))) = inr o
+migrate_named = record { met = refl; passes = refl; found = refl }
 
--- what is seen in the words of a command that is alone: the faults, and whether nothing or a lone `--` is behind its name
-abbrev pub migrate_seen : Words → Kinds × Bool
-migrate_seen rest = (fault_of srtpgw (codes "migrate" ∷ rest), are_ended rest [])
-
--- the same of `migrate`
-pub migrate_alone : (rest : Words) → IsOneOf rest (ended []) → migrate_seen rest ≡ ([], true)
+capture_named : IsName (codes "capture") (leaf capture.top)
 unfolding clap_on_literals
-migrate_alone rest (inl e) = ap migrate_seen e ∙ refl
-migrate_alone rest (inr (inl e)) = ap migrate_seen e ∙ refl
-migrate_alone rest (inr (inr none)) = absurd none
+capture_named = record { met = refl; passes = refl; found = refl }
 
-abbrev pub capture_seen : Words → Kinds × Bool
-capture_seen rest = (fault_of srtpgw (codes "capture" ∷ rest), are_ended rest [])
-
--- the same of `capture`
-pub capture_alone : (rest : Words) → IsOneOf rest (ended []) → capture_seen rest ≡ ([], true)
+bridge_named : IsName (codes "bridge") (leaf bridge.top)
 unfolding clap_on_literals
-capture_alone rest (inl e) = ap capture_seen e ∙ refl
-capture_alone rest (inr (inl e)) = ap capture_seen e ∙ refl
-capture_alone rest (inr (inr none)) = absurd none
+bridge_named = record { met = refl; passes = refl; found = refl }
 
--- the same of `demo` with its option: both numbers are found too
-pub demo_with : (c s v : Text) → IsValue c → IsValue s → IsValue v → (rest : Words) (others : List Words) → IsOneOf rest (with_option (codes "--workers") v (c ∷ s ∷ []) ++ others)
-    → IsDemoSeen c s (Some v) rest ⊎ IsOneOf rest others
-unfolding clap_on_literals texts_found
-demo_with c s v ic is iv rest others (inl e) =
-    inl (subst (IsDemoSeen c s (Some v)) (sym e) (record {
-      found = rw (ic.end, ic.long, ic.short, is.end, is.long, is.short) refl;
-      written = rw (iv.itself, ic.end, ic.itself, is.end, is.itself) refl;
-    }))
-demo_with c s v ic is iv rest others (inr (inl e)) =
-    inl (subst (IsDemoSeen c s (Some v)) (sym e) (record {
-      found = refl;
-      written = rw (iv.itself, ic.itself, is.itself) refl;
-    }))
-demo_with c s v ic is iv rest others (inr (inr (inl e))) =
-    inl (subst (IsDemoSeen c s (Some v)) (sym e) (record {
-      found = rw (ic.end, ic.long, ic.short) refl;
-      written = rw (iv.itself, ic.end, ic.itself, is.itself) refl;
-    }))
-demo_with c s v ic is iv rest others (inr (inr (inr (inl e)))) =
-    inl (subst (IsDemoSeen c s (Some v)) (sym e) (record {
-      found = rw (ic.end, ic.long, ic.short, is.end, is.long, is.short) refl;
-      written = rw (iv.itself, ic.end, ic.itself, is.end, is.itself) refl;
-    }))
-demo_with c s v ic is iv rest others (inr (inr (inr (inr (inl e))))) =
-    inl (subst (IsDemoSeen c s (Some v)) (sym e) (record {
-      found = rw (iv.end, iv.long, iv.short, ic.end, ic.long, ic.short, is.end, is.long, is.short) refl;
-      written = rw (iv.itself, ic.end, ic.itself, is.end, is.itself) refl;
-    }))
-demo_with c s v ic is iv rest others (inr (inr (inr (inr (inr (inl e)))))) =
-    inl (subst (IsDemoSeen c s (Some v)) (sym e) (record {
-      found = rw (iv.end, iv.long, iv.short) refl;
-      written = rw (iv.itself, ic.itself, is.itself) refl;
-    }))
-demo_with c s v ic is iv rest others (inr (inr (inr (inr (inr (inr (inl e))))))) =
-    inl (subst (IsDemoSeen c s (Some v)) (sym e) (record {
-      found = rw (iv.end, iv.long, iv.short, ic.end, ic.long, ic.short) refl;
-      written = rw (iv.itself, ic.end, ic.itself, is.itself) refl;
-    }))
-demo_with c s v ic is iv rest others (inr (inr (inr (inr (inr (inr (inr (inl e)))))))) =
-    inl (subst (IsDemoSeen c s (Some v)) (sym e) (record {
-      found = rw (iv.end, iv.long, iv.short, ic.end, ic.long, ic.short, is.end, is.long, is.short) refl;
-      written = rw (iv.itself, ic.end, ic.itself, is.end, is.itself) refl;
-    }))
-demo_with c s v ic is iv rest others (inr (inr (inr (inr (inr (inr (inr (inr (inl e))))))))) =
-    inl (subst (IsDemoSeen c s (Some v)) (sym e) (record {
-      found = rw (ic.end, ic.long, ic.short, is.end, is.long, is.short) refl;
-      written = rw (ic.joined, ic.apart, ic.itself, iv.itself, is.end, is.itself) refl;
-    }))
-demo_with c s v ic is iv rest others (inr (inr (inr (inr (inr (inr (inr (inr (inr (inl e)))))))))) =
-    inl (subst (IsDemoSeen c s (Some v)) (sym e) (record {
-      found = rw (ic.end, ic.long, ic.short) refl;
-      written = rw (ic.joined, ic.apart, ic.itself, iv.itself, is.itself) refl;
-    }))
-demo_with c s v ic is iv rest others (inr (inr (inr (inr (inr (inr (inr (inr (inr (inr (inl e))))))))))) =
-    inl (subst (IsDemoSeen c s (Some v)) (sym e) (record {
-      found = rw (ic.end, ic.long, ic.short, is.end, is.long, is.short) refl;
-      written = rw (ic.joined, ic.apart, ic.itself, iv.itself, is.end, is.itself) refl;
-    }))
-demo_with c s v ic is iv rest others (inr (inr (inr (inr (inr (inr (inr (inr (inr (inr (inr (inl e)))))))))))) =
-    inl (subst (IsDemoSeen c s (Some v)) (sym e) (record {
-      found = rw (ic.end, ic.long, ic.short, iv.end, iv.long, iv.short, is.end, is.long, is.short) refl;
-      written = rw (ic.joined, ic.apart, ic.itself, iv.itself, is.end, is.itself) refl;
-    }))
-demo_with c s v ic is iv rest others (inr (inr (inr (inr (inr (inr (inr (inr (inr (inr (inr (inr (inl e))))))))))))) =
-    inl (subst (IsDemoSeen c s (Some v)) (sym e) (record {
-      found = rw (ic.end, ic.long, ic.short, iv.end, iv.long, iv.short) refl;
-      written = rw (ic.joined, ic.apart, ic.itself, iv.itself, is.itself) refl;
-    }))
-demo_with c s v ic is iv rest others (inr (inr (inr (inr (inr (inr (inr (inr (inr (inr (inr (inr (inr (inl e)))))))))))))) =
-    inl (subst (IsDemoSeen c s (Some v)) (sym e) (record {
-      found = rw (ic.end, ic.long, ic.short, iv.end, iv.long, iv.short, is.end, is.long, is.short) refl;
-      written = rw (ic.joined, ic.apart, ic.itself, iv.itself, is.end, is.itself) refl;
-    }))
-demo_with c s v ic is iv rest others (inr (inr (inr (inr (inr (inr (inr (inr (inr (inr (inr (inr (inr (inr (inl e))))))))))))))) =
-    inl (subst (IsDemoSeen c s (Some v)) (sym e) (record {
-      found = rw (ic.end, ic.long, ic.short, is.end, is.long, is.short) refl;
-      written = rw (ic.joined, ic.apart, ic.itself, is.joined, is.apart, is.itself, iv.itself) refl;
-    }))
-demo_with c s v ic is iv rest others (inr (inr (inr (inr (inr (inr (inr (inr (inr (inr (inr (inr (inr (inr (inr (inl e)))))))))))))))) =
-    inl (subst (IsDemoSeen c s (Some v)) (sym e) (record {
-      found = rw (ic.end, ic.long, ic.short, is.end, is.long, is.short) refl;
-      written = rw (ic.joined, ic.apart, ic.itself, is.joined, is.apart, is.itself, iv.itself) refl;
-    }))
-demo_with c s v ic is iv rest others (inr (inr (inr (inr (inr (inr (inr (inr (inr (inr (inr (inr (inr (inr (inr (inr (inl e))))))))))))))))) =
-    inl (subst (IsDemoSeen c s (Some v)) (sym e) (record {
-      found = rw (ic.end, ic.long, ic.short, is.end, is.long, is.short, iv.end, iv.long, iv.short) refl;
-      written = rw (ic.joined, ic.apart, ic.itself, is.joined, is.apart, is.itself, iv.itself) refl;
-    }))
-demo_with c s v ic is iv rest others (inr (inr (inr (inr (inr (inr (inr (inr (inr (inr (inr (inr (inr (inr (inr (inr (inr (inl e)))))))))))))))))) =
-    inl (subst (IsDemoSeen c s (Some v)) (sym e) (record {
-      found = rw (ic.end, ic.long, ic.short, is.end, is.long, is.short, iv.end, iv.long, iv.short) refl;
-      written = rw (ic.joined, ic.apart, ic.itself, is.joined, is.apart, is.itself, iv.itself) refl;
-    }))
-demo_with c s v ic is iv rest others (inr (inr (inr (inr (inr (inr (inr (inr (inr (inr (inr (inr (inr (inr (inr (inr (inr (inr o)))))))))))))))))) = inr o
+-- the text that clap gives an option that has no value
+abbrev pub flag_text : Bool → Text
+flag_text true = codes "true"
+flag_text false = codes "false"
+
+-- `replay` with its option
+pub replay_with : (v : Text) → IsValue v → (mux : Bool) (rest : Words) → IsOneOf rest (with_option (codes "--workers") v closed (mux_option mux))
+    → IsSeen (codes "replay") (codes "workers" ∷ codes "mux" ∷ []) (Some v ∷ Some (flag_text mux) ∷ []) rest
+unfolding clap_on_literals
+replay_with v is true rest among = all_seen _ _ _ _ replay_named rest (reads_with (codes "--workers") v is Options (mux_read true)) refl among
+replay_with v is false rest among = all_seen _ _ _ _ replay_named rest (reads_with (codes "--workers") v is Options (mux_read false)) refl among
 
 -- and without it
-pub demo_without : (c s : Text) → IsValue c → IsValue s → (rest : Words) (others : List Words) → IsOneOf rest (ended (c ∷ s ∷ []) ++ others)
-    → IsDemoSeen c s None rest ⊎ IsOneOf rest others
-unfolding clap_on_literals texts_found
-demo_without c s ic is rest others (inl e) =
-    inl (subst (IsDemoSeen c s None) (sym e) (record {
-      found = rw (ic.end, ic.long, ic.short, is.end, is.long, is.short) refl;
-      written = rw (ic.end, ic.itself, is.end, is.itself) refl;
-    }))
-demo_without c s ic is rest others (inr (inl e)) =
-    inl (subst (IsDemoSeen c s None) (sym e) (record {
-      found = refl;
-      written = rw (ic.itself, is.itself) refl;
-    }))
-demo_without c s ic is rest others (inr (inr (inl e))) =
-    inl (subst (IsDemoSeen c s None) (sym e) (record {
-      found = rw (ic.end, ic.long, ic.short) refl;
-      written = rw (ic.end, ic.itself, is.itself) refl;
-    }))
-demo_without c s ic is rest others (inr (inr (inr (inl e)))) =
-    inl (subst (IsDemoSeen c s None) (sym e) (record {
-      found = rw (ic.end, ic.long, ic.short, is.end, is.long, is.short) refl;
-      written = rw (ic.end, ic.itself, is.end, is.itself) refl;
-    }))
-demo_without c s ic is rest others (inr (inr (inr (inr o)))) = inr o
+pub replay_without : (mux : Bool) (rest : Words) → IsOneOf rest (closed (mux_option mux))
+    → IsSeen (codes "replay") (codes "workers" ∷ codes "mux" ∷ []) (None ∷ Some (flag_text mux) ∷ []) rest
+unfolding clap_on_literals
+replay_without true rest among = all_seen _ _ _ _ replay_named rest (reads_ended Options (mux_read true)) refl among
+replay_without false rest among = all_seen _ _ _ _ replay_named rest (reads_ended Options (mux_read false)) refl among
+
+pub relay_with : (v : Text) → IsValue v → (mux : Bool) (rest : Words) → IsOneOf rest (with_option (codes "--turns") v closed (mux_option mux))
+    → IsSeen (codes "relay") (codes "turns" ∷ codes "mux" ∷ []) (Some v ∷ Some (flag_text mux) ∷ []) rest
+unfolding clap_on_literals
+relay_with v is true rest among = all_seen _ _ _ _ relay_named rest (reads_with (codes "--turns") v is Options (mux_read true)) refl among
+relay_with v is false rest among = all_seen _ _ _ _ relay_named rest (reads_with (codes "--turns") v is Options (mux_read false)) refl among
+
+-- `demo` with its option: both numbers are found too
+pub demo_with : (c s v : Text) → IsValue c → IsValue s → IsValue v → (rest : Words) → IsOneOf rest (with_option (codes "--workers") v (ends Numbers) (c ∷ s ∷ []))
+    → IsSeen (codes "demo") (codes "calls" ∷ codes "start" ∷ codes "workers" ∷ []) (Some c ∷ Some s ∷ Some v ∷ []) rest
+unfolding clap_on_literals
+demo_with c s v ic is iv rest among =
+    all_seen _ _ _ _ demo_named rest (reads_with (codes "--workers") v iv Numbers (plain c ic ∷ plain s is ∷ [])) refl among
+
+-- and without it
+pub demo_without : (c s : Text) → IsValue c → IsValue s → (rest : Words) → IsOneOf rest (ends Numbers (c ∷ s ∷ []))
+    → IsSeen (codes "demo") (codes "calls" ∷ codes "start" ∷ codes "workers" ∷ []) (Some c ∷ Some s ∷ None ∷ []) rest
+unfolding clap_on_literals
+demo_without c s ic is rest among = all_seen _ _ _ _ demo_named rest (reads_ended Numbers (plain c ic ∷ plain s is ∷ [])) refl among
+
+-- a command that is alone
+pub migrate_alone : (rest : Words) → IsOneOf rest (closed []) → IsSeen (codes "migrate") [] [] rest
+unfolding clap_on_literals
+migrate_alone rest among = all_seen _ _ _ _ migrate_named rest (reads_ended Options []) refl among
+
+pub capture_alone : (rest : Words) → IsOneOf rest (closed []) → IsSeen (codes "capture") [] [] rest
+unfolding clap_on_literals
+capture_alone rest among = all_seen _ _ _ _ capture_named rest (reads_ended Options []) refl among
+
+pub bridge_alone : (rest : Words) → IsOneOf rest (closed []) → IsSeen (codes "bridge") [] [] rest
+unfolding clap_on_literals
+bridge_alone rest among = all_seen _ _ _ _ bridge_named rest (reads_ended Options []) refl among

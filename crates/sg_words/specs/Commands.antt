@@ -1,8 +1,8 @@
 -- The words of the command line, and the command that they are.
-use Rattle.std.specs.Prelude.{◌≡◌, ◌⊎◌, ◌≤◌, ◌<◌, ◌^◌, ◌==◌, ℕ, if◌then◌else◌, List, [], ◌∷◌, ◌++◌, codes, map, ⊤}
+use Rattle.std.specs.Prelude.{◌≡◌, ◌⊎◌, ◌≤◌, ◌<◌, ◌^◌, ◌==◌, ℕ, Bool, true, false, if◌then◌else◌, List, [], ◌∷◌, ◌++◌, codes, map, ⊤}
 use Rattle.std.specs.Fmt.{decimal}
 use Rattle.sg_words.specs.declared.command.Command.{Command}
-use Rattle.sg_words.specs.declared.command.Command.TheVariants.{Replay, Relay, Demo, Migrate, Capture}
+use Rattle.sg_words.specs.declared.command.Command.TheVariants.{Replay, Relay, Demo, Migrate, Capture, Bridge}
 
 abbrev pub Text : Type 0
 Text = List ℕ
@@ -15,33 +15,45 @@ abbrev pub put_in : Text → Words → List Words
 put_in word [] = (word ∷ []) ∷ []
 put_in word (w ∷ ws) = (word ∷ w ∷ ws) ∷ map (λ others. w ∷ others) (put_in word ws)
 
--- these words, or these and a lone `--` among them: it says that no option is behind it
+-- numbers, or numbers and a lone `--` among them: it says that no option is behind it
 abbrev pub ended : Words → List Words
-ended words = words ∷ put_in (codes "--") words
+ended numbers = numbers ∷ put_in (codes "--") numbers
 
--- an option in front of these words, its value behind its equals sign or as the next word
-abbrev pub option_before : Text → Text → Words → List Words
-option_before option value words =
-    map (λ others. (option ++ codes "=" ++ value) ∷ others) (ended words) ++ map (λ others. option ∷ value ∷ others) (ended words)
+-- options, or options and a lone `--` behind them
+abbrev pub closed : Words → List Words
+closed options = options ∷ (options ++ codes "--" ∷ []) ∷ []
+
+-- an option in front of these words, its value behind its equals sign or as the next word, and these ended as is said
+abbrev pub option_before : Text → Text → (Words → List Words) → Words → List Words
+option_before option value ends words =
+    map (λ others. (option ++ codes "=" ++ value) ∷ others) (ends words) ++ map (λ others. option ∷ value ∷ others) (ends words)
 
 -- an option in front of these words, between two of them, or behind them
-abbrev pub with_option : Text → Text → Words → List Words
-with_option option value [] = option_before option value []
-with_option option value (w ∷ ws) = option_before option value (w ∷ ws) ++ map (λ others. w ∷ others) (with_option option value ws)
+abbrev pub with_option : Text → Text → (Words → List Words) → Words → List Words
+with_option option value ends [] = option_before option value ends []
+with_option option value ends (w ∷ ws) =
+    option_before option value ends (w ∷ ws) ++ map (λ others. w ∷ others) (with_option option value ends ws)
 
 -- a number of workers with these words; where none is said, it is 1
-abbrev pub with_workers : ℕ → Words → List Words
-with_workers workers words =
-    with_option (codes "--workers") (decimal workers) words ++ (if workers == 1 then ended words else [])
+abbrev pub with_workers : ℕ → (Words → List Words) → Words → List Words
+with_workers workers ends words =
+    with_option (codes "--workers") (decimal workers) ends words ++ (if workers == 1 then ends words else [])
+
+-- the option that has no value, where RTP and RTCP are on one port
+abbrev pub mux_option : Bool → Words
+mux_option true = codes "--mux" ∷ []
+mux_option false = []
 
 -- Every way to write a command. A number is written in decimal digits, without a sign or a leading zero.
 abbrev pub spellings : Command → List Words
-spellings (Replay workers) = map (λ others. codes "replay" ∷ others) (with_workers workers [])
-spellings (Relay turns) = map (λ others. codes "relay" ∷ others) (with_option (codes "--turns") (decimal turns) [])
+spellings (Replay workers mux) = map (λ others. codes "replay" ∷ others) (with_workers workers closed (mux_option mux))
+spellings (Relay turns mux) =
+    map (λ others. codes "relay" ∷ others) (with_option (codes "--turns") (decimal turns) closed (mux_option mux))
 spellings (Demo calls start workers) =
-    map (λ others. codes "demo" ∷ others) (with_workers workers (decimal calls ∷ decimal start ∷ []))
-spellings Migrate = map (λ others. codes "migrate" ∷ others) (ended [])
-spellings Capture = map (λ others. codes "capture" ∷ others) (ended [])
+    map (λ others. codes "demo" ∷ others) (with_workers workers ended (decimal calls ∷ decimal start ∷ []))
+spellings Migrate = map (λ others. codes "migrate" ∷ others) (closed [])
+spellings Capture = map (λ others. codes "capture" ∷ others) (closed [])
+spellings Bridge = map (λ others. codes "bridge" ∷ others) (closed [])
 
 -- 1 to 16 workers
 abbrev pub IsWorkers : ℕ → Type 0
@@ -49,11 +61,12 @@ IsWorkers workers = (1 ≤ workers) × (workers ≤ 16)
 
 -- the numbers of a command are in their bounds
 abbrev pub IsCommand : Command → Type 0
-IsCommand (Replay workers) = IsWorkers workers
-IsCommand (Relay turns) = (1 ≤ turns) × (turns ≤ 1000000000)
+IsCommand (Replay workers mux) = IsWorkers workers
+IsCommand (Relay turns mux) = (1 ≤ turns) × (turns ≤ 1000000000)
 IsCommand (Demo calls start workers) = (1 ≤ calls) × (calls ≤ 256) × (start < 2 ^ 64) × IsWorkers workers
 IsCommand Migrate = ⊤
 IsCommand Capture = ⊤
+IsCommand Bridge = ⊤
 
 -- the words are in the list
 abbrev pub IsOneOf : Words → List Words → Type 0

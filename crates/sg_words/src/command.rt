@@ -2,14 +2,17 @@
 
 /// What a command line asks for: to play a script with so many workers, to relay for so many turns at most,
 /// to show so many calls that begin with the words of a start, with so many workers, to write a script of
-/// version 1 as one of version 2, or to play a script and the capture behind it.
+/// version 1 as one of version 2, to play a script and the capture behind it, or to play a script whose calls are
+/// joined. A replay and a relay have RTP and RTCP on one port (RFC 5761) where `mux` is set.
 #[derive(Clone, Copy, Debug, PartialEq, Eq)]
 pub enum Command {
     Replay {
         workers: usize,
+        mux: bool,
     },
     Relay {
         turns: u64,
+        mux: bool,
     },
     Demo {
         calls: u16,
@@ -18,6 +21,7 @@ pub enum Command {
     },
     Migrate,
     Capture,
+    Bridge,
 }
 
 /// Why no command was read.

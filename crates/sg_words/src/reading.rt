@@ -2,13 +2,13 @@
 
 ghost use Rattle.std.specs.Prelude.{◌≡◌, ◌≢◌, ◌≤◌, ◌⊎◌, ◌∷◌, ℕ, List, map, IfOk, IfSome, Ok, Err, string_bytes, codes, option_map, option_and_then};
 ghost use Rattle.clap.specs.Words.{FailsBy, fault_of, subcommand_of, subcommand_rows_of, first_of};
-ghost use Rattle.sg_words.specs.Commands.{AreWordsOf, IsNoCommand};
+ghost use Rattle.sg_words.specs.Commands.{AreWordsOf, IsNoCommand, mux_option};
 ghost use Rattle.sg_words.specs.Grammar.{srtpgw};
-ghost use Rattle.sg_words.specs.Reading.{alone_by, command_by, demo_by, first_said, positive, relay_by, replay_by, text_in, workers_by};
+ghost use Rattle.sg_words.specs.Reading.{alone_by, command_by, demo_by, first_said, is_set, positive, relay_by, replay_by, text_in, workers_by};
 ghost use Rattle.sg_words.specs.declared.command.Command.{Command};
 
 use crate::line::command_line;
-use crate::spelling::{Written, are_ended, have_option, is};
+use crate::spelling::{Kind, Written, are_ended, have_option, is, mux_option};
 use crate::{Command, CommandFault};
 use clap::error::ErrorKind;
 use clap::{ArgMatches, Error};
@@ -31,6 +31,16 @@ fn text_of<'a>(matches: &ArgMatches<'a>, id: &str) -> Option<&'a str>
     found.get_str(id)
 }
 
+/// Whether an option that has no value is set, for the command that was named.
+fn is_set(matches: &ArgMatches<'_>, id: &str) -> bool
+    ensures { result ≡ is_set (option_and_then (λ p. first_of id.now p.1) (subcommand_rows_of matches.now)) }
+{
+    match text_of(matches, id) {
+        Some(text) => text.as_bytes() == "true".as_bytes(),
+        None => false,
+    }
+}
+
 /// A number from 1 to `most`.
 fn positive(most: u128, text: &str) -> Option<u128>
     ensures value { result ≡ positive most text.now }
@@ -45,11 +55,11 @@ fn positive(most: u128, text: &str) -> Option<u128>
 }
 
 /// How many workers the words say, where they are these texts with that option's value among them.
-fn workers_of(words: &[String], texts: &[&str], value: Option<&str>) -> Option<usize>
-    ensures { result ≡ workers_by (map string_bytes words.now) (map (λ t. t.now) texts.now) (option_map (λ s. s.now) value.entry) }
+fn workers_of(words: &[String], kind: Kind, texts: &[&str], value: Option<&str>) -> Option<usize>
+    ensures { result ≡ workers_by (map string_bytes words.now) kind (map (λ t. t.now) texts.now) (option_map (λ s. s.now) value.entry) }
 {
     let Some(value) = value else {
-        if are_ended(words, texts) {
+        if are_ended(words, kind, texts) {
             return Some(1);
         }
         return None;
@@ -59,7 +69,7 @@ fn workers_of(words: &[String], texts: &[&str], value: Option<&str>) -> Option<u
         joined: "--workers=",
         value,
     };
-    if !have_option(words, &written, texts) {
+    if !have_option(words, &written, kind, texts) {
         return None;
     }
     let workers = positive(WORKERS_MOST as u128, value)?;
@@ -68,28 +78,36 @@ fn workers_of(words: &[String], texts: &[&str], value: Option<&str>) -> Option<u
 
 /// The command `replay`, by the words behind its name and what clap found.
 fn replay_of(words: &[String], matches: &ArgMatches<'_>) -> Option<Command>
-    ensures { result ≡ replay_by (map string_bytes words.now) (option_and_then (λ p. first_of (codes "workers") p.1) (subcommand_rows_of matches.now)) }
+    ensures { result ≡ replay_by (map string_bytes words.now)
+        (option_and_then (λ p. first_of (codes "workers") p.1) (subcommand_rows_of matches.now))
+        (is_set (option_and_then (λ p. first_of (codes "mux") p.1) (subcommand_rows_of matches.now))) }
 {
-    let workers = workers_of(words, &[], text_of(matches, "workers"))?;
-    Some(Command::Replay { workers })
+    let mux = is_set(matches, "mux");
+    let value = text_of(matches, "workers");
+    let workers = workers_of(words, Kind::Options, mux_option(mux), value)?;
+    Some(Command::Replay { workers, mux })
 }
 
 /// The command `relay`, by the same.
 fn relay_of(words: &[String], matches: &ArgMatches<'_>) -> Option<Command>
-    ensures { result ≡ relay_by (map string_bytes words.now) (option_and_then (λ p. first_of (codes "turns") p.1) (subcommand_rows_of matches.now)) }
+    ensures { result ≡ relay_by (map string_bytes words.now)
+        (option_and_then (λ p. first_of (codes "turns") p.1) (subcommand_rows_of matches.now))
+        (is_set (option_and_then (λ p. first_of (codes "mux") p.1) (subcommand_rows_of matches.now))) }
 {
+    let mux = is_set(matches, "mux");
     let value = text_of(matches, "turns")?;
     let written = Written {
         option: "--turns",
         joined: "--turns=",
         value,
     };
-    if !have_option(words, &written, &[]) {
+    if !have_option(words, &written, Kind::Options, mux_option(mux)) {
         return None;
     }
     let turns = positive(TURNS_MOST as u128, value)?;
     Some(Command::Relay {
         turns: turns as u64,
+        mux,
     })
 }
 
@@ -105,7 +123,7 @@ fn demo_of(words: &[String], matches: &ArgMatches<'_>) -> Option<Command>
     let calls = positive(CALLS_MOST as u128, calls_text)?;
     let start = read_number(u128::from(u64::MAX), start_text.as_bytes())?;
     let texts = [calls_text, start_text];
-    let workers = workers_of(words, &texts, text_of(matches, "workers"))?;
+    let workers = workers_of(words, Kind::Numbers, &texts, text_of(matches, "workers"))?;
     Some(Command::Demo {
         calls: calls as u16,
         start: start as u64,
@@ -117,7 +135,7 @@ fn demo_of(words: &[String], matches: &ArgMatches<'_>) -> Option<Command>
 fn alone(words: &[String], command: Command) -> Option<Command>
     ensures { result ≡ alone_by command (map string_bytes words.now) }
 {
-    if !are_ended(words, &[]) {
+    if !are_ended(words, Kind::Options, &[]) {
         return None;
     }
     Some(command)
@@ -145,6 +163,9 @@ fn said(words: &[String], matches: &ArgMatches<'_>) -> Option<Command>
     if is(name, "capture") {
         return alone(words, Command::Capture);
     }
+    if is(name, "bridge") {
+        return alone(words, Command::Bridge);
+    }
     None
 }
 
@@ -161,8 +182,8 @@ fn refused(kind: ErrorKind) -> CommandFault
 
 /// The command that the words after the program's name are, or `Usage` exactly where they are none.
 ///
-/// `replay [--workers W]`, `relay --turns T`, `demo CALLS START [--workers W]`, `migrate` and `capture`. An
-/// option stands in front of the numbers, between or behind them, once at most, as `--workers 4` or
+/// `replay [--workers W] [--mux]`, `relay --turns T [--mux]`, `demo CALLS START [--workers W]`, `migrate`, `capture` and
+/// `bridge`. An option stands in front of the numbers, between or behind them, once at most, as `--workers 4` or
 /// `--workers=4`; a lone `--` says that none is behind it.
 pub fn read_command(alloc: Global, words: &[String]) -> Result<Command, CommandFault>
     ensures command { IfOk result (λ c. AreWordsOf (map string_bytes words.now) c) }

@@ -1,7 +1,7 @@
 use Rattle.std.proofs.Common.{ap, map, subst, ◌∙◌}
 use Rattle.std.specs.Prelude.{string_bytes}
 use Rattle.clap.specs.Words.{App, FailsBy, fault_of, is_simple_and_free}
-use Rattle.sg_words.proofs.Shapes.{srtpgw_simple}
+use Rattle.sg_words.proofs.Entered.{srtpgw_simple}
 use Rattle.sg_words.proofs.reading.cut.Goals as goal
 
 pub returns-clause-exact : goal.returns-clause-exact
