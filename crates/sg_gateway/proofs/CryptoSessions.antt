@@ -24,7 +24,8 @@ use Rattle.sg_sdp.specs.declared.medium.Medium as descriptions
 use Rattle.sg_session.proofs.Inversions.{stop_if_is}
 use Rattle.sg_session.specs.declared.names.Direction.{Direction}
 use Rattle.sg_session.specs.declared.names.Direction.TheVariants.{Opening, Sealing}
-use Rattle.sg_gateway.specs.CryptoSessions.{IsEntryOf, IsOwnEntry, map_towards, session_of}
+use Rattle.sg_gateway.proofs.Sources.{first_source}
+use Rattle.sg_gateway.specs.CryptoSessions.{IsEntryOf, IsFirstSource, IsOwnEntry, map_towards, session_of}
 
 -- what holds of each, from one behind so many others on
 abbrev pub EachFrom : {X : Type 0} → (ℕ → X → Type 0) → ℕ → List X → Type 0
@@ -238,7 +239,7 @@ module _ (m : Message) (tgks : List Tgk) where
       sent = is.1;
       says = entry_of is.1.entry.policy (own_ssrc n.lines);
       in_senders = answered is.1.entry is.1.in_map;
-      of_gateway = (refl, refl, refl);
+      of_gateway = (refl, first_source n.lines, refl);
       same = refl;
     };
     window = refl;
@@ -263,7 +264,7 @@ module _ (m : Message) (tgks : List Tgk) where
           sent = is.sent.0;
           says = is.sent.0.entry;
           in_senders = is.sent.0.in_map;
-          of_gateway = (refl, ap (λ (e : CsEntry). e.ssrc) mine, ap (λ (e : CsEntry). e.roc) mine);
+          of_gateway = (refl, subst (λ (e : CsEntry). IsFirstSource o.lines e.ssrc) (sym mine) (first_source o.lines), ap (λ (e : CsEntry). e.roc) mine);
           same = ap stream_of_session (own_source (2 * others + 1) is.pair.0 is.sent.0);
         };
         window = refl;

@@ -52,6 +52,7 @@ pub mod Serving
 pub mod Sessions
 pub mod Signals
 pub mod Sound
+pub mod Sources
 pub mod StaysAway
 pub mod Tags
 pub mod Taken

@@ -1,10 +1,9 @@
 -- The two messages of a MIKEY exchange in the lines of texts, and the crypto sessions on which they agree (RFC 3830, 3.1, 4.1.3,
 -- 5.2, 6.1.1 and 6.10.1; RFC 4567, 3.1).
-use Rattle.std.specs.Prelude.{◌≡◌, ◌⊎◌, ℕ, ◌+◌, ◌*◌, ◌^◌, List, ◌∷◌, ◌++◌, length, take, map, filter, min, not, Some, ◌==◌, codes}
+use Rattle.std.specs.Prelude.{◌≡◌, ◌⊎◌, ℕ, ◌+◌, ◌*◌, ◌^◌, ◌≤◌, List, [], ◌∷◌, ◌++◌, length, take, map, filter, min, not, Some, ◌==◌, codes, decimal}
 use Rattle.std.specs.List.{All, AllByRecursion, Any, find}
 use Rattle.base64.specs.Engines.{standard}
 use Rattle.base64.specs.GeneralPurpose.{encode_of}
-use Rattle.sg_agreement.specs.Attributes.{own_ssrc}
 use Rattle.sg_agreement.specs.Sides.{is_active}
 use Rattle.sg_agreement.specs.TextLines.{IsMessageLine, identifier}
 use Rattle.sg_base.specs.Keys.{Master}
@@ -111,11 +110,22 @@ abbrev pub map_towards : Direction → List CsEntry → List CsEntry → List Cs
 map_towards Opening peers own = peers
 map_towards Sealing peers own = own
 
+-- a source attribute of this SSRC, from 1 on, which ends the line or stands before a space (RFC 5576, 4.1)
+abbrev pub NamesSource : List ℕ → ℕ → Type 0
+NamesSource line ssrc =
+    (¬ (ssrc ≡ 0)) × (ssrc ≤ 4294967295)
+    × ((line ≡ codes "a=ssrc:" ++ decimal ssrc) ⊎ ((more : List ℕ) × (line ≡ codes "a=ssrc:" ++ (decimal ssrc ++ 32 ∷ more))))
+
+-- the first source that these lines name, or 0 where they name none
+abbrev pub IsFirstSource : List (List ℕ) → ℕ → Type 0
+IsFirstSource [] ssrc = ssrc ≡ 0
+IsFirstSource (line ∷ lines) ssrc = NamesSource line ssrc ⊎ (((other : ℕ) → ¬ NamesSource line other) × IsFirstSource lines ssrc)
+
 -- The gateway says of itself the first source that the plain side's medium names, rollover 0, and the policy that the
 -- initiator named.
 abbrev pub IsOwnEntry : Direction → CsEntry → CsEntry → descriptions.Medium → Type 0
 IsOwnEntry Opening initiators senders plain = Unit {0}
-IsOwnEntry Sealing initiators senders plain = (senders.policy ≡ initiators.policy) × (senders.ssrc ≡ own_ssrc plain.lines) × (senders.roc ≡ 0)
+IsOwnEntry Sealing initiators senders plain = (senders.policy ≡ initiators.policy) × IsFirstSource plain.lines senders.ssrc × (senders.roc ≡ 0)
 
 -- the gateway opens in a window of 64, and seals in one of 1,024
 abbrev pub window_towards : Direction → ℕ
