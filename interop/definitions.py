@@ -2,8 +2,8 @@
 """Computes definitions of specs/*.antt on values, and plays a script by them.
 
   interop/definitions.py SCRIPT [CRATES [COMMAND]]     what a replay of SCRIPT tells, or what COMMAND writes of it (migrate;
-                                                       capture, with the capture behind it), by the definitions in
-                                                       the folder CRATES
+                                                       bridge; 'replay --mux'; capture, with the capture behind
+                                                       it), by the definitions in the folder CRATES
 
 It reads clauses, records, data, lambdas, `let`, `if` and `do`; types are passed over, so it is no checker. Lists of numbers
 are tuples. The words of std are written by hand below, the block cipher and the code are those of Python, and session keys
@@ -372,10 +372,11 @@ FUNCTIONS = {
     "list_any": lambda f, xs: any(apply(f, x) for x in xs), "list_all": lambda f, xs: all(apply(f, x) for x in xs),
     "count_by": lambda f, xs: sum(1 for x in xs if apply(f, x)), "starts_with": lambda eq, xs, ys: xs[:len(ys)] == ys,
     "slice_split": split_by, "slice_index": lambda xs, i: at_or(xs, i, 0), "slice_index_or": at_or, "get_or": at_or,
+    "slice_get": lambda xs, i: some(xs[i]) if i < len(xs) else NONE, "set": lambda xs, i, x: xs[:i] + (x,) + xs[i + 1:] if i < len(xs) else xs,
     "range_with_len": lambda first, n: tuple(range(first, first + n)), "join_with_byte": joined, "bytes_eq": lambda a, b: a == b,
     "option_map": lambda f, o: of_option(o, NONE, lambda x: some(apply(f, x))), "option_and_then": lambda f, o: of_option(o, NONE, lambda x: apply(f, x)),
     "option_or": lambda a, b: b if a.name == "None" else a, "option_map_or": lambda f, o, d: of_option(o, d, lambda x: apply(f, x)),
-    "is_some": lambda o: o.name == "Some", "is_none": lambda o: o.name == "None", "is_ok": lambda r: r.name == "Ok",
+    "option_to_list": lambda o: of_option(o, (), lambda x: (x,)), "is_some": lambda o: o.name == "Some", "is_none": lambda o: o.name == "None", "is_ok": lambda r: r.name == "Ok",
     "decimal": lambda n: tuple(str(n).encode()), "signed_decimal": lambda n: tuple(str(n).encode()), "codes": lambda text: text,
     "digits_value": digits_value, "is_ascii_digit": lambda c: 48 <= c <= 57, "encode_lower": lambda xs: tuple(bytes(xs).hex().encode()),
     "encode_of": lambda engine, xs: tuple(base64.b64encode(bytes(xs))), "decode_of": base64_octets,
@@ -681,15 +682,43 @@ def definition(path, name):
     return Module.at(path).value(name)
 
 
+def events_of(script):
+    """The events of a replay of these octets, by the definition of their trace."""
+    return call(definition("sg_trace.specs.Trace", "replayed"), tuple(script), ()).fields["events"]
+
+
 def replayed(script):
-    """The lines of what a replay of these octets tells, by the definitions of a trace, of a step and of an outcome's text."""
+    """The lines of what a replay tells, by the definitions of a trace, of a step and of an outcome's text."""
     step, line = definition("sg_gateway.specs.Step", "step"), definition("sg_outcome.specs.OutcomeText", "outcome_line")
     world = definition("sg_gateway.specs.World", "empty")
-    trace = call(definition("sg_trace.specs.Trace", "replayed"), tuple(script), ())
-    for event in trace.fields["events"]:
+    for event in events_of(script):
         given = call(step, world, event)
         world = given.fields["world"]
         for outcome in given.fields["outcomes"]:
+            yield bytes(call(line, outcome))
+
+
+def muxed(script):
+    """The same of a replay whose legs may share ports, one event behind another as `outcomes_in` has them."""
+    after, stepped = (definition("sg_mux.specs.Via", name) for name in ("muxing_after", "stepped"))
+    line = definition("sg_outcome.specs.OutcomeText", "outcome_line")
+    world, calls = definition("sg_gateway.specs.World", "empty"), definition("sg_mux.specs.Muxed", "nobody")
+    for event in events_of(script):
+        given = call(after, world, calls, event)
+        world, calls = call(stepped, world, calls, event).fields["world"], given.fields["calls"]
+        for outcome in given.fields["told"]:
+            yield bytes(call(line, outcome))
+
+
+def bridged(script):
+    """The lines of what a bridge tells, by the definitions of what its lines say, of a part of it and of an outcome's text."""
+    bridging = definition("sg_bridge.specs.Bridged", "bridging")
+    line = definition("sg_bridge.specs.BridgeText", "bridge_outcome_line")
+    world, calls = definition("sg_gateway.specs.World", "empty"), definition("sg_bridge.specs.Pairs", "nobody")
+    for said in call(definition("sg_bridging.specs.Bridge", "bridge_trace"), tuple(script), ()).fields["said"]:
+        given = call(bridging, world, calls, said)
+        world, calls = given.fields["world"], given.fields["calls"]
+        for outcome in given.fields["told"]:
             yield bytes(call(line, outcome))
 
 
@@ -705,7 +734,9 @@ def captured(source):
     yield bytes(call(output, world, trace.fields["occurrences"]))
 
 
-COMMANDS = {"replay": replayed, "migrate": migrated, "capture": captured}
+COMMANDS = {
+    "replay": replayed, "replay --mux": muxed, "bridge": bridged, "migrate": migrated, "capture": captured,
+}
 
 
 def main(words):

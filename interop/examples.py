@@ -7,7 +7,9 @@ from calls import (
     comes, drop, manual, opened, out, rtcp_opened, rtcp_sealed, sealed,
 )
 from captured import ARP, Captured, ethernet, frame
-from signals import MANUAL
+from joined import THREES, TO_FIRST, TO_SECOND, TWOS, joined_calls
+from shared import PLAIN_RTCP, SECURE_MUXED, Shared, alice_muxed
+from signals import ALICE_KEYED, MANUAL, ONE, OWN
 from srtp import KNOWN, KNOWN_SEALED, MasterKey, rtcp, rtp
 
 EXAMPLES = Path(__file__).resolve().parent.parent / "examples"
@@ -109,6 +111,40 @@ def captured():
     return s
 
 
+def muxed():
+    """RTP and RTCP that share a port on the protected side, both ways, and each at the plain side's own port."""
+    s = Shared()
+    alice_muxed(s)
+    s.opened(20000, ALICE_KEYED, rtp(7), 7, ONE)
+    s.report_opened(20000, ALICE_KEYED, 0, PLAIN_RTCP, ONE)
+    s.sealed(20002, OWN, rtp(7), 7)
+    s.report_sealed(20003, OWN, 0, SECURE_MUXED)
+    return s
+
+
+def joined():
+    """Two protected calls that are joined, a packet and a report each way, a plain packet at a port that is unused
+    meanwhile, and the end of one of them."""
+    s = joined_calls()
+    s.arrives(20000, KNOWN_SEALED, f"out {TO_SECOND} {THREES.srtp(KNOWN, 0x1234).hex()}")
+    s.crosses(20016, TWOS, rtp(7), 7, TO_FIRST, ONES)
+    s.report_crosses(20001, KEY, 0, "20017 127.0.0.1:40011", THREES, 0)
+    s.report_crosses(20017, TWOS, 0, "20001 127.0.0.1:40001", ONES, 0)
+    s.dropped(20002, rtp(7), "PortUnused")
+    s.says("bye 2", "ended 2 1 1 bye", "parted 1 2")
+    s.opened(20000, KEY, rtp(0x1235), 0x1235)
+    return s
+
+
+def write(name, s):
+    of = EXAMPLES / name
+    of.with_suffix(".script").write_bytes(s.text())
+    of.with_suffix(".words").write_text(f"{s.command}\n")
+    of.with_suffix(".out").write_text("".join(line + "\n" for line in s.told))
+    if s.capture:
+        of.with_suffix(".pcap").write_bytes(s.capture)
+
+
 def main():
     for name, example, told in (
         ("raw-key", raw_key, MADE),
@@ -124,11 +160,8 @@ def main():
         header = "srtpgw 2\n" if example is moments else "srtpgw 1\n"
         (EXAMPLES / f"{name}.script").write_text(header + call + "".join(row[0] for row in rows))
         (EXAMPLES / f"{name}.out").write_text(told + "".join(row[1] for row in rows))
-    s, of = captured(), EXAMPLES / "captured"
-    of.with_suffix(".script").write_bytes(s.text())
-    of.with_suffix(".pcap").write_bytes(s.capture)
-    of.with_suffix(".words").write_text("capture\n")
-    of.with_suffix(".out").write_text("".join(line + "\n" for line in s.told))
+    for example in captured, muxed, joined:
+        write(example.__name__, example())
 
 
 if __name__ == "__main__":

@@ -11,7 +11,8 @@ dropped, doubled or exchanged with another's, a number made larger or smaller, o
 - what is written is what the model tells, to the octet. Where a line asks for noise to be drawn, what is written begins
   with what the model tells of the lines before, the rest is outcomes of their grammar, and the status is 0 or 2.
 
-One run in eight has two workers and what memory it likes; its octets are the same. One in eight is a migration.
+One run in eight has two workers and what memory it likes; its octets are the same. One in eight is a migration, one is
+played with `--mux`, and one by `bridge`.
 """
 import os
 import random
@@ -22,7 +23,7 @@ import sys
 from collections import Counter
 from pathlib import Path
 
-from mixed import Mixer
+from mixed import COMMANDS, Mixer
 from model import TOLD
 from usage import words_or_usage
 
@@ -35,7 +36,8 @@ STATUS = re.compile(rb"srtpgw: script line [1-9][0-9]*: (Word|Number|Hex|Length|
 ADDRESS = rb"\d+\.\d+\.\d+\.\d+:\d+"
 OUTCOME = re.compile(
     rb"made \d+ \d+ \d+|live \d+|sdp \d+ (secure|plain) ([0-9a-f]+|-)|refused (\d+|-) [A-Za-z]+( [A-Za-z0-9-]+)*"
-    rb"|ended \d+ \d+ \d+ (bye|idle|rejected)|out \d+ " + ADDRESS + rb" ([0-9a-f]+|-)|drop \d+ [A-Za-z]+( \d+)*"
+    rb"|ended \d+ \d+ \d+ (bye|idle|rejected)|out \d+ " + ADDRESS + rb" ([0-9a-f]+|-)|(drop|lost) \d+ [A-Za-z]+( \d+)*"
+    rb"|(joined|parted) \d+ \d+|unjoined \d+ [A-Za-z]+( \d+)?"
 )
 
 
@@ -44,7 +46,7 @@ def corpus(seed):
     paths = [path for folder in ("interop/rows", "examples") for path in sorted((TOP / folder).glob("*.script"))]
     scripts = [(path.stem, path.read_bytes()) for path in paths]
     for number in range(len(paths)):
-        mixer = Mixer(f"hostile {seed} {number}", 1 + number % 2)
+        mixer = Mixer(f"hostile {seed} {number}", 1 + number % 2, ("replay", *COMMANDS)[number % 4])
         mixer.mixed(20)
         scripts.append((f"mixed {number}", mixer.script()))
     return scripts
@@ -122,7 +124,8 @@ def cases(count, seed):
 
 def words_of(number):
     """The words that play a script."""
-    return {3: ["migrate"], 7: ["replay", "--workers", "2"]}.get(number % 8, ["replay"])
+    others = {1: ["replay", "--mux"], 3: ["migrate"], 5: ["bridge"], 7: ["replay", "--workers", "2"]}
+    return others.get(number % 8, ["replay"])
 
 
 def played(program, script, words):
@@ -164,7 +167,7 @@ def main():
         if number and number % 1000 == 0:
             print(f"{number} played, {bad} bad, {sum(os.times()[:4]):.0f} s of processor", flush=True)
         words = words_of(number)
-        wanted = TOLD[words[0]](script)
+        wanted = TOLD["replay --mux" if "--mux" in words else words[0]](script)
         told = fault(played(program, script, words), wanted)
         ends[{0: "done", 2: "not in the grammar", None: "noise drawn"}[wanted.status]] += 1
         if told:

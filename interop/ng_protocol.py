@@ -355,6 +355,31 @@ def flags(program):
     return f"texts as the flags ask; {len(NOT_DONE)} flags refused"
 
 
+def one_port(program):
+    """With `--mux` a telephone that offers one port for RTP and RTCP gets it, unless a flag bars that; the other side is
+    offered two. Offers that go past the gateway keep it, and one without the line ends it."""
+    mux = "a=rtcp-mux"
+    with running(program, "--mux") as (_, server), sockets() as (at_secure, at_plain):
+        to_plain = lines_of(server.offers("one", "a", secure(mux, crypto=KEEPS), "RTP/AVP", rtcp_mux=["demux"]))
+        to_secure = lines_of(server.answers("one", "ab", plain()))
+        assert mux not in to_plain and to_secure[-1] == mux, (to_plain, to_secure)
+        report = bytes.fromhex("80c90001") + b"\1\2\3\4"
+        at_plain.sendto(report, (HOST, port_of(to_plain) + 1))
+        came, sender = at_secure.recvfrom(100)
+        assert (came[:8], sender[1], len(came)) == (report, port_of(to_secure), 22), (came, sender)
+        held = lines_of(server.offers("one", "a", secure("a=sendonly", mux, crypto=KEEPS), "RTP/AVP", to_tag="b"))
+        back = lines_of(server.answers("one", "ab", plain("a=recvonly")))
+        assert mux not in held and back[-1] == mux and crypto_in(back) == crypto_in(to_secure), (held, back)
+        lines_of(server.offers("one", "a", secure(), "RTP/AVP", to_tag="b"))
+        assert mux not in lines_of(server.answers("one", "ab", plain())), "an offer without the line"
+        lines_of(server.offers("two", "a", secure(mux), "RTP/AVP", rtcp_mux=["reject"]))
+        assert mux not in lines_of(server.answers("two", "ab", plain())), "rtcp-mux-reject"
+        lines_of(server.offers("three", "a", plain(mux), "RTP/SAVP", rtcp_mux=["accept", "offer"]))
+        assert mux in lines_of(server.answers("three", "ab", secure())), "offered by the plain side"
+        assert "rtcp-mux" in reason_of(server.offers("four", "a", secure(mux), "RTP/AVP", rtcp_mux=["require"]))
+    return "taken where it is offered, told to the other side never"
+
+
 NOT_DONE = (
     ({"transport_protocol": "UDP/TLS/RTP/SAVPF"}, "DTLS"),
     ({"transport_protocol": "RTP/AVP"}, "both sides would be plain"),
@@ -617,7 +642,7 @@ def daemon_dies(program):
 
 
 ALL = (
-    values, as_kamailio_asks, a_call, cookies, flags, offers_again, side_by_side, refusals, hostile, drains,
+    values, as_kamailio_asks, a_call, cookies, flags, one_port, offers_again, side_by_side, refusals, hostile, drains,
     gateway_dies, daemon_dies,
 )
 

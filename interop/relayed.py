@@ -5,7 +5,7 @@ moment is, a relay doesn't ask.
     interop/relayed.py PROGRAM
 
 The scripts are rows without ticks, each in the version that it is of, and those of version 1 in version 2 with moments
-that go on, go back and are the last ones of all. Nothing comes over the network. Needs the ports of the gateway, or a
+that go on, go back and are the last ones of all; and rows by `relay --mux`. Nothing comes over the network. Needs the ports of the gateway, or a
 network of its own where the system gives one.
 """
 import subprocess
@@ -14,7 +14,7 @@ import time
 from pathlib import Path
 
 from loopback import has_own_loopback
-from model.replay import Relayed
+from model import muxed, replay
 from usage import words_or_usage
 
 ROWS = Path(__file__).resolve().parent / "rows"
@@ -25,6 +25,12 @@ TIMED = (
 UNTIMED = (
     "calls-side-by-side", "offered-by-the-secure-side", "offered-by-the-plain-side", "manual-sources-opened",
     "manual-control-sealed", "every-port-in-each-state", "rejected-offers", "echoed-key", "idle-media",
+)
+# Those with legs whose RTP and RTCP share a port, by `--mux`.
+MUXED = (
+    "muxed-reports", "muxed-second-octets", "muxed-offers-of-the-plain-side", "muxed-lines-elsewhere", "muxed-media",
+    "muxed-offers-again", "muxed-legs-change-sides", "muxed-in-an-earlier-generation", "muxed-slots-used-again",
+    "muxed-texts-at-their-limits", "muxed-calls-side-by-side", "muxed-in-version-2",
 )
 MOMENTS = 0, 5, 60_000, 4, 2_085_978_495_999, 0
 
@@ -43,10 +49,11 @@ def without_ticks(script):
     return b"".join(line for line in script.splitlines(keepends=True) if not line.startswith(b"tick "))
 
 
-def difference(program, script):
+def difference(program, script, flags=()):
     """What is wrong with a run, or None."""
-    wanted = Relayed(script, int(1_000 * time.time()))
-    run = subprocess.run([program, "relay", "--turns", "1"], input=script, capture_output=True, timeout=60, check=False)
+    relayed = muxed.Relayed if flags else replay.Relayed
+    wanted, words = relayed(script, int(1_000 * time.time())), ["relay", "--turns", "1", *flags]
+    run = subprocess.run([program, *words], input=script, capture_output=True, timeout=60, check=False)
     if (run.stdout, run.returncode, run.stderr) == (wanted.octets(), wanted.status, wanted.said):
         return None
     told = zip(run.stdout.decode().splitlines(), wanted.octets().decode().splitlines())
@@ -58,14 +65,15 @@ def main():
     program, bad, count = words_or_usage(__doc__)[0], 0, 0
     has_own_loopback()
     read = lambda name: without_ticks((ROWS / f"{name}.script").read_bytes())
-    scripts = [(name, read(name)) for name in TIMED + UNTIMED]
-    scripts += [(f"{name} with moments", with_moments(read(name))) for name in UNTIMED]
-    for name, script in scripts:
+    scripts = [(name, read(name), ()) for name in TIMED + UNTIMED]
+    scripts += [(f"{name} with moments", with_moments(read(name)), ()) for name in UNTIMED]
+    scripts += [(name, read(name), ("--mux",)) for name in MUXED + UNTIMED]
+    for name, script, flags in scripts:
         count += 1
-        fault = difference(program, script)
+        fault = difference(program, script, flags)
         if fault:
             bad += 1
-            print(f"{name}: {fault}", flush=True)
+            print(f"{' '.join([name, *flags])}: {fault}", flush=True)
     print(f"relayed scripts: {count} of both versions, {bad} with a difference")
     return bool(bad)
 

@@ -1,8 +1,9 @@
 #!/usr/bin/env python3
 """Writes the scripts of `interop/rows/` and, beside each, what must be told of it: calls that are agreed by
 offers and answers, by crypto lines and by MIKEY messages, how they are renewed and how they end; calls that are
-keyed manually; and scripts of both versions. What must be told is worked out by hand in the parts beside this file; the
-model (`model/`), which decides every line by the rules alone, has to tell the same.
+keyed manually; scripts of both versions and captures; ports that RTP and RTCP share; and calls that are joined. What
+must be told is worked out by hand in the parts beside this file; the model (`model/`), which decides every line by the
+rules alone, has to tell the same.
 
 A script is played by `replay`, or by the command that a file NAME.words beside it names, then with the octets of
 NAME.pcap behind it where that is there; it is handled to its end, or ends as NAME.end says, with a status and a text on
@@ -13,10 +14,12 @@ from pathlib import Path
 import agreements
 import calls
 import captured
+import joined
 import lives
 import messages
 import policies
 import ports
+import shared
 import versions
 from model import TOLD
 
@@ -44,7 +47,8 @@ def files(name, script, told, command="replay", end=None, capture=b""):
 
 
 def rows():
-    for row in agreements.ALL + messages.ALL + policies.ALL + lives.ALL + ports.ALL + versions.ALL + captured.ALL:
+    parts = agreements, messages, policies, lives, ports, versions, captured, shared, joined
+    for row in (row for part in parts for row in part.ALL):
         s = row()
         yield from files(row.__name__.replace("_", "-"), s.text(), of_text(s.told), s.command, s.end, s.capture)
     for name, script, told in calls.scripts():

@@ -80,11 +80,12 @@ def can_bind(port):
 
 
 class Program:
-    """Starts the gateway. `program` is its path, or a list of words to stand before `relay`."""
+    """Starts the gateway. `program` is its path, or a list of words to stand before `relay`. Where it `muxes`, RTP and
+    RTCP may share a port towards a side that offers it."""
 
-    def __init__(self, program, turns=TURNS_MOST):
+    def __init__(self, program, turns=TURNS_MOST, muxes=False):
         words = program if isinstance(program, (list, tuple)) else [program]
-        self.words, self.turns = [*map(str, words), "relay", "--turns", str(turns)], turns
+        self.words, self.turns = [*map(str, words), "relay", "--turns", str(turns)] + ["--mux"] * muxes, turns
 
     def open(self, patience):
         """A new process. Raises Taken where another program has one of its ports."""

@@ -67,7 +67,7 @@ class Report:
         self.calls, self.texts, self.refusals = {}, [], []
         self.packets, self.octets = collections.Counter(), collections.Counter()
         self.drops, self.unsent = collections.Counter(), collections.Counter()
-        self.skips = collections.Counter()
+        self.skips, self.lost, self.pairs = collections.Counter(), collections.Counter(), []
         # Of each datagram in its order what became of it.
         self.datagrams = []
 
@@ -104,6 +104,20 @@ class Report:
     def take_drop(self, port, *cause):
         self.drops[leg_of(int(port)), cause[0]] += 1
         self.datagrams.append(Datagram(cause[0], int(port), None, b""))
+
+    def take_lost(self, port, *cause):
+        """Of a bridge: what was opened in the other call couldn't be sealed at this port."""
+        self.lost[leg_of(int(port)), cause[0]] += 1
+        self.datagrams.append(Datagram(cause[0], int(port), None, b""))
+
+    def take_joined(self, first, second):
+        self.pairs.append((first, second, "joined"))
+
+    def take_parted(self, first, second):
+        self.pairs.append((first, second, "parted"))
+
+    def take_unjoined(self, call, *cause):
+        self.pairs.append((call, "-", " ".join(cause)))
 
     def take_unsent(self, port, address):
         self.unsent[leg_of(int(port))] += 1
@@ -242,6 +256,13 @@ def told(report):
     title("Dropped datagrams")
     table(("slot", "medium", "came to", "cause", "datagrams"),
           [(*leg, cause, count) for (leg, cause), count in in_order(report.drops)])
+    if report.pairs:
+        title("Pairs of calls")
+        table(("call", "other call", "what became of it"), report.pairs)
+    if report.lost:
+        title("Packets that were lost between joined calls")
+        table(("slot", "medium", "leg", "cause", "packets"),
+              [(*leg, cause, count) for (leg, cause), count in in_order(report.lost)])
     if report.unsent:
         title("Packets that couldn't be sent")
         table(("slot", "medium", "leg", "packets"), [(*leg, count) for leg, count in in_order(report.unsent)])

@@ -9,6 +9,8 @@ import struct
 RATES = {0: 8_000, 3: 8_000, 4: 8_000, 5: 8_000, 6: 16_000, 7: 8_000, 8: 8_000, 9: 8_000, 10: 44_100, 11: 44_100,
          12: 8_000, 13: 8_000, 15: 8_000, 16: 11_025, 17: 22_050, 18: 8_000}
 MU_LAW, A_LAW = 0, 8
+# The second octets of RTCP, where it shares a port with RTP (RFC 5761, 4).
+RTCP = range(192, 224)
 G711_RATE = 8_000
 # A gap of more than ten seconds, or a step back of as much, is closed up, and so is what would be more than an hour of
 # silence in all: a time stamp says what its sender likes.
@@ -19,8 +21,9 @@ Packet = collections.namedtuple("Packet", "moment kind seq stamp source payload"
 
 
 def packet_of(moment, octets):
-    """The packet that octets are, or None where its head, its list of sources, its extension or its padding is cut."""
-    if len(octets) < 12 or octets[0] >> 6 != 2:
+    """The packet that octets are, or None where its head, its list of sources, its extension or its padding is cut, and of
+    RTCP, which may come by the same port."""
+    if len(octets) < 12 or octets[0] >> 6 != 2 or octets[1] in RTCP:
         return None
     begins, ends = 12 + 4 * (octets[0] & 15), len(octets)
     if octets[0] & 0x10:

@@ -126,10 +126,17 @@ def sentence(outcome, advises=False):
         return f"port {rest[0]} couldn't send to {rest[1]}: {worded('line', 'unsent', advises)}"
     if word == "ended":
         return f"call {rest[0]} has ended ({rest[3]}): {worded('line', 'ended ' + rest[3], advises)}"
+    if word == "lost":
+        cause = " ".join(rest[1:])
+        return f"at port {rest[0]} a packet of a joined call was lost ({cause}): {worded('drop', cause, advises)}"
+    if word == "unjoined":
+        cause = " ".join(rest[1:])
+        return f"call {rest[0]} isn't joined or parted ({cause}): {worded('line', 'unjoined ' + rest[1], advises)}"
     if word == "skip":
         return f"record {rest[0]} of the capture is skipped ({rest[1]}): {worded('line', 'skip ' + rest[1], advises)}"
     short = {"made": "call {} is there, in slot {}", "live": "call {} is live", "sdp": "a text of call {} for the {} side",
-             "out": "port {} put a packet out"}
+             "out": "port {} put a packet out", "joined": "calls {} and {} are joined",
+             "parted": "calls {} and {} are parted"}
     if word not in short:
         raise Missing(f"{word} is no outcome")
     return short[word].format(*rest) + "."

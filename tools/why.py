@@ -4,6 +4,7 @@ and in words.
 
     python3 tools/why.py call.script
     python3 tools/why.py --capture call.script     # one for the command `capture`, with the capture behind it or without
+    python3 tools/why.py --bridge calls.script     # one for the command `bridge`, whose lines join and part calls
     python3 tools/why.py --secure alice.sdp        # a text of the secure side by itself, as an offer
     python3 tools/why.py --plain bob.sdp
 
@@ -38,6 +39,8 @@ FIELDS = {
     "manual": "CALL SECURE PLAIN ROLLOVER WINDOW KEY KEY", "offer-secure": "CALL NOISE TEXT",
     "answer": "CALL NOISE TEXT", "reject": "CALL", "bye": "CALL",
 }
+# Those that a bridge alone takes.
+PAIRS = {"join": "CALL CALL", "part": "CALL"}
 OFFERS = {"sdes": "CALL sdes NOISE TEXT", "mikey": "CALL mikey PEER NOISE TEXT"}
 
 
@@ -196,6 +199,8 @@ def word_fault(line, word):
         return Fault("Word", 0, "the line is empty: a script has no empty lines")
     if line == CAPTURE:
         return Fault("Word", 0, "a capture follows: the command `capture` alone takes one (here: `--capture`)")
+    if word in PAIRS:
+        return Fault("Word", 0, f"`{word}` is a line of the command `bridge` alone (here: `--bridge`)")
     if line[0] in "#;" or line.startswith("//"):
         return Fault("Word", 0, "a comment: a script has none")
     if line in HEADERS:
@@ -220,14 +225,14 @@ def count_fault(line, word, names, given):
     return Fault("Word", at_, f"`{word}` has {len(names)} field(s), {' '.join(names)}; here are {len(given)}{hint}")
 
 
-def fields_of(line, version):
+def fields_of(line, version, is_bridged):
     """The first word, the names of its fields, and each field with its place; or the line's Word fault."""
     found, at = [], 0
     for text in line.split(" "):
         found.append((at, text))
         at += len(text) + 1
     word, given = found[0][1], found[1:]
-    names = DATAGRAMS[version] if word == "in" else FIELDS.get(word)
+    names = DATAGRAMS[version] if word == "in" else FIELDS.get(word) or is_bridged and PAIRS.get(word)
     if word == "offer-plain":
         kind = given[1][1] if len(given) > 1 else ""
         names = OFFERS.get(kind)
@@ -242,9 +247,9 @@ def fields_of(line, version):
     return word, names, given
 
 
-def values_of(line, version):
+def values_of(line, version, is_bridged):
     """The first word and what each field says. Raises the line's first fault."""
-    word, names, given = fields_of(line, version)
+    word, names, given = fields_of(line, version, is_bridged)
     values = []
     for place, (name, (at, text)) in enumerate(zip(names, given), 1):
         if name.islower():
@@ -260,8 +265,9 @@ def values_of(line, version):
     return word, values
 
 
-def read_line(place, octets_, version=1):
-    """What the line at a place from 1 on says in a version; of a header its version. Raises its first fault."""
+def read_line(place, octets_, version=1, is_bridged=False):
+    """What the line at a place from 1 on says in a version; of a header its version. Raises its first fault. Of a bridge
+    there are lines of pairs, too."""
     if len(octets_) > LINE_MOST:
         raise Fault("Length", LINE_MOST, f"the line has {len(octets_)} octets; {LINE_MOST} are the most")
     if not octets_.endswith(b"\n"):
@@ -273,11 +279,11 @@ def read_line(place, octets_, version=1):
         return "srtpgw", [("VERSION", HEADERS[line], line[-1])]
     if line.endswith("\r"):
         try:
-            values_of(line, version)
+            values_of(line, version, is_bridged)
         except Fault as fault:
             raise Fault(fault.name, len(line) - 1, "the line ends with a carriage return (CRLF): lines end with a line "
                         "feed alone") from None
-    return values_of(line, version)
+    return values_of(line, version, is_bridged)
 
 
 # ---- what the lines say to each other
@@ -413,7 +419,7 @@ def at(line, column):
 class Why:
     """What is to be said of a script: remarks by line, and the first fault."""
 
-    def __init__(self, octets_, is_captured=False):
+    def __init__(self, octets_, is_captured=False, is_bridged=False):
         self.remarks, self.fault, self.further, self.book = [], None, 0, Book()
         begun, version = 0, 1
         for place, line in enumerate(re.findall(rb"[^\n]*\n|[^\n]+", octets_), 1):
@@ -423,7 +429,7 @@ class Why:
             try:
                 if begun > SCRIPT_MOST:
                     raise Fault("Length", SCRIPT_MOST - begun + len(line), f"the script has more than {SCRIPT_MOST} octets")
-                word, values = read_line(place, line, version)
+                word, values = read_line(place, line, version, is_bridged)
                 if word == "srtpgw":
                     version = values[0][1]
                 if not self.fault:
@@ -450,6 +456,7 @@ def words():
     what = parser.add_mutually_exclusive_group(required=True)
     what.add_argument("script", nargs="?", help="a script, or - for standard input")
     parser.add_argument("--capture", action="store_true", help="a line `capture` ends the script")
+    parser.add_argument("--bridge", action="store_true", help="the script may have lines `join` and `part`")
     what.add_argument("--secure", metavar="SDP", help="a session description of the secure side, as an offer")
     what.add_argument("--plain", metavar="SDP", help="one of the plain side")
     return parser
@@ -464,7 +471,10 @@ def main():
     except OSError as fault:
         print(f"why.py: {fault}", file=sys.stderr)
         sys.exit(2)
-    said = Why(octets_, given.capture).lines() if given.script else told(looked_at(octets_, SECURE if given.secure else PLAIN))
+    if given.script:
+        said = Why(octets_, given.capture, given.bridge).lines()
+    else:
+        said = told(looked_at(octets_, SECURE if given.secure else PLAIN))
     for line in said:
         print(line)
     sys.exit(1 if said else 0)

@@ -21,7 +21,7 @@ import time
 
 from ends import program, require_free
 from descriptions import carried, looked_at
-from driver import Driver, Gone, Refused, Taken
+from driver import Driver, Gone, Program, Refused, Taken
 
 HOME = "127.0.0.1"
 PORTS = {"secure": 5070, "plain": 5072}
@@ -79,10 +79,11 @@ class Dialog:
 
 
 class Server:
-    """Its `log` has a line for each offer; `told` is given each one, too."""
+    """Its `log` has a line for each offer; `told` is given each one, too. `muxes` says that the gateway takes one port for
+    RTP and RTCP."""
 
-    def __init__(self, driver, peers, told=lambda line: None):
-        self.driver, self.peers, self.told = driver, peers, told
+    def __init__(self, driver, peers, told=lambda line: None, muxes=False):
+        self.driver, self.peers, self.told, self.muxes = driver, peers, told, muxes
         self.sockets = {side: socket.socket(socket.AF_INET, socket.SOCK_DGRAM) for side in PORTS}
         for side, port in PORTS.items():
             self.sockets[side].bind((HOME, port))
@@ -137,7 +138,7 @@ class Server:
         self.reply(side, request, 100, "Trying")
         if near.waiting or far.waiting:
             return self.reply(side, request, 491, "Request Pending")
-        near.passes = bool(near.said) and looked_at(request.body) == looked_at(near.said)
+        near.passes = bool(near.said) and looked_at(request.body, self.muxes) == looked_at(near.said, self.muxes)
         try:
             text = carried(request.body, far.given) if near.passes else self.offer(call, side, request.body)
         except (Refused, Gone) as fault:
@@ -291,17 +292,19 @@ def main():
     words.add_argument("--secure", type=address, required=True, help="the telephone on the secure side")
     words.add_argument("--plain", type=address, required=True, help="the telephone on the plain side")
     words.add_argument("--seconds", type=float, default=3_600, help="when it ends by itself")
+    words.add_argument("--mux", action="store_true", help="a telephone that offers one port for RTP and RTCP gets it")
     words.add_argument("--calls", type=int, default=0, help="that it ends once so many calls have ended; 0 for never")
     given = words.parse_args()
     require_free(*PORTS.values())
     try:
         # The next process follows where one ends.
-        driver = Driver(program(), restarts=True)
+        driver = Driver(Program(program(), muxes=given.mux), restarts=True)
     except (Gone, Taken, OSError) as fault:
         print(f"the gateway can't be started: {fault}", file=sys.stderr)
         return 1
     end = time.monotonic() + given.seconds
-    server = Server(driver, {"secure": given.secure, "plain": given.plain}, lambda line: print(line, flush=True))
+    peers = {"secure": given.secure, "plain": given.plain}
+    server = Server(driver, peers, lambda line: print(line, flush=True), given.mux)
     print(f"telephones of the secure side call {HOME}:{PORTS['secure']}, of the plain side {HOME}:{PORTS['plain']};"
           f" until {given.seconds:g} seconds have passed, or Ctrl-C", flush=True)
     with contextlib.suppress(KeyboardInterrupt):

@@ -7,10 +7,10 @@ class Told:
     """What is written, by line of the script that it comes of; the status and the text of its end. Where a line needs
     octets that the system draws, what is told ends before it, and the status is None."""
 
-    reader = scripts.Reader
+    reader, world_of = scripts.Reader, World
 
     def __init__(self, script):
-        self.by_line, self.status, self.said, self.world = [], 0, b"", World()
+        self.by_line, self.status, self.said, self.world = [], 0, b"", self.world_of()
         lines = self.reader(script)
         try:
             for _, word, values in lines:

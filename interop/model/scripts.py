@@ -11,6 +11,8 @@ SCRIPT_MOST = 2**30
 HEADERS = {b"srtpgw 1": 1, b"srtpgw 2": 2}
 # Fields behind the first word; those of `offer-plain` hang on its second one, those of `in` on the version.
 FIELDS = {b"tick": 1, b"psk": 3, b"manual": 7, b"offer-secure": 3, b"answer": 3, b"reject": 1, b"bye": 1}
+# Those that join and part calls, which a bridge alone takes.
+PAIRS = {b"join": 2, b"part": 1}
 
 
 class Fault(Exception):
@@ -96,7 +98,7 @@ def datagram(fields, version):
     return "at" if moment else "in", *moment, *values
 
 
-def read(place, line, version=1, at=0):
+def read(place, line, version=1, at=0, has_pairs=False):
     """What the line at a place from 1 on, which begins at an octet of the script, says in a version: its word and its
     fields' values. A datagram without a moment of its own is `in`, one with it `at`."""
     if len(line) > LINE_MOST or at + len(line) > SCRIPT_MOST:
@@ -118,6 +120,8 @@ def read(place, line, version=1, at=0):
         raise Fault("Word")
     if word == b"in":
         return datagram(fields, version)
+    if has_pairs and len(fields) == PAIRS.get(word):
+        return word.decode(), *map(call, fields)
     if len(fields) != FIELDS.get(word):
         raise Fault("Word")
     if word == b"tick":
@@ -146,6 +150,8 @@ class Reader:
     """The lines of a script up to the first outside the grammar, each as itself, its word and its values. Behind them
     `ended` is that line and its fault, or None, and `at` the octets that were read."""
 
+    has_pairs = False
+
     def __init__(self, script):
         self.script, self.at, self.place, self.version, self.ended = script, 0, 0, 1, None
 
@@ -155,7 +161,7 @@ class Reader:
             if self.is_end(line):
                 return
             try:
-                word, *values = read(self.place, line, self.version, self.at)
+                word, *values = read(self.place, line, self.version, self.at, self.has_pairs)
                 self.accept(word, *values)
             except Fault as fault:
                 self.ended = f"srtpgw: script line {self.place}: {fault}\n".encode()

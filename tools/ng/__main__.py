@@ -20,7 +20,7 @@ sys.path.insert(0, str(Path(__file__).resolve().parents[1]))
 
 import sentences  # noqa: E402
 from ng.calls import Book, DRAINING  # noqa: E402
-from driver import Bounds, Driver, Gone, Taken  # noqa: E402
+from driver import Bounds, Driver, Gone, Program, Taken  # noqa: E402
 from ng.server import Server, WORKERS  # noqa: E402
 from ng.telling import Kept, Telling, dialog  # noqa: E402
 from watch import Arrived  # noqa: E402
@@ -51,14 +51,14 @@ def main():
 def begun(given, log, telling):
     """The book of a gateway that has been started, and which tells of what a daemon before it has left."""
     outcomes = open(given.outcomes, "wb") if given.outcomes else None
-    driver = Driver(given.program, restarts=True, warn=log, bounds=Bounds(**dict(given.bound)), log=outcomes,
+    driver = Driver(Program(given.program, muxes=given.mux), restarts=True, warn=log, bounds=Bounds(**dict(given.bound)), log=outcomes,
                     step=given.step)
     kept = Kept(given.calls, log)
     for told in kept.left():
         log(f"{told.id[:128]!r} has ended with the daemon before this one")
         telling.tell(told, "gone")
     kept.keep(lambda: [])
-    book = Book(driver, {"secure": given.secure, "plain": given.plain}, dict(given.interface), log)
+    book = Book(driver, {"secure": given.secure, "plain": given.plain}, dict(given.interface), log, given.mux)
     book.tell, book.keep = lambda call, why: telling.tell(dialog(call), why), kept.keep
     if given.counters:
         book.arrived = Arrived()
@@ -108,6 +108,8 @@ def words():
                        help="and those of the plain side (127.0.0.1)")
     given.add_argument("--interface", type=named, action="append", default=[], metavar="NAME=ADDRESS",
                        help="an address by the name that the flag `direction` gives it")
+    given.add_argument("--mux", action="store_true",
+                       help="a telephone that offers one port for RTP and RTCP gets it (relay --mux)")
     given.add_argument("--tell", metavar="URL",
                        help="Kamailio's JSON-RPC over HTTP, which is told of calls that have ended by themselves")
     given.add_argument("--calls", metavar="FILE",

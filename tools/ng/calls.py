@@ -7,6 +7,7 @@ nothing which the gateway looks at goes past it (tools/descriptions.py).
 """
 
 import collections
+import functools
 import itertools
 import threading
 import time
@@ -16,7 +17,8 @@ from driver import Refused
 from gateway import Gone
 from ng.request import Bad, PROFILES, text_of
 from ng.texts import (
-    NOWHERE, addressed, addresses, has_keys, holds, profile, profiled, profiles, secured, shown, without_suites,
+    NOWHERE, addressed, addresses, has_keys, holds, profile, profiled, profiles, secured, shown, unmuxed,
+    without_suites,
 )
 
 FAR = {"secure": "plain", "plain": "secure"}
@@ -57,11 +59,12 @@ class Call:
 
 class Book:
     """`addresses` has by side the address that its telephones reach, `interfaces` more of them by name. `log` is given
-    a line for each call. To be set: `tell`, which is given each call that has ended by itself, and why; `arrived`,
+    a line for each call; `muxes` says that the gateway takes one port for RTP and RTCP. To be set: `tell`, which is given each call that has ended by itself, and why; `arrived`,
     which answers packets and octets by port; `keep`, which is given `all` where a call is live, or there no more."""
 
-    def __init__(self, driver, addresses, interfaces, log):
+    def __init__(self, driver, addresses, interfaces, log, muxes=False):
         self.driver, self.addresses, self.interfaces, self.log = driver, addresses, interfaces, log
+        self.looked_at = functools.partial(looked_at, muxes=muxes)
         self.tell, self.arrived, self.keep = lambda call, why: None, lambda ports: {}, lambda calls: None
         self.lock = threading.RLock()
         self.by_id, self.by_number = {}, {}
@@ -78,7 +81,7 @@ class Book:
         side = side_of(request, call)
         text = taken(request, call, side)
         known = call.open
-        if known and known.tag == request.from_tag and looked_at(text) == looked_at(known.text):
+        if known and known.tag == request.from_tag and self.looked_at(text) == self.looked_at(known.text):
             call.open = known._replace(text=text, given=carried(text, known.given), nowhere=holds(request.sdp))
         else:
             if known:
@@ -117,7 +120,7 @@ class Book:
 
     def opened(self, request, call, side, text):
         """Makes the offer, through the gateway or past it."""
-        passes = call.live and looked_at(text) == looked_at(call.said[side])
+        passes = call.live and self.looked_at(text) == self.looked_at(call.said[side])
         given = carried(text, call.given[FAR[side]]) if passes else self.signalled(call, side, text)
         if side == "plain" and not passes:
             try:
@@ -311,6 +314,7 @@ def side_of(request, call):
 def taken(request, call, side):
     """The text as the gateway is to have it."""
     text = addressed(request.sdp, request.source(), call.known_address(side))
+    text = unmuxed(text) if request.rejects_mux() else text
     return secured(text) if side == "secure" and has_keys(text) else text
 
 

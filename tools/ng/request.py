@@ -92,8 +92,12 @@ class Request:
         if self.octets(b"ICE").startswith(b"force"):
             return "ICE=force: ICE is not supported; the gateway leaves it out of what it hands on"
         if b"require" in self.words(b"rtcp-mux"):
-            return "rtcp-mux-require: RTP and RTCP have ports of their own"
+            return "rtcp-mux-require: the gateway doesn't offer that RTP and RTCP share a port"
         return None
+
+    def rejects_mux(self):
+        """Whether a telephone that offers that RTP and RTCP share a port is to have two."""
+        return b"reject" in self.words(b"rtcp-mux")
 
     def suites(self):
         """Whether the name of a suite may be offered to the secure side, by the flags SDES-no-.. and SDES-only-.."""

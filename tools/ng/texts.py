@@ -6,7 +6,7 @@ out names what the other side is to see: an address that it reaches, and the pro
 
 import re
 
-from descriptions import HOME, parts
+from descriptions import HOME, MUX, parts
 from ng.request import Bad, PROFILES
 
 # A telephone of the older kind says by this address that it holds (RFC 3264, 8.4).
@@ -81,6 +81,11 @@ def profiled(text, protos):
 def secured(text):
     """The text of a telephone that encrypts though its profile doesn't say so, as the gateway takes it."""
     return profiled(text, [SECURED.get(proto, proto) for proto in profiles(text)])
+
+
+def unmuxed(text):
+    """The text without the lines by which RTP and RTCP share a port."""
+    return printed([[line for line in part if line != MUX] for part in parts(text)])
 
 
 def shown(text, address, replaces_origin, nowhere):

@@ -197,6 +197,10 @@ def covered(folder):
     check("octets that are no text are told by their numbers",
           "caf\\xe9" in text and "\\x1b[2J" in text and "\x1b" not in text)
     check("--keys shows them", tool("outcomes.py", "--keys", stdin=line)[1].decode().count(SECRET) == 6)
+    pairs = b"joined 1 2\nlost 20018 TooLong\nparted 1 2\nunjoined 1 Joined 2\n"
+    status, out, _ = tool("outcomes.py", stdin=pairs)
+    told = b"1     2           joined", b"1     -           Joined 2", b"0       plain RTP  TooLong"
+    check("pairs and what was lost between calls are told", status == 0 and all(line in out for line in told))
     status, out, _ = tool("outcomes.py", stdin=b"skip 3 Fragment\nskip 4 Fragment\nskip 9 CutShort\n")
     check("skipped records are counted", status == 0 and b"CutShort  1\nFragment  2\n" in out)
     for line in (b"made 1\n", b"\xff\n"):

@@ -218,13 +218,15 @@ def check_captures():
 
 
 def check_rows():
-    """Every script of a replay whose outcomes are worked out by hand."""
+    """Every script of a replay, with one port for RTP and RTCP or not, and of a bridge, whose outcomes are worked out by
+    hand."""
     bad, count = [], 0
     for script in sorted([*ROOT.glob("interop/rows/*.script"), *ROOT.glob("examples/*.script")]):
-        end = script.with_suffix(".end")
-        if script.with_suffix(".words").exists():
+        end, words = (script.with_suffix(suffix) for suffix in (".end", ".words"))
+        command = words.read_text().split()[0] if words.exists() else "replay"
+        if command not in ("replay", "bridge"):
             continue
-        why = Why(script.read_bytes())
+        why = Why(script.read_bytes(), is_bridged=command == "bridge")
         told = [f"{call} {cause}" for _, call, cause in why.book.refused if cause.split()[0] in OF_TEXTS]
         lines = [line[8:] for line in script.with_suffix(".out").read_text().splitlines() if line.startswith("refused ")]
         wanted = [line for line in lines if line.split()[1] in OF_TEXTS]

@@ -15,6 +15,9 @@ from sentences import Missing, advice, meaning, page, refusal, sentence, status 
 FORMATS = (TOOLS.parent / "docs/formats.md").read_text(encoding="utf-8")
 
 
+PAIRS = FORMATS.split("## Joined calls\n")[1].split("\n## ")[0].replace("CALL", "2")
+
+
 def cells(heading, column):
     """The cells of a column of the first table behind a heading."""
     lines = FORMATS.split(f"# {heading}\n")[1].split("\n")
@@ -45,7 +48,8 @@ def main():
         bad += [f"status {number}"] if "says nothing" in status(number) else []
     for outcome in ("ended 1 0 1 idle", "ended 1 0 1 bye", "ended 1 0 1 rejected", "unsent 20000 1.2.3.4:5",
                     "drop 20000 KeySpent 1 2", "refused - TickBack 5", "refused 1 Psk 255 Skew -1 2",
-                    "refused 1 Mikey 0 12 Cut"):
+                    "refused 1 Mikey 0 12 Cut", "lost 20018 TooLong", "lost 20018 KeySpent 1 2", "joined 1 2", "parted 1 2",
+                    *(f"unjoined 1 {cause}" for cause in re.findall(r"\| \d \| ([A-Z]\w+(?: 2)?) \|", PAIRS))):
         bad += [outcome] if "says nothing" in sentence(outcome, advises=True) else []
     bad += [cause for cause in ("TooLong", "Field: a number") if "says nothing" in refusal(cause)]
     if refusal("Sdes 1 NoLine") != f"refused (Sdes 1 NoLine) in medium 1: {page()['fault', 'Sdes NoLine'][0]}.":
