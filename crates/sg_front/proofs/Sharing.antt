@@ -1,5 +1,5 @@
 -- What a table gives, as a front tells it whose legs may share their ports.
-use Rattle.std.proofs.Common.{◌≡◌, ℕ, Bool, true, false, List, [], ◌∷◌, ◌++◌, map, Option, Some, None, refl, sym, ap, ◌∙◌, subst}
+use Rattle.std.proofs.Common.{◌≡◌, ℕ, Bool, true, false, cond, List, [], ◌∷◌, ◌++◌, map, take, drop, length, Option, Some, None, refl, sym, ap, ◌∙◌, subst}
 use Rattle.std.proofs.lemmas.List.{append-nil}
 use Rattle.sg_base.specs.declared.addresses.Address.{Address}
 use Rattle.sg_call.specs.declared.handled.End.{End}
@@ -9,21 +9,23 @@ use Rattle.sg_front.proofs.Runs.{unshared_after, unshared_told}
 use Rattle.sg_front.specs.Parts.{departed, shared, sharing}
 use Rattle.sg_front.specs.States.{FrontStandsFor, FrontValue, IsBatched, IsHandled, IsTold, State, state_after, told_from, unshared}
 use Rattle.sg_gateway.specs.Datagrams.{Given, Drops, Puts, arrived_at, arrived_in, given_to}
-use Rattle.sg_gateway.specs.Events.{outcomes_from}
+use Rattle.sg_gateway.specs.Events.{events_of_signal, outcomes_from, signal_lacks_noise, signal_of}
 use Rattle.sg_gateway.specs.Octets.{Octets, as_octets}
 use Rattle.sg_gateway.specs.Ports.{call_at}
 use Rattle.sg_gateway.specs.Runs.{world_after}
-use Rattle.sg_gateway.specs.Signals.{Signal}
+use Rattle.sg_gateway.specs.Signals.{Signal, Tick, Psk, Manual, Offered, Answered, Reject, Bye}
 use Rattle.sg_gateway.specs.Step.{Event, Datagram, Signalled, step}
 use Rattle.sg_gateway.specs.World.{Call, World}
+use Rattle.sg_lines.specs.declared.lines.Signal as lines
 use Rattle.sg_mux.specs.Legs.{arrived_port}
 use Rattle.sg_mux.specs.Muxed.{nobody, signalled}
 use Rattle.sg_mux.specs.Via.{told_at}
 use Rattle.sg_mux.specs.declared.known.Known.{Known}
 use Rattle.sg_outcome.specs.declared.outcomes.Outcome.{Outcome}
-use Rattle.sg_table.specs.Handling as tables
+use Rattle.sg_table.specs.Handling as handling
 use Rattle.sg_table.specs.Handling.{IsBack, outcome_by}
 use Rattle.sg_table.specs.Standing.{TableStandsFor}
+use Rattle.sg_table.specs.Telling as tables
 use Rattle.sg_table.specs.Values.{TableValue}
 
 -- ---- the state of a front
@@ -53,6 +55,37 @@ shared_step calls w signal table told is stands =
     subst (λ (told : List Outcome). IsTold (signalled signal calls told).told (sharing table (signalled signal calls told).calls) (shared w calls) (Signalled signal ∷ [])) (sym same)
     (sym (append-nil (signalled signal calls (step w (Signalled signal)).outcomes).told), record { muxes = refl; calls = refl; world = stands })
 
+own_first : {X : Type 0} (xs ys : List X) → take (length xs) (xs ++ ys) ≡ xs
+own_first [] ys = refl
+own_first {X} (x ∷ xs) ys = ap (λ (l : List X). x ∷ l) (own_first xs ys)
+
+told_count : (signal : Signal) (calls : List (Option Known)) (os : List Outcome) → length (signalled signal calls os).told ≡ length os
+told_count (Answered id noise text) calls [] = refl
+told_count (Answered id noise text) calls (o ∷ os) = refl
+told_count (Offered id way noise text) calls os = refl
+told_count (Tick now) calls os = refl
+told_count (Psk pair) calls os = refl
+told_count (Manual h) calls os = refl
+told_count (Reject id) calls os = refl
+told_count (Bye id) calls os = refl
+
+-- the same of a line's signal, where the mux has changed outcomes in their place
+pub line_step : (calls now : List (Option Known)) (w : World) (line : lines.Signal) (table : TableValue) (told slice outs : List Outcome) → signal_lacks_noise line ≡ false
+    → tables.IsTold told table w (events_of_signal line) → slice ≡ told → now ≡ (signalled (signal_of line) calls slice).calls → outs ≡ (signalled (signal_of line) calls slice).told
+    → IsTold (take (length told) (outs ++ drop (length outs) told)) (sharing table now) (shared w calls) (events_of_signal line)
+line_step calls now w line table told slice outs noise is same now_is outs_is =
+    let signal : Signal = signal_of line in
+    let events : events_of_signal line ≡ Signalled signal ∷ [] = ap (λ lacks. cond lacks [] (Signalled signal ∷ [])) noise in
+    let table_is = subst (λ (es : List Event). tables.IsTold told table w es) events is in
+    let outs_are : outs ≡ (signalled signal calls told).told = outs_is ∙ ap (λ (os : List Outcome). (signalled signal calls os).told) same in
+    let in_place : take (length told) (outs ++ drop (length outs) told) ≡ (signalled signal calls told).told =
+    ap (λ n. take n (outs ++ drop (length outs) told)) (sym (ap (λ (os : List Outcome). length os) outs_are ∙ told_count signal calls told)) ∙ own_first outs (drop (length outs) told) ∙ outs_are in
+    subst (IsTold (take (length told) (outs ++ drop (length outs) told)) (sharing table now) (shared w calls)) (sym events)
+    (subst (λ (k : List (Option Known)). IsTold (take (length told) (outs ++ drop (length outs) told)) (sharing table k) (shared w calls) (Signalled signal ∷ []))
+    (sym (now_is ∙ ap (λ (os : List Outcome). (signalled signal calls os).calls) same))
+    (subst (λ (os : List Outcome). IsTold os (sharing table (signalled signal calls told).calls) (shared w calls) (Signalled signal ∷ [])) (sym in_place)
+    (shared_step calls w signal table told table_is.0 table_is.1)))
+
 -- ---- a datagram
 
 pub end_told : (calls : List (Option Known)) (port at : ℕ) (octets : List ℕ) (end : End) → outcome_by port octets (departed calls end) ≡ told_at calls port (outcome_by at octets end)
@@ -64,7 +97,7 @@ still_back calls octets pad (ends.Out by to) back = tt
 still_back calls octets pad (ends.Dropped cause) back = back
 
 pub shared_datagram : (calls : List (Option Known)) (w : World) (port at : ℕ) (from : Address) (octets : List ℕ) (handled : Handled) (table : TableValue)
-    → at ≡ arrived_port calls port (as_octets octets).items → tables.IsHandled w at from octets handled table
+    → at ≡ arrived_port calls port (as_octets octets).items → handling.IsHandled w at from octets handled table
     → IsHandled (shared w calls) port from octets (record { pad = handled.pad; end = departed calls handled.end }) (sharing table calls)
 shared_datagram calls w port at from octets handled table at_is is =
     let comes : ℕ = arrived_port calls port (as_octets octets).items in
