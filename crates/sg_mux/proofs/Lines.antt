@@ -1,11 +1,11 @@
 -- Which lines a text has that is told with lines of RFC 5761.
 use Rattle.std.proofs.Common.{◌≡◌, inl, inr, ℕ, zero, suc, ◌<◌, Bool, true, false, cond, ltb, List, [], ◌∷◌, ◌++◌, append_assoc, length, Result, Ok, Err, refl, sym, ap, ◌∙◌, subst, arith}
 use Rattle.std.specs.Prelude.{◌&&◌, ◌⊎◌}
-use Rattle.std.specs.List.{AllByRecursion, Any, Contains, count_by, flat_map, onto_first, slice_split}
+use Rattle.std.specs.List.{AllByRecursion, Any, Contains, flat_map, onto_first, slice_split}
 use Rattle.std.proofs.lemmas.List.Elements.{All-contains_itself, All-from_recursion, Contains-append_left, Contains-append_right, recursion_from_All}
 use Rattle.std.proofs.lemmas.List.Splits.{length-slice_split, slice_split-cons_yes}
 use Rattle.sg_session.proofs.Lists.{each_append, each_flat_map, each_weaker}
-use Rattle.sg_sdp.specs.Descriptions.{IsSdp, IsShort, Spells, all_lines, ended, medium_line, medium_lines}
+use Rattle.sg_sdp.specs.Descriptions.{IsSdp, IsShort, Spells, all_lines, ended, medium_lines}
 use Rattle.sg_sdp.specs.Faults.{Fault}
 use Rattle.sg_sdp.specs.Parts.{with_line_at, with_media_line}
 use Rattle.sg_sdp.specs.Reading.{description_of, description_within}

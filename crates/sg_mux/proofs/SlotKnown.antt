@@ -1,5 +1,5 @@
 -- What is known of a slot's call after a run is what the table told of it.
-use Rattle.std.proofs.Common.{◌≡◌, ◌≢◌, ℕ, ◌<◌, Bool, true, false, cond, eqb, List, [], ◌∷◌, ◌++◌, map, set, length, get_or, Option, Some, None, Result, Ok, Err, refl, sym, ap, ◌∙◌, arith}
+use Rattle.std.proofs.Common.{◌≡◌, ℕ, ◌<◌, Bool, true, false, cond, eqb, List, [], ◌∷◌, map, set, length, get_or, Option, Some, None, Result, Ok, Err, refl, sym, ap, ◌∙◌, arith}
 use Rattle.std.specs.List.{flat_map}
 use Rattle.std.proofs.lemmas.Bool.{eq-eqb, eqb-true, false≢true}
 use Rattle.std.proofs.lemmas.List.{get_or-map, get_or-replicate, get_or-set_other, get_or-set_same, length-map, length-set}
@@ -14,7 +14,7 @@ use Rattle.sg_gateway.specs.Ports.{call_at}
 use Rattle.sg_gateway.specs.Runs.{turn_of, turns_from}
 use Rattle.sg_gateway.specs.Signals as signals
 use Rattle.sg_gateway.specs.Signals.{Signal, Tick, Psk, Manual, Offered, Answered, Reject, Bye, in_old, offering_side, tells_answer}
-use Rattle.sg_gateway.specs.Step.{Event, Signalled, Datagram, step}
+use Rattle.sg_gateway.specs.Step.{Event, Signalled, Datagram}
 use Rattle.sg_gateway.specs.World.{Call, World, call_of, empty}
 use Rattle.sg_outcome.specs.declared.outcomes.Outcome.{Outcome}
 use Rattle.sg_outcome.specs.declared.outcomes.Outcome.TheVariants.{Made, Live, Sdp, Refused, Ended, Out, Dropped, Unsent}

@@ -1,4 +1,4 @@
-use Rattle.std.proofs.Common.{◌≡◌, ◌∙◌, true, sym, ap, subst}
+use Rattle.std.proofs.Common.{◌≡◌, true, sym, subst}
 use Rattle.std.specs.Prelude.{◌↔◌}
 use Rattle.sg_mux.proofs.Latest.{decided}
 use Rattle.sg_mux.proofs.SlotKnown.{known_of}

@@ -1,0 +1,126 @@
+-- What a table gives, as a front tells it whose legs may share their ports.
+use Rattle.std.proofs.Common.{◌≡◌, ℕ, Bool, true, false, cond, List, [], ◌∷◌, ◌++◌, map, take, drop, length, Option, Some, None, refl, sym, ap, ◌∙◌, subst}
+use Rattle.std.proofs.lemmas.List.{append-nil}
+use Rattle.sg_base.specs.declared.addresses.Address.{Address}
+use Rattle.sg_call.specs.declared.handled.End.{End}
+use Rattle.sg_call.specs.declared.handled.End.TheVariants as ends
+use Rattle.sg_call.specs.declared.handled.Handled.{Handled}
+use Rattle.sg_front.proofs.Runs.{unshared_after, unshared_told}
+use Rattle.sg_front.specs.Parts.{departed, shared, sharing}
+use Rattle.sg_front.specs.States.{FrontStandsFor, FrontValue, IsBatched, IsHandled, IsTold, State, state_after, told_from, unshared}
+use Rattle.sg_gateway.specs.Datagrams.{Given, Drops, Puts, arrived_at, arrived_in, given_to}
+use Rattle.sg_gateway.specs.Events.{events_of_signal, outcomes_from, signal_lacks_noise, signal_of}
+use Rattle.sg_gateway.specs.Octets.{Octets, as_octets}
+use Rattle.sg_gateway.specs.Ports.{call_at}
+use Rattle.sg_gateway.specs.Runs.{world_after}
+use Rattle.sg_gateway.specs.Signals.{Signal, Tick, Psk, Manual, Offered, Answered, Reject, Bye}
+use Rattle.sg_gateway.specs.Step.{Event, Datagram, Signalled, step}
+use Rattle.sg_gateway.specs.World.{Call, World}
+use Rattle.sg_lines.specs.declared.lines.Signal as lines
+use Rattle.sg_mux.specs.Legs.{arrived_port}
+use Rattle.sg_mux.specs.Muxed.{nobody, signalled}
+use Rattle.sg_mux.specs.Via.{told_at}
+use Rattle.sg_mux.specs.declared.known.Known.{Known}
+use Rattle.sg_outcome.specs.declared.outcomes.Outcome.{Outcome}
+use Rattle.sg_table.specs.Handling as handling
+use Rattle.sg_table.specs.Handling.{IsBack, outcome_by}
+use Rattle.sg_table.specs.Standing.{TableStandsFor}
+use Rattle.sg_table.specs.Telling as tables
+use Rattle.sg_table.specs.Values.{TableValue}
+
+-- ---- the state of a front
+
+pub as_shared : (table : TableValue) (calls : List (Option Known)) (s : State) → FrontStandsFor (sharing table calls) s → s ≡ shared s.world calls
+as_shared table calls s stands = λ i. record { muxes = stands.muxes i; world = s.world; calls = stands.calls i }
+
+pub as_unshared : (table : TableValue) (s : State) → FrontStandsFor (record { table = table; muxes = false; calls = nobody }) s → s ≡ unshared s.world
+as_unshared table s stands = λ i. record { muxes = stands.muxes i; world = s.world; calls = stands.calls i }
+
+-- ---- where no leg may share its ports
+
+pub unshared_step : (table : TableValue) (w : World) (told : List Outcome) (es : List Event) → told ≡ outcomes_from w es → TableStandsFor table (world_after w es)
+    → IsTold told (record { table = table; muxes = false; calls = nobody }) (unshared w) es
+unshared_step table w told es is stands = (
+  is ∙ sym (unshared_told w es),
+  subst (FrontStandsFor (record { table = table; muxes = false; calls = nobody })) (sym (unshared_after w es)) (record { muxes = refl; calls = refl; world = stands }),
+)
+
+-- ---- a signal
+
+pub shared_step : (calls : List (Option Known)) (w : World) (signal : Signal) (table : TableValue) (told : List Outcome) → told ≡ outcomes_from w (Signalled signal ∷ [])
+    → TableStandsFor table (world_after w (Signalled signal ∷ []))
+    → IsTold (signalled signal calls told).told (sharing table (signalled signal calls told).calls) (shared w calls) (Signalled signal ∷ [])
+shared_step calls w signal table told is stands =
+    let same : told ≡ (step w (Signalled signal)).outcomes = is ∙ append-nil (step w (Signalled signal)).outcomes in
+    subst (λ (told : List Outcome). IsTold (signalled signal calls told).told (sharing table (signalled signal calls told).calls) (shared w calls) (Signalled signal ∷ [])) (sym same)
+    (sym (append-nil (signalled signal calls (step w (Signalled signal)).outcomes).told), record { muxes = refl; calls = refl; world = stands })
+
+own_first : {X : Type 0} (xs ys : List X) → take (length xs) (xs ++ ys) ≡ xs
+own_first [] ys = refl
+own_first {X} (x ∷ xs) ys = ap (λ (l : List X). x ∷ l) (own_first xs ys)
+
+told_count : (signal : Signal) (calls : List (Option Known)) (os : List Outcome) → length (signalled signal calls os).told ≡ length os
+told_count (Answered id noise text) calls [] = refl
+told_count (Answered id noise text) calls (o ∷ os) = refl
+told_count (Offered id way noise text) calls os = refl
+told_count (Tick now) calls os = refl
+told_count (Psk pair) calls os = refl
+told_count (Manual h) calls os = refl
+told_count (Reject id) calls os = refl
+told_count (Bye id) calls os = refl
+
+-- the same of a line's signal, where the mux has changed outcomes in their place
+pub line_step : (calls now : List (Option Known)) (w : World) (line : lines.Signal) (table : TableValue) (told slice outs : List Outcome) → signal_lacks_noise line ≡ false
+    → tables.IsTold told table w (events_of_signal line) → slice ≡ told → now ≡ (signalled (signal_of line) calls slice).calls → outs ≡ (signalled (signal_of line) calls slice).told
+    → IsTold (take (length told) (outs ++ drop (length outs) told)) (sharing table now) (shared w calls) (events_of_signal line)
+line_step calls now w line table told slice outs noise is same now_is outs_is =
+    let signal : Signal = signal_of line in
+    let events : events_of_signal line ≡ Signalled signal ∷ [] = ap (λ lacks. cond lacks [] (Signalled signal ∷ [])) noise in
+    let table_is = subst (λ (es : List Event). tables.IsTold told table w es) events is in
+    let outs_are : outs ≡ (signalled signal calls told).told = outs_is ∙ ap (λ (os : List Outcome). (signalled signal calls os).told) same in
+    let in_place : take (length told) (outs ++ drop (length outs) told) ≡ (signalled signal calls told).told =
+    ap (λ n. take n (outs ++ drop (length outs) told)) (sym (ap (λ (os : List Outcome). length os) outs_are ∙ told_count signal calls told)) ∙ own_first outs (drop (length outs) told) ∙ outs_are in
+    subst (IsTold (take (length told) (outs ++ drop (length outs) told)) (sharing table now) (shared w calls)) (sym events)
+    (subst (λ (k : List (Option Known)). IsTold (take (length told) (outs ++ drop (length outs) told)) (sharing table k) (shared w calls) (Signalled signal ∷ []))
+    (sym (now_is ∙ ap (λ (os : List Outcome). (signalled signal calls os).calls) same))
+    (subst (λ (os : List Outcome). IsTold os (sharing table (signalled signal calls told).calls) (shared w calls) (Signalled signal ∷ [])) (sym in_place)
+    (shared_step calls w signal table told table_is.0 table_is.1)))
+
+-- ---- a datagram
+
+pub end_told : (calls : List (Option Known)) (port at : ℕ) (octets : List ℕ) (end : End) → outcome_by port octets (departed calls end) ≡ told_at calls port (outcome_by at octets end)
+end_told calls port at octets (ends.Out by to) = refl
+end_told calls port at octets (ends.Dropped cause) = refl
+
+still_back : (calls : List (Option Known)) (octets pad : List ℕ) (end : End) → IsBack octets pad end → IsBack octets pad (departed calls end)
+still_back calls octets pad (ends.Out by to) back = tt
+still_back calls octets pad (ends.Dropped cause) back = back
+
+pub shared_datagram : (calls : List (Option Known)) (w : World) (port at : ℕ) (from : Address) (octets : List ℕ) (handled : Handled) (table : TableValue)
+    → at ≡ arrived_port calls port (as_octets octets).items → handling.IsHandled w at from octets handled table
+    → IsHandled (shared w calls) port from octets (record { pad = handled.pad; end = departed calls handled.end }) (sharing table calls)
+shared_datagram calls w port at from octets handled table at_is is =
+    let comes : ℕ = arrived_port calls port (as_octets octets).items in
+    let outcomes : outcome_by at handled.pad handled.end ∷ [] ≡ (step w (Datagram comes from (as_octets octets))).outcomes =
+    is.told ∙ append-nil (step w (Datagram at from (as_octets octets))).outcomes ∙ ap (λ n. (step w (Datagram n from (as_octets octets))).outcomes) at_is in
+    record {
+      told = ap (λ (o : Outcome). o ∷ []) (end_told calls port at handled.pad handled.end) ∙ ap (λ (os : List Outcome). map (told_at calls port) os) outcomes ∙ sym (append-nil (map (told_at calls port) (step w (Datagram comes from (as_octets octets))).outcomes));
+      back = still_back calls octets handled.pad handled.end is.back;
+      stands = record {
+        muxes = refl;
+        calls = refl;
+        world = subst (λ n. TableStandsFor table (step w (Datagram n from (as_octets octets))).world) at_is is.stands;
+      };
+    }
+
+-- a datagram tells one outcome
+pub one_told : (w : World) (port : ℕ) (from : Address) (octets : Octets) → (o : Outcome) × ((step w (Datagram port from octets)).outcomes ≡ o ∷ [])
+one_told w port from octets = at (call_at w port)
+  where
+    given : (g : Given) → (o : Outcome) × ((given_to w port g).outcomes ≡ o ∷ [])
+    given (Drops cause) = (_, refl)
+    given (Puts p) = (_, refl)
+
+    at : (c : Option Call) → (o : Outcome) × ((arrived_at w port from octets.items c).outcomes ≡ o ∷ [])
+    at None = (_, refl)
+    at (Some c) = given (arrived_in w.moment port from octets.items c)
