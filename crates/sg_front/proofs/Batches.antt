@@ -1,7 +1,6 @@
 -- A batch whose datagrams come at other ports to the table, and are given back at theirs.
-use Rattle.std.proofs.Common.{◌≡◌, ℕ, zero, suc, ◌+◌, ◌<◌, ◌≤◌, List, [], ◌∷◌, ◌++◌, map, take, drop, length, get_or, refl, sym, ap, ◌∙◌, subst, arith, add-one, Option, Some}
+use Rattle.std.proofs.Common.{◌≡◌, ℕ, zero, suc, ◌+◌, ◌<◌, List, [], ◌∷◌, ◌++◌, map, take, drop, length, get_or, refl, sym, ap, ◌∙◌, subst, arith, add-one, Option}
 use Rattle.std.specs.Prelude.{slice_set}
-use Rattle.std.proofs.lemmas.List.{length-map}
 use Rattle.sg_call.specs.declared.handled.Handled.{Handled}
 use Rattle.sg_front.proofs.Sharing.{end_told, one_told}
 use Rattle.sg_front.specs.Parts.{all_given_back, given_back, shared, sharing, taken}
@@ -9,9 +8,9 @@ use Rattle.sg_front.specs.States.{FrontStandsFor, IsBatched, state_after, told_f
 use Rattle.sg_gateway.specs.Events.{outcomes_from}
 use Rattle.sg_gateway.specs.Octets.{as_octets}
 use Rattle.sg_gateway.specs.Runs.{world_after}
-use Rattle.sg_gateway.specs.Step.{Event, step}
+use Rattle.sg_gateway.specs.Step.{step}
 use Rattle.sg_gateway.specs.World.{World}
-use Rattle.sg_mux.specs.Via.{told_at, via}
+use Rattle.sg_mux.specs.Via.{told_at}
 use Rattle.sg_mux.specs.declared.known.Known.{Known}
 use Rattle.sg_outcome.specs.declared.outcomes.Outcome.{Outcome}
 use Rattle.sg_table.specs.Batches as tables

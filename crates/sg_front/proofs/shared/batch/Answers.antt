@@ -1,4 +1,4 @@
-use Rattle.std.proofs.Common.{◌≡◌, ◌++◌, ℕ, List, drop, length, map, replicate, sym, subst, ap, ◌∙◌}
+use Rattle.std.proofs.Common.{ℕ, List, drop, length, replicate, sym, subst, ap, ◌∙◌}
 use Rattle.std.specs.Prelude.{All, IsSome}
 use Rattle.std.proofs.lemmas.List.Elements.{All-map}
 use Rattle.sg_front.proofs.Batches.{shared_batch}

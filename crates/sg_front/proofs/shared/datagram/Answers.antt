@@ -1,4 +1,4 @@
-use Rattle.std.proofs.Common.{◌≡◌, ℕ, List, ap, sym, subst, ◌∙◌}
+use Rattle.std.proofs.Common.{ℕ, List, ap, sym, subst, ◌∙◌}
 use Rattle.sg_call.specs.declared.handled.End.{End}
 use Rattle.sg_front.proofs.Sharing.{shared_datagram}
 use Rattle.sg_front.specs.Parts.{shared, sharing}
