@@ -1,3 +1,5 @@
+mod Batches
 pub mod Quiet
 pub mod Runs
 pub mod Sequences
+mod Sharing

@@ -6,11 +6,12 @@ ghost use Rattle.sg_gateway.specs.Events.{events_of_signal, signal_lacks_noise};
 ghost use Rattle.sg_lines.specs.declared.lines.Signal.TheVariants as signals;
 ghost use Rattle.sg_table.specs.Telling.{IsTimely};
 
-use sg_base::{Address, BATCH_MOST, NoMemory, Pad};
+use crate::shared;
+use sg_base::{Address, NoMemory, Pad};
 use sg_lanes::Gate;
 use sg_lines::Signal;
 use sg_mux::Mux;
-use sg_table::{Arrival, End, Handled, Outcomes, Table};
+use sg_table::{Arrival, Handled, Outcomes, Table};
 use std::alloc::Global;
 use std::marker::Model;
 use std::thread::Threads;
@@ -57,11 +58,10 @@ impl Front {
         requires timely { IsTimely signal.now }
         ensures { IfOk result (λ told. (s : State) → FrontStandsFor self.old s → IsTold told.items self.new s (events_of_signal signal.now)) }
     {
-        let mut told = self.table.step(alloc, signal)?;
-        if let Some(mux) = &mut self.mux {
-            mux.signal(alloc, signal, told.as_mut_slice())?;
+        match &mut self.mux {
+            None => self.table.step(alloc, signal),
+            Some(mux) => shared::step(&mut self.table, mux, alloc, signal),
         }
-        Ok(told)
     }
 
     /// Takes a tick that tells nothing, as `step` does; where it tells something, nothing is done, and it is false.
@@ -79,14 +79,9 @@ impl Front {
     pub fn datagram(&mut self, port: u16, from: Address, pad: Pad) -> Handled
         ensures { (s : State) → FrontStandsFor self.old s → IsHandled s port from pad result self.new }
     {
-        let Some(mux) = &self.mux else {
-            return self.table.datagram(port, from, pad);
-        };
-        let at = mux.arrive(port, pad.octets());
-        let handled = self.table.datagram(at, from, pad);
-        Handled {
-            pad: handled.pad,
-            end: departed(mux, handled.end),
+        match &self.mux {
+            None => self.table.datagram(port, from, pad),
+            Some(mux) => shared::datagram(&mut self.table, mux, port, from, pad),
         }
     }
 
@@ -104,35 +99,9 @@ impl Front {
         requires workers { 0 < workers }
         ensures { (s : State) → FrontStandsFor self.old s → IsBatched s arrivals.old arrivals.new self.new }
     {
-        let Some(mux) = &self.mux else {
-            self.table.batch(rt, arrivals, workers, gate);
-            return;
-        };
-        // No signal comes within a batch, so the legs stay while it is handled.
-        let mut ports = [0; BATCH_MOST];
-        for (k, arrival) in arrivals.iter_mut().enumerate() {
-            ports[k] = arrival.port;
-            if let Some(pad) = &arrival.pad {
-                arrival.port = mux.arrive(arrival.port, pad.octets());
-            }
+        match &self.mux {
+            None => self.table.batch(rt, arrivals, workers, gate),
+            Some(mux) => shared::batch(&mut self.table, mux, rt, arrivals, workers, gate),
         }
-        self.table.batch(rt, arrivals, workers, gate);
-        for (k, arrival) in arrivals.iter_mut().enumerate() {
-            arrival.port = ports[k];
-            if let Some(end) = arrival.end {
-                arrival.end = Some(departed(mux, end));
-            }
-        }
-    }
-}
-
-/// How a datagram ends, as its packet leaves.
-fn departed(mux: &Mux, end: End) -> End {
-    match end {
-        End::Out { port, to } => {
-            let (port, to) = mux.depart(port, to);
-            End::Out { port, to }
-        }
-        End::Dropped(cause) => End::Dropped(cause),
     }
 }

@@ -3,5 +3,6 @@
 #![tactic(auto)]
 
 mod front;
+mod shared;
 
 pub use front::Front;

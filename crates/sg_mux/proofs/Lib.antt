@@ -1,4 +1,6 @@
+mod Latest
 mod Lines
-mod Loops
+pub mod Loops
 mod Noted
+mod SlotKnown
 mod Vias

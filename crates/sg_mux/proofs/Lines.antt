@@ -1,11 +1,11 @@
 -- Which lines a text has that is told with lines of RFC 5761.
 use Rattle.std.proofs.Common.{◌≡◌, inl, inr, ℕ, zero, suc, ◌<◌, Bool, true, false, cond, ltb, List, [], ◌∷◌, ◌++◌, append_assoc, length, Result, Ok, Err, refl, sym, ap, ◌∙◌, subst, arith}
-use Rattle.std.specs.Prelude.{◌⊎◌}
-use Rattle.std.specs.List.{AllByRecursion, Any, Contains, count_by, flat_map, onto_first, slice_split}
+use Rattle.std.specs.Prelude.{◌&&◌, ◌⊎◌}
+use Rattle.std.specs.List.{AllByRecursion, Any, Contains, flat_map, onto_first, slice_split}
 use Rattle.std.proofs.lemmas.List.Elements.{All-contains_itself, All-from_recursion, Contains-append_left, Contains-append_right, recursion_from_All}
 use Rattle.std.proofs.lemmas.List.Splits.{length-slice_split, slice_split-cons_yes}
 use Rattle.sg_session.proofs.Lists.{each_append, each_flat_map, each_weaker}
-use Rattle.sg_sdp.specs.Descriptions.{IsSdp, IsShort, Spells, all_lines, ended, medium_line, medium_lines}
+use Rattle.sg_sdp.specs.Descriptions.{IsSdp, IsShort, Spells, all_lines, ended, medium_lines}
 use Rattle.sg_sdp.specs.Faults.{Fault}
 use Rattle.sg_sdp.specs.Parts.{with_line_at, with_media_line}
 use Rattle.sg_sdp.specs.Reading.{description_of, description_within}
@@ -109,8 +109,15 @@ module _ (P : List ℕ → Type 0) where
     if_so true medium s each = (each.0, at_medium medium s.media each.1)
     if_so false medium s each = each
 
+    if_marked : (marked : Bool) (medium : ℕ) (s : Sdp) → Each s → Each (with_line_if marked medium s)
+    if_marked marked medium s each = if_so (marked && ltb medium (length s.media)) medium s each
+
     at_each : (marks : List Bool) (s : Sdp) → Each s → Each (with_lines marks s)
-    at_each marks s each = if_so _ 3 _ (if_so _ 2 _ (if_so _ 1 _ (if_so _ 0 s each)))
+    at_each marks s each =
+        let first = with_line_if (mark marks 0) 0 s in
+        let second = with_line_if (mark marks 1) 1 first in
+        let third = with_line_if (mark marks 2) 2 second in
+        if_marked (mark marks 3) 3 third (if_marked (mark marks 2) 2 second (if_marked (mark marks 1) 1 first (if_marked (mark marks 0) 0 s each)))
 
     each_line : (marks : List Bool) (s : Sdp) → AllByRecursion P (all_lines s) → AllByRecursion P (all_lines (with_lines marks s))
     each_line marks s each =

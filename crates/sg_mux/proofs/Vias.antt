@@ -4,20 +4,18 @@ use Rattle.std.specs.Prelude.{◌&&◌}
 use Rattle.std.proofs.lemmas.Bool.{and_parts, eqb-true}
 use Rattle.std.specs.List.{AllByRecursion}
 use Rattle.std.proofs.lemmas.List.Elements.{All-from_recursion}
-use Rattle.sg_agreement.specs.declared.ways.Way.{Way}
 use Rattle.sg_base.specs.declared.addresses.Address.{Address}
-use Rattle.sg_base.specs.declared.addresses.CallId.{CallId}
 use Rattle.sg_gateway.specs.Signals.{Signal, Tick, Psk, Manual, Offered, Answered, Reject, Bye}
 use Rattle.sg_gateway.specs.Runs.{turn_of, turns_from}
 use Rattle.sg_gateway.specs.Step.{Event, Signalled, Datagram}
 use Rattle.sg_gateway.specs.World.{World, empty}
 use Rattle.sg_outcome.specs.declared.outcomes.Outcome.{Outcome}
 use Rattle.sg_outcome.specs.declared.outcomes.Outcome.TheVariants.{Made, Live, Sdp, Refused, Ended, Out, Dropped, Unsent}
-use Rattle.sg_passages.specs.Passages.{ArePassagesOf, AreToldAs, IsFaithful, IsToldAs, KeepsLegs, KeepsOffers, Leaves, Leaving, straight}
+use Rattle.sg_passages.specs.Passages.{ArePassagesOf, AreToldAs, IsFaithful, IsToldAs, KeepsLegs, KeepsOffers, Leaving, straight}
 use Rattle.sg_mux.proofs.Lines.{ReadIsSpelled, adds_lines, same_lines}
 use Rattle.sg_mux.specs.Legs.{is_muxed_at, is_muxed_rtcp, leaves}
 use Rattle.sg_mux.specs.Muxed.{agreed, answered, nobody, offered_by, settled, signalled}
-use Rattle.sg_mux.specs.Via.{events_from, events_via, leaves_at, muxing_after, passage_at, passages_from, passages_via, stepped, told_at, via}
+use Rattle.sg_mux.specs.Via.{events_from, events_via, muxing_after, passage_at, passages_from, passages_via, stepped, told_at, via}
 use Rattle.sg_mux.specs.declared.known.Known.{Known}
 
 -- ---- what a datagram gives, as it is told

@@ -10,5 +10,5 @@ mod signals;
 mod texts;
 
 pub use known::Known;
-pub use laws::shared_ports_are_faithful;
+pub use laws::{legs_are_muxed_by_their_texts, shared_ports_are_faithful};
 pub use mux::Mux;

@@ -18,11 +18,15 @@ use Rattle.sg_passages.specs.Passages.{Passage, out_by}
 
 -- ---- on plain legs
 
--- The entry's packet is told as put out, and nothing else of that event is: it leaves as from the plain port of the session of
--- that name to its plain address.
+-- The session has the entry's name and its key; and the entry's packet is told as put out, and nothing else of that event is:
+-- it leaves as from the session's plain port to its plain address.
+pub record IsPutOutBy (p : Passage) (e : Entry) (c : Call) (s : Session) : Type 0 where
+  pub name : s.name ≡ e.session
+  pub key : Any (λ k. k ≡ e.key) s.keys
+  pub out : p.told ≡ out_by p.leaves (plain_leg_port c s) (plain_leg_address s) e.done.packet ∷ []
+
 abbrev pub IsPutOutOf : Passage → Entry → Type 0
-IsPutOutOf p e =
-    Any (λ c. Any (λ s. (s.name ≡ e.session) × (p.told ≡ out_by p.leaves (plain_leg_port c s) (plain_leg_address s) e.done.packet ∷ [])) c.sessions) p.turn.before.calls
+IsPutOutOf p e = Any (λ c. Any (IsPutOutBy p e c) c.sessions) p.turn.before.calls
 
 -- it is one of those sealed, under that master key, of that kind, source and index
 pub record IsOpeningOf (sealed : List Sealed) (p : Passage) (e : Entry) : Type 0 where

@@ -1,13 +1,16 @@
 -- What a run did, by how its words were read.
-use Rattle.std.proofs.Common.{◌≡◌, ◌⊎◌, ◌≤◌, ℕ, List, [], Bool, Option, Result, Ok, Err, refl, sym, ap, ◌∙◌, subst, inl, inr, arith, eqb, false}
+use Rattle.std.proofs.Common.{◌≡◌, ◌⊎◌, ◌≤◌, ℕ, List, [], Bool, Option, Result, Ok, Err, refl, sym, ap, ◌∙◌, subst, inl, inr, arith, eqb, true, false}
 use Rattle.std.proofs.lemmas.Bool.{false≢true, eq-eqb}
 use Rattle.std.proofs.lemmas.List.{append-nil}
+use Rattle.std.proofs.lemmas.List.Elements.{All-from_recursion}
+use Rattle.sg_bridge.specs.Bridged.{Crosses, StaysInside}
+use Rattle.sg_bridging.specs.Bridge.{IsBridge}
+use Rattle.sg_bridging.specs.Bridge as bridges
 use Rattle.sg_trace.proofs.Causes.{not_failed}
 use Rattle.sg_trace.specs.Causes.{HasFailed}
 use Rattle.sg_capture.specs.Capturing.{IsCapture}
 use Rattle.sg_trace.specs.Captured.{captured, events_in as captured_events, output_of}
 use Rattle.sg_trace.specs.Trace.{replayed}
-use Rattle.sg_trace.specs.Output.{output}
 use Rattle.sg_trace.specs.declared.status.Status.{Status}
 use Rattle.sg_trace.specs.declared.status.Status.TheVariants.{Done, Usage, Script, Read, Write, Link, NoMemory, Clock, Noise, TurnsSpent, Capture}
 use Rattle.sg_demo.specs.Demonstration.{demonstration, events_in}
@@ -19,24 +22,38 @@ use Rattle.sg_gateway.specs.Step.{Event}
 use Rattle.sg_gateway.specs.World.{empty}
 use Rattle.sg_migrate.specs.Migration.{IsMigration}
 use Rattle.sg_migrate.specs.Migration as migrations
-use Rattle.sg_playback.specs.Replay.{IsReplay}
+use Rattle.sg_mux.specs.Via.{events_in as table_events, outcomes_in, passages_in}
+use Rattle.sg_passages.specs.Passages.{Passage}
+use Rattle.sg_playback.specs.Replay.{IsReplay, output_in}
 use Rattle.sg_playback.specs.Replay as replays
 use Rattle.sg_relay.proofs.Holds.{holds_none}
 use Rattle.sg_relay.proofs.Order.{order_none}
 use Rattle.sg_relay.specs.Relay.{IsRelay, Passed}
 use Rattle.sg_relay.specs.Relay as relays
-use Rattle.sg_run.specs.Run.{AreTaken, HasCaptured, HasMigrated, HasRelayed, HasReplayed, HasRun, HasShown, Outside, of_relay, of_replay}
+use Rattle.sg_run.specs.Run.{AreTaken, HasBridged, HasCaptured, HasDone, HasMigrated, HasRelayed, HasReplayed, HasRun, HasShown, Outside}
 use Rattle.sg_words.specs.Commands.{AreWordsOf, IsNoCommand, Words}
 use Rattle.sg_words.specs.declared.command.Command.{Command}
-use Rattle.sg_words.specs.declared.command.Command.TheVariants.{Replay, Relay, Demo, Migrate}
+use Rattle.sg_words.specs.declared.command.Command.TheVariants.{Replay, Relay, Demo, Migrate, Bridge}
 use Rattle.sg_words.specs.declared.command.Command.TheVariants as commands
 use Rattle.sg_words.specs.declared.command.CommandFault.{CommandFault}
 use Rattle.sg_words.specs.declared.command.CommandFault.TheVariants as faults
 
 -- ---- memory ran out before anything was done
 
-not_replayed : (old : Outside) → HasReplayed NoMemory old old []
-not_replayed old = record {
+no_events : (muxes : Bool) → [] ≡ table_events muxes []
+no_events true = refl
+no_events false = refl
+
+no_passages : (muxes : Bool) → [] ≡ passages_in muxes []
+no_passages true = refl
+no_passages false = refl
+
+no_outcomes : (muxes : Bool) → outcomes_in muxes [] ≡ []
+no_outcomes true = refl
+no_outcomes false = refl
+
+not_replayed : (muxes : Bool) (old : Outside) → HasReplayed muxes NoMemory old old [] []
+not_replayed muxes old = record {
   octets = [];
   draws = [];
   out = [];
@@ -44,14 +61,15 @@ not_replayed old = record {
     took = took_none old.left;
     drew = added_none old.drawn;
     wrote = wrote_none old.written;
-    ends = (output (replayed [] []).events, refl);
+    ends = (output_in muxes (replayed [] []).events, refl);
     bound = omega arith;
   };
-  events_are = refl;
+  events_are = no_events muxes;
+  passages_are = no_passages muxes;
 }
 
-not_relayed : (turns : ℕ) (old : Outside) → HasRelayed turns NoMemory old old []
-not_relayed turns old = record {
+not_relayed : (muxes : Bool) (turns : ℕ) (old : Outside) → HasRelayed muxes turns NoMemory old old [] []
+not_relayed muxes turns old = record {
   passed = record { octets = []; out = []; calls = []; readings = []; draws = [] };
   is = record {
     took = took_none old.left;
@@ -63,7 +81,7 @@ not_relayed turns old = record {
       part = record {
         done = [];
         others = [];
-        outcomes_are = refl;
+        outcomes_are = no_outcomes muxes;
         before = [];
         last = [];
         calls_are = refl;
@@ -78,20 +96,22 @@ not_relayed turns old = record {
     bound = omega arith;
     most = omega arith;
     paced = refl;
-    in_order = order_none (relays.outcomes_by (record { octets = []; out = []; calls = []; readings = []; draws = [] })) [] refl;
+    in_order = order_none (relays.outcomes_by muxes (record { octets = []; out = []; calls = []; readings = []; draws = [] })) [] refl;
   };
-  events_are = refl;
-  ports = holds_none (record { octets = []; out = []; calls = []; readings = []; draws = [] }) refl;
+  events_are = no_events muxes;
+  passages_are = no_passages muxes;
+  ports = holds_none muxes (record { octets = []; out = []; calls = []; readings = []; draws = [] }) refl;
   complete = λ only all rest left left' whole more link. inr refl;
 }
 
-not_shown : (calls start : ℕ) (old : Outside) → HasShown calls start NoMemory old old []
+not_shown : (calls start : ℕ) (old : Outside) → HasShown calls start NoMemory old old [] []
 not_shown calls start old = record {
   is = ([], (summary_text (demonstration calls start), refl), wrote_none old.written);
   events_are = (events_in calls start, refl);
+  passages_are = refl;
 }
 
-not_migrated : (old : Outside) → HasMigrated NoMemory old old []
+not_migrated : (old : Outside) → HasMigrated NoMemory old old [] []
 not_migrated old = record {
   octets = [];
   out = [];
@@ -102,9 +122,10 @@ not_migrated old = record {
     bound = omega arith;
   };
   events_are = refl;
+  passages_are = refl;
 }
 
-not_captured : (old : Outside) → HasCaptured NoMemory old old []
+not_captured : (old : Outside) → HasCaptured NoMemory old old [] []
 not_captured old = record {
   octets = [];
   draws = [];
@@ -117,26 +138,41 @@ not_captured old = record {
     bound = omega arith;
   };
   events_are = refl;
+  passages_are = refl;
 }
 
-pub not_begun : (words : Words) (old : Outside) → HasRun words NoMemory old old []
-not_begun words old = record {
-  replay = λ workers are. not_replayed old;
-  relay = λ turns are. not_relayed turns old;
-  demo = λ calls start workers are. not_shown calls start old;
-  migrate = λ are. not_migrated old;
-  capture = λ are. not_captured old;
+not_bridged : (old : Outside) → HasBridged NoMemory old old [] []
+not_bridged old = record {
+  octets = [];
+  draws = [];
+  out = [];
+  is = record {
+    took = took_none old.left;
+    drew = added_none old.drawn;
+    wrote = wrote_none old.written;
+    ends = (bridges.output [] [], refl);
+    bound = omega arith;
+  };
+  events_are = refl;
+  passages_are = refl;
+  inside = All-from_recursion StaysInside [] tt;
+  crossing = All-from_recursion Crosses [] tt;
 }
+
+none_done : (command : Command) (old : Outside) → HasDone command NoMemory old old [] []
+none_done (Replay workers muxes) old = not_replayed muxes old
+none_done (Relay turns muxes) old = not_relayed muxes turns old
+none_done (Demo calls start workers) old = not_shown calls start old
+none_done Migrate old = not_migrated old
+none_done commands.Capture old = not_captured old
+none_done Bridge old = not_bridged old
+
+pub not_begun : (words : Words) (old : Outside) → HasRun words NoMemory old old [] []
+not_begun words old = λ command are. none_done command old
 
 -- words that are no command
-pub no_run : (words : Words) (status : Status) (old new : Outside) → IsNoCommand words → HasRun words status old new []
-no_run words status old new none = record {
-  replay = λ workers are. absurd (none (Replay workers) are);
-  relay = λ turns are. absurd (none (Relay turns) are);
-  demo = λ calls start workers are. absurd (none (Demo calls start workers) are);
-  migrate = λ are. absurd (none Migrate are);
-  capture = λ are. absurd (none commands.Capture are);
-}
+pub no_run : (words : Words) (status : Status) (old new : Outside) → IsNoCommand words → HasRun words status old new [] []
+no_run words status old new none = λ command are. absurd (none command are)
 
 -- ---- the command that was read is the one that the words are
 
@@ -147,11 +183,8 @@ pub read_is : (read k : Command) → IsReadAs read k → read ≡ k
 read_is read k (inl is) = cc
 read_is read k (inr is) = absurd cc
 
-same_turns : (turns turns' : ℕ) → Relay turns ≡ Relay turns' → turns ≡ turns'
-same_turns turns turns' is = cc
-
-same_calls : (calls start workers calls' start' workers' : ℕ) → Demo calls start workers ≡ Demo calls' start' workers' → (calls ≡ calls') × (start ≡ start')
-same_calls calls start workers calls' start' workers' is = (cc, cc)
+same_turns : (turns turns' : ℕ) (muxes muxes' : Bool) → Relay turns muxes ≡ Relay turns' muxes' → turns ≡ turns'
+same_turns turns turns' muxes muxes' is = cc
 
 -- what reading the words tells of every command that they are
 abbrev pub IsToldOf : Words → Command → Type 0
@@ -159,11 +192,12 @@ IsToldOf words read = (k : Command) → AreWordsOf words k → IsReadAs read k
 
 -- each command has a number of its own
 abbrev pub command_number : Command → ℕ
-command_number (Replay workers) = 0
-command_number (Relay turns) = 1
+command_number (Replay workers muxes) = 0
+command_number (Relay turns muxes) = 1
 command_number (Demo calls start workers) = 2
 command_number Migrate = 3
 command_number commands.Capture = 4
+command_number Bridge = 5
 
 -- the words of one command are none of another
 pub no_other : (words : Words) (read this other : Command) → IsToldOf words read → read ≡ this → eqb (command_number this) (command_number other) ≡ false → AreWordsOf words other → ⊥
@@ -172,62 +206,17 @@ no_other words read this other told is differs are =
     false≢true (sym differs ∙ eq-eqb (command_number this) (command_number other) (ap command_number same))
 
 -- a relay has as many turns as its words say
-pub turns_are : (words : Words) (read : Command) (turns turns' : ℕ) → IsToldOf words read → read ≡ Relay turns → AreWordsOf words (Relay turns') → turns ≡ turns'
-turns_are words read turns turns' told is are = same_turns turns turns' (sym is ∙ read_is read (Relay turns') (told (Relay turns') are))
+pub turns_are : (words : Words) (read : Command) (turns turns' : ℕ) (muxes muxes' : Bool) → IsToldOf words read → read ≡ Relay turns muxes
+    → AreWordsOf words (Relay turns' muxes') → turns ≡ turns'
+turns_are words read turns turns' muxes muxes' told is are =
+    same_turns turns turns' muxes muxes' (sym is ∙ read_is read (Relay turns' muxes') (told (Relay turns' muxes') are))
 
 -- ---- what was run
 
-pub has_replayed : (words : Words) (read : Command) (many : ℕ) (status : Status) (old new : Outside) (events : List Event) → IsToldOf words read → read ≡ Replay many
-    → HasReplayed status old new events → HasRun words status old new events
-has_replayed words read many status old new events told is ran = record {
-  replay = λ workers are. ran;
-  relay = λ turns are. absurd (no_other words read (Replay many) (Relay turns) told is refl are);
-  demo = λ calls start workers are. absurd (no_other words read (Replay many) (Demo calls start workers) told is refl are);
-  migrate = λ are. absurd (no_other words read (Replay many) Migrate told is refl are);
-  capture = λ are. absurd (no_other words read (Replay many) commands.Capture told is refl are);
-}
-
-pub has_relayed : (words : Words) (read : Command) (turns : ℕ) (status : Status) (old new : Outside) (events : List Event) → IsToldOf words read → read ≡ Relay turns
-    → HasRelayed turns status old new events → HasRun words status old new events
-has_relayed words read turns status old new events told is ran = record {
-  replay = λ workers are. absurd (no_other words read (Relay turns) (Replay workers) told is refl are);
-  relay = λ turns' are. subst (λ n. HasRelayed n status old new events) (turns_are words read turns turns' told is are) ran;
-  demo = λ calls start workers are. absurd (no_other words read (Relay turns) (Demo calls start workers) told is refl are);
-  migrate = λ are. absurd (no_other words read (Relay turns) Migrate told is refl are);
-  capture = λ are. absurd (no_other words read (Relay turns) commands.Capture told is refl are);
-}
-
-pub has_shown : (words : Words) (read : Command) (calls start many : ℕ) (status : Status) (old new : Outside) (events : List Event) → IsToldOf words read
-    → read ≡ Demo calls start many → HasShown calls start status old new events → HasRun words status old new events
-has_shown words read calls start many status old new events told is ran = record {
-  replay = λ workers are. absurd (no_other words read (Demo calls start many) (Replay workers) told is refl are);
-  relay = λ turns are. absurd (no_other words read (Demo calls start many) (Relay turns) told is refl are);
-  demo = λ calls' start' workers are.
-      let same = same_calls calls start many calls' start' workers (sym is ∙ read_is read (Demo calls' start' workers) (told (Demo calls' start' workers) are)) in
-      subst (λ n. HasShown calls' n status old new events) same.1 (subst (λ n. HasShown n start status old new events) same.0 ran);
-  migrate = λ are. absurd (no_other words read (Demo calls start many) Migrate told is refl are);
-  capture = λ are. absurd (no_other words read (Demo calls start many) commands.Capture told is refl are);
-}
-
-pub has_migrated : (words : Words) (read : Command) (status : Status) (old new : Outside) (events : List Event) → IsToldOf words read → read ≡ Migrate
-    → HasMigrated status old new events → HasRun words status old new events
-has_migrated words read status old new events told is ran = record {
-  replay = λ workers are. absurd (no_other words read Migrate (Replay workers) told is refl are);
-  relay = λ turns are. absurd (no_other words read Migrate (Relay turns) told is refl are);
-  demo = λ calls start workers are. absurd (no_other words read Migrate (Demo calls start workers) told is refl are);
-  migrate = λ are. ran;
-  capture = λ are. absurd (no_other words read Migrate commands.Capture told is refl are);
-}
-
-pub has_captured : (words : Words) (read : Command) (status : Status) (old new : Outside) (events : List Event) → IsToldOf words read → read ≡ commands.Capture
-    → HasCaptured status old new events → HasRun words status old new events
-has_captured words read status old new events told is ran = record {
-  replay = λ workers are. absurd (no_other words read commands.Capture (Replay workers) told is refl are);
-  relay = λ turns are. absurd (no_other words read commands.Capture (Relay turns) told is refl are);
-  demo = λ calls start workers are. absurd (no_other words read commands.Capture (Demo calls start workers) told is refl are);
-  migrate = λ are. absurd (no_other words read commands.Capture Migrate told is refl are);
-  capture = λ are. ran;
-}
+pub has_run : (words : Words) (read this : Command) (status : Status) (old new : Outside) (events : List Event) (passages : List Passage) → IsToldOf words read
+    → read ≡ this → HasDone this status old new events passages → HasRun words status old new events passages
+has_run words read this status old new events passages told is done =
+    λ command are. subst (λ k. HasDone k status old new events passages) (sym is ∙ read_is read command (told command are)) done
 
 -- all of a demonstration's events were taken
 pub all_taken : (status : Status) (events : List Event) → AreTaken status events events
@@ -245,18 +234,18 @@ all_taken (Capture offset fault) events = ([], sym (append-nil events))
 
 -- ---- what a command doesn't answer
 
-replay_not : (other status : Status) (old new : replays.Tellings) (octets draws out : List ℕ) → (IsReplay other old new octets draws out → ⊥)
-    → IsReplay status old new octets draws out → status ≡ other → ⊥
-replay_not other status old new octets draws out isnt run is = isnt (subst (λ s. IsReplay s old new octets draws out) is run)
+replay_not : (muxes : Bool) (other status : Status) (old new : replays.Tellings) (octets draws out : List ℕ) → (IsReplay muxes other old new octets draws out → ⊥)
+    → IsReplay muxes status old new octets draws out → status ≡ other → ⊥
+replay_not muxes other status old new octets draws out isnt run is = isnt (subst (λ s. IsReplay muxes s old new octets draws out) is run)
 
-pub replay_not_usage : (status : Status) (old new : replays.Tellings) (octets draws out : List ℕ) → IsReplay status old new octets draws out → status ≡ Usage → ⊥
-replay_not_usage status old new octets draws out run is = replay_not Usage status old new octets draws out (λ r. r.ends) run is
+pub replay_not_usage : (muxes : Bool) (status : Status) (old new : replays.Tellings) (octets draws out : List ℕ) → IsReplay muxes status old new octets draws out → status ≡ Usage → ⊥
+replay_not_usage muxes status old new octets draws out run is = replay_not muxes Usage status old new octets draws out (λ r. r.ends) run is
 
-pub replay_not_link : (status : Status) (old new : replays.Tellings) (octets draws out : List ℕ) → IsReplay status old new octets draws out → status ≡ Link → ⊥
-replay_not_link status old new octets draws out run is = replay_not Link status old new octets draws out (λ r. r.ends) run is
+pub replay_not_link : (muxes : Bool) (status : Status) (old new : replays.Tellings) (octets draws out : List ℕ) → IsReplay muxes status old new octets draws out → status ≡ Link → ⊥
+replay_not_link muxes status old new octets draws out run is = replay_not muxes Link status old new octets draws out (λ r. r.ends) run is
 
-pub replay_not_clock : (status : Status) (old new : replays.Tellings) (octets draws out : List ℕ) → IsReplay status old new octets draws out → status ≡ Clock → ⊥
-replay_not_clock status old new octets draws out run is = replay_not Clock status old new octets draws out (λ r. r.ends) run is
+pub replay_not_clock : (muxes : Bool) (status : Status) (old new : replays.Tellings) (octets draws out : List ℕ) → IsReplay muxes status old new octets draws out → status ≡ Clock → ⊥
+replay_not_clock muxes status old new octets draws out run is = replay_not muxes Clock status old new octets draws out (λ r. r.ends) run is
 
 migration_not : (other status : Status) (old new : migrations.Tellings) (octets out : List ℕ) → (IsMigration other old new octets out → ⊥)
     → IsMigration status old new octets out → status ≡ other → ⊥
@@ -287,8 +276,21 @@ capture_not_link status old new octets draws out run is = capture_not Link statu
 pub capture_not_clock : (status : Status) (old new : replays.Tellings) (octets draws out : List ℕ) → IsCapture status old new octets draws out → status ≡ Clock → ⊥
 capture_not_clock status old new octets draws out run is = capture_not Clock status old new octets draws out (λ r. r.ends) run is
 
-pub relay_not_usage : (status : Status) (turns : ℕ) (old new : relays.Tellings) (p : Passed) → IsRelay status turns old new p → status ≡ Usage → ⊥
-relay_not_usage status turns old new p run is = (subst (λ s. IsRelay s turns old new p) is run).ends
+bridge_not : (other status : Status) (old new : bridges.Tellings) (octets draws out : List ℕ) → (IsBridge other old new octets draws out → ⊥)
+    → IsBridge status old new octets draws out → status ≡ other → ⊥
+bridge_not other status old new octets draws out isnt run is = isnt (subst (λ s. IsBridge s old new octets draws out) is run)
+
+pub bridge_not_usage : (status : Status) (old new : bridges.Tellings) (octets draws out : List ℕ) → IsBridge status old new octets draws out → status ≡ Usage → ⊥
+bridge_not_usage status old new octets draws out run is = bridge_not Usage status old new octets draws out (λ r. r.ends) run is
+
+pub bridge_not_link : (status : Status) (old new : bridges.Tellings) (octets draws out : List ℕ) → IsBridge status old new octets draws out → status ≡ Link → ⊥
+bridge_not_link status old new octets draws out run is = bridge_not Link status old new octets draws out (λ r. r.ends) run is
+
+pub bridge_not_clock : (status : Status) (old new : bridges.Tellings) (octets draws out : List ℕ) → IsBridge status old new octets draws out → status ≡ Clock → ⊥
+bridge_not_clock status old new octets draws out run is = bridge_not Clock status old new octets draws out (λ r. r.ends) run is
+
+pub relay_not_usage : (muxes : Bool) (status : Status) (turns : ℕ) (old new : relays.Tellings) (p : Passed) → IsRelay muxes status turns old new p → status ≡ Usage → ⊥
+relay_not_usage muxes status turns old new p run is = (subst (λ s. IsRelay muxes s turns old new p) is run).ends
 
 -- a demonstration is done, or the sink failed or memory ran out
 abbrev IsOfDemo : Status → Type 0

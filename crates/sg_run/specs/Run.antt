@@ -1,5 +1,8 @@
 -- What a run did, by the command that its words are.
-use Rattle.std.specs.Prelude.{◌≡◌, ℕ, List, [], Option}
+use Rattle.std.specs.Prelude.{◌≡◌, ℕ, Bool, List, [], Option}
+use Rattle.sg_bridge.specs.Bridged.{EachCrossingIsSealed, JoinedStayInside, bridged_events}
+use Rattle.sg_bridging.specs.Bridge.{IsBridge, bridge_trace}
+use Rattle.sg_bridging.specs.Bridge as bridges
 use Rattle.sg_capture.specs.Capturing.{IsCapture}
 use Rattle.sg_trace.specs.Captured.{captured, events_in as captured_events}
 use Rattle.sg_trace.specs.Trace.{replayed}
@@ -13,13 +16,16 @@ use Rattle.sg_edge.specs.Told.{Rose}
 use Rattle.sg_gateway.specs.Step.{Event}
 use Rattle.sg_migrate.specs.Migration.{IsMigration}
 use Rattle.sg_migrate.specs.Migration as migrations
+use Rattle.sg_mux.specs.Via.{events_in as table_events, passages_in}
+use Rattle.sg_passages.specs.Passages.{Passage, plain_passages}
 use Rattle.sg_playback.specs.Replay.{IsReplay}
 use Rattle.sg_playback.specs.Replay as replays
 use Rattle.sg_relay.specs.Completeness.{IsComplete}
 use Rattle.sg_relay.specs.Relay.{HoldsItsCallsPorts, IsRelay, Passed, trace_of}
 use Rattle.sg_relay.specs.Relay as relays
 use Rattle.sg_words.specs.Commands.{AreWordsOf, Words}
-use Rattle.sg_words.specs.declared.command.Command.TheVariants.{Replay, Relay, Demo, Migrate, Capture}
+use Rattle.sg_words.specs.declared.command.Command.{Command}
+use Rattle.sg_words.specs.declared.command.Command.TheVariants.{Replay, Relay, Demo, Migrate, Capture, Bridge}
 
 -- how often a source, a sink, a link, a clock and a source of noise have failed
 pub record Failures : Type 0 where
@@ -48,13 +54,17 @@ of_relay o = record { left = o.left; written = o.written; calls = o.calls; readi
 abbrev pub of_migration : Outside → migrations.Tellings
 of_migration o = record { left = o.left; written = o.written }
 
--- A replay read, drew and wrote these octets, and these are its events.
-pub record HasReplayed (status : Status) (old new : Outside) (events : List Event) : Type 0 where
+abbrev pub of_bridge : Outside → bridges.Tellings
+of_bridge o = record { left = o.left; written = o.written; drawn = o.drawn }
+
+-- A replay read, drew and wrote these octets; these are its events as they come to the gateway, and what is told of them.
+pub record HasReplayed (muxes : Bool) (status : Status) (old new : Outside) (events : List Event) (passages : List Passage) : Type 0 where
   pub octets : List ℕ
   pub draws : List ℕ
   pub out : List ℕ
-  pub is : IsReplay status (of_replay old) (of_replay new) octets draws out
-  pub events_are : events ≡ (replayed octets draws).events
+  pub is : IsReplay muxes status (of_replay old) (of_replay new) octets draws out
+  pub events_are : events ≡ table_events muxes (replayed octets draws).events
+  pub passages_are : passages ≡ passages_in muxes (replayed octets draws).events
 
 -- nothing but the link has failed
 pub record OnlyLinkFailed (old new : Failures) : Type 0 where
@@ -63,13 +73,15 @@ pub record OnlyLinkFailed (old new : Failures) : Type 0 where
   pub clock : ¬ Rose old.clock new.clock
   pub noise : ¬ Rose old.noise new.noise
 
--- This passed between a relay and the outside, and these are its events. It listened at the ports of the calls that were
--- there, and at no others. Where nothing fails, a send aside, it handles its script to the end, or memory runs out.
-pub record HasRelayed (turns : ℕ) (status : Status) (old new : Outside) (events : List Event) : Type 0 where
+-- This passed between a relay and the outside; these are its events as they come to the gateway, and what is told of them.
+-- It listened at the ports of the calls that were there, and at no others. Where nothing fails, a send aside, it handles its
+-- script to the end, or memory runs out.
+pub record HasRelayed (muxes : Bool) (turns : ℕ) (status : Status) (old new : Outside) (events : List Event) (passages : List Passage) : Type 0 where
   pub passed : Passed
-  pub is : IsRelay status turns (of_relay old) (of_relay new) passed
-  pub events_are : events ≡ (trace_of passed).events
-  pub ports : HoldsItsCallsPorts passed
+  pub is : IsRelay muxes status turns (of_relay old) (of_relay new) passed
+  pub events_are : events ≡ table_events muxes (trace_of passed).events
+  pub passages_are : passages ≡ passages_in muxes (trace_of passed).events
+  pub ports : HoldsItsCallsPorts muxes passed
   pub complete : OnlyLinkFailed old.failures new.failures
       → IsComplete status turns old.left new.left old.failures.link new.failures.link passed
 
@@ -78,30 +90,50 @@ abbrev pub AreTaken : Status → List Event → List Event → Type 0
 AreTaken Done events all = events ≡ all
 AreTaken other events all = IsPrefixOf events all
 
--- The nine lines of the demonstration were written, or a prefix of them, and these are its events.
-pub record HasShown (calls start : ℕ) (status : Status) (old new : Outside) (events : List Event) : Type 0 where
+-- The nine lines of the demonstration were written, or a prefix of them; these are its events, told as they are.
+pub record HasShown (calls start : ℕ) (status : Status) (old new : Outside) (events : List Event) (passages : List Passage) : Type 0 where
   pub is : IsShown status old.written new.written (summary_text (demonstration calls start))
   pub events_are : AreTaken status events (events_in calls start)
+  pub passages_are : passages ≡ plain_passages events
 
 -- A migration read and wrote these octets. It hands no event to the gateway.
-pub record HasMigrated (status : Status) (old new : Outside) (events : List Event) : Type 0 where
+pub record HasMigrated (status : Status) (old new : Outside) (events : List Event) (passages : List Passage) : Type 0 where
   pub octets : List ℕ
   pub out : List ℕ
   pub is : IsMigration status (of_migration old) (of_migration new) octets out
   pub events_are : events ≡ []
+  pub passages_are : passages ≡ []
 
--- A script and the capture behind it were read, drew and wrote these octets, and these are their events.
-pub record HasCaptured (status : Status) (old new : Outside) (events : List Event) : Type 0 where
+-- A script and the capture behind it were read, drew and wrote these octets; these are their events, told as they are.
+pub record HasCaptured (status : Status) (old new : Outside) (events : List Event) (passages : List Passage) : Type 0 where
   pub octets : List ℕ
   pub draws : List ℕ
   pub out : List ℕ
   pub is : IsCapture status (of_replay old) (of_replay new) octets draws out
   pub events_are : events ≡ captured_events (captured octets draws).occurrences
+  pub passages_are : passages ≡ plain_passages events
 
--- The command that the words are was run, and these are the run's events.
-pub record HasRun (words : Words) (status : Status) (old new : Outside) (events : List Event) : Type 0 where
-  pub replay : (workers : ℕ) → AreWordsOf words (Replay workers) → HasReplayed status old new events
-  pub relay : (turns : ℕ) → AreWordsOf words (Relay turns) → HasRelayed turns status old new events
-  pub demo : (calls start workers : ℕ) → AreWordsOf words (Demo calls start workers) → HasShown calls start status old new events
-  pub migrate : AreWordsOf words Migrate → HasMigrated status old new events
-  pub capture : AreWordsOf words Capture → HasCaptured status old new events
+-- A bridge read, drew and wrote these octets, and these are its events at the gateway, each inner one too. Of joined calls nothing
+-- is put out but what the other call opened, sealed.
+pub record HasBridged (status : Status) (old new : Outside) (events : List Event) (passages : List Passage) : Type 0 where
+  pub octets : List ℕ
+  pub draws : List ℕ
+  pub out : List ℕ
+  pub is : IsBridge status (of_bridge old) (of_bridge new) octets draws out
+  pub events_are : events ≡ bridged_events (bridge_trace octets draws).said
+  pub passages_are : passages ≡ plain_passages events
+  pub inside : JoinedStayInside (bridge_trace octets draws).said
+  pub crossing : EachCrossingIsSealed (bridge_trace octets draws).said
+
+-- the command was run, and these are the run's events and what is told of them
+abbrev pub HasDone : Command → Status → Outside → Outside → List Event → List Passage → Type 0
+HasDone (Replay workers muxes) status old new events passages = HasReplayed muxes status old new events passages
+HasDone (Relay turns muxes) status old new events passages = HasRelayed muxes turns status old new events passages
+HasDone (Demo calls start workers) status old new events passages = HasShown calls start status old new events passages
+HasDone Migrate status old new events passages = HasMigrated status old new events passages
+HasDone Capture status old new events passages = HasCaptured status old new events passages
+HasDone Bridge status old new events passages = HasBridged status old new events passages
+
+-- whatever command the words are
+abbrev pub HasRun : Words → Status → Outside → Outside → List Event → List Passage → Type 0
+HasRun words status old new events passages = (command : Command) → AreWordsOf words command → HasDone command status old new events passages

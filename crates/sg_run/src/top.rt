@@ -1,6 +1,7 @@
 //! The top call.
 
-ghost use Rattle.std.specs.Prelude.{◌≡◌, ◌⊎◌, ◌≤◌, ◌+◌, ◌^◌, ℕ, List, length, map, string_bytes, None};
+ghost use Rattle.std.specs.Prelude.{◌≡◌, ◌⊎◌, ◌≤◌, ◌+◌, ◌^◌, ℕ, Bool, List, length, map, string_bytes, None};
+ghost use Rattle.sg_bridging.specs.Bridge as bridges;
 ghost use Rattle.sg_capture.specs.Capturing as captures;
 ghost use Rattle.sg_trace.specs.Causes.{HasFailed};
 ghost use Rattle.sg_trace.specs.Trace.{replayed};
@@ -9,17 +10,22 @@ ghost use Rattle.sg_gateway.specs.Runs.{outcomes};
 ghost use Rattle.sg_gateway.specs.Step.{Event};
 ghost use Rattle.sg_migrate.specs.Migrated.{IsOfVersionOne, migrated};
 ghost use Rattle.sg_migrate.specs.Migration as migrations;
+ghost use Rattle.sg_passages.specs.Headline.{Headline};
+ghost use Rattle.sg_passages.specs.Passages.{Passage};
 ghost use Rattle.sg_playback.specs.Replay.{IsComplete};
-ghost use Rattle.sg_run.specs.Headline.{Headline};
 ghost use Rattle.sg_run.specs.Run.{HasRun};
 ghost use Rattle.sg_words.specs.Commands.{AreWordsOf, IsNoCommand};
-ghost use Rattle.sg_words.specs.declared.command.Command.TheVariants.{Replay, Relay, Demo, Migrate, Capture};
+ghost use Rattle.sg_words.specs.declared.command.Command.TheVariants.{Replay, Relay, Demo, Migrate, Capture, Bridge};
 
+use sg_bridge::joined_calls_stay_inside;
+use sg_bridging::bridge;
 use sg_capture::capture;
 use sg_demo::demo;
 use sg_edge::{Clock, Link, Noise, Sink, Source};
 use sg_lanes::Gate;
 use sg_migrate::{migrate, migrated_scripts_tell_the_same};
+use sg_mux::shared_ports_are_faithful;
+use sg_passages::{a_plain_run_is_faithful, the_headline_holds};
 use sg_playback::replay;
 use sg_relay::relay;
 use sg_trace::Status;
@@ -30,9 +36,11 @@ use std::thread::Threads;
 /// Runs the command that the words name. `replay` plays the script of the source, writes what it tells to the
 /// sink, and draws the noise that its signals lack; the link and the clock aren't touched. `relay` handles
 /// its lines likewise, and at a `tick` line it takes what the link receives and sends what goes out, until the clock
-/// says that the moment has come. `demo` writes the numbers of a demonstration. `migrate` writes the script of version 1 that
-/// the source holds as one of version 2. `capture` plays a script and the capture behind it, whose datagrams come at the
-/// moments of their records. Words that are no command are answered `Usage`, and then nothing is touched.
+/// says that the moment has come. With `--mux` these two let RTP and RTCP share a port where offer and answer agree on it
+/// (RFC 5761). `bridge` plays a script whose calls may be joined: what one of the two opens, the other seals. `demo` writes
+/// the numbers of a demonstration. `migrate` writes the script of version 1 that the source holds as one of version 2.
+/// `capture` plays a script and the capture behind it, whose datagrams come at the moments of their records. Words that are
+/// no command are answered `Usage`, and then nothing is touched.
 pub fn run<R: Threads + Sync, S: Source, K: Sink, L: Link, C: Clock, N: Noise, G: Gate + Sync>(
     rt: &R,
     alloc: Global,
@@ -45,6 +53,7 @@ pub fn run<R: Threads + Sync, S: Source, K: Sink, L: Link, C: Clock, N: Noise, G
     gate: &G,
 ) -> Status
     ensures ran { (events : List Event)
+        × (passages : List Passage)
         × HasRun (map string_bytes words.now) result
         (record {
           left = S.left source.old;
@@ -62,16 +71,16 @@ pub fn run<R: Threads + Sync, S: Source, K: Sink, L: Link, C: Clock, N: Noise, G
           drawn = N.given noise.new;
           failures = record { source = S.faults source.new; sink = K.faults sink.new; link = L.faults link.new; clock = C.faults clock.new; noise = N.faults noise.new };
         })
-        events
-        × Headline events }
+        events passages
+        × Headline events passages }
     ensures given { S.given source.new ≤ S.given source.old + (2 ^ 30 + 1) }
-    ensures turns { (turns : ℕ) → AreWordsOf (map string_bytes words.now) (Relay turns) → C.count clock.new ≤ C.count clock.old + (turns + 1) }
+    ensures turns { (turns : ℕ) (muxes : Bool) → AreWordsOf (map string_bytes words.now) (Relay turns muxes) → C.count clock.new ≤ C.count clock.old + (turns + 1) }
     ensures usage { result ≡ Status.Usage → IsNoCommand (map string_bytes words.now) }
     ensures no_command { IsNoCommand (map string_bytes words.now) → (result ≡ Status.Usage) ⊎ (result ≡ Status.NoMemory) }
     ensures untouched { IsNoCommand (map string_bytes words.now)
         → (source.new ≡ source.old) × (sink.new ≡ sink.old) × (link.new ≡ link.old) × (clock.new ≡ clock.old) × (noise.new ≡ noise.old) }
-    ensures replay_untouched { (workers : ℕ) → AreWordsOf (map string_bytes words.now) (Replay workers) → (link.new ≡ link.old) × (clock.new ≡ clock.old) }
-    ensures replay_complete { (workers : ℕ) → AreWordsOf (map string_bytes words.now) (Replay workers)
+    ensures replay_untouched { (workers : ℕ) (muxes : Bool) → AreWordsOf (map string_bytes words.now) (Replay workers muxes) → (link.new ≡ link.old) × (clock.new ≡ clock.old) }
+    ensures replay_complete { (workers : ℕ) (muxes : Bool) → AreWordsOf (map string_bytes words.now) (Replay workers muxes)
         → ¬ Rose (S.faults source.old) (S.faults source.new) → ¬ Rose (K.faults sink.old) (K.faults sink.new) → ¬ Rose (N.faults noise.old) (N.faults noise.new)
         → IsComplete result (S.left source.old) (S.left source.new) }
     ensures demo_untouched { (calls start workers : ℕ) → AreWordsOf (map string_bytes words.now) (Demo calls start workers)
@@ -86,6 +95,10 @@ pub fn run<R: Threads + Sync, S: Source, K: Sink, L: Link, C: Clock, N: Noise, G
     ensures capture_complete { AreWordsOf (map string_bytes words.now) Capture
         → ¬ Rose (S.faults source.old) (S.faults source.new) → ¬ Rose (K.faults sink.old) (K.faults sink.new) → ¬ Rose (N.faults noise.old) (N.faults noise.new)
         → captures.IsComplete result (S.left source.old) (S.left source.new) }
+    ensures bridge_untouched { AreWordsOf (map string_bytes words.now) Bridge → (link.new ≡ link.old) × (clock.new ≡ clock.old) }
+    ensures bridge_complete { AreWordsOf (map string_bytes words.now) Bridge
+        → ¬ Rose (S.faults source.old) (S.faults source.new) → ¬ Rose (K.faults sink.old) (K.faults sink.new) → ¬ Rose (N.faults noise.old) (N.faults noise.new)
+        → bridges.IsComplete result (S.left source.old) (S.left source.new) }
     ensures migrated_alike { (octets draws : List ℕ) → IsOfVersionOne octets → length (migrated octets) ≤ 2 ^ 30
         → outcomes (replayed (migrated octets) draws).events ≡ outcomes (replayed octets draws).events }
     ensures read { HasFailed (result ≡ Status.Read) (S.faults source.old) (S.faults source.new) (S.failed source.new) }
@@ -94,7 +107,10 @@ pub fn run<R: Threads + Sync, S: Source, K: Sink, L: Link, C: Clock, N: Noise, G
     ensures clock { HasFailed (result ≡ Status.Clock) (C.faults clock.old) (C.faults clock.new) (C.failed clock.new) }
     ensures noise { HasFailed (result ≡ Status.Noise) (N.faults noise.old) (N.faults noise.new) (N.failed noise.new) }
 {
-    headline();
+    the_headline_holds();
+    a_plain_run_is_faithful();
+    shared_ports_are_faithful();
+    joined_calls_stay_inside();
     migrated_scripts_tell_the_same();
     let command = match read_command(alloc, words) {
         Err(CommandFault::Usage) => return Status::Usage,
@@ -102,8 +118,10 @@ pub fn run<R: Threads + Sync, S: Source, K: Sink, L: Link, C: Clock, N: Noise, G
         Ok(command) => command,
     };
     match command {
-        Command::Replay { workers } => replay(rt, alloc, workers, source, sink, noise, gate),
-        Command::Relay { turns } => relay(alloc, turns, source, sink, link, clock, noise),
+        Command::Replay { workers, mux } => replay(
+            rt, alloc, workers, mux, source, sink, noise, gate,
+        ),
+        Command::Relay { turns, mux } => relay(alloc, turns, mux, source, sink, link, clock, noise),
         Command::Demo {
             calls,
             start,
@@ -111,34 +129,6 @@ pub fn run<R: Threads + Sync, S: Source, K: Sink, L: Link, C: Clock, N: Noise, G
         } => demo(rt, alloc, calls, start, workers, sink, gate),
         Command::Migrate => migrate(alloc, source, sink),
         Command::Capture => capture(rt, alloc, source, sink, noise, gate),
+        Command::Bridge => bridge(alloc, source, sink, noise),
     }
-}
-
-/// The headline holds of every list of events.
-fn headline()
-    ensures { (events : List Event) → Headline events }
-{
-    sg_gateway::nothing_forged();
-    sg_gateway::nothing_twice();
-    sg_gateway::nothing_within_reach_lost();
-    sg_gateway::no_counter_block_twice();
-    sg_gateway::seals_use_their_blocks();
-    sg_gateway::what_is_sealed_goes_out();
-    sg_gateway::calls_in_order();
-    sg_gateway::refusals_change_nothing();
-    sg_gateway::ended_calls_stay_away();
-    sg_gateway::earlier_generations_serve_no_longer();
-    sg_gateway::what_is_new_is_put_out();
-    sg_gateway::no_key_serves_past_its_life();
-    sg_gateway::no_key_is_forgotten();
-    sg_gateway::no_call_stays_idle();
-    sg_gateway::a_moment_comes_once();
-    sg_gateway::signals_are_carried_out();
-    sg_gateway::signals_are_taken();
-    sg_gateway::plain_texts_have_no_key();
-    sg_gateway::texts_tell_addresses();
-    sg_gateway::answers_are_by_their_texts();
-    sg_gateway::sessions_stay_what_they_were_made();
-    sg_gateway::tags_are_whole();
-    sg_gateway::messages_are_accepted_once();
 }

@@ -2,8 +2,9 @@
 //! program.
 
 use crate::calls::{
-    ENDED, ENDED_TOLD, FORGED_LINE, HEADER, KEYED, KEYED_TOLD, KNOWN_LINE, KNOWN_TOLD, OFFERED,
-    OFFERED_TOLD, PACKETS, PACKETS_TOLD, WHOLE_CALL, WHOLE_CALL_TOLD,
+    ENDED, ENDED_TOLD, FORGED_LINE, HANDED_ON_TOLD, HEADER, KEYED, KEYED_TOLD, KNOWN_LINE,
+    KNOWN_TOLD, MUXED, MUXED_PACKETS, MUXED_PACKETS_TOLD, MUXED_TOLD, OFFERED, OFFERED_TOLD,
+    PACKETS, PACKETS_TOLD, SECOND, SECOND_TOLD, WHOLE_CALL, WHOLE_CALL_TOLD,
 };
 use crate::outside::{Given, Outside, REPLAY, joined};
 use sg_base::ScriptFault;
@@ -173,8 +174,57 @@ fn scripts_are_migrated(rt: HostRuntime) -> Result<(), Fail> {
     Ok(())
 }
 
+// A call whose peer has RTP and RTCP on one port.
+#[test]
+fn ports_are_shared(rt: HostRuntime) -> Result<(), Fail> {
+    let given = Given {
+        words: &["replay", "--mux"],
+        ..REPLAY
+    };
+    tells(
+        &rt,
+        rt.alloc(),
+        &[HEADER, MUXED, MUXED_PACKETS, ENDED],
+        given,
+        Status::Done,
+        &[MUXED_TOLD, MUXED_PACKETS_TOLD, ENDED_TOLD],
+    )
+}
+
+// What one call opens the other seals, as long as the two are joined.
+#[test]
+fn calls_are_joined(rt: HostRuntime) -> Result<(), Fail> {
+    let given = Given {
+        words: &["bridge"],
+        ..REPLAY
+    };
+    tells(
+        &rt,
+        rt.alloc(),
+        &[
+            HEADER,
+            KEYED,
+            SECOND,
+            "join 1 2\n",
+            KNOWN_LINE,
+            KNOWN_LINE,
+            "part 2\n",
+        ],
+        given,
+        Status::Done,
+        &[
+            KEYED_TOLD,
+            SECOND_TOLD,
+            "joined 1 2\n",
+            HANDED_ON_TOLD,
+            "drop 20000 Repeat\n",
+            "parted 1 2\n",
+        ],
+    )
+}
+
 /// Words that are no command.
-const OTHER_WORDS: [&[&str]; 15] = [
+const OTHER_WORDS: [&[&str]; 17] = [
     &[],
     &["frob"],
     &["--help"],
@@ -190,6 +240,8 @@ const OTHER_WORDS: [&[&str]; 15] = [
     &["demo", "257", "1"],
     &["migrate", "1"],
     &["capture", "1"],
+    &["replay", "--mux", "--mux"],
+    &["bridge", "--mux"],
 ];
 
 #[test]

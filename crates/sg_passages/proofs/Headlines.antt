@@ -1,0 +1,121 @@
+-- Each part of the headline that tells what becomes of an event, over passages.
+use Rattle.std.proofs.Common.{List, get_or, ◌∙◌}
+use Rattle.std.specs.List.{All}
+use Rattle.sg_session.proofs.Lists.{any_weaker}
+use Rattle.sg_session.specs.Reach.{Sealed}
+use Rattle.sg_session.specs.Session.{Session}
+use Rattle.sg_gateway.specs.Addressed.{OfferIsItsText, OffersAreTheirTexts}
+use Rattle.sg_gateway.specs.Arriving as arriving
+use Rattle.sg_gateway.specs.Authentic.{MessagesAreAcceptedOnce, NotesStay, OfferIsAuthentic}
+use Rattle.sg_gateway.specs.CarriedOut.{AnswerRenews, AnswersRenew}
+use Rattle.sg_gateway.specs.Datagrams.{Entry}
+use Rattle.sg_gateway.specs.Departing as departing
+use Rattle.sg_gateway.specs.Ended.{EachEndFrees, EndsAreFree}
+use Rattle.sg_gateway.specs.Newness as newness
+use Rattle.sg_gateway.specs.PeersPackets as peers
+use Rattle.sg_gateway.specs.PlainTexts.{NoKeyGoesToThePlainSide, TellsNoKey}
+use Rattle.sg_gateway.specs.Refusing.{EachRefusalChangesNothing, EachRefusedOfferStaysOpen, OffersStayOpen}
+use Rattle.sg_gateway.specs.Runs.{Turn, turns}
+use Rattle.sg_gateway.specs.SealedOut as seals
+use Rattle.sg_gateway.specs.Step.{Event}
+use Rattle.sg_gateway.specs.Taken.{LaterOfferIsTaken, ManualCallIsTaken, ManualCallsAreTaken, NewOfferIsTaken, OffersAreTaken}
+use Rattle.sg_gateway.specs.Used.{EachSealUsesItsBlocks, SealsUseTheirBlocks}
+use Rattle.sg_gateway.specs.World.{Call}
+use Rattle.sg_passages.proofs.Lifting.{bars_out, bars_plain, bars_secure, each, made_live, none_told, one_out, some_end, some_refusal, told_out, told_refusal}
+use Rattle.sg_passages.proofs.Texts.{told_no_key}
+use Rattle.sg_passages.specs.Passages.{ArePassagesOf, IsFaithful, Passage}
+use Rattle.sg_passages.specs.PutOut as told
+use Rattle.sg_passages.specs.Told.{EachAsTold, OpensWhatGoesOut, PlainTextsHaveNoKey, RefusalChangesNothing, SealsWhatGoesOut, SignalStaysIn, as_told}
+
+-- ---- what is put out of one passage
+
+put_out : (p : Passage) → IsFaithful p → (e : Entry) → peers.IsPutOutOf p.turn e → told.IsPutOutOf p e
+put_out p f e a = any_weaker _ _ (λ c b. any_weaker _ _ (λ s is. record { name = is.name; key = is.key; out = one_out p f _ _ _ is.out }) c.sessions b) p.turn.before.calls a
+
+sealed_out : (p : Passage) → IsFaithful p → (e : Entry) (c : Call) (s : Session) → seals.IsSealedOutOf p.turn e c s → told.IsSealedOutOf p e c s
+sealed_out p f e c s is = record { name = is.name; encrypts = is.encrypts; key = is.key; out = one_out p f _ _ _ is.out }
+
+arrived_out : (p : Passage) → IsFaithful p → (c : Call) (s : Session) (x : Sealed) → arriving.IsPutOut p.turn c s x → told.IsPutOut p c s x
+arrived_out p f c s x is = record { opened = is.opened; out = one_out p f _ _ _ is.out }
+
+module _ (events : List Event) (passages : List Passage) (are : ArePassagesOf events passages) where
+  over : (P : Turn → Type 0) (Q : Passage → Type 0) → ((p : Passage) → IsFaithful p → P p.turn → Q p) → All P (turns events) → All Q passages
+  over P Q lift holds = each P Q lift passages (turns events) are.turns_are are.faithful holds
+
+  -- ---- packets
+
+  pub openings_sealed : (sealed : List Sealed) → peers.EachOpeningIsSealed sealed events → told.EachOpeningIsSealed sealed passages
+  openings_sealed sealed holds = over (peers.OpeningsAreSealed sealed) (told.OpeningsAreSealed sealed)
+      (λ p f h k d lt opening. record { by_peer = (h k d lt opening).by_peer; out = put_out p f (get_or p.turn.entries k d) (h k d lt opening).out }) holds
+
+  pub openings_out : peers.EachOpeningGoesOut events → told.EachOpeningGoesOut passages
+  openings_out holds = over peers.OpeningsGoOut told.OpeningsGoOut (λ p f h k d lt opening. put_out p f (get_or p.turn.entries k d) (h k d lt opening)) holds
+
+  pub only_openings : peers.OnlyOpeningsGoOut events → EachAsTold OpensWhatGoesOut passages
+  only_openings holds = over OpensWhatGoesOut (λ p. OpensWhatGoesOut (as_told p)) (λ p f h sealing. none_told peers.IsOutPlain p f (bars_plain p.leaves f.legs) (h sealing)) holds
+
+  pub seals_out : seals.EachSealGoesOut events → told.EachSealGoesOut passages
+  seals_out holds = over seals.SealsGoOut told.SealsGoOut
+      (λ p f h k d lt sealing. any_weaker _ _ (λ c b. any_weaker _ _ (λ s is. sealed_out p f (get_or p.turn.entries k d) c s is) c.sessions b) p.turn.before.calls (h k d lt sealing)) holds
+
+  pub only_seals : seals.OnlySealsGoOut events → EachAsTold SealsWhatGoesOut passages
+  only_seals holds = over SealsWhatGoesOut (λ p. SealsWhatGoesOut (as_told p)) (λ p f h opening. none_told seals.IsOutSecure p f (bars_secure p.leaves f.legs) (h opening)) holds
+
+  pub signals_quiet : seals.SignalsPutNothingOut events → EachAsTold SignalStaysIn passages
+  signals_quiet holds = over SignalStaysIn (λ p. SignalStaysIn (as_told p)) (λ p f h signal is. none_told seals.IsOut p f (bars_out p.leaves) (h signal is)) holds
+
+  pub blocks_used : EachSealUsesItsBlocks events → EachAsTold SealsUseTheirBlocks passages
+  blocks_used holds = over SealsUseTheirBlocks (λ p. SealsUseTheirBlocks (as_told p))
+      (λ p f h k d lt sealing encrypts port to text is. let was = told_out p f port to text is in h k d lt sealing encrypts was.port was.to text was.is) holds
+
+  pub arriving_out : (sealed : List Sealed) → arriving.EachArrivingIsPutOut sealed events → told.EachArrivingIsPutOut sealed passages
+  arriving_out sealed holds = over (arriving.ArrivingArePutOut sealed) (told.ArrivingArePutOut sealed)
+      (λ p f h x port from d c s k has is a. arrived_out p f c s x (h x port from d c s k has is a)) holds
+
+  pub new_out : (sealed : List Sealed) → newness.EachNewIsPutOut sealed events → told.EachNewIsPutOut sealed passages
+  new_out sealed holds = over (newness.NewArePutOut sealed) (told.NewArePutOut sealed)
+      (λ p f h x port from d c s k has is a. arrived_out p f c s x (h x port from d c s k has is a)) holds
+
+  pub departing_sealed : departing.EachDepartingIsSealed events → told.EachDepartingIsSealed passages
+  departing_sealed holds = over departing.DepartingAreSealed told.DepartingAreSealed
+      (λ p f h port from d c s ssrc index is a. any_weaker _ _ (λ k r. record { live = r.live; sealed = r.sealed; out = one_out p f _ _ _ r.out }) s.keys (h port from d c s ssrc index is a)) holds
+
+  -- ---- refusals and ends
+
+  pub refusals : EachRefusalChangesNothing events → EachAsTold RefusalChangesNothing passages
+  refusals holds = over RefusalChangesNothing (λ p. RefusalChangesNothing (as_told p)) (λ p f h refused. h (some_refusal p f refused)) holds
+
+  pub refused_offers : EachRefusedOfferStaysOpen events → EachAsTold OffersStayOpen passages
+  refused_offers holds = over OffersStayOpen (λ p. OffersStayOpen (as_told p)) (λ p f h id noise text o is has refused. h id noise text o is has (some_refusal p f refused)) holds
+
+  pub ends_free : EachEndFrees events → EachAsTold EndsAreFree passages
+  ends_free holds = over EndsAreFree (λ p. EndsAreFree (as_told p))
+      (λ p f h id slot media why has. let r = h id slot media why (some_end id slot media why p f has) in record { was = r.was; id_free = r.id_free; slot_free = r.slot_free }) holds
+
+  -- ---- signals that are taken
+
+  pub offers_taken : OffersAreTaken events → EachAsTold (λ t. NewOfferIsTaken t × LaterOfferIsTaken t) passages
+  offers_taken holds = over (λ t. NewOfferIsTaken t × LaterOfferIsTaken t) (λ p. NewOfferIsTaken (as_told p) × LaterOfferIsTaken (as_told p))
+      (λ p f h. (
+        (λ id way noise text a is none room agreed. let r = h.0 id way noise text a is none room agreed in (r.0, f.offers id way noise text is ∙ r.1)),
+        (λ id way noise text c a is found by_lines closed agreed. let r = h.1 id way noise text c a is found by_lines closed agreed in (r.0, f.offers id way noise text is ∙ r.1)),
+      )) holds
+
+  pub manual_taken : ManualCallsAreTaken events → EachAsTold ManualCallIsTaken passages
+  manual_taken holds = over ManualCallIsTaken (λ p. ManualCallIsTaken (as_told p))
+      (λ p f h call g is none room keyed. let r = h call g is none room keyed in (made_live p f _ _ _ r.0, r.1)) holds
+
+  pub answers_renew : AnswersRenew events → EachAsTold AnswerRenews passages
+  answers_renew holds = over AnswerRenews (λ p. AnswerRenews (as_told p)) (λ p f h id noise text c is found taken. h id noise text c is found (λ refused. taken (told_refusal p f refused))) holds
+
+  -- ---- texts
+
+  pub no_keys : NoKeyGoesToThePlainSide events → EachAsTold PlainTextsHaveNoKey passages
+  no_keys holds = over (λ t. All TellsNoKey t.outcomes) (λ p. PlainTextsHaveNoKey (as_told p)) told_no_key holds
+
+  pub offer_texts : OffersAreTheirTexts events → EachAsTold OfferIsItsText passages
+  offer_texts holds = over OfferIsItsText (λ p. OfferIsItsText (as_told p)) (λ p f h id way noise text is taken. h id way noise text is (λ refused. taken (told_refusal p f refused))) holds
+
+  pub messages : MessagesAreAcceptedOnce events → EachAsTold (λ t. OfferIsAuthentic t × NotesStay t) passages
+  messages holds = over (λ t. OfferIsAuthentic t × NotesStay t) (λ p. OfferIsAuthentic (as_told p) × NotesStay (as_told p))
+      (λ p f h. ((λ id way noise text is taken. h.0 id way noise text is (λ refused. taken (told_refusal p f refused))), h.1)) holds

@@ -1,0 +1,4 @@
+mod Headlines
+mod Lifting
+pub mod Plainly
+mod Texts

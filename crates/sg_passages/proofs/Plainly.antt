@@ -1,0 +1,55 @@
+-- A run that tells everything as the gateway gives it.
+use Rattle.std.proofs.Common.{◌≡◌, ◌⊎◌, inl, inr, ℕ, List, [], ◌∷◌, map, refl, ap}
+use Rattle.std.specs.List.{Any, AllByRecursion, slice_split}
+use Rattle.std.proofs.lemmas.List.Elements.{All-from_recursion}
+use Rattle.sg_outcome.specs.declared.outcomes.Outcome.{Outcome}
+use Rattle.sg_outcome.specs.declared.outcomes.Outcome.TheVariants.{Made, Live, Sdp, Refused, Ended, Out, Dropped, Unsent}
+use Rattle.sg_session.proofs.Lists.{any_here, any_there, each_weaker}
+use Rattle.sg_gateway.specs.PlainTexts.{ends_line}
+use Rattle.sg_gateway.specs.Runs.{Turn, turns}
+use Rattle.sg_gateway.specs.Step.{Event}
+use Rattle.sg_passages.specs.Passages.{AddsMuxLines, ArePassagesOf, AreToldAs, IsFaithful, IsToldAs, mux_line, plain_passages, plainly, straight}
+
+-- a text has its own lines and no others
+own_lines : (lines : List (List ℕ)) → AllByRecursion (λ line. Any (λ l. l ≡ line) lines ⊎ (line ≡ mux_line)) lines
+own_lines [] = tt
+own_lines (l ∷ ls) = (inl (any_here (λ m. m ≡ l) l ls refl), each_weaker (λ line. Any (λ m. m ≡ line) ls ⊎ (line ≡ mux_line)) _ further ls (own_lines ls))
+  where
+    further : (line : List ℕ) → Any (λ m. m ≡ line) ls ⊎ (line ≡ mux_line) → Any (λ m. m ≡ line) (l ∷ ls) ⊎ (line ≡ mux_line)
+    further line (inl own) = inl (any_there (λ m. m ≡ line) l ls own)
+    further line (inr added) = inr added
+
+pub same_text : (text : List ℕ) → AddsMuxLines text text
+same_text text = All-from_recursion _ (slice_split ends_line text) (own_lines (slice_split ends_line text))
+
+pub as_it_is : (o : Outcome) → IsToldAs straight o o
+as_it_is (Out port to octets) = refl
+as_it_is (Dropped port cause) = (port, refl)
+as_it_is (Sdp id side text) = (text, refl, same_text text)
+as_it_is (Made id slot media) = refl
+as_it_is (Live id) = refl
+as_it_is (Refused id cause) = refl
+as_it_is (Ended id slot media why) = refl
+as_it_is (Unsent port to) = refl
+
+pub all_as_they_are : (os : List Outcome) → AreToldAs straight os os
+all_as_they_are [] = refl
+all_as_they_are (o ∷ os) = (o, os, refl, as_it_is o, all_as_they_are os)
+
+faithful : (t : Turn) → IsFaithful (plainly t)
+faithful t = record {
+  told = all_as_they_are t.outcomes;
+  legs = record { leg = λ port to. refl; host = λ port to. refl };
+  offers = λ id way noise text is. refl;
+}
+
+all_faithful : (ts : List Turn) → AllByRecursion IsFaithful (map plainly ts)
+all_faithful [] = tt
+all_faithful (t ∷ ts) = (faithful t, all_faithful ts)
+
+turns_again : (ts : List Turn) → map (λ p. p.turn) (map plainly ts) ≡ ts
+turns_again [] = refl
+turns_again (t ∷ ts) = ap (λ us. t ∷ us) (turns_again ts)
+
+pub plain_run : (events : List Event) → ArePassagesOf events (plain_passages events)
+plain_run events = record { turns_are = turns_again (turns events); faithful = All-from_recursion IsFaithful _ (all_faithful (turns events)) }
