@@ -37,18 +37,16 @@ use Rattle.sg_gateway.proofs.Pairs.{Pairs, pairs_from}
 use Rattle.sg_gateway.proofs.Signals.{is_found, each_and_call, each_with_call}
 use Rattle.sg_gateway.specs.CallSignals.{has_begun, keyed_manually, at_hand, takes_offer, offered_in, answered_to, answered_in, is_idle, call_at_tick, drops_earlier, without_earlier}
 use Rattle.sg_gateway.specs.Datagrams.{Given, put, call_after, given_to, arrived_in, arrived_at}
-use Rattle.sg_gateway.specs.Events.{outcomes_from}
 use Rattle.sg_gateway.specs.Generations.{Settled, keyed}
 use Rattle.sg_gateway.specs.Order.{IsBefore, IsOrderly, AreOfMedia}
 use Rattle.sg_gateway.specs.Ports.{call_at, has_port, port_at, port_out, leg_of, other_direction}
-use Rattle.sg_gateway.specs.Runs.{world_after}
 use Rattle.sg_gateway.specs.Signals.{Signal, Tick, Psk, Manual, Offered, Answered, Reject, Bye, Answer, ended, refused, ticked, new_call, in_new, in_old, tells_live, tells_text, offered_to, offering_side, tells_answer, answered, rejected_to, rejected, left, answer_to}
 use Rattle.sg_gateway.specs.Step.{Event, Signalled, Datagram, step}
-use Rattle.sg_gateway.specs.World.{Books, Call, World, call_of, empty, with_call, without_call, and_call, is_full}
-use Rattle.sg_relay.specs.Asked.{Ask, asks_of}
-use Rattle.sg_relay.specs.Held.{held_after, PortsAreOfCalls}
-use Rattle.sg_relay.proofs.Held.{AreFit, after, each_fits, fit_append, fit_same, held-append}
-use Rattle.sg_relay.proofs.CallPorts.{Apart, apart_from, all_ended, any_of_calls, ended_fit, ended_in, ended_other, has_within, made_asks, made_fit, made_held, none_has, of_any, of_calls, of_map, of_one, others_have, parted, tested_held}
+use Rattle.sg_gateway.specs.World.{Books, Call, World, call_of, with_call, without_call, and_call, is_full}
+use Rattle.sg_relay.specs.Asked.{asks_of}
+use Rattle.sg_relay.specs.Held.{held_after}
+use Rattle.sg_relay.proofs.Held.{AreFit}
+use Rattle.sg_relay.proofs.CallPorts.{Apart, apart_from, all_ended, ended_fit, ended_in, ended_other, has_within, made_asks, made_fit, made_held, none_has, of_calls, of_map, of_one, others_have, parted, tested_held}
 
 -- a call that is there has an open offer or a generation
 abbrev pub Begun : Call → Type 0

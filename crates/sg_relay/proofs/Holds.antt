@@ -79,3 +79,10 @@ holds law muxes s turns old new p run =
           (law muxes (events_by p (receipts_in before))).ports;
       each = fits_prefix (asks_in p.calls) (flat_map asks_of (outcomes_in muxes asked.0)) asked.1 (law muxes asked.0).each;
     }
+
+-- a relay that asked its link for nothing
+pub holds_none : (muxes : Bool) (p : Passed) → p.calls ≡ [] → HoldsItsCallsPorts muxes p
+holds_none muxes p none = record {
+  at_receives = λ before rest x is. absurd (omega (arith, ap length (sym none ∙ is), length-append before (Receive x ∷ rest)));
+  each = λ before rest ask is. absurd (omega (arith, ap length (sym (ap asks_in none) ∙ is), length-append before (ask ∷ rest)));
+}
