@@ -14,7 +14,7 @@ use Rattle.sg_gateway.specs.Signals.{Signal, Tick, Psk, Manual, Offered, Answere
 use Rattle.sg_gateway.specs.Step.{Event, Signalled, Datagram, step}
 use Rattle.sg_gateway.specs.World.{Call, World, empty}
 use Rattle.sg_mux.specs.Legs.{arrived_port, is_muxed_at, is_muxed_rtcp, leaves}
-use Rattle.sg_mux.specs.Muxed.{answered, settled, signalled}
+use Rattle.sg_mux.specs.Muxed.{settled_answer, settled, signalled}
 use Rattle.sg_mux.specs.Via.{events_in, told_at}
 use Rattle.sg_mux.specs.declared.known.Known.{Known}
 use Rattle.sg_outcome.specs.declared.outcomes.Outcome.{Outcome}
@@ -39,7 +39,7 @@ settled_asks calls (outcomes.Out port to octets) = refl
 settled_asks calls (outcomes.Dropped port cause) = refl
 settled_asks calls (outcomes.Unsent port to) = refl
 
-answered_asks : (calls : List (Option Known)) (os : List Outcome) → flat_map asks_of (answered calls os).told ≡ flat_map asks_of os
+answered_asks : (calls : List (Option Known)) (os : List Outcome) → flat_map asks_of (settled_answer calls os).told ≡ flat_map asks_of os
 answered_asks calls [] = refl
 answered_asks calls (o ∷ os) = ap (λ (l : List Ask). l ++ flat_map asks_of os) (settled_asks calls o)
 
