@@ -1,5 +1,5 @@
 -- What a run did, by how its words were read.
-use Rattle.std.proofs.Common.{◌≡◌, ◌⊎◌, ◌≤◌, ℕ, List, [], ◌∷◌, length, length-append, Bool, Option, Result, Ok, Err, refl, sym, ap, ◌∙◌, subst, inl, inr, arith, eqb, true, false}
+use Rattle.std.proofs.Common.{◌≡◌, ◌⊎◌, ◌≤◌, ℕ, List, [], Bool, Option, Result, Ok, Err, refl, sym, ap, ◌∙◌, subst, inl, inr, arith, eqb, true, false}
 use Rattle.std.proofs.lemmas.Bool.{false≢true, eq-eqb}
 use Rattle.std.proofs.lemmas.List.{append-nil}
 use Rattle.std.proofs.lemmas.List.Elements.{All-from_recursion}
@@ -16,7 +16,6 @@ use Rattle.sg_demo.specs.Demonstration.{demonstration, events_in}
 use Rattle.sg_demo.specs.Text.{IsShown, summary_text}
 use Rattle.sg_edge.proofs.Links.{added_none}
 use Rattle.sg_edge.proofs.Passed.{took_none, wrote_none}
-use Rattle.sg_edge.specs.Links.{Receive}
 use Rattle.sg_edge.specs.Told.{Rose}
 use Rattle.sg_gateway.specs.Step.{Event}
 use Rattle.sg_gateway.specs.World.{empty}
@@ -26,9 +25,9 @@ use Rattle.sg_mux.specs.Via.{events_in as table_events, outcomes_in, passages_in
 use Rattle.sg_passages.specs.Passages.{Passage}
 use Rattle.sg_playback.specs.Replay.{IsReplay, output_in}
 use Rattle.sg_playback.specs.Replay as replays
+use Rattle.sg_relay.proofs.Holds.{holds_none}
 use Rattle.sg_relay.proofs.Order.{order_none}
-use Rattle.sg_relay.specs.Asked.{asks_in}
-use Rattle.sg_relay.specs.Relay.{HoldsItsCallsPorts, IsRelay, Passed}
+use Rattle.sg_relay.specs.Relay.{IsRelay, Passed}
 use Rattle.sg_relay.specs.Relay as relays
 use Rattle.sg_run.specs.Run.{AreTaken, HasBridged, HasCaptured, HasDone, HasMigrated, HasRelayed, HasReplayed, HasRun, HasShown, Outside}
 use Rattle.sg_words.specs.Commands.{AreWordsOf, IsNoCommand, Words}
@@ -66,13 +65,6 @@ not_replayed muxes old = record {
   };
   events_are = no_events muxes;
   passages_are = no_passages muxes;
-}
-
--- a relay that asked its link for nothing
-holds_none : (muxes : Bool) (p : Passed) → p.calls ≡ [] → HoldsItsCallsPorts muxes p
-holds_none muxes p none = record {
-  at_receives = λ before rest x is. absurd (omega (arith, ap length (sym none ∙ is), length-append before (Receive x ∷ rest)));
-  each = λ before rest ask is. absurd (omega (arith, ap length (sym (ap asks_in none) ∙ is), length-append before (ask ∷ rest)));
 }
 
 not_relayed : (muxes : Bool) (turns : ℕ) (old : Outside) → HasRelayed muxes turns NoMemory old old [] []
