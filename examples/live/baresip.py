@@ -15,8 +15,10 @@ from pathlib import Path
 
 from b2bua import PORTS, Server
 from ends import PLAIN_RTP, is_bound, program, require_free, wait_until
-from driver import Driver
+from driver import Driver, Program
 
+# Whether telephones offer one port for RTP and RTCP, and the gateway takes it.
+MUXES = "--mux" in sys.argv[1:]
 SECONDS = 10
 PHONE, PLAIN_PHONE, ECHO = ("127.0.0.1", 5060), ("127.0.0.1", 5062), ("127.0.0.1", 5080)
 ECHO_RTP = 43_000
@@ -34,6 +36,7 @@ ausrc_srate 8000
 auplay_srate 8000
 rtp_ports {rtp}-{last}
 rtp_stats yes
+rtcp_mux {mux}
 snd_path {folder}
 ctrl_tcp_listen {host}:{control}
 module_path {modules}
@@ -88,7 +91,7 @@ class Phone:
         (self.folder / "config").write_text(
             CONFIG.format(
                 host=host, port=port, control=self.control[1], folder=self.folder, modules=modules(), rtp=rtp,
-                last=rtp + 20))
+                last=rtp + 20, mux="yes" if MUXES else "no"))
         keyed = ";mediaenc=srtp-mand" if secure else ""
         account = f"<sip:{name}@{host}>;regint=0;answermode=auto;audio_codecs=PCMU/8000/1{keyed}\n"
         (self.folder / "accounts").write_text(account)
@@ -137,7 +140,7 @@ def told(phone, source):
 def serving(driver, peers):
     """A SIP server for the time being."""
     over = threading.Event()
-    server = Server(driver, peers)
+    server = Server(driver, peers, muxes=MUXES)
     thread = threading.Thread(target=server.serve, args=(over.is_set,))
     thread.start()
     try:
@@ -200,7 +203,7 @@ def main():
     require_free(PHONE[1], PLAIN_PHONE[1], ECHO[1], *PORTS.values())
     print(subprocess.run(["baresip", "-h"], capture_output=True, text=True).stdout.splitlines()[0])
     print(subprocess.run(["sipp", "-v"], capture_output=True, text=True).stdout.strip().splitlines()[0])
-    driver = Driver(program())
+    driver = Driver(Program(program(), muxes=MUXES))
     good = []
     with tempfile.TemporaryDirectory() as folder:
         for scene in (calls_an_echo, is_called, is_held):

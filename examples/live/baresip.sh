@@ -9,9 +9,11 @@
 # samples that the other one played, in their order and without a gap; in the third call, where each took the
 # packets that the other one sent, but for at most three that were under way when it hung up.
 #
-#   examples/live/baresip.sh                 with ./srtpgw, or with the program that SRTPGW names
+# With `--mux` the telephones offer one port for RTP and RTCP, and the gateway takes it from the one that calls.
+#
+#   examples/live/baresip.sh [--mux]         with ./srtpgw, or with the program that SRTPGW names
 . "$(dirname "$0")/needs.sh"
 needs baresip baresip-core
 needs sipp sip-tester
 hostname -I | grep -q '\.' || { echo 'not run: baresip needs an IPv4 address besides the loopback' >&2; exit 77; }
-exec timeout -k 5 600 python3 "$here/baresip.py"
+exec timeout -k 5 600 python3 "$here/baresip.py" "$@"

@@ -9,12 +9,12 @@ import threading
 import time
 from pathlib import Path
 
-from descriptions import MUX
-from driver import Driver, Program
 from ends import (
     End, Key, NEAR_WRAP, PLAIN, PLAIN_RTCP, PLAIN_RTP, SECURE, SECURE_RTP, SSRC, is_bound, numbers_of, packets_of,
     payloads_of, program, require_free, speech, told, wait_until,
 )
+from descriptions import MUX
+from driver import Driver, Program
 from gstreamer import GSTREAMER, SUITES
 
 SECONDS, REPORT_EACH = 12, 0.5
@@ -33,7 +33,7 @@ def sender(audio, reports, key):
     cipher, tag = SUITES[key.suite]
     sealed = [f"key={key.hex()}", f"rtp-cipher={cipher}", f"rtp-auth={tag}", f"rtcp-cipher={cipher}", "rtcp-auth=hmac-sha1-80"]
     return [
-        *GSTREAMER, "rtpbin", "name=rtp", "srtpenc", "name=enc", *sealed,
+        *GSTREAMER[:2], "rtpbin", "name=rtp", "srtpenc", "name=enc", *sealed,
         "funnel", "name=both", "!", "udpsink", "host=127.0.0.1", f"port={SECURE_RTP}", "bind-address=127.0.0.1", "async=false",
         "filesrc", f"location={audio}", "!", *PARSED, "!", *PAYLOAD, "!", "rtp.send_rtp_sink_0",
         "rtp.send_rtp_src_0", "!", "enc.rtp_sink_0", "enc.rtp_src_0", "!", "both.",
@@ -49,8 +49,8 @@ def receiver(audio, reports, key):
             f"ssrc=(uint){SSRC}", f"srtp-key=(buffer){key.hex()}", f"srtp-cipher={cipher}", f"srtp-auth={tag}",
             f"srtcp-cipher={cipher}", "srtcp-auth=hmac-sha1-80", "roc=(uint)0"]
     return [
-        *GSTREAMER, "udpsrc", "address=127.0.0.1", f"port={SECURE[1]}", f"caps={','.join(caps)}", "!", "dec.rtp_sink",
-        "srtpdec", "name=dec", "dec.rtp_src", "!", "rtppcmudepay", "!", "filesink", f"location={audio}", "async=false",
+        *GSTREAMER[:2], "udpsrc", "address=127.0.0.1", f"port={SECURE[1]}", f"caps={','.join(caps)}", "!", "dec.rtp_sink",
+        "srtpdec", "name=dec", "dec.rtp_src", "!", "rtppcmudepay", "!", "filesink", f"location={audio}", "async=false", "buffer-mode=unbuffered",
         "dec.rtcp_src", "!", "filesink", f"location={reports}", "sync=false", "async=false", "buffer-mode=unbuffered",
     ]
 
@@ -87,11 +87,10 @@ def one_suite(driver, call, suite, folder):
         reporting.start()
         plain.send(PLAIN_RTP, packets_of(back))
         reporting.join()
-        sending.wait(timeout=60)
+        ends(sending, 5)
         time.sleep(1)
     finally:
-        receiving.send_signal(signal.SIGINT)
-        receiving.wait(timeout=20)
+        ends(receiving, 0)
         plain.close()
         control.close()
     driver.bye(call)
@@ -102,6 +101,15 @@ def one_suite(driver, call, suite, folder):
         told(f"{suite}, {len(reports)} reports to GStreamer", b"".join(reports), heard_reports.read_bytes()),
     ]
     return all(good) and len(control.packets) > 0
+
+
+def ends(process, seconds):
+    """Ends a process, where it doesn't end by itself: that its reports are over doesn't always reach GStreamer's sink."""
+    try:
+        process.wait(timeout=seconds)
+    except subprocess.TimeoutExpired:
+        process.send_signal(signal.SIGINT)
+        process.wait(timeout=20)
 
 
 def reports_each(control, reports):

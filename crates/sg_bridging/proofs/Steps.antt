@@ -8,9 +8,9 @@ use Rattle.sg_base.specs.declared.addresses.Address.{Address}
 use Rattle.sg_base.specs.declared.faults.DropCause.{DropCause}
 use Rattle.sg_base.specs.declared.faults.DropCause.TheVariants.{PortUnused}
 use Rattle.sg_bridge.specs.BridgeText.{bridge_outcome_line}
-use Rattle.sg_bridge.specs.Bridged.{Bridging, Said, Following, arrived, behind, bridging, bridgings_from, followed, handed_on, happened, happens, inner, inner_told, nothing_happens, opened, passed}
+use Rattle.sg_bridge.specs.Bridged.{Bridging, Said, Following, arrived, behind, bridging, bridgings_from, told_and_parted, handed_on, happened, happens, inner, inner_told, nothing_happens, opened, passed}
 use Rattle.sg_bridge.specs.Onward.{onward}
-use Rattle.sg_bridge.specs.Pairs.{Members, noted}
+use Rattle.sg_bridge.specs.Pairs.{Members, after_outcome}
 use Rattle.sg_bridge.specs.declared.outcomes.BridgeOutcome.{BridgeOutcome}
 use Rattle.sg_bridge.specs.declared.outcomes.BridgeOutcome.TheVariants as tells
 use Rattle.sg_bridging.specs.Steps.{HasTold, IsBridged, IsStepped, StandsFor, State, SwitchboardValue, after, state_after, text_from, told_next}

@@ -1,7 +1,6 @@
 -- A batch whose datagrams come at other ports to the table, and are given back at theirs.
-use Rattle.std.proofs.Common.{◌≡◌, ℕ, zero, suc, ◌+◌, ◌<◌, ◌≤◌, List, [], ◌∷◌, ◌++◌, map, take, drop, length, get_or, refl, sym, ap, ◌∙◌, subst, arith, add-one, Option, Some}
+use Rattle.std.proofs.Common.{◌≡◌, ℕ, zero, suc, ◌+◌, ◌<◌, List, [], ◌∷◌, ◌++◌, map, take, drop, length, get_or, refl, sym, ap, ◌∙◌, subst, arith, add-one, Option}
 use Rattle.std.specs.Prelude.{slice_set}
-use Rattle.std.proofs.lemmas.List.{length-map}
 use Rattle.sg_call.specs.declared.handled.Handled.{Handled}
 use Rattle.sg_front.proofs.Sharing.{end_told, one_told}
 use Rattle.sg_front.specs.Parts.{all_given_back, given_back, shared, sharing, taken}
@@ -9,9 +8,9 @@ use Rattle.sg_front.specs.States.{FrontStandsFor, IsBatched, state_after, told_f
 use Rattle.sg_gateway.specs.Events.{outcomes_from}
 use Rattle.sg_gateway.specs.Octets.{as_octets}
 use Rattle.sg_gateway.specs.Runs.{world_after}
-use Rattle.sg_gateway.specs.Step.{Event, step}
+use Rattle.sg_gateway.specs.Step.{step}
 use Rattle.sg_gateway.specs.World.{World}
-use Rattle.sg_mux.specs.Via.{told_at, via}
+use Rattle.sg_mux.specs.Via.{told_at}
 use Rattle.sg_mux.specs.declared.known.Known.{Known}
 use Rattle.sg_outcome.specs.declared.outcomes.Outcome.{Outcome}
 use Rattle.sg_table.specs.Batches as tables
@@ -57,33 +56,33 @@ module _ (calls : List (Option Known)) where
   -- ---- what is told of a batch
 
   abbrev ports_of : List Arrival → List ℕ
-  ports_of as = map (λ a. a.port) as
+  ports_of came = map (λ a. a.port) came
 
   head_is : (o q : Outcome) (os qs : List Outcome) → o ∷ os ≡ q ∷ qs → (o ≡ q) × (os ≡ qs)
   head_is o q os qs e = (ap (λ (l : List Outcome). get_or l 0 o) e, ap (drop 1) e)
 
-  told : (w : World) (as : List Arrival) (rest : List ℕ) → told_of (answered w (map (taken calls) as)) ≡ outcomes_from w (map arrived (map (taken calls) as))
-      → told_of (all_given_back calls (ports_of as ++ rest) (answered w (map (taken calls) as))) ≡ told_from (shared w calls) (map arrived as)
+  told : (w : World) (came : List Arrival) (rest : List ℕ) → told_of (answered w (map (taken calls) came)) ≡ outcomes_from w (map arrived (map (taken calls) came))
+      → told_of (all_given_back calls (ports_of came ++ rest) (answered w (map (taken calls) came))) ≡ told_from (shared w calls) (map arrived came)
   told w [] rest is = refl
-  told w (a ∷ as) rest is =
+  told w (a ∷ came) rest is =
       let t : Arrival = taken calls a in
       let one = one_told w t.port t.from (as_octets (octets_of a.pad)) in
       let h : Handled = handled_at w t in
-      let later : List Arrival = answered (step w (arrived t)).world (map (taken calls) as) in
-      let parts = head_is (outcome_by t.port h.pad h.end) one.0 (told_of later) (outcomes_from (step w (arrived t)).world (map arrived (map (taken calls) as)))
-      (is ∙ ap (λ (os : List Outcome). os ++ outcomes_from (step w (arrived t)).world (map arrived (map (taken calls) as))) one.1) in
-      (λ i. end_told calls a.port t.port h.pad h.end i ∷ told (step w (arrived t)).world as rest parts.1 i)
-      ∙ (λ i. told_at calls a.port (parts.0 i) ∷ told_from (shared (step w (arrived t)).world calls) (map arrived as))
-      ∙ ap (λ (os : List Outcome). map (told_at calls a.port) os ++ told_from (shared (step w (arrived t)).world calls) (map arrived as)) (sym one.1)
+      let later : List Arrival = answered (step w (arrived t)).world (map (taken calls) came) in
+      let parts = head_is (outcome_by t.port h.pad h.end) one.0 (told_of later) (outcomes_from (step w (arrived t)).world (map arrived (map (taken calls) came)))
+      (is ∙ ap (λ (os : List Outcome). os ++ outcomes_from (step w (arrived t)).world (map arrived (map (taken calls) came))) one.1) in
+      (λ i. end_told calls a.port t.port h.pad h.end i ∷ told (step w (arrived t)).world came rest parts.1 i)
+      ∙ (λ i. told_at calls a.port (parts.0 i) ∷ told_from (shared (step w (arrived t)).world calls) (map arrived came))
+      ∙ ap (λ (os : List Outcome). map (told_at calls a.port) os ++ told_from (shared (step w (arrived t)).world calls) (map arrived came)) (sym one.1)
 
-  after : (w : World) (as : List Arrival) → state_after (shared w calls) (map arrived as) ≡ shared (world_after w (map arrived (map (taken calls) as))) calls
+  after : (w : World) (came : List Arrival) → state_after (shared w calls) (map arrived came) ≡ shared (world_after w (map arrived (map (taken calls) came))) calls
   after w [] = refl
-  after w (a ∷ as) = after (step w (arrived (taken calls a))).world as
+  after w (a ∷ came) = after (step w (arrived (taken calls a))).world came
 
-  pub shared_batch : (w : World) (as news : List Arrival) (rest : List ℕ) (table : TableValue) → tables.IsBatched w (map (taken calls) as) news table
-      → IsBatched (shared w calls) as (all_given_back calls (ports_of as ++ rest) news) (sharing table calls)
-  shared_batch w as news rest table is = record {
-    told = ap (λ (l : List Arrival). told_of (all_given_back calls (ports_of as ++ rest) l)) is.are
-        ∙ told w as rest (ap told_of (sym is.are) ∙ is.told);
-    stands = subst (FrontStandsFor (sharing table calls)) (sym (after w as)) (record { muxes = refl; calls = refl; world = is.stands });
+  pub shared_batch : (w : World) (came news : List Arrival) (rest : List ℕ) (table : TableValue) → tables.IsBatched w (map (taken calls) came) news table
+      → IsBatched (shared w calls) came (all_given_back calls (ports_of came ++ rest) news) (sharing table calls)
+  shared_batch w came news rest table is = record {
+    told = ap (λ (l : List Arrival). told_of (all_given_back calls (ports_of came ++ rest) l)) is.are
+        ∙ told w came rest (ap told_of (sym is.are) ∙ is.told);
+    stands = subst (FrontStandsFor (sharing table calls)) (sym (after w came)) (record { muxes = refl; calls = refl; world = is.stands });
   }

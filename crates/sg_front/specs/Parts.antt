@@ -37,5 +37,5 @@ given_back calls port a = record a { port = port; end = option_map (departed cal
 -- each at its port
 abbrev pub all_given_back : List (Option Known) → List ℕ → List Arrival → List Arrival
 all_given_back calls ports [] = []
-all_given_back calls [] (a ∷ as) = a ∷ as
-all_given_back calls (port ∷ ports) (a ∷ as) = given_back calls port a ∷ all_given_back calls ports as
+all_given_back calls [] (a ∷ later) = a ∷ later
+all_given_back calls (port ∷ ports) (a ∷ later) = given_back calls port a ∷ all_given_back calls ports later

@@ -11,7 +11,7 @@ use Rattle.sg_mux.specs.Via.{outcomes_in}
 use Rattle.sg_outcome.specs.declared.outcomes.Outcome.{Outcome}
 use Rattle.sg_relay.specs.Asked.{Ask, IsAtNext, IsCutOff, IsPart, ask_in, asks_in, asks_of, receipts_in}
 use Rattle.sg_relay.specs.Held.{AreOfCalls, EachFits, PortsAreOfCalls}
-use Rattle.sg_relay.specs.Relay.{Ends, HoldsItsCallsPorts, IsRelay, IsWhole, Passed, Tellings, events_by, trace_of, world_by}
+use Rattle.sg_relay.specs.Relay.{RelayEnds, HoldsItsCallsPorts, IsRelay, IsWholeRelay, Passed, RelayTellings, events_by, trace_of, world_by}
 use Rattle.sg_relay.proofs.Deeds.{flat_append, prefix_after, prefix_all, prefix_longer}
 
 -- the asks are a prefix of those that are told of some events
@@ -26,7 +26,7 @@ prefix_of done others next before last asked prefix =
     (subst (IsPrefixOf (flat_map asks_of done ++ asks_in last)) (sym (flat_append asks_of done (next ∷ others)))
     (prefix_after (flat_map asks_of done) (asks_in last) (asks_of next ++ flat_map asks_of others) (prefix_longer (asks_in last) (asks_of next) (flat_map asks_of others) prefix)))
 
-whole_prefix : (muxes : Bool) (p : Passed) (stop : _) → IsWhole muxes p stop → IsPrefix muxes (asks_in p.calls)
+whole_prefix : (muxes : Bool) (p : Passed) (stop : _) → IsWholeRelay muxes p stop → IsPrefix muxes (asks_in p.calls)
 whole_prefix muxes p stop whole = ((trace_of p).events, subst (IsPrefixOf (asks_in p.calls)) whole.done.asked (prefix_all (asks_in p.calls)))
 
 part_prefix : (muxes : Bool) (es : List Event) (calls : List LinkCall) (out : List ℕ) → IsPart (outcomes_in muxes es) calls out → IsPrefix muxes (asks_in calls)
@@ -53,7 +53,7 @@ cut_prefix muxes es calls out cut = (
       (prefix_of cut.done cut.others cut.next cut.before cut.last cut.whole.asked cut.fails.asked)),
 )
 
-prefix : (muxes : Bool) (s : Status) (turns : ℕ) (p : Passed) (left : Option (List ℕ)) → Ends muxes s turns p left → IsPrefix muxes (asks_in p.calls)
+prefix : (muxes : Bool) (s : Status) (turns : ℕ) (p : Passed) (left : Option (List ℕ)) → RelayEnds muxes s turns p left → IsPrefix muxes (asks_in p.calls)
 prefix muxes Done turns p left ends = whole_prefix muxes p _ ends.0
 prefix muxes (Script n fault) turns p left ends = whole_prefix muxes p _ ends.0
 prefix muxes TurnsSpent turns p left ends = whole_prefix muxes p _ ends.0
@@ -71,7 +71,7 @@ prefix muxes (Capture offset fault) turns p left ends = absurd ends
 fits_prefix : (asks all : List Ask) → IsPrefixOf asks all → EachFits all → EachFits asks
 fits_prefix asks all (rest, is) fits = λ before more ask at. fits before (more ++ rest) ask (is ∙ ap (λ (l : List Ask). l ++ rest) at ∙ append_assoc before (ask ∷ more) rest)
 
-pub holds : ((muxes : Bool) (es : List Event) → PortsAreOfCalls muxes es) → (muxes : Bool) (s : Status) (turns : ℕ) (old new : Tellings) (p : Passed) → IsRelay muxes s turns old new p → HoldsItsCallsPorts muxes p
+pub holds : ((muxes : Bool) (es : List Event) → PortsAreOfCalls muxes es) → (muxes : Bool) (s : Status) (turns : ℕ) (old new : RelayTellings) (p : Passed) → IsRelay muxes s turns old new p → HoldsItsCallsPorts muxes p
 holds law muxes s turns old new p run =
     let asked = prefix muxes s turns p new.left run.ends in
     record {
@@ -79,3 +79,10 @@ holds law muxes s turns old new p run =
           (law muxes (events_by p (receipts_in before))).ports;
       each = fits_prefix (asks_in p.calls) (flat_map asks_of (outcomes_in muxes asked.0)) asked.1 (law muxes asked.0).each;
     }
+
+-- a relay that asked its link for nothing
+pub holds_none : (muxes : Bool) (p : Passed) → p.calls ≡ [] → HoldsItsCallsPorts muxes p
+holds_none muxes p none = record {
+  at_receives = λ before rest x is. absurd (omega (arith, ap length (sym none ∙ is), length-append before (Receive x ∷ rest)));
+  each = λ before rest ask is. absurd (omega (arith, ap length (sym (ap asks_in none) ∙ is), length-append before (ask ∷ rest)));
+}

@@ -1,6 +1,6 @@
 -- What is told of an event asks for what its outcomes ask for, and a packet that leaves by the port that its leg shares
 -- leaves by another port of its call: so after each event the ports that are held are those of the calls that are there.
-use Rattle.std.proofs.Common.{◌≡◌, inl, inr, ℕ, ◌-◌, ◌%◌, Bool, true, false, cond, not, ◌&&◌, ◌||◌, eqb, List, [], ◌∷◌, ◌++◌, map, Option, Some, None, refl, sym, ap, ◌∙◌, subst, append_assoc, arith}
+use Rattle.std.proofs.Common.{◌≡◌, inl, inr, ℕ, ◌-◌, ◌%◌, Bool, true, false, cond, not, ◌&&◌, eqb, List, [], ◌∷◌, ◌++◌, map, Option, Some, None, refl, sym, ap, ◌∙◌, subst, arith}
 use Rattle.std.proofs.lemmas.Bool.{and_parts, eqb-true, or_cases, or_left, or_right}
 use Rattle.std.specs.List.{AllByRecursion, flat_map}
 use Rattle.sg_base.specs.declared.addresses.Address.{Address}
@@ -14,7 +14,7 @@ use Rattle.sg_gateway.specs.Signals.{Signal, Tick, Psk, Manual, Offered, Answere
 use Rattle.sg_gateway.specs.Step.{Event, Signalled, Datagram, step}
 use Rattle.sg_gateway.specs.World.{Call, World, empty}
 use Rattle.sg_mux.specs.Legs.{arrived_port, is_muxed_at, is_muxed_rtcp, leaves}
-use Rattle.sg_mux.specs.Muxed.{answered, settled, signalled}
+use Rattle.sg_mux.specs.Muxed.{settled_answer, settled, signalled}
 use Rattle.sg_mux.specs.Via.{events_in, told_at}
 use Rattle.sg_mux.specs.declared.known.Known.{Known}
 use Rattle.sg_outcome.specs.declared.outcomes.Outcome.{Outcome}
@@ -39,7 +39,7 @@ settled_asks calls (outcomes.Out port to octets) = refl
 settled_asks calls (outcomes.Dropped port cause) = refl
 settled_asks calls (outcomes.Unsent port to) = refl
 
-answered_asks : (calls : List (Option Known)) (os : List Outcome) → flat_map asks_of (answered calls os).told ≡ flat_map asks_of os
+answered_asks : (calls : List (Option Known)) (os : List Outcome) → flat_map asks_of (settled_answer calls os).told ≡ flat_map asks_of os
 answered_asks calls [] = refl
 answered_asks calls (o ∷ os) = ap (λ (l : List Ask). l ++ flat_map asks_of os) (settled_asks calls o)
 

@@ -41,7 +41,7 @@ nothing = record { readings = []; receipts = []; draws = [] }
 
 -- All that the events ask for was done, and no reading, receive or draw was taken besides. No call of the link
 -- but a send has failed.
-pub record IsWhole (muxes : Bool) (p : Passed) (stop : Rattle.sg_trace.specs.Trace.Stop) : Type 0 where
+pub record IsWholeRelay (muxes : Bool) (p : Passed) (stop : Rattle.sg_trace.specs.Trace.Stop) : Type 0 where
   pub stops : (trace_of p).stop ≡ stop
   pub left : (trace_of p).left ≡ nothing
   pub done : IsDone (outcomes_in muxes (trace_of p).events) p.calls p.out
@@ -59,20 +59,20 @@ pub record IsBroken (muxes : Bool) (p : Passed) : Type 0 where
 -- Clock a reading comes next, within the turns, with Noise a draw. With Link the link's last call failed: a receive
 -- comes next, or an outcome whose ports are bound or given up, and all before it was done. With every other status all
 -- before some outcome was done and written; of that one nothing was, or what it asks for and a prefix of its line.
-abbrev pub Ends : Bool → Status → ℕ → Passed → Option (List ℕ) → Type 0
-Ends muxes Done turns p left = IsWhole muxes p BehindAll × AtEnd left
-Ends muxes (Script n fault) turns p left =
-    IsWhole muxes p (AtFault n fault) × (fault ≡ Unended → AtEnd left)
+abbrev pub RelayEnds : Bool → Status → ℕ → Passed → Option (List ℕ) → Type 0
+RelayEnds muxes Done turns p left = IsWholeRelay muxes p BehindAll × AtEnd left
+RelayEnds muxes (Script n fault) turns p left =
+    IsWholeRelay muxes p (AtFault n fault) × (fault ≡ Unended → AtEnd left)
     × (¬ (fault ≡ Unended) → (more : List ℕ) → (trace_of (record p { octets = p.octets ++ more })).stop ≡ AtFault n fault)
-Ends muxes TurnsSpent turns p left = IsWhole muxes p ForReading × (length p.readings ≡ turns + 1)
-Ends muxes Clock turns p left = IsWhole muxes p ForReading × (length p.readings ≤ turns)
-Ends muxes Noise turns p left = IsWhole muxes p ForDraw
-Ends muxes Link turns p left = AtFailedReceive (λ before. IsWhole muxes (record p { calls = before }) ForReceive) p.calls ⊎ IsCutOff (outcomes_in muxes (trace_of p).events) p.calls p.out
-Ends muxes Read turns p left = IsBroken muxes p
-Ends muxes Write turns p left = IsBroken muxes p
-Ends muxes NoMemory turns p left = IsBroken muxes p
-Ends muxes Usage turns p left = ⊥
-Ends muxes (Capture offset fault) turns p left = ⊥
+RelayEnds muxes TurnsSpent turns p left = IsWholeRelay muxes p ForReading × (length p.readings ≡ turns + 1)
+RelayEnds muxes Clock turns p left = IsWholeRelay muxes p ForReading × (length p.readings ≤ turns)
+RelayEnds muxes Noise turns p left = IsWholeRelay muxes p ForDraw
+RelayEnds muxes Link turns p left = AtFailedReceive (λ before. IsWholeRelay muxes (record p { calls = before }) ForReceive) p.calls ⊎ IsCutOff (outcomes_in muxes (trace_of p).events) p.calls p.out
+RelayEnds muxes Read turns p left = IsBroken muxes p
+RelayEnds muxes Write turns p left = IsBroken muxes p
+RelayEnds muxes NoMemory turns p left = IsBroken muxes p
+RelayEnds muxes Usage turns p left = ⊥
+RelayEnds muxes (Capture offset fault) turns p left = ⊥
 
 -- Each reading after the first is followed by one receive, but for the last where the run ended between.
 abbrev pub ArePaced : List ℕ → List Received → Type 0
@@ -80,7 +80,7 @@ ArePaced [] receipts = receipts ≡ []
 ArePaced (r ∷ rs) receipts = (length rs ≡ length receipts) ⊎ (length rs ≡ length receipts + 1)
 
 -- what a source, a sink, a link, a clock and a source of noise tell
-pub record Tellings : Type 0 where
+pub record RelayTellings : Type 0 where
   pub left : Option (List ℕ)
   pub written : Option (List ℕ)
   pub calls : Option (List LinkCall)
@@ -90,13 +90,13 @@ pub record Tellings : Type 0 where
 -- The relay read these octets, of which there are at most 2^30 + 1, wrote those, and made these calls; it took
 -- at most so many turns. Whenever it asked the link for a receive, it had asked for all that the events up to there ask
 -- for, and for nothing else.
-pub record IsRelay (muxes : Bool) (status : Status) (turns : ℕ) (old new : Tellings) (p : Passed) : Type 0 where
+pub record IsRelay (muxes : Bool) (status : Status) (turns : ℕ) (old new : RelayTellings) (p : Passed) : Type 0 where
   pub took : TookIn old.left new.left p.octets
   pub wrote : Wrote old.written new.written p.out
   pub called : Added old.calls new.calls p.calls
   pub read : Added old.readings new.readings p.readings
   pub drew : Added old.draws new.draws p.draws
-  pub ends : Ends muxes status turns p new.left
+  pub ends : RelayEnds muxes status turns p new.left
   pub bound : length p.octets ≤ 2 ^ 30 + 1
   pub most : length p.readings ≤ turns + 1
   pub paced : ArePaced p.readings (receipts_in p.calls)

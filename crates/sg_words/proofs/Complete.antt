@@ -17,7 +17,7 @@ use Rattle.sg_words.proofs.Entered.{IsSeen}
 use Rattle.sg_words.proofs.ReadWords.{IsValue, value_of}
 use Rattle.sg_words.proofs.Shapes.{bridge_alone, capture_alone, demo_with, demo_without, flag_text, migrate_alone, relay_with, replay_with, replay_without}
 use Rattle.sg_words.proofs.Written.{AreOthers, HaveNoEnd, IsOption, ended_known, itself, option_known}
-use Rattle.sg_words.specs.Commands.{AreWordsOf, IsOneOf, IsWorkers, Text, Words, closed, ended, mux_option, with_option, with_workers}
+use Rattle.sg_words.specs.Commands.{AreWordsOf, IsOneOf, IsWorkers, Text, Words, closed, with_end_mark, mux_option, with_option, with_workers}
 use Rattle.sg_words.specs.Grammar.{srtpgw}
 use Rattle.sg_words.specs.Reading.{are_ended, command_by, demo_by, first_said, have_option, is_joined, is_set, no_fault, positive, relay_by, replay_by, text_in, workers_by}
 use Rattle.sg_words.specs.declared.command.Command.{Command}
@@ -171,14 +171,14 @@ demo_known rest n s w o b seen reads =
     ∙ ap (option_and_then (λ (k : ℕ). option_map (λ (x : ℕ). Demo n k x) (workers_by rest Numbers (numbers_of n s) o))) start_read
     ∙ ap (option_map (λ (x : ℕ). Demo n s x)) reads)
 
-demo_alone : (n s w : ℕ) (rest : Words) (b : Bool) → AreBounded n s → (w == 1) ≡ b → IsOneOf rest (cond b (ended (numbers_of n s)) [])
+demo_alone : (n s w : ℕ) (rest : Words) (b : Bool) → AreBounded n s → (w == 1) ≡ b → IsOneOf rest (cond b (with_end_mark (numbers_of n s)) [])
     → command_by (codes "demo" ∷ rest) ≡ Some (Demo n s w)
 demo_alone n s w rest false b e others = absurd others
 demo_alone n s w rest true b e others =
     demo_known rest n s w None b (demo_without (decimal n) (decimal s) (calls_number n s b).value (number s b.small).value rest others)
     (workers_one w rest Numbers (numbers_of n s) e (ended_known rest Numbers (numbers_of n s) (numbers_no_end n s b) others))
 
-demo_said : (n s w : ℕ) (rest : Words) → AreBounded n s → IsWorkers w → IsOneOf rest (with_option (codes "--workers") (decimal w) ended (numbers_of n s))
+demo_said : (n s w : ℕ) (rest : Words) → AreBounded n s → IsWorkers w → IsOneOf rest (with_option (codes "--workers") (decimal w) with_end_mark (numbers_of n s))
     → command_by (codes "demo" ∷ rest) ≡ Some (Demo n s w)
 demo_said n s w rest b good among =
     let v = number w (omega (arith, good.1)) in
@@ -186,9 +186,9 @@ demo_said n s w rest b good among =
     (workers_known w rest Numbers (numbers_of n s) good
     (option_known (codes "--workers") (decimal w) (workers_option (decimal w)) Numbers rest (numbers_of n s) (numbers_no_end n s b) (numbers_no_workers n s (decimal w) b) among))
 
-demo_of : (n s w : ℕ) (rest : Words) → AreBounded n s → IsWorkers w → IsOneOf rest (with_workers w ended (numbers_of n s)) → command_by (codes "demo" ∷ rest) ≡ Some (Demo n s w)
+demo_of : (n s w : ℕ) (rest : Words) → AreBounded n s → IsWorkers w → IsOneOf rest (with_workers w with_end_mark (numbers_of n s)) → command_by (codes "demo" ∷ rest) ≡ Some (Demo n s w)
 demo_of n s w rest b good among =
-    elim (either rest (with_option (codes "--workers") (decimal w) ended (numbers_of n s)) (cond (w == 1) (ended (numbers_of n s)) []) among) [
+    elim (either rest (with_option (codes "--workers") (decimal w) with_end_mark (numbers_of n s)) (cond (w == 1) (with_end_mark (numbers_of n s)) []) among) [
       | inl said ↦ demo_said n s w rest b good said
       | inr others ↦ demo_alone n s w rest (w == 1) b refl others
     ]
@@ -206,7 +206,7 @@ complete words (Relay n mux) are =
     let made = of_map (λ others. codes "relay" ∷ others) words (with_option (codes "--turns") (decimal n) closed (mux_option mux)) are.1 in
     ap command_by made.is ∙ relay_of n mux made.others are.0.0 are.0.1 made.among
 complete words (Demo n s w) are =
-    let made = of_map (λ others. codes "demo" ∷ others) words (with_workers w ended (numbers_of n s)) are.1 in
+    let made = of_map (λ others. codes "demo" ∷ others) words (with_workers w with_end_mark (numbers_of n s)) are.1 in
     ap command_by made.is ∙ demo_of n s w made.others (record { some = are.0.0; few = are.0.1; small = are.0.2 }) are.0.3 made.among
 complete words Migrate are =
     let made = of_map (λ others. codes "migrate" ∷ others) words (closed []) are.1 in

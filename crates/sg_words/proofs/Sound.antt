@@ -10,7 +10,7 @@ use Rattle.sg_base.specs.Fields.{number_at}
 use Rattle.sg_base.proofs.Decimals.{number_takes}
 use Rattle.sg_words.proofs.Among.{in_left, in_map, in_right}
 use Rattle.sg_words.proofs.Endings.{ends}
-use Rattle.sg_words.specs.Commands.{AreWordsOf, IsOneOf, IsWorkers, Text, Words, closed, ended, mux_option, option_before, put_in, with_option, with_workers}
+use Rattle.sg_words.specs.Commands.{AreWordsOf, IsOneOf, IsWorkers, Text, Words, closed, with_end_mark, mux_option, option_before, put_in, with_option, with_workers}
 use Rattle.sg_words.specs.Grammar.{srtpgw}
 use Rattle.sg_words.specs.Reading.{alone_by, are, are_ended, command_by, demo_by, first_said, follows, have_option, is_joined, is_set, led_by, may_end, no_fault, positive, relay_by, replay_by, said_by, text_in, workers_by}
 use Rattle.sg_words.specs.declared.command.Command.{Command}
@@ -197,8 +197,8 @@ demo_last ws calls start o c n s (Some w) has_calls has_start is found =
     let k = workers_so ws Numbers (calls ∷ start ∷ []) o w is in
     subst (AreWordsOf (codes "demo" ∷ ws)) e (
       (p.1, p.2, omega (arith, q.1), k.0),
-      in_map (λ others. codes "demo" ∷ others) ws (with_workers w ended (decimal n ∷ decimal s ∷ []))
-          (subst (λ (ts : Words). IsOneOf ws (with_workers w ended ts)) (ap₂ (λ (a b : Text). a ∷ b ∷ []) p.0 q.0) k.1),
+      in_map (λ others. codes "demo" ∷ others) ws (with_workers w with_end_mark (decimal n ∷ decimal s ∷ []))
+          (subst (λ (ts : Words). IsOneOf ws (with_workers w with_end_mark ts)) (ap₂ (λ (a b : Text). a ∷ b ∷ []) p.0 q.0) k.1),
     )
 
 demo_start : (ws : Words) (calls start : Text) (o : Option Text) (c : Command) (n : ℕ) (r : Option ℕ)

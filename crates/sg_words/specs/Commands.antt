@@ -16,8 +16,8 @@ put_in word [] = (word ∷ []) ∷ []
 put_in word (w ∷ ws) = (word ∷ w ∷ ws) ∷ map (λ others. w ∷ others) (put_in word ws)
 
 -- numbers, or numbers and a lone `--` among them: it says that no option is behind it
-abbrev pub ended : Words → List Words
-ended numbers = numbers ∷ put_in (codes "--") numbers
+abbrev pub with_end_mark : Words → List Words
+with_end_mark numbers = numbers ∷ put_in (codes "--") numbers
 
 -- options, or options and a lone `--` behind them
 abbrev pub closed : Words → List Words
@@ -50,7 +50,7 @@ spellings (Replay workers mux) = map (λ others. codes "replay" ∷ others) (wit
 spellings (Relay turns mux) =
     map (λ others. codes "relay" ∷ others) (with_option (codes "--turns") (decimal turns) closed (mux_option mux))
 spellings (Demo calls start workers) =
-    map (λ others. codes "demo" ∷ others) (with_workers workers ended (decimal calls ∷ decimal start ∷ []))
+    map (λ others. codes "demo" ∷ others) (with_workers workers with_end_mark (decimal calls ∷ decimal start ∷ []))
 spellings Migrate = map (λ others. codes "migrate" ∷ others) (closed [])
 spellings Capture = map (λ others. codes "capture" ∷ others) (closed [])
 spellings Bridge = map (λ others. codes "bridge" ∷ others) (closed [])
