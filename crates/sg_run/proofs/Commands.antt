@@ -21,13 +21,14 @@ use Rattle.sg_gateway.specs.Step.{Event}
 use Rattle.sg_gateway.specs.World.{empty}
 use Rattle.sg_migrate.specs.Migration.{IsMigration}
 use Rattle.sg_migrate.specs.Migration as migrations
+use Rattle.sg_mux.specs.Latest.{LegsAreMuxed}
 use Rattle.sg_mux.specs.Via.{events_in as table_events, outcomes_in, passages_in}
 use Rattle.sg_passages.specs.Passages.{Passage}
 use Rattle.sg_playback.specs.Replay.{IsReplay, output_in}
 use Rattle.sg_playback.specs.Replay as replays
 use Rattle.sg_relay.proofs.Holds.{holds_none}
 use Rattle.sg_relay.proofs.Order.{order_none}
-use Rattle.sg_relay.specs.Relay.{IsRelay, Passed}
+use Rattle.sg_relay.specs.Relay.{IsRelay, Passed, trace_of}
 use Rattle.sg_relay.specs.Relay as relays
 use Rattle.sg_run.specs.Run.{AreTaken, HasBridged, HasCaptured, HasDone, HasMigrated, HasRelayed, HasReplayed, HasRun, HasShown, Surroundings}
 use Rattle.sg_words.specs.Commands.{AreWordsOf, IsNoCommand, Words}
@@ -51,8 +52,8 @@ no_outcomes : (muxes : Bool) → outcomes_in muxes [] ≡ []
 no_outcomes true = refl
 no_outcomes false = refl
 
-not_replayed : (muxes : Bool) (old : Surroundings) → HasReplayed muxes NoMemory old old [] []
-not_replayed muxes old = record {
+not_replayed : (legs : (es : List Event) → LegsAreMuxed es) (muxes : Bool) (old : Surroundings) → HasReplayed muxes NoMemory old old [] []
+not_replayed legs muxes old = record {
   octets = [];
   draws = [];
   out = [];
@@ -65,10 +66,11 @@ not_replayed muxes old = record {
   };
   events_are = no_events muxes;
   passages_are = no_passages muxes;
+  legs = legs (replayed [] []).events;
 }
 
-not_relayed : (muxes : Bool) (turns : ℕ) (old : Surroundings) → HasRelayed muxes turns NoMemory old old [] []
-not_relayed muxes turns old = record {
+not_relayed : (legs : (es : List Event) → LegsAreMuxed es) (muxes : Bool) (turns : ℕ) (old : Surroundings) → HasRelayed muxes turns NoMemory old old [] []
+not_relayed legs muxes turns old = record {
   passed = record { octets = []; out = []; calls = []; readings = []; draws = [] };
   is = record {
     took = took_none old.left;
@@ -99,6 +101,7 @@ not_relayed muxes turns old = record {
   };
   events_are = no_events muxes;
   passages_are = no_passages muxes;
+  legs = legs (trace_of (record { octets = []; out = []; calls = []; readings = []; draws = [] })).events;
   ports = holds_none muxes (record { octets = []; out = []; calls = []; readings = []; draws = [] }) refl;
   complete = λ only all rest left left' whole more link. inr refl;
 }
@@ -158,16 +161,16 @@ not_bridged old = record {
   crossing = All-from_recursion Crosses [] tt;
 }
 
-none_done : (command : Command) (old : Surroundings) → HasDone command NoMemory old old [] []
-none_done (Replay workers muxes) old = not_replayed muxes old
-none_done (Relay turns muxes) old = not_relayed muxes turns old
-none_done (Demo calls start workers) old = not_shown calls start old
-none_done Migrate old = not_migrated old
-none_done commands.Capture old = not_captured old
-none_done Bridge old = not_bridged old
+none_done : (legs : (es : List Event) → LegsAreMuxed es) (command : Command) (old : Surroundings) → HasDone command NoMemory old old [] []
+none_done legs (Replay workers muxes) old = not_replayed legs muxes old
+none_done legs (Relay turns muxes) old = not_relayed legs muxes turns old
+none_done legs (Demo calls start workers) old = not_shown calls start old
+none_done legs Migrate old = not_migrated old
+none_done legs commands.Capture old = not_captured old
+none_done legs Bridge old = not_bridged old
 
-pub not_begun : (words : Words) (old : Surroundings) → HasRun words NoMemory old old [] []
-not_begun words old = λ command are. none_done command old
+pub not_begun : ((es : List Event) → LegsAreMuxed es) → (words : Words) (old : Surroundings) → HasRun words NoMemory old old [] []
+not_begun legs words old = λ command are. none_done legs command old
 
 -- words that are no command
 pub no_run : (words : Words) (status : Status) (old new : Surroundings) → IsNoCommand words → HasRun words status old new [] []

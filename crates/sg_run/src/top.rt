@@ -24,7 +24,7 @@ use sg_demo::demo;
 use sg_edge::{Clock, Link, Noise, Sink, Source};
 use sg_lanes::Gate;
 use sg_migrate::{migrate, migrated_scripts_tell_the_same};
-use sg_mux::shared_ports_are_faithful;
+use sg_mux::{legs_are_muxed_by_their_texts, shared_ports_are_faithful};
 use sg_passages::{a_plain_run_is_faithful, the_headline_holds};
 use sg_playback::replay;
 use sg_relay::relay;
@@ -110,6 +110,7 @@ pub fn run<R: Threads + Sync, S: Source, K: Sink, L: Link, C: Clock, N: Noise, G
     the_headline_holds();
     a_plain_run_is_faithful();
     shared_ports_are_faithful();
+    legs_are_muxed_by_their_texts();
     joined_calls_stay_inside();
     migrated_scripts_tell_the_same();
     let command = match read_command(alloc, words) {
