@@ -130,7 +130,7 @@ bridged_outcomes said = flat_map (λ b. b.told) (bridgings said)
 abbrev pub TellsOut : Bridging → ℕ → Address → List ℕ → Type 0
 TellsOut b port to octets = Any (λ o. o ≡ tells.Table (Out port to octets)) b.told
 
--- nothing is put out on a plain port of a joined call
+-- nothing is told as put out on a plain port of a joined call
 abbrev pub StaysInside : Bridging → Type 0
 StaysInside b = (port : ℕ) (to : Address) (octets : List ℕ) → TellsOut b port to octets → onward b.pairs port ≡ None
 
@@ -156,7 +156,7 @@ pub record IsCrossing (b : Bridging) (port : ℕ) (to : Address) (octets : List 
   pub sealed : Any (IsSealOf (turn_of (step b.before first).world second) port (as_octets packet).items) (step (step b.before first).world second).entries
   pub told : b.told ≡ tells.Table (Out port to octets) ∷ []
 
--- what is put out on a secure port of a joined call was opened in the other call, by the event before
+-- what is told as put out on a secure port of a joined call was opened in the other call, by the event before
 abbrev pub Crosses : Bridging → Type 0
 Crosses b = (port q : ℕ) (to : Address) (octets : List ℕ) → TellsOut b port to octets → (port - 20000) % 4 < 2
     → onward b.pairs (port + 2) ≡ Some q → IsCrossing b port to octets

@@ -3,8 +3,8 @@
 ghost use Rattle.std.specs.Prelude.{List};
 ghost use Rattle.sg_bridge.specs.Bridged.{EachCrossingIsSealed, JoinedStayInside, Said};
 
-/// Nothing is put out on a plain port of a joined call. What is put out on a secure port of one was opened in the other
-/// call by the event right before, and is the sealing of that packet, under a key of the session at that port.
+/// Nothing is told as put out on a plain port of a joined call. What is told as put out on a secure port of one was opened
+/// in the other call by the event right before, and is the sealing of that packet, under a key of the session at that port.
 pub fn joined_calls_stay_inside()
     ensures inside { (said : List Said) → JoinedStayInside said }
     ensures crossing { (said : List Said) → EachCrossingIsSealed said }

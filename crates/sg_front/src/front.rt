@@ -86,7 +86,7 @@ impl Front {
     }
 
     /// Handles up to 256 datagrams, as many calls at a time as there are workers: what they tell is the same for every
-    /// number of workers. It doesn't allocate.
+    /// number of workers. It doesn't allocate but for its threads.
     pub fn batch<R: Threads + Sync, G: Gate + Sync>(
         &mut self,
         rt: &R,

@@ -125,3 +125,7 @@ pub record SharesPort (told : List Telling) (slot medium : ℕ) (side : Side) : 
 abbrev pub LegsAreMuxed : List Event → Type 0
 LegsAreMuxed events =
     (slot medium : ℕ) (side : Side) → slot < 256 → (is_muxed (known_after events) slot medium side ≡ true) ↔ SharesPort (tellings events) slot medium side
+
+-- so after each event of a run
+abbrev pub LegsAreMuxedThroughout : List Event → Type 0
+LegsAreMuxedThroughout events = (before after : List Event) → events ≡ before ++ after → LegsAreMuxed before

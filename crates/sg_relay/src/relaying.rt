@@ -16,7 +16,7 @@ use std::alloc::Global;
 
 /// Handles the lines of the source in order, and at a `tick` line takes turns until a reading of the clock is
 /// at least so many milliseconds after the first reading; at most so many turns in all. Where `muxes`, RTP and RTCP of a
-/// leg share a port if its peer offered so (RFC 5761). A datagram is handled in the one pad that the relay keeps.
+/// leg share a port where its offer and the answer agree on it (RFC 5761). A datagram is handled in the one pad that the relay keeps.
 pub fn relay<S: Source, K: Sink, L: Link, C: Clock, N: Noise>(
     alloc: Global,
     turns: u64,

@@ -28,7 +28,7 @@ use Rattle.sg_playback.specs.Replay.{IsReplay, output_in}
 use Rattle.sg_playback.specs.Replay as replays
 use Rattle.sg_relay.proofs.Holds.{holds_none}
 use Rattle.sg_relay.proofs.Order.{order_none}
-use Rattle.sg_relay.specs.Relay.{IsRelay, Passed, trace_of}
+use Rattle.sg_relay.specs.Relay.{IsRelay, Passed}
 use Rattle.sg_relay.specs.Relay as relays
 use Rattle.sg_run.specs.Run.{AreTaken, HasBridged, HasCaptured, HasDone, HasMigrated, HasRelayed, HasReplayed, HasRun, HasShown, Surroundings}
 use Rattle.sg_words.specs.Commands.{AreWordsOf, IsNoCommand, Words}
@@ -66,7 +66,7 @@ not_replayed legs muxes old = record {
   };
   events_are = no_events muxes;
   passages_are = no_passages muxes;
-  legs = legs (replayed [] []).events;
+  legs = λ before after is. legs before;
 }
 
 not_relayed : (legs : (es : List Event) → LegsAreMuxed es) (muxes : Bool) (turns : ℕ) (old : Surroundings) → HasRelayed muxes turns NoMemory old old [] []
@@ -101,7 +101,7 @@ not_relayed legs muxes turns old = record {
   };
   events_are = no_events muxes;
   passages_are = no_passages muxes;
-  legs = legs (trace_of (record { octets = []; out = []; calls = []; readings = []; draws = [] })).events;
+  legs = λ before after is. legs before;
   ports = holds_none muxes (record { octets = []; out = []; calls = []; readings = []; draws = [] }) refl;
   complete = λ only all rest left left' whole more link. inr refl;
 }

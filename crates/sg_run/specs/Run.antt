@@ -15,7 +15,7 @@ use Rattle.sg_edge.specs.Told.{Rose}
 use Rattle.sg_gateway.specs.Step.{Event}
 use Rattle.sg_migrate.specs.Migration.{IsMigration}
 use Rattle.sg_migrate.specs.Migration as migrations
-use Rattle.sg_mux.specs.Latest.{LegsAreMuxed}
+use Rattle.sg_mux.specs.Latest.{LegsAreMuxedThroughout}
 use Rattle.sg_mux.specs.Via.{events_in as table_events, passages_in}
 use Rattle.sg_passages.specs.Passages.{Passage, plain_passages}
 use Rattle.sg_playback.specs.Replay.{IsReplay}
@@ -55,7 +55,7 @@ abbrev pub of_migration : Surroundings → migrations.MigrationTellings
 of_migration o = record { left = o.left; written = o.written }
 
 -- A replay read, drew and wrote these octets; these are its events as they come to the gateway, and what is told of them. The
--- legs that share their ports are those of which offers and answers say so.
+-- legs that share their ports, where they may, are after each event those of which offers and answers say so.
 pub record HasReplayed (muxes : Bool) (status : Status) (old new : Surroundings) (events : List Event) (passages : List Passage) : Type 0 where
   pub octets : List ℕ
   pub draws : List ℕ
@@ -63,7 +63,7 @@ pub record HasReplayed (muxes : Bool) (status : Status) (old new : Surroundings)
   pub is : IsReplay muxes status (of_replay old) (of_replay new) octets draws out
   pub events_are : events ≡ table_events muxes (replayed octets draws).events
   pub passages_are : passages ≡ passages_in muxes (replayed octets draws).events
-  pub legs : LegsAreMuxed (replayed octets draws).events
+  pub legs : LegsAreMuxedThroughout (replayed octets draws).events
 
 -- nothing but the link has failed
 pub record OnlyLinkFailed (old new : Failures) : Type 0 where
@@ -80,7 +80,7 @@ pub record HasRelayed (muxes : Bool) (turns : ℕ) (status : Status) (old new : 
   pub is : IsRelay muxes status turns (of_relay old) (of_relay new) passed
   pub events_are : events ≡ table_events muxes (trace_of passed).events
   pub passages_are : passages ≡ passages_in muxes (trace_of passed).events
-  pub legs : LegsAreMuxed (trace_of passed).events
+  pub legs : LegsAreMuxedThroughout (trace_of passed).events
   pub ports : HoldsItsCallsPorts muxes passed
   pub complete : OnlyLinkFailed old.failures new.failures
       → IsCompleteRelay status turns old.left new.left old.failures.link new.failures.link passed
@@ -113,8 +113,9 @@ pub record HasCaptured (status : Status) (old new : Surroundings) (events : List
   pub events_are : events ≡ captured_events (captured octets draws).occurrences
   pub passages_are : passages ≡ plain_passages events
 
--- A bridge read, drew and wrote these octets, and these are its events at the gateway, each inner one too. Of joined calls nothing
--- is put out but what the other call opened, sealed.
+-- A bridge read, drew and wrote these octets, and these are its events at the gateway, each inner one too, with what the
+-- gateway tells of them: what is written of joined calls is told by the definitions of bridges. Of those calls nothing is
+-- written as put out but what the other call opened, sealed.
 pub record HasBridged (status : Status) (old new : Surroundings) (events : List Event) (passages : List Passage) : Type 0 where
   pub octets : List ℕ
   pub draws : List ℕ

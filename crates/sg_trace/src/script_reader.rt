@@ -149,7 +149,8 @@ impl ScriptReader {
         }
     }
 
-    /// Reads the octets of the next line, whatever they say, into the empty `line`; none at the end of the source.
+    /// Reads the octets of the next line, whatever they say, into the empty `line`; none at the end of the source, and none
+    /// where the octets that count are behind.
     /// `Read` where the source fails.
     pub fn next_octets<S: Source>(
         &mut self,
