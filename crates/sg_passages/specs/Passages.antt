@@ -43,7 +43,8 @@ mux_line = codes "a=rtcp-mux"
 abbrev pub AddsMuxLines : List ℕ → List ℕ → Type 0
 AddsMuxLines first text = All (λ line. Any (λ l. l ≡ line) (slice_split ends_line first) ⊎ (line ≡ mux_line)) (slice_split ends_line text)
 
--- What is told of an outcome: of a packet that it leaves; of a drop the cause, at some port; of a description a text to the same side, with no line more but that of RFC 5761; everything else as it is.
+-- What is told of an outcome: of a packet that it leaves; of a drop the cause, at some port; of a description a text to the
+-- same side, with no line more but that of RFC 5761; everything else as it is.
 abbrev pub IsToldAs : Leaves → Outcome → Outcome → Type 0
 IsToldAs leaves (Out port to octets) o = o ≡ out_by leaves port to octets
 IsToldAs leaves (Dropped port cause) o = (arrived : ℕ) × (o ≡ Dropped arrived cause)
