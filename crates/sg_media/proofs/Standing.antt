@@ -1,8 +1,8 @@
 -- Streams after one datagram more.
-use Rattle.std.proofs.Common.{◌≡◌, ◌≢◌, ℕ, zero, suc, ◌+◌, ◌<◌, ◌≤◌, true, false, not, nat_eq, nat_lt, List, [], ◌∷◌, ◌++◌, length, map, take, get_or, slice_get, slice_set, Option, Some, None, refl, arith, ap, subst, sym, ◌∙◌, ◌⊎◌, inl, inr}
+use Rattle.std.proofs.Common.{◌≡◌, ◌≢◌, ℕ, zero, suc, ◌+◌, ◌≤◌, true, false, not, nat_eq, nat_lt, List, [], ◌∷◌, ◌++◌, length, map, take, get_or, slice_get, slice_set, Option, Some, None, refl, arith, ap, subst, sym, ◌∙◌, ◌⊎◌, inl, inr}
 use Rattle.std.specs.Prelude.{MatchOption}
 use Rattle.std.proofs.lemmas.Bool.{cases_eq, both_ways, ne_eqb, lt-ltb, or_left}
-use Rattle.std.proofs.lemmas.List.{map-append, length-map, length-set, take_more}
+use Rattle.std.proofs.lemmas.List.{map-append, length-map, length-set}
 use Rattle.std.proofs.lemmas.Option.{get_or_from_slice_get}
 use Rattle.std.proofs.Math.Seq.{map-set_same, take-append_seam}
 use Rattle.std.specs.List.{refill}
@@ -12,7 +12,7 @@ use Rattle.sg_states.specs.StreamValues.{StreamValue}
 use Rattle.sg_session.specs.Session.{Done, sources, is_first, indices_of}
 use Rattle.sg_states.specs.Streams.{IsStreamOf, StreamStands}
 use Rattle.sg_media.specs.Standing.{source_of, AreOfKind, StreamsStand, IsAt, room_in}
-use Rattle.sg_media.proofs.Sources.{sources_from-push, indices_of-push_same, indices_of-push_other, none_of, first_source, first_is, Distinct, distinct_sources, is_in-map, is_in-push, distinct_places}
+use Rattle.sg_media.proofs.Sources.{sources_from-push, indices_of-push_same, indices_of-push_other, none_of, first_source, first_is, Distinct, distinct_sources, is_in-map, distinct_places}
 
 module _ {X : Type 0} where
   get_set_same : (xs : List X) (i : ℕ) (x y : X) → slice_get (slice_set xs i x) i ≡ Some y → x ≡ y
@@ -168,13 +168,6 @@ pub found_stream : (streams : List StreamValue) (row : List ℕ) (ssrc : ℕ) (r
     → MatchOption r (is_in (map source_of streams) ssrc ≡ false) (IsAt streams ssrc)
 found_stream streams row ssrc None in_row new = subst (λ xs. is_in xs ssrc ≡ false) in_row new
 found_stream streams row ssrc (Some at) in_row here = stream_at streams at ssrc (subst (λ xs. slice_get xs at ≡ Some ssrc) in_row here)
-
--- one source more that isn't this one
-pub not_yet : (row : List ℕ) (i x n : ℕ) → i < length row → x ≡ get_or row i x → x ≢ n → is_in (take i row) n ≡ false → is_in (take (i + 1) row) n ≡ false
-not_yet row i x n h e ne f =
-    ap (λ xs. is_in xs n) (take_more row i x h)
-    ∙ is_in-push (take i row) (get_or row i x) n
-    ∙ rw (f, ← e, ne_eqb x n ne) refl
 
 not_full : (n : ℕ) → n ≤ 64 → nat_lt n 64 ≡ not (nat_eq n 64)
 not_full n h =

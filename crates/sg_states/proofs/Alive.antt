@@ -2,9 +2,8 @@
 use Rattle.std.proofs.Common.{◌≡◌, ℕ, ◌<◌, Bool, true, List, [], ◌∷◌, find, Option, Some, None, Result, Ok, Err, ap, subst, inl, inr}
 use Rattle.std.proofs.lemmas.Bool.{cases_Bool, ltb-true}
 use Rattle.sg_base.specs.declared.faults.DropCause.{DropCause}
-use Rattle.sg_keys.specs.Live.{Live, has_mki, is_alive}
-use Rattle.sg_keys.specs.KeySet.{chosen, chosen_if, chosen_seal, sealing_if}
-use Rattle.sg_keys.specs.declared.key_set.OpenKeyFault.TheVariants.{KeySpent}
+use Rattle.sg_keys.specs.Live.{Live, is_alive}
+use Rattle.sg_keys.specs.KeySet.{chosen_seal, sealing_if}
 use Rattle.sg_states.specs.Outbound.{numbered}
 
 found_passes : (p : Live → Bool) (keys : List Live) (k : Live) → find p keys ≡ Some k → p k ≡ true
@@ -21,17 +20,6 @@ alive_of None keys k e = cc
 
 pub sealing_alive : (keys : List Live) (k : Live) → chosen_seal keys ≡ Ok k → k.count < k.life
 sealing_alive keys k e = ltb-true _ _ (found_passes is_alive keys k (alive_of (find is_alive keys) keys k e))
-
-chosen_is : (o : Option Live) (k : Live) → chosen_if o ≡ Ok k → is_alive k ≡ true
-chosen_is None k e = cc
-chosen_is (Some x) k e =
-    elim (cases_Bool (is_alive x)) [
-      | inl y ↦ (let here : Ok x ≡ Ok k = rw y at e in let same : x ≡ k = cc in subst (λ (z : Live). is_alive z ≡ true) same y)
-      | inr n ↦ (let gone : Err (KeySpent x.number x.count) ≡ Ok k = rw n at e in cc)
-    ]
-
-pub chosen_alive : (keys : List Live) (mki : List ℕ) (k : Live) → chosen keys mki ≡ Ok k → k.count < k.life
-chosen_alive keys mki k e = ltb-true _ _ (chosen_is (find (has_mki mki) keys) k e)
 
 pub unnumbered : (keys : List Live) (k : Live) (r : Result ℕ DropCause) (cause : DropCause) → chosen_seal keys ≡ Ok k → r ≡ Err cause → numbered keys r ≡ Err cause
 unnumbered keys k r cause e f = rw e f

@@ -15,10 +15,9 @@ use Rattle.sg_session.specs.Opening.{Head, Check, covered_of_kind, fresh_index, 
 use Rattle.sg_session.specs.Sealed.{crypted}
 use Rattle.sg_session.specs.Session.{Key, Done, Session, admits, count_of, has_room, index_in, indices_of, is_live}
 use Rattle.sg_session.specs.Stages.{after_ok, stop_if}
-use Rattle.sg_session.proofs.Inversions.{ok_is}
 use Rattle.sg_states.specs.Choosing.{chosen_for, usable_in, with_key_cause}
 use Rattle.sg_states.specs.Inbound.{packet_at}
-use Rattle.sg_states.specs.Parts.{covered_by, prefix_of, heading, heading_of, mki_of, part_of, tag_fits_at}
+use Rattle.sg_states.specs.Parts.{covered_by, prefix_of, heading, heading_of, part_of, tag_fits_at}
 use Rattle.sg_states.specs.Placing.{placed}
 use Rattle.sg_states.specs.Steps.{done_of, heading_in, key_step, opening_steps, place_step, tag_step}
 
@@ -44,20 +43,6 @@ chosen_is s (k ∷ ks) mki = elim (cases_Bool (same_octets k.mki mki)) [
   | inr n ↦ rw n (chosen_is s ks mki)
 ]
 
-live_ok : (s : Session) (r : Result Key DropCause) (x : Live) → live_result s r ≡ Ok x → (k : Key) × (r ≡ Ok k) × (live_key s k ≡ x)
-live_ok s (Ok k) x e = (k, refl, cc)
-live_ok s (Err c) x e = cc
-
-live_err : (s : Session) (r : Result Key DropCause) (c : DropCause) → live_result s r ≡ Err c → r ≡ Err c
-live_err s (Ok k) c e = cc
-live_err s (Err b) c e = let same : b ≡ c = cc in ap (λ x. Err x) same
-
-pub chosen_key : (s : Session) (mki : List ℕ) (x : Live) → chosen_for (live s) mki ≡ Ok x → (k : Key) × (usable_in s s.keys mki ≡ Ok k) × (live_key s k ≡ x)
-chosen_key s mki x e = live_ok s (usable_in s s.keys mki) x (sym (chosen_is s s.keys mki) ∙ e)
-
-pub unchosen_key : (s : Session) (mki : List ℕ) (c : DropCause) → chosen_for (live s) mki ≡ Err c → usable_in s s.keys mki ≡ Err c
-unchosen_key s mki c e = live_err s (usable_in s s.keys mki) c (sym (chosen_is s s.keys mki) ∙ e)
-
 -- ---- heads
 heading_kind : (kind : Kind) (s : Session) (d : List ℕ) → s.name.kind ≡ kind → heading_of kind s.encrypts (mki_len s) s.tag_len d ≡ head_of_kind kind s d
 heading_kind Rtp s d e = rw e refl
@@ -72,22 +57,6 @@ module _ (s : Session) (F : Key → Result Check DropCause) where
 
   abbrev pub spent_only : Key → Result Key DropCause
   spent_only k = stop_if (not (is_live s k)) (cause.KeySpent k.number (count_of s k)) (Ok k)
-
-  spent_or_err : (k : Key) (b : Bool) (c : DropCause) → stop_if (not b) (cause.KeySpent k.number (count_of s k)) (Ok k) ≡ Err c → stop_if (not b) (cause.KeySpent k.number (count_of s k)) (F k) ≡ Err c
-  spent_or_err k true c e = cc
-  spent_or_err k false c e = let same : cause.KeySpent k.number (count_of s k) ≡ c = cc in ap (λ x. Err x) same
-
-  pub usable_err : (r : Result Key DropCause) (c : DropCause) → after_ok r spent_only ≡ Err c → after_ok r spent_or ≡ Err c
-  usable_err (Err b) c e = let same : b ≡ c = cc in ap (λ x. Err x) same
-  usable_err (Ok k) c e = spent_or_err k (is_live s k) c e
-
-  spent_or_ok : (k j : Key) (b : Bool) → stop_if (not b) (cause.KeySpent k.number (count_of s k)) (Ok k) ≡ Ok j → stop_if (not b) (cause.KeySpent k.number (count_of s k)) (F k) ≡ F j
-  spent_or_ok k j true e = ap F (ok_is k j e)
-  spent_or_ok k j false e = cc
-
-  pub usable_ok : (r : Result Key DropCause) (j : Key) → after_ok r spent_only ≡ Ok j → after_ok r spent_or ≡ F j
-  usable_ok (Err b) j e = cc
-  usable_ok (Ok k) j e = spent_or_ok k j (is_live s k) e
 
 abbrev pub placed_check : Session → Head → Key → Result Check DropCause
 placed_check s h k = after_ok (place_in s h) (λ i. after_ok (fresh_index s h.ssrc i) (λ j. Ok (record { key = k; head = h; index = j })))

@@ -1,7 +1,6 @@
 -- The steps of sealing are those of the definitions of a session.
-use Rattle.std.proofs.Common.{◌≡◌, ℕ, suc, ◌<◌, Bool, true, false, not, find, List, [], ◌∷◌, ◌++◌, ◌-◌, length, map, slice_get, Option, Some, None, Result, Ok, Err, refl, arith, ap, subst, sym, ◌∙◌, inl, inr}
+use Rattle.std.proofs.Common.{◌≡◌, ℕ, suc, ◌<◌, Bool, true, false, not, find, List, [], ◌∷◌, ◌++◌, ◌-◌, length, map, slice_get, Option, Some, None, Result, Ok, Err, refl, arith, ap, sym, ◌∙◌, inl, inr}
 use Rattle.std.proofs.lemmas.Bool.{cases_Bool}
-use Rattle.std.proofs.lemmas.List.{length-map}
 use Rattle.sg_base.specs.declared.addresses.Kind.{Kind}
 use Rattle.sg_base.specs.declared.addresses.Kind.TheVariants.{Rtp, Rtcp}
 use Rattle.sg_base.specs.declared.faults.DropCause.{DropCause}
@@ -24,7 +23,7 @@ use Rattle.sg_states.specs.Choosing.{chosen_to_seal, with_spent_cause}
 use Rattle.sg_states.specs.Outbound.{closed}
 use Rattle.sg_states.specs.Parts.{heading_out}
 use Rattle.sg_states.specs.Placing.{next_index}
-use Rattle.sg_states.specs.Steps.{number_step, seal_step, sealing_steps, source_step, text_of}
+use Rattle.sg_states.specs.Steps.{seal_step, sealing_steps, source_step, text_of}
 use Rattle.sg_states.proofs.OpeningLaw.{live_result}
 
 -- ---- heads

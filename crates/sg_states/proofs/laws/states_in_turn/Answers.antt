@@ -1,4 +1,4 @@
-use Rattle.std.proofs.Common.{◌<◌, length, subst, sym}
+use Rattle.std.proofs.Common.{◌<◌, subst, sym}
 use Rattle.std.proofs.lemmas.List.{length-map}
 use Rattle.sg_keys.specs.Stands.{live_key}
 use Rattle.sg_states.proofs.OpeningLaw.{opening_is}

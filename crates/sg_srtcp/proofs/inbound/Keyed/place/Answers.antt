@@ -1,4 +1,4 @@
-use Rattle.std.proofs.Common.{◌≡◌, ap, subst, sym, ◌∙◌}
+use Rattle.std.proofs.Common.{ap, subst, sym, ◌∙◌}
 use Rattle.sg_base.specs.declared.addresses.Kind.TheVariants.{Rtcp}
 use Rattle.sg_states.specs.Inbound.{Keying}
 use Rattle.sg_states.specs.Placing.{placed}

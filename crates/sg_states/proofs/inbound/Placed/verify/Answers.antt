@@ -1,61 +1,47 @@
-use Rattle.std.proofs.Common.{◌≡◌, ◌≤◌, true, false, length, Option, Some, slice_get, refl, arith, ap, subst, sym, ◌∙◌}
-use Rattle.std.specs.Prelude.{IfSome}
-use Rattle.sg_hmac.specs.States.{IsMacKey}
+use Rattle.std.proofs.Common.{◌≡◌, ◌↔◌, ℕ, Bool, List, length, Option, Some, slice_get, refl, arith, ap, subst, sym, ◌∙◌}
+use Rattle.std.specs.Prelude.{IfSome, IsTrue}
+use Rattle.sg_hmac.specs.Hmac.{hmac_sha1}
+use Rattle.sg_hmac.specs.States.{IsMacKey, IsTagOf}
+use Rattle.sg_hmac.specs.declared.hmac.MacKey.{MacKey}
 use Rattle.sg_keys.specs.Live.{Live}
-use Rattle.sg_states.specs.Headers.{head_of}
-use Rattle.sg_states.specs.Inbound.{Placing, fits_under}
-use Rattle.sg_states.specs.Parts.{tag_fits_at}
+use Rattle.sg_states.specs.Inbound.{Heading, Keying, Placing, fits_under}
+use Rattle.sg_states.specs.Parts.{IsWhole, covered_by, prefix_of, tag_fits_at, tag_of}
 use Rattle.sg_states.proofs.Tags.{tag_says}
 use Rattle.sg_states.proofs.inbound.Placed.verify.Goals as goal
 
+-- the code over what stands before the MKI, under every key whose state this is
+abbrev IsCode : Heading → ℕ → List ℕ → MacKey → List ℕ → Type 0
+IsCode h index octets mac whole =
+    (auth : List ℕ) → IsMacKey auth mac → whole ≡ hmac_sha1 auth (covered_by h.kind index (prefix_of h.mki_len h.tag_len octets))
+
+-- the test of the tag is that of the definition
+module _ (h same_h : Heading) (at number index : ℕ) (k : Keying) (q : Placing) (keys : List Live) (key : Live) where
+  abbrev keying : Heading → Keying
+  keying it = record { headed = it; key = at; number = number }
+
+  abbrev placing : Keying → Placing
+  placing it = record { keyed = it; index = index }
+
+  fits : (octets tag whole : List ℕ) (mac : MacKey) (r : Bool) → h ≡ same_h → keying same_h ≡ k → placing k ≡ q → slice_get keys q.keyed.key ≡ Some key
+      → IfSome (slice_get keys at) (λ l. IsMacKey l.half.auth mac) → octets ≡ h.pad → IsWhole h.kind h.mki_len h.tag_len h.pad h.head → tag ≡ tag_of h.tag_len octets
+      → IsCode h index octets mac whole → IsTrue r ↔ IsTagOf tag whole → fits_under q key ≡ r
+  fits octets tag whole mac r h_is k_is q_is here known same inside back code says =
+      let is : placing (keying h) ≡ q = ap (λ x. placing (keying x)) h_is ∙ ap placing k_is ∙ q_is in
+      let at_key : slice_get keys at ≡ Some key = subst (λ (p : Placing). slice_get keys p.keyed.key ≡ Some key) (sym is) here in
+      let of_key : IsMacKey key.half.auth mac = subst (λ (o : Option Live). IfSome o (λ l. IsMacKey l.half.auth mac)) at_key known in
+      sym (ap (λ (p : Placing). fits_under p key) is) ∙ sym (ap (λ d. tag_fits_at h.kind h.mki_len h.tag_len index d key.half.auth) same)
+      ∙ sym (tag_says h.kind h.mki_len h.tag_len index octets key.half.auth tag whole r (omega (arith, ap length same, inside.inside)) back (code key.half.auth of_key) says)
+
 pub returns-then-tag_fits : goal.returns-then-tag_fits
-returns-then-tag_fits c = λ key here.
-    let p : Placing = record {
-      keyed = record {
-        headed = record { pad = c.headed.inside.pad; kind = c.headed.inside.kind; mki_len = c.headed.inside.mki_len; tag_len = c.headed.inside.tag_len; head = head_of c.headed.inside.head };
-        key = c.keyed.inside.key;
-        number = c.keyed.inside.number;
-      };
-      index = c.self.inside.index;
-    } in
-    let p_is : p ≡ c.args.self =
-    (λ i. record { keyed = record { headed = c.headed.view_is i; key = c.keyed.inside.key; number = c.keyed.inside.number }; index = c.self.inside.index })
-    ∙ (λ i. record { keyed = c.keyed.view_is i; index = c.self.inside.index })
-    ∙ c.self.view_is in
-    let at : slice_get c.args.keys.now c.keyed.inside.key ≡ Some key = subst (λ (q : Placing). slice_get c.args.keys.now q.keyed.key ≡ Some key) (sym p_is) here in
-    let mac : IsMacKey key.half.auth c.mac.result.now = subst (λ (o : Option Live). IfSome o (λ k. IsMacKey k.half.auth c.mac.result.now)) at c.mac.ensures in
-    let same : c.octets-octets.result.now ≡ c.headed.inside.pad = c.octets-octets.ensures.same in
-    let inside : c.headed.inside.tag_len ≤ length c.octets-octets.result.now = omega (arith, ap length same, c.headed.invariant.whole.inside) in
-    let says : c.tag_fits.result ≡ tag_fits_at c.headed.inside.kind c.headed.inside.mki_len c.headed.inside.tag_len c.self.inside.index c.octets-octets.result.now key.half.auth =
-    tag_says c.headed.inside.kind c.headed.inside.mki_len c.headed.inside.tag_len c.self.inside.index c.octets-octets.result.now key.half.auth c.split_at.result.1.now c.mac_over-whole.result c.tag_fits.result
-    inside c.split_at.ensures.back (c.mac_over-whole.ensures key.half.auth mac) c.tag_fits.ensures in
-    let fits : fits_under p key ≡ true =
-    sym (ap (λ d. tag_fits_at c.headed.inside.kind c.headed.inside.mki_len c.headed.inside.tag_len c.self.inside.index d key.half.auth) same) ∙ sym says ∙ c.if-tag_fits.true in
-    let under : fits_under c.args.self key ≡ true = subst (λ (q : Placing). fits_under q key ≡ true) p_is fits in
-    record { same = refl; fits = under }
+returns-then-tag_fits c = λ key here. record {
+  same = refl;
+  fits = fits _ _ _ _ _ _ c.args.self _ key _ _ _ _ _ c.headed.view_is c.keyed.view_is c.self.view_is here c.mac.ensures c.octets-octets.ensures.same c.headed.invariant.whole
+      c.split_at.ensures.back c.mac_over-whole.ensures c.tag_fits.ensures ∙ c.if-tag_fits.true;
+}
 
 pub returns-else-tag_fits : goal.returns-else-tag_fits
-returns-else-tag_fits c = λ key here.
-    let p : Placing = record {
-      keyed = record {
-        headed = record { pad = c.headed.inside.pad; kind = c.headed.inside.kind; mki_len = c.headed.inside.mki_len; tag_len = c.headed.inside.tag_len; head = head_of c.headed.inside.head };
-        key = c.keyed.inside.key;
-        number = c.keyed.inside.number;
-      };
-      index = c.self.inside.index;
-    } in
-    let p_is : p ≡ c.args.self =
-    (λ i. record { keyed = record { headed = c.headed.view_is i; key = c.keyed.inside.key; number = c.keyed.inside.number }; index = c.self.inside.index })
-    ∙ (λ i. record { keyed = c.keyed.view_is i; index = c.self.inside.index })
-    ∙ c.self.view_is in
-    let at : slice_get c.args.keys.now c.keyed.inside.key ≡ Some key = subst (λ (q : Placing). slice_get c.args.keys.now q.keyed.key ≡ Some key) (sym p_is) here in
-    let mac : IsMacKey key.half.auth c.mac.result.now = subst (λ (o : Option Live). IfSome o (λ k. IsMacKey k.half.auth c.mac.result.now)) at c.mac.ensures in
-    let same : c.octets-octets.result.now ≡ c.headed.inside.pad = c.octets-octets.ensures.same in
-    let inside : c.headed.inside.tag_len ≤ length c.octets-octets.result.now = omega (arith, ap length same, c.headed.invariant.whole.inside) in
-    let says : c.tag_fits.result ≡ tag_fits_at c.headed.inside.kind c.headed.inside.mki_len c.headed.inside.tag_len c.self.inside.index c.octets-octets.result.now key.half.auth =
-    tag_says c.headed.inside.kind c.headed.inside.mki_len c.headed.inside.tag_len c.self.inside.index c.octets-octets.result.now key.half.auth c.split_at.result.1.now c.mac_over-whole.result c.tag_fits.result
-    inside c.split_at.ensures.back (c.mac_over-whole.ensures key.half.auth mac) c.tag_fits.ensures in
-    let fits : fits_under p key ≡ false =
-    sym (ap (λ d. tag_fits_at c.headed.inside.kind c.headed.inside.mki_len c.headed.inside.tag_len c.self.inside.index d key.half.auth) same) ∙ sym says ∙ c.if-tag_fits.false in
-    let under : fits_under c.args.self key ≡ false = subst (λ (q : Placing). fits_under q key ≡ false) p_is fits in
-    record { same = c.refuse.ensures ∙ ap (λ (q : Placing). q.keyed.headed.pad) c.self.view_is; unfit = under }
+returns-else-tag_fits c = λ key here. record {
+  same = c.refuse.ensures ∙ ap (λ (q : Placing). q.keyed.headed.pad) c.self.view_is;
+  unfit = fits _ _ _ _ _ _ c.args.self _ key _ _ _ _ _ c.headed.view_is c.keyed.view_is c.self.view_is here c.mac.ensures c.octets-octets.ensures.same c.headed.invariant.whole
+      c.split_at.ensures.back c.mac_over-whole.ensures c.tag_fits.ensures ∙ c.if-tag_fits.false;
+}

@@ -1,4 +1,4 @@
-use Rattle.std.proofs.Common.{◌≡◌, ℕ, Result, Err, ap, ◌∙◌}
+use Rattle.std.proofs.Common.{ℕ, Result, Err, ap, ◌∙◌}
 use Rattle.sg_base.specs.declared.faults.DropCause.{DropCause}
 use Rattle.sg_session.specs.Session.{with_cause}
 use Rattle.sg_session.specs.Stages.{after_ok}
