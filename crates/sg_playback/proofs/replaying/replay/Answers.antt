@@ -2,7 +2,7 @@ use Rattle.std.proofs.Common.{ℕ, Bool, List, [], sym, subst}
 use Rattle.sg_edge.specs.Told.{Wrote}
 use Rattle.sg_front.specs.States.{FrontStandsFor, start}
 use Rattle.sg_playback.proofs.Completes.{complete, untouched}
-use Rattle.sg_playback.specs.Replay.{IsReplay, Tellings}
+use Rattle.sg_playback.specs.Replay.{IsReplay, ReplayTellings}
 use Rattle.sg_playback.proofs.replaying.replay.Goals as goal
 
 pub returns-in-Err-clause-ran : goal.returns-in-Err-clause-ran
