@@ -41,8 +41,10 @@ def texts_after(edit, tree):
 
 
 def told_by(crates, row):
-    """The lines that a script of the rows tells by the definitions of these crates."""
-    command = [sys.executable, str(TOP / "interop" / "definitions.py"), f"{row}.script", str(crates)]
+    """The lines that a script of the rows tells by the definitions of these crates, played as its words say."""
+    words = row.with_suffix(".words")
+    played = [words.read_text().strip()] if words.is_file() else []
+    command = [sys.executable, str(TOP / "interop" / "definitions.py"), f"{row}.script", str(crates), *played]
     ran = subprocess.run(command, capture_output=True, timeout=SCRIPT_SECONDS)
     if ran.returncode:
         raise Stuck("the definitions can't be computed: " + ran.stderr.decode().strip().split("\n")[-1])
