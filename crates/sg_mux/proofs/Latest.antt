@@ -17,7 +17,7 @@ use Rattle.sg_sdp.specs.Reading.{description_of}
 use Rattle.sg_mux.specs.Latest.{AcceptsAnswer, AcceptsOffer, ChangesSlot, IsAnswered, IsOffered, SharesPort, Telling, TellsText, is_answer}
 use Rattle.sg_mux.specs.Legs.{muxes, same_side}
 use Rattle.sg_mux.specs.Muxed.{agreed, changed_at, fresh}
-use Rattle.sg_mux.specs.Texts.{answers_port, at_places, both, has_port, is_such, mark, media_read, no_marks, offers_mux}
+use Rattle.sg_mux.specs.Texts.{answers_port, at_places, both, has_media_port, is_such, mark, media_read, no_marks, offers_mux}
 use Rattle.sg_mux.specs.declared.known.Known.{Known}
 
 -- ---- marks
@@ -378,7 +378,7 @@ module _ (slot medium : ℕ) (side : Side) (id : CallId) where
       → Holds Muxes (said_of slot e (Sdp id side text) (Some k))
   takes_answer k e text is event port =
       rw (eq-eqb k.id.0 id.0 (ap (λ (i : CallId). i.0) is.0), event)
-      (is.0, rw (its_side side) (marked_both (λ place. is_such has_port (slice_get (media_read (description_of text)) place)) k.offered medium port is.1))
+      (is.0, rw (its_side side) (marked_both (λ place. is_such has_media_port (slice_get (media_read (description_of text)) place)) k.offered medium port is.1))
 
   abbrev Stay : Telling → Type 0
   Stay t = ¬ ChangesSlot slot t.outcome

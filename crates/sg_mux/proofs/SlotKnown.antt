@@ -20,7 +20,7 @@ use Rattle.sg_outcome.specs.declared.outcomes.Outcome.{Outcome}
 use Rattle.sg_outcome.specs.declared.outcomes.Outcome.TheVariants.{Made, Live, Sdp, Refused, Ended, Out, Dropped, Unsent}
 use Rattle.sg_mux.proofs.Latest.{change_by, marks_of, said, said_append, said_of}
 use Rattle.sg_mux.specs.Latest.{Telling, is_answer, known_after, known_from, tellings, tellings_of}
-use Rattle.sg_mux.specs.Muxed.{agreed, answered, changed_at, fresh, nobody, noted, noted_all}
+use Rattle.sg_mux.specs.Muxed.{agreed, settled_answer, changed_at, fresh, nobody, noted, noted_all}
 use Rattle.sg_mux.specs.Via.{events_from, muxing_after, muxing_at, stepped, via}
 use Rattle.sg_mux.specs.declared.known.Known.{Known}
 
@@ -40,7 +40,7 @@ all_count : (marks : List Bool) (calls : List (Option Known)) (os : List Outcome
 all_count marks calls [] = refl
 all_count marks calls (o ∷ os) = all_count marks (noted marks calls o) os ∙ noted_count marks calls o
 
-answered_count : (calls : List (Option Known)) (os : List Outcome) → length (answered calls os).calls ≡ length calls
+answered_count : (calls : List (Option Known)) (os : List Outcome) → length (settled_answer calls os).calls ≡ length calls
 answered_count calls [] = refl
 answered_count calls (Sdp id side text ∷ os) = length-map calls _
 answered_count calls (Made id at media ∷ os) = refl
@@ -101,13 +101,13 @@ module _ (slot : ℕ) where
 
   module _ (w : World) (calls : List (Option Known)) (within : slot < length calls) where
     settles : (id : CallId) (noise text : List ℕ) (side : Side) (q : Result Settled Refusal)
-        → At (answered calls (in_old w id (tells_answer id side) q).outcomes).calls
+        → At (settled_answer calls (in_old w id (tells_answer id side) q).outcomes).calls
         ≡ said slot (At calls) (map (telling (Signalled (Answered id noise text))) (in_old w id (tells_answer id side) q).outcomes)
     settles id noise text side (Err cause) = refl
     settles id noise text side (Ok r) = get_or-map _ calls slot None None within
 
     answer_settles : (id : CallId) (noise text : List ℕ) (c : Option Call)
-        → At (answered calls (signals.answered w id noise text c).outcomes).calls
+        → At (settled_answer calls (signals.answered w id noise text c).outcomes).calls
         ≡ said slot (At calls) (map (telling (Signalled (Answered id noise text))) (signals.answered w id noise text c).outcomes)
     answer_settles id noise text None = refl
     answer_settles id noise text (Some c) = settles id noise text (offering_side c.offer) (answered_in w.moment w.books c noise text)

@@ -14,7 +14,7 @@ use Rattle.sg_outcome.specs.declared.outcomes.Outcome.TheVariants.{Made, Live, S
 use Rattle.sg_passages.specs.Passages.{ArePassagesOf, AreToldAs, IsFaithful, IsToldAs, KeepsLegs, KeepsOffers, Leaving, straight}
 use Rattle.sg_mux.proofs.Lines.{ReadIsSpelled, adds_lines, same_lines}
 use Rattle.sg_mux.specs.Legs.{is_muxed_at, is_muxed_rtcp, leaves}
-use Rattle.sg_mux.specs.Muxed.{agreed, answered, nobody, offered_by, settled, signalled}
+use Rattle.sg_mux.specs.Muxed.{agreed, settled_answer, nobody, offered_by, settled, signalled}
 use Rattle.sg_mux.specs.Via.{events_from, events_via, muxing_after, passage_at, passages_from, passages_via, stepped, told_at, via}
 use Rattle.sg_mux.specs.declared.known.Known.{Known}
 
@@ -61,7 +61,7 @@ module _ (spelled : ReadIsSpelled) where
   settled_told calls (Ended id slot media why) = refl
   settled_told calls (Unsent port to) = refl
 
-  answered_told : (calls : List (Option Known)) (os : List Outcome) → AreToldAs straight os (answered calls os).told
+  answered_told : (calls : List (Option Known)) (os : List Outcome) → AreToldAs straight os (settled_answer calls os).told
   answered_told calls [] = refl
   answered_told calls (o ∷ os) = ((settled calls o).told, os, refl, settled_told calls o, all_as_they_are os)
 

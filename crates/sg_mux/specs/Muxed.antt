@@ -80,9 +80,9 @@ pub record Muxing : Type 0 where
   pub told : List Outcome
 
 -- an answer's text is the first that is told of it
-abbrev pub answered : List (Option Known) → List Outcome → Muxing
-answered calls [] = record { calls = calls; told = [] }
-answered calls (o ∷ others) = record { calls = (settled calls o).calls; told = (settled calls o).told ∷ others }
+abbrev pub settled_answer : List (Option Known) → List Outcome → Muxing
+settled_answer calls [] = record { calls = calls; told = [] }
+settled_answer calls (o ∷ others) = record { calls = (settled calls o).calls; told = (settled calls o).told ∷ others }
 
 -- of another signal all is told as it is
 abbrev pub followed : List Bool → List (Option Known) → List Outcome → Muxing
@@ -91,7 +91,7 @@ followed marks calls told = record { calls = noted_all marks calls told; told = 
 -- After a signal of which the table told these outcomes: what is known, and what is told in their place.
 abbrev pub signalled : Signal → List (Option Known) → List Outcome → Muxing
 signalled (Offered id way noise text) calls told = followed (offers_mux text) calls told
-signalled (Answered id noise text) calls told = answered calls told
+signalled (Answered id noise text) calls told = settled_answer calls told
 signalled (Tick now) calls told = followed no_marks calls told
 signalled (Psk pair) calls told = followed no_marks calls told
 signalled (Manual h) calls told = followed no_marks calls told

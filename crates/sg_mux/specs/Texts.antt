@@ -41,8 +41,8 @@ abbrev pub has_mux_line : Medium → Bool
 has_mux_line m = list_any (λ line. bytes_eq line mux_line) m.lines
 
 -- a medium with port 0 is refused (RFC 3264, 6)
-abbrev pub has_port : Medium → Bool
-has_port m = not (m.port == 0)
+abbrev pub has_media_port : Medium → Bool
+has_media_port m = not (m.port == 0)
 
 -- the media of a text, none where it isn't a description
 abbrev pub media_read : Result Sdp Fault → List Medium
@@ -54,7 +54,7 @@ abbrev pub offers_mux : List ℕ → List Bool
 offers_mux text = marks_by has_mux_line (media_read (description_of text))
 
 abbrev pub answers_port : List ℕ → List Bool
-answers_port text = marks_by has_port (media_read (description_of text))
+answers_port text = marks_by has_media_port (media_read (description_of text))
 
 -- ---- the line in an answer
 

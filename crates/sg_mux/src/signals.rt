@@ -3,7 +3,7 @@
 ghost use Rattle.std.specs.Prelude.{◌≡◌, length, IfErr, OnOk, OnErr, true};
 ghost use Rattle.std.specs.List.{list_any};
 ghost use Rattle.sg_gateway.specs.Events.{signal_of};
-ghost use Rattle.sg_mux.specs.Muxed.{agreed, answered, is_text, noted, noted_all, offered_by, settled, signalled, with_change};
+ghost use Rattle.sg_mux.specs.Muxed.{agreed, settled_answer, is_text, noted, noted_all, offered_by, settled, signalled, with_change};
 ghost use Rattle.sg_mux.specs.Texts.{both, no_marks, offers_mux, or_same, with_mux_lines};
 
 use crate::known::{Known, fresh, offer, settle};
@@ -149,8 +149,8 @@ fn follow_answer(
     alloc: Global,
     outcomes: &mut [Outcome],
 ) -> Result<(), NoMemory>
-    ensures calls { OnOk result (calls.new ≡ (answered calls.old outcomes.old).calls) }
-    ensures told { OnOk result (outcomes.new ≡ (answered calls.old outcomes.old).told) }
+    ensures calls { OnOk result (calls.new ≡ (settled_answer calls.old outcomes.old).calls) }
+    ensures told { OnOk result (outcomes.new ≡ (settled_answer calls.old outcomes.old).told) }
     ensures same { OnErr result ((calls.new ≡ calls.old) × (outcomes.new ≡ outcomes.old)) }
     ensures needs { OnErr result (list_any is_text outcomes.old ≡ true) }
 {

@@ -32,7 +32,7 @@ use Rattle.sg_passages.specs.Told.{EachAsTold, OpensWhatGoesOut, PlainTextsHaveN
 put_out : (p : Passage) → IsFaithful p → (e : Entry) → peers.IsPutOutOf p.turn e → told.IsPutOutOf p e
 put_out p f e a = any_weaker _ _ (λ c b. any_weaker _ _ (λ s is. record { name = is.name; key = is.key; out = one_out p f _ _ _ is.out }) c.sessions b) p.turn.before.calls a
 
-sealed_out : (p : Passage) → IsFaithful p → (e : Entry) (c : Call) (s : Session) → seals.IsSealedOutOf p.turn e c s → told.IsSealedOutOf p e c s
+sealed_out : (p : Passage) → IsFaithful p → (e : Entry) (c : Call) (s : Session) → seals.IsSealedOutOf p.turn e c s → told.IsSealedAndLeaves p e c s
 sealed_out p f e c s is = record { name = is.name; encrypts = is.encrypts; key = is.key; out = one_out p f _ _ _ is.out }
 
 arrived_out : (p : Passage) → IsFaithful p → (c : Call) (s : Session) (x : Sealed) → arriving.IsPutOut p.turn c s x → told.IsPutOut p c s x

@@ -49,14 +49,14 @@ EachOpeningGoesOut passages = All OpeningsGoOut passages
 
 -- The session has the entry's name, and encrypts where the entry says so; and the sealing of the entry's packet under its key
 -- is told as put out, and nothing else of that event is: it leaves as from the session's secure port to its secure address.
-pub record IsSealedOutOf (p : Passage) (e : Entry) (c : Call) (s : Session) : Type 0 where
+pub record IsSealedAndLeaves (p : Passage) (e : Entry) (c : Call) (s : Session) : Type 0 where
   pub name : s.name ≡ e.session
   pub encrypts : s.encrypts ≡ e.encrypts
   pub key : Any (λ k. k ≡ e.key) s.keys
   pub out : p.told ≡ out_by p.leaves (secure_leg_port c s) (secure_leg_address s) (text_in s e.key.mki (sealed_by e)) ∷ []
 
 abbrev pub SealsGoOut : Passage → Type 0
-SealsGoOut p = All (λ e. e.session.owner.direction ≡ Sealing → Any (λ c. Any (IsSealedOutOf p e c) c.sessions) p.turn.before.calls) p.turn.entries
+SealsGoOut p = All (λ e. e.session.owner.direction ≡ Sealing → Any (λ c. Any (IsSealedAndLeaves p e c) c.sessions) p.turn.before.calls) p.turn.entries
 
 abbrev pub EachSealGoesOut : List Passage → Type 0
 EachSealGoesOut passages = All SealsGoOut passages

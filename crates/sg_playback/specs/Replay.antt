@@ -17,7 +17,7 @@ output_in muxes events = text (outcomes_in muxes events)
 
 -- The events of these octets, with these drawn, end there. All that they tell was written, and no octet was drawn
 -- besides.
-pub record IsWhole (muxes : Bool) (octets draws out : List ℕ) (stop : Stop) : Type 0 where
+pub record IsWholeReplay (muxes : Bool) (octets draws out : List ℕ) (stop : Stop) : Type 0 where
   pub stops : (replayed octets draws).stop ≡ stop
   pub left : (replayed octets draws).left ≡ drawing []
   pub told : out ≡ output_in muxes (replayed octets draws).events
@@ -26,35 +26,35 @@ pub record IsWhole (muxes : Bool) (octets draws out : List ℕ) (stop : Stop) : 
 -- the source is at its end. With Script the lines before the named one are handled, and the named line is the first
 -- outside the grammar, with its first fault, whatever would come behind what was read; Unended comes only at the
 -- source's end. With Noise a draw comes next. With every other status a prefix was written.
-abbrev pub Ends : Bool → Status → List ℕ → List ℕ → List ℕ → Option (List ℕ) → Type 0
-Ends muxes Done octets draws out left = IsWhole muxes octets draws out BehindAll × AtEnd left
-Ends muxes (Script n fault) octets draws out left =
-    IsWhole muxes octets draws out (AtFault n fault) × (fault ≡ Unended → AtEnd left)
+abbrev pub ReplayEnds : Bool → Status → List ℕ → List ℕ → List ℕ → Option (List ℕ) → Type 0
+ReplayEnds muxes Done octets draws out left = IsWholeReplay muxes octets draws out BehindAll × AtEnd left
+ReplayEnds muxes (Script n fault) octets draws out left =
+    IsWholeReplay muxes octets draws out (AtFault n fault) × (fault ≡ Unended → AtEnd left)
     × (¬ (fault ≡ Unended) → (more : List ℕ) → (replayed (octets ++ more) draws).stop ≡ AtFault n fault)
-Ends muxes Noise octets draws out left = IsWhole muxes octets draws out ForDraw
-Ends muxes Read octets draws out left = IsPrefixOf out (output_in muxes (replayed octets draws).events)
-Ends muxes Write octets draws out left = IsPrefixOf out (output_in muxes (replayed octets draws).events)
-Ends muxes NoMemory octets draws out left = IsPrefixOf out (output_in muxes (replayed octets draws).events)
-Ends muxes Usage octets draws out left = ⊥
-Ends muxes Link octets draws out left = ⊥
-Ends muxes Clock octets draws out left = ⊥
-Ends muxes TurnsSpent octets draws out left = ⊥
-Ends muxes (Capture offset fault) octets draws out left = ⊥
+ReplayEnds muxes Noise octets draws out left = IsWholeReplay muxes octets draws out ForDraw
+ReplayEnds muxes Read octets draws out left = IsPrefixOf out (output_in muxes (replayed octets draws).events)
+ReplayEnds muxes Write octets draws out left = IsPrefixOf out (output_in muxes (replayed octets draws).events)
+ReplayEnds muxes NoMemory octets draws out left = IsPrefixOf out (output_in muxes (replayed octets draws).events)
+ReplayEnds muxes Usage octets draws out left = ⊥
+ReplayEnds muxes Link octets draws out left = ⊥
+ReplayEnds muxes Clock octets draws out left = ⊥
+ReplayEnds muxes TurnsSpent octets draws out left = ⊥
+ReplayEnds muxes (Capture offset fault) octets draws out left = ⊥
 
 -- what a source, a sink and a source of noise tell
-pub record Tellings : Type 0 where
+pub record ReplayTellings : Type 0 where
   pub left : Option (List ℕ)
   pub written : Option (List ℕ)
   pub drawn : Option (List ℕ)
 
 -- The replay read these octets, of which there are at most 2^30 + 1, drew these, and wrote those.
-pub record IsReplay (muxes : Bool) (status : Status) (old new : Tellings) (octets draws out : List ℕ) : Type 0 where
+pub record IsReplay (muxes : Bool) (status : Status) (old new : ReplayTellings) (octets draws out : List ℕ) : Type 0 where
   pub took : TookIn old.left new.left octets
   pub drew : Added old.drawn new.drawn draws
   pub wrote : Wrote old.written new.written out
-  pub ends : Ends muxes status octets draws out new.left
+  pub ends : ReplayEnds muxes status octets draws out new.left
   pub bound : length octets ≤ 2 ^ 30 + 1
 
 -- Where the source's octets are a script, the replay handles it to its end, or memory runs out.
-abbrev pub IsComplete : Status → Option (List ℕ) → Option (List ℕ) → Type 0
-IsComplete status left left' = (all rest : List ℕ) → left ≡ Some all → left' ≡ Some rest → IsScript all → (status ≡ Done) ⊎ (status ≡ NoMemory)
+abbrev pub IsCompleteReplay : Status → Option (List ℕ) → Option (List ℕ) → Type 0
+IsCompleteReplay status left left' = (all rest : List ℕ) → left ≡ Some all → left' ≡ Some rest → IsScript all → (status ≡ Done) ⊎ (status ≡ NoMemory)

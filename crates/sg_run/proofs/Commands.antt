@@ -9,11 +9,11 @@ use Rattle.sg_bridging.specs.Bridge as bridges
 use Rattle.sg_trace.proofs.Causes.{not_failed}
 use Rattle.sg_trace.specs.Causes.{HasFailed}
 use Rattle.sg_capture.specs.Capturing.{IsCapture}
-use Rattle.sg_trace.specs.Captured.{captured, events_in as captured_events, output_of}
+use Rattle.sg_trace.specs.Captured.{captured, captured_events, output_of}
 use Rattle.sg_trace.specs.Trace.{replayed}
 use Rattle.sg_trace.specs.declared.status.Status.{Status}
 use Rattle.sg_trace.specs.declared.status.Status.TheVariants.{Done, Usage, Script, Read, Write, Link, NoMemory, Clock, Noise, TurnsSpent, Capture}
-use Rattle.sg_demo.specs.Demonstration.{demonstration, events_in}
+use Rattle.sg_demo.specs.Demonstration.{demonstration, events_shown}
 use Rattle.sg_demo.specs.Text.{IsShown, summary_text}
 use Rattle.sg_edge.proofs.Links.{added_none}
 use Rattle.sg_edge.proofs.Passed.{took_none, wrote_none}
@@ -30,7 +30,7 @@ use Rattle.sg_relay.proofs.Holds.{holds_none}
 use Rattle.sg_relay.proofs.Order.{order_none}
 use Rattle.sg_relay.specs.Relay.{IsRelay, Passed}
 use Rattle.sg_relay.specs.Relay as relays
-use Rattle.sg_run.specs.Run.{AreTaken, HasBridged, HasCaptured, HasDone, HasMigrated, HasRelayed, HasReplayed, HasRun, HasShown, Outside}
+use Rattle.sg_run.specs.Run.{AreTaken, HasBridged, HasCaptured, HasDone, HasMigrated, HasRelayed, HasReplayed, HasRun, HasShown, Surroundings}
 use Rattle.sg_words.specs.Commands.{AreWordsOf, IsNoCommand, Words}
 use Rattle.sg_words.specs.declared.command.Command.{Command}
 use Rattle.sg_words.specs.declared.command.Command.TheVariants.{Replay, Relay, Demo, Migrate, Bridge}
@@ -52,7 +52,7 @@ no_outcomes : (muxes : Bool) → outcomes_in muxes [] ≡ []
 no_outcomes true = refl
 no_outcomes false = refl
 
-not_replayed : (muxes : Bool) (old : Outside) → HasReplayed muxes NoMemory old old [] []
+not_replayed : (muxes : Bool) (old : Surroundings) → HasReplayed muxes NoMemory old old [] []
 not_replayed muxes old = record {
   octets = [];
   draws = [];
@@ -68,7 +68,7 @@ not_replayed muxes old = record {
   passages_are = no_passages muxes;
 }
 
-not_relayed : (muxes : Bool) (turns : ℕ) (old : Outside) → HasRelayed muxes turns NoMemory old old [] []
+not_relayed : (muxes : Bool) (turns : ℕ) (old : Surroundings) → HasRelayed muxes turns NoMemory old old [] []
 not_relayed muxes turns old = record {
   passed = record { octets = []; out = []; calls = []; readings = []; draws = [] };
   is = record {
@@ -104,14 +104,14 @@ not_relayed muxes turns old = record {
   complete = λ only all rest left left' whole more link. inr refl;
 }
 
-not_shown : (calls start : ℕ) (old : Outside) → HasShown calls start NoMemory old old [] []
+not_shown : (calls start : ℕ) (old : Surroundings) → HasShown calls start NoMemory old old [] []
 not_shown calls start old = record {
   is = ([], (summary_text (demonstration calls start), refl), wrote_none old.written);
-  events_are = (events_in calls start, refl);
+  events_are = (events_shown calls start, refl);
   passages_are = refl;
 }
 
-not_migrated : (old : Outside) → HasMigrated NoMemory old old [] []
+not_migrated : (old : Surroundings) → HasMigrated NoMemory old old [] []
 not_migrated old = record {
   octets = [];
   out = [];
@@ -125,7 +125,7 @@ not_migrated old = record {
   passages_are = refl;
 }
 
-not_captured : (old : Outside) → HasCaptured NoMemory old old [] []
+not_captured : (old : Surroundings) → HasCaptured NoMemory old old [] []
 not_captured old = record {
   octets = [];
   draws = [];
@@ -141,7 +141,7 @@ not_captured old = record {
   passages_are = refl;
 }
 
-not_bridged : (old : Outside) → HasBridged NoMemory old old [] []
+not_bridged : (old : Surroundings) → HasBridged NoMemory old old [] []
 not_bridged old = record {
   octets = [];
   draws = [];
@@ -159,7 +159,7 @@ not_bridged old = record {
   crossing = All-from_recursion Crosses [] tt;
 }
 
-none_done : (command : Command) (old : Outside) → HasDone command NoMemory old old [] []
+none_done : (command : Command) (old : Surroundings) → HasDone command NoMemory old old [] []
 none_done (Replay workers muxes) old = not_replayed muxes old
 none_done (Relay turns muxes) old = not_relayed muxes turns old
 none_done (Demo calls start workers) old = not_shown calls start old
@@ -167,11 +167,11 @@ none_done Migrate old = not_migrated old
 none_done commands.Capture old = not_captured old
 none_done Bridge old = not_bridged old
 
-pub not_begun : (words : Words) (old : Outside) → HasRun words NoMemory old old [] []
+pub not_begun : (words : Words) (old : Surroundings) → HasRun words NoMemory old old [] []
 not_begun words old = λ command are. none_done command old
 
 -- words that are no command
-pub no_run : (words : Words) (status : Status) (old new : Outside) → IsNoCommand words → HasRun words status old new [] []
+pub no_run : (words : Words) (status : Status) (old new : Surroundings) → IsNoCommand words → HasRun words status old new [] []
 no_run words status old new none = λ command are. absurd (none command are)
 
 -- ---- the command that was read is the one that the words are
@@ -213,7 +213,7 @@ turns_are words read turns turns' muxes muxes' told is are =
 
 -- ---- what was run
 
-pub has_run : (words : Words) (read this : Command) (status : Status) (old new : Outside) (events : List Event) (passages : List Passage) → IsToldOf words read
+pub has_run : (words : Words) (read this : Command) (status : Status) (old new : Surroundings) (events : List Event) (passages : List Passage) → IsToldOf words read
     → read ≡ this → HasDone this status old new events passages → HasRun words status old new events passages
 has_run words read this status old new events passages told is done =
     λ command are. subst (λ k. HasDone k status old new events passages) (sym is ∙ read_is read command (told command are)) done
@@ -234,46 +234,46 @@ all_taken (Capture offset fault) events = ([], sym (append-nil events))
 
 -- ---- what a command doesn't answer
 
-replay_not : (muxes : Bool) (other status : Status) (old new : replays.Tellings) (octets draws out : List ℕ) → (IsReplay muxes other old new octets draws out → ⊥)
+replay_not : (muxes : Bool) (other status : Status) (old new : replays.ReplayTellings) (octets draws out : List ℕ) → (IsReplay muxes other old new octets draws out → ⊥)
     → IsReplay muxes status old new octets draws out → status ≡ other → ⊥
 replay_not muxes other status old new octets draws out isnt run is = isnt (subst (λ s. IsReplay muxes s old new octets draws out) is run)
 
-pub replay_not_usage : (muxes : Bool) (status : Status) (old new : replays.Tellings) (octets draws out : List ℕ) → IsReplay muxes status old new octets draws out → status ≡ Usage → ⊥
+pub replay_not_usage : (muxes : Bool) (status : Status) (old new : replays.ReplayTellings) (octets draws out : List ℕ) → IsReplay muxes status old new octets draws out → status ≡ Usage → ⊥
 replay_not_usage muxes status old new octets draws out run is = replay_not muxes Usage status old new octets draws out (λ r. r.ends) run is
 
-pub replay_not_link : (muxes : Bool) (status : Status) (old new : replays.Tellings) (octets draws out : List ℕ) → IsReplay muxes status old new octets draws out → status ≡ Link → ⊥
+pub replay_not_link : (muxes : Bool) (status : Status) (old new : replays.ReplayTellings) (octets draws out : List ℕ) → IsReplay muxes status old new octets draws out → status ≡ Link → ⊥
 replay_not_link muxes status old new octets draws out run is = replay_not muxes Link status old new octets draws out (λ r. r.ends) run is
 
-pub replay_not_clock : (muxes : Bool) (status : Status) (old new : replays.Tellings) (octets draws out : List ℕ) → IsReplay muxes status old new octets draws out → status ≡ Clock → ⊥
+pub replay_not_clock : (muxes : Bool) (status : Status) (old new : replays.ReplayTellings) (octets draws out : List ℕ) → IsReplay muxes status old new octets draws out → status ≡ Clock → ⊥
 replay_not_clock muxes status old new octets draws out run is = replay_not muxes Clock status old new octets draws out (λ r. r.ends) run is
 
-migration_not : (other status : Status) (old new : migrations.Tellings) (octets out : List ℕ) → (IsMigration other old new octets out → ⊥)
+migration_not : (other status : Status) (old new : migrations.MigrationTellings) (octets out : List ℕ) → (IsMigration other old new octets out → ⊥)
     → IsMigration status old new octets out → status ≡ other → ⊥
 migration_not other status old new octets out isnt run is = isnt (subst (λ s. IsMigration s old new octets out) is run)
 
-pub migration_not_usage : (status : Status) (old new : migrations.Tellings) (octets out : List ℕ) → IsMigration status old new octets out → status ≡ Usage → ⊥
+pub migration_not_usage : (status : Status) (old new : migrations.MigrationTellings) (octets out : List ℕ) → IsMigration status old new octets out → status ≡ Usage → ⊥
 migration_not_usage status old new octets out run is = migration_not Usage status old new octets out (λ r. r.ends) run is
 
-pub migration_not_link : (status : Status) (old new : migrations.Tellings) (octets out : List ℕ) → IsMigration status old new octets out → status ≡ Link → ⊥
+pub migration_not_link : (status : Status) (old new : migrations.MigrationTellings) (octets out : List ℕ) → IsMigration status old new octets out → status ≡ Link → ⊥
 migration_not_link status old new octets out run is = migration_not Link status old new octets out (λ r. r.ends) run is
 
-pub migration_not_clock : (status : Status) (old new : migrations.Tellings) (octets out : List ℕ) → IsMigration status old new octets out → status ≡ Clock → ⊥
+pub migration_not_clock : (status : Status) (old new : migrations.MigrationTellings) (octets out : List ℕ) → IsMigration status old new octets out → status ≡ Clock → ⊥
 migration_not_clock status old new octets out run is = migration_not Clock status old new octets out (λ r. r.ends) run is
 
-pub migration_not_noise : (status : Status) (old new : migrations.Tellings) (octets out : List ℕ) → IsMigration status old new octets out → status ≡ Noise → ⊥
+pub migration_not_noise : (status : Status) (old new : migrations.MigrationTellings) (octets out : List ℕ) → IsMigration status old new octets out → status ≡ Noise → ⊥
 migration_not_noise status old new octets out run is = migration_not Noise status old new octets out (λ r. r.ends) run is
 
-capture_not : (other status : Status) (old new : replays.Tellings) (octets draws out : List ℕ) → (IsCapture other old new octets draws out → ⊥)
+capture_not : (other status : Status) (old new : replays.ReplayTellings) (octets draws out : List ℕ) → (IsCapture other old new octets draws out → ⊥)
     → IsCapture status old new octets draws out → status ≡ other → ⊥
 capture_not other status old new octets draws out isnt run is = isnt (subst (λ s. IsCapture s old new octets draws out) is run)
 
-pub capture_not_usage : (status : Status) (old new : replays.Tellings) (octets draws out : List ℕ) → IsCapture status old new octets draws out → status ≡ Usage → ⊥
+pub capture_not_usage : (status : Status) (old new : replays.ReplayTellings) (octets draws out : List ℕ) → IsCapture status old new octets draws out → status ≡ Usage → ⊥
 capture_not_usage status old new octets draws out run is = capture_not Usage status old new octets draws out (λ r. r.ends) run is
 
-pub capture_not_link : (status : Status) (old new : replays.Tellings) (octets draws out : List ℕ) → IsCapture status old new octets draws out → status ≡ Link → ⊥
+pub capture_not_link : (status : Status) (old new : replays.ReplayTellings) (octets draws out : List ℕ) → IsCapture status old new octets draws out → status ≡ Link → ⊥
 capture_not_link status old new octets draws out run is = capture_not Link status old new octets draws out (λ r. r.ends) run is
 
-pub capture_not_clock : (status : Status) (old new : replays.Tellings) (octets draws out : List ℕ) → IsCapture status old new octets draws out → status ≡ Clock → ⊥
+pub capture_not_clock : (status : Status) (old new : replays.ReplayTellings) (octets draws out : List ℕ) → IsCapture status old new octets draws out → status ≡ Clock → ⊥
 capture_not_clock status old new octets draws out run is = capture_not Clock status old new octets draws out (λ r. r.ends) run is
 
 bridge_not : (other status : Status) (old new : bridges.Tellings) (octets draws out : List ℕ) → (IsBridge other old new octets draws out → ⊥)
@@ -289,7 +289,7 @@ bridge_not_link status old new octets draws out run is = bridge_not Link status 
 pub bridge_not_clock : (status : Status) (old new : bridges.Tellings) (octets draws out : List ℕ) → IsBridge status old new octets draws out → status ≡ Clock → ⊥
 bridge_not_clock status old new octets draws out run is = bridge_not Clock status old new octets draws out (λ r. r.ends) run is
 
-pub relay_not_usage : (muxes : Bool) (status : Status) (turns : ℕ) (old new : relays.Tellings) (p : Passed) → IsRelay muxes status turns old new p → status ≡ Usage → ⊥
+pub relay_not_usage : (muxes : Bool) (status : Status) (turns : ℕ) (old new : relays.RelayTellings) (p : Passed) → IsRelay muxes status turns old new p → status ≡ Usage → ⊥
 relay_not_usage muxes status turns old new p run is = (subst (λ s. IsRelay muxes s turns old new p) is run).ends
 
 -- a demonstration is done, or the sink failed or memory ran out

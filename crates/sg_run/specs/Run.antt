@@ -4,12 +4,12 @@ use Rattle.sg_bridge.specs.Bridged.{EachCrossingIsSealed, JoinedStayInside, brid
 use Rattle.sg_bridging.specs.Bridge.{IsBridge, bridge_trace}
 use Rattle.sg_bridging.specs.Bridge as bridges
 use Rattle.sg_capture.specs.Capturing.{IsCapture}
-use Rattle.sg_trace.specs.Captured.{captured, events_in as captured_events}
+use Rattle.sg_trace.specs.Captured.{captured, captured_events}
 use Rattle.sg_trace.specs.Trace.{replayed}
 use Rattle.sg_trace.specs.Output.{IsPrefixOf}
 use Rattle.sg_trace.specs.declared.status.Status.{Status}
 use Rattle.sg_trace.specs.declared.status.Status.TheVariants.{Done}
-use Rattle.sg_demo.specs.Demonstration.{demonstration, events_in}
+use Rattle.sg_demo.specs.Demonstration.{demonstration, events_shown}
 use Rattle.sg_demo.specs.Text.{IsShown, summary_text}
 use Rattle.sg_edge.specs.Links.{LinkCall}
 use Rattle.sg_edge.specs.Told.{Rose}
@@ -20,7 +20,7 @@ use Rattle.sg_mux.specs.Via.{events_in as table_events, passages_in}
 use Rattle.sg_passages.specs.Passages.{Passage, plain_passages}
 use Rattle.sg_playback.specs.Replay.{IsReplay}
 use Rattle.sg_playback.specs.Replay as replays
-use Rattle.sg_relay.specs.Completeness.{IsComplete}
+use Rattle.sg_relay.specs.Completeness.{IsCompleteRelay}
 use Rattle.sg_relay.specs.Relay.{HoldsItsCallsPorts, IsRelay, Passed, trace_of}
 use Rattle.sg_relay.specs.Relay as relays
 use Rattle.sg_words.specs.Commands.{AreWordsOf, Words}
@@ -36,7 +36,7 @@ pub record Failures : Type 0 where
   pub noise : ℕ
 
 -- what they tell, and how often they have failed
-pub record Outside : Type 0 where
+pub record Surroundings : Type 0 where
   pub left : Option (List ℕ)
   pub written : Option (List ℕ)
   pub calls : Option (List LinkCall)
@@ -45,20 +45,20 @@ pub record Outside : Type 0 where
   pub failures : Failures
 
 -- those of them that a replay is given
-abbrev pub of_replay : Outside → replays.Tellings
+abbrev pub of_replay : Surroundings → replays.ReplayTellings
 of_replay o = record { left = o.left; written = o.written; drawn = o.drawn }
 
-abbrev pub of_relay : Outside → relays.Tellings
+abbrev pub of_relay : Surroundings → relays.RelayTellings
 of_relay o = record { left = o.left; written = o.written; calls = o.calls; readings = o.readings; draws = o.drawn }
 
-abbrev pub of_migration : Outside → migrations.Tellings
+abbrev pub of_migration : Surroundings → migrations.MigrationTellings
 of_migration o = record { left = o.left; written = o.written }
 
-abbrev pub of_bridge : Outside → bridges.Tellings
+abbrev pub of_bridge : Surroundings → bridges.Tellings
 of_bridge o = record { left = o.left; written = o.written; drawn = o.drawn }
 
 -- A replay read, drew and wrote these octets; these are its events as they come to the gateway, and what is told of them.
-pub record HasReplayed (muxes : Bool) (status : Status) (old new : Outside) (events : List Event) (passages : List Passage) : Type 0 where
+pub record HasReplayed (muxes : Bool) (status : Status) (old new : Surroundings) (events : List Event) (passages : List Passage) : Type 0 where
   pub octets : List ℕ
   pub draws : List ℕ
   pub out : List ℕ
@@ -76,14 +76,14 @@ pub record OnlyLinkFailed (old new : Failures) : Type 0 where
 -- This passed between a relay and the outside; these are its events as they come to the gateway, and what is told of them.
 -- It listened at the ports of the calls that were there, and at no others. Where nothing fails, a send aside, it handles its
 -- script to the end, or memory runs out.
-pub record HasRelayed (muxes : Bool) (turns : ℕ) (status : Status) (old new : Outside) (events : List Event) (passages : List Passage) : Type 0 where
+pub record HasRelayed (muxes : Bool) (turns : ℕ) (status : Status) (old new : Surroundings) (events : List Event) (passages : List Passage) : Type 0 where
   pub passed : Passed
   pub is : IsRelay muxes status turns (of_relay old) (of_relay new) passed
   pub events_are : events ≡ table_events muxes (trace_of passed).events
   pub passages_are : passages ≡ passages_in muxes (trace_of passed).events
   pub ports : HoldsItsCallsPorts muxes passed
   pub complete : OnlyLinkFailed old.failures new.failures
-      → IsComplete status turns old.left new.left old.failures.link new.failures.link passed
+      → IsCompleteRelay status turns old.left new.left old.failures.link new.failures.link passed
 
 -- with Done these are all of the demonstration's events, and else the first of them
 abbrev pub AreTaken : Status → List Event → List Event → Type 0
@@ -91,13 +91,13 @@ AreTaken Done events all = events ≡ all
 AreTaken other events all = IsPrefixOf events all
 
 -- The nine lines of the demonstration were written, or a prefix of them; these are its events, told as they are.
-pub record HasShown (calls start : ℕ) (status : Status) (old new : Outside) (events : List Event) (passages : List Passage) : Type 0 where
+pub record HasShown (calls start : ℕ) (status : Status) (old new : Surroundings) (events : List Event) (passages : List Passage) : Type 0 where
   pub is : IsShown status old.written new.written (summary_text (demonstration calls start))
-  pub events_are : AreTaken status events (events_in calls start)
+  pub events_are : AreTaken status events (events_shown calls start)
   pub passages_are : passages ≡ plain_passages events
 
 -- A migration read and wrote these octets. It hands no event to the gateway.
-pub record HasMigrated (status : Status) (old new : Outside) (events : List Event) (passages : List Passage) : Type 0 where
+pub record HasMigrated (status : Status) (old new : Surroundings) (events : List Event) (passages : List Passage) : Type 0 where
   pub octets : List ℕ
   pub out : List ℕ
   pub is : IsMigration status (of_migration old) (of_migration new) octets out
@@ -105,7 +105,7 @@ pub record HasMigrated (status : Status) (old new : Outside) (events : List Even
   pub passages_are : passages ≡ []
 
 -- A script and the capture behind it were read, drew and wrote these octets; these are their events, told as they are.
-pub record HasCaptured (status : Status) (old new : Outside) (events : List Event) (passages : List Passage) : Type 0 where
+pub record HasCaptured (status : Status) (old new : Surroundings) (events : List Event) (passages : List Passage) : Type 0 where
   pub octets : List ℕ
   pub draws : List ℕ
   pub out : List ℕ
@@ -115,7 +115,7 @@ pub record HasCaptured (status : Status) (old new : Outside) (events : List Even
 
 -- A bridge read, drew and wrote these octets, and these are its events at the gateway, each inner one too. Of joined calls nothing
 -- is put out but what the other call opened, sealed.
-pub record HasBridged (status : Status) (old new : Outside) (events : List Event) (passages : List Passage) : Type 0 where
+pub record HasBridged (status : Status) (old new : Surroundings) (events : List Event) (passages : List Passage) : Type 0 where
   pub octets : List ℕ
   pub draws : List ℕ
   pub out : List ℕ
@@ -126,7 +126,7 @@ pub record HasBridged (status : Status) (old new : Outside) (events : List Event
   pub crossing : EachCrossingIsSealed (bridge_trace octets draws).said
 
 -- the command was run, and these are the run's events and what is told of them
-abbrev pub HasDone : Command → Status → Outside → Outside → List Event → List Passage → Type 0
+abbrev pub HasDone : Command → Status → Surroundings → Surroundings → List Event → List Passage → Type 0
 HasDone (Replay workers muxes) status old new events passages = HasReplayed muxes status old new events passages
 HasDone (Relay turns muxes) status old new events passages = HasRelayed muxes turns status old new events passages
 HasDone (Demo calls start workers) status old new events passages = HasShown calls start status old new events passages
@@ -135,5 +135,5 @@ HasDone Capture status old new events passages = HasCaptured status old new even
 HasDone Bridge status old new events passages = HasBridged status old new events passages
 
 -- whatever command the words are
-abbrev pub HasRun : Words → Status → Outside → Outside → List Event → List Passage → Type 0
+abbrev pub HasRun : Words → Status → Surroundings → Surroundings → List Event → List Passage → Type 0
 HasRun words status old new events passages = (command : Command) → AreWordsOf words command → HasDone command status old new events passages

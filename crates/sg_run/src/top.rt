@@ -12,7 +12,7 @@ ghost use Rattle.sg_migrate.specs.Migrated.{IsOfVersionOne, migrated};
 ghost use Rattle.sg_migrate.specs.Migration as migrations;
 ghost use Rattle.sg_passages.specs.Headline.{Headline};
 ghost use Rattle.sg_passages.specs.Passages.{Passage};
-ghost use Rattle.sg_playback.specs.Replay.{IsComplete};
+ghost use Rattle.sg_playback.specs.Replay.{IsCompleteReplay};
 ghost use Rattle.sg_run.specs.Run.{HasRun};
 ghost use Rattle.sg_words.specs.Commands.{AreWordsOf, IsNoCommand};
 ghost use Rattle.sg_words.specs.declared.command.Command.TheVariants.{Replay, Relay, Demo, Migrate, Capture, Bridge};
@@ -82,7 +82,7 @@ pub fn run<R: Threads + Sync, S: Source, K: Sink, L: Link, C: Clock, N: Noise, G
     ensures replay_untouched { (workers : ℕ) (muxes : Bool) → AreWordsOf (map string_bytes words.now) (Replay workers muxes) → (link.new ≡ link.old) × (clock.new ≡ clock.old) }
     ensures replay_complete { (workers : ℕ) (muxes : Bool) → AreWordsOf (map string_bytes words.now) (Replay workers muxes)
         → ¬ Rose (S.faults source.old) (S.faults source.new) → ¬ Rose (K.faults sink.old) (K.faults sink.new) → ¬ Rose (N.faults noise.old) (N.faults noise.new)
-        → IsComplete result (S.left source.old) (S.left source.new) }
+        → IsCompleteReplay result (S.left source.old) (S.left source.new) }
     ensures demo_untouched { (calls start workers : ℕ) → AreWordsOf (map string_bytes words.now) (Demo calls start workers)
         → (source.new ≡ source.old) × (link.new ≡ link.old) × (clock.new ≡ clock.old) × (noise.new ≡ noise.old) }
     ensures demo_complete { (calls start workers : ℕ) → AreWordsOf (map string_bytes words.now) (Demo calls start workers)
@@ -90,15 +90,15 @@ pub fn run<R: Threads + Sync, S: Source, K: Sink, L: Link, C: Clock, N: Noise, G
     ensures migrate_untouched { AreWordsOf (map string_bytes words.now) Migrate → (link.new ≡ link.old) × (clock.new ≡ clock.old) × (noise.new ≡ noise.old) }
     ensures migrate_complete { AreWordsOf (map string_bytes words.now) Migrate
         → ¬ Rose (S.faults source.old) (S.faults source.new) → ¬ Rose (K.faults sink.old) (K.faults sink.new)
-        → migrations.IsComplete result (S.left source.old) (S.left source.new) }
+        → migrations.IsCompleteMigration result (S.left source.old) (S.left source.new) }
     ensures capture_untouched { AreWordsOf (map string_bytes words.now) Capture → (link.new ≡ link.old) × (clock.new ≡ clock.old) }
     ensures capture_complete { AreWordsOf (map string_bytes words.now) Capture
         → ¬ Rose (S.faults source.old) (S.faults source.new) → ¬ Rose (K.faults sink.old) (K.faults sink.new) → ¬ Rose (N.faults noise.old) (N.faults noise.new)
-        → captures.IsComplete result (S.left source.old) (S.left source.new) }
+        → captures.IsCompleteCapture result (S.left source.old) (S.left source.new) }
     ensures bridge_untouched { AreWordsOf (map string_bytes words.now) Bridge → (link.new ≡ link.old) × (clock.new ≡ clock.old) }
     ensures bridge_complete { AreWordsOf (map string_bytes words.now) Bridge
         → ¬ Rose (S.faults source.old) (S.faults source.new) → ¬ Rose (K.faults sink.old) (K.faults sink.new) → ¬ Rose (N.faults noise.old) (N.faults noise.new)
-        → bridges.IsComplete result (S.left source.old) (S.left source.new) }
+        → bridges.IsCompleteBridge result (S.left source.old) (S.left source.new) }
     ensures migrated_alike { (octets draws : List ℕ) → IsOfVersionOne octets → length (migrated octets) ≤ 2 ^ 30
         → outcomes (replayed (migrated octets) draws).events ≡ outcomes (replayed octets draws).events }
     ensures read { HasFailed (result ≡ Status.Read) (S.faults source.old) (S.faults source.new) (S.failed source.new) }
