@@ -28,6 +28,8 @@ SCRIPTS = [
     "interop/rows/session-of-two-media",
     "interop/rows/keys-of-before-by-datagrams-moments",
     "interop/rows/migrated-lines-of-every-kind",
+    "interop/rows/muxed-media",
+    "interop/rows/bridged-in-version-2",
     "interop/rows/captured-packet-in-version-2",
     "interop/rows/captured-frames-that-are-malformed",
 ]

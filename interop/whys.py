@@ -47,10 +47,10 @@ def changed(draw, octets, more=b""):
     return bytes(octets)
 
 
-def fault(read, faults, line, version):
+def fault(read, faults, line, version, **more):
     """The name of a line's first fault in a version, or None."""
     try:
-        read(2, line, version)
+        read(2, line, version, **more)
     except faults as found:
         return getattr(found, "name", str(found))
     return None
@@ -59,8 +59,9 @@ def fault(read, faults, line, version):
 def lines_differ(draw, lines, count):
     """Changed lines of which two faults are told."""
     for _ in range(count):
-        line, version = changed(draw, draw.choice(lines)) + b"\n", draw.choice((1, 2))
-        told = fault(why.read_line, why.Fault, line, version), fault(scripts.read, scripts.Fault, line, version)
+        line, version, pairs = changed(draw, draw.choice(lines)) + b"\n", draw.choice((1, 2)), draw.choice((False, True))
+        told = (fault(why.read_line, why.Fault, line, version, is_bridged=pairs),
+                fault(scripts.read, scripts.Fault, line, version, has_pairs=pairs))
         if told[0] != told[1]:
             yield line, told
 
