@@ -1,29 +1,34 @@
 -- What the parts of a bridge tell, one by one.
-use Rattle.std.proofs.Common.{◌≡◌, ◌<◌, ◌+◌, ℕ, List, [], ◌∷◌, ◌++◌, length, take, drop, get_or, Option, Some, None, Result, Ok, Err, refl, sym, ap, ◌∙◌, subst, append_assoc}
+use Rattle.std.proofs.Common.{◌≡◌, ◌<◌, ◌+◌, ℕ, Bool, true, false, cond, List, [], ◌∷◌, ◌++◌, length, take, drop, get_or, Option, Some, None, Result, Ok, Err, refl, sym, ap, ◌∙◌, subst, append_assoc}
 use Rattle.std.proofs.lemmas.Grind.{flat_map-append}
 use Rattle.std.proofs.lemmas.List.{append-nil, take-append-drop, take_more}
 use Rattle.std.specs.List.{flat_map}
-use Rattle.std.specs.Prelude.{OnOk, map, option_to_list}
+use Rattle.std.specs.Prelude.{OnOk, is_some, map, option_to_list}
 use Rattle.sg_base.specs.declared.addresses.Address.{Address}
 use Rattle.sg_base.specs.declared.addresses.CallId.{CallId}
 use Rattle.sg_base.specs.declared.faults.DropCause.{DropCause}
 use Rattle.sg_base.specs.declared.faults.DropCause.TheVariants.{PortUnused}
 use Rattle.sg_bridge.specs.BridgeText.{bridge_outcome_line}
-use Rattle.sg_bridge.specs.Bridged.{Bridging, Said, Joins, Parts, Following, arrived, behind, bridging, bridgings_from, followed, handed_on, happened, inner, inner_told, joining, nothing_happens, opened, parting, passed}
+use Rattle.sg_bridge.specs.Bridged.{Bridging, Said, Happens, Joins, Parts, Following, arrived, behind, bridging, bridgings_from, followed, handed_on, happened, inner, inner_told, joining, nothing_happens, opened, parting, passed}
 use Rattle.sg_bridge.specs.Onward.{onward}
 use Rattle.sg_bridge.specs.Pairs.{Members, joined, noted, parted_from}
 use Rattle.sg_bridge.specs.declared.faults.JoinFault.{JoinFault}
+use Rattle.sg_bridge.specs.declared.lines.BridgeLine.{BridgeLine}
+use Rattle.sg_bridge.specs.declared.lines.BridgeLine.TheVariants as bridge_lines
 use Rattle.sg_bridge.specs.declared.members.Pair.{Pair}
 use Rattle.sg_bridge.specs.declared.outcomes.BridgeOutcome.{BridgeOutcome}
 use Rattle.sg_bridge.specs.declared.outcomes.BridgeOutcome.TheVariants as tells
-use Rattle.sg_bridging.specs.Steps.{HasTold, StandsFor, State, SwitchboardValue, after, state_after, text_from, told_next}
+use Rattle.sg_bridging.specs.Bridge.{LaterSaid, happens_as, said_of, with_said}
+use Rattle.sg_bridging.specs.Steps.{HasTold, IsBridged, IsCut, IsPlayed, IsStepped, StandsFor, State, SwitchboardValue, after, state_after, text_from, told_next}
 use Rattle.sg_edge.proofs.Passed.{wrote_more, wrote_none}
 use Rattle.sg_edge.specs.Told.{Wrote}
-use Rattle.sg_gateway.specs.Events.{outcomes_from}
+use Rattle.sg_gateway.specs.Events.{outcomes_from, signal_lacks_noise, signal_of}
 use Rattle.sg_gateway.specs.PlainOf.{plain_at}
 use Rattle.sg_gateway.specs.Signals.{Signal}
 use Rattle.sg_gateway.specs.Step.{Event, Signalled, step}
 use Rattle.sg_gateway.specs.World.{World}
+use Rattle.sg_lines.specs.declared.lines.Line.TheVariants as scripts
+use Rattle.sg_lines.specs.declared.lines.Signal.{Signal as Signal'}
 use Rattle.sg_outcome.specs.OutcomeText.{outcome_line}
 use Rattle.sg_outcome.specs.declared.outcomes.Outcome.{Outcome}
 use Rattle.sg_outcome.specs.declared.outcomes.Outcome.TheVariants.{Out, Dropped}
@@ -31,6 +36,7 @@ use Rattle.sg_table.specs.Standing.{TableStandsFor}
 use Rattle.sg_table.specs.Values.{TableValue}
 use Rattle.sg_trace.proofs.Writings.{written_behind}
 use Rattle.sg_trace.specs.Output.{IsPrefixOf, IsWritten}
+use Rattle.sg_trace.specs.Supplying.{IsSupplied}
 use Rattle.sg_trace.specs.declared.status.Status.{Status}
 use Rattle.sg_trace.specs.declared.status.Status.TheVariants as statuses
 
@@ -273,3 +279,117 @@ module _ (s : State) (e : Event) (w : World) (q : ℕ) (from : Address) (octets 
   pub sealed_on : (port : ℕ) (to : Address) (packet : List ℕ) → o ≡ Out port to packet → IsWritten r a b (outcome_line (Out port to packet)) → HandsOn
   sealed_on port to packet this wrote = hands_on (subst (λ o. Has r a b (lines (map inner_told (o ∷ []))) (StandsFor board (record { world = (step w (inner q from octets)).world; calls = s.calls }))) (sym this)
       (told_line r a b (Out port to packet) _ (stands, same) wrote))
+
+-- ---- lines
+
+pub stepped_one : (r : Result (Unit {0}) Status) (s : State) (x : Said) (board : SwitchboardValue) (out : List ℕ) → IsBridged r (bridging s.world s.calls x) board out → IsStepped r s (x ∷ []) board out
+stepped_one r s x board out has = has_text r _ _ (StandsFor board (after (bridging s.world s.calls x))) (StandsFor board (after (bridging s.world s.calls x))) out (sym (text_of_one s x)) (λ so. so) has
+
+prefix_on : (out text more : List ℕ) → IsPrefixOf out text → IsPrefixOf out (text ++ more)
+prefix_on out text more is = (is.0 ++ more, ap (λ (l : List ℕ). l ++ more) is.1 ∙ append_assoc out is.0 more)
+
+-- a prefix of what more would tell
+pub stepped_cut : (status : Status) (s : State) (xs ys : List Said) (board board' : SwitchboardValue) (out : List ℕ) → IsStepped (Err status) s xs board out → IsStepped (Err status) s (xs ++ ys) board' out
+stepped_cut status s xs ys board board' out has = go status has
+  where
+    longer : IsPrefixOf out (text_from s xs) → IsPrefixOf out (text_from s (xs ++ ys))
+    longer is = subst (IsPrefixOf out) (sym (text_from-append s xs ys)) (prefix_on out (text_from s xs) (text_from (state_after s xs) ys) is)
+
+    go : (status : Status) → IsStepped (Err status) s xs board out → IsStepped (Err status) s (xs ++ ys) board' out
+    go statuses.Write has = longer has
+    go statuses.NoMemory has = longer has
+    go statuses.Done has = absurd has
+    go statuses.Usage has = absurd has
+    go (statuses.Script n fault) has = absurd has
+    go statuses.Read has = absurd has
+    go statuses.Link has = absurd has
+    go statuses.Clock has = absurd has
+    go statuses.Noise has = absurd has
+    go statuses.TurnsSpent has = absurd has
+    go (statuses.Capture offset fault) has = absurd has
+
+-- one thing that is said behind another
+pub stepped_then : (r : Result (Unit {0}) Status) (s : State) (xs ys : List Said) (middle board : SwitchboardValue) (out out' : List ℕ) → IsStepped (Ok tt) s xs middle out → IsStepped r (state_after s xs) ys board out' → IsStepped r s (xs ++ ys) board (out ++ out')
+stepped_then r s xs ys middle board out out' first then = go r then
+  where
+    prefix : IsPrefixOf out' (text_from (state_after s xs) ys) → IsPrefixOf (out ++ out') (text_from s (xs ++ ys))
+    prefix is = (
+      is.0,
+      text_from-append s xs ys ∙ (λ i. sym first.0 i ++ is.1 i) ∙ sym (append_assoc out out' is.0),
+    )
+
+    go : (r : Result (Unit {0}) Status) → IsStepped r (state_after s xs) ys board out' → IsStepped r s (xs ++ ys) board (out ++ out')
+    go (Ok u) has = ((λ i. first.0 i ++ has.0 i) ∙ sym (text_from-append s xs ys), subst (StandsFor board) (sym (state_after-append s xs ys)) has.1)
+    go (Err statuses.Write) has = prefix has
+    go (Err statuses.NoMemory) has = prefix has
+    go (Err statuses.Done) has = absurd has
+    go (Err statuses.Usage) has = absurd has
+    go (Err (statuses.Script n fault)) has = absurd has
+    go (Err statuses.Read) has = absurd has
+    go (Err statuses.Link) has = absurd has
+    go (Err statuses.Clock) has = absurd has
+    go (Err statuses.Noise) has = absurd has
+    go (Err statuses.TurnsSpent) has = absurd has
+    go (Err (statuses.Capture offset fault)) has = absurd has
+
+-- a line says this, for which these octets are drawn
+abbrev pub Says : BridgeLine → List ℕ → List Said → Type 0
+Says l draws said = (later : LaterSaid) (more : List ℕ) → said_of l later (draws ++ more) ≡ with_said said (later more)
+
+pub played_by : (l : BridgeLine) (draws : List ℕ) (said : List Said) → Says l draws said → (r : Result (Unit {0}) Status) (s : State) (board : SwitchboardValue) (out : List ℕ) → IsStepped r s said board out → IsPlayed r l s board draws out
+played_by l draws said says r s board out has = go r has
+  where
+    cut : IsPrefixOf out (text_from s said) → IsCut l s draws out
+    cut is = record {
+      said = said;
+      goes = λ later. (later [], ap (λ (d : List ℕ). said_of l later d) (sym (append-nil draws)) ∙ says later []);
+      told = is;
+    }
+
+    go : (r : Result (Unit {0}) Status) → IsStepped r s said board out → IsPlayed r l s board draws out
+    go (Ok u) has = record { said = said; goes = says; told = has.0; stands = has.1 }
+    go (Err statuses.Write) has = cut has
+    go (Err statuses.NoMemory) has = cut has
+    go (Err statuses.Done) has = absurd has
+    go (Err statuses.Usage) has = absurd has
+    go (Err (statuses.Script n fault)) has = absurd has
+    go (Err statuses.Read) has = absurd has
+    go (Err statuses.Link) has = absurd has
+    go (Err statuses.Clock) has = absurd has
+    go (Err statuses.Noise) has = absurd has
+    go (Err statuses.TurnsSpent) has = absurd has
+    go (Err (statuses.Capture offset fault)) has = absurd has
+
+pub signal_says : (signal supplied_as : Signal') (draws : List ℕ) → IsSupplied (Ok supplied_as) signal draws → signal_lacks_noise supplied_as ≡ false
+    → Says (bridge_lines.Script (scripts.Signal signal)) draws (Happens (Signalled (signal_of supplied_as)) ∷ [])
+signal_says signal supplied_as draws has ready later more =
+    ap (λ x. happens_as x later (draws ++ more)) (has more)
+    ∙ ap (λ (b : Bool). with_said (map Happens (cond b [] (Signalled (signal_of supplied_as) ∷ []))) (later more)) ready
+
+-- its noise wasn't drawn
+pub unsupplied : (status : Status) (signal : Signal') (s : State) (board : SwitchboardValue) (draws : List ℕ) → IsSupplied (Err status) signal draws → IsPlayed (Err status) (bridge_lines.Script (scripts.Signal signal)) s board draws []
+unsupplied statuses.Noise signal s board draws is = record {
+  drew = is.0;
+  stops = λ later. ap (λ x. happens_as x later []) is.1;
+  told = refl;
+}
+unsupplied statuses.Write signal s board draws is = absurd is
+unsupplied statuses.NoMemory signal s board draws is = absurd is
+unsupplied statuses.Done signal s board draws is = absurd is
+unsupplied statuses.Usage signal s board draws is = absurd is
+unsupplied (statuses.Script n fault) signal s board draws is = absurd is
+unsupplied statuses.Read signal s board draws is = absurd is
+unsupplied statuses.Link signal s board draws is = absurd is
+unsupplied statuses.Clock signal s board draws is = absurd is
+unsupplied statuses.TurnsSpent signal s board draws is = absurd is
+unsupplied (statuses.Capture offset fault) signal s board draws is = absurd is
+
+-- ---- cases of what goes on
+
+pub some_of : (o : Option ℕ) → is_some o ≡ true → (q : ℕ) × (o ≡ Some q)
+some_of None is = absurd cc
+some_of (Some q) is = (q, refl)
+
+pub none_of : (o : Option ℕ) → is_some o ≡ false → o ≡ None
+none_of None is = refl
+none_of (Some q) is = absurd cc

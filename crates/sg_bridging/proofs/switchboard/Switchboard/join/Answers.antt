@@ -12,8 +12,8 @@ returns-clause-joined g c = λ s stands.
     elim c.match-join.branch [
       | in-Ok w ↦
           joined_told s c.self.inside.table c.self.inside.bridge c.join.new.self c.tell_bridge.result _ _ before.0 before.1 c.args.first c.args.second w.in-Ok.ensures
-          (subst (λ o. IsWritten c.tell_bridge.result _ _ (bridge_outcome_line o)) w.outcome-is c.tell_bridge.ensures.told)
+          (subst (λ o. IsWritten c.tell_bridge.result (g.K.Sink.written c.args.sink.now) (g.K.Sink.written c.tell_bridge.new.sink) (bridge_outcome_line o)) w.outcome-is c.tell_bridge.ensures.told)
       | in-Err w ↦
           unjoined_told s c.self.inside.table c.self.inside.bridge c.join.new.self c.tell_bridge.result _ _ before.0 before.1 c.args.first c.args.second w.in-Err.call w.in-Err.cause w.in-Err.ensures.0 w.in-Err.ensures.1
-          (subst (λ o. IsWritten c.tell_bridge.result _ _ (bridge_outcome_line o)) w.outcome-is c.tell_bridge.ensures.told)
+          (subst (λ o. IsWritten c.tell_bridge.result (g.K.Sink.written c.args.sink.now) (g.K.Sink.written c.tell_bridge.new.sink) (bridge_outcome_line o)) w.outcome-is c.tell_bridge.ensures.told)
     ]

@@ -13,8 +13,8 @@ returns-clause-parted g c = λ s stands.
     elim c.match-part.branch [
       | in-Ok w ↦
           parted_told s c.self.inside.table c.self.inside.bridge c.part.new.self c.tell_bridge.result _ _ before.0 before.1 c.args.call w.in-Ok.ensures.0 w.in-Ok.ensures.1
-          (subst (λ o. IsWritten c.tell_bridge.result _ _ (bridge_outcome_line o)) (w.outcome-is ∙ ap (λ ids. tells.Parted ids.0 ids.1) w.in-Ok.ensures.2) c.tell_bridge.ensures.told)
+          (subst (λ o. IsWritten c.tell_bridge.result (g.K.Sink.written c.args.sink.now) (g.K.Sink.written c.tell_bridge.new.sink) (bridge_outcome_line o)) (w.outcome-is ∙ ap (λ ids. tells.Parted ids.0 ids.1) w.in-Ok.ensures.2) c.tell_bridge.ensures.told)
       | in-Err w ↦
           unparted_told s c.self.inside.table c.self.inside.bridge c.part.new.self c.tell_bridge.result _ _ before.0 before.1 c.args.call w.in-Err.cause w.in-Err.ensures.0 w.in-Err.ensures.1
-          (subst (λ o. IsWritten c.tell_bridge.result _ _ (bridge_outcome_line o)) w.outcome-is c.tell_bridge.ensures.told)
+          (subst (λ o. IsWritten c.tell_bridge.result (g.K.Sink.written c.args.sink.now) (g.K.Sink.written c.tell_bridge.new.sink) (bridge_outcome_line o)) w.outcome-is c.tell_bridge.ensures.told)
     ]
