@@ -28,9 +28,9 @@ use Rattle.sg_gateway.specs.PlainOf.{plain_at}
 use Rattle.sg_session.proofs.Lists.{any_cases, any_here, any_none, any_weaker}
 use Rattle.sg_session.specs.declared.names.Direction.TheVariants.{Opening, Sealing}
 use Rattle.sg_bridge.proofs.PutAt.{Coming, IsDropped, IsPut, PutBy, FromPlain, comes, from_plain, from_secure}
-use Rattle.sg_bridge.specs.Bridged.{Bridging, Crosses, Following, IsCrossing, IsSealOf, Said, Happens, Joins, Parts, StaysInside, TellsOut, arrived, behind, bridging, bridgings_from, followed, handed_on, happened, happens, inner, inner_told, joining, nothing_happens, opened, parting, passed}
-use Rattle.sg_bridge.specs.Onward.{is_plain_port, medium_of, onward, onward_in, port_like, slot_of}
-use Rattle.sg_bridge.specs.Pairs.{Joining, Members, Noted, Parting, ended, joined, member_at, noted, other_slot, pair_of, parted_from, tells_parted}
+use Rattle.sg_bridge.specs.Bridged.{Bridging, Crosses, Following, IsCrossing, IsSealOf, Said, Happens, Joins, Parts, StaysInside, TellsOut, arrived, behind, bridging, bridgings_from, told_and_parted, handed_on, happened, happens, inner, inner_told, joining, nothing_happens, opened, parting, passed}
+use Rattle.sg_bridge.specs.Onward.{is_plain_port, medium_by_port, onward, onward_in, port_like, slot_by_port}
+use Rattle.sg_bridge.specs.Pairs.{Joining, Members, Noted, Parting, vacated, joined, member_at, after_outcome, other_slot, joined_pair, parted_from, tells_parted}
 use Rattle.sg_bridge.specs.declared.faults.JoinFault.{JoinFault}
 use Rattle.sg_bridge.specs.declared.members.Member.{Member}
 use Rattle.sg_bridge.specs.declared.members.Pair.{Pair}
@@ -52,26 +52,26 @@ plain_onward calls p q is = go (is_plain_port p) refl is
     like : (slot : ℕ) → 2 ≤ (p - 20000) % 4 → 2 ≤ (port_like p slot - 20000) % 4
     like slot h = omega (arith, h)
 
-    of_pair : 2 ≤ (p - 20000) % 4 → (o : Option Pair) → option_map (λ (x : Pair). port_like p (other_slot x (slot_of p))) o ≡ Some q → 2 ≤ (q - 20000) % 4
+    of_pair : 2 ≤ (p - 20000) % 4 → (o : Option Pair) → option_map (λ (x : Pair). port_like p (other_slot x (slot_by_port p))) o ≡ Some q → 2 ≤ (q - 20000) % 4
     of_pair h None e = absurd cc
-    of_pair h (Some x) e = subst IsHighAt e (like (other_slot x (slot_of p)) h)
+    of_pair h (Some x) e = subst IsHighAt e (like (other_slot x (slot_by_port p)) h)
 
     of_member : 2 ≤ (p - 20000) % 4 → (o : Option Member) → onward_in p o ≡ Some q → 2 ≤ (q - 20000) % 4
     of_member h None e = absurd cc
-    of_member h (Some m) e = by (ltb (medium_of p) m.media) e
+    of_member h (Some m) e = by (ltb (medium_by_port p) m.media) e
       where
-        by : (b : Bool) → cond b (option_map (λ (x : Pair). port_like p (other_slot x (slot_of p))) m.pair) None ≡ Some q → 2 ≤ (q - 20000) % 4
+        by : (b : Bool) → cond b (option_map (λ (x : Pair). port_like p (other_slot x (slot_by_port p))) m.pair) None ≡ Some q → 2 ≤ (q - 20000) % 4
         by true e = of_pair h m.pair e
         by false e = absurd cc
 
-    go : (b : Bool) → is_plain_port p ≡ b → cond b (onward_in p (member_at calls (slot_of p))) None ≡ Some q → (2 ≤ (p - 20000) % 4) × (2 ≤ (q - 20000) % 4)
-    go true plain e = (is_plain p plain, of_member (is_plain p plain) (member_at calls (slot_of p)) e)
+    go : (b : Bool) → is_plain_port p ≡ b → cond b (onward_in p (member_at calls (slot_by_port p))) None ≡ Some q → (2 ≤ (p - 20000) % 4) × (2 ≤ (q - 20000) % 4)
+    go true plain e = (is_plain p plain, of_member (is_plain p plain) (member_at calls (slot_by_port p)) e)
     go false plain e = absurd cc
 
 not_onward : (calls : Members) (p : ℕ) → (p - 20000) % 4 < 2 → onward calls p ≡ None
 not_onward calls p secure = go (is_plain_port p) refl
   where
-    go : (b : Bool) → is_plain_port p ≡ b → cond b (onward_in p (member_at calls (slot_of p))) None ≡ None
+    go : (b : Bool) → is_plain_port p ≡ b → cond b (onward_in p (member_at calls (slot_by_port p))) None ≡ None
     go true plain = absurd (let h = is_plain p plain in omega (arith, h, secure))
     go false plain = refl
 
@@ -94,12 +94,12 @@ module _ (port : ℕ) (to : Address) (octets : List ℕ) where
   one : (o : BridgeOutcome) → (Is o → ⊥) → NoOut (o ∷ [])
   one o not a = elim (any_cases Is o [] a) [ inl is ↦ not is | inr rest ↦ any_none Is rest ]
 
-  parted_not : (calls : Members) (o : Outcome) → NoOut (option_to_list (noted calls o).parted)
+  parted_not : (calls : Members) (o : Outcome) → NoOut (option_to_list (after_outcome calls o).parted)
   parted_not calls (Made id slot media) a = any_none Is a
   parted_not calls (Live id) a = any_none Is a
-  parted_not calls (Ended id slot media why) a = go (pair_of (member_at calls slot)) a
+  parted_not calls (Ended id slot media why) a = go (joined_pair (member_at calls slot)) a
     where
-      go : (p : Option Pair) → NoOut (option_to_list (ended slot calls p).parted)
+      go : (p : Option Pair) → NoOut (option_to_list (vacated slot calls p).parted)
       go None a = any_none Is a
       go (Some p) a = one (tells_parted p) (λ is. absurd cc) a
   parted_not calls (Sdp id side text) a = any_none Is a
@@ -118,10 +118,10 @@ module _ (port : ℕ) (to : Address) (octets : List ℕ) where
       any_one : Is p → Any Is (p ∷ [])
       any_one is = any_here Is p [] is
 
-  followed_not : (calls : Members) (os : List Outcome) → AllByRecursion (λ o. ¬ IsOut o) os → NoOut (followed calls os).told
+  followed_not : (calls : Members) (os : List Outcome) → AllByRecursion (λ o. ¬ IsOut o) os → NoOut (told_and_parted calls os).told
   followed_not calls [] none a = any_none Is a
   followed_not calls (o ∷ os) none a =
-      behind_not o none.0 (noted calls o).parted (parted_not calls o) (followed (noted calls o).calls os) (followed_not (noted calls o).calls os none.1) a
+      behind_not o none.0 (after_outcome calls o).parted (parted_not calls o) (told_and_parted (after_outcome calls o).calls os) (followed_not (after_outcome calls o).calls os none.1) a
 
 -- ---- lines that join and part
 

@@ -16,7 +16,7 @@ use Rattle.sg_outcome.specs.declared.outcomes.Outcome.{Outcome}
 use Rattle.sg_outcome.specs.declared.outcomes.Outcome.TheVariants.{Out, Dropped}
 use Rattle.sg_session.specs.declared.names.Direction.TheVariants.{Sealing}
 use Rattle.sg_bridge.specs.Onward.{onward}
-use Rattle.sg_bridge.specs.Pairs.{Joining, Members, Parting, joined, nobody, noted, parted_from}
+use Rattle.sg_bridge.specs.Pairs.{Joining, Members, Parting, joined, no_members, after_outcome, parted_from}
 use Rattle.sg_bridge.specs.declared.faults.JoinFault.{JoinFault}
 use Rattle.sg_bridge.specs.declared.outcomes.BridgeOutcome.{BridgeOutcome}
 use Rattle.sg_bridge.specs.declared.outcomes.BridgeOutcome.TheVariants as tells
@@ -47,12 +47,12 @@ pub record Following : Type 0 where
 abbrev pub behind : Outcome → Option BridgeOutcome → Following → Following
 behind o parted f = record { told = tells.Table o ∷ option_to_list parted ++ f.told; calls = f.calls }
 
-abbrev pub followed : Members → List Outcome → Following
-followed calls [] = record { told = []; calls = calls }
-followed calls (o ∷ os) = behind o (noted calls o).parted (followed (noted calls o).calls os)
+abbrev pub told_and_parted : Members → List Outcome → Following
+told_and_parted calls [] = record { told = []; calls = calls }
+told_and_parted calls (o ∷ os) = behind o (after_outcome calls o).parted (told_and_parted (after_outcome calls o).calls os)
 
-abbrev pub signalled : World → Members → Event → Happening → Following → Bridging
-signalled w calls e h f = record { before = w; pairs = calls; events = e ∷ []; told = f.told; world = h.world; calls = f.calls }
+abbrev pub after_signal : World → Members → Event → Happening → Following → Bridging
+after_signal w calls e h f = record { before = w; pairs = calls; events = e ∷ []; told = f.told; world = h.world; calls = f.calls }
 
 -- ---- what becomes of a datagram
 
@@ -94,7 +94,7 @@ arrived w calls port e h (Some q) = nothing_happens w calls (tells.Table (Droppe
 
 abbrev pub happened : World → Members → Event → Bridging
 happened w calls (Signalled signal) =
-    signalled w calls (Signalled signal) (step w (Signalled signal)) (followed calls (step w (Signalled signal)).outcomes)
+    after_signal w calls (Signalled signal) (step w (Signalled signal)) (told_and_parted calls (step w (Signalled signal)).outcomes)
 happened w calls (Datagram port from octets) =
     arrived w calls port (Datagram port from octets) (step w (Datagram port from octets)) (onward calls port)
 
@@ -117,7 +117,7 @@ bridgings_from w calls (s ∷ ss) = bridging w calls s ∷ bridgings_from (bridg
 
 -- A bridge's run of what its lines say: its parts, the table's events, and what is told.
 abbrev pub bridgings : List Said → List Bridging
-bridgings said = bridgings_from empty nobody said
+bridgings said = bridgings_from empty no_members said
 
 abbrev pub bridged_events : List Said → List Event
 bridged_events said = flat_map (λ b. b.events) (bridgings said)

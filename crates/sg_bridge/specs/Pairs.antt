@@ -17,36 +17,36 @@ use Rattle.sg_bridge.specs.declared.outcomes.BridgeOutcome.TheVariants as tells
 abbrev pub Members : Type 0
 Members = List (Option Member)
 
-abbrev pub nobody : Members
-nobody = replicate 256 None
+abbrev pub no_members : Members
+no_members = replicate 256 None
 
 -- a call that was made: it has no generation, and is in no pair
-abbrev pub fresh : CallId → ℕ → Member
-fresh id media = record { id = id; media = media; is_live = false; pair = None }
+abbrev pub new_member : CallId → ℕ → Member
+new_member id media = record { id = id; media = media; is_live = false; pair = None }
 
 abbrev pub now_live : CallId → Option Member → Option Member
 now_live id member = option_map (λ m. if same_id m.id id then record m { is_live = true } else m) member
 
-abbrev pub with_pair : Option Pair → Option Member → Option Member
-with_pair pair None = None
-with_pair pair (Some m) = Some (record m { pair = pair })
+abbrev pub in_pair : Option Pair → Option Member → Option Member
+in_pair pair None = None
+in_pair pair (Some m) = Some (record m { pair = pair })
 
-abbrev pub pair_of : Option Member → Option Pair
-pair_of member = option_and_then (λ m. m.pair) member
+abbrev pub joined_pair : Option Member → Option Pair
+joined_pair member = option_and_then (λ m. m.pair) member
 
 abbrev pub member_at : Members → ℕ → Option Member
 member_at calls slot = slice_index_or calls slot None
 
 -- the calls with this pair, or none, in that slot
-abbrev pub with_pair_at : Option Pair → ℕ → Members → Members
-with_pair_at pair slot calls = set calls slot (with_pair pair (member_at calls slot))
+abbrev pub in_pair_at : Option Pair → ℕ → Members → Members
+in_pair_at pair slot calls = set calls slot (in_pair pair (member_at calls slot))
 
 -- both calls of the pair are in it, or in none
 abbrev pub paired : Pair → Members → Members
-paired p calls = with_pair_at (Some p) p.second.slot (with_pair_at (Some p) p.first.slot calls)
+paired p calls = in_pair_at (Some p) p.second.slot (in_pair_at (Some p) p.first.slot calls)
 
 abbrev pub parted : Pair → Members → Members
-parted p calls = with_pair_at None p.second.slot (with_pair_at None p.first.slot calls)
+parted p calls = in_pair_at None p.second.slot (in_pair_at None p.first.slot calls)
 
 -- ---- what an outcome changes
 
@@ -59,19 +59,19 @@ abbrev pub tells_parted : Pair → BridgeOutcome
 tells_parted p = tells.Parted p.first.id p.second.id
 
 -- no call is in this slot any more, and where one was joined, its pair is parted
-abbrev pub ended : ℕ → Members → Option Pair → Noted
-ended slot calls None = record { calls = set calls slot None; parted = None }
-ended slot calls (Some p) = record { calls = set (parted p calls) slot None; parted = Some (tells_parted p) }
+abbrev pub vacated : ℕ → Members → Option Pair → Noted
+vacated slot calls None = record { calls = set calls slot None; parted = None }
+vacated slot calls (Some p) = record { calls = set (parted p calls) slot None; parted = Some (tells_parted p) }
 
 abbrev pub emptied : ℕ → Members → Noted
-emptied slot calls = ended slot calls (pair_of (member_at calls slot))
+emptied slot calls = vacated slot calls (joined_pair (member_at calls slot))
 
 -- a call is made in a slot that is empty, has sessions, or has ended
-abbrev pub noted : Members → Outcome → Noted
-noted calls (Made id slot media) = record { calls = set (emptied slot calls).calls slot (Some (fresh id media)); parted = None }
-noted calls (Live id) = record { calls = map (now_live id) calls; parted = None }
-noted calls (Ended id slot media why) = emptied slot calls
-noted calls other = record { calls = calls; parted = None }
+abbrev pub after_outcome : Members → Outcome → Noted
+after_outcome calls (Made id slot media) = record { calls = set (emptied slot calls).calls slot (Some (new_member id media)); parted = None }
+after_outcome calls (Live id) = record { calls = map (now_live id) calls; parted = None }
+after_outcome calls (Ended id slot media why) = emptied slot calls
+after_outcome calls other = record { calls = calls; parted = None }
 
 -- ---- the call of an id
 

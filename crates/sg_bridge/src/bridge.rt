@@ -2,11 +2,11 @@
 
 ghost use Rattle.std.specs.Prelude.{◌≡◌, length, map, IfSome};
 ghost use Rattle.sg_bridge.specs.Onward.{onward};
-ghost use Rattle.sg_bridge.specs.Pairs.{IsJoined, IsParted, JoinsAs, Members, emptied, found, joined, joined_found, nobody, noted, now_live, parted_from, with_pair_at};
+ghost use Rattle.sg_bridge.specs.Pairs.{IsJoined, IsParted, JoinsAs, Members, emptied, found, joined, joined_found, no_members, after_outcome, now_live, parted_from, in_pair_at};
 
 use crate::faults::JoinFault;
 use crate::members::{
-    Found, Member, Pair, Party, fresh, live, other_id, other_slot, pair_of, set_pair,
+    Found, Member, Pair, Party, new_member, live, other_id, other_slot, joined_pair, set_pair,
 };
 use crate::outcomes::BridgeOutcome;
 use sg_base::{CALLS_MOST, CallId, FIRST_PORT, MEDIUM_PORTS, SLOT_PORTS};
@@ -33,7 +33,7 @@ impl Model for Bridge {
 impl Bridge {
     /// No call is known.
     pub fn make() -> Bridge
-        ensures { result ≡ nobody }
+        ensures { result ≡ no_members }
     {
         Bridge {
             calls: [None; CALLS_MOST],
@@ -43,13 +43,13 @@ impl Bridge {
     /// Follows what the table tells: a call is made, has sessions, or has ended. Where that one was joined, it is
     /// parted, and that is told. It doesn't allocate.
     pub fn note(&mut self, outcome: &Outcome) -> Option<BridgeOutcome>
-        ensures calls { self.new ≡ (noted self.old outcome.now).calls }
-        ensures parted { result ≡ (noted self.old outcome.now).parted }
+        ensures calls { self.new ≡ (after_outcome self.old outcome.now).calls }
+        ensures parted { result ≡ (after_outcome self.old outcome.now).parted }
     {
         match outcome {
             Outcome::Made { call, slot, media } => {
                 let _ = end(&mut self.calls, *slot);
-                self.calls[usize::from(*slot)] = Some(fresh(*call, *media));
+                self.calls[usize::from(*slot)] = Some(new_member(*call, *media));
                 None
             }
             Outcome::Live { call } => {
@@ -173,7 +173,7 @@ fn find(calls: &[Option<Member>], id: CallId) -> Option<Found>
 /// Puts both calls of a pair into this one, or into none.
 fn set_both(calls: &mut [Option<Member>], pair: Pair, to: Option<Pair>)
     requires { length calls.old ≡ 256 }
-    ensures set { calls.new ≡ with_pair_at to pair.second.slot (with_pair_at to pair.first.slot calls.old) }
+    ensures set { calls.new ≡ in_pair_at to pair.second.slot (in_pair_at to pair.first.slot calls.old) }
     ensures all { length calls.new ≡ 256 }
 {
     set_pair_at(calls, pair.first.slot, to);
@@ -183,7 +183,7 @@ fn set_both(calls: &mut [Option<Member>], pair: Pair, to: Option<Pair>)
 /// Puts the call in a slot into this pair, or into none.
 fn set_pair_at(calls: &mut [Option<Member>], slot: u8, to: Option<Pair>)
     requires { length calls.old ≡ 256 }
-    ensures set { calls.new ≡ with_pair_at to slot calls.old }
+    ensures set { calls.new ≡ in_pair_at to slot calls.old }
     ensures all { length calls.new ≡ 256 }
 {
     set_pair(&mut calls[usize::from(slot)], to);
@@ -205,7 +205,7 @@ fn end(calls: &mut [Option<Member>], slot: u8) -> Option<BridgeOutcome>
     ensures parted { result ≡ (emptied slot calls.old).parted }
     ensures all { length calls.new ≡ 256 }
 {
-    let pair = pair_of(&calls[usize::from(slot)]);
+    let pair = joined_pair(&calls[usize::from(slot)]);
     if let Some(pair) = pair {
         set_both(calls, pair, None);
     }

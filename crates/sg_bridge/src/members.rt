@@ -1,7 +1,7 @@
 //! What a bridge knows of a call.
 
 ghost use Rattle.std.specs.Prelude.{◌≡◌, option_map, option_and_then};
-ghost use Rattle.sg_bridge.specs.Pairs.{fresh, now_live, other_id, other_slot, pair_of, with_pair};
+ghost use Rattle.sg_bridge.specs.Pairs.{new_member, now_live, other_id, other_slot, joined_pair, in_pair};
 
 use sg_base::CallId;
 
@@ -36,8 +36,8 @@ pub struct Found {
 }
 
 /// A call that was made.
-pub(crate) fn fresh(id: CallId, media: u8) -> Member
-    ensures { result ≡ fresh id media }
+pub(crate) fn new_member(id: CallId, media: u8) -> Member
+    ensures { result ≡ new_member id media }
 {
     Member {
         id,
@@ -60,7 +60,7 @@ pub(crate) fn live(member: &mut Option<Member>, id: CallId)
 
 /// The call is in this pair, or in none.
 pub(crate) fn set_pair(member: &mut Option<Member>, pair: Option<Pair>)
-    ensures { member.new ≡ with_pair pair member.old }
+    ensures { member.new ≡ in_pair pair member.old }
 {
     if let Some(m) = member {
         m.pair = pair;
@@ -68,8 +68,8 @@ pub(crate) fn set_pair(member: &mut Option<Member>, pair: Option<Pair>)
 }
 
 /// The pair of the call in a slot.
-pub(crate) fn pair_of(member: &Option<Member>) -> Option<Pair>
-    ensures { result ≡ pair_of member.now }
+pub(crate) fn joined_pair(member: &Option<Member>) -> Option<Pair>
+    ensures { result ≡ joined_pair member.now }
 {
     match member {
         None => None,

@@ -6,7 +6,7 @@ use Rattle.sg_bridge.specs.BridgeLines.{bridge_version_after}
 use Rattle.sg_bridge.specs.Bridged.{Said}
 use Rattle.sg_bridge.specs.declared.lines.BridgeLine.{BridgeLine}
 use Rattle.sg_bridging.proofs.Steps.{state_after-append, text_from-append}
-use Rattle.sg_bridging.specs.Bridge.{BridgeTrace, Ends, IsWhole, LaterSaid, after_bridge_line, bridge_line_at, bridge_text, bridge_trace, bridge_trace_from, said_of, stopped_at, with_said}
+use Rattle.sg_bridging.specs.Bridge.{BridgeTrace, BridgeEnds, IsWholeBridge, LaterSaid, after_bridge_line, bridge_line_at, bridge_text, bridge_trace, bridge_trace_from, said_of, stopped_at, with_said}
 use Rattle.sg_bridging.specs.BridgeReading.{IsLineFault, IsLineRead, IsNextLine, LineFails}
 use Rattle.sg_bridging.specs.Steps.{IsCut, IsPlayed, IsTaken, StandsFor, State, SwitchboardValue, start, state_after, text_from}
 use Rattle.sg_edge.proofs.Links.{added_more, added_none}
@@ -15,7 +15,7 @@ use Rattle.sg_edge.specs.Links.{Added}
 use Rattle.sg_edge.specs.Told.{AtEnd, TookIn, Wrote}
 use Rattle.sg_lines.proofs.Splits.{lines_of_whole}
 use Rattle.sg_lines.specs.ScriptLines.{lines_of}
-use Rattle.sg_playback.specs.Replay.{Tellings}
+use Rattle.sg_playback.specs.Replay.{ReplayTellings}
 use Rattle.sg_trace.specs.Output.{IsPrefixOf}
 use Rattle.sg_trace.specs.Reading.{Reading}
 use Rattle.sg_trace.specs.Trace.{AtEnd as BehindAll, AtFault, ForDraw, Stop}
@@ -23,7 +23,7 @@ use Rattle.sg_trace.specs.declared.status.Status.{Status}
 use Rattle.sg_trace.specs.declared.status.Status.TheVariants as statuses
 
 -- The bridge has taken whole lines and drawn octets; what they say was handled and told.
-pub record IsGoing (old now : Tellings) (taken waits drawn : List ℕ) (said : List Said) (version n at : ℕ) : Type 0 where
+pub record IsGoing (old now : ReplayTellings) (taken waits drawn : List ℕ) (said : List Said) (version n at : ℕ) : Type 0 where
   pub took : TookIn old.left now.left (taken ++ waits)
   pub drew : Added old.drawn now.drawn drawn
   pub wrote : Wrote old.written now.written (bridge_text said)
@@ -34,7 +34,7 @@ with_said_again xs ys t = ap (λ (l : List Said). record t { said = l }) (sym (a
 
 module _ (octets drawn : List ℕ) where
   -- where all was told
-  whole_so : (said : List Said) (stop : Stop) → bridge_trace octets drawn ≡ with_said said (stopped_at stop []) → IsWhole octets drawn (bridge_text said) stop
+  whole_so : (said : List Said) (stop : Stop) → bridge_trace octets drawn ≡ with_said said (stopped_at stop []) → IsWholeBridge octets drawn (bridge_text said) stop
   whole_so said stop is = record {
     stops = ap (λ (t : BridgeTrace). t.stop) is;
     left = ap (λ (t : BridgeTrace). t.left) is;
@@ -52,7 +52,7 @@ module _ (octets drawn : List ℕ) where
             ∙ append_assoc (bridge_text said ++ prefix) part.0 tail,
       )
 
-module _ (old now : Tellings) (taken drawn : List ℕ) (said : List Said) (script : Reading)
+module _ (old now : ReplayTellings) (taken drawn : List ℕ) (said : List Said) (script : Reading)
     (going : IsGoing old now taken script.waits drawn said script.version script.number script.offset)
     (left' : Option (List ℕ)) (got : List ℕ) (came : TookIn now.left left' got) where
   -- the octets read by then
@@ -75,7 +75,7 @@ module _ (old now : Tellings) (taken drawn : List ℕ) (said : List Said) (scrip
       (text_from (state_after start said) rest.said, ap (λ (t : BridgeTrace). bridge_text t.said) (no_draw ∙ trace_is []) ∙ text_from-append start said rest.said)
 
   -- at the end of the source
-  pub ends_at_end : script.waits ++ got ≡ [] → AtEnd left' → Ends statuses.Done octets drawn (bridge_text said) left'
+  pub ends_at_end : script.waits ++ got ≡ [] → AtEnd left' → BridgeEnds statuses.Done octets drawn (bridge_text said) left'
   ends_at_end none end =
       (whole_so octets drawn said BehindAll (no_draw ∙ trace_is [] ∙ ap (λ (l : List ℕ). with_said said (bridge_trace_from script.version script.number script.offset (lines_of l) [])) none), end)
 
@@ -85,7 +85,7 @@ module _ (old now : Tellings) (taken drawn : List ℕ) (said : List Said) (scrip
       ap (λ ls. bridge_trace_from script.version script.number script.offset ls []) first.split
       ∙ ap (λ r. after_bridge_line script.version script.number r (λ v. bridge_trace_from v (script.number + 1) (script.offset + length first.line) first.others) []) first.fails
 
-  ends_at_fault : (fault : ScriptFault) → IsLineFault script.version script.number script.offset (script.waits ++ got) fault left' → Ends (statuses.Script script.number fault) octets drawn (bridge_text said) left'
+  ends_at_fault : (fault : ScriptFault) → IsLineFault script.version script.number script.offset (script.waits ++ got) fault left' → BridgeEnds (statuses.Script script.number fault) octets drawn (bridge_text said) left'
   ends_at_fault fault is = (
     whole_so octets drawn said (AtFault script.number fault) (no_draw ∙ trace_is [] ∙ ap (with_said said) (stops_so (script.waits ++ got) fault is.first)),
     is.ended,
@@ -97,9 +97,9 @@ module _ (old now : Tellings) (taken drawn : List ℕ) (said : List Said) (scrip
   )
 
   -- where no line was read
-  pub ends_at_err : (status : Status) (new : Reading) → IsNextLine (Err status) script new got left' → Ends status octets drawn (bridge_text said) left'
+  pub ends_at_err : (status : Status) (new : Reading) → IsNextLine (Err status) script new got left' → BridgeEnds status octets drawn (bridge_text said) left'
   ends_at_err (statuses.Script n fault) new next =
-      subst (λ (m : ℕ). Ends (statuses.Script m fault) octets drawn (bridge_text said) left') (sym next.0) (ends_at_fault fault (subst (λ (m : ℕ). IsLineFault script.version m script.offset (script.waits ++ got) fault left') next.0 next.1))
+      subst (λ (m : ℕ). BridgeEnds (statuses.Script m fault) octets drawn (bridge_text said) left') (sym next.0) (ends_at_fault fault (subst (λ (m : ℕ). IsLineFault script.version m script.offset (script.waits ++ got) fault left') next.0 next.1))
   ends_at_err statuses.Read new next = is_prefix
   ends_at_err statuses.NoMemory new next = is_prefix
   ends_at_err statuses.Done new next = absurd next
@@ -132,13 +132,13 @@ module _ (old now : Tellings) (taken drawn : List ℕ) (said : List Said) (scrip
         prefix_so octets (drawn ++ draws) said cut.said rest.0 out (all_is draws ∙ ap (with_said said) rest.1 ∙ with_said_again said cut.said rest.0) cut.told
 
     -- where a line ends the run
-    pub ends_played : (status : Status) (board : SwitchboardValue) (draws out : List ℕ) → IsPlayed (Err status) l (state_after start said) board draws out → Ends status octets (drawn ++ draws) (bridge_text said ++ out) left'
+    pub ends_played : (status : Status) (board : SwitchboardValue) (draws out : List ℕ) → IsPlayed (Err status) l (state_after start said) board draws out → BridgeEnds status octets (drawn ++ draws) (bridge_text said ++ out) left'
     ends_played statuses.Write board draws out cut = cut_so draws out cut
     ends_played statuses.NoMemory board draws out cut = cut_so draws out cut
     ends_played statuses.Noise board draws out is =
         let nothing : bridge_trace octets (drawn ++ draws) ≡ with_said said (stopped_at ForDraw []) =
         all_is draws ∙ ap (λ (d : List ℕ). with_said said (said_of l (later new.waits) d)) is.drew ∙ ap (with_said said) (is.stops (later new.waits)) in
-        subst (λ (o : List ℕ). IsWhole octets (drawn ++ draws) o ForDraw) (sym (append-nil (bridge_text said)) ∙ ap (λ (o : List ℕ). bridge_text said ++ o) (sym is.told)) (whole_so octets (drawn ++ draws) said ForDraw nothing)
+        subst (λ (o : List ℕ). IsWholeBridge octets (drawn ++ draws) o ForDraw) (sym (append-nil (bridge_text said)) ∙ ap (λ (o : List ℕ). bridge_text said ++ o) (sym is.told)) (whole_so octets (drawn ++ draws) said ForDraw nothing)
     ends_played statuses.Done board draws out is = absurd is
     ends_played statuses.Usage board draws out is = absurd is
     ends_played (statuses.Script n fault) board draws out is = absurd is
@@ -172,7 +172,7 @@ pub bounded : (taken waits got : List ℕ) (at budget budget' : ℕ) → length 
 bounded taken waits got at budget budget' size room paid = omega (arith, size, room, paid, length-append taken (waits ++ got), length-append waits got)
 
 -- nothing is read, drawn, handled or written yet
-pub begins : (old : Tellings) (script : Reading) → script ≡ record { waits = []; version = 1; number = 1; offset = 0; budget = 2 ^ 30 + 1 }
+pub begins : (old : ReplayTellings) (script : Reading) → script ≡ record { waits = []; version = 1; number = 1; offset = 0; budget = 2 ^ 30 + 1 }
     → IsGoing old old [] script.waits [] [] script.version script.number script.offset
 begins old script is = record {
   took = subst (λ (s : Reading). TookIn old.left old.left s.waits) (sym is) (λ after left. left);

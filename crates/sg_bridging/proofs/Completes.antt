@@ -3,11 +3,11 @@ use Rattle.std.proofs.Common.{◌≡◌, ◌⊎◌, ℕ, List, [], ◌++◌, Opt
 use Rattle.std.proofs.lemmas.List.{append-nil}
 use Rattle.sg_base.specs.declared.faults.ScriptFault.{ScriptFault}
 use Rattle.sg_base.specs.declared.faults.ScriptFault.TheVariants.{Word, Number, Hex, Length, Version, Unended}
-use Rattle.sg_bridging.specs.Bridge.{Ends, IsBridge, IsComplete, bridge_text, bridge_trace}
+use Rattle.sg_bridging.specs.Bridge.{BridgeEnds, IsBridge, IsCompleteBridge, bridge_text, bridge_trace}
 use Rattle.sg_edge.proofs.Links.{added_none}
 use Rattle.sg_edge.proofs.Passed.{took_none, wrote_none}
 use Rattle.sg_edge.specs.Told.{AtEnd}
-use Rattle.sg_playback.specs.Replay.{Tellings}
+use Rattle.sg_playback.specs.Replay.{ReplayTellings}
 use Rattle.sg_trace.specs.Trace.{AtFault}
 use Rattle.sg_trace.specs.declared.status.Status.{Status}
 use Rattle.sg_trace.specs.declared.status.Status.TheVariants as statuses
@@ -25,7 +25,7 @@ either Length = inr (λ is. cc)
 either Version = inr (λ is. cc)
 
 -- no line of such a script is refused
-never : (n : ℕ) (fault : ScriptFault) (old new : Tellings) (octets draws out : List ℕ) → IsBridge (statuses.Script n fault) old new octets draws out → IsComplete (statuses.Script n fault) old.left new.left
+never : (n : ℕ) (fault : ScriptFault) (old new : ReplayTellings) (octets draws out : List ℕ) → IsBridge (statuses.Script n fault) old new octets draws out → IsCompleteBridge (statuses.Script n fault) old.left new.left
 never n fault old new octets draws out run = λ all rest told told' script.
     let ends = run.ends in
     let told_so : old.left ≡ Some (octets ++ rest) = run.took rest told' in
@@ -37,8 +37,8 @@ never n fault old new octets draws out run = λ all rest told told' script.
       | inr other ↦ script draws n fault (ap (λ (l : List ℕ). (bridge_trace l draws).stop) same ∙ ends.2 other rest)
     ])
 
-pub complete : (status : Status) (old new : Tellings) (octets draws out : List ℕ) → IsBridge status old new octets draws out
-    → (status ≡ statuses.Read → ⊥) → (status ≡ statuses.Write → ⊥) → (status ≡ statuses.Noise → ⊥) → IsComplete status old.left new.left
+pub complete : (status : Status) (old new : ReplayTellings) (octets draws out : List ℕ) → IsBridge status old new octets draws out
+    → (status ≡ statuses.Read → ⊥) → (status ≡ statuses.Write → ⊥) → (status ≡ statuses.Noise → ⊥) → IsCompleteBridge status old.left new.left
 complete statuses.Done old new octets draws out run a b c = λ all rest told told' script. inl refl
 complete statuses.NoMemory old new octets draws out run a b c = λ all rest told told' script. inr refl
 complete statuses.Read old new octets draws out run a b c = absurd (a refl)
@@ -52,7 +52,7 @@ complete (statuses.Capture offset fault) old new octets draws out run a b c = ab
 complete (statuses.Script n fault) old new octets draws out run a b c = never n fault old new octets draws out run
 
 -- memory ran out before anything was read
-pub untouched : (old : Tellings) → IsBridge statuses.NoMemory old old [] [] []
+pub untouched : (old : ReplayTellings) → IsBridge statuses.NoMemory old old [] [] []
 untouched old = record {
   took = took_none old.left;
   drew = added_none old.drawn;

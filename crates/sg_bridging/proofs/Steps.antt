@@ -9,9 +9,9 @@ use Rattle.sg_base.specs.declared.addresses.CallId.{CallId}
 use Rattle.sg_base.specs.declared.faults.DropCause.{DropCause}
 use Rattle.sg_base.specs.declared.faults.DropCause.TheVariants.{PortUnused}
 use Rattle.sg_bridge.specs.BridgeText.{bridge_outcome_line}
-use Rattle.sg_bridge.specs.Bridged.{Bridging, Said, Happens, Joins, Parts, Following, arrived, behind, bridging, bridgings_from, followed, handed_on, happened, inner, inner_told, joining, nothing_happens, opened, parting, passed}
+use Rattle.sg_bridge.specs.Bridged.{Bridging, Said, Happens, Joins, Parts, Following, arrived, behind, bridging, bridgings_from, told_and_parted, handed_on, happened, inner, inner_told, joining, nothing_happens, opened, parting, passed}
 use Rattle.sg_bridge.specs.Onward.{onward}
-use Rattle.sg_bridge.specs.Pairs.{Members, joined, noted, parted_from}
+use Rattle.sg_bridge.specs.Pairs.{Members, joined, after_outcome, parted_from}
 use Rattle.sg_bridge.specs.declared.faults.JoinFault.{JoinFault}
 use Rattle.sg_bridge.specs.declared.lines.BridgeLine.{BridgeLine}
 use Rattle.sg_bridge.specs.declared.lines.BridgeLine.TheVariants as bridge_lines
@@ -137,26 +137,26 @@ cut_written status a b xs ys wrote = written_behind status a a b [] xs ys (wrote
 
 -- ---- what the table tells, with the pairs that it parts
 
-pub next_text : (calls : Members) (o : Outcome) → told_next calls o ≡ outcome_line o ++ lines (option_to_list (noted calls o).parted)
-next_text calls o = ap (λ (l : List ℕ). l ++ lines (option_to_list (noted calls o).parted)) (table_line o)
+pub next_text : (calls : Members) (o : Outcome) → told_next calls o ≡ outcome_line o ++ lines (option_to_list (after_outcome calls o).parted)
+next_text calls o = ap (λ (l : List ℕ). l ++ lines (option_to_list (after_outcome calls o).parted)) (table_line o)
 
 behind_is : (o : Outcome) (parted : Option BridgeOutcome) (f : Following) → lines (behind o parted f).told ≡ lines (tells.Table o ∷ option_to_list parted) ++ lines f.told
 behind_is o parted f = flat_map-append bridge_outcome_line (tells.Table o ∷ option_to_list parted) f.told
 
-pub followed_calls : (calls : Members) (xs ys : List Outcome) → (followed calls (xs ++ ys)).calls ≡ (followed (followed calls xs).calls ys).calls
+pub followed_calls : (calls : Members) (xs ys : List Outcome) → (told_and_parted calls (xs ++ ys)).calls ≡ (told_and_parted (told_and_parted calls xs).calls ys).calls
 followed_calls calls [] ys = refl
-followed_calls calls (o ∷ os) ys = followed_calls (noted calls o).calls os ys
+followed_calls calls (o ∷ os) ys = followed_calls (after_outcome calls o).calls os ys
 
-pub followed_text : (calls : Members) (xs ys : List Outcome) → lines (followed calls (xs ++ ys)).told ≡ lines (followed calls xs).told ++ lines (followed (followed calls xs).calls ys).told
+pub followed_text : (calls : Members) (xs ys : List Outcome) → lines (told_and_parted calls (xs ++ ys)).told ≡ lines (told_and_parted calls xs).told ++ lines (told_and_parted (told_and_parted calls xs).calls ys).told
 followed_text calls [] ys = refl
 followed_text calls (o ∷ os) ys =
-    behind_is o (noted calls o).parted (followed (noted calls o).calls (os ++ ys))
-    ∙ ap (λ (l : List ℕ). told_next calls o ++ l) (followed_text (noted calls o).calls os ys)
-    ∙ sym (append_assoc (told_next calls o) (lines (followed (noted calls o).calls os).told) (lines (followed (followed (noted calls o).calls os).calls ys).told))
-    ∙ ap (λ (l : List ℕ). l ++ lines (followed (followed (noted calls o).calls os).calls ys).told) (sym (behind_is o (noted calls o).parted (followed (noted calls o).calls os)))
+    behind_is o (after_outcome calls o).parted (told_and_parted (after_outcome calls o).calls (os ++ ys))
+    ∙ ap (λ (l : List ℕ). told_next calls o ++ l) (followed_text (after_outcome calls o).calls os ys)
+    ∙ sym (append_assoc (told_next calls o) (lines (told_and_parted (after_outcome calls o).calls os).told) (lines (told_and_parted (told_and_parted (after_outcome calls o).calls os).calls ys).told))
+    ∙ ap (λ (l : List ℕ). l ++ lines (told_and_parted (told_and_parted (after_outcome calls o).calls os).calls ys).told) (sym (behind_is o (after_outcome calls o).parted (told_and_parted (after_outcome calls o).calls os)))
 
-pub one_followed : (calls : Members) (o : Outcome) → lines (followed calls (o ∷ [])).told ≡ told_next calls o
-one_followed calls o = behind_is o (noted calls o).parted (record { told = []; calls = (noted calls o).calls }) ∙ append-nil (told_next calls o)
+pub one_followed : (calls : Members) (o : Outcome) → lines (told_and_parted calls (o ∷ [])).told ≡ told_next calls o
+one_followed calls o = behind_is o (after_outcome calls o).parted (record { told = []; calls = (after_outcome calls o).calls }) ∙ append-nil (told_next calls o)
 
 module _ (calls : Members) (os : List Outcome) (i : ℕ) (o : Outcome) (within : i < length os) (is : o ≡ get_or os i o) where
   split : take (i + 1) os ≡ take i os ++ o ∷ []
@@ -165,22 +165,22 @@ module _ (calls : Members) (os : List Outcome) (i : ℕ) (o : Outcome) (within :
   all : os ≡ take i os ++ (o ∷ [] ++ drop (i + 1) os)
   all = sym (take-append-drop (i + 1) os) ∙ ap (λ (l : List Outcome). l ++ drop (i + 1) os) split ∙ append_assoc (take i os) (o ∷ []) (drop (i + 1) os)
 
-  pub more_text : lines (followed calls (take (i + 1) os)).told ≡ lines (followed calls (take i os)).told ++ told_next (followed calls (take i os)).calls o
+  pub more_text : lines (told_and_parted calls (take (i + 1) os)).told ≡ lines (told_and_parted calls (take i os)).told ++ told_next (told_and_parted calls (take i os)).calls o
   more_text =
-      ap (λ (l : List Outcome). lines (followed calls l).told) split ∙ followed_text calls (take i os) (o ∷ [])
-      ∙ ap (λ (l : List ℕ). lines (followed calls (take i os)).told ++ l) (one_followed (followed calls (take i os)).calls o)
+      ap (λ (l : List Outcome). lines (told_and_parted calls l).told) split ∙ followed_text calls (take i os) (o ∷ [])
+      ∙ ap (λ (l : List ℕ). lines (told_and_parted calls (take i os)).told ++ l) (one_followed (told_and_parted calls (take i os)).calls o)
 
-  pub more_calls : (followed calls (take (i + 1) os)).calls ≡ (noted (followed calls (take i os)).calls o).calls
-  more_calls = ap (λ (l : List Outcome). (followed calls l).calls) split ∙ followed_calls calls (take i os) (o ∷ [])
+  pub more_calls : (told_and_parted calls (take (i + 1) os)).calls ≡ (after_outcome (told_and_parted calls (take i os)).calls o).calls
+  more_calls = ap (λ (l : List Outcome). (told_and_parted calls l).calls) split ∙ followed_calls calls (take i os) (o ∷ [])
 
   -- the text of them all begins so
-  pub all_text : (rest : List ℕ) × (lines (followed calls os).told ≡ lines (followed calls (take i os)).told ++ (told_next (followed calls (take i os)).calls o ++ rest))
+  pub all_text : (rest : List ℕ) × (lines (told_and_parted calls os).told ≡ lines (told_and_parted calls (take i os)).told ++ (told_next (told_and_parted calls (take i os)).calls o ++ rest))
   all_text =
-      let before = followed calls (take i os) in
-      let rest = lines (followed (noted before.calls o).calls (drop (i + 1) os)).told in (
+      let before = told_and_parted calls (take i os) in
+      let rest = lines (told_and_parted (after_outcome before.calls o).calls (drop (i + 1) os)).told in (
         rest,
-        ap (λ (l : List Outcome). lines (followed calls l).told) all ∙ followed_text calls (take i os) (o ∷ [] ++ drop (i + 1) os)
-            ∙ ap (λ (l : List ℕ). lines before.told ++ l) (behind_is o (noted before.calls o).parted (followed (noted before.calls o).calls (drop (i + 1) os))),
+        ap (λ (l : List Outcome). lines (told_and_parted calls l).told) all ∙ followed_text calls (take i os) (o ∷ [] ++ drop (i + 1) os)
+            ∙ ap (λ (l : List ℕ). lines before.told ++ l) (behind_is o (after_outcome before.calls o).parted (told_and_parted (after_outcome before.calls o).calls (drop (i + 1) os))),
       )
 
 -- ---- calls that are joined and parted
@@ -212,13 +212,13 @@ module _ (s : State) (table : TableValue) (old new : Members) (r : Result (Unit 
 -- ---- a signal
 
 pub signal_told : (s : State) (signal : Signal) (told : List Outcome) (board : SwitchboardValue) (old : Members) (r : Result (Unit {0}) Status) (a b : Option (List ℕ)) → told ≡ (step s.world (Signalled signal)).outcomes
-    → TableStandsFor board.table (step s.world (Signalled signal)).world → old ≡ s.calls → OnOk r (board.calls ≡ (followed old told).calls) → IsWritten r a b (lines (followed old told).told)
+    → TableStandsFor board.table (step s.world (Signalled signal)).world → old ≡ s.calls → OnOk r (board.calls ≡ (told_and_parted old told).calls) → IsWritten r a b (lines (told_and_parted old told).told)
     → Has r a b (lines (happened s.world s.calls (Signalled signal)).told) (StandsFor board (after (happened s.world s.calls (Signalled signal))))
 signal_told s signal told board old r a b is stands same calls wrote =
-    subst (λ (f : Following). Has r a b (lines f.told) (TableStandsFor board.table (step s.world (Signalled signal)).world × (board.calls ≡ f.calls))) (λ i. followed (same i) (is i))
-    (written_has r a b (lines (followed old told).told) (TableStandsFor board.table (step s.world (Signalled signal)).world × (board.calls ≡ (followed old told).calls)) (with_table r calls) wrote)
+    subst (λ (f : Following). Has r a b (lines f.told) (TableStandsFor board.table (step s.world (Signalled signal)).world × (board.calls ≡ f.calls))) (λ i. told_and_parted (same i) (is i))
+    (written_has r a b (lines (told_and_parted old told).told) (TableStandsFor board.table (step s.world (Signalled signal)).world × (board.calls ≡ (told_and_parted old told).calls)) (with_table r calls) wrote)
   where
-    with_table : (r : Result (Unit {0}) Status) → OnOk r (board.calls ≡ (followed old told).calls) → OnOk r (TableStandsFor board.table (step s.world (Signalled signal)).world × (board.calls ≡ (followed old told).calls))
+    with_table : (r : Result (Unit {0}) Status) → OnOk r (board.calls ≡ (told_and_parted old told).calls) → OnOk r (TableStandsFor board.table (step s.world (Signalled signal)).world × (board.calls ≡ (told_and_parted old told).calls))
     with_table (Ok u) is = (stands, is)
     with_table (Err e) is = tt
 

@@ -13,7 +13,7 @@ use Rattle.sg_edge.specs.Told.{AtEnd, TookIn, Wrote}
 use Rattle.sg_gateway.specs.Drawn.{Supplied, supplied}
 use Rattle.sg_gateway.specs.Events.{events_of}
 use Rattle.sg_lines.specs.ScriptLines.{lines_of}
-use Rattle.sg_playback.specs.Replay.{Tellings}
+use Rattle.sg_playback.specs.Replay.{ReplayTellings}
 use Rattle.sg_trace.specs.Output.{IsPrefixOf}
 use Rattle.sg_trace.specs.Trace.{AtEnd as BehindAll, AtFault, ForDraw, Stop}
 use Rattle.sg_trace.specs.declared.status.Status.{Status}
@@ -75,7 +75,7 @@ bridge_text said = flat_map bridge_outcome_line (bridged_outcomes said)
 -- ---- how a run ends
 
 -- What these octets say, with these drawn, ends there. All that it tells was written, and no octet was drawn besides.
-pub record IsWhole (octets draws out : List ℕ) (stop : Stop) : Type 0 where
+pub record IsWholeBridge (octets draws out : List ℕ) (stop : Stop) : Type 0 where
   pub stops : (bridge_trace octets draws).stop ≡ stop
   pub left : (bridge_trace octets draws).left ≡ []
   pub told : out ≡ bridge_text (bridge_trace octets draws).said
@@ -84,27 +84,27 @@ pub record IsWhole (octets draws out : List ℕ) (stop : Stop) : Type 0 where
 -- source is at its end. With Script the lines before the named one are handled, and the named line is the first outside
 -- the grammar, with its first fault, whatever would come behind what was read; Unended comes only at the source's end.
 -- With Noise a draw comes next. With every other status a prefix was written.
-abbrev pub Ends : Status → List ℕ → List ℕ → List ℕ → Option (List ℕ) → Type 0
-Ends Done octets draws out left = IsWhole octets draws out BehindAll × AtEnd left
-Ends (Script n fault) octets draws out left =
-    IsWhole octets draws out (AtFault n fault) × (fault ≡ Unended → AtEnd left)
+abbrev pub BridgeEnds : Status → List ℕ → List ℕ → List ℕ → Option (List ℕ) → Type 0
+BridgeEnds Done octets draws out left = IsWholeBridge octets draws out BehindAll × AtEnd left
+BridgeEnds (Script n fault) octets draws out left =
+    IsWholeBridge octets draws out (AtFault n fault) × (fault ≡ Unended → AtEnd left)
     × (¬ (fault ≡ Unended) → (more : List ℕ) → (bridge_trace (octets ++ more) draws).stop ≡ AtFault n fault)
-Ends Noise octets draws out left = IsWhole octets draws out ForDraw
-Ends Read octets draws out left = IsPrefixOf out (bridge_text (bridge_trace octets draws).said)
-Ends Write octets draws out left = IsPrefixOf out (bridge_text (bridge_trace octets draws).said)
-Ends NoMemory octets draws out left = IsPrefixOf out (bridge_text (bridge_trace octets draws).said)
-Ends Usage octets draws out left = ⊥
-Ends Link octets draws out left = ⊥
-Ends Clock octets draws out left = ⊥
-Ends TurnsSpent octets draws out left = ⊥
-Ends (Capture offset fault) octets draws out left = ⊥
+BridgeEnds Noise octets draws out left = IsWholeBridge octets draws out ForDraw
+BridgeEnds Read octets draws out left = IsPrefixOf out (bridge_text (bridge_trace octets draws).said)
+BridgeEnds Write octets draws out left = IsPrefixOf out (bridge_text (bridge_trace octets draws).said)
+BridgeEnds NoMemory octets draws out left = IsPrefixOf out (bridge_text (bridge_trace octets draws).said)
+BridgeEnds Usage octets draws out left = ⊥
+BridgeEnds Link octets draws out left = ⊥
+BridgeEnds Clock octets draws out left = ⊥
+BridgeEnds TurnsSpent octets draws out left = ⊥
+BridgeEnds (Capture offset fault) octets draws out left = ⊥
 
 -- The bridge read these octets, of which there are at most 2^30 + 1, drew these, and wrote those.
-pub record IsBridge (status : Status) (old new : Tellings) (octets draws out : List ℕ) : Type 0 where
+pub record IsBridge (status : Status) (old new : ReplayTellings) (octets draws out : List ℕ) : Type 0 where
   pub took : TookIn old.left new.left octets
   pub drew : Added old.drawn new.drawn draws
   pub wrote : Wrote old.written new.written out
-  pub ends : Ends status octets draws out new.left
+  pub ends : BridgeEnds status octets draws out new.left
   pub bound : length octets ≤ 2 ^ 30 + 1
 
 -- The octets are a bridge's script: whatever is drawn, no line of them is outside the grammar.
@@ -112,5 +112,5 @@ abbrev pub IsBridgeScript : List ℕ → Type 0
 IsBridgeScript octets = (draws : List ℕ) (n : ℕ) (fault : ScriptFault) → (bridge_trace octets draws).stop ≡ AtFault n fault → ⊥
 
 -- Where the source's octets are such a script, the bridge handles it to its end, or memory runs out.
-abbrev pub IsComplete : Status → Option (List ℕ) → Option (List ℕ) → Type 0
-IsComplete status left left' = (all rest : List ℕ) → left ≡ Some all → left' ≡ Some rest → IsBridgeScript all → (status ≡ Done) ⊎ (status ≡ NoMemory)
+abbrev pub IsCompleteBridge : Status → Option (List ℕ) → Option (List ℕ) → Type 0
+IsCompleteBridge status left left' = (all rest : List ℕ) → left ≡ Some all → left' ≡ Some rest → IsBridgeScript all → (status ≡ Done) ⊎ (status ≡ NoMemory)

@@ -3,7 +3,7 @@ use Rattle.std.specs.Prelude.{◌≡◌, ◌⊎◌, ℕ, List, [], ◌∷◌, �
 use Rattle.std.specs.List.{flat_map}
 use Rattle.sg_bridge.specs.BridgeText.{bridge_outcome_line}
 use Rattle.sg_bridge.specs.Bridged.{Bridging, Said, bridging, bridgings_from}
-use Rattle.sg_bridge.specs.Pairs.{Members, nobody, noted}
+use Rattle.sg_bridge.specs.Pairs.{Members, no_members, after_outcome}
 use Rattle.sg_bridge.specs.declared.lines.BridgeLine.{BridgeLine}
 use Rattle.sg_bridge.specs.declared.outcomes.BridgeOutcome.TheVariants as tells
 use Rattle.sg_bridging.specs.Bridge.{BridgeTrace, LaterSaid, said_of, stopped_at, with_said}
@@ -22,7 +22,7 @@ pub record State : Type 0 where
   pub calls : Members
 
 abbrev pub start : State
-start = record { world = empty; calls = nobody }
+start = record { world = empty; calls = no_members }
 
 -- a table, and what is known of its calls
 pub record SwitchboardValue : Type 0 where
@@ -45,7 +45,7 @@ state_after s (x ∷ xs) = state_after (after (bridging s.world s.calls x)) xs
 
 -- what is told of an outcome of the table, and of the pair that it parts
 abbrev pub told_next : Members → Outcome → List ℕ
-told_next calls o = flat_map bridge_outcome_line (tells.Table o ∷ option_to_list (noted calls o).parted)
+told_next calls o = flat_map bridge_outcome_line (tells.Table o ∷ option_to_list (after_outcome calls o).parted)
 
 -- This text was written, and that is so; or a prefix of it was written.
 abbrev pub HasTold : Result (Unit {0}) Status → List ℕ → Type 0 → List ℕ → Type 0

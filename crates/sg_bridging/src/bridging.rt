@@ -1,7 +1,7 @@
 //! The command `bridge`: the lines of a script, in order.
 
 ghost use Rattle.std.specs.Prelude.{◌≡◌, ◌≤◌, ◌+◌, ◌^◌, ℕ, List};
-ghost use Rattle.sg_bridging.specs.Bridge.{IsBridge, IsComplete};
+ghost use Rattle.sg_bridging.specs.Bridge.{IsBridge, IsCompleteBridge};
 ghost use Rattle.sg_bridging.specs.Steps.{StandsFor, start};
 ghost use Rattle.sg_edge.specs.Told.{Rose};
 ghost use Rattle.sg_trace.specs.Causes.{HasFailed};
@@ -33,7 +33,7 @@ pub fn bridge<S: Source, K: Sink, N: Noise>(
     ensures write { HasFailed (result ≡ Status.Write) (K.faults sink.old) (K.faults sink.new) (K.failed sink.new) }
     ensures noise { HasFailed (result ≡ Status.Noise) (N.faults noise.old) (N.faults noise.new) (N.failed noise.new) }
     ensures complete { ¬ Rose (S.faults source.old) (S.faults source.new) → ¬ Rose (K.faults sink.old) (K.faults sink.new) → ¬ Rose (N.faults noise.old) (N.faults noise.new)
-        → IsComplete result (S.left source.old) (S.left source.new) }
+        → IsCompleteBridge result (S.left source.old) (S.left source.new) }
 {
     match Switchboard::make(alloc) {
         Err(NoMemory) => Status::NoMemory,

@@ -3,8 +3,8 @@
 ghost use Rattle.std.specs.Prelude.{◌≡◌, OnOk};
 ghost use Rattle.std.specs.List.{flat_map};
 ghost use Rattle.sg_bridge.specs.BridgeText.{bridge_outcome_line};
-ghost use Rattle.sg_bridge.specs.Bridged.{followed};
-ghost use Rattle.sg_bridge.specs.Pairs.{noted};
+ghost use Rattle.sg_bridge.specs.Bridged.{told_and_parted};
+ghost use Rattle.sg_bridge.specs.Pairs.{after_outcome};
 ghost use Rattle.sg_bridge.specs.declared.outcomes.BridgeOutcome.TheVariants as tells;
 ghost use Rattle.sg_bridging.specs.Steps.{told_next};
 ghost use Rattle.sg_outcome.specs.OutcomeText.{outcome_line};
@@ -84,7 +84,7 @@ fn tell_next<K: Sink>(
     sink: &mut K,
 ) -> Result<(), Status>
     ensures told { IsWritten result (K.written sink.old) (K.written sink.new) (told_next bridge.old outcome.now) }
-    ensures calls { OnOk result (bridge.new ≡ (noted bridge.old outcome.now).calls) }
+    ensures calls { OnOk result (bridge.new ≡ (after_outcome bridge.old outcome.now).calls) }
     ensures write { IsCaused Status.Write result (K.faults sink.old) (K.faults sink.new) (K.failed sink.new) }
 {
     match tell(alloc, outcome, sink) {
@@ -104,8 +104,8 @@ pub(crate) fn tell_all<K: Sink>(
     outcomes: &[Outcome],
     sink: &mut K,
 ) -> Result<(), Status>
-    ensures told { IsWritten result (K.written sink.old) (K.written sink.new) (flat_map bridge_outcome_line (followed bridge.old outcomes.now).told) }
-    ensures calls { OnOk result (bridge.new ≡ (followed bridge.old outcomes.now).calls) }
+    ensures told { IsWritten result (K.written sink.old) (K.written sink.new) (flat_map bridge_outcome_line (told_and_parted bridge.old outcomes.now).told) }
+    ensures calls { OnOk result (bridge.new ≡ (told_and_parted bridge.old outcomes.now).calls) }
     ensures write { IsCaused Status.Write result (K.faults sink.old) (K.faults sink.new) (K.failed sink.new) }
 {
     for outcome in outcomes {

@@ -6,7 +6,7 @@ use Rattle.sg_base.specs.declared.faults.ScriptFault.{ScriptFault}
 use Rattle.sg_base.specs.declared.faults.ScriptFault.TheVariants.{Word, Number, Hex, Length, Version, Unended}
 use Rattle.sg_capture.proofs.Captureds.{captured_at}
 use Rattle.sg_capture.proofs.Outputs.{happens_events, happens_output, output_of-append}
-use Rattle.sg_capture.specs.Capturing.{Ends, IsBehindScript, IsCapture, IsComplete, IsWhole}
+use Rattle.sg_capture.specs.Capturing.{CaptureEnds, IsBehindScript, IsCapture, IsCompleteCapture, IsWholeCapture}
 use Rattle.sg_capture.specs.Meeting.{EndsReading, all_behind}
 use Rattle.sg_edge.proofs.Links.{added_none}
 use Rattle.sg_edge.proofs.Passed.{took_more, took_none, wrote_more, wrote_none}
@@ -17,7 +17,7 @@ use Rattle.sg_gateway.specs.World.{World, empty}
 use Rattle.sg_pcap.specs.Capture.{Capture, capture_of}
 use Rattle.sg_pcap.specs.declared.faults.CaptureFault.{CaptureFault}
 use Rattle.sg_pcap.specs.declared.faults.CaptureFault.TheVariants as capture_faults
-use Rattle.sg_playback.specs.Replay.{Tellings}
+use Rattle.sg_playback.specs.Replay.{ReplayTellings}
 use Rattle.sg_trace.specs.Captured.{CaptureStop, CaptureTrace, Happens, InCapture, InScript, capture_occurs, captured, output_of, then_capture}
 use Rattle.sg_trace.specs.Output.{IsPrefixOf, output}
 use Rattle.sg_trace.specs.Reading.{Reading}
@@ -25,7 +25,7 @@ use Rattle.sg_trace.specs.Trace.{AtCapture, AtFault, Trace, drawing, stopped, wi
 use Rattle.sg_trace.specs.declared.status.Status.{Status}
 use Rattle.sg_trace.specs.declared.status.Status.TheVariants as statuses
 
-module _ (old mid new : Tellings) (script : Reading) (stands_for : World → Type 0) (octets draws out : List ℕ) (so_far : IsBehindScript old mid script stands_for octets draws out)
+module _ (old mid new : ReplayTellings) (script : Reading) (stands_for : World → Type 0) (octets draws out : List ℕ) (so_far : IsBehindScript old mid script stands_for octets draws out)
     (got out' : List ℕ) (took : TookIn mid.left new.left got) (wrote : Wrote mid.written new.written out') (drawn : new.drawn ≡ mid.drawn) (few : length got ≤ script.budget)
     (last : ℕ) (moment : last ≡ (world_after empty so_far.events).moment) where
   abbrev most : ℕ
@@ -53,9 +53,9 @@ module _ (old mid new : Tellings) (script : Reading) (stands_for : World → Typ
   all_octets = ap (λ (l : List ℕ). l ++ got) so_far.split ∙ append_assoc so_far.lines script.waits got
 
   whole_so : (fault : Option (ℕ × CaptureFault)) → (capture_of most (script.waits ++ got)).fault ≡ fault → out' ≡ output_of (world_after empty so_far.events) (all_behind [] last (capture_of most (script.waits ++ got)))
-      → IsWhole (octets ++ got) draws (out ++ out') (InCapture fault)
+      → IsWholeCapture (octets ++ got) draws (out ++ out') (InCapture fault)
   whole_so fault is told =
-      subst (λ (o : List ℕ). IsWhole o draws (out ++ out') (InCapture fault)) (sym all_octets)
+      subst (λ (o : List ℕ). IsWholeCapture o draws (out ++ out') (InCapture fault)) (sym all_octets)
       (record {
         stops = ap (λ (t : CaptureTrace). t.stop) (captured_is (script.waits ++ got)) ∙ ap InCapture is;
         left = ap (λ (t : CaptureTrace). t.left) (captured_is (script.waits ++ got));
@@ -68,7 +68,7 @@ module _ (old mid new : Tellings) (script : Reading) (stands_for : World → Typ
     ap (λ (o : List ℕ). output_of empty (captured o draws).occurrences) all_octets ∙ told_so (script.waits ++ got) ∙ (λ i. sym so_far.told i ++ part.1 i) ∙ sym (append_assoc out out' part.0),
   )
 
-  ends_so : (status : Status) → EndsReading status (world_after empty so_far.events) [] last (capture_of most) (script.waits ++ got) out' new.left → Ends status (octets ++ got) draws (out ++ out') new.left
+  ends_so : (status : Status) → EndsReading status (world_after empty so_far.events) [] last (capture_of most) (script.waits ++ got) out' new.left → CaptureEnds status (octets ++ got) draws (out ++ out') new.left
   ends_so statuses.Done ends = (inr (whole_so None ends.1 ends.0), ends.2)
   ends_so (statuses.Capture offset fault) ends = (
     whole_so (Some (offset, fault)) ends.is ends.told,
@@ -134,8 +134,8 @@ stops_all left left' octets all rest draws stop last at took told told' here whi
       | inr other ↦ ap (λ (o : List ℕ). (captured o draws).stop) same ∙ still other rest
     ]
 
-pub complete : (status : Status) (old new : Tellings) (octets draws out : List ℕ) → IsCapture status old new octets draws out
-    → (status ≡ statuses.Read → ⊥) → (status ≡ statuses.Write → ⊥) → (status ≡ statuses.Noise → ⊥) → IsComplete status old.left new.left
+pub complete : (status : Status) (old new : ReplayTellings) (octets draws out : List ℕ) → IsCapture status old new octets draws out
+    → (status ≡ statuses.Read → ⊥) → (status ≡ statuses.Write → ⊥) → (status ≡ statuses.Noise → ⊥) → IsCompleteCapture status old.left new.left
 complete statuses.Done old new octets draws out run a b c = λ all rest told told' none. inl refl
 complete statuses.NoMemory old new octets draws out run a b c = λ all rest told told' none. inr refl
 complete (statuses.Script n fault) old new octets draws out run a b c = λ all rest told told' none.
@@ -153,7 +153,7 @@ complete statuses.Clock old new octets draws out run a b c = absurd run.ends
 complete statuses.TurnsSpent old new octets draws out run a b c = absurd run.ends
 
 -- nothing was done
-pub untouched : (old : Tellings) → IsCapture statuses.NoMemory old old [] [] []
+pub untouched : (old : ReplayTellings) → IsCapture statuses.NoMemory old old [] [] []
 untouched old = record {
   took = took_none old.left;
   drew = added_none old.drawn;

@@ -16,7 +16,7 @@ use Rattle.sg_pcap.specs.declared.skips.SkipCause.{SkipCause}
 use Rattle.sg_playback.proofs.Plays.{stepped_prefix}
 use Rattle.sg_playback.specs.Playing.{HasRoom, IsSettled, IsStepped, IsWant}
 use Rattle.sg_trace.proofs.Traces.{world_after-append}
-use Rattle.sg_trace.specs.Captured.{Happens, Occurrence, Skipped, events_in, output_of}
+use Rattle.sg_trace.specs.Captured.{Happens, Occurrence, Skipped, captured_events, output_of}
 use Rattle.sg_trace.specs.Output.{IsPrefixOf, IsWritten}
 use Rattle.sg_trace.specs.Trace.{ticks_at}
 use Rattle.sg_trace.specs.declared.status.Status.{Status}
@@ -28,9 +28,9 @@ pub prefix_more : (prefix all more : List ℕ) → IsPrefixOf prefix all → IsP
 prefix_more prefix all more is = (is.0 ++ more, ap (λ (l : List ℕ). l ++ more) is.1 ∙ append_assoc prefix is.0 more)
 
 pub prefix_of-more : (w : World) (os ps : List Occurrence) (prefix : List ℕ) → IsPrefixOf prefix (output_of w os) → IsPrefixOf prefix (output_of w (os ++ ps))
-prefix_of-more w os ps prefix is = subst (IsPrefixOf prefix) (sym (output_of-append w os ps)) (prefix_more prefix (output_of w os) (output_of (world_after w (events_in os)) ps) is)
+prefix_of-more w os ps prefix is = subst (IsPrefixOf prefix) (sym (output_of-append w os ps)) (prefix_more prefix (output_of w os) (output_of (world_after w (captured_events os)) ps) is)
 
-pub prefix_of-behind : (w : World) (os ps : List Occurrence) (prefix : List ℕ) → IsPrefixOf prefix (output_of (world_after w (events_in os)) ps) → IsPrefixOf (output_of w os ++ prefix) (output_of w (os ++ ps))
+pub prefix_of-behind : (w : World) (os ps : List Occurrence) (prefix : List ℕ) → IsPrefixOf prefix (output_of (world_after w (captured_events os)) ps) → IsPrefixOf (output_of w os ++ prefix) (output_of w (os ++ ps))
 prefix_of-behind w os ps prefix is = (is.0, output_of-append w os ps ∙ ap (λ (l : List ℕ). output_of w os ++ l) is.1 ∙ sym (append_assoc (output_of w os) prefix is.0))
 
 -- ---- one part, and then another
@@ -39,14 +39,14 @@ pub met_none : (w : World) (waited : List Event) (stands_for : World → Type 0)
 met_none w waited stands_for stands = record { told = []; all = append-nil (map Happens waited); written = refl; stands = stands }
 
 pub met_then : (r : Result (Unit {0}) Status) (w : World) (waited mid waits : List Event) (os ps : List Occurrence) (stands_for stands_for' : World → Type 0) (out out' : List ℕ)
-    → (first : IsToldOf w waited mid os stands_for out) → IsMet r (world_after w (events_in first.told)) mid waits ps stands_for' out' → IsMet r w waited waits (os ++ ps) stands_for' (out ++ out')
+    → (first : IsToldOf w waited mid os stands_for out) → IsMet r (world_after w (captured_events first.told)) mid waits ps stands_for' out' → IsMet r w waited waits (os ++ ps) stands_for' (out ++ out')
 met_then (Ok u) w waited mid waits os ps stands_for stands_for' out out' first then = record {
   told = first.told ++ then.told;
   all =
       sym (append_assoc (map Happens waited) os ps) ∙ ap (λ (l : List Occurrence). l ++ ps) first.all ∙ append_assoc first.told (map Happens mid) ps
       ∙ ap (λ (l : List Occurrence). first.told ++ l) then.all ∙ sym (append_assoc first.told then.told (map Happens waits));
   written = (λ i. first.written i ++ then.written i) ∙ sym (output_of-append w first.told then.told);
-  stands = subst stands_for' (sym (ap (world_after w) (events_in-append first.told then.told) ∙ world_after-append w (events_in first.told) (events_in then.told))) then.stands;
+  stands = subst stands_for' (sym (ap (world_after w) (events_in-append first.told then.told) ∙ world_after-append w (captured_events first.told) (captured_events then.told))) then.stands;
 }
 met_then (Err status) w waited mid waits os ps stands_for stands_for' out out' first then =
     let whole : map Happens waited ++ (os ++ ps) ≡ first.told ++ (map Happens mid ++ ps) =

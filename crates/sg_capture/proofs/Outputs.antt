@@ -6,24 +6,24 @@ use Rattle.sg_gateway.specs.Step.{Event, step}
 use Rattle.sg_gateway.specs.World.{World}
 use Rattle.sg_pcap.specs.Skips.{skip_line}
 use Rattle.sg_trace.proofs.Traces.{output_from-append}
-use Rattle.sg_trace.specs.Captured.{Happens, Occurrence, Skipped, events_in, output_of}
+use Rattle.sg_trace.specs.Captured.{Happens, Occurrence, Skipped, captured_events, output_of}
 use Rattle.sg_trace.specs.Output.{output_from, text}
 
-pub output_of-append : (w : World) (os ps : List Occurrence) → output_of w (os ++ ps) ≡ output_of w os ++ output_of (world_after w (events_in os)) ps
+pub output_of-append : (w : World) (os ps : List Occurrence) → output_of w (os ++ ps) ≡ output_of w os ++ output_of (world_after w (captured_events os)) ps
 output_of-append w [] ps = refl
 output_of-append w (Happens e ∷ os) ps =
     ap (λ (l : List ℕ). text (outcomes_from w (e ∷ [])) ++ l) (output_of-append (step w e).world os ps)
-    ∙ sym (append_assoc (text (outcomes_from w (e ∷ []))) (output_of (step w e).world os) (output_of (world_after (step w e).world (events_in os)) ps))
+    ∙ sym (append_assoc (text (outcomes_from w (e ∷ []))) (output_of (step w e).world os) (output_of (world_after (step w e).world (captured_events os)) ps))
 output_of-append w (Skipped number cause ∷ os) ps =
-    ap (λ (l : List ℕ). skip_line number cause ++ l) (output_of-append w os ps) ∙ sym (append_assoc (skip_line number cause) (output_of w os) (output_of (world_after w (events_in os)) ps))
+    ap (λ (l : List ℕ). skip_line number cause ++ l) (output_of-append w os ps) ∙ sym (append_assoc (skip_line number cause) (output_of w os) (output_of (world_after w (captured_events os)) ps))
 
-pub events_in-append : (os ps : List Occurrence) → events_in (os ++ ps) ≡ events_in os ++ events_in ps
+pub events_in-append : (os ps : List Occurrence) → captured_events (os ++ ps) ≡ captured_events os ++ captured_events ps
 events_in-append [] ps = refl
 events_in-append (Happens e ∷ os) ps = ap (λ (l : List Event). e ∷ l) (events_in-append os ps)
 events_in-append (Skipped number cause ∷ os) ps = events_in-append os ps
 
 -- events alone
-pub happens_events : (es : List Event) → events_in (map Happens es) ≡ es
+pub happens_events : (es : List Event) → captured_events (map Happens es) ≡ es
 happens_events [] = refl
 happens_events (e ∷ es) = ap (λ (l : List Event). e ∷ l) (happens_events es)
 

@@ -15,7 +15,7 @@ use Rattle.sg_pcap.specs.declared.faults.CaptureFault.{CaptureFault}
 use Rattle.sg_pcap.specs.declared.header.Form.{Form}
 use Rattle.sg_pcap.specs.declared.records.Record.{Record}
 use Rattle.sg_playback.specs.Playing.{Closes, IsClosed, IsWant}
-use Rattle.sg_trace.specs.Captured.{Happens, Occurrence, capture_occurs, events_in, moment_in, output_of, records_occur}
+use Rattle.sg_trace.specs.Captured.{Happens, Occurrence, capture_occurs, captured_events, moment_in, output_of, records_occur}
 use Rattle.sg_trace.specs.CaptureReading.{Capturing, IsCaptureFault, IsHeaderRead, IsRecordRead}
 use Rattle.sg_trace.specs.Output.{IsPrefixOf, output_from}
 use Rattle.sg_trace.specs.declared.status.Status.{Status}
@@ -87,7 +87,7 @@ module _ (reads : List ℕ → Capture) (most : ℕ) (form : Form) (consumed : L
 
   module _ (w : World) where
     abbrev now : World
-    now = world_after w (events_in told)
+    now = world_after w (captured_events told)
 
     -- all that these octets give
     all_is : (octets : List ℕ) (c : Capture) → reads octets ≡ with_records going.seen c → all_behind waited last (reads octets) ≡ told ++ (map Happens ps ++ occurs_on p c.records)

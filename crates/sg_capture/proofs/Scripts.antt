@@ -6,7 +6,7 @@ use Rattle.std.proofs.lemmas.List.{append-nil}
 use Rattle.sg_base.specs.declared.faults.ScriptFault.{ScriptFault}
 use Rattle.sg_capture.proofs.Captureds.{captured_at, captured_prefix}
 use Rattle.sg_capture.proofs.Outputs.{happens_output}
-use Rattle.sg_capture.specs.Capturing.{Ends, IsScriptPlayed, IsWhole}
+use Rattle.sg_capture.specs.Capturing.{CaptureEnds, IsScriptPlayed, IsWholeCapture}
 use Rattle.sg_trace.proofs.Traces.{output-append, reads_on, stops_at, with_events_again, world_after-append}
 use Rattle.sg_trace.specs.Captured.{CaptureTrace, InScript, after_script, captured, output_of, script_alone, script_of}
 use Rattle.sg_trace.specs.Finding.{IsCaptureLine, IsFound, IsOtherFault}
@@ -29,7 +29,7 @@ use Rattle.sg_lines.specs.declared.lines.Line.{Line}
 use Rattle.sg_playback.proofs.Alike.{alike_behind, alike_more, same_alike, then_alike}
 use Rattle.sg_playback.proofs.Plays.{stepped_prefix}
 use Rattle.sg_playback.specs.Playing.{AreAlike, Closes, IsClosed, IsCut, IsPlayed, IsSettled, IsTaken}
-use Rattle.sg_playback.specs.Replay.{Tellings}
+use Rattle.sg_playback.specs.Replay.{ReplayTellings}
 
 -- the line behind which a capture begins
 capture_whole : IsWholeLine (codes "capture\n")
@@ -43,7 +43,7 @@ capture_stops version n at rest top o is =
 
 -- The run has taken whole lines and drawn octets. A prefix of what is like their events was handled and told, and
 -- the rest waits.
-pub record IsPlayingLines (old now : Tellings) (taken waits drawn : List ℕ) (es ps : List Event) (version n at : ℕ) : Type 0 where
+pub record IsPlayingLines (old now : ReplayTellings) (taken waits drawn : List ℕ) (es ps : List Event) (version n at : ℕ) : Type 0 where
   pub events : List Event
   pub alike : AreAlike empty events (es ++ ps)
   pub took : TookIn old.left now.left (taken ++ waits)
@@ -54,7 +54,7 @@ pub record IsPlayingLines (old now : Tellings) (taken waits drawn : List ℕ) (e
 module _ (octets drawn : List ℕ) where
   -- where what is like all events was told
   whole_so : (events es : List Event) (stop : Stop) → ((c : Trace) → after_script octets c stop ≡ script_alone c) → AreAlike empty events es → script_of octets drawn ≡ with_events events (stopped stop (drawing []))
-      → IsWhole octets drawn (output es) (InScript stop)
+      → IsWholeCapture octets drawn (output es) (InScript stop)
   whole_so events es stop alone alike is =
       let so : captured octets drawn ≡ script_alone (with_events events (stopped stop (drawing []))) = captured_at octets drawn (with_events events (stopped stop (drawing []))) is ∙ alone (with_events events (stopped stop (drawing []))) in
       record {
@@ -76,11 +76,11 @@ module _ (octets drawn : List ℕ) where
       )
 
 -- a status of a run that was cut
-pub ends_cut : (status : Status) (octets draws out : List ℕ) (left : Option (List ℕ)) → (status ≡ Write) ⊎ (status ≡ NoMemory) → IsPrefixOf out (output_of empty (captured octets draws).occurrences) → Ends status octets draws out left
-ends_cut status octets draws out left (inl is) prefix = subst (λ s. Ends s octets draws out left) (sym is) prefix
-ends_cut status octets draws out left (inr is) prefix = subst (λ s. Ends s octets draws out left) (sym is) prefix
+pub ends_cut : (status : Status) (octets draws out : List ℕ) (left : Option (List ℕ)) → (status ≡ Write) ⊎ (status ≡ NoMemory) → IsPrefixOf out (output_of empty (captured octets draws).occurrences) → CaptureEnds status octets draws out left
+ends_cut status octets draws out left (inl is) prefix = subst (λ s. CaptureEnds s octets draws out left) (sym is) prefix
+ends_cut status octets draws out left (inr is) prefix = subst (λ s. CaptureEnds s octets draws out left) (sym is) prefix
 
-module _ (old now : Tellings) (taken drawn : List ℕ) (es ps : List Event) (script : Reading)
+module _ (old now : ReplayTellings) (taken drawn : List ℕ) (es ps : List Event) (script : Reading)
     (going : IsPlayingLines old now taken script.waits drawn es ps script.version script.number script.offset)
     (left' : Option (List ℕ)) (got : List ℕ) (came : TookIn now.left left' got) where
   -- the octets read by then
@@ -102,19 +102,19 @@ module _ (old now : Tellings) (taken drawn : List ℕ) (es ps : List Event) (scr
 
   -- at an end that is closed
   closed_whole : (end status : Status) (stop : Stop) (out : List ℕ) → trace_from Captures script.version script.number script.offset (lines_of (script.waits ++ got)) 0 (drawing []) ≡ stopped stop (drawing [])
-      → ((c : Trace) → after_script octets c stop ≡ script_alone c) → (IsWhole octets drawn (output es ++ out) (InScript stop) → Ends end octets drawn (output es ++ out) left') → Closes end status (world_after empty es) ps out → Ends status octets drawn (output es ++ out) left'
+      → ((c : Trace) → after_script octets c stop ≡ script_alone c) → (IsWholeCapture octets drawn (output es ++ out) (InScript stop) → CaptureEnds end octets drawn (output es ++ out) left') → Closes end status (world_after empty es) ps out → CaptureEnds status octets drawn (output es ++ out) left'
   closed_whole end status stop out stops alone ends (inl all) =
-      subst (λ s. Ends s octets drawn (output es ++ out) left') (sym all.0)
-      (ends (subst (λ (o : List ℕ). IsWhole octets drawn o (InScript stop)) (output-append es ps ∙ ap (λ (o : List ℕ). output es ++ o) (sym all.1)) (whole_so octets drawn going.events (es ++ ps) stop alone going.alike (no_draw ∙ trace_is [] ∙ ap (with_events going.events) stops))))
+      subst (λ s. CaptureEnds s octets drawn (output es ++ out) left') (sym all.0)
+      (ends (subst (λ (o : List ℕ). IsWholeCapture octets drawn o (InScript stop)) (output-append es ps ∙ ap (λ (o : List ℕ). output es ++ o) (sym all.1)) (whole_so octets drawn going.events (es ++ ps) stop alone going.alike (no_draw ∙ trace_is [] ∙ ap (with_events going.events) stops))))
   closed_whole end status stop out stops alone ends (inr cut) = ends_cut status octets drawn (output es ++ out) left' cut.0 (prefix_so octets drawn going.events es ps _ out going.alike (no_draw ∙ trace_is []) cut.1)
 
   -- at the end of the source
-  pub closed_at_end : (status : Status) (out : List ℕ) → script.waits ++ got ≡ [] → AtEnd left' → Closes Done status (world_after empty es) ps out → Ends status octets drawn (output es ++ out) left'
+  pub closed_at_end : (status : Status) (out : List ℕ) → script.waits ++ got ≡ [] → AtEnd left' → Closes Done status (world_after empty es) ps out → CaptureEnds status octets drawn (output es ++ out) left'
   closed_at_end status out none end closed =
       closed_whole Done status BehindAll out (ap (λ (l : List ℕ). trace_from Captures script.version script.number script.offset (lines_of l) 0 (drawing [])) none) (λ c. refl) (λ whole. (inl whole, end)) closed
 
   closed_at_fault : (fault : ScriptFault) (status : Status) (out : List ℕ) → IsOtherFault script.version script.number script.offset (script.waits ++ got) fault left'
-      → Closes (Script script.number fault) status (world_after empty es) ps out → Ends status octets drawn (output es ++ out) left'
+      → Closes (Script script.number fault) status (world_after empty es) ps out → CaptureEnds status octets drawn (output es ++ out) left'
   closed_at_fault fault status out is closed =
       closed_whole (Script script.number fault) status (AtFault script.number fault) out (stops_at Captures script.version script.number script.offset (script.waits ++ got) fault 0 (drawing []) is.first is.other) (λ c. refl)
       (λ whole. (
@@ -132,13 +132,13 @@ module _ (old now : Tellings) (taken drawn : List ℕ) (es ps : List Event) (scr
 
   -- where no line was read
   pub closed_at_err : (end status : Status) (new : Reading) (out : List ℕ) → IsFound (Err end) script new got left' → IsClosed end status (world_after empty es) ps out
-      → Ends status octets drawn (output es ++ out) left'
+      → CaptureEnds status octets drawn (output es ++ out) left'
   closed_at_err (Script n fault) status new out next closed =
       closed_at_fault fault status out (subst (λ (m : ℕ). IsOtherFault script.version m script.offset (script.waits ++ got) fault left') next.0 next.1) (subst (λ (m : ℕ). Closes (Script m fault) status (world_after empty es) ps out) next.0 closed)
   closed_at_err Read status new out next closed =
-      subst (λ s. Ends s octets drawn (output es ++ out) left') (sym closed.0) (subst (λ (o : List ℕ). IsPrefixOf (output es ++ o) (output_of empty (captured octets drawn).occurrences)) (sym closed.1) is_prefix)
+      subst (λ s. CaptureEnds s octets drawn (output es ++ out) left') (sym closed.0) (subst (λ (o : List ℕ). IsPrefixOf (output es ++ o) (output_of empty (captured octets drawn).occurrences)) (sym closed.1) is_prefix)
   closed_at_err NoMemory status new out next closed =
-      subst (λ s. Ends s octets drawn (output es ++ out) left') (sym closed.0) (subst (λ (o : List ℕ). IsPrefixOf (output es ++ o) (output_of empty (captured octets drawn).occurrences)) (sym closed.1) is_prefix)
+      subst (λ s. CaptureEnds s octets drawn (output es ++ out) left') (sym closed.0) (subst (λ (o : List ℕ). IsPrefixOf (output es ++ o) (output_of empty (captured octets drawn).occurrences)) (sym closed.1) is_prefix)
   closed_at_err Done status new out next closed = absurd next
   closed_at_err Usage status new out next closed = absurd next
   closed_at_err Write status new out next closed = absurd next
@@ -209,13 +209,13 @@ module _ (old now : Tellings) (taken drawn : List ℕ) (es ps : List Event) (scr
 
     -- where a line ends the run
     pub ends_played : (status : Status) (waits' : List Event) (stands_for : World → Type 0) (draws out : List ℕ) → IsPlayed (Err status) l (world_after empty es) ps waits' stands_for draws out
-        → Ends status octets (drawn ++ draws) (output es ++ out) left'
+        → CaptureEnds status octets (drawn ++ draws) (output es ++ out) left'
     ends_played Write waits' stands_for draws out cut = cut_so draws out cut
     ends_played NoMemory waits' stands_for draws out cut = cut_so draws out cut
     ends_played Noise waits' stands_for draws out is =
         let nothing : script_of octets (drawn ++ draws) ≡ with_events going.events (stopped ForDraw (drawing [])) =
         all_is draws ∙ ap (λ (d : List ℕ). with_events going.events (handled l (later new.waits) 0 (drawing d))) is.drew ∙ ap (with_events going.events) (is.stops (later new.waits)) in
-        subst (λ (o : List ℕ). IsWhole octets (drawn ++ draws) o (InScript ForDraw)) (output-append es ps ∙ ap (λ (o : List ℕ). output es ++ o) (sym is.told)) (whole_so octets (drawn ++ draws) going.events (es ++ ps) ForDraw (λ c. refl) going.alike nothing)
+        subst (λ (o : List ℕ). IsWholeCapture octets (drawn ++ draws) o (InScript ForDraw)) (output-append es ps ∙ ap (λ (o : List ℕ). output es ++ o) (sym is.told)) (whole_so octets (drawn ++ draws) going.events (es ++ ps) ForDraw (λ c. refl) going.alike nothing)
     ends_played Done waits' stands_for draws out is = absurd is
     ends_played Usage waits' stands_for draws out is = absurd is
     ends_played (Script n fault) waits' stands_for draws out is = absurd is
@@ -251,7 +251,7 @@ pub bounded : (taken waits got : List ℕ) (at budget budget' : ℕ) → length 
 bounded taken waits got at budget budget' size room paid = omega (arith, size, room, paid, length-append taken (waits ++ got), length-append waits got)
 
 -- nothing is read, drawn, handled or written yet
-pub begins : (old : Tellings) (ps : List Event) (script : Reading) → ps ≡ [] → script ≡ record { waits = []; version = 1; number = 1; offset = 0; budget = 2 ^ 30 + 1 }
+pub begins : (old : ReplayTellings) (ps : List Event) (script : Reading) → ps ≡ [] → script ≡ record { waits = []; version = 1; number = 1; offset = 0; budget = 2 ^ 30 + 1 }
     → IsPlayingLines old old [] script.waits [] [] ps script.version script.number script.offset
 begins old ps script none is = record {
   events = [];

@@ -9,7 +9,7 @@ use Rattle.sg_gateway.specs.Step.{Event}
 use Rattle.sg_gateway.specs.World.{World, empty}
 use Rattle.sg_pcap.specs.declared.faults.CaptureFault.{CaptureFault}
 use Rattle.sg_pcap.specs.declared.faults.CaptureFault.TheVariants.{Cut}
-use Rattle.sg_playback.specs.Replay.{Tellings}
+use Rattle.sg_playback.specs.Replay.{ReplayTellings}
 use Rattle.sg_trace.specs.Captured.{CaptureStop, InCapture, InScript, captured, output_of, script_of}
 use Rattle.sg_trace.specs.Output.{IsPrefixOf, output}
 use Rattle.sg_trace.specs.Reading.{Reading}
@@ -19,7 +19,7 @@ use Rattle.sg_trace.specs.declared.status.Status.TheVariants as statuses
 
 -- The trace of these octets, with these drawn, stops there. All that it tells was written, and no octet was drawn
 -- besides.
-pub record IsWhole (octets draws out : List ℕ) (stop : CaptureStop) : Type 0 where
+pub record IsWholeCapture (octets draws out : List ℕ) (stop : CaptureStop) : Type 0 where
   pub stops : (captured octets draws).stop ≡ stop
   pub left : (captured octets draws).left ≡ drawing []
   pub told : out ≡ output_of empty (captured octets draws).occurrences
@@ -28,31 +28,31 @@ pub record IsWhole (octets draws out : List ℕ) (stop : CaptureStop) : Type 0 w
 -- source is at its end. With Script the lines before the named one are handled, and with Capture the records before the
 -- first fault: it is that fault, whatever would come behind what was read; Unended and Cut come only at the source's end.
 -- With Noise a draw comes next. With every other status a prefix was written.
-abbrev pub Ends : Status → List ℕ → List ℕ → List ℕ → Option (List ℕ) → Type 0
-Ends statuses.Done octets draws out left = (IsWhole octets draws out (InScript BehindAll) ⊎ IsWhole octets draws out (InCapture None)) × AtEnd left
-Ends (statuses.Script n fault) octets draws out left =
-    IsWhole octets draws out (InScript (AtFault n fault)) × (fault ≡ Unended → AtEnd left)
+abbrev pub CaptureEnds : Status → List ℕ → List ℕ → List ℕ → Option (List ℕ) → Type 0
+CaptureEnds statuses.Done octets draws out left = (IsWholeCapture octets draws out (InScript BehindAll) ⊎ IsWholeCapture octets draws out (InCapture None)) × AtEnd left
+CaptureEnds (statuses.Script n fault) octets draws out left =
+    IsWholeCapture octets draws out (InScript (AtFault n fault)) × (fault ≡ Unended → AtEnd left)
     × (¬ (fault ≡ Unended) → (more : List ℕ) → (captured (octets ++ more) draws).stop ≡ InScript (AtFault n fault))
-Ends (statuses.Capture offset fault) octets draws out left =
-    IsWhole octets draws out (InCapture (Some (offset, fault))) × (fault ≡ Cut → AtEnd left)
+CaptureEnds (statuses.Capture offset fault) octets draws out left =
+    IsWholeCapture octets draws out (InCapture (Some (offset, fault))) × (fault ≡ Cut → AtEnd left)
     × (¬ (fault ≡ Cut) → (more : List ℕ) → (captured (octets ++ more) draws).stop ≡ InCapture (Some (offset, fault)))
-Ends statuses.Noise octets draws out left = IsWhole octets draws out (InScript ForDraw)
-Ends statuses.Read octets draws out left = IsPrefixOf out (output_of empty (captured octets draws).occurrences)
-Ends statuses.Write octets draws out left = IsPrefixOf out (output_of empty (captured octets draws).occurrences)
-Ends statuses.NoMemory octets draws out left = IsPrefixOf out (output_of empty (captured octets draws).occurrences)
-Ends other octets draws out left = ⊥
+CaptureEnds statuses.Noise octets draws out left = IsWholeCapture octets draws out (InScript ForDraw)
+CaptureEnds statuses.Read octets draws out left = IsPrefixOf out (output_of empty (captured octets draws).occurrences)
+CaptureEnds statuses.Write octets draws out left = IsPrefixOf out (output_of empty (captured octets draws).occurrences)
+CaptureEnds statuses.NoMemory octets draws out left = IsPrefixOf out (output_of empty (captured octets draws).occurrences)
+CaptureEnds other octets draws out left = ⊥
 
 -- The run read these octets, of which there are at most 2^30 + 1, drew these, and wrote those.
-pub record IsCapture (status : Status) (old new : Tellings) (octets draws out : List ℕ) : Type 0 where
+pub record IsCapture (status : Status) (old new : ReplayTellings) (octets draws out : List ℕ) : Type 0 where
   pub took : TookIn old.left new.left octets
   pub drew : Added old.drawn new.drawn draws
   pub wrote : Wrote old.written new.written out
-  pub ends : Ends status octets draws out new.left
+  pub ends : CaptureEnds status octets draws out new.left
   pub bound : length octets ≤ 2 ^ 30 + 1
 
 -- The lines up to the one behind which a capture begins were read, and more octets, which wait; all that the lines tell
 -- was written.
-pub record IsBehindScript (old new : Tellings) (script : Reading) (stands_for : World → Type 0) (octets draws out : List ℕ) : Type 0 where
+pub record IsBehindScript (old new : ReplayTellings) (script : Reading) (stands_for : World → Type 0) (octets draws out : List ℕ) : Type 0 where
   pub lines : List ℕ
   pub events : List Event
   pub split : octets ≡ lines ++ script.waits
@@ -66,7 +66,7 @@ pub record IsBehindScript (old new : Tellings) (script : Reading) (stands_for : 
   pub told : out ≡ output events
   pub stands : stands_for (world_after empty events)
 
-abbrev pub IsScriptPlayed : Result (Unit {0}) Status → Tellings → Tellings → Reading → (World → Type 0) → List ℕ → List ℕ → List ℕ → Type 0
+abbrev pub IsScriptPlayed : Result (Unit {0}) Status → ReplayTellings → ReplayTellings → Reading → (World → Type 0) → List ℕ → List ℕ → List ℕ → Type 0
 IsScriptPlayed (Ok u) old new script stands_for octets draws out = IsBehindScript old new script stands_for octets draws out
 IsScriptPlayed (Err status) old new script stands_for octets draws out = IsCapture status old new octets draws out
 
@@ -76,5 +76,5 @@ pub record IsFaultless (octets : List ℕ) : Type 0 where
   pub capture : (draws : List ℕ) (fault : ℕ × CaptureFault) → ¬ ((captured octets draws).stop ≡ InCapture (Some fault))
 
 -- Where the source's octets have no fault, the run handles them to their end, or memory runs out.
-abbrev pub IsComplete : Status → Option (List ℕ) → Option (List ℕ) → Type 0
-IsComplete status left left' = (all rest : List ℕ) → left ≡ Some all → left' ≡ Some rest → IsFaultless all → (status ≡ statuses.Done) ⊎ (status ≡ statuses.NoMemory)
+abbrev pub IsCompleteCapture : Status → Option (List ℕ) → Option (List ℕ) → Type 0
+IsCompleteCapture status left left' = (all rest : List ℕ) → left ≡ Some all → left' ≡ Some rest → IsFaultless all → (status ≡ statuses.Done) ⊎ (status ≡ statuses.NoMemory)

@@ -9,7 +9,7 @@ use Rattle.sg_pcap.specs.Frames.{frame_of}
 use Rattle.sg_pcap.specs.declared.faults.CaptureFault.{CaptureFault}
 use Rattle.sg_pcap.specs.declared.faults.CaptureFault.TheVariants.{Cut}
 use Rattle.sg_playback.specs.Playing.{IsWant}
-use Rattle.sg_trace.specs.Captured.{Happens, Occurrence, capture_occurs, events_in, frame_occurs, moment_in, output_of}
+use Rattle.sg_trace.specs.Captured.{Happens, Occurrence, capture_occurs, captured_events, frame_occurs, moment_in, output_of}
 use Rattle.sg_trace.specs.Output.{IsPrefixOf}
 use Rattle.sg_trace.specs.Trace.{ticks_at}
 use Rattle.sg_trace.specs.declared.status.Status.{Status}
@@ -29,7 +29,7 @@ pub record IsToldOf (w : World) (waited waits : List Event) (os : List Occurrenc
   pub told : List Occurrence
   pub all : map Happens waited ++ os ≡ told ++ map Happens waits
   pub written : out ≡ output_of w told
-  pub stands : stands_for (world_after w (events_in told))
+  pub stands : stands_for (world_after w (captured_events told))
 
 -- It is so; or the sink failed or memory ran out, and a prefix of what they tell was written.
 abbrev pub IsMet : Result (Unit {0}) Status → World → List Event → List Event → List Occurrence → (World → Type 0) → List ℕ → Type 0

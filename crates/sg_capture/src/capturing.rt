@@ -1,7 +1,7 @@
 //! The command `capture`: the lines of a script, and then a capture.
 
 ghost use Rattle.std.specs.Prelude.{◌≡◌, ◌≤◌, ◌+◌, ◌^◌, ℕ, List, [], OnOk};
-ghost use Rattle.sg_capture.specs.Capturing.{IsCapture, IsComplete, IsScriptPlayed};
+ghost use Rattle.sg_capture.specs.Capturing.{IsCapture, IsCompleteCapture, IsScriptPlayed};
 ghost use Rattle.sg_edge.specs.Told.{Rose};
 ghost use Rattle.sg_gateway.specs.World.{empty};
 ghost use Rattle.sg_table.specs.Standing.{TableStandsFor};
@@ -37,7 +37,7 @@ pub fn capture<R: Threads + Sync, S: Source, K: Sink, N: Noise, G: Gate + Sync>(
     ensures write { HasFailed (result ≡ Status.Write) (K.faults sink.old) (K.faults sink.new) (K.failed sink.new) }
     ensures noise { HasFailed (result ≡ Status.Noise) (N.faults noise.old) (N.faults noise.new) (N.failed noise.new) }
     ensures complete { ¬ Rose (S.faults source.old) (S.faults source.new) → ¬ Rose (K.faults sink.old) (K.faults sink.new) → ¬ Rose (N.faults noise.old) (N.faults noise.new)
-        → IsComplete result (S.left source.old) (S.left source.new) }
+        → IsCompleteCapture result (S.left source.old) (S.left source.new) }
 {
     match Player::make(alloc, 1) {
         Err(NoMemory) => Status::NoMemory,

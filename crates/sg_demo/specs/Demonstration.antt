@@ -104,8 +104,8 @@ abbrev pub demonstration : ℕ → ℕ → Summary
 demonstration calls start = (demo_of calls start).summary
 
 -- the gateway's events in it
-abbrev pub events_in : ℕ → ℕ → List Event
-events_in calls start = (demo_of calls start).events
+abbrev pub events_shown : ℕ → ℕ → List Event
+events_shown calls start = (demo_of calls start).events
 
 -- the table has taken the first of these events, up to some of them
 pub record HasTakenPrefix (table : TableValue) (events : List Event) : Type 0 where

@@ -4,7 +4,7 @@ ghost use Rattle.std.specs.Prelude.{◌≡◌, ◌≤◌, ◌<◌, IfOk, OnOk, O
 ghost use Rattle.sg_gateway.specs.World.{empty};
 ghost use Rattle.sg_gateway.specs.Runs.{world_after};
 ghost use Rattle.sg_table.specs.Standing.{TableStandsFor};
-ghost use Rattle.sg_demo.specs.Demonstration.{demonstration, events_in, HasTakenPrefix};
+ghost use Rattle.sg_demo.specs.Demonstration.{demonstration, events_shown, HasTakenPrefix};
 
 use crate::state::Demo;
 use crate::summary::Summary;
@@ -34,8 +34,8 @@ pub fn traffic<R: Threads + Sync>(
     requires workers { 0 < workers }
     requires empty { TableStandsFor table.old empty }
     ensures summary { IfOk result (λ summary. summary ≡ demonstration calls start) }
-    ensures table { OnOk result (TableStandsFor table.new (world_after empty (events_in calls start))) }
-    ensures failed { OnErr result (HasTakenPrefix table.new (events_in calls start)) }
+    ensures table { OnOk result (TableStandsFor table.new (world_after empty (events_shown calls start))) }
+    ensures failed { OnErr result (HasTakenPrefix table.new (events_shown calls start)) }
 {
     gated_traffic(rt, alloc, calls, start, table, workers, &OpenGate)
 }
@@ -55,8 +55,8 @@ pub(crate) fn gated_traffic<R: Threads + Sync, G: Gate + Sync>(
     requires workers { 0 < workers }
     requires empty { TableStandsFor table.old empty }
     ensures summary { IfOk result (λ summary. summary ≡ demonstration calls start) }
-    ensures table { OnOk result (TableStandsFor table.new (world_after empty (events_in calls start))) }
-    ensures failed { OnErr result (HasTakenPrefix table.new (events_in calls start)) }
+    ensures table { OnOk result (TableStandsFor table.new (world_after empty (events_shown calls start))) }
+    ensures failed { OnErr result (HasTakenPrefix table.new (events_shown calls start)) }
 {
     let mut demo = Demo::new(alloc, start);
     for number in 0..calls {

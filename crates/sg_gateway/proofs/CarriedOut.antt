@@ -24,7 +24,7 @@ use Rattle.sg_gateway.specs.CarriedOut.{IsKeptTo}
 use Rattle.sg_gateway.specs.Generations.{Settled, is_current, is_opening, keyed}
 use Rattle.sg_gateway.specs.Order.{IsBefore}
 use Rattle.sg_gateway.specs.Refusing.{IsRefusal}
-use Rattle.sg_gateway.specs.Signals.{Reject, Bye, answer, refused, ended, ticked, in_old, offering_side, tells_answer, answered, rejected_to, rejected, left, answer_to}
+use Rattle.sg_gateway.specs.Signals.{Reject, Bye, answer, refused, tells_ended, ticked, in_old, offering_side, tells_answer, answered, rejected_to, rejected, left, answer_to}
 use Rattle.sg_gateway.specs.Step.{Signalled}
 use Rattle.sg_gateway.specs.World.{Books, Call, World, call_of, find_call, same_id, with_call}
 
@@ -57,7 +57,7 @@ pub tick_moves : (w : World) (now : ℕ) → w.moment ≤ now → (ticked w now)
 tick_moves w now le = go (ltb now w.moment) refl
   where
     go : (b : Bool) → ltb now w.moment ≡ b
-        → (cond b (refused w None (TickBack w.moment)) (answer (map (ended why.Idle) (filter (is_idle now) w.calls))
+        → (cond b (refused w None (TickBack w.moment)) (answer (map (tells_ended why.Idle) (filter (is_idle now) w.calls))
         (record w { calls = map (call_at_tick now) (filter (λ c. not (is_idle now c)) w.calls); moment = now }))).world.moment ≡ now
     go true is = let lt = ltb-true now w.moment is in absurd (omega (arith, le, lt))
     go false is = refl
@@ -224,7 +224,7 @@ pub tick_keeps : (w : World) (now : ℕ) → AllByRecursion (λ c. now < c.momen
 tick_keeps w now = go (ltb now w.moment)
   where
     go : (b : Bool) → AllByRecursion (λ c. now < c.moment + 60000 → Any (IsKeptTo now c)
-        (cond b (refused w None (TickBack w.moment)) (answer (map (ended why.Idle) (filter (is_idle now) w.calls))
+        (cond b (refused w None (TickBack w.moment)) (answer (map (tells_ended why.Idle) (filter (is_idle now) w.calls))
         (record w { calls = map (call_at_tick now) (filter (λ c. not (is_idle now c)) w.calls); moment = now }))).world.calls) w.calls
     go true = each_weaker (λ c. Any (λ y. y ≡ c) w.calls) (λ c. now < c.moment + 60000 → Any (IsKeptTo now c) w.calls) (λ c a busy. any_weaker (λ y. y ≡ c) (IsKeptTo now c) (λ y same. subst (IsKeptTo now c) (sym same) (itself now c)) w.calls a) w.calls (each_among w.calls)
     go false =

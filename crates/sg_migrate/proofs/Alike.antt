@@ -29,7 +29,7 @@ use Rattle.sg_lines.specs.declared.lines.Line.{Line}
 use Rattle.sg_lines.specs.declared.lines.Line.TheVariants as lines
 use Rattle.sg_lines.specs.declared.lines.Signal as scripts
 use Rattle.sg_lines.specs.declared.lines.Signal.TheVariants.{Tick, Psk, Manual, OfferSecure, OfferSdes, OfferMikey, Answer, Reject, Bye}
-use Rattle.sg_migrate.specs.Migrated.{IsOfVersionOne, after_line, migrated, migration_from, moment_after, of_version_one}
+use Rattle.sg_migrate.specs.Migrated.{IsOfVersionOne, migrated_behind, migrated, migration_from, moment_after, of_version_one}
 use Rattle.sg_outcome.specs.declared.outcomes.Outcome.{Outcome}
 use Rattle.sg_psk.specs.Pairs.{has_pair}
 use Rattle.sg_session.proofs.Lists.{both}
@@ -291,8 +291,8 @@ module _ (grammar : Grammar) where
           ∙ of_supplied again signal fits.1 (at' + length (line_text (lines.Signal signal))) (omega (arith, within, size)) (supplied o.draws (lines.Signal signal)) refl
 
       by_line : (r : Result Line ScriptFault) → line_at 1 n at l ≡ r → Again
-          → at' + length (after_line n moment (of_version_one r) (λ m. migration_from (n + 1) (at + length l) m ls)).text ≤ 2 ^ 30
-          → Alike w (trace_from Replays 2 n at' (lines_of (after_line n moment (of_version_one r) (λ m. migration_from (n + 1) (at + length l) m ls)).text) top o)
+          → at' + length (migrated_behind n moment (of_version_one r) (λ m. migration_from (n + 1) (at + length l) m ls)).text ≤ 2 ^ 30
+          → Alike w (trace_from Replays 2 n at' (lines_of (migrated_behind n moment (of_version_one r) (λ m. migration_from (n + 1) (at + length l) m ls)).text) top o)
           (said_line Replays 1 n r (λ v. trace_from Replays v (n + 1) (at + length l) ls) top o)
       by_line (Err fault) e again within = refl
       by_line (Ok lines.Header) e again within = absurd (let first : n ≡ 1 = fits_at n at l lines.Header e in omega (arith, first, later))
@@ -313,8 +313,8 @@ module _ (grammar : Grammar) where
     -- the header, and the lines behind it
     module _ (octets draws : List ℕ) (one : IsOfVersionOne octets) where
       first_line : (l : List ℕ) (ls : List (List ℕ)) → lines_of octets ≡ l ∷ ls → (r : Result Line ScriptFault) → line_at 1 1 0 l ≡ r
-          → length (after_line 1 0 (of_version_one r) (λ m. migration_from 2 (0 + length l) m ls)).text ≤ 2 ^ 30
-          → Alike empty (trace_from Replays 1 1 0 (lines_of (after_line 1 0 (of_version_one r) (λ m. migration_from 2 (0 + length l) m ls)).text) 0 (drawing draws))
+          → length (migrated_behind 1 0 (of_version_one r) (λ m. migration_from 2 (0 + length l) m ls)).text ≤ 2 ^ 30
+          → Alike empty (trace_from Replays 1 1 0 (lines_of (migrated_behind 1 0 (of_version_one r) (λ m. migration_from 2 (0 + length l) m ls)).text) 0 (drawing draws))
           (said_line Replays 1 1 r (λ v. trace_from Replays v 2 (0 + length l) ls) 0 (drawing draws))
       first_line l ls split (Err fault) e within = refl
       first_line l ls split (Ok lines.HeaderTwo) e within =

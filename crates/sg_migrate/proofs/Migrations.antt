@@ -11,8 +11,8 @@ use Rattle.sg_lines.specs.LineText.{FitsLine, line_text}
 use Rattle.sg_lines.specs.ScriptLines.{IsWhole as IsWholeLine, lines_of}
 use Rattle.sg_lines.specs.declared.lines.Line.{Line}
 use Rattle.sg_lines.specs.declared.lines.Line.TheVariants as lines
-use Rattle.sg_migrate.specs.Migrated.{Migration, after_line, ended, migrated, migrated_line, migration, migration_from, moment_after, of_version_one, with_text}
-use Rattle.sg_migrate.specs.Migration.{Ends, IsComplete, IsMigration, IsWhole, Tellings}
+use Rattle.sg_migrate.specs.Migrated.{Migration, migrated_behind, ending_with, migrated, migrated_line, migration, migration_from, moment_after, of_version_one, with_text}
+use Rattle.sg_migrate.specs.Migration.{MigrationEnds, IsCompleteMigration, IsMigration, IsWholeMigration, MigrationTellings}
 use Rattle.sg_trace.specs.Output.{IsPrefixOf, IsWritten}
 use Rattle.sg_trace.specs.Reading.{FirstFails, IsFault, IsNext, IsRead, Reading}
 use Rattle.sg_trace.specs.Trace.{line_at}
@@ -23,16 +23,16 @@ use Rattle.sg_trace.specs.declared.status.Status.TheVariants.{Done, Usage, Scrip
 
 -- a line that is read
 reads_on : (n at moment : ℕ) (line rest : List ℕ) (l : Line) → IsWholeLine line → line_at 1 n at line ≡ Ok l
-    → migration_from n at moment (lines_of (line ++ rest)) ≡ after_line n moment (of_version_one (Ok l)) (λ m. migration_from (n + 1) (at + length line) m (lines_of rest))
+    → migration_from n at moment (lines_of (line ++ rest)) ≡ migrated_behind n moment (of_version_one (Ok l)) (λ m. migration_from (n + 1) (at + length line) m (lines_of rest))
 reads_on n at moment line rest l whole is =
     ap (migration_from n at moment) (lines_of_whole line rest whole)
-    ∙ ap (λ r. after_line n moment (of_version_one r) (λ m. migration_from (n + 1) (at + length line) m (lines_of rest))) is
+    ∙ ap (λ r. migrated_behind n moment (of_version_one r) (λ m. migration_from (n + 1) (at + length line) m (lines_of rest))) is
 
 -- a line outside the grammar
-stops_at : (n at moment : ℕ) (octets : List ℕ) (fault : ScriptFault) → FirstFails 1 n at octets fault → migration_from n at moment (lines_of octets) ≡ ended (Some (n, fault))
+stops_at : (n at moment : ℕ) (octets : List ℕ) (fault : ScriptFault) → FirstFails 1 n at octets fault → migration_from n at moment (lines_of octets) ≡ ending_with (Some (n, fault))
 stops_at n at moment octets fault first =
     ap (migration_from n at moment) first.split
-    ∙ ap (λ r. after_line n moment (of_version_one r) (λ m. migration_from (n + 1) (at + length first.line) m first.others)) first.fails
+    ∙ ap (λ r. migrated_behind n moment (of_version_one r) (λ m. migration_from (n + 1) (at + length first.line) m first.others)) first.fails
 
 with_text_again : (a b : List ℕ) (m : Migration) → with_text a (with_text b m) ≡ with_text (a ++ b) m
 with_text_again a b m = ap (λ (l : List ℕ). record m { text = l }) (sym (append_assoc a b m.text))
@@ -56,12 +56,12 @@ version_stays version (lines.Signal signal) m one is = one
 -- ---- what was read and written
 
 -- The migration has taken whole lines and written theirs.
-pub record IsMigrating (old now : Tellings) (taken waits out : List ℕ) (moment n at : ℕ) : Type 0 where
+pub record IsMigrating (old now : MigrationTellings) (taken waits out : List ℕ) (moment n at : ℕ) : Type 0 where
   pub took : TookIn old.left now.left (taken ++ waits)
   pub wrote : Wrote old.written now.written out
   pub goes : (rest : List ℕ) → migration (taken ++ rest) ≡ with_text out (migration_from n at moment (lines_of rest))
 
-module _ (old now : Tellings) (taken out : List ℕ) (moment : ℕ) (script : Reading) (going : IsMigrating old now taken script.waits out moment script.number script.offset) (one : script.version ≡ 1)
+module _ (old now : MigrationTellings) (taken out : List ℕ) (moment : ℕ) (script : Reading) (going : IsMigrating old now taken script.waits out moment script.number script.offset) (one : script.version ≡ 1)
     (left' : Option (List ℕ)) (got : List ℕ) (came : TookIn now.left left' got) where
   -- the octets read by then
   abbrev pub octets : List ℕ
@@ -78,18 +78,18 @@ module _ (old now : Tellings) (taken out : List ℕ) (moment : ℕ) (script : Re
   pub is_prefix : IsPrefixOf out (migrated octets)
   is_prefix = ((made (script.waits ++ got)).text, ap (λ (m : Migration). m.text) (going.goes (script.waits ++ got)))
 
-  whole_so : (fault : Option (ℕ × ScriptFault)) → made (script.waits ++ got) ≡ ended fault → IsWhole octets out fault
+  whole_so : (fault : Option (ℕ × ScriptFault)) → made (script.waits ++ got) ≡ ending_with fault → IsWholeMigration octets out fault
   whole_so fault stops =
       let is = going.goes (script.waits ++ got) ∙ ap (with_text out) stops in
       record { written = sym (ap (λ (m : Migration). m.text) is ∙ append-nil out); stops = ap (λ (m : Migration). m.fault) is }
 
   -- at the end of the source
-  pub ends_whole : script.waits ++ got ≡ [] → AtEnd left' → Ends Done octets out left'
+  pub ends_whole : script.waits ++ got ≡ [] → AtEnd left' → MigrationEnds Done octets out left'
   ends_whole none end = (whole_so None (ap made none), end)
 
   -- at a line outside the grammar
-  ends_stopped : (fault : ScriptFault) → made (script.waits ++ got) ≡ ended (Some (script.number, fault)) → (fault ≡ Unended → AtEnd left')
-      → (¬ (fault ≡ Unended) → (more : List ℕ) → made ((script.waits ++ got) ++ more) ≡ ended (Some (script.number, fault))) → Ends (Script script.number fault) octets out left'
+  ends_stopped : (fault : ScriptFault) → made (script.waits ++ got) ≡ ending_with (Some (script.number, fault)) → (fault ≡ Unended → AtEnd left')
+      → (¬ (fault ≡ Unended) → (more : List ℕ) → made ((script.waits ++ got) ++ more) ≡ ending_with (Some (script.number, fault))) → MigrationEnds (Script script.number fault) octets out left'
   ends_stopped fault stops end still = (
     whole_so (Some (script.number, fault)) stops,
     end,
@@ -98,15 +98,15 @@ module _ (old now : Tellings) (taken out : List ℕ) (moment : ℕ) (script : Re
         ∙ sym (going.goes (script.waits ++ got)),
   )
 
-  ends_at_fault : (fault : ScriptFault) → IsFault 1 script.number script.offset (script.waits ++ got) fault left' → Ends (Script script.number fault) octets out left'
+  ends_at_fault : (fault : ScriptFault) → IsFault 1 script.number script.offset (script.waits ++ got) fault left' → MigrationEnds (Script script.number fault) octets out left'
   ends_at_fault fault is =
       ends_stopped fault (stops_at script.number script.offset moment (script.waits ++ got) fault is.first) is.ended
       (λ other more. stops_at script.number script.offset moment ((script.waits ++ got) ++ more) fault (is.still other more))
 
   -- where no line was read
-  pub ends_at_err : (status : Status) (new : Reading) → IsNext (Err status) script new got left' → Ends status octets out left'
+  pub ends_at_err : (status : Status) (new : Reading) → IsNext (Err status) script new got left' → MigrationEnds status octets out left'
   ends_at_err (Script n fault) new next =
-      subst (λ (m : ℕ). Ends (Script m fault) octets out left') (sym next.0)
+      subst (λ (m : ℕ). MigrationEnds (Script m fault) octets out left') (sym next.0)
       (ends_at_fault fault
       (subst (λ (v : ℕ). IsFault v script.number script.offset (script.waits ++ got) fault left') one
       (subst (λ (m : ℕ). IsFault script.version m script.offset (script.waits ++ got) fault left') next.0 next.1)))
@@ -126,17 +126,17 @@ module _ (old now : Tellings) (taken out : List ℕ) (moment : ℕ) (script : Re
     abbrev later : List ℕ → ℕ → Migration
     later rest m = migration_from (script.number + 1) (script.offset + length read.line) m (lines_of rest)
 
-    line_goes : (rest : List ℕ) (r : Result Line ScriptFault) → of_version_one (Ok l) ≡ r → made (read.line ++ rest) ≡ after_line script.number moment r (later rest)
+    line_goes : (rest : List ℕ) (r : Result Line ScriptFault) → of_version_one (Ok l) ≡ r → made (read.line ++ rest) ≡ migrated_behind script.number moment r (later rest)
     line_goes rest r is =
         reads_on script.number script.offset moment read.line rest l read.whole (subst (λ (v : ℕ). line_at v script.number script.offset read.line ≡ Ok l) one read.is)
-        ∙ ap (λ (r : Result Line ScriptFault). after_line script.number moment r (later rest)) is
+        ∙ ap (λ (r : Result Line ScriptFault). migrated_behind script.number moment r (later rest)) is
 
     -- at the other header, which is the first line
-    pub ends_at_header : (fault : ScriptFault) → FitsLine script.version script.number l → of_version_one (Ok l) ≡ Err fault → Ends (Script 1 fault) octets out left'
+    pub ends_at_header : (fault : ScriptFault) → FitsLine script.version script.number l → of_version_one (Ok l) ≡ Err fault → MigrationEnds (Script 1 fault) octets out left'
     ends_at_header fault fits is =
         let so = refused_so l fault is in
         let first : script.number ≡ 1 = subst (FitsLine script.version script.number) so.0 fits in
-        subst (λ (n : ℕ). Ends (Script n fault) octets out left') first
+        subst (λ (n : ℕ). MigrationEnds (Script n fault) octets out left') first
         (ends_stopped fault (ap made read.split ∙ line_goes new.waits (Err fault) is) (λ same. absurd (version_unended (sym so.1 ∙ same)))
         (λ other more. ap made (ap (λ (o : List ℕ). o ++ more) read.split ∙ append_assoc read.line new.waits more) ∙ line_goes (new.waits ++ more) (Err fault) is))
       where
@@ -162,7 +162,7 @@ module _ (old now : Tellings) (taken out : List ℕ) (moment : ℕ) (script : Re
           )
 
       -- where it isn't written
-      pub ends_unwritten : (status : Status) (a b : Option (List ℕ)) (part : List ℕ) → IsWritten (Err status) a b wrote_line → IsPrefixOf part wrote_line → Ends status octets (out ++ part) left'
+      pub ends_unwritten : (status : Status) (a b : Option (List ℕ)) (part : List ℕ) → IsWritten (Err status) a b wrote_line → IsPrefixOf part wrote_line → MigrationEnds status octets (out ++ part) left'
       ends_unwritten Write a b part written prefix = prefix_so part prefix
       ends_unwritten NoMemory a b part written prefix = prefix_so part prefix
       ends_unwritten Done a b part written prefix = absurd written
@@ -203,7 +203,7 @@ pub bounded : (taken waits got : List ℕ) (at budget budget' : ℕ) → length 
 bounded taken waits got at budget budget' size room paid = omega (arith, size, room, paid, length-append taken (waits ++ got), length-append waits got)
 
 -- nothing is read or written yet
-pub begins : (old : Tellings) (script : Reading) → script ≡ record { waits = []; version = 1; number = 1; offset = 0; budget = 2 ^ 30 + 1 }
+pub begins : (old : MigrationTellings) (script : Reading) → script ≡ record { waits = []; version = 1; number = 1; offset = 0; budget = 2 ^ 30 + 1 }
     → IsMigrating old old [] script.waits [] 0 script.number script.offset
 begins old script is = record {
   took = subst (λ (s : Reading). TookIn old.left old.left s.waits) (sym is) (λ after left. left);
@@ -221,7 +221,7 @@ some_none : (n : ℕ) (fault : ScriptFault) → (let none : Option (ℕ × Scrip
 some_none n fault is = cc
 
 -- no fault is told of a script of version 1
-module _ (left left' : Option (List ℕ)) (octets out : List ℕ) (n : ℕ) (fault : ScriptFault) (took : TookIn left left' octets) (ends : Ends (Script n fault) octets out left')
+module _ (left left' : Option (List ℕ)) (octets out : List ℕ) (n : ℕ) (fault : ScriptFault) (took : TookIn left left' octets) (ends : MigrationEnds (Script n fault) octets out left')
     (all rest : List ℕ) (told : left ≡ Some all) (told' : left' ≡ Some rest) (whole : (migration all).fault ≡ None) where
   all_is : all ≡ octets ++ rest
   all_is = let both : Some all ≡ Some (octets ++ rest) = sym told ∙ took rest told' in cc
@@ -240,7 +240,7 @@ module _ (left left' : Option (List ℕ)) (octets out : List ℕ) (n : ℕ) (fau
       at Length is = faultless (ends.2 (λ end. (let same : Length ≡ Unended = sym is ∙ end in cc)) rest)
       at Version is = faultless (ends.2 (λ end. (let same : Version ≡ Unended = sym is ∙ end in cc)) rest)
 
-pub complete : (status : Status) (old new : Tellings) (octets out : List ℕ) → IsMigration status old new octets out → (status ≡ Read → ⊥) → (status ≡ Write → ⊥) → IsComplete status old.left new.left
+pub complete : (status : Status) (old new : MigrationTellings) (octets out : List ℕ) → IsMigration status old new octets out → (status ≡ Read → ⊥) → (status ≡ Write → ⊥) → IsCompleteMigration status old.left new.left
 complete Done old new read out run a b = λ all rest told told' whole. inl refl
 complete NoMemory old new read out run a b = λ all rest told told' whole. inr refl
 complete Read old new read out run a b = absurd (a refl)

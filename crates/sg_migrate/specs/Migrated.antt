@@ -36,20 +36,20 @@ pub record Migration : Type 0 where
   pub fault : Option (ℕ × ScriptFault)
 
 -- nothing more is written
-abbrev pub ended : Option (ℕ × ScriptFault) → Migration
-ended fault = record { text = []; fault = fault }
+abbrev pub ending_with : Option (ℕ × ScriptFault) → Migration
+ending_with fault = record { text = []; fault = fault }
 
 abbrev pub with_text : List ℕ → Migration → Migration
 with_text prefix m = record m { text = prefix ++ m.text }
 
-abbrev pub after_line : ℕ → ℕ → Result Line ScriptFault → (ℕ → Migration) → Migration
-after_line n moment (Err fault) later = ended (Some (n, fault))
-after_line n moment (Ok l) later = with_text (line_text (migrated_line moment l)) (later (moment_after moment l))
+abbrev pub migrated_behind : ℕ → ℕ → Result Line ScriptFault → (ℕ → Migration) → Migration
+migrated_behind n moment (Err fault) later = ending_with (Some (n, fault))
+migrated_behind n moment (Ok l) later = with_text (line_text (migrated_line moment l)) (later (moment_after moment l))
 
 -- the lines from the n-th on, which begin at this offset, by the greatest moment of the ticks before them
 abbrev pub migration_from : ℕ → ℕ → ℕ → List (List ℕ) → Migration
-migration_from n at moment [] = ended None
-migration_from n at moment (l ∷ ls) = after_line n moment (of_version_one (line_at 1 n at l)) (λ m. migration_from (n + 1) (at + length l) m ls)
+migration_from n at moment [] = ending_with None
+migration_from n at moment (l ∷ ls) = migrated_behind n moment (of_version_one (line_at 1 n at l)) (λ m. migration_from (n + 1) (at + length l) m ls)
 
 abbrev pub migration : List ℕ → Migration
 migration octets = migration_from 1 0 0 (lines_of octets)

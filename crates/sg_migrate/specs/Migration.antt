@@ -9,7 +9,7 @@ use Rattle.sg_trace.specs.declared.status.Status.{Status}
 use Rattle.sg_trace.specs.declared.status.Status.TheVariants.{Done, Usage, Script, Read, Write, Link, NoMemory, Clock, Noise, TurnsSpent, Capture}
 
 -- All lines before that fault were written, or all of them where there is none.
-pub record IsWhole (octets out : List ℕ) (fault : Option (ℕ × ScriptFault)) : Type 0 where
+pub record IsWholeMigration (octets out : List ℕ) (fault : Option (ℕ × ScriptFault)) : Type 0 where
   pub written : out ≡ migrated octets
   pub stops : (migration octets).fault ≡ fault
 
@@ -17,33 +17,33 @@ pub record IsWhole (octets out : List ℕ) (fault : Option (ℕ × ScriptFault))
 -- source is at its end. With Script the lines before the named one are migrated, and the named line is the first
 -- outside the grammar, with its first fault, whatever would come behind what was read; Unended comes only at the
 -- source's end. With every other status a prefix was written.
-abbrev pub Ends : Status → List ℕ → List ℕ → Option (List ℕ) → Type 0
-Ends Done octets out left = IsWhole octets out None × AtEnd left
-Ends (Script n fault) octets out left =
-    IsWhole octets out (Some (n, fault)) × (fault ≡ Unended → AtEnd left)
+abbrev pub MigrationEnds : Status → List ℕ → List ℕ → Option (List ℕ) → Type 0
+MigrationEnds Done octets out left = IsWholeMigration octets out None × AtEnd left
+MigrationEnds (Script n fault) octets out left =
+    IsWholeMigration octets out (Some (n, fault)) × (fault ≡ Unended → AtEnd left)
     × (¬ (fault ≡ Unended) → (more : List ℕ) → migration (octets ++ more) ≡ migration octets)
-Ends Read octets out left = IsPrefixOf out (migrated octets)
-Ends Write octets out left = IsPrefixOf out (migrated octets)
-Ends NoMemory octets out left = IsPrefixOf out (migrated octets)
-Ends Usage octets out left = ⊥
-Ends Link octets out left = ⊥
-Ends Clock octets out left = ⊥
-Ends Noise octets out left = ⊥
-Ends TurnsSpent octets out left = ⊥
-Ends (Capture offset fault) octets out left = ⊥
+MigrationEnds Read octets out left = IsPrefixOf out (migrated octets)
+MigrationEnds Write octets out left = IsPrefixOf out (migrated octets)
+MigrationEnds NoMemory octets out left = IsPrefixOf out (migrated octets)
+MigrationEnds Usage octets out left = ⊥
+MigrationEnds Link octets out left = ⊥
+MigrationEnds Clock octets out left = ⊥
+MigrationEnds Noise octets out left = ⊥
+MigrationEnds TurnsSpent octets out left = ⊥
+MigrationEnds (Capture offset fault) octets out left = ⊥
 
 -- what a source and a sink tell
-pub record Tellings : Type 0 where
+pub record MigrationTellings : Type 0 where
   pub left : Option (List ℕ)
   pub written : Option (List ℕ)
 
 -- The migration read these octets, of which there are at most 2^30 + 1, and wrote those.
-pub record IsMigration (status : Status) (old new : Tellings) (octets out : List ℕ) : Type 0 where
+pub record IsMigration (status : Status) (old new : MigrationTellings) (octets out : List ℕ) : Type 0 where
   pub took : TookIn old.left new.left octets
   pub wrote : Wrote old.written new.written out
-  pub ends : Ends status octets out new.left
+  pub ends : MigrationEnds status octets out new.left
   pub bound : length octets ≤ 2 ^ 30 + 1
 
 -- Where the source's octets are a script of version 1, the migration writes it to its end, or memory runs out.
-abbrev pub IsComplete : Status → Option (List ℕ) → Option (List ℕ) → Type 0
-IsComplete status left left' = (all rest : List ℕ) → left ≡ Some all → left' ≡ Some rest → (migration all).fault ≡ None → (status ≡ Done) ⊎ (status ≡ NoMemory)
+abbrev pub IsCompleteMigration : Status → Option (List ℕ) → Option (List ℕ) → Type 0
+IsCompleteMigration status left left' = (all rest : List ℕ) → left ≡ Some all → left' ≡ Some rest → (migration all).fault ≡ None → (status ≡ Done) ⊎ (status ≡ NoMemory)

@@ -3,7 +3,7 @@
 ghost use Rattle.std.specs.Prelude.{◌≡◌, ◌≤◌, ◌+◌, ◌^◌, ℕ, List};
 ghost use Rattle.sg_edge.specs.Told.{Rose};
 ghost use Rattle.sg_lines.specs.LineText.{line_text};
-ghost use Rattle.sg_migrate.specs.Migration.{IsComplete, IsMigration};
+ghost use Rattle.sg_migrate.specs.Migration.{IsCompleteMigration, IsMigration};
 ghost use Rattle.sg_trace.specs.Causes.{HasFailed, IsCaused};
 ghost use Rattle.sg_trace.specs.Output.{IsWritten};
 
@@ -26,7 +26,7 @@ pub fn migrate<S: Source, K: Sink>(alloc: Global, source: &mut S, sink: &mut K) 
     ensures read { HasFailed (result ≡ Status.Read) (S.faults source.old) (S.faults source.new) (S.failed source.new) }
     ensures write { HasFailed (result ≡ Status.Write) (K.faults sink.old) (K.faults sink.new) (K.failed sink.new) }
     ensures complete { ¬ Rose (S.faults source.old) (S.faults source.new) → ¬ Rose (K.faults sink.old) (K.faults sink.new)
-        → IsComplete result (S.left source.old) (S.left source.new) }
+        → IsCompleteMigration result (S.left source.old) (S.left source.new) }
 {
     let mut script = ScriptReader::new(alloc);
     let mut moment = 0;

@@ -7,7 +7,7 @@ use Rattle.std.proofs.lemmas.List.{drop-append-le, get_or_append_left, length-dr
 use Rattle.sg_base.proofs.Cases.{chosen}
 use Rattle.sg_pcap.proofs.Headers.{again, takes}
 use Rattle.sg_pcap.specs.Capture.{after_header, after_record, capture_of, counted, faulty, header_as_counted, header_fault, header_within, records_from, records_in, record_within, too_few, whole_record, with_record}
-use Rattle.sg_pcap.specs.Fields.{u16_at, u32_at}
+use Rattle.sg_pcap.specs.Fields.{u16_by_order, u32_by_order}
 use Rattle.sg_pcap.specs.Header.{form_of, header_as, header_of}
 use Rattle.sg_pcap.specs.Records.{fractions, length_by, record_length, record_of}
 use Rattle.sg_pcap.specs.declared.faults.CaptureFault.{CaptureFault}
@@ -20,13 +20,13 @@ use Rattle.sg_pcap.specs.declared.records.Record.{Record}
 at_front : (xs more : List ℕ) (i : ℕ) → i < length xs → slice_index (xs ++ more) i ≡ slice_index xs i
 at_front xs more i within = get_or_append_left xs more 0 i within
 
-u16_front : (big : Bool) (xs more : List ℕ) (at : ℕ) → at + 2 ≤ length xs → u16_at big (xs ++ more) at ≡ u16_at big xs at
+u16_front : (big : Bool) (xs more : List ℕ) (at : ℕ) → at + 2 ≤ length xs → u16_by_order big (xs ++ more) at ≡ u16_by_order big xs at
 u16_front big xs more at within =
     let a = at_front xs more at (omega (arith, within)) in
     let b = at_front xs more (at + 1) (omega (arith, within)) in
     λ i. cond big (a i * 256 + b i) (a i + b i * 256)
 
-u32_front : (big : Bool) (xs more : List ℕ) (at : ℕ) → at + 4 ≤ length xs → u32_at big (xs ++ more) at ≡ u32_at big xs at
+u32_front : (big : Bool) (xs more : List ℕ) (at : ℕ) → at + 4 ≤ length xs → u32_by_order big (xs ++ more) at ≡ u32_by_order big xs at
 u32_front big xs more at within =
     let a = u16_front big xs more at (omega (arith, within)) in
     let b = u16_front big xs more (at + 2) (omega (arith, within)) in
@@ -57,19 +57,19 @@ err_ok x y is = cc
 -- ---- headers
 
 abbrev link : Form → List ℕ → Result Form (ℕ × CaptureFault)
-link form ys = cond (not (eqb (u32_at form.big ys 20) 1)) (Err (20, LinkType)) (Ok form)
+link form ys = cond (not (eqb (u32_by_order form.big ys 20) 1)) (Err (20, LinkType)) (Ok form)
 
 abbrev at_link : Form → List ℕ → Result Form (ℕ × CaptureFault)
 at_link form ys = cond (ltb (length ys) 24) (Err (length ys, Cut)) (link form ys)
 
 abbrev minor : Form → List ℕ → Result Form (ℕ × CaptureFault)
-minor form ys = cond (not (eqb (u16_at form.big ys 6) 4)) (Err (4, Version)) (at_link form ys)
+minor form ys = cond (not (eqb (u16_by_order form.big ys 6) 4)) (Err (4, Version)) (at_link form ys)
 
 abbrev at_minor : Form → List ℕ → Result Form (ℕ × CaptureFault)
 at_minor form ys = cond (ltb (length ys) 8) (Err (length ys, Cut)) (minor form ys)
 
 abbrev major : Form → List ℕ → Result Form (ℕ × CaptureFault)
-major form ys = cond (not (eqb (u16_at form.big ys 4) 2)) (Err (4, Version)) (at_minor form ys)
+major form ys = cond (not (eqb (u16_by_order form.big ys 4) 2)) (Err (4, Version)) (at_minor form ys)
 
 module _ (xs : List ℕ) (fault : ℕ × CaptureFault) where
   abbrev Judged : (List ℕ → Result Form (ℕ × CaptureFault)) → Type 0
@@ -104,16 +104,16 @@ module _ (xs : List ℕ) (fault : ℕ × CaptureFault) where
   as_form None long is = inr (not_cut fault Magic (ap (λ (f : ℕ × CaptureFault). f.1) (err_is _ fault is)) (λ same. cc), λ more. is)
   as_form (Some form) long is =
       by_length 6 (major form) (omega arith) (λ six.
-      by_field (λ ys. u16_at form.big ys 4) 2 4 Version (at_minor form) (λ same. cc) (λ more. u16_front form.big xs more 4 (omega (arith, six)))
+      by_field (λ ys. u16_by_order form.big ys 4) 2 4 Version (at_minor form) (λ same. cc) (λ more. u16_front form.big xs more 4 (omega (arith, six)))
       (by_length 8 (minor form) (omega arith) (λ eight.
-      by_field (λ ys. u16_at form.big ys 6) 4 4 Version (at_link form) (λ same. cc) (λ more. u16_front form.big xs more 6 (omega (arith, eight)))
+      by_field (λ ys. u16_by_order form.big ys 6) 4 4 Version (at_link form) (λ same. cc) (λ more. u16_front form.big xs more 6 (omega (arith, eight)))
       (by_length 24 (link form) (omega arith) (λ whole.
-      by_field (λ ys. u32_at form.big ys 20) 1 20 LinkType (λ ys. Ok form) (λ same. cc) (λ more. u32_front form.big xs more 20 (omega (arith, whole)))
+      by_field (λ ys. u32_by_order form.big ys 20) 1 20 LinkType (λ ys. Ok form) (λ same. cc) (λ more. u32_front form.big xs more 20 (omega (arith, whole)))
       (λ none. absurd (ok_err form fault none))))))) is
 
   header_judged : header_of xs ≡ Err fault → Judged header_of
   header_judged is =
-      by_length 4 (λ ys. header_as ys (form_of (u32_at true ys 0))) (omega arith) (λ four said. elim (as_form (form_of (u32_at true xs 0)) four said) [
+      by_length 4 (λ ys. header_as ys (form_of (u32_by_order true ys 0))) (omega arith) (λ four said. elim (as_form (form_of (u32_by_order true xs 0)) four said) [
         | inl wants ↦ inl wants
         | inr stays ↦ inr (stays.0, λ more. ap (λ (v : ℕ). header_as (xs ++ more) (form_of v)) (u32_front true xs more 0 (omega (arith, four))) ∙ stays.1 more)
       ]) is
@@ -275,7 +275,7 @@ length_least form xs = by_bit (ltb (length xs) 12) (record_of form xs)
 -- ---- faults of records
 
 too_long : (form : Form) (xs : List ℕ) (f : CaptureFault) → record_of form xs ≡ Err f → ¬ (f ≡ Cut)
-too_long form xs f is same = elim (chosen (ltb 262144 (u32_at form.big xs 8)) _ _ (Err f) is) [
+too_long form xs f is same = elim (chosen (ltb 262144 (u32_by_order form.big xs 8)) _ _ (Err f) is) [
   | inl p ↦ (let length_is : Length ≡ f = fault_of p.1 in let both : Length ≡ Cut = length_is ∙ same in absurd (cut_length both))
   | inr p ↦ absurd (said_not p.1)
 ]

@@ -10,7 +10,7 @@
 --   UDP (RFC 768), 8 octets:    | source port: 16 bits | destination port: 16 bits | length: 16 bits | checksum: 16 bits |
 use Rattle.std.specs.Prelude.{ℕ, ◌+◌, ◌-◌, ◌*◌, ◌/◌, ◌%◌, true, Bool, ◌==◌, not, ◌||◌, nat_lt, if◌then◌else◌, List, [], ◌∷◌, length, take, drop, slice_index}
 use Rattle.sg_base.specs.declared.addresses.Address.{Address}
-use Rattle.sg_pcap.specs.Fields.{u16_at}
+use Rattle.sg_pcap.specs.Fields.{u16_by_order}
 use Rattle.sg_pcap.specs.declared.frames.Frame as frames
 use Rattle.sg_pcap.specs.declared.frames.Frame.TheVariants as variants
 use Rattle.sg_pcap.specs.declared.skips.SkipCause.{SkipCause}
@@ -24,10 +24,10 @@ pub data Framed : Type 0 where
 
 -- the type of IPv4 is 0800
 abbrev pub is_ipv4 : List ℕ → Bool
-is_ipv4 frame = u16_at true frame 12 == 2048
+is_ipv4 frame = u16_by_order true frame 12 == 2048
 
-abbrev pub version_of : List ℕ → ℕ
-version_of frame = slice_index frame 14 / 16
+abbrev pub ip_version_of : List ℕ → ℕ
+ip_version_of frame = slice_index frame 14 / 16
 
 -- the octets of the IPv4 header
 abbrev pub header_length_of : List ℕ → ℕ
@@ -35,11 +35,11 @@ header_length_of frame = slice_index frame 14 % 16 * 4
 
 -- the octets of the IPv4 packet, its header among them
 abbrev pub total_length_of : List ℕ → ℕ
-total_length_of frame = u16_at true frame 16
+total_length_of frame = u16_by_order true frame 16
 
 -- more fragments follow, or this is one that isn't the first
 abbrev pub is_fragment : List ℕ → Bool
-is_fragment frame = (u16_at true frame 20 / 8192 % 2 == 1) || not (u16_at true frame 20 % 8192 == 0)
+is_fragment frame = (u16_by_order true frame 20 / 8192 % 2 == 1) || not (u16_by_order true frame 20 % 8192 == 0)
 
 -- the protocol of UDP is 17
 abbrev pub is_udp : List ℕ → Bool
@@ -49,21 +49,21 @@ is_udp frame = slice_index frame 23 == 17
 abbrev pub sender_of : ℕ → List ℕ → Address
 sender_of at frame = record {
   ip = slice_index frame 26 ∷ (slice_index frame 27 ∷ (slice_index frame 28 ∷ (slice_index frame 29 ∷ [])));
-  port = u16_at true frame at;
+  port = u16_by_order true frame at;
 }
 
 -- the datagram whose header begins at this offset, in a payload of so many octets
 abbrev pub datagram_in : ℕ → ℕ → List ℕ → Framed
 datagram_in at payload frame =
     if nat_lt payload 8 then Skip Malformed
-    else if nat_lt (u16_at true frame (at + 4)) 8 then Skip Malformed
-    else if nat_lt payload (u16_at true frame (at + 4)) then Skip Malformed
-    else Datagram (u16_at true frame (at + 2)) (sender_of at frame) (take (u16_at true frame (at + 4) - 8) (drop (at + 8) frame))
+    else if nat_lt (u16_by_order true frame (at + 4)) 8 then Skip Malformed
+    else if nat_lt payload (u16_by_order true frame (at + 4)) then Skip Malformed
+    else Datagram (u16_by_order true frame (at + 2)) (sender_of at frame) (take (u16_by_order true frame (at + 4) - 8) (drop (at + 8) frame))
 
 -- what a packet is whose IPv4 header is there
 abbrev pub packet_in : List ℕ → Framed
 packet_in frame =
-    if not (version_of frame == 4) then Skip Malformed
+    if not (ip_version_of frame == 4) then Skip Malformed
     else if nat_lt (header_length_of frame) 20 then Skip Malformed
     else if nat_lt (total_length_of frame) (header_length_of frame) then Skip Malformed
     else if not (is_udp frame) then Passed

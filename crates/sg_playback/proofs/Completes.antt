@@ -7,10 +7,10 @@ use Rattle.sg_trace.specs.declared.status.Status.{Status}
 use Rattle.sg_trace.specs.declared.status.Status.TheVariants.{Done, Usage, Script, Read, Write, Link, NoMemory, Clock, Noise, TurnsSpent, Capture}
 use Rattle.sg_edge.proofs.Links.{added_none}
 use Rattle.sg_edge.proofs.Passed.{took_none, wrote_none}
-use Rattle.sg_playback.specs.Replay.{IsComplete, IsReplay, Tellings}
+use Rattle.sg_playback.specs.Replay.{IsCompleteReplay, IsReplay, ReplayTellings}
 
-pub complete : (status : Status) (old new : Tellings) (octets draws out : List ℕ) → IsReplay status old new octets draws out
-    → (status ≡ Read → ⊥) → (status ≡ Write → ⊥) → (status ≡ Noise → ⊥) → IsComplete status old.left new.left
+pub complete : (status : Status) (old new : ReplayTellings) (octets draws out : List ℕ) → IsReplay status old new octets draws out
+    → (status ≡ Read → ⊥) → (status ≡ Write → ⊥) → (status ≡ Noise → ⊥) → IsCompleteReplay status old.left new.left
 complete Done old new octets draws out run a b c = λ all rest told told' script. inl refl
 complete NoMemory old new octets draws out run a b c = λ all rest told told' script. inr refl
 complete Read old new octets draws out run a b c = absurd (a refl)
@@ -26,7 +26,7 @@ complete (Script n f) old new octets draws out run a b c = λ all rest told told
     absurd (no_fault old.left new.left octets all rest f (λ o. (replayed o draws).stop ≡ AtFault n f) run.took told told' script (λ o whole. in_replay n f o draws whole) ends.0.stops ends.1 ends.2)
 
 -- memory ran out before anything was read
-pub untouched : (old : Tellings) → IsReplay NoMemory old old [] [] []
+pub untouched : (old : ReplayTellings) → IsReplay NoMemory old old [] [] []
 untouched old = record {
   took = took_none old.left;
   drew = added_none old.drawn;

@@ -4,7 +4,7 @@ ghost use Rattle.std.specs.Prelude.{◌≡◌, ◌<◌, ◌≤◌, ◌+◌, ◌^
 ghost use Rattle.sg_trace.specs.Causes.{HasFailed};
 ghost use Rattle.sg_edge.specs.Told.{Rose};
 ghost use Rattle.sg_gateway.specs.World.{empty};
-ghost use Rattle.sg_playback.specs.Replay.{IsComplete, IsReplay};
+ghost use Rattle.sg_playback.specs.Replay.{IsCompleteReplay, IsReplay};
 ghost use Rattle.sg_table.specs.Standing.{TableStandsFor};
 
 use crate::player::Player;
@@ -40,7 +40,7 @@ pub fn replay<R: Threads + Sync, S: Source, K: Sink, N: Noise, G: Gate + Sync>(
     ensures write { HasFailed (result ≡ Status.Write) (K.faults sink.old) (K.faults sink.new) (K.failed sink.new) }
     ensures noise { HasFailed (result ≡ Status.Noise) (N.faults noise.old) (N.faults noise.new) (N.failed noise.new) }
     ensures complete { ¬ Rose (S.faults source.old) (S.faults source.new) → ¬ Rose (K.faults sink.old) (K.faults sink.new) → ¬ Rose (N.faults noise.old) (N.faults noise.new)
-        → IsComplete result (S.left source.old) (S.left source.new) }
+        → IsCompleteReplay result (S.left source.old) (S.left source.new) }
 {
     match Player::make(alloc, workers) {
         Err(NoMemory) => Status::NoMemory,

@@ -42,7 +42,7 @@ use Rattle.sg_gateway.specs.Generations.{Settled, keyed}
 use Rattle.sg_gateway.specs.Order.{IsBefore, IsOrderly, AreOfMedia}
 use Rattle.sg_gateway.specs.Ports.{call_at, has_port, port_at, port_out, leg_of, other_direction}
 use Rattle.sg_gateway.specs.Runs.{world_after}
-use Rattle.sg_gateway.specs.Signals.{Signal, Tick, Psk, Manual, Offered, Answered, Reject, Bye, Answer, ended, refused, ticked, new_call, in_new, in_old, tells_live, tells_text, offered_to, offering_side, tells_answer, answered, rejected_to, rejected, left, answer_to}
+use Rattle.sg_gateway.specs.Signals.{Signal, Tick, Psk, Manual, Offered, Answered, Reject, Bye, Answer, tells_ended, refused, ticked, new_call, in_new, in_old, tells_live, tells_text, offered_to, offering_side, tells_answer, answered, rejected_to, rejected, left, answer_to}
 use Rattle.sg_gateway.specs.Step.{Event, Signalled, Datagram, step}
 use Rattle.sg_gateway.specs.World.{Books, Call, World, call_of, empty, with_call, without_call, and_call, is_full}
 use Rattle.sg_relay.specs.Asked.{Ask, asks_of}
@@ -158,7 +158,7 @@ module _ (few : HasFew) (w : World) (orderly : IsOrderly w) (begun : AllByRecurs
   old_accounts id told none c a (Ok r) settled = λ o.
       let is = settled r refl in in_place c r.call r.books (told r) (none r) a is.0.serial is.0.slot is.1 is.0.begun
 
-  ending_accounts : (c : Call) (reason : Why) → Of c → Accounts w (ended reason c ∷ []) (record w { calls = without_call c.serial w.calls })
+  ending_accounts : (c : Call) (reason : Why) → Of c → Accounts w (tells_ended reason c ∷ []) (record w { calls = without_call c.serial w.calls })
   ending_accounts c reason a = record {
     fit = ended_fit (λ port. of_calls port w.calls) reason (c ∷ []) (tt, tt) (λ port has. its_own port (only port has));
     held = λ port. go port (has_port port c) refl;

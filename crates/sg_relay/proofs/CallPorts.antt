@@ -8,7 +8,7 @@ use Rattle.sg_gateway.specs.Order.{IsBefore}
 use Rattle.sg_gateway.specs.Ports.{has_port, port_at}
 use Rattle.sg_gateway.specs.World.{Call, and_call}
 use Rattle.sg_outcome.specs.declared.outcomes.Why.{Why}
-use Rattle.sg_gateway.specs.Signals.{ended}
+use Rattle.sg_gateway.specs.Signals.{tells_ended}
 use Rattle.sg_session.proofs.Lists.{each_weaker, any_here, any_there, any_cases, any_none}
 use Rattle.sg_relay.specs.Asked.{Ask, asks_of, hold, ports_of}
 use Rattle.sg_relay.specs.Held.{held_after, IsPortOf}
@@ -177,7 +177,7 @@ one_other port was c is = given_other port was (port_at c.slot 0 0) (4 * c.media
 
 -- what is asked for of calls that end
 abbrev pub all_ended : Why → List Call → List Ask
-all_ended why cs = flat_map asks_of (map (ended why) cs)
+all_ended why cs = flat_map asks_of (map (tells_ended why) cs)
 
 pub ended_other : (port : ℕ) (was : Bool) (why : Why) (cs : List Call) → of_calls port cs ≡ false → held_after port was (all_ended why cs) ≡ was
 ended_other port was why [] none = refl

@@ -9,10 +9,10 @@ use Rattle.sg_edge.specs.Told.{Rose}
 use Rattle.sg_edge.proofs.Links.{added_none}
 use Rattle.sg_edge.proofs.Passed.{took_none, wrote_none}
 use Rattle.sg_relay.specs.Asked.{AreGood, EndsBadly, IsGood, receipts_in}
-use Rattle.sg_relay.specs.Completeness.{IsComplete}
+use Rattle.sg_relay.specs.Completeness.{IsCompleteRelay}
 use Rattle.sg_gateway.specs.Step.{Event}
 use Rattle.sg_relay.specs.Held.{PortsAreOfCalls}
-use Rattle.sg_relay.specs.Relay.{Ends, HoldsItsCallsPorts, IsRelay, Passed, Tellings}
+use Rattle.sg_relay.specs.Relay.{RelayEnds, HoldsItsCallsPorts, IsRelay, Passed, RelayTellings}
 use Rattle.sg_relay.proofs.Deeds.{cut_off_bad, done_none, part_of}
 use Rattle.sg_relay.proofs.Holds.{holds}
 use Rattle.sg_relay.proofs.Order.{order_none}
@@ -26,12 +26,12 @@ not_bad : (calls : List LinkCall) → AreGood calls → EndsBadly calls → ⊥
 not_bad calls good ends = ends.bad (good_last ends.before ends.last (subst AreGood ends.calls_are good))
 
 -- with Link the last call failed
-pub link_failed : (turns : ℕ) (p : Passed) (left : Option (List ℕ)) → Ends Link turns p left → EndsBadly p.calls
+pub link_failed : (turns : ℕ) (p : Passed) (left : Option (List ℕ)) → RelayEnds Link turns p left → EndsBadly p.calls
 link_failed turns p left (inl (before, failed, whole)) = record { before = before; last = Receive Failing; calls_are = failed; good = whole.good; bad = λ is. is }
 link_failed turns p left (inr cut) = cut_off_bad _ p.calls p.out cut
 
-pub complete : (status : Status) (turns link link' : ℕ) (old new : Tellings) (p : Passed) → IsRelay status turns old new p
-    → (status ≡ Read → ⊥) → (status ≡ Write → ⊥) → (status ≡ Clock → ⊥) → (status ≡ Noise → ⊥) → (status ≡ Link → Rose link link') → IsComplete status turns old.left new.left link link' p
+pub complete : (status : Status) (turns link link' : ℕ) (old new : RelayTellings) (p : Passed) → IsRelay status turns old new p
+    → (status ≡ Read → ⊥) → (status ≡ Write → ⊥) → (status ≡ Clock → ⊥) → (status ≡ Noise → ⊥) → (status ≡ Link → Rose link link') → IsCompleteRelay status turns old.left new.left link link' p
 complete Done turns link link' old new p run a b c d e = λ all rest told told' script few well. inl refl
 complete NoMemory turns link link' old new p run a b c d e = λ all rest told told' script few well. inr refl
 complete Usage turns link link' old new p run a b c d e = absurd run.ends
@@ -50,9 +50,9 @@ complete (Script n f) turns link link' old new p run a b c d e = λ all rest tol
     (λ o is. in_relay n f o p.readings (receipts_in p.calls) p.draws is) run.ends.0.stops run.ends.1 run.ends.2)
 
 -- a run, its ports, and its completeness, where a failure shows in these
-pub with_complete : ((es : List Event) → PortsAreOfCalls es) → (s : Status) (turns link link' : ℕ) (old new : Tellings) (p : Passed) (source sink clock noise : Type 0) → IsRelay s turns old new p
+pub with_complete : ((es : List Event) → PortsAreOfCalls es) → (s : Status) (turns link link' : ℕ) (old new : RelayTellings) (p : Passed) (source sink clock noise : Type 0) → IsRelay s turns old new p
     → (s ≡ Read → source) → (s ≡ Write → sink) → (s ≡ Clock → clock) → (s ≡ Noise → noise) → (s ≡ Link → Rose link link')
-    → (p : Passed) × IsRelay s turns old new p × HoldsItsCallsPorts p × (¬ source → ¬ sink → ¬ clock → ¬ noise → IsComplete s turns old.left new.left link link' p)
+    → (p : Passed) × IsRelay s turns old new p × HoldsItsCallsPorts p × (¬ source → ¬ sink → ¬ clock → ¬ noise → IsCompleteRelay s turns old.left new.left link link' p)
 with_complete law s turns link link' old new p source sink clock noise run read write clocks noises links = (
   p,
   run,
@@ -61,8 +61,8 @@ with_complete law s turns link link' old new p source sink clock noise run read 
 )
 
 -- a run that ends before anything is done
-pub at_once : ((es : List Event) → PortsAreOfCalls es) → (old : Tellings) (turns link link' : ℕ) (source sink clock noise : Type 0)
-    → (p : Passed) × IsRelay NoMemory turns old old p × HoldsItsCallsPorts p × (¬ source → ¬ sink → ¬ clock → ¬ noise → IsComplete NoMemory turns old.left old.left link link' p)
+pub at_once : ((es : List Event) → PortsAreOfCalls es) → (old : RelayTellings) (turns link link' : ℕ) (source sink clock noise : Type 0)
+    → (p : Passed) × IsRelay NoMemory turns old old p × HoldsItsCallsPorts p × (¬ source → ¬ sink → ¬ clock → ¬ noise → IsCompleteRelay NoMemory turns old.left old.left link link' p)
 at_once law old turns link link' source sink clock noise = with_complete law NoMemory turns link link' old old (record { octets = []; out = []; calls = []; readings = []; draws = [] }) source sink clock noise
     (record {
       took = took_none _;

@@ -12,7 +12,7 @@ use Rattle.sg_gateway.specs.Step.{Event}
 use Rattle.sg_outcome.specs.declared.outcomes.Outcome.{Outcome}
 use Rattle.sg_relay.specs.Asked.{Ask, IsAtNext, IsCutOff, IsPart, ask_in, asks_in, asks_of, receipts_in}
 use Rattle.sg_relay.specs.Held.{AreOfCalls, EachFits, PortsAreOfCalls}
-use Rattle.sg_relay.specs.Relay.{Ends, HoldsItsCallsPorts, IsRelay, IsWhole, Passed, Tellings, trace_of, world_by}
+use Rattle.sg_relay.specs.Relay.{RelayEnds, HoldsItsCallsPorts, IsRelay, IsWholeRelay, Passed, RelayTellings, trace_of, world_by}
 use Rattle.sg_relay.proofs.Deeds.{flat_append, prefix_after, prefix_all, prefix_longer}
 
 -- the asks are a front of those of the outcomes of some events
@@ -27,7 +27,7 @@ prefix_of done others next before last asked prefix =
     (subst (IsPrefixOf (flat_map asks_of done ++ asks_in last)) (sym (flat_append asks_of done (next ∷ others)))
     (prefix_after (flat_map asks_of done) (asks_in last) (asks_of next ++ flat_map asks_of others) (prefix_longer (asks_in last) (asks_of next) (flat_map asks_of others) prefix)))
 
-whole_prefix : (p : Passed) (stop : _) → IsWhole p stop → IsPrefix (asks_in p.calls)
+whole_prefix : (p : Passed) (stop : _) → IsWholeRelay p stop → IsPrefix (asks_in p.calls)
 whole_prefix p stop whole = ((trace_of p).events, subst (IsPrefixOf (asks_in p.calls)) whole.done.asked (prefix_all (asks_in p.calls)))
 
 part_prefix : (es : List Event) (calls : List LinkCall) (out : List ℕ) → IsPart (outcomes es) calls out → IsPrefix (asks_in calls)
@@ -54,7 +54,7 @@ cut_prefix es calls out cut = (
       (prefix_of cut.done cut.others cut.next cut.before cut.last cut.whole.asked cut.fails.asked)),
 )
 
-prefix : (s : Status) (turns : ℕ) (p : Passed) (left : Option (List ℕ)) → Ends s turns p left → IsPrefix (asks_in p.calls)
+prefix : (s : Status) (turns : ℕ) (p : Passed) (left : Option (List ℕ)) → RelayEnds s turns p left → IsPrefix (asks_in p.calls)
 prefix Done turns p left ends = whole_prefix p _ ends.0
 prefix (Script n fault) turns p left ends = whole_prefix p _ ends.0
 prefix TurnsSpent turns p left ends = whole_prefix p _ ends.0
@@ -72,7 +72,7 @@ prefix (Capture offset fault) turns p left ends = absurd ends
 fits_prefix : (asks all : List Ask) → IsPrefixOf asks all → EachFits all → EachFits asks
 fits_prefix asks all (rest, is) fits = λ before more ask at. fits before (more ++ rest) ask (is ∙ ap (λ (l : List Ask). l ++ rest) at ∙ append_assoc before (ask ∷ more) rest)
 
-pub holds : ((es : List Event) → PortsAreOfCalls es) → (s : Status) (turns : ℕ) (old new : Tellings) (p : Passed) → IsRelay s turns old new p → HoldsItsCallsPorts p
+pub holds : ((es : List Event) → PortsAreOfCalls es) → (s : Status) (turns : ℕ) (old new : RelayTellings) (p : Passed) → IsRelay s turns old new p → HoldsItsCallsPorts p
 holds law s turns old new p run =
     let asked = prefix s turns p new.left run.ends in
     record {

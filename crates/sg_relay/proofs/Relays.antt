@@ -24,7 +24,7 @@ use Rattle.sg_outcome.specs.declared.outcomes.Outcome.{Outcome}
 use Rattle.sg_relay.specs.Asked.{AreGood, AreInOrder, AtFailedReceive, IsDone, IsPart, receipt_in, receipts_in}
 use Rattle.sg_relay.specs.Causes.{IsOfLines, IsOfTurns}
 use Rattle.sg_relay.specs.Parts.{ArePairs, IsBegun, IsLineCut, IsLineInOrder, IsSaid, IsStopped, StopsWith, taken, taking}
-use Rattle.sg_relay.specs.Relay.{ArePaced, Ends, IsBroken, IsRelay, IsWhole, Passed, Tellings, trace_of, nothing}
+use Rattle.sg_relay.specs.Relay.{ArePaced, RelayEnds, IsBroken, IsRelay, IsWholeRelay, Passed, RelayTellings, trace_of, nothing}
 use Rattle.sg_relay.proofs.Deeds.{AreGood-append, done_more, done_none, flat_append, part_longer, part_of, stops_after, stops_longer}
 use Rattle.sg_relay.proofs.Order.{order_more, order_none}
 use Rattle.sg_relay.proofs.Waits.{of_turns}
@@ -34,7 +34,7 @@ abbrev pub outcomes_at : List ℕ → List ℕ → List ℕ → List Received �
 outcomes_at octets readings draws receipts = outcomes (woven octets readings receipts draws).events
 
 -- The relay has taken whole lines, whose events it has handled, and what waits behind them.
-pub record IsRelaying (old now : Tellings) (turns began : ℕ) (p : Passed) (at : Reading) (es : List Event) (top left : ℕ) : Type 0 where
+pub record IsRelaying (old now : RelayTellings) (turns began : ℕ) (p : Passed) (at : Reading) (es : List Event) (top left : ℕ) : Type 0 where
   pub took : TookIn old.left now.left (p.octets ++ at.waits)
   pub wrote : Wrote old.written now.written p.out
   pub called : Added old.calls now.calls p.calls
@@ -70,7 +70,7 @@ stops_in s p es rest is stops =
     (subst (λ (os : List Outcome). StopsWith s os p.calls p.out) (sym (outcomes_from-append empty es rest.events))
     (stops_longer s (outcomes_from empty es) (outcomes_from (world_after empty es) rest.events) p.calls p.out stops))
 
-pub whole_at : (p : Passed) (es : List Event) (stop : Stop) → trace_of p ≡ with_events es (stopped stop nothing) → IsDone (outcomes es) p.calls p.out → AreGood p.calls → IsWhole p stop
+pub whole_at : (p : Passed) (es : List Event) (stop : Stop) → trace_of p ≡ with_events es (stopped stop nothing) → IsDone (outcomes es) p.calls p.out → AreGood p.calls → IsWholeRelay p stop
 whole_at p es stop is done good = record {
   stops = ap (λ (c : Trace). c.stop) is;
   left = ap (λ (c : Trace). c.left) is;
@@ -89,7 +89,7 @@ of_lines P s (inl is) noise spent clock write link memory = subst P (sym is) noi
 of_lines P s (inr (inl is)) noise spent clock write link memory = subst P (sym is) spent
 of_lines P s (inr (inr is)) noise spent clock write link memory = of_turns P s is clock write link memory
 
-module _ (old now : Tellings) (turns began : ℕ) (p : Passed) (at : Reading) (es : List Event) (top left : ℕ) (going : IsRelaying old now turns began p at es top left)
+module _ (old now : RelayTellings) (turns began : ℕ) (p : Passed) (at : Reading) (es : List Event) (top left : ℕ) (going : IsRelaying old now turns began p at es top left)
     (left' : Option (List ℕ)) (got : List ℕ) (came : TookIn now.left left' got) where
   -- what has passed by then
   abbrev pub passed : Passed
@@ -109,7 +109,7 @@ module _ (old now : Tellings) (turns began : ℕ) (p : Passed) (at : Reading) (e
   broken = record { part = part_in passed es _ trace_is (part_of (outcomes es) p.calls p.out going.done); good = going.good }
 
   -- the run ends before a line was handled
-  ended : (s : Status) (budget : ℕ) → length got + budget ≡ at.budget → Ends s turns passed left' → IsRelay s turns old (record now { left = left' }) passed
+  ended : (s : Status) (budget : ℕ) → length got + budget ≡ at.budget → RelayEnds s turns passed left' → IsRelay s turns old (record now { left = left' }) passed
   ended s budget paid ends = record {
     took = took_all;
     wrote = going.wrote;
@@ -132,7 +132,7 @@ module _ (old now : Tellings) (turns began : ℕ) (p : Passed) (at : Reading) (e
   )
 
   -- at a line with a fault, and whatever comes after it
-  at_fault : (fault : ScriptFault) → IsFault at.version at.number at.offset (at.waits ++ got) fault left' → Ends (Script at.number fault) turns passed left'
+  at_fault : (fault : ScriptFault) → IsFault at.version at.number at.offset (at.waits ++ got) fault left' → RelayEnds (Script at.number fault) turns passed left'
   at_fault fault is = (
     whole_at passed es (AtFault at.number fault) (trace_is ∙ ap (with_events es) (stops_at (Relays began) at.version at.number at.offset (at.waits ++ got) fault top nothing is.first refl)) going.done going.good,
     is.ended,
@@ -210,7 +210,7 @@ module _ (old now : Tellings) (turns began : ℕ) (p : Passed) (at : Reading) (e
         going.done.asked (going.in_order (is.line ++ more) (after_it [])) (order next o))
 
     -- after the line was handled
-    pub after : {T : Type 0} (x : T) (now' : Tellings) (top' left2 : ℕ) (stands_for : World → Type 0) → now'.left ≡ left' → Wrote now.written now'.written out → Added now.calls now'.calls calls
+    pub after : {T : Type 0} (x : T) (now' : RelayTellings) (top' left2 : ℕ) (stands_for : World → Type 0) → now'.left ≡ left' → Wrote now.written now'.written out → Added now.calls now'.calls calls
         → Added now.readings now'.readings readings → Added now.draws now'.draws draws
         → (said : (let r : Result T Status = Ok x in IsSaid r (Relays began) l (world_after empty es) top top' left left2 stands_for readings calls draws out))
         → IsLineInOrder (Relays began) l (world_after empty es) top readings calls draws → IsRelaying old now' turns began behind at' (es ++ said.0) top' left2
@@ -240,7 +240,7 @@ module _ (old now : Tellings) (turns began : ℕ) (p : Passed) (at : Reading) (e
     farther = omega (arith, is.offset, whole_some is.line is.whole)
 
     -- a line that stops where nothing more was taken
-    stopped_so : (stop : Stop) → IsStopped (Relays began) l (world_after empty es) top stop readings calls draws out → IsWhole with_line stop
+    stopped_so : (stop : Stop) → IsStopped (Relays began) l (world_after empty es) top stop readings calls draws out → IsWholeRelay with_line stop
     stopped_so stop at_stop =
         whole_at with_line (es ++ at_stop.events) stop
         (says_all ∙ ap (with_events es) (at_stop.stops later) ∙ with_events_again es at_stop.events (stopped stop nothing))
@@ -273,24 +273,24 @@ module _ (old now : Tellings) (turns began : ℕ) (p : Passed) (at : Reading) (e
         (stops_after x (outcomes es) (outcomes_from (world_after empty es) events) p.calls calls p.out out going.done going.good stops))
 
     -- what is said of a line whose receive failed, once that is so of the calls before it
-    cut_link : ((before : List LinkCall) → IsStopped (Relays began) l (world_after empty es) top ForReceive readings before draws out → IsWhole (record with_line { calls = p.calls ++ before }) ForReceive)
+    cut_link : ((before : List LinkCall) → IsStopped (Relays began) l (world_after empty es) top ForReceive readings before draws out → IsWholeRelay (record with_line { calls = p.calls ++ before }) ForReceive)
         → ((AtFailedReceive (λ before. IsStopped (Relays began) l (world_after empty es) top ForReceive readings before draws out) calls × (length readings ≡ length (receipts_in calls)))
         ⊎ IsLineCut Link (Relays began) l (world_after empty es) top readings calls draws out) × (length readings ≤ left)
-        → Ends Link turns with_line left' × Counts
+        → RelayEnds Link turns with_line left' × Counts
     cut_link whole (inl ((before, failed, at_stop), paced), few) = (
       inl (p.calls ++ before, ap (λ (l : List LinkCall). p.calls ++ l) failed ∙ sym (append_assoc p.calls before (Receive Failing ∷ [])), whole before at_stop),
       counts_of (inl paced) few,
     )
     cut_link whole (inr cut, few) = (inr (stops_so Link cut), counts_of cut.3 few)
 
-    broken_so : (s : Status) → ((x : Passed) → IsBroken x → Ends s turns x left') → IsPart (outcomes (trace_of with_line).events) (p.calls ++ calls) (p.out ++ out) × AreGood (p.calls ++ calls) → Ends s turns with_line left'
+    broken_so : (s : Status) → ((x : Passed) → IsBroken x → RelayEnds s turns x left') → IsPart (outcomes (trace_of with_line).events) (p.calls ++ calls) (p.out ++ out) × AreGood (p.calls ++ calls) → RelayEnds s turns with_line left'
     broken_so s ends (part, good) = ends with_line (record { part = part; good = good })
 
     cut_with : (T : Type 0) (s : Status) (top' left2 : ℕ) (stands_for : World → Type 0) → IsOfLines s
-        → ((before : List LinkCall) → IsStopped (Relays began) l (world_after empty es) top ForReceive readings before draws out → IsWhole (record with_line { calls = p.calls ++ before }) ForReceive)
-        → (let r : Result T Status = Err s in IsSaid r (Relays began) l (world_after empty es) top top' left left2 stands_for readings calls draws out) → Ends s turns with_line left' × Counts
+        → ((before : List LinkCall) → IsStopped (Relays began) l (world_after empty es) top ForReceive readings before draws out → IsWholeRelay (record with_line { calls = p.calls ++ before }) ForReceive)
+        → (let r : Result T Status = Err s in IsSaid r (Relays began) l (world_after empty es) top top' left left2 stands_for readings calls draws out) → RelayEnds s turns with_line left' × Counts
     cut_with T s top' left2 stands_for only whole said = of_lines
-        (λ (x : Status). (let r : Result T Status = Err x in IsSaid r (Relays began) l (world_after empty es) top top' left left2 stands_for readings calls draws out) → Ends x turns with_line left' × Counts)
+        (λ (x : Status). (let r : Result T Status = Err x in IsSaid r (Relays began) l (world_after empty es) top top' left left2 stands_for readings calls draws out) → RelayEnds x turns with_line left' × Counts)
         s only
         (λ (at_stop, paced, few). (stopped_so ForDraw at_stop, counts_of (inl paced) few))
         (λ (at_stop, paced, all). ((stopped_so ForReading at_stop, omega (arith, going.counted, all, length-append p.readings readings)), counts_of (inl paced) (omega (arith, all))))
@@ -301,8 +301,8 @@ module _ (old now : Tellings) (turns began : ℕ) (p : Passed) (at : Reading) (e
         said
 
     -- the run ends in a line
-    pub ended_in : (s : Status) (now' : Tellings) → now'.left ≡ left' → Wrote now.written now'.written out → Added now.calls now'.calls calls
-        → Added now.readings now'.readings readings → Added now.draws now'.draws draws → Ends s turns with_line left' × Counts → IsLineInOrder (Relays began) l (world_after empty es) top readings calls draws
+    pub ended_in : (s : Status) (now' : RelayTellings) → now'.left ≡ left' → Wrote now.written now'.written out → Added now.calls now'.calls calls
+        → Added now.readings now'.readings readings → Added now.draws now'.draws draws → RelayEnds s turns with_line left' × Counts → IsLineInOrder (Relays began) l (world_after empty es) top readings calls draws
         → IsRelay s turns old now' with_line
     ended_in s now' same wrote called read drew ends order = record {
       took = subst (λ (o : Option (List ℕ)). TookIn old.left o with_line.octets) (sym same) took_all;
@@ -310,7 +310,7 @@ module _ (old now : Tellings) (turns began : ℕ) (p : Passed) (at : Reading) (e
       called = added_more old.calls now.calls now'.calls p.calls calls going.called called;
       read = added_more old.readings now.readings now'.readings p.readings readings going.read read;
       drew = added_more old.draws now.draws now'.draws p.draws draws going.drew drew;
-      ends = subst (Ends s turns with_line) (sym same) ends.0;
+      ends = subst (RelayEnds s turns with_line) (sym same) ends.0;
       bound = bounded at'.budget paid;
       most = ends.1.most;
       paced = ends.1.paced;
@@ -322,7 +322,7 @@ module _ (old now : Tellings) (turns began : ℕ) (p : Passed) (at : Reading) (e
   pub cut : (l : Line) (at' : Reading) (paid : length got + at'.budget ≡ at.budget) (is : IsRead l at at' got) (readings : List ℕ) (calls : List LinkCall) (draws out : List ℕ)
       (T : Type 0) (s : Status) (top' left2 : ℕ) (stands_for : World → Type 0) → IsOfLines s
       → (let r : Result T Status = Err s in IsSaid r (Relays began) l (world_after empty es) top top' left left2 stands_for readings calls draws out)
-      → Ends s turns (with_line l at' paid is readings calls draws out) left' × Counts l at' paid is readings calls draws out
+      → RelayEnds s turns (with_line l at' paid is readings calls draws out) left' × Counts l at' paid is readings calls draws out
   cut l at' paid is readings calls draws out T s top' left2 stands_for only said =
       cut_with l at' paid is readings calls draws out T s top' left2 stands_for only (λ before at_stop. stopped_so l at' paid is readings before draws out ForReceive at_stop) said
 
@@ -348,13 +348,13 @@ begun_pace turns r calls none = (subst (λ (xs : List Received). ArePaced (r ∷
 module _ (turns : ℕ) (left : Option (List ℕ)) (stands_for : World → Type 0) (readings : List ℕ) (calls : List LinkCall) (out : List ℕ) where
   -- what a status says of a run that ends with its first reading
   abbrev EndsAtOnce : Status → Type 0
-  EndsAtOnce s = Ends s turns (only_begun readings calls out) left × ArePaced readings (receipts_in calls) × (length readings ≤ turns + 1) × (receipts_in calls ≡ [])
+  EndsAtOnce s = RelayEnds s turns (only_begun readings calls out) left × ArePaced readings (receipts_in calls) × (length readings ≤ turns + 1) × (receipts_in calls ≡ [])
 
   -- the tick of the first reading was handled in part
-  cut_tick : (s : Status) (ends : (r : ℕ) → StopsWith s (outcomes (trace_of (only_begun (r ∷ []) calls out)).events) calls out → Ends s turns (only_begun (r ∷ []) calls out) left)
+  cut_tick : (s : Status) (ends : (r : ℕ) → StopsWith s (outcomes (trace_of (only_begun (r ∷ []) calls out)).events) calls out → RelayEnds s turns (only_begun (r ∷ []) calls out) left)
       → (r : ℕ) → readings ≡ r ∷ [] → receipts_in calls ≡ [] → StopsWith s (outcomes_from empty (first_tick r)) calls out → EndsAtOnce s
   cut_tick s ends r one none stops =
-      subst (λ (l : List ℕ). Ends s turns (only_begun l calls out) left × ArePaced l (receipts_in calls) × (length l ≤ turns + 1) × (receipts_in calls ≡ [])) (sym one)
+      subst (λ (l : List ℕ). RelayEnds s turns (only_begun l calls out) left × ArePaced l (receipts_in calls) × (length l ≤ turns + 1) × (receipts_in calls ≡ [])) (sym one)
       (ends r (begun_stops s r calls out none stops), (begun_pace turns r calls none).0, (begun_pace turns r calls none).1, none)
 
   pub begun_ends : (s : Status) → IsOfTurns s → IsBegun (Err s) empty stands_for readings calls out → EndsAtOnce s
@@ -376,7 +376,7 @@ module _ (turns : ℕ) (left : Option (List ℕ)) (stands_for : World → Type 0
       begun
 
 -- the first line comes next
-pub begins_so : (old now : Tellings) (turns began : ℕ) (stands_for : World → Type 0) (readings : List ℕ) (calls : List LinkCall) (out : List ℕ)
+pub begins_so : (old now : RelayTellings) (turns began : ℕ) (stands_for : World → Type 0) (readings : List ℕ) (calls : List LinkCall) (out : List ℕ)
     → TookIn old.left now.left [] → Wrote old.written now.written out → Added old.calls now.calls calls → Added old.readings now.readings readings → Added old.draws now.draws []
     → (begun : IsBegun (Ok began) empty stands_for readings calls out)
     → IsRelaying old now turns began (only_begun readings calls out) (record { waits = []; version = 1; number = 1; offset = 0; budget = 2 ^ 30 + 1 }) (first_tick begun.0) began turns
@@ -398,6 +398,6 @@ begins_so old now turns began stands_for readings calls out took wrote called re
 }
 
 -- the same of an equal reading
-pub reading_so : (old now : Tellings) (turns began : ℕ) (p : Passed) (at at' : Reading) (es : List Event) (top left : ℕ) → at ≡ at' → IsRelaying old now turns began p at' es top left
+pub reading_so : (old now : RelayTellings) (turns began : ℕ) (p : Passed) (at at' : Reading) (es : List Event) (top left : ℕ) → at ≡ at' → IsRelaying old now turns began p at' es top left
     → IsRelaying old now turns began p at es top left
 reading_so old now turns began p at at' es top left same going = subst (λ (a : Reading). IsRelaying old now turns began p a es top left) (sym same) going

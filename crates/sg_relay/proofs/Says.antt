@@ -2,7 +2,7 @@
 use Rattle.std.proofs.Common.{◌≡◌, ℕ, List, [], ◌∷◌, ◌++◌, length, Option, Some, None, Result, Ok, Err, refl, sym, ap, ap₂, ◌∙◌, subst, inl, inr, arith}
 use Rattle.std.specs.Prelude.{◌⊎◌, IfErr}
 use Rattle.std.proofs.lemmas.List.{append-nil}
-use Rattle.sg_trace.specs.Trace.{Captures, Command, ForReading, ForReceive, Later, Outside, Relays, Replays, Stop, arrivals_of, handled, handled_as, line_in, moment_of, said, said_by, wait_in, waited, with_events}
+use Rattle.sg_trace.specs.Trace.{Captures, Command, ForReading, ForReceive, Later, Outside, Relays, Replays, Stop, arrivals_of, handled, handled_as, line_in, moment_of, said, waited_or_handled, wait_in, waited, with_events}
 use Rattle.sg_trace.specs.Supplying.{IsSupplied}
 use Rattle.sg_trace.specs.declared.status.Status.{Status}
 use Rattle.sg_trace.specs.declared.status.Status.TheVariants.{Done, Usage, Script, Read, Write, Link, NoMemory, Clock, Noise, TurnsSpent, Capture}
@@ -28,7 +28,7 @@ use Rattle.sg_relay.proofs.Waits.{of_outcomes, of_signals, of_turns}
 -- ---- a `tick` line
 
 said_wait : (k : Command) (l : Line) (until : ℕ) → wait_in k l ≡ Some until → (later : Later) (top : ℕ) (o : Outside) → said k l later top o ≡ waited until later top o.readings o.receipts o.draws
-said_wait k l until is later top o = ap (λ (w : Option ℕ). said_by (line_in k l) w later top o) is
+said_wait k l until is later top o = ap (λ (w : Option ℕ). waited_or_handled (line_in k l) w later top o) is
 
 -- a line at which a wait stops
 waiting_so : (k : Command) (l : Line) (until : ℕ) (w : World) (top : ℕ) (readings : List ℕ) (out : List ℕ) → wait_in k l ≡ Some until → (stop : Stop) (calls : List LinkCall)
@@ -85,7 +85,7 @@ signal_line Captures signal = refl
 said_other : (k : Command) (signal : Signal) → wait_in k (lines.Signal signal) ≡ None → (later : Later) (top : ℕ) (o : Outside)
     → said k (lines.Signal signal) later top o ≡ handled (lines.Signal signal) later top o
 said_other k signal is later top o =
-    ap (λ (w : Option ℕ). said_by (line_in k (lines.Signal signal)) w later top o) is ∙ ap (λ (l : Line). handled l later top o) (signal_line k signal)
+    ap (λ (w : Option ℕ). waited_or_handled (line_in k (lines.Signal signal)) w later top o) is ∙ ap (λ (l : Line). handled l later top o) (signal_line k signal)
 
 -- the signal with its noise
 said_signal : (k : Command) (signal s : Signal) (draws : List ℕ) → wait_in k (lines.Signal signal) ≡ None → IsSupplied (Ok s) signal draws → (later : Later) (top : ℕ) (o : Outside)

@@ -14,7 +14,7 @@ AsksNoMore turns p = (trace_of p).stop ≡ ForReading → length p.readings ≡ 
 
 -- Where the source's octets are a script, its `tick` lines ask for no more turns, and no call of the link has
 -- failed, or none but sends has, the relay handles the script to its end, or memory runs out.
-abbrev pub IsComplete : Status → ℕ → Option (List ℕ) → Option (List ℕ) → ℕ → ℕ → Passed → Type 0
-IsComplete status turns left left' link link' p =
+abbrev pub IsCompleteRelay : Status → ℕ → Option (List ℕ) → Option (List ℕ) → ℕ → ℕ → Passed → Type 0
+IsCompleteRelay status turns left left' link link' p =
     (all rest : List ℕ) → left ≡ Some all → left' ≡ Some rest → IsScript all → AsksNoMore turns p
     → (¬ Rose link link' ⊎ AreGood p.calls) → (status ≡ Done) ⊎ (status ≡ NoMemory)

@@ -35,7 +35,7 @@ nothing = record { readings = []; receipts = []; draws = [] }
 
 -- All that the events ask for was done, and no reading, receive or draw was taken besides. No call of the link
 -- but a send has failed.
-pub record IsWhole (p : Passed) (stop : Rattle.sg_trace.specs.Trace.Stop) : Type 0 where
+pub record IsWholeRelay (p : Passed) (stop : Rattle.sg_trace.specs.Trace.Stop) : Type 0 where
   pub stops : (trace_of p).stop ≡ stop
   pub left : (trace_of p).left ≡ nothing
   pub done : IsDone (outcomes (trace_of p).events) p.calls p.out
@@ -53,20 +53,20 @@ pub record IsBroken (p : Passed) : Type 0 where
 -- Clock a reading comes next, within the turns, with Noise a draw. With Link the link's last call failed: a receive
 -- comes next, or an outcome whose ports are bound or given up, and all before it was done. With every other status all
 -- before some outcome was done and written; of that one nothing was, or what it asks for and a prefix of its line.
-abbrev pub Ends : Status → ℕ → Passed → Option (List ℕ) → Type 0
-Ends Done turns p left = IsWhole p BehindAll × AtEnd left
-Ends (Script n fault) turns p left =
-    IsWhole p (AtFault n fault) × (fault ≡ Unended → AtEnd left)
+abbrev pub RelayEnds : Status → ℕ → Passed → Option (List ℕ) → Type 0
+RelayEnds Done turns p left = IsWholeRelay p BehindAll × AtEnd left
+RelayEnds (Script n fault) turns p left =
+    IsWholeRelay p (AtFault n fault) × (fault ≡ Unended → AtEnd left)
     × (¬ (fault ≡ Unended) → (more : List ℕ) → (trace_of (record p { octets = p.octets ++ more })).stop ≡ AtFault n fault)
-Ends TurnsSpent turns p left = IsWhole p ForReading × (length p.readings ≡ turns + 1)
-Ends Clock turns p left = IsWhole p ForReading × (length p.readings ≤ turns)
-Ends Noise turns p left = IsWhole p ForDraw
-Ends Link turns p left = AtFailedReceive (λ before. IsWhole (record p { calls = before }) ForReceive) p.calls ⊎ IsCutOff (outcomes (trace_of p).events) p.calls p.out
-Ends Read turns p left = IsBroken p
-Ends Write turns p left = IsBroken p
-Ends NoMemory turns p left = IsBroken p
-Ends Usage turns p left = ⊥
-Ends (Capture offset fault) turns p left = ⊥
+RelayEnds TurnsSpent turns p left = IsWholeRelay p ForReading × (length p.readings ≡ turns + 1)
+RelayEnds Clock turns p left = IsWholeRelay p ForReading × (length p.readings ≤ turns)
+RelayEnds Noise turns p left = IsWholeRelay p ForDraw
+RelayEnds Link turns p left = AtFailedReceive (λ before. IsWholeRelay (record p { calls = before }) ForReceive) p.calls ⊎ IsCutOff (outcomes (trace_of p).events) p.calls p.out
+RelayEnds Read turns p left = IsBroken p
+RelayEnds Write turns p left = IsBroken p
+RelayEnds NoMemory turns p left = IsBroken p
+RelayEnds Usage turns p left = ⊥
+RelayEnds (Capture offset fault) turns p left = ⊥
 
 -- Each reading after the first is followed by one receive, but for the last where the run ended between.
 abbrev pub ArePaced : List ℕ → List Received → Type 0
@@ -74,7 +74,7 @@ ArePaced [] receipts = receipts ≡ []
 ArePaced (r ∷ rs) receipts = (length rs ≡ length receipts) ⊎ (length rs ≡ length receipts + 1)
 
 -- what a source, a sink, a link, a clock and a source of noise tell
-pub record Tellings : Type 0 where
+pub record RelayTellings : Type 0 where
   pub left : Option (List ℕ)
   pub written : Option (List ℕ)
   pub calls : Option (List LinkCall)
@@ -84,13 +84,13 @@ pub record Tellings : Type 0 where
 -- The relay read these octets, of which there are at most 2^30 + 1, wrote those, and made these calls; it took
 -- at most so many turns. Whenever it asked the link for a receive, it had asked for all that the events up to there ask
 -- for, and for nothing else.
-pub record IsRelay (status : Status) (turns : ℕ) (old new : Tellings) (p : Passed) : Type 0 where
+pub record IsRelay (status : Status) (turns : ℕ) (old new : RelayTellings) (p : Passed) : Type 0 where
   pub took : TookIn old.left new.left p.octets
   pub wrote : Wrote old.written new.written p.out
   pub called : Added old.calls new.calls p.calls
   pub read : Added old.readings new.readings p.readings
   pub drew : Added old.draws new.draws p.draws
-  pub ends : Ends status turns p new.left
+  pub ends : RelayEnds status turns p new.left
   pub bound : length p.octets ≤ 2 ^ 30 + 1
   pub most : length p.readings ≤ turns + 1
   pub paced : ArePaced p.readings (receipts_in p.calls)

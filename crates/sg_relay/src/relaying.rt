@@ -3,7 +3,7 @@
 ghost use Rattle.std.specs.Prelude.{◌≡◌, ◌≤◌, ◌+◌, ◌^◌, ℕ};
 ghost use Rattle.sg_trace.specs.Causes.{HasFailed};
 ghost use Rattle.sg_edge.specs.Told.{Rose};
-ghost use Rattle.sg_relay.specs.Completeness.{IsComplete};
+ghost use Rattle.sg_relay.specs.Completeness.{IsCompleteRelay};
 ghost use Rattle.sg_relay.specs.Relay.{HoldsItsCallsPorts, IsRelay, Passed};
 
 use crate::laws::ports_are_of_calls;
@@ -33,7 +33,7 @@ pub fn relay<S: Source, K: Sink, L: Link, C: Clock, N: Noise>(
         p
         × HoldsItsCallsPorts p
         × (¬ Rose (S.faults source.old) (S.faults source.new) → ¬ Rose (K.faults sink.old) (K.faults sink.new) → ¬ Rose (C.faults clock.old) (C.faults clock.new)
-        → ¬ Rose (N.faults noise.old) (N.faults noise.new) → IsComplete result turns (S.left source.old) (S.left source.new) (L.faults link.old) (L.faults link.new) p) }
+        → ¬ Rose (N.faults noise.old) (N.faults noise.new) → IsCompleteRelay result turns (S.left source.old) (S.left source.new) (L.faults link.old) (L.faults link.new) p) }
     ensures given { S.given source.new ≤ S.given source.old + (2 ^ 30 + 1) }
     ensures count { C.count clock.new ≤ C.count clock.old + (turns + 1) }
     ensures read { HasFailed (result ≡ Status.Read) (S.faults source.old) (S.faults source.new) (S.failed source.new) }

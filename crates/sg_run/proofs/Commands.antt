@@ -5,12 +5,12 @@ use Rattle.std.proofs.lemmas.List.{append-nil}
 use Rattle.sg_trace.proofs.Causes.{not_failed}
 use Rattle.sg_trace.specs.Causes.{HasFailed}
 use Rattle.sg_capture.specs.Capturing.{IsCapture}
-use Rattle.sg_trace.specs.Captured.{captured, events_in as captured_events, output_of}
+use Rattle.sg_trace.specs.Captured.{captured, captured_events as captured_events, output_of}
 use Rattle.sg_trace.specs.Trace.{replayed}
 use Rattle.sg_trace.specs.Output.{output}
 use Rattle.sg_trace.specs.declared.status.Status.{Status}
 use Rattle.sg_trace.specs.declared.status.Status.TheVariants.{Done, Usage, Script, Read, Write, Link, NoMemory, Clock, Noise, TurnsSpent, Capture}
-use Rattle.sg_demo.specs.Demonstration.{demonstration, events_in}
+use Rattle.sg_demo.specs.Demonstration.{demonstration, events_shown}
 use Rattle.sg_demo.specs.Text.{IsShown, summary_text}
 use Rattle.sg_edge.proofs.Links.{added_none}
 use Rattle.sg_edge.proofs.Passed.{took_none, wrote_none}
@@ -25,7 +25,7 @@ use Rattle.sg_relay.proofs.Holds.{holds_none}
 use Rattle.sg_relay.proofs.Order.{order_none}
 use Rattle.sg_relay.specs.Relay.{IsRelay, Passed}
 use Rattle.sg_relay.specs.Relay as relays
-use Rattle.sg_run.specs.Run.{AreTaken, HasCaptured, HasMigrated, HasRelayed, HasReplayed, HasRun, HasShown, Outside, of_relay, of_replay}
+use Rattle.sg_run.specs.Run.{AreTaken, HasCaptured, HasMigrated, HasRelayed, HasReplayed, HasRun, HasShown, Surroundings, of_relay, of_replay}
 use Rattle.sg_words.specs.Commands.{AreWordsOf, IsNoCommand, Words}
 use Rattle.sg_words.specs.declared.command.Command.{Command}
 use Rattle.sg_words.specs.declared.command.Command.TheVariants.{Replay, Relay, Demo, Migrate}
@@ -35,7 +35,7 @@ use Rattle.sg_words.specs.declared.command.CommandFault.TheVariants as faults
 
 -- ---- memory ran out before anything was done
 
-not_replayed : (old : Outside) → HasReplayed NoMemory old old []
+not_replayed : (old : Surroundings) → HasReplayed NoMemory old old []
 not_replayed old = record {
   octets = [];
   draws = [];
@@ -50,7 +50,7 @@ not_replayed old = record {
   events_are = refl;
 }
 
-not_relayed : (turns : ℕ) (old : Outside) → HasRelayed turns NoMemory old old []
+not_relayed : (turns : ℕ) (old : Surroundings) → HasRelayed turns NoMemory old old []
 not_relayed turns old = record {
   passed = record { octets = []; out = []; calls = []; readings = []; draws = [] };
   is = record {
@@ -85,13 +85,13 @@ not_relayed turns old = record {
   complete = λ only all rest left left' whole more link. inr refl;
 }
 
-not_shown : (calls start : ℕ) (old : Outside) → HasShown calls start NoMemory old old []
+not_shown : (calls start : ℕ) (old : Surroundings) → HasShown calls start NoMemory old old []
 not_shown calls start old = record {
   is = ([], (summary_text (demonstration calls start), refl), wrote_none old.written);
-  events_are = (events_in calls start, refl);
+  events_are = (events_shown calls start, refl);
 }
 
-not_migrated : (old : Outside) → HasMigrated NoMemory old old []
+not_migrated : (old : Surroundings) → HasMigrated NoMemory old old []
 not_migrated old = record {
   octets = [];
   out = [];
@@ -104,7 +104,7 @@ not_migrated old = record {
   events_are = refl;
 }
 
-not_captured : (old : Outside) → HasCaptured NoMemory old old []
+not_captured : (old : Surroundings) → HasCaptured NoMemory old old []
 not_captured old = record {
   octets = [];
   draws = [];
@@ -119,7 +119,7 @@ not_captured old = record {
   events_are = refl;
 }
 
-pub not_begun : (words : Words) (old : Outside) → HasRun words NoMemory old old []
+pub not_begun : (words : Words) (old : Surroundings) → HasRun words NoMemory old old []
 not_begun words old = record {
   replay = λ workers are. not_replayed old;
   relay = λ turns are. not_relayed turns old;
@@ -129,7 +129,7 @@ not_begun words old = record {
 }
 
 -- words that are no command
-pub no_run : (words : Words) (status : Status) (old new : Outside) → IsNoCommand words → HasRun words status old new []
+pub no_run : (words : Words) (status : Status) (old new : Surroundings) → IsNoCommand words → HasRun words status old new []
 no_run words status old new none = record {
   replay = λ workers are. absurd (none (Replay workers) are);
   relay = λ turns are. absurd (none (Relay turns) are);
@@ -177,7 +177,7 @@ turns_are words read turns turns' told is are = same_turns turns turns' (sym is 
 
 -- ---- what was run
 
-pub has_replayed : (words : Words) (read : Command) (many : ℕ) (status : Status) (old new : Outside) (events : List Event) → IsToldOf words read → read ≡ Replay many
+pub has_replayed : (words : Words) (read : Command) (many : ℕ) (status : Status) (old new : Surroundings) (events : List Event) → IsToldOf words read → read ≡ Replay many
     → HasReplayed status old new events → HasRun words status old new events
 has_replayed words read many status old new events told is ran = record {
   replay = λ workers are. ran;
@@ -187,7 +187,7 @@ has_replayed words read many status old new events told is ran = record {
   capture = λ are. absurd (no_other words read (Replay many) commands.Capture told is refl are);
 }
 
-pub has_relayed : (words : Words) (read : Command) (turns : ℕ) (status : Status) (old new : Outside) (events : List Event) → IsToldOf words read → read ≡ Relay turns
+pub has_relayed : (words : Words) (read : Command) (turns : ℕ) (status : Status) (old new : Surroundings) (events : List Event) → IsToldOf words read → read ≡ Relay turns
     → HasRelayed turns status old new events → HasRun words status old new events
 has_relayed words read turns status old new events told is ran = record {
   replay = λ workers are. absurd (no_other words read (Relay turns) (Replay workers) told is refl are);
@@ -197,7 +197,7 @@ has_relayed words read turns status old new events told is ran = record {
   capture = λ are. absurd (no_other words read (Relay turns) commands.Capture told is refl are);
 }
 
-pub has_shown : (words : Words) (read : Command) (calls start many : ℕ) (status : Status) (old new : Outside) (events : List Event) → IsToldOf words read
+pub has_shown : (words : Words) (read : Command) (calls start many : ℕ) (status : Status) (old new : Surroundings) (events : List Event) → IsToldOf words read
     → read ≡ Demo calls start many → HasShown calls start status old new events → HasRun words status old new events
 has_shown words read calls start many status old new events told is ran = record {
   replay = λ workers are. absurd (no_other words read (Demo calls start many) (Replay workers) told is refl are);
@@ -209,7 +209,7 @@ has_shown words read calls start many status old new events told is ran = record
   capture = λ are. absurd (no_other words read (Demo calls start many) commands.Capture told is refl are);
 }
 
-pub has_migrated : (words : Words) (read : Command) (status : Status) (old new : Outside) (events : List Event) → IsToldOf words read → read ≡ Migrate
+pub has_migrated : (words : Words) (read : Command) (status : Status) (old new : Surroundings) (events : List Event) → IsToldOf words read → read ≡ Migrate
     → HasMigrated status old new events → HasRun words status old new events
 has_migrated words read status old new events told is ran = record {
   replay = λ workers are. absurd (no_other words read Migrate (Replay workers) told is refl are);
@@ -219,7 +219,7 @@ has_migrated words read status old new events told is ran = record {
   capture = λ are. absurd (no_other words read Migrate commands.Capture told is refl are);
 }
 
-pub has_captured : (words : Words) (read : Command) (status : Status) (old new : Outside) (events : List Event) → IsToldOf words read → read ≡ commands.Capture
+pub has_captured : (words : Words) (read : Command) (status : Status) (old new : Surroundings) (events : List Event) → IsToldOf words read → read ≡ commands.Capture
     → HasCaptured status old new events → HasRun words status old new events
 has_captured words read status old new events told is ran = record {
   replay = λ workers are. absurd (no_other words read commands.Capture (Replay workers) told is refl are);
@@ -245,49 +245,49 @@ all_taken (Capture offset fault) events = ([], sym (append-nil events))
 
 -- ---- what a command doesn't answer
 
-replay_not : (other status : Status) (old new : replays.Tellings) (octets draws out : List ℕ) → (IsReplay other old new octets draws out → ⊥)
+replay_not : (other status : Status) (old new : replays.ReplayTellings) (octets draws out : List ℕ) → (IsReplay other old new octets draws out → ⊥)
     → IsReplay status old new octets draws out → status ≡ other → ⊥
 replay_not other status old new octets draws out isnt run is = isnt (subst (λ s. IsReplay s old new octets draws out) is run)
 
-pub replay_not_usage : (status : Status) (old new : replays.Tellings) (octets draws out : List ℕ) → IsReplay status old new octets draws out → status ≡ Usage → ⊥
+pub replay_not_usage : (status : Status) (old new : replays.ReplayTellings) (octets draws out : List ℕ) → IsReplay status old new octets draws out → status ≡ Usage → ⊥
 replay_not_usage status old new octets draws out run is = replay_not Usage status old new octets draws out (λ r. r.ends) run is
 
-pub replay_not_link : (status : Status) (old new : replays.Tellings) (octets draws out : List ℕ) → IsReplay status old new octets draws out → status ≡ Link → ⊥
+pub replay_not_link : (status : Status) (old new : replays.ReplayTellings) (octets draws out : List ℕ) → IsReplay status old new octets draws out → status ≡ Link → ⊥
 replay_not_link status old new octets draws out run is = replay_not Link status old new octets draws out (λ r. r.ends) run is
 
-pub replay_not_clock : (status : Status) (old new : replays.Tellings) (octets draws out : List ℕ) → IsReplay status old new octets draws out → status ≡ Clock → ⊥
+pub replay_not_clock : (status : Status) (old new : replays.ReplayTellings) (octets draws out : List ℕ) → IsReplay status old new octets draws out → status ≡ Clock → ⊥
 replay_not_clock status old new octets draws out run is = replay_not Clock status old new octets draws out (λ r. r.ends) run is
 
-migration_not : (other status : Status) (old new : migrations.Tellings) (octets out : List ℕ) → (IsMigration other old new octets out → ⊥)
+migration_not : (other status : Status) (old new : migrations.MigrationTellings) (octets out : List ℕ) → (IsMigration other old new octets out → ⊥)
     → IsMigration status old new octets out → status ≡ other → ⊥
 migration_not other status old new octets out isnt run is = isnt (subst (λ s. IsMigration s old new octets out) is run)
 
-pub migration_not_usage : (status : Status) (old new : migrations.Tellings) (octets out : List ℕ) → IsMigration status old new octets out → status ≡ Usage → ⊥
+pub migration_not_usage : (status : Status) (old new : migrations.MigrationTellings) (octets out : List ℕ) → IsMigration status old new octets out → status ≡ Usage → ⊥
 migration_not_usage status old new octets out run is = migration_not Usage status old new octets out (λ r. r.ends) run is
 
-pub migration_not_link : (status : Status) (old new : migrations.Tellings) (octets out : List ℕ) → IsMigration status old new octets out → status ≡ Link → ⊥
+pub migration_not_link : (status : Status) (old new : migrations.MigrationTellings) (octets out : List ℕ) → IsMigration status old new octets out → status ≡ Link → ⊥
 migration_not_link status old new octets out run is = migration_not Link status old new octets out (λ r. r.ends) run is
 
-pub migration_not_clock : (status : Status) (old new : migrations.Tellings) (octets out : List ℕ) → IsMigration status old new octets out → status ≡ Clock → ⊥
+pub migration_not_clock : (status : Status) (old new : migrations.MigrationTellings) (octets out : List ℕ) → IsMigration status old new octets out → status ≡ Clock → ⊥
 migration_not_clock status old new octets out run is = migration_not Clock status old new octets out (λ r. r.ends) run is
 
-pub migration_not_noise : (status : Status) (old new : migrations.Tellings) (octets out : List ℕ) → IsMigration status old new octets out → status ≡ Noise → ⊥
+pub migration_not_noise : (status : Status) (old new : migrations.MigrationTellings) (octets out : List ℕ) → IsMigration status old new octets out → status ≡ Noise → ⊥
 migration_not_noise status old new octets out run is = migration_not Noise status old new octets out (λ r. r.ends) run is
 
-capture_not : (other status : Status) (old new : replays.Tellings) (octets draws out : List ℕ) → (IsCapture other old new octets draws out → ⊥)
+capture_not : (other status : Status) (old new : replays.ReplayTellings) (octets draws out : List ℕ) → (IsCapture other old new octets draws out → ⊥)
     → IsCapture status old new octets draws out → status ≡ other → ⊥
 capture_not other status old new octets draws out isnt run is = isnt (subst (λ s. IsCapture s old new octets draws out) is run)
 
-pub capture_not_usage : (status : Status) (old new : replays.Tellings) (octets draws out : List ℕ) → IsCapture status old new octets draws out → status ≡ Usage → ⊥
+pub capture_not_usage : (status : Status) (old new : replays.ReplayTellings) (octets draws out : List ℕ) → IsCapture status old new octets draws out → status ≡ Usage → ⊥
 capture_not_usage status old new octets draws out run is = capture_not Usage status old new octets draws out (λ r. r.ends) run is
 
-pub capture_not_link : (status : Status) (old new : replays.Tellings) (octets draws out : List ℕ) → IsCapture status old new octets draws out → status ≡ Link → ⊥
+pub capture_not_link : (status : Status) (old new : replays.ReplayTellings) (octets draws out : List ℕ) → IsCapture status old new octets draws out → status ≡ Link → ⊥
 capture_not_link status old new octets draws out run is = capture_not Link status old new octets draws out (λ r. r.ends) run is
 
-pub capture_not_clock : (status : Status) (old new : replays.Tellings) (octets draws out : List ℕ) → IsCapture status old new octets draws out → status ≡ Clock → ⊥
+pub capture_not_clock : (status : Status) (old new : replays.ReplayTellings) (octets draws out : List ℕ) → IsCapture status old new octets draws out → status ≡ Clock → ⊥
 capture_not_clock status old new octets draws out run is = capture_not Clock status old new octets draws out (λ r. r.ends) run is
 
-pub relay_not_usage : (status : Status) (turns : ℕ) (old new : relays.Tellings) (p : Passed) → IsRelay status turns old new p → status ≡ Usage → ⊥
+pub relay_not_usage : (status : Status) (turns : ℕ) (old new : relays.RelayTellings) (p : Passed) → IsRelay status turns old new p → status ≡ Usage → ⊥
 relay_not_usage status turns old new p run is = (subst (λ s. IsRelay s turns old new p) is run).ends
 
 -- a demonstration is done, or the sink failed or memory ran out

@@ -9,7 +9,7 @@ ghost use Rattle.sg_gateway.specs.Runs.{outcomes};
 ghost use Rattle.sg_gateway.specs.Step.{Event};
 ghost use Rattle.sg_migrate.specs.Migrated.{IsOfVersionOne, migrated};
 ghost use Rattle.sg_migrate.specs.Migration as migrations;
-ghost use Rattle.sg_playback.specs.Replay.{IsComplete};
+ghost use Rattle.sg_playback.specs.Replay.{IsCompleteReplay};
 ghost use Rattle.sg_run.specs.Headline.{Headline};
 ghost use Rattle.sg_run.specs.Run.{HasRun};
 ghost use Rattle.sg_words.specs.Commands.{AreWordsOf, IsNoCommand};
@@ -73,7 +73,7 @@ pub fn run<R: Threads + Sync, S: Source, K: Sink, L: Link, C: Clock, N: Noise, G
     ensures replay_untouched { (workers : ℕ) → AreWordsOf (map string_bytes words.now) (Replay workers) → (link.new ≡ link.old) × (clock.new ≡ clock.old) }
     ensures replay_complete { (workers : ℕ) → AreWordsOf (map string_bytes words.now) (Replay workers)
         → ¬ Rose (S.faults source.old) (S.faults source.new) → ¬ Rose (K.faults sink.old) (K.faults sink.new) → ¬ Rose (N.faults noise.old) (N.faults noise.new)
-        → IsComplete result (S.left source.old) (S.left source.new) }
+        → IsCompleteReplay result (S.left source.old) (S.left source.new) }
     ensures demo_untouched { (calls start workers : ℕ) → AreWordsOf (map string_bytes words.now) (Demo calls start workers)
         → (source.new ≡ source.old) × (link.new ≡ link.old) × (clock.new ≡ clock.old) × (noise.new ≡ noise.old) }
     ensures demo_complete { (calls start workers : ℕ) → AreWordsOf (map string_bytes words.now) (Demo calls start workers)
@@ -81,11 +81,11 @@ pub fn run<R: Threads + Sync, S: Source, K: Sink, L: Link, C: Clock, N: Noise, G
     ensures migrate_untouched { AreWordsOf (map string_bytes words.now) Migrate → (link.new ≡ link.old) × (clock.new ≡ clock.old) × (noise.new ≡ noise.old) }
     ensures migrate_complete { AreWordsOf (map string_bytes words.now) Migrate
         → ¬ Rose (S.faults source.old) (S.faults source.new) → ¬ Rose (K.faults sink.old) (K.faults sink.new)
-        → migrations.IsComplete result (S.left source.old) (S.left source.new) }
+        → migrations.IsCompleteMigration result (S.left source.old) (S.left source.new) }
     ensures capture_untouched { AreWordsOf (map string_bytes words.now) Capture → (link.new ≡ link.old) × (clock.new ≡ clock.old) }
     ensures capture_complete { AreWordsOf (map string_bytes words.now) Capture
         → ¬ Rose (S.faults source.old) (S.faults source.new) → ¬ Rose (K.faults sink.old) (K.faults sink.new) → ¬ Rose (N.faults noise.old) (N.faults noise.new)
-        → captures.IsComplete result (S.left source.old) (S.left source.new) }
+        → captures.IsCompleteCapture result (S.left source.old) (S.left source.new) }
     ensures migrated_alike { (octets draws : List ℕ) → IsOfVersionOne octets → length (migrated octets) ≤ 2 ^ 30
         → outcomes (replayed (migrated octets) draws).events ≡ outcomes (replayed octets draws).events }
     ensures read { HasFailed (result ≡ Status.Read) (S.faults source.old) (S.faults source.new) (S.failed source.new) }

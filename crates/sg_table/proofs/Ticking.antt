@@ -10,7 +10,7 @@ use Rattle.sg_call.proofs.Passing.{filter_append}
 use Rattle.sg_call.specs.Standing.{CallStandsFor}
 use Rattle.sg_call.specs.Values.{CallValue}
 use Rattle.sg_gateway.specs.CallSignals.{is_idle, call_at_tick}
-use Rattle.sg_gateway.specs.Signals.{Answer, answer, ended, refused, ticked}
+use Rattle.sg_gateway.specs.Signals.{Answer, answer, tells_ended, refused, ticked}
 use Rattle.sg_gateway.specs.World.{Call, World}
 use Rattle.sg_leg.specs.Pairs.{EachPair}
 use Rattle.sg_leg.specs.declared.books.Books.{Books}
@@ -28,18 +28,18 @@ module _ (pairs : List Pair) (now : ℕ) where
   idles_same : (call : CallValue) (c : Call) → CallStandsFor pairs call c → idles now call ≡ is_idle now c
   idles_same call c h = ap (λ n. leb (n + 60000) now) (sym h.moment_is)
 
-  ended_same : (call : CallValue) (c : Call) → CallStandsFor pairs call c → ended_as why.Idle call ≡ ended why.Idle c
+  ended_same : (call : CallValue) (c : Call) → CallStandsFor pairs call c → ended_as why.Idle call ≡ tells_ended why.Idle c
   ended_same call c h = (λ i. Ended (sym h.id_is i) (sym h.slot_is i) (sym h.media_are i) why.Idle)
 
-  told_same : (calls : List CallValue) (cs : List Call) → EachPair (CallStandsFor pairs) calls cs → map (ended_as why.Idle) (filter (idles now) calls) ≡ map (ended why.Idle) (filter (is_idle now) cs)
+  told_same : (calls : List CallValue) (cs : List Call) → EachPair (CallStandsFor pairs) calls cs → map (ended_as why.Idle) (filter (idles now) calls) ≡ map (tells_ended why.Idle) (filter (is_idle now) cs)
   told_same [] [] h = refl
   told_same [] (c ∷ cs) h = absurd h
   told_same (call ∷ calls) [] h = absurd h
   told_same (call ∷ calls) (c ∷ cs) h =
       ap (λ b. map (ended_as why.Idle) (cond b (call ∷ filter (idles now) calls) (filter (idles now) calls))) (idles_same call c h.0) ∙ go (is_idle now c) (told_same calls cs h.1)
     where
-      go : (b : Bool) → map (ended_as why.Idle) (filter (idles now) calls) ≡ map (ended why.Idle) (filter (is_idle now) cs)
-          → map (ended_as why.Idle) (cond b (call ∷ filter (idles now) calls) (filter (idles now) calls)) ≡ map (ended why.Idle) (cond b (c ∷ filter (is_idle now) cs) (filter (is_idle now) cs))
+      go : (b : Bool) → map (ended_as why.Idle) (filter (idles now) calls) ≡ map (tells_ended why.Idle) (filter (is_idle now) cs)
+          → map (ended_as why.Idle) (cond b (call ∷ filter (idles now) calls) (filter (idles now) calls)) ≡ map (tells_ended why.Idle) (cond b (c ∷ filter (is_idle now) cs) (filter (is_idle now) cs))
       go true rest = (λ i. ended_same call c h.0 i ∷ rest i)
       go false rest = rest
 
@@ -80,7 +80,7 @@ quiet_ticked now (c ∷ cs) (n ∷ ns) t q = ((t.0.waiting ∙ q.0.0, t.0.handle
 
 module _ (calls : List CallValue) (books : Books) (last now : ℕ) (w : World) (holds : Holds (record { calls = calls; books = books; moment = last }) w) (outs : List Outcome) where
   abbrev goes_on : Answer
-  goes_on = answer (map (ended why.Idle) (filter (is_idle now) w.calls)) (record w { calls = map (call_at_tick now) (filter (λ c. not (is_idle now c)) w.calls); moment = now })
+  goes_on = answer (map (tells_ended why.Idle) (filter (is_idle now) w.calls)) (record w { calls = map (call_at_tick now) (filter (λ c. not (is_idle now c)) w.calls); moment = now })
 
   ticked_by : (b : Bool) → ltb now last ≡ b → ticked w now ≡ cond b (refused w None (TickBack w.moment)) goes_on
   ticked_by b is = ap (λ t. cond t (refused w None (TickBack w.moment)) goes_on) (ap (ltb now) holds.moment_is ∙ is)

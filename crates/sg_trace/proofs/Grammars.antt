@@ -10,7 +10,7 @@ use Rattle.sg_gateway.specs.Drawn.{Supplied, supplied}
 use Rattle.sg_lines.specs.LineOf.{version_after}
 use Rattle.sg_lines.specs.ScriptLines.{lines_of}
 use Rattle.sg_lines.specs.declared.lines.Line.{Line}
-use Rattle.sg_trace.specs.Trace.{AtCapture, AtFault, Command, Trace, Later, Outside, Relays, Replays, after_line, begins_capture, trace_from, handled_as, line_at, line_in, moment_of, replayed, said_by, stopped, wait_in, waited, woven}
+use Rattle.sg_trace.specs.Trace.{AtCapture, AtFault, Command, Trace, Later, Outside, Relays, Replays, after_line, begins_capture, trace_from, handled_as, line_at, line_in, moment_of, replayed, waited_or_handled, stopped, wait_in, waited, woven}
 use Rattle.sg_trace.specs.Grammar.{IsScript, fault_after, fault_from, fault_in}
 
 -- what follows tells no such fault
@@ -33,7 +33,7 @@ module _ (n : ℕ) (f : ScriptFault) where
   in_line None later none top o is = absurd cc
   in_line (Some s) later none top o is = none top (record o { draws = s.draws }) is
 
-  in_said : (l : Line) (w : Option ℕ) (later : Later) → Spares later n f → (top : ℕ) (o : Outside) → (said_by l w later top o).stop ≡ AtFault n f → ⊥
+  in_said : (l : Line) (w : Option ℕ) (later : Later) → Spares later n f → (top : ℕ) (o : Outside) → (waited_or_handled l w later top o).stop ≡ AtFault n f → ⊥
   in_said l (Some until) later none top o is = in_wait until later none o.readings o.receipts top o.draws is
   in_said l None later none top o is = in_line (supplied o.draws l) later none top o is
 

@@ -22,10 +22,10 @@ pub data Occurrence : Type 0 where
   Happens : Event → Occurrence
   Skipped : ℕ → SkipCause → Occurrence
 
-abbrev pub events_in : List Occurrence → List Event
-events_in [] = []
-events_in (Happens e ∷ os) = e ∷ events_in os
-events_in (Skipped number cause ∷ os) = events_in os
+abbrev pub captured_events : List Occurrence → List Event
+captured_events [] = []
+captured_events (Happens e ∷ os) = e ∷ captured_events os
+captured_events (Skipped number cause ∷ os) = captured_events os
 
 -- what is written from a world on: what the events tell, with the lines of skipped records in their places
 abbrev pub output_of : World → List Occurrence → List ℕ

@@ -106,9 +106,9 @@ abbrev pub wait_in : Command → Line → Option ℕ
 wait_in (Relays began) (lines.Signal (Tick t)) = Some (began + t)
 wait_in k other = None
 
-abbrev pub said_by : Line → Option ℕ → Later → Later
-said_by l (Some until) later top o = waited until later top o.readings o.receipts o.draws
-said_by l None later top o = handled l later top o
+abbrev pub waited_or_handled : Line → Option ℕ → Later → Later
+waited_or_handled l (Some until) later top o = waited until later top o.readings o.receipts o.draws
+waited_or_handled l None later top o = handled l later top o
 
 -- the line as this run takes it: a relay, whose moments are those of its clock, leaves out that of a datagram
 abbrev pub line_in : Command → Line → Line
@@ -116,7 +116,7 @@ line_in (Relays began) (lines.DatagramAt now port from octets) = lines.Datagram 
 line_in k other = other
 
 abbrev pub said : Command → Line → Later → Later
-said k l later top o = said_by (line_in k l) (wait_in k l) later top o
+said k l later top o = waited_or_handled (line_in k l) (wait_in k l) later top o
 
 -- a capture begins behind the line `capture`, which isn't the first, within the first 2^30 octets of the script
 abbrev pub begins_capture : Command → ℕ → ℕ → List ℕ → Bool

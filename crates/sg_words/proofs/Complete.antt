@@ -13,7 +13,7 @@ use Rattle.sg_base.proofs.Decimals.{number_again}
 use Rattle.sg_base.proofs.FourNumbers.{decimal_lacks}
 use Rattle.sg_words.proofs.Among.{in_left, of_map}
 use Rattle.sg_words.proofs.Shapes.{IsDemoSeen, IsValue, are_written, capture_alone, demo_found_so, demo_with, demo_without, migrate_alone, relay_seen, relay_with, replay_seen, replay_with, replay_without, value_of}
-use Rattle.sg_words.specs.Commands.{AreWordsOf, IsOneOf, IsWorkers, Text, Words, ended, with_option, with_workers}
+use Rattle.sg_words.specs.Commands.{AreWordsOf, IsOneOf, IsWorkers, Text, Words, with_end_mark, with_option, with_workers}
 use Rattle.sg_words.specs.Grammar.{srtpgw}
 use Rattle.sg_words.specs.Reading.{are_ended, command_by, demo_by, first_said, have_option, no_fault, positive, relay_by, replay_by, text_in, workers_by}
 use Rattle.sg_words.specs.declared.command.Command.{Command}
@@ -47,15 +47,15 @@ replay_known rest n o seen reads =
     found_by (codes "replay" ∷ rest) (Replay n) (ap (λ x. x.0) seen)
     (ap (λ (t : Option Text). replay_by rest t) (ap (λ x. x.1) seen) ∙ ap (option_map (λ (k : ℕ). Replay k)) (reads (ap (λ x. x.2) seen)))
 
-replay_alone : (n : ℕ) (rest : Words) (b : Bool) → (n == 1) ≡ b → IsOneOf rest (cond b (ended []) []) → command_by (codes "replay" ∷ rest) ≡ Some (Replay n)
+replay_alone : (n : ℕ) (rest : Words) (b : Bool) → (n == 1) ≡ b → IsOneOf rest (cond b (with_end_mark []) []) → command_by (codes "replay" ∷ rest) ≡ Some (Replay n)
 replay_alone n rest false e others = absurd others
-replay_alone n rest true e others = elim (replay_without rest [] (in_left rest (ended []) [] others)) [
+replay_alone n rest true e others = elim (replay_without rest [] (in_left rest (with_end_mark []) [] others)) [
   | inl seen ↦ replay_known rest n None seen (workers_one n rest [] e)
   | inr none ↦ absurd none
 ]
 
 replay_of : (n : ℕ) (rest : Words) → IsWorkers n → IsOneOf rest (with_workers n []) → command_by (codes "replay" ∷ rest) ≡ Some (Replay n)
-replay_of n rest good among = elim (replay_with (decimal n) (value n (omega (arith, good.1))) rest (cond (n == 1) (ended []) []) among) [
+replay_of n rest good among = elim (replay_with (decimal n) (value n (omega (arith, good.1))) rest (cond (n == 1) (with_end_mark []) []) among) [
   | inl seen ↦ replay_known rest n (Some (decimal n)) seen (workers_known n rest [] good)
   | inr others ↦ replay_alone n rest (n == 1) refl others
 ]
@@ -95,28 +95,28 @@ demo_known rest n s w o b seen reads =
     ∙ ap (option_and_then (λ (k : ℕ). option_map (λ (x : ℕ). Demo n k x) (workers_by rest (decimal n ∷ decimal s ∷ []) o))) start_read
     ∙ ap (option_map (λ (x : ℕ). Demo n s x)) (reads seen.written))
 
-demo_alone : (n s w : ℕ) (rest : Words) (b : Bool) → AreBounded n s → (w == 1) ≡ b → IsOneOf rest (cond b (ended (decimal n ∷ decimal s ∷ [])) [])
+demo_alone : (n s w : ℕ) (rest : Words) (b : Bool) → AreBounded n s → (w == 1) ≡ b → IsOneOf rest (cond b (with_end_mark (decimal n ∷ decimal s ∷ [])) [])
     → command_by (codes "demo" ∷ rest) ≡ Some (Demo n s w)
 demo_alone n s w rest false b e others = absurd others
 demo_alone n s w rest true b e others =
-    elim (demo_without (decimal n) (decimal s) (value n (omega (arith, b.few))) (value s b.small) rest [] (in_left rest (ended (decimal n ∷ decimal s ∷ [])) [] others)) [
+    elim (demo_without (decimal n) (decimal s) (value n (omega (arith, b.few))) (value s b.small) rest [] (in_left rest (with_end_mark (decimal n ∷ decimal s ∷ [])) [] others)) [
       | inl seen ↦ demo_known rest n s w None b seen (workers_one w rest (decimal n ∷ decimal s ∷ []) e)
       | inr none ↦ absurd none
     ]
 
 demo_of : (n s w : ℕ) (rest : Words) → AreBounded n s → IsWorkers w → IsOneOf rest (with_workers w (decimal n ∷ decimal s ∷ [])) → command_by (codes "demo" ∷ rest) ≡ Some (Demo n s w)
 demo_of n s w rest b good among =
-    elim (demo_with (decimal n) (decimal s) (decimal w) (value n (omega (arith, b.few))) (value s b.small) (value w (omega (arith, good.1))) rest (cond (w == 1) (ended (decimal n ∷ decimal s ∷ [])) []) among) [
+    elim (demo_with (decimal n) (decimal s) (decimal w) (value n (omega (arith, b.few))) (value s b.small) (value w (omega (arith, good.1))) rest (cond (w == 1) (with_end_mark (decimal n ∷ decimal s ∷ [])) []) among) [
       | inl seen ↦ demo_known rest n s w (Some (decimal w)) b seen (workers_known w rest (decimal n ∷ decimal s ∷ []) good)
       | inr others ↦ demo_alone n s w rest (w == 1) b refl others
     ]
 
-migrate_of : (rest : Words) → IsOneOf rest (ended []) → command_by (codes "migrate" ∷ rest) ≡ Some Migrate
+migrate_of : (rest : Words) → IsOneOf rest (with_end_mark []) → command_by (codes "migrate" ∷ rest) ≡ Some Migrate
 migrate_of rest among =
     let seen = migrate_alone rest among in
     found_by (codes "migrate" ∷ rest) Migrate (ap (λ x. x.0) seen) (cond-true _ _ _ (ap (λ x. x.1) seen))
 
-capture_of : (rest : Words) → IsOneOf rest (ended []) → command_by (codes "capture" ∷ rest) ≡ Some Capture
+capture_of : (rest : Words) → IsOneOf rest (with_end_mark []) → command_by (codes "capture" ∷ rest) ≡ Some Capture
 capture_of rest among =
     let seen = capture_alone rest among in
     found_by (codes "capture" ∷ rest) Capture (ap (λ x. x.0) seen) (cond-true _ _ _ (ap (λ x. x.1) seen))
@@ -132,10 +132,10 @@ complete words (Demo n s w) are =
     let made = of_map (λ others. codes "demo" ∷ others) words (with_workers w (decimal n ∷ decimal s ∷ [])) are.1 in
     ap command_by made.is ∙ demo_of n s w made.others (record { some = are.0.0; few = are.0.1; small = are.0.2 }) are.0.3 made.among
 complete words Migrate are =
-    let made = of_map (λ others. codes "migrate" ∷ others) words (ended []) are.1 in
+    let made = of_map (λ others. codes "migrate" ∷ others) words (with_end_mark []) are.1 in
     ap command_by made.is ∙ migrate_of made.others made.among
 complete words Capture are =
-    let made = of_map (λ others. codes "capture" ∷ others) words (ended []) are.1 in
+    let made = of_map (λ others. codes "capture" ∷ others) words (with_end_mark []) are.1 in
     ap command_by made.is ∙ capture_of made.others made.among
 
 -- ---- what is answered

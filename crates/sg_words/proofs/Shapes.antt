@@ -7,7 +7,7 @@ use Rattle.clap.specs.Words.{Kinds, Row, fault_of, first_of, is_simple_and_free,
 use Rattle.clap.specs.Lexer.{long_of, short_of}
 use Rattle.clap.proofs.OnLiterals.{clap_on_literals}
 use Rattle.sg_base.specs.Fields.{Lacks}
-use Rattle.sg_words.specs.Commands.{IsOneOf, Text, Words, ended, with_option}
+use Rattle.sg_words.specs.Commands.{IsOneOf, Text, Words, with_end_mark, with_option}
 use Rattle.sg_words.specs.Grammar.{srtpgw}
 use Rattle.sg_words.specs.Reading.{are_ended, have_option, text_in}
 
@@ -96,7 +96,7 @@ replay_with v iv rest others (inr (inr (inr (inl e)))) =
 replay_with v iv rest others (inr (inr (inr (inr o)))) = inr o
 
 -- and each way without it
-pub replay_without : (rest : Words) (others : List Words) → IsOneOf rest (ended [] ++ others)
+pub replay_without : (rest : Words) (others : List Words) → IsOneOf rest (with_end_mark [] ++ others)
     → (replay_seen None rest ≡ ([], None, true)) ⊎ IsOneOf rest others
 unfolding clap_on_literals
 replay_without rest others (inl e) =
@@ -124,7 +124,7 @@ abbrev pub migrate_seen : Words → Kinds × Bool
 migrate_seen rest = (fault_of srtpgw (codes "migrate" ∷ rest), are_ended rest [])
 
 -- the same of `migrate`
-pub migrate_alone : (rest : Words) → IsOneOf rest (ended []) → migrate_seen rest ≡ ([], true)
+pub migrate_alone : (rest : Words) → IsOneOf rest (with_end_mark []) → migrate_seen rest ≡ ([], true)
 unfolding clap_on_literals
 migrate_alone rest (inl e) = ap migrate_seen e ∙ refl
 migrate_alone rest (inr (inl e)) = ap migrate_seen e ∙ refl
@@ -134,7 +134,7 @@ abbrev pub capture_seen : Words → Kinds × Bool
 capture_seen rest = (fault_of srtpgw (codes "capture" ∷ rest), are_ended rest [])
 
 -- the same of `capture`
-pub capture_alone : (rest : Words) → IsOneOf rest (ended []) → capture_seen rest ≡ ([], true)
+pub capture_alone : (rest : Words) → IsOneOf rest (with_end_mark []) → capture_seen rest ≡ ([], true)
 unfolding clap_on_literals
 capture_alone rest (inl e) = ap capture_seen e ∙ refl
 capture_alone rest (inr (inl e)) = ap capture_seen e ∙ refl
@@ -237,7 +237,7 @@ demo_with c s v ic is iv rest others (inr (inr (inr (inr (inr (inr (inr (inr (in
 demo_with c s v ic is iv rest others (inr (inr (inr (inr (inr (inr (inr (inr (inr (inr (inr (inr (inr (inr (inr (inr (inr (inr o)))))))))))))))))) = inr o
 
 -- and without it
-pub demo_without : (c s : Text) → IsValue c → IsValue s → (rest : Words) (others : List Words) → IsOneOf rest (ended (c ∷ s ∷ []) ++ others)
+pub demo_without : (c s : Text) → IsValue c → IsValue s → (rest : Words) (others : List Words) → IsOneOf rest (with_end_mark (c ∷ s ∷ []) ++ others)
     → IsDemoSeen c s None rest ⊎ IsOneOf rest others
 unfolding clap_on_literals texts_found
 demo_without c s ic is rest others (inl e) =

@@ -9,7 +9,7 @@ use Rattle.clap.specs.Words.{fault_of}
 use Rattle.sg_base.specs.Fields.{number_at}
 use Rattle.sg_base.proofs.Decimals.{number_takes}
 use Rattle.sg_words.proofs.Among.{in_left, in_map, in_right}
-use Rattle.sg_words.specs.Commands.{AreWordsOf, IsOneOf, IsWorkers, Text, Words, ended, option_before, put_in, with_option, with_workers}
+use Rattle.sg_words.specs.Commands.{AreWordsOf, IsOneOf, IsWorkers, Text, Words, with_end_mark, option_before, put_in, with_option, with_workers}
 use Rattle.sg_words.specs.Grammar.{srtpgw}
 use Rattle.sg_words.specs.Reading.{alone_by, are, are_ended, command_by, demo_by, first_said, follows, have_option, is_joined, led_by, no_fault, positive, relay_by, said_by, text_in, workers_by}
 use Rattle.sg_words.specs.declared.command.Command.{Command}
@@ -35,18 +35,18 @@ first_in x [] = inl refl
 first_in x (t ∷ ts) = inl refl
 
 ended_at : (w : Text) (ws ts : Words) (b : Bool) → bytes_eq w (codes "--") ≡ b → cond b (are ws ts) (led_by w ts (are_ended ws)) ≡ true
-    → ((others : Words) → are_ended ws others ≡ true → IsOneOf ws (ended others)) → IsOneOf (w ∷ ws) (ended ts)
+    → ((others : Words) → are_ended ws others ≡ true → IsOneOf ws (with_end_mark others)) → IsOneOf (w ∷ ws) (with_end_mark ts)
 ended_at w ws ts true e is rec =
-    subst (λ (l : Words). IsOneOf l (ended ts)) (sym (ap₂ (λ (x : Text) (xs : Words). x ∷ xs) (same w (codes "--") e) (are_so ws ts is))) (inr (first_in (codes "--") ts))
+    subst (λ (l : Words). IsOneOf l (with_end_mark ts)) (sym (ap₂ (λ (x : Text) (xs : Words). x ∷ xs) (same w (codes "--") e) (are_so ws ts is))) (inr (first_in (codes "--") ts))
 ended_at w ws [] false e is rec = absurd cc
 ended_at w ws (t ∷ ts) false e is rec =
     let p = and_parts _ _ is in
-    subst (λ (x : Text). IsOneOf (x ∷ ws) (ended (t ∷ ts))) (sym (same w t p.0)) (elim (rec ts p.1) [
+    subst (λ (x : Text). IsOneOf (x ∷ ws) (with_end_mark (t ∷ ts))) (sym (same w t p.0)) (elim (rec ts p.1) [
       | inl whole ↦ inl (ap (λ (xs : Words). t ∷ xs) whole)
       | inr put ↦ inr (inr (in_map (λ others. t ∷ others) ws (put_in (codes "--") ts) put))
     ])
 
-ended_so : (ws ts : Words) → are_ended ws ts ≡ true → IsOneOf ws (ended ts)
+ended_so : (ws ts : Words) → are_ended ws ts ≡ true → IsOneOf ws (with_end_mark ts)
 ended_so [] [] is = inl refl
 ended_so [] (t ∷ ts) is = absurd cc
 ended_so (w ∷ ws) ts is = ended_at w ws ts (bytes_eq w (codes "--")) refl is (ended_so ws)
@@ -60,18 +60,18 @@ before_in : (option value : Text) (ws ts : Words) → IsOneOf ws (option_before 
 before_in option value ws [] among = among
 before_in option value ws (t ∷ ts) among = in_left ws (option_before option value (t ∷ ts)) (map (λ others. t ∷ others) (with_option option value ts)) among
 
-joined_in : (w option value : Text) (ws ts : Words) → w ≡ option ++ codes "=" ++ value → IsOneOf ws (ended ts) → IsOneOf (w ∷ ws) (with_option option value ts)
+joined_in : (w option value : Text) (ws ts : Words) → w ≡ option ++ codes "=" ++ value → IsOneOf ws (with_end_mark ts) → IsOneOf (w ∷ ws) (with_option option value ts)
 joined_in w option value ws ts is among =
     before_in option value (w ∷ ws) ts
     (subst (λ (x : Text). IsOneOf (x ∷ ws) (option_before option value ts)) (sym is)
-    (in_left ((option ++ codes "=" ++ value) ∷ ws) (map (λ others. (option ++ codes "=" ++ value) ∷ others) (ended ts)) (map (λ others. option ∷ value ∷ others) (ended ts))
-    (in_map (λ others. (option ++ codes "=" ++ value) ∷ others) ws (ended ts) among)))
+    (in_left ((option ++ codes "=" ++ value) ∷ ws) (map (λ others. (option ++ codes "=" ++ value) ∷ others) (with_end_mark ts)) (map (λ others. option ∷ value ∷ others) (with_end_mark ts))
+    (in_map (λ others. (option ++ codes "=" ++ value) ∷ others) ws (with_end_mark ts) among)))
 
-apart_in : (w option value x : Text) (ws ts : Words) → w ≡ option → x ≡ value → IsOneOf ws (ended ts) → IsOneOf (w ∷ x ∷ ws) (with_option option value ts)
+apart_in : (w option value x : Text) (ws ts : Words) → w ≡ option → x ≡ value → IsOneOf ws (with_end_mark ts) → IsOneOf (w ∷ x ∷ ws) (with_option option value ts)
 apart_in w option value x ws ts is next among =
     before_in option value (w ∷ x ∷ ws) ts
     (subst (λ (l : Words). IsOneOf l (option_before option value ts)) (sym (ap₂ (λ (a b : Text). a ∷ b ∷ ws) is next))
-    (in_right (option ∷ value ∷ ws) (map (λ others. (option ++ codes "=" ++ value) ∷ others) (ended ts)) (map (λ others. option ∷ value ∷ others) (ended ts)) (in_map (λ others. option ∷ value ∷ others) ws (ended ts) among)))
+    (in_right (option ∷ value ∷ ws) (map (λ others. (option ++ codes "=" ++ value) ∷ others) (with_end_mark ts)) (map (λ others. option ∷ value ∷ others) (with_end_mark ts)) (in_map (λ others. option ∷ value ∷ others) ws (with_end_mark ts) among)))
 
 follows_in : (w option value : Text) (ws ts : Words) → w ≡ option → follows ws value ts ≡ true → IsOneOf (w ∷ ws) (with_option option value ts)
 follows_in w option value [] ts is next = absurd cc
@@ -121,12 +121,12 @@ workers_so ws ts None n found =
     let p = chosen (are_ended ws ts) (Some 1) n found in
     let e : 1 ≡ n = (let q = p.1 in cc) in
     subst (λ x. IsWorkers x × IsOneOf ws (with_workers x ts)) e
-    ((omega arith, omega arith), in_right ws (with_option (codes "--workers") (decimal 1) ts) (ended ts) (ended_so ws ts p.0))
+    ((omega arith, omega arith), in_right ws (with_option (codes "--workers") (decimal 1) ts) (with_end_mark ts) (ended_so ws ts p.0))
 workers_so ws ts (Some value) n found =
     let p = chosen (have_option ws (codes "--workers") value ts) (positive 16 value) n found in
     let q = positive_so 16 n value p.1 in (
       (q.1, q.2),
-      in_left ws (with_option (codes "--workers") (decimal n) ts) (cond (n == 1) (ended ts) [])
+      in_left ws (with_option (codes "--workers") (decimal n) ts) (cond (n == 1) (with_end_mark ts) [])
           (subst (λ (v : Text). IsOneOf ws (with_option (codes "--workers") v ts)) q.0 (option_so ws (codes "--workers") value ts p.0)),
     )
 
@@ -192,7 +192,7 @@ demo_so ws (Some calls) (Some start) o c found = demo_calls ws calls start o c (
 named : (name : Text) (word : Text) (ws : Words) (c : Command) → bytes_eq name word ≡ true → AreWordsOf (word ∷ ws) c → AreWordsOf (name ∷ ws) c
 named name word ws c is so = subst (λ (x : Text). AreWordsOf (x ∷ ws) c) (sym (same name word is)) so
 
-alone_so : (ws : Words) (command c : Command) → alone_by command ws ≡ Some c → (command ≡ c) × IsOneOf ws (ended [])
+alone_so : (ws : Words) (command c : Command) → alone_by command ws ≡ Some c → (command ≡ c) × IsOneOf ws (with_end_mark [])
 alone_so ws command c found =
     let p = chosen (are_ended ws []) (Some command) c found in
     let same_command : command ≡ c = (let e = p.1 in cc) in
@@ -201,12 +201,12 @@ alone_so ws command c found =
 migrate_so : (ws : Words) (c : Command) → alone_by Migrate ws ≡ Some c → AreWordsOf (codes "migrate" ∷ ws) c
 migrate_so ws c found =
     let p = alone_so ws Migrate c found in
-    subst (AreWordsOf (codes "migrate" ∷ ws)) p.0 (tt, in_map (λ others. codes "migrate" ∷ others) ws (ended []) p.1)
+    subst (AreWordsOf (codes "migrate" ∷ ws)) p.0 (tt, in_map (λ others. codes "migrate" ∷ others) ws (with_end_mark []) p.1)
 
 capture_so : (ws : Words) (c : Command) → alone_by Capture ws ≡ Some c → AreWordsOf (codes "capture" ∷ ws) c
 capture_so ws c found =
     let p = alone_so ws Capture c found in
-    subst (AreWordsOf (codes "capture" ∷ ws)) p.0 (tt, in_map (λ others. codes "capture" ∷ others) ws (ended []) p.1)
+    subst (AreWordsOf (codes "capture" ∷ ws)) p.0 (tt, in_map (λ others. codes "capture" ∷ others) ws (with_end_mark []) p.1)
 
 -- the command is that of this word, or of a later one
 module _ (name : Text) (ws : Words) (c : Command) where

@@ -16,13 +16,13 @@ put_in word [] = (word ∷ []) ∷ []
 put_in word (w ∷ ws) = (word ∷ w ∷ ws) ∷ map (λ others. w ∷ others) (put_in word ws)
 
 -- these words, or these and a lone `--` among them: it says that no option is behind it
-abbrev pub ended : Words → List Words
-ended words = words ∷ put_in (codes "--") words
+abbrev pub with_end_mark : Words → List Words
+with_end_mark words = words ∷ put_in (codes "--") words
 
 -- an option in front of these words, its value behind its equals sign or as the next word
 abbrev pub option_before : Text → Text → Words → List Words
 option_before option value words =
-    map (λ others. (option ++ codes "=" ++ value) ∷ others) (ended words) ++ map (λ others. option ∷ value ∷ others) (ended words)
+    map (λ others. (option ++ codes "=" ++ value) ∷ others) (with_end_mark words) ++ map (λ others. option ∷ value ∷ others) (with_end_mark words)
 
 -- an option in front of these words, between two of them, or behind them
 abbrev pub with_option : Text → Text → Words → List Words
@@ -32,7 +32,7 @@ with_option option value (w ∷ ws) = option_before option value (w ∷ ws) ++ m
 -- a number of workers with these words; where none is said, it is 1
 abbrev pub with_workers : ℕ → Words → List Words
 with_workers workers words =
-    with_option (codes "--workers") (decimal workers) words ++ (if workers == 1 then ended words else [])
+    with_option (codes "--workers") (decimal workers) words ++ (if workers == 1 then with_end_mark words else [])
 
 -- Every way to write a command. A number is written in decimal digits, without a sign or a leading zero.
 abbrev pub spellings : Command → List Words
@@ -40,8 +40,8 @@ spellings (Replay workers) = map (λ others. codes "replay" ∷ others) (with_wo
 spellings (Relay turns) = map (λ others. codes "relay" ∷ others) (with_option (codes "--turns") (decimal turns) [])
 spellings (Demo calls start workers) =
     map (λ others. codes "demo" ∷ others) (with_workers workers (decimal calls ∷ decimal start ∷ []))
-spellings Migrate = map (λ others. codes "migrate" ∷ others) (ended [])
-spellings Capture = map (λ others. codes "capture" ∷ others) (ended [])
+spellings Migrate = map (λ others. codes "migrate" ∷ others) (with_end_mark [])
+spellings Capture = map (λ others. codes "capture" ∷ others) (with_end_mark [])
 
 -- 1 to 16 workers
 abbrev pub IsWorkers : ℕ → Type 0

@@ -1,7 +1,7 @@
 use Rattle.std.proofs.Common.{◌≡◌, ◌++◌, ◌∙◌, take, subst, ap, sym, Err}
 use Rattle.std.proofs.lemmas.List.{take_all}
-use Rattle.sg_bridge.specs.Bridged.{followed}
-use Rattle.sg_bridge.specs.Pairs.{Members, noted}
+use Rattle.sg_bridge.specs.Bridged.{told_and_parted}
+use Rattle.sg_bridge.specs.Pairs.{Members, after_outcome}
 use Rattle.sg_bridging.proofs.Steps.{all_text, lines, more_calls, more_text}
 use Rattle.sg_bridging.specs.Steps.{told_next}
 use Rattle.sg_edge.proofs.Passed.{wrote_more}
@@ -21,7 +21,7 @@ returns-in-Err-clause-told g c =
     let whole = all_text calls os i o c.loop-outcome-test.true c.outcome-item.is in
     let told = subst (λ (m : Members). IsWritten (Err c.in-Err.status) (g.K.Sink.written c.loop-outcome.sink) (g.K.Sink.written c.tell_next.new.sink) (told_next m o)) before.1 c.in-Err.ensures.told in
     subst (IsWritten (Err c.in-Err.status) (g.K.Sink.written c.args.sink.now) (g.K.Sink.written c.tell_next.new.sink)) (sym whole.1)
-    (written_behind c.in-Err.status _ _ _ (lines (followed calls (take i os)).told) (told_next (followed calls (take i os)).calls o) whole.0 before.0 told)
+    (written_behind c.in-Err.status _ _ _ (lines (told_and_parted calls (take i os)).told) (told_next (told_and_parted calls (take i os)).calls o) whole.0 before.0 told)
 
 pub returns-in-Err-clause-write : goal.returns-in-Err-clause-write
 returns-in-Err-clause-write g c = failed_now _ _ _ _ _ c.loop-outcome.invariant.2 c.in-Err.ensures.write
@@ -29,12 +29,12 @@ returns-in-Err-clause-write g c = failed_now _ _ _ _ _ c.loop-outcome.invariant.
 pub returns-clause-told : goal.returns-clause-told
 returns-clause-told g c =
     let all : take c.loop-outcome.outcome-index c.args.outcomes.now ≡ c.args.outcomes.now = take_all c.loop-outcome.outcome-index c.args.outcomes.now c.loop-outcome-test.false in
-    subst (Wrote (g.K.Sink.written c.args.sink.now) (g.K.Sink.written c.loop-outcome.sink)) (ap (λ os. lines (followed c.args.bridge.now os).told) all) c.loop-outcome.invariant.0
+    subst (Wrote (g.K.Sink.written c.args.sink.now) (g.K.Sink.written c.loop-outcome.sink)) (ap (λ os. lines (told_and_parted c.args.bridge.now os).told) all) c.loop-outcome.invariant.0
 
 pub returns-clause-calls : goal.returns-clause-calls
 returns-clause-calls g c =
     let all : take c.loop-outcome.outcome-index c.args.outcomes.now ≡ c.args.outcomes.now = take_all c.loop-outcome.outcome-index c.args.outcomes.now c.loop-outcome-test.false in
-    c.loop-outcome.invariant.1 ∙ ap (λ os. (followed c.args.bridge.now os).calls) all
+    c.loop-outcome.invariant.1 ∙ ap (λ os. (told_and_parted c.args.bridge.now os).calls) all
 
 pub loop-outcome-preserved : goal.loop-outcome-preserved
 loop-outcome-preserved g c =
@@ -45,7 +45,7 @@ loop-outcome-preserved g c =
     let o = c.outcome-item.result in
     let told = subst (λ (m : Members). Wrote (g.K.Sink.written c.loop-outcome.sink) (g.K.Sink.written c.tell_next.new.sink) (told_next m o)) before.1 c.in-Ok.ensures.told in (
       subst (Wrote (g.K.Sink.written c.args.sink.now) (g.K.Sink.written c.tell_next.new.sink)) (sym (more_text calls os i o c.loop-outcome-test.true c.outcome-item.is))
-          (wrote_more _ _ _ (lines (followed calls (take i os)).told) (told_next (followed calls (take i os)).calls o) before.0 told),
-      c.in-Ok.ensures.calls ∙ ap (λ (m : Members). (noted m o).calls) before.1 ∙ sym (more_calls calls os i o c.loop-outcome-test.true c.outcome-item.is),
+          (wrote_more _ _ _ (lines (told_and_parted calls (take i os)).told) (told_next (told_and_parted calls (take i os)).calls o) before.0 told),
+      c.in-Ok.ensures.calls ∙ ap (λ (m : Members). (after_outcome m o).calls) before.1 ∙ sym (more_calls calls os i o c.loop-outcome-test.true c.outcome-item.is),
       c.in-Ok.ensures.write.quiet (λ is. cc) ∙ before.2,
     )

@@ -6,7 +6,7 @@ use Rattle.sg_gateway.specs.Runs.{world_after}
 use Rattle.sg_playback.specs.Playing.{waiting}
 use Rattle.sg_table.specs.Batches.{arrived}
 use Rattle.sg_table.specs.Standing.{TableStandsFor}
-use Rattle.sg_trace.specs.Captured.{Skipped, events_in}
+use Rattle.sg_trace.specs.Captured.{Skipped, captured_events}
 use Rattle.sg_capture.proofs.frames.tell_skip.Goals as goal
 
 pub returns-in-Err-clause-met : goal.returns-in-Err-clause-met
@@ -24,7 +24,7 @@ returns-clause-met g c = λ w stands.
     let mid = waiting c.settle.new.self in
     let first : IsToldOf w (waiting c.args.player.now) mid [] (TableStandsFor c.settle.new.self.table) s.0 =
     settled_met (Ok tt) w (waiting c.args.player.now) mid (TableStandsFor c.settle.new.self.table) s.0 s.2 in
-    let t = skip_met c.write_skip.result (world_after w (events_in first.told)) mid mid c.args.number c.args.cause (TableStandsFor c.settle.new.self.table) _ _ (ap (map arrived) c.in-Ok.ensures.none) refl first.stands c.write_skip.ensures.told in (
+    let t = skip_met c.write_skip.result (world_after w (captured_events first.told)) mid mid c.args.number c.args.cause (TableStandsFor c.settle.new.self.table) _ _ (ap (map arrived) c.in-Ok.ensures.none) refl first.stands c.write_skip.ensures.told in (
       s.0 ++ t.0,
       wrote_more _ _ _ s.0 t.0 s.1 t.1,
       met_then c.write_skip.result w (waiting c.args.player.now) mid mid [] (Skipped c.args.number c.args.cause ∷ []) (TableStandsFor c.settle.new.self.table) (TableStandsFor c.settle.new.self.table) s.0 t.0 first t.2,

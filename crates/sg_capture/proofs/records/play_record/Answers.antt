@@ -6,7 +6,7 @@ use Rattle.sg_gateway.specs.Runs.{world_after}
 use Rattle.sg_pcap.specs.Frames.{frame_of}
 use Rattle.sg_playback.specs.Playing.{waiting}
 use Rattle.sg_table.specs.Standing.{TableStandsFor}
-use Rattle.sg_trace.specs.Captured.{Happens, events_in, frame_occurs}
+use Rattle.sg_trace.specs.Captured.{Happens, captured_events, frame_occurs}
 use Rattle.sg_trace.specs.Trace.{ticks_at}
 use Rattle.sg_capture.proofs.records.play_record.Goals as goal
 
@@ -24,7 +24,7 @@ returns-in-Err-clause-met g c = λ w stands.
 pub returns-clause-met : goal.returns-clause-met
 returns-clause-met g c = λ w stands.
     let t = c.in-Ok.ensures.met w stands in
-    let u = c.play_frame.ensures.met (world_after w (events_in t.2.told)) t.2.stands in (
+    let u = c.play_frame.ensures.met (world_after w (captured_events t.2.told)) t.2.stands in (
       t.0 ++ u.0,
       wrote_more _ _ _ t.0 u.0 t.1 u.1,
       subst (λ (m : ℕ). IsMet c.play_frame.result w (waiting c.args.player.now) (waiting c.play_frame.new.player) (map Happens (ticks_at c.args.progress.top m) ++ frame_occurs c.args.progress.number (frame_of c.args.frame.now)) (TableStandsFor c.play_frame.new.player.table) (t.0 ++ u.0))

@@ -13,7 +13,7 @@ use Rattle.sg_playback.specs.Playing.{waiting}
 use Rattle.sg_table.specs.Standing.{TableStandsFor}
 use Rattle.sg_trace.proofs.Causes.{failed_as, failed_now, not_failed, ok_not}
 use Rattle.sg_trace.proofs.Traces.{world_after-append}
-use Rattle.sg_trace.specs.Captured.{Occurrence, events_in, output_of}
+use Rattle.sg_trace.specs.Captured.{Occurrence, captured_events, output_of}
 use Rattle.sg_trace.specs.CaptureReading.{IsRecordRead}
 use Rattle.sg_trace.specs.declared.status.Status.TheVariants.{Read}
 use Rattle.sg_capture.proofs.records.play_records.Goals as goal
@@ -34,7 +34,7 @@ returns-in-Err-clause-ran g c =
       omega (arith, so_far.4, got.3, length-append so_far.1 got.0),
       λ w stands.
           (let now = so_far.5 w stands in
-          let closed = c.close.ensures.closed (world_after w (events_in now.0)) now.3 in (
+          let closed = c.close.ensures.closed (world_after w (captured_events now.0)) now.3 in (
             output_of w now.0 ++ closed.0,
             wrote_more _ _ _ (output_of w now.0) closed.0 now.1 closed.1,
             subst (λ (o : List ℕ). EndsReading c.close.result w (waiting c.args.player.now) c.args.player.now.table.moment (records_in c.args.reader.now.most c.args.form c.args.reader.now.at) o (output_of w now.0 ++ closed.0) left) (sym octets)
@@ -55,7 +55,7 @@ returns-in-Ok-None-clause-ran g c =
       omega (arith, so_far.4, got.3, length-append so_far.1 got.0),
       λ w stands.
           (let now = so_far.5 w stands in
-          let closed = c.close-in-Ok-None.ensures.closed (world_after w (events_in now.0)) now.3 in (
+          let closed = c.close-in-Ok-None.ensures.closed (world_after w (captured_events now.0)) now.3 in (
             output_of w now.0 ++ closed.0,
             wrote_more _ _ _ (output_of w now.0) closed.0 now.1 closed.1,
             subst (λ (o : List ℕ). EndsReading c.close-in-Ok-None.result w (waiting c.args.player.now) c.args.player.now.table.moment (records_in c.args.reader.now.most c.args.form c.args.reader.now.at) o (output_of w now.0 ++ closed.0) left) (sym octets)
@@ -83,13 +83,13 @@ returns-in-Err-play_record-clause-ran g c =
       omega (arith, so_far.4, got.3, length-append so_far.1 got.0),
       λ w stands.
           (let now = so_far.5 w stands in
-          let met = c.in-Err-play_record.ensures.met (world_after w (events_in now.0)) now.3 in (
+          let met = c.in-Err-play_record.ensures.met (world_after w (captured_events now.0)) now.3 in (
             output_of w now.0 ++ met.0,
             wrote_more _ _ _ (output_of w now.0) met.0 now.1 met.1,
             subst (λ (o : List ℕ). EndsReading c.in-Err-play_record.status w (waiting c.args.player.now) c.args.player.now.table.moment (records_in c.args.reader.now.most c.args.form c.args.reader.now.at) o (output_of w now.0 ++ met.0) left) (sym octets)
                 (ends_met (records_in c.args.reader.now.most c.args.form c.args.reader.now.at) c.args.reader.now.most c.args.form so_far.0 c.records.reader.at c.args.player.now.table.moment (waiting c.args.player.now) (waiting c.records.player) now.0 c.records.progress now.2
                 w c.in-Err-play_record.status c.in-Ok-Some.record part c.next.new.self.waits (waiting c.play_record.new.player) (TableStandsFor c.play_record.new.player.table) met.0 left is next.0.whole
-                (subst (λ (f : List ℕ). IsMet (Err c.in-Err-play_record.status) (world_after w (events_in now.0)) (waiting c.records.player) (waiting c.play_record.new.player)
+                (subst (λ (f : List ℕ). IsMet (Err c.in-Err-play_record.status) (world_after w (captured_events now.0)) (waiting c.records.player) (waiting c.play_record.new.player)
                 (record_occurs c.records.progress.last (first_of c.records.progress.first c.in-Ok-Some.record.millis) c.records.progress.top c.records.progress.number (record { millis = c.in-Ok-Some.record.millis; frame = f })) (TableStandsFor c.play_record.new.player.table) met.0) c.frame.ensures met.2)),
           )),
     )
@@ -129,18 +129,18 @@ records-preserved g c =
         omega (arith, so_far.4, got.3, length-append so_far.1 got.0),
         λ w stands.
             (let now = so_far.5 w stands in
-            let met = c.in-Ok.ensures.met (world_after w (events_in now.0)) now.3 in
-            let told : IsToldOf (world_after w (events_in now.0)) (waiting c.records.player) (waiting c.play_record.new.player)
+            let met = c.in-Ok.ensures.met (world_after w (captured_events now.0)) now.3 in
+            let told : IsToldOf (world_after w (captured_events now.0)) (waiting c.records.player) (waiting c.play_record.new.player)
             (record_occurs c.records.progress.last (first_of c.records.progress.first c.in-Ok-Some.record.millis) c.records.progress.top c.records.progress.number (record { millis = c.in-Ok-Some.record.millis; frame = drop 16 part })) (TableStandsFor c.play_record.new.player.table) met.0 =
-            subst (λ (f : List ℕ). IsToldOf (world_after w (events_in now.0)) (waiting c.records.player) (waiting c.play_record.new.player)
+            subst (λ (f : List ℕ). IsToldOf (world_after w (captured_events now.0)) (waiting c.records.player) (waiting c.play_record.new.player)
             (record_occurs c.records.progress.last (first_of c.records.progress.first c.in-Ok-Some.record.millis) c.records.progress.top c.records.progress.number (record { millis = c.in-Ok-Some.record.millis; frame = f })) (TableStandsFor c.play_record.new.player.table) met.0) c.frame.ensures met.2 in (
               now.0 ++ told.told,
               subst (Wrote (g.K.Sink.written c.args.sink.now) (g.K.Sink.written c.play_record.new.sink)) (ap (λ (o : List ℕ). output_of w now.0 ++ o) told.written ∙ sym (output_of-append w now.0 told.told)) (wrote_more _ _ _ (output_of w now.0) met.0 now.1 met.1),
               subst (λ (a : ℕ). IsReadingOn (records_in c.args.reader.now.most c.args.form c.args.reader.now.at) c.args.reader.now.most c.args.form (so_far.0 ++ part) a c.args.player.now.table.moment (waiting c.args.player.now) (waiting c.play_record.new.player) (now.0 ++ told.told) c.after-progress.result)
                   (omega (arith, at, next.0.whole))
                   (record_goes (records_in c.args.reader.now.most c.args.form c.args.reader.now.at) c.args.reader.now.most c.args.form so_far.0 c.records.reader.at c.args.player.now.table.moment (waiting c.args.player.now) (waiting c.records.player) now.0 c.records.progress now.2
-                  c.in-Ok-Some.record part is next.0.whole c.after-progress.result c.after-progress.ensures (world_after w (events_in now.0)) (waiting c.play_record.new.player) (TableStandsFor c.play_record.new.player.table) met.0 told),
-              subst (TableStandsFor c.play_record.new.player.table) (sym (ap (world_after w) (events_in-append now.0 told.told) ∙ world_after-append w (events_in now.0) (events_in told.told))) told.stands,
+                  c.in-Ok-Some.record part is next.0.whole c.after-progress.result c.after-progress.ensures (world_after w (captured_events now.0)) (waiting c.play_record.new.player) (TableStandsFor c.play_record.new.player.table) met.0 told),
+              subst (TableStandsFor c.play_record.new.player.table) (sym (ap (world_after w) (events_in-append now.0 told.told) ∙ world_after-append w (captured_events now.0) (captured_events told.told))) told.stands,
             )),
       ),
       c.next.ensures.most ∙ c.records.invariant.1,
@@ -185,9 +185,9 @@ returns-in-Err-clause-read g c =
     let so_far = c.records.invariant.0 in
     let w = c.requires.stands.0 in
     let now = so_far.5 w c.requires.stands.1 in
-    let closed = c.close.ensures.closed (world_after w (events_in now.0)) now.3 in
+    let closed = c.close.ensures.closed (world_after w (captured_events now.0)) now.3 in
     let got = c.in-Err.ensures.next in
-    let same = close_read c.args.form c.in-Err.status c.close.result c.records.reader c.next.new.self got.0 (g.S.Source.left c.next.new.source) (world_after w (events_in now.0)) (waiting c.records.player) closed.0 got.2 closed.2 in
+    let same = close_read c.args.form c.in-Err.status c.close.result c.records.reader c.next.new.self got.0 (g.S.Source.left c.next.new.source) (world_after w (captured_events now.0)) (waiting c.records.player) closed.0 got.2 closed.2 in
     failed_now _ _ _ _ _ c.records.invariant.4 (failed_as _ _ _ _ _ (λ is. ap Err (same.0 is)) (λ is. same.1 (let told : c.in-Err.status ≡ Read = cc in told)) c.in-Err.ensures.cause)
 
 pub returns-in-Ok-None-clause-read : goal.returns-in-Ok-None-clause-read
@@ -195,15 +195,15 @@ returns-in-Ok-None-clause-read g c =
     let so_far = c.records.invariant.0 in
     let w = c.requires.stands.0 in
     let now = so_far.5 w c.requires.stands.1 in
-    let closed = c.close-in-Ok-None.ensures.closed (world_after w (events_in now.0)) now.3 in
+    let closed = c.close-in-Ok-None.ensures.closed (world_after w (captured_events now.0)) now.3 in
     not_failed _ _ _ _ (c.in-Ok-None.ensures.cause.quiet (λ is. ok_not _ _ is) ∙ c.records.invariant.4)
-    (done_not c.close-in-Ok-None.result Read (world_after w (events_in now.0)) (waiting c.records.player) closed.0 closed.2 (λ is. cc) (λ is. cc) (λ is. cc))
+    (done_not c.close-in-Ok-None.result Read (world_after w (captured_events now.0)) (waiting c.records.player) closed.0 closed.2 (λ is. cc) (λ is. cc) (λ is. cc))
 
 pub returns-in-Err-play_record-clause-read : goal.returns-in-Err-play_record-clause-read
 returns-in-Err-play_record-clause-read g c =
     let so_far = c.records.invariant.0 in
     let w = c.requires.stands.0 in
     let now = so_far.5 w c.requires.stands.1 in
-    let met = c.in-Err-play_record.ensures.met (world_after w (events_in now.0)) now.3 in
+    let met = c.in-Err-play_record.ensures.met (world_after w (captured_events now.0)) now.3 in
     not_failed _ _ _ _ (c.in-Ok-Some.ensures.cause.quiet (λ is. ok_not _ _ is) ∙ c.records.invariant.4)
-    (met_not_read c.in-Err-play_record.status (world_after w (events_in now.0)) (waiting c.records.player) (waiting c.play_record.new.player) _ (TableStandsFor c.play_record.new.player.table) met.0 met.2)
+    (met_not_read c.in-Err-play_record.status (world_after w (captured_events now.0)) (waiting c.records.player) (waiting c.play_record.new.player) _ (TableStandsFor c.play_record.new.player.table) met.0 met.2)

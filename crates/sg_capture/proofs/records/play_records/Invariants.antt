@@ -6,7 +6,7 @@ use Rattle.sg_gateway.specs.World.{World}
 use Rattle.sg_pcap.specs.Capture.{records_in}
 use Rattle.sg_playback.specs.Playing.{waiting}
 use Rattle.sg_table.specs.Standing.{TableStandsFor}
-use Rattle.sg_trace.specs.Captured.{Occurrence, events_in, output_of}
+use Rattle.sg_trace.specs.Captured.{Occurrence, captured_events, output_of}
 use Rattle.sg_capture.proofs.records.play_records.Given as goal
 
 abbrev pub invariant-records : goal.invariant-records
@@ -14,7 +14,7 @@ invariant-records g l =
     ((consumed got : List ℕ) × TookIn (g.S.Source.left l.fn.source) (g.S.Source.left l.source) got × (l.fn.reader.waits ++ got ≡ consumed ++ l.reader.waits) × (length got + l.reader.budget ≡ l.fn.reader.budget)
     × ((w : World) → TableStandsFor l.fn.player.table w → (told : List Occurrence) × Wrote (g.K.Sink.written l.fn.sink) (g.K.Sink.written l.sink) (output_of w told)
     × IsReadingOn (records_in l.fn.reader.most l.fn.form l.fn.reader.at) l.fn.reader.most l.fn.form consumed l.reader.at l.fn.player.table.moment (waiting l.fn.player) (waiting l.player) told l.progress
-    × TableStandsFor l.player.table (world_after w (events_in told))))
+    × TableStandsFor l.player.table (world_after w (captured_events told))))
     × (l.reader.most ≡ l.fn.reader.most) × (l.reader.at ≤ l.reader.most) × (l.progress.number ≤ l.reader.at)
     × (g.S.Source.faults l.source ≡ g.S.Source.faults l.fn.source) × (g.K.Sink.faults l.sink ≡ g.K.Sink.faults l.fn.sink)
     × (g.S.Source.given l.source + l.reader.budget ≤ g.S.Source.given l.fn.source + l.fn.reader.budget)
