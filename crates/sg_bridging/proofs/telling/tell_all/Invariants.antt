@@ -1,0 +1,10 @@
+use Rattle.std.proofs.Common.{take, ◌≡◌}
+use Rattle.sg_bridge.specs.Bridged.{told_and_parted}
+use Rattle.sg_bridging.proofs.Steps.{lines}
+use Rattle.sg_edge.specs.Told.{Wrote}
+use Rattle.sg_bridging.proofs.telling.tell_all.Given as goal
+
+abbrev pub invariant-loop-outcome : goal.invariant-loop-outcome
+invariant-loop-outcome g l =
+    Wrote (g.K.Sink.written l.fn.sink) (g.K.Sink.written l.sink) (lines (told_and_parted l.fn.bridge (take l.outcome-index l.outcomes)).told)
+    × (l.bridge ≡ (told_and_parted l.fn.bridge (take l.outcome-index l.outcomes)).calls) × (g.K.Sink.faults l.sink ≡ g.K.Sink.faults l.fn.sink)
