@@ -4,10 +4,10 @@ use Rattle.sg_bridge.specs.Bridged.{Said}
 use Rattle.sg_bridging.proofs.Bridges.{begins, bounded, ends_at_end, ends_at_err, ends_played, goes_on, stands_on, took_all}
 use Rattle.sg_bridging.specs.Bridge.{bridge_text}
 use Rattle.sg_bridging.specs.BridgeReading.{IsLineRead, IsNextLine}
-use Rattle.sg_bridging.specs.Steps.{start, state_after}
+use Rattle.sg_bridging.specs.Steps.{IsPlayed, start, state_after}
 use Rattle.sg_edge.proofs.Links.{added_more}
 use Rattle.sg_edge.proofs.Passed.{wrote_more}
-use Rattle.sg_trace.proofs.Causes.{failed_now, not_failed, ok_not}
+use Rattle.sg_trace.proofs.Causes.{not_failed, ok_not}
 use Rattle.sg_trace.proofs.Traces.{whole_some}
 use Rattle.sg_trace.specs.Reading.{Reading}
 use Rattle.sg_bridging.proofs.bridging.play_script.Goals as goal
@@ -116,3 +116,10 @@ lines-init g c =
 
 pub play-requires : goal.play-requires
 play-requires g c = (c.lines.script.version, c.lines.script.number, subst (λ r. IfSome r (λ line. FitsBridgeLine c.lines.script.version c.lines.script.number line)) c.in-Ok-Some.field-0-is c.in-Ok-Some.ensures.fits)
+
+pub returns-in-Err-play-clause-read : goal.returns-in-Err-play-clause-read
+returns-in-Err-play-clause-read g c =
+    let so_far = c.lines.invariant.0 in
+    let played = c.in-Err-play.ensures.played (state_after start so_far.2) so_far.5 in
+    not_failed _ _ _ _ (c.in-Ok-Some.ensures.cause.quiet (λ is. ok_not _ _ is) ∙ c.lines.invariant.3)
+    (λ same. subst (λ s. IsPlayed (Err s) c.in-Ok-Some.line (state_after start so_far.2) c.play.new.self played.0 played.1) same played.4)
