@@ -6,7 +6,7 @@ use Rattle.sg_base.specs.declared.addresses.CallId.{CallId}
 use Rattle.sg_base.specs.declared.faults.DropCause.TheVariants.{PortUnused}
 use Rattle.sg_gateway.specs.Datagrams.{Entry, Happening}
 use Rattle.sg_gateway.specs.Legs.{secure_leg_port}
-use Rattle.sg_gateway.specs.Octets.{Octets, as_octets}
+use Rattle.sg_gateway.specs.Octets.{as_octets}
 use Rattle.sg_gateway.specs.PlainOf.{plain_at}
 use Rattle.sg_gateway.specs.Runs.{Turn, turn_of}
 use Rattle.sg_gateway.specs.SealedOut.{IsSealedOutOf}
@@ -163,3 +163,10 @@ Crosses b = (port q : ℕ) (to : Address) (octets : List ℕ) → TellsOut b por
 
 abbrev pub EachCrossingIsSealed : List Said → Type 0
 EachCrossingIsSealed said = All Crosses (bridgings said)
+
+-- the port to which a plain port goes on is the one that goes on to it
+abbrev pub GoesBothWays : Bridging → Type 0
+GoesBothWays b = (p q : ℕ) → onward b.pairs p ≡ Some q → onward b.pairs q ≡ Some p
+
+abbrev pub EachGoesBothWays : List Said → Type 0
+EachGoesBothWays said = All GoesBothWays (bridgings said)

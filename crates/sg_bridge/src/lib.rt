@@ -13,7 +13,7 @@ mod reading;
 
 pub use bridge::Bridge;
 pub use faults::JoinFault;
-pub use laws::joined_calls_stay_inside;
+pub use laws::{joined_calls_stay_inside, joined_ports_go_both_ways};
 pub use lines::BridgeLine;
 pub use members::{Member, Pair, Party};
 pub use outcomes::BridgeOutcome;
