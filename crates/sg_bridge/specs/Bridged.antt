@@ -6,7 +6,7 @@ use Rattle.sg_base.specs.declared.addresses.CallId.{CallId}
 use Rattle.sg_base.specs.declared.faults.DropCause.TheVariants.{PortUnused}
 use Rattle.sg_gateway.specs.Datagrams.{Entry, Happening}
 use Rattle.sg_gateway.specs.Legs.{secure_leg_port}
-use Rattle.sg_gateway.specs.Octets.{Octets, as_octets}
+use Rattle.sg_gateway.specs.Octets.{as_octets}
 use Rattle.sg_gateway.specs.PlainOf.{plain_at}
 use Rattle.sg_gateway.specs.Runs.{Turn, turn_of}
 use Rattle.sg_gateway.specs.SealedOut.{IsSealedOutOf}

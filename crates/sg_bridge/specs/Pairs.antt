@@ -1,5 +1,5 @@
 -- Which calls are joined: by the outcomes of the table, in order, and by the lines that join and part them.
-use Rattle.std.specs.Prelude.{◌≡◌, ℕ, ◌+◌, Bool, true, false, not, ◌==◌, if◌then◌else◌, List, [], ◌∷◌, map, set, replicate, slice_index_or, Option, Some, None, option_map, option_and_then, Result, Ok, Err}
+use Rattle.std.specs.Prelude.{◌≡◌, ℕ, ◌+◌, true, false, not, ◌==◌, if◌then◌else◌, List, [], ◌∷◌, map, set, replicate, slice_index_or, Option, Some, None, option_map, option_and_then, Result, Ok, Err}
 use Rattle.sg_base.specs.declared.addresses.CallId.{CallId}
 use Rattle.sg_gateway.specs.World.{same_id}
 use Rattle.sg_outcome.specs.declared.outcomes.Outcome.{Outcome}
@@ -9,7 +9,6 @@ use Rattle.sg_bridge.specs.declared.faults.JoinFault.TheVariants as faults
 use Rattle.sg_bridge.specs.declared.members.Found.{Found}
 use Rattle.sg_bridge.specs.declared.members.Member.{Member}
 use Rattle.sg_bridge.specs.declared.members.Pair.{Pair}
-use Rattle.sg_bridge.specs.declared.members.Party.{Party}
 use Rattle.sg_bridge.specs.declared.outcomes.BridgeOutcome.{BridgeOutcome}
 use Rattle.sg_bridge.specs.declared.outcomes.BridgeOutcome.TheVariants as tells
 
