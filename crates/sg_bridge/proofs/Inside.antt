@@ -1,5 +1,5 @@
 -- What is opened in a joined call stays inside, and is sealed in the other.
-use Rattle.std.proofs.Common.{◌≡◌, inl, inr, ◌⊎◌, ℕ, ◌+◌, ◌-◌, ◌*◌, ◌/◌, ◌%◌, ◌<◌, ◌≤◌, Bool, true, false, cond, List, [], ◌∷◌, ◌++◌, map, Option, Some, None, Result, Ok, Err, refl, sym, ap, ◌∙◌, subst, arith, leb, ltb}
+use Rattle.std.proofs.Common.{◌≡◌, inl, inr, ◌⊎◌, ℕ, ◌+◌, ◌-◌, ◌%◌, ◌<◌, ◌≤◌, Bool, true, false, cond, List, [], ◌∷◌, map, Option, Some, None, Result, Ok, Err, refl, sym, ap, ◌∙◌, subst, arith, leb, ltb}
 use Rattle.std.specs.Prelude.{◌&&◌, option_to_list}
 use Rattle.std.proofs.lemmas.Bool.{and_parts, leb-true}
 use Rattle.std.proofs.lemmas.Bool.Decides.{leb_tells}
@@ -8,29 +8,27 @@ use Rattle.std.specs.List.{All, Any, AllByRecursion}
 use Rattle.std.specs.Option.{option_map}
 use Rattle.sg_base.specs.declared.addresses.Address.{Address}
 use Rattle.sg_base.specs.declared.addresses.CallId.{CallId}
-use Rattle.sg_base.specs.declared.faults.DropCause.{DropCause}
 use Rattle.sg_base.specs.declared.faults.DropCause.TheVariants.{PortUnused}
 use Rattle.sg_gateway.proofs.Came.{seals_came}
 use Rattle.sg_gateway.proofs.OnlySeals.{signal_quiet}
 use Rattle.sg_gateway.proofs.SealsOut.{LeavesSealed, seals_leave_at}
 use Rattle.sg_gateway.specs.Coming.{IsSealedFrom}
-use Rattle.sg_gateway.specs.Datagrams.{Entry, Put}
+use Rattle.sg_gateway.specs.Datagrams.{Put}
 use Rattle.sg_gateway.specs.Legs.{secure_leg_port}
 use Rattle.sg_gateway.specs.Octets.{Octets, as_octets}
 use Rattle.sg_gateway.specs.Runs.{turn_of}
 use Rattle.sg_gateway.specs.SealedOut.{IsOut, IsSealedOutOf}
-use Rattle.sg_gateway.specs.Signals.{Signal}
 use Rattle.sg_gateway.specs.Step.{Event, Signalled, Datagram, step}
 use Rattle.sg_gateway.specs.World.{Call, World}
 use Rattle.sg_outcome.specs.declared.outcomes.Outcome.{Outcome}
 use Rattle.sg_outcome.specs.declared.outcomes.Outcome.TheVariants.{Made, Live, Sdp, Refused, Ended, Out, Dropped, Unsent}
 use Rattle.sg_gateway.specs.PlainOf.{plain_at}
 use Rattle.sg_session.proofs.Lists.{any_cases, any_here, any_none, any_weaker}
-use Rattle.sg_session.specs.declared.names.Direction.TheVariants.{Opening, Sealing}
+use Rattle.sg_session.specs.declared.names.Direction.TheVariants.{Sealing}
 use Rattle.sg_bridge.proofs.PutAt.{Coming, IsDropped, IsPut, PutBy, FromPlain, comes, from_plain, from_secure}
-use Rattle.sg_bridge.specs.Bridged.{Bridging, Crosses, Following, IsCrossing, IsSealOf, Said, Happens, Joins, Parts, StaysInside, TellsOut, arrived, behind, bridging, bridgings_from, told_and_parted, handed_on, happened, happens, inner, inner_told, joining, nothing_happens, opened, parting, passed}
+use Rattle.sg_bridge.specs.Bridged.{Bridging, Crosses, Following, IsSealOf, Said, Happens, Joins, Parts, StaysInside, TellsOut, arrived, behind, bridging, bridgings_from, told_and_parted, handed_on, happened, happens, inner, inner_told, joining, nothing_happens, opened, parting, passed}
 use Rattle.sg_bridge.specs.Onward.{is_plain_port, medium_by_port, onward, onward_in, port_like, slot_by_port}
-use Rattle.sg_bridge.specs.Pairs.{Joining, Members, Noted, Parting, vacated, joined, member_at, after_outcome, other_slot, joined_pair, parted_from, tells_parted}
+use Rattle.sg_bridge.specs.Pairs.{Joining, Members, Parting, vacated, joined, member_at, after_outcome, other_slot, joined_pair, parted_from, tells_parted}
 use Rattle.sg_bridge.specs.declared.faults.JoinFault.{JoinFault}
 use Rattle.sg_bridge.specs.declared.members.Member.{Member}
 use Rattle.sg_bridge.specs.declared.members.Pair.{Pair}

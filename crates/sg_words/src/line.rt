@@ -70,97 +70,34 @@ fn demo<'a>(alloc: Global) -> Result<Command<'a>, AllocError>
     two.arg(start(alloc))
 }
 
-fn migrate<'a>(alloc: Global) -> Command<'a>
-    ensures shape { app_of result ≡ grammar.migrate }
-    ensures local { (out-Command result).has_globals ≡ false }
-{
-    Command::new(alloc, "migrate")
-}
-
-fn capture<'a>(alloc: Global) -> Command<'a>
-    ensures shape { app_of result ≡ grammar.capture }
-    ensures local { (out-Command result).has_globals ≡ false }
-{
-    Command::new(alloc, "capture")
-}
-
-fn bridge<'a>(alloc: Global) -> Command<'a>
-    ensures shape { app_of result ≡ grammar.bridge }
-    ensures local { (out-Command result).has_globals ≡ false }
-{
-    Command::new(alloc, "bridge")
-}
-
 /// The words don't begin with the program's name, and a command is required.
 fn without_program<'a>(command: Command<'a>) -> Command<'a>
-    ensures { app_of result ≡ grammar.whole_line (app_of command.entry) }
+    ensures { app_of result ≡ grammar.without_program (app_of command.entry) }
 {
     command.no_binary_name(true).subcommand_required(true)
 }
 
-/// A command line with the command `replay` alone.
-fn with_replay<'a>(alloc: Global) -> Result<Command<'a>, AllocError>
-    ensures { IfOk result (λ c. app_of c ≡ grammar.with_replay) }
+/// A command line with the commands that have options.
+fn with_options<'a>(alloc: Global) -> Result<Command<'a>, AllocError>
+    ensures { IfOk result (λ c. app_of c ≡ grammar.with_options) }
 {
-    let replay = replay(alloc)?;
-    Command::new(alloc, "srtpgw").subcommand(replay)
+    let one = Command::new(alloc, "srtpgw").subcommand(replay(alloc)?)?;
+    let two = one.subcommand(relay(alloc)?)?;
+    two.subcommand(demo(alloc)?)
 }
 
-/// The same with `relay`, too.
-fn with_relay<'a>(alloc: Global) -> Result<Command<'a>, AllocError>
-    ensures { IfOk result (λ c. app_of c ≡ grammar.with_relay) }
+/// The same with the commands that have none, too.
+fn with_all<'a>(alloc: Global) -> Result<Command<'a>, AllocError>
+    ensures { IfOk result (λ c. app_of c ≡ grammar.with_all) }
 {
-    let relay = relay(alloc)?;
-    match with_replay(alloc) {
-        Ok(command) => command.subcommand(relay),
-        Err(fault) => {
-            drop(relay);
-            Err(fault)
-        }
-    }
-}
-
-/// The same with `demo`, too.
-fn with_demo<'a>(alloc: Global) -> Result<Command<'a>, AllocError>
-    ensures { IfOk result (λ c. app_of c ≡ grammar.with_demo) }
-{
-    let demo = demo(alloc)?;
-    match with_relay(alloc) {
-        Ok(command) => command.subcommand(demo),
-        Err(fault) => {
-            drop(demo);
-            Err(fault)
-        }
-    }
-}
-
-/// The same with `migrate`, too.
-fn with_migrate<'a>(alloc: Global) -> Result<Command<'a>, AllocError>
-    ensures { IfOk result (λ c. app_of c ≡ grammar.with_migrate) }
-{
-    let command = with_demo(alloc)?;
-    command.subcommand(migrate(alloc))
-}
-
-/// The same with `capture`, too.
-fn with_capture<'a>(alloc: Global) -> Result<Command<'a>, AllocError>
-    ensures { IfOk result (λ c. app_of c ≡ grammar.with_capture) }
-{
-    let command = with_migrate(alloc)?;
-    command.subcommand(capture(alloc))
-}
-
-/// The same with `bridge`, too.
-fn with_bridge<'a>(alloc: Global) -> Result<Command<'a>, AllocError>
-    ensures { IfOk result (λ c. app_of c ≡ grammar.with_bridge) }
-{
-    let command = with_capture(alloc)?;
-    command.subcommand(bridge(alloc))
+    let one = with_options(alloc)?.subcommand(Command::new(alloc, "migrate"))?;
+    let two = one.subcommand(Command::new(alloc, "capture"))?;
+    two.subcommand(Command::new(alloc, "bridge"))
 }
 
 /// The whole command line.
 pub(crate) fn command_line<'a>(alloc: Global) -> Result<Command<'a>, AllocError>
     ensures { IfOk result (λ c. app_of c ≡ grammar.srtpgw) }
 {
-    Ok(without_program(with_bridge(alloc)?))
+    Ok(without_program(with_all(alloc)?))
 }

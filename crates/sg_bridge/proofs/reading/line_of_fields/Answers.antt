@@ -1,4 +1,4 @@
-use Rattle.std.proofs.Common.{rules, subst, sym, arith, length, ◌<◌, ◌≤◌}
+use Rattle.std.proofs.Common.{rules, subst, sym}
 use Rattle.sg_bridge.proofs.BridgeFrames.{few_fields, many_fields}
 use Rattle.sg_bridge.specs.BridgeLines.{of_script}
 use Rattle.sg_lines.specs.Fields.{Gives}
