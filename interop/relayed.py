@@ -5,8 +5,8 @@ moment is, a relay doesn't ask.
     interop/relayed.py PROGRAM
 
 The scripts are rows without ticks, each in the version that it is of, and those of version 1 in version 2 with moments
-that go on, go back and are the last ones of all; and rows by `relay --mux`. Nothing comes over the network. Needs the ports of the gateway, or a
-network of its own where the system gives one.
+that go on, go back and are the last ones of all; and rows by `relay --mux`. Nothing comes over the network. Needs the
+ports of the gateway, or a network of its own where the system gives one.
 """
 import subprocess
 import sys

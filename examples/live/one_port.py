@@ -18,8 +18,9 @@ from driver import Driver, Program
 from gstreamer import GSTREAMER, SUITES
 
 SECONDS, REPORT_EACH = 12, 0.5
-PARSED = ["rawaudioparse", "use-sink-caps=false", "format=mulaw", "sample-rate=8000", "num-channels=1"]
-PAYLOAD = ["rtppcmupay", "min-ptime=20000000", "max-ptime=20000000", f"seqnum-offset={NEAR_WRAP}", f"ssrc={SSRC}"]
+PARSED = "rawaudioparse use-sink-caps=false format=mulaw sample-rate=8000 num-channels=1"
+PAYLOAD = f"rtppcmupay min-ptime=20000000 max-ptime=20000000 seqnum-offset={NEAR_WRAP} ssrc={SSRC}"
+WRITTEN = "filesink async=false buffer-mode=unbuffered"
 
 
 def text_of(address, profile, *lines):
@@ -31,15 +32,15 @@ def text_of(address, profile, *lines):
 def sender(audio, reports, key):
     """Sends RTP and RTCP to one port, and writes its reports as they are before they are sealed."""
     cipher, tag = SUITES[key.suite]
-    sealed = [f"key={key.hex()}", f"rtp-cipher={cipher}", f"rtp-auth={tag}", f"rtcp-cipher={cipher}", "rtcp-auth=hmac-sha1-80"]
-    return [
-        *GSTREAMER[:2], "rtpbin", "name=rtp", "srtpenc", "name=enc", *sealed,
-        "funnel", "name=both", "!", "udpsink", "host=127.0.0.1", f"port={SECURE_RTP}", "bind-address=127.0.0.1", "async=false",
-        "filesrc", f"location={audio}", "!", *PARSED, "!", *PAYLOAD, "!", "rtp.send_rtp_sink_0",
-        "rtp.send_rtp_src_0", "!", "enc.rtp_sink_0", "enc.rtp_src_0", "!", "both.",
-        "rtp.send_rtcp_src_0", "!", "tee", "name=reports", "!", "queue", "!", "enc.rtcp_sink_0", "enc.rtcp_src_0", "!", "both.",
-        "reports.", "!", "queue", "!", "filesink", f"location={reports}", "sync=false", "async=false", "buffer-mode=unbuffered",
-    ]
+    keyed = f"key={key.hex()} rtp-cipher={cipher} rtp-auth={tag} rtcp-cipher={cipher} rtcp-auth=hmac-sha1-80"
+    return [*GSTREAMER[:2], *f"""
+        rtpbin name=rtp  srtpenc name=enc {keyed}
+        funnel name=both ! udpsink host=127.0.0.1 port={SECURE_RTP} bind-address=127.0.0.1 async=false
+        filesrc location={audio} ! {PARSED} ! {PAYLOAD} ! rtp.send_rtp_sink_0
+        rtp.send_rtp_src_0 ! enc.rtp_sink_0  enc.rtp_src_0 ! both.
+        rtp.send_rtcp_src_0 ! tee name=reports ! queue ! enc.rtcp_sink_0  enc.rtcp_src_0 ! both.
+        reports. ! queue ! {WRITTEN} sync=false location={reports}
+    """.split()]
 
 
 def receiver(audio, reports, key):
@@ -48,11 +49,11 @@ def receiver(audio, reports, key):
     caps = ["application/x-srtp", "media=audio", "clock-rate=8000", "encoding-name=PCMU", "payload=0",
             f"ssrc=(uint){SSRC}", f"srtp-key=(buffer){key.hex()}", f"srtp-cipher={cipher}", f"srtp-auth={tag}",
             f"srtcp-cipher={cipher}", "srtcp-auth=hmac-sha1-80", "roc=(uint)0"]
-    return [
-        *GSTREAMER[:2], "udpsrc", "address=127.0.0.1", f"port={SECURE[1]}", f"caps={','.join(caps)}", "!", "dec.rtp_sink",
-        "srtpdec", "name=dec", "dec.rtp_src", "!", "rtppcmudepay", "!", "filesink", f"location={audio}", "async=false", "buffer-mode=unbuffered",
-        "dec.rtcp_src", "!", "filesink", f"location={reports}", "sync=false", "async=false", "buffer-mode=unbuffered",
-    ]
+    return [*GSTREAMER[:2], *f"""
+        udpsrc address=127.0.0.1 port={SECURE[1]} caps={",".join(caps)} ! dec.rtp_sink  srtpdec name=dec
+        dec.rtp_src ! rtppcmudepay ! {WRITTEN} location={audio}
+        dec.rtcp_src ! {WRITTEN} sync=false location={reports}
+    """.split()]
 
 
 def agreed(driver, call, key):

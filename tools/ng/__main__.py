@@ -51,8 +51,8 @@ def main():
 def begun(given, log, telling):
     """The book of a gateway that has been started, and which tells of what a daemon before it has left."""
     outcomes = open(given.outcomes, "wb") if given.outcomes else None
-    driver = Driver(Program(given.program, muxes=given.mux), restarts=True, warn=log, bounds=Bounds(**dict(given.bound)), log=outcomes,
-                    step=given.step)
+    program = Program(given.program, muxes=given.mux)
+    driver = Driver(program, restarts=True, warn=log, bounds=Bounds(**dict(given.bound)), log=outcomes, step=given.step)
     kept = Kept(given.calls, log)
     for told in kept.left():
         log(f"{told.id[:128]!r} has ended with the daemon before this one")

@@ -59,8 +59,9 @@ class Call:
 
 class Book:
     """`addresses` has by side the address that its telephones reach, `interfaces` more of them by name. `log` is given
-    a line for each call; `muxes` says that the gateway takes one port for RTP and RTCP. To be set: `tell`, which is given each call that has ended by itself, and why; `arrived`,
-    which answers packets and octets by port; `keep`, which is given `all` where a call is live, or there no more."""
+    a line for each call; `muxes` says that the gateway takes one port for RTP and RTCP. To be set: `tell`, which is
+    given each call that has ended by itself, and why; `arrived`, which answers packets and octets by port; `keep`,
+    which is given `all` where a call is live, or there no more."""
 
     def __init__(self, driver, addresses, interfaces, log, muxes=False):
         self.driver, self.addresses, self.interfaces, self.log = driver, addresses, interfaces, log
