@@ -1,14 +1,14 @@
 -- How a bridge goes on, line by line, and how it ends.
-use Rattle.std.proofs.Common.{◌≡◌, ◌⊎◌, ◌+◌, ◌≤◌, ◌^◌, ℕ, List, [], ◌++◌, length, Option, Err, refl, sym, ap, ◌∙◌, subst, inl, inr, append_assoc, length-append, arith}
+use Rattle.std.proofs.Common.{◌≡◌, ◌⊎◌, ◌+◌, ◌≤◌, ◌^◌, ℕ, List, [], ◌++◌, length, Option, Err, sym, ap, ◌∙◌, subst, append_assoc, length-append, arith}
 use Rattle.std.proofs.lemmas.List.{append-nil}
 use Rattle.sg_base.specs.declared.faults.ScriptFault.{ScriptFault}
 use Rattle.sg_bridge.specs.BridgeLines.{bridge_version_after}
 use Rattle.sg_bridge.specs.Bridged.{Said}
 use Rattle.sg_bridge.specs.declared.lines.BridgeLine.{BridgeLine}
 use Rattle.sg_bridging.proofs.Steps.{state_after-append, text_from-append}
-use Rattle.sg_bridging.specs.Bridge.{BridgeTrace, BridgeEnds, IsWholeBridge, LaterSaid, after_bridge_line, bridge_line_at, bridge_text, bridge_trace, bridge_trace_from, said_of, stopped_at, with_said}
+use Rattle.sg_bridging.specs.Bridge.{BridgeTrace, BridgeEnds, IsWholeBridge, LaterSaid, after_bridge_line, bridge_text, bridge_trace, bridge_trace_from, said_of, stopped_at, with_said}
 use Rattle.sg_bridging.specs.BridgeReading.{IsLineFault, IsLineRead, IsNextLine, LineFails}
-use Rattle.sg_bridging.specs.Steps.{IsCut, IsPlayed, IsTaken, StandsFor, State, SwitchboardValue, start, state_after, text_from}
+use Rattle.sg_bridging.specs.Steps.{IsCut, IsPlayed, IsTaken, StandsFor, SwitchboardValue, start, state_after, text_from}
 use Rattle.sg_edge.proofs.Links.{added_more, added_none}
 use Rattle.sg_edge.proofs.Passed.{took_more, wrote_more, wrote_none}
 use Rattle.sg_edge.specs.Links.{Added}

@@ -1,14 +1,13 @@
 -- A bridge's script in the grammar is played to its end, where nothing fails.
-use Rattle.std.proofs.Common.{◌≡◌, ◌⊎◌, ℕ, List, [], ◌++◌, Option, Some, None, refl, sym, ap, ◌∙◌, subst, inl, inr, arith}
+use Rattle.std.proofs.Common.{◌≡◌, ◌⊎◌, ℕ, List, [], ◌++◌, Option, Some, None, refl, sym, ap, ◌∙◌, inl, inr, arith}
 use Rattle.std.proofs.lemmas.List.{append-nil}
 use Rattle.sg_base.specs.declared.faults.ScriptFault.{ScriptFault}
 use Rattle.sg_base.specs.declared.faults.ScriptFault.TheVariants.{Word, Number, Hex, Length, Version, Unended}
-use Rattle.sg_bridging.specs.Bridge.{BridgeEnds, IsBridge, IsCompleteBridge, bridge_text, bridge_trace}
+use Rattle.sg_bridging.specs.Bridge.{IsBridge, IsCompleteBridge, bridge_text, bridge_trace}
 use Rattle.sg_edge.proofs.Links.{added_none}
 use Rattle.sg_edge.proofs.Passed.{took_none, wrote_none}
 use Rattle.sg_edge.specs.Told.{AtEnd}
 use Rattle.sg_playback.specs.Replay.{ReplayTellings}
-use Rattle.sg_trace.specs.Trace.{AtFault}
 use Rattle.sg_trace.specs.declared.status.Status.{Status}
 use Rattle.sg_trace.specs.declared.status.Status.TheVariants as statuses
 

@@ -1,5 +1,5 @@
 -- What a bridge's line says depends on it alone, however it came.
-use Rattle.std.proofs.Common.{◌≡◌, ◌⊎◌, ◌<◌, ◌≤◌, ◌+◌, ◌^◌, ℕ, Bool, true, false, cond, List, [], ◌++◌, length, Option, Result, Ok, Err, refl, sym, ap, ◌∙◌, subst, inl, inr, arith, append_assoc, length-append}
+use Rattle.std.proofs.Common.{◌≡◌, ◌⊎◌, ◌<◌, ◌≤◌, ◌+◌, ◌^◌, ℕ, true, false, cond, List, [], ◌++◌, length, Option, Result, Ok, Err, refl, sym, ap, ◌∙◌, subst, inl, inr, arith, append_assoc, length-append}
 use Rattle.std.proofs.lemmas.Bool.{cond-true, cond-false, ltb-false, cases_Bool, cases_lt}
 use Rattle.std.proofs.lemmas.List.{append-nil}
 use Rattle.sg_base.specs.declared.faults.ScriptFault.{ScriptFault}
@@ -9,7 +9,6 @@ use Rattle.sg_bridge.specs.BridgeLines.{bridge_line_of, bridge_version_after}
 use Rattle.sg_bridge.specs.declared.lines.BridgeLine.{BridgeLine}
 use Rattle.sg_bridging.specs.Bridge.{bridge_line_at}
 use Rattle.sg_bridging.specs.BridgeReading.{IsLineFault, IsLineRead, IsNextLine, LineFails}
-use Rattle.sg_edge.specs.Told.{AtEnd}
 use Rattle.sg_lines.proofs.Splits.{lines_of_whole, lines_of_rest, begins}
 use Rattle.sg_lines.specs.Fields.{Gives}
 use Rattle.sg_lines.specs.ScriptLines.{lines_of, NoEnd, IsWhole}
@@ -19,7 +18,6 @@ use Rattle.sg_trace.proofs.Frames.{IsLine, further, too_far}
 use Rattle.sg_trace.specs.LineOctets.{AreLineOctets}
 use Rattle.sg_trace.specs.Reading.{Reading, refused_as}
 use Rattle.sg_trace.specs.declared.script_reader.Place.{Place}
-use Rattle.sg_trace.specs.declared.status.Status.TheVariants as statuses
 
 module _ (version n at : ℕ) where
   at_is : (line : List ℕ) → bridge_line_at version n at line ≡ cond (too_far at line) (Err Length) (bridge_line_of version n line)

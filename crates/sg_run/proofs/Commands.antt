@@ -5,10 +5,9 @@ use Rattle.std.proofs.lemmas.List.{append-nil}
 use Rattle.std.proofs.lemmas.List.Elements.{All-from_recursion}
 use Rattle.sg_bridge.specs.Bridged.{Crosses, StaysInside}
 use Rattle.sg_bridging.specs.Bridge.{IsBridge, bridge_text, bridge_trace}
-use Rattle.sg_trace.proofs.Causes.{not_failed}
 use Rattle.sg_trace.specs.Causes.{HasFailed}
 use Rattle.sg_capture.specs.Capturing.{IsCapture}
-use Rattle.sg_trace.specs.Captured.{captured, captured_events, output_of}
+use Rattle.sg_trace.specs.Captured.{captured, output_of}
 use Rattle.sg_trace.specs.Trace.{replayed}
 use Rattle.sg_trace.specs.declared.status.Status.{Status}
 use Rattle.sg_trace.specs.declared.status.Status.TheVariants.{Done, Usage, Script, Read, Write, Link, NoMemory, Clock, Noise, TurnsSpent, Capture}

@@ -1,8 +1,7 @@
-use Rattle.std.proofs.Common.{◌≡◌, ◌++◌, [], List, ℕ, Err, Ok, ap, sym, ◌∙◌, subst, None, Some}
+use Rattle.std.proofs.Common.{◌≡◌, ◌++◌, List, ℕ, Err, Ok, ap, sym, ◌∙◌, subst, None, Some}
 use Rattle.std.proofs.lemmas.List.{append-nil}
 use Rattle.std.specs.Prelude.{option_to_list}
 use Rattle.sg_bridge.specs.Pairs.{after_outcome}
-use Rattle.sg_bridge.specs.declared.outcomes.BridgeOutcome.{BridgeOutcome}
 use Rattle.sg_bridging.proofs.Steps.{cut_written, line_of_one, lines, next_text, then_written}
 use Rattle.sg_edge.specs.Told.{Wrote}
 use Rattle.sg_outcome.specs.OutcomeText.{outcome_line}

@@ -1,4 +1,4 @@
-use Rattle.std.proofs.Common.{◌≡◌, ◌∷◌, [], None, Some, sym, subst, ap, ◌∙◌, refl}
+use Rattle.std.proofs.Common.{◌≡◌, ◌∷◌, [], None, Some, sym, subst, ap, ◌∙◌}
 use Rattle.sg_bridge.specs.Bridged.{passed}
 use Rattle.sg_bridge.specs.Onward.{onward}
 use Rattle.sg_bridging.proofs.Steps.{Has, drop_passes, goes_on_to, lines, out_passes}
