@@ -11,8 +11,9 @@
    comes out is compared octet for octet with the packet that was sealed, or with what libsrtp made of the plain one.
    For each step one line: the rate that was asked for, packets sent, microseconds that sending took, microseconds
    until the last packet came out, packets that came out as they must, others, the same again, packets that the
-   system threw away in front of the gateway's sockets and in front of this program's, and nanoseconds of the
-   processor that the gateway took. */
+   system threw away in front of the gateway's sockets and in front of this program's, nanoseconds of the processor
+   that the gateway took, and the nanoseconds from before a packet's sending until it had come out that half of the
+   packets and 99 in 100 of them stayed below. */
 #define _GNU_SOURCE
 #include <arpa/inet.h>
 #include <dirent.h>
@@ -51,6 +52,7 @@ struct packet {
     uint8_t plain[SIZE] __attribute__((aligned(4)));
     uint8_t sealed[SEALED_SIZE + 2] __attribute__((aligned(4)));
     uint8_t arrived;
+    uint64_t moment;    /* in which it is sent; once it has arrived, the nanoseconds that it took */
 };
 
 static struct stream streams[STREAMS_MOST];
@@ -226,7 +228,9 @@ static void send_part(uint64_t from, uint64_t to) {
     struct iovec parts[2][BATCH];
     struct sockaddr_in targets[2][BATCH];
     unsigned waiting[2] = {0, 0};
+    uint64_t moment = now();
     for (uint64_t n = from; n < to; n++) {
+        packets[n].moment = moment;
         const struct stream *stream = &streams[n % stream_count];
         int is_sealed = stream->way == OPENED;
         unsigned m = waiting[stream->way]++;
@@ -252,8 +256,8 @@ static void send_step(uint64_t began, uint64_t rate) {
 
 /* ---- taking */
 
-/* Counts what came to the telephones' socket of that way. */
-static void take(const uint8_t *octets, size_t size, enum way way) {
+/* Counts what came at a moment to the telephones' socket of that way. */
+static void take(const uint8_t *octets, size_t size, enum way way, uint64_t moment) {
     uint32_t stamp, ssrc;
     if (size < 12) { other++; return; }
     memcpy(&stamp, octets + 4, 4);
@@ -265,8 +269,10 @@ static void take(const uint8_t *octets, size_t size, enum way way) {
     if (n >= count) { other++; return; }
     const uint8_t *wanted = way == OPENED ? packets[n].plain : packets[n].sealed;
     if (size != (way == OPENED ? SIZE : SEALED_SIZE) || memcmp(octets, wanted, size)) { other++; return; }
-    if (packets[n].arrived) again++; else good++;
+    if (packets[n].arrived) { again++; return; }
+    good++;
     packets[n].arrived = 1;
+    packets[n].moment = moment - packets[n].moment;
 }
 
 /* Takes what the gateway put out, as long as the program runs. */
@@ -283,9 +289,10 @@ static void *take_all(void *word) {
         }
         int got = recvmmsg(sockets[way == OPENED], messages, BATCH, MSG_WAITFORONE, NULL);
         if (got < 0 && errno != EINTR && errno != ECONNREFUSED) fail("recvmmsg");
+        uint64_t moment = now();
         pthread_mutex_lock(&lock);
-        for (int m = 0; m < got; m++) take(octets[way][m], messages[m].msg_len, way);
-        last_came = now();
+        for (int m = 0; m < got; m++) take(octets[way][m], messages[m].msg_len, way, moment);
+        last_came = moment;
         pthread_mutex_unlock(&lock);
     }
     return NULL;
@@ -308,6 +315,23 @@ static void wait_for_the_last(void) {
     }
 }
 
+static int in_order(const void *one, const void *other) {
+    uint64_t a = *(const uint64_t *)one, b = *(const uint64_t *)other;
+    return (a > b) - (a < b);
+}
+
+/* The nanoseconds that half of the packets that came stayed below, and 99 in 100 of them; the lock is held. */
+static void delays(uint64_t *half, uint64_t *most) {
+    uint64_t *taken = malloc((count + 1) * sizeof *taken), came = 0;
+    if (!taken) fail("delays");
+    for (uint64_t n = 0; n < count; n++)
+        if (packets[n].arrived) taken[came++] = packets[n].moment;
+    qsort(taken, came, sizeof *taken, in_order);
+    *half = came ? taken[came / 2] : 0;
+    *most = came ? taken[came * 99 / 100] : 0;
+    free(taken);
+}
+
 /* ---- all of it */
 
 static void listen_at(int place, uint16_t port) {
@@ -320,7 +344,7 @@ static void listen_at(int place, uint16_t port) {
 }
 
 static void run_step(int pid, uint64_t rate, uint64_t seconds) {
-    uint64_t own, gateways, own_after, gateways_after;
+    uint64_t own, gateways, own_after, gateways_after, half, most;
     make_all(rate * seconds);
     thrown(&own, &gateways);
     uint64_t before = processor(pid), began = now();
@@ -330,8 +354,9 @@ static void run_step(int pid, uint64_t rate, uint64_t seconds) {
     uint64_t after = processor(pid);
     thrown(&own_after, &gateways_after);
     pthread_mutex_lock(&lock);
+    delays(&half, &most);
     uint64_t told[] = {rate, count, (sent - began) / 1000, last_came > began ? (last_came - began) / 1000 : 0, good, other, again,
-                       gateways_after - gateways, own_after - own, after - before};
+                       gateways_after - gateways, own_after - own, after - before, half, most};
     for (size_t place = 0; place < sizeof told / sizeof told[0]; place++)
         printf(place ? " %llu" : "%llu", (unsigned long long)told[place]);
     putchar('\n');

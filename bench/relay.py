@@ -1,6 +1,7 @@
 #!/usr/bin/env python3
 """Measures `srtpgw relay`, and rtpengine in the same run where it is installed: packets a second without loss with
-one call and with many, the processor's time for a packet, what happens beyond that, and after it.
+one call and with many, the processor's time for a packet, how long it takes to come out, what happens beyond that,
+and after it.
 
     bench/relay.py                                  with ./srtpgw, or with the program that SRTPGW names
     bench/relay.py --calls 1 --rates 60000 --seconds 10 --no-rtpengine
@@ -40,8 +41,10 @@ class Step:
     """What one line of the load says."""
 
     def __init__(self, line):
-        (self.rate, self.sent, sending, until, self.good, self.other, self.again, self.thrown, self.missed, cost) = (
-            int(word) for word in line.split())
+        (self.rate, self.sent, sending, until, self.good, self.other, self.again, self.thrown, self.missed, cost,
+         *delays) = (int(word) for word in line.split())
+        # Microseconds that half of the packets stayed below, and 99 in 100 of them.
+        self.half, self.most = (delay / 1_000 for delay in delays)
         self.lost = self.sent - self.good
         self.sent_a_second = self.sent / sending * 1e6
         self.good_a_second = self.good / max(sending, until) * 1e6
@@ -125,8 +128,8 @@ def row(cells):
 def head():
     print()
     row(["gateway", "calls", "sent a second", "packets", "lost", "put out a second", "us of the processor a packet",
-         "processors busy"])
-    row(["---"] + ["---:"] * 7)
+         "processors busy", "p50, us", "p99, us"])
+    row(["---"] + ["---:"] * 9)
 
 
 def told(place, calls, step):
@@ -134,7 +137,7 @@ def told(place, calls, step):
     counts = {"at its sockets": step.thrown, "at the load's": step.missed, "changed": step.other, "twice": step.again}
     notes = ", ".join(f"{count:,} {where}" for where, count in counts.items() if count)
     row([place, calls, f"{step.sent_a_second:,.0f}", f"{step.sent:,}", f"{step.lost:,}" + (f" ({notes})" if notes else ""),
-         f"{step.good_a_second:,.0f}", f"{step.cost:.1f}", f"{step.busy:.2f}"])
+         f"{step.good_a_second:,.0f}", f"{step.cost:.1f}", f"{step.busy:.2f}", *(f"{it:,.0f}" for it in (step.half, step.most))])
 
 
 def ladder(load, gateway, count, way, given):

@@ -144,21 +144,21 @@ const FIVE: [Option<([u8; 4], usize)>; 3] = [
 ];
 
 /// A sink of the system over these octets takes three.
-fn takes_three(rt: &impl Abort, octets: &mut Vec<u8>) {
-    let mut sink = StdSink::make(octets);
+fn takes_three(rt: &(impl Abort + std::rt::Clock), octets: &mut Vec<u8>) {
+    let mut sink = StdSink::make(octets, rt);
     assert!(rt; write_all(&mut sink, b"abc") == Ok(()));
 }
 
 /// A source and a sink of the system fail, whose reader and writer do so.
-fn fail(rt: &impl Abort, kind: ErrorKind) {
+fn fail(rt: &(impl Abort + std::rt::Clock), kind: ErrorKind) {
     let kind = Some(kind);
-    assert!(rt; one_read(&mut StdSource::make(Broken { kind })) == None);
-    assert!(rt; write_all(&mut StdSink::make(Broken { kind }), b"abc") == Err(Failed));
+    assert!(rt; one_read(&mut StdSource::make(Broken { kind }, rt)) == None);
+    assert!(rt; write_all(&mut StdSink::make(Broken { kind }, rt), b"abc") == Err(Failed));
 }
 
 #[test]
 fn forms_of_the_system(rt: HostRuntime) {
-    reads(&rt, &mut StdSource::make(b"abcde".as_slice()), &FIVE);
+    reads(&rt, &mut StdSource::make(b"abcde".as_slice(), &rt), &FIVE);
     let mut octets = Vec::new(rt.alloc());
     takes_three(&rt, &mut octets);
     assert!(rt; octets.as_slice() == b"abc".as_slice());
@@ -167,19 +167,19 @@ fn forms_of_the_system(rt: HostRuntime) {
 #[test]
 fn forms_of_the_system_that_fail(rt: HostRuntime) {
     fail(&rt, ErrorKind::BrokenPipe);
-    let mut full = StdSink::make(Broken { kind: None });
+    let mut full = StdSink::make(Broken { kind: None }, &rt);
     assert!(rt; write_all(&mut full, b"abc") == Err(Failed));
 }
 
 /// A sink of the system takes three octets, though each call halts twice.
-fn takes_three_in_the_end(rt: &impl Abort, octets: &mut Vec<u8>) {
-    let mut sink = StdSink::make(Halting { calls: 0, octets });
+fn takes_three_in_the_end(rt: &(impl Abort + std::rt::Clock), octets: &mut Vec<u8>) {
+    let mut sink = StdSink::make(Halting { calls: 0, octets }, rt);
     assert!(rt; write_all(&mut sink, b"abc") == Ok(()));
 }
 
 /// A source of the system gives the last two of three octets, though each call halts twice.
-fn gives_two_in_the_end(rt: &impl Abort, octets: &mut Vec<u8>) {
-    let mut source = StdSource::make(Halting { calls: 0, octets });
+fn gives_two_in_the_end(rt: &(impl Abort + std::rt::Clock), octets: &mut Vec<u8>) {
+    let mut source = StdSource::make(Halting { calls: 0, octets }, rt);
     let two = [Some((*b"c\0\0\0", 1)), Some((*b"b\0\0\0", 1))];
     reads(rt, &mut source, &two);
 }
