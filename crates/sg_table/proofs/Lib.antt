@@ -11,6 +11,7 @@ mod FreeSlot
 mod Gathering
 mod Indexed
 mod KeptSlots
+mod Lent
 mod Orders
 mod Outing
 mod PairAdded

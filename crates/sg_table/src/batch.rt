@@ -9,12 +9,11 @@ ghost use Rattle.sg_table.specs.Batches.{octets_of, IsBatched};
 ghost use Rattle.sg_table.specs.Octets.{AreOctets};
 ghost use Rattle.sg_table.specs.Orders.{HaveEndedAlone, IsBatchedAs};
 ghost use Rattle.sg_table.specs.Parts.{datagram_of, pushed_at, popped_at, waiting_of, is_taken, handed, all_handed, handled_first, given_back, HaveRoom, AreReady, IsGathered};
-ghost use Rattle.sg_table.specs.Standing.{Stands, TableStandsFor};
+ghost use Rattle.sg_table.specs.Standing.{TableStandsFor};
 ghost use Rattle.sg_table.specs.Values.{AreIndexed, AreQuiet, AreRising, shapes_of};
 ghost use Rattle.sg_table.specs.declared.arrival.Arrival as declared;
 
 use crate::arrival::Arrival;
-use crate::calls::Calls;
 use crate::laws::{every_order_gives_the_same, only_its_own_call_counts};
 use crate::octets::holds_octets;
 use crate::ports::place;
@@ -43,35 +42,13 @@ impl Table {
         ensures alone { (w : World) → TableStandsFor self.old w → HaveEndedAlone w [] arrivals.old arrivals.new }
         ensures orders { (w : World) (others : List declared.Arrival) → TableStandsFor self.old w → IsBatchedAs w others arrivals.old arrivals.new self.new }
     {
+        calls_in_order();
         only_its_own_call_counts();
         every_order_gives_the_same();
-        self.calls.batch(&self.places, rt, arrivals, workers, gate);
-    }
-}
-
-impl Calls {
-    /// Handles a batch, by the position of each slot's call.
-    fn batch<R: Threads + Sync, G: Gate + Sync>(
-        &mut self,
-        places: &[Option<u8>],
-        rt: &R,
-        arrivals: &mut [Arrival],
-        workers: usize,
-        gate: &G,
-    )
-        requires few { length arrivals.old ≤ 256 }
-        requires pads { All (λ a. IsSome a.pad) arrivals.old }
-        requires workers { 0 < workers }
-        requires indexed { AreIndexed places.now (shapes_of self.old.calls) }
-        requires stands { Stands self.old }
-        ensures batched { (w : World) → TableStandsFor self.old w → IsBatched w arrivals.old arrivals.new self.new }
-        ensures shapes { shapes_of self.new.calls ≡ shapes_of self.old.calls }
-    {
-        calls_in_order();
         handle_all(
-            &mut self.by_slot,
-            places,
-            self.moment,
+            &mut self.calls.by_slot,
+            &self.places,
+            self.calls.moment,
             rt,
             arrivals,
             workers,

@@ -4,10 +4,8 @@ ghost use Rattle.std.specs.Prelude.{◌≡◌};
 ghost use Rattle.sg_gateway.specs.PlainOf.{plain_at};
 ghost use Rattle.sg_gateway.specs.World.{World};
 ghost use Rattle.sg_table.specs.Handling.{IsHandled};
-ghost use Rattle.sg_table.specs.Standing.{Stands, TableStandsFor};
-ghost use Rattle.sg_table.specs.Values.{AreIndexed, shapes_of};
+ghost use Rattle.sg_table.specs.Standing.{TableStandsFor};
 
-use crate::calls::Calls;
 use crate::octets::holds_octets;
 use crate::ports::place;
 use crate::table::Table;
@@ -21,7 +19,17 @@ impl Table {
     pub fn datagram(&mut self, port: u16, from: Address, pad: Pad) -> Handled
         ensures { (w : World) → TableStandsFor self.old w → IsHandled w port from pad result self.new }
     {
-        self.calls.datagram(&self.places, port, from, pad)
+        calls_in_order();
+        each_call_by_itself();
+        holds_octets(&pad);
+        let calls = self.calls.by_slot.as_mut_slice();
+        match place(calls, &self.places, port) {
+            None => Handled {
+                pad,
+                end: End::Dropped(DropCause::PortUnused),
+            },
+            Some(i) => calls[i].datagram(port, from, pad, self.calls.moment),
+        }
     }
 
     /// The plain address of the session on a plain port, for packets of its kind; none where no current generation
@@ -29,40 +37,9 @@ impl Table {
     pub fn plain_of(&self, port: u16) -> Option<Address>
         ensures { (w : World) → TableStandsFor self.now w → result ≡ plain_at w port }
     {
-        self.calls.plain_of(&self.places, port)
-    }
-}
-
-impl Calls {
-    /// Hands a datagram to the call that has its port, by the position of each slot's call.
-    fn datagram(&mut self, places: &[Option<u8>], port: u16, from: Address, pad: Pad) -> Handled
-        requires indexed { AreIndexed places.now (shapes_of self.old.calls) }
-        requires stands { Stands self.old }
-        ensures handled { (w : World) → TableStandsFor self.old w → IsHandled w port from pad result self.new }
-        ensures shapes { shapes_of self.new.calls ≡ shapes_of self.old.calls }
-    {
         calls_in_order();
-        each_call_by_itself();
-        holds_octets(&pad);
-        let calls = self.by_slot.as_mut_slice();
-        match place(calls, places, port) {
-            None => Handled {
-                pad,
-                end: End::Dropped(DropCause::PortUnused),
-            },
-            Some(i) => calls[i].datagram(port, from, pad, self.moment),
-        }
-    }
-
-    /// The plain address of the session on a plain port, by the position of each slot's call.
-    fn plain_of(&self, places: &[Option<u8>], port: u16) -> Option<Address>
-        requires indexed { AreIndexed places.now (shapes_of self.now.calls) }
-        requires stands { Stands self.now }
-        ensures { (w : World) → TableStandsFor self.now w → result ≡ plain_at w port }
-    {
-        calls_in_order();
-        let calls = self.by_slot.as_slice();
-        match place(calls, places, port) {
+        let calls = self.calls.by_slot.as_slice();
+        match place(calls, &self.places, port) {
             None => None,
             Some(i) => calls[i].plain_of(port),
         }
