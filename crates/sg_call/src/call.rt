@@ -40,11 +40,11 @@ pub struct Call {
     slot: u8,
     media: u8,
     is_new: bool,
-    state: State,
-    routes: Routes,
-    replaced: u64,
     moment: u64,
+    replaced: u64,
+    routes: Routes,
     inbox: Inbox,
+    state: State,
 }
 
 impl Model for Call {

@@ -33,24 +33,31 @@ impl Model for Queued {
     } };
 }
 
-/// The datagrams of a call that wait and those that are handled, each in order, 256 together at most. Only `make`
-/// allocates, and no function hands the allocator of the queues on.
+/// The datagrams of a call that wait and those that are handled, each in order, 256 together at most. The first of
+/// either stands beside its queue, so that a call to which one comes at a time leaves the memory of its queues alone.
+/// Only `make` allocates, and no function hands the allocator of the queues on.
 #[derive(Drop)]
 pub struct Inbox {
+    next: Option<Queued>,
+    done: Option<(u32, Handled)>,
     waiting: VecDeque<Queued>,
     handled: VecDeque<(u32, Handled)>,
 }
 
 impl Model for Inbox {
-    ghost use Rattle.std.specs.Prelude.{◌≤◌, ◌+◌};
+    ghost use Rattle.std.specs.Prelude.{◌≤◌, ◌+◌, ◌++◌, length, option_to_list};
     ghost use Rattle.std.specs.VecDeque.{deque_capacity, deque_items, deque_len};
     ghost use Rattle.sg_call.specs.Values.{InboxValue};
 
     ghost Value = { InboxValue };
 
-    ghost view = { λ i. record { waiting = deque_items i.waiting; handled = deque_items i.handled } };
+    ghost view = { λ i. record {
+      waiting = option_to_list i.next ++ deque_items i.waiting;
+      handled = option_to_list i.done ++ deque_items i.handled;
+    } };
 
-    ghost invariant = { λ i. (256 ≤ deque_capacity i.waiting) × (256 ≤ deque_capacity i.handled) × (deque_len i.waiting + deque_len i.handled ≤ 256) };
+    ghost invariant = { λ i. (256 ≤ deque_capacity i.waiting) × (256 ≤ deque_capacity i.handled)
+        × (length (option_to_list i.next) + deque_len i.waiting + (length (option_to_list i.done) + deque_len i.handled) ≤ 256) };
 }
 
 impl Inbox {
@@ -59,6 +66,8 @@ impl Inbox {
         ensures { IfOk result (λ inbox. (inbox.waiting ≡ []) × (inbox.handled ≡ [])) }
     {
         Ok(Inbox {
+            next: None,
+            done: None,
             waiting: VecDeque::with_capacity(alloc, BATCH_MOST)?,
             handled: VecDeque::with_capacity(alloc, BATCH_MOST)?,
         })
@@ -69,7 +78,11 @@ impl Inbox {
         requires room { length self.old.waiting + length self.old.handled < 256 }
         ensures { self.new ≡ record self.old { waiting = self.old.waiting ++ queued ∷ [] } }
     {
-        self.waiting.push_back_reserved(queued);
+        if self.next.is_none() && self.waiting.is_empty() {
+            self.next = Some(queued);
+        } else {
+            self.waiting.push_back_reserved(queued);
+        }
     }
 
     /// Takes out the first datagram that waits; none where none does.
@@ -78,7 +91,10 @@ impl Inbox {
         ensures rest { self.new ≡ record self.old { waiting = drop 1 self.old.waiting } }
         ensures room { IfSome result (λ _. length self.new.waiting + length self.new.handled < 256) }
     {
-        self.waiting.pop_front()
+        match self.next.take() {
+            Some(queued) => Some(queued),
+            None => self.waiting.pop_front(),
+        }
     }
 
     /// A datagram is handled, behind those that are.
@@ -86,7 +102,11 @@ impl Inbox {
         requires room { length self.old.waiting + length self.old.handled < 256 }
         ensures { self.new ≡ record self.old { handled = self.old.handled ++ (number, handled) ∷ [] } }
     {
-        self.handled.push_back_reserved((number, handled));
+        if self.done.is_none() && self.handled.is_empty() {
+            self.done = Some((number, handled));
+        } else {
+            self.handled.push_back_reserved((number, handled));
+        }
     }
 
     /// Takes out the first datagram that is handled; none where none is.
@@ -94,6 +114,9 @@ impl Inbox {
         ensures first { MatchOption result (self.old.handled ≡ []) (λ h. self.old.handled ≡ h ∷ self.new.handled) }
         ensures rest { self.new ≡ record self.old { handled = drop 1 self.old.handled } }
     {
-        self.handled.pop_front()
+        match self.done.take() {
+            Some(first) => Some(first),
+            None => self.handled.pop_front(),
+        }
     }
 }
