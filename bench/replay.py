@@ -1,12 +1,12 @@
 #!/usr/bin/env python3
 """Measures `srtpgw replay` over scripts of calls, and prints a table in Markdown.
 
-    bench/replay.py [COUNT [open|seal|both [CALLS[,CALLS..] [WORKERS[,WORKERS..]]]]] [--size N] [--rounds N]
+    bench/replay.py [COUNT [open|seal|both [CALLS[,CALLS..] [WORKERS[,WORKERS..]]]]] [--size N] [--rounds N] [--least]
         [--program FILE] [--beside FILE]
 
 COUNT (200,000) packets of N octets (172) under AES_CM_128_HMAC_SHA1_80 are opened, sealed, or opened and sealed in
 turns (both), in so many calls and by so many workers (1, and 1); a row for each. A figure is the median of N
-rounds (5), with the rows in turns. What the program writes is compared with what another implementation says.
+rounds (5), with the rows in turns, or with --least the least of them. What the program writes is compared with what another implementation says.
 With --beside another program has a row too, in turns: it is told the word replay alone, so it may be one of before there
 were workers."""
 
@@ -17,6 +17,7 @@ import statistics
 import subprocess
 import sys
 import tempfile
+import time
 from pathlib import Path
 
 BENCH = Path(__file__).resolve().parent
@@ -26,14 +27,18 @@ PROGRAM = BENCH.parent / "crates/srtpgw/out/srtpgw"
 
 
 def run(program, workers, script, written):
-    """Runs the program; the seconds that passed, those of the processor, and the peak in MiB, by GNU time."""
-    told = [TIME, "-f", "%e %U %S %M", program, "replay"] + (["--workers", str(workers)] if workers else [])
-    with open(script) as source, open(written, "w") as sink:
-        ran = subprocess.run(told, stdin=source, stdout=sink, stderr=subprocess.PIPE, text=True)
-    if ran.returncode != 0:
-        sys.exit(f"bench/replay.py: the program failed: {ran.stderr}")
-    passed, user, system, kibibytes = map(float, ran.stderr.split())
-    return passed, user + system, kibibytes / 1024
+    """Runs the program; the seconds that passed, those of the processor, of these the user's, and by GNU time the peak
+    in MiB."""
+    told = [TIME, "-f", "%M", program, "replay"] + (["--workers", str(workers)] if workers else [])
+    with open(script) as source, open(written, "w") as sink, tempfile.TemporaryFile("w+") as said:
+        began = time.monotonic()
+        _, status, used = os.wait4(subprocess.Popen(told, stdin=source, stdout=sink, stderr=said).pid, 0)
+        passed = time.monotonic() - began
+        said.seek(0)
+        peak = said.read()
+    if status != 0:
+        sys.exit(f"bench/replay.py: the program failed: {peak}")
+    return passed, used.ru_utime + used.ru_stime, used.ru_utime, int(peak) / 1024
 
 
 def given():
@@ -44,6 +49,7 @@ def given():
     words.add_argument("workers", nargs="?", default="1")
     words.add_argument("--size", type=int, default=172)
     words.add_argument("--rounds", type=int, default=5)
+    words.add_argument("--least", action="store_true")
     words.add_argument("--program", default=PROGRAM)
     words.add_argument("--beside")
     return words.parse_args()
@@ -70,14 +76,16 @@ def main():
                 taken[calls, workers].append(run(program, workers, Path(folder) / f"script-{calls}", written))
                 if not filecmp.cmp(Path(folder) / f"outcomes-{calls}", written, shallow=False):
                     sys.exit("bench/replay.py: the program wrote something else than it must")
-    print(f"packets of {words.size} octets, {os.cpu_count()} processors, load average {os.getloadavg()[0]:.2f}, medians of {words.rounds} rounds")
+    chosen, name = (min, "least") if words.least else (statistics.median, "medians")
+    print(f"packets of {words.size} octets, {os.cpu_count()} processors, load average {os.getloadavg()[0]:.2f}, {name} of {words.rounds} rounds")
     print()
-    print("| calls | workers | packets | | seconds | of the processor | packets a second | of the processor | peak MiB |")
-    print("| ---: | ---: | ---: | --- | ---: | ---: | ---: | ---: | ---: |")
+    print("| calls | workers | packets | | seconds | of the processor | of the user | packets a second | of the processor | peak MiB |")
+    print("| ---: | ---: | ---: | --- | ---: | ---: | ---: | ---: | ---: | ---: |")
     for (calls, workers), runs in taken.items():
-        passed, processor, peak = (statistics.median(it) for it in zip(*runs))
+        passed, processor, user, peak = (chosen(it) for it in zip(*runs))
         rates = f"{words.count / max(passed, 0.01):,.0f} | {words.count / max(processor, 0.01):,.0f}"
-        print(f"| {calls} | {workers or 'beside'} | {words.count:,} | {words.ways} | {passed:.2f} | {processor:.2f} | {rates} | {peak:.1f} |")
+        seconds = f"{passed:.3f} | {processor:.3f} | {user:.3f}"
+        print(f"| {calls} | {workers or 'beside'} | {words.count:,} | {words.ways} | {seconds} | {rates} | {peak:.1f} |")
 
 
 if __name__ == "__main__":
