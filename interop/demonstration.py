@@ -1,11 +1,18 @@
+#!/usr/bin/env python3
 """The numbers of the command `demo`: a small model of both ends of its calls, over the writer of `srtp.py`.
 
 The generator is PCG32 (XSH RR) from its paper, seeded as the Rust crates `rand_core` and `rand_pcg` seed it from a
 number. Nothing here is of srtpgw.
+
+    interop/demonstration.py CALLS START              what must be written of one
+    interop/demonstration.py PROGRAM [COUNT [SEED]]   plays a table of them, and so many of a few calls each
 """
+import random
+import subprocess
 import sys
 
 import srtp
+from usage import words_or_usage
 
 ROUNDS = 320
 FIRST = 65_400
@@ -128,6 +135,46 @@ def demonstration(calls, start):
     return numbers
 
 
+def lines(calls, start):
+    """What must be written of it."""
+    return "".join(f"{name} {number}\n" for name, number in demonstration(calls, start).items())
+
+
+# ---- beside the program
+
+WORKERS = 1, 2, 16
+CALLS = 1, 2, 3, 4, 8, 15, 16, 17, 32, 64, 128, 255, 256
+STARTS = 0, 1, 7, 2**31, 2**32 - 1, 2**32, 2**63, 2**64 - 1
+
+
+def difference(program, calls, start):
+    """By how many workers a demonstration is another than it must be, or None."""
+    wanted = lines(calls, start).encode()
+    for workers in WORKERS:
+        words = [program, "demo", str(calls), str(start), "--workers", str(workers)]
+        run = subprocess.run(words, capture_output=True, timeout=300, check=False)
+        if (run.stdout, run.returncode, run.stderr) != (wanted, 0, b""):
+            return f"{workers} workers: {run.returncode} {run.stderr[-200:]!r} {run.stdout!r}"
+    return None
+
+
+def main():
+    program, *rest = words_or_usage(__doc__)
+    if program.isdigit():
+        print(lines(int(program), int(rest[0])), end="")
+        return 0
+    count, seed = (rest + ["100", "1"][len(rest):])[:2]
+    dice, bad = random.Random(f"demonstrations {seed}"), 0
+    shown = [(calls, start) for calls in CALLS for start in STARTS]
+    shown += [(dice.randrange(1, 9), dice.randrange(2**64)) for _ in range(int(count))]
+    for calls, start in shown:
+        fault = difference(program, calls, start)
+        if fault:
+            bad += 1
+            print(f"demo {calls} {start} by {fault}", flush=True)
+    print(f"demonstrations: {len(shown)}, each by 1, 2 and 16 workers, {bad} with a difference")
+    return bool(bad)
+
+
 if __name__ == "__main__":
-    for name, number in demonstration(int(sys.argv[1]), int(sys.argv[2])).items():
-        print(name, number)
+    sys.exit(main())

@@ -1,7 +1,7 @@
 #!/usr/bin/env python3
 """Plays scripts that were cut, mixed up and changed through the program, and compares each run with the model's.
 
-    interop/hostile.py PROGRAM [COUNT [SEED]]
+    interop/hostile.py PROGRAM [COUNT [SEED [COMMAND]]]
 
 Each is made of a script of `interop/rows/`, of `examples/` or of the grammar of `mixed.py`. One in five is cut at an
 octet, at each in turn; the others have one to three changes: a bit, an octet, a digit, a field or a line changed,
@@ -12,7 +12,7 @@ dropped, doubled or exchanged with another's, a number made larger or smaller, o
   with what the model tells of the lines before, the rest is outcomes of their grammar, and the status is 0 or 2.
 
 One run in eight has two workers and what memory it likes; its octets are the same. One in eight is a migration, one is
-played with `--mux`, and one by `bridge`.
+played with `--mux`, and one by `bridge`. COMMAND is the one by which all are, a replay by one worker, two and sixteen.
 """
 import os
 import random
@@ -23,7 +23,7 @@ import sys
 from collections import Counter
 from pathlib import Path
 
-from mixed import COMMANDS, Mixer
+from mixed import COMMANDS, Mixer, ways
 from model import TOLD
 from usage import words_or_usage
 
@@ -37,7 +37,7 @@ ADDRESS = rb"\d+\.\d+\.\d+\.\d+:\d+"
 OUTCOME = re.compile(
     rb"made \d+ \d+ \d+|live \d+|sdp \d+ (secure|plain) ([0-9a-f]+|-)|refused (\d+|-) [A-Za-z]+( [A-Za-z0-9-]+)*"
     rb"|ended \d+ \d+ \d+ (bye|idle|rejected)|out \d+ " + ADDRESS + rb" ([0-9a-f]+|-)|(drop|lost) \d+ [A-Za-z]+( \d+)*"
-    rb"|(joined|parted) \d+ \d+|unjoined \d+ [A-Za-z]+( \d+)?"
+    rb"|unsent \d+ " + ADDRESS + rb"|(joined|parted) \d+ \d+|unjoined \d+ [A-Za-z]+( \d+)?"
 )
 
 
@@ -132,7 +132,7 @@ def played(program, script, words):
     """Status, standard output and standard error. The bound on memory is there before the script is."""
     pipes = {"stdin": subprocess.PIPE, "stdout": subprocess.PIPE, "stderr": subprocess.PIPE}
     with subprocess.Popen([program, *words], **pipes) as run:
-        if "--workers" not in words:
+        if words[-1] not in ("2", "16"):
             resource.prlimit(run.pid, resource.RLIMIT_DATA, (MEMORY, MEMORY))
         try:
             written, said = run.communicate(script, SECONDS)
@@ -161,19 +161,20 @@ def fault(run, wanted):
 
 def main():
     program, *rest = words_or_usage(__doc__)
-    count, seed = (rest + ["20000", "1"][len(rest):])[:2]
+    count, seed, only = (rest + ["20000", "1", None][len(rest):])[:3]
     ends, bad = Counter(), 0
     for number, (name, script) in enumerate(cases(int(count), seed)):
         if number and number % 1000 == 0:
             print(f"{number} played, {bad} bad, {sum(os.times()[:4]):.0f} s of processor", flush=True)
-        words = words_of(number)
-        wanted = TOLD["replay --mux" if "--mux" in words else words[0]](script)
-        told = fault(played(program, script, words), wanted)
+        runs = [way.split() for way in ways(only)] if only else [words_of(number)]
+        wanted = TOLD["replay --mux" if "--mux" in runs[0] else runs[0][0]](script)
         ends[{0: "done", 2: "not in the grammar", None: "noise drawn"}[wanted.status]] += 1
-        if told:
-            print(f"{name} by {' '.join(words)}: {told}", flush=True)
-            Path(f"hostile-{number}.script").write_bytes(script)
-            bad += 1
+        for words in runs:
+            told = fault(played(program, script, words), wanted)
+            if told:
+                print(f"{name} by {' '.join(words)}: {told}", flush=True)
+                Path(f"hostile-{number}.script").write_bytes(script)
+                bad += 1
     print(f"hostile scripts: {count} played, {bad} bad, {sum(os.times()[:4]):.0f} s of processor; {dict(ends)}")
     sys.exit(bool(bad))
 

@@ -2,25 +2,30 @@
 """Plays scripts through the program that fill what is limited, or cut the known texts at each octet, and compares every
 line with the model's.
 
-    interop/limits.py PROGRAM
+    interop/limits.py PROGRAM [all]
 
-They are too long to be kept as rows: 1,020 noted messages and more, 65,536 keys and more, 256 calls of four media. Of
+They are too long to be kept as rows: 1,020 noted messages and more, 65,536 keys and more, 256 calls of four media. Each is
+played by `replay`, and short ones by every other command that reads a script, too; with `all` each is, and by `relay`. Of
 each script that is handled to its end the most memory is told that was resident.
 """
 import os
+import resource
 import subprocess
 import sys
 import threading
 from pathlib import Path
 
+from joined import SECOND_PLAIN
+from loopback import has_own_loopback
 from mikey import Exchange
-from mixed import difference
-from model.replay import Told
+from mixed import difference, ended, ways
+from model import TOLD
+from relayed import MuxedOverLoopback, OverLoopback
 from signals import (
     ALICE, ALICE_OFFERS, BOB, BOB_ANSWERS, CM, NOW, PEER, SHARED, SHIFTED, TGK, answer, inline, key, message_line,
     noise, octets_of, offer_sdes, offer_secure, psk, secure_text, text,
 )
-from srtp import MasterKey
+from srtp import MasterKey, rtp
 from usage import words_or_usage
 
 
@@ -125,7 +130,36 @@ def longest_datagram():
         yield "in 20000 127.0.0.1:40000 " + "80" * count
 
 
-ALL = full_book, full_ring, full_table, cut_at_each_octet, changed_at_each_octet, longest_line, longer_line, longest_datagram
+def full_bridge():
+    """256 calls in 128 pairs, as they are joined from both ends of the table. Of the first pair 64 sources cross each way,
+    and what the next one sends is told."""
+    keys = lambda call: [key(f"{call} {way}") for way in ("opening", "sealing")]
+    for call in range(257):
+        fields = " ".join(it.field() for it in keys(call))
+        yield f"manual {call} 127.0.0.1:40000 {SECOND_PLAIN} 00000000 1024 {fields}"
+    for call in range(128):
+        yield f"join {call} {255 - call}"
+    for call in (0, 255):
+        for source in range(65):
+            sealed = keys(call)[0].srtp(rtp(7, ssrc=source), 7).hex()
+            yield f"in {20000 + 16 * call} 127.0.0.1:40000 {sealed}"
+    for call in (255, 3, 3, 252):
+        yield f"bye {call}"
+
+
+ALL = full_book, full_ring, full_table, cut_at_each_octet, changed_at_each_octet
+# Those that every command plays.
+SHORT = longest_line, longer_line, longest_datagram, full_bridge
+OTHERS = "replay --mux", "bridge", "capture", "migrate"
+RELAYS = {"relay --turns 1": OverLoopback, "relay --turns 1 --mux": MuxedOverLoopback}
+
+
+def relayed_otherwise(program, script, command):
+    """What is wrong with a relay of a script without ticks, to which nothing comes; or None."""
+    wanted = RELAYS[command](script, 1_764_000_000_123)
+    lift = lambda: resource.setrlimit(resource.RLIMIT_NOFILE, (8192, 8192))
+    run = subprocess.run([program, *command.split()], input=script, capture_output=True, timeout=120, preexec_fn=lift, check=False)
+    return None if (run.stdout, run.returncode, run.stderr) == ended(wanted) else f"{run.returncode} {run.stderr[-200:]!r}"
 
 
 def resident(program, script, told):
@@ -141,15 +175,26 @@ def resident(program, script, told):
 
 
 def main():
-    program, bad = words_or_usage(__doc__)[0], 0
-    for made in ALL:
+    program, *rest = words_or_usage(__doc__)
+    bad = played = 0
+    is_all = rest == ["all"]
+    is_own = is_all and has_own_loopback()
+    for made in ALL + SHORT:
         lines = list(made())
         script = "".join(line + "\n" for line in ["srtpgw 1"] + lines).encode()
-        fault, told = difference(program, script), Told(script)
-        bad += bool(fault)
-        memory = f", {resident(program, script, len(told.octets()))} KiB" if told.status == 0 and not fault else ""
-        print(f"{made.__name__}: {len(lines)} lines, {fault or 'the same'}{memory}", flush=True)
-    print(f"limits: {len(ALL)} scripts, {bad} with a difference, {sum(os.times()[:4]):.0f} s of processor")
+        for command in ("replay", *(OTHERS if is_all or made in SHORT else ())):
+            told = TOLD[command](script)
+            fault = difference(program, script, command, told)
+            is_told = command == "replay" and told.status == 0 and not fault
+            memory = f", {resident(program, script, len(told.octets()))} KiB" if is_told else ""
+            bad, played = bad + bool(fault), played + len(ways(command))
+            print(f"{made.__name__} by {command}: {len(lines)} lines, {fault or 'the same'}{memory}", flush=True)
+        for command in RELAYS if is_own else ():
+            still = b"".join(line for line in script.splitlines(keepends=True) if not line.startswith(b"tick "))
+            fault = relayed_otherwise(program, still, command)
+            bad, played = bad + bool(fault), played + 1
+            print(f"{made.__name__} by {command}: {fault or 'the same'}", flush=True)
+    print(f"limits: {len(ALL + SHORT)} scripts in {played} runs, {bad} with a difference, {sum(os.times()[:4]):.0f} s of processor")
     sys.exit(bool(bad))
 
 

@@ -1,22 +1,34 @@
 #!/usr/bin/env python3
-"""Refuses the program each allocation of a run in turn, alone and with all behind it, and looks at what it answers.
+"""Refuses the program each allocation of a run in turn, and each call of the system, alone and with all behind it, and looks
+at what it answers.
 
     interop/refused.py PROGRAM [SCRIPT..]
 
 Each script (by default some of `examples` and `interop/rows`) is played with all memory first, by `replay` or by the words
-beside it; its output must be the file beside it. Then, with the Nth allocation refused, for each N, the program must answer `no memory` (6) with a
-prefix of that output, or, where it can do without, done (0) with the whole of it. `refuse.c` refuses."""
+beside it; its output must be the file beside it. Then, with the Nth allocation refused, for each N, the program must answer
+`no memory` (6) with a prefix of that output, or, where it can do without, done (0) with the whole of it. A relay over its
+own ports and a demonstration are played, too; what a relay's sockets can't have is `link failed` (5). `refuse.c` refuses.
 
+Of each command, every read, write, bind, receive, wait, reading of the clock and draw fails in turn, too: the run must end
+with that call's status and a prefix of the output. A send that fails is told as `unsent`. A call that was interrupted, or
+would have had to wait, is made again: the output is the whole."""
+
+import errno
 import os
 import subprocess
 import sys
 import tempfile
 from pathlib import Path
 
+from calls import KEY, ONES
+from joined import THREES, TWOS
+from loopback import has_own_loopback
+from signals import BOB_ANSWERS, hexed
+from srtp import KNOWN_SEALED
 from usage import words_or_usage
 
 TOP = Path(__file__).resolve().parent.parent
-DONE, NO_MEMORY = 0, 6
+DONE, LINK, NO_MEMORY = 0, 5, 6
 SCRIPTS = [
     "examples/both-ways",
     "examples/with-rtcp",
@@ -33,50 +45,135 @@ SCRIPTS = [
     "interop/rows/captured-packet-in-version-2",
     "interop/rows/captured-frames-that-are-malformed",
 ]
+# The status with which a run ends where such a call fails, and what it says; and calls that are to be made again.
+OF_LINKS = "socket", "bind", "ioctl", "epoll_create1", "epoll_ctl", "epoll_wait", "recvfrom"
+STATUSES = {
+    "read": (3, b"read failed"), "write": (4, b"write failed"), **dict.fromkeys(OF_LINKS, (5, b"link failed")),
+    "clock_gettime": (7, b"clock failed"), "getentropy": (8, b"noise failed"),
+}
+PASSING = [
+    ("read", errno.EINTR), ("read", errno.EAGAIN), ("write", errno.EINTR), ("write", errno.EAGAIN), ("sendto", errno.EINTR),
+    ("sendto", errno.EAGAIN), ("recvfrom", errno.EINTR), ("epoll_wait", errno.EINTR),
+]
 
 
-def words_of(name):
-    words = Path(TOP, name + ".words")
-    return words.read_text().split() if words.exists() else ["replay"]
+def of_name(name):
+    """The words, the input and the output of a row or an example."""
+    of = lambda end: Path(TOP, name + end).read_bytes() if Path(TOP, name + end).exists() else b""
+    return of(".words").decode().split() or ["replay"], of(".script") + of(".pcap"), of(".out")
 
 
-def play(program, shim, words, script, number=0, rest=False, count=None):
-    told = {**os.environ, "LD_PRELOAD": shim, "REFUSE": str(number)}
-    told.update({"REFUSE_REST": "1"} if rest else {})
-    told.update({"REFUSE_COUNT": str(count)} if count else {})
-    ran = subprocess.run([program, *words], input=script, capture_output=True, env=told, timeout=60)
-    return ran.returncode, ran.stdout
+def of_a_relay(*more):
+    """A relay that talks to itself: what the first call puts out comes to the second one's plain port, and what that one
+    seals comes to the first one's secure port, where its tag doesn't fit. And an offer whose noise is drawn."""
+    calls = [("40000", "20018", KEY, ONES), ("20000", "41010", TWOS, THREES)]
+    lines = ["srtpgw 1"] + [
+        f"manual {call} 127.0.0.1:{secure} 127.0.0.1:{plain} 00000000 64 {opening.field()} {sealing.field()}"
+        for call, (secure, plain, opening, sealing) in enumerate(calls, 1)
+    ]
+    lines += [f"in 20000 127.0.0.1:40000 {KNOWN_SEALED.hex()}", *6 * ["tick 0"], f"offer-plain 7 sdes - {hexed(BOB_ANSWERS)}", "bye 1"]
+    return ["relay", "--turns", "100", *more], "".join(line + "\n" for line in lines).encode(), None
 
 
-def refuse_each(program, shim, name, room):
-    """How many allocations there were, and how often each answer came."""
-    script, wanted = (Path(TOP, name + end).read_bytes() for end in (".script", ".out"))
-    capture = Path(TOP, name + ".pcap")
-    script += capture.read_bytes() if capture.exists() else b""
-    count, words = room / "count", words_of(name)
-    if play(program, shim, words, script, count=count) != (DONE, wanted):
-        sys.exit(f"{name}: other outcomes than wanted with all memory")
-    answers = {DONE: 0, NO_MEMORY: 0}
-    allocations = int.from_bytes(count.read_bytes(), sys.byteorder)
-    for number in range(1, allocations + 1):
-        for rest in (False, True):
-            status, written = play(program, shim, words, script, number, rest)
-            if not (status == DONE and written == wanted or status == NO_MEMORY and wanted.startswith(written)):
-                sys.exit(f"{name}: allocation {number} refused{' with all behind it' * rest}: status {status}")
-            answers[status] += 1
-    return allocations, answers
+class Refusing:
+    """A run of the program, with what it must write, or what it wrote with nothing refused."""
+
+    def __init__(self, program, shim, room, words, script, wanted):
+        self.program, self.shim, self.room, self.words, self.script = program, shim, room, words, script
+        self.whole = self.play()[1] if wanted is None else wanted
+
+    def play(self, number=0, rest=False, count=None, call=None, error=errno.EIO):
+        told = {**os.environ, "LD_PRELOAD": self.shim, "REFUSE": str(number)}
+        told.update({"REFUSE_REST": "1"} if rest else {})
+        told.update({"REFUSE_COUNT": str(count)} if count else {})
+        told.update({"REFUSE_CALL": call, "REFUSE_ERROR": str(error)} if call else {})
+        ran = subprocess.run([self.program, *self.words], input=self.script, capture_output=True, env=told, timeout=60)
+        return ran.returncode, ran.stdout, ran.stderr
+
+    def fails(self, what):
+        sys.exit(f"{' '.join(self.words)}: {what}")
+
+    def counts(self, call=None):
+        """How many allocations a run makes, or calls of that name."""
+        count = self.room / "count"
+        found = self.play(count=count, call=call)
+        if found != (DONE, self.whole, b""):
+            self.fails(f"other outcomes than wanted with all memory: {found}")
+        return int.from_bytes(count.read_bytes(), sys.byteorder)
+
+    def allocations(self):
+        """How many allocations there were, and how often each answer came."""
+        answers, count = {DONE: 0, LINK: 0, NO_MEMORY: 0}, self.counts()
+        without = (NO_MEMORY, LINK) if self.words[0] == "relay" else (NO_MEMORY,)
+        for number in range(1, count + 1):
+            for rest in (False, True):
+                status, written, _ = self.play(number, rest)
+                is_done = status == DONE and written == self.whole
+                if not (is_done or status in without and self.whole.startswith(written)):
+                    self.fails(f"allocation {number} refused{' with all behind it' * rest}: status {status}")
+                answers[status] += 1
+        return count, answers
+
+    def calls(self):
+        """How often a call of the system failed in a run that ended by it."""
+        failed = 0
+        for call, (status, said) in STATUSES.items():
+            for number in range(1, self.counts(call) + 1):
+                for rest in (False, True):
+                    found, written, told = self.play(number, rest, call=call)
+                    if (found, told) != (status, b"srtpgw: " + said + b"\n") or not self.whole.startswith(written):
+                        self.fails(f"{call} {number} failed: {found} {told!r}")
+                    failed += 1
+        return failed
+
+    def passes(self):
+        """How often a call was to be made again, in a run that did so."""
+        passed = 0
+        for call, error in PASSING:
+            for number in range(1, self.counts(call) + 1):
+                found = self.play(number, call=call, error=error)
+                if found != (DONE, self.whole, b""):
+                    self.fails(f"{call} {number} was to be made again ({errno.errorcode[error]}): {found}")
+                passed += 1
+        return passed
+
+    def unsent(self):
+        """How many packets were told as unsent, since that call failed."""
+        kept = [line for line in self.whole.splitlines() if not line.startswith(b"drop ")]
+        count = self.counts("sendto")
+        for number in range(1, count + 1):
+            status, written, said = self.play(number, call="sendto")
+            lines = written.splitlines()
+            others = [line for line in lines if not line.startswith((b"unsent ", b"drop "))]
+            if (status, said, others) != (DONE, b"", kept) or len(lines) != len(others) + 1:
+                self.fails(f"sendto {number} failed: {status} {said!r} {lines}")
+        return count
+
+
+# The runs in which calls of the system fail, by a row or an example: each command.
+OF_CALLS = (
+    "examples/both-ways", "interop/rows/muxed-media", "interop/rows/migrated-lines-of-every-kind", "interop/rows/captured-packet-in-version-2",
+    "interop/rows/bridged-in-version-2",
+)
 
 
 def main():
     program, *names = words_or_usage(__doc__)
-    program, names = str(Path(program).resolve()), names or SCRIPTS
+    has_own_loopback()
+    program, names = str(Path(program).resolve()), [name.removesuffix(".script") for name in names]
+    others = [] if names else [("a relay", of_a_relay()), ("a relay with --mux", of_a_relay("--mux")), ("a demonstration", (["demo", "1", "0"], b"", None))]
     with tempfile.TemporaryDirectory() as folder:
         room = Path(folder)
         shim = str(room / "refuse.so")
         subprocess.run(["cc", "-O2", "-shared", "-fPIC", "-o", shim, TOP / "interop/refuse.c"], check=True)
-        for name in names:
-            allocations, answers = refuse_each(program, shim, name.removesuffix(".script"), room)
-            print(f"{name}: {allocations} allocations, {answers[NO_MEMORY]} runs without memory, {answers[DONE]} done")
+        runs = [(name, of_name(name)) for name in names or SCRIPTS] + others
+        for name, of in runs:
+            allocations, answers = Refusing(program, shim, room, *of).allocations()
+            print(f"{name}: {allocations} allocations, {answers[NO_MEMORY] + answers[LINK]} runs without memory, {answers[DONE]} done", flush=True)
+        for name, of in [] if names else [(name, of_name(name)) for name in OF_CALLS] + others:
+            run = Refusing(program, shim, room, *of)
+            failed, passed, unsent = run.calls(), run.passes(), run.unsent()
+            print(f"{name}: {failed} runs ended by a call that failed, {passed} made one again, {unsent} told a packet as unsent", flush=True)
 
 
 if __name__ == "__main__":

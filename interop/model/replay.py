@@ -48,7 +48,11 @@ class Relayed(Told):
             assert values == (0,), "a relay's wait"
             return []
         told = super().told(*(("in", *values[1:]) if word == "at" else (word, *values)))
-        return [line for line in told if not line.startswith("out ")]
+        return [line for each in told for line in self.carried_out(each)]
+
+    def carried_out(self, line):
+        """What is written of an outcome: nothing of a packet, which is sent."""
+        return [] if line.startswith("out ") else [line]
 
 
 def told(world, word, *values):
