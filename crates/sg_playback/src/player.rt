@@ -37,6 +37,8 @@ pub struct Player {
     arrivals: Vec<Arrival>,
     /// Pads of earlier batches, to be used again.
     spare: Vec<Pad>,
+    /// The lines that the last batch told, whose room is used again.
+    lines: Vec<u8>,
     /// The moment of the last line that was a datagram with its moment.
     line_moment: Option<u64>,
 }
@@ -63,6 +65,7 @@ impl Player {
             workers,
             arrivals: Vec::new(alloc),
             spare: Vec::new(alloc),
+            lines: Vec::new(alloc),
             line_moment: None,
         })
     }
@@ -254,7 +257,7 @@ impl Player {
         let mut arrivals = mem::replace(&mut self.arrivals, Vec::new(alloc));
         let workers = self.workers.min(arrivals.len());
         self.front.batch(rt, arrivals.as_mut_slice(), workers, gate);
-        match tell_ends(alloc, &arrivals, sink) {
+        match tell_ends(&arrivals, &mut self.lines, sink) {
             Err(status) => return Err(status),
             Ok(()) => {}
         }

@@ -1,6 +1,6 @@
 //! What is written of datagrams and of signals.
 
-ghost use Rattle.std.specs.Prelude.{◌≡◌, ◌∷◌, ◌++◌, [], IfOk, OnOk};
+ghost use Rattle.std.specs.Prelude.{◌≡◌, ◌∷◌, ◌++◌, [], OnOk};
 ghost use Rattle.sg_trace.specs.Causes.{IsCaused};
 ghost use Rattle.sg_trace.specs.Output.{IsWritten, text};
 ghost use Rattle.sg_outcome.specs.OutcomeText.{outcome_line};
@@ -14,44 +14,33 @@ use sg_table::{Arrival, End};
 use sg_trace::{Status, tell};
 use std::alloc::Global;
 
-/// The octets of an `out` line before its digits, and its end: a word, two ports and an address at most.
-const LINE_HEAD: usize = 33;
-
-/// Writes what became of datagrams, in order, once all of it is printed.
-pub fn tell_ends<K: Sink>(alloc: Global, arrivals: &[Arrival], sink: &mut K) -> Result<(), Status>
+/// Writes what became of datagrams, in order, once all of it is printed: in the room of `lines`, whose text is gone.
+pub fn tell_ends<K: Sink>(
+    arrivals: &[Arrival],
+    lines: &mut Vec<u8>,
+    sink: &mut K,
+) -> Result<(), Status>
     ensures told { IsWritten result (K.written sink.old) (K.written sink.new) (text (told_of arrivals.now)) }
     ensures write { IsCaused Status.Write result (K.faults sink.old) (K.faults sink.new) (K.failed sink.new) }
 {
-    match lines_of(alloc, arrivals) {
+    lines.clear();
+    match add_lines(arrivals, lines) {
         Err(NoMemory) => Err(Status::NoMemory),
-        Ok(lines) => write_all(sink, lines.as_slice()).map_err(|_| Status::Write),
+        Ok(()) => write_all(sink, lines.as_slice()).map_err(|_| Status::Write),
     }
 }
 
-/// The lines of what became of datagrams, in order.
-fn lines_of(alloc: Global, arrivals: &[Arrival]) -> Result<Vec<u8>, NoMemory>
-    ensures { IfOk result (λ lines. lines.items ≡ text (told_of arrivals.now)) }
+/// Adds the lines of what became of datagrams, in order.
+fn add_lines(arrivals: &[Arrival], lines: &mut Vec<u8>) -> Result<(), NoMemory>
+    ensures { OnOk result (lines.new.items ≡ lines.old.items ++ text (told_of arrivals.now)) }
 {
-    let mut lines = Vec::with_capacity(alloc, room_for(arrivals))?;
     for arrival in arrivals {
-        match add_line(arrival, &mut lines) {
+        match add_line(arrival, lines) {
             Err(NoMemory) => return Err(NoMemory),
             Ok(()) => {}
         }
     }
-    Ok(lines)
-}
-
-/// About as many octets as these lines have, so that they are moved seldom while they grow: two digits for each
-/// octet of a datagram, and what stands before them.
-fn room_for(arrivals: &[Arrival]) -> usize {
-    let mut room = 0usize;
-    for told in arrivals {
-        if let Some(pad) = &told.pad {
-            room = room.saturating_add(LINE_HEAD + 2 * pad.octets().len());
-        }
-    }
-    room
+    Ok(())
 }
 
 /// Adds the line of what became of a datagram.

@@ -4,7 +4,7 @@ use Rattle.std.proofs.lemmas.List.{nil_from_length}
 use Rattle.sg_edge.proofs.Passed.{wrote_none}
 use Rattle.sg_gateway.specs.Step.{Event}
 use Rattle.sg_front.specs.States.{FrontStandsFor, state_after}
-use Rattle.sg_playback.proofs.Plays.{written_only}
+use Rattle.sg_playback.proofs.Plays.{stepped, written_only}
 use Rattle.sg_playback.specs.Playing.{Playing, text_from, waiting}
 use Rattle.sg_table.specs.Batches.{arrived, told_of}
 use Rattle.sg_table.specs.declared.arrival.Arrival.{Arrival}
@@ -31,6 +31,17 @@ returns-clause-settled g c = λ state stands.
       c.in-Ok.ensures.told,
       (none, (told, subst (λ (ds : List Arrival). FrontStandsFor c.batch.new.self (state_after state (map arrived ds))) came batched.stands)),
     )
+
+pub returns-in-Err-clause-settled : goal.returns-in-Err-clause-settled
+returns-in-Err-clause-settled g c = λ state stands.
+    let batched = c.batch.ensures state (subst (λ (v : Playing). FrontStandsFor v.front state) (sym c.self.view_is) stands) in
+    let came : c.as_mut_slice.result.now ≡ c.args.self.now.waits = search rules in
+    let size : length c.batch.new.arrivals ≡ c.replace-arrivals.result.len = search rules in
+    let back : c.deref.result.now ≡ c.batch.new.arrivals = c.deref.ensures.value ∙ ap (λ (n : ℕ). take n (c.batch.new.arrivals ++ drop (length c.batch.new.arrivals) c.replace-arrivals.result.items)) (sym size) ∙ take-append_seam c.batch.new.arrivals _ in
+    let told : text (told_of c.deref.result.now) ≡ text_from state (waiting c.args.self.now) =
+    ap (λ (ds : List Arrival). text (told_of ds)) back ∙ ap text batched.told ∙ ap (λ (ds : List Arrival). text_from state (map arrived ds)) came in
+    stepped (Err c.in-Err.status) state (waiting c.args.self.now) (FrontStandsFor c.batch.new.self) _ _ (text (told_of c.deref.result.now)) c.in-Err.ensures.told
+    told (subst (λ (ds : List Arrival). FrontStandsFor c.batch.new.self (state_after state (map arrived ds))) came batched.stands)
 
 pub returns-in-Err-clause-only : goal.returns-in-Err-clause-only
 returns-in-Err-clause-only g c = written_only (Err c.in-Err.status) _ _ _ c.in-Err.ensures.told

@@ -1,7 +1,0 @@
-use Rattle.std.proofs.Common.{take, ◌≡◌}
-use Rattle.std.specs.List.{flat_map}
-use Rattle.sg_playback.proofs.Tells.{text_at}
-use Rattle.sg_playback.proofs.writing.lines_of.Given as goal
-
-abbrev pub invariant-loop-arrival : goal.invariant-loop-arrival
-invariant-loop-arrival l = l.lines.items ≡ flat_map text_at (take l.arrival-index l.arrivals)
