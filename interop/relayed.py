@@ -199,15 +199,22 @@ class Relay:
     def says(self, lines):
         """Tells it these lines and a mark, and waits until the mark's outcome is there."""
         self.marks += sum(line == MARK.encode() for line in lines) + 1
-        self.run.stdin.write(b"".join(line + b"\n" for line in [*lines, MARK.encode()]))
-        self.run.stdin.flush()
-        while self.seen < self.marks:
-            if not select.select([self.run.stdout], [], [], SECONDS)[0]:
+        left = b"".join(line + b"\n" for line in [*lines, MARK.encode()])
+        while left or self.seen < self.marks:
+            # what it has told is read meanwhile, since a relay that can't write reads no line
+            told, taken, _ = select.select([self.run.stdout], [self.run.stdin] if left else [], [], SECONDS)
+            if not told and not taken:
                 raise TimeoutError
-            part = os.read(self.run.stdout.fileno(), 1 << 20)
-            if not part:
-                raise EOFError
-            self.takes(part)
+            if taken:
+                left = left[os.write(self.run.stdin.fileno(), left[:select.PIPE_BUF]):]
+            if told:
+                self.hears()
+
+    def hears(self):
+        part = os.read(self.run.stdout.fileno(), 1 << 20)
+        if not part:
+            raise EOFError
+        self.takes(part)
 
     def takes(self, part):
         *lines, self.rest = (self.rest + part).split(b"\n")
