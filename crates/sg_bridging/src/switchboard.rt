@@ -117,7 +117,7 @@ impl Switchboard {
                 }
                 self.datagram(alloc, port, from, octets.as_slice(), sink)
             }
-            Line::Signal(signal) => self.obey(alloc, signal, sink, noise),
+            Line::Signal(kept) => self.obey(alloc, kept.into_signal(), sink, noise),
         }
     }
 

@@ -12,5 +12,5 @@ pub mod reading;
 pub use faults::{ReadLineFault, WORD};
 pub use laws::{lines_are_framed, lines_have_one_spelling};
 pub use line_printing::print_line;
-pub use lines::{Line, Signal};
+pub use lines::{KeptSignal, Line, Signal};
 pub use reading::read_line;

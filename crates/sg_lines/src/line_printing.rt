@@ -185,6 +185,6 @@ pub fn print_line(alloc: Global, line: &Line) -> Result<Octets, NoMemory>
             let octets = hex_of(alloc, octets.as_slice())?;
             joined(alloc, &[b"in", now, port, &from, &octets])
         }
-        Line::Signal(signal) => print_signal(alloc, signal),
+        Line::Signal(kept) => print_signal(alloc, kept.signal()),
     }
 }

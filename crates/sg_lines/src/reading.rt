@@ -1,15 +1,16 @@
 //! Script lines, read. What reads a signal's line isn't inlined, so that a datagram's pays for no room that it
 //! doesn't need.
 
-ghost use Rattle.std.specs.Prelude.{◌≡◌, ◌⊎◌, ◌==◌, ◌≤◌, ◌++◌, ℕ, List, [], ◌∷◌, map, take, length, IfOk};
+ghost use Rattle.std.specs.Prelude.{◌≡◌, ◌⊎◌, ◌==◌, ◌≤◌, ◌++◌, ℕ, List, [], ◌∷◌, map, take, length, IfOk, Ok};
 ghost use Rattle.sg_lines.specs.Fields.{Gives, octets_from};
 ghost use Rattle.sg_lines.specs.LineText.{FitsLine, line_text};
 ghost use Rattle.sg_lines.specs.declared.lines.Line.{Line};
+ghost use Rattle.sg_lines.specs.declared.lines.Line.TheVariants as lines;
 ghost use Rattle.sg_lines.specs.LineOf.{answer_from, bye_from, datagram_at_from, datagram_from, eight_fields, fields_of, five_fields, four_fields, header_from, line_of, manual_from, more_fields, offer_mikey_from, offer_sdes_from, offer_secure_from, psk_from, reject_from, said_by, six_fields, tick_from, two_fields};
 
 use crate::faults::WORD;
 use crate::fields::{address, call, identity, key, noise, number, octets, port, rollover, window};
-use crate::{Line, ReadLineFault, Signal};
+use crate::{KeptSignal, Line, ReadLineFault, Signal};
 use arrayvec::ArrayVec;
 use memchr::memchr;
 use sg_base::{LINE_MOST, Octets, PAD_MOST, ScriptFault, TICK_MOST};
@@ -21,28 +22,35 @@ const TEXT_MOST: usize = 32_768;
 /// One field more than a line of any word has.
 const FIELDS_MOST: usize = 9;
 
+/// The line of a signal.
+fn told(alloc: Global, signal: Signal) -> Result<Line, ReadLineFault>
+    ensures { Gives result (Ok (lines.Signal signal)) }
+{
+    Ok(Line::Signal(KeptSignal::keep(alloc, signal)?))
+}
+
 #[tactic(auto, unfolding(crate::specs::LineOf::tick_from))]
-fn tick(now: &[u8]) -> Result<Line, ScriptFault>
-    ensures { result ≡ tick_from now.now }
+fn tick(alloc: Global, now: &[u8]) -> Result<Line, ReadLineFault>
+    ensures { Gives result (tick_from now.now) }
 {
     let now = number(TICK_MOST as u128, now)? as u64;
-    Ok(Line::Signal(Signal::Tick { now }))
+    told(alloc, Signal::Tick { now })
 }
 
 #[tactic(auto, unfolding(crate::specs::LineOf::reject_from))]
-fn reject(text: &[u8]) -> Result<Line, ScriptFault>
-    ensures { result ≡ reject_from text.now }
+fn reject(alloc: Global, text: &[u8]) -> Result<Line, ReadLineFault>
+    ensures { Gives result (reject_from text.now) }
 {
     let call = call(text)?;
-    Ok(Line::Signal(Signal::Reject { call }))
+    told(alloc, Signal::Reject { call })
 }
 
 #[tactic(auto, unfolding(crate::specs::LineOf::bye_from))]
-fn bye(text: &[u8]) -> Result<Line, ScriptFault>
-    ensures { result ≡ bye_from text.now }
+fn bye(alloc: Global, text: &[u8]) -> Result<Line, ReadLineFault>
+    ensures { Gives result (bye_from text.now) }
 {
     let call = call(text)?;
-    Ok(Line::Signal(Signal::Bye { call }))
+    told(alloc, Signal::Bye { call })
 }
 
 /// The octets of a datagram.
@@ -97,7 +105,7 @@ fn psk(alloc: Global, own: &[u8], peer: &[u8], hex: &[u8]) -> Result<Line, ReadL
     let own = identity(own)?;
     let peer = identity(peer)?;
     let key = octets(alloc, 16, 64, hex)?;
-    Ok(Line::Signal(Signal::Psk { own, peer, key }))
+    told(alloc, Signal::Psk { own, peer, key })
 }
 
 #[tactic(auto, unfolding(crate::specs::LineOf::offer_secure_from))]
@@ -113,7 +121,7 @@ fn offer_secure(
     let call = call(name)?;
     let noise = noise(alloc, random)?;
     let text = octets(alloc, 0, TEXT_MOST, hex)?;
-    Ok(Line::Signal(Signal::OfferSecure { call, noise, text }))
+    told(alloc, Signal::OfferSecure { call, noise, text })
 }
 
 #[tactic(auto, unfolding(crate::specs::LineOf::offer_sdes_from))]
@@ -124,7 +132,7 @@ fn offer_sdes(alloc: Global, name: &[u8], random: &[u8], hex: &[u8]) -> Result<L
     let call = call(name)?;
     let noise = noise(alloc, random)?;
     let text = octets(alloc, 0, TEXT_MOST, hex)?;
-    Ok(Line::Signal(Signal::OfferSdes { call, noise, text }))
+    told(alloc, Signal::OfferSdes { call, noise, text })
 }
 
 #[tactic(auto, unfolding(crate::specs::LineOf::offer_mikey_from))]
@@ -142,12 +150,15 @@ fn offer_mikey(
     let peer = identity(peer)?;
     let noise = noise(alloc, random)?;
     let text = octets(alloc, 0, TEXT_MOST, hex)?;
-    Ok(Line::Signal(Signal::OfferMikey {
-        call,
-        peer,
-        noise,
-        text,
-    }))
+    told(
+        alloc,
+        Signal::OfferMikey {
+            call,
+            peer,
+            noise,
+            text,
+        },
+    )
 }
 
 #[tactic(auto, unfolding(crate::specs::LineOf::answer_from))]
@@ -158,7 +169,7 @@ fn answer(alloc: Global, name: &[u8], random: &[u8], hex: &[u8]) -> Result<Line,
     let call = call(name)?;
     let noise = noise(alloc, random)?;
     let text = octets(alloc, 0, TEXT_MOST, hex)?;
-    Ok(Line::Signal(Signal::Answer { call, noise, text }))
+    told(alloc, Signal::Answer { call, noise, text })
 }
 
 #[tactic(auto, unfolding(crate::specs::LineOf::manual_from))]
@@ -185,31 +196,34 @@ fn manual(
     if from_peer.suite().is_raw() != to_peer.suite().is_raw() {
         return Err(WORD);
     }
-    Ok(Line::Signal(Signal::Manual {
-        call,
-        secure,
-        plain,
-        roc,
-        window,
-        from_peer,
-        to_peer,
-    }))
+    told(
+        alloc,
+        Signal::Manual {
+            call,
+            secure,
+            plain,
+            roc,
+            window,
+            from_peer,
+            to_peer,
+        },
+    )
 }
 
 #[tactic(auto, unfolding(crate::specs::LineOf::two_fields))]
-fn of_two(word: &[u8], a: &[u8]) -> Result<Line, ScriptFault>
-    ensures { result ≡ two_fields word.now a.now }
+fn of_two(alloc: Global, word: &[u8], a: &[u8]) -> Result<Line, ReadLineFault>
+    ensures { Gives result (two_fields word.now a.now) }
 {
     if word == b"tick".as_slice() {
-        return tick(a);
+        return tick(alloc, a);
     }
     if word == b"reject".as_slice() {
-        return reject(a);
+        return reject(alloc, a);
     }
     if word == b"bye".as_slice() {
-        return bye(a);
+        return bye(alloc, a);
     }
-    Err(ScriptFault::Word)
+    Err(WORD)
 }
 
 #[tactic(auto, unfolding(crate::specs::LineOf::four_fields))]
@@ -326,7 +340,7 @@ pub(crate) fn line_of_fields(
     ensures { Gives result (said_by version (map (λ x. x.now) fields.now)) }
 {
     match fields {
-        [word, a] => Ok(of_two(word, a)?),
+        [word, a] => of_two(alloc, word, a),
         [word, a, b, c, more @ ..] => of_more(alloc, version, word, a, b, c, more),
         _ => Err(WORD),
     }

@@ -21,7 +21,10 @@ pub(crate) fn moment_after(moment: u64, line: &Line) -> u64
     ensures { result ≡ moment_after moment line.now }
 {
     match line {
-        Line::Signal(Signal::Tick { now }) => moment.max(*now),
+        Line::Signal(kept) => match kept.signal() {
+            Signal::Tick { now } => moment.max(*now),
+            _ => moment,
+        },
         _ => moment,
     }
 }

@@ -106,7 +106,7 @@ impl Player {
                 }
                 self.arrive(rt, alloc, port, from, octets.as_slice(), sink, gate)
             }
-            Line::Signal(signal) => self.obey(rt, alloc, signal, sink, noise, gate),
+            Line::Signal(kept) => { self.obey(rt, alloc, kept.into_signal(), sink, noise, gate) }
         }
     }
 

@@ -109,13 +109,16 @@ pub(crate) fn say<K: Sink, L: Link, C: Clock, N: Noise>(
             let pad = filled(pad, octets.as_slice());
             arrive(alloc, front, port, from, pad, sink, link)
         }
-        Line::Signal(signal) => match wait_of(began, &signal) {
-            Some(until) => wait(alloc, front, until, turns, top, pad, sink, link, clock),
-            None => match handle(alloc, front, signal, sink, link, noise) {
-                Err(status) => Err(status),
-                Ok(()) => Ok(pad),
-            },
-        },
+        Line::Signal(kept) => {
+            let signal = kept.into_signal();
+            match wait_of(began, &signal) {
+                Some(until) => wait(alloc, front, until, turns, top, pad, sink, link, clock),
+                None => match handle(alloc, front, signal, sink, link, noise) {
+                    Err(status) => Err(status),
+                    Ok(()) => Ok(pad),
+                },
+            }
+        }
     }
 }
 

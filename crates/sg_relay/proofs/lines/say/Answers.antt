@@ -4,6 +4,7 @@ use Rattle.sg_edge.proofs.Links.{added_none}
 use Rattle.sg_edge.specs.Links.{Came}
 use Rattle.sg_edge.proofs.Passed.{wrote_none}
 use Rattle.sg_front.specs.States.{FrontStandsFor}
+use Rattle.sg_lines.specs.declared.lines.Line.TheVariants as lines
 use Rattle.sg_relay.specs.Causes.{IsOfOutcomes, IsOfWaits}
 use Rattle.sg_relay.proofs.Deeds.{handled_none}
 use Rattle.sg_relay.proofs.Says.{datagram_said, fits_timely, header_said, only_at, said_as, said_well, unreceived_order, wait_line_order, wait_said}
@@ -21,9 +22,9 @@ returns-in-Some-clause-said g c = λ state stands.
       added_none _,
       waited.5,
       wait_said (Relays c.args.began) c.args.line c.in-Some.until state c.args.top.now c.wait.new.top c.args.turns.now c.wait.new.turns (FrontStandsFor c.wait.new.front) waited.0 waited.1 waited.2
-          (ap (wait_in (Relays c.args.began)) c.in-Signal.is ∙ sym c.in-Some.ensures) c.wait.result (only_at IsOfWaits c.wait.result c.wait.ensures.only) waited.6,
+          (ap (wait_in (Relays c.args.began)) (c.in-Signal.is ∙ ap lines.Signal (sym c.into_signal-signal.ensures)) ∙ sym c.in-Some.ensures) c.wait.result (only_at IsOfWaits c.wait.result c.wait.ensures.only) waited.6,
       wait_line_order (Relays c.args.began) c.args.line c.in-Some.until state c.args.top.now c.wait.new.top c.args.turns.now c.wait.new.turns (FrontStandsFor c.wait.new.front) waited.0 waited.1 waited.2
-          (ap (wait_in (Relays c.args.began)) c.in-Signal.is ∙ sym c.in-Some.ensures) waited.7,
+          (ap (wait_in (Relays c.args.began)) (c.in-Signal.is ∙ ap lines.Signal (sym c.into_signal-signal.ensures)) ∙ sym c.in-Some.ensures) waited.7,
     )
 
 pub returns-in-Header-clause-said : goal.returns-in-Header-clause-said
@@ -58,7 +59,7 @@ returns-in-Err-clause-said g c = λ state stands.
       said.3,
       said.4,
       said.5,
-      said_as c.in-Err.status (Relays c.args.began) c.args.line c.in-Signal.signal c.in-Signal.is state c.args.top.now c.args.top.now c.args.turns.now c.args.turns.now (FrontStandsFor c.handle.new.front) [] said.0 said.1 said.2
+      said_as c.in-Err.status (Relays c.args.began) c.args.line c.into_signal-signal.result (c.in-Signal.is ∙ ap lines.Signal (sym c.into_signal-signal.ensures)) state c.args.top.now c.args.top.now c.args.turns.now c.args.turns.now (FrontStandsFor c.handle.new.front) [] said.0 said.1 said.2
           c.in-Err.ensures.only (said.6 (Relays c.args.began) c.args.top.now c.args.turns.now (sym c.in-None.ensures)),
       unreceived_order (Relays c.args.began) c.args.line state c.args.top.now [] said.0 said.1 said.7,
     )
@@ -74,10 +75,10 @@ returns-in-Ok-clause-said g c = λ state stands.
       said.3,
       said.4,
       said.5,
-      said_well c.args.pad (Relays c.args.began) c.args.line c.in-Signal.signal c.in-Signal.is state c.args.top.now c.args.top.now c.args.turns.now c.args.turns.now (FrontStandsFor c.handle.new.front) [] said.0 said.1 said.2
+      said_well c.args.pad (Relays c.args.began) c.args.line c.into_signal-signal.result (c.in-Signal.is ∙ ap lines.Signal (sym c.into_signal-signal.ensures)) state c.args.top.now c.args.top.now c.args.turns.now c.args.turns.now (FrontStandsFor c.handle.new.front) [] said.0 said.1 said.2
           (said.6 (Relays c.args.began) c.args.top.now c.args.turns.now (sym c.in-None.ensures)),
       unreceived_order (Relays c.args.began) c.args.line state c.args.top.now [] said.0 said.1 said.7,
     )
 
 pub handle-requires : goal.handle-requires
-handle-requires g c = record { timely = fits_timely c.args.line c.in-Signal.signal c.in-Signal.is c.requires.fits }
+handle-requires g c = record { timely = fits_timely c.args.line c.into_signal-signal.result (c.in-Signal.is ∙ ap lines.Signal (sym c.into_signal-signal.ensures)) c.requires.fits }

@@ -1,4 +1,4 @@
-use Rattle.std.proofs.Common.{rules, ◌≡◌, ◌∷◌, [], ◌++◌, List, ℕ, Ok, Err, inl, inr, refl, sym, subst}
+use Rattle.std.proofs.Common.{rules, ◌≡◌, ◌∷◌, [], ◌++◌, List, ℕ, Ok, Err, ◌∙◌, ap, inl, inr, refl, sym, subst}
 use Rattle.sg_bridge.specs.Bridged.{Happens, happened}
 use Rattle.sg_bridge.specs.declared.lines.BridgeLine.TheVariants as lines
 use Rattle.sg_bridging.proofs.Steps.{played_by, stepped_cut, stepped_one, stepped_then}
@@ -74,4 +74,4 @@ returns-in-Ok-clause-played g c = λ s stands.
 pub returns-in-Signal-clause-played : goal.returns-in-Signal-clause-played
 returns-in-Signal-clause-played g c = λ s stands.
     let o = c.obey.ensures.played s stands in
-    (o.0, o.1, o.2, o.3, subst (λ l. IsPlayed c.obey.result (lines.Script l) s c.obey.new.self o.0 o.1) (sym c.in-Signal.is) o.4)
+    (o.0, o.1, o.2, o.3, subst (λ l. IsPlayed c.obey.result (lines.Script l) s c.obey.new.self o.0 o.1) (ap scripts.Signal c.into_signal.ensures ∙ sym c.in-Signal.is) o.4)

@@ -1,4 +1,4 @@
-use Rattle.std.proofs.Common.{rules, ◌≡◌, ℕ, List, [], ◌∷◌, ◌++◌, Ok, Err, refl, sym, subst, inl, inr}
+use Rattle.std.proofs.Common.{rules, ◌≡◌, ℕ, List, [], ◌∷◌, ◌++◌, Ok, Err, ◌∙◌, ap, refl, sym, subst, inl, inr}
 use Rattle.std.proofs.lemmas.List.{append-nil}
 use Rattle.sg_trace.proofs.Causes.{not_failed}
 use Rattle.sg_edge.proofs.Links.{added_none}
@@ -87,4 +87,4 @@ returns-in-Ok-clause-noise g c = not_failed _ _ _ _ refl (only_not c.arrive-in-D
 pub returns-in-Signal-clause-played : goal.returns-in-Signal-clause-played
 returns-in-Signal-clause-played g c = λ state stands.
     let o = c.obey.ensures.played state stands in
-    (o.0, o.1, o.2, o.3, subst (λ l. IsPlayed c.obey.result l state (waiting c.args.self.now) (waiting c.obey.new.self) (FrontStandsFor c.obey.new.self.front) o.0 o.1) (sym c.in-Signal.is) o.4)
+    (o.0, o.1, o.2, o.3, subst (λ l. IsPlayed c.obey.result l state (waiting c.args.self.now) (waiting c.obey.new.self) (FrontStandsFor c.obey.new.self.front) o.0 o.1) (ap lines.Signal c.into_signal.ensures ∙ sym c.in-Signal.is) o.4)
