@@ -12,10 +12,10 @@ use std::marker::Model;
 /// The octet that ends a line.
 const LINE_END: u8 = 10;
 
-/// Up to 16,384 octets of a source that wait, seen as their list.
+/// Up to 4,096 octets of a source that wait, seen as their list.
 #[derive(Drop)]
 pub struct ReadBuffer {
-    part: [u8; 16384],
+    part: [u8; 4096],
     at: usize,
     end: usize,
 }
@@ -25,7 +25,7 @@ impl Model for ReadBuffer {
 
     ghost view = { λ f. take (f.end - f.at) (drop f.at f.part) };
 
-    ghost invariant = { λ f. (f.at ≤ f.end) × (f.end ≤ 16384) };
+    ghost invariant = { λ f. (f.at ≤ f.end) × (f.end ≤ 4096) };
 }
 
 impl ReadBuffer {
@@ -34,7 +34,7 @@ impl ReadBuffer {
         ensures { result ≡ [] }
     {
         ReadBuffer {
-            part: [0; 16384],
+            part: [0; 4096],
             at: 0,
             end: 0,
         }
