@@ -2,13 +2,14 @@
 """Measures `srtpgw replay` over scripts of calls, and prints a table in Markdown.
 
     bench/replay.py [COUNT [open|seal|both [CALLS[,CALLS..] [WORKERS[,WORKERS..]]]]] [--size N] [--rounds N] [--least]
-        [--program FILE] [--beside FILE]
+        [--huge-pages] [--program FILE] [--beside FILE]
 
 COUNT (200,000) packets of N octets (172) under AES_CM_128_HMAC_SHA1_80 are opened, sealed, or opened and sealed in
 turns (both), in so many calls and by so many workers (1, and 1); a row for each. A figure is the median of N
 rounds (5), with the rows in turns, or with --least the least of them. What the program writes is compared with what another implementation says.
 With --beside another program has a row too, in turns: it is told the word replay alone, so it may be one of before there
-were workers."""
+were workers. With --huge-pages each row is run a second time, in turns, with the setting of glibc by which its memory is in
+pages of 2 MiB where the kernel has some to give."""
 
 import argparse
 import filecmp
@@ -24,15 +25,17 @@ BENCH = Path(__file__).resolve().parent
 WRAPPER = BENCH.parent / "srtpgw"
 TIME = "/usr/bin/time"
 PROGRAM = BENCH.parent / "crates/srtpgw/out/srtpgw"
+HUGE_PAGES = {"GLIBC_TUNABLES": "glibc.malloc.hugetlb=1"}
 
 
-def run(program, workers, script, written):
+def run(program, workers, huge, script, written):
     """Runs the program; the seconds that passed, those of the processor, of these the user's, and by GNU time the peak
     in MiB."""
     told = [TIME, "-f", "%M", program, "replay"] + (["--workers", str(workers)] if workers else [])
     with open(script) as source, open(written, "w") as sink, tempfile.TemporaryFile("w+") as said:
         began = time.monotonic()
-        _, status, used = os.wait4(subprocess.Popen(told, stdin=source, stdout=sink, stderr=said).pid, 0)
+        setting = {**os.environ, **(HUGE_PAGES if huge else {})}
+        _, status, used = os.wait4(subprocess.Popen(told, stdin=source, stdout=sink, stderr=said, env=setting).pid, 0)
         passed = time.monotonic() - began
         said.seek(0)
         peak = said.read()
@@ -50,6 +53,7 @@ def given():
     words.add_argument("--size", type=int, default=172)
     words.add_argument("--rounds", type=int, default=5)
     words.add_argument("--least", action="store_true")
+    words.add_argument("--huge-pages", action="store_true")
     words.add_argument("--program", default=PROGRAM)
     words.add_argument("--beside")
     return words.parse_args()
@@ -63,17 +67,19 @@ def main():
         # The program is built where it isn't.
         subprocess.run([WRAPPER, "replay"], stdin=subprocess.DEVNULL, check=True)
     counts = [int(count) for count in words.workers.split(",")] + ([None] if words.beside else [])
-    rows = [(int(calls), count) for calls in words.calls.split(",") for count in counts]
+    pages = [False, True] if words.huge_pages else [False]
+    rows = [(int(calls), count, huge) for calls in words.calls.split(",") for count in counts for huge in pages]
     taken = {row: [] for row in rows}
     with tempfile.TemporaryDirectory() as folder:
         written = Path(folder) / "written"
-        for calls in {calls for calls, _ in rows}:
+        for calls in {calls for calls, _, _ in rows}:
             files = [Path(folder) / f"{name}-{calls}" for name in ("script", "outcomes")]
             subprocess.run([sys.executable, BENCH / "script.py", str(words.count), words.ways, *files, str(calls), "1", str(words.size)], check=True)
         for _ in range(words.rounds):
-            for calls, workers in rows:
+            for calls, workers, huge in rows:
                 program = words.program if workers else words.beside
-                taken[calls, workers].append(run(program, workers, Path(folder) / f"script-{calls}", written))
+                used = run(program, workers, huge, Path(folder) / f"script-{calls}", written)
+                taken[calls, workers, huge].append(used)
                 if not filecmp.cmp(Path(folder) / f"outcomes-{calls}", written, shallow=False):
                     sys.exit("bench/replay.py: the program wrote something else than it must")
     chosen, name = (min, "least") if words.least else (statistics.median, "medians")
@@ -81,11 +87,12 @@ def main():
     print()
     print("| calls | workers | packets | | seconds | of the processor | of the user | packets a second | of the processor | peak MiB |")
     print("| ---: | ---: | ---: | --- | ---: | ---: | ---: | ---: | ---: | ---: |")
-    for (calls, workers), runs in taken.items():
+    for (calls, workers, huge), runs in taken.items():
         passed, processor, user, peak = (chosen(it) for it in zip(*runs))
         rates = f"{words.count / max(passed, 0.01):,.0f} | {words.count / max(processor, 0.01):,.0f}"
         seconds = f"{passed:.3f} | {processor:.3f} | {user:.3f}"
-        print(f"| {calls} | {workers or 'beside'} | {words.count:,} | {words.ways} | {seconds} | {rates} | {peak:.1f} |")
+        way = words.ways + (", huge pages" if huge else "")
+        print(f"| {calls} | {workers or 'beside'} | {words.count:,} | {way} | {seconds} | {rates} | {peak:.1f} |")
 
 
 if __name__ == "__main__":

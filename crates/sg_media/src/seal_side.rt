@@ -18,13 +18,13 @@ use std::marker::Model;
 #[derive(Drop)]
 pub struct SealSide {
     kind: Kind,
-    keys: KeySet,
-    streams: Streams,
     roc: u32,
     window: u16,
     admit: Admit,
     encrypts: bool,
     tag_len: usize,
+    keys: KeySet,
+    streams: Streams,
 }
 
 impl Model for SealSide {

@@ -14,8 +14,8 @@ use sg_states::Stream;
 /// their own too, so that looking for one touches four lines of a cache and not one for each stream.
 #[derive(Drop)]
 pub(crate) struct Streams {
-    pub(crate) list: ArrayVec<Stream, STREAMS_MOST>,
     pub(crate) row: ArrayVec<u32, STREAMS_MOST>,
+    pub(crate) list: ArrayVec<Stream, STREAMS_MOST>,
 }
 
 impl Streams {

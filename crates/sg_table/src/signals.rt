@@ -1,12 +1,15 @@
 //! Signals that make and key calls. Memory is taken before anything changes.
 
-ghost use Rattle.std.specs.Prelude.{◌≡◌, None, Some, [], ◌∷◌, ◌<◌, ◌≤◌, OnOk, OnErr, position, insert, length};
+ghost use Rattle.std.specs.Prelude.{◌≡◌, None, Some, [], ◌∷◌, ◌<◌, ◌≤◌, ℕ, List, IfOk, OnOk, OnErr, position, insert, length};
 ghost use Rattle.sg_table.specs.Found.{has_id};
 ghost use Rattle.sg_agreement.specs.Sides.{other_side};
+ghost use Rattle.sg_call.specs.Standing.{CallStandsFor};
+ghost use Rattle.sg_gateway.specs.CallSignals.{idle_call};
 ghost use Rattle.sg_gateway.specs.Early.{early_manual, early_offer, early_answer};
 ghost use Rattle.sg_gateway.specs.Signals.{manual_answer, offered_to, answered};
 ghost use Rattle.sg_gateway.specs.World.{World, call_of};
 ghost use Rattle.sg_outcome.specs.declared.outcomes.Outcome.TheVariants as tells;
+ghost use Rattle.sg_psk.specs.declared.pairs.Pair.{Pair};
 ghost use Rattle.sg_table.specs.Free.{free_shape};
 ghost use Rattle.sg_table.specs.Standing.{Stands, TableStandsFor};
 ghost use Rattle.sg_table.specs.Telling.{IsAnswered};
@@ -18,7 +21,7 @@ use crate::places::{free_slot, position_of, put_in};
 use sg_base::{Address, CallId, Fault, MasterKey, NoMemory, Refusal, Side};
 use sg_call::Call;
 use sg_gateway::calls_in_order;
-use sg_leg::{Books, Way};
+use sg_leg::{Books, MediaSpec, Way};
 use sg_outcome::Outcome;
 use std::alloc::Global;
 
@@ -42,6 +45,18 @@ fn made(id: CallId, call: &Call) -> Outcome
         slot: call.slot(),
         media: call.media(),
     }
+}
+
+/// A new call in this slot, made behind room for what the sides of a manual call are made of. That room, some 32 KB, is
+/// free again then, and the allocator has it for the next manual call too; behind the call it would be the next inbox's.
+fn new_call(alloc: Global, id: CallId, slot: u8) -> Result<Call, NoMemory>
+    ensures stands { IfOk result (λ call. (pairs : List Pair) (serial : ℕ) → CallStandsFor pairs call (idle_call serial id slot)) }
+    ensures inbox { IfOk result (λ call. (call.waiting ≡ []) × (call.handled ≡ [])) }
+{
+    let room: Vec<MediaSpec> = Vec::with_capacity(alloc, 1)?;
+    let call = Call::make(alloc, id, slot)?;
+    drop(room);
+    Ok(call)
 }
 
 fn other_side(side: Side) -> Side
@@ -95,7 +110,7 @@ impl Calls {
             refused(id, Refusal::TableFull, told);
             return Ok(());
         };
-        let mut call = Call::make(alloc, id, slot)?;
+        let mut call = new_call(alloc, id, slot)?;
         match call.manual(
             alloc,
             secure,
