@@ -1,9 +1,10 @@
 #!/usr/bin/env bash
 # Measures sg_bench and libsrtp in turns, and prints a table of medians and ratios in Markdown.
 #
-#   bench/run.sh [ROUNDS] [--from-source] [--install]
+#   bench/run.sh [ROUNDS] [--least] [--from-source] [--install]
 #
-# ROUNDS (5) is how often each program runs. With --from-source Debian's source package of libsrtp is
+# ROUNDS (5) is how often each program runs. With --least the least of a program's runs is taken in place of the
+# median, for a machine that others use too. With --from-source Debian's source package of libsrtp is
 # fetched too, and built over its own C and over OpenSSL. With --install Debian's packages that are wanting
 # are installed; without it they are named, and nothing is done. Where the processor is of x86-64-v3,
 # srtpgw is built for it, and for the default level beside it. Times are of the processor, so that other
@@ -12,13 +13,15 @@ set -euo pipefail
 top=$(cd "$(dirname "$(readlink -f "${BASH_SOURCE[0]}")")/.." && pwd)
 work=${TMPDIR:-/tmp}/srtpgw-bench
 rounds=5
+chosen=medians
 from_source=no
 install=no
 for word in "$@"; do
   case $word in
+    --least) chosen=least ;;
     --from-source) from_source=yes ;;
     --install) install=yes ;;
-    *[!0-9]* | '' | 0) sed -n '2,11s/^# \?//p' "${BASH_SOURCE[0]}" >&2; exit 1 ;;
+    *[!0-9]* | '' | 0) sed -n '2,12s/^# \?//p' "${BASH_SOURCE[0]}" >&2; exit 1 ;;
     *) rounds=$word ;;
   esac
 done
@@ -106,7 +109,9 @@ for ((round = 0; round < rounds; round++)); do
   for program in "${programs[@]}"; do "$work/$program" "$program" >> "$work/times" 2>> "$work/notes"; done
 done
 echo "$(lscpu | sed -n 's/^Model name: *//p'), $(nproc) processors, $(date -u '+%Y-%m-%d %H:%M UTC'), \
-load average $(cut -d' ' -f1 /proc/loadavg), $rounds runs of each program in turns; \
+load average $(cut -d' ' -f1 /proc/loadavg), $rounds runs of each program in turns, ${chosen}; \
 srtpgw built for ${processor:+x86-64-v3, srtpgw-default for }the default level, x86-64-v2"
 echo
-python3 "$top/bench/table.py" "${benches[@]:1}" "${programs[@]}" < "$work/times"
+options=()
+[ "$chosen" = medians ] || options+=(--least)
+python3 "$top/bench/table.py" "${options[@]}" "${benches[@]:1}" "${programs[@]}" < "$work/times"

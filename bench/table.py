@@ -1,6 +1,6 @@
 #!/usr/bin/env python3
-"""Reads lines of times, and prints tables in Markdown: the medians, and how often the time of srtpgw goes
-into that of each program that is named."""
+"""Reads lines of times, and prints tables in Markdown: the medians, or with a first word --least the least of them, and how
+often the time of srtpgw goes into that of each program that is named."""
 
 import statistics
 import sys
@@ -25,23 +25,24 @@ def row(cells):
 
 
 def main():
-    programs = sys.argv[1:]
+    least = sys.argv[1:2] == ["--least"]
+    programs, chosen = sys.argv[1 + least :], min if least else statistics.median
     times, parts = read(sys.stdin)
     heads = [f"{p}, ns | over srtpgw" for p in programs]
     print(row(["suite", "octets", "", "srtpgw, ns", "packets a second"] + heads))
     print(row(["---"] * 3 + ["---:"] * (2 + 2 * len(programs))))
     for what in [what for program, what in times if program == "srtpgw"]:
-        own = statistics.median(times["srtpgw", what])
+        own = chosen(times["srtpgw", what])
         cells = [*what, f"{own:.0f}", f"{1e9 / own:,.0f}"]
         for program in programs:
             other = times.get((program, what))
-            cells += [f"{statistics.median(other):.0f}", f"{statistics.median(other) / own:.2f}"] if other else ["-", "-"]
+            cells += [f"{chosen(other):.0f}", f"{chosen(other) / own:.2f}"] if other else ["-", "-"]
         print(row(cells))
     print()
     print(row(["part", "ns"]))
     print(row(["---", "---:"]))
     for part, costs in parts.items():
-        print(row([part.replace("-", " "), f"{statistics.median(costs):.0f}"]))
+        print(row([part.replace("-", " "), f"{chosen(costs):.0f}"]))
 
 
 if __name__ == "__main__":
