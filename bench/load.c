@@ -343,9 +343,9 @@ static void listen_at(int place, uint16_t port) {
     if (sockets[place] < 0 || bind(sockets[place], (struct sockaddr *)&address, sizeof address)) fail("a telephone's port");
 }
 
-static void run_step(int pid, uint64_t rate, uint64_t seconds) {
+static void run_step(int pid, uint64_t rate, double seconds) {
     uint64_t own, gateways, own_after, gateways_after, half, most;
-    make_all(rate * seconds);
+    make_all((uint64_t)((double)rate * seconds));
     thrown(&own, &gateways);
     uint64_t before = processor(pid), began = now();
     send_step(began, rate);
@@ -381,8 +381,9 @@ int main(int argc, char **argv) {
         if (place && pthread_create(&thread, NULL, take_all, (void *)(intptr_t)SEALED)) fail("a thread");
     }
     for (int step = 4; step < argc; step++) {
-        unsigned long long rate, seconds;
-        if (sscanf(argv[step], "%llu:%llu", &rate, &seconds) != 2 || !rate || !seconds) {
+        unsigned long long rate;
+        double seconds;
+        if (sscanf(argv[step], "%llu:%lf", &rate, &seconds) != 2 || (double)rate * seconds < 1) {
             fprintf(stderr, "load: %s isn't RATE:SECONDS\n", argv[step]);
             return 1;
         }

@@ -1,14 +1,16 @@
 #!/usr/bin/env python3
-"""Measures `srtpgw relay`, and rtpengine in the same run where it is installed: packets a second without loss with
-one call and with many, the processor's time for a packet, how long it takes to come out, what happens beyond that,
-and after it.
+"""Measures `srtpgw relay`, and rtpengine in the same rounds where it is installed: what a packet takes of the processor,
+how long it takes to come out, how many come out, also beyond the limit, and after it.
 
-    bench/relay.py                                  with ./srtpgw, or with the program that SRTPGW names
-    bench/relay.py --calls 1 --rates 60000 --seconds 10 --no-rtpengine
+    bench/relay.py                                       with ./srtpgw, or with the program that SRTPGW names
+    bench/relay.py --beside FILE --rounds 10             another program in turns, as one of an earlier version
+    bench/relay.py --rows 1:1000,256:60000+150000 --way both --no-rtpengine
+    bench/relay.py --rows 1:20000+400000+20000           few packets, far too many, and few again
 
-The packets have 172 octets in plain and keys of AES_CM_128_HMAC_SHA1_80; libsrtp seals them beforehand (load.c). It
-prints tables in Markdown, takes some minutes, and ends by itself. Needs a C compiler and libsrtp's headers
-(Debian: gcc, libsrtp2-dev); the load, the gateway and what drives it take three processors.
+A row CALLS:RATE+RATE.. has so many calls, over which the rates follow one another, in packets a second. The packets
+have 172 octets in plain and keys of AES_CM_128_HMAC_SHA1_80; libsrtp seals them beforehand (load.c). It prints a table
+in Markdown, takes some minutes, and ends by itself. Needs a C compiler and libsrtp's headers (Debian: gcc,
+libsrtp2-dev); the load, the gateway and what drives it take three processors.
 """
 
 import argparse
@@ -17,10 +19,12 @@ import contextlib
 import os
 import re
 import shutil
+import statistics
 import subprocess
 import sys
 import tempfile
 import time
+from concurrent.futures import ThreadPoolExecutor
 from pathlib import Path
 
 BENCH = Path(__file__).resolve().parent
@@ -31,10 +35,8 @@ from driver import Driver  # noqa: E402
 from rtpengine import Far, port_of, text_of  # noqa: E402
 
 SUITE = "AES_CM_128_HMAC_SHA1_80"
-RATES = [20_000, 60_000, 100_000, 150_000, 200_000, 250_000, 300_000]
+ROWS = "1:1000+20000+60000,100:20000+60000,256:60000+100000+150000"
 WAYS = {"open": "SRTP to RTP", "seal": "RTP to SRTP", "both": "each way in turns"}
-# How many packets a second are far too many, and how many are few.
-FLOOD, FEW = 400_000, 20_000
 
 
 class Step:
@@ -46,7 +48,6 @@ class Step:
         # Microseconds that half of the packets stayed below, and 99 in 100 of them.
         self.half, self.most = (delay / 1_000 for delay in delays)
         self.lost = self.sent - self.good
-        self.sent_a_second = self.sent / sending * 1e6
         self.good_a_second = self.good / max(sending, until) * 1e6
         # Microseconds a packet, and processors.
         self.cost = cost / 1_000 / max(1, self.good)
@@ -54,26 +55,26 @@ class Step:
 
 
 class Srtpgw:
-    name = "srtpgw"
+    def __init__(self, folder, path):
+        self.driver = Driver(path)
+        self.pid = self.driver.gateway.pid
 
-    def __init__(self, folder):
-        self.driver = Driver(program())
-        self.pid, self.made = self.driver.gateway.pid, 0
-
-    def call(self):
+    def call(self, number):
         """The secure and the plain port of a new call, and its two keys."""
-        self.made += 1
         keys = [os.urandom(30).hex() for _ in range(2)]
-        self.driver.manual(self.made, SECURE, PLAIN, *(f"{SUITE}:{key}" for key in keys))
-        ports = self.driver.ports(self.made)
-        return self.made, ports[0], ports[2], *keys
+        self.driver.manual(number, SECURE, PLAIN, *(f"{SUITE}:{key}" for key in keys))
+        ports = self.driver.ports(number)
+        return ports[0], ports[2], *keys
 
-    def end(self, call):
-        self.driver.bye(call)
+    def calls(self, count):
+        """So many calls, made side by side, since each line waits for the ticks before it."""
+        with ThreadPoolExecutor(16) as pool:
+            return list(pool.map(self.call, range(1, count + 1)))
 
     def close(self):
         drops, unsent, status = dict(self.driver.drops), sum(self.driver.unsent.values()), self.driver.close()
-        print(f"\nsrtpgw told of drops: {drops or 'none'}; of packets that it couldn't send: {unsent}; its status: {status}")
+        if drops or unsent or status:
+            print(f"\nsrtpgw told of drops: {drops}; of packets that it couldn't send: {unsent}; its status: {status}\n")
 
 
 def key_of(text):
@@ -83,21 +84,19 @@ def key_of(text):
 
 class Rtpengine:
     def __init__(self, folder, threads):
-        self.name = f"rtpengine, {threads} thread{'s' * (threads > 1)}"
-        self.far, self.made = Far(folder, last=34_000, threads=threads), 0
+        self.far = Far(folder, last=34_000, threads=threads)
         self.pid = self.far.process.pid
 
-    def call(self):
-        self.made += 1
+    def call(self, number):
         own = os.urandom(30)
         line = f"a=crypto:1 {SUITE} inline:{base64.b64encode(own).decode()}\r\n"
-        to_plain = self.far.ask("offer", self.made, text_of("peer", SECURE[1], "RTP/SAVP") + line,
+        to_plain = self.far.ask("offer", number, text_of("peer", SECURE[1], "RTP/SAVP") + line,
                                 **{"transport-protocol": "RTP/AVP"})
-        to_secure = self.far.ask("answer", self.made, text_of("end", PLAIN[1]), **{"to-tag": "end"})
-        return self.made, port_of(to_secure), port_of(to_plain), own.hex(), key_of(to_secure)
+        to_secure = self.far.ask("answer", number, text_of("end", PLAIN[1]), **{"to-tag": "end"})
+        return port_of(to_secure), port_of(to_plain), own.hex(), key_of(to_secure)
 
-    def end(self, call):
-        self.far.ask("delete", call)
+    def calls(self, count):
+        return [self.call(number) for number in range(1, count + 1)]
 
     def close(self):
         self.far.close()
@@ -105,9 +104,8 @@ class Rtpengine:
 
 def steps_of(load, gateway, count, way, plan):
     """Runs the load over so many calls of a gateway; a `Step` for each pair of rate and seconds, as it ends."""
-    calls = [gateway.call() for _ in range(count)]
     lines = [f"{secure} {plain} {'-' if way == 'seal' else theirs} {'-' if way == 'open' else ours}\n"
-             for _, secure, plain, theirs, ours in calls]
+             for secure, plain, theirs, ours in gateway.calls(count)]
     words = [load, str(gateway.pid), str(SECURE[1]), str(PLAIN[1]), *(f"{rate}:{seconds}" for rate, seconds in plan)]
     with subprocess.Popen(words, stdin=subprocess.PIPE, stdout=subprocess.PIPE, text=True) as running:
         try:
@@ -117,55 +115,51 @@ def steps_of(load, gateway, count, way, plan):
                 yield Step(line)
         finally:
             running.kill()
-            for call, *_ in calls:
-                gateway.end(call)
 
 
 def row(cells):
     print("| " + " | ".join(map(str, cells)) + " |", flush=True)
 
 
-def head():
-    print()
-    row(["gateway", "calls", "sent a second", "packets", "lost", "put out a second", "us of the processor a packet",
-         "processors busy", "p50, us", "p99, us"])
-    row(["---"] + ["---:"] * 9)
+def head(given):
+    row(["calls", "sent a second", "gateway", "us of the processor a packet", "p50, us", "p99, us", "put out a second",
+         "lost", f"of packets, {given.rounds * given.each} times"])
+    row(["---:", "---:", "---", *["---:"] * 6])
 
 
-def told(place, calls, step):
-    """A row. Of what is lost it says how much the system threw away, since nobody had taken it in time."""
-    counts = {"at its sockets": step.thrown, "at the load's": step.missed, "changed": step.other, "twice": step.again}
-    notes = ", ".join(f"{count:,} {where}" for where, count in counts.items() if count)
-    row([place, calls, f"{step.sent_a_second:,.0f}", f"{step.sent:,}", f"{step.lost:,}" + (f" ({notes})" if notes else ""),
-         f"{step.good_a_second:,.0f}", f"{step.cost:.1f}", f"{step.busy:.2f}", *(f"{it:,.0f}" for it in (step.half, step.most))])
+def least(values, digits=0):
+    """The least of all times, and their median."""
+    values = list(values)
+    return f"{min(values):,.{digits}f}, {statistics.median(values):,.{digits}f}"
 
 
-def ladder(load, gateway, count, way, given):
-    """Raises the rate until packets are lost at two rates one after the other. The highest rate below all losses."""
-    most, losing, lost = 0, 0, 0
-    with contextlib.closing(steps_of(load, gateway, count, way, [(rate, given.seconds) for rate in given.rates])) as steps:
-        for step in steps:
-            told(f"{gateway.name}, {WAYS[way]}", count, step)
-            losing, lost = losing + 1 if step.lost else 0, lost + step.lost
-            most = most if lost else step.rate
-            if losing == 2:
-                break
-    return most
+def told(count, name, steps):
+    """A row over all times. Of what is put out the most stands first, and of the rest the least; then the median.
+    Packets that come out changed or twice are told, and those that come when the next ones are sent already."""
+    out = [step.good_a_second for step in steps]
+    wrong = sum(step.other + step.again for step in steps)
+    row([count, f"{steps[0].rate:,}", name, least((step.cost for step in steps), 1), least(step.half for step in steps),
+         least(step.most for step in steps), f"{max(out):,.0f}, {statistics.median(out):,.0f}",
+         least(step.lost for step in steps), f"{steps[0].sent:,}" + (f", {wrong:,} late, changed or twice" if wrong else "")])
+
+
+def rows_of(text):
+    """The rows of a word: how many calls, and the rates that follow one another over them."""
+    return [(int(count), [int(rate) for rate in rates.split("+")])
+            for count, rates in (word.split(":") for word in text.split(","))]
 
 
 def words():
     parser = argparse.ArgumentParser(description="packets a second through `srtpgw relay`")
-    parser.add_argument("--calls", default="1,100", help="how many calls (1,100)")
-    parser.add_argument("--rates", default=",".join(map(str, RATES)), help="packets a second, one step each")
-    parser.add_argument("--ways", default="open,both", help="open, seal, both")
-    parser.add_argument("--seconds", type=int, default=5, help="of each step (5)")
-    parser.add_argument("--threads", default="1", help="of rtpengine, one run each (1)")
+    parser.add_argument("--rows", type=rows_of, default=rows_of(ROWS), help=f"CALLS:RATE+RATE.., .. ({ROWS})")
+    parser.add_argument("--way", choices=WAYS, default="open", help="which way packets go (open)")
+    parser.add_argument("--seconds", type=float, default=2, help="of each time that a rate is sent, 0.2 too (2)")
+    parser.add_argument("--rounds", type=int, default=3, help="how often all gateways take their turn (3)")
+    parser.add_argument("--each", type=int, default=1, help="how often each rate is sent in a round (1)")
+    parser.add_argument("--beside", metavar="FILE", action="append", default=[], help="another program, in turns")
+    parser.add_argument("--threads", default="1", help="of rtpengine, one gateway each (1)")
     parser.add_argument("--no-rtpengine", action="store_true")
-    given = parser.parse_args()
-    given.calls, given.rates, given.threads = (
-        [int(word) for word in text.split(",")] for text in (given.calls, given.rates, given.threads))
-    given.ways = given.ways.split(",")
-    return given
+    return parser.parse_args()
 
 
 def machine():
@@ -173,51 +167,60 @@ def machine():
     return f"{model.split(': ')[1]}, {os.cpu_count()} processors, {time.strftime('%Y-%m-%d %H:%M UTC', time.gmtime())}"
 
 
-def measure(load, make, given):
-    """All of one gateway."""
-    with tempfile.TemporaryDirectory() as folder, contextlib.closing(make(folder)) as gateway:
-        for way in given.ways:
-            for count in given.calls:
-                most = ladder(load, gateway, count, way, given)
-                yield f"{gateway.name}, {WAYS[way]}, {count} call{'s' * (count > 1)}: {most:,}"
+def gateways(given):
+    """Each with how it is made in a folder."""
+    found = {"srtpgw": lambda folder, path=program(): Srtpgw(folder, path)}
+    for path in given.beside:
+        found[Path(path).name] = lambda folder, path=os.path.abspath(path): Srtpgw(folder, path)
+    for threads in [] if given.no_rtpengine else map(int, given.threads.split(",")):
+        name = f"rtpengine, {threads} thread{'s' * (threads > 1)}"
+        found[name] = lambda folder, threads=threads: Rtpengine(folder, threads)
+    return found
 
 
-def beyond(load, make, given):
-    """Few packets, far too many, and few again, over the same calls."""
-    with tempfile.TemporaryDirectory() as folder, contextlib.closing(make(folder)) as gateway:
-        for count in given.calls:
-            plan = [(rate, given.seconds) for rate in (FEW, FLOOD, FEW)]
-            for name, step in zip(("before", "beyond", "after"), steps_of(load, gateway, count, "open", plan)):
-                told(f"{gateway.name}, {name}", count, step)
+def measure(load, made, count, rates, given):
+    """So many rounds over so many calls: in each all gateways take their turn. The steps of each rate and gateway."""
+    found = [{name: [] for name in made} for _ in rates]
+    for _ in range(given.rounds):
+        for name, make in made.items():
+            with tempfile.TemporaryDirectory() as folder, contextlib.closing(make(folder)) as gateway:
+                plan = [(rate, given.seconds) for rate in rates for _ in range(given.each)]
+                for place, step in enumerate(steps_of(load, gateway, count, given.way, plan)):
+                    found[place // given.each][name].append(step)
+    return found
 
 
-def main():
-    given = words()
+def is_there(given):
+    """Whether what it needs is there; without rtpengine the relay is measured alone."""
     for command, package in (("cc", "gcc"), *([] if given.no_rtpengine else [("rtpengine", "rtpengine-daemon")])):
         if not shutil.which(command):
             print(f"bench/relay.py: {command} isn't there (Debian's package {package})", file=sys.stderr)
             if command == "cc":
-                return 77
+                return False
             given.no_rtpengine = True
     if not Path("/usr/include/srtp2/srtp.h").exists():
         print("bench/relay.py: libsrtp's headers aren't there (Debian's package libsrtp2-dev)", file=sys.stderr)
+        return False
+    return True
+
+
+def main():
+    given = words()
+    if not is_there(given):
         return 77
     require_free()
-    made = [Srtpgw]
-    if not given.no_rtpengine:
-        made += [lambda folder, threads=threads: Rtpengine(folder, threads) for threads in given.threads]
+    made = gateways(given)
     with tempfile.TemporaryDirectory() as folder:
         load = f"{folder}/load"
         subprocess.run(["cc", "-O2", "-Wall", "-Wextra", "-o", load, BENCH / "load.c", "-lsrtp2", "-lpthread"], check=True)
         averages = "/".join(f"{average:.1f}" for average in os.getloadavg())
-        print(f"{machine()}, load average {averages} at the beginning; {given.seconds} seconds a step")
-        head()
-        most = [line for make in made for line in measure(load, make, given)]
-        head()
-        for make in made:
-            beyond(load, make, given)
-    print("\nThe highest rate without loss, in packets a second:\n")
-    print("\n".join(f"- {line}" for line in most))
+        print(f"{machine()}, load average {averages} at the beginning; {WAYS[given.way]}, {given.seconds:g} seconds each time; "
+              "the least of all times and their median, of what is put out the most and the median\n")
+        head(given)
+        for count, rates in given.rows:
+            for steps in measure(load, made, count, rates, given):
+                for name, each in steps.items():
+                    told(count, name, each)
     print(f"\nload average {os.getloadavg()[0]:.1f} at the end, the load's own part in it")
     return 0
 

@@ -1,5 +1,5 @@
 #!/usr/bin/env bash
-# Measures sg_bench and libsrtp in turns, and prints a table of medians and ratios in Markdown.
+# Measures sg_bench, libsrtp and libre in turns, and prints a table of medians and ratios in Markdown.
 #
 #   bench/run.sh [ROUNDS] [--least] [--from-source] [--install]
 #
@@ -42,6 +42,12 @@ want() {
 build_packaged() {
   want /usr/include/srtp2/srtp.h libsrtp2-dev
   cc -O2 -Wall -Wextra -o "$work/libsrtp" "$top/bench/libsrtp.c" -lsrtp2
+}
+
+# The packaged libre.
+build_libre() {
+  want /usr/include/re/re.h libre-dev
+  cc -O2 -Wall -Wextra -o "$work/libre" "$top/bench/libre.c" -lre
 }
 
 # Debian's source package, from where this machine has its packages, in a folder of its own and with lists of its own.
@@ -87,7 +93,8 @@ run_bench() {
 }
 
 build_packaged
-programs=(libsrtp)
+build_libre
+programs=(libsrtp libre)
 if [ "$from_source" = yes ]; then
   [ -d "$work/source" ] || fetch_source
   want /usr/include/openssl/evp.h libssl-dev

@@ -153,6 +153,14 @@ def captured_under_another_magic():
     return of(b"\0" + KNOWN_CAPTURE[1:]).ends(0, "Magic")
 
 
+def captured_in_another_major_version():
+    return of(header(major=3) + KNOWN_CAPTURE[24:]).ends(4, "Version")
+
+
+def captured_in_another_minor_version():
+    return of(header(minor=3) + KNOWN_CAPTURE[24:]).ends(4, "Version")
+
+
 def captured_at_another_link():
     return of(KNOWN_CAPTURE[:20] + b"\x65" + KNOWN_CAPTURE[21:]).ends(20, "LinkType")
 
@@ -198,6 +206,18 @@ def captured_moments():
     s.has(frame(b"", port=53), "drop 53 PortUnused", millis=1_764_000_119_121)
     s.has(ethernet(b"", ARP), "ended 1 0 1 idle", millis=1_764_000_119_122)
     s.has(packet_at(10)[0], "drop 20000 PortUnused", millis=1_764_000_119_122)
+    return s
+
+
+def captured_moments_back_and_on():
+    """Records that go back, and on below the greatest moment, have no tick."""
+    s = with_call()
+    s.has(*packet_at(7), millis=1_000)
+    s.has(*packet_at(8), millis=11_000)
+    s.has(*packet_at(9), millis=6_000)
+    s.has(*packet_at(10), millis=10_000)
+    s.has(frame(b"", port=53), "drop 53 PortUnused", millis=70_999)
+    s.has(ethernet(b"", ARP), "ended 1 0 1 idle", millis=71_000)
     return s
 
 
@@ -337,8 +357,8 @@ ALL = (
     captured_packet, captured_packet_in_version_2, captured_by_another_machine,
     captured_microseconds_with_the_highest_octet_first, captured_nanoseconds_with_the_lowest_octet_first,
     captured_fragment, captured_frame_of_another_protocol, captured_packet_that_is_cut, captured_under_another_magic,
-    captured_at_another_link, captured_no_octets, captured_no_frames, captured_without_its_line, captured_behind_a_fault,
-    captured_moments, captured_moments_up_to_the_last, captured_fractions, captured_fragments,
+    captured_in_another_major_version, captured_in_another_minor_version, captured_at_another_link, captured_no_octets, captured_no_frames, captured_without_its_line, captured_behind_a_fault,
+    captured_moments, captured_moments_back_and_on, captured_moments_up_to_the_last, captured_fractions, captured_fragments,
     captured_frames_of_other_kinds, captured_frames_that_are_cut, captured_frames_that_are_malformed, captured_datagrams,
     captured_long_datagrams, captured_longest_record, captured_records_before_a_cut,
 )

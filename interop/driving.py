@@ -1,10 +1,11 @@
 #!/usr/bin/env python3
 """Drives a gateway by tools/driver.py, and looks at what a driver must not get wrong: where the count of ticks begins,
-whose outcome is whose, what is told when the process ends, and what is spent.
+whose outcome is whose, what is told when the process ends, what waits for how long, and what is spent.
 
-    interop/driving.py PROGRAM
+    interop/driving.py PROGRAM [CHECK..]     all of them, or these
 
-Needs Python 3.8, Linux, the UDP ports of the gateway, and 40000 and 41000 of 127.0.0.1; nothing else.
+Needs Python 3.8 and Linux. It makes a network of its own where the system lets it; else the UDP ports of the gateway, and
+40000 and 41000 of 127.0.0.1, have to be free.
 """
 
 import base64
@@ -23,12 +24,14 @@ import threading
 import time
 from pathlib import Path
 
+from loopback import has_own_loopback
 from usage import words_or_usage
 
 HERE = Path(__file__).resolve().parent
 sys.path.insert(0, str(HERE.parent / "tools"))
 
 from driver import Bounds, Driver, Fifos, Gone, Program, Refused, Taken  # noqa: E402
+from gateway import Due, Gateway, Held, PROBED, WITHHELD  # noqa: E402
 
 HOST = "127.0.0.1"
 SECURE, PLAIN = (HOST, 40_000), (HOST, 41_000)
@@ -262,6 +265,7 @@ def it_drains(program):
         wait_until(lambda: driver.gateway.pid != pid and not driver.gone, "the next process")
         require(not is_there(pid) and not ended, f"told {ended}")
         driver.manual(3, SECURE, PLAIN, Key().field(), Key().field())
+        require(not driver.draining, "what the process before has spent counts for the next")
         driver.restarts = False
         driver.drain()
         driver.bye(3)
@@ -299,11 +303,17 @@ def fields_are_fields(program):
             lambda: driver.manual(1, SECURE, PLAIN, Key().field() + "00", Key().field()),
             lambda: driver.offer_secure(1, bytes(32_769)),
             lambda: driver.bye(2**32 - 1),
+            lambda: driver.offer_plain(True, b"v=0\r\n"),
+            lambda: driver.manual(1, SECURE, (HOST, True), Key().field(), Key().field()),
         ]
         for attempt in tries:
             with contextlib.suppress(Refused):
                 attempt()
                 raise Wrong("a field that isn't one was told")
+        for field in ("", "a b", "a\nbye", "caf\xe9", "\x7f"):
+            with contextlib.suppress(ValueError):
+                driver.gateway.tell("psk", field)
+                raise Wrong(f"the field {field!r} was told")
         require(driver.close() == 0, "the status")
     return f"{len(tries)} are refused, and the run goes on"
 
@@ -364,6 +374,164 @@ def telephones_have_their_ways(program):
     return "as docs/driving.md has it"
 
 
+def keys_are_told_again(program):
+    """pre-shared keys, in the next process"""
+    with driving(program, restarts=True) as (driver, _, _):
+        driver.psk("own", "peer", b"k" * 16)
+        refused, first = refusal_of(driver.psk, "own", "peer", b"l" * 16), driver.gateway.pid
+        require(refused == "PskKnown", f"the second key is refused as {refused}")
+        os.kill(first, signal.SIGKILL)
+        wait_until(lambda: driver.gateway.pid != first and not driver.gone, "the next process")
+        given = driver.offer_plain(1, text_of(b"offer", PLAIN[1], b"RTP/AVP"), peer="peer")
+        require(b"a=key-mgmt:mikey " in given, "the next process offers no message")
+    return "those that were accepted, and no other"
+
+
+def a_rejected_offer_spends_nothing(program):
+    """keys of an offer that is rejected"""
+    with driving(program) as (driver, _, _):
+        driver.offer_secure(1, secure_text(b"one"))
+        require(driver.spent["keys"] == 0, "keys are spent before an answer")
+        driver.reject(1)
+        require(driver.spent["keys"] == 0 and not driver.open_keys, "a rejected offer's keys are spent")
+    return "aren't spent"
+
+
+def the_log_has_no_keys(program):
+    """the log of outcomes"""
+    with tempfile.TemporaryFile() as log:
+        with driving(program, log=log) as (driver, _, _):
+            driver.offer_secure(1, secure_text(b"offer"))
+            driver.answer(1, text_of(b"answer", PLAIN[1], b"RTP/AVP"))
+            driver.bye(1)
+        log.seek(0)
+        lines = log.read().splitlines()
+    require(lines == [b"srtpgw 1", b"made 1 0 1", b"live 1", b"ended 1 0 1 bye"], f"the log has {lines}")
+    return "has each outcome but the session descriptions, which hold keys"
+
+
+class Spoken:
+    """What stands for a process: from the first probe on, or one at each probe, it says these octets, each behind so many
+    seconds, and then ends."""
+
+    pid, files, turns = None, None, 1_000
+
+    def __init__(self, *parts, each=False, read=Held):
+        (self.told, lines), (outcomes, self.says) = os.pipe(), os.pipe()
+        self.lines, self.parts, self.each, self.over = os.fdopen(lines, "wb"), parts, each, threading.Event()
+        self.outcomes = read(outcomes)
+
+    def open(self, patience):
+        threading.Thread(target=self.say, daemon=True).start()
+        return self
+
+    def say(self):
+        with os.fdopen(self.told, "rb") as lines, contextlib.suppress(OSError):
+            for place, (seconds, octets) in enumerate(self.parts):
+                while (self.each or place == 0) and lines.readline() not in (PROBE, b""):
+                    pass
+                if not self.over.wait(seconds):
+                    os.write(self.says, octets)
+        os.close(self.says)
+
+    def kill(self):
+        self.over.set()
+
+    def end(self):
+        return 0, "it has said all"
+
+
+PROBE = b"bye 4294967295\n"
+
+
+def outcomes_come_in_parts(program):
+    """outcomes whose lines come in parts, and end in the middle of one"""
+    parts = PROBED, b"made 7 0", b" 1\nlive 7\nrefu", b"sed 7 State\nended 7 0 1 b"
+    for read in (Held, lambda number: os.fdopen(number, "rb")):
+        gateway, told = Gateway(Spoken(*((0.2, part) for part in parts), read=read)), []
+        with contextlib.suppress(Gone):
+            while True:
+                told.append(gateway.next())
+        require(told == [["made", "7", "0", "1"], ["live", "7"], ["refused", "7", "State"]], f"{told}")
+    return "whole, and the half one isn't told"
+
+
+def whose_refusal(program):
+    """a refusal of another call than the one that waits"""
+    spoken = Spoken((0, PROBED), (0.2, b"refused 8 TableFull\n"), (PATIENCE, b""))
+    with driving(spoken, wait=PATIENCE) as (driver, _, _):
+        try:
+            driver.bye(7)
+        except Gone:
+            return "ends the process"
+        except Refused as refused:
+            raise Wrong(f"it is taken: {refused}") from None
+    raise Wrong("nothing is told")
+
+
+def an_answer_may_be_late(program):
+    """an answer to a probe that comes late, a clock that is set, and turns without a datagram"""
+    gateway = Gateway(Spoken((0, PROBED), (0.7, PROBED), (PATIENCE, b""), each=True))
+    first = gateway.began
+    wait_until(lambda: len(gateway.starts) == 2, "the second answer")
+    require(gateway.began <= first + 0.01, f"the clock's start has moved by {gateway.began - first:.2f} s")
+    taken, ticks, since = gateway.turns_taken(), gateway.ticks, time.monotonic()
+    time.sleep(0.5)
+    turns = gateway.turns_taken() - taken - (gateway.ticks - ticks)
+    require(turns >= 200 * (time.monotonic() - since), f"{turns} turns in half a second without a datagram")
+    gateway.end("it is over")
+    require(Due(time.time() - 60).late() < 1, "a clock that is set forward makes what was just written late")
+    return "moves nothing, makes nothing late, and they are counted"
+
+
+def signals_wait_little(program):
+    """ticks, with steps of a second"""
+    with driving(program, step=1.0) as (driver, _, _):
+        gateway = driver.gateway
+
+        def reach():
+            return gateway.began + gateway.last / 1000 - time.time()
+        driver.offer_secure(1, secure_text(b"offer"))
+        # So long behind a signal they would be short anyway.
+        time.sleep(1.2)
+        reached, first, until = [], gateway.last, time.monotonic() + 1
+        while time.monotonic() < until:
+            reached.append(reach())
+            time.sleep(0.01)
+        require(max(reached) < 0.2, f"they reach {max(reached):.2f} s ahead while an offer is open")
+        wait_until(lambda: gateway.last > first + 500, "ticks that go on")
+        driver.reject(1)
+        wait_until(lambda: reach() > 0.5, "long steps again")
+    return f"reach {1000 * max(reached):.0f} ms ahead while an offer is open"
+
+
+def what_waits_is_told(program):
+    """datagrams that wait in a socket"""
+    with driving(program, wait=PATIENCE) as (driver, warned, _):
+        call = Call(driver, 1)
+        os.kill(driver.gateway.pid, signal.SIGSTOP)
+        for packet in packets(100):
+            call.ends[1].sendto(packet, (HOST, call.ports[2]))
+        wait_until(lambda: any("wait in sockets of 1 ports" in line for line in warned), f"a warning: {warned}")
+        require(driver.waiting.get(PLAIN_RTP), f"what waits: {driver.waiting}")
+        os.kill(driver.gateway.pid, signal.SIGCONT)
+        require(len(taken(call.ends[0], 100)) == 100, "they don't all arrive")
+        call.close()
+    return "are told, and then all arrive"
+
+
+def signals_of_the_system(program):
+    """signals of the system to the gateway's process"""
+    with driving(program) as (driver, _, ended):
+        call = Call(driver, 1)
+        for number in WITHHELD:
+            os.kill(driver.gateway.pid, number)
+        call.talk(50, "behind signals")
+        call.close()
+        require(driver.close() == 0 and not ended, f"the status, and {ended}")
+    return f"{len(WITHHELD)} that are for its driver don't come to it"
+
+
 def a_unit_keeps_it(program):
     """a gateway behind two FIFOs"""
     with tempfile.TemporaryDirectory() as folder:
@@ -380,14 +548,18 @@ def a_unit_keeps_it(program):
     return "two in turn, 50 of 50 packets each way"
 
 
-def main(program):
+CHECKS = [
+    counts_from_the_start, each_has_its_own, a_late_outcome_ends_the_process, calls_are_told_and_made_anew, it_drains,
+    close_waits_for_drops, fields_are_fields, ports_and_answers_are_looked_at, sockets_overflow, telephones_have_their_ways,
+    keys_are_told_again, a_rejected_offer_spends_nothing, the_log_has_no_keys, outcomes_come_in_parts, whose_refusal,
+    an_answer_may_be_late, signals_wait_little, what_waits_is_told, signals_of_the_system, a_unit_keeps_it,
+]
+
+
+def main(program, *names):
     program = str(Path(program).resolve())
-    checks = [
-        counts_from_the_start, each_has_its_own, a_late_outcome_ends_the_process, calls_are_told_and_made_anew, it_drains,
-        close_waits_for_drops, fields_are_fields, ports_and_answers_are_looked_at, sockets_overflow,
-        telephones_have_their_ways, a_unit_keeps_it,
-    ]
-    for check in checks:
+    has_own_loopback()
+    for check in [check for check in CHECKS if check.__name__ in names] or CHECKS:
         try:
             print(f"driver: {check.__doc__}: {check(program)}", flush=True)
         except Wrong as fault:
@@ -397,4 +569,4 @@ def main(program):
 
 
 if __name__ == "__main__":
-    sys.exit(main(words_or_usage(__doc__)[0]))
+    sys.exit(main(*words_or_usage(__doc__)))

@@ -28,6 +28,19 @@ def ends_of_calls():
     return s
 
 
+def ends_of_calls_of_several_media():
+    """A call's end names its number of media, whoever ends it."""
+    s = Script()
+    for slot, media in enumerate((2, 3, 4)):
+        offered = [line for k in range(media) for line in (f"m=audio {40000 + 10 * k} RTP/SAVP 0", crypto(1, key(f"{media} {k}")))]
+        carried = [f"m=audio {20002 + 16 * slot + 4 * k} RTP/AVP 0" for k in range(media)]
+        s.says(offer_secure(media, ALICE + offered), made(media, slot, media), sdp(media, "plain", ALICE + carried))
+    s.says("bye 2", "ended 2 0 2 bye")
+    s.says("reject 3", "ended 3 1 3 rejected")
+    s.tick(60000, "ended 4 2 4 idle")
+    return s
+
+
 def idle_calls():
     """What is put out either way keeps a call, and so does what is accepted; what is dropped or refused doesn't.
     Calls end by rising slot."""
@@ -282,6 +295,6 @@ def idle_in_the_new_generation():
     return s
 
 ALL = (
-    ends_of_calls, idle_calls, moments_of_signals, states, rejected_offers, full_table, slots_used_again,
+    ends_of_calls, ends_of_calls_of_several_media, idle_calls, moments_of_signals, states, rejected_offers, full_table, slots_used_again,
     earlier_generation, earlier_packet_twice, third_generation, idle_in_the_new_generation,
 )

@@ -4,7 +4,7 @@ import struct
 from agreements import edge_of
 from mikey import DEFAULTS, ERA, answered, flipped, stamp_of
 from signals import (
-    ALICE, BOB, BOB_ANSWERS, COUNTING, GATEWAY, LAST, NOW, OTHER, PCMU, PEER, SHIFTED, Script, TGK, answer,
+    ALICE, BOB, BOB_ANSWERS, COUNTING, GATEWAY, LAST, MANUAL, NOW, OTHER, PCMU, PEER, SHIFTED, Script, TGK, answer,
     crypto, key, made, master, message_line, noise, octets_of, offer_mikey, offer_secure, own_exchange, peers_exchange,
     plain_text, psk, sdp, secure_text,
 )
@@ -116,6 +116,19 @@ def first_source():
     s.dropped(20002, rtp(7, ssrc=2), "SsrcUnknown")
     s.rtcp_opened(20001, master(theirs), rtcp(4), 0)
     s.dropped(20001, master(theirs).srtcp(rtcp(2), 1), "SsrcUnknown")
+    return s
+
+
+def shared_key_behind_a_call():
+    """A key that comes to be held changes nothing of a call that is live."""
+    s = Script()
+    theirs, own = key("theirs"), key("own")
+    s.manual(1, theirs, own, MANUAL)
+    s.both_ways(theirs, own, 7)
+    s.says(psk())
+    s.both_ways(theirs, own, 8)
+    s.says(psk(), "refused - PskKnown")
+    s.both_ways(theirs, own, 9)
     return s
 
 
@@ -505,7 +518,7 @@ def skews_of_broken_seconds():
 
 
 ALL = (
-    pairs, mikey_by_the_gateway, mikey_by_the_peer, first_source, messages_of_media, session_of_two_media,
+    pairs, shared_key_behind_a_call, mikey_by_the_gateway, mikey_by_the_peer, first_source, messages_of_media, session_of_two_media,
     mikey_of_three_media, pair_of_a_message, skews, early_stamps, refused_messages, cut_messages, needed_messages,
     noted_once, windows_of_messages, last_source, bounds_of_message_keys, stamps_of_own_messages,
     skews_of_broken_seconds,

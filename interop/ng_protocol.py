@@ -122,9 +122,10 @@ class Server:
 class Daemon:
     """The daemon, and the lines of its log."""
 
-    def __init__(self, program, *words):
+    def __init__(self, program, *words, more=(), **how):
         command = [sys.executable, TOP / "tools" / "ng", "--listen", "%s:%d" % NG, "--program", program, *words]
-        self.process = subprocess.Popen(command, stdout=subprocess.PIPE, text=True, errors="replace")
+        environment = {**os.environ, **dict(more)}
+        self.process = subprocess.Popen(command, stdout=subprocess.PIPE, text=True, errors="replace", env=environment, **how)
         self.lines = []
         self.begins = threading.Event()
         self.reader = threading.Thread(target=self.reads, daemon=True)
@@ -157,8 +158,8 @@ class Daemon:
 
 
 @contextlib.contextmanager
-def running(program, *words):
-    daemon = Daemon(program, *words)
+def running(program, *words, **how):
+    daemon = Daemon(program, *words, **how)
     try:
         yield daemon, Server()
         assert daemon.ends() == 0, "the daemon's status"
@@ -383,6 +384,7 @@ def one_port(program):
 NOT_DONE = (
     ({"transport_protocol": "UDP/TLS/RTP/SAVPF"}, "DTLS"),
     ({"transport_protocol": "RTP/AVP"}, "both sides would be plain"),
+    ({"sdp": text_of(SECURE, "UDP/TLS/RTP/SAVPF", "a=fingerprint:sha-256 00"), "transport_protocol": "RTP/AVP"}, "DTLS"),
     ({"ICE": "force"}, "ICE"), ({"rtcp_mux": ["require"]}, "rtcp-mux"), ({"media_address": "::1"}, "IPv4"),
     ({"address_family": "IP6"}, "IP4"),
     ({"flags": ["SIP source address"], "received_from": ["IP6", "::1"]}, "IPv4"), ({"SDES": ["only-F8"]}, "suite"),
@@ -457,8 +459,8 @@ def side_by_side(program):
 
 def at_once(server, messages):
     """The answers to requests that are sent without waiting for any."""
-    for number, message in enumerate(messages):
-        server.sends(f"{message['command']}_{number} ".encode() + bencoded(message))
+    for message in messages:
+        server.sends(f"{message['command']}_{next(server.numbers)} ".encode() + bencoded(message))
     answers = (server.takes().partition(b" ")[2] for _ in messages)
     return [bencode.decoded(answer) for answer in answers]
 
@@ -580,11 +582,21 @@ def drains(program):
     return "no new call, a new key for one that is there, and the end"
 
 
-def gateway_dies(program):
-    """Where the gateway's process is killed, the SIP server is told of each call, and new calls go on by the next."""
+@contextlib.contextmanager
+def tells_kamailio():
+    """A place that is told of calls, and its URL."""
     place = http.server.ThreadingHTTPServer((HOST, 0), Kamailio)
     threading.Thread(target=place.serve_forever, daemon=True).start()
-    with running(program, "--tell", f"http://{HOST}:{place.server_port}/RPC") as (daemon, server):
+    Kamailio.told.clear()
+    try:
+        yield f"http://{HOST}:{place.server_port}/RPC"
+    finally:
+        place.shutdown()
+
+
+def gateway_dies(program):
+    """Where the gateway's process is killed, the SIP server is told of each call, and new calls go on by the next."""
+    with tells_kamailio() as url, running(program, "--tell", url) as (daemon, server):
         for name in ("one", "two"):
             call(server, name)
         children = Path(f"/proc/{daemon.process.pid}/task/{daemon.process.pid}/children").read_text().split()
@@ -601,7 +613,6 @@ def gateway_dies(program):
         assert server.asks("list")[b"calls"] == [b"three"]
         lines_of(server.answers("three", "ab", secure()))
     assert Kamailio.told[2:] == [["dlg.terminate_dlg", "three", "a", "b"]], Kamailio.told
-    place.shutdown()
     return "two calls told, the next call by the next process, and told where the daemon ends"
 
 
@@ -622,11 +633,8 @@ def has_ended_its_calls(seconds=30):
 
 def daemon_dies(program):
     """Where the daemon itself is killed, the next one tells of the calls that were there."""
-    place = http.server.ThreadingHTTPServer((HOST, 0), Kamailio)
-    threading.Thread(target=place.serve_forever, daemon=True).start()
-    Kamailio.told.clear()
-    with tempfile.TemporaryDirectory() as folder:
-        words = ["--tell", f"http://{HOST}:{place.server_port}/RPC", "--calls", f"{folder}/calls"]
+    with tempfile.TemporaryDirectory() as folder, tells_kamailio() as url:
+        words = ["--tell", url, "--calls", f"{folder}/calls"]
         with contextlib.suppress(AssertionError), running(program, *words) as (daemon, server):
             call(server, "one")
             call(server, "two")
@@ -637,7 +645,6 @@ def daemon_dies(program):
         with running(program, *words) as (_, server):
             assert server.asks("list")[b"calls"] == []
     assert Kamailio.told == [["dlg.terminate_dlg", "two", "a", "b"]], Kamailio.told
-    place.shutdown()
     return "the call that was left is told"
 
 

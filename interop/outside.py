@@ -73,7 +73,7 @@ def tells_the_systems_time(gateway):
 
 
 def draws_every_octet(gateway):
-    """No place of a draw has the same octet in each of them."""
+    """No place of a draw has the same octet in each of them, and what is drawn doesn't repeat itself."""
     media = [f"m=audio {port} RTP/AVP 0" for port in range(41000, 41016, 4)]
     draws = []
     for call in range(200, 200 + DRAWS):
@@ -82,7 +82,13 @@ def draws_every_octet(gateway):
     assert {len(drawn) for drawn in draws} == {304}, [len(drawn) for drawn in draws]
     stays = [place for place in range(304) if len({drawn[place] for drawn in draws}) == 1]
     assert stays == [], f"the same octet in each draw at {stays}"
-    return f"each of 304 octets varies over {DRAWS} draws"
+    # Four octets that stand twice in all that is drawn are no chance: less than one run in a thousand has some.
+    whole = b"".join(draws)
+    fours = [whole[place:place + 4] for place in range(len(whole) - 3)]
+    assert len(set(fours)) == len(fours), "the same four octets stand at two places of what was drawn"
+    ones = [sum(octet >> bit & 1 for octet in whole) / len(whole) for bit in range(8)]
+    assert all(0.4 < share < 0.6 for share in ones), f"bits that aren't set half of the time: {ones}"
+    return f"each of 304 octets varies over {DRAWS} draws, no four stand twice, and each bit is set half of the time"
 
 
 def main():

@@ -12,6 +12,9 @@ LEGS = ("secure RTP", "secure RTCP", "plain RTP", "plain RTCP")
 # The octets of a packet that aren't its datagram's: nftables counts the IPv4 and UDP heads, too.
 HEADS = 28
 
+# The type of a set of places, by port.
+PLACES = ["inet_service", "ipv4_addr", "inet_service"]
+
 # `quiet` is for how many seconds no packet came, or None where the set has no time-out.
 Count = collections.namedtuple("Count", "packets octets quiet")
 Socket = collections.namedtuple("Socket", "waiting drops")
@@ -39,10 +42,12 @@ def place_of(port):
 
 
 def counts(octets):
-    """The sets of counters by name, each by port, of what `nft -j list table ip srtpgw` writes."""
+    """The sets by name, each by port, of what `nft -j list table ip srtpgw` writes: counters, or the places that packets
+    came from or went to."""
     try:
         objects = json.loads(octets)["nftables"]
-        return {found["set"]["name"]: dict(elements(found["set"])) for found in objects if "set" in found}
+        found = [it["set"] for it in objects if "set" in it]
+        return {one["name"]: places(one) if one["type"] == PLACES else dict(elements(one)) for one in found}
     except (KeyError, TypeError, ValueError) as fault:
         raise Fault(f"nft's answer can't be read: {type(fault).__name__} {fault}") from None
 
@@ -57,6 +62,15 @@ def elements(found):
             if "expires" in element:
                 quiet = max(0, element.get("timeout", found.get("timeout", 0)) - element["expires"])
             yield element["val"], Count(packets, octets - HEADS * packets, quiet)
+
+
+def places(found):
+    """By port for how many seconds each place was quiet, as `ADDRESS:PORT`."""
+    by_port = collections.defaultdict(dict)
+    for element in found.get("elem", []):
+        port, address, other = element["elem"]["val"]["concat"]
+        by_port[port][f"{address}:{other}"] = max(0, found["timeout"] - element["elem"]["expires"])
+    return dict(by_port)
 
 
 def sockets(text):
@@ -108,6 +122,14 @@ class Calls:
     def take_made(self, now, call, slot, media):
         self.by_slot[int(slot)] = Call(call, int(slot), int(media), now)
         self.made += 1
+
+    def take_there(self, now, call, slot, media, state):
+        """A log that was begun anew has the calls that are there. What is known of them goes on."""
+        known = self.by_slot.get(int(slot))
+        if known is None or known.number != call:
+            self.by_slot[int(slot)] = known = Call(call, int(slot), int(media), now)
+        if state == "live" and known.live is None:
+            known.live = now
 
     def take_live(self, now, call):
         for one in self.by_slot.values():

@@ -7,7 +7,7 @@
     status = driver.close()
 
 Texts are octets, in and out; a `str` is taken as UTF-8. A call's number is the caller's choice, from 1 to 4294967294.
-Each signal waits for its outcomes, some two steps of the gateway's ticks (`Gateway`), and raises `Refused` where it is
+Each signal waits for its outcomes, up to two steps of the gateway's ticks (`Gateway`), and raises `Refused` where it is
 refused, with the call as it was, or `Gone` where the gateway's process has ended, with all its calls. Signals may come
 from several threads: those that are told meanwhile are handled behind the same tick, so a server of many calls tells
 each call's signals by a thread of a pool. Needs Python 3.8, Linux, and nothing else.
@@ -32,6 +32,9 @@ __all__ = ["Bounds", "Driver", "Fifos", "Gone", "Program", "Refused", "Taken"]
 Bounds = collections.namedtuple("Bounds", "keys octets messages turns", defaults=[57_344, 7 * 2**27, 896, None])
 # The seconds between two looks at the gateway, and between two at the system's tables.
 LOOK, LOOK_AROUND = 0.5, 5.0
+# What is told: turns that ran late by more seconds, and more octets that wait in one socket, which are some ten packets
+# of G.711.
+LATE, WAITING = 0.05, 8_192
 # The seconds between two starts.
 AGAIN = 1.0
 # Signals that may make a call.
@@ -73,7 +76,8 @@ class Driver:
     of `Gateway`.
 
     `drops` counts dropped datagrams by `(port, cause)`, `unsent` packets that weren't sent by port, `overflows`
-    datagrams that the system threw away in front of a port; `slots` has the slot of each call that is there.
+    datagrams that the system threw away in front of a port; `slots` has the slot of each call that is there. Every five
+    seconds `late` has by how many seconds turns ran late meanwhile, and `waiting` the octets that wait in sockets, by port.
 
     `on_end(call, why)` is told of a call that ended by itself: `idle` where nothing of it was put out for a minute,
     `gone` where the gateway's process has ended. It runs in a thread of the driver's own, and may tell signals.
@@ -89,6 +93,7 @@ class Driver:
         self.options, self.shared = options, []
         self.drops, self.unsent, self.overflows = (collections.Counter() for _ in range(3))
         self.slots, self.pending, self.notices = {}, collections.deque(), queue.Queue()
+        self.late, self.waiting = 0.0, {}
         # Keys of offers that aren't answered, by call; what is spent for good; and the overflows of the last look.
         self.open_keys, self.spent, self.seen = {}, collections.Counter(), {}
         # `over` says that no process is to follow, `gone` that none is there, and `drained` both.
@@ -214,7 +219,8 @@ class Driver:
 
     def _started(self):
         """A process that is ready to be told signals."""
-        gateway = Gateway(self.opener, **self.options)
+        # Behind an offer its answer may come at any time, and with it the far telephone's packets.
+        gateway = Gateway(self.opener, expects=lambda: bool(self.pending or self.open_keys), **self.options)
         if gateway.files is not None and gateway.files < FILES_MOST:
             self._warn(f"the gateway may open {gateway.files} files, and a full table needs {FILES_MOST}")
         if gateway.never_waits():
@@ -344,10 +350,25 @@ class Driver:
         return 0.0
 
     def _look_around(self, gateway):
-        late, gateway.worst = gateway.worst, 0.0
-        if late > 2 * gateway.step:
-            self._warn(f"the gateway's turns ran late, by {1000 * late:.0f} ms: give it a higher priority, or less to do")
-        now = gateway.overflows()
+        self.late, gateway.worst = gateway.worst, 0.0
+        if self.late > max(LATE, 2 * gateway.step):
+            self._warn(f"the gateway's turns ran late, by {1000 * self.late:.0f} ms: give it a higher priority, or less to do")
+        ends = gateway.sockets()
+        self._look_at_waiting({port: end.waiting for port, end in ends.items() if end.waiting})
+        self._look_at_overflows({port: end.drops for port, end in ends.items() if end.drops})
+        if not self.gone:
+            self._drain_if_spent()
+
+    def _look_at_waiting(self, waiting):
+        """Turns may be on time and the media late: where more comes than is taken, it waits in the sockets."""
+        self.waiting = waiting
+        long = {port: octets for port, octets in waiting.items() if octets > WAITING}
+        if long:
+            port, most = max(long.items(), key=lambda item: item[1])
+            self._warn(f"media are late: datagrams wait in sockets of {len(long)} ports, {most} octets of them at port {port}; "
+                       "give the gateway a higher priority, or less to do")
+
+    def _look_at_overflows(self, now):
         lost = {port: count - self.seen.get(port, 0) for port, count in now.items()}
         # A port that was given up and taken again counts from 0.
         lost = {port: count if count > 0 else now[port] for port, count in lost.items() if count}
@@ -356,5 +377,3 @@ class Driver:
             self.overflows.update(lost)
             port, most = max(lost.items(), key=lambda item: item[1])
             self._warn(f"{sum(lost.values())} datagrams were lost before full sockets of {len(lost)} ports, {most} at port {port}")
-        if not self.gone:
-            self._drain_if_spent()

@@ -28,7 +28,8 @@ def require(holds, what):
 
 def number(value, most=NUMBER_MOST, least=0):
     """A number as a field, in decimal digits."""
-    require(isinstance(value, int) and least <= value <= most, f"a number of {least} to {most} is needed: {value!r}")
+    fits = isinstance(value, int) and not isinstance(value, bool) and least <= value <= most
+    require(fits, f"a number of {least} to {most} is needed: {value!r}")
     return str(value)
 
 

@@ -19,7 +19,6 @@ import select
 import signal
 import socket
 import subprocess
-import tempfile
 import threading
 import time
 from pathlib import Path
@@ -37,14 +36,21 @@ TURNS_MOST = 1_000_000_000
 # A call that is never there. What is told of it says that the tick before it is over.
 PROBE = 2**32 - 1
 PROBED = f"refused {PROBE} CallUnknown\n".encode()
-# So many of the latest probes count for the start of the gateway's clock.
-WINDOW = 50
+# So many of the latest probes count for the start of the gateway's clock, and so many seconds are between two.
+WINDOW, PROBING = 50, 0.1
+# The seconds of a step, and of one while signals come or are likely to, which is until so long after the latest. Where
+# more probes than that have no answer, the gateway has enough to do, and each tick more would only take a turn: so the
+# steps are longer by as much.
+STEP, SHORT_STEP, LINGERING, BEHIND = 0.02, 0.005, 1.0, 4
 # So much of what it says on standard error is kept.
 SAID_MOST = 4_096
 # How long a turn without a datagram takes at least.
 TURN = 0.004
 # How long a process that was asked to end may take.
 ENDING = 10.0
+# What a terminal, or a unit's `systemctl kill`, sends to all processes at once. It is for the driver, which ends the
+# gateway by the end of its input, or by SIGKILL.
+WITHHELD = (signal.SIGHUP, signal.SIGINT, signal.SIGQUIT, signal.SIGTERM, signal.SIGUSR1, signal.SIGUSR2)
 
 
 class Gone(Exception):
@@ -96,13 +102,15 @@ class Program:
 
 
 class Started:
-    """A process of this program's own, in a session of its own: it isn't ended by the terminal's Ctrl-C, and ends when
-    its input does."""
+    """A process of this program's own, in a session of its own, to which signals that are for the driver don't come; it
+    ends when its input does."""
 
     def __init__(self, words):
-        self.errors = tempfile.TemporaryFile()
-        self.process = subprocess.Popen(
-            words, stdin=subprocess.PIPE, stdout=subprocess.PIPE, stderr=self.errors, start_new_session=True)
+        # In memory: a full disk is no fault of a gateway.
+        self.errors = os.fdopen(os.memfd_create("srtpgw-errors"), "w+b", buffering=0)
+        with withheld(WITHHELD):
+            self.process = subprocess.Popen(
+                words, stdin=subprocess.PIPE, stdout=subprocess.PIPE, stderr=self.errors, start_new_session=True)
         self.lines, self.outcomes, self.pid = self.process.stdin, self.process.stdout, self.process.pid
         self.files = raised_files(self.pid)
 
@@ -196,6 +204,16 @@ class Held:
         self.over.set()
 
 
+@contextlib.contextmanager
+def withheld(numbers):
+    """Signals that don't come to this thread, nor ever to a process that it starts here."""
+    before = signal.pthread_sigmask(signal.SIG_BLOCK, numbers)
+    try:
+        yield
+    finally:
+        signal.pthread_sigmask(signal.SIG_SETMASK, before)
+
+
 def raised_files(pid):
     """Has a process open as many files as it may at all; how many, or None where that isn't known or isn't bounded."""
     with contextlib.suppress(ProcessLookupError, PermissionError):
@@ -221,19 +239,23 @@ class Gateway:
     """One process of `srtpgw relay`. `program` is a path, a `Program` or `Fifos`.
 
     A tick is written each `step` seconds and reaches two steps ahead, so a signal waits as long at most; the media
-    don't wait. Behind each tick stands a probe, whose answer says where the gateway's clock began. `patience` is how
-    many seconds the first answer may take, behind which the process is ended. `outcomes` is a queue of its lines, each
-    a list of fields, and `octets` counts what was written to it. `late` has by how many seconds the latest answer to a
-    probe was late, and `worst` the most of it, and of gaps between ticks, since it was set to 0. `log` is a file of
-    octets that gets `srtpgw 1` where a process begins, and each outcome but for session descriptions, which hold keys
-    (tools/watch.py reads it). Raises Gone where it doesn't answer, and Taken where another program has its ports."""
+    don't wait. As soon as a signal waits, until a second behind the latest, and while `expects` answers that one may
+    come, steps are short. Behind a tick stands a probe, ten times a second or more often, whose answer says where the
+    gateway's clock began. `patience` is how many seconds the first answer may take, behind which the process is
+    ended. `outcomes` is a queue of its lines, each a list of fields, and `octets` counts what was written to it.
+    `late` has by how many seconds the latest answer to a probe was late, and `worst` the most of it, and of gaps
+    between ticks, since it was set to 0. `log` is a file of octets that gets `srtpgw 1` where a process begins, and
+    each outcome but for session descriptions, which hold keys (tools/watch.py reads it). Raises Gone where it doesn't
+    answer, and Taken where another program has its ports."""
 
-    def __init__(self, program, step=0.1, patience=60.0, log=None):
+    def __init__(self, program, step=STEP, patience=60.0, log=None, expects=lambda: False):
         opener = program if hasattr(program, "open") else Program(program)
-        self.step, self.turns, self.log = step, opener.turns, log
+        self.step, self.turns, self.log, self.expects = step, opener.turns, log, expects
         self.outcomes, self.gone, self.why = queue.Queue(), None, None
         self.octets, self.ticks, self.late, self.worst = 0, 0, 0.0, 0.0
         self.lock, self.answered, self.ending = threading.Lock(), threading.Event(), threading.Event()
+        # Wakes the thread that writes ticks, and until when its steps are short.
+        self.wakes, self.hurried = threading.Event(), 0.0
         # Ticks that were written and aren't answered, with when they are due; the starts of its clock that the latest
         # answers tell of, and the earliest; the tick that reaches farthest.
         self.probes, self.starts = collections.deque(), collections.deque(maxlen=WINDOW)
@@ -261,6 +283,9 @@ class Gateway:
             if not field or not all("!" <= letter <= "~" for letter in field):
                 raise ValueError(f"no field of a line: {field!r}")
         self._write(" ".join(fields))
+        hurried, self.hurried = self._hurries(), time.monotonic() + LINGERING
+        if not hurried:
+            self.wakes.set()
 
     def next(self, timeout=5.0):
         """The next outcome, a list of fields. Raises Gone where the process has ended, and queue.Empty where none comes
@@ -275,6 +300,7 @@ class Gateway:
         """Ends the script, and with it the run. Answers the status, 0 where all was handled, once all that it told
         stands in `outcomes`."""
         self.ending.set()
+        self.wakes.set()
         self.ticker.join(ENDING)
         if not self.ticker.is_alive():
             # Else it waits to write into a pipe that nobody reads.
@@ -290,6 +316,7 @@ class Gateway:
         """Ends a process that can't be gone on with: `Gone` says why."""
         self.why = self.why or why
         self.ending.set()
+        self.wakes.set()
         self.ends.kill()
 
     def due(self):
@@ -308,10 +335,9 @@ class Gateway:
         idle = (time.monotonic() - self.ready) / TURN
         return self._datagrams() - self.taken + round(idle) + self.ticks
 
-    def overflows(self):
-        """How many datagrams the system threw away in front of each socket of the gateway's, by port, where some."""
-        ends = sockets(_network(self.pid, "udp"))
-        return {port: end.drops for port, end in ends.items() if end.drops}
+    def sockets(self):
+        """What waits in each socket of the gateway's, and what the system threw away in front of it, by port."""
+        return sockets(_network(self.pid, "udp"))
 
     def never_waits(self):
         """Whether its standard input was opened so that a read never waits: it would read on all the time."""
@@ -331,11 +357,19 @@ class Gateway:
 
     def _probe(self, line):
         self.probes.append((self.last, self.due()))
+        self.probed = time.monotonic()
         self._write(f"{line}\nbye {PROBE}")
+
+    def _hurries(self):
+        """Whether a signal waits, or may come soon."""
+        return time.monotonic() < self.hurried or self.expects()
 
     def _read(self):
         for line in self.ends.outcomes:
             if line == PROBED:
+                if not self.probes:
+                    self.end("an answer to a probe that wasn't written")
+                    break
                 self._learn()
             # A run that fails may end in the middle of a line, which would read as another one.
             elif line.endswith(b"\n"):
@@ -367,16 +401,26 @@ class Gateway:
     def _tick(self):
         # By the clock that the gateway reads: after a jump of a steadier one its ticks would be over at once.
         while not self.ending.is_set():
-            ahead = round((time.time() - self.began + 2 * self.step) * 1000)
-            # Where the clock was set back, the tick under way goes on until it is caught up.
+            hurries = self._hurries()
+            short = SHORT_STEP * (BEHIND if len(self.probes) > BEHIND else 1)
+            step = min(self.step, short) if hurries else self.step
+            ahead = round((time.time() - self.began + 2 * step) * 1000)
+            # Where the clock was set back, or steps have become short, the tick under way goes on until it is caught up.
             if ahead > self.last:
-                self.last = ahead
-                self._probe(f"tick {ahead}")
-                self.ticks += 1
+                self._write_tick(ahead, hurries or time.monotonic() >= self.probed + PROBING)
             before = self.due()
-            self.ending.wait(self.step)
+            self.wakes.wait(step)
+            self.wakes.clear()
             # Where this thread itself comes late, no tick was there for a time.
             self.worst = max(self.worst, before.late())
+
+    def _write_tick(self, ahead, probes):
+        self.last, line = ahead, f"tick {ahead}"
+        if probes:
+            self._probe(line)
+        else:
+            self._write(line)
+        self.ticks += 1
 
     def _datagrams(self):
         values = [line.split() for line in _network(self.pid, "snmp").splitlines() if line.startswith("Udp:")]

@@ -8,7 +8,8 @@ The options that are events come into the script in the order in which they stan
 classic pcap form; its UDP datagrams to the gateway's ports become `in` lines, each behind a `tick` of its moment.
 Where they were captured elsewhere, `--port CAPTURED=GATEWAY` says which port stands for which. With `--live` the
 script is for a relay: a moment would be a wait there, so `tick` and `in` lines are left out. Nothing is written
-unless the whole script can be made. Needs Python 3.8 alone. What is written holds keys wherever the texts do.
+unless the whole script can be made, each line of it within the grammar. Needs Python 3.8 alone. What is written holds
+keys wherever the texts do.
 """
 
 import argparse
@@ -18,7 +19,9 @@ from pathlib import Path
 
 from captures import Fault, datagrams, records
 from counters import is_port
-from fields import DATAGRAM_MOST, TEXT_MOST
+from fields import DATAGRAM_MOST, NUMBER_MOST, TEXT_MOST, WINDOW_LEAST, WINDOW_MOST
+import why
+import words
 
 # What a relay doesn't take of a replay's script: it has its own clock and its own datagrams.
 NOT_LIVE = ("tick", "in")
@@ -88,8 +91,8 @@ def line(name, values, given):
     return f"{name} {' '.join(values) if isinstance(values, list) else values}"
 
 
-def words():
-    parser = argparse.ArgumentParser(description="makes a script for srtpgw", epilog="events come in the order given")
+def words_of():
+    parser = words.Parser(description="makes a script for srtpgw", epilog="events come in the order given")
     event = dict(action=Event)
     parser.add_argument("--offer-secure", metavar="SDP", help="an offer of the secure side", **event)
     parser.add_argument("--offer-plain", metavar="SDP", help="one of the plain side, keyed by crypto lines", **event)
@@ -102,8 +105,9 @@ def words():
     parser.add_argument("--capture", metavar="PCAP", help="a capture", **event)
     parser.add_argument("--reject", nargs=0, help="the open offer is rejected", **event)
     parser.add_argument("--bye", nargs=0, help="the call ends", **event)
-    parser.add_argument("--call", type=int, default=1, help="the call's number, by default 1")
-    parser.add_argument("--window", type=int, default=64, help="the window of a call with keys by hand")
+    parser.add_argument("--call", type=words.number(0, NUMBER_MOST), default=1, help="the call's number, by default 1")
+    parser.add_argument("--window", type=words.number(WINDOW_LEAST, WINDOW_MOST), default=WINDOW_LEAST,
+                        help="the window of a call with keys by hand")
     parser.add_argument("--noise", default="-", metavar="HEX", help="304 octets for the gateway's keys, else drawn")
     parser.add_argument("--live", action="store_true", help="for a relay: no `tick` and no `in` lines")
     parser.add_argument(
@@ -113,8 +117,9 @@ def words():
 
 def pair(text):
     """The two ports of `CAPTURED=GATEWAY`."""
-    captured, _, own = text.partition("=")
-    return int(captured), int(own)
+    captured, own = map(words.number(0, 65_535), text.partition("=")[::2])
+    words.require(is_port(own), f"{own} is no port of the gateway's")
+    return captured, own
 
 
 def starting(events):
@@ -139,13 +144,23 @@ def script(given, skipped):
     return made
 
 
+def look_at(made):
+    """Raises why.Fault where a line is outside of the grammar."""
+    for place, text in enumerate(made, 1):
+        why.read_line(place, text.encode(errors="surrogateescape") + b"\n")
+
+
 def main():
-    given = words().parse_args()
+    parser = words_of()
+    given = parser.parse_args()
     skipped = collections.Counter()
     try:
         made = script(given, skipped)
+        look_at(made)
     except (Fault, OSError) as fault:
         sys.exit(f"script.py: {fault}")
+    except why.Fault as fault:
+        parser.error(f"{fault.field}: {fault.words}" if fault.field else fault.words)
     sys.stdout.write("".join(text + "\n" for text in made))
     counts = ", ".join(f"{count} {why}" for why, count in skipped.items() if count)
     if counts:

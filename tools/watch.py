@@ -12,7 +12,6 @@ of a log of outcomes (`Gateway(.., log=FILE)` of gateway.py), read from its begi
 Needs Python 3.8 and nft.
 """
 
-import argparse
 import collections
 import contextlib
 import json
@@ -25,10 +24,17 @@ import time
 from pathlib import Path
 
 from counters import Calls, Fault, LEGS, NOTHING, SLOTS, Socket, counts, is_port, port_of, sockets
+from metrics import Metrics
 from sentences import Missing, meaning
+import words
 
 SETS = ["nft", "-j", "list", "table", "ip", "srtpgw"]
 SECURE, PLAIN = LEGS[0], LEGS[2]
+# What is said of a medium.
+TROUBLES = ("overflow", "silence", "one-way", "not-put-out", "elsewhere")
+# The sets of counters, and those of places.
+WAYS, OCTETS = ("arrived", "left"), ("arrived_octets", "left_octets")
+PLACES = {"sources": "comes_from", "targets": "goes_to"}
 # What leaves from a leg came to the other one.
 ACROSS = {LEGS[leg]: LEGS[leg ^ 2] for leg in range(4)}
 
@@ -69,23 +75,32 @@ def read_sockets():
 
 
 class Log:
-    """A file that grows. It is read on from where it was, and from its beginning where it was begun anew."""
+    """A file that grows. It is read on from where it was; what came to it before another one took its name is read before
+    that one, and one that was begun anew from its beginning."""
 
     def __init__(self, path):
-        self.path, self.at, self.rest, self.file = path, 0, b"", None
+        self.path, self.at, self.rest, self.file, self.place = path, 0, b"", None, None
 
     def lines(self):
         """The whole lines that have come since the last look."""
-        try:
-            octets = open(self.path, "rb")
-        except OSError:
-            return []
-        with octets:
-            status = os.fstat(octets.fileno())
-            if (status.st_ino, status.st_dev) != self.file or status.st_size < self.at:
-                self.file, self.at, self.rest = (status.st_ino, status.st_dev), 0, b""
-            octets.seek(self.at)
-            came = octets.read()
+        found = self.come()
+        with contextlib.suppress(OSError):
+            status = os.stat(self.path)
+            if (status.st_ino, status.st_dev) != self.place or status.st_size < self.at:
+                found += self.come()
+                self.opened()
+                found += self.come()
+        return found
+
+    def opened(self):
+        before, self.file = self.file, open(self.path, "rb")
+        if before:
+            before.close()
+        status = os.fstat(self.file.fileno())
+        self.at, self.rest, self.place = 0, b"", (status.st_ino, status.st_dev)
+
+    def come(self):
+        came = self.file.read() if self.file else b""
         self.at += len(came)
         *lines, self.rest = (self.rest + came).split(b"\n")
         return [line.decode("ascii", "replace") for line in lines]
@@ -126,7 +141,7 @@ class Watch:
             self.calls.over.update(set(range(SLOTS)) - set(self.calls.by_slot))
         for slot in self.calls.over:
             for port in range(port_of(slot, 0, 0), port_of(slot + 1, 0, 0)):
-                self.bases.update({(way, port): ports[port] for way, ports in found.items() if port in ports})
+                self.bases.update({(way, port): found[way][port] for way in WAYS if port in found.get(way, {})})
         self.calls.over.clear()
 
     def add_lost(self, ends):
@@ -148,7 +163,7 @@ class Watch:
     def leg(self, call, medium, leg, found, ends, now):
         port, name = port_of(call.slot, medium, leg), LEGS[leg]
         shown = {"leg": name, "port": port}
-        for way in ("arrived", "left"):
+        for way in WAYS:
             count = self.counted(way, port, found)
             rate = None
             if self.moment is not None and now > self.moment:
@@ -156,6 +171,8 @@ class Watch:
                 rate = max(0.0, round(came / (now - self.moment), 1))
             quiet = count.quiet if count.packets else None
             shown[way] = {"packets": count.packets, "octets": count.octets, "quiet": quiet, "rate": rate}
+        for places, field in PLACES.items():
+            shown[field] = sorted(place for place, quiet in found.get(places, {}).get(port, {}).items() if quiet <= self.after)
         drops = {cause: n for (at, of, cause), n in sorted(call.drops.items()) if (at, of) == (medium, name)}
         end = ends.get(port, Socket(0, 0))
         return {**shown, "drops": drops, "unsent": call.unsent[medium, name], "overflows": end.drops,
@@ -163,15 +180,18 @@ class Watch:
 
     def call(self, call, found, ends, now):
         legs = [[self.leg(call, medium, leg, found, ends, now) for leg in range(4)] for medium in range(call.media)]
-        media = [{"medium": medium, "legs": of, "says": self.says(call, of, bool(found), now)}
-                 for medium, of in enumerate(legs)]
+        media = []
+        for medium, of in enumerate(legs):
+            said = self.says(call, of, bool(found), now)
+            media.append({"medium": medium, "legs": of, "says": [words for _, words in said],
+                          "troubles": [trouble for trouble, _ in said]})
         return {"call": call.number, "slot": call.slot, "state": "live" if call.live else "offered",
                 "seconds": round(now - (call.live or call.made), 1), "media": media}
 
     def says(self, call, legs, counted, now):
-        """What an operator should know of a medium, in words."""
+        """What an operator should know of a medium: one of TROUBLES, and words."""
         of = {leg["leg"]: leg for leg in legs}
-        said = [f"{leg['overflows']} datagrams were lost in front of the full socket of {leg['leg']}"
+        said = [("overflow", f"{leg['overflows']} datagrams were lost in front of the full socket of {leg['leg']}")
                 for leg in legs if leg["overflows"]]
         if not counted or not call.live or now - call.live < self.after:
             return said
@@ -182,27 +202,38 @@ class Watch:
         silent = {leg: quiet(leg, "arrived") for leg in (SECURE, PLAIN)}
         sides = {SECURE: "secure", PLAIN: "plain"}
         if min(silent.values()) >= self.after:
-            said.append(f"silence: no packet from either side for {min(silent.values()):.0f} s")
+            said.append(("silence", f"silence: no packet from either side for {min(silent.values()):.0f} s"))
         elif max(silent.values()) >= self.after:
             dumb = max(silent, key=silent.get)
-            said.append(f"one-way: no packet from the {sides[dumb]} side for {silent[dumb]:.0f} s")
+            said.append(("one-way", f"one-way: no packet from the {sides[dumb]} side for {silent[dumb]:.0f} s"))
         for leg in (SECURE, PLAIN):
             if silent[leg] < self.after <= quiet(ACROSS[leg], "left"):
-                said.append(f"what the {sides[leg]} side sends isn't put out: {worst(of[leg]['drops'])}")
+                words = f"what the {sides[leg]} side sends isn't put out: {worst(of[leg]['drops'])}"
+                said.append(("not-put-out", words))
+            said += elsewhere(sides[leg], of[leg]["comes_from"], of[leg]["goes_to"])
         return said
 
     def totals(self, found):
         """Counts over all calls."""
-        ways = {way: collections.Counter() for way in ("arrived", "left")}
-        for way, legs in ways.items():
+        ways = {way: collections.Counter() for way in (*WAYS, *OCTETS)}
+        for way in WAYS:
             for port, count in found.get(way, {}).items():
                 if is_port(port):
-                    legs[LEGS[port % 4]] += count.packets
+                    ways[way][LEGS[port % 4]] += count.packets
+                    ways[f"{way}_octets"][LEGS[port % 4]] += count.octets
         drops = [{"leg": leg or "no port of the gateway", "cause": cause, "datagrams": n}
                  for (leg, cause), n in sorted(self.calls.drops.items(), key=str)]
         return {"made": self.calls.made, "refused": dict(self.calls.refused), "ended": dict(self.calls.ended),
                 "drops": drops, "unsent": sum(self.calls.unsent.values()), "overflows": sum(self.lost.values()),
                 **{way: dict(legs) for way, legs in ways.items()}}
+
+
+def elsewhere(side, sources, targets):
+    """What is to be said where packets come from another place than they go to, as behind address translation."""
+    if not sources or not targets or set(sources) & set(targets):
+        return []
+    return [("elsewhere", f"the {side} side's packets come from {sources[0]}, and media go to {targets[0]}: behind address "
+                          "translation they don't arrive there (docs/network.md)")]
 
 
 def worst(drops):
@@ -258,78 +289,52 @@ def leg_lines(medium, leg):
 
 
 def prometheus(view):
-    """Lines of Prometheus's text format, version 0.0.4."""
-    rows = Metrics()
-    rows.add("srtpgw_up", "gauge", "Whether the counters of packets could be read", 0 if view["fault"] else 1)
-    rows.add("srtpgw_calls", "gauge", "Calls that are there", len(view["calls"]))
-    totals = view["totals"]
-    rows.add("srtpgw_calls_made_total", "counter", "Calls that were made", totals["made"])
+    """Lines of Prometheus's text format. No label is a call's: what is told of calls is told of all together."""
+    rows, totals = Metrics(), view["totals"]
+    rows.gauge("srtpgw_counters_up", "Whether the counters of packets could be read", 0 if view["fault"] else 1)
+    states = collections.Counter(call["state"] for call in view["calls"])
+    for state in ("live", "offered"):
+        rows.gauge("srtpgw_calls", "Calls that are there", states[state], state=state)
+    rows.counter("srtpgw_calls_made_total", "Calls that were made", totals["made"])
     for cause, n in sorted(totals["refused"].items()):
-        rows.add("srtpgw_refused_total", "counter", "Refused signals", n, cause=cause)
+        rows.counter("srtpgw_signals_refused_total", "Refused signals", n, cause=cause)
     for why, n in sorted(totals["ended"].items()):
-        rows.add("srtpgw_ended_total", "counter", "Calls that have ended", n, why=why)
+        rows.counter("srtpgw_calls_ended_total", "Calls that have ended", n, why=why)
     for row in totals["drops"]:
-        rows.add("srtpgw_drops_total", "counter", "Dropped datagrams", row["datagrams"], leg=row["leg"],
-                 cause=row["cause"])
-    rows.add("srtpgw_unsent_total", "counter", "Packets that couldn't be sent", totals["unsent"])
-    rows.add("srtpgw_overflows_total", "counter", "Datagrams lost in front of full sockets", totals["overflows"])
-    for way in ("arrived", "left"):
-        for leg, n in sorted(totals[way].items()):
-            rows.add(f"srtpgw_packets_{way}_total", "counter", f"Packets of all calls that {way}", n, leg=leg)
-    for call in view["calls"]:
-        for medium in call["media"]:
-            names = {"call": call["call"], "medium": str(medium["medium"])}
-            rows.add("srtpgw_call_troubles", "gauge", "What watch.py says of a medium: one-way audio, silence, overflows",
-                     len(medium["says"]), **names)
-            for leg in medium["legs"]:
-                rows.add_leg(leg, {**names, "leg": leg["leg"]})
+        rows.counter("srtpgw_drops_total", "Dropped datagrams", row["datagrams"], leg=row["leg"], cause=row["cause"])
+    rows.counter("srtpgw_unsent_total", "Packets that the system didn't send", totals["unsent"])
+    rows.counter("srtpgw_overflows_total", "Datagrams that were lost in front of full sockets", totals["overflows"])
+    for way in WAYS:
+        for leg in LEGS if not view["fault"] else ():
+            for what, name in (("packets", way), ("octets", f"{way}_octets")):
+                rows.counter(f"srtpgw_{what}_total", f"{what.capitalize()} that came to a leg and left it",
+                             totals[name].get(leg, 0), leg=leg, way=way)
+    add_troubles(rows, view["calls"])
     return rows.lines()
 
 
-def escaped(text):
-    return str(text).replace("\\", r"\\").replace('"', r"\"").replace("\n", r"\n")
-
-
-class Metrics:
-    """Samples by metric."""
-
-    def __init__(self):
-        self.heads, self.samples = {}, {}
-
-    def add(self, name, kind, says, value, **labels):
-        self.heads[name] = [f"# HELP {name} {says}", f"# TYPE {name} {kind}"]
-        inner = ",".join(f'{key}="{escaped(text)}"' for key, text in labels.items())
-        self.samples.setdefault(name, []).append(f"{name}{{{inner}}} {value}" if inner else f"{name} {value}")
-
-    def add_leg(self, leg, names):
-        for way in ("arrived", "left"):
-            said = leg[way]
-            for what in ("packets", "octets"):
-                self.add(f"srtpgw_call_{what}_total", "counter", f"{what.capitalize()} of a leg", said[what], way=way,
-                         **names)
-            if said["quiet"] is not None:
-                self.add("srtpgw_call_quiet_seconds", "gauge", "Seconds since the last packet of a leg", said["quiet"],
-                         way=way, **names)
-        for cause, n in leg["drops"].items():
-            self.add("srtpgw_call_drops_total", "counter", "Dropped datagrams of a leg", n, cause=cause, **names)
-        self.add("srtpgw_socket_waiting_octets", "gauge", "Octets of a leg's socket buffer that waiting datagrams take",
-                 leg["waiting"], **names)
-        self.add("srtpgw_socket_drops_total", "counter", "Datagrams lost in front of a leg's socket", leg["overflows"],
-                 **names)
-
-    def lines(self):
-        return [line for name, head in self.heads.items() for line in [*head, *self.samples[name]]]
+def add_troubles(rows, calls):
+    media = [medium for call in calls for medium in call["media"]]
+    troubles = collections.Counter(trouble for medium in media for trouble in medium["troubles"])
+    for trouble in TROUBLES:
+        rows.gauge("srtpgw_troubled_media", "Media of which watch.py says something", troubles[trouble], trouble=trouble)
+    for index, leg in enumerate(LEGS):
+        waiting = [medium["legs"][index]["waiting"] for medium in media]
+        rows.gauge("srtpgw_waiting_octets", "Octets that wait in sockets", sum(waiting), leg=leg)
 
 
 # ---- the words
 
-def words():
-    parser = argparse.ArgumentParser(description="watches a live gateway")
+def words_of():
+    parser = words.Parser(description="watches a live gateway")
     parser.add_argument("--outcomes", metavar="FILE", help="a log of outcomes, which is read on as it grows")
-    parser.add_argument("--after", type=float, default=5.0, metavar="S", help="seconds without a packet, by default 5")
-    parser.add_argument("--every", type=float, metavar="S", help="looks every S seconds; the screen does every 2")
-    parser.add_argument("--looks", type=int, metavar="N", help="ends behind N looks")
-    parser.add_argument("--to", metavar="FILE", help="a file that each look replaces as a whole")
+    parser.add_argument("--after", type=words.seconds(0, 86_400), default=5.0, metavar="S",
+                        help="seconds without a packet, by default 5")
+    parser.add_argument("--every", type=words.seconds(0.1, 86_400), metavar="S",
+                        help="looks every S seconds; the screen does every 2")
+    parser.add_argument("--looks", type=words.number(1, 2**63), metavar="N", help="ends behind N looks")
+    parser.add_argument("--to", type=words.file_in_a_folder, metavar="FILE",
+                        help="a file that each look replaces as a whole")
     shape = parser.add_mutually_exclusive_group()
     shape.add_argument("--json", action="store_true", help="a line of JSON a look")
     shape.add_argument("--prometheus", action="store_true", help="Prometheus's text format")
@@ -364,7 +369,7 @@ def fitted(text, most):
 
 
 def main():
-    given = words().parse_args()
+    given = words_of().parse_args()
     signal.signal(signal.SIGPIPE, signal.SIG_DFL)
     once = given.json or given.prometheus
     every = given.every or (None if once else 2.0)

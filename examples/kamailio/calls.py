@@ -1,5 +1,6 @@
 """Calls through Kamailio and a gateway behind it. See calls.sh."""
 
+import contextlib
 import os
 import re
 import subprocess
@@ -105,9 +106,9 @@ def new_keys(folder):
     return good and ended == 200 and (len(media.openings) == 4 or NAME == "rtpengine")
 
 
-def arrived(name, sent, media, missing):
+def arrived(name, sent, media, missing, first=FIRST):
     """Whether all packets but so many arrived, each as it was sent. rtpengine may lose some at new keys."""
-    wanted = dict(enumerate((sent[at:at + 160] for at in range(0, len(sent), 160)), FIRST))
+    wanted = dict(enumerate((sent[at:at + 160] for at in range(0, len(sent), 160)), first))
     same = media.came.items() <= wanted.items()
     print(f"{name}: {len(media.came)} of {len(wanted)} packets:", "the same" if same else "NOT THE SAME", flush=True)
     return same and len(wanted) - len(media.came) <= (missing if NAME == "srtpgw" else 15)
@@ -164,6 +165,42 @@ def has_early_media(folder):
     return good
 
 
+def talks(call, far, seed):
+    """Two seconds each way, whole."""
+    there, back = speech(2, seed), speech(2, seed + 1)
+    first = FIRST + 1_000 * seed
+    pairs = ((call.media, there), (far.media, back))
+    for media, _ in pairs:
+        media.came.clear()
+    together(lambda pair: pair[0].sends(pair[1], first), pairs)
+    with contextlib.suppress(TimeoutError):
+        wait_until(lambda: all(len(media.came) >= 100 for media in (call.media, far.media)), 5, "all packets")
+    return arrived("to the plain side", there, far.media, 0, first) & arrived("to the secure side", back, call.media, 0, first)
+
+
+def offers_late(folder):
+    """An INVITE without a text: the called telephone offers with its 200, and is answered by the ACK; then an UPDATE and a
+    PRACK bring new keys."""
+    plain = []
+    olga = Telephone("olga", BOB, PROXY, lambda: plain.append(Media((HOST, 26_050 + 4 * len(plain)))) or plain[-1])
+    registers("olga", BOB, PROXY)
+    peter = Telephone("peter", ALICE, PROXY)
+    media = Media((HOST, 26_062), master())
+    call = peter.call("olga", media)
+    call.offers_nothing()
+    wait_until(lambda: plain[0].to, what="the ACK")
+    good = talks(call, olga.came[0], 1)
+    call.updates(key=master())
+    good &= talks(call, olga.came[0], 2)
+    call.updates("PRACK", master())
+    good &= talks(call, olga.came[0], 3)
+    print(f"under {len(media.openings)} keys of the gateway's in turn")
+    ended = call.ends()
+    for one in (olga, peter, media, *plain):
+        one.close()
+    return good and ended == 200 and (len(media.openings) == 3 or NAME == "rtpengine")
+
+
 def is_answered_badly(folder):
     """The called telephone answers without a key, so the gateway refuses its text: both have BYE behind the ACK."""
     media = Media((HOST, 26_032), master())
@@ -213,7 +250,7 @@ def together(work, items):
 
 
 NAME = "rtpengine" if "rtpengine" in sys.argv[1:] else "srtpgw"
-SCENES = [calls_an_echo, is_called, is_held, new_keys, has_early_media, is_cancelled]
+SCENES = [calls_an_echo, is_called, is_held, new_keys, has_early_media, offers_late, is_cancelled]
 SCENES += [is_answered_badly] * (NAME == "srtpgw") + [forty]
 
 
@@ -229,7 +266,7 @@ def main():
     wanted = [scene for scene in SCENES if scene.__name__ in sys.argv[1:]] or SCENES
     good = []
     with tempfile.TemporaryDirectory() as folder:
-        words = ["--tell", f"http://{HOST}:5071/RPC", "--step", os.environ.get("STEP", "0.1")]
+        words = ["--tell", f"http://{HOST}:5071/RPC"] + (["--step", os.environ["STEP"]] if os.environ.get("STEP") else [])
         gateway = rtpengine(folder) if NAME == "rtpengine" else ng(folder, NG, None, "ng", *words)
         proxy = kamailio(folder)
         try:

@@ -255,6 +255,26 @@ class Call:
         self.media.agrees(response.body)
         self.asks("ACK", number=self.number)
 
+    def offers_nothing(self):
+        """An INVITE without a text: the other one's offer comes with the 200, and its answer goes with the ACK."""
+        self.asks("INVITE")
+        response = self.waits("INVITE")
+        self.other, self.uri = response.get("to"), inner(response.get("contact"))
+        self.routes = list(reversed(response.all("record-route")))
+        text = self.media.answers(response.body)
+        self.media.agrees(response.body)
+        self.asks("ACK", text, number=self.number)
+
+    def updates(self, method="UPDATE", key=None):
+        """An offer by another request than INVITE."""
+        if key:
+            self.media.key = key
+        self.asks(method, self.media.text())
+        response = self.waits(method)
+        if response.status() >= 300:
+            raise Refused(response.status())
+        self.media.agrees(response.body)
+
     def cancels(self):
         """An INVITE that is cancelled while it rings: the response to it."""
         branch = self.asks("INVITE", self.media.text())
@@ -292,18 +312,21 @@ class Call:
         if not self.media:
             self.waiting = request
             return
-        text = self.media.answers(request.body)
+        text = self.media.answers(request.body) if request.body else self.media.text()
         if self.telephone.early:
             self.replies(request, sender, "183 Session Progress", text)
             self.media.agrees(request.body)
             time.sleep(self.telephone.early)
         self.replies(request, sender, "200 OK", text)
-        self.media.agrees(request.body)
+        if request.body:
+            self.media.agrees(request.body)
 
     def is_asked(self, request, sender):
         method = request.method()
-        if method == "INVITE":
+        if method in ("INVITE", "UPDATE", "PRACK"):
             self.is_invited(request, sender)
+        elif method == "ACK" and request.body:
+            self.media.agrees(request.body)
         elif method in ("BYE", "CANCEL"):
             self.ended_at = time.monotonic()
             self.replies(request, sender, "200 OK")

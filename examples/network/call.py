@@ -192,22 +192,27 @@ def wrong_side(watch):
 
 # ---- what is told of audio that goes one way, or none
 
-def says(watch, what):
-    words = watch.look()["calls"][0]["media"][0]["says"]
-    print(f"{what}: watch.py says {words}", flush=True)
-    return words
+def says(watch, what, *wanted):
+    """Whether watch.py says what is wanted, within some seconds: outcomes come when they come."""
+    until = time.monotonic() + 10
+    while True:
+        words = watch.look()["calls"][0]["media"][0]["says"]
+        found = any(all(part in one for part in wanted) for one in words)
+        if found or time.monotonic() > until:
+            print(f"{what}: watch.py says {words}", flush=True)
+            return found
+        time.sleep(0.2)
 
 
 def told_of(watch, secure, plain):
     """One side that is silent, a wrong key, and both sides that are."""
     secure.send(speech(3, 91), 300)
-    good = any(words.startswith("one-way: no packet from the plain side for ") for words in says(watch, "one side alone"))
+    good = says(watch, "one side alone", "one-way: no packet from the plain side for ")
     secure.sealing = Sealing(MasterKey(SUITE, os.urandom(30)))
     secure.send(speech(3, 92), 500)
-    words = says(watch, "under a wrong key")
-    good &= any("what the secure side sends isn't put out: 150 BadTag" in one for one in words)
+    good &= says(watch, "under a wrong key", "what the secure side sends isn't put out: 150 BadTag")
     time.sleep(AFTER + 1)
-    return good & any(one.startswith("silence: no packet from either side") for one in says(watch, "nobody"))
+    return good & says(watch, "nobody", "silence: no packet from either side")
 
 
 def one_call(driver, watch, call, offering, seed):

@@ -17,18 +17,21 @@ from driver import Refused
 from gateway import Gone
 from ng.request import Bad, PROFILES, text_of
 from ng.texts import (
-    NOWHERE, addressed, addresses, has_keys, holds, profile, profiled, profiles, secured, shown, unmuxed,
+    NOWHERE, addressed, addresses, has_keys, holds, is_quiet, profile, profiled, profiles, secured, shown, unmuxed,
     without_suites,
 )
 
 FAR = {"secure": "plain", "plain": "secure"}
 # Causes of a refused offer for which another gateway may take the call; of a new call `State` says that it drains.
 FULL = ("TableFull", "State")
+# The gateway ends a call of which nothing was put out for a minute. One that is held is kept from it by a sign of life
+# each `SIGN` seconds, for so many seconds if nothing else is said.
+SIGN, HOLD = 45.0, 3_600.0
 DRAINING = "this gateway takes no new calls, and ends with its last one"
 
-# An open offer: who made it, its text and the gateway's for the other side, whether it went past the gateway, and
-# whether it holds by naming no address.
-Offer = collections.namedtuple("Offer", "side tag text given passes nowhere")
+# An open offer: who made it, its text and the gateway's for the other side, whether it went past the gateway, whether
+# it holds by naming no address, and whether it holds at all.
+Offer = collections.namedtuple("Offer", "side tag text given passes nowhere quiet")
 # A call with its drops by port and cause, and its packets and octets by port.
 Report = collections.namedtuple("Report", "call dropped arrived")
 
@@ -46,6 +49,8 @@ class Call:
         self.tags, self.said, self.given, self.wears, self.interface = {}, {}, {}, {}, {}
         self.open, self.live = None, False
         self.made = self.told = time.time()
+        # Since when it is held, and when the gateway last had a sign of life of it, by a steady clock.
+        self.held, self.alive = None, time.monotonic()
         self.offers = self.passed = 0
         self.ports, self.dropped_before, self.arrived_before = {}, {}, {}
 
@@ -61,12 +66,14 @@ class Book:
     """`addresses` has by side the address that its telephones reach, `interfaces` more of them by name. `log` is given
     a line for each call; `muxes` says that the gateway takes one port for RTP and RTCP. To be set: `tell`, which is
     given each call that has ended by itself, and why; `arrived`, which answers packets and octets by port; `keep`,
-    which is given `all` where a call is live, or there no more."""
+    which is given `all` where a call is live, or there no more; `settled`, which is given each call behind each answer
+    that was taken, and `left`, each call that is there no more."""
 
-    def __init__(self, driver, addresses, interfaces, log, muxes=False):
-        self.driver, self.addresses, self.interfaces, self.log = driver, addresses, interfaces, log
+    def __init__(self, driver, addresses, interfaces, log, muxes=False, hold=HOLD):
+        self.driver, self.addresses, self.interfaces, self.log, self.hold = driver, addresses, interfaces, log, hold
         self.looked_at = functools.partial(looked_at, muxes=muxes)
         self.tell, self.arrived, self.keep = lambda call, why: None, lambda ports: {}, lambda calls: None
+        self.settled = self.left = lambda call: None
         self.lock = threading.RLock()
         self.by_id, self.by_number = {}, {}
         self.numbers = itertools.count(1)
@@ -83,7 +90,8 @@ class Book:
         text = taken(request, call, side)
         known = call.open
         if known and known.tag == request.from_tag and self.looked_at(text) == self.looked_at(known.text):
-            call.open = known._replace(text=text, given=carried(text, known.given), nowhere=holds(request.sdp))
+            call.open = known._replace(text=text, given=carried(text, known.given), nowhere=holds(request.sdp),
+                                       quiet=is_quiet(request.sdp))
         else:
             if known:
                 call = self.withdrawn(call, request)
@@ -98,7 +106,8 @@ class Book:
         for call in reversed(self.by_id.get(request.call_id, [])):
             if request.to_tag and call.live and tags <= call.tags.keys():
                 return call
-            if not request.to_tag and not call.live and call.branch == request.branch and tags <= call.tags.keys():
+            # The offer of a 183 comes again with the 200, and has the tags of both by then.
+            if not call.live and call.branch == request.branch and request.from_tag in call.tags:
                 return call
         return None
 
@@ -130,7 +139,7 @@ class Book:
                 # The gateway has taken the offer by then.
                 self.driver.reject(call.number)
                 raise
-        call.open = Offer(side, request.from_tag, text, given, passes, holds(request.sdp))
+        call.open = Offer(side, request.from_tag, text, given, passes, holds(request.sdp), is_quiet(request.sdp))
         call.offers += 1
         call.passed += passes
 
@@ -189,9 +198,14 @@ class Book:
         call.given.update({offer.side: given, side: offer.given})
         call.tags[request.to_tag] = side
         was_live, call.live, call.open = call.live, True, None
+        is_held = offer.quiet or is_quiet(request.sdp)
+        call.held = (call.held or time.monotonic()) if is_held else None
+        if not offer.passes:
+            call.alive = time.monotonic()
         if not was_live:
             self.log(f"{call.name()} is live: the {offer.side} side offered")
             self.keep(self.all)
+        self.settled(call)
         return self.for_side(request, call, offer.side, given, holds(request.sdp))
 
     def answered(self, request):
@@ -210,6 +224,7 @@ class Book:
         if not call.live or looked_at(text) != looked_at(call.said[side]):
             raise Refused("State")
         call.tags[request.to_tag] = side
+        self.settled(call)
         return self.for_side(request, call, FAR[side], carried(text, call.given[FAR[side]]), holds(request.sdp))
 
     def for_side(self, request, call, side, text, nowhere):
@@ -218,6 +233,28 @@ class Book:
         address = request.media_address or named or self.addresses[side]
         text = profiled(text, call.wears.get(side, []))
         return shown(text, address, b"origin" in request.replace, nowhere)
+
+    # ---- calls that are held
+
+    def quiet(self):
+        """The calls that are to have a sign of life now."""
+        now = time.monotonic()
+        return [call for call in self.all() if self.needs_sign(call, now)]
+
+    def needs_sign(self, call, now):
+        return call.live and call.held is not None and now - call.held < self.hold and now - call.alive >= SIGN
+
+    def give_sign(self, call):
+        """Has the gateway take a held call for alive: an offer that is rejected, by which no key is spent. It stands in
+        the order of the call's requests."""
+        if call.open or call.number not in self.by_number or not self.needs_sign(call, time.monotonic()):
+            return
+        call.alive = time.monotonic()
+        try:
+            self.driver.offer_plain(call.number, call.said["plain"])
+            self.driver.reject(call.number)
+        except (Refused, Gone) as fault:
+            self.log(f"{call.name()} is held and couldn't be kept alive: {fault}")
 
     # ---- ends
 
@@ -263,12 +300,14 @@ class Book:
 
     def forget(self, call):
         with self.lock:
-            self.by_number.pop(call.number, None)
+            known = self.by_number.pop(call.number, None)
             left = [other for other in self.by_id.get(call.id, []) if other is not call]
             if left:
                 self.by_id[call.id] = left
             else:
                 self.by_id.pop(call.id, None)
+        if known:
+            self.left(call)
         if call.live:
             self.keep(self.all)
 
@@ -314,6 +353,8 @@ def side_of(request, call):
 
 def taken(request, call, side):
     """The text as the gateway is to have it."""
+    if b"TLS" in profile(request.sdp):
+        raise Bad("the text asks for DTLS, which is not supported: keys come by SDES or MIKEY")
     text = addressed(request.sdp, request.source(), call.known_address(side))
     text = unmuxed(text) if request.rejects_mux() else text
     return secured(text) if side == "secure" and has_keys(text) else text

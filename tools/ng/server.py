@@ -8,8 +8,10 @@ came, those of several calls side by side.
 
 import collections
 import contextlib
+import functools
 import queue
 import socket
+import sys
 import threading
 import time
 import traceback
@@ -27,8 +29,12 @@ DATAGRAM_MOST = 65_507
 # How many requests may wait for one of the workers, how many answers are kept, for how long, and of how many octets.
 WAITING_MOST, KEPT_MOST, KEPT_SECONDS, KEPT_OCTETS = 256, 10_000, 60, 16 << 20
 WORKERS = 64
+# How many seconds are between two looks for calls that are held.
+BETWEEN_SIGNS = 5.0
 # How many seconds the workers have at the end for what waits.
 ENDING = 5
+# The commands that are counted by name. All others are counted together.
+COMMANDS, ANOTHER = ("offer", "answer", "delete", "query", "list", "statistics"), "another"
 # What a server that doesn't know `load limit` takes for it.
 LIMIT_OF_OLD = "Parallel session limit reached"
 
@@ -71,6 +77,8 @@ class Server:
         self.book, self.log = book, log
         self.began = time.time()
         self.refused = collections.Counter()
+        # To be set: what is given each command that was obeyed, its result, and how many seconds that took.
+        self.answered = lambda command, result, seconds: None
         self.answers = Answers()
         self.over = threading.Event()
         self.socket = socket.socket(socket.AF_INET, socket.SOCK_DGRAM)
@@ -79,7 +87,7 @@ class Server:
         self.socket.settimeout(0.2)
         self.queues = [queue.Queue(WAITING_MOST) for _ in range(WORKERS)]
         self.threads = [threading.Thread(target=self.work, args=(waiting,), daemon=True) for waiting in self.queues]
-        for thread in self.threads:
+        for thread in (*self.threads, threading.Thread(target=self.keep_alive, daemon=True)):
             thread.start()
 
     def serve(self, is_over=lambda: False):
@@ -126,16 +134,32 @@ class Server:
             self.hand_on(message, cookie, sender)
 
     def hand_on(self, message, cookie, sender):
-        call = message.get(b"call-id")
-        waiting = self.queues[hash(call if isinstance(call, bytes) else b"") % WORKERS]
         try:
-            waiting.put_nowait((message, cookie, sender))
+            self.queue_of(call_of(message)).put_nowait(functools.partial(self.answer_to, message, cookie, sender))
         except queue.Full:
             self.reply(sender, cookie, error("too many requests wait"))
 
+    def queue_of(self, call_id):
+        """The queue of all that is asked of a call, or done for it."""
+        return self.queues[hash(call_id) % WORKERS]
+
     def work(self, waiting):
-        for message, cookie, sender in iter(waiting.get, None):
-            self.reply(sender, cookie, self.obeyed(message))
+        """Does what waits, one behind another. Nothing of it ends the worker, which many calls share."""
+        for task in iter(waiting.get, None):
+            try:
+                task()
+            except Exception:
+                self.failed()
+
+    def answer_to(self, message, cookie, sender):
+        self.reply(sender, cookie, self.timed(message))
+
+    def keep_alive(self):
+        """Has calls that are held have their sign of life, each in the order of its requests."""
+        while not self.over.wait(BETWEEN_SIGNS):
+            for call in self.book.quiet():
+                with contextlib.suppress(queue.Full):
+                    self.queue_of(call.id).put_nowait(functools.partial(self.book.give_sign, call))
 
     def reply(self, sender, cookie, answer):
         octets = cookie + b" " + encoded(answer)
@@ -152,6 +176,11 @@ class Server:
 
     # ---- requests
 
+    def timed(self, message):
+        began, answer, command = time.monotonic(), self.obeyed(message), text_of(command_of(message))
+        self.answered(command if command in COMMANDS else ANOTHER, answer["result"], time.monotonic() - began)
+        return answer
+
     def obeyed(self, message):
         """The answer to a message, whatever it is."""
         name = f"{text_of(command_of(message))} of {text_of(call_of(message))}"
@@ -167,11 +196,19 @@ class Server:
         except Gone as gone:
             return self.error(name, f"the gateway has ended: {gone}")
         except Exception as fault:  # A fault of this program's own ends one request, and not all calls.
-            traceback.print_exc()
+            self.failed()
             return self.error(name, f"the daemon failed at this request: {type(fault).__name__}")
 
+    def failed(self):
+        """Tells of a fault of this program's own, and where it stands. What it says itself may hold a key."""
+        kind, _, trace = sys.exc_info()
+        for line in "".join(traceback.format_tb(trace)).splitlines():
+            self.log(line)
+        self.log(f"a fault of the daemon's own: {kind.__name__}")
+
     def error(self, name, reason):
-        self.refused[name.split(" ", 1)[0]] += 1
+        command = name.split(" ", 1)[0]
+        self.refused[command if command in COMMANDS else ANOTHER] += 1
         self.log(f"{name} {reason if reason.startswith('refused') else f'refused: {reason}'}")
         return error(reason)
 
@@ -185,11 +222,9 @@ class Server:
         return error(LIMIT_OF_OLD)
 
     def does(self, command):
-        commands = {"offer": self.offer, "answer": self.answer, "delete": self.delete, "query": self.query,
-                    "list": self.list, "statistics": self.statistics}
-        if command not in commands:
+        if command not in COMMANDS:
             raise Bad('Dictionary contains no key "command"' if not command else f"Unrecognized command {command}")
-        return commands[command]
+        return getattr(self, command)
 
     def offer(self, request):
         return {"sdp": self.book.offer(request)}

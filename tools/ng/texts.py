@@ -14,6 +14,8 @@ NOWHERE = b"0.0.0.0"
 CONNECTION = re.compile(rb"c=IN IP4 ([0-9.]+)")
 ORIGIN = re.compile(rb"^(o=\S+ \S+ \S+ IN) IP[46] \S+")
 SECURED = {b"RTP/AVP": b"RTP/SAVP", b"RTP/AVPF": b"RTP/SAVPF"}
+# By these a side says that it doesn't talk, or doesn't listen (RFC 8866, 6.7).
+DIRECTIONS = {b"a=sendrecv", b"a=sendonly", b"a=recvonly", b"a=inactive"}
 
 
 def printed(found):
@@ -35,6 +37,14 @@ def addresses(text):
 def holds(text):
     """Whether it holds by naming no address at all."""
     return set(addresses(text)) == {NOWHERE}
+
+
+def is_quiet(text):
+    """Whether none of its active media goes both ways, as while a call is held (RFC 3264, 8.4)."""
+    session, *rest = parts(text)
+    active = [part for part, words in zip(rest, media(text)) if words[1:2] != [b"0"]]
+    ways = [[line for line in [*session, *part] if line in DIRECTIONS][-1:] for part in active]
+    return holds(text) or bool(active) and all(way not in ([], [b"a=sendrecv"]) for way in ways)
 
 
 def addressed(text, source, known=None):
@@ -79,8 +89,10 @@ def profiled(text, protos):
 
 
 def secured(text):
-    """The text of a telephone that encrypts though its profile doesn't say so, as the gateway takes it."""
-    return profiled(text, [SECURED.get(proto, proto) for proto in profiles(text)])
+    """The text of a telephone that encrypts though its profile doesn't say so, as the gateway takes it: media with keys
+    have the profile that says it."""
+    keyed = [has_keys(printed([part])) for part in parts(text)[1:]]
+    return profiled(text, [SECURED.get(proto, proto) if own else proto for own, proto in zip(keyed, profiles(text))])
 
 
 def unmuxed(text):

@@ -102,4 +102,5 @@ def statistics_of(book, refused, began):
             "rejectedsessions": counts["full"], "timeoutsessions": counts["idle"],
             "regularterminatedsessions": counts["deleted"], "forcedterminatedsessions": counts["gone"],
             "relayedpackets": arrived["packets"], "relayedpacketerrors": sum(dropped.values())},
-        "refused": dict(refused), "drops": dict(dropped), "draining": book.driver.draining}
+        "refused": dict(refused), "drops": dict(dropped), "draining": book.driver.draining,
+        "late milliseconds": round(1000 * book.driver.late), "waiting octets": sum(book.driver.waiting.values())}

@@ -94,6 +94,8 @@ FAULTS = [
      f"field 3 of `psk`, SECRET: Hex: `o` isn't a hexadecimal digit {HEX_HINT}"),
     ("a pre-shared key of one octet", "psk sip:gw@a sip:bob@b 00\n", 2, 24, "Length",
      "field 3 of `psk`, SECRET: Length: the pre-shared key has 1 octets; it has to have 16 to 64"),
+    ("the longest line", "x" * 69_999 + "\n", 2, 1, "Word", f"Word: `{'x' * 40}` isn't a word of a script"),
+    ("an octet more", "x" * 70_000 + "\n", 2, 70_001, "Length", "Length: the line has 70001 octets; 70000 are the most"),
     ("CRLF behind the header", "bye 1\r\n", 2, 6, "Number",
      "Number: the line ends with a carriage return (CRLF): lines end with a line feed alone"),
 ]
@@ -126,6 +128,8 @@ def sdes(said, column=0):
 # Refusals: name, lines, what is said of them but for the sentence of docs/refusals.md, the gateway's cause.
 REFUSALS = [
     ("the same key both ways", manual(second=f"{SUITE}:{KEY}"),
+     "line 2: the key of line 2, field 7 is that of line 2, field 6: KeyReused, a key serves once", "1 KeyReused 0"),
+    ("the same key with another salt", manual(second=f"{SUITE}:{KEY[:32]}{'ff' * 14}"),
      "line 2: the key of line 2, field 7 is that of line 2, field 6: KeyReused, a key serves once", "1 KeyReused 0"),
     ("no last line end", offer(SECURE[:-2]), "line 2: line 7 of its text, column 83: the last line has no line end",
      "1 Sdp 7 Form"),
@@ -217,6 +221,12 @@ def check_captures():
             yield f"{script}: says {lines}"
 
 
+def check_renewal():
+    """Whether an answer by MIKEY is accepted hangs on its keys, so the offer behind it isn't told as refused."""
+    script = (ROOT / "interop/rows/mikey-by-the-gateway.script").read_bytes()
+    return [line for line in Why(script).lines() if "refused (State)" in line]
+
+
 def check_rows():
     """Every script of a replay, with one port for RTP and RTCP or not, and of a bridge, whose outcomes are worked out by
     hand."""
@@ -241,6 +251,7 @@ def main():
     program = sys.argv[1]
     bad, count = check_rows()
     bad += check_captures()
+    bad += check_renewal()
     for name, script, line, column, fault, words in FAULTS:
         assert f"{fault}: " in words
         bad += check_fault(program, name, b"srtpgw 1\n" + script.encode(), line, column, words)

@@ -109,6 +109,24 @@ def one_call(world):
     check("a full socket", "12 datagrams were lost in front of the full socket of secure RTP" in world.says())
 
 
+def from_elsewhere(folder):
+    """Packets that come from another place than they go to."""
+    world = World(folder)
+    world.tell("made 1 0 1", "live 1")
+    world.look()
+    world.count(arrived={20_000: (9, 1, 0), 20_002: (9, 1, 0)}, left={20_000: (9, 1, 0), 20_002: (9, 1, 0)})
+    here, there, old = {20_000: {"10.1.0.2:4": 0}}, {20_000: {"10.1.0.2:8": 1}}, {20_000: {"10.1.0.2:8": 1, "10.1.0.2:4": 9}}
+    for targets, wanted in ((here, 0), (there, 1), (old, 1), ({}, 0)):
+        world.seen = {**world.seen, "sources": here, "targets": targets}
+        said = [one for one in world.says(6) if "come from 10.1.0.2:4, and media go to 10.1.0.2:8" in one]
+        check(f"from elsewhere: {targets}", len(said) == wanted)
+    check("and for Prometheus", 'srtpgw_troubled_media{trouble="elsewhere"} 0' in prometheus(world.look()))
+    listed = {"name": "sources", "type": ["inet_service", "ipv4_addr", "inet_service"], "timeout": 60,
+              "elem": [{"elem": {"val": {"concat": [20_000, "10.1.0.2", 4]}, "expires": 58}}]}
+    check("places that nft lists", counts(json.dumps({"nftables": [{"set": listed}]})) == {
+        "sources": {20_000: {"10.1.0.2:4": 2}}})
+
+
 def late_look(folder):
     """What was counted before a log began is no call's of it."""
     world = World(folder)
@@ -141,6 +159,12 @@ def next_call(world):
     check("calls of a process that has ended", view["calls"] == [] and view["totals"]["ended"]["gone"] == 1)
     world.log.write_text("made 1 1 1\nlive 1\n")
     check("a log that was begun anew", [call["call"] for call in world.look()["calls"]] == ["1"])
+    world.tell("drop 20016 BadTag")
+    world.log.rename(world.log.with_suffix(".1"))
+    world.log.write_text("there 1 1 1 live\ndrop 20016 BadTag\n")
+    view = world.look()
+    check("a log that was moved away", [(call["call"], call["state"]) for call in view["calls"]] == [("1", "live")]
+          and leg(view, "secure RTP")["drops"] == {"BadTag": 2} and view["totals"]["made"] == 4)
 
 
 def shapes(world):
@@ -160,7 +184,7 @@ def shapes(world):
 
     world.watch.sets = fails
     view = world.look()
-    check("no counters", view["fault"] == "nft: not here" and "srtpgw_up 0" in prometheus(view)
+    check("no counters", view["fault"] == "nft: not here" and "srtpgw_counters_up 0" in prometheus(view)
           and "nft: not here" in screen(view)[1])
 
 
@@ -172,6 +196,7 @@ def main():
         next_call(world)
         shapes(world)
         late_look(Path(folder))
+        from_elsewhere(Path(folder))
     bad = [what for what, holds in CLAIMS if not holds]
     print(*(f"NOT SO: {what}" for what in bad), sep="\n", end="\n" * bool(bad))
     print(f"watching: {len(CLAIMS)} looked at, {len(bad)} are otherwise")

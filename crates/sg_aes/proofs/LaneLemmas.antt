@@ -136,19 +136,19 @@ turn_3 q b c p =
     ∙ xor_right q (bit_xor b c) p ∙ ap (λ x. bit_xor x p) (xor_right q b c)
 
 -- what is computed of a column at each row, for the octets b and c that follow a, and what is left
-row_0 : (a b c d : ℕ) → a < 256 → b < 256 → c < 256 → d < 256 → bit_xor (bit_xor (times_x (bit_xor a b)) b) (bit_xor c d) ≡ row_times 0 a b c d
+pub row_0 : (a b c d : ℕ) → a < 256 → b < 256 → c < 256 → d < 256 → bit_xor (bit_xor (times_x (bit_xor a b)) b) (bit_xor c d) ≡ row_times 0 a b c d
 row_0 a b c d ha hb hc hd =
     rw (two_and_three a b ha hb, times_one c hc, times_one d hd) (xor_right _ c d)
 
-row_1 : (a b c d : ℕ) → a < 256 → b < 256 → c < 256 → d < 256 → bit_xor (bit_xor (times_x (bit_xor b c)) c) (bit_xor d a) ≡ row_times 1 a b c d
+pub row_1 : (a b c d : ℕ) → a < 256 → b < 256 → c < 256 → d < 256 → bit_xor (bit_xor (times_x (bit_xor b c)) c) (bit_xor d a) ≡ row_times 1 a b c d
 row_1 a b c d ha hb hc hd =
     rw (two_and_three b c hb hc, times_one a ha, times_one d hd) (turn_1 a (product 2 b) (product 3 c) d)
 
-row_2 : (a b c d : ℕ) → a < 256 → b < 256 → c < 256 → d < 256 → bit_xor (bit_xor (times_x (bit_xor c d)) d) (bit_xor a b) ≡ row_times 2 a b c d
+pub row_2 : (a b c d : ℕ) → a < 256 → b < 256 → c < 256 → d < 256 → bit_xor (bit_xor (times_x (bit_xor c d)) d) (bit_xor a b) ≡ row_times 2 a b c d
 row_2 a b c d ha hb hc hd =
     rw (two_and_three c d hc hd, times_one a ha, times_one b hb) (turn_2 a b (product 2 c) (product 3 d))
 
-row_3 : (a b c d : ℕ) → a < 256 → b < 256 → c < 256 → d < 256 → bit_xor (bit_xor (times_x (bit_xor d a)) a) (bit_xor b c) ≡ row_times 3 a b c d
+pub row_3 : (a b c d : ℕ) → a < 256 → b < 256 → c < 256 → d < 256 → bit_xor (bit_xor (times_x (bit_xor d a)) a) (bit_xor b c) ≡ row_times 3 a b c d
 row_3 a b c d ha hb hc hd =
     rw (two_and_three d a hd ha, times_one b hb, times_one c hc) (turn_3 (product 3 a) b c (product 2 d))
 
@@ -161,7 +161,7 @@ nibbles_xor a b ha hb =
     agree 0 (λ b. bit_xor (nibbles a) (nibbles b)) (λ b. nibbles (bit_xor a b)) 256 (agree [] f g 256 refl a ha) b hb
 
 -- the constant in two terms of a sum is none
-both_without : (a b : ℕ) → bit_xor (without a) (without b) ≡ bit_xor a b
+pub both_without : (a b : ℕ) → bit_xor (without a) (without b) ≡ bit_xor a b
 both_without a b =
     xor_assoc a 0x63 (bit_xor b 0x63) ∙ ap (bit_xor a) (ap (bit_xor 0x63) (xor_comm b 0x63) ∙ sym (xor_assoc 0x63 0x63 b))
 
@@ -182,7 +182,7 @@ abbrev two : ℕ → ℕ
 two a = nibbles (times_x (without a))
 
 -- the constant out of a sum of two
-without_out : (p q : ℕ) → bit_xor (without p) q ≡ without (bit_xor p q)
+pub without_out : (p q : ℕ) → bit_xor (without p) q ≡ without (bit_xor p q)
 without_out p q = xor_assoc p 0x63 q ∙ ap (bit_xor p) (xor_comm 0x63 q) ∙ sym (xor_assoc p q 0x63)
 
 -- what is computed at an octet, of the octets a, b, c and d of its column from there on
@@ -254,7 +254,7 @@ round_is n state key o t k h hk ek eo et = record {
 pub key_nibbles_is : {w : ℕ} (key kn : List ℕ) → length key ≡ w → kn ≡ map nibbles (zip2 bit_xor key (replicate w 0x63)) → kn ≡ map key_nibbles key
 key_nibbles_is {w} key kn long e = e ∙ ap (map nibbles) (zip2_splat bit_xor key w 0x63 long) ∙ map-map nibbles without key
 
-each_at : (x : List ℕ) → Each1 (Fits w8) x → (i : ℕ) → slice_index x i < 256
+pub each_at : (x : List ℕ) → Each1 (Fits w8) x → (i : ℕ) → slice_index x i < 256
 each_at [] h i = omega arith
 each_at (v ∷ x) h zero = h.0.fits
 each_at (v ∷ x) h (suc i) = each_at x h.1 i

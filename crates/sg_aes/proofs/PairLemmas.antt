@@ -1,18 +1,19 @@
 -- Two states side by side in a vector of 32 octets.
-use Rattle.std.proofs.Common.{◌≡◌, ℕ, suc, ◌+◌, ◌*◌, ◌<◌, ◌≤◌, ◌/◌, ◌||◌, Bool, true, false, cond, T, leb, ltb, ltb-true, List, [], ◌∷◌, ◌++◌, inl, inr, refl, ap, ap₂, ◌∙◌, sym, subst, arith, length, map, replicate, bit_xor, w8, get_or}
+use Rattle.std.proofs.Common.{◌≡◌, ℕ, suc, ◌+◌, ◌*◌, ◌<◌, ◌≤◌, ◌/◌, ◌||◌, Bool, true, false, cond, T, leb, ltb, ltb-true, List, [], ◌∷◌, ◌++◌, inl, inr, refl, ap, ap₂, ◌∙◌, sym, subst, arith, length, map, replicate, bit_xor, w8, Fits, get_or, take, drop}
 use Rattle.std.specs.Prelude.{slice_index}
 use Rattle.std.specs.List.{range_with_len}
 use Rattle.std.specs.Simd.Lanes.{zip2, Each1}
 use lib.Lanes.{pick_l}
 use Rattle.std.proofs.lemmas.Bool.{cases_lt}
-use Rattle.std.proofs.lemmas.List.{length-map, map-append, length-append, get_or_append_left, get_or-append-add}
+use Rattle.std.proofs.lemmas.List.{length-map, map-append, length-append, length-drop, length-take-le, get_or-drop, get_or_append_left, get_or-append-add}
 use Rattle.std.proofs.lemmas.List.FromFn.{length-map-range_with_len, get_or-map-range_with_len}
-use Rattle.std.proofs.lemmas.Simd.{swz_l, SwzOk, SwzOk-from_Each1, pick_l_whole, map-map}
+use Rattle.std.proofs.lemmas.Simd.{swz_l, SwzOk, SwzOk-from_Each1, pick_l_whole, map-map, chunk-drop, Each1-chunk}
 use Rattle.std.proofs.lemmas.Grind.{same_number_lists}
+use lib.Seq.{take-append_seam, drop-append_seam}
 use Rattle.sg_aes.specs.Lanes.{IsPlace, IsState, HasBoth, look, nibbles, once, twice, substituted, key_nibbles}
 use Rattle.sg_aes.specs.Field.{sub_byte}
 use Rattle.sg_aes.specs.State.{state_by, add_round_key, round, last_round}
-use Rattle.sg_aes.proofs.LaneLemmas.{IsOctets, HasNibbles, key_nibbles_is, map_sub, picked, rows, round_lanes, round_is, last_round_is, keyed_is}
+use Rattle.sg_aes.proofs.LaneLemmas.{IsOctets, HasNibbles, key_nibbles_is, map_sub, picked, rows, round_lanes, round_is, last_round_is, each_at, keyed_is}
 
 -- ---- look-ups
 
@@ -151,10 +152,6 @@ pair_last_is n s t key z kk h hk ez ek =
     ∙ ap₂ (λ a b. a ++ b) (last_round_is (map nibbles s) s key (map substituted (map nibbles s)) (alone s h.first_octets) hk refl)
     (last_round_is (map nibbles t) t key (map substituted (map nibbles t)) (alone t h.second_octets) hk refl)
 
-pub length-last_round : (s key : List ℕ) → length (last_round s key) ≡ 16
-unfolding last_round
-length-last_round s key = refl
-
 -- ---- the first key
 
 zip2-append : (f : ℕ → ℕ → ℕ) (x k y l : List ℕ) → length x ≡ length k → zip2 f (x ++ y) (k ++ l) ≡ zip2 f x k ++ zip2 f y l
@@ -178,6 +175,20 @@ pair_keyed_is x y key xy kk n hx hy fx fy hk exy ekk en =
           en ∙ ap (map nibbles) (ap₂ (zip2 bit_xor) exy ekk ∙ added_by_halves x y key hx hy hk.0)
           ∙ map-append nibbles (zip2 bit_xor x key) (zip2 bit_xor y key) ∙ ap₂ (λ a b. a ++ b) f.in_nibbles g.in_nibbles;
     }
+
+pub first_of_both : (x y : List ℕ) → length x ≡ 16 → take 16 (x ++ y) ≡ x
+first_of_both x y h = ap (λ (n : ℕ). take n (x ++ y)) (sym h) ∙ take-append_seam x y
+
+pub second_of_both : (x y : List ℕ) → length x ≡ 16 → drop 16 (x ++ y) ≡ y
+second_of_both x y h = ap (λ (n : ℕ). drop n (x ++ y)) (sym h) ∙ drop-append_seam x y
+
+pub both_keyed_is : (xy key kk n : List ℕ) → IsOctets 32 xy → IsOctets 16 key → kk ≡ key ++ key → n ≡ map nibbles (zip2 bit_xor xy kk)
+    → HasBoth n (add_round_key (take 16 xy) key) (add_round_key (drop 16 xy) key)
+both_keyed_is xy key kk n h hk ekk en =
+    pair_keyed_is (take 16 xy) (drop 16 xy) key xy kk n
+    (length-take-le 16 xy (omega (arith, h.0))) (length-drop 16 xy ∙ omega (arith, h.0))
+    (each_at (take 16 xy) (Each1-chunk (Fits w8) 0 16 xy h.1)) (λ i. subst (λ (x : ℕ). x < 256) (sym (get_or-drop 16 xy i 0)) (each_at xy h.1 (16 + i)))
+    hk (chunk-drop 0 16 xy) ekk en
 
 pub both_as : {n s t u v : List ℕ} → s ≡ u → t ≡ v → HasBoth n s t → HasBoth n u v
 both_as {n} {s} {t} {u} {v} es et h = subst (λ x. HasBoth n x v) es (subst (HasBoth n s) et h)

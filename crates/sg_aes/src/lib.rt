@@ -3,7 +3,10 @@
 
 mod keys;
 pub mod laws;
+mod planes;
 mod schedule;
+mod sixteen;
 mod vectors;
 
 pub use schedule::Schedule;
+pub use sixteen::KeyPlanes;

@@ -1,12 +1,17 @@
 //! A key with its round keys, and the encryption of blocks under it.
 
-ghost use Rattle.std.specs.Prelude.{◌≡◌, ◌+◌, ◌≤◌, ℕ, List, length, map, IsSome, IfSome, ◌↔◌};
+ghost use Rattle.std.specs.Prelude.{◌≡◌, ◌+◌, ◌≤◌, ℕ, List, ◌++◌, length, map, take, drop, IsSome, IfSome, ◌↔◌};
+ghost use Rattle.std.specs.List.{range_with_len};
 ghost use Rattle.sg_aes.specs.Cipher.{aes_encrypt};
+ghost use Rattle.sg_aes.specs.Numbered.{numbered};
+ghost use Rattle.sg_aes.specs.Planes.{ArePlanesOf};
 ghost use Rattle.sg_aes.specs.Schedule.{key_of, IsKeyLength, IsSchedule};
 
 use crate::keys::{RoundKeys, Words, expand, kept_key, kept_keys, round_key};
-use crate::vectors::{doubled, keyed, last_round, round};
+use crate::sixteen::{KeyPlanes, key_planes, sixteen};
+use crate::vectors::{beside, doubled, halves, keyed, last_round, round};
 use std::marker::Model;
+use std::simd::prelude::*;
 
 // The number of rounds under a key of so many words: 10, 12 or 14.
 fn round_count(key_words: usize) -> usize
@@ -65,12 +70,7 @@ impl Schedule {
     pub fn two(&self, parts: &mut [[u8; 16]; 2])
         ensures { parts.new ≡ map (aes_encrypt self.now) parts.old }
     {
-        let last = round_count(self.key_words);
-        let mut both = keyed(&parts[0], &parts[1], round_key(&self.words, 0));
-        'rounds: for r in 1..last {
-            both = round(both, doubled(kept_key(&self.kept, r)));
-        }
-        let (a, b) = last_round(both, round_key(&self.words, last));
+        let (a, b) = halves(self.pair(beside(&parts[0], &parts[1])));
         *parts = [a, b];
     }
 
@@ -78,18 +78,63 @@ impl Schedule {
     pub fn four(&self, parts: &mut [[u8; 16]; 4])
         ensures { parts.new ≡ map (aes_encrypt self.now) parts.old }
     {
+        let one = beside(&parts[0], &parts[1]);
+        let other = beside(&parts[2], &parts[3]);
+        let (left, right) = self.pairs(one, other);
+        let (a, b) = halves(left);
+        let (c, d) = halves(right);
+        *parts = [a, b, c, d];
+    }
+
+    /// The encryptions of two blocks that stand side by side, side by side.
+    #[inline(always)]
+    pub fn pair(&self, blocks: u8x32) -> u8x32
+        ensures { result
+            ≡ aes_encrypt self.now (take 16 blocks) ++ aes_encrypt self.now (drop 16 blocks) }
+    {
+        let last = round_count(self.key_words);
+        let mut both = keyed(blocks, round_key(&self.words, 0));
+        'rounds: for r in 1..last {
+            both = round(both, doubled(kept_key(&self.kept, r)));
+        }
+        last_round(both, round_key(&self.words, last))
+    }
+
+    /// The encryptions of two pairs of blocks, each pair side by side.
+    #[inline(always)]
+    pub fn pairs(&self, one: u8x32, other: u8x32) -> (u8x32, u8x32)
+        ensures one { result.0
+            ≡ aes_encrypt self.now (take 16 one) ++ aes_encrypt self.now (drop 16 one) }
+        ensures other { result.1
+            ≡ aes_encrypt self.now (take 16 other) ++ aes_encrypt self.now (drop 16 other) }
+    {
         let last = round_count(self.key_words);
         let first = round_key(&self.words, 0);
-        let mut left = keyed(&parts[0], &parts[1], first);
-        let mut right = keyed(&parts[2], &parts[3], first);
+        let mut left = keyed(one, first);
+        let mut right = keyed(other, first);
         'rounds: for r in 1..last {
             let key = doubled(kept_key(&self.kept, r));
             left = round(left, key);
             right = round(right, key);
         }
         let key = round_key(&self.words, last);
-        let (a, b) = last_round(left, key);
-        let (c, d) = last_round(right, key);
-        *parts = [a, b, c, d];
+        (last_round(left, key), last_round(right, key))
+    }
+
+    /// The planes of the round keys, which `sixteen` takes.
+    pub fn planes(&self) -> KeyPlanes
+        ensures { ArePlanesOf self.now result }
+    {
+        key_planes(&self.words, round_count(self.key_words))
+    }
+
+    /// The encryptions of sixteen blocks (FIPS 197, 5.1), which are a base with the numbers 0 to 15 put onto
+    /// its last octet by XOR.
+    pub fn sixteen(&self, planes: &KeyPlanes, base: &[u8; 16]) -> [[u8; 16]; 16]
+        requires { ArePlanesOf self.now planes.now }
+        ensures { result
+            ≡ map (λ n. aes_encrypt self.now (numbered base.now n)) (range_with_len 0 16) }
+    {
+        sixteen(planes, round_count(self.key_words), base)
     }
 }

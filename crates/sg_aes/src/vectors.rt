@@ -4,7 +4,7 @@
 //! octets. Between rounds a state stays in nibbles, since they are linear over GF(2), as the columns' step
 //! and the key's addition are. One state alone is taken twice.
 
-ghost use Rattle.std.specs.Prelude.{◌≡◌, ℕ, List, ◌++◌, length, map};
+ghost use Rattle.std.specs.Prelude.{◌≡◌, ℕ, List, ◌++◌, length, map, take, drop};
 ghost use Rattle.std.specs.Simd.Lanes.{Each1};
 ghost use Rattle.sg_aes.specs.Field.{sub_byte};
 ghost use Rattle.sg_aes.specs.State.{round, last_round, add_round_key};
@@ -92,10 +92,20 @@ pub(crate) fn doubled(x: u8x16) -> u8x32
     joined(x, x)
 }
 
-// The two halves of a vector.
+/// Two blocks side by side.
 #[inline(always)]
-fn halves(n: u8x32) -> ([u8; 16], [u8; 16])
-    ensures { (x y : List ℕ) → length x ≡ 16 → length y ≡ 16 → n ≡ x ++ y → (result.0 ≡ x) × (result.1 ≡ y) }
+pub(crate) fn beside(one: &[u8; 16], other: &[u8; 16]) -> u8x32
+    ensures first { take 16 result ≡ one.now }
+    ensures second { drop 16 result ≡ other.now }
+{
+    joined(u8x16::from_array(*one), u8x16::from_array(*other))
+}
+
+/// The two halves of a vector.
+#[inline(always)]
+pub(crate) fn halves(n: u8x32) -> ([u8; 16], [u8; 16])
+    ensures { (x y : List ℕ) → length x ≡ 16 → length y ≡ 16 → n ≡ x ++ y
+        → (result.0 ≡ x) × (result.1 ≡ y) }
 {
     let low = n.swizzle([0, 1, 2, 3, 4, 5, 6, 7, 8, 9, 10, 11, 12, 13, 14, 15]);
     let high = n.swizzle([
@@ -204,26 +214,25 @@ pub(crate) fn round(n: u8x32, key: u8x32) -> u8x32
     ((a ^ b) ^ (c ^ d)) ^ key
 }
 
-/// The last round on the nibbles of two states, which makes both encryptions.
+/// The last round on the nibbles of two states, which makes both encryptions, side by side.
 #[inline(always)]
-pub(crate) fn last_round(n: u8x32, key: u8x16) -> ([u8; 16], [u8; 16])
-    ensures { (s t : List ℕ) → HasBoth n s t
-        → (result.0 ≡ last_round s key) × (result.1 ≡ last_round t key) }
+pub(crate) fn last_round(n: u8x32, key: u8x16) -> u8x32
+    ensures { (s t : List ℕ) → HasBoth n s t → result ≡ last_round s key ++ last_round t key }
 {
     let s = substituted(n);
     let turned = s.swizzle([
         0, 5, 10, 15, 4, 9, 14, 3, 8, 13, 2, 7, 12, 1, 6, 11, 16, 21, 26, 31, 20, 25, 30, 19, 24,
         29, 18, 23, 28, 17, 22, 27,
     ]);
-    halves(turned ^ doubled(key))
+    turned ^ doubled(key)
 }
 
-/// The nibbles of two blocks with the first round key added.
+/// The nibbles of two blocks that stand side by side, with the first round key added.
 #[inline(always)]
-pub(crate) fn keyed(one: &[u8; 16], other: &[u8; 16], key: u8x16) -> u8x32
-    ensures { HasBoth result (add_round_key one.now key) (add_round_key other.now key) }
+pub(crate) fn keyed(blocks: u8x32, key: u8x16) -> u8x32
+    ensures { HasBoth result
+        (add_round_key (take 16 blocks) key) (add_round_key (drop 16 blocks) key) }
 {
-    let blocks = joined(u8x16::from_array(*one), u8x16::from_array(*other));
     nibbles(blocks ^ doubled(key))
 }
 

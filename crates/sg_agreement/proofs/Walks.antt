@@ -43,12 +43,3 @@ module _ {X Y : Type 0} (value : ℕ → X → descriptions.Medium → Result Y 
   pub kept_next : (done : List (Option Y)) (k : ℕ) (active : Bool) (others : List Bool) (x : Option X) (xs : List (Option X)) (n : descriptions.Medium) (ns : List descriptions.Medium)
       → prefixed done (each_kept value k (active ∷ others) (x ∷ xs) (n ∷ ns)) ≡ after_ok (if_kept active x (λ x. value k x n)) (λ y. prefixed (done ++ y ∷ []) (each_kept value (k + 1) others xs ns))
   kept_next done k active others x xs n ns = prefixed_next done (if_kept active x (λ x. value k x n)) (each_kept value (k + 1) others xs ns)
-
-  -- the media from the i-th on, of three lists side by side
-  pub kept_at : (done : List (Option Y)) (i : ℕ) (active : Bool) (actives : List Bool) (x : Option X) (xs : List (Option X)) (n : descriptions.Medium) (ns : List descriptions.Medium)
-      → i < length actives → get_or actives i active ≡ active → i < length xs → get_or xs i x ≡ x → i < length ns → get_or ns i n ≡ n
-      → prefixed done (each_kept value i (drop i actives) (drop i xs) (drop i ns))
-      ≡ after_ok (if_kept active x (λ x. value i x n)) (λ y. prefixed (done ++ y ∷ []) (each_kept value (i + 1) (drop (i + 1) actives) (drop (i + 1) xs) (drop (i + 1) ns)))
-  kept_at done i active actives x xs n ns la a lx ax ln an =
-      (λ j. prefixed done (each_kept value i (split_at i active actives la a j) (split_at i x xs lx ax j) (split_at i n ns ln an j)))
-      ∙ kept_next done i active (drop (i + 1) actives) x (drop (i + 1) xs) n (drop (i + 1) ns)

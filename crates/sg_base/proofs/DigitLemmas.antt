@@ -16,9 +16,6 @@ value d = d % 16 + 9 * (d / 64)
 pub value_is : (d : ℕ) → is_lower d ≡ true → lower_digit d ≡ Some (value d)
 value_is d e = grind (arith)
 
-pub value_small : (d : ℕ) → is_lower d ≡ true → value d < 16
-value_small d e = grind (arith)
-
 pub value_of : (d v : ℕ) → lower_digit d ≡ Some v → v ≡ value d
 value_of d v e = grind (arith)
 
@@ -31,22 +28,6 @@ pub lower_at : (t : List ℕ) (k : ℕ) → list_all is_lower t ≡ true → k <
 lower_at [] k all h = absurd (omega arith)
 lower_at (d ∷ t) zero all h = (both (is_lower d) (list_all is_lower t) all).0
 lower_at (d ∷ t) (suc k) all h = lower_at t k (both (is_lower d) (list_all is_lower t) all).1 (omega arith)
-
-and_assoc : (a b c : Bool) → ((a && b) && c) ≡ (a && (b && c))
-and_assoc true b c = refl
-and_assoc false b c = refl
-
-and_true : (a : Bool) → (a && true) ≡ a
-and_true true = refl
-and_true false = refl
-
--- one more of them
-pub all_more : (t : List ℕ) (k : ℕ) → k < length t → list_all is_lower (take (k + 1) t) ≡ (list_all is_lower (take k t) && is_lower (slice_index t k))
-all_more [] k h = absurd (omega arith)
-all_more (d ∷ t) zero h = and_true (is_lower d)
-all_more (d ∷ t) (suc k) h =
-    let next : suc k + 1 ≡ suc (k + 1) = omega arith in
-    ap (λ (n : ℕ). list_all is_lower (take n (d ∷ t))) next ∙ ap (λ (x : Bool). is_lower d && x) (all_more t k (omega arith)) ∙ sym (and_assoc (is_lower d) (list_all is_lower (take k t)) (is_lower (slice_index t k)))
 
 -- the octet of the two digits of values h and l
 abbrev pub octet_of : List ℕ → ℕ → ℕ

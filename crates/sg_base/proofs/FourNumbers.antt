@@ -127,10 +127,3 @@ address_takes t a e =
     let made : Address = record { ip = f.0; port = n.0 } in
     let spelled : t ≡ address_text made = behind t w.0.0 w.0.1 (four_text f.0) (decimal n.0) (cut_takes 58 t w.0.0 w.0.1 w.1) ft.0 nt.0 in
     subst (λ (x : Address). (t ≡ address_text x) × IsAddress x) (some_is made a n.2) (spelled, record { ip = ft.1; port = nt.1 })
-
--- no octet of an address is a space
-pub address_lacks : (a : Address) → IsAddress a → Lacks 32 (address_text a)
-address_lacks a fits =
-    let small = fits.port in
-    lacks_append 32 _ (decimal a.port) (lacks_append 32 (four_text a.ip) (58 ∷ []) (four_lacks 32 a.ip fits.ip (inl (omega arith))) (refl, tt))
-    (decimal_lacks 32 a.port (omega (arith, small)) (inl (omega arith)))

@@ -5,6 +5,5 @@ mod DigitLemmas
 pub mod FourNumbers
 pub mod Lists
 pub mod Pairs
-mod Places
 pub mod SameOctets
 pub mod SuiteLemmas

@@ -46,12 +46,12 @@ module _ (w : World) (calls : Members) where
     passed_keeps (Dropped p cause ∷ os) = (refl, refl)
     passed_keeps (Unsent p to ∷ os) = (refl, refl)
 
-  arrived_keeps : (port : ℕ) (e : Event) (h : Happening) (o : Option ℕ) → Keeps (arrived w calls port e h o)
+  pub arrived_keeps : (port : ℕ) (e : Event) (h : Happening) (o : Option ℕ) → Keeps (arrived w calls port e h o)
   arrived_keeps port e h None = passed_keeps e h.world h.outcomes
   arrived_keeps port e h (Some q) = (refl, refl)
 
 -- What is said begins with these calls, and leaves mates where they are mates.
-abbrev IsStep : Members → Bridging → Type 0
+abbrev pub IsStep : Members → Bridging → Type 0
 IsStep calls b = (b.pairs ≡ calls) × (AreMates calls → AreMates b.calls)
 
 joining_step : (w : World) (calls : Members) (first second : CallId) (j : Joining) → joined first second calls ≡ j → IsStep calls (joining w calls first second j)
@@ -62,7 +62,7 @@ parting_step : (w : World) (calls : Members) (call : CallId) (r : Result Parting
 parting_step w calls call (Ok p) is = (refl, λ mates. parting_mates calls call p mates is)
 parting_step w calls call (Err cause) is = (refl, λ mates. mates)
 
-said_step : (w : World) (calls : Members) (s : Said) → IsStep calls (bridging w calls s)
+pub said_step : (w : World) (calls : Members) (s : Said) → IsStep calls (bridging w calls s)
 said_step w calls (Happens (Signalled signal)) = (refl, λ mates. told_mates calls (step w (Signalled signal)).outcomes mates)
 said_step w calls (Happens (Datagram port from d)) =
     let keeps = arrived_keeps w calls port (Datagram port from d) (step w (Datagram port from d)) (onward calls port) in
@@ -79,3 +79,10 @@ each_both_ways w calls (s ∷ ss) mates = (both_ways w calls s mates, each_both_
 
 pub all_both_ways : (said : List Said) → All GoesBothWays (bridgings_from empty no_members said)
 all_both_ways said = All-from_recursion GoesBothWays _ (each_both_ways empty no_members said no_members_mates)
+
+each_mates : (w : World) (calls : Members) (said : List Said) → AreMates calls → AllByRecursion (λ b. AreMates b.pairs) (bridgings_from w calls said)
+each_mates w calls [] mates = tt
+each_mates w calls (s ∷ ss) mates = (subst AreMates (sym (said_step w calls s).0) mates, each_mates (bridging w calls s).world (bridging w calls s).calls ss ((said_step w calls s).1 mates))
+
+pub all_mates : (said : List Said) → AllByRecursion (λ b. AreMates b.pairs) (bridgings_from empty no_members said)
+all_mates said = each_mates empty no_members said no_members_mates

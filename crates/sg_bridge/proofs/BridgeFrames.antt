@@ -94,13 +94,6 @@ bridge_whole version number t whole is = go (is_script_line number t) (sym (brid
 
 -- ---- the first nine fields decide
 
-pub first_nine : (other : Result BridgeLine ScriptFault) (fs : List (List ℕ)) → bridge_said_by other (take 9 fs) ≡ bridge_said_by other fs
-first_nine other [] = refl
-first_nine other (a ∷ []) = refl
-first_nine other (a ∷ b ∷ []) = refl
-first_nine other (a ∷ b ∷ c ∷ []) = refl
-first_nine other (a ∷ b ∷ c ∷ d ∷ more) = refl
-
 -- other numbers of fields are those of a script's line
 pub few_fields : {A : Type 0} (text : A → List ℕ) (other : Result BridgeLine ScriptFault) (fs : List A) → length fs < 2 → bridge_said_by other (map text fs) ≡ other
 few_fields text other [] few = refl

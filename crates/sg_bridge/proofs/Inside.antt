@@ -3,9 +3,10 @@ use Rattle.std.proofs.Common.{◌≡◌, inl, inr, ◌⊎◌, ℕ, ◌+◌, ◌-
 use Rattle.std.specs.Prelude.{◌&&◌, option_to_list}
 use Rattle.std.proofs.lemmas.Bool.{and_parts, leb-true}
 use Rattle.std.proofs.lemmas.Bool.Decides.{leb_tells}
-use Rattle.std.proofs.lemmas.List.Elements.{All-from_recursion}
+use Rattle.std.proofs.lemmas.List.Elements.{All-from_recursion, recursion_from_All}
 use Rattle.std.specs.List.{All, Any, AllByRecursion}
 use Rattle.std.specs.Option.{option_map}
+use Rattle.sg_base.proofs.Cases.{none_some}
 use Rattle.sg_base.specs.declared.addresses.Address.{Address}
 use Rattle.sg_base.specs.declared.addresses.CallId.{CallId}
 use Rattle.sg_base.specs.declared.faults.DropCause.TheVariants.{PortUnused}
@@ -14,21 +15,23 @@ use Rattle.sg_gateway.proofs.OnlySeals.{signal_quiet}
 use Rattle.sg_gateway.proofs.SealsOut.{LeavesSealed, seals_leave_at}
 use Rattle.sg_gateway.specs.Coming.{IsSealedFrom}
 use Rattle.sg_gateway.specs.Datagrams.{Put}
-use Rattle.sg_gateway.specs.Legs.{secure_leg_port}
 use Rattle.sg_gateway.specs.Octets.{Octets, as_octets}
 use Rattle.sg_gateway.specs.Runs.{turn_of}
 use Rattle.sg_gateway.specs.SealedOut.{IsOut, IsSealedOutOf}
 use Rattle.sg_gateway.specs.Step.{Event, Signalled, Datagram, step}
-use Rattle.sg_gateway.specs.World.{Call, World}
+use Rattle.sg_gateway.specs.World.{Call, World, empty}
 use Rattle.sg_outcome.specs.declared.outcomes.Outcome.{Outcome}
 use Rattle.sg_outcome.specs.declared.outcomes.Outcome.TheVariants.{Made, Live, Sdp, Refused, Ended, Out, Dropped, Unsent}
 use Rattle.sg_gateway.specs.PlainOf.{plain_at}
 use Rattle.sg_session.proofs.Lists.{any_cases, any_here, any_none, any_weaker}
 use Rattle.sg_session.specs.declared.names.Direction.TheVariants.{Sealing}
+use Rattle.sg_bridge.proofs.BothWays.{all_both_ways}
+use Rattle.sg_bridge.proofs.Joined.{in_pair_goes_on, joined_goes_on}
 use Rattle.sg_bridge.proofs.PutAt.{Coming, IsDropped, IsPut, PutBy, FromPlain, comes, from_plain, from_secure}
-use Rattle.sg_bridge.specs.Bridged.{Bridging, Crosses, Following, IsSealOf, Said, Happens, Joins, Parts, StaysInside, TellsOut, arrived, behind, bridging, bridgings_from, told_and_parted, handed_on, happened, happens, inner, inner_told, joining, nothing_happens, opened, parting, passed}
+use Rattle.sg_bridge.specs.Bridged.{Bridging, Crosses, Following, GoesBothWays, IsCrossing, IsSealOf, LeavesAt, Said, Happens, Joins, Parts, StaysInside, TellsOut, arrived, behind, bridging, bridgings_from, told_and_parted, handed_on, happened, happens, inner, inner_told, joining, nothing_happens, opened, parting, passed}
+use Rattle.sg_bridge.specs.Joined.{port_of_leg}
 use Rattle.sg_bridge.specs.Onward.{is_plain_port, medium_by_port, onward, onward_in, port_like, slot_by_port}
-use Rattle.sg_bridge.specs.Pairs.{Joining, Members, Parting, vacated, joined, member_at, after_outcome, other_slot, joined_pair, parted_from, tells_parted}
+use Rattle.sg_bridge.specs.Pairs.{Joining, Members, Parting, vacated, joined, member_at, no_members, after_outcome, other_slot, joined_pair, parted_from, tells_parted}
 use Rattle.sg_bridge.specs.declared.faults.JoinFault.{JoinFault}
 use Rattle.sg_bridge.specs.declared.members.Member.{Member}
 use Rattle.sg_bridge.specs.declared.members.Pair.{Pair}
@@ -152,9 +155,12 @@ out_port (tells.Parted first second) = 0
 out_port (tells.Unjoined call cause) = 0
 out_port (tells.Lost port cause) = 0
 
-abbrev first_port : List Outcome → ℕ
-first_port [] = 0
-first_port (o ∷ os) = told_port o
+-- what is told of one packet is that packet
+told_out : (p : ℕ) (t : Address) (d : List ℕ) (port : ℕ) (to : Address) (octets : List ℕ) → Is port to octets (tells.Table (Out p t d)) → Out p t d ≡ Out port to octets
+told_out p t d port to octets is = cc
+
+same_out : (p : ℕ) (t : Address) (d : List ℕ) (port : ℕ) (to : Address) (octets : List ℕ) → Out p t d ∷ [] ≡ Out port to octets ∷ [] → (p ≡ port) × (t ≡ to) × (d ≡ octets)
+same_out p t d port to octets is = ((let same : p ≡ port = cc in same), (let same : t ≡ to = cc in same), (let same : d ≡ octets = cc in same))
 
 -- the one packet that is told
 only_out : (p : ℕ) (t : Address) (d : List ℕ) (port : ℕ) (to : Address) (octets : List ℕ) → Any (Is port to octets) (tells.Table (Out p t d) ∷ [])
@@ -168,17 +174,25 @@ side n = elim (leb_tells 2 ((n - 20000) % 4)) [ inl high ↦ inr high.1 | inr lo
 abbrev TellsNone : Bridging → Type 0
 TellsNone b = (port : ℕ) (to : Address) (octets : List ℕ) → TellsOut b port to octets → ⊥
 
-none_stays : (b : Bridging) → TellsNone b → StaysInside b
-none_stays b none port to octets a = absurd (none port to octets a)
+-- the two by the ports onward: what is put out on a port goes no further, and on a secure port comes of the one that goes on to
+-- the plain port beside it
+abbrev GoesNoFurther : Bridging → Type 0
+GoesNoFurther b = (port : ℕ) (to : Address) (octets : List ℕ) → TellsOut b port to octets → onward b.pairs port ≡ None
 
-none_crosses : (b : Bridging) → TellsNone b → Crosses b
-none_crosses b none port q to octets a low on = absurd (none port to octets a)
+pub record ComesOver (b : Bridging) (port : ℕ) (to : Address) (octets : List ℕ) : Type 0 where
+  pub from : ℕ
+  pub on : onward b.pairs from ≡ Some (port + 2)
+  pub crossing : IsCrossing b from port to octets
+
+abbrev ComesFromOther : Bridging → Type 0
+ComesFromOther b = (port q : ℕ) (to : Address) (octets : List ℕ) → TellsOut b port to octets → (port - 20000) % 4 < 2
+    → onward b.pairs (port + 2) ≡ Some q → ComesOver b port to octets
 
 abbrev Both : Bridging → Type 0
-Both b = StaysInside b × Crosses b
+Both b = GoesNoFurther b × ComesFromOther b
 
 none_both : (b : Bridging) → TellsNone b → Both b
-none_both b none = (none_stays b none, none_crosses b none)
+none_both b none = ((λ port to octets a. absurd (none port to octets a)), (λ port q to octets a low on. absurd (none port to octets a)))
 
 module _ (w : World) (calls : Members) (port : ℕ) (from : Address) (d : Octets) where
   abbrev e : Event
@@ -198,16 +212,19 @@ module _ (w : World) (calls : Members) (port : ℕ) (from : Address) (d : Octets
     (λ port' q' to' octets' t low on'.
         let same : o.port ≡ port' = ap out_port (told_is port' to' octets' t) in
         record {
-          first = e;
-          second = inner q a x;
-          events_are = refl;
-          out = p;
-          opened_to = to;
-          packet = x;
-          opened = was;
-          other = on ∙ ap (λ n. Some n) (plain.out ∙ ap (λ n. n + 2) same);
-          sealed = subst (λ (es : List _). Any (IsSealOf (turn_of after (inner q a x)) port' (as_octets x).items) es) (sym es) (0, o.entry, omega arith, refl, (plain.sealing, packet_is, sealed_at port' same));
-          told = ap (map inner_told) is ∙ ap (λ b. b ∷ []) (told_is port' to' octets' t);
+          from = p;
+          on = on ∙ ap (λ n. Some n) (plain.out ∙ ap (λ n. n + 2) same);
+          crossing = record {
+            first = e;
+            second = inner q a x;
+            events_are = refl;
+            opened_to = to;
+            packet = x;
+            opened = was;
+            sealed = subst (λ (es : List _). Any (IsSealOf (turn_of after (inner q a x)) port' to' (as_octets x).items octets') es) (sym es) (0, o.entry, omega arith, refl, (plain.sealing, packet_is, sealed_at port' to' octets' (told_is port' to' octets' t)));
+            put_out = is ∙ ap (λ b. b ∷ []) (told_out o.port o.to o.octets port' to' octets' (told_is port' to' octets' t));
+            told = ap (map inner_told) is ∙ ap (λ b. b ∷ []) (told_is port' to' octets' t);
+          };
         }),
   )
     where
@@ -227,9 +244,10 @@ module _ (w : World) (calls : Members) (port : ℕ) (from : Address) (d : Octets
       packet_is : o.entry.done.packet ≡ (as_octets x).items
       packet_is = (let c = came plain.sealing in let s = c.4 in sym s.4.1.2)
 
-      sealed_at : (port' : ℕ) → o.port ≡ port' → Any (λ c. Any (λ s. IsSealedOutOf (turn_of after (inner q a x)) o.entry c s × (secure_leg_port c s ≡ port')) c.sessions) after.calls
-      sealed_at port' same = any_weaker (λ c. Any (IsSealedOutOf (turn_of after (inner q a x)) o.entry c) c.sessions) (λ c. Any (λ s. IsSealedOutOf (turn_of after (inner q a x)) o.entry c s × (secure_leg_port c s ≡ port')) c.sessions)
-          (λ c b. any_weaker (IsSealedOutOf (turn_of after (inner q a x)) o.entry c) (λ s. IsSealedOutOf (turn_of after (inner q a x)) o.entry c s × (secure_leg_port c s ≡ port')) (λ s out. (out, ap first_port (sym out.out ∙ is) ∙ same)) c.sessions b) after.calls (leaves plain.sealing)
+      sealed_at : (port' : ℕ) (to' : Address) (octets' : List ℕ) → Is port' to' octets' (tells.Table (Out o.port o.to o.octets))
+          → Any (λ c. Any (LeavesAt (turn_of after (inner q a x)) o.entry port' to' octets' c) c.sessions) after.calls
+      sealed_at port' to' octets' told = any_weaker (λ c. Any (IsSealedOutOf (turn_of after (inner q a x)) o.entry c) c.sessions) (λ c. Any (LeavesAt (turn_of after (inner q a x)) o.entry port' to' octets' c) c.sessions)
+          (λ c b. any_weaker (IsSealedOutOf (turn_of after (inner q a x)) o.entry c) (LeavesAt (turn_of after (inner q a x)) o.entry port' to' octets' c) (λ s out. let same = same_out _ _ _ port' to' octets' (sym out.out ∙ is ∙ ap (λ b. b ∷ []) (told_out o.port o.to o.octets port' to' octets' told)) in (out, same.0, same.1, same.2)) c.sessions b) after.calls (leaves plain.sealing)
 
   handed_both : (p q : ℕ) (to : Address) (x : List ℕ) → (step w e).outcomes ≡ Out p to x ∷ [] → onward calls p ≡ Some q → (o : Option Address)
       → Both (handed_on w calls e after q x o)
@@ -243,11 +261,8 @@ module _ (w : World) (calls : Members) (port : ℕ) (from : Address) (d : Octets
     (λ port' q to' octets' t low on'.
         let same : p ≡ port' = ap out_port (only_out p to x port' to' octets' t) in
         let at : port ≡ port' + 2 = beside (subst (λ n. (n - 20000) % 4 < 2) (sym same) low) ∙ ap (λ n. n + 2) same in
-        absurd (none_some (sym unjoined ∙ ap (onward calls) at ∙ on'))),
+        absurd (none_some q (sym unjoined ∙ ap (onward calls) at ∙ on'))),
   )
-    where
-      none_some : {q : ℕ} → None ≡ Some q → ⊥
-      none_some e = absurd cc
   opened_both p to x is unjoined beside (Some q) on = handed_both p q to x is on (plain_at after q)
 
   passed_both : onward calls port ≡ None → (os : List Outcome) → (step w e).outcomes ≡ os → Coming w port os (step w e).entries → Both (passed w calls e after os)
@@ -278,16 +293,30 @@ all_both : (w : World) (calls : Members) (said : List Said) → AllByRecursion B
 all_both w calls [] = tt
 all_both w calls (s ∷ ss) = (said_both w calls s, all_both (bridging w calls s).world (bridging w calls s).calls ss)
 
-firsts : (bs : List Bridging) → AllByRecursion Both bs → AllByRecursion StaysInside bs
-firsts [] all = tt
-firsts (b ∷ bs) all = (all.0.0, firsts bs all.1)
+-- ---- in numbers
 
-seconds : (bs : List Bridging) → AllByRecursion Both bs → AllByRecursion Crosses bs
-seconds [] all = tt
-seconds (b ∷ bs) all = (all.0.1, seconds bs all.1)
+stays_inside : (b : Bridging) → GoesNoFurther b → StaysInside b
+stays_inside b no_further slot medium leg to octets joined high low tells =
+    let on = in_pair_goes_on b.pairs slot medium leg joined high low in none_some on.0 (sym (no_further (port_of_leg slot medium leg) to octets tells) ∙ on.1)
 
-pub all_inside : (w : World) (calls : Members) (said : List Said) → All StaysInside (bridgings_from w calls said)
-all_inside w calls said = All-from_recursion StaysInside _ (firsts _ (all_both w calls said))
+crosses : (b : Bridging) → GoesBothWays b → ComesFromOther b → Crosses b
+crosses b ways comes slot other medium leg to octets joined low tells =
+    let beside : port_of_leg slot medium leg + 2 ≡ port_of_leg slot medium (leg + 2) = omega arith in
+    let on : onward b.pairs (port_of_leg slot medium leg + 2) ≡ Some (port_of_leg other medium (leg + 2)) = ap (onward b.pairs) beside ∙ joined_goes_on b.pairs slot other medium (leg + 2) joined (omega arith) (omega (arith, low)) in
+    let over = comes (port_of_leg slot medium leg) (port_of_leg other medium (leg + 2)) to octets tells (omega (arith, low)) on in
+    let same : Some over.from ≡ Some (port_of_leg other medium (leg + 2)) = sym (ways over.from (port_of_leg slot medium leg + 2) over.on) ∙ on in
+    subst (λ n. IsCrossing b n (port_of_leg slot medium leg) to octets) (let is : over.from ≡ port_of_leg other medium (leg + 2) = cc in is) over.crossing
 
-pub all_cross : (w : World) (calls : Members) (said : List Said) → All Crosses (bridgings_from w calls said)
-all_cross w calls said = All-from_recursion Crosses _ (seconds _ (all_both w calls said))
+each_inside : (bs : List Bridging) → AllByRecursion Both bs → AllByRecursion StaysInside bs
+each_inside [] all = tt
+each_inside (b ∷ bs) all = (stays_inside b all.0.0, each_inside bs all.1)
+
+each_crosses : (bs : List Bridging) → AllByRecursion GoesBothWays bs → AllByRecursion Both bs → AllByRecursion Crosses bs
+each_crosses [] ways all = tt
+each_crosses (b ∷ bs) ways all = (crosses b ways.0 all.0.1, each_crosses bs ways.1 all.1)
+
+pub all_inside : (said : List Said) → All StaysInside (bridgings_from empty no_members said)
+all_inside said = All-from_recursion StaysInside _ (each_inside _ (all_both empty no_members said))
+
+pub all_cross : (said : List Said) → All Crosses (bridgings_from empty no_members said)
+all_cross said = All-from_recursion Crosses _ (each_crosses _ (recursion_from_All GoesBothWays _ (all_both_ways said)) (all_both empty no_members said))

@@ -20,16 +20,16 @@ pub record Look : Type 0 where
   pub media : ℕ
   pub pair : Option Pair
 
-abbrev look_of : Member → Look
+abbrev pub look_of : Member → Look
 look_of m = record { media = m.media; pair = m.pair }
 
 abbrev pub look : Members → ℕ → Option Look
 look calls s = option_map look_of (member_at calls s)
 
-abbrev joined_look : ℕ → Pair → Look
+abbrev pub joined_look : ℕ → Pair → Look
 joined_look media x = record { media = media; pair = Some x }
 
-abbrev joined_in : ℕ → Pair → Option Look
+abbrev pub joined_in : ℕ → Pair → Option Look
 joined_in media x = Some (joined_look media x)
 
 abbrev pub IsOf : ℕ → Pair → Type 0
@@ -73,7 +73,7 @@ look_set_same : (calls : Members) (slot : ℕ) (v : Option Member) → slot < le
 look_set_same calls slot v lt = ap (option_map look_of) (get_or-set_same calls slot v None lt)
 
 -- the slots in which no call is joined
-abbrev IsFree : Members → ℕ → Type 0
+abbrev pub IsFree : Members → ℕ → Type 0
 IsFree calls s = (media : ℕ) (x : Pair) → look calls s ≡ joined_in media x → ⊥
 
 free_set : (calls : Members) (slot : ℕ) (v : Option Member) → ((media : ℕ) (x : Pair) → option_map look_of v ≡ joined_in media x → ⊥) → IsFree (set calls slot v) slot
@@ -122,9 +122,6 @@ unpaired None media x is = none_some _ is
 unpaired (Some m) media x is = (let same : record { media = m.media; pair = None } ≡ record { media = media; pair = Some x } = cc in none_some x (ap (λ (l : Look). l.pair) same))
 
 module _ (calls : Members) (x : Pair) where
-  first_parted : Members
-  first_parted = in_pair_at None x.first.slot calls
-
   parted_size : length (parted x calls) ≡ length calls
   parted_size = length-set (in_pair_at None x.first.slot calls) x.second.slot _ ∙ length-set calls x.first.slot _
 

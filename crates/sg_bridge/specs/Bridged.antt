@@ -1,20 +1,23 @@
 -- A run of a bridge: the table's events, each inner datagram right after the one that opened it, and what is told.
-use Rattle.std.specs.Prelude.{◌≡◌, ℕ, ◌+◌, ◌-◌, ◌%◌, ◌<◌, List, [], ◌∷◌, ◌++◌, map, Option, Some, None, option_to_list, Result, Ok, Err}
+use Rattle.std.specs.Prelude.{◌≡◌, ℕ, ◌+◌, ◌<◌, ◌≤◌, List, [], ◌∷◌, ◌++◌, map, Option, Some, None, option_to_list, Result, Ok, Err}
 use Rattle.std.specs.List.{All, Any, flat_map}
 use Rattle.sg_base.specs.declared.addresses.Address.{Address}
 use Rattle.sg_base.specs.declared.addresses.CallId.{CallId}
 use Rattle.sg_base.specs.declared.faults.DropCause.TheVariants.{PortUnused}
 use Rattle.sg_gateway.specs.Datagrams.{Entry, Happening}
-use Rattle.sg_gateway.specs.Legs.{secure_leg_port}
+use Rattle.sg_gateway.specs.Legs.{secure_leg_address, secure_leg_port}
 use Rattle.sg_gateway.specs.Octets.{as_octets}
 use Rattle.sg_gateway.specs.PlainOf.{plain_at}
 use Rattle.sg_gateway.specs.Runs.{Turn, turn_of}
-use Rattle.sg_gateway.specs.SealedOut.{IsSealedOutOf}
+use Rattle.sg_gateway.specs.SealedOut.{IsSealedOutOf, sealed_by}
 use Rattle.sg_gateway.specs.Step.{Event, Signalled, Datagram, step}
-use Rattle.sg_gateway.specs.World.{World, empty}
+use Rattle.sg_gateway.specs.World.{Call, World, empty}
 use Rattle.sg_outcome.specs.declared.outcomes.Outcome.{Outcome}
 use Rattle.sg_outcome.specs.declared.outcomes.Outcome.TheVariants.{Out, Dropped}
+use Rattle.sg_session.specs.Reach.{text_in}
+use Rattle.sg_session.specs.Session.{Session}
 use Rattle.sg_session.specs.declared.names.Direction.TheVariants.{Sealing}
+use Rattle.sg_bridge.specs.Joined.{AreJoined, IsInPair, port_of_leg}
 use Rattle.sg_bridge.specs.Onward.{onward}
 use Rattle.sg_bridge.specs.Pairs.{Joining, Members, Parting, joined, no_members, after_outcome, parted_from}
 use Rattle.sg_bridge.specs.declared.faults.JoinFault.{JoinFault}
@@ -130,36 +133,44 @@ bridged_outcomes said = flat_map (λ b. b.told) (bridgings said)
 abbrev pub TellsOut : Bridging → ℕ → Address → List ℕ → Type 0
 TellsOut b port to octets = Any (λ o. o ≡ tells.Table (Out port to octets)) b.told
 
--- nothing is told as put out on a plain port of a joined call
+-- At neither plain port of a medium (leg 2 of RTP, leg 3 of RTCP) of a call that is in a pair anything is told as put out.
 abbrev pub StaysInside : Bridging → Type 0
-StaysInside b = (port : ℕ) (to : Address) (octets : List ℕ) → TellsOut b port to octets → onward b.pairs port ≡ None
+StaysInside b = (slot medium leg : ℕ) (to : Address) (octets : List ℕ) → IsInPair b.pairs slot medium → 2 ≤ leg → leg < 4
+    → ¬ TellsOut b (port_of_leg slot medium leg) to octets
 
 abbrev pub JoinedStayInside : List Said → Type 0
 JoinedStayInside said = All StaysInside (bridgings said)
 
--- The entry seals this packet, under a key of the session at that secure port.
-abbrev pub IsSealOf : Turn → ℕ → List ℕ → Entry → Type 0
-IsSealOf t port packet e = (e.session.owner.direction ≡ Sealing) × (e.done.packet ≡ packet)
-    × Any (λ c. Any (λ s. IsSealedOutOf t e c s × (secure_leg_port c s ≡ port)) c.sessions) t.before.calls
+-- The entry went out of this session of the call: from its secure port, to its secure address, as these octets, which are the
+-- sealing (RFC 3711, 3.1 and 3.4) under the entry's key, at its source and index.
+abbrev pub LeavesAt : Turn → Entry → ℕ → Address → List ℕ → Call → Session → Type 0
+LeavesAt t e port to octets c s =
+    IsSealedOutOf t e c s × (secure_leg_port c s ≡ port) × (secure_leg_address s ≡ to) × (text_in s e.key.mki (sealed_by e) ≡ octets)
 
--- An event opened this packet, and puts it out on a plain port whose onward port is the plain one beside this secure port.
--- The event right after it comes there, and seals the packet: that one sealing is all that is told.
-pub record IsCrossing (b : Bridging) (port : ℕ) (to : Address) (octets : List ℕ) : Type 0 where
+-- The entry seals this packet, and so it leaves a session that was there.
+abbrev pub IsSealOf : Turn → ℕ → Address → List ℕ → List ℕ → Entry → Type 0
+IsSealOf t port to packet octets e =
+    (e.session.owner.direction ≡ Sealing) × (e.done.packet ≡ packet) × Any (λ c. Any (LeavesAt t e port to octets c) c.sessions) t.before.calls
+
+-- An event opened this packet, and puts it out on that plain port. The event right after it seals the packet: these octets,
+-- from this port to this address, are that one sealing, all that the gateway tells of it, and all that is told.
+pub record IsCrossing (b : Bridging) (from port : ℕ) (to : Address) (octets : List ℕ) : Type 0 where
   pub first : Event
   pub second : Event
   pub events_are : b.events ≡ first ∷ second ∷ []
-  pub out : ℕ
   pub opened_to : Address
   pub packet : List ℕ
-  pub opened : (step b.before first).outcomes ≡ Out out opened_to packet ∷ []
-  pub other : onward b.pairs out ≡ Some (port + 2)
-  pub sealed : Any (IsSealOf (turn_of (step b.before first).world second) port (as_octets packet).items) (step (step b.before first).world second).entries
+  pub opened : (step b.before first).outcomes ≡ Out from opened_to packet ∷ []
+  pub sealed :
+      Any (IsSealOf (turn_of (step b.before first).world second) port to (as_octets packet).items octets) (step (step b.before first).world second).entries
+  pub put_out : (step (step b.before first).world second).outcomes ≡ Out port to octets ∷ []
   pub told : b.told ≡ tells.Table (Out port to octets) ∷ []
 
--- what is told as put out on a secure port of a joined call was opened in the other call, by the event before
+-- What is told as put out on a secure port (leg 0 of RTP, leg 1 of RTCP) of a joined call was opened, by the event before, in the
+-- other call of its pair, at the plain port of the same medium and kind.
 abbrev pub Crosses : Bridging → Type 0
-Crosses b = (port q : ℕ) (to : Address) (octets : List ℕ) → TellsOut b port to octets → (port - 20000) % 4 < 2
-    → onward b.pairs (port + 2) ≡ Some q → IsCrossing b port to octets
+Crosses b = (slot other medium leg : ℕ) (to : Address) (octets : List ℕ) → AreJoined b.pairs slot other medium → leg < 2
+    → TellsOut b (port_of_leg slot medium leg) to octets → IsCrossing b (port_of_leg other medium (leg + 2)) (port_of_leg slot medium leg) to octets
 
 abbrev pub EachCrossingIsSealed : List Said → Type 0
 EachCrossingIsSealed said = All Crosses (bridgings said)

@@ -13,7 +13,11 @@ mod reading;
 
 pub use bridge::Bridge;
 pub use faults::JoinFault;
-pub use laws::{joined_calls_stay_inside, joined_ports_go_both_ways};
+pub use laws::{
+    each_line_happens, joined_calls_stay_inside, joined_ports_go_both_ways,
+    joins_have_their_causes, lost_is_refused, members_are_the_calls, pairs_last_until_parted,
+    the_bridge_holds, unjoined_calls_are_told_as_they_are,
+};
 pub use lines::BridgeLine;
 pub use members::{Member, Pair, Party};
 pub use outcomes::BridgeOutcome;

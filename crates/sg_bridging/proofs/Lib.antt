@@ -1,4 +1,5 @@
 mod Bridges
 mod Completes
 mod Frames
+mod Replayed
 mod Steps

@@ -110,10 +110,6 @@ written_has (Err statuses.Noise) a b text so is wrote = absurd wrote
 written_has (Err statuses.TurnsSpent) a b text so is wrote = absurd wrote
 written_has (Err (statuses.Capture offset fault)) a b text so is wrote = absurd wrote
 
--- nothing was written, for lack of memory
-pub wanting : (a : Option (List ℕ)) (text : List ℕ) (so : Type 0) → Has (Err statuses.NoMemory) a a text so
-wanting a text so = ([], wrote_none a, (text, refl))
-
 on_ok : {so : Type 0} (r : Result (Unit {0}) Status) → so → OnOk r so
 on_ok (Ok u) is = is
 on_ok (Err e) is = tt

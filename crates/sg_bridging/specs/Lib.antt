@@ -1,3 +1,4 @@
 pub mod Bridge
 pub mod BridgeReading
+pub mod Replayed
 pub mod Steps

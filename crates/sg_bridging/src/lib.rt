@@ -2,8 +2,10 @@
 #![tactic(auto)]
 
 mod bridging;
+mod laws;
 mod reading;
 mod switchboard;
 mod telling;
 
 pub use bridging::bridge;
+pub use laws::scripts_without_joins_are_replayed;

@@ -19,10 +19,6 @@ adds_one slot p old new route stands is ss (s ∷ []) h each =
     subst (λ l. EachPair (RouteStandsFor slot) l (ss ++ s ∷ [])) (sym is) (stands_append (RouteStandsFor slot) old (route ∷ []) ss (s ∷ []) h (stands s each.0, tt))
 adds_one slot p old new route stands is ss (s ∷ (t ∷ ts)) h each = absurd each.1
 
-pub adds_none : (slot : ℕ) (old new : List Route) → new ≡ old → Adds slot [] old new
-adds_none slot old new is ss [] h each = subst (λ l. EachPair (RouteStandsFor slot) l (ss ++ [])) (sym is) (subst (EachPair (RouteStandsFor slot) old) (sym (append-nil ss)) h)
-adds_none slot old new is ss (t ∷ ts) h each = absurd each
-
 record Parts (ps qs : List Planned) (ts : List Session) : Type 0 where
   us : List Session
   vs : List Session

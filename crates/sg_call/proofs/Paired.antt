@@ -26,12 +26,6 @@ module _ {X Y : Type 0} (R : X → Y → Type 0) where
   stands_set (u ∷ xs) (v ∷ ys) zero x y h r = (r, h.1)
   stands_set (u ∷ xs) (v ∷ ys) (suc i) x y h r = (h.0, stands_set xs ys i x y h.1 r)
 
-  pub stands_push : (xs : List X) (ys : List Y) (x : X) (y : Y) → EachPair R xs ys → R x y → EachPair R (xs ++ x ∷ []) (ys ++ y ∷ [])
-  stands_push [] [] x y h r = (r, tt)
-  stands_push [] (v ∷ ys) x y h r = absurd h
-  stands_push (u ∷ xs) [] x y h r = absurd h
-  stands_push (u ∷ xs) (v ∷ ys) x y h r = (h.0, stands_push xs ys x y h.1 r)
-
   -- the same test finds the same place
   module _ (p : X → Bool) (q : Y → Bool) (same : (x : X) (y : Y) → R x y → p x ≡ q y) where
     from_same : (k : ℕ) (xs : List X) (ys : List Y) → EachPair R xs ys → position_from p k xs ≡ position_from q k ys
@@ -43,12 +37,6 @@ module _ {X Y : Type 0} (R : X → Y → Type 0) where
 
     pub position_same : (xs : List X) (ys : List Y) → EachPair R xs ys → position p xs ≡ position q ys
     position_same xs ys h = position_from-zero p xs ∙ from_same 0 xs ys h ∙ sym (position_from-zero q ys)
-
-    pub any_same : (xs : List X) (ys : List Y) → EachPair R xs ys → list_any p xs ≡ list_any q ys
-    any_same [] [] h = refl
-    any_same [] (y ∷ ys) h = absurd h
-    any_same (x ∷ xs) [] h = absurd h
-    any_same (x ∷ xs) (y ∷ ys) h = let test = same x y h.0 in let rest = any_same xs ys h.1 in (λ i. test i || rest i)
 
   pub stands_append : (xs us : List X) (ys vs : List Y) → EachPair R xs ys → EachPair R us vs → EachPair R (xs ++ us) (ys ++ vs)
   stands_append [] us [] vs h k = k

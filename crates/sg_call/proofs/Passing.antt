@@ -52,10 +52,6 @@ abbrev with_taken : ℕ → Call → Session → Result Taken DropCause → Call
 with_taken now c s (Ok t) = call_after now c s t
 with_taken now c s (Err cause) = c
 
-after_name : (s : Session) (r : Result Taken DropCause) → (after s r).name ≡ s.name
-after_name s (Ok t) = refl
-after_name s (Err cause) = refl
-
 pub filter_append : {X : Type 0} (test : X → Bool) (xs ys : List X) → filter test (xs ++ ys) ≡ filter test xs ++ filter test ys
 filter_append test [] ys = refl
 filter_append test (x ∷ xs) ys = go (filter_append test xs ys) (test x)

@@ -359,14 +359,7 @@ module _ (now : ℕ) (b : world.Books) (c : Call) (x : Medium) where
   keyed_as is r e = ap (λ t. stop_if t State (keyed now b one_medium [] (Some x ∷ []))) is
       ∙ ap (λ r. after_ok r (λ g. Ok (record { text = []; call = renewed now one_medium g.sessions; books = record b { ring = g.ring } }))) e
 
-  pub not_keyed : has_begun c ≡ true → keyed_manually now b c x ≡ Err State
-  not_keyed is = ap (λ t. stop_if t State (keyed now b one_medium [] (Some x ∷ []))) is
-
   module _ (slot : ℕ) (idle : IsIdle slot c) where
-    pub manual_refused : (call : CallValue) (new : Books) (fault : Fault) (ring : List RingKey) → Begins (Err fault) ring manual_generation → IsKeyed (Err fault) call new (keyed_manually now b c x)
-    manual_refused call new (Refused cause) ring e = keyed_as (idle_begun slot c idle) (Err cause) e
-    manual_refused call new NoMemory ring e = tt
-
     pub keyed_so : (old new : Books) → BooksStandFor old b → (new.psks ≡ old.psks) × (new.seen ≡ old.seen) → (call : CallValue) → CallStandsFor b.pairs call c → (specs : List MediaSpec) (routes : List Route)
         → Begins (Ok specs) new.ring manual_generation → Adds call.slot (planned specs) [] routes
         → Settles CallStandsFor (renewed_value (record call { media = 1 }) now (manual_live slot) routes) [] new (keyed_manually now b c x)

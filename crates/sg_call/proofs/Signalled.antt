@@ -126,15 +126,9 @@ ticked pairs call c now false h is = subst (λ b. CallStandsFor pairs call (cond
 abbrev with_rejected : ℕ → Call → Bool → Bool → Result (Option Call) Refusal
 with_rejected now c is_open is_new = cond is_open (Ok (cond is_new None (Some (record c { offer = None; moment = now })))) (Err refusals.State)
 
-pub not_offered : (now : ℕ) (c : Call) → c.offer ≡ None → rejected_in now c ≡ Err refusals.State
-not_offered now c none = ap (λ (o : Option Offer). with_rejected now c (is_some o) (eqb c.generations 0)) none
-
 module _ (pairs : List Pair) (now : ℕ) (c : Call) (o : OfferedValue) (h : IsOffered pairs o c) where
   rejected_as : (is_new : Bool) → eqb c.generations 0 ≡ is_new → rejected_in now c ≡ with_rejected now c true is_new
   rejected_as is_new e = (λ i. with_rejected now c (is_some (h.is_offer i)) (e i))
-
-  pub ended : o.former ≡ None → rejected_in now c ≡ Ok None
-  ended none = rejected_as true (subst (λ f. Rattle.sg_call.specs.States.IsFormer f c) none h.former_is)
 
   pub went_on : (call : CallValue) (l : LiveValue) → CallStandsFor pairs call c → o.former ≡ Some l → IsRejected pairs (Ok true) (record call { state = Live l; moment = now }) (rejected_in now c)
   went_on call l k some =

@@ -83,21 +83,6 @@ Drains start call =
     (pairs : List Pair) (c : Call) → CallStandsFor pairs start c
     → (d : Call) × CallStandsFor pairs call d × (call.handled ++ all_handled d call.waiting ≡ start.handled ++ all_handled c start.waiting) × (call_after d call.waiting ≡ call_after c start.waiting)
 
-pub drains_none : (call : CallValue) → Drains call call
-drains_none call pairs c s = (c, s, refl, refl)
-
-pub drains_next : (start call next : CallValue) (a : QueuedValue) (later : List QueuedValue) → call.waiting ≡ a ∷ later → next.waiting ≡ later
-    → ((pairs : List Pair) (c : Call) → CallStandsFor pairs call c → IsNextHandled a pairs c call next) → Drains start call → Drains start next
-drains_next start call next a later first rest one drains pairs c s =
-    let (d, stands, handled, after) = drains pairs c s in
-    let n = one pairs d stands in
-    let after_a : Call = batch.after (gives d a) d in (
-      after_a,
-      n.stands,
-      (λ i. n.handles i ++ all_handled after_a (rest i)) ∙ append_assoc call.handled _ (all_handled after_a later) ∙ ap (λ ws. call.handled ++ all_handled d ws) (sym first) ∙ handled,
-      ap (call_after after_a) rest ∙ ap (call_after d) (sym first) ∙ after,
-    )
-
 pub drained_all : (start call : CallValue) → call.waiting ≡ [] → (call.slot ≡ start.slot) × (call.media ≡ start.media) × (call.id ≡ start.id) → Drains start call → IsDrained start call
 drained_all start call none same drains = record {
   none_waits = none;
@@ -115,7 +100,3 @@ drained_none start call inbox none is same drains =
     let stays : ◌≡◌ {A = CallValue} (record call { waiting = inbox.waiting; handled = inbox.handled }) call =
     ap (λ (x : InboxValue). record call { waiting = x.waiting; handled = x.handled }) is ∙ (λ i. record call { waiting = (ap (drop 1) none ∙ sym none) i }) in
     subst (IsDrained start) (sym stays) (drained_all start call none same drains)
-
--- the same value under another name
-pub next_as : (a : QueuedValue) (pairs : List Pair) (c : Call) (old view new : CallValue) → view.handled ≡ old.handled → IsNextHandled a pairs c view new → IsNextHandled a pairs c old new
-next_as a pairs c old view new same n = record { handles = n.handles ∙ ap (λ hs. hs ++ (a.number, handled_of a.octets (gives c a)) ∷ []) same; stands = n.stands }

@@ -54,18 +54,9 @@ module _ (kind other : Kind) (d : List ℕ) (out : ℕ) (to : Address) (out' : �
   fits_both false (Err cause) (Ok t) e = refl
   fits_both false (Err cause) (Err last) e = refl
 
-  neither_fits : (b : Bool) (r q : Result Taken DropCause) → b ≡ true
-      → record { pad = d; end = Dropped TooLong } ≡ handled_by_either out to out' to' d (packet_in (cond b (Err TooLong) r)) (packet_in (cond b (Err TooLong) q))
-  neither_fits true r q e = refl
-  neither_fits false r q e = absurd cc
-
 both_fit : (P : Result Taken DropCause → Result Taken DropCause → Type 0) (b : Bool) (r q : Result Taken DropCause) → b ≡ false → P r q → P (cond b (Err TooLong) r) (cond b (Err TooLong) q)
 both_fit P true r q e p = absurd cc
 both_fit P false r q e p = p
-
-none_fit : (P : Result Taken DropCause → Result Taken DropCause → Type 0) (b : Bool) (r q : Result Taken DropCause) → b ≡ true → P (Err TooLong) (Err TooLong) → P (cond b (Err TooLong) r) (cond b (Err TooLong) q)
-none_fit P true r q e p = p
-none_fit P false r q e p = absurd cc
 
 module _ (from : Address) (d : List ℕ) (s e : Session) (of_s : s.name.owner.direction ≡ Opening) (of_e : e.name.owner.direction ≡ Opening) where
   -- of two that open
@@ -84,16 +75,7 @@ module _ (from : Address) (d : List ℕ) (s e : Session) (of_s : s.name.owner.di
   either_answers out to out' to' fits x is =
       ap (given_by out to out' to') is ∙ fits_both s.name.kind e.name.kind d out to out' to' (ltb 4238 (length d)) (opens s d) (opens e d) fits ∙ sent out to out' to'
 
-  pub either_too_long : (out : ℕ) (to : Address) (out' : ℕ) (to' : Address) → ltb 4238 (length d) ≡ true
-      → record { pad = d; end = Dropped TooLong } ≡ handled_by_either out to out' to' d (sent_by s (taken_from from d s)) (sent_by e (taken_from from d e))
-  either_too_long out to out' to' long =
-      neither_fits s.name.kind e.name.kind d out to out' to' (ltb 4238 (length d)) (opens s d) (opens e d) long ∙ sent out to out' to'
-
   module _ (slot : ℕ) (route : Route) (stands : RouteStandsFor slot route e) where
-    pub second_stays : ltb 4238 (length d) ≡ true → RouteStandsFor slot route (after e (if_refused (taken_from from d s) (taken_from from d e)))
-    second_stays long = taken (λ r q. RouteStandsFor slot route (after e (if_refused r q)))
-        (none_fit (λ r q. RouteStandsFor slot route (after e (if_refused r q))) (ltb 4238 (length d)) (opens s d) (opens e d) long stands)
-
     pub second_takes : ltb 4238 (length d) ≡ false → (side new : SideValue) → route.side ≡ Opens side → (StandsFor side e → StandsFor new (after e (if_refused (opens s d) (opens e d))))
         → RouteStandsFor slot (record route { side = Opens new }) (after e (if_refused (taken_from from d s) (taken_from from d e)))
     second_takes fits side new is left =

@@ -207,9 +207,6 @@ behind_header statuses.TurnsSpent w waited last reads reads' octets part rest ou
 
 -- where there is none
 module _ (w : World) (waited : List Event) (last most : ℕ) where
-  none_told : (octets : List ℕ) (c : Capture) → c.records ≡ [] → all_behind waited last c ≡ map Happens waited
-  none_told octets c none = ap (λ (l : List Captured). map Happens waited ++ capture_occurs last l) none ∙ append-nil (map Happens waited)
-
   pub header_err : (end status : Status) (old new : Capturing) (got out : List ℕ) (left : Option (List ℕ)) → old.most ≡ most → IsHeaderRead (Err end) old new got left → IsClosed end status (unshared w) waited out
       → EndsReading status w waited last (capture_of most) (old.waits ++ got) out left
   header_err (statuses.Capture offset fault) status old new got out left same next (inl all) =

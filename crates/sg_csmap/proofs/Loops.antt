@@ -26,18 +26,6 @@ pub is_there : {A : Type 0} (x : Option A) (a : A) → or_fault PolicyValue x �
 is_there (Some b) a e = cc
 is_there None a e = absurd cc
 
--- an error of the first is one of what goes on with it
-pub err_through : {A B : Type 0} (e : CsError) (x : Option A) (next : A → Option B) → Gives {X = A} (Err e) (or_fault PolicyValue x) → Gives {X = B} (Err e) (or_fault PolicyValue (x >>= next))
-err_through (errors.Cs f) (Some a) next is = absurd cc
-err_through (errors.Cs f) None next is = let same : PolicyValue ≡ f = cc in ap Err same
-err_through errors.NoMemory x next is = tt
-
-pub err_at : {A B : Type 0} (e : CsError) (done : List B) (x : Option A) (next : A → Option (List B)) (total : Option (List B)) → Gives {X = A} (Err e) (or_fault PolicyValue x)
-    → behind done (x >>= next) ≡ total → GivesList {X = B} (Err e) (or_fault PolicyValue total)
-err_at (errors.Cs f) done (Some a) next total is so_far = absurd cc
-err_at (errors.Cs f) done None next total is so_far = let same : PolicyValue ≡ f = cc in ap (or_fault PolicyValue) (sym so_far) ∙ ap Err same
-err_at errors.NoMemory done x next total is so_far = tt
-
 pub goes_on : {A : Type 0} (done : List A) (a : A) (x : Option A) (rest total : Option (List A)) → or_fault PolicyValue x ≡ Ok a
     → behind done (x >>= λ y. option_map (λ ys. y ∷ ys) rest) ≡ total → behind (done ++ a ∷ []) rest ≡ total
 goes_on done a (Some b) (Some rest) total is so_far = let same : b ≡ a = cc in ap Some (append_assoc done (a ∷ []) rest) ∙ ap (λ y. Some (done ++ y ∷ rest)) (sym same) ∙ so_far

@@ -1,12 +1,20 @@
 -- Octets XORed piece by piece.
-use Rattle.std.proofs.Common.{◌≡◌, ℕ, zero, suc, ◌≤◌, ◌+◌, ◌-◌, ◌*◌, ◌<◌, ◌%◌, ◌/◌, List, [], ◌∷◌, refl, ap, ap₂, ◌∙◌, sym, arith, bit_xor, length, slice_index, map, inl, inr}
+use Rattle.std.proofs.Common.{◌≡◌, ℕ, ◌≤◌, ◌+◌, ◌-◌, ◌*◌, ◌<◌, ◌%◌, ◌/◌, List, [], ◌++◌, refl, ap, ap₂, ◌∙◌, sym, arith, bit_xor, length, map, slice_index, take, drop, inl, inr}
+use Rattle.std.specs.List.{range_with_len}
 use Rattle.std.specs.Prelude.{slice_index_or}
+use Rattle.std.proofs.lemmas.List.FromFn.{get_or-map-range_with_len}
+use Rattle.std.specs.Simd.Lanes.{zip2, chunk, put_chunk}
 use Rattle.std.proofs.lemmas.Bool.{cases_lt}
 use Rattle.std.proofs.lemmas.Grind.{same_number_lists}
+use Rattle.std.proofs.lemmas.List.{get_or_append_left, get_or-append_right}
+use Rattle.std.proofs.lemmas.Simd.{length-zip2, length-chunk, length-put_chunk, get_or-zip2, get_or-chunk, get_or-put_chunk_at, get_or-put_chunk_below, get_or-put_chunk_above}
 use Rattle.sg_base.specs.Octets.{xor_octets}
 use Rattle.sg_aes.specs.Cipher.{aes_encrypt}
+use Rattle.sg_aes.proofs.CipherLemmas.{length-aes_encrypt}
 use Rattle.sg_ctr.specs.Keystream.{counter_after, counter_octets, key_block, counter_stream}
-use Rattle.sg_ctr.specs.Xor.{block_octet, stream_octet, XorsOnto}
+use Rattle.sg_ctr.specs.Xor.{CountsFrom, XorsOnto, block_octet, stream_octet}
+use Rattle.sg_aes.specs.Numbered.{numbered}
+use Rattle.sg_ctr.proofs.CounterLemmas.{numbered_counter}
 use Rattle.sg_ctr.proofs.StreamLemmas.{length-xor_octets, octet_of_xor, length-counter_stream, octet_of_stream}
 
 pub none_xored : (old : List ℕ) (at : ℕ) (f : ℕ → ℕ) → XorsOnto old old at 0 f
@@ -29,14 +37,6 @@ both_xored old mid new f g at m next n total en et a b same = record {
   above = λ k h. b.above k (omega arith) ∙ a.above k (omega arith);
 }
 
--- block n of the stream
-pub block_of_stream : (key block : List ℕ) (counter n m k : ℕ) → block ≡ key_block key (counter_after counter n) → m ≡ 16 * n → k < 16
-    → slice_index block k ≡ stream_octet key counter (m + k)
-block_of_stream key block counter n m k eb em h =
-    let q : (m + k) / 16 ≡ n = omega arith in
-    let r : (m + k) % 16 ≡ k = omega arith in
-    rw (q, r) (ap (λ xs. slice_index xs k) eb)
-
 pub xored_whole : (key : List ℕ) (counter : ℕ) (old new : List ℕ) (n : ℕ) → XorsOnto old new 0 n (stream_octet key counter) → n ≡ length old → new ≡ xor_octets old (counter_stream key counter (length old))
 xored_whole key counter old new n held e =
     let ks : List ℕ = counter_stream key counter (length old) in
@@ -58,49 +58,82 @@ by_rule old new at count f g same h = record {
   above = h.above;
 }
 
--- octets of block j among others
-pub octet_of_block : (blocks : List (List ℕ)) (j m k : ℕ) → m ≡ 16 * j → k < 16 → slice_index (slice_index_or blocks j []) k ≡ block_octet blocks (m + k)
-octet_of_block blocks j m k em h =
-    let q : (m + k) / 16 ≡ j = omega arith in
+-- lanes loaded, XORed and stored
+pub lanes_xored : (n : ℕ) (old lanes : List ℕ) (at : ℕ) → at + n ≤ length old → length lanes ≡ n → XorsOnto old (put_chunk at old (zip2 bit_xor (chunk at n old) lanes)) at n (λ k. slice_index lanes k)
+lanes_xored n old lanes at room long =
+    let here : length (chunk at n old) ≡ n = length-chunk at n old room in
+    let sum : List ℕ = zip2 bit_xor (chunk at n old) lanes in
+    let all : length sum ≡ n = length-zip2 bit_xor (chunk at n old) lanes (here ∙ sym long) ∙ here in
+    record {
+      long = length-put_chunk at old sum;
+      inside = λ k lt.
+          get_or-put_chunk_at at old sum k 0 (omega (arith, all)) (omega (arith, all))
+          ∙ get_or-zip2 bit_xor (chunk at n old) lanes k 0 0 0 (omega (arith, here)) (omega (arith, long))
+          ∙ ap (λ (x : ℕ). bit_xor x (slice_index lanes k)) (get_or-chunk at n old k 0 lt);
+      below = λ k lt. get_or-put_chunk_below at old sum k 0 lt;
+      above = λ k le. get_or-put_chunk_above at old sum k 0 (omega (arith, all));
+    }
+
+-- ---- sixteen blocks
+
+pub octet_of_block : (blocks : List (List ℕ)) (n m k : ℕ) → m ≡ 16 * n → k < 16 → slice_index (slice_index_or blocks n []) k ≡ block_octet blocks (m + k)
+octet_of_block blocks n m k em h =
+    let q : (m + k) / 16 ≡ n = omega arith in
     let r : (m + k) % 16 ≡ k = omega arith in
     rw (q, r) refl
 
--- the blocks from block n on
-abbrev pub AreBlocks : List ℕ → ℕ → ℕ → ℕ → List (List ℕ) → Type 0
-AreBlocks key counter n m blocks = (j : ℕ) → j < m → slice_index_or blocks j [] ≡ key_block key (counter_after counter (n + j))
+pub sixteen_xored : (key : List ℕ) (counter number : ℕ) (base : List ℕ) (blocks : List (List ℕ)) (old new : List ℕ) {first : List ℕ} → CountsFrom first counter → number % 16 ≡ 0
+    → base ≡ counter_octets (counter_after counter number) → blocks ≡ map (λ n. aes_encrypt key (numbered base n)) (range_with_len 0 16)
+    → XorsOnto old new (16 * number) 256 (block_octet blocks) → XorsOnto old new (16 * number) 256 (λ k. stream_octet key counter (16 * number + k))
+sixteen_xored key counter number base blocks old new held multiple eb es h =
+    by_rule old new (16 * number) 256 (block_octet blocks) (λ k. stream_octet key counter (16 * number + k)) (λ k lt.
+    let n : ℕ = k / 16 in
+    let few : n < 16 = omega arith in
+    let block : slice_index_or blocks n [] ≡ key_block key (counter_after counter (number + n)) =
+    ap (λ xs. slice_index_or xs n []) es ∙ get_or-map-range_with_len (λ n. aes_encrypt key (numbered base n)) 0 16 n n [] few (omega arith)
+    ∙ ap (aes_encrypt key) (numbered_counter base counter number n held multiple few eb) in
+    let q : (16 * number + k) / 16 ≡ number + n = omega arith in
+    let r : (16 * number + k) % 16 ≡ k % 16 = omega arith in
+    ap (λ xs. slice_index xs (k % 16)) block ∙ sym (rw (q, r) refl)) h
 
-pub blocks_xored : (key : List ℕ) (counter n m count : ℕ) (blocks : List (List ℕ)) (old new : List ℕ) → count ≤ 16 * m → AreBlocks key counter n m blocks
-    → XorsOnto old new (16 * n) count (block_octet blocks) → XorsOnto old new (16 * n) count (λ k. stream_octet key counter (16 * n + k))
-blocks_xored key counter n m count blocks old new le are h =
-    by_rule old new (16 * n) count (block_octet blocks) (λ k. stream_octet key counter (16 * n + k)) (λ k lt.
-    let q : (16 * n + k) / 16 ≡ n + k / 16 = omega arith in
-    let r : (16 * n + k) % 16 ≡ k % 16 = omega arith in
-    rw (q, r) (ap (λ b. slice_index b (k % 16)) (are (k / 16) (omega arith)))) h
+-- ---- two blocks side by side
 
-pub two_blocks : (key : List ℕ) (counter n : ℕ) (blocks counters : List (List ℕ))
-    → counters ≡ counter_octets (counter_after counter n) ∷ counter_octets (counter_after counter (n + 1)) ∷ [] → blocks ≡ map (aes_encrypt key) counters
-    → AreBlocks key counter n 2 blocks
-two_blocks key counter n blocks counters ec eb j lt = go j lt
-  where
-    all : blocks ≡ map (aes_encrypt key) (counter_octets (counter_after counter n) ∷ counter_octets (counter_after counter (n + 1)) ∷ [])
-    all = eb ∙ ap (map (aes_encrypt key)) ec
+-- the encryptions of two counters side by side, octet by octet
+first_of_two : (m n : ℕ) → take 16 (counter_octets m ++ counter_octets n) ≡ counter_octets m
+unfolding counter_octets
+first_of_two m n = refl
 
-    go : (j : ℕ) → j < 2 → slice_index_or blocks j [] ≡ key_block key (counter_after counter (n + j))
-    go zero h = let here : n + 0 ≡ n = omega arith in rw here (ap (λ bs. slice_index_or bs 0 []) all)
-    go (suc zero) h = ap (λ bs. slice_index_or bs 1 []) all
-    go (suc (suc j)) h = absurd (omega arith)
+second_of_two : (m n : ℕ) → drop 16 (counter_octets m ++ counter_octets n) ≡ counter_octets n
+unfolding counter_octets
+second_of_two m n = refl
 
-pub four_blocks : (key : List ℕ) (counter n : ℕ) (blocks counters : List (List ℕ))
-    → counters ≡ counter_octets (counter_after counter n) ∷ counter_octets (counter_after counter (n + 1)) ∷ counter_octets (counter_after counter (n + 2)) ∷ counter_octets (counter_after counter (n + 3)) ∷ [] → blocks ≡ map (aes_encrypt key) counters
-    → AreBlocks key counter n 4 blocks
-four_blocks key counter n blocks counters ec eb j lt = go j lt
-  where
-    all : blocks ≡ map (aes_encrypt key) (counter_octets (counter_after counter n) ∷ counter_octets (counter_after counter (n + 1)) ∷ counter_octets (counter_after counter (n + 2)) ∷ counter_octets (counter_after counter (n + 3)) ∷ [])
-    all = eb ∙ ap (map (aes_encrypt key)) ec
+pub octet_of_pair : (key : List ℕ) (counter n k : ℕ) (counters stream : List ℕ)
+    → counters ≡ counter_octets (counter_after counter n) ++ counter_octets (counter_after counter (n + 1))
+    → stream ≡ aes_encrypt key (take 16 counters) ++ aes_encrypt key (drop 16 counters) → k < 32
+    → slice_index stream k ≡ stream_octet key counter (16 * n + k)
+octet_of_pair key counter n k counters stream ec es lt =
+    let x : List ℕ = counter_octets (counter_after counter n) in
+    let y : List ℕ = counter_octets (counter_after counter (n + 1)) in
+    let first : take 16 counters ≡ x = ap (take 16) ec ∙ first_of_two (counter_after counter n) (counter_after counter (n + 1)) in
+    let second : drop 16 counters ≡ y = ap (drop 16) ec ∙ second_of_two (counter_after counter n) (counter_after counter (n + 1)) in
+    let all : stream ≡ aes_encrypt key x ++ aes_encrypt key y = es ∙ ap₂ (λ a b. aes_encrypt key a ++ aes_encrypt key b) first second in
+    let long : length (aes_encrypt key x) ≡ 16 = length-aes_encrypt key x in
+    ap (λ s. slice_index s k) all
+    ∙ elim (cases_lt k 16) [
+      | inl l ↦
+          let q : (16 * n + k) / 16 ≡ n = omega arith in
+          let r : (16 * n + k) % 16 ≡ k = omega arith in
+          get_or_append_left (aes_encrypt key x) (aes_encrypt key y) 0 k (omega arith) ∙ sym (rw (q, r) refl)
+      | inr g ↦
+          let q : (16 * n + k) / 16 ≡ n + 1 = omega arith in
+          let r : (16 * n + k) % 16 ≡ k - 16 = omega arith in
+          get_or-append_right (aes_encrypt key x) (aes_encrypt key y) 16 k 0 long g ∙ sym (rw (q, r) refl)
+    ]
 
-    go : (j : ℕ) → j < 4 → slice_index_or blocks j [] ≡ key_block key (counter_after counter (n + j))
-    go zero h = let here : n + 0 ≡ n = omega arith in rw here (ap (λ bs. slice_index_or bs 0 []) all)
-    go (suc zero) h = ap (λ bs. slice_index_or bs 1 []) all
-    go (suc (suc zero)) h = ap (λ bs. slice_index_or bs 2 []) all
-    go (suc (suc (suc zero))) h = ap (λ bs. slice_index_or bs 3 []) all
-    go (suc (suc (suc (suc j)))) h = absurd (omega arith)
+pub pair_xored : (key : List ℕ) (counter n count : ℕ) (counters stream old new : List ℕ) → count ≤ 32
+    → counters ≡ counter_octets (counter_after counter n) ++ counter_octets (counter_after counter (n + 1))
+    → stream ≡ aes_encrypt key (take 16 counters) ++ aes_encrypt key (drop 16 counters)
+    → XorsOnto old new (16 * n) count (slice_index stream) → XorsOnto old new (16 * n) count (λ k. stream_octet key counter (16 * n + k))
+pair_xored key counter n count counters stream old new le ec es h =
+    by_rule old new (16 * n) count (slice_index stream) (λ k. stream_octet key counter (16 * n + k))
+    (λ k lt. octet_of_pair key counter n k counters stream ec es (omega arith)) h

@@ -29,16 +29,6 @@ told_by_is port pad end d e pad_is end_is =
 told_next : (a : Arrival) (later : List Arrival) → IsHandled a → told_of (a ∷ later) ≡ told_as a ∷ told_of later
 told_next a later h = ap (λ (l : List Outcome). l ++ told_of later) (told_by_is a.port a.pad a.end h.pad h.end h.has_pad h.has_end)
 
-pub counting_starts : (origins : List Origin) (arrivals : List Arrival) (callers : List Caller) (summary : Summary) (cs : List demo.Caller)
-    → AllZip CallerStandsFor callers cs → AllByRecursion IsHandled arrivals
-    → IsCounting origins arrivals (counted origins (told_of arrivals) (record { callers = cs; summary = summary })) callers summary 0
-counting_starts origins arrivals callers summary cs stand handled = record {
-  count = record { callers = cs; summary = summary };
-  goes = refl;
-  handled = handled;
-  stands = record { each = stand; same = refl };
-}
-
 -- what the counting of one arrival does
 abbrev pub Counts : Origin → Arrival → List Caller → Summary → List Caller → Summary → Type 0
 Counts origin a callers summary callers' summary' = (cs : List demo.Caller) → AllZip CallerStandsFor callers cs → IsHandled a

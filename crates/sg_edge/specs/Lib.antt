@@ -3,6 +3,7 @@ pub mod Links
 pub mod LinksInMemory
 pub mod Memory
 pub mod NoiseInMemory
+pub mod Paces
 pub mod Ports
 pub mod Streams
 pub mod Told

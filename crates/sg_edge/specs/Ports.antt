@@ -1,5 +1,5 @@
 -- The ports that a link has bound, and those that wait to be asked.
-use Rattle.std.specs.Prelude.{◌≡◌, ◌≢◌, ◌==◌, ⊤, ℕ, Bool, false, not, cond, List, [], ◌∷◌, ◌++◌, count_by, drop, filter, take, Option, Some, None, Result, Ok, Err, option_map}
+use Rattle.std.specs.Prelude.{◌≡◌, ◌≢◌, ◌==◌, ◌<◌, ◌+◌, ◌*◌, ⊤, ℕ, nat_lt, if◌then◌else◌, length, Bool, false, not, cond, List, [], ◌∷◌, ◌++◌, count_by, drop, filter, take, Option, Some, None, Result, Ok, Err, option_map}
 use Rattle.std.specs.BTreeMap.{BTreeMap, get}
 use Rattle.std.specs.Ordering.{nat_cmp}
 use Rattle.mio.specs.declared.net.udp.UdpSocket.{UdpSocket}
@@ -49,22 +49,44 @@ joined port None waiting = waiting
 abbrev pub turned : List ℕ → List ℕ
 turned waiting = drop 1 waiting ++ take 1 waiting
 
--- The first of the list was asked: where it gave a datagram, or failed, it is the last now; where it had none, it
--- waits no longer.
-abbrev pub IsAsked : Result Receipt Failed → List ℕ → List ℕ → Type 0
-IsAsked (Ok (receipts.Got port from)) old new = (rest : List ℕ) × (old ≡ port ∷ rest) × (new ≡ rest ++ port ∷ [])
-IsAsked (Ok receipts.Nothing) old new = new ≡ drop 1 old
-IsAsked (Err e) old new = new ≡ turned old
+-- How many datagrams came since a port last went behind the others, when one more has come. The sixteenth ends the turn.
+abbrev pub row_behind : ℕ → ℕ
+row_behind row = if nat_lt (row + 1) 16 then row + 1 else 0
 
--- The list was asked in turn. The first that gave a datagram is the last now, and those before it wait no longer; where
--- none gave one, none waits.
-abbrev pub AreAsked : Result Receipt Failed → List ℕ → List ℕ → Type 0
-AreAsked (Ok (receipts.Got port from)) old new = (before rest : List ℕ) × (old ≡ before ++ port ∷ rest) × (new ≡ rest ++ port ∷ [])
-AreAsked (Ok receipts.Nothing) old new = new ≡ []
-AreAsked (Err e) old new = (before rest : List ℕ) × (old ≡ before ++ rest) × (new ≡ turned rest)
+-- The first of the list gave a datagram. It stays the first, and after the sixteenth it is the last.
+abbrev pub served : ℕ → List ℕ → List ℕ
+served row waiting = if nat_lt (row + 1) 16 then waiting else turned waiting
 
--- What a receive leaves: a port that gave a datagram waits behind all others; where none gave one, none waits.
-abbrev pub IsLeftBy : Result Receipt Failed → List ℕ → Type 0
-IsLeftBy (Ok (receipts.Got port from)) new = (rest : List ℕ) × (new ≡ rest ++ port ∷ [])
-IsLeftBy (Ok receipts.Nothing) new = new ≡ []
-IsLeftBy (Err e) new = ⊤
+-- The first of the list was asked. Where it gave a datagram, its turn goes on, up to the sixteenth; where it failed, it is
+-- the last now; where it had none, it waits no longer.
+abbrev pub IsAsked : Result Receipt Failed → (row : ℕ) → List ℕ → (row' : ℕ) → List ℕ → Type 0
+IsAsked (Ok (receipts.Got port from)) row old row' new = (rest : List ℕ) × (old ≡ port ∷ rest) × (new ≡ served row (port ∷ rest)) × (row' ≡ row_behind row)
+IsAsked (Ok receipts.Nothing) row old row' new = (new ≡ drop 1 old) × (row' ≡ row)
+IsAsked (Err e) row old row' new = (new ≡ turned old) × (row' ≡ 0)
+
+-- The list was asked in turn. Those before the first that gave a datagram wait no longer, and its turn goes on, up to the
+-- sixteenth; where none gave one, none waits.
+abbrev pub AreAsked : Result Receipt Failed → (row : ℕ) → List ℕ → (row' : ℕ) → List ℕ → Type 0
+AreAsked (Ok (receipts.Got port from)) row old row' new =
+    (before rest : List ℕ) × (old ≡ before ++ port ∷ rest) × (new ≡ served row (port ∷ rest)) × (row' ≡ row_behind row)
+AreAsked (Ok receipts.Nothing) row old row' new = (new ≡ []) × (row' ≡ row)
+AreAsked (Err e) row old row' new = (before rest : List ℕ) × (old ≡ before ++ rest) × (new ≡ turned rest) × (row' ≡ 0)
+
+-- A port that stood behind these stands behind those now, and fewer datagrams can come of others before its turn: 16 of
+-- each port before it, less those that came since a port last went behind the others.
+abbrev pub IsNearer : (row : ℕ) → List ℕ → (row' : ℕ) → List ℕ → Type 0
+IsNearer row ahead row' ahead' = 16 * length ahead' + row < 16 * length ahead + row'
+
+-- No port starves: each port that waited behind these and one more waits still, nearer to its turn.
+abbrev pub AllComeNearer : List ℕ → (row : ℕ) → List ℕ → (row' : ℕ) → List ℕ → Type 0
+AllComeNearer before row old row' new = (q : ℕ) (ahead behind : List ℕ) → old ≡ ahead ++ q ∷ behind → length before < length ahead
+    → (ahead' behind' : List ℕ) × (new ≡ ahead' ++ q ∷ behind') × IsNearer row ahead row' ahead'
+
+-- What a receive leaves. Of the ports that waited, and those that came behind them, the ones before the port that gave a
+-- datagram were asked and wait no longer; its turn goes on, up to the sixteenth; those behind it come nearer to theirs.
+-- Where none gave one, none waits.
+abbrev pub IsTaken : Result Receipt Failed → (row : ℕ) → List ℕ → (row' : ℕ) → List ℕ → Type 0
+IsTaken (Ok (receipts.Got port from)) row old row' new =
+    (more before rest : List ℕ) × (old ++ more ≡ before ++ port ∷ rest) × (new ≡ served row (port ∷ rest)) × (row' ≡ row_behind row) × AllComeNearer before row old row' new
+IsTaken (Ok receipts.Nothing) row old row' new = (new ≡ []) × (row' ≡ row)
+IsTaken (Err e) row old row' new = ⊤

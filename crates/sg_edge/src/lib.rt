@@ -8,6 +8,7 @@ mod mem_link;
 mod mem_noise;
 mod memory;
 mod noise;
+mod pace;
 mod ports;
 mod rng_noise;
 mod sink;

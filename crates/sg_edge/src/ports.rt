@@ -1,15 +1,19 @@
 //! The ports that a link has bound, and those that wait to be asked.
 
-ghost use Rattle.std.specs.Prelude.{◌≡◌, ◌∷◌, [], ℕ, List, None, Some, IfNone, IfSome, OnErr, OnOk, drop, length};
-ghost use Rattle.std.specs.BTreeMap.{get};
+ghost use Rattle.std.specs.Prelude.{◌≡◌, ◌<◌, ◌≤◌, ◌∷◌, [], ℕ, List, None, Some, IfNone, IfSome, OnErr, OnOk, drop, length};
+ghost use Rattle.std.specs.BTreeMap.{btree_map_len, get};
+ghost use Rattle.std.specs.VecDeque.{deque_capacity};
 ghost use Rattle.std.specs.Option.{option_copied};
 ghost use Rattle.std.specs.Ordering.{nat_cmp};
-ghost use Rattle.sg_edge.specs.Ports.{AreSame, AreSameBut, IsMarkedWaiting, joined, socket_at, turned, without};
+ghost use Rattle.sg_edge.specs.Ports.{AreSame, AreSameBut, IsMarkedWaiting, joined, row_behind, served, socket_at, turned, without};
 
 use mio::net::UdpSocket;
 use sg_base::NoMemory;
 use std::alloc::Global;
 use std::collections::{BTreeMap, VecDeque};
+
+/// So many datagrams are taken from the port whose turn it is, before the next has its turn.
+const ROW_MOST: u32 = 16;
 
 /// The socket of a port, and whether the port stands among the waiting ones.
 #[derive(Drop)]
@@ -18,11 +22,15 @@ struct Bound {
     is_waiting: bool,
 }
 
-/// The sockets of the ports that are bound, and those of the ports that may have a datagram, in turn.
+/// The sockets of the ports that are bound, and those of the ports that may have a datagram, in turn. Counts the
+/// datagrams that came since a port last went behind the others.
 #[derive(Drop)]
 pub(crate) struct Ports {
     bound: BTreeMap<u16, Bound>,
     waiting: VecDeque<u16>,
+    row: u32,
+    ghost short: { row < 16 },
+    ghost room: { btree_map_len bound ≤ deque_capacity waiting },
     ghost marked: { (port : ℕ) → IsMarkedWaiting bound waiting.items port },
 }
 
@@ -31,10 +39,12 @@ impl Ports {
     pub(crate) fn new(alloc: Global) -> Ports
         ensures bound { (port : ℕ) → socket_at result.bound port ≡ None }
         ensures waiting { result.waiting.items ≡ [] }
+        ensures row { result.row ≡ 0 }
     {
         Ports {
             bound: BTreeMap::new(alloc),
             waiting: VecDeque::new(alloc),
+            row: 0,
         }
     }
 
@@ -52,6 +62,7 @@ impl Ports {
         ensures err { OnErr result (AreSame self.old.bound self.new.bound) }
         ensures others { AreSameBut port self.old.bound self.new.bound }
         ensures waiting { self.new.waiting.items ≡ self.old.waiting.items }
+        ensures row { self.new.row ≡ self.old.row }
     {
         self.waiting.try_reserve(self.bound.len() + 1)?;
         let is_waiting = false;
@@ -64,6 +75,7 @@ impl Ports {
         ensures gone { socket_at self.new.bound port ≡ None }
         ensures others { AreSameBut port self.old.bound self.new.bound }
         ensures waiting { self.new.waiting.items ≡ without port self.old.waiting.items }
+        ensures row { self.new.row ≡ self.old.row }
     {
         if let Some(bound) = self.bound.remove(&port) {
             if bound.is_waiting {
@@ -72,19 +84,18 @@ impl Ports {
         }
     }
 
-    /// A port may have a datagram: it waits from now on, where it is bound.
-    pub(crate) fn join(&mut self, port: u16) -> Result<(), NoMemory>
+    /// A port may have a datagram: it waits from now on, where it is bound. There is room for it since it was added.
+    pub(crate) fn join(&mut self, port: u16)
         ensures bound { AreSame self.old.bound self.new.bound }
-        ensures waiting { OnOk result (self.new.waiting.items ≡ joined port (get nat_cmp self.old.bound port) self.old.waiting.items) }
-        ensures err { OnErr result (self.new.waiting.items ≡ self.old.waiting.items) }
+        ensures waiting { self.new.waiting.items ≡ joined port (get nat_cmp self.old.bound port) self.old.waiting.items }
+        ensures row { self.new.row ≡ self.old.row }
     {
         if let Some(bound) = self.bound.get_mut(&port) {
             if !bound.is_waiting {
-                self.waiting.push_back(port)?;
+                self.waiting.push_back_reserved(port);
                 bound.is_waiting = true;
             }
         }
-        Ok(())
     }
 
     /// How many ports wait.
@@ -107,9 +118,24 @@ impl Ports {
     pub(crate) fn turn(&mut self)
         ensures bound { self.new.bound ≡ self.old.bound }
         ensures waiting { self.new.waiting.items ≡ turned self.old.waiting.items }
+        ensures row { self.new.row ≡ 0 }
     {
+        self.row = 0;
         if !self.waiting.is_empty() {
             self.waiting.rotate_left(1);
+        }
+    }
+
+    /// The port whose turn it is gave a datagram: its turn goes on, up to the sixteenth since a port last came last.
+    pub(crate) fn serve(&mut self)
+        ensures bound { self.new.bound ≡ self.old.bound }
+        ensures waiting { self.new.waiting.items ≡ served self.old.row self.old.waiting.items }
+        ensures row { self.new.row ≡ row_behind self.old.row }
+    {
+        if self.row + 1 < ROW_MOST {
+            self.row += 1;
+        } else {
+            self.turn();
         }
     }
 
@@ -117,6 +143,7 @@ impl Ports {
     pub(crate) fn leave(&mut self)
         ensures bound { AreSame self.old.bound self.new.bound }
         ensures waiting { self.new.waiting.items ≡ drop 1 self.old.waiting.items }
+        ensures row { self.new.row ≡ self.old.row }
     {
         if let Some(port) = self.waiting.pop_front() {
             if let Some(bound) = self.bound.get_mut(&port) {

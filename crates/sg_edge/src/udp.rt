@@ -3,20 +3,21 @@
 ghost use Rattle.std.specs.Prelude.{◌≡◌, ◌≤◌, ◌∷◌, [], ◌++◌, ℕ, List, None, length, IfNone, IfOk, IfSome, IsSome, OnErr, OnOk, OnSome};
 ghost use Rattle.std.specs.Result.{is_ok};
 ghost use Rattle.sg_edge.specs.Links.{Added, Bind, LinkCall, Receive, Send, Unbind, received};
-ghost use Rattle.sg_edge.specs.Ports.{AreAsked, AreSame, AreSameBut, IsAsked, IsLeftBy, socket_at, without};
+ghost use Rattle.sg_edge.specs.Ports.{AreAsked, AreSame, AreSameBut, IsAsked, IsTaken, socket_at, without};
 ghost use Rattle.sg_edge.specs.Told.{HasCause, Rose};
 
 use crate::link::{Link, Receipt};
+use crate::pace::Pace;
 use crate::ports::Ports;
 use crate::standard::is_passing;
 use mio::net::UdpSocket;
 use mio::{Events, Interest, Poll, Token};
-use sg_base::{Address, Failed, NoMemory, PAD_MOST, Pad};
+use sg_base::{Address, Failed, PAD_MOST, Pad};
 use std::alloc::Global;
 use std::io::ErrorKind;
 use std::net::{Ipv4Addr, Net, SocketAddr, SocketAddrV4};
 use std::thread;
-use std::time::Duration;
+use std::time::{Clock, Duration};
 
 /// How many milliseconds a receive waits for a datagram; the system wakes it within another one.
 const WAIT_MILLIS: u64 = 4;
@@ -44,14 +45,15 @@ impl Watch {
 }
 
 /// The sockets of the ports that are bound. Those that may have a datagram, as the system said, are asked in
-/// turn, one datagram each; the others aren't asked.
+/// turn, up to sixteen datagrams each; the others aren't asked.
 #[derive(Drop)]
-pub struct UdpLink<R: Net + Drop> {
+pub struct UdpLink<R: Net + Clock + Drop> {
     alloc: Global,
     net: R,
     watch: Option<Watch>,
     ports: Ports,
     given: u32,
+    pace: Pace,
     part: [u8; PAD_MOST],
     faults: u64,
 }
@@ -94,23 +96,24 @@ fn send_again(socket: &UdpSocket, part: &[u8], to: SocketAddr) -> Result<(), Fai
 }
 
 /// The ports of which the system tells wait from now on, behind the others.
-fn join_all(ports: &mut Ports, events: &Events) -> Result<(), NoMemory>
+fn join_all(ports: &mut Ports, events: &Events)
     ensures bound { AreSame ports.old.bound ports.new.bound }
     ensures behind { (more : List ℕ) × (ports.new.waiting.items ≡ ports.old.waiting.items ++ more) }
+    ensures row { ports.new.row ≡ ports.old.row }
 {
     for event in events {
         if let Ok(port) = u16::try_from(event.token().0) {
-            ports.join(port)?;
+            ports.join(port);
         }
     }
-    Ok(())
 }
 
-impl<R: Net + Drop> UdpLink<R> {
+impl<R: Net + Clock + Drop> UdpLink<R> {
     /// A link without ports. What it needs of the system it takes at its first call.
     pub fn make(alloc: Global, net: R) -> UdpLink<R>
         ensures bound { (port : ℕ) → socket_at result.ports.bound port ≡ None }
         ensures waiting { result.ports.waiting.items ≡ [] }
+        ensures row { result.ports.row ≡ 0 }
     {
         UdpLink {
             alloc,
@@ -118,6 +121,7 @@ impl<R: Net + Drop> UdpLink<R> {
             watch: None,
             ports: Ports::new(alloc),
             given: 0,
+            pace: Pace::new(),
             part: [0; PAD_MOST],
             faults: 0,
         }
@@ -150,6 +154,7 @@ impl<R: Net + Drop> UdpLink<R> {
         ensures none { IfNone result (AreSame self.old.ports.bound self.new.ports.bound) }
         ensures others { AreSameBut port self.old.ports.bound self.new.ports.bound }
         ensures waiting { self.new.ports.waiting.items ≡ self.old.ports.waiting.items }
+        ensures row { self.new.ports.row ≡ self.old.ports.row }
     {
         if self.ports.socket(port).is_some() {
             return None;
@@ -171,6 +176,7 @@ impl<R: Net + Drop> UdpLink<R> {
         ensures faults { self.new.faults ≡ self.old.faults }
         ensures bound { AreSame self.old.ports.bound self.new.ports.bound }
         ensures behind { (more : List ℕ) × (self.new.ports.waiting.items ≡ self.old.ports.waiting.items ++ more) }
+        ensures row { self.new.ports.row ≡ self.old.ports.row }
     {
         self.given = 0;
         self.begin()?;
@@ -180,14 +186,40 @@ impl<R: Net + Drop> UdpLink<R> {
                 return None;
             }
         }
-        join_all(&mut self.ports, &watch.events).ok()
+        join_all(&mut self.ports, &watch.events);
+        Some(())
+    }
+
+    /// Asks the system behind so many datagrams, though some wait.
+    #[tactic(auto, using(crate::proofs::Waiting::none_behind))]
+    fn look_between(&mut self) -> Option<()>
+        ensures faults { self.new.faults ≡ self.old.faults }
+        ensures bound { AreSame self.old.ports.bound self.new.ports.bound }
+        ensures behind { (more : List ℕ) × (self.new.ports.waiting.items ≡ self.old.ports.waiting.items ++ more) }
+        ensures row { self.new.ports.row ≡ self.old.ports.row }
+    {
+        if self.given < LOOK_AFTER {
+            return Some(());
+        }
+        self.look(Duration::from_millis(0))
+    }
+
+    /// Nothing waits: rests where many datagrams come, so that those of a rest are taken at one waking.
+    fn rest(&mut self)
+        ensures faults { self.new.faults ≡ self.old.faults }
+        ensures ports { self.new.ports ≡ self.old.ports }
+    {
+        let rest = self.pace.rest(&self.net);
+        if !rest.is_zero() {
+            thread::sleep(&self.net, rest);
+        }
     }
 
     /// Asks the socket whose turn it is: the datagram, or that it has none.
     fn ask(&mut self, pad: &mut Pad) -> Result<Receipt, Failed>
         ensures cause { HasCause self.old.faults self.new.faults result }
         ensures bound { AreSame self.old.ports.bound self.new.ports.bound }
-        ensures asked { IsAsked result self.old.ports.waiting.items self.new.ports.waiting.items }
+        ensures asked { IsAsked result self.old.ports.row self.old.ports.waiting.items self.new.ports.row self.new.ports.waiting.items }
     {
         let Some((port, socket)) = self.ports.first() else {
             return Ok(Receipt::Nothing);
@@ -198,8 +230,9 @@ impl<R: Net + Drop> UdpLink<R> {
                 Err(self.fail())
             }
             Ok(Some((count, SocketAddr::V4(from)))) => {
-                self.ports.turn();
+                self.ports.serve();
                 self.given = self.given.saturating_add(1);
+                self.pace.count();
                 let _ = pad.fill(&self.part[..count]);
                 let from = Address {
                     ip: from.ip().octets(),
@@ -218,7 +251,7 @@ impl<R: Net + Drop> UdpLink<R> {
     fn ask_all(&mut self, pad: &mut Pad) -> Result<Receipt, Failed>
         ensures cause { HasCause self.old.faults self.new.faults result }
         ensures bound { AreSame self.old.ports.bound self.new.ports.bound }
-        ensures asked { AreAsked result self.old.ports.waiting.items self.new.ports.waiting.items }
+        ensures asked { AreAsked result self.old.ports.row self.old.ports.waiting.items self.new.ports.row self.new.ports.waiting.items }
     {
         for _ in 0..self.ports.count() {
             match self.ask(pad) {
@@ -231,7 +264,7 @@ impl<R: Net + Drop> UdpLink<R> {
     }
 }
 
-impl<R: Net + Drop> Link for UdpLink<R> {
+impl<R: Net + Clock + Drop> Link for UdpLink<R> {
     ghost told = { λ _. None };
 
     ghost faults = { λ l. l.faults };
@@ -243,6 +276,7 @@ impl<R: Net + Drop> Link for UdpLink<R> {
         ensures err { OnErr result (AreSame self.old.ports.bound self.new.ports.bound) }
         ensures others { AreSameBut port self.old.ports.bound self.new.ports.bound }
         ensures waiting { self.new.ports.waiting.items ≡ self.old.ports.waiting.items }
+        ensures row { self.new.ports.row ≡ self.old.ports.row }
     {
         match self.open(port) {
             Some(()) => Ok(()),
@@ -256,6 +290,7 @@ impl<R: Net + Drop> Link for UdpLink<R> {
         ensures gone { socket_at self.new.ports.bound port ≡ None }
         ensures others { AreSameBut port self.old.ports.bound self.new.ports.bound }
         ensures waiting { self.new.ports.waiting.items ≡ without port self.old.ports.waiting.items }
+        ensures row { self.new.ports.row ≡ self.old.ports.row }
     {
         self.ports.remove(port);
         Ok(())
@@ -265,9 +300,9 @@ impl<R: Net + Drop> Link for UdpLink<R> {
         ensures told { Added {X = LinkCall} None None (Receive (received result pad.new) ∷ []) }
         ensures cause { HasCause self.old.faults self.new.faults result }
         ensures bound { AreSame self.old.ports.bound self.new.ports.bound }
-        ensures left { IsLeftBy result self.new.ports.waiting.items }
+        ensures taken { IsTaken result self.old.ports.row self.old.ports.waiting.items self.new.ports.row self.new.ports.waiting.items }
     {
-        if self.given >= LOOK_AFTER && self.look(Duration::from_millis(0)).is_none() {
+        if self.look_between().is_none() {
             return Err(self.fail());
         }
         match self.ask_all(pad) {
@@ -275,6 +310,7 @@ impl<R: Net + Drop> Link for UdpLink<R> {
             Ok(Receipt::Nothing) => {}
             Ok(got) => return Ok(got),
         }
+        self.rest();
         if self.look(Duration::from_millis(WAIT_MILLIS)).is_none() {
             return Err(self.fail());
         }

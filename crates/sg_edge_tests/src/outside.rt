@@ -384,12 +384,17 @@ fn sends<L: Link>(rt: &impl Abort, link: &mut L, from: Address, addresses: &[Add
     }
 }
 
-/// Two ports that both have datagrams take turns.
+/// Two ports that both have datagrams take turns, sixteen datagrams each.
 fn takes_turns<L: Link>(rt: &(impl Abort + Net), link: &mut L, pad: &mut Pad) -> Result<(), Fail> {
     let near = bind_one(rt, link)?;
     let far = bind_one(rt, link)?;
-    sends(rt, link, near, &[near, near, far, far]);
+    for _ in 0..17 {
+        sends(rt, link, near, &[near, far]);
+    }
     let first = next_port(link, pad);
+    for _ in 1..16 {
+        assert!(rt; next_port(link, pad) == first);
+    }
     let second = next_port(link, pad);
     assert!(rt; first != second);
     assert!(rt; first != 0 && second != 0);

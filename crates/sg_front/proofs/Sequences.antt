@@ -15,10 +15,6 @@ told_from-append s (e ∷ es) fs =
     ap (λ (l : List Outcome). (muxing_next s e).told ++ l) (told_from-append (next s e) es fs)
     ∙ sym (append_assoc (muxing_next s e).told (told_from (next s e) es) (told_from (state_after (next s e) es) fs))
 
-pub came_from-append : (s : State) (es fs : List Event) → came_from s (es ++ fs) ≡ came_from s es ++ came_from (state_after s es) fs
-came_from-append s [] fs = refl
-came_from-append s (e ∷ es) fs = ap (λ (l : List Event). comes s.muxes s.calls e ∷ l) (came_from-append (next s e) es fs)
-
 -- the world after them is the world after what comes to it
 pub world_came : (s : State) (es : List Event) → (state_after s es).world ≡ world_after s.world (came_from s es)
 world_came s [] = refl

@@ -92,9 +92,6 @@ value_said : (items : List (ℕ × List ℕ)) (kind default : ℕ) → list_all 
 unfolding value_of
 value_said items kind default all = go (first_of_kind kind items)
   where
-    Value : Option (ℕ × List ℕ) → ℕ
-    Value o = said_or default (option_and_then said_by o)
-
     go : First kind items → IsSaid items kind default (said_or default (option_and_then said_by (find (λ item. eqb item.0 kind) items)))
     go (inl none) = subst (IsSaid items kind default) (sym (ap (λ (o : Option (ℕ × List ℕ)). said_or default (option_and_then said_by o)) none.0))
         (record { says = inl (All-from_recursion (λ item. ¬ (item.0 ≡ kind)) items none.1, refl); from = inl refl })

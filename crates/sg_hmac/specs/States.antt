@@ -1,14 +1,19 @@
 -- What the values in code stand for.
-use Rattle.std.specs.Prelude.{◌≡◌, ℕ, List, ◌++◌}
+use Rattle.std.specs.Prelude.{◌≡◌, ℕ, List, ◌++◌, replicate, MatchOption}
 use Rattle.sha1.specs.Sha1.{Holds}
-use Rattle.sg_hmac.specs.Hmac.{padded_key}
+use Rattle.sg_hmac.specs.Hmac.{filled, padded_key, short_key}
+use Rattle.sg_hmac.specs.declared.hmac.Pads.{Pads}
 use Rattle.sg_hmac.specs.declared.hmac.MacKey.{MacKey}
 use Rattle.sg_hmac.specs.declared.hmac.Mac.{Mac}
 
--- the value is this key
-pub record IsMacKey (octets : List ℕ) (key : MacKey) : Type 0 where
-  pub inner : Holds key.inner (padded_key 0x36 octets)
-  pub outer : Holds key.outer (padded_key 0x5c octets)
+-- both padded blocks of this key are hashed
+pub record AreHashed (octets : List ℕ) (pads : Pads) : Type 0 where
+  pub inner : Holds pads.inner (padded_key 0x36 octets)
+  pub outer : Holds pads.outer (padded_key 0x5c octets)
+
+-- the value is this key: its blocks are hashed, or there are none and the key is zeros
+abbrev pub IsMacKey : List ℕ → MacKey → Type 0
+IsMacKey octets key = MatchOption key.pads (filled (short_key octets) ≡ replicate 64 0) (AreHashed octets)
 
 -- the value covers this text under this key
 pub record Covers (octets text : List ℕ) (mac : Mac) : Type 0 where

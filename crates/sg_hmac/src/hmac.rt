@@ -3,7 +3,7 @@
 ghost use Rattle.std.specs.Prelude.{◌≡◌, ◌-◌, ◌≤◌, ℕ, List, [], ◌++◌, length, map, replicate, bit_xor};
 ghost use Rattle.sg_hmac.specs.Hmac.{filled, hmac_sha1, padded_key, short_key};
 ghost use Rattle.sha1.specs.Sha1.{Holds};
-ghost use Rattle.sg_hmac.specs.States.{Covers, IsMacKey};
+ghost use Rattle.sg_hmac.specs.States.{AreHashed, Covers, IsMacKey};
 
 use sha1::Sha1;
 
@@ -19,11 +19,18 @@ const INNER_PAD: u8 = 0x36;
 /// The octet that the outer pad repeats, "opad" of RFC 2104, section 2.
 const OUTER_PAD: u8 = 0x5c;
 
-/// A key, of which both padded blocks are hashed already (RFC 2104, section 4).
+/// Both padded blocks of a key, hashed (RFC 2104, section 4).
 #[derive(Drop)]
-pub struct MacKey {
+struct Pads {
     inner: Sha1,
     outer: Sha1,
+}
+
+/// A key, of which both padded blocks are hashed already. Of the key of zeros none is: its blocks are hashed where a
+/// code starts, so that blanks of bounded lists hash nothing.
+#[derive(Drop)]
+pub struct MacKey {
+    pads: Option<Pads>,
 }
 
 /// A message authentication code under way: a key, and the text that it covers so far.
@@ -33,25 +40,50 @@ pub struct Mac {
     outer: Sha1,
 }
 
+impl Pads {
+    fn new(block: &[u8; 64]) -> Pads
+        ensures { (key : List ℕ) → block.now ≡ filled (short_key key) → AreHashed key result }
+    {
+        Pads {
+            inner: hashed(block, INNER_PAD),
+            outer: hashed(block, OUTER_PAD),
+        }
+    }
+
+    fn start(&self) -> Mac
+        ensures { (key : List ℕ) → AreHashed key self.now → Covers key [] result }
+    {
+        Mac {
+            inner: self.inner.clone().unwrap(),
+            outer: self.outer.clone().unwrap(),
+        }
+    }
+}
+
 impl MacKey {
     /// The key, of any length.
     pub fn new(key: &[u8]) -> MacKey
         ensures { IsMacKey key.now result }
     {
-        let block = key_block(key);
         MacKey {
-            inner: hashed(&block, INNER_PAD),
-            outer: hashed(&block, OUTER_PAD),
+            pads: Some(Pads::new(&key_block(key))),
         }
     }
 
-    /// A code over no text yet, under this key. The key isn't hashed again.
+    /// The key of 20 zeros. It hashes nothing.
+    pub fn zeros() -> MacKey
+        ensures { IsMacKey (replicate 20 0) result }
+    {
+        MacKey { pads: None }
+    }
+
+    /// A code over no text yet, under this key. The key isn't hashed again, but for that of zeros.
     pub fn start(&self) -> Mac
         ensures { (key : List ℕ) → IsMacKey key self.now → Covers key [] result }
     {
-        Mac {
-            inner: self.inner.clone().unwrap(),
-            outer: self.outer.clone().unwrap(),
+        match &self.pads {
+            Some(pads) => pads.start(),
+            None => Pads::new(&[0; BLOCK]).start(),
         }
     }
 }

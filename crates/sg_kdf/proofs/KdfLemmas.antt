@@ -88,15 +88,6 @@ half_is m key salt first n octets encrypt auth session_salt ek es en le eo ee ea
 
 -- ---- suites
 
-pub raw_is : (s : Suite) → is_raw s ≡ true → key_len_of s ≡ 20
-raw_is Raw80 h = refl
-raw_is Cm128Tag80 h = cc
-raw_is Cm128Tag32 h = cc
-raw_is Cm192Tag80 h = cc
-raw_is Cm192Tag32 h = cc
-raw_is Cm256Tag80 h = cc
-raw_is Cm256Tag32 h = cc
-
 -- a key has a cipher's length under each suite but the raw one
 pub ciphers_key : (s : Suite) → IsKeyLength (key_len_of s) → (is_raw s ≡ false) × (salt_len_of s ≡ 14)
 ciphers_key Raw80 h = absurd (elim h [ inl e ↦ omega (arith, e) | inr g ↦ elim g [ inl e ↦ omega (arith, e) | inr e ↦ omega (arith, e) ] ])

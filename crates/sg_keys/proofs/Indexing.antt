@@ -96,18 +96,10 @@ no_secret : (xs : List ℕ) → same_secret xs [] ≡ false
 no_secret [] = refl
 no_secret (x ∷ xs) = refl
 
-a_secret : (xs : List ℕ) (y : ℕ) (ys : List ℕ) → same_secret xs (y ∷ ys) ≡ same_octets xs (y ∷ ys)
-a_secret [] y ys = refl
-a_secret (x ∷ xs) y ys = refl
-
 -- empty octets are no secret
 pub empty_found : (p : Part) (secret : List ℕ) (ring : List RingKey) → length secret ≡ 0 → None ≡ first_secret p secret 0 ring
 empty_found p [] ring e = sym (first_of-same (λ r. same_secret (octets_of p r) []) (λ _. false) (λ r. no_secret (octets_of p r)) 0 ring ∙ none_of 0 ring)
 empty_found p (y ∷ ys) ring e = absurd (omega (arith, e))
-
-pub secret_found : (p : Part) (secret : List ℕ) (ring : List RingKey) → 0 < length secret → first_with p secret 0 ring ≡ first_secret p secret 0 ring
-secret_found p [] ring h = absurd (omega (arith, h))
-secret_found p (y ∷ ys) ring h = sym (first_of-same (λ r. same_secret (octets_of p r) (y ∷ ys)) (λ r. same_octets (octets_of p r) (y ∷ ys)) (λ r. a_secret (octets_of p r) y ys) 0 ring)
 
 first_of-append : (test : RingKey → Bool) (n : ℕ) (xs ys : List RingKey) → first_of test n (xs ++ ys) ≡ option_or (first_of test n xs) (first_of test (n + length xs) ys)
 first_of-append test n [] ys = ap (λ m. first_of test m ys) (sym (add-zero n))

@@ -10,7 +10,7 @@ use Rattle.sg_base.specs.declared.faults.Refusal.TheVariants as refusal
 use Rattle.sg_base.specs.declared.keys.SessionKeys.{SessionKeys}
 use Rattle.sg_session.specs.Stages.{after_ok, stop_if}
 use Rattle.sg_session.specs.Ring.{RingKey, derived, with_session_keys, keys_clash, key_clashes_with_itself, first_clash_by, with_key_by, with_keys_by, install_by}
-use Rattle.sg_keys.specs.Reused.{IsDerived, given, first_from, own_if, reused_number, reused}
+use Rattle.sg_keys.specs.Reused.{given, first_from, own_if, reused_number, reused}
 
 first_from-append : (n : ℕ) (xs ys : List RingKey) (k : RingKey) → first_from n (xs ++ ys) k ≡ option_or (first_from n xs k) (first_from (n + length xs) ys k)
 first_from-append n [] ys k = ap (λ m. first_from m ys k) (sym (add-zero n))
@@ -28,10 +28,6 @@ told_apart key ring before = rw (first_from-append 0 ring before key, zero-add (
 pub told_says : (key : RingKey) (ring before : List RingKey) (a b : Option ℕ) (t : Bool) → a ≡ first_from 0 ring key → b ≡ first_from (length ring) before key → t ≡ key_clashes_with_itself key
     → option_or (option_or a b) (own_if t (length ring + length before)) ≡ reused_number (ring ++ before) key
 told_says key ring before a b t p q r = rw (p, q, r) (sym (told_apart key ring before))
-
--- a key that is given with its own session keys
-pub given_derived : (k : Master × SessionKeys) (m : Master) → k.0 ≡ m → IsDerived k → given k ≡ derived m
-given_derived k m e own = ap (with_session_keys k.0) own ∙ ap derived e
 
 -- a ring of whatever has keys
 module _ {X : Type 0} (key_of : X → RingKey) where

@@ -10,10 +10,6 @@ use Rattle.sg_session.specs.Ring.{RingKey, with_session_keys, first_clash_by, ke
 abbrev pub given : Master × SessionKeys → RingKey
 given k = with_session_keys k.0 k.1
 
--- the session keys beside a master key are its own
-abbrev pub IsDerived : Master × SessionKeys → Type 0
-IsDerived k = k.1 ≡ session_keys k.0
-
 -- the least number, from n on, of a key that clashes with this one
 abbrev pub first_from : ℕ → List RingKey → RingKey → Option ℕ
 first_from = first_clash_by (λ r. r)

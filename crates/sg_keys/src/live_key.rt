@@ -1,6 +1,6 @@
 //! A key that serves a session.
 
-ghost use Rattle.std.specs.Prelude.{◌≡◌, []};
+ghost use Rattle.std.specs.Prelude.{◌≡◌, [], None, replicate};
 
 use sg_base::{CipherKey, HalfKeys, Mki};
 
@@ -17,7 +17,9 @@ pub struct LiveKey {
 
 /// The blank of a bounded list: a key that serves no packet.
 pub(crate) fn blank() -> LiveKey
-    ensures { result.half.encrypt ≡ [] }
+    ensures encrypt { result.half.encrypt ≡ [] }
+    ensures auth { result.half.auth ≡ replicate 20 0 }
+    ensures mki { result.mki ≡ None }
 {
     LiveKey {
         number: 0,

@@ -112,8 +112,14 @@ impl PreparedKey {
     }
 }
 
+/// The blank of a bounded list. It hashes nothing.
 impl Default for PreparedKey {
     fn default() -> PreparedKey {
-        PreparedKey::new(blank())
+        PreparedKey {
+            key: blank(),
+            mki: ArrayVec::new(),
+            schedule: None,
+            mac: MacKey::zeros(),
+        }
     }
 }

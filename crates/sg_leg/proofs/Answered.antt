@@ -20,10 +20,6 @@ module _ (slot : ℕ) (o : Offer) (noise text : List ℕ) (call generation : ℕ
       → answered_with slot o noise text call generation old ≡ after_ok r (λ a. after_ok (generation_of call generation old a.media) (λ g. Ok (a.text, g)))
   answered_as r e = ap (λ r. after_ok r (λ a. after_ok (generation_of call generation old a.media) (λ g. Ok (a.text, g)))) e
 
-  pub no_answer : (fault : Fault) (ring : List RingKey) → IsAnswerOf (Err fault) (agreed_answer slot o noise text) → IsAgreed (Err fault) ring (answered_with slot o noise text call generation old)
-  no_answer (Refused cause) ring e = answered_as (Err cause) e
-  no_answer NoMemory ring e = tt
-
   module _ (out : List ℕ) (media : List (Option Medium)) (agreed : agreed_answer slot o noise text ≡ Ok (record { text = out; media = media })) where
     begun_as : (r : Result Generation Refusal) → generation_of call generation old media ≡ r → answered_with slot o noise text call generation old ≡ after_ok r (λ g. Ok (out, g))
     begun_as r e = answered_as (Ok (record { text = out; media = media })) agreed ∙ ap (λ r. after_ok r (λ g. Ok (out, g))) e
@@ -34,7 +30,3 @@ module _ (slot : ℕ) (o : Offer) (noise text : List ℕ) (call generation : ℕ
     pub not_given : (fault : Fault) (ring : List RingKey) → Begins (Err fault) ring (generation_of call generation old media) → IsAgreed (Err fault) ring (answered_with slot o noise text call generation old)
     not_given (Refused cause) ring e = begun_as (Err cause) e
     not_given NoMemory ring e = tt
-
-pub given_back : {F : Type 0} (o : OfferedValue) (state : F) (fault : Fault) (ring : List RingKey) (r : Result (List ℕ × Generation) Refusal) → IsAgreed (Err fault) ring r → IsAnswered {S = Vec MediaSpec} {F = F} (λ (specs : Vec MediaSpec). specs.items) o (Err (state, fault)) ring r
-given_back o state (Refused cause) ring r e = e
-given_back o state NoMemory ring r e = tt

@@ -152,11 +152,3 @@ fresh_encrypt kind octets encrypted n ks secret = λ i k at is. go n ks (secret 
     go n [] p i k at = absurd cc
     go n (a ∷ ks) p zero k at = let same : fresh_key kind n a ≡ k = cc in subst (λ (k : Live). 0 < length k.half.encrypt) same (octets a.master p.0)
     go n (a ∷ ks) p (suc i) k at = go (n + 1) ks p.1 i k at
-
--- ---- in a loop
-
-pub fresh_next : (kind : Kind) (n : ℕ) (all done done' : List Live) (k : AgreedKey) (left later : List AgreedKey) → left ≡ k ∷ later → done' ≡ done ++ fresh_key kind n k ∷ []
-    → done ++ fresh_keys kind n left ≡ all → done' ++ fresh_keys kind (n + 1) later ≡ all
-fresh_next kind n all done done' k left later is pushed so =
-    ap (λ l. l ++ fresh_keys kind (n + 1) later) pushed ∙ Rattle.std.proofs.Common.append_assoc done (fresh_key kind n k ∷ []) (fresh_keys kind (n + 1) later)
-    ∙ ap (λ l. done ++ fresh_keys kind n l) (sym is) ∙ so

@@ -83,11 +83,6 @@ module _ (slot : ℕ) (former : Option LiveValue) (media : Option ℕ) (noise : 
         ring = refl;
       }
 
--- with the state given back
-pub given_back : {F : Type 0} (slot : ℕ) (former : Option LiveValue) (r : Result AgreedOffer Refusal) (state : F) (fault : Fault) (old new : Books) → IsOpened slot former r (Err fault) old new → IsOffered {F = F} slot former r (Err (state, fault)) old new
-given_back slot former r state (Refused cause) old new e = e
-given_back slot former r state NoMemory old new e = tt
-
 pub by_own : (h : AtHand) (s : Sdp) (way : Way) (pairs : List Pair) (noise : List ℕ) (result : Result Opening Fault) → way ≡ ways.SdesFromPlain → h.noise ≡ noise
     → Gives (IsOpeningOf pairs) result (after_ok (each_active Plain (λ k m. Ok (offered_by (noise_of k noise))) 0 s.media) (λ lines. Ok (OwnLines lines)))
     → Gives (IsOpeningOf pairs) result (keying_of h s way)

@@ -86,10 +86,6 @@ planned_push : (old : List MediaSpec) (spec : MediaSpec) → planned (old ++ spe
 planned_push [] spec = append-nil (planned_in spec)
 planned_push (x ∷ old) spec = ap (λ l. planned_in x ++ l) (planned_push old spec) ∙ sym (append_assoc (planned_in x) (planned old) (planned_in spec))
 
--- an idle medium adds nothing
-pub next_none : (m first count : ℕ) (old : List MediaSpec) → IsNext m first None old count old count
-next_none m first count old = λ call generation rest more later. ([], sym (append-nil (planned old)), later)
-
 -- an active one adds its own
 pub next_some : (m first count count' : ℕ) (x : Medium) (old new : List MediaSpec) (spec : MediaSpec) → new ≡ old ++ spec ∷ [] → count' ≡ count + length x.from_peer.keys + length x.to_peer.keys
     → ((call generation : ℕ) → EachPair IsPlanned (planned_in spec) (sessions_from call generation m (first + count) (Some x ∷ []))) → IsNext m first (Some x) old count new count'
@@ -104,13 +100,6 @@ abbrev pub WillBePlanned : ℕ → ℕ → List (Option Medium) → List MediaSp
 WillBePlanned m first media specs count left =
     (call generation : ℕ) (more : List Planned) → EachPair IsPlanned more (sessions_from call generation m (first + count) left)
     → EachPair IsPlanned (planned specs ++ more) (sessions_from call generation 0 first media)
-
-pub will_be_next : (m first : ℕ) (media left later : List (Option Medium)) (x : Option Medium) (old new : List MediaSpec) (count count' : ℕ) → left ≡ x ∷ later → IsNext m first x old count new count'
-    → WillBePlanned m first media old count left → WillBePlanned (m + 1) first media new count' later
-will_be_next m first media left later x old new count count' is next will = λ call generation more rest.
-    let p = next call generation later more rest in
-    subst (λ l. EachPair IsPlanned l (sessions_from call generation 0 first media)) (sym (append_assoc (planned old) p.0 more) ∙ ap (λ l. l ++ more) (sym p.1))
-    (will call generation (p.0 ++ more) (subst (λ l. EachPair IsPlanned (p.0 ++ more) (sessions_from call generation m (first + count) l)) (sym is) p.2))
 
 pub will_be_all : (m first : ℕ) (media : List (Option Medium)) (specs : List MediaSpec) (count : ℕ) (left : List (Option Medium)) → left ≡ [] → WillBePlanned m first media specs count left
     → (call generation : ℕ) → EachPair IsPlanned (planned specs) (sessions_from call generation 0 first media)
@@ -133,16 +122,3 @@ keys_are call generation m (Some x ∷ ms) =
     let rest : List Installed = keys_from call generation (m + 1) ms in
     map-append key_of a (b ++ rest) ∙ ap (λ l. keys_of a ++ l) (map-append key_of b rest)
     ∙ (λ i. owned_keys (owner_at call generation m Opening) x.from_peer.keys i ++ (owned_keys (owner_at call generation m Sealing) x.to_peer.keys i ++ keys_are call generation (m + 1) ms i))
-
-media_keys_next : (x : Option Medium) (later : List (Option Medium)) → media_keys (x ∷ []) ++ media_keys later ≡ media_keys (x ∷ later)
-media_keys_next None later = refl
-media_keys_next (Some x) later =
-    append_assoc (ring_keys x.from_peer.keys) (ring_keys x.to_peer.keys ++ []) (media_keys later)
-    ∙ ap (λ l. ring_keys x.from_peer.keys ++ (l ++ media_keys later)) (append-nil (ring_keys x.to_peer.keys))
-
--- the keys so far and those to come
-pub keys_next : (keys keys' : List RingKey) (x : Option Medium) (left later media : List (Option Medium)) → left ≡ x ∷ later → keys' ≡ keys ++ media_keys (x ∷ [])
-    → keys ++ media_keys left ≡ media_keys media → keys' ++ media_keys later ≡ media_keys media
-keys_next keys keys' x left later media is pushed so =
-    ap (λ l. l ++ media_keys later) pushed ∙ append_assoc keys (media_keys (x ∷ [])) (media_keys later)
-    ∙ ap (λ l. keys ++ l) (media_keys_next x later) ∙ ap (λ l. keys ++ media_keys l) (sym is) ∙ so

@@ -56,15 +56,6 @@ use Rattle.sg_leg.specs.Messages.{IsAtHand, message_fault, psk_fault, cs_fault, 
 use Rattle.sg_leg.specs.Open.{IsBundleOf}
 use Rattle.sg_leg.specs.declared.keying.Bundle as kept
 
--- a fault ends the stages
-pub gives_after : {X A Z B : Type 0} (Is : X → A → Type 0) (Is' : Z → B → Type 0) (fault : Fault) (r : Result A Refusal) (f : A → Result B Refusal) → Gives Is (Err fault) r → Gives Is' (Err fault) (after_ok r f)
-gives_after Is Is' (Refused cause) r f e = ap (λ r. after_ok r f) e
-gives_after Is Is' NoMemory r f e = tt
-
-tells_gives : {X Z B : Type 0} (Is : Z → B → Type 0) (fault : Fault) (r : Result X Refusal) (f : X → Result B Refusal) → Tells {X = X} (Err fault) r → Gives Is (Err fault) (after_ok r f)
-tells_gives Is (Refused cause) r f e = ap (λ r. after_ok r f) e
-tells_gives Is NoMemory r f e = tt
-
 -- ---- reading
 
 kind_ok : (medium kind : ℕ) (octets : List ℕ) (m n : Message) (b : Bool) → cond b (Err (Refused (Mikey medium 1 DataType))) (Ok m) ≡ Ok n → ◌≡◌ {A = Result (List ℕ × Message) Refusal} (stop_if b (Mikey medium 1 DataType) (Ok (octets, m))) (Ok (octets, n))
@@ -209,9 +200,6 @@ pairs_push R xs ys x y p q = pairs_append R xs (x ∷ []) ys (y ∷ []) p (q, tt
 
 module _ (pairs : List Pair) (value : ℕ → descriptions.Medium → Result Bundle Refusal) (i : ℕ) (m : descriptions.Medium) (ms : List descriptions.Medium) (lt : i < length ms) (at : m ≡ get_or ms i m)
     (so : List (Option kept.Bundle)) where
-  abbrev IsSo : List (Option Bundle) → Type 0
-  IsSo done = EachPair (IsBundleIf pairs) so done × (prefixed done (each_active Secure value i (drop i ms)) ≡ each_active Secure value 0 ms)
-
   pub walk_next : (done : List (Option Bundle)) × EachPair (IsBundleIf pairs) so done × (prefixed done (each_active Secure value i (drop i ms)) ≡ each_active Secure value 0 ms)
       → (x : Option kept.Bundle) → (o : Option Bundle) × (if_active (is_active Secure m) (value i m) ≡ Ok o) × IsBundleIf pairs x o
       → (so' : List (Option kept.Bundle)) → so' ≡ so ++ x ∷ []
@@ -252,15 +240,6 @@ pub room_next : (n : ℕ) (so : List (Option kept.Bundle)) (x : Option kept.Bund
 room_next n so x room here so' pushed = subst (HasRoomIn n) (sym pushed) (pushed_room n so x room here)
 
 -- ---- in the session part, or in the media
-
-pub in_session : (h : AtHand) (s : Sdp) (value : Option (List ℕ)) → is_some value ≡ true → after_ok (bundle_in h 255 (active_count Secure s.media) value) (λ b. Ok (agreed.PeerMessage b)) ≡ keying_by_messages h s value
-in_session h s (Some value) e = refl
-in_session h s None e = absurd cc
-
-pub in_media : (h : AtHand) (s : Sdp) (value : Option (List ℕ)) → is_some value ≡ false
-    → after_ok (each_active Secure (λ k m. bundle_in h k 1 (mikey_value m.lines)) 0 s.media) (λ bs. Ok (agreed.PeerMessages bs)) ≡ keying_by_messages h s value
-in_media h s None e = refl
-in_media h s (Some value) e = absurd cc
 
 pub opened_with : {X A : Type 0} (Is : X → A → Type 0) (make : A → agreed.Keying) (x : X) (r : Result A Refusal) → Gives Is (Ok x) r → (a : A) × (◌≡◌ {A = Result agreed.Keying Refusal} (after_ok r (λ a. Ok (make a))) (Ok (make a))) × Is x a
 opened_with Is make x r (a, e, is) = (a, ap (λ r. after_ok r (λ a. Ok (make a))) e, is)

@@ -1,11 +1,11 @@
 -- Which lines a text has that is told with lines of RFC 5761.
 use Rattle.std.proofs.Common.{◌≡◌, inl, inr, ℕ, zero, suc, ◌<◌, Bool, true, false, cond, ltb, List, [], ◌∷◌, ◌++◌, append_assoc, length, Result, Ok, Err, refl, sym, ap, ◌∙◌, subst, arith}
 use Rattle.std.specs.Prelude.{◌&&◌, ◌⊎◌}
-use Rattle.std.specs.List.{AllByRecursion, Any, Contains, flat_map, onto_first, slice_split}
+use Rattle.std.specs.List.{All, AllByRecursion, Any, Contains, flat_map, onto_first, slice_split}
 use Rattle.std.proofs.lemmas.List.Elements.{All-contains_itself, All-from_recursion, Contains-append_left, Contains-append_right, recursion_from_All}
 use Rattle.std.proofs.lemmas.List.Splits.{length-slice_split, slice_split-cons_yes}
 use Rattle.sg_session.proofs.Lists.{each_append, each_flat_map, each_weaker}
-use Rattle.sg_sdp.specs.Descriptions.{IsSdp, IsShort, Spells, all_lines, ended, medium_lines}
+use Rattle.sg_sdp.specs.Descriptions.{IsSdp, IsShort, Spells, all_lines, ended, medium_lines, spelling}
 use Rattle.sg_sdp.specs.Faults.{Fault}
 use Rattle.sg_sdp.specs.Parts.{with_line_at, with_media_line}
 use Rattle.sg_sdp.specs.Reading.{description_of, description_within}
@@ -48,6 +48,18 @@ module _ (P : List ℕ → Type 0) (nothing : P []) where
   spelled (l ∷ ls) each =
       subst (AllByRecursion P) (sym (ap parts_of (append_assoc l (13 ∷ 10 ∷ []) (flat_map ended ls)) ∙ parts_behind l (flat_map ended ls)))
       (each_append P (parts_of l) ([] ∷ parts_of (flat_map ended ls)) each.0 (nothing, spelled ls each.1))
+
+  -- each line ended by CR LF or by LF alone
+  spelt : (ls : List (List ℕ)) (text : List ℕ) → Spells ls text → AllByRecursion (λ l. AllByRecursion P (parts_of l)) ls → AllByRecursion P (parts_of text)
+  spelt [] text is each = subst (λ text. AllByRecursion P (parts_of text)) (sym is) (nothing, tt)
+  spelt (l ∷ ls) text (rest, inl is, later) each =
+      subst (AllByRecursion P) (sym (ap parts_of is ∙ parts_behind l rest)) (each_append P (parts_of l) ([] ∷ parts_of rest) each.0 (nothing, spelt ls rest later each.1))
+  spelt (l ∷ ls) text (rest, inr is, later) each =
+      subst (AllByRecursion P) (sym (ap parts_of is ∙ parted ends_line l 10 rest refl)) (each_append P (parts_of l) (parts_of rest) each.0 (spelt ls rest later each.1))
+
+spells : (ls : List (List ℕ)) → Spells ls (flat_map ended ls)
+spells [] = refl
+spells (l ∷ ls) = (flat_map ended ls, inl (append_assoc l (13 ∷ 10 ∷ []) (flat_map ended ls)), spells ls)
 
 -- all parts of the line are parts of the text
 abbrev IsIn : List ℕ → List ℕ → Type 0
@@ -98,6 +110,34 @@ module _ (P : List ℕ → Type 0) where
   abbrev Each : Sdp → Type 0
   Each s = AllByRecursion P s.session × AllByRecursion EachOf s.media
 
+  by_lines : (s : Sdp) → AllByRecursion P (all_lines s) → Each s
+  by_lines s each = (first_of s.session (flat_map medium_lines s.media) each, by_medium s.media (rest_of s.session (flat_map medium_lines s.media) each))
+
+  in_lines : (s : Sdp) → Each s → AllByRecursion P (all_lines s)
+  in_lines s lines = each_append P s.session (flat_map medium_lines s.media) lines.0 (each_flat_map EachOf P medium_lines (λ m of. of) s.media lines.1)
+
+  -- of the lines with those that are added, the ones of before
+
+  at_medium_before : (i : ℕ) (ms : List Medium) → AllByRecursion EachOf (with_line_at i mux_line ms) → AllByRecursion EachOf ms
+  unfolding with_line_at
+  at_medium_before i [] each = tt
+  at_medium_before zero (m ∷ ms) each = ((each.0.0, first_of m.lines (mux_line ∷ []) each.0.1), each.1)
+  at_medium_before (suc i) (m ∷ ms) each = (each.0, at_medium_before i ms each.1)
+
+  before_if : (b : Bool) (medium : ℕ) (s : Sdp) → Each (cond b (with_media_line medium mux_line s) s) → Each s
+  before_if true medium s each = (each.0, at_medium_before medium s.media each.1)
+  before_if false medium s each = each
+
+  before_mark : (marked : Bool) (medium : ℕ) (s : Sdp) → Each (with_line_if marked medium s) → Each s
+  before_mark marked medium s each = before_if (marked && ltb medium (length s.media)) medium s each
+
+  each_before : (marks : List Bool) (s : Sdp) → AllByRecursion P (all_lines (with_lines marks s)) → AllByRecursion P (all_lines s)
+  each_before marks s each =
+      let first = with_line_if (mark marks 0) 0 s in
+      let second = with_line_if (mark marks 1) 1 first in
+      let third = with_line_if (mark marks 2) 2 second in
+      in_lines s (before_mark (mark marks 0) 0 s (before_mark (mark marks 1) 1 first (before_mark (mark marks 2) 2 second (before_mark (mark marks 3) 3 third (by_lines (with_lines marks s) each)))))
+
   module _ (line : P mux_line) where
     at_medium : (i : ℕ) (ms : List Medium) → AllByRecursion EachOf ms → AllByRecursion EachOf (with_line_at i mux_line ms)
     unfolding with_line_at
@@ -121,9 +161,7 @@ module _ (P : List ℕ → Type 0) where
 
     each_line : (marks : List Bool) (s : Sdp) → AllByRecursion P (all_lines s) → AllByRecursion P (all_lines (with_lines marks s))
     each_line marks s each =
-        let lines : Each (with_lines marks s) = at_each marks s (first_of s.session (flat_map medium_lines s.media) each, by_medium s.media (rest_of s.session (flat_map medium_lines s.media) each)) in
-        each_append P (with_lines marks s).session (flat_map medium_lines (with_lines marks s).media) lines.0
-        (each_flat_map EachOf P medium_lines (λ m of. of) (with_lines marks s).media lines.1)
+        in_lines (with_lines marks s) (at_each marks s (by_lines s each))
 
 -- ---- a text as it is told
 
@@ -134,18 +172,40 @@ module _ (first : List ℕ) where
   as_it_was : (line : List ℕ) → Contains (parts_of first) line → IsTold line
   as_it_was line (k, within, is) = inl (k, line, within, is, refl)
 
+  abbrev IsKept : List ℕ → List ℕ → Type 0
+  IsKept text line = Any (λ l. l ≡ line) (parts_of text)
+
+  kept_in : (text line : List ℕ) → Contains (parts_of text) line → IsKept text line
+  kept_in text line (k, within, is) = (k, line, within, is, refl)
+
   pub same_lines : AddsMuxLines first first
   same_lines =
-      All-from_recursion IsTold (parts_of first)
-      (each_weaker (Contains (parts_of first)) IsTold as_it_was (parts_of first) (recursion_from_All (Contains (parts_of first)) (parts_of first) (All-contains_itself (parts_of first))))
+      let own = recursion_from_All (Contains (parts_of first)) (parts_of first) (All-contains_itself (parts_of first)) in record {
+        added = All-from_recursion IsTold (parts_of first) (each_weaker (Contains (parts_of first)) IsTold as_it_was (parts_of first) own);
+        kept = All-from_recursion (IsKept first) (parts_of first) (each_weaker (Contains (parts_of first)) (IsKept first) (kept_in first) (parts_of first) own);
+      }
 
   more_lines : (marks : List Bool) (s : Sdp) → Spells (all_lines s) first → AddsMuxLines first (spelled_with first marks (Ok s))
-  more_lines marks s is =
-      let were = all_in (all_lines s) first is in
-      All-from_recursion IsTold (parts_of (flat_map ended (all_lines (with_lines marks s))))
-      (spelled IsTold (as_it_was [] were.1) (all_lines (with_lines marks s))
-      (each_line (λ l. AllByRecursion IsTold (parts_of l)) (inr refl, tt) marks s
-      (each_weaker (IsIn first) (λ l. AllByRecursion IsTold (parts_of l)) (λ l is. each_weaker (Contains (parts_of first)) IsTold as_it_was (parts_of l) is) (all_lines s) were.0)))
+  more_lines marks s is = record { added = are_told; kept = are_kept }
+    where
+      are_told : All IsTold (parts_of (spelling (with_lines marks s)))
+      are_told =
+          let were = all_in (all_lines s) first is in
+          All-from_recursion IsTold (parts_of (spelling (with_lines marks s)))
+          (spelled IsTold (as_it_was [] were.1) (all_lines (with_lines marks s))
+          (each_line (λ l. AllByRecursion IsTold (parts_of l)) (inr refl, tt) marks s
+          (each_weaker (IsIn first) (λ l. AllByRecursion IsTold (parts_of l)) (λ l is. each_weaker (Contains (parts_of first)) IsTold as_it_was (parts_of l) is) (all_lines s) were.0)))
+
+      in_told : (l : List ℕ) → IsIn (spelling (with_lines marks s)) l → AllByRecursion (IsKept (spelling (with_lines marks s))) (parts_of l)
+      in_told l is = each_weaker (Contains (parts_of (spelling (with_lines marks s)))) (IsKept (spelling (with_lines marks s))) (kept_in (spelling (with_lines marks s))) (parts_of l) is
+
+      are_kept : All (IsKept (spelling (with_lines marks s))) (parts_of first)
+      are_kept =
+          let now = all_in (all_lines (with_lines marks s)) (spelling (with_lines marks s)) (spells (all_lines (with_lines marks s))) in
+          All-from_recursion (IsKept (spelling (with_lines marks s))) (parts_of first)
+          (spelt (IsKept (spelling (with_lines marks s))) (kept_in (spelling (with_lines marks s)) [] now.1) (all_lines s) first is
+          (each_weaker (IsIn (spelling (with_lines marks s))) (λ l. AllByRecursion (IsKept (spelling (with_lines marks s))) (parts_of l)) in_told (all_lines s)
+          (each_before (IsIn (spelling (with_lines marks s))) marks s now.0)))
 
 -- what a description that is read spells, by the law of sg_sdp
 abbrev pub ReadIsSpelled : Type 0

@@ -1,5 +1,5 @@
 -- What a run tells whose legs share ports.
-use Rattle.std.proofs.Common.{◌≡◌, ℕ, ◌-◌, ◌/◌, ◌%◌, Bool, true, false, cond, not, List, [], ◌∷◌, map, Option, refl, ap, arith, eqb}
+use Rattle.std.proofs.Common.{◌≡◌, ◌⊎◌, inl, inr, ℕ, zero, suc, ◌+◌, ◌-◌, ◌%◌, Bool, true, false, cond, not, List, [], ◌∷◌, map, Option, refl, ap, arith, eqb}
 use Rattle.std.specs.Prelude.{◌&&◌}
 use Rattle.std.proofs.lemmas.Bool.{and_parts, eqb-true}
 use Rattle.std.specs.List.{AllByRecursion}
@@ -11,7 +11,7 @@ use Rattle.sg_gateway.specs.Step.{Event, Signalled, Datagram}
 use Rattle.sg_gateway.specs.World.{World, empty}
 use Rattle.sg_outcome.specs.declared.outcomes.Outcome.{Outcome}
 use Rattle.sg_outcome.specs.declared.outcomes.Outcome.TheVariants.{Made, Live, Sdp, Refused, Ended, Out, Dropped, Unsent}
-use Rattle.sg_passages.specs.Passages.{ArePassagesOf, AreToldAs, IsFaithful, IsToldAs, KeepsLegs, KeepsOffers, Leaving, straight}
+use Rattle.sg_passages.specs.Passages.{ArePassagesOf, AreToldAs, IsFaithful, IsOneBefore, IsToldAs, KeepsLegs, KeepsOffers, Leaving, straight}
 use Rattle.sg_mux.proofs.Lines.{ReadIsSpelled, adds_lines, same_lines}
 use Rattle.sg_mux.specs.Legs.{is_muxed_at, is_muxed_rtcp, leaves}
 use Rattle.sg_mux.specs.Muxed.{agreed, settled_answer, nobody, offered_by, settled, signalled}
@@ -76,36 +76,34 @@ module _ (spelled : ReadIsSpelled) where
 
 -- ---- legs
 
--- the second port of a leg, and the one before
-one_leg : (port : ℕ) → (port - 20000) % 2 ≡ 1 → (port - 1 - 20000) / 2 ≡ (port - 20000) / 2
-one_leg port odd = omega (arith, odd)
+-- the second port of a leg, and a port that isn't 0, with the ones before
+second_port : (port : ℕ) → (port - 20000) % 2 ≡ 1 → port - 1 + 1 ≡ port
+second_port port odd = omega (arith, odd)
+
+some_port : (port : ℕ) (none : Bool) → eqb port 0 ≡ none → not none ≡ true → port - 1 + 1 ≡ port
+some_port port true is some = absurd cc
+some_port zero false is some = absurd cc
+some_port (suc port) false is some = omega arith
 
 module _ (calls : List (Option Known)) (port : ℕ) (to : Address) where
   abbrev Shared : Bool
   Shared = is_muxed_rtcp calls port && not (eqb to.port 0)
 
-  odd : Shared ≡ true → (port - 20000) % 2 ≡ 1
-  odd is = eqb-true _ _ (and_parts (eqb ((port - 20000) % 2) 1) (is_muxed_at calls port) (and_parts (is_muxed_rtcp calls port) (not (eqb to.port 0)) is).0).0
-
   abbrev by : Bool → Leaving
   by b = cond b (record { port = port - 1; to = record { ip = to.ip; port = to.port - 1 } }) (straight port to)
 
-  same_leg : (b : Bool) → Shared ≡ b → ((by b).port - 20000) / 2 ≡ (port - 20000) / 2
-  same_leg true is = one_leg port (odd is)
-  same_leg false is = refl
-
-  same_host : (b : Bool) → (by b).to.ip ≡ to.ip
-  same_host true = refl
-  same_host false = refl
+  keeps : (b : Bool) → Shared ≡ b → (by b ≡ straight port to) ⊎ IsOneBefore port to (by b)
+  keeps false is = inl refl
+  keeps true is =
+      let parts = and_parts (is_muxed_rtcp calls port) (not (eqb to.port 0)) is in
+      let odd = eqb-true _ _ (and_parts (eqb ((port - 20000) % 2) 1) (is_muxed_at calls port) parts.0).0 in
+      inr (record { second = odd; first = second_port port odd; host = refl; before = some_port to.port (eqb to.port 0) refl parts.1 })
 
 legs : (calls : List (Option Known)) → KeepsLegs (leaves calls)
-legs calls = record {
-  leg = λ port to. same_leg calls port to (Shared calls port to) refl;
-  host = λ port to. same_host calls port to (Shared calls port to);
-}
+legs calls port to = keeps calls port to (Shared calls port to) refl
 
 straight_legs : KeepsLegs straight
-straight_legs = record { leg = λ port to. refl; host = λ port to. refl }
+straight_legs port to = inl refl
 
 -- ---- offers
 

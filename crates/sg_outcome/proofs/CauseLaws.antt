@@ -52,9 +52,6 @@ unfolding signed_at
 signed_again (pos n) fits = positive n (decimal n) refl fits
 signed_again (negsuc n) fits = rw (number_again 9223372036854775808 (suc n) (omega (arith, fits)) (lit< tt)) (below_again n)
 
-stamp_below : (m : ℕ) (z : ℤ) → m < 2 ^ 63 → negsuc m ≡ z → FitsStamp z
-stamp_below m z fits e = subst FitsStamp e fits
-
 pub signed_takes : (t : List ℕ) (z : ℤ) → signed_at t ≡ Some z → (t ≡ signed_decimal z) × FitsStamp z
 unfolding signed_at
 signed_takes [] z e = absurd cc

@@ -1,31 +1,32 @@
 -- Each part of the headline that tells what becomes of an event, over passages.
-use Rattle.std.proofs.Common.{List, get_or, ◌∙◌}
+use Rattle.std.proofs.Common.{◌⊎◌, inl, inr, ℕ, ◌∷◌, List, get_or, ◌∙◌, subst}
 use Rattle.std.specs.List.{All}
 use Rattle.sg_session.proofs.Lists.{any_weaker}
 use Rattle.sg_session.specs.Reach.{Sealed}
 use Rattle.sg_session.specs.Session.{Session}
 use Rattle.sg_gateway.specs.Addressed.{OfferIsItsText, OffersAreTheirTexts}
+use Rattle.sg_conduct.specs.Manual.{ManualCallsAreTaken, ManualIsTaken}
+use Rattle.sg_conduct.specs.Place as place
+use Rattle.sg_conduct.specs.Settled.{DatagramIsSettled, EachDatagramIsSettled, IsDropped, IsOneOut}
 use Rattle.sg_gateway.specs.Arriving as arriving
 use Rattle.sg_gateway.specs.Authentic.{MessagesAreAcceptedOnce, NotesStay, OfferIsAuthentic}
 use Rattle.sg_gateway.specs.CarriedOut.{AnswerRenews, AnswersRenew}
 use Rattle.sg_gateway.specs.Datagrams.{Entry}
-use Rattle.sg_gateway.specs.Departing as departing
 use Rattle.sg_gateway.specs.Ended.{EachEndFrees, EndsAreFree}
-use Rattle.sg_gateway.specs.Newness as newness
 use Rattle.sg_gateway.specs.PeersPackets as peers
 use Rattle.sg_gateway.specs.PlainTexts.{NoKeyGoesToThePlainSide, TellsNoKey}
 use Rattle.sg_gateway.specs.Refusing.{EachRefusalChangesNothing, EachRefusedOfferStaysOpen, OffersStayOpen}
 use Rattle.sg_gateway.specs.Runs.{Turn, turns}
 use Rattle.sg_gateway.specs.SealedOut as seals
 use Rattle.sg_gateway.specs.Step.{Event}
-use Rattle.sg_gateway.specs.Taken.{LaterOfferIsTaken, ManualCallIsTaken, ManualCallsAreTaken, NewOfferIsTaken, OffersAreTaken}
+use Rattle.sg_gateway.specs.Taken.{LaterOfferIsTaken, NewOfferIsTaken, OffersAreTaken}
 use Rattle.sg_gateway.specs.Used.{EachSealUsesItsBlocks, SealsUseTheirBlocks}
 use Rattle.sg_gateway.specs.World.{Call}
 use Rattle.sg_passages.proofs.Lifting.{bars_out, bars_plain, bars_secure, each, made_live, none_told, one_out, some_end, some_refusal, told_out, told_refusal}
 use Rattle.sg_passages.proofs.Texts.{told_no_key}
-use Rattle.sg_passages.specs.Passages.{ArePassagesOf, IsFaithful, Passage}
+use Rattle.sg_passages.specs.Passages.{ArePassagesOf, AreToldAs, IsFaithful, Passage}
 use Rattle.sg_passages.specs.PutOut as told
-use Rattle.sg_passages.specs.Told.{EachAsTold, OpensWhatGoesOut, PlainTextsHaveNoKey, RefusalChangesNothing, SealsWhatGoesOut, SignalStaysIn, as_told}
+use Rattle.sg_passages.specs.Told.{DatagramIsTold, EachAsTold, IsToldDropped, OpensWhatGoesOut, PlainTextsHaveNoKey, RefusalChangesNothing, SealsWhatGoesOut, SignalStaysIn, as_told}
 
 -- ---- what is put out of one passage
 
@@ -37,6 +38,13 @@ sealed_out p f e c s is = record { name = is.name; encrypts = is.encrypts; key =
 
 arrived_out : (p : Passage) → IsFaithful p → (c : Call) (s : Session) (x : Sealed) → arriving.IsPutOut p.turn c s x → told.IsPutOut p c s x
 arrived_out p f c s x is = record { opened = is.opened; out = one_out p f _ _ _ is.out }
+
+settled_told : (p : Passage) → IsFaithful p → (port : ℕ) → IsDropped p.turn port ⊎ IsOneOut p.turn → IsToldDropped (as_told p) ⊎ IsOneOut (as_told p)
+settled_told p f port (inl is) =
+    let so = subst (λ os. AreToldAs p.leaves os p.told) is.told f.told in
+    inl (record { port = so.3.0; cause = is.cause; told = so.2 ∙ (λ i. so.3.1 i ∷ so.4 i); nothing = is.nothing; same = is.same })
+settled_told p f port (inr is) =
+    inr (record { port = (p.leaves is.port is.to).port; to = (p.leaves is.port is.to).to; octets = is.octets; entry = is.entry; told = one_out p f _ _ _ is.told; one = is.one })
 
 module _ (events : List Event) (passages : List Passage) (are : ArePassagesOf events passages) where
   over : (P : Turn → Type 0) (Q : Passage → Type 0) → ((p : Passage) → IsFaithful p → P p.turn → Q p) → All P (turns events) → All Q passages
@@ -68,17 +76,16 @@ module _ (events : List Event) (passages : List Passage) (are : ArePassagesOf ev
   blocks_used holds = over SealsUseTheirBlocks (λ p. SealsUseTheirBlocks (as_told p))
       (λ p f h k d lt sealing encrypts port to text is. let was = told_out p f port to text is in h k d lt sealing encrypts was.port was.to text was.is) holds
 
-  pub arriving_out : (sealed : List Sealed) → arriving.EachArrivingIsPutOut sealed events → told.EachArrivingIsPutOut sealed passages
-  arriving_out sealed holds = over (arriving.ArrivingArePutOut sealed) (told.ArrivingArePutOut sealed)
+  pub arriving_out : (sealed : List Sealed) → All (place.WithinReachArePutOut sealed) (turns events) → told.EachArrivingIsPutOut sealed passages
+  arriving_out sealed holds = over (place.WithinReachArePutOut sealed) (told.ArrivingArePutOut sealed)
       (λ p f h x port from d c s k has is a. arrived_out p f c s x (h x port from d c s k has is a)) holds
 
-  pub new_out : (sealed : List Sealed) → newness.EachNewIsPutOut sealed events → told.EachNewIsPutOut sealed passages
-  new_out sealed holds = over (newness.NewArePutOut sealed) (told.NewArePutOut sealed)
-      (λ p f h x port from d c s k has is a. arrived_out p f c s x (h x port from d c s k has is a)) holds
-
-  pub departing_sealed : departing.EachDepartingIsSealed events → told.EachDepartingIsSealed passages
-  departing_sealed holds = over departing.DepartingAreSealed told.DepartingAreSealed
+  pub departing_sealed : All place.WithinReachAreSealed (turns events) → told.EachDepartingIsSealed passages
+  departing_sealed holds = over place.WithinReachAreSealed told.DepartingAreSealed
       (λ p f h port from d c s ssrc index is a. any_weaker _ _ (λ k r. record { live = r.live; sealed = r.sealed; out = one_out p f _ _ _ r.out }) s.keys (h port from d c s ssrc index is a)) holds
+
+  pub settled : EachDatagramIsSettled events → EachAsTold DatagramIsTold passages
+  settled holds = over DatagramIsSettled (λ p. DatagramIsTold (as_told p)) (λ p f h port from d is. settled_told p f port (h port from d is)) holds
 
   -- ---- refusals and ends
 
@@ -101,9 +108,9 @@ module _ (events : List Event) (passages : List Passage) (are : ArePassagesOf ev
         (λ id way noise text c a is found by_lines closed agreed. let r = h.1 id way noise text c a is found by_lines closed agreed in (r.0, f.offers id way noise text is ∙ r.1)),
       )) holds
 
-  pub manual_taken : ManualCallsAreTaken events → EachAsTold ManualCallIsTaken passages
-  manual_taken holds = over ManualCallIsTaken (λ p. ManualCallIsTaken (as_told p))
-      (λ p f h call g is none room keyed. let r = h call g is none room keyed in (made_live p f _ _ _ r.0, r.1)) holds
+  pub manual_taken : ManualCallsAreTaken events → EachAsTold ManualIsTaken passages
+  manual_taken holds = over ManualIsTaken (λ p. ManualIsTaken (as_told p))
+      (λ p f h call is none room free. let r = h call is none room free in (made_live p f _ _ _ r.0, r.1)) holds
 
   pub answers_renew : AnswersRenew events → EachAsTold AnswerRenews passages
   answers_renew holds = over AnswerRenews (λ p. AnswerRenews (as_told p)) (λ p f h id noise text c is found taken. h id noise text c is found (λ refused. taken (told_refusal p f refused))) holds

@@ -1,4 +1,4 @@
 mod Headlines
-mod Lifting
+pub mod Lifting
 pub mod Plainly
 mod Texts

@@ -1,5 +1,5 @@
 -- What holds of turns holds of the passages that tell them.
-use Rattle.std.proofs.Common.{◌≡◌, inl, inr, ℕ, ◌-◌, ◌/◌, ◌%◌, ◌<◌, ◌≤◌, List, [], ◌∷◌, map, refl, sym, subst, ap, arith, ◌∙◌}
+use Rattle.std.proofs.Common.{◌≡◌, inl, inr, ℕ, ◌+◌, ◌-◌, ◌/◌, ◌%◌, ◌<◌, ◌≤◌, List, [], ◌∷◌, map, refl, sym, subst, ap, arith, ◌∙◌}
 use Rattle.std.specs.List.{All, Any, AllByRecursion}
 use Rattle.std.proofs.lemmas.List.Elements.{All-from_recursion, recursion_from_All}
 use Rattle.sg_base.specs.declared.addresses.Address.{Address}
@@ -12,7 +12,7 @@ use Rattle.sg_gateway.specs.PeersPackets.{IsOutPlain}
 use Rattle.sg_gateway.specs.Refusing.{IsRefusal, IsRefused}
 use Rattle.sg_gateway.specs.Runs.{Turn}
 use Rattle.sg_gateway.specs.SealedOut.{IsOut, IsOutSecure}
-use Rattle.sg_passages.specs.Passages.{AreToldAs, IsFaithful, IsToldAs, KeepsLegs, Leaves, Passage, out_by}
+use Rattle.sg_passages.specs.Passages.{AreToldAs, IsFaithful, IsToldAs, KeepsLegs, Leaves, Leaving, Passage, out_by}
 use Rattle.sg_passages.specs.Told.{as_told}
 
 lifted : (P : Turn → Type 0) (Q : Passage → Type 0) → ((p : Passage) → IsFaithful p → P p.turn → Q p) → (ps : List Passage)
@@ -100,8 +100,18 @@ plain_side a b same high = omega (arith, same, high)
 secure_side : (a b : ℕ) → a / 2 ≡ b / 2 → a % 4 < 2 → b % 4 < 2
 secure_side a b same low = omega (arith, same, low)
 
+one_leg : (a b : ℕ) → (b - 20000) % 2 ≡ 1 → a + 1 ≡ b → (a - 20000) / 2 ≡ (b - 20000) / 2
+one_leg a b odd next = omega (arith, odd, next)
+
+-- a packet leaves by a port of the leg by which it was put out
+same_leg : (leaves : Leaves) → KeepsLegs leaves → (port : ℕ) (to : Address) → ((leaves port to).port - 20000) / 2 ≡ (port - 20000) / 2
+same_leg leaves keeps port to = elim (keeps port to) [
+  | inl same ↦ ap (λ (l : Leaving). (l.port - 20000) / 2) same
+  | inr before ↦ one_leg (leaves port to).port port before.second before.first
+]
+
 pub bars_plain : (leaves : Leaves) → KeepsLegs leaves → Bars IsOutPlain leaves
-bars_plain leaves keeps (Out port to octets) t is it = plain_side ((leaves port to).port - 20000) (port - 20000) (keeps.leg port to) (subst IsOutPlain is it)
+bars_plain leaves keeps (Out port to octets) t is it = plain_side ((leaves port to).port - 20000) (port - 20000) (same_leg leaves keeps port to) (subst IsOutPlain is it)
 bars_plain leaves keeps (Dropped port cause) t is it = subst IsOutPlain is.1 it
 bars_plain leaves keeps (Sdp id side text) t is it = subst IsOutPlain is.1 it
 bars_plain leaves keeps (Made id slot media) t is it = subst IsOutPlain is it
@@ -111,7 +121,7 @@ bars_plain leaves keeps (Ended id slot media why) t is it = subst IsOutPlain is 
 bars_plain leaves keeps (Unsent port to) t is it = subst IsOutPlain is it
 
 pub bars_secure : (leaves : Leaves) → KeepsLegs leaves → Bars IsOutSecure leaves
-bars_secure leaves keeps (Out port to octets) t is it = secure_side ((leaves port to).port - 20000) (port - 20000) (keeps.leg port to) (subst IsOutSecure is it)
+bars_secure leaves keeps (Out port to octets) t is it = secure_side ((leaves port to).port - 20000) (port - 20000) (same_leg leaves keeps port to) (subst IsOutSecure is it)
 bars_secure leaves keeps (Dropped port cause) t is it = subst IsOutSecure is.1 it
 bars_secure leaves keeps (Sdp id side text) t is it = subst IsOutSecure is.1 it
 bars_secure leaves keeps (Made id slot media) t is it = subst IsOutSecure is it

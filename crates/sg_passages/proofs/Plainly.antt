@@ -1,5 +1,5 @@
 -- A run that tells everything as the gateway gives it.
-use Rattle.std.proofs.Common.{◌≡◌, ◌⊎◌, inl, inr, ℕ, List, [], ◌∷◌, map, refl, ap}
+use Rattle.std.proofs.Common.{◌≡◌, ◌⊎◌, inl, ℕ, List, [], ◌∷◌, map, refl, ap}
 use Rattle.std.specs.List.{Any, AllByRecursion, slice_split}
 use Rattle.std.proofs.lemmas.List.Elements.{All-from_recursion}
 use Rattle.sg_outcome.specs.declared.outcomes.Outcome.{Outcome}
@@ -11,16 +11,18 @@ use Rattle.sg_gateway.specs.Step.{Event}
 use Rattle.sg_passages.specs.Passages.{AddsMuxLines, ArePassagesOf, AreToldAs, IsFaithful, IsToldAs, mux_line, plain_passages, plainly, straight}
 
 -- a text has its own lines and no others
-own_lines : (lines : List (List ℕ)) → AllByRecursion (λ line. Any (λ l. l ≡ line) lines ⊎ (line ≡ mux_line)) lines
+own_lines : (lines : List (List ℕ)) → AllByRecursion (λ line. Any (λ l. l ≡ line) lines) lines
 own_lines [] = tt
-own_lines (l ∷ ls) = (inl (any_here (λ m. m ≡ l) l ls refl), each_weaker (λ line. Any (λ m. m ≡ line) ls ⊎ (line ≡ mux_line)) _ further ls (own_lines ls))
-  where
-    further : (line : List ℕ) → Any (λ m. m ≡ line) ls ⊎ (line ≡ mux_line) → Any (λ m. m ≡ line) (l ∷ ls) ⊎ (line ≡ mux_line)
-    further line (inl own) = inl (any_there (λ m. m ≡ line) l ls own)
-    further line (inr added) = inr added
+own_lines (l ∷ ls) = (any_here (λ m. m ≡ l) l ls refl, each_weaker (λ line. Any (λ m. m ≡ line) ls) _ (λ line own. any_there (λ m. m ≡ line) l ls own) ls (own_lines ls))
 
 pub same_text : (text : List ℕ) → AddsMuxLines text text
-same_text text = All-from_recursion _ (slice_split ends_line text) (own_lines (slice_split ends_line text))
+same_text text =
+    let lines : List (List ℕ) = slice_split ends_line text in
+    let own = own_lines lines in record {
+      added = All-from_recursion (λ line. Any (λ l. l ≡ line) lines ⊎ (line ≡ mux_line)) lines
+          (each_weaker (λ line. Any (λ l. l ≡ line) lines) (λ line. Any (λ l. l ≡ line) lines ⊎ (line ≡ mux_line)) (λ line is. inl is) lines own);
+      kept = All-from_recursion (λ line. Any (λ l. l ≡ line) lines) lines own;
+    }
 
 pub as_it_is : (o : Outcome) → IsToldAs straight o o
 as_it_is (Out port to octets) = refl
@@ -39,7 +41,7 @@ all_as_they_are (o ∷ os) = (o, os, refl, as_it_is o, all_as_they_are os)
 faithful : (t : Turn) → IsFaithful (plainly t)
 faithful t = record {
   told = all_as_they_are t.outcomes;
-  legs = record { leg = λ port to. refl; host = λ port to. refl };
+  legs = λ port to. inl refl;
   offers = λ id way noise text is. refl;
 }
 

@@ -26,7 +26,7 @@ stays_no_key : (first text : List ℕ) → AddsMuxLines first text → NoLineIsK
 stays_no_key first text adds none =
     All-from_recursion (λ line. ¬ IsKeyLine line) (slice_split ends_line text)
     (each_weaker (λ line. Any (λ l. l ≡ line) (slice_split ends_line first) ⊎ (line ≡ mux_line)) (λ line. ¬ IsKeyLine line) line_is
-    (slice_split ends_line text) (recursion_from_All _ (slice_split ends_line text) adds))
+    (slice_split ends_line text) (recursion_from_All _ (slice_split ends_line text) adds.added))
   where
     line_is : (line : List ℕ) → Any (λ l. l ≡ line) (slice_split ends_line first) ⊎ (line ≡ mux_line) → ¬ IsKeyLine line
     line_is line (inl own) = each_at_this (λ line. ¬ IsKeyLine line) (slice_split ends_line first) line (recursion_from_All _ (slice_split ends_line first) none) own

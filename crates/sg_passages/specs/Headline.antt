@@ -21,13 +21,21 @@ use Rattle.sg_gateway.specs.Refusing.{OffersStayOpen}
 use Rattle.sg_gateway.specs.Served.{EachKeyServesItsLife, NoKeyIsOverspent}
 use Rattle.sg_gateway.specs.Step.{Event}
 use Rattle.sg_gateway.specs.Tags.{EachSessionHasWholeTags}
-use Rattle.sg_gateway.specs.Taken.{NewOfferIsTaken, LaterOfferIsTaken, ManualCallIsTaken}
+use Rattle.sg_gateway.specs.Taken.{NewOfferIsTaken, LaterOfferIsTaken}
 use Rattle.sg_gateway.specs.Twice.{NoneTwice, NoneTwiceUnderKey, KeysHaveOneOwner}
 use Rattle.sg_gateway.specs.Unforged.{Unforged}
 use Rattle.sg_gateway.specs.Used.{NoBlockTwice, SealsUseTheirBlocks}
+use Rattle.sg_conduct.specs.Drawn.{OwnKeysAreDrawn}
+use Rattle.sg_conduct.specs.Heard.{CallsWereHeard}
+use Rattle.sg_conduct.specs.Manual.{ManualIsTaken}
+use Rattle.sg_conduct.specs.Others.{OtherCallsStay}
+use Rattle.sg_conduct.specs.Present.{AnswersHaveSessions}
+use Rattle.sg_conduct.specs.Standing.{SessionsHaveDone}
+use Rattle.sg_conduct.specs.ToldTexts.{ToldTextsAreOwn}
+use Rattle.sg_conduct.specs.Unsealed.{EachOpeningIsUnsealed}
 use Rattle.sg_passages.specs.Passages.{Passage}
-use Rattle.sg_passages.specs.PutOut.{EachArrivingIsPutOut, EachDepartingIsSealed, EachNewIsPutOut, EachOpeningGoesOut, EachOpeningIsSealed, EachSealGoesOut}
-use Rattle.sg_passages.specs.Told.{EachAsTold, OpensWhatGoesOut, PlainTextsHaveNoKey, RefusalChangesNothing, SealsWhatGoesOut, SignalStaysIn}
+use Rattle.sg_passages.specs.PutOut.{EachArrivingIsPutOut, EachDepartingIsSealed, EachOpeningGoesOut, EachOpeningIsSealed, EachSealGoesOut}
+use Rattle.sg_passages.specs.Told.{DatagramIsTold, EachAsTold, OpensWhatGoesOut, PlainTextsHaveNoKey, RefusalChangesNothing, SealsWhatGoesOut, SignalStaysIn}
 
 -- The headline, over the events of a run as they come to the gateway and over what the run tells of them, for every list
 -- of sealed packets: nothing forged goes out on a plain leg, and nothing unsealed on a secure one; nothing twice; nothing
@@ -62,7 +70,6 @@ pub record Headline (events : List Event) (passages : List Passage) : Type 0 whe
   pub ends : EachAsTold EndsAreFree passages
   pub ended : EndedStayAway events
   pub earlier : EarlierServeNoLonger events
-  pub each_new : (sealed : List Sealed) → AreSealed sealed → EachNewIsPutOut sealed passages
   pub within_life : EachKeyServesItsLife events
   pub not_overspent : NoKeyIsOverspent events
   pub not_forgotten : NoKeyIsForgotten events
@@ -73,7 +80,7 @@ pub record Headline (events : List Event) (passages : List Passage) : Type 0 whe
   pub ticks : TicksMove events
   pub ticks_keep : TicksKeep events
   pub offers : EachAsTold (λ t. NewOfferIsTaken t × LaterOfferIsTaken t) passages
-  pub manual_calls : EachAsTold ManualCallIsTaken passages
+  pub manual_calls : EachAsTold ManualIsTaken passages
   pub rejections : RejectionsClose events
   pub answers : EachAsTold AnswerRenews passages
   pub earlier_kept : AnswersKeepEarlier events
@@ -86,3 +93,11 @@ pub record Headline (events : List Event) (passages : List Passage) : Type 0 whe
   pub lasting : SessionsLast events
   pub tags : EachSessionHasWholeTags events
   pub messages : EachAsTold (λ t. OfferIsAuthentic t × NotesStay t) passages
+  pub unsealed : EachOpeningIsUnsealed events
+  pub done : SessionsHaveDone events
+  pub settled : EachAsTold DatagramIsTold passages
+  pub others : OtherCallsStay events
+  pub were_heard : CallsWereHeard events
+  pub there : AnswersHaveSessions events
+  pub own_texts : ToldTextsAreOwn events
+  pub own_keys : OwnKeysAreDrawn events

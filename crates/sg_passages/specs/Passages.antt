@@ -1,5 +1,5 @@
 -- What a run tells of its events: by which ports packets leave, and the outcomes as they are told.
-use Rattle.std.specs.Prelude.{◌≡◌, ◌⊎◌, ℕ, ◌-◌, ◌/◌, List, [], ◌∷◌, map, codes}
+use Rattle.std.specs.Prelude.{◌≡◌, ◌⊎◌, ℕ, ◌+◌, ◌-◌, ◌%◌, List, [], ◌∷◌, map, codes}
 use Rattle.std.specs.List.{All, Any, slice_split}
 use Rattle.sg_agreement.specs.declared.ways.Way.{Way}
 use Rattle.sg_base.specs.declared.addresses.Address.{Address}
@@ -39,9 +39,10 @@ out_by leaves port to octets = Out (leaves port to).port (leaves port to).to oct
 abbrev pub mux_line : List ℕ
 mux_line = codes "a=rtcp-mux"
 
--- each line of the text, wherever a reader takes lines to end, is a line of the first one, or that line
-abbrev pub AddsMuxLines : List ℕ → List ℕ → Type 0
-AddsMuxLines first text = All (λ line. Any (λ l. l ≡ line) (slice_split ends_line first) ⊎ (line ≡ mux_line)) (slice_split ends_line text)
+-- wherever a reader takes lines to end, no line of the first text is lost, and each of the second is one of these, or that line
+pub record AddsMuxLines (first text : List ℕ) : Type 0 where
+  pub added : All (λ line. Any (λ l. l ≡ line) (slice_split ends_line first) ⊎ (line ≡ mux_line)) (slice_split ends_line text)
+  pub kept : All (λ line. Any (λ l. l ≡ line) (slice_split ends_line text)) (slice_split ends_line first)
 
 -- What is told of an outcome: of a packet that it leaves; of a drop the cause, at some port; of a description a text to the
 -- same side, with no line more but that of RFC 5761; everything else as it is.
@@ -60,11 +61,17 @@ abbrev pub AreToldAs : Leaves → List Outcome → List Outcome → Type 0
 AreToldAs leaves [] told = told ≡ []
 AreToldAs leaves (o ∷ os) told = (t : Outcome) × (ts : List Outcome) × (told ≡ t ∷ ts) × IsToldAs leaves o t × AreToldAs leaves os ts
 
--- What leaves goes by a port of the leg by which it was put out, to the same host. A leg has two ports: of RTP, and the next
--- one of RTCP.
-pub record KeepsLegs (leaves : Leaves) : Type 0 where
-  pub leg : (port : ℕ) (to : Address) → ((leaves port to).port - 20000) / 2 ≡ (port - 20000) / 2
-  pub host : (port : ℕ) (to : Address) → (leaves port to).to.ip ≡ to.ip
+-- A leg has two ports: of RTP, and the next one of RTCP. What the second puts out leaves by the first, and to the port of
+-- the same host before that to which it was put out.
+pub record IsOneBefore (port : ℕ) (to : Address) (l : Leaving) : Type 0 where
+  pub second : (port - 20000) % 2 ≡ 1
+  pub first : l.port + 1 ≡ port
+  pub host : l.to.ip ≡ to.ip
+  pub before : l.to.port + 1 ≡ to.port
+
+-- each packet leaves as it was put out; or so, where a leg's RTCP shares the port of its RTP (RFC 5761)
+abbrev pub KeepsLegs : Leaves → Type 0
+KeepsLegs leaves = (port : ℕ) (to : Address) → (leaves port to ≡ straight port to) ⊎ IsOneBefore port to (leaves port to)
 
 -- what is told of an offer is told as it is
 abbrev pub KeepsOffers : Passage → Type 0

@@ -1,19 +1,19 @@
 -- What a run puts out, in the ports and addresses by which it leaves.
-use Rattle.std.specs.Prelude.{◌≡◌, ℕ, true, List, [], ◌∷◌}
+use Rattle.std.specs.Prelude.{◌≡◌, ℕ, List, [], ◌∷◌}
 use Rattle.std.specs.List.{All, Any, Contains}
 use Rattle.sg_base.specs.declared.addresses.Address.{Address}
-use Rattle.sg_gateway.specs.Arriving.{Arrives}
 use Rattle.sg_gateway.specs.Datagrams.{Entry}
-use Rattle.sg_gateway.specs.Departing.{Departs, sealed_under}
+use Rattle.sg_gateway.specs.Departing.{sealed_under}
 use Rattle.sg_gateway.specs.Legs.{plain_leg_port, plain_leg_address, secure_leg_port, secure_leg_address}
-use Rattle.sg_gateway.specs.Newness.{ArrivesNew}
+use Rattle.sg_gateway.specs.Newness.{IsLiveIn}
 use Rattle.sg_gateway.specs.Octets.{Octets}
 use Rattle.sg_gateway.specs.SealedOut.{sealed_by}
 use Rattle.sg_gateway.specs.Step.{Datagram}
 use Rattle.sg_gateway.specs.World.{Call}
 use Rattle.sg_session.specs.Reach.{Sealed, IsAt, text_in}
-use Rattle.sg_session.specs.Session.{Key, Session, is_live}
+use Rattle.sg_session.specs.Session.{Key, Session}
 use Rattle.sg_session.specs.declared.names.Direction.TheVariants.{Opening, Sealing}
+use Rattle.sg_conduct.specs.Place.{ArrivesWithinReach, DepartsWithinReach}
 use Rattle.sg_passages.specs.Passages.{Passage, out_by}
 
 -- ---- on plain legs
@@ -61,7 +61,7 @@ SealsGoOut p = All (λ e. e.session.owner.direction ≡ Sealing → Any (λ c. A
 abbrev pub EachSealGoesOut : List Passage → Type 0
 EachSealGoesOut passages = All SealsGoOut passages
 
--- ---- nothing within reach is lost
+-- ---- nothing within reach is lost, which is said of the list of what is done
 
 -- x is opened in that session, and its packet leaves as from the session's plain port to its plain address
 pub record IsPutOut (p : Passage) (c : Call) (s : Session) (x : Sealed) : Type 0 where
@@ -71,30 +71,22 @@ pub record IsPutOut (p : Passage) (c : Call) (s : Session) (x : Sealed) : Type 0
 abbrev pub ArrivingArePutOut : List Sealed → Passage → Type 0
 ArrivingArePutOut sealed p =
     (x : Sealed) (port : ℕ) (from : Address) (d : Octets) (c : Call) (s : Session) (k : Key) → Contains sealed x
-    → p.turn.event ≡ Datagram port from d → Arrives p.turn.before port d.items c s k x → IsPutOut p c s x
+    → p.turn.event ≡ Datagram port from d → ArrivesWithinReach p.turn.before port d.items c s k x → IsPutOut p c s x
 
 abbrev pub EachArrivingIsPutOut : List Sealed → List Passage → Type 0
 EachArrivingIsPutOut sealed passages = All (ArrivingArePutOut sealed) passages
 
-abbrev pub NewArePutOut : List Sealed → Passage → Type 0
-NewArePutOut sealed p =
-    (x : Sealed) (port : ℕ) (from : Address) (d : Octets) (c : Call) (s : Session) (k : Key) → Contains sealed x
-    → p.turn.event ≡ Datagram port from d → ArrivesNew p.turn.before port d.items c s k x → IsPutOut p c s x
-
-abbrev pub EachNewIsPutOut : List Sealed → List Passage → Type 0
-EachNewIsPutOut sealed passages = All (NewArePutOut sealed) passages
-
 -- the packet is sealed there, under a live key of the session, and the sealing leaves as from the session's secure port to its
 -- secure address
 pub record IsSealedUnder (p : Passage) (c : Call) (s : Session) (ssrc index : ℕ) (d : List ℕ) (k : Key) : Type 0 where
-  pub live : is_live s k ≡ true
+  pub live : IsLiveIn s k
   pub sealed : Any (λ e. (e.session ≡ s.name) × (e.key ≡ k) × (e.done.ssrc ≡ ssrc) × (e.done.index ≡ index) × (e.done.packet ≡ d)) p.turn.entries
   pub out : p.told ≡ out_by p.leaves (secure_leg_port c s) (secure_leg_address s) (text_in s k.mki (sealed_under s k ssrc index d)) ∷ []
 
 abbrev pub DepartingAreSealed : Passage → Type 0
 DepartingAreSealed p =
     (port : ℕ) (from : Address) (d : Octets) (c : Call) (s : Session) (ssrc index : ℕ) → p.turn.event ≡ Datagram port from d
-    → Departs p.turn.before port from d.items c s ssrc index → Any (IsSealedUnder p c s ssrc index d.items) s.keys
+    → DepartsWithinReach p.turn.before port from d.items c s ssrc index → Any (IsSealedUnder p c s ssrc index d.items) s.keys
 
 abbrev pub EachDepartingIsSealed : List Passage → Type 0
 EachDepartingIsSealed passages = All DepartingAreSealed passages

@@ -1,16 +1,20 @@
 -- What holds of turns, said of what is told of them.
-use Rattle.std.specs.Prelude.{◌≡◌, ℕ, List}
+use Rattle.std.specs.Prelude.{◌≡◌, ◌⊎◌, ℕ, List, [], ◌∷◌}
 use Rattle.std.specs.List.{All, AllByRecursion, Any, slice_split}
+use Rattle.sg_base.specs.declared.addresses.Address.{Address}
 use Rattle.sg_base.specs.declared.addresses.CallId.{CallId}
 use Rattle.sg_base.specs.declared.addresses.Side.TheVariants.{Plain}
+use Rattle.sg_base.specs.declared.faults.DropCause.{DropCause}
+use Rattle.sg_conduct.specs.Settled.{IsOneOut}
+use Rattle.sg_gateway.specs.Octets.{Octets}
 use Rattle.sg_gateway.specs.PeersPackets.{IsOutPlain}
 use Rattle.sg_gateway.specs.PlainTexts.{IsKeyLine, ends_line}
 use Rattle.sg_gateway.specs.Refusing.{IsRefused}
 use Rattle.sg_gateway.specs.Runs.{Turn, after_turn}
 use Rattle.sg_gateway.specs.SealedOut.{IsOut, IsOutSecure}
 use Rattle.sg_gateway.specs.Signals.{Signal}
-use Rattle.sg_gateway.specs.Step.{Signalled}
-use Rattle.sg_outcome.specs.declared.outcomes.Outcome.TheVariants.{Sdp}
+use Rattle.sg_gateway.specs.Step.{Datagram, Signalled}
+use Rattle.sg_outcome.specs.declared.outcomes.Outcome.TheVariants.{Dropped, Sdp}
 use Rattle.sg_session.specs.declared.names.Direction.TheVariants.{Opening, Sealing}
 use Rattle.sg_passages.specs.Passages.{Passage}
 
@@ -33,6 +37,18 @@ SealsWhatGoesOut t = AllByRecursion (λ e. e.session.owner.direction ≡ Opening
 -- no signal puts anything out
 abbrev pub SignalStaysIn : Turn → Type 0
 SignalStaysIn t = (signal : Signal) → t.event ≡ Signalled signal → All (λ o. ¬ IsOut o) t.outcomes
+
+-- nothing is opened or sealed, the cause is told, and the world stays as it was
+pub record IsToldDropped (t : Turn) : Type 0 where
+  pub port : ℕ
+  pub cause : DropCause
+  pub told : t.outcomes ≡ Dropped port cause ∷ []
+  pub nothing : t.entries ≡ []
+  pub same : after_turn t ≡ t.before
+
+-- each datagram is dropped so; or one packet is opened or sealed, and one put out
+abbrev pub DatagramIsTold : Turn → Type 0
+DatagramIsTold t = (port : ℕ) (from : Address) (d : Octets) → t.event ≡ Datagram port from d → IsToldDropped t ⊎ IsOneOut t
 
 -- calls, ring, books and moment are after a refusal what they were before
 abbrev pub RefusalChangesNothing : Turn → Type 0

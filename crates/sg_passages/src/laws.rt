@@ -12,7 +12,6 @@ pub fn the_headline_holds()
 {
     sg_gateway::nothing_forged();
     sg_gateway::nothing_twice();
-    sg_gateway::nothing_within_reach_lost();
     sg_gateway::no_counter_block_twice();
     sg_gateway::seals_use_their_blocks();
     sg_gateway::what_is_sealed_goes_out();
@@ -20,7 +19,6 @@ pub fn the_headline_holds()
     sg_gateway::refusals_change_nothing();
     sg_gateway::ended_calls_stay_away();
     sg_gateway::earlier_generations_serve_no_longer();
-    sg_gateway::what_is_new_is_put_out();
     sg_gateway::no_key_serves_past_its_life();
     sg_gateway::no_key_is_forgotten();
     sg_gateway::no_call_stays_idle();
@@ -33,6 +31,16 @@ pub fn the_headline_holds()
     sg_gateway::sessions_stay_what_they_were_made();
     sg_gateway::tags_are_whole();
     sg_gateway::messages_are_accepted_once();
+    sg_conduct::what_is_opened_was_sealed();
+    sg_conduct::sessions_have_done_what_was_done();
+    sg_conduct::datagrams_are_settled();
+    sg_conduct::what_is_new_leaves();
+    sg_conduct::other_calls_stay();
+    sg_conduct::calls_were_heard();
+    sg_conduct::manual_calls_are_taken();
+    sg_conduct::answers_have_sessions();
+    sg_conduct::told_texts_are_own();
+    sg_conduct::own_keys_are_drawn();
 }
 
 /// A run that tells everything as the gateway gives it is one of these.

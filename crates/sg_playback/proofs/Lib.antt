@@ -3,5 +3,4 @@ mod Completes
 pub mod Plays
 mod Replays
 mod Tells
-pub mod Timely
 pub mod Room

@@ -244,14 +244,6 @@ written_only (Err (Capture offset fault)) a b octets wrote = absurd wrote
 
 -- ---- room for a datagram
 
-pub room_settled : (r : Result (Unit {0}) Status) (state : State) (waited waits : List Event) (stands_for : State → Type 0) (out : List ℕ) → IsSettled r state waited waits stands_for out → HasRoom r state waited waits stands_for out
-room_settled (Ok u) state waited waits stands_for out is = (waited, sym (append-nil waited) ∙ ap (λ (l : List Event). waited ++ l) (sym is.0), is.1)
-room_settled (Err status) state waited waits stands_for out is = is
-
-pub room_in : {A : Type 0} (r : Result (Unit {0}) Status) (waits : List A) → OnOk r (waits ≡ []) → OnOk r (length waits < 256)
-room_in (Ok u) waits none = omega (arith, ap length none)
-room_in (Err status) waits none = tt
-
 -- a datagram waits behind those that still wait, or there was no memory for it
 pub arrived_room : (r : Result (Unit {0}) Status) (state : State) (waited mid waits prefix : List Event) (e : Event) (stands_for : State → Type 0) (out : List ℕ) → waited ≡ prefix ++ mid → OnOk r (waits ≡ mid ++ e ∷ [])
     → IfErr r (λ status. status ≡ NoMemory) → IsStepped (Ok tt) state prefix stands_for out → HasRoom r state (waited ++ e ∷ []) waits stands_for out

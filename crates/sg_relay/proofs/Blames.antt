@@ -18,12 +18,6 @@ pub due_so : {T : Type 0} (own : Status) (r : Result T Status) (a b : ℕ) (fail
 due_so own (Ok x) a b failed caused = caused.quiet (λ is. ok_err x own is)
 due_so own (Err s) a b failed caused = failed_as _ _ a b failed (λ is. ap Err is) (λ is. err_is s own is) caused
 
--- nothing has failed but something else
-pub never : (p : Type 0) (a b : ℕ) (failed : Option Bool) → (p → ⊥) → b ≡ a → HasFailed p a b failed
-never p a b failed isnt same = record { later = omega (arith, same); rose = λ is. absurd (isnt is); told = λ is. absurd (isnt is); quiet = λ not. same }
-
--- ---- the link
-
 -- ---- what may be told
 
 writing_not_link : (s : Status) → IsOfWriting s → s ≡ Link → ⊥

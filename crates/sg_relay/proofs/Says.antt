@@ -222,21 +222,3 @@ pub cut_begun : (s : Status) (state : State) (stands_for : State → Type 0) (r 
 cut_begun s state stands_for r calls out only = of_outcomes
     (λ (x : Status). StopsWith x (told_from state (events_of (lines.Signal (Tick (moment_of r))))) calls out × (receipts_in calls ≡ []) → IsBegun (Err x) state stands_for (r ∷ []) calls out)
     s only (λ (stops, none). (r, refl, none, stops)) (λ (stops, none). (r, refl, none, stops)) (λ (stops, none). (r, refl, none, stops))
-
--- ---- a line that was read
-
--- a line of the grammar names no later moment than the last, and no longer datagram than fits a pad
-pub fits_relay : (version n : ℕ) (l : Line) → FitsLine version n l → FitsRelay l
-fits_relay version n lines.Header fits = tt
-fits_relay version n lines.HeaderTwo fits = tt
-fits_relay version n (lines.Datagram port from octets) fits = fits.1.2.high
-fits_relay version n (lines.DatagramAt now port from octets) fits = fits.1.2.high
-fits_relay version n (lines.Signal (Tick now)) fits = fits.1
-fits_relay version n (lines.Signal (Psk own peer key)) fits = tt
-fits_relay version n (lines.Signal (Manual call secure plain roc window from_peer to_peer)) fits = tt
-fits_relay version n (lines.Signal (OfferSecure call noise text)) fits = tt
-fits_relay version n (lines.Signal (OfferSdes call noise text)) fits = tt
-fits_relay version n (lines.Signal (OfferMikey call peer noise text)) fits = tt
-fits_relay version n (lines.Signal (Answer call noise text)) fits = tt
-fits_relay version n (lines.Signal (Reject call)) fits = tt
-fits_relay version n (lines.Signal (Bye call)) fits = tt

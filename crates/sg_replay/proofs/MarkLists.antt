@@ -58,9 +58,6 @@ test_empty window o row i e = rw e (none_new window row i)
 pub test_above : (window : ℕ) (o : Option ℕ) (row : List ℕ) (h i : ℕ) → o ≡ Some h → h < i → 0 < window → New ≡ freshness_at (shown window o row) i
 test_above window o row h i e p w = rw (e, lt-leb (i + window) h (omega arith), inside_above window h row i p) refl
 
-pub test_behind : (window : ℕ) (o : Option ℕ) (row : List ℕ) (h i : ℕ) → o ≡ Some h → i + window ≤ h → TooOld ≡ freshness_at (shown window o row) i
-test_behind window o row h i e p = rw (e, le-leb (i + window) h p) refl
-
 pub test_marked : (window : ℕ) (o : Option ℕ) (row : List ℕ) (h i : ℕ) → o ≡ Some h → i ≤ h → h < i + window → mark_of row i ≡ true → Repeat ≡ freshness_at (shown window o row) i
 test_marked window o row h i e p q m = rw (e, lt-leb (i + window) h q, inside_here window h row i p q, m) refl
 

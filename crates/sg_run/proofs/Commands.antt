@@ -3,7 +3,9 @@ use Rattle.std.proofs.Common.{◌≡◌, ◌⊎◌, ◌≤◌, ℕ, List, [], Bo
 use Rattle.std.proofs.lemmas.Bool.{false≢true, eq-eqb}
 use Rattle.std.proofs.lemmas.List.{append-nil}
 use Rattle.std.proofs.lemmas.List.Elements.{All-from_recursion}
-use Rattle.sg_bridge.specs.Bridged.{Crosses, StaysInside}
+use Rattle.sg_bridge.specs.Bridged.{Crosses, GoesBothWays, StaysInside}
+use Rattle.sg_bridge.specs.Calls.{KnowsItsCalls}
+use Rattle.sg_bridge.specs.Lost.{LosesOnlySo, SettlesWhatOpens}
 use Rattle.sg_bridging.specs.Bridge.{IsBridge, bridge_text, bridge_trace}
 use Rattle.sg_trace.specs.Causes.{HasFailed}
 use Rattle.sg_capture.specs.Capturing.{IsCapture}
@@ -156,8 +158,20 @@ not_bridged old = record {
   };
   events_are = refl;
   passages_are = refl;
-  inside = All-from_recursion StaysInside [] tt;
-  crossing = All-from_recursion Crosses [] tt;
+  holds = record {
+    inside = All-from_recursion StaysInside [] tt;
+    crossing = All-from_recursion Crosses [] tt;
+    both_ways = All-from_recursion GoesBothWays [] tt;
+    settled = All-from_recursion SettlesWhatOpens [] tt;
+    lost = All-from_recursion LosesOnlySo [] tt;
+    members = All-from_recursion KnowsItsCalls [] tt;
+    causes = tt;
+    told = tt;
+    pairs = tt;
+    lines = tt;
+    behind = tt;
+  };
+  alike = λ none. record { said = refl; stop = refl; left = refl; events = refl; told = refl; text = refl };
 }
 
 none_done : (legs : (es : List Event) → LegsAreMuxed es) (command : Command) (old : Surroundings) → HasDone command NoMemory old old [] []

@@ -1,7 +1,9 @@
 -- What a run did, by the command that its words are.
 use Rattle.std.specs.Prelude.{◌≡◌, ℕ, Bool, List, [], Option}
-use Rattle.sg_bridge.specs.Bridged.{EachCrossingIsSealed, JoinedStayInside, bridged_events}
+use Rattle.sg_bridge.specs.BridgeHolds.{BridgeHolds}
+use Rattle.sg_bridge.specs.Bridged.{bridged_events}
 use Rattle.sg_bridging.specs.Bridge.{IsBridge, bridge_trace}
+use Rattle.sg_bridging.specs.Replayed.{IsPlayedAlike, JoinsNone}
 use Rattle.sg_capture.specs.Capturing.{IsCapture}
 use Rattle.sg_trace.specs.Captured.{captured, captured_events}
 use Rattle.sg_trace.specs.Trace.{replayed}
@@ -114,8 +116,8 @@ pub record HasCaptured (status : Status) (old new : Surroundings) (events : List
   pub passages_are : passages ≡ plain_passages events
 
 -- A bridge read, drew and wrote these octets, and these are its events at the gateway, each inner one too, with what the
--- gateway tells of them: what is written of joined calls is told by the definitions of bridges. Of those calls nothing is
--- written as put out but what the other call opened, sealed.
+-- gateway tells of them; what is written is told by the definitions of bridges. What a bridge holds of joined calls is so of
+-- its lines, and where no line joins or parts it is played as a replay.
 pub record HasBridged (status : Status) (old new : Surroundings) (events : List Event) (passages : List Passage) : Type 0 where
   pub octets : List ℕ
   pub draws : List ℕ
@@ -123,8 +125,8 @@ pub record HasBridged (status : Status) (old new : Surroundings) (events : List 
   pub is : IsBridge status (of_replay old) (of_replay new) octets draws out
   pub events_are : events ≡ bridged_events (bridge_trace octets draws).said
   pub passages_are : passages ≡ plain_passages events
-  pub inside : JoinedStayInside (bridge_trace octets draws).said
-  pub crossing : EachCrossingIsSealed (bridge_trace octets draws).said
+  pub holds : BridgeHolds (bridge_trace octets draws).said
+  pub alike : JoinsNone octets → IsPlayedAlike octets draws
 
 -- the command was run, and these are the run's events and what is told of them
 abbrev pub HasDone : Command → Status → Surroundings → Surroundings → List Event → List Passage → Type 0

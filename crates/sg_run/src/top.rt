@@ -1,6 +1,8 @@
 //! The top call.
 
 ghost use Rattle.std.specs.Prelude.{◌≡◌, ◌⊎◌, ◌≤◌, ◌+◌, ◌^◌, ℕ, Bool, List, length, map, string_bytes, None};
+ghost use Rattle.sg_audit.specs.Pages.{AuditorsPages};
+ghost use Rattle.sg_audit.specs.Seen.{seen_of};
 ghost use Rattle.sg_bridging.specs.Bridge as bridges;
 ghost use Rattle.sg_capture.specs.Capturing as captures;
 ghost use Rattle.sg_trace.specs.Causes.{HasFailed};
@@ -17,8 +19,9 @@ ghost use Rattle.sg_run.specs.Run.{HasRun};
 ghost use Rattle.sg_words.specs.Commands.{AreWordsOf, IsNoCommand};
 ghost use Rattle.sg_words.specs.declared.command.Command.TheVariants.{Replay, Relay, Demo, Migrate, Capture, Bridge};
 
-use sg_bridge::joined_calls_stay_inside;
-use sg_bridging::bridge;
+use sg_audit::the_pages_hold;
+use sg_bridge::the_bridge_holds;
+use sg_bridging::{bridge, scripts_without_joins_are_replayed};
 use sg_capture::capture;
 use sg_demo::demo;
 use sg_edge::{Clock, Link, Noise, Sink, Source};
@@ -72,7 +75,8 @@ pub fn run<R: Threads + Sync, S: Source, K: Sink, L: Link, C: Clock, N: Noise, G
           failures = record { source = S.faults source.new; sink = K.faults sink.new; link = L.faults link.new; clock = C.faults clock.new; noise = N.faults noise.new };
         })
         events passages
-        × Headline events passages }
+        × Headline events passages
+        × AuditorsPages (map seen_of passages) }
     ensures given { S.given source.new ≤ S.given source.old + (2 ^ 30 + 1) }
     ensures turns { (turns : ℕ) (muxes : Bool) → AreWordsOf (map string_bytes words.now) (Relay turns muxes) → C.count clock.new ≤ C.count clock.old + (turns + 1) }
     ensures usage { result ≡ Status.Usage → IsNoCommand (map string_bytes words.now) }
@@ -108,10 +112,12 @@ pub fn run<R: Threads + Sync, S: Source, K: Sink, L: Link, C: Clock, N: Noise, G
     ensures noise { HasFailed (result ≡ Status.Noise) (N.faults noise.old) (N.faults noise.new) (N.failed noise.new) }
 {
     the_headline_holds();
+    the_pages_hold();
     a_plain_run_is_faithful();
     shared_ports_are_faithful();
     legs_are_muxed_by_their_texts();
-    joined_calls_stay_inside();
+    the_bridge_holds();
+    scripts_without_joins_are_replayed();
     migrated_scripts_tell_the_same();
     let command = match read_command(alloc, words) {
         Err(CommandFault::Usage) => return Status::Usage,

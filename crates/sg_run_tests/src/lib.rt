@@ -5,8 +5,6 @@
 #[cfg(test)]
 mod calls;
 #[cfg(test)]
-mod demonstrations;
-#[cfg(test)]
 mod meeting;
 #[cfg(test)]
 mod outside;

@@ -58,21 +58,6 @@ fn pad_of(alloc: Global, octets: &[u8]) -> Result<Pad, Fail> {
     }
 }
 
-#[test]
-fn the_known_packet_is_opened(rt: HostRuntime) -> Result<(), Fail> {
-    let mut table = Table::make(rt.alloc())?;
-    key(rt.alloc(), &mut table, 0)?;
-    let Handled { pad, end } = table.datagram(20000, PEER, pad_of(rt.alloc(), KNOWN)?);
-    assert!(rt;
-        end == End::Out {
-            port: 20002,
-            to: PLAIN
-        }
-    );
-    assert!(rt; pad.octets() == &KNOWN[..28]);
-    Ok(())
-}
-
 /// A plain packet that arrives at this port.
 fn arrival(alloc: Global, port: u16) -> Result<Arrival, Fail>
     ensures { IfOk result (λ a. IsSome a.pad) }

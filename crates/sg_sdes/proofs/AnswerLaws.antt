@@ -85,20 +85,3 @@ fresh_valid tag suite octets rtp rtcp small other bytes size = record {
   mkis = one_differs _;
   window = tt;
 }
-
--- ---- the peer's line of an answer
-
-matched_valid : (offered : List CryptoLine) (value : List ℕ) (p : CryptoLine × CryptoLine) → matched offered value ≡ Ok p → IsCryptoLine p.1
-unfolding matched
-matched_valid offered value p e =
-    let peer = bind_ok (crypto_of value) _ p e in
-    let own = bind_ok (or_fault Tag (find (λ l. l.tag == peer.0.tag) offered)) _ p peer.2 in
-    at_bit (same_suite own.0.suite peer.0.suite) own.0 peer.0 (crypto_valid value peer.0 peer.1) own.2
-  where
-    at_bit : (b : Bool) (own peer : CryptoLine) → IsCryptoLine peer → cond b (Ok (own, peer)) (Err NoSuite) ≡ Ok p → IsCryptoLine p.1
-    at_bit true own peer is e = let same : (own, peer) ≡ p = cc in subst (λ (q : CryptoLine × CryptoLine). IsCryptoLine q.1) same is
-    at_bit false own peer is e = absurd cc
-
-pub peer_valid : (offered : List CryptoLine) (value : List ℕ) (r : Result (CryptoLine × CryptoLine) SdesFault) → r ≡ matched offered value → IfOk r (λ p. IsCryptoLine p.1)
-peer_valid offered value (Ok p) e = matched_valid offered value p (sym e)
-peer_valid offered value (Err f) e = tt

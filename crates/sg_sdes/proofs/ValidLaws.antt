@@ -43,10 +43,6 @@ pub bind_ok : {A B : Type 0} (r : Result A SdesFault) (f : A → Result B SdesFa
 bind_ok (Ok x) f y e = (x, refl, e)
 bind_ok (Err d) f y e = absurd cc
 
-or_fault_ok : {A : Type 0} (d : SdesFault) (o : Option A) (x : A) → or_fault d o ≡ Ok x → o ≡ Some x
-or_fault_ok d (Some y) x e = let same : y ≡ x = cc in ap Some same
-or_fault_ok d None x e = absurd cc
-
 pub found : {A B : Type 0} (d : SdesFault) (o : Option A) (f : A → Result B SdesFault) (y : B) → (or_fault d o >>= f) ≡ Ok y → (x : A) × (o ≡ Some x) × (f x ≡ Ok y)
 found d (Some x) f y e = (x, refl, e)
 found d None f y e = absurd cc

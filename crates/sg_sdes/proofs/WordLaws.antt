@@ -40,9 +40,6 @@ word_and_rest w r lacks = rw (single_word w r lacks) (slice_split_at (λ x. eqb 
 
 -- ---- where a text isn't cut
 
-no_some : {A : Type 0} (x : A) (o : Option A) → o ≡ Some x → o ≡ None → ⊥
-no_some x o some none = cc
-
 cut_step : (c x : ℕ) (xs : List ℕ) (b : Bool) (o : Option (List ℕ × List ℕ)) → eqb x c ≡ b → cut_at c xs ≡ o → cut_at c (x ∷ xs) ≡ None → (b ≡ false) × (o ≡ None)
 unfolding cut_at
 cut_step c x xs true o is rest e = absurd cc (rw is at e)

@@ -161,13 +161,6 @@ gathers_next w came k a later left arrivals calls calls' d new shapes is of_call
     port_of true = refl
     port_of false = refl
 
-pub gathers_all : (w : World) (came : List Arrival) (shapes : List Shape) (k : ℕ) (left arrivals : List Arrival) (calls : List CallValue) → left ≡ [] → Gathers w came shapes k left arrivals calls
-    → (arrivals ≡ answered w came) × AreLeft w.moment [] calls (delivered w (map datagram_of came))
-gathers_all w came shapes k left arrivals calls none g = (
-  g.arrivals_are ∙ ap (λ l. g.done ++ all_handed shapes l) none ∙ ap (λ l. g.done ++ answered g.world l) (sym none) ∙ g.are,
-  subst (λ v. AreLeft w.moment [] calls v) (ap (λ l. delivered g.world (map datagram_of l)) (sym none) ∙ g.same) (subst (λ l. AreLeft w.moment (map datagram_of l) calls g.world) none g.stand),
-)
-
 -- the invariant of the loop over the arrivals, for every world
 abbrev pub WillGather : List Arrival → List CallValue → ℕ → List Arrival → List CallValue → Type 0
 WillGather handed0 calls0 k arrivals calls =
@@ -187,9 +180,3 @@ pub will_gather_next : (handed0 : List Arrival) (calls0 : List CallValue) (k : �
 will_gather_next handed0 calls0 k arrivals calls calls' d new lt shapes popped_so new_so will w came is turns pads stand =
     let within : k < length came = subst (λ n. k < n) (ap length is ∙ length_handed (shapes_of calls0) came) lt in
     gathers_next w came k (get_or came k d) (drop (k + 1) came) (drop k came) arrivals calls calls' d new (shapes_of calls0) (drop_more came k d within) shapes popped_so new_so (will w came is turns pads stand)
-
-pub will_gather_all : (handed0 : List Arrival) (calls0 : List CallValue) (k : ℕ) (arrivals : List Arrival) (calls : List CallValue) → length handed0 ≤ k → WillGather handed0 calls0 k arrivals calls
-    → (w : World) (came : List Arrival) → handed0 ≡ all_handed (shapes_of calls0) came → IsGathered w came calls0 arrivals calls
-will_gather_all handed0 calls0 k arrivals calls le will w came is turns pads stand =
-    let past : length came ≤ k = subst (λ n. n ≤ k) (ap length is ∙ length_handed (shapes_of calls0) came) le in
-    gathers_all w came (shapes_of calls0) k (drop k came) arrivals calls (drop_of_length-le came past) (will w came is turns pads stand)

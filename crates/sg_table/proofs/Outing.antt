@@ -31,10 +31,6 @@ room_pushed now number n a (c ∷ cs) r = (go (has_call_port a.port c), room_pus
     go true = let x = length-append c.waiting (waiting_of number now a ∷ []) in let y = r.0 in omega (arith, x, y)
     go false = let y = r.0 in omega (arith, y)
 
-pub room_more : (m n : ℕ) (calls : List CallValue) → m ≤ n → HaveRoom m calls → HaveRoom n calls
-room_more m n [] le r = tt
-room_more m n (c ∷ cs) le r = ((let y = r.0 in omega (arith, y, le)), room_more m n cs le r.1)
-
 -- the first k are handed out
 pub record Shares (now : ℕ) (came : List Arrival) (calls0 : List CallValue) (k : ℕ) (arrivals : List Arrival) (calls : List CallValue) : Type 0 where
   pub ready : (w : World) → AreReady now [] calls0 w → AreReady now (map datagram_of (take k came)) calls w
@@ -81,17 +77,3 @@ module _ (now : ℕ) (came : List Arrival) (calls0 : List CallValue) (k : ℕ) (
         room = subst (HaveRoom (k + 1)) (sym calls_are) (room_pushed now number k this calls s.room);
         octets = subst (AllByRecursion (λ (a : Arrival). AreOctets (octets_of a.pad))) (sym more) (each_append _ (take k came) (this ∷ []) s.octets (octets_are, tt));
       }
-
-pub record IsShared (now : ℕ) (came : List Arrival) (calls0 : List CallValue) (arrivals : List Arrival) (calls : List CallValue) : Type 0 where
-  pub ready : (w : World) → AreReady now [] calls0 w → AreReady now (map datagram_of came) calls w
-  pub handed_are : arrivals ≡ all_handed (shapes_of calls0) came
-  pub octets : AllByRecursion (λ a. AreOctets (octets_of a.pad)) came
-
-pub shares_all : (now : ℕ) (came : List Arrival) (calls0 : List CallValue) (k : ℕ) (arrivals : List Arrival) (calls : List CallValue) → length came ≤ k → Shares now came calls0 k arrivals calls → IsShared now came calls0 arrivals calls
-shares_all now came calls0 k arrivals calls le s =
-    let all : take k came ≡ came = take_all k came le in
-    record {
-      ready = λ w r. subst (λ l. AreReady now (map datagram_of l) calls w) all (s.ready w r);
-      handed_are = s.arrivals_are ∙ (λ i. all_handed (shapes_of calls0) (all i) ++ drop_of_length-le came le i) ∙ append-nil (all_handed (shapes_of calls0) came);
-      octets = subst (AllByRecursion (λ (a : Arrival). AreOctets (octets_of a.pad))) all s.octets;
-    }

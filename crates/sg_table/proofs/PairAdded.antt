@@ -66,10 +66,6 @@ module _ (calls : List CallValue) (books : Books) (now : ℕ) (w : World) (holds
     by = let same = holds.books.pairs in
         (λ i. cond ((ap (λ ps. has_pair ps own peer) (sym same) ∙ is) i) (refused w None PskKnown) (cond ((ap (λ (ps : List Pair). ltb (length ps) 64) (sym same) ∙ less) i) added (refused w None PskFull)))
 
-    early_by : early w (signals.Psk pair) ≡ cond b (Some PskKnown) (cond l None (Some PskFull))
-    early_by = let same = holds.books.pairs in
-        (λ i. cond ((ap (λ ps. has_pair ps own peer) (sym same) ∙ is) i) (Some PskKnown) (cond ((ap (λ (ps : List Pair). ltb (length ps) 64) (sym same) ∙ less) i) None (Some PskFull)))
-
   -- it is added: the calls stand under more pairs too
   pub pair_added : (new : List Pair) (outs : List Outcome) → Adds books.psks own peer (Ok tt) → new ≡ books.psks ++ pair ∷ [] → outs ≡ []
       → IsAnswered outs (record { calls = calls; books = record books { psks = new }; moment = now }) (with_pair w pair)
@@ -106,12 +102,3 @@ module _ (calls : List CallValue) (books : Books) (now : ℕ) (w : World) (holds
       go (Known has e) = subst (IsAnswered outs table) (sym (by true (ltb (length books.psks) 64) has refl)) (told PskKnown (refusal_is cause PskKnown (not_both _ _ e)))
       go (Full has less e) = subst (IsAnswered outs table) (sym (by false false has less)) (told PskFull (refusal_is cause PskFull (not_both _ _ e)))
       go (Room has less e) = absurd (no_refusal cause e)
-
-  -- memory is wanting where none of the two comes
-  pub pair_wants : Adds books.psks own peer (Err faults.NoMemory) → early w (signals.Psk pair) ≡ None
-  pair_wants adds = go (cases books.psks own peer (Err faults.NoMemory) adds)
-    where
-      go : Cases books.psks own peer (Err faults.NoMemory) → early w (signals.Psk pair) ≡ None
-      go (Known has e) = absurd (no_refusal PskKnown (sym (not_both _ _ e)))
-      go (Full has less e) = absurd (no_refusal PskFull (sym (not_both _ _ e)))
-      go (Room has less e) = early_by false true has less

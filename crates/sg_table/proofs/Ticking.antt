@@ -85,10 +85,6 @@ module _ (calls : List CallValue) (books : Books) (last now : ℕ) (w : World) (
   ticked_by : (b : Bool) → ltb now last ≡ b → ticked w now ≡ cond b (refused w None (TickBack w.moment)) goes_on
   ticked_by b is = ap (λ t. cond t (refused w None (TickBack w.moment)) goes_on) (ap (ltb now) holds.moment_is ∙ is)
 
-  pub tick_back : now < last → outs ≡ Refused None (TickBack last) ∷ [] → IsAnswered outs (record { calls = calls; books = books; moment = last }) (ticked w now)
-  tick_back lt tells = subst (IsAnswered outs (record { calls = calls; books = books; moment = last })) (sym (ticked_by true (lt-ltb now last lt)))
-      (record { tells = tells ∙ ap (λ n. Refused None (TickBack n) ∷ []) (sym holds.moment_is); holds = holds })
-
   pub tick_on : (awake new : List CallValue) → last ≤ now → outs ≡ map (ended_as why.Idle) (filter (idles now) calls) → awake ≡ filter (λ c. not (idles now c)) calls → EachPair (IsTicked now) awake new
       → IsAnswered outs (record { calls = new; books = books; moment = now }) (ticked w now)
   tick_on awake new le tells are ticks = subst (IsAnswered outs (record { calls = new; books = books; moment = now })) (sym (ticked_by false (le-ltb now last le)))
@@ -129,11 +125,6 @@ module _ (calls : List CallValue) (books : Books) (last now : ℕ) (w : World) (
       let none = none_idle now calls quiet in
       tick_on calls books last now w holds [] calls new le (sym (ap (map (ended_as why.Idle)) none.0)) (sym none.1) ticks
 
-  pub back_tells : now < last → (ticked w now).outcomes ≡ [] → ⊥
-  back_tells lt none =
-      let told : Refused None (TickBack w.moment) ∷ [] ≡ [] = sym (ap (λ (a : Answer). a.outcomes) (ticked_by calls books last now w holds [] true (lt-ltb now last lt))) ∙ none in
-      cc
-
   pub idle_tells : last ≤ now → list_any (idles now) calls ≡ true → (ticked w now).outcomes ≡ [] → ⊥
   idle_tells le some none =
       some_idle now calls some (told_same w.books.pairs now calls w.calls holds.calls ∙ sym (ap (λ (a : Answer). a.outcomes) (ticked_by calls books last now w holds [] false (le-ltb now last le))) ∙ none)
@@ -143,45 +134,10 @@ pub record Ticks (now k : ℕ) (old calls : List CallValue) : Type 0 where
   pub ticked : (i : ℕ) (d : CallValue) → i < k → i < length old → IsTicked now (get_or old i d) (get_or calls i d)
   pub others : (i : ℕ) (d : CallValue) → k ≤ i → get_or calls i d ≡ get_or old i d
 
-pub ticks_none : (now : ℕ) (old : List CallValue) → Ticks now 0 old old
-ticks_none now old = record { ticked = λ i d lt within. absurd (omega (arith, lt)); others = λ i d le. refl }
-
 pub get_any : (xs : List CallValue) (i : ℕ) (d e : CallValue) → i < length xs → get_or xs i d ≡ get_or xs i e
 get_any [] i d e lt = absurd (omega (arith, lt))
 get_any (x ∷ xs) zero d e lt = refl
 get_any (x ∷ xs) (suc i) d e lt = get_any xs i d e (omega (arith, lt))
 
-pub ticks_next : (now k : ℕ) (old calls : List CallValue) (e new : CallValue) → k < length calls → IsTicked now (get_or calls k e) new → Ticks now k old calls → Ticks now (k + 1) old (set calls k new)
-ticks_next now k old calls e new lt this t = record {
-  ticked = λ i d below within. elim (cases_Bool (eqb i k)) [
-    | inl y ↦ (
-        let same : i ≡ k = eqb-true i k y in
-        subst (λ j. IsTicked now (get_or old j d) (get_or (set calls k new) j d)) (sym same)
-        (subst (IsTicked now (get_or old k d)) (sym (get_or-set_same calls k new d lt)) (subst (λ x. IsTicked now x new) (get_any calls k e d lt ∙ t.others k d (omega arith)) this))
-        )
-    | inr x ↦ (
-        let differ : i ≡ k → ⊥ = (λ same. false≢true (sym x ∙ eq-eqb i k same)) in
-        subst (IsTicked now (get_or old i d)) (sym (get_or-set_other calls k i new d differ)) (t.ticked i d (omega (arith, below, differ)) within)
-        )
-  ];
-  others = λ i d le. get_or-set_other calls k i new d (λ same. omega (arith, le, same)) ∙ t.others i d (omega (arith, le));
-}
-
 pub ticks_all : (now k : ℕ) (old calls : List CallValue) → length calls ≡ length old → length old ≤ k → Ticks now k old calls → EachPair (IsTicked now) old calls
 ticks_all now k old calls len le t = pairs_from_each (IsTicked now) old calls len (λ i d lt. t.ticked i d (omega (arith, le, lt)) lt)
-
--- one call more is looked at
-pub idle_next : (now k : ℕ) (calls : List CallValue) (d : CallValue) → k < length calls → (b : Bool) → idles now (get_or calls k d) ≡ b
-    → map (ended_as why.Idle) (filter (idles now) (take (k + 1) calls)) ≡ map (ended_as why.Idle) (filter (idles now) (take k calls)) ++ cond b (ended_as why.Idle (get_or calls k d) ∷ []) []
-idle_next now k calls d lt b is =
-    let this = get_or calls k d in
-    let more : take (k + 1) calls ≡ take k calls ++ this ∷ [] = ap (λ n. take n calls) (let e : k + 1 ≡ suc k = omega arith in e) ∙ take-suc calls k d lt in
-    ap (λ l. map (ended_as why.Idle) (filter (idles now) l)) more
-    ∙ ap (map (ended_as why.Idle)) (filter_append (idles now) (take k calls) (this ∷ []))
-    ∙ map-append (ended_as why.Idle) (filter (idles now) (take k calls)) (filter (idles now) (this ∷ []))
-    ∙ ap (λ t. map (ended_as why.Idle) (filter (idles now) (take k calls)) ++ map (ended_as why.Idle) (cond t (this ∷ []) [])) is
-    ∙ ap (λ l. map (ended_as why.Idle) (filter (idles now) (take k calls)) ++ l) (go b)
-  where
-    go : (b : Bool) → map (ended_as why.Idle) (cond b (get_or calls k d ∷ []) []) ≡ cond b (ended_as why.Idle (get_or calls k d) ∷ []) []
-    go true = refl
-    go false = refl

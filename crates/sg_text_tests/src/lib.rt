@@ -1,5 +1,5 @@
-//! Tests of the crates that read and print texts: lines, outcomes, session descriptions, crypto lines, MIKEY messages
-//! and command words. They stand in a crate of their own, since a crate with tests is proved twice.
+//! Tests of the crates that read and print texts: lines, outcomes, session descriptions, crypto lines and MIKEY messages.
+//! They stand in a crate of their own, since a crate with tests is proved twice.
 #![tactic(auto)]
 
 #[cfg(test)]
@@ -14,5 +14,3 @@ mod lines;
 mod messages;
 #[cfg(test)]
 mod outcomes;
-#[cfg(test)]
-mod words;

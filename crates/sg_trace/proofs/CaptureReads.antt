@@ -13,10 +13,6 @@ use Rattle.sg_trace.specs.CaptureReading.{Capturing, HasPart, HasRecord, IsCaptu
 use Rattle.sg_trace.specs.declared.status.Status.{Status}
 use Rattle.sg_trace.specs.declared.status.Status.TheVariants as statuses
 
--- nothing was moved
-pub moves_none : (waits had : List ℕ) → Moves waits [] waits had had
-moves_none waits had = ([], (append-nil waits, sym (append-nil had)))
-
 -- once more has come to wait
 pub moves_filled : (waited got waits had has more waits' : List ℕ) → Moves waited got waits had has → waits' ≡ waits ++ more → Moves waited (got ++ more) waits' had has
 moves_filled waited got waits had has more waits' moves is =
@@ -163,15 +159,6 @@ module _ (most at before budget budget' : ℕ) (had waited got waits part : List
               inl (wants.0.0, last.0, end_so last.1 (λ zero. omega (arith, zero, near, room, ap length last.0)), record_faulty most form at part (offset, fault) some is))
           | inr stays ↦ inr (stays.0, λ more. record_faulty most form at (part ++ more) (offset, fault) (omega (arith, some, length-append part more)) (stays.1 more))
         ]))
-
--- an error of the source or of memory
-pub header_none : (status : Status) (old new : Capturing) (got : List ℕ) (left : Option (List ℕ)) → (status ≡ statuses.Read) ⊎ (status ≡ statuses.NoMemory) → IsHeaderRead (Err status) old new got left
-header_none status old new got left (inl is) = subst (λ s. IsHeaderRead (Err s) old new got left) (sym is) tt
-header_none status old new got left (inr is) = subst (λ s. IsHeaderRead (Err s) old new got left) (sym is) tt
-
-pub record_not : (form : Form) (status : Status) (old new : Capturing) (got : List ℕ) (left : Option (List ℕ)) → (status ≡ statuses.Read) ⊎ (status ≡ statuses.NoMemory) → IsRecordRead form (Err status) old new got left
-record_not form status old new got left (inl is) = subst (λ s. IsRecordRead form (Err s) old new got left) (sym is) tt
-record_not form status old new got left (inr is) = subst (λ s. IsRecordRead form (Err s) old new got left) (sym is) tt
 
 pub nothing_had : (had : List ℕ) → length had ≡ 0 → had ≡ []
 nothing_had [] is = refl

@@ -30,13 +30,5 @@ not_failed p a b failed same isnt = record {
   quiet = λ isnt. same;
 }
 
-pub has_failed : (p : Type 0) (a b : ℕ) (failed : Option Bool) → p → a ≤ b → Rose a b → Tells failed true → HasFailed p a b failed
-has_failed p a b failed is later rose told = record {
-  later = later;
-  rose = λ is. rose;
-  told = λ is. told;
-  quiet = λ isnt. absurd (isnt is);
-}
-
 pub ok_not : {T E : Type 0} (x : T) (e : E) → Ok x ≡ Err e → ⊥
 ok_not x e is = cc

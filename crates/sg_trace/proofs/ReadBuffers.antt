@@ -23,10 +23,6 @@ pub moved : (all l0 f1 f2 part l1 : List ℕ) → all ≡ l0 ++ f1 → f1 ≡ pa
 moved all l0 f1 f2 part l1 is prefix line =
     is ∙ ap (λ (x : List ℕ). l0 ++ x) prefix ∙ sym (append_assoc l0 part f2) ∙ ap (λ (x : List ℕ). x ++ f2) (sym line)
 
--- where there is no line, all came to be nothing
-pub nothing : (all line new : List ℕ) → all ≡ line ++ new → line ≡ [] → new ≡ [] → all ≡ []
-nothing all line new is none empty = is ∙ ap (λ (l : List ℕ). l ++ new) none ∙ empty
-
 -- whatever came of it, what waited and came went to the line, or waits
 pub all_given : {E : Type 0} (r : Result Bool E) (line old new got : List ℕ) (left : Option (List ℕ)) (budget : ℕ) → GivesLine r line old new got left budget → old ++ got ≡ line ++ new
 all_given (Ok true) line old new got left budget given = given.0

@@ -42,11 +42,6 @@ module _ (version n at : ℕ) (line waits rest got : List ℕ) (left : Option (L
       let whole = line_whole version n at line rest _ l is read in
       record { line = line; split = split; whole = whole.0; is = read; version = refl; number = refl; offset = refl; within = whole.1 }
 
--- an error of the source or of memory
-pub next_none : (status : Status) (old new : Reading) (got : List ℕ) (left : Option (List ℕ)) → (status ≡ Read) ⊎ (status ≡ NoMemory) → IsNext (Err status) old new got left
-next_none status old new got left (inl is) = subst (λ s. IsNext (Err s) old new got left) (sym is) tt
-next_none status old new got left (inr is) = subst (λ s. IsNext (Err s) old new got left) (sym is) tt
-
 -- what a line reader gave, at the value that it answered
 pub given_at : (E : Type 0) (r b : _) (line old new got : List ℕ) (left : Option (List ℕ)) (budget : ℕ) → r ≡ b → GivesLine {E = E} (Ok r) line old new got left budget → GivesLine {E = E} (Ok b) line old new got left budget
 given_at E r b line old new got left budget is given = subst (λ v. GivesLine {E = E} (Ok v) line old new got left budget) is given

@@ -57,11 +57,5 @@ outcomes_from-append w es fs =
     ap (λ ts. flat_map (λ (t : Turn). t.outcomes) ts) (turns_from-append w es fs)
     ∙ flat_map-append (λ (t : Turn). t.outcomes) (turns_from w es) (turns_from (world_after w es) fs)
 
-pub outcomes-append : (es fs : List Event) → outcomes (es ++ fs) ≡ outcomes es ++ outcomes_from (world_after empty es) fs
-outcomes-append es fs = outcomes_from-append empty es fs
-
 pub output_from-append : (w : World) (es fs : List Event) → output_from w (es ++ fs) ≡ output_from w es ++ output_from (world_after w es) fs
 output_from-append w es fs = ap text (outcomes_from-append w es fs) ∙ flat_map-append outcome_line (outcomes_from w es) (outcomes_from (world_after w es) fs)
-
-pub output-append : (es fs : List Event) → output (es ++ fs) ≡ output es ++ output_from (world_after empty es) fs
-output-append es fs = output_from-append empty es fs

@@ -12,16 +12,6 @@ use Rattle.sg_trace.specs.Output.{IsWritten, WrotePrefix}
 use Rattle.sg_trace.specs.declared.status.Status.{Status}
 use Rattle.sg_trace.specs.declared.status.Status.TheVariants.{Done, Usage, Script, Read, Write, Link, NoMemory, Clock, Noise, TurnsSpent, Capture}
 
--- a call that answers well has written all
-pub wrote_all : (a b : Option (List ℕ)) (part : List ℕ) (r : Result (Unit {0}) Failed) → true ≡ is_ok r → WroteAll a b part r → Wrote a b part
-wrote_all a b part (Ok u) ok wrote = wrote
-wrote_all a b part (Err e) ok wrote = absurd (false≢true (sym ok))
-
--- and one that doesn't a front
-pub wrote_prefix : (a b : Option (List ℕ)) (part : List ℕ) (r : Result (Unit {0}) Failed) → false ≡ is_ok r → WroteAll a b part r → WrotePrefix a b part
-wrote_prefix a b part (Ok u) err wrote = absurd (false≢true err)
-wrote_prefix a b part (Err e) err wrote = (wrote.0, (wrote.1, wrote.2), wrote.3)
-
 -- nothing is a prefix of all
 pub none_written : (a : Option (List ℕ)) (octets : List ℕ) → WrotePrefix a a octets
 none_written a octets = ([], (octets, refl), λ after is. (after, is, sym (append-nil after)))

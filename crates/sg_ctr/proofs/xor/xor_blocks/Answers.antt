@@ -1,4 +1,4 @@
-use Rattle.std.proofs.Common.{◌≡◌, ◌*◌, ◌+◌, ◌-◌, ◌/◌, ℕ, arith, refl, subst}
+use Rattle.std.proofs.Common.{◌≡◌, ℕ, ◌*◌, ◌+◌, arith, refl, subst}
 use Rattle.sg_ctr.specs.Xor.{XorsOnto, block_octet}
 use Rattle.sg_ctr.proofs.XorLemmas.{both_xored, octet_of_block}
 use Rattle.sg_ctr.proofs.xor.xor_blocks.Goals as goal
@@ -10,15 +10,7 @@ pieces-preserved c =
     both_xored c.args.part.now c.pieces.part c.xor_block.new.part (block_octet bs) _ c.args.at (16 * j) (c.args.at + 16 * j) 16 _ refl (omega arith)
     c.pieces.invariant c.xor_block.ensures (λ k h. octet_of_block bs j (16 * j) k refl h)
 
-pub returns-then-done-count : goal.returns-then-done-count
-returns-then-done-count c =
-    let bs = c.args.blocks.now in
-    let j = c.pieces.j in
-    let count = c.args.count in
-    both_xored c.args.part.now c.pieces.part c.xor_block-then-done-count.new.part (block_octet bs) _ c.args.at (16 * j) (c.args.at + 16 * (count / 16)) (count - 16 * (count / 16)) count (omega arith) (omega arith)
-    c.pieces.invariant c.xor_block-then-done-count.ensures (λ k h. octet_of_block bs (count / 16) (16 * j) k (omega arith) (omega arith))
-
-pub returns-else-done-count : goal.returns-else-done-count
-returns-else-done-count c =
-    let e : 16 * c.pieces.j ≡ c.args.count = omega arith in
+pub returns : goal.returns
+returns c =
+    let e : 16 * c.pieces.j ≡ 256 = omega arith in
     subst (λ (n : ℕ). XorsOnto c.args.part.now c.pieces.part c.args.at n (block_octet c.args.blocks.now)) e c.pieces.invariant

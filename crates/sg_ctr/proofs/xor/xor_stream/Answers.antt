@@ -1,7 +1,13 @@
-use Rattle.std.proofs.Common.{◌≡◌, ◌*◌, ◌+◌, ◌-◌, ◌/◌, arith, refl, length, ap}
-use Rattle.sg_ctr.specs.Xor.{CountsFrom, stream_octet}
+use Rattle.std.proofs.Common.{◌≡◌, ℕ, ◌*◌, ◌+◌, ◌-◌, ◌/◌, arith, refl, length, ap, subst}
+use Rattle.sg_ctr.specs.Xor.{CountsFrom, XorsOnto, stream_octet}
 use Rattle.sg_ctr.proofs.XorLemmas.{both_xored, xored_whole}
 use Rattle.sg_ctr.proofs.xor.xor_stream.Goals as goal
+
+pub fours-init : goal.fours-init
+fours-init c =
+    let sixteens = length c.args.part.now / 256 in
+    let place : 256 * sixteens ≡ 64 * (4 * sixteens) = omega arith in
+    subst (λ (n : ℕ). XorsOnto c.args.part.now c.xor_long.new.part 0 n (stream_octet c.args.schedule.now c.args.counter)) place c.xor_long.ensures
 
 pub fours-preserved : goal.fours-preserved
 fours-preserved c =

@@ -1,9 +1,10 @@
-use Rattle.std.proofs.Common.{ℕ, ◌*◌, arith, subst}
-use Rattle.sg_ctr.specs.Xor.{XorsOnto, block_octet}
-use Rattle.sg_ctr.proofs.XorLemmas.{blocks_xored, two_blocks}
+use Rattle.std.proofs.Common.{ℕ, ◌*◌, subst, slice_index}
+use Rattle.sg_ctr.specs.Xor.{XorsOnto}
+use Rattle.sg_ctr.proofs.XorLemmas.{pair_xored}
 use Rattle.sg_ctr.proofs.xor.xor_two.Goals as goal
 
 pub returns : goal.returns
 returns c = λ counter held.
-    blocks_xored c.args.schedule.now counter c.args.number 2 c.args.count c.two.new.parts c.args.part.now c.xor_blocks.new.part (omega arith)
-    (two_blocks c.args.schedule.now counter c.args.number c.two.new.parts c.two_counters-blocks.result (c.two_counters-blocks.ensures counter held) c.two.ensures) (subst (λ (n : ℕ). XorsOnto c.args.part.now c.xor_blocks.new.part (16 * n) c.args.count (block_octet c.two.new.parts)) c.from.ensures c.xor_blocks.ensures)
+    pair_xored c.args.schedule.now counter c.args.number c.args.count c.counters.result c.pair-stream.result c.args.part.now c.xor_onto.new.part c.requires.within
+    (c.counters.ensures counter held) c.pair-stream.ensures
+    (subst (λ (n : ℕ). XorsOnto c.args.part.now c.xor_onto.new.part (16 * n) c.args.count (slice_index c.pair-stream.result)) c.from.ensures c.xor_onto.ensures)

@@ -7,4 +7,5 @@ invariant-loop-event l =
     (goal.iterator-loop-event).can_next l.event-iterator
     × (goal.iterator-loop-event).is_finite l.event-iterator
     × AreSame l.fn.ports.bound l.ports.bound
+    × (l.ports.row ≡ l.fn.ports.row)
     × ((more : List ℕ) × (l.ports.waiting.items ≡ l.fn.ports.waiting.items ++ more))

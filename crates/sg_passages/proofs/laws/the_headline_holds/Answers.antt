@@ -1,4 +1,4 @@
-use Rattle.sg_passages.proofs.Headlines.{answers_renew, arriving_out, blocks_used, departing_sealed, ends_free, manual_taken, messages, new_out, no_keys, offer_texts, offers_taken, only_openings, only_seals, openings_out, openings_sealed, refusals, refused_offers, seals_out, signals_quiet}
+use Rattle.sg_passages.proofs.Headlines.{answers_renew, arriving_out, blocks_used, departing_sealed, ends_free, manual_taken, messages, no_keys, offer_texts, offers_taken, only_openings, only_seals, openings_out, openings_sealed, refusals, refused_offers, seals_out, settled, signals_quiet}
 use Rattle.sg_passages.proofs.laws.the_headline_holds.Goals as goal
 
 pub returns : goal.returns
@@ -15,8 +15,8 @@ returns c = λ events passages are. record {
   none_twice = c.nothing_twice.ensures.session events;
   none_twice_under_key = c.nothing_twice.ensures.key events;
   one_owner = c.nothing_twice.ensures.owner events;
-  each_arriving = λ sealed are_sealed. arriving_out events passages are sealed (c.nothing_within_reach_lost.ensures.arriving events sealed are_sealed);
-  each_departing = departing_sealed events passages are (c.nothing_within_reach_lost.ensures.departing events);
+  each_arriving = λ sealed are_sealed. arriving_out events passages are sealed ((c.what_is_new_leaves.ensures events).arriving sealed are_sealed);
+  each_departing = departing_sealed events passages are (c.what_is_new_leaves.ensures events).departing;
   no_block_twice = c.no_counter_block_twice.ensures events;
   each_seal_uses_its_blocks = blocks_used events passages are (c.seals_use_their_blocks.ensures events);
   owned = c.nothing_twice.ensures.owned events;
@@ -27,7 +27,6 @@ returns c = λ events passages are. record {
   ends = ends_free events passages are (c.ended_calls_stay_away.ensures.frees events);
   ended = c.ended_calls_stay_away.ensures.away events;
   earlier = c.earlier_generations_serve_no_longer.ensures events;
-  each_new = λ sealed are_sealed. new_out events passages are sealed (c.what_is_new_is_put_out.ensures.each events sealed are_sealed);
   within_life = c.no_key_serves_past_its_life.ensures.in_turn events;
   not_overspent = c.no_key_serves_past_its_life.ensures.all events;
   not_forgotten = c.no_key_is_forgotten.ensures events;
@@ -38,7 +37,7 @@ returns c = λ events passages are. record {
   ticks = c.signals_are_carried_out.ensures.ticks events;
   ticks_keep = c.signals_are_carried_out.ensures.kept events;
   offers = offers_taken events passages are (c.signals_are_taken.ensures.offers events);
-  manual_calls = manual_taken events passages are (c.signals_are_taken.ensures.manual events);
+  manual_calls = manual_taken events passages are (c.manual_calls_are_taken.ensures events);
   rejections = c.signals_are_carried_out.ensures.rejections events;
   answers = answers_renew events passages are (c.signals_are_carried_out.ensures.answers events);
   earlier_kept = c.signals_are_carried_out.ensures.earlier events;
@@ -51,4 +50,12 @@ returns c = λ events passages are. record {
   lasting = c.sessions_stay_what_they_were_made.ensures.last events;
   tags = c.tags_are_whole.ensures events;
   messages = messages events passages are (c.messages_are_accepted_once.ensures events);
+  unsealed = c.what_is_opened_was_sealed.ensures events;
+  done = c.sessions_have_done_what_was_done.ensures events;
+  settled = settled events passages are (c.datagrams_are_settled.ensures events);
+  others = c.other_calls_stay.ensures events;
+  were_heard = c.calls_were_heard.ensures events;
+  there = c.answers_have_sessions.ensures events;
+  own_texts = c.told_texts_are_own.ensures events;
+  own_keys = c.own_keys_are_drawn.ensures events;
 }

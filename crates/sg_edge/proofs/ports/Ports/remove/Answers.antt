@@ -1,10 +1,12 @@
-use Rattle.std.proofs.Common.{rules, Some}
+use Rattle.std.proofs.Common.{arith, rules, Some}
 use Rattle.std.proofs.lemmas.Fn.{filter_same}
 use Rattle.sg_edge.proofs.Waiting.{marked_without, unmarked_stays}
 use Rattle.sg_edge.proofs.ports.Ports.remove.Goals as goal
 
 pub invariant_of-self : goal.invariant_of-self
 invariant_of-self c = record {
+  short = c.args.self.now.short;
+  room = omega (arith, c.remove.ensures.len, c.retain.ensures.capacity, c.args.self.now.room);
   marked = marked_without c.args.self.now.bound c.remove.new.self c.args.self.now.waiting.items _ c.args.port c.args.self.now.marked c.remove.ensures.updates.1 c.remove.ensures.updates.2
       (filter_same _ _ _ (λ x b f' k. search rules) _ _ c.retain.ensures.filtered);
 }

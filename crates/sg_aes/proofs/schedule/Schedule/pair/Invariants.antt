@@ -1,0 +1,8 @@
+use Rattle.std.proofs.Common.{◌-◌, take, drop}
+use Rattle.sg_aes.specs.KeyExpansion.{round_keys}
+use Rattle.sg_aes.specs.Cipher.{rounds}
+use Rattle.sg_aes.specs.Lanes.{HasBoth}
+use Rattle.sg_aes.proofs.schedule.Schedule.pair.Given as goal
+
+abbrev pub invariant-rounds : goal.invariant-rounds
+invariant-rounds l = HasBoth l.both (rounds (round_keys l.self) (l.r - 1) (take 16 l.fn.blocks)) (rounds (round_keys l.self) (l.r - 1) (drop 16 l.fn.blocks))

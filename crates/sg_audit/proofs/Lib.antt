@@ -1,0 +1,5 @@
+mod Audited
+mod Keys
+mod Leaving
+mod Losing
+mod There

@@ -1,0 +1,163 @@
+-- The sessions of an answer are open when the next thing comes.
+use Rattle.std.proofs.Common.{◌≡◌, inl, inr, ℕ, ◌+◌, true, List, [], ◌∷◌, ◌++◌, map, Option, Some, None, Result, Ok, Err, refl, sym, ap, ◌∙◌, subst, append_assoc}
+use Rattle.std.proofs.lemmas.List.Elements.{recursion_from_All}
+use Rattle.std.specs.List.{All, AllByRecursion, Any}
+use Rattle.sg_agreement.specs.Sides.{other_side}
+use Rattle.sg_base.specs.declared.addresses.CallId.{CallId}
+use Rattle.sg_base.specs.declared.addresses.Side.{Side}
+use Rattle.sg_base.specs.declared.faults.Refusal.{Refusal}
+use Rattle.sg_outcome.specs.declared.outcomes.Outcome.{Outcome}
+use Rattle.sg_outcome.specs.declared.outcomes.Outcome.TheVariants.{Made, Live, Sdp, Refused, Ended, Out, Dropped, Unsent}
+use Rattle.sg_sdp.specs.declared.medium.Medium as descriptions
+use Rattle.sg_sdp.specs.declared.sdp.Sdp as sdp
+use Rattle.sg_session.proofs.Lists.{any_cases, any_here, any_none, any_there, any_weaker}
+use Rattle.sg_session.specs.declared.names.Name.{Name}
+use Rattle.sg_gateway.proofs.CarriedOut.{found_with, id_found}
+use Rattle.sg_gateway.proofs.Signals.{is_found}
+use Rattle.sg_gateway.specs.Addressed.{IsMediumAt}
+use Rattle.sg_gateway.specs.ByTexts.{AnswersAreByTexts, Exchange}
+use Rattle.sg_gateway.specs.CallSignals.{answered_to}
+use Rattle.sg_gateway.specs.Generations.{Settled}
+use Rattle.sg_gateway.specs.Runs.{Turn, after_turn, turn_of, turns, turns_from}
+use Rattle.sg_gateway.specs.Signals.{Answer, Answered, answered, in_old, offering_side, tells_answer}
+use Rattle.sg_gateway.specs.Step.{Event, Signalled, step}
+use Rattle.sg_gateway.specs.World.{Call, World, call_of, empty, same_id}
+use Rattle.sg_passages.specs.Passages.{ArePassagesOf, AreToldAs, IsFaithful, IsToldAs, Leaves, Passage}
+use Rattle.sg_conduct.proofs.Heard.{answer_now}
+use Rattle.sg_audit.proofs.Keys.{any_map, any_turn, map_parts}
+use Rattle.sg_audit.proofs.Losing.{is_open}
+use Rattle.sg_conduct.specs.Present.{AnswerHasSessions, AnswersHaveSessions, HasSessions, TakesPart}
+use Rattle.sg_audit.specs.Seen.{Open, Seen, open_in, open_of, seen_of}
+use Rattle.sg_audit.specs.There.{AreOpen, HasOpened, OpensNext, SessionsAreOpen, SessionsAreOpenAfter}
+
+-- ---- what was told as live was so
+
+live_was : (leaves : Leaves) (id : CallId) (o t : Outcome) → IsToldAs leaves o t → t ≡ Live id → o ≡ Live id
+live_was leaves id (Live i) t is e = sym is ∙ e
+live_was leaves id (Out p a text) t is e = absurd (let f = sym is ∙ e in cc)
+live_was leaves id (Dropped p cause) t is e = absurd (let f = sym is.1 ∙ e in cc)
+live_was leaves id (Sdp i side text) t is e = absurd (let f = sym is.1 ∙ e in cc)
+live_was leaves id (Made i slot media) t is e = absurd (let f = sym is ∙ e in cc)
+live_was leaves id (Refused i cause) t is e = absurd (let f = sym is ∙ e in cc)
+live_was leaves id (Ended i slot media why) t is e = absurd (let f = sym is ∙ e in cc)
+live_was leaves id (Unsent p a) t is e = absurd (let f = sym is ∙ e in cc)
+
+lives_were : (leaves : Leaves) (id : CallId) (os told : List Outcome) → AreToldAs leaves os told → Any (λ z. z ≡ Live id) told → Any (λ z. z ≡ Live id) os
+lives_were leaves id [] told is a = absurd (any_none (λ (z : Outcome). z ≡ Live id) (subst (Any (λ z. z ≡ Live id)) is a))
+lives_were leaves id (o ∷ os) told is a = elim (any_cases (λ (z : Outcome). z ≡ Live id) is.0 is.1 (subst (Any (λ z. z ≡ Live id)) is.2 a)) [
+  | inl here ↦ any_here (λ (z : Outcome). z ≡ Live id) o os (live_was leaves id o is.0 is.3 here)
+  | inr more ↦ any_there (λ (z : Outcome). z ≡ Live id) o os (lives_were leaves id os is.1 is.4 more)
+]
+
+-- ---- a live answer makes a generation
+
+record IsLive (w : World) (id : CallId) (after : World) : Type 0 where
+  before : Call
+  found : call_of w id ≡ Some before
+  behind : Call
+  there : call_of after id ≡ Some behind
+  more : behind.generations ≡ before.generations + 1
+
+refused_no : (id : CallId) (i : Option CallId) (cause : Refusal) → Any (λ z. z ≡ Live id) (Refused i cause ∷ []) → ⊥
+refused_no id i cause a = elim (any_cases (λ (z : Outcome). z ≡ Live id) (Refused i cause) [] a) [
+  | inl here ↦ absurd cc
+  | inr none ↦ any_none (λ (z : Outcome). z ≡ Live id) none
+]
+
+module _ (w : World) (id : CallId) (noise text : List ℕ) where
+  abbrev Lives : Answer → Type 0
+  Lives a = Any (λ z. z ≡ Live id) a.outcomes → IsLive w id a.world
+
+  settled_lives : (c : Call) → call_of w id ≡ Some c → (q : Result Settled Refusal) → answered_to w.moment w.books c noise text c.offer ≡ q → Lives (in_old w id (tells_answer id (offering_side c.offer)) q)
+  settled_lives c at (Err cause) e = λ a. absurd (refused_no id (Some id) cause a)
+  settled_lives c at (Ok r) e = λ a.
+      let is = answer_now w.moment w.books c noise text c.offer r e in
+      record {
+        before = c;
+        found = at;
+        behind = r.call;
+        there = found_with id c r.call w.calls is.serial (subst (λ i. same_id i id ≡ true) (sym is.id) (id_found id c w.calls at)) at;
+        more = is.generations;
+      }
+
+  lives : (o : Option Call) → call_of w id ≡ o → Lives (answered w id noise text o)
+  lives None at = λ a. absurd (refused_no id (Some id) _ a)
+  lives (Some c) at = settled_lives c at (answered_to w.moment w.books c noise text c.offer) refl
+
+live_at : (t : Turn) (w : World) (e : Event) → t ≡ turn_of w e → (id : CallId) (noise text : List ℕ) → t.event ≡ Signalled (Answered id noise text) → Any (λ z. z ≡ Live id) t.outcomes → IsLive t.before id (after_turn t)
+live_at t w e same id noise text event a =
+    let of_event : e ≡ Signalled (Answered id noise text) = sym (ap (λ (t : Turn). t.event) same) ∙ event in
+    let is : t ≡ turn_of w (Signalled (Answered id noise text)) = same ∙ ap (turn_of w) of_event in
+    subst (λ (t : Turn). IsLive t.before id (after_turn t)) (sym is) (lives w id noise text (call_of w id) refl (subst (λ (t : Turn). Any (λ z. z ≡ Live id) t.outcomes) is a))
+
+-- ---- open sessions
+
+open_one : (w : World) (id : CallId) (d : Call) (n : Name) → call_of w id ≡ Some d → Any (λ s. s.name ≡ n) d.sessions → Any (λ o. o.name ≡ n) (open_in w)
+open_one w id d n at a =
+    any_weaker (λ o. o ≡ open_of d a.1) (λ o. o.name ≡ n) (λ o same. ap (λ (o : Open). o.name) same ∙ a.4) (open_in w)
+    (is_open w.calls d a.1 (is_found (λ x. same_id x.id id) w.calls d at) (a.0, a.1, a.2, a.3, refl))
+
+all_open : (w : World) (id : CallId) (d : Call) (call generation medium : ℕ) (m n : descriptions.Medium) → call_of w id ≡ Some d → HasSessions d.sessions call generation medium m n → AreOpen (open_in w) call generation medium m n
+all_open w id d call generation medium m n at is = record {
+  opens = open_one w id d _ at is.opens;
+  seals = open_one w id d _ at is.seals;
+  opens_rtcp = λ p q. open_one w id d _ at (is.opens_rtcp p q);
+  seals_rtcp = λ p q. open_one w id d _ at (is.seals_rtcp p q);
+}
+
+-- ---- a run
+
+module _ (events : List Event) (by_texts : AnswersAreByTexts events) (present : All AnswerHasSessions (turns events)) where
+  opens_next : (qs : List Passage) (p q : Passage) (later : List Turn) → IsFaithful p → map (λ p. p.turn) qs ++ p.turn ∷ later ≡ turns events → AnswerHasSessions p.turn
+      → (w : World) (e : Event) → p.turn ≡ turn_of w e → q.turn.before ≡ after_turn p.turn → OpensNext (map seen_of qs) (seen_of p) (seen_of q)
+  opens_next qs p q later f are has w e same follows id noise text came live =
+      let l = live_at p.turn w e same id noise text came (lives_were p.leaves id p.turn.outcomes p.told f.told live) in
+      let by = by_texts (map (λ p. p.turn) qs) later p.turn (sym are) id noise text l.before l.behind came l.found l.there l.more in
+      let x : Exchange (map (λ p. p.turn) qs) p.turn id l.before text = by.0 in
+      let offering = any_turn x.of_offer qs x.was_earlier in
+      let opened : HasOpened (open_in q.turn.before) id text (seen_of offering.1) = record {
+        way = x.way;
+        drawn = x.noise;
+        first = x.offered;
+        came = ap (λ (t : Turn). t.event) offering.4 ∙ x.event;
+        offer = x.offer;
+        in_offer = x.in_offer;
+        answer = x.answer;
+        in_answer = x.in_answer;
+        call = l.behind.serial;
+        generation = l.before.generations;
+        are_open = λ medium m n in_offer in_answer takes answers.
+            subst (λ (w : World). AreOpen (open_in w) l.behind.serial l.before.generations medium m n) (sym follows)
+            (all_open (after_turn p.turn) id l.behind l.behind.serial l.before.generations medium m n l.there
+            (has id noise text l.before l.behind x.open_offer x.answer came l.found x.is_open l.there l.more x.in_answer medium m n
+            (subst (λ (s : sdp.Sdp). IsMediumAt s.media medium m) (sym x.of_text) in_offer) in_answer
+            (subst (λ (side : Side). TakesPart side m) (sym x.of_side) takes) (subst (λ (side : Side). TakesPart (other_side side) n) (sym x.of_side) answers)));
+      } in
+      any_map (HasOpened (open_in q.turn.before) id text) seen_of qs (any_weaker (λ v. v ≡ offering.1) (λ v. HasOpened (open_in q.turn.before) id text (seen_of v))
+      (λ v same. subst (λ v. HasOpened (open_in q.turn.before) id text (seen_of v)) (sym same) opened) qs (offering.0, offering.1, offering.2, offering.3, refl))
+
+  open_after : (qs : List Passage) (w : World) (es : List Event) (ps : List Passage) → map (λ p. p.turn) ps ≡ turns_from w es → map (λ p. p.turn) qs ++ map (λ p. p.turn) ps ≡ turns events
+      → AllByRecursion (λ p. IsFaithful p × AnswerHasSessions p.turn) ps → SessionsAreOpenAfter (map seen_of qs) (map seen_of ps)
+  open_after qs w es [] from are facts = tt
+  open_after qs w es (p ∷ []) from are facts = tt
+  open_after qs w [] (p ∷ (q ∷ ps)) from are facts = absurd cc
+  open_after qs w (e ∷ []) (p ∷ (q ∷ ps)) from are facts = absurd cc
+  open_after qs w (e ∷ (f ∷ es)) (p ∷ (q ∷ ps)) from are facts =
+      let same : p.turn ≡ turn_of w e = cc in
+      let next : q.turn ≡ turn_of (step w e).world f = cc in
+      let rest : map (λ p. p.turn) (q ∷ ps) ≡ turns_from (step w e).world (f ∷ es) = cc in
+      let follows : q.turn.before ≡ after_turn p.turn = ap (λ (t : Turn). t.before) next ∙ sym (ap after_turn same) in (
+        opens_next qs p q (map (λ p. p.turn) (q ∷ ps)) facts.0.0 are facts.0.1 w e same follows,
+        subst (λ (l : List Seen). SessionsAreOpenAfter l (map seen_of (q ∷ ps))) (map_parts seen_of qs (p ∷ []))
+            (open_after (qs ++ p ∷ []) (step w e).world (f ∷ es) (q ∷ ps) rest
+            (ap (λ (l : List Turn). l ++ map (λ p. p.turn) (q ∷ ps)) (map_parts (λ (p : Passage). p.turn) qs (p ∷ [])) ∙ (append_assoc (map (λ p. p.turn) qs) (p.turn ∷ []) (map (λ p. p.turn) (q ∷ ps)) ∙ are)) facts.1),
+      )
+
+lifted : (P : Turn → Type 0) (ps : List Passage) → AllByRecursion IsFaithful ps → AllByRecursion P (map (λ p. p.turn) ps) → AllByRecursion (λ p. IsFaithful p × P p.turn) ps
+lifted P [] f all = tt
+lifted P (p ∷ ps) f all = ((f.0, all.0), lifted P ps f.1 all.1)
+
+pub sessions_open : (events : List Event) (passages : List Passage) → ArePassagesOf events passages → AnswersAreByTexts events → AnswersHaveSessions events → SessionsAreOpen (map seen_of passages)
+sessions_open events passages are by_texts present =
+    open_after events by_texts present [] empty events passages are.turns_are are.turns_are
+    (lifted AnswerHasSessions passages (recursion_from_All IsFaithful passages are.faithful) (subst (AllByRecursion AnswerHasSessions) (sym are.turns_are) (recursion_from_All AnswerHasSessions (turns events) present)))

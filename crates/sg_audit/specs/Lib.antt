@@ -1,0 +1,6 @@
+pub mod Agreed
+pub mod Audit
+pub mod Pages
+pub mod Reached
+pub mod Seen
+pub mod There

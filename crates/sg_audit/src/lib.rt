@@ -1,0 +1,6 @@
+//! The auditor's pages.
+#![tactic(auto)]
+
+mod laws;
+
+pub use laws::{keys_are_agreed, sessions_are_open, the_audit_holds, the_pages_hold};

@@ -1,0 +1,251 @@
+-- The sessions of the media that take part.
+use Rattle.std.proofs.Common.{◌≡◌, inl, inr, ℕ, zero, suc, ◌+◌, ◌<◌, Bool, true, false, cond, not, ◌&&◌, eqb, ltb, List, [], ◌∷◌, ◌++◌, length, Option, Some, None, Result, Ok, Err, refl, sym, ap, ◌∙◌, subst, arith}
+use Rattle.std.proofs.lemmas.Bool.{and_from, false≢true, lt-ltb, ne_eqb}
+use Rattle.std.specs.List.{AllByRecursion, Any, filter}
+use Rattle.std.specs.Option.{is_some, option_map}
+use Rattle.sg_agreement.proofs.FewMedia.{described_is}
+use Rattle.sg_agreement.specs.Answers.{AgreedAnswer, accepted_answer, agreed_answer, answered_by}
+use Rattle.sg_agreement.specs.Described.{described}
+use Rattle.sg_agreement.specs.Generations.{Generation, generation_of, keys_from, numbered, owner_at, sessions_from, stream_session, stream_sessions}
+use Rattle.sg_agreement.specs.Keyed.{Keyed, medium_agreed, media_agreed}
+use Rattle.sg_agreement.specs.Keying.{Offer}
+use Rattle.sg_agreement.specs.Media.{Medium, Stream}
+use Rattle.sg_agreement.specs.Sides.{actives_after, is_active, is_of_side, other_side}
+use Rattle.sg_agreement.specs.Sound.{AreAgreedWhereActive}
+use Rattle.sg_base.proofs.Cases.{some_is}
+use Rattle.sg_base.specs.declared.addresses.CallId.{CallId}
+use Rattle.sg_base.specs.declared.addresses.Kind.TheVariants.{Rtp, Rtcp}
+use Rattle.sg_base.specs.declared.addresses.Side.{Side}
+use Rattle.sg_base.specs.declared.addresses.Side.TheVariants.{Secure, Plain}
+use Rattle.sg_base.specs.declared.faults.Refusal.{Refusal}
+use Rattle.sg_sdp.specs.Reading.{description_of}
+use Rattle.sg_sdp.specs.declared.medium.Medium as descriptions
+use Rattle.sg_sdp.specs.declared.sdp.Sdp.{Sdp}
+use Rattle.sg_session.proofs.Inversions.{after_ok_is, ok_is}
+use Rattle.sg_session.proofs.Lists.{any_here, any_there}
+use Rattle.sg_session.specs.Ring.{install}
+use Rattle.sg_session.specs.Session.{Key, Session}
+use Rattle.sg_session.specs.declared.names.Direction.{Direction}
+use Rattle.sg_session.specs.declared.names.Direction.TheVariants.{Opening, Sealing}
+use Rattle.sg_gateway.proofs.Agreements.{Agreements}
+use Rattle.sg_gateway.proofs.CarriedOut.{found_with, id_found, stays}
+use Rattle.sg_gateway.proofs.Kept.{IsOffered, WasOffered}
+use Rattle.sg_gateway.proofs.Signals.{found}
+use Rattle.sg_gateway.specs.Addressed.{IsMediumAt}
+use Rattle.sg_gateway.specs.CallSignals.{answered_to}
+use Rattle.sg_gateway.specs.Generations.{Settled, keyed}
+use Rattle.sg_gateway.specs.Signals.{Answered, Answer, answer_to, answered, in_old, offering_side, tells_answer}
+use Rattle.sg_gateway.specs.World.{Books, Call, World, call_of, same_id}
+use Rattle.sg_conduct.proofs.Lists.{any_first}
+use Rattle.sg_conduct.specs.Present.{HasProfileOf, HasSession, HasSessions, TakesPart}
+
+-- ---- what takes part is active
+
+profile_is : (side : Side) (m : descriptions.Medium) → HasProfileOf side m.profile → is_of_side side m.profile ≡ true
+profile_is Secure m (inl is) = ap (is_of_side Secure) is
+profile_is Secure m (inr is) = ap (is_of_side Secure) is
+profile_is Plain m (inl is) = ap (is_of_side Plain) is
+profile_is Plain m (inr is) = ap (is_of_side Plain) is
+
+takes_active : (side : Side) (m : descriptions.Medium) → TakesPart side m → is_active side m ≡ true
+takes_active side m is = and_from (not (eqb m.port 0)) (is_of_side side m.profile) (ap not (ne_eqb m.port 0 is.0)) (profile_is side m is.1)
+
+-- ---- media that are agreed
+
+abbrev HasRtcp : descriptions.Medium → descriptions.Medium → Medium → Type 0
+HasRtcp m n y = m.port < 65535 → n.port < 65535 → y.has_rtcp ≡ true
+
+-- what takes part in both is agreed, with RTCP where both ports allow it
+abbrev AreThere : Side → List descriptions.Medium → List descriptions.Medium → List (Option Medium) → Type 0
+AreThere side [] [] [] = Unit {0}
+AreThere side (m ∷ ms) (n ∷ ns) (x ∷ xs) = (TakesPart side m → TakesPart (other_side side) n → (y : Medium) × (x ≡ Some y) × HasRtcp m n y) × AreThere side ms ns xs
+AreThere side _ _ _ = ⊥
+
+rtcp_is : (side : Side) (k : Keyed) (m n : descriptions.Medium) → HasRtcp m n (medium_agreed side k m n)
+rtcp_is Secure k m n a b = and_from (ltb m.port 65535) (ltb n.port 65535) (lt-ltb m.port 65535 a) (lt-ltb n.port 65535 b)
+rtcp_is Plain k m n a b = and_from (ltb n.port 65535) (ltb m.port 65535) (lt-ltb n.port 65535 b) (lt-ltb m.port 65535 a)
+
+agreed_there : (side : Side) (m n : descriptions.Medium) (k : Option Keyed) → is_some (option_map (λ k. medium_agreed side k m n) k) ≡ (is_active side m && is_active (other_side side) n)
+    → TakesPart side m → TakesPart (other_side side) n → (y : Medium) × (option_map (λ k. medium_agreed side k m n) k ≡ Some y) × HasRtcp m n y
+agreed_there side m n None are a b = absurd (false≢true (are ∙ and_from (is_active side m) (is_active (other_side side) n) (takes_active side m a) (takes_active (other_side side) n b)))
+agreed_there side m n (Some k) are a b = (medium_agreed side k m n, refl, rtcp_is side k m n)
+
+media_there : (side : Side) (ms ns : List descriptions.Medium) (ks : List (Option Keyed)) → AreAgreedWhereActive side ms ns (media_agreed side ms ns ks) → AreThere side ms ns (media_agreed side ms ns ks)
+media_there side [] [] ks are = tt
+media_there side [] (n ∷ ns) ks are = absurd are
+media_there side (m ∷ ms) [] ks are = absurd are
+media_there side (m ∷ ms) (n ∷ ns) [] are = absurd are
+media_there side (m ∷ ms) (n ∷ ns) (k ∷ ks) are = (agreed_there side m n k are.0, media_there side ms ns ks are.1)
+
+record IsAgreement (o : Offer) (text : List ℕ) (g : AgreedAnswer) : Type 0 where
+  answer : Sdp
+  read : description_of text ≡ Ok answer
+  keyed : List (Option Keyed)
+  media : media_agreed o.side o.description.media answer.media keyed ≡ g.media
+
+agreement_is : (slot : ℕ) (o : Offer) (noise text : List ℕ) (g : AgreedAnswer) → agreed_answer slot o noise text ≡ Ok g → IsAgreement o text g
+unfolding agreed_answer
+agreement_is slot o noise text g e =
+    let p = after_ok_is (described (other_side o.side) (Some (length o.description.media)) text) _ g e in
+    let active : List Bool = actives_after o.side o.description.media p.0.media in
+    let q = after_ok_is (answered_by o noise p.0 active o.keying) _ g p.2 in
+    record {
+      answer = p.0;
+      read = described_is (other_side o.side) (Some (length o.description.media)) text p.0 p.1;
+      keyed = q.0.media;
+      media = ap (λ (g : AgreedAnswer). g.media) (ok_is (accepted_answer slot o p.0 active q.0) g q.2);
+    }
+
+answer_there : Agreements → (slot : ℕ) (o : Offer) (noise text : List ℕ) (g : AgreedAnswer) (answer : Sdp) → WasOffered o → agreed_answer slot o noise text ≡ Ok g → description_of text ≡ Ok answer
+    → AreThere o.side o.description.media answer.media g.media
+answer_there laws slot o noise text g answer was e read =
+    let is = agreement_is slot o noise text g e in
+    let same : is.answer ≡ answer = ok_is is.answer answer (sym is.read ∙ read) in
+    let a = laws.answered was.hand was.way was.text noise text slot was.accepted g was.agreed (ap (λ (o : Offer). agreed_answer slot o noise text) was.same ∙ e) in
+    let also : a.0 ≡ is.answer = ok_is a.0 is.answer (sym a.1 ∙ is.read) in
+    let of_law : AreAgreedWhereActive o.side o.description.media a.0.media g.media = subst (λ (o : Offer). AreAgreedWhereActive o.side o.description.media a.0.media g.media) was.same a.2 in
+    let active : AreAgreedWhereActive o.side o.description.media is.answer.media (media_agreed o.side o.description.media is.answer.media is.keyed) =
+    subst (AreAgreedWhereActive o.side o.description.media is.answer.media) (sym is.media)
+    (subst (λ (s : Sdp). AreAgreedWhereActive o.side o.description.media s.media g.media) also of_law) in
+    subst (λ (s : Sdp). AreThere o.side o.description.media s.media g.media) same
+    (subst (AreThere o.side o.description.media is.answer.media) is.media (media_there o.side o.description.media is.answer.media is.keyed active))
+
+-- ---- their sessions
+
+any_suffix : {X : Type 0} (P : X → Type 0) (xs ys : List X) → Any P ys → Any P (xs ++ ys)
+any_suffix P [] ys a = a
+any_suffix P (x ∷ xs) ys a = any_there P x (xs ++ ys) (any_suffix P xs ys a)
+
+module _ (call generation : ℕ) (a b : descriptions.Medium) where
+  before : (medium : ℕ) (xs ys : List Session) → HasSessions ys call generation medium a b → HasSessions (xs ++ ys) call generation medium a b
+  before medium xs ys is = record {
+    opens = any_suffix _ xs ys is.opens;
+    seals = any_suffix _ xs ys is.seals;
+    opens_rtcp = λ p q. any_suffix _ xs ys (is.opens_rtcp p q);
+    seals_rtcp = λ p q. any_suffix _ xs ys (is.seals_rtcp p q);
+  }
+
+  behind : (medium : ℕ) (xs ys : List Session) → HasSessions xs call generation medium a b → HasSessions (xs ++ ys) call generation medium a b
+  behind medium xs ys is = record {
+    opens = any_first _ xs ys is.opens;
+    seals = any_first _ xs ys is.seals;
+    opens_rtcp = λ p q. any_first _ xs ys (is.opens_rtcp p q);
+    seals_rtcp = λ p q. any_first _ xs ys (is.seals_rtcp p q);
+  }
+
+  streams_have : (medium : ℕ) (direction : Direction) (keys : List Key) (st : Stream) (window : ℕ) (x : Medium) → HasRtcp a b x
+      → HasSession (stream_sessions (owner_at call generation medium direction) keys st window x) call generation medium direction Rtp
+      × (a.port < 65535 → b.port < 65535 → HasSession (stream_sessions (owner_at call generation medium direction) keys st window x) call generation medium direction Rtcp)
+  streams_have medium direction keys st window x rtcp = (
+    any_here _ _ _ refl,
+    λ p q. any_there _ _ _ (rtcp_in x.has_rtcp (rtcp p q)),
+  )
+    where
+      rtcp_in : (on : Bool) → on ≡ true
+          → HasSession (cond on (stream_session (owner_at call generation medium direction) keys st window x Rtcp st.encrypts_rtcp 10 ∷ []) []) call generation medium direction Rtcp
+      rtcp_in true is = any_here (λ s. s.name ≡ record { owner = owner_at call generation medium direction; kind = Rtcp }) (stream_session (owner_at call generation medium direction) keys st window x Rtcp st.encrypts_rtcp 10) [] refl
+      rtcp_in false is = absurd (false≢true is)
+
+  both_have : (medium n : ℕ) (x : Medium) (later : List Session) → HasRtcp a b x
+      → HasSessions (stream_sessions (owner_at call generation medium Opening) (numbered n x.from_peer.keys) x.from_peer x.window x
+      ++ (stream_sessions (owner_at call generation medium Sealing) (numbered (n + length x.from_peer.keys) x.to_peer.keys) x.to_peer 1024 x ++ later)) call generation medium a b
+  both_have medium n x later rtcp =
+      let opening : List Session = stream_sessions (owner_at call generation medium Opening) (numbered n x.from_peer.keys) x.from_peer x.window x in
+      let sealing : List Session = stream_sessions (owner_at call generation medium Sealing) (numbered (n + length x.from_peer.keys) x.to_peer.keys) x.to_peer 1024 x in
+      let o = streams_have medium Opening (numbered n x.from_peer.keys) x.from_peer x.window x rtcp in
+      let s = streams_have medium Sealing (numbered (n + length x.from_peer.keys) x.to_peer.keys) x.to_peer 1024 x rtcp in
+      record {
+        opens = any_first _ opening (sealing ++ later) o.0;
+        seals = any_suffix _ opening (sealing ++ later) (any_first _ sealing later s.0);
+        opens_rtcp = λ p q. any_first _ opening (sealing ++ later) (o.1 p q);
+        seals_rtcp = λ p q. any_suffix _ opening (sealing ++ later) (any_first _ sealing later (s.1 p q));
+      }
+
+  module _ (side : Side) (takes : TakesPart side a) (answers : TakesPart (other_side side) b) where
+    sessions_there : (ms ns : List descriptions.Medium) (xs : List (Option Medium)) → AreThere side ms ns xs → (k : ℕ) → IsMediumAt ms k a → IsMediumAt ns k b → (first n : ℕ)
+        → HasSessions (sessions_from call generation first n xs) call generation (first + k) a b
+    sessions_there [] ns xs are k in_offer in_answer first n = absurd (let lt = in_offer.0 in omega (arith, lt))
+    sessions_there (m ∷ ms) [] xs are k in_offer in_answer first n = absurd (let lt = in_answer.0 in omega (arith, lt))
+    sessions_there (m ∷ ms) (o ∷ ns) [] are k in_offer in_answer first n = absurd are
+    sessions_there (m ∷ ms) (o ∷ ns) (x ∷ xs) are zero in_offer in_answer first n =
+        let of_offer : m ≡ a = in_offer.1 in
+        let of_answer : o ≡ b = in_answer.1 in
+        let is = are.0 (subst (TakesPart side) (sym of_offer) takes) (subst (TakesPart (other_side side)) (sym of_answer) answers) in
+        let rtcp : HasRtcp a b is.0 = subst (λ m. HasRtcp m b is.0) of_offer (subst (λ o. HasRtcp m o is.0) of_answer is.2) in
+        let place : first ≡ first + zero = omega arith in
+        subst (λ k. HasSessions (sessions_from call generation first n (x ∷ xs)) call generation k a b) place
+        (subst (λ x. HasSessions (sessions_from call generation first n (x ∷ xs)) call generation first a b) (sym is.1) (both_have first n is.0 _ rtcp))
+    sessions_there (m ∷ ms) (o ∷ ns) (None ∷ xs) are (suc k) in_offer in_answer first n =
+        let place : first + 1 + k ≡ first + suc k = omega arith in
+        subst (λ k. HasSessions (sessions_from call generation first n (None ∷ xs)) call generation k a b) place
+        (sessions_there ms ns xs are.1 k ((let lt = in_offer.0 in omega (arith, lt)), in_offer.1) ((let lt = in_answer.0 in omega (arith, lt)), in_answer.1) (first + 1) n)
+    sessions_there (m ∷ ms) (o ∷ ns) (Some x ∷ xs) are (suc k) in_offer in_answer first n =
+        let opening : List Session = stream_sessions (owner_at call generation first Opening) (numbered n x.from_peer.keys) x.from_peer x.window x in
+        let sealing : List Session = stream_sessions (owner_at call generation first Sealing) (numbered (n + length x.from_peer.keys) x.to_peer.keys) x.to_peer 1024 x in
+        let later : List Session = sessions_from call generation (first + 1) (n + length x.from_peer.keys + length x.to_peer.keys) xs in
+        let place : first + 1 + k ≡ first + suc k = omega arith in
+        subst (λ k. HasSessions (sessions_from call generation first n (Some x ∷ xs)) call generation k a b) place
+        (before (first + 1 + k) opening (sealing ++ later) (before (first + 1 + k) sealing later
+        (sessions_there ms ns xs are.1 k ((let lt = in_offer.0 in omega (arith, lt)), in_offer.1) ((let lt = in_answer.0 in omega (arith, lt)), in_answer.1) (first + 1) (n + length x.from_peer.keys + length x.to_peer.keys))))
+
+-- ---- an answer
+
+record IsAnswered (c d : Call) (o : Offer) (noise text : List ℕ) : Type 0 where
+  serial : d.serial ≡ c.serial
+  id : d.id ≡ c.id
+  agreement : AgreedAnswer
+  agreed : agreed_answer c.slot o noise text ≡ Ok agreement
+  number : ℕ
+  sessions : d.sessions ≡ sessions_from c.serial c.generations 0 number agreement.media ++ filter (stays c) c.sessions
+
+answer_is : (now : ℕ) (books : Books) (c : Call) (noise text : List ℕ) (o : Offer) (r : Settled) → answered_to now books c noise text (Some o) ≡ Ok r → IsAnswered c r.call o noise text
+answer_is now books c noise text o r e =
+    let a = after_ok_is (agreed_answer c.slot o noise text) (λ a. keyed now books c a.text a.media) r e in
+    let b = after_ok_is (generation_of c.serial c.generations books.ring a.0.media) _ r a.2 in
+    let g = after_ok_is (install books.ring (keys_from c.serial c.generations 0 a.0.media)) _ b.0 b.1 in
+    let news : sessions_from c.serial c.generations 0 (length books.ring) a.0.media ≡ b.0.sessions = ap (λ (g : Generation). g.sessions) (ok_is _ b.0 g.2) in
+    subst (λ (r : Settled). IsAnswered c r.call o noise text) (ok_is _ r b.2) (record {
+      serial = refl;
+      id = refl;
+      agreement = a.0;
+      agreed = a.1;
+      number = length books.ring;
+      sessions = ap (λ (ss : List Session). ss ++ filter (stays c) c.sessions) (sym news);
+    })
+
+abbrev pub AreTherein : Offer → Sdp → ℕ → Call → Type 0
+AreTherein o answer generation d =
+    (medium : ℕ) (m n : descriptions.Medium) → IsMediumAt o.description.media medium m → IsMediumAt answer.media medium n
+    → TakesPart o.side m → TakesPart (other_side o.side) n → HasSessions d.sessions d.serial generation medium m n
+
+module _ (laws : Agreements) (w : World) (offered_are : AllByRecursion (λ c. IsOffered c.offer) w.calls) (id : CallId) (noise text : List ℕ) (c : Call) (o : Offer)
+    (is : call_of w id ≡ Some c) (open_one : c.offer ≡ Some o) (answer : Sdp) (read : description_of text ≡ Ok answer) where
+  was : WasOffered o
+  was = subst IsOffered open_one (found (λ c. IsOffered c.offer) (λ x. same_id x.id id) w.calls c is offered_are)
+
+  therein : (d : Call) → IsAnswered c d o noise text → AreTherein o answer c.generations d
+  therein d a medium m n in_offer in_answer takes answers =
+      let are = answer_there laws c.slot o noise text a.agreement answer was a.agreed read in
+      let new : List Session = sessions_from c.serial c.generations 0 a.number a.agreement.media in
+      let old : List Session = filter (stays c) c.sessions in
+      subst (λ (n' : ℕ). HasSessions d.sessions n' c.generations medium m n) (sym a.serial)
+      (subst (λ (ss : List Session). HasSessions ss c.serial c.generations medium m n) (sym a.sessions)
+      (behind c.serial c.generations m n medium new old
+      (subst (λ (k : ℕ). HasSessions new c.serial c.generations k m n) (let e : 0 + medium ≡ medium = omega arith in e)
+      (sessions_there c.serial c.generations m n o.side takes answers o.description.media answer.media a.agreement.media are medium in_offer in_answer 0 a.number))))
+
+  abbrev Therein : Answer → Type 0
+  Therein a = (d : Call) → call_of a.world id ≡ Some d → d.generations ≡ c.generations + 1 → AreTherein o answer c.generations d
+
+  settled_therein : (q : Result Settled Refusal) → answered_to w.moment w.books c noise text (Some o) ≡ q → Therein (in_old w id (tells_answer id (offering_side c.offer)) q)
+  settled_therein (Err cause) e = λ d at more. let same = ap (λ (x : Call). x.generations) (some_is c d (sym is ∙ at)) in absurd (omega (arith, same, more))
+  settled_therein (Ok r) e = λ d at more.
+      let a = answer_is w.moment w.books c noise text o r e in
+      let here = found_with id c r.call w.calls a.serial (subst (λ i. same_id i id ≡ true) (sym a.id) (id_found id c w.calls is)) is in
+      subst (AreTherein o answer c.generations) (some_is r.call d (sym here ∙ at)) (therein r.call a)
+
+  pub answer_therein : Therein (answer_to w (Answered id noise text))
+  answer_therein =
+      subst (λ x. Therein (answered w id noise text x)) (sym is)
+      (subst (λ x. Therein (in_old w id (tells_answer id (offering_side c.offer)) (answered_to w.moment w.books c noise text x))) (sym open_one)
+      (settled_therein (answered_to w.moment w.books c noise text (Some o)) refl))

@@ -1,0 +1,10 @@
+pub mod Drawn
+pub mod Heard
+pub mod Manual
+pub mod Others
+pub mod Place
+pub mod Present
+pub mod Settled
+pub mod Standing
+pub mod ToldTexts
+pub mod Unsealed

@@ -1,0 +1,93 @@
+//! Laws of every run of the gateway that take none of its words for what is live, new, admitted or in its place.
+
+ghost use Rattle.std.specs.Prelude.{List};
+ghost use Rattle.sg_gateway.specs.Step.{Event};
+ghost use Rattle.sg_conduct.specs.Drawn.{OwnKeysAreDrawn};
+ghost use Rattle.sg_conduct.specs.Heard.{CallsWereHeard};
+ghost use Rattle.sg_conduct.specs.Manual.{ManualCallsAreTaken};
+ghost use Rattle.sg_conduct.specs.Others.{OtherCallsStay};
+ghost use Rattle.sg_conduct.specs.Place.{NewLeaves};
+ghost use Rattle.sg_conduct.specs.Present.{AnswersHaveSessions};
+ghost use Rattle.sg_conduct.specs.Settled.{EachDatagramIsSettled};
+ghost use Rattle.sg_conduct.specs.Standing.{SessionsHaveDone};
+ghost use Rattle.sg_conduct.specs.ToldTexts.{ToldTextsAreOwn};
+ghost use Rattle.sg_conduct.specs.Unsealed.{EachOpeningIsUnsealed};
+
+use sg_agreement::{active_media_are_agreed, agreements_are_sound, offers_fit_their_calls};
+
+/// What is opened was sealed: the datagram that came is the sealing of the packet that is put out, under a key of the session.
+pub fn what_is_opened_was_sealed()
+    ensures { (events : List Event) → EachOpeningIsUnsealed events }
+{
+    agreements_are_sound();
+    active_media_are_agreed();
+    offers_fit_their_calls();
+}
+
+/// Each datagram is opened or sealed once, and told as put out; or it is told as dropped, and changes nothing.
+pub fn datagrams_are_settled()
+    ensures { (events : List Event) → EachDatagramIsSettled events }
+{}
+
+/// What a session has done is what the run opened or sealed in it.
+pub fn sessions_have_done_what_was_done()
+    ensures { (events : List Event) → SessionsHaveDone events }
+{
+    agreements_are_sound();
+    active_media_are_agreed();
+    offers_fit_their_calls();
+}
+
+/// Each packet that arrives new is put out, and each that departs new is sealed, by what is done alone.
+pub fn what_is_new_leaves()
+    ensures { (events : List Event) → NewLeaves events }
+{
+    sg_gateway::what_is_new_is_put_out();
+    sg_gateway::nothing_within_reach_lost();
+}
+
+/// A signal leaves the calls that it doesn't name as they are.
+pub fn other_calls_stay()
+    ensures { (events : List Event) → OtherCallsStay events }
+{
+    agreements_are_sound();
+    active_media_are_agreed();
+    offers_fit_their_calls();
+}
+
+/// A call that is keyed manually is made and live where its keys are free, under the sessions that its line says.
+pub fn manual_calls_are_taken()
+    ensures { (events : List Event) → ManualCallsAreTaken events }
+{
+    sg_gateway::signals_are_taken();
+}
+
+/// Each call was heard in an earlier turn at the moment that is its own, and its generation was made in one at the moment
+/// from which the keys before it are counted.
+pub fn calls_were_heard()
+    ensures { (events : List Event) → CallsWereHeard events }
+{}
+
+/// Each text that is told names the gateway's own address, and for each medium port 0 or that of the call's slot.
+pub fn told_texts_are_own()
+    ensures { (events : List Event) → ToldTextsAreOwn events }
+{
+    sg_sdp::descriptions_have_one_value();
+    agreements_are_sound();
+    active_media_are_agreed();
+    offers_fit_their_calls();
+}
+
+/// After an answer that makes a generation each medium that takes part in both texts has its sessions.
+pub fn answers_have_sessions()
+    ensures { (events : List Event) → AnswersHaveSessions events }
+{
+    agreements_are_sound();
+    active_media_are_agreed();
+    offers_fit_their_calls();
+}
+
+/// The keys that the gateway makes for crypto lines and messages are octets of the noise of their turn.
+pub fn own_keys_are_drawn()
+    ensures { (events : List Event) → OwnKeysAreDrawn events }
+{}

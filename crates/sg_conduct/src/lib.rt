@@ -1,0 +1,10 @@
+//! What a gateway does in every run, in words of its events and of its journal.
+#![tactic(auto)]
+
+mod laws;
+
+pub use laws::{
+    answers_have_sessions, calls_were_heard, datagrams_are_settled, manual_calls_are_taken,
+    other_calls_stay, own_keys_are_drawn, sessions_have_done_what_was_done, told_texts_are_own,
+    what_is_new_leaves, what_is_opened_was_sealed,
+};

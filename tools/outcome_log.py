@@ -1,0 +1,66 @@
+"""A log of outcomes that may be moved away while it is written, and that has a bound of size.
+
+    log = OutcomeLog("/var/log/srtpgw/outcomes.log")
+    driver = Driver("./srtpgw", log=log)
+    log.begin_anew()          # behind a rename, as logrotate has it done
+
+A log that was begun anew has a line `there CALL SLOT MEDIA STATE` for each call that is there, and then goes on, so
+whoever reads it from its beginning knows the calls (tools/watch.py). Needs Python 3.8 alone.
+"""
+
+import os
+import threading
+
+# Where it has so many octets it is moved to `PATH.1`, in the place of the one before.
+OCTETS_MOST = 256 << 20
+
+
+class OutcomeLog:
+    """A file of octets, begun anew."""
+
+    def __init__(self, path, most=OCTETS_MOST):
+        self.path, self.most, self.lock = path, most, threading.Lock()
+        self.file, self.octets = self._opened(), 0
+        # The slot, the number of media and the state of each call that is there.
+        self.there = {}
+
+    def write(self, line):
+        """Takes a whole line of outcomes."""
+        with self.lock:
+            self._keep(line.split())
+            self._put(line)
+            if self.octets > self.most:
+                os.replace(self.path, f"{self.path}.1")
+                self._begin_anew()
+
+    def flush(self):
+        """Each line is written at once."""
+
+    def begin_anew(self):
+        """Goes on in another file of the same name. Raises OSError where it can't be made, and goes on in the old one."""
+        with self.lock:
+            self._begin_anew()
+
+    def _begin_anew(self):
+        before, self.file, self.octets = self.file, self._opened(), 0
+        before.close()
+        for call, (slot, media, state) in self.there.items():
+            self._put(b"there %b %b %b %b\n" % (call, slot, media, state))
+
+    def _opened(self):
+        return open(self.path, "wb", buffering=0)
+
+    def _put(self, line):
+        self.octets += len(line)
+        self.file.write(line)
+
+    def _keep(self, fields):
+        word, *rest = fields or [b""]
+        if word == b"srtpgw":
+            self.there.clear()
+        elif word == b"made":
+            self.there[rest[0]] = (*rest[1:3], b"offered")
+        elif word == b"live" and rest[0] in self.there:
+            self.there[rest[0]] = (*self.there[rest[0]][:2], b"live")
+        elif word == b"ended":
+            self.there.pop(rest[0], None)

@@ -1,0 +1,231 @@
+#!/usr/bin/env python3
+"""What stands beside the NG daemon's calls: Prometheus's text format (also by promtool, where that is there), names in the
+board and the alarms, readiness for systemd, and the rules that tools/latch.py has nft make.
+
+    python3 tools/tests/beside.py
+"""
+
+import collections
+import json
+import os
+import re
+import shutil
+import socket
+import subprocess
+import sys
+import tempfile
+import time
+import types
+import urllib.error
+import urllib.request
+from pathlib import Path
+
+TOOLS = Path(__file__).resolve().parent.parent
+sys.path.insert(0, str(TOOLS))
+from counters import Fault  # noqa: E402
+from driver import Bounds  # noqa: E402
+from latch import Latch, Leg  # noqa: E402
+from metrics import Histogram, Metrics  # noqa: E402
+from ng import metrics, ready  # noqa: E402
+from ng.following import legs_of  # noqa: E402
+
+TOP = TOOLS.parent
+LABEL = r'[a-z_]+="(?:[^"\\\n]|\\["\\n])*"'
+SAMPLE = re.compile(rf"([a-z_]+)(?:\{{{LABEL}(?:,{LABEL})*\}})? (-?[0-9.]+(?:e[+-][0-9]+)?)")
+CLAIMS = []
+
+
+def check(what, holds):
+    CLAIMS.append((what, bool(holds)))
+
+
+def formats():
+    rows, histogram = Metrics(), Histogram(1, 2)
+    for value in (0.5, 1, 1.5, 9):
+        histogram.take(value)
+    rows.histogram("a_seconds", "says", histogram, of="x")
+    check("a histogram", rows.lines()[2:] == [
+        'a_seconds_bucket{of="x",le="1"} 2', 'a_seconds_bucket{of="x",le="2"} 3', 'a_seconds_bucket{of="x",le="+Inf"} 4',
+        'a_seconds_sum{of="x"} 12.0', 'a_seconds_count{of="x"} 4'])
+    rows = Metrics()
+    rows.counter("b_total", "says", 1, of='a"b\\c\nd')
+    check("a label", rows.lines()[2] == 'b_total{of="a\\"b\\\\c\\nd"} 1')
+
+
+def a_book(calls):
+    """What the metrics look at of a book with so many calls."""
+    gateway = types.SimpleNamespace(began=1e9, octets=100, turns=1_000, worst=0.01, turns_taken=lambda: 7)
+    drops = collections.Counter({(20_000 + 16 * slot, "BadTag"): 1 for slot in range(calls)})
+    driver = types.SimpleNamespace(
+        gone=None, draining=False, gateway=gateway, drops=drops, unsent=collections.Counter({20_002: 2}), late=0.02,
+        overflows=collections.Counter(), spent=collections.Counter(keys=5), bounds=Bounds(), waiting={20_000: 512})
+    all_of_them = [types.SimpleNamespace(live=True, made=time.time(), ports={20_000 + 16 * slot: (0, "secure", "RTP")})
+                   for slot in range(calls)]
+    return types.SimpleNamespace(
+        driver=driver, all=lambda: all_of_them, counts=collections.Counter(managed=calls),
+        arrived=lambda ports: {port: (3, 600) for port in ports},
+        report=lambda call: types.SimpleNamespace(dropped={(20_000, "BadTag"): 4}))
+
+
+def metrics_of(calls):
+    book = a_book(calls)
+    meter = metrics.Meter(book)
+    for call in book.all():
+        meter.left(call)
+    for command in ("offer", "answer"):
+        meter.asked(command, "ok", 0.03)
+    return metrics.text_of(book, meter, {"offer": 1})
+
+
+def told():
+    text = metrics_of(3)
+    lines = [line for line in text.splitlines() if not line.startswith("#")]
+    check("samples", lines and all(SAMPLE.fullmatch(line) for line in lines))
+    check("as many series with many calls as with few", len(metrics_of(200).splitlines()) == len(text.splitlines()))
+    for wanted in ('srtpgw_drops_total{leg="secure RTP",cause="BadTag"} 3', 'srtpgw_spent{of="keys"} 5',
+                   'srtpgw_call_drops_bucket{le="5"} 3', 'srtpgw_requests_total{command="offer",result="ok"} 1',
+                   'srtpgw_arrived_octets{leg="secure RTP"} 1800', "srtpgw_late_seconds 0.02"):
+        check(wanted, wanted in lines)
+    promtool = shutil.which("promtool")
+    if promtool:
+        ran = subprocess.run([promtool, "check", "metrics"], input=text, capture_output=True, text=True, timeout=60)
+        check(f"promtool: {ran.stdout}{ran.stderr}", ran.returncode == 0 and not ran.stdout + ran.stderr)
+        ran = subprocess.run([promtool, "check", "rules", TOP / "examples/prometheus/alarms.yml"], capture_output=True,
+                             text=True, timeout=60)
+        check(f"promtool on the alarms: {ran.stderr}", ran.returncode == 0)
+    return {re.sub("_(bucket|sum|count)$", "", SAMPLE.fullmatch(line)[1]) for line in lines}
+
+
+def named(names):
+    """Each metric has its words, and what the files name is there."""
+    page = (TOP / "docs/alarms.md").read_text(encoding="utf-8")
+    board = json.loads((TOP / "examples/prometheus/board.json").read_text(encoding="utf-8"))
+    asked = json.dumps([target["expr"] for panel in board["panels"] for target in panel["targets"]])
+    rules = (TOP / "examples/prometheus/alarms.yml").read_text(encoding="utf-8")
+    for where, text in (("the board", asked), ("the alarms", rules)):
+        used = {re.sub("_(bucket|sum|count)$", "", name) for name in re.findall(r"srtpgw_[a-z_]+", text)}
+        check(f"{where}: no metric is called {sorted(used - names)}", used and used <= names)
+    check("docs/alarms.md has each metric", all(f"`{name}`" in page for name in names))
+    check("docs/alarms.md has each alarm", all(name in page for name in re.findall(r"alert: (\w+)", rules)))
+
+
+def by_http():
+    said = []
+    site = metrics.Site(("127.0.0.1", 0), lambda: metrics_of(1), said.append)
+    try:
+        at = "http://127.0.0.1:%d" % site.server_port
+        with urllib.request.urlopen(f"{at}/metrics", timeout=10) as answer:
+            check("by HTTP", answer.read().decode().startswith("# HELP srtpgw_up")
+                  and answer.headers["Content-Type"].startswith("text/plain; version=0.0.4"))
+        try:
+            urllib.request.urlopen(f"{at}/other", timeout=10)
+            check("another path", False)
+        except urllib.error.HTTPError as fault:
+            check("another path", fault.code == 404)
+        # One who connects and says nothing keeps nobody from it for long.
+        with socket.create_connection(("127.0.0.1", site.server_port)):
+            with urllib.request.urlopen(f"{at}/metrics", timeout=30) as answer:
+                check("beside a silent client", answer.status == 200)
+    finally:
+        site.close()
+
+
+def is_ready(folder):
+    path = f"{folder}/notify"
+    with socket.socket(socket.AF_UNIX, socket.SOCK_DGRAM) as end:
+        end.bind(path)
+        end.settimeout(5)
+        os.environ["NOTIFY_SOCKET"] = path
+        ready.tell(READY=1, STATUS="takes calls")
+        check("systemd is told", end.recv(100) == b"READY=1\nSTATUS=takes calls\n")
+    ready.tell(READY=1)
+    del os.environ["NOTIFY_SOCKET"]
+    ready.tell(READY=1)
+
+
+# ---- the rules
+
+class Nft:
+    """Takes what nft is told, and answers sets as they are put in."""
+
+    def __init__(self):
+        self.told, self.sets, self.fails = [], collections.defaultdict(list), 0
+
+    def __call__(self, text, *words):
+        if words:
+            objects = [{"set": {"name": name, "elem": self.sets[name]}} for name in (
+                "window", "wide", "settled", "known", "elsewhere", "to_address", "to_port", "said")]
+            return json.dumps({"nftables": [{"metainfo": {}}, *objects]})
+        if self.fails:
+            self.fails -= 1
+            raise Fault("nft: something came between")
+        self.told.append(text)
+        return ""
+
+
+def until(holds):
+    end = time.monotonic() + 10
+    while not holds() and time.monotonic() < end:
+        time.sleep(0.02)
+    return holds()
+
+
+def latched():
+    nft, said = Nft(), []
+    latch = Latch(said.append, 5, run=nft)
+    leg = Leg(20_002, "10.2.0.2", 47_000, "call 1 (a): plain RTP of medium 0")
+    latch.follow([leg])
+    check("a window", until(lambda: len(nft.told) == 3)
+          and nft.told[2] == "add element ip srtpgw_latch window { 20002 . 10.2.0.2 timeout 5000ms }\n"
+                             "add element ip srtpgw_latch followed { 20002 }\n")
+    nft.sets.update(to_address=[[20_002, "10.2.0.2"]], to_port=[[20_002, 61_000]], settled=[20_002],
+                    known=[{"concat": [20_002, "10.2.0.2", 61_000]}],
+                    elsewhere=[{"elem": {"val": {"concat": [20_002, "10.2.0.9", 5]}, "expires": 50}}])
+    check("what is told", until(lambda: len(said) == 2) and said == [
+        "call 1 (a): plain RTP of medium 0 is at 10.2.0.2:61000, and not at 10.2.0.2:47000 as its text says: media go there",
+        "call 1 (a): plain RTP of medium 0: packets come from 10.2.0.9:5, too, and media go on to 10.2.0.2:61000"])
+    nft.told.clear()
+    nft.fails = 1
+    latch.follow([leg])
+    check("behind an answer that changes nothing, media go on",
+          until(lambda: len(nft.told) >= 2) and "delete element ip srtpgw_latch settled" in nft.told[-1]
+          and "to_address" not in nft.told[-1])
+    nft.told.clear()
+    latch.leave([20_002])
+    check("a call that is over", until(lambda: len(nft.told) >= 2) and all(
+        f"delete element ip srtpgw_latch {name}" in nft.told[-1] for name in ("to_address", "to_port", "settled", "known")))
+    latch.close()
+    check("the end", "delete table" in nft.told[-1])
+    wide = Latch(said.append, 5, wide=True, run=nft)
+    nft.sets.clear()
+    wide.follow([leg])
+    check("any address", until(lambda: "wide { 20002 timeout 5000ms }" in nft.told[-1])
+          and "said { 20002 : 10.2.0.2 }" in nft.told[-1])
+    wide.close()
+
+
+def followed():
+    text = b"v=0\r\nc=IN IP4 10.1.0.2\r\nm=audio 4000 RTP/AVP 0\r\nm=video 0 RTP/AVP 9\r\nm=audio 5000 RTP/AVP 0\r\nc=IN IP4 10.1.0.3\r\n"
+    ports = {20_000: (0, "secure", "RTP"), 20_001: (0, "secure", "RTCP"), 20_004: (1, "secure", "RTP"),
+             20_008: (2, "secure", "RTP"), 20_002: (0, "plain", "RTP")}
+    call = types.SimpleNamespace(ports=ports, said={"secure": text}, name=lambda: "call 1 (a)")
+    check("the legs of a call", [leg[:3] for leg in legs_of(call)] == [
+        (20_000, "10.1.0.2", 4_000), (20_001, "10.1.0.2", 4_001), (20_008, "10.1.0.3", 5_000)])
+
+
+def main():
+    formats()
+    named(told())
+    by_http()
+    with tempfile.TemporaryDirectory() as folder:
+        is_ready(folder)
+    latched()
+    followed()
+    bad = [what for what, holds in CLAIMS if not holds]
+    print(*(f"NOT SO: {what}" for what in bad), sep="\n", end="\n" * bool(bad))
+    print(f"beside: {len(CLAIMS)} looked at, {len(bad)} are otherwise")
+    return bool(bad)
+
+
+if __name__ == "__main__":
+    sys.exit(main())
