@@ -1,5 +1,8 @@
 #!/usr/bin/env python3
-"""Writes the scripts of `examples/` and, beside each, what must be written of it."""
+"""Writes the scripts of `examples/` and, beside each, what must be written of it, and the numbers of demonstrations; with
+`--check` nothing is written, and it is said what would be. The numbers of 256 calls, which take half a minute, are those of
+`interop/demonstration.py 256 1`."""
+import sys
 from pathlib import Path
 
 from calls import (
@@ -7,12 +10,15 @@ from calls import (
     comes, drop, manual, opened, out, rtcp_opened, rtcp_sealed, sealed,
 )
 from captured import ARP, Captured, ethernet, frame
+from demonstration import lines
 from joined import THREES, TO_FIRST, TO_SECOND, TWOS, joined_calls
+from kept import settle
 from shared import PLAIN_RTCP, SECURE_MUXED, Shared, alice_muxed
 from signals import ALICE_KEYED, MANUAL, ONE, OWN
 from srtp import KNOWN, KNOWN_SEALED, MasterKey, rtcp, rtp
 
 EXAMPLES = Path(__file__).resolve().parent.parent / "examples"
+SHOWN = (1, 7), (3, 2**64 - 1), (4, 0), (4, 1), (32, 1)
 KNOWN_OPENED = comes(20000, KNOWN_SEALED), out(20002, KNOWN, PLAIN)
 
 
@@ -136,16 +142,15 @@ def joined():
     return s
 
 
-def write(name, s):
-    of = EXAMPLES / name
-    of.with_suffix(".script").write_bytes(s.text())
-    of.with_suffix(".words").write_text(f"{s.command}\n")
-    of.with_suffix(".out").write_text("".join(line + "\n" for line in s.told))
+def files(name, s):
+    yield f"{name}.script", s.text()
+    yield f"{name}.words", f"{s.command}\n".encode()
+    yield f"{name}.out", "".join(line + "\n" for line in s.told).encode()
     if s.capture:
-        of.with_suffix(".pcap").write_bytes(s.capture)
+        yield f"{name}.pcap", s.capture
 
 
-def main():
+def examples():
     for name, example, told in (
         ("raw-key", raw_key, MADE),
         ("both-ways", both_ways, MADE),
@@ -158,11 +163,13 @@ def main():
     ):
         call, rows = example()
         header = "srtpgw 2\n" if example is moments else "srtpgw 1\n"
-        (EXAMPLES / f"{name}.script").write_text(header + call + "".join(row[0] for row in rows))
-        (EXAMPLES / f"{name}.out").write_text(told + "".join(row[1] for row in rows))
+        yield f"{name}.script", (header + call + "".join(row[0] for row in rows)).encode()
+        yield f"{name}.out", (told + "".join(row[1] for row in rows)).encode()
     for example in captured, muxed, joined:
-        write(example.__name__, example())
+        yield from files(example.__name__, example())
+    for number, start in SHOWN:
+        yield f"demo-{number}-{start}.out", lines(number, start).encode()
 
 
 if __name__ == "__main__":
-    main()
+    sys.exit(settle(EXAMPLES, dict(examples())))

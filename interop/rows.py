@@ -7,14 +7,16 @@ rules alone, has to tell the same.
 
 A script is played by `replay`, or by the command that a file NAME.words beside it names, then with the octets of
 NAME.pcap behind it where that is there; it is handled to its end, or ends as NAME.end says, with a status and a text on
-standard error.
+standard error. With `--check` nothing is written, and it is said what would be.
 """
+import sys
 from pathlib import Path
 
 import agreements
 import calls
 import captured
 import joined
+import kept
 import lives
 import messages
 import policies
@@ -58,12 +60,8 @@ def rows():
 def main():
     made = dict(rows())
     ROWS.mkdir(exist_ok=True)
-    for file in ROWS.iterdir():
-        if file.name not in (*made, "README.md"):
-            file.unlink()
-    for name, octets in made.items():
-        (ROWS / name).write_bytes(octets)
+    return kept.settle(ROWS, made, [file for file in ROWS.iterdir() if file.name not in (*made, "README.md")])
 
 
 if __name__ == "__main__":
-    main()
+    sys.exit(main())
