@@ -181,9 +181,7 @@ class Driver:
     # ---- telling
 
     def _offer(self, call, word, keyed, text, keys):
-        signal = self._signal(call, "sdp", keys, word, fields.call_number(call), *keyed, "-", fields.digits(text))
-        self.open_keys[call] = signal.keys
-        return signal.text
+        return self._signal(call, "sdp", keys, word, fields.call_number(call), *keyed, "-", fields.digits(text)).text
 
     def _signal(self, call, last, keys, *line):
         """Hands a line on and waits for its last outcome."""
@@ -270,7 +268,11 @@ class Driver:
     def _answer(self, outcome):
         if not self.pending:
             raise ValueError("no signal waits")
-        if self.pending[0].take(outcome):
+        signal = self.pending[0]
+        if signal.take(outcome):
+            # An offer is open before its signal is over: between the two ticks would be long.
+            if signal.last == "sdp" and not signal.refusal:
+                self.open_keys[int(signal.call)] = signal.keys
             self.pending.popleft().finish()
 
     # ---- the end of a process
