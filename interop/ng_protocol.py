@@ -32,7 +32,7 @@ from ng import bencode  # noqa: E402
 
 HOST, NG = "127.0.0.1", ("127.0.0.1", 2223)
 SECURE, PLAIN = (HOST, 4000), (HOST, 4010)
-ALL_SECONDS = 300
+ALL_SECONDS = 900
 # The calls that a gateway has at most (docs/formats.md).
 CALLS_MOST = 256
 SUITE = "AES_CM_128_HMAC_SHA1_80"
@@ -537,9 +537,9 @@ def mistyped():
     yield b"t " + bencoded({"command": ["ping"]})
 
 
-def drawn(count):
+def drawn(count, seed=7):
     """Requests with octets changed, left out or doubled, from a seed."""
-    random.seed(7)
+    random.seed(seed)
     message = {"from-tag": "a", "sdp": plain(), "transport-protocol": "RTP/SAVP", "command": "offer"}
     for number in range(count):
         octets = bytearray(bencoded({"call-id": f"drawn {number % 64}", **message}))
