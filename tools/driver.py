@@ -100,6 +100,7 @@ class Driver:
         self.lock, self.over, self.drained = threading.RLock(), threading.Event(), threading.Event()
         self.gone, self.draining = None, False
         self.gateway = self._started()
+        self.kept = self.gateway.kept_by_host()
         self.threads = [threading.Thread(target=work, daemon=True) for work in (self._run, self._notify, self._watch)]
         for thread in self.threads:
             thread.start()
@@ -353,8 +354,11 @@ class Driver:
 
     def _look_around(self, gateway):
         self.late, gateway.worst = gateway.worst, 0.0
+        before, self.kept = self.kept, gateway.kept_by_host()
         if self.late > max(LATE, 2 * gateway.step):
-            self._warn(f"the gateway's turns ran late, by {1000 * self.late:.0f} ms: give it a higher priority, or less to do")
+            kept = self.kept - before
+            more = f"; the machine's host kept {kept:.1f} s of processors from it meanwhile" if kept > LATE else ""
+            self._warn(f"the gateway's turns ran late, by {1000 * self.late:.0f} ms: give it a higher priority, or less to do{more}")
         ends = gateway.sockets()
         self._look_at_waiting({port: end.waiting for port, end in ends.items() if end.waiting})
         self._look_at_overflows({port: end.drops for port, end in ends.items() if end.drops})

@@ -23,7 +23,7 @@ import threading
 import time
 from pathlib import Path
 
-from counters import PORTS, sockets
+from counters import PORTS, kept_by_host, sockets
 
 STATUSES = {
     0: "done", 1: "usage", 2: "script", 3: "read", 4: "write", 5: "link", 6: "no memory", 7: "clock",
@@ -342,6 +342,10 @@ class Gateway:
         """What waits in each socket of the gateway's, and what the system threw away in front of it, by port."""
         return sockets(_network(self.pid, "udp"))
 
+    def kept_by_host(self):
+        """How many seconds of all processors the host of a virtual machine has kept from it."""
+        return kept_by_host(_text("/proc/stat"))
+
     def never_waits(self):
         """Whether its standard input was opened so that a read never waits: it would read on all the time."""
         try:
@@ -434,8 +438,13 @@ class Gateway:
 
 
 def _network(pid, table):
-    """A table of the network namespace of a process, or of this one's; nothing where it can't be read."""
+    """A table of the network namespace of a process, or of this one's."""
+    return _text(f"/proc/{pid or 'self'}/net/{table}")
+
+
+def _text(path):
+    """A file of the system's, or nothing where it can't be read."""
     try:
-        return Path(f"/proc/{pid or 'self'}/net/{table}").read_text()
+        return Path(path).read_text()
     except OSError:
         return ""
