@@ -154,7 +154,8 @@ def a_fault_of_its_own(program):
         book.delete = own.send = fails
         for number in range(3):
             own.hand_on({b"command": b"delete", b"call-id": b"one"}, b"%d" % number, (HOST, 9))
-        wait_until(lambda: sum("ZeroDivisionError" in line for line in log) >= 6, "the faults in the log")
+        # One at each deletion, and one at each answer.
+        wait_until(lambda: sum("own: ZeroDivisionError" in line for line in log) == 6, "the faults in the log")
         assert not any(KEEPS in line or KEEPS[-20:] in line for line in log), "a key is in the log"
         del own.send
         heard = []
@@ -166,7 +167,7 @@ def a_fault_of_its_own(program):
     return "three of one call, and the next request is answered"
 
 
-def wait_until(holds, what, seconds=20):
+def wait_until(holds, what, seconds=60):
     end = time.monotonic() + seconds
     while not holds():
         assert time.monotonic() < end, f"waited {seconds} s for {what}"
