@@ -479,6 +479,29 @@ def whose_refusal(program):
     raise Wrong("nothing is told")
 
 
+def many_signals_wait(program):
+    """signals that are answered one behind another, by a gateway with little of a processor"""
+    numbers, kept = range(1, 10), []
+    spoken = Spoken((0, PROBED), *((1.0, f"refused {number} CallUnknown\n".encode()) for number in numbers))
+
+    def tell(driver, number):
+        try:
+            kept.append(refusal_of(driver.bye, number))
+        except Gone as gone:
+            kept.append(str(gone))
+
+    with driving(spoken, wait=5.0) as (driver, _, _):
+        threads = []
+        for number in numbers:
+            threads.append(threading.Thread(target=tell, args=(driver, number)))
+            threads[-1].start()
+            wait_until(lambda: len(driver.pending) + len(kept) == len(threads), "the signal to be told")
+        for thread in threads:
+            thread.join(PATIENCE)
+        require(kept == ["CallUnknown"] * len(numbers), f"refused by {kept}")
+    return f"{len(kept)} that wait for nine seconds, each no more than one behind the one before it: all are answered"
+
+
 def an_answer_may_be_late(program):
     """an answer to a probe that comes late, a clock that is set, and turns without a datagram"""
     gateway = Gateway(Spoken((0, PROBED), (0.7, PROBED), (PATIENCE, b""), each=True))
@@ -603,7 +626,8 @@ CHECKS = [
     counts_from_the_start, each_has_its_own, a_late_outcome_ends_the_process, calls_are_told_and_made_anew, it_drains,
     close_waits_for_drops, fields_are_fields, ports_and_answers_are_looked_at, sockets_overflow, telephones_have_their_ways,
     keys_are_told_again, a_rejected_offer_spends_nothing, the_log_has_no_keys, outcomes_come_in_parts, whose_refusal,
-    an_answer_may_be_late, signals_wait_little, a_long_tick_comes_before_the_signal, what_waits_is_told, signals_of_the_system, a_unit_keeps_it,
+    many_signals_wait, an_answer_may_be_late, signals_wait_little, a_long_tick_comes_before_the_signal, what_waits_is_told,
+    signals_of_the_system, a_unit_keeps_it,
 ]
 
 

@@ -44,7 +44,7 @@ def main_of(unit):
 def below(pid):
     """The gateway of a daemon."""
     try:
-        return [int(child) for child in Path(f"/proc/{pid}/task/{pid}/children").read_text().split()]
+        return [int(child) for thread in Path(f"/proc/{pid}/task").iterdir() for child in (thread / "children").read_text().split()]
     except OSError:
         return []
 
@@ -130,7 +130,7 @@ def gateway():
               told["Uid"].split()[0] != "0" and os.sched_getscheduler(pid) == RR and int(told["CapEff"], 16) == 0)
         text = driver.offer_plain(1, b"v=0\r\no=- 1 1 IN IP4 127.0.0.1\r\ns=-\r\nc=IN IP4 127.0.0.1\r\nt=0 0\r\nm=audio 4000 RTP/AVP 0\r\n")
         key = base64.b64encode(os.urandom(30))
-        back = driver.answer(1, text.replace(b"UDP", b"UDP").split(b"a=crypto")[0].replace(b"m=audio 20000", b"m=audio 4010")
+        back = driver.answer(1, text.split(b"a=crypto")[0].replace(b"m=audio 20000", b"m=audio 4010")
                              + b"a=crypto:1 AES_CM_128_HMAC_SHA1_80 inline:" + key + b"\r\n")
         check(f"{turn}: a call with keys", text.count(b"a=crypto:") == 2 and b"m=audio 20002 RTP/AVP 0" in back)
         driver.close()

@@ -83,8 +83,8 @@ class Driver:
     `gone` where the gateway's process has ended. It runs in a thread of the driver's own, and may tell signals.
 
     With `restarts` the next process is started where one has ended, and is told the pre-shared keys again. `wait` is how
-    many seconds an outcome may be late; then the process is ended. Where more than `bounds` is spent, the driver
-    drains: see `drain`. `warn(text)` is told what an operator should know."""
+    many seconds an outcome may be late, behind the one before it; then the process is ended. Where more than `bounds` is
+    spent, the driver drains: see `drain`. `warn(text)` is told what an operator should know."""
 
     def __init__(self, program="./srtpgw", on_end=lambda call, why: None, restarts=False, wait=10.0, bounds=Bounds(),
                  warn=logging.getLogger("srtpgw").warning, **options):
@@ -93,6 +93,8 @@ class Driver:
         self.options, self.shared = options, []
         self.drops, self.unsent, self.overflows = (collections.Counter() for _ in range(3))
         self.slots, self.pending, self.notices = {}, collections.deque(), queue.Queue()
+        # When a signal was answered last.
+        self.answered = time.monotonic()
         self.late, self.waiting = 0.0, {}
         # Keys of offers that aren't answered, by call; what is spent for good; and the overflows of the last look.
         self.open_keys, self.spent, self.seen = {}, collections.Counter(), {}
@@ -274,6 +276,7 @@ class Driver:
             # An offer is open before its signal is over: between the two ticks would be long.
             if signal.last == "sdp" and not signal.refusal:
                 self.open_keys[int(signal.call)] = signal.keys
+            self.answered = time.monotonic()
             self.pending.popleft().finish()
 
     # ---- the end of a process
@@ -348,8 +351,9 @@ class Driver:
                 self._look_around(gateway)
 
     def _oldest(self):
+        """By how many seconds the oldest signal is late, or for how many none was answered."""
         with contextlib.suppress(IndexError):
-            return self.pending[0].due.late()
+            return min(self.pending[0].due.late(), time.monotonic() - self.answered)
         return 0.0
 
     def _look_around(self, gateway):

@@ -253,6 +253,8 @@ class Gateway:
         self.step, self.turns, self.log, self.expects = step, opener.turns, log, expects
         self.outcomes, self.gone, self.why = queue.Queue(), None, None
         self.octets, self.ticks, self.late, self.worst = 0, 0, 0.0, 0.0
+        # When it last told of anything but a datagram.
+        self.heard = time.monotonic()
         # Under the lock lines are written, and the length of a tick is decided together with its line: a long one that was
         # decided before a signal is never written behind it.
         self.lock, self.answered, self.ending = threading.Lock(), threading.Event(), threading.Event()
@@ -327,9 +329,10 @@ class Gateway:
         return Due(self.began + self.last / 1000)
 
     def waited(self):
-        """By how many seconds the oldest answer to a probe is late."""
+        """By how many seconds the oldest answer to a probe is late, or for how many no line was answered. A gateway that has
+        much to do answers one line behind another."""
         with contextlib.suppress(IndexError):
-            return self.probes[0][1].late()
+            return min(self.probes[0][1].late(), time.monotonic() - self.heard)
         return 0.0
 
     def turns_taken(self):
@@ -373,6 +376,8 @@ class Gateway:
 
     def _read(self):
         for line in self.ends.outcomes:
+            if not line.startswith((b"drop ", b"unsent ")):
+                self.heard = time.monotonic()
             if line == PROBED:
                 if not self.probes:
                     self.end("an answer to a probe that wasn't written")
