@@ -437,6 +437,8 @@ def branches(server):
     ports = [port_of(lines_of(server.offers("three", "a", plain(), "RTP/SAVP", via_branch=name))) for name in "xy"]
     assert ports[0] != ports[1], ports
     lines_of(server.answers("three", "ab", secure(), via_branch="y"))
+    # An answer that names no branch is the open offer's, though another one came later.
+    assert port_of(lines_of(server.answers("three", "ac", secure()))) == ports[0] + 2
     assert b"warning" not in server.asks("delete", call_id="three", from_tag="a", via_branch="x")
     assert b"warning" in server.asks("delete", call_id="three", from_tag="other")
     assert b"warning" not in server.asks("delete", call_id="three", from_tag="b", via_branch="of the BYE")
