@@ -28,7 +28,8 @@ def ended(tree, program, check):
     path, *names = check.split(" ")
     words = [path] if path.startswith(".ci/") else [sys.executable, path, program, *names]
     how = {"cwd": tree, "stdin": subprocess.DEVNULL, "stdout": subprocess.PIPE, "stderr": subprocess.STDOUT}
-    more = {**os.environ, "FIRST_RUN_SECONDS": str(SECONDS - 30)}
+    # Whatever is changed, no check begins to build the program.
+    more = {**os.environ, "FIRST_RUN_SECONDS": str(SECONDS - 30), "SRTPGW": program}
     with subprocess.Popen(words, start_new_session=True, env=more, **how) as run:
         try:
             said = run.communicate(timeout=SECONDS)[0]

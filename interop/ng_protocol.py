@@ -32,7 +32,7 @@ from ng import bencode  # noqa: E402
 
 HOST, NG = "127.0.0.1", ("127.0.0.1", 2223)
 SECURE, PLAIN = (HOST, 4000), (HOST, 4010)
-ALL_SECONDS = 300
+ALL_SECONDS = 900
 # The calls that a gateway has at most (docs/formats.md).
 CALLS_MOST = 256
 SUITE = "AES_CM_128_HMAC_SHA1_80"
@@ -437,6 +437,8 @@ def branches(server):
     ports = [port_of(lines_of(server.offers("three", "a", plain(), "RTP/SAVP", via_branch=name))) for name in "xy"]
     assert ports[0] != ports[1], ports
     lines_of(server.answers("three", "ab", secure(), via_branch="y"))
+    # An answer that names no branch is the open offer's, though another one came later.
+    assert port_of(lines_of(server.answers("three", "ac", secure()))) == ports[0] + 2
     assert b"warning" not in server.asks("delete", call_id="three", from_tag="a", via_branch="x")
     assert b"warning" in server.asks("delete", call_id="three", from_tag="other")
     assert b"warning" not in server.asks("delete", call_id="three", from_tag="b", via_branch="of the BYE")
@@ -537,9 +539,9 @@ def mistyped():
     yield b"t " + bencoded({"command": ["ping"]})
 
 
-def drawn(count):
+def drawn(count, seed=7):
     """Requests with octets changed, left out or doubled, from a seed."""
-    random.seed(7)
+    random.seed(seed)
     message = {"from-tag": "a", "sdp": plain(), "transport-protocol": "RTP/SAVP", "command": "offer"}
     for number in range(count):
         octets = bytearray(bencoded({"call-id": f"drawn {number % 64}", **message}))

@@ -30,7 +30,7 @@ from driver import Driver  # noqa: E402, found by ng_protocol
 from ng import __main__ as ng_main, bencode, calls as ng_calls, server as ng_server  # noqa: E402
 from ng.request import Request  # noqa: E402
 
-ALL_SECONDS = 300
+ALL_SECONDS = 900
 # Letters that Latin-1 and ASCII lack, and octets that are no UTF-8.
 ODD_CALLS = ("call-\u20ac", b"\xff\xfe\x80", "\u202e\x1b[2J")
 LOCALES = (
@@ -77,7 +77,7 @@ def nobody_reads(program):
             asks_long_names(server)
         process.send_signal(signal.SIGTERM)
         # It ends though nobody reads on.
-        assert process.wait(30) == 0, process.returncode
+        assert process.wait(60) == 0, process.returncode
     finally:
         process.kill()
     return f"{count} requests answered, {lost} lines lost, and told"
@@ -154,7 +154,8 @@ def a_fault_of_its_own(program):
         book.delete = own.send = fails
         for number in range(3):
             own.hand_on({b"command": b"delete", b"call-id": b"one"}, b"%d" % number, (HOST, 9))
-        wait_until(lambda: sum("ZeroDivisionError" in line for line in log) >= 6, "the faults in the log")
+        # One at each deletion, and one at each answer.
+        wait_until(lambda: sum("own: ZeroDivisionError" in line for line in log) == 6, "the faults in the log")
         assert not any(KEEPS in line or KEEPS[-20:] in line for line in log), "a key is in the log"
         del own.send
         heard = []
@@ -166,7 +167,7 @@ def a_fault_of_its_own(program):
     return "three of one call, and the next request is answered"
 
 
-def wait_until(holds, what, seconds=20):
+def wait_until(holds, what, seconds=60):
     end = time.monotonic() + seconds
     while not holds():
         assert time.monotonic() < end, f"waited {seconds} s for {what}"
@@ -282,7 +283,7 @@ def request(command, name, text, tags=("a", ""), **more):
 def held_calls(program):
     """A call that is held has a sign of life by a rejected offer, which spends no key, until the hold is over; one that
     isn't has none."""
-    with book_of(program, hold=3.0) as (book, driver, told):
+    with book_of(program, hold=6.0) as (book, driver, told):
         for name in ("held", "talks"):
             text = secure(crypto=KEEPS if name == "held" else key())
             book.offer(request("offer", name, text, **{"transport-protocol": "RTP/AVP"}))
@@ -294,7 +295,7 @@ def held_calls(program):
         book.offer(request("offer", "held", quiet, ("a", "b"), **{"transport-protocol": "RTP/AVP"}))
         book.answer(request("answer", "held", plain("a=recvonly"), ("a", "b")))
         wait_until(lambda: sum(line[:2] == ("reject", "1") for line in told) >= 3, "three signs of life")
-        time.sleep(4)
+        time.sleep(7)
         signs = [line[:2] for line in told[first:]]
         assert set(signs) == {("offer-plain", "1"), ("reject", "1"), ("bye", "0")}, signs
         rest = len(told)
@@ -304,7 +305,7 @@ def held_calls(program):
         book.offer(request("offer", "held", secure(crypto=KEEPS), ("a", "b"), **{"transport-protocol": "RTP/AVP"}))
         book.answer(request("answer", "held", plain(), ("a", "b")))
         assert len(told) == rest, "resumed past the gateway"
-        return f"{sum(line[0] == 'reject' for line in told)} signs in three seconds, no key spent"
+        return f"{sum(line[0] == 'reject' for line in told)} signs in six seconds, no key spent"
 
 
 # ---- signals of the system

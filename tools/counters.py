@@ -4,6 +4,7 @@
 
 import collections
 import json
+import os
 
 # The gateway's ports: sixteen a slot, four a medium, one a leg (docs/formats.md, "Ports").
 SLOTS = 256
@@ -71,6 +72,13 @@ def places(found):
         port, address, other = element["elem"]["val"]["concat"]
         by_port[port][f"{address}:{other}"] = max(0, found["timeout"] - element["elem"]["expires"])
     return dict(by_port)
+
+
+def kept_by_host(table):
+    """How many seconds of all processors the host of a virtual machine has kept from it, by /proc/stat; 0 where it has no
+    such count."""
+    fields = table.split("\n", 1)[0].split()
+    return int(fields[8]) / os.sysconf("SC_CLK_TCK") if fields[:1] == ["cpu"] and len(fields) > 8 else 0.0
 
 
 def sockets(text):

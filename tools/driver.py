@@ -83,8 +83,8 @@ class Driver:
     `gone` where the gateway's process has ended. It runs in a thread of the driver's own, and may tell signals.
 
     With `restarts` the next process is started where one has ended, and is told the pre-shared keys again. `wait` is how
-    many seconds an outcome may be late; then the process is ended. Where more than `bounds` is spent, the driver
-    drains: see `drain`. `warn(text)` is told what an operator should know."""
+    many seconds an outcome may be late, behind the one before it; then the process is ended. Where more than `bounds` is
+    spent, the driver drains: see `drain`. `warn(text)` is told what an operator should know."""
 
     def __init__(self, program="./srtpgw", on_end=lambda call, why: None, restarts=False, wait=10.0, bounds=Bounds(),
                  warn=logging.getLogger("srtpgw").warning, **options):
@@ -93,6 +93,8 @@ class Driver:
         self.options, self.shared = options, []
         self.drops, self.unsent, self.overflows = (collections.Counter() for _ in range(3))
         self.slots, self.pending, self.notices = {}, collections.deque(), queue.Queue()
+        # When a signal was answered last.
+        self.answered = time.monotonic()
         self.late, self.waiting = 0.0, {}
         # Keys of offers that aren't answered, by call; what is spent for good; and the overflows of the last look.
         self.open_keys, self.spent, self.seen = {}, collections.Counter(), {}
@@ -100,6 +102,7 @@ class Driver:
         self.lock, self.over, self.drained = threading.RLock(), threading.Event(), threading.Event()
         self.gone, self.draining = None, False
         self.gateway = self._started()
+        self.kept = self.gateway.kept_by_host()
         self.threads = [threading.Thread(target=work, daemon=True) for work in (self._run, self._notify, self._watch)]
         for thread in self.threads:
             thread.start()
@@ -181,9 +184,7 @@ class Driver:
     # ---- telling
 
     def _offer(self, call, word, keyed, text, keys):
-        signal = self._signal(call, "sdp", keys, word, fields.call_number(call), *keyed, "-", fields.digits(text))
-        self.open_keys[call] = signal.keys
-        return signal.text
+        return self._signal(call, "sdp", keys, word, fields.call_number(call), *keyed, "-", fields.digits(text)).text
 
     def _signal(self, call, last, keys, *line):
         """Hands a line on and waits for its last outcome."""
@@ -270,7 +271,12 @@ class Driver:
     def _answer(self, outcome):
         if not self.pending:
             raise ValueError("no signal waits")
-        if self.pending[0].take(outcome):
+        signal = self.pending[0]
+        if signal.take(outcome):
+            # An offer is open before its signal is over: between the two ticks would be long.
+            if signal.last == "sdp" and not signal.refusal:
+                self.open_keys[int(signal.call)] = signal.keys
+            self.answered = time.monotonic()
             self.pending.popleft().finish()
 
     # ---- the end of a process
@@ -345,14 +351,18 @@ class Driver:
                 self._look_around(gateway)
 
     def _oldest(self):
+        """By how many seconds the oldest signal is late, or for how many none was answered."""
         with contextlib.suppress(IndexError):
-            return self.pending[0].due.late()
+            return min(self.pending[0].due.late(), time.monotonic() - self.answered)
         return 0.0
 
     def _look_around(self, gateway):
         self.late, gateway.worst = gateway.worst, 0.0
+        before, self.kept = self.kept, gateway.kept_by_host()
         if self.late > max(LATE, 2 * gateway.step):
-            self._warn(f"the gateway's turns ran late, by {1000 * self.late:.0f} ms: give it a higher priority, or less to do")
+            kept = self.kept - before
+            more = f"; the machine's host kept {kept:.1f} s of processors from it meanwhile" if kept > LATE else ""
+            self._warn(f"the gateway's turns ran late, by {1000 * self.late:.0f} ms: give it a higher priority, or less to do{more}")
         ends = gateway.sockets()
         self._look_at_waiting({port: end.waiting for port, end in ends.items() if end.waiting})
         self._look_at_overflows({port: end.drops for port, end in ends.items() if end.drops})

@@ -23,7 +23,7 @@ import threading
 import time
 from pathlib import Path
 
-from counters import PORTS, sockets
+from counters import PORTS, kept_by_host, sockets
 
 STATUSES = {
     0: "done", 1: "usage", 2: "script", 3: "read", 4: "write", 5: "link", 6: "no memory", 7: "clock",
@@ -253,6 +253,10 @@ class Gateway:
         self.step, self.turns, self.log, self.expects = step, opener.turns, log, expects
         self.outcomes, self.gone, self.why = queue.Queue(), None, None
         self.octets, self.ticks, self.late, self.worst = 0, 0, 0.0, 0.0
+        # When it last told of anything but a datagram.
+        self.heard = time.monotonic()
+        # Under the lock lines are written, and the length of a tick is decided together with its line: a long one that was
+        # decided before a signal is never written behind it.
         self.lock, self.answered, self.ending = threading.Lock(), threading.Event(), threading.Event()
         # Wakes the thread that writes ticks, and until when its steps are short.
         self.wakes, self.hurried = threading.Event(), 0.0
@@ -282,8 +286,9 @@ class Gateway:
         for field in fields:
             if not field or not all("!" <= letter <= "~" for letter in field):
                 raise ValueError(f"no field of a line: {field!r}")
-        self._write(" ".join(fields))
-        hurried, self.hurried = self._hurries(), time.monotonic() + LINGERING
+        with self.lock:
+            self._write(" ".join(fields))
+            hurried, self.hurried = self._hurries(), time.monotonic() + LINGERING
         if not hurried:
             self.wakes.set()
 
@@ -324,9 +329,10 @@ class Gateway:
         return Due(self.began + self.last / 1000)
 
     def waited(self):
-        """By how many seconds the oldest answer to a probe is late."""
+        """By how many seconds the oldest answer to a probe is late, or for how many no line was answered. A gateway that has
+        much to do answers one line behind another."""
         with contextlib.suppress(IndexError):
-            return self.probes[0][1].late()
+            return min(self.probes[0][1].late(), time.monotonic() - self.heard)
         return 0.0
 
     def turns_taken(self):
@@ -339,6 +345,10 @@ class Gateway:
         """What waits in each socket of the gateway's, and what the system threw away in front of it, by port."""
         return sockets(_network(self.pid, "udp"))
 
+    def kept_by_host(self):
+        """How many seconds of all processors the host of a virtual machine has kept from it."""
+        return kept_by_host(_text("/proc/stat"))
+
     def never_waits(self):
         """Whether its standard input was opened so that a read never waits: it would read on all the time."""
         try:
@@ -349,7 +359,7 @@ class Gateway:
 
     def _write(self, text):
         octets = text.encode() + b"\n"
-        with self.lock, contextlib.suppress(OSError, ValueError):
+        with contextlib.suppress(OSError, ValueError):
             # Else the process has ended: `next` tells its status.
             self.octets += len(octets)
             self.ends.lines.write(octets)
@@ -366,6 +376,8 @@ class Gateway:
 
     def _read(self):
         for line in self.ends.outcomes:
+            if not line.startswith((b"drop ", b"unsent ")):
+                self.heard = time.monotonic()
             if line == PROBED:
                 if not self.probes:
                     self.end("an answer to a probe that wasn't written")
@@ -399,28 +411,31 @@ class Gateway:
         self.answered.set()
 
     def _tick(self):
-        # By the clock that the gateway reads: after a jump of a steadier one its ticks would be over at once.
         while not self.ending.is_set():
-            hurries = self._hurries()
-            short = SHORT_STEP * (BEHIND if len(self.probes) > BEHIND else 1)
-            step = min(self.step, short) if hurries else self.step
-            ahead = round((time.time() - self.began + 2 * step) * 1000)
-            # Where the clock was set back, or steps have become short, the tick under way goes on until it is caught up.
-            if ahead > self.last:
-                self._write_tick(ahead, hurries or time.monotonic() >= self.probed + PROBING)
+            with self.lock:
+                step = self._write_tick()
             before = self.due()
             self.wakes.wait(step)
             self.wakes.clear()
             # Where this thread itself comes late, no tick was there for a time.
             self.worst = max(self.worst, before.late())
 
-    def _write_tick(self, ahead, probes):
-        self.last, line = ahead, f"tick {ahead}"
-        if probes:
-            self._probe(line)
-        else:
-            self._write(line)
-        self.ticks += 1
+    def _write_tick(self):
+        """Writes the next tick, where the one under way doesn't reach as far: how long its step is."""
+        hurries = self._hurries()
+        short = SHORT_STEP * (BEHIND if len(self.probes) > BEHIND else 1)
+        step = min(self.step, short) if hurries else self.step
+        # By the clock that the gateway reads: after a jump of a steadier one its ticks would be over at once.
+        ahead = round((time.time() - self.began + 2 * step) * 1000)
+        # Where the clock was set back, or steps have become short, the tick under way goes on until it is caught up.
+        if ahead > self.last:
+            self.last, line = ahead, f"tick {ahead}"
+            if hurries or time.monotonic() >= self.probed + PROBING:
+                self._probe(line)
+            else:
+                self._write(line)
+            self.ticks += 1
+        return step
 
     def _datagrams(self):
         values = [line.split() for line in _network(self.pid, "snmp").splitlines() if line.startswith("Udp:")]
@@ -428,8 +443,13 @@ class Gateway:
 
 
 def _network(pid, table):
-    """A table of the network namespace of a process, or of this one's; nothing where it can't be read."""
+    """A table of the network namespace of a process, or of this one's."""
+    return _text(f"/proc/{pid or 'self'}/net/{table}")
+
+
+def _text(path):
+    """A file of the system's, or nothing where it can't be read."""
     try:
-        return Path(f"/proc/{pid or 'self'}/net/{table}").read_text()
+        return Path(path).read_text()
     except OSError:
         return ""

@@ -23,7 +23,7 @@ SEALED = bytes.fromhex("800f1234decafbadcafebabe4e55dc4ce79978d88ca4d215949d2402
 def bound(address):
     end = socket.socket(socket.AF_INET, socket.SOCK_DGRAM)
     end.bind(address)
-    end.settimeout(5)
+    end.settimeout(20)
     return end
 
 

@@ -114,11 +114,11 @@ def by_http():
     site = metrics.Site(("127.0.0.1", 0), lambda: metrics_of(1), said.append)
     try:
         at = "http://127.0.0.1:%d" % site.server_port
-        with urllib.request.urlopen(f"{at}/metrics", timeout=10) as answer:
+        with urllib.request.urlopen(f"{at}/metrics", timeout=30) as answer:
             check("by HTTP", answer.read().decode().startswith("# HELP srtpgw_up")
                   and answer.headers["Content-Type"].startswith("text/plain; version=0.0.4"))
         try:
-            urllib.request.urlopen(f"{at}/other", timeout=10)
+            urllib.request.urlopen(f"{at}/other", timeout=30)
             check("another path", False)
         except urllib.error.HTTPError as fault:
             check("another path", fault.code == 404)
@@ -134,7 +134,7 @@ def is_ready(folder):
     path = f"{folder}/notify"
     with socket.socket(socket.AF_UNIX, socket.SOCK_DGRAM) as end:
         end.bind(path)
-        end.settimeout(5)
+        end.settimeout(30)
         os.environ["NOTIFY_SOCKET"] = path
         ready.tell(READY=1, STATUS="takes calls")
         check("systemd is told", end.recv(100) == b"READY=1\nSTATUS=takes calls\n")
@@ -164,7 +164,7 @@ class Nft:
 
 
 def until(holds):
-    end = time.monotonic() + 10
+    end = time.monotonic() + 60
     while not holds() and time.monotonic() < end:
         time.sleep(0.02)
     return holds()

@@ -50,7 +50,9 @@ def check(what, holds):
 
 def ran(tool, given, text):
     words = [str(text) if word == "TEXT" else word for word in given.split(" ")]
-    return subprocess.run([sys.executable, TOP / tool, *words], stdin=subprocess.DEVNULL, capture_output=True, timeout=60)
+    # A daemon that takes them finds no gateway, and doesn't begin to build one.
+    how = {"stdin": subprocess.DEVNULL, "capture_output": True, "timeout": 60, "env": {**os.environ, "SRTPGW": "false"}}
+    return subprocess.run([sys.executable, TOP / tool, *words], **how)
 
 
 def told(text):
