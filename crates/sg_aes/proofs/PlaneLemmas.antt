@@ -240,6 +240,15 @@ key_octets key both constant p j long e lb hp hj =
     get_or-zip2 bit_xor both (replicate 32 constant) p 0 0 0 (omega (arith, lb)) hp
     ∙ ap₂ bit_xor (ap (λ xs. slice_index xs p) e ∙ key_twice key p long hp) (get_or-replicate 32 p constant 0 hp)
 
+pub kept_first : (words : List (List ℕ)) (kept : List (List (List ℕ))) (x : List (List ℕ)) → length kept ≡ 15
+    → ArePlanesIn (λ p j. bit_xor (slice_index (round_key words 0) (p % 16)) 0) x → AreKeyPlanes words (set kept 0 x) 1
+kept_first words kept x long h =
+    let some : 0 < length kept = omega (arith, long) in record {
+      room = length-set kept 0 x ∙ long;
+      first = subst (ArePlanesIn (λ p j. bit_xor (slice_index (round_key words 0) (p % 16)) 0)) (sym (get_or-set_at kept 0 0 x [] refl some)) h;
+      others = λ k kpos below. absurd (omega arith);
+    }
+
 pub kept_more : (words : List (List ℕ)) (kept : List (List (List ℕ))) (r : ℕ) (x : List (List ℕ)) → 0 < r → r < 15 → AreKeyPlanes words kept r → ArePlanesIn (key_at (round_key words r)) x → AreKeyPlanes words (set kept r x) (r + 1)
 kept_more words kept r x pos lt15 held h =
     let long : r < length kept = omega (arith, held.room) in record {

@@ -8,7 +8,7 @@ ghost use Rattle.sg_aes.specs.Planes.{ArePlanesOf};
 ghost use Rattle.sg_aes.specs.Schedule.{key_of, IsKeyLength, IsSchedule};
 
 use crate::keys::{RoundKeys, Words, expand, kept_key, kept_keys, round_key};
-use crate::sixteen::{KeyPlanes, key_planes, sixteen};
+use crate::sixteen::{KeyPlanes, sixteen, write_key_planes};
 use crate::vectors::{beside, doubled, halves, keyed, last_round, round};
 use std::marker::Model;
 use std::simd::prelude::*;
@@ -121,15 +121,17 @@ impl Schedule {
         (last_round(left, key), last_round(right, key))
     }
 
-    /// The planes of the round keys, which `sixteen` takes.
-    pub fn planes(&self) -> KeyPlanes
-        ensures { ArePlanesOf self.now result }
+    /// Writes the planes of the round keys, which `sixteen` takes. They are many, so they are made where they stay.
+    #[inline(always)]
+    pub fn write_planes(&self, planes: &mut KeyPlanes)
+        ensures { ArePlanesOf self.now planes.new }
     {
-        key_planes(&self.words, round_count(self.key_words))
+        write_key_planes(&self.words, round_count(self.key_words), planes);
     }
 
     /// The encryptions of sixteen blocks (FIPS 197, 5.1), which are a base with the numbers 0 to 15 put onto
     /// its last octet by XOR.
+    #[inline(always)]
     pub fn sixteen(&self, planes: &KeyPlanes, base: &[u8; 16]) -> [[u8; 16]; 16]
         requires { ArePlanesOf self.now planes.now }
         ensures { result

@@ -159,6 +159,7 @@ fn blocks_of(x: Planes) -> [[u8; 16]; 16]
 }
 
 // The planes of a round key with a constant, as they are kept.
+#[inline(always)]
 fn kept_planes(key: u8x16, constant: u8) -> [[u8; 32]; 8]
     ensures { ArePlanesIn (λ p j. bit_xor (slice_index key (p % 16)) constant) result }
 {
@@ -178,18 +179,16 @@ fn kept_planes(key: u8x16, constant: u8) -> [[u8; 32]; 8]
 /// The planes of up to 15 round keys, those behind the first with the constant that the affine map adds.
 pub type KeyPlanes = [[[u8; 32]; 8]; 15];
 
-/// The planes of round keys 0 to `last` of the words.
+/// Writes the planes of round keys 0 to `last` of the words.
 #[inline(never)]
-pub(crate) fn key_planes(words: &Words, last: usize) -> KeyPlanes
+pub(crate) fn write_key_planes(words: &Words, last: usize, kept: &mut KeyPlanes)
     requires { last < 15 }
-    ensures { AreKeyPlanes words.now result (last + 1) }
+    ensures { AreKeyPlanes words.now kept.new (last + 1) }
 {
-    let mut kept = [[[0u8; 32]; 8]; 15];
     kept[0] = kept_planes(round_key(words, 0), 0);
     'keep: for r in 1..last + 1 {
         kept[r] = kept_planes(round_key(words, r), 0x63);
     }
-    kept
 }
 
 // The planes of round key r.

@@ -76,11 +76,22 @@ lanes_xored n old lanes at room long =
 
 -- ---- sixteen blocks
 
-pub octet_of_block : (blocks : List (List ℕ)) (n m k : ℕ) → m ≡ 16 * n → k < 16 → slice_index (slice_index_or blocks n []) k ≡ block_octet blocks (m + k)
-octet_of_block blocks n m k em h =
-    let q : (m + k) / 16 ≡ n = omega arith in
-    let r : (m + k) % 16 ≡ k = omega arith in
-    rw (q, r) refl
+-- two neighbouring blocks, octet by octet
+pub octet_of_blocks : (blocks : List (List ℕ)) (n k : ℕ) → length (slice_index_or blocks (2 * n) []) ≡ 16 → k < 32
+    → slice_index (slice_index_or blocks (2 * n) [] ++ slice_index_or blocks (2 * n + 1) []) k ≡ block_octet blocks (32 * n + k)
+octet_of_blocks blocks n k long lt =
+    let x : List ℕ = slice_index_or blocks (2 * n) [] in
+    let y : List ℕ = slice_index_or blocks (2 * n + 1) [] in
+    elim (cases_lt k 16) [
+      | inl l ↦
+          let q : (32 * n + k) / 16 ≡ 2 * n = omega arith in
+          let r : (32 * n + k) % 16 ≡ k = omega arith in
+          get_or_append_left x y 0 k (omega (arith, long)) ∙ sym (rw (q, r) refl)
+      | inr g ↦
+          let q : (32 * n + k) / 16 ≡ 2 * n + 1 = omega arith in
+          let r : (32 * n + k) % 16 ≡ k - 16 = omega arith in
+          get_or-append_right x y 16 k 0 long g ∙ sym (rw (q, r) refl)
+    ]
 
 pub sixteen_xored : (key : List ℕ) (counter number : ℕ) (base : List ℕ) (blocks : List (List ℕ)) (old new : List ℕ) {first : List ℕ} → CountsFrom first counter → number % 16 ≡ 0
     → base ≡ counter_octets (counter_after counter number) → blocks ≡ map (λ n. aes_encrypt key (numbered base n)) (range_with_len 0 16)

@@ -21,6 +21,11 @@ const LOW: [u8; 32] = [
     255,
 ];
 
+// The same in one block.
+const HIGH_OF_ONE: [u8; 16] = [0, 0, 0, 0, 0, 0, 0, 0, 0, 0, 0, 0, 0, 0, 255, 0];
+
+const LOW_OF_ONE: [u8; 16] = [0, 0, 0, 0, 0, 0, 0, 0, 0, 0, 0, 0, 0, 0, 0, 255];
+
 // What the second of two numbers has beyond the first, an even one.
 const NEXT: [u8; 32] = [
     0, 0, 0, 0, 0, 0, 0, 0, 0, 0, 0, 0, 0, 0, 0, 0, 0, 0, 0, 0, 0, 0, 0, 0, 0, 0, 0, 0, 0, 0, 0, 1,
@@ -34,16 +39,17 @@ fn octets_of(counter: u128) -> [u8; 16]
     counter.to_be_bytes()
 }
 
-// The octets of the counter of block `number`: those of the first block's, with the number as the last two.
+// The octets of the counter of block `number`: those of the first block's, with the number as the last two. They are
+// put there in a vector, since octets that are stored one by one are slow to load as sixteen.
 #[inline(always)]
 fn numbered(first: &[u8; 16], number: u16) -> [u8; 16]
     ensures { (counter : ℕ) → CountsFrom first.now counter
         → result ≡ counter_octets (counter_after counter number) }
 {
-    let mut octets = *first;
-    octets[14] = (number / 256) as u8;
-    octets[15] = (number % 256) as u8;
-    octets
+    let high = u8x16::splat((number / 256) as u8) & u8x16::from_array(HIGH_OF_ONE);
+    let low = u8x16::splat((number % 256) as u8) & u8x16::from_array(LOW_OF_ONE);
+    let octets = u8x16::from_array(*first) ^ high ^ low;
+    octets.to_array()
 }
 
 // The octets of the counters of an even block number and of the one after it: those of the first block's
@@ -137,24 +143,31 @@ fn xor_four(schedule: &Schedule, first: &[u8; 16], number: u16, part: &mut [u8],
     }
 }
 
-// XORs a block onto the octets at `at`.
+// XORs a block onto the octets at `at`, and another one onto those behind them.
 #[inline(always)]
-fn xor_block(part: &mut [u8], at: usize, block: &[u8; 16])
-    requires { at + 16 ≤ length part.old }
-    ensures { XorsOnto part.old part.new at 16 (λ k. slice_index block.now k) }
+fn xor_blocks_of_two(part: &mut [u8], at: usize, left: &[u8; 16], right: &[u8; 16])
+    requires { at + 32 ≤ length part.old }
+    ensures sum { XorsOnto part.old part.new at 32 (λ k. slice_index (left.now ++ right.now) k) }
+    ensures long { length left.now ≡ 16 }
 {
-    let sum = u8x16::from_slice(&part[at..]) ^ u8x16::from_array(*block);
-    sum.copy_to_slice(&mut part[at..]);
+    let both = u8x16::from_array(*left).shuffle(
+        u8x16::from_array(*right),
+        [
+            0, 1, 2, 3, 4, 5, 6, 7, 8, 9, 10, 11, 12, 13, 14, 15, 16, 17, 18, 19, 20, 21, 22, 23,
+            24, 25, 26, 27, 28, 29, 30, 31,
+        ],
+    );
+    xor_whole(part, at, both);
 }
 
-// XORs sixteen blocks onto the octets at `at`.
+// XORs sixteen blocks onto the octets at `at`, two at a time.
 #[inline(always)]
 fn xor_blocks(part: &mut [u8], at: usize, blocks: &[[u8; 16]; 16])
     requires { at + 256 ≤ length part.old }
     ensures { XorsOnto part.old part.new at 256 (block_octet blocks.now) }
 {
-    'pieces: for j in 0..16 {
-        xor_block(part, at + 16 * j, &blocks[j]);
+    'pieces: for j in 0..8 {
+        xor_blocks_of_two(part, at + 32 * j, &blocks[2 * j], &blocks[2 * j + 1]);
     }
 }
 
@@ -178,31 +191,31 @@ fn xor_sixteen(
     xor_blocks(part, 16 * usize::from(number), &blocks);
 }
 
-// XORs the stream from a counter on onto the first octets of the part, `count` times sixteen blocks.
+// XORs the stream from the first block's counter on onto the first octets of the part, `count` times sixteen blocks.
 #[inline(never)]
-fn xor_sixteens(schedule: &Schedule, counter: u128, part: &mut [u8], count: usize)
-    requires counter { counter % 2 ^ 16 ≡ 0 }
+fn xor_sixteens(schedule: &Schedule, first: &[u8; 16], part: &mut [u8], count: usize)
     requires room { 256 * count ≤ length part.old }
     requires length { length part.old ≤ 2 ^ 20 }
-    ensures { XorsOnto part.old part.new 0 (256 * count) (stream_octet schedule.now counter) }
+    ensures { (counter : ℕ) → CountsFrom first.now counter
+        → XorsOnto part.old part.new 0 (256 * count) (stream_octet schedule.now counter) }
 {
-    let first = octets_of(counter);
-    let planes = schedule.planes();
+    let mut planes = [[[0u8; 32]; 8]; 15];
+    schedule.write_planes(&mut planes);
     'sixteens: for i in 0..count {
-        xor_sixteen(schedule, &planes, &first, (16 * i) as u16, part);
+        xor_sixteen(schedule, &planes, first, (16 * i) as u16, part);
     }
 }
 
 // The same, with no work where there are none.
 #[inline(always)]
-fn xor_long(schedule: &Schedule, counter: u128, part: &mut [u8], count: usize)
-    requires counter { counter % 2 ^ 16 ≡ 0 }
+fn xor_long(schedule: &Schedule, first: &[u8; 16], part: &mut [u8], count: usize)
     requires room { 256 * count ≤ length part.old }
     requires length { length part.old ≤ 2 ^ 20 }
-    ensures { XorsOnto part.old part.new 0 (256 * count) (stream_octet schedule.now counter) }
+    ensures { (counter : ℕ) → CountsFrom first.now counter
+        → XorsOnto part.old part.new 0 (256 * count) (stream_octet schedule.now counter) }
 {
     if count > 0 {
-        xor_sixteens(schedule, counter, part, count);
+        xor_sixteens(schedule, first, part, count);
     }
 }
 
@@ -216,8 +229,8 @@ pub(crate) fn xor_stream(schedule: &Schedule, counter: u128, part: &mut [u8])
 {
     let len = part.len();
     let sixteens = len / 256;
-    xor_long(schedule, counter, part, sixteens);
     let first = octets_of(counter);
+    xor_long(schedule, &first, part, sixteens);
     let whole = len / 64;
     'fours: for i in 4 * sixteens..whole {
         xor_four(schedule, &first, (4 * i) as u16, part, 64);

@@ -6,8 +6,9 @@ use Rattle.sg_ctr.proofs.xor.xor_stream.Goals as goal
 pub fours-init : goal.fours-init
 fours-init c =
     let sixteens = length c.args.part.now / 256 in
+    let held : CountsFrom c.octets_of-first.result c.args.counter = record { octets = c.octets_of-first.ensures; fits = c.ranges.counter.fits; from_zero = c.requires.counter } in
     let place : 256 * sixteens ≡ 64 * (4 * sixteens) = omega arith in
-    subst (λ (n : ℕ). XorsOnto c.args.part.now c.xor_long.new.part 0 n (stream_octet c.args.schedule.now c.args.counter)) place c.xor_long.ensures
+    subst (λ (n : ℕ). XorsOnto c.args.part.now c.xor_long.new.part 0 n (stream_octet c.args.schedule.now c.args.counter)) place (c.xor_long.ensures c.args.counter held)
 
 pub fours-preserved : goal.fours-preserved
 fours-preserved c =
