@@ -1,7 +1,7 @@
 -- What a signal leaves of a call that it doesn't name.
 use Rattle.std.proofs.Common.{◌≡◌, inl, inr, ℕ, Bool, true, false, cond, not, List, [], ◌∷◌, length, Option, Some, None, Result, Ok, Err, refl, sym, ap, ◌∙◌, subst, eqb, ltb}
 use Rattle.std.proofs.lemmas.Bool.{cond-false, cond-true, ne_eqb}
-use Rattle.std.specs.List.{AllByRecursion, Any, filter}
+use Rattle.std.specs.List.{Any, filter}
 use Rattle.std.specs.Option.{is_some}
 use Rattle.sg_agreement.specs.Answers.{agreed_answer}
 use Rattle.sg_agreement.specs.Generations.{generation_of}

@@ -1,6 +1,7 @@
 pub mod Drawn
 pub mod Heard
 pub mod Manual
+pub mod Offers
 pub mod Others
 pub mod Place
 pub mod Present
