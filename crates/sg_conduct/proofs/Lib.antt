@@ -13,5 +13,6 @@ mod Places
 mod Present
 pub mod Sealings
 mod Settling
+mod Staying
 mod Telling
 mod Unsealing

@@ -7,5 +7,6 @@ pub mod Place
 pub mod Present
 pub mod Settled
 pub mod Standing
+pub mod Staying
 pub mod ToldTexts
 pub mod Unsealed

@@ -11,6 +11,7 @@ ghost use Rattle.sg_conduct.specs.Place.{NewLeaves};
 ghost use Rattle.sg_conduct.specs.Present.{AnswersHaveNoOthers, AnswersHaveSessions};
 ghost use Rattle.sg_conduct.specs.Settled.{EachDatagramIsSettled};
 ghost use Rattle.sg_conduct.specs.Standing.{SessionsHaveDone};
+ghost use Rattle.sg_conduct.specs.Staying.{SessionsStayOpen};
 ghost use Rattle.sg_conduct.specs.ToldTexts.{ToldTextsAreOwn};
 ghost use Rattle.sg_conduct.specs.Unsealed.{EachOpeningIsUnsealed};
 
@@ -50,6 +51,15 @@ pub fn what_is_new_leaves()
 /// A signal leaves the calls that it doesn't name as they are.
 pub fn other_calls_stay()
     ensures { (events : List Event) → OtherCallsStay events }
+{
+    agreements_are_sound();
+    active_media_are_agreed();
+    offers_fit_their_calls();
+}
+
+/// A session stays open, but for what it has done, whatever comes that isn't a tick, an answer or a bye.
+pub fn sessions_stay_open()
+    ensures { (events : List Event) → SessionsStayOpen events }
 {
     agreements_are_sound();
     active_media_are_agreed();

@@ -31,6 +31,7 @@ use Rattle.sg_conduct.specs.Offers.{OfferIsTaken}
 use Rattle.sg_conduct.specs.Others.{OtherCallsStay}
 use Rattle.sg_conduct.specs.Present.{AnswersHaveNoOthers, AnswersHaveSessions}
 use Rattle.sg_conduct.specs.Standing.{SessionsHaveDone}
+use Rattle.sg_conduct.specs.Staying.{SessionsStayOpen}
 use Rattle.sg_conduct.specs.ToldTexts.{ToldTextsAreOwn}
 use Rattle.sg_conduct.specs.Unsealed.{EachOpeningIsUnsealed}
 use Rattle.sg_passages.specs.Passages.{Passage}
@@ -100,5 +101,6 @@ pub record Headline (events : List Event) (passages : List Passage) : Type 0 whe
   pub were_heard : CallsWereHeard events
   pub there : AnswersHaveSessions events
   pub no_others : AnswersHaveNoOthers events
+  pub stay : SessionsStayOpen events
   pub own_texts : ToldTextsAreOwn events
   pub own_keys : OwnKeysAreDrawn events

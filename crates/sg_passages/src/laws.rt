@@ -40,6 +40,7 @@ pub fn the_headline_holds()
     sg_conduct::manual_calls_are_taken();
     sg_conduct::answers_have_sessions();
     sg_conduct::answers_have_no_other_sessions();
+    sg_conduct::sessions_stay_open();
     sg_conduct::told_texts_are_own();
     sg_conduct::own_keys_are_drawn();
 }

@@ -57,6 +57,7 @@ returns c = λ events passages are. record {
   were_heard = c.calls_were_heard.ensures events;
   there = c.answers_have_sessions.ensures events;
   no_others = c.answers_have_no_other_sessions.ensures events;
+  stay = c.sessions_stay_open.ensures events;
   own_texts = c.told_texts_are_own.ensures events;
   own_keys = c.own_keys_are_drawn.ensures events;
 }
