@@ -2,4 +2,5 @@ mod Audited
 mod Keys
 mod Leaving
 mod Losing
+mod Stay
 mod There

@@ -1,6 +1,6 @@
 -- Nothing within reach is lost, by acts.
 use Rattle.std.proofs.Common.{◌≡◌, ◌⊎◌, inl, inr, ℕ, ◌+◌, ◌<◌, ◌≤◌, Bool, true, false, cond, List, [], ◌∷◌, ◌++◌, length, map, get_or, Option, Some, None, Result, Ok, Err, refl, sym, ap, ◌∙◌, subst, arith, count_by, eqb}
-use Rattle.std.proofs.lemmas.Bool.{cases_lt, cond-false, eqb-false, eqb-true, ltb-true, ne_eqb}
+use Rattle.std.proofs.lemmas.Bool.{cases_lt, cond-false, eqb-false, eqb-true, ne_eqb}
 use Rattle.std.proofs.lemmas.List.Elements.{All-from_recursion}
 use Rattle.std.specs.List.{AllByRecursion, AllPairs, Any, Contains, flat_map}
 use Rattle.std.specs.Prelude.{is_ok}
@@ -9,7 +9,6 @@ use Rattle.sg_base.specs.declared.addresses.Kind.{Kind}
 use Rattle.sg_base.specs.declared.addresses.Kind.TheVariants.{Rtp, Rtcp}
 use Rattle.sg_base.specs.declared.faults.DropCause.{DropCause}
 use Rattle.sg_kdf.specs.SessionKeys.{session_keys}
-use Rattle.sg_outcome.specs.declared.outcomes.Outcome.TheVariants.{Out}
 use Rattle.sg_replay.specs.Freshness.{highest_of, highest_with}
 use Rattle.sg_session.proofs.Lists.{any_cases, any_here, any_none, any_there, any_weaker, each_at_this}
 use Rattle.sg_session.proofs.Taking.{opened_new}
@@ -28,13 +27,13 @@ use Rattle.sg_gateway.specs.Arriving.{Comes}
 use Rattle.sg_gateway.specs.Datagrams.{Entry}
 use Rattle.sg_gateway.specs.Departing.{sealed_under}
 use Rattle.sg_gateway.specs.Generations.{is_current}
-use Rattle.sg_gateway.specs.Legs.{end_for, plain_leg_port, secure_leg_port}
+use Rattle.sg_gateway.specs.Legs.{secure_leg_port}
 use Rattle.sg_gateway.specs.Newness.{IsAdmittedBy}
 use Rattle.sg_gateway.specs.Octets.{Octets}
 use Rattle.sg_gateway.specs.Runs.{Turn, turn_of, turns_from}
 use Rattle.sg_gateway.specs.Step.{Event, Datagram, step}
 use Rattle.sg_gateway.specs.World.{Call, World, empty}
-use Rattle.sg_passages.specs.Passages.{AreToldAs, IsFaithful, Passage, out_by}
+use Rattle.sg_passages.specs.Passages.{IsFaithful, Passage}
 use Rattle.sg_passages.proofs.Lifting.{one_out}
 use Rattle.sg_audit.proofs.Leaving.{by_plain, by_secure}
 use Rattle.sg_conduct.proofs.Lists.{any_first, any_parts, any_second, each_of_list}

@@ -153,7 +153,7 @@ module _ (events : List Event) (by_texts : AnswersAreByTexts events) (present : 
             (ap (λ (l : List Turn). l ++ map (λ p. p.turn) (q ∷ ps)) (map_parts (λ (p : Passage). p.turn) qs (p ∷ [])) ∙ (append_assoc (map (λ p. p.turn) qs) (p.turn ∷ []) (map (λ p. p.turn) (q ∷ ps)) ∙ are)) facts.1),
       )
 
-lifted : (P : Turn → Type 0) (ps : List Passage) → AllByRecursion IsFaithful ps → AllByRecursion P (map (λ p. p.turn) ps) → AllByRecursion (λ p. IsFaithful p × P p.turn) ps
+pub lifted : (P : Turn → Type 0) (ps : List Passage) → AllByRecursion IsFaithful ps → AllByRecursion P (map (λ p. p.turn) ps) → AllByRecursion (λ p. IsFaithful p × P p.turn) ps
 lifted P [] f all = tt
 lifted P (p ∷ ps) f all = ((f.0, all.0), lifted P ps f.1 all.1)
 

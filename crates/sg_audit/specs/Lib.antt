@@ -3,4 +3,5 @@ pub mod Audit
 pub mod Pages
 pub mod Reached
 pub mod Seen
+pub mod Stay
 pub mod There

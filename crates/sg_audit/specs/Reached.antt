@@ -1,5 +1,5 @@
 -- The auditor's page, third promise: nothing within reach is lost. What a session has done is read off the acts before.
-use Rattle.std.specs.Prelude.{◌≡◌, ◌⊎◌, ◌<◌, ◌≤◌, ◌+◌, ◌-◌, ◌/◌, ◌==◌, ℕ, Bool, List, [], ◌∷◌, ◌++◌, length, count_by}
+use Rattle.std.specs.Prelude.{◌≡◌, ◌⊎◌, ◌<◌, ◌≤◌, ◌+◌, ◌/◌, ◌==◌, ℕ, Bool, List, [], ◌∷◌, ◌++◌, length, count_by}
 use Rattle.std.specs.List.{AllByRecursion, Any}
 use Rattle.sg_base.specs.declared.addresses.Address.{Address}
 use Rattle.sg_base.specs.declared.addresses.Kind.{Kind}
@@ -9,8 +9,6 @@ use Rattle.sg_gateway.specs.Legs.{plain_port_of, secure_port_of}
 use Rattle.sg_gateway.specs.Newness.{IsAdmittedBy}
 use Rattle.sg_gateway.specs.Octets.{Octets}
 use Rattle.sg_gateway.specs.Step.{Datagram}
-use Rattle.sg_outcome.specs.declared.outcomes.Outcome.{Outcome}
-use Rattle.sg_outcome.specs.declared.outcomes.Outcome.TheVariants.{Out}
 use Rattle.sg_session.specs.Reach.{HasHeadAt}
 use Rattle.sg_session.specs.Session.{Done, Key}
 use Rattle.sg_session.specs.declared.names.Direction.TheVariants.{Opening, Sealing}

@@ -5,6 +5,7 @@ ghost use Rattle.sg_audit.specs.Agreed.{KeysAreOf};
 ghost use Rattle.sg_audit.specs.Audit.{IsAudited};
 ghost use Rattle.sg_audit.specs.Pages.{AuditorsPages};
 ghost use Rattle.sg_audit.specs.Seen.{seen_of};
+ghost use Rattle.sg_audit.specs.Stay.{OpenSessionsStay};
 ghost use Rattle.sg_audit.specs.There.{SessionsAreOpen};
 ghost use Rattle.sg_gateway.specs.Step.{Event};
 ghost use Rattle.sg_passages.specs.Passages.{ArePassagesOf, Passage};
@@ -33,6 +34,13 @@ pub fn sessions_are_open()
     sg_gateway::answers_are_by_their_texts();
 }
 
+/// Each session that is open is so when the next thing comes, unless a tick, an answer or a bye came.
+pub fn open_sessions_stay()
+    ensures { (events : List Event) (passages : List Passage) → ArePassagesOf events passages → OpenSessionsStay (map seen_of passages) }
+{
+    sg_conduct::sessions_stay_open();
+}
+
 /// Each session that is open is under keys of a manual line, of crypto lines of texts, or of an exchange of MIKEY messages.
 pub fn keys_are_agreed()
     ensures { (events : List Event) (passages : List Passage) → ArePassagesOf events passages → KeysAreOf (map seen_of passages) }
@@ -47,5 +55,6 @@ pub fn the_pages_hold()
 {
     the_audit_holds();
     sessions_are_open();
+    open_sessions_stay();
     keys_are_agreed();
 }

@@ -77,7 +77,7 @@ use Rattle.sg_conduct.specs.Drawn.{AnswerDraws, AreDrawn, IsDrawn, TellsDrawn, I
 
 -- ---- no message (as in sg_agreement)
 
-mikey_is : (line value : List ℕ) → mikey_rest line ≡ Some value → IsMessageLine line
+pub mikey_is : (line value : List ℕ) → mikey_rest line ≡ Some value → IsMessageLine line
 mikey_is line value e =
     let a = and_then_some (behind (codes "a=key-mgmt:mikey") line) _ value e in
     let b = guarded (ends_word a.0) a.0 value a.2 in
@@ -95,7 +95,7 @@ no_value (l ∷ ls) none = go (no_value ls none.1) (mikey_rest l) refl
     go rest None is = rest
     go rest (Some v) is = absurd (none.0 (mikey_is l v is))
 
-no_message : (ls : List (List ℕ)) → AllByRecursion (λ line. ¬ IsMessageLine line) ls → is_some (mikey_value ls) ≡ false
+pub no_message : (ls : List (List ℕ)) → AllByRecursion (λ line. ¬ IsMessageLine line) ls → is_some (mikey_value ls) ≡ false
 unfolding mikey_value
 no_message ls none = ap (λ (values : List (List ℕ)). is_some (first_of values)) (no_value ls none)
 
@@ -107,7 +107,7 @@ none_of_media (m ∷ ms) none =
     let rest = none_of_media ms none.1 in
     λ i. this i || rest i
 
-has_none : (s : Sdp) → HasNoMessage s → has_message s ≡ false
+pub has_none : (s : Sdp) → HasNoMessage s → has_message s ≡ false
 has_none s none =
     let session = no_message s.session none.session in
     let media = none_of_media s.media none.media in

@@ -42,7 +42,11 @@ use Rattle.sg_gateway.specs.Signals.{Signal, Tick, Psk, Manual, Offered, Answere
 use Rattle.sg_gateway.specs.Step.{Event, Signalled, Datagram, step}
 use Rattle.sg_gateway.specs.World.{Books, Call, World, and_call, call_of, empty, is_full, same_id, with_call}
 use Rattle.sg_conduct.proofs.Lists.{any_first}
-use Rattle.sg_conduct.specs.Heard.{IsHeardIn, IsRenewedIn, WasHeard}
+use Rattle.sg_conduct.specs.Heard.{IsHeardIn, IsRenewedIn}
+
+-- some turn is of the call's moment, and some made its generation
+abbrev pub WasHeard : List Turn → Call → Type 0
+WasHeard earlier c = Any (IsHeardIn c) earlier × ((c.generations ≡ 0) ⊎ Any (IsRenewedIn c) earlier)
 
 -- ---- lists
 
@@ -67,19 +71,19 @@ pub record IsMadeNow (now : ℕ) (c d : Call) : Type 0 where
   pub replaced : d.replaced ≡ now
   pub moment : d.moment ≡ now
 
-record GoesOn (now : ℕ) (c d : Call) : Type 0 where
-  serial : d.serial ≡ c.serial
-  id : d.id ≡ c.id
-  generations : d.generations ≡ c.generations
-  replaced : d.replaced ≡ c.replaced
-  moment : d.moment ≡ now
+pub record GoesOn (now : ℕ) (c d : Call) : Type 0 where
+  pub serial : d.serial ≡ c.serial
+  pub id : d.id ≡ c.id
+  pub generations : d.generations ≡ c.generations
+  pub replaced : d.replaced ≡ c.replaced
+  pub moment : d.moment ≡ now
 
 keyed_now : (now : ℕ) (books : Books) (c : Call) (text : List ℕ) (media : List (Option Medium)) (r : Settled) → keyed now books c text media ≡ Ok r → IsMadeNow now c r.call
 keyed_now now books c text media r e =
     let b = after_ok_is (generation_of c.serial c.generations books.ring media) _ r e in
     subst (λ (r : Settled). IsMadeNow now c r.call) (ok_is _ r b.2) (record { serial = refl; id = refl; generations = refl; replaced = refl; moment = refl })
 
-manual_now : (now : ℕ) (books : Books) (c : Call) (x : Medium) (r : Settled) → keyed_manually now books c x ≡ Ok r → IsMadeNow now c r.call
+pub manual_now : (now : ℕ) (books : Books) (c : Call) (x : Medium) (r : Settled) → keyed_manually now books c x ≡ Ok r → IsMadeNow now c r.call
 manual_now now books c x r e =
     let a = stop_if_is (has_begun c) State (keyed now books (record c { media = 1; manual = true }) [] (Some x ∷ [])) r e in
     let is = keyed_now now books (record c { media = 1; manual = true }) [] (Some x ∷ []) r a.1 in
@@ -91,13 +95,13 @@ answer_now now books c noise text (Some o) r e =
     let a = after_ok_is (agreed_answer c.slot o noise text) (λ a. keyed now books c a.text a.media) r e in
     keyed_now now books c a.0.text a.0.media r a.2
 
-offer_now : (now : ℕ) (books : Books) (c : Call) (way : Way) (noise text : List ℕ) (r : Settled) → offered_in now books c way noise text ≡ Ok r → GoesOn now c r.call
+pub offer_now : (now : ℕ) (books : Books) (c : Call) (way : Way) (noise text : List ℕ) (r : Settled) → offered_in now books c way noise text ≡ Ok r → GoesOn now c r.call
 offer_now now books c way noise text r e =
     let a = stop_if_is (not (takes_offer c)) State _ r e in
     let b = after_ok_is (agreed_offer (at_hand now books c noise) way text) _ r a.1 in
     subst (λ (r : Settled). GoesOn now c r.call) (ok_is _ r b.2) (record { serial = refl; id = refl; generations = refl; replaced = refl; moment = refl })
 
-reject_now : (now : ℕ) (c d : Call) → rejected_in now c ≡ Ok (Some d) → record c { offer = None; moment = now } ≡ d
+pub reject_now : (now : ℕ) (c d : Call) → rejected_in now c ≡ Ok (Some d) → record c { offer = None; moment = now } ≡ d
 reject_now now c d e = go (is_some c.offer) (eqb c.generations 0) e
   where
     go : (a b : Bool) → cond a (Ok (cond b None (Some (record c { offer = None; moment = now })))) (Err State) ≡ Ok (Some d) → record c { offer = None; moment = now } ≡ d
@@ -147,8 +151,7 @@ module _ (ts : List Turn) (w : World) (heard : AllHeard ts w) (signal : Signal) 
       → Any (λ x. x.serial ≡ d.serial) a.world.calls → Any (IsHeardIn d) Now
   heard_now a same d names free moment there = any_last (IsHeardIn d) ts (turn_of w (Signalled signal)) (
     sym moment,
-    subst (λ (a : Answer). Any (λ x. x.serial ≡ d.serial) a.world.calls) (sym same) there,
-    inl (signal, refl, names, subst (λ (a : Answer). ¬ Any IsRefusal a.outcomes) (sym same) free),
+    (subst (λ (a : Answer). Any (λ x. x.serial ≡ d.serial) a.world.calls) (sym same) there, inl (signal, refl, names, subst (λ (a : Answer). ¬ Any IsRefusal a.outcomes) (sym same) free)),
   )
 
   renewed_now : (a : Answer) → answer_to w signal ≡ a → (d : Call) → d.replaced ≡ w.moment
@@ -312,8 +315,10 @@ module _ (past : List Entry) (w : World) (kept : IsKept Anything past w) (ts : L
       each_with_call (WasHeard (ts ++ turn_of w e ∷ [])) after w.calls (
         any_last (IsHeardIn after) ts (turn_of w e) (
           refl,
-          subst (λ h. Any (λ x. x.serial ≡ c.serial) h.world.calls) (sym same) (any_put (λ x. x.serial ≡ c.serial) c after w.calls refl refl (is_found (has_port port) w.calls c at)),
-          inr (subst (λ h. Any (λ x. x.session.owner.call ≡ c.serial) h.entries) (sym same) (any_here (λ (x : Entry). x.session.owner.call ≡ c.serial) _ [] of_call)),
+          (
+            subst (λ h. Any (λ x. x.serial ≡ c.serial) h.world.calls) (sym same) (any_put (λ x. x.serial ≡ c.serial) c after w.calls refl refl (is_found (has_port port) w.calls c at)),
+            inr (subst (λ h. Any (λ x. x.session.owner.call ≡ c.serial) h.entries) (sym same) (any_here (λ (x : Entry). x.session.owner.call ≡ c.serial) _ [] of_call)),
+          ),
         ),
         of_c.1,
       ) before

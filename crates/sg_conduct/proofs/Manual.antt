@@ -1,6 +1,6 @@
 -- The keys of a line that are free come into use, and the sessions are those of the line.
-use Rattle.std.proofs.Common.{◌≡◌, ◌<◌, ◌≤◌, ◌+◌, ◌^◌, ℕ, Bool, true, false, cond, List, [], ◌∷◌, ◌++◌, length, Option, Some, None, Result, Ok, Err, refl, sym, ap, ◌∙◌, subst, arith, ltb, length-append}
-use Rattle.std.proofs.lemmas.Bool.{and_from, and_parts, cond-false, false_from_ne_true, lt-ltb, ltb-true, not-true, not_from_false, or_from}
+use Rattle.std.proofs.Common.{◌≡◌, ◌+◌, ℕ, Bool, true, false, cond, List, [], ◌∷◌, ◌++◌, length, Some, None, Result, Ok, refl, sym, ap, ◌∙◌, subst, arith, ltb, length-append}
+use Rattle.std.proofs.lemmas.Bool.{and_from, and_parts, cond-false, false_from_ne_true, lt-ltb, ltb-true, not_from_false, or_from}
 use Rattle.std.specs.List.{AllByRecursion}
 use Rattle.std.specs.Prelude.{◌&&◌, not}
 use Rattle.sg_agreement.specs.Generations.{Generation, generation_of, sessions_from}
@@ -12,7 +12,7 @@ use Rattle.sg_base.specs.Suites.{is_raw}
 use Rattle.sg_base.specs.declared.addresses.Kind.TheVariants.{Rtp, Rtcp}
 use Rattle.sg_base.specs.declared.faults.Refusal.{Refusal}
 use Rattle.sg_base.specs.declared.faults.Refusal.TheVariants.{KeyReused, RingFull}
-use Rattle.sg_session.specs.Ring.{Installed, RingKey, derived, first_clash_by, install, key_of, keys_clash, same_secret, with_key_by, with_keys_by}
+use Rattle.sg_session.specs.Ring.{Installed, derived, first_clash_by, install, key_of, keys_clash, same_secret, with_key_by, with_keys_by}
 use Rattle.sg_session.specs.Session.{Session}
 use Rattle.sg_session.specs.Stages.{after_ok, stop_if}
 use Rattle.sg_session.specs.declared.names.Direction.TheVariants.{Opening, Sealing}

@@ -1,7 +1,7 @@
 -- What a signal leaves of a call that it doesn't name.
 use Rattle.std.proofs.Common.{◌≡◌, inl, inr, ℕ, Bool, true, false, cond, not, List, [], ◌∷◌, length, Option, Some, None, Result, Ok, Err, refl, sym, ap, ◌∙◌, subst, eqb, ltb}
 use Rattle.std.proofs.lemmas.Bool.{cond-false, cond-true, ne_eqb}
-use Rattle.std.specs.List.{AllByRecursion, Any, filter}
+use Rattle.std.specs.List.{Any, filter}
 use Rattle.std.specs.Option.{is_some}
 use Rattle.sg_agreement.specs.Answers.{agreed_answer}
 use Rattle.sg_agreement.specs.Generations.{generation_of}
@@ -77,7 +77,7 @@ module _ (w : World) (before : Pairs IsBefore w.calls) (c : Call) (here : Any (�
       let is : c ≡ d = each_at_this (λ x. x.serial ≡ d.serial → x ≡ d) w.calls c (one_serial d w.calls before (is_found _ w.calls d at)) here same in
       other (sym (ap (λ (x : Call). x.id) is ∙ same_call_id id d w.calls at))
 
-  new_stays : (id : CallId) (told : Settled → List Outcome) (q : Result Settled Refusal) → Stays (in_new w id told q)
+  pub new_stays : (id : CallId) (told : Settled → List Outcome) (q : Result Settled Refusal) → Stays (in_new w id told q)
   new_stays id told (Err cause) = here
   new_stays id told (Ok r) = any_and_call (λ x. x ≡ c) r.call w.calls here
 
@@ -88,13 +88,13 @@ module _ (w : World) (before : Pairs IsBefore w.calls) (c : Call) (here : Any (�
   old_stays id told (Err cause) other = here
   old_stays id told (Ok r) other = put_stays r.call (other r refl)
 
-  goes_stays : (d : Call) → (c.serial ≡ d.serial → ⊥) → Any (λ x. x ≡ c) (without_call d.serial w.calls)
+  pub goes_stays : (d : Call) → (c.serial ≡ d.serial → ⊥) → Any (λ x. x ≡ c) (without_call d.serial w.calls)
   goes_stays d other = any_filter (λ x. not (eqb x.serial d.serial)) c w.calls (ap not (ne_eqb c.serial d.serial other)) here
 
-  pair_stays : (p : Pair) → Stays (answer_to w (Psk p))
+  pub pair_stays : (p : Pair) → Stays (answer_to w (Psk p))
   pair_stays p = both Stays (has_pair w.books.pairs p.own p.peer) _ _ here (both Stays (ltb (length w.books.pairs) 64) _ _ here here)
 
-  manual_stays : (h : ManualCall) → Stays (answer_to w (Manual h))
+  pub manual_stays : (h : ManualCall) → Stays (answer_to w (Manual h))
   manual_stays h = both Stays (is_some (call_of w h.id)) _ _ here (both Stays (is_full w) _ _ here (new_stays h.id (tells_live h.id) _))
 
   offered_stays : (id : CallId) (way : Way) (noise text : List ℕ) → (id ≡ c.id → ⊥) → (o : Option Call) → call_of w id ≡ o → Stays (offered_to w id way noise text o)

@@ -47,7 +47,7 @@ profile_is Secure m (inr is) = ap (is_of_side Secure) is
 profile_is Plain m (inl is) = ap (is_of_side Plain) is
 profile_is Plain m (inr is) = ap (is_of_side Plain) is
 
-takes_active : (side : Side) (m : descriptions.Medium) → TakesPart side m → is_active side m ≡ true
+pub takes_active : (side : Side) (m : descriptions.Medium) → TakesPart side m → is_active side m ≡ true
 takes_active side m is = and_from (not (eqb m.port 0)) (is_of_side side m.profile) (ap not (ne_eqb m.port 0 is.0)) (profile_is side m is.1)
 
 -- ---- media that are agreed
@@ -77,13 +77,13 @@ media_there side (m ∷ ms) [] ks are = absurd are
 media_there side (m ∷ ms) (n ∷ ns) [] are = absurd are
 media_there side (m ∷ ms) (n ∷ ns) (k ∷ ks) are = (agreed_there side m n k are.0, media_there side ms ns ks are.1)
 
-record IsAgreement (o : Offer) (text : List ℕ) (g : AgreedAnswer) : Type 0 where
-  answer : Sdp
-  read : description_of text ≡ Ok answer
-  keyed : List (Option Keyed)
-  media : media_agreed o.side o.description.media answer.media keyed ≡ g.media
+pub record IsAgreement (o : Offer) (text : List ℕ) (g : AgreedAnswer) : Type 0 where
+  pub answer : Sdp
+  pub read : description_of text ≡ Ok answer
+  pub keyed : List (Option Keyed)
+  pub media : media_agreed o.side o.description.media answer.media keyed ≡ g.media
 
-agreement_is : (slot : ℕ) (o : Offer) (noise text : List ℕ) (g : AgreedAnswer) → agreed_answer slot o noise text ≡ Ok g → IsAgreement o text g
+pub agreement_is : (slot : ℕ) (o : Offer) (noise text : List ℕ) (g : AgreedAnswer) → agreed_answer slot o noise text ≡ Ok g → IsAgreement o text g
 unfolding agreed_answer
 agreement_is slot o noise text g e =
     let p = after_ok_is (described (other_side o.side) (Some (length o.description.media)) text) _ g e in
@@ -190,15 +190,15 @@ module _ (call generation : ℕ) (a b : descriptions.Medium) where
 
 -- ---- an answer
 
-record IsAnswered (c d : Call) (o : Offer) (noise text : List ℕ) : Type 0 where
-  serial : d.serial ≡ c.serial
-  id : d.id ≡ c.id
-  agreement : AgreedAnswer
-  agreed : agreed_answer c.slot o noise text ≡ Ok agreement
-  number : ℕ
-  sessions : d.sessions ≡ sessions_from c.serial c.generations 0 number agreement.media ++ filter (stays c) c.sessions
+pub record IsAnswered (c d : Call) (o : Offer) (noise text : List ℕ) : Type 0 where
+  pub serial : d.serial ≡ c.serial
+  pub id : d.id ≡ c.id
+  pub agreement : AgreedAnswer
+  pub agreed : agreed_answer c.slot o noise text ≡ Ok agreement
+  pub number : ℕ
+  pub sessions : d.sessions ≡ sessions_from c.serial c.generations 0 number agreement.media ++ filter (stays c) c.sessions
 
-answer_is : (now : ℕ) (books : Books) (c : Call) (noise text : List ℕ) (o : Offer) (r : Settled) → answered_to now books c noise text (Some o) ≡ Ok r → IsAnswered c r.call o noise text
+pub answer_is : (now : ℕ) (books : Books) (c : Call) (noise text : List ℕ) (o : Offer) (r : Settled) → answered_to now books c noise text (Some o) ≡ Ok r → IsAnswered c r.call o noise text
 answer_is now books c noise text o r e =
     let a = after_ok_is (agreed_answer c.slot o noise text) (λ a. keyed now books c a.text a.media) r e in
     let b = after_ok_is (generation_of c.serial c.generations books.ring a.0.media) _ r a.2 in

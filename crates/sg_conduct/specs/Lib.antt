@@ -1,10 +1,12 @@
 pub mod Drawn
 pub mod Heard
 pub mod Manual
+pub mod Offers
 pub mod Others
 pub mod Place
 pub mod Present
 pub mod Settled
 pub mod Standing
+pub mod Staying
 pub mod ToldTexts
 pub mod Unsealed

@@ -5,11 +5,13 @@ ghost use Rattle.sg_gateway.specs.Step.{Event};
 ghost use Rattle.sg_conduct.specs.Drawn.{OwnKeysAreDrawn};
 ghost use Rattle.sg_conduct.specs.Heard.{CallsWereHeard};
 ghost use Rattle.sg_conduct.specs.Manual.{ManualCallsAreTaken};
+ghost use Rattle.sg_conduct.specs.Offers.{OffersAreTaken};
 ghost use Rattle.sg_conduct.specs.Others.{OtherCallsStay};
 ghost use Rattle.sg_conduct.specs.Place.{NewLeaves};
-ghost use Rattle.sg_conduct.specs.Present.{AnswersHaveSessions};
+ghost use Rattle.sg_conduct.specs.Present.{AnswersHaveNoOthers, AnswersHaveSessions};
 ghost use Rattle.sg_conduct.specs.Settled.{EachDatagramIsSettled};
 ghost use Rattle.sg_conduct.specs.Standing.{SessionsHaveDone};
+ghost use Rattle.sg_conduct.specs.Staying.{SessionsStayOpen};
 ghost use Rattle.sg_conduct.specs.ToldTexts.{ToldTextsAreOwn};
 ghost use Rattle.sg_conduct.specs.Unsealed.{EachOpeningIsUnsealed};
 
@@ -55,6 +57,22 @@ pub fn other_calls_stay()
     offers_fit_their_calls();
 }
 
+/// A session stays open, but for what it has done, whatever comes that isn't a tick, an answer or a bye.
+pub fn sessions_stay_open()
+    ensures { (events : List Event) → SessionsStayOpen events }
+{
+    agreements_are_sound();
+    active_media_are_agreed();
+    offers_fit_their_calls();
+}
+
+/// An offer against which neither its text nor its messages speak is open, and is told to the other side.
+pub fn offers_are_taken()
+    ensures { (events : List Event) → OffersAreTaken events }
+{
+    sg_gateway::signals_are_taken();
+}
+
 /// A call that is keyed manually is made and live where its keys are free, under the sessions that its line says.
 pub fn manual_calls_are_taken()
     ensures { (events : List Event) → ManualCallsAreTaken events }
@@ -62,11 +80,15 @@ pub fn manual_calls_are_taken()
     sg_gateway::signals_are_taken();
 }
 
-/// Each call was heard in an earlier turn at the moment that is its own, and its generation was made in one at the moment
-/// from which the keys before it are counted.
+/// Each call was last heard at the moment that is its own, and its generation was made in an earlier turn at the moment from
+/// which the keys before it are counted.
 pub fn calls_were_heard()
     ensures { (events : List Event) → CallsWereHeard events }
-{}
+{
+    agreements_are_sound();
+    active_media_are_agreed();
+    offers_fit_their_calls();
+}
 
 /// Each text that is told names the gateway's own address, and for each medium port 0 or that of the call's slot.
 pub fn told_texts_are_own()
@@ -81,6 +103,16 @@ pub fn told_texts_are_own()
 /// After an answer that makes a generation each medium that takes part in both texts has its sessions.
 pub fn answers_have_sessions()
     ensures { (events : List Event) → AnswersHaveSessions events }
+{
+    agreements_are_sound();
+    active_media_are_agreed();
+    offers_fit_their_calls();
+}
+
+/// And it has no others: a medium that takes no part in one of the texts has no session, and none has RTCP without a port behind
+/// that of RTP on both sides.
+pub fn answers_have_no_other_sessions()
+    ensures { (events : List Event) → AnswersHaveNoOthers events }
 {
     agreements_are_sound();
     active_media_are_agreed();

@@ -21,16 +21,17 @@ use Rattle.sg_gateway.specs.Refusing.{OffersStayOpen}
 use Rattle.sg_gateway.specs.Served.{EachKeyServesItsLife, NoKeyIsOverspent}
 use Rattle.sg_gateway.specs.Step.{Event}
 use Rattle.sg_gateway.specs.Tags.{EachSessionHasWholeTags}
-use Rattle.sg_gateway.specs.Taken.{NewOfferIsTaken, LaterOfferIsTaken}
 use Rattle.sg_gateway.specs.Twice.{NoneTwice, NoneTwiceUnderKey, KeysHaveOneOwner}
 use Rattle.sg_gateway.specs.Unforged.{Unforged}
 use Rattle.sg_gateway.specs.Used.{NoBlockTwice, SealsUseTheirBlocks}
 use Rattle.sg_conduct.specs.Drawn.{OwnKeysAreDrawn}
 use Rattle.sg_conduct.specs.Heard.{CallsWereHeard}
 use Rattle.sg_conduct.specs.Manual.{ManualIsTaken}
+use Rattle.sg_conduct.specs.Offers.{OfferIsTaken}
 use Rattle.sg_conduct.specs.Others.{OtherCallsStay}
-use Rattle.sg_conduct.specs.Present.{AnswersHaveSessions}
+use Rattle.sg_conduct.specs.Present.{AnswersHaveNoOthers, AnswersHaveSessions}
 use Rattle.sg_conduct.specs.Standing.{SessionsHaveDone}
+use Rattle.sg_conduct.specs.Staying.{SessionsStayOpen}
 use Rattle.sg_conduct.specs.ToldTexts.{ToldTextsAreOwn}
 use Rattle.sg_conduct.specs.Unsealed.{EachOpeningIsUnsealed}
 use Rattle.sg_passages.specs.Passages.{Passage}
@@ -79,7 +80,7 @@ pub record Headline (events : List Event) (passages : List Passage) : Type 0 whe
   pub byes : ByesEnd events
   pub ticks : TicksMove events
   pub ticks_keep : TicksKeep events
-  pub offers : EachAsTold (λ t. NewOfferIsTaken t × LaterOfferIsTaken t) passages
+  pub offers : EachAsTold OfferIsTaken passages
   pub manual_calls : EachAsTold ManualIsTaken passages
   pub rejections : RejectionsClose events
   pub answers : EachAsTold AnswerRenews passages
@@ -99,5 +100,7 @@ pub record Headline (events : List Event) (passages : List Passage) : Type 0 whe
   pub others : OtherCallsStay events
   pub were_heard : CallsWereHeard events
   pub there : AnswersHaveSessions events
+  pub no_others : AnswersHaveNoOthers events
+  pub stay : SessionsStayOpen events
   pub own_texts : ToldTextsAreOwn events
   pub own_keys : OwnKeysAreDrawn events

@@ -36,7 +36,7 @@ returns c = λ events passages are. record {
   byes = c.signals_are_carried_out.ensures.byes events;
   ticks = c.signals_are_carried_out.ensures.ticks events;
   ticks_keep = c.signals_are_carried_out.ensures.kept events;
-  offers = offers_taken events passages are (c.signals_are_taken.ensures.offers events);
+  offers = offers_taken events passages are (c.offers_are_taken.ensures events);
   manual_calls = manual_taken events passages are (c.manual_calls_are_taken.ensures events);
   rejections = c.signals_are_carried_out.ensures.rejections events;
   answers = answers_renew events passages are (c.signals_are_carried_out.ensures.answers events);
@@ -56,6 +56,8 @@ returns c = λ events passages are. record {
   others = c.other_calls_stay.ensures events;
   were_heard = c.calls_were_heard.ensures events;
   there = c.answers_have_sessions.ensures events;
+  no_others = c.answers_have_no_other_sessions.ensures events;
+  stay = c.sessions_stay_open.ensures events;
   own_texts = c.told_texts_are_own.ensures events;
   own_keys = c.own_keys_are_drawn.ensures events;
 }

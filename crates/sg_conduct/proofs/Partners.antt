@@ -1,0 +1,201 @@
+-- An answer makes no session of a medium that takes no part.
+use Rattle.std.proofs.Common.{◌≡◌, ℕ, suc, ◌+◌, ◌<◌, Bool, true, false, cond, ◌&&◌, ltb, List, [], ◌∷◌, ◌++◌, length, Option, Some, None, Result, Ok, Err, refl, sym, ap, ◌∙◌, subst, arith}
+use Rattle.std.proofs.lemmas.Bool.{and_parts, eqb-true, ltb-true}
+use Rattle.std.specs.List.{AllByRecursion, filter}
+use Rattle.std.specs.Option.{is_some, option_map}
+use Rattle.sg_agreement.specs.Answers.{AgreedAnswer, agreed_answer}
+use Rattle.sg_agreement.specs.Generations.{numbered, owner_at, sessions_from, stream_session, stream_sessions}
+use Rattle.sg_agreement.specs.Keyed.{Keyed, media_agreed, medium_agreed}
+use Rattle.sg_agreement.specs.Keying.{Offer}
+use Rattle.sg_agreement.specs.Media.{Medium, Stream}
+use Rattle.sg_agreement.specs.Sides.{is_active, other_side}
+use Rattle.sg_agreement.specs.Sound.{AreAgreedWhereActive}
+use Rattle.sg_base.proofs.Cases.{some_is}
+use Rattle.sg_base.specs.declared.addresses.CallId.{CallId}
+use Rattle.sg_base.specs.declared.addresses.Kind.TheVariants.{Rtcp}
+use Rattle.sg_base.specs.declared.addresses.Side.{Side}
+use Rattle.sg_base.specs.declared.addresses.Side.TheVariants.{Secure, Plain}
+use Rattle.sg_base.specs.declared.faults.Refusal.{Refusal}
+use Rattle.sg_sdp.specs.Reading.{description_of}
+use Rattle.sg_sdp.specs.declared.medium.Medium as descriptions
+use Rattle.sg_sdp.specs.declared.sdp.Sdp.{Sdp}
+use Rattle.sg_session.proofs.Inversions.{ok_is}
+use Rattle.sg_session.proofs.Lists.{each_append, each_weaker}
+use Rattle.sg_session.specs.Session.{Session}
+use Rattle.sg_session.specs.declared.names.Direction.{Direction}
+use Rattle.sg_session.specs.declared.names.Direction.TheVariants.{Opening, Sealing}
+use Rattle.sg_gateway.proofs.Agreements.{Agreements}
+use Rattle.sg_gateway.proofs.Arrivals.{kept_by}
+use Rattle.sg_gateway.proofs.CarriedOut.{found_with, id_found, stays}
+use Rattle.sg_gateway.proofs.Kept.{IsOffered, WasOffered}
+use Rattle.sg_gateway.proofs.Signals.{found}
+use Rattle.sg_gateway.specs.Addressed.{IsMediumAt}
+use Rattle.sg_gateway.specs.CallSignals.{answered_to}
+use Rattle.sg_gateway.specs.Generations.{Settled, is_current, is_opening}
+use Rattle.sg_gateway.specs.Signals.{Answer, Answered, answer_to, answered, in_old, offering_side, tells_answer}
+use Rattle.sg_gateway.specs.World.{Call, World, call_of, same_id}
+use Rattle.sg_conduct.proofs.Offers.{active_takes}
+use Rattle.sg_conduct.proofs.Present.{IsAnswered, agreement_is, answer_is}
+use Rattle.sg_conduct.specs.Present.{IsOfPartners, TakesPart}
+
+-- ---- media that are agreed
+
+abbrev IsPartner : Side → descriptions.Medium → descriptions.Medium → Medium → Type 0
+IsPartner side m n x = TakesPart side m × TakesPart (other_side side) n × (x.has_rtcp ≡ true → (m.port < 65535) × (n.port < 65535))
+
+abbrev ArePartners : Side → List descriptions.Medium → List descriptions.Medium → List (Option Medium) → Type 0
+ArePartners side (m ∷ ms) (n ∷ ns) (x ∷ xs) = ((y : Medium) → x ≡ Some y → IsPartner side m n y) × ArePartners side ms ns xs
+ArePartners side [] [] [] = Unit {0}
+ArePartners side _ _ _ = ⊥
+
+rtcp_ports : (side : Side) (k : Keyed) (m n : descriptions.Medium) → (medium_agreed side k m n).has_rtcp ≡ true → (m.port < 65535) × (n.port < 65535)
+rtcp_ports Secure k m n e = let p = and_parts (ltb m.port 65535) (ltb n.port 65535) e in (ltb-true m.port 65535 p.0, ltb-true n.port 65535 p.1)
+rtcp_ports Plain k m n e = let p = and_parts (ltb n.port 65535) (ltb m.port 65535) e in (ltb-true m.port 65535 p.1, ltb-true n.port 65535 p.0)
+
+one_partner : (side : Side) (m n : descriptions.Medium) (k : Option Keyed) → is_some (option_map (λ k. medium_agreed side k m n) k) ≡ (is_active side m && is_active (other_side side) n)
+    → (y : Medium) → option_map (λ k. medium_agreed side k m n) k ≡ Some y → IsPartner side m n y
+one_partner side m n None are y e = absurd cc
+one_partner side m n (Some k) are y e =
+    let p = and_parts (is_active side m) (is_active (other_side side) n) (sym are) in (
+      active_takes side m p.0,
+      active_takes (other_side side) n p.1,
+      λ on. rtcp_ports side k m n (ap (λ (x : Medium). x.has_rtcp) (some_is (medium_agreed side k m n) y e) ∙ on),
+    )
+
+all_partners : (side : Side) (ms ns : List descriptions.Medium) (ks : List (Option Keyed)) → AreAgreedWhereActive side ms ns (media_agreed side ms ns ks) → ArePartners side ms ns (media_agreed side ms ns ks)
+all_partners side [] [] ks are = tt
+all_partners side [] (n ∷ ns) ks are = absurd are
+all_partners side (m ∷ ms) [] ks are = absurd are
+all_partners side (m ∷ ms) (n ∷ ns) [] are = absurd are
+all_partners side (m ∷ ms) (n ∷ ns) (k ∷ ks) are = (one_partner side m n k are.0, all_partners side ms ns ks are.1)
+
+answer_partners : Agreements → (slot : ℕ) (o : Offer) (noise text : List ℕ) (g : AgreedAnswer) (answer : Sdp) → WasOffered o → agreed_answer slot o noise text ≡ Ok g → description_of text ≡ Ok answer
+    → ArePartners o.side o.description.media answer.media g.media
+answer_partners laws slot o noise text g answer was e read =
+    let is = agreement_is slot o noise text g e in
+    let same : is.answer ≡ answer = ok_is is.answer answer (sym is.read ∙ read) in
+    let a = laws.answered was.hand was.way was.text noise text slot was.accepted g was.agreed (ap (λ (o : Offer). agreed_answer slot o noise text) was.same ∙ e) in
+    let also : a.0 ≡ is.answer = ok_is a.0 is.answer (sym a.1 ∙ is.read) in
+    let of_law : AreAgreedWhereActive o.side o.description.media a.0.media g.media = subst (λ (o : Offer). AreAgreedWhereActive o.side o.description.media a.0.media g.media) was.same a.2 in
+    let active : AreAgreedWhereActive o.side o.description.media is.answer.media (media_agreed o.side o.description.media is.answer.media is.keyed) =
+    subst (AreAgreedWhereActive o.side o.description.media is.answer.media) (sym is.media)
+    (subst (λ (s : Sdp). AreAgreedWhereActive o.side o.description.media s.media g.media) also of_law) in
+    subst (λ (s : Sdp). ArePartners o.side o.description.media s.media g.media) same
+    (subst (ArePartners o.side o.description.media is.answer.media) is.media (all_partners o.side o.description.media is.answer.media is.keyed active))
+
+-- ---- their sessions
+
+module _ (side : Side) where
+  -- of its medium, where the media begin at that of number k
+  record PartnersFrom (k : ℕ) (ms ns : List descriptions.Medium) (s : Session) : Type 0 where
+    of_offer : descriptions.Medium
+    of_answer : descriptions.Medium
+    at : ℕ
+    place : s.name.owner.medium ≡ k + at
+    in_offer : IsMediumAt ms at of_offer
+    in_answer : IsMediumAt ns at of_answer
+    takes : TakesPart side of_offer
+    answers : TakesPart (other_side side) of_answer
+    control : s.name.kind ≡ Rtcp → (of_offer.port < 65535) × (of_answer.port < 65535)
+
+  next : (k : ℕ) (m n : descriptions.Medium) (ms ns : List descriptions.Medium) (s : Session) → PartnersFrom (k + 1) ms ns s → PartnersFrom k (m ∷ ms) (n ∷ ns) s
+  next k m n ms ns s is = record {
+    of_offer = is.of_offer;
+    of_answer = is.of_answer;
+    at = suc is.at;
+    place = let e = is.place in omega (arith, e);
+    in_offer = ((let lt = is.in_offer.0 in omega (arith, lt)), is.in_offer.1);
+    in_answer = ((let lt = is.in_answer.0 in omega (arith, lt)), is.in_answer.1);
+    takes = is.takes;
+    answers = is.answers;
+    control = is.control;
+  }
+
+  streams_of_partners : (k : ℕ) (m n : descriptions.Medium) (ms ns : List descriptions.Medium) (x : Medium) → IsPartner side m n x → (call generation number : ℕ) (direction : Direction) (st : Stream) (window : ℕ)
+      → AllByRecursion (PartnersFrom k (m ∷ ms) (n ∷ ns)) (stream_sessions (owner_at call generation k direction) (numbered number st.keys) st window x)
+  streams_of_partners k m n ms ns x is call generation number direction st window = (
+    record { of_offer = m; of_answer = n; at = 0; place = omega arith; in_offer = (omega arith, refl); in_answer = (omega arith, refl); takes = is.0; answers = is.1; control = λ e. absurd cc },
+    go x.has_rtcp refl,
+  )
+    where
+      go : (b : Bool) → x.has_rtcp ≡ b → AllByRecursion (PartnersFrom k (m ∷ ms) (n ∷ ns)) (cond b (stream_session (owner_at call generation k direction) (numbered number st.keys) st window x Rtcp st.encrypts_rtcp 10 ∷ []) [])
+      go true on = (
+        record { of_offer = m; of_answer = n; at = 0; place = omega arith; in_offer = (omega arith, refl); in_answer = (omega arith, refl); takes = is.0; answers = is.1; control = λ e. is.2 on },
+        tt,
+      )
+      go false on = tt
+
+  partners_from : (call generation k number : ℕ) (ms ns : List descriptions.Medium) (xs : List (Option Medium)) → ArePartners side ms ns xs → AllByRecursion (PartnersFrom k ms ns) (sessions_from call generation k number xs)
+  partners_from call generation k number [] [] [] are = tt
+  partners_from call generation k number [] [] (x ∷ xs) are = absurd are
+  partners_from call generation k number [] (n ∷ ns) xs are = absurd are
+  partners_from call generation k number (m ∷ ms) [] xs are = absurd are
+  partners_from call generation k number (m ∷ ms) (n ∷ ns) [] are = absurd are
+  partners_from call generation k number (m ∷ ms) (n ∷ ns) (None ∷ xs) are =
+      each_weaker (PartnersFrom (k + 1) ms ns) (PartnersFrom k (m ∷ ms) (n ∷ ns)) (next k m n ms ns) (sessions_from call generation (k + 1) number xs) (partners_from call generation (k + 1) number ms ns xs are.1)
+  partners_from call generation k number (m ∷ ms) (n ∷ ns) (Some x ∷ xs) are =
+      let is : IsPartner side m n x = are.0 x refl in
+      let opening : List Session = stream_sessions (owner_at call generation k Opening) (numbered number x.from_peer.keys) x.from_peer x.window x in
+      let sealing : List Session = stream_sessions (owner_at call generation k Sealing) (numbered (number + length x.from_peer.keys) x.to_peer.keys) x.to_peer 1024 x in
+      let later : List Session = sessions_from call generation (k + 1) (number + length x.from_peer.keys + length x.to_peer.keys) xs in
+      each_append (PartnersFrom k (m ∷ ms) (n ∷ ns)) opening (sealing ++ later) (streams_of_partners k m n ms ns x is call generation number Opening x.from_peer x.window)
+      (each_append (PartnersFrom k (m ∷ ms) (n ∷ ns)) sealing later (streams_of_partners k m n ms ns x is call generation (number + length x.from_peer.keys) Sealing x.to_peer 1024)
+      (each_weaker (PartnersFrom (k + 1) ms ns) (PartnersFrom k (m ∷ ms) (n ∷ ns)) (next k m n ms ns) later
+      (partners_from call generation (k + 1) (number + length x.from_peer.keys + length x.to_peer.keys) ms ns xs are.1)))
+
+  from_first : (ms ns : List descriptions.Medium) (s : Session) → PartnersFrom 0 ms ns s → IsOfPartners side ms ns s
+  from_first ms ns s is =
+      let same : is.at ≡ s.name.owner.medium = (let e = is.place in omega (arith, e)) in
+      record {
+        of_offer = is.of_offer;
+        of_answer = is.of_answer;
+        in_offer = subst (λ k. IsMediumAt ms k is.of_offer) same is.in_offer;
+        in_answer = subst (λ k. IsMediumAt ns k is.of_answer) same is.in_answer;
+        takes = is.takes;
+        answers = is.answers;
+        control = is.control;
+      }
+
+-- ---- an answer
+
+abbrev HasNoOthers : Offer → Sdp → Call → Type 0
+HasNoOthers o answer d = AllByRecursion (λ s. s.name.owner.generation + 1 ≡ d.generations → IsOfPartners o.side o.description.media answer.media s) d.sessions
+
+module _ (laws : Agreements) (w : World) (offered_are : AllByRecursion (λ c. IsOffered c.offer) w.calls) (id : CallId) (noise text : List ℕ) (c : Call) (o : Offer)
+    (is : call_of w id ≡ Some c) (open_one : c.offer ≡ Some o) (answer : Sdp) (read : description_of text ≡ Ok answer) where
+  was : WasOffered o
+  was = subst IsOffered open_one (found (λ c. IsOffered c.offer) (λ x. same_id x.id id) w.calls c is offered_are)
+
+  no_others : (d : Call) → d.generations ≡ c.generations + 1 → IsAnswered c d o noise text → HasNoOthers o answer d
+  no_others d more a =
+      let are = answer_partners laws c.slot o noise text a.agreement answer was a.agreed read in
+      let new : List Session = sessions_from c.serial c.generations 0 a.number a.agreement.media in
+      subst (AllByRecursion (λ s. s.name.owner.generation + 1 ≡ d.generations → IsOfPartners o.side o.description.media answer.media s)) (sym a.sessions)
+      (each_append _ new (filter (stays c) c.sessions)
+      (each_weaker (PartnersFrom o.side 0 o.description.media answer.media) _ (λ s p e. from_first o.side o.description.media answer.media s p) new
+      (partners_from o.side c.serial c.generations 0 a.number o.description.media answer.media a.agreement.media are))
+      (each_weaker _ _ (λ s p e. absurd (earlier s p.0 e)) (filter (stays c) c.sessions) (kept_by (stays c) c.sessions)))
+    where
+      -- what stays is of the generation before
+      earlier : (s : Session) → stays c s ≡ true → s.name.owner.generation + 1 ≡ d.generations → ⊥
+      earlier s on e =
+          let p = and_parts (is_opening s) (is_current c s) on in
+          let current : s.name.owner.generation + 1 ≡ c.generations = eqb-true _ _ p.1 in
+          omega (arith, e, more, current)
+
+  abbrev NoOthers : Answer → Type 0
+  NoOthers a = (d : Call) → call_of a.world id ≡ Some d → d.generations ≡ c.generations + 1 → HasNoOthers o answer d
+
+  settled_alone : (q : Result Settled Refusal) → answered_to w.moment w.books c noise text (Some o) ≡ q → NoOthers (in_old w id (tells_answer id (offering_side c.offer)) q)
+  settled_alone (Err cause) e = λ d at more. let same = ap (λ (x : Call). x.generations) (some_is c d (sym is ∙ at)) in absurd (omega (arith, same, more))
+  settled_alone (Ok r) e = λ d at more.
+      let a = answer_is w.moment w.books c noise text o r e in
+      let here = found_with id c r.call w.calls a.serial (subst (λ i. same_id i id ≡ true) (sym a.id) (id_found id c w.calls is)) is in
+      let same : r.call ≡ d = some_is r.call d (sym here ∙ at) in
+      subst (HasNoOthers o answer) same (no_others r.call (ap (λ (x : Call). x.generations) same ∙ more) a)
+
+  pub answer_alone : NoOthers (answer_to w (Answered id noise text))
+  answer_alone =
+      subst (λ x. NoOthers (answered w id noise text x)) (sym is)
+      (subst (λ x. NoOthers (in_old w id (tells_answer id (offering_side c.offer)) (answered_to w.moment w.books c noise text x))) (sym open_one)
+      (settled_alone (answered_to w.moment w.books c noise text (Some o)) refl))

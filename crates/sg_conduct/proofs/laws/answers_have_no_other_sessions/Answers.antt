@@ -1,0 +1,25 @@
+use Rattle.std.proofs.Common.{◌≡◌, ◌+◌, Ok, Some, sym, subst}
+use Rattle.std.proofs.lemmas.List.Elements.{All-from_recursion}
+use Rattle.std.specs.List.{AllByRecursion}
+use Rattle.sg_gateway.proofs.Agreements.{Agreements}
+use Rattle.sg_gateway.proofs.Datagrams.{every_turn}
+use Rattle.sg_gateway.proofs.Kept.{IsOffered}
+use Rattle.sg_gateway.proofs.Reached.{Anything, anything_had, anything_on}
+use Rattle.sg_gateway.specs.Runs.{turns}
+use Rattle.sg_gateway.specs.Step.{Event, step}
+use Rattle.sg_gateway.specs.World.{call_of}
+use Rattle.sg_sdp.specs.Reading.{description_of}
+use Rattle.sg_session.proofs.Lists.{each_of, each_weaker}
+use Rattle.sg_conduct.proofs.Partners.{answer_alone}
+use Rattle.sg_conduct.specs.Present.{AnswerHasNoOthers, IsOfPartners}
+use Rattle.sg_conduct.proofs.laws.answers_have_no_other_sessions.Goals as goal
+
+pub returns : goal.returns
+returns c = λ events.
+    let laws : Agreements = record { few = c.agreements_are_sound.ensures.few; sound = c.agreements_are_sound.ensures.sound; answered = c.active_media_are_agreed.ensures.answer; described = c.offers_fit_their_calls.ensures.described; count = c.offers_fit_their_calls.ensures.count } in
+    All-from_recursion AnswerHasNoOthers (turns events)
+    (every_turn Anything anything_on anything_had (λ t. Unit {0}) AnswerHasNoOthers
+    (λ past w e kept u id noise text call d o answer same is open_one.
+    subst (λ (e : Event). call_of (step w e).world id ≡ Some d → d.generations ≡ call.generations + 1 → description_of text ≡ Ok answer → AllByRecursion (λ s. s.name.owner.generation + 1 ≡ d.generations → IsOfPartners o.side o.description.media answer.media s) d.sessions) (sym same)
+    (λ at more read. answer_alone laws w (each_weaker _ (λ c. IsOffered c.offer) (λ c k. k.offered) w.calls kept.calls) id noise text call o is open_one answer read d at more))
+    events (each_of (λ t. Unit {0}) (λ t. tt) (turns events)))
