@@ -160,7 +160,7 @@ at_line version n at octets l is = go (too_far at octets) (sym (at_is version n 
 max_below : (a b c : ℕ) → a ≤ c → b ≤ c → max a b ≤ c
 max_below a b c p q = omega (arith, p, q)
 
-moment_below : (moment : ℕ) (signal : scripts.Signal) → moment ≤ 2085978495999 → FitsSignal signal → moment_after moment (lines.Signal signal) ≤ 2085978495999
+pub moment_below : (moment : ℕ) (signal : scripts.Signal) → moment ≤ 2085978495999 → FitsSignal signal → moment_after moment (lines.Signal signal) ≤ 2085978495999
 moment_below moment (Tick now) most fits = max_below moment now 2085978495999 most fits
 moment_below moment (Psk own peer key) most fits = most
 moment_below moment (Manual call secure plain roc window from_peer to_peer) most fits = most
@@ -218,11 +218,11 @@ first_prefix (b ∷ bs) l ls is = at (eqb b 10) (λ m ms e. first_prefix bs m ms
 
 module _ (grammar : Grammar) where
   -- the line of a printed line
-  printed_at : (version n at : ℕ) (l : Line) → FitsLine version n l → at + length (line_text l) ≤ 2 ^ 30 → line_at version n at (line_text l) ≡ Ok l
+  pub printed_at : (version n at : ℕ) (l : Line) → FitsLine version n l → at + length (line_text l) ≤ 2 ^ 30 → line_at version n at (line_text l) ≡ Ok l
   printed_at version n at l fits within =
       at_is version n at (line_text l) ∙ cond-false _ _ _ (le-ltb (2 ^ 30) (at + length (line_text l)) within) ∙ grammar.again version n l fits
 
-  reads_printed : (version n at : ℕ) (l : Line) (rest : List ℕ) (top : ℕ) (o : Outside) → FitsLine version n l → at + length (line_text l) ≤ 2 ^ 30
+  pub reads_printed : (version n at : ℕ) (l : Line) (rest : List ℕ) (top : ℕ) (o : Outside) → FitsLine version n l → at + length (line_text l) ≤ 2 ^ 30
       → trace_from Replays version n at (lines_of (line_text l ++ rest)) top o
       ≡ said Replays l (trace_from Replays (version_after version l) (n + 1) (at + length (line_text l)) (lines_of rest)) top o
   reads_printed version n at l rest top o fits within =
@@ -230,7 +230,7 @@ module _ (grammar : Grammar) where
       reads_on Replays version n at (line_text l) rest l top o refl whole (printed_at version n at l fits within)
 
   -- what a line that is read fits
-  fits_at : (n at : ℕ) (octets : List ℕ) (l : Line) → line_at 1 n at octets ≡ Ok l → FitsLine 1 n l
+  pub fits_at : (n at : ℕ) (octets : List ℕ) (l : Line) → line_at 1 n at octets ≡ Ok l → FitsLine 1 n l
   fits_at n at octets l is = (grammar.takes 1 n octets l (at_line 1 n at octets l is)).1
 
   module _ (once : (events : List Event) → MomentComesOnce events) where

@@ -1,2 +1,3 @@
 pub mod Migrated
 pub mod Migration
+pub mod VersionTwo

@@ -1,8 +1,10 @@
-//! The law on what is migrated: its clause is a fact about the definitions, and it calls the laws that it rests on.
+//! The laws on what is migrated: their clauses are facts about the definitions, and they call the laws that they rest on.
 
 ghost use Rattle.std.specs.Prelude.{◌≡◌, ◌≤◌, ◌^◌, ℕ, List, length};
 ghost use Rattle.sg_gateway.specs.Runs.{outcomes};
+ghost use Rattle.sg_base.specs.declared.addresses.Address.{Address};
 ghost use Rattle.sg_migrate.specs.Migrated.{IsOfVersionOne, migrated};
+ghost use Rattle.sg_migrate.specs.VersionTwo.{IsVersionTwo, TicksFirst};
 ghost use Rattle.sg_trace.specs.Trace.{replayed};
 
 /// A script and what it is migrated to are played alike: whatever is drawn, their outcomes are the same.
@@ -14,3 +16,17 @@ pub fn migrated_scripts_tell_the_same()
     sg_lines::lines_are_framed();
     sg_gateway::a_moment_comes_once();
 }
+
+/// What is migrated is a script of version 2: its first line says so, and no line of it is outside the grammar. Of a script
+/// that is of version 2 already nothing is written.
+pub fn migrated_scripts_are_of_version_two()
+    ensures { (octets : List ℕ) → IsVersionTwo octets }
+{
+    sg_lines::lines_have_one_spelling();
+    sg_lines::lines_are_framed();
+}
+
+/// The moment of a datagram's line is a tick, and then the datagram comes as by a line of version 1.
+pub fn moments_of_datagrams_are_ticks()
+    ensures { (moment port : ℕ) (from : Address) (octets : List ℕ) → TicksFirst moment port from octets }
+{}

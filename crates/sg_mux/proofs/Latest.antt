@@ -14,6 +14,7 @@ use Rattle.sg_outcome.specs.declared.outcomes.Outcome.{Outcome}
 use Rattle.sg_outcome.specs.declared.outcomes.Why.{Why}
 use Rattle.sg_outcome.specs.declared.outcomes.Outcome.TheVariants.{Made, Live, Sdp, Refused, Ended, Out, Dropped, Unsent}
 use Rattle.sg_sdp.specs.Reading.{description_of}
+use Rattle.sg_mux.proofs.Marks.{line_from, line_to, port_from, port_to}
 use Rattle.sg_mux.specs.Latest.{AcceptsAnswer, AcceptsOffer, ChangesSlot, IsAnswered, IsOffered, SharesPort, Telling, TellsText, is_answer}
 use Rattle.sg_mux.specs.Legs.{muxes, same_side}
 use Rattle.sg_mux.specs.Muxed.{agreed, changed_at, fresh}
@@ -183,7 +184,7 @@ module _ (slot medium : ℕ) (side : Side) where
             told_are = refl;
             text = text;
             accepts = (ap (λ s. Sdp k.id s text) (side_is s side parts.0), is);
-            port = marks.0;
+            port = port_from text medium marks.0;
             last_offer = tt;
             last_answer = last;
           },
@@ -208,7 +209,7 @@ module _ (slot medium : ℕ) (side : Side) where
       text = offer;
       event_is = refl;
       accepts = refl;
-      line = line;
+      line = line_from offer medium line;
       answer = answer;
     }),
   )
@@ -396,7 +397,7 @@ module _ (slot medium : ℕ) (side : Side) (id : CallId) where
     where
       at_answer : (known : Option Known) → Holds HasLine known → Holds Muxes (said_of slot is.answered.event is.answered.outcome known)
       at_answer None holds = absurd holds
-      at_answer (Some k) holds = subst (λ (o : Outcome). Holds Muxes (said_of slot is.answered.event o (Some k))) (sym is.accepts.0) (takes_answer k is.answered.event is.text holds is.accepts.1 is.port)
+      at_answer (Some k) holds = subst (λ (o : Outcome). Holds Muxes (said_of slot is.answered.event o (Some k))) (sym is.accepts.0) (takes_answer k is.answered.event is.text holds is.accepts.1 (port_to is.text medium is.port))
 
   after_offer : (known : Option Known) (ts : List Telling) → Holds IsThere known → AllByRecursion Stay ts → IsOffered ts id medium side → Holds Muxes (said slot known ts)
   after_offer known ts holds stays is =
@@ -409,7 +410,7 @@ module _ (slot medium : ℕ) (side : Side) (id : CallId) where
     where
       at_offer : (known : Option Known) → Holds IsThere known → Holds HasLine (said_of slot is.offered.event is.offered.outcome known)
       at_offer None holds = absurd holds
-      at_offer (Some k) holds = takes_offer k is.offered.event is.offered.outcome is.call is.way is.noise is.text holds is.event_is is.accepts is.line
+      at_offer (Some k) holds = takes_offer k is.offered.event is.offered.outcome is.call is.way is.noise is.text holds is.event_is is.accepts (line_to is.text medium is.line)
 
 muxed_if : (medium : ℕ) (side : Side) (id : CallId) (known : Option Known) → Holds (λ k. (k.id ≡ id) × (muxes (Some k) medium side ≡ true)) known → muxes known medium side ≡ true
 muxed_if medium side id None holds = absurd holds

@@ -13,7 +13,7 @@ use Rattle.sg_outcome.specs.declared.outcomes.Outcome.{Outcome}
 use Rattle.sg_outcome.specs.declared.outcomes.Outcome.TheVariants.{Made, Live, Sdp, Refused, Ended, Out, Dropped, Unsent}
 use Rattle.sg_mux.specs.Legs.{is_muxed}
 use Rattle.sg_mux.specs.Muxed.{nobody}
-use Rattle.sg_mux.specs.Texts.{answers_port, mark, offers_mux}
+use Rattle.sg_mux.specs.Shares.{HasMuxLine, HasPort}
 use Rattle.sg_mux.specs.Via.{events_via, muxing_after, stepped}
 use Rattle.sg_mux.specs.declared.known.Known.{Known}
 
@@ -89,7 +89,7 @@ pub record IsAnswered (told : List Telling) (id : CallId) (medium : ℕ) (side :
   pub told_are : told ≡ between ++ answered ∷ after
   pub text : List ℕ
   pub accepts : (answered.outcome ≡ Sdp id side text) × (is_answer answered.event ≡ true)
-  pub port : mark (answers_port text) medium ≡ true
+  pub port : HasPort text medium
   pub last_offer : AllByRecursion (λ t. ¬ AcceptsOffer id t) between
   pub last_answer : AllByRecursion (λ t. ¬ AcceptsAnswer id t) after
 
@@ -105,7 +105,7 @@ pub record IsOffered (told : List Telling) (id : CallId) (medium : ℕ) (side : 
   pub text : List ℕ
   pub event_is : offered.event ≡ Signalled (Offered call way noise text)
   pub accepts : TellsText id offered.outcome
-  pub line : mark (offers_mux text) medium ≡ true
+  pub line : HasMuxLine text medium
   pub answer : IsAnswered after id medium side
 
 -- A call was made in the slot and is still there, and has that offer and that answer. The answer's text goes to the side that

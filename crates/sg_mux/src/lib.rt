@@ -10,5 +10,7 @@ mod signals;
 mod texts;
 
 pub use known::Known;
-pub use laws::{legs_are_muxed_by_their_texts, shared_ports_are_faithful};
+pub use laws::{
+    legs_are_muxed_by_their_texts, ports_are_shared_as_told, shared_ports_are_faithful,
+};
 pub use mux::Mux;

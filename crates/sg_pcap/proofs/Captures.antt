@@ -140,7 +140,7 @@ too_few_near : (most at : ℕ) (xs : List ℕ) → at + length xs ≤ most → t
 too_few_near most at xs near = cond-false (ltb most (at + length xs)) _ _ (le-ltb most (at + length xs) near)
 
 -- what counts of octets that all count, and of those with others behind
-counted_near : (most : ℕ) (xs more : List ℕ) → length xs ≤ most → (rest : List ℕ) × (take (counted most 0 (xs ++ more)) (xs ++ more) ≡ xs ++ rest)
+pub counted_near : (most : ℕ) (xs more : List ℕ) → length xs ≤ most → (rest : List ℕ) × (take (counted most 0 (xs ++ more)) (xs ++ more) ≡ xs ++ rest)
 counted_near most xs more near =
     let n : ℕ = min (length more) (most - length xs) in
     let size : counted most 0 (xs ++ more) ≡ length xs + n = omega (arith, near, length-append xs more) in

@@ -3,5 +3,5 @@
 #![tactic(auto)]
 
 pub use sg_base::ScriptFault;
-pub use sg_lines::{Line, ReadLineFault, Signal, print_line, read_line};
+pub use sg_lines::{KeptSignal, Line, ReadLineFault, Signal, print_line, read_line};
 pub use sg_outcome::{Outcome, Why, print_outcome, read_outcome};

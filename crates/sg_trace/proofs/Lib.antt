@@ -1,4 +1,5 @@
 mod CaptureReads
+mod Capturings
 pub mod Causes
 pub mod Traces
 mod ReadBuffers

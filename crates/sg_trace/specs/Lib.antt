@@ -1,3 +1,4 @@
+pub mod CaptureHolds
 pub mod Captured
 pub mod CaptureReading
 pub mod Causes

@@ -3,6 +3,7 @@
 #![tactic(auto)]
 
 mod capture_reader;
+mod laws;
 mod line_reader;
 mod part_reader;
 mod read_buffer;
@@ -12,6 +13,7 @@ mod supplying;
 mod telling;
 
 pub use capture_reader::CaptureReader;
+pub use laws::the_capture_holds;
 pub use script_reader::{Found, Place, ScriptReader};
 pub use status::Status;
 pub use supplying::supply;
