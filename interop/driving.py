@@ -530,6 +530,25 @@ class Watched(dict):
         super().__setitem__(call, keys)
 
 
+def a_stall_moves_nothing(program):
+    """a gateway that stands still for three seconds while an offer is open"""
+    with driving(program) as (driver, _, _):
+        driver.offer_secure(1, secure_text(b"offer"))
+        time.sleep(0.5)
+        gateway, moved = driver.gateway, []
+        first = gateway.began
+        os.kill(gateway.pid, signal.SIGSTOP)
+        time.sleep(3)
+        os.kill(gateway.pid, signal.SIGCONT)
+        until = time.monotonic() + 2
+        while time.monotonic() < until:
+            moved.append(gateway.began - first)
+            time.sleep(0.005)
+        require(max(moved) < 0.05, f"what it knows of the start of its clock moves by {max(moved):.2f} s")
+        require(driver.close() == 0, "the status")
+    return "the start of its clock stays where it was known to be"
+
+
 def signals_wait_little(program):
     """ticks, with steps of a second"""
     with driving(program, step=1.0) as (driver, _, _):
@@ -626,8 +645,8 @@ CHECKS = [
     counts_from_the_start, each_has_its_own, a_late_outcome_ends_the_process, calls_are_told_and_made_anew, it_drains,
     close_waits_for_drops, fields_are_fields, ports_and_answers_are_looked_at, sockets_overflow, telephones_have_their_ways,
     keys_are_told_again, a_rejected_offer_spends_nothing, the_log_has_no_keys, outcomes_come_in_parts, whose_refusal,
-    many_signals_wait, an_answer_may_be_late, signals_wait_little, a_long_tick_comes_before_the_signal, what_waits_is_told,
-    signals_of_the_system, a_unit_keeps_it,
+    many_signals_wait, an_answer_may_be_late, a_stall_moves_nothing, signals_wait_little, a_long_tick_comes_before_the_signal,
+    what_waits_is_told, signals_of_the_system, a_unit_keeps_it,
 ]
 
 

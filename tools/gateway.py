@@ -36,8 +36,8 @@ TURNS_MOST = 1_000_000_000
 # A call that is never there. What is told of it says that the tick before it is over.
 PROBE = 2**32 - 1
 PROBED = f"refused {PROBE} CallUnknown\n".encode()
-# So many of the latest probes count for the start of the gateway's clock, and so many seconds are between two.
-WINDOW, PROBING = 50, 0.1
+# For so many seconds an answer to a probe counts for the start of the gateway's clock, and so many are between two probes.
+WINDOW, PROBING = 30.0, 0.1
 # The seconds of a step, and of one while signals come or are likely to, which is until so long after the latest. Where
 # more probes than that have no answer, the gateway has enough to do, and each tick more would only take a turn: so the
 # steps are longer by as much.
@@ -260,9 +260,9 @@ class Gateway:
         self.lock, self.answered, self.ending = threading.Lock(), threading.Event(), threading.Event()
         # Wakes the thread that writes ticks, and until when its steps are short.
         self.wakes, self.hurried = threading.Event(), 0.0
-        # Ticks that were written and aren't answered, with when they are due; the starts of its clock that the latest
-        # answers tell of, and the earliest; the tick that reaches farthest.
-        self.probes, self.starts = collections.deque(), collections.deque(maxlen=WINDOW)
+        # Ticks that were written and aren't answered, with when they are due; the starts of its clock that answers tell of,
+        # each with its moment, but those that a later one undercuts; the earliest; the tick that reaches farthest.
+        self.probes, self.starts = collections.deque(), collections.deque()
         self.began, self.last = time.time(), 0
         self.ends = opener.open(patience)
         self.pid, self.files = self.ends.pid, self.ends.files
@@ -402,10 +402,15 @@ class Gateway:
 
     def _learn(self):
         """The answer behind `tick N` comes N milliseconds after the gateway's first reading of its clock, or later. So
-        of several the earliest start is the nearest."""
+        of several the earliest start is the nearest. Behind a stall many are late, and would have ticks come late."""
         number, due = self.probes.popleft()
-        self.starts.append(time.time() - number / 1000)
-        self.began = min(self.starts)
+        now, start = time.monotonic(), time.time() - number / 1000
+        while self.starts and self.starts[-1][1] >= start:
+            self.starts.pop()
+        self.starts.append((now, start))
+        while self.starts[0][0] < now - WINDOW:
+            self.starts.popleft()
+        self.began = self.starts[0][1]
         self.late = due.late()
         self.worst = max(self.worst, self.late)
         self.answered.set()
