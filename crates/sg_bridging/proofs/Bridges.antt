@@ -1,12 +1,12 @@
 -- How a bridge goes on, line by line, and how it ends.
-use Rattle.std.proofs.Common.{◌≡◌, ◌⊎◌, ◌+◌, ◌≤◌, ◌^◌, ℕ, List, [], ◌++◌, length, Option, Err, sym, ap, ◌∙◌, subst, append_assoc, length-append, arith}
+use Rattle.std.proofs.Common.{◌≡◌, ◌+◌, ◌≤◌, ◌^◌, ℕ, List, [], ◌++◌, length, Option, Err, refl, sym, ap, ◌∙◌, subst, inl, inr, append_assoc}
 use Rattle.std.proofs.lemmas.List.{append-nil}
 use Rattle.sg_base.specs.declared.faults.ScriptFault.{ScriptFault}
 use Rattle.sg_bridge.specs.BridgeLines.{bridge_version_after}
 use Rattle.sg_bridge.specs.Bridged.{Said}
 use Rattle.sg_bridge.specs.declared.lines.BridgeLine.{BridgeLine}
 use Rattle.sg_bridging.proofs.Steps.{state_after-append, text_from-append}
-use Rattle.sg_bridging.specs.Bridge.{BridgeTrace, BridgeEnds, IsWholeBridge, LaterSaid, after_bridge_line, bridge_text, bridge_trace, bridge_trace_from, said_of, stopped_at, with_said}
+use Rattle.sg_bridging.specs.Bridge.{BridgeTrace, BridgeEnds, IsCutBridge, IsWholeBridge, LaterSaid, after_bridge_line, bridge_text, bridge_trace, bridge_trace_from, said_of, stopped_at, with_said}
 use Rattle.sg_bridging.specs.BridgeReading.{IsLineFault, IsLineRead, IsNextLine, LineFails}
 use Rattle.sg_bridging.specs.Steps.{IsCut, IsPlayed, IsTaken, StandsFor, SwitchboardValue, start, state_after, text_from}
 use Rattle.sg_edge.proofs.Links.{added_more, added_none}
@@ -54,7 +54,7 @@ module _ (octets drawn : List ℕ) where
 
 module _ (old now : ReplayTellings) (taken drawn : List ℕ) (said : List Said) (script : Reading)
     (going : IsGoing old now taken script.waits drawn said script.version script.number script.offset)
-    (left' : Option (List ℕ)) (got : List ℕ) (came : TookIn now.left left' got) where
+    (left' : Option (List ℕ)) (got : List ℕ) (came : TookIn now.left left' got) (near : length (script.waits ++ got) ≤ 74097) where
   -- the octets read by then
   abbrev pub octets : List ℕ
   octets = taken ++ (script.waits ++ got)
@@ -68,11 +68,28 @@ module _ (old now : ReplayTellings) (taken drawn : List ℕ) (said : List Said) 
   no_draw : bridge_trace octets drawn ≡ bridge_trace octets (drawn ++ [])
   no_draw = ap (bridge_trace octets) (sym (append-nil drawn))
 
-  -- whatever comes, what is written is a prefix
-  is_prefix : IsPrefixOf (bridge_text said) (bridge_text (bridge_trace octets drawn).said)
-  is_prefix =
-      let rest = bridge_trace_from script.version script.number script.offset (lines_of (script.waits ++ got)) [] in
-      (text_from (state_after start said) rest.said, ap (λ (t : BridgeTrace). bridge_text t.said) (no_draw ∙ trace_is []) ∙ text_from-append start said rest.said)
+  -- the lines that were taken, alone
+  lines_are : (draws : List ℕ) → bridge_trace taken (drawn ++ draws) ≡ with_said said (stopped_at BehindAll draws)
+  lines_are draws = ap (λ (o : List ℕ). bridge_trace o (drawn ++ draws)) (sym (append-nil taken)) ∙ going.goes [] draws
+
+  lines_told : (draws : List ℕ) → bridge_text (bridge_trace taken (drawn ++ draws)).said ≡ bridge_text said
+  lines_told draws = ap (λ (t : BridgeTrace). bridge_text t.said) (lines_are draws) ∙ ap bridge_text (append-nil said)
+
+  all_lines : IsWholeBridge taken drawn (bridge_text said) BehindAll
+  all_lines = whole_so taken drawn said BehindAll (ap (bridge_trace taken) (sym (append-nil drawn)) ∙ lines_are [])
+
+  -- where memory is wanting for a line
+  cut_ahead : IsCutBridge octets drawn (bridge_text said)
+  cut_ahead = record {
+    lines = taken;
+    line = [];
+    ahead = script.waits ++ got;
+    split = refl;
+    one = inr refl;
+    near = near;
+    begun = ([], all_lines.told ∙ sym (append-nil (bridge_text (bridge_trace taken drawn).said)));
+    within = ([], ap (λ (o : List ℕ). bridge_text (bridge_trace o drawn).said) (append-nil taken) ∙ sym all_lines.told ∙ sym (append-nil (bridge_text said)));
+  }
 
   -- at the end of the source
   pub ends_at_end : script.waits ++ got ≡ [] → AtEnd left' → BridgeEnds statuses.Done octets drawn (bridge_text said) left'
@@ -100,16 +117,9 @@ module _ (old now : ReplayTellings) (taken drawn : List ℕ) (said : List Said) 
   pub ends_at_err : (status : Status) (new : Reading) → IsNextLine (Err status) script new got left' → BridgeEnds status octets drawn (bridge_text said) left'
   ends_at_err (statuses.Script n fault) new next =
       subst (λ (m : ℕ). BridgeEnds (statuses.Script m fault) octets drawn (bridge_text said) left') (sym next.0) (ends_at_fault fault (subst (λ (m : ℕ). IsLineFault script.version m script.offset (script.waits ++ got) fault left') next.0 next.1))
-  ends_at_err statuses.Read new next = is_prefix
-  ends_at_err statuses.NoMemory new next = is_prefix
-  ends_at_err statuses.Done new next = absurd next
-  ends_at_err statuses.Usage new next = absurd next
-  ends_at_err statuses.Write new next = absurd next
-  ends_at_err statuses.Link new next = absurd next
-  ends_at_err statuses.Clock new next = absurd next
-  ends_at_err statuses.Noise new next = absurd next
-  ends_at_err statuses.TurnsSpent new next = absurd next
-  ends_at_err (statuses.Capture offset fault) new next = absurd next
+  ends_at_err statuses.Read new next = record { lines = taken; part = script.waits ++ got; split = refl; unended = next; all = all_lines }
+  ends_at_err statuses.NoMemory new next = cut_ahead
+  ends_at_err other new next = absurd next
 
   module _ (l : BridgeLine) (new : Reading) (read : IsLineRead l script new got) where
     -- what the rest makes of what follows
@@ -126,10 +136,25 @@ module _ (old now : ReplayTellings) (taken drawn : List ℕ) (said : List Said) 
     all_is draws =
         trace_is draws ∙ ap (λ (r : List ℕ). with_said said (bridge_trace_from script.version script.number script.offset (lines_of r) draws)) read.split ∙ ap (with_said said) (line_goes new.waits draws)
 
-    cut_so : (draws out : List ℕ) → IsCut l (state_after start said) draws out → IsPrefixOf (bridge_text said ++ out) (bridge_text (bridge_trace octets (drawn ++ draws)).said)
+    -- the lines as far as this one, alone
+    line_is : (draws : List ℕ) → bridge_trace (taken ++ read.line) (drawn ++ draws) ≡ with_said said (said_of l (later []) draws)
+    line_is draws =
+        going.goes read.line draws
+        ∙ ap (λ (r : List ℕ). with_said said (bridge_trace_from script.version script.number script.offset (lines_of r) draws)) (sym (append-nil read.line))
+        ∙ ap (with_said said) (line_goes [] draws)
+
+    cut_so : (draws out : List ℕ) → IsCut l (state_after start said) draws out → IsCutBridge octets (drawn ++ draws) (bridge_text said ++ out)
     cut_so draws out cut =
-        let rest = cut.goes (later new.waits) in
-        prefix_so octets (drawn ++ draws) said cut.said rest.0 out (all_is draws ∙ ap (with_said said) rest.1 ∙ with_said_again said cut.said rest.0) cut.told
+        let rest = cut.goes (later []) in record {
+          lines = taken;
+          line = read.line;
+          ahead = new.waits;
+          split = ap (λ (o : List ℕ). taken ++ o) read.split;
+          one = inl read.whole;
+          near = subst (λ (o : List ℕ). length o ≤ 74097) read.split near;
+          begun = (out, ap (λ (t : List ℕ). t ++ out) (sym (lines_told draws)));
+          within = prefix_so (taken ++ read.line) (drawn ++ draws) said cut.said rest.0 out (line_is draws ∙ ap (with_said said) rest.1 ∙ with_said_again said cut.said rest.0) cut.told;
+        }
 
     -- where a line ends the run
     pub ends_played : (status : Status) (board : SwitchboardValue) (draws out : List ℕ) → IsPlayed (Err status) l (state_after start said) board draws out → BridgeEnds status octets (drawn ++ draws) (bridge_text said ++ out) left'
@@ -139,14 +164,7 @@ module _ (old now : ReplayTellings) (taken drawn : List ℕ) (said : List Said) 
         let nothing : bridge_trace octets (drawn ++ draws) ≡ with_said said (stopped_at ForDraw []) =
         all_is draws ∙ ap (λ (d : List ℕ). with_said said (said_of l (later new.waits) d)) is.drew ∙ ap (with_said said) (is.stops (later new.waits)) in
         subst (λ (o : List ℕ). IsWholeBridge octets (drawn ++ draws) o ForDraw) (sym (append-nil (bridge_text said)) ∙ ap (λ (o : List ℕ). bridge_text said ++ o) (sym is.told)) (whole_so octets (drawn ++ draws) said ForDraw nothing)
-    ends_played statuses.Done board draws out is = absurd is
-    ends_played statuses.Usage board draws out is = absurd is
-    ends_played (statuses.Script n fault) board draws out is = absurd is
-    ends_played statuses.Read board draws out is = absurd is
-    ends_played statuses.Link board draws out is = absurd is
-    ends_played statuses.Clock board draws out is = absurd is
-    ends_played statuses.TurnsSpent board draws out is = absurd is
-    ends_played (statuses.Capture offset fault) board draws out is = absurd is
+    ends_played other board draws out is = absurd is
 
     -- where it doesn't
     pub goes_on : (drawn' written' : Option (List ℕ)) (board : SwitchboardValue) (draws out : List ℕ) (taken_so : IsTaken l (state_after start said) board draws out)
@@ -166,10 +184,6 @@ module _ (old now : ReplayTellings) (taken drawn : List ℕ) (said : List Said) 
 
     pub stands_on : (board : SwitchboardValue) (draws out : List ℕ) (taken_so : IsTaken l (state_after start said) board draws out) → StandsFor board (state_after start (said ++ taken_so.said))
     stands_on board draws out taken_so = subst (StandsFor board) (sym (state_after-append start said taken_so.said)) taken_so.stands
-
--- how many octets were read
-pub bounded : (taken waits got : List ℕ) (at budget budget' : ℕ) → length taken ≡ at → at + length waits + budget ≡ 2 ^ 30 + 1 → length got + budget' ≡ budget → length (taken ++ (waits ++ got)) ≤ 2 ^ 30 + 1
-bounded taken waits got at budget budget' size room paid = omega (arith, size, room, paid, length-append taken (waits ++ got), length-append waits got)
 
 -- nothing is read, drawn, handled or written yet
 pub begins : (old : ReplayTellings) (script : Reading) → script ≡ record { waits = []; version = 1; number = 1; offset = 0; budget = 2 ^ 30 + 1 }

@@ -3,7 +3,7 @@ use Rattle.std.proofs.Common.{◌≡◌, ◌⊎◌, ℕ, List, [], ◌++◌, Opt
 use Rattle.std.proofs.lemmas.List.{append-nil}
 use Rattle.sg_base.specs.declared.faults.ScriptFault.{ScriptFault}
 use Rattle.sg_base.specs.declared.faults.ScriptFault.TheVariants.{Word, Number, Hex, Length, Version, Unended}
-use Rattle.sg_bridging.specs.Bridge.{IsBridge, IsCompleteBridge, bridge_text, bridge_trace}
+use Rattle.sg_bridging.specs.Bridge.{IsBridge, IsCompleteBridge, bridge_trace}
 use Rattle.sg_edge.proofs.Links.{added_none}
 use Rattle.sg_edge.proofs.Passed.{took_none, wrote_none}
 use Rattle.sg_edge.specs.Told.{AtEnd}
@@ -43,12 +43,8 @@ complete statuses.NoMemory old new octets draws out run a b c = λ all rest told
 complete statuses.Read old new octets draws out run a b c = absurd (a refl)
 complete statuses.Write old new octets draws out run a b c = absurd (b refl)
 complete statuses.Noise old new octets draws out run a b c = absurd (c refl)
-complete statuses.Usage old new octets draws out run a b c = absurd run.ends
-complete statuses.Link old new octets draws out run a b c = absurd run.ends
-complete statuses.Clock old new octets draws out run a b c = absurd run.ends
-complete statuses.TurnsSpent old new octets draws out run a b c = absurd run.ends
-complete (statuses.Capture offset fault) old new octets draws out run a b c = absurd run.ends
 complete (statuses.Script n fault) old new octets draws out run a b c = never n fault old new octets draws out run
+complete other old new octets draws out run a b c = absurd run.ends
 
 -- memory ran out before anything was read
 pub untouched : (old : ReplayTellings) → IsBridge statuses.NoMemory old old [] [] []
@@ -56,6 +52,6 @@ untouched old = record {
   took = took_none old.left;
   drew = added_none old.drawn;
   wrote = wrote_none old.written;
-  ends = (bridge_text (bridge_trace [] []).said, refl);
+  ends = record { lines = []; line = []; ahead = []; split = refl; one = inr refl; near = omega arith; begun = ([], refl); within = ([], refl) };
   bound = omega arith;
 }

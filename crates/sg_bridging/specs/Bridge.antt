@@ -12,12 +12,12 @@ use Rattle.sg_edge.specs.Links.{Added}
 use Rattle.sg_edge.specs.Told.{AtEnd, TookIn, Wrote}
 use Rattle.sg_gateway.specs.Drawn.{Supplied, supplied}
 use Rattle.sg_gateway.specs.Events.{events_of}
-use Rattle.sg_lines.specs.ScriptLines.{lines_of}
+use Rattle.sg_lines.specs.ScriptLines.{IsWhole, NoEnd, lines_of}
 use Rattle.sg_playback.specs.Replay.{ReplayTellings}
 use Rattle.sg_trace.specs.Output.{IsPrefixOf}
 use Rattle.sg_trace.specs.Trace.{AtEnd as BehindAll, AtFault, ForDraw, Stop}
 use Rattle.sg_trace.specs.declared.status.Status.{Status}
-use Rattle.sg_trace.specs.declared.status.Status.TheVariants.{Done, Usage, Script, Read, Write, Link, NoMemory, Clock, Noise, TurnsSpent, Capture}
+use Rattle.sg_trace.specs.declared.status.Status.TheVariants.{Done, Script, Read, Write, NoMemory, Noise}
 
 -- ---- the trace of a bridge
 
@@ -80,24 +80,42 @@ pub record IsWholeBridge (octets draws out : List ℕ) (stop : Stop) : Type 0 wh
   pub left : (bridge_trace octets draws).left ≡ []
   pub told : out ≡ bridge_text (bridge_trace octets draws).said
 
+-- Whole lines were read, which have no fault and need no more noise, and behind them octets without a line end. All that
+-- the lines say is told.
+pub record AreBridged (octets draws out : List ℕ) : Type 0 where
+  pub lines : List ℕ
+  pub part : List ℕ
+  pub split : octets ≡ lines ++ part
+  pub unended : NoEnd part
+  pub all : IsWholeBridge lines draws out BehindAll
+
+-- Of the octets that were read these lines were told, then this line was under way, and those octets were ahead: with that
+-- line, a line and what the buffer holds at most. Of what the line under way tells a prefix was written.
+pub record IsCutBridge (octets draws out : List ℕ) : Type 0 where
+  pub lines : List ℕ
+  pub line : List ℕ
+  pub ahead : List ℕ
+  pub split : octets ≡ lines ++ (line ++ ahead)
+  pub one : IsWhole line ⊎ (line ≡ [])
+  pub near : length (line ++ ahead) ≤ 74097
+  pub begun : IsPrefixOf (bridge_text (bridge_trace lines draws).said) out
+  pub within : IsPrefixOf out (bridge_text (bridge_trace (lines ++ line) draws).said)
+
 -- The status, by the octets read, drawn and written, and by what the source has left. With Done all is handled and the
 -- source is at its end. With Script the lines before the named one are handled, and the named line is the first outside
 -- the grammar, with its first fault, whatever would come behind what was read; Unended comes only at the source's end.
--- With Noise a draw comes next. With every other status a prefix was written.
+-- With Noise a draw comes next. Where the source failed, all whole lines that were read are told. Where the sink failed or
+-- memory is wanting, all lines before the one under way are, and a prefix of what that tells.
 abbrev pub BridgeEnds : Status → List ℕ → List ℕ → List ℕ → Option (List ℕ) → Type 0
 BridgeEnds Done octets draws out left = IsWholeBridge octets draws out BehindAll × AtEnd left
 BridgeEnds (Script n fault) octets draws out left =
     IsWholeBridge octets draws out (AtFault n fault) × (fault ≡ Unended → AtEnd left)
     × (¬ (fault ≡ Unended) → (more : List ℕ) → (bridge_trace (octets ++ more) draws).stop ≡ AtFault n fault)
 BridgeEnds Noise octets draws out left = IsWholeBridge octets draws out ForDraw
-BridgeEnds Read octets draws out left = IsPrefixOf out (bridge_text (bridge_trace octets draws).said)
-BridgeEnds Write octets draws out left = IsPrefixOf out (bridge_text (bridge_trace octets draws).said)
-BridgeEnds NoMemory octets draws out left = IsPrefixOf out (bridge_text (bridge_trace octets draws).said)
-BridgeEnds Usage octets draws out left = ⊥
-BridgeEnds Link octets draws out left = ⊥
-BridgeEnds Clock octets draws out left = ⊥
-BridgeEnds TurnsSpent octets draws out left = ⊥
-BridgeEnds (Capture offset fault) octets draws out left = ⊥
+BridgeEnds Read octets draws out left = AreBridged octets draws out
+BridgeEnds Write octets draws out left = IsCutBridge octets draws out
+BridgeEnds NoMemory octets draws out left = IsCutBridge octets draws out
+BridgeEnds other octets draws out left = ⊥
 
 -- The bridge read these octets, of which there are at most 2^30 + 1, drew these, and wrote those.
 pub record IsBridge (status : Status) (old new : ReplayTellings) (octets draws out : List ℕ) : Type 0 where

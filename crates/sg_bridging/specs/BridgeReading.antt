@@ -6,7 +6,7 @@ use Rattle.sg_bridge.specs.BridgeLines.{bridge_version_after}
 use Rattle.sg_bridge.specs.declared.lines.BridgeLine.{BridgeLine}
 use Rattle.sg_bridging.specs.Bridge.{bridge_line_at}
 use Rattle.sg_edge.specs.Told.{AtEnd}
-use Rattle.sg_lines.specs.ScriptLines.{IsWhole, lines_of}
+use Rattle.sg_lines.specs.ScriptLines.{IsWhole, NoEnd, lines_of}
 use Rattle.sg_trace.specs.Reading.{Reading}
 use Rattle.sg_trace.specs.declared.status.Status.{Status}
 use Rattle.sg_trace.specs.declared.status.Status.TheVariants as statuses
@@ -35,11 +35,12 @@ pub record IsLineRead (l : BridgeLine) (old new : Reading) (got : List ℕ) : Ty
   pub offset : new.offset ≡ old.offset + length line
   pub within : new.offset ≤ 2 ^ 30
 
--- The next line; none at the end, or where the octets that count are behind; or the fault of the line.
+-- The next line; none at the end, or where the octets that count are behind; or the fault of the line. Where the source
+-- failed, what was read since the last line has no line end.
 abbrev pub IsNextLine : Result (Option BridgeLine) Status → Reading → Reading → List ℕ → Option (List ℕ) → Type 0
 IsNextLine (Ok (Some l)) old new got left = IsLineRead l old new got
 IsNextLine (Ok None) old new got left = (old.waits ++ got ≡ []) × (AtEnd left ⊎ (2 ^ 30 < old.offset))
 IsNextLine (Err (statuses.Script n fault)) old new got left = (n ≡ old.number) × IsLineFault old.version n old.offset (old.waits ++ got) fault left
-IsNextLine (Err statuses.Read) old new got left = ⊤
+IsNextLine (Err statuses.Read) old new got left = NoEnd (old.waits ++ got)
 IsNextLine (Err statuses.NoMemory) old new got left = ⊤
 IsNextLine (Err other) old new got left = ⊥

@@ -27,6 +27,7 @@ pub(crate) fn next_line<S: Source>(
     ensures next { (got : List ℕ) × TookIn (S.left source.old) (S.left source.new) got
         × IsNextLine result script.old script.new got (S.left source.new) × (length got + script.new.budget ≡ script.old.budget) }
     ensures fits { IfOk result (λ found. IfSome found (λ line. FitsBridgeLine script.old.version script.old.number line)) }
+    ensures near { length script.old.waits ≤ 4096 → (length script.new.waits ≤ 4096) × (length script.old.waits + script.old.budget ≤ script.new.budget + 74097) }
     ensures given { S.given source.new + script.new.budget ≤ S.given source.old + script.old.budget }
     ensures cause { IsCaused Status.Read result (S.faults source.old) (S.faults source.new) (S.failed source.new) }
 {

@@ -1,5 +1,5 @@
 -- How a migration goes on, line by line, and how it ends.
-use Rattle.std.proofs.Common.{◌≡◌, ◌+◌, ◌≤◌, ◌^◌, ℕ, List, [], ◌++◌, length, Option, Some, None, Result, Ok, Err, refl, sym, ap, ◌∙◌, subst, inl, inr, append_assoc, length-append, arith}
+use Rattle.std.proofs.Common.{◌≡◌, ◌+◌, ◌≤◌, ◌^◌, ℕ, List, [], ◌++◌, length, Option, Some, None, Result, Ok, Err, refl, sym, ap, ◌∙◌, subst, inl, inr, append_assoc}
 use Rattle.std.proofs.lemmas.List.{append-nil}
 use Rattle.sg_base.specs.declared.faults.ScriptFault.{ScriptFault}
 use Rattle.sg_base.specs.declared.faults.ScriptFault.TheVariants.{Word, Number, Hex, Length, Version, Unended}
@@ -12,12 +12,12 @@ use Rattle.sg_lines.specs.ScriptLines.{IsWhole as IsWholeLine, lines_of}
 use Rattle.sg_lines.specs.declared.lines.Line.{Line}
 use Rattle.sg_lines.specs.declared.lines.Line.TheVariants as lines
 use Rattle.sg_migrate.specs.Migrated.{Migration, migrated_behind, ending_with, migrated, migrated_line, migration, migration_from, moment_after, of_version_one, with_text}
-use Rattle.sg_migrate.specs.Migration.{MigrationEnds, IsCompleteMigration, IsMigration, IsWholeMigration, MigrationTellings}
+use Rattle.sg_migrate.specs.Migration.{MigrationEnds, IsCompleteMigration, IsCutMigration, IsMigration, IsWholeMigration, MigrationTellings}
 use Rattle.sg_trace.specs.Output.{IsPrefixOf, IsWritten}
 use Rattle.sg_trace.specs.Reading.{FirstFails, IsFault, IsNext, IsRead, Reading}
 use Rattle.sg_trace.specs.Trace.{line_at}
 use Rattle.sg_trace.specs.declared.status.Status.{Status}
-use Rattle.sg_trace.specs.declared.status.Status.TheVariants.{Done, Usage, Script, Read, Write, Link, NoMemory, Clock, Noise, TurnsSpent, Capture}
+use Rattle.sg_trace.specs.declared.status.Status.TheVariants.{Done, Script, Read, Write, NoMemory}
 
 -- ---- lines
 
@@ -62,7 +62,7 @@ pub record IsMigrating (old now : MigrationTellings) (taken waits out : List ℕ
   pub goes : (rest : List ℕ) → migration (taken ++ rest) ≡ with_text out (migration_from n at moment (lines_of rest))
 
 module _ (old now : MigrationTellings) (taken out : List ℕ) (moment : ℕ) (script : Reading) (going : IsMigrating old now taken script.waits out moment script.number script.offset) (one : script.version ≡ 1)
-    (left' : Option (List ℕ)) (got : List ℕ) (came : TookIn now.left left' got) where
+    (left' : Option (List ℕ)) (got : List ℕ) (came : TookIn now.left left' got) (near : length (script.waits ++ got) ≤ 74097) where
   -- the octets read by then
   abbrev pub octets : List ℕ
   octets = taken ++ (script.waits ++ got)
@@ -74,9 +74,25 @@ module _ (old now : MigrationTellings) (taken out : List ℕ) (moment : ℕ) (sc
   abbrev made : List ℕ → Migration
   made rest = migration_from script.number script.offset moment (lines_of rest)
 
-  -- whatever comes, what is written is a prefix
-  pub is_prefix : IsPrefixOf out (migrated octets)
-  is_prefix = ((made (script.waits ++ got)).text, ap (λ (m : Migration). m.text) (going.goes (script.waits ++ got)))
+  -- the lines that were taken, alone
+  lines_are : migration taken ≡ with_text out (ending_with None)
+  lines_are = ap migration (sym (append-nil taken)) ∙ going.goes []
+
+  lines_made : migrated taken ≡ out
+  lines_made = ap (λ (m : Migration). m.text) lines_are ∙ append-nil out
+
+  -- where memory is wanting for a line
+  cut_ahead : IsCutMigration octets out
+  cut_ahead = record {
+    lines = taken;
+    line = [];
+    ahead = script.waits ++ got;
+    split = refl;
+    one = inr refl;
+    near = near;
+    begun = ([], sym (append-nil (migrated taken) ∙ lines_made));
+    within = ([], ap migrated (append-nil taken) ∙ lines_made ∙ sym (append-nil out));
+  }
 
   whole_so : (fault : Option (ℕ × ScriptFault)) → made (script.waits ++ got) ≡ ending_with fault → IsWholeMigration octets out fault
   whole_so fault stops =
@@ -110,16 +126,15 @@ module _ (old now : MigrationTellings) (taken out : List ℕ) (moment : ℕ) (sc
       (ends_at_fault fault
       (subst (λ (v : ℕ). IsFault v script.number script.offset (script.waits ++ got) fault left') one
       (subst (λ (m : ℕ). IsFault script.version m script.offset (script.waits ++ got) fault left') next.0 next.1)))
-  ends_at_err Read new next = is_prefix
-  ends_at_err NoMemory new next = is_prefix
-  ends_at_err Done new next = absurd next
-  ends_at_err Usage new next = absurd next
-  ends_at_err Write new next = absurd next
-  ends_at_err Link new next = absurd next
-  ends_at_err Clock new next = absurd next
-  ends_at_err Noise new next = absurd next
-  ends_at_err TurnsSpent new next = absurd next
-  ends_at_err (Capture offset fault) new next = absurd next
+  ends_at_err Read new next = record {
+    lines = taken;
+    part = script.waits ++ got;
+    split = refl;
+    unended = next;
+    all = record { written = sym lines_made; stops = ap (λ (m : Migration). m.fault) lines_are };
+  }
+  ends_at_err NoMemory new next = cut_ahead
+  ends_at_err other new next = absurd next
 
   module _ (l : Line) (new : Reading) (read : IsRead l script new got) where
     -- what the rest makes of what follows
@@ -148,32 +163,30 @@ module _ (old now : MigrationTellings) (taken out : List ℕ) (moment : ℕ) (sc
       abbrev pub wrote_line : List ℕ
       wrote_line = line_text (migrated_line moment m)
 
-      made_is : migration octets ≡ with_text (out ++ wrote_line) (later new.waits (moment_after moment m))
-      made_is =
-          going.goes (script.waits ++ got) ∙ ap (with_text out) (ap made read.split ∙ line_goes new.waits (Ok m) is)
-          ∙ with_text_again out wrote_line (later new.waits (moment_after moment m))
+      -- the lines as far as this one, alone
+      line_made : migrated (taken ++ read.line) ≡ out ++ wrote_line
+      line_made =
+          ap (λ (m : Migration). m.text)
+          (going.goes read.line ∙ ap (λ (r : List ℕ). with_text out (made r)) (sym (append-nil read.line)) ∙ ap (with_text out) (line_goes [] (Ok m) is))
+          ∙ ap (λ (t : List ℕ). out ++ t) (append-nil wrote_line)
 
-      prefix_so : (part : List ℕ) → IsPrefixOf part wrote_line → IsPrefixOf (out ++ part) (migrated octets)
-      prefix_so part prefix =
-          let rest = (later new.waits (moment_after moment m)).text in (
-            prefix.0 ++ rest,
-            ap (λ (m : Migration). m.text) made_is ∙ ap (λ (t : List ℕ). (out ++ t) ++ rest) prefix.1
-                ∙ ap (λ (t : List ℕ). t ++ rest) (sym (append_assoc out part prefix.0)) ∙ append_assoc (out ++ part) prefix.0 rest,
-          )
+      cut_line : (part : List ℕ) → IsPrefixOf part wrote_line → IsCutMigration octets (out ++ part)
+      cut_line part prefix = record {
+        lines = taken;
+        line = read.line;
+        ahead = new.waits;
+        split = ap (λ (o : List ℕ). taken ++ o) read.split;
+        one = inl read.whole;
+        near = subst (λ (o : List ℕ). length o ≤ 74097) read.split near;
+        begun = (part, ap (λ (t : List ℕ). t ++ part) (sym lines_made));
+        within = (prefix.0, line_made ∙ ap (λ (t : List ℕ). out ++ t) prefix.1 ∙ sym (append_assoc out part prefix.0));
+      }
 
       -- where it isn't written
       pub ends_unwritten : (status : Status) (a b : Option (List ℕ)) (part : List ℕ) → IsWritten (Err status) a b wrote_line → IsPrefixOf part wrote_line → MigrationEnds status octets (out ++ part) left'
-      ends_unwritten Write a b part written prefix = prefix_so part prefix
-      ends_unwritten NoMemory a b part written prefix = prefix_so part prefix
-      ends_unwritten Done a b part written prefix = absurd written
-      ends_unwritten Usage a b part written prefix = absurd written
-      ends_unwritten (Script n fault) a b part written prefix = absurd written
-      ends_unwritten Read a b part written prefix = absurd written
-      ends_unwritten Link a b part written prefix = absurd written
-      ends_unwritten Clock a b part written prefix = absurd written
-      ends_unwritten Noise a b part written prefix = absurd written
-      ends_unwritten TurnsSpent a b part written prefix = absurd written
-      ends_unwritten (Capture offset fault) a b part written prefix = absurd written
+      ends_unwritten Write a b part written prefix = cut_line part prefix
+      ends_unwritten NoMemory a b part written prefix = cut_line part prefix
+      ends_unwritten other a b part written prefix = absurd written
 
       -- where it is
       pub goes_on : (written' : Option (List ℕ)) → Wrote now.written written' wrote_line
@@ -197,10 +210,6 @@ next_writes status old new got left next is = subst (λ s. IsNext (Err s) old ne
 -- and what writes a line doesn't tell that the source did
 pub written_reads : (status : Status) (a b : Option (List ℕ)) (octets : List ℕ) → IsWritten (Err status) a b octets → status ≡ Read → ⊥
 written_reads status a b octets written is = subst (λ s. IsWritten (Err s) a b octets) is written
-
--- how many octets were read
-pub bounded : (taken waits got : List ℕ) (at budget budget' : ℕ) → length taken ≡ at → at + length waits + budget ≡ 2 ^ 30 + 1 → length got + budget' ≡ budget → length (taken ++ (waits ++ got)) ≤ 2 ^ 30 + 1
-bounded taken waits got at budget budget' size room paid = omega (arith, size, room, paid, length-append taken (waits ++ got), length-append waits got)
 
 -- nothing is read or written yet
 pub begins : (old : MigrationTellings) (script : Reading) → script ≡ record { waits = []; version = 1; number = 1; offset = 0; budget = 2 ^ 30 + 1 }
@@ -245,10 +254,5 @@ complete Done old new read out run a b = λ all rest told told' whole. inl refl
 complete NoMemory old new read out run a b = λ all rest told told' whole. inr refl
 complete Read old new read out run a b = absurd (a refl)
 complete Write old new read out run a b = absurd (b refl)
-complete Usage old new read out run a b = absurd run.ends
-complete Link old new read out run a b = absurd run.ends
-complete Clock old new read out run a b = absurd run.ends
-complete Noise old new read out run a b = absurd run.ends
-complete TurnsSpent old new read out run a b = absurd run.ends
-complete (Capture offset fault) old new read out run a b = absurd run.ends
 complete (Script n fault) old new read out run a b = λ all rest told told' whole. absurd (spared old.left new.left read out n fault run.took run.ends all rest told told' whole)
+complete other old new read out run a b = absurd run.ends

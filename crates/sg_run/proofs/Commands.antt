@@ -6,7 +6,7 @@ use Rattle.std.proofs.lemmas.List.Elements.{All-from_recursion}
 use Rattle.sg_bridge.specs.Bridged.{Crosses, GoesBothWays, StaysInside}
 use Rattle.sg_bridge.specs.Calls.{KnowsItsCalls}
 use Rattle.sg_bridge.specs.Lost.{LosesOnlySo, SettlesWhatOpens}
-use Rattle.sg_bridging.specs.Bridge.{IsBridge, bridge_text, bridge_trace}
+use Rattle.sg_bridging.specs.Bridge.{IsBridge}
 use Rattle.sg_trace.specs.Causes.{HasFailed}
 use Rattle.sg_capture.specs.Capturing.{IsCapture}
 use Rattle.sg_trace.specs.Captured.{captured, output_of}
@@ -121,7 +121,16 @@ not_migrated old = record {
   is = record {
     took = took_none old.left;
     wrote = wrote_none old.written;
-    ends = ([], refl);
+    ends = record {
+      lines = [];
+      line = [];
+      ahead = [];
+      split = refl;
+      one = inr refl;
+      near = omega arith;
+      begun = ([], refl);
+      within = ([], refl);
+    };
     bound = omega arith;
   };
   events_are = refl;
@@ -153,7 +162,16 @@ not_bridged old = record {
     took = took_none old.left;
     drew = added_none old.drawn;
     wrote = wrote_none old.written;
-    ends = (bridge_text (bridge_trace [] []).said, refl);
+    ends = record {
+      lines = [];
+      line = [];
+      ahead = [];
+      split = refl;
+      one = inr refl;
+      near = omega arith;
+      begun = ([], refl);
+      within = ([], refl);
+    };
     bound = omega arith;
   };
   events_are = refl;

@@ -8,6 +8,7 @@ pub mod Frames
 pub mod Grammars
 mod LineOctets
 mod LineParts
+pub mod Loops
 mod Readings
 mod Supplies
 pub mod Writings

@@ -1,5 +1,5 @@
 -- The next line of a script, from what a line reader gave.
-use Rattle.std.proofs.Common.{◌≡◌, ◌⊎◌, ◌<◌, ◌+◌, ◌^◌, ℕ, List, [], ◌++◌, length, Option, Ok, Err, refl, sym, ap, ◌∙◌, subst, inl, inr, append_assoc, arith}
+use Rattle.std.proofs.Common.{◌≡◌, ◌⊎◌, ◌<◌, ◌≤◌, ◌+◌, ◌^◌, ℕ, List, [], ◌++◌, length, Option, Ok, Err, refl, sym, ap, ◌∙◌, subst, inl, inr, append_assoc, length-append, arith}
 use Rattle.sg_base.specs.declared.faults.ScriptFault.{ScriptFault}
 use Rattle.sg_lines.specs.Fields.{Gives}
 use Rattle.sg_lines.specs.declared.faults.ReadLineFault.{ReadLineFault}
@@ -50,3 +50,8 @@ given_at E r b line old new got left budget is given = subst (λ v. GivesLine {E
 pub line_some : (line rest : List ℕ) (left : Option (List ℕ)) (budget : ℕ) → IsLine line rest left budget → 0 < length line
 line_some line rest left budget (inl whole) = whole_some line whole
 line_some line rest left budget (inr unended) = unended.1
+
+-- how many octets wait behind a line, and are ahead where there is none
+pub near_so : (line old new got : List ℕ) (budget budget' : ℕ) → old ++ got ≡ line ++ new → length got + budget' ≡ budget → (length old ≤ 4096 → (length new ≤ 4096) × (length line ≤ 70001))
+    → length old ≤ 4096 → (length new ≤ 4096) × (length old + budget ≤ budget' + 74097)
+near_so line old new got budget budget' split paid near few = let most = near few in (most.0, omega (arith, most.0, most.1, paid, ap length split, length-append old got, length-append line new))

@@ -27,10 +27,11 @@ pub record AreLineOctets (line : List ℕ) (place : Place) (old new : Reading) (
   pub offset : new.offset ≡ old.offset + length line
   pub most : new.offset ≤ 2 ^ 30 + 1
 
--- The octets of the next line; none at the end, or where the octets that count are behind.
+-- The octets of the next line; none at the end, or where the octets that count are behind. Where the source failed, what was
+-- read since the last line has no line end.
 abbrev pub GivesOctets : Result (Option Place) Status → List ℕ → Reading → Reading → List ℕ → Option (List ℕ) → Type 0
 GivesOctets (Ok (Some place)) line old new got left = AreLineOctets line place old new got left
 GivesOctets (Ok None) line old new got left = (old.waits ++ got ≡ []) × (AtEnd left ⊎ (2 ^ 30 < old.offset))
-GivesOctets (Err statuses.Read) line old new got left = ⊤
+GivesOctets (Err statuses.Read) line old new got left = NoEnd (old.waits ++ got)
 GivesOctets (Err statuses.NoMemory) line old new got left = ⊤
 GivesOctets (Err other) line old new got left = ⊥

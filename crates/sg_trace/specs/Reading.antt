@@ -7,10 +7,10 @@ use Rattle.sg_lines.specs.declared.faults.ReadLineFault.{ReadLineFault}
 use Rattle.sg_lines.specs.declared.faults.ReadLineFault.TheVariants as faults
 use Rattle.sg_lines.specs.declared.lines.Line.{Line}
 use Rattle.sg_lines.specs.LineOf.{version_after}
-use Rattle.sg_lines.specs.ScriptLines.{IsWhole, lines_of}
+use Rattle.sg_lines.specs.ScriptLines.{IsWhole, NoEnd, lines_of}
 use Rattle.sg_trace.specs.Trace.{line_at}
 use Rattle.sg_trace.specs.declared.status.Status.{Status}
-use Rattle.sg_trace.specs.declared.status.Status.TheVariants.{Done, Usage, Script, Read, Write, Link, NoMemory, Clock, Noise, TurnsSpent, Capture}
+use Rattle.sg_trace.specs.declared.status.Status.TheVariants.{Script, Read, NoMemory}
 
 -- how far a script is read: what waits, its version, the number of the next line, its offset, and how many octets
 -- may still be asked for
@@ -45,21 +45,15 @@ pub record IsRead (l : Line) (old new : Reading) (got : List ℕ) : Type 0 where
   pub offset : new.offset ≡ old.offset + length line
   pub within : new.offset ≤ 2 ^ 30
 
--- The next line; none at the end, or where the octets that count are behind; or the fault of the line.
+-- The next line; none at the end, or where the octets that count are behind; or the fault of the line. Where the source
+-- failed, what was read since the last line has no line end.
 abbrev pub IsNext : Result (Option Line) Status → Reading → Reading → List ℕ → Option (List ℕ) → Type 0
 IsNext (Ok (Some l)) old new got left = IsRead l old new got
 IsNext (Ok None) old new got left = (old.waits ++ got ≡ []) × (AtEnd left ⊎ (2 ^ 30 < old.offset))
 IsNext (Err (Script n fault)) old new got left = (n ≡ old.number) × IsFault old.version n old.offset (old.waits ++ got) fault left
-IsNext (Err Read) old new got left = ⊤
+IsNext (Err Read) old new got left = NoEnd (old.waits ++ got)
 IsNext (Err NoMemory) old new got left = ⊤
-IsNext (Err Done) old new got left = ⊥
-IsNext (Err Usage) old new got left = ⊥
-IsNext (Err Write) old new got left = ⊥
-IsNext (Err Link) old new got left = ⊥
-IsNext (Err Clock) old new got left = ⊥
-IsNext (Err Noise) old new got left = ⊥
-IsNext (Err TurnsSpent) old new got left = ⊥
-IsNext (Err (Capture offset fault)) old new got left = ⊥
+IsNext (Err other) old new got left = ⊥
 
 -- why the n-th line isn't read
 abbrev pub refused_as : ℕ → ReadLineFault → Status

@@ -1,9 +1,10 @@
 //! Lines of a source.
 
-ghost use Rattle.std.specs.Prelude.{◌≡◌, ◌⊎◌, ◌+◌, length, ◌≤◌, ◌++◌, ℕ, List, [], IfErr};
+ghost use Rattle.std.specs.Prelude.{◌≡◌, ◌⊎◌, ◌+◌, length, ◌≤◌, ◌++◌, ℕ, List, [], IfErr, Err};
 ghost use Rattle.sg_trace.specs.Causes.{IsCaused};
 ghost use Rattle.sg_trace.specs.Fed.{GivesLine};
 ghost use Rattle.sg_edge.specs.Told.{TookIn};
+ghost use Rattle.sg_lines.specs.ScriptLines.{NoEnd};
 
 use crate::read_buffer::ReadBuffer;
 use crate::status::Status;
@@ -11,7 +12,8 @@ use sg_base::LINE_MOST;
 use sg_edge::Source;
 
 /// Reads the next line, with its line end, into the empty `line`; false at the end of the source. A line
-/// stops at its line end, at the end of the source or of the budget, or above 70,000 octets.
+/// stops at its line end, at the end of the source or of the budget, or above 70,000 octets. Where the source fails, no line
+/// end was read.
 pub fn next_line<S: Source>(
     read_buffer: &mut ReadBuffer,
     source: &mut S,
@@ -23,6 +25,8 @@ pub fn next_line<S: Source>(
         × GivesLine result line.new.items read_buffer.old read_buffer.new got (S.left source.new) budget.new × (length got + budget.new ≡ budget.old) }
     ensures given { S.given source.new + budget.new ≤ S.given source.old + budget.old }
     ensures only { IfErr result (λ status. (status ≡ Status.Read) ⊎ (status ≡ Status.NoMemory)) }
+    ensures near { length read_buffer.old ≤ 4096 → (length read_buffer.new ≤ 4096) × (length line.new.items ≤ 70001) }
+    ensures unended { result ≡ Err Status.Read → NoEnd line.new.items × (read_buffer.new ≡ []) }
     ensures cause { IsCaused Status.Read result (S.faults source.old) (S.faults source.new) (S.failed source.new) }
 {
     while line.len() <= LINE_MOST {

@@ -51,6 +51,7 @@ impl ReadBuffer {
     /// as there are. At most `most` are moved. True where a line end was.
     pub fn move_line(&mut self, line: &mut Vec<u8>, most: usize) -> Result<bool, NoMemory>
         ensures moved { IfOk result (λ ended. (part : List ℕ) × MovesPart self.old self.new line.old.items line.new.items part × EndsLine ended part self.new most) }
+        ensures short { OnOk result (length line.new.items ≤ length line.old.items + most) }
         ensures err { OnErr result ((self.new ≡ self.old) × (line.new.items ≡ line.old.items)) }
     {
         let waiting = &self.part[self.at..self.end];
@@ -80,6 +81,8 @@ impl ReadBuffer {
         ensures given { S.given source.new + budget.new ≤ S.given source.old + budget.old }
         ensures cause { HasCause (S.faults source.old) (S.faults source.new) result }
         ensures told { OnErr result (Tells (S.failed source.new) true) }
+        ensures none { OnErr result (self.new ≡ []) }
+        ensures few { length self.old ≤ 4096 → length self.new ≤ 4096 }
     {
         if !self.is_empty() || *budget == 0 {
             return Ok(());
@@ -97,6 +100,7 @@ impl ReadBuffer {
 /// How many octets of the front belong to the line, of at most `most`, and whether the last is its end.
 fn line_in(waiting: &[u8], most: usize) -> (usize, bool)
     ensures count { result.0 ≤ length waiting.now }
+    ensures most { result.0 ≤ most }
     ensures line { EndsLine result.1 (take result.0 waiting.now) (drop result.0 waiting.now) most }
 {
     let near = &waiting[..waiting.len().min(most)];

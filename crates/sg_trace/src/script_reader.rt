@@ -86,6 +86,7 @@ impl ScriptReader {
         ensures next { (got : List ℕ) × TookIn (S.left source.old) (S.left source.new) got
             × IsNext result self.old self.new got (S.left source.new) × (length got + self.new.budget ≡ self.old.budget) }
         ensures fits { IfOk result (λ found. IfSome found (λ line. FitsLine self.old.version self.old.number line)) }
+        ensures near { length self.old.waits ≤ 4096 → (length self.new.waits ≤ 4096) × (length self.old.waits + self.old.budget ≤ self.new.budget + 74097) }
         ensures given { S.given source.new + self.new.budget ≤ S.given source.old + self.old.budget }
         ensures cause { IsCaused Status.Read result (S.faults source.old) (S.faults source.new) (S.failed source.new) }
     {
@@ -160,6 +161,7 @@ impl ScriptReader {
         requires { line.old.items ≡ [] }
         ensures next { (got : List ℕ) × TookIn (S.left source.old) (S.left source.new) got
             × GivesOctets result line.new.items self.old self.new got (S.left source.new) × (length got + self.new.budget ≡ self.old.budget) }
+        ensures near { length self.old.waits ≤ 4096 → (length self.new.waits ≤ 4096) × (length self.old.waits + self.old.budget ≤ self.new.budget + 74097) }
         ensures given { S.given source.new + self.new.budget ≤ S.given source.old + self.old.budget }
         ensures cause { IsCaused Status.Read result (S.faults source.old) (S.faults source.new) (S.failed source.new) }
     {

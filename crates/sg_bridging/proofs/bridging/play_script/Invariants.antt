@@ -11,7 +11,7 @@ invariant-lines g l =
     (record { left = g.S.Source.left l.source; written = g.K.Sink.written l.sink; drawn = g.N.Noise.given l.noise })
     taken l.script.waits drawn said l.script.version l.script.number l.script.offset
     × (length taken ≡ l.script.offset) × StandsFor l.switchboard (state_after start said))
-    × (l.script.offset + length l.script.waits + l.script.budget ≡ 2 ^ 30 + 1) × (l.script.offset ≤ 2 ^ 30)
+    × (l.script.offset + length l.script.waits + l.script.budget ≡ 2 ^ 30 + 1) × (l.script.offset ≤ 2 ^ 30) × (length l.script.waits ≤ 4096)
     × (g.S.Source.faults l.source ≡ g.S.Source.faults l.fn.source) × (g.K.Sink.faults l.sink ≡ g.K.Sink.faults l.fn.sink) × (g.N.Noise.faults l.noise ≡ g.N.Noise.faults l.fn.noise)
     × (g.S.Source.given l.source + l.script.budget ≤ g.S.Source.given l.fn.source + (2 ^ 30 + 1))
 

@@ -9,7 +9,7 @@ invariant-lines g l =
     (record { left = g.S.Source.left l.source; written = g.K.Sink.written l.sink })
     taken l.script.waits out l.moment l.script.number l.script.offset
     × (length taken ≡ l.script.offset))
-    × (l.script.version ≡ 1) × (l.script.offset + length l.script.waits + l.script.budget ≡ 2 ^ 30 + 1) × (l.script.offset ≤ 2 ^ 30)
+    × (l.script.version ≡ 1) × (l.script.offset + length l.script.waits + l.script.budget ≡ 2 ^ 30 + 1) × (l.script.offset ≤ 2 ^ 30) × (length l.script.waits ≤ 4096)
     × (g.S.Source.faults l.source ≡ g.S.Source.faults l.fn.source) × (g.K.Sink.faults l.sink ≡ g.K.Sink.faults l.fn.sink)
     × (g.S.Source.given l.source + l.script.budget ≤ g.S.Source.given l.fn.source + (2 ^ 30 + 1))
 

@@ -73,4 +73,5 @@ loop-read_buffer-preserved g c =
       subst NoEnd (sym part.1.1) (NoEnd-append c.loop-read_buffer.line.items part.0 c.loop-read_buffer.invariant.1 goes),
       c.in-Ok.ensures.cause.quiet refl ∙ c.loop-read_buffer.invariant.2,
       omega (arith, c.fill.ensures.given, c.loop-read_buffer.invariant.3),
+      λ few. let filled = c.fill.ensures.few (c.loop-read_buffer.invariant.4 few).0 in (omega (arith, filled, ap length part.1.0, length-append part.0 c.move_line.new.self), omega (arith, c.in-Ok-false.ensures.short, c.loop-read_buffer-test.true, c.len-in-loop-read_buffer.ensures)),
     )

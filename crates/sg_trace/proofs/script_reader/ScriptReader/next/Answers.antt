@@ -1,6 +1,6 @@
-use Rattle.std.proofs.Common.{rules, ◌≡◌, ◌+◌, ◌<◌, ◌^◌, ℕ, true, List, [], ◌++◌, length, Some, Ok, Err, ap, sym, ◌∙◌, subst, arith, length-append}
+use Rattle.std.proofs.Common.{rules, ◌≡◌, ◌+◌, ◌<◌, ◌≤◌, ◌^◌, ℕ, true, List, [], ◌++◌, length, Some, Ok, Err, ap, sym, ◌∙◌, subst, arith, length-append}
 use Rattle.sg_trace.proofs.ReadBuffers.{all_given}
-use Rattle.sg_trace.proofs.Readings.{given_at, line_some, next_err, next_ok}
+use Rattle.sg_trace.proofs.Readings.{given_at, line_some, near_so, next_err, next_ok}
 use Rattle.sg_trace.specs.Fed.{IsLine}
 use Rattle.sg_trace.specs.Reading.{IsNext, IsRead, Reading}
 use Rattle.sg_trace.specs.declared.status.Status.{Status}
@@ -105,3 +105,27 @@ returns-in-Err-clause-next g c =
     (subst (λ (l : List ℕ). Rattle.sg_lines.specs.Fields.Gives (Err c.in-Err.fault) (Rattle.sg_trace.specs.Trace.line_at v n at l)) c.deref.ensures.value c.in-Err.ensures.exact)) in
     subst (λ (r : Reading). (x : List ℕ) × TookIn (g.S.Source.left c.args.source.now) left x × IsNext (Err c.refused.result) r new x left × (length x + c.next_line.new.budget ≡ r.budget)) c.self.view_is
     (got.0, got.1, subst (λ (m : ℕ). IsNext (Err c.refused.result) (record { waits = c.self.inside.read_buffer; version = v; number = n; offset = c.self.inside.at + m; budget = c.self.inside.budget }) new got.0 left) size next, got.3)
+
+pub returns-then-not-found-clause-near : goal.returns-then-not-found-clause-near
+returns-then-not-found-clause-near g c =
+    let got = c.next_line.ensures.got in
+    subst (λ (r : Reading). length r.waits ≤ 4096 → (length c.next_line.new.read_buffer ≤ 4096) × (length r.waits + r.budget ≤ c.next_line.new.budget + 74097)) c.self.view_is
+    (near_so c.next_line.new.line.items c.self.inside.read_buffer c.next_line.new.read_buffer got.0 c.self.inside.budget c.next_line.new.budget (all_given c.next_line.result _ _ _ _ _ _ got.2) got.3 c.next_line.ensures.near)
+
+pub returns-in_err-found-clause-near : goal.returns-in_err-found-clause-near
+returns-in_err-found-clause-near g c =
+    let got = c.next_line.ensures.got in
+    subst (λ (r : Reading). length r.waits ≤ 4096 → (length c.next_line.new.read_buffer ≤ 4096) × (length r.waits + r.budget ≤ c.next_line.new.budget + 74097)) c.self.view_is
+    (near_so c.next_line.new.line.items c.self.inside.read_buffer c.next_line.new.read_buffer got.0 c.self.inside.budget c.next_line.new.budget (all_given c.next_line.result _ _ _ _ _ _ got.2) got.3 c.next_line.ensures.near)
+
+pub returns-in-Ok-clause-near : goal.returns-in-Ok-clause-near
+returns-in-Ok-clause-near g c =
+    let got = c.next_line.ensures.got in
+    subst (λ (r : Reading). length r.waits ≤ 4096 → (length c.next_line.new.read_buffer ≤ 4096) × (length r.waits + r.budget ≤ c.next_line.new.budget + 74097)) c.self.view_is
+    (near_so c.next_line.new.line.items c.self.inside.read_buffer c.next_line.new.read_buffer got.0 c.self.inside.budget c.next_line.new.budget (all_given c.next_line.result _ _ _ _ _ _ got.2) got.3 c.next_line.ensures.near)
+
+pub returns-in-Err-clause-near : goal.returns-in-Err-clause-near
+returns-in-Err-clause-near g c =
+    let got = c.next_line.ensures.got in
+    subst (λ (r : Reading). length r.waits ≤ 4096 → (length c.next_line.new.read_buffer ≤ 4096) × (length r.waits + r.budget ≤ c.next_line.new.budget + 74097)) c.self.view_is
+    (near_so c.next_line.new.line.items c.self.inside.read_buffer c.next_line.new.read_buffer got.0 c.self.inside.budget c.next_line.new.budget (all_given c.next_line.result _ _ _ _ _ _ got.2) got.3 c.next_line.ensures.near)

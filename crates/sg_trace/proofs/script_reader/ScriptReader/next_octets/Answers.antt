@@ -1,8 +1,8 @@
-use Rattle.std.proofs.Common.{rules, ◌≡◌, ◌+◌, ◌<◌, ◌^◌, ℕ, true, List, [], ◌++◌, length, Some, Ok, ap, sym, refl, subst, arith, length-append}
+use Rattle.std.proofs.Common.{rules, ◌≡◌, ◌+◌, ◌<◌, ◌≤◌, ◌^◌, ℕ, true, List, [], ◌++◌, length, Some, Ok, ap, sym, refl, subst, arith, length-append}
 use Rattle.sg_edge.specs.Told.{TookIn}
 use Rattle.sg_trace.proofs.LineOctets.{line_to}
 use Rattle.sg_trace.proofs.ReadBuffers.{all_given}
-use Rattle.sg_trace.proofs.Readings.{given_at, line_some}
+use Rattle.sg_trace.proofs.Readings.{given_at, line_some, near_so}
 use Rattle.sg_trace.specs.Fed.{IsLine}
 use Rattle.sg_trace.specs.LineOctets.{GivesOctets}
 use Rattle.sg_trace.specs.Reading.{Reading}
@@ -70,3 +70,24 @@ returns-in-Ok-true-clause-next g c =
     subst (λ (m : ℕ). GivesOctets (Ok (Some place)) line (record { waits = c.self.inside.read_buffer; version = v; number = n; offset = at; budget = c.self.inside.budget }) (record { waits = waits; version = v; number = n + 1; offset = m; budget = budget }) got.0 left) (sym end) next in
     subst (λ (r : Reading). (x : List ℕ) × TookIn (g.S.Source.left c.args.source.now) left x × GivesOctets (Ok (Some place)) line r new x left × (length x + budget ≡ r.budget)) c.self.view_is
     (got.0, got.1, subst (λ (m : ℕ). GivesOctets (Ok (Some place)) line (record { waits = c.self.inside.read_buffer; version = v; number = n; offset = c.self.inside.at + m; budget = c.self.inside.budget }) new got.0 left) size told, got.3)
+
+pub returns-in-Err-clause-near : goal.returns-in-Err-clause-near
+returns-in-Err-clause-near g c =
+    let got = c.next_line-found.ensures.got in
+    subst
+    (λ (r : Reading). length r.waits ≤ 4096 → (length c.next_line-found.new.read_buffer ≤ 4096) × (length r.waits + r.budget ≤ c.next_line-found.new.budget + 74097)) c.self.view_is
+    (near_so c.next_line-found.new.line.items c.self.inside.read_buffer c.next_line-found.new.read_buffer got.0 c.self.inside.budget c.next_line-found.new.budget (all_given c.next_line-found.result _ _ _ _ _ _ got.2) got.3 c.next_line-found.ensures.near)
+
+pub returns-in-Ok-false-clause-near : goal.returns-in-Ok-false-clause-near
+returns-in-Ok-false-clause-near g c =
+    let got = c.next_line-found.ensures.got in
+    subst
+    (λ (r : Reading). length r.waits ≤ 4096 → (length c.next_line-found.new.read_buffer ≤ 4096) × (length r.waits + r.budget ≤ c.next_line-found.new.budget + 74097)) c.self.view_is
+    (near_so c.next_line-found.new.line.items c.self.inside.read_buffer c.next_line-found.new.read_buffer got.0 c.self.inside.budget c.next_line-found.new.budget (all_given c.next_line-found.result _ _ _ _ _ _ got.2) got.3 c.next_line-found.ensures.near)
+
+pub returns-in-Ok-true-clause-near : goal.returns-in-Ok-true-clause-near
+returns-in-Ok-true-clause-near g c =
+    let got = c.next_line-found.ensures.got in
+    subst
+    (λ (r : Reading). length r.waits ≤ 4096 → (length c.next_line-found.new.read_buffer ≤ 4096) × (length r.waits + r.budget ≤ c.next_line-found.new.budget + 74097)) c.self.view_is
+    (near_so c.next_line-found.new.line.items c.self.inside.read_buffer c.next_line-found.new.read_buffer got.0 c.self.inside.budget c.next_line-found.new.budget (all_given c.next_line-found.result _ _ _ _ _ _ got.2) got.3 c.next_line-found.ensures.near)
