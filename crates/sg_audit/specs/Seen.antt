@@ -51,7 +51,7 @@ IsSealing kind on tag_len master mki ssrc index packet datagram =
     datagram ≡ sealed_text kind (half_of kind (session_keys master)) on tag_len mki ssrc index packet
 
 -- The packet is told and nothing else. RTP leaves by this port to this address; RTCP by the next port to the next one's
--- (RFC 3550, 11), or as RTP does where the two share a port (RFC 5761).
+-- (RFC 3550, 11), or as RTP does (RFC 5761; whether the two share a port isn't asked).
 abbrev pub LeavesBy : List Outcome → Kind → ℕ → Address → List ℕ → Type 0
 LeavesBy told Rtp port to octets = told ≡ Out port to octets ∷ []
 LeavesBy told Rtcp port to octets = (told ≡ Out (port + 1) (record { ip = to.ip; port = to.port + 1 }) octets ∷ []) ⊎ (told ≡ Out port to octets ∷ [])

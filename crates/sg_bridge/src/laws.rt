@@ -66,9 +66,10 @@ pub fn unjoined_calls_are_told_as_they_are()
     ensures { (events : List Event) → IsToldAsItIs events }
 {}
 
-/// Each line's event happens, but for a datagram at a plain port of a joined call, which is dropped; and where nothing is
-/// opened for a joined call, what the gateway tells of it is told, and nothing more happens. Each line is handled in the
-/// world that the events of the lines before it have made, with the pairs that they have left.
+/// Each line's event happens, but for a datagram at a plain port of a joined call, which is dropped; and where a datagram opens
+/// nothing for a joined call, what the gateway tells of it is told, and nothing more happens. What is told of a signal isn't
+/// said here. Each line is handled in the world that the events of the lines before it have made, with the pairs that they
+/// have left.
 pub fn each_line_happens()
     ensures lines { (said : List Said) → EachLineHappens said }
     ensures worlds { (said : List Said) → EachComesBehind said }

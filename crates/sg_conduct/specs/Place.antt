@@ -1,5 +1,6 @@
 -- Nothing within reach is lost, where a place, a live key, a new index and an admitted source are said of the list of what is done
--- alone: no word of the definitions of opening and sealing is used but `text_in`.
+-- alone. Of the definitions of opening and sealing it uses `text_in`, `highest_in`, and where a datagram could be of two
+-- generations' sessions `opens` (in `Comes`).
 use Rattle.std.specs.Prelude.{◌≡◌, ◌⊎◌, ◌<◌, ◌≤◌, ℕ, List, [], ◌∷◌, length}
 use Rattle.std.specs.List.{All, AllByRecursion, Any, Contains}
 use Rattle.sg_base.specs.declared.addresses.Address.{Address}

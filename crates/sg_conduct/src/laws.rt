@@ -90,7 +90,7 @@ pub fn calls_were_heard()
     offers_fit_their_calls();
 }
 
-/// Each text that is told names the gateway's own address, and for each medium port 0 or that of the call's slot.
+/// Each `c=` line of a text that is told names the gateway's own address, and each medium has port 0 or that of the call's slot.
 pub fn told_texts_are_own()
     ensures { (events : List Event) → ToldTextsAreOwn events }
 {

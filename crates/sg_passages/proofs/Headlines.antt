@@ -20,6 +20,7 @@ use Rattle.sg_gateway.specs.Refusing.{EachRefusalChangesNothing, EachRefusedOffe
 use Rattle.sg_gateway.specs.Runs.{Turn, turns}
 use Rattle.sg_gateway.specs.SealedOut as seals
 use Rattle.sg_gateway.specs.Step.{Event}
+use Rattle.sg_gateway.specs.Taken as taken
 use Rattle.sg_gateway.specs.Used.{EachSealUsesItsBlocks, SealsUseTheirBlocks}
 use Rattle.sg_gateway.specs.World.{Call}
 use Rattle.sg_passages.proofs.Lifting.{bars_out, bars_plain, bars_secure, each, made_live, none_told, one_out, some_end, some_refusal, told_out, told_refusal}
@@ -106,6 +107,13 @@ module _ (events : List Event) (passages : List Passage) (are : ArePassagesOf ev
       (λ p f h. (
         (λ id way noise text s is none room described keyed. let r = h.0 id way noise text s is none room described keyed in (r.0, (r.1.0, f.offers id way noise text is ∙ r.1.1))),
         (λ id way noise text c s is found by_lines closed many described keyed. let r = h.1 id way noise text c s is found by_lines closed many described keyed in (r.0, (r.1.0, f.offers id way noise text is ∙ r.1.1))),
+      )) holds
+
+  pub agreed_taken : taken.OffersAreTaken events → EachAsTold (λ t. taken.NewOfferIsTaken t × taken.LaterOfferIsTaken t) passages
+  agreed_taken holds = over (λ t. taken.NewOfferIsTaken t × taken.LaterOfferIsTaken t) (λ p. taken.NewOfferIsTaken (as_told p) × taken.LaterOfferIsTaken (as_told p))
+      (λ p f h. (
+        (λ id way noise text a is none room agreed. let r = h.0 id way noise text a is none room agreed in (r.0, f.offers id way noise text is ∙ r.1)),
+        (λ id way noise text c a is found by_lines closed agreed. let r = h.1 id way noise text c a is found by_lines closed agreed in (r.0, f.offers id way noise text is ∙ r.1)),
       )) holds
 
   pub manual_taken : ManualCallsAreTaken events → EachAsTold ManualIsTaken passages

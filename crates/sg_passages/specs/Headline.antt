@@ -21,6 +21,7 @@ use Rattle.sg_gateway.specs.Refusing.{OffersStayOpen}
 use Rattle.sg_gateway.specs.Served.{EachKeyServesItsLife, NoKeyIsOverspent}
 use Rattle.sg_gateway.specs.Step.{Event}
 use Rattle.sg_gateway.specs.Tags.{EachSessionHasWholeTags}
+use Rattle.sg_gateway.specs.Taken.{NewOfferIsTaken, LaterOfferIsTaken}
 use Rattle.sg_gateway.specs.Twice.{NoneTwice, NoneTwiceUnderKey, KeysHaveOneOwner}
 use Rattle.sg_gateway.specs.Unforged.{Unforged}
 use Rattle.sg_gateway.specs.Used.{NoBlockTwice, SealsUseTheirBlocks}
@@ -81,6 +82,7 @@ pub record Headline (events : List Event) (passages : List Passage) : Type 0 whe
   pub ticks : TicksMove events
   pub ticks_keep : TicksKeep events
   pub offers : EachAsTold OfferIsTaken passages
+  pub agreed_offers : EachAsTold (λ t. NewOfferIsTaken t × LaterOfferIsTaken t) passages
   pub manual_calls : EachAsTold ManualIsTaken passages
   pub rejections : RejectionsClose events
   pub answers : EachAsTold AnswerRenews passages

@@ -6,7 +6,7 @@ ghost use Rattle.sg_passages.specs.Headline.{Headline};
 ghost use Rattle.sg_passages.specs.Passages.{ArePassagesOf, Passage, plain_passages};
 
 /// The headline holds of every list of events, however a run tells what becomes of them, as long as each packet leaves by
-/// the leg by which it was put out, and all else is told as `IsToldAs` says.
+/// the port by which it was put out, or by the first port of that leg, and all else is told as `IsToldAs` says.
 pub fn the_headline_holds()
     ensures { (events : List Event) (passages : List Passage) → ArePassagesOf events passages → Headline events passages }
 {
@@ -24,6 +24,7 @@ pub fn the_headline_holds()
     sg_gateway::no_call_stays_idle();
     sg_gateway::a_moment_comes_once();
     sg_gateway::signals_are_carried_out();
+    sg_gateway::signals_are_taken();
     sg_gateway::plain_texts_have_no_key();
     sg_gateway::texts_tell_addresses();
     sg_gateway::answers_are_by_their_texts();
