@@ -4,14 +4,19 @@ ghost use Rattle.std.specs.Prelude.{◌≡◌, ◌⊎◌, ◌≤◌, ◌+◌, �
 ghost use Rattle.sg_audit.specs.Pages.{AuditorsPages};
 ghost use Rattle.sg_audit.specs.Seen.{seen_of};
 ghost use Rattle.sg_bridging.specs.Bridge as bridges;
+ghost use Rattle.sg_base.specs.declared.addresses.Address.{Address};
 ghost use Rattle.sg_capture.specs.Capturing as captures;
+ghost use Rattle.sg_trace.specs.CaptureHolds.{CaptureHolds};
 ghost use Rattle.sg_trace.specs.Causes.{HasFailed};
 ghost use Rattle.sg_trace.specs.Trace.{replayed};
 ghost use Rattle.sg_edge.specs.Told.{Rose};
+ghost use Rattle.sg_gateway.specs.Octets.{Octets};
 ghost use Rattle.sg_gateway.specs.Runs.{outcomes};
 ghost use Rattle.sg_gateway.specs.Step.{Event};
 ghost use Rattle.sg_migrate.specs.Migrated.{IsOfVersionOne, migrated};
 ghost use Rattle.sg_migrate.specs.Migration as migrations;
+ghost use Rattle.sg_migrate.specs.VersionTwo.{IsVersionTwo, TicksFirst};
+ghost use Rattle.sg_mux.specs.Sharing.{SharesAsTold};
 ghost use Rattle.sg_passages.specs.Headline.{Headline};
 ghost use Rattle.sg_passages.specs.Passages.{Passage};
 ghost use Rattle.sg_playback.specs.Replay.{IsCompleteReplay};
@@ -26,12 +31,15 @@ use sg_capture::capture;
 use sg_demo::demo;
 use sg_edge::{Clock, Link, Noise, Sink, Source};
 use sg_lanes::Gate;
-use sg_migrate::{migrate, migrated_scripts_tell_the_same};
-use sg_mux::{legs_are_muxed_by_their_texts, shared_ports_are_faithful};
+use sg_migrate::{
+    migrate, migrated_scripts_are_of_version_two, migrated_scripts_tell_the_same,
+    moments_of_datagrams_are_ticks,
+};
+use sg_mux::{legs_are_muxed_by_their_texts, ports_are_shared_as_told, shared_ports_are_faithful};
 use sg_passages::{a_plain_run_is_faithful, the_headline_holds};
 use sg_playback::replay;
 use sg_relay::relay;
-use sg_trace::Status;
+use sg_trace::{Status, the_capture_holds};
 use sg_words::{Command, CommandFault, read_command};
 use std::alloc::Global;
 use std::thread::Threads;
@@ -105,6 +113,10 @@ pub fn run<R: Threads + Sync, S: Source, K: Sink, L: Link, C: Clock, N: Noise, G
         → bridges.IsCompleteBridge result (S.left source.old) (S.left source.new) }
     ensures migrated_alike { (octets draws : List ℕ) → IsOfVersionOne octets → length (migrated octets) ≤ 2 ^ 30
         → outcomes (replayed (migrated octets) draws).events ≡ outcomes (replayed octets draws).events }
+    ensures migrated_two { (octets : List ℕ) → IsVersionTwo octets }
+    ensures captures { (octets draws : List ℕ) → CaptureHolds octets draws }
+    ensures shares { (before : List Event) (port : ℕ) (from : Address) (octets : Octets) → SharesAsTold before port from octets }
+    ensures datagrams_tick { (moment port : ℕ) (from : Address) (octets : List ℕ) → TicksFirst moment port from octets }
     ensures read { HasFailed (result ≡ Status.Read) (S.faults source.old) (S.faults source.new) (S.failed source.new) }
     ensures write { HasFailed (result ≡ Status.Write) (K.faults sink.old) (K.faults sink.new) (K.failed sink.new) }
     ensures link { result ≡ Status.Link → Rose (L.faults link.old) (L.faults link.new) }
@@ -116,9 +128,13 @@ pub fn run<R: Threads + Sync, S: Source, K: Sink, L: Link, C: Clock, N: Noise, G
     a_plain_run_is_faithful();
     shared_ports_are_faithful();
     legs_are_muxed_by_their_texts();
+    ports_are_shared_as_told();
+    the_capture_holds();
     the_bridge_holds();
     scripts_without_joins_are_replayed();
     migrated_scripts_tell_the_same();
+    migrated_scripts_are_of_version_two();
+    moments_of_datagrams_are_ticks();
     let command = match read_command(alloc, words) {
         Err(CommandFault::Usage) => return Status::Usage,
         Err(CommandFault::NoMemory) => return Status::NoMemory,
