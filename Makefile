@@ -1,5 +1,5 @@
 # One word for each of the commands that are spread over the pages. `make check CRATE=sg_index` checks one crate.
-.PHONY: help gate check rows hostile strength bench live
+.PHONY: help gate check rows hostile corpus strength bench live
 PYTHON = python3
 
 help:
@@ -15,6 +15,8 @@ rows: ## interop/rows and examples, written anew
 	  $(PYTHON) interop/demonstration.py $${of%%-*} $${of#*-} > $$file || exit; done
 hostile: ## the program that is built, used badly
 	.ci/refused-memory && .ci/hostile && .ci/hostile-relay
+corpus: ## captures and short scripts one by one, by the program that is built: an hour of one processor, once a release
+	$(PYTHON) interop/corpus.py crates/srtpgw/out/srtpgw
 strength: ## the wrong bodies that the gate doesn't try, of all crates or of CRATE=..
 	scripts/strength $(CRATE)
 bench: ## speed beside libsrtp

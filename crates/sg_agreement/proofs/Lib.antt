@@ -8,12 +8,12 @@ pub mod LinesSound
 pub mod MessageKeys
 pub mod MessageOctets
 pub mod MessagesSound
-mod OneLines
+pub mod OneLines
 pub mod OwnMessages
 pub mod SessionsSound
 mod SideWalks
 pub mod Sound
 pub mod TextLines
-mod Texts
+pub mod Texts
 mod TwoSided
 pub mod Walks

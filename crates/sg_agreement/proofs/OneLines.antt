@@ -20,13 +20,13 @@ use Rattle.sg_agreement.specs.CarriedTexts.{IsOneLine}
 
 -- ---- one line
 
-one_append : (x y : List ℕ) → IsOneLine x → IsOneLine y → IsOneLine (x ++ y)
+pub one_append : (x y : List ℕ) → IsOneLine x → IsOneLine y → IsOneLine (x ++ y)
 one_append x y p q = (lacks_append 10 x y p.0 q.0, lacks_append 13 x y p.1 q.1)
 
-one_more : (c : ℕ) (x : List ℕ) → (c ≡ 10 → ⊥) → (c ≡ 13 → ⊥) → IsOneLine x → IsOneLine (c ∷ x)
+pub one_more : (c : ℕ) (x : List ℕ) → (c ≡ 10 → ⊥) → (c ≡ 13 → ⊥) → IsOneLine x → IsOneLine (c ∷ x)
 one_more c x lf cr p = ((ne_eqb c 10 lf, p.0), (ne_eqb c 13 cr, p.1))
 
-one_of : (b : Bool) (x y : List ℕ) → IsOneLine x → IsOneLine y → IsOneLine (cond b x y)
+pub one_of : (b : Bool) (x y : List ℕ) → IsOneLine x → IsOneLine y → IsOneLine (cond b x y)
 one_of true x y p q = p
 one_of false x y p q = q
 
@@ -80,7 +80,7 @@ digits_one (suc k) n x p =
     let this = digit_one (n % 10) x p in
     one_of (eqb (n / 10) 0) (digit_glyph false (n % 10) ∷ x) _ this (digits_one k (n / 10) (digit_glyph false (n % 10) ∷ x) this)
 
-decimal_one : (n : ℕ) → IsOneLine (decimal n)
+pub decimal_one : (n : ℕ) → IsOneLine (decimal n)
 unfolding digits
 decimal_one n = digits_one 64 n [] (tt, tt)
 

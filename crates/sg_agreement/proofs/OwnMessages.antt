@@ -221,7 +221,7 @@ any_behind : {X : Type 0} (P : X → Type 0) (xs ys : List X) → Any P ys → A
 any_behind P [] ys a = a
 any_behind P (x ∷ xs) ys a = any_there P x (xs ++ ys) (any_behind P xs ys a)
 
-tells_message : (slot : ℕ) (s : Sdp) (sent : Sent) → TellsMessage (accepted_offer slot (record { side = Plain; description = s; keying = OwnMessage sent })).text sent
+pub tells_message : (slot : ℕ) (s : Sdp) (sent : Sent) → TellsMessage (accepted_offer slot (record { side = Plain; description = s; keying = OwnMessage sent })).text sent
 unfolding carried_text
 tells_message slot s sent =
     let profiles : List Profile = map (λ (m : descriptions.Medium). exchanged m.profile) s.media in

@@ -65,7 +65,7 @@ first_is f (l ∷ ls) value e = go (first_is f ls value) (f l) refl e
 
 -- ---- a message
 
-mikey_is : (line value : List ℕ) → mikey_rest line ≡ Some value → IsMessageLine line
+pub mikey_is : (line value : List ℕ) → mikey_rest line ≡ Some value → IsMessageLine line
 mikey_is line value e =
     let a = and_then_some (behind (codes "a=key-mgmt:mikey") line) _ value e in
     let b = guarded (ends_word a.0) a.0 value a.2 in
@@ -83,7 +83,7 @@ no_value (l ∷ ls) none = go (no_value ls none.1) (mikey_rest l) refl
     go rest None is = rest
     go rest (Some v) is = absurd (none.0 (mikey_is l v is))
 
-no_message : (ls : List (List ℕ)) → AllByRecursion (λ line. ¬ IsMessageLine line) ls → is_some (mikey_value ls) ≡ false
+pub no_message : (ls : List (List ℕ)) → AllByRecursion (λ line. ¬ IsMessageLine line) ls → is_some (mikey_value ls) ≡ false
 unfolding mikey_value
 no_message ls none = ap (λ (values : List (List ℕ)). is_some (first_of values)) (no_value ls none)
 
@@ -95,7 +95,7 @@ none_of_media (m ∷ ms) none =
     let rest = none_of_media ms none.1 in
     λ i. this i || rest i
 
-has_none : (s : Sdp) → HasNoMessage s → has_message s ≡ false
+pub has_none : (s : Sdp) → HasNoMessage s → has_message s ≡ false
 has_none s none =
     let session = no_message s.session none.session in
     let media = none_of_media s.media none.media in
@@ -235,15 +235,15 @@ find_true test (y ∷ ys) x e = go (find_true test ys x) (test y) refl e
     go rest true is e = subst (λ z. test z ≡ true) (some_is y x e) is
     go rest false is e = rest e
 
-bind_is : {A B : Type 0} (r : Result A SdesFault) (f : A → Result B SdesFault) (y : B) → lines.◌>>=◌ r f ≡ Ok y → (x : A) × (r ≡ Ok x) × (f x ≡ Ok y)
+pub bind_is : {A B : Type 0} (r : Result A SdesFault) (f : A → Result B SdesFault) (y : B) → lines.◌>>=◌ r f ≡ Ok y → (x : A) × (r ≡ Ok x) × (f x ≡ Ok y)
 bind_is (Ok x) f y e = (x, refl, e)
 bind_is (Err c) f y e = absurd cc
 
-or_line_is : {A : Type 0} (fault : SdesFault) (o : Option A) (x : A) → lines.or_fault fault o ≡ Ok x → o ≡ Some x
+pub or_line_is : {A : Type 0} (fault : SdesFault) (o : Option A) (x : A) → lines.or_fault fault o ≡ Ok x → o ≡ Some x
 or_line_is fault None x e = absurd cc
 or_line_is fault (Some y) x e = ap Some (ok_is y x e)
 
-if_same : {A : Type 0} (b : Bool) (x y : A) (f : SdesFault) → cond b (Ok x) (Err f) ≡ Ok y → x ≡ y
+pub if_same : {A : Type 0} (b : Bool) (x y : A) (f : SdesFault) → cond b (Ok x) (Err f) ≡ Ok y → x ≡ y
 if_same true x y f e = ok_is x y e
 if_same false x y f e = absurd cc
 

@@ -1,6 +1,12 @@
 mod Audited
+mod Held
+mod Ids
 mod Keys
 mod Leaving
+mod Lists
 mod Losing
+mod Offers
+mod Opened
 mod Stay
+mod Texts
 mod There

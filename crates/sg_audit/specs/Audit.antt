@@ -2,6 +2,7 @@
 use Rattle.std.specs.Prelude.{◌≡◌, ◌<◌, ◌≤◌, ◌-◌, ◌%◌, ℕ, Bool, List, [], ◌∷◌}
 use Rattle.std.specs.List.{All, AllPairs, Any, flat_map}
 use Rattle.sg_base.specs.declared.addresses.Address.{Address}
+use Rattle.sg_base.specs.declared.addresses.Kind.TheVariants.{Rtp}
 use Rattle.sg_gateway.specs.Datagrams.{Entry}
 use Rattle.sg_gateway.specs.Octets.{Octets}
 use Rattle.sg_gateway.specs.Step.{Datagram}
@@ -15,20 +16,22 @@ use Rattle.sg_audit.specs.Seen.{IsSealing, LeavesByPlain, LeavesBySecure, Open, 
 
 -- ---- acts
 
--- the act opened this datagram, which is the sealing of its packet under its key, with a tag of 4 or 10 octets (of RTCP 10)
-abbrev pub Unseals : Entry → List ℕ → Type 0
-Unseals e d = (e.session.owner.direction ≡ Opening)
-    × ((on : Bool) × (tag_len : ℕ) × IsTagLength e.session.kind tag_len × IsSealing e.session.kind on tag_len e.key.master e.key.mki e.done.ssrc e.done.index e.done.packet d)
+-- The act opened this datagram, which is the sealing of its packet under its key, as this session seals: with its length of tag, and
+-- of RTP encrypted where it encrypts. RTCP says of itself whether it is encrypted (RFC 3711, 3.4).
+abbrev pub Unseals : Open → Entry → List ℕ → Type 0
+Unseals o e d = (e.session.owner.direction ≡ Opening)
+    × ((on : Bool) × (e.session.kind ≡ Rtp → on ≡ o.encrypts) × IsSealing e.session.kind on o.tag_len e.key.master e.key.mki e.done.ssrc e.done.index e.done.packet d)
 
--- the act sealed this packet, encrypted where it says so, and this is the sealing
-abbrev pub Seals : Entry → List ℕ → List ℕ → Type 0
-Seals e p d = (e.session.owner.direction ≡ Sealing) × (e.done.packet ≡ p)
-    × ((tag_len : ℕ) × IsTagLength e.session.kind tag_len × IsSealing e.session.kind e.encrypts tag_len e.key.master e.key.mki e.done.ssrc e.done.index e.done.packet d)
+-- the act sealed this packet, and this is the sealing, with this session's length of tag and encrypted where it encrypts
+abbrev pub Seals : Open → Entry → List ℕ → List ℕ → Type 0
+Seals o e p d = (e.session.owner.direction ≡ Sealing) × (e.done.packet ≡ p) × (e.encrypts ≡ o.encrypts)
+    × IsSealing e.session.kind e.encrypts o.tag_len e.key.master e.key.mki e.done.ssrc e.done.index e.done.packet d
 
 -- ---- the promises
 
 -- A packet left by this port for the one datagram that came, by one act, under a key of a session that was open: by a plain port
 -- what that datagram seals, to the session's plain side; by a secure one the sealing of what that datagram is, to its secure side.
+-- Tags have 4 or 10 octets, those of RTCP 10 (4.2; RFC 4568, 6.2).
 pub record LeavesFor (x : Seen) (port : ℕ) (to : Address) (octets : List ℕ) : Type 0 where
   pub at : ℕ
   pub from : Address
@@ -40,9 +43,10 @@ pub record LeavesFor (x : Seen) (port : ℕ) (to : Address) (octets : List ℕ) 
   pub is_open : Any (λ o. o ≡ session) x.sessions
   pub name : session.name ≡ act.session
   pub keyed : Any (λ k. k ≡ act.key) session.keys
+  pub tags : IsTagLength session.name.kind session.tag_len
   pub alone : x.told ≡ Out port to octets ∷ []
-  pub plain : 2 ≤ (port - 20000) % 4 → Unseals act datagram.items × (act.done.packet ≡ octets) × LeavesByPlain x.told session octets
-  pub secure : (port - 20000) % 4 < 2 → Seals act datagram.items octets × LeavesBySecure x.told session octets
+  pub plain : 2 ≤ (port - 20000) % 4 → Unseals session act datagram.items × (act.done.packet ≡ octets) × LeavesByPlain x.told session octets
+  pub secure : (port - 20000) % 4 < 2 → Seals session act datagram.items octets × LeavesBySecure x.told session octets
 
 abbrev pub NothingForged : List Seen → Type 0
 NothingForged seen = All (λ x. (port : ℕ) (to : Address) (octets : List ℕ) → Any (λ o. o ≡ Out port to octets) x.told → LeavesFor x port to octets) seen

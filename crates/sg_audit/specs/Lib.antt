@@ -1,5 +1,6 @@
 pub mod Agreed
 pub mod Audit
+pub mod Offers
 pub mod Pages
 pub mod Reached
 pub mod Seen

@@ -3,6 +3,7 @@ use Rattle.std.specs.Prelude.{◌≡◌, ◌⊎◌, ℕ, ◌+◌, Bool, List, []
 use Rattle.std.specs.List.{flat_map}
 use Rattle.sg_base.specs.Keys.{Master}
 use Rattle.sg_base.specs.declared.addresses.Address.{Address}
+use Rattle.sg_base.specs.declared.addresses.CallId.{CallId}
 use Rattle.sg_base.specs.declared.addresses.Kind.{Kind}
 use Rattle.sg_base.specs.declared.addresses.Kind.TheVariants.{Rtp, Rtcp}
 use Rattle.sg_base.specs.declared.sources.Admit.{Admit}
@@ -19,10 +20,11 @@ use Rattle.sg_session.specs.Sealed.{sealed_text}
 use Rattle.sg_session.specs.Session.{Key, Session}
 use Rattle.sg_session.specs.declared.names.Name.{Name}
 
--- A session that is open: its name (call, medium, generation, direction and kind) and its keys; its replay window, its starting
--- rollover, which sources it admits, whether it encrypts RTP, and the octets of its tags; its call's slot, from which its ports
--- come; and the addresses of its two ends.
+-- A session that is open: the id of its call, its name (number of the call, medium, generation, direction and kind) and its keys; its
+-- replay window, its starting rollover, which sources it admits, whether it encrypts RTP, and the octets of its tags; its call's
+-- slot, from which its ports come; and the addresses of its two ends.
 pub record Open : Type 0 where
+  pub id : CallId
   pub name : Name
   pub keys : List Key
   pub window : ℕ
@@ -67,6 +69,7 @@ LeavesBySecure told o octets = LeavesBy told o.name.kind (secure_port_of Rtp o.s
 
 abbrev pub open_of : Call → Session → Open
 open_of c s = record {
+  id = c.id;
   name = s.name;
   keys = s.keys;
   window = s.window;

@@ -26,12 +26,15 @@ pub fn the_audit_holds()
     offers_fit_their_calls();
 }
 
-/// After an answer that is told as live, the sessions of each medium that takes part are open when the next thing comes.
+/// After an answer that is told as live, the call's sessions of each medium that takes part in its open offer and in the answer are
+/// open when the next thing comes, under a newer generation (RFC 3264, 4).
 pub fn sessions_are_open()
     ensures { (events : List Event) (passages : List Passage) → ArePassagesOf events passages → SessionsAreOpen (map seen_of passages) }
 {
     sg_conduct::answers_have_sessions();
     sg_gateway::answers_are_by_their_texts();
+    sg_gateway::calls_in_order();
+    sg_gateway::signals_are_carried_out();
 }
 
 /// Each session that is open is so when the next thing comes, unless a tick, an answer or a bye came.
@@ -39,14 +42,19 @@ pub fn open_sessions_stay()
     ensures { (events : List Event) (passages : List Passage) → ArePassagesOf events passages → OpenSessionsStay (map seen_of passages) }
 {
     sg_conduct::sessions_stay_open();
+    sg_gateway::calls_in_order();
 }
 
-/// Each session that is open is under keys of a manual line, of crypto lines of texts, or of an exchange of MIKEY messages.
+/// Each session that is open is under keys of a manual line of its call, or, of an answer of its call and the offer that this closed,
+/// under crypto lines of their texts or keys of their MIKEY messages (RFC 4568, RFC 3830).
 pub fn keys_are_agreed()
     ensures { (events : List Event) (passages : List Passage) → ArePassagesOf events passages → KeysAreOf (map seen_of passages) }
 {
     sg_gateway::answers_are_by_their_texts();
+    sg_gateway::calls_in_order();
     sg_gateway::sessions_stay_what_they_were_made();
+    sg_gateway::signals_are_carried_out();
+    sg_conduct::other_calls_stay();
 }
 
 /// All of the auditor's pages hold of every run.

@@ -315,7 +315,7 @@ module _ (w : World) (calls : Members) (id : CallId) (mates : AreMates calls) (n
 
 -- ---- a run
 
-said_lasts : HasCount → (w : World) (calls : Members) → StaysOrderly w → AreMates calls → Knows w calls → AreNamed calls → (s : Said) → Lasts calls s (bridging w calls s)
+pub said_lasts : HasCount → (w : World) (calls : Members) → StaysOrderly w → AreMates calls → Knows w calls → AreNamed calls → (s : Said) → Lasts calls s (bridging w calls s)
 said_lasts count w calls stays mates knows named (Happens (Signalled signal)) =
     let holds = signal_holds count w calls (stays []) mates knows.known knows.begun signal (stays (Signalled signal ∷ [])) in
     let does = told_does calls (step w (Signalled signal)).outcomes mates named holds.2 in
@@ -356,7 +356,7 @@ each_lasts count w calls (s ∷ ss) stays mates knows named =
       each_lasts count (bridging w calls s).world (bridging w calls s).calls ss goes.1 (is_step.1 mates) goes.0 lasts.named,
     )
 
-nobody_named : AreNamed no_members
+pub nobody_named : AreNamed no_members
 nobody_named s id x is = let k = tied_some (member_at no_members s) id x is in absurd (none_some _ (sym (nobody_known.known s) ∙ ap (option_map seen_in) k.1))
 
 pub all_last : HasCount → ((es : List Event) → IsOrderly (world_after empty es)) → (said : List Said) → AllLines PairsLast said (bridgings_from empty no_members said)

@@ -12,7 +12,9 @@ mod Loops
 mod Lost
 mod LostLines
 mod Mates
+mod OutcomeLines
 mod PutAt
 mod Stepped
+mod Telling
 mod Ties
 mod Unjoined

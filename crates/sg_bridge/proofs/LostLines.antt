@@ -8,14 +8,14 @@ use Rattle.sg_bridge.specs.declared.outcomes.BridgeOutcome.TheVariants as tells
 use Rattle.sg_outcome.specs.OutcomeText.{drop_cause_name, drop_cause_numbers, outcome_line}
 use Rattle.sg_outcome.specs.declared.outcomes.Outcome.TheVariants.{Dropped}
 
-abbrev behind : ℕ → DropCause → List ℕ
+abbrev pub behind : ℕ → DropCause → List ℕ
 behind port cause = decimal port ++ codes " " ++ drop_cause_name cause ++ drop_cause_numbers cause ++ codes "\n"
 
-drop_is : (port : ℕ) (cause : DropCause) → outcome_line (Dropped port cause) ≡ codes "drop " ++ behind port cause
+pub drop_is : (port : ℕ) (cause : DropCause) → outcome_line (Dropped port cause) ≡ codes "drop " ++ behind port cause
 unfolding outcome_line
 drop_is port cause = refl
 
-lost_is : (port : ℕ) (cause : DropCause) → bridge_outcome_line (tells.Lost port cause) ≡ codes "lost " ++ behind port cause
+pub lost_is : (port : ℕ) (cause : DropCause) → bridge_outcome_line (tells.Lost port cause) ≡ codes "lost " ++ behind port cause
 unfolding bridge_outcome_line
 lost_is port cause = refl
 

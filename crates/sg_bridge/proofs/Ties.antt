@@ -207,6 +207,13 @@ still_does calls after o same = record {
   parted = λ first second is. absurd (none_some _ is);
 }
 
+-- the call in a slot ends, and with it this pair, which was in force; all others stay so
+pub record EndsPairAt (calls after : Members) (id : CallId) (slot : ℕ) (p : Pair) : Type 0 where
+  pub party : IsPartyOf p id slot
+  pub on : InForce calls p
+  pub off : InForce after p → ⊥
+  pub others : (x : Pair) → InForce calls x → InForce after x ⊎ (x ≡ p)
+
 pub none_joined : (m : Option Member) → joined_pair m ≡ None → (id : CallId) (x : Pair) → option_map tie_of m ≡ tied id x → ⊥
 none_joined m none id x is = let k = tied_some m id x is in none_some x (sym none ∙ ap joined_pair k.1 ∙ k.3)
 
@@ -278,6 +285,14 @@ module _ (calls : Members) (id : CallId) (slot media : ℕ) (why : Rattle.sg_out
             let a : p.first.id ≡ first = cc in
             let b : p.second.id ≡ second = cc in
             subst (λ i. Unties calls (set (parted p calls) slot None) i second) a (subst (λ j. Unties calls (set (parted p calls) slot None) p.first.id j) b (parts_it calls (set (parted p calls) slot None) p on free same))
+
+    pub ends_pair : EndsPairAt calls (set (parted p calls) slot None) id slot p
+    ends_pair = record {
+      party = party;
+      on = on;
+      off = λ still. free p.first.slot (inl refl) p.first.id p still.0;
+      others = parts_kept calls (set (parted p calls) slot None) p on free same;
+    }
 
   pub ended_does : Does calls ended (emptied slot calls)
   ended_does = go (joined_pair (member_at calls slot)) refl

@@ -5,6 +5,7 @@ use Rattle.sg_bridge.specs.Calls.{EachIsAsTold, EachJoinsAndPartsSo, MembersAreT
 use Rattle.sg_bridge.specs.Happening.{EachComesBehind, EachLineHappens}
 use Rattle.sg_bridge.specs.Lasting.{EachPairLasts}
 use Rattle.sg_bridge.specs.Lost.{EachLostIsRefused, EachOpenedIsSettled}
+use Rattle.sg_bridge.specs.Telling.{EachSignalIsTold}
 
 pub record BridgeHolds (said : List Said) : Type 0 where
   -- at the plain ports of a joined call nothing is told as put out
@@ -27,5 +28,7 @@ pub record BridgeHolds (said : List Said) : Type 0 where
   pub pairs : EachPairLasts said
   -- each line's event happens, but for a datagram at a plain port of a joined call
   pub lines : EachLineHappens said
+  -- of a signal all that the gateway tells is told, with the pairs that end by it, and nothing more
+  pub signals : EachSignalIsTold said
   -- each line comes to the world and the pairs that the lines before it have left
   pub behind : EachComesBehind said

@@ -1,17 +1,22 @@
 //! What is so of every run of a bridge.
 
-ghost use Rattle.std.specs.Prelude.{List};
+ghost use Rattle.std.specs.Prelude.{◌≡◌, ◌↔◌, ◌≤◌, ℕ, List, Some, length};
 ghost use Rattle.sg_bridge.specs.BridgeHolds.{BridgeHolds};
+ghost use Rattle.sg_bridge.specs.BridgeOutcomeOf.{FitsBridgeOutcome, bridge_outcome_of};
+ghost use Rattle.sg_bridge.specs.BridgeText.{bridge_outcome_line};
 ghost use Rattle.sg_bridge.specs.Bridged.{EachCrossingIsSealed, EachGoesBothWays, JoinedStayInside, Said};
 ghost use Rattle.sg_bridge.specs.Calls.{EachIsAsTold, EachJoinsAndPartsSo, MembersAreTheCalls};
 ghost use Rattle.sg_bridge.specs.Happening.{EachComesBehind, EachLineHappens};
 ghost use Rattle.sg_bridge.specs.Lasting.{EachPairLasts};
 ghost use Rattle.sg_bridge.specs.Lost.{EachLostIsRefused, EachOpenedIsSettled};
+ghost use Rattle.sg_bridge.specs.Telling.{EachSignalIsTold};
 ghost use Rattle.sg_bridge.specs.Unjoined.{IsToldAsItIs};
+ghost use Rattle.sg_bridge.specs.declared.outcomes.BridgeOutcome.{BridgeOutcome};
 ghost use Rattle.sg_gateway.specs.Step.{Event};
 
 use sg_agreement::offers_fit_their_calls;
 use sg_gateway::calls_in_order;
+use sg_outcome::outcomes_have_one_spelling;
 
 /// Nothing is told as put out on a plain port of a joined call. What is told as put out on a secure port of one was opened
 /// in the other call of its pair, at the plain port of the same medium and kind, by the event right before; and its octets
@@ -67,13 +72,21 @@ pub fn unjoined_calls_are_told_as_they_are()
 {}
 
 /// Each line's event happens, but for a datagram at a plain port of a joined call, which is dropped; and where a datagram opens
-/// nothing for a joined call, what the gateway tells of it is told, and nothing more happens. What is told of a signal isn't
-/// said here. Each line is handled in the world that the events of the lines before it have made, with the pairs that they
-/// have left.
+/// nothing for a joined call, what the gateway tells of it is told, and nothing more happens. Each line is handled in the world
+/// that the events of the lines before it have made, with the pairs that they have left.
 pub fn each_line_happens()
     ensures lines { (said : List Said) → EachLineHappens said }
     ensures worlds { (said : List Said) → EachComesBehind said }
 {}
+
+/// Of a signal each thing is told that the gateway tells of it, in order; right behind the end of a call of a pair that was in
+/// force it is told, once, that this pair is parted; and nothing more is told.
+pub fn signals_are_told()
+    ensures { (said : List Said) → EachSignalIsTold said }
+{
+    calls_in_order();
+    offers_fit_their_calls();
+}
 
 /// All of these of every run, but for the one of unjoined calls.
 pub fn the_bridge_holds()
@@ -86,4 +99,12 @@ pub fn the_bridge_holds()
     joins_have_their_causes();
     pairs_last_until_parted();
     each_line_happens();
+    signals_are_told();
+}
+
+/// A line is read exactly where it has at most 70,000 octets and an outcome is spelled so, as that outcome.
+pub fn bridge_outcomes_have_one_spelling()
+    ensures { (line : List ℕ) (o : BridgeOutcome) → (bridge_outcome_of line ≡ Some o) ↔ (FitsBridgeOutcome o × (line ≡ bridge_outcome_line o) × (length line ≤ 70000)) }
+{
+    outcomes_have_one_spelling();
 }

@@ -87,6 +87,7 @@ module _ (old now : ReplayTellings) (taken drawn : List ℕ) (said : List Said) 
     split = refl;
     one = inr refl;
     near = near;
+    sound = all_lines.stops;
     begun = ([], all_lines.told ∙ sym (append-nil (bridge_text (bridge_trace taken drawn).said)));
     within = ([], ap (λ (o : List ℕ). bridge_text (bridge_trace o drawn).said) (append-nil taken) ∙ sym all_lines.told ∙ sym (append-nil (bridge_text said)));
   }
@@ -152,6 +153,7 @@ module _ (old now : ReplayTellings) (taken drawn : List ℕ) (said : List Said) 
           split = ap (λ (o : List ℕ). taken ++ o) read.split;
           one = inl read.whole;
           near = subst (λ (o : List ℕ). length o ≤ 74097) read.split near;
+          sound = ap (λ (t : BridgeTrace). t.stop) (lines_are draws);
           begun = (out, ap (λ (t : List ℕ). t ++ out) (sym (lines_told draws)));
           within = prefix_so (taken ++ read.line) (drawn ++ draws) said cut.said rest.0 out (line_is draws ∙ ap (with_said said) rest.1 ∙ with_said_again said cut.said rest.0) cut.told;
         }

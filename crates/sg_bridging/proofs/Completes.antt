@@ -52,6 +52,6 @@ untouched old = record {
   took = took_none old.left;
   drew = added_none old.drawn;
   wrote = wrote_none old.written;
-  ends = record { lines = []; line = []; ahead = []; split = refl; one = inr refl; near = omega arith; begun = ([], refl); within = ([], refl) };
+  ends = record { lines = []; line = []; ahead = []; split = refl; one = inr refl; near = omega arith; sound = refl; begun = ([], refl); within = ([], refl) };
   bound = omega arith;
 }

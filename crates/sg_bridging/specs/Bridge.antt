@@ -89,8 +89,9 @@ pub record AreBridged (octets draws out : List ℕ) : Type 0 where
   pub unended : NoEnd part
   pub all : IsWholeBridge lines draws out BehindAll
 
--- Of the octets that were read these lines were told, then this line was under way, and those octets were ahead: with that
--- line, a line and what the buffer holds at most. Of what the line under way tells a prefix was written.
+-- Of the octets that were read these lines, which have no fault and need no more noise, were told, then this line was under
+-- way, and those octets were ahead: with that line, a line and what the buffer holds at most. Of what the line under way tells
+-- a prefix was written.
 pub record IsCutBridge (octets draws out : List ℕ) : Type 0 where
   pub lines : List ℕ
   pub line : List ℕ
@@ -98,6 +99,7 @@ pub record IsCutBridge (octets draws out : List ℕ) : Type 0 where
   pub split : octets ≡ lines ++ (line ++ ahead)
   pub one : IsWhole line ⊎ (line ≡ [])
   pub near : length (line ++ ahead) ≤ 74097
+  pub sound : (bridge_trace lines draws).stop ≡ BehindAll
   pub begun : IsPrefixOf (bridge_text (bridge_trace lines draws).said) out
   pub within : IsPrefixOf out (bridge_text (bridge_trace (lines ++ line) draws).said)
 

@@ -93,9 +93,7 @@ fn add_sealing(
     }
 }
 
-/// Adds the routes of a medium: those that open, then those that seal, RTP before RTCP. They are two to four. It isn't
-/// inlined, so that its frame, some 30 KB, is no part of a caller's.
-#[inline(never)]
+/// Adds the routes of a medium: those that open, then those that seal, RTP before RTCP. They are two to four.
 fn add_medium(slot: u8, spec: MediaSpec, routes: &mut Vec<Route>)
     requires room { vec_len routes.old + 4 ≤ vec_capacity routes.old }
     ensures adds { Adds slot (planned_in spec) routes.old.items routes.new.items }
@@ -117,7 +115,8 @@ fn add_medium(slot: u8, spec: MediaSpec, routes: &mut Vec<Route>)
     add_sealing(slot, medium, seal_rtcp, secure, plain, routes);
 }
 
-/// Adds the routes of all media of a generation, four at most of each. It isn't inlined either.
+/// Adds the routes of all media of a generation, four at most of each. It isn't inlined, so that its frame, some 30 KB,
+/// is no part of a caller's.
 #[inline(never)]
 pub(crate) fn add_all(slot: u8, specs: Vec<MediaSpec>, routes: &mut Vec<Route>)
     requires room { vec_len routes.old + 4 * length specs.items ≤ vec_capacity routes.old }

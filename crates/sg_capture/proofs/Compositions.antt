@@ -6,8 +6,8 @@ use Rattle.sg_base.specs.declared.faults.ScriptFault.{ScriptFault}
 use Rattle.sg_base.specs.declared.faults.ScriptFault.TheVariants.{Word, Number, Hex, Length, Version, Unended}
 use Rattle.sg_capture.proofs.Captureds.{captured_at}
 use Rattle.sg_capture.proofs.Outputs.{happens_events, happens_output, output_of-append}
-use Rattle.sg_capture.specs.Capturing.{CaptureEnds, IsBehindScript, IsCapture, IsCompleteCapture, IsWholeCapture}
-use Rattle.sg_capture.specs.Meeting.{EndsReading, all_behind}
+use Rattle.sg_capture.specs.Capturing.{CaptureEnds, IsAllTold, IsBehindScript, IsCapture, IsCompleteCapture, IsCutCapture, IsWholeCapture}
+use Rattle.sg_capture.specs.Meeting.{EndsReading, IsCutReading, all_behind}
 use Rattle.sg_edge.proofs.Links.{added_none}
 use Rattle.sg_edge.proofs.Passed.{took_more, took_none, wrote_more, wrote_none}
 use Rattle.sg_edge.specs.Told.{AtEnd, TookIn, Wrote}
@@ -18,8 +18,8 @@ use Rattle.sg_pcap.specs.Capture.{Capture, capture_of}
 use Rattle.sg_pcap.specs.declared.faults.CaptureFault.{CaptureFault}
 use Rattle.sg_pcap.specs.declared.faults.CaptureFault.TheVariants as capture_faults
 use Rattle.sg_playback.specs.Replay.{ReplayTellings}
-use Rattle.sg_trace.specs.Captured.{CaptureStop, CaptureTrace, Happens, InCapture, InScript, capture_occurs, captured, output_of, then_capture}
-use Rattle.sg_trace.specs.Output.{IsPrefixOf, output}
+use Rattle.sg_trace.specs.Captured.{CaptureStop, CaptureTrace, Happens, Occurrence, InCapture, InScript, capture_occurs, captured, output_of, then_capture}
+use Rattle.sg_trace.specs.Output.{output}
 use Rattle.sg_trace.specs.Reading.{Reading}
 use Rattle.sg_trace.specs.Trace.{AtCapture, AtFault, Trace, drawing, stopped, with_events}
 use Rattle.sg_trace.specs.declared.status.Status.{Status}
@@ -62,11 +62,29 @@ module _ (old mid new : ReplayTellings) (script : Reading) (stands_for : World �
         told = (λ i. so_far.told i ++ told i) ∙ sym (told_so (script.waits ++ got));
       })
 
-  prefix_so : IsPrefixOf out' (output_of (world_after empty so_far.events) (all_behind [] last (capture_of most (script.waits ++ got)))) → IsPrefixOf (out ++ out') (output_of empty (captured (octets ++ got) draws).occurrences)
-  prefix_so part = (
-    part.0,
-    ap (λ (o : List ℕ). output_of empty (captured o draws).occurrences) all_octets ∙ told_so (script.waits ++ got) ∙ (λ i. sym so_far.told i ++ part.1 i) ∙ sym (append_assoc out out' part.0),
-  )
+  front_so : (os : List Occurrence) → output_of empty (map Happens so_far.events ++ os) ≡ out ++ output_of (world_after empty so_far.events) os
+  front_so os =
+      output_of-append empty (map Happens so_far.events) os
+      ∙ (λ i. (happens_output empty so_far.events ∙ sym so_far.told) i ++ output_of (world_after empty (happens_events so_far.events i)) os)
+
+  cut_so : IsCutReading (world_after empty so_far.events) [] last (capture_of most) (script.waits ++ got) out' → IsCutCapture (octets ++ got) draws (out ++ out')
+  cut_so cut =
+      let events : List Occurrence = map Happens so_far.events in
+      let all : output_of empty ((events ++ cut.told) ++ cut.late) ≡ out ++ output_of (world_after empty so_far.events) (cut.told ++ cut.late) = ap (output_of empty) (append_assoc events cut.told cut.late) ∙ front_so (cut.told ++ cut.late) in record {
+        played = so_far.lines ++ cut.played;
+        ahead = cut.ahead;
+        split = all_octets ∙ ap (λ (l : List ℕ). so_far.lines ++ l) cut.split ∙ sym (append_assoc so_far.lines cut.played cut.ahead);
+        near = cut.near;
+        told = events ++ cut.told;
+        late = cut.late;
+        alike = told_so cut.played ∙ (λ i. sym so_far.told i ++ output_of (world_after empty so_far.events) (cut.all i)) ∙ sym all;
+        few = cut.few;
+        begun = (
+          cut.begun.0,
+          ap (λ (o : List ℕ). out ++ o) cut.begun.1 ∙ sym (append_assoc out (output_of (world_after empty so_far.events) cut.told) cut.begun.0) ∙ ap (λ (o : List ℕ). o ++ cut.begun.0) (sym (front_so cut.told)),
+        );
+        within = (cut.within.0, all ∙ ap (λ (o : List ℕ). out ++ o) cut.within.1 ∙ sym (append_assoc out out' cut.within.0));
+      }
 
   ends_so : (status : Status) → EndsReading status (world_after empty so_far.events) [] last (capture_of most) (script.waits ++ got) out' new.left → CaptureEnds status (octets ++ got) draws (out ++ out') new.left
   ends_so statuses.Done ends = (inr (whole_so None ends.1 ends.0), ends.2)
@@ -77,15 +95,15 @@ module _ (old mid new : ReplayTellings) (script : Reading) (stands_for : World �
         ap (λ (o : List ℕ). (captured o draws).stop) (ap (λ (l : List ℕ). l ++ more) all_octets ∙ append_assoc so_far.lines (script.waits ++ got) more)
         ∙ ap (λ (t : CaptureTrace). t.stop) (captured_is ((script.waits ++ got) ++ more)) ∙ ap InCapture (ends.still other more),
   )
-  ends_so statuses.Read ends = prefix_so ends
-  ends_so statuses.Write ends = prefix_so ends
-  ends_so statuses.NoMemory ends = prefix_so ends
-  ends_so statuses.Usage ends = absurd ends
-  ends_so (statuses.Script n fault) ends = absurd ends
-  ends_so statuses.Link ends = absurd ends
-  ends_so statuses.Clock ends = absurd ends
-  ends_so statuses.Noise ends = absurd ends
-  ends_so statuses.TurnsSpent ends = absurd ends
+  ends_so statuses.Read ends =
+      subst (λ (o : List ℕ). IsAllTold o draws (out ++ out')) (sym all_octets)
+      (record {
+        left = ap (λ (t : CaptureTrace). t.left) (captured_is (script.waits ++ got));
+        told = (λ i. so_far.told i ++ ends i) ∙ sym (told_so (script.waits ++ got));
+      })
+  ends_so statuses.Write ends = cut_so ends
+  ends_so statuses.NoMemory ends = cut_so ends
+  ends_so other ends = absurd ends
 
   pub composed : (status : Status) → EndsReading status (world_after empty so_far.events) [] last (capture_of most) (script.waits ++ got) out' new.left → IsCapture status old new (octets ++ got) draws (out ++ out')
   composed status ends =
@@ -147,10 +165,7 @@ complete (statuses.Capture offset fault) old new octets draws out run a b c = λ
 complete statuses.Read old new octets draws out run a b c = absurd (a refl)
 complete statuses.Write old new octets draws out run a b c = absurd (b refl)
 complete statuses.Noise old new octets draws out run a b c = absurd (c refl)
-complete statuses.Usage old new octets draws out run a b c = absurd run.ends
-complete statuses.Link old new octets draws out run a b c = absurd run.ends
-complete statuses.Clock old new octets draws out run a b c = absurd run.ends
-complete statuses.TurnsSpent old new octets draws out run a b c = absurd run.ends
+complete other old new octets draws out run a b c = absurd run.ends
 
 -- nothing was done
 pub untouched : (old : ReplayTellings) → IsCapture statuses.NoMemory old old [] [] []
@@ -158,6 +173,17 @@ untouched old = record {
   took = took_none old.left;
   drew = added_none old.drawn;
   wrote = wrote_none old.written;
-  ends = (output_of empty (captured [] []).occurrences, refl);
+  ends = record {
+    played = [];
+    ahead = [];
+    split = refl;
+    near = omega arith;
+    told = [];
+    late = [];
+    alike = refl;
+    few = omega arith;
+    begun = ([], refl);
+    within = ([], refl);
+  };
   bound = omega arith;
 }

@@ -1,5 +1,5 @@
 -- How what a record gives is handled, part by part.
-use Rattle.std.proofs.Common.{◌≡◌, ◌≤◌, ◌<◌, ℕ, ltb, List, [], ◌∷◌, ◌++◌, length, take, map, Option, Result, Ok, Err, refl, sym, ap, ◌∙◌, subst, inl, inr, append_assoc, arith}
+use Rattle.std.proofs.Common.{◌≡◌, ◌≤◌, ◌<◌, ℕ, ltb, List, [], ◌∷◌, ◌++◌, length, take, map, Option, Result, Ok, Err, OnOk, refl, sym, ap, ◌∙◌, subst, inl, inr, append_assoc, arith}
 use Rattle.std.specs.Prelude.{min}
 use Rattle.std.proofs.Math.Seq.{take-length}
 use Rattle.std.proofs.lemmas.Bool.{cases_lt, cond-false, cond-true, le-ltb, lt-ltb}
@@ -147,3 +147,12 @@ take_counted n xs = elim (cases_lt n (length xs)) [
 pub on_ok : (r : Result (Unit {0}) Status) (P : Type 0) → Rattle.std.specs.Prelude.OnOk r P → r ≡ Ok tt → P
 on_ok (Ok u) P is same = is
 on_ok (Err e) P is same = absurd (let other : (let r : Result (Unit {0}) Status = Err e in r ≡ Ok tt) = same in cc)
+
+-- nothing waits behind a tick, nor behind what is settled
+pub few_of : {A : Type 0} (r : Result (Unit {0}) Status) (xs : List A) → OnOk r (xs ≡ []) → OnOk r (length xs ≤ 256)
+few_of (Ok u) xs none = omega (arith, ap length none)
+few_of (Err status) xs none = tt
+
+pub few_ok : {A : Type 0} (r : Result (Unit {0}) Status) (xs : List A) → xs ≡ [] → OnOk r (length xs ≤ 256)
+few_ok (Ok u) xs none = omega (arith, ap length none)
+few_ok (Err status) xs none = tt

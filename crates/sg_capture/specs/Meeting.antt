@@ -1,5 +1,5 @@
 -- What playing the records of a capture leaves.
-use Rattle.std.specs.Prelude.{◌≡◌, ℕ, List, ◌++◌, map, Option, Some, None, Result, Ok, Err}
+use Rattle.std.specs.Prelude.{◌≡◌, ◌≤◌, ℕ, List, ◌++◌, length, map, Option, Some, None, Result, Ok, Err}
 use Rattle.sg_edge.specs.Told.{AtEnd}
 use Rattle.sg_front.specs.States.{FrontStandsFor, FrontValue, unshared}
 use Rattle.sg_gateway.specs.Runs.{world_after}
@@ -52,11 +52,25 @@ pub record IsFaultTold (w : World) (waited : List Event) (last : ℕ) (reads : L
   pub ended : fault.1 ≡ Cut → AtEnd left
   pub still : ¬ (fault.1 ≡ Cut) → (more : List ℕ) → (reads (octets ++ more)).fault ≡ Some fault
 
+-- Of the octets that were read these were handled, and those were ahead. What the former give was told but for what came last,
+-- of whose text a prefix was.
+pub record IsCutReading (w : World) (waited : List Event) (last : ℕ) (reads : List ℕ → Capture) (octets out : List ℕ) : Type 0 where
+  pub played : List ℕ
+  pub ahead : List ℕ
+  pub split : octets ≡ played ++ ahead
+  pub near : length ahead ≤ 266256
+  pub told : List Occurrence
+  pub late : List Occurrence
+  pub all : all_behind waited last (reads played) ≡ told ++ late
+  pub few : length late ≤ 258
+  pub begun : IsPrefixOf (output_of w told) out
+  pub within : IsPrefixOf out (output_of w (told ++ late))
+
 -- The status, by the octets of the capture that were read, which `reads` says what they give, and by those written.
 abbrev pub EndsReading : Status → World → List Event → ℕ → (List ℕ → Capture) → List ℕ → List ℕ → Option (List ℕ) → Type 0
 EndsReading statuses.Done w waited last reads octets out left = (out ≡ output_of w (all_behind waited last (reads octets))) × ((reads octets).fault ≡ None) × AtEnd left
 EndsReading (statuses.Capture offset fault) w waited last reads octets out left = IsFaultTold w waited last reads octets (offset, fault) out left
-EndsReading statuses.Read w waited last reads octets out left = IsPrefixOf out (output_of w (all_behind waited last (reads octets)))
-EndsReading statuses.Write w waited last reads octets out left = IsPrefixOf out (output_of w (all_behind waited last (reads octets)))
-EndsReading statuses.NoMemory w waited last reads octets out left = IsPrefixOf out (output_of w (all_behind waited last (reads octets)))
+EndsReading statuses.Read w waited last reads octets out left = out ≡ output_of w (all_behind waited last (reads octets))
+EndsReading statuses.Write w waited last reads octets out left = IsCutReading w waited last reads octets out
+EndsReading statuses.NoMemory w waited last reads octets out left = IsCutReading w waited last reads octets out
 EndsReading other w waited last reads octets out left = ⊥

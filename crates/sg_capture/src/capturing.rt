@@ -1,11 +1,12 @@
 //! The command `capture`: the lines of a script, and then a capture.
 
-ghost use Rattle.std.specs.Prelude.{◌≡◌, ◌≤◌, ◌+◌, ◌^◌, ℕ, List, [], OnOk};
+ghost use Rattle.std.specs.Prelude.{◌≡◌, ◌⊎◌, ◌≤◌, ◌+◌, ◌^◌, ℕ, List, [], IsErrOf, OnOk};
 ghost use Rattle.sg_capture.specs.Capturing.{IsCapture, IsCompleteCapture, IsScriptPlayed};
 ghost use Rattle.sg_capture.specs.Meeting.{StandsFor};
 ghost use Rattle.sg_edge.specs.Told.{Rose};
 ghost use Rattle.sg_gateway.specs.World.{empty};
-ghost use Rattle.sg_trace.specs.Causes.{HasFailed, IsCaused};
+ghost use Rattle.sg_trace.specs.Causes.{EndedBy, HasFailed, IsCaused};
+ghost use Rattle.sg_trace.specs.Loop.{IsWant};
 
 use crate::records::play_capture;
 use sg_base::NoMemory;
@@ -18,7 +19,8 @@ use std::thread::Threads;
 
 /// Plays the script of the source, and then the capture behind its line `capture`: its UDP datagrams at the moments of
 /// their records, the first of which has the script's last moment. What they tell is written to the sink, with a line for
-/// each record whose datagram can't be had. Without that line it is a replay by one worker.
+/// each record whose datagram can't be had. Without that line it is a replay by one worker. Where the source fails, all lines
+/// and records that were read are told first.
 pub fn capture<R: Threads + Sync, S: Source, K: Sink, N: Noise, G: Gate + Sync>(
     rt: &R,
     alloc: Global,
@@ -33,7 +35,7 @@ pub fn capture<R: Threads + Sync, S: Source, K: Sink, N: Noise, G: Gate + Sync>(
         (record { left = S.left source.new; written = K.written sink.new; drawn = N.given noise.new })
         octets draws out }
     ensures given { S.given source.new ≤ S.given source.old + (2 ^ 30 + 1) }
-    ensures read { HasFailed (result ≡ Status.Read) (S.faults source.old) (S.faults source.new) (S.failed source.new) }
+    ensures read { EndedBy (result ≡ Status.Read) (IsWant result) (S.faults source.old) (S.faults source.new) (S.failed source.new) }
     ensures write { HasFailed (result ≡ Status.Write) (K.faults sink.old) (K.faults sink.new) (K.failed sink.new) }
     ensures noise { HasFailed (result ≡ Status.Noise) (N.faults noise.old) (N.faults noise.new) (N.failed noise.new) }
     ensures complete { ¬ Rose (S.faults source.old) (S.faults source.new) → ¬ Rose (K.faults sink.old) (K.faults sink.new) → ¬ Rose (N.faults noise.old) (N.faults noise.new)
@@ -63,7 +65,7 @@ fn play_source<R: Threads + Sync, S: Source, K: Sink, N: Noise, G: Gate + Sync>(
         (record { left = S.left source.new; written = K.written sink.new; drawn = N.given noise.new })
         octets draws out }
     ensures given { S.given source.new ≤ S.given source.old + (2 ^ 30 + 1) }
-    ensures read { HasFailed (result ≡ Status.Read) (S.faults source.old) (S.faults source.new) (S.failed source.new) }
+    ensures read { EndedBy (result ≡ Status.Read) (IsWant result) (S.faults source.old) (S.faults source.new) (S.failed source.new) }
     ensures write { HasFailed (result ≡ Status.Write) (K.faults sink.old) (K.faults sink.new) (K.failed sink.new) }
     ensures noise { HasFailed (result ≡ Status.Noise) (N.faults noise.old) (N.faults noise.new) (N.failed noise.new) }
 {
@@ -99,7 +101,7 @@ fn play_lines<R: Threads + Sync, S: Source, K: Sink, N: Noise, G: Gate + Sync>(
         script.new (StandsFor player.new.front) octets draws out }
     ensures none { OnOk result (player.new.waits ≡ []) }
     ensures given { S.given source.new + script.new.budget ≤ S.given source.old + (2 ^ 30 + 1) }
-    ensures read { IsCaused Status.Read result (S.faults source.old) (S.faults source.new) (S.failed source.new) }
+    ensures read { EndedBy (IsErrOf result Status.Read) (IsErrOf result Status.Write ⊎ IsErrOf result Status.NoMemory) (S.faults source.old) (S.faults source.new) (S.failed source.new) }
     ensures write { IsCaused Status.Write result (K.faults sink.old) (K.faults sink.new) (K.failed sink.new) }
     ensures noise { IsCaused Status.Noise result (N.faults noise.old) (N.faults noise.new) (N.failed noise.new) }
 {

@@ -1,6 +1,6 @@
 //! What a record's frame gives.
 
-ghost use Rattle.std.specs.Prelude.{◌≡◌, ◌≤◌, ◌∷◌, [], ℕ, List, IfErr, map};
+ghost use Rattle.std.specs.Prelude.{◌≡◌, ◌≤◌, ◌∷◌, [], ℕ, List, IfErr, OnOk, length, map};
 ghost use Rattle.sg_capture.specs.Meeting.{IsMet, StandsFor};
 ghost use Rattle.sg_edge.specs.Told.{Wrote};
 ghost use Rattle.sg_gateway.specs.World.{World};
@@ -31,9 +31,11 @@ pub(crate) fn come_to<R: Threads + Sync, K: Sink, G: Gate + Sync>(
     sink: &mut K,
     gate: &G,
 ) -> Result<(), Status>
-    requires { moment ≤ 2085978495999 }
+    requires moment { moment ≤ 2085978495999 }
+    requires few { length player.old.waits ≤ 256 }
     ensures met { (w : World) → StandsFor player.old.front w → (out : List ℕ) × Wrote (K.written sink.old) (K.written sink.new) out
         × IsMet result w (waiting player.old) (waiting player.new) (map Happens (ticks_at top moment)) (StandsFor player.new.front) out }
+    ensures few { OnOk result (length player.new.waits ≤ 256) }
     ensures write { IsCaused Status.Write result (K.faults sink.old) (K.faults sink.new) (K.failed sink.new) }
 {
     if moment <= top {
@@ -52,8 +54,10 @@ pub(crate) fn play_frame<R: Threads + Sync, K: Sink, G: Gate + Sync>(
     sink: &mut K,
     gate: &G,
 ) -> Result<(), Status>
+    requires { length player.old.waits ≤ 256 }
     ensures met { (w : World) → StandsFor player.old.front w → (out : List ℕ) × Wrote (K.written sink.old) (K.written sink.new) out
         × IsMet result w (waiting player.old) (waiting player.new) (frame_occurs number (frame_of frame.now)) (StandsFor player.new.front) out }
+    ensures few { OnOk result (length player.new.waits ≤ 256) }
     ensures write { IsCaused Status.Write result (K.faults sink.old) (K.faults sink.new) (K.failed sink.new) }
 {
     match read_frame(frame) {
@@ -78,6 +82,7 @@ fn tell_skip<R: Threads + Sync, K: Sink, G: Gate + Sync>(
 ) -> Result<(), Status>
     ensures met { (w : World) → StandsFor player.old.front w → (out : List ℕ) × Wrote (K.written sink.old) (K.written sink.new) out
         × IsMet result w (waiting player.old) (waiting player.new) (Skipped number cause ∷ []) (StandsFor player.new.front) out }
+    ensures few { OnOk result (length player.new.waits ≤ 256) }
     ensures write { IsCaused Status.Write result (K.faults sink.old) (K.faults sink.new) (K.failed sink.new) }
 {
     match player.settle(rt, alloc, sink, gate) {

@@ -1,12 +1,13 @@
 //! The records of a capture, in order.
 
-ghost use Rattle.std.specs.Prelude.{◌≡◌, ◌≤◌, ◌<◌, ◌+◌, ◌^◌, ◌++◌, ℕ, List, length};
+ghost use Rattle.std.specs.Prelude.{◌≡◌, ◌≤◌, ◌<◌, ◌+◌, ◌^◌, ◌++◌, ℕ, List, OnOk, length};
 ghost use Rattle.sg_capture.specs.Meeting.{EndsReading, IsMet, StandsFor, first_of, record_occurs};
 ghost use Rattle.sg_edge.specs.Told.{TookIn, Wrote};
 ghost use Rattle.sg_gateway.specs.World.{World};
 ghost use Rattle.sg_pcap.specs.Capture.{capture_of, records_in};
 ghost use Rattle.sg_playback.specs.Playing.{waiting};
-ghost use Rattle.sg_trace.specs.Causes.{HasFailed, IsCaused};
+ghost use Rattle.sg_trace.specs.Causes.{EndedBy, HasFailed, IsCaused};
+ghost use Rattle.sg_trace.specs.Loop.{IsWant};
 
 use crate::frames::{come_to, play_frame};
 use crate::progress::Progress;
@@ -31,11 +32,13 @@ pub(crate) fn play_capture<R: Threads + Sync, S: Source, K: Sink, G: Gate + Sync
     requires stands { (w : World) × StandsFor player.old.front w }
     requires start { reader.old.at ≡ 0 }
     requires most { reader.old.most ≤ 2 ^ 30 }
+    requires few { length player.old.waits ≤ 256 }
+    requires near { length reader.old.waits ≤ 4096 }
     ensures ran { (got : List ℕ) × TookIn (S.left source.old) (S.left source.new) got × (length got ≤ reader.old.budget)
         × ((w : World) → StandsFor player.old.front w → (out : List ℕ) × Wrote (K.written sink.old) (K.written sink.new) out
         × EndsReading result w (waiting player.old) player.old.front.table.moment (capture_of reader.old.most) (reader.old.waits ++ got) out (S.left source.new)) }
     ensures given { S.given source.new ≤ S.given source.old + reader.old.budget }
-    ensures read { HasFailed (result ≡ Status.Read) (S.faults source.old) (S.faults source.new) (S.failed source.new) }
+    ensures read { EndedBy (result ≡ Status.Read) (IsWant result) (S.faults source.old) (S.faults source.new) (S.failed source.new) }
     ensures write { HasFailed (result ≡ Status.Write) (K.faults sink.old) (K.faults sink.new) (K.failed sink.new) }
 {
     match reader.header(source) {
@@ -59,11 +62,13 @@ fn play_records<R: Threads + Sync, S: Source, K: Sink, G: Gate + Sync>(
     requires start { 1 ≤ reader.old.at }
     requires within { reader.old.at ≤ reader.old.most }
     requires most { reader.old.most ≤ 2 ^ 30 }
+    requires few { length player.old.waits ≤ 256 }
+    requires near { length reader.old.waits ≤ 4096 }
     ensures ran { (got : List ℕ) × TookIn (S.left source.old) (S.left source.new) got × (length got ≤ reader.old.budget)
         × ((w : World) → StandsFor player.old.front w → (out : List ℕ) × Wrote (K.written sink.old) (K.written sink.new) out
         × EndsReading result w (waiting player.old) player.old.front.table.moment (records_in reader.old.most form reader.old.at) (reader.old.waits ++ got) out (S.left source.new)) }
     ensures given { S.given source.new ≤ S.given source.old + reader.old.budget }
-    ensures read { HasFailed (result ≡ Status.Read) (S.faults source.old) (S.faults source.new) (S.failed source.new) }
+    ensures read { EndedBy (result ≡ Status.Read) (IsWant result) (S.faults source.old) (S.faults source.new) (S.failed source.new) }
     ensures write { HasFailed (result ≡ Status.Write) (K.faults sink.old) (K.faults sink.new) (K.failed sink.new) }
 {
     let last = player.moment();
@@ -107,8 +112,10 @@ fn play_record<R: Threads + Sync, K: Sink, G: Gate + Sync>(
     sink: &mut K,
     gate: &G,
 ) -> Result<(), Status>
+    requires { length player.old.waits ≤ 256 }
     ensures met { (w : World) → StandsFor player.old.front w → (out : List ℕ) × Wrote (K.written sink.old) (K.written sink.new) out
         × IsMet result w (waiting player.old) (waiting player.new) (record_occurs progress.last (first_of progress.first millis) progress.top progress.number (record { millis = millis; frame = frame.now })) (StandsFor player.new.front) out }
+    ensures few { OnOk result (length player.new.waits ≤ 256) }
     ensures write { IsCaused Status.Write result (K.faults sink.old) (K.faults sink.new) (K.failed sink.new) }
 {
     let moment = progress.moment_of(millis);

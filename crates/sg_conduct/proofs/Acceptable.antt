@@ -3,6 +3,7 @@ use Rattle.std.proofs.Common.{◌≡◌, inl, inr, ℕ, ◌+◌, ◌*◌, Bool, 
 use Rattle.std.proofs.lemmas.Bool.{and_from, and_parts, cond-false, cond-true, false_from_ne_true, le-leb, ltb-true, not_from_true, or_from}
 use Rattle.std.specs.List.{AllByRecursion, Any, cons_option, filter_map, find, list_all, list_any}
 use Rattle.std.specs.Option.{is_none, is_some, option_map}
+use Rattle.sg_agreement.proofs.TextLines.{mikey_is}
 use Rattle.sg_agreement.specs.Attributes.{first_of, mikey_octets, mikey_rest, mikey_value}
 use Rattle.sg_agreement.specs.Messages.{AtHand, Bundle, bundle_in, message_in}
 use Rattle.sg_agreement.specs.Refusals.{of_cs, of_message, of_psk, or_refusal}
@@ -30,7 +31,6 @@ use Rattle.sg_session.proofs.Lists.{any_cases, any_none}
 use Rattle.sg_gateway.specs.Authentic.{AreNamesOf}
 use Rattle.sg_gateway.specs.CryptoSessions.{Carries, IsFirst}
 use Rattle.sg_gateway.specs.World.{Books}
-use Rattle.sg_conduct.proofs.Drawn.{mikey_is}
 use Rattle.sg_conduct.specs.Offers.{AreOfOwnTypes, HasPolicy, IsAcceptable, IsFirstNamed, IsServed, served}
 
 -- ---- the attribute

@@ -1,35 +1,32 @@
 -- The keys of the gateway's own lines are drawn.
-use Rattle.std.proofs.Common.{◌≡◌, inl, inr, ℕ, ◌+◌, Bool, true, false, cond, eqb, List, [], ◌∷◌, ◌++◌, length, map, codes, Option, Some, None, Result, Ok, Err, refl, sym, ap, ◌∙◌, subst, append_assoc, append-nil, arith}
+use Rattle.std.proofs.Common.{◌≡◌, inl, inr, ℕ, ◌+◌, Bool, true, false, cond, eqb, List, [], ◌∷◌, ◌++◌, length, map, Option, Some, None, Result, Ok, Err, refl, sym, ap, ◌∙◌, subst, append_assoc, append-nil, arith}
 use Rattle.std.proofs.lemmas.Bool.{and_parts, eqb-true}
 use Rattle.std.proofs.lemmas.List.Elements.{All-from_recursion}
-use Rattle.std.specs.Prelude.{◌||◌}
-use Rattle.std.specs.List.{AllByRecursion, Any, cons_option, filter, filter_map, find, list_any}
-use Rattle.std.specs.Option.{is_some}
+use Rattle.std.specs.List.{AllByRecursion, Any, filter, find}
 use Rattle.sg_agreement.proofs.AllAgreed.{offer_is}
 use Rattle.sg_agreement.proofs.Inversions.{find_all}
 use Rattle.sg_agreement.proofs.KeyedSound.{sdes_is}
-use Rattle.sg_agreement.proofs.TextLines.{active_some, behind_is}
+use Rattle.sg_agreement.proofs.OwnMessages.{tells_message}
+use Rattle.sg_agreement.proofs.TextLines.{active_some, bind_is, has_none, if_same, or_line_is}
 use Rattle.sg_agreement.specs.Answers.{Answered as Keyings, AgreedAnswer, accepted_answer, agreed_answer, answered_by}
-use Rattle.sg_agreement.specs.Attributes.{behind, crypto_values, ends_word, first_of, has_message, mikey_rest, mikey_value, ssrcs_of}
-use Rattle.sg_agreement.specs.CarriedTexts.{carried_text, exchanged, mikey_attribute, ports_from, with_added}
-use Rattle.sg_agreement.specs.OwnMessages.{TellsMessage}
+use Rattle.sg_agreement.specs.Attributes.{crypto_values, first_of, mikey_value, ssrcs_of}
 use Rattle.sg_agreement.proofs.MessagesSound.{psk_is}
 use Rattle.sg_agreement.specs.Described.{described}
 use Rattle.sg_agreement.specs.EachMedium.{each_active, each_kept, if_active, if_kept}
-use Rattle.sg_agreement.specs.Generations.{Generation, generation_of, keys_from, keys_of, numbered, owner_at, sessions_from, stream_session, stream_sessions}
+use Rattle.sg_agreement.specs.Generations.{keys_of, numbered, owner_at, sessions_from, stream_session, stream_sessions}
 use Rattle.sg_agreement.specs.Keyed.{Keyed, media_agreed}
-use Rattle.sg_agreement.specs.Keying.{Keying, PeerLines, OwnLines, OwnMessage, Offer, added_by}
+use Rattle.sg_agreement.specs.Keying.{Keying, PeerLines, OwnLines, OwnMessage, Offer}
 use Rattle.sg_agreement.specs.LineAnswers.{keyed_by_answer, keyed_by_matched, keyed_by_own_lines, keyed_by_peer_line, lines_matched}
 use Rattle.sg_agreement.specs.Media.{Medium, Stream}
 use Rattle.sg_agreement.specs.Messages.{AtHand}
 use Rattle.sg_agreement.specs.Offers.{AgreedOffer, accepted_offer, agreed_offer, chosen_in, keying_by_messages, keying_of, noise_of}
 use Rattle.sg_agreement.specs.Refusals.{of_psk, of_sdes}
-use Rattle.sg_agreement.specs.Sides.{actives, actives_after, is_active, other_side, side_of}
+use Rattle.sg_agreement.specs.Sides.{actives_after, is_active, other_side, side_of}
 use Rattle.sg_agreement.specs.Streams.{line_key}
-use Rattle.sg_agreement.specs.TextLines.{IsMessageLine, HasNoMessage}
+use Rattle.sg_agreement.specs.TextLines.{HasNoMessage}
 use Rattle.sg_agreement.specs.declared.ways.Way.{Way}
 use Rattle.sg_agreement.specs.declared.ways.Way.TheVariants.{FromSecure, SdesFromPlain, MikeyFromPlain}
-use Rattle.sg_base.proofs.Cases.{and_then_some, guarded, some_is}
+use Rattle.sg_base.proofs.Cases.{some_is}
 use Rattle.sg_base.specs.Keys.{Master}
 use Rattle.sg_base.specs.declared.addresses.CallId.{CallId}
 use Rattle.sg_base.specs.declared.addresses.Kind.{Kind}
@@ -37,15 +34,12 @@ use Rattle.sg_base.specs.declared.addresses.Kind.TheVariants.{Rtp, Rtcp}
 use Rattle.sg_base.specs.declared.addresses.Side.{Side}
 use Rattle.sg_base.specs.declared.addresses.Side.TheVariants.{Secure, Plain}
 use Rattle.sg_base.specs.declared.faults.Refusal.{Refusal}
-use Rattle.sg_base.specs.declared.faults.SdesFault.{SdesFault}
 use Rattle.sg_base.specs.declared.faults.SdesFault.TheVariants.{Tag, Suite}
 use Rattle.sg_base.proofs.SameOctets.{same_octets_is}
 use Rattle.sg_outcome.specs.declared.outcomes.Outcome.TheVariants as outcomes
 use Rattle.sg_psk.specs.Pairs.{is_with, pair_with}
-use Rattle.sg_psk.specs.Sending.{Sent, initial_octets, sent_of, sent_under}
+use Rattle.sg_psk.specs.Sending.{Sent, sent_of, sent_under}
 use Rattle.sg_psk.specs.declared.pairs.Pair.{Pair}
-use Rattle.sg_sdp.specs.Carrying.{carried}
-use Rattle.sg_sdp.specs.declared.medium.Profile.{Profile}
 use Rattle.sg_sdes.specs.Answers.{answer_by, matched, offered_by, same_suite}
 use Rattle.sg_sdes.specs.CryptoOf.{crypto_of}
 use Rattle.sg_sdes.specs.Keys as lines
@@ -55,13 +49,13 @@ use Rattle.sg_sdp.specs.declared.medium.Medium as descriptions
 use Rattle.sg_sdp.specs.declared.sdp.Sdp.{Sdp}
 use Rattle.sg_session.proofs.Inversions.{after_ok_is, ok_is}
 use Rattle.sg_session.proofs.Lists.{any_here, any_there, any_weaker, each_append, each_weaker}
-use Rattle.sg_session.specs.Ring.{install}
 use Rattle.sg_session.specs.Session.{Session}
 use Rattle.sg_session.specs.Stages.{after_ok}
 use Rattle.sg_session.specs.declared.names.Direction.{Direction}
 use Rattle.sg_session.specs.declared.names.Direction.TheVariants.{Opening, Sealing}
+use Rattle.sg_gateway.proofs.Addressed.{IsAnswered, answer_is}
 use Rattle.sg_gateway.proofs.Arrivals.{kept_by}
-use Rattle.sg_gateway.proofs.ByTexts.{same_call_id}
+use Rattle.sg_gateway.proofs.ByTexts.{MadeBy, WasMade, WereMade, event_made, same_call_id}
 use Rattle.sg_gateway.proofs.CarriedOut.{found_with, id_found, stays}
 use Rattle.sg_gateway.proofs.LineSessions.{masters_of}
 use Rattle.sg_gateway.proofs.Signals.{found}
@@ -70,62 +64,10 @@ use Rattle.sg_gateway.specs.Generations.{Settled, is_current, is_opening, keyed}
 use Rattle.sg_gateway.specs.Runs.{Turn, turn_of, turns_from}
 use Rattle.sg_gateway.specs.Signals.{Answered, Answer, answer_to, answered, in_old, offering_side, tells_answer}
 use Rattle.sg_gateway.specs.Step.{Event, step}
-use Rattle.sg_gateway.specs.World.{Books, Call, World, call_of, empty, same_id}
-use Rattle.sg_conduct.proofs.Offering.{MadeBy, WasMade, WereMade, event_made}
-use Rattle.sg_conduct.proofs.Lists.{any_second}
+use Rattle.sg_gateway.specs.World.{Call, World, call_of, empty, same_id}
 use Rattle.sg_conduct.specs.Drawn.{AnswerDraws, AreDrawn, IsDrawn, TellsDrawn, IsForAnswer, IsForOffer, IsOfferOf, OwnKeysAreDrawn, SealsUnder}
 
--- ---- no message (as in sg_agreement)
-
-pub mikey_is : (line value : List ℕ) → mikey_rest line ≡ Some value → IsMessageLine line
-mikey_is line value e =
-    let a = and_then_some (behind (codes "a=key-mgmt:mikey") line) _ value e in
-    let b = guarded (ends_word a.0) a.0 value a.2 in
-    go a.0 (behind_is (codes "a=key-mgmt:mikey") line a.0 a.1) b.0
-  where
-    go : (rest : List ℕ) → line ≡ codes "a=key-mgmt:mikey" ++ rest → ends_word rest ≡ true → IsMessageLine line
-    go [] is ends = ([], inl is)
-    go (x ∷ rest) is ends = (rest, inr (is ∙ ap (λ x. codes "a=key-mgmt:mikey" ++ (x ∷ rest)) (eqb-true x 32 ends)))
-
-no_value : (ls : List (List ℕ)) → AllByRecursion (λ line. ¬ IsMessageLine line) ls → filter_map mikey_rest ls ≡ []
-no_value [] none = refl
-no_value (l ∷ ls) none = go (no_value ls none.1) (mikey_rest l) refl
-  where
-    go : filter_map mikey_rest ls ≡ [] → (o : Option (List ℕ)) → mikey_rest l ≡ o → cons_option o (filter_map mikey_rest ls) ≡ []
-    go rest None is = rest
-    go rest (Some v) is = absurd (none.0 (mikey_is l v is))
-
-pub no_message : (ls : List (List ℕ)) → AllByRecursion (λ line. ¬ IsMessageLine line) ls → is_some (mikey_value ls) ≡ false
-unfolding mikey_value
-no_message ls none = ap (λ (values : List (List ℕ)). is_some (first_of values)) (no_value ls none)
-
-none_of_media : (ms : List descriptions.Medium) → AllByRecursion (λ (m : descriptions.Medium). AllByRecursion (λ line. ¬ IsMessageLine line) m.lines) ms
-    → list_any (λ (m : descriptions.Medium). is_some (mikey_value m.lines)) ms ≡ false
-none_of_media [] none = refl
-none_of_media (m ∷ ms) none =
-    let this = no_message m.lines none.0 in
-    let rest = none_of_media ms none.1 in
-    λ i. this i || rest i
-
-pub has_none : (s : Sdp) → HasNoMessage s → has_message s ≡ false
-has_none s none =
-    let session = no_message s.session none.session in
-    let media = none_of_media s.media none.media in
-    λ i. session i || media i
-
--- ---- a line that is matched (as in sg_agreement)
-
-bind_is : {A B : Type 0} (r : Result A SdesFault) (f : A → Result B SdesFault) (y : B) → lines.◌>>=◌ r f ≡ Ok y → (x : A) × (r ≡ Ok x) × (f x ≡ Ok y)
-bind_is (Ok x) f y e = (x, refl, e)
-bind_is (Err c) f y e = absurd cc
-
-or_line_is : {A : Type 0} (fault : SdesFault) (o : Option A) (x : A) → lines.or_fault fault o ≡ Ok x → o ≡ Some x
-or_line_is fault None x e = absurd cc
-or_line_is fault (Some y) x e = ap Some (ok_is y x e)
-
-if_same : {A : Type 0} (b : Bool) (x y : A) (f : SdesFault) → cond b (Ok x) (Err f) ≡ Ok y → x ≡ y
-if_same true x y f e = ok_is x y e
-if_same false x y f e = absurd cc
+-- ---- a line that is matched
 
 own_matched : (P : CryptoLine → Type 0) (offered : List CryptoLine) (value : List ℕ) (p : CryptoLine × CryptoLine) → AllByRecursion P offered → matched offered value ≡ Ok p → P p.0
 unfolding matched
@@ -318,31 +260,6 @@ own_answer slot o drawn noise text g ls keyed offered e =
 
 -- ---- an answer
 
-record IsAnswered (c d : Call) (o : Offer) (noise text : List ℕ) : Type 0 where
-  serial : d.serial ≡ c.serial
-  id : d.id ≡ c.id
-  generations : d.generations ≡ c.generations + 1
-  agreement : AgreedAnswer
-  agreed : agreed_answer c.slot o noise text ≡ Ok agreement
-  number : ℕ
-  sessions : d.sessions ≡ sessions_from c.serial c.generations 0 number agreement.media ++ filter (stays c) c.sessions
-
-answer_is : (now : ℕ) (books : Books) (c : Call) (noise text : List ℕ) (o : Offer) (r : Settled) → answered_to now books c noise text (Some o) ≡ Ok r → IsAnswered c r.call o noise text
-answer_is now books c noise text o r e =
-    let a = after_ok_is (agreed_answer c.slot o noise text) (λ a. keyed now books c a.text a.media) r e in
-    let b = after_ok_is (generation_of c.serial c.generations books.ring a.0.media) _ r a.2 in
-    let g = after_ok_is (install books.ring (keys_from c.serial c.generations 0 a.0.media)) _ b.0 b.1 in
-    let news : sessions_from c.serial c.generations 0 (length books.ring) a.0.media ≡ b.0.sessions = ap (λ (g : Generation). g.sessions) (ok_is _ b.0 g.2) in
-    subst (λ (r : Settled). IsAnswered c r.call o noise text) (ok_is _ r b.2) (record {
-      serial = refl;
-      id = refl;
-      generations = refl;
-      agreement = a.0;
-      agreed = a.1;
-      number = length books.ring;
-      sessions = ap (λ (ss : List Session). ss ++ filter (stays c) c.sessions) (sym news);
-    })
-
 seals_under : (P : ℕ → List Master → Type 0) (c d : Call) (o : Offer) (noise text : List ℕ) (a : IsAnswered c d o noise text) → AllAt (λ k (x : Medium). StreamHas P k x.to_peer) 0 a.agreement.media → SealsUnder P d
 seals_under P c d o noise text a all =
     let new : List Session = sessions_from c.serial c.generations 0 a.number a.agreement.media in
@@ -368,19 +285,12 @@ find_held peer (p ∷ ps) pair e = go (find_held peer ps pair) (is_with peer p) 
     go rest true is e = let same : p ≡ pair = some_is p pair e in (any_here (λ p. p ≡ pair) p ps same, ap (is_with peer) (sym same) ∙ is)
     go rest false is e = let r = rest e in (any_there (λ p. p ≡ pair) p ps r.0, r.1)
 
-sent_drawn : (pairs : List Pair) (peer : List ℕ) (now : ℕ) (drawn ssrcs : List ℕ) (o : Option Pair) (sent : Sent) → pair_with pairs peer ≡ o → sent_under now drawn ssrcs o ≡ Ok sent → IsDrawn pairs peer drawn sent
+pub sent_drawn : (pairs : List Pair) (peer : List ℕ) (now : ℕ) (drawn ssrcs : List ℕ) (o : Option Pair) (sent : Sent) → pair_with pairs peer ≡ o → sent_under now drawn ssrcs o ≡ Ok sent → IsDrawn pairs peer drawn sent
 sent_drawn pairs peer now drawn ssrcs None sent at e = absurd cc
 sent_drawn pairs peer now drawn ssrcs (Some pair) sent at e =
     let f = find_held peer pairs pair at in
     subst (IsDrawn pairs peer drawn) (ok_is (sent_of pair now drawn ssrcs) sent e)
     (record { random = refl; csb = refl; keys = refl; held = f.0; of_peer = same_octets_is pair.peer peer f.1 })
-
-tells_message : (slot : ℕ) (s : Sdp) (sent : Sent) → TellsMessage (accepted_offer slot (record { side = Plain; description = s; keying = OwnMessage sent })).text sent
-unfolding carried_text
-tells_message slot s sent =
-    let profiles : List Profile = map (λ (m : descriptions.Medium). exchanged m.profile) s.media in
-    let text : Sdp = carried (ports_from slot 0 Secure (actives Plain s.media)) profiles s in
-    (with_added (added_by (OwnMessage sent)) text, refl, any_second _ text.session (mikey_attribute (initial_octets sent) ∷ []) (any_here _ (mikey_attribute (initial_octets sent)) [] refl))
 
 offer_message : (h : AtHand) (peer text : List ℕ) (a : AgreedOffer) → agreed_offer h (MikeyFromPlain peer) text ≡ Ok a → TellsDrawn h.pairs peer h.noise a.text
 unfolding agreed_offer

@@ -1,16 +1,19 @@
 mod Acceptable
+mod Carried
+mod Causes
 mod Drawn
+mod Forth
 pub mod Heard
 mod Latest
 pub mod Lists
 mod Manual
-mod Offering
 mod Offers
 mod Others
 mod OwnTexts
 mod Partners
 mod Places
 mod Present
+mod Printed
 pub mod Sealings
 mod Settling
 mod Staying

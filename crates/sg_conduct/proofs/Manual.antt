@@ -22,11 +22,11 @@ use Rattle.sg_conduct.specs.Manual.{AreApart, AreByLine, AreFree, HasControl, Is
 
 -- ---- the ring takes keys that are apart from all in it
 
-secret : (x y : List ℕ) → (x ≡ y → x ≡ []) → same_secret x y ≡ false
+pub secret : (x y : List ℕ) → (x ≡ y → x ≡ []) → same_secret x y ≡ false
 secret [] y apart = refl
 secret (x ∷ xs) y apart = false_from_ne_true _ (λ e. absurd (let none : x ∷ xs ≡ [] = apart (same_octets_is (x ∷ xs) y e) in cc))
 
-apart_is : (a b : Master) → AreApart a b → keys_clash (derived a) (derived b) ≡ false
+pub apart_is : (a b : Master) → AreApart a b → keys_clash (derived a) (derived b) ≡ false
 apart_is a b is =
     let first : same_octets a.key b.key ≡ false = false_from_ne_true _ (λ e. is.masters (same_octets_is a.key b.key e)) in
     or_from _ _ first

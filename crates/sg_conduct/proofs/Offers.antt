@@ -3,6 +3,7 @@ use Rattle.std.proofs.Common.{◌≡◌, inl, inr, ℕ, ◌+◌, Bool, true, fal
 use Rattle.std.proofs.lemmas.Bool.{and_parts, cond-false, cond-true, false≢true, not_from_true, or_left, or_right}
 use Rattle.std.specs.List.{AllByRecursion, Any, cons_option, filter_map, list_any}
 use Rattle.std.specs.Option.{is_none, is_some}
+use Rattle.sg_agreement.proofs.TextLines.{has_none, no_message}
 use Rattle.sg_agreement.specs.Attributes.{behind, crypto_values, has_message, mikey_value, ssrcs_of}
 use Rattle.sg_agreement.specs.Described.{described, is_other_count, lacks_address, of_text, unaddressed, with_addresses}
 use Rattle.sg_agreement.specs.EachMedium.{each_active, if_active}
@@ -40,7 +41,6 @@ use Rattle.sg_gateway.specs.Signals.{new_call}
 use Rattle.sg_gateway.specs.Taken.{HasOpen, LaterOfferIsTaken, NewOfferIsTaken}
 use Rattle.sg_gateway.specs.World.{Books, Call, World}
 use Rattle.sg_conduct.proofs.Acceptable.{bundle_given, value_is}
-use Rattle.sg_conduct.proofs.Drawn.{has_none, no_message}
 use Rattle.sg_conduct.proofs.Present.{takes_active}
 use Rattle.sg_conduct.specs.Offers.{CanBeKeyed, Describes, HasLines, HasOwnMessages, IsAcceptable, IsOpen, OfferIsTaken}
 use Rattle.sg_conduct.specs.Present.{HasProfileOf, TakesPart}

@@ -1,9 +1,8 @@
 -- The ports, addresses and lines of what is carried.
-use Rattle.std.proofs.Common.{◌≡◌, ◌⊎◌, inl, inr, ℕ, suc, ◌+◌, Bool, true, false, cond, not, List, [], ◌∷◌, ◌++◌, length, map, codes, Option, Some, None, Ok, refl, sym, ap, ◌∙◌, subst, arith, ltb}
+use Rattle.std.proofs.Common.{◌≡◌, ◌⊎◌, inl, inr, ℕ, suc, ◌+◌, ◌<◌, Bool, true, false, cond, not, List, [], ◌∷◌, ◌++◌, length, map, codes, Option, Some, None, Ok, refl, sym, ap, ◌∙◌, subst, arith}
 use Rattle.std.specs.Prelude.{filter, nat_eq}
 use Rattle.std.specs.List.{AllByRecursion, flat_map, starts_with}
 use Rattle.sg_base.specs.declared.addresses.Side.{Side}
-use Rattle.sg_base.specs.declared.faults.SdpFault.TheVariants.{TooLong}
 use Rattle.sg_base.specs.declared.addresses.Side.TheVariants.{Secure, Plain}
 use Rattle.sg_csmap.specs.declared.sessions.StreamKeys.{StreamKeys}
 use Rattle.sg_psk.specs.Accepting.{Accepted}
@@ -11,17 +10,18 @@ use Rattle.sg_psk.specs.Sending.{initial_octets}
 use Rattle.sg_sdes.specs.declared.lines.CryptoLine.{CryptoLine}
 use Rattle.sg_sdp.specs.Addresses.{first_address, with_address}
 use Rattle.sg_sdp.specs.Carrying.{carried, carried_line, carried_lines, carried_media, carried_medium, is_one_sided}
-use Rattle.sg_sdp.specs.Descriptions.{IsKept, IsMedium, IsSdp, IsShort, Spells, all_lines, medium_line, medium_lines}
+use Rattle.sg_sdp.specs.Descriptions.{IsKept, IsMedium, IsSdp, medium_line, medium_lines}
 use Rattle.sg_sdp.specs.LineForm.{is_letter}
-use Rattle.sg_sdp.specs.Reading.{description_of, description_within}
+use Rattle.sg_sdp.specs.Reading.{description_of}
 use Rattle.sg_sdp.specs.declared.medium.Medium as descriptions
 use Rattle.sg_sdp.specs.declared.medium.Profile.{Profile}
 use Rattle.sg_sdp.specs.declared.sdp.Sdp.{Sdp}
-use Rattle.sg_session.proofs.Inversions.{after_ok_is, ok_is, stop_if_is}
+use Rattle.sg_session.proofs.Inversions.{after_ok_is, ok_is}
 use Rattle.sg_session.proofs.Lists.{each_append, each_weaker}
 use Rattle.sg_agreement.proofs.FewMedia.{described_count, described_is}
 use Rattle.sg_agreement.proofs.KeyedSound.{Sometimes}
 use Rattle.sg_agreement.proofs.Sound.{each_kept_is}
+use Rattle.sg_agreement.proofs.Texts.{Takes, whole}
 use Rattle.sg_agreement.specs.Answers.{Answered, answered_by, AgreedAnswer, accepted_answer, agreed_answer, lines_of}
 use Rattle.sg_agreement.specs.Attributes.{crypto_values, first_of, mikey_value}
 use Rattle.sg_agreement.specs.CarriedTexts.{Added, carried_text, crypto_attribute, exchanged, mikey_attribute, ports_from, rtp_port, with_added, with_media_lines}
@@ -36,15 +36,12 @@ use Rattle.sg_agreement.specs.Offers.{AgreedOffer, agreed_offer, keying_of}
 use Rattle.sg_agreement.specs.Refusals.{of_sdes}
 use Rattle.sg_agreement.specs.Sides.{active_count, actives, actives_after, other_side, side_of}
 use Rattle.sg_agreement.specs.declared.ways.Way.{Way}
+use Rattle.sg_agreement.proofs.OneLines.{one_append}
+use Rattle.base64.specs.Engines.{standard}
+use Rattle.base64.specs.GeneralPurpose.{encode_of}
+use Rattle.sg_sdes.specs.CryptoText.{crypto_text}
+use Rattle.sg_conduct.proofs.Printed.{AreAttributes, IsAttribute, Laws, base64_one, crypto_one, test_one, told_read}
 use Rattle.sg_conduct.specs.ToldTexts.{HaveOwnPorts, IsOwnText, NamesGateway, port_towards}
-
--- what is read of a text is spelled by it, by the law of sg_sdp
-abbrev pub Takes : Type 0
-Takes = (most : ℕ) (text : List ℕ) (s : Sdp) → description_within most text ≡ Ok s → IsSdp s × Spells (all_lines s) text × AllByRecursion (IsShort most) (all_lines s)
-
-whole : (text : List ℕ) (s : Sdp) → description_of text ≡ Ok s → description_within 2048 text ≡ Ok s
-unfolding description_of
-whole text s e = (stop_if_is (ltb 16384 (length text)) (0, TooLong) (description_within 2048 text) s e).1
 
 -- ---- lines
 
@@ -52,24 +49,17 @@ whole text s e = (stop_if_is (ltb 16384 (length text)) (0, TooLong) (description
 abbrev pub NoHead : List ℕ → Type 0
 NoHead line = is_letter 109 line ≡ false
 
--- what the gateway adds is an attribute
-abbrev pub IsAttribute : List ℕ → Type 0
-IsAttribute line = (rest : List ℕ) × (line ≡ 97 ∷ 61 ∷ rest)
-
 attribute_no_head : (line : List ℕ) → IsAttribute line → NoHead line
-attribute_no_head line (rest, is) = ap (is_letter 109) is
+attribute_no_head line (rest, is, one) = ap (is_letter 109) is
 
 attribute_names : (line : List ℕ) → IsAttribute line → NamesGateway line
-attribute_names line (rest, is) starts = absurd (let e = sym (ap (λ l. starts_with nat_eq l (codes "c=")) is) ∙ starts in cc)
+attribute_names line (rest, is, one) starts = absurd (let e = sym (ap (λ l. starts_with nat_eq l (codes "c=")) is) ∙ starts in cc)
 
 crypto_is : (l : CryptoLine) → IsAttribute (crypto_attribute l)
-crypto_is l = (_, refl)
+crypto_is l = (codes "crypto:" ++ crypto_text l, refl, one_append (codes "crypto:") (crypto_text l) (test_one (codes "crypto:") refl refl) (crypto_one l))
 
 mikey_is : (octets : List ℕ) → IsAttribute (mikey_attribute octets)
-mikey_is octets = (_, refl)
-
-abbrev pub AreAttributes : List (List ℕ) → Type 0
-AreAttributes lines = AllByRecursion IsAttribute lines
+mikey_is octets = (codes "key-mgmt:mikey " ++ encode_of standard octets, refl, one_append (codes "key-mgmt:mikey ") (encode_of standard octets) (test_one (codes "key-mgmt:mikey ") refl refl) (base64_one octets))
 
 -- the lines that are added
 abbrev pub AddsAttributes : Added → Type 0
@@ -165,14 +155,15 @@ module _ (side : Side) (slot : ℕ) (f : Option (List ℕ)) where
 abbrev pub IsRead : Sdp → Type 0
 IsRead s = (text : List ℕ) × (description_of text ≡ Ok s)
 
-own_text : Takes → (side : Side) (slot : ℕ) (active : List Bool) (ps : List Profile) (added : Added) (s : Sdp) → IsRead s → AddsAttributes added
+own_text : Takes → Laws → (side : Side) (slot : ℕ) → slot < 256 → (active : List Bool) (ps : List Profile) (added : Added) (s : Sdp) → IsRead s → AddsAttributes added
     → length active ≡ length s.media → length ps ≡ length s.media → IsOwnText side slot (length s.media) (carried_text (ports_from slot 0 side active) ps added s)
 unfolding carried_text
-own_text takes side slot active ps added s read are a b =
-    let is : IsSdp s = (takes 2048 read.0 s (whole read.0 s read.1)).0 in
+own_text takes laws side slot low active ps added s read are a b =
+    let is : IsSdp s = (takes 2048 read.0 s (whole read.0 s read.1).1).0 in
     let media = own_media side slot (first_address (carried_lines s.session)) 0 active ps s.media added.media is.media are.1 a b in
     let session = each_append Carries (carried_lines s.session) added.session (carried_carry s.session is.session) (attributes_carry added.session are.0) in
     record {
+      read = told_read laws side slot active ps added s is low a are.0 are.1;
       told = with_added added (carried (ports_from slot 0 side active) ps s);
       spells = refl;
       count = media.long;
@@ -203,13 +194,13 @@ map_long : {X Y : Type 0} (f : X → Y) (xs : List X) → length (map f xs) ≡ 
 map_long f [] = refl
 map_long f (x ∷ xs) = ap suc (map_long f xs)
 
-pub offer_own : Takes → (h : AtHand) (way : Way) (text : List ℕ) (a : AgreedOffer) → agreed_offer h way text ≡ Ok a → IsOwnText (other_side (side_of way)) h.slot a.media a.text
+pub offer_own : Takes → Laws → (h : AtHand) → h.slot < 256 → (way : Way) (text : List ℕ) (a : AgreedOffer) → agreed_offer h way text ≡ Ok a → IsOwnText (other_side (side_of way)) h.slot a.media a.text
 unfolding agreed_offer
-offer_own takes h way text a e =
+offer_own takes laws h low way text a e =
     let p = after_ok_is (described (side_of way) h.media text) _ a e in
     let q = after_ok_is (keying_of h p.0 way) _ a p.2 in
     subst (λ (a : AgreedOffer). IsOwnText (other_side (side_of way)) h.slot a.media a.text) (ok_is _ a q.2)
-    (own_text takes (other_side (side_of way)) h.slot (actives (side_of way) p.0.media) (map (λ (m : descriptions.Medium). exchanged m.profile) p.0.media) (added_by q.0) p.0
+    (own_text takes laws (other_side (side_of way)) h.slot low (actives (side_of way) p.0.media) (map (λ (m : descriptions.Medium). exchanged m.profile) p.0.media) (added_by q.0) p.0
     (text, described_is (side_of way) h.media text p.0 p.1) (keying_adds q.0) (map_long _ p.0.media) (map_long _ p.0.media))
 
 -- ---- of an answer
@@ -279,9 +270,9 @@ after_long side [] (n ∷ ns) a = absurd (omega (arith, a))
 after_long side (m ∷ ms) [] a = refl
 after_long side (m ∷ ms) (n ∷ ns) a = ap suc (after_long side ms ns (omega (arith, a)))
 
-pub answer_own : Takes → (slot : ℕ) (o : Offer) (noise text : List ℕ) (g : AgreedAnswer) → agreed_answer slot o noise text ≡ Ok g → IsOwnText o.side slot (length o.description.media) g.text
+pub answer_own : Takes → Laws → (slot : ℕ) → slot < 256 → (o : Offer) (noise text : List ℕ) (g : AgreedAnswer) → agreed_answer slot o noise text ≡ Ok g → IsOwnText o.side slot (length o.description.media) g.text
 unfolding agreed_answer
-answer_own takes slot o noise text g e =
+answer_own takes laws slot low o noise text g e =
     let p = after_ok_is (described (other_side o.side) (Some (length o.description.media)) text) _ g e in
     let active : List Bool = actives_after o.side o.description.media p.0.media in
     let q = after_ok_is (answered_by o noise p.0 active o.keying) _ g p.2 in
@@ -289,6 +280,6 @@ answer_own takes slot o noise text g e =
     let long : length p.0.media ≡ length o.description.media = described_count (other_side o.side) (length o.description.media) text p.0 p.1 in
     subst (λ (g : AgreedAnswer). IsOwnText o.side slot (length o.description.media) g.text) (ok_is (accepted_answer slot o p.0 active q.0) g q.2)
     (subst (λ n. IsOwnText o.side slot n (accepted_answer slot o p.0 active q.0).text) long
-    (own_text takes o.side slot active (map (λ (m : descriptions.Medium). m.profile) o.description.media) (record { session = q.0.session; media = map lines_of q.0.media }) p.0
+    (own_text takes laws o.side slot low active (map (λ (m : descriptions.Medium). m.profile) o.description.media) (record { session = q.0.session; media = map lines_of q.0.media }) p.0
     (text, described_is (other_side o.side) (Some (length o.description.media)) text p.0 p.1) (adds.0, lines_are q.0.media adds.1)
     (after_long o.side o.description.media p.0.media long) (map_long _ o.description.media ∙ sym long)))

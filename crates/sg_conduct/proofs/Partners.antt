@@ -1,10 +1,10 @@
 -- An answer makes no session of a medium that takes no part.
-use Rattle.std.proofs.Common.{◌≡◌, ℕ, suc, ◌+◌, ◌<◌, Bool, true, false, cond, ◌&&◌, ltb, List, [], ◌∷◌, ◌++◌, length, Option, Some, None, Result, Ok, Err, refl, sym, ap, ◌∙◌, subst, arith}
+use Rattle.std.proofs.Common.{◌≡◌, ℕ, ◌+◌, ◌<◌, Bool, true, false, cond, ◌&&◌, ltb, List, [], ◌∷◌, Option, Some, None, Result, Ok, Err, refl, sym, ap, ◌∙◌, subst, arith}
 use Rattle.std.proofs.lemmas.Bool.{and_parts, eqb-true, ltb-true}
 use Rattle.std.specs.List.{AllByRecursion, filter}
 use Rattle.std.specs.Option.{is_some, option_map}
 use Rattle.sg_agreement.specs.Answers.{AgreedAnswer, agreed_answer}
-use Rattle.sg_agreement.specs.Generations.{numbered, owner_at, sessions_from, stream_session, stream_sessions}
+use Rattle.sg_agreement.specs.Generations.{sessions_from, stream_session, stream_sessions}
 use Rattle.sg_agreement.specs.Keyed.{Keyed, media_agreed, medium_agreed}
 use Rattle.sg_agreement.specs.Keying.{Offer}
 use Rattle.sg_agreement.specs.Media.{Medium, Stream}
@@ -21,9 +21,9 @@ use Rattle.sg_sdp.specs.declared.medium.Medium as descriptions
 use Rattle.sg_sdp.specs.declared.sdp.Sdp.{Sdp}
 use Rattle.sg_session.proofs.Inversions.{ok_is}
 use Rattle.sg_session.proofs.Lists.{each_append, each_weaker}
-use Rattle.sg_session.specs.Session.{Session}
-use Rattle.sg_session.specs.declared.names.Direction.{Direction}
-use Rattle.sg_session.specs.declared.names.Direction.TheVariants.{Opening, Sealing}
+use Rattle.sg_session.specs.Session.{Key, Session}
+use Rattle.sg_session.specs.declared.names.Owner.{Owner}
+use Rattle.sg_gateway.proofs.Addressed.{HoldsFrom, IsAnswered, OfEach, answer_is, each_from}
 use Rattle.sg_gateway.proofs.Agreements.{Agreements}
 use Rattle.sg_gateway.proofs.Arrivals.{kept_by}
 use Rattle.sg_gateway.proofs.CarriedOut.{found_with, id_found, stays}
@@ -35,7 +35,7 @@ use Rattle.sg_gateway.specs.Generations.{Settled, is_current, is_opening}
 use Rattle.sg_gateway.specs.Signals.{Answer, Answered, answer_to, answered, in_old, offering_side, tells_answer}
 use Rattle.sg_gateway.specs.World.{Call, World, call_of, same_id}
 use Rattle.sg_conduct.proofs.Offers.{active_takes}
-use Rattle.sg_conduct.proofs.Present.{IsAnswered, agreement_is, answer_is}
+use Rattle.sg_conduct.proofs.Present.{agreement_is}
 use Rattle.sg_conduct.specs.Present.{IsOfPartners, TakesPart}
 
 -- ---- media that are agreed
@@ -86,64 +86,27 @@ answer_partners laws slot o noise text g answer was e read =
 -- ---- their sessions
 
 module _ (side : Side) where
-  -- of its medium, where the media begin at that of number k
-  record PartnersFrom (k : ℕ) (ms ns : List descriptions.Medium) (s : Session) : Type 0 where
-    of_offer : descriptions.Medium
-    of_answer : descriptions.Medium
-    at : ℕ
-    place : s.name.owner.medium ≡ k + at
-    in_offer : IsMediumAt ms at of_offer
-    in_answer : IsMediumAt ns at of_answer
-    takes : TakesPart side of_offer
-    answers : TakesPart (other_side side) of_answer
-    control : s.name.kind ≡ Rtcp → (of_offer.port < 65535) × (of_answer.port < 65535)
+  abbrev OfPartner : descriptions.Medium → descriptions.Medium → Session → Type 0
+  OfPartner m n s = TakesPart side m × TakesPart (other_side side) n × (s.name.kind ≡ Rtcp → (m.port < 65535) × (n.port < 65535))
 
-  next : (k : ℕ) (m n : descriptions.Medium) (ms ns : List descriptions.Medium) (s : Session) → PartnersFrom (k + 1) ms ns s → PartnersFrom k (m ∷ ms) (n ∷ ns) s
-  next k m n ms ns s is = record {
-    of_offer = is.of_offer;
-    of_answer = is.of_answer;
-    at = suc is.at;
-    place = let e = is.place in omega (arith, e);
-    in_offer = ((let lt = is.in_offer.0 in omega (arith, lt)), is.in_offer.1);
-    in_answer = ((let lt = is.in_answer.0 in omega (arith, lt)), is.in_answer.1);
-    takes = is.takes;
-    answers = is.answers;
-    control = is.control;
-  }
-
-  streams_of_partners : (k : ℕ) (m n : descriptions.Medium) (ms ns : List descriptions.Medium) (x : Medium) → IsPartner side m n x → (call generation number : ℕ) (direction : Direction) (st : Stream) (window : ℕ)
-      → AllByRecursion (PartnersFrom k (m ∷ ms) (n ∷ ns)) (stream_sessions (owner_at call generation k direction) (numbered number st.keys) st window x)
-  streams_of_partners k m n ms ns x is call generation number direction st window = (
-    record { of_offer = m; of_answer = n; at = 0; place = omega arith; in_offer = (omega arith, refl); in_answer = (omega arith, refl); takes = is.0; answers = is.1; control = λ e. absurd cc },
-    go x.has_rtcp refl,
-  )
+  streams_of_partners : (m n : descriptions.Medium) (x : Medium) → IsPartner side m n x → (owner : Owner) (keys : List Key) (st : Stream) (window : ℕ)
+      → AllByRecursion (OfPartner m n) (stream_sessions owner keys st window x)
+  streams_of_partners m n x is owner keys st window = ((is.0, is.1, λ e. absurd cc), go x.has_rtcp refl)
     where
-      go : (b : Bool) → x.has_rtcp ≡ b → AllByRecursion (PartnersFrom k (m ∷ ms) (n ∷ ns)) (cond b (stream_session (owner_at call generation k direction) (numbered number st.keys) st window x Rtcp st.encrypts_rtcp 10 ∷ []) [])
-      go true on = (
-        record { of_offer = m; of_answer = n; at = 0; place = omega arith; in_offer = (omega arith, refl); in_answer = (omega arith, refl); takes = is.0; answers = is.1; control = λ e. is.2 on },
-        tt,
-      )
+      go : (b : Bool) → x.has_rtcp ≡ b → AllByRecursion (OfPartner m n) (cond b (stream_session owner keys st window x Rtcp st.encrypts_rtcp 10 ∷ []) [])
+      go true on = ((is.0, is.1, λ e. is.2 on), tt)
       go false on = tt
 
-  partners_from : (call generation k number : ℕ) (ms ns : List descriptions.Medium) (xs : List (Option Medium)) → ArePartners side ms ns xs → AllByRecursion (PartnersFrom k ms ns) (sessions_from call generation k number xs)
-  partners_from call generation k number [] [] [] are = tt
-  partners_from call generation k number [] [] (x ∷ xs) are = absurd are
-  partners_from call generation k number [] (n ∷ ns) xs are = absurd are
-  partners_from call generation k number (m ∷ ms) [] xs are = absurd are
-  partners_from call generation k number (m ∷ ms) (n ∷ ns) [] are = absurd are
-  partners_from call generation k number (m ∷ ms) (n ∷ ns) (None ∷ xs) are =
-      each_weaker (PartnersFrom (k + 1) ms ns) (PartnersFrom k (m ∷ ms) (n ∷ ns)) (next k m n ms ns) (sessions_from call generation (k + 1) number xs) (partners_from call generation (k + 1) number ms ns xs are.1)
-  partners_from call generation k number (m ∷ ms) (n ∷ ns) (Some x ∷ xs) are =
-      let is : IsPartner side m n x = are.0 x refl in
-      let opening : List Session = stream_sessions (owner_at call generation k Opening) (numbered number x.from_peer.keys) x.from_peer x.window x in
-      let sealing : List Session = stream_sessions (owner_at call generation k Sealing) (numbered (number + length x.from_peer.keys) x.to_peer.keys) x.to_peer 1024 x in
-      let later : List Session = sessions_from call generation (k + 1) (number + length x.from_peer.keys + length x.to_peer.keys) xs in
-      each_append (PartnersFrom k (m ∷ ms) (n ∷ ns)) opening (sealing ++ later) (streams_of_partners k m n ms ns x is call generation number Opening x.from_peer x.window)
-      (each_append (PartnersFrom k (m ∷ ms) (n ∷ ns)) sealing later (streams_of_partners k m n ms ns x is call generation (number + length x.from_peer.keys) Sealing x.to_peer 1024)
-      (each_weaker (PartnersFrom (k + 1) ms ns) (PartnersFrom k (m ∷ ms) (n ∷ ns)) (next k m n ms ns) later
-      (partners_from call generation (k + 1) (number + length x.from_peer.keys + length x.to_peer.keys) ms ns xs are.1)))
+  each_partner : (ms ns : List descriptions.Medium) (xs : List (Option Medium)) → ArePartners side ms ns xs → OfEach OfPartner ms ns xs
+  each_partner [] [] [] are = tt
+  each_partner [] [] (x ∷ xs) are = absurd are
+  each_partner [] (n ∷ ns) xs are = absurd are
+  each_partner (m ∷ ms) [] xs are = absurd are
+  each_partner (m ∷ ms) (n ∷ ns) [] are = absurd are
+  each_partner (m ∷ ms) (n ∷ ns) (None ∷ xs) are = (tt, each_partner ms ns xs are.1)
+  each_partner (m ∷ ms) (n ∷ ns) (Some x ∷ xs) are = (streams_of_partners m n x (are.0 x refl), each_partner ms ns xs are.1)
 
-  from_first : (ms ns : List descriptions.Medium) (s : Session) → PartnersFrom 0 ms ns s → IsOfPartners side ms ns s
+  from_first : (ms ns : List descriptions.Medium) (s : Session) → HoldsFrom OfPartner 0 ms ns s → IsOfPartners side ms ns s
   from_first ms ns s is =
       let same : is.at ≡ s.name.owner.medium = (let e = is.place in omega (arith, e)) in
       record {
@@ -151,9 +114,9 @@ module _ (side : Side) where
         of_answer = is.of_answer;
         in_offer = subst (λ k. IsMediumAt ms k is.of_offer) same is.in_offer;
         in_answer = subst (λ k. IsMediumAt ns k is.of_answer) same is.in_answer;
-        takes = is.takes;
-        answers = is.answers;
-        control = is.control;
+        takes = is.has.0;
+        answers = is.has.1;
+        control = is.has.2;
       }
 
 -- ---- an answer
@@ -172,8 +135,8 @@ module _ (laws : Agreements) (w : World) (offered_are : AllByRecursion (λ c. Is
       let new : List Session = sessions_from c.serial c.generations 0 a.number a.agreement.media in
       subst (AllByRecursion (λ s. s.name.owner.generation + 1 ≡ d.generations → IsOfPartners o.side o.description.media answer.media s)) (sym a.sessions)
       (each_append _ new (filter (stays c) c.sessions)
-      (each_weaker (PartnersFrom o.side 0 o.description.media answer.media) _ (λ s p e. from_first o.side o.description.media answer.media s p) new
-      (partners_from o.side c.serial c.generations 0 a.number o.description.media answer.media a.agreement.media are))
+      (each_weaker (HoldsFrom (OfPartner o.side) 0 o.description.media answer.media) _ (λ s p e. from_first o.side o.description.media answer.media s p) new
+      (each_from (OfPartner o.side) c.serial c.generations 0 a.number o.description.media answer.media a.agreement.media (each_partner o.side o.description.media answer.media a.agreement.media are)))
       (each_weaker _ _ (λ s p e. absurd (earlier s p.0 e)) (filter (stays c) c.sessions) (kept_by (stays c) c.sessions)))
     where
       -- what stays is of the generation before

@@ -6,7 +6,7 @@ use Rattle.std.specs.Option.{is_some, option_map}
 use Rattle.sg_agreement.proofs.FewMedia.{described_is}
 use Rattle.sg_agreement.specs.Answers.{AgreedAnswer, accepted_answer, agreed_answer, answered_by}
 use Rattle.sg_agreement.specs.Described.{described}
-use Rattle.sg_agreement.specs.Generations.{Generation, generation_of, keys_from, numbered, owner_at, sessions_from, stream_session, stream_sessions}
+use Rattle.sg_agreement.specs.Generations.{numbered, owner_at, sessions_from, stream_session, stream_sessions}
 use Rattle.sg_agreement.specs.Keyed.{Keyed, medium_agreed, media_agreed}
 use Rattle.sg_agreement.specs.Keying.{Offer}
 use Rattle.sg_agreement.specs.Media.{Medium, Stream}
@@ -23,19 +23,19 @@ use Rattle.sg_sdp.specs.declared.medium.Medium as descriptions
 use Rattle.sg_sdp.specs.declared.sdp.Sdp.{Sdp}
 use Rattle.sg_session.proofs.Inversions.{after_ok_is, ok_is}
 use Rattle.sg_session.proofs.Lists.{any_here, any_there}
-use Rattle.sg_session.specs.Ring.{install}
 use Rattle.sg_session.specs.Session.{Key, Session}
 use Rattle.sg_session.specs.declared.names.Direction.{Direction}
 use Rattle.sg_session.specs.declared.names.Direction.TheVariants.{Opening, Sealing}
+use Rattle.sg_gateway.proofs.Addressed.{IsAnswered, answer_is}
 use Rattle.sg_gateway.proofs.Agreements.{Agreements}
 use Rattle.sg_gateway.proofs.CarriedOut.{found_with, id_found, stays}
 use Rattle.sg_gateway.proofs.Kept.{IsOffered, WasOffered}
 use Rattle.sg_gateway.proofs.Signals.{found}
 use Rattle.sg_gateway.specs.Addressed.{IsMediumAt}
 use Rattle.sg_gateway.specs.CallSignals.{answered_to}
-use Rattle.sg_gateway.specs.Generations.{Settled, keyed}
+use Rattle.sg_gateway.specs.Generations.{Settled}
 use Rattle.sg_gateway.specs.Signals.{Answered, Answer, answer_to, answered, in_old, offering_side, tells_answer}
-use Rattle.sg_gateway.specs.World.{Books, Call, World, call_of, same_id}
+use Rattle.sg_gateway.specs.World.{Call, World, call_of, same_id}
 use Rattle.sg_conduct.proofs.Lists.{any_first}
 use Rattle.sg_conduct.specs.Present.{HasProfileOf, HasSession, HasSessions, TakesPart}
 
@@ -189,29 +189,6 @@ module _ (call generation : ℕ) (a b : descriptions.Medium) where
         (sessions_there ms ns xs are.1 k ((let lt = in_offer.0 in omega (arith, lt)), in_offer.1) ((let lt = in_answer.0 in omega (arith, lt)), in_answer.1) (first + 1) (n + length x.from_peer.keys + length x.to_peer.keys))))
 
 -- ---- an answer
-
-pub record IsAnswered (c d : Call) (o : Offer) (noise text : List ℕ) : Type 0 where
-  pub serial : d.serial ≡ c.serial
-  pub id : d.id ≡ c.id
-  pub agreement : AgreedAnswer
-  pub agreed : agreed_answer c.slot o noise text ≡ Ok agreement
-  pub number : ℕ
-  pub sessions : d.sessions ≡ sessions_from c.serial c.generations 0 number agreement.media ++ filter (stays c) c.sessions
-
-pub answer_is : (now : ℕ) (books : Books) (c : Call) (noise text : List ℕ) (o : Offer) (r : Settled) → answered_to now books c noise text (Some o) ≡ Ok r → IsAnswered c r.call o noise text
-answer_is now books c noise text o r e =
-    let a = after_ok_is (agreed_answer c.slot o noise text) (λ a. keyed now books c a.text a.media) r e in
-    let b = after_ok_is (generation_of c.serial c.generations books.ring a.0.media) _ r a.2 in
-    let g = after_ok_is (install books.ring (keys_from c.serial c.generations 0 a.0.media)) _ b.0 b.1 in
-    let news : sessions_from c.serial c.generations 0 (length books.ring) a.0.media ≡ b.0.sessions = ap (λ (g : Generation). g.sessions) (ok_is _ b.0 g.2) in
-    subst (λ (r : Settled). IsAnswered c r.call o noise text) (ok_is _ r b.2) (record {
-      serial = refl;
-      id = refl;
-      agreement = a.0;
-      agreed = a.1;
-      number = length books.ring;
-      sessions = ap (λ (ss : List Session). ss ++ filter (stays c) c.sessions) (sym news);
-    })
 
 abbrev pub AreTherein : Offer → Sdp → ℕ → Call → Type 0
 AreTherein o answer generation d =

@@ -1,3 +1,5 @@
+pub mod Carried
+pub mod Causes
 pub mod Drawn
 pub mod Heard
 pub mod Manual

@@ -2,6 +2,8 @@
 
 ghost use Rattle.std.specs.Prelude.{List};
 ghost use Rattle.sg_gateway.specs.Step.{Event};
+ghost use Rattle.sg_conduct.specs.Carried.{OffersAreCarried};
+ghost use Rattle.sg_conduct.specs.Causes.{RefusedAnswersShowCauses};
 ghost use Rattle.sg_conduct.specs.Drawn.{OwnKeysAreDrawn};
 ghost use Rattle.sg_conduct.specs.Heard.{CallsWereHeard};
 ghost use Rattle.sg_conduct.specs.Manual.{ManualCallsAreTaken};
@@ -73,6 +75,23 @@ pub fn offers_are_taken()
     sg_gateway::signals_are_taken();
 }
 
+/// What is told of an offer that isn't refused is its description line by line, but for what holds for one side alone, with the
+/// gateway's own ports, address and lines; and that offer is open.
+pub fn offers_are_told_as_they_came()
+    ensures { (events : List Event) → OffersAreCarried events }
+{
+    sg_gateway::signals_are_taken();
+}
+
+/// An answer to an open offer is refused only for a cause that its text, its message or the ring shows.
+pub fn refused_answers_show_causes()
+    ensures { (events : List Event) → RefusedAnswersShowCauses events }
+{
+    agreements_are_sound();
+    active_media_are_agreed();
+    offers_fit_their_calls();
+}
+
 /// A call that is keyed manually is made and live where its keys are free, under the sessions that its line says.
 pub fn manual_calls_are_taken()
     ensures { (events : List Event) → ManualCallsAreTaken events }
@@ -94,6 +113,7 @@ pub fn calls_were_heard()
 pub fn told_texts_are_own()
     ensures { (events : List Event) → ToldTextsAreOwn events }
 {
+    sg_sdp::a_carried_text_is_a_description();
     sg_sdp::descriptions_have_one_value();
     agreements_are_sound();
     active_media_are_agreed();

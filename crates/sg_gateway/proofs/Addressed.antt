@@ -35,18 +35,29 @@ use Rattle.sg_gateway.specs.World.{Books, Call, World, call_of, same_id}
 
 -- ---- the sessions of media, from one on
 
-module _ (side : Side) where
-  -- the addresses of its medium, where the media begin at that of number k
-  pub record HasFrom (k : ℕ) (ms ns : List descriptions.Medium) (s : Session) : Type 0 where
+-- whatever holds of the sessions of each medium, by what the two texts describe of it
+module _ (P : descriptions.Medium → descriptions.Medium → Session → Type 0) where
+  -- it holds by its medium, where the media begin at that of number k
+  pub record HoldsFrom (k : ℕ) (ms ns : List descriptions.Medium) (s : Session) : Type 0 where
     pub of_offer : descriptions.Medium
     pub of_answer : descriptions.Medium
     pub at : ℕ
     pub place : s.name.owner.medium ≡ k + at
     pub in_offer : IsMediumAt ms at of_offer
     pub in_answer : IsMediumAt ns at of_answer
-    pub between : IsBetween side of_offer of_answer s.secure s.plain
+    pub has : P of_offer of_answer s
 
-  next : (k : ℕ) (m n : descriptions.Medium) (ms ns : List descriptions.Medium) (s : Session) → HasFrom (k + 1) ms ns s → HasFrom k (m ∷ ms) (n ∷ ns) s
+  abbrev OfStreams : descriptions.Medium → descriptions.Medium → Option Medium → Type 0
+  OfStreams m n None = Unit {0}
+  OfStreams m n (Some x) = (owner : Owner) (keys : List Key) (st : Stream) (window : ℕ) → AllByRecursion (P m n) (stream_sessions owner keys st window x)
+
+  -- of the sessions of each medium that is agreed
+  abbrev pub OfEach : List descriptions.Medium → List descriptions.Medium → List (Option Medium) → Type 0
+  OfEach [] [] [] = Unit {0}
+  OfEach (m ∷ ms) (n ∷ ns) (x ∷ xs) = OfStreams m n x × OfEach ms ns xs
+  OfEach _ _ _ = ⊥
+
+  next : (k : ℕ) (m n : descriptions.Medium) (ms ns : List descriptions.Medium) (s : Session) → HoldsFrom (k + 1) ms ns s → HoldsFrom k (m ∷ ms) (n ∷ ns) s
   next k m n ms ns s is = record {
     of_offer = is.of_offer;
     of_answer = is.of_answer;
@@ -54,43 +65,65 @@ module _ (side : Side) where
     place = let e = is.place in omega (arith, e);
     in_offer = ((let lt = is.in_offer.0 in omega (arith, lt)), is.in_offer.1);
     in_answer = ((let lt = is.in_answer.0 in omega (arith, lt)), is.in_answer.1);
-    between = is.between;
+    has = is.has;
   }
 
   stream_from : (k : ℕ) (m n : descriptions.Medium) (ms ns : List descriptions.Medium) (owner : Owner) (keys : List Key) (st : Stream) (window : ℕ) (x : Medium)
-      → owner.medium ≡ k → IsBetween side m n x.secure x.plain → AllByRecursion (HasFrom k (m ∷ ms) (n ∷ ns)) (stream_sessions owner keys st window x)
-  stream_from k m n ms ns owner keys st window x of_medium is = (this Rtp st.encrypts_rtp st.tag_len, go x.has_rtcp)
+      → owner.medium ≡ k → AllByRecursion (P m n) (stream_sessions owner keys st window x) → AllByRecursion (HoldsFrom k (m ∷ ms) (n ∷ ns)) (stream_sessions owner keys st window x)
+  stream_from k m n ms ns owner keys st window x of_medium are = (this Rtp st.encrypts_rtp st.tag_len are.0, go x.has_rtcp are.1)
     where
-      this : (kind : Kind) (encrypts : Bool) (tag_len : ℕ) → HasFrom k (m ∷ ms) (n ∷ ns) (stream_session owner keys st window x kind encrypts tag_len)
-      this kind encrypts tag_len = record { of_offer = m; of_answer = n; at = 0; place = (let e = of_medium in omega (arith, e)); in_offer = (omega arith, refl); in_answer = (omega arith, refl); between = is }
+      this : (kind : Kind) (encrypts : Bool) (tag_len : ℕ) → P m n (stream_session owner keys st window x kind encrypts tag_len) → HoldsFrom k (m ∷ ms) (n ∷ ns) (stream_session owner keys st window x kind encrypts tag_len)
+      this kind encrypts tag_len has = record { of_offer = m; of_answer = n; at = 0; place = (let e = of_medium in omega (arith, e)); in_offer = (omega arith, refl); in_answer = (omega arith, refl); has = has }
 
-      go : (b : Bool) → AllByRecursion (HasFrom k (m ∷ ms) (n ∷ ns)) (cond b (stream_session owner keys st window x Rtcp st.encrypts_rtcp 10 ∷ []) [])
-      go true = (this Rtcp st.encrypts_rtcp 10, tt)
-      go false = tt
+      go : (b : Bool) → AllByRecursion (P m n) (cond b (stream_session owner keys st window x Rtcp st.encrypts_rtcp 10 ∷ []) [])
+          → AllByRecursion (HoldsFrom k (m ∷ ms) (n ∷ ns)) (cond b (stream_session owner keys st window x Rtcp st.encrypts_rtcp 10 ∷ []) [])
+      go true are = (this Rtcp st.encrypts_rtcp 10 are.0, tt)
+      go false are = tt
 
-  pub sessions_between : (call generation k number : ℕ) (ms ns : List descriptions.Medium) (xs : List (Option Medium)) → AreBetween side ms ns xs
-      → AllByRecursion (HasFrom k ms ns) (sessions_from call generation k number xs)
-  sessions_between call generation k number [] [] [] are = tt
-  sessions_between call generation k number [] [] (x ∷ xs) are = absurd are
-  sessions_between call generation k number [] (n ∷ ns) [] are = absurd are
-  sessions_between call generation k number [] (n ∷ ns) (x ∷ xs) are = absurd are
-  sessions_between call generation k number (m ∷ ms) [] [] are = absurd are
-  sessions_between call generation k number (m ∷ ms) [] (x ∷ xs) are = absurd are
-  sessions_between call generation k number (m ∷ ms) (n ∷ ns) [] are = absurd are
-  sessions_between call generation k number (m ∷ ms) (n ∷ ns) (None ∷ xs) are =
-      each_weaker (HasFrom (k + 1) ms ns) (HasFrom k (m ∷ ms) (n ∷ ns)) (next k m n ms ns) (sessions_from call generation (k + 1) number xs)
-      (sessions_between call generation (k + 1) number ms ns xs are.1)
-  sessions_between call generation k number (m ∷ ms) (n ∷ ns) (Some x ∷ xs) are =
+  pub each_from : (call generation k number : ℕ) (ms ns : List descriptions.Medium) (xs : List (Option Medium)) → OfEach ms ns xs
+      → AllByRecursion (HoldsFrom k ms ns) (sessions_from call generation k number xs)
+  each_from call generation k number [] [] [] are = tt
+  each_from call generation k number [] [] (x ∷ xs) are = absurd are
+  each_from call generation k number [] (n ∷ ns) xs are = absurd are
+  each_from call generation k number (m ∷ ms) [] xs are = absurd are
+  each_from call generation k number (m ∷ ms) (n ∷ ns) [] are = absurd are
+  each_from call generation k number (m ∷ ms) (n ∷ ns) (None ∷ xs) are =
+      each_weaker (HoldsFrom (k + 1) ms ns) (HoldsFrom k (m ∷ ms) (n ∷ ns)) (next k m n ms ns) (sessions_from call generation (k + 1) number xs)
+      (each_from call generation (k + 1) number ms ns xs are.1)
+  each_from call generation k number (m ∷ ms) (n ∷ ns) (Some x ∷ xs) are =
       let opening : List Session = stream_sessions (owner_at call generation k Opening) (numbered number x.from_peer.keys) x.from_peer x.window x in
       let sealing : List Session = stream_sessions (owner_at call generation k Sealing) (numbered (number + length x.from_peer.keys) x.to_peer.keys) x.to_peer 1024 x in
       let later : List Session = sessions_from call generation (k + 1) (number + length x.from_peer.keys + length x.to_peer.keys) xs in
-      each_append (HasFrom k (m ∷ ms) (n ∷ ns)) opening (sealing ++ later) (stream_from k m n ms ns (owner_at call generation k Opening) _ x.from_peer x.window x refl are.0)
-      (each_append (HasFrom k (m ∷ ms) (n ∷ ns)) sealing later (stream_from k m n ms ns (owner_at call generation k Sealing) _ x.to_peer 1024 x refl are.0)
-      (each_weaker (HasFrom (k + 1) ms ns) (HasFrom k (m ∷ ms) (n ∷ ns)) (next k m n ms ns) later
-      (sessions_between call generation (k + 1) (number + length x.from_peer.keys + length x.to_peer.keys) ms ns xs are.1)))
+      each_append (HoldsFrom k (m ∷ ms) (n ∷ ns)) opening (sealing ++ later) (stream_from k m n ms ns (owner_at call generation k Opening) _ x.from_peer x.window x refl (are.0 (owner_at call generation k Opening) (numbered number x.from_peer.keys) x.from_peer x.window))
+      (each_append (HoldsFrom k (m ∷ ms) (n ∷ ns)) sealing later (stream_from k m n ms ns (owner_at call generation k Sealing) _ x.to_peer 1024 x refl (are.0 (owner_at call generation k Sealing) (numbered (number + length x.from_peer.keys) x.to_peer.keys) x.to_peer 1024))
+      (each_weaker (HoldsFrom (k + 1) ms ns) (HoldsFrom k (m ∷ ms) (n ∷ ns)) (next k m n ms ns) later
+      (each_from call generation (k + 1) (number + length x.from_peer.keys + length x.to_peer.keys) ms ns xs are.1)))
+
+-- ---- their addresses
+
+module _ (side : Side) where
+  abbrev Between : descriptions.Medium → descriptions.Medium → Session → Type 0
+  Between m n s = IsBetween side m n s.secure s.plain
+
+  streams_between : (m n : descriptions.Medium) (x : Medium) → IsBetween side m n x.secure x.plain → (owner : Owner) (keys : List Key) (st : Stream) (window : ℕ)
+      → AllByRecursion (Between m n) (stream_sessions owner keys st window x)
+  streams_between m n x is owner keys st window = (is, go x.has_rtcp)
+    where
+      go : (b : Bool) → AllByRecursion (Between m n) (cond b (stream_session owner keys st window x Rtcp st.encrypts_rtcp 10 ∷ []) [])
+      go true = (is, tt)
+      go false = tt
+
+  each_between : (ms ns : List descriptions.Medium) (xs : List (Option Medium)) → AreBetween side ms ns xs → OfEach Between ms ns xs
+  each_between [] [] [] are = tt
+  each_between [] [] (x ∷ xs) are = absurd are
+  each_between [] (n ∷ ns) xs are = absurd are
+  each_between (m ∷ ms) [] xs are = absurd are
+  each_between (m ∷ ms) (n ∷ ns) [] are = absurd are
+  each_between (m ∷ ms) (n ∷ ns) (None ∷ xs) are = (tt, each_between ms ns xs are.1)
+  each_between (m ∷ ms) (n ∷ ns) (Some x ∷ xs) are = (streams_between m n x are.0, each_between ms ns xs are.1)
 
   -- from the first medium on
-  from_first : (ms ns : List descriptions.Medium) (s : Session) → HasFrom 0 ms ns s → HasAddresses side ms ns s
+  from_first : (ms ns : List descriptions.Medium) (s : Session) → HoldsFrom Between 0 ms ns s → HasAddresses side ms ns s
   from_first ms ns s is =
       let same : is.at ≡ s.name.owner.medium = (let e = is.place in omega (arith, e)) in
       record {
@@ -98,22 +131,22 @@ module _ (side : Side) where
         of_answer = is.of_answer;
         in_offer = subst (λ k. IsMediumAt ms k is.of_offer) same is.in_offer;
         in_answer = subst (λ k. IsMediumAt ns k is.of_answer) same is.in_answer;
-        between = is.between;
+        between = is.has;
       }
 
 -- ---- an answer
 
 -- the call with the sessions of this agreement, and behind them what stays of the generation before
-record IsAnswered (c d : Call) (o : Offer) (noise text : List ℕ) : Type 0 where
-  serial : d.serial ≡ c.serial
-  id : d.id ≡ c.id
-  generations : d.generations ≡ c.generations + 1
-  agreement : AgreedAnswer
-  agreed : agreed_answer c.slot o noise text ≡ Ok agreement
-  number : ℕ
-  sessions : d.sessions ≡ sessions_from c.serial c.generations 0 number agreement.media ++ filter (stays c) c.sessions
+pub record IsAnswered (c d : Call) (o : Offer) (noise text : List ℕ) : Type 0 where
+  pub serial : d.serial ≡ c.serial
+  pub id : d.id ≡ c.id
+  pub generations : d.generations ≡ c.generations + 1
+  pub agreement : AgreedAnswer
+  pub agreed : agreed_answer c.slot o noise text ≡ Ok agreement
+  pub number : ℕ
+  pub sessions : d.sessions ≡ sessions_from c.serial c.generations 0 number agreement.media ++ filter (stays c) c.sessions
 
-answer_is : (now : ℕ) (books : Books) (c : Call) (noise text : List ℕ) (o : Offer) (r : Settled) → answered_to now books c noise text (Some o) ≡ Ok r → IsAnswered c r.call o noise text
+pub answer_is : (now : ℕ) (books : Books) (c : Call) (noise text : List ℕ) (o : Offer) (r : Settled) → answered_to now books c noise text (Some o) ≡ Ok r → IsAnswered c r.call o noise text
 answer_is now books c noise text o r e =
     let a = after_ok_is (agreed_answer c.slot o noise text) (λ a. keyed now books c a.text a.media) r e in
     let b = after_ok_is (generation_of c.serial c.generations books.ring a.0.media) _ r a.2 in
@@ -145,8 +178,9 @@ answered_between c d o noise text was is =
       All-from_recursion (λ s. s.name.owner.generation + 1 ≡ d.generations → HasAddresses o.side o.description.media b.0.media s) d.sessions
           (subst (AllByRecursion (λ s. s.name.owner.generation + 1 ≡ d.generations → HasAddresses o.side o.description.media b.0.media s)) (sym is.sessions)
           (each_append (λ s. s.name.owner.generation + 1 ≡ d.generations → HasAddresses o.side o.description.media b.0.media s) new old
-          (each_weaker (HasFrom o.side 0 o.description.media b.0.media) (λ s. s.name.owner.generation + 1 ≡ d.generations → HasAddresses o.side o.description.media b.0.media s)
-          (λ s has at. from_first o.side o.description.media b.0.media s has) new (sessions_between o.side c.serial c.generations 0 is.number o.description.media b.0.media is.agreement.media between))
+          (each_weaker (HoldsFrom (Between o.side) 0 o.description.media b.0.media) (λ s. s.name.owner.generation + 1 ≡ d.generations → HasAddresses o.side o.description.media b.0.media s)
+          (λ s has at. from_first o.side o.description.media b.0.media s has) new
+          (each_from (Between o.side) c.serial c.generations 0 is.number o.description.media b.0.media is.agreement.media (each_between o.side o.description.media b.0.media is.agreement.media between)))
           (each_weaker (λ s. (stays c s ≡ true) × Any (λ x. x ≡ s) c.sessions) (λ s. s.name.owner.generation + 1 ≡ d.generations → HasAddresses o.side o.description.media b.0.media s)
           (λ s p at.
           let old_one : s.name.owner.generation + 1 ≡ c.generations = eqb-true _ _ (and_parts (is_opening s) (is_current c s) p.0).1 in

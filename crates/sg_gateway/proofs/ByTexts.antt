@@ -59,6 +59,7 @@ pub record MadeBy (id : CallId) (o : Offer) (u : Turn) : Type 0 where
   pub noise : List ℕ
   pub text : List ℕ
   pub hand : AtHand
+  pub drawn : hand.noise ≡ noise
   pub pairs : hand.pairs ≡ u.before.books.pairs
   pub accepted : AgreedOffer
   pub agreed : agreed_offer hand way text ≡ Ok accepted
@@ -114,8 +115,9 @@ rejection_closed now c d e = go (is_some c.offer) (eqb c.generations 0) e
     go false b e = absurd cc
 
 -- what an offer settles, and what is told of it
-record IsSettledBy (w : World) (id : CallId) (way : Way) (text : List ℕ) (r : Settled) : Type 0 where
+record IsSettledBy (w : World) (id : CallId) (way : Way) (noise text : List ℕ) (r : Settled) : Type 0 where
   hand : AtHand
+  drawn : hand.noise ≡ noise
   pairs : hand.pairs ≡ w.books.pairs
   accepted : AgreedOffer
   agreed : agreed_offer hand way text ≡ Ok accepted
@@ -123,11 +125,11 @@ record IsSettledBy (w : World) (id : CallId) (way : Way) (text : List ℕ) (r : 
   offer : r.call.offer ≡ Some accepted.offer
   told : r.text ≡ accepted.text
 
-settled_by : (w : World) (id : CallId) (c : Call) (way : Way) (noise text : List ℕ) (r : Settled) → c.id ≡ id → offered_in w.moment w.books c way noise text ≡ Ok r → IsSettledBy w id way text r
+settled_by : (w : World) (id : CallId) (c : Call) (way : Way) (noise text : List ℕ) (r : Settled) → c.id ≡ id → offered_in w.moment w.books c way noise text ≡ Ok r → IsSettledBy w id way noise text r
 settled_by w id c way noise text r of_id e =
     let a = stop_if_is (not (takes_offer c)) State _ r e in
     let b = after_ok_is (agreed_offer (at_hand w.moment w.books c noise) way text) _ r a.1 in
-    subst (IsSettledBy w id way text) (ok_is _ r b.2) (record { hand = at_hand w.moment w.books c noise; pairs = refl; accepted = b.0; agreed = b.1; id_is = of_id; offer = refl; told = refl })
+    subst (IsSettledBy w id way noise text) (ok_is _ r b.2) (record { hand = at_hand w.moment w.books c noise; drawn = refl; pairs = refl; accepted = b.0; agreed = b.1; id_is = of_id; offer = refl; told = refl })
 
 module _ (ts : List Turn) (w : World) (made : WereMade ts w) (e : Event) where
   abbrev Now : List Turn
@@ -148,7 +150,7 @@ module _ (ts : List Turn) (w : World) (made : WereMade ts w) (e : Event) where
   old_made id told (Ok r) is = each_with_call (WasMade Now) r.call w.calls (is r refl) still
 
   -- an offer that is taken is made in this turn
-  offer_made : (id : CallId) (way : Way) (noise text : List ℕ) → e ≡ Signalled (Offered id way noise text) → (r : Settled) → IsSettledBy w id way text r
+  offer_made : (id : CallId) (way : Way) (noise text : List ℕ) → e ≡ Signalled (Offered id way noise text) → (r : Settled) → IsSettledBy w id way noise text r
       → Any (λ x. x ≡ Sdp id (other_side (side_of way)) r.text) (step w e).outcomes → WasMade Now r.call
   offer_made id way noise text same r by tells o open_one =
       let of_offer : by.accepted.offer ≡ o = some_is by.accepted.offer o (sym by.offer ∙ open_one) in
@@ -157,6 +159,7 @@ module _ (ts : List Turn) (w : World) (made : WereMade ts w) (e : Event) where
         noise = noise;
         text = text;
         hand = by.hand;
+        drawn = by.drawn;
         pairs = by.pairs;
         accepted = by.accepted;
         agreed = by.agreed;

@@ -90,6 +90,7 @@ module _ (old now : MigrationTellings) (taken out : List ℕ) (moment : ℕ) (sc
     split = refl;
     one = inr refl;
     near = near;
+    sound = ap (λ (m : Migration). m.fault) lines_are;
     begun = ([], sym (append-nil (migrated taken) ∙ lines_made));
     within = ([], ap migrated (append-nil taken) ∙ lines_made ∙ sym (append-nil out));
   }
@@ -178,6 +179,7 @@ module _ (old now : MigrationTellings) (taken out : List ℕ) (moment : ℕ) (sc
         split = ap (λ (o : List ℕ). taken ++ o) read.split;
         one = inl read.whole;
         near = subst (λ (o : List ℕ). length o ≤ 74097) read.split near;
+        sound = ap (λ (m : Migration). m.fault) lines_are;
         begun = (part, ap (λ (t : List ℕ). t ++ part) (sym lines_made));
         within = (prefix.0, line_made ∙ ap (λ (t : List ℕ). out ++ t) prefix.1 ∙ sym (append_assoc out part prefix.0));
       }

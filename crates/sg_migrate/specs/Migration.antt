@@ -22,8 +22,9 @@ pub record AreMigrated (octets out : List ℕ) : Type 0 where
   pub unended : NoEnd part
   pub all : IsWholeMigration lines out None
 
--- Of the octets that were read these lines were written, then this line was under way, and those octets were ahead: with that
--- line, a line and what the buffer holds at most. Of what is made of the line under way a prefix was written.
+-- Of the octets that were read these lines, which have no fault, were written, then this line was under way, and those octets
+-- were ahead: with that line, a line and what the buffer holds at most. Of what is made of the line under way a prefix was
+-- written.
 pub record IsCutMigration (octets out : List ℕ) : Type 0 where
   pub lines : List ℕ
   pub line : List ℕ
@@ -31,6 +32,7 @@ pub record IsCutMigration (octets out : List ℕ) : Type 0 where
   pub split : octets ≡ lines ++ (line ++ ahead)
   pub one : IsWhole line ⊎ (line ≡ [])
   pub near : length (line ++ ahead) ≤ 74097
+  pub sound : (migration lines).fault ≡ None
   pub begun : IsPrefixOf (migrated lines) out
   pub within : IsPrefixOf out (migrated (lines ++ line))
 

@@ -57,7 +57,7 @@ module _ (P : List ℕ → Type 0) (nothing : P []) where
   spelt (l ∷ ls) text (rest, inr is, later) each =
       subst (AllByRecursion P) (sym (ap parts_of is ∙ parted ends_line l 10 rest refl)) (each_append P (parts_of l) (parts_of rest) each.0 (spelt ls rest later each.1))
 
-spells : (ls : List (List ℕ)) → Spells ls (flat_map ended ls)
+pub spells : (ls : List (List ℕ)) → Spells ls (flat_map ended ls)
 spells [] = refl
 spells (l ∷ ls) = (flat_map ended ls, inl (append_assoc l (13 ∷ 10 ∷ []) (flat_map ended ls)), spells ls)
 
@@ -215,7 +215,7 @@ not_long : (b : Bool) (f : Fault) (r : Result Sdp Fault) (s : Sdp) → cond b (E
 not_long true f r s e = absurd cc
 not_long false f r s e = e
 
-within : (text : List ℕ) (s : Sdp) → description_of text ≡ Ok s → description_within 2048 text ≡ Ok s
+pub within : (text : List ℕ) (s : Sdp) → description_of text ≡ Ok s → description_within 2048 text ≡ Ok s
 unfolding description_of
 within text s e = not_long (ltb 16384 (length text)) _ (description_within 2048 text) s e
 

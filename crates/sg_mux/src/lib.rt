@@ -12,5 +12,6 @@ mod texts;
 pub use known::Known;
 pub use laws::{
     legs_are_muxed_by_their_texts, ports_are_shared_as_told, shared_ports_are_faithful,
+    told_texts_are_descriptions,
 };
 pub use mux::Mux;

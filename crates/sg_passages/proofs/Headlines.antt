@@ -5,6 +5,7 @@ use Rattle.sg_session.proofs.Lists.{any_weaker}
 use Rattle.sg_session.specs.Reach.{Sealed}
 use Rattle.sg_session.specs.Session.{Session}
 use Rattle.sg_gateway.specs.Addressed.{OfferIsItsText, OffersAreTheirTexts}
+use Rattle.sg_conduct.specs.Carried.{OfferIsCarried, OffersAreCarried}
 use Rattle.sg_conduct.specs.Offers.{OfferIsTaken, OffersAreTaken}
 use Rattle.sg_conduct.specs.Manual.{ManualCallsAreTaken, ManualIsTaken}
 use Rattle.sg_conduct.specs.Place as place
@@ -20,7 +21,6 @@ use Rattle.sg_gateway.specs.Refusing.{EachRefusalChangesNothing, EachRefusedOffe
 use Rattle.sg_gateway.specs.Runs.{Turn, turns}
 use Rattle.sg_gateway.specs.SealedOut as seals
 use Rattle.sg_gateway.specs.Step.{Event}
-use Rattle.sg_gateway.specs.Taken as taken
 use Rattle.sg_gateway.specs.Used.{EachSealUsesItsBlocks, SealsUseTheirBlocks}
 use Rattle.sg_gateway.specs.World.{Call}
 use Rattle.sg_passages.proofs.Lifting.{bars_out, bars_plain, bars_secure, each, made_live, none_told, one_out, some_end, some_refusal, told_out, told_refusal}
@@ -109,11 +109,16 @@ module _ (events : List Event) (passages : List Passage) (are : ArePassagesOf ev
         (λ id way noise text c s is found by_lines closed many described keyed. let r = h.1 id way noise text c s is found by_lines closed many described keyed in (r.0, (r.1.0, f.offers id way noise text is ∙ r.1.1))),
       )) holds
 
-  pub agreed_taken : taken.OffersAreTaken events → EachAsTold (λ t. taken.NewOfferIsTaken t × taken.LaterOfferIsTaken t) passages
-  agreed_taken holds = over (λ t. taken.NewOfferIsTaken t × taken.LaterOfferIsTaken t) (λ p. taken.NewOfferIsTaken (as_told p) × taken.LaterOfferIsTaken (as_told p))
-      (λ p f h. (
-        (λ id way noise text a is none room agreed. let r = h.0 id way noise text a is none room agreed in (r.0, f.offers id way noise text is ∙ r.1)),
-        (λ id way noise text c a is found by_lines closed agreed. let r = h.1 id way noise text c a is found by_lines closed agreed in (r.0, f.offers id way noise text is ∙ r.1)),
+  pub offers_told : OffersAreCarried events → EachAsTold OfferIsCarried passages
+  offers_told holds = over OfferIsCarried (λ p. OfferIsCarried (as_told p))
+      (λ p f h id way noise text is taken.
+      let r = h id way noise text is (λ refused. taken (told_refusal p f refused)) in (
+        r.0,
+        r.1,
+        elim r.2 [
+          | inl m ↦ inl (m.0, m.1, (m.2.0, f.offers id way noise text is ∙ m.2.1, m.2.2))
+          | inr o ↦ inr (o.0, o.1, o.2, o.3, o.4, (o.5.0, f.offers id way noise text is ∙ o.5.1, o.5.2))
+        ],
       )) holds
 
   pub manual_taken : ManualCallsAreTaken events → EachAsTold ManualIsTaken passages

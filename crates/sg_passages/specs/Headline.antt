@@ -21,10 +21,11 @@ use Rattle.sg_gateway.specs.Refusing.{OffersStayOpen}
 use Rattle.sg_gateway.specs.Served.{EachKeyServesItsLife, NoKeyIsOverspent}
 use Rattle.sg_gateway.specs.Step.{Event}
 use Rattle.sg_gateway.specs.Tags.{EachSessionHasWholeTags}
-use Rattle.sg_gateway.specs.Taken.{NewOfferIsTaken, LaterOfferIsTaken}
 use Rattle.sg_gateway.specs.Twice.{NoneTwice, NoneTwiceUnderKey, KeysHaveOneOwner}
 use Rattle.sg_gateway.specs.Unforged.{Unforged}
 use Rattle.sg_gateway.specs.Used.{NoBlockTwice, SealsUseTheirBlocks}
+use Rattle.sg_conduct.specs.Carried.{OfferIsCarried}
+use Rattle.sg_conduct.specs.Causes.{RefusedAnswersShowCauses}
 use Rattle.sg_conduct.specs.Drawn.{OwnKeysAreDrawn}
 use Rattle.sg_conduct.specs.Heard.{CallsWereHeard}
 use Rattle.sg_conduct.specs.Manual.{ManualIsTaken}
@@ -82,10 +83,11 @@ pub record Headline (events : List Event) (passages : List Passage) : Type 0 whe
   pub ticks : TicksMove events
   pub ticks_keep : TicksKeep events
   pub offers : EachAsTold OfferIsTaken passages
-  pub agreed_offers : EachAsTold (λ t. NewOfferIsTaken t × LaterOfferIsTaken t) passages
+  pub told_offers : EachAsTold OfferIsCarried passages
   pub manual_calls : EachAsTold ManualIsTaken passages
   pub rejections : RejectionsClose events
   pub answers : EachAsTold AnswerRenews passages
+  pub refused_answers : RefusedAnswersShowCauses events
   pub earlier_kept : AnswersKeepEarlier events
   pub plain_texts : NoKeyGoesToThePlainSide events
   pub told_texts : EachAsTold PlainTextsHaveNoKey passages

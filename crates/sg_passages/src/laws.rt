@@ -24,7 +24,6 @@ pub fn the_headline_holds()
     sg_gateway::no_call_stays_idle();
     sg_gateway::a_moment_comes_once();
     sg_gateway::signals_are_carried_out();
-    sg_gateway::signals_are_taken();
     sg_gateway::plain_texts_have_no_key();
     sg_gateway::texts_tell_addresses();
     sg_gateway::answers_are_by_their_texts();
@@ -38,6 +37,8 @@ pub fn the_headline_holds()
     sg_conduct::other_calls_stay();
     sg_conduct::calls_were_heard();
     sg_conduct::offers_are_taken();
+    sg_conduct::offers_are_told_as_they_came();
+    sg_conduct::refused_answers_show_causes();
     sg_conduct::manual_calls_are_taken();
     sg_conduct::answers_have_sessions();
     sg_conduct::answers_have_no_other_sessions();

@@ -1,5 +1,5 @@
 -- Lists of events that tell the same and leave the same state.
-use Rattle.std.proofs.Common.{◌≡◌, ℕ, List, [], ◌∷◌, ◌++◌, map, sym, ap, ◌∙◌}
+use Rattle.std.proofs.Common.{◌≡◌, ℕ, List, [], ◌∷◌, ◌++◌, map, refl, sym, ap, ◌∙◌}
 use Rattle.std.proofs.lemmas.Grind.{flat_map-append}
 use Rattle.std.proofs.lemmas.List.{append-nil}
 use Rattle.sg_front.proofs.Quiet.{arrivals_moment, is_quiet, of_run, of_run_after}
@@ -8,13 +8,17 @@ use Rattle.sg_front.specs.States.{FrontStandsFor, FrontValue, State, state_after
 use Rattle.sg_gateway.specs.Signals.{Tick}
 use Rattle.sg_gateway.specs.Step.{Event, Signalled}
 use Rattle.sg_outcome.specs.OutcomeText.{outcome_line}
-use Rattle.sg_playback.specs.Playing.{AreAlike, text_from}
+use Rattle.sg_playback.specs.Playing.{AreAlike, effects, text_from}
 use Rattle.sg_table.specs.Batches.{arrived}
 use Rattle.sg_table.specs.declared.arrival.Arrival.{Arrival}
+use Rattle.sg_trace.specs.Loop.{GoInOrder}
 use Rattle.sg_trace.specs.Output.{text}
 
 pub text_from-append : (state : State) (es fs : List Event) → text_from state (es ++ fs) ≡ text_from state es ++ text_from (state_after state es) fs
 text_from-append state es fs = ap text (told_from-append state es fs) ∙ flat_map-append outcome_line (told_from state es) (told_from (state_after state es) fs)
+
+pub events_in_order : GoInOrder effects
+events_in_order = record { none_told = λ s. refl; none_after = λ s. refl; told = text_from-append; after = state_after-append }
 
 pub same_alike : (state : State) (es fs : List Event) → es ≡ fs → AreAlike state es fs
 same_alike state es fs is = record { told = ap (text_from state) is; left = ap (state_after state) is }

@@ -1,11 +1,13 @@
 -- A script in the grammar is played to its end, where nothing fails.
-use Rattle.std.proofs.Common.{◌≡◌, ℕ, Bool, List, [], refl, inl, inr, arith}
+use Rattle.std.proofs.Common.{◌≡◌, ℕ, Bool, List, [], refl, sym, ◌∙◌, inl, inr, arith}
+use Rattle.std.proofs.lemmas.List.{append-nil}
 use Rattle.sg_trace.proofs.Grammars.{in_replay, no_fault}
 use Rattle.sg_trace.specs.Trace.{AtFault, replayed}
 use Rattle.sg_trace.specs.declared.status.Status.{Status}
-use Rattle.sg_trace.specs.declared.status.Status.TheVariants.{Done, Usage, Script, Read, Write, Link, NoMemory, Clock, Noise, TurnsSpent, Capture}
+use Rattle.sg_trace.specs.declared.status.Status.TheVariants.{Done, Script, Read, Write, NoMemory, Noise}
 use Rattle.sg_edge.proofs.Links.{added_none}
 use Rattle.sg_edge.proofs.Passed.{took_none, wrote_none}
+use Rattle.sg_playback.proofs.Replays.{output_so}
 use Rattle.sg_playback.specs.Replay.{IsCompleteReplay, IsReplay, ReplayTellings, output_in}
 
 pub complete : (muxes : Bool) (status : Status) (old new : ReplayTellings) (octets draws out : List ℕ) → IsReplay muxes status old new octets draws out
@@ -15,14 +17,10 @@ complete muxes NoMemory old new octets draws out run a b c = λ all rest told to
 complete muxes Read old new octets draws out run a b c = absurd (a refl)
 complete muxes Write old new octets draws out run a b c = absurd (b refl)
 complete muxes Noise old new octets draws out run a b c = absurd (c refl)
-complete muxes Usage old new octets draws out run a b c = absurd run.ends
-complete muxes Link old new octets draws out run a b c = absurd run.ends
-complete muxes Clock old new octets draws out run a b c = absurd run.ends
-complete muxes TurnsSpent old new octets draws out run a b c = absurd run.ends
-complete muxes (Capture offset fault) old new octets draws out run a b c = absurd run.ends
 complete muxes (Script n f) old new octets draws out run a b c = λ all rest told told' script.
     let ends = run.ends in
     absurd (no_fault old.left new.left octets all rest f (λ o. (replayed o draws).stop ≡ AtFault n f) run.took told told' script (λ o whole. in_replay n f o draws whole) ends.0.stops ends.1 ends.2)
+complete muxes other old new octets draws out run a b c = absurd run.ends
 
 -- memory ran out before anything was read
 pub untouched : (muxes : Bool) (old : ReplayTellings) → IsReplay muxes NoMemory old old [] [] []
@@ -30,6 +28,17 @@ untouched muxes old = record {
   took = took_none old.left;
   drew = added_none old.drawn;
   wrote = wrote_none old.written;
-  ends = (output_in muxes (replayed [] []).events, refl);
+  ends = record {
+    played = [];
+    ahead = [];
+    split = refl;
+    near = omega arith;
+    told = [];
+    late = [];
+    alike = refl;
+    few = omega arith;
+    begun = ([], output_so muxes [] ∙ sym (append-nil (output_in muxes [])));
+    within = ([], sym (output_so muxes []));
+  };
   bound = omega arith;
 }

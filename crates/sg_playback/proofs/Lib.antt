@@ -1,5 +1,6 @@
 pub mod Alike
-mod Completes
+pub mod Completes
+pub mod Lines
 pub mod Plays
 mod Replays
 mod Tells

@@ -17,7 +17,7 @@ use Rattle.sg_lines.specs.declared.lines.Line.TheVariants as lines
 use Rattle.sg_lines.specs.declared.lines.Signal.{Signal}
 use Rattle.sg_table.specs.Batches.{arrived}
 use Rattle.sg_playback.proofs.Alike.{alike_more, same_alike, text_from-append}
-use Rattle.sg_playback.specs.Playing.{AreAlike, Closes, HasCome, HasRoom, IsClosed, IsCut, IsPlayed, IsSettled, IsStepped, IsTaken, IsWant, Playing, tells_waiting, text_from, waiting}
+use Rattle.sg_playback.specs.Playing.{AreAlike, HasCome, HasRoom, IsCut, IsPlayed, IsSettled, IsStepped, IsTaken, IsWant, Playing, text_from, waiting}
 
 -- ---- fronts
 
@@ -179,36 +179,6 @@ unsupplied NoMemory signal state waited waits stands_for draws out is told = abs
 unsupplied Clock signal state waited waits stands_for draws out is told = absurd is
 unsupplied TurnsSpent signal state waited waits stands_for draws out is told = absurd is
 unsupplied (Capture offset fault) signal state waited waits stands_for draws out is told = absurd is
-
--- ---- closing
-
--- an end that tells nothing
-pub closed_bare : (end : Status) (state : State) (waited : List Event) → tells_waiting end ≡ false → IsClosed end end state waited []
-closed_bare Done state waited off = absurd cc
-closed_bare Usage state waited off = (refl, refl)
-closed_bare (Script n fault) state waited off = absurd cc
-closed_bare Read state waited off = (refl, refl)
-closed_bare Write state waited off = (refl, refl)
-closed_bare Link state waited off = (refl, refl)
-closed_bare NoMemory state waited off = (refl, refl)
-closed_bare Clock state waited off = (refl, refl)
-closed_bare Noise state waited off = (refl, refl)
-closed_bare TurnsSpent state waited off = (refl, refl)
-closed_bare (Capture offset fault) state waited off = absurd cc
-
--- and one that does
-pub closed_told : (end status : Status) (state : State) (waited : List Event) (out : List ℕ) → tells_waiting end ≡ true → Closes end status state waited out → IsClosed end status state waited out
-closed_told Done status state waited out on closes = closes
-closed_told Usage status state waited out on closes = absurd cc
-closed_told (Script n fault) status state waited out on closes = closes
-closed_told Read status state waited out on closes = absurd cc
-closed_told Write status state waited out on closes = absurd cc
-closed_told Link status state waited out on closes = absurd cc
-closed_told NoMemory status state waited out on closes = absurd cc
-closed_told Clock status state waited out on closes = absurd cc
-closed_told Noise status state waited out on closes = absurd cc
-closed_told TurnsSpent status state waited out on closes = absurd cc
-closed_told (Capture offset fault) status state waited out on closes = closes
 
 -- ---- what was wanting
 

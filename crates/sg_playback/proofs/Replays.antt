@@ -1,249 +1,94 @@
--- How a replay goes on, line by line, and how it ends.
-use Rattle.std.proofs.Common.{◌≡◌, ◌⊎◌, ◌+◌, ◌≤◌, ◌^◌, ℕ, Bool, List, [], ◌++◌, length, Option, Err, refl, sym, ap, ◌∙◌, subst, inl, inr, append_assoc, length-append, arith}
-use Rattle.std.proofs.lemmas.List.{append-nil}
+-- A replay is the course of its lines, and how it ends is how the loop does.
+use Rattle.std.proofs.Common.{◌≡◌, ◌+◌, ℕ, Bool, List, [], ◌∷◌, ◌++◌, length, Option, None, Some, Result, Ok, Err, refl, sym, ap, ◌∙◌, subst}
 use Rattle.sg_base.specs.declared.faults.ScriptFault.{ScriptFault}
-use Rattle.sg_trace.proofs.Traces.{reads_on, stops_at, with_events_again}
-use Rattle.sg_trace.specs.Trace.{AtEnd as BehindAll, AtFault, Trace, ForDraw, Later, Replays, Stop, trace_from, drawing, handled, replayed, stopped, with_events}
-use Rattle.sg_trace.specs.Output.{IsPrefixOf, text}
-use Rattle.sg_trace.specs.Reading.{IsFault, IsNext, IsRead, Reading}
-use Rattle.sg_trace.specs.declared.status.Status.{Status}
-use Rattle.sg_trace.specs.declared.status.Status.TheVariants.{Done, Usage, Script, Read, Write, Link, NoMemory, Clock, Noise, TurnsSpent, Capture}
-use Rattle.sg_edge.proofs.Links.{added_more, added_none}
-use Rattle.sg_edge.proofs.Passed.{took_more, wrote_more, wrote_none}
-use Rattle.sg_edge.specs.Links.{Added}
-use Rattle.sg_edge.specs.Told.{AtEnd, TookIn, Wrote}
 use Rattle.sg_front.proofs.Runs.{told_in}
-use Rattle.sg_front.specs.States.{State, start, state_after}
+use Rattle.sg_front.specs.States.{start}
+use Rattle.sg_gateway.specs.Drawn.{Supplied, supplied}
+use Rattle.sg_gateway.specs.Events.{events_of}
 use Rattle.sg_gateway.specs.Step.{Event}
 use Rattle.sg_lines.specs.LineOf.{version_after}
 use Rattle.sg_lines.specs.ScriptLines.{lines_of}
 use Rattle.sg_lines.specs.declared.lines.Line.{Line}
-use Rattle.sg_playback.proofs.Alike.{alike_behind, alike_more, same_alike, text_from-append, then_alike}
-use Rattle.sg_playback.specs.Playing.{AreAlike, Closes, IsClosed, IsCut, IsPlayed, IsTaken, text_from}
-use Rattle.sg_playback.specs.Replay.{ReplayEnds, IsWholeReplay, ReplayTellings, output_in}
+use Rattle.sg_playback.specs.Playing.{text_from}
+use Rattle.sg_playback.specs.Replay.{IsCutReplay, IsReplayOfLines, IsWholeReplay, ReplayEnds, given_by, of_replay, output_in}
+use Rattle.sg_trace.specs.Course.{Course, behind_given, behind_line, course, course_from, read_at}
+use Rattle.sg_trace.specs.Loop.{AreTold, IsAll, IsCut, LoopEnds}
+use Rattle.sg_trace.specs.Output.{IsPrefixOf, text}
+use Rattle.sg_trace.specs.Trace.{AtEnd as BehindAll, AtFault, Later, Replays, Stop, Trace, after_line, drawing, handled_as, line_at, replayed, trace_from, with_events}
+use Rattle.sg_trace.specs.declared.status.Status.{Status}
+use Rattle.sg_trace.specs.declared.status.Status.TheVariants.{Done, Script, Read, Write, NoMemory, Noise}
 
--- what a state tells from the start on
-pub output_so : (muxes : Bool) (events : List Event) → text_from (start muxes) events ≡ output_in muxes events
-output_so muxes events = ap text (told_in muxes events)
+-- ---- courses
 
--- The replay has taken whole lines and drawn octets. A prefix of what is like their events was handled and told, and
--- the rest waits.
-pub record IsReplaying (muxes : Bool) (old now : ReplayTellings) (taken waits drawn : List ℕ) (es ps : List Event) (version n at : ℕ) : Type 0 where
-  pub events : List Event
-  pub alike : AreAlike (start muxes) events (es ++ ps)
-  pub took : TookIn old.left now.left (taken ++ waits)
-  pub drew : Added old.drawn now.drawn drawn
-  pub wrote : Wrote old.written now.written (text_from (start muxes) es)
-  pub goes : (rest more : List ℕ) → replayed (taken ++ rest) (drawn ++ more) ≡ with_events events (trace_from Replays version n at (lines_of rest) 0 (drawing more))
+abbrev as_trace : Course Event → Trace
+as_trace c = record { events = c.deeds; stop = c.stop; left = drawing c.left }
+
+at_so : (version n at : ℕ) (line : List ℕ) → read_at of_replay version n at line ≡ line_at version n at line
+unfolding line_at
+at_so version n at line = refl
+
+given_so : (s : Option Supplied) (later : List ℕ → Course Event) (later' : Later) (draws : List ℕ) → ((rest : List ℕ) → as_trace (later rest) ≡ later' 0 (drawing rest))
+    → as_trace (behind_given (given_by s) draws later) ≡ handled_as s later' 0 (drawing draws)
+given_so None later later' draws same = refl
+given_so (Some s) later later' draws same = ap (with_events (events_of s.line)) (same s.draws)
+
+behind_so : (version n : ℕ) (r : Result Line ScriptFault) (later : ℕ → List ℕ → Course Event) (later' : ℕ → Later) (draws : List ℕ) → ((v : ℕ) (rest : List ℕ) → as_trace (later v rest) ≡ later' v 0 (drawing rest))
+    → as_trace (behind_line of_replay version n r later draws) ≡ after_line Replays version n r later' 0 (drawing draws)
+behind_so version n (Err fault) later later' draws same = refl
+behind_so version n (Ok l) later later' draws same = given_so (supplied draws l) (later (version_after version l)) (later' (version_after version l)) draws (same (version_after version l))
+
+from_so : (version n at : ℕ) (ls : List (List ℕ)) (draws : List ℕ) → as_trace (course_from of_replay version n at ls draws) ≡ trace_from Replays version n at ls 0 (drawing draws)
+from_so version n at [] draws = refl
+from_so version n at (l ∷ ls) draws =
+    ap (λ (r : Result Line ScriptFault). as_trace (behind_line of_replay version n r (λ v. course_from of_replay v (n + 1) (at + length l) ls) draws)) (at_so version n at l)
+    ∙ behind_so version n (line_at version n at l) _ (λ v. trace_from Replays v (n + 1) (at + length l) ls) draws (λ v rest. from_so v (n + 1) (at + length l) ls rest)
+
+pub replay_so : (octets draws : List ℕ) → as_trace (course of_replay octets draws) ≡ replayed octets draws
+replay_so octets draws = from_so 1 1 0 (lines_of octets) draws
+
+-- ---- ends
 
 module _ (muxes : Bool) where
-  module _ (octets drawn : List ℕ) where
-    -- where what is like all events was told
-    whole_so : (events es : List Event) (stop : Stop) → AreAlike (start muxes) events es → replayed octets drawn ≡ with_events events (stopped stop (drawing [])) → IsWholeReplay muxes octets drawn (text_from (start muxes) es) stop
-    whole_so events es stop alike is = record {
-      stops = ap (λ (c : Trace). c.stop) is;
-      left = ap (λ (c : Trace). c.left) is;
-      told = sym (ap (λ (c : Trace). output_in muxes c.events) is ∙ ap (output_in muxes) (append-nil events) ∙ sym (output_so muxes events) ∙ alike.told);
-    }
+  -- what a state tells from the start on
+  pub output_so : (events : List Event) → text_from (start muxes) events ≡ output_in muxes events
+  output_so events = ap text (told_in muxes events)
 
-    -- where a prefix of further events' text was written
-    prefix_so : (events es fs : List Event) (rest : Trace) (prefix : List ℕ) → AreAlike (start muxes) events (es ++ fs) → replayed octets drawn ≡ with_events events rest → IsPrefixOf prefix (text_from (state_after (start muxes) es) fs)
-        → IsPrefixOf (text_from (start muxes) es ++ prefix) (output_in muxes (replayed octets drawn).events)
-    prefix_so events es fs rest prefix alike is part =
-        let tail = text_from (state_after (start muxes) events) rest.events in (
-          part.0 ++ tail,
-          ap (λ (c : Trace). output_in muxes c.events) is ∙ sym (output_so muxes (events ++ rest.events)) ∙ text_from-append (start muxes) events rest.events
-              ∙ ap (λ (l : List ℕ). l ++ tail) (alike.told ∙ text_from-append (start muxes) es fs ∙ ap (λ (l : List ℕ). text_from (start muxes) es ++ l) part.1 ∙ sym (append_assoc (text_from (start muxes) es) prefix part.0))
-              ∙ append_assoc (text_from (start muxes) es ++ prefix) part.0 tail,
-        )
+  told_so : (octets draws : List ℕ) → text_from (start muxes) (course of_replay octets draws).deeds ≡ output_in muxes (replayed octets draws).events
+  told_so octets draws = output_so (course of_replay octets draws).deeds ∙ ap (λ (t : Trace). output_in muxes t.events) (replay_so octets draws)
 
-  -- a status of a run that was cut
-  pub ends_cut : (status : Status) (octets draws out : List ℕ) (left : Option (List ℕ)) → (status ≡ Write) ⊎ (status ≡ NoMemory) → IsPrefixOf out (output_in muxes (replayed octets draws).events) → ReplayEnds muxes status octets draws out left
-  ends_cut status octets draws out left (inl is) prefix = subst (λ s. ReplayEnds muxes s octets draws out left) (sym is) prefix
-  ends_cut status octets draws out left (inr is) prefix = subst (λ s. ReplayEnds muxes s octets draws out left) (sym is) prefix
+  whole_so : (octets draws out : List ℕ) (stop : Stop) → IsAll of_replay (text_from (start muxes)) octets draws out stop → IsWholeReplay muxes octets draws out stop
+  whole_so octets draws out stop all = record {
+    stops = sym (ap (λ (t : Trace). t.stop) (replay_so octets draws)) ∙ all.stops;
+    left = sym (ap (λ (t : Trace). t.left) (replay_so octets draws)) ∙ ap drawing all.left;
+    told = all.told ∙ told_so octets draws;
+  }
 
-module _ (muxes : Bool) (old now : ReplayTellings) (taken drawn : List ℕ) (es ps : List Event) (script : Reading)
-    (going : IsReplaying muxes old now taken script.waits drawn es ps script.version script.number script.offset)
-    (left' : Option (List ℕ)) (got : List ℕ) (came : TookIn now.left left' got) where
-  -- the octets read by then
-  abbrev pub octets : List ℕ
-  octets = taken ++ (script.waits ++ got)
+  lines_so : (octets draws out : List ℕ) → AreTold of_replay (text_from (start muxes)) octets draws out → IsReplayOfLines muxes octets draws out
+  lines_so octets draws out are = record { lines = are.lines; part = are.part; split = are.split; unended = are.unended; all = whole_so are.lines draws out BehindAll are.all }
 
-  pub took_all : TookIn old.left left' octets
-  took_all = subst (TookIn old.left left') (append_assoc taken script.waits got) (took_more old.left now.left left' (taken ++ script.waits) got going.took came)
+  cut_so : (octets draws out : List ℕ) → IsCut of_replay (text_from (start muxes)) 258 octets draws out → IsCutReplay muxes octets draws out
+  cut_so octets draws out cut = record {
+    played = cut.played;
+    ahead = cut.ahead;
+    split = cut.split;
+    near = cut.near;
+    told = cut.told;
+    late = cut.late;
+    alike = sym (told_so cut.played draws) ∙ cut.alike ∙ output_so (cut.told ++ cut.late);
+    few = cut.few;
+    begun = (cut.begun.0, cut.begun.1 ∙ ap (λ (o : List ℕ). o ++ cut.begun.0) (output_so cut.told));
+    within = subst (IsPrefixOf out) (output_so (cut.told ++ cut.late)) cut.within;
+  }
 
-  trace_is : (draws : List ℕ) → replayed octets (drawn ++ draws) ≡ with_events going.events (trace_from Replays script.version script.number script.offset (lines_of (script.waits ++ got)) 0 (drawing draws))
-  trace_is draws = going.goes (script.waits ++ got) draws
-
-  no_draw : replayed octets drawn ≡ replayed octets (drawn ++ [])
-  no_draw = ap (replayed octets) (sym (append-nil drawn))
-
-  -- whatever comes, what is written is a prefix
-  pub is_prefix : IsPrefixOf (text_from (start muxes) es ++ []) (output_in muxes (replayed octets drawn).events)
-  is_prefix = prefix_so muxes octets drawn going.events es ps _ [] going.alike (no_draw ∙ trace_is []) (text_from (state_after (start muxes) es) ps, refl)
-
-  -- at an end that is closed
-  closed_whole : (end status : Status) (stop : Stop) (out : List ℕ) → trace_from Replays script.version script.number script.offset (lines_of (script.waits ++ got)) 0 (drawing []) ≡ stopped stop (drawing [])
-      → (IsWholeReplay muxes octets drawn (text_from (start muxes) es ++ out) stop → ReplayEnds muxes end octets drawn (text_from (start muxes) es ++ out) left') → Closes end status (state_after (start muxes) es) ps out → ReplayEnds muxes status octets drawn (text_from (start muxes) es ++ out) left'
-  closed_whole end status stop out stops ends (inl all) =
-      subst (λ s. ReplayEnds muxes s octets drawn (text_from (start muxes) es ++ out) left') (sym all.0)
-      (ends (subst (λ (o : List ℕ). IsWholeReplay muxes octets drawn o stop) (text_from-append (start muxes) es ps ∙ ap (λ (o : List ℕ). text_from (start muxes) es ++ o) (sym all.1)) (whole_so muxes octets drawn going.events (es ++ ps) stop going.alike (no_draw ∙ trace_is [] ∙ ap (with_events going.events) stops))))
-  closed_whole end status stop out stops ends (inr cut) = ends_cut muxes status octets drawn (text_from (start muxes) es ++ out) left' cut.0 (prefix_so muxes octets drawn going.events es ps _ out going.alike (no_draw ∙ trace_is []) cut.1)
-
-  -- at the end of the source
-  pub closed_at_end : (status : Status) (out : List ℕ) → script.waits ++ got ≡ [] → AtEnd left' → Closes Done status (state_after (start muxes) es) ps out → ReplayEnds muxes status octets drawn (text_from (start muxes) es ++ out) left'
-  closed_at_end status out none end closed =
-      closed_whole Done status BehindAll out (ap (λ (l : List ℕ). trace_from Replays script.version script.number script.offset (lines_of l) 0 (drawing [])) none) (λ whole. (whole, end)) closed
-
-  closed_at_fault : (fault : ScriptFault) (status : Status) (out : List ℕ) → IsFault script.version script.number script.offset (script.waits ++ got) fault left'
-      → Closes (Script script.number fault) status (state_after (start muxes) es) ps out → ReplayEnds muxes status octets drawn (text_from (start muxes) es ++ out) left'
-  closed_at_fault fault status out is closed =
-      closed_whole (Script script.number fault) status (AtFault script.number fault) out (stops_at Replays script.version script.number script.offset (script.waits ++ got) fault 0 (drawing []) is.first refl)
-      (λ whole. (
-        whole,
-        is.ended,
-        λ other more.
-            ap (λ (l : List ℕ). (replayed l drawn).stop) (append_assoc taken (script.waits ++ got) more)
-            ∙ ap (λ (d : List ℕ). (replayed (taken ++ ((script.waits ++ got) ++ more)) d).stop) (sym (append-nil drawn))
-            ∙ ap (λ (c : Trace). c.stop) (going.goes ((script.waits ++ got) ++ more) [])
-            ∙ ap (λ (c : Trace). c.stop) (stops_at Replays script.version script.number script.offset ((script.waits ++ got) ++ more) fault 0 (drawing []) (is.still other more) refl),
-      )) closed
-
-  -- where no line was read
-  pub closed_at_err : (end status : Status) (new : Reading) (out : List ℕ) → IsNext (Err end) script new got left' → IsClosed end status (state_after (start muxes) es) ps out
-      → ReplayEnds muxes status octets drawn (text_from (start muxes) es ++ out) left'
-  closed_at_err (Script n fault) status new out next closed =
-      closed_at_fault fault status out (subst (λ (m : ℕ). IsFault script.version m script.offset (script.waits ++ got) fault left') next.0 next.1) (subst (λ (m : ℕ). Closes (Script m fault) status (state_after (start muxes) es) ps out) next.0 closed)
-  closed_at_err Read status new out next closed =
-      subst (λ s. ReplayEnds muxes s octets drawn (text_from (start muxes) es ++ out) left') (sym closed.0) (subst (λ (o : List ℕ). IsPrefixOf (text_from (start muxes) es ++ o) (output_in muxes (replayed octets drawn).events)) (sym closed.1) is_prefix)
-  closed_at_err NoMemory status new out next closed =
-      subst (λ s. ReplayEnds muxes s octets drawn (text_from (start muxes) es ++ out) left') (sym closed.0) (subst (λ (o : List ℕ). IsPrefixOf (text_from (start muxes) es ++ o) (output_in muxes (replayed octets drawn).events)) (sym closed.1) is_prefix)
-  closed_at_err Done status new out next closed = absurd next
-  closed_at_err Usage status new out next closed = absurd next
-  closed_at_err Write status new out next closed = absurd next
-  closed_at_err Link status new out next closed = absurd next
-  closed_at_err Clock status new out next closed = absurd next
-  closed_at_err Noise status new out next closed = absurd next
-  closed_at_err TurnsSpent status new out next closed = absurd next
-  closed_at_err (Capture offset fault) status new out next closed = absurd next
-
-  module _ (l : Line) (new : Reading) (read : IsRead l script new got) where
-    -- what the rest makes of what follows
-    abbrev later : List ℕ → Later
-    later rest = trace_from Replays (version_after script.version l) (script.number + 1) (script.offset + length read.line) (lines_of rest)
-
-    line_goes : (rest draws : List ℕ) → trace_from Replays script.version script.number script.offset (lines_of (read.line ++ rest)) 0 (drawing draws) ≡ handled l (later rest) 0 (drawing draws)
-    line_goes rest draws = reads_on Replays script.version script.number script.offset read.line rest l 0 (drawing draws) refl read.whole read.is
-
-    -- all octets read, with those drawn
-    all_is : (draws : List ℕ) → replayed octets (drawn ++ draws) ≡ with_events going.events (handled l (later new.waits) 0 (drawing draws))
-    all_is draws =
-        trace_is draws ∙ ap (λ (r : List ℕ). with_events going.events (trace_from Replays script.version script.number script.offset (lines_of r) 0 (drawing draws))) read.split
-        ∙ ap (with_events going.events) (line_goes new.waits draws)
-
-    -- the line's events behind all others
-    line_alike : (events : List Event) → AreAlike (start muxes) (going.events ++ events) (es ++ (ps ++ events))
-    line_alike events = subst (AreAlike (start muxes) (going.events ++ events)) (append_assoc es ps events) (alike_more (start muxes) going.events (es ++ ps) events going.alike)
-
-    cut_so : (draws out : List ℕ) → IsCut l (state_after (start muxes) es) ps draws out → IsPrefixOf (text_from (start muxes) es ++ out) (output_in muxes (replayed octets (drawn ++ draws)).events)
-    cut_so draws out cut =
-        let rest = cut.goes (later new.waits) in
-        prefix_so muxes octets (drawn ++ draws) (going.events ++ cut.events) es (ps ++ cut.events) rest.0 out (line_alike cut.events)
-        (all_is draws ∙ ap (with_events going.events) rest.1 ∙ with_events_again going.events cut.events rest.0) cut.told
-
-    -- where a line ends the run
-    pub ends_played : (status : Status) (waits' : List Event) (stands_for : State → Type 0) (draws out : List ℕ) → IsPlayed (Err status) l (state_after (start muxes) es) ps waits' stands_for draws out
-        → ReplayEnds muxes status octets (drawn ++ draws) (text_from (start muxes) es ++ out) left'
-    ends_played Write waits' stands_for draws out cut = cut_so draws out cut
-    ends_played NoMemory waits' stands_for draws out cut = cut_so draws out cut
-    ends_played Noise waits' stands_for draws out is =
-        let nothing : replayed octets (drawn ++ draws) ≡ with_events going.events (stopped ForDraw (drawing [])) =
-        all_is draws ∙ ap (λ (d : List ℕ). with_events going.events (handled l (later new.waits) 0 (drawing d))) is.drew ∙ ap (with_events going.events) (is.stops (later new.waits)) in
-        subst (λ (o : List ℕ). IsWholeReplay muxes octets (drawn ++ draws) o ForDraw) (text_from-append (start muxes) es ps ∙ ap (λ (o : List ℕ). text_from (start muxes) es ++ o) (sym is.told)) (whole_so muxes octets (drawn ++ draws) going.events (es ++ ps) ForDraw going.alike nothing)
-    ends_played Done waits' stands_for draws out is = absurd is
-    ends_played Usage waits' stands_for draws out is = absurd is
-    ends_played (Script n fault) waits' stands_for draws out is = absurd is
-    ends_played Read waits' stands_for draws out is = absurd is
-    ends_played Link waits' stands_for draws out is = absurd is
-    ends_played Clock waits' stands_for draws out is = absurd is
-    ends_played TurnsSpent waits' stands_for draws out is = absurd is
-    ends_played (Capture offset fault) waits' stands_for draws out is = absurd is
-
-    -- where it doesn't
-    pub goes_on : (drawn' written' : Option (List ℕ)) (waits' : List Event) (stands_for : State → Type 0) (draws out : List ℕ) (taken_so : IsTaken l (state_after (start muxes) es) ps waits' stands_for draws out)
-        → Added now.drawn drawn' draws → Wrote now.written written' out
-        → IsReplaying muxes old (record { left = left'; written = written'; drawn = drawn' }) (taken ++ read.line) new.waits (drawn ++ draws) (es ++ taken_so.prefix) waits' new.version new.number new.offset
-    goes_on drawn' written' waits' stands_for draws out taken_so drew wrote = record {
-      events = going.events ++ taken_so.events;
-      alike =
-          subst (AreAlike (start muxes) (going.events ++ taken_so.events)) (sym (append_assoc es taken_so.prefix waits'))
-          (then_alike (start muxes) (going.events ++ taken_so.events) (es ++ (ps ++ taken_so.events)) (es ++ (taken_so.prefix ++ waits')) (line_alike taken_so.events)
-          (alike_behind (start muxes) es (ps ++ taken_so.events) (taken_so.prefix ++ waits') taken_so.alike));
-      took = subst (TookIn old.left left') (ap (λ (l : List ℕ). taken ++ l) read.split ∙ sym (append_assoc taken read.line new.waits)) took_all;
-      drew = added_more old.drawn now.drawn drawn' drawn draws going.drew drew;
-      wrote = subst (Wrote old.written written') (ap (λ (o : List ℕ). text_from (start muxes) es ++ o) taken_so.told ∙ sym (text_from-append (start muxes) es taken_so.prefix)) (wrote_more old.written now.written written' (text_from (start muxes) es) out going.wrote wrote);
-      goes = λ rest more.
-          (λ i. replayed (append_assoc taken read.line rest i) (append_assoc drawn draws more i))
-          ∙ going.goes (read.line ++ rest) (draws ++ more)
-          ∙ ap (with_events going.events) (line_goes rest (draws ++ more) ∙ taken_so.goes (later rest) more)
-          ∙ with_events_again going.events taken_so.events _
-          ∙ (λ i. with_events (going.events ++ taken_so.events) (trace_from Replays (sym read.version i) (sym read.number i) (sym read.offset i) (lines_of rest) 0 (drawing more)));
-    }
-
--- how many octets were read
-pub bounded : (taken waits got : List ℕ) (at budget budget' : ℕ) → length taken ≡ at → at + length waits + budget ≡ 2 ^ 30 + 1 → length got + budget' ≡ budget → length (taken ++ (waits ++ got)) ≤ 2 ^ 30 + 1
-bounded taken waits got at budget budget' size room paid = omega (arith, size, room, paid, length-append taken (waits ++ got), length-append waits got)
-
--- nothing is read, drawn, handled or written yet
-pub begins : (muxes : Bool) (old : ReplayTellings) (ps : List Event) (script : Reading) → ps ≡ [] → script ≡ record { waits = []; version = 1; number = 1; offset = 0; budget = 2 ^ 30 + 1 }
-    → IsReplaying muxes old old [] script.waits [] [] ps script.version script.number script.offset
-begins muxes old ps script none is = record {
-  events = [];
-  alike = same_alike (start muxes) [] ps (sym none);
-  took = subst (λ (s : Reading). TookIn old.left old.left s.waits) (sym is) (λ after left. left);
-  drew = added_none old.drawn;
-  wrote = wrote_none old.written;
-  goes = λ rest more. (λ i. trace_from Replays (sym is i).version (sym is i).number (sym is i).offset (lines_of rest) 0 (drawing more));
-}
-
--- ---- whose failure it was
-
-pub close_read : (end status : Status) (old new : Reading) (got : List ℕ) (left : Option (List ℕ)) (state : State) (waited : List Event) (out : List ℕ) → IsNext (Err end) old new got left → IsClosed end status state waited out
-    → (status ≡ Read → end ≡ Read) × (end ≡ Read → status ≡ Read)
-close_read (Script n fault) status old new got left state waited out next (inl is) = ((λ same. absurd (let both : Script n fault ≡ Read = sym is.0 ∙ same in cc)), λ same. cc)
-close_read (Script n fault) status old new got left state waited out next (inr (inl is, prefix)) = ((λ same. absurd (let both : Write ≡ Read = sym is ∙ same in cc)), λ same. cc)
-close_read (Script n fault) status old new got left state waited out next (inr (inr is, prefix)) = ((λ same. absurd (let both : NoMemory ≡ Read = sym is ∙ same in cc)), λ same. cc)
-close_read Read status old new got left state waited out next is = ((λ same. refl), λ same. is.0)
-close_read NoMemory status old new got left state waited out next is = ((λ same. absurd (let both : NoMemory ≡ Read = sym is.0 ∙ same in cc)), λ same. cc)
-close_read Done status old new got left state waited out next is = absurd next
-close_read Usage status old new got left state waited out next is = absurd next
-close_read Write status old new got left state waited out next is = absurd next
-close_read Link status old new got left state waited out next is = absurd next
-close_read Clock status old new got left state waited out next is = absurd next
-close_read Noise status old new got left state waited out next is = absurd next
-close_read TurnsSpent status old new got left state waited out next is = absurd next
-close_read (Capture offset fault) status old new got left state waited out next is = absurd next
-
-pub close_noise : (end status : Status) (old new : Reading) (got : List ℕ) (left : Option (List ℕ)) (state : State) (waited : List Event) (out : List ℕ) → IsNext (Err end) old new got left → IsClosed end status state waited out
-    → status ≡ Noise → ⊥
-close_noise (Script n fault) status old new got left state waited out next (inl is) same = let both : Script n fault ≡ Noise = sym is.0 ∙ same in cc
-close_noise (Script n fault) status old new got left state waited out next (inr (inl is, prefix)) same = let both : Write ≡ Noise = sym is ∙ same in cc
-close_noise (Script n fault) status old new got left state waited out next (inr (inr is, prefix)) same = let both : NoMemory ≡ Noise = sym is ∙ same in cc
-close_noise Read status old new got left state waited out next is same = let both : Read ≡ Noise = sym is.0 ∙ same in cc
-close_noise NoMemory status old new got left state waited out next is same = let both : NoMemory ≡ Noise = sym is.0 ∙ same in cc
-close_noise Done status old new got left state waited out next is same = absurd next
-close_noise Usage status old new got left state waited out next is same = absurd next
-close_noise Write status old new got left state waited out next is same = absurd next
-close_noise Link status old new got left state waited out next is same = absurd next
-close_noise Clock status old new got left state waited out next is same = absurd next
-close_noise Noise status old new got left state waited out next is same = absurd next
-close_noise TurnsSpent status old new got left state waited out next is same = absurd next
-close_noise (Capture offset fault) status old new got left state waited out next is same = absurd next
-
-pub done_not : (status other : Status) (state : State) (waited : List Event) (out : List ℕ) → Closes Done status state waited out → (Done ≡ other → ⊥) → (Write ≡ other → ⊥) → (NoMemory ≡ other → ⊥) → status ≡ other → ⊥
-done_not status other state waited out (inl is) a b c same = a (sym is.0 ∙ same)
-done_not status other state waited out (inr (inl is, prefix)) a b c same = b (sym is ∙ same)
-done_not status other state waited out (inr (inr is, prefix)) a b c same = c (sym is ∙ same)
-
-pub played_not_read : (status : Status) (l : Line) (state : State) (waited waits : List Event) (stands_for : State → Type 0) (draws out : List ℕ) → IsPlayed (Err status) l state waited waits stands_for draws out → status ≡ Read → ⊥
-played_not_read status l state waited waits stands_for draws out is same = subst (λ other. IsPlayed (Err other) l state waited waits stands_for draws out) same is
+  pub ends_so : (status : Status) (octets draws out : List ℕ) (left : Option (List ℕ)) → LoopEnds of_replay (text_from (start muxes)) 258 status octets draws out left → ReplayEnds muxes status octets draws out left
+  ends_so Done octets draws out left ends = (whole_so octets draws out BehindAll ends.0, ends.1)
+  ends_so (Script n fault) octets draws out left ends = (
+    whole_so octets draws out (AtFault n fault) ends.0,
+    ends.1,
+    λ other more. sym (ap (λ (t : Trace). t.stop) (replay_so (octets ++ more) draws)) ∙ ends.2 other more,
+  )
+  ends_so Noise octets draws out left ends = whole_so octets draws out _ ends
+  ends_so Read octets draws out left ends = lines_so octets draws out ends
+  ends_so Write octets draws out left ends = cut_so octets draws out ends
+  ends_so NoMemory octets draws out left ends = cut_so octets draws out ends
+  ends_so other octets draws out left ends = absurd ends

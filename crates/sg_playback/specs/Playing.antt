@@ -1,5 +1,7 @@
 -- What playing the lines of a script leaves, one by one.
-use Rattle.std.specs.Prelude.{◌≡◌, ◌⊎◌, ℕ, Bool, true, false, List, [], ◌∷◌, ◌++◌, map, Result, Ok, Err}
+use Rattle.std.specs.Prelude.{◌≡◌, ℕ, List, [], ◌∷◌, ◌++◌, map, Result, Ok, Err}
+pub use Rattle.sg_trace.specs.Loop.{IsWant}
+use Rattle.sg_trace.specs.Loop.{Effects}
 use Rattle.sg_trace.specs.Trace.{Trace, ForDraw, Later, drawing, handled, stopped, with_events}
 use Rattle.sg_trace.specs.Output.{IsPrefixOf, text}
 use Rattle.sg_trace.specs.declared.status.Status.{Status}
@@ -20,13 +22,12 @@ pub record Playing : Type 0 where
 abbrev pub waiting : Playing → List Event
 waiting p = map arrived p.waits
 
--- the sink failed, or memory ran out
-abbrev pub IsWant : Status → Type 0
-IsWant status = (status ≡ Write) ⊎ (status ≡ NoMemory)
-
 -- what the events tell from a state on, as it is written
 abbrev pub text_from : State → List Event → List ℕ
 text_from s events = text (told_from s events)
+
+abbrev pub effects : Effects State Event
+effects = record { tells = text_from; after = state_after }
 
 -- From this state on they tell the same, and leave the same state.
 pub record AreAlike (s : State) (es fs : List Event) : Type 0 where
@@ -100,35 +101,3 @@ IsPlayed (Err Link) l s waited waits stands_for draws out = ⊥
 IsPlayed (Err Clock) l s waited waits stands_for draws out = ⊥
 IsPlayed (Err TurnsSpent) l s waited waits stands_for draws out = ⊥
 IsPlayed (Err (Capture offset fault)) l s waited waits stands_for draws out = ⊥
-
--- The status is that end, and all that waited was told; or the sink failed or memory ran out, and a prefix was.
-abbrev pub Closes : Status → Status → State → List Event → List ℕ → Type 0
-Closes end status s waited out =
-    ((status ≡ end) × (out ≡ text_from s waited)) ⊎ (IsWant status × IsPrefixOf out (text_from s waited))
-
-abbrev pub IsClosed : Status → Status → State → List Event → List ℕ → Type 0
-IsClosed Done status s waited out = Closes Done status s waited out
-IsClosed (Script n fault) status s waited out = Closes (Script n fault) status s waited out
-IsClosed (Capture offset fault) status s waited out = Closes (Capture offset fault) status s waited out
-IsClosed Usage status s waited out = (status ≡ Usage) × (out ≡ [])
-IsClosed Read status s waited out = (status ≡ Read) × (out ≡ [])
-IsClosed Write status s waited out = (status ≡ Write) × (out ≡ [])
-IsClosed Link status s waited out = (status ≡ Link) × (out ≡ [])
-IsClosed NoMemory status s waited out = (status ≡ NoMemory) × (out ≡ [])
-IsClosed Clock status s waited out = (status ≡ Clock) × (out ≡ [])
-IsClosed Noise status s waited out = (status ≡ Noise) × (out ≡ [])
-IsClosed TurnsSpent status s waited out = (status ≡ TurnsSpent) × (out ≡ [])
-
--- a run that ends so tells first what waits
-abbrev pub tells_waiting : Status → Bool
-tells_waiting Done = true
-tells_waiting (Script n fault) = true
-tells_waiting (Capture offset fault) = true
-tells_waiting Usage = false
-tells_waiting Read = false
-tells_waiting Write = false
-tells_waiting Link = false
-tells_waiting NoMemory = false
-tells_waiting Clock = false
-tells_waiting Noise = false
-tells_waiting TurnsSpent = false

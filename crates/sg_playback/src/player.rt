@@ -2,6 +2,7 @@
 
 ghost use Rattle.std.specs.Prelude.{◌≡◌, ◌≢◌, ◌≤◌, ◌<◌, ◌∷◌, ◌++◌, [], ℕ, List, IfErr, IfOk, OnOk, true, false, length};
 ghost use Rattle.sg_trace.specs.Causes.{HasFailed, IsCaused};
+ghost use Rattle.sg_trace.specs.Loop.{Closes};
 ghost use Rattle.sg_edge.specs.Links.{Added};
 ghost use Rattle.sg_edge.specs.Told.{Wrote};
 ghost use Rattle.sg_front.specs.States.{FrontStandsFor, IsTold, State, start};
@@ -11,7 +12,7 @@ ghost use Rattle.sg_gateway.specs.Signals.{Tick};
 ghost use Rattle.sg_gateway.specs.Step.{Datagram, Signalled};
 ghost use Rattle.sg_lines.specs.LineText.{FitsLine};
 ghost use Rattle.sg_lines.specs.declared.lines.Line.TheVariants as lines;
-ghost use Rattle.sg_playback.specs.Playing.{HasCome, HasRoom, IsClosed, IsPlayed, IsSettled, IsStepped, IsWant, tells_waiting, waiting};
+ghost use Rattle.sg_playback.specs.Playing.{HasCome, HasRoom, IsPlayed, IsSettled, IsStepped, IsWant, effects, waiting};
 ghost use Rattle.sg_table.specs.Telling.{IsTimely};
 
 use crate::writing::{tell_all, tell_ends};
@@ -86,9 +87,11 @@ impl Player {
         ensures played { (s : State) → FrontStandsFor self.old.front s → (draws out : List ℕ)
             × Added (N.given noise.old) (N.given noise.new) draws × Wrote (K.written sink.old) (K.written sink.new) out
             × IsPlayed result line s (waiting self.old) (waiting self.new) (FrontStandsFor self.new.front) draws out }
+        ensures few { length self.old.waits ≤ 256 }
         ensures write { IsCaused Status.Write result (K.faults sink.old) (K.faults sink.new) (K.failed sink.new) }
         ensures noise { IsCaused Status.Noise result (N.faults noise.old) (N.faults noise.new) (N.failed noise.new) }
     {
+        let _ = &self.arrivals;
         match line {
             Line::Header | Line::HeaderTwo => Ok(()),
             Line::Datagram { port, from, octets } => {
@@ -207,6 +210,7 @@ impl Player {
         ensures came { (s : State) → FrontStandsFor self.old.front s → (out : List ℕ)
             × Wrote (K.written sink.old) (K.written sink.new) out
             × HasRoom result s (waiting self.old ++ Datagram port from (as_octets octets.now) ∷ []) (waiting self.new) (FrontStandsFor self.new.front) out }
+        ensures few { OnOk result (length self.new.waits ≤ 256) }
         ensures only { IfErr result (λ status. IsWant status) }
         ensures write { IsCaused Status.Write result (K.faults sink.old) (K.faults sink.new) (K.failed sink.new) }
     {
@@ -247,6 +251,7 @@ impl Player {
     ) -> Result<(), Status>
         ensures settled { (s : State) → FrontStandsFor self.old.front s → (out : List ℕ)
             × Wrote (K.written sink.old) (K.written sink.new) out × IsSettled result s (waiting self.old) (waiting self.new) (FrontStandsFor self.new.front) out }
+        ensures few { length self.old.waits ≤ 256 }
         ensures none { OnOk result (self.new.waits ≡ []) }
         ensures only { IfErr result (λ status. IsWant status) }
         ensures write { IsCaused Status.Write result (K.faults sink.old) (K.faults sink.new) (K.failed sink.new) }
@@ -266,8 +271,7 @@ impl Player {
         Ok(())
     }
 
-    /// The status of a run that has come to this end. Before `Done`, `Script` and `Capture` what waits is handled and
-    /// told.
+    /// The status of a run of which nothing more is read, for this reason: what waits is handled and told first.
     pub fn close<R: Threads + Sync, K: Sink, G: Gate + Sync>(
         &mut self,
         rt: &R,
@@ -278,12 +282,9 @@ impl Player {
     ) -> Status
         requires { end ≢ Status.Write }
         ensures closed { (s : State) → FrontStandsFor self.old.front s → (out : List ℕ)
-            × Wrote (K.written sink.old) (K.written sink.new) out × IsClosed end result s (waiting self.old) out }
+            × Wrote (K.written sink.old) (K.written sink.new) out × Closes end result effects 258 s (waiting self.old) out }
         ensures write { HasFailed (result ≡ Status.Write) (K.faults sink.old) (K.faults sink.new) (K.failed sink.new) }
     {
-        if !tells_waiting(end) {
-            return end;
-        }
         match self.settle(rt, alloc, sink, gate) {
             Err(status) => status,
             Ok(()) => end,
@@ -297,6 +298,7 @@ impl Player {
         ensures waits { OnOk result (waiting self.new ≡ waiting self.old ++ Datagram port from (as_octets octets.now) ∷ []) }
         ensures front { self.new.front ≡ self.old.front }
         ensures only { IfErr result (λ status. status ≡ Status.NoMemory) }
+        ensures few { OnOk result (length self.new.waits ≤ 256) }
     {
         let mut pad = match self.take_pad(alloc) {
             Err(NoMemory) => return Err(Status::NoMemory),
@@ -357,16 +359,6 @@ impl Player {
         };
         tell_all(alloc, told.as_slice(), sink)
     }
-}
-
-/// Whether a run that ends so tells first what waits.
-fn tells_waiting(end: Status) -> bool
-    ensures { result ≡ tells_waiting end }
-{
-    matches!(
-        end,
-        Status::Done | Status::Script { .. } | Status::Capture { .. }
-    )
 }
 
 /// Keeps the pads of datagrams that are told, to be used again; none of them is left.

@@ -1,10 +1,13 @@
 //! The command `replay`: the lines of a script, in order.
 
-ghost use Rattle.std.specs.Prelude.{◌≡◌, ◌<◌, ◌≤◌, ◌+◌, ◌^◌, ℕ, List, []};
-ghost use Rattle.sg_trace.specs.Causes.{HasFailed};
-ghost use Rattle.sg_edge.specs.Told.{Rose};
+ghost use Rattle.std.specs.Prelude.{◌≡◌, ◌<◌, ◌≤◌, ◌+◌, ◌^◌, ℕ, List, [], length};
+ghost use Rattle.sg_trace.specs.Causes.{EndedBy, HasFailed};
+ghost use Rattle.sg_trace.specs.Loop.{IsWant, LoopEnds};
+ghost use Rattle.sg_edge.specs.Links.{Added};
+ghost use Rattle.sg_edge.specs.Told.{Rose, TookIn, Wrote};
 ghost use Rattle.sg_front.specs.States.{FrontStandsFor, start};
-ghost use Rattle.sg_playback.specs.Replay.{IsCompleteReplay, IsReplay};
+ghost use Rattle.sg_playback.specs.Playing.{text_from};
+ghost use Rattle.sg_playback.specs.Replay.{IsCompleteReplay, IsReplay, of_replay};
 
 use crate::player::Player;
 use sg_base::NoMemory;
@@ -19,7 +22,7 @@ use std::thread::Threads;
 /// 2 a tick to its moment comes before a datagram. Consecutive datagram lines form batches of at most 256, which in
 /// version 2 also end before a line whose moment isn't that of the line before. The workers share out a batch, each of
 /// them passing the gate; what is written is the same for every number of workers and every gate. Where a signal lacks
-/// its noise, 304 octets are drawn.
+/// its noise, 304 octets are drawn. Where the source fails, all lines that were read are told first.
 pub fn replay<R: Threads + Sync, S: Source, K: Sink, N: Noise, G: Gate + Sync>(
     rt: &R,
     alloc: Global,
@@ -37,7 +40,7 @@ pub fn replay<R: Threads + Sync, S: Source, K: Sink, N: Noise, G: Gate + Sync>(
         (record { left = S.left source.new; written = K.written sink.new; drawn = N.given noise.new })
         octets draws out }
     ensures given { S.given source.new ≤ S.given source.old + (2 ^ 30 + 1) }
-    ensures read { HasFailed (result ≡ Status.Read) (S.faults source.old) (S.faults source.new) (S.failed source.new) }
+    ensures read { EndedBy (result ≡ Status.Read) (IsWant result) (S.faults source.old) (S.faults source.new) (S.failed source.new) }
     ensures write { HasFailed (result ≡ Status.Write) (K.faults sink.old) (K.faults sink.new) (K.failed sink.new) }
     ensures noise { HasFailed (result ≡ Status.Noise) (N.faults noise.old) (N.faults noise.new) (N.failed noise.new) }
     ensures complete { ¬ Rose (S.faults source.old) (S.faults source.new) → ¬ Rose (K.faults sink.old) (K.faults sink.new) → ¬ Rose (N.faults noise.old) (N.faults noise.new)
@@ -61,12 +64,11 @@ fn play_script<R: Threads + Sync, S: Source, K: Sink, N: Noise, G: Gate + Sync>(
 ) -> Status
     requires { FrontStandsFor player.old.front (start player.old.front.muxes) × (player.old.waits ≡ []) }
     ensures ran { (octets draws out : List ℕ)
-        × IsReplay player.old.front.muxes result
-        (record { left = S.left source.old; written = K.written sink.old; drawn = N.given noise.old })
-        (record { left = S.left source.new; written = K.written sink.new; drawn = N.given noise.new })
-        octets draws out }
+        × TookIn (S.left source.old) (S.left source.new) octets × Added (N.given noise.old) (N.given noise.new) draws
+        × Wrote (K.written sink.old) (K.written sink.new) out × (length octets ≤ 2 ^ 30 + 1)
+        × LoopEnds of_replay (text_from (start player.old.front.muxes)) 258 result octets draws out (S.left source.new) }
     ensures given { S.given source.new ≤ S.given source.old + (2 ^ 30 + 1) }
-    ensures read { HasFailed (result ≡ Status.Read) (S.faults source.old) (S.faults source.new) (S.failed source.new) }
+    ensures read { EndedBy (result ≡ Status.Read) (IsWant result) (S.faults source.old) (S.faults source.new) (S.failed source.new) }
     ensures write { HasFailed (result ≡ Status.Write) (K.faults sink.old) (K.faults sink.new) (K.failed sink.new) }
     ensures noise { HasFailed (result ≡ Status.Noise) (N.faults noise.old) (N.faults noise.new) (N.failed noise.new) }
 {

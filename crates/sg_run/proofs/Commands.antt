@@ -7,10 +7,8 @@ use Rattle.sg_bridge.specs.Bridged.{Crosses, GoesBothWays, StaysInside}
 use Rattle.sg_bridge.specs.Calls.{KnowsItsCalls}
 use Rattle.sg_bridge.specs.Lost.{LosesOnlySo, SettlesWhatOpens}
 use Rattle.sg_bridging.specs.Bridge.{IsBridge}
-use Rattle.sg_trace.specs.Causes.{HasFailed}
+use Rattle.sg_trace.specs.Causes.{EndedBy, HasFailed}
 use Rattle.sg_capture.specs.Capturing.{IsCapture}
-use Rattle.sg_trace.specs.Captured.{captured, output_of}
-use Rattle.sg_trace.specs.Trace.{replayed}
 use Rattle.sg_trace.specs.declared.status.Status.{Status}
 use Rattle.sg_trace.specs.declared.status.Status.TheVariants.{Done, Usage, Script, Read, Write, Link, NoMemory, Clock, Noise, TurnsSpent, Capture}
 use Rattle.sg_demo.specs.Demonstration.{demonstration, events_shown}
@@ -19,19 +17,19 @@ use Rattle.sg_edge.proofs.Links.{added_none}
 use Rattle.sg_edge.proofs.Passed.{took_none, wrote_none}
 use Rattle.sg_edge.specs.Told.{Rose}
 use Rattle.sg_gateway.specs.Step.{Event}
-use Rattle.sg_gateway.specs.World.{empty}
 use Rattle.sg_migrate.specs.Migration.{IsMigration}
 use Rattle.sg_migrate.specs.Migration as migrations
 use Rattle.sg_mux.specs.Latest.{LegsAreMuxed}
 use Rattle.sg_mux.specs.Via.{events_in as table_events, outcomes_in, passages_in}
 use Rattle.sg_passages.specs.Passages.{Passage}
-use Rattle.sg_playback.specs.Replay.{IsReplay, output_in}
+use Rattle.sg_playback.proofs.Completes.{untouched as nothing_replayed}
+use Rattle.sg_playback.specs.Replay.{IsReplay}
 use Rattle.sg_playback.specs.Replay as replays
 use Rattle.sg_relay.proofs.Holds.{holds_none}
 use Rattle.sg_relay.proofs.Order.{order_none}
 use Rattle.sg_relay.specs.Relay.{IsRelay, Passed}
 use Rattle.sg_relay.specs.Relay as relays
-use Rattle.sg_run.specs.Run.{AreTaken, HasBridged, HasCaptured, HasDone, HasMigrated, HasRelayed, HasReplayed, HasRun, HasShown, Surroundings}
+use Rattle.sg_run.specs.Run.{AreTaken, HasBridged, HasCaptured, HasDone, HasMigrated, HasRelayed, HasReplayed, HasRun, HasShown, Surroundings, TakesBatches, of_replay}
 use Rattle.sg_words.specs.Commands.{AreWordsOf, IsNoCommand, Words}
 use Rattle.sg_words.specs.declared.command.Command.{Command}
 use Rattle.sg_words.specs.declared.command.Command.TheVariants.{Replay, Relay, Demo, Migrate, Bridge}
@@ -58,13 +56,7 @@ not_replayed legs muxes old = record {
   octets = [];
   draws = [];
   out = [];
-  is = record {
-    took = took_none old.left;
-    drew = added_none old.drawn;
-    wrote = wrote_none old.written;
-    ends = (output_in muxes (replayed [] []).events, refl);
-    bound = omega arith;
-  };
+  is = nothing_replayed muxes (of_replay old);
   events_are = no_events muxes;
   passages_are = no_passages muxes;
   legs = λ before after is. legs before;
@@ -128,6 +120,7 @@ not_migrated old = record {
       split = refl;
       one = inr refl;
       near = omega arith;
+      sound = refl;
       begun = ([], refl);
       within = ([], refl);
     };
@@ -146,7 +139,18 @@ not_captured old = record {
     took = took_none old.left;
     drew = added_none old.drawn;
     wrote = wrote_none old.written;
-    ends = (output_of empty (captured [] []).occurrences, refl);
+    ends = record {
+      played = [];
+      ahead = [];
+      split = refl;
+      near = omega arith;
+      told = [];
+      late = [];
+      alike = refl;
+      few = omega arith;
+      begun = ([], refl);
+      within = ([], refl);
+    };
     bound = omega arith;
   };
   events_are = refl;
@@ -169,6 +173,7 @@ not_bridged old = record {
       split = refl;
       one = inr refl;
       near = omega arith;
+      sound = refl;
       begun = ([], refl);
       within = ([], refl);
     };
@@ -187,6 +192,7 @@ not_bridged old = record {
     told = tt;
     pairs = tt;
     lines = tt;
+    signals = tt;
     behind = tt;
   };
   alike = λ none. record { said = refl; stop = refl; left = refl; events = refl; told = refl; text = refl };
@@ -371,3 +377,15 @@ demo_done status written written' octets old new failed shown cause quiet = elim
     | inr memory ↦ inr memory
   ]
 ]
+
+-- ---- whose failure it was
+
+-- the end of a command whose datagrams wait for a batch, by the words of the run
+pub of_batches : (words : Words) → TakesBatches words → (own instead : Type 0) (old new : ℕ) (failed : Option Bool) → EndedBy own instead old new failed → EndedBy own (TakesBatches words × instead) old new failed
+of_batches words so own instead old new failed ended = record {
+  later = ended.later;
+  rose = ended.rose;
+  told = ended.told;
+  quiet = λ isnt other. ended.quiet isnt (λ wants. other (so, wants));
+  last = λ isnt other. ended.last isnt other.1;
+}

@@ -1,5 +1,5 @@
 -- What a run did, by the command that its words are.
-use Rattle.std.specs.Prelude.{◌≡◌, ℕ, Bool, List, [], Option}
+use Rattle.std.specs.Prelude.{◌≡◌, ◌⊎◌, ℕ, Bool, List, [], Option}
 use Rattle.sg_bridge.specs.BridgeHolds.{BridgeHolds}
 use Rattle.sg_bridge.specs.Bridged.{bridged_events}
 use Rattle.sg_bridging.specs.Bridge.{IsBridge, bridge_trace}
@@ -140,3 +140,7 @@ HasDone Bridge status old new events passages = HasBridged status old new events
 -- whatever command the words are
 abbrev pub HasRun : Words → Status → Surroundings → Surroundings → List Event → List Passage → Type 0
 HasRun words status old new events passages = (command : Command) → AreWordsOf words command → HasDone command status old new events passages
+
+-- the words of a replay or of a capture, whose datagrams wait for a batch
+abbrev pub TakesBatches : Words → Type 0
+TakesBatches words = ((workers : ℕ) × (muxes : Bool) × AreWordsOf words (Replay workers muxes)) ⊎ AreWordsOf words Capture

@@ -1,13 +1,16 @@
 //! The top call.
 
-ghost use Rattle.std.specs.Prelude.{◌≡◌, ◌⊎◌, ◌≤◌, ◌+◌, ◌^◌, ℕ, Bool, List, length, map, string_bytes, None};
+ghost use Rattle.std.specs.Prelude.{◌≡◌, ◌⊎◌, ◌≤◌, ◌+◌, ◌^◌, ℕ, Bool, List, Option, length, map, string_bytes, None};
 ghost use Rattle.sg_audit.specs.Pages.{AuditorsPages};
 ghost use Rattle.sg_audit.specs.Seen.{seen_of};
 ghost use Rattle.sg_bridging.specs.Bridge as bridges;
 ghost use Rattle.sg_base.specs.declared.addresses.Address.{Address};
+ghost use Rattle.sg_base.specs.declared.addresses.CallId.{CallId};
+ghost use Rattle.sg_base.specs.declared.addresses.Side.{Side};
 ghost use Rattle.sg_capture.specs.Capturing as captures;
 ghost use Rattle.sg_trace.specs.CaptureHolds.{CaptureHolds};
-ghost use Rattle.sg_trace.specs.Causes.{HasFailed};
+ghost use Rattle.sg_trace.specs.Causes.{EndedBy, HasFailed};
+ghost use Rattle.sg_trace.specs.Loop.{IsWant};
 ghost use Rattle.sg_trace.specs.Trace.{replayed};
 ghost use Rattle.sg_edge.specs.Told.{Rose};
 ghost use Rattle.sg_gateway.specs.Octets.{Octets};
@@ -16,11 +19,13 @@ ghost use Rattle.sg_gateway.specs.Step.{Event};
 ghost use Rattle.sg_migrate.specs.Migrated.{IsOfVersionOne, migrated};
 ghost use Rattle.sg_migrate.specs.Migration as migrations;
 ghost use Rattle.sg_migrate.specs.VersionTwo.{IsVersionTwo, TicksFirst};
+ghost use Rattle.sg_mux.specs.Lined.{IsToldWithLines};
 ghost use Rattle.sg_mux.specs.Sharing.{SharesAsTold};
+ghost use Rattle.sg_mux.specs.declared.known.Known.{Known};
 ghost use Rattle.sg_passages.specs.Headline.{Headline};
 ghost use Rattle.sg_passages.specs.Passages.{Passage};
 ghost use Rattle.sg_playback.specs.Replay.{IsCompleteReplay};
-ghost use Rattle.sg_run.specs.Run.{HasRun};
+ghost use Rattle.sg_run.specs.Run.{HasRun, TakesBatches};
 ghost use Rattle.sg_words.specs.Commands.{AreWordsOf, IsNoCommand};
 ghost use Rattle.sg_words.specs.declared.command.Command.TheVariants.{Replay, Relay, Demo, Migrate, Capture, Bridge};
 
@@ -35,7 +40,10 @@ use sg_migrate::{
     migrate, migrated_scripts_are_of_version_two, migrated_scripts_tell_the_same,
     moments_of_datagrams_are_ticks,
 };
-use sg_mux::{legs_are_muxed_by_their_texts, ports_are_shared_as_told, shared_ports_are_faithful};
+use sg_mux::{
+    legs_are_muxed_by_their_texts, ports_are_shared_as_told, shared_ports_are_faithful,
+    told_texts_are_descriptions,
+};
 use sg_passages::{a_plain_run_is_faithful, the_headline_holds};
 use sg_playback::replay;
 use sg_relay::relay;
@@ -116,8 +124,9 @@ pub fn run<R: Threads + Sync, S: Source, K: Sink, L: Link, C: Clock, N: Noise, G
     ensures migrated_two { (octets : List ℕ) → IsVersionTwo octets }
     ensures captures { (octets draws : List ℕ) → CaptureHolds octets draws }
     ensures shares { (before : List Event) (port : ℕ) (from : Address) (octets : Octets) → SharesAsTold before port from octets }
+    ensures texts { (calls : List (Option Known)) (id : CallId) (side : Side) (text : List ℕ) → IsToldWithLines calls id side text }
     ensures datagrams_tick { (moment port : ℕ) (from : Address) (octets : List ℕ) → TicksFirst moment port from octets }
-    ensures read { HasFailed (result ≡ Status.Read) (S.faults source.old) (S.faults source.new) (S.failed source.new) }
+    ensures read { EndedBy (result ≡ Status.Read) (TakesBatches (map string_bytes words.now) × IsWant result) (S.faults source.old) (S.faults source.new) (S.failed source.new) }
     ensures write { HasFailed (result ≡ Status.Write) (K.faults sink.old) (K.faults sink.new) (K.failed sink.new) }
     ensures link { result ≡ Status.Link → Rose (L.faults link.old) (L.faults link.new) }
     ensures clock { HasFailed (result ≡ Status.Clock) (C.faults clock.old) (C.faults clock.new) (C.failed clock.new) }
@@ -129,6 +138,7 @@ pub fn run<R: Threads + Sync, S: Source, K: Sink, L: Link, C: Clock, N: Noise, G
     shared_ports_are_faithful();
     legs_are_muxed_by_their_texts();
     ports_are_shared_as_told();
+    told_texts_are_descriptions();
     the_capture_holds();
     the_bridge_holds();
     scripts_without_joins_are_replayed();

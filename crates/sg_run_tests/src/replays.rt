@@ -1,7 +1,7 @@
 //! Replays through the top call whose source, sink or noise fails. What scripts tell is in `examples` and `interop/rows`,
 //! which the gate plays through the program.
 
-use crate::calls::{HEADER, KEYED, KEYED_TOLD, KNOWN_LINE, OFFERED, WHOLE_CALL, WHOLE_CALL_TOLD};
+use crate::calls::{HEADER, KEYED, KEYED_TOLD, KNOWN_LINE, KNOWN_TOLD, OFFERED, WHOLE_CALL, WHOLE_CALL_TOLD};
 use crate::outside::{Given, Outside, REPLAY, joined};
 use sg_lanes::OpenGate;
 use sg_run::Status;
@@ -68,7 +68,7 @@ fn reads_writes_and_draws_that_fail(rt: HostRuntime) -> Result<(), Fail> {
             Status::Write,
             &[KEYED_TOLD],
         ),
-        // The read of the last octets fails, and after it no write is tried.
+        // Three reads give the whole script, and the fourth fails: what was read is told.
         (
             KEYED_CALL,
             Given {
@@ -77,7 +77,7 @@ fn reads_writes_and_draws_that_fail(rt: HostRuntime) -> Result<(), Fail> {
                 ..REPLAY
             },
             Status::Read,
-            &[KEYED_TOLD],
+            &[KEYED_TOLD, KNOWN_TOLD],
         ),
         (
             &[HEADER, OFFERED],

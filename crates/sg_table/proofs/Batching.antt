@@ -59,7 +59,7 @@ quiet_left pairs now (call ∷ calls) [] h = absurd h
 quiet_left pairs now (call ∷ calls) (c ∷ cs) h = ((h.0.none_waits, none_handled call.handled h.0.are_handled), quiet_left pairs now calls cs h.1)
 
 -- the outcome of what is handed back is what the datagram tells
-handled_told : (w : World) (port : ℕ) (from : Address) (d : List ℕ) (o : Option Call) → outcome_of port (handled_in w.moment port from d o) ∷ [] ≡ (arrived_at w port from d o).outcomes
+pub handled_told : (w : World) (port : ℕ) (from : Address) (d : List ℕ) (o : Option Call) → outcome_of port (handled_in w.moment port from d o) ∷ [] ≡ (arrived_at w port from d o).outcomes
 handled_told w port from d None = refl
 handled_told w port from d (Some c) = given_told w port d (arrived_in w.moment port from d c)
 

@@ -34,7 +34,7 @@ one_outcome w a = at (call_at w a.port)
     at (Some c) = of_given (arrived_in w.moment a.port a.from (as_octets (octets_of a.pad)).items c)
 
 -- where it is dropped, its octets are handed back
-given_back : (w : World) (a : Arrival) → IsBack (octets_of a.pad) (handled_at w a).pad (handled_at w a).end
+pub given_back : (w : World) (a : Arrival) → IsBack (octets_of a.pad) (handled_at w a).pad (handled_at w a).end
 given_back w a = at (call_at w a.port)
   where
     of_given : (g : Given) → IsBack (octets_of a.pad) (handled_of (octets_of a.pad) g).pad (handled_of (octets_of a.pad) g).end

@@ -10,6 +10,7 @@ mod Found
 mod FreeSlot
 mod Gathering
 mod Indexed
+mod InTurn
 mod KeptSlots
 mod Lent
 mod Orders

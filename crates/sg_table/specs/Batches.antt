@@ -54,6 +54,13 @@ told_by port (Some octets) None = []
 abbrev pub told_of : List Arrival → List Outcome
 told_of arrivals = flat_map (λ a. told_by a.port a.pad a.end) arrivals
 
+-- an arrival that comes by itself is handed back so and tells what its datagram tells, and the table stands for the
+-- world after it
+pub record IsDelivered (w : World) (old new : Arrival) (table : TableValue) : Type 0 where
+  pub is : new ≡ with_handled old (handled_at w old)
+  pub told : told_by new.port new.pad new.end ≡ (step w (arrived old)).outcomes
+  pub stands : TableStandsFor table (world_after w (arrived old ∷ []))
+
 -- The arrivals are answered as if each had come by itself, tell in their order what these datagrams tell, and the
 -- table stands for the world after them.
 pub record IsBatched (w : World) (old new : List Arrival) (table : TableValue) : Type 0 where

@@ -27,7 +27,7 @@ use std::thread::Threads;
 impl Table {
     /// Handles up to 256 datagrams, as many calls at a time as there are workers: each arrival has the pad and the
     /// end that it would have if they came one at a time, in order, or in any other order that keeps each call's own.
-    /// Each call is a lane, by rising slot. It doesn't allocate.
+    /// Where there are several each call is a lane, by rising slot. It doesn't allocate.
     pub fn batch<R: Threads + Sync, G: Gate + Sync>(
         &mut self,
         rt: &R,
@@ -42,9 +42,29 @@ impl Table {
         ensures alone { (w : World) → TableStandsFor self.old w → HaveEndedAlone w [] arrivals.old arrivals.new }
         ensures orders { (w : World) (others : List declared.Arrival) → TableStandsFor self.old w → IsBatchedAs w others arrivals.old arrivals.new self.new }
     {
-        calls_in_order();
         only_its_own_call_counts();
         every_order_gives_the_same();
+        self.handle(rt, arrivals, workers, gate);
+    }
+
+    /// One arrival is handled alone, so that no call without one is looked at.
+    fn handle<R: Threads + Sync, G: Gate + Sync>(
+        &mut self,
+        rt: &R,
+        arrivals: &mut [Arrival],
+        workers: usize,
+        gate: &G,
+    )
+        requires few { length arrivals.old ≤ 256 }
+        requires pads { All (λ a. IsSome a.pad) arrivals.old }
+        requires workers { 0 < workers }
+        ensures { (w : World) → TableStandsFor self.old w → IsBatched w arrivals.old arrivals.new self.new }
+    {
+        calls_in_order();
+        if arrivals.len() == 1 {
+            self.in_turn(arrivals);
+            return;
+        }
         handle_all(
             &mut self.calls.by_slot,
             &self.places,

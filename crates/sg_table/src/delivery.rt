@@ -1,11 +1,13 @@
 //! One datagram: it goes to the call that has its port.
 
-ghost use Rattle.std.specs.Prelude.{◌≡◌};
+ghost use Rattle.std.specs.Prelude.{◌≡◌, All, IsSome};
 ghost use Rattle.sg_gateway.specs.PlainOf.{plain_at};
 ghost use Rattle.sg_gateway.specs.World.{World};
+ghost use Rattle.sg_table.specs.Batches.{IsBatched, IsDelivered};
 ghost use Rattle.sg_table.specs.Handling.{IsHandled};
 ghost use Rattle.sg_table.specs.Standing.{TableStandsFor};
 
+use crate::arrival::Arrival;
 use crate::octets::holds_octets;
 use crate::ports::place;
 use crate::table::Table;
@@ -30,6 +32,30 @@ impl Table {
             },
             Some(i) => calls[i].datagram(port, from, pad, self.calls.moment),
         }
+    }
+
+    /// Handles arrivals one at a time, in order. It doesn't allocate.
+    pub(crate) fn in_turn(&mut self, arrivals: &mut [Arrival])
+        requires { All (λ a. IsSome a.pad) arrivals.old }
+        ensures { (w : World) → TableStandsFor self.old w → IsBatched w arrivals.old arrivals.new self.new }
+    {
+        for arrival in arrivals.iter_mut() {
+            self.deliver(arrival);
+        }
+    }
+
+    /// Handles an arrival as a datagram by itself.
+    fn deliver(&mut self, arrival: &mut Arrival)
+        requires { IsSome arrival.old.pad }
+        ensures { (w : World) → TableStandsFor self.old w → IsDelivered w arrival.old arrival.new self.new }
+    {
+        let Some(pad) = arrival.pad.take() else {
+            unreachable!()
+        };
+        holds_octets(&pad);
+        let handled = self.datagram(arrival.port, arrival.from, pad);
+        arrival.pad = Some(handled.pad);
+        arrival.end = Some(handled.end);
     }
 
     /// The plain address of the session on a plain port, for packets of its kind; none where no current generation

@@ -83,15 +83,14 @@ impl Table {
         let before = self.calls.count();
         let mut told = Outcomes::new();
         match self.calls.take(alloc, signal, &mut told) {
-            Err(NoMemory) => Err(NoMemory),
-            Ok(()) => {
-                // A signal makes a call or ends some, never both.
-                if self.calls.count() != before {
-                    self.calls.index(&mut self.places);
-                }
-                Ok(told)
-            }
+            Err(NoMemory) => return Err(NoMemory),
+            Ok(()) => {}
         }
+        // A signal makes a call or ends some, never both.
+        if self.calls.count() != before {
+            self.calls.index(&mut self.places);
+        }
+        Ok(told)
     }
 
     /// Takes a tick that tells nothing, as `step` does; where it tells something, nothing is done, and it is false.

@@ -3,6 +3,8 @@
 #![tactic(auto)]
 
 #[cfg(test)]
+mod bridge_outcomes;
+#[cfg(test)]
 mod crypto_answers;
 #[cfg(test)]
 mod crypto_lines;

@@ -1,12 +1,14 @@
 -- How a capture is read part by part.
-use Rattle.std.proofs.Common.{◌≡◌, ◌⊎◌, ◌+◌, ◌≤◌, ◌<◌, ℕ, List, [], ◌∷◌, ◌++◌, length, max, Option, Some, None, Result, Ok, Err, refl, sym, ap, ◌∙◌, subst, inl, inr, append_assoc, length-append, arith}
+use Rattle.std.proofs.Common.{◌≡◌, ◌⊎◌, ◌+◌, ◌≤◌, ◌<◌, ℕ, Bool, true, false, cond, ltb, List, [], ◌∷◌, ◌++◌, length, max, Option, Some, None, Result, Ok, Err, refl, sym, ap, ◌∙◌, subst, inl, inr, append_assoc, length-append, arith}
+use Rattle.std.proofs.lemmas.Bool.{ltb-false}
 use Rattle.std.proofs.lemmas.List.{append-nil}
 use Rattle.sg_edge.specs.Told.{AtEnd}
 use Rattle.sg_pcap.proofs.Captures.{header_faulty, header_stays, header_there, length_front, length_least, record_faulty, record_stays, record_there}
 use Rattle.sg_pcap.specs.Capture.{Capture, capture_of, faulty, header_within, records_in, record_within}
-use Rattle.sg_pcap.specs.Records.{record_length}
+use Rattle.sg_pcap.specs.Fields.{u32_by_order}
+use Rattle.sg_pcap.specs.Records.{length_by, record_length, record_of}
 use Rattle.sg_pcap.specs.declared.faults.CaptureFault.{CaptureFault}
-use Rattle.sg_pcap.specs.declared.faults.CaptureFault.TheVariants.{Cut}
+use Rattle.sg_pcap.specs.declared.faults.CaptureFault.TheVariants.{Cut, Length}
 use Rattle.sg_pcap.specs.declared.header.Form.{Form}
 use Rattle.sg_pcap.specs.declared.records.Record.{Record}
 use Rattle.sg_trace.specs.CaptureReading.{Capturing, HasPart, HasRecord, IsCaptureFault, IsRecordRead, IsHeaderRead, Moves}
@@ -38,6 +40,23 @@ pub room_so : (at most budget budget' : ℕ) (waited got waits had part : List �
 room_so at most budget budget' waited got waits had part moves room paid =
     omega (arith, room, paid, ap length moves.1.0, ap length moves.1.1, length-append waited got, length-append moves.0 waits, length-append had moves.0)
 
+-- how many octets wait behind a part, and are ahead where there is none
+pub near_part : (part old new got : List ℕ) (budget budget' : ℕ) → old ++ got ≡ part ++ new → length got + budget' ≡ budget → (length old ≤ 4096 → (length new ≤ 4096) × (length part ≤ 262160))
+    → length old ≤ 4096 → (length new ≤ 4096) × (length old + budget ≤ budget' + 266256)
+near_part part old new got budget budget' split paid near few = let most = near few in (most.0, omega (arith, most.0, most.1, paid, ap length split, length-append old got, length-append part new))
+
+-- a record has 262,160 octets at most
+pub length_most : (form : Form) (xs : List ℕ) → record_length form xs ≤ 262160
+length_most form xs = by_bit (ltb (length xs) 12)
+  where
+    said_so : (far : Bool) (millis size : ℕ) → (far ≡ false → size ≤ 262144) → length_by (cond far (Err Length) (Ok (record { millis = millis; length = size }))) ≤ 262160
+    said_so true millis size near = omega arith
+    said_so false millis size near = let most = near refl in omega (arith, most)
+
+    by_bit : (short : Bool) → cond short 16 (length_by (record_of form xs)) ≤ 262160
+    by_bit true = omega arith
+    by_bit false = said_so (ltb 262144 (u32_by_order form.big xs 8)) _ (u32_by_order form.big xs 8) (ltb-false 262144 (u32_by_order form.big xs 8))
+
 -- ---- a record
 
 module _ (form : Form) (waited got waits had head more waits' part : List ℕ) (none : had ≡ []) (first : Moves waited got waits had head) where
@@ -59,6 +78,30 @@ module _ (form : Form) (waited got waits had head more waits' part : List ℕ) (
         omega (arith, few, same, is, least, short, ap length none),
         subst (λ (n : ℕ). (n ≤ length part) ⊎ ((waits' ≡ []) × (AtEnd left ⊎ (budget ≡ 0)))) (sym same) then.2,
       )
+
+-- ---- where the source failed
+
+-- a header that isn't whole has no record behind it
+pub header_short : (most : ℕ) (part : List ℕ) → length part < 24 → (capture_of most part).records ≡ []
+header_short most part short = by_answer (header_within most part) refl
+  where
+    by_answer : (r : Result Form (ℕ × CaptureFault)) → header_within most part ≡ r → (capture_of most part).records ≡ []
+    by_answer (Ok form) is = let there = (header_there most part form is).0 in absurd (omega (arith, short, there))
+    by_answer (Err fault) is = ap (λ (c : Capture). c.records) (header_faulty most part fault is)
+
+-- nor is a record that isn't whole any
+pub record_short : (most : ℕ) (form : Form) (at : ℕ) (part : List ℕ) → length part < record_length form part → (records_in most form at part).records ≡ []
+record_short most form at [] short = refl
+record_short most form at (x ∷ xs) short = by_answer (record_within most form at (x ∷ xs)) refl
+  where
+    by_answer : (r : Result Record (ℕ × CaptureFault)) → record_within most form at (x ∷ xs) ≡ r → (records_in most form at (x ∷ xs)).records ≡ []
+    by_answer (Ok r) is = let there = record_there most form at (x ∷ xs) r is in let long = there.0 in absurd (omega (arith, short, long, there.2))
+    by_answer (Err fault) is = ap (λ (c : Capture). c.records) (record_faulty most form at (x ∷ xs) fault (omega arith) is)
+
+-- a source that failed, or memory that is wanting
+pub failed_as : (P : Status → Type 0) (status : Status) → (status ≡ statuses.Read) ⊎ (status ≡ statuses.NoMemory) → (status ≡ statuses.Read → P statuses.Read) → P statuses.NoMemory → P status
+failed_as P status (inl is) read memory = subst P (sym is) (read is)
+failed_as P status (inr is) read memory = subst P (sym is) memory
 
 -- ---- faults
 

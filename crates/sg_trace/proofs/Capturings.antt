@@ -1,16 +1,17 @@
 -- What holds of runs whose script may end in a capture.
-use Rattle.std.proofs.Common.{◌≡◌, ◌+◌, ◌-◌, ◌<◌, ◌^◌, ℕ, Bool, true, false, ltb, List, [], ◌∷◌, ◌++◌, length, map, drop, Option, Some, None, Result, Ok, Err, refl, sym, ap, ◌∙◌, inl, inr, arith, append_assoc, length-drop}
-use Rattle.std.specs.Prelude.{max, codes, nat_lt, ◌&&◌, nat_le}
+use Rattle.std.proofs.Common.{◌≡◌, ◌+◌, ◌-◌, ◌<◌, ◌^◌, ℕ, Bool, true, false, ltb, List, [], ◌∷◌, ◌++◌, length, map, take, drop, Option, Some, None, Result, Ok, Err, refl, sym, ap, ◌∙◌, inl, inr, arith, subst, append_assoc, length-drop, length-take}
+use Rattle.std.specs.Prelude.{max, min, codes, nat_lt, ◌&&◌, nat_le}
 use Rattle.std.specs.List.{AllByRecursion}
 use Rattle.std.specs.Str.{bytes_eq}
 use Rattle.std.proofs.lemmas.Bool.{cases_lt, cond-true, cond-false, le-ltb, lt-ltb}
-use Rattle.std.proofs.lemmas.List.{append-nil}
+use Rattle.std.proofs.lemmas.List.{append-nil, take-append-drop, take_all}
 use Rattle.std.proofs.lemmas.List.Elements.{recursion_from_All}
 use Rattle.std.proofs.lemmas.Slice.Eq.{bytes_eq-Decides}
 use Rattle.sg_base.specs.declared.faults.ScriptFault.{ScriptFault}
 use Rattle.sg_gateway.specs.Drawn.{Supplied, supplied}
+use Rattle.sg_gateway.specs.Octets.{as_octets}
 use Rattle.sg_gateway.specs.Signals.{Tick}
-use Rattle.sg_gateway.specs.Step.{Event, Signalled, step}
+use Rattle.sg_gateway.specs.Step.{Event, Datagram, Signalled, step}
 use Rattle.sg_gateway.specs.World.{World, empty}
 use Rattle.sg_lines.specs.LineOf.{version_after}
 use Rattle.sg_lines.specs.ScriptLines.{lines_of}
@@ -25,7 +26,7 @@ use Rattle.sg_pcap.specs.declared.faults.CaptureFault.{CaptureFault}
 use Rattle.sg_pcap.specs.declared.faults.CaptureFault.TheVariants.{Version, LinkType}
 use Rattle.sg_pcap.specs.declared.header.Form.{Form}
 use Rattle.sg_trace.proofs.Traces.{output_from-append}
-use Rattle.sg_trace.specs.CaptureHolds.{CaptureHolds, CapturesNone, ComesNext, IsReplayed, comes_at, first_millis, given_by}
+use Rattle.sg_trace.specs.CaptureHolds.{AreMoments, CaptureHolds, CapturesNone, ComesNext, IsGiven, IsMoment, IsReplayed, IsSince, Long, Nothing, Short, Tells, first_millis}
 use Rattle.sg_trace.specs.Captured.{CaptureTrace, Happens, InCapture, Occurrence, after_script, capture_occurs, captured, frame_occurs, moment_in, output_of, records_occur, script_alone, script_of, then_capture}
 use Rattle.sg_trace.specs.Output.{output_from}
 use Rattle.sg_trace.specs.Trace.{AtCapture, AtEnd, AtFault, Captures, ForDraw, ForReading, ForReceive, Later, Outside, Replays, Stop, Trace, after_line, begins_capture, drawing, handled_as, line_at, replayed, ticks_at, trace_from}
@@ -48,14 +49,17 @@ module _ (last first : ℕ) where
       ∙ sym (append_assoc (one top number x) (records_occur last first (max top (moment_in last first x.millis)) (number + 1) before) (one (top_after (max top (moment_in last first x.millis)) before) (number + 1 + length before) r))
       ∙ ap (λ (n : ℕ). one top number x ++ records_occur last first (max top (moment_in last first x.millis)) (number + 1) before ++ one (top_after (max top (moment_in last first x.millis)) before) n r) (omega arith)
 
-  above : (before : List Captured) (top now : ℕ) → AllByRecursion (λ moment. moment < now) (top ∷ map (comes_at last first) before) → top_after top before < now
+  abbrev moments : List Captured → List ℕ
+  moments before = map (λ r. moment_in last first r.millis) before
+
+  above : (before : List Captured) (top now : ℕ) → AllByRecursion (λ moment. moment < now) (top ∷ moments before) → top_after top before < now
   above [] top now all = all.0
   above (x ∷ before) top now all =
       let a = all.0 in
       let b = all.1.0 in
       above before (max top (moment_in last first x.millis)) now ((let c : max top (moment_in last first x.millis) < now = omega (arith, a, b) in c), all.1.1)
 
-  below : (before : List Captured) (top now : ℕ) → top_after top before < now → AllByRecursion (λ moment. moment < now) (top ∷ map (comes_at last first) before)
+  below : (before : List Captured) (top now : ℕ) → top_after top before < now → AllByRecursion (λ moment. moment < now) (top ∷ moments before)
   below [] top now less = (less, tt)
   below (x ∷ before) top now less =
       let all = below before (max top (moment_in last first x.millis)) now less in
@@ -68,10 +72,34 @@ ticks_above top now less = ap (map Happens) (cond-true (ltb top now) _ _ (lt-ltb
 ticks_below : (top now : ℕ) → ¬ (top < now) → map Happens (ticks_at top now) ≡ []
 ticks_below top now more = ap (map Happens) (cond-false (ltb top now) _ _ (le-ltb top now (elim (cases_lt top now) [ inl less ↦ absurd (more less) | inr least ↦ least ])))
 
-frame_gives : (number : ℕ) (m : Framed) → frame_occurs number m ≡ given_by number m
-frame_gives number Passed = refl
-frame_gives number (Skip cause) = refl
-frame_gives number (frames.Datagram port from octets) = refl
+-- the moment is as long behind the script's last one as the record is behind the first
+is_moment : (last first millis : ℕ) → IsMoment last first millis (moment_in last first millis)
+is_moment last first millis = elim (cases_lt millis first) [
+  | inl less ↦ since 0 (inr (less, refl)) (omega (arith, less))
+  | inr least ↦ since (millis - first) (inl (omega (arith, least))) refl
+]
+  where
+    since : (n : ℕ) → IsSince first millis n → millis - first ≡ n → IsMoment last first millis (moment_in last first millis)
+    since n is same = elim (cases_lt 2085978495999 (last + n)) [
+      | inl over ↦ (n, is, inr (over, (let e : min (last + (millis - first)) 2085978495999 ≡ 2085978495999 = omega (arith, over, same) in e)))
+      | inr within ↦ (n, is, inl (within, (let e : min (last + (millis - first)) 2085978495999 ≡ last + n = omega (arith, within, same) in e)))
+    ]
+
+are_moments : (last first : ℕ) (rs : List Captured) → AreMoments last first rs (moments last first rs)
+are_moments last first [] = refl
+are_moments last first (r ∷ rs) = (moment_in last first r.millis, moments last first rs, refl, is_moment last first r.millis, are_moments last first rs)
+
+-- what a frame gives is what occurs of it
+is_given : (number : ℕ) (m : Framed) → IsGiven number m (frame_occurs number m)
+is_given number Passed = Nothing
+is_given number (Skip cause) = Tells cause
+is_given number (frames.Datagram port from octets) = elim (cases_lt 4352 (length octets)) [
+  | inl over ↦
+      subst (λ (o : List ℕ). IsGiven number (frames.Datagram port from o) (Happens (Datagram port from (as_octets (take 4352 octets))) ∷ [])) (take-append-drop 4352 octets)
+      (Long port from (take 4352 octets) (drop 4352 octets) (let n = length-take 4352 octets in omega (arith, n, over)))
+  | inr within ↦
+      subst (λ (o : List ℕ). IsGiven number (frames.Datagram port from octets) (Happens (Datagram port from (as_octets o)) ∷ [])) (sym (take_all 4352 octets within)) (Short port from octets within)
+]
 
 occurs_all : (last : ℕ) (rs : List Captured) → capture_occurs last rs ≡ records_occur last (first_millis rs) last 1 rs
 occurs_all last [] = refl
@@ -85,14 +113,20 @@ first_same last (x ∷ before) r = refl
 comes_next : ((frame : List ℕ) (m : Framed) → IsFrame frame m → frame_of frame ≡ m) → (last : ℕ) (before : List Captured) (r : Captured) (m : Framed) → IsFrame r.frame m → ComesNext last before r m
 comes_next read last before r m is =
     record {
+      at = moment_in last (first_millis (before ++ r ∷ [])) r.millis;
+      when = is_moment last (first_millis (before ++ r ∷ [])) r.millis;
+      moments = moments last (first_millis (before ++ r ∷ [])) before;
+      earlier = are_moments last (first_millis (before ++ r ∷ [])) before;
+      gives = frame_occurs (1 + length before) m;
+      given = is_given (1 + length before) m;
       ticks = map Happens (ticks_at (top_after last (first_millis (before ++ r ∷ [])) last before) (moment_in last (first_millis (before ++ r ∷ [])) r.millis));
       is =
           occurs_all last (before ++ r ∷ []) ∙ last_one last (first_millis (before ++ r ∷ [])) before r last 1
           ∙ (λ i. sym (first_same last before r) i
           ++ (map Happens (ticks_at (top_after last (first_millis (before ++ r ∷ [])) last before) (moment_in last (first_millis (before ++ r ∷ [])) r.millis))
-          ++ (ap (frame_occurs (1 + length before)) (read r.frame m is) ∙ frame_gives (1 + length before) m) i));
-      later = λ all. ticks_above _ _ (above last (first_millis (before ++ r ∷ [])) before last (comes_at last (first_millis (before ++ r ∷ [])) r) all);
-      other = λ none. ticks_below _ _ (λ less. none (below last (first_millis (before ++ r ∷ [])) before last (comes_at last (first_millis (before ++ r ∷ [])) r) less));
+          ++ ap (frame_occurs (1 + length before)) (read r.frame m is) i));
+      later = λ all. ticks_above _ _ (above last (first_millis (before ++ r ∷ [])) before last (moment_in last (first_millis (before ++ r ∷ [])) r.millis) all);
+      other = λ none. ticks_below _ _ (λ less. none (below last (first_millis (before ++ r ∷ [])) before last (moment_in last (first_millis (before ++ r ∷ [])) r.millis) less));
     }
 
 -- ---- a script without a capture

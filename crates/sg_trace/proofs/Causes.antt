@@ -1,8 +1,8 @@
 -- How failures of the outside follow one another.
-use Rattle.std.proofs.Common.{◌≡◌, ◌≤◌, ℕ, Bool, true, Option, Ok, Err, ◌∙◌, arith}
+use Rattle.std.proofs.Common.{◌≡◌, ◌≤◌, ℕ, Bool, true, Option, Ok, Err, ◌∙◌, inl, arith}
 use Rattle.sg_edge.specs.Told.{Rose, Tells}
 use Rattle.sg_edge.proofs.Passed.{rose_later}
-use Rattle.sg_trace.specs.Causes.{HasFailed}
+use Rattle.sg_trace.specs.Causes.{EndedBy, HasFailed}
 
 -- what fails now has not failed before
 pub failed_now : (p : Type 0) (a b c : ℕ) (failed : Option Bool) → b ≡ a → HasFailed p b c failed → HasFailed p a c failed
@@ -32,3 +32,13 @@ not_failed p a b failed same isnt = record {
 
 pub ok_not : {T E : Type 0} (x : T) (e : E) → Ok x ≡ Err e → ⊥
 ok_not x e is = cc
+
+-- where no other failure hides it
+pub ended_as : (own instead : Type 0) (old new : ℕ) (failed : Option Bool) → HasFailed own old new failed → EndedBy own instead old new failed
+ended_as own instead old new failed now = record {
+  later = now.later;
+  rose = now.rose;
+  told = now.told;
+  quiet = λ isnt other. now.quiet isnt;
+  last = λ isnt other. inl (now.quiet isnt);
+}

@@ -1,11 +1,11 @@
 -- The lines of a script behind which a capture may stand, from what a line reader gave.
-use Rattle.std.proofs.Common.{◌≡◌, ◌⊎◌, ◌<◌, ◌≤◌, ◌+◌, ◌^◌, ℕ, true, false, List, [], ◌++◌, length, Option, Result, Ok, Err, refl, sym, ap, ◌∙◌, subst, inl, inr, append_assoc, arith, length-append}
+use Rattle.std.proofs.Common.{◌≡◌, ◌⊎◌, ◌<◌, ◌≤◌, ◌+◌, ◌^◌, ℕ, true, false, List, [], ◌∷◌, ◌++◌, length, Option, Result, Ok, Err, refl, sym, ap, ◌∙◌, subst, inl, inr, append_assoc, arith, length-append}
 use Rattle.std.specs.Prelude.{codes}
 use Rattle.std.proofs.lemmas.List.{append-nil}
 use Rattle.std.proofs.lemmas.Bool.{and_parts, cases_Bool, leb-true, ltb-true}
 use Rattle.sg_base.proofs.Cases.{is_name}
 use Rattle.sg_base.specs.declared.faults.ScriptFault.{ScriptFault}
-use Rattle.sg_base.specs.declared.faults.ScriptFault.TheVariants.{Unended}
+use Rattle.sg_base.specs.declared.faults.ScriptFault.TheVariants.{Length, Unended}
 use Rattle.sg_lines.proofs.Splits.{begins, lines_of_rest, lines_of_whole}
 use Rattle.sg_lines.specs.ScriptLines.{IsWhole, NoEnd, lines_of}
 use Rattle.sg_lines.specs.Fields.{Gives}
@@ -38,7 +38,7 @@ other_long : (n at : ℕ) (line : List ℕ) → 70000 < length line → begins_c
 other_long n at line long = other_by n at line (λ is. omega (arith, long, ap length (capture_line n at line is).0))
 
 -- of these octets the first line has the fault, and no capture begins behind it
-abbrev FailsFirst : ℕ → ℕ → ℕ → List ℕ → ScriptFault → Type 0
+abbrev pub FailsFirst : ℕ → ℕ → ℕ → List ℕ → ScriptFault → Type 0
 FailsFirst version n at octets fault = (first : FirstFails version n at octets fault) × (begins_capture Captures n at first.line ≡ false)
 
 fault_so : {A : Type 0} (f g : ScriptFault) → (let r : Result A ScriptFault = Err f in r ≡ Err g) → f ≡ g
@@ -81,6 +81,22 @@ still_other version n at line rest ended fault (inr unended) is not_end other mo
           other_long n at (line ++ begun.more) (omega (arith, long, length-append line begun.more)),
         )
     at_opening (IsOpen open_so) = absurd (not_end (fault_so _ _ (sym is ∙ open_so)))
+
+other_open : (n at : ℕ) (line : List ℕ) → NoEnd line → begins_capture Captures n at line ≡ false
+other_open n at line none = other_by n at line (λ is. (subst NoEnd (capture_line n at line is).0 none).1.1.1.1.1.1.1.0 refl)
+
+-- octets without a line end are none, or a line outside the grammar
+pub unended_fails : (version n at : ℕ) (part : List ℕ) → NoEnd part → (part ≡ []) ⊎ ((fault : ScriptFault) × FailsFirst version n at part fault)
+unended_fails version n at [] none = inl refl
+unended_fails version n at (x ∷ xs) none = inr (at_opening (opening version n at (x ∷ xs) none))
+  where
+    so : (fault : ScriptFault) → line_at version n at (x ∷ xs) ≡ Err fault → begins_capture Captures n at (x ∷ xs) ≡ false → FailsFirst version n at (x ∷ xs) fault
+    so fault fails other = (record { line = x ∷ xs; others = []; split = lines_of_rest (x ∷ xs) none (omega arith); fails = fails }, other)
+
+    at_opening : Opening version n at (x ∷ xs) → (fault : ScriptFault) × FailsFirst version n at (x ∷ xs) fault
+    at_opening (IsFar far) = (Length, so Length (at_far version n at (x ∷ xs) far) (other_far n at (x ∷ xs) far))
+    at_opening (IsLong long) = (Length, so Length (at_long version n at (x ∷ xs) long) (other_long n at (x ∷ xs) long))
+    at_opening (IsOpen open_so) = (Unended, so Unended open_so (other_open n at (x ∷ xs) none))
 
 end_so : {P Q : Type 0} → P ⊎ Q → (Q → ⊥) → P
 end_so (inl p) isnt = p

@@ -1,9 +1,10 @@
-mod CaptureReads
+pub mod CaptureReads
 mod Capturings
 pub mod Causes
 pub mod Traces
 mod ReadBuffers
-mod Findings
+pub mod Ends
+pub mod Findings
 pub mod Frames
 pub mod Grammars
 mod LineOctets

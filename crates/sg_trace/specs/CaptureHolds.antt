@@ -1,6 +1,7 @@
 -- What holds of each run whose script may end in a capture, of the capture as it was written.
-use Rattle.std.specs.Prelude.{◌≡◌, ◌≤◌, ◌<◌, ◌+◌, ◌-◌, ◌^◌, ℕ, min, List, [], ◌∷◌, ◌++◌, length, map, take, drop, codes, Some, None}
+use Rattle.std.specs.Prelude.{◌≡◌, ◌⊎◌, ◌≤◌, ◌<◌, ◌+◌, ◌^◌, ℕ, List, [], ◌∷◌, ◌++◌, length, map, drop, codes, Some, None}
 use Rattle.std.specs.List.{All, AllByRecursion}
+use Rattle.sg_base.specs.declared.addresses.Address.{Address}
 use Rattle.sg_gateway.specs.Octets.{as_octets}
 use Rattle.sg_gateway.specs.Runs.{world_after}
 use Rattle.sg_gateway.specs.Signals.{Tick}
@@ -15,6 +16,7 @@ use Rattle.sg_pcap.specs.Readings.{IsOfVersion}
 use Rattle.sg_pcap.specs.Written.{FitsHeader, FitsTaken, Header, Taken, capture_written, header_written, moment_taken}
 use Rattle.sg_pcap.specs.declared.faults.CaptureFault.TheVariants.{Version, LinkType}
 use Rattle.sg_pcap.specs.declared.header.Form.{Form}
+use Rattle.sg_pcap.specs.declared.skips.SkipCause.{SkipCause}
 use Rattle.sg_trace.specs.Captured.{Happens, InCapture, InScript, Occurrence, Skipped, capture_occurs, captured, output_of, script_of}
 use Rattle.sg_trace.specs.Output.{output}
 use Rattle.sg_trace.specs.Trace.{AtCapture, replayed}
@@ -25,27 +27,42 @@ abbrev pub first_millis : List Captured → ℕ
 first_millis [] = 0
 first_millis (r ∷ rs) = r.millis
 
--- The moment at which a record comes whose capture began at that millisecond, behind a script whose last moment is this: as
--- long behind the one as it was captured behind the other, never before it, and no later than the last moment that there is.
-abbrev pub comes_at : ℕ → ℕ → Captured → ℕ
-comes_at last first r = min (last + (r.millis - first)) 2085978495999
+-- how long behind the first record one was captured, and no time where it was captured before it
+abbrev pub IsSince : ℕ → ℕ → ℕ → Type 0
+IsSince first millis since = (millis ≡ first + since) ⊎ ((millis < first) × (since ≡ 0))
 
--- what a frame gives as the record of this number: a datagram's first 4,352 octets, a line that tells why there is none, or
--- nothing
-abbrev pub given_by : ℕ → Framed → List Occurrence
-given_by number Passed = []
-given_by number (Skip cause) = Skipped number cause ∷ []
-given_by number (frames.Datagram port from octets) = Happens (Datagram port from (as_octets (take 4352 octets))) ∷ []
+-- The moment of a record of that millisecond, where the first record has this one, behind a script whose last moment is this:
+-- as long behind the one as it was captured behind the other, and no later than the last moment that there is.
+abbrev pub IsMoment : ℕ → ℕ → ℕ → ℕ → Type 0
+IsMoment last first millis at = (since : ℕ) × IsSince first millis since
+    × (((last + since ≤ 2085978495999) × (at ≡ last + since)) ⊎ ((2085978495999 < last + since) × (at ≡ 2085978495999)))
+
+-- the moments of records, one for each
+abbrev pub AreMoments : ℕ → ℕ → List Captured → List ℕ → Type 0
+AreMoments last first [] moments = moments ≡ []
+AreMoments last first (r ∷ rs) moments = (at : ℕ) × (others : List ℕ) × (moments ≡ at ∷ others) × IsMoment last first r.millis at × AreMoments last first rs others
+
+-- what a frame gives as the record of this number: nothing, a line that tells why there is no datagram, or a datagram, of which
+-- the first 4,352 octets count
+pub data IsGiven (number : ℕ) : Framed → List Occurrence → Type 0 where
+  Nothing : IsGiven number Passed []
+  Tells : (cause : SkipCause) → IsGiven number (Skip cause) (Skipped number cause ∷ [])
+  Short : (port : ℕ) (from : Address) (octets : List ℕ) → length octets ≤ 4352 → IsGiven number (frames.Datagram port from octets) (Happens (Datagram port from (as_octets octets)) ∷ [])
+  Long : (port : ℕ) (from : Address) (octets rest : List ℕ) → length octets ≡ 4352 → IsGiven number (frames.Datagram port from (octets ++ rest)) (Happens (Datagram port from (as_octets octets)) ∷ [])
 
 -- A moment greater than the script's last one and than those of all records before is a tick, whatever the frame is; and then
 -- comes what the frame gives. Records are numbered from 1.
 pub record ComesNext (last : ℕ) (before : List Captured) (r : Captured) (m : Framed) : Type 0 where
+  pub at : ℕ
+  pub when : IsMoment last (first_millis (before ++ r ∷ [])) r.millis at
+  pub moments : List ℕ
+  pub earlier : AreMoments last (first_millis (before ++ r ∷ [])) before moments
   pub ticks : List Occurrence
-  pub is : capture_occurs last (before ++ r ∷ []) ≡ capture_occurs last before ++ (ticks ++ given_by (1 + length before) m)
-  pub later : AllByRecursion (λ moment. moment < comes_at last (first_millis (before ++ r ∷ [])) r) (last ∷ map (comes_at last (first_millis (before ++ r ∷ []))) before)
-      → ticks ≡ Happens (Signalled (Tick (comes_at last (first_millis (before ++ r ∷ [])) r))) ∷ []
-  pub other : ¬ AllByRecursion (λ moment. moment < comes_at last (first_millis (before ++ r ∷ [])) r) (last ∷ map (comes_at last (first_millis (before ++ r ∷ []))) before)
-      → ticks ≡ []
+  pub gives : List Occurrence
+  pub given : IsGiven (1 + length before) m gives
+  pub is : capture_occurs last (before ++ r ∷ []) ≡ capture_occurs last before ++ (ticks ++ gives)
+  pub later : AllByRecursion (λ moment. moment < at) (last ∷ moments) → ticks ≡ Happens (Signalled (Tick at)) ∷ []
+  pub other : ¬ AllByRecursion (λ moment. moment < at) (last ∷ moments) → ticks ≡ []
 
 -- ---- the run
 

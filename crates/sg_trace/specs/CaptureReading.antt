@@ -50,19 +50,20 @@ pub record IsPart (old new : Capturing) (got : List ℕ) (size : ℕ) : Type 0 w
   pub at : new.at ≡ old.at + size
   pub within : new.at ≤ old.most
 
--- the header, or its first fault
+-- The header, or its first fault. Where the source failed, what was read gives no record.
 abbrev pub IsHeaderRead : Result Form Status → Capturing → Capturing → List ℕ → Option (List ℕ) → Type 0
 IsHeaderRead (Ok form) old new got left = IsPart old new got 24 × (header_within old.most new.part ≡ Ok form)
 IsHeaderRead (Err (statuses.Capture offset fault)) old new got left = IsCaptureFault (capture_of old.most) (old.waits ++ got) (offset, fault) left
-IsHeaderRead (Err statuses.Read) old new got left = ⊤
+IsHeaderRead (Err statuses.Read) old new got left = (capture_of old.most (old.waits ++ got)).records ≡ []
 IsHeaderRead (Err statuses.NoMemory) old new got left = ⊤
 IsHeaderRead (Err other) old new got left = ⊥
 
--- the next record; none at the end, or where the octets that count are behind; or the record's first fault
+-- The next record; none at the end, or where the octets that count are behind; or the record's first fault. Where the source
+-- failed, what was read since the last record is no whole one.
 abbrev pub IsRecordRead : Form → Result (Option Record) Status → Capturing → Capturing → List ℕ → Option (List ℕ) → Type 0
 IsRecordRead form (Ok (Some r)) old new got left = IsPart old new got (16 + r.length) × (record_within old.most form old.at new.part ≡ Ok r)
 IsRecordRead form (Ok None) old new got left = (old.waits ++ got ≡ []) × (AtEnd left ⊎ (old.most < old.at))
 IsRecordRead form (Err (statuses.Capture offset fault)) old new got left = IsCaptureFault (records_in old.most form old.at) (old.waits ++ got) (offset, fault) left
-IsRecordRead form (Err statuses.Read) old new got left = ⊤
+IsRecordRead form (Err statuses.Read) old new got left = (records_in old.most form old.at (old.waits ++ got)).records ≡ []
 IsRecordRead form (Err statuses.NoMemory) old new got left = ⊤
 IsRecordRead form (Err other) old new got left = ⊥

@@ -4,6 +4,7 @@ use Rattle.sg_base.specs.declared.faults.ScriptFault.{ScriptFault}
 use Rattle.sg_base.specs.declared.faults.ScriptFault.TheVariants.{Unended}
 use Rattle.sg_edge.specs.Told.{AtEnd}
 use Rattle.sg_lines.specs.LineText.{FitsLine}
+use Rattle.sg_lines.specs.ScriptLines.{NoEnd}
 use Rattle.sg_trace.specs.Reading.{FirstFails, IsRead, Reading}
 use Rattle.sg_trace.specs.Trace.{Captures, begins_capture}
 use Rattle.sg_trace.specs.declared.script_reader.Found.{Found}
@@ -26,13 +27,14 @@ pub record IsOtherFault (version n at : ℕ) (octets : List ℕ) (fault : Script
   pub ended : fault ≡ Unended → AtEnd left
   pub still : ¬ (fault ≡ Unended) → (more : List ℕ) → (later : FirstFails version n at (octets ++ more) fault) × (begins_capture Captures n at later.line ≡ false)
 
--- a line, or where a capture begins, or the end, or the octets that count are behind; or the line's fault
+-- A line, or where a capture begins, or the end, or the octets that count are behind; or the line's fault. Where the source
+-- failed, what was read since the last line has no line end.
 abbrev pub IsFound : Result Found Status → Reading → Reading → List ℕ → Option (List ℕ) → Type 0
 IsFound (Ok (founds.Line l)) old new got left = (read : IsRead l old new got) × (begins_capture Captures old.number old.offset read.line ≡ false)
 IsFound (Ok founds.Capture) old new got left = IsCaptureLine old new got
 IsFound (Ok founds.End) old new got left = (old.waits ++ got ≡ []) × (AtEnd left ⊎ (2 ^ 30 < old.offset))
 IsFound (Err (statuses.Script n fault)) old new got left = (n ≡ old.number) × IsOtherFault old.version n old.offset (old.waits ++ got) fault left
-IsFound (Err statuses.Read) old new got left = ⊤
+IsFound (Err statuses.Read) old new got left = NoEnd (old.waits ++ got)
 IsFound (Err statuses.NoMemory) old new got left = ⊤
 IsFound (Err other) old new got left = ⊥
 

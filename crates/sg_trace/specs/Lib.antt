@@ -2,11 +2,13 @@ pub mod CaptureHolds
 pub mod Captured
 pub mod CaptureReading
 pub mod Causes
+pub mod Course
 pub mod Trace
 pub mod Fed
 pub mod Finding
 pub mod Grammar
 pub mod LineOctets
+pub mod Loop
 pub mod Output
 pub mod Reading
 pub mod StatusText

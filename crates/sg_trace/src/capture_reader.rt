@@ -1,6 +1,7 @@
 //! Captures behind a script, read record by record.
 
-ghost use Rattle.std.specs.Prelude.{◌≡◌, ◌⊎◌, ◌≤◌, ◌+◌, ◌-◌, ◌^◌, ℕ, List, [], length, drop, IfErr};
+ghost use Rattle.std.specs.Prelude.{◌≡◌, ◌⊎◌, ◌<◌, ◌≤◌, ◌+◌, ◌-◌, ◌^◌, ℕ, List, [], length, drop, IfErr, Err};
+ghost use Rattle.sg_pcap.specs.Records.{record_length};
 ghost use Rattle.sg_trace.specs.CaptureReading.{HasRecord, IsHeaderRead, IsRecordRead};
 ghost use Rattle.sg_trace.specs.Causes.{IsCaused};
 ghost use Rattle.sg_edge.specs.Told.{TookIn};
@@ -66,6 +67,7 @@ impl CaptureReader {
         ensures header { (got : List ℕ) × TookIn (S.left source.old) (S.left source.new) got
             × IsHeaderRead result self.old self.new got (S.left source.new) × (length got + self.new.budget ≡ self.old.budget) }
         ensures most { self.new.most ≡ self.old.most }
+        ensures near { length self.old.waits ≤ 4096 → (length self.new.waits ≤ 4096) × (length self.old.waits + self.old.budget ≤ self.new.budget + 266256) }
         ensures given { S.given source.new + self.new.budget ≤ S.given source.old + self.old.budget }
         ensures cause { IsCaused Status.Read result (S.faults source.old) (S.faults source.new) (S.failed source.new) }
     {
@@ -91,6 +93,7 @@ impl CaptureReader {
         ensures next { (got : List ℕ) × TookIn (S.left source.old) (S.left source.new) got
             × IsRecordRead form result self.old self.new got (S.left source.new) × (length got + self.new.budget ≡ self.old.budget) }
         ensures most { self.new.most ≡ self.old.most }
+        ensures near { length self.old.waits ≤ 4096 → (length self.new.waits ≤ 4096) × (length self.old.waits + self.old.budget ≤ self.new.budget + 266256) }
         ensures given { S.given source.new + self.new.budget ≤ S.given source.old + self.old.budget }
         ensures cause { IsCaused Status.Read result (S.faults source.old) (S.faults source.new) (S.failed source.new) }
     {
@@ -124,7 +127,8 @@ impl CaptureReader {
     }
 }
 
-/// Reads into the empty `part` as many octets as the next record has, by its head; or all that are left.
+/// Reads into the empty `part` as many octets as the next record has, by its head; or all that are left. Where the source
+/// fails, all that came is in `part`, and those are fewer.
 fn next_record<S: Source>(
     form: Form,
     read_buffer: &mut ReadBuffer,
@@ -137,6 +141,8 @@ fn next_record<S: Source>(
         × HasRecord form result part.new.items read_buffer.old read_buffer.new got (S.left source.new) budget.new × (length got + budget.new ≡ budget.old) }
     ensures given { S.given source.new + budget.new ≤ S.given source.old + budget.old }
     ensures only { IfErr result (λ status. (status ≡ Status.Read) ⊎ (status ≡ Status.NoMemory)) }
+    ensures near { length read_buffer.old ≤ 4096 → (length read_buffer.new ≤ 4096) × (length part.new.items ≤ 262160) }
+    ensures short { result ≡ Err Status.Read → (length part.new.items < record_length form part.new.items) × (read_buffer.new ≡ []) }
     ensures cause { IsCaused Status.Read result (S.faults source.old) (S.faults source.new) (S.failed source.new) }
 {
     match next_part(read_buffer, source, part, HEAD, budget) {

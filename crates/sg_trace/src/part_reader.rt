@@ -1,6 +1,6 @@
 //! Parts of a source.
 
-ghost use Rattle.std.specs.Prelude.{◌≡◌, ◌⊎◌, ◌+◌, length, ◌≤◌, ℕ, List, IfErr};
+ghost use Rattle.std.specs.Prelude.{◌≡◌, ◌⊎◌, ◌<◌, ◌+◌, length, ◌≤◌, ℕ, List, [], max, IfErr, Err};
 ghost use Rattle.sg_trace.specs.CaptureReading.{HasPart};
 ghost use Rattle.sg_trace.specs.Causes.{IsCaused};
 ghost use Rattle.sg_edge.specs.Told.{TookIn};
@@ -9,7 +9,8 @@ use crate::read_buffer::ReadBuffer;
 use crate::status::Status;
 use sg_edge::Source;
 
-/// Reads on until `part` has so many octets, or to the end of the source or of the budget.
+/// Reads on until `part` has so many octets, or to the end of the source or of the budget. Where the source fails, all that
+/// came is in `part`, and those are fewer.
 pub fn next_part<S: Source>(
     read_buffer: &mut ReadBuffer,
     source: &mut S,
@@ -21,6 +22,9 @@ pub fn next_part<S: Source>(
         × HasPart result count part.old.items part.new.items read_buffer.old read_buffer.new got (S.left source.new) budget.new × (length got + budget.new ≡ budget.old) }
     ensures given { S.given source.new + budget.new ≤ S.given source.old + budget.old }
     ensures only { IfErr result (λ status. (status ≡ Status.Read) ⊎ (status ≡ Status.NoMemory)) }
+    ensures most { length part.new.items ≤ max count (length part.old.items) }
+    ensures near { length read_buffer.old ≤ 4096 → length read_buffer.new ≤ 4096 }
+    ensures short { result ≡ Err Status.Read → (length part.new.items < count) × (read_buffer.new ≡ []) }
     ensures cause { IsCaused Status.Read result (S.faults source.old) (S.faults source.new) (S.failed source.new) }
 {
     while part.len() < count {

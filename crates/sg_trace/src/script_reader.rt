@@ -122,6 +122,7 @@ impl ScriptReader {
         ensures found { (got : List ℕ) × TookIn (S.left source.old) (S.left source.new) got
             × IsFound result self.old self.new got (S.left source.new) × (length got + self.new.budget ≡ self.old.budget) }
         ensures fits { IfOk result (λ found. FitsFound self.old.version self.old.number found) }
+        ensures near { length self.old.waits ≤ 4096 → (length self.new.waits ≤ 4096) × (length self.old.waits + self.old.budget ≤ self.new.budget + 74097) }
         ensures given { S.given source.new + self.new.budget ≤ S.given source.old + self.old.budget }
         ensures cause { IsCaused Status.Read result (S.faults source.old) (S.faults source.new) (S.failed source.new) }
     {

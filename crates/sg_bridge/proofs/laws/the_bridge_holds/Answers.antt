@@ -12,5 +12,6 @@ returns c said = record {
   told = c.joins_have_their_causes.ensures.told said;
   pairs = c.pairs_last_until_parted.ensures said;
   lines = c.each_line_happens.ensures.lines said;
+  signals = c.signals_are_told.ensures said;
   behind = c.each_line_happens.ensures.worlds said;
 }

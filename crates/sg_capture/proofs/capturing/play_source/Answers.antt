@@ -1,5 +1,6 @@
-use Rattle.std.proofs.Common.{◌≡◌, ◌≤◌, ◌-◌, ◌^◌, ◌++◌, ℕ, List, [], length, map, Result, Err, refl, sym, ap, subst, arith}
+use Rattle.std.proofs.Common.{◌≡◌, ◌≤◌, ◌-◌, ◌^◌, ◌++◌, ℕ, List, [], length, map, Err, refl, sym, ap, subst, arith}
 use Rattle.sg_capture.proofs.Compositions.{composed, ends_not_noise}
+use Rattle.sg_capture.proofs.Scripts.{err_ended, err_so, ok_ended}
 use Rattle.sg_capture.specs.Meeting.{EndsReading, StandsFor}
 use Rattle.sg_gateway.specs.Runs.{world_after}
 use Rattle.sg_gateway.specs.Step.{Event}
@@ -9,17 +10,16 @@ use Rattle.sg_playback.specs.Playing.{waiting}
 use Rattle.sg_table.specs.Batches.{arrived}
 use Rattle.sg_trace.proofs.Causes.{failed_as, failed_now, not_failed, ok_not}
 use Rattle.sg_trace.specs.CaptureReading.{Capturing}
-use Rattle.sg_trace.specs.declared.status.Status.{Status}
+use Rattle.sg_trace.specs.Causes.{EndedBy}
+use Rattle.sg_trace.specs.Loop.{IsWant}
+use Rattle.sg_trace.specs.declared.status.Status.TheVariants.{Read}
 use Rattle.sg_capture.proofs.capturing.play_source.Goals as goal
-
-err_so : (a b : Status) → (let r : Result (Unit {0}) Status = Err a in r ≡ Err b) → a ≡ b
-err_so a b is = cc
 
 pub returns-in-Err-clause-ran : goal.returns-in-Err-clause-ran
 returns-in-Err-clause-ran g c = let ran = c.in-Err.ensures.ran in (ran.0, ran.1, ran.2, ran.3)
 
 pub returns-in-Err-clause-read : goal.returns-in-Err-clause-read
-returns-in-Err-clause-read g c = failed_as _ _ _ _ _ (λ is. ap Err is) (λ is. err_so _ _ is) c.in-Err.ensures.read
+returns-in-Err-clause-read g c = err_ended c.in-Err.status _ _ _ c.in-Err.ensures.read
 
 pub returns-in-Err-clause-write : goal.returns-in-Err-clause-write
 returns-in-Err-clause-write g c = failed_as _ _ _ _ _ (λ is. ap Err is) (λ is. err_so _ _ is) c.in-Err.ensures.write
@@ -56,7 +56,9 @@ returns-in-Ok-clause-ran g c =
     )
 
 pub returns-in-Ok-clause-read : goal.returns-in-Ok-clause-read
-returns-in-Ok-clause-read g c = failed_now _ _ _ _ _ (c.in-Ok.ensures.read.quiet (λ is. ok_not _ _ is)) c.play_capture.ensures.read
+returns-in-Ok-clause-read g c =
+    subst (λ (n : ℕ). EndedBy (c.play_capture.result ≡ Read) (IsWant c.play_capture.result) n (g.S.Source.faults c.play_capture.new.source) (g.S.Source.failed c.play_capture.new.source))
+    (ok_ended _ _ _ _ c.in-Ok.ensures.read) c.play_capture.ensures.read
 
 pub returns-in-Ok-clause-write : goal.returns-in-Ok-clause-write
 returns-in-Ok-clause-write g c = failed_now _ _ _ _ _ (c.in-Ok.ensures.write.quiet (λ is. ok_not _ _ is)) c.play_capture.ensures.write
@@ -67,3 +69,9 @@ returns-in-Ok-clause-noise g c =
     let then = c.play_capture.ensures.ran in
     let r = then.3 (world_after empty so_far.events) so_far.stands in
     not_failed _ _ _ _ (c.in-Ok.ensures.noise.quiet (λ is. ok_not _ _ is)) (ends_not_noise c.play_capture.result _ _ _ _ _ r.0 _ r.2)
+
+pub play_capture-requires-clause-few : goal.play_capture-requires-clause-few
+play_capture-requires-clause-few g c = omega (arith, ap length c.in-Ok.ensures.none)
+
+pub play_capture-requires-clause-near : goal.play_capture-requires-clause-near
+play_capture-requires-clause-near g c = let near = c.in-Ok.ensures.ran.3.near in omega (arith, near, ap (λ (v : Capturing). length v.waits) c.new-reader.ensures)

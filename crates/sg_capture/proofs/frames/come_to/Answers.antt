@@ -1,5 +1,5 @@
 use Rattle.std.proofs.Common.{rules, [], map, ap}
-use Rattle.sg_capture.proofs.Meets.{on_ok, tick_met, tick_none}
+use Rattle.sg_capture.proofs.Meets.{few_of, on_ok, tick_met, tick_none}
 use Rattle.sg_capture.specs.Meeting.{StandsFor}
 use Rattle.sg_edge.proofs.Passed.{wrote_none}
 use Rattle.sg_front.specs.States.{FrontStandsFor, unshared}
@@ -19,3 +19,6 @@ returns-clause-met g c = λ w stands.
       tick_met c.tick.result c.args.top c.args.moment w (waiting c.args.player.now) (waiting c.tick.new.self) (FrontStandsFor c.tick.new.self.front) t.0 (search rules)
           (λ ok. ap (map arrived) (on_ok c.tick.result _ c.tick.ensures.none ok)) t.2,
     )
+
+pub returns-clause-few : goal.returns-clause-few
+returns-clause-few g c = few_of c.tick.result c.tick.new.self.waits c.tick.ensures.none

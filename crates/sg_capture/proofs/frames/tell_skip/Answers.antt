@@ -1,5 +1,5 @@
 use Rattle.std.proofs.Common.{◌∷◌, ◌++◌, [], map, Ok, Err, ap, refl}
-use Rattle.sg_capture.proofs.Meets.{met_before, met_then, settled_met, skip_met}
+use Rattle.sg_capture.proofs.Meets.{few_ok, met_before, met_then, settled_met, skip_met}
 use Rattle.sg_capture.specs.Meeting.{IsToldOf, StandsFor}
 use Rattle.sg_edge.proofs.Passed.{wrote_more}
 use Rattle.sg_front.specs.States.{FrontStandsFor, unshared}
@@ -29,3 +29,6 @@ returns-clause-met g c = λ w stands.
       wrote_more _ _ _ s.0 t.0 s.1 t.1,
       met_then c.write_skip.result w (waiting c.args.player.now) mid mid [] (Skipped c.args.number c.args.cause ∷ []) (StandsFor c.settle.new.self.front) (StandsFor c.settle.new.self.front) s.0 t.0 first t.2,
     )
+
+pub returns-clause-few : goal.returns-clause-few
+returns-clause-few g c = few_ok c.write_skip.result c.settle.new.self.waits c.in-Ok.ensures.none

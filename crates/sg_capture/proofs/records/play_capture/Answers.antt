@@ -1,11 +1,15 @@
-use Rattle.std.proofs.Common.{◌≡◌, ◌∙◌, ◌++◌, ℕ, List, Err, refl, sym, ap, append_assoc, length-append, arith}
-use Rattle.sg_capture.proofs.Readings.{behind_header, header_close_read, header_err}
+use Rattle.std.proofs.Common.{◌≡◌, ◌∙◌, ◌++◌, ℕ, List, refl, sym, ap, subst, append_assoc, length-append, arith}
+use Rattle.sg_capture.proofs.Readings.{behind_header, header_err, near_rest}
 use Rattle.sg_edge.proofs.Passed.{took_more}
 use Rattle.sg_front.specs.States.{unshared}
 use Rattle.sg_pcap.proofs.Captures.{capture_begins}
 use Rattle.sg_pcap.specs.Capture.{capture_of, records_in}
-use Rattle.sg_playback.specs.Playing.{waiting}
-use Rattle.sg_trace.proofs.Causes.{failed_as}
+use Rattle.sg_pcap.specs.declared.header.Form.{Form}
+use Rattle.sg_playback.specs.Playing.{effects, waiting}
+use Rattle.sg_trace.proofs.Causes.{ok_not}
+use Rattle.sg_trace.proofs.Ends.{ended_closed}
+use Rattle.sg_trace.specs.Causes.{EndedBy}
+use Rattle.sg_trace.specs.Loop.{IsWant}
 use Rattle.sg_trace.specs.declared.status.Status.TheVariants.{Read}
 use Rattle.sg_capture.proofs.records.play_capture.Goals as goal
 
@@ -19,16 +23,20 @@ returns-in-Err-clause-ran g c =
           (let closed = c.close.ensures.closed (unshared w) stands in (
             closed.0,
             closed.1,
-            header_err w (waiting c.args.player.now) c.args.player.now.front.table.moment c.args.reader.now.most c.in-Err.status c.close.result c.args.reader.now c.header.new.self got.0 closed.0 (g.S.Source.left c.header.new.source) refl got.2 closed.2,
+            header_err w (waiting c.args.player.now) c.args.player.now.front.table.moment c.args.reader.now.most c.in-Err.status c.close.result c.args.reader.now c.header.new.self got.0 closed.0 (g.S.Source.left c.header.new.source)
+                (near_rest c.args.reader.now.waits got.0 _ _ (c.in-Err.ensures.near c.requires.near).1 got.3) refl got.2 closed.2,
           )),
     )
 
 pub returns-in-Err-clause-read : goal.returns-in-Err-clause-read
 returns-in-Err-clause-read g c =
-    let got = c.in-Err.ensures.header in
     let closed = c.close.ensures.closed (unshared c.requires.stands.0) c.requires.stands.1 in
-    let same = header_close_read c.in-Err.status c.close.result c.args.reader.now c.header.new.self got.0 (g.S.Source.left c.header.new.source) (unshared c.requires.stands.0) (waiting c.args.player.now) closed.0 got.2 closed.2 in
-    failed_as _ _ _ _ _ (λ is. ap Err (same.0 is)) (λ is. same.1 (let told : c.in-Err.status ≡ Read = cc in told)) c.in-Err.ensures.cause
+    ended_closed effects 258 Form c.in-Err.status c.close.result _ _ closed.0 closed.2 _ _ _ _ refl c.in-Err.ensures.cause
+
+pub returns-in-Ok-clause-read : goal.returns-in-Ok-clause-read
+returns-in-Ok-clause-read g c =
+    subst (λ (n : ℕ). EndedBy (c.play_records.result ≡ Read) (IsWant c.play_records.result) n (g.S.Source.faults c.play_records.new.source) (g.S.Source.failed c.play_records.new.source))
+    (c.in-Ok.ensures.cause.quiet (λ is. ok_not _ _ is)) c.play_records.ensures.read
 
 pub returns-in-Ok-clause-ran : goal.returns-in-Ok-clause-ran
 returns-in-Ok-clause-ran g c =
@@ -57,3 +65,6 @@ play_records-requires-clause-start g c = let moved = c.in-Ok.ensures.header.2.0.
 
 pub play_records-requires-clause-within : goal.play_records-requires-clause-within
 play_records-requires-clause-within g c = let within = c.in-Ok.ensures.header.2.0.within in omega (arith, within, c.header.ensures.most)
+
+pub play_records-requires-clause-near : goal.play_records-requires-clause-near
+play_records-requires-clause-near g c = λ lifetimes lives. (c.in-Ok.ensures.near c.requires.near).0

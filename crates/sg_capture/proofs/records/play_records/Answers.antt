@@ -1,7 +1,6 @@
-use Rattle.std.proofs.Common.{rules, ◌≡◌, ◌⊎◌, ◌∙◌, ◌++◌, ℕ, List, [], drop, Some, None, Ok, Err, refl, sym, ap, subst, inl, inr, append_assoc, length-append, arith}
-use Rattle.std.proofs.lemmas.List.{append-nil}
-use Rattle.sg_capture.proofs.Readings.{IsReadingOn, close_read, closed_at_end, closed_at_err, ends_met, met_not_read, record_goes, starts}
-use Rattle.sg_capture.proofs.Scripts.{done_not}
+use Rattle.std.proofs.Common.{rules, ◌≡◌, ◌⊎◌, ◌∙◌, ◌++◌, ℕ, List, [], drop, Option, Some, None, Ok, Err, refl, sym, ap, subst, inl, inr, append_assoc, length-append, arith}
+use Rattle.std.proofs.lemmas.List.{append-nil, length-map}
+use Rattle.sg_capture.proofs.Readings.{IsReadingOn, closed_at_end, closed_at_err, ends_met, met_not_read, near_rest, record_goes, starts}
 use Rattle.sg_capture.specs.Meeting.{EndsReading, IsMet, IsToldOf, StandsFor, first_of, record_occurs}
 use Rattle.sg_capture.specs.declared.progress.Progress.{Progress}
 use Rattle.sg_capture.proofs.Outputs.{events_in-append, output_of-append}
@@ -10,12 +9,15 @@ use Rattle.sg_edge.specs.Told.{Wrote}
 use Rattle.sg_front.specs.States.{unshared}
 use Rattle.sg_gateway.specs.Runs.{world_after}
 use Rattle.sg_pcap.specs.Capture.{records_in, record_within}
-use Rattle.sg_playback.specs.Playing.{waiting}
-use Rattle.sg_trace.proofs.Causes.{failed_as, failed_now, not_failed, ok_not}
+use Rattle.sg_pcap.specs.declared.records.Record.{Record}
+use Rattle.sg_playback.specs.Playing.{effects, waiting}
+use Rattle.sg_table.specs.Batches.{arrived}
+use Rattle.sg_trace.proofs.Causes.{ok_not}
+use Rattle.sg_trace.proofs.Ends.{closes_not, ended_closed, ended_quiet}
 use Rattle.sg_trace.proofs.Traces.{world_after-append}
 use Rattle.sg_trace.specs.Captured.{Occurrence, captured_events, output_of}
 use Rattle.sg_trace.specs.CaptureReading.{IsRecordRead}
-use Rattle.sg_trace.specs.declared.status.Status.TheVariants.{Read}
+use Rattle.sg_trace.specs.declared.status.Status.TheVariants.{Done, Read}
 use Rattle.sg_capture.proofs.records.play_records.Goals as goal
 
 -- all that was read
@@ -39,7 +41,7 @@ returns-in-Err-clause-ran g c =
             wrote_more _ _ _ (output_of w now.0) closed.0 now.1 closed.1,
             subst (λ (o : List ℕ). EndsReading c.close.result w (waiting c.args.player.now) c.args.player.now.front.table.moment (records_in c.args.reader.now.most c.args.form c.args.reader.now.at) o (output_of w now.0 ++ closed.0) left) (sym octets)
                 (closed_at_err (records_in c.args.reader.now.most c.args.form c.args.reader.now.at) c.args.reader.now.most c.args.form so_far.0 c.records.reader.at c.args.player.now.front.table.moment (waiting c.args.player.now) (waiting c.records.player) now.0 c.records.progress now.2
-                w c.in-Err.status c.close.result c.records.reader c.next.new.self got.0 closed.0 left c.records.invariant.1 refl got.2 closed.2),
+                w c.in-Err.status c.close.result c.records.reader c.next.new.self got.0 closed.0 left (near_rest c.records.reader.waits got.0 _ _ (c.in-Err.ensures.near c.records.invariant.8).1 got.3) c.records.invariant.1 refl got.2 closed.2),
           )),
     )
 
@@ -70,6 +72,7 @@ returns-in-Ok-None-clause-ran g c =
 
 pub returns-in-Err-play_record-clause-ran : goal.returns-in-Err-play_record-clause-ran
 returns-in-Err-play_record-clause-ran g c =
+    let few = c.records.invariant.7 in
     let so_far = c.records.invariant.0 in
     let got = c.in-Ok-Some.ensures.next in
     let left = g.S.Source.left c.next.new.source in
@@ -88,7 +91,7 @@ returns-in-Err-play_record-clause-ran g c =
             wrote_more _ _ _ (output_of w now.0) met.0 now.1 met.1,
             subst (λ (o : List ℕ). EndsReading c.in-Err-play_record.status w (waiting c.args.player.now) c.args.player.now.front.table.moment (records_in c.args.reader.now.most c.args.form c.args.reader.now.at) o (output_of w now.0 ++ met.0) left) (sym octets)
                 (ends_met (records_in c.args.reader.now.most c.args.form c.args.reader.now.at) c.args.reader.now.most c.args.form so_far.0 c.records.reader.at c.args.player.now.front.table.moment (waiting c.args.player.now) (waiting c.records.player) now.0 c.records.progress now.2
-                w c.in-Err-play_record.status c.in-Ok-Some.record part c.next.new.self.waits (waiting c.play_record.new.player) (StandsFor c.play_record.new.player.front) met.0 left is next.0.whole
+                w c.in-Err-play_record.status c.in-Ok-Some.record part c.next.new.self.waits (waiting c.play_record.new.player) (StandsFor c.play_record.new.player.front) met.0 left (omega (arith, few, length-map c.records.player.waits arrived)) (c.in-Ok-Some.ensures.near c.records.invariant.8).0 is next.0.whole
                 (subst (λ (f : List ℕ). IsMet (Err c.in-Err-play_record.status) (world_after w (captured_events now.0)) (waiting c.records.player) (waiting c.play_record.new.player)
                 (record_occurs c.records.progress.last (first_of c.records.progress.first c.in-Ok-Some.record.millis) c.records.progress.top c.records.progress.number (record { millis = c.in-Ok-Some.record.millis; frame = f })) (StandsFor c.play_record.new.player.front) met.0) c.frame.ensures met.2)),
           )),
@@ -149,6 +152,8 @@ records-preserved g c =
       search rules,
       search rules,
       omega (arith, c.records.invariant.6, c.next.ensures.given),
+      c.in-Ok.ensures.few,
+      (c.in-Ok-Some.ensures.near c.records.invariant.8).0,
     )
 
 -- nothing is read or written yet
@@ -176,6 +181,8 @@ records-init g c =
       refl,
       refl,
       omega arith,
+      c.requires.few,
+      c.requires.near,
     )
 
 -- ---- whose failure it was
@@ -186,9 +193,7 @@ returns-in-Err-clause-read g c =
     let w = c.requires.stands.0 in
     let now = so_far.5 w c.requires.stands.1 in
     let closed = c.close.ensures.closed (unshared (world_after w (captured_events now.0))) now.3 in
-    let got = c.in-Err.ensures.next in
-    let same = close_read c.args.form c.in-Err.status c.close.result c.records.reader c.next.new.self got.0 (g.S.Source.left c.next.new.source) (unshared (world_after w (captured_events now.0))) (waiting c.records.player) closed.0 got.2 closed.2 in
-    failed_now _ _ _ _ _ c.records.invariant.4 (failed_as _ _ _ _ _ (λ is. ap Err (same.0 is)) (λ is. same.1 (let told : c.in-Err.status ≡ Read = cc in told)) c.in-Err.ensures.cause)
+    ended_closed effects 258 (Option Record) c.in-Err.status c.close.result _ _ closed.0 closed.2 _ _ _ _ c.records.invariant.4 c.in-Err.ensures.cause
 
 pub returns-in-Ok-None-clause-read : goal.returns-in-Ok-None-clause-read
 returns-in-Ok-None-clause-read g c =
@@ -196,8 +201,8 @@ returns-in-Ok-None-clause-read g c =
     let w = c.requires.stands.0 in
     let now = so_far.5 w c.requires.stands.1 in
     let closed = c.close-in-Ok-None.ensures.closed (unshared (world_after w (captured_events now.0))) now.3 in
-    not_failed _ _ _ _ (c.in-Ok-None.ensures.cause.quiet (λ is. ok_not _ _ is) ∙ c.records.invariant.4)
-    (done_not c.close-in-Ok-None.result Read (unshared (world_after w (captured_events now.0))) (waiting c.records.player) closed.0 closed.2 (λ is. cc) (λ is. cc) (λ is. cc))
+    ended_quiet _ _ _ _ _ (c.in-Ok-None.ensures.cause.quiet (λ is. ok_not _ _ is) ∙ c.records.invariant.4)
+    (closes_not effects 258 Done c.close-in-Ok-None.result Read _ _ closed.0 closed.2 (λ is. cc) (λ is. cc) (λ is. cc))
 
 pub returns-in-Err-play_record-clause-read : goal.returns-in-Err-play_record-clause-read
 returns-in-Err-play_record-clause-read g c =
@@ -205,5 +210,5 @@ returns-in-Err-play_record-clause-read g c =
     let w = c.requires.stands.0 in
     let now = so_far.5 w c.requires.stands.1 in
     let met = c.in-Err-play_record.ensures.met (world_after w (captured_events now.0)) now.3 in
-    not_failed _ _ _ _ (c.in-Ok-Some.ensures.cause.quiet (λ is. ok_not _ _ is) ∙ c.records.invariant.4)
+    ended_quiet _ _ _ _ _ (c.in-Ok-Some.ensures.cause.quiet (λ is. ok_not _ _ is) ∙ c.records.invariant.4)
     (met_not_read c.in-Err-play_record.status (world_after w (captured_events now.0)) (waiting c.records.player) (waiting c.play_record.new.player) _ (StandsFor c.play_record.new.player.front) met.0 met.2)

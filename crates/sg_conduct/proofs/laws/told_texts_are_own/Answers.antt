@@ -4,6 +4,7 @@ use Rattle.sg_gateway.proofs.Datagrams.{every_turn}
 use Rattle.sg_gateway.proofs.Orderly.{Ordered}
 use Rattle.sg_gateway.proofs.Reached.{Anything, anything_had, anything_on, ordered_worlds}
 use Rattle.sg_gateway.specs.Runs.{turns}
+use Rattle.sg_conduct.proofs.Printed.{Laws}
 use Rattle.sg_conduct.proofs.Telling.{event_tells}
 use Rattle.sg_conduct.specs.ToldTexts.{TextsAreOwn}
 use Rattle.sg_conduct.proofs.laws.told_texts_are_own.Goals as goal
@@ -11,6 +12,7 @@ use Rattle.sg_conduct.proofs.laws.told_texts_are_own.Goals as goal
 pub returns : goal.returns
 returns c = λ events.
     let laws : Agreements = record { few = c.agreements_are_sound.ensures.few; sound = c.agreements_are_sound.ensures.sound; answered = c.active_media_are_agreed.ensures.answer; described = c.offers_fit_their_calls.ensures.described; count = c.offers_fit_their_calls.ensures.count } in
+    let of_texts : Laws = record { again = c.descriptions_have_one_value.ensures.printed_again; valid = c.a_carried_text_is_a_description.ensures.valid } in
     All-from_recursion TextsAreOwn (turns events)
     (every_turn Anything anything_on anything_had (λ t. Ordered t.before) TextsAreOwn
-    (λ past w e kept ordered. event_tells c.descriptions_have_one_value.ensures.takes w ordered e) events (ordered_worlds laws events).0)
+    (λ past w e kept ordered. event_tells c.descriptions_have_one_value.ensures.takes of_texts w ordered e) events (ordered_worlds laws events).0)

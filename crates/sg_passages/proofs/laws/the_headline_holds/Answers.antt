@@ -1,4 +1,4 @@
-use Rattle.sg_passages.proofs.Headlines.{agreed_taken, answers_renew, arriving_out, blocks_used, departing_sealed, ends_free, manual_taken, messages, no_keys, offer_texts, offers_taken, only_openings, only_seals, openings_out, openings_sealed, refusals, refused_offers, seals_out, settled, signals_quiet}
+use Rattle.sg_passages.proofs.Headlines.{answers_renew, arriving_out, blocks_used, departing_sealed, ends_free, manual_taken, messages, no_keys, offer_texts, offers_taken, offers_told, only_openings, only_seals, openings_out, openings_sealed, refusals, refused_offers, seals_out, settled, signals_quiet}
 use Rattle.sg_passages.proofs.laws.the_headline_holds.Goals as goal
 
 pub returns : goal.returns
@@ -37,10 +37,11 @@ returns c = λ events passages are. record {
   ticks = c.signals_are_carried_out.ensures.ticks events;
   ticks_keep = c.signals_are_carried_out.ensures.kept events;
   offers = offers_taken events passages are (c.offers_are_taken.ensures events);
-  agreed_offers = agreed_taken events passages are (c.signals_are_taken.ensures.offers events);
+  told_offers = offers_told events passages are (c.offers_are_told_as_they_came.ensures events);
   manual_calls = manual_taken events passages are (c.manual_calls_are_taken.ensures events);
   rejections = c.signals_are_carried_out.ensures.rejections events;
   answers = answers_renew events passages are (c.signals_are_carried_out.ensures.answers events);
+  refused_answers = c.refused_answers_show_causes.ensures events;
   earlier_kept = c.signals_are_carried_out.ensures.earlier events;
   plain_texts = c.plain_texts_have_no_key.ensures events;
   told_texts = no_keys events passages are (c.plain_texts_have_no_key.ensures events);

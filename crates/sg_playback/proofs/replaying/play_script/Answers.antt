@@ -1,56 +1,62 @@
-use Rattle.std.proofs.Common.{rules, ◌≡◌, ◌⊎◌, ℕ, Bool, List, [], ◌++◌, length, map, None, IfSome, Ok, Err, sym, ap, ◌∙◌, subst, inl, inr, arith, length-append}
-use Rattle.sg_trace.proofs.Traces.{whole_some}
-use Rattle.sg_trace.proofs.Causes.{failed_as, failed_now, not_failed, ok_not}
-use Rattle.sg_trace.specs.declared.status.Status.TheVariants.{Read, Noise}
-use Rattle.sg_lines.specs.LineText.{FitsLine}
-use Rattle.sg_trace.specs.Reading.{IsNext, IsRead, Reading}
+use Rattle.std.proofs.Common.{rules, ◌⊎◌, ℕ, List, [], ◌++◌, length, map, Option, None, IfSome, Ok, sym, ap, ◌∙◌, subst, inl, inr, arith, length-append}
 use Rattle.sg_edge.proofs.Links.{added_more}
 use Rattle.sg_edge.proofs.Passed.{wrote_more}
-use Rattle.sg_gateway.specs.Step.{Event}
 use Rattle.sg_front.proofs.Sequences.{state_after-append}
 use Rattle.sg_front.specs.States.{FrontStandsFor, start, state_after}
-use Rattle.sg_playback.proofs.Replays.{begins, bounded, close_noise, close_read, closed_at_end, closed_at_err, done_not, ends_played, goes_on, played_not_read, took_all}
-use Rattle.sg_playback.specs.Playing.{text_from, waiting}
+use Rattle.sg_gateway.specs.Step.{Event}
+use Rattle.sg_lines.specs.LineText.{FitsLine}
+use Rattle.sg_lines.specs.declared.lines.Line.{Line}
+use Rattle.sg_playback.proofs.Alike.{events_in_order}
+use Rattle.sg_playback.proofs.Lines.{line_ended, line_taken}
+use Rattle.sg_playback.specs.Playing.{effects, text_from, waiting}
+use Rattle.sg_playback.specs.Replay.{gives}
 use Rattle.sg_table.specs.Batches.{arrived}
+use Rattle.sg_trace.proofs.Causes.{not_failed, ok_not}
+use Rattle.sg_trace.proofs.Ends.{ended_closed, ended_quiet, closes_not, played_not_read, next_not_noise, next_not_write}
+use Rattle.sg_trace.proofs.Loops.{begins, bounded, near_by, closed_at_end, closed_at_err, ends_played, goes_on, took_all}
+use Rattle.sg_trace.proofs.Traces.{whole_some}
+use Rattle.sg_trace.specs.Reading.{IsNext, IsRead, Reading}
+use Rattle.sg_trace.specs.declared.status.Status.TheVariants.{Done, Noise, Read}
 use Rattle.sg_playback.proofs.replaying.play_script.Goals as goal
+
+pub close-requires-after_bounds : goal.close-requires-after_bounds
+close-requires-after_bounds g c = λ bounds outlives. next_not_write c.in-Err.status c.lines.script c.next.new.self c.in-Err.ensures.next.0 (g.S.Source.left c.next.new.source) c.in-Err.ensures.next.2
 
 pub returns-in-Err-clause-ran : goal.returns-in-Err-clause-ran
 returns-in-Err-clause-ran g c =
-    let muxes : Bool = c.args.player.now.front.muxes in
+    let begun = start c.args.player.now.front.muxes in
     let so_far = c.lines.invariant.0 in
     let got = c.in-Err.ensures.next in
-    let closed = c.close.ensures.closed (state_after (start muxes) so_far.2) so_far.5 in (
+    let near = near_by c.lines.script.waits got.0 _ _ (c.in-Err.ensures.near c.lines.invariant.3).1 got.3 in
+    let closed = c.close.ensures.closed (state_after begun so_far.2) so_far.5 in (
       so_far.0 ++ (c.lines.script.waits ++ got.0),
       so_far.1,
-      text_from (start muxes) so_far.2 ++ closed.0,
-      record {
-        took = took_all muxes _ _ so_far.0 so_far.1 so_far.2 (waiting c.lines.player) c.lines.script so_far.3 _ got.0 got.1;
-        drew = so_far.3.drew;
-        wrote = wrote_more _ _ _ (text_from (start muxes) so_far.2) closed.0 so_far.3.wrote closed.1;
-        ends = closed_at_err muxes _ _ so_far.0 so_far.1 so_far.2 (waiting c.lines.player) c.lines.script so_far.3 _ got.0 got.1 c.in-Err.status c.close.result _ closed.0 got.2 closed.2;
-        bound = bounded so_far.0 c.lines.script.waits got.0 c.lines.script.offset _ _ so_far.4 c.lines.invariant.1 got.3;
-      },
+      text_from begun so_far.2 ++ closed.0,
+      took_all gives effects events_in_order begun 258 _ _ so_far.0 so_far.1 so_far.2 _ c.lines.script so_far.3 _ got.0 got.1 near,
+      so_far.3.drew,
+      wrote_more _ _ _ (text_from begun so_far.2) closed.0 so_far.3.wrote closed.1,
+      bounded so_far.0 c.lines.script.waits got.0 c.lines.script.offset _ _ so_far.4 c.lines.invariant.1 got.3,
+      closed_at_err gives effects events_in_order begun 258 _ _ so_far.0 so_far.1 so_far.2 _ c.lines.script so_far.3 _ got.0 got.1 near c.in-Err.status c.close.result _ closed.0 got.2 closed.2,
     )
 
 pub returns-in-Ok-None-clause-ran : goal.returns-in-Ok-None-clause-ran
 returns-in-Ok-None-clause-ran g c =
-    let muxes : Bool = c.args.player.now.front.muxes in
+    let begun = start c.args.player.now.front.muxes in
     let so_far = c.lines.invariant.0 in
     let got = c.in-Ok-None.ensures.next in
     let next : IsNext (Ok None) c.lines.script c.next.new.self got.0 (g.S.Source.left c.next.new.source) =
     subst (λ r. IsNext (Ok r) c.lines.script c.next.new.self got.0 (g.S.Source.left c.next.new.source)) c.in-Ok-None.field-0-is got.2 in
-    let closed = c.close-in-Ok-None.ensures.closed (state_after (start muxes) so_far.2) so_far.5 in (
+    let near = near_by c.lines.script.waits got.0 _ _ (c.in-Ok-None.ensures.near c.lines.invariant.3).1 got.3 in
+    let closed = c.close-in-Ok-None.ensures.closed (state_after begun so_far.2) so_far.5 in (
       so_far.0 ++ (c.lines.script.waits ++ got.0),
       so_far.1,
-      text_from (start muxes) so_far.2 ++ closed.0,
-      record {
-        took = took_all muxes _ _ so_far.0 so_far.1 so_far.2 (waiting c.lines.player) c.lines.script so_far.3 _ got.0 got.1;
-        drew = so_far.3.drew;
-        wrote = wrote_more _ _ _ (text_from (start muxes) so_far.2) closed.0 so_far.3.wrote closed.1;
-        ends = closed_at_end muxes _ _ so_far.0 so_far.1 so_far.2 (waiting c.lines.player) c.lines.script so_far.3 _ got.0 got.1 c.close-in-Ok-None.result closed.0 next.0
-            (end_so next.1 (λ far. omega (arith, far, c.lines.invariant.2))) closed.2;
-        bound = bounded so_far.0 c.lines.script.waits got.0 c.lines.script.offset _ _ so_far.4 c.lines.invariant.1 got.3;
-      },
+      text_from begun so_far.2 ++ closed.0,
+      took_all gives effects events_in_order begun 258 _ _ so_far.0 so_far.1 so_far.2 _ c.lines.script so_far.3 _ got.0 got.1 near,
+      so_far.3.drew,
+      wrote_more _ _ _ (text_from begun so_far.2) closed.0 so_far.3.wrote closed.1,
+      bounded so_far.0 c.lines.script.waits got.0 c.lines.script.offset _ _ so_far.4 c.lines.invariant.1 got.3,
+      closed_at_end gives effects events_in_order begun 258 _ _ so_far.0 so_far.1 so_far.2 _ c.lines.script so_far.3 _ got.0 got.1 near c.close-in-Ok-None.result closed.0 next.0
+          (end_so next.1 (λ far. omega (arith, far, c.lines.invariant.2))) closed.2,
     )
   where
     end_so : {P Q : Type 0} → P ⊎ Q → (Q → ⊥) → P
@@ -59,23 +65,22 @@ returns-in-Ok-None-clause-ran g c =
 
 pub returns-in-Err-play-clause-ran : goal.returns-in-Err-play-clause-ran
 returns-in-Err-play-clause-ran g c =
-    let muxes : Bool = c.args.player.now.front.muxes in
+    let begun = start c.args.player.now.front.muxes in
     let so_far = c.lines.invariant.0 in
     let got = c.in-Ok-Some.ensures.next in
     let read : IsRead c.in-Ok-Some.line c.lines.script c.next.new.self got.0 =
     subst (λ r. IsNext (Ok r) c.lines.script c.next.new.self got.0 (g.S.Source.left c.next.new.source)) c.in-Ok-Some.field-0-is got.2 in
-    let played = c.in-Err-play.ensures.played (state_after (start muxes) so_far.2) so_far.5 in (
+    let near = near_by c.lines.script.waits got.0 _ _ (c.in-Ok-Some.ensures.near c.lines.invariant.3).1 got.3 in
+    let played = c.in-Err-play.ensures.played (state_after begun so_far.2) so_far.5 in
+    let ended = line_ended c.in-Ok-Some.line (state_after begun so_far.2) c.lines.player c.in-Err-play.ensures.few played.0 played.1 c.in-Err-play.status _ (FrontStandsFor c.play.new.self.front) played.4 in (
       so_far.0 ++ (c.lines.script.waits ++ got.0),
       so_far.1 ++ played.0,
-      text_from (start muxes) so_far.2 ++ played.1,
-      record {
-        took = took_all muxes _ _ so_far.0 so_far.1 so_far.2 (waiting c.lines.player) c.lines.script so_far.3 _ got.0 got.1;
-        drew = added_more _ _ _ so_far.1 played.0 so_far.3.drew played.2;
-        wrote = wrote_more _ _ _ (text_from (start muxes) so_far.2) played.1 so_far.3.wrote played.3;
-        ends = ends_played muxes _ _ so_far.0 so_far.1 so_far.2 (waiting c.lines.player) c.lines.script so_far.3 _ got.0 got.1 c.in-Ok-Some.line c.next.new.self read c.in-Err-play.status _
-            (FrontStandsFor c.play.new.self.front) played.0 played.1 played.4;
-        bound = bounded so_far.0 c.lines.script.waits got.0 c.lines.script.offset _ _ so_far.4 c.lines.invariant.1 got.3;
-      },
+      text_from begun so_far.2 ++ played.1,
+      took_all gives effects events_in_order begun 258 _ _ so_far.0 so_far.1 so_far.2 _ c.lines.script so_far.3 _ got.0 got.1 near,
+      added_more _ _ _ so_far.1 played.0 so_far.3.drew played.2,
+      wrote_more _ _ _ (text_from begun so_far.2) played.1 so_far.3.wrote played.3,
+      bounded so_far.0 c.lines.script.waits got.0 c.lines.script.offset _ _ so_far.4 c.lines.invariant.1 got.3,
+      ends_played gives effects events_in_order begun 258 _ _ so_far.0 so_far.1 so_far.2 _ c.lines.script so_far.3 _ got.0 got.1 near c.in-Ok-Some.line c.next.new.self read c.in-Err-play.status _ _ played.0 played.1 ended,
     )
 
 pub lines-smaller : goal.lines-smaller
@@ -88,45 +93,48 @@ lines-smaller g c =
 
 pub lines-preserved : goal.lines-preserved
 lines-preserved g c =
-    let muxes : Bool = c.args.player.now.front.muxes in
+    let begun = start c.args.player.now.front.muxes in
     let so_far = c.lines.invariant.0 in
     let got = c.in-Ok-Some.ensures.next in
     let read : IsRead c.in-Ok-Some.line c.lines.script c.next.new.self got.0 =
     subst (λ r. IsNext (Ok r) c.lines.script c.next.new.self got.0 (g.S.Source.left c.next.new.source)) c.in-Ok-Some.field-0-is got.2 in
-    let played = c.in-Ok.ensures.played (state_after (start muxes) so_far.2) so_far.5 in
-    let some = whole_some read.line read.whole in (
+    let near = near_by c.lines.script.waits got.0 _ _ (c.in-Ok-Some.ensures.near c.lines.invariant.3).1 got.3 in
+    let played = c.in-Ok.ensures.played (state_after begun so_far.2) so_far.5 in
+    let taken = line_taken c.in-Ok-Some.line (state_after begun so_far.2) c.lines.player c.in-Ok.ensures.few played.0 played.1 _ (FrontStandsFor c.play.new.self.front) played.4 in (
       (
         so_far.0 ++ read.line,
         so_far.1 ++ played.0,
-        so_far.2 ++ played.4.prefix,
-        goes_on muxes _ _ so_far.0 so_far.1 so_far.2 (waiting c.lines.player) c.lines.script so_far.3 _ got.0 got.1 c.in-Ok-Some.line c.next.new.self read _ _ _ _ played.0 played.1 played.4 played.2 played.3,
+        so_far.2 ++ taken.told,
+        goes_on gives effects events_in_order begun 258 _ _ so_far.0 so_far.1 so_far.2 _ c.lines.script so_far.3 _ got.0 got.1 near c.in-Ok-Some.line c.next.new.self read _ _ _ _ played.0 played.1 taken played.2 played.3,
         omega (arith, so_far.4, read.offset, length-append so_far.0 read.line),
-        subst (FrontStandsFor c.play.new.self.front) (sym (state_after-append (start muxes) so_far.2 played.4.prefix)) played.4.stands,
+        subst (FrontStandsFor c.play.new.self.front) (sym (state_after-append begun so_far.2 taken.told)) taken.left,
       ),
       omega (arith, read.offset, got.3, c.lines.invariant.1, length-append c.lines.script.waits got.0, ap length read.split, length-append read.line c.next.new.self.waits),
       read.within,
+      (c.in-Ok-Some.ensures.near c.lines.invariant.3).0,
       search rules,
       search rules,
       search rules,
-      omega (arith, c.lines.invariant.6, c.next.ensures.given),
+      omega (arith, c.lines.invariant.7, c.next.ensures.given),
     )
 
--- nothing is read, drawn, handled or written yet
+-- nothing is read, drawn, told or written yet
 pub lines-init : goal.lines-init
 lines-init g c =
-    let muxes : Bool = c.args.player.now.front.muxes in
+    let begun = start c.args.player.now.front.muxes in
     let none : List ℕ = [] in
     let es : List Event = [] in (
       (
         none,
         none,
         es,
-        begins muxes _ (waiting c.args.player.now) c.new-script.result (ap (map arrived) c.requires.1) c.new-script.ensures,
+        begins gives effects events_in_order begun _ (waiting c.args.player.now) c.new-script.result (ap (map arrived) c.requires.1) c.new-script.ensures,
         sym (ap (λ (s : Reading). s.offset) c.new-script.ensures),
         c.requires.0,
       ),
       search rules,
       search rules,
+      omega (arith, ap (λ (s : Reading). length s.waits) c.new-script.ensures),
       search rules,
       search rules,
       search rules,
@@ -140,42 +148,37 @@ play-requires-after_bounds g c = λ bounds outlives. (c.lines.script.version, c.
 
 pub returns-in-Err-clause-read : goal.returns-in-Err-clause-read
 returns-in-Err-clause-read g c =
-    let muxes : Bool = c.args.player.now.front.muxes in
     let so_far = c.lines.invariant.0 in
-    let got = c.in-Err.ensures.next in
-    let closed = c.close.ensures.closed (state_after (start muxes) so_far.2) so_far.5 in
-    let same = close_read c.in-Err.status c.close.result c.lines.script c.next.new.self got.0 (g.S.Source.left c.next.new.source) (state_after (start muxes) so_far.2) (waiting c.lines.player) closed.0 got.2 closed.2 in
-    failed_now _ _ _ _ _ c.lines.invariant.3 (failed_as _ _ _ _ _ (λ is. ap Err (same.0 is)) (λ is. same.1 (let told : c.in-Err.status ≡ Read = cc in told)) c.in-Err.ensures.cause)
+    let closed = c.close.ensures.closed (state_after (start c.args.player.now.front.muxes) so_far.2) so_far.5 in
+    ended_closed effects 258 (Option Line) c.in-Err.status c.close.result _ _ closed.0 closed.2 _ _ _ _ c.lines.invariant.4 c.in-Err.ensures.cause
 
 pub returns-in-Err-clause-noise : goal.returns-in-Err-clause-noise
 returns-in-Err-clause-noise g c =
-    let muxes : Bool = c.args.player.now.front.muxes in
     let so_far = c.lines.invariant.0 in
     let got = c.in-Err.ensures.next in
-    let closed = c.close.ensures.closed (state_after (start muxes) so_far.2) so_far.5 in
-    not_failed _ _ _ _ c.lines.invariant.5
-    (close_noise c.in-Err.status c.close.result c.lines.script c.next.new.self got.0 (g.S.Source.left c.next.new.source) (state_after (start muxes) so_far.2) (waiting c.lines.player) closed.0 got.2 closed.2)
+    let closed = c.close.ensures.closed (state_after (start c.args.player.now.front.muxes) so_far.2) so_far.5 in
+    not_failed _ _ _ _ c.lines.invariant.6
+    (closes_not effects 258 c.in-Err.status c.close.result Noise _ _ closed.0 closed.2 (next_not_noise c.in-Err.status c.lines.script c.next.new.self got.0 (g.S.Source.left c.next.new.source) got.2) (λ is. cc) (λ is. cc))
 
 pub returns-in-Ok-None-clause-read : goal.returns-in-Ok-None-clause-read
 returns-in-Ok-None-clause-read g c =
-    let muxes : Bool = c.args.player.now.front.muxes in
     let so_far = c.lines.invariant.0 in
-    let closed = c.close-in-Ok-None.ensures.closed (state_after (start muxes) so_far.2) so_far.5 in
-    not_failed _ _ _ _ (c.in-Ok-None.ensures.cause.quiet (λ is. ok_not _ _ is) ∙ c.lines.invariant.3)
-    (done_not c.close-in-Ok-None.result Read (state_after (start muxes) so_far.2) (waiting c.lines.player) closed.0 closed.2 (λ is. cc) (λ is. cc) (λ is. cc))
+    let closed = c.close-in-Ok-None.ensures.closed (state_after (start c.args.player.now.front.muxes) so_far.2) so_far.5 in
+    ended_quiet _ _ _ _ _ (c.in-Ok-None.ensures.cause.quiet (λ is. ok_not _ _ is) ∙ c.lines.invariant.4)
+    (closes_not effects 258 Done c.close-in-Ok-None.result Read _ _ closed.0 closed.2 (λ is. cc) (λ is. cc) (λ is. cc))
 
 pub returns-in-Ok-None-clause-noise : goal.returns-in-Ok-None-clause-noise
 returns-in-Ok-None-clause-noise g c =
-    let muxes : Bool = c.args.player.now.front.muxes in
     let so_far = c.lines.invariant.0 in
-    let closed = c.close-in-Ok-None.ensures.closed (state_after (start muxes) so_far.2) so_far.5 in
-    not_failed _ _ _ _ c.lines.invariant.5
-    (done_not c.close-in-Ok-None.result Noise (state_after (start muxes) so_far.2) (waiting c.lines.player) closed.0 closed.2 (λ is. cc) (λ is. cc) (λ is. cc))
+    let closed = c.close-in-Ok-None.ensures.closed (state_after (start c.args.player.now.front.muxes) so_far.2) so_far.5 in
+    not_failed _ _ _ _ c.lines.invariant.6
+    (closes_not effects 258 Done c.close-in-Ok-None.result Noise _ _ closed.0 closed.2 (λ is. cc) (λ is. cc) (λ is. cc))
 
 pub returns-in-Err-play-clause-read : goal.returns-in-Err-play-clause-read
 returns-in-Err-play-clause-read g c =
-    let muxes : Bool = c.args.player.now.front.muxes in
     let so_far = c.lines.invariant.0 in
-    let played = c.in-Err-play.ensures.played (state_after (start muxes) so_far.2) so_far.5 in
-    not_failed _ _ _ _ (c.in-Ok-Some.ensures.cause.quiet (λ is. ok_not _ _ is) ∙ c.lines.invariant.3)
-    (played_not_read c.in-Err-play.status c.in-Ok-Some.line (state_after (start muxes) so_far.2) (waiting c.lines.player) _ _ played.0 played.1 played.4)
+    let begun = start c.args.player.now.front.muxes in
+    let played = c.in-Err-play.ensures.played (state_after begun so_far.2) so_far.5 in
+    let ended = line_ended c.in-Ok-Some.line (state_after begun so_far.2) c.lines.player c.in-Err-play.ensures.few played.0 played.1 c.in-Err-play.status _ (FrontStandsFor c.play.new.self.front) played.4 in
+    ended_quiet _ _ _ _ _ (c.in-Ok-Some.ensures.cause.quiet (λ is. ok_not _ _ is) ∙ c.lines.invariant.4)
+    (played_not_read c.in-Err-play.status effects (gives c.in-Ok-Some.line) 258 _ _ _ _ played.0 played.1 ended)

@@ -56,4 +56,5 @@ loop-read_buffer-preserved g c =
       omega (arith, few, ap length part.1.1, length-append c.loop-read_buffer.part.items part.0, c.len-in-loop-read_buffer.ensures, c.loop-read_buffer-test.true),
       c.in-Ok.ensures.cause.quiet refl ∙ c.loop-read_buffer.invariant.2,
       omega (arith, c.fill.ensures.given, c.loop-read_buffer.invariant.3),
+      λ near. let filled = c.fill.ensures.few (c.loop-read_buffer.invariant.4 near) in omega (arith, filled, ap length part.1.0, length-append part.0 c.move_part.new.self),
     )

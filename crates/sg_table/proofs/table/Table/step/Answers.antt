@@ -33,8 +33,8 @@ invariant_of-self-else-count-before c =
 pub returns-in-Err-clause-needs : goal.returns-in-Err-clause-needs
 returns-in-Err-clause-needs c = λ w s. c.in-Err.ensures.needs w (subst (λ v. TableStandsFor v w) (sym c.self.view_is) s)
 
-pub returns-after-count-before-clause-told : goal.returns-after-count-before-clause-told
-returns-after-count-before-clause-told c = λ w s.
+pub returns-clause-told : goal.returns-clause-told
+returns-clause-told c = λ w s.
     let s' = subst (λ v. TableStandsFor v w) (sym c.self.view_is) s in
     let told = told_of_signal c.self.inside.calls c.take.new.self w c.args.signal.now c.take.new.told.items c.requires.noise s' (c.in-Ok.ensures.told w s') in
     elim c.if-count-before.branch [

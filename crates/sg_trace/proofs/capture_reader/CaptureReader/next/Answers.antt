@@ -1,8 +1,9 @@
-use Rattle.std.proofs.Common.{rules, ◌≡◌, ◌∙◌, ◌+◌, ◌<◌, ℕ, List, [], length, None, Ok, ap, sym, subst, arith, length-append}
+use Rattle.std.proofs.Common.{rules, ◌≡◌, ◌∙◌, ◌+◌, ◌<◌, ◌≤◌, ◌++◌, ℕ, List, [], length, None, Ok, Err, ap, sym, subst, arith, length-append}
+use Rattle.std.proofs.lemmas.List.{append-nil}
 use Rattle.std.proofs.lemmas.Bool.Decides.{nat_tests}
 use Rattle.sg_edge.specs.Told.{TookIn}
-use Rattle.sg_pcap.specs.Capture.{record_within}
-use Rattle.sg_trace.proofs.CaptureReads.{nothing_had, record_err, record_none, record_ok, split_of}
+use Rattle.sg_pcap.specs.Capture.{record_within, records_in}
+use Rattle.sg_trace.proofs.CaptureReads.{failed_as, near_part, nothing_had, record_err, record_none, record_ok, record_short, split_of}
 use Rattle.sg_trace.specs.CaptureReading.{Capturing, IsRecordRead}
 use Rattle.sg_trace.proofs.capture_reader.CaptureReader.next.Goals.{in-Err-record_within, in-Ok-record_within}
 use Rattle.sg_trace.proofs.capture_reader.CaptureReader.next.Goals as goal
@@ -65,3 +66,41 @@ returns-clause-next g c =
     ] in
     subst (λ (v : Capturing). (x : List ℕ) × TookIn (g.S.Source.left c.args.source.now) left x × IsRecordRead c.args.form c.match-record_within.result v new x left × (length x + c.next_record.new.budget ≡ v.budget)) c.self.view_is
     (got.0, got.1, read, got.3)
+
+pub returns-in-Err-clause-next : goal.returns-in-Err-clause-next
+returns-in-Err-clause-next g c =
+    let got = c.in-Err.ensures.got in
+    let part : List ℕ = c.next_record.new.part.items in
+    let left = g.S.Source.left c.next_record.new.source in
+    let old : Capturing = record { waits = c.self.inside.read_buffer; part = c.self.inside.part.items; at = c.self.inside.at + length c.self.inside.part.items; most = c.self.inside.most; budget = c.self.inside.budget } in
+    let new : Capturing = record { waits = c.next_record.new.read_buffer; part = part; at = (c.self.inside.at + c.len.result) + length part; most = c.self.inside.most; budget = c.next_record.new.budget } in
+    let read : IsRecordRead c.args.form (Err c.in-Err.status) old new got.0 left =
+    failed_as (λ s. IsRecordRead c.args.form (Err s) old new got.0 left) c.in-Err.status c.in-Err.ensures.only
+    (λ is.
+    (let short = c.in-Err.ensures.short (ap Err is) in
+    let all : c.self.inside.read_buffer ++ got.0 ≡ part = got.2 ∙ ap (λ (l : List ℕ). part ++ l) short.1 ∙ append-nil part in
+    ap (λ (l : List ℕ). (records_in c.self.inside.most c.args.form (c.self.inside.at + length c.self.inside.part.items) l).records) all
+    ∙ record_short c.self.inside.most c.args.form (c.self.inside.at + length c.self.inside.part.items) part short.0)) tt in
+    subst (λ (v : Capturing). (x : List ℕ) × TookIn (g.S.Source.left c.args.source.now) left x × IsRecordRead c.args.form (Err c.in-Err.status) v new x left × (length x + c.next_record.new.budget ≡ v.budget)) c.self.view_is
+    (got.0, got.1, read, got.3)
+
+pub returns-in-Err-clause-near : goal.returns-in-Err-clause-near
+returns-in-Err-clause-near g c =
+    let got = c.next_record.ensures.got in
+    let split = split_of c.args.form c.next_record.result _ _ _ got.0 _ _ got.2 in
+    subst (λ (v : Capturing). length v.waits ≤ 4096 → (length c.next_record.new.read_buffer ≤ 4096) × (length v.waits + v.budget ≤ c.next_record.new.budget + 266256)) c.self.view_is
+    (near_part c.next_record.new.part.items c.self.inside.read_buffer c.next_record.new.read_buffer got.0 c.self.inside.budget c.next_record.new.budget split got.3 c.next_record.ensures.near)
+
+pub returns-then-is_empty-clause-near : goal.returns-then-is_empty-clause-near
+returns-then-is_empty-clause-near g c =
+    let got = c.next_record.ensures.got in
+    let split = split_of c.args.form c.next_record.result _ _ _ got.0 _ _ got.2 in
+    subst (λ (v : Capturing). length v.waits ≤ 4096 → (length c.next_record.new.read_buffer ≤ 4096) × (length v.waits + v.budget ≤ c.next_record.new.budget + 266256)) c.self.view_is
+    (near_part c.next_record.new.part.items c.self.inside.read_buffer c.next_record.new.read_buffer got.0 c.self.inside.budget c.next_record.new.budget split got.3 c.next_record.ensures.near)
+
+pub returns-clause-near : goal.returns-clause-near
+returns-clause-near g c =
+    let got = c.next_record.ensures.got in
+    let split = split_of c.args.form c.next_record.result _ _ _ got.0 _ _ got.2 in
+    subst (λ (v : Capturing). length v.waits ≤ 4096 → (length c.next_record.new.read_buffer ≤ 4096) × (length v.waits + v.budget ≤ c.next_record.new.budget + 266256)) c.self.view_is
+    (near_part c.next_record.new.part.items c.self.inside.read_buffer c.next_record.new.read_buffer got.0 c.self.inside.budget c.next_record.new.budget split got.3 c.next_record.ensures.near)

@@ -1,8 +1,8 @@
-use Rattle.std.proofs.Common.{rules, ◌≡◌, ◌+◌, ◌<◌, ◌^◌, ℕ, true, false, List, [], ◌++◌, length, Ok, Err, ap, sym, ◌∙◌, subst, refl, arith, length-append}
+use Rattle.std.proofs.Common.{rules, ◌≡◌, ◌+◌, ◌<◌, ◌≤◌, ◌^◌, ℕ, true, false, List, [], ◌++◌, length, Ok, Err, ap, sym, ◌∙◌, subst, refl, arith, length-append}
 use Rattle.sg_edge.specs.Told.{TookIn}
 use Rattle.sg_trace.proofs.Findings.{found_capture, found_err, found_line}
 use Rattle.sg_trace.proofs.ReadBuffers.{all_given}
-use Rattle.sg_trace.proofs.Readings.{given_at, line_some}
+use Rattle.sg_trace.proofs.Readings.{given_at, line_some, near_so}
 use Rattle.sg_trace.specs.Fed.{IsLine}
 use Rattle.sg_trace.specs.Finding.{IsFound}
 use Rattle.sg_trace.specs.Reading.{Reading}
@@ -156,3 +156,33 @@ returns-then-begins_capture-clause-found g c =
     found_capture v n at line c.self.inside.read_buffer c.next_line.new.read_buffer got.0 left c.next_line.new.budget given.0 given.1 spent c.self.inside.budget new refl refl begins_so in
     subst (λ (r : Reading). (x : List ℕ) × TookIn (g.S.Source.left c.args.source.now) left x × IsFound (Ok founds.Capture) r new x left × (length x + c.next_line.new.budget ≡ r.budget)) c.self.view_is
     (got.0, got.1, subst (λ (m : ℕ). IsFound (Ok founds.Capture) (record { waits = c.self.inside.read_buffer; version = v; number = n; offset = c.self.inside.at + m; budget = c.self.inside.budget }) new got.0 left) size next, got.3)
+
+pub returns-then-not-found-clause-near : goal.returns-then-not-found-clause-near
+returns-then-not-found-clause-near g c =
+    let got = c.next_line.ensures.got in
+    subst (λ (r : Reading). length r.waits ≤ 4096 → (length c.next_line.new.read_buffer ≤ 4096) × (length r.waits + r.budget ≤ c.next_line.new.budget + 74097)) c.self.view_is
+    (near_so c.next_line.new.line.items c.self.inside.read_buffer c.next_line.new.read_buffer got.0 c.self.inside.budget c.next_line.new.budget (all_given c.next_line.result _ _ _ _ _ _ got.2) got.3 c.next_line.ensures.near)
+
+pub returns-in_err-found-clause-near : goal.returns-in_err-found-clause-near
+returns-in_err-found-clause-near g c =
+    let got = c.next_line.ensures.got in
+    subst (λ (r : Reading). length r.waits ≤ 4096 → (length c.next_line.new.read_buffer ≤ 4096) × (length r.waits + r.budget ≤ c.next_line.new.budget + 74097)) c.self.view_is
+    (near_so c.next_line.new.line.items c.self.inside.read_buffer c.next_line.new.read_buffer got.0 c.self.inside.budget c.next_line.new.budget (all_given c.next_line.result _ _ _ _ _ _ got.2) got.3 c.next_line.ensures.near)
+
+pub returns-then-begins_capture-clause-near : goal.returns-then-begins_capture-clause-near
+returns-then-begins_capture-clause-near g c =
+    let got = c.next_line.ensures.got in
+    subst (λ (r : Reading). length r.waits ≤ 4096 → (length c.next_line.new.read_buffer ≤ 4096) × (length r.waits + r.budget ≤ c.next_line.new.budget + 74097)) c.self.view_is
+    (near_so c.next_line.new.line.items c.self.inside.read_buffer c.next_line.new.read_buffer got.0 c.self.inside.budget c.next_line.new.budget (all_given c.next_line.result _ _ _ _ _ _ got.2) got.3 c.next_line.ensures.near)
+
+pub returns-in-Ok-clause-near : goal.returns-in-Ok-clause-near
+returns-in-Ok-clause-near g c =
+    let got = c.next_line.ensures.got in
+    subst (λ (r : Reading). length r.waits ≤ 4096 → (length c.next_line.new.read_buffer ≤ 4096) × (length r.waits + r.budget ≤ c.next_line.new.budget + 74097)) c.self.view_is
+    (near_so c.next_line.new.line.items c.self.inside.read_buffer c.next_line.new.read_buffer got.0 c.self.inside.budget c.next_line.new.budget (all_given c.next_line.result _ _ _ _ _ _ got.2) got.3 c.next_line.ensures.near)
+
+pub returns-in-Err-clause-near : goal.returns-in-Err-clause-near
+returns-in-Err-clause-near g c =
+    let got = c.next_line.ensures.got in
+    subst (λ (r : Reading). length r.waits ≤ 4096 → (length c.next_line.new.read_buffer ≤ 4096) × (length r.waits + r.budget ≤ c.next_line.new.budget + 74097)) c.self.view_is
+    (near_so c.next_line.new.line.items c.self.inside.read_buffer c.next_line.new.read_buffer got.0 c.self.inside.budget c.next_line.new.budget (all_given c.next_line.result _ _ _ _ _ _ got.2) got.3 c.next_line.ensures.near)

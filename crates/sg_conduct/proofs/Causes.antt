@@ -1,0 +1,663 @@
+-- What refuses an answer shows in its text, its message or the ring.
+use Rattle.std.proofs.Common.{◌≡◌, ◌⊎◌, inl, inr, ℕ, suc, ◌+◌, ◌*◌, ◌≤◌, Bool, true, false, cond, not, ◌&&◌, eqb, ltb, ltb-true, List, [], ◌∷◌, ◌++◌, length, map, codes, Option, Some, None, Result, Ok, Err, refl, sym, ap, ◌∙◌, subst, arith, append_assoc, append-nil, length-append}
+use Rattle.std.proofs.lemmas.Bool.{and_from, eq-eqb, eqb-false, eqb-true, false≢true, not-false, not-true, or_parts}
+use Rattle.std.proofs.lemmas.List.Elements.{recursion_from_All}
+use Rattle.std.proofs.lemmas.Slice.Eq.{bytes_eq-Decides}
+use Rattle.std.specs.Prelude.{◌||◌}
+use Rattle.std.specs.List.{AllByRecursion, Any, cons_option, filter_map, find, list_any}
+use Rattle.std.specs.Option.{is_none}
+use Rattle.sg_agreement.proofs.TextLines.{behind_is}
+use Rattle.sg_agreement.proofs.FewMedia.{described_is}
+use Rattle.sg_agreement.specs.Answers.{AgreedAnswer, agreed_answer, answered_by}
+use Rattle.sg_agreement.specs.Attributes.{behind, crypto_values, first_of, mikey_octets, mikey_value}
+use Rattle.sg_agreement.specs.Described.{described, of_text, unaddressed, with_addresses}
+use Rattle.sg_agreement.specs.EachMedium.{each_kept, if_kept}
+use Rattle.sg_agreement.specs.Generations.{generation_of, keys_from, owned, owner_at}
+use Rattle.sg_agreement.specs.Keying.{Keying, PeerLines, OwnLines, PeerMessage, PeerMessages, OwnMessage, Offer}
+use Rattle.sg_agreement.specs.LineAnswers.{keyed_by_own_lines, keyed_by_peer_line, lines_matched}
+use Rattle.sg_agreement.specs.Media.{AgreedKey, Medium}
+use Rattle.sg_agreement.specs.MessageAnswers.{keyed_as_initiator, keyed_as_responder, keyed_by_message, over_active, own_streams, streams_answered}
+use Rattle.sg_agreement.specs.Messages.{message_in}
+use Rattle.sg_agreement.specs.Refusals.{of_cs, of_message, of_psk, of_sdes, or_refusal}
+use Rattle.sg_agreement.specs.Sides.{active_count, actives_after, is_active, other_side}
+use Rattle.sg_agreement.specs.Sound.{IsSoundMedium}
+use Rattle.sg_base.proofs.Cases.{none_some, some_is}
+use Rattle.sg_base.proofs.SameOctets.{same_octets_true}
+use Rattle.sg_base.specs.Keys.{Master}
+use Rattle.sg_base.specs.Octets.{same_octets}
+use Rattle.sg_base.specs.SuiteNames.{suite_name}
+use Rattle.sg_base.specs.declared.addresses.CallId.{CallId}
+use Rattle.sg_base.specs.declared.addresses.Side.{Side}
+use Rattle.sg_base.specs.declared.faults.CsFault.{CsFault}
+use Rattle.sg_base.specs.declared.faults.MikeyFault.TheVariants.{DataType}
+use Rattle.sg_base.specs.declared.faults.PskFault.{PskFault}
+use Rattle.sg_base.specs.declared.faults.PskFault.TheVariants.{BadMac, Algorithm, OtherSession}
+use Rattle.sg_base.specs.declared.faults.Refusal.{Refusal}
+use Rattle.sg_base.specs.declared.faults.Refusal.TheVariants as causes
+use Rattle.sg_base.specs.declared.faults.SdesFault.{SdesFault}
+use Rattle.sg_base.specs.declared.faults.SdesFault.TheVariants.{NoLine, Tag, Suite}
+use Rattle.sg_base.specs.declared.faults.SdpFault.{SdpFault}
+use Rattle.sg_base.specs.declared.faults.SdpFault.TheVariants.{Address}
+use Rattle.sg_csmap.specs.CryptoSessions.{streams_of}
+use Rattle.sg_mikey.specs.Reading.{Place, message_of}
+use Rattle.sg_mikey.specs.declared.message.CsEntry.{CsEntry}
+use Rattle.sg_mikey.specs.declared.message.Message.{Message}
+use Rattle.sg_outcome.specs.declared.outcomes.Outcome.TheVariants.{Live, Refused, Sdp}
+use Rattle.sg_psk.specs.Envelope.{mac_of}
+use Rattle.sg_psk.specs.Parts.{closing_in}
+use Rattle.sg_psk.specs.Policy.{own_policy}
+use Rattle.sg_psk.specs.Sending.{Sent, response_fits, response_of}
+use Rattle.sg_sdes.specs.Answers.{matched, same_suite}
+use Rattle.sg_sdes.specs.CryptoOf.{crypto_of}
+use Rattle.sg_sdes.specs.Keys as lines
+use Rattle.sg_sdes.specs.declared.lines.CryptoLine.{CryptoLine}
+use Rattle.sg_sdp.specs.Reading.{description_of}
+use Rattle.sg_sdp.specs.declared.medium.Medium as descriptions
+use Rattle.sg_sdp.specs.declared.sdp.Sdp as sdp
+use Rattle.sg_session.proofs.Inversions.{after_ok_is, ok_is, stop_if_is}
+use Rattle.sg_session.proofs.Lists.{any_cases, any_here, any_none, any_there}
+use Rattle.sg_session.specs.Ring.{Installed, derived, first_clash_by, install, key_of, keys_clash, same_secret, with_key_by, with_keys_by}
+use Rattle.sg_session.specs.Stages.{after_ok, stop_if}
+use Rattle.sg_session.specs.declared.names.Direction.TheVariants.{Opening, Sealing}
+use Rattle.sg_session.specs.declared.names.Owner.{Owner}
+use Rattle.sg_gateway.proofs.Agreements.{Agreements, answer_media}
+use Rattle.sg_gateway.proofs.Kept.{IsOffered, WasOffered}
+use Rattle.sg_gateway.proofs.PeersMessages.{octets_carried}
+use Rattle.sg_gateway.proofs.Signals.{found}
+use Rattle.sg_gateway.specs.CallSignals.{answered_to}
+use Rattle.sg_gateway.specs.CryptoSessions.{Carries}
+use Rattle.sg_gateway.specs.Generations.{Settled, keyed}
+use Rattle.sg_gateway.specs.Signals.{Answer, Answered, answer_to, answered as answers, in_old, offering_side, tells_answer}
+use Rattle.sg_gateway.specs.World.{Call, World, call_of, same_id}
+use Rattle.sg_conduct.proofs.Acceptable.{octets_are}
+use Rattle.sg_conduct.proofs.Manual.{apart_is, secret}
+use Rattle.sg_conduct.proofs.Offers.{active_takes}
+use Rattle.sg_conduct.proofs.Present.{takes_active}
+use Rattle.sg_conduct.specs.Causes.{ComeIntoUse, HasNoValue, IsFirstValue, IsNotTo, IsOfNone, IsReusedAt, IsToRespond, LacksAddress, Shows, ShowsNoLine}
+use Rattle.sg_conduct.specs.Manual.{AreApart, IsApartInItself}
+use Rattle.sg_conduct.specs.Present.{TakesPart}
+
+-- ---- stages that refuse
+
+after_ok_err : {X Y E : Type 0} (r : Result X E) (f : X → Result Y E) (c : E) → after_ok r f ≡ Err c → (r ≡ Err c) ⊎ ((x : X) × (r ≡ Ok x) × (f x ≡ Err c))
+after_ok_err (Ok x) f c e = inr (x, refl, e)
+after_ok_err (Err d) f c e = let same : d ≡ c = cc in inl (ap Err same)
+
+stop_if_err : {X E : Type 0} (b : Bool) (c d : E) (r : Result X E) → stop_if b c r ≡ Err d → ((b ≡ true) × (c ≡ d)) ⊎ ((b ≡ false) × (r ≡ Err d))
+stop_if_err true c d r e = inl (refl, cc)
+stop_if_err false c d r e = inr (refl, e)
+
+ok_err : {X E : Type 0} (x : X) (c : E) → (let r : Result X E = Ok x in r ≡ Err c) → ⊥
+ok_err x c e = absurd cc
+
+err_is : {X E : Type 0} (c d : E) → (let r : Result X E = Err c in r ≡ Err d) → c ≡ d
+err_is c d e = cc
+
+-- ---- the text
+
+lacks_at : (side : Side) (n : ℕ) (ms : List descriptions.Medium) (k : ℕ) → unaddressed side n ms ≡ Some k → LacksAddress side n ms k
+lacks_at side n [] k e = absurd cc
+lacks_at side n (m ∷ ms) k e = go (lacks_at side (n + 1 + length m.lines) ms k) (is_active side m) refl m.address refl e
+  where
+    go : (unaddressed side (n + 1 + length m.lines) ms ≡ Some k → LacksAddress side (n + 1 + length m.lines) ms k) → (b : Bool) → is_active side m ≡ b → (a : Option (List ℕ)) → m.address ≡ a
+        → cond (b && is_none a) (Some n) (unaddressed side (n + 1 + length m.lines) ms) ≡ Some k → LacksAddress side n (m ∷ ms) k
+    go rest true is None at e = inl (active_takes side m is, at, sym (some_is n k e))
+    go rest true is (Some x) at e = inr (rest e)
+    go rest false is a at e = inr (rest e)
+
+none_take : (side : Side) (ms : List descriptions.Medium) → list_any (is_active side) ms ≡ false → AllByRecursion (λ m. ¬ TakesPart side m) ms
+none_take side [] e = tt
+none_take side (m ∷ ms) e =
+    let p = or_parts (is_active side m) (list_any (is_active side) ms) e in
+    ((λ takes. false≢true (sym p.0 ∙ takes_active side m takes)), none_take side ms p.1)
+
+module _ (ring : List Installed) (o : Offer) (text : List ℕ) where
+  abbrev Cause : Refusal → Type 0
+  Cause cause = Shows ring o text cause
+
+  abbrev side : Side
+  side = other_side o.side
+
+  text_shows : (r : Result sdp.Sdp (ℕ × SdpFault)) → description_of text ≡ r → (cause : Refusal) → of_text r ≡ Err cause → Cause cause
+  text_shows (Ok s) is cause e = absurd (ok_err s cause e)
+  text_shows (Err fault) is cause e = subst Cause (err_is (causes.Sdp fault.0 fault.1) cause e) (inl is)
+
+  addresses_show : (s : sdp.Sdp) → description_of text ≡ Ok s → (n : Option ℕ) → unaddressed side (length s.session + 1) s.media ≡ n → (cause : Refusal) → with_addresses s n ≡ Err cause → Cause cause
+  addresses_show s read None is cause e = absurd (ok_err s cause e)
+  addresses_show s read (Some n) is cause e = subst Cause (err_is (causes.Sdp n Address) cause e) (inr (s, read, refl, lacks_at side (length s.session + 1) s.media n is))
+
+  same_text : (s t : sdp.Sdp) (n : Option ℕ) → with_addresses s n ≡ Ok t → s ≡ t
+  same_text s t None e = cc
+  same_text s t (Some n) e = absurd cc
+
+  read_text : (r : Result sdp.Sdp (ℕ × SdpFault)) (s : sdp.Sdp) → of_text r ≡ Ok s → r ≡ Ok s
+  read_text (Ok t) s e = let same : t ≡ s = cc in ap Ok same
+  read_text (Err fault) s e = absurd cc
+
+  description_shows : (cause : Refusal) → described side (Some (length o.description.media)) text ≡ Err cause → Cause cause
+  unfolding described
+  description_shows cause e = elim (after_ok_err (of_text (description_of text)) _ cause e) [
+    | inl fails ↦ text_shows (description_of text) refl cause fails
+    | inr x ↦
+        let s : sdp.Sdp = x.0 in
+        let read = read_text (description_of text) s x.1 in
+        elim (after_ok_err (with_addresses s (unaddressed side (length s.session + 1) s.media)) _ cause x.2) [
+          | inl fails ↦ addresses_show s read (unaddressed side (length s.session + 1) s.media) refl cause fails
+          | inr y ↦
+              let t : sdp.Sdp = y.0 in
+              let here : description_of text ≡ Ok t = read ∙ ap Ok (same_text s t (unaddressed side (length s.session + 1) s.media) y.1) in
+              elim (stop_if_err (not (list_any (is_active side) t.media)) causes.NoMedia cause _ y.2) [
+                | inl none ↦ subst Cause none.1 (t, here, none_take side t.media (not-true (list_any (is_active side) t.media) none.0))
+                | inr some ↦ elim (stop_if_err (not (eqb (length t.media) (length o.description.media))) causes.MediaCount cause _ some.1) [
+                  | inl other ↦ subst Cause other.1 (t, here, eqb-false (length t.media) (length o.description.media) (not-true (eqb (length t.media) (length o.description.media)) other.0))
+                  | inr same ↦ absurd (ok_err t cause same.1)
+                ]
+              ]
+        ]
+  ]
+
+-- ---- each medium
+
+record Stops {X Y : Type 0} (value : ℕ → X → descriptions.Medium → Result Y Refusal) (side : Side) (k : ℕ) (xs : List (Option X)) (ns : List descriptions.Medium) (c : Refusal) : Type 0 where
+  x : X
+  n : descriptions.Medium
+  xs_before : List (Option X)
+  xs_behind : List (Option X)
+  ns_before : List descriptions.Medium
+  ns_behind : List descriptions.Medium
+  of_xs : xs ≡ xs_before ++ Some x ∷ xs_behind
+  of_ns : ns ≡ ns_before ++ n ∷ ns_behind
+  aside : length xs_before ≡ length ns_before
+  takes : TakesPart (other_side side) n
+  number : ℕ
+  place : number ≡ k + length xs_before
+  gives : value number x n ≡ Err c
+
+module _ {X Y : Type 0} (value : ℕ → X → descriptions.Medium → Result Y Refusal) (side : Side) where
+  next : (k : ℕ) (x : Option X) (xs : List (Option X)) (n : descriptions.Medium) (ns : List descriptions.Medium) (c : Refusal) → Stops value side (k + 1) xs ns c → Stops value side k (x ∷ xs) (n ∷ ns) c
+  next k x xs n ns c s = record {
+    x = s.x;
+    n = s.n;
+    xs_before = x ∷ s.xs_before;
+    xs_behind = s.xs_behind;
+    ns_before = n ∷ s.ns_before;
+    ns_behind = s.ns_behind;
+    of_xs = ap (λ (l : List (Option X)). x ∷ l) s.of_xs;
+    of_ns = ap (λ (l : List descriptions.Medium). n ∷ l) s.of_ns;
+    aside = (let e = s.aside in omega (arith, e));
+    takes = s.takes;
+    number = s.number;
+    place = (let e = s.place in omega (arith, e));
+    gives = s.gives;
+  }
+
+  here : (k : ℕ) (x : X) (xs : List (Option X)) (n : descriptions.Medium) (ns : List descriptions.Medium) (c : Refusal) → TakesPart (other_side side) n → value k x n ≡ Err c → Stops value side k (Some x ∷ xs) (n ∷ ns) c
+  here k x xs n ns c takes gives = record {
+    x = x;
+    n = n;
+    xs_before = [];
+    xs_behind = xs;
+    ns_before = [];
+    ns_behind = ns;
+    of_xs = refl;
+    of_ns = refl;
+    aside = refl;
+    takes = takes;
+    number = k;
+    place = omega arith;
+    gives = gives;
+  }
+
+  one_stops : (k : ℕ) (m : descriptions.Medium) (x : Option X) (xs : List (Option X)) (n : descriptions.Medium) (ns : List descriptions.Medium) (c : Refusal)
+      → (a b : Bool) → is_active (other_side side) n ≡ b → if_kept (a && b) x (λ x. value k x n) ≡ Err c → Stops value side k (x ∷ xs) (n ∷ ns) c
+  one_stops k m x xs n ns c false b is e = absurd (ok_err _ c e)
+  one_stops k m x xs n ns c true false is e = absurd (ok_err _ c e)
+  one_stops k m None xs n ns c true true is e = absurd (ok_err _ c e)
+  one_stops k m (Some x) xs n ns c true true is e = elim (after_ok_err (value k x n) _ c e) [
+    | inl fails ↦ here k x xs n ns c (active_takes (other_side side) n is) fails
+    | inr y ↦ absurd (ok_err _ c y.2)
+  ]
+
+  kept_stops : (k : ℕ) (ms ns : List descriptions.Medium) (xs : List (Option X)) (c : Refusal) → each_kept value k (actives_after side ms ns) xs ns ≡ Err c → Stops value side k xs ns c
+  kept_stops k [] ns xs c e = absurd (ok_err _ c e)
+  kept_stops k (m ∷ ms) [] xs c e = absurd (ok_err _ c e)
+  kept_stops k (m ∷ ms) (n ∷ ns) [] c e = absurd (ok_err _ c e)
+  kept_stops k (m ∷ ms) (n ∷ ns) (x ∷ xs) c e =
+      elim (after_ok_err (if_kept (is_active side m && is_active (other_side side) n) x (λ x. value k x n)) _ c e) [
+        | inl fails ↦ one_stops k m x xs n ns c (is_active side m) (is_active (other_side side) n) refl fails
+        | inr y ↦ elim (after_ok_err (each_kept value (k + 1) (actives_after side ms ns) xs ns) _ c y.2) [
+          | inl later ↦ next k x xs n ns c (kept_stops (k + 1) ms ns xs c later)
+          | inr z ↦ absurd (ok_err _ c z.2)
+        ]
+      ]
+
+-- ---- crypto lines
+
+first_value : (lines : List (List ℕ)) (o : Option (List ℕ)) → first_of (filter_map (behind (codes "a=crypto:")) lines) ≡ o → (HasNoValue lines × (o ≡ None)) ⊎ ((value : List ℕ) × IsFirstValue lines value × (o ≡ Some value))
+first_value [] o e = inl (tt, sym e)
+first_value (line ∷ lines) o e = go (first_value lines o) (behind (codes "a=crypto:") line) refl e
+  where
+    Found : List (List ℕ) → Type 0
+    Found ls = (HasNoValue ls × (o ≡ None)) ⊎ ((value : List ℕ) × IsFirstValue ls value × (o ≡ Some value))
+
+    go : (first_of (filter_map (behind (codes "a=crypto:")) lines) ≡ o → Found lines) → (p : Option (List ℕ)) → behind (codes "a=crypto:") line ≡ p
+        → first_of (cons_option p (filter_map (behind (codes "a=crypto:")) lines)) ≡ o → Found (line ∷ lines)
+    go rest (Some value) is e = inr (value, ([], lines, ap (λ (x : List ℕ). x ∷ lines) (behind_is (codes "a=crypto:") line value is), tt), sym e)
+    go rest None is e =
+        let none : (value : List ℕ) → ¬ line ≡ codes "a=crypto:" ++ value = λ value same. none_some value (sym is ∙ ap (behind (codes "a=crypto:")) same) in
+        elim (rest e) [
+          | inl x ↦ inl ((none, x.0), x.1)
+          | inr x ↦ inr (x.0, (line ∷ x.1.0, x.1.1, ap (λ (ls : List (List ℕ)). line ∷ ls) x.1.2, (none, x.1.3)), x.2)
+        ]
+
+fault_is : {A B : Type 0} (r : Result A SdesFault) (f : A → Result B SdesFault) (c : SdesFault) → lines.◌>>=◌ r f ≡ Err c → (r ≡ Err c) ⊎ ((x : A) × (r ≡ Ok x) × (f x ≡ Err c))
+fault_is (Ok x) f c e = inr (x, refl, e)
+fault_is (Err d) f c e = let same : d ≡ c = cc in inl (ap Err same)
+
+none_with : (tag : ℕ) (offered : List CryptoLine) → find (λ l. eqb l.tag tag) offered ≡ None → AllByRecursion (λ (x : CryptoLine). ¬ x.tag ≡ tag) offered
+none_with tag [] e = tt
+none_with tag (l ∷ ls) e = go (none_with tag ls) (eqb l.tag tag) refl e
+  where
+    go : (find (λ l. eqb l.tag tag) ls ≡ None → AllByRecursion (λ (x : CryptoLine). ¬ x.tag ≡ tag) ls) → (b : Bool) → eqb l.tag tag ≡ b → cond b (Some l) (find (λ l. eqb l.tag tag) ls) ≡ None
+        → AllByRecursion (λ (x : CryptoLine). ¬ x.tag ≡ tag) (l ∷ ls)
+    go rest true is e = absurd cc
+    go rest false is e = (eqb-false l.tag tag is, rest e)
+
+one_with : (tag : ℕ) (offered : List CryptoLine) (x : CryptoLine) → find (λ l. eqb l.tag tag) offered ≡ Some x → Any (λ (y : CryptoLine). (y.tag ≡ tag) × (y ≡ x)) offered
+one_with tag [] x e = absurd cc
+one_with tag (l ∷ ls) x e = go (one_with tag ls x) (eqb l.tag tag) refl e
+  where
+    Is : CryptoLine → Type 0
+    Is y = (y.tag ≡ tag) × (y ≡ x)
+
+    go : (find (λ l. eqb l.tag tag) ls ≡ Some x → Any Is ls) → (b : Bool) → eqb l.tag tag ≡ b → cond b (Some l) (find (λ l. eqb l.tag tag) ls) ≡ Some x → Any Is (l ∷ ls)
+    go rest true is e = any_here Is l ls (eqb-true l.tag tag is, some_is l x e)
+    go rest false is e = any_there Is l ls (rest e)
+
+other_suite : (x : CryptoLine) (peer : CryptoLine) → same_suite x.suite peer.suite ≡ false → ¬ x.suite ≡ peer.suite
+other_suite x peer other same = false≢true (sym other ∙ (bytes_eq-Decides (suite_name x.suite) (suite_name peer.suite)).1 (ap suite_name same))
+
+suite_shows : (offered : List CryptoLine) (own peer : CryptoLine) (b : Bool) (c : SdesFault) → same_suite own.suite peer.suite ≡ b → find (λ l. eqb l.tag peer.tag) offered ≡ Some own
+    → (let r : Result (CryptoLine × CryptoLine) SdesFault = cond b (Ok (own, peer)) (Err Suite) in r ≡ Err c) → IsOfNone offered peer c
+suite_shows offered own peer true c is at e = absurd cc
+suite_shows offered own peer false c is at e =
+    inr (sym (err_is {X = CryptoLine × CryptoLine} Suite c e), any_mapped offered (one_with peer.tag offered own at))
+  where
+    Has : CryptoLine → Type 0
+    Has x = (x.tag ≡ peer.tag) × (¬ x.suite ≡ peer.suite)
+
+    any_mapped : (ls : List CryptoLine) → Any (λ (y : CryptoLine). (y.tag ≡ peer.tag) × (y ≡ own)) ls → Any Has ls
+    any_mapped [] any = absurd (any_none _ any)
+    any_mapped (l ∷ ls) any = elim (any_cases (λ (y : CryptoLine). (y.tag ≡ peer.tag) × (y ≡ own)) l ls any) [
+      | inl this ↦ any_here Has l ls (this.0, (λ same. other_suite own peer is (ap (λ (x : CryptoLine). x.suite) (sym this.1) ∙ same)))
+      | inr later ↦ any_there Has l ls (any_mapped ls later)
+    ]
+
+tag_shows : (offered : List CryptoLine) (peer : CryptoLine) (o : Option CryptoLine) (c : SdesFault) → find (λ l. eqb l.tag peer.tag) offered ≡ o
+    → lines.◌>>=◌ (lines.or_fault Tag o) (λ own. let r : Result (CryptoLine × CryptoLine) SdesFault = cond (same_suite own.suite peer.suite) (Ok (own, peer)) (Err Suite) in r) ≡ Err c → IsOfNone offered peer c
+tag_shows offered peer None c at e = inl (sym (err_is {X = CryptoLine × CryptoLine} Tag c e), none_with peer.tag offered at)
+tag_shows offered peer (Some own) c at e = suite_shows offered own peer (same_suite own.suite peer.suite) c refl at e
+
+value_shows : (offered : List CryptoLine) (value : List ℕ) (c : SdesFault) → matched offered value ≡ Err c → (crypto_of value ≡ Err c) ⊎ ((l : CryptoLine) × (crypto_of value ≡ Ok l) × IsOfNone offered l c)
+unfolding matched
+value_shows offered value c e = elim (fault_is (crypto_of value) _ c e) [
+  | inl fails ↦ inl fails
+  | inr x ↦ inr (x.0, x.1, tag_shows offered x.0 (find (λ l. eqb l.tag x.0.tag) offered) c refl x.2)
+]
+
+line_shows : (offered : List CryptoLine) (ls : List (List ℕ)) (c : SdesFault) → lines_matched offered (first_of (crypto_values ls)) ≡ Err c → ShowsNoLine offered ls c
+unfolding crypto_values
+line_shows offered ls c e = elim (first_value ls (first_of (filter_map (behind (codes "a=crypto:")) ls)) refl) [
+  | inl none ↦ inl (none.0, sym (err_is {X = CryptoLine × CryptoLine} NoLine c (ap (lines_matched offered) (sym none.1) ∙ e)))
+  | inr x ↦ inr (x.0, x.1, value_shows offered x.0 c (ap (lines_matched offered) (sym x.2) ∙ e))
+]
+
+sdes_err : {X : Type 0} (k : ℕ) (r : Result X SdesFault) (c : Refusal) → of_sdes k r ≡ Err c → (fault : SdesFault) × (r ≡ Err fault) × (causes.Sdes k fault ≡ c)
+sdes_err k (Ok x) c e = absurd (ok_err x c e)
+sdes_err {X} k (Err fault) c e = (fault, refl, err_is {X = X} (causes.Sdes k fault) c e)
+
+psk_err : {X : Type 0} (k : ℕ) (r : Result X PskFault) (c : Refusal) → of_psk k r ≡ Err c → (fault : PskFault) × (r ≡ Err fault) × (causes.Psk k fault ≡ c)
+psk_err k (Ok x) c e = absurd (ok_err x c e)
+psk_err {X} k (Err fault) c e = (fault, refl, err_is {X = X} (causes.Psk k fault) c e)
+
+cs_err : {X : Type 0} (k : ℕ) (r : Result X CsFault) (c : Refusal) → of_cs k r ≡ Err c → (fault : CsFault) × (causes.Cs k fault ≡ c)
+cs_err k (Ok x) c e = absurd (ok_err x c e)
+cs_err {X} k (Err fault) c e = (fault, err_is {X = X} (causes.Cs k fault) c e)
+
+message_err : (k : ℕ) (r : Result Message Place) (c : Refusal) → of_message k r ≡ Err c → (place : Place) × (r ≡ Err place) × (causes.Mikey k place.offset place.fault ≡ c)
+message_err k (Ok x) c e = absurd (ok_err x c e)
+message_err k (Err place) c e = (place, refl, err_is {X = Message} (causes.Mikey k place.offset place.fault) c e)
+
+message_ok : (k : ℕ) (r : Result Message Place) (m : Message) → of_message k r ≡ Ok m → r ≡ Ok m
+message_ok k (Ok x) m e = let same : x ≡ m = cc in ap Ok same
+message_ok k (Err place) m e = absurd cc
+
+octets_err : {X : Type 0} (cause : Refusal) (o : Option X) (c : Refusal) → or_refusal cause o ≡ Err c → (o ≡ None) × (cause ≡ c)
+octets_err {X} cause None c e = (refl, err_is {X = X} cause c e)
+octets_err cause (Some x) c e = absurd (ok_err x c e)
+
+octets_ok : {X : Type 0} (cause : Refusal) (o : Option X) (x : X) → or_refusal cause o ≡ Ok x → o ≡ Some x
+octets_ok cause None x e = absurd cc
+octets_ok cause (Some y) x e = let same : y ≡ x = cc in ap Some same
+
+-- ---- a response
+
+three : (a b c : Bool) (r : List CsEntry) (d : PskFault) → cond (not a) (Err Algorithm) (cond (not b) (Err BadMac) (cond (not c) (Err OtherSession) (Ok r))) ≡ Err d
+    → ((a ≡ false) × (d ≡ Algorithm)) ⊎ (((b ≡ false) × (d ≡ BadMac)) ⊎ ((c ≡ false) × (d ≡ OtherSession)))
+three false b c r d e = inl (refl, sym (err_is {X = List CsEntry} Algorithm d e))
+three true false c r d e = inr (inl (refl, sym (err_is {X = List CsEntry} BadMac d e)))
+three true true false r d e = inr (inr (refl, sym (err_is {X = List CsEntry} OtherSession d e)))
+three true true true r d e = absurd (ok_err r d e)
+
+response_shows : (octets : List ℕ) (m : Message) (sent : Sent) (d : PskFault) → response_of octets m sent ≡ Err d → IsNotTo sent octets m d
+unfolding response_of response_fits mac_of
+response_shows octets m sent d e = elim (three (eqb (closing_in m.payloads).mac 1) (response_fits octets m sent) (eqb m.csb sent.csb && eqb (length m.map) (length sent.map)) m.map d e) [
+  | inl a ↦ inl (a.1, eqb-false (closing_in m.payloads).mac 1 a.0)
+  | inr more ↦ elim more [
+    | inl b ↦ inr (inl (b.1, (λ same. false≢true (sym b.0 ∙ same_octets_true (closing_in m.payloads).tag _ same))))
+    | inr c ↦ inr (inr (c.1, (λ same. false≢true (sym c.0 ∙ and_from (eqb m.csb sent.csb) _ (eq-eqb m.csb sent.csb same.0) (eq-eqb (length m.map) (length sent.map) same.1)))))
+  ]
+]
+
+record IsMessageIn (value : Option (List ℕ)) (octets : List ℕ) (m : Message) : Type 0 where
+  octets_are : mikey_octets value ≡ Some octets
+  read : message_of octets ≡ Ok m
+  kind : m.kind ≡ 1
+
+message_in_is : (value : Option (List ℕ)) (r : List ℕ × Message) → message_in 255 1 value ≡ Ok r → IsMessageIn value r.0 r.1
+unfolding message_in
+message_in_is value r e =
+    let a = after_ok_is (or_refusal (causes.KeyMgmt 255) (mikey_octets value)) _ r e in
+    let b = after_ok_is (of_message 255 (message_of a.0)) _ r a.2 in
+    let c = stop_if_is (not (eqb b.0.kind 1)) (causes.Mikey 255 1 DataType) _ r b.2 in
+    subst (λ (r : List ℕ × Message). IsMessageIn value r.0 r.1) (ok_is (a.0, b.0) r c.1)
+    (record { octets_are = octets_ok (causes.KeyMgmt 255) (mikey_octets value) a.0 a.1; read = message_ok 255 (message_of a.0) b.0 b.1; kind = eqb-true b.0.kind 1 (not-false (eqb b.0.kind 1) c.0) })
+
+-- ---- how the answer is keyed
+
+module _ (ring : List Installed) (o : Offer) (text : List ℕ) (s : sdp.Sdp) (read : description_of text ≡ Ok s) where
+  abbrev IsCause : Refusal → Type 0
+  IsCause cause = Shows ring o text cause
+
+  own_lines_show : (ls : List (Option (List CryptoLine))) → o.keying ≡ OwnLines ls → (c : Refusal) → Stops keyed_by_own_lines o.side 0 ls s.media c → IsCause c
+  own_lines_show ls keying c at = elim (after_ok_err (of_sdes at.number (lines_matched at.x (first_of (crypto_values at.n.lines)))) _ c at.gives) [
+    | inl fails ↦
+        let f = sdes_err at.number (lines_matched at.x (first_of (crypto_values at.n.lines))) c fails in
+        let number : length at.xs_before ≡ at.number = (let e = at.place in omega (arith, e)) in
+        subst IsCause f.2 (record {
+          answer = s;
+          read = read;
+          lines = ls;
+          keying = keying;
+          offered = at.x;
+          lines_before = at.xs_before;
+          lines_behind = at.xs_behind;
+          kept = at.of_xs;
+          number = number;
+          m = at.n;
+          media_before = at.ns_before;
+          media_behind = at.ns_behind;
+          media = at.of_ns;
+          place = sym at.aside ∙ number;
+          takes = at.takes;
+          none = line_shows at.x at.n.lines f.0 f.1;
+        })
+    | inr x ↦ absurd (ok_err _ c x.2)
+  ]
+
+  module _ (sent : Sent) (keying : o.keying ≡ OwnMessage sent) where
+    responds : IsToRespond o text 255
+    responds = record { answer = s; read = read; sent = sent; keying = keying; session = refl }
+
+    no_message : (c : Refusal) → message_in 255 1 (mikey_value s.session) ≡ Err c → IsCause c
+    unfolding message_in responds
+    no_message c e = elim (after_ok_err (or_refusal (causes.KeyMgmt 255) (mikey_octets (mikey_value s.session))) _ c e) [
+      | inl fails ↦
+          let f = octets_err (causes.KeyMgmt 255) (mikey_octets (mikey_value s.session)) c fails in
+          subst IsCause f.1 (responds, (λ octets carries. none_some octets (sym f.0 ∙ octets_are s.session octets carries)))
+      | inr x ↦
+          let carried : Carries s.session x.0 = octets_carried s.session x.0 (octets_ok (causes.KeyMgmt 255) (mikey_octets (mikey_value s.session)) x.0 x.1) in
+          elim (after_ok_err (of_message 255 (message_of x.0)) _ c x.2) [
+            | inl fails ↦ let f = message_err 255 (message_of x.0) c fails in subst IsCause f.2 (responds, x.0, carried, inl (f.0, f.1, refl, refl))
+            | inr y ↦ elim (stop_if_err (not (eqb y.0.kind 1)) (causes.Mikey 255 1 DataType) c _ y.2) [
+              | inl other ↦ subst IsCause other.1 (responds, x.0, carried, inr (y.0, message_ok 255 (message_of x.0) y.0 y.1, eqb-false y.0.kind 1 (not-true (eqb y.0.kind 1) other.0), refl, refl))
+              | inr same ↦ absurd (ok_err _ c same.1)
+            ]
+          ]
+    ]
+
+    streams_show : (count : ℕ) (c : Refusal) → streams_answered sent count (mikey_value s.session) ≡ Err c → IsCause c
+    unfolding streams_answered responds
+    streams_show count c e = elim (after_ok_err (message_in 255 1 (mikey_value s.session)) _ c e) [
+      | inl fails ↦ no_message c fails
+      | inr x ↦
+          let is = message_in_is (mikey_value s.session) x.0 x.1 in
+          elim (after_ok_err (of_psk 255 (response_of x.0.0 x.0.1 sent)) _ c x.2) [
+            | inl fails ↦
+                let f = psk_err 255 (response_of x.0.0 x.0.1 sent) c fails in
+                subst IsCause f.2 (responds, x.0.0, x.0.1, octets_carried s.session x.0.0 is.octets_are, is.read, is.kind, response_shows x.0.0 x.0.1 sent f.0 f.1)
+            | inr y ↦ elim (after_ok_err (of_cs 255 (streams_of sent.csb sent.random sent.map (own_policy ∷ []) sent.tgks count)) _ c y.2) [
+              | inl fails ↦ let f = cs_err 255 (streams_of sent.csb sent.random sent.map (own_policy ∷ []) sent.tgks count) c fails in subst IsCause f.1 responds
+              | inr z ↦ absurd (ok_err _ c z.2)
+            ]
+          ]
+    ]
+
+  -- a medium that is kept is keyed
+  never : {X Y : Type 0} (value : ℕ → X → descriptions.Medium → Y) (xs : List (Option X)) (c : Refusal) → each_kept (λ k x n. Ok (value k x n)) 0 (actives_after o.side o.description.media s.media) xs s.media ≡ Err c → ⊥
+  never value xs c e = let at = kept_stops (λ k x n. Ok (value k x n)) o.side 0 o.description.media s.media xs c e in ok_err (value at.number at.x at.n) c at.gives
+
+  keying_shows : (noise : List ℕ) (k : Keying) → o.keying ≡ k → (c : Refusal) → answered_by o noise s (actives_after o.side o.description.media s.media) k ≡ Err c → IsCause c
+  keying_shows noise (PeerLines ls) keying c e = elim (after_ok_err (each_kept (keyed_by_peer_line noise) 0 (actives_after o.side o.description.media s.media) ls s.media) _ c e) [
+    | inl fails ↦ absurd (let at = kept_stops (keyed_by_peer_line noise) o.side 0 o.description.media s.media ls c fails in ok_err _ c at.gives)
+    | inr x ↦ absurd (ok_err _ c x.2)
+  ]
+  keying_shows noise (OwnLines ls) keying c e = elim (after_ok_err (each_kept keyed_by_own_lines 0 (actives_after o.side o.description.media s.media) ls s.media) _ c e) [
+    | inl fails ↦ own_lines_show ls keying c (kept_stops keyed_by_own_lines o.side 0 o.description.media s.media ls c fails)
+    | inr x ↦ absurd (ok_err _ c x.2)
+  ]
+  keying_shows noise (PeerMessage b) keying c e =
+      elim (after_ok_err (each_kept (λ k streams n. Ok (keyed_as_responder [] streams n)) 0 (actives_after o.side o.description.media s.media) (over_active o.side o.description.media b.streams) s.media) _ c e) [
+        | inl fails ↦ absurd (never (λ k streams n. keyed_as_responder [] streams n) (over_active o.side o.description.media b.streams) c fails)
+        | inr x ↦ absurd (ok_err _ c x.2)
+      ]
+  keying_shows noise (PeerMessages bs) keying c e =
+      elim (after_ok_err (each_kept (λ k x n. Ok (keyed_by_message x n)) 0 (actives_after o.side o.description.media s.media) (map own_streams bs) s.media) _ c e) [
+        | inl fails ↦ absurd (never (λ k x n. keyed_by_message x n) (map own_streams bs) c fails)
+        | inr x ↦ absurd (ok_err _ c x.2)
+      ]
+  keying_shows noise (OwnMessage sent) keying c e = elim (after_ok_err (streams_answered sent (active_count o.side o.description.media) (mikey_value s.session)) _ c e) [
+    | inl fails ↦ streams_show sent keying (active_count o.side o.description.media) c fails
+    | inr x ↦ elim (after_ok_err (each_kept (λ k streams n. Ok (keyed_as_initiator streams)) 0 (actives_after o.side o.description.media s.media) (over_active o.side o.description.media x.0) s.media) _ c x.2) [
+      | inl fails ↦ absurd (never (λ k streams n. keyed_as_initiator streams) (over_active o.side o.description.media x.0) c fails)
+      | inr y ↦ absurd (ok_err _ c y.2)
+    ]
+  ]
+
+answer_shows : (ring : List Installed) (slot : ℕ) (o : Offer) (noise text : List ℕ) (c : Refusal) → agreed_answer slot o noise text ≡ Err c → Shows ring o text c
+unfolding agreed_answer
+answer_shows ring slot o noise text c e = elim (after_ok_err (described (other_side o.side) (Some (length o.description.media)) text) _ c e) [
+  | inl fails ↦ description_shows ring o text c fails
+  | inr x ↦ elim (after_ok_err (answered_by o noise x.0 (actives_after o.side o.description.media x.0.media) o.keying) _ c x.2) [
+    | inl fails ↦ keying_shows ring o text x.0 (described_is (other_side o.side) (Some (length o.description.media)) text x.0 x.1) noise o.keying refl c fails
+    | inr y ↦ absurd (ok_err _ c y.2)
+  ]
+]
+
+-- ---- the ring
+
+secret_is : (x y : List ℕ) → same_secret x y ≡ false → x ≡ y → x ≡ []
+secret_is [] y e same = refl
+secret_is (x ∷ xs) y e same = absurd (false≢true (sym e ∙ same_octets_true (x ∷ xs) y same))
+
+apart_of : (a b : Master) → keys_clash (derived a) (derived b) ≡ false → AreApart a b
+apart_of a b e =
+    let p = or_parts (same_octets a.key b.key) _ e in
+    let q = or_parts (same_secret (derived a).rtp (derived b).rtp || same_secret (derived a).rtp (derived b).rtcp) _ p.1 in
+    let r = or_parts (same_secret (derived a).rtp (derived b).rtp) _ q.0 in
+    let s = or_parts (same_secret (derived a).rtcp (derived b).rtp) _ q.1 in
+    record {
+      masters = λ same. false≢true (sym p.0 ∙ same_octets_true a.key b.key same);
+      ciphers = ((secret_is _ _ r.0, (secret_is _ _ r.1, tt)), ((secret_is _ _ s.0, (secret_is _ _ s.1, tt)), tt));
+    }
+
+abbrev Clashes : ℕ → List Installed → Master → Option ℕ → Type 0
+Clashes n ring m None = AllByRecursion (λ r. AreApart r.master m) ring
+Clashes n ring m (Some x) = (before behind : List Installed) × (r : Installed) × (ring ≡ before ++ r ∷ behind) × (x ≡ n + length before) × (¬ AreApart r.master m)
+
+clashes : (n : ℕ) (ring : List Installed) (m : Master) (o : Option ℕ) → first_clash_by key_of n ring (derived m) ≡ o → Clashes n ring m o
+clashes n [] m None e = tt
+clashes n [] m (Some x) e = absurd cc
+clashes n (r ∷ rs) m o e = go (clashes (n + 1) rs m) (keys_clash (derived r.master) (derived m)) refl o e
+  where
+    go : ((o : Option ℕ) → first_clash_by key_of (n + 1) rs (derived m) ≡ o → Clashes (n + 1) rs m o) → (b : Bool) → keys_clash (derived r.master) (derived m) ≡ b
+        → (o : Option ℕ) → cond b (Some n) (first_clash_by key_of (n + 1) rs (derived m)) ≡ o → Clashes n (r ∷ rs) m o
+    go rest true is None e = absurd cc
+    go rest true is (Some x) e = ([], rs, r, refl, (let same = some_is n x e in omega (arith, same)), (λ apart. false≢true (sym (apart_is r.master m apart) ∙ is)))
+    go rest false is None e = (apart_of r.master m is, rest None e)
+    go rest false is (Some x) e = let c = rest (Some x) e in (r ∷ c.0, c.1, c.2, ap (λ (l : List Installed). r ∷ l) c.3, (let at = c.4 in omega (arith, at)), c.5)
+
+one_reused : (ring : List Installed) (k : Installed) (o : Option ℕ) → Clashes 0 ring k.master o → (c : Refusal) → with_key_by key_of ring k o ≡ Err c
+    → (number : ℕ) × (causes.KeyReused number ≡ c) × IsReusedAt ring k.master number
+one_reused ring k (Some n) at c e = (n, err_is {X = List Installed} (causes.KeyReused n) c e, inl (at.0, at.1, at.2, at.3, (let place = at.4 in omega (arith, place)), at.5))
+one_reused ring k None at c e = elim (stop_if_err (same_secret (derived k.master).rtp (derived k.master).rtcp) (causes.KeyReused (length ring)) c _ e) [
+  | inl own ↦ (length ring, own.1, inr (refl, (λ apart. false≢true (sym (secret _ _ apart) ∙ own.0))))
+  | inr fails ↦ absurd (ok_err _ c fails.1)
+]
+
+record IsOneMore (ring : List Installed) (k : Installed) (more : List Installed) : Type 0 where
+  is : ring ++ k ∷ [] ≡ more
+  apart : AllByRecursion (λ r. AreApart r.master k.master) ring
+  own : IsApartInItself k.master
+
+one_more : (ring : List Installed) (k : Installed) (o : Option ℕ) → Clashes 0 ring k.master o → (more : List Installed) → with_key_by key_of ring k o ≡ Ok more → IsOneMore ring k more
+one_more ring k (Some n) at more e = absurd cc
+one_more ring k None at more e =
+    let a = stop_if_is (same_secret (derived k.master).rtp (derived k.master).rtcp) (causes.KeyReused (length ring)) _ more e in
+    record { is = ok_is (ring ++ k ∷ []) more a.1; apart = at; own = secret_is _ _ a.0 }
+
+record StopsAt (ring ks : List Installed) (c : Refusal) : Type 0 where
+  new : List Installed
+  key : Installed
+  later : List Installed
+  parts : ks ≡ new ++ key ∷ later
+  come : ComeIntoUse ring new
+  number : ℕ
+  is : causes.KeyReused number ≡ c
+  at : IsReusedAt (ring ++ new) key.master number
+
+stops_at : (ring ks : List Installed) (c : Refusal) → with_keys_by key_of ring ks ≡ Err c → StopsAt ring ks c
+stops_at ring [] c e = absurd (ok_err ring c e)
+stops_at ring (k ∷ ks) c e =
+    let found = clashes 0 ring k.master (first_clash_by key_of 0 ring (key_of k)) refl in
+    elim (after_ok_err (with_key_by key_of ring k (first_clash_by key_of 0 ring (key_of k))) _ c e) [
+      | inl fails ↦
+          let r = one_reused ring k (first_clash_by key_of 0 ring (key_of k)) found c fails in
+          record { new = []; key = k; later = ks; parts = refl; come = tt; number = r.0; is = r.1; at = subst (λ keys. IsReusedAt keys k.master r.0) (sym (append-nil ring)) r.2 }
+      | inr x ↦
+          let m = one_more ring k (first_clash_by key_of 0 ring (key_of k)) found x.0 x.1 in
+          let rest = stops_at (ring ++ k ∷ []) ks c (ap (λ ring. with_keys_by key_of ring ks) m.is ∙ x.2) in
+          record {
+            new = k ∷ rest.new;
+            key = rest.key;
+            later = rest.later;
+            parts = ap (λ (l : List Installed). k ∷ l) rest.parts;
+            come = (m.apart, m.own, rest.come);
+            number = rest.number;
+            is = rest.is;
+            at = subst (λ keys. IsReusedAt keys rest.key.master rest.number) (append_assoc ring (k ∷ []) rest.new) rest.at;
+          }
+    ]
+
+all_in : (ring ks more : List Installed) → with_keys_by key_of ring ks ≡ Ok more → ComeIntoUse ring ks × (ring ++ ks ≡ more)
+all_in ring [] more e = (tt, append-nil ring ∙ ok_is ring more e)
+all_in ring (k ∷ ks) more e =
+    let found = clashes 0 ring k.master (first_clash_by key_of 0 ring (key_of k)) refl in
+    let x = after_ok_is (with_key_by key_of ring k (first_clash_by key_of 0 ring (key_of k))) _ more e in
+    let m = one_more ring k (first_clash_by key_of 0 ring (key_of k)) found x.0 x.1 in
+    let rest = all_in (ring ++ k ∷ []) ks more (ap (λ ring. with_keys_by key_of ring ks) m.is ∙ x.2) in
+    ((m.apart, m.own, rest.0), sym (append_assoc ring (k ∷ []) ks) ∙ rest.1)
+
+-- ---- how many keys
+
+long_owned : (owner : Owner) (ks : List AgreedKey) → length (owned owner ks) ≡ length ks
+long_owned owner [] = refl
+long_owned owner (k ∷ ks) = ap suc (long_owned owner ks)
+
+keys_few : (call generation m : ℕ) (xs : List (Option Medium)) → AllByRecursion IsSoundMedium xs → length (keys_from call generation m xs) ≤ 16 * length xs
+keys_few call generation m [] all = omega arith
+keys_few call generation m (None ∷ xs) all = let rest = keys_few call generation (m + 1) xs all.1 in omega (arith, rest)
+keys_few call generation m (Some x ∷ xs) all =
+    let rest = keys_few call generation (m + 1) xs all.1 in
+    let a = long_owned (owner_at call generation m Opening) x.from_peer.keys in
+    let b = long_owned (owner_at call generation m Sealing) x.to_peer.keys in
+    let p = all.0.from_peer.few in
+    let q = all.0.to_peer.few in
+    let whole = length-append (owned (owner_at call generation m Opening) x.from_peer.keys) (owned (owner_at call generation m Sealing) x.to_peer.keys ++ keys_from call generation (m + 1) xs) in
+    let part = length-append (owned (owner_at call generation m Sealing) x.to_peer.keys) (keys_from call generation (m + 1) xs) in
+    omega (arith, rest, a, b, p, q, whole, part)
+
+ring_shows : (ring : List Installed) (o : Offer) (text : List ℕ) (ks : List Installed) → length ks ≤ 64 → (c : Refusal) → install ring ks ≡ Err c → Shows ring o text c
+ring_shows ring o text ks few c e = elim (after_ok_err (with_keys_by key_of ring ks) _ c e) [
+  | inl fails ↦
+      let at = stops_at ring ks c fails in
+      let long = ap (λ (l : List Installed). length l) at.parts ∙ length-append at.new (at.key ∷ at.later) in
+      subst (Shows ring o text) at.is (record { new = at.new; key = at.key.master; few = omega (arith, few, long); come = at.come; reused = at.at })
+  | inr x ↦
+      let all = all_in ring ks x.0 x.1 in
+      let long = ap (λ (l : List Installed). length l) (sym all.1) ∙ length-append ring ks in
+      elim (stop_if_err (ltb 65536 (length x.0)) causes.RingFull c _ x.2) [
+        | inl full ↦ subst (Shows ring o text) full.1 (ks, few, all.0, (let lt = ltb-true 65536 (length x.0) full.0 in omega (arith, lt, long)))
+        | inr fails ↦ absurd (ok_err _ c fails.1)
+      ]
+]
+
+-- ---- a turn
+
+module _ (laws : Agreements) (w : World) (offered_are : AllByRecursion (λ c. IsOffered c.offer) w.calls) (id : CallId) (noise text : List ℕ) (c : Call) (o : Offer)
+    (at : call_of w id ≡ Some c) (open_one : c.offer ≡ Some o) where
+  was : WasOffered o
+  was = subst IsOffered open_one (found (λ c. IsOffered c.offer) (λ x. same_id x.id id) w.calls c at offered_are)
+
+  keys_are_few : (g : AgreedAnswer) → agreed_answer c.slot o noise text ≡ Ok g → length (keys_from c.serial c.generations 0 g.media) ≤ 64
+  keys_are_few g e =
+      let sound = recursion_from_All IsSoundMedium g.media (laws.sound was.hand was.way was.text noise text c.slot was.accepted g was.agreed (ap (λ (o : Offer). agreed_answer c.slot o noise text) was.same ∙ e)) in
+      let keys = keys_few c.serial c.generations 0 g.media sound in
+      let media = answer_media laws c.slot o noise text g was e in
+      let offered = ap (λ (o : Offer). length o.description.media) (sym was.same) ∙ laws.described was.hand was.way was.text was.accepted was.agreed in
+      let few = laws.few was.hand was.way was.text was.accepted was.agreed in
+      omega (arith, keys, media, offered, few)
+
+  refused_shows : (cause : Refusal) → answered_to w.moment w.books c noise text (Some o) ≡ Err cause → Shows w.books.ring o text cause
+  refused_shows cause e = elim (after_ok_err (agreed_answer c.slot o noise text) (λ a. keyed w.moment w.books c a.text a.media) cause e) [
+    | inl fails ↦ answer_shows w.books.ring c.slot o noise text cause fails
+    | inr g ↦ elim (after_ok_err (generation_of c.serial c.generations w.books.ring g.0.media) _ cause g.2) [
+      | inl fails ↦ elim (after_ok_err (install w.books.ring (keys_from c.serial c.generations 0 g.0.media)) _ cause fails) [
+        | inl full ↦ ring_shows w.books.ring o text (keys_from c.serial c.generations 0 g.0.media) (keys_are_few g.0 g.1) cause full
+        | inr x ↦ absurd (ok_err _ cause x.2)
+      ]
+      | inr x ↦ absurd (ok_err _ cause x.2)
+    ]
+  ]
+
+  abbrev Told : Answer → Type 0
+  Told a = (cause : Refusal) → Any (λ x. x ≡ Refused (Some id) cause) a.outcomes → Shows w.books.ring o text cause
+
+  settled_shows : (side : Side) (q : Result Settled Refusal) → answered_to w.moment w.books c noise text (Some o) ≡ q → Told (in_old w id (tells_answer id side) q)
+  settled_shows side (Err d) e cause any = elim (any_cases (λ x. x ≡ Refused (Some id) cause) (Refused (Some id) d) [] any) [
+    | inl here ↦ let same : d ≡ cause = cc in subst (Shows w.books.ring o text) same (refused_shows d e)
+    | inr none ↦ absurd (any_none (λ x. x ≡ Refused (Some id) cause) none)
+  ]
+  settled_shows side (Ok r) e cause any = elim (any_cases (λ x. x ≡ Refused (Some id) cause) (Sdp id side r.text) (Live id ∷ []) any) [
+    | inl here ↦ absurd cc
+    | inr more ↦ elim (any_cases (λ x. x ≡ Refused (Some id) cause) (Live id) [] more) [
+      | inl here ↦ absurd cc
+      | inr none ↦ absurd (any_none (λ x. x ≡ Refused (Some id) cause) none)
+    ]
+  ]
+
+  pub refusal_shows : Told (answer_to w (Answered id noise text))
+  refusal_shows =
+      subst (λ x. Told (answers w id noise text x)) (sym at)
+      (subst (λ x. Told (in_old w id (tells_answer id (offering_side c.offer)) (answered_to w.moment w.books c noise text x))) (sym open_one)
+      (settled_shows (offering_side c.offer) (answered_to w.moment w.books c noise text (Some o)) refl))

@@ -1,0 +1,176 @@
+-- An answer to an open offer is refused only for a cause that its text, its message or the ring shows.
+use Rattle.std.specs.Prelude.{◌≡◌, ◌⊎◌, ◌<◌, ◌≤◌, ℕ, ◌+◌, List, [], ◌∷◌, ◌++◌, length, codes, Option, Some, None, Ok, Err}
+use Rattle.std.specs.List.{All, AllByRecursion, Any}
+use Rattle.sg_agreement.specs.Keying.{OwnLines, OwnMessage, Offer}
+use Rattle.sg_agreement.specs.Sides.{other_side}
+use Rattle.sg_base.specs.Keys.{Master}
+use Rattle.sg_base.specs.declared.addresses.CallId.{CallId}
+use Rattle.sg_base.specs.declared.addresses.Side.{Side}
+use Rattle.sg_base.specs.declared.faults.MikeyFault.{MikeyFault}
+use Rattle.sg_base.specs.declared.faults.MikeyFault.TheVariants.{DataType}
+use Rattle.sg_base.specs.declared.faults.PskFault.{PskFault}
+use Rattle.sg_base.specs.declared.faults.PskFault.TheVariants.{BadMac, Algorithm, OtherSession}
+use Rattle.sg_base.specs.declared.faults.Refusal.{Refusal}
+use Rattle.sg_base.specs.declared.faults.Refusal.TheVariants as causes
+use Rattle.sg_base.specs.declared.faults.SdesFault.{SdesFault}
+use Rattle.sg_base.specs.declared.faults.SdesFault.TheVariants.{NoLine, Tag, Suite}
+use Rattle.sg_base.specs.declared.faults.SdpFault.{SdpFault}
+use Rattle.sg_base.specs.declared.faults.SdpFault.TheVariants.{Address}
+use Rattle.sg_hmac.specs.Hmac.{hmac_sha1}
+use Rattle.sg_hmac.specs.Labels.{authentication_key}
+use Rattle.sg_mikey.specs.Reading.{Place, message_of}
+use Rattle.sg_mikey.specs.declared.message.Message.{Message}
+use Rattle.sg_outcome.specs.declared.outcomes.Outcome.TheVariants.{Refused}
+use Rattle.sg_psk.specs.Envelope.{before_mac}
+use Rattle.sg_psk.specs.Parts.{closing_in}
+use Rattle.sg_psk.specs.Sending.{Sent}
+use Rattle.sg_sdes.specs.CryptoOf.{crypto_of}
+use Rattle.sg_sdes.specs.declared.lines.CryptoLine.{CryptoLine}
+use Rattle.sg_sdp.specs.Reading.{description_of}
+use Rattle.sg_sdp.specs.declared.medium.Medium as descriptions
+use Rattle.sg_sdp.specs.declared.sdp.Sdp.{Sdp}
+use Rattle.sg_session.specs.Ring.{Installed}
+use Rattle.sg_gateway.specs.CryptoSessions.{Carries}
+use Rattle.sg_gateway.specs.Runs.{Turn, turns}
+use Rattle.sg_gateway.specs.Signals.{Answered}
+use Rattle.sg_gateway.specs.Step.{Event, Signalled}
+use Rattle.sg_gateway.specs.World.{Call, call_of}
+use Rattle.sg_conduct.specs.Manual.{AreApart, IsApartInItself}
+use Rattle.sg_conduct.specs.Present.{TakesPart}
+
+-- ---- the text
+
+-- one of these media takes part and has no address (RFC 4566, 5.7): its `m=` line has this number, where that of the first has `first`
+abbrev pub LacksAddress : Side → ℕ → List descriptions.Medium → ℕ → Type 0
+LacksAddress side first [] line = ⊥
+LacksAddress side first (m ∷ ms) line = (TakesPart side m × (m.address ≡ None) × (line ≡ first)) ⊎ LacksAddress side (first + 1 + length m.lines) ms line
+
+-- it is no description, with that first fault, or lacks an address
+abbrev pub ShowsFault : Side → List ℕ → ℕ → SdpFault → Type 0
+ShowsFault side text line fault =
+    (description_of text ≡ Err (line, fault)) ⊎ ((s : Sdp) × (description_of text ≡ Ok s) × (fault ≡ Address) × LacksAddress side (length s.session + 1) s.media line)
+
+-- ---- crypto lines (RFC 4568, 5.1.3)
+
+abbrev pub HasNoValue : List (List ℕ) → Type 0
+HasNoValue lines = AllByRecursion (λ line. (value : List ℕ) → ¬ line ≡ codes "a=crypto:" ++ value) lines
+
+-- the first crypto attribute of these lines has this value
+abbrev pub IsFirstValue : List (List ℕ) → List ℕ → Type 0
+IsFirstValue lines value = (before behind : List (List ℕ)) × (lines ≡ before ++ (codes "a=crypto:" ++ value) ∷ behind) × HasNoValue before
+
+-- no line that was offered has its tag, or one has it with another suite
+abbrev pub IsOfNone : List CryptoLine → CryptoLine → SdesFault → Type 0
+IsOfNone offered l fault =
+    ((fault ≡ Tag) × AllByRecursion (λ x. ¬ x.tag ≡ l.tag) offered) ⊎ ((fault ≡ Suite) × Any (λ x. (x.tag ≡ l.tag) × (¬ x.suite ≡ l.suite)) offered)
+
+-- there is no crypto attribute, or the first isn't read, or names none of these lines
+abbrev pub ShowsNoLine : List CryptoLine → List (List ℕ) → SdesFault → Type 0
+ShowsNoLine offered lines fault =
+    (HasNoValue lines × (fault ≡ NoLine))
+    ⊎ ((value : List ℕ) × IsFirstValue lines value × ((crypto_of value ≡ Err fault) ⊎ ((l : CryptoLine) × (crypto_of value ≡ Ok l) × IsOfNone offered l fault)))
+
+-- so the answer's medium of this number, which takes part, of the lines that the gateway offered for it
+pub record LacksLine (o : Offer) (text : List ℕ) (medium : ℕ) (fault : SdesFault) : Type 0 where
+  pub answer : Sdp
+  pub read : description_of text ≡ Ok answer
+  pub lines : List (Option (List CryptoLine))
+  pub keying : o.keying ≡ OwnLines lines
+  pub offered : List CryptoLine
+  pub lines_before : List (Option (List CryptoLine))
+  pub lines_behind : List (Option (List CryptoLine))
+  pub kept : lines ≡ lines_before ++ Some offered ∷ lines_behind
+  pub number : length lines_before ≡ medium
+  pub m : descriptions.Medium
+  pub media_before : List descriptions.Medium
+  pub media_behind : List descriptions.Medium
+  pub media : answer.media ≡ media_before ++ m ∷ media_behind
+  pub place : length media_before ≡ medium
+  pub takes : TakesPart (other_side o.side) m
+  pub none : ShowsNoLine offered m.lines fault
+
+-- ---- a response (RFC 3830, 5.2; RFC 4567, 3.1)
+
+-- the answer to an offer that is keyed by the gateway's message, in whose session part (255) the response is to stand
+pub record IsToRespond (o : Offer) (text : List ℕ) (medium : ℕ) : Type 0 where
+  pub answer : Sdp
+  pub read : description_of text ≡ Ok answer
+  pub sent : Sent
+  pub keying : o.keying ≡ OwnMessage sent
+  pub session : medium ≡ 255
+
+-- no octets are read of its first MIKEY attribute
+abbrev pub LacksMessage : Offer → List ℕ → ℕ → Type 0
+LacksMessage o text medium = (x : IsToRespond o text medium) × ((octets : List ℕ) → ¬ Carries x.answer.session octets)
+
+-- they are no message, or one of another kind, as the second octet says
+abbrev pub ShowsNoMessage : Offer → List ℕ → ℕ → ℕ → MikeyFault → Type 0
+ShowsNoMessage o text medium offset fault =
+    (x : IsToRespond o text medium) × (octets : List ℕ) × Carries x.answer.session octets
+    × (((place : Place) × (message_of octets ≡ Err place) × (place.offset ≡ offset) × (place.fault ≡ fault))
+    ⊎ ((m : Message) × (message_of octets ≡ Ok m) × (¬ m.kind ≡ 1) × (offset ≡ 1) × (fault ≡ DataType)))
+
+-- of a response, why it isn't one to the message that was sent: another algorithm, code, bundle or number of crypto sessions
+abbrev pub IsNotTo : Sent → List ℕ → Message → PskFault → Type 0
+IsNotTo sent octets m fault =
+    ((fault ≡ Algorithm) × (¬ (closing_in m.payloads).mac ≡ 1))
+    ⊎ (((fault ≡ BadMac) × (¬ (closing_in m.payloads).tag ≡ hmac_sha1 (authentication_key sent.pair.key sent.csb sent.random) (before_mac octets ++ (sent.pair.own ++ (sent.pair.peer ++ sent.stamp)))))
+    ⊎ ((fault ≡ OtherSession) × (¬ ((m.csb ≡ sent.csb) × (length m.map ≡ length sent.map)))))
+
+abbrev pub ShowsNoResponse : Offer → List ℕ → ℕ → PskFault → Type 0
+ShowsNoResponse o text medium fault =
+    (x : IsToRespond o text medium) × (octets : List ℕ) × (m : Message) × Carries x.answer.session octets × (message_of octets ≡ Ok m) × (m.kind ≡ 1) × IsNotTo x.sent octets m fault
+
+-- ---- the ring (RFC 3711, 9.1)
+
+-- these keys come into use one behind the other, each apart from all before it
+abbrev pub ComeIntoUse : List Installed → List Installed → Type 0
+ComeIntoUse ring [] = Unit {0}
+ComeIntoUse ring (k ∷ ks) = AllByRecursion (λ r. AreApart r.master k.master) ring × IsApartInItself k.master × ComeIntoUse (ring ++ k ∷ []) ks
+
+-- the key isn't apart from that of this number among these; or it would have the number, and isn't apart in itself
+abbrev pub IsReusedAt : List Installed → Master → ℕ → Type 0
+IsReusedAt keys key number =
+    ((before behind : List Installed) × (r : Installed) × (keys ≡ before ++ r ∷ behind) × (number ≡ length before) × (¬ AreApart r.master key))
+    ⊎ ((number ≡ length keys) × (¬ IsApartInItself key))
+
+-- so of the next key, behind the ring and those of the answer that came into use: an answer has 64 keys at most
+pub record IsReused (ring : List Installed) (number : ℕ) : Type 0 where
+  pub new : List Installed
+  pub key : Master
+  pub few : length new < 64
+  pub come : ComeIntoUse ring new
+  pub reused : IsReusedAt (ring ++ new) key number
+
+abbrev pub IsFull : List Installed → Type 0
+IsFull ring = (new : List Installed) × (length new ≤ 64) × ComeIntoUse ring new × (65536 < length ring + length new)
+
+-- ---- the cause
+
+-- Why the crypto sessions of the gateway's own message wouldn't serve (`Cs`), nothing here says.
+abbrev pub Shows : List Installed → Offer → List ℕ → Refusal → Type 0
+Shows ring o text (causes.Sdp line fault) = ShowsFault (other_side o.side) text line fault
+Shows ring o text causes.NoMedia = (s : Sdp) × (description_of text ≡ Ok s) × AllByRecursion (λ m. ¬ TakesPart (other_side o.side) m) s.media
+Shows ring o text causes.MediaCount = (s : Sdp) × (description_of text ≡ Ok s) × (¬ length s.media ≡ length o.description.media)
+Shows ring o text (causes.Sdes medium fault) = LacksLine o text medium fault
+Shows ring o text (causes.KeyMgmt medium) = LacksMessage o text medium
+Shows ring o text (causes.Mikey medium offset fault) = ShowsNoMessage o text medium offset fault
+Shows ring o text (causes.Psk medium fault) = ShowsNoResponse o text medium fault
+Shows ring o text (causes.Cs medium fault) = IsToRespond o text medium
+Shows ring o text (causes.KeyReused number) = IsReused ring number
+Shows ring o text causes.RingFull = IsFull ring
+Shows ring o text causes.TableFull = ⊥
+Shows ring o text causes.CallKnown = ⊥
+Shows ring o text causes.CallUnknown = ⊥
+Shows ring o text causes.PskKnown = ⊥
+Shows ring o text causes.PskFull = ⊥
+Shows ring o text (causes.TickBack last) = ⊥
+Shows ring o text causes.State = ⊥
+
+abbrev pub RefusedAnswerShowsCause : Turn → Type 0
+RefusedAnswerShowsCause t =
+    (id : CallId) (noise text : List ℕ) (c : Call) (o : Offer) (cause : Refusal) → t.event ≡ Signalled (Answered id noise text)
+    → call_of t.before id ≡ Some c → c.offer ≡ Some o → Any (λ x. x ≡ Refused (Some id) cause) t.outcomes → Shows t.before.books.ring o text cause
+
+abbrev pub RefusedAnswersShowCauses : List Event → Type 0
+RefusedAnswersShowCauses events = All RefusedAnswerShowsCause (turns events)

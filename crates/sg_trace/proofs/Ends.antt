@@ -1,0 +1,67 @@
+-- How a run that plays a script ends: whose failure it was.
+use Rattle.std.proofs.Common.{◌≡◌, ◌⊎◌, ◌≤◌, ℕ, true, Bool, List, Option, Err, refl, sym, ap, ◌∙◌, subst, inl, inr}
+use Rattle.std.specs.Prelude.{IsErrOf}
+use Rattle.sg_edge.specs.Told.{Rose, Tells}
+use Rattle.sg_trace.proofs.Causes.{ended_as, failed_now, not_failed}
+use Rattle.sg_trace.specs.Causes.{EndedBy, HasFailed}
+use Rattle.sg_trace.specs.Course.{Given}
+use Rattle.sg_trace.specs.Loop.{Closes, Effects, IsPlayed, IsWant}
+use Rattle.sg_trace.specs.Reading.{IsNext, Reading}
+use Rattle.sg_trace.specs.declared.status.Status.{Status}
+use Rattle.sg_trace.specs.declared.status.Status.TheVariants.{Read, Write, NoMemory, Noise, Script}
+
+-- no line is written as it is read, and none draws
+pub next_not_write : (status : Status) (old new : Reading) (got : List ℕ) (left : Option (List ℕ)) → IsNext (Err status) old new got left → status ≡ Write → ⊥
+next_not_write status old new got left next is = subst (λ s. IsNext (Err s) old new got left) is next
+
+pub next_not_noise : (status : Status) (old new : Reading) (got : List ℕ) (left : Option (List ℕ)) → IsNext (Err status) old new got left → status ≡ Noise → ⊥
+next_not_noise status old new got left next is = subst (λ s. IsNext (Err s) old new got left) is next
+
+want_not : (status other : Status) → IsWant status → (Write ≡ other → ⊥) → (NoMemory ≡ other → ⊥) → status ≡ other → ⊥
+want_not status other (inl is) a b same = a (sym is ∙ same)
+want_not status other (inr is) a b same = b (sym is ∙ same)
+
+module _ {S D : Type 0} (e : Effects S D) (batch : ℕ) where
+  -- another status than the end, and than those of telling, isn't answered
+  pub closes_not : (end status other : Status) (s : S) (waited : List D) (out : List ℕ) → Closes end status e batch s waited out → (end ≡ other → ⊥) → (Write ≡ other → ⊥) → (NoMemory ≡ other → ⊥) → status ≡ other → ⊥
+  closes_not end status other s waited out (inl is) a b c same = a (sym is.0 ∙ same)
+  closes_not end status other s waited out (inr cut) a b c same = want_not status other cut.0 b c same
+
+pub played_not_read : {S D : Type 0} (status : Status) (e : Effects S D) (gives : List ℕ → Option (Given D)) (batch : ℕ) (s : S) (waited waits : List D) (stands : S → Type 0) (draws out : List ℕ)
+    → IsPlayed (Err status) e gives batch s waited waits stands draws out → status ≡ Read → ⊥
+played_not_read status e gives batch s waited waits stands draws out played is = subst (λ other. IsPlayed (Err other) e gives batch s waited waits stands draws out) is played
+
+-- where nothing failed
+pub ended_quiet : (own instead : Type 0) (old new : ℕ) (failed : Option Bool) → new ≡ old → (own → ⊥) → EndedBy own instead old new failed
+ended_quiet own instead old new failed same isnt = ended_as own instead old new failed (not_failed own old new failed same isnt)
+
+-- where it failed, if the reading did
+ended_failed : (own instead : Type 0) (old new : ℕ) (failed : Option Bool) → old ≤ new → Rose old new → Tells failed true → own ⊎ instead → EndedBy own instead old new failed
+ended_failed own instead old new failed later rose told how = record {
+  later = later;
+  rose = λ is. rose;
+  told = λ is. told;
+  quiet = λ a b. absurd (neither how a b);
+  last = λ a b. inr (rose, told);
+}
+  where
+    neither : own ⊎ instead → (own → ⊥) → (instead → ⊥) → ⊥
+    neither (inl is) a b = a is
+    neither (inr is) a b = b is
+
+either : (status : Status) → (status ≡ Read) ⊎ (status ≡ Read → ⊥)
+either Read = inl refl
+either other = inr (λ is. cc)
+
+module _ {S D : Type 0} (e : Effects S D) (batch : ℕ) where
+  -- a reading that came to an end, which was closed
+  pub ended_closed : (T : Type 0) (end status : Status) (s : S) (waited : List D) (out : List ℕ) → Closes end status e batch s waited out → (a b c : ℕ) (failed : Option Bool) → b ≡ a
+      → HasFailed (IsErrOf {T = T} (Err end) Read) b c failed → EndedBy (status ≡ Read) (IsWant status) a c failed
+  ended_closed T end status s waited out closed a b c failed same cause = elim (either end) [
+    | inl is ↦ let now = failed_now _ a b c failed same cause in ended_failed (status ≡ Read) (IsWant status) a c failed now.later (now.rose (ap Err is)) (now.told (ap Err is)) (how is closed)
+    | inr isnt ↦ ended_quiet (status ≡ Read) (IsWant status) a c failed (cause.quiet (λ is. isnt (let told : end ≡ Read = cc in told)) ∙ same) (closes_not e batch end status Read s waited out closed isnt (λ is. cc) (λ is. cc))
+  ]
+    where
+      how : end ≡ Read → Closes end status e batch s waited out → (status ≡ Read) ⊎ IsWant status
+      how is (inl all) = inl (all.0 ∙ is)
+      how is (inr cut) = inr cut.0
