@@ -715,7 +715,7 @@ def bridged(script):
     bridging = definition("sg_bridge.specs.Bridged", "bridging")
     line = definition("sg_bridge.specs.BridgeText", "bridge_outcome_line")
     world, calls = definition("sg_gateway.specs.World", "empty"), definition("sg_bridge.specs.Pairs", "no_members")
-    for said in call(definition("sg_bridging.specs.Bridge", "bridge_trace"), tuple(script), ()).fields["said"]:
+    for said in call(definition("sg_bridging.specs.Bridge", "bridge_trace"), tuple(script), ()).fields["deeds"]:
         given = call(bridging, world, calls, said)
         world, calls = given.fields["world"], given.fields["calls"]
         for outcome in given.fields["told"]:

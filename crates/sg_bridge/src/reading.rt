@@ -10,6 +10,7 @@ use sg_base::{LINE_MOST, ScriptFault};
 use sg_lines::fields::call;
 use sg_lines::reading::fields;
 use sg_lines::{ReadLineFault, read_line};
+use sg_trace::ScriptLine;
 use std::alloc::Global;
 
 #[tactic(auto, unfolding(crate::specs::BridgeLines::join_from))]
@@ -96,4 +97,33 @@ pub fn read_bridge_line(
     };
     let fields = fields(body);
     line_of_fields(alloc, version, number, octets, fields.as_slice())
+}
+
+impl ScriptLine for BridgeLine {
+    ghost use Rattle.sg_bridge.specs.BridgeLines.{FitsBridgeLine, bridge_line_of, bridge_version_after};
+
+    ghost spelled = { bridge_line_of };
+
+    ghost fits = { FitsBridgeLine };
+
+    ghost followed = { bridge_version_after };
+
+    fn read(
+        alloc: Global,
+        version: u8,
+        number: u64,
+        octets: &[u8],
+    ) -> Result<BridgeLine, ReadLineFault> {
+        read_bridge_line(alloc, version, number, octets)
+    }
+
+    fn version_after(&self, version: u8) -> u8 {
+        match self {
+            BridgeLine::Script(line) => line.version_after(version),
+            BridgeLine::Join { .. } => version,
+            BridgeLine::Part { .. } => version,
+        }
+    }
+
+    fn are_framed() {}
 }

@@ -1,5 +1,3 @@
-mod Bridges
-mod Completes
-mod Frames
+pub mod Completes
 mod Replayed
 mod Steps

@@ -11,11 +11,11 @@ use Rattle.sg_base.specs.declared.faults.ScriptFault.TheVariants.{Length}
 use Rattle.sg_bridge.proofs.BridgeFrames.{bridge_line_is}
 use Rattle.sg_bridge.specs.BridgeLines.{bridge_line_of, bridge_said_by, is_script_line, join_from, of_script, part_from}
 use Rattle.sg_bridge.specs.BridgeText.{bridge_outcome_line}
-use Rattle.sg_bridge.specs.Bridged.{Happens, bridged_events, bridged_outcomes}
+use Rattle.sg_bridge.specs.Bridged.{Happens, Said, bridged_events, bridged_outcomes}
 use Rattle.sg_bridge.specs.Unjoined.{IsToldAsItIs}
 use Rattle.sg_bridge.specs.declared.lines.BridgeLine.{BridgeLine}
 use Rattle.sg_bridge.specs.declared.outcomes.BridgeOutcome.TheVariants as tells
-use Rattle.sg_bridging.specs.Bridge.{BridgeTrace, LaterSaid, after_bridge_line, bridge_line_at, bridge_trace, bridge_trace_from, happens_as, with_said}
+use Rattle.sg_bridging.specs.Bridge.{bridge_trace, happens_as, of_bridge}
 use Rattle.sg_bridging.specs.Replayed.{BeginsWith, IsPlayedAlike, JoinsNone}
 use Rattle.sg_gateway.specs.Drawn.{Supplied, supplied}
 use Rattle.sg_gateway.specs.Events.{events_of}
@@ -26,6 +26,7 @@ use Rattle.sg_lines.specs.ScriptLines.{lines_of}
 use Rattle.sg_lines.specs.declared.lines.Line.{Line}
 use Rattle.sg_outcome.specs.OutcomeText.{outcome_line}
 use Rattle.sg_outcome.specs.declared.outcomes.Outcome.{Outcome}
+use Rattle.sg_trace.specs.Course.{Course, behind_given, behind_line, course_from, read_at, with_deeds}
 use Rattle.sg_trace.specs.Output.{text}
 use Rattle.sg_trace.specs.Trace.{Later, Replays, Trace, after_line, drawing, handled_as, line_at, replayed, trace_from, with_events}
 
@@ -57,51 +58,43 @@ line_is version n line none = bridge_line_is version n line ∙ go (is_script_li
     go true = refl
     go false = other_word (of_script (line_of version n line)) (fields_of (body_of line)) (λ rest is. none.0 (rest, is)) (λ rest is. none.1 (rest, is))
 
-module _ (version n at : ℕ) (line : List ℕ) where
-  bridge_at : bridge_line_at version n at line ≡ cond (nat_lt (2 ^ 30) (at + length line)) (Err Length) (bridge_line_of version n line)
-  unfolding bridge_line_at
-  bridge_at = refl
-
-  script_at : line_at version n at line ≡ cond (nat_lt (2 ^ 30) (at + length line)) (Err Length) (line_of version n line)
-  unfolding line_at
-  script_at = refl
-
-  at_is : NoWord line → bridge_line_at version n at line ≡ of_script (line_at version n at line)
-  at_is none = bridge_at ∙ ap (λ (r : Result BridgeLine ScriptFault). cond (nat_lt (2 ^ 30) (at + length line)) (Err Length) r) (line_is version n line none) ∙ go (nat_lt (2 ^ 30) (at + length line)) ∙ ap of_script (sym script_at)
-    where
-      go : (b : Bool) → cond b (Err Length) (of_script (line_of version n line)) ≡ of_script (cond b (Err Length) (line_of version n line))
-      go true = refl
-      go false = refl
+at_is : (version n at : ℕ) (line : List ℕ) → NoWord line → read_at of_bridge version n at line ≡ of_script (line_at version n at line)
+at_is version n at line none =
+    ap (λ (r : Result BridgeLine ScriptFault). cond (nat_lt (2 ^ 30) (at + length line)) (Err Length) r) (line_is version n line none) ∙ go (nat_lt (2 ^ 30) (at + length line))
+  where
+    go : (b : Bool) → cond b (Err Length) (of_script (line_of version n line)) ≡ of_script (cond b (Err Length) (line_of version n line))
+    go true = refl
+    go false = refl
 
 -- ---- a trace
 
-pub record Matches (b : BridgeTrace) (t : Trace) : Type 0 where
-  pub said : b.said ≡ map Happens t.events
+pub record Matches (b : Course Said) (t : Trace) : Type 0 where
+  pub said : b.deeds ≡ map Happens t.events
   pub stop : b.stop ≡ t.stop
   pub left : b.left ≡ t.left.draws
 
 -- what follows a line, in each
-abbrev LaterMatch : LaterSaid → Later → ℕ → Type 0
+abbrev LaterMatch : (List ℕ → Course Said) → Later → ℕ → Type 0
 LaterMatch said later top = (draws : List ℕ) → Matches (said draws) (later top (drawing draws))
 
-more_matches : (es : List Event) (b : BridgeTrace) (t : Trace) → Matches b t → Matches (with_said (map Happens es) b) (with_events es t)
+more_matches : (es : List Event) (b : Course Said) (t : Trace) → Matches b t → Matches (with_deeds (map Happens es) b) (with_events es t)
 more_matches es b t is = record { said = ap (λ l. map Happens es ++ l) is.said ∙ sym (map-append Happens es t.events); stop = is.stop; left = is.left }
 
-supplied_matches : (s : Option Supplied) (said : LaterSaid) (later : Later) (top : ℕ) (draws : List ℕ) → LaterMatch said later top → Matches (happens_as s said draws) (handled_as s later top (drawing draws))
+supplied_matches : (s : Option Supplied) (said : List ℕ → Course Said) (later : Later) (top : ℕ) (draws : List ℕ) → LaterMatch said later top → Matches (behind_given (happens_as s) draws said) (handled_as s later top (drawing draws))
 supplied_matches None said later top draws match = record { said = refl; stop = refl; left = refl }
 supplied_matches (Some s) said later top draws match = more_matches (events_of s.line) (said s.draws) (later top (drawing s.draws)) (match s.draws)
 
-line_matches : (version n : ℕ) (r : Result Line ScriptFault) (said : ℕ → LaterSaid) (later : ℕ → Later) (top : ℕ) (draws : List ℕ) → ((v : ℕ) → LaterMatch (said v) (later v) top)
-    → Matches (after_bridge_line version n (of_script r) said draws) (after_line Replays version n r later top (drawing draws))
+line_matches : (version n : ℕ) (r : Result Line ScriptFault) (said : ℕ → List ℕ → Course Said) (later : ℕ → Later) (top : ℕ) (draws : List ℕ) → ((v : ℕ) → LaterMatch (said v) (later v) top)
+    → Matches (behind_line of_bridge version n (of_script r) said draws) (after_line Replays version n r later top (drawing draws))
 line_matches version n (Err fault) said later top draws match = record { said = refl; stop = refl; left = refl }
 line_matches version n (Ok l) said later top draws match = supplied_matches (supplied draws l) (said (version_after version l)) (later (version_after version l)) top draws (match (version_after version l))
 
-lines_match : (ls : List (List ℕ)) → AllByRecursion NoWord ls → (version n at top : ℕ) (draws : List ℕ) → Matches (bridge_trace_from version n at ls draws) (trace_from Replays version n at ls top (drawing draws))
+lines_match : (ls : List (List ℕ)) → AllByRecursion NoWord ls → (version n at top : ℕ) (draws : List ℕ) → Matches (course_from of_bridge version n at ls draws) (trace_from Replays version n at ls top (drawing draws))
 lines_match [] none version n at top draws = record { said = refl; stop = refl; left = refl }
 lines_match (l ∷ ls) none version n at top draws =
-    subst (λ (r : Result BridgeLine ScriptFault). Matches (after_bridge_line version n r (λ v. bridge_trace_from v (n + 1) (at + length l) ls) draws) (trace_from Replays version n at (l ∷ ls) top (drawing draws)))
+    subst (λ (r : Result BridgeLine ScriptFault). Matches (behind_line of_bridge version n r (λ v. course_from of_bridge v (n + 1) (at + length l) ls) draws) (trace_from Replays version n at (l ∷ ls) top (drawing draws)))
     (sym (at_is version n at l none.0))
-    (line_matches version n (line_at version n at l) (λ v. bridge_trace_from v (n + 1) (at + length l) ls) (λ v. trace_from Replays v (n + 1) (at + length l) ls) top draws
+    (line_matches version n (line_at version n at l) (λ v. course_from of_bridge v (n + 1) (at + length l) ls) (λ v. trace_from Replays v (n + 1) (at + length l) ls) top draws
     (λ v draws. lines_match ls none.1 v (n + 1) (at + length l) top draws))
 
 -- ---- what is written
@@ -118,7 +111,7 @@ pub played_alike : ((events : List Event) → IsToldAsItIs events) → (octets d
 played_alike law octets draws none =
     let match = lines_match (lines_of octets) (recursion_from_All NoWord (lines_of octets) none) 1 1 0 0 draws in
     let events : List Event = (replayed octets draws).events in
-    let told : bridged_outcomes (bridge_trace octets draws).said ≡ map tells.Table (outcomes events) = ap bridged_outcomes match.said ∙ (law events).told in
+    let told : bridged_outcomes (bridge_trace octets draws).deeds ≡ map tells.Table (outcomes events) = ap bridged_outcomes match.said ∙ (law events).told in
     record {
       said = match.said;
       stop = match.stop;

@@ -1,5 +1,5 @@
 -- What the parts of a bridge tell, one by one.
-use Rattle.std.proofs.Common.{◌≡◌, ◌<◌, ◌+◌, ℕ, Bool, true, false, cond, List, [], ◌∷◌, ◌++◌, length, take, drop, get_or, Option, Some, None, Result, Ok, Err, refl, sym, ap, ◌∙◌, subst, append_assoc}
+use Rattle.std.proofs.Common.{◌≡◌, ◌<◌, ◌≤◌, ◌+◌, ℕ, Bool, true, false, cond, List, [], ◌∷◌, ◌++◌, length, take, drop, get_or, Option, Some, None, Result, Ok, Err, refl, sym, ap, ◌∙◌, subst, append_assoc}
 use Rattle.std.proofs.lemmas.Grind.{flat_map-append}
 use Rattle.std.proofs.lemmas.List.{append-nil, take-append-drop, take_more}
 use Rattle.std.specs.List.{flat_map}
@@ -18,8 +18,8 @@ use Rattle.sg_bridge.specs.declared.lines.BridgeLine.TheVariants as bridge_lines
 use Rattle.sg_bridge.specs.declared.members.Pair.{Pair}
 use Rattle.sg_bridge.specs.declared.outcomes.BridgeOutcome.{BridgeOutcome}
 use Rattle.sg_bridge.specs.declared.outcomes.BridgeOutcome.TheVariants as tells
-use Rattle.sg_bridging.specs.Bridge.{LaterSaid, happens_as, said_of, with_said}
-use Rattle.sg_bridging.specs.Steps.{HasTold, IsBridged, IsCut, IsPlayed, IsStepped, StandsFor, State, SwitchboardValue, after, state_after, text_from, told_next}
+use Rattle.sg_bridging.specs.Bridge.{gives, happens_as}
+use Rattle.sg_bridging.specs.Steps.{HasTold, IsBridged, IsPlayed, IsStepped, StandsFor, State, SwitchboardValue, after, effects, state_after, text_from, told_next}
 use Rattle.sg_edge.proofs.Passed.{wrote_more, wrote_none}
 use Rattle.sg_edge.specs.Told.{Wrote}
 use Rattle.sg_gateway.specs.Events.{outcomes_from, signal_lacks_noise, signal_of}
@@ -35,6 +35,8 @@ use Rattle.sg_outcome.specs.declared.outcomes.Outcome.TheVariants.{Out, Dropped}
 use Rattle.sg_table.specs.Standing.{TableStandsFor}
 use Rattle.sg_table.specs.Values.{TableValue}
 use Rattle.sg_trace.proofs.Writings.{written_behind}
+use Rattle.sg_trace.specs.Course.{Given}
+use Rattle.sg_trace.specs.Loop.{GoInOrder, IsCutShort, deeds_of}
 use Rattle.sg_trace.specs.Output.{IsPrefixOf, IsWritten}
 use Rattle.sg_trace.specs.Supplying.{IsSupplied}
 use Rattle.sg_trace.specs.declared.status.Status.{Status}
@@ -60,6 +62,9 @@ text_from-append s xs ys =
     ∙ ap lines (flat_map-append (λ (b : Bridging). b.told) (bridgings_from s.world s.calls xs) (bridgings_from (state_after s xs).world (state_after s xs).calls ys))
     ∙ flat_map-append bridge_outcome_line (flat_map (λ b. b.told) (bridgings_from s.world s.calls xs)) (flat_map (λ b. b.told) (bridgings_from (state_after s xs).world (state_after s xs).calls ys))
 
+pub in_order : GoInOrder effects
+in_order = record { none_told = λ s. refl; none_after = λ s. refl; told = text_from-append; after = state_after-append }
+
 pub text_of_one : (s : State) (x : Said) → text_from s (x ∷ []) ≡ lines (bridging s.world s.calls x).told
 text_of_one s x = ap lines (append-nil (bridging s.world s.calls x).told)
 
@@ -82,15 +87,7 @@ pub has_text : (r : Result (Unit {0}) Status) (text text' : List ℕ) (so so' : 
 has_text (Ok u) text text' so so' out is to has = (has.0 ∙ is, to has.1)
 has_text (Err statuses.Write) text text' so so' out is to has = subst (IsPrefixOf out) is has
 has_text (Err statuses.NoMemory) text text' so so' out is to has = subst (IsPrefixOf out) is has
-has_text (Err statuses.Done) text text' so so' out is to has = absurd has
-has_text (Err statuses.Usage) text text' so so' out is to has = absurd has
-has_text (Err (statuses.Script n fault)) text text' so so' out is to has = absurd has
-has_text (Err statuses.Read) text text' so so' out is to has = absurd has
-has_text (Err statuses.Link) text text' so so' out is to has = absurd has
-has_text (Err statuses.Clock) text text' so so' out is to has = absurd has
-has_text (Err statuses.Noise) text text' so so' out is to has = absurd has
-has_text (Err statuses.TurnsSpent) text text' so so' out is to has = absurd has
-has_text (Err (statuses.Capture offset fault)) text text' so so' out is to has = absurd has
+has_text (Err other) text text' so so' out is to has = absurd has
 
 -- what was written, and that it was that
 abbrev pub Has : Result (Unit {0}) Status → Option (List ℕ) → Option (List ℕ) → List ℕ → Type 0 → Type 0
@@ -100,15 +97,7 @@ pub written_has : (r : Result (Unit {0}) Status) (a b : Option (List ℕ)) (text
 written_has (Ok u) a b text so is wrote = (text, wrote, (refl, is))
 written_has (Err statuses.Write) a b text so is wrote = (wrote.0, wrote.2, wrote.1)
 written_has (Err statuses.NoMemory) a b text so is wrote = (wrote.0, wrote.2, wrote.1)
-written_has (Err statuses.Done) a b text so is wrote = absurd wrote
-written_has (Err statuses.Usage) a b text so is wrote = absurd wrote
-written_has (Err (statuses.Script n fault)) a b text so is wrote = absurd wrote
-written_has (Err statuses.Read) a b text so is wrote = absurd wrote
-written_has (Err statuses.Link) a b text so is wrote = absurd wrote
-written_has (Err statuses.Clock) a b text so is wrote = absurd wrote
-written_has (Err statuses.Noise) a b text so is wrote = absurd wrote
-written_has (Err statuses.TurnsSpent) a b text so is wrote = absurd wrote
-written_has (Err (statuses.Capture offset fault)) a b text so is wrote = absurd wrote
+written_has (Err other) a b text so is wrote = absurd wrote
 
 on_ok : {so : Type 0} (r : Result (Unit {0}) Status) → so → OnOk r so
 on_ok (Ok u) is = is
@@ -294,15 +283,7 @@ stepped_cut status s xs ys board board' out has = go status has
     go : (status : Status) → IsStepped (Err status) s xs board out → IsStepped (Err status) s (xs ++ ys) board' out
     go statuses.Write has = longer has
     go statuses.NoMemory has = longer has
-    go statuses.Done has = absurd has
-    go statuses.Usage has = absurd has
-    go (statuses.Script n fault) has = absurd has
-    go statuses.Read has = absurd has
-    go statuses.Link has = absurd has
-    go statuses.Clock has = absurd has
-    go statuses.Noise has = absurd has
-    go statuses.TurnsSpent has = absurd has
-    go (statuses.Capture offset fault) has = absurd has
+    go other has = absurd has
 
 -- one thing that is said behind another
 pub stepped_then : (r : Result (Unit {0}) Status) (s : State) (xs ys : List Said) (middle board : SwitchboardValue) (out out' : List ℕ) → IsStepped (Ok tt) s xs middle out → IsStepped r (state_after s xs) ys board out' → IsStepped r s (xs ++ ys) board (out ++ out')
@@ -318,67 +299,37 @@ stepped_then r s xs ys middle board out out' first then = go r then
     go (Ok u) has = ((λ i. first.0 i ++ has.0 i) ∙ sym (text_from-append s xs ys), subst (StandsFor board) (sym (state_after-append s xs ys)) has.1)
     go (Err statuses.Write) has = prefix has
     go (Err statuses.NoMemory) has = prefix has
-    go (Err statuses.Done) has = absurd has
-    go (Err statuses.Usage) has = absurd has
-    go (Err (statuses.Script n fault)) has = absurd has
-    go (Err statuses.Read) has = absurd has
-    go (Err statuses.Link) has = absurd has
-    go (Err statuses.Clock) has = absurd has
-    go (Err statuses.Noise) has = absurd has
-    go (Err statuses.TurnsSpent) has = absurd has
-    go (Err (statuses.Capture offset fault)) has = absurd has
+    go (Err other) has = absurd has
 
 -- a line says this, for which these octets are drawn
 abbrev pub Says : BridgeLine → List ℕ → List Said → Type 0
-Says l draws said = (later : LaterSaid) (more : List ℕ) → said_of l later (draws ++ more) ≡ with_said said (later more)
+Says l draws said = (more : List ℕ) → gives l (draws ++ more) ≡ Some (record { deeds = said; left = more })
 
-pub played_by : (l : BridgeLine) (draws : List ℕ) (said : List Said) → Says l draws said → (r : Result (Unit {0}) Status) (s : State) (board : SwitchboardValue) (out : List ℕ) → IsStepped r s said board out → IsPlayed r l s board draws out
-played_by l draws said says r s board out has = go r has
+pub played_by : (l : BridgeLine) (draws : List ℕ) (said : List Said) → length said ≤ 2 → Says l draws said → (r : Result (Unit {0}) Status) (s : State) (board : SwitchboardValue) (out : List ℕ) → IsStepped r s said board out → IsPlayed r l s board draws out
+played_by l draws said few says r s board out has = go r has
   where
-    cut : IsPrefixOf out (text_from s said) → IsCut l s draws out
-    cut is = record {
-      said = said;
-      goes = λ later. (later [], ap (λ (d : List ℕ). said_of l later d) (sym (append-nil draws)) ∙ says later []);
-      told = is;
-    }
+    cut : IsPrefixOf out (text_from s said) → IsCutShort effects (gives l) 2 s [] draws out
+    cut is =
+        let said_so : said ≡ deeds_of (gives l draws) = sym (ap (λ (d : List ℕ). deeds_of (gives l d)) (sym (append-nil draws)) ∙ ap deeds_of (says [])) in
+        record { told = subst (λ (l : List Said). IsPrefixOf out (text_from s l)) said_so is; few = subst (λ (l : List Said). length l ≤ 2) said_so few }
 
     go : (r : Result (Unit {0}) Status) → IsStepped r s said board out → IsPlayed r l s board draws out
-    go (Ok u) has = record { said = said; goes = says; told = has.0; stands = has.1 }
+    go (Ok u) has = record {
+      fresh = said;
+      told = said;
+      goes = says;
+      alike = record { told = ap (text_from s) (sym (append-nil said)); left = ap (state_after s) (sym (append-nil said)) };
+      written = has.0;
+      left = has.1;
+    }
     go (Err statuses.Write) has = cut has
     go (Err statuses.NoMemory) has = cut has
-    go (Err statuses.Done) has = absurd has
-    go (Err statuses.Usage) has = absurd has
-    go (Err (statuses.Script n fault)) has = absurd has
-    go (Err statuses.Read) has = absurd has
-    go (Err statuses.Link) has = absurd has
-    go (Err statuses.Clock) has = absurd has
-    go (Err statuses.Noise) has = absurd has
-    go (Err statuses.TurnsSpent) has = absurd has
-    go (Err (statuses.Capture offset fault)) has = absurd has
+    go (Err other) has = absurd has
 
 pub signal_says : (signal supplied_as : Signal') (draws : List ℕ) → IsSupplied (Ok supplied_as) signal draws → signal_lacks_noise supplied_as ≡ false
     → Says (bridge_lines.Script (scripts.Signal signal)) draws (Happens (Signalled (signal_of supplied_as)) ∷ [])
-signal_says signal supplied_as draws has ready later more =
-    ap (λ x. happens_as x later (draws ++ more)) (has more)
-    ∙ ap (λ (b : Bool). with_said (map Happens (cond b [] (Signalled (signal_of supplied_as) ∷ []))) (later more)) ready
-
--- its noise wasn't drawn
-pub unsupplied : (status : Status) (signal : Signal') (s : State) (board : SwitchboardValue) (draws : List ℕ) → IsSupplied (Err status) signal draws → IsPlayed (Err status) (bridge_lines.Script (scripts.Signal signal)) s board draws []
-unsupplied statuses.Noise signal s board draws is = record {
-  drew = is.0;
-  stops = λ later. ap (λ x. happens_as x later []) is.1;
-  told = refl;
-}
-unsupplied statuses.Write signal s board draws is = absurd is
-unsupplied statuses.NoMemory signal s board draws is = absurd is
-unsupplied statuses.Done signal s board draws is = absurd is
-unsupplied statuses.Usage signal s board draws is = absurd is
-unsupplied (statuses.Script n fault) signal s board draws is = absurd is
-unsupplied statuses.Read signal s board draws is = absurd is
-unsupplied statuses.Link signal s board draws is = absurd is
-unsupplied statuses.Clock signal s board draws is = absurd is
-unsupplied statuses.TurnsSpent signal s board draws is = absurd is
-unsupplied (statuses.Capture offset fault) signal s board draws is = absurd is
+signal_says signal supplied_as draws has ready more =
+    ap happens_as (has more) ∙ ap (λ (b : Bool). Some (let g : Given Said = record { deeds = map Happens (cond b [] (Signalled (signal_of supplied_as) ∷ [])); left = more } in g)) ready
 
 -- ---- cases of what goes on
 

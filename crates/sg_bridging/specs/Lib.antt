@@ -1,4 +1,3 @@
 pub mod Bridge
-pub mod BridgeReading
 pub mod Replayed
 pub mod Steps

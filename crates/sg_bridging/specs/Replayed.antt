@@ -20,9 +20,9 @@ JoinsNone octets = All (λ line. ¬ BeginsWith (codes "join") line × ¬ BeginsW
 -- It says the replay's events, ends where a replay ends, leaves of what was drawn what a replay leaves, and tells and writes
 -- what a replay does.
 pub record IsPlayedAlike (octets draws : List ℕ) : Type 0 where
-  pub said : (bridge_trace octets draws).said ≡ map Happens (replayed octets draws).events
+  pub said : (bridge_trace octets draws).deeds ≡ map Happens (replayed octets draws).events
   pub stop : (bridge_trace octets draws).stop ≡ (replayed octets draws).stop
   pub left : (bridge_trace octets draws).left ≡ (replayed octets draws).left.draws
-  pub events : bridged_events (bridge_trace octets draws).said ≡ (replayed octets draws).events
-  pub told : bridged_outcomes (bridge_trace octets draws).said ≡ map tells.Table (outcomes (replayed octets draws).events)
-  pub text : bridge_text (bridge_trace octets draws).said ≡ output (replayed octets draws).events
+  pub events : bridged_events (bridge_trace octets draws).deeds ≡ (replayed octets draws).events
+  pub told : bridged_outcomes (bridge_trace octets draws).deeds ≡ map tells.Table (outcomes (replayed octets draws).events)
+  pub text : bridge_text (bridge_trace octets draws).deeds ≡ output (replayed octets draws).events

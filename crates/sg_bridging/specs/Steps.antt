@@ -1,18 +1,19 @@
 -- What the parts of a bridge leave, one by one.
-use Rattle.std.specs.Prelude.{◌≡◌, ◌⊎◌, ℕ, List, [], ◌∷◌, ◌++◌, option_to_list, Result, Ok, Err}
+use Rattle.std.specs.Prelude.{◌≡◌, ℕ, List, [], ◌∷◌, option_to_list, Result, Ok, Err}
 use Rattle.std.specs.List.{flat_map}
 use Rattle.sg_bridge.specs.BridgeText.{bridge_outcome_line}
 use Rattle.sg_bridge.specs.Bridged.{Bridging, Said, bridging, bridgings_from}
 use Rattle.sg_bridge.specs.Pairs.{Members, no_members, after_outcome}
 use Rattle.sg_bridge.specs.declared.lines.BridgeLine.{BridgeLine}
 use Rattle.sg_bridge.specs.declared.outcomes.BridgeOutcome.TheVariants as tells
-use Rattle.sg_bridging.specs.Bridge.{BridgeTrace, LaterSaid, said_of, stopped_at, with_said}
+use Rattle.sg_bridging.specs.Bridge.{gives}
 use Rattle.sg_gateway.specs.World.{World, empty}
 use Rattle.sg_outcome.specs.declared.outcomes.Outcome.{Outcome}
 use Rattle.sg_table.specs.Standing.{TableStandsFor}
 use Rattle.sg_table.specs.Values.{TableValue}
+use Rattle.sg_trace.specs.Loop as loops
+use Rattle.sg_trace.specs.Loop.{Effects}
 use Rattle.sg_trace.specs.Output.{IsPrefixOf}
-use Rattle.sg_trace.specs.Trace.{ForDraw}
 use Rattle.sg_trace.specs.declared.status.Status.{Status}
 use Rattle.sg_trace.specs.declared.status.Status.TheVariants as statuses
 
@@ -43,6 +44,9 @@ abbrev pub state_after : State → List Said → State
 state_after s [] = s
 state_after s (x ∷ xs) = state_after (after (bridging s.world s.calls x)) xs
 
+abbrev pub effects : Effects State Said
+effects = record { tells = text_from; after = state_after }
+
 -- what is told of an outcome of the table, and of the pair that it parts
 abbrev pub told_next : Members → Outcome → List ℕ
 told_next calls o = flat_map bridge_outcome_line (tells.Table o ∷ option_to_list (after_outcome calls o).parted)
@@ -62,28 +66,6 @@ IsBridged result b board out = HasTold result (flat_map bridge_outcome_line b.to
 abbrev pub IsStepped : Result (Unit {0}) Status → State → List Said → SwitchboardValue → List ℕ → Type 0
 IsStepped result s said board out = HasTold result (text_from s said) (StandsFor board (state_after s said)) out
 
--- What the line says, for which these octets were drawn, was handled and told.
-pub record IsTaken (l : BridgeLine) (s : State) (board : SwitchboardValue) (draws out : List ℕ) : Type 0 where
-  pub said : List Said
-  pub goes : (later : LaterSaid) (more : List ℕ) → said_of l later (draws ++ more) ≡ with_said said (later more)
-  pub told : out ≡ text_from s said
-  pub stands : StandsFor board (state_after s said)
-
--- A prefix of what it tells was told.
-pub record IsCut (l : BridgeLine) (s : State) (draws out : List ℕ) : Type 0 where
-  pub said : List Said
-  pub goes : (later : LaterSaid) → (rest : BridgeTrace) × (said_of l later draws ≡ with_said said rest)
-  pub told : IsPrefixOf out (text_from s said)
-
--- The line lacks noise, and none was drawn. Nothing is told.
-pub record IsUnsupplied (l : BridgeLine) (draws out : List ℕ) : Type 0 where
-  pub drew : draws ≡ []
-  pub stops : (later : LaterSaid) → said_of l later [] ≡ stopped_at ForDraw []
-  pub told : out ≡ []
-
+-- what a line leaves, which is played at once
 abbrev pub IsPlayed : Result (Unit {0}) Status → BridgeLine → State → SwitchboardValue → List ℕ → List ℕ → Type 0
-IsPlayed (Ok u) l s board draws out = IsTaken l s board draws out
-IsPlayed (Err statuses.Noise) l s board draws out = IsUnsupplied l draws out
-IsPlayed (Err statuses.Write) l s board draws out = IsCut l s draws out
-IsPlayed (Err statuses.NoMemory) l s board draws out = IsCut l s draws out
-IsPlayed (Err other) l s board draws out = ⊥
+IsPlayed result l s board draws out = loops.IsPlayed result effects (gives l) 2 s [] [] (StandsFor board) draws out

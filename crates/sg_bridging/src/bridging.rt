@@ -4,19 +4,19 @@ ghost use Rattle.std.specs.Prelude.{◌≡◌, ◌≤◌, ◌+◌, ◌^◌, ℕ,
 ghost use Rattle.sg_bridging.specs.Bridge.{IsBridge, IsCompleteBridge};
 ghost use Rattle.sg_bridging.specs.Steps.{StandsFor, start};
 ghost use Rattle.sg_edge.specs.Told.{Rose};
-ghost use Rattle.sg_trace.specs.Causes.{HasFailed};
+ghost use Rattle.sg_trace.specs.Causes.{EndedBy, HasFailed};
+ghost use Rattle.sg_trace.specs.Loop.{IsWant};
 
-use crate::reading::next_line;
 use crate::switchboard::Switchboard;
 use sg_base::NoMemory;
 use sg_edge::{Noise, Sink, Source};
-use sg_trace::{ScriptReader, Status};
+use sg_trace::{ScriptReader, Status, pass_on, passed_on};
 use std::alloc::Global;
 
 /// Plays the script of the source: its lines in order, from an empty table, and what they tell is written to the
 /// sink. Where two calls are joined, a packet that is opened in the one goes on to the other, and is sealed there.
 /// In a script of version 2 a tick to its moment comes before a datagram. Where a signal lacks its noise, 304 octets
-/// are drawn.
+/// are drawn. What is told is passed on before a read that may wait, and at the end.
 pub fn bridge<S: Source, K: Sink, N: Noise>(
     alloc: Global,
     source: &mut S,
@@ -29,15 +29,18 @@ pub fn bridge<S: Source, K: Sink, N: Noise>(
         (record { left = S.left source.new; written = K.written sink.new; drawn = N.given noise.new })
         octets draws out }
     ensures given { S.given source.new ≤ S.given source.old + (2 ^ 30 + 1) }
-    ensures read { HasFailed (result ≡ Status.Read) (S.faults source.old) (S.faults source.new) (S.failed source.new) }
+    ensures read { EndedBy (result ≡ Status.Read) (IsWant result) (S.faults source.old) (S.faults source.new) (S.failed source.new) }
     ensures write { HasFailed (result ≡ Status.Write) (K.faults sink.old) (K.faults sink.new) (K.failed sink.new) }
-    ensures noise { HasFailed (result ≡ Status.Noise) (N.faults noise.old) (N.faults noise.new) (N.failed noise.new) }
+    ensures noise { EndedBy (result ≡ Status.Noise) (IsWant result) (N.faults noise.old) (N.faults noise.new) (N.failed noise.new) }
     ensures complete { ¬ Rose (S.faults source.old) (S.faults source.new) → ¬ Rose (K.faults sink.old) (K.faults sink.new) → ¬ Rose (N.faults noise.old) (N.faults noise.new)
         → IsCompleteBridge result (S.left source.old) (S.left source.new) }
 {
     match Switchboard::make(alloc) {
         Err(NoMemory) => Status::NoMemory,
-        Ok(mut switchboard) => play_script(alloc, &mut switchboard, source, sink, noise),
+        Ok(mut switchboard) => {
+            let end = play_script(alloc, &mut switchboard, source, sink, noise);
+            passed_on(end, sink)
+        }
     }
 }
 
@@ -61,9 +64,12 @@ fn play_script<S: Source, K: Sink, N: Noise>(
     ensures noise { HasFailed (result ≡ Status.Noise) (N.faults noise.old) (N.faults noise.new) (N.failed noise.new) }
 {
     let mut script = ScriptReader::new(alloc);
-    let mut octets = Vec::new(alloc);
     'lines: loop {
-        let line = match next_line(alloc, &mut script, source, &mut octets) {
+        match pass_on(script.holds_line(), sink) {
+            Err(status) => return status,
+            Ok(()) => {}
+        }
+        let line = match script.next(alloc, source) {
             Err(status) => return status,
             Ok(None) => return Status::Done,
             Ok(Some(line)) => line,

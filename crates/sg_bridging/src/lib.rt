@@ -3,7 +3,6 @@
 
 mod bridging;
 mod laws;
-mod reading;
 mod switchboard;
 mod telling;
 

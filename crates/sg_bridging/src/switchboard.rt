@@ -29,7 +29,7 @@ use sg_base::{Address, CallId, DropCause, NoMemory, Pad};
 use sg_bridge::{Bridge, BridgeLine, BridgeOutcome};
 use sg_edge::{Noise, Sink};
 use sg_lines::{Line, Signal};
-use sg_table::{End, Handled, Table};
+use sg_table::{End, Handled, Outcomes, Table};
 use sg_trace::{Status, supply};
 use std::alloc::Global;
 use std::marker::Model;
@@ -41,6 +41,8 @@ pub(crate) struct Switchboard {
     bridge: Bridge,
     /// The pad of an earlier datagram, to be used again.
     spare: Option<Pad>,
+    /// The outcomes that the last signal told, whose room is used again.
+    told: Outcomes,
 }
 
 impl Model for Switchboard {
@@ -60,6 +62,7 @@ impl Switchboard {
             table: Table::make(alloc)?,
             bridge: Bridge::make(),
             spare: None,
+            told: Outcomes::new(),
         })
     }
 
@@ -165,11 +168,11 @@ impl Switchboard {
         ensures only { IfErr result (λ status. IsWant status) }
         ensures write { IsCaused Status.Write result (K.faults sink.old) (K.faults sink.new) (K.failed sink.new) }
     {
-        let told = match self.table.step(alloc, signal) {
+        match self.table.take(alloc, signal, &mut self.told) {
             Err(NoMemory) => return Err(Status::NoMemory),
-            Ok(told) => told,
-        };
-        tell_all(alloc, &mut self.bridge, told.as_slice(), sink)
+            Ok(()) => {}
+        }
+        tell_all(alloc, &mut self.bridge, self.told.as_slice(), sink)
     }
 
     /// Handles a datagram of at most 4,352 octets, and writes what it tells. A plain port of a joined call is unused.

@@ -124,6 +124,13 @@ impl Call {
         self.moment
     }
 
+    /// The moment of the signal that the current generation came of, 0 before any.
+    pub fn replaced(&self) -> u64
+        ensures { result ≡ self.now.replaced }
+    {
+        self.replaced
+    }
+
     /// The plain address of the current generation's session on a plain port, for packets of its kind; none where no
     /// such session is there. It doesn't allocate.
     pub fn plain_of(&self, port: u16) -> Option<Address>

@@ -187,3 +187,36 @@ untouched old = record {
   };
   bound = omega arith;
 }
+
+-- ---- what was told, as far as it was passed on
+
+module _ (octets draws out : List ℕ) where
+  cut_of_all : out ≡ output_of empty (captured octets draws).occurrences → IsCutCapture octets draws out
+  cut_of_all told = record {
+    played = octets;
+    ahead = [];
+    split = sym (append-nil octets);
+    near = omega arith;
+    told = (captured octets draws).occurrences;
+    late = [];
+    alike = ap (output_of empty) (sym (append-nil (captured octets draws).occurrences));
+    few = omega arith;
+    begun = ([], told ∙ sym (append-nil (output_of empty (captured octets draws).occurrences)));
+    within = ([], ap (output_of empty) (append-nil (captured octets draws).occurrences) ∙ sym told ∙ sym (append-nil out));
+  }
+
+  -- whatever the end, it is one of a run whose sink failed
+  cut_of : (end : Status) (left : Option (List ℕ)) → CaptureEnds end octets draws out left → IsCutCapture octets draws out
+  cut_of statuses.Done left (inl whole, at) = cut_of_all whole.told
+  cut_of statuses.Done left (inr whole, at) = cut_of_all whole.told
+  cut_of (statuses.Script n fault) left is = cut_of_all is.0.told
+  cut_of (statuses.Capture offset fault) left is = cut_of_all is.0.told
+  cut_of statuses.Noise left is = cut_of_all is.told
+  cut_of statuses.Read left is = cut_of_all is.told
+  cut_of statuses.Write left is = is
+  cut_of statuses.NoMemory left is = is
+  cut_of other left is = absurd is
+
+  pub capture_passed : (end status : Status) (left : Option (List ℕ)) → (status ≡ end) ⊎ (status ≡ statuses.Write) → CaptureEnds end octets draws out left → CaptureEnds status octets draws out left
+  capture_passed end status left (inl same) is = subst (λ s. CaptureEnds s octets draws out left) (sym same) is
+  capture_passed end status left (inr wrote) is = subst (λ s. CaptureEnds s octets draws out left) (sym wrote) (cut_of end left is)

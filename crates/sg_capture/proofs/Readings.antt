@@ -148,7 +148,7 @@ module _ (reads : List ℕ → Capture) (most : ℕ) (form : Form) (consumed : L
     ends_cut status octets out left (inr is) cut = subst (λ s. EndsReading s w waited last reads octets out left) (sym is) cut
 
     -- telling what waits failed
-    cut_at_end : (status : Status) (rest out : List ℕ) (left : Option (List ℕ)) → length rest ≤ 266256 → IsWant status × IsPrefixOf out (text_from (unshared now) ps) × (length ps ≤ 258)
+    pub cut_at_end : (status : Status) (rest out : List ℕ) (left : Option (List ℕ)) → length rest ≤ 266256 → IsWant status × IsPrefixOf out (text_from (unshared now) ps) × (length ps ≤ 258)
         → EndsReading status w waited last reads (consumed ++ rest) (output_of w told ++ out) left
     cut_at_end status rest out left near cut =
         ends_cut status (consumed ++ rest) (output_of w told ++ out) left cut.0

@@ -129,7 +129,7 @@ module _ (old now : ReplayTellings) (taken drawn : List ℕ) (es ps : List Event
   lines_told = sym (whole_so taken drawn going.events (es ++ ps) BehindAll (λ c. refl) going.alike lines_are).told
 
   -- telling what waits failed
-  cut_at_end : (status : Status) (out : List ℕ) → IsWant status × IsPrefixOf out (text_from (state_after (start false) es) ps) × (length ps ≤ 258) → CaptureEnds status octets drawn (text_from (start false) es ++ out) left'
+  pub cut_at_end : (status : Status) (out : List ℕ) → IsWant status × IsPrefixOf out (text_from (state_after (start false) es) ps) × (length ps ≤ 258) → CaptureEnds status octets drawn (text_from (start false) es ++ out) left'
   cut_at_end status out cut = ends_cut status octets drawn (text_from (start false) es ++ out) left' cut.0 (cut_so octets drawn taken (script.waits ++ got) es ps out refl lines_told cut.1 cut.2 near)
 
   all_told : (out : List ℕ) → out ≡ text_from (state_after (start false) es) ps → text_from (start false) (es ++ ps) ≡ text_from (start false) es ++ out

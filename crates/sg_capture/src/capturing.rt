@@ -13,14 +13,14 @@ use sg_base::NoMemory;
 use sg_edge::{Noise, Sink, Source};
 use sg_lanes::Gate;
 use sg_playback::Player;
-use sg_trace::{CaptureReader, Found, ScriptReader, Status};
+use sg_trace::{CaptureReader, Found, ScriptReader, Status, pass_on, passed_on};
 use std::alloc::Global;
 use std::thread::Threads;
 
 /// Plays the script of the source, and then the capture behind its line `capture`: its UDP datagrams at the moments of
 /// their records, the first of which has the script's last moment. What they tell is written to the sink, with a line for
 /// each record whose datagram can't be had. Without that line it is a replay by one worker. Where the source fails, all lines
-/// and records that were read are told first.
+/// and records that were read are told first. What is told is passed on before a read that may wait, and at the end.
 pub fn capture<R: Threads + Sync, S: Source, K: Sink, N: Noise, G: Gate + Sync>(
     rt: &R,
     alloc: Global,
@@ -37,13 +37,16 @@ pub fn capture<R: Threads + Sync, S: Source, K: Sink, N: Noise, G: Gate + Sync>(
     ensures given { S.given source.new ≤ S.given source.old + (2 ^ 30 + 1) }
     ensures read { EndedBy (result ≡ Status.Read) (IsWant result) (S.faults source.old) (S.faults source.new) (S.failed source.new) }
     ensures write { HasFailed (result ≡ Status.Write) (K.faults sink.old) (K.faults sink.new) (K.failed sink.new) }
-    ensures noise { HasFailed (result ≡ Status.Noise) (N.faults noise.old) (N.faults noise.new) (N.failed noise.new) }
+    ensures noise { EndedBy (result ≡ Status.Noise) (IsWant result) (N.faults noise.old) (N.faults noise.new) (N.failed noise.new) }
     ensures complete { ¬ Rose (S.faults source.old) (S.faults source.new) → ¬ Rose (K.faults sink.old) (K.faults sink.new) → ¬ Rose (N.faults noise.old) (N.faults noise.new)
         → IsCompleteCapture result (S.left source.old) (S.left source.new) }
 {
     match Player::make(alloc, 1, false) {
         Err(NoMemory) => Status::NoMemory,
-        Ok(mut player) => play_source(rt, alloc, &mut player, source, sink, noise, gate),
+        Ok(mut player) => {
+            let end = play_source(rt, alloc, &mut player, source, sink, noise, gate);
+            passed_on(end, sink)
+        }
     }
 }
 
@@ -106,10 +109,14 @@ fn play_lines<R: Threads + Sync, S: Source, K: Sink, N: Noise, G: Gate + Sync>(
     ensures noise { IsCaused Status.Noise result (N.faults noise.old) (N.faults noise.new) (N.failed noise.new) }
 {
     'lines: loop {
+        match pass_on(script.holds_line(), sink) {
+            Err(status) => return Err(status),
+            Ok(()) => {}
+        }
         let line = match script.next_or_capture(alloc, source) {
             Err(status) => return Err(player.close(rt, alloc, status, sink, gate)),
             Ok(Found::End) => return Err(player.close(rt, alloc, Status::Done, sink, gate)),
-            Ok(Found::Capture) => return player.settle(rt, alloc, sink, gate),
+            Ok(Found::Capture) => return player.settle_at_once(rt, alloc, sink, gate),
             Ok(Found::Line(line)) => line,
         };
         match player.play(rt, alloc, line, sink, noise, gate) {

@@ -15,7 +15,7 @@ use sg_edge::{Sink, Source};
 use sg_lanes::Gate;
 use sg_pcap::Form;
 use sg_playback::Player;
-use sg_trace::{CaptureReader, Status};
+use sg_trace::{CaptureReader, Status, pass_on};
 use std::alloc::Global;
 use std::thread::Threads;
 
@@ -79,6 +79,10 @@ fn play_records<R: Threads + Sync, S: Source, K: Sink, G: Gate + Sync>(
         number: 1,
     };
     'records: loop {
+        match pass_on(reader.holds_record(form), sink) {
+            Err(status) => return status,
+            Ok(()) => {}
+        }
         let record = match reader.next(source, form) {
             Err(status) => return player.close(rt, alloc, status, sink, gate),
             Ok(None) => return player.close(rt, alloc, Status::Done, sink, gate),

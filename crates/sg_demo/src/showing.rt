@@ -9,10 +9,10 @@ ghost use Rattle.sg_demo.specs.Text as lines;
 
 use crate::demonstration::gated_traffic;
 use crate::text::summary_text;
-use sg_edge::{Sink, write_all};
+use sg_edge::Sink;
 use sg_lanes::Gate;
 use sg_table::Table;
-use sg_trace::Status;
+use sg_trace::{Status, write_at_once};
 use std::alloc::Global;
 use std::thread::Threads;
 
@@ -69,8 +69,5 @@ fn write_numbers<R: Threads + Sync, K: Sink, G: Gate + Sync>(
     let Ok(text) = summary_text(alloc, &summary) else {
         return Err(Status::NoMemory);
     };
-    match write_all(sink, text.as_slice()) {
-        Ok(()) => Ok(()),
-        Err(_) => Err(Status::Write),
-    }
+    write_at_once(text.as_slice(), sink)
 }

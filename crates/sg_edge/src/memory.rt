@@ -1,6 +1,6 @@
 //! A source and a sink in memory, which fail where they are told to.
 
-ghost use Rattle.std.specs.Prelude.{◌≡◌, ◌⊎◌, ◌+◌, ◌<◌, ◌≤◌, ◌≢◌, ℕ, Bool, true, false, List, ◌++◌, Option, Some, None, length, take, drop, IfOk, IsErr, IsTrue, IsNone, IsSome, [], min};
+ghost use Rattle.std.specs.Prelude.{◌≡◌, ◌⊎◌, ◌+◌, ◌<◌, ◌≤◌, ◌≢◌, ℕ, Bool, true, false, List, ◌++◌, Option, Some, None, length, take, drop, IfOk, IsErr, IsOk, OnErr, IsTrue, IsNone, IsSome, [], min};
 ghost use Rattle.std.specs.Result.{is_err};
 ghost use Rattle.std.specs.Option.{option_copied, option_map};
 ghost use Rattle.sg_edge.specs.Told.{AtEnd, HasCause, Rose, Tells, TookIn, Wrote, counted, taken};
@@ -261,5 +261,15 @@ impl Sink for MemSink {
             return Err(Failed);
         }
         Ok(count)
+    }
+
+    /// It holds nothing, and this is no call that can fail.
+    fn flush(&mut self) -> Result<(), Failed>
+        ensures kept { self.new.written ≡ self.old.written }
+        ensures cause { HasCause self.old.calls.faults self.new.calls.faults result }
+        ensures told { OnErr result (Tells (Some self.new.calls.failed) true) }
+        ensures same { IsOk result × (self.new ≡ self.old) }
+    {
+        Ok(())
     }
 }

@@ -2,7 +2,7 @@ ghost use Rattle.std.specs.Prelude.{◌≡◌, IfOk};
 
 use sg_base::{Address, Failed, Octets, PAD_MOST, Pad};
 use sg_edge::{
-    Clock, Link, MemSink, MemSource, Noise, Receipt, RngNoise, Source, StdSink, StdSource,
+    Clock, Link, MemSink, MemSource, Noise, Receipt, RngNoise, Sink, Source, StdSink, StdSource,
     SureSink, SystemRng, UdpLink, WallClock, write_all,
 };
 use std::alloc::Global;
@@ -42,7 +42,10 @@ impl Write for Broken {
     }
 
     fn flush(&mut self) -> io::Result<()> {
-        Ok(())
+        match self.kind {
+            Some(kind) => Err(io::Error::from(kind)),
+            None => Ok(()),
+        }
     }
 }
 
@@ -90,6 +93,30 @@ impl Write for Halting<'_> {
     }
 
     fn flush(&mut self) -> io::Result<()> {
+        self.turn()
+    }
+}
+
+/// A writer that takes one octet, and passes it on once it is asked to.
+#[derive(Drop)]
+struct Holding<'a> {
+    held: Option<u8>,
+    octets: &'a mut Vec<u8>,
+}
+
+impl Write for Holding<'_> {
+    fn write(&mut self, buf: &[u8]) -> io::Result<usize> {
+        if buf.is_empty() || self.held.is_some() {
+            return Ok(0);
+        }
+        self.held = Some(buf[0]);
+        Ok(1)
+    }
+
+    fn flush(&mut self) -> io::Result<()> {
+        if let Some(octet) = self.held.take() {
+            self.octets.push(octet)?;
+        }
         Ok(())
     }
 }
@@ -149,9 +176,18 @@ fn takes_three(rt: &(impl Abort + std::rt::Clock), octets: &mut Vec<u8>) {
     assert!(rt; write_all(&mut sink, b"abc") == Ok(()));
 }
 
+/// A sink of the system has its writer pass on what it holds, once it is asked to.
+fn passes_one_on(rt: &(impl Abort + std::rt::Clock), octets: &mut Vec<u8>) {
+    let held = None;
+    let mut sink = StdSink::make(Holding { held, octets }, rt);
+    assert!(rt; write_all(&mut sink, b"a") == Ok(()));
+    assert!(rt; sink.flush() == Ok(()));
+}
+
 /// A source and a sink of the system fail, whose reader and writer do so.
 fn fail(rt: &(impl Abort + std::rt::Clock), kind: ErrorKind) {
     let kind = Some(kind);
+    assert!(rt; StdSink::make(Broken { kind }, rt).flush() == Err(Failed));
     assert!(rt; one_read(&mut StdSource::make(Broken { kind }, rt)) == None);
     assert!(rt; write_all(&mut StdSink::make(Broken { kind }, rt), b"abc") == Err(Failed));
 }
@@ -162,6 +198,8 @@ fn forms_of_the_system(rt: HostRuntime) {
     let mut octets = Vec::new(rt.alloc());
     takes_three(&rt, &mut octets);
     assert!(rt; octets.as_slice() == b"abc".as_slice());
+    passes_one_on(&rt, &mut octets);
+    assert!(rt; octets.as_slice() == b"abca".as_slice());
 }
 
 #[test]
@@ -175,6 +213,7 @@ fn forms_of_the_system_that_fail(rt: HostRuntime) {
 fn takes_three_in_the_end(rt: &(impl Abort + std::rt::Clock), octets: &mut Vec<u8>) {
     let mut sink = StdSink::make(Halting { calls: 0, octets }, rt);
     assert!(rt; write_all(&mut sink, b"abc") == Ok(()));
+    assert!(rt; sink.flush() == Ok(()));
 }
 
 /// A source of the system gives the last two of three octets, though each call halts twice.

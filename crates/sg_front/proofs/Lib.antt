@@ -3,3 +3,4 @@ pub mod Quiet
 pub mod Runs
 pub mod Sequences
 mod Sharing
+mod Wanting

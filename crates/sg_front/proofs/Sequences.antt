@@ -1,6 +1,6 @@
 -- What events tell, and the state after them, where others come behind them.
 use Rattle.std.proofs.Common.{◌≡◌, List, [], ◌∷◌, ◌++◌, refl, sym, ap, ◌∙◌, append_assoc}
-use Rattle.sg_front.specs.States.{State, came_from, comes, muxing_next, next, state_after, told_from}
+use Rattle.sg_front.specs.States.{State, came_from, muxing_next, next, state_after, told_from}
 use Rattle.sg_gateway.specs.Runs.{world_after}
 use Rattle.sg_gateway.specs.Step.{Event}
 use Rattle.sg_outcome.specs.declared.outcomes.Outcome.{Outcome}

@@ -1,6 +1,6 @@
 -- What a table gives, as a front tells it whose legs may share their ports.
-use Rattle.std.proofs.Common.{◌≡◌, ℕ, false, cond, List, [], ◌∷◌, ◌++◌, map, take, drop, length, Option, Some, None, Result, Ok, Err, refl, sym, ap, ◌∙◌, subst}
-use Rattle.std.specs.Prelude.{IfOk, is_some, unwrap_or}
+use Rattle.std.proofs.Common.{◌≡◌, ℕ, false, cond, List, [], ◌∷◌, ◌++◌, map, take, drop, length, Option, Some, None, Result, Ok, Err, refl, sym, ap, ◌∙◌, subst, inl, inr}
+use Rattle.std.specs.Prelude.{◌⊎◌, OnOk, OnErr, is_some, unwrap_or}
 use Rattle.std.proofs.Math.Seq.{take-append_seam}
 use Rattle.std.proofs.lemmas.List.{append-nil}
 use Rattle.sg_base.specs.declared.addresses.Address.{Address}
@@ -9,7 +9,7 @@ use Rattle.sg_call.specs.declared.handled.End.TheVariants as ends
 use Rattle.sg_call.specs.declared.handled.Handled.{Handled}
 use Rattle.sg_front.proofs.Runs.{unshared_after, unshared_told}
 use Rattle.sg_front.specs.Parts.{departed, shared, sharing}
-use Rattle.sg_front.specs.States.{FrontStandsFor, FrontValue, IsBatched, IsHandled, IsTold, State, state_after, unshared}
+use Rattle.sg_front.specs.States.{FrontStandsFor, FrontValue, IsBatched, IsHandled, IsTakenUntold, IsTold, IsUntold, State, state_after, unshared}
 use Rattle.sg_gateway.specs.Datagrams.{Given, Drops, Puts, arrived_at, arrived_in, given_to}
 use Rattle.sg_gateway.specs.Events.{events_of_signal, outcomes_from, signal_lacks_noise, signal_of}
 use Rattle.sg_gateway.specs.Octets.{Octets, as_octets}
@@ -60,9 +60,41 @@ module _ (P : FrontValue → State → Type 0) (front : FrontValue) (table new :
   pub by_same : (calls : List (Option Known)) → mux ≡ Some calls → ((w : World) → TableStandsFor table w → P (sharing new calls) (shared w calls)) → P (front_of new mux) s
   by_same calls some holds = subst (λ mux. P (front_of new mux) s) (sym some) (by_shared calls calls some holds)
 
-pub if_ok : {X E : Type 0} (P Q : X → Type 0) (r : Result X E) → ((x : X) → P x → Q x) → IfOk r P → IfOk r Q
-if_ok P Q (Ok x) f p = f x p
-if_ok P Q (Err e) f p = tt
+-- a fact of a result, by another
+pub on_ok : {X E : Type 0} (P Q : Type 0) (r : Result X E) → (P → Q) → OnOk r P → OnOk r Q
+on_ok P Q (Ok x) f p = f p
+on_ok P Q (Err e) f p = tt
+
+pub on_err : {X E : Type 0} (P Q : Type 0) (r : Result X E) → (P → Q) → OnErr r P → OnErr r Q
+on_err P Q (Ok x) f p = tt
+on_err P Q (Err e) f p = f p
+
+pub on_both_err : {X E : Type 0} (P Q R : Type 0) (r : Result X E) → (P → Q → R) → OnErr r P → OnErr r Q → OnErr r R
+on_both_err P Q R (Ok x) f p q = tt
+on_both_err P Q R (Err e) f p q = f p q
+
+-- ---- where memory was wanting
+
+module _ (front : FrontValue) (table new : TableValue) (mux : Option (List (Option Known))) (is : front_of table mux ≡ front) where
+  -- the world of the front is the table's
+  pub its_world : (s : State) → FrontStandsFor front s → TableStandsFor table s.world
+  its_world s stands = subst (λ (f : FrontValue). TableStandsFor f.table s.world) (sym is) stands.world
+
+  pub as_it_was : new ≡ table → front_of new mux ≡ front
+  as_it_was same = ap (λ t. front_of t mux) same ∙ is
+
+  pub kept_or_untold : (calls now : List (Option Known)) (es : List Event) → mux ≡ Some calls → now ≡ calls → (new ≡ table) ⊎ ((w : World) → TableStandsFor table w → IsUntold new w es)
+      → (front_of new (Some now) ≡ front) ⊎ IsTakenUntold front (front_of new (Some now)) es
+  kept_or_untold calls now es some known either =
+      let was : sharing table calls ≡ front = ap (front_of table) (sym some) ∙ is in
+      elim either [
+        | inl same ↦ inl ((λ i. sharing (same i) (known i)) ∙ was)
+        | inr untold ↦ inr (record {
+          muxes = ap (λ (f : FrontValue). f.muxes) (sym was);
+          known = ap (sharing new) known ∙ ap (λ (f : FrontValue). record f { table = new }) was;
+          untold = λ s stands. untold s.world (its_world s stands);
+        })
+      ]
 
 -- ---- where no leg may share its ports
 

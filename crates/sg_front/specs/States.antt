@@ -1,11 +1,14 @@
 -- The gateway whose legs may share their ports, event by event; where they may not, it is the world of its calls alone.
 use Rattle.std.specs.Prelude.{◌≡◌, ℕ, Bool, true, false, List, [], ◌∷◌, ◌++◌, map, Option}
+use Rattle.std.specs.List.{list_any}
 use Rattle.sg_base.specs.declared.addresses.Address.{Address}
 use Rattle.sg_call.specs.declared.handled.Handled.{Handled}
+use Rattle.sg_gateway.specs.Events.{outcomes_from}
 use Rattle.sg_gateway.specs.Octets.{as_octets}
+use Rattle.sg_gateway.specs.Runs.{world_after}
 use Rattle.sg_gateway.specs.Step.{Event, Datagram, step}
 use Rattle.sg_gateway.specs.World.{World, empty}
-use Rattle.sg_mux.specs.Muxed.{Muxing, nobody}
+use Rattle.sg_mux.specs.Muxed.{Muxing, is_text, nobody}
 use Rattle.sg_mux.specs.Via.{muxing_at, via}
 use Rattle.sg_mux.specs.declared.known.Known.{Known}
 use Rattle.sg_outcome.specs.declared.outcomes.Outcome.{Outcome}
@@ -82,6 +85,17 @@ pub record FrontStandsFor (front : FrontValue) (s : State) : Type 0 where
 -- what is told of events, and the front stands for the state after them
 abbrev pub IsTold : List Outcome → FrontValue → State → List Event → Type 0
 IsTold told front s events = (told ≡ told_from s events) × FrontStandsFor front (state_after s events)
+
+-- the table stands for the world after events, of which a text would be told
+abbrev pub IsUntold : TableValue → World → List Event → Type 0
+IsUntold table w events = TableStandsFor table (world_after w events) × (list_any is_text (outcomes_from w events) ≡ true)
+
+-- Memory was wanting for a text's line: the table has taken the events, and what is known of legs that may share their
+-- ports stays.
+pub record IsTakenUntold (old new : FrontValue) (events : List Event) : Type 0 where
+  pub muxes : old.muxes ≡ true
+  pub known : new ≡ record old { table = new.table }
+  pub untold : (s : State) → FrontStandsFor old s → IsUntold new.table s.world events
 
 -- It tells what the datagram tells at the port at which it came, and the front stands for the state after it.
 pub record IsHandled (s : State) (port : ℕ) (from : Address) (octets : List ℕ) (handled : Handled) (front : FrontValue) : Type 0 where

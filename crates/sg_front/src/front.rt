@@ -1,8 +1,9 @@
 //! The table, and before it the legs that share their ports.
 
-ghost use Rattle.std.specs.Prelude.{◌≡◌, ◌≢◌, ◌≤◌, ◌<◌, [], All, IfOk, IsSome, true, false, length};
-ghost use Rattle.sg_front.specs.States.{FrontStandsFor, IsBatched, IsHandled, IsTold, State, start, told_from};
-ghost use Rattle.sg_gateway.specs.Events.{events_of_signal, signal_lacks_noise};
+ghost use Rattle.std.specs.Prelude.{◌≡◌, ◌≢◌, ◌⊎◌, ◌≤◌, ◌<◌, [], All, IfOk, OnOk, OnErr, IsSome, true, false, length};
+ghost use Rattle.sg_front.specs.States.{FrontStandsFor, IsBatched, IsHandled, IsTakenUntold, IsTold, State, start, told_from};
+ghost use Rattle.sg_gateway.specs.Early.{MayWant};
+ghost use Rattle.sg_gateway.specs.Events.{events_of_signal, signal_lacks_noise, signal_of};
 ghost use Rattle.sg_lines.specs.declared.lines.Signal.TheVariants as signals;
 ghost use Rattle.sg_table.specs.Telling.{IsTimely};
 
@@ -51,16 +52,27 @@ impl Front {
         self.table.moment()
     }
 
-    /// Takes a signal, whose noise is there, and tells its outcomes. `NoMemory` ends a run: nothing is told, but the
-    /// table may have taken the signal. A tick is at most 2,085,978,495,999 ms since 1970.
-    pub fn step(&mut self, alloc: Global, signal: &Signal) -> Result<Outcomes, NoMemory>
+    /// Takes a signal, whose noise is there, and tells its outcomes in a list that the caller keeps, in the place of
+    /// what it held. `NoMemory` comes to no tick, no rejection and no bye, nor where the calls and the pre-shared keys
+    /// that are there tell the refusal. Nothing is told then, and all is what it was; but where legs may share their
+    /// ports and a text would be told, the table may have taken the signal, which ends a run. A tick is at most
+    /// 2,085,978,495,999 ms since 1970.
+    pub fn take(
+        &mut self,
+        alloc: Global,
+        signal: &Signal,
+        told: &mut Outcomes,
+    ) -> Result<(), NoMemory>
         requires noise { signal_lacks_noise signal.now ≡ false }
         requires timely { IsTimely signal.now }
-        ensures { IfOk result (λ told. (s : State) → FrontStandsFor self.old s → IsTold told.items self.new s (events_of_signal signal.now)) }
+        ensures told { OnOk result ((s : State) → FrontStandsFor self.old s → IsTold told.new.items self.new s (events_of_signal signal.now)) }
+        ensures none { OnErr result (told.new.items ≡ []) }
+        ensures same { OnErr result ((self.new ≡ self.old) ⊎ IsTakenUntold self.old self.new (events_of_signal signal.now)) }
+        ensures needs { OnErr result ((s : State) → FrontStandsFor self.old s → MayWant s.world (signal_of signal.now)) }
     {
         match &mut self.mux {
-            None => self.table.step(alloc, signal),
-            Some(mux) => shared::step(&mut self.table, mux, alloc, signal),
+            None => self.table.take(alloc, signal, told),
+            Some(mux) => shared::step(&mut self.table, mux, alloc, signal, told),
         }
     }
 

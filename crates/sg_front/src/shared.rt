@@ -1,9 +1,10 @@
 //! A table whose legs share their ports: what comes is taken at other ports there, and what leaves goes by others.
 
-ghost use Rattle.std.specs.Prelude.{◌≡◌, ◌≤◌, ◌<◌, ◌++◌, ℕ, All, IfOk, IsSome, drop, false, length, map, replicate};
+ghost use Rattle.std.specs.Prelude.{◌≡◌, ◌⊎◌, ◌≤◌, ◌<◌, ◌++◌, ℕ, [], All, OnOk, OnErr, IsSome, drop, false, length, map, replicate};
 ghost use Rattle.sg_front.specs.Parts.{all_given_back, departed, given_back, shared, sharing, taken};
-ghost use Rattle.sg_front.specs.States.{IsBatched, IsHandled, IsTold};
-ghost use Rattle.sg_gateway.specs.Events.{events_of_signal, signal_lacks_noise};
+ghost use Rattle.sg_front.specs.States.{IsBatched, IsHandled, IsTold, IsUntold};
+ghost use Rattle.sg_gateway.specs.Early.{MayWant};
+ghost use Rattle.sg_gateway.specs.Events.{events_of_signal, signal_lacks_noise, signal_of};
 ghost use Rattle.sg_gateway.specs.Octets.{as_octets};
 ghost use Rattle.sg_gateway.specs.World.{World};
 ghost use Rattle.sg_mux.specs.Legs.{arrived_port};
@@ -18,20 +19,34 @@ use sg_table::{Arrival, End, Handled, Outcomes, Table};
 use std::alloc::Global;
 use std::thread::Threads;
 
-/// Takes a signal, and tells its outcomes with the lines of shared ports.
+/// Takes a signal, and tells its outcomes with the lines of shared ports, in the place of what the list held. Out of
+/// memory, nothing is told, and the table has taken the signal or is what it was.
 pub(crate) fn step(
     table: &mut Table,
     mux: &mut Mux,
     alloc: Global,
     signal: &Signal,
-) -> Result<Outcomes, NoMemory>
+    told: &mut Outcomes,
+) -> Result<(), NoMemory>
     requires noise { signal_lacks_noise signal.now ≡ false }
     requires timely { IsTimely signal.now }
-    ensures { IfOk result (λ told. (w : World) → TableStandsFor table.old w → IsTold told.items (sharing table.new mux.new) (shared w mux.old) (events_of_signal signal.now)) }
+    ensures told { OnOk result ((w : World) → TableStandsFor table.old w → IsTold told.new.items (sharing table.new mux.new) (shared w mux.old) (events_of_signal signal.now)) }
+    ensures none { OnErr result (told.new.items ≡ []) }
+    ensures known { OnErr result (mux.new ≡ mux.old) }
+    ensures same { OnErr result ((table.new ≡ table.old) ⊎ ((w : World) → TableStandsFor table.old w → IsUntold table.new w (events_of_signal signal.now))) }
+    ensures needs { OnErr result ((w : World) → TableStandsFor table.old w → MayWant w (signal_of signal.now)) }
 {
-    let mut told = table.step(alloc, signal)?;
-    mux.signal(alloc, signal, told.as_mut_slice())?;
-    Ok(told)
+    match table.take(alloc, signal, told) {
+        Err(NoMemory) => return Err(NoMemory),
+        Ok(()) => {}
+    }
+    match mux.signal(alloc, signal, told.as_mut_slice()) {
+        Err(NoMemory) => {
+            told.clear();
+            Err(NoMemory)
+        }
+        Ok(()) => Ok(()),
+    }
 }
 
 /// Handles a datagram that comes to a port.

@@ -19,7 +19,7 @@ use Rattle.sg_gateway.specs.Moments.{MomentComesOnce}
 use Rattle.sg_gateway.specs.Octets.{as_octets}
 use Rattle.sg_gateway.specs.Runs.{outcomes, world_after}
 use Rattle.sg_gateway.specs.Signals as signals
-use Rattle.sg_gateway.specs.Signals.{answer_to, answered, in_new, in_old, left, offered_to, rejected, rejected_to, ticked, with_pair}
+use Rattle.sg_gateway.specs.Signals.{answer_to, answered, in_new, in_old, left, offered_to, rejected, rejected_to, ticked}
 use Rattle.sg_gateway.specs.Step.{Event, Signalled, Datagram, step}
 use Rattle.sg_gateway.specs.World.{Call, World, call_of, empty, is_full}
 use Rattle.sg_lines.specs.LineOf.{line_of, version_after}
@@ -28,13 +28,15 @@ use Rattle.sg_lines.specs.ScriptLines.{IsWhole, lines_of, onto}
 use Rattle.sg_lines.specs.declared.lines.Line.{Line}
 use Rattle.sg_lines.specs.declared.lines.Line.TheVariants as lines
 use Rattle.sg_lines.specs.declared.lines.Signal as scripts
-use Rattle.sg_lines.specs.declared.lines.Signal.TheVariants.{Tick, Psk, Manual, OfferSecure, OfferSdes, OfferMikey, Answer, Reject, Bye}
-use Rattle.sg_migrate.specs.Migrated.{IsOfVersionOne, migrated_behind, migrated, migration_from, moment_after, of_version_one}
+use Rattle.sg_lines.specs.declared.lines.Signal.TheVariants.{Tick, OfferSecure, OfferSdes, OfferMikey, Answer}
+use Rattle.sg_migrate.specs.Migrated.{IsOfVersionOne, migrated, moment_after, of_migration, of_version_one, written_of}
 use Rattle.sg_outcome.specs.declared.outcomes.Outcome.{Outcome}
 use Rattle.sg_psk.specs.Pairs.{has_pair}
 use Rattle.sg_session.proofs.Lists.{both}
-use Rattle.sg_trace.proofs.Frames.{at_is, too_far}
+use Rattle.sg_migrate.specs.declared.lines.LineOfVersionOne.{LineOfVersionOne}
+use Rattle.sg_trace.proofs.Frames.{too_far}
 use Rattle.sg_trace.proofs.Traces.{outcomes_from-append, reads_on, world_after-append}
+use Rattle.sg_trace.specs.Course.{behind_line, course_from, read_at}
 use Rattle.sg_trace.specs.Output.{IsPrefixOf}
 use Rattle.sg_trace.specs.Trace.{after_line as said_line, Outside, Replays, Trace, drawing, handled_as, line_at, replayed, said, trace_from}
 
@@ -100,27 +102,16 @@ module _ (w : World) where
   After es = (world_after w es).moment ≡ w.moment
 
   line_moves : (signal : scripts.Signal) → (world_after w (events_of_signal signal)).moment ≡ moment_after w.moment (lines.Signal signal)
-  line_moves (Tick now) = signal_moves (signal_of (Tick now))
-  line_moves (Psk own peer key) = signal_moves (signal_of (Psk own peer key))
-  line_moves (Manual call secure plain roc window from_peer to_peer) = signal_moves (signal_of (Manual call secure plain roc window from_peer to_peer))
   line_moves (OfferSecure call noise text) = both After (is_none noise) _ _ refl (signal_moves (signal_of (OfferSecure call noise text)))
   line_moves (OfferSdes call noise text) = both After (is_none noise) _ _ refl (signal_moves (signal_of (OfferSdes call noise text)))
   line_moves (OfferMikey call peer noise text) = both After (is_none noise) _ _ refl (signal_moves (signal_of (OfferMikey call peer noise text)))
   line_moves (Answer call noise text) = both After (is_none noise) _ _ refl (signal_moves (signal_of (Answer call noise text)))
-  line_moves (Reject call) = signal_moves (signal_of (Reject call))
-  line_moves (Bye call) = signal_moves (signal_of (Bye call))
+  line_moves other = signal_moves (signal_of other)
 
 -- noise changes no moment
 noise_leaves : (moment : ℕ) (drawn : Noise304) (signal : scripts.Signal) → moment_after moment (lines.Signal (signal_with_noise drawn signal)) ≡ moment_after moment (lines.Signal signal)
 noise_leaves moment drawn (Tick now) = refl
-noise_leaves moment drawn (Psk own peer key) = refl
-noise_leaves moment drawn (Manual call secure plain roc window from_peer to_peer) = refl
-noise_leaves moment drawn (OfferSecure call noise text) = refl
-noise_leaves moment drawn (OfferSdes call noise text) = refl
-noise_leaves moment drawn (OfferMikey call peer noise text) = refl
-noise_leaves moment drawn (Answer call noise text) = refl
-noise_leaves moment drawn (Reject call) = refl
-noise_leaves moment drawn (Bye call) = refl
+noise_leaves moment drawn other = refl
 
 -- ---- what events tell
 
@@ -139,6 +130,28 @@ tick_told w now es once is =
     subst (λ (n : ℕ). outcomes_from w (Signalled (signals.Tick n) ∷ es) ≡ outcomes_from w es) is
     (ap (λ h. h.outcomes ++ outcomes_from h.world es) once)
 
+-- ---- what is written
+
+-- of the lines from the n-th on
+abbrev pub written_from : ℕ → ℕ → ℕ → List (List ℕ) → List ℕ
+written_from n at moment ls = written_of moment (course_from of_migration 1 n at ls []).deeds
+
+-- of a line that says so, and of those behind it
+abbrev pub written_by : ℕ → ℕ → ℕ → List ℕ → List (List ℕ) → Result Line ScriptFault → List ℕ
+written_by n at moment l ls r = written_of moment (behind_line of_migration 1 n (of_version_one r) (λ v. course_from of_migration v (n + 1) (at + length l) ls) []).deeds
+
+-- how a line is read
+pub one_at : (n at : ℕ) (l : List ℕ) → read_at of_migration 1 n at l ≡ of_version_one (line_at 1 n at l)
+one_at n at l = go (too_far at l)
+  where
+    go : (b : Bool) → cond b (Err Length) (of_version_one (line_of 1 n l)) ≡ of_version_one (cond b (Err Length) (line_of 1 n l))
+    go true = refl
+    go false = refl
+
+pub written_is : (n at moment : ℕ) (l : List ℕ) (ls : List (List ℕ)) → written_from n at moment (l ∷ ls) ≡ written_by n at moment l ls (line_at 1 n at l)
+written_is n at moment l ls =
+    ap (λ (r : Result LineOfVersionOne ScriptFault). written_of moment (behind_line of_migration 1 n r (λ v. course_from of_migration v (n + 1) (at + length l) ls) []).deeds) (one_at n at l)
+
 -- ---- lines
 
 -- what the grammar says of lines that are read and printed
@@ -151,7 +164,7 @@ err_ok : {A : Type 0} (f : ScriptFault) (x : A) → Err f ≡ Ok x → ⊥
 err_ok f x is = cc
 
 at_line : (version n at : ℕ) (octets : List ℕ) (l : Line) → line_at version n at octets ≡ Ok l → line_of version n octets ≡ Ok l
-at_line version n at octets l is = go (too_far at octets) (sym (at_is version n at octets) ∙ is)
+at_line version n at octets l is = go (too_far at octets) is
   where
     go : (b : Bool) → cond b (Err Length) (line_of version n octets) ≡ Ok l → line_of version n octets ≡ Ok l
     go true is = absurd (err_ok _ _ is)
@@ -162,14 +175,7 @@ max_below a b c p q = omega (arith, p, q)
 
 pub moment_below : (moment : ℕ) (signal : scripts.Signal) → moment ≤ 2085978495999 → FitsSignal signal → moment_after moment (lines.Signal signal) ≤ 2085978495999
 moment_below moment (Tick now) most fits = max_below moment now 2085978495999 most fits
-moment_below moment (Psk own peer key) most fits = most
-moment_below moment (Manual call secure plain roc window from_peer to_peer) most fits = most
-moment_below moment (OfferSecure call noise text) most fits = most
-moment_below moment (OfferSdes call noise text) most fits = most
-moment_below moment (OfferMikey call peer noise text) most fits = most
-moment_below moment (Answer call noise text) most fits = most
-moment_below moment (Reject call) most fits = most
-moment_below moment (Bye call) most fits = most
+moment_below moment other most fits = most
 
 some_is : (x y : Supplied) → Some x ≡ Some y → x ≡ y
 some_is x y is = cc
@@ -220,7 +226,7 @@ module _ (grammar : Grammar) where
   -- the line of a printed line
   pub printed_at : (version n at : ℕ) (l : Line) → FitsLine version n l → at + length (line_text l) ≤ 2 ^ 30 → line_at version n at (line_text l) ≡ Ok l
   printed_at version n at l fits within =
-      at_is version n at (line_text l) ∙ cond-false _ _ _ (le-ltb (2 ^ 30) (at + length (line_text l)) within) ∙ grammar.again version n l fits
+      cond-false _ _ _ (le-ltb (2 ^ 30) (at + length (line_text l)) within) ∙ grammar.again version n l fits
 
   pub reads_printed : (version n at : ℕ) (l : Line) (rest : List ℕ) (top : ℕ) (o : Outside) → FitsLine version n l → at + length (line_text l) ≤ 2 ^ 30
       → trace_from Replays version n at (lines_of (line_text l ++ rest)) top o
@@ -238,7 +244,7 @@ module _ (grammar : Grammar) where
     module _ (l : List ℕ) (ls : List (List ℕ)) (n at at' moment : ℕ) (es : List Event) (top : ℕ) (o : Outside) (later : 1 < n) (is : (world_after empty es).moment ≡ moment) (most : moment ≤ 2085978495999) where
       -- what is written of the later lines
       abbrev rest : ℕ → List ℕ
-      rest m = (migration_from (n + 1) (at + length l) m ls).text
+      rest m = written_from (n + 1) (at + length l) m ls
 
       abbrev w : World
       w = world_after empty es
@@ -291,8 +297,8 @@ module _ (grammar : Grammar) where
           ∙ of_supplied again signal fits.1 (at' + length (line_text (lines.Signal signal))) (omega (arith, within, size)) (supplied o.draws (lines.Signal signal)) refl
 
       by_line : (r : Result Line ScriptFault) → line_at 1 n at l ≡ r → Again
-          → at' + length (migrated_behind n moment (of_version_one r) (λ m. migration_from (n + 1) (at + length l) m ls)).text ≤ 2 ^ 30
-          → Alike w (trace_from Replays 2 n at' (lines_of (migrated_behind n moment (of_version_one r) (λ m. migration_from (n + 1) (at + length l) m ls)).text) top o)
+          → at' + length (written_by n at moment l ls r) ≤ 2 ^ 30
+          → Alike w (trace_from Replays 2 n at' (lines_of (written_by n at moment l ls r)) top o)
           (said_line Replays 1 n r (λ v. trace_from Replays v (n + 1) (at + length l) ls) top o)
       by_line (Err fault) e again within = refl
       by_line (Ok lines.Header) e again within = absurd (let first : n ≡ 1 = fits_at n at l lines.Header e in omega (arith, first, later))
@@ -303,36 +309,36 @@ module _ (grammar : Grammar) where
 
     -- the lines behind the header
     alike : (ls : List (List ℕ)) (n at at' moment : ℕ) (es : List Event) (top : ℕ) (o : Outside) → 1 < n → (world_after empty es).moment ≡ moment → moment ≤ 2085978495999
-        → at' + length (migration_from n at moment ls).text ≤ 2 ^ 30
-        → Alike (world_after empty es) (trace_from Replays 2 n at' (lines_of (migration_from n at moment ls).text) top o) (trace_from Replays 1 n at ls top o)
+        → at' + length (written_from n at moment ls) ≤ 2 ^ 30
+        → Alike (world_after empty es) (trace_from Replays 2 n at' (lines_of (written_from n at moment ls)) top o) (trace_from Replays 1 n at ls top o)
     alike [] n at at' moment es top o later is most within = refl
     alike (l ∷ ls) n at at' moment es top o later is most within =
-        by_line l ls n at at' moment es top o later is most (line_at 1 n at l) refl
-        (λ at' m fs top o. alike ls (n + 1) (at + length l) at' m fs top o (omega arith)) within
+        subst (λ (t : List ℕ). at' + length t ≤ 2 ^ 30 → Alike (world_after empty es) (trace_from Replays 2 n at' (lines_of t) top o) (trace_from Replays 1 n at (l ∷ ls) top o)) (sym (written_is n at moment l ls))
+        (by_line l ls n at at' moment es top o later is most (line_at 1 n at l) refl (λ at' m fs top o. alike ls (n + 1) (at + length l) at' m fs top o (omega arith))) within
 
     -- the header, and the lines behind it
     module _ (octets draws : List ℕ) (one : IsOfVersionOne octets) where
       first_line : (l : List ℕ) (ls : List (List ℕ)) → lines_of octets ≡ l ∷ ls → (r : Result Line ScriptFault) → line_at 1 1 0 l ≡ r
-          → length (migrated_behind 1 0 (of_version_one r) (λ m. migration_from 2 (0 + length l) m ls)).text ≤ 2 ^ 30
-          → Alike empty (trace_from Replays 1 1 0 (lines_of (migrated_behind 1 0 (of_version_one r) (λ m. migration_from 2 (0 + length l) m ls)).text) 0 (drawing draws))
+          → length (written_by 1 0 0 l ls r) ≤ 2 ^ 30
+          → Alike empty (trace_from Replays 1 1 0 (lines_of (written_by 1 0 0 l ls r)) 0 (drawing draws))
           (said_line Replays 1 1 r (λ v. trace_from Replays v 2 (0 + length l) ls) 0 (drawing draws))
       first_line l ls split (Err fault) e within = refl
       first_line l ls split (Ok lines.HeaderTwo) e within =
           let header = (grammar.takes 1 1 l lines.HeaderTwo (at_line 1 1 0 l lines.HeaderTwo e)).0 in
           absurd (one (subst (λ (x : List ℕ). IsPrefixOf x octets) header (first_prefix octets l ls split)))
       first_line l ls split (Ok lines.Header) e within =
-          let rest = (migration_from 2 (0 + length l) 0 ls).text in
+          let rest = written_from 2 (0 + length l) 0 ls in
           let size = length-append (line_text lines.HeaderTwo) rest in
           ap (λ (t : Trace). outcomes_from empty t.events) (reads_printed 1 1 0 lines.HeaderTwo rest 0 (drawing draws) refl (omega (arith, within, size)))
           ∙ alike ls 2 (0 + length l) (0 + length (line_text lines.HeaderTwo)) 0 [] 0 (drawing draws) (omega arith) refl (omega arith) (omega (arith, within, size))
-      first_line l ls split (Ok (lines.Datagram port from octets)) e within = absurd ((fits_at 1 0 l (lines.Datagram port from octets) e).0 refl)
-      first_line l ls split (Ok (lines.DatagramAt now port from octets)) e within = absurd ((fits_at 1 0 l (lines.DatagramAt now port from octets) e).0 refl)
-      first_line l ls split (Ok (lines.Signal signal)) e within = absurd ((fits_at 1 0 l (lines.Signal signal) e).0 refl)
+      first_line l ls split (Ok other) e within = absurd ((fits_at 1 0 l other e).0 refl)
 
-      all_lines : (ls : List (List ℕ)) → lines_of octets ≡ ls → length (migration_from 1 0 0 ls).text ≤ 2 ^ 30
-          → Alike empty (trace_from Replays 1 1 0 (lines_of (migration_from 1 0 0 ls).text) 0 (drawing draws)) (trace_from Replays 1 1 0 ls 0 (drawing draws))
+      all_lines : (ls : List (List ℕ)) → lines_of octets ≡ ls → length (written_from 1 0 0 ls) ≤ 2 ^ 30
+          → Alike empty (trace_from Replays 1 1 0 (lines_of (written_from 1 0 0 ls)) 0 (drawing draws)) (trace_from Replays 1 1 0 ls 0 (drawing draws))
       all_lines [] split within = refl
-      all_lines (l ∷ ls) split within = first_line l ls split (line_at 1 1 0 l) refl within
+      all_lines (l ∷ ls) split within =
+          subst (λ (t : List ℕ). length t ≤ 2 ^ 30 → Alike empty (trace_from Replays 1 1 0 (lines_of t) 0 (drawing draws)) (trace_from Replays 1 1 0 (l ∷ ls) 0 (drawing draws))) (sym (written_is 1 0 0 l ls))
+          (first_line l ls split (line_at 1 1 0 l) refl) within
 
       pub played_alike : length (migrated octets) ≤ 2 ^ 30 → outcomes (replayed (migrated octets) draws).events ≡ outcomes (replayed octets draws).events
       played_alike within = all_lines (lines_of octets) refl within

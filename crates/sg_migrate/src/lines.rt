@@ -1,19 +1,47 @@
 //! One line of a script, as it is migrated.
 
-ghost use Rattle.std.specs.Prelude.{◌≡◌, Ok};
-ghost use Rattle.sg_migrate.specs.Migrated.{migrated_line, moment_after, of_version_one};
+ghost use Rattle.std.specs.Prelude.{◌≡◌};
+ghost use Rattle.sg_migrate.specs.Migrated.{migrated_line, moment_after};
 
 use sg_base::ScriptFault;
-use sg_lines::{Line, Signal};
+use sg_lines::{Line, ReadLineFault, Signal, read_line};
+use sg_trace::ScriptLine;
+use std::alloc::Global;
 
-/// The line, where a script of version 1 may have it: the other header is `Version`.
-pub(crate) fn of_version_one(line: Line) -> Result<Line, ScriptFault>
-    ensures { result ≡ of_version_one (Ok line) }
-{
-    match line {
-        Line::HeaderTwo => Err(ScriptFault::Version),
-        other => Ok(other),
+/// A line that a script of version 1 may have: any but the other header, which is `Version`.
+#[derive(Drop)]
+pub struct LineOfVersionOne {
+    pub(crate) line: Line,
+}
+
+impl ScriptLine for LineOfVersionOne {
+    ghost use Rattle.sg_lines.specs.LineText.{FitsLine};
+    ghost use Rattle.sg_migrate.specs.Migrated.{old_line_of};
+
+    ghost spelled = { old_line_of };
+
+    ghost fits = { λ version number l. FitsLine version number l.line };
+
+    ghost followed = { λ version l. 1 };
+
+    fn read(
+        alloc: Global,
+        version: u8,
+        number: u64,
+        octets: &[u8],
+    ) -> Result<LineOfVersionOne, ReadLineFault> {
+        match read_line(alloc, version, number, octets) {
+            Err(fault) => Err(fault),
+            Ok(Line::HeaderTwo) => Err(ReadLineFault::Script(ScriptFault::Version)),
+            Ok(line) => Ok(LineOfVersionOne { line }),
+        }
     }
+
+    fn version_after(&self, _version: u8) -> u8 {
+        1
+    }
+
+    fn are_framed() {}
 }
 
 /// The greatest moment of the ticks as far as behind the line, by that before it.

@@ -11,7 +11,7 @@ use Rattle.sg_lines.specs.ScriptLines.{lines_of}
 use Rattle.sg_lines.specs.declared.lines.Line.{Line}
 use Rattle.sg_playback.specs.Playing.{text_from}
 use Rattle.sg_playback.specs.Replay.{IsCutReplay, IsReplayOfLines, IsWholeReplay, ReplayEnds, given_by, of_replay, output_in}
-use Rattle.sg_trace.specs.Course.{Course, behind_given, behind_line, course, course_from, read_at}
+use Rattle.sg_trace.specs.Course.{Course, behind_given, behind_line, course, course_from}
 use Rattle.sg_trace.specs.Loop.{AreTold, IsAll, IsCut, LoopEnds}
 use Rattle.sg_trace.specs.Output.{IsPrefixOf, text}
 use Rattle.sg_trace.specs.Trace.{AtEnd as BehindAll, AtFault, Later, Replays, Stop, Trace, after_line, drawing, handled_as, line_at, replayed, trace_from, with_events}
@@ -22,10 +22,6 @@ use Rattle.sg_trace.specs.declared.status.Status.TheVariants.{Done, Script, Read
 
 abbrev as_trace : Course Event → Trace
 as_trace c = record { events = c.deeds; stop = c.stop; left = drawing c.left }
-
-at_so : (version n at : ℕ) (line : List ℕ) → read_at of_replay version n at line ≡ line_at version n at line
-unfolding line_at
-at_so version n at line = refl
 
 given_so : (s : Option Supplied) (later : List ℕ → Course Event) (later' : Later) (draws : List ℕ) → ((rest : List ℕ) → as_trace (later rest) ≡ later' 0 (drawing rest))
     → as_trace (behind_given (given_by s) draws later) ≡ handled_as s later' 0 (drawing draws)
@@ -40,8 +36,7 @@ behind_so version n (Ok l) later later' draws same = given_so (supplied draws l)
 from_so : (version n at : ℕ) (ls : List (List ℕ)) (draws : List ℕ) → as_trace (course_from of_replay version n at ls draws) ≡ trace_from Replays version n at ls 0 (drawing draws)
 from_so version n at [] draws = refl
 from_so version n at (l ∷ ls) draws =
-    ap (λ (r : Result Line ScriptFault). as_trace (behind_line of_replay version n r (λ v. course_from of_replay v (n + 1) (at + length l) ls) draws)) (at_so version n at l)
-    ∙ behind_so version n (line_at version n at l) _ (λ v. trace_from Replays v (n + 1) (at + length l) ls) draws (λ v rest. from_so v (n + 1) (at + length l) ls rest)
+    behind_so version n (line_at version n at l) (λ v. course_from of_replay v (n + 1) (at + length l) ls) (λ v. trace_from Replays v (n + 1) (at + length l) ls) draws (λ v rest. from_so v (n + 1) (at + length l) ls rest)
 
 pub replay_so : (octets draws : List ℕ) → as_trace (course of_replay octets draws) ≡ replayed octets draws
 replay_so octets draws = from_so 1 1 0 (lines_of octets) draws
@@ -85,7 +80,7 @@ module _ (muxes : Bool) where
   ends_so (Script n fault) octets draws out left ends = (
     whole_so octets draws out (AtFault n fault) ends.0,
     ends.1,
-    λ other more. sym (ap (λ (t : Trace). t.stop) (replay_so (octets ++ more) draws)) ∙ ends.2 other more,
+    λ other more. sym (ap (λ (t : Trace). t.stop) (replay_so (octets ++ more) draws)) ∙ ap (λ (c : Course Event). c.stop) (ends.2 other more) ∙ ends.0.stops,
   )
   ends_so Noise octets draws out left ends = whole_so octets draws out _ ends
   ends_so Read octets draws out left ends = lines_so octets draws out ends

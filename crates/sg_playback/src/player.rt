@@ -21,8 +21,8 @@ use sg_edge::{Noise, Sink};
 use sg_front::Front;
 use sg_lanes::Gate;
 use sg_lines::{Line, Signal};
-use sg_table::Arrival;
-use sg_trace::{Status, supply};
+use sg_table::{Arrival, Outcomes};
+use sg_trace::{Status, pass_on, supply};
 use std::alloc::Global;
 use std::marker::Model;
 use std::mem;
@@ -40,6 +40,8 @@ pub struct Player {
     spare: Vec<Pad>,
     /// The lines that the last batch told, whose room is used again.
     lines: Vec<u8>,
+    /// The outcomes that the last signal told, whose room is used again.
+    told: Outcomes,
     /// The moment of the last line that was a datagram with its moment.
     line_moment: Option<u64>,
 }
@@ -67,6 +69,7 @@ impl Player {
             arrivals: Vec::new(alloc),
             spare: Vec::new(alloc),
             lines: Vec::new(alloc),
+            told: Outcomes::new(),
             line_moment: None,
         })
     }
@@ -88,6 +91,7 @@ impl Player {
             × Added (N.given noise.old) (N.given noise.new) draws × Wrote (K.written sink.old) (K.written sink.new) out
             × IsPlayed result line s (waiting self.old) (waiting self.new) (FrontStandsFor self.new.front) draws out }
         ensures few { length self.old.waits ≤ 256 }
+        ensures rest { OnOk result (length self.new.waits ≤ 256) }
         ensures write { IsCaused Status.Write result (K.faults sink.old) (K.faults sink.new) (K.failed sink.new) }
         ensures noise { IsCaused Status.Noise result (N.faults noise.old) (N.faults noise.new) (N.failed noise.new) }
     {
@@ -127,6 +131,7 @@ impl Player {
         ensures played { (s : State) → FrontStandsFor self.old.front s → (draws out : List ℕ)
             × Added (N.given noise.old) (N.given noise.new) draws × Wrote (K.written sink.old) (K.written sink.new) out
             × IsPlayed result (lines.Signal signal) s (waiting self.old) (waiting self.new) (FrontStandsFor self.new.front) draws out }
+        ensures none { OnOk result (self.new.waits ≡ []) }
         ensures write { IsCaused Status.Write result (K.faults sink.old) (K.faults sink.new) (K.failed sink.new) }
         ensures noise { IsCaused Status.Noise result (N.faults noise.old) (N.faults noise.new) (N.failed noise.new) }
     {
@@ -271,6 +276,28 @@ impl Player {
         Ok(())
     }
 
+    /// The same, and the sink passes on what it holds.
+    pub fn settle_at_once<R: Threads + Sync, K: Sink, G: Gate + Sync>(
+        &mut self,
+        rt: &R,
+        alloc: Global,
+        sink: &mut K,
+        gate: &G,
+    ) -> Result<(), Status>
+        ensures settled { (s : State) → FrontStandsFor self.old.front s → (out : List ℕ)
+            × Wrote (K.written sink.old) (K.written sink.new) out × IsSettled result s (waiting self.old) (waiting self.new) (FrontStandsFor self.new.front) out }
+        ensures few { length self.old.waits ≤ 256 }
+        ensures none { OnOk result (self.new.waits ≡ []) }
+        ensures only { IfErr result (λ status. IsWant status) }
+        ensures write { IsCaused Status.Write result (K.faults sink.old) (K.faults sink.new) (K.failed sink.new) }
+    {
+        match self.settle(rt, alloc, sink, gate) {
+            Err(status) => return Err(status),
+            Ok(()) => {}
+        }
+        pass_on(false, sink)
+    }
+
     /// The status of a run of which nothing more is read, for this reason: what waits is handled and told first.
     pub fn close<R: Threads + Sync, K: Sink, G: Gate + Sync>(
         &mut self,
@@ -353,11 +380,11 @@ impl Player {
         if self.passes_quietly(signal) {
             return Ok(());
         }
-        let told = match self.front.step(alloc, signal) {
+        match self.front.take(alloc, signal, &mut self.told) {
             Err(NoMemory) => return Err(Status::NoMemory),
-            Ok(told) => told,
-        };
-        tell_all(alloc, told.as_slice(), sink)
+            Ok(()) => {}
+        }
+        tell_all(alloc, self.told.as_slice(), sink)
     }
 }
 

@@ -13,7 +13,7 @@ use crate::player::Player;
 use sg_base::NoMemory;
 use sg_edge::{Noise, Sink, Source};
 use sg_lanes::Gate;
-use sg_trace::{ScriptReader, Status};
+use sg_trace::{ScriptReader, Status, pass_on, passed_on};
 use std::alloc::Global;
 use std::thread::Threads;
 
@@ -22,7 +22,8 @@ use std::thread::Threads;
 /// 2 a tick to its moment comes before a datagram. Consecutive datagram lines form batches of at most 256, which in
 /// version 2 also end before a line whose moment isn't that of the line before. The workers share out a batch, each of
 /// them passing the gate; what is written is the same for every number of workers and every gate. Where a signal lacks
-/// its noise, 304 octets are drawn. Where the source fails, all lines that were read are told first.
+/// its noise, 304 octets are drawn. Where the source fails, all lines that were read are told first. What is told is passed
+/// on before a read that may wait, and at the end.
 pub fn replay<R: Threads + Sync, S: Source, K: Sink, N: Noise, G: Gate + Sync>(
     rt: &R,
     alloc: Global,
@@ -42,13 +43,16 @@ pub fn replay<R: Threads + Sync, S: Source, K: Sink, N: Noise, G: Gate + Sync>(
     ensures given { S.given source.new ≤ S.given source.old + (2 ^ 30 + 1) }
     ensures read { EndedBy (result ≡ Status.Read) (IsWant result) (S.faults source.old) (S.faults source.new) (S.failed source.new) }
     ensures write { HasFailed (result ≡ Status.Write) (K.faults sink.old) (K.faults sink.new) (K.failed sink.new) }
-    ensures noise { HasFailed (result ≡ Status.Noise) (N.faults noise.old) (N.faults noise.new) (N.failed noise.new) }
+    ensures noise { EndedBy (result ≡ Status.Noise) (IsWant result) (N.faults noise.old) (N.faults noise.new) (N.failed noise.new) }
     ensures complete { ¬ Rose (S.faults source.old) (S.faults source.new) → ¬ Rose (K.faults sink.old) (K.faults sink.new) → ¬ Rose (N.faults noise.old) (N.faults noise.new)
         → IsCompleteReplay result (S.left source.old) (S.left source.new) }
 {
     match Player::make(alloc, workers, muxes) {
         Err(NoMemory) => Status::NoMemory,
-        Ok(mut player) => play_script(rt, alloc, &mut player, source, sink, noise, gate),
+        Ok(mut player) => {
+            let end = play_script(rt, alloc, &mut player, source, sink, noise, gate);
+            passed_on(end, sink)
+        }
     }
 }
 
@@ -74,6 +78,10 @@ fn play_script<R: Threads + Sync, S: Source, K: Sink, N: Noise, G: Gate + Sync>(
 {
     let mut script = ScriptReader::new(alloc);
     'lines: loop {
+        match pass_on(script.holds_line(), sink) {
+            Err(status) => return status,
+            Ok(()) => {}
+        }
         let line = match script.next(alloc, source) {
             Err(status) => return player.close(rt, alloc, status, sink, gate),
             Ok(None) => return player.close(rt, alloc, Status::Done, sink, gate),

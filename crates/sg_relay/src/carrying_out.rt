@@ -14,7 +14,7 @@ use sg_edge::{Link, Sink};
 use sg_gateway::port_at;
 use sg_outcome::Outcome;
 use sg_table::{End, Handled};
-use sg_trace::{Status, tell};
+use sg_trace::{Status, tell_at_once};
 use std::alloc::Global;
 
 /// Binds a port, or gives it up.
@@ -63,7 +63,7 @@ fn hold_and_tell<K: Sink, L: Link>(
 {
     match hold_ports(link, bound, slot, media) {
         Err(Failed) => Err(Status::Link),
-        Ok(()) => tell(alloc, outcome, sink),
+        Ok(()) => tell_at_once(alloc, outcome, sink),
     }
 }
 
@@ -84,7 +84,7 @@ fn send_out<K: Sink, L: Link>(
 {
     match link.send(port, to, octets) {
         Ok(()) => Ok(()),
-        Err(Failed) => tell(alloc, &Outcome::Unsent { port, to }, sink),
+        Err(Failed) => tell_at_once(alloc, &Outcome::Unsent { port, to }, sink),
     }
 }
 

@@ -15,6 +15,7 @@ use sg_base::{Address, Failed, NoMemory, Pad, TICK_MOST};
 use sg_edge::{Clock, Link, Receipt, Sink};
 use sg_front::Front;
 use sg_lines::Signal;
+use sg_table::Outcomes;
 use sg_trace::Status;
 use std::alloc::Global;
 
@@ -35,9 +36,10 @@ pub(crate) fn obey<K: Sink, L: Link>(
     ensures write { IsDueTo Status.Write result (K.faults sink.old) (K.faults sink.new) (K.failed sink.new) }
     ensures link { IsDueToLink result (L.faults link.old) (L.faults link.new) }
 {
-    match front.step(alloc, signal) {
+    let mut told = Outcomes::new();
+    match front.take(alloc, signal, &mut told) {
         Err(NoMemory) => Err(Status::NoMemory),
-        Ok(told) => carry_out_all(alloc, told.as_slice(), sink, link),
+        Ok(()) => carry_out_all(alloc, told.as_slice(), sink, link),
     }
 }
 

@@ -6,7 +6,9 @@ use Rattle.std.proofs.lemmas.List.Elements.{All-from_recursion}
 use Rattle.sg_bridge.specs.Bridged.{Crosses, GoesBothWays, StaysInside}
 use Rattle.sg_bridge.specs.Calls.{KnowsItsCalls}
 use Rattle.sg_bridge.specs.Lost.{LosesOnlySo, SettlesWhatOpens}
+use Rattle.sg_bridging.proofs.Completes.{untouched as nothing_bridged}
 use Rattle.sg_bridging.specs.Bridge.{IsBridge}
+use Rattle.sg_trace.proofs.Ends.{nothing_read}
 use Rattle.sg_trace.specs.Causes.{EndedBy, HasFailed}
 use Rattle.sg_capture.specs.Capturing.{IsCapture}
 use Rattle.sg_trace.specs.declared.status.Status.{Status}
@@ -17,6 +19,7 @@ use Rattle.sg_edge.proofs.Links.{added_none}
 use Rattle.sg_edge.proofs.Passed.{took_none, wrote_none}
 use Rattle.sg_edge.specs.Told.{Rose}
 use Rattle.sg_gateway.specs.Step.{Event}
+use Rattle.sg_migrate.specs.Migrated.{of_migration, written_of}
 use Rattle.sg_migrate.specs.Migration.{IsMigration}
 use Rattle.sg_migrate.specs.Migration as migrations
 use Rattle.sg_mux.specs.Latest.{LegsAreMuxed}
@@ -29,7 +32,7 @@ use Rattle.sg_relay.proofs.Holds.{holds_none}
 use Rattle.sg_relay.proofs.Order.{order_none}
 use Rattle.sg_relay.specs.Relay.{IsRelay, Passed}
 use Rattle.sg_relay.specs.Relay as relays
-use Rattle.sg_run.specs.Run.{AreTaken, HasBridged, HasCaptured, HasDone, HasMigrated, HasRelayed, HasReplayed, HasRun, HasShown, Surroundings, TakesBatches, of_replay}
+use Rattle.sg_run.specs.Run.{AreTaken, HasBridged, HasCaptured, HasDone, HasMigrated, HasRelayed, HasReplayed, HasRun, HasShown, Surroundings, PlaysScript, of_replay}
 use Rattle.sg_words.specs.Commands.{AreWordsOf, IsNoCommand, Words}
 use Rattle.sg_words.specs.declared.command.Command.{Command}
 use Rattle.sg_words.specs.declared.command.Command.TheVariants.{Replay, Relay, Demo, Migrate, Bridge}
@@ -113,17 +116,8 @@ not_migrated old = record {
   is = record {
     took = took_none old.left;
     wrote = wrote_none old.written;
-    ends = record {
-      lines = [];
-      line = [];
-      ahead = [];
-      split = refl;
-      one = inr refl;
-      near = omega arith;
-      sound = refl;
-      begun = ([], refl);
-      within = ([], refl);
-    };
+    ends = nothing_read of_migration (written_of 0) 1 old.left refl;
+    quiet = λ is. cc;
     bound = omega arith;
   };
   events_are = refl;
@@ -162,23 +156,7 @@ not_bridged old = record {
   octets = [];
   draws = [];
   out = [];
-  is = record {
-    took = took_none old.left;
-    drew = added_none old.drawn;
-    wrote = wrote_none old.written;
-    ends = record {
-      lines = [];
-      line = [];
-      ahead = [];
-      split = refl;
-      one = inr refl;
-      near = omega arith;
-      sound = refl;
-      begun = ([], refl);
-      within = ([], refl);
-    };
-    bound = omega arith;
-  };
+  is = nothing_bridged (of_replay old);
   events_are = refl;
   passages_are = refl;
   holds = record {
@@ -291,16 +269,16 @@ migration_not : (other status : Status) (old new : migrations.MigrationTellings)
 migration_not other status old new octets out isnt run is = isnt (subst (λ s. IsMigration s old new octets out) is run)
 
 pub migration_not_usage : (status : Status) (old new : migrations.MigrationTellings) (octets out : List ℕ) → IsMigration status old new octets out → status ≡ Usage → ⊥
-migration_not_usage status old new octets out run is = migration_not Usage status old new octets out (λ r. r.ends) run is
+migration_not_usage status old new octets out run is = migration_not Usage status old new octets out (λ r. r.ends.0) run is
 
 pub migration_not_link : (status : Status) (old new : migrations.MigrationTellings) (octets out : List ℕ) → IsMigration status old new octets out → status ≡ Link → ⊥
-migration_not_link status old new octets out run is = migration_not Link status old new octets out (λ r. r.ends) run is
+migration_not_link status old new octets out run is = migration_not Link status old new octets out (λ r. r.ends.0) run is
 
 pub migration_not_clock : (status : Status) (old new : migrations.MigrationTellings) (octets out : List ℕ) → IsMigration status old new octets out → status ≡ Clock → ⊥
-migration_not_clock status old new octets out run is = migration_not Clock status old new octets out (λ r. r.ends) run is
+migration_not_clock status old new octets out run is = migration_not Clock status old new octets out (λ r. r.ends.0) run is
 
 pub migration_not_noise : (status : Status) (old new : migrations.MigrationTellings) (octets out : List ℕ) → IsMigration status old new octets out → status ≡ Noise → ⊥
-migration_not_noise status old new octets out run is = migration_not Noise status old new octets out (λ r. r.ends) run is
+migration_not_noise status old new octets out run is = migration_not Noise status old new octets out (λ r. r.quiet refl) run is
 
 capture_not : (other status : Status) (old new : replays.ReplayTellings) (octets draws out : List ℕ) → (IsCapture other old new octets draws out → ⊥)
     → IsCapture status old new octets draws out → status ≡ other → ⊥
@@ -320,13 +298,13 @@ bridge_not : (other status : Status) (old new : replays.ReplayTellings) (octets 
 bridge_not other status old new octets draws out isnt run is = isnt (subst (λ s. IsBridge s old new octets draws out) is run)
 
 pub bridge_not_usage : (status : Status) (old new : replays.ReplayTellings) (octets draws out : List ℕ) → IsBridge status old new octets draws out → status ≡ Usage → ⊥
-bridge_not_usage status old new octets draws out run is = bridge_not Usage status old new octets draws out (λ r. r.ends) run is
+bridge_not_usage status old new octets draws out run is = bridge_not Usage status old new octets draws out (λ r. r.ends.0) run is
 
 pub bridge_not_link : (status : Status) (old new : replays.ReplayTellings) (octets draws out : List ℕ) → IsBridge status old new octets draws out → status ≡ Link → ⊥
-bridge_not_link status old new octets draws out run is = bridge_not Link status old new octets draws out (λ r. r.ends) run is
+bridge_not_link status old new octets draws out run is = bridge_not Link status old new octets draws out (λ r. r.ends.0) run is
 
 pub bridge_not_clock : (status : Status) (old new : replays.ReplayTellings) (octets draws out : List ℕ) → IsBridge status old new octets draws out → status ≡ Clock → ⊥
-bridge_not_clock status old new octets draws out run is = bridge_not Clock status old new octets draws out (λ r. r.ends) run is
+bridge_not_clock status old new octets draws out run is = bridge_not Clock status old new octets draws out (λ r. r.ends.0) run is
 
 pub relay_not_usage : (muxes : Bool) (status : Status) (turns : ℕ) (old new : relays.RelayTellings) (p : Passed) → IsRelay muxes status turns old new p → status ≡ Usage → ⊥
 relay_not_usage muxes status turns old new p run is = (subst (λ s. IsRelay muxes s turns old new p) is run).ends
@@ -381,8 +359,8 @@ demo_done status written written' octets old new failed shown cause quiet = elim
 -- ---- whose failure it was
 
 -- the end of a command whose datagrams wait for a batch, by the words of the run
-pub of_batches : (words : Words) → TakesBatches words → (own instead : Type 0) (old new : ℕ) (failed : Option Bool) → EndedBy own instead old new failed → EndedBy own (TakesBatches words × instead) old new failed
-of_batches words so own instead old new failed ended = record {
+pub of_script : (words : Words) → PlaysScript words → (own instead : Type 0) (old new : ℕ) (failed : Option Bool) → EndedBy own instead old new failed → EndedBy own (PlaysScript words × instead) old new failed
+of_script words so own instead old new failed ended = record {
   later = ended.later;
   rose = ended.rose;
   told = ended.told;

@@ -123,9 +123,9 @@ pub record HasBridged (status : Status) (old new : Surroundings) (events : List 
   pub draws : List ℕ
   pub out : List ℕ
   pub is : IsBridge status (of_replay old) (of_replay new) octets draws out
-  pub events_are : events ≡ bridged_events (bridge_trace octets draws).said
+  pub events_are : events ≡ bridged_events (bridge_trace octets draws).deeds
   pub passages_are : passages ≡ plain_passages events
-  pub holds : BridgeHolds (bridge_trace octets draws).said
+  pub holds : BridgeHolds (bridge_trace octets draws).deeds
   pub alike : JoinsNone octets → IsPlayedAlike octets draws
 
 -- the command was run, and these are the run's events and what is told of them
@@ -141,6 +141,6 @@ HasDone Bridge status old new events passages = HasBridged status old new events
 abbrev pub HasRun : Words → Status → Surroundings → Surroundings → List Event → List Passage → Type 0
 HasRun words status old new events passages = (command : Command) → AreWordsOf words command → HasDone command status old new events passages
 
--- the words of a replay or of a capture, whose datagrams wait for a batch
-abbrev pub TakesBatches : Words → Type 0
-TakesBatches words = ((workers : ℕ) × (muxes : Bool) × AreWordsOf words (Replay workers muxes)) ⊎ AreWordsOf words Capture
+-- the words of a command that plays a script: telling what was held may fail behind what ended it
+abbrev pub PlaysScript : Words → Type 0
+PlaysScript words = ((workers : ℕ) × (muxes : Bool) × AreWordsOf words (Replay workers muxes)) ⊎ (AreWordsOf words Migrate ⊎ (AreWordsOf words Capture ⊎ AreWordsOf words Bridge))

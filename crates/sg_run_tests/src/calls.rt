@@ -28,9 +28,9 @@ pub const KNOWN: &[u8] =
 pub const KNOWN_LINE: &str =
     "in 20000 127.0.0.1:40000 800f1234decafbadcafebabe4e55dc4ce79978d88ca4d215949d2402b78d6acc99ea179b8dbb\n";
 
-/// What it was sealed from, at the call's plain port.
+/// What is told of it: a raw key encrypts nothing, so the packet without its tag goes out from the call's plain port.
 pub const KNOWN_TOLD: &str =
-    "out 20002 127.0.0.1:41000 800f1234decafbadcafebabeabababababababababababababababab\n";
+    "out 20002 127.0.0.1:41000 800f1234decafbadcafebabe4e55dc4ce79978d88ca4d215949d2402\n";
 
 /// An offer of the secure side whose noise is drawn, and its answer.
 pub const OFFERED: &str =

@@ -1,7 +1,9 @@
 //! Replays through the top call whose source, sink or noise fails. What scripts tell is in `examples` and `interop/rows`,
 //! which the gate plays through the program.
 
-use crate::calls::{HEADER, KEYED, KEYED_TOLD, KNOWN_LINE, KNOWN_TOLD, OFFERED, WHOLE_CALL, WHOLE_CALL_TOLD};
+use crate::calls::{
+    HEADER, KEYED, KEYED_TOLD, KNOWN_LINE, KNOWN_TOLD, OFFERED, WHOLE_CALL, WHOLE_CALL_TOLD,
+};
 use crate::outside::{Given, Outside, REPLAY, joined};
 use sg_lanes::OpenGate;
 use sg_run::Status;

@@ -1,6 +1,6 @@
 -- Handled datagrams that are taken back in order of arrival.
-use Rattle.std.proofs.Common.{◌≡◌, ℕ, suc, ◌+◌, ◌<◌, ◌≤◌, Bool, true, false, cond, ◌||◌, List, [], ◌∷◌, ◌++◌, append_assoc, length, length-append, drop, get_or, map, Option, Some, None, refl, sym, ap, ◌∙◌, subst}
-use Rattle.std.proofs.Math.ListN.{set, drop_of_length-le}
+use Rattle.std.proofs.Common.{◌≡◌, ℕ, suc, ◌+◌, ◌<◌, Bool, true, false, cond, ◌||◌, List, [], ◌∷◌, ◌++◌, append_assoc, length, length-append, drop, get_or, map, Option, Some, None, refl, sym, ap, ◌∙◌, subst}
+use Rattle.std.proofs.Math.ListN.{set}
 use Rattle.std.proofs.Math.Seq.{set-append_seam, get_or-append_seam}
 use Rattle.std.proofs.lemmas.Bool.{false≢true}
 use Rattle.std.proofs.lemmas.List.{drop_more}
@@ -23,7 +23,7 @@ use Rattle.sg_table.proofs.Pairing.{pairs_both}
 use Rattle.sg_table.proofs.Sharing.{call_ports}
 use Rattle.sg_table.proofs.Turns.{turn, turn_same, same_ports, drained_same, drain_one, one_turn, turns_on, same_moment, same_books}
 use Rattle.sg_table.specs.Batches.{answered, with_handled, octets_of, handled_at, handled_in}
-use Rattle.sg_table.specs.Parts.{datagram_of, popped, popped_at, handled_all, handed, is_taken, handled_first, first_handled, given_back, all_handed, HasOctets, IsLeft, AreLeft, TakesTurns, IsGathered}
+use Rattle.sg_table.specs.Parts.{datagram_of, popped, popped_at, handled_all, handed, is_taken, handled_first, first_handled, given_back, all_handed, HasOctets, IsLeft, AreLeft, TakesTurns}
 use Rattle.sg_table.specs.Values.{Shape, shape_of, shapes_of, has_call_port}
 use Rattle.sg_table.specs.declared.arrival.Arrival.{Arrival}
 

@@ -2,6 +2,7 @@ mod Alone
 mod Answered
 mod Answering
 mod Batching
+mod Calming
 mod Delivering
 mod Early
 mod Ended

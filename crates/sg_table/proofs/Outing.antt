@@ -1,8 +1,8 @@
 -- Arrivals that are handed out one by one.
 use Rattle.std.proofs.Common.{◌≡◌, ℕ, suc, ◌+◌, ◌<◌, ◌≤◌, Bool, true, false, cond, List, [], ◌∷◌, ◌++◌, append_assoc, length, length-append, take, drop, get_or, map, refl, sym, ap, ◌∙◌, subst, arith}
-use Rattle.std.proofs.Math.ListN.{set, drop_of_length-le}
+use Rattle.std.proofs.Math.ListN.{set}
 use Rattle.std.proofs.Math.Seq.{set-append_seam, get_or-append_seam, take-suc}
-use Rattle.std.proofs.lemmas.List.{drop_more, append-nil, map-append, length-map, length-take-le, take_all}
+use Rattle.std.proofs.lemmas.List.{drop_more, map-append, length-map, length-take-le}
 use Rattle.std.specs.List.{AllByRecursion}
 use Rattle.sg_call.specs.Values.{CallValue}
 use Rattle.sg_session.proofs.Lists.{each_append}

@@ -1,5 +1,5 @@
 -- A pre-shared pair is added, or refused.
-use Rattle.std.proofs.Common.{◌≡◌, ℕ, ◌<◌, ◌≤◌, Bool, true, false, cond, List, [], ◌∷◌, ◌++◌, length, Some, None, Result, Ok, Err, IfErr, IsTrue, refl, sym, ap, ◌∙◌, subst, ltb}
+use Rattle.std.proofs.Common.{◌≡◌, ℕ, ◌<◌, ◌≤◌, Bool, true, false, cond, List, [], ◌∷◌, ◌++◌, length, None, Result, Ok, Err, IfErr, IsTrue, refl, sym, ap, ◌∙◌, subst, ltb}
 use Rattle.std.proofs.lemmas.Bool.{ltb-true, ltb-false}
 use Rattle.sg_base.specs.declared.faults.Fault.{Fault}
 use Rattle.sg_base.specs.declared.faults.Fault.TheVariants as faults
@@ -8,8 +8,6 @@ use Rattle.sg_base.specs.declared.faults.Refusal.TheVariants.{PskKnown, PskFull}
 use Rattle.sg_call.proofs.MorePairs.{call_still}
 use Rattle.sg_call.specs.Standing.{CallStandsFor}
 use Rattle.sg_call.specs.Values.{CallValue}
-use Rattle.sg_gateway.specs.Early.{early}
-use Rattle.sg_gateway.specs.Signals as signals
 use Rattle.sg_gateway.specs.Signals.{Answer, answer, refused, with_pair}
 use Rattle.sg_gateway.specs.World.{World}
 use Rattle.sg_leg.specs.declared.books.Books.{Books}

@@ -1,12 +1,8 @@
 -- What a table holds after a tick.
-use Rattle.std.proofs.Common.{◌≡◌, ℕ, zero, suc, ◌+◌, ◌<◌, ◌≤◌, Bool, true, false, cond, not, ◌||◌, List, [], ◌∷◌, ◌++◌, length, get_or, map, take, None, refl, sym, ap, ◌∙◌, subst, arith, eqb, leb, ltb, inl, inr}
-use Rattle.std.proofs.Math.ListN.{set}
-use Rattle.std.proofs.lemmas.Bool.{cases_Bool, eqb-true, eq-eqb, false≢true, lt-ltb, le-ltb}
-use Rattle.std.proofs.Math.Seq.{take-suc}
-use Rattle.std.proofs.lemmas.List.{get_or-set_same, get_or-set_other, map-append}
+use Rattle.std.proofs.Common.{◌≡◌, ℕ, zero, suc, ◌+◌, ◌<◌, ◌≤◌, Bool, true, false, cond, not, ◌||◌, List, [], ◌∷◌, length, get_or, map, None, refl, sym, ap, ◌∙◌, subst, arith, leb, ltb}
+use Rattle.std.proofs.lemmas.Bool.{false≢true, le-ltb}
 use Rattle.std.specs.List.{filter, list_any}
 use Rattle.sg_base.specs.declared.faults.Refusal.TheVariants.{TickBack}
-use Rattle.sg_call.proofs.Passing.{filter_append}
 use Rattle.sg_call.specs.Standing.{CallStandsFor}
 use Rattle.sg_call.specs.Values.{CallValue}
 use Rattle.sg_gateway.specs.CallSignals.{is_idle, call_at_tick}
@@ -15,7 +11,7 @@ use Rattle.sg_gateway.specs.World.{Call, World}
 use Rattle.sg_leg.specs.Pairs.{EachPair}
 use Rattle.sg_leg.specs.declared.books.Books.{Books}
 use Rattle.sg_outcome.specs.declared.outcomes.Outcome.{Outcome}
-use Rattle.sg_outcome.specs.declared.outcomes.Outcome.TheVariants.{Ended, Refused}
+use Rattle.sg_outcome.specs.declared.outcomes.Outcome.TheVariants.{Ended}
 use Rattle.sg_outcome.specs.declared.outcomes.Why.TheVariants as why
 use Rattle.sg_psk.specs.declared.pairs.Pair.{Pair}
 use Rattle.sg_table.proofs.Pairing.{pairs_from_each}

@@ -1,4 +1,5 @@
 pub mod Batches
+pub mod Calm
 pub mod Ends
 pub mod Found
 pub mod Free

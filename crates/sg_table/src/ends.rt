@@ -1,11 +1,12 @@
 //! Ticks, and the signals that end calls. They don't allocate.
 
-ghost use Rattle.std.specs.Prelude.{◌≡◌, ◌≢◌, ◌<◌, ◌≤◌, [], map, filter, not, true, false, length, vec_len, vec_capacity};
-ghost use Rattle.std.specs.List.{list_any};
+ghost use Rattle.std.specs.Prelude.{◌≡◌, ◌≢◌, ◌+◌, ◌<◌, ◌≤◌, [], map, filter, not, true, false, length, vec_len, vec_capacity};
+ghost use Rattle.std.specs.List.{AllByRecursion, list_any};
 ghost use Rattle.sg_gateway.specs.Signals.{left, rejected, ticked};
 ghost use Rattle.sg_gateway.specs.World.{World, call_of};
 ghost use Rattle.sg_leg.specs.Pairs.{EachPair};
 ghost use Rattle.sg_outcome.specs.declared.outcomes.Why.TheVariants as whys;
+ghost use Rattle.sg_table.specs.Calm.{CallRests, IsCalm};
 ghost use Rattle.sg_table.specs.Ends.{ended_as, idles, IsRejectedAt, IsTicked};
 ghost use Rattle.sg_table.specs.Standing.{TableStandsFor};
 ghost use Rattle.sg_table.specs.Telling.{IsAnswered};
@@ -14,7 +15,7 @@ use crate::calls::Calls;
 use crate::outcomes::Outcomes;
 use crate::places::position_of;
 use crate::signals::refused;
-use sg_base::{CallId, IDLE_MILLIS, Refusal};
+use sg_base::{CallId, EARLIER_MILLIS, IDLE_MILLIS, Refusal};
 use sg_call::Call;
 use sg_gateway::calls_in_order;
 use sg_outcome::{Outcome, Why};
@@ -57,6 +58,33 @@ impl Calls {
         tick_each(&mut self.by_slot, now);
         self.moment = now;
         true
+    }
+
+    /// A tick that is not before the last one, and before a moment until which the calls are calm: they are not looked at.
+    /// Else nothing is done, and it is false.
+    pub(crate) fn pass(&mut self, now: u64, calm: u64) -> bool
+        requires timely { now ≤ 2085978495999 }
+        requires calm { IsCalm calm self.old }
+        ensures told { result ≡ true → (w : World) → TableStandsFor self.old w → IsAnswered [] self.new (ticked w now) }
+        ensures same { result ≡ false → self.new ≡ self.old }
+        ensures calls { self.new.calls ≡ self.old.calls }
+        ensures calm { IsCalm calm self.new }
+    {
+        if now < self.moment {
+            return false;
+        }
+        if calm <= now {
+            return false;
+        }
+        self.moment = now;
+        true
+    }
+
+    /// A moment until which the calls are calm, while only datagrams come.
+    pub(crate) fn calm(&self) -> u64
+        ensures { IsCalm result self.now }
+    {
+        calm_of(&self.by_slot, self.moment)
     }
 
     /// The open offer of a call is rejected. A call without a generation ends.
@@ -130,6 +158,32 @@ fn idles(call: &Call, now: u64) -> bool
     ensures { result ≡ idles now call.now }
 {
     now >= IDLE_MILLIS && call.moment() <= now - IDLE_MILLIS
+}
+
+/// Until when no tick changes a call, if none did at the last moment.
+fn calm_at(call: &Call, last: u64) -> u64
+    requires { last ≤ 2085978495999 }
+    ensures { CallRests result last call.now }
+{
+    let idle = call.moment().saturating_add(IDLE_MILLIS);
+    let past = call.replaced().saturating_add(EARLIER_MILLIS);
+    if past <= last {
+        return idle;
+    }
+    idle.min(past)
+}
+
+/// Until when no tick changes any of the calls.
+fn calm_of(calls: &[Call], last: u64) -> u64
+    requires { last ≤ 2085978495999 }
+    ensures soon { result ≤ last + 60000 }
+    ensures calls { AllByRecursion (CallRests result last) calls.now }
+{
+    let mut calm = last + IDLE_MILLIS;
+    for each in calls.iter() {
+        calm = calm.min(calm_at(each, last));
+    }
+    calm
 }
 
 /// Whether a call is idle.

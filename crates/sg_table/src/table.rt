@@ -1,6 +1,6 @@
 //! The table.
 
-ghost use Rattle.std.specs.Prelude.{◌≡◌, ◌≢◌, ◌≤◌, [], IfOk, OnErr, true, false};
+ghost use Rattle.std.specs.Prelude.{◌≡◌, ◌≢◌, ◌≤◌, [], IfOk, OnOk, OnErr, true, false};
 ghost use Rattle.sg_gateway.specs.Early.{MayWant};
 ghost use Rattle.sg_gateway.specs.Events.{events_of_signal, outcomes_from, signal_lacks_noise, signal_of};
 ghost use Rattle.sg_gateway.specs.World.{World, empty};
@@ -24,9 +24,12 @@ use std::marker::Model;
 pub struct Table {
     pub(crate) calls: Calls,
     pub(crate) places: [Option<u8>; CALLS_MOST],
+    /// Until when a tick changes the moment alone; 0 where that isn't known.
+    calm: u64,
 }
 
 impl Model for Table {
+    ghost use Rattle.sg_table.specs.Calm.{IsCalm};
     ghost use Rattle.sg_table.specs.Standing.{Stands};
     ghost use Rattle.sg_table.specs.Values.{TableValue, AreIndexed, shapes_of};
 
@@ -34,7 +37,7 @@ impl Model for Table {
 
     ghost view = { λ t. t.calls };
 
-    ghost invariant = { λ t. AreIndexed t.places (shapes_of t.calls.calls) × Stands t.calls };
+    ghost invariant = { λ t. (AreIndexed t.places (shapes_of t.calls.calls) × IsCalm t.calm t.calls) × Stands t.calls };
 }
 
 impl Table {
@@ -57,6 +60,7 @@ impl Table {
         Ok(Table {
             calls,
             places: [None; CALLS_MOST],
+            calm: 0,
         })
     }
 
@@ -79,22 +83,49 @@ impl Table {
         ensures same { OnErr result (self.new ≡ self.old) }
         ensures needs { OnErr result ((w : World) → TableStandsFor self.old w → MayWant w (signal_of signal.now)) }
     {
-        calls_in_order();
-        let before = self.calls.count();
         let mut told = Outcomes::new();
-        match self.calls.take(alloc, signal, &mut told) {
-            Err(NoMemory) => return Err(NoMemory),
+        match self.take(alloc, signal, &mut told) {
+            Err(NoMemory) => Err(NoMemory),
+            Ok(()) => Ok(told),
+        }
+    }
+
+    /// Takes a signal as `step` does, and tells its outcomes in a list that the caller keeps, in the place of what it
+    /// held: a list of 256 places is dear to move. Out of memory, nothing is told.
+    pub fn take(
+        &mut self,
+        alloc: Global,
+        signal: &Signal,
+        told: &mut Outcomes,
+    ) -> Result<(), NoMemory>
+        requires noise { signal_lacks_noise signal.now ≡ false }
+        requires timely { IsTimely signal.now }
+        ensures told { OnOk result ((w : World) → TableStandsFor self.old w → IsTold told.new.items self.new w (events_of_signal signal.now)) }
+        ensures none { OnErr result (told.new.items ≡ []) }
+        ensures same { OnErr result (self.new ≡ self.old) }
+        ensures needs { OnErr result ((w : World) → TableStandsFor self.old w → MayWant w (signal_of signal.now)) }
+    {
+        calls_in_order();
+        told.clear();
+        let before = self.calls.count();
+        match self.calls.take(alloc, signal, told) {
+            Err(NoMemory) => {
+                told.clear();
+                return Err(NoMemory);
+            }
             Ok(()) => {}
         }
+        self.calm = 0;
         // A signal makes a call or ends some, never both.
         if self.calls.count() != before {
             self.calls.index(&mut self.places);
         }
-        Ok(told)
+        Ok(())
     }
 
     /// Takes a tick that tells nothing, as `step` does; where it tells something, nothing is done, and it is false.
-    /// It doesn't allocate. A tick is at most 2,085,978,495,999 ms since 1970.
+    /// It doesn't allocate, and looks at the calls only where one may end or drop something since it looked at them last.
+    /// A tick is at most 2,085,978,495,999 ms since 1970.
     pub fn tick_quietly(&mut self, now: u64) -> bool
         requires timely { now ≤ 2085978495999 }
         ensures told { result ≡ true → (w : World) → TableStandsFor self.old w → IsTold [] self.new w (events_of_signal (signals.Tick now)) }
@@ -102,6 +133,13 @@ impl Table {
         ensures same { result ≡ false → self.new ≡ self.old }
     {
         calls_in_order();
-        self.calls.tick_quietly(now)
+        if self.calls.pass(now, self.calm) {
+            return true;
+        }
+        if !self.calls.tick_quietly(now) {
+            return false;
+        }
+        self.calm = self.calls.calm();
+        true
     }
 }

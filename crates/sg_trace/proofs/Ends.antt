@@ -1,21 +1,30 @@
 -- How a run that plays a script ends: whose failure it was.
-use Rattle.std.proofs.Common.{◌≡◌, ◌⊎◌, ◌≤◌, ℕ, true, Bool, List, Option, Err, refl, sym, ap, ◌∙◌, subst, inl, inr}
+use Rattle.std.proofs.Common.{◌≡◌, ◌⊎◌, ◌≤◌, ℕ, true, Bool, List, [], Option, Some, Err, refl, sym, ap, ◌∙◌, subst, inl, inr, arith}
 use Rattle.std.specs.Prelude.{IsErrOf}
-use Rattle.sg_edge.specs.Told.{Rose, Tells}
+use Rattle.std.proofs.lemmas.List.{append-nil}
+use Rattle.sg_base.specs.declared.faults.ScriptFault.{ScriptFault}
+use Rattle.sg_edge.specs.Told.{Rose, Tells, TookIn}
+use Rattle.sg_lines.specs.LineOf.{line_of, version_after}
 use Rattle.sg_trace.proofs.Causes.{ended_as, failed_now, not_failed}
+use Rattle.sg_trace.proofs.Grammars.{none_fails}
 use Rattle.sg_trace.specs.Causes.{EndedBy, HasFailed}
-use Rattle.sg_trace.specs.Course.{Given}
-use Rattle.sg_trace.specs.Loop.{Closes, Effects, IsPlayed, IsWant}
-use Rattle.sg_trace.specs.Reading.{IsNext, Reading}
+use Rattle.sg_trace.specs.Course.{Course, Given, Ways, course}
+use Rattle.sg_trace.specs.Loop.{Closes, Effects, IsPlayed, IsWant, LoopEnds, PromptEnds}
+use Rattle.sg_trace.specs.Reading.{IsNext, IsNextBy, Reading}
+use Rattle.sg_trace.specs.Trace.{AtFault, Spelling}
 use Rattle.sg_trace.specs.declared.status.Status.{Status}
-use Rattle.sg_trace.specs.declared.status.Status.TheVariants.{Read, Write, NoMemory, Noise, Script}
+use Rattle.sg_trace.specs.declared.status.Status.TheVariants.{Done, Read, Write, NoMemory, Noise, Script}
+
+pub next_isnt : {L : Type 0} (spelled : Spelling L) (followed : ℕ → L → ℕ) (status other : Status) (old new : Reading) (got : List ℕ) (left : Option (List ℕ))
+    → (IsNextBy spelled followed (Err other) old new got left → ⊥) → IsNextBy spelled followed (Err status) old new got left → status ≡ other → ⊥
+next_isnt spelled followed status other old new got left never next is = never (subst (λ s. IsNextBy spelled followed (Err s) old new got left) is next)
 
 -- no line is written as it is read, and none draws
 pub next_not_write : (status : Status) (old new : Reading) (got : List ℕ) (left : Option (List ℕ)) → IsNext (Err status) old new got left → status ≡ Write → ⊥
-next_not_write status old new got left next is = subst (λ s. IsNext (Err s) old new got left) is next
+next_not_write status old new got left next is = next_isnt line_of version_after status Write old new got left (λ never. never) next is
 
 pub next_not_noise : (status : Status) (old new : Reading) (got : List ℕ) (left : Option (List ℕ)) → IsNext (Err status) old new got left → status ≡ Noise → ⊥
-next_not_noise status old new got left next is = subst (λ s. IsNext (Err s) old new got left) is next
+next_not_noise status old new got left next is = next_isnt line_of version_after status Noise old new got left (λ never. never) next is
 
 want_not : (status other : Status) → IsWant status → (Write ≡ other → ⊥) → (NoMemory ≡ other → ⊥) → status ≡ other → ⊥
 want_not status other (inl is) a b same = a (sym is ∙ same)
@@ -65,3 +74,45 @@ module _ {S D : Type 0} (e : Effects S D) (batch : ℕ) where
       how : end ≡ Read → Closes end status e batch s waited out → (status ≡ Read) ⊎ IsWant status
       how is (inl all) = inl (all.0 ∙ is)
       how is (inr cut) = inr cut.0
+
+-- where the source's octets have no fault, the loop comes to their end
+module _ {L D : Type 0} (w : Ways L D) (tells : List D → List ℕ) (batch : ℕ) (octets draws out : List ℕ) (left left' : Option (List ℕ)) (took : TookIn left left' octets) where
+  pub completes : (status : Status) → LoopEnds w tells batch status octets draws out left' → (status ≡ Read → ⊥) → (status ≡ Write → ⊥) → (status ≡ Noise → ⊥)
+      → (all rest : List ℕ) → left ≡ Some all → left' ≡ Some rest → ((n : ℕ) (fault : ScriptFault) → (course w all draws).stop ≡ AtFault n fault → ⊥) → (status ≡ Done) ⊎ (status ≡ NoMemory)
+  completes Done ends a b c all rest told told' none = inl refl
+  completes NoMemory ends a b c all rest told told' none = inr refl
+  completes Read ends a b c all rest told told' none = absurd (a refl)
+  completes Write ends a b c all rest told told' none = absurd (b refl)
+  completes Noise ends a b c all rest told told' none = absurd (c refl)
+  completes (Script n fault) ends a b c all rest told told' none =
+      absurd (none_fails left left' octets all rest fault (λ o. (course w o draws).stop ≡ AtFault n fault) took told told' (none n fault) ends.0.stops ends.1
+      (λ other more. ap (λ (c : Course D). c.stop) (ends.2 other more) ∙ ends.0.stops))
+  completes other ends a b c all rest told told' none = absurd ends
+
+-- memory ran out before anything was read
+pub nothing_read : {L D : Type 0} (w : Ways L D) (tells : List D → List ℕ) (batch : ℕ) (left : Option (List ℕ)) → tells [] ≡ [] → PromptEnds w tells batch NoMemory [] [] [] left
+nothing_read w tells batch left none = (
+  record {
+    played = [];
+    ahead = [];
+    split = refl;
+    near = omega arith;
+    told = [];
+    late = [];
+    alike = refl;
+    few = omega arith;
+    begun = ([], sym (append-nil (tells []) ∙ none));
+    within = (tells [], refl);
+  },
+  record {
+    lines = [];
+    line = [];
+    ahead = [];
+    split = refl;
+    one = inr refl;
+    near = omega arith;
+    sound = refl;
+    begun = ([], sym (append-nil (tells []) ∙ none));
+    within = (tells [], refl);
+  },
+)

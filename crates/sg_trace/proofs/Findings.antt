@@ -9,10 +9,11 @@ use Rattle.sg_base.specs.declared.faults.ScriptFault.TheVariants.{Length, Unende
 use Rattle.sg_lines.proofs.Splits.{begins, lines_of_rest, lines_of_whole}
 use Rattle.sg_lines.specs.ScriptLines.{IsWhole, NoEnd, lines_of}
 use Rattle.sg_lines.specs.Fields.{Gives}
+use Rattle.sg_lines.specs.LineOf.{line_of}
 use Rattle.sg_lines.specs.declared.faults.ReadLineFault.{ReadLineFault}
 use Rattle.sg_lines.specs.declared.faults.ReadLineFault.TheVariants as faults
 use Rattle.sg_lines.specs.declared.lines.Line.{Line}
-use Rattle.sg_trace.proofs.Frames.{IsFar, IsLong, IsOpen, Opening, at_far, at_long, further, line_whole, opening, too_far, unended_at_end}
+use Rattle.sg_trace.proofs.Frames.{IsFar, IsLong, IsOpen, Opening, at_far, at_long, further, line_whole, lines_framed, opening, too_far, unended_at_end}
 use Rattle.sg_trace.specs.Fed.{IsLine}
 use Rattle.sg_trace.specs.Finding.{IsFound, IsOtherFault}
 use Rattle.sg_trace.specs.Reading.{FirstFails, Reading, refused_as}
@@ -59,7 +60,7 @@ first_other version n at line rest ended fault (inr (none, some, inr long)) is o
         line = line ++ begun.more;
         others = begun.others;
         split = begun.split;
-        fails = at_long version n at (line ++ begun.more) (omega (arith, long, length-append line begun.more)) ∙ sym (at_long version n at line long) ∙ is;
+        fails = at_long line_of lines_framed version n at (line ++ begun.more) (omega (arith, long, length-append line begun.more)) ∙ sym (at_long line_of lines_framed version n at line long) ∙ is;
       },
       other_long n at (line ++ begun.more) (omega (arith, long, length-append line begun.more)),
     )
@@ -67,17 +68,17 @@ first_other version n at line rest ended fault (inr (none, some, inr long)) is o
 still_other : (version n at : ℕ) (line rest : List ℕ) (ended : Type 0) (fault : ScriptFault) → IsSome line rest ended → line_at version n at line ≡ Err fault → ¬ (fault ≡ Unended)
     → begins_capture Captures n at line ≡ false → (more : List ℕ) → FailsFirst version n at (line ++ more) fault
 still_other version n at line rest ended fault (inl whole) is not_end other more = (record { line = line; others = lines_of more; split = lines_of_whole line more whole; fails = is }, other)
-still_other version n at line rest ended fault (inr unended) is not_end other more = at_opening (opening version n at line unended.0)
+still_other version n at line rest ended fault (inr unended) is not_end other more = at_opening (opening line_of lines_framed version n at line unended.0)
   where
-    at_opening : Opening version n at line → FailsFirst version n at (line ++ more) fault
+    at_opening : Opening line_of lines_framed version n at line → FailsFirst version n at (line ++ more) fault
     at_opening (IsFar far) =
         let begun = begins line more unended.0 unended.1 in (
-          record { line = line ++ begun.more; others = begun.others; split = begun.split; fails = at_far version n at (line ++ begun.more) (further at line begun.more far) ∙ sym (at_far version n at line far) ∙ is },
+          record { line = line ++ begun.more; others = begun.others; split = begun.split; fails = at_far line_of version n at (line ++ begun.more) (further at line begun.more far) ∙ sym (at_far line_of version n at line far) ∙ is },
           other_far n at (line ++ begun.more) (further at line begun.more far),
         )
     at_opening (IsLong long) =
         let begun = begins line more unended.0 unended.1 in (
-          record { line = line ++ begun.more; others = begun.others; split = begun.split; fails = at_long version n at (line ++ begun.more) (omega (arith, long, length-append line begun.more)) ∙ sym (at_long version n at line long) ∙ is },
+          record { line = line ++ begun.more; others = begun.others; split = begun.split; fails = at_long line_of lines_framed version n at (line ++ begun.more) (omega (arith, long, length-append line begun.more)) ∙ sym (at_long line_of lines_framed version n at line long) ∙ is },
           other_long n at (line ++ begun.more) (omega (arith, long, length-append line begun.more)),
         )
     at_opening (IsOpen open_so) = absurd (not_end (fault_so _ _ (sym is ∙ open_so)))
@@ -88,14 +89,14 @@ other_open n at line none = other_by n at line (λ is. (subst NoEnd (capture_lin
 -- octets without a line end are none, or a line outside the grammar
 pub unended_fails : (version n at : ℕ) (part : List ℕ) → NoEnd part → (part ≡ []) ⊎ ((fault : ScriptFault) × FailsFirst version n at part fault)
 unended_fails version n at [] none = inl refl
-unended_fails version n at (x ∷ xs) none = inr (at_opening (opening version n at (x ∷ xs) none))
+unended_fails version n at (x ∷ xs) none = inr (at_opening (opening line_of lines_framed version n at (x ∷ xs) none))
   where
     so : (fault : ScriptFault) → line_at version n at (x ∷ xs) ≡ Err fault → begins_capture Captures n at (x ∷ xs) ≡ false → FailsFirst version n at (x ∷ xs) fault
     so fault fails other = (record { line = x ∷ xs; others = []; split = lines_of_rest (x ∷ xs) none (omega arith); fails = fails }, other)
 
-    at_opening : Opening version n at (x ∷ xs) → (fault : ScriptFault) × FailsFirst version n at (x ∷ xs) fault
-    at_opening (IsFar far) = (Length, so Length (at_far version n at (x ∷ xs) far) (other_far n at (x ∷ xs) far))
-    at_opening (IsLong long) = (Length, so Length (at_long version n at (x ∷ xs) long) (other_long n at (x ∷ xs) long))
+    at_opening : Opening line_of lines_framed version n at (x ∷ xs) → (fault : ScriptFault) × FailsFirst version n at (x ∷ xs) fault
+    at_opening (IsFar far) = (Length, so Length (at_far line_of version n at (x ∷ xs) far) (other_far n at (x ∷ xs) far))
+    at_opening (IsLong long) = (Length, so Length (at_long line_of lines_framed version n at (x ∷ xs) long) (other_long n at (x ∷ xs) long))
     at_opening (IsOpen open_so) = (Unended, so Unended open_so (other_open n at (x ∷ xs) none))
 
 end_so : {P Q : Type 0} → P ⊎ Q → (Q → ⊥) → P
@@ -111,7 +112,7 @@ module _ (version n at : ℕ) (line waits rest got : List ℕ) (left : Option (L
         record {
           first = first.0;
           other = first.1;
-          ended = λ same. (let last = unended_at_end version n at line rest _ is (fails ∙ ap Err same) in end_so last.1 (λ zero. let far = spent zero last.0 in let near = last.2 in omega (arith, far, near)));
+          ended = λ same. (let last = unended_at_end line_of lines_framed version n at line rest _ is (fails ∙ ap Err same) in end_so last.1 (λ zero. let far = spent zero last.0 in let near = last.2 in omega (arith, far, near)));
           still = λ not_end more.
               subst (λ (o : List ℕ). FailsFirst version n at o fault) (sym (append_assoc line rest more) ∙ ap (λ (l : List ℕ). l ++ more) (sym split))
               (still_other version n at line rest _ fault is fails not_end other (rest ++ more));
@@ -128,7 +129,7 @@ module _ (version n at : ℕ) (line waits rest got : List ℕ) (left : Option (L
         → IsFound (Ok (founds.Line l)) (record { waits = waits; version = version; number = n; offset = at; budget = budget' })
         (record { waits = rest; version = after; number = n + 1; offset = at + length line; budget = budget }) got left
     found_line l budget' after same read =
-        let whole = line_whole version n at line rest _ l is read in
+        let whole = line_whole line_of lines_framed version n at line rest _ l is read in
         (record { line = line; split = split; whole = whole.0; is = read; version = same; number = refl; offset = refl; within = whole.1 }, other)
 
   -- the line behind which a capture begins

@@ -1,5 +1,5 @@
 -- The trace of a script in the grammar comes to no fault.
-use Rattle.std.proofs.Common.{◌≡◌, ◌⊎◌, ◌+◌, ℕ, Bool, true, false, List, [], ◌∷◌, ◌++◌, length, max, Option, Some, None, Result, Ok, Err, refl, sym, ap, ◌∙◌, inl, inr}
+use Rattle.std.proofs.Common.{◌≡◌, ◌⊎◌, ◌+◌, ℕ, Bool, true, false, List, [], ◌∷◌, ◌++◌, length, max, Option, Some, None, Result, Ok, Err, refl, sym, ap, ◌∙◌, subst, inl, inr}
 use Rattle.std.specs.Prelude.{nat_le, cond}
 use Rattle.std.proofs.lemmas.List.{append-nil}
 use Rattle.sg_base.specs.declared.faults.ScriptFault.{ScriptFault}
@@ -77,16 +77,17 @@ either Hex = inr (λ is. cc)
 either Length = inr (λ is. cc)
 either Version = inr (λ is. cc)
 
--- No fault is told of a source's script, where it would be that of the octets read, or of all octets.
+-- No fault is told of the octets that were read, where none is of all that the source had.
+pub none_fails : (left left' : Option (List ℕ)) (octets all rest : List ℕ) (fault : ScriptFault) (fails : List ℕ → Type 0) → TookIn left left' octets → left ≡ Some all → left' ≡ Some rest
+    → (fails all → ⊥) → fails octets → (fault ≡ Unended → AtEnd left') → (¬ (fault ≡ Unended) → (more : List ℕ) → fails (octets ++ more)) → ⊥
+none_fails left left' octets all rest fault fails took told told' spares here ended still =
+    let same : all ≡ octets ++ rest = (let both : Some all ≡ Some (octets ++ rest) = sym told ∙ took rest told' in cc) in
+    spares (subst fails (sym same) (elim (either fault) [
+      | inl end ↦ subst fails (sym (append-nil octets) ∙ ap (λ (l : List ℕ). octets ++ l) (sym (none_left left' rest (ended end) told'))) here
+      | inr other ↦ still other rest
+    ]))
+
+-- so it is of a script
 pub no_fault : (left left' : Option (List ℕ)) (octets all rest : List ℕ) (fault : ScriptFault) (fails : List ℕ → Type 0) → TookIn left left' octets → left ≡ Some all → left' ≡ Some rest
     → IsScript all → ((o : List ℕ) → IsScript o → fails o → ⊥) → fails octets → (fault ≡ Unended → AtEnd left') → (¬ (fault ≡ Unended) → (more : List ℕ) → fails (octets ++ more)) → ⊥
-no_fault left left' octets all rest fault fails took told told' script spares here ended still =
-    let told_so : left ≡ Some (octets ++ rest) = took rest told' in
-    let same : all ≡ octets ++ rest = (let both : Some all ≡ Some (octets ++ rest) = sym told ∙ told_so in cc) in
-    let whole : IsScript (octets ++ rest) = ap (fault_in Replays) (sym same) ∙ script in
-    elim (either fault) [
-      | inl end ↦
-          let octets_are : octets ++ rest ≡ octets = ap (λ (l : List ℕ). octets ++ l) (none_left left' rest (ended end) told') ∙ append-nil octets in
-          spares octets (ap (fault_in Replays) (sym octets_are) ∙ whole) here
-      | inr other ↦ spares (octets ++ rest) whole (still other rest)
-    ]
+no_fault left left' octets all rest fault fails took told told' script spares here ended still = none_fails left left' octets all rest fault fails took told told' (spares all script) here ended still

@@ -7,9 +7,9 @@ pub mod Ends
 pub mod Findings
 pub mod Frames
 pub mod Grammars
-mod LineOctets
 mod LineParts
 pub mod Loops
+pub mod PassedOn
 mod Readings
 mod Supplies
 pub mod Writings

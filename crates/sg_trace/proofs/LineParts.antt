@@ -1,13 +1,13 @@
 -- How the front of what waits becomes part of a line.
-use Rattle.std.proofs.Common.{◌≡◌, ◌⊎◌, ◌+◌, ◌-◌, ◌≤◌, ◌<◌, ℕ, true, false, List, [], ◌∷◌, ◌++◌, length, take, drop, sym, ap, ◌∙◌, subst, inl, inr, arith, append_assoc, length-append}
+use Rattle.std.proofs.Common.{◌≡◌, ◌⊎◌, ◌+◌, ◌-◌, ◌≤◌, ◌<◌, ℕ, Bool, true, false, List, [], ◌∷◌, ◌++◌, length, take, drop, sym, ap, ◌∙◌, subst, inl, inr, arith, append_assoc, length-append}
 use Rattle.std.specs.Prelude.{min}
 use Rattle.std.proofs.lemmas.Bool.{false≢true, eq-eqb, cases_lt}
-use Rattle.std.proofs.lemmas.List.{length-take, length-take-le, length-drop, drop-take, drop-drop, take-append-le}
+use Rattle.std.proofs.lemmas.List.{append-nil, length-take, length-take-le, length-drop, drop-take, drop-drop, take-append-drop, take-append-le}
 use Rattle.std.proofs.Math.ListN.{drop_of_length-le}
 use Rattle.std.proofs.Math.Seq.{take-append_seam, drop-append_seam}
 use Rattle.sg_base.specs.Fields.{Lacks}
 use Rattle.sg_lines.specs.ScriptLines.{NoEnd}
-use Rattle.sg_trace.specs.Fed.{EndsLine, HasMoved}
+use Rattle.sg_trace.specs.Fed.{EndsLine, HasMoved, HoldsLine}
 
 no_end : (xs : List ℕ) → Lacks 10 xs → NoEnd xs
 no_end [] lacks = tt
@@ -60,3 +60,17 @@ behind_part row at end count order within few =
 -- what was read to the front of a row is what waits
 pub read_part : (read behind : List ℕ) (n : ℕ) → n ≤ length read → take (n - 0) (drop 0 (read ++ behind)) ≡ take n read
 read_part read behind n within = let all : n - 0 ≡ n = omega arith in ap (λ (m : ℕ). take m (read ++ behind)) all ∙ take-append-le n read behind within
+
+-- ---- whether a line end waits
+
+pub held : (ended : Bool) (waits : List ℕ) (count : ℕ) → EndsLine ended (take count waits) (drop count waits) (length waits) → ended ≡ true → HoldsLine waits
+held true waits count ends is = (take count waits, drop count waits, sym (take-append-drop count waits), ends)
+held false waits count ends is = absurd (false≢true is)
+
+pub none_held : (ended : Bool) (waits : List ℕ) (count : ℕ) → EndsLine ended (take count waits) (drop count waits) (length waits) → ended ≡ false → NoEnd waits
+none_held true waits count ends is = absurd (false≢true (sym is))
+none_held false waits count ends is = subst NoEnd (sym (append-nil (take count waits)) ∙ ap (λ (l : List ℕ). take count waits ++ l) (sym (all ends.1)) ∙ take-append-drop count waits) ends.0
+  where
+    all : (drop count waits ≡ []) ⊎ (length (take count waits) ≡ length waits) → drop count waits ≡ []
+    all (inl none) = none
+    all (inr whole) = drop_of_length-le waits (omega (arith, whole, length-take count waits))

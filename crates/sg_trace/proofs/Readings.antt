@@ -4,13 +4,11 @@ use Rattle.sg_base.specs.declared.faults.ScriptFault.{ScriptFault}
 use Rattle.sg_lines.specs.Fields.{Gives}
 use Rattle.sg_lines.specs.declared.faults.ReadLineFault.{ReadLineFault}
 use Rattle.sg_lines.specs.declared.faults.ReadLineFault.TheVariants as faults
-use Rattle.sg_lines.specs.LineOf.{version_after}
-use Rattle.sg_lines.specs.declared.lines.Line.{Line}
 use Rattle.sg_trace.proofs.Traces.{whole_some}
 use Rattle.sg_trace.proofs.Frames.{first_fails, line_whole, still_fails, unended_at_end}
-use Rattle.sg_trace.specs.Trace.{line_at}
+use Rattle.sg_trace.specs.Trace.{Spelling, spelled_at}
 use Rattle.sg_trace.specs.Fed.{GivesLine, IsLine}
-use Rattle.sg_trace.specs.Reading.{FirstFails, IsFault, IsNext, IsRead, Reading, refused_as}
+use Rattle.sg_trace.specs.Reading.{FirstFailsBy, IsFaultBy, IsFramed, IsNextBy, IsReadBy, Reading, refused_as}
 use Rattle.sg_trace.specs.declared.status.Status.{Status}
 use Rattle.sg_trace.specs.declared.status.Status.TheVariants.{Read, NoMemory}
 
@@ -18,28 +16,28 @@ end_so : {P Q : Type 0} → P ⊎ Q → (Q → ⊥) → P
 end_so (inl p) isnt = p
 end_so (inr q) isnt = absurd (isnt q)
 
-module _ (version n at : ℕ) (line waits rest got : List ℕ) (left : Option (List ℕ)) (budget : ℕ) (split : waits ++ got ≡ line ++ rest) (is : IsLine line rest left budget)
+module _ {L : Type 0} (spelled : Spelling L) (followed : ℕ → L → ℕ) (framed : IsFramed spelled) (version n at : ℕ) (line waits rest got : List ℕ) (left : Option (List ℕ)) (budget : ℕ) (split : waits ++ got ≡ line ++ rest) (is : IsLine line rest left budget)
     (spent : budget ≡ 0 → rest ≡ [] → 2 ^ 30 < at + length line) where
-  fault_so : (fault : ScriptFault) → line_at version n at line ≡ Err fault → IsFault version n at (waits ++ got) fault left
+  fault_so : (fault : ScriptFault) → spelled_at spelled version n at line ≡ Err fault → IsFaultBy spelled version n at (waits ++ got) fault left
   fault_so fault fails = record {
-    first = subst (λ (o : List ℕ). FirstFails version n at o fault) (sym split) (first_fails version n at line rest _ fault is fails);
-    ended = λ same. (let last = unended_at_end version n at line rest _ is (fails ∙ ap Err same) in end_so last.1 (λ zero. let far = spent zero last.0 in let near = last.2 in omega (arith, far, near)));
+    first = subst (λ (o : List ℕ). FirstFailsBy spelled version n at o fault) (sym split) (first_fails spelled framed version n at line rest _ fault is fails);
+    ended = λ same. (let last = unended_at_end spelled framed version n at line rest _ is (fails ∙ ap Err same) in end_so last.1 (λ zero. let far = spent zero last.0 in let near = last.2 in omega (arith, far, near)));
     still = λ other more.
-        subst (λ (o : List ℕ). FirstFails version n at o fault) (sym (append_assoc line rest more) ∙ ap (λ (l : List ℕ). l ++ more) (sym split))
-        (still_fails version n at line rest _ fault is fails other (rest ++ more));
+        subst (λ (o : List ℕ). FirstFailsBy spelled version n at o fault) (sym (append_assoc line rest more) ∙ ap (λ (l : List ℕ). l ++ more) (sym split))
+        (still_fails spelled framed version n at line rest _ fault is fails other (rest ++ more));
   }
 
   -- the line's fault
-  pub next_err : (fault : ReadLineFault) (budget' : ℕ) (new : Reading) → Gives (Err fault) (line_at version n at line)
-      → IsNext (Err (refused_as n fault)) (record { waits = waits; version = version; number = n; offset = at; budget = budget' }) new got left
+  pub next_err : (fault : ReadLineFault) (budget' : ℕ) (new : Reading) → Gives (Err fault) (spelled_at spelled version n at line)
+      → IsNextBy spelled followed (Err (refused_as n fault)) (record { waits = waits; version = version; number = n; offset = at; budget = budget' }) new got left
   next_err faults.NoMemory budget' new gives = tt
   next_err (faults.Script fault) budget' new gives = (refl, fault_so fault gives)
 
   -- the line itself
-  pub next_ok : (l : Line) (budget' : ℕ) → line_at version n at line ≡ Ok l
-      → IsRead l (record { waits = waits; version = version; number = n; offset = at; budget = budget' }) (record { waits = rest; version = version_after version l; number = n + 1; offset = at + length line; budget = budget }) got
+  pub next_ok : (l : L) (budget' : ℕ) → spelled_at spelled version n at line ≡ Ok l
+      → IsReadBy spelled followed l (record { waits = waits; version = version; number = n; offset = at; budget = budget' }) (record { waits = rest; version = followed version l; number = n + 1; offset = at + length line; budget = budget }) got
   next_ok l budget' read =
-      let whole = line_whole version n at line rest _ l is read in
+      let whole = line_whole spelled framed version n at line rest _ l is read in
       record { line = line; split = split; whole = whole.0; is = read; version = refl; number = refl; offset = refl; within = whole.1 }
 
 -- what a line reader gave, at the value that it answered

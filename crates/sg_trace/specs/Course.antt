@@ -1,9 +1,8 @@
 -- The course of a script: what its lines give, whatever plays them.
-use Rattle.std.specs.Prelude.{ℕ, ◌+◌, ◌^◌, nat_lt, if◌then◌else◌, List, [], ◌∷◌, ◌++◌, length, Option, Some, None, Result, Ok, Err}
+use Rattle.std.specs.Prelude.{ℕ, ◌+◌, List, [], ◌∷◌, ◌++◌, length, Option, Some, None, Result, Ok, Err}
 use Rattle.sg_base.specs.declared.faults.ScriptFault.{ScriptFault}
-use Rattle.sg_base.specs.declared.faults.ScriptFault.TheVariants.{Length}
 use Rattle.sg_lines.specs.ScriptLines.{lines_of}
-use Rattle.sg_trace.specs.Trace.{Stop, AtEnd, AtFault, ForDraw}
+use Rattle.sg_trace.specs.Trace.{Spelling, Stop, AtEnd, AtFault, ForDraw, spelled_at}
 
 -- What a line gives: deeds, as events, and what it leaves of the noise that comes.
 pub record Given (D : Type 0) : Type 0 where
@@ -13,7 +12,7 @@ pub record Given (D : Type 0) : Type 0 where
 -- How a kind of script is read: which octets are the n-th line of a version, and of which version the lines behind it are;
 -- and what a line gives of the noise that comes, or none where it lacks more.
 pub record Ways (L D : Type 0) : Type 0 where
-  pub spelled : ℕ → ℕ → List ℕ → Result L ScriptFault
+  pub spelled : Spelling L
   pub followed : ℕ → L → ℕ
   pub gives : L → List ℕ → Option (Given D)
 
@@ -34,9 +33,9 @@ abbrev pub behind_given : {D : Type 0} → Option (Given D) → List ℕ → (Li
 behind_given None draws later = ended ForDraw draws
 behind_given (Some g) draws later = with_deeds g.deeds (later g.left)
 
--- the n-th line, which begins at this offset; a line ends within the first 2^30 octets of the script
+-- the n-th line, which begins at this offset
 abbrev pub read_at : {L D : Type 0} → Ways L D → ℕ → ℕ → ℕ → List ℕ → Result L ScriptFault
-read_at w version n at line = if nat_lt (2 ^ 30) (at + length line) then Err Length else w.spelled version n line
+read_at w version n at line = spelled_at w.spelled version n at line
 
 abbrev pub behind_line : {L D : Type 0} → Ways L D → ℕ → ℕ → Result L ScriptFault → (ℕ → List ℕ → Course D) → List ℕ → Course D
 behind_line w version n (Err fault) later draws = ended (AtFault n fault) draws

@@ -3,6 +3,10 @@ use Rattle.std.specs.Prelude.{◌≡◌, ◌⊎◌, ◌<◌, ◌≤◌, ℕ, Boo
 use Rattle.sg_lines.specs.ScriptLines.{NoEnd, IsWhole}
 use Rattle.sg_edge.specs.Told.{AtEnd}
 
+-- a whole line is at the front
+abbrev pub HoldsLine : List ℕ → Type 0
+HoldsLine waits = (line rest : List ℕ) × (waits ≡ line ++ rest) × IsWhole line
+
 -- The part was at the front of what waited, and stands behind what the line had.
 abbrev pub MovesPart : List ℕ → List ℕ → List ℕ → List ℕ → List ℕ → Type 0
 MovesPart waited waits had has part = (waited ≡ part ++ waits) × (has ≡ had ++ part)

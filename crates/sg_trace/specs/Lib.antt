@@ -7,7 +7,6 @@ pub mod Trace
 pub mod Fed
 pub mod Finding
 pub mod Grammar
-pub mod LineOctets
 pub mod Loop
 pub mod Output
 pub mod Reading

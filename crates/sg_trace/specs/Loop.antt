@@ -3,7 +3,7 @@ use Rattle.std.specs.Prelude.{◌≡◌, ◌⊎◌, ◌≤◌, ◌+◌, ◌^◌,
 use Rattle.sg_base.specs.declared.faults.ScriptFault.TheVariants.{Unended}
 use Rattle.sg_edge.specs.Told.{AtEnd}
 use Rattle.sg_lines.specs.LineOf.{line_of, version_after}
-use Rattle.sg_lines.specs.ScriptLines.{NoEnd}
+use Rattle.sg_lines.specs.ScriptLines.{IsWhole, NoEnd}
 use Rattle.sg_lines.specs.declared.lines.Line.{Line}
 use Rattle.sg_trace.specs.Course.{Given, Ways, course}
 use Rattle.sg_trace.specs.Output.{IsPrefixOf}
@@ -98,6 +98,7 @@ pub record AreTold {L D : Type 0} (w : Ways L D) (tells : List D → List ℕ) (
   pub part : List ℕ
   pub split : octets ≡ lines ++ part
   pub unended : NoEnd part
+  pub near : length part ≤ 74097
   pub all : IsAll w tells lines draws out BehindAll
 
 -- Of the octets that were read these were played, and those were ahead: a line and what the buffer holds, at most. What the
@@ -123,9 +124,29 @@ abbrev pub LoopEnds : {L D : Type 0} → Ways L D → (List D → List ℕ) → 
 LoopEnds w tells batch statuses.Done octets draws out left = IsAll w tells octets draws out BehindAll × AtEnd left
 LoopEnds w tells batch (statuses.Script n fault) octets draws out left =
     IsAll w tells octets draws out (AtFault n fault) × (fault ≡ Unended → AtEnd left)
-    × (¬ (fault ≡ Unended) → (more : List ℕ) → (course w (octets ++ more) draws).stop ≡ AtFault n fault)
+    × (¬ (fault ≡ Unended) → (more : List ℕ) → course w (octets ++ more) draws ≡ course w octets draws)
 LoopEnds w tells batch statuses.Noise octets draws out left = IsAll w tells octets draws out ForDraw
 LoopEnds w tells batch statuses.Read octets draws out left = AreTold w tells octets draws out
 LoopEnds w tells batch statuses.Write octets draws out left = IsCut w tells batch octets draws out
 LoopEnds w tells batch statuses.NoMemory octets draws out left = IsCut w tells batch octets draws out
 LoopEnds w tells batch other octets draws out left = ⊥
+
+-- ---- what plays each line at once
+
+-- Of the octets that were read these lines, which have no fault and need no more noise, were told, then this line was under
+-- way, or none was, and those octets were ahead: with that line, a line and what the buffer holds at most. Of what the line
+-- under way tells a prefix was written.
+pub record IsCutLine {L D : Type 0} (w : Ways L D) (tells : List D → List ℕ) (octets draws out : List ℕ) : Type 0 where
+  pub lines : List ℕ
+  pub line : List ℕ
+  pub ahead : List ℕ
+  pub split : octets ≡ lines ++ (line ++ ahead)
+  pub one : IsWhole line ⊎ (line ≡ [])
+  pub near : length (line ++ ahead) ≤ 74097
+  pub sound : (course w lines draws).stop ≡ BehindAll
+  pub begun : IsPrefixOf (tells (course w lines draws).deeds) out
+  pub within : IsPrefixOf out (tells (course w (lines ++ line) draws).deeds)
+
+-- The loop ends as ever, and whatever ends it, nothing is lost but of the line under way.
+abbrev pub PromptEnds : {L D : Type 0} → Ways L D → (List D → List ℕ) → ℕ → Status → List ℕ → List ℕ → List ℕ → Option (List ℕ) → Type 0
+PromptEnds w tells batch status octets draws out left = LoopEnds w tells batch status octets draws out left × IsCutLine w tells octets draws out

@@ -13,10 +13,17 @@ use Rattle.sg_gateway.specs.Drawn.{Supplied, supplied}
 use Rattle.sg_gateway.specs.Events.{events_of}
 use Rattle.sg_gateway.specs.Step.{Event}
 
+-- which octets are the n-th line of a script of a version, or their first fault
+abbrev pub Spelling : Type 0 → Type 0
+Spelling L = ℕ → ℕ → List ℕ → Result L ScriptFault
+
 -- the n-th line of a script of that version, which begins at this offset, or its first fault; a line ends within
 -- the first 2^30 octets of the script
-unfoldable pub line_at : ℕ → ℕ → ℕ → List ℕ → Result Line ScriptFault
-line_at version n at line = if nat_lt (2 ^ 30) (at + length line) then Err Length else line_of version n line
+abbrev pub spelled_at : {L : Type 0} → Spelling L → ℕ → ℕ → ℕ → List ℕ → Result L ScriptFault
+spelled_at spelled version n at line = if nat_lt (2 ^ 30) (at + length line) then Err Length else spelled version n line
+
+abbrev pub line_at : ℕ → ℕ → ℕ → List ℕ → Result Line ScriptFault
+line_at version n at line = spelled_at line_of version n at line
 
 -- what a run took of the outside, each in order: readings of the clock, answers of receives, octets of noise
 pub record Outside : Type 0 where

@@ -1,6 +1,6 @@
 //! Captures behind a script, read record by record.
 
-ghost use Rattle.std.specs.Prelude.{◌≡◌, ◌⊎◌, ◌<◌, ◌≤◌, ◌+◌, ◌-◌, ◌^◌, ℕ, List, [], length, drop, IfErr, Err};
+ghost use Rattle.std.specs.Prelude.{◌≡◌, ◌↔◌, ◌⊎◌, ◌<◌, ◌≤◌, ◌+◌, ◌-◌, ◌^◌, ℕ, true, List, [], length, drop, IfErr, Err};
 ghost use Rattle.sg_pcap.specs.Records.{record_length};
 ghost use Rattle.sg_trace.specs.CaptureReading.{HasRecord, IsHeaderRead, IsRecordRead};
 ghost use Rattle.sg_trace.specs.Causes.{IsCaused};
@@ -59,6 +59,14 @@ impl CaptureReader {
             most: SCRIPT_MOST - offset,
             budget,
         }
+    }
+
+    /// Whether a whole record waits, by its head, so that none is waited for.
+    pub fn holds_record(&self, form: Form) -> bool
+        ensures { (result ≡ true) ↔ ((16 ≤ length self.now.waits) × (record_length form self.now.waits ≤ length self.now.waits)) }
+    {
+        let waiting = self.read_buffer.waiting();
+        waiting.len() >= HEAD && waiting.len() >= record_length(form, waiting)
     }
 
     /// Reads the header, where nothing was read yet. `Capture` where it has a fault; `Read` where the source fails.

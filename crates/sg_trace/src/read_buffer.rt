@@ -1,8 +1,9 @@
 //! Octets that wait to be read into lines.
 
-ghost use Rattle.std.specs.Prelude.{◌≡◌, ◌↔◌, ◌⊎◌, ◌<◌, ◌≤◌, ◌+◌, ◌-◌, length, ◌++◌, ℕ, List, [], take, drop, IfOk, OnOk, OnErr, true};
+ghost use Rattle.std.specs.Prelude.{◌≡◌, ◌↔◌, ◌⊎◌, ◌<◌, ◌≤◌, ◌+◌, ◌-◌, length, ◌++◌, ℕ, List, [], take, drop, IfOk, OnOk, OnErr, true, false};
 ghost use Rattle.sg_edge.specs.Told.{AtEnd, HasCause, Tells, TookIn};
-ghost use Rattle.sg_trace.specs.Fed.{EndsLine, HasMoved, MovesPart};
+ghost use Rattle.sg_lines.specs.ScriptLines.{NoEnd};
+ghost use Rattle.sg_trace.specs.Fed.{EndsLine, HasMoved, HoldsLine, MovesPart};
 
 use memchr::memchr;
 use sg_base::{Failed, NoMemory};
@@ -45,6 +46,22 @@ impl ReadBuffer {
         ensures { (result ≡ true) ↔ (self.now ≡ []) }
     {
         self.at == self.end
+    }
+
+    /// What waits.
+    pub fn waiting(&self) -> &[u8]
+        ensures { result.now ≡ self.now }
+    {
+        &self.part[self.at..self.end]
+    }
+
+    /// Whether a line end waits.
+    pub fn holds_line(&self) -> bool
+        ensures holds { result ≡ true → HoldsLine self.now }
+        ensures none { result ≡ false → NoEnd self.now }
+    {
+        let waiting = self.waiting();
+        line_in(waiting, waiting.len()).1
     }
 
     /// Moves a line's octets from the front to the end of `line`: all up to the first line end, or as many

@@ -1,22 +1,22 @@
 //! Scripts, read line by line.
 
-ghost use Rattle.std.specs.Prelude.{◌≡◌, ◌↔◌, ◌⊎◌, ◌≤◌, ◌+◌, ◌^◌, ℕ, List, [], length, IfOk, IfSome};
+ghost use Rattle.std.specs.Prelude.{◌≡◌, ◌↔◌, ◌⊎◌, ◌≤◌, ◌+◌, ◌^◌, ℕ, true, false, List, [], length, IfOk, IfSome};
 ghost use Rattle.sg_trace.specs.Causes.{IsCaused};
 ghost use Rattle.sg_trace.specs.Finding.{FitsFound, IsFound};
-ghost use Rattle.sg_trace.specs.LineOctets.{GivesOctets};
-ghost use Rattle.sg_trace.specs.Trace.{Captures, begins_capture, line_at};
-ghost use Rattle.sg_trace.specs.Reading.{IsNext, refused_as};
+ghost use Rattle.sg_trace.specs.Fed.{HoldsLine};
+ghost use Rattle.sg_trace.specs.Trace.{Captures, begins_capture, spelled_at};
+ghost use Rattle.sg_trace.specs.Reading.{IsNextBy, refused_as};
 ghost use Rattle.sg_edge.specs.Told.{TookIn};
 ghost use Rattle.sg_lines.specs.Fields.{Gives};
-ghost use Rattle.sg_lines.specs.LineOf.{version_after};
-ghost use Rattle.sg_lines.specs.LineText.{FitsLine};
+ghost use Rattle.sg_lines.specs.ScriptLines.{NoEnd};
 
 use crate::line_reader::next_line;
 use crate::read_buffer::ReadBuffer;
+use crate::script_line::ScriptLine;
 use crate::status::Status;
 use sg_base::{SCRIPT_MOST, ScriptFault};
 use sg_edge::Source;
-use sg_lines::{Line, ReadLineFault, read_line};
+use sg_lines::{Line, ReadLineFault};
 use std::alloc::Global;
 use std::marker::Model;
 
@@ -46,14 +46,6 @@ impl Model for ScriptReader {
     ghost invariant = { λ r. (r.at + length r.line.items + length r.read_buffer + r.budget ≡ 2 ^ 30 + 1) × (r.count ≤ r.at + length r.line.items) × ((r.version ≡ 1) ⊎ (r.version ≡ 2)) };
 }
 
-/// Where a line stands: in a script of this version, its number, from 1, and its offset.
-#[derive(Clone, Copy)]
-pub struct Place {
-    pub version: u8,
-    pub number: u64,
-    pub offset: u64,
-}
-
 /// What stands next in a script behind which a capture may stand.
 #[derive(Drop)]
 pub enum Found {
@@ -80,12 +72,24 @@ impl ScriptReader {
         }
     }
 
+    /// Whether a whole line waits, so that none is waited for.
+    pub fn holds_line(&self) -> bool
+        ensures holds { result ≡ true → HoldsLine self.now.waits }
+        ensures none { result ≡ false → NoEnd self.now.waits }
+    {
+        self.read_buffer.holds_line()
+    }
+
     /// Reads the next line; none at the end of the source. `Script` where the line is outside the grammar,
     /// or holds an octet past the first 2^30 of the script; `Read` where the source fails.
-    pub fn next<S: Source>(&mut self, alloc: Global, source: &mut S) -> Result<Option<Line>, Status>
+    pub fn next<L: ScriptLine, S: Source>(
+        &mut self,
+        alloc: Global,
+        source: &mut S,
+    ) -> Result<Option<L>, Status>
         ensures next { (got : List ℕ) × TookIn (S.left source.old) (S.left source.new) got
-            × IsNext result self.old self.new got (S.left source.new) × (length got + self.new.budget ≡ self.old.budget) }
-        ensures fits { IfOk result (λ found. IfSome found (λ line. FitsLine self.old.version self.old.number line)) }
+            × IsNextBy L.spelled L.followed result self.old self.new got (S.left source.new) × (length got + self.new.budget ≡ self.old.budget) }
+        ensures fits { IfOk result (λ found. IfSome found (λ line. L.fits self.old.version self.old.number line)) }
         ensures near { length self.old.waits ≤ 4096 → (length self.new.waits ≤ 4096) × (length self.old.waits + self.old.budget ≤ self.new.budget + 74097) }
         ensures given { S.given source.new + self.new.budget ≤ S.given source.old + self.old.budget }
         ensures cause { IsCaused Status.Read result (S.faults source.old) (S.faults source.new) (S.failed source.new) }
@@ -103,9 +107,10 @@ impl ScriptReader {
         }
         let number = self.count + 1;
         self.count = number;
-        match line_at(alloc, self.version, number, self.at, &self.line) {
+        L::are_framed();
+        match line_at::<L>(alloc, self.version, number, self.at, &self.line) {
             Ok(line) => {
-                self.version = version_after(self.version, &line);
+                self.version = line.version_after(self.version);
                 Ok(Some(line))
             }
             Err(fault) => Err(refused(number, fault)),
@@ -142,54 +147,13 @@ impl ScriptReader {
         if begins_capture(number, self.at, &self.line) {
             return Ok(Found::Capture);
         }
-        match line_at(alloc, self.version, number, self.at, &self.line) {
+        match line_at::<Line>(alloc, self.version, number, self.at, &self.line) {
             Ok(line) => {
-                self.version = version_after(self.version, &line);
+                self.version = line.version_after(self.version);
                 Ok(Found::Line(line))
             }
             Err(fault) => Err(refused(number, fault)),
         }
-    }
-
-    /// Reads the octets of the next line, whatever they say, into the empty `line`; none at the end of the source, and none
-    /// where the octets that count are behind.
-    /// `Read` where the source fails.
-    pub fn next_octets<S: Source>(
-        &mut self,
-        source: &mut S,
-        line: &mut Vec<u8>,
-    ) -> Result<Option<Place>, Status>
-        requires { line.old.items ≡ [] }
-        ensures next { (got : List ℕ) × TookIn (S.left source.old) (S.left source.new) got
-            × GivesOctets result line.new.items self.old self.new got (S.left source.new) × (length got + self.new.budget ≡ self.old.budget) }
-        ensures near { length self.old.waits ≤ 4096 → (length self.new.waits ≤ 4096) × (length self.old.waits + self.old.budget ≤ self.new.budget + 74097) }
-        ensures given { S.given source.new + self.new.budget ≤ S.given source.old + self.old.budget }
-        ensures cause { IsCaused Status.Read result (S.faults source.old) (S.faults source.new) (S.failed source.new) }
-    {
-        self.at += self.line.len() as u64;
-        self.line.clear();
-        let place = Place {
-            version: self.version,
-            number: self.count + 1,
-            offset: self.at,
-        };
-        let found = next_line(&mut self.read_buffer, source, line, &mut self.budget);
-        self.at += line.len() as u64;
-        match found {
-            Err(status) => Err(status),
-            Ok(false) => Ok(None),
-            Ok(true) => {
-                self.count = place.number;
-                Ok(Some(place))
-            }
-        }
-    }
-
-    /// The lines behind this one are of the version that it says, where it is the first.
-    pub fn follow(&mut self, line: &Line)
-        ensures { self.new ≡ record self.old { version = version_after self.old.version line.now } }
-    {
-        self.version = version_after(self.version, line);
     }
 
     /// What waits behind the lines that were read, with its offset, and how many octets may still be asked for.
@@ -215,36 +179,23 @@ fn begins_capture(number: u64, at: u64, line: &[u8]) -> bool
     number > 1 && at + line.len() as u64 <= SCRIPT_MOST && line == b"capture\n".as_slice()
 }
 
-/// The version of what follows a line.
-fn version_after(version: u8, line: &Line) -> u8
-    requires { (version ≡ 1) ⊎ (version ≡ 2) }
-    ensures is { result ≡ version_after version line.now }
-    ensures one_of_two { (result ≡ 1) ⊎ (result ≡ 2) }
-{
-    match line {
-        Line::Header => 1,
-        Line::HeaderTwo => 2,
-        _ => version,
-    }
-}
-
 /// The line of this number, which begins at this offset of a script of that version.
-fn line_at(
+fn line_at<L: ScriptLine>(
     alloc: Global,
     version: u8,
     number: u64,
     at: u64,
     line: &[u8],
-) -> Result<Line, ReadLineFault>
+) -> Result<L, ReadLineFault>
     requires version { (version ≡ 1) ⊎ (version ≡ 2) }
     requires within { at + length line.now ≤ 2 ^ 30 + 1 }
-    ensures exact { Gives result (line_at version number at line.now) }
-    ensures fits { IfOk result (λ l. FitsLine version number l) }
+    ensures exact { Gives result (spelled_at L.spelled version number at line.now) }
+    ensures fits { IfOk result (λ l. L.fits version number l) }
 {
     if at + line.len() as u64 > SCRIPT_MOST {
         return Err(ReadLineFault::Script(ScriptFault::Length));
     }
-    read_line(alloc, version, number, line)
+    L::read(alloc, version, number, line)
 }
 
 fn refused(number: u64, fault: ReadLineFault) -> Status

@@ -7,8 +7,11 @@ mod progress;
 use crate::progress::Progress;
 use sg_edge::{RngNoise, StdSink, StdSource, SystemRng, UdpLink, WallClock};
 use sg_run::Status;
-use std::io::ErrorKind;
+use std::io::{BufWriter, ErrorKind};
 use std::process::ExitCode;
+
+/// How many octets standard output holds before it passes them on unasked.
+const OUTPUT_ROOM: usize = 65_536;
 
 /// The words after the program's name. `Usage` where one of all words isn't UTF-8.
 fn words(rt: &HostRuntime) -> Result<Vec<String>, Status> {
@@ -22,14 +25,16 @@ fn words(rt: &HostRuntime) -> Result<Vec<String>, Status> {
 }
 
 fn main(rt: HostRuntime) -> ExitCode {
-    let status = match words(&rt) {
-        Err(status) => status,
-        Ok(words) => sg_run::run(
+    let output = BufWriter::with_capacity(rt.alloc(), OUTPUT_ROOM, std::io::writer(&rt));
+    let status = match (words(&rt), output) {
+        (Err(status), _) => status,
+        (_, Err(_)) => Status::NoMemory,
+        (Ok(words), Ok(output)) => sg_run::run(
             &rt,
             rt.alloc(),
             &words,
             &mut StdSource::make(rt.reader(), &rt),
-            &mut StdSink::make(std::io::writer(&rt), &rt),
+            &mut StdSink::make(output, &rt),
             &mut UdpLink::make(rt.alloc(), &rt),
             &mut WallClock::make(&rt),
             &mut RngNoise::make(SystemRng(&rt)),

@@ -1,6 +1,6 @@
-use Rattle.std.proofs.Common.{rules, ◌≡◌, ◌⊎◌, ◌∙◌, ◌++◌, ℕ, List, [], drop, Option, Some, None, Ok, Err, refl, sym, ap, subst, inl, inr, append_assoc, length-append, arith}
+use Rattle.std.proofs.Common.{rules, ◌≡◌, ◌≤◌, ◌⊎◌, ◌∙◌, ◌++◌, ℕ, List, [], length, drop, Option, Some, None, Ok, Err, refl, sym, ap, subst, inl, inr, append_assoc, length-append, arith}
 use Rattle.std.proofs.lemmas.List.{append-nil, length-map}
-use Rattle.sg_capture.proofs.Readings.{IsReadingOn, closed_at_end, closed_at_err, ends_met, met_not_read, near_rest, record_goes, starts}
+use Rattle.sg_capture.proofs.Readings.{IsReadingOn, closed_at_end, closed_at_err, cut_at_end, ends_met, met_not_read, near_rest, record_goes, starts}
 use Rattle.sg_capture.specs.Meeting.{EndsReading, IsMet, IsToldOf, StandsFor, first_of, record_occurs}
 use Rattle.sg_capture.specs.declared.progress.Progress.{Progress}
 use Rattle.sg_capture.proofs.Outputs.{events_in-append, output_of-append}
@@ -10,9 +10,10 @@ use Rattle.sg_front.specs.States.{unshared}
 use Rattle.sg_gateway.specs.Runs.{world_after}
 use Rattle.sg_pcap.specs.Capture.{records_in, record_within}
 use Rattle.sg_pcap.specs.declared.records.Record.{Record}
-use Rattle.sg_playback.specs.Playing.{effects, waiting}
+use Rattle.sg_playback.specs.Playing.{effects, text_from, waiting}
 use Rattle.sg_table.specs.Batches.{arrived}
 use Rattle.sg_trace.proofs.Causes.{ok_not}
+use Rattle.sg_trace.proofs.PassedOn.{behind_kept, nothing_kept, write_not}
 use Rattle.sg_trace.proofs.Ends.{closes_not, ended_closed, ended_quiet}
 use Rattle.sg_trace.proofs.Traces.{world_after-append}
 use Rattle.sg_trace.specs.Captured.{Occurrence, captured_events, output_of}
@@ -25,10 +26,38 @@ octets_so : (waits0 got got' consumed waits rest : List ℕ) → waits0 ++ got �
 octets_so waits0 got got' consumed waits rest first then =
     sym (append_assoc waits0 got got') ∙ ap (λ (l : List ℕ). l ++ got') first ∙ append_assoc consumed waits got' ∙ ap (λ (l : List ℕ). consumed ++ l) then
 
+-- ---- where what was told isn't passed on
+
 pub returns-in-Err-clause-ran : goal.returns-in-Err-clause-ran
 returns-in-Err-clause-ran g c =
     let so_far = c.records.invariant.0 in
-    let got = c.in-Err.ensures.next in
+    let left = g.S.Source.left c.records.source in
+    let none : List ℕ = [] in
+    let octets = octets_so c.args.reader.now.waits so_far.1 none so_far.0 c.records.reader.waits (c.records.reader.waits ++ none) so_far.3 refl in
+    let near : length (c.records.reader.waits ++ none) ≤ 266256 = omega (arith, c.records.invariant.8, length-append c.records.reader.waits none) in
+    let few : length (waiting c.records.player) ≤ 258 = omega (arith, c.records.invariant.7, length-map c.records.player.waits arrived) in (
+      so_far.1 ++ none,
+      took_more _ _ _ so_far.1 none so_far.2 (took_none left),
+      omega (arith, so_far.4, length-append so_far.1 none),
+      λ w stands.
+          (let now = so_far.5 w stands in (
+            output_of w now.0 ++ none,
+            wrote_more _ _ _ (output_of w now.0) none now.1 (nothing_kept _ _ c.in-Err.ensures.kept),
+            subst (λ (o : List ℕ). EndsReading c.in-Err.status w (waiting c.args.player.now) c.args.player.now.front.table.moment (records_in c.args.reader.now.most c.args.form c.args.reader.now.at) o (output_of w now.0 ++ none) left) (sym octets)
+                (cut_at_end (records_in c.args.reader.now.most c.args.form c.args.reader.now.at) c.args.reader.now.most c.args.form so_far.0 c.records.reader.at c.args.player.now.front.table.moment (waiting c.args.player.now) (waiting c.records.player) now.0 c.records.progress now.2
+                w c.in-Err.status (c.records.reader.waits ++ none) none left near (inl c.in-Err.ensures.only, (text_from (unshared (world_after w (captured_events now.0))) (waiting c.records.player), refl), few)),
+          )),
+    )
+
+pub returns-in-Err-clause-read : goal.returns-in-Err-clause-read
+returns-in-Err-clause-read g c = ended_quiet _ _ _ _ _ c.records.invariant.4 (write_not c.in-Err.status Read c.in-Err.ensures.only (λ is. cc))
+
+-- ---- what is read and played
+
+pub returns-in-Err-next-clause-ran : goal.returns-in-Err-next-clause-ran
+returns-in-Err-next-clause-ran g c =
+    let so_far = c.records.invariant.0 in
+    let got = c.in-Err-next.ensures.next in
     let left = g.S.Source.left c.next.new.source in
     let octets = octets_so c.args.reader.now.waits so_far.1 got.0 so_far.0 c.records.reader.waits (c.records.reader.waits ++ got.0) so_far.3 refl in (
       so_far.1 ++ got.0,
@@ -38,10 +67,10 @@ returns-in-Err-clause-ran g c =
           (let now = so_far.5 w stands in
           let closed = c.close.ensures.closed (unshared (world_after w (captured_events now.0))) now.3 in (
             output_of w now.0 ++ closed.0,
-            wrote_more _ _ _ (output_of w now.0) closed.0 now.1 closed.1,
+            wrote_more _ _ _ (output_of w now.0) closed.0 now.1 (behind_kept _ _ _ closed.0 c.in-Ok.ensures.kept closed.1),
             subst (λ (o : List ℕ). EndsReading c.close.result w (waiting c.args.player.now) c.args.player.now.front.table.moment (records_in c.args.reader.now.most c.args.form c.args.reader.now.at) o (output_of w now.0 ++ closed.0) left) (sym octets)
                 (closed_at_err (records_in c.args.reader.now.most c.args.form c.args.reader.now.at) c.args.reader.now.most c.args.form so_far.0 c.records.reader.at c.args.player.now.front.table.moment (waiting c.args.player.now) (waiting c.records.player) now.0 c.records.progress now.2
-                w c.in-Err.status c.close.result c.records.reader c.next.new.self got.0 closed.0 left (near_rest c.records.reader.waits got.0 _ _ (c.in-Err.ensures.near c.records.invariant.8).1 got.3) c.records.invariant.1 refl got.2 closed.2),
+                w c.in-Err-next.status c.close.result c.records.reader c.next.new.self got.0 closed.0 left (near_rest c.records.reader.waits got.0 _ _ (c.in-Err-next.ensures.near c.records.invariant.8).1 got.3) c.records.invariant.1 refl got.2 closed.2),
           )),
     )
 
@@ -59,7 +88,7 @@ returns-in-Ok-None-clause-ran g c =
           (let now = so_far.5 w stands in
           let closed = c.close-in-Ok-None.ensures.closed (unshared (world_after w (captured_events now.0))) now.3 in (
             output_of w now.0 ++ closed.0,
-            wrote_more _ _ _ (output_of w now.0) closed.0 now.1 closed.1,
+            wrote_more _ _ _ (output_of w now.0) closed.0 now.1 (behind_kept _ _ _ closed.0 c.in-Ok.ensures.kept closed.1),
             subst (λ (o : List ℕ). EndsReading c.close-in-Ok-None.result w (waiting c.args.player.now) c.args.player.now.front.table.moment (records_in c.args.reader.now.most c.args.form c.args.reader.now.at) o (output_of w now.0 ++ closed.0) left) (sym octets)
                 (closed_at_end (records_in c.args.reader.now.most c.args.form c.args.reader.now.at) c.args.reader.now.most c.args.form so_far.0 c.records.reader.at c.args.player.now.front.table.moment (waiting c.args.player.now) (waiting c.records.player) now.0 c.records.progress now.2
                 w c.close-in-Ok-None.result [] closed.0 left refl (end_so next.1 (λ far. omega (arith, far, c.records.invariant.2))) closed.2),
@@ -88,7 +117,7 @@ returns-in-Err-play_record-clause-ran g c =
           (let now = so_far.5 w stands in
           let met = c.in-Err-play_record.ensures.met (world_after w (captured_events now.0)) now.3 in (
             output_of w now.0 ++ met.0,
-            wrote_more _ _ _ (output_of w now.0) met.0 now.1 met.1,
+            wrote_more _ _ _ (output_of w now.0) met.0 now.1 (behind_kept _ _ _ met.0 c.in-Ok.ensures.kept met.1),
             subst (λ (o : List ℕ). EndsReading c.in-Err-play_record.status w (waiting c.args.player.now) c.args.player.now.front.table.moment (records_in c.args.reader.now.most c.args.form c.args.reader.now.at) o (output_of w now.0 ++ met.0) left) (sym octets)
                 (ends_met (records_in c.args.reader.now.most c.args.form c.args.reader.now.at) c.args.reader.now.most c.args.form so_far.0 c.records.reader.at c.args.player.now.front.table.moment (waiting c.args.player.now) (waiting c.records.player) now.0 c.records.progress now.2
                 w c.in-Err-play_record.status c.in-Ok-Some.record part c.next.new.self.waits (waiting c.play_record.new.player) (StandsFor c.play_record.new.player.front) met.0 left (omega (arith, few, length-map c.records.player.waits arrived)) (c.in-Ok-Some.ensures.near c.records.invariant.8).0 is next.0.whole
@@ -132,13 +161,13 @@ records-preserved g c =
         omega (arith, so_far.4, got.3, length-append so_far.1 got.0),
         λ w stands.
             (let now = so_far.5 w stands in
-            let met = c.in-Ok.ensures.met (world_after w (captured_events now.0)) now.3 in
+            let met = c.in-Ok-play_record.ensures.met (world_after w (captured_events now.0)) now.3 in
             let told : IsToldOf (world_after w (captured_events now.0)) (waiting c.records.player) (waiting c.play_record.new.player)
             (record_occurs c.records.progress.last (first_of c.records.progress.first c.in-Ok-Some.record.millis) c.records.progress.top c.records.progress.number (record { millis = c.in-Ok-Some.record.millis; frame = drop 16 part })) (StandsFor c.play_record.new.player.front) met.0 =
             subst (λ (f : List ℕ). IsToldOf (world_after w (captured_events now.0)) (waiting c.records.player) (waiting c.play_record.new.player)
             (record_occurs c.records.progress.last (first_of c.records.progress.first c.in-Ok-Some.record.millis) c.records.progress.top c.records.progress.number (record { millis = c.in-Ok-Some.record.millis; frame = f })) (StandsFor c.play_record.new.player.front) met.0) c.frame.ensures met.2 in (
               now.0 ++ told.told,
-              subst (Wrote (g.K.Sink.written c.args.sink.now) (g.K.Sink.written c.play_record.new.sink)) (ap (λ (o : List ℕ). output_of w now.0 ++ o) told.written ∙ sym (output_of-append w now.0 told.told)) (wrote_more _ _ _ (output_of w now.0) met.0 now.1 met.1),
+              subst (Wrote (g.K.Sink.written c.args.sink.now) (g.K.Sink.written c.play_record.new.sink)) (ap (λ (o : List ℕ). output_of w now.0 ++ o) told.written ∙ sym (output_of-append w now.0 told.told)) (wrote_more _ _ _ (output_of w now.0) met.0 now.1 (behind_kept _ _ _ met.0 c.in-Ok.ensures.kept met.1)),
               subst (λ (a : ℕ). IsReadingOn (records_in c.args.reader.now.most c.args.form c.args.reader.now.at) c.args.reader.now.most c.args.form (so_far.0 ++ part) a c.args.player.now.front.table.moment (waiting c.args.player.now) (waiting c.play_record.new.player) (now.0 ++ told.told) c.after-progress.result)
                   (omega (arith, at, next.0.whole))
                   (record_goes (records_in c.args.reader.now.most c.args.form c.args.reader.now.at) c.args.reader.now.most c.args.form so_far.0 c.records.reader.at c.args.player.now.front.table.moment (waiting c.args.player.now) (waiting c.records.player) now.0 c.records.progress now.2
@@ -152,7 +181,7 @@ records-preserved g c =
       search rules,
       search rules,
       omega (arith, c.records.invariant.6, c.next.ensures.given),
-      c.in-Ok.ensures.few,
+      c.in-Ok-play_record.ensures.few,
       (c.in-Ok-Some.ensures.near c.records.invariant.8).0,
     )
 
@@ -187,13 +216,13 @@ records-init g c =
 
 -- ---- whose failure it was
 
-pub returns-in-Err-clause-read : goal.returns-in-Err-clause-read
-returns-in-Err-clause-read g c =
+pub returns-in-Err-next-clause-read : goal.returns-in-Err-next-clause-read
+returns-in-Err-next-clause-read g c =
     let so_far = c.records.invariant.0 in
     let w = c.requires.stands.0 in
     let now = so_far.5 w c.requires.stands.1 in
     let closed = c.close.ensures.closed (unshared (world_after w (captured_events now.0))) now.3 in
-    ended_closed effects 258 (Option Record) c.in-Err.status c.close.result _ _ closed.0 closed.2 _ _ _ _ c.records.invariant.4 c.in-Err.ensures.cause
+    ended_closed effects 258 (Option Record) c.in-Err-next.status c.close.result _ _ closed.0 closed.2 _ _ _ _ c.records.invariant.4 c.in-Err-next.ensures.cause
 
 pub returns-in-Ok-None-clause-read : goal.returns-in-Ok-None-clause-read
 returns-in-Ok-None-clause-read g c =

@@ -13,14 +13,14 @@ returns-in-Err-clause-done g c =
 pub returns-in-Ok-clause-done : goal.returns-in-Ok-clause-done
 returns-in-Ok-clause-done g c =
     let held = c.in-Ok.ensures.held in
-    let wrote = line_so c.tell.result _ _ _ c.tell.ensures.told in
-    (held.0, wrote.0, held.1, wrote.1, told_held c.tell.result c.args.outcome.now _ held.0 wrote.0 c.requires.asks c.requires.plain held.2 wrote.2 wrote.3 wrote.4)
+    let wrote = line_so c.tell_at_once.result _ _ _ c.tell_at_once.ensures.told in
+    (held.0, wrote.0, held.1, wrote.1, told_held c.tell_at_once.result c.args.outcome.now _ held.0 wrote.0 c.requires.asks c.requires.plain held.2 wrote.2 wrote.3 wrote.4)
 
 pub returns-in-Ok-clause-only : goal.returns-in-Ok-clause-only
-returns-in-Ok-clause-only g c = written_only c.tell.result (line_so c.tell.result _ _ _ c.tell.ensures.told).4
+returns-in-Ok-clause-only g c = written_only c.tell_at_once.result (line_so c.tell_at_once.result _ _ _ c.tell_at_once.ensures.told).4
 
 pub returns-in-Ok-clause-write : goal.returns-in-Ok-clause-write
-returns-in-Ok-clause-write g c = due_so Write c.tell.result _ _ _ c.tell.ensures.cause
+returns-in-Ok-clause-write g c = due_so Write c.tell_at_once.result _ _ _ c.tell_at_once.ensures.cause
 
 pub returns-in-Ok-clause-link : goal.returns-in-Ok-clause-link
-returns-in-Ok-clause-link g c = written_link c.tell.result _ _ (line_so c.tell.result _ _ _ c.tell.ensures.told).4 c.in-Ok.ensures.cause.later
+returns-in-Ok-clause-link g c = written_link c.tell_at_once.result _ _ (line_so c.tell_at_once.result _ _ _ c.tell_at_once.ensures.told).4 c.in-Ok.ensures.cause.later

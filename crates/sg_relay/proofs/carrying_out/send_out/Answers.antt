@@ -18,19 +18,19 @@ returns-in-Ok-clause-done g c = (
 
 pub returns-in-Err-clause-done : goal.returns-in-Err-clause-done
 returns-in-Err-clause-done g c =
-    let wrote = line_so c.tell.result _ _ _ c.tell.ensures.told in (
+    let wrote = line_so c.tell_at_once.result _ _ _ c.tell_at_once.ensures.told in (
       Send c.args.port c.args.to c.args.octets.now false ∷ [],
       wrote.0,
       c.in-Err.ensures.told,
       wrote.1,
-      told_unsent c.tell.result c.args.port c.args.to c.args.octets.now wrote.0 wrote.2 wrote.3 wrote.4,
+      told_unsent c.tell_at_once.result c.args.port c.args.to c.args.octets.now wrote.0 wrote.2 wrote.3 wrote.4,
     )
 
 pub returns-in-Err-clause-only : goal.returns-in-Err-clause-only
-returns-in-Err-clause-only g c = written_only c.tell.result (line_so c.tell.result _ _ _ c.tell.ensures.told).4
+returns-in-Err-clause-only g c = written_only c.tell_at_once.result (line_so c.tell_at_once.result _ _ _ c.tell_at_once.ensures.told).4
 
 pub returns-in-Err-clause-write : goal.returns-in-Err-clause-write
-returns-in-Err-clause-write g c = due_so Write c.tell.result _ _ _ c.tell.ensures.cause
+returns-in-Err-clause-write g c = due_so Write c.tell_at_once.result _ _ _ c.tell_at_once.ensures.cause
 
 pub returns-in-Err-clause-link : goal.returns-in-Err-clause-link
-returns-in-Err-clause-link g c = written_link c.tell.result _ _ (line_so c.tell.result _ _ _ c.tell.ensures.told).4 c.in-Err.ensures.cause.later
+returns-in-Err-clause-link g c = written_link c.tell_at_once.result _ _ (line_so c.tell_at_once.result _ _ _ c.tell_at_once.ensures.told).4 c.in-Err.ensures.cause.later

@@ -1,4 +1,4 @@
-use Rattle.std.proofs.Common.{◌∷◌, [], refl, sym, subst}
+use Rattle.std.proofs.Common.{◌∷◌, [], refl, sym, subst, arith}
 use Rattle.sg_bridge.specs.Bridged.{Joins, Parts}
 use Rattle.sg_bridge.specs.declared.lines.BridgeLine.TheVariants as lines
 use Rattle.sg_bridging.proofs.Steps.{played_by, stepped_one}
@@ -19,7 +19,7 @@ returns-in-Join-clause-played g c = λ s stands.
       added_none _,
       o.1,
       subst (λ l. IsPlayed c.join.result l s c.join.new.self [] o.0) (sym c.in-Join.is)
-          (played_by (lines.Join c.in-Join.first c.in-Join.second) [] (Joins c.in-Join.first c.in-Join.second ∷ []) (λ later more. refl) c.join.result s c.join.new.self o.0
+          (played_by (lines.Join c.in-Join.first c.in-Join.second) [] (Joins c.in-Join.first c.in-Join.second ∷ []) (omega arith) (λ more. refl) c.join.result s c.join.new.self o.0
           (stepped_one c.join.result s (Joins c.in-Join.first c.in-Join.second) c.join.new.self o.0 o.2)),
     )
 
@@ -31,6 +31,6 @@ returns-in-Part-clause-played g c = λ s stands.
       added_none _,
       o.1,
       subst (λ l. IsPlayed c.part.result l s c.part.new.self [] o.0) (sym c.in-Part.is)
-          (played_by (lines.Part c.in-Part.call) [] (Parts c.in-Part.call ∷ []) (λ later more. refl) c.part.result s c.part.new.self o.0
+          (played_by (lines.Part c.in-Part.call) [] (Parts c.in-Part.call ∷ []) (omega arith) (λ more. refl) c.part.result s c.part.new.self o.0
           (stepped_one c.part.result s (Parts c.in-Part.call) c.part.new.self o.0 o.2)),
     )

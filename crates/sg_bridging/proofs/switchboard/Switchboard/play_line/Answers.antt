@@ -1,4 +1,4 @@
-use Rattle.std.proofs.Common.{rules, ◌≡◌, ◌∷◌, [], ◌++◌, List, ℕ, Ok, Err, ◌∙◌, ap, inl, inr, refl, sym, subst}
+use Rattle.std.proofs.Common.{rules, ◌≡◌, ◌∷◌, [], ◌++◌, List, ℕ, Ok, Err, ◌∙◌, ap, inl, inr, refl, sym, subst, arith}
 use Rattle.sg_bridge.specs.Bridged.{Happens, happened}
 use Rattle.sg_bridge.specs.declared.lines.BridgeLine.TheVariants as lines
 use Rattle.sg_bridging.proofs.Steps.{played_by, stepped_cut, stepped_one, stepped_then}
@@ -18,8 +18,8 @@ returns-in-Header-clause-played g c = λ s stands. (
   added_none _,
   wrote_none _,
   elim c.in-Header.is [
-    | inl is ↦ subst (λ l. IsPlayed (Ok tt) (lines.Script l) s c.args.self.now [] []) (sym is) (played_by (lines.Script scripts.Header) [] [] (λ later more. refl) (Ok tt) s c.args.self.now [] (refl, stands))
-    | inr is ↦ subst (λ l. IsPlayed (Ok tt) (lines.Script l) s c.args.self.now [] []) (sym is) (played_by (lines.Script scripts.HeaderTwo) [] [] (λ later more. refl) (Ok tt) s c.args.self.now [] (refl, stands))
+    | inl is ↦ subst (λ l. IsPlayed (Ok tt) (lines.Script l) s c.args.self.now [] []) (sym is) (played_by (lines.Script scripts.Header) [] [] (omega arith) (λ more. refl) (Ok tt) s c.args.self.now [] (refl, stands))
+    | inr is ↦ subst (λ l. IsPlayed (Ok tt) (lines.Script l) s c.args.self.now [] []) (sym is) (played_by (lines.Script scripts.HeaderTwo) [] [] (omega arith) (λ more. refl) (Ok tt) s c.args.self.now [] (refl, stands))
   ],
 )
 
@@ -34,7 +34,7 @@ returns-in-Datagram-clause-played g c = λ s stands.
       added_none _,
       a.1,
       subst (λ l. IsPlayed c.datagram.result (lines.Script l) s c.datagram.new.self [] a.0) (sym c.in-Datagram.is)
-          (played_by (lines.Script (scripts.Datagram c.in-Datagram.port c.in-Datagram.from c.in-Datagram.octets)) [] (Happens e ∷ []) (λ later more. refl) c.datagram.result s c.datagram.new.self a.0
+          (played_by (lines.Script (scripts.Datagram c.in-Datagram.port c.in-Datagram.from c.in-Datagram.octets)) [] (Happens e ∷ []) (omega arith) (λ more. refl) c.datagram.result s c.datagram.new.self a.0
           (stepped_one c.datagram.result s (Happens e) c.datagram.new.self a.0 came)),
     )
 
@@ -48,7 +48,7 @@ returns-in-Err-clause-played g c = λ s stands.
       added_none _,
       t.1,
       subst (λ l. IsPlayed (Err c.in-Err.status) (lines.Script l) s c.tick.new.self [] t.0) (sym c.in-DatagramAt.is)
-          (played_by (lines.Script (scripts.DatagramAt c.in-DatagramAt.now c.in-DatagramAt.port c.in-DatagramAt.from c.in-DatagramAt.octets)) [] (Happens tick ∷ Happens e ∷ []) (λ later more. refl) (Err c.in-Err.status) s c.tick.new.self t.0
+          (played_by (lines.Script (scripts.DatagramAt c.in-DatagramAt.now c.in-DatagramAt.port c.in-DatagramAt.from c.in-DatagramAt.octets)) [] (Happens tick ∷ Happens e ∷ []) (omega arith) (λ more. refl) (Err c.in-Err.status) s c.tick.new.self t.0
           (stepped_cut c.in-Err.status s (Happens tick ∷ []) (Happens e ∷ []) c.tick.new.self c.tick.new.self t.0 (stepped_one (Err c.in-Err.status) s (Happens tick) c.tick.new.self t.0 t.2))),
     )
 
@@ -66,7 +66,7 @@ returns-in-Ok-clause-played g c = λ s stands.
       added_none _,
       wrote_more _ _ _ t.0 a.0 t.1 a.1,
       subst (λ l. IsPlayed c.datagram-in-DatagramAt.result (lines.Script l) s c.datagram-in-DatagramAt.new.self [] (t.0 ++ a.0)) (sym c.in-DatagramAt.is)
-          (played_by (lines.Script (scripts.DatagramAt c.in-DatagramAt.now c.in-DatagramAt.port c.in-DatagramAt.from c.in-DatagramAt.octets)) [] (Happens tick ∷ Happens e ∷ []) (λ later more. refl) c.datagram-in-DatagramAt.result s c.datagram-in-DatagramAt.new.self (t.0 ++ a.0)
+          (played_by (lines.Script (scripts.DatagramAt c.in-DatagramAt.now c.in-DatagramAt.port c.in-DatagramAt.from c.in-DatagramAt.octets)) [] (Happens tick ∷ Happens e ∷ []) (omega arith) (λ more. refl) c.datagram-in-DatagramAt.result s c.datagram-in-DatagramAt.new.self (t.0 ++ a.0)
           (stepped_then c.datagram-in-DatagramAt.result s (Happens tick ∷ []) (Happens e ∷ []) c.tick.new.self c.datagram-in-DatagramAt.new.self t.0 a.0 (stepped_one (Ok tt) s (Happens tick) c.tick.new.self t.0 t.2)
           (stepped_one c.datagram-in-DatagramAt.result middle (Happens e) c.datagram-in-DatagramAt.new.self a.0 came))),
     )

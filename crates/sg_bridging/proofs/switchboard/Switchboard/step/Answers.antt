@@ -14,6 +14,6 @@ returns-clause-stepped g c = λ s stands.
     let told = c.in-Ok.ensures.told s.world before.0 in
     let e : Event = Signalled (signal_of c.args.signal.now) in
     let ready : events_of_signal c.args.signal.now ≡ e ∷ [] = ap (λ b. cond b [] (e ∷ [])) c.requires.ready in
-    signal_told s (signal_of c.args.signal.now) c.as_slice.result.now (record { table = c.step.new.self; calls = c.tell_all.new.bridge }) c.self.inside.bridge c.tell_all.result _ _
+    signal_told s (signal_of c.args.signal.now) c.as_slice.result.now (record { table = c.take.new.self; calls = c.tell_all.new.bridge }) c.self.inside.bridge c.tell_all.result _ _
     (c.as_slice.ensures.value ∙ told.0 ∙ ap (outcomes_from s.world) ready ∙ append-nil (step s.world e).outcomes)
-    (subst (λ (es : List Event). TableStandsFor c.step.new.self (world_after s.world es)) ready told.1) before.1 c.tell_all.ensures.calls c.tell_all.ensures.told
+    (subst (λ (es : List Event). TableStandsFor c.take.new.self (world_after s.world es)) ready told.1) before.1 c.tell_all.ensures.calls c.tell_all.ensures.told

@@ -20,8 +20,8 @@ pub returns-clause-stepped : goal.returns-clause-stepped
 returns-clause-stepped g c = λ state stands.
     let loud : c.passes_quietly.result ≡ false = search rules in
     let as_before : FrontStandsFor c.passes_quietly.new.self.front state = subst (λ t. FrontStandsFor t state) (sym (c.passes_quietly.ensures.same loud)) stands in
-    let told = c.in-Ok.ensures state (subst (λ (v : Playing). FrontStandsFor v.front state) (sym c.self.view_is) as_before) in
-    stepped c.tell_all.result state (events_of_signal c.args.signal.now) (FrontStandsFor c.step.new.self) _ _ (text c.as_slice.result.now) c.tell_all.ensures.told
+    let told = c.in-Ok.ensures.told state (subst (λ (v : Playing). FrontStandsFor v.front state) (sym c.self.view_is) as_before) in
+    stepped c.tell_all.result state (events_of_signal c.args.signal.now) (FrontStandsFor c.take.new.self) _ _ (text c.as_slice.result.now) c.tell_all.ensures.told
     (ap text (c.as_slice.ensures.value ∙ told.0)) told.1
 
 pub returns-clause-only : goal.returns-clause-only

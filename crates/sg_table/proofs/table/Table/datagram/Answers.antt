@@ -6,6 +6,7 @@ use Rattle.sg_call.specs.declared.handled.End.TheVariants.{Dropped}
 use Rattle.sg_gateway.specs.Octets.{as_octets}
 use Rattle.sg_gateway.specs.Runs.{world_after}
 use Rattle.sg_gateway.specs.Step.{Datagram}
+use Rattle.sg_table.proofs.Calming.{calm_with_datagram, kept_until}
 use Rattle.sg_table.proofs.Delivering.{no_call, rising_of, shapes_set, some_call, turns_of}
 use Rattle.sg_table.proofs.Lent.{lent, rising, seen}
 use Rattle.sg_table.proofs.Slots.{one_changed}
@@ -48,13 +49,18 @@ pub invariant_of-self-in-Some : goal.invariant_of-self-in-Some
 invariant_of-self-in-Some c =
     let calls = c.as_mut_slice-calls.result.now in
     let same = c.datagram.ensures.same in
-    let (w, s) = c.self.invariant.1 in (
-      subst (AreIndexed c.self-inside.inside.0.1.0)
-          (sym (
-          ap shapes_of (with_items_is c.self-inside.inside.0.0.by_slot (set calls c.in-Some.i c.datagram.new.self) (length-set calls c.in-Some.i c.datagram.new.self ∙ c.as_mut_slice-calls.ensures.len))
-          ∙ shapes_set calls c.in-Some.i c.index-calls-i.result c.datagram.new.self (λ i. record { slot = same.0 i; media = same.1 i })
-          ∙ ap shapes_of c.as_mut_slice-calls.ensures.value
-          ))
-          (subst (λ (t : Inside). AreIndexed t.places (shapes_of t.calls.calls)) (sym c.self-inside.view_is) c.self.invariant.0),
-      (world_after w (Datagram c.args.port c.args.from (as_octets c.args.pad) ∷ []), (returns-in-Some c w (subst (λ (t : TableValue). TableStandsFor t w) c.self.view_is s)).stands),
+    let (w, s) = c.self.invariant.1 in
+    let after = (returns-in-Some c w (subst (λ (t : TableValue). TableStandsFor t w) c.self.view_is s)).stands in (
+      (
+        subst (AreIndexed c.self-inside.inside.0.1.0)
+            (sym (
+            ap shapes_of (with_items_is c.self-inside.inside.0.0.by_slot (set calls c.in-Some.i c.datagram.new.self) (length-set calls c.in-Some.i c.datagram.new.self ∙ c.as_mut_slice-calls.ensures.len))
+            ∙ shapes_set calls c.in-Some.i c.index-calls-i.result c.datagram.new.self (λ i. record { slot = same.0 i; media = same.1 i })
+            ∙ ap shapes_of c.as_mut_slice-calls.ensures.value
+            ))
+            (subst (λ (t : Inside). AreIndexed t.places (shapes_of t.calls.calls)) (sym c.self-inside.view_is) c.self.invariant.0.0),
+        kept_until _ _ _ (ap (λ (t : Inside). t.calm) (sym c.self-inside.view_is))
+            (calm_with_datagram c.self.inside.calm c.self.inside.calls _ w c.args.port c.args.from (as_octets c.args.pad) s.holds after.holds c.self.invariant.0.1),
+      ),
+      (world_after w (Datagram c.args.port c.args.from (as_octets c.args.pad) ∷ []), after),
     )

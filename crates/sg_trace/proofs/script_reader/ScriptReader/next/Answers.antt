@@ -2,9 +2,11 @@ use Rattle.std.proofs.Common.{rules, ◌≡◌, ◌+◌, ◌<◌, ◌≤◌, ◌
 use Rattle.sg_trace.proofs.ReadBuffers.{all_given}
 use Rattle.sg_trace.proofs.Readings.{given_at, line_some, near_so, next_err, next_ok}
 use Rattle.sg_trace.specs.Fed.{IsLine}
-use Rattle.sg_trace.specs.Reading.{IsNext, IsRead, Reading}
+use Rattle.sg_trace.specs.Reading.{IsNextBy, IsReadBy, Reading}
+use Rattle.sg_trace.specs.Trace.{spelled_at}
 use Rattle.sg_trace.specs.declared.status.Status.{Status}
 use Rattle.sg_edge.specs.Told.{TookIn}
+use Rattle.sg_lines.specs.Fields.{Gives}
 use Rattle.sg_trace.proofs.script_reader.ScriptReader.next.Goals as goal
 
 pub invariant_of-self : goal.invariant_of-self
@@ -78,12 +80,12 @@ returns-in-Ok-clause-next g c =
     let spent : c.next_line.new.budget ≡ 0 → c.next_line.new.read_buffer ≡ [] → 2 ^ 30 < at + length line = λ zero none. omega (arith, zero, size, got.3, c.self.invariant.0, ap length given.0, length-append c.self.inside.read_buffer got.0, length-append line c.next_line.new.read_buffer, ap length none) in
     let after : ℕ = c.version_after-self-inside.result in
     let new : Reading = record { waits = c.next_line.new.read_buffer; version = after; number = n + 1; offset = at + length line; budget = c.next_line.new.budget } in
-    let next : IsNext (Ok (Some c.in-Ok.line)) (record { waits = c.self.inside.read_buffer; version = v; number = n; offset = at; budget = c.self.inside.budget }) new got.0 left =
-    subst (λ (m : ℕ). IsRead c.in-Ok.line (record { waits = c.self.inside.read_buffer; version = v; number = n; offset = at; budget = c.self.inside.budget }) (record { waits = c.next_line.new.read_buffer; version = m; number = n + 1; offset = at + length line; budget = c.next_line.new.budget }) got.0) (sym c.version_after-self-inside.ensures.is)
-    (next_ok v n at line c.self.inside.read_buffer c.next_line.new.read_buffer got.0 left c.next_line.new.budget given.0 given.1 spent c.in-Ok.line c.self.inside.budget
-    (ap (Rattle.sg_trace.specs.Trace.line_at v n at) (sym c.deref.ensures.value) ∙ c.in-Ok.ensures.exact)) in
-    subst (λ (r : Reading). (x : List ℕ) × TookIn (g.S.Source.left c.args.source.now) left x × IsNext (Ok (Some c.in-Ok.line)) r new x left × (length x + c.next_line.new.budget ≡ r.budget)) c.self.view_is
-    (got.0, got.1, subst (λ (m : ℕ). IsNext (Ok (Some c.in-Ok.line)) (record { waits = c.self.inside.read_buffer; version = v; number = n; offset = c.self.inside.at + m; budget = c.self.inside.budget }) new got.0 left) size next, got.3)
+    let next : IsNextBy g.L.ScriptLine.spelled g.L.ScriptLine.followed (Ok (Some c.in-Ok.line)) (record { waits = c.self.inside.read_buffer; version = v; number = n; offset = at; budget = c.self.inside.budget }) new got.0 left =
+    subst (λ (m : ℕ). IsReadBy g.L.ScriptLine.spelled g.L.ScriptLine.followed c.in-Ok.line (record { waits = c.self.inside.read_buffer; version = v; number = n; offset = at; budget = c.self.inside.budget }) (record { waits = c.next_line.new.read_buffer; version = m; number = n + 1; offset = at + length line; budget = c.next_line.new.budget }) got.0) (sym c.version_after-self-inside.ensures.is)
+    (next_ok g.L.ScriptLine.spelled g.L.ScriptLine.followed c.are_framed.ensures v n at line c.self.inside.read_buffer c.next_line.new.read_buffer got.0 left c.next_line.new.budget given.0 given.1 spent c.in-Ok.line c.self.inside.budget
+    (ap (spelled_at g.L.ScriptLine.spelled v n at) (sym c.deref.ensures.value) ∙ c.in-Ok.ensures.exact)) in
+    subst (λ (r : Reading). (x : List ℕ) × TookIn (g.S.Source.left c.args.source.now) left x × IsNextBy g.L.ScriptLine.spelled g.L.ScriptLine.followed (Ok (Some c.in-Ok.line)) r new x left × (length x + c.next_line.new.budget ≡ r.budget)) c.self.view_is
+    (got.0, got.1, subst (λ (m : ℕ). IsNextBy g.L.ScriptLine.spelled g.L.ScriptLine.followed (Ok (Some c.in-Ok.line)) (record { waits = c.self.inside.read_buffer; version = v; number = n; offset = c.self.inside.at + m; budget = c.self.inside.budget }) new got.0 left) size next, got.3)
 
 pub returns-in-Err-clause-next : goal.returns-in-Err-clause-next
 returns-in-Err-clause-next g c =
@@ -99,12 +101,12 @@ returns-in-Err-clause-next g c =
     given_at Status c.in_ok-found.found true line c.self.inside.read_buffer c.next_line.new.read_buffer got.0 _ _ found got.2 in
     let spent : c.next_line.new.budget ≡ 0 → c.next_line.new.read_buffer ≡ [] → 2 ^ 30 < at + length line = λ zero none. omega (arith, zero, size, got.3, c.self.invariant.0, ap length given.0, length-append c.self.inside.read_buffer got.0, length-append line c.next_line.new.read_buffer, ap length none) in
     let new : Reading = record { waits = c.next_line.new.read_buffer; version = v; number = n + 1; offset = at + length line; budget = c.next_line.new.budget } in
-    let next : IsNext (Err c.refused.result) (record { waits = c.self.inside.read_buffer; version = v; number = n; offset = at; budget = c.self.inside.budget }) new got.0 left =
-    subst (λ s. IsNext (Err s) (record { waits = c.self.inside.read_buffer; version = v; number = n; offset = at; budget = c.self.inside.budget }) new got.0 left) (sym c.refused.ensures)
-    (next_err v n at line c.self.inside.read_buffer c.next_line.new.read_buffer got.0 left c.next_line.new.budget given.0 given.1 spent c.in-Err.fault c.self.inside.budget new
-    (subst (λ (l : List ℕ). Rattle.sg_lines.specs.Fields.Gives (Err c.in-Err.fault) (Rattle.sg_trace.specs.Trace.line_at v n at l)) c.deref.ensures.value c.in-Err.ensures.exact)) in
-    subst (λ (r : Reading). (x : List ℕ) × TookIn (g.S.Source.left c.args.source.now) left x × IsNext (Err c.refused.result) r new x left × (length x + c.next_line.new.budget ≡ r.budget)) c.self.view_is
-    (got.0, got.1, subst (λ (m : ℕ). IsNext (Err c.refused.result) (record { waits = c.self.inside.read_buffer; version = v; number = n; offset = c.self.inside.at + m; budget = c.self.inside.budget }) new got.0 left) size next, got.3)
+    let next : IsNextBy g.L.ScriptLine.spelled g.L.ScriptLine.followed (Err c.refused.result) (record { waits = c.self.inside.read_buffer; version = v; number = n; offset = at; budget = c.self.inside.budget }) new got.0 left =
+    subst (λ s. IsNextBy g.L.ScriptLine.spelled g.L.ScriptLine.followed (Err s) (record { waits = c.self.inside.read_buffer; version = v; number = n; offset = at; budget = c.self.inside.budget }) new got.0 left) (sym c.refused.ensures)
+    (next_err g.L.ScriptLine.spelled g.L.ScriptLine.followed c.are_framed.ensures v n at line c.self.inside.read_buffer c.next_line.new.read_buffer got.0 left c.next_line.new.budget given.0 given.1 spent c.in-Err.fault c.self.inside.budget new
+    (subst (λ (l : List ℕ). Gives (Err c.in-Err.fault) (spelled_at g.L.ScriptLine.spelled v n at l)) c.deref.ensures.value c.in-Err.ensures.exact)) in
+    subst (λ (r : Reading). (x : List ℕ) × TookIn (g.S.Source.left c.args.source.now) left x × IsNextBy g.L.ScriptLine.spelled g.L.ScriptLine.followed (Err c.refused.result) r new x left × (length x + c.next_line.new.budget ≡ r.budget)) c.self.view_is
+    (got.0, got.1, subst (λ (m : ℕ). IsNextBy g.L.ScriptLine.spelled g.L.ScriptLine.followed (Err c.refused.result) (record { waits = c.self.inside.read_buffer; version = v; number = n; offset = c.self.inside.at + m; budget = c.self.inside.budget }) new got.0 left) size next, got.3)
 
 pub returns-then-not-found-clause-near : goal.returns-then-not-found-clause-near
 returns-then-not-found-clause-near g c =
