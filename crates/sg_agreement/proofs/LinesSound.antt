@@ -27,12 +27,7 @@ Valid = (text : List ℕ) (l : CryptoLine) → crypto_of text ≡ Ok l → IsCry
 
 pub tag_low : (s : Suite) → tag_len_of s ≤ 10
 tag_low Raw80 = omega arith
-tag_low Cm128Tag80 = omega arith
-tag_low Cm128Tag32 = omega arith
-tag_low Cm192Tag80 = omega arith
-tag_low Cm192Tag32 = omega arith
-tag_low Cm256Tag80 = omega arith
-tag_low Cm256Tag32 = omega arith
+tag_low other = omega arith
 
 not_raw : (s : Suite) → s ≢ Raw80 → is_raw s ≡ false
 not_raw Raw80 other = absurd (other refl)

@@ -105,11 +105,9 @@ offer_two_sided two takes h text a e =
 
 -- keyed by what the gateway offers
 abbrev IsOwn : Keying → Type 0
-IsOwn (PeerLines ls) = ⊥
 IsOwn (OwnLines ls) = Unit {0}
-IsOwn (PeerMessage b) = ⊥
-IsOwn (PeerMessages bs) = ⊥
 IsOwn (OwnMessage s) = Unit {0}
+IsOwn other = ⊥
 
 own_keying : (h : AtHand) (s : Sdp) (way : Way) (k : Keying) → side_of way ≡ Plain → keying_of h s way ≡ Ok k → IsOwn k
 own_keying h s FromSecure k plain e = absurd cc

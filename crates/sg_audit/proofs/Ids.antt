@@ -142,13 +142,11 @@ module _ (w : World) (ordered : Pairs IsBefore w.calls) where
   arrived_come port from d (Some c) at = given_come port d c (is_found (has_port port) w.calls c at) (arrived_in w.moment port from d c) (arrival w.moment port from d c)
 
   signal_come : (signal : Signal) → (TakesSessions signal → ⊥) → AllByRecursion From (answer_to w signal).world.calls
-  signal_come (Tick now) may = absurd (may tt)
-  signal_come (Answered id noise text) may = absurd (may tt)
-  signal_come (Bye id) may = absurd (may tt)
   signal_come (Psk p) may = pair_come p
   signal_come (Manual h) may = manual_come h
   signal_come (Offered id way noise text) may = offered_come id way noise text (call_of w id) refl
   signal_come (Reject id) may = rejected_come id (call_of w id) refl
+  signal_come other may = absurd (may tt)
 
   pub event_come : (e : Event) → ((signal : Signal) → e ≡ Signalled signal → TakesSessions signal → ⊥) → AllByRecursion From (step w e).world.calls
   event_come (Signalled signal) may = signal_come signal (may signal refl)

@@ -58,12 +58,7 @@ found_one id (x ∷ xs) before d a of_id = go (found_one id xs before.1 d) (any_
 is_refusal : (o : Outcome) → IsRefusal o ⊎ (IsRefusal o → ⊥)
 is_refusal (Refused i cause) = inl tt
 is_refusal (Dropped p cause) = inl tt
-is_refusal (Made i slot media) = inr (λ none. none)
-is_refusal (Live i) = inr (λ none. none)
-is_refusal (Sdp i side text) = inr (λ none. none)
-is_refusal (Ended i slot media why) = inr (λ none. none)
-is_refusal (Out p to octets) = inr (λ none. none)
-is_refusal (Unsent p to) = inr (λ none. none)
+is_refusal other = inr (λ none. none)
 
 refused_or_not : (os : List Outcome) → Any IsRefusal os ⊎ (Any IsRefusal os → ⊥)
 refused_or_not [] = inr (λ a. any_none IsRefusal a)
@@ -80,12 +75,7 @@ refused_or_not (o ∷ os) = go (is_refusal o) (refused_or_not os)
 refusal_is : (leaves : Leaves) (o t : Outcome) → IsToldAs leaves o t → IsRefusal o → IsRefusal t
 refusal_is leaves (Refused i cause) t is r = subst IsRefusal (sym is) tt
 refusal_is leaves (Dropped p cause) t is r = subst IsRefusal (sym is.1) tt
-refusal_is leaves (Made i slot media) t is r = absurd r
-refusal_is leaves (Live i) t is r = absurd r
-refusal_is leaves (Sdp i side text) t is r = absurd r
-refusal_is leaves (Ended i slot media why) t is r = absurd r
-refusal_is leaves (Out p to octets) t is r = absurd r
-refusal_is leaves (Unsent p to) t is r = absurd r
+refusal_is leaves other t is r = absurd r
 
 refusals_told : (leaves : Leaves) (os told : List Outcome) → AreToldAs leaves os told → Any IsRefusal os → Any IsRefusal told
 refusals_told leaves [] told is a = absurd (any_none IsRefusal a)

@@ -43,13 +43,9 @@ use Rattle.sg_audit.specs.There.{AreOpen, OpensNext, SessionsAreOpen, SessionsAr
 
 live_was : (leaves : Leaves) (id : CallId) (o t : Outcome) → IsToldAs leaves o t → t ≡ Live id → o ≡ Live id
 live_was leaves id (Live i) t is e = sym is ∙ e
-live_was leaves id (Out p a text) t is e = absurd (let f = sym is ∙ e in cc)
 live_was leaves id (Dropped p cause) t is e = absurd (let f = sym is.1 ∙ e in cc)
 live_was leaves id (Sdp i side text) t is e = absurd (let f = sym is.1 ∙ e in cc)
-live_was leaves id (Made i slot media) t is e = absurd (let f = sym is ∙ e in cc)
-live_was leaves id (Refused i cause) t is e = absurd (let f = sym is ∙ e in cc)
-live_was leaves id (Ended i slot media why) t is e = absurd (let f = sym is ∙ e in cc)
-live_was leaves id (Unsent p a) t is e = absurd (let f = sym is ∙ e in cc)
+live_was leaves id other t is e = absurd (let f = sym is ∙ e in cc)
 
 lives_were : (leaves : Leaves) (id : CallId) (os told : List Outcome) → AreToldAs leaves os told → Any (λ z. z ≡ Live id) told → Any (λ z. z ≡ Live id) os
 lives_were leaves id [] told is a = absurd (any_none (λ (z : Outcome). z ≡ Live id) (subst (Any (λ z. z ≡ Live id)) is a))

@@ -35,16 +35,8 @@ module _ (w : World) (calls : Members) where
     opened_keeps p to d (Some q) = handed_keeps q d (plain_at after q)
 
     passed_keeps : (os : List Outcome) → Keeps (passed w calls e after os)
-    passed_keeps [] = (refl, refl)
     passed_keeps (Out p to d ∷ []) = opened_keeps p to d (onward calls p)
-    passed_keeps (Out p to d ∷ o ∷ os) = (refl, refl)
-    passed_keeps (Made id slot media ∷ os) = (refl, refl)
-    passed_keeps (Live id ∷ os) = (refl, refl)
-    passed_keeps (Sdp id side text ∷ os) = (refl, refl)
-    passed_keeps (Refused id cause ∷ os) = (refl, refl)
-    passed_keeps (Ended id slot media why ∷ os) = (refl, refl)
-    passed_keeps (Dropped p cause ∷ os) = (refl, refl)
-    passed_keeps (Unsent p to ∷ os) = (refl, refl)
+    passed_keeps other = (refl, refl)
 
   pub arrived_keeps : (port : ℕ) (e : Event) (h : Happening) (o : Option ℕ) → Keeps (arrived w calls port e h o)
   arrived_keeps port e h None = passed_keeps e h.world h.outcomes

@@ -74,16 +74,8 @@ module _ (w : World) (calls : Members) (stays : StaysOrderly w) (knows : Knows w
   opened_goes p to x (Some q) = handed_goes q x (plain_at after q)
 
   passed_goes : (os : List Outcome) → Goes (passed w calls e after os)
-  passed_goes [] = (knows_after, stays_after)
   passed_goes (Out p to x ∷ []) = opened_goes p to x (onward calls p)
-  passed_goes (Out p to x ∷ o ∷ os) = (knows_after, stays_after)
-  passed_goes (Made id slot media ∷ os) = (knows_after, stays_after)
-  passed_goes (Live id ∷ os) = (knows_after, stays_after)
-  passed_goes (Sdp id side text ∷ os) = (knows_after, stays_after)
-  passed_goes (Refused id cause ∷ os) = (knows_after, stays_after)
-  passed_goes (Ended id slot media why ∷ os) = (knows_after, stays_after)
-  passed_goes (Dropped p cause ∷ os) = (knows_after, stays_after)
-  passed_goes (Unsent p to ∷ os) = (knows_after, stays_after)
+  passed_goes other = (knows_after, stays_after)
 
   arrived_goes : (o : Option ℕ) → Goes (arrived w calls port e (step w e) o)
   arrived_goes None = passed_goes (step w e).outcomes
@@ -181,16 +173,8 @@ before_is w calls (Happens (Datagram port from d)) = arrived_before (onward call
     opened_before p to x (Some q) = handed_before q x (plain_at (step w e).world q)
 
     passed_before : (os : List Outcome) → (passed w calls e (step w e).world os).before ≡ w
-    passed_before [] = refl
     passed_before (Out p to x ∷ []) = opened_before p to x (onward calls p)
-    passed_before (Out p to x ∷ o ∷ os) = refl
-    passed_before (Made id slot media ∷ os) = refl
-    passed_before (Live id ∷ os) = refl
-    passed_before (Sdp id side text ∷ os) = refl
-    passed_before (Refused id cause ∷ os) = refl
-    passed_before (Ended id slot media why ∷ os) = refl
-    passed_before (Dropped p cause ∷ os) = refl
-    passed_before (Unsent p to ∷ os) = refl
+    passed_before other = refl
 
     arrived_before : (o : Option ℕ) → (arrived w calls port e (step w e) o).before ≡ w
     arrived_before None = passed_before (step w e).outcomes

@@ -20,13 +20,8 @@ IsOfId calls slot id = (x : Seen) → seen_at calls slot ≡ Some x → x.id ≡
 
 abbrev pub FitsOne : Members → Outcome → Type 0
 FitsOne calls (Made id slot media) = seen_at calls slot ≡ None
-FitsOne calls (Live id) = Unit {0}
-FitsOne calls (Sdp id side text) = Unit {0}
-FitsOne calls (Refused id cause) = Unit {0}
 FitsOne calls (Ended id slot media why) = IsOfId calls slot id
-FitsOne calls (Out port to octets) = Unit {0}
-FitsOne calls (Dropped port cause) = Unit {0}
-FitsOne calls (Unsent port to) = Unit {0}
+FitsOne calls other = Unit {0}
 
 -- each of them, after those before it
 abbrev pub Fits : Members → List Outcome → Type 0

@@ -48,16 +48,8 @@ module _ (w : World) (calls : Members) (mates : AreMates calls) (e : Event) wher
   opened_goes p to x was (Some q) on = handed_goes p q to x was on (plain_at (step w e).world q)
 
   passed_goes : (os : List Outcome) → (step w e).outcomes ≡ os → Goes w calls e (passed w calls e (step w e).world os)
-  passed_goes [] was = record { later = []; events = refl; before = refl; pairs = refl; rest = inr (refl, ap (map tells.Table) (sym was)); world = refl }
   passed_goes (Out p to x ∷ []) was = opened_goes p to x was (onward calls p) refl
-  passed_goes (Out p to x ∷ o ∷ os) was = record { later = []; events = refl; before = refl; pairs = refl; rest = inr (refl, ap (map tells.Table) (sym was)); world = refl }
-  passed_goes (Made id slot media ∷ os) was = record { later = []; events = refl; before = refl; pairs = refl; rest = inr (refl, ap (map tells.Table) (sym was)); world = refl }
-  passed_goes (Live id ∷ os) was = record { later = []; events = refl; before = refl; pairs = refl; rest = inr (refl, ap (map tells.Table) (sym was)); world = refl }
-  passed_goes (Sdp id side text ∷ os) was = record { later = []; events = refl; before = refl; pairs = refl; rest = inr (refl, ap (map tells.Table) (sym was)); world = refl }
-  passed_goes (Refused id cause ∷ os) was = record { later = []; events = refl; before = refl; pairs = refl; rest = inr (refl, ap (map tells.Table) (sym was)); world = refl }
-  passed_goes (Ended id slot media why ∷ os) was = record { later = []; events = refl; before = refl; pairs = refl; rest = inr (refl, ap (map tells.Table) (sym was)); world = refl }
-  passed_goes (Dropped p cause ∷ os) was = record { later = []; events = refl; before = refl; pairs = refl; rest = inr (refl, ap (map tells.Table) (sym was)); world = refl }
-  passed_goes (Unsent p to ∷ os) was = record { later = []; events = refl; before = refl; pairs = refl; rest = inr (refl, ap (map tells.Table) (sym was)); world = refl }
+  passed_goes other was = record { later = []; events = refl; before = refl; pairs = refl; rest = inr (refl, ap (map tells.Table) (sym was)); world = refl }
 
 module _ (w : World) (calls : Members) (mates : AreMates calls) (port : ℕ) (from : Address) (d : Octets) where
   arrived_happens : (o : Option ℕ) → onward calls port ≡ o → DatagramHappens (Datagram port from d) port (arrived w calls port (Datagram port from d) (step w (Datagram port from d)) o)

@@ -80,10 +80,7 @@ not_onward calls p secure = go (is_plain_port p) refl
 
 abbrev outs : BridgeOutcome → Type 0
 outs (tells.Table o) = IsOut o
-outs (tells.Joined first second) = Unit {0}
-outs (tells.Parted first second) = Unit {0}
-outs (tells.Unjoined call cause) = Unit {0}
-outs (tells.Lost port cause) = Unit {0}
+outs other = Unit {0}
 
 module _ (port : ℕ) (to : Address) (octets : List ℕ) where
   abbrev Is : BridgeOutcome → Type 0
@@ -104,10 +101,7 @@ module _ (port : ℕ) (to : Address) (octets : List ℕ) where
       go None a = any_none Is a
       go (Some p) a = one (tells_parted p) (λ is. absurd cc) a
   parted_not calls (Sdp id side text) a = any_none Is a
-  parted_not calls (Refused id cause) a = any_none Is a
-  parted_not calls (Out p t d) a = any_none Is a
-  parted_not calls (Dropped p cause) a = any_none Is a
-  parted_not calls (Unsent p t) a = any_none Is a
+  parted_not calls other a = any_none Is a
 
   behind_not : (o : Outcome) → ¬ IsOut o → (parted : Option BridgeOutcome) → NoOut (option_to_list parted) → (f : Following) → NoOut f.told → NoOut (behind o parted f).told
   behind_not o not None none f rest a = elim (any_cases Is (tells.Table o) f.told a) [ inl is ↦ not (subst outs (sym is) tt) | inr r ↦ rest r ]
@@ -140,20 +134,11 @@ parts_inside w calls call (Err cause) port to octets a = one port to octets (tel
 
 abbrev told_port : Outcome → ℕ
 told_port (Out p t d) = p
-told_port (Made id slot media) = 0
-told_port (Live id) = 0
-told_port (Sdp id side text) = 0
-told_port (Refused id cause) = 0
-told_port (Ended id slot media why) = 0
-told_port (Dropped p cause) = 0
-told_port (Unsent p t) = 0
+told_port other = 0
 
 abbrev out_port : BridgeOutcome → ℕ
 out_port (tells.Table o) = told_port o
-out_port (tells.Joined first second) = 0
-out_port (tells.Parted first second) = 0
-out_port (tells.Unjoined call cause) = 0
-out_port (tells.Lost port cause) = 0
+out_port other = 0
 
 -- what is told of one packet is that packet
 told_out : (p : ℕ) (t : Address) (d : List ℕ) (port : ℕ) (to : Address) (octets : List ℕ) → Is port to octets (tells.Table (Out p t d)) → Out p t d ≡ Out port to octets

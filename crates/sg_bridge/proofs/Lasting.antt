@@ -71,13 +71,7 @@ module _ (first second : CallId) where
 
   lost_else : (o : Outcome) → inner_told o ≡ tells.Parted first second → ⊥
   lost_else (Made id slot media) is = cc
-  lost_else (Live id) is = cc
-  lost_else (Sdp id side text) is = cc
-  lost_else (Refused id cause) is = cc
-  lost_else (Ended id slot media why) is = cc
-  lost_else (Out port to octets) is = cc
-  lost_else (Dropped port cause) is = cc
-  lost_else (Unsent port to) is = cc
+  lost_else other is = cc
 
   module _ (w : World) (calls : Members) (port : ℕ) (from : Address) (d : Octets) where
     abbrev e : Event

@@ -34,11 +34,8 @@ use Rattle.sg_bridge.specs.declared.outcomes.BridgeOutcome.TheVariants as tells
 -- ---- what tells of no loss
 
 abbrev Loses : BridgeOutcome → Type 0
-Loses (tells.Table o) = ⊥
-Loses (tells.Joined first second) = ⊥
-Loses (tells.Parted first second) = ⊥
-Loses (tells.Unjoined call cause) = ⊥
 Loses (tells.Lost port cause) = Unit {0}
+Loses other = ⊥
 
 abbrev NoLoss : List BridgeOutcome → Type 0
 NoLoss told = AllByRecursion (λ o. Loses o → ⊥) told
@@ -52,10 +49,7 @@ parted_no_loss calls (Ended id slot media why) = go (joined_pair (member_at call
     go None = tt
     go (Some p) = ((λ no. no), tt)
 parted_no_loss calls (Sdp id side text) = tt
-parted_no_loss calls (Refused id cause) = tt
-parted_no_loss calls (Out p t d) = tt
-parted_no_loss calls (Dropped p cause) = tt
-parted_no_loss calls (Unsent p t) = tt
+parted_no_loss calls other = tt
 
 followed_no_loss : (calls : Members) (os : List Outcome) → NoLoss (told_and_parted calls os).told
 followed_no_loss calls [] = tt

@@ -211,11 +211,7 @@ pub outcome_mates : (calls : Members) (o : Outcome) → AreMates calls → AreMa
 outcome_mates calls (Made id slot media) mates = let e = emptied_mates slot calls mates in set_free (emptied slot calls).calls slot (Some (new_member id media)) e.1 (new_free id media) e.0
 outcome_mates calls (Live id) mates = live_mates id calls mates
 outcome_mates calls (Ended id slot media why) mates = (emptied_mates slot calls mates).0
-outcome_mates calls (Sdp id side text) mates = mates
-outcome_mates calls (Refused id cause) mates = mates
-outcome_mates calls (Out port to octets) mates = mates
-outcome_mates calls (Dropped port cause) mates = mates
-outcome_mates calls (Unsent port to) mates = mates
+outcome_mates calls other mates = mates
 
 -- ---- the calls of two ids
 

@@ -100,12 +100,8 @@ calls_takes text calls e =
 
 fault_again : (f : JoinFault) → FitsJoinFault f → join_fault_at (join_fault_text f) ≡ Some f
 unfolding join_fault_at plain_fault_at
-fault_again faults.CallUnknown fits = refl
-fault_again faults.Same fits = refl
-fault_again faults.Unready fits = refl
 fault_again (faults.Joined call) fits = ap (λ (o : Option CallId). option_map faults.Joined o) (call_again call fits)
-fault_again faults.MediaCount fits = refl
-fault_again faults.NotJoined fits = refl
+fault_again other fits = refl
 
 -- a text that begins with another
 begins : (needle t : List ℕ) → starts_with nat_eq t needle ≡ true → t ≡ needle ++ drop (length needle) t
@@ -218,13 +214,7 @@ table_is o = refl
 told_as_table : (o : Outcome) → told_by_word (outcome_line o) ≡ as_table (outcome_of (outcome_line o))
 unfolding told_by_word told_of_one outcome_line
 told_as_table (Made id slot media) = refl
-told_as_table (Live id) = refl
-told_as_table (Sdp id side text) = refl
-told_as_table (Refused id cause) = refl
-told_as_table (Ended id slot media why) = refl
-told_as_table (Out port to octets) = refl
-told_as_table (Dropped port cause) = refl
-told_as_table (Unsent port to) = refl
+told_as_table other = refl
 
 -- a line with one of the words is told by what stands behind it
 told_joined : (rest : List ℕ) → told_by_word (codes "joined " ++ rest) ≡ option_map as_joined (calls_at rest)
@@ -257,14 +247,8 @@ pub record IsLostOf (r : Result Outcome ScriptFault) (o : BridgeOutcome) : Type 
 
 as_lost_takes : (r : Result Outcome ScriptFault) (o : BridgeOutcome) → as_lost r ≡ Some o → IsLostOf r o
 as_lost_takes (Ok (Dropped port cause)) o e = record { port = port; cause = cause; read = refl; is = some_is _ _ e }
-as_lost_takes (Ok (Made id slot media)) o e = absurd (none_some o e)
-as_lost_takes (Ok (Live id)) o e = absurd (none_some o e)
-as_lost_takes (Ok (Sdp id side text)) o e = absurd (none_some o e)
-as_lost_takes (Ok (Refused id cause)) o e = absurd (none_some o e)
-as_lost_takes (Ok (Ended id slot media why)) o e = absurd (none_some o e)
-as_lost_takes (Ok (Out port to octets)) o e = absurd (none_some o e)
-as_lost_takes (Ok (Unsent port to)) o e = absurd (none_some o e)
 as_lost_takes (Err fault) o e = absurd (none_some o e)
+as_lost_takes (Ok other) o e = absurd (none_some o e)
 
 abbrev Spelled : List ℕ → BridgeOutcome → Type 0
 Spelled line o = FitsBridgeOutcome o × (line ≡ bridge_outcome_line o)

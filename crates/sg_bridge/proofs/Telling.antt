@@ -118,8 +118,7 @@ said_told count w calls stays mates knows named (Happens (Signalled signal)) =
     let fits = signal_holds count w calls (stays []) mates knows.known knows.begun signal (stays (Signalled signal ∷ [])) in
     all_told calls calls [] (step w (Signalled signal)).outcomes mates named fits.2 (record { was = λ x on. (on, λ a. any_none (λ q. q ≡ x) a); still = λ x on not. on })
 said_told count w calls stays mates knows named (Happens (Datagram port from d)) = tt
-said_told count w calls stays mates knows named (Joins first second) = tt
-said_told count w calls stays mates knows named (Parts id) = tt
+said_told count w calls stays mates knows named other = tt
 
 each_told : HasCount → (w : World) (calls : Members) (said : List Said) → StaysOrderly w → AreMates calls → Knows w calls → AreNamed calls → AllLines TellsSignal said (bridgings_from w calls said)
 each_told count w calls [] stays mates knows named = tt

@@ -185,13 +185,7 @@ parted_same calls p s other =
 -- the outcome is the end of a call of this pair
 abbrev pub IsEndOf : Pair → Outcome → Type 0
 IsEndOf x (Ended id slot media why) = IsPartyOf x id slot
-IsEndOf x (Made id slot media) = ⊥
-IsEndOf x (Live id) = ⊥
-IsEndOf x (Sdp id side text) = ⊥
-IsEndOf x (Refused id cause) = ⊥
-IsEndOf x (Out port to octets) = ⊥
-IsEndOf x (Dropped port cause) = ⊥
-IsEndOf x (Unsent port to) = ⊥
+IsEndOf x other = ⊥
 
 -- what it does to the pairs
 pub record Does (calls : Members) (o : Outcome) (n : Noted) : Type 0 where
@@ -367,12 +361,7 @@ ends_here : (x : Pair) (o : Outcome) (q : Option BridgeOutcome) (f : Following) 
 ends_here x (Ended id slot media why) q f end is =
     record { earlier = []; later = f.told; id = id; slot = slot; media = media; why = why; party = end; told_is = ap (λ (p : Option BridgeOutcome). tells.Table (Ended id slot media why) ∷ option_to_list p ++ f.told) is }
 ends_here x (Made id slot media) q f end is = absurd end
-ends_here x (Live id) q f end is = absurd end
-ends_here x (Sdp id side text) q f end is = absurd end
-ends_here x (Refused id cause) q f end is = absurd end
-ends_here x (Out port to octets) q f end is = absurd end
-ends_here x (Dropped port cause) q f end is = absurd end
-ends_here x (Unsent port to) q f end is = absurd end
+ends_here x other q f end is = absurd end
 
 -- or further on
 ends_later : (x : Pair) (o : Outcome) (q : Option BridgeOutcome) (f : Following) → IsPartedAtEnd x f.told → IsPartedAtEnd x (behind o q f).told

@@ -50,11 +50,7 @@ outcome_unjoined : (calls : Members) (o : Outcome) → AreUnjoined calls → Are
 outcome_unjoined calls (Made id slot media) none = (set_unjoined (emptied slot calls).calls slot (Some (new_member id media)) (emptied_unjoined slot calls none).0 refl, refl)
 outcome_unjoined calls (Live id) none = ((λ s. ap joined_pair (get_or-map (now_live id) calls s None) ∙ live_unjoined id (member_at calls s) ∙ none s), refl)
 outcome_unjoined calls (Ended id slot media why) none = emptied_unjoined slot calls none
-outcome_unjoined calls (Sdp id side text) none = (none, refl)
-outcome_unjoined calls (Refused id cause) none = (none, refl)
-outcome_unjoined calls (Out port to octets) none = (none, refl)
-outcome_unjoined calls (Dropped port cause) none = (none, refl)
-outcome_unjoined calls (Unsent port to) none = (none, refl)
+outcome_unjoined calls other none = (none, refl)
 
 told_unjoined : (calls : Members) (os : List Outcome) → AreUnjoined calls → AreUnjoined (told_and_parted calls os).calls × ((told_and_parted calls os).told ≡ map tells.Table os)
 told_unjoined calls [] none = (none, refl)
@@ -90,16 +86,8 @@ module _ (w : World) (calls : Members) (none : AreUnjoined calls) where
   opened_plain e p to x = ap (opened w calls e (step w e).world p to x) (sym (nowhere calls p none))
 
   passed_plain : (e : Event) (os : List Outcome) → (step w e).outcomes ≡ os → IsPlain w e (passed w calls e (step w e).world os)
-  passed_plain e [] is = record { events = refl; told = ap (map tells.Table) (sym is); world = refl; calls = none }
   passed_plain e (Out p to x ∷ []) is = subst (IsPlain w e) (opened_plain e p to x) (record { events = refl; told = ap (map tells.Table) (sym is); world = refl; calls = none })
-  passed_plain e (Out p to x ∷ o ∷ os) is = record { events = refl; told = ap (map tells.Table) (sym is); world = refl; calls = none }
-  passed_plain e (Made id slot media ∷ os) is = record { events = refl; told = ap (map tells.Table) (sym is); world = refl; calls = none }
-  passed_plain e (Live id ∷ os) is = record { events = refl; told = ap (map tells.Table) (sym is); world = refl; calls = none }
-  passed_plain e (Sdp id side text ∷ os) is = record { events = refl; told = ap (map tells.Table) (sym is); world = refl; calls = none }
-  passed_plain e (Refused id cause ∷ os) is = record { events = refl; told = ap (map tells.Table) (sym is); world = refl; calls = none }
-  passed_plain e (Ended id slot media why ∷ os) is = record { events = refl; told = ap (map tells.Table) (sym is); world = refl; calls = none }
-  passed_plain e (Dropped p cause ∷ os) is = record { events = refl; told = ap (map tells.Table) (sym is); world = refl; calls = none }
-  passed_plain e (Unsent p to ∷ os) is = record { events = refl; told = ap (map tells.Table) (sym is); world = refl; calls = none }
+  passed_plain e other is = record { events = refl; told = ap (map tells.Table) (sym is); world = refl; calls = none }
 
   event_plain : (e : Event) → IsPlain w e (bridging w calls (Happens e))
   event_plain (Signalled signal) =

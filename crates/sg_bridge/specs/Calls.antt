@@ -81,25 +81,18 @@ IsUnjoined w calls first second call faults.NotJoined = ⊥
 abbrev pub JoinTells : World → Members → CallId → CallId → BridgeOutcome → Type 0
 JoinTells w calls first second (tells.Joined a b) = (a ≡ first) × (b ≡ second) × AreFree w calls first second × HaveAsManyMedia w first second
 JoinTells w calls first second (tells.Unjoined call cause) = IsUnjoined w calls first second call cause
-JoinTells w calls first second (tells.Table o) = ⊥
-JoinTells w calls first second (tells.Parted a b) = ⊥
-JoinTells w calls first second (tells.Lost port cause) = ⊥
+JoinTells w calls first second other = ⊥
 
 abbrev pub IsUnparted : World → Members → CallId → JoinFault → Type 0
 IsUnparted w calls id faults.CallUnknown = ¬ HasCall w id
 IsUnparted w calls id faults.NotJoined = IsIn w calls id None
-IsUnparted w calls id faults.Same = ⊥
-IsUnparted w calls id faults.Unready = ⊥
-IsUnparted w calls id (faults.Joined with) = ⊥
-IsUnparted w calls id faults.MediaCount = ⊥
+IsUnparted w calls id other = ⊥
 
 -- what a line that parts tells
 abbrev pub PartTells : World → Members → CallId → BridgeOutcome → Type 0
 PartTells w calls id (tells.Parted a b) = (p : Pair) × IsIn w calls id (Some p) × (a ≡ p.first.id) × (b ≡ p.second.id)
 PartTells w calls id (tells.Unjoined call cause) = (call ≡ id) × IsUnparted w calls id cause
-PartTells w calls id (tells.Table o) = ⊥
-PartTells w calls id (tells.Joined a b) = ⊥
-PartTells w calls id (tells.Lost port cause) = ⊥
+PartTells w calls id other = ⊥
 
 -- a line that joins or parts tells one thing, by the calls and pairs before it
 abbrev pub TellsOne : (BridgeOutcome → Type 0) → List BridgeOutcome → Type 0

@@ -44,9 +44,8 @@ EndsPair (Parts id) p told = ((id ≡ p.first.id) ⊎ (id ≡ p.second.id)) × (
 
 -- what makes one: a line that joins its two calls
 abbrev pub MakesPair : Said → Pair → List BridgeOutcome → Type 0
-MakesPair (Happens e) p told = ⊥
 MakesPair (Joins first second) p told = (p.first.id ≡ first) × (p.second.id ≡ second) × (told ≡ tells.Joined first second ∷ [])
-MakesPair (Parts id) p told = ⊥
+MakesPair other p told = ⊥
 
 -- the pair of these two calls was in force before, and isn't any more
 abbrev pub WasParted : Members → Members → CallId → CallId → Type 0

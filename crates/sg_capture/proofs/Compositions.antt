@@ -127,18 +127,11 @@ none_left (Some l) rest end is = let same : l ≡ rest = cc in sym same ∙ end
 
 script_either : (f : ScriptFault) → (f ≡ Unended) ⊎ (¬ (f ≡ Unended))
 script_either Unended = inl refl
-script_either Word = inr (λ is. cc)
-script_either Number = inr (λ is. cc)
-script_either Hex = inr (λ is. cc)
-script_either Length = inr (λ is. cc)
-script_either Version = inr (λ is. cc)
+script_either other = inr (λ is. cc)
 
 capture_either : (f : CaptureFault) → (f ≡ capture_faults.Cut) ⊎ (¬ (f ≡ capture_faults.Cut))
 capture_either capture_faults.Cut = inl refl
-capture_either capture_faults.Magic = inr (λ is. cc)
-capture_either capture_faults.Version = inr (λ is. cc)
-capture_either capture_faults.LinkType = inr (λ is. cc)
-capture_either capture_faults.Length = inr (λ is. cc)
+capture_either other = inr (λ is. cc)
 
 -- a trace that stops so for the octets read stops so for all octets
 stops_all : {E : Type 0} (left left' : Option (List ℕ)) (octets all rest draws : List ℕ) (stop : CaptureStop) (last : E) (at : E) → TookIn left left' octets → left ≡ Some all → left' ≡ Some rest → (captured octets draws).stop ≡ stop

@@ -114,14 +114,7 @@ skip_met (Err statuses.Write) w waits waits' number cause stands_for a b none sa
 skip_met (Err statuses.NoMemory) w waits waits' number cause stands_for a b none same stands wrote =
     (wrote.0, wrote.2, (inr refl, subst (IsPrefixOf wrote.0) (sym (append-nil (skip_line number cause)) ∙ (λ i. output_of w (map Happens (sym none i) ++ (Skipped number cause ∷ [])))) wrote.1))
 skip_met (Err statuses.Done) w waits waits' number cause stands_for a b none same stands wrote = absurd wrote
-skip_met (Err statuses.Usage) w waits waits' number cause stands_for a b none same stands wrote = absurd wrote
-skip_met (Err (statuses.Script n fault)) w waits waits' number cause stands_for a b none same stands wrote = absurd wrote
-skip_met (Err statuses.Read) w waits waits' number cause stands_for a b none same stands wrote = absurd wrote
-skip_met (Err statuses.Link) w waits waits' number cause stands_for a b none same stands wrote = absurd wrote
-skip_met (Err statuses.Clock) w waits waits' number cause stands_for a b none same stands wrote = absurd wrote
-skip_met (Err statuses.Noise) w waits waits' number cause stands_for a b none same stands wrote = absurd wrote
-skip_met (Err statuses.TurnsSpent) w waits waits' number cause stands_for a b none same stands wrote = absurd wrote
-skip_met (Err (statuses.Capture offset fault)) w waits waits' number cause stands_for a b none same stands wrote = absurd wrote
+skip_met (Err other) w waits waits' number cause stands_for a b none same stands wrote = absurd wrote
 
 -- ---- a record's frame
 

@@ -81,8 +81,7 @@ two_occur last first top number r =
 
     one_frame : (f : Framed) → length (frame_occurs number f) ≤ 1
     one_frame frames.Passed = omega arith
-    one_frame (frames.Skip cause) = omega arith
-    one_frame (frames.Datagram port from octets) = omega arith
+    one_frame other = omega arith
 
 -- how many octets are ahead, by how many fewer may be asked for
 pub near_rest : (waits got : List ℕ) (budget budget' : ℕ) → length waits + budget ≤ budget' + 266256 → length got + budget' ≡ budget → length (waits ++ got) ≤ 266256

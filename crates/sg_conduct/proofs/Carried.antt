@@ -128,10 +128,7 @@ lines_carried (line ∷ came) added = go (is_one_sided line) refl (lines_carried
 proto_is : (p : Profile) (proto : List ℕ) → carried_proto (exchanged p) proto ≡ other_word p proto
 unfolding carried_proto
 proto_is Avp proto = refl
-proto_is Savp proto = refl
-proto_is Avpf proto = refl
-proto_is Savpf proto = refl
-proto_is Other proto = refl
+proto_is other proto = refl
 
 towards : (side : Side) (slot number : ℕ) → rtp_port slot number side ≡ port_towards side slot number
 towards Secure slot number = refl

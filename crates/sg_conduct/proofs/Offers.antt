@@ -50,14 +50,10 @@ use Rattle.sg_conduct.specs.Present.{HasProfileOf, TakesPart}
 profile_of : (side : Side) (p : Profile) → is_of_side side p ≡ true → HasProfileOf side p
 profile_of Secure Savp e = inl refl
 profile_of Secure Savpf e = inr refl
-profile_of Secure Avp e = absurd cc
-profile_of Secure Avpf e = absurd cc
-profile_of Secure Other e = absurd cc
 profile_of Plain Avp e = inl refl
 profile_of Plain Avpf e = inr refl
-profile_of Plain Savp e = absurd cc
-profile_of Plain Savpf e = absurd cc
-profile_of Plain Other e = absurd cc
+profile_of Secure other e = absurd cc
+profile_of Plain other e = absurd cc
 
 pub active_takes : (side : Side) (m : descriptions.Medium) → is_active side m ≡ true → TakesPart side m
 active_takes side m e =

@@ -184,11 +184,9 @@ all_cryptos (None ∷ ls) = (tt, all_cryptos ls)
 all_cryptos (Some l ∷ ls) = (cryptos_are l, all_cryptos ls)
 
 keying_adds : (k : Keying) → AddsAttributes (added_by k)
-keying_adds (PeerLines lines) = (tt, tt)
 keying_adds (OwnLines lines) = (tt, all_cryptos lines)
-keying_adds (PeerMessage bundle) = (tt, tt)
-keying_adds (PeerMessages bundles) = (tt, tt)
 keying_adds (OwnMessage sent) = ((mikey_is (initial_octets sent), tt), tt)
+keying_adds other = (tt, tt)
 
 map_long : {X Y : Type 0} (f : X → Y) (xs : List X) → length (map f xs) ≡ length xs
 map_long f [] = refl

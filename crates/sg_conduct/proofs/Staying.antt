@@ -120,13 +120,11 @@ module _ (past : List Entry) (w : World) (kept : IsKept Anything past w) (before
   rejected_still id (Some d) at = reject_still id d at (rejected_in w.moment d) refl
 
   signal_still : (signal : Signal) → (TakesSessions signal → ⊥) → Still (answer_to w signal).world
-  signal_still (Tick now) keeps = absurd (keeps tt)
-  signal_still (Answered id noise text) keeps = absurd (keeps tt)
-  signal_still (Bye id) keeps = absurd (keeps tt)
   signal_still (Psk p) keeps = stays_there (answer_to w (Psk p)).world.calls (pair_stays w before c here p)
   signal_still (Manual h) keeps = stays_there (answer_to w (Manual h)).world.calls (manual_stays w before c here h)
   signal_still (Offered id way noise text) keeps = offered_still id way noise text (call_of w id) refl
   signal_still (Reject id) keeps = rejected_still id (call_of w id) refl
+  signal_still other keeps = absurd (keeps tt)
 
   -- ---- a datagram
 

@@ -159,13 +159,7 @@ Shows ring o text (causes.Psk medium fault) = ShowsNoResponse o text medium faul
 Shows ring o text (causes.Cs medium fault) = IsToRespond o text medium
 Shows ring o text (causes.KeyReused number) = IsReused ring number
 Shows ring o text causes.RingFull = IsFull ring
-Shows ring o text causes.TableFull = ⊥
-Shows ring o text causes.CallKnown = ⊥
-Shows ring o text causes.CallUnknown = ⊥
-Shows ring o text causes.PskKnown = ⊥
-Shows ring o text causes.PskFull = ⊥
-Shows ring o text (causes.TickBack last) = ⊥
-Shows ring o text causes.State = ⊥
+Shows ring o text other = ⊥
 
 abbrev pub RefusedAnswerShowsCause : Turn → Type 0
 RefusedAnswerShowsCause t =

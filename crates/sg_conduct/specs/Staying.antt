@@ -12,10 +12,7 @@ abbrev pub TakesSessions : Signal → Type 0
 TakesSessions (Tick now) = Unit {0}
 TakesSessions (Answered id noise text) = Unit {0}
 TakesSessions (Bye id) = Unit {0}
-TakesSessions (Psk p) = ⊥
-TakesSessions (Manual h) = ⊥
-TakesSessions (Offered id way noise text) = ⊥
-TakesSessions (Reject id) = ⊥
+TakesSessions other = ⊥
 
 -- a call has it in this slot
 abbrev pub IsStillOpen : Call → Session → World → Type 0

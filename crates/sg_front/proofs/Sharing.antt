@@ -129,12 +129,7 @@ shared_step calls w signal table told is stands =
 told_count : (signal : Signal) (calls : List (Option Known)) (os : List Outcome) → length (signalled signal calls os).told ≡ length os
 told_count (Answered id noise text) calls [] = refl
 told_count (Answered id noise text) calls (o ∷ os) = refl
-told_count (Offered id way noise text) calls os = refl
-told_count (Tick now) calls os = refl
-told_count (Psk pair) calls os = refl
-told_count (Manual h) calls os = refl
-told_count (Reject id) calls os = refl
-told_count (Bye id) calls os = refl
+told_count other calls os = refl
 
 -- the same of a line's signal, where the mux has changed outcomes in their place
 pub line_step : (calls now : List (Option Known)) (w : World) (line : lines.Signal) (table : TableValue) (told slice outs : List Outcome) → signal_lacks_noise line ≡ false

@@ -46,12 +46,9 @@ module _ (w : World) where
 
   takes : (signal : Signal) → list_any is_text (answer_to w signal).outcomes ≡ true → takes_memory signal ≡ true
   takes (Tick now) text = absurd (false≢true (sym (no_text_ticked now) ∙ text))
-  takes (Psk p) text = refl
-  takes (Manual h) text = refl
-  takes (Offered id way noise t) text = refl
-  takes (Answered id noise t) text = refl
   takes (Reject id) text = absurd (false≢true (sym (no_text_rejected id (call_of w id)) ∙ text))
   takes (Bye id) text = absurd (false≢true (sym (no_text_left id (call_of w id)) ∙ text))
+  takes other text = refl
 
   -- no refusal is told
   none_early : (signal : Signal) → list_any is_text (answer_to w signal).outcomes ≡ true → (o : Option Refusal) → early w signal ≡ o → early w signal ≡ None

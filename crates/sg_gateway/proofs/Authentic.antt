@@ -184,9 +184,7 @@ module _ (books : Books) (now : ℕ) where
   abbrev AreAuthentic : Sdp → Keying → Type 0
   AreAuthentic s (PeerMessage b) = IsAuthentic books now s.session b.initial
   AreAuthentic s (PeerMessages bs) = AllByRecursion (Sometimes (IsOfMedium s.media)) bs
-  AreAuthentic s (PeerLines lines) = Unit {0}
-  AreAuthentic s (OwnLines lines) = Unit {0}
-  AreAuthentic s (OwnMessage sent) = Unit {0}
+  AreAuthentic s other = Unit {0}
 
   abbrev of_medium : Call → List ℕ → ℕ → descriptions.Medium → Result Bundle Refusal
   of_medium c noise k m = bundle_in (at_hand now books c noise) k 1 (mikey_value m.lines)
@@ -298,9 +296,7 @@ module _ (books : Books) (now : ℕ) where
   pub accepted_once : (after : List Noted) (s : Sdp) (k : Keying) → AreAuthentic books now s k → AllByRecursion (λ n. Any (IsNote n) after) (notes_of k) → AreAcceptedOnce books now after s k
   accepted_once after s (PeerMessage b) p q = (p, q.0)
   accepted_once after s (PeerMessages bs) p q = bundles_once after s.media bs p q
-  accepted_once after s (PeerLines lines) p q = tt
-  accepted_once after s (OwnLines lines) p q = tt
-  accepted_once after s (OwnMessage sent) p q = tt
+  accepted_once after s other p q = tt
 
   -- an offer is open by what it was agreed by
   pub record IsOpenBy (c : Call) (way : Way) (text : List ℕ) (d : Call) (after : List Noted) : Type 0 where

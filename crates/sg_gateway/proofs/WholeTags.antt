@@ -58,13 +58,10 @@ medium_whole call generation m n x later from to rest =
     (each_append HasWholeTags sealing later (stream_whole _ (numbered (n + length x.from_peer.keys) x.to_peer.keys) x.to_peer 1024 x to) rest)
 
 of_suite : (s : Suite) → IsTagLength Rtp (tag_len_of s)
-of_suite Raw80 = inr refl
-of_suite Cm128Tag80 = inr refl
 of_suite Cm128Tag32 = inl refl
-of_suite Cm192Tag80 = inr refl
 of_suite Cm192Tag32 = inl refl
-of_suite Cm256Tag80 = inr refl
 of_suite Cm256Tag32 = inl refl
+of_suite other = inr refl
 
 -- ---- what is agreed
 

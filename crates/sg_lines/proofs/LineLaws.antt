@@ -143,14 +143,7 @@ some_fields lines.HeaderTwo = (codes "srtpgw", codes "2" ∷ [], refl)
 some_fields (lines.Datagram port from octets) = (_, _, refl)
 some_fields (lines.DatagramAt now port from octets) = (_, _, refl)
 some_fields (lines.Signal (Tick now)) = (_, _, refl)
-some_fields (lines.Signal (Psk own peer key)) = (_, _, refl)
-some_fields (lines.Signal (Manual call secure plain rollover window from_peer to_peer)) = (_, _, refl)
-some_fields (lines.Signal (OfferSecure call noise text)) = (_, _, refl)
-some_fields (lines.Signal (OfferSdes call noise text)) = (_, _, refl)
-some_fields (lines.Signal (OfferMikey call peer noise text)) = (_, _, refl)
-some_fields (lines.Signal (Answer call noise text)) = (_, _, refl)
-some_fields (lines.Signal (Reject call)) = (_, _, refl)
-some_fields (lines.Signal (Bye call)) = (_, _, refl)
+some_fields (lines.Signal other) = (_, _, refl)
 
 pub cut_some : (gs : List (List ℕ)) (f : List ℕ) (fs : List (List ℕ)) → gs ≡ f ∷ fs → AreDense gs → fields_of (join_with_byte 32 gs) ≡ gs
 cut_some gs f fs e dense =

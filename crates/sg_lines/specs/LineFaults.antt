@@ -8,5 +8,4 @@ IsFieldFault Word = Unit {0}
 IsFieldFault Number = Unit {0}
 IsFieldFault Hex = Unit {0}
 IsFieldFault Length = Unit {0}
-IsFieldFault Version = ⊥
-IsFieldFault Unended = ⊥
+IsFieldFault other = ⊥

@@ -41,13 +41,8 @@ both_marked some others (suc (suc (suc (suc n)))) e = absurd cc
 
 abbrev pub marks_of : Event → List Bool
 marks_of (Signalled (Offered id way noise text)) = offers_mux text
-marks_of (Signalled (Answered id noise text)) = no_marks
-marks_of (Signalled (Tick now)) = no_marks
-marks_of (Signalled (Psk pair)) = no_marks
-marks_of (Signalled (Manual h)) = no_marks
-marks_of (Signalled (Reject id)) = no_marks
-marks_of (Signalled (Bye id)) = no_marks
 marks_of (Datagram port from octets) = no_marks
+marks_of (Signalled other) = no_marks
 
 abbrev pub change_by : Event → Side → List ℕ → Known → Known
 change_by e side text k = cond (is_answer e) (record k { side = side; muxed = agreed text k.offered }) (record k { offered = marks_of e })
@@ -56,11 +51,7 @@ abbrev pub said_of : ℕ → Event → Outcome → Option Known → Option Known
 said_of slot e (Made id at media) known = cond (eqb at slot) (Some (fresh id)) known
 said_of slot e (Ended id at media why) known = cond (eqb at slot) None known
 said_of slot e (Sdp id side text) known = changed_at id (change_by e side text) known
-said_of slot e (Live id) known = known
-said_of slot e (Refused id cause) known = known
-said_of slot e (Out port to octets) known = known
-said_of slot e (Dropped port cause) known = known
-said_of slot e (Unsent port to) known = known
+said_of slot e other known = known
 
 abbrev pub said : ℕ → Option Known → List Telling → Option Known
 said slot known [] = known
@@ -214,12 +205,8 @@ module _ (slot medium : ℕ) (side : Side) where
     }),
   )
   offer_here k (Signalled (Answered id noise t)) s text ts is (inr (stays, inr (inl (line, answer)))) = absurd cc
-  offer_here k (Signalled (Tick now)) s text ts is (inr (stays, inr (inl (line, answer)))) = absurd (none_marked medium line)
-  offer_here k (Signalled (Psk pair)) s text ts is (inr (stays, inr (inl (line, answer)))) = absurd (none_marked medium line)
-  offer_here k (Signalled (Manual h)) s text ts is (inr (stays, inr (inl (line, answer)))) = absurd (none_marked medium line)
-  offer_here k (Signalled (Reject id)) s text ts is (inr (stays, inr (inl (line, answer)))) = absurd (none_marked medium line)
-  offer_here k (Signalled (Bye id)) s text ts is (inr (stays, inr (inl (line, answer)))) = absurd (none_marked medium line)
   offer_here k (Datagram port from octets) s text ts is (inr (stays, inr (inl (line, answer)))) = absurd (none_marked medium line)
+  offer_here k (Signalled other) s text ts is (inr (stays, inr (inl (line, answer)))) = absurd (none_marked medium line)
 
   text_here : (k : Known) (e : Event) (id : CallId) (s : Side) (text : List ℕ) (ts : List Telling) (mine answer : Bool) → same_id k.id id ≡ mine → is_answer e ≡ answer
       → Reached (Some (cond mine (cond answer (record k { side = s; muxed = agreed text k.offered }) (record k { offered = marks_of e })) k)) ts
@@ -335,31 +322,19 @@ module _ (slot medium : ℕ) (side : Side) (id : CallId) where
   keeps_there k e (Made i at media) is never = if_other IsThere (eqb at slot) _ k is (λ here. never (eqb-true at slot here))
   keeps_there k e (Ended i at media why) is never = if_other IsThere (eqb at slot) _ k is (λ here. never (eqb-true at slot here))
   keeps_there k e (Sdp i s text) is never = by_text IsThere k e i s text (same_id k.id i) (is_answer e) refl refl is (λ mine a. is) (λ mine a. is)
-  keeps_there k e (Live i) is never = is
-  keeps_there k e (Refused i cause) is never = is
-  keeps_there k e (Out port to octets) is never = is
-  keeps_there k e (Dropped port cause) is never = is
-  keeps_there k e (Unsent port to) is never = is
+  keeps_there k e other is never = is
 
   keeps_line : (k : Known) (e : Event) (o : Outcome) → HasLine k → (¬ ChangesSlot slot o) × (¬ AcceptsOffer id (record { event = e; outcome = o })) → Holds HasLine (said_of slot e o (Some k))
   keeps_line k e (Made i at media) is never = if_other HasLine (eqb at slot) _ k is (λ here. never.0 (eqb-true at slot here))
   keeps_line k e (Ended i at media why) is never = if_other HasLine (eqb at slot) _ k is (λ here. never.0 (eqb-true at slot here))
   keeps_line k e (Sdp i s text) is never = by_text HasLine k e i s text (same_id k.id i) (is_answer e) refl refl is (λ mine a. is) (λ mine a. absurd (never.1 (sym mine ∙ is.0, a)))
-  keeps_line k e (Live i) is never = is
-  keeps_line k e (Refused i cause) is never = is
-  keeps_line k e (Out port to octets) is never = is
-  keeps_line k e (Dropped port cause) is never = is
-  keeps_line k e (Unsent port to) is never = is
+  keeps_line k e other is never = is
 
   keeps_muxed : (k : Known) (e : Event) (o : Outcome) → Muxes k → (¬ ChangesSlot slot o) × (¬ AcceptsAnswer id (record { event = e; outcome = o })) → Holds Muxes (said_of slot e o (Some k))
   keeps_muxed k e (Made i at media) is never = if_other Muxes (eqb at slot) _ k is (λ here. never.0 (eqb-true at slot here))
   keeps_muxed k e (Ended i at media why) is never = if_other Muxes (eqb at slot) _ k is (λ here. never.0 (eqb-true at slot here))
   keeps_muxed k e (Sdp i s text) is never = by_text Muxes k e i s text (same_id k.id i) (is_answer e) refl refl is (λ mine a. absurd (never.1 (sym mine ∙ is.0, a))) (λ mine a. is)
-  keeps_muxed k e (Live i) is never = is
-  keeps_muxed k e (Refused i cause) is never = is
-  keeps_muxed k e (Out port to octets) is never = is
-  keeps_muxed k e (Dropped port cause) is never = is
-  keeps_muxed k e (Unsent port to) is never = is
+  keeps_muxed k e other is never = is
 
   -- the offer, and the answer
   takes_offer : (k : Known) (e : Event) (o : Outcome) (call : CallId) (way : Way) (noise text : List ℕ) → IsThere k → e ≡ Signalled (Offered call way noise text) → TellsText id o
@@ -368,12 +343,7 @@ module _ (slot medium : ℕ) (side : Side) (id : CallId) where
       subst (λ (e : Event). Holds HasLine (said_of slot e (Sdp i s t) (Some k))) (sym event)
       (rw (eq-eqb k.id.0 i.0 (ap (λ (i : CallId). i.0) (is ∙ sym tells))) (is, line))
   takes_offer k e (Made i at media) call way noise text is event tells line = absurd tells
-  takes_offer k e (Ended i at media why) call way noise text is event tells line = absurd tells
-  takes_offer k e (Live i) call way noise text is event tells line = absurd tells
-  takes_offer k e (Refused i cause) call way noise text is event tells line = absurd tells
-  takes_offer k e (Out port to octets) call way noise text is event tells line = absurd tells
-  takes_offer k e (Dropped port cause) call way noise text is event tells line = absurd tells
-  takes_offer k e (Unsent port to) call way noise text is event tells line = absurd tells
+  takes_offer k e other call way noise text is event tells line = absurd tells
 
   takes_answer : (k : Known) (e : Event) (text : List ℕ) → HasLine k → is_answer e ≡ true → mark (answers_port text) medium ≡ true
       → Holds Muxes (said_of slot e (Sdp id side text) (Some k))

@@ -30,36 +30,20 @@ noted_count : (marks : List Bool) (calls : List (Option Known)) (o : Outcome) �
 noted_count marks calls (Made id at media) = length-set calls at (Some (fresh id))
 noted_count marks calls (Ended id at media why) = length-set calls at None
 noted_count marks calls (Sdp id side text) = length-map calls _
-noted_count marks calls (Live id) = refl
-noted_count marks calls (Refused id cause) = refl
-noted_count marks calls (Out port to octets) = refl
-noted_count marks calls (Dropped port cause) = refl
-noted_count marks calls (Unsent port to) = refl
+noted_count marks calls other = refl
 
 all_count : (marks : List Bool) (calls : List (Option Known)) (os : List Outcome) → length (noted_all marks calls os) ≡ length calls
 all_count marks calls [] = refl
 all_count marks calls (o ∷ os) = all_count marks (noted marks calls o) os ∙ noted_count marks calls o
 
 answered_count : (calls : List (Option Known)) (os : List Outcome) → length (settled_answer calls os).calls ≡ length calls
-answered_count calls [] = refl
 answered_count calls (Sdp id side text ∷ os) = length-map calls _
-answered_count calls (Made id at media ∷ os) = refl
-answered_count calls (Ended id at media why ∷ os) = refl
-answered_count calls (Live id ∷ os) = refl
-answered_count calls (Refused id cause ∷ os) = refl
-answered_count calls (Out port to octets ∷ os) = refl
-answered_count calls (Dropped port cause ∷ os) = refl
-answered_count calls (Unsent port to ∷ os) = refl
+answered_count calls other = refl
 
 event_count : (calls : List (Option Known)) (e : Event) (os : List Outcome) → length (muxing_at calls e os).calls ≡ length calls
 event_count calls (Datagram port from octets) os = refl
-event_count calls (Signalled (Offered id way noise text)) os = all_count _ calls os
 event_count calls (Signalled (Answered id noise text)) os = answered_count calls os
-event_count calls (Signalled (Tick now)) os = all_count _ calls os
-event_count calls (Signalled (Psk pair)) os = all_count _ calls os
-event_count calls (Signalled (Manual h)) os = all_count _ calls os
-event_count calls (Signalled (Reject id)) os = all_count _ calls os
-event_count calls (Signalled (Bye id)) os = all_count _ calls os
+event_count calls (Signalled other) os = all_count _ calls os
 
 module _ (slot : ℕ) where
   abbrev At : List (Option Known) → Option Known
@@ -84,11 +68,7 @@ module _ (slot : ℕ) where
   one_noted e calls (Made id at media) is within = set_at calls at (Some (fresh id)) (eqb at slot) refl within
   one_noted e calls (Ended id at media why) is within = set_at calls at None (eqb at slot) refl within
   one_noted e calls (Sdp id side text) is within = get_or-map _ calls slot None None within ∙ offer_noted e id side text (At calls) is
-  one_noted e calls (Live id) is within = refl
-  one_noted e calls (Refused id cause) is within = refl
-  one_noted e calls (Out port to octets) is within = refl
-  one_noted e calls (Dropped port cause) is within = refl
-  one_noted e calls (Unsent port to) is within = refl
+  one_noted e calls other is within = refl
 
   each_noted : (e : Event) (calls : List (Option Known)) (os : List Outcome) → is_answer e ≡ false → slot < length calls
       → At (noted_all (marks_of e) calls os) ≡ said slot (At calls) (map (telling e) os)

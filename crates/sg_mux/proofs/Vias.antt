@@ -21,14 +21,9 @@ use Rattle.sg_mux.specs.declared.known.Known.{Known}
 -- ---- what a datagram gives, as it is told
 
 datagram_told : (calls : List (Option Known)) (port : ℕ) (o : Outcome) → IsToldAs (leaves calls) o (told_at calls port o)
-datagram_told calls port (Out p to octets) = refl
 datagram_told calls port (Dropped p cause) = (port, refl)
 datagram_told calls port (Sdp id side text) = (text, refl, same_lines text)
-datagram_told calls port (Made id slot media) = refl
-datagram_told calls port (Live id) = refl
-datagram_told calls port (Refused id cause) = refl
-datagram_told calls port (Ended id slot media why) = refl
-datagram_told calls port (Unsent p to) = refl
+datagram_told calls port other = refl
 
 all_told : (calls : List (Option Known)) (port : ℕ) (os : List Outcome) → AreToldAs (leaves calls) os (map (told_at calls port) os)
 all_told calls port [] = refl
@@ -37,14 +32,9 @@ all_told calls port (o ∷ os) = (told_at calls port o, map (told_at calls port)
 -- ---- what a signal gives
 
 as_it_is : (o : Outcome) → IsToldAs straight o o
-as_it_is (Out port to octets) = refl
 as_it_is (Dropped port cause) = (port, refl)
 as_it_is (Sdp id side text) = (text, refl, same_lines text)
-as_it_is (Made id slot media) = refl
-as_it_is (Live id) = refl
-as_it_is (Refused id cause) = refl
-as_it_is (Ended id slot media why) = refl
-as_it_is (Unsent port to) = refl
+as_it_is other = refl
 
 all_as_they_are : (os : List Outcome) → AreToldAs straight os os
 all_as_they_are [] = refl
@@ -53,26 +43,16 @@ all_as_they_are (o ∷ os) = (o, os, refl, as_it_is o, all_as_they_are os)
 module _ (spelled : ReadIsSpelled) where
   settled_told : (calls : List (Option Known)) (o : Outcome) → IsToldAs straight o (settled calls o).told
   settled_told calls (Sdp id side text) = (_, refl, adds_lines spelled text (agreed text (offered_by id calls)))
-  settled_told calls (Out port to octets) = refl
   settled_told calls (Dropped port cause) = (port, refl)
-  settled_told calls (Made id slot media) = refl
-  settled_told calls (Live id) = refl
-  settled_told calls (Refused id cause) = refl
-  settled_told calls (Ended id slot media why) = refl
-  settled_told calls (Unsent port to) = refl
+  settled_told calls other = refl
 
   answered_told : (calls : List (Option Known)) (os : List Outcome) → AreToldAs straight os (settled_answer calls os).told
   answered_told calls [] = refl
   answered_told calls (o ∷ os) = ((settled calls o).told, os, refl, settled_told calls o, all_as_they_are os)
 
   signal_told : (signal : Signal) (calls : List (Option Known)) (os : List Outcome) → AreToldAs straight os (signalled signal calls os).told
-  signal_told (Tick now) calls os = all_as_they_are os
-  signal_told (Psk pair) calls os = all_as_they_are os
-  signal_told (Manual h) calls os = all_as_they_are os
-  signal_told (Offered id way noise text) calls os = all_as_they_are os
   signal_told (Answered id noise text) calls os = answered_told calls os
-  signal_told (Reject id) calls os = all_as_they_are os
-  signal_told (Bye id) calls os = all_as_they_are os
+  signal_told other calls os = all_as_they_are os
 
 -- ---- legs
 
@@ -109,12 +89,8 @@ straight_legs port to = inl refl
 
 offers_stay : (w : World) (calls : List (Option Known)) (signal : Signal) → KeepsOffers (passage_at w calls (Signalled signal))
 offers_stay w calls (Answered id noise text) i way n t is = absurd cc
-offers_stay w calls (Tick now) i way n t is = refl
-offers_stay w calls (Psk pair) i way n t is = refl
-offers_stay w calls (Manual h) i way n t is = refl
 offers_stay w calls (Offered id way noise text) i way' n t is = refl
-offers_stay w calls (Reject id) i way n t is = refl
-offers_stay w calls (Bye id) i way n t is = refl
+offers_stay w calls other i way n t is = refl
 
 -- ---- a run
 

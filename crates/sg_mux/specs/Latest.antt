@@ -44,23 +44,12 @@ known_after events = known_from empty nobody events
 abbrev pub ChangesSlot : ℕ → Outcome → Type 0
 ChangesSlot slot (Made id at media) = at ≡ slot
 ChangesSlot slot (Ended id at media why) = at ≡ slot
-ChangesSlot slot (Sdp id side text) = ⊥
-ChangesSlot slot (Live id) = ⊥
-ChangesSlot slot (Refused id cause) = ⊥
-ChangesSlot slot (Out port to octets) = ⊥
-ChangesSlot slot (Dropped port cause) = ⊥
-ChangesSlot slot (Unsent port to) = ⊥
+ChangesSlot slot other = ⊥
 
 -- a text of the call is told: a signal of it with a text was accepted
 abbrev pub TellsText : CallId → Outcome → Type 0
 TellsText id (Sdp call side text) = call ≡ id
-TellsText id (Made call slot media) = ⊥
-TellsText id (Ended call slot media why) = ⊥
-TellsText id (Live call) = ⊥
-TellsText id (Refused call cause) = ⊥
-TellsText id (Out port to octets) = ⊥
-TellsText id (Dropped port cause) = ⊥
-TellsText id (Unsent port to) = ⊥
+TellsText id other = ⊥
 
 abbrev pub is_answer : Event → Bool
 is_answer (Datagram port from octets) = false

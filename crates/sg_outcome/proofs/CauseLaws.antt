@@ -111,24 +111,8 @@ five_same a b c d e a' b' c' d' e' p q r s t = rw (p, q, r, s, t) refl
 -- ---- causes of drops
 
 plain_drop_cause_fields : (x : DropCause) → NameLaws.is_plain_drop_cause x ≡ true → (drop_cause_fields x ≡ drop_cause_name x ∷ []) × FitsDropCause x
-plain_drop_cause_fields drops.Short e = (refl, tt)
-plain_drop_cause_fields drops.Version e = (refl, tt)
-plain_drop_cause_fields drops.CsrcCut e = (refl, tt)
-plain_drop_cause_fields drops.ExtensionCut e = (refl, tt)
-plain_drop_cause_fields drops.SsrcUnknown e = (refl, tt)
-plain_drop_cause_fields drops.MkiUnknown e = (refl, tt)
 plain_drop_cause_fields (drops.KeySpent number count) e = absurd cc
-plain_drop_cause_fields drops.BeforeFirst e = (refl, tt)
-plain_drop_cause_fields drops.IndexSpent e = (refl, tt)
-plain_drop_cause_fields drops.Repeat e = (refl, tt)
-plain_drop_cause_fields drops.TooOld e = (refl, tt)
-plain_drop_cause_fields drops.BadTag e = (refl, tt)
-plain_drop_cause_fields drops.StreamsFull e = (refl, tt)
-plain_drop_cause_fields drops.RtcpIndexSpent e = (refl, tt)
-plain_drop_cause_fields drops.PortUnused e = (refl, tt)
-plain_drop_cause_fields drops.NotLive e = (refl, tt)
-plain_drop_cause_fields drops.TooLong e = (refl, tt)
-plain_drop_cause_fields drops.SourceUnknown e = (refl, tt)
+plain_drop_cause_fields other e = (refl, tt)
 
 pub drop_cause_again : (x : DropCause) → FitsDropCause x → drop_cause_from (drop_cause_fields x) ≡ Ok x
 unfolding key_spent_from
@@ -197,14 +181,8 @@ dense_drop_cause drops.SourceUnknown fits = (NameLaws.dense_drop_cause drops.Sou
 -- ---- faults of the pre-shared-key exchange
 
 plain_psk_fault_fields : (x : PskFault) → NameLaws.is_plain_psk_fault x ≡ true → (psk_fault_fields x ≡ psk_fault_name x ∷ []) × FitsPskFault x
-plain_psk_fault_fields psk.IdUnknown e = (refl, tt)
-plain_psk_fault_fields psk.BadMac e = (refl, tt)
 plain_psk_fault_fields (psk.Skew stamp now) e = absurd cc
-plain_psk_fault_fields psk.Repeated e = (refl, tt)
-plain_psk_fault_fields psk.Algorithm e = (refl, tt)
-plain_psk_fault_fields psk.KeyType e = (refl, tt)
-plain_psk_fault_fields psk.CacheFull e = (refl, tt)
-plain_psk_fault_fields psk.OtherSession e = (refl, tt)
+plain_psk_fault_fields other e = (refl, tt)
 
 skew_again : (stamp : ℤ) (now : ℕ) → FitsPskFault (psk.Skew stamp now) → skew_from (codes "Skew") (signed_decimal stamp) (decimal now) ≡ Ok (psk.Skew stamp now)
 unfolding skew_from
@@ -249,16 +227,8 @@ plain_refusal_fields (refusals.Psk medium fault) e = absurd cc
 plain_refusal_fields (refusals.Cs medium fault) e = absurd cc
 plain_refusal_fields (refusals.KeyMgmt medium) e = absurd cc
 plain_refusal_fields (refusals.KeyReused number) e = absurd cc
-plain_refusal_fields refusals.RingFull e = (refl, tt)
-plain_refusal_fields refusals.NoMedia e = (refl, tt)
-plain_refusal_fields refusals.MediaCount e = (refl, tt)
-plain_refusal_fields refusals.TableFull e = (refl, tt)
-plain_refusal_fields refusals.CallKnown e = (refl, tt)
-plain_refusal_fields refusals.CallUnknown e = (refl, tt)
-plain_refusal_fields refusals.PskKnown e = (refl, tt)
-plain_refusal_fields refusals.PskFull e = (refl, tt)
 plain_refusal_fields (refusals.TickBack last) e = absurd cc
-plain_refusal_fields refusals.State e = (refl, tt)
+plain_refusal_fields other e = (refl, tt)
 
 pub refusal_again : (x : Refusal) → FitsRefusal x → refusal_from (refusal_fields x) ≡ Ok x
 unfolding one_number_from key_mgmt_from key_reused_from tick_back_from one_fault_from sdp_from sdes_from psk_from cs_from two_numbers_from mikey_from fault_with_numbers_from psk_skew_from

@@ -55,8 +55,7 @@ dense_side Plain = dense_test (side_name Plain) refl
 pub why_again : (x : Why) → why_at (why_name x) ≡ Some x
 unfolding why_at
 why_again Bye = refl
-why_again Rejected = refl
-why_again Idle = refl
+why_again other = refl
 
 pub why_takes : (t : List ℕ) (x : Why) → why_at t ≡ Some x → t ≡ why_name x
 unfolding why_at
@@ -70,10 +69,7 @@ dense_why Idle = dense_test (why_name Idle) refl
 pub sdp_fault_again : (x : SdpFault) → sdp_fault_at (sdp_fault_name x) ≡ Some x
 unfolding sdp_fault_at
 sdp_fault_again sdp.Order = refl
-sdp_fault_again sdp.Form = refl
-sdp_fault_again sdp.TooLong = refl
-sdp_fault_again sdp.TooManyMedia = refl
-sdp_fault_again sdp.Address = refl
+sdp_fault_again other = refl
 
 pub sdp_fault_takes : (t : List ℕ) (x : SdpFault) → sdp_fault_at t ≡ Some x → t ≡ sdp_fault_name x
 unfolding sdp_fault_at
@@ -89,12 +85,7 @@ dense_sdp_fault sdp.Address = dense_test (sdp_fault_name sdp.Address) refl
 pub sdes_fault_again : (x : SdesFault) → sdes_fault_at (sdes_fault_name x) ≡ Some x
 unfolding sdes_fault_at
 sdes_fault_again sdes.NoLine = refl
-sdes_fault_again sdes.Tag = refl
-sdes_fault_again sdes.Suite = refl
-sdes_fault_again sdes.Key = refl
-sdes_fault_again sdes.Lifetime = refl
-sdes_fault_again sdes.MkiValue = refl
-sdes_fault_again sdes.Parameter = refl
+sdes_fault_again other = refl
 
 pub sdes_fault_takes : (t : List ℕ) (x : SdesFault) → sdes_fault_at t ≡ Some x → t ≡ sdes_fault_name x
 unfolding sdes_fault_at
@@ -112,12 +103,7 @@ dense_sdes_fault sdes.Parameter = dense_test (sdes_fault_name sdes.Parameter) re
 pub mikey_fault_again : (x : MikeyFault) → mikey_fault_at (mikey_fault_name x) ≡ Some x
 unfolding mikey_fault_at
 mikey_fault_again mikey.Cut = refl
-mikey_fault_again mikey.Version = refl
-mikey_fault_again mikey.DataType = refl
-mikey_fault_again mikey.Payload = refl
-mikey_fault_again mikey.Order = refl
-mikey_fault_again mikey.Value = refl
-mikey_fault_again mikey.Trailing = refl
+mikey_fault_again other = refl
 
 pub mikey_fault_takes : (t : List ℕ) (x : MikeyFault) → mikey_fault_at t ≡ Some x → t ≡ mikey_fault_name x
 unfolding mikey_fault_at
@@ -135,8 +121,7 @@ dense_mikey_fault mikey.Trailing = dense_test (mikey_fault_name mikey.Trailing) 
 pub cs_fault_again : (x : CsFault) → cs_fault_at (cs_fault_name x) ≡ Some x
 unfolding cs_fault_at
 cs_fault_again cs.CsCount = refl
-cs_fault_again cs.PolicyMissing = refl
-cs_fault_again cs.PolicyValue = refl
+cs_fault_again other = refl
 
 pub cs_fault_takes : (t : List ℕ) (x : CsFault) → cs_fault_at t ≡ Some x → t ≡ cs_fault_name x
 unfolding cs_fault_at
@@ -154,24 +139,8 @@ is_plain_drop_cause other = true
 
 pub plain_drop_cause_again : (x : DropCause) → is_plain_drop_cause x ≡ true → plain_drop_cause_at (drop_cause_name x) ≡ Some x
 unfolding plain_drop_cause_at
-plain_drop_cause_again drops.Short e = refl
-plain_drop_cause_again drops.Version e = refl
-plain_drop_cause_again drops.CsrcCut e = refl
-plain_drop_cause_again drops.ExtensionCut e = refl
-plain_drop_cause_again drops.SsrcUnknown e = refl
-plain_drop_cause_again drops.MkiUnknown e = refl
 plain_drop_cause_again (drops.KeySpent number count) e = absurd cc
-plain_drop_cause_again drops.BeforeFirst e = refl
-plain_drop_cause_again drops.IndexSpent e = refl
-plain_drop_cause_again drops.Repeat e = refl
-plain_drop_cause_again drops.TooOld e = refl
-plain_drop_cause_again drops.BadTag e = refl
-plain_drop_cause_again drops.StreamsFull e = refl
-plain_drop_cause_again drops.RtcpIndexSpent e = refl
-plain_drop_cause_again drops.PortUnused e = refl
-plain_drop_cause_again drops.NotLive e = refl
-plain_drop_cause_again drops.TooLong e = refl
-plain_drop_cause_again drops.SourceUnknown e = refl
+plain_drop_cause_again other e = refl
 
 pub plain_drop_cause_takes : (t : List ℕ) (x : DropCause) → plain_drop_cause_at t ≡ Some x → (t ≡ drop_cause_name x) × (is_plain_drop_cause x ≡ true)
 unfolding plain_drop_cause_at
@@ -205,14 +174,8 @@ is_plain_psk_fault other = true
 
 pub plain_psk_fault_again : (x : PskFault) → is_plain_psk_fault x ≡ true → plain_psk_fault_at (psk_fault_name x) ≡ Some x
 unfolding plain_psk_fault_at
-plain_psk_fault_again psk.IdUnknown e = refl
-plain_psk_fault_again psk.BadMac e = refl
 plain_psk_fault_again (psk.Skew stamp now) e = absurd cc
-plain_psk_fault_again psk.Repeated e = refl
-plain_psk_fault_again psk.Algorithm e = refl
-plain_psk_fault_again psk.KeyType e = refl
-plain_psk_fault_again psk.CacheFull e = refl
-plain_psk_fault_again psk.OtherSession e = refl
+plain_psk_fault_again other e = refl
 
 pub plain_psk_fault_takes : (t : List ℕ) (x : PskFault) → plain_psk_fault_at t ≡ Some x → (t ≡ psk_fault_name x) × (is_plain_psk_fault x ≡ true)
 unfolding plain_psk_fault_at
@@ -250,16 +213,8 @@ plain_refusal_again (refusals.Psk medium fault) e = absurd cc
 plain_refusal_again (refusals.Cs medium fault) e = absurd cc
 plain_refusal_again (refusals.KeyMgmt medium) e = absurd cc
 plain_refusal_again (refusals.KeyReused number) e = absurd cc
-plain_refusal_again refusals.RingFull e = refl
-plain_refusal_again refusals.NoMedia e = refl
-plain_refusal_again refusals.MediaCount e = refl
-plain_refusal_again refusals.TableFull e = refl
-plain_refusal_again refusals.CallKnown e = refl
-plain_refusal_again refusals.CallUnknown e = refl
-plain_refusal_again refusals.PskKnown e = refl
-plain_refusal_again refusals.PskFull e = refl
 plain_refusal_again (refusals.TickBack last) e = absurd cc
-plain_refusal_again refusals.State e = refl
+plain_refusal_again other e = refl
 
 pub plain_refusal_takes : (t : List ℕ) (x : Refusal) → plain_refusal_at t ≡ Some x → (t ≡ refusal_name x) × (is_plain_refusal x ≡ true)
 unfolding plain_refusal_at

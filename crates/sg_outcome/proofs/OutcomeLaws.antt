@@ -36,24 +36,12 @@ use Rattle.sg_outcome.proofs.CauseLaws.{byte_again, byte_takes, drop_cause_again
 -- ---- an outcome's line is its fields, joined
 
 some_psk_fault : (x : PskFault) → psk_fault_text x ≡ join_with_byte 32 (psk_fault_fields x)
-some_psk_fault psk.IdUnknown = refl
-some_psk_fault psk.BadMac = refl
 some_psk_fault (psk.Skew stamp now) = simp append_assoc refl
-some_psk_fault psk.Repeated = refl
-some_psk_fault psk.Algorithm = refl
-some_psk_fault psk.KeyType = refl
-some_psk_fault psk.CacheFull = refl
-some_psk_fault psk.OtherSession = refl
+some_psk_fault other = refl
 
 psk_more : (x : PskFault) → (g : List ℕ) × (gs : List (List ℕ)) × (psk_fault_fields x ≡ g ∷ gs)
 psk_more psk.IdUnknown = (_, _, refl)
-psk_more psk.BadMac = (_, _, refl)
-psk_more (psk.Skew stamp now) = (_, _, refl)
-psk_more psk.Repeated = (_, _, refl)
-psk_more psk.Algorithm = (_, _, refl)
-psk_more psk.KeyType = (_, _, refl)
-psk_more psk.CacheFull = (_, _, refl)
-psk_more psk.OtherSession = (_, _, refl)
+psk_more other = (_, _, refl)
 
 -- fields behind a first one
 pub join_more : (f : List ℕ) (fs : List (List ℕ)) (g : List ℕ) (gs : List (List ℕ)) → fs ≡ g ∷ gs → join_with_byte 32 (f ∷ fs) ≡ f ++ 32 ∷ join_with_byte 32 fs
@@ -68,77 +56,19 @@ refusal_joined (refusals.Psk medium fault) =
     let inner : join_with_byte 32 (decimal medium ∷ psk_fault_fields fault) ≡ decimal medium ++ 32 ∷ join_with_byte 32 (psk_fault_fields fault) = join_more (decimal medium) (psk_fault_fields fault) more.0 more.1 more.2 in
     rw (some_psk_fault fault, inner) (ap (λ (l : List ℕ). 80 ∷ 115 ∷ 107 ∷ 32 ∷ l) (append_assoc (decimal medium) (32 ∷ []) (join_with_byte 32 (psk_fault_fields fault))))
 refusal_joined (refusals.Cs medium fault) = simp append_assoc refl
-refusal_joined (refusals.KeyMgmt medium) = refl
-refusal_joined (refusals.KeyReused number) = refl
-refusal_joined refusals.RingFull = refl
-refusal_joined refusals.NoMedia = refl
-refusal_joined refusals.MediaCount = refl
-refusal_joined refusals.TableFull = refl
-refusal_joined refusals.CallKnown = refl
-refusal_joined refusals.CallUnknown = refl
-refusal_joined refusals.PskKnown = refl
-refusal_joined refusals.PskFull = refl
-refusal_joined (refusals.TickBack last) = refl
-refusal_joined refusals.State = refl
+refusal_joined other = refl
 
 refusal_more : (x : Refusal) → (g : List ℕ) × (gs : List (List ℕ)) × (refusal_fields x ≡ g ∷ gs)
 refusal_more (refusals.Sdp line fault) = (_, _, refl)
-refusal_more (refusals.Sdes medium fault) = (_, _, refl)
-refusal_more (refusals.Mikey medium offset fault) = (_, _, refl)
-refusal_more (refusals.Psk medium fault) = (_, _, refl)
-refusal_more (refusals.Cs medium fault) = (_, _, refl)
-refusal_more (refusals.KeyMgmt medium) = (_, _, refl)
-refusal_more (refusals.KeyReused number) = (_, _, refl)
-refusal_more refusals.RingFull = (_, _, refl)
-refusal_more refusals.NoMedia = (_, _, refl)
-refusal_more refusals.MediaCount = (_, _, refl)
-refusal_more refusals.TableFull = (_, _, refl)
-refusal_more refusals.CallKnown = (_, _, refl)
-refusal_more refusals.CallUnknown = (_, _, refl)
-refusal_more refusals.PskKnown = (_, _, refl)
-refusal_more refusals.PskFull = (_, _, refl)
-refusal_more (refusals.TickBack last) = (_, _, refl)
-refusal_more refusals.State = (_, _, refl)
+refusal_more other = (_, _, refl)
 
 drop_joined : (x : DropCause) → drop_cause_name x ++ drop_cause_numbers x ≡ join_with_byte 32 (drop_cause_fields x)
-drop_joined drops.Short = refl
-drop_joined drops.Version = refl
-drop_joined drops.CsrcCut = refl
-drop_joined drops.ExtensionCut = refl
-drop_joined drops.SsrcUnknown = refl
-drop_joined drops.MkiUnknown = refl
 drop_joined (drops.KeySpent number count) = simp append_assoc refl
-drop_joined drops.BeforeFirst = refl
-drop_joined drops.IndexSpent = refl
-drop_joined drops.Repeat = refl
-drop_joined drops.TooOld = refl
-drop_joined drops.BadTag = refl
-drop_joined drops.StreamsFull = refl
-drop_joined drops.RtcpIndexSpent = refl
-drop_joined drops.PortUnused = refl
-drop_joined drops.NotLive = refl
-drop_joined drops.TooLong = refl
-drop_joined drops.SourceUnknown = refl
+drop_joined other = refl
 
 drop_more : (x : DropCause) → (g : List ℕ) × (gs : List (List ℕ)) × (drop_cause_fields x ≡ g ∷ gs)
 drop_more drops.Short = (_, _, refl)
-drop_more drops.Version = (_, _, refl)
-drop_more drops.CsrcCut = (_, _, refl)
-drop_more drops.ExtensionCut = (_, _, refl)
-drop_more drops.SsrcUnknown = (_, _, refl)
-drop_more drops.MkiUnknown = (_, _, refl)
-drop_more (drops.KeySpent number count) = (_, _, refl)
-drop_more drops.BeforeFirst = (_, _, refl)
-drop_more drops.IndexSpent = (_, _, refl)
-drop_more drops.Repeat = (_, _, refl)
-drop_more drops.TooOld = (_, _, refl)
-drop_more drops.BadTag = (_, _, refl)
-drop_more drops.StreamsFull = (_, _, refl)
-drop_more drops.RtcpIndexSpent = (_, _, refl)
-drop_more drops.PortUnused = (_, _, refl)
-drop_more drops.NotLive = (_, _, refl)
-drop_more drops.TooLong = (_, _, refl)
-drop_more drops.SourceUnknown = (_, _, refl)
+drop_more other = (_, _, refl)
 
 named : (p q a n x y : List ℕ) → n ++ x ≡ y → p ++ a ++ q ++ n ++ x ++ 10 ∷ [] ≡ p ++ (a ++ (q ++ (y ++ 10 ∷ [])))
 named p q a n x y e = rw (← e) (simp append_assoc refl)
@@ -219,13 +149,7 @@ outcome_in_again (Unsent port to) fits = rw (FieldLaws.number_in_again 65535 por
 
 some_fields : (o : Outcome) → (f : List ℕ) × (fs : List (List ℕ)) × (outcome_fields o ≡ f ∷ fs)
 some_fields (Made call slot media) = (_, _, refl)
-some_fields (Live call) = (_, _, refl)
-some_fields (Sdp call side text) = (_, _, refl)
-some_fields (Refused call cause) = (_, _, refl)
-some_fields (Ended call slot media why) = (_, _, refl)
-some_fields (Out port to octets) = (_, _, refl)
-some_fields (Dropped port cause) = (_, _, refl)
-some_fields (Unsent port to) = (_, _, refl)
+some_fields other = (_, _, refl)
 
 read_again : (o : Outcome) (t : List ℕ) → FitsOutcome o → length t ≤ 70000 → t ≡ join_with_byte 32 (outcome_fields o) ++ 10 ∷ [] → outcome_of t ≡ Ok o
 unfolding outcome_of

@@ -61,11 +61,7 @@ module _ (leaves : Leaves) (port : ℕ) (to : Address) (octets : List ℕ) where
   was_out (Out p a text) t told is = record { port = p; to = a; is = (let e : out_by leaves p a text ≡ Out port to octets = sym told ∙ is in let same : text ≡ octets = cc in ap (λ text. Out p a text ∷ []) same) }
   was_out (Dropped p cause) t told is = absurd (let e = sym told.1 ∙ is in cc)
   was_out (Sdp id side text) t told is = absurd (let e = sym told.1 ∙ is in cc)
-  was_out (Made id slot media) t told is = absurd (let e = sym told ∙ is in cc)
-  was_out (Live id) t told is = absurd (let e = sym told ∙ is in cc)
-  was_out (Refused id cause) t told is = absurd (let e = sym told ∙ is in cc)
-  was_out (Ended id slot media why) t told is = absurd (let e = sym told ∙ is in cc)
-  was_out (Unsent p a) t told is = absurd (let e = sym told ∙ is in cc)
+  was_out other t told is = absurd (let e = sym told ∙ is in cc)
 
   one_was : (os ts : List Outcome) → AreToldAs leaves os ts → ts ≡ Out port to octets ∷ [] → WasOut os octets
   one_was [] ts told is = absurd (let e = sym told ∙ is in cc)
@@ -114,41 +110,25 @@ pub bars_plain : (leaves : Leaves) → KeepsLegs leaves → Bars IsOutPlain leav
 bars_plain leaves keeps (Out port to octets) t is it = plain_side ((leaves port to).port - 20000) (port - 20000) (same_leg leaves keeps port to) (subst IsOutPlain is it)
 bars_plain leaves keeps (Dropped port cause) t is it = subst IsOutPlain is.1 it
 bars_plain leaves keeps (Sdp id side text) t is it = subst IsOutPlain is.1 it
-bars_plain leaves keeps (Made id slot media) t is it = subst IsOutPlain is it
-bars_plain leaves keeps (Live id) t is it = subst IsOutPlain is it
-bars_plain leaves keeps (Refused id cause) t is it = subst IsOutPlain is it
-bars_plain leaves keeps (Ended id slot media why) t is it = subst IsOutPlain is it
-bars_plain leaves keeps (Unsent port to) t is it = subst IsOutPlain is it
+bars_plain leaves keeps other t is it = subst IsOutPlain is it
 
 pub bars_secure : (leaves : Leaves) → KeepsLegs leaves → Bars IsOutSecure leaves
 bars_secure leaves keeps (Out port to octets) t is it = secure_side ((leaves port to).port - 20000) (port - 20000) (same_leg leaves keeps port to) (subst IsOutSecure is it)
 bars_secure leaves keeps (Dropped port cause) t is it = subst IsOutSecure is.1 it
 bars_secure leaves keeps (Sdp id side text) t is it = subst IsOutSecure is.1 it
-bars_secure leaves keeps (Made id slot media) t is it = subst IsOutSecure is it
-bars_secure leaves keeps (Live id) t is it = subst IsOutSecure is it
-bars_secure leaves keeps (Refused id cause) t is it = subst IsOutSecure is it
-bars_secure leaves keeps (Ended id slot media why) t is it = subst IsOutSecure is it
-bars_secure leaves keeps (Unsent port to) t is it = subst IsOutSecure is it
+bars_secure leaves keeps other t is it = subst IsOutSecure is it
 
 pub bars_out : (leaves : Leaves) → Bars IsOut leaves
 bars_out leaves (Out port to octets) t is it = tt
 bars_out leaves (Dropped port cause) t is it = subst IsOut is.1 it
 bars_out leaves (Sdp id side text) t is it = subst IsOut is.1 it
-bars_out leaves (Made id slot media) t is it = subst IsOut is it
-bars_out leaves (Live id) t is it = subst IsOut is it
-bars_out leaves (Refused id cause) t is it = subst IsOut is it
-bars_out leaves (Ended id slot media why) t is it = subst IsOut is it
-bars_out leaves (Unsent port to) t is it = subst IsOut is it
+bars_out leaves other t is it = subst IsOut is it
 
 bars_refusal : (leaves : Leaves) → Bars IsRefusal leaves
-bars_refusal leaves (Out port to octets) t is it = subst IsRefusal is it
 bars_refusal leaves (Dropped port cause) t is it = tt
 bars_refusal leaves (Sdp id side text) t is it = subst IsRefusal is.1 it
-bars_refusal leaves (Made id slot media) t is it = subst IsRefusal is it
-bars_refusal leaves (Live id) t is it = subst IsRefusal is it
 bars_refusal leaves (Refused id cause) t is it = tt
-bars_refusal leaves (Ended id slot media why) t is it = subst IsRefusal is it
-bars_refusal leaves (Unsent port to) t is it = subst IsRefusal is it
+bars_refusal leaves other t is it = subst IsRefusal is it
 
 -- ---- what is told as such was such
 
@@ -170,11 +150,7 @@ module _ (id : CallId) (slot media : ℕ) (why : Why) where
   bars_end leaves (Out port to octets) t is it = absurd (let e : out_by leaves port to octets ≡ Ended id slot media why = sym is ∙ it in cc)
   bars_end leaves (Dropped port cause) t is it = absurd (let e = sym is.1 ∙ it in cc)
   bars_end leaves (Sdp i side text) t is it = absurd (let e = sym is.1 ∙ it in cc)
-  bars_end leaves (Made i s m) t is it = sym is ∙ it
-  bars_end leaves (Live i) t is it = sym is ∙ it
-  bars_end leaves (Refused i cause) t is it = sym is ∙ it
-  bars_end leaves (Ended i s m w) t is it = sym is ∙ it
-  bars_end leaves (Unsent port to) t is it = sym is ∙ it
+  bars_end leaves other t is it = sym is ∙ it
 
   pub some_end : (p : Passage) → IsFaithful p → Any IsEnd p.told → Any IsEnd p.turn.outcomes
   some_end p f a = any_told IsEnd p.leaves (bars_end p.leaves) p.turn.outcomes p.told f.told a
@@ -184,12 +160,7 @@ module _ (id : CallId) (slot media : ℕ) (why : Why) where
 refusal_told : (leaves : Leaves) (o t : Outcome) → IsToldAs leaves o t → IsRefusal o → IsRefusal t
 refusal_told leaves (Refused id cause) t is it = subst IsRefusal (sym is) it
 refusal_told leaves (Dropped port cause) t is it = subst IsRefusal (sym is.1) it
-refusal_told leaves (Made id slot media) t is it = absurd it
-refusal_told leaves (Live id) t is it = absurd it
-refusal_told leaves (Sdp id side text) t is it = absurd it
-refusal_told leaves (Ended id slot media why) t is it = absurd it
-refusal_told leaves (Out port to octets) t is it = absurd it
-refusal_told leaves (Unsent port to) t is it = absurd it
+refusal_told leaves other t is it = absurd it
 
 refusals_told : (leaves : Leaves) (os ts : List Outcome) → AreToldAs leaves os ts → Any IsRefusal os → Any IsRefusal ts
 refusals_told leaves [] ts told a = absurd (any_none IsRefusal a)

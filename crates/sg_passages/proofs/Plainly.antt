@@ -25,14 +25,9 @@ same_text text =
     }
 
 pub as_it_is : (o : Outcome) → IsToldAs straight o o
-as_it_is (Out port to octets) = refl
 as_it_is (Dropped port cause) = (port, refl)
 as_it_is (Sdp id side text) = (text, refl, same_text text)
-as_it_is (Made id slot media) = refl
-as_it_is (Live id) = refl
-as_it_is (Refused id cause) = refl
-as_it_is (Ended id slot media why) = refl
-as_it_is (Unsent port to) = refl
+as_it_is other = refl
 
 pub all_as_they_are : (os : List Outcome) → AreToldAs straight os os
 all_as_they_are [] = refl

@@ -42,13 +42,8 @@ module _ (leaves : Leaves) (id : CallId) (text : List ℕ) where
 
   one_text : (o t : Outcome) → IsToldAs leaves o t → TellsNoKey o → IsText t → NoLineIsKey text
   one_text (Sdp i side first) t is none it = of_text i side first is.0 is.2 (sym is.1 ∙ it) none
-  one_text (Out port to octets) t is none it = absurd (let e = sym is ∙ it in cc)
   one_text (Dropped port cause) t is none it = absurd (let e = sym is.1 ∙ it in cc)
-  one_text (Made i slot media) t is none it = absurd (let e = sym is ∙ it in cc)
-  one_text (Live i) t is none it = absurd (let e = sym is ∙ it in cc)
-  one_text (Refused i cause) t is none it = absurd (let e = sym is ∙ it in cc)
-  one_text (Ended i slot media why) t is none it = absurd (let e = sym is ∙ it in cc)
-  one_text (Unsent port to) t is none it = absurd (let e = sym is ∙ it in cc)
+  one_text other t is none it = absurd (let e = sym is ∙ it in cc)
 
   some_text : (os ts : List Outcome) → AreToldAs leaves os ts → AllByRecursion TellsNoKey os → Any IsText ts → NoLineIsKey text
   some_text [] ts told none a = absurd (any_none IsText (subst (Any IsText) told a))

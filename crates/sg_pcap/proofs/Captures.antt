@@ -158,17 +158,11 @@ counted_far most xs more far =
 
 either : (f : CaptureFault) → (f ≡ Cut) ⊎ (¬ (f ≡ Cut))
 either Cut = inl refl
-either Magic = inr (λ is. cc)
-either Version = inr (λ is. cc)
-either LinkType = inr (λ is. cc)
-either Length = inr (λ is. cc)
+either other = inr (λ is. cc)
 
 header_fault_other : (most : ℕ) (xs : List ℕ) (at : ℕ) (f : CaptureFault) → ¬ (f ≡ Cut) → header_fault most xs (at, f) ≡ (at, f)
 header_fault_other most xs at Cut isnt = absurd (isnt refl)
-header_fault_other most xs at Magic isnt = refl
-header_fault_other most xs at Version isnt = refl
-header_fault_other most xs at LinkType isnt = refl
-header_fault_other most xs at Length isnt = refl
+header_fault_other most xs at other isnt = refl
 
 header_fault_cut : (most : ℕ) (xs : List ℕ) (at : ℕ) (f : CaptureFault) → f ≡ Cut → header_fault most xs (at, f) ≡ too_few most 0 xs
 header_fault_cut most xs at f is = ap (λ g. header_fault most xs (at, g)) is

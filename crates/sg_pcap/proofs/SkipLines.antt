@@ -21,8 +21,7 @@ use Rattle.sg_pcap.specs.declared.skips.SkipCause.TheVariants.{Fragment, CutShor
 cause_again : (cause : SkipCause) → skip_cause_at (skip_cause_name cause) ≡ Some cause
 unfolding skip_cause_at
 cause_again Fragment = refl
-cause_again CutShort = refl
-cause_again Malformed = refl
+cause_again other = refl
 
 cause_takes : (name : List ℕ) (cause : SkipCause) → skip_cause_at name ≡ Some cause → name ≡ skip_cause_name cause
 unfolding skip_cause_at
@@ -39,9 +38,8 @@ cause_takes name cause e =
     ]
 
 name_lacks : (cause : SkipCause) → Lacks 10 (32 ∷ skip_cause_name cause)
-name_lacks Fragment = (refl, (refl, (refl, (refl, (refl, (refl, (refl, (refl, (refl, tt)))))))))
-name_lacks CutShort = (refl, (refl, (refl, (refl, (refl, (refl, (refl, (refl, (refl, tt)))))))))
 name_lacks Malformed = (refl, (refl, (refl, (refl, (refl, (refl, (refl, (refl, (refl, (refl, tt))))))))))
+name_lacks other = (refl, (refl, (refl, (refl, (refl, (refl, (refl, (refl, (refl, tt)))))))))
 
 -- ---- fields
 

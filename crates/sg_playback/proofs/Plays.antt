@@ -41,30 +41,14 @@ pub stepped : (r : Result (Unit {0}) Status) (state : State) (events : List Even
 stepped (Ok u) state events stands_for a b octets wrote is stands = (octets, wrote, (is, stands))
 stepped (Err Write) state events stands_for a b octets wrote is stands = (wrote.0, wrote.2, subst (IsPrefixOf wrote.0) is wrote.1)
 stepped (Err NoMemory) state events stands_for a b octets wrote is stands = (wrote.0, wrote.2, subst (IsPrefixOf wrote.0) is wrote.1)
-stepped (Err Done) state events stands_for a b octets wrote is stands = absurd wrote
-stepped (Err Usage) state events stands_for a b octets wrote is stands = absurd wrote
-stepped (Err (Script n fault)) state events stands_for a b octets wrote is stands = absurd wrote
-stepped (Err Read) state events stands_for a b octets wrote is stands = absurd wrote
-stepped (Err Link) state events stands_for a b octets wrote is stands = absurd wrote
-stepped (Err Clock) state events stands_for a b octets wrote is stands = absurd wrote
-stepped (Err Noise) state events stands_for a b octets wrote is stands = absurd wrote
-stepped (Err TurnsSpent) state events stands_for a b octets wrote is stands = absurd wrote
-stepped (Err (Capture offset fault)) state events stands_for a b octets wrote is stands = absurd wrote
+stepped (Err other) state events stands_for a b octets wrote is stands = absurd wrote
 
 -- a front was told where it failed
 pub stepped_prefix : (status : Status) (state : State) (events : List Event) (stands_for : State → Type 0) (out : List ℕ) → IsStepped (Err status) state events stands_for out
     → ((status ≡ Write) ⊎ (status ≡ NoMemory)) × IsPrefixOf out (text_from state events)
 stepped_prefix Write state events stands_for out is = (inl refl, is)
 stepped_prefix NoMemory state events stands_for out is = (inr refl, is)
-stepped_prefix Done state events stands_for out is = absurd is
-stepped_prefix Usage state events stands_for out is = absurd is
-stepped_prefix (Script n fault) state events stands_for out is = absurd is
-stepped_prefix Read state events stands_for out is = absurd is
-stepped_prefix Link state events stands_for out is = absurd is
-stepped_prefix Clock state events stands_for out is = absurd is
-stepped_prefix Noise state events stands_for out is = absurd is
-stepped_prefix TurnsSpent state events stands_for out is = absurd is
-stepped_prefix (Capture offset fault) state events stands_for out is = absurd is
+stepped_prefix other state events stands_for out is = absurd is
 
 -- a line was cut by such a status
 pub played_cut : (status : Status) (l : Line) (state : State) (waited waits : List Event) (stands_for : State → Type 0) (draws out : List ℕ) → (status ≡ Write) ⊎ (status ≡ NoMemory)
@@ -170,15 +154,7 @@ unsupplied Noise signal state waited waits stands_for draws out is told = record
   told = told;
 }
 unsupplied Done signal state waited waits stands_for draws out is told = absurd is
-unsupplied Usage signal state waited waits stands_for draws out is told = absurd is
-unsupplied (Script n fault) signal state waited waits stands_for draws out is told = absurd is
-unsupplied Read signal state waited waits stands_for draws out is told = absurd is
-unsupplied Write signal state waited waits stands_for draws out is told = absurd is
-unsupplied Link signal state waited waits stands_for draws out is told = absurd is
-unsupplied NoMemory signal state waited waits stands_for draws out is told = absurd is
-unsupplied Clock signal state waited waits stands_for draws out is told = absurd is
-unsupplied TurnsSpent signal state waited waits stands_for draws out is told = absurd is
-unsupplied (Capture offset fault) signal state waited waits stands_for draws out is told = absurd is
+unsupplied other signal state waited waits stands_for draws out is told = absurd is
 
 -- ---- what was wanting
 
@@ -200,17 +176,9 @@ memory_only (Err status) only = inr only
 
 pub written_only : (r : Result (Unit {0}) Status) (a b : Option (List ℕ)) (octets : List ℕ) → IsWritten r a b octets → IfErr r (λ status. IsWant status)
 written_only (Ok u) a b octets wrote = tt
-written_only (Err Done) a b octets wrote = absurd wrote
-written_only (Err Usage) a b octets wrote = absurd wrote
-written_only (Err (Script n fault)) a b octets wrote = absurd wrote
-written_only (Err Read) a b octets wrote = absurd wrote
 written_only (Err Write) a b octets wrote = inl refl
-written_only (Err Link) a b octets wrote = absurd wrote
 written_only (Err NoMemory) a b octets wrote = inr refl
-written_only (Err Clock) a b octets wrote = absurd wrote
-written_only (Err Noise) a b octets wrote = absurd wrote
-written_only (Err TurnsSpent) a b octets wrote = absurd wrote
-written_only (Err (Capture offset fault)) a b octets wrote = absurd wrote
+written_only (Err other) a b octets wrote = absurd wrote
 
 -- ---- room for a datagram
 

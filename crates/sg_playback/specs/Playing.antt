@@ -39,15 +39,7 @@ abbrev pub IsStepped : Result (Unit {0}) Status → State → List Event → (St
 IsStepped (Ok u) s events stands_for out = (out ≡ text_from s events) × stands_for (state_after s events)
 IsStepped (Err Write) s events stands_for out = IsPrefixOf out (text_from s events)
 IsStepped (Err NoMemory) s events stands_for out = IsPrefixOf out (text_from s events)
-IsStepped (Err Done) s events stands_for out = ⊥
-IsStepped (Err Usage) s events stands_for out = ⊥
-IsStepped (Err (Script n fault)) s events stands_for out = ⊥
-IsStepped (Err Read) s events stands_for out = ⊥
-IsStepped (Err Link) s events stands_for out = ⊥
-IsStepped (Err Clock) s events stands_for out = ⊥
-IsStepped (Err TurnsSpent) s events stands_for out = ⊥
-IsStepped (Err Noise) s events stands_for out = ⊥
-IsStepped (Err (Capture offset fault)) s events stands_for out = ⊥
+IsStepped (Err other) s events stands_for out = ⊥
 
 -- What waited was handled and told, and the front stands for the state after it; or a prefix was told.
 abbrev pub IsSettled : Result (Unit {0}) Status → State → List Event → List Event → (State → Type 0) → List ℕ → Type 0
@@ -93,11 +85,4 @@ IsPlayed (Ok u) l s waited waits stands_for draws out = IsTaken l s waited waits
 IsPlayed (Err Noise) l s waited waits stands_for draws out = IsUnsupplied l s waited draws out
 IsPlayed (Err Write) l s waited waits stands_for draws out = IsCut l s waited draws out
 IsPlayed (Err NoMemory) l s waited waits stands_for draws out = IsCut l s waited draws out
-IsPlayed (Err Done) l s waited waits stands_for draws out = ⊥
-IsPlayed (Err Usage) l s waited waits stands_for draws out = ⊥
-IsPlayed (Err (Script n fault)) l s waited waits stands_for draws out = ⊥
-IsPlayed (Err Read) l s waited waits stands_for draws out = ⊥
-IsPlayed (Err Link) l s waited waits stands_for draws out = ⊥
-IsPlayed (Err Clock) l s waited waits stands_for draws out = ⊥
-IsPlayed (Err TurnsSpent) l s waited waits stands_for draws out = ⊥
-IsPlayed (Err (Capture offset fault)) l s waited waits stands_for draws out = ⊥
+IsPlayed (Err other) l s waited waits stands_for draws out = ⊥

@@ -175,32 +175,14 @@ part_good_after o p a b x y first good (part, well) = (part_after o p a b x y fi
 
 pub stops_after : (s : Status) (o p : List Outcome) (a b : List LinkCall) (x y : List ℕ) → IsDone o a x → AreGood a → StopsWith s p b y → StopsWith s (o ++ p) (a ++ b) (x ++ y)
 stops_after Link o p a b x y first good stops = cut_off_after o p a b x y first good stops
-stops_after Done o p a b x y first good stops = part_good_after o p a b x y first good stops
-stops_after Usage o p a b x y first good stops = part_good_after o p a b x y first good stops
-stops_after (Script n f) o p a b x y first good stops = part_good_after o p a b x y first good stops
-stops_after Read o p a b x y first good stops = part_good_after o p a b x y first good stops
-stops_after Write o p a b x y first good stops = part_good_after o p a b x y first good stops
-stops_after NoMemory o p a b x y first good stops = part_good_after o p a b x y first good stops
-stops_after Clock o p a b x y first good stops = part_good_after o p a b x y first good stops
-stops_after Noise o p a b x y first good stops = part_good_after o p a b x y first good stops
-stops_after TurnsSpent o p a b x y first good stops = part_good_after o p a b x y first good stops
-stops_after (Capture offset fault) o p a b x y first good stops = part_good_after o p a b x y first good stops
+stops_after other o p a b x y first good stops = part_good_after o p a b x y first good stops
 
 part_good_longer : (o p : List Outcome) (a : List LinkCall) (x : List ℕ) → IsPart o a x × AreGood a → IsPart (o ++ p) a x × AreGood a
 part_good_longer o p a x (part, good) = (part_longer o p a x part, good)
 
 pub stops_longer : (s : Status) (o p : List Outcome) (a : List LinkCall) (x : List ℕ) → StopsWith s o a x → StopsWith s (o ++ p) a x
 stops_longer Link o p a x stops = cut_off_longer o p a x stops
-stops_longer Done o p a x stops = part_good_longer o p a x stops
-stops_longer Usage o p a x stops = part_good_longer o p a x stops
-stops_longer (Script n f) o p a x stops = part_good_longer o p a x stops
-stops_longer Read o p a x stops = part_good_longer o p a x stops
-stops_longer Write o p a x stops = part_good_longer o p a x stops
-stops_longer NoMemory o p a x stops = part_good_longer o p a x stops
-stops_longer Clock o p a x stops = part_good_longer o p a x stops
-stops_longer Noise o p a x stops = part_good_longer o p a x stops
-stops_longer TurnsSpent o p a x stops = part_good_longer o p a x stops
-stops_longer (Capture offset fault) o p a x stops = part_good_longer o p a x stops
+stops_longer other o p a x stops = part_good_longer o p a x stops
 
 -- ---- one outcome
 
@@ -262,15 +244,7 @@ pub line_so : (r : Result (Unit {0}) Status) (a b : Option (List ℕ)) (line : L
 line_so (Ok u) a b line wrote = (line, wrote, prefix_all line, (λ ok. refl), tt)
 line_so (Err Write) a b line prefix = (prefix.0, prefix.2, prefix.1, (λ ok. absurd (false≢true ok)), inl refl)
 line_so (Err NoMemory) a b line prefix = (prefix.0, prefix.2, prefix.1, (λ ok. absurd (false≢true ok)), inr refl)
-line_so (Err Done) a b line never = absurd never
-line_so (Err Usage) a b line never = absurd never
-line_so (Err (Script n f)) a b line never = absurd never
-line_so (Err Read) a b line never = absurd never
-line_so (Err Link) a b line never = absurd never
-line_so (Err Clock) a b line never = absurd never
-line_so (Err Noise) a b line never = absurd never
-line_so (Err TurnsSpent) a b line never = absurd never
-line_so (Err (Capture offset fault)) a b line never = absurd never
+line_so (Err other) a b line never = absurd never
 
 -- the ports are held, and the line is written or a prefix of it
 pub told_held : (r : Result (Unit {0}) Status) (o : Outcome) (asks : List Ask) (calls : List LinkCall) (out : List ℕ) → asks_of o ≡ asks → ((ok : Bool) → (written_as o ok ≡ o ∷ []) × (sent_as o ok ≡ []))

@@ -62,11 +62,9 @@ prefix muxes Noise turns p left ends = whole_prefix muxes p _ ends
 prefix muxes Link turns p left (inl (before, failed, whole)) =
     subst (λ (l : List LinkCall). IsPrefix muxes (asks_in l)) (sym failed) (subst (IsPrefix muxes) (sym (flat_append ask_in before (Receive Failing ∷ []) ∙ append-nil (asks_in before))) (whole_prefix muxes (record p { calls = before }) _ whole))
 prefix muxes Link turns p left (inr cut) = cut_prefix muxes (trace_of p).events p.calls p.out cut
-prefix muxes Read turns p left ends = part_prefix muxes (trace_of p).events p.calls p.out ends.part
-prefix muxes Write turns p left ends = part_prefix muxes (trace_of p).events p.calls p.out ends.part
-prefix muxes NoMemory turns p left ends = part_prefix muxes (trace_of p).events p.calls p.out ends.part
 prefix muxes Usage turns p left ends = absurd ends
 prefix muxes (Capture offset fault) turns p left ends = absurd ends
+prefix muxes other turns p left ends = part_prefix muxes (trace_of p).events p.calls p.out ends.part
 
 fits_prefix : (asks all : List Ask) → IsPrefixOf asks all → EachFits all → EachFits asks
 fits_prefix asks all (rest, is) fits = λ before more ask at. fits before (more ++ rest) ask (is ∙ ap (λ (l : List Ask). l ++ rest) at ∙ append_assoc before (ask ∷ more) rest)

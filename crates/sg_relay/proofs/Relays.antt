@@ -159,14 +159,7 @@ module _ (muxes : Bool) (old now : RelayTellings) (turns began : ℕ) (p : Passe
   at_error (Script n f) at' paid (same, fault) = subst (λ (m : ℕ). IsRelay muxes (Script m f) turns old (record now { left = left' }) passed) (sym same) (ended (Script at.number f) at'.budget paid (at_fault f (subst (λ (m : ℕ). IsFault at.version m at.offset (at.waits ++ got) f left') same fault)))
   at_error Read at' paid next = ended Read at'.budget paid broken
   at_error NoMemory at' paid next = ended NoMemory at'.budget paid broken
-  at_error Done at' paid next = absurd next
-  at_error Usage at' paid next = absurd next
-  at_error Write at' paid next = absurd next
-  at_error Link at' paid next = absurd next
-  at_error Clock at' paid next = absurd next
-  at_error Noise at' paid next = absurd next
-  at_error TurnsSpent at' paid next = absurd next
-  at_error (Capture offset fault) at' paid next = absurd next
+  at_error other at' paid next = absurd next
 
   module _ (l : Line) (at' : Reading) (paid : length got + at'.budget ≡ at.budget) (is : IsRead l at at' got) (readings : List ℕ) (calls : List LinkCall) (draws out : List ℕ) where
     -- what follows the line

@@ -79,8 +79,7 @@ unreceived_order k l state top readings calls draws none = λ later o. order_non
 -- each run takes a signal as it stands
 signal_line : (k : Command) (signal : Signal) → line_in k (lines.Signal signal) ≡ lines.Signal signal
 signal_line Replays signal = refl
-signal_line (Relays began) signal = refl
-signal_line Captures signal = refl
+signal_line other signal = refl
 
 said_other : (k : Command) (signal : Signal) → wait_in k (lines.Signal signal) ≡ None → (later : Later) (top : ℕ) (o : Outside)
     → said k (lines.Signal signal) later top o ≡ handled (lines.Signal signal) later top o
@@ -112,16 +111,7 @@ undrawn_said T k signal state top turns stands_for draws is (none, lacks) = (
 pub unsupplied_said : (T : Type 0) (k : Command) (signal : Signal) (state : State) (top turns : ℕ) (stands_for : State → Type 0) (draws : List ℕ) (s : Status) → wait_in k (lines.Signal signal) ≡ None
     → IsSupplied (Err s) signal draws → (let r : Result T Status = Err s in IsSaid r k (lines.Signal signal) state top top turns turns stands_for [] [] draws [])
 unsupplied_said T k signal state top turns stands_for draws Noise is lacks = undrawn_said T k signal state top turns stands_for draws is lacks
-unsupplied_said T k signal state top turns stands_for draws Done is lacks = absurd lacks
-unsupplied_said T k signal state top turns stands_for draws Usage is lacks = absurd lacks
-unsupplied_said T k signal state top turns stands_for draws (Script n f) is lacks = absurd lacks
-unsupplied_said T k signal state top turns stands_for draws Read is lacks = absurd lacks
-unsupplied_said T k signal state top turns stands_for draws Write is lacks = absurd lacks
-unsupplied_said T k signal state top turns stands_for draws Link is lacks = absurd lacks
-unsupplied_said T k signal state top turns stands_for draws NoMemory is lacks = absurd lacks
-unsupplied_said T k signal state top turns stands_for draws Clock is lacks = absurd lacks
-unsupplied_said T k signal state top turns stands_for draws TurnsSpent is lacks = absurd lacks
-unsupplied_said T k signal state top turns stands_for draws (Capture offset fault) is lacks = absurd lacks
+unsupplied_said T k signal state top turns stands_for draws other is lacks = absurd lacks
 
 module _ (k : Command) (l : Line) (state : State) (es : List Event) (top turns : ℕ) (stands_for : State → Type 0) (calls : List LinkCall) (draws out : List ℕ)
     (says : (later : Later) (o : Outside) → said k l later top (taking [] [] draws o) ≡ with_events es (later top o)) where

@@ -31,26 +31,15 @@ use Rattle.sg_relay.proofs.Held.{AreFit, after, each_fits, fit_append, fit_same,
 
 settled_asks : (calls : List (Option Known)) (o : Outcome) → asks_of (settled calls o).told ≡ asks_of o
 settled_asks calls (outcomes.Made id slot media) = refl
-settled_asks calls (outcomes.Live id) = refl
-settled_asks calls (outcomes.Sdp id side text) = refl
-settled_asks calls (outcomes.Refused id cause) = refl
-settled_asks calls (outcomes.Ended id slot media why) = refl
-settled_asks calls (outcomes.Out port to octets) = refl
-settled_asks calls (outcomes.Dropped port cause) = refl
-settled_asks calls (outcomes.Unsent port to) = refl
+settled_asks calls other = refl
 
 answered_asks : (calls : List (Option Known)) (os : List Outcome) → flat_map asks_of (settled_answer calls os).told ≡ flat_map asks_of os
 answered_asks calls [] = refl
 answered_asks calls (o ∷ os) = ap (λ (l : List Ask). l ++ flat_map asks_of os) (settled_asks calls o)
 
 signalled_asks : (signal : Signal) (calls : List (Option Known)) (os : List Outcome) → flat_map asks_of (signalled signal calls os).told ≡ flat_map asks_of os
-signalled_asks (Tick now) calls os = refl
-signalled_asks (Psk pair) calls os = refl
-signalled_asks (Manual h) calls os = refl
-signalled_asks (Offered id way noise text) calls os = refl
 signalled_asks (Answered id noise text) calls os = answered_asks calls os
-signalled_asks (Reject id) calls os = refl
-signalled_asks (Bye id) calls os = refl
+signalled_asks other calls os = refl
 
 -- ---- datagrams: a packet leaves by a port of its call
 

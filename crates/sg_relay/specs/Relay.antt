@@ -71,8 +71,7 @@ RelayEnds muxes Link turns p left = AtFailedReceive (λ before. IsWholeRelay mux
 RelayEnds muxes Read turns p left = IsBroken muxes p
 RelayEnds muxes Write turns p left = IsBroken muxes p
 RelayEnds muxes NoMemory turns p left = IsBroken muxes p
-RelayEnds muxes Usage turns p left = ⊥
-RelayEnds muxes (Capture offset fault) turns p left = ⊥
+RelayEnds muxes other turns p left = ⊥
 
 -- Each reading after the first is followed by one receive, but for the last where the run ended between.
 abbrev pub ArePaced : List ℕ → List Received → Type 0

@@ -238,16 +238,7 @@ has_run words read this status old new events passages told is done =
 -- all of a demonstration's events were taken
 pub all_taken : (status : Status) (events : List Event) → AreTaken status events events
 all_taken Done events = refl
-all_taken Usage events = ([], sym (append-nil events))
-all_taken (Script n fault) events = ([], sym (append-nil events))
-all_taken Read events = ([], sym (append-nil events))
-all_taken Write events = ([], sym (append-nil events))
-all_taken Link events = ([], sym (append-nil events))
-all_taken NoMemory events = ([], sym (append-nil events))
-all_taken Clock events = ([], sym (append-nil events))
-all_taken Noise events = ([], sym (append-nil events))
-all_taken TurnsSpent events = ([], sym (append-nil events))
-all_taken (Capture offset fault) events = ([], sym (append-nil events))
+all_taken other events = ([], sym (append-nil events))
 
 -- ---- what a command doesn't answer
 
@@ -317,14 +308,7 @@ of_demo : (status : Status) (written written' : Option (List ℕ)) (octets : Lis
 of_demo Done written written' octets shown = inl refl
 of_demo Write written written' octets shown = inr (inl refl)
 of_demo NoMemory written written' octets shown = inr (inr refl)
-of_demo Usage written written' octets shown = absurd shown
-of_demo (Script n fault) written written' octets shown = absurd shown
-of_demo Read written written' octets shown = absurd shown
-of_demo Link written written' octets shown = absurd shown
-of_demo Clock written written' octets shown = absurd shown
-of_demo Noise written written' octets shown = absurd shown
-of_demo TurnsSpent written written' octets shown = absurd shown
-of_demo (Capture offset fault) written written' octets shown = absurd shown
+of_demo other written written' octets shown = absurd shown
 
 demo_not : (other status : Status) (written written' : Option (List ℕ)) (octets : List ℕ) → (IsShown other written written' octets → ⊥)
     → IsShown status written written' octets → status ≡ other → ⊥

@@ -158,12 +158,8 @@ lines_alike (l ∷ ls) none version n at top o =
 
 -- a replay stops at no capture
 stops_elsewhere : (t : Trace) (octets : List ℕ) (s : Stop) → ((at : ℕ) → ¬ (s ≡ AtCapture at)) → after_script octets t s ≡ script_alone t
-stops_elsewhere t octets AtEnd isnt = refl
-stops_elsewhere t octets (AtFault n fault) isnt = refl
 stops_elsewhere t octets (AtCapture at) isnt = absurd (isnt at refl)
-stops_elsewhere t octets ForReading isnt = refl
-stops_elsewhere t octets ForReceive isnt = refl
-stops_elsewhere t octets ForDraw isnt = refl
+stops_elsewhere t octets other isnt = refl
 
 abbrev NoCapture : Trace → Type 0
 NoCapture t = (at : ℕ) → ¬ (t.stop ≡ AtCapture at)

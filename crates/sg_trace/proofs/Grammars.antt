@@ -71,11 +71,7 @@ none_left (Some l) rest end is = let same : l ≡ rest = cc in sym same ∙ end
 
 either : (f : ScriptFault) → (f ≡ Unended) ⊎ (¬ (f ≡ Unended))
 either Unended = inl refl
-either Word = inr (λ is. cc)
-either Number = inr (λ is. cc)
-either Hex = inr (λ is. cc)
-either Length = inr (λ is. cc)
-either Version = inr (λ is. cc)
+either other = inr (λ is. cc)
 
 -- No fault is told of the octets that were read, where none is of all that the source had.
 pub none_fails : (left left' : Option (List ℕ)) (octets all rest : List ℕ) (fault : ScriptFault) (fails : List ℕ → Type 0) → TookIn left left' octets → left ≡ Some all → left' ≡ Some rest

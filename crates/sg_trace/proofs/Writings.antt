@@ -31,30 +31,14 @@ prefix_behind a b c before octets behind wrote prefix = (
 pub written_prefix : (status : Status) (a b : Option (List ℕ)) (octets : List ℕ) → IsWritten (Err status) a b octets → WrotePrefix a b octets
 written_prefix Write a b octets is = is
 written_prefix NoMemory a b octets is = is
-written_prefix Done a b octets is = absurd is
-written_prefix Usage a b octets is = absurd is
-written_prefix (Script n fault) a b octets is = absurd is
-written_prefix Read a b octets is = absurd is
-written_prefix Link a b octets is = absurd is
-written_prefix Clock a b octets is = absurd is
-written_prefix Noise a b octets is = absurd is
-written_prefix TurnsSpent a b octets is = absurd is
-written_prefix (Capture offset fault) a b octets is = absurd is
+written_prefix other a b octets is = absurd is
 
 -- and so it is of more octets, behind others
 pub written_behind : (status : Status) (a b c : Option (List ℕ)) (before octets behind : List ℕ) → Wrote a b before → IsWritten (Err status) b c octets
     → IsWritten (Err status) a c (before ++ (octets ++ behind))
 written_behind Write a b c before octets behind wrote is = prefix_behind a b c before octets behind wrote is
 written_behind NoMemory a b c before octets behind wrote is = prefix_behind a b c before octets behind wrote is
-written_behind Done a b c before octets behind wrote is = absurd is
-written_behind Usage a b c before octets behind wrote is = absurd is
-written_behind (Script n fault) a b c before octets behind wrote is = absurd is
-written_behind Read a b c before octets behind wrote is = absurd is
-written_behind Link a b c before octets behind wrote is = absurd is
-written_behind Clock a b c before octets behind wrote is = absurd is
-written_behind Noise a b c before octets behind wrote is = absurd is
-written_behind TurnsSpent a b c before octets behind wrote is = absurd is
-written_behind (Capture offset fault) a b c before octets behind wrote is = absurd is
+written_behind other a b c before octets behind wrote is = absurd is
 
 -- ---- the texts of a list, one by one
 

@@ -35,12 +35,4 @@ abbrev pub IsWritten : Result (Unit {0}) Status → Option (List ℕ) → Option
 IsWritten (Ok u) written written' octets = Wrote written written' octets
 IsWritten (Err Write) written written' octets = WrotePrefix written written' octets
 IsWritten (Err NoMemory) written written' octets = WrotePrefix written written' octets
-IsWritten (Err Done) written written' octets = ⊥
-IsWritten (Err Usage) written written' octets = ⊥
-IsWritten (Err (Script n fault)) written written' octets = ⊥
-IsWritten (Err Read) written written' octets = ⊥
-IsWritten (Err Link) written written' octets = ⊥
-IsWritten (Err Clock) written written' octets = ⊥
-IsWritten (Err Noise) written written' octets = ⊥
-IsWritten (Err TurnsSpent) written written' octets = ⊥
-IsWritten (Err (Capture offset fault)) written written' octets = ⊥
+IsWritten (Err other) written written' octets = ⊥

@@ -10,13 +10,4 @@ use Rattle.sg_trace.specs.declared.status.Status.TheVariants.{Done, Usage, Scrip
 abbrev pub IsSupplied : Result Signal Status → Signal → List ℕ → Type 0
 IsSupplied (Ok s) signal draws = (later : List ℕ) → supplied (draws ++ later) (lines.Signal signal) ≡ Some (record { line = lines.Signal s; draws = later })
 IsSupplied (Err Noise) signal draws = (draws ≡ []) × (supplied [] (lines.Signal signal) ≡ None)
-IsSupplied (Err Done) signal draws = ⊥
-IsSupplied (Err Usage) signal draws = ⊥
-IsSupplied (Err (Script line fault)) signal draws = ⊥
-IsSupplied (Err Read) signal draws = ⊥
-IsSupplied (Err Write) signal draws = ⊥
-IsSupplied (Err Link) signal draws = ⊥
-IsSupplied (Err NoMemory) signal draws = ⊥
-IsSupplied (Err Clock) signal draws = ⊥
-IsSupplied (Err TurnsSpent) signal draws = ⊥
-IsSupplied (Err (Capture offset fault)) signal draws = ⊥
+IsSupplied (Err other) signal draws = ⊥
