@@ -1,0 +1,2 @@
+-- What users cite.
+pub mod Bits
