@@ -2,7 +2,7 @@
 import struct
 
 from agreements import edge_of
-from mikey import DEFAULTS, ERA, answered, flipped, stamp_of
+from mikey import DEFAULTS, ERA, answered, flipped, key_data, stamp_of
 from signals import (
     ALICE, BOB, BOB_ANSWERS, COUNTING, GATEWAY, LAST, MANUAL, NOW, OTHER, PCMU, PEER, SHIFTED, Script, TGK, answer,
     crypto, key, made, master, message_line, noise, octets_of, offer_mikey, offer_secure, own_exchange, peers_exchange,
@@ -301,6 +301,7 @@ def refused_messages():
         (peers_exchange(names=(OTHER, GATEWAY)).initial(), "Psk 255 IdUnknown"),
         (peers_exchange(names=(PEER, OTHER)).initial(), "Psk 255 IdUnknown"),
         (peers_exchange(names=()).initial(), "Psk 255 IdUnknown"),
+        *((peers_exchange(names=("x" * length,)).initial(), "Psk 255 IdUnknown") for length in (0, 128, 129)),
         (plain.initial(cipher=0), "Psk 255 Algorithm"),
         (flipped(plain.initial(cipher=2), -1), "Psk 255 Algorithm"),
         (plain.initial(mac=0), "Psk 255 Algorithm"),
@@ -312,6 +313,7 @@ def refused_messages():
         (peers_exchange(keys=spi(b"")).initial(), "Psk 255 KeyType"),
         (peers_exchange(keys=spi(b"\1", b"\1\2")).initial(), "Psk 255 KeyType"),
         (peers_exchange(keys=[(TGK[:15], None)]).initial(), "Psk 255 KeyType"),
+        *((plain.initial(text=text), "Psk 255 KeyType") for text in (b"", key_data([(TGK, None)]) + b"\0", b"\0\x20\0\x10" + TGK)),
         (peers_exchange(entries=[(0, 0, 0)]).initial(), "Cs 255 CsCount"),
         (peers_exchange(entries=[(0, 0, 0)] * 4).initial(), "Cs 255 CsCount"),
         (peers_exchange(entries=[(0, 0, 0), (1, 0, 0)]).initial(), "Cs 255 PolicyMissing"),

@@ -3,8 +3,7 @@
 sessions.
 
 AES and HMAC are those of the Python package `cryptography`. Nothing here is of srtpgw, and srtpgw has nothing
-of this. `python3 interop/mikey.py` writes the tables in the tests of `crates/sg_psk` and `crates/sg_csmap`,
-which `rt fmt` then lays out.
+of this. `python3 interop/mikey.py` writes the tables of `crates/sg_exchange_tests`, which `rt fmt` then lays out.
 """
 import struct
 from pathlib import Path
@@ -216,19 +215,10 @@ def accept(octets, pairs, noted, now):
     return fits[0], keys
 
 
-def refusal(octets, pairs, noted, now):
-    try:
-        accept(octets, pairs, noted, now)
-    except Refused as refused:
-        return str(refused)
-    return None
-
-
 # ---- the tables
 
-GATEWAY, PEER, OTHER = b"sip:gw@a", b"sip:bob@b", b"sip:eve@c"
-KEY, OTHER_KEY = bytes(range(100, 132)), bytes(range(7, 23))
-PAIRS = [(GATEWAY, PEER, KEY), (b"sip:two@a", PEER, OTHER_KEY)]
+GATEWAY, PEER, KEY = b"sip:gw@a", b"sip:bob@b", bytes(range(100, 132))
+PAIRS = [(GATEWAY, PEER, KEY)]
 NOW = 1_000_000_000_000
 NOISE = bytes((5 * i + 1) % 256 for i in range(304))
 
@@ -255,84 +245,24 @@ def answered(map_of, ssrcs):
 
 ONE = [(tgk(16, 9), None)]
 # Keys, crypto sessions, policies, names, moments after NOW of the reader, octets of RAND; and what the policy
-# means: suite, and whether RTP and RTCP are unencrypted.
+# means: suite, and whether RTP and RTCP are unencrypted. Scripts have the others: `messages.py`, `policies.py`.
 PLAIN = ("AES_CM_128_HMAC_SHA1_80", False, False)
 ACCEPTED = [
-    ("one key", ONE, entries(2), [(0, DEFAULTS)], [PEER, GATEWAY], 0, 16, PLAIN),
     ("a key of 64 octets, no name of the responder", [(tgk(64, 1), None)], entries(2), [(0, DEFAULTS)], [PEER], 300000, 0, PLAIN),
-    ("an SPI of one octet", [(tgk(33, 2), b"\x07")], entries(2), [(0, [])], [PEER, GATEWAY], -300000, 255, PLAIN),
     ("two SPIs of four octets", [(tgk(16, 3), b"\0\0\0\1"), (tgk(16, 4), b"\0\0\0\2")], entries(4), [(0, DEFAULTS)],
      [PEER, GATEWAY], 0, 16, PLAIN),
-    ("eight SPIs of sixteen octets", [(tgk(16 + i, i), bytes(15) + bytes([i])) for i in range(8)], entries(2),
-     [(0, DEFAULTS)], [PEER, GATEWAY], 0, 16, PLAIN),
-    ("two SPIs of 128 octets", [(tgk(20, 5), bytes(112) + b"\xff" * 16), (tgk(20, 6), bytes(128))], entries(2),
-     [(0, DEFAULTS)], [PEER, GATEWAY], 0, 16, PLAIN),
-    ("24 octets in bits", ONE, entries(2, 3), [(3, [(1, b"\xc0"), (4, b"\x70")])], [PEER, GATEWAY], 0, 16,
-     ("AES_192_CM_HMAC_SHA1_80", False, False)),
     ("32 octets in two, a tag of four", ONE, entries(2), [(0, [(1, b"\0\x20"), (11, b"\0\0\0\4"), (3, b"\xa0")])],
      [PEER, GATEWAY], 0, 16, ("AES_256_CM_HMAC_SHA1_32", False, False)),
-    ("a tag in bits", ONE, entries(2), [(0, with_items(t11=b"\x20"))], [PEER, GATEWAY], 0, 16,
-     ("AES_CM_128_HMAC_SHA1_32", False, False)),
     ("RTP unencrypted", ONE, entries(2), [(0, with_items(t7=b"\0"))], [PEER, GATEWAY], 0, 16,
      ("AES_CM_128_HMAC_SHA1_80", True, False)),
-    ("RTCP unencrypted, the first of two policies", ONE, entries(2), [(0, with_items(t8=b"\0")), (0, DEFAULTS)],
-     [PEER, GATEWAY], 0, 16, ("AES_CM_128_HMAC_SHA1_80", False, True)),
 ]
-KEY_LENGTHS = {"AES_CM_128_HMAC_SHA1_80": 16, "AES_CM_128_HMAC_SHA1_32": 16, "AES_192_CM_HMAC_SHA1_80": 24,
-               "AES_256_CM_HMAC_SHA1_32": 32}
-VARIANTS = {"AES_CM_128_HMAC_SHA1_80": "Cm128Tag80", "AES_CM_128_HMAC_SHA1_32": "Cm128Tag32",
-            "AES_192_CM_HMAC_SHA1_80": "Cm192Tag80", "AES_256_CM_HMAC_SHA1_32": "Cm256Tag32"}
-
-
-def plain_exchange(keys=ONE, names=(PEER, GATEWAY), key=KEY, now=NOW):
-    return Exchange(key, now, keys, entries(2), [(0, DEFAULTS)], list(names))
+KEY_LENGTHS = {"AES_CM_128_HMAC_SHA1_80": 16, "AES_256_CM_HMAC_SHA1_32": 32}
+VARIANTS = {"AES_CM_128_HMAC_SHA1_80": "Cm128Tag80", "AES_256_CM_HMAC_SHA1_32": "Cm256Tag32"}
 
 
 def flipped(octets, place):
     place %= len(octets)
     return octets[:place] + bytes([octets[place] ^ 1]) + octets[place + 1:]
-
-
-def refused_rows():
-    """A name, a message, the moment after NOW, how many messages are noted, and the refusal."""
-    plain = plain_exchange().initial()
-    spi = lambda *spis: [(tgk(16, i), s) for i, s in enumerate(spis)]
-    rows = [
-        ("no such peer", plain_exchange(names=(OTHER, GATEWAY)).initial(), 0, 0, "IdUnknown"),
-        ("no such name of the responder", plain_exchange(names=(PEER, OTHER)).initial(), 0, 0, "IdUnknown"),
-        ("no name", plain_exchange(names=()).initial(), 0, 0, "IdUnknown"),
-        ("a name of no octets", plain_exchange(names=(b"",)).initial(), 0, 0, "IdUnknown"),
-        ("a name of 128 octets", plain_exchange(names=(b"x" * 128,)).initial(), 0, 0, "IdUnknown"),
-        ("a name of 129 octets", plain_exchange(names=(b"x" * 129,)).initial(), 0, 0, "IdUnknown"),
-        ("T and RAND exchanged", plain_exchange().initial(exchanged=True), 0, 0, "Order"),
-        ("NULL cipher", plain_exchange().initial(cipher=0), 0, 0, "Algorithm"),
-        ("another cipher, and a wrong MAC", flipped(plain_exchange().initial(cipher=2), -1), 0, 0, "Algorithm"),
-        ("no MAC", plain_exchange().initial(mac=0), 0, 0, "Algorithm"),
-        ("the last octet changed", flipped(plain, -1), 0, 0, "BadMac"),
-        ("another key", plain_exchange(key=OTHER_KEY).initial(), 0, 0, "BadMac"),
-        ("a wrong MAC of an old message", flipped(plain, -1), 300001, 0, "BadMac"),
-        ("too old", plain, 300001, 0, "Skew"),
-        ("too early", plain, -300001, 0, "Skew"),
-        ("noted", plain, 0, 1, "Repeated"),
-        ("two keys, one SPI", plain_exchange(keys=spi(b"\1", b"\1")).initial(), 0, 0, "KeyType"),
-        ("two keys, one without an SPI", plain_exchange(keys=spi(b"\1", None)).initial(), 0, 0, "KeyType"),
-        ("SPIs of two lengths", plain_exchange(keys=spi(b"\1", b"\1\2")).initial(), 0, 0, "KeyType"),
-        ("an SPI of no octets", plain_exchange(keys=spi(b"")).initial(), 0, 0, "KeyType"),
-        ("an SPI of 129 octets", plain_exchange(keys=spi(bytes(129))).initial(), 0, 0, "KeyType"),
-        ("an SPI of 2^128", plain_exchange(keys=spi(b"\1" + bytes(16))).initial(), 0, 0, "KeyType"),
-        ("a key of 15 octets", plain_exchange(keys=[(tgk(15, 0), None)]).initial(), 0, 0, "KeyType"),
-        ("a key of 65 octets", plain_exchange(keys=[(tgk(65, 0), None)]).initial(), 0, 0, "KeyType"),
-        ("nine keys", plain_exchange(keys=spi(*(bytes([i]) for i in range(9)))).initial(), 0, 0, "KeyType"),
-        ("an octet behind the last key", plain_exchange().initial(text=key_data(ONE) + b"\0"), 0, 0, "KeyType"),
-        ("another type of key", plain_exchange().initial(text=b"\0\x20\0\x10" + tgk(16, 9)), 0, 0, "KeyType"),
-        ("no key", plain_exchange().initial(text=b""), 0, 0, "KeyType"),
-        ("1,021 messages noted", plain_exchange(now=NOW + 1).initial(), 0, 1021, "CacheFull"),
-    ]
-    first = (PEER, 0x10203040, stamp_of(NOW))
-    for name, message, after, count, fault in rows:
-        noted = [first][:count] + [(PEER, i, stamp_of(NOW)) for i in range(1, count)]
-        assert refusal(message, PAIRS, noted, NOW + after) == fault, name
-    return rows
 
 
 def accepted_rows():
@@ -366,27 +296,10 @@ def own_exchange():
                     csb=int.from_bytes(NOISE[16:20], "big"), random=NOISE[:16])
 
 
-def answers():
-    """Responses to it: a name, the octets, and the refusal or None."""
+def answer():
+    """The response to it."""
     exchange = own_exchange()
-    map_of = answered(exchange.entries, [0xB0, 0xB1])
-    plain = exchange.response(PEER, map_of)
-    return [
-        ("the peer's SSRCs", plain, None),
-        ("no MAC", exchange.response(PEER, map_of, mac=0), "Algorithm"),
-        ("the last octet changed", flipped(plain, -1), "BadMac"),
-        ("an SSRC changed", flipped(plain, 14), "BadMac"),
-        ("another bundle", exchange.response(PEER, map_of, csb=1), "OtherSession"),
-        ("two crypto sessions", exchange.response(PEER, map_of[:2]), "OtherSession"),
-    ]
-
-
-# Items that no policy serves: another value, a length, a type, and a type twice.
-UNSERVED = [
-    [(0, b"\0")], [(0, b"\2")], [(1, b"\x11")], [(1, b"")], [(1, b"\0\0\0\0\x10")], [(2, b"\0")], [(3, b"\x14\0")],
-    [(4, b"\0")], [(5, b"\1")], [(6, b"\1")], [(7, b"\2")], [(8, b"\x08")], [(9, b"\1")], [(10, b"\0")], [(11, b"\x08")],
-    [(12, b"\1")], [(13, b"\0")], [(7, b"\1"), (7, b"\1")], DEFAULTS + [(255, b"\0")],
-]
+    return exchange.response(PEER, answered(exchange.entries, [0xB0, 0xB1]))
 
 
 def text(octets):
@@ -412,25 +325,9 @@ def messages():
         lines += ["    Accepted {", f'        name: "{name}",', f"        message: {text(message)},", f"        now: {now},",
                   f"        media: {media},", f"        keys: {text(keys)},", f"        spis: {text(spis)},",
                   f"        response: {text(response)},", "    },"]
-    lines += ["];", "", "/// A message that is refused: a name, the message, the moment, how many messages were noted, the refusal, 0 of",
-              "/// a message that isn't read.",
-              "pub struct Refused {", "    pub name: &'static str,", "    pub message: &'static [u8],", "    pub now: u64,",
-              "    pub noted: u32,", "    pub fault: u8,", "}", ""]
-    numbers = {name: i + 1 for i, name in enumerate(
-        ["IdUnknown", "BadMac", "Skew", "Repeated", "Algorithm", "KeyType", "CacheFull", "OtherSession"])}
-    numbers["Order"] = 0
-    rows = refused_rows()
-    lines.append(f"pub const REFUSED: [Refused; {len(rows)}] = [")
-    for name, message, after, noted, fault in rows:
-        lines += ["    Refused {", f'        name: "{name}",', f"        message: {text(message)},", f"        now: {NOW + after},",
-                  f"        noted: {noted},", f"        fault: {numbers[fault]},", "    },"]
-    lines += ["];", "", "/// What the gateway sends.", f"pub const OWN: &[u8] = {text(own_exchange().initial())};", ""]
-    rows = answers()
-    lines += ["/// Responses to it, and the refusal, 0 where there is none.",
-              f"pub const ANSWERS: [(&str, &[u8], u8); {len(rows)}] = ["]
-    for name, message, fault in rows:
-        lines.append(f'    ("{name}", {text(message)}, {numbers.get(fault, 0)}),')
-    return HEAD + "\n".join(lines + ["];"]) + "\n"
+    lines += ["];", "", "/// What the gateway sends.", f"pub const OWN: &[u8] = {text(own_exchange().initial())};", "",
+              "/// The response to it.", f"pub const ANSWER: &[u8] = {text(answer())};"]
+    return HEAD + "\n".join(lines) + "\n"
 
 
 def sessions():
@@ -445,11 +342,10 @@ def sessions():
                   f"        items: {items_text(items)},", f"        suite: Suite::{suite},",
                   f"        plain_rtp: {str(rtp).lower()},", f"        plain_rtcp: {str(rtcp).lower()},",
                   f"        first: {text(first)},", f"        second: {text(second)},", "    },"]
-    lines += ["];", "", "/// Items of policies that aren't served.", f"pub const UNSERVED: [&[(u8, &[u8])]; {len(UNSERVED)}] = ["]
-    lines += [f"    {items_text(items)}," for items in UNSERVED]
-    return HEAD.replace("Messages", "Keys") + "\n".join(lines + ["];"]) + "\n"
+    lines += ["];"]
+    return HEAD.replace("Messages", "Keys") + "\n".join(lines) + "\n"
 
 
 if __name__ == "__main__":
-    (CRATES / "sg_psk" / "src" / "rows.rt").write_text(messages())
-    (CRATES / "sg_csmap" / "src" / "rows.rt").write_text(sessions())
+    for name, rows in (("exchange_rows", messages), ("session_rows", sessions)):
+        (CRATES / "sg_exchange_tests" / "src" / f"{name}.rt").write_text(rows())

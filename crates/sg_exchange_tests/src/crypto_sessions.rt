@@ -1,8 +1,8 @@
-//! Keys and policies of another program, and each refusal.
+//! Keys and policies of another program.
 
-use crate::session_rows::{SESSIONS, Sessions, UNSERVED};
-use sg_base::{CsFault, Octets, read_octets};
-use sg_csmap::{CsError, StreamKeys, streams};
+use crate::session_rows::{SESSIONS, Sessions};
+use sg_base::{Octets, read_octets};
+use sg_csmap::{StreamKeys, streams};
 use sg_mikey::{CsEntry, Items, Policy, Tgk, Tgks};
 use std::alloc::Global;
 use std::test::Fail;
@@ -46,6 +46,16 @@ fn tgks_of(alloc: Global, text: &[u8]) -> Result<Tgks, Fail> {
     })
 }
 
+/// The streams of a row's crypto sessions.
+fn streams_of(alloc: Global, row: &Sessions) -> Result<Vec<(StreamKeys, StreamKeys)>, Fail> {
+    let random = octets_of(alloc, row.random)?;
+    let policies = policies_of(alloc, row.items)?;
+    let tgks = tgks_of(alloc, row.key)?;
+    let random = random.as_slice();
+    let made = streams(alloc, 0x10203040, random, &MAP, &policies, &tgks, 1);
+    Ok(made.map_err(|_| "refused")?)
+}
+
 fn has_key(stream: &StreamKeys, octets: &[u8]) -> bool {
     match stream.keys.as_slice() {
         [(_, master)] => {
@@ -58,78 +68,28 @@ fn has_key(stream: &StreamKeys, octets: &[u8]) -> bool {
     }
 }
 
-/// The streams of a row's crypto sessions.
-fn streams_of(alloc: Global, row: &Sessions) -> Result<Vec<(StreamKeys, StreamKeys)>, Fail> {
-    let random = octets_of(alloc, row.random)?;
-    let policies = policies_of(alloc, row.items)?;
-    let tgks = tgks_of(alloc, row.key)?;
-    let random = random.as_slice();
-    let made = streams(alloc, 0x10203040, random, &MAP, &policies, &tgks, 1);
-    Ok(made.map_err(|_| "refused")?)
-}
-
-/// Whether a stream has the one key that the text says.
-fn has_key_of(alloc: Global, stream: &StreamKeys, text: &[u8]) -> Result<bool, Fail> {
-    Ok(has_key(stream, octets_of(alloc, text)?.as_slice()))
+/// Whether a stream has the row's suite and marks, the source and the one key.
+fn agrees(
+    alloc: Global,
+    row: &Sessions,
+    stream: &StreamKeys,
+    source: (u32, u32),
+    key: &[u8],
+) -> Result<bool, Fail> {
+    let octets = octets_of(alloc, key)?;
+    let has_marks = stream.plain_rtp == row.plain_rtp && stream.plain_rtcp == row.plain_rtcp;
+    let has_source = (stream.ssrc, stream.roc) == source;
+    Ok(has_marks && has_source && stream.suite == row.suite && has_key(stream, octets.as_slice()))
 }
 
 #[test]
 fn keys_of_another_program(rt: HostRuntime) -> Result<(), Fail> {
     for row in &SESSIONS {
-        for (first, second) in streams_of(rt.alloc(), row)? {
-            let keyed = [
-                has_key_of(rt.alloc(), &first, row.first)?,
-                has_key_of(rt.alloc(), &second, row.second)?,
-            ];
-            assert!(rt; keyed == [true; 2], "{}", row.name);
-            let plain = [first.plain_rtp, first.plain_rtcp];
-            assert!(rt; plain == [row.plain_rtp, row.plain_rtcp], "{}", row.name);
-            assert!(rt;
-                [first.suite, second.suite] == [row.suite; 2],
-                "{}",
-                row.name
-            );
-            assert!(rt; (first.ssrc, first.roc, second.ssrc) == (0xcafe, 3, 0));
-        }
-    }
-    Ok(())
-}
-
-fn fault_of(
-    alloc: Global,
-    map: &[CsEntry],
-    policies: &[Policy],
-    tgks: &Tgks,
-    media: usize,
-) -> Option<CsFault> {
-    if media > 127 {
-        return None;
-    }
-    match streams(alloc, 1, &[], map, policies, tgks, media) {
-        Err(CsError::Cs(fault)) => Some(fault),
-        _ => None,
-    }
-}
-
-#[test]
-fn refusals(rt: HostRuntime) -> Result<(), Fail> {
-    let alloc = rt.alloc();
-    let tgks = tgks_of(alloc, b"000102030405060708090a0b0c0d0e0f")?;
-    for items in UNSERVED {
-        let policies = policies_of(alloc, items)?;
-        assert!(rt; fault_of(alloc, &MAP, &policies, &tgks, 1) == Some(CsFault::PolicyValue));
-        let other = CsEntry {
-            policy: 6,
-            ssrc: 0,
-            roc: 0,
-        };
-        assert!(rt;
-            fault_of(alloc, &[MAP[0], other], &policies, &tgks, 1) == Some(CsFault::PolicyMissing)
-        );
-        for media in [0, 2] {
-            assert!(rt;
-                fault_of(alloc, &[other, other], &policies, &tgks, media) == Some(CsFault::CsCount)
-            );
+        let made = streams_of(rt.alloc(), row)?;
+        for (first, second) in made.as_slice() {
+            let of_first = agrees(rt.alloc(), row, first, (0xcafe, 3), row.first)?;
+            let of_second = agrees(rt.alloc(), row, second, (0, 0), row.second)?;
+            assert!(rt; of_first && of_second, "{}", row.name);
         }
     }
     Ok(())
