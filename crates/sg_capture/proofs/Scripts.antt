@@ -7,7 +7,7 @@ use Rattle.sg_capture.proofs.CaptureLines.{line_is, unended_stops}
 use Rattle.sg_capture.proofs.Captureds.{captured_at}
 use Rattle.sg_capture.proofs.Outputs.{happens-append, happens_text}
 use Rattle.sg_capture.specs.CaptureLines.{capture_line_of, capture_version_after, of_capture, of_script}
-use Rattle.sg_capture.specs.Capturing.{CaptureEnds, IsAllTold, IsBehindScript, IsCutCapture, IsScriptPlayed, IsWholeCapture}
+use Rattle.sg_capture.specs.Capturing.{CaptureEnds, IsAllTold, IsCutCapture, IsScriptPlayed, IsWholeCapture}
 use Rattle.sg_capture.specs.declared.lines.CaptureLine.{CaptureLine}
 use Rattle.sg_capture.specs.declared.lines.CaptureLine.TheVariants as lines
 use Rattle.sg_edge.proofs.Passed.{wrote_more}
@@ -22,9 +22,9 @@ use Rattle.sg_lines.specs.LineOf.{version_after}
 use Rattle.sg_lines.specs.ScriptLines.{NoEnd, lines_of}
 use Rattle.sg_lines.specs.declared.lines.Line.{Line}
 use Rattle.sg_playback.proofs.Alike.{events_in_order, text_from-append}
-use Rattle.sg_playback.proofs.Lines.{cut_settled}
+use Rattle.sg_playback.proofs.Plays.{stepped_prefix}
 use Rattle.sg_playback.proofs.Replays.{as_trace, given_so}
-use Rattle.sg_playback.specs.Playing.{IsSettled, IsWant, Playing, effects, text_from, waiting}
+use Rattle.sg_playback.specs.Playing.{IsSettled, IsWant, effects, text_from}
 use Rattle.sg_trace.proofs.Causes.{ok_not}
 use Rattle.sg_trace.proofs.Ends.{next_isnt}
 use Rattle.sg_trace.proofs.Loops.{IsPlaying, Tellings, closed_at_err, cut_at_end, last_goes, took_all}
@@ -127,7 +127,7 @@ want_not_read status (inr memory) is = let both : NoMemory ≡ Read = sym memory
 module _ (old now : Tellings) (taken drawn : List ℕ) (es ps : List Event) (script : Reading)
     (going : IsPlaying of_capture effects (start false) old now taken script.waits drawn es ps script.version script.number script.offset)
     (left' : Option (List ℕ)) (got : List ℕ) (came : TookIn now.left left' got) (near : length (script.waits ++ got) ≤ 74097) where
-  abbrev octets : List ℕ
+  abbrev pub octets : List ℕ
   octets = taken ++ (script.waits ++ got)
 
   -- octets without a line end tell nothing
@@ -159,43 +159,35 @@ module _ (old now : Tellings) (taken drawn : List ℕ) (es ps : List Event) (scr
       all_of is (inl all) = read_told out (subst (λ s. IsNextBy capture_line_of capture_version_after (Err s) script new got left') (sym all.0 ∙ is) next) all.1
       all_of is (inr cut) = absurd (want_not_read status cut.0 is)
 
-  -- behind the line at which a capture begins
-  pub behind_script : (new : Reading) (read : IsReadBy capture_line_of capture_version_after lines.Capture script new got) (written' : Option (List ℕ)) → length taken ≡ script.offset → length octets + new.budget ≡ 2 ^ 30 + 1 → length new.waits ≤ 4096
-      → (u : Unit {0}) (waits' : List Event) (stands_for : State → Type 0) (out : List ℕ) → IsSettled (Ok u) (state_after (start false) es) ps waits' stands_for out → Wrote now.written written' out
-      → IsBehindScript (record { left = old.left; written = old.written; drawn = old.drawn }) (record { left = left'; written = written'; drawn = now.drawn }) new (λ w. stands_for (unshared w)) octets drawn (text_from (start false) es ++ out)
-  behind_script new read written' size room few u waits' stands_for out settled wrote = record {
-    lines = taken ++ read.line;
-    events = going.deeds;
-    split = ap (λ (l : List ℕ). taken ++ l) read.split ∙ sym (append_assoc taken read.line new.waits);
-    size = (let offset = read.offset in omega (arith, length-append taken read.line, size, offset));
-    within = read.within;
-    near = few;
-    room = room;
-    took = took_all of_capture effects events_in_order (start false) 258 _ _ taken drawn es ps script going left' got came near;
-    drew = going.drew;
-    wrote = wrote_more old.written now.written written' (text_from (start false) es) out going.wrote wrote;
-    goes = λ rest. script_so ((taken ++ read.line) ++ rest) drawn ∙ ap as_trace (last_goes of_capture effects events_in_order (start false) 258 _ _ taken drawn es ps script going left' got came near lines.Capture new read refl rest);
-    told = ap (λ (o : List ℕ). text_from (start false) es ++ o) settled.1.0 ∙ sym (text_from-append (start false) es ps) ∙ sym going.alike.told ∙ output_so going.deeds;
-    stands = subst stands_for (sym (state_after-append (start false) es ps) ∙ sym going.alike.left ∙ unshared_after empty going.deeds) settled.1.1;
-  }
-
-  -- what waited was told there, or telling it failed
-  pub script_settled : (p : Playing) → ps ≡ waiting p → length p.waits ≤ 256 → (new : Reading) (read : IsReadBy capture_line_of capture_version_after lines.Capture script new got) (written' : Option (List ℕ))
-      → length taken ≡ script.offset → length octets + new.budget ≡ 2 ^ 30 + 1 → length new.waits ≤ 4096
-      → (r : Result (Unit {0}) Status) (waits' : List Event) (stands_for : State → Type 0) (out : List ℕ) → IsSettled r (state_after (start false) es) (waiting p) waits' stands_for out → Wrote now.written written' out
-      → IsScriptPlayed r (record { left = old.left; written = old.written; drawn = old.drawn }) (record { left = left'; written = written'; drawn = now.drawn }) new (λ w. stands_for (unshared w)) octets drawn (text_from (start false) es ++ out)
-  script_settled p same few new read written' size room near_so (Ok u) waits' stands_for out settled wrote =
-      behind_script new read written' size room near_so u waits' stands_for out (subst (λ (es' : List Event). IsSettled (Ok u) (state_after (start false) es) es' waits' stands_for out) (sym same) settled) wrote
-  script_settled p same few new read written' size room near_so (Err status) waits' stands_for out settled wrote =
-      let cut = cut_settled status (state_after (start false) es) p few stands_for out settled in record {
-        took = took_all of_capture effects events_in_order (start false) 258 _ _ taken drawn es ps script going left' got came near;
-        drew = going.drew;
-        wrote = wrote_more old.written now.written written' (text_from (start false) es) out going.wrote wrote;
-        ends = ends_so status octets drawn (text_from (start false) es ++ out) left' (λ is. absurd (want_not_read status cut.0 is))
-            (cut_at_end of_capture effects events_in_order (start false) 258 _ _ taken drawn es ps script going left' got came near status out
-            (cut.0, subst (λ (es' : List Event). IsPrefixOf out (text_from (state_after (start false) es) es') × (length es' ≤ 258)) (sym same) cut.1));
-        bound = omega (arith, room);
-      }
+  -- behind the line at which a capture begins, once what waits is told
+  module _ (new : Reading) (read : IsReadBy capture_line_of capture_version_after lines.Capture script new got) (size : length taken ≡ script.offset) (room : length octets + new.budget ≡ 2 ^ 30 + 1) (few : length new.waits ≤ 4096)
+      (written' : Option (List ℕ)) (waits' : List Event) (stands_for : State → Type 0) (out : List ℕ) (wrote : Wrote now.written written' out) where
+    pub behind_script : (r : Result (Unit {0}) Status) → length ps ≤ 258 → IsSettled r (state_after (start false) es) ps waits' stands_for out
+        → IsScriptPlayed r (record { left = old.left; written = old.written; drawn = old.drawn }) (record { left = left'; written = written'; drawn = now.drawn }) new (λ w. stands_for (unshared w)) octets drawn (text_from (start false) es ++ out)
+    behind_script (Ok u) short settled = record {
+      lines = taken ++ read.line;
+      events = going.deeds;
+      split = ap (λ (l : List ℕ). taken ++ l) read.split ∙ sym (append_assoc taken read.line new.waits);
+      size = (let offset = read.offset in omega (arith, length-append taken read.line, size, offset));
+      within = read.within;
+      near = few;
+      room = room;
+      took = took_all of_capture effects events_in_order (start false) 258 _ _ taken drawn es ps script going left' got came near;
+      drew = going.drew;
+      wrote = wrote_more old.written now.written written' (text_from (start false) es) out going.wrote wrote;
+      goes = λ rest. script_so ((taken ++ read.line) ++ rest) drawn ∙ ap as_trace (last_goes of_capture effects events_in_order (start false) 258 _ _ taken drawn es ps script going left' got came near lines.Capture new read refl rest);
+      told = ap (λ (o : List ℕ). text_from (start false) es ++ o) settled.1.0 ∙ sym (text_from-append (start false) es ps) ∙ sym going.alike.told ∙ output_so going.deeds;
+      stands = subst stands_for (sym (state_after-append (start false) es ps) ∙ sym going.alike.left ∙ unshared_after empty going.deeds) settled.1.1;
+    }
+    behind_script (Err status) short settled =
+        let cut = stepped_prefix status (state_after (start false) es) ps stands_for out settled in record {
+          took = took_all of_capture effects events_in_order (start false) 258 _ _ taken drawn es ps script going left' got came near;
+          drew = going.drew;
+          wrote = wrote_more old.written now.written written' (text_from (start false) es) out going.wrote wrote;
+          ends = ends_so status octets drawn (text_from (start false) es ++ out) left' (λ is. absurd (want_not_read status cut.0 is))
+              (cut_at_end of_capture effects events_in_order (start false) 258 _ _ taken drawn es ps script going left' got came near status out (cut.0, cut.1, short));
+          bound = omega (arith, room);
+        }
 
 -- ---- whose failure it was
 

@@ -1,6 +1,6 @@
 use Rattle.std.proofs.Common.{rules, ◌≡◌, ◌≤◌, ◌⊎◌, ◌+◌, ◌^◌, ℕ, false, List, [], ◌++◌, length, map, Option, None, IfSome, Ok, refl, sym, ap, ◌∙◌, subst, inl, inr, arith, length-append}
 use Rattle.std.proofs.lemmas.List.{length-map}
-use Rattle.sg_capture.proofs.Scripts.{ended_at_err, ended_err, ends_so, err_so, next_not_noise, next_not_write, script_settled, settled_not}
+use Rattle.sg_capture.proofs.Scripts.{behind_script, ended_at_err, ended_err, ends_so, err_so, next_not_noise, next_not_write, settled_not}
 use Rattle.sg_capture.specs.CaptureLines.{FitsCaptureLine, capture_line_of, capture_version_after, of_capture}
 use Rattle.sg_capture.specs.declared.lines.CaptureLine.{CaptureLine}
 use Rattle.sg_capture.specs.declared.lines.CaptureLine.TheVariants as lines
@@ -114,10 +114,10 @@ returns-in-Ok-Some-Capture-clause-ran g c =
       so_far.0 ++ (c.lines.script.waits ++ got.0),
       so_far.1,
       text_from (start false) so_far.2 ++ settled.0,
-      script_settled _ _ so_far.0 so_far.1 so_far.2 c.lines.script so_far.3 _ got.0 got.1 near c.lines.player refl few c.next.new.self read _ so_far.4
+      behind_script _ _ so_far.0 so_far.1 so_far.2 (waiting c.lines.player) c.lines.script so_far.3 _ got.0 got.1 near c.next.new.self read so_far.4
           (omega (arith, so_far.4, got.3, c.lines.invariant.1, length-append so_far.0 (c.lines.script.waits ++ got.0), length-append c.lines.script.waits got.0))
-          (c.in-Ok-Some-Capture.ensures.near c.lines.invariant.7).0 c.settle_at_once.result (waiting c.settle_at_once.new.self) (FrontStandsFor c.settle_at_once.new.self.front) settled.0 settled.2
-          (behind_kept _ _ _ settled.0 c.in-Ok.ensures.kept settled.1),
+          (c.in-Ok-Some-Capture.ensures.near c.lines.invariant.7).0 _ (waiting c.settle_at_once.new.self) (FrontStandsFor c.settle_at_once.new.self.front) settled.0
+          (behind_kept _ _ _ settled.0 c.in-Ok.ensures.kept settled.1) c.settle_at_once.result (omega (arith, few, length-map c.lines.player.waits arrived)) settled.2,
     )
 
 pub returns-in-Err-play-clause-ran : goal.returns-in-Err-play-clause-ran
