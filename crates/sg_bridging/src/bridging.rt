@@ -4,8 +4,7 @@ ghost use Rattle.std.specs.Prelude.{◌≡◌, ◌≤◌, ◌+◌, ◌^◌, ℕ,
 ghost use Rattle.sg_bridging.specs.Bridge.{IsBridge, IsCompleteBridge};
 ghost use Rattle.sg_bridging.specs.Steps.{StandsFor, start};
 ghost use Rattle.sg_edge.specs.Told.{Rose};
-ghost use Rattle.sg_trace.specs.Causes.{EndedBy, HasFailed};
-ghost use Rattle.sg_trace.specs.Loop.{IsWant};
+ghost use Rattle.sg_trace.specs.Causes.{HasFailed};
 
 use crate::switchboard::Switchboard;
 use sg_base::NoMemory;
@@ -29,9 +28,9 @@ pub fn bridge<S: Source, K: Sink, N: Noise>(
         (record { left = S.left source.new; written = K.written sink.new; drawn = N.given noise.new })
         octets draws out }
     ensures given { S.given source.new ≤ S.given source.old + (2 ^ 30 + 1) }
-    ensures read { EndedBy (result ≡ Status.Read) (IsWant result) (S.faults source.old) (S.faults source.new) (S.failed source.new) }
+    ensures read { HasFailed (result ≡ Status.Read) (S.faults source.old) (S.faults source.new) (S.failed source.new) }
     ensures write { HasFailed (result ≡ Status.Write) (K.faults sink.old) (K.faults sink.new) (K.failed sink.new) }
-    ensures noise { EndedBy (result ≡ Status.Noise) (IsWant result) (N.faults noise.old) (N.faults noise.new) (N.failed noise.new) }
+    ensures noise { HasFailed (result ≡ Status.Noise) (N.faults noise.old) (N.faults noise.new) (N.failed noise.new) }
     ensures complete { ¬ Rose (S.faults source.old) (S.faults source.new) → ¬ Rose (K.faults sink.old) (K.faults sink.new) → ¬ Rose (N.faults noise.old) (N.faults noise.new)
         → IsCompleteBridge result (S.left source.old) (S.left source.new) }
 {

@@ -38,7 +38,7 @@ pub fn capture<R: Threads + Sync, S: Source, K: Sink, N: Noise, G: Gate + Sync>(
     ensures given { S.given source.new ≤ S.given source.old + (2 ^ 30 + 1) }
     ensures read { EndedBy (result ≡ Status.Read) (IsWant result) (S.faults source.old) (S.faults source.new) (S.failed source.new) }
     ensures write { HasFailed (result ≡ Status.Write) (K.faults sink.old) (K.faults sink.new) (K.failed sink.new) }
-    ensures noise { EndedBy (result ≡ Status.Noise) (IsWant result) (N.faults noise.old) (N.faults noise.new) (N.failed noise.new) }
+    ensures noise { HasFailed (result ≡ Status.Noise) (N.faults noise.old) (N.faults noise.new) (N.failed noise.new) }
     ensures complete { ¬ Rose (S.faults source.old) (S.faults source.new) → ¬ Rose (K.faults sink.old) (K.faults sink.new) → ¬ Rose (N.faults noise.old) (N.faults noise.new)
         → IsCompleteCapture result (S.left source.old) (S.left source.new) }
 {

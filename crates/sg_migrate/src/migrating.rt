@@ -4,8 +4,7 @@ ghost use Rattle.std.specs.Prelude.{◌≡◌, ◌≤◌, ◌+◌, ◌^◌, ℕ,
 ghost use Rattle.sg_edge.specs.Told.{Rose};
 ghost use Rattle.sg_lines.specs.LineText.{line_text};
 ghost use Rattle.sg_migrate.specs.Migration.{IsCompleteMigration, IsMigration};
-ghost use Rattle.sg_trace.specs.Causes.{EndedBy, HasFailed, IsCaused};
-ghost use Rattle.sg_trace.specs.Loop.{IsWant};
+ghost use Rattle.sg_trace.specs.Causes.{HasFailed, IsCaused};
 ghost use Rattle.sg_trace.specs.Output.{IsWritten};
 
 use crate::lines::{LineOfVersionOne, migrated_line, moment_after};
@@ -25,7 +24,7 @@ pub fn migrate<S: Source, K: Sink>(alloc: Global, source: &mut S, sink: &mut K) 
         (record { left = S.left source.new; written = K.written sink.new })
         octets out }
     ensures given { S.given source.new ≤ S.given source.old + (2 ^ 30 + 1) }
-    ensures read { EndedBy (result ≡ Status.Read) (IsWant result) (S.faults source.old) (S.faults source.new) (S.failed source.new) }
+    ensures read { HasFailed (result ≡ Status.Read) (S.faults source.old) (S.faults source.new) (S.failed source.new) }
     ensures write { HasFailed (result ≡ Status.Write) (K.faults sink.old) (K.faults sink.new) (K.failed sink.new) }
     ensures complete { ¬ Rose (S.faults source.old) (S.faults source.new) → ¬ Rose (K.faults sink.old) (K.faults sink.new)
         → IsCompleteMigration result (S.left source.old) (S.left source.new) }

@@ -298,7 +298,8 @@ impl Player {
         pass_on(false, sink)
     }
 
-    /// The status of a run of which nothing more is read, for this reason: what waits is handled and told first.
+    /// The status of a run of which nothing more is read, for this reason: what waits is handled and told first, and passed
+    /// on.
     pub fn close<R: Threads + Sync, K: Sink, G: Gate + Sync>(
         &mut self,
         rt: &R,
@@ -312,7 +313,7 @@ impl Player {
             × Wrote (K.written sink.old) (K.written sink.new) out × Closes end result effects 258 s (waiting self.old) out }
         ensures write { HasFailed (result ≡ Status.Write) (K.faults sink.old) (K.faults sink.new) (K.failed sink.new) }
     {
-        match self.settle(rt, alloc, sink, gate) {
+        match self.settle_at_once(rt, alloc, sink, gate) {
             Err(status) => status,
             Ok(()) => end,
         }

@@ -32,7 +32,7 @@ use Rattle.sg_relay.proofs.Holds.{holds_none}
 use Rattle.sg_relay.proofs.Order.{order_none}
 use Rattle.sg_relay.specs.Relay.{IsRelay, Passed}
 use Rattle.sg_relay.specs.Relay as relays
-use Rattle.sg_run.specs.Run.{AreTaken, HasBridged, HasCaptured, HasDone, HasMigrated, HasRelayed, HasReplayed, HasRun, HasShown, Surroundings, PlaysScript, of_replay}
+use Rattle.sg_run.specs.Run.{AreTaken, HasBridged, HasCaptured, HasDone, HasMigrated, HasRelayed, HasReplayed, HasRun, HasShown, Surroundings, PlaysInBatches, of_replay}
 use Rattle.sg_words.specs.Commands.{AreWordsOf, IsNoCommand, Words}
 use Rattle.sg_words.specs.declared.command.Command.{Command}
 use Rattle.sg_words.specs.declared.command.Command.TheVariants.{Replay, Relay, Demo, Migrate, Bridge}
@@ -343,8 +343,8 @@ demo_done status written written' octets old new failed shown cause quiet = elim
 -- ---- whose failure it was
 
 -- the end of a command whose datagrams wait for a batch, by the words of the run
-pub of_script : (words : Words) → PlaysScript words → (own instead : Type 0) (old new : ℕ) (failed : Option Bool) → EndedBy own instead old new failed → EndedBy own (PlaysScript words × instead) old new failed
-of_script words so own instead old new failed ended = record {
+pub of_batches : (words : Words) → PlaysInBatches words → (own instead : Type 0) (old new : ℕ) (failed : Option Bool) → EndedBy own instead old new failed → EndedBy own (PlaysInBatches words × instead) old new failed
+of_batches words so own instead old new failed ended = record {
   later = ended.later;
   rose = ended.rose;
   told = ended.told;

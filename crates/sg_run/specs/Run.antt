@@ -141,6 +141,6 @@ HasDone Bridge status old new events passages = HasBridged status old new events
 abbrev pub HasRun : Words → Status → Surroundings → Surroundings → List Event → List Passage → Type 0
 HasRun words status old new events passages = (command : Command) → AreWordsOf words command → HasDone command status old new events passages
 
--- the words of a command that plays a script: telling what was held may fail behind what ended it
-abbrev pub PlaysScript : Words → Type 0
-PlaysScript words = ((workers : ℕ) × (muxes : Bool) × AreWordsOf words (Replay workers muxes)) ⊎ (AreWordsOf words Migrate ⊎ (AreWordsOf words Capture ⊎ AreWordsOf words Bridge))
+-- the words of a command whose datagrams wait for a batch: telling those that wait may fail behind a failed read
+abbrev pub PlaysInBatches : Words → Type 0
+PlaysInBatches words = ((workers : ℕ) × (muxes : Bool) × AreWordsOf words (Replay workers muxes)) ⊎ AreWordsOf words Capture

@@ -25,7 +25,7 @@ ghost use Rattle.sg_mux.specs.declared.known.Known.{Known};
 ghost use Rattle.sg_passages.specs.Headline.{Headline};
 ghost use Rattle.sg_passages.specs.Passages.{Passage};
 ghost use Rattle.sg_playback.specs.Replay.{IsCompleteReplay};
-ghost use Rattle.sg_run.specs.Run.{HasRun, PlaysScript};
+ghost use Rattle.sg_run.specs.Run.{HasRun, PlaysInBatches};
 ghost use Rattle.sg_words.specs.Commands.{AreWordsOf, IsNoCommand};
 ghost use Rattle.sg_words.specs.declared.command.Command.TheVariants.{Replay, Relay, Demo, Migrate, Capture, Bridge};
 
@@ -126,11 +126,11 @@ pub fn run<R: Threads + Sync, S: Source, K: Sink, L: Link, C: Clock, N: Noise, G
     ensures shares { (before : List Event) (port : ℕ) (from : Address) (octets : Octets) → SharesAsTold before port from octets }
     ensures texts { (calls : List (Option Known)) (id : CallId) (side : Side) (text : List ℕ) → IsToldWithLines calls id side text }
     ensures datagrams_tick { (moment port : ℕ) (from : Address) (octets : List ℕ) → TicksFirst moment port from octets }
-    ensures read { EndedBy (result ≡ Status.Read) (PlaysScript (map string_bytes words.now) × IsWant result) (S.faults source.old) (S.faults source.new) (S.failed source.new) }
+    ensures read { EndedBy (result ≡ Status.Read) (PlaysInBatches (map string_bytes words.now) × IsWant result) (S.faults source.old) (S.faults source.new) (S.failed source.new) }
     ensures write { HasFailed (result ≡ Status.Write) (K.faults sink.old) (K.faults sink.new) (K.failed sink.new) }
     ensures link { result ≡ Status.Link → Rose (L.faults link.old) (L.faults link.new) }
     ensures clock { HasFailed (result ≡ Status.Clock) (C.faults clock.old) (C.faults clock.new) (C.failed clock.new) }
-    ensures noise { EndedBy (result ≡ Status.Noise) (PlaysScript (map string_bytes words.now) × IsWant result) (N.faults noise.old) (N.faults noise.new) (N.failed noise.new) }
+    ensures noise { HasFailed (result ≡ Status.Noise) (N.faults noise.old) (N.faults noise.new) (N.failed noise.new) }
 {
     the_headline_holds();
     the_pages_hold();

@@ -3,29 +3,33 @@ use Rattle.std.proofs.Common.{◌≡◌, ◌⊎◌, ℕ, List, [], ◌++◌, Boo
 use Rattle.std.proofs.lemmas.List.{append-nil}
 use Rattle.sg_edge.proofs.Passed.{rose_later, wrote_none}
 use Rattle.sg_edge.specs.Told.{Rose, Tells, Wrote}
-use Rattle.sg_trace.proofs.Causes.{ended_as}
-use Rattle.sg_trace.specs.Causes.{EndedBy, HasFailed, IsPassedOn}
+use Rattle.sg_trace.proofs.Causes.{failed_as}
+use Rattle.sg_trace.specs.Causes.{EndedBy, HasFailed, IsOfOutside, IsPassedOn}
 use Rattle.sg_trace.specs.Course.{Ways, course}
 use Rattle.sg_trace.specs.Loop.{AreTold, IsAll, IsCut, IsWant, LoopEnds, PromptEnds}
 use Rattle.sg_trace.specs.Trace.{AtCapture, AtEnd, AtFault, ForDraw, Stop}
 use Rattle.sg_trace.specs.declared.status.Status.{Status}
 use Rattle.sg_trace.specs.declared.status.Status.TheVariants.{Done, Script, Read, Write, NoMemory, Noise}
 
-either : (end : Status) → (end ≡ Write) ⊎ (end ≡ Write → ⊥)
-either Write = inl refl
-either other = inr (λ is. cc)
+either : (end : Status) → IsOfOutside end ⊎ (IsOfOutside end → ⊥)
+either Read = inl (inl refl)
+either Write = inl (inr (inl refl))
+either Noise = inl (inr (inr refl))
+either other = inr (λ is. elim is [
+  | inl read ↦ cc
+  | inr more ↦ elim more [
+    | inl write ↦ cc
+    | inr noise ↦ cc
+  ]
+])
 
-is_read : (end : Status) → (end ≡ Read) ⊎ (end ≡ Read → ⊥)
-is_read Read = inl refl
-is_read other = inr (λ is. cc)
-
-is_memory : (end : Status) → (end ≡ NoMemory) ⊎ (end ≡ NoMemory → ⊥)
-is_memory NoMemory = inl refl
-is_memory other = inr (λ is. cc)
-
-is_noise : (end : Status) → (end ≡ Noise) ⊎ (end ≡ Noise → ⊥)
-is_noise Noise = inl refl
-is_noise other = inr (λ is. cc)
+is_want : (end : Status) → IsWant end ⊎ (IsWant end → ⊥)
+is_want Write = inl (inl refl)
+is_want NoMemory = inl (inr refl)
+is_want other = inr (λ is. elim is [
+  | inl write ↦ cc
+  | inr memory ↦ cc
+])
 
 -- what was written stays as it is passed on
 pub behind_kept : (a b c : Option (List ℕ)) (out : List ℕ) → b ≡ a → Wrote b c out → Wrote a c out
@@ -45,16 +49,16 @@ module _ {K : Type 0} (end status : Status) (faults : K → ℕ) (failed : K →
   -- the status is the end, or Write
   pub passed_so : (status ≡ end) ⊎ (status ≡ Write)
   passed_so = elim (either end) [
-    | inl is ↦ inr (passed.before is).0
+    | inl is ↦ inl (passed.before is).0
     | inr isnt ↦ (passed.else isnt).0
   ]
 
   -- whose failure it was that something wasn't written
   pub write_passed : (a : ℕ) → HasFailed (end ≡ Write) a (faults old) (failed old) → HasFailed (status ≡ Write) a (faults new) (failed new)
   write_passed a now = elim (either end) [
-    | inl is ↦ subst (λ (k : K). HasFailed (status ≡ Write) a (faults k) (failed k)) (sym (passed.before is).1)
-        (record { later = now.later; rose = λ so. now.rose is; told = λ so. now.told is; quiet = λ isnt. absurd (isnt (passed.before is).0) })
-    | inr isnt ↦ let then = (passed.else isnt).1 in let same = now.quiet isnt in record {
+    | inl is ↦ let same = (passed.before is).0 in subst (λ (k : K). HasFailed (status ≡ Write) a (faults k) (failed k)) (sym (passed.before is).1)
+        (failed_as (end ≡ Write) (status ≡ Write) a (faults old) (failed old) (λ wrote. sym same ∙ wrote) (λ wrote. same ∙ wrote) now)
+    | inr isnt ↦ let then = (passed.else isnt).1 in let same = now.quiet (λ wrote. isnt (inr (inl wrote))) in record {
       later = omega (arith, same, then.later);
       rose = λ so. rose_later a (faults old) (faults new) now.later (then.rose so);
       told = then.told;
@@ -62,37 +66,39 @@ module _ {K : Type 0} (end status : Status) (faults : K → ℕ) (failed : K →
     }
   ]
 
-  -- Where something else ends the run, telling that may fail behind it.
-  ended_passed : (other : Status) → ((s : Status) → (s ≡ other) ⊎ (s ≡ other → ⊥)) → (Write ≡ other → ⊥) → (a b : ℕ) (f : Option Bool) → EndedBy (end ≡ other) (IsWant end) a b f → EndedBy (status ≡ other) (IsWant status) a b f
-  ended_passed other is_other isnt_write a b f by = elim passed_so [
-    | inl same ↦ subst (λ s. EndedBy (s ≡ other) (IsWant s) a b f) (sym same) by
-    | inr wrote ↦ record {
-      later = by.later;
-      rose = λ is. absurd (isnt_write (sym wrote ∙ is));
-      told = λ is. absurd (isnt_write (sym wrote ∙ is));
-      quiet = λ isnt none. absurd (none (inl wrote));
-      last = λ isnt want. elim (is_other end) [
-        | inl is ↦ inr (by.rose is, by.told is)
-        | inr not ↦ elim (either end) [
-          | inl at_write ↦ by.last not (inl at_write)
-          | inr not_write ↦ elim (is_memory end) [
-            | inl memory ↦ by.last not (inr memory)
-            | inr not_memory ↦ inl (by.quiet not (λ want. neither want not_write not_memory))
-          ]
-        ]
-      ];
-    }
+  -- something else of the outside that failed is the end, as it was before
+  failed_passed : (other : Status) → IsOfOutside other → (other ≡ Write → ⊥) → (a b : ℕ) (f : Option Bool) → HasFailed (end ≡ other) a b f → HasFailed (status ≡ other) a b f
+  failed_passed other is isnt a b f now = failed_as (end ≡ other) (status ≡ other) a b f
+      (λ so. elim passed_so [
+        | inl same ↦ sym same ∙ so
+        | inr wrote ↦ absurd (isnt (sym so ∙ wrote))
+      ])
+      (λ so. (passed.before (subst IsOfOutside (sym so) is)).0 ∙ so) now
+
+  pub read_passed : (a b : ℕ) (f : Option Bool) → HasFailed (end ≡ Read) a b f → HasFailed (status ≡ Read) a b f
+  read_passed a b f now = failed_passed Read (inl refl) (λ is. cc) a b f now
+
+  pub noise_passed : (a b : ℕ) (f : Option Bool) → HasFailed (end ≡ Noise) a b f → HasFailed (status ≡ Noise) a b f
+  noise_passed a b f now = failed_passed Noise (inr (inr refl)) (λ is. cc) a b f now
+
+  -- where telling what waited may have failed behind the source
+  pub ended_passed : (a b : ℕ) (f : Option Bool) → EndedBy (end ≡ Read) (IsWant end) a b f → EndedBy (status ≡ Read) (IsWant status) a b f
+  ended_passed a b f by = elim (either end) [
+    | inl is ↦ subst (λ s. EndedBy (s ≡ Read) (IsWant s) a b f) (sym (passed.before is).0) by
+    | inr isnt ↦ elim (passed.else isnt).0 [
+      | inl same ↦ subst (λ s. EndedBy (s ≡ Read) (IsWant s) a b f) (sym same) by
+      | inr wrote ↦ record {
+        later = by.later;
+        rose = λ is. let other = sym wrote ∙ is in cc;
+        told = λ is. let other = sym wrote ∙ is in cc;
+        quiet = λ not none. absurd (none (inl wrote));
+        last = λ not want. elim (is_want end) [
+          | inl wants ↦ by.last (λ is. isnt (inl is)) wants
+          | inr wants_not ↦ inl (by.quiet (λ is. isnt (inl is)) wants_not)
+        ];
+      }
+    ]
   ]
-    where
-      neither : IsWant end → (end ≡ Write → ⊥) → (end ≡ NoMemory → ⊥) → ⊥
-      neither (inl is) a b = a is
-      neither (inr is) a b = b is
-
-  pub read_passed : (a b : ℕ) (f : Option Bool) → EndedBy (end ≡ Read) (IsWant end) a b f → EndedBy (status ≡ Read) (IsWant status) a b f
-  read_passed a b f by = ended_passed Read is_read (λ is. cc) a b f by
-
-  pub noise_passed : (a b : ℕ) (f : Option Bool) → HasFailed (end ≡ Noise) a b f → EndedBy (status ≡ Noise) (IsWant status) a b f
-  noise_passed a b f now = ended_passed Noise is_noise (λ is. cc) a b f (ended_as (end ≡ Noise) (IsWant end) a b f now)
 
 -- ---- what was told, as far as it was passed on
 

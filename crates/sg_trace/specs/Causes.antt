@@ -2,7 +2,7 @@
 use Rattle.std.specs.Prelude.{◌≡◌, ◌⊎◌, ◌≤◌, ℕ, Bool, true, Option, Result, IsErrOf}
 use Rattle.sg_edge.specs.Told.{Rose, Tells}
 use Rattle.sg_trace.specs.declared.status.Status.{Status}
-use Rattle.sg_trace.specs.declared.status.Status.TheVariants.{Write}
+use Rattle.sg_trace.specs.declared.status.Status.TheVariants.{Noise, Read, Write}
 
 -- Exactly where this is so, something of the outside failed: then its count rose and its last call failed, else its
 -- count stays.
@@ -25,8 +25,12 @@ pub record EndedBy (own instead : Type 0) (old new : ℕ) (failed : Option Bool)
   pub quiet : ¬ own → ¬ instead → new ≡ old
   pub last : ¬ own → instead → (new ≡ old) ⊎ (Rose old new × Tells failed true)
 
--- A run that comes to this end passes on what the sink holds, and ends so, or with Write where that fails. Where the sink
--- failed before, nothing is done.
+-- the source, the sink or the noise failed
+abbrev pub IsOfOutside : Status → Type 0
+IsOfOutside end = (end ≡ Read) ⊎ ((end ≡ Write) ⊎ (end ≡ Noise))
+
+-- A run that comes to this end passes on what the sink holds, and ends so, or with Write where that fails. Where something
+-- of the outside failed before, nothing is done.
 pub record IsPassedOn {K : Type 0} (end status : Status) (faults : K → ℕ) (failed : K → Option Bool) (old new : K) : Type 0 where
-  pub before : end ≡ Write → (status ≡ Write) × (new ≡ old)
-  pub else : ¬ (end ≡ Write) → ((status ≡ end) ⊎ (status ≡ Write)) × HasFailed (status ≡ Write) (faults old) (faults new) (failed new)
+  pub before : IsOfOutside end → (status ≡ end) × (new ≡ old)
+  pub else : ¬ IsOfOutside end → ((status ≡ end) ⊎ (status ≡ Write)) × HasFailed (status ≡ Write) (faults old) (faults new) (failed new)

@@ -24,18 +24,20 @@ pub fn pass_on<K: Sink>(is_read: bool, sink: &mut K) -> Result<(), Status>
     }
 }
 
-/// How a run ends that comes to this end, once the sink has passed on what it holds: `Write` where that fails. A sink that
-/// failed isn't asked again.
+/// How a run ends that comes to this end, once the sink has passed on what it holds: `Write` where that fails. Where
+/// something of the outside failed, that is the end, and the sink isn't asked.
 pub fn passed_on<K: Sink>(end: Status, sink: &mut K) -> Status
     ensures kept { K.written sink.new ≡ K.written sink.old }
     ensures passed { IsPassedOn end result K.faults K.failed sink.old sink.new }
 {
-    if end == Status::Write {
-        return end;
-    }
-    match sink.flush() {
-        Err(Failed) => Status::Write,
-        Ok(()) => end,
+    match end {
+        Status::Read => Status::Read,
+        Status::Write => Status::Write,
+        Status::Noise => Status::Noise,
+        _ => match sink.flush() {
+            Err(Failed) => Status::Write,
+            Ok(()) => end,
+        },
     }
 }
 

@@ -1,7 +1,6 @@
 use Rattle.std.proofs.Common.{[]}
 use Rattle.sg_bridging.proofs.Completes.{complete, untouched}
 use Rattle.sg_bridging.specs.Bridge.{bridge_text, of_bridge}
-use Rattle.sg_trace.proofs.Causes.{ended_as}
 use Rattle.sg_trace.proofs.PassedOn.{before_kept, noise_passed, passed_so, prompt_passed, read_passed, write_passed}
 use Rattle.sg_bridging.proofs.bridging.bridge.Goals as goal
 
@@ -25,7 +24,7 @@ returns-in-Ok-clause-ran g c =
     )
 
 pub returns-in-Ok-clause-read : goal.returns-in-Ok-clause-read
-returns-in-Ok-clause-read g c = read_passed c.play_script-end.result c.passed_on.result g.K.Sink.faults g.K.Sink.failed _ _ c.passed_on.ensures.passed _ _ _ (ended_as _ _ _ _ _ c.play_script-end.ensures.read)
+returns-in-Ok-clause-read g c = read_passed c.play_script-end.result c.passed_on.result g.K.Sink.faults g.K.Sink.failed _ _ c.passed_on.ensures.passed _ _ _ c.play_script-end.ensures.read
 
 pub returns-in-Ok-clause-write : goal.returns-in-Ok-clause-write
 returns-in-Ok-clause-write g c = write_passed c.play_script-end.result c.passed_on.result g.K.Sink.faults g.K.Sink.failed _ _ c.passed_on.ensures.passed _ c.play_script-end.ensures.write

@@ -1,6 +1,6 @@
 use Rattle.std.proofs.Common.{[]}
 use Rattle.sg_capture.proofs.Compositions.{capture_passed, complete, untouched}
-use Rattle.sg_trace.proofs.PassedOn.{before_kept, noise_passed, passed_so, read_passed, write_passed}
+use Rattle.sg_trace.proofs.PassedOn.{before_kept, ended_passed, noise_passed, passed_so, write_passed}
 use Rattle.sg_capture.proofs.capturing.capture.Goals as goal
 
 pub returns-in-Err-clause-ran : goal.returns-in-Err-clause-ran
@@ -23,7 +23,7 @@ returns-in-Ok-clause-ran g c =
     )
 
 pub returns-in-Ok-clause-read : goal.returns-in-Ok-clause-read
-returns-in-Ok-clause-read g c = read_passed c.play_source-end.result c.passed_on.result g.K.Sink.faults g.K.Sink.failed _ _ c.passed_on.ensures.passed _ _ _ c.play_source-end.ensures.read
+returns-in-Ok-clause-read g c = ended_passed c.play_source-end.result c.passed_on.result g.K.Sink.faults g.K.Sink.failed _ _ c.passed_on.ensures.passed _ _ _ c.play_source-end.ensures.read
 
 pub returns-in-Ok-clause-write : goal.returns-in-Ok-clause-write
 returns-in-Ok-clause-write g c = write_passed c.play_source-end.result c.passed_on.result g.K.Sink.faults g.K.Sink.failed _ _ c.passed_on.ensures.passed _ c.play_source-end.ensures.write

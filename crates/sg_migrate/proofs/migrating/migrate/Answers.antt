@@ -1,6 +1,5 @@
 use Rattle.std.proofs.Common.{◌≡◌, ◌⊎◌, [], sym, ◌∙◌, inl, inr}
 use Rattle.sg_migrate.specs.Migrated.{of_migration, written_of}
-use Rattle.sg_trace.proofs.Causes.{ended_as}
 use Rattle.sg_trace.proofs.Ends.{completes}
 use Rattle.sg_trace.proofs.PassedOn.{before_kept, passed_so, prompt_passed, read_passed, write_not, write_passed}
 use Rattle.sg_trace.specs.declared.status.Status.{Status}
@@ -27,7 +26,7 @@ returns-clause-ran g c =
     )
 
 pub returns-clause-read : goal.returns-clause-read
-returns-clause-read g c = read_passed c.write_script-end.result c.passed_on.result g.K.Sink.faults g.K.Sink.failed _ _ c.passed_on.ensures.passed _ _ _ (ended_as _ _ _ _ _ c.write_script-end.ensures.read)
+returns-clause-read g c = read_passed c.write_script-end.result c.passed_on.result g.K.Sink.faults g.K.Sink.failed _ _ c.passed_on.ensures.passed _ _ _ c.write_script-end.ensures.read
 
 pub returns-clause-write : goal.returns-clause-write
 returns-clause-write g c = write_passed c.write_script-end.result c.passed_on.result g.K.Sink.faults g.K.Sink.failed _ _ c.passed_on.ensures.passed _ c.write_script-end.ensures.write

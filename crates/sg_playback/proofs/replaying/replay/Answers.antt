@@ -4,7 +4,7 @@ use Rattle.sg_playback.proofs.Completes.{complete, untouched}
 use Rattle.sg_playback.proofs.Replays.{ends_so}
 use Rattle.sg_playback.specs.Playing.{text_from}
 use Rattle.sg_playback.specs.Replay.{IsReplay, ReplayTellings, of_replay}
-use Rattle.sg_trace.proofs.PassedOn.{before_kept, loop_passed, noise_passed, passed_so, read_passed, write_passed}
+use Rattle.sg_trace.proofs.PassedOn.{before_kept, ended_passed, loop_passed, noise_passed, passed_so, write_passed}
 use Rattle.sg_playback.proofs.replaying.replay.Goals as goal
 
 pub returns-in-Err-clause-ran : goal.returns-in-Err-clause-ran
@@ -35,7 +35,7 @@ returns-in-Ok-clause-ran g c =
     )
 
 pub returns-in-Ok-clause-read : goal.returns-in-Ok-clause-read
-returns-in-Ok-clause-read g c = read_passed c.play_script-end.result c.passed_on.result g.K.Sink.faults g.K.Sink.failed _ _ c.passed_on.ensures.passed _ _ _ c.play_script-end.ensures.read
+returns-in-Ok-clause-read g c = ended_passed c.play_script-end.result c.passed_on.result g.K.Sink.faults g.K.Sink.failed _ _ c.passed_on.ensures.passed _ _ _ c.play_script-end.ensures.read
 
 pub returns-in-Ok-clause-write : goal.returns-in-Ok-clause-write
 returns-in-Ok-clause-write g c = write_passed c.play_script-end.result c.passed_on.result g.K.Sink.faults g.K.Sink.failed _ _ c.passed_on.ensures.passed _ c.play_script-end.ensures.write

@@ -6,7 +6,7 @@ use Rattle.sg_playback.proofs.player.Player.close.Goals as goal
 pub returns-in-Err-clause-closed : goal.returns-in-Err-clause-closed
 returns-in-Err-clause-closed g c = λ state stands.
     let s = c.in-Err.ensures.settled state stands in
-    (s.0, s.1, inr (cut_settled c.in-Err.status state c.args.self.now c.in-Err.ensures.few (FrontStandsFor c.settle.new.self.front) s.0 s.2))
+    (s.0, s.1, inr (cut_settled c.in-Err.status state c.args.self.now c.in-Err.ensures.few (FrontStandsFor c.settle_at_once.new.self.front) s.0 s.2))
 
 pub returns-in-Ok-clause-closed : goal.returns-in-Ok-clause-closed
 returns-in-Ok-clause-closed g c = λ state stands.
