@@ -65,7 +65,7 @@ pub line_is : (version n at : ℕ) (l : List ℕ) → read_at of_capture version
 line_is version n at l =
     at_tests (nat_lt (2 ^ 30) (at + length l)) (nat_le (at + length l) (2 ^ 30)) (nat_lt 1 n) (bytes_eq l (codes "capture\n")) (line_of version n l)
     (λ far near. (let a = ltb-true (2 ^ 30) (at + length l) far in let b = leb-true (at + length l) (2 ^ 30) near in omega (arith, a, b)))
-    (λ far near. (let a = ltb-false (2 ^ 30) (at + length l) far in leb-false (at + length l) (2 ^ 30) near a))
+    (λ far near. (let a = ltb-false (2 ^ 30) (at + length l) far in let b = leb-false (at + length l) (2 ^ 30) near in omega (arith, a, b)))
 
 -- octets without a line end are none, or no line
 pub unended_stops : (version n at : ℕ) (part : List ℕ) → NoEnd part
