@@ -1,5 +1,5 @@
 -- The lines of a script behind which a capture may stand, from what a line reader gave.
-use Rattle.std.proofs.Common.{◌≡◌, ◌⊎◌, ◌<◌, ◌≤◌, ◌+◌, ◌^◌, ℕ, true, false, List, [], ◌∷◌, ◌++◌, length, Option, Result, Ok, Err, refl, sym, ap, ◌∙◌, subst, inl, inr, append_assoc, arith, length-append}
+use Rattle.std.proofs.Common.{◌≡◌, ◌⊎◌, ◌<◌, ◌≤◌, ◌+◌, ◌^◌, ℕ, true, false, List, [], ◌∷◌, ◌++◌, length, Result, Ok, Err, refl, sym, ap, ◌∙◌, subst, inl, inr, append_assoc, arith, length-append}
 use Rattle.std.specs.Prelude.{codes}
 use Rattle.std.proofs.lemmas.List.{append-nil}
 use Rattle.std.proofs.lemmas.Bool.{and_parts, cases_Bool, leb-true, ltb-true}
@@ -19,6 +19,7 @@ use Rattle.sg_trace.specs.Finding.{IsFound, IsOtherFault}
 use Rattle.sg_trace.specs.Reading.{FirstFails, Reading, refused_as}
 use Rattle.sg_trace.specs.Trace.{Captures, begins_capture, line_at}
 use Rattle.sg_trace.specs.declared.script_reader.Found.TheVariants as founds
+use Rattle.sg_edge.specs.Told.{Tally}
 
 -- where a capture begins
 pub capture_line : (n at : ℕ) (line : List ℕ) → begins_capture Captures n at line ≡ true → (line ≡ codes "capture\n") × (at + length line ≤ 2 ^ 30)
@@ -103,7 +104,7 @@ end_so : {P Q : Type 0} → P ⊎ Q → (Q → ⊥) → P
 end_so (inl p) isnt = p
 end_so (inr q) isnt = absurd (isnt q)
 
-module _ (version n at : ℕ) (line waits rest got : List ℕ) (left : Option (List ℕ)) (budget : ℕ) (split : waits ++ got ≡ line ++ rest) (is : IsLine line rest left budget)
+module _ (version n at : ℕ) (line waits rest got : List ℕ) (left : Tally) (budget : ℕ) (split : waits ++ got ≡ line ++ rest) (is : IsLine line rest left budget)
     (spent : budget ≡ 0 → rest ≡ [] → 2 ^ 30 < at + length line) where
   module _ (other : begins_capture Captures n at line ≡ false) where
     other_fault : (fault : ScriptFault) → line_at version n at line ≡ Err fault → IsOtherFault version n at (waits ++ got) fault left

@@ -1,8 +1,8 @@
 -- What reading a script behind which a capture may stand gives, line by line.
-use Rattle.std.specs.Prelude.{◌≡◌, ◌⊎◌, ◌<◌, ◌≤◌, ◌+◌, ◌^◌, ℕ, true, false, List, [], ◌++◌, Option, Result, Ok, Err, codes, ⊤}
+use Rattle.std.specs.Prelude.{◌≡◌, ◌⊎◌, ◌<◌, ◌≤◌, ◌+◌, ◌^◌, ℕ, true, false, List, [], ◌++◌, Result, Ok, Err, codes, ⊤}
 use Rattle.sg_base.specs.declared.faults.ScriptFault.{ScriptFault}
 use Rattle.sg_base.specs.declared.faults.ScriptFault.TheVariants.{Unended}
-use Rattle.sg_edge.specs.Told.{AtEnd}
+use Rattle.sg_edge.specs.Told.{AtEnd, Tally}
 use Rattle.sg_lines.specs.LineText.{FitsLine}
 use Rattle.sg_lines.specs.ScriptLines.{NoEnd}
 use Rattle.sg_trace.specs.Reading.{FirstFails, IsRead, Reading}
@@ -21,7 +21,7 @@ pub record IsCaptureLine (old new : Reading) (got : List ℕ) : Type 0 where
 
 -- The line is outside the grammar, and no capture begins behind it. It is so whatever would come behind; that its end is
 -- missing is told only at the source's end.
-pub record IsOtherFault (version n at : ℕ) (octets : List ℕ) (fault : ScriptFault) (left : Option (List ℕ)) : Type 0 where
+pub record IsOtherFault (version n at : ℕ) (octets : List ℕ) (fault : ScriptFault) (left : Tally) : Type 0 where
   pub first : FirstFails version n at octets fault
   pub other : begins_capture Captures n at first.line ≡ false
   pub ended : fault ≡ Unended → AtEnd left
@@ -29,7 +29,7 @@ pub record IsOtherFault (version n at : ℕ) (octets : List ℕ) (fault : Script
 
 -- A line, or where a capture begins, or the end, or the octets that count are behind; or the line's fault. Where the source
 -- failed, what was read since the last line has no line end.
-abbrev pub IsFound : Result Found Status → Reading → Reading → List ℕ → Option (List ℕ) → Type 0
+abbrev pub IsFound : Result Found Status → Reading → Reading → List ℕ → Tally → Type 0
 IsFound (Ok (founds.Line l)) old new got left = (read : IsRead l old new got) × (begins_capture Captures old.number old.offset read.line ≡ false)
 IsFound (Ok founds.Capture) old new got left = IsCaptureLine old new got
 IsFound (Ok founds.End) old new got left = (old.waits ++ got ≡ []) × (AtEnd left ⊎ (2 ^ 30 < old.offset))
