@@ -3,7 +3,7 @@ use Rattle.std.proofs.Common.{◌≡◌, ◌⊎◌, ◌+◌, ℕ, Bool, true, fa
 use Rattle.std.specs.Prelude.{IfSome, cond, nat_le}
 use Rattle.std.proofs.lemmas.List.{append-nil}
 use Rattle.sg_base.specs.declared.faults.ScriptFault.{ScriptFault}
-use Rattle.sg_base.specs.declared.faults.ScriptFault.TheVariants.{Word, Number, Hex, Length, Version, Unended}
+use Rattle.sg_base.specs.declared.faults.ScriptFault.TheVariants.{Unended}
 use Rattle.sg_edge.specs.Links.{Received}
 use Rattle.sg_edge.specs.Told.{AtEnd, Tally, TookIn}
 use Rattle.sg_gateway.specs.Drawn.{Supplied, supplied}
@@ -11,7 +11,7 @@ use Rattle.sg_lines.specs.LineOf.{version_after}
 use Rattle.sg_lines.specs.ScriptLines.{lines_of}
 use Rattle.sg_lines.specs.declared.lines.Line.{Line}
 use Rattle.sg_trace.specs.Trace.{AtCapture, AtFault, Command, Trace, Later, Outside, Relays, Replays, after_line, begins_capture, trace_from, handled_as, line_at, line_in, moment_of, replayed, waited_or_handled, stopped, wait_in, waited, woven}
-use Rattle.sg_trace.specs.Grammar.{IsScript, fault_after, fault_from, fault_in}
+use Rattle.sg_trace.specs.Grammar.{IsScript, fault_after, fault_from}
 
 -- what follows tells no such fault
 abbrev Spares : Later → ℕ → ScriptFault → Type 0

@@ -9,8 +9,6 @@ use Rattle.sg_trace.proofs.Frames.{first_fails, line_whole, still_fails, unended
 use Rattle.sg_trace.specs.Trace.{Spelling, spelled_at}
 use Rattle.sg_trace.specs.Fed.{GivesLine, IsLine}
 use Rattle.sg_trace.specs.Reading.{FirstFailsBy, IsFaultBy, IsFramed, IsNextBy, IsReadBy, Reading, refused_as}
-use Rattle.sg_trace.specs.declared.status.Status.{Status}
-use Rattle.sg_trace.specs.declared.status.Status.TheVariants.{Read, NoMemory}
 use Rattle.sg_edge.specs.Told.{Tally}
 
 end_so : {P Q : Type 0} → P ⊎ Q → (Q → ⊥) → P

@@ -1,16 +1,13 @@
 -- How octets are written part by part.
-use Rattle.std.proofs.Common.{◌≡◌, ◌<◌, ◌+◌, ℕ, true, false, List, [], ◌∷◌, ◌++◌, length, take, drop, get_or, Result, Ok, Err, refl, sym, ap, ◌∙◌, append_assoc}
-use Rattle.std.specs.Prelude.{is_ok}
+use Rattle.std.proofs.Common.{◌≡◌, ◌<◌, ◌+◌, ℕ, List, [], ◌∷◌, ◌++◌, length, take, drop, get_or, Err, refl, sym, ap, ◌∙◌, append_assoc}
 use Rattle.std.specs.List.{flat_map}
-use Rattle.std.proofs.lemmas.Bool.{false≢true}
 use Rattle.std.proofs.lemmas.Grind.{flat_map-append}
 use Rattle.std.proofs.lemmas.List.{append-nil, take-append-drop, take_more}
-use Rattle.sg_base.specs.declared.faults.Failed.{Failed}
 use Rattle.sg_edge.proofs.Passed.{wrote_more, wrote_none}
-use Rattle.sg_edge.specs.Told.{Tally, Wrote, WroteAll}
+use Rattle.sg_edge.specs.Told.{Tally, Wrote}
 use Rattle.sg_trace.specs.Output.{IsWritten, WrotePrefix}
 use Rattle.sg_trace.specs.declared.status.Status.{Status}
-use Rattle.sg_trace.specs.declared.status.Status.TheVariants.{Done, Usage, Script, Read, Write, Link, NoMemory, Clock, Noise, TurnsSpent, Capture}
+use Rattle.sg_trace.specs.declared.status.Status.TheVariants.{Write, NoMemory}
 
 -- nothing is a prefix of all
 pub none_written : (a : Tally) (octets : List ℕ) → WrotePrefix a a octets
