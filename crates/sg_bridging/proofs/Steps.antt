@@ -21,7 +21,7 @@ use Rattle.sg_bridge.specs.declared.outcomes.BridgeOutcome.TheVariants as tells
 use Rattle.sg_bridging.specs.Bridge.{gives, happens_as}
 use Rattle.sg_bridging.specs.Steps.{HasTold, IsBridged, IsPlayed, IsStepped, StandsFor, State, SwitchboardValue, after, effects, state_after, text_from, told_next}
 use Rattle.sg_edge.proofs.Passed.{wrote_more, wrote_none}
-use Rattle.sg_edge.specs.Told.{Wrote}
+use Rattle.sg_edge.specs.Told.{Tally, Wrote}
 use Rattle.sg_gateway.specs.Events.{outcomes_from, signal_lacks_noise, signal_of}
 use Rattle.sg_gateway.specs.PlainOf.{plain_at}
 use Rattle.sg_gateway.specs.Signals.{Signal}
@@ -90,10 +90,10 @@ has_text (Err statuses.NoMemory) text text' so so' out is to has = subst (IsPref
 has_text (Err other) text text' so so' out is to has = absurd has
 
 -- what was written, and that it was that
-abbrev pub Has : Result (Unit {0}) Status → Option (List ℕ) → Option (List ℕ) → List ℕ → Type 0 → Type 0
+abbrev pub Has : Result (Unit {0}) Status → Tally → Tally → List ℕ → Type 0 → Type 0
 Has r a b text so = (out : List ℕ) × Wrote a b out × HasTold r text so out
 
-pub written_has : (r : Result (Unit {0}) Status) (a b : Option (List ℕ)) (text : List ℕ) (so : Type 0) → OnOk r so → IsWritten r a b text → Has r a b text so
+pub written_has : (r : Result (Unit {0}) Status) (a b : Tally) (text : List ℕ) (so : Type 0) → OnOk r so → IsWritten r a b text → Has r a b text so
 written_has (Ok u) a b text so is wrote = (text, wrote, (refl, is))
 written_has (Err statuses.Write) a b text so is wrote = (wrote.0, wrote.2, wrote.1)
 written_has (Err statuses.NoMemory) a b text so is wrote = (wrote.0, wrote.2, wrote.1)
@@ -104,20 +104,20 @@ on_ok (Ok u) is = is
 on_ok (Err e) is = tt
 
 -- a line of the table's was written, and it is all that is told
-pub told_line : (r : Result (Unit {0}) Status) (a b : Option (List ℕ)) (o : Outcome) (so : Type 0) → so → IsWritten r a b (outcome_line o) → Has r a b (lines (tells.Table o ∷ [])) so
+pub told_line : (r : Result (Unit {0}) Status) (a b : Tally) (o : Outcome) (so : Type 0) → so → IsWritten r a b (outcome_line o) → Has r a b (lines (tells.Table o ∷ [])) so
 told_line r a b o so is wrote = written_has r a b (lines (tells.Table o ∷ [])) so (on_ok r is) (subst (IsWritten r a b) (line_of_table o) wrote)
 
 -- so was one of the bridge's
-pub bridge_line : (r : Result (Unit {0}) Status) (a b : Option (List ℕ)) (o : BridgeOutcome) (so : Type 0) → so → IsWritten r a b (bridge_outcome_line o) → Has r a b (lines (o ∷ [])) so
+pub bridge_line : (r : Result (Unit {0}) Status) (a b : Tally) (o : BridgeOutcome) (so : Type 0) → so → IsWritten r a b (bridge_outcome_line o) → Has r a b (lines (o ∷ [])) so
 bridge_line r a b o so is wrote = written_has r a b (lines (o ∷ [])) so (on_ok r is) (subst (IsWritten r a b) (line_of_one o) wrote)
 
 -- ---- a written part behind another
 
-pub then_written : (r : Result (Unit {0}) Status) (a b c : Option (List ℕ)) (xs ys : List ℕ) → Wrote a b xs → IsWritten r b c ys → IsWritten r a c (xs ++ ys)
+pub then_written : (r : Result (Unit {0}) Status) (a b c : Tally) (xs ys : List ℕ) → Wrote a b xs → IsWritten r b c ys → IsWritten r a c (xs ++ ys)
 then_written (Ok u) a b c xs ys before wrote = wrote_more a b c xs ys before wrote
 then_written (Err status) a b c xs ys before wrote = subst (IsWritten (Err status) a c) (ap (λ (l : List ℕ). xs ++ l) (append-nil ys)) (written_behind status a b c xs ys [] before wrote)
 
-pub cut_written : (status : Status) (a b : Option (List ℕ)) (xs ys : List ℕ) → IsWritten (Err status) a b xs → IsWritten (Err status) a b (xs ++ ys)
+pub cut_written : (status : Status) (a b : Tally) (xs ys : List ℕ) → IsWritten (Err status) a b xs → IsWritten (Err status) a b (xs ++ ys)
 cut_written status a b xs ys wrote = written_behind status a a b [] xs ys (wrote_none a) wrote
 
 -- ---- what the table tells, with the pairs that it parts
@@ -170,7 +170,7 @@ module _ (calls : Members) (os : List Outcome) (i : ℕ) (o : Outcome) (within :
 
 -- ---- calls that are joined and parted
 
-module _ (s : State) (table : TableValue) (old new : Members) (r : Result (Unit {0}) Status) (a b : Option (List ℕ)) (stands : TableStandsFor table s.world) (same : old ≡ s.calls) where
+module _ (s : State) (table : TableValue) (old new : Members) (r : Result (Unit {0}) Status) (a b : Tally) (stands : TableStandsFor table s.world) (same : old ≡ s.calls) where
   abbrev board : SwitchboardValue
   board = record { table = table; calls = new }
 
@@ -196,7 +196,7 @@ module _ (s : State) (table : TableValue) (old new : Members) (r : Result (Unit 
 
 -- ---- a signal
 
-pub signal_told : (s : State) (signal : Signal) (told : List Outcome) (board : SwitchboardValue) (old : Members) (r : Result (Unit {0}) Status) (a b : Option (List ℕ)) → told ≡ (step s.world (Signalled signal)).outcomes
+pub signal_told : (s : State) (signal : Signal) (told : List Outcome) (board : SwitchboardValue) (old : Members) (r : Result (Unit {0}) Status) (a b : Tally) → told ≡ (step s.world (Signalled signal)).outcomes
     → TableStandsFor board.table (step s.world (Signalled signal)).world → old ≡ s.calls → OnOk r (board.calls ≡ (told_and_parted old told).calls) → IsWritten r a b (lines (told_and_parted old told).told)
     → Has r a b (lines (happened s.world s.calls (Signalled signal)).told) (StandsFor board (after (happened s.world s.calls (Signalled signal))))
 signal_told s signal told board old r a b is stands same calls wrote =
@@ -210,21 +210,21 @@ signal_told s signal told board old r a b is stands same calls wrote =
 -- ---- a datagram
 
 -- a plain port of a joined call
-pub unused_told : (s : State) (e : Event) (port q : ℕ) (board : SwitchboardValue) (r : Result (Unit {0}) Status) (a b : Option (List ℕ)) → StandsFor board s → (o : Option ℕ) → o ≡ Some q → IsWritten r a b (outcome_line (Dropped port PortUnused))
+pub unused_told : (s : State) (e : Event) (port q : ℕ) (board : SwitchboardValue) (r : Result (Unit {0}) Status) (a b : Tally) → StandsFor board s → (o : Option ℕ) → o ≡ Some q → IsWritten r a b (outcome_line (Dropped port PortUnused))
     → Has r a b (lines (arrived s.world s.calls port e (step s.world e) o).told) (StandsFor board (after (arrived s.world s.calls port e (step s.world e) o)))
 unused_told s e port q board r a b stands o is wrote =
     subst (λ o. Has r a b (lines (arrived s.world s.calls port e (step s.world e) o).told) (StandsFor board (after (arrived s.world s.calls port e (step s.world e) o)))) (sym is)
     (told_line r a b (Dropped port PortUnused) (StandsFor board (after (nothing_happens s.world s.calls (tells.Table (Dropped port PortUnused))))) stands wrote)
 
 -- another port, where this is all that the table tells
-pub arrived_told : (s : State) (e : Event) (port : ℕ) (told : Outcome) (board : SwitchboardValue) (r : Result (Unit {0}) Status) (a b : Option (List ℕ)) → (o : Option ℕ) → o ≡ None → told ∷ [] ≡ (step s.world e).outcomes
+pub arrived_told : (s : State) (e : Event) (port : ℕ) (told : Outcome) (board : SwitchboardValue) (r : Result (Unit {0}) Status) (a b : Tally) → (o : Option ℕ) → o ≡ None → told ∷ [] ≡ (step s.world e).outcomes
     → Has r a b (lines (passed s.world s.calls e (step s.world e).world (told ∷ [])).told) (StandsFor board (after (passed s.world s.calls e (step s.world e).world (told ∷ []))))
     → Has r a b (lines (arrived s.world s.calls port e (step s.world e) o).told) (StandsFor board (after (arrived s.world s.calls port e (step s.world e) o)))
 arrived_told s e port told board r a b o none is has =
     subst (λ o. Has r a b (lines (arrived s.world s.calls port e (step s.world e) o).told) (StandsFor board (after (arrived s.world s.calls port e (step s.world e) o)))) (sym none)
     (subst (λ os. Has r a b (lines (passed s.world s.calls e (step s.world e).world os).told) (StandsFor board (after (passed s.world s.calls e (step s.world e).world os)))) is has)
 
-module _ (s : State) (e : Event) (w : World) (r : Result (Unit {0}) Status) (a b : Option (List ℕ)) (board : SwitchboardValue) (stands : TableStandsFor board.table w) (same : board.calls ≡ s.calls) where
+module _ (s : State) (e : Event) (w : World) (r : Result (Unit {0}) Status) (a b : Tally) (board : SwitchboardValue) (stands : TableStandsFor board.table w) (same : board.calls ≡ s.calls) where
   abbrev Passes : Bridging → Type 0
   Passes x = Has r a b (lines x.told) (StandsFor board (after x))
 
@@ -240,13 +240,13 @@ module _ (s : State) (e : Event) (w : World) (r : Result (Unit {0}) Status) (a b
   unready_lost q octets none wrote =
       subst (λ o. Passes (handed_on s.world s.calls e w q octets o)) (sym none) (bridge_line r a b (tells.Lost q PortUnused) (StandsFor board (record { world = w; calls = s.calls })) (stands, same) wrote)
 
-pub goes_on_to : (s : State) (e : Event) (w : World) (r : Result (Unit {0}) Status) (a b : Option (List ℕ)) (board : SwitchboardValue) (port q : ℕ) (to : Address) (octets : List ℕ) → onward s.calls port ≡ Some q
+pub goes_on_to : (s : State) (e : Event) (w : World) (r : Result (Unit {0}) Status) (a b : Tally) (board : SwitchboardValue) (port q : ℕ) (to : Address) (octets : List ℕ) → onward s.calls port ≡ Some q
     → Has r a b (lines (handed_on s.world s.calls e w q octets (plain_at w q)).told) (StandsFor board (after (handed_on s.world s.calls e w q octets (plain_at w q))))
     → Has r a b (lines (passed s.world s.calls e w (Out port to octets ∷ [])).told) (StandsFor board (after (passed s.world s.calls e w (Out port to octets ∷ []))))
 goes_on_to s e w r a b board port q to octets is has =
     subst (λ o. Has r a b (lines (opened s.world s.calls e w port to octets o).told) (StandsFor board (after (opened s.world s.calls e w port to octets o)))) (sym is) has
 
-module _ (s : State) (e : Event) (w : World) (q : ℕ) (from : Address) (octets : List ℕ) (r : Result (Unit {0}) Status) (a b : Option (List ℕ)) (board : SwitchboardValue) (o : Outcome) (is : plain_at w q ≡ Some from)
+module _ (s : State) (e : Event) (w : World) (q : ℕ) (from : Address) (octets : List ℕ) (r : Result (Unit {0}) Status) (a b : Tally) (board : SwitchboardValue) (o : Outcome) (is : plain_at w q ≡ Some from)
     (told : o ∷ [] ≡ outcomes_from w (inner q from octets ∷ [])) (stands : TableStandsFor board.table (step w (inner q from octets)).world) (same : board.calls ≡ s.calls) where
   abbrev HandsOn : Type 0
   HandsOn = Has r a b (lines (handed_on s.world s.calls e w q octets (plain_at w q)).told) (StandsFor board (after (handed_on s.world s.calls e w q octets (plain_at w q))))

@@ -8,7 +8,7 @@ use Rattle.sg_bridge.specs.Bridged.{Said, Happens, Joins, Parts, bridged_outcome
 use Rattle.sg_bridge.specs.declared.lines.BridgeLine.{BridgeLine}
 use Rattle.sg_bridge.specs.declared.lines.BridgeLine.TheVariants as lines
 use Rattle.sg_edge.specs.Links.{Added}
-use Rattle.sg_edge.specs.Told.{TookIn, Wrote}
+use Rattle.sg_edge.specs.Told.{Tally, TookIn, Wrote}
 use Rattle.sg_gateway.specs.Drawn.{Supplied, supplied}
 use Rattle.sg_gateway.specs.Events.{events_of}
 use Rattle.sg_playback.specs.Replay.{ReplayTellings}
@@ -47,7 +47,7 @@ bridge_text said = flat_map bridge_outcome_line (bridged_outcomes said)
 
 -- The status, by the octets read, drawn and written, and by what the source has left: as of every loop that plays each line
 -- at once. A line says two things at most, a tick and a datagram.
-abbrev pub BridgeEnds : Status → List ℕ → List ℕ → List ℕ → Option (List ℕ) → Type 0
+abbrev pub BridgeEnds : Status → List ℕ → List ℕ → List ℕ → Tally → Type 0
 BridgeEnds status octets draws out left = PromptEnds of_bridge bridge_text 2 status octets draws out left
 
 -- The bridge read these octets, of which there are at most 2^30 + 1, drew these, and wrote those.
@@ -63,5 +63,5 @@ abbrev pub IsBridgeScript : List ℕ → Type 0
 IsBridgeScript octets = (draws : List ℕ) (n : ℕ) (fault : ScriptFault) → (bridge_trace octets draws).stop ≡ AtFault n fault → ⊥
 
 -- Where the source's octets are such a script, the bridge handles it to its end, or memory runs out.
-abbrev pub IsCompleteBridge : Status → Option (List ℕ) → Option (List ℕ) → Type 0
-IsCompleteBridge status left left' = (all rest : List ℕ) → left ≡ Some all → left' ≡ Some rest → IsBridgeScript all → (status ≡ Done) ⊎ (status ≡ NoMemory)
+abbrev pub IsCompleteBridge : Status → Tally → Tally → Type 0
+IsCompleteBridge status left left' = (all rest : List ℕ) → left.told ≡ Some all → left'.told ≡ Some rest → IsBridgeScript all → (status ≡ Done) ⊎ (status ≡ NoMemory)

@@ -27,7 +27,7 @@ pub fn bridge<S: Source, K: Sink, N: Noise>(
         (record { left = S.left source.old; written = K.written sink.old; drawn = N.given noise.old })
         (record { left = S.left source.new; written = K.written sink.new; drawn = N.given noise.new })
         octets draws out }
-    ensures given { S.given source.new ≤ S.given source.old + (2 ^ 30 + 1) }
+    ensures given { (S.left source.new).count ≤ (S.left source.old).count + (2 ^ 30 + 1) }
     ensures read { HasFailed (result ≡ Status.Read) (S.faults source.old) (S.faults source.new) (S.failed source.new) }
     ensures write { HasFailed (result ≡ Status.Write) (K.faults sink.old) (K.faults sink.new) (K.failed sink.new) }
     ensures noise { HasFailed (result ≡ Status.Noise) (N.faults noise.old) (N.faults noise.new) (N.failed noise.new) }
@@ -57,7 +57,7 @@ fn play_script<S: Source, K: Sink, N: Noise>(
         (record { left = S.left source.old; written = K.written sink.old; drawn = N.given noise.old })
         (record { left = S.left source.new; written = K.written sink.new; drawn = N.given noise.new })
         octets draws out }
-    ensures given { S.given source.new ≤ S.given source.old + (2 ^ 30 + 1) }
+    ensures given { (S.left source.new).count ≤ (S.left source.old).count + (2 ^ 30 + 1) }
     ensures read { HasFailed (result ≡ Status.Read) (S.faults source.old) (S.faults source.new) (S.failed source.new) }
     ensures write { HasFailed (result ≡ Status.Write) (K.faults sink.old) (K.faults sink.new) (K.failed sink.new) }
     ensures noise { HasFailed (result ≡ Status.Noise) (N.faults noise.old) (N.faults noise.new) (N.failed noise.new) }

@@ -1,10 +1,11 @@
 -- The lines of the demonstration's numbers.
-use Rattle.std.specs.Prelude.{ℕ, List, ◌++◌, Option, Ok, Err, codes}
+use Rattle.std.specs.Prelude.{ℕ, List, ◌++◌, Ok, Err, codes}
 use Rattle.std.specs.Fmt.{decimal}
 use Rattle.sg_trace.specs.Output.{IsWritten}
 use Rattle.sg_trace.specs.declared.status.Status.{Status}
 use Rattle.sg_trace.specs.declared.status.Status.TheVariants.{Done}
 use Rattle.sg_demo.specs.declared.summary.Summary.{Summary}
+use Rattle.sg_edge.specs.Told.{Tally}
 
 -- a line: a word, a space, a number and a line end
 abbrev pub number_line : List ℕ → ℕ → List ℕ
@@ -18,6 +19,6 @@ summary_text s =
     ++ number_line (codes "other") s.other ++ number_line (codes "sent") s.sent ++ number_line (codes "opened") s.opened
 
 -- The octets were written, or a prefix of them where the sink failed or memory ran out.
-abbrev pub IsShown : Status → Option (List ℕ) → Option (List ℕ) → List ℕ → Type 0
+abbrev pub IsShown : Status → Tally → Tally → List ℕ → Type 0
 IsShown Done written written' octets = IsWritten (Ok tt) written written' octets
 IsShown other written written' octets = IsWritten (Err other) written written' octets

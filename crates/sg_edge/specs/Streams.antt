@@ -7,9 +7,10 @@ pub record ReadStream : Type 0 where
   pub given : ℕ
   pub faults : ℕ
 
--- what a writer holds, where that is known, and how often it failed
+-- what a writer holds, where that is known, how many octets it took, and how often it failed
 pub record WriteStream : Type 0 where
   pub contents : Option (List ℕ)
+  pub taken : ℕ
   pub faults : ℕ
 
 -- a reader of which nothing was asked
@@ -18,4 +19,4 @@ unread remaining = record { remaining = remaining; given = 0; faults = 0 }
 
 -- a writer of which nothing was asked
 abbrev pub unwritten : Option (List ℕ) → WriteStream
-unwritten contents = record { contents = contents; faults = 0 }
+unwritten contents = record { contents = contents; taken = 0; faults = 0 }

@@ -19,7 +19,7 @@ mod udp;
 mod wall_clock;
 
 pub use clock::Clock;
-pub use link::{Link, Receipt};
+pub use link::{CallCounts, Link, Receipt};
 pub use mem_clock::{MemClock, SureClock};
 pub use mem_link::{LinkRecord, MemLink, SureLink};
 pub use mem_noise::{MemNoise, SureNoise};

@@ -3,12 +3,12 @@
 ghost use Rattle.std.specs.Prelude.{◌≡◌, ◌⊎◌, ◌≤◌, ℕ, Bool, true, false, not, ◌||◌, List, [], ◌∷◌, ◌++◌, Option, Some, None, drop, take, OnOk, IfOk, IsOk, IsSome, IsTrue, Ok};
 ghost use Rattle.std.specs.Result.{is_err, is_ok};
 ghost use Rattle.std.specs.Option.{option_map};
-ghost use Rattle.sg_edge.specs.LinksInMemory.{FailsAsAsked, call_of, history, next_of};
-ghost use Rattle.sg_edge.specs.Links.{Added, Bind, Came, LinkCall, Receive, Send, Unbind, received};
+ghost use Rattle.sg_edge.specs.LinksInMemory.{FailsAsAsked, call_of, calls_in, history, next_of};
+ghost use Rattle.sg_edge.specs.Links.{Bind, Called, Came, LinkCall, Receive, Send, Unbind, received};
 ghost use Rattle.sg_edge.specs.Memory.{after_call, fails_next, no_calls};
 ghost use Rattle.sg_edge.specs.Told.{HasCause};
 
-use crate::link::{Link, Receipt};
+use crate::link::{CallCounts, Link, Receipt, raise};
 use crate::memory::CallBook;
 use sg_base::{Address, Failed, Octets, PAD_MOST, Pad};
 use std::alloc::Global;
@@ -175,7 +175,9 @@ fn fill_prefix(pad: &mut Pad, octets: &[u8])
 #[derive(Drop)]
 pub struct MemLink {
     link: LinkBook,
+    counts: CallCounts,
     book: CallBook,
+    faults: u64,
 }
 
 impl Model for MemLink {
@@ -183,7 +185,7 @@ impl Model for MemLink {
 
     ghost Value = { FailingLink };
 
-    ghost view = { λ l. record { link = l.link; calls = l.book } };
+    ghost view = { λ l. record { link = l.link; counts = l.counts; calls = l.book; faults = l.faults } };
 }
 
 impl MemLink {
@@ -200,7 +202,9 @@ impl MemLink {
     {
         MemLink {
             link: LinkBook::new(alloc, receipts),
+            counts: CallCounts::new(),
             book: CallBook::new(usize::MAX, fails),
+            faults: 0,
         }
     }
 
@@ -220,8 +224,9 @@ impl MemLink {
         ensures answer { is_err result ≡ (fails || not kept) }
         ensures ok { IfOk result (λ r. r ≡ receipt) }
         ensures link { self.new.link ≡ self.old.link }
+        ensures counts { self.new.counts ≡ self.old.counts }
         ensures calls { self.new.calls ≡ after_call (is_err result) self.old.calls }
-        ensures cause { HasCause self.old.calls.faults self.new.calls.faults result }
+        ensures cause { HasCause self.old.faults self.new.faults result }
     {
         match self.note(fails, kept) {
             Err(Failed) => Err(Failed),
@@ -233,12 +238,14 @@ impl MemLink {
     fn note(&mut self, fails: bool, kept: bool) -> Result<(), Failed>
         ensures answer { is_err result ≡ (fails || not kept) }
         ensures link { self.new.link ≡ self.old.link }
+        ensures counts { self.new.counts ≡ self.old.counts }
         ensures calls { self.new.calls ≡ after_call (is_err result) self.old.calls }
-        ensures cause { HasCause self.old.calls.faults self.new.calls.faults result }
+        ensures cause { HasCause self.old.faults self.new.faults result }
     {
         let failed = fails || !kept;
         self.book.note(failed);
         if failed {
+            self.faults = self.faults.saturating_add(1);
             return Err(Failed);
         }
         Ok(())
@@ -246,40 +253,43 @@ impl MemLink {
 }
 
 impl Link for MemLink {
-    ghost told = { λ l. l.link.told };
+    ghost told = { λ l. calls_in l.link l.counts };
 
-    ghost faults = { λ l. l.calls.faults };
+    ghost faults = { λ l. l.faults };
 
     fn bind(&mut self, port: u16) -> Result<(), Failed>
-        ensures told { Added self.old.link.told self.new.link.told (Bind port (is_ok result) ∷ []) }
-        ensures cause { HasCause self.old.calls.faults self.new.calls.faults result }
+        ensures told { Called (calls_in self.old.link self.old.counts) (calls_in self.new.link self.new.counts) (Bind port (is_ok result) ∷ []) }
+        ensures cause { HasCause self.old.faults self.new.faults result }
         ensures fails { FailsAsAsked self.old self.new result }
         ensures left { self.new.link.left ≡ self.old.link.left }
     {
+        raise(&mut self.counts.binds);
         let fails = self.book.fails();
         let kept = self.link.keep(LinkRecord::Bound { port, ok: !fails });
         self.note(fails, kept)
     }
 
     fn unbind(&mut self, port: u16) -> Result<(), Failed>
-        ensures told { Added self.old.link.told self.new.link.told (Unbind port (is_ok result) ∷ []) }
-        ensures cause { HasCause self.old.calls.faults self.new.calls.faults result }
+        ensures told { Called (calls_in self.old.link self.old.counts) (calls_in self.new.link self.new.counts) (Unbind port (is_ok result) ∷ []) }
+        ensures cause { HasCause self.old.faults self.new.faults result }
         ensures fails { FailsAsAsked self.old self.new result }
         ensures left { self.new.link.left ≡ self.old.link.left }
     {
+        raise(&mut self.counts.unbinds);
         let fails = self.book.fails();
         let kept = self.link.keep(LinkRecord::Unbound { port, ok: !fails });
         self.note(fails, kept)
     }
 
     fn receive(&mut self, pad: &mut Pad) -> Result<Receipt, Failed>
-        ensures told { Added self.old.link.told self.new.link.told (Receive (received result pad.new) ∷ []) }
-        ensures cause { HasCause self.old.calls.faults self.new.calls.faults result }
+        ensures told { Called (calls_in self.old.link self.old.counts) (calls_in self.new.link self.new.counts) (Receive (received result pad.new) ∷ []) }
+        ensures cause { HasCause self.old.faults self.new.faults result }
         ensures fails { FailsAsAsked self.old self.new result }
         ensures gives { OnOk result (received result pad.new ≡ next_of self.old.link.left) }
         ensures left { OnOk result (self.new.link.left ≡ drop 1 self.old.link.left) }
         ensures stays { IsTrue (fails_next self.old.calls) → (self.new.link.left ≡ self.old.link.left) × (pad.new ≡ pad.old) }
     {
+        raise(&mut self.counts.receives);
         if self.book.fails() {
             let kept = self.link.keep(LinkRecord::Failing);
             return self.gave(true, kept, Receipt::Nothing);
@@ -290,14 +300,21 @@ impl Link for MemLink {
     }
 
     fn send(&mut self, port: u16, to: Address, part: &[u8]) -> Result<(), Failed>
-        ensures told { Added self.old.link.told self.new.link.told (Send port to part.now (is_ok result) ∷ []) }
-        ensures cause { HasCause self.old.calls.faults self.new.calls.faults result }
+        ensures told { Called (calls_in self.old.link self.old.counts) (calls_in self.new.link self.new.counts) (Send port to part.now (is_ok result) ∷ []) }
+        ensures same { self.new.faults ≡ self.old.faults }
         ensures fails { FailsAsAsked self.old self.new result }
         ensures left { self.new.link.left ≡ self.old.link.left }
     {
+        raise(&mut self.counts.sends);
         let fails = self.book.fails();
         let kept = self.link.keep_sent(port, to, part, !fails);
-        self.note(fails, kept)
+        let failed = fails || !kept;
+        self.book.note(failed);
+        if failed {
+            raise(&mut self.counts.unsent);
+            return Err(Failed);
+        }
+        Ok(())
     }
 }
 
@@ -306,71 +323,77 @@ impl Link for MemLink {
 #[derive(Drop)]
 pub struct SureLink {
     link: LinkBook,
+    counts: CallCounts,
 }
 
 impl Model for SureLink {
-    ghost use Rattle.sg_edge.specs.LinksInMemory.{LinkInMemory};
+    ghost use Rattle.sg_edge.specs.LinksInMemory.{CountingLink};
 
-    ghost Value = { LinkInMemory };
+    ghost Value = { CountingLink };
 
-    ghost view = { λ l. l.link };
+    ghost view = { λ l. record { link = l.link; counts = l.counts } };
 }
 
 impl SureLink {
     /// A link to which these datagrams are to come, None where nothing comes.
     pub fn make(alloc: Global, receipts: Vec<Option<(u16, Address, Octets)>>) -> SureLink
-        ensures left { result.left ≡ receipts.items }
-        ensures told { result.told ≡ Some [] }
+        ensures left { result.link.left ≡ receipts.items }
+        ensures told { result.link.told ≡ Some [] }
     {
         SureLink {
             link: LinkBook::new(alloc, receipts),
+            counts: CallCounts::new(),
         }
     }
 }
 
 impl Link for SureLink {
-    ghost told = { λ l. l.told };
+    ghost told = { λ l. calls_in l.link l.counts };
 
     ghost faults = { λ _. 0 };
 
     fn bind(&mut self, port: u16) -> Result<(), Failed>
-        ensures told { Added self.old.told self.new.told (Bind port (is_ok result) ∷ []) }
+        ensures told { Called (calls_in self.old.link self.old.counts) (calls_in self.new.link self.new.counts) (Bind port (is_ok result) ∷ []) }
         ensures cause { HasCause 0 0 result }
         ensures sure { IsOk result }
-        ensures left { self.new.left ≡ self.old.left }
+        ensures left { self.new.link.left ≡ self.old.link.left }
     {
+        raise(&mut self.counts.binds);
         let _kept = self.link.keep(LinkRecord::Bound { port, ok: true });
         Ok(())
     }
 
     fn unbind(&mut self, port: u16) -> Result<(), Failed>
-        ensures told { Added self.old.told self.new.told (Unbind port (is_ok result) ∷ []) }
+        ensures told { Called (calls_in self.old.link self.old.counts) (calls_in self.new.link self.new.counts) (Unbind port (is_ok result) ∷ []) }
         ensures cause { HasCause 0 0 result }
         ensures sure { IsOk result }
-        ensures left { self.new.left ≡ self.old.left }
+        ensures left { self.new.link.left ≡ self.old.link.left }
     {
+        raise(&mut self.counts.unbinds);
         let _kept = self.link.keep(LinkRecord::Unbound { port, ok: true });
         Ok(())
     }
 
     fn receive(&mut self, pad: &mut Pad) -> Result<Receipt, Failed>
-        ensures told { Added self.old.told self.new.told (Receive (received result pad.new) ∷ []) }
+        ensures told { Called (calls_in self.old.link self.old.counts) (calls_in self.new.link self.new.counts) (Receive (received result pad.new) ∷ []) }
         ensures cause { HasCause 0 0 result }
         ensures sure { IsOk result }
-        ensures gives { received result pad.new ≡ next_of self.old.left }
-        ensures left { self.new.left ≡ drop 1 self.old.left }
+        ensures gives { received result pad.new ≡ next_of self.old.link.left }
+        ensures left { self.new.link.left ≡ drop 1 self.old.link.left }
     {
+        raise(&mut self.counts.receives);
         let receipt = self.link.next(pad);
         let _kept = self.link.keep_receipt(receipt, pad.octets());
         Ok(receipt)
     }
 
     fn send(&mut self, port: u16, to: Address, part: &[u8]) -> Result<(), Failed>
-        ensures told { Added self.old.told self.new.told (Send port to part.now (is_ok result) ∷ []) }
-        ensures cause { HasCause 0 0 result }
+        ensures told { Called (calls_in self.old.link self.old.counts) (calls_in self.new.link self.new.counts) (Send port to part.now (is_ok result) ∷ []) }
+        ensures same { ◌≡◌ {A = ℕ} 0 0 }
         ensures sure { IsOk result }
-        ensures left { self.new.left ≡ self.old.left }
+        ensures left { self.new.link.left ≡ self.old.link.left }
     {
+        raise(&mut self.counts.sends);
         let _kept = self.link.keep_sent(port, to, part, true);
         Ok(())
     }

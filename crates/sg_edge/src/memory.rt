@@ -3,8 +3,8 @@
 ghost use Rattle.std.specs.Prelude.{◌≡◌, ◌⊎◌, ◌+◌, ◌<◌, ◌≤◌, ◌≢◌, ℕ, Bool, true, false, List, ◌++◌, Option, Some, None, length, take, drop, IfOk, IsErr, IsOk, OnErr, IsTrue, IsNone, IsSome, [], min};
 ghost use Rattle.std.specs.Result.{is_err};
 ghost use Rattle.std.specs.Option.{option_copied, option_map};
-ghost use Rattle.sg_edge.specs.Told.{AtEnd, HasCause, Rose, Tells, TookIn, Wrote, counted, taken};
-ghost use Rattle.sg_edge.specs.Memory.{after_call, fails_next, left_after, no_calls, passed};
+ghost use Rattle.sg_edge.specs.Told.{AtEnd, HasCause, Rose, RoseBy, Tells, TookIn, Wrote, taken};
+ghost use Rattle.sg_edge.specs.Memory.{after_call, fails_next, left_after, left_in, no_calls, passed, taken_in};
 
 use crate::{Sink, Source};
 use sg_base::{Failed, Octets};
@@ -132,9 +132,7 @@ pub(crate) fn copy_prefix(octets: &[u8], at: usize, count: usize, part: &mut [u8
 }
 
 impl Source for MemSource {
-    ghost left = { λ s. Some s.left };
-
-    ghost given = { λ s. s.given };
+    ghost left = { λ s. left_in s };
 
     ghost faults = { λ s. s.calls.faults };
 
@@ -142,9 +140,8 @@ impl Source for MemSource {
 
     fn read(&mut self, part: &mut [u8]) -> Result<usize, Failed>
         ensures within { IfOk result (λ n. n ≤ length part.old) }
-        ensures ended { IfOk result (λ n. 0 < length part.old → n ≡ 0 → AtEnd (Some self.new.left)) }
-        ensures took { TookIn (Some self.old.left) (Some self.new.left) (taken result part.new) }
-        ensures counts { self.new.given ≡ counted self.old.given result }
+        ensures ended { IfOk result (λ n. 0 < length part.old → n ≡ 0 → AtEnd (left_in self.new)) }
+        ensures took { TookIn (left_in self.old) (left_in self.new) (taken result part.new) }
         ensures cause { HasCause self.old.calls.faults self.new.calls.faults result }
         ensures told { Tells (Some self.new.calls.failed) (is_err result) }
         ensures fails { is_err result ≡ fails_next self.old.calls }
@@ -172,6 +169,7 @@ impl Source for MemSource {
 pub struct MemSink {
     octets: Vec<u8>,
     tells: bool,
+    count: u64,
     book: CallBook,
 }
 
@@ -181,13 +179,14 @@ impl Model for MemSink {
 
     ghost Value = { SinkInMemory };
 
-    ghost view = { λ s. record { written = if s.tells then Some s.octets.items else None; calls = s.book } };
+    ghost view = { λ s. record { written = if s.tells then Some s.octets.items else None; count = s.count; calls = s.book } };
 }
 
 impl MemSink {
     /// A sink that has taken nothing; the calls with these numbers fail.
     pub fn make(alloc: Global, fails: Vec<u64>) -> MemSink
         ensures written { result.written ≡ Some [] }
+        ensures count { result.count ≡ 0 }
         ensures calls { result.calls ≡ no_calls usize.MAX fails.items }
     {
         MemSink::limited(alloc, usize::MAX, fails)
@@ -197,11 +196,13 @@ impl MemSink {
     pub fn limited(alloc: Global, most: usize, fails: Vec<u64>) -> MemSink
         requires { 0 < most }
         ensures written { result.written ≡ Some [] }
+        ensures count { result.count ≡ 0 }
         ensures calls { result.calls ≡ no_calls most fails.items }
     {
         MemSink {
             octets: Vec::new(alloc),
             tells: true,
+            count: 0,
             book: CallBook::new(most, fails),
         }
     }
@@ -217,22 +218,25 @@ impl MemSink {
         }
     }
 
-    /// Adds octets to the record; answers false where no memory is found for them.
+    /// Adds octets to the record, and counts them; answers false where no memory is found for them.
     fn keep(&mut self, octets: &[u8]) -> bool
         ensures kept { IsTrue result → self.new.written ≡ option_map (λ l. l ++ octets.now) self.old.written }
         ensures lost { result ≡ false → (self.new.written ≡ None) × IsSome self.old.written }
+        ensures counted { IsTrue result → RoseBy self.old.count self.new.count (length octets.now) }
+        ensures uncounted { result ≡ false → self.new.count ≡ self.old.count }
         ensures calls { self.new.calls ≡ self.old.calls }
     {
         if self.tells && self.octets.extend_from_slice(octets).is_err() {
             self.tells = false;
             return false;
         }
+        self.count = self.count.saturating_add(octets.len() as u64);
         true
     }
 }
 
 impl Sink for MemSink {
-    ghost written = { λ s. s.written };
+    ghost written = { λ s. taken_in s };
 
     ghost faults = { λ s. s.calls.faults };
 
@@ -241,7 +245,7 @@ impl Sink for MemSink {
     fn write(&mut self, part: &[u8]) -> Result<usize, Failed>
         ensures within { IfOk result (λ n. n ≤ length part.now) }
         ensures some { IfOk result (λ n. 0 < length part.now → 0 < n) }
-        ensures wrote { Wrote self.old.written self.new.written (taken result part.now) }
+        ensures wrote { Wrote (taken_in self.old) (taken_in self.new) (taken result part.now) }
         ensures cause { HasCause self.old.calls.faults self.new.calls.faults result }
         ensures told { Tells (Some self.new.calls.failed) (is_err result) }
         ensures fails { IsTrue (fails_next self.old.calls) → IsErr result × (self.new.written ≡ self.old.written) }
@@ -265,7 +269,7 @@ impl Sink for MemSink {
 
     /// It holds nothing, and this is no call that can fail.
     fn flush(&mut self) -> Result<(), Failed>
-        ensures kept { self.new.written ≡ self.old.written }
+        ensures kept { taken_in self.new ≡ taken_in self.old }
         ensures cause { HasCause self.old.calls.faults self.new.calls.faults result }
         ensures told { OnErr result (Tells (Some self.new.calls.failed) true) }
         ensures same { IsOk result × (self.new ≡ self.old) }

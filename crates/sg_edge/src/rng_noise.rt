@@ -3,7 +3,7 @@
 ghost use Rattle.std.specs.Prelude.{◌≡◌, OnOk, None};
 ghost use Rattle.std.specs.Result.{is_err};
 ghost use Rattle.sg_edge.specs.Links.{Added, drawn};
-ghost use Rattle.sg_edge.specs.Told.{HasCause, Tells};
+ghost use Rattle.sg_edge.specs.Told.{HasCause, Tells, untold};
 
 use crate::noise::Noise;
 use rand_core::TryRng;
@@ -15,6 +15,7 @@ use std::random::RandomSource;
 #[derive(Drop)]
 pub struct RngNoise<G: TryRng + Drop> {
     pub rng: G,
+    count: u64,
     faults: u64,
 }
 
@@ -23,27 +24,34 @@ impl<G: TryRng + Drop> RngNoise<G> {
     pub fn make(rng: G) -> RngNoise<G>
         ensures { result.rng ≡ rng }
     {
-        RngNoise { rng, faults: 0 }
+        RngNoise {
+            rng,
+            count: 0,
+            faults: 0,
+        }
     }
 }
 
 impl<G: TryRng + Drop> Noise for RngNoise<G> {
     ghost use Rattle.std.specs.Prelude.{None};
 
-    ghost given = { λ _. None };
+    ghost given = { λ n. untold n.count };
 
     ghost faults = { λ n. n.faults };
 
     ghost failed = { λ _. None };
 
     fn draw(&mut self, part: &mut [u8]) -> Result<(), Failed>
-        ensures gave { Added None None (drawn result part.new) }
+        ensures gave { Added (untold self.old.count) (untold self.new.count) (drawn result part.new) }
         ensures cause { HasCause self.old.faults self.new.faults result }
         ensures told { Tells None (is_err result) }
         ensures passes { OnOk result (G.may_fill self.old.rng part.new self.new.rng) }
     {
         match self.rng.try_fill_bytes(part) {
-            Ok(()) => Ok(()),
+            Ok(()) => {
+                self.count = self.count.saturating_add(part.len() as u64);
+                Ok(())
+            }
             Err(_) => {
                 self.faults = self.faults.saturating_add(1);
                 Err(Failed)

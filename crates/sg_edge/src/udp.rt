@@ -2,11 +2,11 @@
 
 ghost use Rattle.std.specs.Prelude.{◌≡◌, ◌≤◌, ◌∷◌, [], ◌++◌, ℕ, List, None, length, IfNone, IfOk, IfSome, IsSome, OnErr, OnOk, OnSome};
 ghost use Rattle.std.specs.Result.{is_ok};
-ghost use Rattle.sg_edge.specs.Links.{Added, Bind, LinkCall, Receive, Send, Unbind, received};
+ghost use Rattle.sg_edge.specs.Links.{Bind, Called, Receive, Send, Unbind, received};
 ghost use Rattle.sg_edge.specs.Ports.{AreAsked, AreSame, AreSameBut, IsAsked, IsTaken, socket_at, without};
 ghost use Rattle.sg_edge.specs.Told.{HasCause, Rose};
 
-use crate::link::{Link, Receipt};
+use crate::link::{CallCounts, Link, Receipt, raise};
 use crate::pace::Pace;
 use crate::ports::Ports;
 use crate::standard::is_passing;
@@ -55,6 +55,7 @@ pub struct UdpLink<R: Net + Clock + Drop> {
     given: u32,
     pace: Pace,
     part: [u8; PAD_MOST],
+    counts: CallCounts,
     faults: u64,
 }
 
@@ -123,6 +124,7 @@ impl<R: Net + Clock + Drop> UdpLink<R> {
             given: 0,
             pace: Pace::new(),
             part: [0; PAD_MOST],
+            counts: CallCounts::new(),
             faults: 0,
         }
     }
@@ -130,6 +132,7 @@ impl<R: Net + Clock + Drop> UdpLink<R> {
     fn fail(&mut self) -> Failed
         ensures later { self.old.faults ≤ self.new.faults }
         ensures rose { Rose self.old.faults self.new.faults }
+        ensures counts { self.new.counts ≡ self.old.counts }
         ensures ports { self.new.ports ≡ self.old.ports }
     {
         self.faults = self.faults.saturating_add(1);
@@ -139,6 +142,7 @@ impl<R: Net + Clock + Drop> UdpLink<R> {
     /// Has the system tell of the sockets from now on.
     fn begin(&mut self) -> Option<()>
         ensures faults { self.new.faults ≡ self.old.faults }
+        ensures counts { self.new.counts ≡ self.old.counts }
         ensures ports { self.new.ports ≡ self.old.ports }
     {
         if self.watch.is_none() {
@@ -150,6 +154,7 @@ impl<R: Net + Clock + Drop> UdpLink<R> {
     /// A socket at the port, which the system watches.
     fn open(&mut self, port: u16) -> Option<()>
         ensures faults { self.new.faults ≡ self.old.faults }
+        ensures counts { self.new.counts ≡ self.old.counts }
         ensures bound { OnSome result (IsSome (socket_at self.new.ports.bound port)) }
         ensures none { IfNone result (AreSame self.old.ports.bound self.new.ports.bound) }
         ensures others { AreSameBut port self.old.ports.bound self.new.ports.bound }
@@ -174,6 +179,7 @@ impl<R: Net + Clock + Drop> UdpLink<R> {
     /// Asks the system which sockets have a datagram; these wait behind the others.
     fn look(&mut self, wait: Duration) -> Option<()>
         ensures faults { self.new.faults ≡ self.old.faults }
+        ensures counts { self.new.counts ≡ self.old.counts }
         ensures bound { AreSame self.old.ports.bound self.new.ports.bound }
         ensures behind { (more : List ℕ) × (self.new.ports.waiting.items ≡ self.old.ports.waiting.items ++ more) }
         ensures row { self.new.ports.row ≡ self.old.ports.row }
@@ -194,6 +200,7 @@ impl<R: Net + Clock + Drop> UdpLink<R> {
     #[tactic(auto, using(crate::proofs::Waiting::none_behind))]
     fn look_between(&mut self) -> Option<()>
         ensures faults { self.new.faults ≡ self.old.faults }
+        ensures counts { self.new.counts ≡ self.old.counts }
         ensures bound { AreSame self.old.ports.bound self.new.ports.bound }
         ensures behind { (more : List ℕ) × (self.new.ports.waiting.items ≡ self.old.ports.waiting.items ++ more) }
         ensures row { self.new.ports.row ≡ self.old.ports.row }
@@ -207,6 +214,7 @@ impl<R: Net + Clock + Drop> UdpLink<R> {
     /// Nothing waits: rests where many datagrams come, so that those of a rest are taken at one waking.
     fn rest(&mut self)
         ensures faults { self.new.faults ≡ self.old.faults }
+        ensures counts { self.new.counts ≡ self.old.counts }
         ensures ports { self.new.ports ≡ self.old.ports }
     {
         let rest = self.pace.rest(&self.net);
@@ -218,6 +226,7 @@ impl<R: Net + Clock + Drop> UdpLink<R> {
     /// Asks the socket whose turn it is: the datagram, or that it has none.
     fn ask(&mut self, pad: &mut Pad) -> Result<Receipt, Failed>
         ensures cause { HasCause self.old.faults self.new.faults result }
+        ensures counts { self.new.counts ≡ self.old.counts }
         ensures bound { AreSame self.old.ports.bound self.new.ports.bound }
         ensures asked { IsAsked result self.old.ports.row self.old.ports.waiting.items self.new.ports.row self.new.ports.waiting.items }
     {
@@ -250,6 +259,7 @@ impl<R: Net + Clock + Drop> UdpLink<R> {
     /// Asks each socket that may have a datagram once, up to the first that has one.
     fn ask_all(&mut self, pad: &mut Pad) -> Result<Receipt, Failed>
         ensures cause { HasCause self.old.faults self.new.faults result }
+        ensures counts { self.new.counts ≡ self.old.counts }
         ensures bound { AreSame self.old.ports.bound self.new.ports.bound }
         ensures asked { AreAsked result self.old.ports.row self.old.ports.waiting.items self.new.ports.row self.new.ports.waiting.items }
     {
@@ -265,12 +275,12 @@ impl<R: Net + Clock + Drop> UdpLink<R> {
 }
 
 impl<R: Net + Clock + Drop> Link for UdpLink<R> {
-    ghost told = { λ _. None };
+    ghost told = { λ l. record { told = None; counts = l.counts } };
 
     ghost faults = { λ l. l.faults };
 
     fn bind(&mut self, port: u16) -> Result<(), Failed>
-        ensures told { Added {X = LinkCall} None None (Bind port (is_ok result) ∷ []) }
+        ensures told { Called (record { told = None; counts = self.old.counts }) (record { told = None; counts = self.new.counts }) (Bind port (is_ok result) ∷ []) }
         ensures cause { HasCause self.old.faults self.new.faults result }
         ensures bound { OnOk result (IsSome (socket_at self.new.ports.bound port)) }
         ensures err { OnErr result (AreSame self.old.ports.bound self.new.ports.bound) }
@@ -278,6 +288,7 @@ impl<R: Net + Clock + Drop> Link for UdpLink<R> {
         ensures waiting { self.new.ports.waiting.items ≡ self.old.ports.waiting.items }
         ensures row { self.new.ports.row ≡ self.old.ports.row }
     {
+        raise(&mut self.counts.binds);
         match self.open(port) {
             Some(()) => Ok(()),
             None => Err(self.fail()),
@@ -285,23 +296,25 @@ impl<R: Net + Clock + Drop> Link for UdpLink<R> {
     }
 
     fn unbind(&mut self, port: u16) -> Result<(), Failed>
-        ensures told { Added {X = LinkCall} None None (Unbind port (is_ok result) ∷ []) }
+        ensures told { Called (record { told = None; counts = self.old.counts }) (record { told = None; counts = self.new.counts }) (Unbind port (is_ok result) ∷ []) }
         ensures cause { HasCause self.old.faults self.new.faults result }
         ensures gone { socket_at self.new.ports.bound port ≡ None }
         ensures others { AreSameBut port self.old.ports.bound self.new.ports.bound }
         ensures waiting { self.new.ports.waiting.items ≡ without port self.old.ports.waiting.items }
         ensures row { self.new.ports.row ≡ self.old.ports.row }
     {
+        raise(&mut self.counts.unbinds);
         self.ports.remove(port);
         Ok(())
     }
 
     fn receive(&mut self, pad: &mut Pad) -> Result<Receipt, Failed>
-        ensures told { Added {X = LinkCall} None None (Receive (received result pad.new) ∷ []) }
+        ensures told { Called (record { told = None; counts = self.old.counts }) (record { told = None; counts = self.new.counts }) (Receive (received result pad.new) ∷ []) }
         ensures cause { HasCause self.old.faults self.new.faults result }
         ensures bound { AreSame self.old.ports.bound self.new.ports.bound }
         ensures taken { IsTaken result self.old.ports.row self.old.ports.waiting.items self.new.ports.row self.new.ports.waiting.items }
     {
+        raise(&mut self.counts.receives);
         if self.look_between().is_none() {
             return Err(self.fail());
         }
@@ -318,10 +331,11 @@ impl<R: Net + Clock + Drop> Link for UdpLink<R> {
     }
 
     fn send(&mut self, port: u16, to: Address, part: &[u8]) -> Result<(), Failed>
-        ensures told { Added {X = LinkCall} None None (Send port to part.now (is_ok result) ∷ []) }
-        ensures cause { HasCause self.old.faults self.new.faults result }
+        ensures told { Called (record { told = None; counts = self.old.counts }) (record { told = None; counts = self.new.counts }) (Send port to part.now (is_ok result) ∷ []) }
+        ensures same { self.new.faults ≡ self.old.faults }
         ensures ports { self.new.ports ≡ self.old.ports }
     {
+        raise(&mut self.counts.sends);
         let [a, b, c, d] = to.ip;
         let to = SocketAddr::V4(SocketAddrV4::new(Ipv4Addr::new(a, b, c, d), to.port));
         if let Some(socket) = self.ports.socket(port) {
@@ -329,6 +343,7 @@ impl<R: Net + Clock + Drop> Link for UdpLink<R> {
                 return Ok(());
             }
         }
-        Err(self.fail())
+        raise(&mut self.counts.unsent);
+        Err(Failed)
     }
 }

@@ -1,5 +1,5 @@
 -- A migration as the loop has it, line by line.
-use Rattle.std.proofs.Common.{◌≡◌, ℕ, List, [], ◌∷◌, ◌++◌, Option, Result, Ok, Err, refl, sym, ap, ◌∙◌, subst, append_assoc, arith}
+use Rattle.std.proofs.Common.{◌≡◌, ℕ, List, [], ◌∷◌, ◌++◌, Result, Ok, Err, refl, sym, ap, ◌∙◌, subst, append_assoc, arith}
 use Rattle.std.proofs.lemmas.List.{append-nil}
 use Rattle.sg_base.specs.declared.faults.ScriptFault.{ScriptFault}
 use Rattle.sg_base.specs.declared.faults.ScriptFault.TheVariants.{Unended}
@@ -15,6 +15,7 @@ use Rattle.sg_trace.specs.Output.{IsPrefixOf, IsWritten}
 use Rattle.sg_trace.specs.Reading.{IsFramed}
 use Rattle.sg_trace.specs.declared.status.Status.{Status}
 use Rattle.sg_trace.specs.declared.status.Status.TheVariants.{Write, NoMemory}
+use Rattle.sg_edge.specs.Told.{Tally}
 
 -- what is told of a line without its end, or of one that is too long, is told of it in version 1 too
 unended_so : (r : Result Line ScriptFault) → of_version_one r ≡ Err Unended → r ≡ Err Unended
@@ -62,7 +63,7 @@ module _ (moment : ℕ) (l : LineOfVersionOne) where
   }
 
   -- or a part of it is
-  pub line_cut : (status : Status) (a b : Option (List ℕ)) (out : List ℕ) → IsWritten (Err status) a b text → IsPrefixOf out text → IsPlayed (Err status) effects (of_migration.gives l) 1 moment [] [] (λ m. m ≡ moment_after moment l.line) [] out
+  pub line_cut : (status : Status) (a b : Tally) (out : List ℕ) → IsWritten (Err status) a b text → IsPrefixOf out text → IsPlayed (Err status) effects (of_migration.gives l) 1 moment [] [] (λ m. m ≡ moment_after moment l.line) [] out
   line_cut status a b out written part = go status written
     where
       short : IsCutShort effects (of_migration.gives l) 1 moment [] [] out
@@ -74,5 +75,5 @@ module _ (moment : ℕ) (l : LineOfVersionOne) where
       go other written = absurd written
 
 -- and what writes a line doesn't tell that the source failed, or the noise
-pub written_not : (status other : Status) (a b : Option (List ℕ)) (octets : List ℕ) → (IsWritten (Err other) a b octets → ⊥) → IsWritten (Err status) a b octets → status ≡ other → ⊥
+pub written_not : (status other : Status) (a b : Tally) (octets : List ℕ) → (IsWritten (Err other) a b octets → ⊥) → IsWritten (Err status) a b octets → status ≡ other → ⊥
 written_not status other a b octets never written is = never (subst (λ s. IsWritten (Err s) a b octets) is written)

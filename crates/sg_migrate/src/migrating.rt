@@ -23,7 +23,7 @@ pub fn migrate<S: Source, K: Sink>(alloc: Global, source: &mut S, sink: &mut K) 
         (record { left = S.left source.old; written = K.written sink.old })
         (record { left = S.left source.new; written = K.written sink.new })
         octets out }
-    ensures given { S.given source.new ≤ S.given source.old + (2 ^ 30 + 1) }
+    ensures given { (S.left source.new).count ≤ (S.left source.old).count + (2 ^ 30 + 1) }
     ensures read { HasFailed (result ≡ Status.Read) (S.faults source.old) (S.faults source.new) (S.failed source.new) }
     ensures write { HasFailed (result ≡ Status.Write) (K.faults sink.old) (K.faults sink.new) (K.failed sink.new) }
     ensures complete { ¬ Rose (S.faults source.old) (S.faults source.new) → ¬ Rose (K.faults sink.old) (K.faults sink.new)
@@ -40,7 +40,7 @@ fn write_script<S: Source, K: Sink>(alloc: Global, source: &mut S, sink: &mut K)
         (record { left = S.left source.old; written = K.written sink.old })
         (record { left = S.left source.new; written = K.written sink.new })
         octets out }
-    ensures given { S.given source.new ≤ S.given source.old + (2 ^ 30 + 1) }
+    ensures given { (S.left source.new).count ≤ (S.left source.old).count + (2 ^ 30 + 1) }
     ensures read { HasFailed (result ≡ Status.Read) (S.faults source.old) (S.faults source.new) (S.failed source.new) }
     ensures write { HasFailed (result ≡ Status.Write) (K.faults sink.old) (K.faults sink.new) (K.failed sink.new) }
 {

@@ -1,12 +1,12 @@
 -- What playing a line leaves, from what its parts leave.
-use Rattle.std.proofs.Common.{◌≡◌, ◌⊎◌, ◌<◌, ℕ, true, false, List, [], ◌∷◌, ◌++◌, length, map, Option, Result, Ok, Err, IfErr, OnOk, arith, refl, sym, ap, ◌∙◌, subst, inl, inr, append_assoc}
+use Rattle.std.proofs.Common.{◌≡◌, ◌⊎◌, ◌<◌, ℕ, true, false, List, [], ◌∷◌, ◌++◌, length, map, Result, Ok, Err, IfErr, OnOk, arith, refl, sym, ap, ◌∙◌, subst, inl, inr, append_assoc}
 use Rattle.std.proofs.lemmas.List.{append-nil}
 use Rattle.sg_trace.specs.Trace.{Later, drawing, handled, handled_as, with_events}
 use Rattle.sg_trace.specs.Output.{IsPrefixOf, IsWritten}
 use Rattle.sg_trace.specs.Supplying.{IsSupplied}
 use Rattle.sg_trace.specs.declared.status.Status.{Status}
 use Rattle.sg_trace.specs.declared.status.Status.TheVariants.{Done, Usage, Script, Read, Write, Link, NoMemory, Clock, Noise, TurnsSpent, Capture}
-use Rattle.sg_edge.specs.Told.{Wrote}
+use Rattle.sg_edge.specs.Told.{Tally, Wrote}
 use Rattle.sg_front.proofs.Sequences.{state_after-append}
 use Rattle.sg_front.specs.States.{State, state_after}
 use Rattle.sg_gateway.specs.Events.{events_of}
@@ -36,7 +36,7 @@ prefix_behind state es fs prefix is = (
 -- ---- what was stepped
 
 -- what was written of the events' text, as what they tell
-pub stepped : (r : Result (Unit {0}) Status) (state : State) (events : List Event) (stands_for : State → Type 0) (a b : Option (List ℕ)) (octets : List ℕ) → IsWritten r a b octets → octets ≡ text_from state events
+pub stepped : (r : Result (Unit {0}) Status) (state : State) (events : List Event) (stands_for : State → Type 0) (a b : Tally) (octets : List ℕ) → IsWritten r a b octets → octets ≡ text_from state events
     → stands_for (state_after state events) → (out : List ℕ) × Wrote a b out × IsStepped r state events stands_for out
 stepped (Ok u) state events stands_for a b octets wrote is stands = (octets, wrote, (is, stands))
 stepped (Err Write) state events stands_for a b octets wrote is stands = (wrote.0, wrote.2, subst (IsPrefixOf wrote.0) is wrote.1)
@@ -174,7 +174,7 @@ pub memory_only : (r : Result (Unit {0}) Status) → IfErr r (λ status. status 
 memory_only (Ok u) only = tt
 memory_only (Err status) only = inr only
 
-pub written_only : (r : Result (Unit {0}) Status) (a b : Option (List ℕ)) (octets : List ℕ) → IsWritten r a b octets → IfErr r (λ status. IsWant status)
+pub written_only : (r : Result (Unit {0}) Status) (a b : Tally) (octets : List ℕ) → IsWritten r a b octets → IfErr r (λ status. IsWant status)
 written_only (Ok u) a b octets wrote = tt
 written_only (Err Write) a b octets wrote = inl refl
 written_only (Err NoMemory) a b octets wrote = inr refl

@@ -17,6 +17,7 @@ use Rattle.sg_trace.specs.Output.{IsPrefixOf, text}
 use Rattle.sg_trace.specs.Trace.{AtEnd as BehindAll, AtFault, Later, Replays, Stop, Trace, after_line, drawing, handled_as, line_at, replayed, trace_from, with_events}
 use Rattle.sg_trace.specs.declared.status.Status.{Status}
 use Rattle.sg_trace.specs.declared.status.Status.TheVariants.{Done, Script, Read, Write, NoMemory, Noise}
+use Rattle.sg_edge.specs.Told.{Tally}
 
 -- ---- courses
 
@@ -75,7 +76,7 @@ module _ (muxes : Bool) where
     within = subst (IsPrefixOf out) (output_so (cut.told ++ cut.late)) cut.within;
   }
 
-  pub ends_so : (status : Status) (octets draws out : List ℕ) (left : Option (List ℕ)) → LoopEnds of_replay (text_from (start muxes)) 258 status octets draws out left → ReplayEnds muxes status octets draws out left
+  pub ends_so : (status : Status) (octets draws out : List ℕ) (left : Tally) → LoopEnds of_replay (text_from (start muxes)) 258 status octets draws out left → ReplayEnds muxes status octets draws out left
   ends_so Done octets draws out left ends = (whole_so octets draws out BehindAll ends.0, ends.1)
   ends_so (Script n fault) octets draws out left ends = (
     whole_so octets draws out (AtFault n fault) ends.0,

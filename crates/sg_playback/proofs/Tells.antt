@@ -1,5 +1,5 @@
 -- The texts of what is told, one by one.
-use Rattle.std.proofs.Common.{◌≡◌, ◌<◌, ◌+◌, ℕ, List, [], ◌∷◌, ◌++◌, length, take, drop, get_or, Option, Err, refl, sym, ◌∙◌, subst}
+use Rattle.std.proofs.Common.{◌≡◌, ◌<◌, ◌+◌, ℕ, List, [], ◌∷◌, ◌++◌, length, take, drop, get_or, Err, refl, sym, ◌∙◌, subst}
 use Rattle.std.specs.List.{flat_map}
 use Rattle.std.proofs.lemmas.Grind.{flat_map-append}
 use Rattle.std.proofs.lemmas.List.{append-nil}
@@ -7,13 +7,13 @@ use Rattle.sg_trace.proofs.Writings.{all_text, next_text, written_behind}
 use Rattle.sg_trace.specs.Output.{IsWritten, text}
 use Rattle.sg_trace.specs.declared.status.Status.{Status}
 use Rattle.sg_edge.proofs.Passed.{wrote_more}
-use Rattle.sg_edge.specs.Told.{Wrote}
+use Rattle.sg_edge.specs.Told.{Tally, Wrote}
 use Rattle.sg_outcome.specs.OutcomeText.{outcome_line}
 use Rattle.sg_table.specs.Batches.{told_by, told_of}
 use Rattle.sg_table.specs.declared.arrival.Arrival.{Arrival}
 
 -- what a list of parts writes, part by part
-module _ {A : Type 0} (text_of : A → List ℕ) (xs : List A) (i : ℕ) (x : A) (within : i < length xs) (is : x ≡ get_or xs i x) (a b c : Option (List ℕ))
+module _ {A : Type 0} (text_of : A → List ℕ) (xs : List A) (i : ℕ) (x : A) (within : i < length xs) (is : x ≡ get_or xs i x) (a b c : Tally)
     (wrote : Wrote a b (flat_map text_of (take i xs))) where
   pub more_written : Wrote b c (text_of x) → Wrote a c (flat_map text_of (take (i + 1) xs))
   more_written next = subst (Wrote a c) (sym (next_text text_of xs i x within is)) (wrote_more a b c (flat_map text_of (take i xs)) (text_of x) wrote next)

@@ -11,7 +11,7 @@ use Rattle.sg_trace.specs.Output.{IsPrefixOf, text}
 use Rattle.sg_trace.specs.declared.status.Status.{Status}
 use Rattle.sg_trace.specs.declared.status.Status.TheVariants.{Done, Script, Read, Write, NoMemory, Noise}
 use Rattle.sg_edge.specs.Links.{Added}
-use Rattle.sg_edge.specs.Told.{AtEnd, TookIn, Wrote}
+use Rattle.sg_edge.specs.Told.{AtEnd, Tally, TookIn, Wrote}
 use Rattle.sg_gateway.specs.Drawn.{Supplied, supplied}
 use Rattle.sg_gateway.specs.Events.{events_of}
 use Rattle.sg_gateway.specs.Step.{Event}
@@ -68,7 +68,7 @@ pub record IsCutReplay (muxes : Bool) (octets draws out : List ℕ) : Type 0 whe
 -- outside the grammar, with its first fault, whatever would come behind what was read; Unended comes only at the
 -- source's end. With Noise a draw comes next. Where the source failed, all whole lines that were read are told. Where the
 -- sink failed or memory is wanting, nothing before the batch under way is lost.
-abbrev pub ReplayEnds : Bool → Status → List ℕ → List ℕ → List ℕ → Option (List ℕ) → Type 0
+abbrev pub ReplayEnds : Bool → Status → List ℕ → List ℕ → List ℕ → Tally → Type 0
 ReplayEnds muxes Done octets draws out left = IsWholeReplay muxes octets draws out BehindAll × AtEnd left
 ReplayEnds muxes (Script n fault) octets draws out left =
     IsWholeReplay muxes octets draws out (AtFault n fault) × (fault ≡ Unended → AtEnd left)
@@ -81,9 +81,9 @@ ReplayEnds muxes other octets draws out left = ⊥
 
 -- what a source, a sink and a source of noise tell
 pub record ReplayTellings : Type 0 where
-  pub left : Option (List ℕ)
-  pub written : Option (List ℕ)
-  pub drawn : Option (List ℕ)
+  pub left : Tally
+  pub written : Tally
+  pub drawn : Tally
 
 -- The replay read these octets, of which there are at most 2^30 + 1, drew these, and wrote those.
 pub record IsReplay (muxes : Bool) (status : Status) (old new : ReplayTellings) (octets draws out : List ℕ) : Type 0 where
@@ -94,5 +94,5 @@ pub record IsReplay (muxes : Bool) (status : Status) (old new : ReplayTellings) 
   pub bound : length octets ≤ 2 ^ 30 + 1
 
 -- Where the source's octets are a script, the replay handles it to its end, or memory runs out.
-abbrev pub IsCompleteReplay : Status → Option (List ℕ) → Option (List ℕ) → Type 0
-IsCompleteReplay status left left' = (all rest : List ℕ) → left ≡ Some all → left' ≡ Some rest → IsScript all → (status ≡ Done) ⊎ (status ≡ NoMemory)
+abbrev pub IsCompleteReplay : Status → Tally → Tally → Type 0
+IsCompleteReplay status left left' = (all rest : List ℕ) → left.told ≡ Some all → left'.told ≡ Some rest → IsScript all → (status ≡ Done) ⊎ (status ≡ NoMemory)

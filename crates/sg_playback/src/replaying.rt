@@ -40,7 +40,7 @@ pub fn replay<R: Threads + Sync, S: Source, K: Sink, N: Noise, G: Gate + Sync>(
         (record { left = S.left source.old; written = K.written sink.old; drawn = N.given noise.old })
         (record { left = S.left source.new; written = K.written sink.new; drawn = N.given noise.new })
         octets draws out }
-    ensures given { S.given source.new ≤ S.given source.old + (2 ^ 30 + 1) }
+    ensures given { (S.left source.new).count ≤ (S.left source.old).count + (2 ^ 30 + 1) }
     ensures read { EndedBy (result ≡ Status.Read) (IsWant result) (S.faults source.old) (S.faults source.new) (S.failed source.new) }
     ensures write { HasFailed (result ≡ Status.Write) (K.faults sink.old) (K.faults sink.new) (K.failed sink.new) }
     ensures noise { HasFailed (result ≡ Status.Noise) (N.faults noise.old) (N.faults noise.new) (N.failed noise.new) }
@@ -71,7 +71,7 @@ fn play_script<R: Threads + Sync, S: Source, K: Sink, N: Noise, G: Gate + Sync>(
         × TookIn (S.left source.old) (S.left source.new) octets × Added (N.given noise.old) (N.given noise.new) draws
         × Wrote (K.written sink.old) (K.written sink.new) out × (length octets ≤ 2 ^ 30 + 1)
         × LoopEnds of_replay (text_from (start player.old.front.muxes)) 258 result octets draws out (S.left source.new) }
-    ensures given { S.given source.new ≤ S.given source.old + (2 ^ 30 + 1) }
+    ensures given { (S.left source.new).count ≤ (S.left source.old).count + (2 ^ 30 + 1) }
     ensures read { EndedBy (result ≡ Status.Read) (IsWant result) (S.faults source.old) (S.faults source.new) (S.failed source.new) }
     ensures write { HasFailed (result ≡ Status.Write) (K.faults sink.old) (K.faults sink.new) (K.failed sink.new) }
     ensures noise { HasFailed (result ≡ Status.Noise) (N.faults noise.old) (N.faults noise.new) (N.failed noise.new) }

@@ -29,9 +29,9 @@ written_only (Ok x) only = tt
 written_only (Err s) (inl is) = inl is
 written_only (Err s) (inr is) = inr (inr is)
 
-pub written_link : {T : Type 0} (r : Result T Status) (a b : ℕ) → IfErr r IsOfWriting → a ≤ b → IsDueToLink r a b
-written_link (Ok x) a b only before = before
-written_link (Err s) a b only before = record { later = before; rose = λ is. absurd (writing_not_link s only is) }
+pub written_link : {T : Type 0} (r : Result T Status) (a b : ℕ) → IfErr r IsOfWriting → b ≡ a → IsDueToLink r a b
+written_link (Ok x) a b only same = same
+written_link (Err s) a b only same = record { later = omega (arith, same); rose = λ is. absurd (writing_not_link s only is); told = λ is. tt; quiet = λ isnt. same }
 
 pub outcomes_not : (own : Status) → (Write ≡ own → ⊥) → (Link ≡ own → ⊥) → (NoMemory ≡ own → ⊥) → (s : Status) → IsOfOutcomes s → s ≡ own → ⊥
 outcomes_not own write link memory s (inl is) same = write (sym is ∙ same)

@@ -1,5 +1,5 @@
 -- How what was done for outcomes adds up.
-use Rattle.std.proofs.Common.{◌≡◌, ◌<◌, ◌+◌, Option, ℕ, zero, suc, arith, Bool, true, false, List, [], ◌∷◌, ◌++◌, length, map, take, get_or, Result, Ok, Err, refl, sym, ap, ap₂, ◌∙◌, subst, append_assoc, inl, inr}
+use Rattle.std.proofs.Common.{◌≡◌, ◌<◌, ◌+◌, ℕ, zero, suc, arith, Bool, true, false, List, [], ◌∷◌, ◌++◌, length, map, take, get_or, Result, Ok, Err, refl, sym, ap, ap₂, ◌∙◌, subst, append_assoc, inl, inr}
 use Rattle.std.specs.Prelude.{is_ok, IfErr, IsOk, ◌⊎◌}
 use Rattle.std.specs.List.{flat_map}
 use Rattle.std.proofs.lemmas.Bool.{false≢true}
@@ -11,7 +11,7 @@ use Rattle.sg_trace.specs.declared.status.Status.{Status}
 use Rattle.sg_trace.specs.declared.status.Status.TheVariants.{Done, Usage, Script, Read, Write, Link, NoMemory, Clock, Noise, TurnsSpent, Capture}
 use Rattle.sg_edge.specs.Links.{LinkCall, Received}
 use Rattle.sg_edge.specs.Links as links
-use Rattle.sg_edge.specs.Told.{Wrote}
+use Rattle.sg_edge.specs.Told.{Tally, Wrote}
 use Rattle.sg_front.specs.States.{State, state_after, told_from}
 use Rattle.sg_gateway.specs.Step.{Event}
 use Rattle.sg_outcome.specs.OutcomeText.{outcome_line}
@@ -239,7 +239,7 @@ stops_writing s o calls out (inl is) part good = subst (λ (x : Status). StopsWi
 stops_writing s o calls out (inr is) part good = subst (λ (x : Status). StopsWith x o calls out) (sym is) (part, good)
 
 -- what was written of a line, by how that went
-pub line_so : (r : Result (Unit {0}) Status) (a b : Option (List ℕ)) (line : List ℕ) → IsWritten r a b line
+pub line_so : (r : Result (Unit {0}) Status) (a b : Tally) (line : List ℕ) → IsWritten r a b line
     → (out : List ℕ) × Wrote a b out × IsPrefixOf out line × (IsOk r → out ≡ line) × IfErr r IsOfWriting
 line_so (Ok u) a b line wrote = (line, wrote, prefix_all line, (λ ok. refl), tt)
 line_so (Err Write) a b line prefix = (prefix.0, prefix.2, prefix.1, (λ ok. absurd (false≢true ok)), inl refl)

@@ -1,5 +1,5 @@
 -- What a relay asked its link for is a prefix of what the outcomes of some events ask for, and so are the ports that it holds.
-use Rattle.std.proofs.Common.{◌≡◌, inl, inr, ℕ, Bool, List, [], ◌∷◌, ◌++◌, length, Option, sym, ap, ◌∙◌, subst, append_assoc, length-append, arith}
+use Rattle.std.proofs.Common.{◌≡◌, inl, inr, ℕ, Bool, List, [], ◌∷◌, ◌++◌, length, sym, ap, ◌∙◌, subst, append_assoc, length-append, arith}
 use Rattle.std.proofs.lemmas.List.{append-nil}
 use Rattle.std.specs.List.{flat_map}
 use Rattle.sg_trace.specs.Output.{IsPrefixOf}
@@ -13,6 +13,7 @@ use Rattle.sg_relay.specs.Asked.{Ask, IsAtNext, IsCutOff, IsPart, ask_in, asks_i
 use Rattle.sg_relay.specs.Held.{AreOfCalls, EachFits, PortsAreOfCalls}
 use Rattle.sg_relay.specs.Relay.{RelayEnds, HoldsItsCallsPorts, IsRelay, IsWholeRelay, Passed, RelayTellings, events_by, trace_of, world_by}
 use Rattle.sg_relay.proofs.Deeds.{flat_append, prefix_after, prefix_all, prefix_longer}
+use Rattle.sg_edge.specs.Told.{Tally}
 
 -- the asks are a prefix of those that are told of some events
 abbrev IsPrefix : Bool → List Ask → Type 0
@@ -53,7 +54,7 @@ cut_prefix muxes es calls out cut = (
       (prefix_of cut.done cut.others cut.next cut.before cut.last cut.whole.asked cut.fails.asked)),
 )
 
-prefix : (muxes : Bool) (s : Status) (turns : ℕ) (p : Passed) (left : Option (List ℕ)) → RelayEnds muxes s turns p left → IsPrefix muxes (asks_in p.calls)
+prefix : (muxes : Bool) (s : Status) (turns : ℕ) (p : Passed) (left : Tally) → RelayEnds muxes s turns p left → IsPrefix muxes (asks_in p.calls)
 prefix muxes Done turns p left ends = whole_prefix muxes p _ ends.0
 prefix muxes (Script n fault) turns p left ends = whole_prefix muxes p _ ends.0
 prefix muxes TurnsSpent turns p left ends = whole_prefix muxes p _ ends.0

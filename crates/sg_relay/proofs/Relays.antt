@@ -9,8 +9,8 @@ use Rattle.sg_trace.specs.Reading.{IsFault, IsNext, IsRead, Reading}
 use Rattle.sg_trace.specs.declared.status.Status.{Status}
 use Rattle.sg_trace.specs.declared.status.Status.TheVariants.{Done, Usage, Script, Read, Write, Link, NoMemory, Clock, Noise, TurnsSpent, Capture}
 use Rattle.sg_edge.specs.Links.{Added, Failing, LinkCall, Receive, Received}
-use Rattle.sg_edge.specs.Told.{AtEnd, TookIn, Wrote}
-use Rattle.sg_edge.proofs.Links.{added_more}
+use Rattle.sg_edge.specs.Told.{AtEnd, Tally, TookIn, Wrote}
+use Rattle.sg_edge.proofs.Links.{added_more, called_more}
 use Rattle.sg_edge.proofs.Passed.{took_more, wrote_more}
 use Rattle.sg_front.proofs.Runs.{told_in}
 use Rattle.sg_front.proofs.Sequences.{told_from-append}
@@ -40,7 +40,7 @@ told_by muxes octets readings draws receipts = told_from (start muxes) (woven oc
 pub record IsRelaying (muxes : Bool) (old now : RelayTellings) (turns began : ℕ) (p : Passed) (at : Reading) (es : List Event) (top left : ℕ) : Type 0 where
   pub took : TookIn old.left now.left (p.octets ++ at.waits)
   pub wrote : Wrote old.written now.written p.out
-  pub called : Added old.calls now.calls p.calls
+  pub called : Called old.calls now.calls p.calls
   pub read : Added old.readings now.readings p.readings
   pub drew : Added old.draws now.draws p.draws
   pub goes : (rest : List ℕ) (o : Outside) → woven (p.octets ++ rest) (p.readings ++ o.readings) (receipts_in p.calls ++ o.receipts) (p.draws ++ o.draws)
@@ -88,7 +88,7 @@ whole_at muxes p es stop is done good = record {
 }
 
 -- the next line isn't read for this reason
-pub next_at : (own s : Status) (at at' : Reading) (got : List ℕ) (left : Option (List ℕ)) → s ≡ own → (let r : Result (Option Line) Status = Err s in IsNext r at at' got left)
+pub next_at : (own s : Status) (at at' : Reading) (got : List ℕ) (left : Tally) → s ≡ own → (let r : Result (Option Line) Status = Err s in IsNext r at at' got left)
     → (let r : Result (Option Line) Status = Err own in IsNext r at at' got left)
 next_at own s at at' got left same next = subst (λ (x : Status). (let r : Result (Option Line) Status = Err x in IsNext r at at' got left)) same next
 
@@ -99,7 +99,7 @@ of_lines P s (inr (inl is)) noise spent clock write link memory = subst P (sym i
 of_lines P s (inr (inr is)) noise spent clock write link memory = of_turns P s is clock write link memory
 
 module _ (muxes : Bool) (old now : RelayTellings) (turns began : ℕ) (p : Passed) (at : Reading) (es : List Event) (top left : ℕ) (going : IsRelaying muxes old now turns began p at es top left)
-    (left' : Option (List ℕ)) (got : List ℕ) (came : TookIn now.left left' got) where
+    (left' : Tally) (got : List ℕ) (came : TookIn now.left left' got) where
   -- what has passed by then
   abbrev pub passed : Passed
   passed = record p { octets = p.octets ++ (at.waits ++ got) }
@@ -213,14 +213,14 @@ module _ (muxes : Bool) (old now : RelayTellings) (turns began : ℕ) (p : Passe
         going.done.asked (going.in_order (is.line ++ more) (after_it [])) (order next o))
 
     -- after the line was handled
-    pub after : {T : Type 0} (x : T) (now' : RelayTellings) (top' left2 : ℕ) (stands_for : State → Type 0) → now'.left ≡ left' → Wrote now.written now'.written out → Added now.calls now'.calls calls
+    pub after : {T : Type 0} (x : T) (now' : RelayTellings) (top' left2 : ℕ) (stands_for : State → Type 0) → now'.left ≡ left' → Wrote now.written now'.written out → Called now.calls now'.calls calls
         → Added now.readings now'.readings readings → Added now.draws now'.draws draws
         → (said : (let r : Result T Status = Ok x in IsSaid r (Relays began) l (state_after (start muxes) es) top top' left left2 stands_for readings calls draws out))
         → IsLineInOrder (Relays began) l (state_after (start muxes) es) top readings calls draws → IsRelaying muxes old now' turns began behind at' (es ++ said.0) top' left2
     after x now' top' left2 stands_for same wrote called read drew said order = record {
-      took = subst (TookIn old.left now'.left) octets_are (subst (λ (o : Option (List ℕ)). TookIn old.left o (p.octets ++ (at.waits ++ got))) (sym same) took_all);
+      took = subst (TookIn old.left now'.left) octets_are (subst (λ (o : Tally). TookIn old.left o (p.octets ++ (at.waits ++ got))) (sym same) took_all);
       wrote = wrote_more old.written now.written now'.written p.out out going.wrote wrote;
-      called = added_more old.calls now.calls now'.calls p.calls calls going.called called;
+      called = called_more old.calls now.calls now'.calls p.calls calls going.called called;
       read = added_more old.readings now.readings now'.readings p.readings readings going.read read;
       drew = added_more old.draws now.draws now'.draws p.draws draws going.drew drew;
       goes = λ more o. says more o
@@ -304,13 +304,13 @@ module _ (muxes : Bool) (old now : RelayTellings) (turns began : ℕ) (p : Passe
         said
 
     -- the run ends in a line
-    pub ended_in : (s : Status) (now' : RelayTellings) → now'.left ≡ left' → Wrote now.written now'.written out → Added now.calls now'.calls calls
+    pub ended_in : (s : Status) (now' : RelayTellings) → now'.left ≡ left' → Wrote now.written now'.written out → Called now.calls now'.calls calls
         → Added now.readings now'.readings readings → Added now.draws now'.draws draws → RelayEnds muxes s turns with_line left' × Counts → IsLineInOrder (Relays began) l (state_after (start muxes) es) top readings calls draws
         → IsRelay muxes s turns old now' with_line
     ended_in s now' same wrote called read drew ends order = record {
-      took = subst (λ (o : Option (List ℕ)). TookIn old.left o with_line.octets) (sym same) took_all;
+      took = subst (λ (o : Tally). TookIn old.left o with_line.octets) (sym same) took_all;
       wrote = wrote_more old.written now.written now'.written p.out out going.wrote wrote;
-      called = added_more old.calls now.calls now'.calls p.calls calls going.called called;
+      called = called_more old.calls now.calls now'.calls p.calls calls going.called called;
       read = added_more old.readings now.readings now'.readings p.readings readings going.read read;
       drew = added_more old.draws now.draws now'.draws p.draws draws going.drew drew;
       ends = subst (RelayEnds muxes s turns with_line) (sym same) ends.0;
@@ -348,7 +348,7 @@ begun_stops muxes s r calls out none stops = stops_in muxes s (only_begun (r ∷
 begun_pace : (turns r : ℕ) (calls : List LinkCall) → receipts_in calls ≡ [] → ArePaced (r ∷ []) (receipts_in calls) × (length (let one : List ℕ = r ∷ [] in one) ≤ turns + 1)
 begun_pace turns r calls none = (subst (λ (xs : List Received). ArePaced (r ∷ []) xs) (sym none) (inl refl), omega arith)
 
-module _ (muxes : Bool) (turns : ℕ) (left : Option (List ℕ)) (stands_for : State → Type 0) (readings : List ℕ) (calls : List LinkCall) (out : List ℕ) where
+module _ (muxes : Bool) (turns : ℕ) (left : Tally) (stands_for : State → Type 0) (readings : List ℕ) (calls : List LinkCall) (out : List ℕ) where
   -- what a status says of a run that ends with its first reading
   abbrev EndsAtOnce : Status → Type 0
   EndsAtOnce s = RelayEnds muxes s turns (only_begun readings calls out) left × ArePaced readings (receipts_in calls) × (length readings ≤ turns + 1) × (receipts_in calls ≡ [])
@@ -380,7 +380,7 @@ module _ (muxes : Bool) (turns : ℕ) (left : Option (List ℕ)) (stands_for : S
 
 -- the first line comes next
 pub begins_so : (muxes : Bool) (old now : RelayTellings) (turns began : ℕ) (stands_for : State → Type 0) (readings : List ℕ) (calls : List LinkCall) (out : List ℕ)
-    → TookIn old.left now.left [] → Wrote old.written now.written out → Added old.calls now.calls calls → Added old.readings now.readings readings → Added old.draws now.draws []
+    → TookIn old.left now.left [] → Wrote old.written now.written out → Called old.calls now.calls calls → Added old.readings now.readings readings → Added old.draws now.draws []
     → (begun : IsBegun (Ok began) (start muxes) stands_for readings calls out)
     → IsRelaying muxes old now turns began (only_begun readings calls out) (record { waits = []; version = 1; number = 1; offset = 0; budget = 2 ^ 30 + 1 }) (first_tick begun.0) began turns
 begins_so muxes old now turns began stands_for readings calls out took wrote called read drew (r, one, is, none, done, good, stands) = record {

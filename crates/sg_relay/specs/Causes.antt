@@ -1,6 +1,5 @@
 -- Which object's failure each status blames, and which statuses each part of a relay may answer.
-use Rattle.std.specs.Prelude.{◌≡◌, ◌⊎◌, ◌≤◌, ℕ, Bool, Option, Result, Ok, Err}
-use Rattle.sg_edge.specs.Told.{Rose}
+use Rattle.std.specs.Prelude.{◌≡◌, ◌⊎◌, ℕ, Bool, Option, None, Result, Ok, Err}
 use Rattle.sg_trace.specs.Causes.{HasFailed}
 use Rattle.sg_trace.specs.declared.status.Status.{Status}
 use Rattle.sg_trace.specs.declared.status.Status.TheVariants.{Write, Link, NoMemory, Clock, Noise, TurnsSpent}
@@ -10,14 +9,9 @@ abbrev pub IsDueTo : {T : Type 0} → Status → Result T Status → ℕ → ℕ
 IsDueTo own (Ok x) old new failed = new ≡ old
 IsDueTo own (Err status) old new failed = HasFailed (status ≡ own) old new failed
 
--- A link's count rose where this is so; it never falls. A send that fails raises it too.
-pub record HasRisen (p : Type 0) (old new : ℕ) : Type 0 where
-  pub later : old ≤ new
-  pub rose : p → Rose old new
-
+-- the same of a link, of which a failed send is no failure
 abbrev pub IsDueToLink : {T : Type 0} → Result T Status → ℕ → ℕ → Type 0
-IsDueToLink (Ok x) old new = old ≤ new
-IsDueToLink (Err status) old new = HasRisen (status ≡ Link) old new
+IsDueToLink r old new = IsDueTo Link r old new None
 
 -- ---- what may be told
 

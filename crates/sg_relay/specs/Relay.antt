@@ -1,9 +1,9 @@
 -- What a relay answers, and what has passed between it and the outside by then.
-use Rattle.std.specs.Prelude.{◌≡◌, ◌⊎◌, ◌≤◌, ◌+◌, ◌^◌, length, ℕ, Bool, List, [], ◌∷◌, ◌++◌, Option}
+use Rattle.std.specs.Prelude.{◌≡◌, ◌⊎◌, ◌≤◌, ◌+◌, ◌^◌, length, ℕ, Bool, List, [], ◌∷◌, ◌++◌}
 use Rattle.sg_base.specs.declared.faults.ScriptFault.TheVariants.{Unended}
-use Rattle.sg_edge.specs.Links.{Added, LinkCall, Received}
+use Rattle.sg_edge.specs.Links.{Added, Called, LinkCall, LinkTally, Received}
 use Rattle.sg_edge.specs.Links as links
-use Rattle.sg_edge.specs.Told.{TookIn, Wrote, AtEnd}
+use Rattle.sg_edge.specs.Told.{AtEnd, Tally, TookIn, Wrote}
 use Rattle.sg_gateway.specs.Runs.{world_after}
 use Rattle.sg_gateway.specs.Step.{Event}
 use Rattle.sg_gateway.specs.World.{World, empty}
@@ -59,7 +59,7 @@ pub record IsBroken (muxes : Bool) (p : Passed) : Type 0 where
 -- Clock a reading comes next, within the turns, with Noise a draw. With Link the link's last call failed: a receive
 -- comes next, or an outcome whose ports are bound or given up, and all before it was done. With every other status all
 -- before some outcome was done and written; of that one nothing was, or what it asks for and a prefix of its line.
-abbrev pub RelayEnds : Bool → Status → ℕ → Passed → Option (List ℕ) → Type 0
+abbrev pub RelayEnds : Bool → Status → ℕ → Passed → Tally → Type 0
 RelayEnds muxes Done turns p left = IsWholeRelay muxes p BehindAll × AtEnd left
 RelayEnds muxes (Script n fault) turns p left =
     IsWholeRelay muxes p (AtFault n fault) × (fault ≡ Unended → AtEnd left)
@@ -80,11 +80,11 @@ ArePaced (r ∷ rs) receipts = (length rs ≡ length receipts) ⊎ (length rs �
 
 -- what a source, a sink, a link, a clock and a source of noise tell
 pub record RelayTellings : Type 0 where
-  pub left : Option (List ℕ)
-  pub written : Option (List ℕ)
-  pub calls : Option (List LinkCall)
-  pub readings : Option (List ℕ)
-  pub draws : Option (List ℕ)
+  pub left : Tally
+  pub written : Tally
+  pub calls : LinkTally
+  pub readings : Tally
+  pub draws : Tally
 
 -- The relay read these octets, of which there are at most 2^30 + 1, wrote those, and made these calls; it took
 -- at most so many turns. Whenever it asked the link for a receive, it had asked for all that the events up to there ask
@@ -92,7 +92,7 @@ pub record RelayTellings : Type 0 where
 pub record IsRelay (muxes : Bool) (status : Status) (turns : ℕ) (old new : RelayTellings) (p : Passed) : Type 0 where
   pub took : TookIn old.left new.left p.octets
   pub wrote : Wrote old.written new.written p.out
-  pub called : Added old.calls new.calls p.calls
+  pub called : Called old.calls new.calls p.calls
   pub read : Added old.readings new.readings p.readings
   pub drew : Added old.draws new.draws p.draws
   pub ends : RelayEnds muxes status turns p new.left

@@ -1,7 +1,7 @@
 //! What is done for outcomes: ports are bound and given up, packets are sent, and lines are written.
 
 ghost use Rattle.std.specs.Prelude.{◌≡◌, ◌∷◌, [], ℕ, List, Bool, IfErr, Some, map};
-ghost use Rattle.sg_edge.specs.Links.{Added, LinkCall};
+ghost use Rattle.sg_edge.specs.Links.{Added, Called, LinkCall};
 ghost use Rattle.sg_edge.specs.Told.{HasCause, Wrote};
 ghost use Rattle.sg_outcome.specs.declared.outcomes.Outcome.TheVariants.{Out};
 ghost use Rattle.sg_relay.specs.Asked.{asks_of, hold, ports_of, sent_as, written_as};
@@ -19,7 +19,7 @@ use std::alloc::Global;
 
 /// Binds a port, or gives it up.
 fn hold_port<L: Link>(link: &mut L, bound: bool, port: u16) -> Result<(), Failed>
-    ensures held { (calls : List LinkCall) × Added (L.told link.old) (L.told link.new) calls × IsHeld result (hold bound port ∷ []) calls }
+    ensures held { (calls : List LinkCall) × Called (L.told link.old) (L.told link.new) calls × IsHeld result (hold bound port ∷ []) calls }
     ensures cause { HasCause (L.faults link.old) (L.faults link.new) result }
 {
     if bound {
@@ -30,7 +30,7 @@ fn hold_port<L: Link>(link: &mut L, bound: bool, port: u16) -> Result<(), Failed
 
 /// Binds the ports of a call's media, or gives them up, in ascending order.
 fn hold_ports<L: Link>(link: &mut L, bound: bool, slot: u8, media: u8) -> Result<(), Failed>
-    ensures held { (calls : List LinkCall) × Added (L.told link.old) (L.told link.new) calls × IsHeld result (map (hold bound) (ports_of slot media)) calls }
+    ensures held { (calls : List LinkCall) × Called (L.told link.old) (L.told link.new) calls × IsHeld result (map (hold bound) (ports_of slot media)) calls }
     ensures cause { HasCause (L.faults link.old) (L.faults link.new) result }
 {
     let first = port_at(slot, 0, 0);
@@ -55,7 +55,7 @@ fn hold_and_tell<K: Sink, L: Link>(
 ) -> Result<(), Status>
     requires asks { asks_of outcome.now ≡ map (hold bound) (ports_of slot media) }
     requires plain { (ok : Bool) → (written_as outcome.now ok ≡ outcome.now ∷ []) × (sent_as outcome.now ok ≡ []) }
-    ensures done { (calls : List LinkCall) × (out : List ℕ) × Added (L.told link.old) (L.told link.new) calls × Wrote (K.written sink.old) (K.written sink.new) out
+    ensures done { (calls : List LinkCall) × (out : List ℕ) × Called (L.told link.old) (L.told link.new) calls × Wrote (K.written sink.old) (K.written sink.new) out
         × AreCarriedOut result (outcome.now ∷ []) calls out }
     ensures only { IfErr result IsOfOutcomes }
     ensures write { IsDueTo Status.Write result (K.faults sink.old) (K.faults sink.new) (K.failed sink.new) }
@@ -76,7 +76,7 @@ fn send_out<K: Sink, L: Link>(
     sink: &mut K,
     link: &mut L,
 ) -> Result<(), Status>
-    ensures done { (calls : List LinkCall) × (out : List ℕ) × Added (L.told link.old) (L.told link.new) calls × Wrote (K.written sink.old) (K.written sink.new) out
+    ensures done { (calls : List LinkCall) × (out : List ℕ) × Called (L.told link.old) (L.told link.new) calls × Wrote (K.written sink.old) (K.written sink.new) out
         × AreCarriedOut result (Out port to octets.now ∷ []) calls out }
     ensures only { IfErr result IsOfOutcomes }
     ensures write { IsDueTo Status.Write result (K.faults sink.old) (K.faults sink.new) (K.failed sink.new) }
@@ -95,7 +95,7 @@ fn carry_out<K: Sink, L: Link>(
     sink: &mut K,
     link: &mut L,
 ) -> Result<(), Status>
-    ensures done { (calls : List LinkCall) × (out : List ℕ) × Added (L.told link.old) (L.told link.new) calls × Wrote (K.written sink.old) (K.written sink.new) out
+    ensures done { (calls : List LinkCall) × (out : List ℕ) × Called (L.told link.old) (L.told link.new) calls × Wrote (K.written sink.old) (K.written sink.new) out
         × AreCarriedOut result (outcome.now ∷ []) calls out }
     ensures only { IfErr result IsOfOutcomes }
     ensures write { IsDueTo Status.Write result (K.faults sink.old) (K.faults sink.new) (K.failed sink.new) }
@@ -123,7 +123,7 @@ pub(crate) fn carry_out_all<K: Sink, L: Link>(
     sink: &mut K,
     link: &mut L,
 ) -> Result<(), Status>
-    ensures done { (calls : List LinkCall) × (out : List ℕ) × Added (L.told link.old) (L.told link.new) calls × Wrote (K.written sink.old) (K.written sink.new) out
+    ensures done { (calls : List LinkCall) × (out : List ℕ) × Called (L.told link.old) (L.told link.new) calls × Wrote (K.written sink.old) (K.written sink.new) out
         × AreCarriedOut result outcomes.now calls out }
     ensures only { IfErr result IsOfOutcomes }
     ensures write { IsDueTo Status.Write result (K.faults sink.old) (K.faults sink.new) (K.failed sink.new) }
@@ -146,7 +146,7 @@ pub(crate) fn pass_on<K: Sink, L: Link>(
     sink: &mut K,
     link: &mut L,
 ) -> Result<(), Status>
-    ensures done { (calls : List LinkCall) × (out : List ℕ) × Added (L.told link.old) (L.told link.new) calls × Wrote (K.written sink.old) (K.written sink.new) out
+    ensures done { (calls : List LinkCall) × (out : List ℕ) × Called (L.told link.old) (L.told link.new) calls × Wrote (K.written sink.old) (K.written sink.new) out
         × AreCarriedOut result (outcome_of port handled.now ∷ []) calls out }
     ensures only { IfErr result IsOfOutcomes }
     ensures write { IsDueTo Status.Write result (K.faults sink.old) (K.faults sink.new) (K.failed sink.new) }

@@ -2,7 +2,7 @@
 
 ghost use Rattle.std.specs.Prelude.{◌≡◌, ◌≤◌, ◌+◌, ℕ, [], List, Bool, IfErr, IfOk, None, length};
 ghost use Rattle.sg_trace.specs.Trace.{Command, Relays, last_moment, wait_in};
-ghost use Rattle.sg_edge.specs.Links.{Added, LinkCall};
+ghost use Rattle.sg_edge.specs.Links.{Added, Called, LinkCall};
 ghost use Rattle.sg_edge.specs.Told.{Wrote};
 ghost use Rattle.sg_front.specs.States.{FrontStandsFor, State};
 ghost use Rattle.sg_lines.specs.declared.lines.Line.TheVariants as lines;
@@ -43,7 +43,7 @@ fn handle<K: Sink, L: Link, N: Noise>(
     requires timely { IsTimely signal }
     ensures said { (state : State) → FrontStandsFor front.old state
         → (calls : List LinkCall) × (draws : List ℕ) × (out : List ℕ)
-        × Added (L.told link.old) (L.told link.new) calls × Added (N.given noise.old) (N.given noise.new) draws × Wrote (K.written sink.old) (K.written sink.new) out
+        × Called (L.told link.old) (L.told link.new) calls × Added (N.given noise.old) (N.given noise.new) draws × Wrote (K.written sink.old) (K.written sink.new) out
         × ((k : Command) (top turns : ℕ) → wait_in k (lines.Signal signal) ≡ None → IsSaid result k (lines.Signal signal) state top top turns turns (FrontStandsFor front.new) [] calls draws out)
         × (receipts_in calls ≡ []) }
     ensures only { IfErr result IsOfSignals }
@@ -87,7 +87,7 @@ pub(crate) fn say<K: Sink, L: Link, C: Clock, N: Noise>(
     requires fits { FitsRelay line }
     ensures said { (state : State) → FrontStandsFor front.old state
         → (readings : List ℕ) × (calls : List LinkCall) × (draws : List ℕ) × (out : List ℕ)
-        × Added (C.given clock.old) (C.given clock.new) readings × Added (L.told link.old) (L.told link.new) calls × Added (N.given noise.old) (N.given noise.new) draws × Wrote (K.written sink.old) (K.written sink.new) out
+        × Added (C.given clock.old) (C.given clock.new) readings × Called (L.told link.old) (L.told link.new) calls × Added (N.given noise.old) (N.given noise.new) draws × Wrote (K.written sink.old) (K.written sink.new) out
         × IsSaid result (Relays began) line state top.old top.new turns.old turns.new (FrontStandsFor front.new) readings calls draws out
         × IsLineInOrder (Relays began) line state top.old readings calls draws }
     ensures only { IfErr result IsOfLines }
@@ -95,7 +95,7 @@ pub(crate) fn say<K: Sink, L: Link, C: Clock, N: Noise>(
     ensures link { IsDueToLink result (L.faults link.old) (L.faults link.new) }
     ensures clock { IsDueTo Status.Clock result (C.faults clock.old) (C.faults clock.new) (C.failed clock.new) }
     ensures noise { IsDueTo Status.Noise result (N.faults noise.old) (N.faults noise.new) (N.failed noise.new) }
-    ensures count { C.count clock.new + turns.new ≤ C.count clock.old + turns.old }
+    ensures count { (C.given clock.new).count + turns.new ≤ (C.given clock.old).count + turns.old }
 {
     match line {
         Line::Header | Line::HeaderTwo => Ok(pad),
@@ -132,14 +132,14 @@ pub(crate) fn begin<K: Sink, L: Link, C: Clock>(
 ) -> Result<u64, Status>
     ensures begun { (state : State) → FrontStandsFor front.old state
         → (readings : List ℕ) × (calls : List LinkCall) × (out : List ℕ)
-        × Added (C.given clock.old) (C.given clock.new) readings × Added (L.told link.old) (L.told link.new) calls × Wrote (K.written sink.old) (K.written sink.new) out
+        × Added (C.given clock.old) (C.given clock.new) readings × Called (L.told link.old) (L.told link.new) calls × Wrote (K.written sink.old) (K.written sink.new) out
         × IsBegun result state (FrontStandsFor front.new) readings calls out }
     ensures timely { IfOk result (λ began. began ≤ last_moment) }
     ensures only { IfErr result IsOfTurns }
     ensures write { IsDueTo Status.Write result (K.faults sink.old) (K.faults sink.new) (K.failed sink.new) }
     ensures link { IsDueToLink result (L.faults link.old) (L.faults link.new) }
     ensures clock { IsDueTo Status.Clock result (C.faults clock.old) (C.faults clock.new) (C.failed clock.new) }
-    ensures count { C.count clock.new ≤ C.count clock.old + 1 }
+    ensures count { (C.given clock.new).count ≤ (C.given clock.old).count + 1 }
 {
     let began = match clock.now() {
         Err(Failed) => return Err(Status::Clock),

@@ -1,6 +1,6 @@
 //! The relay.
 
-ghost use Rattle.std.specs.Prelude.{◌≡◌, ◌≤◌, ◌+◌, ◌^◌, ℕ};
+ghost use Rattle.std.specs.Prelude.{◌≡◌, ◌≤◌, ◌+◌, ◌^◌, ℕ, None};
 ghost use Rattle.sg_trace.specs.Causes.{HasFailed};
 ghost use Rattle.sg_edge.specs.Told.{Rose};
 ghost use Rattle.sg_relay.specs.Completeness.{IsCompleteRelay};
@@ -33,13 +33,13 @@ pub fn relay<S: Source, K: Sink, L: Link, C: Clock, N: Noise>(
         (record { left = S.left source.new; written = K.written sink.new; calls = L.told link.new; readings = C.given clock.new; draws = N.given noise.new })
         p
         × HoldsItsCallsPorts muxes p
-        × (¬ Rose (S.faults source.old) (S.faults source.new) → ¬ Rose (K.faults sink.old) (K.faults sink.new) → ¬ Rose (C.faults clock.old) (C.faults clock.new)
-        → ¬ Rose (N.faults noise.old) (N.faults noise.new) → IsCompleteRelay result turns (S.left source.old) (S.left source.new) (L.faults link.old) (L.faults link.new) p) }
-    ensures given { S.given source.new ≤ S.given source.old + (2 ^ 30 + 1) }
-    ensures count { C.count clock.new ≤ C.count clock.old + (turns + 1) }
+        × (¬ Rose (S.faults source.old) (S.faults source.new) → ¬ Rose (K.faults sink.old) (K.faults sink.new) → ¬ Rose (L.faults link.old) (L.faults link.new)
+        → ¬ Rose (C.faults clock.old) (C.faults clock.new) → ¬ Rose (N.faults noise.old) (N.faults noise.new) → IsCompleteRelay result turns (S.left source.old) (S.left source.new) p) }
+    ensures given { (S.left source.new).count ≤ (S.left source.old).count + (2 ^ 30 + 1) }
+    ensures count { (C.given clock.new).count ≤ (C.given clock.old).count + (turns + 1) }
     ensures read { HasFailed (result ≡ Status.Read) (S.faults source.old) (S.faults source.new) (S.failed source.new) }
     ensures write { HasFailed (result ≡ Status.Write) (K.faults sink.old) (K.faults sink.new) (K.failed sink.new) }
-    ensures link { result ≡ Status.Link → Rose (L.faults link.old) (L.faults link.new) }
+    ensures link { HasFailed (result ≡ Status.Link) (L.faults link.old) (L.faults link.new) None }
     ensures clock { HasFailed (result ≡ Status.Clock) (C.faults clock.old) (C.faults clock.new) (C.failed clock.new) }
     ensures noise { HasFailed (result ≡ Status.Noise) (N.faults noise.old) (N.faults noise.new) (N.failed noise.new) }
 {

@@ -2,7 +2,7 @@
 
 ghost use Rattle.std.specs.Prelude.{◌≡◌, ◌≤◌, ◌+◌, ℕ, List, Bool, IfErr, false, max};
 ghost use Rattle.sg_trace.specs.Trace.{arrivals_of, last_moment, ticks_at};
-ghost use Rattle.sg_edge.specs.Links.{Added, Came, LinkCall, Received};
+ghost use Rattle.sg_edge.specs.Links.{Added, Called, Came, LinkCall, Received};
 ghost use Rattle.sg_edge.specs.Told.{Wrote};
 ghost use Rattle.sg_front.specs.States.{FrontStandsFor, State};
 ghost use Rattle.sg_gateway.specs.Events.{events_of_signal, signal_lacks_noise};
@@ -30,7 +30,7 @@ pub(crate) fn obey<K: Sink, L: Link>(
     requires noise { signal_lacks_noise signal.now ≡ false }
     requires timely { IsTimely signal.now }
     ensures handled { (state : State) → FrontStandsFor front.old state
-        → (calls : List LinkCall) × (out : List ℕ) × Added (L.told link.old) (L.told link.new) calls × Wrote (K.written sink.old) (K.written sink.new) out
+        → (calls : List LinkCall) × (out : List ℕ) × Called (L.told link.old) (L.told link.new) calls × Wrote (K.written sink.old) (K.written sink.new) out
         × AreHandled result state (events_of_signal signal.now) (FrontStandsFor front.new) calls out }
     ensures only { IfErr result IsOfOutcomes }
     ensures write { IsDueTo Status.Write result (K.faults sink.old) (K.faults sink.new) (K.failed sink.new) }
@@ -54,7 +54,7 @@ pub(crate) fn arrive<K: Sink, L: Link>(
     link: &mut L,
 ) -> Result<Pad, Status>
     ensures handled { (state : State) → FrontStandsFor front.old state
-        → (calls : List LinkCall) × (out : List ℕ) × Added (L.told link.old) (L.told link.new) calls × Wrote (K.written sink.old) (K.written sink.new) out
+        → (calls : List LinkCall) × (out : List ℕ) × Called (L.told link.old) (L.told link.new) calls × Wrote (K.written sink.old) (K.written sink.new) out
         × AreHandled result state (arrivals_of (Came port from pad)) (FrontStandsFor front.new) calls out }
     ensures only { IfErr result IsOfOutcomes }
     ensures write { IsDueTo Status.Write result (K.faults sink.old) (K.faults sink.new) (K.failed sink.new) }
@@ -79,7 +79,7 @@ fn tick<K: Sink, L: Link>(
 ) -> Result<(), Status>
     requires timely { moment ≤ last_moment }
     ensures handled { (state : State) → FrontStandsFor front.old state
-        → (calls : List LinkCall) × (out : List ℕ) × Added (L.told link.old) (L.told link.new) calls × Wrote (K.written sink.old) (K.written sink.new) out
+        → (calls : List LinkCall) × (out : List ℕ) × Called (L.told link.old) (L.told link.new) calls × Wrote (K.written sink.old) (K.written sink.new) out
         × AreHandled result state (ticks_at top.old moment) (FrontStandsFor front.new) calls out }
     ensures top { top.new ≡ max top.old moment }
     ensures only { IfErr result IsOfOutcomes }
@@ -105,7 +105,7 @@ fn receive<K: Sink, L: Link>(
     link: &mut L,
 ) -> Result<Pad, Status>
     ensures received { (state : State) → FrontStandsFor front.old state
-        → (x : Received) × (calls : List LinkCall) × (out : List ℕ) × Added (L.told link.old) (L.told link.new) calls × Wrote (K.written sink.old) (K.written sink.new) out
+        → (x : Received) × (calls : List LinkCall) × (out : List ℕ) × Called (L.told link.old) (L.told link.new) calls × Wrote (K.written sink.old) (K.written sink.new) out
         × IsReceived result state (FrontStandsFor front.new) x calls out × IsReceivedFirst x calls }
     ensures only { IfErr result IsOfOutcomes }
     ensures write { IsDueTo Status.Write result (K.faults sink.old) (K.faults sink.new) (K.failed sink.new) }
@@ -132,13 +132,13 @@ fn turn<K: Sink, L: Link, C: Clock>(
 ) -> Result<(u64, Pad), Status>
     ensures turned { (state : State) → FrontStandsFor front.old state
         → (readings : List ℕ) × (calls : List LinkCall) × (out : List ℕ)
-        × Added (C.given clock.old) (C.given clock.new) readings × Added (L.told link.old) (L.told link.new) calls × Wrote (K.written sink.old) (K.written sink.new) out
+        × Added (C.given clock.old) (C.given clock.new) readings × Called (L.told link.old) (L.told link.new) calls × Wrote (K.written sink.old) (K.written sink.new) out
         × IsTurn result state top.old top.new (FrontStandsFor front.new) readings calls out × IsTurnInOrder state top.old readings calls }
     ensures only { IfErr result IsOfTurns }
     ensures write { IsDueTo Status.Write result (K.faults sink.old) (K.faults sink.new) (K.failed sink.new) }
     ensures link { IsDueToLink result (L.faults link.old) (L.faults link.new) }
     ensures clock { IsDueTo Status.Clock result (C.faults clock.old) (C.faults clock.new) (C.failed clock.new) }
-    ensures count { C.count clock.new ≤ C.count clock.old + 1 }
+    ensures count { (C.given clock.new).count ≤ (C.given clock.old).count + 1 }
 {
     let moment = match clock.now() {
         Err(Failed) => return Err(Status::Clock),
@@ -169,13 +169,13 @@ pub(crate) fn wait<K: Sink, L: Link, C: Clock>(
 ) -> Result<Pad, Status>
     ensures waited { (state : State) → FrontStandsFor front.old state
         → (readings : List ℕ) × (calls : List LinkCall) × (out : List ℕ)
-        × Added (C.given clock.old) (C.given clock.new) readings × Added (L.told link.old) (L.told link.new) calls × Wrote (K.written sink.old) (K.written sink.new) out
+        × Added (C.given clock.old) (C.given clock.new) readings × Called (L.told link.old) (L.told link.new) calls × Wrote (K.written sink.old) (K.written sink.new) out
         × IsWaited result until state top.old top.new turns.old turns.new (FrontStandsFor front.new) readings calls out × IsWaitInOrder until state top.old readings calls }
     ensures only { IfErr result IsOfWaits }
     ensures write { IsDueTo Status.Write result (K.faults sink.old) (K.faults sink.new) (K.failed sink.new) }
     ensures link { IsDueToLink result (L.faults link.old) (L.faults link.new) }
     ensures clock { IsDueTo Status.Clock result (C.faults clock.old) (C.faults clock.new) (C.failed clock.new) }
-    ensures count { C.count clock.new + turns.new ≤ C.count clock.old + turns.old }
+    ensures count { (C.given clock.new).count + turns.new ≤ (C.given clock.old).count + turns.old }
 {
     let mut pad = pad;
     'turns: while *turns > 0 {

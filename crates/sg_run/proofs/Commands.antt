@@ -15,9 +15,9 @@ use Rattle.sg_trace.specs.declared.status.Status.{Status}
 use Rattle.sg_trace.specs.declared.status.Status.TheVariants.{Done, Usage, Script, Read, Write, Link, NoMemory, Clock, Noise, TurnsSpent, Capture}
 use Rattle.sg_demo.specs.Demonstration.{demonstration, events_shown}
 use Rattle.sg_demo.specs.Text.{IsShown, summary_text}
-use Rattle.sg_edge.proofs.Links.{added_none}
+use Rattle.sg_edge.proofs.Links.{added_none, called_none}
 use Rattle.sg_edge.proofs.Passed.{took_none, wrote_none}
-use Rattle.sg_edge.specs.Told.{Rose}
+use Rattle.sg_edge.specs.Told.{Rose, Tally}
 use Rattle.sg_gateway.specs.Step.{Event}
 use Rattle.sg_migrate.specs.Migrated.{of_migration, written_of}
 use Rattle.sg_migrate.specs.Migration.{IsMigration}
@@ -71,7 +71,7 @@ not_relayed legs muxes turns old = record {
   is = record {
     took = took_none old.left;
     wrote = wrote_none old.written;
-    called = added_none old.calls;
+    called = called_none old.calls;
     read = added_none old.readings;
     drew = added_none old.drawn;
     ends = record {
@@ -99,7 +99,7 @@ not_relayed legs muxes turns old = record {
   passages_are = no_passages muxes;
   legs = λ before after is. legs before;
   ports = holds_none muxes (record { octets = []; out = []; calls = []; readings = []; draws = [] }) refl;
-  complete = λ only all rest left left' whole more link. inr refl;
+  complete = λ none all rest left left' whole more. inr refl;
 }
 
 not_shown : (calls start : ℕ) (old : Surroundings) → HasShown calls start NoMemory old old [] []
@@ -304,33 +304,33 @@ relay_not_usage muxes status turns old new p run is = (subst (λ s. IsRelay muxe
 abbrev IsOfDemo : Status → Type 0
 IsOfDemo status = (status ≡ Done) ⊎ ((status ≡ Write) ⊎ (status ≡ NoMemory))
 
-of_demo : (status : Status) (written written' : Option (List ℕ)) (octets : List ℕ) → IsShown status written written' octets → IsOfDemo status
+of_demo : (status : Status) (written written' : Tally) (octets : List ℕ) → IsShown status written written' octets → IsOfDemo status
 of_demo Done written written' octets shown = inl refl
 of_demo Write written written' octets shown = inr (inl refl)
 of_demo NoMemory written written' octets shown = inr (inr refl)
 of_demo other written written' octets shown = absurd shown
 
-demo_not : (other status : Status) (written written' : Option (List ℕ)) (octets : List ℕ) → (IsShown other written written' octets → ⊥)
+demo_not : (other status : Status) (written written' : Tally) (octets : List ℕ) → (IsShown other written written' octets → ⊥)
     → IsShown status written written' octets → status ≡ other → ⊥
 demo_not other status written written' octets isnt shown is = isnt (subst (λ s. IsShown s written written' octets) is shown)
 
-pub demo_not_usage : (status : Status) (written written' : Option (List ℕ)) (octets : List ℕ) → IsShown status written written' octets → status ≡ Usage → ⊥
+pub demo_not_usage : (status : Status) (written written' : Tally) (octets : List ℕ) → IsShown status written written' octets → status ≡ Usage → ⊥
 demo_not_usage status written written' octets shown is = demo_not Usage status written written' octets (λ s. s) shown is
 
-pub demo_not_read : (status : Status) (written written' : Option (List ℕ)) (octets : List ℕ) → IsShown status written written' octets → status ≡ Read → ⊥
+pub demo_not_read : (status : Status) (written written' : Tally) (octets : List ℕ) → IsShown status written written' octets → status ≡ Read → ⊥
 demo_not_read status written written' octets shown is = demo_not Read status written written' octets (λ s. s) shown is
 
-pub demo_not_link : (status : Status) (written written' : Option (List ℕ)) (octets : List ℕ) → IsShown status written written' octets → status ≡ Link → ⊥
+pub demo_not_link : (status : Status) (written written' : Tally) (octets : List ℕ) → IsShown status written written' octets → status ≡ Link → ⊥
 demo_not_link status written written' octets shown is = demo_not Link status written written' octets (λ s. s) shown is
 
-pub demo_not_clock : (status : Status) (written written' : Option (List ℕ)) (octets : List ℕ) → IsShown status written written' octets → status ≡ Clock → ⊥
+pub demo_not_clock : (status : Status) (written written' : Tally) (octets : List ℕ) → IsShown status written written' octets → status ≡ Clock → ⊥
 demo_not_clock status written written' octets shown is = demo_not Clock status written written' octets (λ s. s) shown is
 
-pub demo_not_noise : (status : Status) (written written' : Option (List ℕ)) (octets : List ℕ) → IsShown status written written' octets → status ≡ Noise → ⊥
+pub demo_not_noise : (status : Status) (written written' : Tally) (octets : List ℕ) → IsShown status written written' octets → status ≡ Noise → ⊥
 demo_not_noise status written written' octets shown is = demo_not Noise status written written' octets (λ s. s) shown is
 
 -- where the sink didn't fail, a demonstration is done, or memory ran out
-pub demo_done : (status : Status) (written written' : Option (List ℕ)) (octets : List ℕ) (old new : ℕ) (failed : Option Bool) → IsShown status written written' octets
+pub demo_done : (status : Status) (written written' : Tally) (octets : List ℕ) (old new : ℕ) (failed : Option Bool) → IsShown status written written' octets
     → HasFailed (status ≡ Write) old new failed → ¬ Rose old new → (status ≡ Done) ⊎ (status ≡ NoMemory)
 demo_done status written written' octets old new failed shown cause quiet = elim (of_demo status written written' octets shown) [
   | inl done ↦ inl done

@@ -1,5 +1,5 @@
 -- What a run did, by the command that its words are.
-use Rattle.std.specs.Prelude.{◌≡◌, ◌⊎◌, ℕ, Bool, List, [], Option}
+use Rattle.std.specs.Prelude.{◌≡◌, ◌⊎◌, ℕ, Bool, List, []}
 use Rattle.sg_bridge.specs.BridgeHolds.{BridgeHolds}
 use Rattle.sg_bridge.specs.Bridged.{bridged_events}
 use Rattle.sg_bridging.specs.Bridge.{IsBridge, bridge_trace}
@@ -12,8 +12,8 @@ use Rattle.sg_trace.specs.declared.status.Status.{Status}
 use Rattle.sg_trace.specs.declared.status.Status.TheVariants.{Done}
 use Rattle.sg_demo.specs.Demonstration.{demonstration, events_shown}
 use Rattle.sg_demo.specs.Text.{IsShown, summary_text}
-use Rattle.sg_edge.specs.Links.{LinkCall}
-use Rattle.sg_edge.specs.Told.{Rose}
+use Rattle.sg_edge.specs.Links.{LinkCall, LinkTally}
+use Rattle.sg_edge.specs.Told.{Rose, Tally}
 use Rattle.sg_gateway.specs.Step.{Event}
 use Rattle.sg_migrate.specs.Migration.{IsMigration}
 use Rattle.sg_migrate.specs.Migration as migrations
@@ -39,11 +39,11 @@ pub record Failures : Type 0 where
 
 -- what they tell, and how often they have failed
 pub record Surroundings : Type 0 where
-  pub left : Option (List ℕ)
-  pub written : Option (List ℕ)
-  pub calls : Option (List LinkCall)
-  pub readings : Option (List ℕ)
-  pub drawn : Option (List ℕ)
+  pub left : Tally
+  pub written : Tally
+  pub calls : LinkTally
+  pub readings : Tally
+  pub drawn : Tally
   pub failures : Failures
 
 -- those of them that a replay is given, and a capture's run and a bridge
@@ -67,15 +67,16 @@ pub record HasReplayed (muxes : Bool) (status : Status) (old new : Surroundings)
   pub passages_are : passages ≡ passages_in muxes (replayed octets draws).events
   pub legs : LegsAreMuxedThroughout (replayed octets draws).events
 
--- nothing but the link has failed
-pub record OnlyLinkFailed (old new : Failures) : Type 0 where
+-- nothing has failed, of which a send that fails is none
+pub record NoneFailed (old new : Failures) : Type 0 where
   pub source : ¬ Rose old.source new.source
   pub sink : ¬ Rose old.sink new.sink
+  pub link : ¬ Rose old.link new.link
   pub clock : ¬ Rose old.clock new.clock
   pub noise : ¬ Rose old.noise new.noise
 
 -- This passed between a relay and the outside; these are its events as they come to the gateway, and what is told of them.
--- It listened at the ports of the calls that were there, and at no others. Where nothing fails, a send aside, it handles its
+-- It listened at the ports of the calls that were there, and at no others. Where nothing fails, sends aside, it handles its
 -- script to the end, or memory runs out.
 pub record HasRelayed (muxes : Bool) (turns : ℕ) (status : Status) (old new : Surroundings) (events : List Event) (passages : List Passage) : Type 0 where
   pub passed : Passed
@@ -84,8 +85,7 @@ pub record HasRelayed (muxes : Bool) (turns : ℕ) (status : Status) (old new : 
   pub passages_are : passages ≡ passages_in muxes (trace_of passed).events
   pub legs : LegsAreMuxedThroughout (trace_of passed).events
   pub ports : HoldsItsCallsPorts muxes passed
-  pub complete : OnlyLinkFailed old.failures new.failures
-      → IsCompleteRelay status turns old.left new.left old.failures.link new.failures.link passed
+  pub complete : NoneFailed old.failures new.failures → IsCompleteRelay status turns old.left new.left passed
 
 -- with Done these are all of the demonstration's events, and else the first of them
 abbrev pub AreTaken : Status → List Event → List Event → Type 0

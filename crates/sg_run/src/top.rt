@@ -93,8 +93,8 @@ pub fn run<R: Threads + Sync, S: Source, K: Sink, L: Link, C: Clock, N: Noise, G
         events passages
         × Headline events passages
         × AuditorsPages (map seen_of passages) }
-    ensures given { S.given source.new ≤ S.given source.old + (2 ^ 30 + 1) }
-    ensures turns { (turns : ℕ) (muxes : Bool) → AreWordsOf (map string_bytes words.now) (Relay turns muxes) → C.count clock.new ≤ C.count clock.old + (turns + 1) }
+    ensures given { (S.left source.new).count ≤ (S.left source.old).count + (2 ^ 30 + 1) }
+    ensures turns { (turns : ℕ) (muxes : Bool) → AreWordsOf (map string_bytes words.now) (Relay turns muxes) → (C.given clock.new).count ≤ (C.given clock.old).count + (turns + 1) }
     ensures usage { result ≡ Status.Usage → IsNoCommand (map string_bytes words.now) }
     ensures no_command { IsNoCommand (map string_bytes words.now) → (result ≡ Status.Usage) ⊎ (result ≡ Status.NoMemory) }
     ensures untouched { IsNoCommand (map string_bytes words.now)
@@ -128,7 +128,7 @@ pub fn run<R: Threads + Sync, S: Source, K: Sink, L: Link, C: Clock, N: Noise, G
     ensures datagrams_tick { (moment port : ℕ) (from : Address) (octets : List ℕ) → TicksFirst moment port from octets }
     ensures read { EndedBy (result ≡ Status.Read) (PlaysInBatches (map string_bytes words.now) × IsWant result) (S.faults source.old) (S.faults source.new) (S.failed source.new) }
     ensures write { HasFailed (result ≡ Status.Write) (K.faults sink.old) (K.faults sink.new) (K.failed sink.new) }
-    ensures link { result ≡ Status.Link → Rose (L.faults link.old) (L.faults link.new) }
+    ensures link { HasFailed (result ≡ Status.Link) (L.faults link.old) (L.faults link.new) None }
     ensures clock { HasFailed (result ≡ Status.Clock) (C.faults clock.old) (C.faults clock.new) (C.failed clock.new) }
     ensures noise { HasFailed (result ≡ Status.Noise) (N.faults noise.old) (N.faults noise.new) (N.failed noise.new) }
 {

@@ -1,8 +1,8 @@
 -- How a capture is read part by part.
-use Rattle.std.proofs.Common.{◌≡◌, ◌⊎◌, ◌+◌, ◌≤◌, ◌<◌, ℕ, Bool, true, false, cond, ltb, List, [], ◌∷◌, ◌++◌, length, max, Option, Some, None, Result, Ok, Err, refl, sym, ap, ◌∙◌, subst, inl, inr, append_assoc, length-append, arith}
+use Rattle.std.proofs.Common.{◌≡◌, ◌⊎◌, ◌+◌, ◌≤◌, ◌<◌, ℕ, Bool, true, false, cond, ltb, List, [], ◌∷◌, ◌++◌, length, max, Some, None, Result, Ok, Err, refl, sym, ap, ◌∙◌, subst, inl, inr, append_assoc, length-append, arith}
 use Rattle.std.proofs.lemmas.Bool.{ltb-false}
 use Rattle.std.proofs.lemmas.List.{append-nil}
-use Rattle.sg_edge.specs.Told.{AtEnd}
+use Rattle.sg_edge.specs.Told.{AtEnd, Tally}
 use Rattle.sg_pcap.proofs.Captures.{header_faulty, header_stays, header_there, length_front, length_least, record_faulty, record_stays, record_there}
 use Rattle.sg_pcap.specs.Capture.{Capture, capture_of, faulty, header_within, records_in, record_within}
 use Rattle.sg_pcap.specs.Fields.{u32_by_order}
@@ -27,11 +27,11 @@ moves_more waited got waits had has part waits' has' moves is now =
 
 -- ---- how many octets there are
 
-pub moves_of : {E : Type 0} (r : Result (Unit {0}) E) (count : ℕ) (had has waited waits got : List ℕ) (left : Option (List ℕ)) (budget : ℕ) → HasPart r count had has waited waits got left budget → Moves waited got waits had has
+pub moves_of : {E : Type 0} (r : Result (Unit {0}) E) (count : ℕ) (had has waited waits got : List ℕ) (left : Tally) (budget : ℕ) → HasPart r count had has waited waits got left budget → Moves waited got waits had has
 moves_of (Ok u) count had has waited waits got left budget is = is.0
 moves_of (Err e) count had has waited waits got left budget is = is
 
-pub split_of : {E : Type 0} (form : Form) (r : Result (Unit {0}) E) (has waited waits got : List ℕ) (left : Option (List ℕ)) (budget : ℕ) → HasRecord form r has waited waits got left budget → waited ++ got ≡ has ++ waits
+pub split_of : {E : Type 0} (form : Form) (r : Result (Unit {0}) E) (has waited waits got : List ℕ) (left : Tally) (budget : ℕ) → HasRecord form r has waited waits got left budget → waited ++ got ≡ has ++ waits
 split_of form (Ok u) has waited waits got left budget is = is.0
 split_of form (Err e) has waited waits got left budget is = is
 
@@ -67,7 +67,7 @@ module _ (form : Form) (waited got waits had head more waits' part : List ℕ) (
       ∙ ap (λ (l : List ℕ). head ++ l) then.1.0 ∙ sym (append_assoc head then.0 waits') ∙ ap (λ (l : List ℕ). l ++ waits') (sym then.1.1)
 
   -- a head, and then as many octets as it says
-  pub record_so : {E : Type 0} (r : Result (Unit {0}) E) (count : ℕ) (left : Option (List ℕ)) (budget : ℕ) → count ≡ record_length form head → length head ≤ max 16 (length had) → 16 ≤ length head
+  pub record_so : {E : Type 0} (r : Result (Unit {0}) E) (count : ℕ) (left : Tally) (budget : ℕ) → count ≡ record_length form head → length head ≤ max 16 (length had) → 16 ≤ length head
       → HasPart r count head part waits waits' more left budget → HasRecord form r part waited waits' (got ++ more) left budget
   record_so (Err e) count left budget is short long then = split_so then
   record_so (Ok u) count left budget is short long then =
@@ -106,7 +106,7 @@ failed_as P status (inr is) read memory = subst P (sym is) memory
 -- ---- faults
 
 -- a fault of the part that was read, at the end of the source or whatever comes behind
-fault_so : (reads : List ℕ → Capture) (octets part waits : List ℕ) (fault : ℕ × CaptureFault) (left : Option (List ℕ)) → octets ≡ part ++ waits
+fault_so : (reads : List ℕ → Capture) (octets part waits : List ℕ) (fault : ℕ × CaptureFault) (left : Tally) → octets ≡ part ++ waits
     → ((fault.1 ≡ Cut) × (waits ≡ []) × AtEnd left × (reads part ≡ faulty fault)) ⊎ ((¬ (fault.1 ≡ Cut)) × ((more : List ℕ) → reads (part ++ more) ≡ faulty fault)) → IsCaptureFault reads octets fault left
 fault_so reads octets part waits fault left split (inl (cut, none, end, is)) = record {
   first = ap reads (split ∙ ap (λ (l : List ℕ). part ++ l) none ∙ append-nil part) ∙ is;
@@ -127,7 +127,7 @@ other_so : {P Q : Type 0} → P ⊎ Q → (P → ⊥) → Q
 other_so (inl p) isnt = absurd (isnt p)
 other_so (inr q) isnt = q
 
-module _ (most at before budget budget' : ℕ) (had waited got waits part : List ℕ) (left : Option (List ℕ)) (room : at + length part + length waits + budget' ≡ most + 1) (same_at : before ≡ at) where
+module _ (most at before budget budget' : ℕ) (had waited got waits part : List ℕ) (left : Tally) (room : at + length part + length waits + budget' ≡ most + 1) (same_at : before ≡ at) where
   abbrev old_so : Capturing
   old_so = record { waits = waited; part = had; at = before; most = most; budget = budget }
 

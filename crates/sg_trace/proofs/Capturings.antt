@@ -29,7 +29,7 @@ use Rattle.sg_trace.proofs.Traces.{output_from-append}
 use Rattle.sg_trace.specs.CaptureHolds.{AreMoments, CaptureHolds, CapturesNone, ComesNext, IsGiven, IsMoment, IsReplayed, IsSince, Long, Nothing, Short, Tells, first_millis}
 use Rattle.sg_trace.specs.Captured.{CaptureTrace, Happens, InCapture, Occurrence, after_script, capture_occurs, captured, frame_occurs, moment_in, output_of, records_occur, script_alone, script_of, then_capture}
 use Rattle.sg_trace.specs.Output.{output_from}
-use Rattle.sg_trace.specs.Trace.{AtCapture, AtEnd, AtFault, Captures, ForDraw, ForReading, ForReceive, Later, Outside, Replays, Stop, Trace, after_line, begins_capture, drawing, handled_as, line_at, replayed, ticks_at, trace_from}
+use Rattle.sg_trace.specs.Trace.{AtCapture, Captures, Later, Outside, Replays, Stop, Trace, after_line, begins_capture, drawing, handled_as, line_at, replayed, ticks_at, trace_from}
 
 -- ---- records
 

@@ -1,6 +1,5 @@
 -- How failures of the outside follow one another.
-use Rattle.std.proofs.Common.{◌≡◌, ◌≤◌, ℕ, Bool, true, Option, Ok, Err, ◌∙◌, inl, arith}
-use Rattle.sg_edge.specs.Told.{Rose, Tells}
+use Rattle.std.proofs.Common.{◌≡◌, ℕ, Bool, Option, Ok, Err, ◌∙◌, inl, arith}
 use Rattle.sg_edge.proofs.Passed.{rose_later}
 use Rattle.sg_trace.specs.Causes.{EndedBy, HasFailed}
 

@@ -3,7 +3,7 @@ use Rattle.std.proofs.Common.{◌≡◌, ◌⊎◌, ◌≤◌, ℕ, true, Bool, 
 use Rattle.std.specs.Prelude.{IsErrOf}
 use Rattle.std.proofs.lemmas.List.{append-nil}
 use Rattle.sg_base.specs.declared.faults.ScriptFault.{ScriptFault}
-use Rattle.sg_edge.specs.Told.{Rose, Tells, TookIn}
+use Rattle.sg_edge.specs.Told.{Rose, Tally, Tells, TookIn}
 use Rattle.sg_lines.specs.LineOf.{line_of, version_after}
 use Rattle.sg_trace.proofs.Causes.{ended_as, failed_now, not_failed}
 use Rattle.sg_trace.proofs.Grammars.{none_fails}
@@ -15,15 +15,15 @@ use Rattle.sg_trace.specs.Trace.{AtFault, Spelling}
 use Rattle.sg_trace.specs.declared.status.Status.{Status}
 use Rattle.sg_trace.specs.declared.status.Status.TheVariants.{Done, Read, Write, NoMemory, Noise, Script}
 
-pub next_isnt : {L : Type 0} (spelled : Spelling L) (followed : ℕ → L → ℕ) (status other : Status) (old new : Reading) (got : List ℕ) (left : Option (List ℕ))
+pub next_isnt : {L : Type 0} (spelled : Spelling L) (followed : ℕ → L → ℕ) (status other : Status) (old new : Reading) (got : List ℕ) (left : Tally)
     → (IsNextBy spelled followed (Err other) old new got left → ⊥) → IsNextBy spelled followed (Err status) old new got left → status ≡ other → ⊥
 next_isnt spelled followed status other old new got left never next is = never (subst (λ s. IsNextBy spelled followed (Err s) old new got left) is next)
 
 -- no line is written as it is read, and none draws
-pub next_not_write : (status : Status) (old new : Reading) (got : List ℕ) (left : Option (List ℕ)) → IsNext (Err status) old new got left → status ≡ Write → ⊥
+pub next_not_write : (status : Status) (old new : Reading) (got : List ℕ) (left : Tally) → IsNext (Err status) old new got left → status ≡ Write → ⊥
 next_not_write status old new got left next is = next_isnt line_of version_after status Write old new got left (λ never. never) next is
 
-pub next_not_noise : (status : Status) (old new : Reading) (got : List ℕ) (left : Option (List ℕ)) → IsNext (Err status) old new got left → status ≡ Noise → ⊥
+pub next_not_noise : (status : Status) (old new : Reading) (got : List ℕ) (left : Tally) → IsNext (Err status) old new got left → status ≡ Noise → ⊥
 next_not_noise status old new got left next is = next_isnt line_of version_after status Noise old new got left (λ never. never) next is
 
 want_not : (status other : Status) → IsWant status → (Write ≡ other → ⊥) → (NoMemory ≡ other → ⊥) → status ≡ other → ⊥
@@ -76,9 +76,9 @@ module _ {S D : Type 0} (e : Effects S D) (batch : ℕ) where
       how is (inr cut) = inr cut.0
 
 -- where the source's octets have no fault, the loop comes to their end
-module _ {L D : Type 0} (w : Ways L D) (tells : List D → List ℕ) (batch : ℕ) (octets draws out : List ℕ) (left left' : Option (List ℕ)) (took : TookIn left left' octets) where
+module _ {L D : Type 0} (w : Ways L D) (tells : List D → List ℕ) (batch : ℕ) (octets draws out : List ℕ) (left left' : Tally) (took : TookIn left left' octets) where
   pub completes : (status : Status) → LoopEnds w tells batch status octets draws out left' → (status ≡ Read → ⊥) → (status ≡ Write → ⊥) → (status ≡ Noise → ⊥)
-      → (all rest : List ℕ) → left ≡ Some all → left' ≡ Some rest → ((n : ℕ) (fault : ScriptFault) → (course w all draws).stop ≡ AtFault n fault → ⊥) → (status ≡ Done) ⊎ (status ≡ NoMemory)
+      → (all rest : List ℕ) → left.told ≡ Some all → left'.told ≡ Some rest → ((n : ℕ) (fault : ScriptFault) → (course w all draws).stop ≡ AtFault n fault → ⊥) → (status ≡ Done) ⊎ (status ≡ NoMemory)
   completes Done ends a b c all rest told told' none = inl refl
   completes NoMemory ends a b c all rest told told' none = inr refl
   completes Read ends a b c all rest told told' none = absurd (a refl)
@@ -90,7 +90,7 @@ module _ {L D : Type 0} (w : Ways L D) (tells : List D → List ℕ) (batch : �
   completes other ends a b c all rest told told' none = absurd ends
 
 -- memory ran out before anything was read
-pub nothing_read : {L D : Type 0} (w : Ways L D) (tells : List D → List ℕ) (batch : ℕ) (left : Option (List ℕ)) → tells [] ≡ [] → PromptEnds w tells batch NoMemory [] [] [] left
+pub nothing_read : {L D : Type 0} (w : Ways L D) (tells : List D → List ℕ) (batch : ℕ) (left : Tally) → tells [] ≡ [] → PromptEnds w tells batch NoMemory [] [] [] left
 nothing_read w tells batch left none = (
   record {
     played = [];

@@ -1,17 +1,17 @@
 -- The trace of a script in the grammar comes to no fault.
 use Rattle.std.proofs.Common.{◌≡◌, ◌⊎◌, ◌+◌, ℕ, Bool, true, false, List, [], ◌∷◌, ◌++◌, length, max, Option, Some, None, Result, Ok, Err, refl, sym, ap, ◌∙◌, subst, inl, inr}
-use Rattle.std.specs.Prelude.{nat_le, cond}
+use Rattle.std.specs.Prelude.{IfSome, cond, nat_le}
 use Rattle.std.proofs.lemmas.List.{append-nil}
 use Rattle.sg_base.specs.declared.faults.ScriptFault.{ScriptFault}
-use Rattle.sg_base.specs.declared.faults.ScriptFault.TheVariants.{Word, Number, Hex, Length, Version, Unended}
+use Rattle.sg_base.specs.declared.faults.ScriptFault.TheVariants.{Unended}
 use Rattle.sg_edge.specs.Links.{Received}
-use Rattle.sg_edge.specs.Told.{AtEnd, TookIn}
+use Rattle.sg_edge.specs.Told.{AtEnd, Tally, TookIn}
 use Rattle.sg_gateway.specs.Drawn.{Supplied, supplied}
 use Rattle.sg_lines.specs.LineOf.{version_after}
 use Rattle.sg_lines.specs.ScriptLines.{lines_of}
 use Rattle.sg_lines.specs.declared.lines.Line.{Line}
 use Rattle.sg_trace.specs.Trace.{AtCapture, AtFault, Command, Trace, Later, Outside, Relays, Replays, after_line, begins_capture, trace_from, handled_as, line_at, line_in, moment_of, replayed, waited_or_handled, stopped, wait_in, waited, woven}
-use Rattle.sg_trace.specs.Grammar.{IsScript, fault_after, fault_from, fault_in}
+use Rattle.sg_trace.specs.Grammar.{IsScript, fault_after, fault_from}
 
 -- what follows tells no such fault
 abbrev Spares : Later → ℕ → ScriptFault → Type 0
@@ -65,7 +65,7 @@ module _ (n : ℕ) (f : ScriptFault) where
 
 -- ---- what was read of a source
 
-none_left : (left : Option (List ℕ)) (rest : List ℕ) → AtEnd left → left ≡ Some rest → rest ≡ []
+none_left : (left : Option (List ℕ)) (rest : List ℕ) → IfSome left (λ l. l ≡ []) → left ≡ Some rest → rest ≡ []
 none_left None rest end is = cc
 none_left (Some l) rest end is = let same : l ≡ rest = cc in sym same ∙ end
 
@@ -74,16 +74,16 @@ either Unended = inl refl
 either other = inr (λ is. cc)
 
 -- No fault is told of the octets that were read, where none is of all that the source had.
-pub none_fails : (left left' : Option (List ℕ)) (octets all rest : List ℕ) (fault : ScriptFault) (fails : List ℕ → Type 0) → TookIn left left' octets → left ≡ Some all → left' ≡ Some rest
+pub none_fails : (left left' : Tally) (octets all rest : List ℕ) (fault : ScriptFault) (fails : List ℕ → Type 0) → TookIn left left' octets → left.told ≡ Some all → left'.told ≡ Some rest
     → (fails all → ⊥) → fails octets → (fault ≡ Unended → AtEnd left') → (¬ (fault ≡ Unended) → (more : List ℕ) → fails (octets ++ more)) → ⊥
 none_fails left left' octets all rest fault fails took told told' spares here ended still =
-    let same : all ≡ octets ++ rest = (let both : Some all ≡ Some (octets ++ rest) = sym told ∙ took rest told' in cc) in
+    let same : all ≡ octets ++ rest = (let both : Some all ≡ Some (octets ++ rest) = sym told ∙ took.0 rest told' in cc) in
     spares (subst fails (sym same) (elim (either fault) [
-      | inl end ↦ subst fails (sym (append-nil octets) ∙ ap (λ (l : List ℕ). octets ++ l) (sym (none_left left' rest (ended end) told'))) here
+      | inl end ↦ subst fails (sym (append-nil octets) ∙ ap (λ (l : List ℕ). octets ++ l) (sym (none_left left'.told rest (ended end) told'))) here
       | inr other ↦ still other rest
     ]))
 
 -- so it is of a script
-pub no_fault : (left left' : Option (List ℕ)) (octets all rest : List ℕ) (fault : ScriptFault) (fails : List ℕ → Type 0) → TookIn left left' octets → left ≡ Some all → left' ≡ Some rest
+pub no_fault : (left left' : Tally) (octets all rest : List ℕ) (fault : ScriptFault) (fails : List ℕ → Type 0) → TookIn left left' octets → left.told ≡ Some all → left'.told ≡ Some rest
     → IsScript all → ((o : List ℕ) → IsScript o → fails o → ⊥) → fails octets → (fault ≡ Unended → AtEnd left') → (¬ (fault ≡ Unended) → (more : List ℕ) → fails (octets ++ more)) → ⊥
 no_fault left left' octets all rest fault fails took told told' script spares here ended still = none_fails left left' octets all rest fault fails took told told' (spares all script) here ended still

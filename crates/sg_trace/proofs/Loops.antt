@@ -4,9 +4,9 @@ use Rattle.std.proofs.lemmas.Bool.{cond-false, cond-true}
 use Rattle.std.proofs.lemmas.List.{append-nil}
 use Rattle.sg_base.specs.declared.faults.ScriptFault.{ScriptFault}
 use Rattle.sg_edge.proofs.Links.{added_more, added_none}
-use Rattle.sg_edge.proofs.Passed.{took_more, wrote_more, wrote_none}
+use Rattle.sg_edge.proofs.Passed.{took_more, took_none, wrote_more, wrote_none}
 use Rattle.sg_edge.specs.Links.{Added}
-use Rattle.sg_edge.specs.Told.{AtEnd, TookIn, Wrote}
+use Rattle.sg_edge.specs.Told.{AtEnd, Tally, TookIn, Wrote}
 use Rattle.sg_lines.proofs.Splits.{lines_of_whole}
 use Rattle.sg_lines.specs.ScriptLines.{IsWhole, NoEnd, lines_of}
 use Rattle.sg_trace.specs.Course.{Course, Given, Ways, behind_given, behind_line, course, course_from, ended, read_at, with_deeds}
@@ -19,9 +19,9 @@ use Rattle.sg_trace.specs.declared.status.Status.TheVariants.{Done, Script, Read
 
 -- what a source, a sink and a source of noise tell
 pub record Tellings : Type 0 where
-  pub left : Option (List ℕ)
-  pub written : Option (List ℕ)
-  pub drawn : Option (List ℕ)
+  pub left : Tally
+  pub written : Tally
+  pub drawn : Tally
 
 -- ---- courses
 
@@ -103,7 +103,7 @@ module _ {L D S : Type 0} (w : Ways L D) (e : Effects S D) (order : GoInOrder e)
   begins old ps script none is = record {
     deeds = [];
     alike = record { told = ap (e.tells begun) (sym none); left = ap (e.after begun) (sym none) };
-    took = subst (λ (s : Reading). TookIn old.left old.left s.waits) (sym is) (λ after left. left);
+    took = subst (λ (s : Reading). TookIn old.left old.left s.waits) (sym is) (took_none old.left);
     drew = added_none old.drawn;
     wrote = subst (Wrote old.written old.written) (sym (order.none_told begun)) (wrote_none old.written);
     goes = λ rest more. (λ i. course_from w (sym is i).version (sym is i).number (sym is i).offset (lines_of rest) more);
@@ -138,14 +138,14 @@ module _ {L D S : Type 0} (w : Ways L D) (e : Effects S D) (order : GoInOrder e)
   }
 
   -- a status of a run that was cut
-  ends_cut : (batch : ℕ) (status : Status) (octets draws out : List ℕ) (left : Option (List ℕ)) → IsWant status → IsCut w (e.tells begun) batch octets draws out
+  ends_cut : (batch : ℕ) (status : Status) (octets draws out : List ℕ) (left : Tally) → IsWant status → IsCut w (e.tells begun) batch octets draws out
       → LoopEnds w (e.tells begun) batch status octets draws out left
   ends_cut batch status octets draws out left (inl is) cut = subst (λ s. LoopEnds w (e.tells begun) batch s octets draws out left) (sym is) cut
   ends_cut batch status octets draws out left (inr is) cut = subst (λ s. LoopEnds w (e.tells begun) batch s octets draws out left) (sym is) cut
 
   module _ (batch : ℕ) (old now : Tellings) (taken drawn : List ℕ) (es ps : List D) (script : Reading)
       (going : IsPlaying w e begun old now taken script.waits drawn es ps script.version script.number script.offset)
-      (left' : Option (List ℕ)) (got : List ℕ) (came : TookIn now.left left' got) (near : length (script.waits ++ got) ≤ 74097) where
+      (left' : Tally) (got : List ℕ) (came : TookIn now.left left' got) (near : length (script.waits ++ got) ≤ 74097) where
     -- the octets read by then
     abbrev pub octets : List ℕ
     octets = taken ++ (script.waits ++ got)
@@ -370,7 +370,7 @@ module _ {L D S : Type 0} (w : Ways L D) (e : Effects S D) (order : GoInOrder e)
           short other never = absurd never
 
       -- where it doesn't
-      pub goes_on : (drawn' written' : Option (List ℕ)) (waits' : List D) (stands : S → Type 0) (draws out : List ℕ) (taken_so : IsTaken e (w.gives l) (e.after begun es) ps waits' stands draws out)
+      pub goes_on : (drawn' written' : Tally) (waits' : List D) (stands : S → Type 0) (draws out : List ℕ) (taken_so : IsTaken e (w.gives l) (e.after begun es) ps waits' stands draws out)
           → Added now.drawn drawn' draws → Wrote now.written written' out
           → IsPlaying w e begun old (record { left = left'; written = written'; drawn = drawn' }) (taken ++ read.line) new.waits (drawn ++ draws) (es ++ taken_so.told) waits' new.version new.number new.offset
       goes_on drawn' written' waits' stands draws out taken_so drew wrote = record {

@@ -1,8 +1,8 @@
 -- A run that ends passes on what its sink holds: what was so of the end is so of the status.
-use Rattle.std.proofs.Common.{◌≡◌, ◌⊎◌, ℕ, List, [], ◌++◌, Bool, Option, refl, sym, ◌∙◌, subst, inl, inr, arith}
+use Rattle.std.proofs.Common.{◌≡◌, ◌⊎◌, ℕ, List, [], Bool, Option, refl, sym, ◌∙◌, subst, inl, inr, arith}
 use Rattle.std.proofs.lemmas.List.{append-nil}
 use Rattle.sg_edge.proofs.Passed.{rose_later, wrote_none}
-use Rattle.sg_edge.specs.Told.{Rose, Tells, Wrote}
+use Rattle.sg_edge.specs.Told.{Rose, Tally, Tells, Wrote}
 use Rattle.sg_trace.proofs.Causes.{failed_as}
 use Rattle.sg_trace.specs.Causes.{EndedBy, HasFailed, IsOfOutside, IsPassedOn}
 use Rattle.sg_trace.specs.Course.{Ways, course}
@@ -32,13 +32,13 @@ is_want other = inr (λ is. elim is [
 ])
 
 -- what was written stays as it is passed on
-pub behind_kept : (a b c : Option (List ℕ)) (out : List ℕ) → b ≡ a → Wrote b c out → Wrote a c out
-behind_kept a b c out same wrote = subst (λ (o : Option (List ℕ)). Wrote o c out) same wrote
+pub behind_kept : (a b c : Tally) (out : List ℕ) → b ≡ a → Wrote b c out → Wrote a c out
+behind_kept a b c out same wrote = subst (λ (o : Tally). Wrote o c out) same wrote
 
-pub before_kept : (a b c : Option (List ℕ)) (out : List ℕ) → c ≡ b → Wrote a b out → Wrote a c out
-before_kept a b c out same wrote = subst (λ (o : Option (List ℕ)). Wrote a o out) (sym same) wrote
+pub before_kept : (a b c : Tally) (out : List ℕ) → c ≡ b → Wrote a b out → Wrote a c out
+before_kept a b c out same wrote = subst (λ (o : Tally). Wrote a o out) (sym same) wrote
 
-pub nothing_kept : (a b : Option (List ℕ)) → b ≡ a → Wrote a b []
+pub nothing_kept : (a b : Tally) → b ≡ a → Wrote a b []
 nothing_kept a b same = before_kept a a b [] same (wrote_none a)
 
 -- with Write nothing else failed
@@ -134,7 +134,7 @@ module _ {L D : Type 0} (w : Ways L D) (tells : List D → List ℕ) (batch : �
   }
 
   -- whatever the end, it is one of a run whose sink failed
-  cut_of : (end : Status) (left : Option (List ℕ)) → LoopEnds w tells batch end octets draws out left → IsCut w tells batch octets draws out
+  cut_of : (end : Status) (left : Tally) → LoopEnds w tells batch end octets draws out left → IsCut w tells batch octets draws out
   cut_of Done left is = all_cut AtEnd (λ at same. cc) is.0
   cut_of (Script n fault) left is = all_cut (AtFault n fault) (λ at same. cc) is.0
   cut_of Noise left is = all_cut ForDraw (λ at same. cc) is
@@ -143,9 +143,9 @@ module _ {L D : Type 0} (w : Ways L D) (tells : List D → List ℕ) (batch : �
   cut_of NoMemory left is = is
   cut_of other left is = absurd is
 
-  pub loop_passed : (end status : Status) (left : Option (List ℕ)) → (status ≡ end) ⊎ (status ≡ Write) → LoopEnds w tells batch end octets draws out left → LoopEnds w tells batch status octets draws out left
+  pub loop_passed : (end status : Status) (left : Tally) → (status ≡ end) ⊎ (status ≡ Write) → LoopEnds w tells batch end octets draws out left → LoopEnds w tells batch status octets draws out left
   loop_passed end status left (inl same) is = subst (λ s. LoopEnds w tells batch s octets draws out left) (sym same) is
   loop_passed end status left (inr wrote) is = subst (λ s. LoopEnds w tells batch s octets draws out left) (sym wrote) (cut_of end left is)
 
-  pub prompt_passed : (end status : Status) (left : Option (List ℕ)) → (status ≡ end) ⊎ (status ≡ Write) → PromptEnds w tells batch end octets draws out left → PromptEnds w tells batch status octets draws out left
+  pub prompt_passed : (end status : Status) (left : Tally) → (status ≡ end) ⊎ (status ≡ Write) → PromptEnds w tells batch end octets draws out left → PromptEnds w tells batch status octets draws out left
   prompt_passed end status left how is = (loop_passed end status left how is.0, is.1)

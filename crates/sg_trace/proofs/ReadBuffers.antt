@@ -1,7 +1,8 @@
 -- How octets go from a source through the read buffer into a line.
-use Rattle.std.proofs.Common.{◌≡◌, ℕ, Bool, true, false, List, [], ◌∷◌, ◌++◌, Option, Result, Ok, Err, sym, ap, ◌∙◌, append_assoc}
+use Rattle.std.proofs.Common.{◌≡◌, ℕ, Bool, true, false, List, [], ◌∷◌, ◌++◌, Result, Ok, Err, sym, ap, ◌∙◌, append_assoc}
 use Rattle.sg_lines.specs.ScriptLines.{NoEnd, IsWhole}
 use Rattle.sg_trace.specs.Fed.{GivesLine}
+use Rattle.sg_edge.specs.Told.{Tally}
 
 -- two parts without a line end have none together
 pub NoEnd-append : (line part : List ℕ) → NoEnd line → NoEnd part → NoEnd (line ++ part)
@@ -24,7 +25,7 @@ moved all l0 f1 f2 part l1 is prefix line =
     is ∙ ap (λ (x : List ℕ). l0 ++ x) prefix ∙ sym (append_assoc l0 part f2) ∙ ap (λ (x : List ℕ). x ++ f2) (sym line)
 
 -- whatever came of it, what waited and came went to the line, or waits
-pub all_given : {E : Type 0} (r : Result Bool E) (line old new got : List ℕ) (left : Option (List ℕ)) (budget : ℕ) → GivesLine r line old new got left budget → old ++ got ≡ line ++ new
+pub all_given : {E : Type 0} (r : Result Bool E) (line old new got : List ℕ) (left : Tally) (budget : ℕ) → GivesLine r line old new got left budget → old ++ got ≡ line ++ new
 all_given (Ok true) line old new got left budget given = given.0
 all_given (Ok false) line old new got left budget given = given.0 ∙ (λ i. sym given.1 i ++ sym given.2 i)
 all_given (Err e) line old new got left budget given = given

@@ -1,5 +1,5 @@
 -- The next line of a script, from what a line reader gave.
-use Rattle.std.proofs.Common.{◌≡◌, ◌⊎◌, ◌<◌, ◌≤◌, ◌+◌, ◌^◌, ℕ, List, [], ◌++◌, length, Option, Ok, Err, refl, sym, ap, ◌∙◌, subst, inl, inr, append_assoc, length-append, arith}
+use Rattle.std.proofs.Common.{◌≡◌, ◌⊎◌, ◌<◌, ◌≤◌, ◌+◌, ◌^◌, ℕ, List, [], ◌++◌, length, Ok, Err, refl, sym, ap, ◌∙◌, subst, inl, inr, append_assoc, length-append, arith}
 use Rattle.sg_base.specs.declared.faults.ScriptFault.{ScriptFault}
 use Rattle.sg_lines.specs.Fields.{Gives}
 use Rattle.sg_lines.specs.declared.faults.ReadLineFault.{ReadLineFault}
@@ -9,14 +9,13 @@ use Rattle.sg_trace.proofs.Frames.{first_fails, line_whole, still_fails, unended
 use Rattle.sg_trace.specs.Trace.{Spelling, spelled_at}
 use Rattle.sg_trace.specs.Fed.{GivesLine, IsLine}
 use Rattle.sg_trace.specs.Reading.{FirstFailsBy, IsFaultBy, IsFramed, IsNextBy, IsReadBy, Reading, refused_as}
-use Rattle.sg_trace.specs.declared.status.Status.{Status}
-use Rattle.sg_trace.specs.declared.status.Status.TheVariants.{Read, NoMemory}
+use Rattle.sg_edge.specs.Told.{Tally}
 
 end_so : {P Q : Type 0} → P ⊎ Q → (Q → ⊥) → P
 end_so (inl p) isnt = p
 end_so (inr q) isnt = absurd (isnt q)
 
-module _ {L : Type 0} (spelled : Spelling L) (followed : ℕ → L → ℕ) (framed : IsFramed spelled) (version n at : ℕ) (line waits rest got : List ℕ) (left : Option (List ℕ)) (budget : ℕ) (split : waits ++ got ≡ line ++ rest) (is : IsLine line rest left budget)
+module _ {L : Type 0} (spelled : Spelling L) (followed : ℕ → L → ℕ) (framed : IsFramed spelled) (version n at : ℕ) (line waits rest got : List ℕ) (left : Tally) (budget : ℕ) (split : waits ++ got ≡ line ++ rest) (is : IsLine line rest left budget)
     (spent : budget ≡ 0 → rest ≡ [] → 2 ^ 30 < at + length line) where
   fault_so : (fault : ScriptFault) → spelled_at spelled version n at line ≡ Err fault → IsFaultBy spelled version n at (waits ++ got) fault left
   fault_so fault fails = record {
@@ -41,11 +40,11 @@ module _ {L : Type 0} (spelled : Spelling L) (followed : ℕ → L → ℕ) (fra
       record { line = line; split = split; whole = whole.0; is = read; version = refl; number = refl; offset = refl; within = whole.1 }
 
 -- what a line reader gave, at the value that it answered
-pub given_at : (E : Type 0) (r b : _) (line old new got : List ℕ) (left : Option (List ℕ)) (budget : ℕ) → r ≡ b → GivesLine {E = E} (Ok r) line old new got left budget → GivesLine {E = E} (Ok b) line old new got left budget
+pub given_at : (E : Type 0) (r b : _) (line old new got : List ℕ) (left : Tally) (budget : ℕ) → r ≡ b → GivesLine {E = E} (Ok r) line old new got left budget → GivesLine {E = E} (Ok b) line old new got left budget
 given_at E r b line old new got left budget is given = subst (λ v. GivesLine {E = E} (Ok v) line old new got left budget) is given
 
 -- a line isn't empty
-pub line_some : (line rest : List ℕ) (left : Option (List ℕ)) (budget : ℕ) → IsLine line rest left budget → 0 < length line
+pub line_some : (line rest : List ℕ) (left : Tally) (budget : ℕ) → IsLine line rest left budget → 0 < length line
 line_some line rest left budget (inl whole) = whole_some line whole
 line_some line rest left budget (inr unended) = unended.1
 

@@ -4,9 +4,9 @@ use Rattle.std.specs.List.{flat_map}
 use Rattle.std.proofs.lemmas.Grind.{flat_map-append}
 use Rattle.sg_base.specs.declared.faults.ScriptFault.{ScriptFault}
 use Rattle.sg_gateway.specs.Events.{outcomes_from}
-use Rattle.sg_gateway.specs.Runs.{Turn, outcomes, turns_from, world_after}
+use Rattle.sg_gateway.specs.Runs.{Turn, turns_from, world_after}
 use Rattle.sg_gateway.specs.Step.{Event, step}
-use Rattle.sg_gateway.specs.World.{World, empty}
+use Rattle.sg_gateway.specs.World.{World}
 use Rattle.sg_lines.proofs.Splits.{lines_of_whole}
 use Rattle.sg_lines.specs.LineOf.{version_after}
 use Rattle.sg_lines.specs.ScriptLines.{IsWhole, lines_of}
@@ -14,7 +14,7 @@ use Rattle.sg_lines.specs.declared.lines.Line.{Line}
 use Rattle.sg_outcome.specs.OutcomeText.{outcome_line}
 use Rattle.std.proofs.lemmas.Bool.{cond-false}
 use Rattle.sg_trace.specs.Trace.{AtFault, Command, begins_capture, Trace, Outside, after_line, trace_from, line_at, said, stopped, with_events}
-use Rattle.sg_trace.specs.Output.{output, output_from, text}
+use Rattle.sg_trace.specs.Output.{output_from, text}
 use Rattle.sg_trace.specs.Reading.{FirstFails}
 
 -- ---- lines

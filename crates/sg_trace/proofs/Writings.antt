@@ -1,23 +1,20 @@
 -- How octets are written part by part.
-use Rattle.std.proofs.Common.{◌≡◌, ◌<◌, ◌+◌, ℕ, true, false, List, [], ◌∷◌, ◌++◌, length, take, drop, get_or, Option, Result, Ok, Err, refl, sym, ap, ◌∙◌, append_assoc}
-use Rattle.std.specs.Prelude.{is_ok}
+use Rattle.std.proofs.Common.{◌≡◌, ◌<◌, ◌+◌, ℕ, List, [], ◌∷◌, ◌++◌, length, take, drop, get_or, Err, refl, sym, ap, ◌∙◌, append_assoc}
 use Rattle.std.specs.List.{flat_map}
-use Rattle.std.proofs.lemmas.Bool.{false≢true}
 use Rattle.std.proofs.lemmas.Grind.{flat_map-append}
 use Rattle.std.proofs.lemmas.List.{append-nil, take-append-drop, take_more}
-use Rattle.sg_base.specs.declared.faults.Failed.{Failed}
-use Rattle.sg_edge.proofs.Passed.{wrote_more}
-use Rattle.sg_edge.specs.Told.{Wrote, WroteAll}
+use Rattle.sg_edge.proofs.Passed.{wrote_more, wrote_none}
+use Rattle.sg_edge.specs.Told.{Tally, Wrote}
 use Rattle.sg_trace.specs.Output.{IsWritten, WrotePrefix}
 use Rattle.sg_trace.specs.declared.status.Status.{Status}
-use Rattle.sg_trace.specs.declared.status.Status.TheVariants.{Done, Usage, Script, Read, Write, Link, NoMemory, Clock, Noise, TurnsSpent, Capture}
+use Rattle.sg_trace.specs.declared.status.Status.TheVariants.{Write, NoMemory}
 
 -- nothing is a prefix of all
-pub none_written : (a : Option (List ℕ)) (octets : List ℕ) → WrotePrefix a a octets
-none_written a octets = ([], (octets, refl), λ after is. (after, is, sym (append-nil after)))
+pub none_written : (a : Tally) (octets : List ℕ) → WrotePrefix a a octets
+none_written a octets = ([], (octets, refl), wrote_none a)
 
 -- a front behind what was written
-pub prefix_behind : (a b c : Option (List ℕ)) (before octets behind : List ℕ) → Wrote a b before → WrotePrefix b c octets → WrotePrefix a c (before ++ (octets ++ behind))
+pub prefix_behind : (a b c : Tally) (before octets behind : List ℕ) → Wrote a b before → WrotePrefix b c octets → WrotePrefix a c (before ++ (octets ++ behind))
 prefix_behind a b c before octets behind wrote prefix = (
   before ++ prefix.0,
   (
@@ -28,13 +25,13 @@ prefix_behind a b c before octets behind wrote prefix = (
 )
 
 -- what was written by an error is a front
-pub written_prefix : (status : Status) (a b : Option (List ℕ)) (octets : List ℕ) → IsWritten (Err status) a b octets → WrotePrefix a b octets
+pub written_prefix : (status : Status) (a b : Tally) (octets : List ℕ) → IsWritten (Err status) a b octets → WrotePrefix a b octets
 written_prefix Write a b octets is = is
 written_prefix NoMemory a b octets is = is
 written_prefix other a b octets is = absurd is
 
 -- and so it is of more octets, behind others
-pub written_behind : (status : Status) (a b c : Option (List ℕ)) (before octets behind : List ℕ) → Wrote a b before → IsWritten (Err status) b c octets
+pub written_behind : (status : Status) (a b c : Tally) (before octets behind : List ℕ) → Wrote a b before → IsWritten (Err status) b c octets
     → IsWritten (Err status) a c (before ++ (octets ++ behind))
 written_behind Write a b c before octets behind wrote is = prefix_behind a b c before octets behind wrote is
 written_behind NoMemory a b c before octets behind wrote is = prefix_behind a b c before octets behind wrote is

@@ -1,7 +1,7 @@
 -- What the loop that plays a script leaves, whatever plays it.
 use Rattle.std.specs.Prelude.{◌≡◌, ◌⊎◌, ◌≤◌, ◌+◌, ◌^◌, ℕ, false, List, [], ◌++◌, length, Option, Some, None, Result, Ok, Err}
 use Rattle.sg_base.specs.declared.faults.ScriptFault.TheVariants.{Unended}
-use Rattle.sg_edge.specs.Told.{AtEnd}
+use Rattle.sg_edge.specs.Told.{AtEnd, Tally}
 use Rattle.sg_lines.specs.LineOf.{line_of, version_after}
 use Rattle.sg_lines.specs.ScriptLines.{IsWhole, NoEnd}
 use Rattle.sg_lines.specs.declared.lines.Line.{Line}
@@ -125,7 +125,7 @@ pub record IsCut {L D : Type 0} (w : Ways L D) (tells : List D → List ℕ) (ba
 -- fault, whatever would come behind what was read; Unended comes only at the source's end. With Noise a draw comes next.
 -- Where the source failed, all whole lines that were read are told. Where telling failed, nothing before the batch under way
 -- is lost.
-abbrev pub LoopEnds : {L D : Type 0} → Ways L D → (List D → List ℕ) → ℕ → Status → List ℕ → List ℕ → List ℕ → Option (List ℕ) → Type 0
+abbrev pub LoopEnds : {L D : Type 0} → Ways L D → (List D → List ℕ) → ℕ → Status → List ℕ → List ℕ → List ℕ → Tally → Type 0
 LoopEnds w tells batch statuses.Done octets draws out left = IsAll w tells octets draws out BehindAll × AtEnd left
 LoopEnds w tells batch (statuses.Script n fault) octets draws out left =
     IsAll w tells octets draws out (AtFault n fault) × (fault ≡ Unended → AtEnd left)
@@ -153,5 +153,5 @@ pub record IsCutLine {L D : Type 0} (w : Ways L D) (tells : List D → List ℕ)
   pub within : IsPrefixOf out (tells (course w (lines ++ line) draws).deeds)
 
 -- The loop ends as ever, and whatever ends it, nothing is lost but of the line under way.
-abbrev pub PromptEnds : {L D : Type 0} → Ways L D → (List D → List ℕ) → ℕ → Status → List ℕ → List ℕ → List ℕ → Option (List ℕ) → Type 0
+abbrev pub PromptEnds : {L D : Type 0} → Ways L D → (List D → List ℕ) → ℕ → Status → List ℕ → List ℕ → List ℕ → Tally → Type 0
 PromptEnds w tells batch status octets draws out left = LoopEnds w tells batch status octets draws out left × IsCutLine w tells octets draws out

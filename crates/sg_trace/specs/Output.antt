@@ -1,9 +1,9 @@
 -- What is written of outcomes.
-use Rattle.std.specs.Prelude.{◌≡◌, ℕ, List, ◌++◌, Option, Result, Ok, Err}
+use Rattle.std.specs.Prelude.{◌≡◌, ℕ, List, ◌++◌, Result, Ok, Err}
 use Rattle.std.specs.List.{flat_map}
 use Rattle.sg_trace.specs.declared.status.Status.{Status}
-use Rattle.sg_trace.specs.declared.status.Status.TheVariants.{Done, Usage, Script, Read, Write, Link, NoMemory, Clock, Noise, TurnsSpent, Capture}
-use Rattle.sg_edge.specs.Told.{Wrote}
+use Rattle.sg_trace.specs.declared.status.Status.TheVariants.{Write, NoMemory}
+use Rattle.sg_edge.specs.Told.{Tally, Wrote}
 use Rattle.sg_gateway.specs.Events.{outcomes_from}
 use Rattle.sg_gateway.specs.Runs.{outcomes}
 use Rattle.sg_gateway.specs.Step.{Event}
@@ -27,11 +27,11 @@ abbrev pub IsPrefixOf : {X : Type 0} → List X → List X → Type 0
 IsPrefixOf {X} prefix all = (rest : List X) × (all ≡ prefix ++ rest)
 
 -- a prefix of the octets was written
-abbrev pub WrotePrefix : Option (List ℕ) → Option (List ℕ) → List ℕ → Type 0
+abbrev pub WrotePrefix : Tally → Tally → List ℕ → Type 0
 WrotePrefix written written' octets = (prefix : List ℕ) × IsPrefixOf prefix octets × Wrote written written' prefix
 
 -- The octets were written, or a prefix of them.
-abbrev pub IsWritten : Result (Unit {0}) Status → Option (List ℕ) → Option (List ℕ) → List ℕ → Type 0
+abbrev pub IsWritten : Result (Unit {0}) Status → Tally → Tally → List ℕ → Type 0
 IsWritten (Ok u) written written' octets = Wrote written written' octets
 IsWritten (Err Write) written written' octets = WrotePrefix written written' octets
 IsWritten (Err NoMemory) written written' octets = WrotePrefix written written' octets

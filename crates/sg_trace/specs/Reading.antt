@@ -2,7 +2,7 @@
 use Rattle.std.specs.Prelude.{◌≡◌, ◌⊎◌, ◌<◌, ◌≤◌, ◌+◌, ◌^◌, ℕ, List, [], ◌∷◌, ◌++◌, length, Option, Some, None, Result, Ok, Err, ⊤}
 use Rattle.sg_base.specs.declared.faults.ScriptFault.{ScriptFault}
 use Rattle.sg_base.specs.declared.faults.ScriptFault.TheVariants.{Length, Unended}
-use Rattle.sg_edge.specs.Told.{AtEnd}
+use Rattle.sg_edge.specs.Told.{AtEnd, Tally}
 use Rattle.sg_lines.specs.declared.faults.ReadLineFault.{ReadLineFault}
 use Rattle.sg_lines.specs.declared.faults.ReadLineFault.TheVariants as faults
 use Rattle.sg_lines.specs.declared.lines.Line.{Line}
@@ -37,7 +37,7 @@ pub record FirstFailsBy {L : Type 0} (spelled : Spelling L) (version n at : ℕ)
   pub fails : spelled_at spelled version n at line ≡ Err fault
 
 -- It is so whatever would come behind; that its end is missing is told only at the source's end.
-pub record IsFaultBy {L : Type 0} (spelled : Spelling L) (version n at : ℕ) (octets : List ℕ) (fault : ScriptFault) (left : Option (List ℕ)) : Type 0 where
+pub record IsFaultBy {L : Type 0} (spelled : Spelling L) (version n at : ℕ) (octets : List ℕ) (fault : ScriptFault) (left : Tally) : Type 0 where
   pub first : FirstFailsBy spelled version n at octets fault
   pub ended : fault ≡ Unended → AtEnd left
   pub still : ¬ (fault ≡ Unended) → (more : List ℕ) → FirstFailsBy spelled version n at (octets ++ more) fault
@@ -55,7 +55,7 @@ pub record IsReadBy {L : Type 0} (spelled : Spelling L) (followed : ℕ → L �
 
 -- The next line; none at the end, or where the octets that count are behind; or the fault of the line. Where the source
 -- failed, what was read since the last line has no line end.
-abbrev pub IsNextBy : {L : Type 0} → Spelling L → (ℕ → L → ℕ) → Result (Option L) Status → Reading → Reading → List ℕ → Option (List ℕ) → Type 0
+abbrev pub IsNextBy : {L : Type 0} → Spelling L → (ℕ → L → ℕ) → Result (Option L) Status → Reading → Reading → List ℕ → Tally → Type 0
 IsNextBy spelled followed (Ok (Some l)) old new got left = IsReadBy spelled followed l old new got
 IsNextBy spelled followed (Ok None) old new got left = (old.waits ++ got ≡ []) × (AtEnd left ⊎ (2 ^ 30 < old.offset))
 IsNextBy spelled followed (Err (Script n fault)) old new got left = (n ≡ old.number) × IsFaultBy spelled old.version n old.offset (old.waits ++ got) fault left
@@ -68,13 +68,13 @@ IsNextBy spelled followed (Err other) old new got left = ⊥
 abbrev pub FirstFails : ℕ → ℕ → ℕ → List ℕ → ScriptFault → Type 0
 FirstFails = FirstFailsBy line_of
 
-abbrev pub IsFault : ℕ → ℕ → ℕ → List ℕ → ScriptFault → Option (List ℕ) → Type 0
+abbrev pub IsFault : ℕ → ℕ → ℕ → List ℕ → ScriptFault → Tally → Type 0
 IsFault = IsFaultBy line_of
 
 abbrev pub IsRead : Line → Reading → Reading → List ℕ → Type 0
 IsRead = IsReadBy line_of version_after
 
-abbrev pub IsNext : Result (Option Line) Status → Reading → Reading → List ℕ → Option (List ℕ) → Type 0
+abbrev pub IsNext : Result (Option Line) Status → Reading → Reading → List ℕ → Tally → Type 0
 IsNext = IsNextBy line_of version_after
 
 -- why the n-th line isn't read

@@ -4,7 +4,7 @@ use Rattle.sg_gateway.specs.Drawn.{supplied}
 use Rattle.sg_lines.specs.declared.lines.Line.TheVariants as lines
 use Rattle.sg_lines.specs.declared.lines.Signal.{Signal}
 use Rattle.sg_trace.specs.declared.status.Status.{Status}
-use Rattle.sg_trace.specs.declared.status.Status.TheVariants.{Done, Usage, Script, Read, Write, Link, NoMemory, Clock, Noise, TurnsSpent, Capture}
+use Rattle.sg_trace.specs.declared.status.Status.TheVariants.{Noise}
 
 -- The signal has its noise, for which these octets were drawn and no other; or it lacks it, and none were.
 abbrev pub IsSupplied : Result Signal Status → Signal → List ℕ → Type 0

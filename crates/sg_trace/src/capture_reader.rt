@@ -76,7 +76,7 @@ impl CaptureReader {
             × IsHeaderRead result self.old self.new got (S.left source.new) × (length got + self.new.budget ≡ self.old.budget) }
         ensures most { self.new.most ≡ self.old.most }
         ensures near { length self.old.waits ≤ 4096 → (length self.new.waits ≤ 4096) × (length self.old.waits + self.old.budget ≤ self.new.budget + 266256) }
-        ensures given { S.given source.new + self.new.budget ≤ S.given source.old + self.old.budget }
+        ensures given { (S.left source.new).count + self.new.budget ≤ (S.left source.old).count + self.old.budget }
         ensures cause { IsCaused Status.Read result (S.faults source.old) (S.faults source.new) (S.failed source.new) }
     {
         match next_part(
@@ -102,7 +102,7 @@ impl CaptureReader {
             × IsRecordRead form result self.old self.new got (S.left source.new) × (length got + self.new.budget ≡ self.old.budget) }
         ensures most { self.new.most ≡ self.old.most }
         ensures near { length self.old.waits ≤ 4096 → (length self.new.waits ≤ 4096) × (length self.old.waits + self.old.budget ≤ self.new.budget + 266256) }
-        ensures given { S.given source.new + self.new.budget ≤ S.given source.old + self.old.budget }
+        ensures given { (S.left source.new).count + self.new.budget ≤ (S.left source.old).count + self.old.budget }
         ensures cause { IsCaused Status.Read result (S.faults source.old) (S.faults source.new) (S.failed source.new) }
     {
         self.at += self.part.len() as u64;
@@ -147,7 +147,7 @@ fn next_record<S: Source>(
     requires { part.old.items ≡ [] }
     ensures got { (got : List ℕ) × TookIn (S.left source.old) (S.left source.new) got
         × HasRecord form result part.new.items read_buffer.old read_buffer.new got (S.left source.new) budget.new × (length got + budget.new ≡ budget.old) }
-    ensures given { S.given source.new + budget.new ≤ S.given source.old + budget.old }
+    ensures given { (S.left source.new).count + budget.new ≤ (S.left source.old).count + budget.old }
     ensures only { IfErr result (λ status. (status ≡ Status.Read) ⊎ (status ≡ Status.NoMemory)) }
     ensures near { length read_buffer.old ≤ 4096 → (length read_buffer.new ≤ 4096) × (length part.new.items ≤ 262160) }
     ensures short { result ≡ Err Status.Read → (length part.new.items < record_length form part.new.items) × (read_buffer.new ≡ []) }

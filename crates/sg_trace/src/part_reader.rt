@@ -20,7 +20,7 @@ pub fn next_part<S: Source>(
 ) -> Result<(), Status>
     ensures got { (got : List ℕ) × TookIn (S.left source.old) (S.left source.new) got
         × HasPart result count part.old.items part.new.items read_buffer.old read_buffer.new got (S.left source.new) budget.new × (length got + budget.new ≡ budget.old) }
-    ensures given { S.given source.new + budget.new ≤ S.given source.old + budget.old }
+    ensures given { (S.left source.new).count + budget.new ≤ (S.left source.old).count + budget.old }
     ensures only { IfErr result (λ status. (status ≡ Status.Read) ⊎ (status ≡ Status.NoMemory)) }
     ensures most { length part.new.items ≤ max count (length part.old.items) }
     ensures near { length read_buffer.old ≤ 4096 → length read_buffer.new ≤ 4096 }

@@ -95,7 +95,7 @@ impl ReadBuffer {
     pub fn fill<S: Source>(&mut self, source: &mut S, budget: &mut u64) -> Result<(), Failed>
         ensures got { (got : List ℕ) × TookIn (S.left source.old) (S.left source.new) got × (self.new ≡ self.old ++ got) × (length got + budget.new ≡ budget.old) }
         ensures ended { OnOk result (self.new ≡ [] → AtEnd (S.left source.new) ⊎ (budget.new ≡ 0)) }
-        ensures given { S.given source.new + budget.new ≤ S.given source.old + budget.old }
+        ensures given { (S.left source.new).count + budget.new ≤ (S.left source.old).count + budget.old }
         ensures cause { HasCause (S.faults source.old) (S.faults source.new) result }
         ensures told { OnErr result (Tells (S.failed source.new) true) }
         ensures none { OnErr result (self.new ≡ []) }

@@ -79,7 +79,7 @@ impl ScriptReader {
             × IsNextBy L.spelled L.followed result self.old self.new got (S.left source.new) × (length got + self.new.budget ≡ self.old.budget) }
         ensures fits { IfOk result (λ found. IfSome found (λ line. L.fits self.old.version self.old.number line)) }
         ensures near { length self.old.waits ≤ 4096 → (length self.new.waits ≤ 4096) × (length self.old.waits + self.old.budget ≤ self.new.budget + 74097) }
-        ensures given { S.given source.new + self.new.budget ≤ S.given source.old + self.old.budget }
+        ensures given { (S.left source.new).count + self.new.budget ≤ (S.left source.old).count + self.old.budget }
         ensures cause { IsCaused Status.Read result (S.faults source.old) (S.faults source.new) (S.failed source.new) }
     {
         self.at += self.line.len() as u64;

@@ -1,12 +1,11 @@
-use Rattle.std.proofs.Common.{rules, ◌≡◌, ◌≤◌, ◌⊎◌, ℕ, List, [], ◌∷◌, ◌++◌, length, None, Some, Ok, Err, refl, sym, ap, ◌∙◌, subst, inl, inr, arith, length-append}
+use Rattle.std.proofs.Common.{◌≡◌, ◌≤◌, ◌⊎◌, ℕ, List, [], ◌∷◌, ◌++◌, length, None, Ok, Err, refl, sym, ap, ◌∙◌, subst, inl, inr, arith, length-append}
 use Rattle.sg_edge.proofs.Links.{added_none}
 use Rattle.sg_edge.proofs.Passed.{took_none, wrote_more}
-use Rattle.sg_edge.specs.Told.{Wrote}
+use Rattle.sg_edge.specs.Told.{Wrote, untold}
 use Rattle.sg_lines.specs.LineText.{line_text}
 use Rattle.sg_lines.specs.declared.lines.Line.{Line}
 use Rattle.sg_migrate.proofs.Migrations.{behind_in_order, in_order, line_cut, line_taken, written_not}
 use Rattle.sg_migrate.specs.Migrated.{effects, migrated_line, moment_after, moment_behind, of_migration, old_line_of, written_of}
-use Rattle.sg_migrate.specs.declared.lines.LineOfVersionOne.{LineOfVersionOne}
 use Rattle.sg_trace.proofs.Causes.{failed_as, failed_now, not_failed, ok_not}
 use Rattle.sg_trace.proofs.Ends.{next_isnt}
 use Rattle.sg_trace.proofs.Loops.{begins, bounded, goes_on, near_by, prompt_at_end, prompt_at_err, prompt_played, prompt_stopped, took_all}
@@ -142,7 +141,7 @@ lines-preserved g c =
       (
         so.0 ++ read.line,
         so.1 ++ found.line ∷ [],
-        goes_on of_migration effects in_order 0 1 _ _ so.0 [] so.1 [] c.lines.script so.2 _ got.0 got.1 near found c.next.new.self read refl None _ [] _ [] _ (line_taken (moment_behind 0 so.1) found) (added_none None) (behind_kept _ _ _ (line_text (migrated_line (moment_behind 0 so.1) found.line)) c.in-Ok.ensures.kept wrote),
+        goes_on of_migration effects in_order 0 1 _ _ so.0 [] so.1 [] c.lines.script so.2 _ got.0 got.1 near found c.next.new.self read refl (untold 0) _ [] _ [] _ (line_taken (moment_behind 0 so.1) found) (added_none (untold 0)) (behind_kept _ _ _ (line_text (migrated_line (moment_behind 0 so.1) found.line)) c.in-Ok.ensures.kept wrote),
         omega (arith, so.3, read.offset, length-append so.0 read.line),
         c.moment_after-next.ensures ∙ ap (λ (m : ℕ). moment_after m found.line) so.4 ∙ sym (behind_in_order 0 so.1 (found.line ∷ [])),
       ),

@@ -1,7 +1,7 @@
 use Rattle.std.proofs.Common.{rules, ◌≡◌, ◌+◌, ℕ, List, [], ◌∷◌, ◌++◌, take, drop, refl, sym, subst, ◌∙◌, arith, take-append-drop}
 use Rattle.std.proofs.lemmas.List.{take_all}
 use Rattle.std.specs.Prelude.{Ok, Err}
-use Rattle.sg_edge.proofs.Links.{added_more, added_none}
+use Rattle.sg_edge.proofs.Links.{called_more, called_none}
 use Rattle.sg_edge.proofs.Passed.{wrote_more, wrote_none}
 use Rattle.sg_outcome.specs.declared.outcomes.Outcome.{Outcome}
 use Rattle.sg_relay.specs.Parts.{AreCarriedOut}
@@ -9,7 +9,7 @@ use Rattle.sg_relay.proofs.Deeds.{done_none, next_told, told_longer, told_more}
 use Rattle.sg_relay.proofs.carrying_out.carry_out_all.Goals as goal
 
 pub loop-outcome-init : goal.loop-outcome-init
-loop-outcome-init g c = (([], [], added_none _, wrote_none _, (done_none, tt, refl)), search rules, search rules)
+loop-outcome-init g c = (([], [], called_none _, wrote_none _, (done_none, tt, refl)), search rules, search rules)
 
 pub loop-outcome-preserved : goal.loop-outcome-preserved
 loop-outcome-preserved g c =
@@ -21,13 +21,13 @@ loop-outcome-preserved g c =
       (
         so_far.0 ++ done.0,
         so_far.1 ++ done.1,
-        added_more _ _ _ so_far.0 done.0 so_far.2 done.2,
+        called_more _ _ _ so_far.0 done.0 so_far.2 done.2,
         wrote_more _ _ _ so_far.1 done.1 so_far.3 done.3,
         subst (λ (l : List Outcome). AreCarriedOut (Ok tt) l (so_far.0 ++ done.0) (so_far.1 ++ done.1)) (sym (next_told os i o c.loop-outcome-test.true c.outcome-item.is))
             (told_more (Ok tt) (take i os) (o ∷ []) so_far.0 done.0 so_far.1 done.1 so_far.4 done.4),
       ),
       c.in-Ok.ensures.write ∙ c.loop-outcome.invariant.1,
-      omega (arith, c.loop-outcome.invariant.2, c.in-Ok.ensures.link),
+      c.in-Ok.ensures.link ∙ c.loop-outcome.invariant.2,
     )
 
 pub returns-in-Err-clause-done : goal.returns-in-Err-clause-done
@@ -39,7 +39,7 @@ returns-in-Err-clause-done g c =
     let done = c.in-Err.ensures.done in (
       so_far.0 ++ done.0,
       so_far.1 ++ done.1,
-      added_more _ _ _ so_far.0 done.0 so_far.2 done.2,
+      called_more _ _ _ so_far.0 done.0 so_far.2 done.2,
       wrote_more _ _ _ so_far.1 done.1 so_far.3 done.3,
       subst (λ (l : List Outcome). AreCarriedOut (Err c.in-Err.status) l (so_far.0 ++ done.0) (so_far.1 ++ done.1)) (take-append-drop (i + 1) os)
           (told_longer c.in-Err.status (take (i + 1) os) (drop (i + 1) os) (so_far.0 ++ done.0) (so_far.1 ++ done.1)

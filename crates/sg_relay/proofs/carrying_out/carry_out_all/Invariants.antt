@@ -1,11 +1,11 @@
 use Rattle.std.proofs.Common.{◌≡◌, ◌≤◌, List, ℕ, take, Ok}
-use Rattle.sg_edge.specs.Links.{Added, LinkCall}
+use Rattle.sg_edge.specs.Links.{Called, LinkCall}
 use Rattle.sg_edge.specs.Told.{Wrote}
 use Rattle.sg_relay.specs.Parts.{AreCarriedOut}
 use Rattle.sg_relay.proofs.carrying_out.carry_out_all.Given as goal
 
 abbrev pub invariant-loop-outcome : goal.invariant-loop-outcome
 invariant-loop-outcome g l =
-    ((calls : List LinkCall) × (out : List ℕ) × Added (g.L.Link.told l.fn.link) (g.L.Link.told l.link) calls × Wrote (g.K.Sink.written l.fn.sink) (g.K.Sink.written l.sink) out
+    ((calls : List LinkCall) × (out : List ℕ) × Called (g.L.Link.told l.fn.link) (g.L.Link.told l.link) calls × Wrote (g.K.Sink.written l.fn.sink) (g.K.Sink.written l.sink) out
     × AreCarriedOut (Ok tt) (take l.outcome-index l.outcomes) calls out)
-    × (g.K.Sink.faults l.sink ≡ g.K.Sink.faults l.fn.sink) × (g.L.Link.faults l.fn.link ≤ g.L.Link.faults l.link)
+    × (g.K.Sink.faults l.sink ≡ g.K.Sink.faults l.fn.sink) × (g.L.Link.faults l.link ≡ g.L.Link.faults l.fn.link)

@@ -23,4 +23,4 @@ pub returns-in-Ok-clause-write : goal.returns-in-Ok-clause-write
 returns-in-Ok-clause-write g c = due_so Write c.tell_at_once.result _ _ _ c.tell_at_once.ensures.cause
 
 pub returns-in-Ok-clause-link : goal.returns-in-Ok-clause-link
-returns-in-Ok-clause-link g c = written_link c.tell_at_once.result _ _ (line_so c.tell_at_once.result _ _ _ c.tell_at_once.ensures.told).4 c.in-Ok.ensures.cause.later
+returns-in-Ok-clause-link g c = written_link c.tell_at_once.result _ _ (line_so c.tell_at_once.result _ _ _ c.tell_at_once.ensures.told).4 (c.in-Ok.ensures.cause.quiet refl)

@@ -1,5 +1,5 @@
 use Rattle.std.proofs.Common.{◌+◌, ◌*◌, ℕ, List, [], ◌∷◌, ◌++◌, map, refl, ap, subst, arith, ◌∙◌, Ok, Err}
-use Rattle.sg_edge.proofs.Links.{added_more}
+use Rattle.sg_edge.proofs.Links.{called_more}
 use Rattle.sg_relay.specs.Asked.{Ask, hold, ports_from}
 use Rattle.sg_relay.specs.Parts.{IsHeld}
 use Rattle.sg_relay.proofs.Deeds.{asks_in_all, asks_so_far, held_longer, held_more}
@@ -12,7 +12,7 @@ loop-i-preserved g c =
     let h : ℕ → Ask = hold c.args.bound in (
       (
         so_far.0 ++ held.0,
-        added_more _ _ _ so_far.0 held.0 so_far.1 held.1,
+        called_more _ _ _ so_far.0 held.0 so_far.1 held.1,
         subst (λ (asks : List Ask). IsHeld (Ok tt) asks (so_far.0 ++ held.0)) (asks_so_far h c.port_at-first.result c.loop-i.i)
             (held_more (Ok tt) (map h (ports_from c.port_at-first.result c.loop-i.i)) (h (c.port_at-first.result + c.loop-i.i) ∷ []) so_far.0 held.0 so_far.2 held.2),
       ),
@@ -27,7 +27,7 @@ returns-in-Err-clause-held g c =
     let port : ℕ = c.port_at-first.result in
     let all = asks_in_all h port c.loop-i.i (4 * c.args.media) (omega (arith, c.loop-i-test.true, c.from-i-end.ensures)) in (
       so_far.0 ++ held.0,
-      added_more _ _ _ so_far.0 held.0 so_far.1 held.1,
+      called_more _ _ _ so_far.0 held.0 so_far.1 held.1,
       subst (λ (asks : List Ask). IsHeld (Err _) asks (so_far.0 ++ held.0)) (all.1 ∙ ap (λ (p : ℕ). map h (ports_from p (4 * c.args.media))) c.port_at-first.ensures)
           (held_longer (map h (ports_from port c.loop-i.i) ++ (h (port + c.loop-i.i) ∷ [])) all.0 (so_far.0 ++ held.0) _
           (held_more (Err _) (map h (ports_from port c.loop-i.i)) (h (port + c.loop-i.i) ∷ []) so_far.0 held.0 so_far.2 held.2)),

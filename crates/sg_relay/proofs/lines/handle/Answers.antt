@@ -1,6 +1,6 @@
 use Rattle.std.proofs.Common.{[], refl}
 use Rattle.sg_edge.proofs.Passed.{wrote_none}
-use Rattle.sg_edge.proofs.Links.{added_none}
+use Rattle.sg_edge.proofs.Links.{called_none}
 use Rattle.sg_front.specs.States.{FrontStandsFor}
 use Rattle.sg_gateway.specs.Events.{events_of_signal}
 use Rattle.sg_relay.specs.Causes.{IsOfOutcomes}
@@ -11,7 +11,7 @@ use Rattle.sg_relay.proofs.lines.handle.Goals as goal
 pub returns-in-Err-clause-said : goal.returns-in-Err-clause-said
 returns-in-Err-clause-said g c = λ state stands.
     let drew = c.in-Err.ensures.drew in
-    ([], drew.0, [], added_none _, drew.1, wrote_none _, λ k top turns is. unsupplied_said (Unit {0}) k c.args.signal state top turns (FrontStandsFor c.args.front.now) drew.0 c.in-Err.status is drew.2, refl)
+    ([], drew.0, [], called_none _, drew.1, wrote_none _, λ k top turns is. unsupplied_said (Unit {0}) k c.args.signal state top turns (FrontStandsFor c.args.front.now) drew.0 c.in-Err.status is drew.2, refl)
 
 pub returns-in-Ok-clause-said : goal.returns-in-Ok-clause-said
 returns-in-Ok-clause-said g c = λ state stands.

@@ -1,6 +1,6 @@
 use Rattle.std.proofs.Common.{sym, ap, [], ◌∙◌, refl}
 use Rattle.sg_trace.specs.Trace.{Relays, arrivals_of, wait_in}
-use Rattle.sg_edge.proofs.Links.{added_none}
+use Rattle.sg_edge.proofs.Links.{added_none, called_none}
 use Rattle.sg_edge.specs.Links.{Came}
 use Rattle.sg_edge.proofs.Passed.{wrote_none}
 use Rattle.sg_front.specs.States.{FrontStandsFor}
@@ -29,7 +29,7 @@ returns-in-Some-clause-said g c = λ state stands.
 
 pub returns-in-Header-clause-said : goal.returns-in-Header-clause-said
 returns-in-Header-clause-said g c = λ state stands.
-    ([], [], [], [], added_none _, added_none _, added_none _, wrote_none _, header_said c.args.pad c.args.began c.args.line c.in-Header.is state c.args.top.now c.args.turns.now (FrontStandsFor c.args.front.now) stands, unreceived_order (Relays c.args.began) c.args.line state c.args.top.now [] [] [] refl)
+    ([], [], [], [], added_none _, called_none _, added_none _, wrote_none _, header_said c.args.pad c.args.began c.args.line c.in-Header.is state c.args.top.now c.args.turns.now (FrontStandsFor c.args.front.now) stands, unreceived_order (Relays c.args.began) c.args.line state c.args.top.now [] [] [] refl)
 
 pub returns-in-Datagram-clause-said : goal.returns-in-Datagram-clause-said
 returns-in-Datagram-clause-said g c = λ state stands.

@@ -14,10 +14,10 @@ invariant-lines g l =
     (record { left = g.S.Source.left l.source; written = g.K.Sink.written l.sink; calls = g.L.Link.told l.link; readings = g.C.Clock.given l.clock; draws = g.N.Noise.given l.noise })
     l.turns l.began p l.script es l.top l.left
     × FrontStandsFor l.front (state_after (start l.muxes) es))
-    × (l.began ≤ last_moment) × (g.S.Source.given l.source + l.script.budget ≤ g.S.Source.given l.fn.source + (2 ^ 30 + 1))
+    × (l.began ≤ last_moment) × ((g.S.Source.left l.source).count + l.script.budget ≤ (g.S.Source.left l.fn.source).count + (2 ^ 30 + 1))
     × (g.S.Source.faults l.source ≡ g.S.Source.faults l.fn.source) × (g.K.Sink.faults l.sink ≡ g.K.Sink.faults l.fn.sink)
-    × (g.L.Link.faults l.fn.link ≤ g.L.Link.faults l.link) × (g.C.Clock.faults l.clock ≡ g.C.Clock.faults l.fn.clock) × (g.N.Noise.faults l.noise ≡ g.N.Noise.faults l.fn.noise)
-    × (g.C.Clock.count l.clock + l.left ≤ g.C.Clock.count l.fn.clock + (l.turns + 1))
+    × (g.L.Link.faults l.link ≡ g.L.Link.faults l.fn.link) × (g.C.Clock.faults l.clock ≡ g.C.Clock.faults l.fn.clock) × (g.N.Noise.faults l.noise ≡ g.N.Noise.faults l.fn.noise)
+    × ((g.C.Clock.given l.clock).count + l.left ≤ (g.C.Clock.given l.fn.clock).count + (l.turns + 1))
 
 abbrev pub decreases-lines : goal.decreases-lines
 decreases-lines g l = 2 ^ 30 - l.script.offset

@@ -1,5 +1,5 @@
 use Rattle.std.proofs.Common.{[], ◌∙◌}
-use Rattle.sg_edge.proofs.Links.{added_none}
+use Rattle.sg_edge.proofs.Links.{called_none}
 use Rattle.sg_edge.proofs.Passed.{wrote_none}
 use Rattle.sg_front.specs.States.{FrontStandsFor}
 use Rattle.sg_gateway.specs.Events.{events_of_signal}
@@ -7,7 +7,7 @@ use Rattle.sg_relay.proofs.Deeds.{handled_told, unhandled}
 use Rattle.sg_relay.proofs.turns.obey.Goals as goal
 
 pub returns-in-Err-clause-handled : goal.returns-in-Err-clause-handled
-returns-in-Err-clause-handled g c = λ state stands. ([], [], added_none _, wrote_none _, unhandled state (events_of_signal c.args.signal.now) (FrontStandsFor c.take.new.self))
+returns-in-Err-clause-handled g c = λ state stands. ([], [], called_none _, wrote_none _, unhandled state (events_of_signal c.args.signal.now) (FrontStandsFor c.take.new.self))
 
 pub returns-clause-handled : goal.returns-clause-handled
 returns-clause-handled g c = λ state stands.

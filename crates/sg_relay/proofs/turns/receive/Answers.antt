@@ -1,7 +1,7 @@
 use Rattle.std.proofs.Common.{[], ◌∷◌, subst, refl, inl}
 use Rattle.std.specs.Prelude.{Ok}
-use Rattle.sg_edge.specs.Links.{Added, Came, Failing, Nothing, Receive, received}
-use Rattle.sg_edge.proofs.Links.{added_more}
+use Rattle.sg_edge.specs.Links.{Called, Came, Failing, Nothing, Receive, received}
+use Rattle.sg_edge.proofs.Links.{called_more}
 use Rattle.sg_edge.proofs.Passed.{wrote_none}
 use Rattle.sg_trace.specs.Trace.{arrivals_of}
 use Rattle.sg_front.specs.States.{FrontStandsFor}
@@ -25,7 +25,7 @@ returns-in-Ok-Nothing-clause-received g c = λ state stands. (
   Nothing,
   Receive Nothing ∷ [],
   [],
-  subst (λ r. Added (g.L.Link.told c.args.link.now) (g.L.Link.told c.receive.new.self) (Receive (received (Ok r) c.receive.new.pad) ∷ [])) c.in-Ok-Nothing.field-0-is c.in-Ok-Nothing.ensures.told,
+  subst (λ r. Called (g.L.Link.told c.args.link.now) (g.L.Link.told c.receive.new.self) (Receive (received (Ok r) c.receive.new.pad) ∷ [])) c.in-Ok-Nothing.field-0-is c.in-Ok-Nothing.ensures.told,
   wrote_none _,
   (refl, received_none Nothing, (tt, tt), stands),
   ([], refl, refl),
@@ -38,8 +38,8 @@ returns-in-Ok-Got-clause-received g c = λ state stands.
       x,
       Receive x ∷ handled.0,
       handled.1,
-      added_more _ _ _ (Receive x ∷ []) handled.0
-          (subst (λ r. Added (g.L.Link.told c.args.link.now) (g.L.Link.told c.receive.new.self) (Receive (received (Ok r) c.receive.new.pad) ∷ [])) c.in-Ok-Got.field-0-is c.in-Ok-Got.ensures.told) handled.2,
+      called_more _ _ _ (Receive x ∷ []) handled.0
+          (subst (λ r. Called (g.L.Link.told c.args.link.now) (g.L.Link.told c.receive.new.self) (Receive (received (Ok r) c.receive.new.pad) ∷ [])) c.in-Ok-Got.field-0-is c.in-Ok-Got.ensures.told) handled.2,
       handled.3,
       received_more c.arrive.result state (FrontStandsFor c.arrive.new.front) x handled.0 handled.1 tt handled.4,
       (handled.0, refl, handled_none c.arrive.result state (arrivals_of x) (FrontStandsFor c.arrive.new.front) handled.0 handled.1 handled.4),

@@ -1,7 +1,7 @@
 use Rattle.std.proofs.Common.{List, [], subst, sym, refl, arith}
 use Rattle.std.specs.Prelude.{Ok}
 use Rattle.std.proofs.lemmas.Bool.{cond-false, cond-true, le-ltb, lt-ltb}
-use Rattle.sg_edge.proofs.Links.{added_none}
+use Rattle.sg_edge.proofs.Links.{called_none}
 use Rattle.sg_edge.proofs.Passed.{wrote_none}
 use Rattle.sg_outcome.specs.declared.outcomes.Outcome.{Outcome}
 use Rattle.sg_front.specs.States.{FrontStandsFor, FrontValue}
@@ -14,7 +14,7 @@ pub returns-then-moment-top-clause-handled : goal.returns-then-moment-top-clause
 returns-then-moment-top-clause-handled g c = λ state stands. (
   [],
   [],
-  added_none _,
+  called_none _,
   wrote_none _,
   subst (λ es. AreHandled {T = Unit {0}} (Ok tt) state es (FrontStandsFor c.args.front.now) [] []) (sym (cond-false _ _ _ (le-ltb c.args.top.now c.args.moment c.if-moment-top.true))) (done_none, tt, refl, stands),
 )
@@ -24,7 +24,7 @@ returns-then-tick_quietly-clause-handled g c = λ state stands.
     let told = c.tick_quietly.ensures.told c.if-tick_quietly.true state stands in (
       [],
       [],
-      added_none _,
+      called_none _,
       wrote_none _,
       subst (λ es. AreHandled {T = Unit {0}} (Ok tt) state es (FrontStandsFor c.tick_quietly.new.self) [] [])
           (sym (cond-true _ _ _ (lt-ltb c.args.top.now c.args.moment (omega (arith, c.if-moment-top.false)))))

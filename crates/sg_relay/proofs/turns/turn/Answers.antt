@@ -2,7 +2,7 @@ use Rattle.std.proofs.Common.{◌≤◌, ℕ, List, [], ◌∷◌, ◌++◌, len
 use Rattle.std.specs.Prelude.{Ok}
 use Rattle.sg_trace.specs.Trace.{ticks_at, ticks_of}
 use Rattle.sg_edge.specs.Links.{Received}
-use Rattle.sg_edge.proofs.Links.{added_more}
+use Rattle.sg_edge.proofs.Links.{called_more}
 use Rattle.sg_edge.proofs.Passed.{wrote_more}
 use Rattle.sg_front.specs.States.{FrontStandsFor, state_after, told_from}
 use Rattle.sg_relay.specs.Parts.{AreHandled, IsTurn, StopsWith}
@@ -38,7 +38,7 @@ returns-in-Err-receive-clause-turned g c = λ state stands.
       handled.0 ++ received.1,
       handled.1 ++ received.2,
       c.in-Ok.ensures.gave,
-      added_more _ _ _ handled.0 received.1 handled.2 received.3,
+      called_more _ _ _ handled.0 received.1 handled.2 received.3,
       wrote_more _ _ _ handled.1 received.2 handled.3 received.4,
       cut_received (List ℕ) c.in-Err-receive.status state top c.tick.new.top r received.0 (FrontStandsFor c.tick.new.front) (FrontStandsFor c.receive.new.front) handled.0 received.1 handled.1 received.2
           c.in-Err-receive.ensures.only ticked received.5,
@@ -57,7 +57,7 @@ returns-in-Ok-receive-clause-turned g c = λ state stands.
       handled.0 ++ received.1,
       handled.1 ++ received.2,
       c.in-Ok.ensures.gave,
-      added_more _ _ _ handled.0 received.1 handled.2 received.3,
+      called_more _ _ _ handled.0 received.1 handled.2 received.3,
       wrote_more _ _ _ handled.1 received.2 handled.3 received.4,
       subst (λ (m : ℕ). IsTurn (Ok (m, c.in-Ok-receive.pad)) state top c.tick.new.top (FrontStandsFor c.receive.new.front) (r ∷ []) (handled.0 ++ received.1) (handled.1 ++ received.2)) (sym c.min-moment.ensures)
           (turn_done c.in-Ok-receive.pad state top c.tick.new.top r received.0 (FrontStandsFor c.tick.new.front) (FrontStandsFor c.receive.new.front) handled.0 received.1 handled.1 received.2 ticked received.5

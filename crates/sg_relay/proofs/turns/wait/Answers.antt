@@ -1,5 +1,5 @@
 use Rattle.std.proofs.Common.{rules, ◌-◌, [], ◌++◌, refl, ◌∙◌, arith}
-use Rattle.sg_edge.proofs.Links.{added_more, added_none}
+use Rattle.sg_edge.proofs.Links.{added_more, added_none, called_more, called_none}
 use Rattle.sg_edge.proofs.Passed.{wrote_more, wrote_none}
 use Rattle.sg_front.specs.States.{FrontStandsFor, state_after}
 use Rattle.sg_relay.specs.Asked.{receipts_in}
@@ -9,7 +9,7 @@ use Rattle.sg_relay.proofs.turns.wait.Goals as goal
 
 pub turns-init : goal.turns-init
 turns-init g c = (
-  (λ state stands. ([], [], [], [], added_none _, added_none _, wrote_none _, goes_none c.args.until c.args.top.now, done_none, tt, stands, refl, omega arith, wait_order_none c.args.until state c.args.top.now)),
+  (λ state stands. ([], [], [], [], added_none _, called_none _, wrote_none _, goes_none c.args.until c.args.top.now, done_none, tt, stands, refl, omega arith, wait_order_none c.args.until state c.args.top.now)),
   search rules,
   search rules,
   search rules,
@@ -24,7 +24,7 @@ returns-in-Err-clause-waited g c = λ state stands.
       so_far.1 ++ turned.1,
       so_far.2 ++ turned.2,
       added_more _ _ _ so_far.0 turned.0 so_far.4 turned.3,
-      added_more _ _ _ so_far.1 turned.1 so_far.5 turned.4,
+      called_more _ _ _ so_far.1 turned.1 so_far.5 turned.4,
       wrote_more _ _ _ so_far.2 turned.2 so_far.6 turned.5,
       cut_wait c.args.until c.args.top.now so_far.0 (receipts_in so_far.1) so_far.3 c.turns.top so_far.7 state so_far.1 so_far.2 refl so_far.8 so_far.9 so_far.11 c.args.turns.now c.turns.turns so_far.12
           turned.0 turned.1 turned.2 c.in-Err.status (FrontStandsFor c.turn.new.front) (FrontStandsFor c.turn.new.front) c.turn.new.top _ c.in-Err.ensures.only c.turns-test.true turned.6,
@@ -40,7 +40,7 @@ returns-then-until-moment-clause-waited g c = λ state stands.
       so_far.1 ++ turned.1,
       so_far.2 ++ turned.2,
       added_more _ _ _ so_far.0 turned.0 so_far.4 turned.3,
-      added_more _ _ _ so_far.1 turned.1 so_far.5 turned.4,
+      called_more _ _ _ so_far.1 turned.1 so_far.5 turned.4,
       wrote_more _ _ _ so_far.2 turned.2 so_far.6 turned.5,
       over_wait c.args.until c.args.top.now so_far.0 (receipts_in so_far.1) so_far.3 c.turns.top so_far.7 state so_far.1 so_far.2 refl so_far.8 so_far.9 so_far.11 c.args.turns.now c.turns.turns so_far.12
           turned.0 turned.1 turned.2 c.in-Ok.moment c.in-Ok.back c.turn.new.top (c.turns.turns - 1) (FrontStandsFor c.turn.new.front) c.if-until-moment.true (omega (arith, c.turns-test.true)) turned.6,
@@ -60,7 +60,7 @@ turns-preserved g c = (
         so_far.2 ++ turned.2,
         more.0,
         added_more _ _ _ so_far.0 turned.0 so_far.4 turned.3,
-        added_more _ _ _ so_far.1 turned.1 so_far.5 turned.4,
+        called_more _ _ _ so_far.1 turned.1 so_far.5 turned.4,
         wrote_more _ _ _ so_far.2 turned.2 so_far.6 turned.5,
         more.1,
         more.2,
@@ -72,7 +72,7 @@ turns-preserved g c = (
             turned.0 turned.1 turned.2 so_far.13 turned.7,
       )),
   c.in-Ok.ensures.write ∙ c.turns.invariant.1,
-  omega (arith, c.turns.invariant.2, c.in-Ok.ensures.link),
+  c.in-Ok.ensures.link ∙ c.turns.invariant.2,
   c.in-Ok.ensures.clock ∙ c.turns.invariant.3,
   omega (arith, c.turns.invariant.4, c.in-Ok.ensures.count, c.turns-test.true),
 )

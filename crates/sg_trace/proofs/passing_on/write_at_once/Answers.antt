@@ -1,6 +1,6 @@
-use Rattle.std.proofs.Common.{[], List, ℕ, Option, sym, subst}
+use Rattle.std.proofs.Common.{[], sym, subst}
 use Rattle.std.proofs.lemmas.List.{append-nil}
-use Rattle.sg_edge.specs.Told.{Wrote}
+use Rattle.sg_edge.specs.Told.{Tally, Wrote}
 use Rattle.sg_trace.proofs.passing_on.write_at_once.Goals as goal
 
 -- all is written, though not passed on
@@ -8,5 +8,5 @@ pub returns-in-Err-flush-clause-told : goal.returns-in-Err-flush-clause-told
 returns-in-Err-flush-clause-told g c = (
   c.args.octets.now,
   ([], sym (append-nil c.args.octets.now)),
-  subst (λ (w : Option (List ℕ)). Wrote (g.K.Sink.written c.args.sink.now) w c.args.octets.now) (sym c.in-Err-flush.ensures.kept) c.in-Ok.ensures.wrote,
+  subst (λ (w : Tally). Wrote (g.K.Sink.written c.args.sink.now) w c.args.octets.now) (sym c.in-Err-flush.ensures.kept) c.in-Ok.ensures.wrote,
 )

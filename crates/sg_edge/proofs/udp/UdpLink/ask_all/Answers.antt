@@ -6,7 +6,7 @@ use Rattle.sg_edge.proofs.Waiting.{asked_to, none_left}
 use Rattle.sg_edge.proofs.udp.UdpLink.ask_all.Goals as goal
 
 pub loop-init : goal.loop-init
-loop-init g c = (refl, λ port. refl, refl, refl)
+loop-init g c = (refl, λ port. refl, refl, refl, refl)
 
 pub returns-in-Err-clause-bound : goal.returns-in-Err-clause-bound
 returns-in-Err-clause-bound g c = λ port. c.in-Err.ensures.bound port ∙ c.loop.invariant.1 port
@@ -47,6 +47,7 @@ loop-preserved g c =
       λ port. c.in-Ok-Nothing.ensures.bound port ∙ c.loop.invariant.1 port,
       asked.1 ∙ c.loop.invariant.2,
       none_left c.loop.counter c.args.self.now.ports.waiting.items mid new c.loop.invariant.3 asked.0,
+      c.in-Ok-Nothing.ensures.counts ∙ c.loop.invariant.4,
     )
 
 pub returns-clause-bound : goal.returns-clause-bound
@@ -54,3 +55,12 @@ returns-clause-bound g c = c.loop.invariant.1
 
 pub returns-clause-asked : goal.returns-clause-asked
 returns-clause-asked g c = (c.loop.invariant.3 ∙ drop_all c.loop.counter c.args.self.now.ports.waiting.items (omega (arith, c.loop-test.false, c.count-end.ensures)), c.loop.invariant.2)
+
+pub returns-in-Err-clause-counts : goal.returns-in-Err-clause-counts
+returns-in-Err-clause-counts g c = c.in-Err.ensures.counts ∙ c.loop.invariant.4
+
+pub returns-in-Ok-Got-clause-counts : goal.returns-in-Ok-Got-clause-counts
+returns-in-Ok-Got-clause-counts g c = c.in-Ok-Got.ensures.counts ∙ c.loop.invariant.4
+
+pub returns-clause-counts : goal.returns-clause-counts
+returns-clause-counts g c = c.loop.invariant.4

@@ -7,3 +7,4 @@ invariant-loop g l =
     (l.self.faults ≡ l.fn.self.faults) × AreSame l.fn.self.ports.bound l.self.ports.bound
     × (l.self.ports.row ≡ l.fn.self.ports.row)
     × (l.self.ports.waiting.items ≡ drop l.counter l.fn.self.ports.waiting.items)
+    × (l.self.counts ≡ l.fn.self.counts)

@@ -16,3 +16,8 @@ returns-clause-few g c = λ few.
     let most : c.in_ok-n.n ≤ 4096 = search rules in
     let got = returns-clause-got g c in
     omega (arith, most, ap length got.2, ap length none, length-append c.args.self.now got.0, length-take c.in_ok-n.n c.read.new.part)
+
+pub returns-clause-given : goal.returns-clause-given
+returns-clause-given g c =
+    let got = returns-clause-got g c in
+    omega (arith, got.3, c.in_ok-n.ensures.took.1.0)

@@ -1,4 +1,4 @@
-use Rattle.std.proofs.Common.{◌-◌, List, ℕ, take, drop, length, sym, subst}
+use Rattle.std.proofs.Common.{subst}
 use Rattle.sg_lines.specs.ScriptLines.{NoEnd}
 use Rattle.sg_trace.specs.Fed.{HoldsLine}
 use Rattle.sg_trace.proofs.LineParts.{held, none_held}
