@@ -1,5 +1,5 @@
 -- How the loop that plays a script goes on, line by line, and how it ends.
-use Rattle.std.proofs.Common.{◌≡◌, ◌⊎◌, ◌+◌, ◌≤◌, ◌^◌, ℕ, true, false, List, [], ◌∷◌, ◌++◌, length, Option, Some, None, Ok, Err, refl, sym, ap, ◌∙◌, subst, inl, inr, append_assoc, length-append, arith}
+use Rattle.std.proofs.Common.{◌≡◌, ◌+◌, ◌≤◌, ◌^◌, ℕ, true, false, List, [], ◌∷◌, ◌++◌, length, Option, Some, None, Ok, Err, refl, sym, ap, ◌∙◌, subst, inl, inr, append_assoc, length-append, arith}
 use Rattle.std.proofs.lemmas.Bool.{cond-false, cond-true}
 use Rattle.std.proofs.lemmas.List.{append-nil}
 use Rattle.sg_base.specs.declared.faults.ScriptFault.{ScriptFault}
@@ -10,7 +10,7 @@ use Rattle.sg_edge.specs.Told.{AtEnd, Tally, TookIn, Wrote}
 use Rattle.sg_lines.proofs.Splits.{lines_of_whole}
 use Rattle.sg_lines.specs.ScriptLines.{IsWhole, NoEnd, lines_of}
 use Rattle.sg_trace.specs.Course.{Course, Given, Ways, behind_given, behind_line, course, course_from, ended, read_at, with_deeds}
-use Rattle.sg_trace.specs.Loop.{AreAlike, AreTold, Closes, Effects, GoInOrder, HasNoLast, IsAll, IsCut, IsCutLine, IsCutShort, IsPlayed, IsTaken, IsWant, LoopEnds, PromptEnds, deeds_of}
+use Rattle.sg_trace.specs.Loop.{AreAlike, Closes, Effects, GoInOrder, HasNoLast, IsAll, IsCut, IsCutLine, IsCutShort, IsPlayed, IsTaken, IsWant, LoopEnds, PromptEnds, deeds_of}
 use Rattle.sg_trace.specs.Output.{IsPrefixOf}
 use Rattle.sg_trace.specs.Reading.{FirstFailsBy, IsFaultBy, IsNextBy, IsReadBy, Reading}
 use Rattle.sg_trace.specs.Trace.{AtCapture, AtEnd as BehindAll, AtFault, ForDraw, Stop}

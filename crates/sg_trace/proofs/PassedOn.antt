@@ -2,7 +2,7 @@
 use Rattle.std.proofs.Common.{◌≡◌, ◌⊎◌, ℕ, List, [], Bool, Option, refl, sym, ◌∙◌, subst, inl, inr, arith}
 use Rattle.std.proofs.lemmas.List.{append-nil}
 use Rattle.sg_edge.proofs.Passed.{rose_later, wrote_none}
-use Rattle.sg_edge.specs.Told.{Rose, Tally, Tells, Wrote}
+use Rattle.sg_edge.specs.Told.{Tally, Wrote}
 use Rattle.sg_trace.proofs.Causes.{failed_as}
 use Rattle.sg_trace.specs.Causes.{EndedBy, HasFailed, IsOfOutside, IsPassedOn}
 use Rattle.sg_trace.specs.Course.{Ways, course}

@@ -1,5 +1,5 @@
 -- What the loop that plays a script leaves, whatever plays it.
-use Rattle.std.specs.Prelude.{◌≡◌, ◌⊎◌, ◌≤◌, ◌+◌, ◌^◌, ℕ, false, List, [], ◌++◌, length, Option, Some, None, Result, Ok, Err}
+use Rattle.std.specs.Prelude.{◌≡◌, ◌⊎◌, ◌≤◌, ℕ, false, List, [], ◌++◌, length, Option, Some, None, Result, Ok, Err}
 use Rattle.sg_base.specs.declared.faults.ScriptFault.TheVariants.{Unended}
 use Rattle.sg_edge.specs.Told.{AtEnd, Tally}
 use Rattle.sg_lines.specs.LineOf.{line_of, version_after}
