@@ -90,6 +90,87 @@ def refused_lines():
     return s
 
 
+# The key of RFC 4568, 5.1, octets that count up, and octets of a long key; what stands there up to a key, and with what
+# may stand behind it.
+SEMCTL, COUNTED = "inline:WVNfX19zZW1jdGwgKCkgewkyMjA7fQp9CnVubGVz", "inline:AAECAwQFBgcICQoLDA0ODxAREhMUFRYXGBkaGxwd"
+LONG = "inline:Hh8gISIjJCUmJygpKissLS4vMDEyMzQ1Njc4OTo7PD0+P0BBQkNERUZHSElKSw"
+KEYED = f"1 {CM} {SEMCTL}"
+STATED = KEYED + "|2^20|1:4 FEC_ORDER=FEC_SRTP"
+GOOD_LINES = (
+    f"1  {CM}   {SEMCTL}", f"000000000 {CM} {SEMCTL}", f"999999999 {CM} {SEMCTL}", f"000000001 {CM} {SEMCTL}",
+    f"1 AES_CM_128_HMAC_SHA1_32 {SEMCTL}", f"1 AES_192_CM_HMAC_SHA1_80 {COUNTED}Hh8gISIjJCU=",
+    f"1 AES_192_CM_HMAC_SHA1_32 {COUNTED}Hh8gISIjJCU", f"2 AES_256_CM_HMAC_SHA1_80 {LONG}==",
+    f"2 AES_256_CM_HMAC_SHA1_80 {LONG}", f"2 AES_256_CM_HMAC_SHA1_32 {LONG}==",
+    f"1 {CM} inline:+//7//v/+//7//v/+//7//v/+//7//v/+//7//v/",
+    *(KEYED + rest for rest in (
+        "|2^48", "|2^0", "|281474976710656", "|1", "|0:1", "|255:1", "|1:128",
+        "|340282366920938463463374607431768211455:16", f"|2|1:1;{COUNTED}|2|2:1",
+        "|1:1" + "".join(f";{SEMCTL}|{n}:1" for n in range(2, 9)),
+        " WSH=0", " WSH=63 UNENCRYPTED_SRTP UNENCRYPTED_SRTCP", " WSH=999999999",
+    )),
+    *(STATED + rest for rest in ("", " -FOO", " -FOO -FOO", " KDR=0", "  KDR=0   -A", " WSH=64")),
+)
+BAD_LINES = {
+    "Tag": ("", f"1\t{CM} {SEMCTL}|2^20|1:4 FEC_ORDER=FEC_SRTP"),
+    "Suite": (
+        "1", "1 ", f"1 aes_cm_128_hmac_sha1_80 {SEMCTL}", f"1 F8_128_HMAC_SHA1_80 {COUNTED}",
+        "1 RAW80 inline:AAECAwQFBgcICQoLDA0ODxAREhM=", f"1 {CM}_ {SEMCTL}",
+    ),
+    "Key": (
+        f"1 {CM}", f"1 {CM} ", f"1 {CM} WVNfX19zZW1jdGwgKCkgewkyMjA7fQp9CnVubGVz",
+        f"1 {CM} Inline:WVNfX19zZW1jdGwgKCkgewkyMjA7fQp9CnVubGVz", f"1 {CM} inline:",
+        f"2 AES_256_CM_HMAC_SHA1_80 {LONG}=", f"2 AES_256_CM_HMAC_SHA1_80 {LONG}===",
+        "2 AES_256_CM_HMAC_SHA1_80 inline:Hh8gISIjJCUmJygpKissLS4vMDEyMzQ1Njc4OTo7PD0+P0BBQkNERUZHSElKSx==",
+        "2 AES_256_CM_HMAC_SHA1_80 inline:Hh8gISIjJCUmJygpKissLS4vMDEyMzQ1Njc4OTo7PD0+P0BBQkNERUZHSElKSx",
+        f"1 {CM} inline:-__7__v_-__7__v_-__7__v_-__7__v_-__7__v_",
+        f"1 {CM} inline:AAECAwQFBgcICQoLDA0ODxAREhMUFRYXGBkaGxw=", f"1 {CM} {COUNTED}Hg==",
+        f"1 {CM} {COUNTED}Hh8gISIjJCUmJygpKissLQ==", f"2 AES_256_CM_HMAC_SHA1_80 {SEMCTL}",
+        f"1 {CM} inline:AAAAAAAAAAAAAAAAAAAAAAAAAAAAAAAAAAAAAAAAAAAAAAAAAAAAAAAAAAAAAAAAAAAA",
+        f"1 {CM} inline:x|0|1:0",
+    ),
+}
+BAD_BEHIND_KEYED = {
+    "Key": (
+        ";", "|1:4|2^20", "|2|3", "|2:1|3:1", "|2|1:4|",
+        "|1:1" + "".join(f";{SEMCTL}|{n}:1" for n in range(2, 10)),
+    ),
+    "Lifetime": (
+        "|0|1:4", "|", "|2^49", "|2^048", "|2^", "|281474976710657", "|01", "|3^2", "|0|1:0",
+        "|0|1:1" + "".join(f";{SEMCTL}|0|{n}:1" for n in range(2, 10)),
+        "|0;inline:x",
+    ),
+    "MkiValue": (
+        "|256:1", "|2^20|256:1", "|0:0", "|1:129", "|1:04", "|01:4", "|340282366920938463463374607431768211456:17",
+        "|1:4:4", "|:4", f";{COUNTED}", f"|1:1;{COUNTED}", f"|1:1;{COUNTED}|2:2", f"|1:1;{COUNTED}|1:1",
+        f"|1:1;{COUNTED}|2:1;{SEMCTL}|1:1", f";{COUNTED} KDR=1",
+    ),
+    "Parameter": (
+        " UNENCRYPTED_SRTP UNENCRYPTED_SRTP", " UNENCRYPTED_SRTCP UNENCRYPTED_SRTCP", " UNENCRYPTED_SRTP=1",
+        " FEC_ORDER=SRTP_FEC", f" FEC_KEY={COUNTED}",
+    ),
+}
+NO_PARAMETERS = (
+    " KDR=1", " KDR=0 KDR=0", " ", " KDR=0  ", " FOO", " UNAUTHENTICATED_SRTP", " FEC_ORDER=FEC_SRTP", " WSH=", " WSH=1234567890", " WSH=64 WSH=64", " WSH=x", " wsh=64")
+NO_TAGS = (" 1", "x1", "+1", "0000000001", "1234567890", "-1")
+
+
+def values_of_lines():
+    """Each part of a crypto line at its bounds and beyond, spelt in each way; a line is refused by its first fault."""
+    s = Script()
+    for value in GOOD_LINES:
+        told = made(7), sdp(7, "plain", ALICE + ["m=audio 20002 RTP/AVP 0"])
+        s.says(offer_secure(7, secure_text("a=crypto:" + value)), *told)
+        s.says("bye 7", "ended 7 0 1 bye")
+    s.says(offer_sdes(8, BOB_ANSWERS), made(8), sdp(8, "secure", BOBS_OFFER_CARRIED))
+    faulty = [(value, fault) for fault, values in BAD_LINES.items() for value in values]
+    faulty += [(KEYED + rest, fault) for fault, rests in BAD_BEHIND_KEYED.items() for rest in rests]
+    faulty += [(STATED + rest, "Parameter") for rest in NO_PARAMETERS]
+    faulty += [(tag + STATED[1:], "Tag") for tag in NO_TAGS]
+    for value, fault in faulty:
+        s.refused(answer(8, secure_text("a=crypto:" + value)), f"Sdes 0 {fault}")
+    return s
+
+
 def lines_of_the_second_medium():
     """Media are taken in their order, and a fault names its medium."""
     s = Script()
@@ -443,6 +524,19 @@ def cut_texts_of_the_plain_side():
     return s
 
 
+OF_ONE_SIDE = (
+    "a=crypto:1 x inline:y", "a=key-mgmt:mikey AQ==", "a=rtcp:53020", "a=rtcp-mux",
+    "a=candidate:1 1 UDP 1 10.0.0.1 9 typ host", "a=end-of-candidates", "a=remote-candidates:1 10.0.0.1 9",
+    "a=ice-ufrag:x", "a=ice-pwd:x", "a=ice-options:trickle", "a=ice-lite", "a=fingerprint:sha-1 AA", "a=setup:actpass",
+    "a=crypto", "a=crypto:", "a=rtcp-mux:x",
+)
+LIKE_THEM = (
+    "a=rtcpx", "a=rtcpx:53020", "a=cryptos", "a=cryptos:1", "a=crypt:1", "a=crypto 1", "a=Crypto:1", "a= crypto:1",
+    "a=rtcp-mux-only", "a=rtcp-fb:0 nack", "a=rtcp-rsize", "a=key-mgmt2:x", "a=candidates:1", "a=ice-pacing:50",
+    "a=ice-", "a=setups", "a=x:crypto:1", "a=:crypto", "a=", "b=crypto:1", "k=crypto",
+)
+
+
 def carried_lines():
     """Attributes that hold for one side alone aren't carried, and every address becomes the gateway's."""
     s = Script()
@@ -468,6 +562,10 @@ def carried_lines():
     # no port follows the peer's last one
     s.dropped(20001, mine.srtcp(rtcp(), 0), "PortUnused")
     s.dropped(20003, rtcp(), "PortUnused", "10.0.0.4:41001")
+    # attributes of one side, and names that look like theirs, in both parts of a text
+    offer = BOB + [*OF_ONE_SIDE, *LIKE_THEM, "m=audio 41000 RTP/AVP 0", *OF_ONE_SIDE, *LIKE_THEM]
+    told = BOB + [*LIKE_THEM, "m=audio 20016 RTP/SAVP 0", *LIKE_THEM, *own_lines(COUNTING)]
+    s.says(offer_sdes(8, offer), made(8, 1), sdp(8, "secure", told))
     return s
 
 
@@ -490,7 +588,8 @@ def profiles_with_feedback():
 
 
 ALL = (
-    offered_by_the_secure_side, offered_by_the_plain_side, refused_lines, lines_of_the_second_medium,
+    offered_by_the_secure_side, offered_by_the_plain_side, refused_lines, values_of_lines,
+    lines_of_the_second_medium,
     lines_passed_over, lifetimes, lifetimes_of_an_answer, windows, windows_at_bounds, unencrypted, echoed_key,
     idle_media, no_medium_is_left, no_media, faulty_texts, cut_offers, cut_texts_of_the_plain_side, carried_lines,
     profiles_with_feedback,
