@@ -31,7 +31,7 @@ written_only (Err s) (inr is) = inr (inr is)
 
 pub written_link : {T : Type 0} (r : Result T Status) (a b : ℕ) → IfErr r IsOfWriting → b ≡ a → IsDueToLink r a b
 written_link (Ok x) a b only same = same
-written_link (Err s) a b only same = record { later = omega (arith, same); rose = λ is. absurd (writing_not_link s only is); told = λ is. tt; quiet = λ isnt. same }
+written_link (Err s) a b only same = record { later = omega (arith, same); rose = λ is. absurd (writing_not_link s only is); told = λ is. absurd (writing_not_link s only is); quiet = λ isnt. same }
 
 pub outcomes_not : (own : Status) → (Write ≡ own → ⊥) → (Link ≡ own → ⊥) → (NoMemory ≡ own → ⊥) → (s : Status) → IsOfOutcomes s → s ≡ own → ⊥
 outcomes_not own write link memory s (inl is) same = write (sym is ∙ same)

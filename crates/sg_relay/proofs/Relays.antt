@@ -8,7 +8,7 @@ use Rattle.sg_trace.specs.Trace.{AtEnd as BehindAll, AtFault, Trace, ForDraw, Fo
 use Rattle.sg_trace.specs.Reading.{IsFault, IsNext, IsRead, Reading}
 use Rattle.sg_trace.specs.declared.status.Status.{Status}
 use Rattle.sg_trace.specs.declared.status.Status.TheVariants.{Done, Usage, Script, Read, Write, Link, NoMemory, Clock, Noise, TurnsSpent, Capture}
-use Rattle.sg_edge.specs.Links.{Added, Failing, LinkCall, Receive, Received}
+use Rattle.sg_edge.specs.Links.{Added, Called, Failing, LinkCall, Receive, Received}
 use Rattle.sg_edge.specs.Told.{AtEnd, Tally, TookIn, Wrote}
 use Rattle.sg_edge.proofs.Links.{added_more, called_more}
 use Rattle.sg_edge.proofs.Passed.{took_more, wrote_more}

@@ -1,4 +1,4 @@
-use Rattle.std.proofs.Common.{[]}
+use Rattle.std.proofs.Common.{refl, []}
 use Rattle.sg_edge.proofs.Passed.{wrote_none}
 use Rattle.sg_trace.specs.declared.status.Status.TheVariants.{Write}
 use Rattle.sg_relay.proofs.Blames.{due_so, written_link, written_only}
