@@ -1,4 +1,5 @@
 -- A script, and the capture behind it, make one run; and a run without a fault comes to its end.
+use Rattle.std.specs.Prelude.{IfSome}
 use Rattle.std.proofs.Common.{◌≡◌, ◌⊎◌, ◌-◌, ◌≤◌, ◌^◌, ℕ, List, [], ◌++◌, length, map, drop, Option, Some, None, refl, sym, ap, ◌∙◌, subst, inl, inr, append_assoc, length-append, arith}
 use Rattle.std.proofs.Math.Seq.{drop-append_seam}
 use Rattle.std.proofs.lemmas.List.{append-nil}
@@ -10,7 +11,7 @@ use Rattle.sg_capture.specs.Capturing.{CaptureEnds, IsAllTold, IsBehindScript, I
 use Rattle.sg_capture.specs.Meeting.{EndsReading, IsCutReading, all_behind}
 use Rattle.sg_edge.proofs.Links.{added_none}
 use Rattle.sg_edge.proofs.Passed.{took_more, took_none, wrote_more, wrote_none}
-use Rattle.sg_edge.specs.Told.{AtEnd, TookIn, Wrote}
+use Rattle.sg_edge.specs.Told.{AtEnd, Tally, TookIn, Wrote}
 use Rattle.sg_gateway.specs.Runs.{world_after}
 use Rattle.sg_gateway.specs.Step.{Event}
 use Rattle.sg_gateway.specs.World.{World, empty}
@@ -109,19 +110,19 @@ module _ (old mid new : ReplayTellings) (script : Reading) (stands_for : World �
   composed status ends =
       let room = so_far.room in record {
         took = took_more old.left mid.left new.left octets got so_far.took took;
-        drew = subst (λ (d : Option (List ℕ)). Rattle.sg_edge.specs.Links.Added old.drawn d draws) (sym drawn) so_far.drew;
+        drew = subst (λ (d : Tally). Rattle.sg_edge.specs.Links.Added old.drawn d draws) (sym drawn) so_far.drew;
         wrote = wrote_more old.written mid.written new.written out out' so_far.wrote wrote;
         ends = ends_so status ends;
         bound = omega (arith, room, few, length-append octets got);
       }
 
 -- nothing of the script's noise is drawn by a capture
-pub ends_not_noise : (status : Status) (w : World) (waited : List Event) (last : ℕ) (reads : List ℕ → Capture) (octets out : List ℕ) (left : Option (List ℕ)) → EndsReading status w waited last reads octets out left → status ≡ statuses.Noise → ⊥
+pub ends_not_noise : (status : Status) (w : World) (waited : List Event) (last : ℕ) (reads : List ℕ → Capture) (octets out : List ℕ) (left : Tally) → EndsReading status w waited last reads octets out left → status ≡ statuses.Noise → ⊥
 ends_not_noise status w waited last reads octets out left ends same = subst (λ s. EndsReading s w waited last reads octets out left) same ends
 
 -- ---- where nothing fails
 
-none_left : (left : Option (List ℕ)) (rest : List ℕ) → AtEnd left → left ≡ Some rest → rest ≡ []
+none_left : (left : Option (List ℕ)) (rest : List ℕ) → IfSome left (λ l. l ≡ []) → left ≡ Some rest → rest ≡ []
 none_left None rest end is = cc
 none_left (Some l) rest end is = let same : l ≡ rest = cc in sym same ∙ end
 
@@ -134,13 +135,13 @@ capture_either capture_faults.Cut = inl refl
 capture_either other = inr (λ is. cc)
 
 -- a trace that stops so for the octets read stops so for all octets
-stops_all : {E : Type 0} (left left' : Option (List ℕ)) (octets all rest draws : List ℕ) (stop : CaptureStop) (last : E) (at : E) → TookIn left left' octets → left ≡ Some all → left' ≡ Some rest → (captured octets draws).stop ≡ stop
+stops_all : {E : Type 0} (left left' : Tally) (octets all rest draws : List ℕ) (stop : CaptureStop) (last : E) (at : E) → TookIn left left' octets → left.told ≡ Some all → left'.told ≡ Some rest → (captured octets draws).stop ≡ stop
     → (at ≡ last) ⊎ (¬ (at ≡ last)) → (at ≡ last → AtEnd left') → (¬ (at ≡ last) → (more : List ℕ) → (captured (octets ++ more) draws).stop ≡ stop) → (captured all draws).stop ≡ stop
 stops_all left left' octets all rest draws stop last at took told told' here which ended still =
-    let same : all ≡ octets ++ rest = (let both : Some all ≡ Some (octets ++ rest) = sym told ∙ took rest told' in cc) in
+    let same : all ≡ octets ++ rest = (let both : Some all ≡ Some (octets ++ rest) = sym told ∙ took.0 rest told' in cc) in
     elim which [
       | inl end ↦
-          (let none : octets ++ rest ≡ octets = ap (λ (l : List ℕ). octets ++ l) (none_left left' rest (ended end) told') ∙ append-nil octets in
+          (let none : octets ++ rest ≡ octets = ap (λ (l : List ℕ). octets ++ l) (none_left left'.told rest (ended end) told') ∙ append-nil octets in
           ap (λ (o : List ℕ). (captured o draws).stop) (same ∙ none) ∙ here)
       | inr other ↦ ap (λ (o : List ℕ). (captured o draws).stop) same ∙ still other rest
     ]
@@ -199,7 +200,7 @@ module _ (octets draws out : List ℕ) where
   }
 
   -- whatever the end, it is one of a run whose sink failed
-  cut_of : (end : Status) (left : Option (List ℕ)) → CaptureEnds end octets draws out left → IsCutCapture octets draws out
+  cut_of : (end : Status) (left : Tally) → CaptureEnds end octets draws out left → IsCutCapture octets draws out
   cut_of statuses.Done left (inl whole, at) = cut_of_all whole.told
   cut_of statuses.Done left (inr whole, at) = cut_of_all whole.told
   cut_of (statuses.Script n fault) left is = cut_of_all is.0.told
@@ -210,6 +211,6 @@ module _ (octets draws out : List ℕ) where
   cut_of statuses.NoMemory left is = is
   cut_of other left is = absurd is
 
-  pub capture_passed : (end status : Status) (left : Option (List ℕ)) → (status ≡ end) ⊎ (status ≡ statuses.Write) → CaptureEnds end octets draws out left → CaptureEnds status octets draws out left
+  pub capture_passed : (end status : Status) (left : Tally) → (status ≡ end) ⊎ (status ≡ statuses.Write) → CaptureEnds end octets draws out left → CaptureEnds status octets draws out left
   capture_passed end status left (inl same) is = subst (λ s. CaptureEnds s octets draws out left) (sym same) is
   capture_passed end status left (inr wrote) is = subst (λ s. CaptureEnds s octets draws out left) (sym wrote) (cut_of end left is)

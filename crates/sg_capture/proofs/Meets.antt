@@ -6,7 +6,7 @@ use Rattle.std.proofs.lemmas.Bool.{cases_lt, cond-false, cond-true, le-ltb, lt-l
 use Rattle.std.proofs.lemmas.List.{append-nil, take_all}
 use Rattle.sg_capture.proofs.Outputs.{events_in-append, happens-append, happens_events, happens_text, output_of-append}
 use Rattle.sg_capture.specs.Meeting.{IsMet, IsToldOf}
-use Rattle.sg_edge.specs.Told.{Wrote}
+use Rattle.sg_edge.specs.Told.{Tally, Wrote}
 use Rattle.sg_front.proofs.Runs.{unshared_after}
 use Rattle.sg_front.specs.States.{State, unshared}
 use Rattle.sg_gateway.specs.Runs.{world_after}
@@ -97,7 +97,7 @@ settled_met (Err status) w waited waits stands_for out settled = events_cut w wa
 
 -- ---- the line of a skip
 
-pub skip_met : (r : Result (Unit {0}) Status) (w : World) (waits waits' : List Event) (number : ℕ) (cause : SkipCause) (stands_for : World → Type 0) (a b : Option (List ℕ)) → waits ≡ [] → waits' ≡ waits → stands_for w
+pub skip_met : (r : Result (Unit {0}) Status) (w : World) (waits waits' : List Event) (number : ℕ) (cause : SkipCause) (stands_for : World → Type 0) (a b : Tally) → waits ≡ [] → waits' ≡ waits → stands_for w
     → IsWritten r a b (skip_line number cause) → (out : List ℕ) × Wrote a b out × IsMet r w waits waits' (Skipped number cause ∷ []) stands_for out
 skip_met (Ok u) w waits waits' number cause stands_for a b none same stands wrote = (
   skip_line number cause,

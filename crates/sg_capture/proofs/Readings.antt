@@ -5,7 +5,7 @@ use Rattle.sg_capture.proofs.Meets.{prefix_of-behind}
 use Rattle.sg_capture.proofs.Outputs.{happens_text, output_of-append}
 use Rattle.sg_capture.specs.Meeting.{EndsReading, IsCutReading, IsMet, IsToldOf, all_behind, first_of, record_occurs}
 use Rattle.sg_capture.specs.declared.progress.Progress.{Progress}
-use Rattle.sg_edge.specs.Told.{AtEnd}
+use Rattle.sg_edge.specs.Told.{AtEnd, Tally}
 use Rattle.sg_front.specs.States.{State, unshared}
 use Rattle.sg_gateway.specs.Runs.{world_after}
 use Rattle.sg_gateway.specs.Step.{Event}
@@ -142,19 +142,19 @@ module _ (reads : List ℕ → Capture) (most : ℕ) (form : Form) (consumed : L
         ap (λ (l : List ℕ). all_behind waited last (reads l)) (sym (append-nil consumed)) ∙ all_is (consumed ++ []) (records_in most form at []) (going.reads_on [])
         ∙ ap (λ (l : List Occurrence). told ++ l) (append-nil (map Happens ps))
 
-    pub ends_cut : (status : Status) (octets out : List ℕ) (left : Option (List ℕ)) → IsWant status → IsCutReading w waited last reads octets out → EndsReading status w waited last reads octets out left
+    pub ends_cut : (status : Status) (octets out : List ℕ) (left : Tally) → IsWant status → IsCutReading w waited last reads octets out → EndsReading status w waited last reads octets out left
     ends_cut status octets out left (inl is) cut = subst (λ s. EndsReading s w waited last reads octets out left) (sym is) cut
     ends_cut status octets out left (inr is) cut = subst (λ s. EndsReading s w waited last reads octets out left) (sym is) cut
 
     -- telling what waits failed
-    pub cut_at_end : (status : Status) (rest out : List ℕ) (left : Option (List ℕ)) → length rest ≤ 266256 → IsWant status × IsPrefixOf out (text_from (unshared now) ps) × (length ps ≤ 258)
+    pub cut_at_end : (status : Status) (rest out : List ℕ) (left : Tally) → length rest ≤ 266256 → IsWant status × IsPrefixOf out (text_from (unshared now) ps) × (length ps ≤ 258)
         → EndsReading status w waited last reads (consumed ++ rest) (output_of w told ++ out) left
     cut_at_end status rest out left near cut =
         ends_cut status (consumed ++ rest) (output_of w told ++ out) left cut.0
         (cut_reading w waited last reads (consumed ++ rest) consumed rest told (map Happens ps) out refl lines_all (subst (IsPrefixOf out) (sym (happens_text now ps)) cut.1) (omega (arith, cut.2, length-map ps Happens)) near)
 
     -- at an end that is closed, where no record comes
-    closed_so : (end status : Status) (rest : List ℕ) (c : Capture) (out : List ℕ) (left : Option (List ℕ)) → length rest ≤ 266256 → reads (consumed ++ rest) ≡ with_records going.seen c → c.records ≡ []
+    closed_so : (end status : Status) (rest : List ℕ) (c : Capture) (out : List ℕ) (left : Tally) → length rest ≤ 266256 → reads (consumed ++ rest) ≡ with_records going.seen c → c.records ≡ []
         → (output_of w told ++ out ≡ output_of w (all_behind waited last (reads (consumed ++ rest))) → EndsReading end w waited last reads (consumed ++ rest) (output_of w told ++ out) left)
         → Closes end status effects 258 (unshared now) ps out → EndsReading status w waited last reads (consumed ++ rest) (output_of w told ++ out) left
     closed_so end status rest c out left near is none ends (inl all) =
@@ -166,14 +166,14 @@ module _ (reads : List ℕ → Capture) (most : ℕ) (form : Form) (consumed : L
     closed_so end status rest c out left near is none ends (inr cut) = cut_at_end status rest out left near cut
 
     -- at the end
-    pub closed_at_end : (status : Status) (rest out : List ℕ) (left : Option (List ℕ)) → rest ≡ [] → AtEnd left → Closes statuses.Done status effects 258 (unshared now) ps out
+    pub closed_at_end : (status : Status) (rest out : List ℕ) (left : Tally) → rest ≡ [] → AtEnd left → Closes statuses.Done status effects 258 (unshared now) ps out
         → EndsReading status w waited last reads (consumed ++ rest) (output_of w told ++ out) left
     closed_at_end status rest out left none end closed =
         let is : reads (consumed ++ rest) ≡ with_records going.seen (record { records = []; fault = None }) = going.reads_on rest ∙ ap (λ (l : List ℕ). with_records going.seen (records_in most form at l)) none in
         closed_so statuses.Done status rest (record { records = []; fault = None }) out left (omega (arith, ap length none)) is refl (λ told_so. (told_so, ap (λ (c : Capture). c.fault) is, end)) closed
 
     -- at a fault
-    closed_at_fault : (offset : ℕ) (fault : CaptureFault) (status : Status) (rest out : List ℕ) (left : Option (List ℕ)) → length rest ≤ 266256 → IsCaptureFault (records_in most form at) rest (offset, fault) left
+    closed_at_fault : (offset : ℕ) (fault : CaptureFault) (status : Status) (rest out : List ℕ) (left : Tally) → length rest ≤ 266256 → IsCaptureFault (records_in most form at) rest (offset, fault) left
         → Closes (statuses.Capture offset fault) status effects 258 (unshared now) ps out → EndsReading status w waited last reads (consumed ++ rest) (output_of w told ++ out) left
     closed_at_fault offset fault status rest out left near is closed =
         let here : reads (consumed ++ rest) ≡ with_records going.seen (faulty (offset, fault)) = going.reads_on rest ∙ ap (with_records going.seen) is.first in
@@ -186,7 +186,7 @@ module _ (reads : List ℕ → Capture) (most : ℕ) (form : Form) (consumed : L
         }) closed
 
     -- where memory was wanting
-    closed_at_memory : (status : Status) (rest out : List ℕ) (left : Option (List ℕ)) → length rest ≤ 266256 → Closes statuses.NoMemory status effects 258 (unshared now) ps out
+    closed_at_memory : (status : Status) (rest out : List ℕ) (left : Tally) → length rest ≤ 266256 → Closes statuses.NoMemory status effects 258 (unshared now) ps out
         → EndsReading status w waited last reads (consumed ++ rest) (output_of w told ++ out) left
     closed_at_memory status rest out left near (inl all) =
         subst (λ s. EndsReading s w waited last reads (consumed ++ rest) (output_of w told ++ out) left) (sym all.0)
@@ -196,7 +196,7 @@ module _ (reads : List ℕ → Capture) (most : ℕ) (form : Form) (consumed : L
     closed_at_memory status rest out left near (inr cut) = cut_at_end status rest out left near cut
 
     -- where no record was read
-    pub closed_at_err : (end status : Status) (old new : Capturing) (got out : List ℕ) (left : Option (List ℕ)) → length (old.waits ++ got) ≤ 266256 → old.most ≡ most → old.at ≡ at → IsRecordRead form (Err end) old new got left
+    pub closed_at_err : (end status : Status) (old new : Capturing) (got out : List ℕ) (left : Tally) → length (old.waits ++ got) ≤ 266256 → old.most ≡ most → old.at ≡ at → IsRecordRead form (Err end) old new got left
         → Closes end status effects 258 (unshared now) ps out → EndsReading status w waited last reads (consumed ++ (old.waits ++ got)) (output_of w told ++ out) left
     closed_at_err (statuses.Capture offset fault) status old new got out left near same_most same_at next closed =
         closed_at_fault offset fault status (old.waits ++ got) out left near
@@ -209,7 +209,7 @@ module _ (reads : List ℕ → Capture) (most : ℕ) (form : Form) (consumed : L
     closed_at_err other status old new got out left near same_most same_at next closed = absurd next
 
     -- where a record ends the run
-    pub ends_met : (status : Status) (r : Record) (part rest : List ℕ) (ps' : List Event) (stands_for : World → Type 0) (out : List ℕ) (left : Option (List ℕ)) → length ps ≤ 256 → length rest ≤ 4096
+    pub ends_met : (status : Status) (r : Record) (part rest : List ℕ) (ps' : List Event) (stands_for : World → Type 0) (out : List ℕ) (left : Tally) → length ps ≤ 256 → length rest ≤ 4096
         → record_within most form at part ≡ Ok r → length part ≡ 16 + r.length
         → IsMet (Err status) now ps ps' (record_occurs p.last (first_of p.first r.millis) p.top p.number (record { millis = r.millis; frame = drop 16 part })) stands_for out
         → EndsReading status w waited last reads (consumed ++ (part ++ rest)) (output_of w told ++ out) left
@@ -242,7 +242,7 @@ cut_behind w waited last reads reads' octets part rest out same split cut = reco
 }
 
 -- what comes behind the header is what the capture gives
-pub behind_header : (status : Status) (w : World) (waited : List Event) (last : ℕ) (reads reads' : List ℕ → Capture) (octets part rest out : List ℕ) (left : Option (List ℕ))
+pub behind_header : (status : Status) (w : World) (waited : List Event) (last : ℕ) (reads reads' : List ℕ → Capture) (octets part rest out : List ℕ) (left : Tally)
     → ((more : List ℕ) → reads (part ++ more) ≡ reads' more) → octets ≡ part ++ rest → EndsReading status w waited last reads' rest out left → EndsReading status w waited last reads octets out left
 behind_header statuses.Done w waited last reads reads' octets part rest out left same split ends =
     let here : reads octets ≡ reads' rest = ap reads split ∙ same rest in
@@ -266,7 +266,7 @@ module _ (w : World) (waited : List Event) (last most : ℕ) where
   none_all : all_behind waited last (capture_of most []) ≡ map Happens waited
   none_all = ap (λ (l : List Captured). map Happens waited ++ capture_occurs last l) (header_short most [] (omega arith)) ∙ append-nil (map Happens waited)
 
-  want_so : (status : Status) (octets out : List ℕ) (left : Option (List ℕ)) → length octets ≤ 266256 → IsWant status × IsPrefixOf out (text_from (unshared w) waited) × (length waited ≤ 258)
+  want_so : (status : Status) (octets out : List ℕ) (left : Tally) → length octets ≤ 266256 → IsWant status × IsPrefixOf out (text_from (unshared w) waited) × (length waited ≤ 258)
       → EndsReading status w waited last (capture_of most) octets out left
   want_so status octets out left near cut = by_want cut.0
       (cut_reading w waited last (capture_of most) octets [] octets [] (map Happens waited) out refl none_all (subst (IsPrefixOf out) (sym (happens_text w waited)) cut.1) (omega (arith, cut.2, length-map waited Happens)) near)
@@ -285,7 +285,7 @@ module _ (w : World) (waited : List Event) (last most : ℕ) where
   waited_told octets out none told =
       told ∙ sym (happens_text w waited) ∙ ap (output_of w) (sym (ap (λ (l : List Captured). map Happens waited ++ capture_occurs last l) none ∙ append-nil (map Happens waited)))
 
-  pub header_err : (end status : Status) (old new : Capturing) (got out : List ℕ) (left : Option (List ℕ)) → length (old.waits ++ got) ≤ 266256 → old.most ≡ most → IsHeaderRead (Err end) old new got left → Closes end status effects 258 (unshared w) waited out
+  pub header_err : (end status : Status) (old new : Capturing) (got out : List ℕ) (left : Tally) → length (old.waits ++ got) ≤ 266256 → old.most ≡ most → IsHeaderRead (Err end) old new got left → Closes end status effects 258 (unshared w) waited out
       → EndsReading status w waited last (capture_of most) (old.waits ++ got) out left
   header_err (statuses.Capture offset fault) status old new got out left near same next (inl all) =
       let is : IsCaptureFault (capture_of most) (old.waits ++ got) (offset, fault) left = subst (λ (m : ℕ). IsCaptureFault (capture_of m) (old.waits ++ got) (offset, fault) left) same next in

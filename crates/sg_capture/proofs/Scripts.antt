@@ -11,7 +11,7 @@ use Rattle.sg_capture.specs.Capturing.{CaptureEnds, IsAllTold, IsCutCapture, IsS
 use Rattle.sg_capture.specs.declared.lines.CaptureLine.{CaptureLine}
 use Rattle.sg_capture.specs.declared.lines.CaptureLine.TheVariants as lines
 use Rattle.sg_edge.proofs.Passed.{wrote_more}
-use Rattle.sg_edge.specs.Told.{TookIn, Wrote}
+use Rattle.sg_edge.specs.Told.{Tally, TookIn, Wrote}
 use Rattle.sg_front.proofs.Runs.{unshared_after, unshared_told}
 use Rattle.sg_front.proofs.Sequences.{state_after-append}
 use Rattle.sg_front.specs.States.{State, start, state_after, unshared}
@@ -101,7 +101,7 @@ cut_so octets draws out cut =
     }
 
 -- how the loop ends, where what it told at a failed read is all
-pub ends_so : (status : Status) (octets draws out : List ℕ) (left : Option (List ℕ)) → (status ≡ Read → IsAllTold octets draws out) → LoopEnds of_capture (text_from (start false)) 258 status octets draws out left
+pub ends_so : (status : Status) (octets draws out : List ℕ) (left : Tally) → (status ≡ Read → IsAllTold octets draws out) → LoopEnds of_capture (text_from (start false)) 258 status octets draws out left
     → CaptureEnds status octets draws out left
 ends_so Done octets draws out left read ends = (inl (whole_so octets draws out BehindAll (λ at is. cc) ends.0), ends.1)
 ends_so (Script n fault) octets draws out left read ends = (
@@ -126,7 +126,7 @@ want_not_read status (inr memory) is = let both : NoMemory ≡ Read = sym memory
 
 module _ (old now : Tellings) (taken drawn : List ℕ) (es ps : List Event) (script : Reading)
     (going : IsPlaying of_capture effects (start false) old now taken script.waits drawn es ps script.version script.number script.offset)
-    (left' : Option (List ℕ)) (got : List ℕ) (came : TookIn now.left left' got) (near : length (script.waits ++ got) ≤ 74097) where
+    (left' : Tally) (got : List ℕ) (came : TookIn now.left left' got) (near : length (script.waits ++ got) ≤ 74097) where
   abbrev pub octets : List ℕ
   octets = taken ++ (script.waits ++ got)
 
@@ -161,7 +161,7 @@ module _ (old now : Tellings) (taken drawn : List ℕ) (es ps : List Event) (scr
 
   -- behind the line at which a capture begins, once what waits is told
   module _ (new : Reading) (read : IsReadBy capture_line_of capture_version_after lines.Capture script new got) (size : length taken ≡ script.offset) (room : length octets + new.budget ≡ 2 ^ 30 + 1) (few : length new.waits ≤ 4096)
-      (written' : Option (List ℕ)) (waits' : List Event) (stands_for : State → Type 0) (out : List ℕ) (wrote : Wrote now.written written' out) where
+      (written' : Tally) (waits' : List Event) (stands_for : State → Type 0) (out : List ℕ) (wrote : Wrote now.written written' out) where
     pub behind_script : (r : Result (Unit {0}) Status) → length ps ≤ 258 → IsSettled r (state_after (start false) es) ps waits' stands_for out
         → IsScriptPlayed r (record { left = old.left; written = old.written; drawn = old.drawn }) (record { left = left'; written = written'; drawn = now.drawn }) new (λ w. stands_for (unshared w)) octets drawn (text_from (start false) es ++ out)
     behind_script (Ok u) short settled = record {
@@ -192,10 +192,10 @@ module _ (old now : Tellings) (taken drawn : List ℕ) (es ps : List Event) (scr
 -- ---- whose failure it was
 
 -- no line is written as it is read, and none draws
-pub next_not_write : (status : Status) (old new : Reading) (got : List ℕ) (left : Option (List ℕ)) → IsNextBy capture_line_of capture_version_after (Err status) old new got left → status ≡ Write → ⊥
+pub next_not_write : (status : Status) (old new : Reading) (got : List ℕ) (left : Tally) → IsNextBy capture_line_of capture_version_after (Err status) old new got left → status ≡ Write → ⊥
 next_not_write status old new got left next is = next_isnt capture_line_of capture_version_after status Write old new got left (λ never. never) next is
 
-pub next_not_noise : (status : Status) (old new : Reading) (got : List ℕ) (left : Option (List ℕ)) → IsNextBy capture_line_of capture_version_after (Err status) old new got left → status ≡ Noise → ⊥
+pub next_not_noise : (status : Status) (old new : Reading) (got : List ℕ) (left : Tally) → IsNextBy capture_line_of capture_version_after (Err status) old new got left → status ≡ Noise → ⊥
 next_not_noise status old new got left next is = next_isnt capture_line_of capture_version_after status Noise old new got left (λ never. never) next is
 
 pub err_so : (a b : Status) → (let r : Result (Unit {0}) Status = Err a in r ≡ Err b) → a ≡ b

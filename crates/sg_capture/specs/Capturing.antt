@@ -3,7 +3,7 @@ use Rattle.std.specs.Prelude.{◌≡◌, ◌⊎◌, ◌≤◌, ◌+◌, ◌^◌,
 use Rattle.sg_base.specs.declared.faults.ScriptFault.{ScriptFault}
 use Rattle.sg_base.specs.declared.faults.ScriptFault.TheVariants.{Unended}
 use Rattle.sg_edge.specs.Links.{Added}
-use Rattle.sg_edge.specs.Told.{AtEnd, TookIn, Wrote}
+use Rattle.sg_edge.specs.Told.{AtEnd, Tally, TookIn, Wrote}
 use Rattle.sg_gateway.specs.Runs.{world_after}
 use Rattle.sg_gateway.specs.Step.{Event}
 use Rattle.sg_gateway.specs.World.{World, empty}
@@ -49,7 +49,7 @@ pub record IsCutCapture (octets draws out : List ℕ) : Type 0 where
 -- first fault: it is that fault, whatever would come behind what was read; Unended and Cut come only at the source's end.
 -- With Noise a draw comes next. Where the source failed, all whole lines and records that were read are told. Where the sink
 -- failed or memory is wanting, nothing before the batch under way is lost.
-abbrev pub CaptureEnds : Status → List ℕ → List ℕ → List ℕ → Option (List ℕ) → Type 0
+abbrev pub CaptureEnds : Status → List ℕ → List ℕ → List ℕ → Tally → Type 0
 CaptureEnds statuses.Done octets draws out left = (IsWholeCapture octets draws out (InScript BehindAll) ⊎ IsWholeCapture octets draws out (InCapture None)) × AtEnd left
 CaptureEnds (statuses.Script n fault) octets draws out left =
     IsWholeCapture octets draws out (InScript (AtFault n fault)) × (fault ≡ Unended → AtEnd left)
@@ -98,5 +98,5 @@ pub record IsFaultless (octets : List ℕ) : Type 0 where
   pub capture : (draws : List ℕ) (fault : ℕ × CaptureFault) → ¬ ((captured octets draws).stop ≡ InCapture (Some fault))
 
 -- Where the source's octets have no fault, the run handles them to their end, or memory runs out.
-abbrev pub IsCompleteCapture : Status → Option (List ℕ) → Option (List ℕ) → Type 0
-IsCompleteCapture status left left' = (all rest : List ℕ) → left ≡ Some all → left' ≡ Some rest → IsFaultless all → (status ≡ statuses.Done) ⊎ (status ≡ statuses.NoMemory)
+abbrev pub IsCompleteCapture : Status → Tally → Tally → Type 0
+IsCompleteCapture status left left' = (all rest : List ℕ) → left.told ≡ Some all → left'.told ≡ Some rest → IsFaultless all → (status ≡ statuses.Done) ⊎ (status ≡ statuses.NoMemory)

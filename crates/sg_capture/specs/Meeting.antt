@@ -1,6 +1,6 @@
 -- What playing the records of a capture leaves.
 use Rattle.std.specs.Prelude.{◌≡◌, ◌≤◌, ℕ, List, ◌++◌, length, map, Option, Some, None, Result, Ok, Err}
-use Rattle.sg_edge.specs.Told.{AtEnd}
+use Rattle.sg_edge.specs.Told.{AtEnd, Tally}
 use Rattle.sg_front.specs.States.{FrontStandsFor, FrontValue, unshared}
 use Rattle.sg_gateway.specs.Runs.{world_after}
 use Rattle.sg_gateway.specs.Step.{Event}
@@ -46,7 +46,7 @@ abbrev pub all_behind : List Event → ℕ → Capture → List Occurrence
 all_behind waited last c = map Happens waited ++ capture_occurs last c.records
 
 -- All before the first fault was told. The fault is so whatever would come behind; Cut is told only at the source's end.
-pub record IsFaultTold (w : World) (waited : List Event) (last : ℕ) (reads : List ℕ → Capture) (octets : List ℕ) (fault : ℕ × CaptureFault) (out : List ℕ) (left : Option (List ℕ)) : Type 0 where
+pub record IsFaultTold (w : World) (waited : List Event) (last : ℕ) (reads : List ℕ → Capture) (octets : List ℕ) (fault : ℕ × CaptureFault) (out : List ℕ) (left : Tally) : Type 0 where
   pub told : out ≡ output_of w (all_behind waited last (reads octets))
   pub is : (reads octets).fault ≡ Some fault
   pub ended : fault.1 ≡ Cut → AtEnd left
@@ -67,7 +67,7 @@ pub record IsCutReading (w : World) (waited : List Event) (last : ℕ) (reads : 
   pub within : IsPrefixOf out (output_of w (told ++ late))
 
 -- The status, by the octets of the capture that were read, which `reads` says what they give, and by those written.
-abbrev pub EndsReading : Status → World → List Event → ℕ → (List ℕ → Capture) → List ℕ → List ℕ → Option (List ℕ) → Type 0
+abbrev pub EndsReading : Status → World → List Event → ℕ → (List ℕ → Capture) → List ℕ → List ℕ → Tally → Type 0
 EndsReading statuses.Done w waited last reads octets out left = (out ≡ output_of w (all_behind waited last (reads octets))) × ((reads octets).fault ≡ None) × AtEnd left
 EndsReading (statuses.Capture offset fault) w waited last reads octets out left = IsFaultTold w waited last reads octets (offset, fault) out left
 EndsReading statuses.Read w waited last reads octets out left = out ≡ output_of w (all_behind waited last (reads octets))

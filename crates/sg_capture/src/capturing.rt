@@ -35,7 +35,7 @@ pub fn capture<R: Threads + Sync, S: Source, K: Sink, N: Noise, G: Gate + Sync>(
         (record { left = S.left source.old; written = K.written sink.old; drawn = N.given noise.old })
         (record { left = S.left source.new; written = K.written sink.new; drawn = N.given noise.new })
         octets draws out }
-    ensures given { S.given source.new ≤ S.given source.old + (2 ^ 30 + 1) }
+    ensures given { (S.left source.new).count ≤ (S.left source.old).count + (2 ^ 30 + 1) }
     ensures read { EndedBy (result ≡ Status.Read) (IsWant result) (S.faults source.old) (S.faults source.new) (S.failed source.new) }
     ensures write { HasFailed (result ≡ Status.Write) (K.faults sink.old) (K.faults sink.new) (K.failed sink.new) }
     ensures noise { HasFailed (result ≡ Status.Noise) (N.faults noise.old) (N.faults noise.new) (N.failed noise.new) }
@@ -68,7 +68,7 @@ fn play_source<R: Threads + Sync, S: Source, K: Sink, N: Noise, G: Gate + Sync>(
         (record { left = S.left source.old; written = K.written sink.old; drawn = N.given noise.old })
         (record { left = S.left source.new; written = K.written sink.new; drawn = N.given noise.new })
         octets draws out }
-    ensures given { S.given source.new ≤ S.given source.old + (2 ^ 30 + 1) }
+    ensures given { (S.left source.new).count ≤ (S.left source.old).count + (2 ^ 30 + 1) }
     ensures read { EndedBy (result ≡ Status.Read) (IsWant result) (S.faults source.old) (S.faults source.new) (S.failed source.new) }
     ensures write { HasFailed (result ≡ Status.Write) (K.faults sink.old) (K.faults sink.new) (K.failed sink.new) }
     ensures noise { HasFailed (result ≡ Status.Noise) (N.faults noise.old) (N.faults noise.new) (N.failed noise.new) }
@@ -104,7 +104,7 @@ fn play_lines<R: Threads + Sync, S: Source, K: Sink, N: Noise, G: Gate + Sync>(
         (record { left = S.left source.new; written = K.written sink.new; drawn = N.given noise.new })
         script.new (StandsFor player.new.front) octets draws out }
     ensures none { OnOk result (player.new.waits ≡ []) }
-    ensures given { S.given source.new + script.new.budget ≤ S.given source.old + (2 ^ 30 + 1) }
+    ensures given { (S.left source.new).count + script.new.budget ≤ (S.left source.old).count + (2 ^ 30 + 1) }
     ensures read { EndedBy (IsErrOf result Status.Read) (IsErrOf result Status.Write ⊎ IsErrOf result Status.NoMemory) (S.faults source.old) (S.faults source.new) (S.failed source.new) }
     ensures write { IsCaused Status.Write result (K.faults sink.old) (K.faults sink.new) (K.failed sink.new) }
     ensures noise { IsCaused Status.Noise result (N.faults noise.old) (N.faults noise.new) (N.failed noise.new) }

@@ -37,7 +37,7 @@ pub(crate) fn play_capture<R: Threads + Sync, S: Source, K: Sink, G: Gate + Sync
     ensures ran { (got : List ℕ) × TookIn (S.left source.old) (S.left source.new) got × (length got ≤ reader.old.budget)
         × ((w : World) → StandsFor player.old.front w → (out : List ℕ) × Wrote (K.written sink.old) (K.written sink.new) out
         × EndsReading result w (waiting player.old) player.old.front.table.moment (capture_of reader.old.most) (reader.old.waits ++ got) out (S.left source.new)) }
-    ensures given { S.given source.new ≤ S.given source.old + reader.old.budget }
+    ensures given { (S.left source.new).count ≤ (S.left source.old).count + reader.old.budget }
     ensures read { EndedBy (result ≡ Status.Read) (IsWant result) (S.faults source.old) (S.faults source.new) (S.failed source.new) }
     ensures write { HasFailed (result ≡ Status.Write) (K.faults sink.old) (K.faults sink.new) (K.failed sink.new) }
 {
@@ -67,7 +67,7 @@ fn play_records<R: Threads + Sync, S: Source, K: Sink, G: Gate + Sync>(
     ensures ran { (got : List ℕ) × TookIn (S.left source.old) (S.left source.new) got × (length got ≤ reader.old.budget)
         × ((w : World) → StandsFor player.old.front w → (out : List ℕ) × Wrote (K.written sink.old) (K.written sink.new) out
         × EndsReading result w (waiting player.old) player.old.front.table.moment (records_in reader.old.most form reader.old.at) (reader.old.waits ++ got) out (S.left source.new)) }
-    ensures given { S.given source.new ≤ S.given source.old + reader.old.budget }
+    ensures given { (S.left source.new).count ≤ (S.left source.old).count + reader.old.budget }
     ensures read { EndedBy (result ≡ Status.Read) (IsWant result) (S.faults source.old) (S.faults source.new) (S.failed source.new) }
     ensures write { HasFailed (result ≡ Status.Write) (K.faults sink.old) (K.faults sink.new) (K.failed sink.new) }
 {

@@ -15,7 +15,7 @@ invariant-lines g l =
     × (length taken ≡ l.script.offset) × FrontStandsFor l.player.front (state_after (start false) es))
     × (l.script.offset + length l.script.waits + l.script.budget ≡ 2 ^ 30 + 1) × (l.script.offset ≤ 2 ^ 30)
     × (g.S.Source.faults l.source ≡ g.S.Source.faults l.fn.source) × (g.K.Sink.faults l.sink ≡ g.K.Sink.faults l.fn.sink) × (g.N.Noise.faults l.noise ≡ g.N.Noise.faults l.fn.noise)
-    × (g.S.Source.given l.source + l.script.budget ≤ g.S.Source.given l.fn.source + (2 ^ 30 + 1)) × (length l.script.waits ≤ 4096) × (length l.player.waits ≤ 256)
+    × ((g.S.Source.left l.source).count + l.script.budget ≤ (g.S.Source.left l.fn.source).count + (2 ^ 30 + 1)) × (length l.script.waits ≤ 4096) × (length l.player.waits ≤ 256)
 
 abbrev pub decreases-lines : goal.decreases-lines
 decreases-lines g l = 2 ^ 30 - l.script.offset

@@ -17,7 +17,7 @@ invariant-records g l =
     × StandsFor l.player.front (world_after w (captured_events told))))
     × (l.reader.most ≡ l.fn.reader.most) × (l.reader.at ≤ l.reader.most) × (l.progress.number ≤ l.reader.at)
     × (g.S.Source.faults l.source ≡ g.S.Source.faults l.fn.source) × (g.K.Sink.faults l.sink ≡ g.K.Sink.faults l.fn.sink)
-    × (g.S.Source.given l.source + l.reader.budget ≤ g.S.Source.given l.fn.source + l.fn.reader.budget)
+    × ((g.S.Source.left l.source).count + l.reader.budget ≤ (g.S.Source.left l.fn.source).count + l.fn.reader.budget)
     × (length l.player.waits ≤ 256) × (length l.reader.waits ≤ 4096)
 
 abbrev pub decreases-records : goal.decreases-records
