@@ -1,6 +1,6 @@
 //! RFC 2202, and keys that another program computed.
 
-use sg_hmac::{Mac, MacKey, labelled_key, prf, tag_fits};
+use sg_hmac::{Mac, labelled_key, tag_fits};
 
 struct Row<'a> {
     key: &'a [u8],
@@ -68,20 +68,6 @@ fn published_codes(rt: HostRuntime) {
     }
 }
 
-#[test]
-fn cuts_and_kept_keys(rt: HostRuntime) {
-    for row in &ROWS {
-        let key = MacKey::new(row.key);
-        for size in 1..9 {
-            let mut mac = key.start();
-            for part in row.text.chunks(size) {
-                mac.update(part);
-            }
-            assert!(rt; mac.finish() == octets_of(&row.code));
-        }
-    }
-}
-
 // RFC 2202, section 3, test case 5: the code cut to 96 bits.
 #[test]
 fn cut_tags(rt: HostRuntime) {
@@ -107,64 +93,8 @@ fn stepped<const N: usize>(first: u8) -> [u8; N] {
     octets
 }
 
-// Computed by Python's hmac and hashlib from RFC 3830, 4.1.2: the octets of the in-key, which goes up from
-// 3, and of the label, which goes up from 200, and the function's output.
-#[test]
-fn keys_of_another_program(rt: HostRuntime) {
-    let secrets: [u8; 100] = stepped(3);
-    let labels: [u8; 264] = stepped(200);
-    let rows: [(usize, usize, &[u8]); 8] = [
-        (
-            0,
-            9,
-            b"\x00\x00\x00\x00\x00\x00\x00\x00\x00\x00\x00\x00\x00\x00\x00\x00\x00\x00\x00\x00",
-        ),
-        (1, 0, b"\xe0"),
-        (
-            16,
-            25,
-            b"\xbc\xb9\x8f\x2b\x67\xc9\x27\x9d\x3f\xc9\x4d\xa7\x1a\x90\x06\x97",
-        ),
-        (
-            20,
-            25,
-            b"\x82\xd7\x28\xf2\xf5\x7a\xdb\xe0\xac\x58\xac\x82\x4d\x79",
-        ),
-        (
-            32,
-            30,
-            b"\xb7\x58\x38\xef\x5d\xf4\x57\x2e\xc8\x30\xee\xe3\x6b\xd6\xf6\xd2\x0d\xd7\x4c\x12\x69\x95\xa8\x1e\xd1\x47\x04\xf1\xae\x42\x2a\x8f\xff\x10\xac\x19\x15\xdf\xca\x4a\x6f",
-        ),
-        (
-            33,
-            30,
-            b"\xd6\x24\x79\xca\xd1\x96\x70\xd4\xd8\x0c\x3b\xec\xee\xdd\xc2\xc8\x98\x8d\xb8\x65\x03\xbc\x29\x4f\x1f\x61\x1d\x74\x72\xd5\x18\x2a\x8d\xe7\x4b\x33\x5f\x7c\xc2\x11",
-        ),
-        (
-            64,
-            264,
-            b"\xed\xc6\x8d\x33\x1a\x00\x31\x86\xa8\x39\xaa\x0f\xf4\xaf\x8b\x47\x83\x6b\x43\x8f\x9e\xfb\x0a\x3b\xcd\xf3\xa1\xa7\x6f\xdb\xba\x7d",
-        ),
-        (
-            100,
-            25,
-            b"\x1c\x18\xdc\xcf\x26\x0d\x8c\x3e\xea\x9f\x5d\x20\xa8\xab\xdf\xff\xe0\x07\xf6\x31\x71\xd4\x33\xeb\xc2\x32\x9b\x40\x28\x34\xd0\x32\x08\x82\x6f\x6b\x55\x67\x91\xfa\xa4\x87\x3a\xae\x50\xb9\xbd\xf3\x27\xe1\x3a\x40\xf4\xdc\x9b\x82\xe4\x3d\x85\xfa\xf3\x20\xe2\xfd\xff\x86\x87\xef\xa3\x65\xbf\x0c\x14\xb2\xac\xb0\x85\x7a\xde\xbf",
-        ),
-    ];
-    for (secret, label, octets) in rows {
-        let mut part = [0; 80];
-        assert!(rt; secret <= 100 && label <= 264 && octets.len() <= 80);
-        prf(
-            &secrets[..secret],
-            &labels[..label],
-            &mut part[..octets.len()],
-        );
-        assert!(rt; &part[..octets.len()] == octets);
-    }
-}
-
-// As above, from RFC 3830, 4.1.3 and 4.1.4: a constant, a crypto session and the output under a bundle's
-// label, whose random octets go up from 9.
+// Computed by Python's hmac and hashlib from RFC 3830, 4.1.2 to 4.1.4: a constant, a crypto session and the output
+// under a bundle's label, whose random octets go up from 9. The in-key goes up from 3.
 #[test]
 fn labels_of_another_program(rt: HostRuntime) {
     let secret: [u8; 16] = stepped(3);

@@ -1,9 +1,6 @@
-//! Published derivations, and a packet sealed under derived keys.
+//! Published derivations.
 
-use sg_aes::Schedule;
 use sg_base::{MasterKey, Suite};
-use sg_ctr::apply;
-use sg_hmac::MacKey;
 use sg_kdf::derive;
 use std::test::Fail;
 
@@ -106,37 +103,5 @@ fn derives_as_published(rt: HostRuntime) -> Result<(), Fail> {
         assert!(rt; keys.rtp.encrypt.as_slice() == encrypt);
         assert!(rt; (keys.rtp.salt, keys.rtp.auth) == (salt, auth));
     }
-    Ok(())
-}
-
-#[test]
-fn a_raw_key_is_the_authentication_key(rt: HostRuntime) -> Result<(), Fail> {
-    let master = MasterKey::new(Suite::Raw80, &SMALL_AUTH).ok_or("no master key")?;
-    let keys = derive(&master);
-    assert!(rt; keys.rtp.auth == SMALL_AUTH);
-    assert!(rt; keys.rtp.encrypt.as_slice().is_empty());
-    assert!(rt; keys.rtcp.encrypt.as_slice().is_empty());
-    Ok(())
-}
-
-// A packet of an independent implementation, at rollover 0: head, 16 octets ab under the keystream, tag.
-#[test]
-fn a_packet_is_sealed_under_derived_keys(rt: HostRuntime) -> Result<(), Fail> {
-    let master = MasterKey::new(Suite::Cm128Tag80, &SMALL_MASTER).ok_or("no master key")?;
-    let keys = derive(&master);
-    let schedule = Schedule::new(keys.rtp.encrypt.as_slice()).ok_or("no schedule")?;
-    let mut part = [0xab; 16];
-    apply(&schedule, &keys.rtp.salt, 0xcafebabe, 0x1234, &mut part);
-    assert!(rt; u128::from_be_bytes(part) == 0x4e55dc4ce79978d88ca4d215949d2402);
-    let mut mac = MacKey::new(&keys.rtp.auth).start();
-    mac.update(&[
-        0x80, 0x0f, 0x12, 0x34, 0xde, 0xca, 0xfb, 0xad, 0xca, 0xfe, 0xba, 0xbe,
-    ]);
-    mac.update(&part);
-    mac.update(&[0; 4]);
-    let code = mac.finish();
-    assert!(rt;
-        &code[..10] == [0xb7, 0x8d, 0x6a, 0xcc, 0x99, 0xea, 0x17, 0x9b, 0x8d, 0xbb].as_slice()
-    );
     Ok(())
 }

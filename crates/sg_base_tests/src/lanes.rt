@@ -1,6 +1,4 @@
-//! Lanes: each is drained once, by workers side by side, behind the gate.
-
-ghost use Rattle.std.specs.Prelude.{◌≡◌, ◌+◌, ◌%◌, ◌^◌};
+//! Lanes: they are drained by workers side by side, behind the gate.
 
 use sg_lanes::{Gate, Lane, OpenGate, drain_all};
 use std::sync::atomic::{AtomicBool, Ordering};
@@ -20,20 +18,6 @@ fn meets(mine: &AtomicBool, other: &AtomicBool) -> bool {
     false
 }
 
-/// A lane that counts how often it was drained.
-#[derive(Drop)]
-struct Counted {
-    times: u64,
-}
-
-impl Lane for Counted {
-    ghost drained = { λ old new. new.times ≡ (old.times + 1) % 2 ^ 64 };
-
-    fn drain(&mut self) {
-        self.times = self.times.wrapping_add(1);
-    }
-}
-
 /// A lane that waits in its `drain` until another lane is in its own.
 #[derive(Drop)]
 struct Waiting<'a> {
@@ -47,29 +31,6 @@ impl<'a> Lane for Waiting<'a> {
 
     fn drain(&mut self) {
         self.met = meets(self.mine, self.other);
-    }
-}
-
-/// A gate at which the workers of the first two lanes wait for each other.
-#[derive(Drop)]
-struct Meeting {
-    left: AtomicBool,
-    right: AtomicBool,
-    left_met: AtomicBool,
-    right_met: AtomicBool,
-}
-
-impl Gate for Meeting {
-    fn enter(&self, lane: usize) {
-        match lane {
-            0 => self
-                .left_met
-                .store(meets(&self.left, &self.right), Ordering::SeqCst),
-            1 => self
-                .right_met
-                .store(meets(&self.right, &self.left), Ordering::SeqCst),
-            _ => {}
-        }
     }
 }
 
@@ -100,15 +61,6 @@ impl<'a> Lane for Guarded<'a> {
     }
 }
 
-/// So many lanes that weren't drained yet.
-fn undrained(rt: &HostRuntime, count: usize) -> Result<Vec<Counted>, Fail> {
-    let mut lanes = Vec::new(rt.alloc());
-    for _ in 0..count {
-        lanes.push(Counted { times: 0 })?;
-    }
-    Ok(lanes)
-}
-
 /// Four flags that are down.
 fn flags(rt: &HostRuntime) -> Result<Vec<AtomicBool>, Fail> {
     let mut flags = Vec::new(rt.alloc());
@@ -116,29 +68,6 @@ fn flags(rt: &HostRuntime) -> Result<Vec<AtomicBool>, Fail> {
         flags.push(AtomicBool::new(false))?;
     }
     Ok(flags)
-}
-
-#[test]
-fn each_lane_is_drained_once(rt: HostRuntime) -> Result<(), Fail> {
-    let rows = [
-        (0, 1),
-        (0, 16),
-        (1, 1),
-        (3, 1),
-        (7, 3),
-        (8, 4),
-        (5, 16),
-        (256, 2),
-    ];
-    for (count, workers) in rows {
-        let mut lanes = undrained(&rt, count)?;
-        drain_all(&rt, lanes.as_mut_slice(), workers, &OpenGate);
-        assert!(rt; lanes.len() == count);
-        for lane in &lanes {
-            assert!(rt; lane.times == 1);
-        }
-    }
-    Ok(())
 }
 
 #[test]
@@ -155,21 +84,6 @@ fn two_lanes_meet(rt: HostRuntime) -> Result<(), Fail> {
     }
     drain_all(&rt, lanes.as_mut_slice(), 2, &OpenGate);
     assert!(rt; lanes.iter().all(|lane| lane.met));
-    Ok(())
-}
-
-#[test]
-fn two_workers_meet_in_the_gate(rt: HostRuntime) -> Result<(), Fail> {
-    let gate = Meeting {
-        left: AtomicBool::new(false),
-        right: AtomicBool::new(false),
-        left_met: AtomicBool::new(false),
-        right_met: AtomicBool::new(false),
-    };
-    let mut lanes = undrained(&rt, 2)?;
-    drain_all(&rt, lanes.as_mut_slice(), 2, &gate);
-    assert!(rt; gate.left_met.load(Ordering::SeqCst));
-    assert!(rt; gate.right_met.load(Ordering::SeqCst));
     Ok(())
 }
 
