@@ -1,5 +1,5 @@
 -- How the causes of a part's answers follow one another.
-use Rattle.std.proofs.Common.{◌≡◌, ◌≤◌, ℕ, Bool, Option, Result, Ok, Err, sym, ap, ◌∙◌, inl, inr, arith}
+use Rattle.std.proofs.Common.{◌≡◌, ℕ, Bool, Option, Result, Ok, Err, sym, ap, ◌∙◌, inl, inr, arith}
 use Rattle.std.specs.Prelude.{IfErr}
 use Rattle.sg_trace.proofs.Causes.{failed_as}
 use Rattle.sg_trace.specs.Causes.{HasFailed, IsCaused}

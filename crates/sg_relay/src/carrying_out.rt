@@ -1,7 +1,7 @@
 //! What is done for outcomes: ports are bound and given up, packets are sent, and lines are written.
 
 ghost use Rattle.std.specs.Prelude.{◌≡◌, ◌∷◌, [], ℕ, List, Bool, IfErr, Some, map};
-ghost use Rattle.sg_edge.specs.Links.{Added, Called, LinkCall};
+ghost use Rattle.sg_edge.specs.Links.{Called, LinkCall};
 ghost use Rattle.sg_edge.specs.Told.{HasCause, Wrote};
 ghost use Rattle.sg_outcome.specs.declared.outcomes.Outcome.TheVariants.{Out};
 ghost use Rattle.sg_relay.specs.Asked.{asks_of, hold, ports_of, sent_as, written_as};

@@ -12,7 +12,7 @@ use Rattle.sg_trace.specs.declared.status.Status.{Status}
 use Rattle.sg_trace.specs.declared.status.Status.TheVariants.{Done}
 use Rattle.sg_demo.specs.Demonstration.{demonstration, events_shown}
 use Rattle.sg_demo.specs.Text.{IsShown, summary_text}
-use Rattle.sg_edge.specs.Links.{LinkCall, LinkTally}
+use Rattle.sg_edge.specs.Links.{LinkTally}
 use Rattle.sg_edge.specs.Told.{Rose, Tally}
 use Rattle.sg_gateway.specs.Step.{Event}
 use Rattle.sg_migrate.specs.Migration.{IsMigration}

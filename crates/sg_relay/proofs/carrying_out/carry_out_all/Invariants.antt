@@ -1,4 +1,4 @@
-use Rattle.std.proofs.Common.{◌≡◌, ◌≤◌, List, ℕ, take, Ok}
+use Rattle.std.proofs.Common.{◌≡◌, List, ℕ, take, Ok}
 use Rattle.sg_edge.specs.Links.{Called, LinkCall}
 use Rattle.sg_edge.specs.Told.{Wrote}
 use Rattle.sg_relay.specs.Parts.{AreCarriedOut}

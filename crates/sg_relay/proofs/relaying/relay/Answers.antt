@@ -4,7 +4,7 @@ use Rattle.sg_trace.specs.Reading.{IsNext, IsRead}
 use Rattle.sg_trace.specs.declared.status.Status.TheVariants.{Done, Read, Write, Link, Clock, Noise}
 use Rattle.sg_edge.specs.Told.{AtEnd}
 use Rattle.sg_edge.proofs.Links.{added_none}
-use Rattle.sg_edge.proofs.Passed.{rose_later, took_none}
+use Rattle.sg_edge.proofs.Passed.{took_none}
 use Rattle.sg_front.proofs.Sequences.{state_after-append}
 use Rattle.sg_front.specs.States.{FrontStandsFor, start, state_after}
 use Rattle.sg_relay.specs.Relay.{outcomes_by}
