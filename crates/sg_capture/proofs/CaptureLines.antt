@@ -1,5 +1,5 @@
 -- The lines of a script behind which a capture may stand, and how they stop.
-use Rattle.std.proofs.Common.{◌≡◌, ◌⊎◌, ◌+◌, ◌≤◌, ◌<◌, ◌^◌, ℕ, Bool, true, false, cond, leb-true, leb-false, List, [], ◌∷◌, length, Result, Ok, Err, refl, sym, ap, ◌∙◌, subst, inl, inr, arith}
+use Rattle.std.proofs.Common.{◌≡◌, ◌⊎◌, ◌+◌, ◌^◌, ℕ, Bool, true, false, cond, leb-true, leb-false, List, [], ◌∷◌, length, Result, Ok, Err, refl, ap, ◌∙◌, subst, inl, inr, arith}
 use Rattle.std.specs.Prelude.{nat_le, nat_lt, ◌&&◌, codes}
 use Rattle.std.specs.Str.{bytes_eq}
 use Rattle.std.proofs.lemmas.Bool.{and_parts, cases_Bool, cond-false, ltb-true, ltb-false}
@@ -13,7 +13,7 @@ use Rattle.sg_lines.proofs.FaultLaws.{too_long}
 use Rattle.sg_lines.proofs.FrameLaws.{open_line, whole_line}
 use Rattle.sg_lines.proofs.Splits.{lines_of_rest}
 use Rattle.sg_lines.specs.LineOf.{line_of}
-use Rattle.sg_lines.specs.ScriptLines.{IsWhole, NoEnd, lines_of}
+use Rattle.sg_lines.specs.ScriptLines.{NoEnd, lines_of}
 use Rattle.sg_lines.specs.declared.lines.Line.{Line}
 use Rattle.sg_trace.proofs.Frames.{IsFar, IsLong, IsOpen, Opening, at_far, at_long, opening}
 use Rattle.sg_trace.specs.Course.{behind_line, course_from, ended, read_at}

@@ -34,7 +34,7 @@ use Rattle.sg_trace.specs.Course.{Course, behind_line, course, course_from, ende
 use Rattle.sg_trace.specs.Loop.{Closes, HasNoLast, IsAll, IsCut, LoopEnds}
 use Rattle.sg_trace.specs.Output.{IsPrefixOf, output, text}
 use Rattle.sg_trace.specs.Reading.{IsNextBy, IsReadBy, Reading}
-use Rattle.sg_trace.specs.Trace.{AtCapture, AtEnd as BehindAll, AtFault, Captures, ForDraw, Later, Stop, Trace, after_line, begins_capture, drawing, line_at, stopped, trace_from, with_events}
+use Rattle.sg_trace.specs.Trace.{AtCapture, AtEnd as BehindAll, AtFault, Captures, ForDraw, Later, Stop, Trace, after_line, begins_capture, drawing, line_at, stopped, trace_from}
 use Rattle.sg_trace.specs.declared.status.Status.{Status}
 use Rattle.sg_trace.specs.declared.status.Status.TheVariants.{Done, Script, Read, Write, NoMemory, Noise}
 

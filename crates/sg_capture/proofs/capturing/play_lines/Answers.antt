@@ -1,4 +1,4 @@
-use Rattle.std.proofs.Common.{rules, ◌≡◌, ◌≤◌, ◌⊎◌, ◌+◌, ◌^◌, ℕ, false, List, [], ◌++◌, length, map, Option, None, IfSome, Ok, refl, sym, ap, ◌∙◌, subst, inl, inr, arith, length-append}
+use Rattle.std.proofs.Common.{rules, ◌≤◌, ◌⊎◌, ◌+◌, ℕ, false, List, [], ◌++◌, length, map, Option, Some, None, IfSome, Ok, refl, sym, ap, ◌∙◌, subst, inl, inr, arith, length-append}
 use Rattle.std.proofs.lemmas.List.{length-map}
 use Rattle.sg_capture.proofs.Scripts.{behind_script, ended_at_err, ended_err, ends_so, err_so, next_not_noise, next_not_write, settled_not}
 use Rattle.sg_capture.specs.CaptureLines.{FitsCaptureLine, capture_line_of, capture_version_after, of_capture}
@@ -108,7 +108,7 @@ returns-in-Ok-Some-Capture-clause-ran g c =
     let got = c.in-Ok-Some-Capture.ensures.next in
     let near = near_by c.lines.script.waits got.0 _ _ (c.in-Ok-Some-Capture.ensures.near c.lines.invariant.7).1 got.3 in
     let read : IsReadBy capture_line_of capture_version_after lines.Capture c.lines.script c.next.new.self got.0 =
-    subst (λ l. IsReadBy capture_line_of capture_version_after l c.lines.script c.next.new.self got.0) c.in-Ok-Some-Capture.field-0-0-is (subst (λ r. IsNextBy capture_line_of capture_version_after (Ok r) c.lines.script c.next.new.self got.0 (g.S.Source.left c.next.new.source)) c.in-Ok-Some-Capture.field-0-is got.2) in
+    subst (λ r. IsNextBy capture_line_of capture_version_after (Ok r) c.lines.script c.next.new.self got.0 (g.S.Source.left c.next.new.source)) (c.in-Ok-Some-Capture.field-0-is ∙ ap Some c.in-Ok-Some-Capture.field-0-0-is) got.2 in
     let few = c.settle_at_once.ensures.few in
     let settled = c.settle_at_once.ensures.settled (state_after (start false) so_far.2) so_far.5 in (
       so_far.0 ++ (c.lines.script.waits ++ got.0),
@@ -126,7 +126,7 @@ returns-in-Err-play-clause-ran g c =
     let got = c.in-Ok-Some-Script.ensures.next in
     let near = near_by c.lines.script.waits got.0 _ _ (c.in-Ok-Some-Script.ensures.near c.lines.invariant.7).1 got.3 in
     let read : IsReadBy capture_line_of capture_version_after (lines.Script c.in-Ok-Some-Script.line) c.lines.script c.next.new.self got.0 =
-    subst (λ l. IsReadBy capture_line_of capture_version_after l c.lines.script c.next.new.self got.0) c.in-Ok-Some-Script.field-0-0-is (subst (λ r. IsNextBy capture_line_of capture_version_after (Ok r) c.lines.script c.next.new.self got.0 (g.S.Source.left c.next.new.source)) c.in-Ok-Some-Script.field-0-is got.2) in
+    subst (λ r. IsNextBy capture_line_of capture_version_after (Ok r) c.lines.script c.next.new.self got.0 (g.S.Source.left c.next.new.source)) (c.in-Ok-Some-Script.field-0-is ∙ ap Some c.in-Ok-Some-Script.field-0-0-is) got.2 in
     let played = c.in-Err-play.ensures.played (state_after (start false) so_far.2) so_far.5 in
     let ended = line_ended c.in-Ok-Some-Script.line (state_after (start false) so_far.2) c.lines.player c.in-Err-play.ensures.few played.0 played.1 c.in-Err-play.status _ (FrontStandsFor c.play.new.self.front) played.4 in (
       so_far.0 ++ (c.lines.script.waits ++ got.0),
@@ -146,7 +146,7 @@ pub lines-smaller : goal.lines-smaller
 lines-smaller g c =
     let got = c.in-Ok-Some-Script.ensures.next in
     let read : IsReadBy capture_line_of capture_version_after (lines.Script c.in-Ok-Some-Script.line) c.lines.script c.next.new.self got.0 =
-    subst (λ l. IsReadBy capture_line_of capture_version_after l c.lines.script c.next.new.self got.0) c.in-Ok-Some-Script.field-0-0-is (subst (λ r. IsNextBy capture_line_of capture_version_after (Ok r) c.lines.script c.next.new.self got.0 (g.S.Source.left c.next.new.source)) c.in-Ok-Some-Script.field-0-is got.2) in
+    subst (λ r. IsNextBy capture_line_of capture_version_after (Ok r) c.lines.script c.next.new.self got.0 (g.S.Source.left c.next.new.source)) (c.in-Ok-Some-Script.field-0-is ∙ ap Some c.in-Ok-Some-Script.field-0-0-is) got.2 in
     let some = whole_some read.line read.whole in
     omega (arith, read.offset, read.within, some)
 
@@ -156,7 +156,7 @@ lines-preserved g c =
     let got = c.in-Ok-Some-Script.ensures.next in
     let near = near_by c.lines.script.waits got.0 _ _ (c.in-Ok-Some-Script.ensures.near c.lines.invariant.7).1 got.3 in
     let read : IsReadBy capture_line_of capture_version_after (lines.Script c.in-Ok-Some-Script.line) c.lines.script c.next.new.self got.0 =
-    subst (λ l. IsReadBy capture_line_of capture_version_after l c.lines.script c.next.new.self got.0) c.in-Ok-Some-Script.field-0-0-is (subst (λ r. IsNextBy capture_line_of capture_version_after (Ok r) c.lines.script c.next.new.self got.0 (g.S.Source.left c.next.new.source)) c.in-Ok-Some-Script.field-0-is got.2) in
+    subst (λ r. IsNextBy capture_line_of capture_version_after (Ok r) c.lines.script c.next.new.self got.0 (g.S.Source.left c.next.new.source)) (c.in-Ok-Some-Script.field-0-is ∙ ap Some c.in-Ok-Some-Script.field-0-0-is) got.2 in
     let played = c.in-Ok-play.ensures.played (state_after (start false) so_far.2) so_far.5 in
     let taken = line_taken c.in-Ok-Some-Script.line (state_after (start false) so_far.2) c.lines.player c.in-Ok-play.ensures.few played.0 played.1 _ (FrontStandsFor c.play.new.self.front) played.4 in (
       (
@@ -204,8 +204,7 @@ pub play-requires-after_bounds : goal.play-requires-after_bounds
 play-requires-after_bounds g c = λ bounds outlives. (
   c.lines.script.version,
   c.lines.script.number,
-  subst (FitsCaptureLine c.lines.script.version c.lines.script.number) c.in-Ok-Some-Script.field-0-0-is
-      (subst (λ r. IfSome r (λ line. FitsCaptureLine c.lines.script.version c.lines.script.number line)) c.in-Ok-Some-Script.field-0-is c.in-Ok-Some-Script.ensures.fits),
+  subst (λ r. IfSome r (λ line. FitsCaptureLine c.lines.script.version c.lines.script.number line)) (c.in-Ok-Some-Script.field-0-is ∙ ap Some c.in-Ok-Some-Script.field-0-0-is) c.in-Ok-Some-Script.ensures.fits,
 )
 
 -- ---- whose failure it was
