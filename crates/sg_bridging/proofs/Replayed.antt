@@ -84,17 +84,17 @@ supplied_matches : (s : Option Supplied) (said : List ℕ → Course Said) (late
 supplied_matches None said later top draws match = record { said = refl; stop = refl; left = refl }
 supplied_matches (Some s) said later top draws match = more_matches (events_of s.line) (said s.draws) (later top (drawing s.draws)) (match s.draws)
 
-line_matches : (version n : ℕ) (r : Result Line ScriptFault) (said : ℕ → List ℕ → Course Said) (later : ℕ → Later) (top : ℕ) (draws : List ℕ) → ((v : ℕ) → LaterMatch (said v) (later v) top)
-    → Matches (behind_line of_bridge version n (of_script r) said draws) (after_line Replays version n r later top (drawing draws))
-line_matches version n (Err fault) said later top draws match = record { said = refl; stop = refl; left = refl }
-line_matches version n (Ok l) said later top draws match = supplied_matches (supplied draws l) (said (version_after version l)) (later (version_after version l)) top draws (match (version_after version l))
+line_matches : (version n end : ℕ) (r : Result Line ScriptFault) (said : ℕ → List ℕ → Course Said) (later : ℕ → Later) (top : ℕ) (draws : List ℕ) → ((v : ℕ) → LaterMatch (said v) (later v) top)
+    → Matches (behind_line of_bridge version n end (of_script r) said draws) (after_line Replays version n r later top (drawing draws))
+line_matches version n end (Err fault) said later top draws match = record { said = refl; stop = refl; left = refl }
+line_matches version n end (Ok l) said later top draws match = supplied_matches (supplied draws l) (said (version_after version l)) (later (version_after version l)) top draws (match (version_after version l))
 
 lines_match : (ls : List (List ℕ)) → AllByRecursion NoWord ls → (version n at top : ℕ) (draws : List ℕ) → Matches (course_from of_bridge version n at ls draws) (trace_from Replays version n at ls top (drawing draws))
 lines_match [] none version n at top draws = record { said = refl; stop = refl; left = refl }
 lines_match (l ∷ ls) none version n at top draws =
-    subst (λ (r : Result BridgeLine ScriptFault). Matches (behind_line of_bridge version n r (λ v. course_from of_bridge v (n + 1) (at + length l) ls) draws) (trace_from Replays version n at (l ∷ ls) top (drawing draws)))
+    subst (λ (r : Result BridgeLine ScriptFault). Matches (behind_line of_bridge version n (at + length l) r (λ v. course_from of_bridge v (n + 1) (at + length l) ls) draws) (trace_from Replays version n at (l ∷ ls) top (drawing draws)))
     (sym (at_is version n at l none.0))
-    (line_matches version n (line_at version n at l) (λ v. course_from of_bridge v (n + 1) (at + length l) ls) (λ v. trace_from Replays v (n + 1) (at + length l) ls) top draws
+    (line_matches version n (at + length l) (line_at version n at l) (λ v. course_from of_bridge v (n + 1) (at + length l) ls) (λ v. trace_from Replays v (n + 1) (at + length l) ls) top draws
     (λ v draws. lines_match ls none.1 v (n + 1) (at + length l) top draws))
 
 -- ---- what is written

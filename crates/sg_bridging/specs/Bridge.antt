@@ -1,5 +1,5 @@
 -- What a bridge answers, and what has passed between it and the outside by then.
-use Rattle.std.specs.Prelude.{◌≡◌, ◌⊎◌, ◌≤◌, ◌+◌, ◌^◌, length, map, ℕ, List, [], ◌∷◌, Option, Some, None}
+use Rattle.std.specs.Prelude.{◌≡◌, ◌⊎◌, ◌≤◌, ◌+◌, ◌^◌, length, map, ℕ, false, List, [], ◌∷◌, Option, Some, None}
 use Rattle.std.specs.List.{flat_map}
 use Rattle.sg_base.specs.declared.faults.ScriptFault.{ScriptFault}
 use Rattle.sg_bridge.specs.BridgeLines.{bridge_line_of, bridge_version_after}
@@ -33,7 +33,7 @@ gives (lines.Part call) draws = Some (record { deeds = Parts call ∷ []; left =
 
 -- how a bridge reads a script
 abbrev pub of_bridge : Ways BridgeLine Said
-of_bridge = record { spelled = bridge_line_of; followed = bridge_version_after; gives = gives }
+of_bridge = record { spelled = bridge_line_of; followed = bridge_version_after; is_last = λ l. false; gives = gives }
 
 -- what its lines say, where they end, and what of the octets drawn they leave
 abbrev pub bridge_trace : List ℕ → List ℕ → Course Said

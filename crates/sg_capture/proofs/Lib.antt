@@ -1,3 +1,4 @@
+mod CaptureLines
 mod Captureds
 mod Compositions
 mod Meets

@@ -1,2 +1,3 @@
+pub mod CaptureLines
 pub mod Capturing
 pub mod Meeting

@@ -8,12 +8,13 @@ ghost use Rattle.sg_gateway.specs.World.{empty};
 ghost use Rattle.sg_trace.specs.Causes.{EndedBy, HasFailed, IsCaused};
 ghost use Rattle.sg_trace.specs.Loop.{IsWant};
 
+use crate::lines::CaptureLine;
 use crate::records::play_capture;
 use sg_base::NoMemory;
 use sg_edge::{Noise, Sink, Source};
 use sg_lanes::Gate;
 use sg_playback::Player;
-use sg_trace::{CaptureReader, Found, ScriptReader, Status, pass_on, passed_on};
+use sg_trace::{CaptureReader, ScriptReader, Status, pass_on, passed_on};
 use std::alloc::Global;
 use std::thread::Threads;
 
@@ -113,11 +114,11 @@ fn play_lines<R: Threads + Sync, S: Source, K: Sink, N: Noise, G: Gate + Sync>(
             Err(status) => return Err(status),
             Ok(()) => {}
         }
-        let line = match script.next_or_capture(alloc, source) {
+        let line = match script.next(alloc, source) {
             Err(status) => return Err(player.close(rt, alloc, status, sink, gate)),
-            Ok(Found::End) => return Err(player.close(rt, alloc, Status::Done, sink, gate)),
-            Ok(Found::Capture) => return player.settle_at_once(rt, alloc, sink, gate),
-            Ok(Found::Line(line)) => line,
+            Ok(None) => return Err(player.close(rt, alloc, Status::Done, sink, gate)),
+            Ok(Some(CaptureLine::Capture)) => return player.settle_at_once(rt, alloc, sink, gate),
+            Ok(Some(CaptureLine::Script(line))) => line,
         };
         match player.play(rt, alloc, line, sink, noise, gate) {
             Err(status) => return Err(status),

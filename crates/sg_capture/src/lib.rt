@@ -3,6 +3,7 @@
 
 mod capturing;
 mod frames;
+mod lines;
 mod progress;
 mod records;
 

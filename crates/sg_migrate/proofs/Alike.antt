@@ -138,7 +138,7 @@ written_from n at moment ls = written_of moment (course_from of_migration 1 n at
 
 -- of a line that says so, and of those behind it
 abbrev pub written_by : ℕ → ℕ → ℕ → List ℕ → List (List ℕ) → Result Line ScriptFault → List ℕ
-written_by n at moment l ls r = written_of moment (behind_line of_migration 1 n (of_version_one r) (λ v. course_from of_migration v (n + 1) (at + length l) ls) []).deeds
+written_by n at moment l ls r = written_of moment (behind_line of_migration 1 n (at + length l) (of_version_one r) (λ v. course_from of_migration v (n + 1) (at + length l) ls) []).deeds
 
 -- how a line is read
 pub one_at : (n at : ℕ) (l : List ℕ) → read_at of_migration 1 n at l ≡ of_version_one (line_at 1 n at l)
@@ -150,7 +150,7 @@ one_at n at l = go (too_far at l)
 
 pub written_is : (n at moment : ℕ) (l : List ℕ) (ls : List (List ℕ)) → written_from n at moment (l ∷ ls) ≡ written_by n at moment l ls (line_at 1 n at l)
 written_is n at moment l ls =
-    ap (λ (r : Result LineOfVersionOne ScriptFault). written_of moment (behind_line of_migration 1 n r (λ v. course_from of_migration v (n + 1) (at + length l) ls) []).deeds) (one_at n at l)
+    ap (λ (r : Result LineOfVersionOne ScriptFault). written_of moment (behind_line of_migration 1 n (at + length l) r (λ v. course_from of_migration v (n + 1) (at + length l) ls) []).deeds) (one_at n at l)
 
 -- ---- lines
 

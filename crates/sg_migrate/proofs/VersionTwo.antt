@@ -111,7 +111,7 @@ module _ (grammar : Grammar) where
     two_refused : course of_migration (header_two ++ later) [] ≡ ended (AtFault 1 Version) []
     two_refused =
         let again : line_at 1 1 0 header_two ≡ Ok lines.HeaderTwo = printed_at grammar 1 1 0 lines.HeaderTwo refl (omega arith) in
-        ap (λ (r : Result LineOfVersionOne ScriptFault). behind_line of_migration 1 1 r (λ v. course_from of_migration v 2 (0 + length header_two) (lines_of later)) []) (one_at 1 0 header_two ∙ ap of_version_one again)
+        ap (λ (r : Result LineOfVersionOne ScriptFault). behind_line of_migration 1 1 (0 + length header_two) r (λ v. course_from of_migration v 2 (0 + length header_two) (lines_of later)) []) (one_at 1 0 header_two ∙ ap of_version_one again)
 
   pub is_version_two : (octets : List ℕ) → IsVersionTwo octets
   is_version_two octets = record {

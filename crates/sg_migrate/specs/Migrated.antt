@@ -1,5 +1,5 @@
 -- A script of version 1, written as one of version 2.
-use Rattle.std.specs.Prelude.{ℕ, max, List, [], ◌∷◌, ◌++◌, Some, Result, Ok, Err}
+use Rattle.std.specs.Prelude.{ℕ, max, false, List, [], ◌∷◌, ◌++◌, Some, Result, Ok, Err}
 use Rattle.sg_base.specs.declared.faults.ScriptFault.{ScriptFault}
 use Rattle.sg_base.specs.declared.faults.ScriptFault.TheVariants.{Version}
 use Rattle.sg_lines.specs.LineOf.{line_of}
@@ -39,7 +39,7 @@ moment_after moment other = moment
 
 -- how a script of version 1 is read; each line is to be written
 abbrev pub of_migration : Ways LineOfVersionOne Line
-of_migration = record { spelled = old_line_of; followed = λ version l. 1; gives = λ l draws. Some (record { deeds = l.line ∷ []; left = draws }) }
+of_migration = record { spelled = old_line_of; followed = λ version l. 1; is_last = λ l. false; gives = λ l draws. Some (record { deeds = l.line ∷ []; left = draws }) }
 
 -- what is written of lines, by the greatest moment of the ticks before them
 abbrev pub written_of : ℕ → List Line → List ℕ

@@ -2,6 +2,6 @@ pub mod Alike
 pub mod Completes
 pub mod Lines
 pub mod Plays
-mod Replays
+pub mod Replays
 mod Tells
 pub mod Room

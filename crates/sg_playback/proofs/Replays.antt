@@ -20,23 +20,23 @@ use Rattle.sg_trace.specs.declared.status.Status.TheVariants.{Done, Script, Read
 
 -- ---- courses
 
-abbrev as_trace : Course Event → Trace
+abbrev pub as_trace : Course Event → Trace
 as_trace c = record { events = c.deeds; stop = c.stop; left = drawing c.left }
 
-given_so : (s : Option Supplied) (later : List ℕ → Course Event) (later' : Later) (draws : List ℕ) → ((rest : List ℕ) → as_trace (later rest) ≡ later' 0 (drawing rest))
+pub given_so : (s : Option Supplied) (later : List ℕ → Course Event) (later' : Later) (draws : List ℕ) → ((rest : List ℕ) → as_trace (later rest) ≡ later' 0 (drawing rest))
     → as_trace (behind_given (given_by s) draws later) ≡ handled_as s later' 0 (drawing draws)
 given_so None later later' draws same = refl
 given_so (Some s) later later' draws same = ap (with_events (events_of s.line)) (same s.draws)
 
-behind_so : (version n : ℕ) (r : Result Line ScriptFault) (later : ℕ → List ℕ → Course Event) (later' : ℕ → Later) (draws : List ℕ) → ((v : ℕ) (rest : List ℕ) → as_trace (later v rest) ≡ later' v 0 (drawing rest))
-    → as_trace (behind_line of_replay version n r later draws) ≡ after_line Replays version n r later' 0 (drawing draws)
-behind_so version n (Err fault) later later' draws same = refl
-behind_so version n (Ok l) later later' draws same = given_so (supplied draws l) (later (version_after version l)) (later' (version_after version l)) draws (same (version_after version l))
+behind_so : (version n end : ℕ) (r : Result Line ScriptFault) (later : ℕ → List ℕ → Course Event) (later' : ℕ → Later) (draws : List ℕ) → ((v : ℕ) (rest : List ℕ) → as_trace (later v rest) ≡ later' v 0 (drawing rest))
+    → as_trace (behind_line of_replay version n end r later draws) ≡ after_line Replays version n r later' 0 (drawing draws)
+behind_so version n end (Err fault) later later' draws same = refl
+behind_so version n end (Ok l) later later' draws same = given_so (supplied draws l) (later (version_after version l)) (later' (version_after version l)) draws (same (version_after version l))
 
 from_so : (version n at : ℕ) (ls : List (List ℕ)) (draws : List ℕ) → as_trace (course_from of_replay version n at ls draws) ≡ trace_from Replays version n at ls 0 (drawing draws)
 from_so version n at [] draws = refl
 from_so version n at (l ∷ ls) draws =
-    behind_so version n (line_at version n at l) (λ v. course_from of_replay v (n + 1) (at + length l) ls) (λ v. trace_from Replays v (n + 1) (at + length l) ls) draws (λ v rest. from_so v (n + 1) (at + length l) ls rest)
+    behind_so version n (at + length l) (line_at version n at l) (λ v. course_from of_replay v (n + 1) (at + length l) ls) (λ v. trace_from Replays v (n + 1) (at + length l) ls) draws (λ v rest. from_so v (n + 1) (at + length l) ls rest)
 
 pub replay_so : (octets draws : List ℕ) → as_trace (course of_replay octets draws) ≡ replayed octets draws
 replay_so octets draws = from_so 1 1 0 (lines_of octets) draws

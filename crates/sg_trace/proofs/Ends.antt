@@ -97,6 +97,7 @@ nothing_read w tells batch left none = (
     ahead = [];
     split = refl;
     near = omega arith;
+    no_last = λ at is. cc;
     told = [];
     late = [];
     alike = refl;

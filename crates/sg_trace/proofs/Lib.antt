@@ -4,7 +4,6 @@ pub mod Causes
 pub mod Traces
 mod ReadBuffers
 pub mod Ends
-pub mod Findings
 pub mod Frames
 pub mod Grammars
 mod LineParts

@@ -1,5 +1,6 @@
 -- How the loop that plays a script goes on, line by line, and how it ends.
-use Rattle.std.proofs.Common.{◌≡◌, ◌⊎◌, ◌+◌, ◌≤◌, ◌^◌, ℕ, List, [], ◌∷◌, ◌++◌, length, Option, Some, None, Ok, Err, refl, sym, ap, ◌∙◌, subst, inl, inr, append_assoc, length-append, arith}
+use Rattle.std.proofs.Common.{◌≡◌, ◌⊎◌, ◌+◌, ◌≤◌, ◌^◌, ℕ, true, false, List, [], ◌∷◌, ◌++◌, length, Option, Some, None, Ok, Err, refl, sym, ap, ◌∙◌, subst, inl, inr, append_assoc, length-append, arith}
+use Rattle.std.proofs.lemmas.Bool.{cond-false, cond-true}
 use Rattle.std.proofs.lemmas.List.{append-nil}
 use Rattle.sg_base.specs.declared.faults.ScriptFault.{ScriptFault}
 use Rattle.sg_edge.proofs.Links.{added_more, added_none}
@@ -9,10 +10,10 @@ use Rattle.sg_edge.specs.Told.{AtEnd, TookIn, Wrote}
 use Rattle.sg_lines.proofs.Splits.{lines_of_whole}
 use Rattle.sg_lines.specs.ScriptLines.{IsWhole, NoEnd, lines_of}
 use Rattle.sg_trace.specs.Course.{Course, Given, Ways, behind_given, behind_line, course, course_from, ended, read_at, with_deeds}
-use Rattle.sg_trace.specs.Loop.{AreAlike, AreTold, Closes, Effects, GoInOrder, IsAll, IsCut, IsCutLine, IsCutShort, IsPlayed, IsTaken, IsWant, LoopEnds, PromptEnds, deeds_of}
+use Rattle.sg_trace.specs.Loop.{AreAlike, AreTold, Closes, Effects, GoInOrder, HasNoLast, IsAll, IsCut, IsCutLine, IsCutShort, IsPlayed, IsTaken, IsWant, LoopEnds, PromptEnds, deeds_of}
 use Rattle.sg_trace.specs.Output.{IsPrefixOf}
 use Rattle.sg_trace.specs.Reading.{FirstFailsBy, IsFaultBy, IsNextBy, IsReadBy, Reading}
-use Rattle.sg_trace.specs.Trace.{AtEnd as BehindAll, AtFault, ForDraw, Stop}
+use Rattle.sg_trace.specs.Trace.{AtCapture, AtEnd as BehindAll, AtFault, ForDraw, Stop}
 use Rattle.sg_trace.specs.declared.status.Status.{Status}
 use Rattle.sg_trace.specs.declared.status.Status.TheVariants.{Done, Script, Read, Write, NoMemory, Noise}
 
@@ -29,17 +30,27 @@ module _ {L D : Type 0} (w : Ways L D) where
   from = course_from w
 
   -- a line that is read
-  reads_on : (version n at : ℕ) (line rest : List ℕ) (l : L) (draws : List ℕ) → IsWhole line → read_at w version n at line ≡ Ok l
-      → from version n at (lines_of (line ++ rest)) draws ≡ behind_given (w.gives l draws) draws (from (w.followed version l) (n + 1) (at + length line) (lines_of rest))
-  reads_on version n at line rest l draws whole is =
+  reads : (version n at : ℕ) (line rest : List ℕ) (l : L) (draws : List ℕ) → IsWhole line → read_at w version n at line ≡ Ok l
+      → from version n at (lines_of (line ++ rest)) draws ≡ behind_line w version n (at + length line) (Ok l) (λ v. from v (n + 1) (at + length line) (lines_of rest)) draws
+  reads version n at line rest l draws whole is =
       ap (λ ls. from version n at ls draws) (lines_of_whole line rest whole)
-      ∙ ap (λ r. behind_line w version n r (λ v. from v (n + 1) (at + length line) (lines_of rest)) draws) is
+      ∙ ap (λ r. behind_line w version n (at + length line) r (λ v. from v (n + 1) (at + length line) (lines_of rest)) draws) is
+
+  -- one behind which others may stand
+  reads_on : (version n at : ℕ) (line rest : List ℕ) (l : L) (draws : List ℕ) → w.is_last l ≡ false → IsWhole line → read_at w version n at line ≡ Ok l
+      → from version n at (lines_of (line ++ rest)) draws ≡ behind_given (w.gives l draws) draws (from (w.followed version l) (n + 1) (at + length line) (lines_of rest))
+  reads_on version n at line rest l draws on whole is = reads version n at line rest l draws whole is ∙ cond-false (w.is_last l) _ _ on
+
+  -- the last
+  reads_last : (version n at : ℕ) (line rest : List ℕ) (l : L) (draws : List ℕ) → w.is_last l ≡ true → IsWhole line → read_at w version n at line ≡ Ok l
+      → from version n at (lines_of (line ++ rest)) draws ≡ ended (AtCapture (at + length line)) draws
+  reads_last version n at line rest l draws last whole is = reads version n at line rest l draws whole is ∙ cond-true (w.is_last l) _ _ last
 
   -- a line outside the grammar
   stops_at : (version n at : ℕ) (octets : List ℕ) (fault : ScriptFault) (draws : List ℕ) → FirstFailsBy w.spelled version n at octets fault → from version n at (lines_of octets) draws ≡ ended (AtFault n fault) draws
   stops_at version n at octets fault draws fails =
       ap (λ ls. from version n at ls draws) fails.split
-      ∙ ap (λ r. behind_line w version n r (λ v. from v (n + 1) (at + length fails.line) fails.others) draws) fails.fails
+      ∙ ap (λ r. behind_line w version n (at + length fails.line) r (λ v. from v (n + 1) (at + length fails.line) fails.others) draws) fails.fails
 
   with_deeds_again : (ds es : List D) (c : Course D) → with_deeds ds (with_deeds es c) ≡ with_deeds (ds ++ es) c
   with_deeds_again ds es c = ap (λ (l : List D). record c { deeds = l }) (sym (append_assoc ds es c.deeds))
@@ -48,6 +59,10 @@ module _ {L D : Type 0} (w : Ways L D) where
   alone : (g : Option (Given D)) (draws : List ℕ) → (behind_given g draws (ended BehindAll)).deeds ≡ deeds_of g
   alone None draws = refl
   alone (Some g) draws = append-nil g.deeds
+
+  alone_no_last : (g : Option (Given D)) (draws : List ℕ) → HasNoLast (behind_given g draws (ended BehindAll))
+  alone_no_last None draws = λ at is. cc
+  alone_no_last (Some g) draws = λ at is. cc
 
 -- ---- the invariant
 
@@ -106,13 +121,14 @@ module _ {L D S : Type 0} (w : Ways L D) (e : Effects S D) (order : GoInOrder e)
   }
 
   -- where a prefix of what came behind was written
-  cut_so : (batch : ℕ) (octets played ahead draws : List ℕ) (es late : List D) (out : List ℕ) → octets ≡ played ++ ahead → e.tells begun (run played draws).deeds ≡ e.tells begun (es ++ late)
+  cut_so : (batch : ℕ) (octets played ahead draws : List ℕ) (es late : List D) (out : List ℕ) → octets ≡ played ++ ahead → HasNoLast (run played draws) → e.tells begun (run played draws).deeds ≡ e.tells begun (es ++ late)
       → IsPrefixOf out (e.tells (e.after begun es) late) → length late ≤ batch → length ahead ≤ 74097 → IsCut w (e.tells begun) batch octets draws (e.tells begun es ++ out)
-  cut_so batch octets played ahead draws es late out split alike part few near = record {
+  cut_so batch octets played ahead draws es late out split no_last alike part few near = record {
     played = played;
     ahead = ahead;
     split = split;
     near = near;
+    no_last = no_last;
     told = es;
     late = late;
     alike = alike;
@@ -153,12 +169,15 @@ module _ {L D S : Type 0} (w : Ways L D) (e : Effects S D) (order : GoInOrder e)
     lines_are : run taken drawn ≡ with_deeds going.deeds (ended BehindAll [])
     lines_are = ap (run taken) (sym (append-nil drawn)) ∙ lines_with []
 
+    lines_no_last : HasNoLast (run taken drawn)
+    lines_no_last at is = let both : BehindAll ≡ AtCapture at = sym (ap (λ (c : Course D). c.stop) lines_are) ∙ is in cc
+
     lines_told : e.tells begun (run taken drawn).deeds ≡ e.tells begun (es ++ ps)
     lines_told = ap (λ (c : Course D). e.tells begun c.deeds) lines_are ∙ ap (e.tells begun) (append-nil going.deeds) ∙ going.alike.told
 
     -- telling what waits failed
     pub cut_at_end : (status : Status) (out : List ℕ) → IsWant status × IsPrefixOf out (e.tells (e.after begun es) ps) × (length ps ≤ batch) → Ends status out
-    cut_at_end status out cut = ends_cut batch status octets drawn (e.tells begun es ++ out) left' cut.0 (cut_so batch octets taken (script.waits ++ got) drawn es ps out refl lines_told cut.1 cut.2 near)
+    cut_at_end status out cut = ends_cut batch status octets drawn (e.tells begun es ++ out) left' cut.0 (cut_so batch octets taken (script.waits ++ got) drawn es ps out refl lines_no_last lines_told cut.1 cut.2 near)
 
     all_told : (out : List ℕ) → out ≡ e.tells (e.after begun es) ps → e.tells begun (es ++ ps) ≡ e.tells begun es ++ out
     all_told out is = order.told begun es ps ∙ ap (λ (o : List ℕ). e.tells begun es ++ o) (sym is)
@@ -210,7 +229,7 @@ module _ {L D S : Type 0} (w : Ways L D) (e : Effects S D) (order : GoInOrder e)
     closed_at_memory status out (inl all) =
         subst (λ s. Ends s out) (sym all.0)
         (subst (λ (o : List ℕ). IsCut w (e.tells begun) batch octets drawn o) (append-nil (e.tells begun (es ++ ps)) ∙ all_told out all.1)
-        (cut_so batch octets taken (script.waits ++ got) drawn (es ++ ps) [] [] refl (lines_told ∙ ap (e.tells begun) (sym (append-nil (es ++ ps)))) (e.tells (e.after begun (es ++ ps)) [], refl) (omega arith) near))
+        (cut_so batch octets taken (script.waits ++ got) drawn (es ++ ps) [] [] refl lines_no_last (lines_told ∙ ap (e.tells begun) (sym (append-nil (es ++ ps)))) (e.tells (e.after begun (es ++ ps)) [], refl) (omega arith) near))
     closed_at_memory status out (inr cut) = cut_at_end status out cut
 
     -- where no line was read
@@ -263,12 +282,21 @@ module _ {L D S : Type 0} (w : Ways L D) (e : Effects S D) (order : GoInOrder e)
       pub prompt_stopped : (status : Status) → status ≡ Write → PromptEnds w (e.tells begun) batch status octets drawn (e.tells begun es) left'
       prompt_stopped status is = prompt_so status (λ closed. cut_at_end status [] (inl is, (e.tells (e.after begun es) ps, refl), omega (arith, ap length none)))
 
-    module _ (l : L) (new : Reading) (read : IsReadBy w.spelled w.followed l script new got) where
+    -- behind the last line, whatever stands there
+    pub last_goes : (l : L) (new : Reading) (read : IsReadBy w.spelled w.followed l script new got) → w.is_last l ≡ true → (rest : List ℕ)
+        → run ((taken ++ read.line) ++ rest) drawn ≡ with_deeds going.deeds (ended (AtCapture new.offset) [])
+    last_goes l new read last rest =
+        (λ i. run (append_assoc taken read.line rest i) (sym (append-nil drawn) i))
+        ∙ going.goes (read.line ++ rest) []
+        ∙ ap (with_deeds going.deeds) (reads_last w script.version script.number script.offset read.line rest l [] last read.whole read.is)
+        ∙ ap (λ (at : ℕ). with_deeds going.deeds (ended (AtCapture at) [])) (sym read.offset)
+
+    module _ (l : L) (new : Reading) (read : IsReadBy w.spelled w.followed l script new got) (on : w.is_last l ≡ false) where
       abbrev later : List ℕ → List ℕ → Course D
       later rest = course_from w (w.followed script.version l) (script.number + 1) (script.offset + length read.line) (lines_of rest)
 
       line_goes : (rest draws : List ℕ) → course_from w script.version script.number script.offset (lines_of (read.line ++ rest)) draws ≡ behind_given (w.gives l draws) draws (later rest)
-      line_goes rest draws = reads_on w script.version script.number script.offset read.line rest l draws read.whole read.is
+      line_goes rest draws = reads_on w script.version script.number script.offset read.line rest l draws on read.whole read.is
 
       -- all octets read, with those drawn
       all_is : (draws : List ℕ) → run octets (drawn ++ draws) ≡ with_deeds going.deeds (behind_given (w.gives l draws) draws (later new.waits))
@@ -281,17 +309,20 @@ module _ {L D S : Type 0} (w : Ways L D) (e : Effects S D) (order : GoInOrder e)
       line_alike ds = subst (AreAlike e begun (going.deeds ++ ds)) (append_assoc es ps ds) (alike_more begun going.deeds (es ++ ps) ds going.alike)
 
       -- the lines as far as this one, alone
+      played_goes : (draws : List ℕ) → run (taken ++ read.line) (drawn ++ draws) ≡ with_deeds going.deeds (behind_given (w.gives l draws) draws (ended BehindAll))
+      played_goes draws =
+          going.goes read.line draws
+          ∙ ap (λ (r : List ℕ). with_deeds going.deeds (course_from w script.version script.number script.offset (lines_of r) draws)) (sym (append-nil read.line))
+          ∙ ap (with_deeds going.deeds) (line_goes [] draws)
+
       played_is : (draws : List ℕ) → (run (taken ++ read.line) (drawn ++ draws)).deeds ≡ going.deeds ++ deeds_of (w.gives l draws)
-      played_is draws =
-          ap (λ (c : Course D). c.deeds) (going.goes read.line draws)
-          ∙ ap (λ (r : List ℕ). going.deeds ++ (course_from w script.version script.number script.offset (lines_of r) draws).deeds) (sym (append-nil read.line))
-          ∙ ap (λ (c : Course D). going.deeds ++ c.deeds) (line_goes [] draws)
-          ∙ ap (λ (ds : List D). going.deeds ++ ds) (alone w (w.gives l draws) draws)
+      played_is draws = ap (λ (c : Course D). c.deeds) (played_goes draws) ∙ ap (λ (ds : List D). going.deeds ++ ds) (alone w (w.gives l draws) draws)
 
       cut_played : (draws out : List ℕ) → IsCutShort e (w.gives l) batch (e.after begun es) ps draws out → IsCut w (e.tells begun) batch octets (drawn ++ draws) (e.tells begun es ++ out)
       cut_played draws out cut =
           cut_so batch octets (taken ++ read.line) new.waits (drawn ++ draws) es (ps ++ deeds_of (w.gives l draws)) out
           (ap (λ (o : List ℕ). taken ++ o) read.split ∙ sym (append_assoc taken read.line new.waits))
+          (λ at is. alone_no_last w (w.gives l draws) draws at (sym (ap (λ (c : Course D). c.stop) (played_goes draws)) ∙ is))
           (ap (e.tells begun) (played_is draws) ∙ (line_alike (deeds_of (w.gives l draws))).told) cut.told cut.few
           (omega (arith, near, ap length read.split, length-append read.line new.waits))
 

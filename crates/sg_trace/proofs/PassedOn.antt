@@ -7,7 +7,7 @@ use Rattle.sg_trace.proofs.Causes.{failed_as}
 use Rattle.sg_trace.specs.Causes.{EndedBy, HasFailed, IsOfOutside, IsPassedOn}
 use Rattle.sg_trace.specs.Course.{Ways, course}
 use Rattle.sg_trace.specs.Loop.{AreTold, IsAll, IsCut, IsWant, LoopEnds, PromptEnds}
-use Rattle.sg_trace.specs.Trace.{Stop}
+use Rattle.sg_trace.specs.Trace.{AtCapture, AtEnd, AtFault, ForDraw, Stop}
 use Rattle.sg_trace.specs.declared.status.Status.{Status}
 use Rattle.sg_trace.specs.declared.status.Status.TheVariants.{Done, Script, Read, Write, NoMemory, Noise}
 
@@ -103,12 +103,13 @@ module _ {K : Type 0} (end status : Status) (faults : K → ℕ) (failed : K →
 -- ---- what was told, as far as it was passed on
 
 module _ {L D : Type 0} (w : Ways L D) (tells : List D → List ℕ) (batch : ℕ) (octets draws out : List ℕ) where
-  all_cut : (stop : Stop) → IsAll w tells octets draws out stop → IsCut w tells batch octets draws out
-  all_cut stop all = record {
+  all_cut : (stop : Stop) → ((at : ℕ) → stop ≡ AtCapture at → ⊥) → IsAll w tells octets draws out stop → IsCut w tells batch octets draws out
+  all_cut stop no_last all = record {
     played = octets;
     ahead = [];
     split = sym (append-nil octets);
     near = omega arith;
+    no_last = λ at is. no_last at (sym all.stops ∙ is);
     told = (course w octets draws).deeds;
     late = [];
     alike = (λ i. tells (sym (append-nil (course w octets draws).deeds) i));
@@ -123,6 +124,7 @@ module _ {L D : Type 0} (w : Ways L D) (tells : List D → List ℕ) (batch : �
     ahead = are.part;
     split = are.split;
     near = are.near;
+    no_last = λ at is. (let both : AtEnd ≡ AtCapture at = sym are.all.stops ∙ is in cc);
     told = (course w are.lines draws).deeds;
     late = [];
     alike = (λ i. tells (sym (append-nil (course w are.lines draws).deeds) i));
@@ -133,9 +135,9 @@ module _ {L D : Type 0} (w : Ways L D) (tells : List D → List ℕ) (batch : �
 
   -- whatever the end, it is one of a run whose sink failed
   cut_of : (end : Status) (left : Option (List ℕ)) → LoopEnds w tells batch end octets draws out left → IsCut w tells batch octets draws out
-  cut_of Done left is = all_cut _ is.0
-  cut_of (Script n fault) left is = all_cut _ is.0
-  cut_of Noise left is = all_cut _ is
+  cut_of Done left is = all_cut AtEnd (λ at same. cc) is.0
+  cut_of (Script n fault) left is = all_cut (AtFault n fault) (λ at same. cc) is.0
+  cut_of Noise left is = all_cut ForDraw (λ at same. cc) is
   cut_of Read left is = told_cut is
   cut_of Write left is = is
   cut_of NoMemory left is = is

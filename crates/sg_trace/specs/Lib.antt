@@ -5,7 +5,6 @@ pub mod Causes
 pub mod Course
 pub mod Trace
 pub mod Fed
-pub mod Finding
 pub mod Grammar
 pub mod Loop
 pub mod Output

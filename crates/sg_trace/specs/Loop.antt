@@ -1,13 +1,13 @@
 -- What the loop that plays a script leaves, whatever plays it.
-use Rattle.std.specs.Prelude.{◌≡◌, ◌⊎◌, ◌≤◌, ◌+◌, ◌^◌, ℕ, List, [], ◌++◌, length, Option, Some, None, Result, Ok, Err}
+use Rattle.std.specs.Prelude.{◌≡◌, ◌⊎◌, ◌≤◌, ◌+◌, ◌^◌, ℕ, false, List, [], ◌++◌, length, Option, Some, None, Result, Ok, Err}
 use Rattle.sg_base.specs.declared.faults.ScriptFault.TheVariants.{Unended}
 use Rattle.sg_edge.specs.Told.{AtEnd}
 use Rattle.sg_lines.specs.LineOf.{line_of, version_after}
 use Rattle.sg_lines.specs.ScriptLines.{IsWhole, NoEnd}
 use Rattle.sg_lines.specs.declared.lines.Line.{Line}
-use Rattle.sg_trace.specs.Course.{Given, Ways, course}
+use Rattle.sg_trace.specs.Course.{Course, Given, Ways, course}
 use Rattle.sg_trace.specs.Output.{IsPrefixOf}
-use Rattle.sg_trace.specs.Trace.{AtEnd as BehindAll, AtFault, ForDraw, Stop}
+use Rattle.sg_trace.specs.Trace.{AtCapture, AtEnd as BehindAll, AtFault, ForDraw, Stop}
 use Rattle.sg_trace.specs.declared.status.Status.{Status}
 use Rattle.sg_trace.specs.declared.status.Status.TheVariants as statuses
 
@@ -81,9 +81,9 @@ Closes end status e batch s waited out =
 
 -- ---- the loop
 
--- how a script of lines is read, of which each gives this
+-- how a script of lines is read, of which each gives this, and none is the last
 abbrev pub of_lines : {D : Type 0} → (Line → List ℕ → Option (Given D)) → Ways Line D
-of_lines gives = record { spelled = line_of; followed = version_after; gives = gives }
+of_lines gives = record { spelled = line_of; followed = version_after; is_last = λ l. false; gives = gives }
 
 -- The course ends there, no octet was drawn besides, and all that it tells was written.
 pub record IsAll {L D : Type 0} (w : Ways L D) (tells : List D → List ℕ) (octets draws out : List ℕ) (stop : Stop) : Type 0 where
@@ -101,6 +101,10 @@ pub record AreTold {L D : Type 0} (w : Ways L D) (tells : List D → List ℕ) (
   pub near : length part ≤ 74097
   pub all : IsAll w tells lines draws out BehindAll
 
+-- no line is the last
+abbrev pub HasNoLast : {D : Type 0} → Course D → Type 0
+HasNoLast c = (at : ℕ) → ¬ (c.stop ≡ AtCapture at)
+
 -- Of the octets that were read these were played, and those were ahead: a line and what the buffer holds, at most. What the
 -- former tell was written but for the batch under way, at most so many deeds, of which a prefix was.
 pub record IsCut {L D : Type 0} (w : Ways L D) (tells : List D → List ℕ) (batch : ℕ) (octets draws out : List ℕ) : Type 0 where
@@ -108,6 +112,7 @@ pub record IsCut {L D : Type 0} (w : Ways L D) (tells : List D → List ℕ) (ba
   pub ahead : List ℕ
   pub split : octets ≡ played ++ ahead
   pub near : length ahead ≤ 74097
+  pub no_last : HasNoLast (course w played draws)
   pub told : List D
   pub late : List D
   pub alike : tells (course w played draws).deeds ≡ tells (told ++ late)

@@ -18,7 +18,7 @@ pub use capture_reader::CaptureReader;
 pub use laws::the_capture_holds;
 pub use passing_on::{pass_on, passed_on, write_at_once};
 pub use script_line::ScriptLine;
-pub use script_reader::{Found, ScriptReader};
+pub use script_reader::ScriptReader;
 pub use status::Status;
 pub use supplying::supply;
 pub use telling::{tell, tell_at_once};

@@ -2,9 +2,8 @@
 
 ghost use Rattle.std.specs.Prelude.{◌≡◌, ◌↔◌, ◌⊎◌, ◌≤◌, ◌+◌, ◌^◌, ℕ, true, false, List, [], length, IfOk, IfSome};
 ghost use Rattle.sg_trace.specs.Causes.{IsCaused};
-ghost use Rattle.sg_trace.specs.Finding.{FitsFound, IsFound};
 ghost use Rattle.sg_trace.specs.Fed.{HoldsLine};
-ghost use Rattle.sg_trace.specs.Trace.{Captures, begins_capture, spelled_at};
+ghost use Rattle.sg_trace.specs.Trace.{spelled_at};
 ghost use Rattle.sg_trace.specs.Reading.{IsNextBy, refused_as};
 ghost use Rattle.sg_edge.specs.Told.{TookIn};
 ghost use Rattle.sg_lines.specs.Fields.{Gives};
@@ -16,7 +15,7 @@ use crate::script_line::ScriptLine;
 use crate::status::Status;
 use sg_base::{SCRIPT_MOST, ScriptFault};
 use sg_edge::Source;
-use sg_lines::{Line, ReadLineFault};
+use sg_lines::ReadLineFault;
 use std::alloc::Global;
 use std::marker::Model;
 
@@ -44,17 +43,6 @@ impl Model for ScriptReader {
     ghost view = { λ r. record { waits = r.read_buffer; version = r.version; number = r.count + 1; offset = r.at + length r.line.items; budget = r.budget } };
 
     ghost invariant = { λ r. (r.at + length r.line.items + length r.read_buffer + r.budget ≡ 2 ^ 30 + 1) × (r.count ≤ r.at + length r.line.items) × ((r.version ≡ 1) ⊎ (r.version ≡ 2)) };
-}
-
-/// What stands next in a script behind which a capture may stand.
-#[derive(Drop)]
-pub enum Found {
-    /// A line.
-    Line(Line),
-    /// The line behind which the capture begins.
-    Capture,
-    /// The end of the source.
-    End,
 }
 
 impl ScriptReader {
@@ -117,45 +105,6 @@ impl ScriptReader {
         }
     }
 
-    /// The same of a script behind which a capture may stand: the line `capture`, from the second line on and within
-    /// the first 2^30 octets, is where it begins.
-    pub fn next_or_capture<S: Source>(
-        &mut self,
-        alloc: Global,
-        source: &mut S,
-    ) -> Result<Found, Status>
-        ensures found { (got : List ℕ) × TookIn (S.left source.old) (S.left source.new) got
-            × IsFound result self.old self.new got (S.left source.new) × (length got + self.new.budget ≡ self.old.budget) }
-        ensures fits { IfOk result (λ found. FitsFound self.old.version self.old.number found) }
-        ensures near { length self.old.waits ≤ 4096 → (length self.new.waits ≤ 4096) × (length self.old.waits + self.old.budget ≤ self.new.budget + 74097) }
-        ensures given { S.given source.new + self.new.budget ≤ S.given source.old + self.old.budget }
-        ensures cause { IsCaused Status.Read result (S.faults source.old) (S.faults source.new) (S.failed source.new) }
-    {
-        self.at += self.line.len() as u64;
-        self.line.clear();
-        let found = next_line(
-            &mut self.read_buffer,
-            source,
-            &mut self.line,
-            &mut self.budget,
-        )?;
-        if !found {
-            return Ok(Found::End);
-        }
-        let number = self.count + 1;
-        self.count = number;
-        if begins_capture(number, self.at, &self.line) {
-            return Ok(Found::Capture);
-        }
-        match line_at::<Line>(alloc, self.version, number, self.at, &self.line) {
-            Ok(line) => {
-                self.version = line.version_after(self.version);
-                Ok(Found::Line(line))
-            }
-            Err(fault) => Err(refused(number, fault)),
-        }
-    }
-
     /// What waits behind the lines that were read, with its offset, and how many octets may still be asked for.
     pub(crate) fn into_rest(self) -> (ReadBuffer, u64, u64)
         ensures rest { (result.0 ≡ self.waits) × (result.1 ≡ self.offset) × (result.2 ≡ self.budget) }
@@ -169,14 +118,6 @@ impl ScriptReader {
         } = self;
         (read_buffer, offset, budget)
     }
-}
-
-/// Whether a capture begins behind this line of this number, which begins at this offset.
-fn begins_capture(number: u64, at: u64, line: &[u8]) -> bool
-    requires { at + length line.now ≤ 2 ^ 30 + 1 }
-    ensures { result ≡ begins_capture Captures number at line.now }
-{
-    number > 1 && at + line.len() as u64 <= SCRIPT_MOST && line == b"capture\n".as_slice()
 }
 
 /// The line of this number, which begins at this offset of a script of that version.

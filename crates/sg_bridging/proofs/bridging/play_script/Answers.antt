@@ -98,7 +98,7 @@ returns-in-Err-play-clause-ran g c =
         took = took_all of_bridge effects in_order start 2 _ _ so_far.0 so_far.1 so_far.2 [] c.lines.script so_far.3 _ got.0 got.1 near;
         drew = added_more _ _ _ so_far.1 played.0 so_far.3.drew played.2;
         wrote = wrote_more _ _ _ (bridge_text so_far.2) played.1 so_far.3.wrote (behind_kept _ _ _ played.1 c.in-Ok.ensures.kept played.3);
-        ends = prompt_played of_bridge effects in_order start 2 _ _ so_far.0 so_far.1 so_far.2 [] c.lines.script so_far.3 _ got.0 got.1 near c.in-Ok-Some.line c.next.new.self read c.in-Err-play.status [] (StandsFor c.play.new.self) played.0 played.1 refl played.4;
+        ends = prompt_played of_bridge effects in_order start 2 _ _ so_far.0 so_far.1 so_far.2 [] c.lines.script so_far.3 _ got.0 got.1 near c.in-Ok-Some.line c.next.new.self read refl c.in-Err-play.status [] (StandsFor c.play.new.self) played.0 played.1 refl played.4;
         bound = bounded so_far.0 c.lines.script.waits got.0 c.lines.script.offset _ _ so_far.4 c.lines.invariant.1 got.3;
       },
     )
@@ -123,7 +123,7 @@ lines-preserved g c =
         so_far.0 ++ read.line,
         so_far.1 ++ played.0,
         so_far.2 ++ played.4.told,
-        (let on = goes_on of_bridge effects in_order start 2 _ _ so_far.0 so_far.1 so_far.2 [] c.lines.script so_far.3 _ got.0 got.1 near c.in-Ok-Some.line c.next.new.self read _ _ [] (StandsFor c.play.new.self) played.0 played.1 played.4 played.2 (behind_kept _ _ _ played.1 c.in-Ok.ensures.kept played.3) in on),
+        (let on = goes_on of_bridge effects in_order start 2 _ _ so_far.0 so_far.1 so_far.2 [] c.lines.script so_far.3 _ got.0 got.1 near c.in-Ok-Some.line c.next.new.self read refl _ _ [] (StandsFor c.play.new.self) played.0 played.1 played.4 played.2 (behind_kept _ _ _ played.1 c.in-Ok.ensures.kept played.3) in on),
         omega (arith, so_far.4, read.offset, length-append so_far.0 read.line),
         subst (StandsFor c.play.new.self) (sym (state_after-append start so_far.2 played.4.told)) played.4.left,
       ),

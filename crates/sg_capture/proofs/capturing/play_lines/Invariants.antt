@@ -1,14 +1,15 @@
 use Rattle.std.proofs.Common.{◌≡◌, ◌≤◌, ◌+◌, ◌-◌, ◌^◌, length, false, List, ℕ}
-use Rattle.sg_capture.proofs.Scripts.{IsPlayingLines}
+use Rattle.sg_capture.specs.CaptureLines.{of_capture}
 use Rattle.sg_front.specs.States.{FrontStandsFor, start, state_after}
 use Rattle.sg_gateway.specs.Step.{Event}
-use Rattle.sg_playback.specs.Playing.{waiting}
+use Rattle.sg_playback.specs.Playing.{effects, waiting}
+use Rattle.sg_trace.proofs.Loops.{IsPlaying}
 use Rattle.sg_capture.proofs.capturing.play_lines.Given as goal
 
 abbrev pub invariant-lines : goal.invariant-lines
 invariant-lines g l =
     ((taken drawn : List ℕ) × (es : List Event)
-    × IsPlayingLines (record { left = g.S.Source.left l.fn.source; written = g.K.Sink.written l.fn.sink; drawn = g.N.Noise.given l.fn.noise })
+    × IsPlaying of_capture effects (start false) (record { left = g.S.Source.left l.fn.source; written = g.K.Sink.written l.fn.sink; drawn = g.N.Noise.given l.fn.noise })
     (record { left = g.S.Source.left l.source; written = g.K.Sink.written l.sink; drawn = g.N.Noise.given l.noise })
     taken l.script.waits drawn es (waiting l.player) l.script.version l.script.number l.script.offset
     × (length taken ≡ l.script.offset) × FrontStandsFor l.player.front (state_after (start false) es))

@@ -108,7 +108,7 @@ returns-in-Err-write_line-clause-ran g c =
       record {
         took = took_all of_migration effects in_order 0 1 _ _ so.0 [] so.1 [] c.lines.script so.2 _ got.0 got.1 near;
         wrote = wrote_more _ _ _ (written_of 0 so.1) part.0 so.2.wrote (behind_kept _ _ _ part.0 c.in-Ok.ensures.kept part.2);
-        ends = prompt_played of_migration effects in_order 0 1 _ _ so.0 [] so.1 [] c.lines.script so.2 _ got.0 got.1 near found c.next.new.self read c.in-Err-write_line.status [] _ [] part.0 refl
+        ends = prompt_played of_migration effects in_order 0 1 _ _ so.0 [] so.1 [] c.lines.script so.2 _ got.0 got.1 near found c.next.new.self read refl c.in-Err-write_line.status [] _ [] part.0 refl
             (line_cut (moment_behind 0 so.1) found c.in-Err-write_line.status _ _ part.0 written part.1);
         quiet = written_not c.in-Err-write_line.status Noise _ _ _ (λ never. never) written;
         bound = bounded so.0 c.lines.script.waits got.0 c.lines.script.offset _ _ so.3 c.lines.invariant.1 got.3;
@@ -142,7 +142,7 @@ lines-preserved g c =
       (
         so.0 ++ read.line,
         so.1 ++ found.line ∷ [],
-        goes_on of_migration effects in_order 0 1 _ _ so.0 [] so.1 [] c.lines.script so.2 _ got.0 got.1 near found c.next.new.self read None _ [] _ [] _ (line_taken (moment_behind 0 so.1) found) (added_none None) (behind_kept _ _ _ (line_text (migrated_line (moment_behind 0 so.1) found.line)) c.in-Ok.ensures.kept wrote),
+        goes_on of_migration effects in_order 0 1 _ _ so.0 [] so.1 [] c.lines.script so.2 _ got.0 got.1 near found c.next.new.self read refl None _ [] _ [] _ (line_taken (moment_behind 0 so.1) found) (added_none None) (behind_kept _ _ _ (line_text (migrated_line (moment_behind 0 so.1) found.line)) c.in-Ok.ensures.kept wrote),
         omega (arith, so.3, read.offset, length-append so.0 read.line),
         c.moment_after-next.ensures ∙ ap (λ (m : ℕ). moment_after m found.line) so.4 ∙ sym (behind_in_order 0 so.1 (found.line ∷ [])),
       ),

@@ -111,7 +111,7 @@ returns-in-Err-play-clause-ran g c =
       added_more _ _ _ so_far.1 played.0 so_far.3.drew played.2,
       wrote_more _ _ _ (text_from begun so_far.2) played.1 so_far.3.wrote (behind_kept _ _ _ played.1 c.in-Ok.ensures.kept played.3),
       bounded so_far.0 c.lines.script.waits got.0 c.lines.script.offset _ _ so_far.4 c.lines.invariant.1 got.3,
-      ends_played of_replay effects events_in_order begun 258 _ _ so_far.0 so_far.1 so_far.2 _ c.lines.script so_far.3 _ got.0 got.1 near c.in-Ok-Some.line c.next.new.self read c.in-Err-play.status _ _ played.0 played.1 ended,
+      ends_played of_replay effects events_in_order begun 258 _ _ so_far.0 so_far.1 so_far.2 _ c.lines.script so_far.3 _ got.0 got.1 near c.in-Ok-Some.line c.next.new.self read refl c.in-Err-play.status _ _ played.0 played.1 ended,
     )
 
 pub lines-smaller : goal.lines-smaller
@@ -136,7 +136,7 @@ lines-preserved g c =
         so_far.0 ++ read.line,
         so_far.1 ++ played.0,
         so_far.2 ++ taken.told,
-        goes_on of_replay effects events_in_order begun 258 _ _ so_far.0 so_far.1 so_far.2 _ c.lines.script so_far.3 _ got.0 got.1 near c.in-Ok-Some.line c.next.new.self read _ _ _ _ played.0 played.1 taken played.2 (behind_kept _ _ _ played.1 c.in-Ok.ensures.kept played.3),
+        goes_on of_replay effects events_in_order begun 258 _ _ so_far.0 so_far.1 so_far.2 _ c.lines.script so_far.3 _ got.0 got.1 near c.in-Ok-Some.line c.next.new.self read refl _ _ _ _ played.0 played.1 taken played.2 (behind_kept _ _ _ played.1 c.in-Ok.ensures.kept played.3),
         omega (arith, so_far.4, read.offset, length-append so_far.0 read.line),
         subst (FrontStandsFor c.play.new.self.front) (sym (state_after-append begun so_far.2 taken.told)) taken.left,
       ),

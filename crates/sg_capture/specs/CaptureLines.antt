@@ -1,0 +1,44 @@
+-- What a line says of a script behind which a capture may stand, and what it gives.
+use Rattle.std.specs.Prelude.{ℕ, Bool, true, false, nat_lt, ◌&&◌, if◌then◌else◌, List, [], codes, Option, Some, Result, Ok, Err, ⊤}
+use Rattle.std.specs.Str.{bytes_eq}
+use Rattle.sg_base.specs.declared.faults.ScriptFault.{ScriptFault}
+use Rattle.sg_capture.specs.declared.lines.CaptureLine.{CaptureLine}
+use Rattle.sg_capture.specs.declared.lines.CaptureLine.TheVariants as lines
+use Rattle.sg_gateway.specs.Step.{Event}
+use Rattle.sg_lines.specs.LineOf.{line_of, version_after}
+use Rattle.sg_lines.specs.LineText.{FitsLine}
+use Rattle.sg_lines.specs.declared.lines.Line.{Line}
+use Rattle.sg_playback.specs.Replay.{gives}
+use Rattle.sg_trace.specs.Course.{Given, Ways}
+use Rattle.sg_trace.specs.Trace.{Spelling}
+
+-- a line that a replay's script may have too
+abbrev pub of_script : Result Line ScriptFault → Result CaptureLine ScriptFault
+of_script (Ok l) = Ok (lines.Script l)
+of_script (Err fault) = Err fault
+
+-- the line of this number, from 1: from the second line on it may be `capture`
+abbrev pub capture_line_of : Spelling CaptureLine
+capture_line_of version n octets = if nat_lt 1 n && bytes_eq octets (codes "capture\n") then Ok lines.Capture else of_script (line_of version n octets)
+
+-- the version of what follows a line
+abbrev pub capture_version_after : ℕ → CaptureLine → ℕ
+capture_version_after version (lines.Script l) = version_after version l
+capture_version_after version lines.Capture = version
+
+-- a script's line fits into its script
+abbrev pub FitsCaptureLine : ℕ → ℕ → CaptureLine → Type 0
+FitsCaptureLine version n (lines.Script l) = FitsLine version n l
+FitsCaptureLine version n lines.Capture = ⊤
+
+abbrev pub is_last : CaptureLine → Bool
+is_last (lines.Script l) = false
+is_last lines.Capture = true
+
+abbrev pub capture_gives : CaptureLine → List ℕ → Option (Given Event)
+capture_gives (lines.Script l) draws = gives l draws
+capture_gives lines.Capture draws = Some (record { deeds = []; left = draws })
+
+-- how the script before a capture is read: a replay's, up to the line `capture`
+abbrev pub of_capture : Ways CaptureLine Event
+of_capture = record { spelled = capture_line_of; followed = capture_version_after; is_last = is_last; gives = capture_gives }
