@@ -1,4 +1,4 @@
-//! Keys by MKI and lives.
+//! Keys that are spent in turn.
 
 ghost use Rattle.std.specs.Prelude.{◌≡◌, length, true};
 ghost use Rattle.sg_keys.specs.Live.{is_cipher_len};
@@ -7,7 +7,6 @@ use arrayvec::ArrayVec;
 use sg_base::{CipherKey, HalfKeys, Mki};
 use sg_keys::{KeySet, LiveKey, OpenKeyFault, Spent};
 use std::process::Abort;
-use std::test::Fail;
 
 /// A key of this number, MKI and life that has served nothing.
 fn key(number: u32, mki: Option<Mki>, life: u64) -> LiveKey
@@ -29,16 +28,6 @@ fn key(number: u32, mki: Option<Mki>, life: u64) -> LiveKey
     }
 }
 
-fn single(only: LiveKey) -> KeySet
-    requires cipher { is_cipher_len (length only.half.encrypt) ≡ true }
-    requires count { only.count ≡ 0 }
-    ensures { length result ≡ 1 }
-{
-    let mut keys = ArrayVec::new();
-    keys.push(only);
-    KeySet::make(keys)
-}
-
 /// Two keys, numbered 40 and 41, with MKIs of one octet, 1 and 2.
 #[tactic(auto, using(sg_keys::proofs::Sets::pair_set))]
 fn pair(rt: &impl Abort, life: u64) -> KeySet
@@ -50,35 +39,6 @@ fn pair(rt: &impl Abort, life: u64) -> KeySet
     keys.push(key(40, first, life));
     keys.push(key(41, second, life));
     KeySet::make(keys)
-}
-
-// The lengths of MKIs, whose value stands in the last octet with zeros before it (RFC 3711, 3.1).
-#[test]
-fn finds_keys_by_mki(rt: HostRuntime) -> Result<(), Fail> {
-    for count in [1u8, 4, 16, 17, 128] {
-        let set = single(key(5, Mki::new(9, count), 2));
-        let mut octets = [0; 129];
-        let count = usize::from(count);
-        octets[count - 1] = 9;
-        assert!(rt; set.mki_len() == count);
-        assert!(rt; set.choose_mki(&octets[..count]) == Ok(0), "{count}");
-        let unknown = Err(OpenKeyFault::MkiUnknown);
-        assert!(rt; set.choose_mki(&octets[..count + 1]) == unknown, "{count}");
-        assert!(rt; set.choose_mki(&octets[1..count]) == unknown, "{count}");
-        octets[count - 1] = 8;
-        assert!(rt; set.choose_mki(&octets[..count]) == unknown, "{count}");
-    }
-    Ok(())
-}
-
-#[test]
-fn a_key_without_an_mki(rt: HostRuntime) {
-    let set = single(key(5, None, 2));
-    assert!(rt; set.mki_len() == 0);
-    assert!(rt; set.choose_mki(&[]) == Ok(0));
-    assert!(rt; set.choose_mki(&[0]) == Err(OpenKeyFault::MkiUnknown));
-    assert!(rt; set.schedule(0).is_some());
-    assert!(rt; set.key(0).number == 5);
 }
 
 /// A packet more under the key of this position.
@@ -100,12 +60,10 @@ fn lives_end(rt: HostRuntime) {
         count: 2,
     };
     assert!(rt; set.choose_seal() == Err(last));
-    assert!(rt; set.choose_seal() == Err(last));
     let first = OpenKeyFault::KeySpent {
         number: 40,
         count: 2,
     };
-    assert!(rt; set.choose_mki(&[1]) == Err(first));
     assert!(rt; set.choose_mki(&[1]) == Err(first));
     assert!(rt; set.choose_mki(&[3]) == Err(OpenKeyFault::MkiUnknown));
 }

@@ -1,5 +1,5 @@
-//! Tests of the commands, replay, relay and demonstration, and of the table. They stand in a crate of their own, since
-//! a crate with tests is proved twice.
+//! Tests of the commands through the top call. They stand in a crate of their own, since a crate with tests is proved
+//! twice.
 #![tactic(auto)]
 
 #[cfg(test)]
@@ -9,12 +9,8 @@ mod meeting;
 #[cfg(test)]
 mod outside;
 #[cfg(test)]
-mod relays;
-#[cfg(test)]
-mod replays;
+mod runs;
 #[cfg(test)]
 mod statuses;
-#[cfg(test)]
-mod tables;
 #[cfg(test)]
 mod workers;

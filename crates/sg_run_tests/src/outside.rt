@@ -52,14 +52,38 @@ pub struct Outside {
 impl Outside {
     /// The script is in parts. The noise is twice 304 octets, the n-th of each n modulo 256.
     pub fn of(alloc: Global, script: &[&str], given: Given) -> Result<Outside, AllocError> {
-        Ok(Outside {
-            words: words(alloc, given.words)?,
-            source: source(alloc, script, given)?,
-            sink: sink(alloc, given)?,
-            link: link(alloc, given)?,
-            clock: clock(alloc, given)?,
-            noise: MemNoise::make(noise(alloc)?, given.draws_fail.to_vec(alloc)?),
-        })
+        let mut outside = Outside::empty(alloc);
+        match outside.fill(alloc, script, given) {
+            Ok(()) => Ok(outside),
+            Err(error) => {
+                drop(outside);
+                Err(error)
+            }
+        }
+    }
+
+    fn empty(alloc: Global) -> Outside {
+        let nothing = Octets::from_vec(Vec::new(alloc));
+        let quiet = Octets::from_vec(Vec::new(alloc));
+        Outside {
+            words: Vec::new(alloc),
+            source: MemSource::limited(nothing, 1, Vec::new(alloc)),
+            sink: MemSink::limited(alloc, 1, Vec::new(alloc)),
+            link: MemLink::make(alloc, Vec::new(alloc), Vec::new(alloc)),
+            clock: MemClock::make(Vec::new(alloc), Vec::new(alloc)),
+            noise: MemNoise::make(quiet, Vec::new(alloc)),
+        }
+    }
+
+    // Early exits beside values that must be dropped are dear to prove, and here there are none.
+    fn fill(&mut self, alloc: Global, script: &[&str], given: Given) -> Result<(), AllocError> {
+        self.words = words(alloc, given.words)?;
+        self.source = source(alloc, script, given)?;
+        self.sink = sink(alloc, given)?;
+        self.link = link(alloc, given)?;
+        self.clock = clock(alloc, given)?;
+        self.noise = noise(alloc, given)?;
+        Ok(())
     }
 
     /// Runs the command.
@@ -138,10 +162,16 @@ fn copies(
     Ok(all)
 }
 
-fn noise(alloc: Global) -> Result<Octets, AllocError> {
+fn noise(alloc: Global, given: Given) -> Result<MemNoise, AllocError> {
+    let octets = Octets::from_vec(twice_counted(alloc)?);
+    let fails = given.draws_fail.to_vec(alloc)?;
+    Ok(MemNoise::make(octets, fails))
+}
+
+fn twice_counted(alloc: Global) -> Result<Vec<u8>, AllocError> {
     let mut octets = Vec::new(alloc);
     for i in 0..608_u32 {
         octets.push((i % 304 % 256) as u8)?;
     }
-    Ok(Octets::from_vec(octets))
+    Ok(octets)
 }
