@@ -1,9 +1,7 @@
-//! Lines that are made, chosen, answered and printed.
+//! Lines that are answered and printed.
 
-use sg_base::{Octets, SdesFault, Suite};
-use sg_sdes::{
-    CryptoLine, answer_line, choose, match_answer, offer_lines, print_crypto, read_crypto,
-};
+use sg_base::Octets;
+use sg_sdes::{CryptoLine, answer_line, print_crypto, read_crypto};
 use std::alloc::Global;
 use std::process::Abort;
 use std::test::Fail;
@@ -71,51 +69,6 @@ fn answered_lines(rt: HostRuntime) -> Result<(), Fail> {
         let chosen = read_crypto(value).ok().ok_or("it is a crypto line")?;
         let answer = answer_line(&chosen, &counted());
         assert!(rt; printed(rt.alloc(), &answer)?.as_slice() == spelling);
-    }
-    Ok(())
-}
-
-/// The first line that is read is chosen; where none is, that is told.
-#[test]
-fn chosen_lines(rt: HostRuntime) {
-    assert!(rt; choose(&[]).err() == Some(SdesFault::NoLine));
-}
-
-/// A value that names the second of the offered lines.
-const NAMING: &[u8] =
-    b"0002 AES_256_CM_HMAC_SHA1_80 inline:Hh8gISIjJCUmJygpKissLS4vMDEyMzQ1Njc4OTo7PD0+P0BBQkNERUZHSElKSw== UNENCRYPTED_SRTCP";
-
-/// Values that name no line of them.
-const NAMING_NONE: [(&[u8], SdesFault); 4] = [
-    (
-        b"3 AES_CM_128_HMAC_SHA1_80 inline:WVNfX19zZW1jdGwgKCkgewkyMjA7fQp9CnVubGVz",
-        SdesFault::Tag,
-    ),
-    (
-        b"1 AES_256_CM_HMAC_SHA1_80 inline:Hh8gISIjJCUmJygpKissLS4vMDEyMzQ1Njc4OTo7PD0+P0BBQkNERUZHSElKSw",
-        SdesFault::Suite,
-    ),
-    (
-        b"1 AES_CM_128_HMAC_SHA1_32 inline:WVNfX19zZW1jdGwgKCkgewkyMjA7fQp9CnVubGVz",
-        SdesFault::Suite,
-    ),
-    (
-        b"3 AES_CM_128_HMAC_SHA1_80 inline:WVNfX19zZW1jdGwgKCkgewkyMjA7fQp9CnVubGVz|0",
-        SdesFault::Lifetime,
-    ),
-];
-
-/// Which offered line an answer names.
-#[test]
-fn matched_answers(rt: HostRuntime) -> Result<(), Fail> {
-    let offered = offer_lines(&counted());
-    let (own, peer) = match_answer(&offered, NAMING)
-        .ok()
-        .ok_or("it names the second line")?;
-    assert!(rt; (own.tag, own.suite, own.plain_rtcp) == (2, Suite::Cm256Tag80, false));
-    assert!(rt; (peer.tag, peer.suite, peer.plain_rtcp) == (2, Suite::Cm256Tag80, true));
-    for (row, fault) in NAMING_NONE {
-        assert!(rt; match_answer(&offered, row).err() == Some(fault));
     }
     Ok(())
 }

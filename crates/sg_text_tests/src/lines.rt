@@ -3,9 +3,8 @@
 ghost use Rattle.std.specs.Prelude.{◌≡◌, ◌⊎◌};
 
 use sg_script::{ReadLineFault, ScriptFault, print_line, read_line};
-use std::alloc::{AllocError, Global};
+use std::alloc::Global;
 use std::process::Abort;
-use std::test::Fail;
 
 /// The fault of the second line of a script of that version; none where it is a line, which must then be
 /// printed as it was.
@@ -25,17 +24,6 @@ fn fault_of(rt: &impl Abort, alloc: Global, version: u8, octets: &[u8]) -> Optio
             assert!(rt; false, "memory");
             None
         }
-    }
-}
-
-/// The fault of the first line of a script, which is read as that version's; none where it is a header.
-fn fault_of_first(alloc: Global, version: u8, octets: &[u8]) -> Option<ScriptFault>
-    requires { (version ≡ 1) ⊎ (version ≡ 2) }
-{
-    match read_line(alloc, version, 1, octets) {
-        Ok(_) => None,
-        Err(ReadLineFault::Script(found)) => Some(found),
-        Err(ReadLineFault::NoMemory) => Some(ScriptFault::Length),
     }
 }
 
@@ -202,27 +190,6 @@ fn bad_lines(rt: HostRuntime) {
     have_faults(&rt, rt.alloc(), 1, &ROWS, &[]);
 }
 
-/// The first line of a script is one of the two headers and nothing else, whichever version it is read as.
-#[test]
-fn first_lines(rt: HostRuntime) {
-    const ROWS: [(&[u8], Option<ScriptFault>); 10] = [
-        (b"srtpgw 1\n", None),
-        (b"srtpgw 2\n", None),
-        (b"srtpgw 3\n", Some(ScriptFault::Version)),
-        (b"srtpgw 01\n", Some(ScriptFault::Version)),
-        (b"srtpgw 12\n", Some(ScriptFault::Version)),
-        (b"tick 1\n", Some(ScriptFault::Version)),
-        (b"srtpgw 1", Some(ScriptFault::Unended)),
-        (b"srtpgw 2", Some(ScriptFault::Unended)),
-        (b"srtpgw 1 \n", Some(ScriptFault::Version)),
-        (b"srtpgw 2 \n", Some(ScriptFault::Version)),
-    ];
-    for (row, fault) in ROWS {
-        assert!(rt; fault_of_first(rt.alloc(), 1, row) == fault);
-        assert!(rt; fault_of_first(rt.alloc(), 2, row) == fault);
-    }
-}
-
 /// A datagram has its moment in version 2, and none in version 1.
 #[test]
 fn datagrams_with_moments(rt: HostRuntime) {
@@ -250,56 +217,4 @@ fn datagrams_with_moments(rt: HostRuntime) {
     for row in GOOD {
         assert!(rt; fault_of(&rt, rt.alloc(), 1, row) == Some(Word));
     }
-}
-
-/// Puts so many of one octet behind a line's front, and its end behind them.
-fn fill(line: &mut Vec<u8>, octet: u8, count: usize, end: &[u8]) -> Result<(), AllocError> {
-    for _ in 0..count {
-        line.push(octet)?;
-    }
-    line.extend_from_slice(end)?;
-    Ok(())
-}
-
-/// A line's beginning, an octet, how many of it follow, and the line's end; and its fault.
-type Row = (&'static [u8], u8, usize, &'static [u8], Option<ScriptFault>);
-
-/// The end of a line that shares a key.
-const SHARED: &[u8] = b" b 00112233445566778899aabbccddeeff\n";
-
-fn have_limits(rt: &impl Abort, alloc: Global, rows: &[Row]) -> Result<(), Fail> {
-    for (prefix, octet, count, end, fault) in rows {
-        let mut line = Vec::from_slice(alloc, prefix)?;
-        fill(&mut line, *octet, *count, end)?;
-        assert!(rt; fault_of(rt, alloc, 1, &line) == *fault);
-    }
-    Ok(())
-}
-
-/// The bounds of lines, texts, datagrams, noise and names.
-#[test]
-fn longest_lines(rt: HostRuntime) -> Result<(), Fail> {
-    use ScriptFault::{Length, Word};
-    const ROWS: [Row; 18] = [
-        // A line of 70,000 octets with its end, and one more.
-        (b"frob ", b'x', 69_994, b"\n", Some(Word)),
-        (b"frob ", b'x', 69_995, b"\n", Some(Length)),
-        (b"answer 1 - ", b'0', 65_536, b"\n", None),
-        (b"answer 1 - ", b'0', 65_538, b"\n", Some(Length)),
-        (b"in 1 1.1.1.1:1 ", b'0', 8_704, b"\n", None),
-        (b"in 1 1.1.1.1:1 ", b'0', 8_706, b"\n", Some(Length)),
-        (b"psk a b ", b'0', 128, b"\n", None),
-        (b"psk a b ", b'0', 130, b"\n", Some(Length)),
-        (b"tick ", b'0', 60_000, b"\n", Some(ScriptFault::Number)),
-        (b"offer-secure 1 00 ", b'0', 65_538, b"\n", Some(Length)),
-        (b"psk a b ", b'0', 69_991, b"\n", Some(ScriptFault::Hex)),
-        (b"answer 1 ", b'7', 607, b" 00\n", Some(ScriptFault::Hex)),
-        (b"answer 1 ", b'7', 606, b" 00\n", Some(Length)),
-        (b"answer 1 ", b'7', 608, b" 00\n", None),
-        (b"answer 1 ", b'7', 610, b" 00\n", Some(Length)),
-        (b"psk ", b'n', 1, SHARED, None),
-        (b"psk ", b'n', 128, SHARED, None),
-        (b"psk ", b'n', 129, SHARED, Some(Length)),
-    ];
-    have_limits(&rt, rt.alloc(), &ROWS)
 }

@@ -1,9 +1,9 @@
 //! Messages, read and printed.
 
 use sg_base::MikeyFault::{self, Cut, DataType, Order, Trailing, Value, Version};
-use sg_base::{Mki, Octets};
-use sg_mikey::{Items, Message, ReadMikeyFault, Tgk, Tgks, print, read};
-use std::alloc::{AllocError, Global};
+use sg_base::Octets;
+use sg_mikey::{ReadMikeyFault, print, read};
+use std::alloc::Global;
 use std::process::Abort;
 use std::test::Fail;
 
@@ -133,18 +133,6 @@ fn tells_the_first_fault(rt: HostRuntime) {
     have_faults(&rt, rt.alloc(), &CASES);
 }
 
-#[test]
-fn is_cut_at_every_octet(rt: HostRuntime) {
-    for octets in [INITIAL, RESPONSE] {
-        for size in 0..octets.len() {
-            assert!(rt;
-                fault_of(rt.alloc(), &octets[..size]) == Some((size as u32, Cut)),
-                "{size}"
-            );
-        }
-    }
-}
-
 fn printed_again(alloc: Global, octets: &[u8]) -> Result<Octets, Fail> {
     if octets.len() > 1000000 {
         return Err("too long for this test".into());
@@ -178,69 +166,3 @@ const ANSWER: &[u8] = b"\x01\x01\x05\x00\xca\xfe\xba\xbe\x02\x00\
 \x06\x00\x83\xaa\x7e\x80\x80\x00\x00\x00\
 \x09\x01\x00\x09sip:bob@b\
 \x00\x01MMMMMMMMMMMMMMMMMMMM";
-
-// A payload of so many octets and of one octet, behind its number and its length.
-fn put(message: &mut Vec<u8>, prefix: &[u8], count: u16, octet: u8) -> Result<(), AllocError> {
-    message.extend_from_slice(prefix)?;
-    message.extend_from_slice(&count.to_be_bytes())?;
-    for _ in 0..count {
-        message.push(octet)?;
-    }
-    Ok(())
-}
-
-// A message of the initiator with RAND of one octet, and an ID, an extension and a KEMAC of so many octets.
-fn put_all(message: &mut Vec<u8>, count: u16) -> Result<(), AllocError> {
-    message.extend_from_slice(
-        b"\x01\x00\x05\x00\xca\xfe\xba\xbe\x00\x00\x0b\x01ABCDEFGH\x06\x01R",
-    )?;
-    put(message, b"\x15\x00", count, 0x49)?;
-    put(message, b"\x01\x07", count, 0x45)?;
-    put(message, b"\x00\x02", count, 0x4b)?;
-    message.push(0)?;
-    Ok(())
-}
-
-#[test]
-fn keeps_every_length(rt: HostRuntime) -> Result<(), Fail> {
-    for count in [0, 1, 255, 65535] {
-        let mut octets = Vec::new(rt.alloc());
-        put_all(&mut octets, count)?;
-        let again = printed_again(rt.alloc(), &octets)?;
-        assert!(rt; again.as_slice() == octets.as_slice(), "{count}");
-    }
-    Ok(())
-}
-
-fn shows(rt: &impl Abort, message: &Message, numbers: &[u8]) {
-    assert!(rt; (message.kind, message.verify, message.csb) == (0, true, 0xcafe_babe));
-    assert!(rt; message.payloads.as_slice().len() == numbers.len());
-    for (payload, number) in message.payloads.as_slice().iter().zip(numbers) {
-        assert!(rt; payload.number() == *number);
-    }
-    for entry in message.map.as_slice() {
-        assert!(rt; (entry.policy, entry.ssrc, entry.roc) == (0, 0xdeca_fbad, 7));
-    }
-}
-
-#[test]
-fn shows_a_message(rt: HostRuntime) -> Result<(), Fail> {
-    let message = read(rt.alloc(), INITIAL)?;
-    shows(&rt, &message, &[5, 11, 6, 21, 10, 1]);
-    Ok(())
-}
-
-#[test]
-fn holds_keys(rt: HostRuntime) -> Result<(), Fail> {
-    let key = Octets::copy_of(rt.alloc(), &[7; 16])?;
-    let spi = Mki::new(1, 4);
-    let keys = vec![in rt.alloc(); Tgk { key, spi }]?;
-    let tgks = Tgks {
-        keys: Items::from_vec(keys),
-    };
-    for tgk in tgks.keys.into_vec() {
-        assert!(rt; tgk.key.as_slice() == [7; 16].as_slice());
-        assert!(rt; tgk.spi == Mki::new(1, 4));
-    }
-    Ok(())
-}
