@@ -4,7 +4,7 @@ ghost use Rattle.std.specs.Prelude.{◌≡◌, ◌⊎◌, ◌≤◌, ℕ, Bool, 
 ghost use Rattle.std.specs.Result.{is_err, is_ok};
 ghost use Rattle.std.specs.Option.{option_map};
 ghost use Rattle.sg_edge.specs.LinksInMemory.{FailsAsAsked, call_of, calls_in, history, next_of};
-ghost use Rattle.sg_edge.specs.Links.{Bind, Called, Came, LinkCall, Receive, Send, Unbind, received};
+ghost use Rattle.sg_edge.specs.Links.{Bind, Called, Came, LinkCall, Receive, Send, Unbind, none_called, received};
 ghost use Rattle.sg_edge.specs.Memory.{after_call, fails_next, no_calls};
 ghost use Rattle.sg_edge.specs.Told.{HasCause};
 
@@ -198,6 +198,7 @@ impl MemLink {
     ) -> MemLink
         ensures left { result.link.left ≡ receipts.items }
         ensures told { result.link.told ≡ Some [] }
+        ensures counts { result.counts ≡ none_called }
         ensures calls { result.calls ≡ no_calls usize.MAX fails.items }
     {
         MemLink {
@@ -339,6 +340,7 @@ impl SureLink {
     pub fn make(alloc: Global, receipts: Vec<Option<(u16, Address, Octets)>>) -> SureLink
         ensures left { result.link.left ≡ receipts.items }
         ensures told { result.link.told ≡ Some [] }
+        ensures counts { result.counts ≡ none_called }
     {
         SureLink {
             link: LinkBook::new(alloc, receipts),

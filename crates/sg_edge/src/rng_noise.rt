@@ -22,7 +22,8 @@ pub struct RngNoise<G: TryRng + Drop> {
 impl<G: TryRng + Drop> RngNoise<G> {
     /// The generator as noise that hasn't failed.
     pub fn make(rng: G) -> RngNoise<G>
-        ensures { result.rng ≡ rng }
+        ensures rng { result.rng ≡ rng }
+        ensures count { result.count ≡ 0 }
     {
         RngNoise {
             rng,

@@ -2,7 +2,7 @@
 
 ghost use Rattle.std.specs.Prelude.{◌≡◌, ◌≤◌, ◌∷◌, [], ◌++◌, ℕ, List, None, length, IfNone, IfOk, IfSome, IsSome, OnErr, OnOk, OnSome};
 ghost use Rattle.std.specs.Result.{is_ok};
-ghost use Rattle.sg_edge.specs.Links.{Bind, Called, Receive, Send, Unbind, received};
+ghost use Rattle.sg_edge.specs.Links.{Bind, Called, Receive, Send, Unbind, none_called, received};
 ghost use Rattle.sg_edge.specs.Ports.{AreAsked, AreSame, AreSameBut, IsAsked, IsTaken, socket_at, without};
 ghost use Rattle.sg_edge.specs.Told.{HasCause, Rose};
 
@@ -115,6 +115,7 @@ impl<R: Net + Clock + Drop> UdpLink<R> {
         ensures bound { (port : ℕ) → socket_at result.ports.bound port ≡ None }
         ensures waiting { result.ports.waiting.items ≡ [] }
         ensures row { result.ports.row ≡ 0 }
+        ensures counts { result.counts ≡ none_called }
     {
         UdpLink {
             alloc,
