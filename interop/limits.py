@@ -17,13 +17,13 @@ from pathlib import Path
 
 from joined import SECOND_PLAIN
 from loopback import has_own_loopback
-from mikey import Exchange
+from mikey import Exchange, answered
 from mixed import difference, ended, ways
 from model import TOLD
 from relayed import MuxedOverLoopback, OverLoopback
 from signals import (
-    ALICE, ALICE_OFFERS, BOB, BOB_ANSWERS, CM, NOW, PEER, SHARED, SHIFTED, TGK, answer, inline, key, message_line,
-    noise, octets_of, offer_sdes, offer_secure, psk, secure_text, text,
+    ALICE, ALICE_OFFERS, BOB, BOB_ANSWERS, CM, COUNTING, NOW, PEER, SHARED, SHIFTED, TGK, answer, inline, key, message_line,
+    noise, octets_of, offer_mikey, offer_sdes, offer_secure, own_exchange, peers_exchange, psk, secure_text, text,
 )
 from srtp import MasterKey, rtp
 from usage import words_or_usage
@@ -106,12 +106,35 @@ def cut_at_each_octet():
 
 def changed_at_each_octet():
     """The known offer with a bit of each octet changed in turn."""
-    whole = text(ALICE_OFFERS)
-    for place, octet in enumerate(whole):
+    for octets in changed(text(ALICE_OFFERS)):
+        yield offer_secure(7, octets, None)
+        yield "bye 7"
+
+
+def changed(octets):
+    """The octets with a bit of each changed in turn."""
+    for place, octet in enumerate(octets):
         for bit in range(8):
-            changed = whole[:place] + bytes([octet ^ 1 << bit]) + whole[place + 1:]
-            yield offer_secure(7, changed, None)
-            yield "bye 7"
+            yield octets[:place] + bytes([octet ^ 1 << bit]) + octets[place + 1:]
+
+
+def message_changed_at_each_octet():
+    """A peer's message with a bit of each octet changed in turn, and then as it was."""
+    yield from (psk(), f"tick {NOW}")
+    good = peers_exchange().initial()
+    for octets in (*changed(good), good):
+        yield offer_secure(9, secure_text(session=[message_line(octets)]))
+        yield "bye 9"
+
+
+def response_at_each_octet():
+    """The answer to the gateway's message: cut behind each octet, with a bit of each changed in turn, and then as it was."""
+    yield psk()
+    yield offer_mikey(9, PEER, BOB_ANSWERS)
+    exchange = own_exchange(COUNTING, [0])
+    good = exchange.response(PEER.encode(), answered(exchange.entries, [0x11]))
+    for octets in (*(good[:length] for length in range(len(good))), *changed(good), good):
+        yield answer(9, secure_text(session=[message_line(octets)]))
 
 
 def longest_line():
@@ -147,7 +170,8 @@ def full_bridge():
         yield f"bye {call}"
 
 
-ALL = full_book, full_ring, full_table, cut_at_each_octet, changed_at_each_octet
+ALL = (full_book, full_ring, full_table, cut_at_each_octet, changed_at_each_octet, message_changed_at_each_octet,
+       response_at_each_octet)
 # Those that every command plays.
 SHORT = longest_line, longer_line, longest_datagram, full_bridge
 OTHERS = "replay --mux", "bridge", "capture", "migrate"
