@@ -1,6 +1,6 @@
 //! A source and a sink in memory, which fail where they are told to.
 
-ghost use Rattle.std.specs.Prelude.{◌≡◌, ◌⊎◌, ◌+◌, ◌<◌, ◌≤◌, ◌≢◌, ℕ, Bool, true, false, List, ◌++◌, Option, Some, None, length, take, drop, IfOk, IsErr, IsOk, OnErr, IsTrue, IsNone, IsSome, [], min};
+ghost use Rattle.std.specs.Prelude.{◌-◌, ◌^◌, ◌≡◌, ◌⊎◌, ◌+◌, ◌<◌, ◌≤◌, ◌≢◌, ℕ, Bool, true, false, List, ◌++◌, Option, Some, None, length, take, drop, IfOk, IsErr, IsOk, OnErr, IsTrue, IsNone, IsSome, [], min};
 ghost use Rattle.std.specs.Result.{is_err};
 ghost use Rattle.std.specs.Option.{option_copied, option_map};
 ghost use Rattle.sg_edge.specs.Told.{AtEnd, HasCause, Rose, RoseBy, Tells, TookIn, Wrote, taken};
@@ -222,7 +222,7 @@ impl MemSink {
     fn keep(&mut self, octets: &[u8]) -> bool
         ensures kept { IsTrue result → self.new.written ≡ option_map (λ l. l ++ octets.now) self.old.written }
         ensures lost { result ≡ false → (self.new.written ≡ None) × IsSome self.old.written }
-        ensures counted { IsTrue result → RoseBy self.old.count self.new.count (length octets.now) }
+        ensures counted { IsTrue result → RoseBy (2 ^ 64 - 1) self.old.count self.new.count (length octets.now) }
         ensures uncounted { result ≡ false → self.new.count ≡ self.old.count }
         ensures calls { self.new.calls ≡ self.old.calls }
     {
