@@ -10,18 +10,13 @@ use Rattle.sg_edge.specs.Told.{AtEnd, Tally, TookIn, Wrote}
 use Rattle.sg_lines.proofs.Splits.{lines_of_whole}
 use Rattle.sg_lines.specs.ScriptLines.{IsWhole, NoEnd, lines_of}
 use Rattle.sg_trace.specs.Course.{Course, Given, Ways, behind_given, behind_line, course, course_from, ended, read_at, with_deeds}
-use Rattle.sg_trace.specs.Loop.{AreAlike, Closes, Effects, GoInOrder, HasNoLast, IsAll, IsCut, IsCutLine, IsCutShort, IsPlayed, IsTaken, IsWant, LoopEnds, PromptEnds, deeds_of}
+use Rattle.sg_trace.specs.Loop.{AreAlike, Closes, Effects, GoInOrder, HasNoLast, IsAll, IsCut, IsCutLine, IsCutShort, IsPlayed, IsTaken, IsWant, LoopEnds, deeds_of}
+pub use Rattle.sg_trace.specs.Loop.{Tellings}
 use Rattle.sg_trace.specs.Output.{IsPrefixOf}
 use Rattle.sg_trace.specs.Reading.{FirstFailsBy, IsFaultBy, IsNextBy, IsReadBy, Reading}
 use Rattle.sg_trace.specs.Trace.{AtCapture, AtEnd as BehindAll, AtFault, ForDraw, Stop}
 use Rattle.sg_trace.specs.declared.status.Status.{Status}
 use Rattle.sg_trace.specs.declared.status.Status.TheVariants.{Done, Script, Read, Write, NoMemory, Noise}
-
--- what a source, a sink and a source of noise tell
-pub record Tellings : Type 0 where
-  pub left : Tally
-  pub written : Tally
-  pub drawn : Tally
 
 -- ---- courses
 
@@ -75,6 +70,10 @@ module _ {L D S : Type 0} (w : Ways L D) (e : Effects S D) (begun : S) where
     pub drew : Added old.drawn now.drawn drawn
     pub wrote : Wrote old.written now.written (e.tells begun es)
     pub goes : (rest more : List ℕ) → course w (taken ++ rest) (drawn ++ more) ≡ with_deeds deeds (course_from w version n at (lines_of rest) more)
+
+none_before : (out rest : List ℕ) → [] ≡ out ++ rest → out ≡ []
+none_before [] rest is = refl
+none_before (x ∷ xs) rest is = absurd cc
 
 module _ {L D S : Type 0} (w : Ways L D) (e : Effects S D) (order : GoInOrder e) (begun : S) where
   abbrev run : List ℕ → List ℕ → Course D
@@ -250,9 +249,10 @@ module _ {L D S : Type 0} (w : Ways L D) (e : Effects S D) (order : GoInOrder e)
       told_with draws = ap (λ (c : Course D). e.tells begun c.deeds) (lines_with draws) ∙ ap (e.tells begun) (append-nil going.deeds) ∙ lines_tell
 
       -- no line is under way
-      between : IsCutLine w (e.tells begun) octets drawn (e.tells begun es)
-      between =
+      between : (out : List ℕ) → out ≡ [] → IsCutLine w (e.tells begun) octets drawn (e.tells begun es ++ out)
+      between out bare =
           let told : e.tells begun (run taken drawn).deeds ≡ e.tells begun es = ap (λ (d : List ℕ). e.tells begun (run taken d).deeds) (sym (append-nil drawn)) ∙ told_with [] in
+          let all : e.tells begun es ++ out ≡ e.tells begun es = ap (λ (o : List ℕ). e.tells begun es ++ o) bare ∙ append-nil (e.tells begun es) in
           record {
             lines = taken;
             line = [];
@@ -261,26 +261,19 @@ module _ {L D S : Type 0} (w : Ways L D) (e : Effects S D) (order : GoInOrder e)
             one = inr refl;
             near = near;
             sound = ap (λ (c : Course D). c.stop) lines_are;
-            begun = ([], sym (append-nil (e.tells begun (run taken drawn).deeds) ∙ told));
-            within = ([], ap (λ (o : List ℕ). e.tells begun (run o drawn).deeds) (append-nil taken) ∙ told ∙ sym (append-nil (e.tells begun es)));
+            begun = ([], all ∙ sym told ∙ sym (append-nil (e.tells begun (run taken drawn).deeds)));
+            within = ([], ap (λ (o : List ℕ). e.tells begun (run o drawn).deeds) (append-nil taken) ∙ told ∙ sym all ∙ sym (append-nil (e.tells begun es ++ out)));
           }
 
-      prompt_so : (end : Status) → (Closes end end e batch (e.after begun es) ps [] → Ends end []) → PromptEnds w (e.tells begun) batch end octets drawn (e.tells begun es) left'
-      prompt_so end ends = (
-        subst (λ (o : List ℕ). LoopEnds w (e.tells begun) batch end octets drawn o left') (append-nil (e.tells begun es))
-            (ends (inl (refl, sym (ap (e.tells (e.after begun es)) none ∙ order.none_told (e.after begun es))))),
-        between,
-      )
+      pub closed_between : (end status : Status) (out : List ℕ) → Closes end status e batch (e.after begun es) ps out → IsCutLine w (e.tells begun) octets drawn (e.tells begun es ++ out)
+      closed_between end status out closed = between out (bare closed)
+        where
+          nothing : [] ≡ e.tells (e.after begun es) ps
+          nothing = sym (ap (e.tells (e.after begun es)) none ∙ order.none_told (e.after begun es))
 
-      pub prompt_at_end : script.waits ++ got ≡ [] → AtEnd left' → PromptEnds w (e.tells begun) batch Done octets drawn (e.tells begun es) left'
-      prompt_at_end nothing end = prompt_so Done (closed_at_end Done [] nothing end)
-
-      pub prompt_at_err : (end : Status) (new : Reading) → IsNextBy w.spelled w.followed (Err end) script new got left' → PromptEnds w (e.tells begun) batch end octets drawn (e.tells begun es) left'
-      prompt_at_err end new next = prompt_so end (closed_at_err end end new [] next)
-
-      -- where what was told isn't passed on
-      pub prompt_stopped : (status : Status) → status ≡ Write → PromptEnds w (e.tells begun) batch status octets drawn (e.tells begun es) left'
-      prompt_stopped status is = prompt_so status (λ closed. cut_at_end status [] (inl is, (e.tells (e.after begun es) ps, refl), omega (arith, ap length none)))
+          bare : Closes end status e batch (e.after begun es) ps out → out ≡ []
+          bare (inl all) = all.1 ∙ sym nothing
+          bare (inr cut) = none_before out cut.1.0 (nothing ∙ cut.1.1)
 
     -- behind the last line, whatever stands there
     pub last_goes : (l : L) (new : Reading) (read : IsReadBy w.spelled w.followed l script new got) → w.is_last l ≡ true → (rest : List ℕ)
@@ -355,9 +348,9 @@ module _ {L D S : Type 0} (w : Ways L D) (e : Effects S D) (order : GoInOrder e)
         );
       }
 
-      pub prompt_played : (status : Status) (waits' : List D) (stands : S → Type 0) (draws out : List ℕ) → ps ≡ [] → IsPlayed (Err status) e (w.gives l) batch (e.after begun es) ps waits' stands draws out
-          → PromptEnds w (e.tells begun) batch status octets (drawn ++ draws) (e.tells begun es ++ out) left'
-      prompt_played status waits' stands draws out none is = (ends_played status waits' stands draws out is, under_way draws out none (short status is))
+      pub cut_under_way : (status : Status) (waits' : List D) (stands : S → Type 0) (draws out : List ℕ) → ps ≡ [] → IsPlayed (Err status) e (w.gives l) batch (e.after begun es) ps waits' stands draws out
+          → IsCutLine w (e.tells begun) octets (drawn ++ draws) (e.tells begun es ++ out)
+      cut_under_way status waits' stands draws out none is = under_way draws out none (short status is)
         where
           short : (s : Status) → IsPlayed (Err s) e (w.gives l) batch (e.after begun es) ps waits' stands draws out → IsCutShort e (w.gives l) batch (e.after begun es) ps draws out
           short Write cut = cut

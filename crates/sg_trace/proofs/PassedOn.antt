@@ -6,7 +6,7 @@ use Rattle.sg_edge.specs.Told.{Tally, Wrote}
 use Rattle.sg_trace.proofs.Causes.{failed_as}
 use Rattle.sg_trace.specs.Causes.{EndedBy, HasFailed, IsOfOutside, IsPassedOn}
 use Rattle.sg_trace.specs.Course.{Ways, course}
-use Rattle.sg_trace.specs.Loop.{AreTold, IsAll, IsCut, IsWant, LoopEnds, PromptEnds}
+use Rattle.sg_trace.specs.Loop.{AreTold, IsAll, IsCut, IsWant, LoopEnds}
 use Rattle.sg_trace.specs.Trace.{AtCapture, AtEnd, AtFault, ForDraw, Stop}
 use Rattle.sg_trace.specs.declared.status.Status.{Status}
 use Rattle.sg_trace.specs.declared.status.Status.TheVariants.{Done, Script, Read, Write, NoMemory, Noise}
@@ -146,6 +146,3 @@ module _ {L D : Type 0} (w : Ways L D) (tells : List D → List ℕ) (batch : �
   pub loop_passed : (end status : Status) (left : Tally) → (status ≡ end) ⊎ (status ≡ Write) → LoopEnds w tells batch end octets draws out left → LoopEnds w tells batch status octets draws out left
   loop_passed end status left (inl same) is = subst (λ s. LoopEnds w tells batch s octets draws out left) (sym same) is
   loop_passed end status left (inr wrote) is = subst (λ s. LoopEnds w tells batch s octets draws out left) (sym wrote) (cut_of end left is)
-
-  pub prompt_passed : (end status : Status) (left : Tally) → (status ≡ end) ⊎ (status ≡ Write) → PromptEnds w tells batch end octets draws out left → PromptEnds w tells batch status octets draws out left
-  prompt_passed end status left how is = (loop_passed end status left how is.0, is.1)

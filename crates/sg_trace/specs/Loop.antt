@@ -1,13 +1,15 @@
 -- What the loop that plays a script leaves, whatever plays it.
-use Rattle.std.specs.Prelude.{◌≡◌, ◌⊎◌, ◌≤◌, ℕ, false, List, [], ◌++◌, length, Option, Some, None, Result, Ok, Err}
+use Rattle.std.specs.Prelude.{◌≡◌, ◌⊎◌, ◌≤◌, ◌+◌, ◌^◌, ℕ, Bool, true, false, List, [], ◌++◌, length, Option, Some, None, Result, Ok, Err}
+use Rattle.sg_base.specs.declared.faults.ScriptFault.{ScriptFault}
 use Rattle.sg_base.specs.declared.faults.ScriptFault.TheVariants.{Unended}
-use Rattle.sg_edge.specs.Told.{AtEnd, Tally}
+use Rattle.sg_edge.specs.Links.{Added}
+use Rattle.sg_edge.specs.Told.{AtEnd, Tally, TookIn, Wrote}
 use Rattle.sg_lines.specs.LineOf.{line_of, version_after}
 use Rattle.sg_lines.specs.ScriptLines.{IsWhole, NoEnd}
 use Rattle.sg_lines.specs.declared.lines.Line.{Line}
 use Rattle.sg_trace.specs.Course.{Course, Given, Ways, course}
 use Rattle.sg_trace.specs.Output.{IsPrefixOf}
-use Rattle.sg_trace.specs.Trace.{AtCapture, AtEnd as BehindAll, AtFault, ForDraw, Stop}
+use Rattle.sg_trace.specs.Trace.{AtCapture, AtEnd as BehindAll, AtFault, ForDraw, Spelling, Stop}
 use Rattle.sg_trace.specs.declared.status.Status.{Status}
 use Rattle.sg_trace.specs.declared.status.Status.TheVariants as statuses
 
@@ -81,9 +83,13 @@ Closes end status e batch s waited out =
 
 -- ---- the loop
 
--- how a script of lines is read, of which each gives this, and none is the last
+-- how a script is read whose lines are spelled so, of which each gives this, and none is the last
+abbrev pub ways_of : {L D : Type 0} → Spelling L → (ℕ → L → ℕ) → (L → List ℕ → Option (Given D)) → Ways L D
+ways_of spelled followed gives = record { spelled = spelled; followed = followed; is_last = λ l. false; gives = gives }
+
+-- the same of the lines that every script may have
 abbrev pub of_lines : {D : Type 0} → (Line → List ℕ → Option (Given D)) → Ways Line D
-of_lines gives = record { spelled = line_of; followed = version_after; is_last = λ l. false; gives = gives }
+of_lines gives = ways_of line_of version_after gives
 
 -- The course ends there, no octet was drawn besides, and all that it tells was written.
 pub record IsAll {L D : Type 0} (w : Ways L D) (tells : List D → List ℕ) (octets draws out : List ℕ) (stop : Stop) : Type 0 where
@@ -155,3 +161,26 @@ pub record IsCutLine {L D : Type 0} (w : Ways L D) (tells : List D → List ℕ)
 -- The loop ends as ever, and whatever ends it, nothing is lost but of the line under way.
 abbrev pub PromptEnds : {L D : Type 0} → Ways L D → (List D → List ℕ) → ℕ → Status → List ℕ → List ℕ → List ℕ → Tally → Type 0
 PromptEnds w tells batch status octets draws out left = LoopEnds w tells batch status octets draws out left × IsCutLine w tells octets draws out
+
+-- ---- a run of the loop
+
+-- what a source, a sink and a source of noise tell
+pub record Tellings : Type 0 where
+  pub left : Tally
+  pub written : Tally
+  pub drawn : Tally
+
+-- The loop read these octets, of which there are at most 2^30 + 1, drew these, and wrote those. What plays each line at once
+-- loses nothing but of the line under way.
+pub record IsRun {L D : Type 0} (w : Ways L D) (tells : List D → List ℕ) (batch : ℕ) (is_prompt : Bool) (status : Status) (old new : Tellings) (octets draws out : List ℕ) : Type 0 where
+  pub took : TookIn old.left new.left octets
+  pub drew : Added old.drawn new.drawn draws
+  pub wrote : Wrote old.written new.written out
+  pub ends : LoopEnds w tells batch status octets draws out new.left
+  pub at_once : is_prompt ≡ true → IsCutLine w tells octets draws out
+  pub bound : length octets ≤ 2 ^ 30 + 1
+
+-- Where the source's octets have no fault, whatever is drawn, the loop plays them to their end, or memory runs out.
+abbrev pub IsCompleteRun : {L D : Type 0} → Ways L D → Status → Tally → Tally → Type 0
+IsCompleteRun w status left left' = (all rest : List ℕ) → left.told ≡ Some all → left'.told ≡ Some rest
+    → ((draws : List ℕ) (n : ℕ) (fault : ScriptFault) → ¬ ((course w all draws).stop ≡ AtFault n fault)) → (status ≡ statuses.Done) ⊎ (status ≡ statuses.NoMemory)
