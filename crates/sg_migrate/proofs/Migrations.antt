@@ -1,5 +1,5 @@
 -- A migration as the loop has it, line by line.
-use Rattle.std.proofs.Common.{◌≡◌, ℕ, List, [], ◌∷◌, ◌++◌, Result, Ok, Err, refl, sym, ap, ◌∙◌, subst, append_assoc, arith}
+use Rattle.std.proofs.Common.{◌≡◌, ◌+◌, ℕ, List, [], ◌∷◌, ◌++◌, length, Result, Ok, Err, refl, sym, ap, ◌∙◌, subst, append_assoc, arith}
 use Rattle.std.proofs.lemmas.List.{append-nil}
 use Rattle.sg_base.specs.declared.faults.ScriptFault.{ScriptFault}
 use Rattle.sg_base.specs.declared.faults.ScriptFault.TheVariants.{Unended}
@@ -10,12 +10,16 @@ use Rattle.sg_lines.specs.declared.lines.Line.TheVariants as lines
 use Rattle.sg_migrate.specs.Migrated.{effects, migrated_line, moment_after, moment_behind, of_migration, of_version_one, old_line_of, written_of}
 use Rattle.sg_migrate.specs.declared.lines.LineOfVersionOne.{LineOfVersionOne}
 use Rattle.sg_trace.proofs.Frames.{lines_framed}
-use Rattle.sg_trace.specs.Loop.{GoInOrder, IsCutShort, IsPlayed, IsTaken}
+use Rattle.sg_trace.specs.Course.{behind_line, course_from, read_at}
+use Rattle.sg_trace.specs.Loop.{GoInOrder, IsCutShort, IsPlayed, IsTaken, LoopEnds}
 use Rattle.sg_trace.specs.Output.{IsPrefixOf, IsWritten}
 use Rattle.sg_trace.specs.Reading.{IsFramed}
 use Rattle.sg_trace.specs.declared.status.Status.{Status}
-use Rattle.sg_trace.specs.declared.status.Status.TheVariants.{Write, NoMemory}
-use Rattle.sg_edge.specs.Told.{Tally}
+use Rattle.sg_trace.specs.Trace.{ForDraw}
+use Rattle.sg_trace.specs.declared.status.Status.TheVariants.{Write, NoMemory, Noise}
+use Rattle.sg_edge.specs.Links.{Added}
+use Rattle.sg_edge.specs.Told.{Tally, telling}
+use Rattle.sg_lines.specs.ScriptLines.{lines_of}
 
 -- what is told of a line without its end, or of one that is too long, is told of it in version 1 too
 unended_so : (r : Result Line ScriptFault) → of_version_one r ≡ Err Unended → r ≡ Err Unended
@@ -52,28 +56,45 @@ module _ (moment : ℕ) (l : LineOfVersionOne) where
   text = line_text (migrated_line moment l.line)
 
   -- it is written
-  abbrev pub line_taken : IsTaken effects (of_migration.gives l) moment [] [] (λ m. m ≡ moment_after moment l.line) [] text
-  line_taken = record {
+  pub line_taken : (next : ℕ) → next ≡ moment_after moment l.line → IsTaken effects (of_migration.gives l) moment [] [] (λ m. next ≡ m) [] text
+  line_taken next is = record {
     fresh = l.line ∷ [];
     told = l.line ∷ [];
     goes = λ more. refl;
     alike = record { told = refl; left = refl };
     written = sym (append-nil text);
-    left = refl;
+    left = is;
   }
 
   -- or a part of it is
-  pub line_cut : (status : Status) (a b : Tally) (out : List ℕ) → IsWritten (Err status) a b text → IsPrefixOf out text → IsPlayed (Err status) effects (of_migration.gives l) 1 moment [] [] (λ m. m ≡ moment_after moment l.line) [] out
-  line_cut status a b out written part = go status written
+  pub line_cut : (status : Status) (a b : Tally) (stands : ℕ → Type 0) (out : List ℕ) → IsWritten (Err status) a b text → IsPrefixOf out text → IsPlayed (Err status) effects (of_migration.gives l) 1 moment [] [] stands [] out
+  line_cut status a b stands out written part = go status written
     where
       short : IsCutShort effects (of_migration.gives l) 1 moment [] [] out
       short = record { told = (part.0, append-nil text ∙ part.1); few = omega arith }
 
-      go : (status : Status) → IsWritten (Err status) a b text → IsPlayed (Err status) effects (of_migration.gives l) 1 moment [] [] (λ m. m ≡ moment_after moment l.line) [] out
+      go : (status : Status) → IsWritten (Err status) a b text → IsPlayed (Err status) effects (of_migration.gives l) 1 moment [] [] stands [] out
       go Write written = short
       go NoMemory written = short
       go other written = absurd written
 
--- and what writes a line doesn't tell that the source failed, or the noise
-pub written_not : (status other : Status) (a b : Tally) (octets : List ℕ) → (IsWritten (Err other) a b octets → ⊥) → IsWritten (Err status) a b octets → status ≡ other → ⊥
-written_not status other a b octets never written is = never (subst (λ s. IsWritten (Err s) a b octets) is written)
+-- ---- no line lacks noise
+
+never_draws : (version n at : ℕ) (ls : List (List ℕ)) (draws : List ℕ) → (course_from of_migration version n at ls draws).stop ≡ ForDraw → ⊥
+never_draws version n at [] draws is = cc
+never_draws version n at (l ∷ ls) draws is = go (read_at of_migration version n at l) (never_draws 1 (n + 1) (at + length l) ls draws) is
+  where
+    go : (r : Result LineOfVersionOne ScriptFault) → ((course_from of_migration 1 (n + 1) (at + length l) ls draws).stop ≡ ForDraw → ⊥)
+        → (behind_line of_migration version n (at + length l) r (λ v. course_from of_migration v (n + 1) (at + length l) ls) draws).stop ≡ ForDraw → ⊥
+    go (Err fault) later is = cc
+    go (Ok found) later is = later is
+
+pub quiet_so : (status : Status) (octets out : List ℕ) (left : Tally) → LoopEnds of_migration (written_of 0) 1 status octets [] out left → status ≡ Noise → ⊥
+quiet_so status octets out left ends is = never_draws 1 1 0 (lines_of octets) [] (subst (λ s. LoopEnds of_migration (written_of 0) 1 s octets [] out left) is ends).stops
+
+-- what gives nothing gave none of these
+pub none_drawn : (draws : List ℕ) → Added (telling [] 0) (telling [] 0) draws → draws ≡ []
+none_drawn draws drew =
+    let before = drew.0 [] refl in
+    let none : before.0 ≡ [] = cc in
+    sym (before.2 ∙ ap (λ (o : List ℕ). o ++ draws) none)

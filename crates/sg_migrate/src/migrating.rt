@@ -9,9 +9,9 @@ ghost use Rattle.sg_trace.specs.Output.{IsWritten};
 
 use crate::lines::{LineOfVersionOne, migrated_line, moment_after};
 use sg_base::{Failed, NoMemory};
-use sg_edge::{Sink, Source, write_all};
+use sg_edge::{Noise, Sink, Source, write_all};
 use sg_lines::{Line, print_line};
-use sg_trace::{ScriptReader, Status, pass_on, passed_on};
+use sg_trace::{Play, Status, run_script};
 use std::alloc::Global;
 
 /// Writes the script of version 1 that the source holds as one of version 2: each datagram gets the greatest
@@ -29,40 +29,83 @@ pub fn migrate<S: Source, K: Sink>(alloc: Global, source: &mut S, sink: &mut K) 
     ensures complete { ¬ Rose (S.faults source.old) (S.faults source.new) → ¬ Rose (K.faults sink.old) (K.faults sink.new)
         → IsCompleteMigration result (S.left source.old) (S.left source.new) }
 {
-    let end = write_script(alloc, source, sink);
-    passed_on(end, sink)
+    let mut migrating = Migrating { moment: 0 };
+    run_script(alloc, &mut migrating, source, sink, &mut NoNoise)
 }
 
-/// The same, but that the sink may hold the last of what is written.
-fn write_script<S: Source, K: Sink>(alloc: Global, source: &mut S, sink: &mut K) -> Status
-    ensures ran { (octets out : List ℕ)
-        × IsMigration result
-        (record { left = S.left source.old; written = K.written sink.old })
-        (record { left = S.left source.new; written = K.written sink.new })
-        octets out }
-    ensures given { (S.left source.new).count ≤ (S.left source.old).count + (2 ^ 30 + 1) }
-    ensures read { HasFailed (result ≡ Status.Read) (S.faults source.old) (S.faults source.new) (S.failed source.new) }
-    ensures write { HasFailed (result ≡ Status.Write) (K.faults sink.old) (K.faults sink.new) (K.failed sink.new) }
-{
-    let mut script = ScriptReader::new(alloc);
-    let mut moment = 0;
-    'lines: loop {
-        match pass_on(script.holds_line(), sink) {
-            Err(status) => return status,
+/// What writes the lines: the greatest moment of the ticks so far, or 0.
+#[derive(Drop)]
+struct Migrating {
+    moment: u64,
+}
+
+impl Play for Migrating {
+    ghost use Rattle.std.specs.Prelude.{◌≡◌, ℕ, [], true, refl};
+    ghost use Rattle.sg_lines.specs.declared.lines.Line.{Line};
+    ghost use Rattle.sg_migrate.specs.Migrated.{effects, of_migration};
+
+    type Line = LineOfVersionOne;
+
+    ghost Deed = { Line };
+
+    ghost State = { ℕ };
+
+    ghost gives = { of_migration.gives };
+
+    ghost effects = { effects };
+
+    ghost start = { λ _. 0 };
+
+    ghost stands = { λ m moment. m.moment ≡ moment };
+
+    ghost waits = { λ _. [] };
+
+    ghost batch = { 1 };
+
+    ghost is_prompt = { true };
+
+    fn play<K: Sink, N: Noise>(
+        &mut self,
+        alloc: Global,
+        line: LineOfVersionOne,
+        sink: &mut K,
+        _noise: &mut N,
+    ) -> Result<(), Status> {
+        let LineOfVersionOne { line } = line;
+        let next = moment_after(self.moment, &line);
+        match write_line(alloc, migrated_line(self.moment, line), sink) {
+            Err(status) => return Err(status),
             Ok(()) => {}
         }
-        let found = match script.next(alloc, source) {
-            Err(status) => return status,
-            Ok(None) => return Status::Done,
-            Ok(Some(found)) => found,
-        };
-        let LineOfVersionOne { line } = found;
-        let next = moment_after(moment, &line);
-        match write_line(alloc, migrated_line(moment, line), sink) {
-            Err(status) => return status,
-            Ok(()) => {}
-        }
-        moment = next;
+        self.moment = next;
+        Ok(())
+    }
+
+    fn settle<K: Sink>(&mut self, _alloc: Global, _sink: &mut K) -> Result<(), Status> {
+        Ok(())
+    }
+
+    fn are_in_order() {}
+
+    ghost at_once = { λ _ _. refl };
+}
+
+/// A migration draws no noise.
+#[derive(Drop)]
+struct NoNoise;
+
+impl Noise for NoNoise {
+    ghost use Rattle.std.specs.Prelude.{◌-◌, ◌^◌, [], None};
+    ghost use Rattle.sg_edge.specs.Told.{telling};
+
+    ghost given = { λ _. telling [] 0 };
+
+    ghost faults = { λ _. 2 ^ 64 - 1 };
+
+    ghost failed = { λ _. None };
+
+    fn draw(&mut self, _part: &mut [u8]) -> Result<(), Failed> {
+        Err(Failed)
     }
 }
 

@@ -65,7 +65,9 @@ pub trait Play {
         ensures sure { is_prompt ≡ true → IsOk result }
         ensures write { IsCaused Status.Write result (K.faults sink.old) (K.faults sink.new) (K.failed sink.new) };
 
-    ghost in_order: { GoInOrder effects };
+    /// Deeds are done in order.
+    fn are_in_order()
+        ensures { GoInOrder effects };
 
     ghost at_once: { is_prompt ≡ true → (player : Self) → waits player ≡ [] };
 }
@@ -117,6 +119,7 @@ fn play_lines<P: Play, S: Source, K: Sink, N: Noise>(
     ensures write { HasFailed (result ≡ Status.Write) (K.faults sink.old) (K.faults sink.new) (K.failed sink.new) }
     ensures noise { HasFailed (result ≡ Status.Noise) (N.faults noise.old) (N.faults noise.new) (N.failed noise.new) }
 {
+    P::are_in_order();
     let mut script = ScriptReader::new(alloc);
     'lines: loop {
         match pass_on(script.holds_line(), sink) {

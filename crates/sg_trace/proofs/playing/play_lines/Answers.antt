@@ -18,7 +18,7 @@ pub returns-in-Err-clause-ran : goal.returns-in-Err-clause-ran
 returns-in-Err-clause-ran g c =
     let begun = g.P.Play.start c.args.player.now in
     let e = g.P.Play.effects in
-    let order = g.met.P.Play.in_order in
+    let order = c.are_in_order.ensures in
     let batch = g.P.Play.batch in
     let so_far = c.lines.invariant.0 in
     let none : List ℕ = [] in
@@ -57,7 +57,7 @@ pub returns-in-Err-next-clause-ran : goal.returns-in-Err-next-clause-ran
 returns-in-Err-next-clause-ran g c =
     let begun = g.P.Play.start c.args.player.now in
     let e = g.P.Play.effects in
-    let order = g.met.P.Play.in_order in
+    let order = c.are_in_order.ensures in
     let batch = g.P.Play.batch in
     let so_far = c.lines.invariant.0 in
     let got = c.in-Err-next.ensures.next in
@@ -103,7 +103,7 @@ pub returns-in-Ok-None-clause-ran : goal.returns-in-Ok-None-clause-ran
 returns-in-Ok-None-clause-ran g c =
     let begun = g.P.Play.start c.args.player.now in
     let e = g.P.Play.effects in
-    let order = g.met.P.Play.in_order in
+    let order = c.are_in_order.ensures in
     let batch = g.P.Play.batch in
     let so_far = c.lines.invariant.0 in
     let got = c.in-Ok-None.ensures.next in
@@ -157,7 +157,7 @@ pub returns-in-Err-play-clause-ran : goal.returns-in-Err-play-clause-ran
 returns-in-Err-play-clause-ran g c =
     let begun = g.P.Play.start c.args.player.now in
     let e = g.P.Play.effects in
-    let order = g.met.P.Play.in_order in
+    let order = c.are_in_order.ensures in
     let batch = g.P.Play.batch in
     let so_far = c.lines.invariant.0 in
     let got = c.in-Ok-Some.ensures.next in
@@ -201,7 +201,7 @@ pub lines-preserved : goal.lines-preserved
 lines-preserved g c =
     let begun = g.P.Play.start c.args.player.now in
     let e = g.P.Play.effects in
-    let order = g.met.P.Play.in_order in
+    let order = c.are_in_order.ensures in
     let batch = g.P.Play.batch in
     let so_far = c.lines.invariant.0 in
     let got = c.in-Ok-Some.ensures.next in
@@ -231,7 +231,7 @@ lines-preserved g c =
 pub lines-init : goal.lines-init
 lines-init g c =
     let begun = g.P.Play.start c.args.player.now in
-    let order = g.met.P.Play.in_order in
+    let order = c.are_in_order.ensures in
     let none : List ℕ = [] in
     let es : List g.P.Play.Deed = [] in (
       (
