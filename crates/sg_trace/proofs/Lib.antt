@@ -3,6 +3,7 @@ mod Capturings
 pub mod Causes
 pub mod Traces
 mod ReadBuffers
+pub mod Runs
 pub mod Ends
 pub mod Frames
 pub mod Grammars

@@ -5,10 +5,11 @@ use Rattle.sg_base.specs.declared.faults.ScriptFault.TheVariants.{Unended}
 use Rattle.sg_edge.specs.Links.{Added}
 use Rattle.sg_edge.specs.Told.{AtEnd, Tally, TookIn, Wrote}
 use Rattle.sg_lines.specs.LineOf.{line_of, version_after}
-use Rattle.sg_lines.specs.ScriptLines.{IsWhole, NoEnd}
+use Rattle.sg_lines.specs.ScriptLines.{IsWhole, NoEnd, lines_of}
 use Rattle.sg_lines.specs.declared.lines.Line.{Line}
-use Rattle.sg_trace.specs.Course.{Course, Given, Ways, course}
+use Rattle.sg_trace.specs.Course.{Course, Given, Ways, course, course_from, ended, with_deeds}
 use Rattle.sg_trace.specs.Output.{IsPrefixOf}
+use Rattle.sg_trace.specs.Reading.{Reading}
 use Rattle.sg_trace.specs.Trace.{AtCapture, AtEnd as BehindAll, AtFault, ForDraw, Spelling, Stop}
 use Rattle.sg_trace.specs.declared.status.Status.{Status}
 use Rattle.sg_trace.specs.declared.status.Status.TheVariants as statuses
@@ -83,13 +84,13 @@ Closes end status e batch s waited out =
 
 -- ---- the loop
 
--- how a script is read whose lines are spelled so, of which each gives this, and none is the last
-abbrev pub ways_of : {L D : Type 0} → Spelling L → (ℕ → L → ℕ) → (L → List ℕ → Option (Given D)) → Ways L D
-ways_of spelled followed gives = record { spelled = spelled; followed = followed; is_last = λ l. false; gives = gives }
+-- how a script is read whose lines are spelled so, and of which each gives this
+abbrev pub ways_of : {L D : Type 0} → Spelling L → (ℕ → L → ℕ) → (L → Bool) → (L → List ℕ → Option (Given D)) → Ways L D
+ways_of spelled followed last gives = record { spelled = spelled; followed = followed; is_last = last; gives = gives }
 
--- the same of the lines that every script may have
+-- the same of the lines that every script may have, of which none is the last
 abbrev pub of_lines : {D : Type 0} → (Line → List ℕ → Option (Given D)) → Ways Line D
-of_lines gives = ways_of line_of version_after gives
+of_lines gives = ways_of line_of version_after (λ l. false) gives
 
 -- The course ends there, no octet was drawn besides, and all that it tells was written.
 pub record IsAll {L D : Type 0} (w : Ways L D) (tells : List D → List ℕ) (octets draws out : List ℕ) (stop : Stop) : Type 0 where
@@ -170,6 +171,20 @@ pub record Tellings : Type 0 where
   pub written : Tally
   pub drawn : Tally
 
+-- Whole lines were read, and behind them octets without a line end. All that the lines tell was written, and whatever would
+-- stand behind them goes on so.
+pub record IsUnended {L D : Type 0} (w : Ways L D) (tells : List D → List ℕ) (octets draws out : List ℕ) : Type 0 where
+  pub lines : List ℕ
+  pub part : List ℕ
+  pub split : octets ≡ lines ++ part
+  pub unended : NoEnd part
+  pub deeds : List D
+  pub told : out ≡ tells deeds
+  pub version : ℕ
+  pub number : ℕ
+  pub offset : ℕ
+  pub goes : (rest : List ℕ) → course w (lines ++ rest) draws ≡ with_deeds deeds (course_from w version number offset (lines_of rest) [])
+
 -- The loop read these octets, of which there are at most 2^30 + 1, drew these, and wrote those. What plays each line at once
 -- loses nothing but of the line under way.
 pub record IsRun {L D : Type 0} (w : Ways L D) (tells : List D → List ℕ) (batch : ℕ) (is_prompt : Bool) (status : Status) (old new : Tellings) (octets draws out : List ℕ) : Type 0 where
@@ -178,7 +193,32 @@ pub record IsRun {L D : Type 0} (w : Ways L D) (tells : List D → List ℕ) (ba
   pub wrote : Wrote old.written new.written out
   pub ends : LoopEnds w tells batch status octets draws out new.left
   pub at_once : is_prompt ≡ true → IsCutLine w tells octets draws out
+  pub unended : status ≡ statuses.Read → IsUnended w tells octets draws out
   pub bound : length octets ≤ 2 ^ 30 + 1
+
+-- The lines up to the last were read, and more octets, which wait. All that the lines tell was written, and what plays stands
+-- for the state behind them.
+pub record IsBehindLast {L D S : Type 0} (w : Ways L D) (e : Effects S D) (begun : S) (old new : Tellings) (script : Reading) (stands_for : S → Type 0) (octets draws out : List ℕ) : Type 0 where
+  pub lines : List ℕ
+  pub last : L
+  pub is_last : w.is_last last ≡ true
+  pub deeds : List D
+  pub split : octets ≡ lines ++ script.waits
+  pub size : length lines ≡ script.offset
+  pub within : script.offset ≤ 2 ^ 30
+  pub near : length script.waits ≤ 4096
+  pub room : length octets + script.budget ≡ 2 ^ 30 + 1
+  pub took : TookIn old.left new.left octets
+  pub drew : Added old.drawn new.drawn draws
+  pub wrote : Wrote old.written new.written out
+  pub goes : (rest : List ℕ) → course w (lines ++ rest) draws ≡ with_deeds deeds (ended (AtCapture script.offset) [])
+  pub told : out ≡ e.tells begun deeds
+  pub stands : stands_for (e.after begun deeds)
+
+-- The loop came behind the last line, or it ended before with this status.
+abbrev pub IsScriptPlayed : {L D S : Type 0} → Result (Unit {0}) Status → Ways L D → Effects S D → S → ℕ → Bool → Tellings → Tellings → Reading → (S → Type 0) → List ℕ → List ℕ → List ℕ → Type 0
+IsScriptPlayed (Ok u) w e begun batch is_prompt old new script stands octets draws out = IsBehindLast w e begun old new script stands octets draws out
+IsScriptPlayed (Err status) w e begun batch is_prompt old new script stands octets draws out = IsRun w (e.tells begun) batch is_prompt status old new octets draws out
 
 -- Where the source's octets have no fault, whatever is drawn, the loop plays them to their end, or memory runs out.
 abbrev pub IsCompleteRun : {L D : Type 0} → Ways L D → Status → Tally → Tally → Type 0

@@ -18,7 +18,7 @@ mod telling;
 pub use capture_reader::CaptureReader;
 pub use laws::the_capture_holds;
 pub use passing_on::{pass_on, passed_on, write_at_once};
-pub use playing::{Play, run_script};
+pub use playing::{Play, play_lines, run_script};
 pub use script_line::ScriptLine;
 pub use script_reader::ScriptReader;
 pub use status::Status;

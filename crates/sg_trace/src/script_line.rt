@@ -1,6 +1,6 @@
 //! Lines of a kind of script.
 
-ghost use Rattle.std.specs.Prelude.{◌≡◌, ◌⊎◌, ℕ, IfOk};
+ghost use Rattle.std.specs.Prelude.{◌≡◌, ◌⊎◌, ℕ, Bool, IfOk};
 ghost use Rattle.sg_lines.specs.Fields.{Gives};
 ghost use Rattle.sg_trace.specs.Reading.{IsFramed};
 ghost use Rattle.sg_trace.specs.Trace.{Spelling};
@@ -19,6 +19,9 @@ pub trait ScriptLine: Sized {
     /// Of which version the lines behind it are.
     ghost followed: { ℕ → Self → ℕ };
 
+    /// Whether it is the last: behind it stands no line.
+    ghost last: { Self → Bool };
+
     /// The line of this number, from 1, in a script of that version, that the octets are, its end among them.
     fn read(alloc: Global, version: u8, number: u64, octets: &[u8]) -> Result<Self, ReadLineFault>
         requires { (version ≡ 1) ⊎ (version ≡ 2) }
@@ -31,12 +34,17 @@ pub trait ScriptLine: Sized {
         ensures is { result ≡ followed version self.now }
         ensures one_of_two { (result ≡ 1) ⊎ (result ≡ 2) };
 
+    /// Whether it is the last: behind it stands no line.
+    fn is_last(&self) -> bool
+        ensures { result ≡ last self.now };
+
     /// No line is read without its end, and one that is too long is told so first.
     fn are_framed()
         ensures { IsFramed spelled };
 }
 
 impl ScriptLine for Line {
+    ghost use Rattle.std.specs.Prelude.{false};
     ghost use Rattle.sg_lines.specs.LineOf.{line_of, version_after};
     ghost use Rattle.sg_lines.specs.LineText.{FitsLine};
 
@@ -45,6 +53,8 @@ impl ScriptLine for Line {
     ghost fits = { FitsLine };
 
     ghost followed = { version_after };
+
+    ghost last = { λ _. false };
 
     fn read(alloc: Global, version: u8, number: u64, octets: &[u8]) -> Result<Line, ReadLineFault> {
         read_line(alloc, version, number, octets)
@@ -56,6 +66,10 @@ impl ScriptLine for Line {
             Line::HeaderTwo => 2,
             _ => version,
         }
+    }
+
+    fn is_last(&self) -> bool {
+        false
     }
 
     fn are_framed() {}

@@ -6,7 +6,7 @@ use Rattle.sg_trace.proofs.playing.play_lines.Given as goal
 abbrev pub invariant-lines : goal.invariant-lines
 invariant-lines g l =
     ((taken drawn : List ℕ) × (es : List g.P.Play.Deed)
-    × IsPlaying (ways_of g.P.Line.ScriptLine.spelled g.P.Line.ScriptLine.followed g.P.Play.gives) g.P.Play.effects (g.P.Play.start l.fn.player)
+    × IsPlaying (ways_of g.P.Line.ScriptLine.spelled g.P.Line.ScriptLine.followed g.P.Line.ScriptLine.last g.P.Play.gives) g.P.Play.effects (g.P.Play.start l.fn.player)
     (record { left = g.S.Source.left l.fn.source; written = g.K.Sink.written l.fn.sink; drawn = g.N.Noise.given l.fn.noise })
     (record { left = g.S.Source.left l.source; written = g.K.Sink.written l.sink; drawn = g.N.Noise.given l.noise })
     taken l.script.waits drawn es (g.P.Play.waits l.player) l.script.version l.script.number l.script.offset
