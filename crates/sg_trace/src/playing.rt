@@ -15,7 +15,7 @@ use sg_edge::{Noise, Sink, Source};
 use std::alloc::Global;
 
 /// What plays the lines of a script. It may tell of a line later than it takes it: what isn't told yet waits.
-pub trait Play {
+pub trait Play<K: Sink, N: Noise> {
     type Line: ScriptLine;
 
     /// What a line gives, as an event.
@@ -42,14 +42,15 @@ pub trait Play {
     ghost is_prompt: { Bool };
 
     /// Takes a line. `Noise` where the noise that it lacks can't be drawn, and `Write` where the sink fails.
-    fn play<K: Sink, N: Noise>(
+    fn play(
         &mut self,
         alloc: Global,
         line: Self::Line,
         sink: &mut K,
         noise: &mut N,
     ) -> Result<(), Status>
-        requires { (version number : ℕ) × Self.Line.fits version number line }
+        requires stands { (s : State) × stands self.old s }
+        requires fits { (version number : ℕ) × Self.Line.fits version number line }
         ensures played { (s : State) → stands self.old s → (draws out : List ℕ)
             × Added (N.given noise.old) (N.given noise.new) draws × Wrote (K.written sink.old) (K.written sink.new) out
             × IsPlayed result effects (gives line) batch s (waits self.old) (waits self.new) (stands self.new) draws out }
@@ -58,7 +59,8 @@ pub trait Play {
         ensures noise { IsCaused Status.Noise result (N.faults noise.old) (N.faults noise.new) (N.failed noise.new) };
 
     /// Tells what waits. `Write` where the sink fails.
-    fn settle<K: Sink>(&mut self, alloc: Global, sink: &mut K) -> Result<(), Status>
+    fn settle(&mut self, alloc: Global, sink: &mut K) -> Result<(), Status>
+        requires stands { (s : State) × stands self.old s }
         ensures settled { (s : State) → stands self.old s → (out : List ℕ) × Wrote (K.written sink.old) (K.written sink.new) out
             × IsSettled result effects batch s (waits self.old) (waits self.new) (stands self.new) out }
         ensures only { IfErr result (λ status. IsWant status) }
@@ -74,7 +76,7 @@ pub trait Play {
 
 /// Plays the script of the source, line by line, by what has played nothing. Whatever ends the reading, what waits is told
 /// then; where that fails, the status is that fault's. What is told is passed on before a read that may wait, and at the end.
-pub fn run_script<P: Play, S: Source, K: Sink, N: Noise>(
+pub fn run_script<K: Sink, N: Noise, P: Play<K, N>, S: Source>(
     alloc: Global,
     player: &mut P,
     source: &mut S,
@@ -100,7 +102,7 @@ pub fn run_script<P: Play, S: Source, K: Sink, N: Noise>(
 }
 
 /// The same, but that the sink may hold the last of what is told.
-fn play_lines<P: Play, S: Source, K: Sink, N: Noise>(
+fn play_lines<K: Sink, N: Noise, P: Play<K, N>, S: Source>(
     alloc: Global,
     player: &mut P,
     source: &mut S,
@@ -139,8 +141,14 @@ fn play_lines<P: Play, S: Source, K: Sink, N: Noise>(
 }
 
 /// The status of a run of which nothing more is read, for this reason: what waits is told first.
-fn close<P: Play, K: Sink>(alloc: Global, player: &mut P, end: Status, sink: &mut K) -> Status
-    requires { end ≢ Status.Write }
+fn close<K: Sink, N: Noise, P: Play<K, N>>(
+    alloc: Global,
+    player: &mut P,
+    end: Status,
+    sink: &mut K,
+) -> Status
+    requires stands { (s : P.State) × P.stands player.old s }
+    requires end { end ≢ Status.Write }
     ensures closed { (s : P.State) → P.stands player.old s → (out : List ℕ) × Wrote (K.written sink.old) (K.written sink.new) out
         × Closes end result P.effects P.batch s (P.waits player.old) out }
     ensures sure { P.is_prompt ≡ true → result ≡ end }

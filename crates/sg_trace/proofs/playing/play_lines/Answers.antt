@@ -50,8 +50,8 @@ returns-in-Err-clause-noise g c = not_failed _ _ _ _ c.lines.invariant.6 (write_
 
 -- ---- where no line was read
 
-pub close-requires : goal.close-requires
-close-requires g c = next_isnt g.P.Line.ScriptLine.spelled g.P.Line.ScriptLine.followed c.in-Err-next.status Write c.lines.script c.next.new.self c.in-Err-next.ensures.next.0 _ (λ never. never) c.in-Err-next.ensures.next.2
+pub close-requires-clause-end : goal.close-requires-clause-end
+close-requires-clause-end g c = next_isnt g.P.Line.ScriptLine.spelled g.P.Line.ScriptLine.followed c.in-Err-next.status Write c.lines.script c.next.new.self c.in-Err-next.ensures.next.0 _ (λ never. never) c.in-Err-next.ensures.next.2
 
 pub returns-in-Err-next-clause-ran : goal.returns-in-Err-next-clause-ran
 returns-in-Err-next-clause-ran g c =
@@ -150,8 +150,8 @@ returns-in-Ok-None-clause-noise g c =
 
 -- ---- where a line was read
 
-pub play-requires : goal.play-requires
-play-requires g c = (c.lines.script.version, c.lines.script.number, subst (λ r. IfSome r (λ line. g.P.Line.ScriptLine.fits c.lines.script.version c.lines.script.number line)) c.in-Ok-Some.field-0-is c.in-Ok-Some.ensures.fits)
+pub play-requires-clause-fits : goal.play-requires-clause-fits
+play-requires-clause-fits g c = (c.lines.script.version, c.lines.script.number, subst (λ r. IfSome r (λ line. g.P.Line.ScriptLine.fits c.lines.script.version c.lines.script.number line)) c.in-Ok-Some.field-0-is c.in-Ok-Some.ensures.fits)
 
 pub returns-in-Err-play-clause-ran : goal.returns-in-Err-play-clause-ran
 returns-in-Err-play-clause-ran g c =
@@ -251,3 +251,12 @@ lines-init g c =
       search rules,
       omega (arith, ap length c.requires.1),
     )
+
+pub close-requires-clause-stands : goal.close-requires-clause-stands
+close-requires-clause-stands g c = (g.P.Play.effects.after (g.P.Play.start c.args.player.now) c.lines.invariant.0.2, c.lines.invariant.0.5)
+
+pub close-requires-in-Ok-None-clause-stands : goal.close-requires-in-Ok-None-clause-stands
+close-requires-in-Ok-None-clause-stands g c = (g.P.Play.effects.after (g.P.Play.start c.args.player.now) c.lines.invariant.0.2, c.lines.invariant.0.5)
+
+pub play-requires-clause-stands : goal.play-requires-clause-stands
+play-requires-clause-stands g c = (g.P.Play.effects.after (g.P.Play.start c.args.player.now) c.lines.invariant.0.2, c.lines.invariant.0.5)
