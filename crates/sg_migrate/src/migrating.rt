@@ -39,7 +39,7 @@ struct Migrating {
     moment: u64,
 }
 
-impl Play for Migrating {
+impl<K: Sink, N: Noise> Play<K, N> for Migrating {
     ghost use Rattle.std.specs.Prelude.{◌≡◌, ℕ, [], true, refl};
     ghost use Rattle.sg_lines.specs.declared.lines.Line.{Line};
     ghost use Rattle.sg_migrate.specs.Migrated.{effects, of_migration};
@@ -64,7 +64,7 @@ impl Play for Migrating {
 
     ghost is_prompt = { true };
 
-    fn play<K: Sink, N: Noise>(
+    fn play(
         &mut self,
         alloc: Global,
         line: LineOfVersionOne,
@@ -81,7 +81,7 @@ impl Play for Migrating {
         Ok(())
     }
 
-    fn settle<K: Sink>(&mut self, _alloc: Global, _sink: &mut K) -> Result<(), Status> {
+    fn settle(&mut self, _alloc: Global, _sink: &mut K) -> Result<(), Status> {
         Ok(())
     }
 

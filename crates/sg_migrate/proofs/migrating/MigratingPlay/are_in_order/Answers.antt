@@ -2,4 +2,4 @@ use Rattle.sg_migrate.proofs.Migrations.{in_order}
 use Rattle.sg_migrate.proofs.migrating.MigratingPlay.are_in_order.Goals as goal
 
 pub returns : goal.returns
-returns c = in_order
+returns g c = in_order
