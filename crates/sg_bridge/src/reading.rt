@@ -100,6 +100,7 @@ pub fn read_bridge_line(
 }
 
 impl ScriptLine for BridgeLine {
+    ghost use Rattle.std.specs.Prelude.{false};
     ghost use Rattle.sg_bridge.specs.BridgeLines.{FitsBridgeLine, bridge_line_of, bridge_version_after};
 
     ghost spelled = { bridge_line_of };
@@ -107,6 +108,8 @@ impl ScriptLine for BridgeLine {
     ghost fits = { FitsBridgeLine };
 
     ghost followed = { bridge_version_after };
+
+    ghost last = { λ _. false };
 
     fn read(
         alloc: Global,
@@ -123,6 +126,10 @@ impl ScriptLine for BridgeLine {
             BridgeLine::Join { .. } => version,
             BridgeLine::Part { .. } => version,
         }
+    }
+
+    fn is_last(&self) -> bool {
+        false
     }
 
     fn are_framed() {}

@@ -15,6 +15,7 @@ pub struct LineOfVersionOne {
 }
 
 impl ScriptLine for LineOfVersionOne {
+    ghost use Rattle.std.specs.Prelude.{false};
     ghost use Rattle.sg_lines.specs.LineText.{FitsLine};
     ghost use Rattle.sg_migrate.specs.Migrated.{old_line_of};
 
@@ -23,6 +24,8 @@ impl ScriptLine for LineOfVersionOne {
     ghost fits = { λ version number l. FitsLine version number l.line };
 
     ghost followed = { λ version l. 1 };
+
+    ghost last = { λ _. false };
 
     fn read(
         alloc: Global,
@@ -39,6 +42,10 @@ impl ScriptLine for LineOfVersionOne {
 
     fn version_after(&self, _version: u8) -> u8 {
         1
+    }
+
+    fn is_last(&self) -> bool {
+        false
     }
 
     fn are_framed() {}

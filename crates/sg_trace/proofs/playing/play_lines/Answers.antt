@@ -266,12 +266,3 @@ lines-init g c =
       search rules,
       omega (arith, ap length c.requires.waits),
     )
-
-pub close-requires-clause-stands : goal.close-requires-clause-stands
-close-requires-clause-stands g c = (g.P.Play.effects.after (g.P.Play.start c.args.player.now) c.lines.invariant.0.2, c.lines.invariant.0.5)
-
-pub close-requires-in-Ok-None-clause-stands : goal.close-requires-in-Ok-None-clause-stands
-close-requires-in-Ok-None-clause-stands g c = (g.P.Play.effects.after (g.P.Play.start c.args.player.now) c.lines.invariant.0.2, c.lines.invariant.0.5)
-
-pub play-requires-clause-stands : goal.play-requires-clause-stands
-play-requires-clause-stands g c = (g.P.Play.effects.after (g.P.Play.start c.args.player.now) c.lines.invariant.0.2, c.lines.invariant.0.5)
