@@ -20,4 +20,4 @@ returns-clause-few g c = λ few.
 pub returns-clause-given : goal.returns-clause-given
 returns-clause-given g c =
     let got = returns-clause-got g c in
-    omega (arith, got.3, c.in_ok-n.ensures.took.1.0)
+    omega (arith, got.3, c.in_ok-n.ensures.took.1)
