@@ -132,18 +132,17 @@ fn pair_in(
     policies: &[Policy],
     tgks: &[Tgk],
     session: u8,
-    first: &CsEntry,
-    second: &CsEntry,
+    two: (&CsEntry, &CsEntry),
 ) -> Result<(StreamKeys, StreamKeys), CsError>
     requires { session < 255 }
     ensures { Gives result (or_fault PolicyValue
-        (pair_in csb random.now policies.now tgks.now session first.now second.now)) }
+        (pair_in csb random.now policies.now tgks.now session two.entry.0.now two.entry.1.now)) }
 {
-    let initiator = match stream_in(alloc, csb, random, policies, tgks, session, first) {
+    let initiator = match stream_in(alloc, csb, random, policies, tgks, session, two.0) {
         Ok(stream) => stream,
         Err(error) => return Err(error),
     };
-    match stream_in(alloc, csb, random, policies, tgks, session + 1, second) {
+    match stream_in(alloc, csb, random, policies, tgks, session + 1, two.1) {
         Ok(responder) => Ok((initiator, responder)),
         Err(error) => Err(error),
     }
@@ -177,7 +176,7 @@ fn pairs_of(
     let mut rest = map;
     let mut session = 1;
     'media: while let Some((first, second, others)) = two_of(rest) {
-        match pair_in(alloc, csb, random, policies, tgks, session, first, second) {
+        match pair_in(alloc, csb, random, policies, tgks, session, (first, second)) {
             Ok(pair) => pairs.push(pair)?,
             Err(error) => return Err(error),
         }

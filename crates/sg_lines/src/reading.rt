@@ -177,22 +177,20 @@ fn answer(alloc: Global, name: &[u8], random: &[u8], hex: &[u8]) -> Result<Line,
 fn manual(
     alloc: Global,
     name: &[u8],
-    secure: &[u8],
-    plain: &[u8],
+    addresses: (&[u8], &[u8]),
     roc: &[u8],
     width: &[u8],
-    from_peer: &[u8],
-    to_peer: &[u8],
+    keys: (&[u8], &[u8]),
 ) -> Result<Line, ReadLineFault>
-    ensures { Gives result (manual_from name.now secure.now plain.now roc.now width.now from_peer.now to_peer.now) }
+    ensures { Gives result (manual_from name.now addresses.entry.0.now addresses.entry.1.now roc.now width.now keys.entry.0.now keys.entry.1.now) }
 {
     let call = call(name)?;
-    let secure = address(secure)?;
-    let plain = address(plain)?;
+    let secure = address(addresses.0)?;
+    let plain = address(addresses.1)?;
     let roc = rollover(alloc, roc)?;
     let window = window(width)?;
-    let from_peer = key(alloc, from_peer)?;
-    let to_peer = key(alloc, to_peer)?;
+    let from_peer = key(alloc, keys.0)?;
+    let to_peer = key(alloc, keys.1)?;
     if from_peer.suite().is_raw() != to_peer.suite().is_raw() {
         return Err(WORD);
     }
@@ -295,18 +293,16 @@ fn of_six(
 fn of_eight(
     alloc: Global,
     word: &[u8],
-    a: &[u8],
-    b: &[u8],
-    c: &[u8],
-    d: &[u8],
-    e: &[u8],
-    f: &[u8],
-    g: &[u8],
+    name: &[u8],
+    addresses: (&[u8], &[u8]),
+    roc: &[u8],
+    width: &[u8],
+    keys: (&[u8], &[u8]),
 ) -> Result<Line, ReadLineFault>
-    ensures { Gives result (eight_fields word.now a.now b.now c.now d.now e.now f.now g.now) }
+    ensures { Gives result (eight_fields word.now name.now addresses.entry.0.now addresses.entry.1.now roc.now width.now keys.entry.0.now keys.entry.1.now) }
 {
     if word == b"manual".as_slice() {
-        return manual(alloc, a, b, c, d, e, f, g);
+        return manual(alloc, name, addresses, roc, width, keys);
     }
     Err(WORD)
 }
@@ -326,7 +322,7 @@ fn of_more(
         [] => of_four(alloc, version, word, a, b, c),
         [d] => of_five(alloc, version, word, a, b, c, d),
         [d, e] => of_six(alloc, word, a, b, c, d, e),
-        [d, e, f, g] => of_eight(alloc, word, a, b, c, d, e, f, g),
+        [d, e, f, g] => of_eight(alloc, word, a, (b, c), d, e, (f, g)),
         _ => Err(WORD),
     }
 }

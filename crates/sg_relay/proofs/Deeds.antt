@@ -166,6 +166,10 @@ cut_off_longer o p a x cut = record {
   fails = cut.fails;
 }
 
+-- the last call failed
+pub cut_off_bad : (o : List Outcome) (a : List LinkCall) (x : List ℕ) → IsCutOff o a x → EndsBadly a
+cut_off_bad o a x cut = subst EndsBadly (sym cut.calls_are) (bad_after cut.before cut.last cut.good cut.fails.bad)
+
 part_good_after : (o p : List Outcome) (a b : List LinkCall) (x y : List ℕ) → IsDone o a x → AreGood a → IsPart p b y × AreGood b → IsPart (o ++ p) (a ++ b) (x ++ y) × AreGood (a ++ b)
 part_good_after o p a b x y first good (part, well) = (part_after o p a b x y first part, AreGood-append a b good well)
 

@@ -33,8 +33,8 @@ pub fn relay<S: Source, K: Sink, L: Link, C: Clock, N: Noise>(
         (record { left = S.left source.new; written = K.written sink.new; calls = L.told link.new; readings = C.given clock.new; draws = N.given noise.new })
         p
         × HoldsItsCallsPorts muxes p
-        × (¬ Rose (S.faults source.old) (S.faults source.new) → ¬ Rose (K.faults sink.old) (K.faults sink.new) → ¬ Rose (L.faults link.old) (L.faults link.new)
-        → ¬ Rose (C.faults clock.old) (C.faults clock.new) → ¬ Rose (N.faults noise.old) (N.faults noise.new) → IsCompleteRelay result turns (S.left source.old) (S.left source.new) p) }
+        × (¬ Rose (S.faults source.old) (S.faults source.new) → ¬ Rose (K.faults sink.old) (K.faults sink.new) → ¬ Rose (C.faults clock.old) (C.faults clock.new)
+        → ¬ Rose (N.faults noise.old) (N.faults noise.new) → IsCompleteRelay result turns (S.left source.old) (S.left source.new) (L.faults link.old) (L.faults link.new) p) }
     ensures given { (S.left source.new).count ≤ (S.left source.old).count + (2 ^ 30 + 1) }
     ensures count { (C.given clock.new).count ≤ (C.given clock.old).count + (turns + 1) }
     ensures read { HasFailed (result ≡ Status.Read) (S.faults source.old) (S.faults source.new) (S.failed source.new) }

@@ -99,7 +99,7 @@ not_relayed legs muxes turns old = record {
   passages_are = no_passages muxes;
   legs = λ before after is. legs before;
   ports = holds_none muxes (record { octets = []; out = []; calls = []; readings = []; draws = [] }) refl;
-  complete = λ none all rest left left' whole more. inr refl;
+  complete = λ only all rest left left' whole more link. inr refl;
 }
 
 not_shown : (calls start : ℕ) (old : Surroundings) → HasShown calls start NoMemory old old [] []

@@ -67,11 +67,10 @@ pub record HasReplayed (muxes : Bool) (status : Status) (old new : Surroundings)
   pub passages_are : passages ≡ passages_in muxes (replayed octets draws).events
   pub legs : LegsAreMuxedThroughout (replayed octets draws).events
 
--- nothing has failed, of which a send that fails is none
-pub record NoneFailed (old new : Failures) : Type 0 where
+-- nothing but the link has failed
+pub record OnlyLinkFailed (old new : Failures) : Type 0 where
   pub source : ¬ Rose old.source new.source
   pub sink : ¬ Rose old.sink new.sink
-  pub link : ¬ Rose old.link new.link
   pub clock : ¬ Rose old.clock new.clock
   pub noise : ¬ Rose old.noise new.noise
 
@@ -85,7 +84,8 @@ pub record HasRelayed (muxes : Bool) (turns : ℕ) (status : Status) (old new : 
   pub passages_are : passages ≡ passages_in muxes (trace_of passed).events
   pub legs : LegsAreMuxedThroughout (trace_of passed).events
   pub ports : HoldsItsCallsPorts muxes passed
-  pub complete : NoneFailed old.failures new.failures → IsCompleteRelay status turns old.left new.left passed
+  pub complete : OnlyLinkFailed old.failures new.failures
+      → IsCompleteRelay status turns old.left new.left old.failures.link new.failures.link passed
 
 -- with Done these are all of the demonstration's events, and else the first of them
 abbrev pub AreTaken : Status → List Event → List Event → Type 0

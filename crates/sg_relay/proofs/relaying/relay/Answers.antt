@@ -16,17 +16,17 @@ use Rattle.sg_relay.proofs.relaying.relay.Goals as goal
 
 -- before anything is done
 pub returns-in-Err-clause-ran : goal.returns-in-Err-clause-ran
-returns-in-Err-clause-ran g c = at_once c.ports_are_of_calls.ensures c.args.muxes _ c.args.turns _ _ _ _ _
+returns-in-Err-clause-ran g c = at_once c.ports_are_of_calls.ensures c.args.muxes _ c.args.turns _ _ _ _ _ _
 
 pub returns-in-Err-make-clause-ran : goal.returns-in-Err-make-clause-ran
-returns-in-Err-make-clause-ran g c = at_once c.ports_are_of_calls.ensures c.args.muxes _ c.args.turns _ _ _ _ _
+returns-in-Err-make-clause-ran g c = at_once c.ports_are_of_calls.ensures c.args.muxes _ c.args.turns _ _ _ _ _ _
 
 pub returns-in-Err-begin-clause-ran : goal.returns-in-Err-begin-clause-ran
 returns-in-Err-begin-clause-ran g c =
     let s = c.in-Err-begin.status in
     let begun = c.in-Err-begin.ensures.begun (start c.args.muxes) c.in-Ok.ensures in
     let ends = begun_ends c.args.muxes c.args.turns (g.S.Source.left c.args.source.now) (FrontStandsFor c.begin.new.front) begun.0 begun.1 begun.2 s c.in-Err-begin.ensures.only begun.6 in
-    with_complete c.ports_are_of_calls.ensures c.args.muxes s c.args.turns _ _ (only_begun begun.0 begun.1 begun.2) _ _ _ _ _
+    with_complete c.ports_are_of_calls.ensures c.args.muxes s c.args.turns _ _ _ _ (only_begun begun.0 begun.1 begun.2) _ _ _ _
     (record {
       took = took_none _;
       wrote = begun.5;
@@ -67,7 +67,7 @@ returns-in-Err-next-clause-ran g c =
     let s = c.in-Err-next.status in
     let so_far = c.lines.invariant.0 in
     let got = c.in-Err-next.ensures.next in
-    with_complete c.ports_are_of_calls.ensures c.args.muxes s c.args.turns _ _ (passed _ _ _ _ _ so_far.0 c.lines.script so_far.1 _ _ so_far.2 _ got.0 got.1) _ _ _ _ _
+    with_complete c.ports_are_of_calls.ensures c.args.muxes s c.args.turns _ _ _ _ (passed _ _ _ _ _ so_far.0 c.lines.script so_far.1 _ _ so_far.2 _ got.0 got.1) _ _ _ _
     (at_error _ _ _ _ _ so_far.0 c.lines.script so_far.1 _ _ so_far.2 (g.S.Source.left c.next.new.source) got.0 got.1 s c.next.new.self got.3 got.2)
     (failed_now _ _ _ _ _ c.lines.invariant.3 (due_so Read (Err s) _ _ _ c.in-Err-next.ensures.cause)).rose
     (λ is. absurd (next_at Write s _ _ _ _ is got.2)) (λ is. absurd (next_at Clock s _ _ _ _ is got.2)) (λ is. absurd (next_at Noise s _ _ _ _ is got.2)) (λ is. absurd (next_at Link s _ _ _ _ is got.2))
@@ -78,7 +78,7 @@ returns-in-Ok-None-clause-ran g c =
     let got = c.in-Ok-None.ensures.next in
     let ended : (c.lines.script.waits ++ got.0 ≡ []) × (AtEnd (g.S.Source.left c.next.new.source) ⊎ (2 ^ 30 < c.lines.script.offset)) =
     subst (λ f. IsNext (Ok f) c.lines.script c.next.new.self got.0 (g.S.Source.left c.next.new.source)) c.in-Ok-None.field-0-is got.2 in
-    with_complete c.ports_are_of_calls.ensures c.args.muxes Done c.args.turns _ _ (passed _ _ _ _ _ so_far.0 c.lines.script so_far.1 _ _ so_far.2 _ got.0 got.1) _ _ _ _ _
+    with_complete c.ports_are_of_calls.ensures c.args.muxes Done c.args.turns _ _ _ _ (passed _ _ _ _ _ so_far.0 c.lines.script so_far.1 _ _ so_far.2 _ got.0 got.1) _ _ _ _
     (at_end _ _ _ _ _ so_far.0 c.lines.script so_far.1 _ _ so_far.2 (g.S.Source.left c.next.new.source) got.0 got.1 c.next.new.self.budget got.3 ended.0 ended.1)
     (λ is. absurd cc) (λ is. absurd cc) (λ is. absurd cc) (λ is. absurd cc) (λ is. absurd cc)
 
@@ -90,8 +90,8 @@ returns-in-Err-say-clause-ran g c =
     let is : IsRead c.in-Ok-Some.line c.lines.script c.next.new.self got.0 =
     subst (λ f. IsNext (Ok f) c.lines.script c.next.new.self got.0 (g.S.Source.left c.next.new.source)) c.in-Ok-Some.field-0-is got.2 in
     let said = c.in-Err-say.ensures.said (state_after (start c.args.muxes) so_far.1) so_far.3 in
-    with_complete c.ports_are_of_calls.ensures c.args.muxes s c.args.turns _ _
-    (with_line _ _ _ _ _ so_far.0 c.lines.script so_far.1 _ _ so_far.2 (g.S.Source.left c.next.new.source) got.0 got.1 c.in-Ok-Some.line c.next.new.self got.3 is said.0 said.1 said.2 said.3) _ _ _ _ _
+    with_complete c.ports_are_of_calls.ensures c.args.muxes s c.args.turns _ _ _ _
+    (with_line _ _ _ _ _ so_far.0 c.lines.script so_far.1 _ _ so_far.2 (g.S.Source.left c.next.new.source) got.0 got.1 c.in-Ok-Some.line c.next.new.self got.3 is said.0 said.1 said.2 said.3) _ _ _ _
     (ended_in _ _ _ _ _ so_far.0 c.lines.script so_far.1 _ _ so_far.2 (g.S.Source.left c.next.new.source) got.0 got.1 c.in-Ok-Some.line c.next.new.self got.3 is said.0 said.1 said.2 said.3
     s _ refl said.7 said.5 said.4 said.6
     (cut _ _ _ _ _ so_far.0 c.lines.script so_far.1 _ _ so_far.2 (g.S.Source.left c.next.new.source) got.0 got.1 c.in-Ok-Some.line c.next.new.self got.3 is said.0 said.1 said.2 said.3
