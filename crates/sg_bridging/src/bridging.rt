@@ -1,15 +1,14 @@
-//! The command `bridge`: the lines of a script, in order.
+//! The command `bridge`.
 
 ghost use Rattle.std.specs.Prelude.{◌≡◌, ◌≤◌, ◌+◌, ◌^◌, ℕ, List};
 ghost use Rattle.sg_bridging.specs.Bridge.{IsBridge, IsCompleteBridge};
-ghost use Rattle.sg_bridging.specs.Steps.{StandsFor, start};
 ghost use Rattle.sg_edge.specs.Told.{Rose};
 ghost use Rattle.sg_trace.specs.Causes.{HasFailed};
 
 use crate::switchboard::Switchboard;
 use sg_base::NoMemory;
 use sg_edge::{Noise, Sink, Source};
-use sg_trace::{ScriptReader, Status, pass_on, passed_on};
+use sg_trace::{Status, run_script};
 use std::alloc::Global;
 
 /// Plays the script of the source: its lines in order, from an empty table, and what they tell is written to the
@@ -36,46 +35,6 @@ pub fn bridge<S: Source, K: Sink, N: Noise>(
 {
     match Switchboard::make(alloc) {
         Err(NoMemory) => Status::NoMemory,
-        Ok(mut switchboard) => {
-            let end = play_script(alloc, &mut switchboard, source, sink, noise);
-            passed_on(end, sink)
-        }
-    }
-}
-
-/// The same by a switchboard whose table is empty.
-fn play_script<S: Source, K: Sink, N: Noise>(
-    alloc: Global,
-    switchboard: &mut Switchboard,
-    source: &mut S,
-    sink: &mut K,
-    noise: &mut N,
-) -> Status
-    requires { StandsFor switchboard.old start }
-    ensures ran { (octets draws out : List ℕ)
-        × IsBridge result
-        (record { left = S.left source.old; written = K.written sink.old; drawn = N.given noise.old })
-        (record { left = S.left source.new; written = K.written sink.new; drawn = N.given noise.new })
-        octets draws out }
-    ensures given { (S.left source.new).count ≤ (S.left source.old).count + (2 ^ 30 + 1) }
-    ensures read { HasFailed (result ≡ Status.Read) (S.faults source.old) (S.faults source.new) (S.failed source.new) }
-    ensures write { HasFailed (result ≡ Status.Write) (K.faults sink.old) (K.faults sink.new) (K.failed sink.new) }
-    ensures noise { HasFailed (result ≡ Status.Noise) (N.faults noise.old) (N.faults noise.new) (N.failed noise.new) }
-{
-    let mut script = ScriptReader::new(alloc);
-    'lines: loop {
-        match pass_on(script.holds_line(), sink) {
-            Err(status) => return status,
-            Ok(()) => {}
-        }
-        let line = match script.next(alloc, source) {
-            Err(status) => return status,
-            Ok(None) => return Status::Done,
-            Ok(Some(line)) => line,
-        };
-        match switchboard.play(alloc, line, sink, noise) {
-            Err(status) => return status,
-            Ok(()) => {}
-        }
+        Ok(mut switchboard) => run_script(alloc, &mut switchboard, source, sink, noise),
     }
 }

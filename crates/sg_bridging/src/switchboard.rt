@@ -1,7 +1,6 @@
 //! What plays the lines of a bridge's script.
 
 ghost use Rattle.std.specs.Prelude.{◌≡◌, ◌≤◌, ◌∷◌, [], ℕ, List, IfErr, IfOk, false, length};
-ghost use Rattle.sg_bridge.specs.BridgeLines.{FitsBridgeLine};
 ghost use Rattle.sg_bridge.specs.Bridged.{Joins, Parts, bridging, handed_on, happened, passed};
 ghost use Rattle.sg_bridge.specs.declared.lines.BridgeLine.TheVariants as lines;
 ghost use Rattle.sg_bridging.specs.Steps.{IsBridged, IsPlayed, StandsFor, State, start};
@@ -30,7 +29,7 @@ use sg_bridge::{Bridge, BridgeLine, BridgeOutcome};
 use sg_edge::{Noise, Sink};
 use sg_lines::{Line, Signal};
 use sg_table::{End, Handled, Outcomes, Table};
-use sg_trace::{Status, supply};
+use sg_trace::{Play, Status, supply};
 use std::alloc::Global;
 use std::marker::Model;
 
@@ -53,6 +52,56 @@ impl Model for Switchboard {
     ghost view = { λ s. record { table = s.table; calls = s.bridge } };
 }
 
+impl<K: Sink, N: Noise> Play<K, N> for Switchboard {
+    ghost use Rattle.std.specs.Prelude.{[], true, refl};
+    ghost use Rattle.sg_bridge.specs.Bridged.{Said};
+    ghost use Rattle.sg_bridging.specs.Bridge.{gives};
+    ghost use Rattle.sg_bridging.specs.Steps.{StandsFor, State, effects, start};
+
+    type Line = BridgeLine;
+
+    ghost Deed = { Said };
+
+    ghost State = { State };
+
+    ghost gives = { gives };
+
+    ghost effects = { effects };
+
+    ghost start = { λ _. start };
+
+    ghost stands = { StandsFor };
+
+    ghost waits = { λ _. [] };
+
+    ghost batch = { 2 };
+
+    ghost is_prompt = { true };
+
+    /// The noise that a signal lacks is drawn.
+    fn play(
+        &mut self,
+        alloc: Global,
+        line: BridgeLine,
+        sink: &mut K,
+        noise: &mut N,
+    ) -> Result<(), Status> {
+        match line {
+            BridgeLine::Script(line) => self.play_line(alloc, line, sink, noise),
+            BridgeLine::Join { first, second } => self.join(alloc, first, second, sink),
+            BridgeLine::Part { call } => self.part(alloc, call, sink),
+        }
+    }
+
+    fn settle(&mut self, _alloc: Global, _sink: &mut K) -> Result<(), Status> {
+        Ok(())
+    }
+
+    fn are_in_order() {}
+
+    ghost at_once = { λ _ _. refl };
+}
+
 impl Switchboard {
     /// An empty table, and no call is joined.
     pub(crate) fn make(alloc: Global) -> Result<Switchboard, NoMemory>
@@ -64,28 +113,6 @@ impl Switchboard {
             spare: None,
             told: Outcomes::new(),
         })
-    }
-
-    /// Handles a line, and writes what it tells; the noise that a signal lacks is drawn.
-    pub(crate) fn play<K: Sink, N: Noise>(
-        &mut self,
-        alloc: Global,
-        line: BridgeLine,
-        sink: &mut K,
-        noise: &mut N,
-    ) -> Result<(), Status>
-        requires { (version number : ℕ) × FitsBridgeLine version number line }
-        ensures played { (s : State) → StandsFor self.old s → (draws out : List ℕ)
-            × Added (N.given noise.old) (N.given noise.new) draws × Wrote (K.written sink.old) (K.written sink.new) out
-            × IsPlayed result line s self.new draws out }
-        ensures write { IsCaused Status.Write result (K.faults sink.old) (K.faults sink.new) (K.failed sink.new) }
-        ensures noise { IsCaused Status.Noise result (N.faults noise.old) (N.faults noise.new) (N.failed noise.new) }
-    {
-        match line {
-            BridgeLine::Script(line) => self.play_line(alloc, line, sink, noise),
-            BridgeLine::Join { first, second } => self.join(alloc, first, second, sink),
-            BridgeLine::Part { call } => self.part(alloc, call, sink),
-        }
     }
 
     /// Handles a line that every script may have.

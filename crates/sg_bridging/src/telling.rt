@@ -12,7 +12,7 @@ ghost use Rattle.sg_outcome.specs.declared.outcomes.Outcome.TheVariants.{Dropped
 ghost use Rattle.sg_trace.specs.Causes.{IsCaused};
 ghost use Rattle.sg_trace.specs.Output.{IsWritten};
 
-use sg_base::{Address, DropCause, NoMemory};
+use sg_base::{Address, DropCause, Failed, NoMemory};
 use sg_bridge::{Bridge, BridgeOutcome, print_bridge};
 use sg_edge::{Sink, write_all};
 use sg_outcome::{Outcome, push_out};
@@ -45,8 +45,12 @@ pub(crate) fn tell_out<K: Sink>(
 {
     let mut line = Vec::new(alloc);
     match push_out(&mut line, port, to, octets) {
-        Err(NoMemory) => Err(Status::NoMemory),
-        Ok(()) => write_all(sink, line.as_slice()).map_err(|_| Status::Write),
+        Err(NoMemory) => return Err(Status::NoMemory),
+        Ok(()) => {}
+    }
+    match write_all(sink, line.as_slice()) {
+        Err(Failed) => Err(Status::Write),
+        Ok(()) => Ok(()),
     }
 }
 

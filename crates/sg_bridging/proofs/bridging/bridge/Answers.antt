@@ -1,7 +1,5 @@
-use Rattle.std.proofs.Common.{[]}
-use Rattle.sg_bridging.proofs.Completes.{complete, untouched}
-use Rattle.sg_bridging.specs.Bridge.{bridge_text, of_bridge}
-use Rattle.sg_trace.proofs.PassedOn.{before_kept, noise_passed, passed_so, prompt_passed, read_passed, write_passed}
+use Rattle.std.proofs.Common.{[], refl}
+use Rattle.sg_bridging.proofs.Completes.{untouched}
 use Rattle.sg_bridging.proofs.bridging.bridge.Goals as goal
 
 pub returns-in-Err-clause-ran : goal.returns-in-Err-clause-ran
@@ -9,31 +7,15 @@ returns-in-Err-clause-ran g c = ([], [], [], untouched _)
 
 pub returns-in-Ok-clause-ran : goal.returns-in-Ok-clause-ran
 returns-in-Ok-clause-ran g c =
-    let ran = c.play_script-end.ensures.ran in
-    let status = passed_so c.play_script-end.result c.passed_on.result g.K.Sink.faults g.K.Sink.failed _ _ c.passed_on.ensures.passed in (
+    let ran = c.run_script.ensures.ran in (
       ran.0,
       ran.1,
       ran.2,
-      record {
-        took = ran.3.took;
-        drew = ran.3.drew;
-        wrote = before_kept _ _ _ ran.2 c.passed_on.ensures.kept ran.3.wrote;
-        ends = prompt_passed of_bridge bridge_text 2 ran.0 ran.1 ran.2 c.play_script-end.result c.passed_on.result _ status ran.3.ends;
-        bound = ran.3.bound;
-      },
+      record { took = ran.3.took; drew = ran.3.drew; wrote = ran.3.wrote; ends = (ran.3.ends, ran.3.at_once refl); bound = ran.3.bound },
     )
 
 pub returns-in-Ok-clause-read : goal.returns-in-Ok-clause-read
-returns-in-Ok-clause-read g c = read_passed c.play_script-end.result c.passed_on.result g.K.Sink.faults g.K.Sink.failed _ _ c.passed_on.ensures.passed _ _ _ c.play_script-end.ensures.read
-
-pub returns-in-Ok-clause-write : goal.returns-in-Ok-clause-write
-returns-in-Ok-clause-write g c = write_passed c.play_script-end.result c.passed_on.result g.K.Sink.faults g.K.Sink.failed _ _ c.passed_on.ensures.passed _ c.play_script-end.ensures.write
-
-pub returns-in-Ok-clause-noise : goal.returns-in-Ok-clause-noise
-returns-in-Ok-clause-noise g c = noise_passed c.play_script-end.result c.passed_on.result g.K.Sink.faults g.K.Sink.failed _ _ c.passed_on.ensures.passed _ _ _ c.play_script-end.ensures.noise
+returns-in-Ok-clause-read g c = c.run_script.ensures.prompt refl
 
 pub returns-in-Ok-clause-complete : goal.returns-in-Ok-clause-complete
-returns-in-Ok-clause-complete g c = λ source sink noise.
-    let ran = (returns-in-Ok-clause-ran g c) in
-    complete c.passed_on.result _ _ ran.0 ran.1 ran.2 ran.3
-    (λ is. source ((returns-in-Ok-clause-read g c).rose is)) (λ is. sink ((returns-in-Ok-clause-write g c).rose is)) (λ is. noise ((returns-in-Ok-clause-noise g c).rose is))
+returns-in-Ok-clause-complete g c = c.run_script.ensures.complete

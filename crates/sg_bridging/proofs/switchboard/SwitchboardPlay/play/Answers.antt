@@ -4,7 +4,7 @@ use Rattle.sg_bridge.specs.declared.lines.BridgeLine.TheVariants as lines
 use Rattle.sg_bridging.proofs.Steps.{played_by, stepped_one}
 use Rattle.sg_bridging.specs.Steps.{IsPlayed}
 use Rattle.sg_edge.proofs.Links.{added_none}
-use Rattle.sg_bridging.proofs.switchboard.Switchboard.play.Goals as goal
+use Rattle.sg_bridging.proofs.switchboard.SwitchboardPlay.play.Goals as goal
 
 pub returns-in-Script-clause-played : goal.returns-in-Script-clause-played
 returns-in-Script-clause-played g c = λ s stands.
