@@ -15,13 +15,15 @@ pub enum CaptureLine {
 }
 
 impl ScriptLine for CaptureLine {
-    ghost use Rattle.sg_capture.specs.CaptureLines.{FitsCaptureLine, capture_line_of, capture_version_after};
+    ghost use Rattle.sg_capture.specs.CaptureLines.{FitsCaptureLine, capture_line_of, capture_version_after, of_capture};
 
     ghost spelled = { capture_line_of };
 
     ghost fits = { FitsCaptureLine };
 
     ghost followed = { capture_version_after };
+
+    ghost last = { of_capture.is_last };
 
     fn read(
         alloc: Global,
@@ -40,6 +42,13 @@ impl ScriptLine for CaptureLine {
         match self {
             CaptureLine::Script(line) => line.version_after(version),
             CaptureLine::Capture => version,
+        }
+    }
+
+    fn is_last(&self) -> bool {
+        match self {
+            CaptureLine::Script(_) => false,
+            CaptureLine::Capture => true,
         }
     }
 

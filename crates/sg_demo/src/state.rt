@@ -7,7 +7,7 @@ ghost use Rattle.sg_table.specs.Standing.{TableStandsFor};
 ghost use Rattle.sg_table.specs.Values.{TableValue};
 ghost use Rattle.sg_demo.specs.Demonstration as model;
 ghost use Rattle.sg_demo.specs.Demonstration.{calls_made, with_call, with_round, HasTakenPrefix};
-ghost use Rattle.sg_demo.specs.Standing.{CallerStandsFor, IsWithin};
+ghost use Rattle.sg_demo.specs.Standing.{IsWithin};
 ghost use Rattle.sg_demo.specs.Going.{DemoStandsFor};
 
 use crate::caller::Caller;
@@ -16,7 +16,7 @@ use crate::round::{PLAIN, SECURE, take_turns};
 use crate::summary::Summary;
 use crate::words::{draw_key, start};
 use rand_pcg::Pcg32;
-use sg_base::{BATCH_MOST, CallId, MasterKey, NoMemory};
+use sg_base::{BATCH_MOST, CallId, NoMemory};
 use sg_lanes::Gate;
 use sg_lines::Signal;
 use sg_outcome::Outcome;
@@ -79,7 +79,8 @@ impl Demo {
         match slot_told(&told) {
             None => Ok(()),
             Some(slot) => {
-                seat(&mut self.callers, number, slot, &from_peer, &to_peer)?;
+                self.callers
+                    .push(Caller::make(number, slot, &from_peer, &to_peer))?;
                 self.summary.calls += 1;
                 Ok(())
             }
@@ -114,23 +115,6 @@ impl Demo {
             &mut self.summary,
         )
     }
-}
-
-/// A call that was made in this slot takes part behind the others. Its peers, some 60 KB, are in this frame alone.
-#[inline(never)]
-fn seat(
-    callers: &mut Vec<Caller>,
-    number: u32,
-    slot: u8,
-    from_peer: &MasterKey,
-    to_peer: &MasterKey,
-) -> Result<(), NoMemory>
-    ensures seated { OnOk result ((caller : Caller) × CallerStandsFor caller (new_caller number slot from_peer.now to_peer.now)
-        × (callers.new.items ≡ callers.old.items ++ caller ∷ [])) }
-{
-    let caller = Caller::make(number, slot, from_peer, to_peer);
-    callers.push(caller)?;
-    Ok(())
 }
 
 /// The slot of the call that is told of first, where it was made.
