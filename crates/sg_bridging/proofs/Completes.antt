@@ -1,5 +1,5 @@
 -- A bridge for which there is no memory.
-use Rattle.std.proofs.Common.{ℕ, [], refl, arith}
+use Rattle.std.proofs.Common.{[], refl, arith}
 use Rattle.sg_bridging.specs.Bridge.{IsBridge, bridge_text, of_bridge}
 use Rattle.sg_edge.proofs.Links.{added_none}
 use Rattle.sg_edge.proofs.Passed.{took_none, wrote_none}

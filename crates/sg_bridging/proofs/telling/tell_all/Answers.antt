@@ -1,4 +1,4 @@
-use Rattle.std.proofs.Common.{◌≡◌, ◌++◌, ◌∙◌, take, subst, ap, sym, Err}
+use Rattle.std.proofs.Common.{◌≡◌, ◌∙◌, take, subst, ap, sym, Err}
 use Rattle.std.proofs.lemmas.List.{take_all}
 use Rattle.sg_bridge.specs.Bridged.{told_and_parted}
 use Rattle.sg_bridge.specs.Pairs.{Members, after_outcome}

@@ -1,4 +1,4 @@
-use Rattle.std.proofs.Common.{◌≡◌, ◌∷◌, [], None, Some, sym, subst, ap, ◌∙◌}
+use Rattle.std.proofs.Common.{◌≡◌, ◌∷◌, [], None, sym, subst, ap, ◌∙◌}
 use Rattle.sg_bridging.proofs.Steps.{lost_on, sealed_on, unready_lost}
 use Rattle.sg_bridging.specs.Steps.{SwitchboardValue}
 use Rattle.sg_gateway.specs.Octets.{as_octets}

@@ -1,4 +1,4 @@
-use Rattle.std.proofs.Common.{sym, subst, ◌∙◌}
+use Rattle.std.proofs.Common.{sym, subst}
 use Rattle.sg_bridging.proofs.Steps.{joined_told, unjoined_told}
 use Rattle.sg_bridging.specs.Steps.{StandsFor, SwitchboardValue}
 use Rattle.sg_bridge.specs.BridgeText.{bridge_outcome_line}
