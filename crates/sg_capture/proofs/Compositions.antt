@@ -1,24 +1,29 @@
 -- A script, and the capture behind it, make one run; and a run without a fault comes to its end.
 use Rattle.std.specs.Prelude.{IfSome}
-use Rattle.std.proofs.Common.{◌≡◌, ◌⊎◌, ◌-◌, ◌≤◌, ◌^◌, ℕ, List, [], ◌++◌, length, map, drop, Option, Some, None, refl, sym, ap, ◌∙◌, subst, inl, inr, append_assoc, length-append, arith}
+use Rattle.std.proofs.Common.{◌≡◌, ◌⊎◌, ◌-◌, ◌≤◌, ◌^◌, ℕ, false, List, [], ◌++◌, length, map, drop, Option, Some, None, refl, sym, ap, ◌∙◌, subst, inl, inr, append_assoc, length-append, arith}
 use Rattle.std.proofs.Math.Seq.{drop-append_seam}
 use Rattle.std.proofs.lemmas.List.{append-nil}
 use Rattle.sg_base.specs.declared.faults.ScriptFault.{ScriptFault}
 use Rattle.sg_base.specs.declared.faults.ScriptFault.TheVariants.{Word, Number, Hex, Length, Version, Unended}
 use Rattle.sg_capture.proofs.Captureds.{captured_at}
 use Rattle.sg_capture.proofs.Outputs.{happens_events, happens_output, output_of-append}
-use Rattle.sg_capture.specs.Capturing.{CaptureEnds, IsAllTold, IsBehindScript, IsCapture, IsCompleteCapture, IsCutCapture, IsWholeCapture}
+use Rattle.sg_capture.specs.Capturing.{CaptureEnds, IsAllTold, IsCapture, IsCompleteCapture, IsCutCapture, IsWholeCapture}
+use Rattle.sg_capture.proofs.Scripts.{output_so, script_so}
+use Rattle.sg_capture.specs.CaptureLines.{of_capture}
 use Rattle.sg_capture.specs.Meeting.{EndsReading, IsCutReading, all_behind}
 use Rattle.sg_edge.proofs.Links.{added_none}
 use Rattle.sg_edge.proofs.Passed.{took_more, took_none, wrote_more, wrote_none}
 use Rattle.sg_edge.specs.Told.{AtEnd, Tally, TookIn, Wrote}
+use Rattle.sg_front.specs.States.{State, start}
 use Rattle.sg_gateway.specs.Runs.{world_after}
 use Rattle.sg_gateway.specs.Step.{Event}
 use Rattle.sg_gateway.specs.World.{World, empty}
 use Rattle.sg_pcap.specs.Capture.{Capture, capture_of}
 use Rattle.sg_pcap.specs.declared.faults.CaptureFault.{CaptureFault}
 use Rattle.sg_pcap.specs.declared.faults.CaptureFault.TheVariants as capture_faults
+use Rattle.sg_playback.proofs.Replays.{as_trace}
 use Rattle.sg_playback.specs.Replay.{ReplayTellings}
+use Rattle.sg_playback.specs.Scripts.{IsBehindLast}
 use Rattle.sg_trace.specs.Captured.{CaptureStop, CaptureTrace, Happens, Occurrence, InCapture, InScript, capture_occurs, captured, output_of, then_capture}
 use Rattle.sg_trace.specs.Output.{output}
 use Rattle.sg_trace.specs.Reading.{Reading}
@@ -26,7 +31,7 @@ use Rattle.sg_trace.specs.Trace.{AtCapture, AtFault, Trace, drawing, stopped, wi
 use Rattle.sg_trace.specs.declared.status.Status.{Status}
 use Rattle.sg_trace.specs.declared.status.Status.TheVariants as statuses
 
-module _ (old mid new : ReplayTellings) (script : Reading) (stands_for : World → Type 0) (octets draws out : List ℕ) (so_far : IsBehindScript old mid script stands_for octets draws out)
+module _ (old mid new : ReplayTellings) (script : Reading) (stands_for : State → Type 0) (octets draws out : List ℕ) (so_far : IsBehindLast of_capture (start false) old mid script stands_for octets draws out)
     (got out' : List ℕ) (took : TookIn mid.left new.left got) (wrote : Wrote mid.written new.written out') (drawn : new.drawn ≡ mid.drawn) (few : length got ≤ script.budget)
     (last : ℕ) (moment : last ≡ (world_after empty so_far.events).moment) where
   abbrev most : ℕ
@@ -35,10 +40,13 @@ module _ (old mid new : ReplayTellings) (script : Reading) (stands_for : World �
   abbrev script_trace : Trace
   script_trace = with_events so_far.events (stopped (AtCapture script.offset) (drawing []))
 
+  told_before : out ≡ output so_far.events
+  told_before = so_far.told ∙ output_so so_far.events
+
   -- what these octets behind the lines give
   captured_is : (rest : List ℕ) → captured (so_far.lines ++ rest) draws ≡ then_capture script_trace (capture_of most rest)
   captured_is rest =
-      captured_at (so_far.lines ++ rest) draws script_trace (so_far.goes rest)
+      captured_at (so_far.lines ++ rest) draws script_trace (script_so (so_far.lines ++ rest) draws ∙ ap as_trace (so_far.goes rest))
       ∙ ap (λ (l : List ℕ). then_capture script_trace (capture_of most l)) (ap (λ (n : ℕ). drop n (so_far.lines ++ rest)) (sym so_far.size) ∙ drop-append_seam so_far.lines rest)
 
   told_so : (rest : List ℕ) → output_of empty (captured (so_far.lines ++ rest) draws).occurrences ≡ output so_far.events ++ output_of (world_after empty so_far.events) (all_behind [] last (capture_of most rest))
@@ -60,13 +68,13 @@ module _ (old mid new : ReplayTellings) (script : Reading) (stands_for : World �
       (record {
         stops = ap (λ (t : CaptureTrace). t.stop) (captured_is (script.waits ++ got)) ∙ ap InCapture is;
         left = ap (λ (t : CaptureTrace). t.left) (captured_is (script.waits ++ got));
-        told = (λ i. so_far.told i ++ told i) ∙ sym (told_so (script.waits ++ got));
+        told = (λ i. told_before i ++ told i) ∙ sym (told_so (script.waits ++ got));
       })
 
   front_so : (os : List Occurrence) → output_of empty (map Happens so_far.events ++ os) ≡ out ++ output_of (world_after empty so_far.events) os
   front_so os =
       output_of-append empty (map Happens so_far.events) os
-      ∙ (λ i. (happens_output empty so_far.events ∙ sym so_far.told) i ++ output_of (world_after empty (happens_events so_far.events i)) os)
+      ∙ (λ i. (happens_output empty so_far.events ∙ sym told_before) i ++ output_of (world_after empty (happens_events so_far.events i)) os)
 
   cut_so : IsCutReading (world_after empty so_far.events) [] last (capture_of most) (script.waits ++ got) out' → IsCutCapture (octets ++ got) draws (out ++ out')
   cut_so cut =
@@ -78,7 +86,7 @@ module _ (old mid new : ReplayTellings) (script : Reading) (stands_for : World �
         near = cut.near;
         told = events ++ cut.told;
         late = cut.late;
-        alike = told_so cut.played ∙ (λ i. sym so_far.told i ++ output_of (world_after empty so_far.events) (cut.all i)) ∙ sym all;
+        alike = told_so cut.played ∙ (λ i. sym told_before i ++ output_of (world_after empty so_far.events) (cut.all i)) ∙ sym all;
         few = cut.few;
         begun = (
           cut.begun.0,
@@ -100,7 +108,7 @@ module _ (old mid new : ReplayTellings) (script : Reading) (stands_for : World �
       subst (λ (o : List ℕ). IsAllTold o draws (out ++ out')) (sym all_octets)
       (record {
         left = ap (λ (t : CaptureTrace). t.left) (captured_is (script.waits ++ got));
-        told = (λ i. so_far.told i ++ ends i) ∙ sym (told_so (script.waits ++ got));
+        told = (λ i. told_before i ++ ends i) ∙ sym (told_so (script.waits ++ got));
       })
   ends_so statuses.Write ends = cut_so ends
   ends_so statuses.NoMemory ends = cut_so ends

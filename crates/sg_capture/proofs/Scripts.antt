@@ -1,39 +1,31 @@
 -- The script of a run is the course of its lines, and how it ends is how the loop does.
-use Rattle.std.proofs.Common.{◌≡◌, ◌⊎◌, ◌+◌, ◌≤◌, ◌^◌, ℕ, Bool, true, false, cond, List, [], ◌∷◌, ◌++◌, length, map, Option, Result, Ok, Err, IfErr, refl, sym, ap, ◌∙◌, subst, inl, inr, append_assoc, length-append, arith}
-use Rattle.std.specs.Prelude.{IsErrOf}
+use Rattle.std.proofs.Common.{◌≡◌, ◌+◌, ℕ, Bool, true, false, cond, List, [], ◌∷◌, ◌++◌, length, map, Result, Ok, Err, refl, sym, ap, ◌∙◌, subst, inl, inr, arith}
 use Rattle.std.proofs.lemmas.List.{append-nil, length-map}
 use Rattle.sg_base.specs.declared.faults.ScriptFault.{ScriptFault}
 use Rattle.sg_capture.proofs.CaptureLines.{line_is, unended_stops}
 use Rattle.sg_capture.proofs.Captureds.{captured_at}
 use Rattle.sg_capture.proofs.Outputs.{happens-append, happens_text}
-use Rattle.sg_capture.specs.CaptureLines.{capture_line_of, capture_version_after, of_capture, of_script}
-use Rattle.sg_capture.specs.Capturing.{CaptureEnds, IsAllTold, IsCutCapture, IsScriptPlayed, IsWholeCapture}
+use Rattle.sg_capture.specs.CaptureLines.{of_capture, of_script}
+use Rattle.sg_capture.specs.Capturing.{CaptureEnds, IsAllTold, IsCapture, IsCutCapture, IsWholeCapture}
 use Rattle.sg_capture.specs.declared.lines.CaptureLine.{CaptureLine}
 use Rattle.sg_capture.specs.declared.lines.CaptureLine.TheVariants as lines
-use Rattle.sg_edge.proofs.Passed.{wrote_more}
-use Rattle.sg_edge.specs.Told.{Tally, TookIn, Wrote}
-use Rattle.sg_front.proofs.Runs.{unshared_after, unshared_told}
-use Rattle.sg_front.proofs.Sequences.{state_after-append}
-use Rattle.sg_front.specs.States.{State, start, state_after, unshared}
+use Rattle.sg_edge.specs.Told.{Tally}
+use Rattle.sg_front.proofs.Runs.{unshared_told}
+use Rattle.sg_front.specs.States.{start}
 use Rattle.sg_gateway.specs.Drawn.{supplied}
 use Rattle.sg_gateway.specs.Step.{Event}
 use Rattle.sg_gateway.specs.World.{empty}
 use Rattle.sg_lines.specs.LineOf.{version_after}
-use Rattle.sg_lines.specs.ScriptLines.{NoEnd, lines_of}
+use Rattle.sg_lines.specs.ScriptLines.{lines_of}
 use Rattle.sg_lines.specs.declared.lines.Line.{Line}
-use Rattle.sg_playback.proofs.Alike.{events_in_order, text_from-append}
-use Rattle.sg_playback.proofs.Plays.{stepped_prefix}
 use Rattle.sg_playback.proofs.Replays.{as_trace, given_so}
-use Rattle.sg_playback.specs.Playing.{IsSettled, IsWant, effects, text_from}
-use Rattle.sg_trace.proofs.Causes.{ok_not}
-use Rattle.sg_trace.proofs.Ends.{next_isnt}
-use Rattle.sg_trace.proofs.Loops.{IsPlaying, Tellings, closed_at_err, cut_at_end, last_goes, took_all}
+use Rattle.sg_playback.specs.Playing.{text_from}
+use Rattle.sg_playback.specs.Replay.{ReplayTellings}
+use Rattle.sg_playback.specs.Scripts.{IsRun, IsUnended}
 use Rattle.sg_trace.specs.Captured.{CaptureTrace, Happens, InScript, after_script, captured, output_of, script_alone, script_of}
-use Rattle.sg_trace.specs.Causes.{EndedBy}
 use Rattle.sg_trace.specs.Course.{Course, behind_line, course, course_from, ended, with_deeds}
-use Rattle.sg_trace.specs.Loop.{Closes, HasNoLast, IsAll, IsCut, LoopEnds}
+use Rattle.sg_trace.specs.Loop.{HasNoLast, IsAll, IsCut, LoopEnds}
 use Rattle.sg_trace.specs.Output.{IsPrefixOf, output, text}
-use Rattle.sg_trace.specs.Reading.{IsNextBy, IsReadBy, Reading}
 use Rattle.sg_trace.specs.Trace.{AtCapture, AtEnd as BehindAll, AtFault, Captures, ForDraw, Later, Stop, Trace, after_line, begins_capture, drawing, line_at, stopped, trace_from}
 use Rattle.sg_trace.specs.declared.status.Status.{Status}
 use Rattle.sg_trace.specs.declared.status.Status.TheVariants.{Done, Script, Read, Write, NoMemory, Noise}
@@ -53,11 +45,11 @@ from_so version n at (l ∷ ls) draws =
     ∙ behind_so version n (at + length l) (begins_capture Captures n at l) (line_at version n at l) (λ v. course_from of_capture v (n + 1) (at + length l) ls) (λ v. trace_from Captures v (n + 1) (at + length l) ls) draws
     (λ v rest. from_so v (n + 1) (at + length l) ls rest)
 
-script_so : (octets draws : List ℕ) → script_of octets draws ≡ as_trace (course of_capture octets draws)
+pub script_so : (octets draws : List ℕ) → script_of octets draws ≡ as_trace (course of_capture octets draws)
 script_so octets draws = sym (from_so 1 1 0 (lines_of octets) draws)
 
 -- what is told from the start on, where no leg may share its ports
-output_so : (events : List Event) → text_from (start false) events ≡ output events
+pub output_so : (events : List Event) → text_from (start false) events ≡ output events
 output_so events = ap text (unshared_told empty events)
 
 -- ---- a script that ends before a capture
@@ -101,7 +93,7 @@ cut_so octets draws out cut =
     }
 
 -- how the loop ends, where what it told at a failed read is all
-pub ends_so : (status : Status) (octets draws out : List ℕ) (left : Tally) → (status ≡ Read → IsAllTold octets draws out) → LoopEnds of_capture (text_from (start false)) 258 status octets draws out left
+ends_so : (status : Status) (octets draws out : List ℕ) (left : Tally) → (status ≡ Read → IsAllTold octets draws out) → LoopEnds of_capture (text_from (start false)) 258 status octets draws out left
     → CaptureEnds status octets draws out left
 ends_so Done octets draws out left read ends = (inl (whole_so octets draws out BehindAll (λ at is. cc) ends.0), ends.1)
 ends_so (Script n fault) octets draws out left read ends = (
@@ -120,126 +112,27 @@ ends_so other octets draws out left read ends = absurd ends
 
 -- ---- the loop
 
-want_not_read : (status : Status) → IsWant status → status ≡ Read → ⊥
-want_not_read status (inl wrote) is = let both : Write ≡ Read = sym wrote ∙ is in cc
-want_not_read status (inr memory) is = let both : NoMemory ≡ Read = sym memory ∙ is in cc
-
-module _ (old now : Tellings) (taken drawn : List ℕ) (es ps : List Event) (script : Reading)
-    (going : IsPlaying of_capture effects (start false) old now taken script.waits drawn es ps script.version script.number script.offset)
-    (left' : Tally) (got : List ℕ) (came : TookIn now.left left' got) (near : length (script.waits ++ got) ≤ 74097) where
-  abbrev pub octets : List ℕ
-  octets = taken ++ (script.waits ++ got)
-
-  -- octets without a line end tell nothing
-  read_told : (out : List ℕ) → NoEnd (script.waits ++ got) → out ≡ text_from (state_after (start false) es) ps → IsAllTold octets drawn (text_from (start false) es ++ out)
-  read_told out none told = elim (unended_stops script.version script.number script.offset (script.waits ++ got) none) [
-    | inl nothing ↦ stopped_at BehindAll (λ at is. cc) nothing
-    | inr fails ↦ stopped_at (AtFault script.number fails.0) (λ at is. cc) fails.1
-  ]
-    where
-      stopped_at : (stop : Stop) → ((at : ℕ) → stop ≡ AtCapture at → ⊥) → course_from of_capture script.version script.number script.offset (lines_of (script.waits ++ got)) [] ≡ ended stop []
-          → IsAllTold octets drawn (text_from (start false) es ++ out)
-      stopped_at stop no_last stops =
-          let is : course of_capture octets drawn ≡ with_deeds going.deeds (ended stop []) = ap (course of_capture octets) (sym (append-nil drawn)) ∙ going.goes (script.waits ++ got) [] ∙ ap (with_deeds going.deeds) stops in
-          let lasts_not : HasNoLast (course of_capture octets drawn) = λ at same. no_last at (sym (ap (λ (c : Course Event). c.stop) is) ∙ same) in record {
-            left = ap (λ (c : CaptureTrace). c.left) (alone_so octets drawn lasts_not) ∙ ap (λ (c : Course Event). drawing c.left) is;
-            told =
-                ap (λ (o : List ℕ). text_from (start false) es ++ o) told ∙ sym (text_from-append (start false) es ps) ∙ sym going.alike.told ∙ ap (text_from (start false)) (sym (append-nil going.deeds))
-                ∙ sym (told_so octets drawn lasts_not ∙ ap (λ (c : Course Event). text_from (start false) c.deeds) is);
-          }
-
-  -- where no line was read
-  pub ended_at_err : (end status : Status) (new : Reading) (out : List ℕ) → IsNextBy capture_line_of capture_version_after (Err end) script new got left' → Closes end status effects 258 (state_after (start false) es) ps out
-      → CaptureEnds status octets drawn (text_from (start false) es ++ out) left'
-  ended_at_err end status new out next closed =
-      ends_so status octets drawn (text_from (start false) es ++ out) left' (λ is. all_of is closed)
-      (closed_at_err of_capture effects events_in_order (start false) 258 _ _ taken drawn es ps script going left' got came near end status new out next closed)
-    where
-      all_of : status ≡ Read → Closes end status effects 258 (state_after (start false) es) ps out → IsAllTold octets drawn (text_from (start false) es ++ out)
-      all_of is (inl all) = read_told out (subst (λ s. IsNextBy capture_line_of capture_version_after (Err s) script new got left') (sym all.0 ∙ is) next) all.1
-      all_of is (inr cut) = absurd (want_not_read status cut.0 is)
-
-  -- behind the line at which a capture begins, once what waits is told
-  module _ (new : Reading) (read : IsReadBy capture_line_of capture_version_after lines.Capture script new got) (size : length taken ≡ script.offset) (room : length octets + new.budget ≡ 2 ^ 30 + 1) (few : length new.waits ≤ 4096)
-      (written' : Tally) (waits' : List Event) (stands_for : State → Type 0) (out : List ℕ) (wrote : Wrote now.written written' out) where
-    pub behind_script : (r : Result (Unit {0}) Status) → length ps ≤ 258 → IsSettled r (state_after (start false) es) ps waits' stands_for out
-        → IsScriptPlayed r (record { left = old.left; written = old.written; drawn = old.drawn }) (record { left = left'; written = written'; drawn = now.drawn }) new (λ w. stands_for (unshared w)) octets drawn (text_from (start false) es ++ out)
-    behind_script (Ok u) short settled = record {
-      lines = taken ++ read.line;
-      events = going.deeds;
-      split = ap (λ (l : List ℕ). taken ++ l) read.split ∙ sym (append_assoc taken read.line new.waits);
-      size = (let offset = read.offset in omega (arith, length-append taken read.line, size, offset));
-      within = read.within;
-      near = few;
-      room = room;
-      took = took_all of_capture effects events_in_order (start false) 258 _ _ taken drawn es ps script going left' got came near;
-      drew = going.drew;
-      wrote = wrote_more old.written now.written written' (text_from (start false) es) out going.wrote wrote;
-      goes = λ rest. script_so ((taken ++ read.line) ++ rest) drawn ∙ ap as_trace (last_goes of_capture effects events_in_order (start false) 258 _ _ taken drawn es ps script going left' got came near lines.Capture new read refl rest);
-      told = ap (λ (o : List ℕ). text_from (start false) es ++ o) settled.1.0 ∙ sym (text_from-append (start false) es ps) ∙ sym going.alike.told ∙ output_so going.deeds;
-      stands = subst stands_for (sym (state_after-append (start false) es ps) ∙ sym going.alike.left ∙ unshared_after empty going.deeds) settled.1.1;
-    }
-    behind_script (Err status) short settled =
-        let cut = stepped_prefix status (state_after (start false) es) ps stands_for out settled in record {
-          took = took_all of_capture effects events_in_order (start false) 258 _ _ taken drawn es ps script going left' got came near;
-          drew = going.drew;
-          wrote = wrote_more old.written now.written written' (text_from (start false) es) out going.wrote wrote;
-          ends = ends_so status octets drawn (text_from (start false) es ++ out) left' (λ is. absurd (want_not_read status cut.0 is))
-              (cut_at_end of_capture effects events_in_order (start false) 258 _ _ taken drawn es ps script going left' got came near status out (cut.0, cut.1, short));
-          bound = omega (arith, room);
+-- octets without a line end tell nothing
+read_told : (octets draws out : List ℕ) → IsUnended of_capture (start false) octets draws out → IsAllTold octets draws out
+read_told octets draws out is = elim (unended_stops is.version is.number is.offset is.part is.unended) [
+  | inl nothing ↦ stopped_at BehindAll (λ at same. cc) nothing
+  | inr fails ↦ stopped_at (AtFault is.number fails.0) (λ at same. cc) fails.1
+]
+  where
+    stopped_at : (stop : Stop) → ((at : ℕ) → stop ≡ AtCapture at → ⊥) → course_from of_capture is.version is.number is.offset (lines_of is.part) [] ≡ ended stop [] → IsAllTold octets draws out
+    stopped_at stop no_last stops =
+        let whole : course of_capture octets draws ≡ with_deeds is.events (ended stop []) = ap (λ (o : List ℕ). course of_capture o draws) is.split ∙ is.goes is.part ∙ ap (with_deeds is.events) stops in
+        let lasts_not : HasNoLast (course of_capture octets draws) = λ at same. no_last at (sym (ap (λ (c : Course Event). c.stop) whole) ∙ same) in record {
+          left = ap (λ (c : CaptureTrace). c.left) (alone_so octets draws lasts_not) ∙ ap (λ (c : Course Event). drawing c.left) whole;
+          told = is.told ∙ ap (text_from (start false)) (sym (append-nil is.events)) ∙ sym (told_so octets draws lasts_not ∙ ap (λ (c : Course Event). text_from (start false) c.deeds) whole);
         }
 
--- ---- whose failure it was
-
--- no line is written as it is read, and none draws
-pub next_not_write : (status : Status) (old new : Reading) (got : List ℕ) (left : Tally) → IsNextBy capture_line_of capture_version_after (Err status) old new got left → status ≡ Write → ⊥
-next_not_write status old new got left next is = next_isnt capture_line_of capture_version_after status Write old new got left (λ never. never) next is
-
-pub next_not_noise : (status : Status) (old new : Reading) (got : List ℕ) (left : Tally) → IsNextBy capture_line_of capture_version_after (Err status) old new got left → status ≡ Noise → ⊥
-next_not_noise status old new got left next is = next_isnt capture_line_of capture_version_after status Noise old new got left (λ never. never) next is
-
-pub err_so : (a b : Status) → (let r : Result (Unit {0}) Status = Err a in r ≡ Err b) → a ≡ b
-err_so a b is = cc
-
--- what was wanting, as a result
-abbrev pub IsWanting : Result (Unit {0}) Status → Type 0
-IsWanting r = IsErrOf r Write ⊎ IsErrOf r NoMemory
-
-wanting_of : (status : Status) → IsWant status → IsWanting (Err status)
-wanting_of status (inl is) = inl (ap Err is)
-wanting_of status (inr is) = inr (ap Err is)
-
-want_of : (status : Status) → IsWanting (Err status) → IsWant status
-want_of status (inl is) = inl (err_so status Write is)
-want_of status (inr is) = inr (err_so status NoMemory is)
-
-pub ended_err : (status : Status) (old new : ℕ) (failed : Option Bool) → EndedBy (status ≡ Read) (IsWant status) old new failed → EndedBy (IsErrOf {T = Unit {0}} (Err status) Read) (IsWanting (Err status)) old new failed
-ended_err status old new failed e = record {
-  later = e.later;
-  rose = λ is. e.rose (err_so status Read is);
-  told = λ is. e.told (err_so status Read is);
-  quiet = λ a b. e.quiet (λ is. a (ap Err is)) (λ is. b (wanting_of status is));
-  last = λ a is. e.last (λ read. a (ap Err read)) (want_of status is);
+-- a run that ended before the line `capture`
+pub run_so : (status : Status) (old new : ReplayTellings) (octets draws out : List ℕ) → IsRun of_capture (start false) status old new octets draws out → IsCapture status old new octets draws out
+run_so status old new octets draws out run = record {
+  took = run.took;
+  drew = run.drew;
+  wrote = run.wrote;
+  ends = ends_so status octets draws out new.left (λ is. read_told octets draws out (run.unended is)) run.ends;
+  bound = run.bound;
 }
-
-pub err_ended : (status : Status) (old new : ℕ) (failed : Option Bool) → EndedBy (IsErrOf {T = Unit {0}} (Err status) Read) (IsWanting (Err status)) old new failed → EndedBy (status ≡ Read) (IsWant status) old new failed
-err_ended status old new failed e = record {
-  later = e.later;
-  rose = λ is. e.rose (ap Err is);
-  told = λ is. e.told (ap Err is);
-  quiet = λ a b. e.quiet (λ is. a (err_so status Read is)) (λ is. b (want_of status is));
-  last = λ a is. e.last (λ read. a (err_so status Read read)) (wanting_of status is);
-}
-
--- nothing failed
-pub ok_ended : (u : Unit {0}) (old new : ℕ) (failed : Option Bool) → EndedBy (IsErrOf {T = Unit {0}} (Ok u) Read) (IsWanting (Ok u)) old new failed → new ≡ old
-ok_ended u old new failed e = e.quiet (λ is. ok_not u Read is) neither
-  where
-    neither : IsWanting (Ok u) → ⊥
-    neither (inl is) = ok_not u Write is
-    neither (inr is) = ok_not u NoMemory is
-
--- settling reads nothing
-pub settled_not : (r : Result (Unit {0}) Status) → IfErr r (λ status. IsWant status) → r ≡ Err Read → ⊥
-settled_not (Ok u) only is = ok_not u Read is
-settled_not (Err status) only is = want_not_read status only (err_so status Read is)

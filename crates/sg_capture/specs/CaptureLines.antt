@@ -1,5 +1,5 @@
 -- What a line says of a script behind which a capture may stand, and what it gives.
-use Rattle.std.specs.Prelude.{ℕ, Bool, true, false, nat_lt, ◌&&◌, if◌then◌else◌, List, [], codes, Option, Some, Result, Ok, Err, ⊤}
+use Rattle.std.specs.Prelude.{ℕ, nat_lt, ◌&&◌, if◌then◌else◌, codes, Option, None, Some, Result, Ok, Err, ⊤}
 use Rattle.std.specs.Str.{bytes_eq}
 use Rattle.sg_base.specs.declared.faults.ScriptFault.{ScriptFault}
 use Rattle.sg_capture.specs.declared.lines.CaptureLine.{CaptureLine}
@@ -8,8 +8,8 @@ use Rattle.sg_gateway.specs.Step.{Event}
 use Rattle.sg_lines.specs.LineOf.{line_of, version_after}
 use Rattle.sg_lines.specs.LineText.{FitsLine}
 use Rattle.sg_lines.specs.declared.lines.Line.{Line}
-use Rattle.sg_playback.specs.Replay.{gives}
-use Rattle.sg_trace.specs.Course.{Given, Ways}
+use Rattle.sg_playback.specs.Scripts.{ways_by}
+use Rattle.sg_trace.specs.Course.{Ways}
 use Rattle.sg_trace.specs.Trace.{Spelling}
 
 -- a line that a replay's script may have too
@@ -31,14 +31,11 @@ abbrev pub FitsCaptureLine : ℕ → ℕ → CaptureLine → Type 0
 FitsCaptureLine version n (lines.Script l) = FitsLine version n l
 FitsCaptureLine version n lines.Capture = ⊤
 
-abbrev pub is_last : CaptureLine → Bool
-is_last (lines.Script l) = false
-is_last lines.Capture = true
-
-abbrev pub capture_gives : CaptureLine → List ℕ → Option (Given Event)
-capture_gives (lines.Script l) draws = gives l draws
-capture_gives lines.Capture draws = Some (record { deeds = []; left = draws })
+-- what a player plays of a line
+abbrev pub script_line : CaptureLine → Option Line
+script_line (lines.Script l) = Some l
+script_line lines.Capture = None
 
 -- how the script before a capture is read: a replay's, up to the line `capture`
 abbrev pub of_capture : Ways CaptureLine Event
-of_capture = record { spelled = capture_line_of; followed = capture_version_after; is_last = is_last; gives = capture_gives }
+of_capture = ways_by capture_line_of capture_version_after script_line

@@ -1,19 +1,16 @@
 -- What the command answers, and what has passed between it and the outside by then.
-use Rattle.std.specs.Prelude.{◌≡◌, ◌⊎◌, ◌≤◌, ◌+◌, ◌^◌, length, ℕ, List, [], ◌++◌, Option, Some, None, Result, Ok, Err}
+use Rattle.std.specs.Prelude.{◌≡◌, ◌⊎◌, ◌≤◌, ◌+◌, ◌^◌, length, ℕ, List, [], ◌++◌, Option, Some, None}
 use Rattle.sg_base.specs.declared.faults.ScriptFault.{ScriptFault}
 use Rattle.sg_base.specs.declared.faults.ScriptFault.TheVariants.{Unended}
 use Rattle.sg_edge.specs.Links.{Added}
 use Rattle.sg_edge.specs.Told.{AtEnd, Tally, TookIn, Wrote}
-use Rattle.sg_gateway.specs.Runs.{world_after}
-use Rattle.sg_gateway.specs.Step.{Event}
-use Rattle.sg_gateway.specs.World.{World, empty}
+use Rattle.sg_gateway.specs.World.{empty}
 use Rattle.sg_pcap.specs.declared.faults.CaptureFault.{CaptureFault}
 use Rattle.sg_pcap.specs.declared.faults.CaptureFault.TheVariants.{Cut}
 use Rattle.sg_playback.specs.Replay.{ReplayTellings}
-use Rattle.sg_trace.specs.Captured.{Occurrence, CaptureStop, InCapture, InScript, captured, output_of, script_of}
-use Rattle.sg_trace.specs.Output.{IsPrefixOf, output}
-use Rattle.sg_trace.specs.Reading.{Reading}
-use Rattle.sg_trace.specs.Trace.{AtCapture, AtEnd as BehindAll, AtFault, ForDraw, drawing, stopped, with_events}
+use Rattle.sg_trace.specs.Captured.{Occurrence, CaptureStop, InCapture, InScript, captured, output_of}
+use Rattle.sg_trace.specs.Output.{IsPrefixOf}
+use Rattle.sg_trace.specs.Trace.{AtEnd as BehindAll, AtFault, ForDraw, drawing}
 use Rattle.sg_trace.specs.declared.status.Status.{Status}
 use Rattle.sg_trace.specs.declared.status.Status.TheVariants as statuses
 
@@ -70,27 +67,6 @@ pub record IsCapture (status : Status) (old new : ReplayTellings) (octets draws 
   pub wrote : Wrote old.written new.written out
   pub ends : CaptureEnds status octets draws out new.left
   pub bound : length octets ≤ 2 ^ 30 + 1
-
--- The lines up to the one behind which a capture begins were read, and more octets, which wait; all that the lines tell
--- was written.
-pub record IsBehindScript (old new : ReplayTellings) (script : Reading) (stands_for : World → Type 0) (octets draws out : List ℕ) : Type 0 where
-  pub lines : List ℕ
-  pub events : List Event
-  pub split : octets ≡ lines ++ script.waits
-  pub size : length lines ≡ script.offset
-  pub within : script.offset ≤ 2 ^ 30
-  pub near : length script.waits ≤ 4096
-  pub room : length octets + script.budget ≡ 2 ^ 30 + 1
-  pub took : TookIn old.left new.left octets
-  pub drew : Added old.drawn new.drawn draws
-  pub wrote : Wrote old.written new.written out
-  pub goes : (rest : List ℕ) → script_of (lines ++ rest) draws ≡ with_events events (stopped (AtCapture script.offset) (drawing []))
-  pub told : out ≡ output events
-  pub stands : stands_for (world_after empty events)
-
-abbrev pub IsScriptPlayed : Result (Unit {0}) Status → ReplayTellings → ReplayTellings → Reading → (World → Type 0) → List ℕ → List ℕ → List ℕ → Type 0
-IsScriptPlayed (Ok u) old new script stands_for octets draws out = IsBehindScript old new script stands_for octets draws out
-IsScriptPlayed (Err status) old new script stands_for octets draws out = IsCapture status old new octets draws out
 
 -- Neither the script in these octets nor the capture behind it has a fault, whatever is drawn.
 pub record IsFaultless (octets : List ℕ) : Type 0 where

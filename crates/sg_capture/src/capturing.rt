@@ -1,11 +1,11 @@
 //! The command `capture`: the lines of a script, and then a capture.
 
-ghost use Rattle.std.specs.Prelude.{◌≡◌, ◌⊎◌, ◌≤◌, ◌+◌, ◌^◌, ℕ, List, [], IsErrOf, OnOk};
-ghost use Rattle.sg_capture.specs.Capturing.{IsCapture, IsCompleteCapture, IsScriptPlayed};
+ghost use Rattle.std.specs.Prelude.{◌≡◌, ◌≤◌, ◌+◌, ◌^◌, ℕ, List, []};
+ghost use Rattle.sg_capture.specs.Capturing.{IsCapture, IsCompleteCapture};
 ghost use Rattle.sg_capture.specs.Meeting.{StandsFor};
 ghost use Rattle.sg_edge.specs.Told.{Rose};
 ghost use Rattle.sg_gateway.specs.World.{empty};
-ghost use Rattle.sg_trace.specs.Causes.{EndedBy, HasFailed, IsCaused};
+ghost use Rattle.sg_trace.specs.Causes.{EndedBy, HasFailed};
 ghost use Rattle.sg_trace.specs.Loop.{IsWant};
 
 use crate::lines::CaptureLine;
@@ -13,8 +13,8 @@ use crate::records::play_capture;
 use sg_base::NoMemory;
 use sg_edge::{Noise, Sink, Source};
 use sg_lanes::Gate;
-use sg_playback::Player;
-use sg_trace::{CaptureReader, ScriptReader, Status, pass_on, passed_on};
+use sg_playback::{Player, play_lines};
+use sg_trace::{CaptureReader, ScriptReader, Status, passed_on};
 use std::alloc::Global;
 use std::thread::Threads;
 
@@ -74,55 +74,20 @@ fn play_source<R: Threads + Sync, S: Source, K: Sink, N: Noise, G: Gate + Sync>(
     ensures noise { HasFailed (result ≡ Status.Noise) (N.faults noise.old) (N.faults noise.new) (N.failed noise.new) }
 {
     let mut script = ScriptReader::new(alloc);
-    match play_lines(rt, alloc, player, &mut script, source, sink, noise, gate) {
+    match play_lines::<CaptureLine, R, S, K, N, G>(
+        rt,
+        alloc,
+        player,
+        &mut script,
+        source,
+        sink,
+        noise,
+        gate,
+    ) {
         Err(status) => status,
         Ok(()) => {
             let mut reader = CaptureReader::new(alloc, script);
             play_capture(rt, alloc, player, &mut reader, source, sink, gate)
-        }
-    }
-}
-
-/// Plays the lines up to the one behind which the capture begins, and tells all of them; the status of the run where it
-/// ends before.
-fn play_lines<R: Threads + Sync, S: Source, K: Sink, N: Noise, G: Gate + Sync>(
-    rt: &R,
-    alloc: Global,
-    player: &mut Player,
-    script: &mut ScriptReader,
-    source: &mut S,
-    sink: &mut K,
-    noise: &mut N,
-    gate: &G,
-) -> Result<(), Status>
-    requires front { StandsFor player.old.front empty }
-    requires waits { player.old.waits ≡ [] }
-    requires start { script.old ≡ record { waits = []; version = 1; number = 1; offset = 0; budget = 2 ^ 30 + 1 } }
-    ensures ran { (octets draws out : List ℕ)
-        × IsScriptPlayed result
-        (record { left = S.left source.old; written = K.written sink.old; drawn = N.given noise.old })
-        (record { left = S.left source.new; written = K.written sink.new; drawn = N.given noise.new })
-        script.new (StandsFor player.new.front) octets draws out }
-    ensures none { OnOk result (player.new.waits ≡ []) }
-    ensures given { (S.left source.new).count + script.new.budget ≤ (S.left source.old).count + (2 ^ 30 + 1) }
-    ensures read { EndedBy (IsErrOf result Status.Read) (IsErrOf result Status.Write ⊎ IsErrOf result Status.NoMemory) (S.faults source.old) (S.faults source.new) (S.failed source.new) }
-    ensures write { IsCaused Status.Write result (K.faults sink.old) (K.faults sink.new) (K.failed sink.new) }
-    ensures noise { IsCaused Status.Noise result (N.faults noise.old) (N.faults noise.new) (N.failed noise.new) }
-{
-    'lines: loop {
-        match pass_on(script.holds_line(), sink) {
-            Err(status) => return Err(status),
-            Ok(()) => {}
-        }
-        let line = match script.next(alloc, source) {
-            Err(status) => return Err(player.close(rt, alloc, status, sink, gate)),
-            Ok(None) => return Err(player.close(rt, alloc, Status::Done, sink, gate)),
-            Ok(Some(CaptureLine::Capture)) => return player.settle_at_once(rt, alloc, sink, gate),
-            Ok(Some(CaptureLine::Script(line))) => line,
-        };
-        match player.play(rt, alloc, line, sink, noise, gate) {
-            Err(status) => return Err(status),
-            Ok(()) => {}
         }
     }
 }

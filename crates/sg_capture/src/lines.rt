@@ -1,6 +1,7 @@
 //! A line of a script behind which a capture may stand.
 
 use sg_lines::{Line, ReadLineFault, read_line};
+use sg_playback::PlayedLine;
 use sg_trace::ScriptLine;
 use std::alloc::Global;
 
@@ -43,4 +44,17 @@ impl ScriptLine for CaptureLine {
     }
 
     fn are_framed() {}
+}
+
+impl PlayedLine for CaptureLine {
+    ghost use Rattle.sg_capture.specs.CaptureLines.{script_line};
+
+    ghost played = { script_line };
+
+    fn into_line(self) -> Option<Line> {
+        match self {
+            CaptureLine::Script(line) => Some(line),
+            CaptureLine::Capture => None,
+        }
+    }
 }

@@ -5,3 +5,4 @@ pub mod Plays
 pub mod Replays
 mod Tells
 pub mod Room
+pub mod Scripts

@@ -1,19 +1,18 @@
 //! The command `replay`: the lines of a script, in order.
 
-ghost use Rattle.std.specs.Prelude.{◌≡◌, ◌<◌, ◌≤◌, ◌+◌, ◌^◌, ℕ, List, [], length};
+ghost use Rattle.std.specs.Prelude.{◌≡◌, ◌<◌, ◌≤◌, ◌+◌, ◌^◌, ℕ, List};
 ghost use Rattle.sg_trace.specs.Causes.{EndedBy, HasFailed};
-ghost use Rattle.sg_trace.specs.Loop.{IsWant, LoopEnds};
-ghost use Rattle.sg_edge.specs.Links.{Added};
-ghost use Rattle.sg_edge.specs.Told.{Rose, TookIn, Wrote};
-ghost use Rattle.sg_front.specs.States.{FrontStandsFor, start};
-ghost use Rattle.sg_playback.specs.Playing.{text_from};
-ghost use Rattle.sg_playback.specs.Replay.{IsCompleteReplay, IsReplay, of_replay};
+ghost use Rattle.sg_trace.specs.Loop.{IsWant};
+ghost use Rattle.sg_edge.specs.Told.{Rose};
+ghost use Rattle.sg_playback.specs.Replay.{IsCompleteReplay, IsReplay};
 
 use crate::player::Player;
+use crate::playing::play_lines;
 use sg_base::NoMemory;
 use sg_edge::{Noise, Sink, Source};
 use sg_lanes::Gate;
-use sg_trace::{ScriptReader, Status, pass_on, passed_on};
+use sg_lines::Line;
+use sg_trace::{ScriptReader, Status, passed_on};
 use std::alloc::Global;
 use std::thread::Threads;
 
@@ -50,46 +49,21 @@ pub fn replay<R: Threads + Sync, S: Source, K: Sink, N: Noise, G: Gate + Sync>(
     match Player::make(alloc, workers, muxes) {
         Err(NoMemory) => Status::NoMemory,
         Ok(mut player) => {
-            let end = play_script(rt, alloc, &mut player, source, sink, noise, gate);
-            passed_on(end, sink)
-        }
-    }
-}
-
-/// The same by a player that has played nothing.
-fn play_script<R: Threads + Sync, S: Source, K: Sink, N: Noise, G: Gate + Sync>(
-    rt: &R,
-    alloc: Global,
-    player: &mut Player,
-    source: &mut S,
-    sink: &mut K,
-    noise: &mut N,
-    gate: &G,
-) -> Status
-    requires { FrontStandsFor player.old.front (start player.old.front.muxes) × (player.old.waits ≡ []) }
-    ensures ran { (octets draws out : List ℕ)
-        × TookIn (S.left source.old) (S.left source.new) octets × Added (N.given noise.old) (N.given noise.new) draws
-        × Wrote (K.written sink.old) (K.written sink.new) out × (length octets ≤ 2 ^ 30 + 1)
-        × LoopEnds of_replay (text_from (start player.old.front.muxes)) 258 result octets draws out (S.left source.new) }
-    ensures given { (S.left source.new).count ≤ (S.left source.old).count + (2 ^ 30 + 1) }
-    ensures read { EndedBy (result ≡ Status.Read) (IsWant result) (S.faults source.old) (S.faults source.new) (S.failed source.new) }
-    ensures write { HasFailed (result ≡ Status.Write) (K.faults sink.old) (K.faults sink.new) (K.failed sink.new) }
-    ensures noise { HasFailed (result ≡ Status.Noise) (N.faults noise.old) (N.faults noise.new) (N.failed noise.new) }
-{
-    let mut script = ScriptReader::new(alloc);
-    'lines: loop {
-        match pass_on(script.holds_line(), sink) {
-            Err(status) => return status,
-            Ok(()) => {}
-        }
-        let line = match script.next(alloc, source) {
-            Err(status) => return player.close(rt, alloc, status, sink, gate),
-            Ok(None) => return player.close(rt, alloc, Status::Done, sink, gate),
-            Ok(Some(line)) => line,
-        };
-        match player.play(rt, alloc, line, sink, noise, gate) {
-            Err(status) => return status,
-            Ok(()) => {}
+            let mut script = ScriptReader::new(alloc);
+            match play_lines::<Line, R, S, K, N, G>(
+                rt,
+                alloc,
+                &mut player,
+                &mut script,
+                source,
+                sink,
+                noise,
+                gate,
+            ) {
+                Err(status) => passed_on(status, sink),
+                // no line is the last
+                Ok(()) => unreachable!(),
+            }
         }
     }
 }
