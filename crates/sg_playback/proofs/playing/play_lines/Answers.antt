@@ -1,4 +1,4 @@
-use Rattle.std.proofs.Common.{rules, ◌≡◌, ◌⊎◌, ◌≤◌, ℕ, List, [], ◌++◌, length, map, Option, None, Some, IfSome, Ok, Err, refl, sym, ap, ◌∙◌, subst, inl, inr, arith, length-append}
+use Rattle.std.proofs.Common.{rules, ◌⊎◌, ◌≤◌, ℕ, List, [], ◌++◌, length, map, Option, None, Some, IfSome, Ok, Err, refl, sym, ap, ◌∙◌, subst, inl, inr, arith, length-append}
 use Rattle.std.specs.Prelude.{is_none}
 use Rattle.std.proofs.lemmas.List.{length-map}
 use Rattle.sg_edge.proofs.Links.{added_more}
@@ -6,7 +6,6 @@ use Rattle.sg_edge.proofs.Passed.{took_none}
 use Rattle.sg_front.proofs.Sequences.{state_after-append}
 use Rattle.sg_front.specs.States.{FrontStandsFor, state_after}
 use Rattle.sg_gateway.specs.Step.{Event}
-use Rattle.sg_lines.specs.declared.lines.Line.{Line}
 use Rattle.sg_playback.proofs.Alike.{events_in_order}
 use Rattle.sg_playback.proofs.Lines.{line_ended, line_taken}
 use Rattle.sg_playback.proofs.Scripts.{behind_last, cut_short, ended_so, err_so, run_so, settled_read}
