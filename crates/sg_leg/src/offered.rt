@@ -84,10 +84,7 @@ pub(crate) fn open(
     let side = way.side();
     let description = match describe(alloc, side, media_of(&former), text) {
         Ok(description) => description,
-        Err(fault) => {
-            drop(former);
-            return Err(fault);
-        }
+        Err(fault) => return Err(fault),
     };
     let opening = match keying_of(
         alloc,
