@@ -1,6 +1,6 @@
 //! Script lines, printed.
 
-ghost use Rattle.std.specs.Prelude.{◌≡◌, ◌<◌, ◌∷◌, ◌++◌, [], map, length, codes, decimal, IfOk};
+ghost use Rattle.std.specs.Prelude.{◌≡◌, ◌<◌, ◌∷◌, ◌++◌, [], map, length, decimal, IfOk};
 ghost use Rattle.std.specs.List.{join_with_byte};
 ghost use Rattle.sg_base.specs.Fields.{address_text};
 ghost use Rattle.sg_lines.specs.LineText.{hex_text, key_text, line_fields, line_text, noise_text, rollover_text, signal_fields};
@@ -87,85 +87,16 @@ fn print_text(
     joined(alloc, &[word, call, &noise, &text])
 }
 
-fn print_psk(alloc: Global, own: &[u8], peer: &[u8], key: &[u8]) -> Result<Octets, NoMemory>
-    ensures { IfOk result (λ o. o ≡ join_with_byte 32 (codes "psk" ∷ own.now ∷ peer.now ∷ hex_text key.now ∷ []) ++ 10 ∷ []) }
-{
-    let key = hex_of(alloc, key)?;
-    joined(alloc, &[b"psk", own, peer, &key])
-}
-
-fn print_manual(
-    alloc: Global,
-    call: CallId,
-    secure: &Address,
-    plain: &Address,
-    roc: u32,
-    window: u16,
-    from_peer: &MasterKey,
-    to_peer: &MasterKey,
-) -> Result<Octets, NoMemory>
-    ensures { IfOk result (λ o. o ≡ join_with_byte 32 (codes "manual" ∷ decimal call.0 ∷ address_text secure.now ∷ address_text plain.now ∷ rollover_text roc ∷ decimal window
-        ∷ key_text from_peer.now ∷ key_text to_peer.now ∷ []) ++ 10 ∷ []) }
-{
-    let mut number = Buffer::new();
-    let mut width = Buffer::new();
-    let call = number.format(call.0).as_bytes();
-    let secure = address_of(alloc, secure)?;
-    let plain = address_of(alloc, plain)?;
-    let roc = rollover_of(alloc, roc)?;
-    let window = width.format(window).as_bytes();
-    let from_peer = key_of(alloc, from_peer)?;
-    let to_peer = key_of(alloc, to_peer)?;
-    joined(
-        alloc,
-        &[
-            b"manual", call, &secure, &plain, &roc, window, &from_peer, &to_peer,
-        ],
-    )
-}
-
-fn print_sdes(
-    alloc: Global,
-    call: CallId,
-    noise: &Option<Noise304>,
-    text: &Octets,
-) -> Result<Octets, NoMemory>
-    ensures { IfOk result (λ o. o ≡ join_with_byte 32 (codes "offer-plain" ∷ decimal call.0 ∷ codes "sdes" ∷ noise_text noise.now ∷ hex_text text.now ∷ []) ++ 10 ∷ []) }
-{
-    let mut number = Buffer::new();
-    let call = number.format(call.0).as_bytes();
-    let noise = noise_of(alloc, noise)?;
-    let text = hex_of(alloc, text.as_slice())?;
-    joined(alloc, &[b"offer-plain", call, b"sdes", &noise, &text])
-}
-
-fn print_mikey(
-    alloc: Global,
-    call: CallId,
-    peer: &[u8],
-    noise: &Option<Noise304>,
-    text: &Octets,
-) -> Result<Octets, NoMemory>
-    ensures { IfOk result (λ o. o ≡ join_with_byte 32 (codes "offer-plain" ∷ decimal call.0 ∷ codes "mikey" ∷ peer.now ∷ noise_text noise.now ∷ hex_text text.now ∷ []) ++ 10 ∷ []) }
-{
-    let mut number = Buffer::new();
-    let call = number.format(call.0).as_bytes();
-    let noise = noise_of(alloc, noise)?;
-    let text = hex_of(alloc, text.as_slice())?;
-    joined(
-        alloc,
-        &[b"offer-plain", call, b"mikey", peer, &noise, &text],
-    )
-}
-
 fn print_signal(alloc: Global, signal: &Signal) -> Result<Octets, NoMemory>
     ensures { IfOk result (λ o. o ≡ join_with_byte 32 (signal_fields signal.now) ++ 10 ∷ []) }
 {
     let mut number = Buffer::new();
+    let mut width = Buffer::new();
     match signal {
         Signal::Tick { now } => joined(alloc, &[b"tick", number.format(*now).as_bytes()]),
         Signal::Psk { own, peer, key } => {
-            print_psk(alloc, own.as_slice(), peer.as_slice(), key.as_slice())
+            let key = hex_of(alloc, key.as_slice())?;
+            joined(alloc, &[b"psk", own.as_slice(), peer.as_slice(), &key])
         }
         Signal::Manual {
             call,
@@ -176,20 +107,50 @@ fn print_signal(alloc: Global, signal: &Signal) -> Result<Octets, NoMemory>
             from_peer,
             to_peer,
         } => {
-            print_manual(
-                alloc, *call, secure, plain, *roc, *window, from_peer, to_peer,
+            let call = number.format(call.0).as_bytes();
+            let secure = address_of(alloc, secure)?;
+            let plain = address_of(alloc, plain)?;
+            let roc = rollover_of(alloc, *roc)?;
+            let window = width.format(*window).as_bytes();
+            let from_peer = key_of(alloc, from_peer)?;
+            let to_peer = key_of(alloc, to_peer)?;
+            joined(
+                alloc,
+                &[
+                    b"manual", call, &secure, &plain, &roc, window, &from_peer, &to_peer,
+                ],
             )
         }
         Signal::OfferSecure { call, noise, text } => {
             print_text(alloc, b"offer-secure", *call, noise, text)
         }
-        Signal::OfferSdes { call, noise, text } => print_sdes(alloc, *call, noise, text),
+        Signal::OfferSdes { call, noise, text } => {
+            let call = number.format(call.0).as_bytes();
+            let noise = noise_of(alloc, noise)?;
+            let text = hex_of(alloc, text.as_slice())?;
+            joined(alloc, &[b"offer-plain", call, b"sdes", &noise, &text])
+        }
         Signal::OfferMikey {
             call,
             peer,
             noise,
             text,
-        } => print_mikey(alloc, *call, peer.as_slice(), noise, text),
+        } => {
+            let call = number.format(call.0).as_bytes();
+            let noise = noise_of(alloc, noise)?;
+            let text = hex_of(alloc, text.as_slice())?;
+            joined(
+                alloc,
+                &[
+                    b"offer-plain",
+                    call,
+                    b"mikey",
+                    peer.as_slice(),
+                    &noise,
+                    &text,
+                ],
+            )
+        }
         Signal::Answer { call, noise, text } => print_text(alloc, b"answer", *call, noise, text),
         Signal::Reject { call } => { joined(alloc, &[b"reject", number.format(call.0).as_bytes()]) }
         Signal::Bye { call } => joined(alloc, &[b"bye", number.format(call.0).as_bytes()]),
