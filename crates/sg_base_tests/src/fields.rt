@@ -1,7 +1,6 @@
 //! Fields of texts.
 
 use sg_base::{Address, Suite, cut, read_address, read_four, read_number, read_octets, read_suite};
-use std::test::Fail;
 
 #[test]
 fn numbers(rt: HostRuntime) {
@@ -16,10 +15,10 @@ fn numbers(rt: HostRuntime) {
 }
 
 #[test]
-fn pairs_of_digits(rt: HostRuntime) -> Result<(), Fail> {
-    let octets = read_octets(rt.alloc(), b"09af")?.ok_or("not read")?;
+fn pairs_of_digits(rt: HostRuntime) {
+    let read = read_octets(rt.alloc(), b"09af").expect(&rt, "memory");
+    let octets = read.expect(&rt, "hex");
     assert!(rt; octets.as_slice() == b"\x09\xaf".as_slice());
-    Ok(())
 }
 
 #[test]

@@ -1,13 +1,11 @@
 //! Master key identifiers: their octets, and which differ.
 
 use sg_base::{Mki, mkis_differ};
-use std::test::Fail;
 
 #[test]
-fn has_the_highest_octet_first(rt: HostRuntime) -> Result<(), Fail> {
-    let short = Mki::new(0x0102, 4).ok_or("258 fits four octets")?;
+fn has_the_highest_octet_first(rt: HostRuntime) {
+    let short = Mki::new(0x0102, 4).expect(&rt, "258 fits four octets");
     assert!(rt; short.octets().as_slice() == [0, 0, 1, 2].as_slice());
-    Ok(())
 }
 
 #[test]

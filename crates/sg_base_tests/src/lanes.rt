@@ -1,8 +1,9 @@
 //! Lanes: they are drained by workers side by side, behind the gate.
 
 use sg_lanes::{Gate, Lane, OpenGate, drain_all};
+use std::alloc::Global;
+use std::process::Abort;
 use std::sync::atomic::{AtomicBool, Ordering};
-use std::test::Fail;
 
 /// How often one who waits looks before it gives up.
 const LOADS: u64 = 1_000_000_000;
@@ -62,42 +63,49 @@ impl<'a> Lane for Guarded<'a> {
 }
 
 /// Four flags that are down.
-fn flags(rt: &HostRuntime) -> Result<Vec<AtomicBool>, Fail> {
-    let mut flags = Vec::new(rt.alloc());
+fn flags(rt: &impl Abort, alloc: Global) -> Vec<AtomicBool> {
+    let mut flags = Vec::new(alloc);
     for _ in 0..4 {
-        flags.push(AtomicBool::new(false))?;
+        flags.push(AtomicBool::new(false)).expect(rt, "memory");
     }
-    Ok(flags)
+    flags
 }
 
 #[test]
-fn two_lanes_meet(rt: HostRuntime) -> Result<(), Fail> {
+fn two_lanes_meet(rt: HostRuntime) {
     let left = AtomicBool::new(false);
     let right = AtomicBool::new(false);
     let mut lanes = Vec::new(rt.alloc());
     for (mine, other) in [(&left, &right), (&right, &left)] {
-        lanes.push(Waiting {
+        let lane = Waiting {
             mine,
             other,
             met: false,
-        })?;
+        };
+        lanes.push(lane).expect(&rt, "memory");
     }
     drain_all(&rt, lanes.as_mut_slice(), 2, &OpenGate);
     assert!(rt; lanes.iter().all(|lane| lane.met));
-    Ok(())
+}
+
+/// Lanes behind these flags.
+fn lanes_behind<'a>(rt: &impl Abort, alloc: Global, noted: &'a [AtomicBool]) -> Vec<Guarded<'a>> {
+    let mut lanes = Vec::new(alloc);
+    for flag in noted {
+        let lane = Guarded {
+            noted: flag,
+            was_entered: false,
+        };
+        lanes.push(lane).expect(rt, "memory");
+    }
+    lanes
 }
 
 #[test]
-fn the_gate_comes_before_each_lane(rt: HostRuntime) -> Result<(), Fail> {
+fn the_gate_comes_before_each_lane(rt: HostRuntime) {
     for workers in [1, 2, 3, 9] {
-        let noted = flags(&rt)?;
-        let mut lanes = Vec::new(rt.alloc());
-        for flag in &noted {
-            lanes.push(Guarded {
-                noted: flag,
-                was_entered: false,
-            })?;
-        }
+        let noted = flags(&rt, rt.alloc());
+        let mut lanes = lanes_behind(&rt, rt.alloc(), &noted);
         drain_all(
             &rt,
             lanes.as_mut_slice(),
@@ -108,5 +116,4 @@ fn the_gate_comes_before_each_lane(rt: HostRuntime) -> Result<(), Fail> {
             assert!(rt; lane.was_entered);
         }
     }
-    Ok(())
 }

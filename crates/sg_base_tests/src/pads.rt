@@ -1,11 +1,10 @@
 //! Pads: what is edited in place.
 
 use sg_base::Pad;
-use std::test::Fail;
 
 #[test]
-fn edits_in_place(rt: HostRuntime) -> Result<(), Fail> {
-    let mut pad = Pad::make(rt.alloc())?;
+fn edits_in_place(rt: HostRuntime) {
+    let mut pad = Pad::make(rt.alloc()).expect(&rt, "memory");
     assert!(rt; pad.fill(&[1, 2, 3]) == Ok(()));
     pad.append(&[4, 5]);
     assert!(rt; pad.octets() == [1, 2, 3, 4, 5].as_slice());
@@ -14,5 +13,4 @@ fn edits_in_place(rt: HostRuntime) -> Result<(), Fail> {
     }
     pad.cut_to(2);
     assert!(rt; pad.octets() == [9, 2].as_slice());
-    Ok(())
 }

@@ -11,7 +11,6 @@ use std::io::{ErrorKind, Read, Write};
 use std::net::{Ipv4Addr, Net, SocketAddr, SocketAddrV4, UdpSocket};
 use std::process::Abort;
 use std::random::RandomSource;
-use std::test::Fail;
 
 /// A reader and writer whose every call fails in this way, or takes and gives nothing.
 #[derive(Drop)]
@@ -138,15 +137,14 @@ fn reads<S: Source>(rt: &impl Abort, source: &mut S, answers: &[Option<([u8; 4],
 }
 
 #[test]
-fn source_in_memory(rt: HostRuntime) -> Result<(), Fail> {
-    let octets = Octets::copy_of(rt.alloc(), b"abcdef")?;
+fn source_in_memory(rt: HostRuntime) {
+    let octets = Octets::copy_of(rt.alloc(), b"abcdef").expect(&rt, "memory");
     let mut source = MemSource::make(octets, Vec::new(rt.alloc()));
     reads(
         &rt,
         &mut source,
         &[Some((*b"abcd", 4)), Some((*b"ef\0\0", 2))],
     );
-    Ok(())
 }
 
 #[test]
@@ -236,11 +234,11 @@ fn got(port: u16, from: Address) -> Result<Receipt, Failed> {
 }
 
 /// A socket of the system at a port of its own, and that port.
-fn socket_of_its_own(rt: &impl Net) -> Result<(UdpSocket, Address), Fail> {
+fn socket_of_its_own(rt: &(impl Abort + Net)) -> (UdpSocket, Address) {
     let any = SocketAddr::V4(SocketAddrV4::new(Ipv4Addr::new(127, 0, 0, 1), 0));
-    let socket = UdpSocket::bind(rt, any)?;
-    let port = socket.local_addr()?.port();
-    Ok((socket, at_home(port)))
+    let socket = UdpSocket::bind(rt, any).expect(rt, "a socket");
+    let port = socket.local_addr().expect(rt, "its address").port();
+    (socket, at_home(port))
 }
 
 fn at_home(port: u16) -> Address {
@@ -249,15 +247,17 @@ fn at_home(port: u16) -> Address {
 }
 
 /// Binds a port of the link's own, which the system gave a moment before.
-fn bind_one<L: Link>(rt: &impl Net, link: &mut L) -> Result<Address, Fail> {
+fn bind_one<L: Link>(rt: &(impl Abort + Net), link: &mut L) -> Address {
+    let mut bound = None;
     for _ in 0..100 {
-        let (socket, home) = socket_of_its_own(rt)?;
+        let (socket, home) = socket_of_its_own(rt);
         drop(socket);
         if link.bind(home.port).is_ok() {
-            return Ok(home);
+            bound = Some(home);
+            break;
         }
     }
-    Err(Fail::from(io::Error::from(ErrorKind::AddrInUse)))
+    bound.expect(rt, "a port")
 }
 
 /// The next datagram, for which the link is asked up to a thousand times.
@@ -286,89 +286,77 @@ fn passes<L: Link>(
 }
 
 /// Datagrams go from one port to another, each once.
-fn passes_each<L: Link>(rt: &(impl Abort + Net), link: &mut L, pad: &mut Pad) -> Result<(), Fail> {
-    let ends = (bind_one(rt, link)?, bind_one(rt, link)?);
+fn passes_each<L: Link>(rt: &(impl Abort + Net), link: &mut L, pad: &mut Pad) {
+    let ends = (bind_one(rt, link), bind_one(rt, link));
     assert!(rt; link.receive(pad) == Ok(Receipt::Nothing));
     for octets in [b"first".as_slice(), b"", b"third"] {
         passes(rt, link, pad, ends, octets);
     }
     assert!(rt; link.receive(pad) == Ok(Receipt::Nothing));
-    Ok(())
 }
 
 #[test]
-fn datagrams_of_the_system(rt: HostRuntime) -> Result<(), Fail> {
-    let mut pad = Pad::make(rt.alloc())?;
+fn datagrams_of_the_system(rt: HostRuntime) {
+    let mut pad = Pad::make(rt.alloc()).expect(&rt, "memory");
     let mut link = UdpLink::make(rt.alloc(), &rt);
-    passes_each(&rt, &mut link, &mut pad)
+    passes_each(&rt, &mut link, &mut pad);
 }
 
 /// Sends a datagram as long as can be to a port; from where, and how many octets went.
-fn send_long(rt: &impl Net, alloc: Global, port: u16) -> Result<(Address, usize), Fail> {
-    let (socket, home) = socket_of_its_own(rt)?;
-    let long = vec![in alloc; 9u8; 65507]?;
+fn send_long(rt: &(impl Abort + Net), alloc: Global, port: u16) -> (Address, usize) {
+    let (socket, home) = socket_of_its_own(rt);
+    let long = vec![in alloc; 9u8; 65507].expect(rt, "memory");
     let to = SocketAddr::V4(SocketAddrV4::new(Ipv4Addr::new(127, 0, 0, 1), port));
-    Ok((home, socket.send_to(&long, to)?))
+    let sent = socket.send_to(&long, to).expect(rt, "sent");
+    (home, sent)
 }
 
 /// A longer datagram than a pad has room for is cut to what it has.
-fn cuts_a_long_one<L: Link>(
-    rt: &(impl Abort + Net),
-    alloc: Global,
-    link: &mut L,
-    pad: &mut Pad,
-) -> Result<(), Fail> {
-    let near = bind_one(rt, link)?;
-    let (home, sent) = send_long(rt, alloc, near.port)?;
+fn cuts_a_long_one<L: Link>(rt: &(impl Abort + Net), alloc: Global, link: &mut L, pad: &mut Pad) {
+    let near = bind_one(rt, link);
+    let (home, sent) = send_long(rt, alloc, near.port);
     assert!(rt; sent == 65507);
     assert!(rt; next_receipt(link, pad) == got(near.port, home));
     assert!(rt; pad.octets() == [9; PAD_MOST].as_slice());
     assert!(rt; link.receive(pad) == Ok(Receipt::Nothing));
-    Ok(())
 }
 
 #[test]
-fn a_long_datagram_of_the_system(rt: HostRuntime) -> Result<(), Fail> {
-    let mut pad = Pad::make(rt.alloc())?;
+fn a_long_datagram_of_the_system(rt: HostRuntime) {
+    let mut pad = Pad::make(rt.alloc()).expect(&rt, "memory");
     let mut link = UdpLink::make(rt.alloc(), &rt);
-    cuts_a_long_one(&rt, rt.alloc(), &mut link, &mut pad)
+    cuts_a_long_one(&rt, rt.alloc(), &mut link, &mut pad);
 }
 
 /// A port is bound once, and given up as often as one likes.
-fn holds_a_port<L: Link>(
-    rt: &(impl Abort + Net),
-    link: &mut L,
-    other: Address,
-) -> Result<(), Fail> {
+fn holds_a_port<L: Link>(rt: &(impl Abort + Net), link: &mut L, other: Address) {
     assert!(rt; link.bind(other.port) == Err(Failed));
-    let home = bind_one(rt, link)?;
+    let home = bind_one(rt, link);
     assert!(rt; link.bind(home.port) == Err(Failed));
     assert!(rt; link.unbind(home.port) == Ok(()));
     assert!(rt; link.unbind(home.port) == Ok(()));
     assert!(rt; link.send(home.port, other, b"x") == Err(Failed));
-    Ok(())
 }
 
 /// More ports than a process has descriptors are bound, one after another.
-fn holds_many_ports<L: Link>(rt: &(impl Abort + Net), link: &mut L) -> Result<(), Fail> {
+fn holds_many_ports<L: Link>(rt: &(impl Abort + Net), link: &mut L) {
     for _ in 0..1200 {
-        let home = bind_one(rt, link)?;
+        let home = bind_one(rt, link);
         assert!(rt; link.unbind(home.port) == Ok(()));
     }
-    Ok(())
 }
 
 #[test]
-fn ports_of_the_system(rt: HostRuntime) -> Result<(), Fail> {
-    let (_socket, taken) = socket_of_its_own(&rt)?;
+fn ports_of_the_system(rt: HostRuntime) {
+    let (_socket, taken) = socket_of_its_own(&rt);
     let mut link = UdpLink::make(rt.alloc(), &rt);
-    holds_a_port(&rt, &mut link, taken)
+    holds_a_port(&rt, &mut link, taken);
 }
 
 #[test]
-fn many_ports_of_the_system(rt: HostRuntime) -> Result<(), Fail> {
+fn many_ports_of_the_system(rt: HostRuntime) {
     let mut link = UdpLink::make(rt.alloc(), &rt);
-    holds_many_ports(&rt, &mut link)
+    holds_many_ports(&rt, &mut link);
 }
 
 /// A random source that fails.
@@ -394,18 +382,18 @@ fn noise_that_fails(rt: HostRuntime) {
 }
 
 /// The link listens at 127.0.0.1 alone: at another address the port is free.
-fn is_free_elsewhere<L: Link>(rt: &(impl Abort + Net), link: &mut L) -> Result<(), Fail> {
-    let home = bind_one(rt, link)?;
+fn is_free_elsewhere<L: Link>(rt: &(impl Abort + Net), link: &mut L) {
+    let home = bind_one(rt, link);
     let other = SocketAddr::V4(SocketAddrV4::new(Ipv4Addr::new(127, 0, 0, 2), home.port));
-    let socket = UdpSocket::bind(rt, other)?;
-    assert!(rt; socket.local_addr()?.port() == home.port);
-    Ok(())
+    let socket = UdpSocket::bind(rt, other).expect(rt, "a socket");
+    let address = socket.local_addr().expect(rt, "its address");
+    assert!(rt; address.port() == home.port);
 }
 
 #[test]
-fn other_addresses_are_free(rt: HostRuntime) -> Result<(), Fail> {
+fn other_addresses_are_free(rt: HostRuntime) {
     let mut link = UdpLink::make(rt.alloc(), &rt);
-    is_free_elsewhere(&rt, &mut link)
+    is_free_elsewhere(&rt, &mut link);
 }
 
 /// The port of the next datagram; 0 where none came.
@@ -424,9 +412,9 @@ fn sends<L: Link>(rt: &impl Abort, link: &mut L, from: Address, addresses: &[Add
 }
 
 /// Two ports that both have datagrams take turns, sixteen datagrams each.
-fn takes_turns<L: Link>(rt: &(impl Abort + Net), link: &mut L, pad: &mut Pad) -> Result<(), Fail> {
-    let near = bind_one(rt, link)?;
-    let far = bind_one(rt, link)?;
+fn takes_turns<L: Link>(rt: &(impl Abort + Net), link: &mut L, pad: &mut Pad) {
+    let near = bind_one(rt, link);
+    let far = bind_one(rt, link);
     for _ in 0..17 {
         sends(rt, link, near, &[near, far]);
     }
@@ -437,42 +425,36 @@ fn takes_turns<L: Link>(rt: &(impl Abort + Net), link: &mut L, pad: &mut Pad) ->
     let second = next_port(link, pad);
     assert!(rt; first != second);
     assert!(rt; first != 0 && second != 0);
-    Ok(())
 }
 
 #[test]
-fn ports_take_turns(rt: HostRuntime) -> Result<(), Fail> {
-    let mut pad = Pad::make(rt.alloc())?;
+fn ports_take_turns(rt: HostRuntime) {
+    let mut pad = Pad::make(rt.alloc()).expect(&rt, "memory");
     let mut link = UdpLink::make(rt.alloc(), &rt);
-    takes_turns(&rt, &mut link, &mut pad)
+    takes_turns(&rt, &mut link, &mut pad);
 }
 
 /// A port that is given up takes nothing from the others, and each keeps what waits.
-fn leaves_the_others<L: Link>(
-    rt: &(impl Abort + Net),
-    link: &mut L,
-    pad: &mut Pad,
-) -> Result<(), Fail> {
-    let near = bind_one(rt, link)?;
-    let far = bind_one(rt, link)?;
+fn leaves_the_others<L: Link>(rt: &(impl Abort + Net), link: &mut L, pad: &mut Pad) {
+    let near = bind_one(rt, link);
+    let far = bind_one(rt, link);
     sends(rt, link, near, &[near, far, near, far, near, far]);
     assert!(rt; next_port(link, pad) != 0);
     assert!(rt; link.unbind(near.port) == Ok(()));
     assert!(rt; next_port(link, pad) == far.port);
     assert!(rt; next_port(link, pad) == far.port);
-    Ok(())
 }
 
 #[test]
-fn a_port_given_up_leaves_the_others(rt: HostRuntime) -> Result<(), Fail> {
-    let mut pad = Pad::make(rt.alloc())?;
+fn a_port_given_up_leaves_the_others(rt: HostRuntime) {
+    let mut pad = Pad::make(rt.alloc()).expect(&rt, "memory");
     let mut link = UdpLink::make(rt.alloc(), &rt);
-    leaves_the_others(&rt, &mut link, &mut pad)
+    leaves_the_others(&rt, &mut link, &mut pad);
 }
 
 /// Of eight draws each place is once not 0.
 #[test]
-fn noise_has_each_place(rt: HostRuntime) -> Result<(), Fail> {
+fn noise_has_each_place(rt: HostRuntime) {
     let mut noise = RngNoise::make(SystemRng(&rt));
     let mut seen = [0; 304];
     for _ in 0..8 {
@@ -483,5 +465,4 @@ fn noise_has_each_place(rt: HostRuntime) -> Result<(), Fail> {
         }
     }
     assert!(rt; seen.iter().all(|octet| *octet != 0));
-    Ok(())
 }

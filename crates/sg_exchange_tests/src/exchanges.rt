@@ -7,17 +7,18 @@ use sg_psk::{
     Initial, PskBook, ReplayBook, Waiting, initiate, read_initial, read_response, respond,
 };
 use std::alloc::Global;
-use std::test::Fail;
+use std::process::Abort;
 
 /// The moment of all stamps.
 const NOW: u64 = 1_000_000_000_000;
 
-fn octets_of(alloc: Global, text: &[u8]) -> Result<Octets, Fail> {
-    Ok(read_octets(alloc, text)?.ok_or("no hexadecimal digits")?)
+fn octets_of(rt: &impl Abort, alloc: Global, text: &[u8]) -> Octets {
+    let read = read_octets(alloc, text).expect(rt, "memory");
+    read.expect(rt, "hexadecimal digits")
 }
 
-fn name_of(octets: &[u8]) -> Result<Identity, Fail> {
-    Ok(Identity::new(octets).ok_or("no name")?)
+fn name_of(rt: &impl Abort, octets: &[u8]) -> Identity {
+    Identity::new(octets).expect(rt, "a name")
 }
 
 // Octets that go up by a step from a first one, modulo 256.
@@ -31,14 +32,12 @@ fn stepped<const N: usize>(first: u8, step: u8) -> [u8; N] {
     octets
 }
 
-fn book_of(alloc: Global) -> Result<PskBook, Fail> {
-    let mut book = PskBook::make(alloc);
-    let (own, peer) = (name_of(b"sip:gw@a")?, name_of(b"sip:bob@b")?);
+fn book_of(rt: &impl Abort, alloc: Global) -> PskBook {
+    let (own, peer) = (name_of(rt, b"sip:gw@a"), name_of(rt, b"sip:bob@b"));
     let key: [u8; 32] = stepped(100, 1);
-    match book.add(alloc, &own, &peer, &key) {
-        Ok(()) => Ok(book),
-        Err(_) => Err("no room for a pair")?,
-    }
+    let mut book = PskBook::make(alloc);
+    assert!(rt; book.add(alloc, &own, &peer, &key).is_ok());
+    book
 }
 
 /// What a message is accepted as; a text tells why it isn't.
@@ -62,76 +61,79 @@ fn accept(
 }
 
 /// The message of a row, accepted.
-fn accepted(alloc: Global, book: &PskBook, row: &Accepted) -> Result<Initial, Fail> {
-    let octets = octets_of(alloc, row.message)?;
-    let empty = ReplayBook::make(alloc)?;
-    Ok(accept(alloc, octets.as_slice(), book, &empty, row.now)?)
+fn accepted(rt: &impl Abort, alloc: Global, book: &PskBook, row: &Accepted) -> Initial {
+    let octets = octets_of(rt, alloc, row.message);
+    let empty = ReplayBook::make(alloc).expect(rt, "memory");
+    let accepted = accept(alloc, octets.as_slice(), book, &empty, row.now);
+    accepted.expect(rt, row.name)
 }
 
-fn keys_of(alloc: Global, tgks: &Tgks) -> Result<(Vec<u8>, Vec<u8>), Fail> {
+/// The keys, joined.
+fn keys_of(rt: &impl Abort, alloc: Global, tgks: &Tgks) -> Vec<u8> {
     let mut keys = Vec::new(alloc);
+    for tgk in tgks.keys.as_slice() {
+        let pushed = keys.extend_from_slice(tgk.key.as_slice());
+        pushed.expect(rt, "memory");
+    }
+    keys
+}
+
+/// Their SPIs, joined.
+fn spis_of(rt: &impl Abort, alloc: Global, tgks: &Tgks) -> Vec<u8> {
     let mut spis = Vec::new(alloc);
     for tgk in tgks.keys.as_slice() {
-        keys.extend_from_slice(tgk.key.as_slice())?;
         if let Some(spi) = &tgk.spi {
-            spis.extend_from_slice(spi.octets().as_slice())?;
+            let pushed = spis.extend_from_slice(spi.octets().as_slice());
+            pushed.expect(rt, "memory");
         }
     }
-    Ok((keys, spis))
+    spis
 }
 
 fn response_to(
+    rt: &impl Abort,
     alloc: Global,
     initial: &Initial,
     book: &PskBook,
     count: usize,
-) -> Result<Octets, Fail> {
+) -> Octets {
     let ssrcs = [0xa0, 0xa1];
-    if usize::from(initial.pair) >= book.pairs().len() || count > ssrcs.len() {
-        return Err("no such pair".into());
-    }
-    Ok(respond(alloc, initial, book, &ssrcs[..count])?)
+    assert!(rt; usize::from(initial.pair) < book.pairs().len());
+    assert!(rt; count <= ssrcs.len());
+    respond(alloc, initial, book, &ssrcs[..count]).expect(rt, "memory")
 }
 
-/// Whether these octets are what the text says.
-fn is(alloc: Global, octets: &[u8], text: &[u8]) -> Result<bool, Fail> {
-    Ok(octets == octets_of(alloc, text)?.as_slice())
+/// These octets are what the text says.
+fn are(rt: &impl Abort, alloc: Global, octets: &[u8], text: &[u8]) {
+    let wanted = octets_of(rt, alloc, text);
+    assert!(rt; octets == wanted.as_slice());
 }
 
-/// Whether what an accepted message carries, its keys, its SPIs and the response to it, is what its row says.
-fn carries(
-    alloc: Global,
-    initial: &Initial,
-    book: &PskBook,
-    row: &Accepted,
-) -> Result<[bool; 3], Fail> {
-    let (keys, spis) = keys_of(alloc, &initial.tgks)?;
-    let response = response_to(alloc, initial, book, row.media)?;
-    Ok([
-        is(alloc, &keys, row.keys)?,
-        is(alloc, &spis, row.spis)?,
-        is(alloc, response.as_slice(), row.response)?,
-    ])
+/// What an accepted message carries, its keys, its SPIs and the response to it, is what its row says.
+fn carries(rt: &impl Abort, alloc: Global, initial: &Initial, book: &PskBook, row: &Accepted) {
+    let keys = keys_of(rt, alloc, &initial.tgks);
+    are(rt, alloc, &keys, row.keys);
+    let spis = spis_of(rt, alloc, &initial.tgks);
+    are(rt, alloc, &spis, row.spis);
+    let response = response_to(rt, alloc, initial, book, row.media);
+    are(rt, alloc, response.as_slice(), row.response);
 }
 
 #[test]
-fn accepts_messages_of_another_program(rt: HostRuntime) -> Result<(), Fail> {
-    let alloc = rt.alloc();
-    let book = book_of(alloc)?;
+fn accepts_messages_of_another_program(rt: HostRuntime) {
+    let book = book_of(&rt, rt.alloc());
     for row in &ACCEPTED {
-        let initial = accepted(alloc, &book, row)?;
-        let carried = carries(alloc, &initial, &book, row)?;
-        assert!(rt; carried == [true; 3], "{}", row.name);
+        let initial = accepted(&rt, rt.alloc(), &book, row);
+        carries(&rt, rt.alloc(), &initial, &book, row);
     }
-    Ok(())
 }
 
 /// The message to the peer, and what waits for the answer.
-fn sent(alloc: Global, book: &PskBook) -> Result<(Octets, Waiting), Fail> {
+fn sent(rt: &impl Abort, alloc: Global, book: &PskBook) -> (Octets, Waiting) {
     let noise: [u8; 304] = stepped(1, 5);
-    let peer = name_of(b"sip:bob@b")?;
+    let peer = name_of(rt, b"sip:bob@b");
     let sent = initiate(alloc, book, &peer, NOW, &noise, &[0xa0, 0xa1]);
-    Ok(sent.map_err(|_| "refused")?)
+    sent.ok().expect(rt, "sent")
 }
 
 /// The SSRC of the peer's first crypto session, as its answer has it.
@@ -157,14 +159,11 @@ fn answered(
 }
 
 #[test]
-fn sends_and_reads_the_answer(rt: HostRuntime) -> Result<(), Fail> {
-    let alloc = rt.alloc();
-    let book = book_of(alloc)?;
-    let (octets, waiting) = sent(alloc, &book)?;
-    let is_own = is(alloc, octets.as_slice(), OWN)?;
-    assert!(rt; is_own);
-    let octets = octets_of(alloc, ANSWER)?;
-    let answer = answered(alloc, octets.as_slice(), &waiting, &book);
+fn sends_and_reads_the_answer(rt: HostRuntime) {
+    let book = book_of(&rt, rt.alloc());
+    let (octets, waiting) = sent(&rt, rt.alloc(), &book);
+    are(&rt, rt.alloc(), octets.as_slice(), OWN);
+    let octets = octets_of(&rt, rt.alloc(), ANSWER);
+    let answer = answered(rt.alloc(), octets.as_slice(), &waiting, &book);
     assert!(rt; answer == Ok(0xb0));
-    Ok(())
 }

@@ -188,8 +188,14 @@ pub(crate) fn bundle_in(
     };
     let initial = match read_initial(alloc, octets.as_slice(), &message, psks, seen, now) {
         Ok(initial) => initial,
-        Err(fault) => return Err(psk_fault(medium, fault)),
+        Err(fault) => {
+            drop(message);
+            drop(octets);
+            return Err(psk_fault(medium, fault));
+        }
     };
+    drop(message);
+    drop(octets);
     let random = initial.random.as_slice();
     let map = initial.map.as_slice();
     let policies = initial.policies.as_slice();
@@ -206,7 +212,10 @@ pub(crate) fn bundle_in(
             initial,
             streams: Items::from_vec(streams),
         }),
-        Err(fault) => Err(cs_fault(medium, fault)),
+        Err(fault) => {
+            drop(initial);
+            Err(cs_fault(medium, fault))
+        }
     }
 }
 

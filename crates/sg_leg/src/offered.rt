@@ -98,11 +98,15 @@ pub(crate) fn open(
         Ok(opening) => opening,
         Err(fault) => {
             drop(description);
+            drop(former);
             return Err(fault);
         }
     };
     let session = opening.session.as_slice();
     let Ok(out) = offered_text(alloc, slot, side, &description, session, &opening.media) else {
+        drop(opening);
+        drop(description);
+        drop(former);
         return Err(Fault::NoMemory);
     };
     note_all(&opening.keying, &mut books.seen);
@@ -325,7 +329,14 @@ impl Offered {
     pub fn reject(self) -> Result<Live, Ended>
         ensures { MatchResult result (λ live. self.former ≡ Some live) (λ _. self.former ≡ None) }
     {
-        let Offered { former, .. } = self;
+        let Offered {
+            former,
+            description,
+            keying,
+            ..
+        } = self;
+        drop(keying);
+        drop(description);
         match former {
             Some(live) => Ok(live),
             None => Err(Ended),

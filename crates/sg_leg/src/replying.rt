@@ -398,9 +398,16 @@ fn streams_answered(
     };
     let map = match read_response(alloc, octets.as_slice(), &message, waiting, psks) {
         Ok(map) => map,
-        Err(fault) => return Err(psk_fault(255, fault)),
+        Err(fault) => {
+            drop(message);
+            drop(octets);
+            return Err(psk_fault(255, fault));
+        }
     };
+    drop(message);
+    drop(octets);
     let Ok(policy) = default_policy(alloc) else {
+        drop(map);
         return Err(Fault::NoMemory);
     };
     let random = &waiting.random;
@@ -415,7 +422,10 @@ fn streams_answered(
         count,
     ) {
         Ok(streams) => streams,
-        Err(fault) => return Err(cs_fault(255, fault)),
+        Err(fault) => {
+            drop(map);
+            return Err(cs_fault(255, fault));
+        }
     };
     match responded(alloc, streams, map.as_slice()) {
         Ok(streams) => Ok(streams),

@@ -2,11 +2,10 @@
 //!
 //! The datagrams are those of `interop/sessions.py`, a program that has nothing of this project.
 
-use sg_base::{MasterKey, Pad, Suite};
+use sg_base::{MasterKey, Octets, Pad, Suite, read_octets};
 use sg_peer::Peer;
 use std::alloc::Global;
 use std::process::Abort;
-use std::test::Fail;
 
 /// The source of all packets.
 const SOURCE: u32 = 0xcafebabe;
@@ -45,54 +44,51 @@ const CASES: [Case; 2] = [
 ];
 
 /// The octets of a text of hexadecimal digits.
-fn octets_of(alloc: Global, text: &str) -> Result<Vec<u8>, Fail> {
-    let read = sg_base::read_octets(alloc, text.as_bytes())?.ok_or("hex")?;
-    Ok(read.as_slice().to_vec(alloc)?)
+fn octets_of(rt: &impl Abort, alloc: Global, text: &str) -> Octets {
+    let read = read_octets(alloc, text.as_bytes()).expect(rt, "memory");
+    read.expect(rt, "hex")
+}
+
+/// A pad that holds such octets.
+fn pad_of(rt: &impl Abort, alloc: Global, text: &str) -> Pad {
+    let octets = octets_of(rt, alloc, text);
+    let mut pad = Pad::make(alloc).expect(rt, "memory");
+    assert!(rt; pad.fill(octets.as_slice()) == Ok(()));
+    pad
 }
 
 /// The peer of a case.
-fn peer_of(rt: &impl Abort, alloc: Global, case: &Case) -> Result<Peer, Fail> {
-    let octets = octets_of(alloc, case.master)?;
-    let master = MasterKey::new(case.suite, octets.as_slice()).ok_or("length")?;
+fn peer_of(rt: &impl Abort, alloc: Global, case: &Case) -> Peer {
+    let octets = octets_of(rt, alloc, case.master);
+    let master = MasterKey::new(case.suite, octets.as_slice()).expect(rt, "length");
     assert!(rt; case.first < 1 << 48);
-    Ok(Peer::make(&master, SOURCE, case.first))
+    Peer::make(&master, SOURCE, case.first)
 }
 
 /// Seals the packet of a case, which must give its datagram.
-fn seals(rt: &impl Abort, alloc: Global, peer: &mut Peer, case: &Case) -> Result<(), Fail> {
-    let (packet, datagram) = (
-        octets_of(alloc, case.packet)?,
-        octets_of(alloc, case.datagram)?,
-    );
-    let mut pad = Pad::make(alloc)?;
-    assert!(rt; pad.fill(packet.as_slice()) == Ok(()));
+fn seals(rt: &impl Abort, alloc: Global, peer: &mut Peer, case: &Case) {
+    let pad = pad_of(rt, alloc, case.packet);
     assert!(rt; pad.octets().len() <= 4096);
-    let sealed = peer.seal_next(pad).ok().ok_or(case.packet)?;
-    assert!(rt; sealed.pad.octets() == datagram.as_slice());
+    let sealed = peer.seal_next(pad).ok().expect(rt, case.packet);
     assert!(rt; (sealed.ssrc, sealed.key) == (SOURCE, 0));
-    Ok(())
+    let datagram = octets_of(rt, alloc, case.datagram);
+    assert!(rt; sealed.pad.octets() == datagram.as_slice());
 }
 
 /// Opens the datagram of a case, which must give its packet.
-fn opens(rt: &impl Abort, alloc: Global, peer: &mut Peer, case: &Case) -> Result<(), Fail> {
-    let (packet, datagram) = (
-        octets_of(alloc, case.packet)?,
-        octets_of(alloc, case.datagram)?,
-    );
-    let mut pad = Pad::make(alloc)?;
-    assert!(rt; pad.fill(datagram.as_slice()) == Ok(()));
-    let opened = peer.check(pad).ok().ok_or(case.datagram)?;
-    assert!(rt; opened.pad.octets() == packet.as_slice());
+fn opens(rt: &impl Abort, alloc: Global, peer: &mut Peer, case: &Case) {
+    let pad = pad_of(rt, alloc, case.datagram);
+    let opened = peer.check(pad).ok().expect(rt, case.datagram);
     assert!(rt; (opened.ssrc, opened.key) == (SOURCE, 0));
-    Ok(())
+    let packet = octets_of(rt, alloc, case.packet);
+    assert!(rt; opened.pad.octets() == packet.as_slice());
 }
 
 #[test]
-fn packets_of_each_key(rt: HostRuntime) -> Result<(), Fail> {
+fn packets_of_each_key(rt: HostRuntime) {
     for case in &CASES {
-        let mut peer = peer_of(&rt, rt.alloc(), case)?;
-        seals(&rt, rt.alloc(), &mut peer, case)?;
-        opens(&rt, rt.alloc(), &mut peer, case)?;
+        let mut peer = peer_of(&rt, rt.alloc(), case);
+        seals(&rt, rt.alloc(), &mut peer, case);
+        opens(&rt, rt.alloc(), &mut peer, case);
     }
-    Ok(())
 }

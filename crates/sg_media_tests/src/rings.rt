@@ -4,7 +4,7 @@ use sg_base::{CipherKey, HalfKeys, MasterKey, SessionKeys, Suite};
 use sg_kdf::derive;
 use sg_keys::{Ring, RingFault};
 use std::alloc::Global;
-use std::test::Fail;
+use std::process::Abort;
 
 /// The number of the first key that came into use, or why none did.
 type Answer = Result<u32, RingFault>;
@@ -16,17 +16,24 @@ fn derived(master: MasterKey) -> (MasterKey, SessionKeys) {
 }
 
 /// A key of this suite whose key octets and salt octets are these.
-fn filled(suite: Suite, octet: u8, salt: u8) -> Result<(MasterKey, SessionKeys), Fail> {
+fn filled(rt: &impl Abort, suite: Suite, octet: u8, salt: u8) -> (MasterKey, SessionKeys) {
     let mut octets = [octet; 46];
     let count = suite.key_len();
     octets[count..].fill(salt);
     let all = count + suite.salt_len();
-    let master = MasterKey::new(suite, &octets[..all]).ok_or("length")?;
-    Ok(derived(master))
+    derived(MasterKey::new(suite, &octets[..all]).expect(rt, "length"))
+}
+
+/// What is told where a key came into use at this number, or one of this number forbade it.
+fn told(answer: Result<u32, u32>) -> Answer {
+    match answer {
+        Ok(number) => Ok(number),
+        Err(number) => Err(RingFault::KeyReused { number }),
+    }
 }
 
 #[test]
-fn a_key_comes_into_use_once(rt: HostRuntime) -> Result<(), Fail> {
+fn a_key_comes_into_use_once(rt: HostRuntime) {
     use Suite::{Cm128Tag80, Raw80};
     let mut ring = Ring::make(rt.alloc());
     // A suite, the octet of the key and that of the salt, and the answer. Another salt makes no other
@@ -37,12 +44,13 @@ fn a_key_comes_into_use_once(rt: HostRuntime) -> Result<(), Fail> {
         (Suite::Cm128Tag32, 1, 5, Err(0)),
         (Raw80, 1, 0, Err(1)),
     ] {
-        let told = ring.install_all(&[filled(suite, octet, salt)?]);
-        let wanted = answer.map_err(|number| RingFault::KeyReused { number });
-        assert!(rt; told == wanted, "{suite:?} {octet} {salt}");
+        let keys = [filled(&rt, suite, octet, salt)];
+        assert!(rt;
+            ring.install_all(&keys) == told(answer),
+            "{suite:?} {octet} {salt}"
+        );
     }
     assert!(rt; ring.count() == 2);
-    Ok(())
 }
 
 /// Session keys whose encryption key is filled with this octet; none of it at 0.
@@ -56,28 +64,27 @@ fn half(octet: u8) -> HalfKeys {
 }
 
 /// A master key filled with an octet, beside encryption keys that aren't derived of it.
-fn given(master: u8, rtp: u8, rtcp: u8) -> Result<(MasterKey, SessionKeys), Fail> {
-    let master = MasterKey::new(Suite::Cm128Tag80, &[master; 30]).ok_or("length")?;
+fn given(rt: &impl Abort, master: u8, rtp: u8, rtcp: u8) -> (MasterKey, SessionKeys) {
     let keys = SessionKeys {
         rtp: half(rtp),
         rtcp: half(rtcp),
     };
-    Ok((master, keys))
+    let master = MasterKey::new(Suite::Cm128Tag80, &[master; 30]).expect(rt, "length");
+    (master, keys)
 }
 
 /// The octets of a master key and of its two encryption keys.
 type Octets = (u8, u8, u8);
 
 /// What the ring answers to such keys, all at once.
-fn installs_given(alloc: Global, ring: &mut Ring, rows: &[Octets]) -> Result<Answer, Fail> {
+fn installs_given(rt: &impl Abort, alloc: Global, ring: &mut Ring, rows: &[Octets]) -> Answer {
     let mut keys = Vec::new(alloc);
     for (master, rtp, rtcp) in rows {
-        keys.push(given(*master, *rtp, *rtcp)?)?;
+        let pushed = keys.push(given(rt, *master, *rtp, *rtcp));
+        pushed.expect(rt, "memory");
     }
-    if keys.len() > 65536 {
-        return Err("too many keys".into());
-    }
-    Ok(ring.install_all(&keys))
+    assert!(rt; keys.len() <= 65536);
+    ring.install_all(&keys)
 }
 
 /// Lists of such keys, and the answers.
@@ -97,12 +104,10 @@ const GIVEN: [(&[Octets], Result<u32, u32>); 10] = [
 // Encryption keys are compared as they are given, those of RTP with those of RTCP too (RFC 3711, 9.1). A
 // key whose own two are equal gets its own number told, behind whatever else it clashes with.
 #[test]
-fn compares_the_keys_that_it_is_given(rt: HostRuntime) -> Result<(), Fail> {
+fn compares_the_keys_that_it_is_given(rt: HostRuntime) {
     let mut ring = Ring::make(rt.alloc());
-    for (rows, answer) in GIVEN {
-        let told = installs_given(rt.alloc(), &mut ring, rows)?;
-        let wanted = answer.map_err(|number| RingFault::KeyReused { number });
-        assert!(rt; told == wanted, "{rows:?}");
+    for (rows, answer) in &GIVEN {
+        let given = installs_given(&rt, rt.alloc(), &mut ring, rows);
+        assert!(rt; given == told(*answer), "{rows:?}");
     }
-    Ok(())
 }

@@ -2,20 +2,19 @@
 //!
 //! The datagrams are those of `interop/sessions.py`, a program that has nothing of this project.
 
-ghost use Rattle.std.specs.Prelude.{◌≡◌, ◌<◌, ◌∷◌, [], length, true, IfOk, IsTrue};
+ghost use Rattle.std.specs.Prelude.{◌≡◌, ◌<◌, ◌∷◌, [], length, true, IsTrue};
 ghost use Rattle.sg_keys.specs.Live.{is_cipher_len};
 ghost use Rattle.sg_keys.specs.PreparedKey.{live_of};
 ghost use Rattle.sg_media.specs.Ciphers.{may_encrypt};
 ghost use Rattle.sg_media.specs.Sides.{CanBeMade, is_tag_len};
 
 use arrayvec::ArrayVec;
-use sg_base::{HalfKeys, Kind, MasterKey, Mki, Pad, SessionKeys, Suite};
+use sg_base::{HalfKeys, Kind, MasterKey, Mki, Octets, Pad, SessionKeys, Suite, read_octets};
 use sg_kdf::derive;
 use sg_keys::{Admit, KeySet, LiveKey, SessionSpec};
 use sg_media::{OpenSide, SealSide};
 use std::alloc::Global;
 use std::process::Abort;
-use std::test::Fail;
 
 /// The master key and salt of RFC 3711, B.3.
 const SMALL: &str = "e1f97a0d3e018be0d64fa32c06de41390ec675ad498afeebb6960b3aabe6";
@@ -93,14 +92,14 @@ const OF_ONE_KEY: [Case; 4] = [
 ];
 
 /// The session keys of one kind of a master key in hexadecimal digits.
-fn half_of(alloc: Global, suite: Suite, kind: Kind, text: &str) -> Result<HalfKeys, Fail> {
-    let octets = sg_base::read_octets(alloc, text.as_bytes())?.ok_or("hex")?;
-    let master = MasterKey::new(suite, octets.as_slice()).ok_or("length")?;
+fn half_of(rt: &impl Abort, alloc: Global, suite: Suite, kind: Kind, text: &str) -> HalfKeys {
+    let octets = octets_of(rt, alloc, text);
+    let master = MasterKey::new(suite, octets.as_slice()).expect(rt, "length");
     let SessionKeys { rtp, rtcp } = derive(&master);
-    Ok(match kind {
+    match kind {
         Kind::Rtp => rtp,
         Kind::Rtcp => rtcp,
-    })
+    }
 }
 
 /// A key that has served nothing.
@@ -175,59 +174,59 @@ fn of_one(rt: &impl Abort, half: HalfKeys, case: &Case) -> SessionSpec
     }
 }
 
-/// The octets of a packet or a datagram.
-fn octets_of(alloc: Global, text: &str) -> Result<Vec<u8>, Fail> {
-    let read = sg_base::read_octets(alloc, text.as_bytes())?.ok_or("hex")?;
-    Ok(read.as_slice().to_vec(alloc)?)
+/// The octets of a text of hexadecimal digits.
+fn octets_of(rt: &impl Abort, alloc: Global, text: &str) -> Octets {
+    let read = read_octets(alloc, text.as_bytes()).expect(rt, "memory");
+    read.expect(rt, "hex")
+}
+
+/// A pad that holds such octets.
+fn pad_of(rt: &impl Abort, alloc: Global, text: &str) -> Pad {
+    let octets = octets_of(rt, alloc, text);
+    let mut pad = Pad::make(alloc).expect(rt, "memory");
+    assert!(rt; pad.fill(octets.as_slice()) == Ok(()));
+    pad
 }
 
 /// Opens the datagram of a case, which must be its packet.
-fn opens(rt: &impl Abort, alloc: Global, side: &mut OpenSide, case: &Case) -> Result<(), Fail> {
-    let packet = octets_of(alloc, case.packet)?;
-    let datagram = octets_of(alloc, case.datagram)?;
-    let mut pad = Pad::make(alloc)?;
-    assert!(rt; pad.fill(datagram.as_slice()) == Ok(()));
-    let opened = side.receive(pad).ok().ok_or(case.datagram)?;
-    assert!(rt; opened.pad.octets() == packet.as_slice());
+fn opens(rt: &impl Abort, alloc: Global, side: &mut OpenSide, case: &Case) {
+    let pad = pad_of(rt, alloc, case.datagram);
+    let opened = side.receive(pad).ok().expect(rt, case.datagram);
     assert!(rt; opened.key == 5);
-    Ok(())
+    let packet = octets_of(rt, alloc, case.packet);
+    assert!(rt; opened.pad.octets() == packet.as_slice());
 }
 
 /// Seals the packet of a case, which must be its datagram.
-fn seals(rt: &impl Abort, alloc: Global, side: &mut SealSide, case: &Case) -> Result<(), Fail> {
-    let packet = octets_of(alloc, case.packet)?;
-    let datagram = octets_of(alloc, case.datagram)?;
-    let mut pad = Pad::make(alloc)?;
-    assert!(rt; pad.fill(packet.as_slice()) == Ok(()));
+fn seals(rt: &impl Abort, alloc: Global, side: &mut SealSide, case: &Case) {
+    let pad = pad_of(rt, alloc, case.packet);
     assert!(rt; pad.octets().len() <= 4096);
-    let sealed = side.send(pad).ok().ok_or(case.packet)?;
-    assert!(rt; sealed.pad.octets() == datagram.as_slice());
+    let sealed = side.send(pad).ok().expect(rt, case.packet);
     assert!(rt; sealed.key == 5);
-    Ok(())
+    let datagram = octets_of(rt, alloc, case.datagram);
+    assert!(rt; sealed.pad.octets() == datagram.as_slice());
 }
 
 /// The session of a case.
-fn session(rt: &impl Abort, alloc: Global, case: &Case) -> Result<SessionSpec, Fail>
-    ensures { IfOk result CanBeMade }
+fn session(rt: &impl Abort, alloc: Global, case: &Case) -> SessionSpec
+    ensures { CanBeMade result }
 {
-    let half = half_of(alloc, case.suite, case.kind, case.master)?;
-    Ok(of_one(rt, half, case))
+    let half = half_of(rt, alloc, case.suite, case.kind, case.master);
+    of_one(rt, half, case)
 }
 
 #[test]
-fn sessions_of_one_key_seal(rt: HostRuntime) -> Result<(), Fail> {
+fn sessions_of_one_key_seal(rt: HostRuntime) {
     for case in &OF_ONE_KEY {
-        let mut side = SealSide::make(session(&rt, rt.alloc(), case)?);
-        seals(&rt, rt.alloc(), &mut side, case)?;
+        let mut side = SealSide::make(session(&rt, rt.alloc(), case));
+        seals(&rt, rt.alloc(), &mut side, case);
     }
-    Ok(())
 }
 
 #[test]
-fn sessions_of_one_key_open(rt: HostRuntime) -> Result<(), Fail> {
+fn sessions_of_one_key_open(rt: HostRuntime) {
     for case in &OF_ONE_KEY {
-        let mut side = OpenSide::make(session(&rt, rt.alloc(), case)?);
-        opens(&rt, rt.alloc(), &mut side, case)?;
+        let mut side = OpenSide::make(session(&rt, rt.alloc(), case));
+        opens(&rt, rt.alloc(), &mut side, case);
     }
-    Ok(())
 }

@@ -1,10 +1,8 @@
 //! Lines that are answered and printed.
 
-use sg_base::Octets;
 use sg_sdes::{CryptoLine, answer_line, print_crypto, read_crypto};
 use std::alloc::Global;
 use std::process::Abort;
-use std::test::Fail;
 
 /// Octets 0, 1, 2 and so on.
 fn counted() -> [u8; 76] {
@@ -15,16 +13,10 @@ fn counted() -> [u8; 76] {
     noise
 }
 
-fn printed(alloc: Global, line: &CryptoLine) -> Result<Octets, Fail> {
-    Ok(print_crypto(alloc, line).ok().ok_or("memory")?)
-}
-
-fn are_spelt(rt: &impl Abort, alloc: Global, rows: &[(&[u8], &[u8])]) -> Result<(), Fail> {
-    for (value, spelling) in rows {
-        let line = read_crypto(value).ok().ok_or("it is a crypto line")?;
-        assert!(rt; printed(alloc, &line)?.as_slice() == *spelling);
-    }
-    Ok(())
+/// The line is spelt so.
+fn is_spelt(rt: &impl Abort, alloc: Global, line: &CryptoLine, spelling: &[u8]) {
+    let printed = print_crypto(alloc, line).ok().expect(rt, "memory");
+    assert!(rt; printed.as_slice() == spelling);
 }
 
 /// Values, and the one spelling of the line that each says.
@@ -52,8 +44,11 @@ const SPELLINGS: [(&[u8], &[u8]); 5] = [
 ];
 
 #[test]
-fn spellings(rt: HostRuntime) -> Result<(), Fail> {
-    are_spelt(&rt, rt.alloc(), &SPELLINGS)
+fn spellings(rt: HostRuntime) {
+    for (value, spelling) in &SPELLINGS {
+        let line = read_crypto(value).ok().expect(&rt, "a crypto line");
+        is_spelt(&rt, rt.alloc(), &line, spelling);
+    }
 }
 
 /// Values, and the line that answers them with the key of counted octets.
@@ -64,11 +59,10 @@ const ANSWERED: [(&[u8], &[u8]); 1] = [(
 
 /// An answer repeats the tag, the suite and the marks, with a key of its own.
 #[test]
-fn answered_lines(rt: HostRuntime) -> Result<(), Fail> {
-    for (value, spelling) in ANSWERED {
-        let chosen = read_crypto(value).ok().ok_or("it is a crypto line")?;
+fn answered_lines(rt: HostRuntime) {
+    for (value, spelling) in &ANSWERED {
+        let chosen = read_crypto(value).ok().expect(&rt, "a crypto line");
         let answer = answer_line(&chosen, &counted());
-        assert!(rt; printed(rt.alloc(), &answer)?.as_slice() == spelling);
+        is_spelt(&rt, rt.alloc(), &answer, spelling);
     }
-    Ok(())
 }

@@ -3,7 +3,6 @@
 
 use sg_base::Suite;
 use sg_sdes::read_crypto;
-use std::test::Fail;
 
 const SAYING: &[u8] =
     b"0017 AES_CM_128_HMAC_SHA1_80 inline:WVNfX19zZW1jdGwgKCkgewkyMjA7fQp9CnVubGVz|2^20|1:4 FEC_ORDER=FEC_SRTP WSH=0063 UNENCRYPTED_SRTCP";
@@ -13,8 +12,8 @@ const SAYING_TWO: &[u8] =
 
 /// The line of RFC 4568, section 5.1, with a window, and what each of its words says.
 #[test]
-fn what_a_line_says(rt: HostRuntime) -> Result<(), Fail> {
-    let line = read_crypto(SAYING).ok().ok_or("it is a crypto line")?;
+fn what_a_line_says(rt: HostRuntime) {
+    let line = read_crypto(SAYING).ok().expect(&rt, "a crypto line");
     assert!(rt; line.tag == 17);
     assert!(rt; line.suite == Suite::Cm128Tag80);
     assert!(rt; line.window == Some(63));
@@ -24,15 +23,14 @@ fn what_a_line_says(rt: HostRuntime) -> Result<(), Fail> {
     assert!(rt; keys[0].lifetime == 1_048_576);
     assert!(rt; keys[0].key.key() == b"YS___semctl () {".as_slice());
     assert!(rt; keys[0].key.salt() == b"\t220;}\n}\nunles".as_slice());
-    let mki = keys[0].mki.ok_or("it has an MKI")?;
+    let mki = keys[0].mki.expect(&rt, "an MKI");
     assert!(rt; (mki.value(), mki.len()) == (1, 4));
-    Ok(())
 }
 
 /// Several keys in their order, with the longest lifetime where none is stated.
 #[test]
-fn what_two_keys_say(rt: HostRuntime) -> Result<(), Fail> {
-    let line = read_crypto(SAYING_TWO).ok().ok_or("it is a crypto line")?;
+fn what_two_keys_say(rt: HostRuntime) {
+    let line = read_crypto(SAYING_TWO).ok().expect(&rt, "a crypto line");
     assert!(rt; line.window == None);
     assert!(rt; (line.plain_rtp, line.plain_rtcp) == (true, false));
     let keys = line.keys.as_slice();
@@ -41,5 +39,4 @@ fn what_two_keys_say(rt: HostRuntime) -> Result<(), Fail> {
     assert!(rt;
         keys[1].key.key() == [0, 1, 2, 3, 4, 5, 6, 7, 8, 9, 10, 11, 12, 13, 14, 15].as_slice()
     );
-    Ok(())
 }

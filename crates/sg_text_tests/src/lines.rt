@@ -13,10 +13,8 @@ fn fault_of(rt: &impl Abort, alloc: Global, version: u8, octets: &[u8]) -> Optio
 {
     match read_line(alloc, version, 2, octets) {
         Ok(line) => {
-            match print_line(alloc, &line) {
-                Ok(printed) => assert!(rt; printed.as_slice() == octets),
-                Err(_) => assert!(rt; false, "memory"),
-            }
+            let printed = print_line(alloc, &line).ok().expect(rt, "memory");
+            assert!(rt; printed.as_slice() == octets);
             None
         }
         Err(ReadLineFault::Script(fault)) => Some(fault),

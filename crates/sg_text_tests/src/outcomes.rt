@@ -8,10 +8,8 @@ use std::process::Abort;
 fn fault_of(rt: &impl Abort, alloc: Global, octets: &[u8]) -> Option<ScriptFault> {
     match read_outcome(alloc, octets) {
         Ok(outcome) => {
-            match print_outcome(alloc, &outcome) {
-                Ok(printed) => assert!(rt; printed.as_slice() == octets),
-                Err(_) => assert!(rt; false, "memory"),
-            }
+            let printed = print_outcome(alloc, &outcome).ok().expect(rt, "memory");
+            assert!(rt; printed.as_slice() == octets);
             None
         }
         Err(ReadLineFault::Script(fault)) => Some(fault),

@@ -1,7 +1,7 @@
 //! The command line, as clap is told of it.
 
 ghost use Rattle.std.specs.Prelude.{◌≡◌, true, false, Some, codes, IfOk};
-ghost use Rattle.clap.specs.Words.{app_of, new_app, new_rule, rule_of};
+ghost use Rattle.clap.specs.Words.{app_of, new_app, new_rule, rule_of, with_rule, with_subcommand};
 ghost use Rattle.clap.specs.declared.builder.command.Command.TheViews.{out-Command};
 ghost use Rattle.sg_words.specs.Grammar as grammar;
 
@@ -45,29 +45,45 @@ fn start<'a>(alloc: Global) -> Arg<'a>
     Arg::new(alloc, "start").required(true)
 }
 
+/// The command of this name with the option `--workers` alone.
+fn with_workers<'a>(alloc: Global, name: &'a str) -> Result<Command<'a>, AllocError>
+    ensures shape { IfOk result (λ c. app_of c ≡ with_rule (new_app name.now) grammar.workers) }
+    ensures local { IfOk result (λ c. (out-Command c).has_globals ≡ false) }
+{
+    Command::new(alloc, name).arg(workers(alloc))
+}
+
 fn replay<'a>(alloc: Global) -> Result<Command<'a>, AllocError>
     ensures shape { IfOk result (λ c. app_of c ≡ grammar.replay) }
     ensures local { IfOk result (λ c. (out-Command c).has_globals ≡ false) }
 {
-    let one = Command::new(alloc, "replay").arg(workers(alloc))?;
-    one.arg(mux(alloc))
+    match with_workers(alloc, "replay") {
+        Ok(command) => command.arg(mux(alloc)),
+        Err(error) => Err(error),
+    }
 }
 
 fn relay<'a>(alloc: Global) -> Result<Command<'a>, AllocError>
     ensures shape { IfOk result (λ c. app_of c ≡ grammar.relay) }
     ensures local { IfOk result (λ c. (out-Command c).has_globals ≡ false) }
 {
-    let one = Command::new(alloc, "relay").arg(turns(alloc))?;
-    one.arg(mux(alloc))
+    match Command::new(alloc, "relay").arg(turns(alloc)) {
+        Ok(command) => command.arg(mux(alloc)),
+        Err(error) => Err(error),
+    }
 }
 
 fn demo<'a>(alloc: Global) -> Result<Command<'a>, AllocError>
     ensures shape { IfOk result (λ c. app_of c ≡ grammar.demo) }
     ensures local { IfOk result (λ c. (out-Command c).has_globals ≡ false) }
 {
-    let one = Command::new(alloc, "demo").arg(workers(alloc))?;
-    let two = one.arg(calls(alloc))?;
-    two.arg(start(alloc))
+    match with_workers(alloc, "demo") {
+        Ok(command) => match command.arg(calls(alloc)) {
+            Ok(command) => command.arg(start(alloc)),
+            Err(error) => Err(error),
+        },
+        Err(error) => Err(error),
+    }
 }
 
 /// The words don't begin with the program's name, and a command is required.
@@ -77,27 +93,70 @@ fn without_program<'a>(command: Command<'a>) -> Command<'a>
     command.no_binary_name(true).subcommand_required(true)
 }
 
+/// A command line with `replay` alone.
+fn with_replay<'a>(alloc: Global) -> Result<Command<'a>, AllocError>
+    ensures { IfOk result (λ c. app_of c ≡ with_subcommand (new_app (codes "srtpgw")) grammar.replay.top) }
+{
+    match replay(alloc) {
+        Ok(replay) => Command::new(alloc, "srtpgw").subcommand(replay),
+        Err(error) => Err(error),
+    }
+}
+
+/// The same with `relay`, too.
+fn with_relay<'a>(alloc: Global) -> Result<Command<'a>, AllocError>
+    ensures { IfOk result (λ c. app_of c ≡ with_subcommand (with_subcommand (new_app (codes "srtpgw")) grammar.replay.top) grammar.relay.top) }
+{
+    match with_replay(alloc) {
+        Ok(command) => match relay(alloc) {
+            Ok(relay) => command.subcommand(relay),
+            Err(error) => {
+                drop(command);
+                Err(error)
+            }
+        },
+        Err(error) => Err(error),
+    }
+}
+
 /// A command line with the commands that have options.
 fn with_options<'a>(alloc: Global) -> Result<Command<'a>, AllocError>
     ensures { IfOk result (λ c. app_of c ≡ grammar.with_options) }
 {
-    let one = Command::new(alloc, "srtpgw").subcommand(replay(alloc)?)?;
-    let two = one.subcommand(relay(alloc)?)?;
-    two.subcommand(demo(alloc)?)
+    match with_relay(alloc) {
+        Ok(command) => match demo(alloc) {
+            Ok(demo) => command.subcommand(demo),
+            Err(error) => {
+                drop(command);
+                Err(error)
+            }
+        },
+        Err(error) => Err(error),
+    }
 }
 
 /// The same with the commands that have none, too.
 fn with_all<'a>(alloc: Global) -> Result<Command<'a>, AllocError>
     ensures { IfOk result (λ c. app_of c ≡ grammar.with_all) }
 {
-    let one = with_options(alloc)?.subcommand(Command::new(alloc, "migrate"))?;
-    let two = one.subcommand(Command::new(alloc, "capture"))?;
-    two.subcommand(Command::new(alloc, "bridge"))
+    match with_options(alloc) {
+        Ok(command) => match command.subcommand(Command::new(alloc, "migrate")) {
+            Ok(command) => match command.subcommand(Command::new(alloc, "capture")) {
+                Ok(command) => command.subcommand(Command::new(alloc, "bridge")),
+                Err(error) => Err(error),
+            },
+            Err(error) => Err(error),
+        },
+        Err(error) => Err(error),
+    }
 }
 
 /// The whole command line.
 pub(crate) fn command_line<'a>(alloc: Global) -> Result<Command<'a>, AllocError>
     ensures { IfOk result (λ c. app_of c ≡ grammar.srtpgw) }
 {
-    Ok(without_program(with_all(alloc)?))
+    match with_all(alloc) {
+        Ok(command) => Ok(without_program(command)),
+        Err(error) => Err(error),
+    }
 }

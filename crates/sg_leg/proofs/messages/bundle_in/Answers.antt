@@ -27,8 +27,8 @@ returns-in-Ok-streams-clause-bundle c = λ h at.
     c.from_vec.result
     ((λ i. streams_of c.in-Ok-read_initial.initial.csb (sym c.as_slice-random.ensures i) (sym c.as_slice-map.ensures i) (sym c.as_slice-policies.ensures i) c.in-Ok-read_initial.initial.tgks.keys c.args.count) ∙ c.in-Ok-streams.ensures.value ∙ ap Ok (sym c.from_vec.ensures))
 
-pub returns-clause-bundle : goal.returns-clause-bundle
-returns-clause-bundle c = λ h at.
+pub returns-in-Err-streams-clause-bundle : goal.returns-in-Err-streams-clause-bundle
+returns-in-Err-streams-clause-bundle c = λ h at.
     subst (λ f. Gives (IsBundleOf c.args.psks.now) (Err f) (bundle_in h c.args.medium c.args.count (mikey_value c.args.lines.now))) (sym c.cs_fault.ensures)
     (not_served h c.args.now c.args.psks.now c.args.seen.now at c.args.medium c.args.count (mikey_value c.args.lines.now) c.in-Ok.read.0 c.in-Ok.read.1 c.in-Ok.ensures.message c.in-Ok-read_initial.initial
     (subst (λ o. psk.Gives (IsAccepted c.args.psks.now) (Ok c.in-Ok-read_initial.initial) (initial_of o c.in-Ok.read.1 c.args.psks.now c.args.seen.now c.args.now)) c.as_slice.ensures c.in-Ok-read_initial.ensures.value)
