@@ -4,7 +4,8 @@ use sg_base::{Address, Octets};
 use sg_edge::{MemClock, MemLink, MemNoise, MemSink, MemSource};
 use sg_lanes::Gate;
 use sg_run::{Status, run};
-use std::alloc::{AllocError, Global};
+use std::alloc::Global;
+use std::process::Abort;
 use std::thread::Threads;
 
 /// A datagram that comes: its port, whom it is from, its octets.
@@ -43,7 +44,7 @@ pub const REPLAY: Given<'static> = Given {
 pub struct Outside {
     words: Vec<String>,
     source: MemSource,
-    pub sink: MemSink,
+    sink: MemSink,
     pub link: MemLink,
     clock: MemClock,
     noise: MemNoise,
@@ -51,39 +52,15 @@ pub struct Outside {
 
 impl Outside {
     /// The script is in parts. The noise is twice 304 octets, the n-th of each n modulo 256.
-    pub fn of(alloc: Global, script: &[&str], given: Given) -> Result<Outside, AllocError> {
-        let mut outside = Outside::empty(alloc);
-        match outside.fill(alloc, script, given) {
-            Ok(()) => Ok(outside),
-            Err(error) => {
-                drop(outside);
-                Err(error)
-            }
-        }
-    }
-
-    fn empty(alloc: Global) -> Outside {
-        let nothing = Octets::from_vec(Vec::new(alloc));
-        let quiet = Octets::from_vec(Vec::new(alloc));
+    pub fn of(rt: &impl Abort, alloc: Global, script: &[&str], given: Given) -> Outside {
         Outside {
-            words: Vec::new(alloc),
-            source: MemSource::limited(nothing, 1, Vec::new(alloc)),
-            sink: MemSink::limited(alloc, 1, Vec::new(alloc)),
-            link: MemLink::make(alloc, Vec::new(alloc), Vec::new(alloc)),
-            clock: MemClock::make(Vec::new(alloc), Vec::new(alloc)),
-            noise: MemNoise::make(quiet, Vec::new(alloc)),
+            words: words(rt, alloc, given.words),
+            source: source(rt, alloc, script, given),
+            sink: sink(rt, alloc, given),
+            link: link(rt, alloc, given),
+            clock: clock(rt, alloc, given),
+            noise: noise(rt, alloc, given),
         }
-    }
-
-    // Early exits beside values that must be dropped are dear to prove, and here there are none.
-    fn fill(&mut self, alloc: Global, script: &[&str], given: Given) -> Result<(), AllocError> {
-        self.words = words(alloc, given.words)?;
-        self.source = source(alloc, script, given)?;
-        self.sink = sink(alloc, given)?;
-        self.link = link(alloc, given)?;
-        self.clock = clock(alloc, given)?;
-        self.noise = noise(alloc, given)?;
-        Ok(())
     }
 
     /// Runs the command.
@@ -113,65 +90,71 @@ impl Outside {
 }
 
 /// The texts one behind another.
-pub fn joined(alloc: Global, texts: &[&str]) -> Result<Vec<u8>, AllocError> {
+pub fn joined(rt: &impl Abort, alloc: Global, texts: &[&str]) -> Vec<u8> {
     let mut octets = Vec::new(alloc);
     for text in texts {
-        octets.extend_from_slice(text.as_bytes())?;
+        let pushed = octets.extend_from_slice(text.as_bytes());
+        pushed.expect(rt, "memory");
     }
-    Ok(octets)
+    octets
 }
 
-fn words(alloc: Global, texts: &[&str]) -> Result<Vec<String>, AllocError> {
+fn words(rt: &impl Abort, alloc: Global, texts: &[&str]) -> Vec<String> {
     let mut words = Vec::new(alloc);
     for text in texts {
-        words.push(String::from_str(alloc, text)?)?;
+        let word = String::from_str(alloc, text).expect(rt, "memory");
+        words.push(word).expect(rt, "memory");
     }
-    Ok(words)
+    words
 }
 
-fn source(alloc: Global, script: &[&str], given: Given) -> Result<MemSource, AllocError> {
-    let script = Octets::from_vec(joined(alloc, script)?);
-    let fails = given.reads_fail.to_vec(alloc)?;
-    Ok(MemSource::limited(script, given.most.max(1), fails))
+fn source(rt: &impl Abort, alloc: Global, script: &[&str], given: Given) -> MemSource {
+    let script = Octets::from_vec(joined(rt, alloc, script));
+    let fails = given.reads_fail.to_vec(alloc).expect(rt, "memory");
+    MemSource::limited(script, given.most.max(1), fails)
 }
 
-fn sink(alloc: Global, given: Given) -> Result<MemSink, AllocError> {
-    let fails = given.writes_fail.to_vec(alloc)?;
-    Ok(MemSink::limited(alloc, given.most.max(1), fails))
+fn sink(rt: &impl Abort, alloc: Global, given: Given) -> MemSink {
+    let fails = given.writes_fail.to_vec(alloc).expect(rt, "memory");
+    MemSink::limited(alloc, given.most.max(1), fails)
 }
 
-fn link(alloc: Global, given: Given) -> Result<MemLink, AllocError> {
-    let receipts = copies(alloc, given.datagrams)?;
-    let fails = given.link_fails.to_vec(alloc)?;
-    Ok(MemLink::make(alloc, receipts, fails))
+fn link(rt: &impl Abort, alloc: Global, given: Given) -> MemLink {
+    let receipts = copies(rt, alloc, given.datagrams);
+    let fails = given.link_fails.to_vec(alloc).expect(rt, "memory");
+    MemLink::make(alloc, receipts, fails)
 }
 
-fn clock(alloc: Global, given: Given) -> Result<MemClock, AllocError> {
-    let fails = given.clock_fails.to_vec(alloc)?;
-    Ok(MemClock::make(given.readings.to_vec(alloc)?, fails))
+fn clock(rt: &impl Abort, alloc: Global, given: Given) -> MemClock {
+    let fails = given.clock_fails.to_vec(alloc).expect(rt, "memory");
+    let readings = given.readings.to_vec(alloc).expect(rt, "memory");
+    MemClock::make(readings, fails)
 }
 
 fn copies(
+    rt: &impl Abort,
     alloc: Global,
     datagrams: &[Datagram],
-) -> Result<Vec<Option<(u16, Address, Octets)>>, AllocError> {
+) -> Vec<Option<(u16, Address, Octets)>> {
     let mut all = Vec::new(alloc);
     for (port, from, octets) in datagrams {
-        all.push(Some((*port, *from, Octets::from_vec(octets.to_vec(alloc)?))))?;
+        let octets = Octets::copy_of(alloc, octets).expect(rt, "memory");
+        all.push(Some((*port, *from, octets))).expect(rt, "memory");
     }
-    Ok(all)
+    all
 }
 
-fn noise(alloc: Global, given: Given) -> Result<MemNoise, AllocError> {
-    let octets = Octets::from_vec(twice_counted(alloc)?);
-    let fails = given.draws_fail.to_vec(alloc)?;
-    Ok(MemNoise::make(octets, fails))
+fn noise(rt: &impl Abort, alloc: Global, given: Given) -> MemNoise {
+    let octets = Octets::from_vec(twice_counted(rt, alloc));
+    let fails = given.draws_fail.to_vec(alloc).expect(rt, "memory");
+    MemNoise::make(octets, fails)
 }
 
-fn twice_counted(alloc: Global) -> Result<Vec<u8>, AllocError> {
+fn twice_counted(rt: &impl Abort, alloc: Global) -> Vec<u8> {
     let mut octets = Vec::new(alloc);
     for i in 0..608_u32 {
-        octets.push((i % 304 % 256) as u8)?;
+        let pushed = octets.push((i % 304 % 256) as u8);
+        pushed.expect(rt, "memory");
     }
-    Ok(octets)
+    octets
 }

@@ -6,11 +6,11 @@ use crate::calls::{
     OFFERED_TOLD, PEER, PLAIN, WHOLE_CALL, WHOLE_CALL_TOLD,
 };
 use crate::outside::{Datagram, Given, Outside, REPLAY, joined};
+use sg_edge::LinkRecord;
 use sg_lanes::OpenGate;
 use sg_run::Status;
 use std::alloc::Global;
 use std::process::Abort;
-use std::test::Fail;
 use std::thread::Threads;
 
 /// A run: its script in parts, what it is given, its status, and what it writes, in parts.
@@ -80,7 +80,16 @@ const BOTH_WAYS: Given<'static> = Given {
     ..REPLAY
 };
 
-const REPLAYS: [Run; 6] = [
+const REPLAYS: [Run; 7] = [
+    Run {
+        script: KEYED_CALL,
+        given: Given {
+            writes_fail: &[1],
+            ..REPLAY
+        },
+        status: Status::Write,
+        told: &[],
+    },
     Run {
         script: KEYED_CALL,
         given: Given {
@@ -137,7 +146,17 @@ const REPLAYS: [Run; 6] = [
     },
 ];
 
-const RELAYS: [Run; 9] = [
+const RELAYS: [Run; 10] = [
+    // The third port isn't bound.
+    Run {
+        script: KEYED_WAIT,
+        given: Given {
+            link_fails: &[3],
+            ..TWICE
+        },
+        status: Status::Link,
+        told: &[],
+    },
     Run {
         script: KEYED_WAIT,
         given: TWICE,
@@ -221,29 +240,52 @@ const RELAYS: [Run; 9] = [
 ];
 
 /// A run is answered so, and writes that.
-fn plays(rt: &(impl Abort + Threads + Sync), alloc: Global, row: &Run) -> Result<(), Fail> {
-    let mut outside = Outside::of(alloc, row.script, row.given)?;
-    let answer = outside.run(rt, alloc, &OpenGate);
-    assert!(rt; answer == row.status);
-    let told = joined(alloc, row.told)?;
+fn plays(rt: &(impl Abort + Threads + Sync), alloc: Global, row: &Run) {
+    let mut outside = Outside::of(rt, alloc, row.script, row.given);
+    assert!(rt; outside.run(rt, alloc, &OpenGate) == row.status);
+    let told = joined(rt, alloc, row.told);
     assert!(rt; outside.written() == told.as_slice());
-    Ok(())
 }
 
 #[test]
-fn reads_writes_and_draws_that_fail(rt: HostRuntime) -> Result<(), Fail> {
+fn reads_writes_and_draws_that_fail(rt: HostRuntime) {
     for row in &REPLAYS {
-        plays(&rt, rt.alloc(), row)?;
+        plays(&rt, rt.alloc(), row);
     }
-    Ok(())
 }
 
 #[test]
-fn sends_receives_and_turns(rt: HostRuntime) -> Result<(), Fail> {
+fn sends_receives_and_turns(rt: HostRuntime) {
     for row in &RELAYS {
-        plays(&rt, rt.alloc(), row)?;
+        plays(&rt, rt.alloc(), row);
     }
-    Ok(())
+}
+
+/// Of the calls of a link one sends: a raw key encrypts nothing, so the known packet goes out without its tag.
+fn one_is_sent(rt: &impl Abort, calls: &[LinkRecord]) {
+    let mut is_sent = false;
+    for call in calls {
+        if let LinkRecord::Sent {
+            port,
+            to,
+            octets,
+            ok,
+        } = call
+        {
+            assert!(rt; !is_sent && *ok);
+            assert!(rt; (*port, *to) == (20002, PLAIN));
+            assert!(rt; octets.as_slice() == &KNOWN[..28]);
+            is_sent = true;
+        }
+    }
+    assert!(rt; is_sent);
+}
+
+#[test]
+fn what_a_relay_sends_comes_to_the_link(rt: HostRuntime) {
+    let mut outside = Outside::of(&rt, rt.alloc(), KEYED_WAIT, TWICE);
+    assert!(rt; outside.run(&rt, rt.alloc(), &OpenGate) == Status::Done);
+    one_is_sent(&rt, outside.link.calls().expect(&rt, "a record"));
 }
 
 /// What can fail.
@@ -306,12 +348,10 @@ fn breaks(
     given: Given,
     status: &Status,
     whole: &[u8],
-) -> Result<(), Fail> {
-    let mut outside = Outside::of(alloc, script, given)?;
-    let answer = outside.run(rt, alloc, &OpenGate);
-    assert!(rt; answer == *status);
+) {
+    let mut outside = Outside::of(rt, alloc, script, given);
+    assert!(rt; outside.run(rt, alloc, &OpenGate) == *status);
     assert!(rt; whole.starts_with(outside.written()));
-    Ok(())
 }
 
 /// Each of the calls fails once.
@@ -322,18 +362,17 @@ fn all_break(
     given: Given,
     rows: &[Failing],
     whole: &[u8],
-) -> Result<(), Fail> {
+) {
     for (call, which, status) in rows {
         for number in which.chunks(1) {
             let given = failing(given, *call, number);
-            breaks(rt, alloc, script, given, status, whole)?;
+            breaks(rt, alloc, script, given, status, whole);
         }
     }
-    Ok(())
 }
 
 #[test]
-fn each_read_of_a_replay_fails_once(rt: HostRuntime) -> Result<(), Fail> {
+fn each_read_of_a_replay_fails_once(rt: HostRuntime) {
     let whole = WHOLE_CALL_TOLD.as_bytes();
     all_break(
         &rt,
@@ -342,12 +381,12 @@ fn each_read_of_a_replay_fails_once(rt: HostRuntime) -> Result<(), Fail> {
         BY_PARTS,
         &OF_A_REPLAY,
         whole,
-    )
+    );
 }
 
 #[test]
-fn each_call_of_a_relay_fails_once(rt: HostRuntime) -> Result<(), Fail> {
-    let whole = joined(rt.alloc(), OFFERED_CALL_TOLD)?;
+fn each_call_of_a_relay_fails_once(rt: HostRuntime) {
+    let whole = joined(&rt, rt.alloc(), OFFERED_CALL_TOLD);
     all_break(
         &rt,
         rt.alloc(),
@@ -355,5 +394,5 @@ fn each_call_of_a_relay_fails_once(rt: HostRuntime) -> Result<(), Fail> {
         BOTH_WAYS,
         &OF_A_RELAY,
         &whole,
-    )
+    );
 }

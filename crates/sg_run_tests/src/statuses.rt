@@ -3,10 +3,9 @@
 use sg_base::ScriptFault;
 use sg_pcap::CaptureFault;
 use sg_run::Status;
-use std::test::Fail;
 
 #[test]
-fn numbers_and_texts(rt: HostRuntime) -> Result<(), Fail> {
+fn numbers_and_texts(rt: HostRuntime) {
     let script = Status::Script {
         line: 7,
         fault: ScriptFault::Hex,
@@ -28,10 +27,9 @@ fn numbers_and_texts(rt: HostRuntime) -> Result<(), Fail> {
         (Status::TurnsSpent, 9, "srtpgw: turns spent"),
         (capture, 10, "srtpgw: capture octet 20: LinkType"),
     ];
-    for (status, number, text) in rows {
-        let told = format!(in rt.alloc(); "{status}")?;
-        assert!(rt; told.as_str() == text);
-        assert!(rt; status.number() == number);
+    for (status, number, text) in &rows {
+        let told = format!(in rt.alloc(); "{status}").expect(&rt, "memory");
+        assert!(rt; told.as_str() == *text);
+        assert!(rt; status.number() == *number);
     }
-    Ok(())
 }

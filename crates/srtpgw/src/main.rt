@@ -7,8 +7,11 @@ mod progress;
 use crate::progress::Progress;
 use sg_edge::{RngNoise, StdSink, StdSource, SystemRng, UdpLink, WallClock};
 use sg_run::Status;
-use std::io::{BufWriter, ErrorKind};
+use std::io::{BufWriter, ErrorKind, Printer};
+use std::net::Net;
 use std::process::ExitCode;
+use std::rt::Clock;
+use std::thread::Threads;
 
 /// How many octets standard output holds before it passes them on unasked.
 const OUTPUT_ROOM: usize = 65_536;
@@ -24,22 +27,33 @@ fn words(rt: &HostRuntime) -> Result<Vec<String>, Status> {
         .map_err(|_| Status::NoMemory)
 }
 
+/// Runs the words' command, which writes to this output. Its threads and sockets are of `host`.
+fn run(
+    rt: &HostRuntime,
+    host: &(impl Threads + Net + Clock + Sync),
+    words: &[String],
+    output: BufWriter<Printer<'_, HostRuntime>>,
+) -> Status {
+    sg_run::run(
+        host,
+        rt.alloc(),
+        words,
+        &mut StdSource::make(rt.reader(), rt),
+        &mut StdSink::make(output, rt),
+        &mut UdpLink::make(rt.alloc(), host),
+        &mut WallClock::make(rt),
+        &mut RngNoise::make(SystemRng(rt)),
+        &Progress::make(rt, words),
+    )
+}
+
 fn main(rt: HostRuntime) -> ExitCode {
-    let output = BufWriter::with_capacity(rt.alloc(), OUTPUT_ROOM, std::io::writer(&rt));
-    let status = match (words(&rt), output) {
-        (Err(status), _) => status,
-        (_, Err(_)) => Status::NoMemory,
-        (Ok(words), Ok(output)) => sg_run::run(
-            &rt,
-            rt.alloc(),
-            &words,
-            &mut StdSource::make(rt.reader(), &rt),
-            &mut StdSink::make(output, &rt),
-            &mut UdpLink::make(rt.alloc(), &rt),
-            &mut WallClock::make(&rt),
-            &mut RngNoise::make(SystemRng(&rt)),
-            &Progress::make(&rt, &words),
-        ),
+    let status = match words(&rt) {
+        Ok(words) => match BufWriter::with_capacity(rt.alloc(), OUTPUT_ROOM, std::io::writer(&rt)) {
+            Ok(output) => run(&rt, &rt, &words, output),
+            Err(_) => Status::NoMemory,
+        },
+        Err(status) => status,
     };
     if status != Status::Done {
         let _ = eprintln!(rt; "{status}");
