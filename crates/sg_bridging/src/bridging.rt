@@ -15,6 +15,8 @@ use std::alloc::Global;
 /// sink. Where two calls are joined, a packet that is opened in the one goes on to the other, and is sealed there.
 /// In a script of version 2 a tick to its moment comes before a datagram. Where a signal lacks its noise, 304 octets
 /// are drawn. What is told is passed on before a read that may wait, and at the end.
+/// It isn't inlined, so no other command has its frame.
+#[inline(never)]
 pub fn bridge<S: Source, K: Sink, N: Noise>(
     alloc: Global,
     source: &mut S,

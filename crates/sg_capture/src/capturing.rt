@@ -22,6 +22,8 @@ use std::thread::Threads;
 /// their records, the first of which has the script's last moment. What they tell is written to the sink, with a line for
 /// each record whose datagram can't be had. Without that line it is a replay by one worker. Where the source fails, all lines
 /// and records that were read are told first. What is told is passed on before a read that may wait, and at the end.
+/// It isn't inlined, so no other command has its frame.
+#[inline(never)]
 pub fn capture<R: Threads + Sync, S: Source, K: Sink, N: Noise, G: Gate + Sync>(
     rt: &R,
     alloc: Global,

@@ -17,6 +17,8 @@ use std::alloc::Global;
 /// Writes the script of version 1 that the source holds as one of version 2: each datagram gets the greatest
 /// moment of the ticks before it, or 0. A script of version 2 is refused at its first line. What is written is passed on
 /// before a read that may wait, and at the end.
+/// It isn't inlined, so no other command has its frame.
+#[inline(never)]
 pub fn migrate<S: Source, K: Sink>(alloc: Global, source: &mut S, sink: &mut K) -> Status
     ensures ran { (octets out : List ℕ)
         × IsMigration result

@@ -23,6 +23,8 @@ use std::thread::Threads;
 /// them passing the gate; what is written is the same for every number of workers and every gate. Where a signal lacks
 /// its noise, 304 octets are drawn. Where the source fails, all lines that were read are told first. What is told is passed
 /// on before a read that may wait, and at the end.
+/// It isn't inlined, so no other command has its frame.
+#[inline(never)]
 pub fn replay<R: Threads + Sync, S: Source, K: Sink, N: Noise, G: Gate + Sync>(
     rt: &R,
     alloc: Global,

@@ -17,6 +17,8 @@ use std::alloc::Global;
 /// Handles the lines of the source in order, and at a `tick` line takes turns until a reading of the clock is
 /// at least so many milliseconds after the first reading; at most so many turns in all. Where `muxes`, RTP and RTCP of a
 /// leg share a port where its offer and the answer agree on it (RFC 5761). A datagram is handled in the one pad that the relay keeps.
+/// It isn't inlined, so no other command has its frame.
+#[inline(never)]
 pub fn relay<S: Source, K: Sink, L: Link, C: Clock, N: Noise>(
     alloc: Global,
     turns: u64,
