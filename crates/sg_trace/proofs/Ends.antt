@@ -4,13 +4,12 @@ use Rattle.std.specs.Prelude.{IsErrOf}
 use Rattle.std.proofs.lemmas.List.{append-nil}
 use Rattle.sg_base.specs.declared.faults.ScriptFault.{ScriptFault}
 use Rattle.sg_edge.specs.Told.{Rose, Tally, Tells, TookIn}
-use Rattle.sg_lines.specs.LineOf.{line_of, version_after}
 use Rattle.sg_trace.proofs.Causes.{ended_as, failed_now, not_failed}
 use Rattle.sg_trace.proofs.Grammars.{none_fails}
 use Rattle.sg_trace.specs.Causes.{EndedBy, HasFailed}
 use Rattle.sg_trace.specs.Course.{Course, Given, Ways, course}
 use Rattle.sg_trace.specs.Loop.{Closes, Effects, IsPlayed, IsWant, LoopEnds, PromptEnds}
-use Rattle.sg_trace.specs.Reading.{IsNext, IsNextBy, Reading}
+use Rattle.sg_trace.specs.Reading.{IsNextBy, Reading}
 use Rattle.sg_trace.specs.Trace.{AtFault, Spelling}
 use Rattle.sg_trace.specs.declared.status.Status.{Status}
 use Rattle.sg_trace.specs.declared.status.Status.TheVariants.{Done, Read, Write, NoMemory, Noise, Script}
@@ -18,13 +17,6 @@ use Rattle.sg_trace.specs.declared.status.Status.TheVariants.{Done, Read, Write,
 pub next_isnt : {L : Type 0} (spelled : Spelling L) (followed : ℕ → L → ℕ) (status other : Status) (old new : Reading) (got : List ℕ) (left : Tally)
     → (IsNextBy spelled followed (Err other) old new got left → ⊥) → IsNextBy spelled followed (Err status) old new got left → status ≡ other → ⊥
 next_isnt spelled followed status other old new got left never next is = never (subst (λ s. IsNextBy spelled followed (Err s) old new got left) is next)
-
--- no line is written as it is read, and none draws
-pub next_not_write : (status : Status) (old new : Reading) (got : List ℕ) (left : Tally) → IsNext (Err status) old new got left → status ≡ Write → ⊥
-next_not_write status old new got left next is = next_isnt line_of version_after status Write old new got left (λ never. never) next is
-
-pub next_not_noise : (status : Status) (old new : Reading) (got : List ℕ) (left : Tally) → IsNext (Err status) old new got left → status ≡ Noise → ⊥
-next_not_noise status old new got left next is = next_isnt line_of version_after status Noise old new got left (λ never. never) next is
 
 want_not : (status other : Status) → IsWant status → (Write ≡ other → ⊥) → (NoMemory ≡ other → ⊥) → status ≡ other → ⊥
 want_not status other (inl is) a b same = a (sym is ∙ same)

@@ -1,5 +1,4 @@
 mod Among
-mod Arguments
 mod Complete
 mod Endings
 mod Entered
