@@ -1,20 +1,26 @@
 -- Where nothing fails, sends aside, a relay handles its script to the end.
 use Rattle.std.specs.Prelude.{◌≡◌, ◌⊎◌, ℕ, ◌+◌, List, length, Some}
-use Rattle.sg_trace.specs.Trace.{ForReading}
-use Rattle.sg_trace.specs.Grammar.{IsScript}
+use Rattle.sg_base.specs.declared.faults.ScriptFault.{ScriptFault}
+use Rattle.sg_edge.specs.Links.{Received}
+use Rattle.sg_edge.specs.Told.{Rose, Tally}
+use Rattle.sg_trace.specs.Trace.{AtFault, ForReading}
 use Rattle.sg_trace.specs.declared.status.Status.{Status}
 use Rattle.sg_trace.specs.declared.status.Status.TheVariants.{Done, NoMemory}
-use Rattle.sg_edge.specs.Told.{Rose, Tally}
 use Rattle.sg_relay.specs.Asked.{AreGood}
-use Rattle.sg_relay.specs.Relay.{Passed, trace_of}
+use Rattle.sg_relay.specs.Relay.{Passed, woven_of}
+use Rattle.sg_relay.specs.Weaving.{Weaves, woven}
+
+-- The octets are a script of this kind: whatever is read, received and drawn, no line of them is outside the grammar.
+abbrev pub IsScriptOf : {L D : Type 0} → Weaves L D → List ℕ → Type 0
+IsScriptOf w octets = (readings : List ℕ) (receipts : List Received) (draws : List ℕ) (n : ℕ) (fault : ScriptFault) → ¬ ((woven w octets readings receipts draws).stop ≡ AtFault n fault)
 
 -- no `tick` line asks for a turn beyond these
-abbrev pub AsksNoMore : ℕ → Passed → Type 0
-AsksNoMore turns p = (trace_of p).stop ≡ ForReading → length p.readings ≡ turns + 1 → ⊥
+abbrev pub AsksNoMore : {L D : Type 0} → Weaves L D → ℕ → Passed → Type 0
+AsksNoMore w turns p = (woven_of w p).stop ≡ ForReading → length p.readings ≡ turns + 1 → ⊥
 
 -- Where the source's octets are a script, its `tick` lines ask for no more turns, and the link's count of failures hasn't
 -- risen, or no call of it but a send has failed, the relay handles the script to its end, or memory runs out.
-abbrev pub IsCompleteRelay : Status → ℕ → Tally → Tally → ℕ → ℕ → Passed → Type 0
-IsCompleteRelay status turns left left' link link' p =
-    (all rest : List ℕ) → left.told ≡ Some all → left'.told ≡ Some rest → IsScript all → AsksNoMore turns p
+abbrev pub IsCompleteRelay : {L D : Type 0} → Weaves L D → Status → ℕ → Tally → Tally → ℕ → ℕ → Passed → Type 0
+IsCompleteRelay w status turns left left' link link' p =
+    (all rest : List ℕ) → left.told ≡ Some all → left'.told ≡ Some rest → IsScriptOf w all → AsksNoMore w turns p
     → (¬ Rose link link' ⊎ AreGood p.calls) → (status ≡ Done) ⊎ (status ≡ NoMemory)

@@ -1,11 +1,8 @@
 -- The ports that a relay holds are those of the calls that are there, and it sends from no others.
 use Rattle.std.specs.Prelude.{◌≡◌, ℕ, ◌+◌, ◌*◌, ◌<◌, Bool, true, false, ◌==◌, if◌then◌else◌, List, [], ◌∷◌, ◌++◌}
 use Rattle.std.specs.List.{Any, flat_map}
-use Rattle.sg_gateway.specs.Runs.{world_after}
-use Rattle.sg_gateway.specs.Step.{Event}
-use Rattle.sg_gateway.specs.World.{Call, World, empty}
-use Rattle.sg_mux.specs.Via.{events_in, outcomes_in}
-use Rattle.sg_relay.specs.Asked.{Ask, Bind, Unbind, Send, asks_of}
+use Rattle.sg_gateway.specs.World.{Call, World}
+use Rattle.sg_relay.specs.Asked.{Act, Ask, Bind, Unbind, Send, asks_of}
 
 -- whether a port is held after these asks, where it was so before them
 abbrev pub held_after : ℕ → Bool → List Ask → Bool
@@ -40,7 +37,7 @@ Fits before (Send port to octets) = IsHeld before port
 abbrev pub EachFits : List Ask → Type 0
 EachFits asks = (before after : List Ask) (ask : Ask) → asks ≡ before ++ ask ∷ after → Fits before ask
 
--- of what is told of events, where legs may share their ports, or may not
-pub record PortsAreOfCalls (muxes : Bool) (events : List Event) : Type 0 where
-  pub ports : AreOfCalls (flat_map asks_of (outcomes_in muxes events)) (world_after empty (events_in muxes events))
-  pub each : EachFits (flat_map asks_of (outcomes_in muxes events))
+-- of what is to be done, in the world behind it
+pub record PortsAreOfCalls (acts : List Act) (w : World) : Type 0 where
+  pub ports : AreOfCalls (flat_map asks_of acts) w
+  pub each : EachFits (flat_map asks_of acts)

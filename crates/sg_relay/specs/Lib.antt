@@ -1,6 +1,10 @@
+pub mod Acting
 pub mod Asked
 pub mod Causes
 pub mod Completeness
 pub mod Held
+pub mod Joined
 pub mod Parts
+pub mod Plain
 pub mod Relay
+pub mod Weaving

@@ -1,20 +1,24 @@
 //! What is done for outcomes: ports are bound and given up, packets are sent, and lines are written.
 
-ghost use Rattle.std.specs.Prelude.{◌≡◌, ◌∷◌, [], ℕ, List, Bool, IfErr, Some, map};
+ghost use Rattle.std.specs.Prelude.{◌≡◌, ◌∷◌, [], ℕ, List, IfErr, map};
 ghost use Rattle.sg_edge.specs.Links.{Called, LinkCall};
 ghost use Rattle.sg_edge.specs.Told.{HasCause, Wrote};
-ghost use Rattle.sg_outcome.specs.declared.outcomes.Outcome.TheVariants.{Out};
-ghost use Rattle.sg_relay.specs.Asked.{asks_of, hold, ports_of, sent_as, written_as};
+ghost use Rattle.sg_bridge.specs.BridgeText.{bridge_outcome_line};
+ghost use Rattle.sg_outcome.specs.OutcomeText.{outcome_line};
+ghost use Rattle.sg_relay.specs.Asked.{Sends, Tells, act_of, hold, ports_of};
 ghost use Rattle.sg_relay.specs.Causes.{IsDueTo, IsDueToLink, IsOfOutcomes};
 ghost use Rattle.sg_relay.specs.Parts.{AreCarriedOut, IsHeld};
 ghost use Rattle.sg_table.specs.Handling.{outcome_of};
+ghost use Rattle.sg_trace.specs.Causes.{IsCaused};
+ghost use Rattle.sg_trace.specs.Output.{IsWritten};
 
 use sg_base::{Address, Failed, MEDIUM_PORTS};
+use sg_bridge::{BridgeOutcome, print_bridge};
 use sg_edge::{Link, Sink};
 use sg_gateway::port_at;
 use sg_outcome::Outcome;
 use sg_table::{End, Handled};
-use sg_trace::{Status, tell_at_once};
+use sg_trace::{Status, tell_at_once, write_at_once};
 use std::alloc::Global;
 
 /// Binds a port, or gives it up.
@@ -53,10 +57,9 @@ fn hold_and_tell<K: Sink, L: Link>(
     sink: &mut K,
     link: &mut L,
 ) -> Result<(), Status>
-    requires asks { asks_of outcome.now ≡ map (hold bound) (ports_of slot media) }
-    requires plain { (ok : Bool) → (written_as outcome.now ok ≡ outcome.now ∷ []) × (sent_as outcome.now ok ≡ []) }
+    requires is { act_of outcome.now ≡ Tells (map (hold bound) (ports_of slot media)) (outcome_line outcome.now) }
     ensures done { (calls : List LinkCall) × (out : List ℕ) × Called (L.told link.old) (L.told link.new) calls × Wrote (K.written sink.old) (K.written sink.new) out
-        × AreCarriedOut result (outcome.now ∷ []) calls out }
+        × AreCarriedOut result (act_of outcome.now ∷ []) calls out }
     ensures only { IfErr result IsOfOutcomes }
     ensures write { IsDueTo Status.Write result (K.faults sink.old) (K.faults sink.new) (K.failed sink.new) }
     ensures link { IsDueToLink result (L.faults link.old) (L.faults link.new) }
@@ -68,7 +71,7 @@ fn hold_and_tell<K: Sink, L: Link>(
 }
 
 /// Sends a packet, and writes that it is unsent where that fails.
-fn send_out<K: Sink, L: Link>(
+pub(crate) fn send_out<K: Sink, L: Link>(
     alloc: Global,
     port: u16,
     to: Address,
@@ -77,7 +80,7 @@ fn send_out<K: Sink, L: Link>(
     link: &mut L,
 ) -> Result<(), Status>
     ensures done { (calls : List LinkCall) × (out : List ℕ) × Called (L.told link.old) (L.told link.new) calls × Wrote (K.written sink.old) (K.written sink.new) out
-        × AreCarriedOut result (Out port to octets.now ∷ []) calls out }
+        × AreCarriedOut result (Sends port to octets.now ∷ []) calls out }
     ensures only { IfErr result IsOfOutcomes }
     ensures write { IsDueTo Status.Write result (K.faults sink.old) (K.faults sink.new) (K.failed sink.new) }
     ensures link { IsDueToLink result (L.faults link.old) (L.faults link.new) }
@@ -89,14 +92,14 @@ fn send_out<K: Sink, L: Link>(
 }
 
 /// Does what an outcome asks for, and writes its line.
-fn carry_out<K: Sink, L: Link>(
+pub(crate) fn carry_out<K: Sink, L: Link>(
     alloc: Global,
     outcome: &Outcome,
     sink: &mut K,
     link: &mut L,
 ) -> Result<(), Status>
     ensures done { (calls : List LinkCall) × (out : List ℕ) × Called (L.told link.old) (L.told link.new) calls × Wrote (K.written sink.old) (K.written sink.new) out
-        × AreCarriedOut result (outcome.now ∷ []) calls out }
+        × AreCarriedOut result (act_of outcome.now ∷ []) calls out }
     ensures only { IfErr result IsOfOutcomes }
     ensures write { IsDueTo Status.Write result (K.faults sink.old) (K.faults sink.new) (K.failed sink.new) }
     ensures link { IsDueToLink result (L.faults link.old) (L.faults link.new) }
@@ -124,7 +127,7 @@ pub(crate) fn carry_out_all<K: Sink, L: Link>(
     link: &mut L,
 ) -> Result<(), Status>
     ensures done { (calls : List LinkCall) × (out : List ℕ) × Called (L.told link.old) (L.told link.new) calls × Wrote (K.written sink.old) (K.written sink.new) out
-        × AreCarriedOut result outcomes.now calls out }
+        × AreCarriedOut result (map act_of outcomes.now) calls out }
     ensures only { IfErr result IsOfOutcomes }
     ensures write { IsDueTo Status.Write result (K.faults sink.old) (K.faults sink.new) (K.failed sink.new) }
     ensures link { IsDueToLink result (L.faults link.old) (L.faults link.new) }
@@ -147,7 +150,7 @@ pub(crate) fn pass_on<K: Sink, L: Link>(
     link: &mut L,
 ) -> Result<(), Status>
     ensures done { (calls : List LinkCall) × (out : List ℕ) × Called (L.told link.old) (L.told link.new) calls × Wrote (K.written sink.old) (K.written sink.new) out
-        × AreCarriedOut result (outcome_of port handled.now ∷ []) calls out }
+        × AreCarriedOut result (act_of (outcome_of port handled.now) ∷ []) calls out }
     ensures only { IfErr result IsOfOutcomes }
     ensures write { IsDueTo Status.Write result (K.faults sink.old) (K.faults sink.new) (K.failed sink.new) }
     ensures link { IsDueToLink result (L.faults link.old) (L.faults link.new) }
@@ -156,4 +159,17 @@ pub(crate) fn pass_on<K: Sink, L: Link>(
         End::Out { port, to } => send_out(alloc, port, to, handled.pad.octets(), sink, link),
         End::Dropped(cause) => carry_out(alloc, &Outcome::Dropped { port, cause }, sink, link),
     }
+}
+
+/// Writes the line of what a bridge tells, once it is printed, and has it passed on at once.
+pub(crate) fn tell_bridge<K: Sink>(
+    alloc: Global,
+    outcome: &BridgeOutcome,
+    sink: &mut K,
+) -> Result<(), Status>
+    ensures told { IsWritten result (K.written sink.old) (K.written sink.new) (bridge_outcome_line outcome.now) }
+    ensures cause { IsCaused Status.Write result (K.faults sink.old) (K.faults sink.new) (K.failed sink.new) }
+{
+    let line = print_bridge(alloc, outcome).map_err(|_| Status::NoMemory)?;
+    write_at_once(line.as_slice(), sink)
 }

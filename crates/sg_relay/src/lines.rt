@@ -1,80 +1,26 @@
 //! What a relay does at a line of its script.
 
-ghost use Rattle.std.specs.Prelude.{◌≡◌, ◌≤◌, ◌+◌, ℕ, [], List, Bool, IfErr, IfOk, None, length};
-ghost use Rattle.sg_trace.specs.Trace.{Command, Relays, last_moment, wait_in};
+ghost use Rattle.std.specs.Prelude.{◌≤◌, ◌+◌, ℕ, List, IfErr, IfOk};
+ghost use Rattle.sg_trace.specs.Trace.{last_moment};
 ghost use Rattle.sg_edge.specs.Links.{Added, Called, LinkCall};
 ghost use Rattle.sg_edge.specs.Told.{Wrote};
-ghost use Rattle.sg_front.specs.States.{FrontStandsFor, State};
-ghost use Rattle.sg_lines.specs.declared.lines.Line.TheVariants as lines;
-ghost use Rattle.sg_relay.specs.Asked.{receipts_in};
-ghost use Rattle.sg_relay.specs.Causes.{IsDueTo, IsDueToLink, IsOfLines, IsOfSignals, IsOfTurns};
-ghost use Rattle.sg_relay.specs.Parts.{FitsRelay, IsBegun, IsLineInOrder, IsSaid};
-ghost use Rattle.sg_table.specs.Telling.{IsTimely};
+ghost use Rattle.sg_relay.specs.Causes.{IsDueTo, IsDueToLink, IsOfLines, IsOfTurns};
+ghost use Rattle.sg_relay.specs.Parts.{IsBegun, IsLineInOrder, IsSaid};
+ghost use Rattle.sg_relay.specs.Weaving.{weaves_of};
 
-use crate::turns::{arrive, obey, wait};
+use crate::exchange::Exchange;
+use crate::turns::wait;
 use sg_base::{Failed, Pad, TICK_MOST};
 use sg_edge::{Clock, Link, Noise, Sink};
-use sg_front::Front;
-use sg_lines::{Line, Signal};
-use sg_trace::{Status, supply};
+use sg_trace::Status;
 use std::alloc::Global;
 
-/// The moment until which a relay that began at this moment waits, where the signal is a tick.
-fn wait_of(began: u64, signal: &Signal) -> Option<u64>
-    requires began { began ≤ last_moment }
-    requires timely { IsTimely signal.now }
-    ensures { result ≡ wait_in (Relays began) (lines.Signal signal.now) }
-{
-    match signal {
-        Signal::Tick { now } => Some(began + *now),
-        _ => None,
-    }
-}
-
-/// Has the front handle a signal that isn't a tick, with noise where it lacks some.
-fn handle<K: Sink, L: Link, N: Noise>(
+/// Handles a line of the script, and hands the pad back: at a `tick` line turns are taken.
+pub(crate) fn say<E: Exchange, K: Sink, L: Link, C: Clock, N: Noise>(
     alloc: Global,
-    front: &mut Front,
-    signal: Signal,
-    sink: &mut K,
-    link: &mut L,
-    noise: &mut N,
-) -> Result<(), Status>
-    requires timely { IsTimely signal }
-    ensures said { (state : State) → FrontStandsFor front.old state
-        → (calls : List LinkCall) × (draws : List ℕ) × (out : List ℕ)
-        × Called (L.told link.old) (L.told link.new) calls × Added (N.given noise.old) (N.given noise.new) draws × Wrote (K.written sink.old) (K.written sink.new) out
-        × ((k : Command) (top turns : ℕ) → wait_in k (lines.Signal signal) ≡ None → IsSaid result k (lines.Signal signal) state top top turns turns (FrontStandsFor front.new) [] calls draws out)
-        × (receipts_in calls ≡ []) }
-    ensures only { IfErr result IsOfSignals }
-    ensures write { IsDueTo Status.Write result (K.faults sink.old) (K.faults sink.new) (K.failed sink.new) }
-    ensures link { IsDueToLink result (L.faults link.old) (L.faults link.new) }
-    ensures noise { IsDueTo Status.Noise result (N.faults noise.old) (N.faults noise.new) (N.failed noise.new) }
-{
-    match supply(noise, signal) {
-        Err(status) => Err(status),
-        Ok(signal) => obey(alloc, front, &signal, sink, link),
-    }
-}
-
-/// The pad with a datagram of a line in it.
-fn filled(pad: Pad, octets: &[u8]) -> Pad
-    requires { length octets.now ≤ 4352 }
-    ensures { result ≡ octets.now }
-{
-    let mut pad = pad;
-    pad.cut_to(0);
-    pad.append(octets);
-    pad
-}
-
-/// Handles a line of the script, and hands the pad back: at a `tick` line turns are taken. The moment of a datagram
-/// line isn't used: a relay's moments are those of its clock.
-pub(crate) fn say<K: Sink, L: Link, C: Clock, N: Noise>(
-    alloc: Global,
-    front: &mut Front,
+    exchange: &mut E,
     began: u64,
-    line: Line,
+    line: E::Line,
     turns: &mut u64,
     top: &mut u64,
     pad: Pad,
@@ -84,12 +30,12 @@ pub(crate) fn say<K: Sink, L: Link, C: Clock, N: Noise>(
     noise: &mut N,
 ) -> Result<Pad, Status>
     requires began { began ≤ last_moment }
-    requires fits { FitsRelay line }
-    ensures said { (state : State) → FrontStandsFor front.old state
+    requires fits { (version number : ℕ) × E.Line.fits version number line }
+    ensures said { (state : E.State) → E.stands exchange.old state
         → (readings : List ℕ) × (calls : List LinkCall) × (draws : List ℕ) × (out : List ℕ)
         × Added (C.given clock.old) (C.given clock.new) readings × Called (L.told link.old) (L.told link.new) calls × Added (N.given noise.old) (N.given noise.new) draws × Wrote (K.written sink.old) (K.written sink.new) out
-        × IsSaid result (Relays began) line state top.old top.new turns.old turns.new (FrontStandsFor front.new) readings calls draws out
-        × IsLineInOrder (Relays began) line state top.old readings calls draws }
+        × IsSaid result (weaves_of E.Line.spelled E.Line.followed E.waits E.gives E.ticks E.arrives) E.acting began line state top.old top.new turns.old turns.new (E.stands exchange.new) readings calls draws out
+        × IsLineInOrder (weaves_of E.Line.spelled E.Line.followed E.waits E.gives E.ticks E.arrives) E.acting began line state top.old readings calls draws }
     ensures only { IfErr result IsOfLines }
     ensures write { IsDueTo Status.Write result (K.faults sink.old) (K.faults sink.new) (K.failed sink.new) }
     ensures link { IsDueToLink result (L.faults link.old) (L.faults link.new) }
@@ -97,43 +43,34 @@ pub(crate) fn say<K: Sink, L: Link, C: Clock, N: Noise>(
     ensures noise { IsDueTo Status.Noise result (N.faults noise.old) (N.faults noise.new) (N.failed noise.new) }
     ensures count { (C.given clock.new).count + turns.new ≤ (C.given clock.old).count + turns.old }
 {
-    match line {
-        Line::Header | Line::HeaderTwo => Ok(pad),
-        Line::Datagram { port, from, octets }
-        | Line::DatagramAt {
-            port,
-            from,
-            octets,
-            ..
-        } => {
-            let pad = filled(pad, octets.as_slice());
-            arrive(alloc, front, port, from, pad, sink, link)
-        }
-        Line::Signal(kept) => {
-            let signal = kept.into_signal();
-            match wait_of(began, &signal) {
-                Some(until) => wait(alloc, front, until, turns, top, pad, sink, link, clock),
-                None => match handle(alloc, front, signal, sink, link, noise) {
-                    Err(status) => Err(status),
-                    Ok(()) => Ok(pad),
-                },
-            }
-        }
+    match E::wait_at(&line) {
+        Some(moment) => wait(
+            alloc,
+            exchange,
+            began + moment,
+            turns,
+            top,
+            pad,
+            sink,
+            link,
+            clock,
+        ),
+        None => exchange.handle(alloc, line, pad, sink, link, noise),
     }
 }
 
 /// Takes the first reading, which is a tick, and answers its moment.
-pub(crate) fn begin<K: Sink, L: Link, C: Clock>(
+pub(crate) fn begin<E: Exchange, K: Sink, L: Link, C: Clock>(
     alloc: Global,
-    front: &mut Front,
+    exchange: &mut E,
     sink: &mut K,
     link: &mut L,
     clock: &mut C,
 ) -> Result<u64, Status>
-    ensures begun { (state : State) → FrontStandsFor front.old state
+    ensures begun { (state : E.State) → E.stands exchange.old state
         → (readings : List ℕ) × (calls : List LinkCall) × (out : List ℕ)
         × Added (C.given clock.old) (C.given clock.new) readings × Called (L.told link.old) (L.told link.new) calls × Wrote (K.written sink.old) (K.written sink.new) out
-        × IsBegun result state (FrontStandsFor front.new) readings calls out }
+        × IsBegun result (weaves_of E.Line.spelled E.Line.followed E.waits E.gives E.ticks E.arrives) E.acting state (E.stands exchange.new) readings calls out }
     ensures timely { IfOk result (λ began. began ≤ last_moment) }
     ensures only { IfErr result IsOfTurns }
     ensures write { IsDueTo Status.Write result (K.faults sink.old) (K.faults sink.new) (K.failed sink.new) }
@@ -145,7 +82,7 @@ pub(crate) fn begin<K: Sink, L: Link, C: Clock>(
         Err(Failed) => return Err(Status::Clock),
         Ok(reading) => reading.min(TICK_MOST),
     };
-    match obey(alloc, front, &Signal::Tick { now: began }, sink, link) {
+    match exchange.tick(alloc, began, sink, link) {
         Err(status) => Err(status),
         Ok(()) => Ok(began),
     }

@@ -23,11 +23,13 @@ use Rattle.sg_passages.specs.Passages.{Passage, plain_passages}
 use Rattle.sg_playback.specs.Replay.{IsReplay}
 use Rattle.sg_playback.specs.Replay as replays
 use Rattle.sg_relay.specs.Completeness.{IsCompleteRelay}
-use Rattle.sg_relay.specs.Relay.{HoldsItsCallsPorts, IsRelay, Passed, trace_of}
+use Rattle.sg_relay.specs.Joined as joined
+use Rattle.sg_relay.specs.Plain as plain
+use Rattle.sg_relay.specs.Relay.{HoldsItsCallsPorts, IsRelay, Passed, woven_of}
 use Rattle.sg_relay.specs.Relay as relays
 use Rattle.sg_words.specs.Commands.{AreWordsOf, Words}
 use Rattle.sg_words.specs.declared.command.Command.{Command}
-use Rattle.sg_words.specs.declared.command.Command.TheVariants.{Replay, Relay, Demo, Migrate, Capture, Bridge}
+use Rattle.sg_words.specs.declared.command.Command.TheVariants.{Replay, Relay, RelayJoined, Demo, Migrate, Capture, Bridge}
 
 -- how often a source, a sink, a link, a clock and a source of noise have failed
 pub record Failures : Type 0 where
@@ -79,13 +81,26 @@ pub record OnlyLinkFailed (old new : Failures) : Type 0 where
 -- script to the end, or memory runs out.
 pub record HasRelayed (muxes : Bool) (turns : ℕ) (status : Status) (old new : Surroundings) (events : List Event) (passages : List Passage) : Type 0 where
   pub passed : Passed
-  pub is : IsRelay muxes status turns (of_relay old) (of_relay new) passed
-  pub events_are : events ≡ table_events muxes (trace_of passed).events
-  pub passages_are : passages ≡ passages_in muxes (trace_of passed).events
-  pub legs : LegsAreMuxedThroughout (trace_of passed).events
-  pub ports : HoldsItsCallsPorts muxes passed
+  pub is : IsRelay plain.weaves (plain.acts muxes) status turns (of_relay old) (of_relay new) passed
+  pub events_are : events ≡ table_events muxes (woven_of plain.weaves passed).deeds
+  pub passages_are : passages ≡ passages_in muxes (woven_of plain.weaves passed).deeds
+  pub legs : LegsAreMuxedThroughout (woven_of plain.weaves passed).deeds
+  pub ports : HoldsItsCallsPorts plain.weaves (plain.world muxes) passed
   pub complete : OnlyLinkFailed old.failures new.failures
-      → IsCompleteRelay status turns old.left new.left old.failures.link new.failures.link passed
+      → IsCompleteRelay plain.weaves status turns old.left new.left old.failures.link new.failures.link passed
+
+-- This passed between a relay whose calls may be joined and the outside. Its events at the gateway are those of its lines, its ticks
+-- and the datagrams that came, each inner one right behind the one that opened it, with what the gateway tells of them. What a
+-- bridge holds of joined calls is so of them, and all that a relay promises besides.
+pub record HasRelayedJoined (turns : ℕ) (status : Status) (old new : Surroundings) (events : List Event) (passages : List Passage) : Type 0 where
+  pub passed : Passed
+  pub is : IsRelay joined.weaves joined.acts status turns (of_relay old) (of_relay new) passed
+  pub events_are : events ≡ bridged_events (woven_of joined.weaves passed).deeds
+  pub passages_are : passages ≡ plain_passages events
+  pub holds : BridgeHolds (woven_of joined.weaves passed).deeds
+  pub ports : HoldsItsCallsPorts joined.weaves joined.world passed
+  pub complete : OnlyLinkFailed old.failures new.failures
+      → IsCompleteRelay joined.weaves status turns old.left new.left old.failures.link new.failures.link passed
 
 -- with Done these are all of the demonstration's events, and else the first of them
 abbrev pub AreTaken : Status → List Event → List Event → Type 0
@@ -132,6 +147,7 @@ pub record HasBridged (status : Status) (old new : Surroundings) (events : List 
 abbrev pub HasDone : Command → Status → Surroundings → Surroundings → List Event → List Passage → Type 0
 HasDone (Replay workers muxes) status old new events passages = HasReplayed muxes status old new events passages
 HasDone (Relay turns muxes) status old new events passages = HasRelayed muxes turns status old new events passages
+HasDone (RelayJoined turns) status old new events passages = HasRelayedJoined turns status old new events passages
 HasDone (Demo calls start workers) status old new events passages = HasShown calls start status old new events passages
 HasDone Migrate status old new events passages = HasMigrated status old new events passages
 HasDone Capture status old new events passages = HasCaptured status old new events passages

@@ -27,7 +27,7 @@ ghost use Rattle.sg_passages.specs.Passages.{Passage};
 ghost use Rattle.sg_playback.specs.Replay.{IsCompleteReplay};
 ghost use Rattle.sg_run.specs.Run.{HasRun, PlaysInBatches};
 ghost use Rattle.sg_words.specs.Commands.{AreWordsOf, IsNoCommand};
-ghost use Rattle.sg_words.specs.declared.command.Command.TheVariants.{Replay, Relay, Demo, Migrate, Capture, Bridge};
+ghost use Rattle.sg_words.specs.declared.command.Command.TheVariants.{Replay, Relay, RelayJoined, Demo, Migrate, Capture, Bridge};
 
 use sg_audit::the_pages_hold;
 use sg_bridge::the_bridge_holds;
@@ -46,7 +46,7 @@ use sg_mux::{
 };
 use sg_passages::{a_plain_run_is_faithful, the_headline_holds};
 use sg_playback::replay;
-use sg_relay::relay;
+use sg_relay::{relay, relay_joined};
 use sg_trace::{Status, the_capture_holds};
 use sg_words::{Command, CommandFault, read_command};
 use std::alloc::Global;
@@ -56,7 +56,7 @@ use std::thread::Threads;
 /// sink, and draws the noise that its signals lack; the link and the clock aren't touched. `relay` handles
 /// its lines likewise, and at a `tick` line it takes what the link receives and sends what goes out, until the clock
 /// says that the moment has come. With `--mux` these two let RTP and RTCP share a port where offer and answer agree on it
-/// (RFC 5761). `bridge` plays a script whose calls may be joined: what one of the two opens, the other seals. `demo` writes
+/// (RFC 5761). With `--bridge` the calls of a relay may be joined, as those of a `bridge`. `bridge` plays a script whose calls may be joined: what one of the two opens, the other seals. `demo` writes
 /// the numbers of a demonstration. `migrate` writes the script of version 1 that the source holds as one of version 2.
 /// `capture` plays a script and the capture behind it, whose datagrams come at the moments of their records. Words that are
 /// no command are answered `Usage`, and then nothing is touched.
@@ -95,6 +95,7 @@ pub fn run<R: Threads + Sync, S: Source, K: Sink, L: Link, C: Clock, N: Noise, G
         × AuditorsPages (map seen_of passages) }
     ensures given { (S.left source.new).count ≤ (S.left source.old).count + (2 ^ 30 + 1) }
     ensures turns { (turns : ℕ) (muxes : Bool) → AreWordsOf (map string_bytes words.now) (Relay turns muxes) → (C.given clock.new).count ≤ (C.given clock.old).count + (turns + 1) }
+    ensures turns_joined { (turns : ℕ) → AreWordsOf (map string_bytes words.now) (RelayJoined turns) → (C.given clock.new).count ≤ (C.given clock.old).count + (turns + 1) }
     ensures usage { result ≡ Status.Usage → IsNoCommand (map string_bytes words.now) }
     ensures no_command { IsNoCommand (map string_bytes words.now) → (result ≡ Status.Usage) ⊎ (result ≡ Status.NoMemory) }
     ensures untouched { IsNoCommand (map string_bytes words.now)
@@ -155,6 +156,9 @@ pub fn run<R: Threads + Sync, S: Source, K: Sink, L: Link, C: Clock, N: Noise, G
             rt, alloc, workers, mux, source, sink, noise, gate,
         ),
         Command::Relay { turns, mux } => relay(alloc, turns, mux, source, sink, link, clock, noise),
+        Command::RelayJoined { turns } => {
+            relay_joined(alloc, turns, source, sink, link, clock, noise)
+        }
         Command::Demo {
             calls,
             start,

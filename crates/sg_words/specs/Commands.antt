@@ -2,7 +2,7 @@
 use Rattle.std.specs.Prelude.{◌≡◌, ◌⊎◌, ◌≤◌, ◌<◌, ◌^◌, ◌==◌, ℕ, Bool, true, false, if◌then◌else◌, List, [], ◌∷◌, ◌++◌, codes, map, ⊤}
 use Rattle.std.specs.Fmt.{decimal}
 use Rattle.sg_words.specs.declared.command.Command.{Command}
-use Rattle.sg_words.specs.declared.command.Command.TheVariants.{Replay, Relay, Demo, Migrate, Capture, Bridge}
+use Rattle.sg_words.specs.declared.command.Command.TheVariants.{Replay, Relay, RelayJoined, Demo, Migrate, Capture, Bridge}
 
 abbrev pub Text : Type 0
 Text = List ℕ
@@ -49,6 +49,8 @@ abbrev pub spellings : Command → List Words
 spellings (Replay workers mux) = map (λ others. codes "replay" ∷ others) (with_workers workers closed (mux_option mux))
 spellings (Relay turns mux) =
     map (λ others. codes "relay" ∷ others) (with_option (codes "--turns") (decimal turns) closed (mux_option mux))
+spellings (RelayJoined turns) =
+    map (λ others. codes "relay" ∷ others) (with_option (codes "--turns") (decimal turns) closed (codes "--bridge" ∷ []))
 spellings (Demo calls start workers) =
     map (λ others. codes "demo" ∷ others) (with_workers workers with_end_mark (decimal calls ∷ decimal start ∷ []))
 spellings Migrate = map (λ others. codes "migrate" ∷ others) (closed [])
@@ -63,6 +65,7 @@ IsWorkers workers = (1 ≤ workers) × (workers ≤ 16)
 abbrev pub IsCommand : Command → Type 0
 IsCommand (Replay workers mux) = IsWorkers workers
 IsCommand (Relay turns mux) = (1 ≤ turns) × (turns ≤ 1000000000)
+IsCommand (RelayJoined turns) = (1 ≤ turns) × (turns ≤ 1000000000)
 IsCommand (Demo calls start workers) = (1 ≤ calls) × (calls ≤ 256) × (start < 2 ^ 64) × IsWorkers workers
 IsCommand Migrate = ⊤
 IsCommand Capture = ⊤

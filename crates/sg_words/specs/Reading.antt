@@ -6,7 +6,7 @@ use Rattle.sg_base.specs.Fields.{number_at}
 use Rattle.sg_words.specs.Commands.{Text, Words, mux_option}
 use Rattle.sg_words.specs.Grammar.{srtpgw}
 use Rattle.sg_words.specs.declared.command.Command.{Command}
-use Rattle.sg_words.specs.declared.command.Command.TheVariants.{Replay, Relay, Demo, Migrate, Capture, Bridge}
+use Rattle.sg_words.specs.declared.command.Command.TheVariants.{Replay, Relay, RelayJoined, Demo, Migrate, Capture, Bridge}
 use Rattle.sg_words.specs.declared.spelling.Kind.{Kind}
 use Rattle.sg_words.specs.declared.spelling.Kind.TheVariants.{Numbers, Options}
 
@@ -71,12 +71,26 @@ workers_by words kind texts (Some value) =
 abbrev pub replay_by : Words → Option Text → Bool → Option Command
 replay_by words workers mux = option_map (λ n. Replay n mux) (workers_by words Options (mux_option mux) workers)
 
--- the same of `relay`, whose option is required
-abbrev pub relay_by : Words → Option Text → Bool → Option Command
-relay_by words None mux = None
-relay_by words (Some value) mux =
-    if have_option words (codes "--turns") value Options (mux_option mux) then option_map (λ n. Relay n mux) (positive 1000000000 value)
+-- `relay` has one at most of its two options without a value
+abbrev pub relay_options : Bool → Bool → Option Words
+relay_options mux false = Some (mux_option mux)
+relay_options false true = Some (codes "--bridge" ∷ [])
+relay_options true true = None
+
+abbrev pub relay_for : Bool → Bool → ℕ → Command
+relay_for mux false n = Relay n mux
+relay_for mux true n = RelayJoined n
+
+abbrev pub relay_with : Words → Text → Bool → Bool → Option Words → Option Command
+relay_with words value mux bridge None = None
+relay_with words value mux bridge (Some options) =
+    if have_option words (codes "--turns") value Options options then option_map (relay_for mux bridge) (positive 1000000000 value)
     else None
+
+-- the same of `relay`, whose number of turns is required, and whether `--mux` and `--bridge` are set
+abbrev pub relay_by : Words → Option Text → Bool → Bool → Option Command
+relay_by words None mux bridge = None
+relay_by words (Some value) mux bridge = relay_with words value mux bridge (relay_options mux bridge)
 
 -- the same of `demo`, by the texts of its two numbers and of its option
 abbrev pub demo_by : Words → Option Text → Option Text → Option Text → Option Command
@@ -98,7 +112,7 @@ text_in id words = option_and_then (λ p. first_of id p.1) (subcommand_of srtpgw
 abbrev pub said_by : Text → Words → (Text → Option Text) → Option Command
 said_by name words text =
     if bytes_eq name (codes "replay") then replay_by words (text (codes "workers")) (is_set (text (codes "mux")))
-    else (if bytes_eq name (codes "relay") then relay_by words (text (codes "turns")) (is_set (text (codes "mux")))
+    else (if bytes_eq name (codes "relay") then relay_by words (text (codes "turns")) (is_set (text (codes "mux"))) (is_set (text (codes "bridge")))
     else (if bytes_eq name (codes "demo") then demo_by words (text (codes "calls")) (text (codes "start")) (text (codes "workers"))
     else (if bytes_eq name (codes "migrate") then alone_by Migrate words
     else (if bytes_eq name (codes "capture") then alone_by Capture words

@@ -31,6 +31,15 @@ fn mux<'a>(alloc: Global) -> Arg<'a>
         .action(ArgAction::SetTrue)
 }
 
+fn bridge<'a>(alloc: Global) -> Arg<'a>
+    ensures rule { rule_of result ≡ grammar.bridge_option }
+    ensures local { result.global ≡ false }
+{
+    Arg::new(alloc, "bridge")
+        .long("bridge")
+        .action(ArgAction::SetTrue)
+}
+
 fn calls<'a>(alloc: Global) -> Arg<'a>
     ensures rule { rule_of result ≡ grammar.calls }
     ensures local { result.global ≡ false }
@@ -68,7 +77,10 @@ fn relay<'a>(alloc: Global) -> Result<Command<'a>, AllocError>
     ensures local { IfOk result (λ c. (out-Command c).has_globals ≡ false) }
 {
     match Command::new(alloc, "relay").arg(turns(alloc)) {
-        Ok(command) => command.arg(mux(alloc)),
+        Ok(command) => match command.arg(mux(alloc)) {
+            Ok(command) => command.arg(bridge(alloc)),
+            Err(error) => Err(error),
+        },
         Err(error) => Err(error),
     }
 }

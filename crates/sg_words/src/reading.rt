@@ -8,7 +8,7 @@ ghost use Rattle.sg_words.specs.Reading.{alone_by, command_by, demo_by, first_sa
 ghost use Rattle.sg_words.specs.declared.command.Command.{Command};
 
 use crate::line::command_line;
-use crate::spelling::{Kind, Written, are_ended, have_option, is, mux_option};
+use crate::spelling::{Kind, Written, are_ended, have_option, is, mux_option, relay_options};
 use crate::{Command, CommandFault};
 use clap::error::ErrorKind;
 use clap::{ArgMatches, Error};
@@ -92,23 +92,26 @@ fn replay_of(words: &[String], matches: &ArgMatches<'_>) -> Option<Command>
 fn relay_of(words: &[String], matches: &ArgMatches<'_>) -> Option<Command>
     ensures { result ≡ relay_by (map string_bytes words.now)
         (option_and_then (λ p. first_of (codes "turns") p.1) (subcommand_rows_of matches.now))
-        (is_set (option_and_then (λ p. first_of (codes "mux") p.1) (subcommand_rows_of matches.now))) }
+        (is_set (option_and_then (λ p. first_of (codes "mux") p.1) (subcommand_rows_of matches.now)))
+        (is_set (option_and_then (λ p. first_of (codes "bridge") p.1) (subcommand_rows_of matches.now))) }
 {
     let mux = is_set(matches, "mux");
+    let bridge = is_set(matches, "bridge");
     let value = text_of(matches, "turns")?;
+    let options = relay_options(mux, bridge)?;
     let written = Written {
         option: "--turns",
         joined: "--turns=",
         value,
     };
-    if !have_option(words, &written, Kind::Options, mux_option(mux)) {
+    if !have_option(words, &written, Kind::Options, options) {
         return None;
     }
-    let turns = positive(TURNS_MOST as u128, value)?;
-    Some(Command::Relay {
-        turns: turns as u64,
-        mux,
-    })
+    let turns = positive(TURNS_MOST as u128, value)? as u64;
+    if bridge {
+        return Some(Command::RelayJoined { turns });
+    }
+    Some(Command::Relay { turns, mux })
 }
 
 /// The command `demo`, by the same.
@@ -182,7 +185,7 @@ fn refused(kind: ErrorKind) -> CommandFault
 
 /// The command that the words after the program's name are, or `Usage` exactly where they are none.
 ///
-/// `replay [--workers W] [--mux]`, `relay --turns T [--mux]`, `demo CALLS START [--workers W]`, `migrate`, `capture` and
+/// `replay [--workers W] [--mux]`, `relay --turns T [--mux | --bridge]`, `demo CALLS START [--workers W]`, `migrate`, `capture` and
 /// `bridge`. An option stands in front of the numbers, between or behind them, once at most, as `--workers 4` or
 /// `--workers=4`; a lone `--` says that none is behind it.
 pub fn read_command(alloc: Global, words: &[String]) -> Result<Command, CommandFault>

@@ -1,9 +1,9 @@
 //! Whether words are a way to write what was found in them.
 
-ghost use Rattle.std.specs.Prelude.{◌≡◌, ◌++◌, map, string_bytes, codes};
+ghost use Rattle.std.specs.Prelude.{◌≡◌, ◌++◌, map, option_map, string_bytes, codes};
 ghost use Rattle.std.specs.Str.{bytes_eq};
 ghost use Rattle.sg_words.specs.Commands.{mux_option};
-ghost use Rattle.sg_words.specs.Reading.{are, are_ended, follows, have_option, is_joined, may_end};
+ghost use Rattle.sg_words.specs.Reading.{are, are_ended, follows, have_option, is_joined, may_end, relay_options};
 
 /// An option, that option with an equals sign behind it, and its value.
 #[derive(Clone, Copy)]
@@ -25,6 +25,16 @@ pub(crate) fn mux_option(mux: bool) -> &'static [&'static str]
     ensures { map (λ t. t.now) result.now ≡ mux_option mux }
 {
     if mux { &["--mux"] } else { &[] }
+}
+
+/// The options without a value of a relay: one at most.
+pub(crate) fn relay_options(mux: bool, bridge: bool) -> Option<&'static [&'static str]>
+    ensures { option_map (λ options. map (λ t. t.now) options.now) result ≡ relay_options mux bridge }
+{
+    if !bridge {
+        return Some(mux_option(mux));
+    }
+    if mux { None } else { Some(&["--bridge"]) }
 }
 
 /// Whether the word is this text.
