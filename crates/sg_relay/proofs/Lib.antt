@@ -10,3 +10,4 @@ mod Relays
 mod Says
 mod Sharing
 mod Waits
+mod Weavings
