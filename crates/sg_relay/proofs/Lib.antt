@@ -1,4 +1,5 @@
 mod Accounts
+mod Asks
 mod Blames
 mod CallPorts
 mod Complete
