@@ -1,4 +1,5 @@
 mod Accounts
+mod Asks
 mod Blames
 mod CallPorts
 mod Complete
@@ -10,3 +11,4 @@ mod Relays
 mod Says
 mod Sharing
 mod Waits
+mod Weavings
