@@ -3,6 +3,7 @@ pub mod Asked
 pub mod Causes
 pub mod Completeness
 pub mod Held
+pub mod Joined
 pub mod Parts
 pub mod Plain
 pub mod Relay

@@ -3,18 +3,22 @@
 ghost use Rattle.std.specs.Prelude.{◌≡◌, ◌∷◌, [], ℕ, List, IfErr, map};
 ghost use Rattle.sg_edge.specs.Links.{Called, LinkCall};
 ghost use Rattle.sg_edge.specs.Told.{HasCause, Wrote};
+ghost use Rattle.sg_bridge.specs.BridgeText.{bridge_outcome_line};
 ghost use Rattle.sg_outcome.specs.OutcomeText.{outcome_line};
 ghost use Rattle.sg_relay.specs.Asked.{Sends, Tells, act_of, hold, ports_of};
 ghost use Rattle.sg_relay.specs.Causes.{IsDueTo, IsDueToLink, IsOfOutcomes};
 ghost use Rattle.sg_relay.specs.Parts.{AreCarriedOut, IsHeld};
 ghost use Rattle.sg_table.specs.Handling.{outcome_of};
+ghost use Rattle.sg_trace.specs.Causes.{IsCaused};
+ghost use Rattle.sg_trace.specs.Output.{IsWritten};
 
 use sg_base::{Address, Failed, MEDIUM_PORTS};
+use sg_bridge::{BridgeOutcome, print_bridge};
 use sg_edge::{Link, Sink};
 use sg_gateway::port_at;
 use sg_outcome::Outcome;
 use sg_table::{End, Handled};
-use sg_trace::{Status, tell_at_once};
+use sg_trace::{Status, tell_at_once, write_at_once};
 use std::alloc::Global;
 
 /// Binds a port, or gives it up.
@@ -155,4 +159,17 @@ pub(crate) fn pass_on<K: Sink, L: Link>(
         End::Out { port, to } => send_out(alloc, port, to, handled.pad.octets(), sink, link),
         End::Dropped(cause) => carry_out(alloc, &Outcome::Dropped { port, cause }, sink, link),
     }
+}
+
+/// Writes the line of what a bridge tells, once it is printed, and has it passed on at once.
+pub(crate) fn tell_bridge<K: Sink>(
+    alloc: Global,
+    outcome: &BridgeOutcome,
+    sink: &mut K,
+) -> Result<(), Status>
+    ensures told { IsWritten result (K.written sink.old) (K.written sink.new) (bridge_outcome_line outcome.now) }
+    ensures cause { IsCaused Status.Write result (K.faults sink.old) (K.faults sink.new) (K.failed sink.new) }
+{
+    let line = print_bridge(alloc, outcome).map_err(|_| Status::NoMemory)?;
+    write_at_once(line.as_slice(), sink)
 }

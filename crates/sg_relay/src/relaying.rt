@@ -4,16 +4,18 @@ ghost use Rattle.std.specs.Prelude.{◌≡◌, ◌≤◌, ◌+◌, ◌^◌, ℕ,
 ghost use Rattle.sg_trace.specs.Causes.{HasFailed};
 ghost use Rattle.sg_edge.specs.Told.{Rose};
 ghost use Rattle.sg_relay.specs.Completeness.{IsCompleteRelay};
+ghost use Rattle.sg_relay.specs.Joined as joined;
 ghost use Rattle.sg_relay.specs.Plain as plain;
 ghost use Rattle.sg_relay.specs.Relay.{HoldsItsCallsPorts, IsRelay, Passed};
 ghost use Rattle.sg_relay.specs.Weaving.{weaves_of};
 
 use crate::exchange::Exchange;
-use crate::laws::ports_are_of_calls;
+use crate::laws::{ports_are_of_calls, ports_of_joined_calls_are_of_calls};
 use crate::lines::{begin, say};
 use sg_base::{NoMemory, Pad};
 use sg_edge::{Clock, Link, Noise, Sink, Source};
 use sg_front::Front;
+use sg_switchboard::Switchboard;
 use sg_trace::{ScriptReader, Status};
 use std::alloc::Global;
 
@@ -52,6 +54,50 @@ pub fn relay<S: Source, K: Sink, L: Link, C: Clock, N: Noise>(
     match Front::make(alloc, muxes) {
         Err(NoMemory) => Status::NoMemory,
         Ok(mut front) => play(alloc, turns, &mut front, source, sink, link, clock, noise),
+    }
+}
+
+/// The same of calls of which some may be joined: at a line `join` two are, and until they are parted what is opened in the one goes
+/// on to the other in the same turn, and is sealed there. Their plain ports stay bound, and what comes there from outside is dropped.
+#[inline(never)]
+pub fn relay_joined<S: Source, K: Sink, L: Link, C: Clock, N: Noise>(
+    alloc: Global,
+    turns: u64,
+    source: &mut S,
+    sink: &mut K,
+    link: &mut L,
+    clock: &mut C,
+    noise: &mut N,
+) -> Status
+    ensures ran { (p : Passed)
+        × IsRelay joined.weaves joined.acts result turns
+        (record { left = S.left source.old; written = K.written sink.old; calls = L.told link.old; readings = C.given clock.old; draws = N.given noise.old })
+        (record { left = S.left source.new; written = K.written sink.new; calls = L.told link.new; readings = C.given clock.new; draws = N.given noise.new })
+        p
+        × HoldsItsCallsPorts joined.weaves joined.world p
+        × (¬ Rose (S.faults source.old) (S.faults source.new) → ¬ Rose (K.faults sink.old) (K.faults sink.new) → ¬ Rose (C.faults clock.old) (C.faults clock.new)
+        → ¬ Rose (N.faults noise.old) (N.faults noise.new) → IsCompleteRelay joined.weaves result turns (S.left source.old) (S.left source.new) (L.faults link.old) (L.faults link.new) p) }
+    ensures given { (S.left source.new).count ≤ (S.left source.old).count + (2 ^ 30 + 1) }
+    ensures count { (C.given clock.new).count ≤ (C.given clock.old).count + (turns + 1) }
+    ensures read { HasFailed (result ≡ Status.Read) (S.faults source.old) (S.faults source.new) (S.failed source.new) }
+    ensures write { HasFailed (result ≡ Status.Write) (K.faults sink.old) (K.faults sink.new) (K.failed sink.new) }
+    ensures link { HasFailed (result ≡ Status.Link) (L.faults link.old) (L.faults link.new) None }
+    ensures clock { HasFailed (result ≡ Status.Clock) (C.faults clock.old) (C.faults clock.new) (C.failed clock.new) }
+    ensures noise { HasFailed (result ≡ Status.Noise) (N.faults noise.old) (N.faults noise.new) (N.failed noise.new) }
+{
+    ports_of_joined_calls_are_of_calls();
+    match Switchboard::make(alloc) {
+        Err(NoMemory) => Status::NoMemory,
+        Ok(mut switchboard) => play(
+            alloc,
+            turns,
+            &mut switchboard,
+            source,
+            sink,
+            link,
+            clock,
+            noise,
+        ),
     }
 }
 
