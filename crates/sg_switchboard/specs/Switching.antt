@@ -1,7 +1,6 @@
 -- What a table whose calls may be joined tells, one thing that is said after the other.
 use Rattle.std.specs.Prelude.{◌≡◌, ℕ, List, [], ◌∷◌}
 use Rattle.std.specs.List.{flat_map}
-use Rattle.sg_base.specs.declared.addresses.Address.{Address}
 use Rattle.sg_bridge.specs.Bridged.{Bridging, Happens, Said, bridging, bridgings_from}
 use Rattle.sg_bridge.specs.Pairs.{Members, no_members}
 use Rattle.sg_bridge.specs.declared.outcomes.BridgeOutcome.{BridgeOutcome}
