@@ -77,7 +77,7 @@ module _ {L S D : Type 0} (w : Weaves L D) (acting : Acting S D) (law : GoInOrde
       stops = λ later.
           ap₂ (λ (xs : List Received) (d : List ℕ). said w began l later top (taken [] xs d)) (ap receipts_in uncalled) undrew
           ∙ said_given later (taken [] [] []) ∙ ap (λ given. behind_given given later top (taken [] [] [])) lacks;
-      done = subst (λ (as : List Act). IsDone as calls out) (sym (law.none_done state)) (subst (λ (c : List LinkCall). IsDone [] c out) (sym uncalled) (subst (λ (o : List ℕ). IsDone [] [] o) (sym unwritten) done_none));
+      done = subst (λ (os : List Act). IsDone os calls out) (sym (law.none_done state)) (subst (λ (c : List LinkCall). IsDone [] c out) (sym uncalled) (subst (λ (o : List ℕ). IsDone [] [] o) (sym unwritten) done_none));
       good = subst AreGood (sym uncalled) tt;
     },
     sym (ap (λ (c : List LinkCall). length (receipts_in c)) uncalled),

@@ -21,7 +21,7 @@ turns-init g c = (
         called_none _,
         wrote_none _,
         goes_none w c.args.until c.args.top.now,
-        subst (λ (as : List Act). IsDone as [] []) (sym (law.none_done state)) done_none,
+        subst (λ (os : List Act). IsDone os [] []) (sym (law.none_done state)) done_none,
         tt,
         subst (g.E.Exchange.stands c.args.exchange.now) (sym (law.none_after state)) stands,
         refl,
