@@ -5,6 +5,7 @@ mod CallPorts
 mod Complete
 mod Deeds
 mod Held
+mod JoinedPorts
 pub mod Holds
 pub mod Order
 mod Relays
