@@ -1,5 +1,5 @@
 -- What a relay asked its link for is a prefix of what some acts ask for, and so are the ports that it holds.
-use Rattle.std.proofs.Common.{◌≡◌, inl, inr, ℕ, List, [], ◌∷◌, ◌++◌, sym, ap, ◌∙◌, subst, append_assoc}
+use Rattle.std.proofs.Common.{◌≡◌, inl, inr, ℕ, List, [], ◌∷◌, ◌++◌, sym, ap, ◌∙◌, subst, append_assoc, length, length-append, arith}
 use Rattle.std.proofs.lemmas.List.{append-nil}
 use Rattle.std.specs.List.{flat_map}
 use Rattle.sg_edge.specs.Links.{Failing, LinkCall, Receive}
@@ -14,11 +14,11 @@ use Rattle.sg_relay.specs.Relay.{HoldsItsCallsPorts, IsRelay, IsWholeRelay, Pass
 use Rattle.sg_relay.specs.Weaving.{Weaves}
 use Rattle.sg_relay.proofs.Deeds.{flat_append, prefix_after, prefix_all, prefix_longer}
 
--- the asks are a prefix of those that are told of some events
+-- the asks are a prefix of those that are of some deeds
 abbrev IsPrefix : {D : Type 0} → (List D → List Act) → List Ask → Type 0
 IsPrefix {D} acts asks = (ds : List D) × IsPrefixOf asks (flat_map asks_of (acts ds))
 
--- calls whose asks are of some outcomes, and others of which a prefix is of the next outcome
+-- calls whose asks are of some acts, and others of which a prefix is of the next act
 prefix_of : (done others : List Act) (next : Act) (before last : List LinkCall) → asks_in before ≡ flat_map asks_of done → IsPrefixOf (asks_in last) (asks_of next)
     → IsPrefixOf (asks_in (before ++ last)) (flat_map asks_of (done ++ next ∷ others))
 prefix_of done others next before last asked prefix =
@@ -84,3 +84,18 @@ holds w acts world law s turns old new p run =
 pub relayed_as : {L D : Type 0} (w : Weaves L D) (acts acts' : List D → List Act) → ((ds : List D) → acts ds ≡ acts' ds) → (s : Status) (turns : ℕ) (old new : RelayTellings) (p : Passed)
     → IsRelay w acts s turns old new p → IsRelay w acts' s turns old new p
 relayed_as {L} {D} w acts acts' same s turns old new p run = subst (λ (f : List D → List Act). IsRelay w f s turns old new p) (λ i ds. same ds i) run
+
+-- the same of all that a run says, with its ports
+pub relayed_with_ports : {L D : Type 0} (w : Weaves L D) (acts acts' : List D → List Act) (world : List D → World) → ((ds : List D) → acts ds ≡ acts' ds) → ((ds : List D) → PortsAreOfCalls (acts' ds) (world ds))
+    → (s : Status) (turns : ℕ) (old new : RelayTellings) (complete : Passed → Type 0) → (p : Passed) × IsRelay w acts s turns old new p × complete p
+    → (p : Passed) × IsRelay w acts' s turns old new p × HoldsItsCallsPorts w world p × complete p
+relayed_with_ports w acts acts' world same law s turns old new complete (p, run, ends) =
+    let run' = relayed_as w acts acts' same s turns old new p run in
+    (p, run', holds w acts' world law s turns old new p run', ends)
+
+-- a relay that asked its link for nothing
+pub holds_none : {L D : Type 0} (w : Weaves L D) (world : List D → World) (p : Passed) → p.calls ≡ [] → HoldsItsCallsPorts w world p
+holds_none w world p none = record {
+  at_receives = λ before rest x is. absurd (omega (arith, ap length (sym none ∙ is), length-append before (Receive x ∷ rest)));
+  each = λ before rest ask is. absurd (omega (arith, ap length (sym (ap asks_in none) ∙ is), length-append before (ask ∷ rest)));
+}
