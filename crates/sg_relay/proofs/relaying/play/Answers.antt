@@ -3,7 +3,7 @@ use Rattle.std.specs.Prelude.{IfSome}
 use Rattle.sg_edge.proofs.Links.{added_none}
 use Rattle.sg_edge.proofs.Passed.{took_none}
 use Rattle.sg_edge.specs.Told.{AtEnd}
-use Rattle.sg_trace.proofs.Causes.{failed_now}
+use Rattle.sg_trace.proofs.Causes.{failed_now, not_failed, ok_not}
 use Rattle.sg_trace.specs.Reading.{IsNextBy, IsReadBy}
 use Rattle.sg_trace.specs.Trace.{moment_of}
 use Rattle.sg_trace.specs.declared.status.Status.TheVariants.{Done, Read, Write, Link, Clock, Noise}
@@ -171,3 +171,26 @@ lines-preserved g c =
       c.in-Ok-say.ensures.noise ∙ c.lines.invariant.7,
       omega (arith, c.lines.invariant.8, c.in-Ok-say.ensures.count),
     )
+
+-- ---- what failed
+
+pub returns-in-Err-next-clause-read : goal.returns-in-Err-next-clause-read
+returns-in-Err-next-clause-read g c = failed_now _ _ _ _ _ c.lines.invariant.3 (due_so Read (Err c.in-Err-next.status) _ _ _ c.in-Err-next.ensures.cause)
+
+pub returns-in-Ok-None-clause-read : goal.returns-in-Ok-None-clause-read
+returns-in-Ok-None-clause-read g c = not_failed _ _ _ _ (c.in-Ok-None.ensures.cause.quiet (λ is. ok_not _ _ is) ∙ c.lines.invariant.3) (λ is. (let end : Done ≡ Read = is in cc))
+
+pub returns-in-Err-say-clause-read : goal.returns-in-Err-say-clause-read
+returns-in-Err-say-clause-read g c = not_failed _ _ _ _ (c.in-Ok-Some.ensures.cause.quiet (λ is. ok_not _ _ is) ∙ c.lines.invariant.3) (lines_not_read c.in-Err-say.status c.in-Err-say.ensures.only)
+
+pub returns-in-Err-say-clause-write : goal.returns-in-Err-say-clause-write
+returns-in-Err-say-clause-write g c = failed_now _ _ _ _ _ c.lines.invariant.4 c.in-Err-say.ensures.write
+
+pub returns-in-Err-say-clause-link : goal.returns-in-Err-say-clause-link
+returns-in-Err-say-clause-link g c = failed_now _ _ _ _ _ c.lines.invariant.5 c.in-Err-say.ensures.link
+
+pub returns-in-Err-say-clause-clock : goal.returns-in-Err-say-clause-clock
+returns-in-Err-say-clause-clock g c = failed_now _ _ _ _ _ c.lines.invariant.6 c.in-Err-say.ensures.clock
+
+pub returns-in-Err-say-clause-noise : goal.returns-in-Err-say-clause-noise
+returns-in-Err-say-clause-noise g c = failed_now _ _ _ _ _ c.lines.invariant.7 c.in-Err-say.ensures.noise
