@@ -4,6 +4,7 @@ mod Blames
 mod CallPorts
 mod Complete
 mod Deeds
+mod Gives
 mod Held
 pub mod Holds
 pub mod Order
