@@ -7,6 +7,7 @@ mod Deeds
 mod Gives
 mod Held
 pub mod Holds
+mod Leaving
 pub mod Order
 mod Relays
 mod Says
