@@ -4,8 +4,10 @@ mod Blames
 mod CallPorts
 mod Complete
 mod Deeds
+mod Gives
 mod Held
 pub mod Holds
+mod Leaving
 pub mod Order
 mod Relays
 mod Says
