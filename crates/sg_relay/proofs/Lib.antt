@@ -4,9 +4,11 @@ mod Blames
 mod CallPorts
 mod Complete
 mod Deeds
+mod Gives
 mod Held
 mod JoinedPorts
 pub mod Holds
+mod Leaving
 pub mod Order
 mod Relays
 mod Says

@@ -38,7 +38,7 @@ received_none : (x : Received) → IsDone [] (links.Receive x ∷ []) []
 received_none x = record { done = []; of_acts = refl; asked = refl; sent = refl; written = refl }
 
 -- nothing is to be done for no deeds
-done_nothing : {S D : Type 0} (acting : Acting S D) → GoInOrder acting → (state : S) (calls : List LinkCall) (out : List ℕ) → IsDone [] calls out → IsDone (acting.acts state []) calls out
+pub done_nothing : {S D : Type 0} (acting : Acting S D) → GoInOrder acting → (state : S) (calls : List LinkCall) (out : List ℕ) → IsDone [] calls out → IsDone (acting.acts state []) calls out
 done_nothing acting law state calls out done = subst (λ (os : List Act). IsDone os calls out) (sym (law.none_done state)) done
 
 pub handled_nothing : {S D : Type 0} (acting : Acting S D) → GoInOrder acting → (state : S) (stands_for : S → Type 0) → stands_for state → AreHandled {T = Unit {0}} (Ok tt) acting state [] stands_for [] []
