@@ -17,11 +17,8 @@ use Rattle.sg_outcome.specs.declared.outcomes.Outcome.{Outcome}
 use Rattle.sg_outcome.specs.declared.outcomes.Outcome.TheVariants.{Unsent}
 use Rattle.sg_relay.specs.Acting.{Acting}
 use Rattle.sg_relay.specs.Asked.{Act, AreGood, Ask, Done as Deed, EndsBadly, IsAtNext, IsCutOff, IsDone, IsGood, IsPart, IsUntold, Sends, Tells, act_of, ask_in, asks_in, asks_of, hold, ports_from, receipt_in, receipts_in, sent_in, sent_of, written_of}
+use Rattle.sg_relay.specs.Causes.{IsOfWriting}
 use Rattle.sg_relay.specs.Parts.{AreCarriedOut, AreHandled, IsHeld, StopsWith}
-
--- the statuses of a line that couldn't be written
-abbrev pub IsOfWriting : Status → Type 0
-IsOfWriting status = (status ≡ Write) ⊎ (status ≡ NoMemory)
 
 pub flat_append : {A B : Type 0} (f : A → List B) (xs ys : List A) → flat_map f (xs ++ ys) ≡ flat_map f xs ++ flat_map f ys
 flat_append f [] ys = refl
