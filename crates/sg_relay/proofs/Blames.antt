@@ -2,7 +2,7 @@
 use Rattle.std.proofs.Common.{◌≡◌, ℕ, Bool, Option, Result, Ok, Err, sym, ap, ◌∙◌, inl, inr, arith}
 use Rattle.std.specs.Prelude.{IfErr}
 use Rattle.sg_trace.proofs.Causes.{failed_as}
-use Rattle.sg_trace.specs.Causes.{HasFailed, IsCaused}
+use Rattle.sg_trace.specs.Causes.{IsCaused}
 use Rattle.sg_trace.specs.declared.status.Status.{Status}
 use Rattle.sg_trace.specs.declared.status.Status.TheVariants.{Read, Write, Link, NoMemory, Clock, Noise, TurnsSpent}
 use Rattle.sg_relay.specs.Causes.{IsDueTo, IsDueToLink, IsOfLines, IsOfOutcomes, IsOfTurns, IsOfWriting}

@@ -283,13 +283,9 @@ asks_in_all h port i n lt =
     let split = ports_split port i n lt in
     (map h split.0, append_assoc (map h (ports_from port i)) (h (port + i) ∷ []) (map h split.0) ∙ sym (ap (map h) split.1 ∙ map-append h (ports_from port i) ((port + i) ∷ split.0)))
 
--- ---- what was carried out is handled
+-- ---- deeds that are handled
 
-pub handled_told : {S D : Type 0} (r : Result (Unit {0}) Status) (a : Acting S D) (state : S) (ds : List D) (stands_for : S → Type 0) (acts : List Act) (calls : List LinkCall) (out : List ℕ)
-    → AreCarriedOut r acts calls out → acts ≡ a.acts state ds → stands_for (a.after state ds) → AreHandled r a state ds stands_for calls out
-handled_told (Ok u) a state ds stands_for acts calls out told is stands = (subst (λ l. IsDone l calls out) is told.0, told.1, told.2, stands)
-handled_told (Err s) a state ds stands_for acts calls out told is stands = (subst (λ l. StopsWith s l calls out) is told.0, told.1)
-
+-- memory was wanting before anything was done
 pub unhandled : {S D : Type 0} (a : Acting S D) (state : S) (ds : List D) (stands_for : S → Type 0) → AreHandled {T = Unit {0}} (Err NoMemory) a state ds stands_for [] []
 unhandled a state ds stands_for = ((part_longer [] (a.acts state ds) [] [] (part_of [] [] [] done_none), tt), refl)
 

@@ -45,7 +45,7 @@ pub record IsRelaying {L S D : Type 0} (w : Weaves L D) (acting : Acting S D) (s
   pub within : at.offset ≤ 2 ^ 30
   pub in_order : (rest : List ℕ) (o : Outside) → AreInOrder (told_by w acting state (p.octets ++ rest) (p.readings ++ o.readings) (p.draws ++ o.draws)) p.calls
 
-pub pace_so : (readings : List ℕ) (receipts : List Received) → (length readings ≡ length receipts + 1) ⊎ (length readings ≡ (length receipts + 1) + 1) → ArePaced readings receipts
+pace_so : (readings : List ℕ) (receipts : List Received) → (length readings ≡ length receipts + 1) ⊎ (length readings ≡ (length receipts + 1) + 1) → ArePaced readings receipts
 pace_so [] receipts (inl same) = absurd (omega (arith, same))
 pace_so [] receipts (inr same) = absurd (omega (arith, same))
 pace_so (r ∷ rs) receipts (inl same) = inl (omega (arith, same))
@@ -68,20 +68,20 @@ only_begun readings calls out = record { octets = []; out = out; calls = calls; 
 
 module _ {L S D : Type 0} (w : Weaves L D) (acting : Acting S D) (law : GoInOrder acting) (state : S) where
   -- a weaving whose deeds begin with some that were handled, in part or whole
-  pub part_in : (p : Passed) (ds : List D) (rest : Woven D) → woven_of w p ≡ with_deeds ds rest → IsPart (acting.acts state ds) p.calls p.out → IsPart (acting.acts state (woven_of w p).deeds) p.calls p.out
+  part_in : (p : Passed) (ds : List D) (rest : Woven D) → woven_of w p ≡ with_deeds ds rest → IsPart (acting.acts state ds) p.calls p.out → IsPart (acting.acts state (woven_of w p).deeds) p.calls p.out
   part_in p ds rest is part =
       subst (λ (c : Woven D). IsPart (acting.acts state c.deeds) p.calls p.out) (sym is)
       (subst (λ (os : List Act). IsPart os p.calls p.out) (sym (law.acts state ds rest.deeds))
       (part_longer (acting.acts state ds) (acting.acts (acting.after state ds) rest.deeds) p.calls p.out part))
 
-  pub stops_in : (s : Status) (p : Passed) (ds : List D) (rest : Woven D) → woven_of w p ≡ with_deeds ds rest → StopsWith s (acting.acts state ds) p.calls p.out
+  stops_in : (s : Status) (p : Passed) (ds : List D) (rest : Woven D) → woven_of w p ≡ with_deeds ds rest → StopsWith s (acting.acts state ds) p.calls p.out
       → StopsWith s (acting.acts state (woven_of w p).deeds) p.calls p.out
   stops_in s p ds rest is stops =
       subst (λ (c : Woven D). StopsWith s (acting.acts state c.deeds) p.calls p.out) (sym is)
       (subst (λ (os : List Act). StopsWith s os p.calls p.out) (sym (law.acts state ds rest.deeds))
       (stops_longer s (acting.acts state ds) (acting.acts (acting.after state ds) rest.deeds) p.calls p.out stops))
 
-  pub whole_at : (p : Passed) (ds : List D) (stop : Stop) → woven_of w p ≡ with_deeds ds (stopped stop nothing) → IsDone (acting.acts state ds) p.calls p.out → AreGood p.calls → IsWholeRelay w (acting.acts state) p stop
+  whole_at : (p : Passed) (ds : List D) (stop : Stop) → woven_of w p ≡ with_deeds ds (stopped stop nothing) → IsDone (acting.acts state ds) p.calls p.out → AreGood p.calls → IsWholeRelay w (acting.acts state) p stop
   whole_at p ds stop is done good = record {
     stops = ap (λ (c : Woven D). c.stop) is;
     left = ap (λ (c : Woven D). c.left) is;

@@ -139,29 +139,29 @@ module _ {L S D : Type 0} (w : Weaves L D) (acting : Acting S D) (law : GoInOrde
     whole_turn r x later rs xs draws =
         ap₂ (λ (l : List ℕ) (m : List Received). waited w until later top l m draws) (append_assoc readings (r ∷ []) rs) (append_assoc receipts (x ∷ []) xs) ∙ goes later (r ∷ rs) (x ∷ xs) draws
 
-    pub goes_turn : (r : ℕ) (x : Received) → nat_le until (moment_of r) ≡ false
+    goes_turn : (r : ℕ) (x : Received) → nat_le until (moment_of r) ≡ false
         → GoesOn w until top (readings ++ r ∷ []) (receipts ++ x ∷ []) (es ++ (ticks_of w top' r ++ arrivals_of w x)) (max top' (moment_of r))
     goes_turn r x early = λ later rs xs draws.
         whole_turn r x later rs xs draws ∙ ap (λ c. with_deeds es (with_deeds (ticks_of w top' r ++ arrivals_of w x) c)) (cond-false _ _ _ early)
         ∙ with_deeds_again es (ticks_of w top' r ++ arrivals_of w x) (waited w until later (max top' (moment_of r)) rs xs draws)
 
-    pub over_turn : (r : ℕ) (x : Received) → nat_le until (moment_of r) ≡ true → (later : Later D) (rs : List ℕ) (xs : List Received) (draws : List ℕ)
+    over_turn : (r : ℕ) (x : Received) → nat_le until (moment_of r) ≡ true → (later : Later D) (rs : List ℕ) (xs : List Received) (draws : List ℕ)
         → waited w until later top ((readings ++ r ∷ []) ++ rs) ((receipts ++ x ∷ []) ++ xs) draws
         ≡ with_deeds (es ++ (ticks_of w top' r ++ arrivals_of w x)) (later (max top' (moment_of r)) (record { readings = rs; receipts = xs; draws = draws }))
     over_turn r x over later rs xs draws =
         whole_turn r x later rs xs draws ∙ ap (λ c. with_deeds es (with_deeds (ticks_of w top' r ++ arrivals_of w x) c)) (cond-true _ _ _ over)
         ∙ with_deeds_again es (ticks_of w top' r ++ arrivals_of w x) (later (max top' (moment_of r)) (record { readings = rs; receipts = xs; draws = draws }))
 
-    pub at_reading : (later : Later D) (draws : List ℕ) → waited w until later top readings receipts draws ≡ with_deeds es (stopped ForReading (record { readings = []; receipts = []; draws = draws }))
+    at_reading : (later : Later D) (draws : List ℕ) → waited w until later top readings receipts draws ≡ with_deeds es (stopped ForReading (record { readings = []; receipts = []; draws = draws }))
     at_reading later draws = ap₂ (λ (l : List ℕ) (m : List Received). waited w until later top l m draws) (sym (append-nil readings)) (sym (append-nil receipts)) ∙ goes later [] [] draws
 
-    pub receive_next : (r : ℕ) (later : Later D) (draws : List ℕ)
+    receive_next : (r : ℕ) (later : Later D) (draws : List ℕ)
         → waited w until later top (readings ++ r ∷ []) receipts draws ≡ with_deeds (es ++ ticks_of w top' r) (stopped ForReceive (record { readings = []; receipts = []; draws = draws }))
     receive_next r later draws =
         ap (λ (m : List Received). waited w until later top (readings ++ r ∷ []) m draws) (sym (append-nil receipts)) ∙ goes later (r ∷ []) [] draws
         ∙ with_deeds_again es (ticks_of w top' r) (stopped ForReceive (record { readings = []; receipts = []; draws = draws }))
 
-    pub in_turn : (r : ℕ) (xs : List Received) → length xs ≤ 1 → (later : Later D) (draws : List ℕ)
+    in_turn : (r : ℕ) (xs : List Received) → length xs ≤ 1 → (later : Later D) (draws : List ℕ)
         → (rest : Woven D) × (waited w until later top (readings ++ r ∷ []) (receipts ++ xs) draws ≡ with_deeds (es ++ turned w top' r xs) rest)
     in_turn r [] one later draws = (
       stopped ForReceive (record { readings = []; receipts = []; draws = draws }),

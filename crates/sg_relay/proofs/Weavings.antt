@@ -1,5 +1,5 @@
 -- How a relay's weaving goes on, line by line.
-use Rattle.std.proofs.Common.{◌≡◌, ◌+◌, ℕ, List, [], ◌∷◌, ◌++◌, length, Ok, sym, ap, ◌∙◌, append_assoc}
+use Rattle.std.proofs.Common.{◌≡◌, ◌+◌, ℕ, List, ◌++◌, length, Ok, sym, ap, ◌∙◌, append_assoc}
 use Rattle.sg_base.specs.declared.faults.ScriptFault.{ScriptFault}
 use Rattle.sg_lines.proofs.Splits.{lines_of_whole}
 use Rattle.sg_lines.specs.ScriptLines.{IsWhole, lines_of}

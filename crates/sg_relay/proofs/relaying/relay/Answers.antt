@@ -1,4 +1,4 @@
-use Rattle.std.proofs.Common.{List, map, refl, ap, sym, ◌∙◌, subst}
+use Rattle.std.proofs.Common.{map, refl, ap, sym, ◌∙◌, subst}
 use Rattle.sg_front.proofs.Runs.{told_in}
 use Rattle.sg_front.specs.States.{FrontStandsFor, start, told_from}
 use Rattle.sg_relay.specs.Asked.{act_of}

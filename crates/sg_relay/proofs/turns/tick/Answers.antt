@@ -1,4 +1,4 @@
-use Rattle.std.proofs.Common.{List, [], subst, sym, refl, arith}
+use Rattle.std.proofs.Common.{[], subst, sym, arith}
 use Rattle.std.specs.Prelude.{Ok}
 use Rattle.std.proofs.lemmas.Bool.{cond-false, cond-true, le-ltb, lt-ltb}
 use Rattle.sg_edge.proofs.Links.{called_none}

@@ -1,10 +1,10 @@
-use Rattle.std.proofs.Common.{rules, ◌-◌, List, [], ◌++◌, refl, sym, ◌∙◌, subst, arith}
+use Rattle.std.proofs.Common.{rules, ◌-◌, [], ◌++◌, refl, sym, ◌∙◌, subst, arith}
 use Rattle.sg_edge.proofs.Links.{added_more, added_none, called_more, called_none}
 use Rattle.sg_edge.proofs.Passed.{wrote_more, wrote_none}
-use Rattle.sg_relay.specs.Asked.{Act, IsDone, receipts_in}
+use Rattle.sg_relay.specs.Asked.{receipts_in}
 use Rattle.sg_relay.specs.Weaving.{weaves_of}
 use Rattle.sg_relay.proofs.Deeds.{done_none}
-use Rattle.sg_relay.proofs.Waits.{cut_wait, goes_none, over_wait, reading_next, wait_more, wait_order, wait_order_none}
+use Rattle.sg_relay.proofs.Waits.{cut_wait, done_nothing, goes_none, over_wait, reading_next, wait_more, wait_order, wait_order_none}
 use Rattle.sg_relay.proofs.turns.wait.Goals as goal
 
 pub turns-init : goal.turns-init
@@ -21,7 +21,7 @@ turns-init g c = (
         called_none _,
         wrote_none _,
         goes_none w c.args.until c.args.top.now,
-        subst (λ (os : List Act). IsDone os [] []) (sym (law.none_done state)) done_none,
+        done_nothing acting law state [] [] done_none,
         tt,
         subst (g.E.Exchange.stands c.args.exchange.now) (sym (law.none_after state)) stands,
         refl,
