@@ -8,7 +8,7 @@ use Rattle.sg_base.specs.declared.addresses.Address.{Address}
 use Rattle.sg_base.specs.declared.faults.Failed.{Failed}
 use Rattle.sg_trace.specs.Output.{IsPrefixOf, IsWritten}
 use Rattle.sg_trace.specs.declared.status.Status.{Status}
-use Rattle.sg_trace.specs.declared.status.Status.TheVariants.{Done, Usage, Script, Read, Write, Link, NoMemory, Clock, Noise, TurnsSpent, Capture}
+use Rattle.sg_trace.specs.declared.status.Status.TheVariants.{Write, Link, NoMemory}
 use Rattle.sg_edge.specs.Links.{LinkCall, Received}
 use Rattle.sg_edge.specs.Links as links
 use Rattle.sg_edge.specs.Told.{Tally, Wrote}

@@ -1,5 +1,5 @@
 -- What the lines of a relay give whose calls aren't joined, and that their events go in order.
-use Rattle.std.proofs.Common.{◌≡◌, ◌⊎◌, ℕ, List, [], ◌∷◌, ◌++◌, map, Option, Some, None, Result, Ok, Err, refl, sym, ap, ◌∙◌, subst, inl, inr}
+use Rattle.std.proofs.Common.{◌≡◌, ◌⊎◌, ℕ, List, [], ◌++◌, map, Option, Some, Result, Ok, Err, refl, sym, ap, ◌∙◌, inl, inr}
 use Rattle.std.specs.Prelude.{IfErr}
 use Rattle.std.proofs.lemmas.List.{map-append}
 use Rattle.sg_base.specs.declared.addresses.Address.{Address}
@@ -14,7 +14,7 @@ use Rattle.sg_lines.specs.declared.lines.Signal.{Signal}
 use Rattle.sg_trace.specs.Course.{Given}
 use Rattle.sg_trace.specs.Supplying.{IsSupplied}
 use Rattle.sg_trace.specs.declared.status.Status.{Status}
-use Rattle.sg_trace.specs.declared.status.Status.TheVariants.{Done, Usage, Script, Read, Write, Link, NoMemory, Clock, Noise, TurnsSpent, Capture}
+use Rattle.sg_trace.specs.declared.status.Status.TheVariants.{Noise}
 use Rattle.sg_relay.specs.Acting.{Acting, GoInOrder}
 use Rattle.sg_relay.specs.Asked.{act_of}
 use Rattle.sg_relay.specs.Causes.{IsOfOutcomes}

@@ -3,7 +3,7 @@ use Rattle.std.proofs.Common.{◌≡◌, ◌⊎◌, inl, inr, ℕ, Bool, true, f
 use Rattle.std.specs.List.{flat_map}
 use Rattle.sg_gateway.specs.World.{World}
 use Rattle.sg_relay.specs.Asked.{Act, Ask, Bind, Unbind, Send, asks_of}
-use Rattle.sg_relay.specs.Held.{AreOfCalls, EachFits, Fits, PortsAreOfCalls, held_after}
+use Rattle.sg_relay.specs.Held.{EachFits, Fits, PortsAreOfCalls, held_after}
 
 -- the second are the first, but for some sends
 abbrev pub LeavesOutSends : List Ask → List Ask → Type 0

@@ -10,7 +10,7 @@ use Rattle.sg_gateway.specs.Datagrams.{Drops, Given, Puts, arrived_at, arrived_i
 use Rattle.sg_gateway.specs.Order.{IsOrderly}
 use Rattle.sg_gateway.specs.Ports.{call_at, has_port}
 use Rattle.sg_gateway.specs.Runs.{world_after}
-use Rattle.sg_gateway.specs.Signals.{Signal, Tick, Psk, Manual, Offered, Answered, Reject, Bye, answer_to}
+use Rattle.sg_gateway.specs.Signals.{Signal, Answered, answer_to}
 use Rattle.sg_gateway.specs.Step.{Event, Signalled, Datagram, step}
 use Rattle.sg_gateway.specs.World.{Call, World, empty}
 use Rattle.sg_mux.specs.Legs.{arrived_port, is_muxed_at, is_muxed_rtcp, leaves}
