@@ -77,6 +77,7 @@ relay_options mux false = Some (mux_option mux)
 relay_options false true = Some (codes "--bridge" ∷ [])
 relay_options true true = None
 
+-- the command that they make of a number of turns
 abbrev pub relay_for : Bool → Bool → ℕ → Command
 relay_for mux false n = Relay n mux
 relay_for mux true n = RelayJoined n
