@@ -201,10 +201,13 @@ def a_process_ends(program):
         while not told:
             assert time.monotonic() < end, "nobody is told"
             time.sleep(0.05)
-        time.sleep(0.5)
-        assert told == [["dlg.terminate_dlg", "one", "a", "b"]], told
         assert server.asks("list")[b"calls"] == []
-    return "the server is told once"
+        while server.offers("two", "a", one.text(), BOTH)[b"result"] != b"ok":
+            assert time.monotonic() < end, "no next gateway"
+            time.sleep(0.2)
+        server.asks("delete", call_id="two")
+        assert told == [["dlg.terminate_dlg", "one", "a", "b"]], told
+    return "the server is told once, and the next process takes the next one"
 
 
 CHECKS = [a_call, what_is_refused, there_is_room, a_process_ends]
