@@ -12,14 +12,14 @@ import itertools
 import threading
 import time
 
-from descriptions import carried, looked_at, parts
+from descriptions import carried, parts
 from driver import Refused
 from gateway import Gone
 from ng.legs import FAR, Full, Pair, Single
 from ng.request import Bad, PROFILES, text_of
 from ng.texts import (
-    NOWHERE, addressed, addresses, has_keys, holds, is_quiet, profile, profiled, profiles, secured, shown, unmuxed,
-    without_suites,
+    NOWHERE, addressed, addresses, answering, has_keys, holds, is_quiet, profile, profiled, profiles, secured, seen, shown,
+    unmuxed, without_suites,
 )
 
 KINDS = ("RTP", "RTCP")
@@ -71,7 +71,7 @@ class Book:
     def __init__(self, driver, addresses, interfaces, log, muxes=False, hold=HOLD):
         self.driver, self.interfaces, self.log, self.hold, self.muxes = driver, interfaces, log, hold, muxes
         self.addresses = {**addresses, "first": addresses["secure"], "second": addresses["secure"]}
-        self.looked_at = functools.partial(looked_at, muxes=muxes)
+        self.seen = functools.partial(seen, muxes=muxes)
         self.tell, self.arrived, self.keep = lambda call, why: None, lambda ports: {}, lambda calls: None
         self.settled = self.left = lambda call: None
         self.lock = threading.RLock()
@@ -91,7 +91,7 @@ class Book:
         side = self.side_of(request, call)
         text = taken(request, call, side)
         known = call.open
-        if known and known.tag == request.from_tag and self.looked_at(text) == self.looked_at(known.text):
+        if known and known.tag == request.from_tag and self.seen(text) == self.seen(known.text):
             call.open = known._replace(text=text, given=carried(text, known.given), nowhere=holds(request.sdp),
                                        quiet=is_quiet(request.sdp))
         else:
@@ -156,7 +156,7 @@ class Book:
 
     def opened(self, request, call, side, text):
         """Makes the offer, through the gateway or past it."""
-        passes = call.live and self.looked_at(text) == self.looked_at(call.said[side])
+        passes = call.live and self.seen(text) == self.seen(call.said[side])
         given = carried(text, call.given[FAR[side]]) if passes else self.signalled(call, side, text)
         if side != "secure" and not passes:
             try:
@@ -220,8 +220,8 @@ class Book:
         text = taken(request, call, side)
         if not offer.passes:
             given = call.legs.answers(call, side, text)
-        elif looked_at(text) == looked_at(call.said[side]):
-            given = carried(text, call.given[offer.side])
+        elif seen(text) == seen(call.said[side]):
+            given = carried(text, answering(call.given[offer.side], offer.text))
         else:
             raise Bad("the answer to an offer that went past the gateway changes ports, addresses or keys")
         call.said.update({offer.side: offer.text, side: text})
@@ -251,7 +251,7 @@ class Book:
         """The answer of a provisional response comes again with the final one, with nothing changed that counts."""
         side = FAR[call.tags[request.from_tag]]
         text = taken(request, call, side)
-        if not call.live or looked_at(text) != looked_at(call.said[side]):
+        if not call.live or seen(text) != seen(call.said[side]):
             raise Refused("State")
         call.tags[request.to_tag] = side
         self.settled(call)

@@ -8,10 +8,10 @@ one's where its media begin or end; else that telephone is told of it past the g
 
 import contextlib
 
-from descriptions import KEYS, carried, looked_at, parts
+from descriptions import KEYS, carried, parts
 from driver import Gone, Refused, Unjoined
 from ng.request import Bad, PROFILES
-from ng.texts import printed
+from ng.texts import printed, seen
 
 FAR = {"secure": "plain", "plain": "secure", "first": "second", "second": "first"}
 # The plain side of a joined call: an address of the loopback that no program is asked to have, and the port `discard`.
@@ -76,10 +76,10 @@ class Pair:
     def offers(self, call, side, text):
         """The text for the other telephone."""
         near, far, told = self.by_side[side], self.by_side[FAR[side]], inside(text)
-        if not near.live or looked_at(text) != looked_at(call.said[side]):
+        if not near.live or seen(text) != seen(call.said[side]):
             self.driver.offer_secure(near.number, text)
             near.open, near.given = True, None
-        if far.live and looked_at(told) == looked_at(far.inside):
+        if far.live and seen(told) == seen(far.inside):
             return carried(text, call.given[FAR[side]])
         try:
             given = self.driver.offer_plain(far.number, told)
@@ -93,7 +93,7 @@ class Pair:
         """The text for the telephone that offered. Its own call is answered first: until it has that text it can't send, so
         nothing goes out in clear before the two are joined, which they are with the other one's answer."""
         near, far, told = self.by_side[FAR[side]], self.by_side[side], inside(text)
-        if not far.open and looked_at(text) != looked_at(call.said[side]):
+        if not far.open and seen(text) != seen(call.said[side]):
             raise Bad("the answer to an offer that went past this telephone's call changes its port, address or keys")
         if near.open and near.given is None:
             near.given, near.live, near.inside = self.driver.answer(near.number, told), True, told
