@@ -161,7 +161,8 @@ def main():
     program, *names = words_or_usage(__doc__)
     has_own_loopback()
     program, names = str(Path(program).resolve()), [name.removesuffix(".script") for name in names]
-    others = [] if names else [("a relay", of_a_relay()), ("a relay with --mux", of_a_relay("--mux")), ("a demonstration", (["demo", "1", "0"], b"", None))]
+    others = [] if names else [(f"a relay{' with ' * bool(more)}{more}", of_a_relay(*more.split())) for more in ("", "--mux", "--bridge")]
+    others += [] if names else [("a demonstration", (["demo", "1", "0"], b"", None))]
     with tempfile.TemporaryDirectory() as folder:
         room = Path(folder)
         shim = str(room / "refuse.so")
