@@ -80,7 +80,8 @@ class Driver:
     `drops` counts dropped datagrams by `(port, cause)`, `lost` packets that were opened in one call and couldn't be sealed
     in the one that it is joined with, by that one's plain port and the cause, `unsent` packets that weren't sent by port,
     `overflows` datagrams that the system threw away in front of a port; `slots` has the slot of each call that is there, and
-    `joined` the other call of each that is in a pair. Every five seconds `late` has by how many seconds turns ran late meanwhile, and `waiting` the octets that wait in sockets, by port.
+    `joined` the other call of each that is in a pair. Every five seconds `late` has by how many seconds turns ran late
+    meanwhile, and `waiting` the octets that wait in sockets, by port.
 
     `on_end(call, why)` is told of a call that ended by itself: `idle` where nothing of it was put out for a minute,
     `gone` where the gateway's process has ended. `on_part(call, ended)` is told of a call whose partner has ended, in

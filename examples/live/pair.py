@@ -31,7 +31,8 @@ class Telephone:
         self.sealing = self.opening = None
 
     def text(self, *lines, session=()):
-        return text_of("user", f"m=audio {self.address[1]} RTP/SAVP 0", f"a=ssrc:{self.ssrc} cname:x", *lines, session=session).encode()
+        media = f"m=audio {self.address[1]} RTP/SAVP 0", f"a=ssrc:{self.ssrc} cname:x"
+        return text_of("user", *media, *lines, session=session).encode()
 
     def agrees(self, own, gateways):
         self.sealing, self.opening = Sealing(own), Opening(gateways)

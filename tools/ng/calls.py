@@ -63,10 +63,10 @@ class Call:
 
 class Book:
     """`addresses` has by side the address that its telephones reach, `interfaces` more of them by name. `log` is given
-    a line for each call; `muxes` says that the gateway takes one port for RTP and RTCP, and so joins no calls. To be set: `tell`, which is
-    given each call that has ended by itself, and why; `arrived`, which answers packets and octets by port; `keep`,
-    which is given `all` where a call is live, or there no more; `settled`, which is given each call behind each answer
-    that was taken, and `left`, each call that is there no more."""
+    a line for each call; `muxes` says that the gateway takes one port for RTP and RTCP, and so joins no calls. To be
+    set: `tell`, which is given each call that has ended by itself, and why; `arrived`, which answers packets and octets
+    by port; `keep`, which is given `all` where a call is live, or there no more; `settled`, which is given each call
+    behind each answer that was taken, and `left`, each call that is there no more."""
 
     def __init__(self, driver, addresses, interfaces, log, muxes=False, hold=HOLD):
         self.driver, self.interfaces, self.log, self.hold, self.muxes = driver, interfaces, log, hold, muxes
