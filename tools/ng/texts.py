@@ -110,10 +110,16 @@ def answering(given, offer):
     for part, offered in zip(parts(given), parts(offer)):
         words = [line[len(CRYPTO):].split(b" ") for line in reversed(offered) if line.startswith(CRYPTO)]
         tags = {suite: tag for tag, suite, *_ in (one for one in words if len(one) > 1)}
-        keyed = [line for line in part if line.startswith(CRYPTO) and line.split(b" ")[1] in tags][:1]
-        own = [b" ".join([CRYPTO + tags[line.split(b" ")[1]], *line.split(b" ")[1:]]) for line in keyed]
-        told.append([line for line in part if not line.startswith(CRYPTO)] + own)
+        chosen = next((line for line in part if line.startswith(CRYPTO) and line.split(b" ")[1] in tags), None)
+        kept = [line for line in part if line is chosen or not line.startswith(CRYPTO)]
+        told.append([tagged(line, tags) if line is chosen else line for line in kept])
     return printed(told)
+
+
+def tagged(line, tags):
+    """A crypto line under the tag of its suite."""
+    words = line.split(b" ")
+    return b" ".join([CRYPTO + tags[words[1]], *words[1:]])
 
 
 def unmuxed(text):
