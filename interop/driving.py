@@ -30,12 +30,16 @@ from usage import words_or_usage
 HERE = Path(__file__).resolve().parent
 sys.path.insert(0, str(HERE.parent / "tools"))
 
-from driver import Bounds, Driver, Fifos, Gone, Program, Refused, Taken  # noqa: E402
+from driver import Bounds, Driver, Fifos, Gone, Program, Refused, Taken, Unjoined  # noqa: E402
 from gateway import Due, Gateway, Held, PROBED, WITHHELD  # noqa: E402
 
 HOST = "127.0.0.1"
 SECURE, PLAIN = (HOST, 40_000), (HOST, 41_000)
 SECURE_RTP, PLAIN_RTP = 20_000, 20_002
+# The second telephone of two that encrypt, and the plain address of their calls, where nobody is.
+SECOND, NOBODY = (HOST, 40_010), ("127.0.0.2", 9)
+# The longest opened packet that can be sealed has an octet fewer (docs/formats.md).
+TOO_LONG = 4_097
 PACKETS, PACE, WINDOW = 300, 0.01, 100
 DELAYS = [0, 50, 100, 500]
 # How long anything may take on a busy machine, and for how long nothing more comes where all has come.
@@ -100,6 +104,34 @@ class Call:
         require(arrived[1] == there, f"{what}: {len(arrived[1])} of {count} packets came to the plain side")
         wanted = [self.to_peer.sealed(packet) for packet in back]
         require(arrived[0] == wanted, f"{what}: {len(arrived[0])} of {count} packets came to the secure side")
+
+    def close(self):
+        for end in self.ends:
+            end.close()
+
+
+class Pair:
+    """Two telephones that encrypt, each with a call of its own with keys by hand, joined or not."""
+
+    def __init__(self, driver):
+        self.driver, self.ends = driver, [bound(SECURE), bound(SECOND)]
+        self.keys = [(Key(), Key()), (Key(), Key())]
+        for number, (address, (own, given)) in enumerate(zip((SECURE, SECOND), self.keys), 1):
+            driver.manual(number, address, NOBODY, own.field(), given.field())
+
+    def talk(self, count, what):
+        """Packets each way, each opened by the one call and sealed by the other."""
+        for place in (0, 1):
+            sent = packets(count)
+            for packet in sent:
+                self.sends(place, packet)
+                time.sleep(PACE / 10)
+            wanted = [self.keys[1 - place][1].sealed(packet) for packet in sent]
+            arrived = taken(self.ends[1 - place], count)
+            require(arrived == wanted, f"{what}: {len(arrived)} of {count} packets crossed from telephone {place + 1}")
+
+    def sends(self, place, packet):
+        self.ends[place].sendto(self.keys[place][0].sealed(packet), (HOST, self.driver.ports(place + 1)[0]))
 
     def close(self):
         for end in self.ends:
@@ -421,7 +453,7 @@ class Spoken:
     """What stands for a process: from the first probe on, or one at each probe, it says these octets, each behind so many
     seconds, and then ends."""
 
-    pid, files, turns = None, None, 1_000
+    pid, files, turns, bridges = None, None, 1_000, True
 
     def __init__(self, *parts, each=False, read=Held):
         (self.told, lines), (outcomes, self.says) = os.pipe(), os.pipe()
@@ -641,12 +673,85 @@ def a_unit_keeps_it(program):
     return "two in turn, 50 of 50 packets each way"
 
 
+def unjoined_by(signal, *calls):
+    """The call because of which a line isn't obeyed, and the cause."""
+    try:
+        signal(*calls)
+    except Unjoined as fault:
+        return fault.call, str(fault)
+    return None
+
+
+def calls_are_joined(program):
+    """two calls that are joined"""
+    with driving(Program(program, bridges=True)) as (driver, _, _):
+        pair = Pair(driver)
+        driver.join(1, 2)
+        require(driver.joined == {1: 2, 2: 1}, f"the pairs are {driver.joined}")
+        pair.talk(50, "joined")
+        pair.ends[0].sendto(packets(1)[0], (HOST, driver.ports(1)[2]))
+        pair.sends(0, packets(1)[0].ljust(TOO_LONG, b"x"))
+        lost = driver.ports(2)[2], "TooLong"
+        wait_until(lambda: driver.lost[lost] and driver.drops[PLAIN_RTP, "PortUnused"], "what is lost, and dropped")
+        require(driver.lost == {lost: 1} and sum(driver.drops.values()) == 1, f"{driver.lost}, {driver.drops}")
+        driver.manual(3, SECURE, PLAIN, Key().field(), Key().field())
+        for wanted, *calls in (((1, "Joined 2"), 1, 3), ((2, "Joined 1"), 3, 2), ((9, "CallUnknown"), 3, 9), ((3, "Same"), 3, 3)):
+            require(unjoined_by(driver.join, *calls) == wanted, f"{calls} aren't joined for another cause than {wanted}")
+        driver.part(2)
+        require(not driver.joined, "they are parted, and a pair is there")
+        require(unjoined_by(driver.part, 2) == (2, "NotJoined"), "parted twice")
+        driver.join(2, 1)
+        pair.talk(50, "joined again")
+        pair.close()
+        require(driver.close() == 0, "the status")
+    with driving(program) as (driver, _, _):
+        pair = Pair(driver)
+        refused = [refusal_of(driver.join, 1, 2), refusal_of(driver.part, 1)]
+        pair.close()
+        require(all(cause.startswith("Field") for cause in refused), f"without the word --bridge it is {refused}")
+        require(driver.close() == 0, "a relay that joins no calls is told to")
+    with contextlib.suppress(ValueError):
+        Program(program, muxes=True, bridges=True)
+        raise Wrong("a relay with shared ports and joined calls")
+    return "100 of 100 packets cross each way, each cause and each loss is told"
+
+
+def an_end_parts(program):
+    """a joined call that ends"""
+    parted = []
+    with driving(Program(program, bridges=True), on_part=lambda *of: parted.append(of)) as (driver, _, ended):
+        pair = Pair(driver)
+        driver.join(1, 2)
+        driver.bye(2)
+        require(driver.joined == {} and list(driver.slots) == [1], f"{driver.joined}, {driver.slots}")
+        wait_until(lambda: parted == [(1, 2)], "that it is told")
+        driver.bye(1)
+        pair.close()
+        pair, told = Pair(driver), []
+        tells = driver.gateway.tell_all
+        driver.gateway.tell_all = lambda lines: told.append([" ".join(line) for line in lines]) or tells(lines)
+        driver.join(1, 2)
+        driver.bye(1, 2)
+        pair.close()
+        require(told == [["join 1 2"], ["bye 1", "bye 2"]], f"a tick may stand between two ends: {told}")
+        offer = text_of(b"offer", NOBODY[1], b"RTP/AVP").replace(HOST.encode(), NOBODY[0].encode())
+        driver.offer_plain(3, offer)
+        driver.manual(4, SECURE, NOBODY, Key().field(), Key().field())
+        driver.answer(3, secure_text(b"answer"), joins=4)
+        require(driver.joined == {3: 4, 4: 3}, f"joined with its answer: {driver.joined}")
+        require(told[-1][1:] == ["join 3 4"] and told[-1][0].startswith("answer 3 - "), "a tick may stand before it is joined")
+        os.kill(driver.gateway.pid, signal.SIGKILL)
+        wait_until(lambda: sorted(ended) == [(3, "gone"), (4, "gone")], "calls that have ended with the process")
+        require(not driver.joined and len(parted) == 2, f"parted {parted}")
+    return "is told with its partner, two end together, and one is joined with its answer"
+
+
 CHECKS = [
     counts_from_the_start, each_has_its_own, a_late_outcome_ends_the_process, calls_are_told_and_made_anew, it_drains,
     close_waits_for_drops, fields_are_fields, ports_and_answers_are_looked_at, sockets_overflow, telephones_have_their_ways,
     keys_are_told_again, a_rejected_offer_spends_nothing, the_log_has_no_keys, outcomes_come_in_parts, whose_refusal,
     many_signals_wait, an_answer_may_be_late, a_stall_moves_nothing, signals_wait_little, a_long_tick_comes_before_the_signal,
-    what_waits_is_told, signals_of_the_system, a_unit_keeps_it,
+    what_waits_is_told, signals_of_the_system, a_unit_keeps_it, calls_are_joined, an_end_parts,
 ]
 
 

@@ -263,8 +263,8 @@ def book_of(program, hold):
     """A book over a gateway, whose calls that are held need a sign of life twice a second, and the lines that it told."""
     driver, told, sign = Driver(program), [], (ng_calls.SIGN, ng_server.BETWEEN_SIGNS)
     ng_calls.SIGN, ng_server.BETWEEN_SIGNS = 0.5, 0.1
-    tell = driver.gateway.tell
-    driver.gateway.tell = lambda *line: (told.append(line), tell(*line))
+    tells = driver.gateway.tell_all
+    driver.gateway.tell_all = lambda lines: (told.extend(lines), tells(lines))
     book = ng_calls.Book(driver, {"secure": b"127.0.0.1", "plain": b"127.0.0.1"}, {}, lambda line: None, hold=hold)
     server = ng_server.Server(book, (HOST, 0), lambda line: None)
     try:

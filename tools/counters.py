@@ -98,16 +98,20 @@ class Call:
 
     def __init__(self, number, slot, media, now):
         self.number, self.slot, self.media, self.made, self.live = number, slot, media, now, None
-        self.drops, self.unsent = collections.Counter(), collections.Counter()
+        self.drops, self.unsent, self.lost = (collections.Counter() for _ in range(3))
+        # The number of the call that it is joined with.
+        self.joined = None
 
 
 class Calls:
-    """What lines of outcomes tell: calls by slot, drops by leg and cause, refusals and ends."""
+    """What lines of outcomes tell: calls by slot, drops by leg and cause, refusals and ends, pairs of calls, and what was
+    lost between two that are joined."""
 
     def __init__(self):
         self.by_slot, self.refused, self.ended = {}, collections.Counter(), collections.Counter()
         # Drops of all calls, also those that have ended, by leg and cause; ports without a call as `None`.
-        self.drops, self.unsent, self.made = collections.Counter(), collections.Counter(), 0
+        self.drops, self.unsent, self.lost = (collections.Counter() for _ in range(3))
+        self.made, self.unjoined = 0, collections.Counter()
         # Slots in which a call has ended since somebody looked.
         self.over = set()
 
@@ -148,6 +152,26 @@ class Calls:
         self.by_slot.pop(int(slot), None)
         self.over.add(int(slot))
         self.ended[why] += 1
+
+    def numbered(self, call):
+        """The call of a number; None where it isn't there."""
+        return next((one for one in self.by_slot.values() if one.number == call), None)
+
+    def take_joined(self, now, first, second):
+        for call, other in ((first, second), (second, first)):
+            one = self.numbered(call)
+            if one:
+                one.joined = other
+
+    def take_parted(self, now, first, second):
+        for call in filter(None, map(self.numbered, (first, second))):
+            call.joined = None
+
+    def take_unjoined(self, now, call, cause, *numbers):
+        self.unjoined[cause] += 1
+
+    def take_lost(self, now, port, cause, *numbers):
+        self.tell(self.lost, "lost", int(port), cause)
 
     def take_refused(self, now, call, cause, *numbers):
         self.refused[" ".join([cause, *(word for word in numbers if not word.lstrip("-").isdigit())])] += 1

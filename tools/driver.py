@@ -23,10 +23,10 @@ import time
 
 import fields
 from counters import port_of
-from fields import Refused, keys_of, octets_of
+from fields import Refused, Unjoined, keys_of, octets_of
 from gateway import FILES_MOST, Fifos, Gateway, Gone, Program, Taken
 
-__all__ = ["Bounds", "Driver", "Fifos", "Gone", "Program", "Refused", "Taken"]
+__all__ = ["Bounds", "Driver", "Fifos", "Gone", "Program", "Refused", "Taken", "Unjoined"]
 
 # So much may be spent before new calls are refused: an eighth is left for the calls that are there.
 Bounds = collections.namedtuple("Bounds", "keys octets messages turns", defaults=[57_344, 7 * 2**27, 896, None])
@@ -44,25 +44,27 @@ QUIET, QUIET_END = "quiet", ["refused", "0", "CallUnknown"]
 
 
 class Signal:
-    """A line that was told, and the outcome that it waits for."""
+    """A line that was told, of a call or of two, and the outcome that it waits for."""
 
-    def __init__(self, call, last, keys):
-        self.call, self.last, self.keys, self.due = str(call), last, keys, None
-        self.text, self.refusal, self.result = None, None, concurrent.futures.Future()
+    def __init__(self, line, calls, last, keys=0):
+        self.line, self.calls, self.last, self.keys = line, tuple(map(str, calls)), last, keys
+        self.due, self.text, self.refusal, self.result = None, None, None, concurrent.futures.Future()
 
     def take(self, outcome):
         """Whether this outcome is its last one. Raises ValueError where it isn't one of its own."""
         word, number = outcome[:2]
         if self.last == QUIET and outcome == QUIET_END:
             return True
-        if number != self.call:
-            raise ValueError(f"{word} of call {number}, where one of call {self.call} was due")
+        if number not in self.calls and not (word == "parted" and outcome[2] in self.calls):
+            raise ValueError(f"{word} of call {number}, where one of call {' or '.join(self.calls)} was due")
         if word == "refused":
             self.refusal = Refused(" ".join(outcome[2:]))
+        elif word == "unjoined":
+            self.refusal = Unjoined(int(number), " ".join(outcome[2:]))
         elif word == "sdp":
             self.text = bytes.fromhex(outcome[3])
             self.keys += keys_of(self.text) if outcome[2] == "secure" else 0
-        return self.last != QUIET and word in ("refused", self.last)
+        return self.last != QUIET and word in ("refused", "unjoined", self.last)
 
     def finish(self):
         if self.refusal:
@@ -75,24 +77,28 @@ class Driver:
     """Keeps the calls of one gateway. `program` is its path, or a `Program` or `Fifos` of gateway.py; `options` are those
     of `Gateway`.
 
-    `drops` counts dropped datagrams by `(port, cause)`, `unsent` packets that weren't sent by port, `overflows`
-    datagrams that the system threw away in front of a port; `slots` has the slot of each call that is there. Every five
-    seconds `late` has by how many seconds turns ran late meanwhile, and `waiting` the octets that wait in sockets, by port.
+    `drops` counts dropped datagrams by `(port, cause)`, `lost` packets that were opened in one call and couldn't be sealed
+    in the one that it is joined with, by that one's plain port and the cause, `unsent` packets that weren't sent by port,
+    `overflows` datagrams that the system threw away in front of a port; `slots` has the slot of each call that is there, and
+    `joined` the other call of each that is in a pair. Every five seconds `late` has by how many seconds turns ran late
+    meanwhile, and `waiting` the octets that wait in sockets, by port.
 
     `on_end(call, why)` is told of a call that ended by itself: `idle` where nothing of it was put out for a minute,
-    `gone` where the gateway's process has ended. It runs in a thread of the driver's own, and may tell signals.
+    `gone` where the gateway's process has ended. `on_part(call, ended)` is told of a call whose partner has ended, in
+    whichever way but with the process: what is opened in it goes out on its plain side from then on. Both run in a thread
+    of the driver's own, and may tell signals.
 
     With `restarts` the next process is started where one has ended, and is told the pre-shared keys again. `wait` is how
     many seconds an outcome may be late, behind the one before it; then the process is ended. Where more than `bounds` is
     spent, the driver drains: see `drain`. `warn(text)` is told what an operator should know."""
 
     def __init__(self, program="./srtpgw", on_end=lambda call, why: None, restarts=False, wait=10.0, bounds=Bounds(),
-                 warn=logging.getLogger("srtpgw").warning, **options):
+                 warn=logging.getLogger("srtpgw").warning, on_part=lambda call, ended: None, **options):
         self.opener = program if hasattr(program, "open") else Program(program)
-        self.on_end, self.restarts, self.wait, self.bounds, self.warn = on_end, restarts, wait, bounds, warn
-        self.options, self.shared = options, []
-        self.drops, self.unsent, self.overflows = (collections.Counter() for _ in range(3))
-        self.slots, self.pending, self.notices = {}, collections.deque(), queue.Queue()
+        self.on_end, self.on_part, self.restarts, self.wait = on_end, on_part, restarts, wait
+        self.bounds, self.warn, self.options, self.shared = bounds, warn, options, []
+        self.drops, self.lost, self.unsent, self.overflows = (collections.Counter() for _ in range(4))
+        self.slots, self.joined, self.pending, self.notices = {}, {}, collections.deque(), queue.Queue()
         # When a signal was answered last.
         self.answered = time.monotonic()
         self.late, self.waiting = 0.0, {}
@@ -122,37 +128,57 @@ class Driver:
         keyed = ["mikey", fields.identity(peer)] if peer else ["sdes"]
         return self._offer(call, "offer-plain", keyed, octets_of(text), 0)
 
-    def answer(self, call, text):
+    def answer(self, call, text, joins=None):
         """The answer of the side that didn't offer. The text for the one that did; the call is live. A refused answer
-        leaves the offer open: `answer` again, or `reject`."""
+        leaves the offer open: `answer` again, or `reject`. With `joins` the call is joined with that one before it takes a
+        packet, so none goes out in clear; Unjoined where it is live and isn't joined."""
         text = octets_of(text)
         # Keys are in the secure side's text, whichever of the two it is.
-        signal = self._signal(call, "live", keys_of(text), "answer", fields.call_number(call), "-", fields.digits(text))
-        self._spend("keys", self.open_keys.pop(call, 0) + signal.keys)
-        return signal.text
+        signals = [Signal(("answer", fields.call_number(call), "-", fields.digits(text)), [call], "live", keys_of(text))]
+        if joins is not None:
+            signals.append(self._joining(call, joins))
+        answer = self._tell(signals)[0]
+        self._spend("keys", self.open_keys.pop(call, 0) + answer.keys)
+        for signal in signals[1:]:
+            signal.result.result()
+        return answer.text
 
     def manual(self, call, secure, plain, from_peer, to_peer, rollover=0, window=64):
         """A call with keys by hand, each as `SUITE:HEX`; addresses are pairs of host and port."""
         places = fields.address(secure), fields.address(plain), fields.rollover(rollover), fields.window(window)
         keys = fields.manual_key(from_peer), fields.manual_key(to_peer)
-        self._signal(call, "live", 0, "manual", fields.call_number(call), *places, *keys)
+        self._tell([Signal(("manual", fields.call_number(call), *places, *keys), [call], "live")])
         self._spend("keys", 2)
 
     def psk(self, own, peer, key):
         """A pre-shared key, 16 to 64 octets, between the gateway's name and a peer's. 64 pairs can be held."""
         line = "psk", fields.identity(own), fields.identity(peer), fields.shared_key(key)
-        self._signal("-", QUIET, 0, *line)
+        self._tell([Signal(line, "-", QUIET)])
         self.shared.append(line)
 
     def reject(self, call):
         """The open offer is rejected. A first one ends its call; behind a later one the call goes on."""
-        self._signal(call, QUIET, 0, "reject", fields.call_number(call))
+        self._tell([Signal(("reject", fields.call_number(call)), [call], QUIET)])
         self.open_keys.pop(call, None)
 
-    def bye(self, call):
-        """The call ends. Refused where it has just ended by itself."""
-        self._signal(call, "ended", 0, "bye", fields.call_number(call))
-        self.open_keys.pop(call, None)
+    def bye(self, *calls):
+        """The call ends. Refused where it has just ended by itself. Several end together: none takes a packet behind the
+        end of another one, so nothing goes out in clear of two that were joined."""
+        try:
+            self._tell([Signal(("bye", fields.call_number(call)), [call], "ended") for call in calls], all_of_them=True)
+        finally:
+            for call in calls:
+                self.open_keys.pop(call, None)
+
+    def join(self, first, second):
+        """From now on what is opened in the one call is sealed in the other, and goes out there. Both have had their
+        answers. Unjoined where they can't be: its `call` is the one because of which, its text the cause."""
+        self._tell([self._joining(first, second)])
+
+    def part(self, call):
+        """The pair of this call is parted, and both go on by themselves. Unjoined where it is in none."""
+        self._needs_bridge()
+        self._tell([Signal(("part", fields.call_number(call)), [call], "parted")])
 
     def ports(self, call, medium=0):
         """The gateway's four ports of a call that is there: secure RTP, secure RTCP, plain RTP, plain RTCP."""
@@ -184,24 +210,34 @@ class Driver:
     # ---- telling
 
     def _offer(self, call, word, keyed, text, keys):
-        return self._signal(call, "sdp", keys, word, fields.call_number(call), *keyed, "-", fields.digits(text)).text
+        line = word, fields.call_number(call), *keyed, "-", fields.digits(text)
+        return self._tell([Signal(line, [call], "sdp", keys)])[0].text
 
-    def _signal(self, call, last, keys, *line):
-        """Hands a line on and waits for its last outcome."""
-        signal = Signal(call, last, keys)
+    def _joining(self, first, second):
+        self._needs_bridge()
+        return Signal(("join", fields.call_number(first), fields.call_number(second)), [first, second], "joined")
+
+    def _needs_bridge(self):
+        fields.require(getattr(self.opener, "bridges", False), "the gateway joins calls where it has --bridge, and this one hasn't")
+
+    def _tell(self, signals, all_of_them=False):
+        """Hands lines on together, with no tick between them, and waits for the last outcome of the first, or of all."""
         with self.lock:
             if self.gone:
                 raise self.gone
-            if self.draining and line[0] in NEW and call not in self.slots:
+            new = (signal for signal in signals if signal.line[0] in NEW)
+            if self.draining and any(int(signal.calls[0]) not in self.slots for signal in new):
                 raise Refused("State")
-            # Outcomes come in the order of the lines, so this signal is answered behind those before it.
-            signal.due = self.gateway.due()
-            self.pending.append(signal)
-            self.gateway.tell(*line)
-            if last == QUIET:
-                self.gateway.tell("bye", "0")
-        signal.result.result()
-        return signal
+            # Outcomes come in the order of the lines, so these signals are answered behind those before them.
+            due, lines = self.gateway.due(), []
+            for signal in signals:
+                signal.due = due
+                self.pending.append(signal)
+                lines += [signal.line, ("bye", "0")] if signal.last == QUIET else [signal.line]
+            self.gateway.tell_all(lines)
+        for signal in signals if all_of_them else signals[:1]:
+            signal.result.result()
+        return signals
 
     def _spend(self, what, count):
         self.spent[what] += count
@@ -246,27 +282,45 @@ class Driver:
             word, of, *rest = outcome
             if word == "drop":
                 self.drops[int(of), " ".join(rest)] += 1
+            elif word == "lost":
+                self.lost[int(of), " ".join(rest)] += 1
             elif word == "unsent":
                 self.unsent[int(of)] += 1
             else:
                 with self.lock:
-                    self._keep(word, of, rest)
-                    # The end of a rejected call comes before the outcome that its signal waits for.
-                    if word != "ended" or rest[2] == "bye":
+                    if not self._keep(word, of, rest):
                         self._answer(outcome)
                     self._end_if_drained()
         except (ValueError, IndexError) as fault:
             self.gateway.end(f"an outcome that wasn't due: {' '.join(outcome[:3])}: {fault}")
 
     def _keep(self, word, of, rest):
-        """Keeps the book of calls."""
+        """Keeps the book of calls. Whether this outcome came by itself, and answers no signal."""
         if word == "made":
             self.slots[int(of)] = int(rest[0])
+        elif word == "joined":
+            self.joined.update({int(of): int(rest[0]), int(rest[0]): int(of)})
+        elif word == "parted":
+            return self._parted(int(of), int(rest[0]))
         elif word == "ended":
             self.slots.pop(int(of), None)
+            self.joined.pop(self.joined.pop(int(of), None), None)
             if rest[2] == "idle":
                 self.open_keys.pop(int(of), None)
-                self.notices.put((int(of), "idle"))
+                self.notices.put(("on_end", int(of), "idle"))
+            # The end of a rejected call comes before the outcome that its signal waits for.
+            return rest[2] != "bye"
+        return False
+
+    def _parted(self, *pair):
+        """A pair is parted right behind the end of one of its calls, or by a signal."""
+        for call in pair:
+            self.joined.pop(call, None)
+        for call, other in (pair, pair[::-1]):
+            if other not in self.slots:
+                self.notices.put(("on_part", call, other))
+                return True
+        return False
 
     def _answer(self, outcome):
         if not self.pending:
@@ -275,7 +329,7 @@ class Driver:
         if signal.take(outcome):
             # An offer is open before its signal is over: between the two ticks would be long.
             if signal.last == "sdp" and not signal.refusal:
-                self.open_keys[int(signal.call)] = signal.keys
+                self.open_keys[int(signal.calls[0])] = signal.keys
             self.answered = time.monotonic()
             self.pending.popleft().finish()
 
@@ -291,14 +345,14 @@ class Driver:
         with self.lock:
             self.gone = gone
             pending, self.pending = self.pending, collections.deque()
-            calls, self.slots = list(self.slots), {}
+            calls, self.slots, self.joined = list(self.slots), {}, {}
         for signal in pending:
             signal.result.set_exception(gone)
         if not self.over.is_set():
             if gone.status != 0 or calls:
                 self._warn(f"the gateway has ended, and {len(calls)} calls with it: {gone}")
             for call in calls:
-                self.notices.put((call, "gone"))
+                self.notices.put(("on_end", call, "gone"))
 
     def _restarted(self):
         """Starts the next process, where one is to follow, no more than one each second."""
@@ -329,15 +383,16 @@ class Driver:
     # ---- threads
 
     def _notify(self):
-        """Tells of calls that ended by themselves."""
+        """Tells of calls that ended by themselves, and of those that they were joined with."""
         while True:
             notice = self.notices.get()
             if notice is None:
                 return
+            told, *of = notice
             try:
-                self.on_end(*notice)
+                getattr(self, told)(*of)
             except Exception as fault:
-                self._warn(f"on_end of call {notice[0]} ({notice[1]}): {type(fault).__name__}: {fault}")
+                self._warn(f"{told} of call {of[0]} ({of[1]}): {type(fault).__name__}: {fault}")
 
     def _watch(self):
         """Ends a process that doesn't answer, and looks at what an operator should know."""

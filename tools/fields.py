@@ -21,6 +21,14 @@ class Refused(Exception):
     would end the gateway's run, and so is `State` for a new call where it drains."""
 
 
+class Unjoined(Refused):
+    """A line `join` or `part` isn't obeyed, because of this call. Its text is the cause, as `Unready` or `Joined 3`."""
+
+    def __init__(self, call, cause):
+        super().__init__(cause)
+        self.call = call
+
+
 def require(holds, what):
     if not holds:
         raise Refused(f"Field: {what}")

@@ -87,11 +87,14 @@ def can_bind(port):
 
 class Program:
     """Starts the gateway. `program` is its path, or a list of words to stand before `relay`. Where it `muxes`, RTP and
-    RTCP may share a port towards a side that offers it."""
+    RTCP may share a port towards a side that offers it; where it `bridges`, calls may be joined. It can't do both."""
 
-    def __init__(self, program, turns=TURNS_MOST, muxes=False):
+    def __init__(self, program, turns=TURNS_MOST, muxes=False, bridges=False):
+        if muxes and bridges:
+            raise ValueError("a relay has shared ports (--mux) or joined calls (--bridge), and not both")
         words = program if isinstance(program, (list, tuple)) else [program]
-        self.words, self.turns = [*map(str, words), "relay", "--turns", str(turns)] + ["--mux"] * muxes, turns
+        options = ["--mux"] * muxes + ["--bridge"] * bridges
+        self.words, self.turns, self.bridges = [*map(str, words), "relay", "--turns", str(turns), *options], turns, bridges
 
     def open(self, patience):
         """A new process. Raises Taken where another program has one of its ports."""
@@ -136,10 +139,10 @@ class Started:
 
 class Fifos:
     """A gateway that somebody else keeps (docs/srtpgw.service): it reads its lines from one FIFO and writes outcomes to
-    another. `turns` is what it was started with."""
+    another. `turns` is what it was started with, and `bridges` whether it has `--bridge`."""
 
-    def __init__(self, lines, outcomes, turns=TURNS_MOST):
-        self.paths, self.turns = (lines, outcomes), turns
+    def __init__(self, lines, outcomes, turns=TURNS_MOST, bridges=False):
+        self.paths, self.turns, self.bridges = (lines, outcomes), turns, bridges
 
     def open(self, patience):
         """Its two FIFOs, once it has opened the first. Raises Gone where none does in time."""
@@ -283,11 +286,15 @@ class Gateway:
     def tell(self, *fields):
         """Hands on a signal line. Its outcomes follow in the queue. Raises ValueError, and writes nothing, where a
         field isn't of printing characters: it would be another line, and might end the run."""
-        for field in fields:
+        self.tell_all([fields])
+
+    def tell_all(self, lines):
+        """The same of lines between which no tick is to stand, so that no packet is taken there."""
+        for field in (field for line in lines for field in line):
             if not field or not all("!" <= letter <= "~" for letter in field):
                 raise ValueError(f"no field of a line: {field!r}")
         with self.lock:
-            self._write(" ".join(fields))
+            self._write("\n".join(" ".join(line) for line in lines))
             hurried, self.hurried = self._hurries(), time.monotonic() + LINGERING
         if not hurried:
             self.wakes.set()
@@ -376,7 +383,7 @@ class Gateway:
 
     def _read(self):
         for line in self.ends.outcomes:
-            if not line.startswith((b"drop ", b"unsent ")):
+            if not line.startswith((b"drop ", b"unsent ", b"lost ")):
                 self.heard = time.monotonic()
             if line == PROBED:
                 if not self.probes:

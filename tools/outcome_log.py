@@ -4,8 +4,8 @@
     driver = Driver("./srtpgw", log=log)
     log.begin_anew()          # behind a rename, as logrotate has it done
 
-A log that was begun anew has a line `there CALL SLOT MEDIA STATE` for each call that is there, and then goes on, so
-whoever reads it from its beginning knows the calls (tools/watch.py). Needs Python 3.8 alone.
+A log that was begun anew has a line `there CALL SLOT MEDIA STATE` for each call that is there, and `joined CALL CALL` for
+each pair, and then goes on, so whoever reads it from its beginning knows the calls (tools/watch.py). Needs Python 3.8 alone.
 """
 
 import os
@@ -21,8 +21,8 @@ class OutcomeLog:
     def __init__(self, path, most=OCTETS_MOST):
         self.path, self.most, self.lock = path, most, threading.Lock()
         self.file, self.octets = self._opened(), 0
-        # The slot, the number of media and the state of each call that is there.
-        self.there = {}
+        # The slot, the number of media and the state of each call that is there; and the pairs.
+        self.there, self.pairs = {}, set()
 
     def write(self, line):
         """Takes a whole line of outcomes."""
@@ -46,6 +46,8 @@ class OutcomeLog:
         before.close()
         for call, (slot, media, state) in self.there.items():
             self._put(b"there %b %b %b %b\n" % (call, slot, media, state))
+        for pair in sorted(self.pairs):
+            self._put(b"joined %b %b\n" % pair)
 
     def _opened(self):
         return open(self.path, "wb", buffering=0)
@@ -57,7 +59,11 @@ class OutcomeLog:
     def _keep(self, fields):
         word, *rest = fields or [b""]
         if word == b"srtpgw":
-            self.there.clear()
+            self.there.clear(), self.pairs.clear()
+        elif word == b"joined":
+            self.pairs.add(tuple(rest))
+        elif word == b"parted":
+            self.pairs.discard(tuple(rest))
         elif word == b"made":
             self.there[rest[0]] = (*rest[1:3], b"offered")
         elif word == b"live" and rest[0] in self.there:

@@ -35,8 +35,8 @@ TROUBLES = ("overflow", "silence", "one-way", "not-put-out", "elsewhere")
 # The sets of counters, and those of places.
 WAYS, OCTETS = ("arrived", "left"), ("arrived_octets", "left_octets")
 PLACES = {"sources": "comes_from", "targets": "goes_to"}
-# What leaves from a leg came to the other one.
-ACROSS = {LEGS[leg]: LEGS[leg ^ 2] for leg in range(4)}
+# Where a side's packets come, where they go out, and what stopped them, by cause.
+Way = collections.namedtuple("Way", "name comes goes stopped")
 
 
 def read_sets():
@@ -131,7 +131,8 @@ class Watch:
         self.begin(found)
         ends = self.sockets()
         self.add_lost(ends)
-        calls = [self.call(call, found, ends, now) for _, call in sorted(self.calls.by_slot.items())]
+        legs = {call.number: self.legs(call, found, ends, now) for call in self.calls.by_slot.values()}
+        calls = [self.call(call, legs, bool(found), now) for _, call in sorted(self.calls.by_slot.items())]
         self.last, self.moment = found, now
         return {"moment": now, "fault": fault, "calls": calls, "totals": self.totals(found)}
 
@@ -174,43 +175,39 @@ class Watch:
         for places, field in PLACES.items():
             shown[field] = sorted(place for place, quiet in found.get(places, {}).get(port, {}).items() if quiet <= self.after)
         drops = {cause: n for (at, of, cause), n in sorted(call.drops.items()) if (at, of) == (medium, name)}
+        lost = {cause: n for (at, of, cause), n in sorted(call.lost.items()) if (at, of) == (medium, name)}
         end = ends.get(port, Socket(0, 0))
-        return {**shown, "drops": drops, "unsent": call.unsent[medium, name], "overflows": end.drops,
+        return {**shown, "drops": drops, "lost": lost, "unsent": call.unsent[medium, name], "overflows": end.drops,
                 "waiting": end.waiting}
 
-    def call(self, call, found, ends, now):
-        legs = [[self.leg(call, medium, leg, found, ends, now) for leg in range(4)] for medium in range(call.media)]
+    def legs(self, call, found, ends, now):
+        """By medium the four legs of a call."""
+        return [[self.leg(call, medium, leg, found, ends, now) for leg in range(4)] for medium in range(call.media)]
+
+    def call(self, call, legs, counted, now):
         media = []
-        for medium, of in enumerate(legs):
-            said = self.says(call, of, bool(found), now)
-            media.append({"medium": medium, "legs": of, "says": [words for _, words in said],
+        for medium, own in enumerate(legs[call.number]):
+            said = [("overflow", f"{leg['overflows']} datagrams were lost in front of the full socket of {leg['leg']}")
+                    for leg in own if leg["overflows"]]
+            if counted and call.live and now - call.live >= self.after:
+                said += self.heard(ways_of(call, legs, medium), now - call.live)
+            media.append({"medium": medium, "legs": own, "says": [words for _, words in said],
                           "troubles": [trouble for trouble, _ in said]})
-        return {"call": call.number, "slot": call.slot, "state": "live" if call.live else "offered",
+        return {"call": call.number, "slot": call.slot, "state": "live" if call.live else "offered", "joined": call.joined,
                 "seconds": round(now - (call.live or call.made), 1), "media": media}
 
-    def says(self, call, legs, counted, now):
-        """What an operator should know of a medium: one of TROUBLES, and words."""
-        of = {leg["leg"]: leg for leg in legs}
-        said = [("overflow", f"{leg['overflows']} datagrams were lost in front of the full socket of {leg['leg']}")
-                for leg in legs if leg["overflows"]]
-        if not counted or not call.live or now - call.live < self.after:
-            return said
-
-        def quiet(leg, way):
-            return of[leg][way]["quiet"] if of[leg][way]["quiet"] is not None else now - call.live
-
-        silent = {leg: quiet(leg, "arrived") for leg in (SECURE, PLAIN)}
-        sides = {SECURE: "secure", PLAIN: "plain"}
+    def heard(self, ways, since):
+        """What an operator should know of a medium's two ways: one of TROUBLES, and words."""
+        said, silent = [], {way.name: quiet(way.comes, "arrived", since) for way in ways}
         if min(silent.values()) >= self.after:
             said.append(("silence", f"silence: no packet from either side for {min(silent.values()):.0f} s"))
         elif max(silent.values()) >= self.after:
             dumb = max(silent, key=silent.get)
-            said.append(("one-way", f"one-way: no packet from the {sides[dumb]} side for {silent[dumb]:.0f} s"))
-        for leg in (SECURE, PLAIN):
-            if silent[leg] < self.after <= quiet(ACROSS[leg], "left"):
-                words = f"what the {sides[leg]} side sends isn't put out: {worst(of[leg]['drops'])}"
-                said.append(("not-put-out", words))
-            said += elsewhere(sides[leg], of[leg]["comes_from"], of[leg]["goes_to"])
+            said.append(("one-way", f"one-way: no packet from the {dumb} side for {silent[dumb]:.0f} s"))
+        for way in ways:
+            if silent[way.name] < self.after <= quiet(way.goes, "left", since):
+                said.append(("not-put-out", f"what the {way.name} side sends isn't put out: {worst(way.stopped)}"))
+            said += elsewhere(way.name, way.comes["comes_from"], way.comes["goes_to"])
         return said
 
     def totals(self, found):
@@ -225,7 +222,27 @@ class Watch:
                  for (leg, cause), n in sorted(self.calls.drops.items(), key=str)]
         return {"made": self.calls.made, "refused": dict(self.calls.refused), "ended": dict(self.calls.ended),
                 "drops": drops, "unsent": sum(self.calls.unsent.values()), "overflows": sum(self.lost.values()),
+                "pairs": sum(call.joined is not None for call in self.calls.by_slot.values()) // 2,
+                "unjoined": dict(self.calls.unjoined),
+                "lost": [{"leg": leg or "no port of the gateway", "cause": cause, "datagrams": n}
+                         for (leg, cause), n in sorted(self.calls.lost.items(), key=str)],
                 **{way: dict(legs) for way, legs in ways.items()}}
+
+
+def ways_of(call, legs, medium):
+    """The two ways of a medium: between its sides, or where the call is joined to the other call's secure side."""
+    own = {leg["leg"]: leg for leg in legs[call.number][medium]}
+    if call.joined not in legs:
+        return [Way("secure", own[SECURE], own[PLAIN], own[SECURE]["drops"]),
+                Way("plain", own[PLAIN], own[SECURE], own[PLAIN]["drops"])]
+    other = {leg["leg"]: leg for leg in legs[call.joined][medium]}
+    return [Way("secure", own[SECURE], other[SECURE], {**other[PLAIN]["lost"], **own[SECURE]["drops"]}),
+            Way(f"joined call {call.joined}'s", other[SECURE], own[SECURE], {**own[PLAIN]["lost"], **other[SECURE]["drops"]})]
+
+
+def quiet(leg, way, since):
+    """For how many seconds nothing came to a leg, or left it."""
+    return leg[way]["quiet"] if leg[way]["quiet"] is not None else since
 
 
 def elsewhere(side, sources, targets):
@@ -255,7 +272,8 @@ def screen(view):
         lines.append(f"no counters of packets (docs/network.md): {view['fault']}")
     lines += total_lines(view["totals"])
     for call in sorted(view["calls"], key=lambda call: not any(medium["says"] for medium in call["media"])):
-        lines.append(f"call {call['call']}, slot {call['slot']}, {call['state']} for {call['seconds']:.0f} s")
+        joined = f", joined with call {call['joined']}" if call["joined"] is not None else ""
+        lines.append(f"call {call['call']}, slot {call['slot']}, {call['state']} for {call['seconds']:.0f} s{joined}")
         for medium in call["media"]:
             for leg in medium["legs"]:
                 lines += leg_lines(medium["medium"], leg)
@@ -269,9 +287,11 @@ def total_lines(totals):
     for name in ("refused", "ended"):
         if totals[name]:
             lines.append(f"{name}: " + ", ".join(f"{n} {cause}" for cause, n in sorted(totals[name].items())))
-    if totals["drops"]:
-        lines.append("dropped: " + ", ".join(f"{row['datagrams']} {row['cause']} at {row['leg']}"
-                                             for row in totals["drops"]))
+    if totals["unjoined"]:
+        lines.append("not joined: " + ", ".join(f"{n} {cause}" for cause, n in sorted(totals["unjoined"].items())))
+    for name, rows in (("dropped", totals["drops"]), ("lost between joined calls", totals["lost"])):
+        if rows:
+            lines.append(f"{name}: " + ", ".join(f"{row['datagrams']} {row['cause']} at {row['leg']}" for row in rows))
     lines.append(f"unsent: {totals['unsent']}, lost in front of sockets: {totals['overflows']}")
     return lines
 
@@ -279,10 +299,11 @@ def total_lines(totals):
 def leg_lines(medium, leg):
     """A leg in a line; none where it has nothing to tell."""
     came, left = leg["arrived"], leg["left"]
-    if not (came["packets"] or left["packets"] or leg["drops"] or leg["waiting"]):
+    if not (came["packets"] or left["packets"] or leg["drops"] or leg["lost"] or leg["waiting"]):
         return []
     ago = f", the last {came['quiet']} s ago" if came["quiet"] is not None else ""
     drops = "".join(f", {n} {cause}" for cause, n in leg["drops"].items())
+    drops += "".join(f", lost {n} {cause}" for cause, n in leg["lost"].items())
     waiting = f", {leg['waiting']} octets wait" if leg["waiting"] else ""
     return [f"  medium {medium}  {leg['leg']:<11} {leg['port']}  in {came['packets']} ({came['octets']} octets{ago})  "
             f"out {left['packets']} ({left['octets']} octets){drops}{waiting}"]
@@ -302,6 +323,12 @@ def prometheus(view):
         rows.counter("srtpgw_calls_ended_total", "Calls that have ended", n, why=why)
     for row in totals["drops"]:
         rows.counter("srtpgw_drops_total", "Dropped datagrams", row["datagrams"], leg=row["leg"], cause=row["cause"])
+    rows.gauge("srtpgw_pairs", "Pairs of calls that are joined", totals["pairs"])
+    for cause, n in sorted(totals["unjoined"].items()):
+        rows.counter("srtpgw_unjoined_total", "Calls that couldn't be joined or parted", n, cause=cause)
+    for row in totals["lost"]:
+        rows.counter("srtpgw_lost_total", "Packets that were opened in one call and couldn't be sealed in the joined one",
+                     row["datagrams"], leg=row["leg"], cause=row["cause"])
     rows.counter("srtpgw_unsent_total", "Packets that the system didn't send", totals["unsent"])
     rows.counter("srtpgw_overflows_total", "Datagrams that were lost in front of full sockets", totals["overflows"])
     for way in WAYS:

@@ -4,7 +4,7 @@ and in words.
 
     python3 tools/why.py call.script
     python3 tools/why.py --capture call.script     # one for the command `capture`, with the capture behind it or without
-    python3 tools/why.py --bridge calls.script     # one for the command `bridge`, whose lines join and part calls
+    python3 tools/why.py --bridge calls.script     # one for `bridge` or `relay --bridge`, whose lines join and part calls
     python3 tools/why.py --secure alice.sdp        # a text of the secure side by itself, as an offer
     python3 tools/why.py --plain bob.sdp
 
@@ -200,7 +200,7 @@ def word_fault(line, word):
     if line == CAPTURE:
         return Fault("Word", 0, "a capture follows: the command `capture` alone takes one (here: `--capture`)")
     if word in PAIRS:
-        return Fault("Word", 0, f"`{word}` is a line of the command `bridge` alone (here: `--bridge`)")
+        return Fault("Word", 0, f"`{word}` is a line of `bridge` and `relay --bridge` alone (here: `--bridge`)")
     if line[0] in "#;" or line.startswith("//"):
         return Fault("Word", 0, "a comment: a script has none")
     if line in HEADERS:

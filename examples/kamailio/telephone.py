@@ -22,6 +22,7 @@ sys.path.insert(0, str(Path(__file__).resolve().parents[1] / "live"))
 
 from ends import packets_of  # noqa: E402
 from sealed import MasterKey, Opening, Sealing, crypto_line, crypto_of, lines  # noqa: E402
+from srtp import SUITES as KNOWN  # noqa: E402
 
 PATIENCE = 20
 # The number of a stream's first packet.
@@ -48,6 +49,8 @@ class Media:
         self.socket.setsockopt(socket.SOL_SOCKET, socket.SO_RCVBUF, 1 << 20)
         self.socket.bind(address)
         self.openings, self.sealing, self.version = [], None, 0
+        # Which way the media go, as `a=sendonly`.
+        self.way = None
         # Payloads by sequence number, and what came under a key that the answer hadn't told yet.
         self.came, self.early, self.lock = {}, [], threading.Lock()
         self.over = threading.Event()
@@ -59,7 +62,7 @@ class Media:
         self.version += 1
         host, port = self.address
         profile = "RTP/SAVP" if self.key else "RTP/AVP"
-        keyed = [crypto_line(tag, self.key)] if self.key else []
+        keyed = ([crypto_line(tag, self.key)] if self.key else []) + ([self.way] if self.way else [])
         return lines("v=0", f"o=user 1 {self.version} IN IP4 {host}", "s=-", f"c=IN IP4 {host}", "t=0 0",
                      f"m=audio {port} {profile} 0", "a=rtpmap:0 PCMU/8000", *keyed).encode()
 
@@ -68,10 +71,10 @@ class Media:
         host = re.search(rb"(?m)^c=IN IP4 (\S+)", text)[1].decode()
         self.to = host, int(re.search(rb"(?m)^m=audio (\d+)", text)[1])
         if self.key:
-            keys = list(crypto_of(padded(text).decode()).values())
+            key = next((key for key in keys_of(text).values() if key.suite == self.key.suite), None)
             with self.lock:
-                if keys and (not self.openings or keys[0].octets != self.openings[0].master.octets):
-                    self.openings.insert(0, Opening(keys[0]))
+                if key and (not self.openings or key.octets != self.openings[0].master.octets):
+                    self.openings.insert(0, Opening(key))
                 early, self.early = self.early, []
                 for octets in early:
                     self.takes(octets)
@@ -79,12 +82,15 @@ class Media:
                 self.sealing = Sealing(self.key)
 
     def answers(self, text):
-        """Its answer to a description: under a new key, of its own suite if that is offered."""
+        """Its answer to a description: under a new key, of its own suite if that is offered, but where the other side's key
+        is as it was."""
         tag = "1"
         if self.key:
-            offered = {suite: tag for tag, suite in re.findall(r"(?m)^a=crypto:(\d+) (\S+)", text.decode())}
+            offered = {key.suite: (tag, key.octets) for tag, key in reversed(keys_of(text).items())}
             suite = next(suite for suite in (self.key.suite, *offered) if suite in offered and suite in SUITES)
-            self.key, tag = master(suite), offered[suite]
+            tag, octets = offered[suite]
+            if not self.openings or self.openings[0].master.octets != octets:
+                self.key = master(suite)
         return self.text(tag)
 
     def sends(self, octets, first=FIRST):
@@ -221,7 +227,7 @@ class Call:
 
     def asks(self, method, body=b"", number=None, branch=None):
         self.number = number or self.number + 1
-        branch = branch or f"z9hG4bK{self.id}.{self.number}.{method}"
+        branch = branch or f"z9hG4bK{self.id}.{self.telephone.name}.{self.number}.{method}"
         host, port = self.telephone.address
         headers = [f"Via: SIP/2.0/UDP {host}:{port};branch={branch}", "Max-Forwards: 70", f"From: {self.own}",
                    f"To: {self.other}", f"Call-ID: {self.id}", f"CSeq: {self.number} {method}",
@@ -335,6 +341,12 @@ class Call:
             self.ended.set()
 
 
+def keys_of(text):
+    """The keys of a description by tag, of the suites that are known here."""
+    known = re.compile(rf"a=crypto:\d+ ({'|'.join(KNOWN)}) ")
+    return crypto_of("\n".join(line for line in padded(text).decode().splitlines() if known.match(line)))
+
+
 def inner(value):
     """The address in a Contact header."""
     return value.split("<", 1)[1].split(">")[0] if "<" in value else value.split(";")[0]
@@ -345,8 +357,8 @@ def padded(text):
     return re.sub(rb"inline:([A-Za-z0-9+/]+)=*", lambda key: b"inline:" + key[1] + b"=" * (-len(key[1]) % 4), text)
 
 
-def registers(name, address, proxy):
-    """Has calls to a name come to an address, whoever is there."""
+def registers(name, address, proxy, encrypts=False):
+    """Has calls to a name come to an address, whoever is there. That it encrypts stands in its Contact."""
     with socket.socket(socket.AF_INET, socket.SOCK_DGRAM) as own:
         own.bind((address[0], 0))
         own.settimeout(PATIENCE)
@@ -354,7 +366,7 @@ def registers(name, address, proxy):
         uri = f"sip:{name}@{proxy[0]}:{proxy[1]}"
         headers = [f"REGISTER {uri} SIP/2.0", f"Via: SIP/2.0/UDP {host}:{port};branch=z9hG4bK{os.urandom(6).hex()}",
                    f"From: <{uri}>;tag={os.urandom(4).hex()}", f"To: <{uri}>", f"Call-ID: {os.urandom(6).hex()}",
-                   "CSeq: 1 REGISTER", f"Contact: <sip:{name}@{address[0]}:{address[1]}>", "Expires: 600",
+                   "CSeq: 1 REGISTER", f"Contact: <sip:{name}@{address[0]}:{address[1]}{';srtp' * encrypts}>", "Expires: 600",
                    "Content-Length: 0", "", ""]
         own.sendto("\r\n".join(headers).encode(), proxy)
         response = Message(own.recv(65_536))

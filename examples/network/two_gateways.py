@@ -10,6 +10,7 @@ from pathlib import Path
 TOP = Path(__file__).resolve().parents[2]
 sys.path[:0] = [str(TOP / "examples/live"), str(TOP / "tools")]
 
+import paced  # noqa: E402
 from ends import PACE, numbers_of, packets_of, payloads_of, program, speech, told  # noqa: E402
 from sealed import MasterKey, Opening, Sealing, crypto_line, crypto_of, lines  # noqa: E402
 from driver import Driver, Program  # noqa: E402
@@ -21,6 +22,8 @@ MIDDLE = "10.2.0.1", "10.2.0.2"
 RTP, RTCP = 20_000, 20_001
 SHORT, LONG = "AES_CM_128_HMAC_SHA1_80", "AES_256_CM_HMAC_SHA1_80"
 SECONDS, REPORTS = 6, 12
+# Where that is set, so many calls at once, of RTP alone, and how long a packet is under way.
+CALLS = int(os.environ.get("CALLS", "0"))
 
 
 class Telephone:
@@ -72,21 +75,60 @@ class Telephone:
             thread.join()
 
 
+class Bare:
+    """One of many telephones: its socket, its keys, and where it sends."""
+
+    def __init__(self, place, number, space):
+        host, port = TELEPHONES[place]
+        self.host, self.port, self.suite = host, port + 2 * number, (SHORT, LONG)[place]
+        bound = socket_in(space, "socket.AF_INET, socket.SOCK_DGRAM", f"made.bind({(self.host, self.port)})")
+        self.key, self.socket = MasterKey(self.suite, os.urandom((30, 46)[place])), paced.stamped(bound)
+
+    def text(self, tag):
+        session = "v=0", f"o=- 1 1 IN IP4 {self.host}", "s=-", f"c=IN IP4 {self.host}", "t=0 0"
+        return lines(*session, f"m=audio {self.port} RTP/SAVP 0", crypto_line(tag, self.key))
+
+
+def many(one, two):
+    """Many calls at once, each by both gateways."""
+    pairs, streams = [], []
+    for number in range(CALLS):
+        first, second = Bare(0, number, "first"), Bare(1, number, "second")
+        pairs.append((first, second))
+        to_first, to_second = through(one, two, first.text(1), second.text(2), number + 1)
+        for place, (driver, near, far, opening) in enumerate(
+                ((one, first, second, crypto_of(to_second)["2"]), (two, second, first, crypto_of(to_first)["1"]))):
+            to = GATEWAYS[place], driver.ports(number + 1)[0]
+            streams.append((far, paced.Stream(near.socket, to, speech(SECONDS, 2 * number + place), near.key, opening, 1_000)))
+    os.sched_setscheduler(0, os.SCHED_RR, os.sched_param(5))
+    paced.send([stream for _, stream in streams])
+    time.sleep(1)
+    for far, stream in streams:
+        paced.take(far.socket, stream)
+    return paced.told(f"{CALLS} calls by two gateways", [stream for _, stream in streams])
+
+
 def at(text, address):
     """A gateway's text with the address that the far side reaches it at."""
     return text.replace(b"c=IN IP4 127.0.0.1", b"c=IN IP4 " + address.encode())
 
 
-def agree(one, two, first, second):
-    """The first telephone offers: by its gateway to the second one as a plain side's offer, and by that to the second."""
-    own, other = MasterKey(SHORT, os.urandom(30)), MasterKey(LONG, os.urandom(46))
-    between = at(one.offer_secure(1, first.text(crypto_line(1, own))), MIDDLE[0])
-    to_second = at(two.offer_plain(1, between), GATEWAYS[1])
-    back = at(two.answer(1, second.text(crypto_line(2, other))), MIDDLE[1])
-    to_first = at(one.answer(1, back), GATEWAYS[0])
+def through(one, two, offer, answer, call):
+    """The first telephone offers: by its gateway to the second one as a plain side's offer, and by that to the second. What
+    each telephone is told."""
+    between = at(one.offer_secure(call, offer), MIDDLE[0])
+    to_second = at(two.offer_plain(call, between), GATEWAYS[1])
+    back = at(two.answer(call, answer), MIDDLE[1])
+    to_first = at(one.answer(call, back), GATEWAYS[0])
     assert b"crypto" not in between + back
-    first.sealing, first.opening = Sealing(own), Opening(crypto_of(to_first.decode())["1"])
-    second.sealing, second.opening = Sealing(other), Opening(crypto_of(to_second.decode())["2"])
+    return to_first.decode(), to_second.decode()
+
+
+def agree(one, two, first, second):
+    own, other = MasterKey(SHORT, os.urandom(30)), MasterKey(LONG, os.urandom(46))
+    to_first, to_second = through(one, two, first.text(crypto_line(1, own)), second.text(crypto_line(2, other)), 1)
+    first.sealing, first.opening = Sealing(own), Opening(crypto_of(to_first)["1"])
+    second.sealing, second.opening = Sealing(other), Opening(crypto_of(to_second)["2"])
 
 
 def reports_of(seed):
@@ -110,16 +152,23 @@ def both_ways(first, second):
     return good
 
 
-def main():
+def one_call(one, two):
     first, second = Telephone(0, "first"), Telephone(1, "second")
-    one, two = Driver(program()), Driver(Program(["ip", "netns", "exec", f"{NAME}-two", program()]))
-    print(f"{SHORT} with {LONG}, {SECONDS} seconds each way", flush=True)
     try:
         agree(one, two, first, second)
-        good = both_ways(first, second)
-        one.bye(1), two.bye(1)
+        return both_ways(first, second)
     finally:
         first.close(), second.close()
+
+
+def main():
+    prefix = ["chrt", "--rr", "10"] if CALLS else []
+    one = Driver(Program([*prefix, program()]))
+    two = Driver(Program(["ip", "netns", "exec", f"{NAME}-two", *prefix, program()]))
+    print(f"{SHORT} with {LONG}, {SECONDS} seconds each way", flush=True)
+    try:
+        good = (many if CALLS else one_call)(one, two)
+    finally:
         statuses = one.close(), two.close()
     print(f"dropped {dict(one.drops)} and {dict(two.drops)}, statuses {statuses}")
     return 0 if good and statuses == (0, 0) else 1

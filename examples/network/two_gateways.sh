@@ -4,7 +4,9 @@
 # agrees a call, compares every octet both ways, reports too, and takes all down. As root; it ends with 0 where all was as
 # it should be.
 #
-#   examples/network/two_gateways.sh       with ./srtpgw, or with the program that SRTPGW names
+#   examples/network/two_gateways.sh             with ./srtpgw, or with the program that SRTPGW names
+#   CALLS=40 examples/network/two_gateways.sh    so many at once, and how long a packet is under way; gateways and this at a
+#                                                real-time priority
 here=$(cd "$(dirname "${BASH_SOURCE[0]}")" && pwd)
 . "$here/../live/needs.sh"
 needs ip iproute2

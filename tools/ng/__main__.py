@@ -84,7 +84,7 @@ def take_priority(priority, log):
 
 def begun(given, log, telling, outcomes):
     """The book of a gateway that has been started, and which tells of what a daemon before it has left."""
-    program = Program(given.program, muxes=given.mux)
+    program = Program(given.program, muxes=given.mux, bridges=not given.mux)
     driver = Driver(program, restarts=True, warn=log, bounds=Bounds(**dict(given.bound)), log=outcomes, step=given.step)
     kept = Kept(given.calls, log)
     for told in kept.left():
@@ -156,7 +156,8 @@ def words_of():
     given.add_argument("--interface", type=named, action="append", default=[], metavar="NAME=ADDRESS",
                        help="an address by the name that the flag `direction` gives it")
     given.add_argument("--mux", action="store_true",
-                       help="a telephone that offers one port for RTP and RTCP gets it (relay --mux)")
+                       help="a telephone that offers one port for RTP and RTCP gets it (relay --mux); two telephones that "
+                       "encrypt have no call then, which else are joined (relay --bridge)")
     given.add_argument("--tell", type=words.url, metavar="URL",
                        help="Kamailio's JSON-RPC over HTTP, which is told of calls that have ended by themselves")
     given.add_argument("--calls", type=words.file_in_a_folder, metavar="FILE",

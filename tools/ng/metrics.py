@@ -70,9 +70,12 @@ def add_state(rows, book):
 
 def add_calls(rows, book, meter):
     calls, counts = book.all(), book.counts
-    states = collections.Counter("live" if call.live else "offered" for call in calls)
+    states = collections.Counter()
+    for call in calls:
+        states["live" if call.live else "offered"] += len(call.legs.numbers)
     for state in ("live", "offered"):
         rows.gauge("srtpgw_calls", "Calls that are there", states[state], state=state)
+    rows.gauge("srtpgw_pairs", "Pairs of calls that are joined, of two telephones that encrypt", len(book.driver.joined) // 2)
     rows.gauge("srtpgw_calls_most", "Calls that can be there at once", SLOTS)
     rows.counter("srtpgw_calls_made_total", "Calls that were made", counts["managed"])
     rows.counter("srtpgw_calls_full_total", "Offers that another gateway was to take", counts["full"])
@@ -103,6 +106,12 @@ def add_datagrams(rows, book):
         drops[leg_of(port), cause.split(" ")[0]] += count
     for (leg, cause), count in sorted(drops.items()):
         rows.counter("srtpgw_drops_total", "Dropped datagrams", count, leg=leg, cause=cause)
+    lost = collections.Counter({"SsrcUnknown": 0})
+    for (_, cause), count in list(driver.lost.items()):
+        lost[cause.split(" ")[0]] += count
+    for cause, count in sorted(lost.items()):
+        rows.counter("srtpgw_lost_total", "Packets that were opened in one call and couldn't be sealed in the joined one", count,
+                     cause=cause)
     for name, says, by_port in (
             ("srtpgw_unsent_total", "Packets that the system didn't send", driver.unsent),
             ("srtpgw_overflows_total", "Datagrams that were lost in front of full sockets", driver.overflows)):

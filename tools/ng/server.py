@@ -18,11 +18,11 @@ import traceback
 
 import sentences
 from ng.bencode import Bad as NotBencoded, decoded, encoded
-from ng.calls import Full
+from ng.legs import Full
 from driver import Refused
 from gateway import Gone
 from ng.request import Bad, Request, text_of
-from ng.told import drops_of, query_of, statistics_of, totals_of
+from ng.told import drops_of, lost_of, query_of, statistics_of, totals_of
 
 COOKIE_MOST = 255
 DATAGRAM_MOST = 65_507
@@ -237,7 +237,7 @@ class Server:
         if not ended:
             return {"warning": "Call-ID not found or tags didn't match"}
         return {"created": int(min(report.call.made for report in ended)), "totals": totals_of(ended),
-                "drops": drops_of(ended)}
+                "drops": drops_of(ended), "lost": lost_of(ended)}
 
     def query(self, request):
         request.needs("call_id")

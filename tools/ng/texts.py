@@ -6,13 +6,14 @@ out names what the other side is to see: an address that it reaches, and the pro
 
 import re
 
-from descriptions import HOME, MUX, parts
+from descriptions import HOME, MUX, looked_at, parts
 from ng.request import Bad, PROFILES
 
 # A telephone of the older kind says by this address that it holds (RFC 3264, 8.4).
 NOWHERE = b"0.0.0.0"
 CONNECTION = re.compile(rb"c=IN IP4 ([0-9.]+)")
 ORIGIN = re.compile(rb"^(o=\S+ \S+ \S+ IN) IP[46] \S+")
+CRYPTO = b"a=crypto:"
 SECURED = {b"RTP/AVP": b"RTP/SAVP", b"RTP/AVPF": b"RTP/SAVPF"}
 # By these a side says that it doesn't talk, or doesn't listen (RFC 8866, 6.7).
 DIRECTIONS = {b"a=sendrecv", b"a=sendonly", b"a=recvonly", b"a=inactive"}
@@ -93,6 +94,32 @@ def secured(text):
     have the profile that says it."""
     keyed = [has_keys(printed([part])) for part in parts(text)[1:]]
     return profiled(text, [SECURED.get(proto, proto) if own else proto for own, proto in zip(keyed, profiles(text))])
+
+
+def seen(text, muxes=False):
+    """What the gateway looks at in a text, but for the tags of crypto lines: who has answered one of several lines may offer
+    its key under another tag."""
+    lines = looked_at(text, muxes)
+    return [line.split(b" ", 1)[1:] if isinstance(line, bytes) and line.startswith(CRYPTO) else line for line in lines]
+
+
+def answering(given, offer):
+    """The gateway's text with the key lines that answer an offer: of each medium the one of a suite that is offered there,
+    under its tag."""
+    told = []
+    for part, offered in zip(parts(given), parts(offer)):
+        words = [line[len(CRYPTO):].split(b" ") for line in reversed(offered) if line.startswith(CRYPTO)]
+        tags = {suite: tag for tag, suite, *_ in (one for one in words if len(one) > 1)}
+        chosen = next((line for line in part if line.startswith(CRYPTO) and line.split(b" ")[1] in tags), None)
+        kept = [line for line in part if line is chosen or not line.startswith(CRYPTO)]
+        told.append([tagged(line, tags) if line is chosen else line for line in kept])
+    return printed(told)
+
+
+def tagged(line, tags):
+    """A crypto line under the tag of its suite."""
+    words = line.split(b" ")
+    return b" ".join([CRYPTO + tags[words[1]], *words[1:]])
 
 
 def unmuxed(text):

@@ -1,6 +1,7 @@
 """What `query`, `delete` and `statistics` tell, in the dictionaries that rtpengine tells it in.
 
-rtpengine's `errors` are the datagrams that the gateway dropped; `drops` has them by cause. The gateway tells of no
+rtpengine's `errors` are the datagrams that the gateway dropped; `drops` has them by cause, and `lost` what was lost between
+two calls that are joined. The gateway tells of no
 packet that it put out, so packets and octets are 0 where nothing beside it counts them.
 """
 
@@ -38,9 +39,18 @@ def totals_of(reports):
 
 def drops_of(reports):
     """By cause how many datagrams were dropped."""
+    return by_cause(report.dropped for report in reports)
+
+
+def lost_of(reports):
+    """By cause how many packets were lost between calls that are joined."""
+    return by_cause(report.lost for report in reports)
+
+
+def by_cause(all_of_them):
     causes = collections.Counter()
-    for report in reports:
-        for (_, cause), count in report.dropped.items():
+    for counts in all_of_them:
+        for (_, cause), count in counts.items():
             causes[cause] += count
     return dict(causes)
 
@@ -52,7 +62,7 @@ def query_of(book, call_id):
     tags = {tag: tag_of(report, tag) for report in reports for tag in report.call.tags}
     return {"created": int(min(report.call.made for report in reports)),
             "last signal": int(max(report.call.told for report in reports)),
-            "tags": tags, "totals": totals_of(reports), "drops": drops_of(reports)}
+            "tags": tags, "totals": totals_of(reports), "drops": drops_of(reports), "lost": lost_of(reports)}
 
 
 def tag_of(report, tag):
@@ -92,9 +102,7 @@ def stream_of(report, place, address, port, above):
 def statistics_of(book, refused, began):
     """rtpengine's names, as far as the gateway has what they name; `refused` and `drops` are its own."""
     calls, counts = book.all(), book.counts
-    dropped, arrived = collections.Counter(), summed(stats(book.report(call), call.ports) for call in calls)
-    for (_, cause), count in list(book.driver.drops.items()):
-        dropped[cause] += count
+    dropped, arrived = by_cause([book.driver.drops.copy()]), summed(stats(book.report(call), call.ports) for call in calls)
     return {
         "currentstatistics": {"sessionsown": len(calls), "sessionsforeign": 0, "sessionstotal": len(calls)},
         "totalstatistics": {
@@ -102,5 +110,6 @@ def statistics_of(book, refused, began):
             "rejectedsessions": counts["full"], "timeoutsessions": counts["idle"],
             "regularterminatedsessions": counts["deleted"], "forcedterminatedsessions": counts["gone"],
             "relayedpackets": arrived["packets"], "relayedpacketerrors": sum(dropped.values())},
-        "refused": dict(refused), "drops": dict(dropped), "draining": book.driver.draining,
+        "refused": dict(refused), "drops": dropped, "lost": by_cause([book.driver.lost.copy()]),
+        "pairs": len(book.driver.joined) // 2, "draining": book.driver.draining,
         "late milliseconds": round(1000 * book.driver.late), "waiting octets": sum(book.driver.waiting.values())}

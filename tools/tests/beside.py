@@ -58,9 +58,11 @@ def a_book(calls):
     drops = collections.Counter({(20_000 + 16 * slot, "BadTag"): 1 for slot in range(calls)})
     driver = types.SimpleNamespace(
         gone=None, draining=False, gateway=gateway, drops=drops, unsent=collections.Counter({20_002: 2}), late=0.02,
-        overflows=collections.Counter(), spent=collections.Counter(keys=5), bounds=Bounds(), waiting={20_000: 512})
-    all_of_them = [types.SimpleNamespace(live=True, made=time.time(), ports={20_000 + 16 * slot: (0, "secure", "RTP")})
-                   for slot in range(calls)]
+        lost=collections.Counter({(20_018, "TooLong"): 2}), joined={1: 2, 2: 1}, overflows=collections.Counter(),
+        spent=collections.Counter(keys=5), bounds=Bounds(), waiting={20_000: 512})
+    legs = types.SimpleNamespace(numbers=(1, 2))
+    all_of_them = [types.SimpleNamespace(live=True, made=time.time(), legs=legs,
+                                         ports={20_000 + 16 * slot: (0, "secure", "RTP")}) for slot in range(calls)]
     return types.SimpleNamespace(
         driver=driver, all=lambda: all_of_them, counts=collections.Counter(managed=calls),
         arrived=lambda ports: {port: (3, 600) for port in ports},
@@ -84,7 +86,8 @@ def told():
     check("as many series with many calls as with few", len(metrics_of(200).splitlines()) == len(text.splitlines()))
     for wanted in ('srtpgw_drops_total{leg="secure RTP",cause="BadTag"} 3', 'srtpgw_spent{of="keys"} 5',
                    'srtpgw_call_drops_bucket{le="5"} 3', 'srtpgw_requests_total{command="offer",result="ok"} 1',
-                   'srtpgw_arrived_octets{leg="secure RTP"} 1800', "srtpgw_late_seconds 0.02"):
+                   'srtpgw_arrived_octets{leg="secure RTP"} 1800', "srtpgw_late_seconds 0.02",
+                   'srtpgw_calls{state="live"} 6', "srtpgw_pairs 1", 'srtpgw_lost_total{cause="TooLong"} 2'):
         check(wanted, wanted in lines)
     promtool = shutil.which("promtool")
     if promtool:
@@ -207,7 +210,7 @@ def latched():
 def followed():
     text = b"v=0\r\nc=IN IP4 10.1.0.2\r\nm=audio 4000 RTP/AVP 0\r\nm=video 0 RTP/AVP 9\r\nm=audio 5000 RTP/AVP 0\r\nc=IN IP4 10.1.0.3\r\n"
     ports = {20_000: (0, "secure", "RTP"), 20_001: (0, "secure", "RTCP"), 20_004: (1, "secure", "RTP"),
-             20_008: (2, "secure", "RTP"), 20_002: (0, "plain", "RTP")}
+             20_008: (2, "secure", "RTP"), 20_002: (0, "plain", "RTP"), 20_018: (0, "inside", "RTP")}
     call = types.SimpleNamespace(ports=ports, said={"secure": text}, name=lambda: "call 1 (a)")
     check("the legs of a call", [leg[:3] for leg in legs_of(call)] == [
         (20_000, "10.1.0.2", 4_000), (20_001, "10.1.0.2", 4_001), (20_008, "10.1.0.3", 5_000)])

@@ -12,7 +12,8 @@ import tempfile
 from pathlib import Path
 
 sys.path.insert(0, str(Path(__file__).resolve().parent.parent))
-from counters import Count, Fault, Socket, counts, sockets  # noqa: E402
+from counters import Calls, Count, Fault, Socket, counts, sockets  # noqa: E402
+from outcome_log import OutcomeLog  # noqa: E402
 from watch import Watch, prometheus, screen  # noqa: E402
 
 # Three datagrams of two octets came to port 20000, and three of six and one of five left it; three seconds ago.
@@ -188,6 +189,52 @@ def shapes(world):
           and "nft: not here" in screen(view)[1])
 
 
+def joined_calls(folder):
+    """Of two calls that are joined the ways are between their secure sides; their plain ones are silent."""
+    world = World(folder)
+    world.tell("made 1 0 1", "made 2 1 1", "live 1", "live 2", "joined 1 2", "unjoined 1 Joined 2")
+    world.look()
+    world.count(arrived={20_000: (500, 1, 0), 20_016: (500, 1, 0)}, left={20_000: (500, 1, 0), 20_016: (500, 1, 0)})
+    view = world.look(10)
+    check("nothing is said of two that hear each other", [call["media"][0]["says"] for call in view["calls"]] == [[], []])
+    check("which call is joined with which", [call["joined"] for call in view["calls"]] == ["2", "1"]
+          and any(line.endswith("joined with call 2") for line in screen(view)))
+    check("pairs, and calls that couldn't be joined", view["totals"]["pairs"] == 1 and "srtpgw_pairs 1" in prometheus(view)
+          and 'srtpgw_unjoined_total{cause="Joined"} 1' in prometheus(view))
+    world.count(arrived={20_016: (500, 1, 9)}, left={20_000: (500, 1, 9)})
+    said = [call["media"][0]["says"] for call in world.look()["calls"]]
+    check("one way of a pair", said == [["one-way: no packet from the joined call 2's side for 9 s"],
+                                        ["one-way: no packet from the secure side for 9 s"]])
+    world.tell("lost 20018 SsrcUnknown", "lost 20018 SsrcUnknown")
+    world.count(arrived={20_016: (501, 1, 0)}, left={20_000: (501, 1, 0), 20_016: (500, 1, 9)})
+    view = world.look()
+    said = view["calls"][0]["media"][0]["says"]
+    check("what is lost between two", len(said) == 1 and said[0].startswith(
+        "what the secure side sends isn't put out: 2 SsrcUnknown, the session admits one source"))
+    check("lost by leg", leg(view, "plain RTP", 1)["lost"] == {"SsrcUnknown": 2} and any(
+        line == "lost between joined calls: 2 SsrcUnknown at plain RTP" for line in screen(view))
+        and 'srtpgw_lost_total{leg="plain RTP",cause="SsrcUnknown"} 2' in prometheus(view))
+    world.tell("ended 2 1 1 bye", "parted 1 2")
+    view = world.look()
+    check("a pair that is parted", view["calls"][0]["joined"] is None and view["totals"]["pairs"] == 0)
+    check("and its call's own ways", "no packet from the plain side" in view["calls"][0]["media"][0]["says"][0])
+
+
+def a_log_begun_anew(folder):
+    """A log that is begun anew has the pairs that are there."""
+    path = folder / "anew.log"
+    log = OutcomeLog(path)
+    for line in (b"made 1 0 1", b"made 2 1 1", b"made 3 2 1", b"made 4 3 1", b"live 1", b"live 2", b"live 3", b"live 4",
+                 b"joined 2 1", b"joined 3 4", b"parted 3 4"):
+        log.write(line + b"\n")
+    log.begin_anew()
+    calls = Calls()
+    for line in path.read_text().splitlines():
+        calls.take(line, 1.0)
+    there = {call.number: call.joined for call in calls.by_slot.values()}
+    check("pairs in a log that was begun anew", there == {"1": "2", "2": "1", "3": None, "4": None})
+
+
 def main():
     read()
     with tempfile.TemporaryDirectory() as folder:
@@ -197,6 +244,8 @@ def main():
         shapes(world)
         late_look(Path(folder))
         from_elsewhere(Path(folder))
+        joined_calls(Path(folder))
+        a_log_begun_anew(Path(folder))
     bad = [what for what, holds in CLAIMS if not holds]
     print(*(f"NOT SO: {what}" for what in bad), sep="\n", end="\n" * bool(bad))
     print(f"watching: {len(CLAIMS)} looked at, {len(bad)} are otherwise")
