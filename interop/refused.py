@@ -182,7 +182,8 @@ def main():
     program, *names = words_or_usage(__doc__)
     has_own_loopback()
     program, names = str(Path(program).resolve()), [name.removesuffix(".script") for name in names]
-    relays = [("a relay", of_a_relay()), ("a relay with --mux", of_a_relay("--mux")), ("a relay of joined calls", of_a_joined_relay())]
+    relays = [(f"a relay{' with ' * bool(more)}{more}", of_a_relay(*more.split())) for more in ("", "--mux", "--bridge")]
+    relays += [("a relay of joined calls", of_a_joined_relay())]
     others = [] if names else [*relays, ("a demonstration", (["demo", "1", "0"], b"", None))]
     with tempfile.TemporaryDirectory() as folder:
         room = Path(folder)

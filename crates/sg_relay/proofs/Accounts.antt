@@ -43,8 +43,8 @@ use Rattle.sg_gateway.specs.Ports.{call_at, has_port, port_at, port_out, leg_of,
 use Rattle.sg_gateway.specs.Signals.{Signal, Tick, Psk, Manual, Offered, Answered, Reject, Bye, Answer, tells_ended, refused, ticked, new_call, in_new, in_old, tells_live, tells_text, offered_to, offering_side, tells_answer, answered, rejected_to, rejected, left, answer_to}
 use Rattle.sg_gateway.specs.Step.{Event, Signalled, Datagram, step}
 use Rattle.sg_gateway.specs.World.{Books, Call, World, call_of, with_call, without_call, and_call, is_full}
-use Rattle.sg_relay.specs.Asked.{asks_of}
 use Rattle.sg_relay.specs.Held.{held_after}
+use Rattle.sg_relay.proofs.Asks.{asked_by}
 use Rattle.sg_relay.proofs.Held.{AreFit}
 use Rattle.sg_relay.proofs.CallPorts.{Apart, apart_from, all_ended, ended_fit, ended_in, ended_other, has_within, made_asks, made_fit, made_held, none_has, of_calls, of_map, of_one, others_have, parted, tested_held}
 
@@ -54,8 +54,8 @@ Begun c = has_begun c ≡ true
 
 -- What an answer, or what a datagram gives, does to the ports: what it asks for fits, and then those of the calls are held.
 pub record Accounts (w : World) (told : List Outcome) (v : World) : Type 0 where
-  pub fit : AreFit (λ port. of_calls port w.calls) (flat_map asks_of told)
-  pub held : (port : ℕ) → held_after port (of_calls port w.calls) (flat_map asks_of told) ≡ of_calls port v.calls
+  pub fit : AreFit (λ port. of_calls port w.calls) (flat_map asked_by told)
+  pub held : (port : ℕ) → held_after port (of_calls port w.calls) (flat_map asked_by told) ≡ of_calls port v.calls
   pub begun : AllByRecursion Begun v.calls
 
 -- ---- a call as it was settled from another
@@ -96,7 +96,7 @@ same_media few now books c way noise text a begun e = few (at_hand now books c n
 
 -- ---- what is told without an ask
 
-none_asked : (w v : World) (told : List Outcome) → flat_map asks_of told ≡ [] → ((port : ℕ) → of_calls port w.calls ≡ of_calls port v.calls) → AllByRecursion Begun v.calls → Accounts w told v
+none_asked : (w v : World) (told : List Outcome) → flat_map asked_by told ≡ [] → ((port : ℕ) → of_calls port w.calls ≡ of_calls port v.calls) → AllByRecursion Begun v.calls → Accounts w told v
 none_asked w v told none same begun = record {
   fit = subst (AreFit (λ port. of_calls port w.calls)) (sym none) tt;
   held = λ port. ap (held_after port (of_calls port w.calls)) none ∙ same port;
@@ -134,23 +134,23 @@ module _ (few : HasFew) (w : World) (orderly : IsOrderly w) (begun : AllByRecurs
           let same : x ≡ c = one (eqb-true _ _ is ∙ serial) in
           (λ i. Rattle.sg_gateway.specs.Ports.is_in_slot (slot i) (media i) port) ∙ ap (has_port port) (sym same)
 
-  in_place : (c d : Call) (books : Books) (told : List Outcome) → flat_map asks_of told ≡ [] → Of c → d.serial ≡ c.serial → d.slot ≡ c.slot → d.media ≡ c.media → Begun d
+  in_place : (c d : Call) (books : Books) (told : List Outcome) → flat_map asked_by told ≡ [] → Of c → d.serial ≡ c.serial → d.slot ≡ c.slot → d.media ≡ c.media → Begun d
       → Accounts w told (record w { calls = with_call d w.calls; books = books })
   in_place c d books told none a serial slot media is = none_asked w _ told none (same_ports c d a serial slot media) (each_with_call Begun d w.calls is begun)
 
-  new_accounts : (id : CallId) (told : Settled → List Outcome) → ((r : Settled) → flat_map asks_of (told r) ≡ []) → (q : Result Settled Refusal) → ((r : Settled) → q ≡ Ok r → Begun r.call) → For (in_new w id told q)
+  new_accounts : (id : CallId) (told : Settled → List Outcome) → ((r : Settled) → flat_map asked_by (told r) ≡ []) → (q : Result Settled Refusal) → ((r : Settled) → q ≡ Ok r → Begun r.call) → For (in_new w id told q)
   new_accounts id told none (Err cause) settled = unchanged (Some id) cause
   new_accounts id told none (Ok r) settled = λ o.
       let apart : Pairs Apart (and_call r.call w.calls) =
       apart_from (and_call r.call w.calls) (recursion_from_All (λ c. c.media ≤ 4) (and_call r.call w.calls) o.media) (pairs_from IsBefore (and_call r.call w.calls) o.rising) in
-      let asks : made_asks r.call ++ flat_map asks_of (told r) ≡ made_asks r.call = ap (λ l. made_asks r.call ++ l) (none r) ∙ append-nil (made_asks r.call) in
+      let asks : made_asks r.call ++ flat_map asked_by (told r) ≡ made_asks r.call = ap (λ l. made_asks r.call ++ l) (none r) ∙ append-nil (made_asks r.call) in
       record {
         fit = subst (AreFit (λ port. of_calls port w.calls)) (sym asks) (made_fit r.call w.calls apart);
         held = λ port. ap (held_after port (of_calls port w.calls)) asks ∙ made_held port r.call w.calls;
         begun = each_and_call Begun r.call w.calls (settled r refl) begun;
       }
 
-  old_accounts : (id : CallId) (told : Settled → List Outcome) → ((r : Settled) → flat_map asks_of (told r) ≡ []) → (c : Call) → Of c → (q : Result Settled Refusal)
+  old_accounts : (id : CallId) (told : Settled → List Outcome) → ((r : Settled) → flat_map asked_by (told r) ≡ []) → (c : Call) → Of c → (q : Result Settled Refusal)
       → ((r : Settled) → q ≡ Ok r → IsFrom c r × (r.call.media ≡ c.media)) → For (in_old w id told q)
   old_accounts id told none c a (Err cause) settled = unchanged (Some id) cause
   old_accounts id told none c a (Ok r) settled = λ o.

@@ -10,8 +10,9 @@ use Rattle.sg_gateway.specs.World.{Call, and_call}
 use Rattle.sg_outcome.specs.declared.outcomes.Why.{Why}
 use Rattle.sg_gateway.specs.Signals.{tells_ended}
 use Rattle.sg_session.proofs.Lists.{each_weaker, any_here, any_there, any_cases, any_none}
-use Rattle.sg_relay.specs.Asked.{Ask, asks_of, hold, ports_of}
+use Rattle.sg_relay.specs.Asked.{Ask, hold, ports_of}
 use Rattle.sg_relay.specs.Held.{held_after, IsPortOf}
+use Rattle.sg_relay.proofs.Asks.{asked_by}
 use Rattle.sg_relay.proofs.Held.{AreFit, after, bound_fit, bound_in, bound_other, fit_append, given_fit, given_in, given_other, held-append}
 
 -- a port of one of these calls
@@ -177,7 +178,7 @@ one_other port was c is = given_other port was (port_at c.slot 0 0) (4 * c.media
 
 -- what is asked for of calls that end
 abbrev pub all_ended : Why → List Call → List Ask
-all_ended why cs = flat_map asks_of (map (tells_ended why) cs)
+all_ended why cs = flat_map asked_by (map (tells_ended why) cs)
 
 pub ended_other : (port : ℕ) (was : Bool) (why : Why) (cs : List Call) → of_calls port cs ≡ false → held_after port was (all_ended why cs) ≡ was
 ended_other port was why [] none = refl

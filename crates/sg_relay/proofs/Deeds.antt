@@ -1,4 +1,4 @@
--- How what was done for outcomes adds up.
+-- How what was done for acts adds up.
 use Rattle.std.proofs.Common.{◌≡◌, ◌<◌, ◌+◌, ℕ, zero, suc, arith, Bool, true, false, List, [], ◌∷◌, ◌++◌, length, map, take, get_or, Result, Ok, Err, refl, sym, ap, ap₂, ◌∙◌, subst, append_assoc, inl, inr}
 use Rattle.std.specs.Prelude.{is_ok, IfErr, IsOk, ◌⊎◌}
 use Rattle.std.specs.List.{flat_map}
@@ -6,30 +6,23 @@ use Rattle.std.proofs.lemmas.Bool.{false≢true}
 use Rattle.std.proofs.lemmas.List.{append-nil, map-append}
 use Rattle.sg_base.specs.declared.addresses.Address.{Address}
 use Rattle.sg_base.specs.declared.faults.Failed.{Failed}
-use Rattle.sg_trace.specs.Output.{IsPrefixOf, IsWritten, text}
+use Rattle.sg_trace.specs.Output.{IsPrefixOf, IsWritten}
 use Rattle.sg_trace.specs.declared.status.Status.{Status}
-use Rattle.sg_trace.specs.declared.status.Status.TheVariants.{Done, Usage, Script, Read, Write, Link, NoMemory, Clock, Noise, TurnsSpent, Capture}
+use Rattle.sg_trace.specs.declared.status.Status.TheVariants.{Write, Link, NoMemory}
 use Rattle.sg_edge.specs.Links.{LinkCall, Received}
 use Rattle.sg_edge.specs.Links as links
 use Rattle.sg_edge.specs.Told.{Tally, Wrote}
-use Rattle.sg_front.specs.States.{State, state_after, told_from}
-use Rattle.sg_gateway.specs.Step.{Event}
 use Rattle.sg_outcome.specs.OutcomeText.{outcome_line}
 use Rattle.sg_outcome.specs.declared.outcomes.Outcome.{Outcome}
-use Rattle.sg_outcome.specs.declared.outcomes.Outcome.TheVariants.{Out, Unsent}
-use Rattle.sg_relay.specs.Asked.{AreGood, Ask, EndsBadly, IsAtNext, IsCutOff, IsDone, IsGood, IsPart, IsUntold, Told, ask_in, asks_in, asks_of, hold, ports_from, receipt_in, receipts_in, sent_as, sent_in, sent_of, written_as, written_of}
+use Rattle.sg_outcome.specs.declared.outcomes.Outcome.TheVariants.{Unsent}
+use Rattle.sg_relay.specs.Acting.{Acting}
+use Rattle.sg_relay.specs.Asked.{Act, AreGood, Ask, Done as Deed, EndsBadly, IsAtNext, IsCutOff, IsDone, IsGood, IsPart, IsUntold, Sends, Tells, act_of, ask_in, asks_in, asks_of, hold, ports_from, receipt_in, receipts_in, sent_in, sent_of, written_of}
+use Rattle.sg_relay.specs.Causes.{IsOfWriting}
 use Rattle.sg_relay.specs.Parts.{AreCarriedOut, AreHandled, IsHeld, StopsWith}
-
--- the statuses of a line that couldn't be written
-abbrev pub IsOfWriting : Status → Type 0
-IsOfWriting status = (status ≡ Write) ⊎ (status ≡ NoMemory)
 
 pub flat_append : {A B : Type 0} (f : A → List B) (xs ys : List A) → flat_map f (xs ++ ys) ≡ flat_map f xs ++ flat_map f ys
 flat_append f [] ys = refl
 flat_append f (x ∷ xs) ys = ap (λ l. f x ++ l) (flat_append f xs ys) ∙ sym (append_assoc (f x) _ _)
-
-pub text-append : (a b : List Outcome) → text (a ++ b) ≡ text a ++ text b
-text-append a b = flat_append outcome_line a b
 
 pub AreGood-append : (a b : List LinkCall) → AreGood a → AreGood b → AreGood (a ++ b)
 AreGood-append [] b first more = more
@@ -56,26 +49,25 @@ prefix_longer a all more prefix = (prefix.0 ++ more, ap (λ l. l ++ more) prefix
 pub prefix_after : {X : Type 0} (a b all : List X) → IsPrefixOf b all → IsPrefixOf (a ++ b) (a ++ all)
 prefix_after a b all prefix = (prefix.0, ap (λ l. a ++ l) prefix.1 ∙ sym (append_assoc a b prefix.0))
 
--- ---- outcomes
+-- ---- acts
 
 pub done_none : IsDone [] [] []
-done_none = record { told = []; of_outcomes = refl; asked = refl; sent = refl; written = refl }
+done_none = record { done = []; of_acts = refl; asked = refl; sent = refl; written = refl }
 
-pub done_more : (o p : List Outcome) (a b : List LinkCall) (x y : List ℕ) → IsDone o a x → IsDone p b y → IsDone (o ++ p) (a ++ b) (x ++ y)
+pub done_more : (o p : List Act) (a b : List LinkCall) (x y : List ℕ) → IsDone o a x → IsDone p b y → IsDone (o ++ p) (a ++ b) (x ++ y)
 done_more o p a b x y first more = record {
-  told = first.told ++ more.told;
-  of_outcomes = map-append (λ (t : Told). t.outcome) first.told more.told ∙ ap₂ (λ (l m : List Outcome). l ++ m) first.of_outcomes more.of_outcomes;
+  done = first.done ++ more.done;
+  of_acts = map-append (λ (d : Deed). d.act) first.done more.done ∙ ap₂ (λ (l m : List Act). l ++ m) first.of_acts more.of_acts;
   asked = flat_append ask_in a b ∙ ap₂ (λ (l m : List Ask). l ++ m) first.asked more.asked ∙ sym (flat_append asks_of o p);
-  sent = flat_append sent_in a b ∙ ap₂ (λ (l m : List Bool). l ++ m) first.sent more.sent ∙ sym (flat_append sent_of first.told more.told);
-  written = ap₂ (λ (l m : List ℕ). l ++ m) first.written more.written ∙ sym (text-append (flat_map written_of first.told) (flat_map written_of more.told))
-      ∙ ap text (sym (flat_append written_of first.told more.told));
+  sent = flat_append sent_in a b ∙ ap₂ (λ (l m : List Bool). l ++ m) first.sent more.sent ∙ sym (flat_append sent_of first.done more.done);
+  written = ap₂ (λ (l m : List ℕ). l ++ m) first.written more.written ∙ sym (flat_append written_of first.done more.done);
 }
 
-pub part_of : (o : List Outcome) (a : List LinkCall) (x : List ℕ) → IsDone o a x → IsPart o a x
+pub part_of : (o : List Act) (a : List LinkCall) (x : List ℕ) → IsDone o a x → IsPart o a x
 part_of o a x done = record {
   done = o;
   others = [];
-  outcomes_are = sym (append-nil o);
+  acts_are = sym (append-nil o);
   before = a;
   last = [];
   calls_are = sym (append-nil a);
@@ -86,11 +78,11 @@ part_of o a x done = record {
   next = inl (refl, refl);
 }
 
-pub part_after : (o p : List Outcome) (a b : List LinkCall) (x y : List ℕ) → IsDone o a x → IsPart p b y → IsPart (o ++ p) (a ++ b) (x ++ y)
+pub part_after : (o p : List Act) (a b : List LinkCall) (x y : List ℕ) → IsDone o a x → IsPart p b y → IsPart (o ++ p) (a ++ b) (x ++ y)
 part_after o p a b x y first more = record {
   done = o ++ more.done;
   others = more.others;
-  outcomes_are = ap (λ l. o ++ l) more.outcomes_are ∙ sym (append_assoc o more.done more.others);
+  acts_are = ap (λ l. o ++ l) more.acts_are ∙ sym (append_assoc o more.done more.others);
   before = a ++ more.before;
   last = more.last;
   calls_are = ap (λ l. a ++ l) more.calls_are ∙ sym (append_assoc a more.before more.last);
@@ -101,15 +93,15 @@ part_after o p a b x y first more = record {
   next = more.next;
 }
 
-next_longer : (others p : List Outcome) (last : List LinkCall) (piece : List ℕ) → IsAtNext others last piece → IsAtNext (others ++ p) last piece
+next_longer : (others p : List Act) (last : List LinkCall) (piece : List ℕ) → IsAtNext others last piece → IsAtNext (others ++ p) last piece
 next_longer others p last piece (inl none) = inl none
-next_longer others p last piece (inr (next, rest, is, untold)) = inr (next, rest ++ p, ap (λ (l : List Outcome). l ++ p) is, untold)
+next_longer others p last piece (inr (next, rest, is, untold)) = inr (next, rest ++ p, ap (λ (l : List Act). l ++ p) is, untold)
 
-pub part_longer : (o p : List Outcome) (a : List LinkCall) (x : List ℕ) → IsPart o a x → IsPart (o ++ p) a x
+pub part_longer : (o p : List Act) (a : List LinkCall) (x : List ℕ) → IsPart o a x → IsPart (o ++ p) a x
 part_longer o p a x part = record {
   done = part.done;
   others = part.others ++ p;
-  outcomes_are = ap (λ l. l ++ p) part.outcomes_are ∙ append_assoc part.done part.others p;
+  acts_are = ap (λ l. l ++ p) part.acts_are ∙ append_assoc part.done part.others p;
   before = part.before;
   last = part.last;
   calls_are = part.calls_are;
@@ -120,12 +112,12 @@ part_longer o p a x part = record {
   next = next_longer part.others p part.last part.piece part.next;
 }
 
--- an outcome whose line isn't written whole
-untold_part : (o : Outcome) (calls : List LinkCall) (out : List ℕ) → IsUntold o calls out → IsPart (o ∷ []) calls out
+-- an act whose line isn't written whole
+untold_part : (o : Act) (calls : List LinkCall) (out : List ℕ) → IsUntold o calls out → IsPart (o ∷ []) calls out
 untold_part o calls out untold = record {
   done = [];
   others = o ∷ [];
-  outcomes_are = refl;
+  acts_are = refl;
   before = [];
   last = calls;
   calls_are = refl;
@@ -136,14 +128,14 @@ untold_part o calls out untold = record {
   next = inr (o, [], refl, untold);
 }
 
--- ---- outcomes that were cut off
+-- ---- acts that were cut off
 
-pub cut_off_after : (o p : List Outcome) (a b : List LinkCall) (x y : List ℕ) → IsDone o a x → AreGood a → IsCutOff p b y → IsCutOff (o ++ p) (a ++ b) (x ++ y)
+pub cut_off_after : (o p : List Act) (a b : List LinkCall) (x y : List ℕ) → IsDone o a x → AreGood a → IsCutOff p b y → IsCutOff (o ++ p) (a ++ b) (x ++ y)
 cut_off_after o p a b x y first good cut = record {
   done = o ++ cut.done;
   next = cut.next;
   others = cut.others;
-  outcomes_are = ap (λ l. o ++ l) cut.outcomes_are ∙ sym (append_assoc o cut.done (cut.next ∷ cut.others));
+  acts_are = ap (λ l. o ++ l) cut.acts_are ∙ sym (append_assoc o cut.done (cut.next ∷ cut.others));
   before = a ++ cut.before;
   last = cut.last;
   calls_are = ap (λ l. a ++ l) cut.calls_are ∙ sym (append_assoc a cut.before cut.last);
@@ -152,12 +144,12 @@ cut_off_after o p a b x y first good cut = record {
   fails = cut.fails;
 }
 
-pub cut_off_longer : (o p : List Outcome) (a : List LinkCall) (x : List ℕ) → IsCutOff o a x → IsCutOff (o ++ p) a x
+pub cut_off_longer : (o p : List Act) (a : List LinkCall) (x : List ℕ) → IsCutOff o a x → IsCutOff (o ++ p) a x
 cut_off_longer o p a x cut = record {
   done = cut.done;
   next = cut.next;
   others = cut.others ++ p;
-  outcomes_are = ap (λ l. l ++ p) cut.outcomes_are ∙ append_assoc cut.done (cut.next ∷ cut.others) p;
+  acts_are = ap (λ l. l ++ p) cut.acts_are ∙ append_assoc cut.done (cut.next ∷ cut.others) p;
   before = cut.before;
   last = cut.last;
   calls_are = cut.calls_are;
@@ -167,24 +159,24 @@ cut_off_longer o p a x cut = record {
 }
 
 -- the last call failed
-pub cut_off_bad : (o : List Outcome) (a : List LinkCall) (x : List ℕ) → IsCutOff o a x → EndsBadly a
+pub cut_off_bad : (o : List Act) (a : List LinkCall) (x : List ℕ) → IsCutOff o a x → EndsBadly a
 cut_off_bad o a x cut = subst EndsBadly (sym cut.calls_are) (bad_after cut.before cut.last cut.good cut.fails.bad)
 
-part_good_after : (o p : List Outcome) (a b : List LinkCall) (x y : List ℕ) → IsDone o a x → AreGood a → IsPart p b y × AreGood b → IsPart (o ++ p) (a ++ b) (x ++ y) × AreGood (a ++ b)
+part_good_after : (o p : List Act) (a b : List LinkCall) (x y : List ℕ) → IsDone o a x → AreGood a → IsPart p b y × AreGood b → IsPart (o ++ p) (a ++ b) (x ++ y) × AreGood (a ++ b)
 part_good_after o p a b x y first good (part, well) = (part_after o p a b x y first part, AreGood-append a b good well)
 
-pub stops_after : (s : Status) (o p : List Outcome) (a b : List LinkCall) (x y : List ℕ) → IsDone o a x → AreGood a → StopsWith s p b y → StopsWith s (o ++ p) (a ++ b) (x ++ y)
+pub stops_after : (s : Status) (o p : List Act) (a b : List LinkCall) (x y : List ℕ) → IsDone o a x → AreGood a → StopsWith s p b y → StopsWith s (o ++ p) (a ++ b) (x ++ y)
 stops_after Link o p a b x y first good stops = cut_off_after o p a b x y first good stops
 stops_after other o p a b x y first good stops = part_good_after o p a b x y first good stops
 
-part_good_longer : (o p : List Outcome) (a : List LinkCall) (x : List ℕ) → IsPart o a x × AreGood a → IsPart (o ++ p) a x × AreGood a
+part_good_longer : (o p : List Act) (a : List LinkCall) (x : List ℕ) → IsPart o a x × AreGood a → IsPart (o ++ p) a x × AreGood a
 part_good_longer o p a x (part, good) = (part_longer o p a x part, good)
 
-pub stops_longer : (s : Status) (o p : List Outcome) (a : List LinkCall) (x : List ℕ) → StopsWith s o a x → StopsWith s (o ++ p) a x
+pub stops_longer : (s : Status) (o p : List Act) (a : List LinkCall) (x : List ℕ) → StopsWith s o a x → StopsWith s (o ++ p) a x
 stops_longer Link o p a x stops = cut_off_longer o p a x stops
 stops_longer other o p a x stops = part_good_longer o p a x stops
 
--- ---- one outcome
+-- ---- one act
 
 -- a port is bound, or given up
 pub held_one : (bound : Bool) (port : ℕ) (r : Result (Unit {0}) Failed) (call : Bool → LinkCall) → ((ok : Bool) → ask_in (call ok) ≡ hold bound port ∷ []) → ((ok : Bool) → (sent_in (call ok) ≡ []) × (receipt_in (call ok) ≡ []))
@@ -216,25 +208,25 @@ pub held_longer : (asks more : List Ask) (a : List LinkCall) (e : Failed) → Is
 held_longer asks more a e held = (prefix_longer (asks_in a) asks more held.0, held.1, held.2, held.3)
 
 -- the ports couldn't be held
-pub told_unheld : (o : Outcome) (asks : List Ask) (calls : List LinkCall) (e : Failed) → asks_of o ≡ asks → IsHeld (Err e) asks calls → AreCarriedOut (Err Link) (o ∷ []) calls []
-told_unheld o asks calls e is held = (
+pub told_unheld : (asks : List Ask) (line : List ℕ) (calls : List LinkCall) (e : Failed) → IsHeld (Err e) asks calls → AreCarriedOut (Err Link) (Tells asks line ∷ []) calls []
+told_unheld asks line calls e held = (
   record {
     done = [];
-    next = o;
+    next = Tells asks line;
     others = [];
-    outcomes_are = refl;
+    acts_are = refl;
     before = [];
     last = calls;
     calls_are = refl;
     whole = done_none;
     good = tt;
-    fails = record { asked = subst (λ l. IsPrefixOf (asks_in calls) l) (sym is) held.0; bad = held.1; unsent = held.2; unreceived = held.3 };
+    fails = record { asked = held.0; bad = held.1; unsent = held.2; unreceived = held.3 };
   },
   held.3,
 )
 
 -- a line couldn't be written: it isn't the link that failed
-pub stops_writing : (s : Status) (o : List Outcome) (calls : List LinkCall) (out : List ℕ) → IsOfWriting s → IsPart o calls out → AreGood calls → StopsWith s o calls out
+pub stops_writing : (s : Status) (o : List Act) (calls : List LinkCall) (out : List ℕ) → IsOfWriting s → IsPart o calls out → AreGood calls → StopsWith s o calls out
 stops_writing s o calls out (inl is) part good = subst (λ (x : Status). StopsWith x o calls out) (sym is) (part, good)
 stops_writing s o calls out (inr is) part good = subst (λ (x : Status). StopsWith x o calls out) (sym is) (part, good)
 
@@ -247,28 +239,21 @@ line_so (Err NoMemory) a b line prefix = (prefix.0, prefix.2, prefix.1, (λ ok. 
 line_so (Err other) a b line never = absurd never
 
 -- the ports are held, and the line is written or a prefix of it
-pub told_held : (r : Result (Unit {0}) Status) (o : Outcome) (asks : List Ask) (calls : List LinkCall) (out : List ℕ) → asks_of o ≡ asks → ((ok : Bool) → (written_as o ok ≡ o ∷ []) × (sent_as o ok ≡ []))
-    → IsHeld (Ok tt) asks calls → IsPrefixOf out (outcome_line o) → (IsOk r → out ≡ outcome_line o) → IfErr r IsOfWriting → AreCarriedOut r (o ∷ []) calls out
-told_held (Ok u) o asks calls out is plain held prefix whole only = (
+pub told_held : (r : Result (Unit {0}) Status) (asks : List Ask) (line : List ℕ) (calls : List LinkCall) (out : List ℕ)
+    → IsHeld (Ok tt) asks calls → IsPrefixOf out line → (IsOk r → out ≡ line) → IfErr r IsOfWriting → AreCarriedOut r (Tells asks line ∷ []) calls out
+told_held (Ok u) asks line calls out held prefix whole only = (
   record {
-    told = record { outcome = o; sent = true } ∷ [];
-    of_outcomes = refl;
-    asked = held.0 ∙ sym is ∙ sym (append-nil (asks_of o));
-    sent = held.2 ∙ sym (ap (λ (l : List Bool). l ++ []) (plain true).1);
-    written = whole refl ∙ sym (ap (λ (l : List Outcome). text (l ++ [])) (plain true).0 ∙ append-nil (outcome_line o));
+    done = record { act = Tells asks line; sent = true } ∷ [];
+    of_acts = refl;
+    asked = held.0 ∙ sym (append-nil asks);
+    sent = held.2;
+    written = whole refl ∙ sym (append-nil line);
   },
   held.1,
   held.3,
 )
-told_held (Err s) o asks calls out is plain held prefix whole only = (
-  stops_writing s (o ∷ []) calls out only
-      (untold_part o calls out (record {
-        sent = true;
-        asked = held.0 ∙ sym is;
-        sends = held.2 ∙ sym (plain true).1;
-        written = subst (λ l. IsPrefixOf out l) (sym (ap text (plain true).0 ∙ append-nil (outcome_line o))) prefix;
-      }))
-      held.1,
+told_held (Err s) asks line calls out held prefix whole only = (
+  stops_writing s (Tells asks line ∷ []) calls out only (untold_part (Tells asks line) calls out (record { sent = true; asked = held.0; sends = held.2; written = prefix })) held.1,
   held.3,
 )
 
@@ -298,58 +283,50 @@ asks_in_all h port i n lt =
     let split = ports_split port i n lt in
     (map h split.0, append_assoc (map h (ports_from port i)) (h (port + i) ∷ []) (map h split.0) ∙ sym (ap (map h) split.1 ∙ map-append h (ports_from port i) ((port + i) ∷ split.0)))
 
--- ---- what was told is handled
+-- ---- deeds that are handled
 
-pub handled_told : (r : Result (Unit {0}) Status) (state : State) (es : List Event) (stands_for : State → Type 0) (os : List Outcome) (calls : List LinkCall) (out : List ℕ)
-    → AreCarriedOut r os calls out → os ≡ told_from state es → stands_for (state_after state es) → AreHandled r state es stands_for calls out
-handled_told (Ok u) state es stands_for os calls out told is stands = (subst (λ l. IsDone l calls out) is told.0, told.1, told.2, stands)
-handled_told (Err s) state es stands_for os calls out told is stands = (subst (λ l. StopsWith s l calls out) is told.0, told.1)
-
-pub unhandled : (state : State) (es : List Event) (stands_for : State → Type 0) → AreHandled {T = Unit {0}} (Err NoMemory) state es stands_for [] []
-unhandled state es stands_for = ((part_longer [] (told_from state es) [] [] (part_of [] [] [] done_none), tt), refl)
+-- memory was wanting before anything was done
+pub unhandled : {S D : Type 0} (a : Acting S D) (state : S) (ds : List D) (stands_for : S → Type 0) → AreHandled {T = Unit {0}} (Err NoMemory) a state ds stands_for [] []
+unhandled a state ds stands_for = ((part_longer [] (a.acts state ds) [] [] (part_of [] [] [] done_none), tt), refl)
 
 -- nothing was received
-pub handled_none : {T : Type 0} (r : Result T Status) (state : State) (es : List Event) (stands_for : State → Type 0) (calls : List LinkCall) (out : List ℕ) → AreHandled r state es stands_for calls out → receipts_in calls ≡ []
-handled_none (Ok x) state es stands_for calls out handled = handled.2
-handled_none (Err s) state es stands_for calls out handled = handled.1
+pub handled_none : {T S D : Type 0} (r : Result T Status) (a : Acting S D) (state : S) (ds : List D) (stands_for : S → Type 0) (calls : List LinkCall) (out : List ℕ)
+    → AreHandled r a state ds stands_for calls out → receipts_in calls ≡ []
+handled_none (Ok x) a state ds stands_for calls out handled = handled.2
+handled_none (Err s) a state ds stands_for calls out handled = handled.1
 
--- one outcome more was told, or a prefix of it
-pub told_more : (r : Result (Unit {0}) Status) (os ps : List Outcome) (a b : List LinkCall) (x y : List ℕ) → AreCarriedOut (Ok tt) os a x → AreCarriedOut r ps b y → AreCarriedOut r (os ++ ps) (a ++ b) (x ++ y)
+-- one act more was carried out, or a prefix of it
+pub told_more : (r : Result (Unit {0}) Status) (os ps : List Act) (a b : List LinkCall) (x y : List ℕ) → AreCarriedOut (Ok tt) os a x → AreCarriedOut r ps b y → AreCarriedOut r (os ++ ps) (a ++ b) (x ++ y)
 told_more (Ok u) os ps a b x y first then = (done_more os ps a b x y first.0 then.0, AreGood-append a b first.1 then.1, none_after a b first.2 then.2)
 told_more (Err s) os ps a b x y first then = (stops_after s os ps a b x y first.0 first.1 then.0, none_after a b first.2 then.1)
 
-pub told_longer : (s : Status) (os more : List Outcome) (a : List LinkCall) (x : List ℕ) → AreCarriedOut (Err s) os a x → AreCarriedOut (Err s) (os ++ more) a x
+pub told_longer : (s : Status) (os more : List Act) (a : List LinkCall) (x : List ℕ) → AreCarriedOut (Err s) os a x → AreCarriedOut (Err s) (os ++ more) a x
 told_longer s os more a x told = (stops_longer s os more a x told.0, told.1)
 
 -- ---- a packet
 
 -- the send failed, and the line is written that says so, or a prefix of it
 pub told_unsent : (r : Result (Unit {0}) Status) (port : ℕ) (to : Address) (octets : List ℕ) (out : List ℕ) → IsPrefixOf out (outcome_line (Unsent port to)) → (IsOk r → out ≡ outcome_line (Unsent port to))
-    → IfErr r IsOfWriting → AreCarriedOut r (Out port to octets ∷ []) (links.Send port to octets false ∷ []) out
+    → IfErr r IsOfWriting → AreCarriedOut r (Sends port to octets ∷ []) (links.Send port to octets false ∷ []) out
 told_unsent (Ok u) port to octets out prefix whole only = (
-  record { told = record { outcome = Out port to octets; sent = false } ∷ []; of_outcomes = refl; asked = refl; sent = refl; written = whole refl ∙ sym (append-nil (outcome_line (Unsent port to))) },
+  record { done = record { act = Sends port to octets; sent = false } ∷ []; of_acts = refl; asked = refl; sent = refl; written = whole refl ∙ sym (append-nil (outcome_line (Unsent port to))) },
   (tt, tt),
   refl,
 )
 told_unsent (Err s) port to octets out prefix whole only = (
-  stops_writing s (Out port to octets ∷ []) (links.Send port to octets false ∷ []) out only
-      (untold_part (Out port to octets) (links.Send port to octets false ∷ []) out (record {
-        sent = false;
-        asked = refl;
-        sends = refl;
-        written = subst (λ l. IsPrefixOf out l) (sym (append-nil (outcome_line (Unsent port to)))) prefix;
-      }))
+  stops_writing s (Sends port to octets ∷ []) (links.Send port to octets false ∷ []) out only
+      (untold_part (Sends port to octets) (links.Send port to octets false ∷ []) out (record { sent = false; asked = refl; sends = refl; written = prefix }))
       (tt, tt),
   refl,
 )
 
--- ---- outcomes that are told
+-- ---- outcomes that are carried out
 
--- the outcomes up to one and that one
-pub next_told : (os : List Outcome) (i : ℕ) (o : Outcome) → i < length os → o ≡ get_or os i o → take (i + 1) os ≡ take i os ++ o ∷ []
+-- the acts of the outcomes up to one and that one's
+pub next_told : (os : List Outcome) (i : ℕ) (o : Outcome) → i < length os → o ≡ get_or os i o → map act_of (take (i + 1) os) ≡ map act_of (take i os) ++ act_of o ∷ []
 next_told [] i o within is = absurd (omega (arith, within))
-next_told (x ∷ os) zero o within is = ap (λ (y : Outcome). y ∷ []) (sym is)
+next_told (x ∷ os) zero o within is = ap (λ (y : Outcome). act_of y ∷ []) (sym is)
 next_told (x ∷ os) (suc i) o within is =
     let more = next_told os i o (omega (arith, within)) is in
     let n : suc i + 1 ≡ suc (i + 1) = omega arith in
-    ap (λ (m : ℕ). take m (x ∷ os)) n ∙ ap (λ (l : List Outcome). x ∷ l) more
+    ap (λ (m : ℕ). map act_of (take m (x ∷ os))) n ∙ ap (λ (l : List Act). act_of x ∷ l) more

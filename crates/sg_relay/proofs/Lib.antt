@@ -1,12 +1,17 @@
 mod Accounts
+mod Asks
 mod Blames
 mod CallPorts
 mod Complete
 mod Deeds
+mod Gives
 mod Held
+mod JoinedPorts
 pub mod Holds
+mod Leaving
 pub mod Order
 mod Relays
 mod Says
 mod Sharing
 mod Waits
+mod Weavings

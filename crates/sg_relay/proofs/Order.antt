@@ -2,16 +2,15 @@
 use Rattle.std.proofs.Common.{◌≡◌, ◌⊎◌, ◌≤◌, ℕ, List, [], ◌∷◌, ◌++◌, length, refl, sym, ap, ap₂, ◌∙◌, subst, length-append, inl, inr, arith}
 use Rattle.std.specs.List.{flat_map}
 use Rattle.std.proofs.lemmas.List.{append-nil}
-use Rattle.sg_trace.specs.Trace.{ticks_of}
 use Rattle.sg_edge.specs.Links.{LinkCall, Receive, Received}
-use Rattle.sg_front.specs.States.{State, told_from}
-use Rattle.sg_outcome.specs.declared.outcomes.Outcome.{Outcome}
-use Rattle.sg_relay.specs.Asked.{AreInOrder, Ask, ask_in, asks_in, asks_of, receipt_in, receipts_in}
+use Rattle.sg_relay.specs.Acting.{Acting}
+use Rattle.sg_relay.specs.Asked.{Act, AreInOrder, Ask, ask_in, asks_in, asks_of, receipt_in, receipts_in}
 use Rattle.sg_relay.specs.Parts.{IsReceivedFirst, IsTurnInOrder, turned}
+use Rattle.sg_relay.specs.Weaving.{Weaves, ticks_of}
 use Rattle.sg_relay.proofs.Deeds.{flat_append}
 
 -- without a receive
-pub order_none : (f : List Received → List Outcome) (a : List LinkCall) → receipts_in a ≡ [] → AreInOrder f a
+pub order_none : (f : List Received → List Act) (a : List LinkCall) → receipts_in a ≡ [] → AreInOrder f a
 order_none f a none = λ before after x is.
     let e : receipts_in before ++ (x ∷ receipts_in after) ≡ [] = sym (flat_append receipt_in before (Receive x ∷ after)) ∙ sym (ap receipts_in is) ∙ none in
     absurd (omega (arith, ap length e, length-append (receipts_in before) (x ∷ receipts_in after)))
@@ -33,16 +32,16 @@ split_in (y ∷ a) b (z ∷ before) x after is =
     let more : a ++ b ≡ before ++ x ∷ after = cc in
     split_more y z a b before x after same (split_in a b before x after more)
 
-order_at : (f g : List Received → List Outcome) (os : List Outcome) (a b : List LinkCall) → ((xs : List Received) → f (receipts_in a ++ xs) ≡ os ++ g xs) → asks_in a ≡ flat_map asks_of os
+order_at : (f g : List Received → List Act) (os : List Act) (a b : List LinkCall) → ((xs : List Received) → f (receipts_in a ++ xs) ≡ os ++ g xs) → asks_in a ≡ flat_map asks_of os
     → AreInOrder f a → AreInOrder g b → (before after : List LinkCall) (x : Received) → IsSplit a b before (Receive x) after → asks_in before ≡ flat_map asks_of (f (receipts_in before))
 order_at f g os a b goes asked first more before after x (inl (rest, is)) = first before rest x is
 order_at f g os a b goes asked first more before after x (inr (rest, is, then)) =
     let received : receipts_in before ≡ receipts_in a ++ receipts_in rest = ap receipts_in is ∙ flat_append receipt_in a rest in
     ap asks_in is ∙ flat_append ask_in a rest ∙ ap₂ (λ (l m : List Ask). l ++ m) asked (more rest after x then)
-    ∙ sym (flat_append asks_of os (g (receipts_in rest))) ∙ ap (λ (l : List Outcome). flat_map asks_of l) (sym (goes (receipts_in rest)) ∙ ap f (sym received))
+    ∙ sym (flat_append asks_of os (g (receipts_in rest))) ∙ ap (λ (l : List Act). flat_map asks_of l) (sym (goes (receipts_in rest)) ∙ ap f (sym received))
 
--- the calls of one part, and those of the next, whose outcomes come after its own
-pub order_more : (f g : List Received → List Outcome) (os : List Outcome) (a b : List LinkCall) → ((xs : List Received) → f (receipts_in a ++ xs) ≡ os ++ g xs) → asks_in a ≡ flat_map asks_of os
+-- the calls of one part, and those of the next, whose acts come after its own
+pub order_more : (f g : List Received → List Act) (os : List Act) (a b : List LinkCall) → ((xs : List Received) → f (receipts_in a ++ xs) ≡ os ++ g xs) → asks_in a ≡ flat_map asks_of os
     → AreInOrder f a → AreInOrder g b → AreInOrder f (a ++ b)
 order_more f g os a b goes asked first more = λ before after x is. order_at f g os a b goes asked first more before after x (split_in a b before (Receive x) after is)
 
@@ -52,12 +51,12 @@ no_item : {X : Type 0} (l : List X) → length l ≤ 0 → l ≡ []
 no_item [] few = refl
 no_item (x ∷ l) few = absurd (omega (arith, few))
 
--- before a part's only receive the outcomes by no receive are told
-pub order_as : (f g : List Received → List Outcome) (a : List LinkCall) → length (receipts_in a) ≤ 1 → f [] ≡ g [] → AreInOrder g a → AreInOrder f a
+-- before a part's only receive the acts by no receive are done
+pub order_as : (f g : List Received → List Act) (a : List LinkCall) → length (receipts_in a) ≤ 1 → f [] ≡ g [] → AreInOrder g a → AreInOrder f a
 order_as f g a few same order = λ before after x is.
     let all : length (receipts_in a) ≡ length (receipts_in before ++ (x ∷ receipts_in after)) = ap length (ap receipts_in is ∙ flat_append receipt_in before (Receive x ∷ after)) in
     let none : receipts_in before ≡ [] = no_item (receipts_in before) (omega (arith, few, all, length-append (receipts_in before) (x ∷ receipts_in after))) in
-    order before after x is ∙ ap (λ (l : List Outcome). flat_map asks_of l) (ap g none ∙ sym same ∙ ap f (sym none))
+    order before after x is ∙ ap (λ (l : List Act). flat_map asks_of l) (ap g none ∙ sym same ∙ ap f (sym none))
 
 -- a receive alone
 order_one : (x : Received) (before after : List LinkCall) (y : Received) → Receive x ∷ [] ≡ before ++ Receive y ∷ after → asks_in before ≡ []
@@ -69,19 +68,19 @@ first_order x b (rest, is, none) = subst (λ (l : List LinkCall). AreInOrder (λ
     (order_more (λ receipts. []) (λ receipts. []) [] (Receive x ∷ []) rest (λ xs. refl) refl (order_one x) (order_none (λ receipts. []) rest none))
 
 -- the tick of a turn that comes to no receive
-pub ticked_order : (state : State) (top r : ℕ) (a : List LinkCall) → receipts_in a ≡ [] → IsTurnInOrder state top (r ∷ []) a
-ticked_order state top r a none = inr (r, refl, omega (arith, ap length none), order_none (λ receipts. told_from state (turned top r receipts)) a none)
+pub ticked_order : {L S D : Type 0} (w : Weaves L D) (a : Acting S D) (state : S) (top r : ℕ) (calls : List LinkCall) → receipts_in calls ≡ [] → IsTurnInOrder w a state top (r ∷ []) calls
+ticked_order w a state top r calls none = inr (r, refl, omega (arith, ap length none), order_none (λ receipts. a.acts state (turned w top r receipts)) calls none)
 
 -- the tick of a turn, and its receive
-pub turn_order : (state : State) (top r : ℕ) (x : Received) (a b : List LinkCall) → receipts_in a ≡ [] → asks_in a ≡ flat_map asks_of (told_from state (ticks_of top r)) → IsReceivedFirst x b
-    → IsTurnInOrder state top (r ∷ []) (a ++ b)
-turn_order state top r x a b none asked first =
-    let os : List Outcome = told_from state (ticks_of top r) in
-    let come : receipts_in (a ++ b) ≡ x ∷ [] = flat_append receipt_in a b ∙ ap₂ (λ (l m : List Received). l ++ m) none (ap receipts_in first.1 ∙ ap (λ (l : List Received). x ∷ l) first.2) in
-    let few : length (receipts_in (a ++ b)) ≤ 1 = omega (arith, ap length come) in inr (
+pub turn_order : {L S D : Type 0} (w : Weaves L D) (a : Acting S D) (state : S) (top r : ℕ) (x : Received) (b c : List LinkCall) → receipts_in b ≡ [] → asks_in b ≡ flat_map asks_of (a.acts state (ticks_of w top r))
+    → IsReceivedFirst x c → IsTurnInOrder w a state top (r ∷ []) (b ++ c)
+turn_order w a state top r x b c none asked first =
+    let os : List Act = a.acts state (ticks_of w top r) in
+    let come : receipts_in (b ++ c) ≡ x ∷ [] = flat_append receipt_in b c ∙ ap₂ (λ (l m : List Received). l ++ m) none (ap receipts_in first.1 ∙ ap (λ (l : List Received). x ∷ l) first.2) in
+    let few : length (receipts_in (b ++ c)) ≤ 1 = omega (arith, ap length come) in inr (
       r,
       refl,
       few,
-      order_as (λ receipts. told_from state (turned top r receipts)) (λ receipts. os) (a ++ b) few refl
-          (order_more (λ receipts. os) (λ receipts. []) os a b (λ xs. sym (append-nil os)) asked (order_none (λ receipts. os) a none) (first_order x b first)),
+      order_as (λ receipts. a.acts state (turned w top r receipts)) (λ receipts. os) (b ++ c) few refl
+          (order_more (λ receipts. os) (λ receipts. []) os b c (λ xs. sym (append-nil os)) asked (order_none (λ receipts. os) b none) (first_order x c first)),
     )

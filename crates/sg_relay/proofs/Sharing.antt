@@ -10,34 +10,36 @@ use Rattle.sg_gateway.specs.Datagrams.{Drops, Given, Puts, arrived_at, arrived_i
 use Rattle.sg_gateway.specs.Order.{IsOrderly}
 use Rattle.sg_gateway.specs.Ports.{call_at, has_port}
 use Rattle.sg_gateway.specs.Runs.{world_after}
-use Rattle.sg_gateway.specs.Signals.{Signal, Tick, Psk, Manual, Offered, Answered, Reject, Bye, answer_to}
+use Rattle.sg_gateway.specs.Signals.{Signal, Answered, answer_to}
 use Rattle.sg_gateway.specs.Step.{Event, Signalled, Datagram, step}
 use Rattle.sg_gateway.specs.World.{Call, World, empty}
 use Rattle.sg_mux.specs.Legs.{arrived_port, is_muxed_at, is_muxed_rtcp, leaves}
 use Rattle.sg_mux.specs.Muxed.{settled_answer, settled, signalled}
-use Rattle.sg_mux.specs.Via.{events_in, told_at}
+use Rattle.sg_mux.specs.Via.{events_in, outcomes_in, told_at}
 use Rattle.sg_mux.specs.declared.known.Known.{Known}
 use Rattle.sg_outcome.specs.declared.outcomes.Outcome.{Outcome}
 use Rattle.sg_outcome.specs.declared.outcomes.Outcome.TheVariants as outcomes
 use Rattle.sg_passages.specs.Passages.{Leaving, straight}
 use Rattle.sg_relay.specs.Asked.{Ask, asks_of}
+use Rattle.sg_relay.specs.Plain as plain
 use Rattle.sg_relay.specs.Held.{AreOfCalls, EachFits, PortsAreOfCalls, held_after}
 use Rattle.sg_relay.proofs.Accounts.{Accounts, Begun, HasFew, event_accounts}
+use Rattle.sg_relay.proofs.Asks.{asked_by, asks_of_acts}
 use Rattle.sg_relay.proofs.CallPorts.{any_of_calls, has_within, of_any, of_calls, within}
 use Rattle.sg_relay.proofs.Deeds.{flat_append}
 use Rattle.sg_relay.proofs.Held.{AreFit, after, each_fits, fit_append, fit_same, held-append}
 
 -- ---- signals: a text asks for nothing, whatever lines it has
 
-settled_asks : (calls : List (Option Known)) (o : Outcome) → asks_of (settled calls o).told ≡ asks_of o
+settled_asks : (calls : List (Option Known)) (o : Outcome) → asked_by (settled calls o).told ≡ asked_by o
 settled_asks calls (outcomes.Made id slot media) = refl
 settled_asks calls other = refl
 
-answered_asks : (calls : List (Option Known)) (os : List Outcome) → flat_map asks_of (settled_answer calls os).told ≡ flat_map asks_of os
+answered_asks : (calls : List (Option Known)) (os : List Outcome) → flat_map asked_by (settled_answer calls os).told ≡ flat_map asked_by os
 answered_asks calls [] = refl
-answered_asks calls (o ∷ os) = ap (λ (l : List Ask). l ++ flat_map asks_of os) (settled_asks calls o)
+answered_asks calls (o ∷ os) = ap (λ (l : List Ask). l ++ flat_map asked_by os) (settled_asks calls o)
 
-signalled_asks : (signal : Signal) (calls : List (Option Known)) (os : List Outcome) → flat_map asks_of (signalled signal calls os).told ≡ flat_map asks_of os
+signalled_asks : (signal : Signal) (calls : List (Option Known)) (os : List Outcome) → flat_map asked_by (signalled signal calls os).told ≡ flat_map asked_by os
 signalled_asks (Answered id noise text) calls os = answered_asks calls os
 signalled_asks other calls os = refl
 
@@ -94,7 +96,7 @@ told_accounts true known w (Datagram port from octets) accounts =
     arrived_told known port w at from octets.items (call_at w at) accounts
 
 abbrev asks_from : State → List Event → List Ask
-asks_from state es = flat_map asks_of (told_from state es)
+asks_from state es = flat_map asked_by (told_from state es)
 
 all_account : HasFew → (state : State) → ((es : List Event) → IsOrderly (state_after state es).world) → AllByRecursion Begun state.world.calls → (es : List Event)
     → AreFit (λ port. of_calls port state.world.calls) (asks_from state es) × ((port : ℕ) → held_after port (of_calls port state.world.calls) (asks_from state es) ≡ of_calls port (state_after state es).world.calls)
@@ -104,19 +106,20 @@ all_account few state orderly begun (e ∷ es) =
     let now = told_accounts state.muxes state.calls state.world e (event_accounts few state.world (orderly []) begun event (orderly (e ∷ []))) in
     let more = all_account few (next state e) (λ es. orderly (e ∷ es)) now.begun es in
     let told : List Outcome = (muxing state.muxes state.calls e (step state.world event).outcomes).told in
-    let first : List Ask = flat_map asks_of told in
+    let first : List Ask = flat_map asked_by told in
     let rest : List Ask = asks_from (next state e) es in
     let held : ℕ → Bool = λ port. of_calls port state.world.calls in
-    let both : asks_from state (e ∷ es) ≡ first ++ rest = flat_append asks_of told (told_from (next state e) es) in (
+    let both : asks_from state (e ∷ es) ≡ first ++ rest = flat_append asked_by told (told_from (next state e) es) in (
       subst (AreFit held) (sym both) (fit_append held first rest now.fit (fit_same (λ port. of_calls port (next state e).world.calls) (after held first) rest (λ port. sym (now.held port)) more.0)),
       λ port. ap (held_after port (held port)) both ∙ held-append port (held port) first rest ∙ ap (λ b. held_after port b rest) (now.held port) ∙ more.1 port,
     )
 
-pub ports_of_run : HasFew → ((es : List Event) → IsOrderly (world_after empty es)) → (muxes : Bool) (es : List Event) → PortsAreOfCalls muxes es
+pub ports_of_run : HasFew → ((es : List Event) → IsOrderly (world_after empty es)) → (muxes : Bool) (es : List Event) → PortsAreOfCalls (plain.acts muxes es) (plain.world muxes es)
 ports_of_run few orderly muxes es =
-    let all = all_account few (start muxes) (λ es. subst IsOrderly (sym (world_in muxes es)) (orderly (events_in muxes es))) tt es in record {
-      ports = subst (λ (os : List Outcome). AreOfCalls (flat_map asks_of os) (world_after empty (events_in muxes es))) (told_in muxes es)
+    let all = all_account few (start muxes) (λ es. subst IsOrderly (sym (world_in muxes es)) (orderly (events_in muxes es))) tt es in
+    let same : asks_from (start muxes) es ≡ flat_map asks_of (plain.acts muxes es) = ap (flat_map asked_by) (told_in muxes es) ∙ sym (asks_of_acts (outcomes_in muxes es)) in record {
+      ports = subst (λ asks. AreOfCalls asks (plain.world muxes es)) same
           (subst (AreOfCalls (asks_from (start muxes) es)) (world_in muxes es)
           (record { held = λ port is. any_of_calls port _ (sym (all.1 port) ∙ is); all = λ port a. all.1 port ∙ of_any port _ a }));
-      each = subst (λ (os : List Outcome). EachFits (flat_map asks_of os)) (told_in muxes es) (each_fits (asks_from (start muxes) es) all.0);
+      each = subst EachFits same (each_fits (asks_from (start muxes) es) all.0);
     }

@@ -15,6 +15,10 @@ IsDueToLink r old new = IsDueTo Link r old new None
 
 -- ---- what may be told
 
+-- of a line that couldn't be written
+abbrev pub IsOfWriting : Status → Type 0
+IsOfWriting status = (status ≡ Write) ⊎ (status ≡ NoMemory)
+
 -- of outcomes that are carried out
 abbrev pub IsOfOutcomes : Status → Type 0
 IsOfOutcomes status = (status ≡ Write) ⊎ (status ≡ Link) ⊎ (status ≡ NoMemory)

@@ -6,11 +6,10 @@ ghost use Rattle.sg_edge.specs.Told.{HasCause, Wrote};
 ghost use Rattle.sg_bridge.specs.BridgeText.{bridge_outcome_line};
 ghost use Rattle.sg_outcome.specs.OutcomeText.{outcome_line};
 ghost use Rattle.sg_relay.specs.Asked.{Sends, Tells, act_of, hold, ports_of};
-ghost use Rattle.sg_relay.specs.Causes.{IsDueTo, IsDueToLink, IsOfOutcomes};
+ghost use Rattle.sg_relay.specs.Joined.{act_of_bridge};
+ghost use Rattle.sg_relay.specs.Causes.{IsDueTo, IsDueToLink, IsOfOutcomes, IsOfWriting};
 ghost use Rattle.sg_relay.specs.Parts.{AreCarriedOut, IsHeld};
 ghost use Rattle.sg_table.specs.Handling.{outcome_of};
-ghost use Rattle.sg_trace.specs.Causes.{IsCaused};
-ghost use Rattle.sg_trace.specs.Output.{IsWritten};
 
 use sg_base::{Address, Failed, MEDIUM_PORTS};
 use sg_bridge::{BridgeOutcome, print_bridge};
@@ -161,15 +160,20 @@ pub(crate) fn pass_on<K: Sink, L: Link>(
     }
 }
 
-/// Writes the line of what a bridge tells, once it is printed, and has it passed on at once.
+/// Writes the line of what a bridge tells besides what its table does, once it is printed, and has it passed on at once.
 pub(crate) fn tell_bridge<K: Sink>(
     alloc: Global,
     outcome: &BridgeOutcome,
     sink: &mut K,
 ) -> Result<(), Status>
-    ensures told { IsWritten result (K.written sink.old) (K.written sink.new) (bridge_outcome_line outcome.now) }
-    ensures cause { IsCaused Status.Write result (K.faults sink.old) (K.faults sink.new) (K.failed sink.new) }
+    requires is { act_of_bridge outcome.now ≡ Tells [] (bridge_outcome_line outcome.now) }
+    ensures done { (out : List ℕ) × Wrote (K.written sink.old) (K.written sink.new) out × AreCarriedOut result (act_of_bridge outcome.now ∷ []) [] out }
+    ensures only { IfErr result IsOfWriting }
+    ensures write { IsDueTo Status.Write result (K.faults sink.old) (K.faults sink.new) (K.failed sink.new) }
 {
-    let line = print_bridge(alloc, outcome).map_err(|_| Status::NoMemory)?;
+    let line = match print_bridge(alloc, outcome) {
+        Err(_) => return Err(Status::NoMemory),
+        Ok(line) => line,
+    };
     write_at_once(line.as_slice(), sink)
 }

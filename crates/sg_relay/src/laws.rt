@@ -24,6 +24,5 @@ pub fn ports_are_of_calls()
 pub fn ports_of_joined_calls_are_of_calls()
     ensures { (said : List Said) → PortsAreOfCalls (joined.acts said) (joined.world said) }
 {
-    calls_in_order();
-    offers_fit_their_calls();
+    ports_are_of_calls();
 }

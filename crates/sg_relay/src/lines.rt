@@ -43,6 +43,7 @@ pub(crate) fn say<E: Exchange, K: Sink, L: Link, C: Clock, N: Noise>(
     ensures noise { IsDueTo Status.Noise result (N.faults noise.old) (N.faults noise.new) (N.failed noise.new) }
     ensures count { (C.given clock.new).count + turns.new ≤ (C.given clock.old).count + turns.old }
 {
+    E::are_in_order();
     match E::wait_at(&line) {
         Some(moment) => wait(
             alloc,

@@ -32,6 +32,7 @@ fn tick<E: Exchange, K: Sink, L: Link>(
     ensures write { IsDueTo Status.Write result (K.faults sink.old) (K.faults sink.new) (K.failed sink.new) }
     ensures link { IsDueToLink result (L.faults link.old) (L.faults link.new) }
 {
+    E::are_in_order();
     if moment <= *top {
         return Ok(());
     }
@@ -54,6 +55,7 @@ fn receive<E: Exchange, K: Sink, L: Link>(
     ensures write { IsDueTo Status.Write result (K.faults sink.old) (K.faults sink.new) (K.failed sink.new) }
     ensures link { IsDueToLink result (L.faults link.old) (L.faults link.new) }
 {
+    E::are_in_order();
     let mut pad = pad;
     match link.receive(&mut pad) {
         Err(Failed) => Err(Status::Link),
@@ -84,6 +86,7 @@ fn turn<E: Exchange, K: Sink, L: Link, C: Clock>(
     ensures clock { IsDueTo Status.Clock result (C.faults clock.old) (C.faults clock.new) (C.failed clock.new) }
     ensures count { (C.given clock.new).count ≤ (C.given clock.old).count + 1 }
 {
+    E::are_in_order();
     let moment = match clock.now() {
         Err(Failed) => return Err(Status::Clock),
         Ok(reading) => reading.min(TICK_MOST),
@@ -122,6 +125,7 @@ pub(crate) fn wait<E: Exchange, K: Sink, L: Link, C: Clock>(
     ensures clock { IsDueTo Status.Clock result (C.faults clock.old) (C.faults clock.new) (C.failed clock.new) }
     ensures count { (C.given clock.new).count + turns.new ≤ (C.given clock.old).count + turns.old }
 {
+    E::are_in_order();
     let mut pad = pad;
     'turns: while *turns > 0 {
         *turns -= 1;

@@ -1,8 +1,9 @@
 -- What a run did, by how its words were read.
-use Rattle.std.proofs.Common.{◌≡◌, ◌⊎◌, ◌≤◌, ℕ, List, [], Bool, Option, Result, Ok, Err, refl, sym, ap, ◌∙◌, subst, inl, inr, arith, eqb, true, false}
+use Rattle.std.proofs.Common.{◌≡◌, ◌⊎◌, ◌≤◌, ℕ, List, [], Bool, map, Option, Result, Ok, Err, refl, sym, ap, ◌∙◌, subst, inl, inr, arith, eqb, true, false}
 use Rattle.std.proofs.lemmas.Bool.{false≢true, eq-eqb}
 use Rattle.std.proofs.lemmas.List.{append-nil}
 use Rattle.std.proofs.lemmas.List.Elements.{All-from_recursion}
+use Rattle.sg_bridge.specs.BridgeHolds.{BridgeHolds}
 use Rattle.sg_bridge.specs.Bridged.{Crosses, GoesBothWays, StaysInside}
 use Rattle.sg_bridge.specs.Calls.{KnowsItsCalls}
 use Rattle.sg_bridge.specs.Lost.{LosesOnlySo, SettlesWhatOpens}
@@ -28,14 +29,19 @@ use Rattle.sg_passages.specs.Passages.{Passage}
 use Rattle.sg_playback.proofs.Completes.{untouched as nothing_replayed}
 use Rattle.sg_playback.specs.Replay.{IsReplay}
 use Rattle.sg_playback.specs.Replay as replays
+use Rattle.sg_relay.proofs.Deeds.{done_none, part_of}
 use Rattle.sg_relay.proofs.Holds.{holds_none}
 use Rattle.sg_relay.proofs.Order.{order_none}
+use Rattle.sg_relay.specs.Asked.{Act, IsPart, act_of}
+use Rattle.sg_relay.specs.Joined as joined
+use Rattle.sg_relay.specs.Plain as plain
 use Rattle.sg_relay.specs.Relay.{IsRelay, Passed}
 use Rattle.sg_relay.specs.Relay as relays
-use Rattle.sg_run.specs.Run.{AreTaken, HasBridged, HasCaptured, HasDone, HasMigrated, HasRelayed, HasReplayed, HasRun, HasShown, Surroundings, PlaysInBatches, of_replay}
+use Rattle.sg_relay.specs.Weaving.{Weaves}
+use Rattle.sg_run.specs.Run.{AreTaken, HasBridged, HasCaptured, HasDone, HasMigrated, HasRelayed, HasRelayedJoined, HasReplayed, HasRun, HasShown, LeavesAlone, LeavesOthersAlone, Lent, Surroundings, PlaysInBatches, of_relay, of_replay}
 use Rattle.sg_words.specs.Commands.{AreWordsOf, IsNoCommand, Words}
 use Rattle.sg_words.specs.declared.command.Command.{Command}
-use Rattle.sg_words.specs.declared.command.Command.TheVariants.{Replay, Relay, Demo, Migrate, Bridge}
+use Rattle.sg_words.specs.declared.command.Command.TheVariants.{Replay, Relay, RelayJoined, Demo, Migrate, Bridge}
 use Rattle.sg_words.specs.declared.command.Command.TheVariants as commands
 use Rattle.sg_words.specs.declared.command.CommandFault.{CommandFault}
 use Rattle.sg_words.specs.declared.command.CommandFault.TheVariants as faults
@@ -63,42 +69,65 @@ not_replayed legs muxes old = record {
   events_are = no_events muxes;
   passages_are = no_passages muxes;
   legs = λ before after is. legs before;
+  complete = λ none all rest left left' script. inr refl;
+}
+
+-- of nothing that is said
+nothing_said : BridgeHolds []
+nothing_said = record {
+  inside = All-from_recursion StaysInside [] tt;
+  crossing = All-from_recursion Crosses [] tt;
+  both_ways = All-from_recursion GoesBothWays [] tt;
+  settled = All-from_recursion SettlesWhatOpens [] tt;
+  lost = All-from_recursion LosesOnlySo [] tt;
+  members = All-from_recursion KnowsItsCalls [] tt;
+  causes = tt;
+  told = tt;
+  pairs = tt;
+  lines = tt;
+  signals = tt;
+  behind = tt;
+}
+
+-- nothing passed
+abbrev none_passed : Passed
+none_passed = record { octets = []; out = []; calls = []; readings = []; draws = [] }
+
+no_relay : {L D : Type 0} (w : Weaves L D) (acts : List D → List Act) (turns : ℕ) (old : relays.RelayTellings) → acts [] ≡ [] → (relays.woven_of w none_passed).deeds ≡ [] → IsRelay w acts NoMemory turns old old none_passed
+no_relay w acts turns old none empty = record {
+  took = took_none old.left;
+  wrote = wrote_none old.written;
+  called = called_none old.calls;
+  read = added_none old.readings;
+  drew = added_none old.draws;
+  ends = record { part = subst (λ (l : List Act). IsPart l [] []) (sym (ap acts empty ∙ none)) (part_of [] [] [] done_none); good = tt };
+  bound = omega arith;
+  most = omega arith;
+  paced = refl;
+  in_order = order_none (relays.acts_by w acts none_passed) [] refl;
 }
 
 not_relayed : (legs : (es : List Event) → LegsAreMuxed es) (muxes : Bool) (turns : ℕ) (old : Surroundings) → HasRelayed muxes turns NoMemory old old [] []
 not_relayed legs muxes turns old = record {
-  passed = record { octets = []; out = []; calls = []; readings = []; draws = [] };
-  is = record {
-    took = took_none old.left;
-    wrote = wrote_none old.written;
-    called = called_none old.calls;
-    read = added_none old.readings;
-    drew = added_none old.drawn;
-    ends = record {
-      part = record {
-        done = [];
-        others = [];
-        outcomes_are = no_outcomes muxes;
-        before = [];
-        last = [];
-        calls_are = refl;
-        lines = [];
-        piece = [];
-        out_is = refl;
-        whole = record { told = []; of_outcomes = refl; asked = refl; sent = refl; written = refl };
-        next = inl (refl, refl);
-      };
-      good = tt;
-    };
-    bound = omega arith;
-    most = omega arith;
-    paced = refl;
-    in_order = order_none (relays.outcomes_by muxes (record { octets = []; out = []; calls = []; readings = []; draws = [] })) [] refl;
-  };
+  passed = none_passed;
+  is = no_relay plain.weaves (plain.acts muxes) turns (of_relay old) (ap (map act_of) (no_outcomes muxes)) refl;
   events_are = no_events muxes;
   passages_are = no_passages muxes;
   legs = λ before after is. legs before;
-  ports = holds_none muxes (record { octets = []; out = []; calls = []; readings = []; draws = [] }) refl;
+  ports = holds_none plain.weaves (plain.world muxes) none_passed refl;
+  most = omega arith;
+  complete = λ only all rest left left' whole more link. inr refl;
+}
+
+not_relayed_joined : (turns : ℕ) (old : Surroundings) → HasRelayedJoined turns NoMemory old old [] []
+not_relayed_joined turns old = record {
+  passed = none_passed;
+  is = no_relay joined.weaves joined.acts turns (of_relay old) refl refl;
+  events_are = refl;
+  passages_are = refl;
+  holds = nothing_said;
+  ports = holds_none joined.weaves joined.world none_passed refl;
+  most = omega arith;
   complete = λ only all rest left left' whole more link. inr refl;
 }
 
@@ -107,6 +136,7 @@ not_shown calls start old = record {
   is = ([], (summary_text (demonstration calls start), refl), wrote_none old.written);
   events_are = (events_shown calls start, refl);
   passages_are = refl;
+  complete = λ none. inr refl;
 }
 
 not_migrated : (old : Surroundings) → HasMigrated NoMemory old old [] []
@@ -122,6 +152,7 @@ not_migrated old = record {
   };
   events_are = refl;
   passages_are = refl;
+  complete = λ source sink all rest left left' script. inr refl;
 }
 
 not_captured : (old : Surroundings) → HasCaptured NoMemory old old [] []
@@ -149,6 +180,7 @@ not_captured old = record {
   };
   events_are = refl;
   passages_are = refl;
+  complete = λ none all rest left left' script. inr refl;
 }
 
 not_bridged : (old : Surroundings) → HasBridged NoMemory old old [] []
@@ -159,26 +191,15 @@ not_bridged old = record {
   is = nothing_bridged (of_replay old);
   events_are = refl;
   passages_are = refl;
-  holds = record {
-    inside = All-from_recursion StaysInside [] tt;
-    crossing = All-from_recursion Crosses [] tt;
-    both_ways = All-from_recursion GoesBothWays [] tt;
-    settled = All-from_recursion SettlesWhatOpens [] tt;
-    lost = All-from_recursion LosesOnlySo [] tt;
-    members = All-from_recursion KnowsItsCalls [] tt;
-    causes = tt;
-    told = tt;
-    pairs = tt;
-    lines = tt;
-    signals = tt;
-    behind = tt;
-  };
+  holds = nothing_said;
   alike = λ none. record { said = refl; stop = refl; left = refl; events = refl; told = refl; text = refl };
+  complete = λ none all rest left left' script. inr refl;
 }
 
 none_done : (legs : (es : List Event) → LegsAreMuxed es) (command : Command) (old : Surroundings) → HasDone command NoMemory old old [] []
 none_done legs (Replay workers muxes) old = not_replayed legs muxes old
 none_done legs (Relay turns muxes) old = not_relayed legs muxes turns old
+none_done legs (RelayJoined turns) old = not_relayed_joined turns old
 none_done legs (Demo calls start workers) old = not_shown calls start old
 none_done legs Migrate old = not_migrated old
 none_done legs commands.Capture old = not_captured old
@@ -200,33 +221,9 @@ pub read_is : (read k : Command) → IsReadAs read k → read ≡ k
 read_is read k (inl is) = cc
 read_is read k (inr is) = absurd cc
 
-same_turns : (turns turns' : ℕ) (muxes muxes' : Bool) → Relay turns muxes ≡ Relay turns' muxes' → turns ≡ turns'
-same_turns turns turns' muxes muxes' is = cc
-
 -- what reading the words tells of every command that they are
 abbrev pub IsToldOf : Words → Command → Type 0
 IsToldOf words read = (k : Command) → AreWordsOf words k → IsReadAs read k
-
--- each command has a number of its own
-abbrev pub command_number : Command → ℕ
-command_number (Replay workers muxes) = 0
-command_number (Relay turns muxes) = 1
-command_number (Demo calls start workers) = 2
-command_number Migrate = 3
-command_number commands.Capture = 4
-command_number Bridge = 5
-
--- the words of one command are none of another
-pub no_other : (words : Words) (read this other : Command) → IsToldOf words read → read ≡ this → eqb (command_number this) (command_number other) ≡ false → AreWordsOf words other → ⊥
-no_other words read this other told is differs are =
-    let same : this ≡ other = sym is ∙ read_is read other (told other are) in
-    false≢true (sym differs ∙ eq-eqb (command_number this) (command_number other) (ap command_number same))
-
--- a relay has as many turns as its words say
-pub turns_are : (words : Words) (read : Command) (turns turns' : ℕ) (muxes muxes' : Bool) → IsToldOf words read → read ≡ Relay turns muxes
-    → AreWordsOf words (Relay turns' muxes') → turns ≡ turns'
-turns_are words read turns turns' muxes muxes' told is are =
-    same_turns turns turns' muxes muxes' (sym is ∙ read_is read (Relay turns' muxes') (told (Relay turns' muxes') are))
 
 -- ---- what was run
 
@@ -235,6 +232,23 @@ pub has_run : (words : Words) (read this : Command) (status : Status) (old new :
 has_run words read this status old new events passages told is done =
     λ command are. subst (λ k. HasDone k status old new events passages) (sym is ∙ read_is read command (told command are)) done
 
+-- what it leaves alone
+pub leaves : {S K L C N : Type 0} (words : Words) (read this : Command) (old new : Lent S K L C N) → IsToldOf words read → read ≡ this → LeavesAlone this old new → LeavesOthersAlone words old new
+leaves words read this old new told is alone = λ command are. subst (λ k. LeavesAlone k old new) (sym is ∙ read_is read command (told command are)) alone
+
+-- nothing was touched
+pub leaves_all : {S K L C N : Type 0} (words : Words) (lent : Lent S K L C N) → LeavesOthersAlone words lent lent
+leaves_all words lent = λ command are. none_touched command
+  where
+    none_touched : (command : Command) → LeavesAlone command lent lent
+    none_touched (Replay workers muxes) = (refl, refl)
+    none_touched (Relay turns muxes) = tt
+    none_touched (RelayJoined turns) = tt
+    none_touched (Demo calls start workers) = (refl, refl, refl, refl)
+    none_touched Migrate = (refl, refl, refl)
+    none_touched commands.Capture = (refl, refl)
+    none_touched Bridge = (refl, refl)
+
 -- all of a demonstration's events were taken
 pub all_taken : (status : Status) (events : List Event) → AreTaken status events events
 all_taken Done events = refl
@@ -242,63 +256,9 @@ all_taken other events = ([], sym (append-nil events))
 
 -- ---- what a command doesn't answer
 
-replay_not : (muxes : Bool) (other status : Status) (old new : replays.ReplayTellings) (octets draws out : List ℕ) → (IsReplay muxes other old new octets draws out → ⊥)
-    → IsReplay muxes status old new octets draws out → status ≡ other → ⊥
-replay_not muxes other status old new octets draws out isnt run is = isnt (subst (λ s. IsReplay muxes s old new octets draws out) is run)
-
-pub replay_not_usage : (muxes : Bool) (status : Status) (old new : replays.ReplayTellings) (octets draws out : List ℕ) → IsReplay muxes status old new octets draws out → status ≡ Usage → ⊥
-replay_not_usage muxes status old new octets draws out run is = replay_not muxes Usage status old new octets draws out (λ r. r.ends) run is
-
-pub replay_not_link : (muxes : Bool) (status : Status) (old new : replays.ReplayTellings) (octets draws out : List ℕ) → IsReplay muxes status old new octets draws out → status ≡ Link → ⊥
-replay_not_link muxes status old new octets draws out run is = replay_not muxes Link status old new octets draws out (λ r. r.ends) run is
-
-pub replay_not_clock : (muxes : Bool) (status : Status) (old new : replays.ReplayTellings) (octets draws out : List ℕ) → IsReplay muxes status old new octets draws out → status ≡ Clock → ⊥
-replay_not_clock muxes status old new octets draws out run is = replay_not muxes Clock status old new octets draws out (λ r. r.ends) run is
-
-migration_not : (other status : Status) (old new : migrations.MigrationTellings) (octets out : List ℕ) → (IsMigration other old new octets out → ⊥)
-    → IsMigration status old new octets out → status ≡ other → ⊥
-migration_not other status old new octets out isnt run is = isnt (subst (λ s. IsMigration s old new octets out) is run)
-
-pub migration_not_usage : (status : Status) (old new : migrations.MigrationTellings) (octets out : List ℕ) → IsMigration status old new octets out → status ≡ Usage → ⊥
-migration_not_usage status old new octets out run is = migration_not Usage status old new octets out (λ r. r.ends.0) run is
-
-pub migration_not_link : (status : Status) (old new : migrations.MigrationTellings) (octets out : List ℕ) → IsMigration status old new octets out → status ≡ Link → ⊥
-migration_not_link status old new octets out run is = migration_not Link status old new octets out (λ r. r.ends.0) run is
-
-pub migration_not_clock : (status : Status) (old new : migrations.MigrationTellings) (octets out : List ℕ) → IsMigration status old new octets out → status ≡ Clock → ⊥
-migration_not_clock status old new octets out run is = migration_not Clock status old new octets out (λ r. r.ends.0) run is
-
-pub migration_not_noise : (status : Status) (old new : migrations.MigrationTellings) (octets out : List ℕ) → IsMigration status old new octets out → status ≡ Noise → ⊥
-migration_not_noise status old new octets out run is = migration_not Noise status old new octets out (λ r. r.quiet refl) run is
-
-capture_not : (other status : Status) (old new : replays.ReplayTellings) (octets draws out : List ℕ) → (IsCapture other old new octets draws out → ⊥)
-    → IsCapture status old new octets draws out → status ≡ other → ⊥
-capture_not other status old new octets draws out isnt run is = isnt (subst (λ s. IsCapture s old new octets draws out) is run)
-
-pub capture_not_usage : (status : Status) (old new : replays.ReplayTellings) (octets draws out : List ℕ) → IsCapture status old new octets draws out → status ≡ Usage → ⊥
-capture_not_usage status old new octets draws out run is = capture_not Usage status old new octets draws out (λ r. r.ends) run is
-
-pub capture_not_link : (status : Status) (old new : replays.ReplayTellings) (octets draws out : List ℕ) → IsCapture status old new octets draws out → status ≡ Link → ⊥
-capture_not_link status old new octets draws out run is = capture_not Link status old new octets draws out (λ r. r.ends) run is
-
-pub capture_not_clock : (status : Status) (old new : replays.ReplayTellings) (octets draws out : List ℕ) → IsCapture status old new octets draws out → status ≡ Clock → ⊥
-capture_not_clock status old new octets draws out run is = capture_not Clock status old new octets draws out (λ r. r.ends) run is
-
-bridge_not : (other status : Status) (old new : replays.ReplayTellings) (octets draws out : List ℕ) → (IsBridge other old new octets draws out → ⊥)
-    → IsBridge status old new octets draws out → status ≡ other → ⊥
-bridge_not other status old new octets draws out isnt run is = isnt (subst (λ s. IsBridge s old new octets draws out) is run)
-
-pub bridge_not_usage : (status : Status) (old new : replays.ReplayTellings) (octets draws out : List ℕ) → IsBridge status old new octets draws out → status ≡ Usage → ⊥
-bridge_not_usage status old new octets draws out run is = bridge_not Usage status old new octets draws out (λ r. r.ends.0) run is
-
-pub bridge_not_link : (status : Status) (old new : replays.ReplayTellings) (octets draws out : List ℕ) → IsBridge status old new octets draws out → status ≡ Link → ⊥
-bridge_not_link status old new octets draws out run is = bridge_not Link status old new octets draws out (λ r. r.ends.0) run is
-
-pub bridge_not_clock : (status : Status) (old new : replays.ReplayTellings) (octets draws out : List ℕ) → IsBridge status old new octets draws out → status ≡ Clock → ⊥
-bridge_not_clock status old new octets draws out run is = bridge_not Clock status old new octets draws out (λ r. r.ends.0) run is
-
-pub relay_not_usage : (muxes : Bool) (status : Status) (turns : ℕ) (old new : relays.RelayTellings) (p : Passed) → IsRelay muxes status turns old new p → status ≡ Usage → ⊥
-relay_not_usage muxes status turns old new p run is = (subst (λ s. IsRelay muxes s turns old new p) is run).ends
+-- how it ends isn't so of this status
+pub never : (P : Status → Type 0) (other status : Status) → (P other → ⊥) → P status → status ≡ other → ⊥
+never P other status isnt ends is = isnt (subst P is ends)
 
 -- a demonstration is done, or the sink failed or memory ran out
 abbrev IsOfDemo : Status → Type 0
@@ -309,25 +269,6 @@ of_demo Done written written' octets shown = inl refl
 of_demo Write written written' octets shown = inr (inl refl)
 of_demo NoMemory written written' octets shown = inr (inr refl)
 of_demo other written written' octets shown = absurd shown
-
-demo_not : (other status : Status) (written written' : Tally) (octets : List ℕ) → (IsShown other written written' octets → ⊥)
-    → IsShown status written written' octets → status ≡ other → ⊥
-demo_not other status written written' octets isnt shown is = isnt (subst (λ s. IsShown s written written' octets) is shown)
-
-pub demo_not_usage : (status : Status) (written written' : Tally) (octets : List ℕ) → IsShown status written written' octets → status ≡ Usage → ⊥
-demo_not_usage status written written' octets shown is = demo_not Usage status written written' octets (λ s. s) shown is
-
-pub demo_not_read : (status : Status) (written written' : Tally) (octets : List ℕ) → IsShown status written written' octets → status ≡ Read → ⊥
-demo_not_read status written written' octets shown is = demo_not Read status written written' octets (λ s. s) shown is
-
-pub demo_not_link : (status : Status) (written written' : Tally) (octets : List ℕ) → IsShown status written written' octets → status ≡ Link → ⊥
-demo_not_link status written written' octets shown is = demo_not Link status written written' octets (λ s. s) shown is
-
-pub demo_not_clock : (status : Status) (written written' : Tally) (octets : List ℕ) → IsShown status written written' octets → status ≡ Clock → ⊥
-demo_not_clock status written written' octets shown is = demo_not Clock status written written' octets (λ s. s) shown is
-
-pub demo_not_noise : (status : Status) (written written' : Tally) (octets : List ℕ) → IsShown status written written' octets → status ≡ Noise → ⊥
-demo_not_noise status written written' octets shown is = demo_not Noise status written written' octets (λ s. s) shown is
 
 -- where the sink didn't fail, a demonstration is done, or memory ran out
 pub demo_done : (status : Status) (written written' : Tally) (octets : List ℕ) (old new : ℕ) (failed : Option Bool) → IsShown status written written' octets

@@ -1,15 +1,15 @@
 -- What a run did, by the command that its words are.
-use Rattle.std.specs.Prelude.{◌≡◌, ◌⊎◌, ℕ, Bool, List, []}
+use Rattle.std.specs.Prelude.{◌≡◌, ◌⊎◌, ◌≤◌, ◌+◌, ℕ, Bool, List, [], ⊤}
 use Rattle.sg_bridge.specs.BridgeHolds.{BridgeHolds}
 use Rattle.sg_bridge.specs.Bridged.{bridged_events}
-use Rattle.sg_bridging.specs.Bridge.{IsBridge, bridge_trace}
+use Rattle.sg_bridging.specs.Bridge.{IsBridge, IsCompleteBridge, bridge_trace}
 use Rattle.sg_bridging.specs.Replayed.{IsPlayedAlike, JoinsNone}
-use Rattle.sg_capture.specs.Capturing.{IsCapture}
+use Rattle.sg_capture.specs.Capturing.{IsCapture, IsCompleteCapture}
 use Rattle.sg_trace.specs.Captured.{captured, captured_events}
 use Rattle.sg_trace.specs.Trace.{replayed}
 use Rattle.sg_trace.specs.Output.{IsPrefixOf}
 use Rattle.sg_trace.specs.declared.status.Status.{Status}
-use Rattle.sg_trace.specs.declared.status.Status.TheVariants.{Done}
+use Rattle.sg_trace.specs.declared.status.Status.TheVariants.{Done, NoMemory}
 use Rattle.sg_demo.specs.Demonstration.{demonstration, events_shown}
 use Rattle.sg_demo.specs.Text.{IsShown, summary_text}
 use Rattle.sg_edge.specs.Links.{LinkTally}
@@ -20,7 +20,7 @@ use Rattle.sg_migrate.specs.Migration as migrations
 use Rattle.sg_mux.specs.Latest.{LegsAreMuxedThroughout}
 use Rattle.sg_mux.specs.Via.{events_in as table_events, passages_in}
 use Rattle.sg_passages.specs.Passages.{Passage, plain_passages}
-use Rattle.sg_playback.specs.Replay.{IsReplay}
+use Rattle.sg_playback.specs.Replay.{IsCompleteReplay, IsReplay}
 use Rattle.sg_playback.specs.Replay as replays
 use Rattle.sg_relay.specs.Completeness.{IsCompleteRelay}
 use Rattle.sg_relay.specs.Joined as joined
@@ -58,8 +58,15 @@ of_relay o = record { left = o.left; written = o.written; calls = o.calls; readi
 abbrev pub of_migration : Surroundings → migrations.MigrationTellings
 of_migration o = record { left = o.left; written = o.written }
 
+-- neither source, sink nor noise has failed
+pub record NoneOfScriptsFailed (old new : Failures) : Type 0 where
+  pub source : ¬ Rose old.source new.source
+  pub sink : ¬ Rose old.sink new.sink
+  pub noise : ¬ Rose old.noise new.noise
+
 -- A replay read, drew and wrote these octets; these are its events as they come to the gateway, and what is told of them. The
--- legs that share their ports, where they may, are after each event those of which offers and answers say so.
+-- legs that share their ports, where they may, are after each event those of which offers and answers say so. Where nothing fails
+-- it plays its script to the end, or memory runs out.
 pub record HasReplayed (muxes : Bool) (status : Status) (old new : Surroundings) (events : List Event) (passages : List Passage) : Type 0 where
   pub octets : List ℕ
   pub draws : List ℕ
@@ -68,6 +75,7 @@ pub record HasReplayed (muxes : Bool) (status : Status) (old new : Surroundings)
   pub events_are : events ≡ table_events muxes (replayed octets draws).events
   pub passages_are : passages ≡ passages_in muxes (replayed octets draws).events
   pub legs : LegsAreMuxedThroughout (replayed octets draws).events
+  pub complete : NoneOfScriptsFailed old.failures new.failures → IsCompleteReplay status old.left new.left
 
 -- nothing but the link has failed
 pub record OnlyLinkFailed (old new : Failures) : Type 0 where
@@ -77,8 +85,8 @@ pub record OnlyLinkFailed (old new : Failures) : Type 0 where
   pub noise : ¬ Rose old.noise new.noise
 
 -- This passed between a relay and the outside; these are its events as they come to the gateway, and what is told of them.
--- It listened at the ports of the calls that were there, and at no others. Where nothing fails, sends aside, it handles its
--- script to the end, or memory runs out.
+-- It listened at the ports of the calls that were there, and at no others, and took so many turns at most. Where nothing fails,
+-- sends aside, it handles its script to the end, or memory runs out.
 pub record HasRelayed (muxes : Bool) (turns : ℕ) (status : Status) (old new : Surroundings) (events : List Event) (passages : List Passage) : Type 0 where
   pub passed : Passed
   pub is : IsRelay plain.weaves (plain.acts muxes) status turns (of_relay old) (of_relay new) passed
@@ -86,6 +94,7 @@ pub record HasRelayed (muxes : Bool) (turns : ℕ) (status : Status) (old new : 
   pub passages_are : passages ≡ passages_in muxes (woven_of plain.weaves passed).deeds
   pub legs : LegsAreMuxedThroughout (woven_of plain.weaves passed).deeds
   pub ports : HoldsItsCallsPorts plain.weaves (plain.world muxes) passed
+  pub most : new.readings.count ≤ old.readings.count + (turns + 1)
   pub complete : OnlyLinkFailed old.failures new.failures
       → IsCompleteRelay plain.weaves status turns old.left new.left old.failures.link new.failures.link passed
 
@@ -99,6 +108,7 @@ pub record HasRelayedJoined (turns : ℕ) (status : Status) (old new : Surroundi
   pub passages_are : passages ≡ plain_passages events
   pub holds : BridgeHolds (woven_of joined.weaves passed).deeds
   pub ports : HoldsItsCallsPorts joined.weaves joined.world passed
+  pub most : new.readings.count ≤ old.readings.count + (turns + 1)
   pub complete : OnlyLinkFailed old.failures new.failures
       → IsCompleteRelay joined.weaves status turns old.left new.left old.failures.link new.failures.link passed
 
@@ -107,21 +117,27 @@ abbrev pub AreTaken : Status → List Event → List Event → Type 0
 AreTaken Done events all = events ≡ all
 AreTaken other events all = IsPrefixOf events all
 
--- The nine lines of the demonstration were written, or a prefix of them; these are its events, told as they are.
+-- The nine lines of the demonstration were written, or a prefix of them; these are its events, told as they are. Where the sink
+-- doesn't fail all are written, or memory runs out.
 pub record HasShown (calls start : ℕ) (status : Status) (old new : Surroundings) (events : List Event) (passages : List Passage) : Type 0 where
   pub is : IsShown status old.written new.written (summary_text (demonstration calls start))
   pub events_are : AreTaken status events (events_shown calls start)
   pub passages_are : passages ≡ plain_passages events
+  pub complete : ¬ Rose old.failures.sink new.failures.sink → (status ≡ Done) ⊎ (status ≡ NoMemory)
 
--- A migration read and wrote these octets. It hands no event to the gateway.
+-- A migration read and wrote these octets. It hands no event to the gateway. Where nothing fails it writes its script to the end,
+-- or memory runs out.
 pub record HasMigrated (status : Status) (old new : Surroundings) (events : List Event) (passages : List Passage) : Type 0 where
   pub octets : List ℕ
   pub out : List ℕ
   pub is : IsMigration status (of_migration old) (of_migration new) octets out
   pub events_are : events ≡ []
   pub passages_are : passages ≡ []
+  pub complete : ¬ Rose old.failures.source new.failures.source → ¬ Rose old.failures.sink new.failures.sink
+      → migrations.IsCompleteMigration status old.left new.left
 
--- A script and the capture behind it were read, drew and wrote these octets; these are their events, told as they are.
+-- A script and the capture behind it were read, drew and wrote these octets; these are their events, told as they are. Where
+-- nothing fails they are played to the end, or memory runs out.
 pub record HasCaptured (status : Status) (old new : Surroundings) (events : List Event) (passages : List Passage) : Type 0 where
   pub octets : List ℕ
   pub draws : List ℕ
@@ -129,10 +145,12 @@ pub record HasCaptured (status : Status) (old new : Surroundings) (events : List
   pub is : IsCapture status (of_replay old) (of_replay new) octets draws out
   pub events_are : events ≡ captured_events (captured octets draws).occurrences
   pub passages_are : passages ≡ plain_passages events
+  pub complete : NoneOfScriptsFailed old.failures new.failures → IsCompleteCapture status old.left new.left
 
 -- A bridge read, drew and wrote these octets, and these are its events at the gateway, each inner one too, with what the
 -- gateway tells of them; what is written is told by the definitions of bridges. What a bridge holds of joined calls is so of
--- its lines, and where no line joins or parts it is played as a replay.
+-- its lines, and where no line joins or parts it is played as a replay. Where nothing fails it is played to the end, or memory runs
+-- out.
 pub record HasBridged (status : Status) (old new : Surroundings) (events : List Event) (passages : List Passage) : Type 0 where
   pub octets : List ℕ
   pub draws : List ℕ
@@ -142,6 +160,7 @@ pub record HasBridged (status : Status) (old new : Surroundings) (events : List 
   pub passages_are : passages ≡ plain_passages events
   pub holds : BridgeHolds (bridge_trace octets draws).deeds
   pub alike : JoinsNone octets → IsPlayedAlike octets draws
+  pub complete : NoneOfScriptsFailed old.failures new.failures → IsCompleteBridge status old.left new.left
 
 -- the command was run, and these are the run's events and what is told of them
 abbrev pub HasDone : Command → Status → Surroundings → Surroundings → List Event → List Passage → Type 0
@@ -160,3 +179,26 @@ HasRun words status old new events passages = (command : Command) → AreWordsOf
 -- the words of a command whose datagrams wait for a batch: telling those that wait may fail behind a failed read
 abbrev pub PlaysInBatches : Words → Type 0
 PlaysInBatches words = ((workers : ℕ) × (muxes : Bool) × AreWordsOf words (Replay workers muxes)) ⊎ AreWordsOf words Capture
+
+-- ---- what a command leaves alone
+
+-- the things outside that a run is lent
+pub record Lent (S K L C N : Type 0) : Type 0 where
+  pub source : S
+  pub sink : K
+  pub link : L
+  pub clock : C
+  pub noise : N
+
+abbrev pub LeavesAlone : {S K L C N : Type 0} → Command → Lent S K L C N → Lent S K L C N → Type 0
+LeavesAlone (Replay workers muxes) old new = (new.link ≡ old.link) × (new.clock ≡ old.clock)
+LeavesAlone (Relay turns muxes) old new = ⊤
+LeavesAlone (RelayJoined turns) old new = ⊤
+LeavesAlone (Demo calls start workers) old new = (new.source ≡ old.source) × (new.link ≡ old.link) × (new.clock ≡ old.clock) × (new.noise ≡ old.noise)
+LeavesAlone Migrate old new = (new.link ≡ old.link) × (new.clock ≡ old.clock) × (new.noise ≡ old.noise)
+LeavesAlone Capture old new = (new.link ≡ old.link) × (new.clock ≡ old.clock)
+LeavesAlone Bridge old new = (new.link ≡ old.link) × (new.clock ≡ old.clock)
+
+-- whatever command the words are
+abbrev pub LeavesOthersAlone : {S K L C N : Type 0} → Words → Lent S K L C N → Lent S K L C N → Type 0
+LeavesOthersAlone words old new = (command : Command) → AreWordsOf words command → LeavesAlone command old new

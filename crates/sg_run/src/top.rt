@@ -1,33 +1,27 @@
 //! The top call.
 
-ghost use Rattle.std.specs.Prelude.{◌≡◌, ◌⊎◌, ◌≤◌, ◌+◌, ◌^◌, ℕ, Bool, List, Option, length, map, string_bytes, None};
+ghost use Rattle.std.specs.Prelude.{◌≡◌, ◌⊎◌, ◌≤◌, ◌+◌, ◌^◌, ℕ, List, Option, length, map, string_bytes, None};
 ghost use Rattle.sg_audit.specs.Pages.{AuditorsPages};
 ghost use Rattle.sg_audit.specs.Seen.{seen_of};
-ghost use Rattle.sg_bridging.specs.Bridge as bridges;
 ghost use Rattle.sg_base.specs.declared.addresses.Address.{Address};
 ghost use Rattle.sg_base.specs.declared.addresses.CallId.{CallId};
 ghost use Rattle.sg_base.specs.declared.addresses.Side.{Side};
-ghost use Rattle.sg_capture.specs.Capturing as captures;
 ghost use Rattle.sg_trace.specs.CaptureHolds.{CaptureHolds};
 ghost use Rattle.sg_trace.specs.Causes.{EndedBy, HasFailed};
 ghost use Rattle.sg_trace.specs.Loop.{IsWant};
 ghost use Rattle.sg_trace.specs.Trace.{replayed};
-ghost use Rattle.sg_edge.specs.Told.{Rose};
 ghost use Rattle.sg_gateway.specs.Octets.{Octets};
 ghost use Rattle.sg_gateway.specs.Runs.{outcomes};
 ghost use Rattle.sg_gateway.specs.Step.{Event};
 ghost use Rattle.sg_migrate.specs.Migrated.{IsOfVersionOne, migrated};
-ghost use Rattle.sg_migrate.specs.Migration as migrations;
 ghost use Rattle.sg_migrate.specs.VersionTwo.{IsVersionTwo, TicksFirst};
 ghost use Rattle.sg_mux.specs.Lined.{IsToldWithLines};
 ghost use Rattle.sg_mux.specs.Sharing.{SharesAsTold};
 ghost use Rattle.sg_mux.specs.declared.known.Known.{Known};
 ghost use Rattle.sg_passages.specs.Headline.{Headline};
 ghost use Rattle.sg_passages.specs.Passages.{Passage};
-ghost use Rattle.sg_playback.specs.Replay.{IsCompleteReplay};
-ghost use Rattle.sg_run.specs.Run.{HasRun, PlaysInBatches};
-ghost use Rattle.sg_words.specs.Commands.{AreWordsOf, IsNoCommand};
-ghost use Rattle.sg_words.specs.declared.command.Command.TheVariants.{Replay, Relay, RelayJoined, Demo, Migrate, Capture, Bridge};
+ghost use Rattle.sg_run.specs.Run.{HasRun, LeavesOthersAlone, PlaysInBatches};
+ghost use Rattle.sg_words.specs.Commands.{IsNoCommand};
 
 use sg_audit::the_pages_hold;
 use sg_bridge::the_bridge_holds;
@@ -94,32 +88,13 @@ pub fn run<R: Threads + Sync, S: Source, K: Sink, L: Link, C: Clock, N: Noise, G
         × Headline events passages
         × AuditorsPages (map seen_of passages) }
     ensures given { (S.left source.new).count ≤ (S.left source.old).count + (2 ^ 30 + 1) }
-    ensures turns { (turns : ℕ) (muxes : Bool) → AreWordsOf (map string_bytes words.now) (Relay turns muxes) → (C.given clock.new).count ≤ (C.given clock.old).count + (turns + 1) }
-    ensures turns_joined { (turns : ℕ) → AreWordsOf (map string_bytes words.now) (RelayJoined turns) → (C.given clock.new).count ≤ (C.given clock.old).count + (turns + 1) }
     ensures usage { result ≡ Status.Usage → IsNoCommand (map string_bytes words.now) }
     ensures no_command { IsNoCommand (map string_bytes words.now) → (result ≡ Status.Usage) ⊎ (result ≡ Status.NoMemory) }
     ensures untouched { IsNoCommand (map string_bytes words.now)
         → (source.new ≡ source.old) × (sink.new ≡ sink.old) × (link.new ≡ link.old) × (clock.new ≡ clock.old) × (noise.new ≡ noise.old) }
-    ensures replay_untouched { (workers : ℕ) (muxes : Bool) → AreWordsOf (map string_bytes words.now) (Replay workers muxes) → (link.new ≡ link.old) × (clock.new ≡ clock.old) }
-    ensures replay_complete { (workers : ℕ) (muxes : Bool) → AreWordsOf (map string_bytes words.now) (Replay workers muxes)
-        → ¬ Rose (S.faults source.old) (S.faults source.new) → ¬ Rose (K.faults sink.old) (K.faults sink.new) → ¬ Rose (N.faults noise.old) (N.faults noise.new)
-        → IsCompleteReplay result (S.left source.old) (S.left source.new) }
-    ensures demo_untouched { (calls start workers : ℕ) → AreWordsOf (map string_bytes words.now) (Demo calls start workers)
-        → (source.new ≡ source.old) × (link.new ≡ link.old) × (clock.new ≡ clock.old) × (noise.new ≡ noise.old) }
-    ensures demo_complete { (calls start workers : ℕ) → AreWordsOf (map string_bytes words.now) (Demo calls start workers)
-        → ¬ Rose (K.faults sink.old) (K.faults sink.new) → (result ≡ Status.Done) ⊎ (result ≡ Status.NoMemory) }
-    ensures migrate_untouched { AreWordsOf (map string_bytes words.now) Migrate → (link.new ≡ link.old) × (clock.new ≡ clock.old) × (noise.new ≡ noise.old) }
-    ensures migrate_complete { AreWordsOf (map string_bytes words.now) Migrate
-        → ¬ Rose (S.faults source.old) (S.faults source.new) → ¬ Rose (K.faults sink.old) (K.faults sink.new)
-        → migrations.IsCompleteMigration result (S.left source.old) (S.left source.new) }
-    ensures capture_untouched { AreWordsOf (map string_bytes words.now) Capture → (link.new ≡ link.old) × (clock.new ≡ clock.old) }
-    ensures capture_complete { AreWordsOf (map string_bytes words.now) Capture
-        → ¬ Rose (S.faults source.old) (S.faults source.new) → ¬ Rose (K.faults sink.old) (K.faults sink.new) → ¬ Rose (N.faults noise.old) (N.faults noise.new)
-        → captures.IsCompleteCapture result (S.left source.old) (S.left source.new) }
-    ensures bridge_untouched { AreWordsOf (map string_bytes words.now) Bridge → (link.new ≡ link.old) × (clock.new ≡ clock.old) }
-    ensures bridge_complete { AreWordsOf (map string_bytes words.now) Bridge
-        → ¬ Rose (S.faults source.old) (S.faults source.new) → ¬ Rose (K.faults sink.old) (K.faults sink.new) → ¬ Rose (N.faults noise.old) (N.faults noise.new)
-        → bridges.IsCompleteBridge result (S.left source.old) (S.left source.new) }
+    ensures alone { LeavesOthersAlone (map string_bytes words.now)
+        (record { source = source.old; sink = sink.old; link = link.old; clock = clock.old; noise = noise.old })
+        (record { source = source.new; sink = sink.new; link = link.new; clock = clock.new; noise = noise.new }) }
     ensures migrated_alike { (octets draws : List ℕ) → IsOfVersionOne octets → length (migrated octets) ≤ 2 ^ 30
         → outcomes (replayed (migrated octets) draws).events ≡ outcomes (replayed octets draws).events }
     ensures migrated_two { (octets : List ℕ) → IsVersionTwo octets }

@@ -1,13 +1,13 @@
 -- What a table whose calls may be joined tells, one thing that is said after the other.
-use Rattle.std.specs.Prelude.{◌≡◌, ℕ, List, [], ◌∷◌}
+use Rattle.std.specs.Prelude.{◌≡◌, ℕ, List, [], ◌∷◌, option_to_list}
 use Rattle.std.specs.List.{flat_map}
-use Rattle.sg_base.specs.declared.addresses.Address.{Address}
 use Rattle.sg_bridge.specs.Bridged.{Bridging, Happens, Said, bridging, bridgings_from}
-use Rattle.sg_bridge.specs.Pairs.{Members, no_members}
+use Rattle.sg_bridge.specs.Pairs.{Members, after_outcome, no_members}
 use Rattle.sg_bridge.specs.declared.outcomes.BridgeOutcome.{BridgeOutcome}
 use Rattle.sg_bridge.specs.declared.outcomes.BridgeOutcome.TheVariants as tells
 use Rattle.sg_gateway.specs.Step.{Event}
 use Rattle.sg_gateway.specs.World.{World, empty}
+use Rattle.sg_outcome.specs.declared.outcomes.Outcome.{Outcome}
 use Rattle.sg_outcome.specs.declared.outcomes.Outcome.TheVariants.{Dropped, Out}
 use Rattle.sg_switchboard.specs.declared.switched.Switched.{Switched}
 use Rattle.sg_switchboard.specs.declared.switched.SwitchedEnd.{SwitchedEnd}
@@ -44,6 +44,10 @@ told_from s said = flat_map (λ b. b.told) (bridgings_from s.world s.calls said)
 abbrev pub state_after : State → List Said → State
 state_after s [] = s
 state_after s (x ∷ xs) = state_after (after (bridging s.world s.calls x)) xs
+
+-- an outcome of the table, and the pair that it parts
+abbrev pub told_next : Members → Outcome → List BridgeOutcome
+told_next calls o = tells.Table o ∷ option_to_list (after_outcome calls o).parted
 
 -- ---- one thing that is said
 

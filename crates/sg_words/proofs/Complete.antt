@@ -1,5 +1,5 @@
 -- Words of a command are read as that command.
-use Rattle.std.proofs.Common.{◌≡◌, ◌⊎◌, ◌≤◌, ◌<◌, ◌^◌, ◌==◌, ℕ, Bool, true, false, cond, List, [], ◌∷◌, codes, Option, Some, None, refl, sym, ap, ◌∙◌, inl, inr, arith, length}
+use Rattle.std.proofs.Common.{◌≡◌, ◌⊎◌, ◌≤◌, ◌<◌, ◌^◌, ◌==◌, ℕ, Bool, true, false, cond, List, [], ◌∷◌, codes, Option, Some, None, refl, sym, ap, ap₂, ◌∙◌, inl, inr, arith, length}
 use Rattle.std.specs.Prelude.{nat_le, option_map, option_and_then}
 use Rattle.std.specs.Str.{bytes_eq}
 use Rattle.std.specs.Fmt.{decimal}
@@ -15,13 +15,13 @@ use Rattle.sg_base.proofs.FourNumbers.{decimal_lacks}
 use Rattle.sg_words.proofs.Among.{either, of_map}
 use Rattle.sg_words.proofs.Entered.{IsSeen}
 use Rattle.sg_words.proofs.ReadWords.{IsValue, value_of}
-use Rattle.sg_words.proofs.Shapes.{bridge_alone, capture_alone, demo_with, demo_without, flag_text, migrate_alone, relay_with, replay_with, replay_without}
+use Rattle.sg_words.proofs.Shapes.{bridge_alone, capture_alone, demo_with, demo_without, flag_text, migrate_alone, relay_joined_with, relay_with, replay_with, replay_without}
 use Rattle.sg_words.proofs.Written.{AreOthers, HaveNoEnd, IsOption, ended_known, itself, option_known}
 use Rattle.sg_words.specs.Commands.{AreWordsOf, IsOneOf, IsWorkers, Text, Words, closed, with_end_mark, mux_option, with_option, with_workers}
 use Rattle.sg_words.specs.Grammar.{srtpgw}
-use Rattle.sg_words.specs.Reading.{are_ended, command_by, demo_by, first_said, have_option, is_joined, is_set, no_fault, positive, relay_by, replay_by, text_in, workers_by}
+use Rattle.sg_words.specs.Reading.{are_ended, command_by, demo_by, first_said, have_option, is_joined, is_set, no_fault, positive, relay_by, relay_for, relay_options, replay_by, text_in, workers_by}
 use Rattle.sg_words.specs.declared.command.Command.{Command}
-use Rattle.sg_words.specs.declared.command.Command.TheVariants.{Replay, Relay, Demo, Migrate, Capture, Bridge}
+use Rattle.sg_words.specs.declared.command.Command.TheVariants.{Replay, Relay, RelayJoined, Demo, Migrate, Capture, Bridge}
 use Rattle.sg_words.specs.declared.command.CommandFault.{CommandFault}
 use Rattle.sg_words.specs.declared.command.CommandFault.TheVariants.{NoMemory}
 use Rattle.sg_words.specs.declared.spelling.Kind.{Kind}
@@ -119,18 +119,32 @@ replay_of n mux rest good among =
     ]
 
 abbrev relay_from : Words → List (Option Text) → Option Command
-relay_from rest (turns ∷ mux ∷ []) = relay_by rest turns (is_set mux)
+relay_from rest (turns ∷ mux ∷ bridge ∷ []) = relay_by rest turns (is_set mux) (is_set bridge)
 relay_from rest other = None
 
-relay_of : (n : ℕ) (mux : Bool) (rest : Words) → 1 ≤ n → n ≤ 1000000000 → IsOneOf rest (with_option (codes "--turns") (decimal n) closed (mux_option mux))
-    → command_by (codes "relay" ∷ rest) ≡ Some (Relay n mux)
-relay_of n mux rest some few among =
-    let seen = relay_with (decimal n) (number n (omega (arith, few))).value mux rest among in
+-- where clap finds the number of turns, and which of the two options without a value are set
+relay_known : (n : ℕ) (mux bridge : Bool) (options rest : Words) → (1 ≤ n) × (n ≤ 1000000000) → relay_options mux bridge ≡ Some options
+    → IsSeen (codes "relay") (codes "turns" ∷ codes "mux" ∷ codes "bridge" ∷ []) (Some (decimal n) ∷ Some (flag_text mux) ∷ Some (flag_text bridge) ∷ []) rest
+    → have_option rest (codes "--turns") (decimal n) Options options ≡ true → command_by (codes "relay" ∷ rest) ≡ Some (relay_for mux bridge n)
+relay_known n mux bridge options rest good few seen written =
     let wide : 1000000000 < 10 ^ 64 = omega arith in
-    found_by (codes "relay" ∷ rest) (Relay n mux) seen.taken
-    (ap (relay_from rest) seen.texts ∙ ap (relay_by rest (Some (decimal n))) (flag_is mux)
-    ∙ cond-true _ _ _ (option_known (codes "--turns") (decimal n) (turns_option (decimal n)) Options rest (mux_option mux) (mux_no_end mux) (mux_no_turns (decimal n) mux) among)
-    ∙ ap (option_map (λ (k : ℕ). Relay k mux)) (positive_known 1000000000 n some few wide))
+    found_by (codes "relay" ∷ rest) (relay_for mux bridge n) seen.taken
+    (ap (relay_from rest) seen.texts ∙ ap₂ (relay_by rest (Some (decimal n))) (flag_is mux) (flag_is bridge)
+    ∙ ap (option_and_then (λ (o : Words). cond (have_option rest (codes "--turns") (decimal n) Options o)
+    (option_map (relay_for mux bridge) (positive 1000000000 (decimal n))) None)) few
+    ∙ cond-true _ _ _ written ∙ ap (option_map (relay_for mux bridge)) (positive_known 1000000000 n good.0 good.1 wide))
+
+relay_of : (n : ℕ) (mux : Bool) (rest : Words) → (1 ≤ n) × (n ≤ 1000000000) → IsOneOf rest (with_option (codes "--turns") (decimal n) closed (mux_option mux))
+    → command_by (codes "relay" ∷ rest) ≡ Some (Relay n mux)
+relay_of n mux rest good among =
+    relay_known n mux false (mux_option mux) rest good refl (relay_with (decimal n) (number n (omega (arith, good.1))).value mux rest among)
+    (option_known (codes "--turns") (decimal n) (turns_option (decimal n)) Options rest (mux_option mux) (mux_no_end mux) (mux_no_turns (decimal n) mux) among)
+
+relay_joined_of : (n : ℕ) (rest : Words) → (1 ≤ n) × (n ≤ 1000000000) → IsOneOf rest (with_option (codes "--turns") (decimal n) closed (codes "--bridge" ∷ []))
+    → command_by (codes "relay" ∷ rest) ≡ Some (RelayJoined n)
+relay_joined_of n rest good among =
+    relay_known n false true (codes "--bridge" ∷ []) rest good refl (relay_joined_with (decimal n) (number n (omega (arith, good.1))).value rest among)
+    (option_known (codes "--turns") (decimal n) (turns_option (decimal n)) Options rest (codes "--bridge" ∷ []) (refl, tt) ((refl, refl), tt) among)
 
 -- the numbers of a demonstration are in their bounds
 record AreBounded (calls start : ℕ) : Type 0 where
@@ -204,7 +218,10 @@ complete words (Replay n mux) are =
     ap command_by made.is ∙ replay_of n mux made.others are.0 made.among
 complete words (Relay n mux) are =
     let made = of_map (λ others. codes "relay" ∷ others) words (with_option (codes "--turns") (decimal n) closed (mux_option mux)) are.1 in
-    ap command_by made.is ∙ relay_of n mux made.others are.0.0 are.0.1 made.among
+    ap command_by made.is ∙ relay_of n mux made.others are.0 made.among
+complete words (RelayJoined n) are =
+    let made = of_map (λ others. codes "relay" ∷ others) words (with_option (codes "--turns") (decimal n) closed (codes "--bridge" ∷ [])) are.1 in
+    ap command_by made.is ∙ relay_joined_of n made.others are.0 made.among
 complete words (Demo n s w) are =
     let made = of_map (λ others. codes "demo" ∷ others) words (with_workers w with_end_mark (numbers_of n s)) are.1 in
     ap command_by made.is ∙ demo_of n s w made.others (record { some = are.0.0; few = are.0.1; small = are.0.2 }) are.0.3 made.among

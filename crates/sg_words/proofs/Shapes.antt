@@ -94,11 +94,17 @@ unfolding clap_on_literals
 replay_without true rest among = all_seen _ _ _ _ replay_named rest (reads_ended Options (mux_read true)) refl among
 replay_without false rest among = all_seen _ _ _ _ replay_named rest (reads_ended Options (mux_read false)) refl among
 
+-- `relay` with its option, and with `--bridge` behind it or before
 pub relay_with : (v : Text) → IsValue v → (mux : Bool) (rest : Words) → IsOneOf rest (with_option (codes "--turns") v closed (mux_option mux))
-    → IsSeen (codes "relay") (codes "turns" ∷ codes "mux" ∷ []) (Some v ∷ Some (flag_text mux) ∷ []) rest
+    → IsSeen (codes "relay") (codes "turns" ∷ codes "mux" ∷ codes "bridge" ∷ []) (Some v ∷ Some (flag_text mux) ∷ Some (codes "false") ∷ []) rest
 unfolding clap_on_literals
 relay_with v is true rest among = all_seen _ _ _ _ relay_named rest (reads_with (codes "--turns") v is Options (mux_read true)) refl among
 relay_with v is false rest among = all_seen _ _ _ _ relay_named rest (reads_with (codes "--turns") v is Options (mux_read false)) refl among
+
+pub relay_joined_with : (v : Text) → IsValue v → (rest : Words) → IsOneOf rest (with_option (codes "--turns") v closed (codes "--bridge" ∷ []))
+    → IsSeen (codes "relay") (codes "turns" ∷ codes "mux" ∷ codes "bridge" ∷ []) (Some v ∷ Some (codes "false") ∷ Some (codes "true") ∷ []) rest
+unfolding clap_on_literals
+relay_joined_with v is rest among = all_seen _ _ _ _ relay_named rest (reads_with (codes "--turns") v is Options (marked (codes "--bridge") ∷ [])) refl among
 
 -- `demo` with its option: both numbers are found too
 pub demo_with : (c s v : Text) → IsValue c → IsValue s → IsValue v → (rest : Words) → IsOneOf rest (with_option (codes "--workers") v (ends Numbers) (c ∷ s ∷ []))

@@ -12,9 +12,9 @@ use Rattle.sg_words.proofs.Among.{in_left, in_map, in_right}
 use Rattle.sg_words.proofs.Endings.{ends}
 use Rattle.sg_words.specs.Commands.{AreWordsOf, IsOneOf, IsWorkers, Text, Words, closed, with_end_mark, mux_option, option_before, put_in, with_option, with_workers}
 use Rattle.sg_words.specs.Grammar.{srtpgw}
-use Rattle.sg_words.specs.Reading.{alone_by, are, are_ended, command_by, demo_by, first_said, follows, have_option, is_joined, is_set, led_by, may_end, no_fault, positive, relay_by, replay_by, said_by, text_in, workers_by}
+use Rattle.sg_words.specs.Reading.{alone_by, are, are_ended, command_by, demo_by, first_said, follows, have_option, is_joined, is_set, led_by, may_end, no_fault, positive, relay_by, relay_for, replay_by, said_by, text_in, workers_by}
 use Rattle.sg_words.specs.declared.command.Command.{Command}
-use Rattle.sg_words.specs.declared.command.Command.TheVariants.{Replay, Relay, Demo, Migrate, Capture, Bridge}
+use Rattle.sg_words.specs.declared.command.Command.TheVariants.{Replay, Demo, Migrate, Capture, Bridge}
 use Rattle.sg_words.specs.declared.spelling.Kind.{Kind}
 use Rattle.sg_words.specs.declared.spelling.Kind.TheVariants.{Numbers, Options}
 
@@ -168,23 +168,33 @@ replay_at ws o mux c (Some n) is found =
 replay_so : (ws : Words) (o : Option Text) (mux : Bool) (c : Command) → replay_by ws o mux ≡ Some c → AreWordsOf (codes "replay" ∷ ws) c
 replay_so ws o mux c found = replay_at ws o mux c (workers_by ws Options (mux_option mux) o) refl found
 
-relay_at : (ws : Words) (value : Text) (mux : Bool) (c : Command) (r : Option ℕ) → have_option ws (codes "--turns") value Options (mux_option mux) ≡ true
-    → positive 1000000000 value ≡ r → option_map (λ n. Relay n mux) r ≡ Some c → AreWordsOf (codes "relay" ∷ ws) c
-relay_at ws value mux c None written is found = absurd cc
-relay_at ws value mux c (Some n) written is found =
-    let e : Relay n mux ≡ c = cc in
-    let q = positive_so 1000000000 n value is in
-    subst (AreWordsOf (codes "relay" ∷ ws)) e (
-      (q.1, q.2),
-      in_map (λ others. codes "relay" ∷ others) ws (with_option (codes "--turns") (decimal n) closed (mux_option mux))
-          (subst (λ (v : Text). IsOneOf ws (with_option (codes "--turns") v closed (mux_option mux))) q.0 (option_so (codes "--turns") value Options ws (mux_option mux) written)),
-    )
+-- where the words are `relay`'s with these options, they are the command that is made of their number
+module _ (ws : Words) (options : Words) (made : ℕ → Command) (c : Command)
+    (so : (n : ℕ) → (1 ≤ n) × (n ≤ 1000000000) → IsOneOf ws (with_option (codes "--turns") (decimal n) closed options) → AreWordsOf (codes "relay" ∷ ws) (made n)) where
+  relay_at : (value : Text) (r : Option ℕ) → have_option ws (codes "--turns") value Options options ≡ true
+      → positive 1000000000 value ≡ r → option_map made r ≡ Some c → AreWordsOf (codes "relay" ∷ ws) c
+  relay_at value None written is found = absurd cc
+  relay_at value (Some n) written is found =
+      let e : made n ≡ c = cc in
+      let q = positive_so 1000000000 n value is in
+      subst (AreWordsOf (codes "relay" ∷ ws)) e (so n (q.1, q.2)
+      (subst (λ (v : Text). IsOneOf ws (with_option (codes "--turns") v closed options)) q.0 (option_so (codes "--turns") value Options ws options written)))
 
-relay_so : (ws : Words) (o : Option Text) (mux : Bool) (c : Command) → relay_by ws o mux ≡ Some c → AreWordsOf (codes "relay" ∷ ws) c
-relay_so ws None mux c found = absurd cc
-relay_so ws (Some value) mux c found =
-    let p = chosen (have_option ws (codes "--turns") value Options (mux_option mux)) (option_map (λ n. Relay n mux) (positive 1000000000 value)) c found in
-    relay_at ws value mux c (positive 1000000000 value) p.0 refl p.1
+  relay_found : (value : Text) → cond (have_option ws (codes "--turns") value Options options) (option_map made (positive 1000000000 value)) None ≡ Some c
+      → AreWordsOf (codes "relay" ∷ ws) c
+  relay_found value found =
+      let p = chosen (have_option ws (codes "--turns") value Options options) (option_map made (positive 1000000000 value)) c found in
+      relay_at value (positive 1000000000 value) p.0 refl p.1
+
+relay_so : (ws : Words) (o : Option Text) (mux bridge : Bool) (c : Command) → relay_by ws o mux bridge ≡ Some c → AreWordsOf (codes "relay" ∷ ws) c
+relay_so ws None mux bridge c found = absurd cc
+relay_so ws (Some value) mux false c found =
+    relay_found ws (mux_option mux) (relay_for mux false) c
+    (λ n good among. (good, in_map (λ others. codes "relay" ∷ others) ws (with_option (codes "--turns") (decimal n) closed (mux_option mux)) among)) value found
+relay_so ws (Some value) false true c found =
+    relay_found ws (codes "--bridge" ∷ []) (relay_for false true) c
+    (λ n good among. (good, in_map (λ others. codes "relay" ∷ others) ws (with_option (codes "--turns") (decimal n) closed (codes "--bridge" ∷ [])) among)) value found
+relay_so ws (Some value) true true c found = absurd cc
 
 demo_last : (ws : Words) (calls start : Text) (o : Option Text) (c : Command) (n s : ℕ) (r : Option ℕ)
     → positive 256 calls ≡ Some n → number_at 18446744073709551615 start ≡ Some s → workers_by ws Numbers (calls ∷ start ∷ []) o ≡ r
@@ -255,7 +265,7 @@ module _ (name : Text) (ws : Words) (c : Command) where
   said_so : (text : Text → Option Text) → said_by name ws text ≡ Some c → AreWordsOf (name ∷ ws) c
   said_so text =
       in_turn (codes "replay") _ _ (replay_so ws (text (codes "workers")) (is_set (text (codes "mux"))) c)
-      (in_turn (codes "relay") _ _ (relay_so ws (text (codes "turns")) (is_set (text (codes "mux"))) c)
+      (in_turn (codes "relay") _ _ (relay_so ws (text (codes "turns")) (is_set (text (codes "mux"))) (is_set (text (codes "bridge"))) c)
       (in_turn (codes "demo") _ _ (demo_so ws (text (codes "calls")) (text (codes "start")) (text (codes "workers")) c)
       (in_turn (codes "migrate") _ _ (migrate_so ws c)
       (in_turn (codes "capture") _ _ (capture_so ws c)

@@ -77,20 +77,17 @@ relay_options mux false = Some (mux_option mux)
 relay_options false true = Some (codes "--bridge" ∷ [])
 relay_options true true = None
 
+-- the command that they make of a number of turns
 abbrev pub relay_for : Bool → Bool → ℕ → Command
 relay_for mux false n = Relay n mux
 relay_for mux true n = RelayJoined n
 
-abbrev pub relay_with : Words → Text → Bool → Bool → Option Words → Option Command
-relay_with words value mux bridge None = None
-relay_with words value mux bridge (Some options) =
-    if have_option words (codes "--turns") value Options options then option_map (relay_for mux bridge) (positive 1000000000 value)
-    else None
-
 -- the same of `relay`, whose number of turns is required, and whether `--mux` and `--bridge` are set
 abbrev pub relay_by : Words → Option Text → Bool → Bool → Option Command
 relay_by words None mux bridge = None
-relay_by words (Some value) mux bridge = relay_with words value mux bridge (relay_options mux bridge)
+relay_by words (Some value) mux bridge =
+    option_and_then (λ options. if have_option words (codes "--turns") value Options options then option_map (relay_for mux bridge) (positive 1000000000 value)
+    else None) (relay_options mux bridge)
 
 -- the same of `demo`, by the texts of its two numbers and of its option
 abbrev pub demo_by : Words → Option Text → Option Text → Option Text → Option Command

@@ -22,22 +22,12 @@ fn turns<'a>(alloc: Global) -> Arg<'a>
     Arg::new(alloc, "turns").long("turns").required(true)
 }
 
-fn mux<'a>(alloc: Global) -> Arg<'a>
-    ensures rule { rule_of result ≡ grammar.mux }
+/// An option that has no value.
+fn flag<'a>(alloc: Global, name: &'a str) -> Arg<'a>
+    ensures rule { rule_of result ≡ grammar.flag name.now }
     ensures local { result.global ≡ false }
 {
-    Arg::new(alloc, "mux")
-        .long("mux")
-        .action(ArgAction::SetTrue)
-}
-
-fn bridge<'a>(alloc: Global) -> Arg<'a>
-    ensures rule { rule_of result ≡ grammar.bridge_option }
-    ensures local { result.global ≡ false }
-{
-    Arg::new(alloc, "bridge")
-        .long("bridge")
-        .action(ArgAction::SetTrue)
+    Arg::new(alloc, name).long(name).action(ArgAction::SetTrue)
 }
 
 fn calls<'a>(alloc: Global) -> Arg<'a>
@@ -67,7 +57,7 @@ fn replay<'a>(alloc: Global) -> Result<Command<'a>, AllocError>
     ensures local { IfOk result (λ c. (out-Command c).has_globals ≡ false) }
 {
     match with_workers(alloc, "replay") {
-        Ok(command) => command.arg(mux(alloc)),
+        Ok(command) => command.arg(flag(alloc, "mux")),
         Err(error) => Err(error),
     }
 }
@@ -77,8 +67,8 @@ fn relay<'a>(alloc: Global) -> Result<Command<'a>, AllocError>
     ensures local { IfOk result (λ c. (out-Command c).has_globals ≡ false) }
 {
     match Command::new(alloc, "relay").arg(turns(alloc)) {
-        Ok(command) => match command.arg(mux(alloc)) {
-            Ok(command) => command.arg(bridge(alloc)),
+        Ok(command) => match command.arg(flag(alloc, "mux")) {
+            Ok(command) => command.arg(flag(alloc, "bridge")),
             Err(error) => Err(error),
         },
         Err(error) => Err(error),

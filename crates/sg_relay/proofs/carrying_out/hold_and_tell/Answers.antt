@@ -1,6 +1,9 @@
-use Rattle.std.proofs.Common.{refl, []}
+use Rattle.std.proofs.Common.{refl, sym, subst, [], ◌∷◌}
+use Rattle.std.specs.Prelude.{Err}
 use Rattle.sg_edge.proofs.Passed.{wrote_none}
-use Rattle.sg_trace.specs.declared.status.Status.TheVariants.{Write}
+use Rattle.sg_trace.specs.declared.status.Status.TheVariants.{Link, Write}
+use Rattle.sg_relay.specs.Asked.{Act}
+use Rattle.sg_relay.specs.Parts.{AreCarriedOut}
 use Rattle.sg_relay.proofs.Blames.{due_so, written_link, written_only}
 use Rattle.sg_relay.proofs.Deeds.{line_so, told_held, told_unheld}
 use Rattle.sg_relay.proofs.carrying_out.hold_and_tell.Goals as goal
@@ -8,13 +11,13 @@ use Rattle.sg_relay.proofs.carrying_out.hold_and_tell.Goals as goal
 pub returns-in-Err-clause-done : goal.returns-in-Err-clause-done
 returns-in-Err-clause-done g c =
     let held = c.in-Err.ensures.held in
-    (held.0, [], held.1, wrote_none _, told_unheld c.args.outcome.now _ held.0 _ c.requires.asks held.2)
+    (held.0, [], held.1, wrote_none _, subst (λ (a : Act). AreCarriedOut (Err Link) (a ∷ []) held.0 []) (sym c.requires.is) (told_unheld _ _ held.0 _ held.2))
 
 pub returns-in-Ok-clause-done : goal.returns-in-Ok-clause-done
 returns-in-Ok-clause-done g c =
     let held = c.in-Ok.ensures.held in
     let wrote = line_so c.tell_at_once.result _ _ _ c.tell_at_once.ensures.told in
-    (held.0, wrote.0, held.1, wrote.1, told_held c.tell_at_once.result c.args.outcome.now _ held.0 wrote.0 c.requires.asks c.requires.plain held.2 wrote.2 wrote.3 wrote.4)
+    (held.0, wrote.0, held.1, wrote.1, subst (λ (a : Act). AreCarriedOut c.tell_at_once.result (a ∷ []) held.0 wrote.0) (sym c.requires.is) (told_held c.tell_at_once.result _ _ held.0 wrote.0 held.2 wrote.2 wrote.3 wrote.4))
 
 pub returns-in-Ok-clause-only : goal.returns-in-Ok-clause-only
 returns-in-Ok-clause-only g c = written_only c.tell_at_once.result (line_so c.tell_at_once.result _ _ _ c.tell_at_once.ensures.told).4

@@ -1,8 +1,8 @@
 use Rattle.std.proofs.Common.{[], ◌∷◌, refl, true, false}
 use Rattle.sg_edge.specs.Links.{Send}
 use Rattle.sg_edge.proofs.Passed.{wrote_none}
-use Rattle.sg_outcome.specs.declared.outcomes.Outcome.TheVariants.{Out}
 use Rattle.sg_trace.specs.declared.status.Status.TheVariants.{Write}
+use Rattle.sg_relay.specs.Asked.{Sends}
 use Rattle.sg_relay.proofs.Blames.{due_so, written_link, written_only}
 use Rattle.sg_relay.proofs.Deeds.{line_so, told_unsent}
 use Rattle.sg_relay.proofs.carrying_out.send_out.Goals as goal
@@ -13,7 +13,7 @@ returns-in-Ok-clause-done g c = (
   [],
   c.in-Ok.ensures.told,
   wrote_none _,
-  (record { told = record { outcome = Out c.args.port c.args.to c.args.octets.now; sent = true } ∷ []; of_outcomes = refl; asked = refl; sent = refl; written = refl }, (tt, tt), refl),
+  (record { done = record { act = Sends c.args.port c.args.to c.args.octets.now; sent = true } ∷ []; of_acts = refl; asked = refl; sent = refl; written = refl }, (tt, tt), refl),
 )
 
 pub returns-in-Err-clause-done : goal.returns-in-Err-clause-done

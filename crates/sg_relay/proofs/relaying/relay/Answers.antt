@@ -1,139 +1,22 @@
-use Rattle.std.proofs.Common.{rules, ◌≡◌, ◌⊎◌, ◌<◌, ◌^◌, ℕ, List, [], ◌++◌, Ok, Err, sym, ◌∙◌, subst, refl, arith}
-use Rattle.sg_trace.proofs.Causes.{failed_now}
-use Rattle.sg_trace.specs.Reading.{IsNext, IsRead}
-use Rattle.sg_trace.specs.declared.status.Status.TheVariants.{Done, Read, Write, Link, Clock, Noise}
-use Rattle.sg_edge.specs.Told.{AtEnd}
-use Rattle.sg_edge.proofs.Links.{added_none}
-use Rattle.sg_edge.proofs.Passed.{took_none}
-use Rattle.sg_front.proofs.Sequences.{state_after-append}
-use Rattle.sg_front.specs.States.{FrontStandsFor, start, state_after}
-use Rattle.sg_relay.specs.Relay.{outcomes_by}
-use Rattle.sg_relay.proofs.Blames.{due_so, lines_not_read, turns_not}
-use Rattle.sg_relay.proofs.Complete.{at_once, with_complete}
-use Rattle.sg_relay.proofs.Order.{order_none}
-use Rattle.sg_relay.proofs.Relays.{after, at_end, at_error, begins_so, begun_ends, behind, cut, ended_in, farther, first_tick, next_at, only_begun, passed, reading_so, with_line}
+use Rattle.std.proofs.Common.{map, refl, ap, sym, ◌∙◌, subst}
+use Rattle.sg_front.proofs.Runs.{told_in}
+use Rattle.sg_front.specs.States.{FrontStandsFor, start, told_from}
+use Rattle.sg_relay.specs.Asked.{act_of}
+use Rattle.sg_relay.specs.Plain.{acting, acts, weaves, world}
+use Rattle.sg_relay.proofs.Complete.{at_once}
+use Rattle.sg_relay.proofs.Holds.{relayed_with_ports}
 use Rattle.sg_relay.proofs.relaying.relay.Goals as goal
 
--- before anything is done
 pub returns-in-Err-clause-ran : goal.returns-in-Err-clause-ran
-returns-in-Err-clause-ran g c = at_once c.ports_are_of_calls.ensures c.args.muxes _ c.args.turns _ _ _ _ _ _
+returns-in-Err-clause-ran g c =
+    relayed_with_ports weaves (acting.acts (start c.args.muxes)) (acts c.args.muxes) (world c.args.muxes) (λ ds. ap (map act_of) (told_in c.args.muxes ds)) (c.ports_are_of_calls.ensures c.args.muxes) _ _ _ _ _
+    (at_once weaves (acting.acts (start c.args.muxes)) refl _ c.args.turns _ _ _ _ _ _)
 
-pub returns-in-Err-make-clause-ran : goal.returns-in-Err-make-clause-ran
-returns-in-Err-make-clause-ran g c = at_once c.ports_are_of_calls.ensures c.args.muxes _ c.args.turns _ _ _ _ _ _
+pub play-requires : goal.play-requires
+play-requires g c = record { stands = subst (λ m. FrontStandsFor c.in-Ok.front (start m)) c.in-Ok.ensures.muxes c.in-Ok.ensures }
 
-pub returns-in-Err-begin-clause-ran : goal.returns-in-Err-begin-clause-ran
-returns-in-Err-begin-clause-ran g c =
-    let s = c.in-Err-begin.status in
-    let begun = c.in-Err-begin.ensures.begun (start c.args.muxes) c.in-Ok.ensures in
-    let ends = begun_ends c.args.muxes c.args.turns (g.S.Source.left c.args.source.now) (FrontStandsFor c.begin.new.front) begun.0 begun.1 begun.2 s c.in-Err-begin.ensures.only begun.6 in
-    with_complete c.ports_are_of_calls.ensures c.args.muxes s c.args.turns _ _ _ _ (only_begun begun.0 begun.1 begun.2) _ _ _ _
-    (record {
-      took = took_none _;
-      wrote = begun.5;
-      called = begun.4;
-      read = begun.3;
-      drew = added_none _;
-      ends = ends.0;
-      bound = omega arith;
-      most = ends.2;
-      paced = ends.1;
-      in_order = order_none (outcomes_by c.args.muxes (only_begun begun.0 begun.1 begun.2)) begun.1 ends.3;
-    })
-    (λ is. absurd (turns_not Read (λ e. cc) (λ e. cc) (λ e. cc) (λ e. cc) s c.in-Err-begin.ensures.only is)) c.in-Err-begin.ensures.write.rose c.in-Err-begin.ensures.clock.rose
-    (λ is. absurd (turns_not Noise (λ e. cc) (λ e. cc) (λ e. cc) (λ e. cc) s c.in-Err-begin.ensures.only is)) c.in-Err-begin.ensures.link.rose
-
-pub lines-init : goal.lines-init
-lines-init g c =
-    let begun = c.in-Ok-begin.ensures.begun (start c.args.muxes) c.in-Ok.ensures in (
-      (
-        only_begun begun.0 begun.1 begun.2,
-        first_tick begun.6.0,
-        reading_so c.args.muxes _ _ c.args.turns c.in-Ok-begin.began (only_begun begun.0 begun.1 begun.2) c.new-script.result _ (first_tick begun.6.0) c.in-Ok-begin.began c.args.turns c.new-script.ensures
-            (begins_so c.args.muxes _ _ c.args.turns c.in-Ok-begin.began (FrontStandsFor c.begin.new.front) begun.0 begun.1 begun.2 (took_none _) begun.5 begun.4 begun.3 (added_none _) begun.6),
-        begun.6.6,
-      ),
-      c.in-Ok-begin.ensures.timely,
-      search rules,
-      refl,
-      c.in-Ok-begin.ensures.write,
-      c.in-Ok-begin.ensures.link,
-      c.in-Ok-begin.ensures.clock,
-      refl,
-      omega (arith, c.in-Ok-begin.ensures.count),
-    )
-
-pub returns-in-Err-next-clause-ran : goal.returns-in-Err-next-clause-ran
-returns-in-Err-next-clause-ran g c =
-    let s = c.in-Err-next.status in
-    let so_far = c.lines.invariant.0 in
-    let got = c.in-Err-next.ensures.next in
-    with_complete c.ports_are_of_calls.ensures c.args.muxes s c.args.turns _ _ _ _ (passed _ _ _ _ _ so_far.0 c.lines.script so_far.1 _ _ so_far.2 _ got.0 got.1) _ _ _ _
-    (at_error _ _ _ _ _ so_far.0 c.lines.script so_far.1 _ _ so_far.2 (g.S.Source.left c.next.new.source) got.0 got.1 s c.next.new.self got.3 got.2)
-    (failed_now _ _ _ _ _ c.lines.invariant.3 (due_so Read (Err s) _ _ _ c.in-Err-next.ensures.cause)).rose
-    (λ is. absurd (next_at Write s _ _ _ _ is got.2)) (λ is. absurd (next_at Clock s _ _ _ _ is got.2)) (λ is. absurd (next_at Noise s _ _ _ _ is got.2)) (λ is. absurd (next_at Link s _ _ _ _ is got.2))
-
-pub returns-in-Ok-None-clause-ran : goal.returns-in-Ok-None-clause-ran
-returns-in-Ok-None-clause-ran g c =
-    let so_far = c.lines.invariant.0 in
-    let got = c.in-Ok-None.ensures.next in
-    let ended : (c.lines.script.waits ++ got.0 ≡ []) × (AtEnd (g.S.Source.left c.next.new.source) ⊎ (2 ^ 30 < c.lines.script.offset)) =
-    subst (λ f. IsNext (Ok f) c.lines.script c.next.new.self got.0 (g.S.Source.left c.next.new.source)) c.in-Ok-None.field-0-is got.2 in
-    with_complete c.ports_are_of_calls.ensures c.args.muxes Done c.args.turns _ _ _ _ (passed _ _ _ _ _ so_far.0 c.lines.script so_far.1 _ _ so_far.2 _ got.0 got.1) _ _ _ _
-    (at_end _ _ _ _ _ so_far.0 c.lines.script so_far.1 _ _ so_far.2 (g.S.Source.left c.next.new.source) got.0 got.1 c.next.new.self.budget got.3 ended.0 ended.1)
-    (λ is. absurd cc) (λ is. absurd cc) (λ is. absurd cc) (λ is. absurd cc) (λ is. absurd cc)
-
-pub returns-in-Err-say-clause-ran : goal.returns-in-Err-say-clause-ran
-returns-in-Err-say-clause-ran g c =
-    let s = c.in-Err-say.status in
-    let so_far = c.lines.invariant.0 in
-    let got = c.in-Ok-Some.ensures.next in
-    let is : IsRead c.in-Ok-Some.line c.lines.script c.next.new.self got.0 =
-    subst (λ f. IsNext (Ok f) c.lines.script c.next.new.self got.0 (g.S.Source.left c.next.new.source)) c.in-Ok-Some.field-0-is got.2 in
-    let said = c.in-Err-say.ensures.said (state_after (start c.args.muxes) so_far.1) so_far.3 in
-    with_complete c.ports_are_of_calls.ensures c.args.muxes s c.args.turns _ _ _ _
-    (with_line _ _ _ _ _ so_far.0 c.lines.script so_far.1 _ _ so_far.2 (g.S.Source.left c.next.new.source) got.0 got.1 c.in-Ok-Some.line c.next.new.self got.3 is said.0 said.1 said.2 said.3) _ _ _ _
-    (ended_in _ _ _ _ _ so_far.0 c.lines.script so_far.1 _ _ so_far.2 (g.S.Source.left c.next.new.source) got.0 got.1 c.in-Ok-Some.line c.next.new.self got.3 is said.0 said.1 said.2 said.3
-    s _ refl said.7 said.5 said.4 said.6
-    (cut _ _ _ _ _ so_far.0 c.lines.script so_far.1 _ _ so_far.2 (g.S.Source.left c.next.new.source) got.0 got.1 c.in-Ok-Some.line c.next.new.self got.3 is said.0 said.1 said.2 said.3
-    (List ℕ) s c.say.new.top c.say.new.turns (FrontStandsFor c.say.new.front) c.in-Err-say.ensures.only said.8)
-    said.9)
-    (λ is. absurd (lines_not_read s c.in-Err-say.ensures.only is))
-    (failed_now _ _ _ _ _ c.lines.invariant.4 c.in-Err-say.ensures.write).rose
-    (failed_now _ _ _ _ _ c.lines.invariant.6 c.in-Err-say.ensures.clock).rose
-    (failed_now _ _ _ _ _ c.lines.invariant.7 c.in-Err-say.ensures.noise).rose
-    (failed_now _ _ _ _ _ c.lines.invariant.5 c.in-Err-say.ensures.link).rose
-
-pub lines-smaller : goal.lines-smaller
-lines-smaller g c =
-    let so_far = c.lines.invariant.0 in
-    let got = c.in-Ok-Some.ensures.next in
-    let is : IsRead c.in-Ok-Some.line c.lines.script c.next.new.self got.0 =
-    subst (λ f. IsNext (Ok f) c.lines.script c.next.new.self got.0 (g.S.Source.left c.next.new.source)) c.in-Ok-Some.field-0-is got.2 in
-    let on = farther _ _ _ _ _ so_far.0 c.lines.script so_far.1 _ _ so_far.2 (g.S.Source.left c.next.new.source) got.0 got.1 c.in-Ok-Some.line c.next.new.self got.3 is [] [] [] [] in
-    omega (arith, on, is.within)
-
-pub lines-preserved : goal.lines-preserved
-lines-preserved g c =
-    let so_far = c.lines.invariant.0 in
-    let got = c.in-Ok-Some.ensures.next in
-    let is : IsRead c.in-Ok-Some.line c.lines.script c.next.new.self got.0 =
-    subst (λ f. IsNext (Ok f) c.lines.script c.next.new.self got.0 (g.S.Source.left c.next.new.source)) c.in-Ok-Some.field-0-is got.2 in
-    let said = c.in-Ok-say.ensures.said (state_after (start c.args.muxes) so_far.1) so_far.3 in (
-      (
-        behind _ _ _ _ _ so_far.0 c.lines.script so_far.1 _ _ so_far.2 (g.S.Source.left c.next.new.source) got.0 got.1 c.in-Ok-Some.line c.next.new.self got.3 is said.0 said.1 said.2 said.3,
-        so_far.1 ++ said.8.0,
-        after _ _ _ _ _ so_far.0 c.lines.script so_far.1 _ _ so_far.2 (g.S.Source.left c.next.new.source) got.0 got.1 c.in-Ok-Some.line c.next.new.self got.3 is said.0 said.1 said.2 said.3
-            c.in-Ok-say.pad
-            (record { left = g.S.Source.left c.next.new.source; written = g.K.Sink.written c.say.new.sink; calls = g.L.Link.told c.say.new.link; readings = g.C.Clock.given c.say.new.clock; draws = g.N.Noise.given c.say.new.noise })
-            c.say.new.top c.say.new.turns (FrontStandsFor c.say.new.front) refl said.7 said.5 said.4 said.6 said.8 said.9,
-        subst (FrontStandsFor c.say.new.front) (sym (state_after-append (start c.args.muxes) so_far.1 said.8.0)) said.8.4,
-      ),
-      c.lines.invariant.1,
-      omega (arith, c.next.ensures.given, c.lines.invariant.2),
-      c.in-Ok-Some.ensures.cause.quiet (λ is. cc) ∙ c.lines.invariant.3,
-      c.in-Ok-say.ensures.write ∙ c.lines.invariant.4,
-      c.in-Ok-say.ensures.link ∙ c.lines.invariant.5,
-      c.in-Ok-say.ensures.clock ∙ c.lines.invariant.6,
-      c.in-Ok-say.ensures.noise ∙ c.lines.invariant.7,
-      omega (arith, c.lines.invariant.8, c.in-Ok-say.ensures.count),
-    )
+pub returns-in-Ok-clause-ran : goal.returns-in-Ok-clause-ran
+returns-in-Ok-clause-ran g c =
+    relayed_with_ports weaves (acting.acts (start c.in-Ok.front.muxes)) (acts c.args.muxes) (world c.args.muxes)
+    (λ ds. ap (map act_of) (ap (λ m. told_from (start m) ds) (sym c.in-Ok.ensures.muxes) ∙ told_in c.args.muxes ds))
+    (c.ports_are_of_calls.ensures c.args.muxes) _ _ _ _ _ c.play.ensures.ran

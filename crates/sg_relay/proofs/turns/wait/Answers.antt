@@ -1,15 +1,33 @@
-use Rattle.std.proofs.Common.{rules, ◌-◌, [], ◌++◌, refl, ◌∙◌, arith}
+use Rattle.std.proofs.Common.{rules, ◌-◌, [], ◌++◌, refl, sym, ◌∙◌, subst, arith}
 use Rattle.sg_edge.proofs.Links.{added_more, added_none, called_more, called_none}
 use Rattle.sg_edge.proofs.Passed.{wrote_more, wrote_none}
-use Rattle.sg_front.specs.States.{FrontStandsFor, state_after}
 use Rattle.sg_relay.specs.Asked.{receipts_in}
+use Rattle.sg_relay.specs.Weaving.{weaves_of}
 use Rattle.sg_relay.proofs.Deeds.{done_none}
-use Rattle.sg_relay.proofs.Waits.{cut_wait, goes_none, over_wait, reading_next, wait_more, wait_order, wait_order_none}
+use Rattle.sg_relay.proofs.Waits.{cut_wait, done_nothing, goes_none, over_wait, reading_next, wait_more, wait_order, wait_order_none}
 use Rattle.sg_relay.proofs.turns.wait.Goals as goal
 
 pub turns-init : goal.turns-init
 turns-init g c = (
-  (λ state stands. ([], [], [], [], added_none _, called_none _, wrote_none _, goes_none c.args.until c.args.top.now, done_none, tt, stands, refl, omega arith, wait_order_none c.args.until state c.args.top.now)),
+  (λ state stands.
+      let w = weaves_of g.E.Line.ScriptLine.spelled g.E.Line.ScriptLine.followed g.E.Exchange.waits g.E.Exchange.gives g.E.Exchange.ticks g.E.Exchange.arrives in
+      let acting = g.E.Exchange.acting in
+      let law = c.are_in_order.ensures in (
+        [],
+        [],
+        [],
+        [],
+        added_none _,
+        called_none _,
+        wrote_none _,
+        goes_none w c.args.until c.args.top.now,
+        done_nothing acting law state [] [] done_none,
+        tt,
+        subst (g.E.Exchange.stands c.args.exchange.now) (sym (law.none_after state)) stands,
+        refl,
+        omega arith,
+        wait_order_none w acting c.args.until state c.args.top.now,
+      )),
   search rules,
   search rules,
   search rules,
@@ -18,43 +36,52 @@ turns-init g c = (
 
 pub returns-in-Err-clause-waited : goal.returns-in-Err-clause-waited
 returns-in-Err-clause-waited g c = λ state stands.
+    let w = weaves_of g.E.Line.ScriptLine.spelled g.E.Line.ScriptLine.followed g.E.Exchange.waits g.E.Exchange.gives g.E.Exchange.ticks g.E.Exchange.arrives in
+    let acting = g.E.Exchange.acting in
+    let law = c.are_in_order.ensures in
     let so_far = c.turns.invariant.0 state stands in
-    let turned = c.in-Err.ensures.turned (state_after state so_far.3) so_far.10 in (
+    let turned = c.in-Err.ensures.turned (acting.after state so_far.3) so_far.10 in (
       so_far.0 ++ turned.0,
       so_far.1 ++ turned.1,
       so_far.2 ++ turned.2,
       added_more _ _ _ so_far.0 turned.0 so_far.4 turned.3,
       called_more _ _ _ so_far.1 turned.1 so_far.5 turned.4,
       wrote_more _ _ _ so_far.2 turned.2 so_far.6 turned.5,
-      cut_wait c.args.until c.args.top.now so_far.0 (receipts_in so_far.1) so_far.3 c.turns.top so_far.7 state so_far.1 so_far.2 refl so_far.8 so_far.9 so_far.11 c.args.turns.now c.turns.turns so_far.12
-          turned.0 turned.1 turned.2 c.in-Err.status (FrontStandsFor c.turn.new.front) (FrontStandsFor c.turn.new.front) c.turn.new.top _ c.in-Err.ensures.only c.turns-test.true turned.6,
-      wait_order c.args.until c.args.top.now so_far.0 (receipts_in so_far.1) so_far.3 c.turns.top so_far.7 state so_far.1 so_far.2 refl so_far.8 so_far.9 so_far.11 c.args.turns.now c.turns.turns so_far.12
+      cut_wait w acting law c.args.until c.args.top.now so_far.0 (receipts_in so_far.1) so_far.3 c.turns.top so_far.7 state so_far.1 so_far.2 refl so_far.8 so_far.9 so_far.11 c.args.turns.now c.turns.turns so_far.12
+          turned.0 turned.1 turned.2 c.in-Err.status (g.E.Exchange.stands c.turn.new.exchange) (g.E.Exchange.stands c.turn.new.exchange) c.turn.new.top _ c.in-Err.ensures.only c.turns-test.true turned.6,
+      wait_order w acting law c.args.until c.args.top.now so_far.0 (receipts_in so_far.1) so_far.3 c.turns.top so_far.7 state so_far.1 so_far.2 refl so_far.8 so_far.9 so_far.11 c.args.turns.now c.turns.turns so_far.12
           turned.0 turned.1 turned.2 so_far.13 turned.7,
     )
 
 pub returns-then-until-moment-clause-waited : goal.returns-then-until-moment-clause-waited
 returns-then-until-moment-clause-waited g c = λ state stands.
+    let w = weaves_of g.E.Line.ScriptLine.spelled g.E.Line.ScriptLine.followed g.E.Exchange.waits g.E.Exchange.gives g.E.Exchange.ticks g.E.Exchange.arrives in
+    let acting = g.E.Exchange.acting in
+    let law = c.are_in_order.ensures in
     let so_far = c.turns.invariant.0 state stands in
-    let turned = c.in-Ok.ensures.turned (state_after state so_far.3) so_far.10 in (
+    let turned = c.in-Ok.ensures.turned (acting.after state so_far.3) so_far.10 in (
       so_far.0 ++ turned.0,
       so_far.1 ++ turned.1,
       so_far.2 ++ turned.2,
       added_more _ _ _ so_far.0 turned.0 so_far.4 turned.3,
       called_more _ _ _ so_far.1 turned.1 so_far.5 turned.4,
       wrote_more _ _ _ so_far.2 turned.2 so_far.6 turned.5,
-      over_wait c.args.until c.args.top.now so_far.0 (receipts_in so_far.1) so_far.3 c.turns.top so_far.7 state so_far.1 so_far.2 refl so_far.8 so_far.9 so_far.11 c.args.turns.now c.turns.turns so_far.12
-          turned.0 turned.1 turned.2 c.in-Ok.moment c.in-Ok.back c.turn.new.top (c.turns.turns - 1) (FrontStandsFor c.turn.new.front) c.if-until-moment.true (omega (arith, c.turns-test.true)) turned.6,
-      wait_order c.args.until c.args.top.now so_far.0 (receipts_in so_far.1) so_far.3 c.turns.top so_far.7 state so_far.1 so_far.2 refl so_far.8 so_far.9 so_far.11 c.args.turns.now c.turns.turns so_far.12
+      over_wait w acting law c.args.until c.args.top.now so_far.0 (receipts_in so_far.1) so_far.3 c.turns.top so_far.7 state so_far.1 so_far.2 refl so_far.8 so_far.9 so_far.11 c.args.turns.now c.turns.turns so_far.12
+          turned.0 turned.1 turned.2 c.in-Ok.moment c.in-Ok.back c.turn.new.top (c.turns.turns - 1) (g.E.Exchange.stands c.turn.new.exchange) c.if-until-moment.true (omega (arith, c.turns-test.true)) turned.6,
+      wait_order w acting law c.args.until c.args.top.now so_far.0 (receipts_in so_far.1) so_far.3 c.turns.top so_far.7 state so_far.1 so_far.2 refl so_far.8 so_far.9 so_far.11 c.args.turns.now c.turns.turns so_far.12
           turned.0 turned.1 turned.2 so_far.13 turned.7,
     )
 
 pub turns-preserved : goal.turns-preserved
 turns-preserved g c = (
   (λ state stands.
+      let w = weaves_of g.E.Line.ScriptLine.spelled g.E.Line.ScriptLine.followed g.E.Exchange.waits g.E.Exchange.gives g.E.Exchange.ticks g.E.Exchange.arrives in
+      let acting = g.E.Exchange.acting in
+      let law = c.are_in_order.ensures in
       let so_far = c.turns.invariant.0 state stands in
-      let turned = c.in-Ok.ensures.turned (state_after state so_far.3) so_far.10 in
-      let more = wait_more c.args.until c.args.top.now so_far.0 (receipts_in so_far.1) so_far.3 c.turns.top so_far.7 state so_far.1 so_far.2 refl so_far.8 so_far.9 so_far.11 c.args.turns.now c.turns.turns so_far.12
-      turned.0 turned.1 turned.2 c.in-Ok.moment c.in-Ok.back c.turn.new.top (c.turns.turns - 1) (FrontStandsFor c.turn.new.front) c.if-until-moment.false (omega (arith, c.turns-test.true)) turned.6 in (
+      let turned = c.in-Ok.ensures.turned (acting.after state so_far.3) so_far.10 in
+      let more = wait_more w acting law c.args.until c.args.top.now so_far.0 (receipts_in so_far.1) so_far.3 c.turns.top so_far.7 state so_far.1 so_far.2 refl so_far.8 so_far.9 so_far.11 c.args.turns.now c.turns.turns so_far.12
+      turned.0 turned.1 turned.2 c.in-Ok.moment c.in-Ok.back c.turn.new.top (c.turns.turns - 1) (g.E.Exchange.stands c.turn.new.exchange) c.if-until-moment.false (omega (arith, c.turns-test.true)) turned.6 in (
         so_far.0 ++ turned.0,
         so_far.1 ++ turned.1,
         so_far.2 ++ turned.2,
@@ -68,7 +95,7 @@ turns-preserved g c = (
         more.4,
         more.5,
         more.6,
-        wait_order c.args.until c.args.top.now so_far.0 (receipts_in so_far.1) so_far.3 c.turns.top so_far.7 state so_far.1 so_far.2 refl so_far.8 so_far.9 so_far.11 c.args.turns.now c.turns.turns so_far.12
+        wait_order w acting law c.args.until c.args.top.now so_far.0 (receipts_in so_far.1) so_far.3 c.turns.top so_far.7 state so_far.1 so_far.2 refl so_far.8 so_far.9 so_far.11 c.args.turns.now c.turns.turns so_far.12
             turned.0 turned.1 turned.2 so_far.13 turned.7,
       )),
   c.in-Ok.ensures.write ∙ c.turns.invariant.1,
@@ -79,8 +106,11 @@ turns-preserved g c = (
 
 pub returns-clause-waited : goal.returns-clause-waited
 returns-clause-waited g c = λ state stands.
+    let w = weaves_of g.E.Line.ScriptLine.spelled g.E.Line.ScriptLine.followed g.E.Exchange.waits g.E.Exchange.gives g.E.Exchange.ticks g.E.Exchange.arrives in
+    let acting = g.E.Exchange.acting in
+    let law = c.are_in_order.ensures in
     let so_far = c.turns.invariant.0 state stands in
-    let next = reading_next c.args.until c.args.top.now so_far.0 (receipts_in so_far.1) so_far.3 c.turns.top so_far.7 state so_far.1 so_far.2 refl so_far.8 so_far.9 so_far.11 c.args.turns.now c.turns.turns so_far.12 in (
+    let next = reading_next w acting law c.args.until c.args.top.now so_far.0 (receipts_in so_far.1) so_far.3 c.turns.top so_far.7 state so_far.1 so_far.2 refl so_far.8 so_far.9 so_far.11 c.args.turns.now c.turns.turns so_far.12 in (
       so_far.0,
       so_far.1,
       so_far.2,

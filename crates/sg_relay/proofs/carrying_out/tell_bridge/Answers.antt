@@ -1,0 +1,32 @@
+use Rattle.std.proofs.Common.{◌∷◌, [], List, ℕ, refl, sym, subst, inr}
+use Rattle.std.specs.Prelude.{Err}
+use Rattle.sg_edge.proofs.Passed.{wrote_none}
+use Rattle.sg_trace.specs.Output.{IsWritten}
+use Rattle.sg_trace.specs.declared.status.Status.TheVariants.{NoMemory, Write}
+use Rattle.sg_relay.specs.Asked.{Act}
+use Rattle.sg_relay.specs.Parts.{AreCarriedOut}
+use Rattle.sg_relay.proofs.Blames.{due_so}
+use Rattle.sg_relay.proofs.Deeds.{line_so, told_held}
+use Rattle.sg_relay.proofs.carrying_out.tell_bridge.Goals as goal
+
+pub returns-in-Err-clause-done : goal.returns-in-Err-clause-done
+returns-in-Err-clause-done g c = (
+  [],
+  wrote_none _,
+  subst (λ (a : Act). AreCarriedOut (Err NoMemory) (a ∷ []) [] []) (sym c.requires.is) (told_held (Err NoMemory) [] _ [] [] (refl, tt, refl, refl) (_, refl) (λ ok. absurd cc) (inr refl)),
+)
+
+pub returns-clause-done : goal.returns-clause-done
+returns-clause-done g c =
+    let wrote = line_so c.write_at_once.result _ _ _ (subst (λ (line : List ℕ). IsWritten c.write_at_once.result _ _ line) c.line.ensures c.write_at_once.ensures.told) in (
+      wrote.0,
+      wrote.1,
+      subst (λ (a : Act). AreCarriedOut c.write_at_once.result (a ∷ []) [] wrote.0) (sym c.requires.is)
+          (told_held c.write_at_once.result [] _ [] wrote.0 (refl, tt, refl, refl) wrote.2 wrote.3 wrote.4),
+    )
+
+pub returns-clause-only : goal.returns-clause-only
+returns-clause-only g c = (line_so c.write_at_once.result _ _ _ c.write_at_once.ensures.told).4
+
+pub returns-clause-write : goal.returns-clause-write
+returns-clause-write g c = due_so Write c.write_at_once.result _ _ _ c.write_at_once.ensures.cause

@@ -1,0 +1,14 @@
+use Rattle.std.proofs.Common.{◌≡◌, List, ℕ, take, Ok}
+use Rattle.sg_bridge.specs.Bridged.{told_and_parted}
+use Rattle.sg_edge.specs.Links.{Called, LinkCall}
+use Rattle.sg_edge.specs.Told.{Wrote}
+use Rattle.sg_relay.specs.Joined.{acts_of_all}
+use Rattle.sg_relay.specs.Parts.{AreCarriedOut}
+use Rattle.sg_relay.proofs.joined.carry_out_noted.Given as goal
+
+abbrev pub invariant-loop-outcome : goal.invariant-loop-outcome
+invariant-loop-outcome g l =
+    ((calls : List LinkCall) × (out : List ℕ) × Called (g.L.Link.told l.fn.link) (g.L.Link.told l.link) calls × Wrote (g.K.Sink.written l.fn.sink) (g.K.Sink.written l.sink) out
+    × AreCarriedOut (Ok tt) (acts_of_all (told_and_parted l.fn.switchboard.calls (take l.outcome-index l.outcomes)).told) calls out)
+    × (l.switchboard ≡ record l.fn.switchboard { calls = (told_and_parted l.fn.switchboard.calls (take l.outcome-index l.outcomes)).calls })
+    × (g.K.Sink.faults l.sink ≡ g.K.Sink.faults l.fn.sink) × (g.L.Link.faults l.link ≡ g.L.Link.faults l.fn.link)
