@@ -24,6 +24,7 @@ import sys
 import tempfile
 import time
 from collections import Counter, defaultdict
+from contextlib import closing
 from pathlib import Path
 
 import hostile
@@ -197,6 +198,10 @@ class Telephones:
         one.setblocking(False)
         return one
 
+    def close(self):
+        for one in [*self.at.values(), *self.senders.values()]:
+            one.close()
+
     def sends(self, host, port, octets):
         if host not in self.senders:
             self.senders[host] = self.opened(0, host)
@@ -212,13 +217,21 @@ class Telephones:
                 pass
 
 
+def holding(room, moment):
+    """The environment of a program whose clock reads a moment, which a file in this folder holds: HELD_CLOCK."""
+    shim, clock = Path(room, "clock.so"), Path(room, "clock")
+    source = Path(__file__).resolve().parent / "held_clock.c"
+    subprocess.run(["cc", "-O2", "-shared", "-fPIC", "-o", shim, source], check=True)
+    clock.write_bytes(moment.to_bytes(8, sys.byteorder))
+    return {**os.environ, "LD_PRELOAD": str(shim), "HELD_CLOCK": str(clock)}
+
+
 class Relay:
     """The program, live: it is told lines, and is at one with us at each mark."""
 
-    def __init__(self, program, words, shim, clock):
-        told = {**os.environ, "LD_PRELOAD": shim, "HELD_CLOCK": clock}
+    def __init__(self, program, words, held):
         pipe = subprocess.PIPE
-        self.run = subprocess.Popen([program, *words], stdin=pipe, stdout=pipe, stderr=pipe, env=told)
+        self.run = subprocess.Popen([program, *words], stdin=pipe, stdout=pipe, stderr=pipe, env=held)
         self.written, self.rest, self.seen, self.marks = [], b"", 0, 0
 
     def says(self, lines):
@@ -303,12 +316,11 @@ def played_live(live, relay, telephones, moments):
     return [*told, [MARKED]]
 
 
-def difference_live(program, live, telephones, shim, clock):
+def difference_live(program, live, telephones, held):
     """What is wrong with a live run, or None."""
-    with open(clock, "r+b") as file, mmap.mmap(file.fileno(), 8) as moments:
+    with open(held["HELD_CLOCK"], "r+b") as file, mmap.mmap(file.fileno(), 8) as moments:
         moments[:8] = live.began.to_bytes(8, sys.byteorder)
-        telephones.found.clear()
-        relay = Relay(program, words_of(live.command, 1_000_000_000), shim, clock)
+        relay = Relay(program, words_of(live.command, 1_000_000_000), held)
         try:
             told = played_live(live, relay, telephones, moments)
         except (TimeoutError, EOFError, BrokenPipeError) as fault:
@@ -331,15 +343,16 @@ def command_of(number, only):
     return only or list(RELAYED)[number % 3]
 
 
-def play_live(program, count, seed, only, shim, clock):
+def play_live(program, count, seed, only, held):
     """Plays so many mixed scripts; how many have a difference."""
-    bad, steps, counts, begun, telephones = 0, Counter(), Counter(), time.monotonic(), Telephones()
+    bad, steps, counts, begun = 0, Counter(), Counter(), time.monotonic()
     for number in range(1, count + 1):
         live = Live(f"relayed {seed} {number}", 2 if number % 4 > 1 else 1, command_of(number, only))
         live.mixed()
         steps.update(kind for kind, _, _ in live.steps)
         counts.update(causes(line) for told in live.told for line in told)
-        fault = difference_live(program, live, telephones, shim, clock)
+        with closing(Telephones()) as telephones:
+            fault = difference_live(program, live, telephones, held)
         bad += is_kept(f"relayed-{number}.script", live.script(), f"live by {live.command}: {fault}" if fault else None)
     for cause, times in sorted(counts.items()):
         print(f"{times:7} {cause}")
@@ -356,15 +369,14 @@ def is_kept(name, script, fault):
     return bool(fault)
 
 
-def play_hostile(program, count, seed, only, shim, clock):
+def play_hostile(program, count, seed, only, held):
     """The same of scripts that were cut and changed, of which nothing comes over the network."""
     bad, ends, begun, now = 0, Counter(), time.monotonic(), 1_764_000_000_123
-    Path(clock).write_bytes(now.to_bytes(8, sys.byteorder))
-    told = {**os.environ, "LD_PRELOAD": shim, "HELD_CLOCK": clock}
+    Path(held["HELD_CLOCK"]).write_bytes(now.to_bytes(8, sys.byteorder))
     for number, (_, script) in enumerate(hostile.cases(count, f"relayed {seed}"), 1):
         script, command = without_ticks(script), command_of(number, only)
         wanted = OVER_LOOPBACK[command](script, now)
-        ran = subprocess.run([program, *words_of(command, 1)], input=script, capture_output=True, timeout=60, env=told)
+        ran = subprocess.run([program, *words_of(command, 1)], input=script, capture_output=True, timeout=60, env=held)
         ends[wanted.status] += 1
         fault = hostile.fault((ran.returncode, ran.stdout, ran.stderr), wanted)
         bad += is_kept(f"relayed-hostile-{number}.script", script, f"by {command}: {fault}" if fault else None)
@@ -376,11 +388,8 @@ def play_hostile(program, count, seed, only, shim, clock):
 def play_made(program, count, seed, only):
     """Plays so many of each; how many have a difference."""
     with tempfile.TemporaryDirectory() as room:
-        shim, clock = str(Path(room, "clock.so")), str(Path(room, "clock"))
-        source = Path(__file__).resolve().parent / "held_clock.c"
-        subprocess.run(["cc", "-O2", "-shared", "-fPIC", "-o", shim, source], check=True)
-        Path(clock).write_bytes(bytes(8))
-        return sum(play(program, count, seed, only, shim, clock) for play in (play_live, play_hostile))
+        held = holding(room, 0)
+        return sum(play(program, count, seed, only, held) for play in (play_live, play_hostile))
 
 
 def main():
