@@ -5,7 +5,7 @@ ghost use Rattle.sg_bridging.specs.Bridge.{IsBridge, IsCompleteBridge};
 ghost use Rattle.sg_edge.specs.Told.{Rose};
 ghost use Rattle.sg_trace.specs.Causes.{HasFailed};
 
-use crate::switchboard::Switchboard;
+use crate::player::BridgePlayer;
 use sg_base::NoMemory;
 use sg_edge::{Noise, Sink, Source};
 use sg_trace::{Status, run_script};
@@ -35,8 +35,8 @@ pub fn bridge<S: Source, K: Sink, N: Noise>(
     ensures complete { ¬ Rose (S.faults source.old) (S.faults source.new) → ¬ Rose (K.faults sink.old) (K.faults sink.new) → ¬ Rose (N.faults noise.old) (N.faults noise.new)
         → IsCompleteBridge result (S.left source.old) (S.left source.new) }
 {
-    match Switchboard::make(alloc) {
+    match BridgePlayer::make(alloc) {
         Err(NoMemory) => Status::NoMemory,
-        Ok(mut switchboard) => run_script(alloc, &mut switchboard, source, sink, noise),
+        Ok(mut player) => run_script(alloc, &mut player, source, sink, noise),
     }
 }

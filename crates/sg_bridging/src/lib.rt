@@ -3,7 +3,7 @@
 
 mod bridging;
 mod laws;
-mod switchboard;
+mod player;
 mod telling;
 
 pub use bridging::bridge;

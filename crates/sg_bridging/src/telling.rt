@@ -5,35 +5,35 @@ ghost use Rattle.std.specs.List.{flat_map};
 ghost use Rattle.sg_bridge.specs.BridgeText.{bridge_outcome_line};
 ghost use Rattle.sg_bridge.specs.Bridged.{told_and_parted};
 ghost use Rattle.sg_bridge.specs.Pairs.{after_outcome};
-ghost use Rattle.sg_bridge.specs.declared.outcomes.BridgeOutcome.TheVariants as tells;
-ghost use Rattle.sg_bridging.specs.Steps.{told_next};
 ghost use Rattle.sg_outcome.specs.OutcomeText.{outcome_line};
-ghost use Rattle.sg_outcome.specs.declared.outcomes.Outcome.TheVariants.{Dropped, Out};
+ghost use Rattle.sg_outcome.specs.declared.outcomes.Outcome.TheVariants.{Out};
+ghost use Rattle.sg_switchboard.specs.Switching.{outcome_of, told_next};
 ghost use Rattle.sg_trace.specs.Causes.{IsCaused};
 ghost use Rattle.sg_trace.specs.Output.{IsWritten};
 
-use sg_base::{Address, DropCause, Failed, NoMemory};
-use sg_bridge::{Bridge, BridgeOutcome, print_bridge};
+use sg_base::{Address, Failed, NoMemory};
+use sg_bridge::{BridgeOutcome, print_bridge};
 use sg_edge::{Sink, write_all};
 use sg_outcome::{Outcome, push_out};
+use sg_switchboard::{Switchboard, Switched, SwitchedEnd};
 use sg_trace::{Status, tell};
 use std::alloc::Global;
 
 /// Writes the line of an outcome, once it is printed. Where that fails, a prefix of it is written.
 pub(crate) fn tell_bridge<K: Sink>(
     alloc: Global,
-    outcome: &BridgeOutcome,
+    outcome: BridgeOutcome,
     sink: &mut K,
 ) -> Result<(), Status>
-    ensures told { IsWritten result (K.written sink.old) (K.written sink.new) (bridge_outcome_line outcome.now) }
+    ensures told { IsWritten result (K.written sink.old) (K.written sink.new) (bridge_outcome_line outcome) }
     ensures cause { IsCaused Status.Write result (K.faults sink.old) (K.faults sink.new) (K.failed sink.new) }
 {
-    let line = print_bridge(alloc, outcome).map_err(|_| Status::NoMemory)?;
+    let line = print_bridge(alloc, &outcome).map_err(|_| Status::NoMemory)?;
     write_all(sink, line.as_slice()).map_err(|_| Status::Write)
 }
 
 /// Writes the line of a packet that goes out.
-pub(crate) fn tell_out<K: Sink>(
+fn tell_out<K: Sink>(
     alloc: Global,
     port: u16,
     to: &Address,
@@ -54,66 +54,61 @@ pub(crate) fn tell_out<K: Sink>(
     }
 }
 
-/// Writes that a datagram at this port is dropped.
-pub(crate) fn tell_drop<K: Sink>(
+/// Writes what a datagram has become.
+#[tactic(auto, unfolding(sg_bridge::specs::BridgeText::bridge_outcome_line))]
+pub(crate) fn tell_switched<K: Sink>(
     alloc: Global,
-    port: u16,
-    cause: DropCause,
+    switched: &Switched,
     sink: &mut K,
 ) -> Result<(), Status>
-    ensures told { IsWritten result (K.written sink.old) (K.written sink.new) (outcome_line (Dropped port cause)) }
+    ensures told { IsWritten result (K.written sink.old) (K.written sink.new) (bridge_outcome_line (outcome_of switched.now)) }
     ensures cause { IsCaused Status.Write result (K.faults sink.old) (K.faults sink.new) (K.failed sink.new) }
 {
-    tell(alloc, &Outcome::Dropped { port, cause }, sink)
-}
-
-/// Writes that what was opened isn't sealed at this port.
-pub(crate) fn tell_lost<K: Sink>(
-    alloc: Global,
-    port: u16,
-    cause: DropCause,
-    sink: &mut K,
-) -> Result<(), Status>
-    ensures told { IsWritten result (K.written sink.old) (K.written sink.new) (bridge_outcome_line (tells.Lost port cause)) }
-    ensures cause { IsCaused Status.Write result (K.faults sink.old) (K.faults sink.new) (K.failed sink.new) }
-{
-    tell_bridge(alloc, &BridgeOutcome::Lost { port, cause }, sink)
+    match switched.end {
+        SwitchedEnd::Out { port, to } => tell_out(alloc, port, &to, switched.pad.octets(), sink),
+        SwitchedEnd::Dropped { port, cause } => {
+            tell(alloc, &Outcome::Dropped { port, cause }, sink)
+        }
+        SwitchedEnd::Lost { port, cause } => {
+            tell_bridge(alloc, BridgeOutcome::Lost { port, cause }, sink)
+        }
+    }
 }
 
 /// Writes what the table tells, and which pair that parts.
 fn tell_next<K: Sink>(
     alloc: Global,
-    bridge: &mut Bridge,
+    switchboard: &mut Switchboard,
     outcome: &Outcome,
     sink: &mut K,
 ) -> Result<(), Status>
-    ensures told { IsWritten result (K.written sink.old) (K.written sink.new) (told_next bridge.old outcome.now) }
-    ensures calls { OnOk result (bridge.new ≡ (after_outcome bridge.old outcome.now).calls) }
+    ensures told { IsWritten result (K.written sink.old) (K.written sink.new) (flat_map bridge_outcome_line (told_next switchboard.old.calls outcome.now)) }
+    ensures noted { OnOk result (switchboard.new ≡ record switchboard.old { calls = (after_outcome switchboard.old.calls outcome.now).calls }) }
     ensures write { IsCaused Status.Write result (K.faults sink.old) (K.faults sink.new) (K.failed sink.new) }
 {
     match tell(alloc, outcome, sink) {
         Err(status) => return Err(status),
         Ok(()) => {}
     }
-    match bridge.note(outcome) {
+    match switchboard.note(outcome) {
         None => Ok(()),
-        Some(parted) => tell_bridge(alloc, &parted, sink),
+        Some(parted) => tell_bridge(alloc, parted, sink),
     }
 }
 
 /// Writes what the table tells of a signal, in order, each end of a joined call with the pair that it parts.
 pub(crate) fn tell_all<K: Sink>(
     alloc: Global,
-    bridge: &mut Bridge,
+    switchboard: &mut Switchboard,
     outcomes: &[Outcome],
     sink: &mut K,
 ) -> Result<(), Status>
-    ensures told { IsWritten result (K.written sink.old) (K.written sink.new) (flat_map bridge_outcome_line (told_and_parted bridge.old outcomes.now).told) }
-    ensures calls { OnOk result (bridge.new ≡ (told_and_parted bridge.old outcomes.now).calls) }
+    ensures told { IsWritten result (K.written sink.old) (K.written sink.new) (flat_map bridge_outcome_line (told_and_parted switchboard.old.calls outcomes.now).told) }
+    ensures noted { OnOk result (switchboard.new ≡ record switchboard.old { calls = (told_and_parted switchboard.old.calls outcomes.now).calls }) }
     ensures write { IsCaused Status.Write result (K.faults sink.old) (K.faults sink.new) (K.failed sink.new) }
 {
     for outcome in outcomes {
-        match tell_next(alloc, bridge, outcome, sink) {
+        match tell_next(alloc, switchboard, outcome, sink) {
             Err(status) => return Err(status),
             Ok(()) => {}
         }

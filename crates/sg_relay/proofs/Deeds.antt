@@ -1,6 +1,6 @@
 -- How what was done for acts adds up.
 use Rattle.std.proofs.Common.{◌≡◌, ◌<◌, ◌+◌, ℕ, zero, suc, arith, Bool, true, false, List, [], ◌∷◌, ◌++◌, length, map, take, get_or, Result, Ok, Err, refl, sym, ap, ap₂, ◌∙◌, subst, append_assoc, inl, inr}
-use Rattle.std.specs.Prelude.{is_ok, IfErr, IsOk, ◌⊎◌}
+use Rattle.std.specs.Prelude.{is_ok, IfErr, IsOk}
 use Rattle.std.specs.List.{flat_map}
 use Rattle.std.proofs.lemmas.Bool.{false≢true}
 use Rattle.std.proofs.lemmas.List.{append-nil, map-append}

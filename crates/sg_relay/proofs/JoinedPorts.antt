@@ -1,6 +1,6 @@
 -- Where calls are joined, what is asked of a link is what the table's outcomes ask for, with some sends left out: so the ports are
 -- those of the calls all the same.
-use Rattle.std.proofs.Common.{◌≡◌, ◌⊎◌, inl, inr, ℕ, false, List, [], ◌∷◌, ◌++◌, map, Option, Some, None, Result, Ok, Err, refl, sym, ap, ◌∙◌, subst}
+use Rattle.std.proofs.Common.{◌≡◌, inl, inr, ℕ, false, List, [], ◌∷◌, ◌++◌, map, Option, Some, None, Result, Ok, Err, refl, sym, ap, ◌∙◌, subst}
 use Rattle.std.proofs.lemmas.List.{append-nil}
 use Rattle.std.specs.List.{flat_map}
 use Rattle.std.specs.Prelude.{option_to_list}
@@ -78,7 +78,7 @@ pub record Asks (w : World) (b : Bridging) : Type 0 where
 
 module _ (w : World) (calls : Members) (e : Event) where
   one_asks : (os : List Outcome) (xs : List Ask) → (step w e).outcomes ≡ os → LeavesOutSends (flat_map asked_by (os ++ [])) xs → LeavesOutSends (flat_map asked_by (outcomes_from w (e ∷ []))) xs
-  one_asks os xs was left = subst (λ (l : List Outcome). LeavesOutSends (flat_map asked_by (l ++ [])) xs) (sym was) kept
+  one_asks os xs was left = subst (λ (l : List Outcome). LeavesOutSends (flat_map asked_by (l ++ [])) xs) (sym was) left
 
   handed_asks : (p q : ℕ) (to : Address) (x : List ℕ) → (step w e).outcomes ≡ Out p to x ∷ [] → (o : Option Address) → Asks w (handed_on w calls e (step w e).world q x o)
   handed_asks p q to x was None = record { world = refl; left = one_asks (Out p to x ∷ []) [] was (inl refl) }

@@ -7,6 +7,7 @@ mod Deeds
 mod Gives
 mod Held
 mod JoinedPorts
+mod Joins
 pub mod Holds
 mod Leaving
 pub mod Order

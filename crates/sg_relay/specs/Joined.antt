@@ -1,25 +1,24 @@
 -- A relay whose calls may be joined: its deeds are what its lines say, its ticks and the datagrams that come, and what is told of
 -- them is a bridge's.
-use Rattle.std.specs.Prelude.{ℕ, List, [], ◌∷◌, map, option_to_list, Option, Some, None}
+use Rattle.std.specs.Prelude.{ℕ, List, [], ◌∷◌, map, Option, Some, None}
 use Rattle.sg_base.specs.declared.addresses.Address.{Address}
 use Rattle.sg_bridge.specs.BridgeLines.{bridge_line_of, bridge_version_after}
 use Rattle.sg_bridge.specs.BridgeText.{bridge_outcome_line}
 use Rattle.sg_bridge.specs.Bridged.{Said, Happens, Joins, Parts, bridged_events, bridged_outcomes}
-use Rattle.sg_bridge.specs.Pairs.{Members, after_outcome}
+use Rattle.sg_bridge.specs.Pairs.{Members}
 use Rattle.sg_bridge.specs.declared.lines.BridgeLine.{BridgeLine}
 use Rattle.sg_bridge.specs.declared.lines.BridgeLine.TheVariants as lines
 use Rattle.sg_bridge.specs.declared.outcomes.BridgeOutcome.{BridgeOutcome}
 use Rattle.sg_bridge.specs.declared.outcomes.BridgeOutcome.TheVariants as tells
 use Rattle.sg_gateway.specs.Runs.{world_after}
-use Rattle.sg_gateway.specs.Signals.{Signal}
-use Rattle.sg_gateway.specs.Step.{Event, Signalled}
+use Rattle.sg_gateway.specs.Step.{Event}
 use Rattle.sg_gateway.specs.World.{World, empty}
 use Rattle.sg_outcome.specs.declared.outcomes.Outcome.{Outcome}
 use Rattle.sg_relay.specs.Acting.{Acting}
 use Rattle.sg_relay.specs.Asked.{Act, Tells, act_of}
 use Rattle.sg_relay.specs.Plain as plain
 use Rattle.sg_relay.specs.Weaving.{Weaves, weaves_of}
-use Rattle.sg_switchboard.specs.Switching.{State, state_after, told_from}
+use Rattle.sg_switchboard.specs.Switching.{State, state_after, told_from, told_next}
 use Rattle.sg_trace.specs.Course.{Given}
 
 -- ---- what its lines, its ticks and its datagrams say
@@ -30,9 +29,12 @@ waits (lines.Script l) = plain.waits l
 waits other = None
 
 -- each of these events happens
+abbrev pub happen_all : List Event → List Said
+happen_all events = map Happens events
+
 abbrev pub happen : Option (Given Event) → Option (Given Said)
 happen None = None
-happen (Some g) = Some (record { deeds = map Happens g.deeds; left = g.left })
+happen (Some g) = Some (record { deeds = happen_all g.deeds; left = g.left })
 
 abbrev pub gives : BridgeLine → List ℕ → Option (Given Said)
 gives (lines.Script l) draws = happen (plain.gives l draws)
@@ -40,14 +42,10 @@ gives (lines.Join first second) draws = Some (record { deeds = Joins first secon
 gives (lines.Part call) draws = Some (record { deeds = Parts call ∷ []; left = draws })
 
 abbrev pub ticks : ℕ → List Said
-ticks moment = map Happens (plain.ticks moment)
+ticks moment = happen_all (plain.ticks moment)
 
 abbrev pub arrives : ℕ → Address → List ℕ → List Said
-arrives port from octets = map Happens (plain.arrives port from octets)
-
--- a signal that has its noise happens
-abbrev pub happens_at : Signal → List Said
-happens_at signal = Happens (Signalled signal) ∷ []
+arrives port from octets = happen_all (plain.arrives port from octets)
 
 -- how its script is read
 abbrev pub weaves : Weaves BridgeLine Said
@@ -65,7 +63,7 @@ acts_of_all told = map act_of_bridge told
 
 -- of an outcome of the table, and of the pair that it parts
 abbrev pub acts_next : Members → Outcome → List Act
-acts_next calls o = acts_of_all (tells.Table o ∷ option_to_list (after_outcome calls o).parted)
+acts_next calls o = acts_of_all (told_next calls o)
 
 -- what is done from a state on
 abbrev pub acting : Acting State Said

@@ -160,12 +160,27 @@ pub(crate) fn pass_on<K: Sink, L: Link>(
     }
 }
 
-/// Writes the line of what a bridge tells besides what its table does, once it is printed, and has it passed on at once.
-pub(crate) fn tell_bridge<K: Sink>(
+/// Does what an outcome of a bridge asks for, and writes its line: what the table tells is carried out as ever.
+pub(crate) fn carry_out_bridge<K: Sink, L: Link>(
     alloc: Global,
     outcome: &BridgeOutcome,
     sink: &mut K,
+    link: &mut L,
 ) -> Result<(), Status>
+    ensures done { (calls : List LinkCall) × (out : List ℕ) × Called (L.told link.old) (L.told link.new) calls × Wrote (K.written sink.old) (K.written sink.new) out
+        × AreCarriedOut result (act_of_bridge outcome.now ∷ []) calls out }
+    ensures only { IfErr result IsOfOutcomes }
+    ensures write { IsDueTo Status.Write result (K.faults sink.old) (K.faults sink.new) (K.failed sink.new) }
+    ensures link { IsDueToLink result (L.faults link.old) (L.faults link.new) }
+{
+    match outcome {
+        BridgeOutcome::Table(outcome) => carry_out(alloc, outcome, sink, link),
+        _ => tell_bridge(alloc, outcome, sink),
+    }
+}
+
+/// Writes the line of what a bridge tells besides what its table does, once it is printed, and has it passed on at once.
+fn tell_bridge<K: Sink>(alloc: Global, outcome: &BridgeOutcome, sink: &mut K) -> Result<(), Status>
     requires is { act_of_bridge outcome.now ≡ Tells [] (bridge_outcome_line outcome.now) }
     ensures done { (out : List ℕ) × Wrote (K.written sink.old) (K.written sink.new) out × AreCarriedOut result (act_of_bridge outcome.now ∷ []) [] out }
     ensures only { IfErr result IsOfWriting }

@@ -4,16 +4,18 @@
 ghost use Rattle.std.specs.Prelude.{◌≡◌, ◌∷◌, [], ℕ, List, IfErr, OnOk, false};
 ghost use Rattle.sg_bridge.specs.Bridged.{told_and_parted};
 ghost use Rattle.sg_bridge.specs.Pairs.{after_outcome};
-ghost use Rattle.sg_edge.specs.Links.{Called, LinkCall};
+ghost use Rattle.sg_bridge.specs.declared.lines.BridgeLine.TheVariants as lines;
+ghost use Rattle.sg_edge.specs.Links.{Added, Called, LinkCall};
 ghost use Rattle.sg_edge.specs.Told.{Wrote};
-ghost use Rattle.sg_gateway.specs.Events.{signal_lacks_noise, signal_of};
-ghost use Rattle.sg_relay.specs.Causes.{IsDueTo, IsDueToLink, IsOfOutcomes};
-ghost use Rattle.sg_relay.specs.Joined.{act_of_bridge, acting, acts_next, acts_of_all, happens_at};
-ghost use Rattle.sg_relay.specs.Parts.{AreCarriedOut, AreHandled};
+ghost use Rattle.sg_gateway.specs.Events.{events_of_signal, signal_lacks_noise};
+ghost use Rattle.sg_lines.specs.LineText.{FitsLine};
+ghost use Rattle.sg_relay.specs.Causes.{IsDueTo, IsDueToLink, IsOfOutcomes, IsOfSignals};
+ghost use Rattle.sg_relay.specs.Joined.{act_of_bridge, acting, acts_next, acts_of_all, gives, happen_all};
+ghost use Rattle.sg_relay.specs.Parts.{AreCarriedOut, AreHandled, IsGiven};
 ghost use Rattle.sg_switchboard.specs.Switching.{StandsFor, State, outcome_of};
 ghost use Rattle.sg_table.specs.Telling.{IsTimely};
 
-use crate::carrying_out::{carry_out, send_out, tell_bridge};
+use crate::carrying_out::{carry_out, carry_out_bridge, send_out};
 use crate::exchange::{Exchange, filled};
 use sg_base::{Address, NoMemory, Pad};
 use sg_bridge::{BridgeLine, BridgeOutcome};
@@ -60,7 +62,6 @@ impl Exchange for Switchboard {
         }
     }
 
-    /// The moment of a datagram line isn't used: a relay's moments are those of its clock.
     fn handle<K: Sink, L: Link, N: Noise>(
         &mut self,
         alloc: Global,
@@ -71,36 +72,17 @@ impl Exchange for Switchboard {
         noise: &mut N,
     ) -> Result<Pad, Status> {
         match line {
-            BridgeLine::Script(line) => match line {
-                Line::Header | Line::HeaderTwo => Ok(pad),
-                Line::Datagram { port, from, octets }
-                | Line::DatagramAt {
-                    port,
-                    from,
-                    octets,
-                    ..
-                } => {
-                    let pad = filled(pad, octets.as_slice());
-                    self.arrive(alloc, port, from, pad, sink, link)
-                }
-                Line::Signal(kept) => match supply(noise, kept.into_signal()) {
-                    Err(status) => Err(status),
-                    Ok(signal) => match obey(alloc, self, &signal, sink, link) {
-                        Err(status) => Err(status),
-                        Ok(()) => Ok(pad),
-                    },
-                },
-            },
+            BridgeLine::Script(line) => handle_line(alloc, self, line, pad, sink, link, noise),
             BridgeLine::Join { first, second } => {
-                let told = self.join(first, second);
-                match tell_bridge(alloc, &told, sink) {
+                let joined = self.join(first, second);
+                match carry_out_bridge(alloc, &joined, sink, link) {
                     Err(status) => Err(status),
                     Ok(()) => Ok(pad),
                 }
             }
             BridgeLine::Part { call } => {
-                let told = self.part(call);
-                match tell_bridge(alloc, &told, sink) {
+                let parted = self.part(call);
+                match carry_out_bridge(alloc, &parted, sink, link) {
                     Err(status) => Err(status),
                     Ok(()) => Ok(pad),
                 }
@@ -141,6 +123,47 @@ impl Exchange for Switchboard {
     fn are_in_order() {}
 }
 
+/// Handles a line that every script may have. The moment of a datagram line isn't used: a relay's moments are those of its clock.
+fn handle_line<K: Sink, L: Link, N: Noise>(
+    alloc: Global,
+    switchboard: &mut Switchboard,
+    line: Line,
+    pad: Pad,
+    sink: &mut K,
+    link: &mut L,
+    noise: &mut N,
+) -> Result<Pad, Status>
+    requires fits { (version number : ℕ) × FitsLine version number line }
+    ensures handled { (state : State) → StandsFor switchboard.old state → (calls : List LinkCall) × (draws : List ℕ) × (out : List ℕ)
+        × Called (L.told link.old) (L.told link.new) calls × Added (N.given noise.old) (N.given noise.new) draws × Wrote (K.written sink.old) (K.written sink.new) out
+        × IsGiven result (gives (lines.Script line)) acting state (StandsFor switchboard.new) calls draws out }
+    ensures only { IfErr result IsOfSignals }
+    ensures write { IsDueTo Status.Write result (K.faults sink.old) (K.faults sink.new) (K.failed sink.new) }
+    ensures link { IsDueToLink result (L.faults link.old) (L.faults link.new) }
+    ensures noise { IsDueTo Status.Noise result (N.faults noise.old) (N.faults noise.new) (N.failed noise.new) }
+{
+    match line {
+        Line::Header | Line::HeaderTwo => Ok(pad),
+        Line::Datagram { port, from, octets }
+        | Line::DatagramAt {
+            port,
+            from,
+            octets,
+            ..
+        } => {
+            let pad = filled(pad, octets.as_slice());
+            switchboard.arrive(alloc, port, from, pad, sink, link)
+        }
+        Line::Signal(kept) => match supply(noise, kept.into_signal()) {
+            Err(status) => Err(status),
+            Ok(signal) => match obey(alloc, switchboard, &signal, sink, link) {
+                Err(status) => Err(status),
+                Ok(()) => Ok(pad),
+            },
+        },
+    }
+}
+
 /// Has the switchboard handle a signal, and does what its outcomes ask for.
 fn obey<K: Sink, L: Link>(
     alloc: Global,
@@ -153,7 +176,7 @@ fn obey<K: Sink, L: Link>(
     requires timely { IsTimely signal.now }
     ensures handled { (state : State) → StandsFor switchboard.old state
         → (calls : List LinkCall) × (out : List ℕ) × Called (L.told link.old) (L.told link.new) calls × Wrote (K.written sink.old) (K.written sink.new) out
-        × AreHandled result acting state (happens_at (signal_of signal.now)) (StandsFor switchboard.new) calls out }
+        × AreHandled result acting state (happen_all (events_of_signal signal.now)) (StandsFor switchboard.new) calls out }
     ensures only { IfErr result IsOfOutcomes }
     ensures write { IsDueTo Status.Write result (K.faults sink.old) (K.faults sink.new) (K.failed sink.new) }
     ensures link { IsDueToLink result (L.faults link.old) (L.faults link.new) }
@@ -211,7 +234,7 @@ fn carry_out_next<K: Sink, L: Link>(
     }
     match switchboard.note(outcome) {
         None => Ok(()),
-        Some(parted) => tell_bridge(alloc, &parted, sink),
+        Some(parted) => carry_out_bridge(alloc, &parted, sink, link),
     }
 }
 
@@ -236,7 +259,7 @@ fn put_out<K: Sink, L: Link>(
             carry_out(alloc, &Outcome::Dropped { port, cause }, sink, link)
         }
         SwitchedEnd::Lost { port, cause } => {
-            tell_bridge(alloc, &BridgeOutcome::Lost { port, cause }, sink)
+            carry_out_bridge(alloc, &BridgeOutcome::Lost { port, cause }, sink, link)
         }
     }
 }

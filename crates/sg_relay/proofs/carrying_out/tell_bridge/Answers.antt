@@ -1,4 +1,4 @@
-use Rattle.std.proofs.Common.{◌∷◌, [], List, ℕ, refl, sym, subst, inr}
+use Rattle.std.proofs.Common.{◌∷◌, [], refl, sym, subst, inr, ◌∙◌}
 use Rattle.std.specs.Prelude.{Err}
 use Rattle.sg_edge.proofs.Passed.{wrote_none}
 use Rattle.sg_trace.specs.Output.{IsWritten}
@@ -18,7 +18,7 @@ returns-in-Err-clause-done g c = (
 
 pub returns-clause-done : goal.returns-clause-done
 returns-clause-done g c =
-    let wrote = line_so c.write_at_once.result _ _ _ (subst (λ (line : List ℕ). IsWritten c.write_at_once.result _ _ line) c.line.ensures c.write_at_once.ensures.told) in (
+    let wrote = line_so c.write_at_once.result _ _ _ (subst (IsWritten c.write_at_once.result _ _) (c.as_slice.ensures ∙ c.in-Ok.ensures) c.write_at_once.ensures.told) in (
       wrote.0,
       wrote.1,
       subst (λ (a : Act). AreCarriedOut c.write_at_once.result (a ∷ []) [] wrote.0) (sym c.requires.is)

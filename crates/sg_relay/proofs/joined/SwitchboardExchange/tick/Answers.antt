@@ -1,0 +1,23 @@
+use Rattle.std.proofs.Common.{[], refl, ◌∙◌}
+use Rattle.sg_bridge.specs.Bridged.{Happens}
+use Rattle.sg_edge.proofs.Links.{called_none}
+use Rattle.sg_edge.proofs.Passed.{wrote_none}
+use Rattle.sg_gateway.specs.Events.{signal_of}
+use Rattle.sg_gateway.specs.Step.{Signalled}
+use Rattle.sg_lines.specs.declared.lines.Signal.TheVariants.{Tick}
+use Rattle.sg_relay.proofs.Deeds.{done_none}
+use Rattle.sg_relay.proofs.Joins.{one_done}
+use Rattle.sg_relay.proofs.joined.SwitchboardExchange.tick.Goals as goal
+use Rattle.sg_switchboard.proofs.Noted.{signal_noted}
+use Rattle.sg_switchboard.specs.Switching.{StandsFor}
+
+pub returns-then-tick_quietly-clause-ticked : goal.returns-then-tick_quietly-clause-ticked
+returns-then-tick_quietly-clause-ticked g c = λ state stands.
+    let noted = signal_noted state (Tick c.args.moment) [] c.tick_quietly.new.self refl (c.tick_quietly.ensures.calls ∙ stands.1)
+    (c.tick_quietly.ensures.told c.if-tick_quietly.true state.world stands.0) in (
+      [],
+      [],
+      called_none _,
+      wrote_none _,
+      one_done state (Happens (Signalled (signal_of (Tick c.args.moment)))) [] noted.0 (StandsFor c.tick_quietly.new.self) [] [] (tt {0}) (done_none, tt, refl) noted.1,
+    )
