@@ -1,11 +1,11 @@
 -- What playing a line leaves, from what its parts leave.
-use Rattle.std.proofs.Common.{◌≡◌, ◌⊎◌, ◌<◌, ℕ, true, false, List, [], ◌∷◌, ◌++◌, length, map, Result, Ok, Err, IfErr, OnOk, arith, refl, sym, ap, ◌∙◌, subst, inl, inr, append_assoc}
+use Rattle.std.proofs.Common.{◌≡◌, ◌⊎◌, ℕ, List, [], ◌∷◌, ◌++◌, map, Result, Ok, Err, IfErr, OnOk, refl, sym, ap, ◌∙◌, subst, inl, inr, append_assoc}
 use Rattle.std.proofs.lemmas.List.{append-nil}
 use Rattle.sg_trace.specs.Trace.{Later, drawing, handled, handled_as, with_events}
 use Rattle.sg_trace.specs.Output.{IsPrefixOf, IsWritten}
 use Rattle.sg_trace.specs.Supplying.{IsSupplied}
 use Rattle.sg_trace.specs.declared.status.Status.{Status}
-use Rattle.sg_trace.specs.declared.status.Status.TheVariants.{Done, Usage, Script, Read, Write, Link, NoMemory, Clock, Noise, TurnsSpent, Capture}
+use Rattle.sg_trace.specs.declared.status.Status.TheVariants.{Done, Write, NoMemory, Noise}
 use Rattle.sg_edge.specs.Told.{Tally, Wrote}
 use Rattle.sg_front.proofs.Sequences.{state_after-append}
 use Rattle.sg_front.specs.States.{State, state_after}
@@ -17,7 +17,7 @@ use Rattle.sg_lines.specs.declared.lines.Line.TheVariants as lines
 use Rattle.sg_lines.specs.declared.lines.Signal.{Signal}
 use Rattle.sg_table.specs.Batches.{arrived}
 use Rattle.sg_playback.proofs.Alike.{alike_more, same_alike, text_from-append}
-use Rattle.sg_playback.specs.Playing.{AreAlike, HasCome, HasRoom, IsCut, IsPlayed, IsSettled, IsStepped, IsTaken, IsWant, Playing, text_from, waiting}
+use Rattle.sg_playback.specs.Playing.{AreAlike, HasCome, HasRoom, IsCut, IsPlayed, IsStepped, IsTaken, IsWant, Playing, text_from, waiting}
 
 -- ---- fronts
 

@@ -5,7 +5,7 @@ use Rattle.sg_trace.specs.Loop.{Effects}
 use Rattle.sg_trace.specs.Trace.{Trace, ForDraw, Later, drawing, handled, stopped, with_events}
 use Rattle.sg_trace.specs.Output.{IsPrefixOf, text}
 use Rattle.sg_trace.specs.declared.status.Status.{Status}
-use Rattle.sg_trace.specs.declared.status.Status.TheVariants.{Done, Usage, Script, Read, Write, Link, NoMemory, Clock, Noise, TurnsSpent, Capture}
+use Rattle.sg_trace.specs.declared.status.Status.TheVariants.{Write, NoMemory, Noise}
 use Rattle.sg_front.specs.States.{FrontValue, State, state_after, told_from}
 use Rattle.sg_gateway.specs.Signals.{Tick}
 use Rattle.sg_gateway.specs.Step.{Event, Signalled}
