@@ -6,11 +6,11 @@ use Rattle.sg_front.specs.States.{FrontStandsFor, State}
 use Rattle.sg_gateway.specs.Step.{Event}
 use Rattle.sg_lines.specs.LineText.{FitsLine}
 use Rattle.sg_lines.specs.declared.lines.Line.{Line}
-use Rattle.sg_playback.specs.Playing.{IsPlayed, IsSettled, IsWant, Playing, effects, text_from, waiting}
+use Rattle.sg_playback.specs.Playing.{Playing, effects, text_from, waiting}
 use Rattle.sg_playback.specs.Replay.{gives}
 use Rattle.sg_trace.specs.Causes.{IsCaused}
 use Rattle.sg_trace.specs.Course.{Given, Ways}
-use Rattle.sg_trace.specs.Loop.{IsBehindLast, IsRun, Tellings}
+use Rattle.sg_trace.specs.Loop.{IsBehindLast, IsPlayed, IsRun, IsSettled, IsWant, Tellings}
 use Rattle.sg_trace.specs.Reading.{Reading}
 use Rattle.sg_trace.specs.declared.status.Status.{Status}
 use Rattle.sg_trace.specs.declared.status.Status.TheVariants.{Noise, Write}
@@ -23,16 +23,14 @@ gives_of None = λ draws. Some (record { deeds = []; left = draws })
 -- A player took a line, by what its sink and its source of noise tell before and behind it.
 pub record HasPlayed (line : Line) (result : Result (Unit {0}) Status) (old new : Playing) (written written' drawn drawn' : Tally) (sink sink' : ℕ) (sink_failed : Option Bool) (noise noise' : ℕ) (noise_failed : Option Bool) : Type 0 where
   pub played : (s : State) → FrontStandsFor old.front s → (draws out : List ℕ) × Added drawn drawn' draws × Wrote written written' out
-      × IsPlayed result line s (waiting old) (waiting new) (FrontStandsFor new.front) draws out
-  pub few : length old.waits ≤ 256
+      × IsPlayed result effects (gives line) 258 s (waiting old) (waiting new) (FrontStandsFor new.front) draws out
   pub rest : OnOk result (length new.waits ≤ 256)
   pub write : IsCaused Write result sink sink' sink_failed
   pub drew : IsCaused Noise result noise noise' noise_failed
 
 -- A player told what waited, by what its sink tells before and behind it.
 pub record HasSettled (result : Result (Unit {0}) Status) (old new : Playing) (written written' : Tally) (sink sink' : ℕ) (sink_failed : Option Bool) : Type 0 where
-  pub settled : (s : State) → FrontStandsFor old.front s → (out : List ℕ) × Wrote written written' out × IsSettled result s (waiting old) (waiting new) (FrontStandsFor new.front) out
-  pub few : length old.waits ≤ 256
+  pub settled : (s : State) → FrontStandsFor old.front s → (out : List ℕ) × Wrote written written' out × IsSettled result effects 258 s (waiting old) (waiting new) (FrontStandsFor new.front) out
   pub only : IfErr result (λ status. IsWant status)
   pub write : IsCaused Write result sink sink' sink_failed
 

@@ -20,6 +20,6 @@ returns-in-Some-clause-played g c = λ s stands.
       played.1,
       played.2,
       played.3,
-      line_by _ c.in-Some.line s c.args.self.now.player has.few played.0 played.1 c.playing.result _ _ _ c.in-Some.ensures.played
+      line_by _ c.in-Some.line s _ played.0 played.1 c.playing.result _ _ _ c.in-Some.ensures.played
           (on_ok c.playing.result _ _ has.rest (λ few t front. (stands.0, stands.1, stands.2, stands.3, front, few))) played.4,
     )
