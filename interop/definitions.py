@@ -740,9 +740,9 @@ def captured(source):
 
 
 def live(script):
-    """A script of version 1 whose datagrams come over the network, at the moments of its ticks: a wait stands in the place of
-    each, and a tick has two turns, of which the second takes what comes right behind it. With it the readings of the clock, and
-    what is received in each turn."""
+    """A script of version 1 whose ticks go on, and whose datagrams come over the network at the moments of its ticks: a wait
+    stands in the place of each, and a tick has two turns, of which the second takes what comes right behind it. With it the
+    readings of the clock, and what is received in each turn."""
     came, nothing = (definition("sg_edge.specs.Links", name) for name in ("Came", "Nothing"))
     lines, readings, receipts, moment, word = [], [BEGAN], [], 0, None
     for line in script.splitlines(keepends=True):
@@ -754,7 +754,7 @@ def live(script):
         elif word == b"in":
             host, port = values[1].split(b":")
             source = Record({"ip": tuple(int(it) for it in host.split(b".")), "port": int(port)})
-            receipt = call(came, int(values[0]), source, tuple(bytes.fromhex(values[2].decode())))
+            receipt = call(came, int(values[0]), source, tuple(bytes.fromhex(values[2].decode().strip("-"))))
             if before == b"tick":
                 receipts[-1] = receipt
                 continue
