@@ -17,7 +17,11 @@ from ng.request import Bad, Request  # noqa: E402
 
 CLAIMS = []
 LINES = "v=0", "o=user 1 1 IN IP4 10.0.0.9", "s=-", "c=IN IP4 10.0.0.9", "t=0 0"
-GIVEN = b"v=0\r\no=a 1 1 IN IP4 10.0.0.9\r\ns=-\r\nc=IN IP4 127.0.0.1\r\nt=0 0\r\nm=audio 20000 RTP/SAVP 0\r\na=crypto:1 X inline:G\r\n"
+SHORT, LONG = "AES_CM_128_HMAC_SHA1_80", "AES_256_CM_HMAC_SHA1_80"
+# What the gateway gives: two lines in an offer.
+GIVEN = "".join(line + "\r\n" for line in (
+    *LINES[:3], "c=IN IP4 127.0.0.1", "t=0 0", "m=audio 20000 RTP/SAVP 0", f"a=crypto:1 {SHORT} inline:G",
+    f"a=crypto:2 {LONG} inline:H")).encode()
 
 
 def check(what, holds):
@@ -71,8 +75,8 @@ class Noted:
         return told
 
 
-def text_of(key, *rest, port=4_000):
-    media = f"m=audio {port} RTP/SAVP 0", f"a=crypto:1 AES_CM_128_HMAC_SHA1_80 inline:{key}"
+def text_of(key, *rest, port=4_000, line=f"1 {SHORT}"):
+    media = f"m=audio {port} RTP/SAVP 0", f"a=crypto:{line} inline:{key}"
     return "".join(line + "\r\n" for line in (*LINES, *media, *rest)).encode()
 
 
@@ -133,6 +137,18 @@ def order():
     check("both end at once", world.driver.since() == [("bye", 1, 2)] and not world.book.all())
 
 
+def tags():
+    """A telephone that has answered the second of two lines offers its key again under another tag."""
+    world = World()
+    world.offers(text_of("A"), b"a"), world.answers(text_of("B", line=f"2 {LONG}"), b"a", b"b")
+    world.driver.since()
+    given = world.offers(text_of("B", "a=sendonly", line=f"1 {LONG}"), b"b", b"a")
+    check("the same key under another tag goes past", world.driver.since() == [] and b"a=sendonly" in given)
+    given = world.answers(text_of("A", "a=recvonly"), b"b", b"a")
+    lines = [line for line in given.splitlines() if line.startswith(b"a=crypto")]
+    check("and is answered by its own suite's line, under that tag", lines == [f"a=crypto:1 {LONG} inline:H".encode()])
+
+
 def refusals():
     world = World()
     world.driver.refuses["offer_plain", 2] = Refused("TableFull")
@@ -181,6 +197,7 @@ def alone():
 
 def main():
     order()
+    tags()
     refusals()
     alone()
     bad = [what for what, holds in CLAIMS if not holds]
