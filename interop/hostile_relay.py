@@ -123,6 +123,12 @@ class Call:
         return Way(self.plain, self.ports[1], self.secure, packets, window)
 
 
+def crossing(first, second, indices):
+    """What comes of the first call's telephone to the second one's, where the calls are joined."""
+    packets = ((first.seals(index), second.sealed(index)) for index in indices)
+    return Way(first.secure, first.ports[0], second.secure, packets, WINDOW)
+
+
 class Way:
     """Packets from one end through the gateway to the other: pairs of what is sent and what must arrive, in this order.
     No more than a window are on their way."""
@@ -150,10 +156,10 @@ class Gateway:
 
     started = []
 
-    def __init__(self, program, calls, reads=True, rollover=0):
+    def __init__(self, program, calls, reads=True, rollover=0, flags=()):
         self.begun, self.asked = time.monotonic(), 0
         self.run = subprocess.Popen(
-            [program, "relay", "--turns", "1000000000"],
+            [program, "relay", "--turns", "1000000000", *flags],
             stdin=subprocess.PIPE, stdout=subprocess.PIPE, stderr=subprocess.PIPE,
         )
         self.started.append(self.run)
@@ -383,6 +389,61 @@ def made_anew(program):
     return f"{ANEW} calls made anew in a slot beside a call that talks: {packets} of {packets} of its packets are out"
 
 
+def joined_calls(program):
+    """Two pairs of joined calls talk over a rollover, while datagrams come to their plain ports from outside, which does
+    nothing. One call of a pair ends, the other pair is parted, and each call that is left is by itself again."""
+    gateway, indices = Gateway(program, 4, flags=["--bridge"]), range(65536 - TALKED // 2, 65536 + TALKED // 2)
+    gateway.write("join 0 1", "join 3 2")
+    for call in gateway.calls:
+        for seq in range(WINDOW):
+            call.plain.sends(call.ports[1], rtp(seq))
+    zero, one, two, three = gateway.calls
+    pairs = (zero, one), (one, zero), (two, three), (three, two)
+    ways = [crossing(first, second, indices) for first, second in pairs]
+    gateway.carries(*ways)
+    gateway.turns_until(2 + 4 * WINDOW, lambda: len(gateway.lines))
+    gateway.write("bye 0", "part 2")
+    gateway.turns_until(5 + 4 * WINDOW, lambda: len(gateway.lines))
+    behind = range(indices.stop, indices.stop + WINDOW)
+    gateway.carries(*(way(behind) for call in (one, two, three) for way in (call.to_plain, call.to_secure)))
+    assert not any(end.takes() for call in gateway.calls for end in (call.secure, call.plain)), "more than was sent"
+    told = gateway.ends()
+    dropped = [line for line in told if line.startswith("drop")]
+    assert sorted(dropped) == sorted(f"drop {call.ports[1]} PortUnused" for call in gateway.calls for _ in range(WINDOW))
+    others = ["joined 0 1", "joined 3 2", "ended 0 0 1 bye", "parted 0 1", "parted 3 2"]
+    assert [line for line in told if line not in dropped] == others, told[:8]
+    crossed = " and ".join(f"{way.arrived} of {TALKED}" for way in ways)
+    return f"joined calls beside {len(dropped)} datagrams at their plain ports, all dropped: {crossed} over a rollover"
+
+
+def joined_anew(program):
+    """Of two joined calls one ends, and another is made in its slot and joined, again and again. What waits at the port of
+    the call that stays crosses to the one that is there then."""
+    gateway = Gateway(program, 2, flags=["--bridge"])
+    gateway.write("join 0 1")
+    staying, leaving = gateway.calls
+    for number in range(2, 2 + ANEW):
+        first, coming = 2 * WINDOW * number, Call(number, slot=1)
+        waiting, later = range(first, first + WINDOW), range(first + WINDOW, first + 2 * WINDOW)
+        for index in waiting:
+            staying.secure.sends(staying.ports[0], staying.seals(index))
+            leaving.secure.sends(leaving.ports[0], leaving.seals(index))
+        gateway.write("tick 0", f"bye {leaving.number}", coming.line(), f"join 0 {number}")
+        gateway.turns_until(1 + 5 * (number - 1), lambda: len(gateway.lines))
+        before, back = leaving.secure.takes(), staying.secure.takes()
+        gateway.turns_until(WINDOW - len(before), lambda: len(coming.secure.arrived()))
+        assert before == [leaving.sealed(index) for index in waiting[:len(before)]], "another packet to the call that ends"
+        assert coming.secure.takes() == [coming.sealed(index) for index in waiting[len(before):]], "one is missing"
+        assert back == [staying.sealed(index) for index in waiting[:len(back)]], "another packet to the call that stays"
+        gateway.carries(crossing(staying, coming, later), crossing(coming, staying, later))
+        leaving = coming
+    told = gateway.ends()
+    made = lambda n: [f"ended {n - 1} 1 1 bye", f"parted 0 {n - 1}", f"made {n} 1 1", f"live {n}", f"joined 0 {n}"]
+    assert told == ["joined 0 1"] + [line for n in range(2, 2 + ANEW) for line in made(n)], told[:8]
+    packets = 2 * WINDOW * ANEW
+    return f"{ANEW} calls made anew and joined with a call that talks: {packets} of {packets} of its packets cross"
+
+
 def slow_reader(program):
     """8,000 outcomes that nobody reads until the pipe is full, and for two seconds more: the gateway waits, and then
     tells them all."""
@@ -488,8 +549,8 @@ def rollovers(program):
 
 
 ALL = (
-    queued_before_the_first_turn, queued_at_one_port, flooded, closed_ports, made_anew, slow_reader, reader_that_goes,
-    over_rollovers,
+    queued_before_the_first_turn, queued_at_one_port, flooded, closed_ports, made_anew, joined_calls, joined_anew,
+    slow_reader, reader_that_goes, over_rollovers,
 )
 PACED = (at_a_pace, rollovers)
 

@@ -1,5 +1,5 @@
-"""Rows of calls that are joined in pairs, played by `bridge`, and what must be told of each; `interop/rows.py` writes
-them.
+"""Rows of calls that are joined in pairs, played by `bridge` and by `relay --bridge`, and what must be told of each;
+`interop/rows.py` writes them.
 """
 from calls import KEY, ONES, RAW, RAW_OTHER
 from mikey import answered
@@ -476,11 +476,119 @@ def bridged_none():
     return s
 
 
+# ---- by a relay, to which nothing comes
+
+class Relayed(Bridged):
+    """Such a script of a relay, which sends a packet and doesn't write it; to port 0 none can be sent."""
+
+    def __init__(self, version=1, command="relay --turns 1 --bridge"):
+        super().__init__(version)
+        self.command = command
+
+    def says(self, line, *told):
+        super().says(line, *(it for each in told for it in self.written(each)))
+
+    @staticmethod
+    def written(told):
+        word, *fields = told.split(" ")
+        if word != "out":
+            return [told]
+        return [f"unsent {fields[0]} {fields[1]}"] if fields[1].endswith(":0") else []
+
+
+def relayed_packets_of_joined_calls():
+    """What crosses isn't written, but at the parted calls' plain ports its numbers are used up; nor is what comes there
+    from outside meanwhile sealed. What can't be sealed is lost, what can't be sent is told. A call ends."""
+    s = Relayed()
+    first_call(s)
+    second_call(s)
+    s.joins(1, 2)
+    for seq in (7, 8):
+        s.crosses(20000, KEY, rtp(seq), seq, TO_SECOND, THREES)
+        s.crosses(20016, TWOS, rtp(seq + 2), seq + 2, TO_FIRST, ONES)
+    s.report_crosses(20001, KEY, 0, "20017 127.0.0.1:40011", THREES, 0)
+    s.report_crosses(20017, TWOS, 0, "20001 127.0.0.1:40001", ONES, 0)
+    s.dropped(20000, KEY.srtp(rtp(7), 7), "Repeat")
+    s.dropped(20016, TWOS.srtp(rtp(11), 11)[:-1] + b"\0", "BadTag")
+    s.loses(20000, KEY.srtp(TOO_LONG, 9), 20018, "TooLong")
+    for port in (20002, 20003, 20018, 20019):
+        s.dropped(port, rtp(20) if port % 2 == 0 else rtcp(), "PortUnused")
+    s.says("part 2", "parted 1 2")
+    for port, seqs, to in ((20018, (7, 8), SECOND_PLAIN), (20002, (9, 10), None)):
+        for seq in seqs:
+            s.dropped(port, rtp(seq), "Repeat", to)
+    s.sealed(20002, ONES, rtp(20), 20)
+    s.joins(2, 1)
+    s.crosses(20000, KEY, rtp(10), 10, TO_SECOND, THREES)
+    s.says("bye 2", "ended 2 1 1 bye", "parted 2 1")
+    s.opened(20000, KEY, rtp(11), 11)
+    s.dropped(20016, TWOS.srtp(rtp(12), 12), "PortUnused")
+    return s
+
+
+def relayed_unsent_of_joined_calls():
+    """A call whose peer has the port 0: each packet that crosses to it is told as unsent, by the port by which it would
+    have left, and was sealed; RTCP goes to the port above."""
+    s = Relayed()
+    first_call(s)
+    s.manual(2, TWOS, THREES, [made(2, 1), "live 2"], "127.0.0.1:0", SECOND_PLAIN)
+    s.joins(2, 1)
+    for seq in (7, 8):
+        s.crosses(20000, KEY, rtp(seq), seq, "20016 127.0.0.1:0", THREES)
+        s.crosses(20016, TWOS, rtp(seq), seq, TO_FIRST, ONES)
+    s.report_crosses(20001, KEY, 0, "20017 127.0.0.1:1", THREES, 0)
+    s.dropped(20000, KEY.srtp(rtp(8), 8), "Repeat")
+    s.says("part 1", "parted 2 1")
+    s.dropped(20018, rtp(8), "Repeat", SECOND_PLAIN)
+    s.sealed(20018, THREES, rtp(9), 9, to="127.0.0.1:0")
+    return s
+
+
+def relayed_pairs():
+    """The row of each cause by a relay."""
+    s, bridged = Relayed(), bridged_pairs()
+    s.lines, s.told = bridged.lines, bridged.told
+    return s
+
+
+def relayed_joined_in_version_2():
+    """The moment of a datagram line isn't used: none of these ends a call or goes back."""
+    s = Relayed(2)
+    first_call(s)
+    second_call(s)
+    s.joins(1, 2)
+    s.arrives_at(0, 20000, KEY.srtp(rtp(7), 7))
+    s.arrives_at(2_085_978_495_999, 20000, KEY.srtp(TOO_LONG, 9), "lost 20018 TooLong")
+    s.arrives_at(5, 20018, rtp(7), "drop 20018 PortUnused")
+    s.arrives_at(1_000_000, 20016, TWOS.srtp(rtp(7), 7))
+    s.arrives_at(0, 20000, KEY.srtp(rtp(7), 7), "drop 20000 Repeat")
+    s.says("bye 1", "ended 1 0 1 bye", "parted 1 2")
+    return s
+
+
+def joined_in_a_relay():
+    """Without the word a relay has no such lines."""
+    s = Relayed(command="relay --turns 1")
+    s.lines += ["part 1", "join 1 2"]
+    s.end = 2, "srtpgw: script line 2: Word\n"
+    return s
+
+
+def capture_in_a_relay_of_joined_calls():
+    """Nor with it those of a capture."""
+    s = Relayed()
+    s.unjoined("part 1", 1, "CallUnknown")
+    s.lines.append("capture")
+    s.end = 2, "srtpgw: script line 3: Word\n"
+    return s
+
+
 ALL = (
     bridged_packets, bridged_pairs, bridged_numbers_of_media, bridged_by_lines_and_by_messages, bridged_losses,
     bridged_calls_without_control, bridged_rollovers, bridged_ends_of_calls, bridged_idle_calls,
     bridged_crossings_keep_both_calls, bridged_new_keys, bridged_idle_media, bridged_in_version_2,
     bridged_line_of_one_call, bridged_line_of_three_calls, bridged_line_of_no_call, bridged_line_of_another_number,
     bridged_line_past_the_last_call, bridged_line_before_the_header, bridged_line_of_a_capture, joined_in_a_replay,
-    bridged_none,
+    bridged_none, relayed_packets_of_joined_calls, relayed_unsent_of_joined_calls, relayed_pairs,
+    relayed_joined_in_version_2, joined_in_a_relay, capture_in_a_relay_of_joined_calls,
 )

@@ -5,13 +5,14 @@ line with the model's.
     interop/limits.py PROGRAM [all]
 
 They are too long to be kept as rows: 1,020 noted messages and more, 65,536 keys and more, 256 calls of four media. Each is
-played by `replay`, and short ones by every other command that reads a script, too; with `all` each is, and by `relay`. Of
+played by `replay`, and short ones by every other command that reads a script, too; with `all` each is, and by each relay. Of
 each script that is handled to its end the most memory is told that was resident.
 """
 import os
 import resource
 import subprocess
 import sys
+import tempfile
 import threading
 from pathlib import Path
 
@@ -20,7 +21,7 @@ from loopback import has_own_loopback
 from mikey import Exchange, answered
 from mixed import difference, ended, ways
 from model import TOLD
-from relayed import MuxedOverLoopback, OverLoopback
+from relayed import OVER_LOOPBACK, holding, words_of
 from signals import (
     ALICE, ALICE_OFFERS, BOB, BOB_ANSWERS, CM, COUNTING, NOW, PEER, SHARED, SHIFTED, TGK, answer, inline, key, message_line,
     noise, octets_of, offer_mikey, offer_sdes, offer_secure, own_exchange, peers_exchange, psk, secure_text, text,
@@ -175,14 +176,16 @@ ALL = (full_book, full_ring, full_table, cut_at_each_octet, changed_at_each_octe
 # Those that every command plays.
 SHORT = longest_line, longer_line, longest_datagram, full_bridge
 OTHERS = "replay --mux", "bridge", "capture", "migrate"
-RELAYS = {"relay --turns 1": OverLoopback, "relay --turns 1 --mux": MuxedOverLoopback}
 
 
 def relayed_otherwise(program, script, command):
-    """What is wrong with a relay of a script without ticks, to which nothing comes; or None."""
-    wanted = RELAYS[command](script, 1_764_000_000_123)
+    """What is wrong with a relay of a script without ticks, to which nothing comes at one moment; or None."""
+    now = 1_764_000_000_123
+    wanted = OVER_LOOPBACK[command](script, now)
     lift = lambda: resource.setrlimit(resource.RLIMIT_NOFILE, (8192, 8192))
-    run = subprocess.run([program, *command.split()], input=script, capture_output=True, timeout=120, preexec_fn=lift, check=False)
+    with tempfile.TemporaryDirectory() as room:
+        how = {"timeout": 120, "preexec_fn": lift, "check": False, "env": holding(room, now)}
+        run = subprocess.run([program, *words_of(command, 1)], input=script, capture_output=True, **how)
     return None if (run.stdout, run.returncode, run.stderr) == ended(wanted) else f"{run.returncode} {run.stderr[-200:]!r}"
 
 
@@ -213,7 +216,7 @@ def main():
             memory = f", {resident(program, script, len(told.octets()))} KiB" if is_told else ""
             bad, played = bad + bool(fault), played + len(ways(command))
             print(f"{made.__name__} by {command}: {len(lines)} lines, {fault or 'the same'}{memory}", flush=True)
-        for command in RELAYS if is_own else ():
+        for command in OVER_LOOPBACK if is_own else ():
             still = b"".join(line for line in script.splitlines(keepends=True) if not line.startswith(b"tick "))
             fault = relayed_otherwise(program, still, command)
             bad, played = bad + bool(fault), played + 1

@@ -1,23 +1,26 @@
 #!/usr/bin/env python3
-"""prompt.py PROGRAM: what a line tells is written before the next line is waited for, by each command that plays a script;
-and where many lines come at once there are no more writes than reads."""
+"""prompt.py PROGRAM: what a line tells is written before the next line is waited for, by each command that plays a script
+and by a relay; and where many lines come at once to one that isn't a relay there are no more writes than reads."""
 import os
 import select
 import subprocess
 import sys
 import time
 
+from loopback import has_own_loopback
+
 PATIENCE = 20.0
+RELAYS = "relay --turns 1", "relay --turns 1 --mux", "relay --turns 1 --bridge"
 
 
-def call(number):
-    """A call under raw keys of its own, whose outcomes are two lines."""
-    keys = [("RAW80:" + f"{number * 2 + side:04x}" + 18 * "ab") for side in (0, 1)]
+def call(number, key=None):
+    """A call under raw keys, its own or others', whose outcomes are two lines."""
+    keys = [("RAW80:" + f"{(key or number) * 2 + side:04x}" + 18 * "ab") for side in (0, 1)]
     return f"manual {number} 203.0.113.9:{40000 + number} 198.51.100.7:{30000 + number} 00000000 64 {keys[0]} {keys[1]}\n"
 
 
 def begin(program, command):
-    return subprocess.Popen([program, command], stdin=subprocess.PIPE, stdout=subprocess.PIPE)
+    return subprocess.Popen([program, *command.split()], stdin=subprocess.PIPE, stdout=subprocess.PIPE)
 
 
 def read_until(process, size):
@@ -38,15 +41,26 @@ def ask(process, line, wanted):
     return [] if said == wanted.encode() else [f"{line.strip()[:40]!r} is answered {said[:80]!r}"]
 
 
+def script(command, version):
+    """Lines, and what each is answered."""
+    yield f"srtpgw {version}\n", ""
+    yield call(1), "made 1 0 1\nlive 1\n"
+    yield call(1), "refused 1 CallKnown\n"
+    yield "bye 1\n", "ended 1 0 1 bye\n"
+    if command.endswith("bridge"):
+        yield call(1, key=3), "made 1 0 1\nlive 1\n"
+        yield call(2), "made 2 1 1\nlive 2\n"
+        yield "join 1 2\n", "joined 1 2\n"
+        yield "join 2 1\n", "unjoined 2 Joined 1\n"
+        yield f"in {'0 ' * (version - 1)}20002 198.51.100.7:30001 8000\n", "drop 20002 PortUnused\n"
+        yield "part 2\n", "parted 1 2\n"
+
+
 def answers(program, command, version):
     """The lines of a script, one by one, each once the one before is answered."""
-    process = begin(program, command)
-    told = [] if command == "migrate" else ["made 1 0 1\nlive 1\n", "refused 1 CallKnown\n", "ended 1 0 1 bye\n"]
-    lines = [call(1), call(1), "bye 1\n"]
-    header = f"srtpgw {version}\n"
-    bad = ask(process, header, "srtpgw 2\n" if command == "migrate" else "")
-    for number, line in enumerate(lines):
-        bad += ask(process, line, line if command == "migrate" else told[number])
+    process, bad = begin(program, command), []
+    for line, told in script(command, version):
+        bad += ask(process, line, line.replace("srtpgw 1", "srtpgw 2") if command == "migrate" else told)
     process.stdin.close()
     bad += [] if process.wait(PATIENCE) == 0 else ["it failed"]
     return bad
@@ -74,7 +88,8 @@ def counts(program, command):
 
 def main():
     program, bad = sys.argv[1], []
-    for command in ("replay", "capture", "bridge", "migrate"):
+    has_own_loopback()
+    for command in ("replay", "capture", "bridge", "migrate", *RELAYS):
         for version in (1,) if command == "migrate" else (1, 2):
             bad += [f"{command}, version {version}: {it}" for it in answers(program, command, version)]
     for command in ("replay", "capture", "bridge"):

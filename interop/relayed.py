@@ -2,17 +2,18 @@
 """Plays scripts of both versions by the program's `relay` and compares what is written with the model's: what a line's
 moment is, a relay doesn't ask.
 
-    interop/relayed.py PROGRAM [COUNT [SEED]]
+    interop/relayed.py PROGRAM [COUNT [SEED [COMMAND]]]
 
 The scripts are rows without ticks, each in the version that it is of, and those of version 1 in version 2 with moments
-that go on, go back and are the last ones of all; and rows by `relay --mux`. Nothing comes over the network to these.
+that go on, go back and are the last ones of all; and rows by `relay --mux` and `relay --bridge`. Nothing comes over the
+network to these.
 
-Then so many scripts of the grammar of `mixed.py` are played live, every other one by `--mux`: half of their datagrams come
-over the loopback, and each tick is a reading of the clock, which `held_clock.c` holds. Each datagram is handled before the
-next one comes, so what must be written, and what must reach each telephone's port, is the model's to the octet, at every
-moment. Behind them come as many scripts of `hostile.py`, cut and changed, without their ticks. One with a difference is
-kept as `relayed-NUMBER.script`, where what came over the loopback has the lines of version 2. This needs a network of its
-own, and a C compiler.
+Then so many scripts of the grammar of `mixed.py` are played live, by `relay`, `relay --mux` and `relay --bridge` in turn, or
+by the one COMMAND of these: half of their datagrams come over the loopback, and each tick is a reading of the clock, which
+`held_clock.c` holds. Each datagram is handled before the next one comes, so what must be written, and what must reach each
+telephone's port, is the model's to the octet, at every moment. Behind them come as many scripts of `hostile.py`, cut and
+changed, without their ticks. One with a difference is kept as `relayed-NUMBER.script`, where what came over the loopback
+has the lines of version 2. This needs a network of its own, and a C compiler.
 """
 import mmap
 import os
@@ -23,12 +24,13 @@ import sys
 import tempfile
 import time
 from collections import Counter, defaultdict
+from contextlib import closing
 from pathlib import Path
 
 import hostile
 from loopback import has_own_loopback
 from mixed import PORTS, Mixer, causes, hexed
-from model import muxed, replay, scripts
+from model import bridged, muxed, replay, scripts
 from signals import MARK
 from usage import words_or_usage
 
@@ -47,6 +49,13 @@ MUXED = (
     "muxed-offers-again", "muxed-legs-change-sides", "muxed-in-an-earlier-generation", "muxed-slots-used-again",
     "muxed-texts-at-their-limits", "muxed-calls-side-by-side", "muxed-in-version-2",
 )
+# Those with calls that are joined, by `--bridge`.
+BRIDGED = (
+    "bridged-packets", "bridged-pairs", "bridged-numbers-of-media", "bridged-losses", "bridged-calls-without-control",
+    "bridged-rollovers", "bridged-ends-of-calls", "bridged-new-keys", "bridged-idle-media", "bridged-in-version-2",
+    "bridged-none", "bridged-line-before-the-header", "bridged-line-of-a-capture", "bridged-line-of-another-number",
+    "bridged-line-of-no-call", "bridged-line-of-one-call", "bridged-line-of-three-calls", "bridged-line-past-the-last-call",
+)
 MOMENTS = 0, 5, 60_000, 4, 2_085_978_495_999, 0
 
 
@@ -59,6 +68,23 @@ class OverLoopback(replay.Relayed):
 
 class MuxedOverLoopback(OverLoopback):
     world_of = muxed.World
+
+
+class BridgedOverLoopback(OverLoopback):
+    reader, world_of = bridged.Lines, bridged.World
+
+
+# What each relay tells that no packet leaves, and one over a loopback alone.
+RELAYED = {"relay": replay.Relayed, "relay --mux": muxed.Relayed, "relay --bridge": bridged.Relayed}
+OVER_LOOPBACK = {"relay": OverLoopback, "relay --mux": MuxedOverLoopback, "relay --bridge": BridgedOverLoopback}
+# The command of `mixed.py` whose scripts such a relay plays.
+PLAYED_AS = {"relay": "replay", "relay --mux": "replay --mux", "relay --bridge": "bridge"}
+
+
+def words_of(command, turns):
+    """The words of a relay with so many turns."""
+    relay, *flags = command.split()
+    return [relay, "--turns", str(turns), *flags]
 
 
 def with_moments(script):
@@ -75,11 +101,10 @@ def without_ticks(script):
     return b"".join(line for line in script.splitlines(keepends=True) if not line.startswith(b"tick "))
 
 
-def difference(program, script, flags=()):
+def difference(program, script, command="relay"):
     """What is wrong with a run, or None."""
-    relayed = muxed.Relayed if flags else replay.Relayed
-    wanted, words = relayed(script, int(1_000 * time.time())), ["relay", "--turns", "1", *flags]
-    run = subprocess.run([program, *words], input=script, capture_output=True, timeout=60, check=False)
+    wanted = RELAYED[command](script, int(1_000 * time.time()))
+    run = subprocess.run([program, *words_of(command, 1)], input=script, capture_output=True, timeout=60, check=False)
     if (run.stdout, run.returncode, run.stderr) == (wanted.octets(), wanted.status, wanted.said):
         return None
     told = zip(run.stdout.decode().splitlines(), wanted.octets().decode().splitlines())
@@ -100,7 +125,8 @@ class Live(Mixer):
     """A script in the making for a relay. Its steps are lines, readings of the clock, and datagrams that come at one."""
 
     def __init__(self, seed, version, command):
-        super().__init__(seed, version, command)
+        super().__init__(seed, version, PLAYED_AS[command])
+        self.command = command
         self.began = self.dice.choice((0, 1_000_000_000, 1_764_000_000_123, scripts.LAST_TICK - 2_000_000_000))
         self.world.signal("tick", self.began)
         self.steps = [("line", self.lines[0], [])]
@@ -109,7 +135,7 @@ class Live(Mixer):
         """A line, but for a tick, which is a reading of the clock."""
         line = b" ".join(field if isinstance(field, bytes) else str(field).encode() for field in fields)
         self.lines.append(line)
-        word, *values = scripts.read(2, line + b"\n", self.version)
+        word, *values = scripts.read(2, line + b"\n", self.version, has_pairs=self.is_bridge)
         if word == "tick":
             return self.reads(*values)
         told = replay.told(self.world, *(("in", *values[1:]) if word == "at" else (word, *values)))
@@ -172,6 +198,10 @@ class Telephones:
         one.setblocking(False)
         return one
 
+    def close(self):
+        for one in [*self.at.values(), *self.senders.values()]:
+            one.close()
+
     def sends(self, host, port, octets):
         if host not in self.senders:
             self.senders[host] = self.opened(0, host)
@@ -187,13 +217,21 @@ class Telephones:
                 pass
 
 
+def holding(room, moment):
+    """The environment of a program whose clock reads a moment, which a file in this folder holds: HELD_CLOCK."""
+    shim, clock = Path(room, "clock.so"), Path(room, "clock")
+    source = Path(__file__).resolve().parent / "held_clock.c"
+    subprocess.run(["cc", "-O2", "-shared", "-fPIC", "-o", shim, source], check=True)
+    clock.write_bytes(moment.to_bytes(8, sys.byteorder))
+    return {**os.environ, "LD_PRELOAD": str(shim), "HELD_CLOCK": str(clock)}
+
+
 class Relay:
     """The program, live: it is told lines, and is at one with us at each mark."""
 
-    def __init__(self, program, words, shim, clock):
-        told = {**os.environ, "LD_PRELOAD": shim, "HELD_CLOCK": clock}
+    def __init__(self, program, words, held):
         pipe = subprocess.PIPE
-        self.run = subprocess.Popen([program, *words], stdin=pipe, stdout=pipe, stderr=pipe, env=told)
+        self.run = subprocess.Popen([program, *words], stdin=pipe, stdout=pipe, stderr=pipe, env=held)
         self.written, self.rest, self.seen, self.marks = [], b"", 0, 0
 
     def says(self, lines):
@@ -278,13 +316,11 @@ def played_live(live, relay, telephones, moments):
     return [*told, [MARKED]]
 
 
-def difference_live(program, live, telephones, shim, clock):
+def difference_live(program, live, telephones, held):
     """What is wrong with a live run, or None."""
-    with open(clock, "r+b") as file, mmap.mmap(file.fileno(), 8) as moments:
+    with open(held["HELD_CLOCK"], "r+b") as file, mmap.mmap(file.fileno(), 8) as moments:
         moments[:8] = live.began.to_bytes(8, sys.byteorder)
-        telephones.found.clear()
-        words = ["relay", "--turns", "1000000000", *(["--mux"] if live.is_muxed else [])]
-        relay = Relay(program, words, shim, clock)
+        relay = Relay(program, words_of(live.command, 1_000_000_000), held)
         try:
             told = played_live(live, relay, telephones, moments)
         except (TimeoutError, EOFError, BrokenPipeError) as fault:
@@ -302,16 +338,22 @@ def difference_live(program, live, telephones, shim, clock):
     return f"other packets at {wrong}" if wrong else None
 
 
-def play_live(program, count, seed, shim, clock):
+def command_of(number, only):
+    """The command by which a script is played."""
+    return only or list(RELAYED)[number % 3]
+
+
+def play_live(program, count, seed, only, held):
     """Plays so many mixed scripts; how many have a difference."""
-    bad, steps, counts, begun, telephones = 0, Counter(), Counter(), time.monotonic(), Telephones()
+    bad, steps, counts, begun = 0, Counter(), Counter(), time.monotonic()
     for number in range(1, count + 1):
-        live = Live(f"relayed {seed} {number}", 2 if number % 4 > 1 else 1, ("replay", "replay --mux")[number % 2])
+        live = Live(f"relayed {seed} {number}", 2 if number % 4 > 1 else 1, command_of(number, only))
         live.mixed()
         steps.update(kind for kind, _, _ in live.steps)
         counts.update(causes(line) for told in live.told for line in told)
-        fault = difference_live(program, live, telephones, shim, clock)
-        bad += is_kept(f"relayed-{number}.script", live.script(), f"live{' --mux' * live.is_muxed}: {fault}" if fault else None)
+        with closing(Telephones()) as telephones:
+            fault = difference_live(program, live, telephones, held)
+        bad += is_kept(f"relayed-{number}.script", live.script(), f"live by {live.command}: {fault}" if fault else None)
     for cause, times in sorted(counts.items()):
         print(f"{times:7} {cause}")
     came = f"{steps['line']} lines, {steps['datagram']} datagrams over the loopback and {steps['turn']} readings"
@@ -327,52 +369,50 @@ def is_kept(name, script, fault):
     return bool(fault)
 
 
-def play_hostile(program, count, seed, shim, clock):
+def play_hostile(program, count, seed, only, held):
     """The same of scripts that were cut and changed, of which nothing comes over the network."""
     bad, ends, begun, now = 0, Counter(), time.monotonic(), 1_764_000_000_123
-    Path(clock).write_bytes(now.to_bytes(8, sys.byteorder))
-    told = {**os.environ, "LD_PRELOAD": shim, "HELD_CLOCK": clock}
+    Path(held["HELD_CLOCK"]).write_bytes(now.to_bytes(8, sys.byteorder))
     for number, (_, script) in enumerate(hostile.cases(count, f"relayed {seed}"), 1):
-        script, flags = without_ticks(script), ["--mux"] * (number % 2)
-        wanted = (MuxedOverLoopback if flags else OverLoopback)(script, now)
-        ran = subprocess.run([program, "relay", "--turns", "1", *flags], input=script, capture_output=True, timeout=60, env=told)
+        script, command = without_ticks(script), command_of(number, only)
+        wanted = OVER_LOOPBACK[command](script, now)
+        ran = subprocess.run([program, *words_of(command, 1)], input=script, capture_output=True, timeout=60, env=held)
         ends[wanted.status] += 1
         fault = hostile.fault((ran.returncode, ran.stdout, ran.stderr), wanted)
-        bad += is_kept(f"relayed-hostile-{number}.script", script, f"{' '.join(flags)} {fault}" if fault else None)
+        bad += is_kept(f"relayed-hostile-{number}.script", script, f"by {command}: {fault}" if fault else None)
     done = f"{ends[0]} handled to their end, {ends[2]} that leave the grammar, {ends[None]} that have noise drawn"
     print(f"relayed hostile: {count} scripts, {done}, {bad} with a difference, {time.monotonic() - begun:.0f} s")
     return bad
 
 
-def play_made(program, count, seed):
+def play_made(program, count, seed, only):
     """Plays so many of each; how many have a difference."""
     with tempfile.TemporaryDirectory() as room:
-        shim, clock = str(Path(room, "clock.so")), str(Path(room, "clock"))
-        source = Path(__file__).resolve().parent / "held_clock.c"
-        subprocess.run(["cc", "-O2", "-shared", "-fPIC", "-o", shim, source], check=True)
-        Path(clock).write_bytes(bytes(8))
-        return play_live(program, count, seed, shim, clock) + play_hostile(program, count, seed, shim, clock)
+        held = holding(room, 0)
+        return sum(play(program, count, seed, only, held) for play in (play_live, play_hostile))
 
 
 def main():
     program, *rest = words_or_usage(__doc__)
-    count, seed = (rest + ["0", "1"][len(rest):])[:2]
+    count, seed, only = (rest + ["0", "1", None][len(rest):])[:3]
     played, bad, is_own = 0, 0, has_own_loopback()
     read = lambda name: without_ticks((ROWS / f"{name}.script").read_bytes())
-    given = [(name, read(name), ()) for name in TIMED + UNTIMED]
-    given += [(f"{name} with moments", with_moments(read(name)), ()) for name in UNTIMED]
-    given += [(name, read(name), ("--mux",)) for name in MUXED + UNTIMED]
-    for name, script, flags in given:
+    given = [(name, read(name), "relay") for name in TIMED + UNTIMED]
+    given += [(f"{name} with moments", with_moments(read(name)), "relay") for name in UNTIMED]
+    given += [(name, read(name), "relay --mux") for name in MUXED + UNTIMED]
+    given += [(name, read(name), "relay --bridge") for name in BRIDGED + UNTIMED]
+    given += [(f"{name} with moments", with_moments(read(name)), "relay --bridge") for name in BRIDGED if "version" not in name]
+    for name, script, command in given:
         played += 1
-        fault = difference(program, script, flags)
+        fault = difference(program, script, command)
         if fault:
             bad += 1
-            print(f"{' '.join([name, *flags])}: {fault}", flush=True)
+            print(f"{name} by {command}: {fault}", flush=True)
     print(f"relayed scripts: {played} of both versions, {bad} with a difference")
     if int(count) and not is_own:
         print("not run: relayed live: the system gives no network of its own")
     elif int(count):
-        bad += play_made(program, int(count), seed)
+        bad += play_made(program, int(count), seed, only)
     return bool(bad)
 
 

@@ -24,6 +24,7 @@ import ports
 import shared
 import versions
 from model import TOLD
+from relayed import OVER_LOOPBACK
 
 ROWS = Path(__file__).resolve().parent / "rows"
 
@@ -33,9 +34,15 @@ def of_text(told):
     return told if isinstance(told, bytes) else "".join(line + "\n" for line in told).encode()
 
 
+def by_model(command, source):
+    """What the model tells of a run; of a relay, over a loopback and at some moment, of which no row tells."""
+    relay = OVER_LOOPBACK.get(command.replace(" --turns 1", ""))
+    return relay(source, 0) if relay else TOLD[command](source)
+
+
 def files(name, script, told, command="replay", end=None, capture=b""):
     """The files of a row, with their octets. The model has to tell the same."""
-    model, (status, said) = TOLD[command](script + capture), end or (0, "")
+    model, (status, said) = by_model(command, script + capture), end or (0, "")
     assert model.octets() == told, f"the model tells something else of {name}"
     assert (model.status, model.said.decode()) == (status, said), f"the model ends {name} otherwise"
     yield f"{name}.script", script

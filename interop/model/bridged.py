@@ -1,4 +1,5 @@
-"""Calls that are joined in pairs, so that what is opened in the one is sealed in the other: what a bridge tells."""
+"""Calls that are joined in pairs, so that what is opened in the one is sealed in the other: what a bridge tells, and a
+relay that joins calls."""
 from srtp import RTCP, RTP
 
 from . import replay, scripts
@@ -106,4 +107,8 @@ class Lines(scripts.Reader):
 
 
 class Told(replay.Told):
+    reader, world_of = Lines, World
+
+
+class Relayed(replay.Relayed):
     reader, world_of = Lines, World

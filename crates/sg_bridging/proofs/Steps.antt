@@ -71,7 +71,7 @@ on_ok (Ok u) is = is
 on_ok (Err e) is = tt
 
 -- one thing, by the text of what it tells, or by the one line
-pub one_done : (r : Result (Unit {0}) Status) (s : State) (x : Said) (board : SwitchboardValue) (a b : Tally) (told : List BridgeOutcome) → (bridging s.world s.calls x).told ≡ told → OnOk r (StandsFor board (state_after s (x ∷ [])))
+one_done : (r : Result (Unit {0}) Status) (s : State) (x : Said) (board : SwitchboardValue) (a b : Tally) (told : List BridgeOutcome) → (bridging s.world s.calls x).told ≡ told → OnOk r (StandsFor board (state_after s (x ∷ [])))
     → IsWritten r a b (lines told) → AreDone r s (x ∷ []) board a b
 one_done r s x board a b told is stands wrote = (subst (IsWritten r a b) (ap lines (sym is ∙ sym (told_of_one s x))) wrote, stands)
 

@@ -4,7 +4,7 @@ use Rattle.std.proofs.Common.{◌≡◌, ◌⊎◌, ◌-◌, ◌≤◌, ◌^◌,
 use Rattle.std.proofs.Math.Seq.{drop-append_seam}
 use Rattle.std.proofs.lemmas.List.{append-nil}
 use Rattle.sg_base.specs.declared.faults.ScriptFault.{ScriptFault}
-use Rattle.sg_base.specs.declared.faults.ScriptFault.TheVariants.{Word, Number, Hex, Length, Version, Unended}
+use Rattle.sg_base.specs.declared.faults.ScriptFault.TheVariants.{Unended}
 use Rattle.sg_capture.proofs.Captureds.{captured_at}
 use Rattle.sg_capture.proofs.Outputs.{happens_events, happens_output, output_of-append}
 use Rattle.sg_capture.specs.Capturing.{CaptureEnds, IsAllTold, IsCapture, IsCompleteCapture, IsCutCapture, IsWholeCapture}
@@ -22,26 +22,26 @@ use Rattle.sg_pcap.specs.Capture.{Capture, capture_of}
 use Rattle.sg_pcap.specs.declared.faults.CaptureFault.{CaptureFault}
 use Rattle.sg_pcap.specs.declared.faults.CaptureFault.TheVariants as capture_faults
 use Rattle.sg_playback.proofs.Replays.{as_trace}
-use Rattle.sg_playback.specs.Replay.{ReplayTellings}
-use Rattle.sg_playback.specs.Scripts.{IsBehindLast}
+use Rattle.sg_playback.specs.Playing.{effects}
 use Rattle.sg_trace.specs.Captured.{CaptureStop, CaptureTrace, Happens, Occurrence, InCapture, InScript, capture_occurs, captured, output_of, then_capture}
+use Rattle.sg_trace.specs.Loop.{IsBehindLast, Tellings}
 use Rattle.sg_trace.specs.Output.{output}
 use Rattle.sg_trace.specs.Reading.{Reading}
 use Rattle.sg_trace.specs.Trace.{AtCapture, AtFault, Trace, drawing, stopped, with_events}
 use Rattle.sg_trace.specs.declared.status.Status.{Status}
 use Rattle.sg_trace.specs.declared.status.Status.TheVariants as statuses
 
-module _ (old mid new : ReplayTellings) (script : Reading) (stands_for : State → Type 0) (octets draws out : List ℕ) (so_far : IsBehindLast of_capture (start false) old mid script stands_for octets draws out)
+module _ (old mid new : Tellings) (script : Reading) (stands_for : State → Type 0) (octets draws out : List ℕ) (so_far : IsBehindLast of_capture effects (start false) old mid script stands_for octets draws out)
     (got out' : List ℕ) (took : TookIn mid.left new.left got) (wrote : Wrote mid.written new.written out') (drawn : new.drawn ≡ mid.drawn) (few : length got ≤ script.budget)
-    (last : ℕ) (moment : last ≡ (world_after empty so_far.events).moment) where
+    (last : ℕ) (moment : last ≡ (world_after empty so_far.deeds).moment) where
   abbrev most : ℕ
   most = 2 ^ 30 - script.offset
 
   abbrev script_trace : Trace
-  script_trace = with_events so_far.events (stopped (AtCapture script.offset) (drawing []))
+  script_trace = with_events so_far.deeds (stopped (AtCapture script.offset) (drawing []))
 
-  told_before : out ≡ output so_far.events
-  told_before = so_far.told ∙ output_so so_far.events
+  told_before : out ≡ output so_far.deeds
+  told_before = so_far.told ∙ output_so so_far.deeds
 
   -- what these octets behind the lines give
   captured_is : (rest : List ℕ) → captured (so_far.lines ++ rest) draws ≡ then_capture script_trace (capture_of most rest)
@@ -49,19 +49,19 @@ module _ (old mid new : ReplayTellings) (script : Reading) (stands_for : State �
       captured_at (so_far.lines ++ rest) draws script_trace (script_so (so_far.lines ++ rest) draws ∙ ap as_trace (so_far.goes rest))
       ∙ ap (λ (l : List ℕ). then_capture script_trace (capture_of most l)) (ap (λ (n : ℕ). drop n (so_far.lines ++ rest)) (sym so_far.size) ∙ drop-append_seam so_far.lines rest)
 
-  told_so : (rest : List ℕ) → output_of empty (captured (so_far.lines ++ rest) draws).occurrences ≡ output so_far.events ++ output_of (world_after empty so_far.events) (all_behind [] last (capture_of most rest))
+  told_so : (rest : List ℕ) → output_of empty (captured (so_far.lines ++ rest) draws).occurrences ≡ output so_far.deeds ++ output_of (world_after empty so_far.deeds) (all_behind [] last (capture_of most rest))
   told_so rest =
       let records = (capture_of most rest).records in
       ap (λ (t : CaptureTrace). output_of empty t.occurrences) (captured_is rest)
-      ∙ ap (λ (es : List Event). output_of empty (map Happens es ++ capture_occurs (world_after empty es).moment records)) (append-nil so_far.events)
-      ∙ ap (λ (m : ℕ). output_of empty (map Happens so_far.events ++ capture_occurs m records)) (sym moment)
-      ∙ output_of-append empty (map Happens so_far.events) (capture_occurs last records)
-      ∙ (λ i. happens_output empty so_far.events i ++ output_of (world_after empty (happens_events so_far.events i)) (capture_occurs last records))
+      ∙ ap (λ (es : List Event). output_of empty (map Happens es ++ capture_occurs (world_after empty es).moment records)) (append-nil so_far.deeds)
+      ∙ ap (λ (m : ℕ). output_of empty (map Happens so_far.deeds ++ capture_occurs m records)) (sym moment)
+      ∙ output_of-append empty (map Happens so_far.deeds) (capture_occurs last records)
+      ∙ (λ i. happens_output empty so_far.deeds i ++ output_of (world_after empty (happens_events so_far.deeds i)) (capture_occurs last records))
 
   all_octets : octets ++ got ≡ so_far.lines ++ (script.waits ++ got)
   all_octets = ap (λ (l : List ℕ). l ++ got) so_far.split ∙ append_assoc so_far.lines script.waits got
 
-  whole_so : (fault : Option (ℕ × CaptureFault)) → (capture_of most (script.waits ++ got)).fault ≡ fault → out' ≡ output_of (world_after empty so_far.events) (all_behind [] last (capture_of most (script.waits ++ got)))
+  whole_so : (fault : Option (ℕ × CaptureFault)) → (capture_of most (script.waits ++ got)).fault ≡ fault → out' ≡ output_of (world_after empty so_far.deeds) (all_behind [] last (capture_of most (script.waits ++ got)))
       → IsWholeCapture (octets ++ got) draws (out ++ out') (InCapture fault)
   whole_so fault is told =
       subst (λ (o : List ℕ). IsWholeCapture o draws (out ++ out') (InCapture fault)) (sym all_octets)
@@ -71,31 +71,31 @@ module _ (old mid new : ReplayTellings) (script : Reading) (stands_for : State �
         told = (λ i. told_before i ++ told i) ∙ sym (told_so (script.waits ++ got));
       })
 
-  front_so : (os : List Occurrence) → output_of empty (map Happens so_far.events ++ os) ≡ out ++ output_of (world_after empty so_far.events) os
+  front_so : (os : List Occurrence) → output_of empty (map Happens so_far.deeds ++ os) ≡ out ++ output_of (world_after empty so_far.deeds) os
   front_so os =
-      output_of-append empty (map Happens so_far.events) os
-      ∙ (λ i. (happens_output empty so_far.events ∙ sym told_before) i ++ output_of (world_after empty (happens_events so_far.events i)) os)
+      output_of-append empty (map Happens so_far.deeds) os
+      ∙ (λ i. (happens_output empty so_far.deeds ∙ sym told_before) i ++ output_of (world_after empty (happens_events so_far.deeds i)) os)
 
-  cut_so : IsCutReading (world_after empty so_far.events) [] last (capture_of most) (script.waits ++ got) out' → IsCutCapture (octets ++ got) draws (out ++ out')
+  cut_so : IsCutReading (world_after empty so_far.deeds) [] last (capture_of most) (script.waits ++ got) out' → IsCutCapture (octets ++ got) draws (out ++ out')
   cut_so cut =
-      let events : List Occurrence = map Happens so_far.events in
-      let all : output_of empty ((events ++ cut.told) ++ cut.late) ≡ out ++ output_of (world_after empty so_far.events) (cut.told ++ cut.late) = ap (output_of empty) (append_assoc events cut.told cut.late) ∙ front_so (cut.told ++ cut.late) in record {
+      let events : List Occurrence = map Happens so_far.deeds in
+      let all : output_of empty ((events ++ cut.told) ++ cut.late) ≡ out ++ output_of (world_after empty so_far.deeds) (cut.told ++ cut.late) = ap (output_of empty) (append_assoc events cut.told cut.late) ∙ front_so (cut.told ++ cut.late) in record {
         played = so_far.lines ++ cut.played;
         ahead = cut.ahead;
         split = all_octets ∙ ap (λ (l : List ℕ). so_far.lines ++ l) cut.split ∙ sym (append_assoc so_far.lines cut.played cut.ahead);
         near = cut.near;
         told = events ++ cut.told;
         late = cut.late;
-        alike = told_so cut.played ∙ (λ i. sym told_before i ++ output_of (world_after empty so_far.events) (cut.all i)) ∙ sym all;
+        alike = told_so cut.played ∙ (λ i. sym told_before i ++ output_of (world_after empty so_far.deeds) (cut.all i)) ∙ sym all;
         few = cut.few;
         begun = (
           cut.begun.0,
-          ap (λ (o : List ℕ). out ++ o) cut.begun.1 ∙ sym (append_assoc out (output_of (world_after empty so_far.events) cut.told) cut.begun.0) ∙ ap (λ (o : List ℕ). o ++ cut.begun.0) (sym (front_so cut.told)),
+          ap (λ (o : List ℕ). out ++ o) cut.begun.1 ∙ sym (append_assoc out (output_of (world_after empty so_far.deeds) cut.told) cut.begun.0) ∙ ap (λ (o : List ℕ). o ++ cut.begun.0) (sym (front_so cut.told)),
         );
         within = (cut.within.0, all ∙ ap (λ (o : List ℕ). out ++ o) cut.within.1 ∙ sym (append_assoc out out' cut.within.0));
       }
 
-  ends_so : (status : Status) → EndsReading status (world_after empty so_far.events) [] last (capture_of most) (script.waits ++ got) out' new.left → CaptureEnds status (octets ++ got) draws (out ++ out') new.left
+  ends_so : (status : Status) → EndsReading status (world_after empty so_far.deeds) [] last (capture_of most) (script.waits ++ got) out' new.left → CaptureEnds status (octets ++ got) draws (out ++ out') new.left
   ends_so statuses.Done ends = (inr (whole_so None ends.1 ends.0), ends.2)
   ends_so (statuses.Capture offset fault) ends = (
     whole_so (Some (offset, fault)) ends.is ends.told,
@@ -114,7 +114,7 @@ module _ (old mid new : ReplayTellings) (script : Reading) (stands_for : State �
   ends_so statuses.NoMemory ends = cut_so ends
   ends_so other ends = absurd ends
 
-  pub composed : (status : Status) → EndsReading status (world_after empty so_far.events) [] last (capture_of most) (script.waits ++ got) out' new.left → IsCapture status old new (octets ++ got) draws (out ++ out')
+  pub composed : (status : Status) → EndsReading status (world_after empty so_far.deeds) [] last (capture_of most) (script.waits ++ got) out' new.left → IsCapture status old new (octets ++ got) draws (out ++ out')
   composed status ends =
       let room = so_far.room in record {
         took = took_more old.left mid.left new.left octets got so_far.took took;
@@ -154,7 +154,7 @@ stops_all left left' octets all rest draws stop last at took told told' here whi
       | inr other ↦ ap (λ (o : List ℕ). (captured o draws).stop) same ∙ still other rest
     ]
 
-pub complete : (status : Status) (old new : ReplayTellings) (octets draws out : List ℕ) → IsCapture status old new octets draws out
+pub complete : (status : Status) (old new : Tellings) (octets draws out : List ℕ) → IsCapture status old new octets draws out
     → (status ≡ statuses.Read → ⊥) → (status ≡ statuses.Write → ⊥) → (status ≡ statuses.Noise → ⊥) → IsCompleteCapture status old.left new.left
 complete statuses.Done old new octets draws out run a b c = λ all rest told told' none. inl refl
 complete statuses.NoMemory old new octets draws out run a b c = λ all rest told told' none. inr refl
@@ -170,7 +170,7 @@ complete statuses.Noise old new octets draws out run a b c = absurd (c refl)
 complete other old new octets draws out run a b c = absurd run.ends
 
 -- nothing was done
-pub untouched : (old : ReplayTellings) → IsCapture statuses.NoMemory old old [] [] []
+pub untouched : (old : Tellings) → IsCapture statuses.NoMemory old old [] [] []
 untouched old = record {
   took = took_none old.left;
   drew = added_none old.drawn;

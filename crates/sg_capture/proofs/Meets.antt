@@ -1,5 +1,5 @@
 -- How what a record gives is handled, part by part.
-use Rattle.std.proofs.Common.{◌≡◌, ◌≤◌, ◌<◌, ℕ, ltb, List, [], ◌∷◌, ◌++◌, length, take, map, Option, Result, Ok, Err, OnOk, refl, sym, ap, ◌∙◌, subst, inl, inr, append_assoc, arith}
+use Rattle.std.proofs.Common.{◌≡◌, ◌≤◌, ◌<◌, ℕ, ltb, List, [], ◌∷◌, ◌++◌, length, take, map, Result, Ok, Err, OnOk, refl, sym, ap, ◌∙◌, subst, inl, inr, append_assoc, arith}
 use Rattle.std.specs.Prelude.{min}
 use Rattle.std.proofs.Math.Seq.{take-length}
 use Rattle.std.proofs.lemmas.Bool.{cases_lt, cond-false, cond-true, le-ltb, lt-ltb}
@@ -15,10 +15,10 @@ use Rattle.sg_gateway.specs.Step.{Event, Signalled}
 use Rattle.sg_gateway.specs.World.{World}
 use Rattle.sg_pcap.specs.Skips.{skip_line}
 use Rattle.sg_pcap.specs.declared.skips.SkipCause.{SkipCause}
-use Rattle.sg_playback.proofs.Plays.{stepped_prefix}
-use Rattle.sg_playback.specs.Playing.{HasRoom, IsSettled, IsStepped, IsWant}
+use Rattle.sg_playback.specs.Playing.{HasRoom, IsStepped, effects, text_from}
 use Rattle.sg_trace.proofs.Traces.{world_after-append}
 use Rattle.sg_trace.specs.Captured.{Happens, Occurrence, Skipped, captured_events, output_of}
+use Rattle.sg_trace.specs.Loop.{IsSettled, IsWant}
 use Rattle.sg_trace.specs.Output.{IsPrefixOf, IsWritten}
 use Rattle.sg_trace.specs.Trace.{ticks_at}
 use Rattle.sg_trace.specs.declared.status.Status.{Status}
@@ -76,8 +76,7 @@ module _ (w : World) (waited events : List Event) (stands_for : State → Type 0
 
   events_cut : (status : Status) → IsStepped (Err status) (unshared w) (waited ++ events) stands_for out → IsWant status × IsPrefixOf out (output_of w (map Happens waited ++ map Happens events))
   events_cut status stepped =
-      let cut = stepped_prefix status (unshared w) (waited ++ events) stands_for out stepped in
-      (cut.0, subst (IsPrefixOf out) (sym (ap (output_of w) (sym (happens-append waited events)) ∙ happens_text w (waited ++ events))) cut.1)
+      (stepped.0, subst (IsPrefixOf out) (sym (ap (output_of w) (sym (happens-append waited events)) ∙ happens_text w (waited ++ events))) stepped.1)
 
   -- all of them were handled
   pub stepped_met : (r : Result (Unit {0}) Status) (waits : List Event) → (r ≡ Ok tt → waits ≡ []) → IsStepped r (unshared w) (waited ++ events) stands_for out → IsMet r w waited waits (map Happens events) (λ v. stands_for (unshared v)) out
@@ -90,10 +89,10 @@ module _ (w : World) (waited events : List Event) (stands_for : State → Type 0
   room_met (Err status) waits came = events_cut status came
 
 -- what waited
-pub settled_met : (r : Result (Unit {0}) Status) (w : World) (waited waits : List Event) (stands_for : State → Type 0) (out : List ℕ) → IsSettled r (unshared w) waited waits stands_for out
+pub settled_met : (r : Result (Unit {0}) Status) (w : World) (waited waits : List Event) (stands_for : State → Type 0) (out : List ℕ) → IsSettled r effects 258 (unshared w) waited waits stands_for out
     → IsMet r w waited waits [] (λ v. stands_for (unshared v)) out
-settled_met (Ok tt) w waited waits stands_for out settled = events_met w waited [] stands_for out waited waits (ap (λ (l : List Event). waited ++ l) (sym settled.0)) settled.1
-settled_met (Err status) w waited waits stands_for out settled = events_cut w waited [] stands_for out status (subst (λ (l : List Event). IsStepped (Err status) (unshared w) l stands_for out) (sym (append-nil waited)) settled)
+settled_met (Ok tt) w waited waits stands_for out settled = events_met w waited [] stands_for out waited waits (ap (λ (l : List Event). waited ++ l) (sym settled.1)) (settled.0, settled.2)
+settled_met (Err status) w waited waits stands_for out settled = events_cut w waited [] stands_for out status (settled.0, subst (λ (l : List Event). IsPrefixOf out (text_from (unshared w) l)) (sym (append-nil waited)) settled.1)
 
 -- ---- the line of a skip
 

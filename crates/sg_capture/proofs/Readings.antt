@@ -1,12 +1,12 @@
 -- How the records of a capture are played, one by one, and how that ends.
-use Rattle.std.proofs.Common.{◌≡◌, ◌+◌, ◌≤◌, ℕ, Bool, true, false, cond, ltb, max, arith, length-append, List, [], ◌∷◌, ◌++◌, length, map, drop, Option, Some, None, Ok, Err, refl, sym, ap, ◌∙◌, subst, inl, inr, append_assoc}
+use Rattle.std.proofs.Common.{◌≡◌, ◌+◌, ◌≤◌, ℕ, Bool, true, false, cond, ltb, max, arith, length-append, List, [], ◌∷◌, ◌++◌, length, map, drop, Some, None, Ok, Err, refl, sym, ap, ◌∙◌, subst, inl, inr, append_assoc}
 use Rattle.std.proofs.lemmas.List.{append-nil, length-map}
 use Rattle.sg_capture.proofs.Meets.{prefix_of-behind}
 use Rattle.sg_capture.proofs.Outputs.{happens_text, output_of-append}
 use Rattle.sg_capture.specs.Meeting.{EndsReading, IsCutReading, IsMet, IsToldOf, all_behind, first_of, record_occurs}
 use Rattle.sg_capture.specs.declared.progress.Progress.{Progress}
 use Rattle.sg_edge.specs.Told.{AtEnd, Tally}
-use Rattle.sg_front.specs.States.{State, unshared}
+use Rattle.sg_front.specs.States.{unshared}
 use Rattle.sg_gateway.specs.Runs.{world_after}
 use Rattle.sg_gateway.specs.Step.{Event}
 use Rattle.sg_gateway.specs.World.{World}

@@ -6,6 +6,7 @@ use Rattle.sg_capture.proofs.CaptureLines.{line_is, unended_stops}
 use Rattle.sg_capture.proofs.Captureds.{captured_at}
 use Rattle.sg_capture.proofs.Outputs.{happens-append, happens_text}
 use Rattle.sg_capture.specs.CaptureLines.{of_capture, of_script}
+use Rattle.sg_capture.specs.Meeting.{StandsFor}
 use Rattle.sg_capture.specs.Capturing.{CaptureEnds, IsAllTold, IsCapture, IsCutCapture, IsWholeCapture}
 use Rattle.sg_capture.specs.declared.lines.CaptureLine.{CaptureLine}
 use Rattle.sg_capture.specs.declared.lines.CaptureLine.TheVariants as lines
@@ -19,13 +20,13 @@ use Rattle.sg_lines.specs.LineOf.{version_after}
 use Rattle.sg_lines.specs.ScriptLines.{lines_of}
 use Rattle.sg_lines.specs.declared.lines.Line.{Line}
 use Rattle.sg_playback.proofs.Replays.{as_trace, given_so}
-use Rattle.sg_playback.specs.Playing.{text_from}
-use Rattle.sg_playback.specs.Replay.{ReplayTellings}
-use Rattle.sg_playback.specs.Scripts.{IsRun, IsUnended}
+use Rattle.sg_playback.specs.Playing.{Playing, text_from}
+use Rattle.sg_playback.specs.Scripts.{IsScriptPlayed}
 use Rattle.sg_trace.specs.Captured.{CaptureTrace, Happens, InScript, after_script, captured, output_of, script_alone, script_of}
 use Rattle.sg_trace.specs.Course.{Course, behind_line, course, course_from, ended, with_deeds}
-use Rattle.sg_trace.specs.Loop.{HasNoLast, IsAll, IsCut, LoopEnds}
+use Rattle.sg_trace.specs.Loop.{HasNoLast, IsAll, IsCut, IsRun, IsUnended, LoopEnds, Tellings}
 use Rattle.sg_trace.specs.Output.{IsPrefixOf, output, text}
+use Rattle.sg_trace.specs.Reading.{Reading}
 use Rattle.sg_trace.specs.Trace.{AtCapture, AtEnd as BehindAll, AtFault, Captures, ForDraw, Later, Stop, Trace, after_line, begins_capture, drawing, line_at, stopped, trace_from}
 use Rattle.sg_trace.specs.declared.status.Status.{Status}
 use Rattle.sg_trace.specs.declared.status.Status.TheVariants.{Done, Script, Read, Write, NoMemory, Noise}
@@ -51,6 +52,11 @@ script_so octets draws = sym (from_so 1 1 0 (lines_of octets) draws)
 -- what is told from the start on, where no leg may share its ports
 pub output_so : (events : List Event) → text_from (start false) events ≡ output events
 output_so events = ap text (unshared_told empty events)
+
+-- a script by a player none of whose legs may share its ports
+pub begun_so : (player : Playing) → StandsFor player.front empty → (r : Result Playing Status) (old new : Tellings) (script : Reading) (octets draws out : List ℕ)
+    → IsScriptPlayed r of_capture (start player.front.muxes) old new script octets draws out → IsScriptPlayed r of_capture (start false) old new script octets draws out
+begun_so player stands r old new script octets draws out is = subst (λ (muxes : Bool). IsScriptPlayed r of_capture (start muxes) old new script octets draws out) (sym stands.muxes) is
 
 -- ---- a script that ends before a capture
 
@@ -113,7 +119,7 @@ ends_so other octets draws out left read ends = absurd ends
 -- ---- the loop
 
 -- octets without a line end tell nothing
-read_told : (octets draws out : List ℕ) → IsUnended of_capture (start false) octets draws out → IsAllTold octets draws out
+read_told : (octets draws out : List ℕ) → IsUnended of_capture (text_from (start false)) octets draws out → IsAllTold octets draws out
 read_told octets draws out is = elim (unended_stops is.version is.number is.offset is.part is.unended) [
   | inl nothing ↦ stopped_at BehindAll (λ at same. cc) nothing
   | inr fails ↦ stopped_at (AtFault is.number fails.0) (λ at same. cc) fails.1
@@ -121,14 +127,14 @@ read_told octets draws out is = elim (unended_stops is.version is.number is.offs
   where
     stopped_at : (stop : Stop) → ((at : ℕ) → stop ≡ AtCapture at → ⊥) → course_from of_capture is.version is.number is.offset (lines_of is.part) [] ≡ ended stop [] → IsAllTold octets draws out
     stopped_at stop no_last stops =
-        let whole : course of_capture octets draws ≡ with_deeds is.events (ended stop []) = ap (λ (o : List ℕ). course of_capture o draws) is.split ∙ is.goes is.part ∙ ap (with_deeds is.events) stops in
+        let whole : course of_capture octets draws ≡ with_deeds is.deeds (ended stop []) = ap (λ (o : List ℕ). course of_capture o draws) is.split ∙ is.goes is.part ∙ ap (with_deeds is.deeds) stops in
         let lasts_not : HasNoLast (course of_capture octets draws) = λ at same. no_last at (sym (ap (λ (c : Course Event). c.stop) whole) ∙ same) in record {
           left = ap (λ (c : CaptureTrace). c.left) (alone_so octets draws lasts_not) ∙ ap (λ (c : Course Event). drawing c.left) whole;
-          told = is.told ∙ ap (text_from (start false)) (sym (append-nil is.events)) ∙ sym (told_so octets draws lasts_not ∙ ap (λ (c : Course Event). text_from (start false) c.deeds) whole);
+          told = is.told ∙ ap (text_from (start false)) (sym (append-nil is.deeds)) ∙ sym (told_so octets draws lasts_not ∙ ap (λ (c : Course Event). text_from (start false) c.deeds) whole);
         }
 
 -- a run that ended before the line `capture`
-pub run_so : (status : Status) (old new : ReplayTellings) (octets draws out : List ℕ) → IsRun of_capture (start false) status old new octets draws out → IsCapture status old new octets draws out
+pub run_so : (status : Status) (old new : Tellings) (octets draws out : List ℕ) → IsRun of_capture (text_from (start false)) 258 false status old new octets draws out → IsCapture status old new octets draws out
 run_so status old new octets draws out run = record {
   took = run.took;
   drew = run.drew;

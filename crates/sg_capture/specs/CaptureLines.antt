@@ -1,5 +1,5 @@
 -- What a line says of a script behind which a capture may stand, and what it gives.
-use Rattle.std.specs.Prelude.{ℕ, nat_lt, ◌&&◌, if◌then◌else◌, codes, Option, None, Some, Result, Ok, Err, ⊤}
+use Rattle.std.specs.Prelude.{ℕ, nat_lt, ◌&&◌, if◌then◌else◌, codes, Option, None, Some, Result, Ok, Err, ⊤, is_none}
 use Rattle.std.specs.Str.{bytes_eq}
 use Rattle.sg_base.specs.declared.faults.ScriptFault.{ScriptFault}
 use Rattle.sg_capture.specs.declared.lines.CaptureLine.{CaptureLine}
@@ -8,8 +8,9 @@ use Rattle.sg_gateway.specs.Step.{Event}
 use Rattle.sg_lines.specs.LineOf.{line_of, version_after}
 use Rattle.sg_lines.specs.LineText.{FitsLine}
 use Rattle.sg_lines.specs.declared.lines.Line.{Line}
-use Rattle.sg_playback.specs.Scripts.{ways_by}
+use Rattle.sg_playback.specs.Scripts.{gives_of}
 use Rattle.sg_trace.specs.Course.{Ways}
+use Rattle.sg_trace.specs.Loop.{ways_of}
 use Rattle.sg_trace.specs.Trace.{Spelling}
 
 -- a line that a replay's script may have too
@@ -38,4 +39,4 @@ script_line lines.Capture = None
 
 -- how the script before a capture is read: a replay's, up to the line `capture`
 abbrev pub of_capture : Ways CaptureLine Event
-of_capture = ways_by capture_line_of capture_version_after script_line
+of_capture = ways_of capture_line_of capture_version_after (λ l. is_none (script_line l)) (λ l. gives_of (script_line l))

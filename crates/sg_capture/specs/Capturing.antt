@@ -1,5 +1,5 @@
 -- What the command answers, and what has passed between it and the outside by then.
-use Rattle.std.specs.Prelude.{◌≡◌, ◌⊎◌, ◌≤◌, ◌+◌, ◌^◌, length, ℕ, List, [], ◌++◌, Option, Some, None}
+use Rattle.std.specs.Prelude.{◌≡◌, ◌⊎◌, ◌≤◌, ◌+◌, ◌^◌, length, ℕ, List, [], ◌++◌, Some, None}
 use Rattle.sg_base.specs.declared.faults.ScriptFault.{ScriptFault}
 use Rattle.sg_base.specs.declared.faults.ScriptFault.TheVariants.{Unended}
 use Rattle.sg_edge.specs.Links.{Added}
@@ -7,8 +7,8 @@ use Rattle.sg_edge.specs.Told.{AtEnd, Tally, TookIn, Wrote}
 use Rattle.sg_gateway.specs.World.{empty}
 use Rattle.sg_pcap.specs.declared.faults.CaptureFault.{CaptureFault}
 use Rattle.sg_pcap.specs.declared.faults.CaptureFault.TheVariants.{Cut}
-use Rattle.sg_playback.specs.Replay.{ReplayTellings}
 use Rattle.sg_trace.specs.Captured.{Occurrence, CaptureStop, InCapture, InScript, captured, output_of}
+use Rattle.sg_trace.specs.Loop.{Tellings}
 use Rattle.sg_trace.specs.Output.{IsPrefixOf}
 use Rattle.sg_trace.specs.Trace.{AtEnd as BehindAll, AtFault, ForDraw, drawing}
 use Rattle.sg_trace.specs.declared.status.Status.{Status}
@@ -61,7 +61,7 @@ CaptureEnds statuses.NoMemory octets draws out left = IsCutCapture octets draws 
 CaptureEnds other octets draws out left = ⊥
 
 -- The run read these octets, of which there are at most 2^30 + 1, drew these, and wrote those.
-pub record IsCapture (status : Status) (old new : ReplayTellings) (octets draws out : List ℕ) : Type 0 where
+pub record IsCapture (status : Status) (old new : Tellings) (octets draws out : List ℕ) : Type 0 where
   pub took : TookIn old.left new.left octets
   pub drew : Added old.drawn new.drawn draws
   pub wrote : Wrote old.written new.written out

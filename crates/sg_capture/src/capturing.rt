@@ -46,8 +46,8 @@ pub fn capture<R: Threads + Sync, S: Source, K: Sink, N: Noise, G: Gate + Sync>(
 {
     match Player::make(alloc, 1, false) {
         Err(NoMemory) => Status::NoMemory,
-        Ok(mut player) => {
-            let end = play_source(rt, alloc, &mut player, source, sink, noise, gate);
+        Ok(player) => {
+            let end = play_source(rt, alloc, player, source, sink, noise, gate);
             passed_on(end, sink)
         }
     }
@@ -57,14 +57,14 @@ pub fn capture<R: Threads + Sync, S: Source, K: Sink, N: Noise, G: Gate + Sync>(
 fn play_source<R: Threads + Sync, S: Source, K: Sink, N: Noise, G: Gate + Sync>(
     rt: &R,
     alloc: Global,
-    player: &mut Player,
+    player: Player,
     source: &mut S,
     sink: &mut K,
     noise: &mut N,
     gate: &G,
 ) -> Status
-    requires front { StandsFor player.old.front empty }
-    requires waits { player.old.waits ≡ [] }
+    requires front { StandsFor player.front empty }
+    requires waits { player.waits ≡ [] }
     ensures ran { (octets draws out : List ℕ)
         × IsCapture result
         (record { left = S.left source.old; written = K.written sink.old; drawn = N.given noise.old })
@@ -87,9 +87,9 @@ fn play_source<R: Threads + Sync, S: Source, K: Sink, N: Noise, G: Gate + Sync>(
         gate,
     ) {
         Err(status) => status,
-        Ok(()) => {
+        Ok(mut player) => {
             let mut reader = CaptureReader::new(alloc, script);
-            play_capture(rt, alloc, player, &mut reader, source, sink, gate)
+            play_capture(rt, alloc, &mut player, &mut reader, source, sink, gate)
         }
     }
 }

@@ -5,4 +5,3 @@ pub mod Plays
 pub mod Replays
 mod Tells
 pub mod Room
-pub mod Scripts

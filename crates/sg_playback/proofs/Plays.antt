@@ -1,11 +1,12 @@
 -- What playing a line leaves, from what its parts leave.
-use Rattle.std.proofs.Common.{◌≡◌, ◌⊎◌, ◌<◌, ℕ, true, false, List, [], ◌∷◌, ◌++◌, length, map, Result, Ok, Err, IfErr, OnOk, arith, refl, sym, ap, ◌∙◌, subst, inl, inr, append_assoc}
+use Rattle.std.proofs.Common.{◌≡◌, ◌≤◌, ℕ, List, length, Option, Some, [], ◌∷◌, ◌++◌, map, Result, Ok, Err, IfErr, OnOk, refl, sym, ap, ◌∙◌, subst, inl, inr, append_assoc}
 use Rattle.std.proofs.lemmas.List.{append-nil}
-use Rattle.sg_trace.specs.Trace.{Later, drawing, handled, handled_as, with_events}
+use Rattle.sg_trace.specs.Course.{Given}
+use Rattle.sg_trace.specs.Loop.{AreAlike, IsCutShort, IsPlayed, IsTaken, deeds_of}
 use Rattle.sg_trace.specs.Output.{IsPrefixOf, IsWritten}
 use Rattle.sg_trace.specs.Supplying.{IsSupplied}
 use Rattle.sg_trace.specs.declared.status.Status.{Status}
-use Rattle.sg_trace.specs.declared.status.Status.TheVariants.{Done, Usage, Script, Read, Write, Link, NoMemory, Clock, Noise, TurnsSpent, Capture}
+use Rattle.sg_trace.specs.declared.status.Status.TheVariants.{Done, Write, NoMemory, Noise}
 use Rattle.sg_edge.specs.Told.{Tally, Wrote}
 use Rattle.sg_front.proofs.Sequences.{state_after-append}
 use Rattle.sg_front.specs.States.{State, state_after}
@@ -17,7 +18,9 @@ use Rattle.sg_lines.specs.declared.lines.Line.TheVariants as lines
 use Rattle.sg_lines.specs.declared.lines.Signal.{Signal}
 use Rattle.sg_table.specs.Batches.{arrived}
 use Rattle.sg_playback.proofs.Alike.{alike_more, same_alike, text_from-append}
-use Rattle.sg_playback.specs.Playing.{AreAlike, HasCome, HasRoom, IsCut, IsPlayed, IsSettled, IsStepped, IsTaken, IsWant, Playing, text_from, waiting}
+use Rattle.sg_playback.proofs.Lines.{few_with}
+use Rattle.sg_playback.specs.Playing.{HasCome, HasRoom, IsStepped, IsWant, Playing, effects, text_from, waiting}
+use Rattle.sg_playback.specs.Replay.{given_by, gives}
 
 -- ---- fronts
 
@@ -39,120 +42,108 @@ prefix_behind state es fs prefix is = (
 pub stepped : (r : Result (Unit {0}) Status) (state : State) (events : List Event) (stands_for : State → Type 0) (a b : Tally) (octets : List ℕ) → IsWritten r a b octets → octets ≡ text_from state events
     → stands_for (state_after state events) → (out : List ℕ) × Wrote a b out × IsStepped r state events stands_for out
 stepped (Ok u) state events stands_for a b octets wrote is stands = (octets, wrote, (is, stands))
-stepped (Err Write) state events stands_for a b octets wrote is stands = (wrote.0, wrote.2, subst (IsPrefixOf wrote.0) is wrote.1)
-stepped (Err NoMemory) state events stands_for a b octets wrote is stands = (wrote.0, wrote.2, subst (IsPrefixOf wrote.0) is wrote.1)
+stepped (Err Write) state events stands_for a b octets wrote is stands = (wrote.0, wrote.2, (inl refl, subst (IsPrefixOf wrote.0) is wrote.1))
+stepped (Err NoMemory) state events stands_for a b octets wrote is stands = (wrote.0, wrote.2, (inr refl, subst (IsPrefixOf wrote.0) is wrote.1))
 stepped (Err other) state events stands_for a b octets wrote is stands = absurd wrote
 
--- a front was told where it failed
-pub stepped_prefix : (status : Status) (state : State) (events : List Event) (stands_for : State → Type 0) (out : List ℕ) → IsStepped (Err status) state events stands_for out
-    → ((status ≡ Write) ⊎ (status ≡ NoMemory)) × IsPrefixOf out (text_from state events)
-stepped_prefix Write state events stands_for out is = (inl refl, is)
-stepped_prefix NoMemory state events stands_for out is = (inr refl, is)
-stepped_prefix other state events stands_for out is = absurd is
-
 -- a line was cut by such a status
-pub played_cut : (status : Status) (l : Line) (state : State) (waited waits : List Event) (stands_for : State → Type 0) (draws out : List ℕ) → (status ≡ Write) ⊎ (status ≡ NoMemory)
-    → IsCut l state waited draws out → IsPlayed (Err status) l state waited waits stands_for draws out
-played_cut status l state waited waits stands_for draws out (inl is) cut = subst (λ other. IsPlayed (Err other) l state waited waits stands_for draws out) (sym is) cut
-played_cut status l state waited waits stands_for draws out (inr is) cut = subst (λ other. IsPlayed (Err other) l state waited waits stands_for draws out) (sym is) cut
+pub played_cut : (status : Status) (l : Line) (state : State) (waited waits : List Event) (stands_for : State → Type 0) (draws out : List ℕ) → IsWant status
+    → IsCutShort effects (gives l) 258 state waited draws out → IsPlayed (Err status) effects (gives l) 258 state waited waits stands_for draws out
+played_cut status l state waited waits stands_for draws out (inl is) cut = subst (λ other. IsPlayed (Err other) effects (gives l) 258 state waited waits stands_for draws out) (sym is) cut
+played_cut status l state waited waits stands_for draws out (inr is) cut = subst (λ other. IsPlayed (Err other) effects (gives l) 258 state waited waits stands_for draws out) (sym is) cut
 
 -- before the line's own events
-pub cut_before : (l : Line) (state : State) (waited : List Event) (out : List ℕ) → IsPrefixOf out (text_from state waited) → IsCut l state waited [] out
-cut_before l state waited out is = record {
-  events = [];
-  goes = λ later. (handled l later 0 (drawing []), refl);
-  told = prefix_all state waited [] out is;
-}
+pub cut_before : (l : Line) (state : State) (waited : List Event) (out : List ℕ) → length waited ≤ 256 → IsPrefixOf out (text_from state waited) → IsCutShort effects (gives l) 258 state waited [] out
+cut_before l state waited out few is = record { told = prefix_all state waited (deeds_of (gives l [])) out is; few = few_with l waited [] few }
 
 -- ---- headers and datagrams
 
 -- the line has its events without a draw
 abbrev pub Goes : Line → Type 0
-Goes l = (later : Later) (more : List ℕ) → handled l later 0 (drawing more) ≡ with_events (events_of l) (later 0 (drawing more))
+Goes l = (more : List ℕ) → gives l more ≡ Some (record { deeds = events_of l; left = more })
 
 -- a line without events
-pub header_taken : (l : Line) (state : State) (waited : List Event) (stands_for : State → Type 0) → Goes l → events_of l ≡ [] → stands_for state → IsTaken l state waited waited stands_for [] []
+pub header_taken : (l : Line) (state : State) (waited : List Event) (stands_for : State → Type 0) → Goes l → events_of l ≡ [] → stands_for state → IsTaken effects (gives l) state waited waited stands_for [] []
 header_taken l state waited stands_for goes none stands = record {
-  events = events_of l;
-  prefix = [];
+  fresh = events_of l;
+  told = [];
   goes = goes;
   alike = same_alike state (waited ++ events_of l) waited (ap (λ (es : List Event). waited ++ es) none ∙ append-nil waited);
-  told = refl;
-  stands = stands;
+  written = refl;
+  left = stands;
 }
 
 -- A line whose last event arrives, once a prefix of what is like the others was handled and told, and the rest waits.
-module _ (l : Line) (goes : Goes l) (state : State) (waited others : List Event) (e : Event) (splits : events_of l ≡ others ++ e ∷ []) (waits prefix : List Event)
-    (alike : AreAlike state (waited ++ others) (prefix ++ waits)) (out : List ℕ) (told : out ≡ text_from state prefix) where
-  all_alike : AreAlike state (waited ++ events_of l) (prefix ++ (waits ++ e ∷ []))
-  all_alike =
-      subst (λ (es : List Event). AreAlike state es (prefix ++ (waits ++ e ∷ []))) (append_assoc waited others (e ∷ []) ∙ ap (λ (es : List Event). waited ++ es) (sym splits))
-      (subst (λ (es : List Event). AreAlike state ((waited ++ others) ++ e ∷ []) es) (append_assoc prefix waits (e ∷ [])) (alike_more state (waited ++ others) (prefix ++ waits) (e ∷ []) alike))
+module _ (l : Line) (goes : Goes l) (state : State) (waited others : List Event) (few : length waited ≤ 256) (e : Event) (splits : events_of l ≡ others ++ e ∷ []) where
+  -- with its events behind what waited
+  with_events : waited ++ deeds_of (gives l []) ≡ (waited ++ others) ++ e ∷ []
+  with_events = ap (λ (g : Option (Given Event)). waited ++ deeds_of g) (goes []) ∙ ap (λ (es : List Event). waited ++ es) splits ∙ sym (append_assoc waited others (e ∷ []))
 
-  pub line_arrived : (r : Result (Unit {0}) Status) (waits' : List Event) (stands_for : State → Type 0) (out' : List ℕ) → HasRoom r (state_after state prefix) (waits ++ e ∷ []) waits' stands_for out'
-      → IsPlayed r l state waited waits' stands_for [] (out ++ out')
-  line_arrived (Ok u) waits' stands_for out' room = record {
-    events = events_of l;
-    prefix = prefix ++ room.0;
-    goes = goes;
-    alike = subst (λ (es : List Event). AreAlike state (waited ++ events_of l) es) (ap (λ (es : List Event). prefix ++ es) room.1 ∙ sym (append_assoc prefix room.0 waits')) all_alike;
-    told = (λ i. told i ++ room.2.0 i) ∙ sym (text_from-append state prefix room.0);
-    stands = subst stands_for (sym (state_after-append state prefix room.0)) room.2.1;
-  }
-  line_arrived (Err status) waits' stands_for out' stepped =
-      let cut = stepped_prefix status (state_after state prefix) (waits ++ e ∷ []) stands_for out' stepped in
-      played_cut status l state waited waits' stands_for [] (out ++ out') cut.0 (record {
-        events = events_of l;
-        goes = λ later. (later 0 (drawing []), goes later []);
-        told = subst (IsPrefixOf (out ++ out')) (sym all_alike.told) (subst (λ (o : List ℕ). IsPrefixOf (o ++ out') (text_from state (prefix ++ (waits ++ e ∷ [])))) (sym told) (prefix_behind state prefix (waits ++ e ∷ []) out' cut.1));
-      })
+  -- a line that was cut in the events before its last one
+  pub line_cut : (status : Status) (waits' : List Event) (stands_for : State → Type 0) (out : List ℕ) → IsStepped (Err status) state (waited ++ others) stands_for out
+      → IsPlayed (Err status) effects (gives l) 258 state waited waits' stands_for [] out
+  line_cut status waits' stands_for out cut = played_cut status l state waited waits' stands_for [] out cut.0 (record {
+    told = subst (λ (es : List Event). IsPrefixOf out (text_from state es)) (sym with_events) (prefix_all state (waited ++ others) (e ∷ []) out cut.1);
+    few = few_with l waited [] few;
+  })
 
--- a line that was cut in the events before its last one
-pub line_cut : (l : Line) → Goes l → (state : State) (waited others : List Event) (e : Event) → events_of l ≡ others ++ e ∷ [] → (status : Status) (waits' : List Event) (stands_for : State → Type 0) (out : List ℕ)
-    → IsStepped (Err status) state (waited ++ others) stands_for out → IsPlayed (Err status) l state waited waits' stands_for [] out
-line_cut l goes state waited others e splits status waits' stands_for out stepped =
-    let cut = stepped_prefix status state (waited ++ others) stands_for out stepped in
-    played_cut status l state waited waits' stands_for [] out cut.0 (record {
-      events = events_of l;
-      goes = λ later. (later 0 (drawing []), goes later []);
-      told = subst (λ (es : List Event). IsPrefixOf out (text_from state es)) (append_assoc waited others (e ∷ []) ∙ ap (λ (es : List Event). waited ++ es) (sym splits)) (prefix_all state (waited ++ others) (e ∷ []) out cut.1);
-    })
+  module _ (waits prefix : List Event) (alike : AreAlike effects state (waited ++ others) (prefix ++ waits)) (out : List ℕ) (told : out ≡ text_from state prefix) where
+    all_alike : AreAlike effects state ((waited ++ others) ++ e ∷ []) (prefix ++ (waits ++ e ∷ []))
+    all_alike = subst (λ (es : List Event). AreAlike effects state ((waited ++ others) ++ e ∷ []) es) (append_assoc prefix waits (e ∷ [])) (alike_more state (waited ++ others) (prefix ++ waits) (e ∷ []) alike)
+
+    pub line_arrived : (r : Result (Unit {0}) Status) (waits' : List Event) (stands_for : State → Type 0) (out' : List ℕ) → HasRoom r (state_after state prefix) (waits ++ e ∷ []) waits' stands_for out'
+        → IsPlayed r effects (gives l) 258 state waited waits' stands_for [] (out ++ out')
+    line_arrived (Ok u) waits' stands_for out' room = record {
+      fresh = events_of l;
+      told = prefix ++ room.0;
+      goes = goes;
+      alike =
+          subst (λ (es : List Event). AreAlike effects state es ((prefix ++ room.0) ++ waits')) (append_assoc waited others (e ∷ []) ∙ ap (λ (es : List Event). waited ++ es) (sym splits))
+          (subst (λ (es : List Event). AreAlike effects state ((waited ++ others) ++ e ∷ []) es) (ap (λ (es : List Event). prefix ++ es) room.1 ∙ sym (append_assoc prefix room.0 waits')) all_alike);
+      written = (λ i. told i ++ room.2.0 i) ∙ sym (text_from-append state prefix room.0);
+      left = subst stands_for (sym (state_after-append state prefix room.0)) room.2.1;
+    }
+    line_arrived (Err status) waits' stands_for out' cut =
+        played_cut status l state waited waits' stands_for [] (out ++ out') cut.0 (record {
+          told =
+              subst (IsPrefixOf (out ++ out')) (sym (ap (text_from state) with_events ∙ all_alike.told))
+              (subst (λ (o : List ℕ). IsPrefixOf (o ++ out') (text_from state (prefix ++ (waits ++ e ∷ [])))) (sym told) (prefix_behind state prefix (waits ++ e ∷ []) out' cut.1));
+          few = few_with l waited [] few;
+        })
 
 -- ---- signals
 
 module _ (signal s : Signal) (draws : List ℕ) (has : IsSupplied (Ok s) signal draws) where
-  signal_goes : (later : Later) (more : List ℕ) → handled (lines.Signal signal) later 0 (drawing (draws ++ more)) ≡ with_events (events_of (lines.Signal s)) (later 0 (drawing more))
-  signal_goes later more = ap (λ x. handled_as x later 0 (drawing (draws ++ more))) (has more)
+  signal_goes : (more : List ℕ) → gives (lines.Signal signal) (draws ++ more) ≡ Some (record { deeds = events_of (lines.Signal s); left = more })
+  signal_goes more = ap given_by (has more)
 
   pub signal_taken : (state : State) (waited waits : List Event) (stands_for : State → Type 0) (out out' : List ℕ) → waits ≡ [] → out ≡ text_from state waited
-      → IsStepped (Ok tt) (state_after state waited) (events_of (lines.Signal s)) stands_for out' → IsTaken (lines.Signal signal) state waited waits stands_for draws (out ++ out')
+      → IsStepped (Ok tt) (state_after state waited) (events_of (lines.Signal s)) stands_for out' → IsTaken effects (gives (lines.Signal signal)) state waited waits stands_for draws (out ++ out')
   signal_taken state waited waits stands_for out out' none told stepped = record {
-    events = events_of (lines.Signal s);
-    prefix = waited ++ events_of (lines.Signal s);
+    fresh = events_of (lines.Signal s);
+    told = waited ++ events_of (lines.Signal s);
     goes = signal_goes;
     alike =
         same_alike state (waited ++ events_of (lines.Signal s)) ((waited ++ events_of (lines.Signal s)) ++ waits)
         (sym (append-nil (waited ++ events_of (lines.Signal s))) ∙ ap (λ (l : List Event). (waited ++ events_of (lines.Signal s)) ++ l) (sym none));
-    told = (λ i. told i ++ stepped.0 i) ∙ sym (text_from-append state waited (events_of (lines.Signal s)));
-    stands = subst stands_for (sym (state_after-append state waited (events_of (lines.Signal s)))) stepped.1;
+    written = (λ i. told i ++ stepped.0 i) ∙ sym (text_from-append state waited (events_of (lines.Signal s)));
+    left = subst stands_for (sym (state_after-append state waited (events_of (lines.Signal s)))) stepped.1;
   }
 
-  pub signal_cut : (state : State) (waited : List Event) (out out' : List ℕ) → out ≡ text_from state waited → IsPrefixOf out' (text_from (state_after state waited) (events_of (lines.Signal s)))
-      → IsCut (lines.Signal signal) state waited draws (out ++ out')
-  signal_cut state waited out out' told is = record {
-    events = events_of (lines.Signal s);
-    goes = λ later. (later 0 (drawing []), ap (λ (d : List ℕ). handled (lines.Signal signal) later 0 (drawing d)) (sym (append-nil draws)) ∙ signal_goes later []);
-    told = subst (λ (o : List ℕ). IsPrefixOf (o ++ out') (text_from state (waited ++ events_of (lines.Signal s)))) (sym told) (prefix_behind state waited (events_of (lines.Signal s)) out' is);
-  }
+  pub signal_cut : (state : State) (waited : List Event) (out out' : List ℕ) → length waited ≤ 256 → out ≡ text_from state waited → IsPrefixOf out' (text_from (state_after state waited) (events_of (lines.Signal s)))
+      → IsCutShort effects (gives (lines.Signal signal)) 258 state waited draws (out ++ out')
+  signal_cut state waited out out' few told is =
+      let given : deeds_of (gives (lines.Signal signal) draws) ≡ events_of (lines.Signal s) = ap (λ (d : List ℕ). deeds_of (gives (lines.Signal signal) d)) (sym (append-nil draws)) ∙ ap deeds_of (signal_goes []) in record {
+        told =
+            subst (λ (es : List Event). IsPrefixOf (out ++ out') (text_from state (waited ++ es))) (sym given)
+            (subst (λ (o : List ℕ). IsPrefixOf (o ++ out') (text_from state (waited ++ events_of (lines.Signal s)))) (sym told) (prefix_behind state waited (events_of (lines.Signal s)) out' is));
+        few = few_with (lines.Signal signal) waited draws few;
+      }
 
 -- its noise wasn't drawn
 pub unsupplied : (status : Status) (signal : Signal) (state : State) (waited waits : List Event) (stands_for : State → Type 0) (draws out : List ℕ) → IsSupplied (Err status) signal draws → out ≡ text_from state waited
-    → IsPlayed (Err status) (lines.Signal signal) state waited waits stands_for draws out
-unsupplied Noise signal state waited waits stands_for draws out is told = record {
-  drew = is.0;
-  stops = λ later. ap (λ x. handled_as x later 0 (drawing [])) is.1;
-  told = told;
-}
+    → IsPlayed (Err status) effects (gives (lines.Signal signal)) 258 state waited waits stands_for draws out
+unsupplied Noise signal state waited waits stands_for draws out is told = record { drew = is.0; stops = ap given_by is.1; told = told }
 unsupplied Done signal state waited waits stands_for draws out is told = absurd is
 unsupplied other signal state waited waits stands_for draws out is told = absurd is
 
@@ -191,19 +182,11 @@ arrived_room (Ok u) state waited mid waits prefix e stands_for out split waits_a
   stepped,
 )
 arrived_room (Err status) state waited mid waits prefix e stands_for out split waits_are only stepped =
-    subst (λ other. IsStepped (Err other) state (waited ++ e ∷ []) stands_for out) (sym only)
-    (prefix_all state waited (e ∷ []) out (subst (λ (es : List Event). IsPrefixOf out (text_from state es)) (sym split) (prefix_all state prefix mid out ([], sym stepped.0 ∙ sym (append-nil out)))))
+    (inr only, prefix_all state waited (e ∷ []) out (subst (λ (es : List Event). IsPrefixOf out (text_from state es)) (sym split) (prefix_all state prefix mid out ([], sym stepped.0 ∙ sym (append-nil out)))))
 
 -- where there was no room
 pub room_cut : (status : Status) (state : State) (waited more : List Event) (stands_for : State → Type 0) (out : List ℕ) → IsStepped (Err status) state waited stands_for out → IsStepped (Err status) state (waited ++ more) stands_for out
-room_cut status state waited more stands_for out stepped =
-    let cut = stepped_prefix status state waited stands_for out stepped in
-    let prefix = prefix_all state waited more out cut.1 in
-    either cut.0 prefix
-  where
-    either : (status ≡ Write) ⊎ (status ≡ NoMemory) → IsPrefixOf out (text_from state (waited ++ more)) → IsStepped (Err status) state (waited ++ more) stands_for out
-    either (inl is) prefix = subst (λ other. IsStepped (Err other) state (waited ++ more) stands_for out) (sym is) prefix
-    either (inr is) prefix = subst (λ other. IsStepped (Err other) state (waited ++ more) stands_for out) (sym is) prefix
+room_cut status state waited more stands_for out cut = (cut.0, prefix_all state waited more out cut.1)
 
 -- ---- ticks
 
@@ -214,13 +197,8 @@ ticked (Ok u) state waited events stands_for out out' told stepped = (
   (λ i. told i ++ stepped.0 i) ∙ sym (text_from-append state waited events),
   subst stands_for (sym (state_after-append state waited events)) stepped.1,
 )
-ticked (Err status) state waited events stands_for out out' told stepped =
-    let cut = stepped_prefix status (state_after state waited) events stands_for out' stepped in
-    either cut.0 (subst (λ (o : List ℕ). IsPrefixOf (o ++ out') (text_from state (waited ++ events))) (sym told) (prefix_behind state waited events out' cut.1))
-  where
-    either : (status ≡ Write) ⊎ (status ≡ NoMemory) → IsPrefixOf (out ++ out') (text_from state (waited ++ events)) → IsStepped (Err status) state (waited ++ events) stands_for (out ++ out')
-    either (inl is) prefix = subst (λ other. IsStepped (Err other) state (waited ++ events) stands_for (out ++ out')) (sym is) prefix
-    either (inr is) prefix = subst (λ other. IsStepped (Err other) state (waited ++ events) stands_for (out ++ out')) (sym is) prefix
+ticked (Err status) state waited events stands_for out out' told cut =
+    (cut.0, subst (λ (o : List ℕ). IsPrefixOf (o ++ out') (text_from state (waited ++ events))) (sym told) (prefix_behind state waited events out' cut.1))
 
 -- a tick that was taken, and nothing waits
 pub come : (r : Result (Unit {0}) Status) (now : ℕ) (state : State) (waited waits : List Event) (stands_for : State → Type 0) (out : List ℕ) → OnOk r (waits ≡ []) → IsStepped r state (waited ++ Signalled (Tick now) ∷ []) stands_for out
@@ -233,8 +211,8 @@ come (Err status) now state waited waits stands_for out none stepped = stepped
 -- ---- a signal that has its noise
 
 pub signal_played : (r : Result (Unit {0}) Status) (signal s : Signal) (draws : List ℕ) → IsSupplied (Ok s) signal draws → (state : State) (waited waits : List Event) (stands_for : State → Type 0) (out out' : List ℕ)
-    → waits ≡ [] → out ≡ text_from state waited → IsStepped r (state_after state waited) (events_of (lines.Signal s)) stands_for out' → IsPlayed r (lines.Signal signal) state waited waits stands_for draws (out ++ out')
-signal_played (Ok u) signal s draws has state waited waits stands_for out out' none told stepped = signal_taken signal s draws has state waited waits stands_for out out' none told stepped
-signal_played (Err status) signal s draws has state waited waits stands_for out out' none told stepped =
-    let prefix = stepped_prefix status (state_after state waited) (events_of (lines.Signal s)) stands_for out' stepped in
-    played_cut status (lines.Signal signal) state waited waits stands_for draws (out ++ out') prefix.0 (signal_cut signal s draws has state waited out out' told prefix.1)
+    → length waited ≤ 256 → waits ≡ [] → out ≡ text_from state waited → IsStepped r (state_after state waited) (events_of (lines.Signal s)) stands_for out'
+    → IsPlayed r effects (gives (lines.Signal signal)) 258 state waited waits stands_for draws (out ++ out')
+signal_played (Ok u) signal s draws has state waited waits stands_for out out' few none told stepped = signal_taken signal s draws has state waited waits stands_for out out' none told stepped
+signal_played (Err status) signal s draws has state waited waits stands_for out out' few none told cut =
+    played_cut status (lines.Signal signal) state waited waits stands_for draws (out ++ out') cut.0 (signal_cut signal s draws has state waited out out' few told cut.1)

@@ -5,6 +5,7 @@ use Rattle.sg_lines.specs.ScriptLines.{NoEnd}
 use Rattle.sg_lines.specs.declared.lines.Line.{Line}
 use Rattle.sg_trace.specs.Course.{Given, Ways}
 use Rattle.sg_trace.specs.Loop.{of_lines}
+pub use Rattle.sg_trace.specs.Loop.{Tellings as ReplayTellings}
 use Rattle.sg_trace.specs.Trace.{AtEnd as BehindAll, AtFault, ForDraw, Stop, drawing, replayed}
 use Rattle.sg_trace.specs.Grammar.{IsScript}
 use Rattle.sg_trace.specs.Output.{IsPrefixOf, text}
@@ -78,12 +79,6 @@ ReplayEnds muxes Read octets draws out left = IsReplayOfLines muxes octets draws
 ReplayEnds muxes Write octets draws out left = IsCutReplay muxes octets draws out
 ReplayEnds muxes NoMemory octets draws out left = IsCutReplay muxes octets draws out
 ReplayEnds muxes other octets draws out left = ⊥
-
--- what a source, a sink and a source of noise tell
-pub record ReplayTellings : Type 0 where
-  pub left : Tally
-  pub written : Tally
-  pub drawn : Tally
 
 -- The replay read these octets, of which there are at most 2^30 + 1, drew these, and wrote those.
 pub record IsReplay (muxes : Bool) (status : Status) (old new : ReplayTellings) (octets draws out : List ℕ) : Type 0 where

@@ -2,7 +2,7 @@
 
 ghost use Rattle.std.specs.Prelude.{◌≡◌, ◌≢◌, ◌≤◌, ◌<◌, ◌∷◌, ◌++◌, [], ℕ, List, IfErr, IfOk, OnOk, true, false, length};
 ghost use Rattle.sg_trace.specs.Causes.{HasFailed, IsCaused};
-ghost use Rattle.sg_trace.specs.Loop.{Closes};
+ghost use Rattle.sg_trace.specs.Loop.{Closes, IsPlayed, IsSettled, IsWant};
 ghost use Rattle.sg_edge.specs.Links.{Added};
 ghost use Rattle.sg_edge.specs.Told.{Wrote};
 ghost use Rattle.sg_front.specs.States.{FrontStandsFor, IsTold, State, start};
@@ -12,7 +12,8 @@ ghost use Rattle.sg_gateway.specs.Signals.{Tick};
 ghost use Rattle.sg_gateway.specs.Step.{Datagram, Signalled};
 ghost use Rattle.sg_lines.specs.LineText.{FitsLine};
 ghost use Rattle.sg_lines.specs.declared.lines.Line.TheVariants as lines;
-ghost use Rattle.sg_playback.specs.Playing.{HasCome, HasRoom, IsPlayed, IsSettled, IsStepped, IsWant, effects, waiting};
+ghost use Rattle.sg_playback.specs.Playing.{HasCome, HasRoom, IsStepped, effects, waiting};
+ghost use Rattle.sg_playback.specs.Replay.{gives};
 ghost use Rattle.sg_table.specs.Telling.{IsTimely};
 
 use crate::writing::{tell_all, tell_ends};
@@ -89,7 +90,7 @@ impl Player {
         requires { (version number : ℕ) × FitsLine version number line }
         ensures played { (s : State) → FrontStandsFor self.old.front s → (draws out : List ℕ)
             × Added (N.given noise.old) (N.given noise.new) draws × Wrote (K.written sink.old) (K.written sink.new) out
-            × IsPlayed result line s (waiting self.old) (waiting self.new) (FrontStandsFor self.new.front) draws out }
+            × IsPlayed result effects (gives line) 258 s (waiting self.old) (waiting self.new) (FrontStandsFor self.new.front) draws out }
         ensures few { length self.old.waits ≤ 256 }
         ensures rest { OnOk result (length self.new.waits ≤ 256) }
         ensures write { IsCaused Status.Write result (K.faults sink.old) (K.faults sink.new) (K.failed sink.new) }
@@ -130,7 +131,7 @@ impl Player {
         requires { IsTimely signal }
         ensures played { (s : State) → FrontStandsFor self.old.front s → (draws out : List ℕ)
             × Added (N.given noise.old) (N.given noise.new) draws × Wrote (K.written sink.old) (K.written sink.new) out
-            × IsPlayed result (lines.Signal signal) s (waiting self.old) (waiting self.new) (FrontStandsFor self.new.front) draws out }
+            × IsPlayed result effects (gives (lines.Signal signal)) 258 s (waiting self.old) (waiting self.new) (FrontStandsFor self.new.front) draws out }
         ensures none { OnOk result (self.new.waits ≡ []) }
         ensures write { IsCaused Status.Write result (K.faults sink.old) (K.faults sink.new) (K.failed sink.new) }
         ensures noise { IsCaused Status.Noise result (N.faults noise.old) (N.faults noise.new) (N.failed noise.new) }
@@ -255,7 +256,7 @@ impl Player {
         gate: &G,
     ) -> Result<(), Status>
         ensures settled { (s : State) → FrontStandsFor self.old.front s → (out : List ℕ)
-            × Wrote (K.written sink.old) (K.written sink.new) out × IsSettled result s (waiting self.old) (waiting self.new) (FrontStandsFor self.new.front) out }
+            × Wrote (K.written sink.old) (K.written sink.new) out × IsSettled result effects 258 s (waiting self.old) (waiting self.new) (FrontStandsFor self.new.front) out }
         ensures few { length self.old.waits ≤ 256 }
         ensures none { OnOk result (self.new.waits ≡ []) }
         ensures only { IfErr result (λ status. IsWant status) }
@@ -285,7 +286,7 @@ impl Player {
         gate: &G,
     ) -> Result<(), Status>
         ensures settled { (s : State) → FrontStandsFor self.old.front s → (out : List ℕ)
-            × Wrote (K.written sink.old) (K.written sink.new) out × IsSettled result s (waiting self.old) (waiting self.new) (FrontStandsFor self.new.front) out }
+            × Wrote (K.written sink.old) (K.written sink.new) out × IsSettled result effects 258 s (waiting self.old) (waiting self.new) (FrontStandsFor self.new.front) out }
         ensures few { length self.old.waits ≤ 256 }
         ensures none { OnOk result (self.new.waits ≡ []) }
         ensures only { IfErr result (λ status. IsWant status) }

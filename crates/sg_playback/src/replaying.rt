@@ -50,12 +50,12 @@ pub fn replay<R: Threads + Sync, S: Source, K: Sink, N: Noise, G: Gate + Sync>(
 {
     match Player::make(alloc, workers, muxes) {
         Err(NoMemory) => Status::NoMemory,
-        Ok(mut player) => {
+        Ok(player) => {
             let mut script = ScriptReader::new(alloc);
             match play_lines::<Line, R, S, K, N, G>(
                 rt,
                 alloc,
-                &mut player,
+                player,
                 &mut script,
                 source,
                 sink,
@@ -64,7 +64,7 @@ pub fn replay<R: Threads + Sync, S: Source, K: Sink, N: Noise, G: Gate + Sync>(
             ) {
                 Err(status) => passed_on(status, sink),
                 // no line is the last
-                Ok(()) => unreachable!(),
+                Ok(_) => unreachable!(),
             }
         }
     }

@@ -56,22 +56,27 @@ completes w acts s turns link link' old new p source sink clock noise run read w
   λ no_source no_sink no_clock no_noise. complete w acts s turns link link' old new p run (λ is. no_source (read is)) (λ is. no_sink (write is)) (λ is. no_clock (clocks is)) (λ is. no_noise (noises is)) links,
 )
 
--- a run that ends before anything is done
+-- ---- a run that ends before anything is done
+
+abbrev pub none_passed : Passed
+none_passed = record { octets = []; out = []; calls = []; readings = []; draws = [] }
+
+pub none_relayed : {L D : Type 0} (w : Weaves L D) (acts : List D → List Act) → acts [] ≡ [] → (old : RelayTellings) (turns : ℕ) → IsRelay w acts NoMemory turns old old none_passed
+none_relayed w acts none old turns = record {
+  took = took_none _;
+  wrote = wrote_none _;
+  called = called_none _;
+  read = added_none _;
+  drew = added_none _;
+  ends = record { part = subst (λ (os : List Act). IsPart os [] []) (sym none) (part_of [] [] [] done_none); good = tt };
+  bound = omega arith;
+  most = omega arith;
+  paced = refl;
+  in_order = order_none (acts_by w acts none_passed) [] refl;
+}
+
 pub at_once : {L D : Type 0} (w : Weaves L D) (acts : List D → List Act) → acts [] ≡ [] → (old : RelayTellings) (turns link link' : ℕ) (source sink clock noise : Type 0)
     → (p : Passed) × IsRelay w acts NoMemory turns old old p × (¬ source → ¬ sink → ¬ clock → ¬ noise → IsCompleteRelay w NoMemory turns old.left old.left link link' p)
-at_once {L} {D} w acts none old turns link link' source sink clock noise =
-    let p : Passed = record { octets = []; out = []; calls = []; readings = []; draws = [] } in
-    completes w acts NoMemory turns link link' old old p source sink clock noise
-    (record {
-      took = took_none _;
-      wrote = wrote_none _;
-      called = called_none _;
-      read = added_none _;
-      drew = added_none _;
-      ends = record { part = subst (λ (os : List Act). IsPart os [] []) (sym none) (part_of [] [] [] done_none); good = tt };
-      bound = omega arith;
-      most = omega arith;
-      paced = refl;
-      in_order = order_none (acts_by w acts p) [] refl;
-    })
+at_once w acts none old turns link link' source sink clock noise =
+    completes w acts NoMemory turns link link' old old none_passed source sink clock noise (none_relayed w acts none old turns)
     (λ is. absurd cc) (λ is. absurd cc) (λ is. absurd cc) (λ is. absurd cc) (λ is. absurd cc)

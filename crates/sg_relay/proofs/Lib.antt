@@ -2,7 +2,7 @@ mod Accounts
 mod Asks
 mod Blames
 mod CallPorts
-mod Complete
+pub mod Complete
 mod Deeds
 mod Gives
 mod Held
@@ -10,7 +10,7 @@ mod JoinedPorts
 mod Joins
 pub mod Holds
 mod Leaving
-pub mod Order
+mod Order
 mod Relays
 mod Says
 mod Sharing

@@ -1,6 +1,5 @@
 -- What a run did, by how its words were read.
-use Rattle.std.proofs.Common.{◌≡◌, ◌⊎◌, ◌≤◌, ℕ, List, [], Bool, map, Option, Result, Ok, Err, refl, sym, ap, ◌∙◌, subst, inl, inr, arith, eqb, true, false}
-use Rattle.std.proofs.lemmas.Bool.{false≢true, eq-eqb}
+use Rattle.std.proofs.Common.{◌≡◌, ◌⊎◌, ℕ, List, [], Bool, map, Option, Result, Ok, Err, refl, sym, ap, ◌∙◌, subst, inl, inr, arith, true, false}
 use Rattle.std.proofs.lemmas.List.{append-nil}
 use Rattle.std.proofs.lemmas.List.Elements.{All-from_recursion}
 use Rattle.sg_bridge.specs.BridgeHolds.{BridgeHolds}
@@ -13,10 +12,10 @@ use Rattle.sg_trace.proofs.Ends.{nothing_read}
 use Rattle.sg_trace.specs.Causes.{EndedBy, HasFailed}
 use Rattle.sg_capture.specs.Capturing.{IsCapture}
 use Rattle.sg_trace.specs.declared.status.Status.{Status}
-use Rattle.sg_trace.specs.declared.status.Status.TheVariants.{Done, Usage, Script, Read, Write, Link, NoMemory, Clock, Noise, TurnsSpent, Capture}
+use Rattle.sg_trace.specs.declared.status.Status.TheVariants.{Done, Write, NoMemory}
 use Rattle.sg_demo.specs.Demonstration.{demonstration, events_shown}
 use Rattle.sg_demo.specs.Text.{IsShown, summary_text}
-use Rattle.sg_edge.proofs.Links.{added_none, called_none}
+use Rattle.sg_edge.proofs.Links.{added_none}
 use Rattle.sg_edge.proofs.Passed.{took_none, wrote_none}
 use Rattle.sg_edge.specs.Told.{Rose, Tally}
 use Rattle.sg_gateway.specs.Step.{Event}
@@ -29,13 +28,12 @@ use Rattle.sg_passages.specs.Passages.{Passage}
 use Rattle.sg_playback.proofs.Completes.{untouched as nothing_replayed}
 use Rattle.sg_playback.specs.Replay.{IsReplay}
 use Rattle.sg_playback.specs.Replay as replays
-use Rattle.sg_relay.proofs.Deeds.{done_none, part_of}
+use Rattle.sg_relay.proofs.Complete.{none_passed, none_relayed}
 use Rattle.sg_relay.proofs.Holds.{holds_none}
-use Rattle.sg_relay.proofs.Order.{order_none}
-use Rattle.sg_relay.specs.Asked.{Act, IsPart, act_of}
+use Rattle.sg_relay.specs.Asked.{Act, act_of}
 use Rattle.sg_relay.specs.Joined as joined
 use Rattle.sg_relay.specs.Plain as plain
-use Rattle.sg_relay.specs.Relay.{IsRelay, Passed}
+use Rattle.sg_relay.specs.Relay.{IsRelay}
 use Rattle.sg_relay.specs.Relay as relays
 use Rattle.sg_relay.specs.Weaving.{Weaves}
 use Rattle.sg_run.specs.Run.{AreTaken, HasBridged, HasCaptured, HasDone, HasMigrated, HasRelayed, HasRelayedJoined, HasReplayed, HasRun, HasShown, LeavesAlone, LeavesOthersAlone, Lent, Surroundings, PlaysInBatches, of_relay, of_replay}
@@ -89,28 +87,10 @@ nothing_said = record {
   behind = tt;
 }
 
--- nothing passed
-abbrev none_passed : Passed
-none_passed = record { octets = []; out = []; calls = []; readings = []; draws = [] }
-
-no_relay : {L D : Type 0} (w : Weaves L D) (acts : List D → List Act) (turns : ℕ) (old : relays.RelayTellings) → acts [] ≡ [] → (relays.woven_of w none_passed).deeds ≡ [] → IsRelay w acts NoMemory turns old old none_passed
-no_relay w acts turns old none empty = record {
-  took = took_none old.left;
-  wrote = wrote_none old.written;
-  called = called_none old.calls;
-  read = added_none old.readings;
-  drew = added_none old.draws;
-  ends = record { part = subst (λ (l : List Act). IsPart l [] []) (sym (ap acts empty ∙ none)) (part_of [] [] [] done_none); good = tt };
-  bound = omega arith;
-  most = omega arith;
-  paced = refl;
-  in_order = order_none (relays.acts_by w acts none_passed) [] refl;
-}
-
 not_relayed : (legs : (es : List Event) → LegsAreMuxed es) (muxes : Bool) (turns : ℕ) (old : Surroundings) → HasRelayed muxes turns NoMemory old old [] []
 not_relayed legs muxes turns old = record {
   passed = none_passed;
-  is = no_relay plain.weaves (plain.acts muxes) turns (of_relay old) (ap (map act_of) (no_outcomes muxes)) refl;
+  is = none_relayed plain.weaves (plain.acts muxes) (ap (map act_of) (no_outcomes muxes)) (of_relay old) turns;
   events_are = no_events muxes;
   passages_are = no_passages muxes;
   legs = λ before after is. legs before;
@@ -122,7 +102,7 @@ not_relayed legs muxes turns old = record {
 not_relayed_joined : (turns : ℕ) (old : Surroundings) → HasRelayedJoined turns NoMemory old old [] []
 not_relayed_joined turns old = record {
   passed = none_passed;
-  is = no_relay joined.weaves joined.acts turns (of_relay old) refl refl;
+  is = none_relayed joined.weaves joined.acts refl (of_relay old) turns;
   events_are = refl;
   passages_are = refl;
   holds = nothing_said;
@@ -256,9 +236,26 @@ all_taken other events = ([], sym (append-nil events))
 
 -- ---- what a command doesn't answer
 
--- how it ends isn't so of this status
-pub never : (P : Status → Type 0) (other status : Status) → (P other → ⊥) → P status → status ≡ other → ⊥
-never P other status isnt ends is = isnt (subst P is ends)
+pub replay_not : (other : Status) {muxes : Bool} {status : Status} {old new : replays.ReplayTellings} {octets draws out : List ℕ} → (IsReplay muxes other old new octets draws out → ⊥)
+    → IsReplay muxes status old new octets draws out → status ≡ other → ⊥
+replay_not other {muxes} {status} {old} {new} {octets} {draws} {out} isnt run is = isnt (subst (λ s. IsReplay muxes s old new octets draws out) is run)
+
+pub relay_not : (other : Status) {L D : Type 0} {w : Weaves L D} {acts : List D → List Act} {status : Status} {turns : ℕ} {old new : relays.RelayTellings} {p : relays.Passed} → (IsRelay w acts other turns old new p → ⊥)
+    → IsRelay w acts status turns old new p → status ≡ other → ⊥
+relay_not other {L} {D} {w} {acts} {status} {turns} {old} {new} {p} isnt run is = isnt (subst (λ s. IsRelay w acts s turns old new p) is run)
+
+pub migration_not : (other : Status) {status : Status} {old new : migrations.MigrationTellings} {octets out : List ℕ} → (IsMigration other old new octets out → ⊥) → IsMigration status old new octets out → status ≡ other → ⊥
+migration_not other {status} {old} {new} {octets} {out} isnt run is = isnt (subst (λ s. IsMigration s old new octets out) is run)
+
+pub capture_not : (other : Status) {status : Status} {old new : replays.ReplayTellings} {octets draws out : List ℕ} → (IsCapture other old new octets draws out → ⊥)
+    → IsCapture status old new octets draws out → status ≡ other → ⊥
+capture_not other {status} {old} {new} {octets} {draws} {out} isnt run is = isnt (subst (λ s. IsCapture s old new octets draws out) is run)
+
+pub bridge_not : (other : Status) {status : Status} {old new : replays.ReplayTellings} {octets draws out : List ℕ} → (IsBridge other old new octets draws out → ⊥) → IsBridge status old new octets draws out → status ≡ other → ⊥
+bridge_not other {status} {old} {new} {octets} {draws} {out} isnt run is = isnt (subst (λ s. IsBridge s old new octets draws out) is run)
+
+pub demo_not : (other status : Status) (written written' : Tally) (octets : List ℕ) → (IsShown other written written' octets → ⊥) → IsShown status written written' octets → status ≡ other → ⊥
+demo_not other status written written' octets isnt shown is = isnt (subst (λ s. IsShown s written written' octets) is shown)
 
 -- a demonstration is done, or the sink failed or memory ran out
 abbrev IsOfDemo : Status → Type 0

@@ -80,6 +80,29 @@ const BOTH_WAYS: Given<'static> = Given {
     ..REPLAY
 };
 
+/// The call that is keyed manually and another one, joined, and a wait.
+const JOINED_WAIT: &[&str] = &[
+    HEADER,
+    KEYED,
+    "manual 2 127.0.0.1:40010 127.0.0.1:41010 00000000 64 RAW80:0c0c0c0c0c0c0c0c0c0c0c0c0c0c0c0c0c0c0c0c RAW80:0d0d0d0d0d0d0d0d0d0d0d0d0d0d0d0d0d0d0d0d\n",
+    "join 1 2\n",
+    "tick 1000\n",
+];
+
+/// Two equal packets of a joined call, and one at its plain port. Eight calls of the link bind the ports, the 9th receives,
+/// the 10th sends.
+const CROSSING: Given<'static> = Given {
+    words: &["relay", "--bridge", "--turns", "3"],
+    readings: &[0, 0, 0, 1000],
+    datagrams: &[
+        (20000, PEER, KNOWN),
+        (20000, PEER, KNOWN),
+        (20002, PLAIN, KNOWN),
+    ],
+    link_fails: &[10],
+    ..REPLAY
+};
+
 const REPLAYS: [Run; 7] = [
     Run {
         script: KEYED_CALL,
@@ -146,7 +169,7 @@ const REPLAYS: [Run; 7] = [
     },
 ];
 
-const RELAYS: [Run; 10] = [
+const RELAYS: [Run; 11] = [
     // The third port isn't bound.
     Run {
         script: KEYED_WAIT,
@@ -236,6 +259,15 @@ const RELAYS: [Run; 10] = [
         },
         status: Status::Done,
         told: &[OFFERED_TOLD, "unsent 20001 127.0.0.1:40001\n", ENDED_TOLD],
+    },
+    Run {
+        script: JOINED_WAIT,
+        given: CROSSING,
+        status: Status::Done,
+        told: &[
+            KEYED_TOLD,
+            "made 2 1 1\nlive 2\njoined 1 2\nunsent 20016 127.0.0.1:40010\ndrop 20000 Repeat\ndrop 20002 PortUnused\n",
+        ],
     },
 ];
 

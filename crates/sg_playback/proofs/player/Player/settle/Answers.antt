@@ -1,9 +1,10 @@
-use Rattle.std.proofs.Common.{rules, ◌≡◌, ◌∙◌, ℕ, List, [], ◌++◌, length, map, take, drop, sym, ap, subst, Err}
+use Rattle.std.proofs.Common.{rules, arith, ◌≡◌, ◌≤◌, ◌∙◌, ℕ, List, [], ◌++◌, length, map, take, drop, sym, ap, subst, Err}
 use Rattle.std.proofs.Math.Seq.{take-append_seam}
 use Rattle.std.proofs.lemmas.List.{nil_from_length}
 use Rattle.sg_edge.proofs.Passed.{wrote_none}
 use Rattle.sg_gateway.specs.Step.{Event}
 use Rattle.sg_front.specs.States.{FrontStandsFor, state_after}
+use Rattle.sg_playback.proofs.Lines.{few_waiting}
 use Rattle.sg_playback.proofs.Plays.{stepped, written_only}
 use Rattle.sg_playback.specs.Playing.{Playing, text_from, waiting}
 use Rattle.sg_table.specs.Batches.{arrived, told_of}
@@ -16,7 +17,7 @@ returns-then-is_empty-clause-settled g c = λ state stands.
     let items : c.self.inside.arrivals.items ≡ [] = nil_from_length c.self.inside.arrivals.items (search rules) in
     let nothing : c.args.self.now.waits ≡ [] = ap (λ (v : Playing). v.waits) (sym c.self.view_is) ∙ items in
     let none : waiting c.args.self.now ≡ [] = ap (map arrived) nothing in
-    ([], wrote_none _, (none, (sym (ap (text_from state) none), subst (λ (es : List Event). FrontStandsFor c.args.self.now.front (state_after state es)) (sym none) stands)))
+    ([], wrote_none _, (sym (ap (text_from state) none), none, subst (λ (es : List Event). FrontStandsFor c.args.self.now.front (state_after state es)) (sym none) stands))
 
 pub returns-clause-settled : goal.returns-clause-settled
 returns-clause-settled g c = λ state stands.
@@ -29,7 +30,7 @@ returns-clause-settled g c = λ state stands.
     ap (λ (ds : List Arrival). text (told_of ds)) back ∙ ap text batched.told ∙ ap (λ (ds : List Arrival). text_from state (map arrived ds)) came in (
       text (told_of c.deref.result.now),
       c.in-Ok.ensures.told,
-      (none, (told, subst (λ (ds : List Arrival). FrontStandsFor c.batch.new.self (state_after state (map arrived ds))) came batched.stands)),
+      (told, none, subst (λ (ds : List Arrival). FrontStandsFor c.batch.new.self (state_after state (map arrived ds))) came batched.stands),
     )
 
 pub returns-in-Err-clause-settled : goal.returns-in-Err-clause-settled
@@ -40,8 +41,9 @@ returns-in-Err-clause-settled g c = λ state stands.
     let back : c.deref.result.now ≡ c.batch.new.arrivals = c.deref.ensures.value ∙ ap (λ (n : ℕ). take n (c.batch.new.arrivals ++ drop (length c.batch.new.arrivals) c.replace-arrivals.result.items)) (sym size) ∙ take-append_seam c.batch.new.arrivals _ in
     let told : text (told_of c.deref.result.now) ≡ text_from state (waiting c.args.self.now) =
     ap (λ (ds : List Arrival). text (told_of ds)) back ∙ ap text batched.told ∙ ap (λ (ds : List Arrival). text_from state (map arrived ds)) came in
-    stepped (Err c.in-Err.status) state (waiting c.args.self.now) (FrontStandsFor c.batch.new.self) _ _ (text (told_of c.deref.result.now)) c.in-Err.ensures.told
-    told (subst (λ (ds : List Arrival). FrontStandsFor c.batch.new.self (state_after state (map arrived ds))) came batched.stands)
+    let few : length c.args.self.now.waits ≤ 256 = search rules in
+    let s = stepped (Err c.in-Err.status) state (waiting c.args.self.now) (FrontStandsFor c.batch.new.self) _ _ (text (told_of c.deref.result.now)) c.in-Err.ensures.told told (subst (λ (ds : List Arrival). FrontStandsFor c.batch.new.self (state_after state (map arrived ds))) came batched.stands) in
+    (s.0, s.1, (s.2.0, s.2.1, omega (arith, few_waiting c.args.self.now few)))
 
 pub returns-in-Err-clause-only : goal.returns-in-Err-clause-only
 returns-in-Err-clause-only g c = written_only (Err c.in-Err.status) _ _ _ c.in-Err.ensures.told

@@ -1,4 +1,4 @@
-use Rattle.std.proofs.Common.{rules, ◌≡◌, true, false, [], ap, sym, subst, ◌∙◌, refl}
+use Rattle.std.proofs.Common.{rules, ◌≡◌, true, false, [], ap, sym, subst, ◌∙◌, inr, refl}
 use Rattle.sg_trace.specs.Output.{text}
 use Rattle.sg_edge.proofs.Passed.{wrote_none}
 use Rattle.sg_gateway.specs.Events.{events_of_signal}
@@ -14,7 +14,7 @@ returns-then-passes_quietly-clause-stepped g c = λ state stands.
     ([], wrote_none _, (ap text told.0, told.1))
 
 pub returns-in-Err-clause-stepped : goal.returns-in-Err-clause-stepped
-returns-in-Err-clause-stepped g c = λ state stands. (Rattle.std.proofs.Common.[], wrote_none _, (text_from state (events_of_signal c.args.signal.now), refl))
+returns-in-Err-clause-stepped g c = λ state stands. (Rattle.std.proofs.Common.[], wrote_none _, (inr refl, (text_from state (events_of_signal c.args.signal.now), refl)))
 
 pub returns-clause-stepped : goal.returns-clause-stepped
 returns-clause-stepped g c = λ state stands.
