@@ -184,10 +184,13 @@ def alone():
     world = World()
     call = world.call()
     call.held, call.alive = call.alive, call.alive - SIGN - 1
+    world.offers(text_of("C", "a=sendonly"), b"a", b"b"), world.answers(text_of("B", "a=recvonly"), b"a", b"b")
+    check("new keys of one are no sign of life of the other", call in world.book.quiet() and world.driver.since())
     world.book.give_sign(call)
     check("both are kept alive while they hold", world.driver.since() == [
         ("offer_plain", 1), ("reject", 1), ("offer_plain", 2), ("reject", 2)])
-    check("by what their inside said", world.driver.said[1] == inside(text_of("B")) and world.driver.said[2] == inside(text_of("A")))
+    check("by what their inside said", world.driver.said[1] == inside(text_of("B", "a=recvonly"))
+          and world.driver.said[2] == inside(text_of("A")))
     world.driver.drops[20_000, "BadTag"], world.driver.lost[20_018, "TooLong"] = 2, 3
     report = world.book.report(call)
     check("what is dropped and lost", report.dropped == {(20_000, "BadTag"): 2} and report.lost == {(20_018, "TooLong"): 3})
