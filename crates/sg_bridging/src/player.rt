@@ -29,7 +29,7 @@ use std::marker::Model;
 #[derive(Drop)]
 pub(crate) struct BridgePlayer {
     switchboard: Switchboard,
-    /// The pad of an earlier datagram.
+    /// The pad that datagrams are handled in, one after the other.
     spare: Option<Pad>,
     /// The outcomes that the last signal told.
     told: Outcomes,
@@ -101,9 +101,11 @@ impl BridgePlayer {
     pub(crate) fn make(alloc: Global) -> Result<BridgePlayer, NoMemory>
         ensures { IfOk result (λ player. StandsFor player start) }
     {
+        let switchboard = Switchboard::make(alloc)?;
+        let pad = Pad::make(alloc)?;
         Ok(BridgePlayer {
-            switchboard: Switchboard::make(alloc)?,
-            spare: None,
+            switchboard,
+            spare: Some(pad),
             told: Outcomes::new(),
         })
     }
