@@ -3,10 +3,10 @@
 
   interop/changed.py TREE [NAME..]     all of them, or these; in TREE, a worktree of the repository, whose files it changes
 
-"script NAME": the definitions, computed by interop/definitions.py, tell something else than interop/rows/NAME.out. "law NAME":
-the check of that law fails in the crate that has it. "law NAME (by reading), script NAME": the crate of the definition is
-refused before the law is reached, so the script is played. Prints a line for each, and ends with 1 where one isn't refused,
-can't be applied or can't be played.
+"script NAME": the definitions, computed by interop/definitions.py, tell something else than interop/rows/NAME.out. "relay NAME":
+those of a relay do, to which the script's datagrams come over the network. "law NAME": the check of that law fails in the crate
+that has it. "law NAME (by reading), script NAME": the crate of the definition is refused before the law is reached, so the
+script is played. Prints a line for each, and ends with 1 where one isn't refused, can't be applied or can't be played.
 """
 import functools
 import re
@@ -15,9 +15,11 @@ import sys
 from pathlib import Path
 
 TOP = Path(__file__).resolve().parent.parent
-HEAD = re.compile(r"refused by: (?:law \S+ \(by reading\), )?(law|script) (\S+)")
+HEAD = re.compile(r"refused by: (?:law \S+ \(by reading\), )?(law|script|relay) (\S+)")
 SCRIPT_SECONDS = 600
 LAW_SECONDS = 3600
+# the relay that tells what these words do
+RELAYS = {"replay": "relay", "replay --mux": "relay --mux", "bridge": "relay --bridge"}
 
 
 class Stuck(Exception):
@@ -40,11 +42,11 @@ def texts_after(edit, tree):
     return texts
 
 
-def told_by(crates, row):
-    """The lines that a script of the rows tells by the definitions of these crates, played as its words say."""
+def told_by(crates, row, kind):
+    """The lines that a script of the rows tells by the definitions of these crates, played as its words say, or by a relay."""
     words = row.with_suffix(".words")
-    played = [words.read_text().strip()] if words.is_file() else []
-    command = [sys.executable, str(TOP / "interop" / "definitions.py"), f"{row}.script", str(crates), *played]
+    played = words.read_text().strip() if words.is_file() else "replay"
+    command = [sys.executable, str(TOP / "interop" / "definitions.py"), f"{row}.script", str(crates), RELAYS[played] if kind == "relay" else played]
     ran = subprocess.run(command, capture_output=True, timeout=SCRIPT_SECONDS)
     if ran.returncode:
         raise Stuck("the definitions can't be computed: " + ran.stderr.decode().strip().split("\n")[-1])
@@ -52,19 +54,19 @@ def told_by(crates, row):
 
 
 @functools.cache
-def lines_of(row):
+def lines_of(row, kind):
     """The lines of a row, which the definitions as they are have to tell."""
     lines = row.with_suffix(".out").read_bytes().split(b"\n")
-    if told_by(TOP / "crates", row) != lines:
+    if told_by(TOP / "crates", row, kind) != lines:
         raise Stuck(f"the definitions as they are tell something else than {row.name}.out")
     return lines
 
 
-def refused_by_script(tree, name):
+def refused_by_script(tree, name, kind):
     """Where the definitions tell something else than the row, or None."""
     row = TOP / "interop" / "rows" / name
-    lines = lines_of(row)
-    told = told_by(tree / "crates", row)
+    lines = lines_of(row, kind)
+    told = told_by(tree / "crates", row, kind)
     if told == lines:
         return None
     at = next(i for i in range(max(len(told), len(lines))) if told[i:i + 1] != lines[i:i + 1])
@@ -78,7 +80,7 @@ def crate_of_law(tree, name):
     return laws[0].parent.parent
 
 
-def refused_by_check(tree, name):
+def refused_by_check(tree, name, _kind):
     """Where the check of a law fails, or None."""
     crate = crate_of_law(tree, name)
     ran = subprocess.run(["rt", "check", "--only", f"laws::{name}"], cwd=crate, capture_output=True, text=True, timeout=LAW_SECONDS)
@@ -96,15 +98,15 @@ def play(edit, tree):
     text = edit.read_text()
     head = HEAD.fullmatch(text.split("\n")[0])
     if not head:
-        raise Stuck("its first line names neither a law nor a script")
+        raise Stuck("its first line names no law, script or relay")
     kind, name = head.groups()
     texts = texts_after(text, tree)
     before = {path: path.read_text() for path in texts}
-    how = refused_by_script if kind == "script" else refused_by_check
+    how = refused_by_check if kind == "law" else refused_by_script
     try:
         for path, changed in texts.items():
             path.write_text(changed)
-        found = how(tree, name)
+        found = how(tree, name, kind)
     except subprocess.TimeoutExpired:
         raise Stuck("no answer in time") from None
     finally:

@@ -3,7 +3,11 @@
 
   interop/definitions.py SCRIPT [CRATES [COMMAND]]     what a replay of SCRIPT tells, or what COMMAND writes of it (migrate;
                                                        bridge; 'replay --mux'; capture, with the capture behind
-                                                       it), by the definitions in the folder CRATES
+                                                       it; 'relay --turns 1 --bridge', to which nothing comes and
+                                                       which can send to no port 0), by the definitions in the
+                                                       folder CRATES. 'relay', 'relay --mux' and 'relay --bridge' take
+                                                       the moments from their clock and the datagrams from their
+                                                       link, and what they send is told too
 
 It reads clauses, records, data, lambdas, `let`, `if` and `do`; types are passed over, so it is no checker. Lists of numbers
 are tuples. The words of std are written by hand below, the block cipher and the code are those of Python, and session keys
@@ -21,6 +25,7 @@ from cryptography.hazmat.primitives.ciphers import Cipher, algorithms, modes
 
 sys.setrecursionlimit(10_000_000)
 STACK_OCTETS = 1 << 32
+BEGAN = 1_000_000  # the moment at which a relay begins
 OUTSIDE = ("std", "base64", "core", "sha1", "hex", "itoa", "memchr", "rand_pcg", "rand_core")
 VARIANTS = "TheVariants"
 
@@ -734,8 +739,61 @@ def captured(source):
     yield bytes(call(output, world, trace.fields["occurrences"]))
 
 
+def live(script):
+    """A script of version 1 whose ticks go on, and whose datagrams come over the network at the moments of its ticks: a wait
+    stands in the place of each, and a tick has two turns, of which the second takes what comes right behind it. With it the
+    readings of the clock, and what is received in each turn."""
+    came, nothing = (definition("sg_edge.specs.Links", name) for name in ("Came", "Nothing"))
+    lines, readings, receipts, moment, word = [], [BEGAN], [], 0, None
+    for line in script.splitlines(keepends=True):
+        before, (word, *values) = word, line.split()
+        if word == b"tick":
+            readings += BEGAN + moment, BEGAN + int(values[0])
+            receipts += nothing, nothing
+            moment = int(values[0])
+        elif word == b"in":
+            host, port = values[1].split(b":")
+            source = Record({"ip": tuple(int(it) for it in host.split(b".")), "port": int(port)})
+            receipt = call(came, int(values[0]), source, tuple(bytes.fromhex(values[2].decode().strip("-"))))
+            if before == b"tick":
+                receipts[-1] = receipt
+                continue
+            readings.append(BEGAN + moment)
+            receipts.append(receipt)
+            line = b"tick %d\n" % moment
+        lines.append(line)
+    return b"".join(lines), tuple(readings), tuple(receipts)
+
+
+def acts_of(kind, muxes, script, readings, receipts):
+    """What a relay does for its deeds, by the definition of its weaving and by those of its kind."""
+    weaves, acts = (definition(f"sg_relay.specs.{kind}", name) for name in ("weaves", "acts"))
+    deeds = call(definition("sg_relay.specs.Weaving", "woven"), weaves, tuple(script), readings, receipts, ()).fields["deeds"]
+    return call(acts, *muxes, deeds)
+
+
+def relayed(kind, *muxes):
+    """What a relay of this kind tells and sends, to which the datagrams come over the network."""
+    def told(script):
+        line, sent = definition("sg_outcome.specs.OutcomeText", "outcome_line"), Growing("Outcome.Out")
+        for act in acts_of(kind, muxes, *live(script)):
+            yield bytes(act.args[1] if act.name == "Act.Tells" else call(line, call(sent, *act.args)))
+    return told
+
+
+def written(kind, *muxes):
+    """What a relay of this kind writes, to which nothing comes, and which can send a packet to each port but 0."""
+    def told(script):
+        for act in acts_of(kind, muxes, script, (0,), ()):
+            goes = act.name == "Act.Sends" and act.args[1].fields["port"] > 0
+            yield bytes(call(definition("sg_relay.specs.Asked", "written_as"), act, goes))
+    return told
+
+
 COMMANDS = {
     "replay": replayed, "replay --mux": muxed, "bridge": bridged, "migrate": migrated, "capture": captured,
+    "relay": relayed("Plain", False), "relay --mux": relayed("Plain", True), "relay --bridge": relayed("Joined"),
+    "relay --turns 1 --bridge": written("Joined"),
 }
 
 

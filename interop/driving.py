@@ -423,6 +423,9 @@ def keys_are_told_again(program):
         wait_until(lambda: driver.gateway.pid != first and not driver.gone, "the next process")
         given = driver.offer_plain(1, text_of(b"offer", PLAIN[1], b"RTP/AVP"), peer="peer")
         require(b"a=key-mgmt:mikey " in given, "the next process offers no message")
+        second = driver.gateway.pid
+        time.sleep(0.5)
+        require(driver.gateway.pid == second and not driver.gone, "a key that was refused is told to the next process")
     return "those that were accepted, and no other"
 
 

@@ -9,6 +9,7 @@ where the system lets it; else UDP port 2223 and the gateway's ports of 127.0.0.
 
 import contextlib
 import os
+import random
 import socket
 import sys
 import time
@@ -16,7 +17,8 @@ from pathlib import Path
 
 from loopback import has_own_loopback
 from ng_protocol import (
-    CALLS_MOST, HOST, at_once, crypto_in, lines_of, plain, port_of, reason_of, running, sentence, text_of, tells_kamailio,
+    CALLS_MOST, HOST, at_once, bencoded, crypto_in, drawn, key, lines_of, plain, port_of, reason_of, running, sentence, text_of,
+    tells_kamailio,
 )
 from usage import words_or_usage
 
@@ -210,7 +212,33 @@ def a_process_ends(program):
     return "the server is told once, and the next process takes the next one"
 
 
-CHECKS = [a_call, what_is_refused, there_is_room, a_process_ends]
+def odd_requests(program):
+    """offers, answers and ends with octets changed, of one telephone that encrypts and of two"""
+    random.seed(5)
+    with running(program) as (daemon, server):
+        for number, offer in enumerate(drawn(600, seed=11)):
+            server.sends(offer)
+            asked = {"call-id": f"drawn {number % 64}", "from-tag": "a", "to-tag": "b", "transport-protocol": BOTH,
+                     "sdp": text_of((HOST, 4_000), (BOTH, "RTP/AVP")[number % 2], key()),
+                     "command": random.choice(("answer", "answer", "offer", "delete"))}
+            octets = bytearray(bencoded(asked))
+            if number % 3:
+                place = random.randrange(len(octets))
+                octets[place:place + 1] = bytes(random.choices(range(256), k=random.randint(0, 2)))
+            server.sends(b"q%d " % number + octets)
+            if number % 50 == 0:
+                assert server.is_answered(), number
+        time.sleep(1)
+        while server.asks("list", limit=10_000)[b"calls"]:
+            for name in server.asks("list", limit=10_000)[b"calls"]:
+                server.asks("delete", call_id=name)
+        taken = [server.offers(f"call {number}", "a", plain(), BOTH)[b"result"] for number in range(CALLS_MOST)]
+        assert set(taken) == {b"ok"}, f"{taken.count(b'ok')} calls are left"
+        assert not any("fault of the daemon" in line for line in daemon.lines), daemon.lines[-5:]
+    return f"1,200 requests; behind them there is room for all {CALLS_MOST} calls"
+
+
+CHECKS = [a_call, what_is_refused, there_is_room, a_process_ends, odd_requests]
 
 
 def main(program, *names):

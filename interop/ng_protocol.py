@@ -540,11 +540,13 @@ def mistyped():
 
 
 def drawn(count, seed=7):
-    """Requests with octets changed, left out or doubled, from a seed."""
+    """Offers to a telephone that encrypts, of one that doesn't and of one that does, too, with octets changed, left out or
+    doubled, from a seed."""
     random.seed(seed)
-    message = {"from-tag": "a", "sdp": plain(), "transport-protocol": "RTP/SAVP", "command": "offer"}
+    message = {"from-tag": "a", "transport-protocol": "RTP/SAVP", "command": "offer"}
     for number in range(count):
-        octets = bytearray(bencoded({"call-id": f"drawn {number % 64}", **message}))
+        text = (plain(), secure(crypto=KEEPS))[number % 3 == 0]
+        octets = bytearray(bencoded({"call-id": f"drawn {number % 64}", "sdp": text, **message}))
         for _ in range(random.randint(1, 4)):
             place = random.randrange(len(octets))
             octets[place:place + random.randint(0, 2)] = bytes(random.choices(range(256), k=random.randint(0, 2)))

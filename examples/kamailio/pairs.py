@@ -16,7 +16,7 @@ from calls import ALICE, BOB, HOST, NG, PROXY, arrived, together, version
 import paced  # noqa: E402
 from baresip import Phone, samples_of  # noqa: E402
 from both_ways import speech  # noqa: E402
-from ends import FRAME, wait_until  # noqa: E402
+from ends import FRAME, is_bound, wait_until  # noqa: E402
 from gstreamer import GSTREAMER, SUITES  # noqa: E402
 from telephone import FIRST, Media, Telephone, keys_of, master, registers  # noqa: E402
 
@@ -73,6 +73,23 @@ def talks(near, far, seed):
     together(lambda stream: stream[0].sends(stream[2], first), streams)
     time.sleep(0.5)
     return all([arrived(f"from {sender.key.suite}", octets, taker, 0, first) for sender, taker, octets in streams])
+
+
+def held(folder):
+    """baresip calls baresip, both with SRTP, and each holds and resumes under the key that it keeps."""
+    dave, erin = Phone(folder, "dave", ALICE, 42_300, True, 4), Phone(folder, "erin", BOB, 42_400, True, 5)
+    registers("erin", BOB, PROXY, True)
+    answering = erin.run(14)
+    wait_until(lambda: is_bound(BOB[1]), what="baresip")
+    calling = dave.run(11, f"sip:erin@{HOST}:{PROXY[1]}")
+    for phone, key in ((dave, "hold"), (dave, "resume"), (erin, "hold"), (erin, "resume")):
+        time.sleep(1.5)
+        phone.press(key)
+    calling.wait(timeout=60), answering.wait(timeout=60)
+    (sent, took), (back, heard) = dave.counts(), erin.counts()
+    for phone, own, other in ((dave, sent, took), (erin, back, heard)):
+        print(f"{phone.name} ({phone.suite()}): {own} packets sent, {other} taken")
+    return sent > 100 and back > 100 and abs(sent - heard) < 10 and abs(back - took) < 30
 
 
 class Played(Media):
@@ -187,7 +204,7 @@ def with_priority(work, *given):
 
 
 NAME = "rtpengine" if "rtpengine" in sys.argv[1:] else "srtpgw"
-SCENES = [two, others, forty]
+SCENES = [two, held, others, forty]
 
 
 def main():

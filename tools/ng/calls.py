@@ -230,7 +230,7 @@ class Book:
         was_live, call.live, call.open = call.live, True, None
         is_held = offer.quiet or is_quiet(request.sdp)
         call.held = (call.held or time.monotonic()) if is_held else None
-        if not offer.passes:
+        if not offer.passes and call.legs.renewed:
             call.alive = time.monotonic()
         if not was_live:
             self.log(f"{call.name()} is live: the {offer.side} side offered")

@@ -25,7 +25,10 @@ class Full(Bad):
 
 
 class Single:
-    """A call between a side that encrypts and one that doesn't."""
+    """A call between a side that encrypts and one that doesn't. Whether the latest answer was a sign of life of all that it
+    has at the gateway says `renewed`."""
+
+    renewed = True
 
     def __init__(self, driver, numbers):
         self.driver, self.number = driver, next(numbers)
@@ -71,7 +74,7 @@ class Pair:
     def __init__(self, driver, numbers):
         self.driver, self.by_side = driver, {"first": Leg(next(numbers)), "second": Leg(next(numbers))}
         self.legs = list(self.by_side.values())
-        self.numbers = tuple(leg.number for leg in self.legs)
+        self.numbers, self.renewed = tuple(leg.number for leg in self.legs), True
 
     def offers(self, call, side, text):
         """The text for the other telephone."""
@@ -100,6 +103,7 @@ class Pair:
         given = carried(text, near.given or call.given[FAR[side]])
         if far.open:
             self.answered(far, near, text)
+        self.renewed = far.open
         near.open = far.open = False
         near.given = None
         return given

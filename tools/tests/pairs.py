@@ -17,7 +17,11 @@ from ng.request import Bad, Request  # noqa: E402
 
 CLAIMS = []
 LINES = "v=0", "o=user 1 1 IN IP4 10.0.0.9", "s=-", "c=IN IP4 10.0.0.9", "t=0 0"
-GIVEN = b"v=0\r\no=a 1 1 IN IP4 10.0.0.9\r\ns=-\r\nc=IN IP4 127.0.0.1\r\nt=0 0\r\nm=audio 20000 RTP/SAVP 0\r\na=crypto:1 X inline:G\r\n"
+SHORT, LONG = "AES_CM_128_HMAC_SHA1_80", "AES_256_CM_HMAC_SHA1_80"
+# What the gateway gives: two lines in an offer.
+GIVEN = "".join(line + "\r\n" for line in (
+    *LINES[:3], "c=IN IP4 127.0.0.1", "t=0 0", "m=audio 20000 RTP/SAVP 0", f"a=crypto:1 {SHORT} inline:G",
+    f"a=crypto:2 {LONG} inline:H")).encode()
 
 
 def check(what, holds):
@@ -71,8 +75,8 @@ class Noted:
         return told
 
 
-def text_of(key, *rest, port=4_000):
-    media = f"m=audio {port} RTP/SAVP 0", f"a=crypto:1 AES_CM_128_HMAC_SHA1_80 inline:{key}"
+def text_of(key, *rest, port=4_000, line=f"1 {SHORT}"):
+    media = f"m=audio {port} RTP/SAVP 0", f"a=crypto:{line} inline:{key}"
     return "".join(line + "\r\n" for line in (*LINES, *media, *rest)).encode()
 
 
@@ -133,6 +137,18 @@ def order():
     check("both end at once", world.driver.since() == [("bye", 1, 2)] and not world.book.all())
 
 
+def tags():
+    """A telephone that has answered the second of two lines offers its key again under another tag."""
+    world = World()
+    world.offers(text_of("A"), b"a"), world.answers(text_of("B", line=f"2 {LONG}"), b"a", b"b")
+    world.driver.since()
+    given = world.offers(text_of("B", "a=sendonly", line=f"1 {LONG}"), b"b", b"a")
+    check("the same key under another tag goes past", world.driver.since() == [] and b"a=sendonly" in given)
+    given = world.answers(text_of("A", "a=recvonly"), b"b", b"a")
+    lines = [line for line in given.splitlines() if line.startswith(b"a=crypto")]
+    check("and is answered by its own suite's line, under that tag", lines == [f"a=crypto:1 {LONG} inline:H".encode()])
+
+
 def refusals():
     world = World()
     world.driver.refuses["offer_plain", 2] = Refused("TableFull")
@@ -168,10 +184,13 @@ def alone():
     world = World()
     call = world.call()
     call.held, call.alive = call.alive, call.alive - SIGN - 1
+    world.offers(text_of("C", "a=sendonly"), b"a", b"b"), world.answers(text_of("B", "a=recvonly"), b"a", b"b")
+    check("new keys of one are no sign of life of the other", call in world.book.quiet() and world.driver.since())
     world.book.give_sign(call)
     check("both are kept alive while they hold", world.driver.since() == [
         ("offer_plain", 1), ("reject", 1), ("offer_plain", 2), ("reject", 2)])
-    check("by what their inside said", world.driver.said[1] == inside(text_of("B")) and world.driver.said[2] == inside(text_of("A")))
+    check("by what their inside said", world.driver.said[1] == inside(text_of("B", "a=recvonly"))
+          and world.driver.said[2] == inside(text_of("A")))
     world.driver.drops[20_000, "BadTag"], world.driver.lost[20_018, "TooLong"] = 2, 3
     report = world.book.report(call)
     check("what is dropped and lost", report.dropped == {(20_000, "BadTag"): 2} and report.lost == {(20_018, "TooLong"): 3})
@@ -181,6 +200,7 @@ def alone():
 
 def main():
     order()
+    tags()
     refusals()
     alone()
     bad = [what for what, holds in CLAIMS if not holds]
