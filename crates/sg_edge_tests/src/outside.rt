@@ -11,6 +11,7 @@ use std::io::{ErrorKind, Read, Write};
 use std::net::{Ipv4Addr, Net, SocketAddr, SocketAddrV4, UdpSocket};
 use std::process::Abort;
 use std::random::RandomSource;
+use std::time::SystemTime;
 
 /// A reader and writer whose every call fails in this way, or takes and gives nothing.
 #[derive(Drop)]
@@ -207,10 +208,10 @@ fn forms_of_the_system_that_fail(rt: HostRuntime) {
     assert!(rt; write_all(&mut full, b"abc") == Err(Failed));
 }
 
-/// A sink of the system takes three octets, though each call halts twice.
-fn takes_three_in_the_end(rt: &(impl Abort + std::rt::Clock), octets: &mut Vec<u8>) {
+/// A sink of the system takes these octets, though each call halts twice.
+fn takes_in_the_end(rt: &(impl Abort + std::rt::Clock), octets: &mut Vec<u8>, part: &[u8]) {
     let mut sink = StdSink::make(Halting { calls: 0, octets }, rt);
-    assert!(rt; write_all(&mut sink, b"abc") == Ok(()));
+    assert!(rt; write_all(&mut sink, part) == Ok(()));
     assert!(rt; sink.flush() == Ok(()));
 }
 
@@ -224,9 +225,19 @@ fn gives_two_in_the_end(rt: &(impl Abort + std::rt::Clock), octets: &mut Vec<u8>
 #[test]
 fn calls_made_again(rt: HostRuntime) {
     let mut octets = Vec::new(rt.alloc());
-    takes_three_in_the_end(&rt, &mut octets);
+    takes_in_the_end(&rt, &mut octets, b"abc");
     assert!(rt; octets.as_slice() == b"abc".as_slice());
     gives_two_in_the_end(&rt, &mut octets);
+}
+
+/// More waits than a test has seconds: each is a millisecond.
+const MANY: [u8; 100] = [7; 100];
+
+#[test]
+fn waits_are_short(rt: HostRuntime) {
+    let mut octets = Vec::new(rt.alloc());
+    takes_in_the_end(&rt, &mut octets, &MANY);
+    assert!(rt; octets.as_slice() == MANY.as_slice());
 }
 
 fn got(port: u16, from: Address) -> Result<Receipt, Failed> {
@@ -369,10 +380,20 @@ impl RandomSource for Dry {
     }
 }
 
+/// The milliseconds since 1970 by the system itself.
+fn system_millis(rt: &(impl Abort + std::rt::Clock)) -> u128 {
+    let now = SystemTime::now(rt).expect(rt, "a moment");
+    let since = now.duration_since(SystemTime::UNIX_EPOCH);
+    since.expect(rt, "a moment since 1970").as_millis()
+}
+
+/// The clock tells a moment between two of the system's own.
 #[test]
 fn time_of_the_system(rt: HostRuntime) {
-    let mut clock = WallClock::make(&rt);
-    assert!(rt; clock.now().unwrap_or(0) > 1_600_000_000_000);
+    let earlier = system_millis(&rt);
+    let now = WallClock::make(&rt).now().expect(&rt, "a moment");
+    let later = system_millis(&rt);
+    assert!(rt; earlier <= u128::from(now) && u128::from(now) <= later);
 }
 
 #[test]
@@ -465,4 +486,76 @@ fn noise_has_each_place(rt: HostRuntime) {
         }
     }
     assert!(rt; seen.iter().all(|octet| *octet != 0));
+}
+
+/// The first eight octets of a draw stand nowhere behind them.
+#[test]
+fn noise_repeats_nothing(rt: HostRuntime) {
+    let mut part = [0; 304];
+    assert!(rt; RngNoise::make(SystemRng(&rt)).draw(&mut part) == Ok(()));
+    for at in 8..297 {
+        assert!(rt; part[at..at + 8] != part[..8]);
+    }
+}
+
+/// A port that always has a datagram keeps no other one from being heard.
+fn hears_both<L: Link>(rt: &(impl Abort + Net), link: &mut L, pad: &mut Pad) {
+    let near = bind_one(rt, link);
+    let far = bind_one(rt, link);
+    sends(rt, link, near, &[near, near]);
+    assert!(rt; next_port(link, pad) == near.port);
+    sends(rt, link, near, &[far]);
+    let mut port = near.port;
+    for _ in 0..200 {
+        if port == near.port {
+            sends(rt, link, near, &[near]);
+            port = next_port(link, pad);
+        }
+    }
+    assert!(rt; port == far.port);
+}
+
+#[test]
+fn a_loaded_port_leaves_the_others(rt: HostRuntime) {
+    let mut pad = Pad::make(rt.alloc()).expect(&rt, "memory");
+    let mut link = UdpLink::make(rt.alloc(), &rt);
+    hears_both(&rt, &mut link, &mut pad);
+}
+
+/// Binds an even port and the odd one above it.
+fn bind_pair<L: Link>(rt: &(impl Abort + Net), link: &mut L) -> (Address, Address) {
+    let mut bound = None;
+    for _ in 0..100 {
+        let even = bind_one(rt, link);
+        let odd = at_home(even.port | 1);
+        if link.bind(odd.port).is_ok() {
+            bound = Some((even, odd));
+            break;
+        }
+    }
+    bound.expect(rt, "a pair of ports")
+}
+
+/// Datagrams pass between an even port and the odd one above it, both ways.
+fn passes_both_ways<L: Link>(rt: &(impl Abort + Net), link: &mut L, pad: &mut Pad) {
+    let (even, odd) = bind_pair(rt, link);
+    passes(rt, link, pad, (even, odd), b"there");
+    passes(rt, link, pad, (odd, even), b"back");
+}
+
+#[test]
+fn a_pair_of_ports_of_the_system(rt: HostRuntime) {
+    let mut pad = Pad::make(rt.alloc()).expect(&rt, "memory");
+    let mut link = UdpLink::make(rt.alloc(), &rt);
+    passes_both_ways(&rt, &mut link, &mut pad);
+}
+
+/// More receives without a datagram than fit into a test if each waits for seconds.
+#[test]
+fn a_receive_without_a_datagram_is_short(rt: HostRuntime) {
+    let mut pad = Pad::make(rt.alloc()).expect(&rt, "memory");
+    let mut link = UdpLink::make(rt.alloc(), &rt);
+    for _ in 0..50 {
+        assert!(rt; link.receive(&mut pad) == Ok(Receipt::Nothing));
+    }
 }
