@@ -1,7 +1,6 @@
 -- The lines of a script behind which a capture may stand, and how they stop.
 use Rattle.std.proofs.Common.{◌≡◌, ◌⊎◌, ◌+◌, ◌^◌, ℕ, Bool, true, false, cond, leb-true, leb-false, List, [], ◌∷◌, length, Result, Ok, Err, refl, ap, ◌∙◌, subst, inl, inr, arith}
 use Rattle.std.specs.Prelude.{nat_le, nat_lt, ◌&&◌, codes}
-use Rattle.std.specs.Str.{bytes_eq}
 use Rattle.std.proofs.lemmas.Bool.{and_parts, cases_Bool, cond-false, ltb-true, ltb-false}
 use Rattle.sg_base.proofs.Cases.{is_name}
 use Rattle.sg_base.specs.declared.faults.ScriptFault.{ScriptFault}
@@ -18,12 +17,9 @@ use Rattle.sg_lines.specs.declared.lines.Line.{Line}
 use Rattle.sg_trace.proofs.Frames.{IsFar, IsLong, IsOpen, Opening, at_far, at_long, opening}
 use Rattle.sg_trace.specs.Course.{behind_line, course_from, ended, read_at}
 use Rattle.sg_trace.specs.Reading.{IsFramed}
-use Rattle.sg_trace.specs.Trace.{AtEnd, AtFault, Captures, begins_capture, line_at}
+use Rattle.sg_trace.specs.Trace.{AtEnd, AtFault, Captures, begins_capture, line_at, says_capture}
 
 -- ---- the frame of a line
-
-abbrev says_capture : ℕ → List ℕ → Bool
-says_capture n t = nat_lt 1 n && bytes_eq t (codes "capture\n")
 
 capture_text : (n : ℕ) (t : List ℕ) → says_capture n t ≡ true → t ≡ codes "capture\n"
 capture_text n t is = is_name t (codes "capture\n") (and_parts _ _ is).1
@@ -53,17 +49,18 @@ capture_framed = record {
 
 -- ---- which line begins a capture
 
-at_tests : (far near second same : Bool) (r : Result Line ScriptFault) → (far ≡ true → near ≡ true → ⊥) → (far ≡ false → near ≡ false → ⊥)
-    → cond far (Err Length) (cond (second && same) (Ok lines.Capture) (of_script r)) ≡ cond (second && (near && same)) (Ok lines.Capture) (of_script (cond far (Err Length) r))
-at_tests true true second same r both neither = absurd (both refl refl)
-at_tests true false true same r both neither = refl
-at_tests true false false same r both neither = refl
-at_tests false true second same r both neither = refl
-at_tests false false second same r both neither = absurd (neither refl refl)
+at_tests : (far near says : Bool) (r : Result Line ScriptFault) → (far ≡ true → near ≡ true → ⊥) → (far ≡ false → near ≡ false → ⊥)
+    → cond far (Err Length) (cond says (Ok lines.Capture) (of_script r)) ≡ cond (says && near) (Ok lines.Capture) (of_script (cond far (Err Length) r))
+at_tests true true says r both neither = absurd (both refl refl)
+at_tests true false true r both neither = refl
+at_tests true false false r both neither = refl
+at_tests false true true r both neither = refl
+at_tests false true false r both neither = refl
+at_tests false false says r both neither = absurd (neither refl refl)
 
 pub line_is : (version n at : ℕ) (l : List ℕ) → read_at of_capture version n at l ≡ cond (begins_capture Captures n at l) (Ok lines.Capture) (of_script (line_at version n at l))
 line_is version n at l =
-    at_tests (nat_lt (2 ^ 30) (at + length l)) (nat_le (at + length l) (2 ^ 30)) (nat_lt 1 n) (bytes_eq l (codes "capture\n")) (line_of version n l)
+    at_tests (nat_lt (2 ^ 30) (at + length l)) (nat_le (at + length l) (2 ^ 30)) (says_capture n l) (line_of version n l)
     (λ far near. (let a = ltb-true (2 ^ 30) (at + length l) far in let b = leb-true (at + length l) (2 ^ 30) near in omega (arith, a, b)))
     (λ far near. (let a = ltb-false (2 ^ 30) (at + length l) far in let b = leb-false (at + length l) (2 ^ 30) near in omega (arith, a, b)))
 

@@ -1,6 +1,5 @@
 -- What a line says of a script behind which a capture may stand, and what it gives.
-use Rattle.std.specs.Prelude.{ℕ, nat_lt, ◌&&◌, if◌then◌else◌, codes, Option, None, Some, Result, Ok, Err, ⊤, is_none}
-use Rattle.std.specs.Str.{bytes_eq}
+use Rattle.std.specs.Prelude.{ℕ, if◌then◌else◌, Option, None, Some, Result, Ok, Err, ⊤, is_none}
 use Rattle.sg_base.specs.declared.faults.ScriptFault.{ScriptFault}
 use Rattle.sg_capture.specs.declared.lines.CaptureLine.{CaptureLine}
 use Rattle.sg_capture.specs.declared.lines.CaptureLine.TheVariants as lines
@@ -11,7 +10,7 @@ use Rattle.sg_lines.specs.declared.lines.Line.{Line}
 use Rattle.sg_playback.specs.Scripts.{gives_of}
 use Rattle.sg_trace.specs.Course.{Ways}
 use Rattle.sg_trace.specs.Loop.{ways_of}
-use Rattle.sg_trace.specs.Trace.{Spelling}
+use Rattle.sg_trace.specs.Trace.{Spelling, says_capture}
 
 -- a line that a replay's script may have too
 abbrev pub of_script : Result Line ScriptFault → Result CaptureLine ScriptFault
@@ -20,7 +19,7 @@ of_script (Err fault) = Err fault
 
 -- the line of this number, from 1: from the second line on it may be `capture`
 abbrev pub capture_line_of : Spelling CaptureLine
-capture_line_of version n octets = if nat_lt 1 n && bytes_eq octets (codes "capture\n") then Ok lines.Capture else of_script (line_of version n octets)
+capture_line_of version n octets = if says_capture n octets then Ok lines.Capture else of_script (line_of version n octets)
 
 -- the version of what follows a line
 abbrev pub capture_version_after : ℕ → CaptureLine → ℕ

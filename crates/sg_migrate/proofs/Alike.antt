@@ -38,7 +38,7 @@ use Rattle.sg_trace.proofs.Frames.{too_far}
 use Rattle.sg_trace.proofs.Traces.{outcomes_from-append, reads_on, world_after-append}
 use Rattle.sg_trace.specs.Course.{behind_line, course_from, read_at}
 use Rattle.sg_trace.specs.Output.{IsPrefixOf}
-use Rattle.sg_trace.specs.Trace.{after_line as said_line, Outside, Replays, Trace, drawing, handled_as, line_at, replayed, said, trace_from}
+use Rattle.sg_trace.specs.Trace.{after_line as said_line, Outside, Replays, Trace, drawing, handled, handled_as, line_at, replayed, trace_from}
 
 -- ---- the moment after a signal
 
@@ -230,7 +230,7 @@ module _ (grammar : Grammar) where
 
   pub reads_printed : (version n at : ℕ) (l : Line) (rest : List ℕ) (top : ℕ) (o : Outside) → FitsLine version n l → at + length (line_text l) ≤ 2 ^ 30
       → trace_from Replays version n at (lines_of (line_text l ++ rest)) top o
-      ≡ said Replays l (trace_from Replays (version_after version l) (n + 1) (at + length (line_text l)) (lines_of rest)) top o
+      ≡ handled l (trace_from Replays (version_after version l) (n + 1) (at + length (line_text l)) (lines_of rest)) top o
   reads_printed version n at l rest top o fits within =
       let whole = grammar.whole version n (line_text l) l (grammar.again version n l fits) in
       reads_on Replays version n at (line_text l) rest l top o refl whole (printed_at version n at l fits within)
@@ -264,7 +264,7 @@ module _ (grammar : Grammar) where
       of_datagram : Again → (port : ℕ) (from : Address) (octets : List ℕ) → FitsLine 1 n (lines.Datagram port from octets)
           → at' + length (line_text (lines.DatagramAt moment port from octets) ++ rest moment) ≤ 2 ^ 30
           → Alike w (trace_from Replays 2 n at' (lines_of (line_text (lines.DatagramAt moment port from octets) ++ rest moment)) top o)
-          (said Replays (lines.Datagram port from octets) (trace_from Replays 1 (n + 1) (at + length l) ls) top o)
+          (handled (lines.Datagram port from octets) (trace_from Replays 1 (n + 1) (at + length l) ls) top o)
       of_datagram again port from octets fits within =
           let x = lines.DatagramAt moment port from octets in
           let e = Datagram port from (as_octets octets) in
@@ -288,7 +288,7 @@ module _ (grammar : Grammar) where
       of_signal : Again → (signal : scripts.Signal) → FitsLine 1 n (lines.Signal signal)
           → at' + length (line_text (lines.Signal signal) ++ rest (moment_after moment (lines.Signal signal))) ≤ 2 ^ 30
           → Alike w (trace_from Replays 2 n at' (lines_of (line_text (lines.Signal signal) ++ rest (moment_after moment (lines.Signal signal)))) top o)
-          (said Replays (lines.Signal signal) (trace_from Replays 1 (n + 1) (at + length l) ls) top o)
+          (handled (lines.Signal signal) (trace_from Replays 1 (n + 1) (at + length l) ls) top o)
       of_signal again signal fits within =
           let m = moment_after moment (lines.Signal signal) in
           let size = length-append (line_text (lines.Signal signal)) (rest m) in

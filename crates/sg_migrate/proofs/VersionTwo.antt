@@ -14,7 +14,7 @@ use Rattle.sg_migrate.specs.VersionTwo.{IsVersionTwo, header_two}
 use Rattle.sg_migrate.specs.declared.lines.LineOfVersionOne.{LineOfVersionOne}
 use Rattle.sg_trace.specs.Course.{behind_line, course, course_from, ended}
 use Rattle.sg_trace.specs.Output.{IsPrefixOf}
-use Rattle.sg_trace.specs.Trace.{AtEnd, AtFault, ForDraw, Later, Outside, Replays, Trace, drawing, handled_as, line_at, said, trace_from}
+use Rattle.sg_trace.specs.Trace.{AtEnd, AtFault, ForDraw, Later, Outside, Replays, Trace, drawing, handled, handled_as, line_at, trace_from}
 
 -- the trace ends at no line that is outside the grammar
 abbrev NoFault : Trace → Type 0
@@ -31,7 +31,7 @@ handled_on None later top o none = for_draw
 handled_on (Some s) later top o none = none top (record o { draws = s.draws })
 
 -- a line of version 2 that isn't a tick of a relay is handled
-said_on : (l : Line) (later : Later) (top : ℕ) (o : Outside) → ((top : ℕ) (o : Outside) → NoFault (later top o)) → NoFault (said Replays l later top o)
+said_on : (l : Line) (later : Later) (top : ℕ) (o : Outside) → ((top : ℕ) (o : Outside) → NoFault (later top o)) → NoFault (handled l later top o)
 said_on l later top o none = handled_on (supplied o.draws l) later top o none
 
 module _ (grammar : Grammar) where

@@ -143,7 +143,7 @@ begins_not n at l isnt = go (bytes_eq l (codes "capture\n")) refl
 
     go : (b : Bool) → bytes_eq l (codes "capture\n") ≡ b → begins_capture Captures n at l ≡ false
     go true is = absurd (isnt ((bytes_eq-Decides l (codes "capture\n")).0 is))
-    go false is = ap (λ (b : Bool). nat_lt 1 n && (nat_le (at + length l) (2 ^ 30) && b)) is ∙ ap (λ (b : Bool). nat_lt 1 n && b) (and_false (nat_le (at + length l) (2 ^ 30))) ∙ and_false (nat_lt 1 n)
+    go false is = ap (λ (b : Bool). (nat_lt 1 n && b) && nat_le (at + length l) (2 ^ 30)) is ∙ ap (λ (b : Bool). b && nat_le (at + length l) (2 ^ 30)) (and_false (nat_lt 1 n))
 
 line_alike : (version n : ℕ) (r : Result Line ScriptFault) (a b : ℕ → Later) (top : ℕ) (o : Outside) → ((v top : ℕ) (o : Outside) → a v top o ≡ b v top o) → after_line Captures version n r a top o ≡ after_line Replays version n r b top o
 line_alike version n (Err fault) a b top o same = refl

@@ -1,16 +1,15 @@
 -- The trace of a script in the grammar comes to no fault.
-use Rattle.std.proofs.Common.{◌≡◌, ◌⊎◌, ◌+◌, ℕ, Bool, true, false, List, [], ◌∷◌, ◌++◌, length, max, Option, Some, None, Result, Ok, Err, refl, sym, ap, ◌∙◌, subst, inl, inr}
-use Rattle.std.specs.Prelude.{IfSome, cond, nat_le}
+use Rattle.std.proofs.Common.{◌≡◌, ◌⊎◌, ◌+◌, ℕ, Bool, true, false, List, [], ◌∷◌, ◌++◌, length, Option, Some, None, Result, Ok, Err, refl, sym, ap, ◌∙◌, subst, inl, inr}
+use Rattle.std.specs.Prelude.{IfSome, cond}
 use Rattle.std.proofs.lemmas.List.{append-nil}
 use Rattle.sg_base.specs.declared.faults.ScriptFault.{ScriptFault}
 use Rattle.sg_base.specs.declared.faults.ScriptFault.TheVariants.{Unended}
-use Rattle.sg_edge.specs.Links.{Received}
 use Rattle.sg_edge.specs.Told.{AtEnd, Tally, TookIn}
 use Rattle.sg_gateway.specs.Drawn.{Supplied, supplied}
 use Rattle.sg_lines.specs.LineOf.{version_after}
 use Rattle.sg_lines.specs.ScriptLines.{lines_of}
 use Rattle.sg_lines.specs.declared.lines.Line.{Line}
-use Rattle.sg_trace.specs.Trace.{AtCapture, AtFault, Command, Trace, Later, Outside, Relays, Replays, after_line, begins_capture, trace_from, handled_as, line_at, line_in, moment_of, replayed, waited_or_handled, stopped, wait_in, waited, woven}
+use Rattle.sg_trace.specs.Trace.{AtCapture, AtFault, Command, Later, Outside, Replays, after_line, begins_capture, trace_from, handled_as, line_at, replayed, stopped}
 use Rattle.sg_trace.specs.Grammar.{IsScript, fault_after, fault_from}
 
 -- what follows tells no such fault
@@ -18,24 +17,9 @@ abbrev Spares : Later → ℕ → ScriptFault → Type 0
 Spares later n f = (top : ℕ) (o : Outside) → (later top o).stop ≡ AtFault n f → ⊥
 
 module _ (n : ℕ) (f : ScriptFault) where
-  at_over : (b : Bool) (later : Later) (top : ℕ) (o : Outside) (c : Trace) → Spares later n f → (c.stop ≡ AtFault n f → ⊥) → (cond b (later top o) c).stop ≡ AtFault n f → ⊥
-  at_over true later top o c none more is = none top o is
-  at_over false later top o c none more is = more is
-
-  in_wait : (until : ℕ) (later : Later) → Spares later n f → (rs : List ℕ) (xs : List Received) (top : ℕ) (draws : List ℕ) → (waited until later top rs xs draws).stop ≡ AtFault n f → ⊥
-  in_wait until later none [] xs top draws is = absurd cc
-  in_wait until later none (r ∷ rs) [] top draws is = absurd cc
-  in_wait until later none (r ∷ rs) (x ∷ xs) top draws is =
-      at_over (nat_le until (moment_of r)) later (max top (moment_of r)) (record { readings = rs; receipts = xs; draws = draws }) (waited until later (max top (moment_of r)) rs xs draws) none
-      (in_wait until later none rs xs (max top (moment_of r)) draws) is
-
   in_line : (s : Option Supplied) (later : Later) → Spares later n f → (top : ℕ) (o : Outside) → (handled_as s later top o).stop ≡ AtFault n f → ⊥
   in_line None later none top o is = absurd cc
   in_line (Some s) later none top o is = none top (record o { draws = s.draws }) is
-
-  in_said : (l : Line) (w : Option ℕ) (later : Later) → Spares later n f → (top : ℕ) (o : Outside) → (waited_or_handled l w later top o).stop ≡ AtFault n f → ⊥
-  in_said l (Some until) later none top o is = in_wait until later none o.readings o.receipts top o.draws is
-  in_said l None later none top o is = in_line (supplied o.draws l) later none top o is
 
   in_lines : (k : Command) (version m at : ℕ) (ls : List (List ℕ)) → (fault_from k version m at ls ≡ Some (n, f) → ⊥) → (top : ℕ) (o : Outside) → (trace_from k version m at ls top o).stop ≡ AtFault n f → ⊥
   in_lines k version m at [] none top o is = absurd cc
@@ -45,7 +29,7 @@ module _ (n : ℕ) (f : ScriptFault) where
           → (fault_after version m r (λ v. fault_from k v (m + 1) (at + length l) ls) ≡ Some (n, f) → ⊥)
           → (after_line k version m r (λ v. trace_from k v (m + 1) (at + length l) ls) top o).stop ≡ AtFault n f → ⊥
       by_line (Err e) again none is = none (let same : AtFault m e ≡ AtFault n f = is in cc)
-      by_line (Ok l') again none is = in_said (line_in k l') (wait_in k l') (trace_from k (version_after version l') (m + 1) (at + length l) ls) (again (version_after version l') none) top o is
+      by_line (Ok l') again none is = in_line (supplied o.draws l') (trace_from k (version_after version l') (m + 1) (at + length l) ls) (again (version_after version l') none) top o is
 
       by_test : (b : Bool) (r : Result Line ScriptFault) → ((v : ℕ) → (fault_from k v (m + 1) (at + length l) ls ≡ Some (n, f) → ⊥) → Spares (trace_from k v (m + 1) (at + length l) ls) n f)
           → (cond b None (fault_after version m r (λ v. fault_from k v (m + 1) (at + length l) ls)) ≡ Some (n, f) → ⊥)
@@ -58,10 +42,6 @@ module _ (n : ℕ) (f : ScriptFault) where
 
   pub in_replay : (octets draws : List ℕ) → IsScript octets → (replayed octets draws).stop ≡ AtFault n f → ⊥
   in_replay octets draws script is = in_lines Replays 1 1 0 (lines_of octets) (λ e. none_some (sym script ∙ e)) 0 _ is
-
-  pub in_relay : (octets readings : List ℕ) (receipts : List Received) (draws : List ℕ) → IsScript octets → (woven octets readings receipts draws).stop ≡ AtFault n f → ⊥
-  in_relay octets [] receipts draws script is = absurd cc
-  in_relay octets (r ∷ rs) receipts draws script is = in_lines (Relays (moment_of r)) 1 1 0 (lines_of octets) (λ e. none_some (sym script ∙ e)) (moment_of r) _ is
 
 -- ---- what was read of a source
 

@@ -10,7 +10,7 @@ use Rattle.sg_trace.proofs.Ends.{closes_not, ended_quiet, played_not_read}
 use Rattle.sg_trace.proofs.Loops.{IsPlaying, bounded, closed_at_end, closed_at_err, closed_between, cut_at_end, cut_under_way, ends_played, last_goes, took_all}
 use Rattle.sg_trace.specs.Causes.{EndedBy, HasFailed}
 use Rattle.sg_trace.specs.Course.{Ways, course}
-use Rattle.sg_trace.specs.Loop.{Closes, Effects, GoInOrder, IsBehindLast, IsCutLine, IsPlayed, IsRun, IsScriptPlayed, IsSettled, IsUnended, IsWant, LoopEnds, Tellings}
+use Rattle.sg_trace.specs.Loop.{Closes, Effects, GoInOrder, IsCutLine, IsPlayed, IsRun, IsScriptPlayed, IsSettled, IsUnended, IsWant, LoopEnds, Tellings}
 use Rattle.sg_trace.specs.Output.{IsPrefixOf}
 use Rattle.sg_trace.specs.Reading.{IsNextBy, IsReadBy, Reading}
 use Rattle.sg_trace.specs.declared.status.Status.{Status}

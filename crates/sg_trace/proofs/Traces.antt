@@ -13,7 +13,7 @@ use Rattle.sg_lines.specs.ScriptLines.{IsWhole, lines_of}
 use Rattle.sg_lines.specs.declared.lines.Line.{Line}
 use Rattle.sg_outcome.specs.OutcomeText.{outcome_line}
 use Rattle.std.proofs.lemmas.Bool.{cond-false}
-use Rattle.sg_trace.specs.Trace.{AtFault, Command, begins_capture, Trace, Outside, after_line, trace_from, line_at, said, stopped, with_events}
+use Rattle.sg_trace.specs.Trace.{AtFault, Command, begins_capture, Trace, Outside, after_line, trace_from, line_at, handled, stopped, with_events}
 use Rattle.sg_trace.specs.Output.{output_from, text}
 use Rattle.sg_trace.specs.Reading.{FirstFails}
 
@@ -24,7 +24,7 @@ whole_some line whole = omega (arith, ap length whole.1, length-append whole.0 (
 
 -- a line that is read
 pub reads_on : (k : Command) (version n at : ℕ) (line rest : List ℕ) (l : Line) (top : ℕ) (o : Outside) → begins_capture k n at line ≡ false → IsWhole line → line_at version n at line ≡ Ok l
-    → trace_from k version n at (lines_of (line ++ rest)) top o ≡ said k l (trace_from k (version_after version l) (n + 1) (at + length line) (lines_of rest)) top o
+    → trace_from k version n at (lines_of (line ++ rest)) top o ≡ handled l (trace_from k (version_after version l) (n + 1) (at + length line) (lines_of rest)) top o
 reads_on k version n at line rest l top o other whole is =
     ap (λ ls. trace_from k version n at ls top o) (lines_of_whole line rest whole)
     ∙ cond-false (begins_capture k n at line) _ _ other

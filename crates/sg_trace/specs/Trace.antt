@@ -1,9 +1,9 @@
 -- The trace of a run: its events, by the lines of its script and by what it took of the outside.
-use Rattle.std.specs.Prelude.{ℕ, ◌+◌, ◌^◌, min, max, Bool, false, ◌&&◌, nat_lt, nat_le, if◌then◌else◌, List, [], ◌∷◌, ◌++◌, length, codes, Option, Some, None, Result, Ok, Err}
+use Rattle.std.specs.Prelude.{ℕ, ◌+◌, ◌^◌, min, Bool, false, ◌&&◌, nat_lt, nat_le, if◌then◌else◌, List, [], ◌∷◌, ◌++◌, length, codes, Option, Some, None, Result, Ok, Err}
 use Rattle.std.specs.Str.{bytes_eq}
 use Rattle.sg_base.specs.declared.faults.ScriptFault.{ScriptFault}
 use Rattle.sg_base.specs.declared.faults.ScriptFault.TheVariants.{Length}
-use Rattle.sg_edge.specs.Links.{Received, Came, Nothing, Failing}
+use Rattle.sg_edge.specs.Links.{Received}
 use Rattle.sg_lines.specs.LineOf.{line_of, version_after}
 use Rattle.sg_lines.specs.ScriptLines.{lines_of}
 use Rattle.sg_lines.specs.declared.lines.Line.{Line}
@@ -81,59 +81,26 @@ moment_of reading = min reading last_moment
 abbrev pub ticks_at : ℕ → ℕ → List Event
 ticks_at top moment = if nat_lt top moment then events_of (lines.Signal (Tick moment)) else []
 
-abbrev pub ticks_of : ℕ → ℕ → List Event
-ticks_of top reading = ticks_at top (moment_of reading)
-
--- a receive that gave a datagram is its arrival
-abbrev pub arrivals_of : Received → List Event
-arrivals_of (Came port from octets) = events_of (lines.Datagram port from octets)
-arrivals_of Nothing = []
-arrivals_of Failing = []
-
--- A wait: turns are taken until a reading is at least this. A turn is one reading, then one receive.
-abbrev pub waited : ℕ → Later → ℕ → List ℕ → List Received → List ℕ → Trace
-waited until later top [] receipts draws = stopped ForReading (record { readings = []; receipts = receipts; draws = draws })
-waited until later top (r ∷ rs) [] draws = with_events (ticks_of top r) (stopped ForReceive (record { readings = rs; receipts = []; draws = draws }))
-waited until later top (r ∷ rs) (x ∷ xs) draws =
-    with_events (ticks_of top r ++ arrivals_of x)
-    (if nat_le until (moment_of r) then later (max top (moment_of r)) (record { readings = rs; receipts = xs; draws = draws })
-    else waited until later (max top (moment_of r)) rs xs draws)
-
 -- ---- scripts
 
--- what plays the script: a replay; a relay, which began at this moment, and waits at `tick` lines; or a replay that
--- may end in a capture
+-- what plays the script: a replay, or one that may end in a capture
 pub data Command : Type 0 where
   Replays : Command
-  Relays : ℕ → Command
   Captures : Command
 
--- the moment of a `tick` line at which this run waits
-abbrev pub wait_in : Command → Line → Option ℕ
-wait_in (Relays began) (lines.Signal (Tick t)) = Some (began + t)
-wait_in k other = None
+-- the line `capture`, which isn't the first
+abbrev pub says_capture : ℕ → List ℕ → Bool
+says_capture n l = nat_lt 1 n && bytes_eq l (codes "capture\n")
 
-abbrev pub waited_or_handled : Line → Option ℕ → Later → Later
-waited_or_handled l (Some until) later top o = waited until later top o.readings o.receipts o.draws
-waited_or_handled l None later top o = handled l later top o
-
--- the line as this run takes it: a relay, whose moments are those of its clock, leaves out that of a datagram
-abbrev pub line_in : Command → Line → Line
-line_in (Relays began) (lines.DatagramAt now port from octets) = lines.Datagram port from octets
-line_in k other = other
-
-abbrev pub said : Command → Line → Later → Later
-said k l later top o = waited_or_handled (line_in k l) (wait_in k l) later top o
-
--- a capture begins behind the line `capture`, which isn't the first, within the first 2^30 octets of the script
+-- a capture begins behind that line, within the first 2^30 octets of the script
 abbrev pub begins_capture : Command → ℕ → ℕ → List ℕ → Bool
-begins_capture Captures n at l = nat_lt 1 n && (nat_le (at + length l) (2 ^ 30) && bytes_eq l (codes "capture\n"))
-begins_capture other n at l = false
+begins_capture Captures n at l = says_capture n l && nat_le (at + length l) (2 ^ 30)
+begins_capture Replays n at l = false
 
 -- a line, and what follows it in the script's version
 abbrev pub after_line : Command → ℕ → ℕ → Result Line ScriptFault → (ℕ → Later) → Later
 after_line k version n (Err fault) later top o = stopped (AtFault n fault) o
-after_line k version n (Ok l) later top o = said k l (later (version_after version l)) top o
+after_line k version n (Ok l) later top o = handled l (later (version_after version l)) top o
 
 -- the lines from the n-th on, which begin at this offset, in a script of that version
 abbrev pub trace_from : Command → ℕ → ℕ → ℕ → List (List ℕ) → Later
@@ -150,10 +117,3 @@ drawing draws = record { readings = []; receipts = []; draws = draws }
 -- first line says which version the script has.
 abbrev pub replayed : List ℕ → List ℕ → Trace
 replayed octets draws = trace_from Replays 1 1 0 (lines_of octets) 0 (drawing draws)
-
--- The trace of a relay of these octets: the first reading is a tick, then come the lines.
-abbrev pub woven : List ℕ → List ℕ → List Received → List ℕ → Trace
-woven octets [] receipts draws = stopped ForReading (record { readings = []; receipts = receipts; draws = draws })
-woven octets (r ∷ rs) receipts draws =
-    with_events (events_of (lines.Signal (Tick (moment_of r))))
-    (trace_from (Relays (moment_of r)) 1 1 0 (lines_of octets) (moment_of r) (record { readings = rs; receipts = receipts; draws = draws }))

@@ -1,5 +1,4 @@
 use Rattle.std.proofs.Common.{rules, ◌≡◌, ◌⊎◌, ◌≤◌, ℕ, List, [], ◌++◌, length, None, IfSome, Ok, Err, refl, sym, ap, ◌∙◌, subst, inl, inr, arith, length-append}
-use Rattle.sg_edge.proofs.Links.{added_more}
 use Rattle.sg_edge.proofs.Passed.{took_none}
 use Rattle.sg_trace.proofs.Causes.{failed_as, failed_now, not_failed, ok_not}
 use Rattle.sg_trace.proofs.Ends.{closes_not, ended_closed, ended_quiet, next_isnt, played_not_read}
