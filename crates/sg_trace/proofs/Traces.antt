@@ -40,9 +40,6 @@ stops_at k version n at octets fault top o first other =
 
 -- ---- events
 
-pub with_events_again : (es fs : List Event) (c : Trace) → with_events es (with_events fs c) ≡ with_events (es ++ fs) c
-with_events_again es fs c = ap (λ (l : List Event). record c { events = l }) (sym (append_assoc es fs c.events))
-
 turns_from-append : (w : World) (es fs : List Event) → turns_from w (es ++ fs) ≡ turns_from w es ++ turns_from (world_after w es) fs
 turns_from-append w [] fs = refl
 turns_from-append w (e ∷ es) fs = ap (λ (l : List Turn). record { before = w; event = e; outcomes = (step w e).outcomes; entries = (step w e).entries } ∷ l) (turns_from-append (step w e).world es fs)

@@ -68,15 +68,6 @@ IsNextBy spelled followed (Err other) old new got left = ⊥
 abbrev pub FirstFails : ℕ → ℕ → ℕ → List ℕ → ScriptFault → Type 0
 FirstFails = FirstFailsBy line_of
 
-abbrev pub IsFault : ℕ → ℕ → ℕ → List ℕ → ScriptFault → Tally → Type 0
-IsFault = IsFaultBy line_of
-
-abbrev pub IsRead : Line → Reading → Reading → List ℕ → Type 0
-IsRead = IsReadBy line_of version_after
-
-abbrev pub IsNext : Result (Option Line) Status → Reading → Reading → List ℕ → Tally → Type 0
-IsNext = IsNextBy line_of version_after
-
 -- why the n-th line isn't read
 abbrev pub refused_as : ℕ → ReadLineFault → Status
 refused_as n faults.NoMemory = NoMemory
