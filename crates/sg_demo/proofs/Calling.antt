@@ -15,11 +15,9 @@ use Rattle.sg_demo.specs.Demonstration.{called_by, slot_told, with_call, with_ca
 use Rattle.sg_demo.specs.Going.{DemoStandsFor}
 use Rattle.sg_demo.specs.Standing.{CallerStandsFor}
 use Rattle.sg_demo.specs.Words.{key_drawn}
-use Rattle.sg_demo.specs.declared.caller.Caller.{Caller}
 use Rattle.sg_demo.specs.declared.state.Demo.{Demo}
 use Rattle.sg_demo.specs.declared.summary.Summary.{Summary}
 use Rattle.sg_demo.proofs.Batching.{world_after-append}
-use Rattle.sg_demo.proofs.Lists.{zip_push}
 
 -- the call with the keys as they were drawn
 pub with_call_is : (number : ℕ) (d : demo.Demo) (words middle after : Lcg) (a b : Master) → words ≡ d.words → a ≡ (key_drawn words).0 → middle ≡ (key_drawn words).1 → b ≡ (key_drawn middle).0 → after ≡ (key_drawn middle).1
@@ -33,6 +31,10 @@ with_call_is number d words middle after a b words_are a_is middle_is b_is after
     sym (ap (λ (x : Master). with_keys number x b after d) first
     ∙ ap (λ (x : Master). with_keys number (key_drawn d.words).0 x after d) second
     ∙ ap (λ (x : Lcg). with_keys number (key_drawn d.words).0 (key_drawn (key_drawn d.words).1).0 x d) last)
+
+-- the slot that is told of first after these events, and the table after them
+abbrev pub IsAsked : Option ℕ → TableValue → World → List Event → Type 0
+IsAsked slot table w events = (slot ≡ slot_told (outcomes_from w events)) × TableStandsFor table (world_after w events)
 
 with_caller_events : (slot : Option ℕ) (n : ℕ) (a b : Master) (d : demo.Demo) → (with_caller slot n a b d).events ≡ d.events
 with_caller_events None n a b d = refl
@@ -51,15 +53,15 @@ call_refused shown table number d a b after words_are stand summary_is none =
     → DemoStandsFor shown table (with_caller s number a b (record d { words = after; events = d.events ++ called_by number a b ∷ [] }))) none
     (λ taken. record { words = words_are; callers = stand; summary = summary_is; taken = taken })
 
-pub call_made : (shown : Demo) (table : TableValue) (number slot : ℕ) (d : demo.Demo) (a b : Master) (after : Lcg) (callers : List Caller) (x : Caller) (before : Summary) → shown.words ≡ after
-    → shown.callers.items ≡ callers ++ x ∷ [] → AllZip CallerStandsFor callers d.callers → CallerStandsFor x (new_caller number slot a b) → shown.summary ≡ record before { calls = before.calls + 1 } → before ≡ d.summary
+pub call_made : (shown : Demo) (table : TableValue) (number slot : ℕ) (d : demo.Demo) (a b : Master) (after : Lcg) (before : Summary) → shown.words ≡ after
+    → AllZip CallerStandsFor shown.callers.items (d.callers ++ new_caller number slot a b ∷ []) → shown.summary ≡ record before { calls = before.calls + 1 } → before ≡ d.summary
     → Some slot ≡ slot_told (outcomes_from (world_of d) (called_by number a b ∷ [])) → TableStandsFor table (world_of (with_keys number a b after d)) → DemoStandsFor shown table (with_keys number a b after d)
-call_made shown table number slot d a b after callers x before words_are items stand new summary_is before_is some =
+call_made shown table number slot d a b after before words_are stand summary_is before_is some =
     subst (λ (s : Option ℕ). TableStandsFor table (world_of (with_caller s number a b (record d { words = after; events = d.events ++ called_by number a b ∷ [] })))
     → DemoStandsFor shown table (with_caller s number a b (record d { words = after; events = d.events ++ called_by number a b ∷ [] }))) some
     (λ taken. record {
       words = words_are;
-      callers = subst (λ (l : List Caller). AllZip CallerStandsFor l (d.callers ++ new_caller number slot a b ∷ [])) (sym items) (zip_push CallerStandsFor callers d.callers x (new_caller number slot a b) stand new);
+      callers = stand;
       summary = summary_is ∙ ap (λ (s : Summary). record s { calls = s.calls + 1 }) before_is;
       taken = taken;
     })

@@ -18,8 +18,8 @@ use Rattle.sg_demo.specs.declared.summary.Summary.{Summary}
 pub record CallerStandsFor (caller : Caller) (c : demo.Caller) : Type 0 where
   pub ssrc : caller.ssrc ≡ c.ssrc
   pub slot : caller.slot ≡ c.slot
-  pub sealing : StandsFor caller.sealing.sealing c.sealing
-  pub opening : StandsFor caller.opening.opening c.opening
+  pub sealing : StandsFor caller.sealing c.sealing
+  pub opening : StandsFor caller.opening c.opening
   pub next : caller.next ≡ c.next % 2 ^ 32
   pub next_plain : caller.next_plain ≡ c.next_plain % 2 ^ 32
   pub last : caller.last ≡ c.last

@@ -8,7 +8,7 @@ ghost use Rattle.sg_demo.specs.Standing.{CallerStandsFor, IsOpened};
 use crate::packets::{filled, packet};
 use sg_base::{MasterKey, NoMemory, Pad};
 use sg_gateway::port_at;
-use sg_peer::{Peer, Sealed};
+use sg_peer::{OpenSide, SealSide, Sealed, opening_side, sealing_side};
 use std::alloc::Global;
 
 /// The number of the first packet of each side.
@@ -20,8 +20,8 @@ const FIRST_NUMBER: u32 = 65_400;
 pub struct Caller {
     pub ssrc: u32,
     pub slot: u8,
-    pub sealing: Peer,
-    pub opening: Peer,
+    pub sealing: SealSide,
+    pub opening: OpenSide,
     pub next: u32,
     pub next_plain: u32,
     pub last: Option<Pad>,
@@ -35,8 +35,8 @@ impl Caller {
         Caller {
             ssrc: number,
             slot,
-            sealing: Peer::make(from_peer, number, u64::from(FIRST_NUMBER)),
-            opening: Peer::make(to_peer, number, u64::from(FIRST_NUMBER)),
+            sealing: sealing_side(from_peer, number, u64::from(FIRST_NUMBER)),
+            opening: opening_side(to_peer, number, u64::from(FIRST_NUMBER)),
             next: FIRST_NUMBER,
             next_plain: FIRST_NUMBER,
             last: None,
@@ -64,7 +64,7 @@ impl Caller {
     {
         let pad = packet(alloc, self.ssrc, self.next)?;
         self.next = self.next.wrapping_add(1);
-        match self.sealing.seal_next(pad) {
+        match self.sealing.send(pad) {
             Ok(Sealed { pad, .. }) => {
                 self.last = Some(filled(alloc, pad.octets())?);
                 Ok(Some(pad))
@@ -87,6 +87,6 @@ impl Caller {
     pub fn opens(&mut self, pad: Pad) -> bool
         ensures { (c : model.Caller) → CallerStandsFor self.old c → IsOpened pad c result × CallerStandsFor self.new (after_opening pad c) }
     {
-        self.opening.check(pad).is_ok()
+        self.opening.receive(pad).is_ok()
     }
 }

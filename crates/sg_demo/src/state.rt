@@ -1,13 +1,19 @@
 //! A demonstration: calls that are keyed with drawn keys, and rounds of their traffic.
 
-ghost use Rattle.std.specs.Prelude.{◌≡◌, ◌≤◌, ◌<◌, ◌+◌, ◌^◌, ℕ, length, vec_len, All, OnOk, OnErr, IsSome};
+ghost use Rattle.std.specs.Prelude.{◌≡◌, ◌≤◌, ◌<◌, ◌+◌, ◌^◌, ℕ, false, List, [], ◌∷◌, ◌++◌, length, vec_len, All, IfOk, OnOk, OnErr, IsSome};
+ghost use Rattle.std.specs.List.{AllZip};
+ghost use Rattle.sg_gateway.specs.Events.{events_of_signal, outcomes_from, signal_lacks_noise};
+ghost use Rattle.sg_gateway.specs.Runs.{world_after};
 ghost use Rattle.sg_gateway.specs.World.{World, empty};
 ghost use Rattle.sg_table.specs.Batches.{IsBatched};
 ghost use Rattle.sg_table.specs.Standing.{TableStandsFor};
+ghost use Rattle.sg_table.specs.Telling.{IsTimely};
 ghost use Rattle.sg_table.specs.Values.{TableValue};
+ghost use Rattle.sg_demo.specs.Callers as calls;
+ghost use Rattle.sg_demo.specs.Callers.{new_caller};
 ghost use Rattle.sg_demo.specs.Demonstration as model;
 ghost use Rattle.sg_demo.specs.Demonstration.{calls_made, with_call, with_round, HasTakenPrefix};
-ghost use Rattle.sg_demo.specs.Standing.{IsWithin};
+ghost use Rattle.sg_demo.specs.Standing.{CallerStandsFor, IsWithin};
 ghost use Rattle.sg_demo.specs.Going.{DemoStandsFor};
 
 use crate::caller::Caller;
@@ -16,7 +22,7 @@ use crate::round::{PLAIN, SECURE, take_turns};
 use crate::summary::Summary;
 use crate::words::{draw_key, start};
 use rand_pcg::Pcg32;
-use sg_base::{BATCH_MOST, CallId, NoMemory};
+use sg_base::{BATCH_MOST, CallId, MasterKey, NoMemory};
 use sg_lanes::Gate;
 use sg_lines::Signal;
 use sg_outcome::Outcome;
@@ -75,12 +81,11 @@ impl Demo {
             from_peer: from_peer.clone(),
             to_peer: to_peer.clone(),
         };
-        let told = table.step(alloc, &signal)?;
-        match slot_told(&told) {
+        let told = tell(alloc, &signal, table)?;
+        match told {
             None => Ok(()),
             Some(slot) => {
-                self.callers
-                    .push(Caller::make(number, slot, &from_peer, &to_peer))?;
+                seat(&mut self.callers, number, slot, &from_peer, &to_peer)?;
                 self.summary.calls += 1;
                 Ok(())
             }
@@ -115,6 +120,38 @@ impl Demo {
             &mut self.summary,
         )
     }
+}
+
+/// The slot of the call that the table has made of a signal, if it has made one. All that is told of it is large, so it isn't
+/// inlined.
+#[inline(never)]
+fn tell(alloc: Global, signal: &Signal, table: &mut Table) -> Result<Option<u8>, NoMemory>
+    requires noise { signal_lacks_noise signal.now ≡ false }
+    requires timely { IsTimely signal.now }
+    ensures told { IfOk result (λ slot. (w : World) → TableStandsFor table.old w → slot ≡ model.slot_told (outcomes_from w (events_of_signal signal.now))) }
+    ensures taken { OnOk result ((w : World) → TableStandsFor table.old w → TableStandsFor table.new (world_after w (events_of_signal signal.now))) }
+    ensures same { OnErr result (table.new ≡ table.old) }
+{
+    let told = table.step(alloc, signal)?;
+    Ok(slot_told(&told))
+}
+
+/// The call of this number takes part, in this slot. Its peers are large, so it isn't inlined: what else a demonstration
+/// does has them in no frame.
+#[inline(never)]
+fn seat(
+    callers: &mut Vec<Caller>,
+    number: u32,
+    slot: u8,
+    from_peer: &MasterKey,
+    to_peer: &MasterKey,
+) -> Result<(), NoMemory>
+    ensures seated { OnOk result ((cs : List calls.Caller) → AllZip CallerStandsFor callers.old.items cs
+        → AllZip CallerStandsFor callers.new.items (cs ++ new_caller number slot from_peer.now to_peer.now ∷ [])) }
+    ensures size { vec_len callers.new ≤ vec_len callers.old + 1 }
+{
+    callers.push(Caller::make(number, slot, from_peer, to_peer))?;
+    Ok(())
 }
 
 /// The slot of the call that is told of first, where it was made.

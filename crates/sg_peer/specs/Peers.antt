@@ -1,5 +1,5 @@
 -- A peer of the gateway: one session that seals and one that opens, of RTP alone, under one key.
-use Rattle.std.specs.Prelude.{◌≡◌, ℕ, ◌/◌, ◌^◌, not, List, [], ◌∷◌}
+use Rattle.std.specs.Prelude.{◌≡◌, ℕ, ◌/◌, ◌^◌, not, [], ◌∷◌}
 use Rattle.sg_base.specs.Keys.{Master}
 use Rattle.sg_base.specs.Suites.{tag_len_of}
 use Rattle.sg_base.specs.declared.addresses.Kind.TheVariants.{Rtp}

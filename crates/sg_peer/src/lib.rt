@@ -3,5 +3,5 @@
 
 mod peer;
 
-pub use peer::Peer;
-pub use sg_media::{Opened, Sealed};
+pub use peer::{Peer, opening_side, sealing_side};
+pub use sg_media::{OpenSide, Opened, SealSide, Sealed};

@@ -4,7 +4,7 @@ ghost use Rattle.std.specs.Prelude.{◌≡◌, ◌≤◌, ◌<◌, ◌^◌, true
 ghost use Rattle.sg_base.specs.Suites.{tag_len_of};
 ghost use Rattle.sg_keys.specs.Live.{is_cipher_len};
 ghost use Rattle.sg_media.specs.Accepting.{IsMadeOf};
-ghost use Rattle.sg_media.specs.Sides.{CanBeMade};
+ghost use Rattle.sg_media.specs.Sides.{CanBeMade, StandsFor};
 ghost use Rattle.sg_peer.specs.Peers.{IsPeers};
 ghost use Rattle.sg_session.specs.Session.{Session};
 
@@ -31,7 +31,6 @@ impl Model for Peer {
 
 impl Peer {
     ghost use Rattle.sg_media.specs.Answers.{opened_of, sealed_of};
-    ghost use Rattle.sg_media.specs.Sides.{StandsFor};
     ghost use Rattle.sg_session.specs.OneSession.{after};
     ghost use Rattle.sg_session.specs.Opening.{opens};
     ghost use Rattle.sg_session.specs.Sealing.{seals};
@@ -44,8 +43,8 @@ impl Peer {
         ensures opening { (s : Session) → IsPeers s key.now ssrc first 64 → StandsFor result.opening s }
     {
         Peer {
-            sealing: SealSide::make(spec(key, ssrc, first, WINDOW_MOST)),
-            opening: OpenSide::make(spec(key, ssrc, first, WINDOW_LEAST)),
+            sealing: sealing_side(key, ssrc, first),
+            opening: opening_side(key, ssrc, first),
         }
     }
 
@@ -73,6 +72,25 @@ impl Peer {
     {
         self.opening.receive(pad)
     }
+}
+
+/// The side of a peer that seals, of this key, source and first index, below 2^48: a session with a replay window of 1,024
+/// packets. Nothing is done in it. What it is made of is large, so it isn't inlined.
+#[inline(never)]
+pub fn sealing_side(key: &MasterKey, ssrc: u32, first: u64) -> SealSide
+    requires { first < 2 ^ 48 }
+    ensures { (s : Session) → IsPeers s key.now ssrc first 1024 → StandsFor result s }
+{
+    SealSide::make(spec(key, ssrc, first, WINDOW_MOST))
+}
+
+/// The side of a peer that opens: a session with a window of 64 packets, and else as the one that seals.
+#[inline(never)]
+pub fn opening_side(key: &MasterKey, ssrc: u32, first: u64) -> OpenSide
+    requires { first < 2 ^ 48 }
+    ensures { (s : Session) → IsPeers s key.now ssrc first 64 → StandsFor result s }
+{
+    OpenSide::make(spec(key, ssrc, first, WINDOW_LEAST))
 }
 
 /// What a side of a peer is made of.

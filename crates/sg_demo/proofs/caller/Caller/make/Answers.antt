@@ -7,9 +7,9 @@ pub returns : goal.returns
 returns c = record {
   ssrc = refl;
   slot = refl;
-  sealing = c.make.ensures.sealing (peer_session Sealing c.args.from_peer.now c.args.number 1024)
+  sealing = c.sealing_side.ensures (peer_session Sealing c.args.from_peer.now c.args.number 1024)
       (record { kind = refl; keys = refl; roc = ap (λ (x : ℕ). x / 2 ^ 16) (sym c.from.ensures); window = refl; admit = refl; encrypts = refl; tag_len = refl; none_done = refl });
-  opening = c.make-2.ensures.opening (peer_session Opening c.args.to_peer.now c.args.number 64)
+  opening = c.opening_side.ensures (peer_session Opening c.args.to_peer.now c.args.number 64)
       (record { kind = refl; keys = refl; roc = ap (λ (x : ℕ). x / 2 ^ 16) (sym c.from-2.ensures); window = refl; admit = refl; encrypts = refl; tag_len = refl; none_done = refl });
   next = refl;
   next_plain = refl;

@@ -18,7 +18,7 @@ returns-in-Ok c = λ d stands.
       record {
         ssrc = stands.ssrc;
         slot = stands.slot;
-        sealing = subst (λ (r : Result Taken DropCause). StandsFor c.seal_next.new.self.sealing (after d.sealing r)) is (c.in-Ok.ensures.after d.sealing stands.sealing);
+        sealing = subst (λ (r : Result Taken DropCause). StandsFor c.send.new.self (after d.sealing r)) is (c.in-Ok.ensures.after d.sealing stands.sealing);
         opening = stands.opening;
         next = one_more d.next c.args.self.now.next stands.next;
         next_plain = stands.next_plain;
@@ -35,7 +35,7 @@ returns c = λ d stands.
       record {
         ssrc = stands.ssrc;
         slot = stands.slot;
-        sealing = subst (λ (r : Result Taken DropCause). StandsFor c.seal_next.new.self.sealing (after d.sealing r)) is (c.in-Err.ensures.after d.sealing stands.sealing);
+        sealing = subst (λ (r : Result Taken DropCause). StandsFor c.send.new.self (after d.sealing r)) is (c.in-Err.ensures.after d.sealing stands.sealing);
         opening = stands.opening;
         next = one_more d.next c.args.self.now.next stands.next;
         next_plain = stands.next_plain;
