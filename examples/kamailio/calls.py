@@ -259,15 +259,17 @@ def version(*words):
     return next((line for line in (out.stdout + out.stderr).splitlines() if re.search(r"\d\.\d", line)), "?").strip()
 
 
-def main():
-    for words in (("kamailio", "-v"), ("baresip", "-h"), ("sipp", "-v"), ("rtpengine", "--version")):
+def played(programs, scenes, begun=lambda gateway: None):
+    """Plays the scenes that the words name, or all of them, through Kamailio and what NAME is; what to end with."""
+    for words in programs:
         print(version(*words))
     print(f"through {NAME}", flush=True)
-    wanted = [scene for scene in SCENES if scene.__name__ in sys.argv[1:]] or SCENES
+    wanted = [scene for scene in scenes if scene.__name__ in sys.argv[1:]] or scenes
     good = []
     with tempfile.TemporaryDirectory() as folder:
         words = ["--tell", f"http://{HOST}:5071/RPC"] + (["--step", os.environ["STEP"]] if os.environ.get("STEP") else [])
         gateway = rtpengine(folder) if NAME == "rtpengine" else ng(folder, NG, None, "ng", *words)
+        begun(gateway)
         proxy = kamailio(folder)
         try:
             for scene in wanted:
@@ -286,6 +288,10 @@ def main():
                 print(gateway.text(), end="")
     print(f"{NAME} ended with {status}; {sum(good)} of {len(good)} as they should be")
     return 0 if all(good) and status == 0 else 1
+
+
+def main():
+    return played((("kamailio", "-v"), ("baresip", "-h"), ("sipp", "-v"), ("rtpengine", "--version")), SCENES)
 
 
 if __name__ == "__main__":

@@ -5,13 +5,11 @@ import re
 import signal
 import subprocess
 import sys
-import tempfile
 import time
 from pathlib import Path
 
-from stack import asked, dialogs, kamailio, ng, rtpengine
 # Before the others, which have a folder with another module of this name looked through first.
-from calls import ALICE, BOB, HOST, NG, PROXY, arrived, together, version
+from calls import ALICE, BOB, HOST, NAME, PROXY, arrived, played, together
 
 import paced  # noqa: E402
 from baresip import Phone, samples_of  # noqa: E402
@@ -203,35 +201,18 @@ def with_priority(work, *given):
     os.sched_setscheduler(0, os.SCHED_OTHER, os.sched_param(0))
 
 
-NAME = "rtpengine" if "rtpengine" in sys.argv[1:] else "srtpgw"
 SCENES = [two, held, others, forty]
 
 
+def at_real_time(gateway):
+    """rtpengine at a real-time priority, which srtpgw takes by itself."""
+    if NAME == "rtpengine":
+        subprocess.run(["chrt", "--rr", "--all-tasks", "--pid", "10", str(gateway.process.pid)])
+
+
 def main():
-    for words in (("kamailio", "-v"), ("baresip", "-h"), ("gst-launch-1.0", "--version"), ("rtpengine", "--version")):
-        print(version(*words))
-    print(f"through {NAME}", flush=True)
-    wanted, good = [scene for scene in SCENES if scene.__name__ in sys.argv[1:]] or SCENES, []
-    with tempfile.TemporaryDirectory() as folder:
-        gateway = rtpengine(folder) if NAME == "rtpengine" else ng(folder, NG, None, "ng", "--tell", f"http://{HOST}:5071/RPC")
-        if NAME == "rtpengine":
-            subprocess.run(["chrt", "--rr", "--all-tasks", "--pid", "10", str(gateway.process.pid)])
-        proxy = kamailio(folder)
-        try:
-            for scene in wanted:
-                print(f"{scene.__name__}: {scene.__doc__}", flush=True)
-                good.append(scene(folder))
-            time.sleep(1)
-            left = asked(NG, "list").get(b"calls")
-            print(f"left at the end: {left}, {dialogs()} dialogs")
-            good.append(left == [])
-        finally:
-            proxy.ends()
-            status = gateway.ends()
-            if os.environ.get("LOGS"):
-                print(proxy.text(), gateway.text())
-    print(f"{NAME} ended with {status}; {sum(good)} of {len(good)} as they should be")
-    return 0 if all(good) and status == 0 else 1
+    programs = (("kamailio", "-v"), ("baresip", "-h"), ("gst-launch-1.0", "--version"), ("rtpengine", "--version"))
+    return played(programs, SCENES, at_real_time)
 
 
 if __name__ == "__main__":
