@@ -50,10 +50,11 @@ use std::thread::Threads;
 /// sink, and draws the noise that its signals lack; the link and the clock aren't touched. `relay` handles
 /// its lines likewise, and at a `tick` line it takes what the link receives and sends what goes out, until the clock
 /// says that the moment has come. With `--mux` these two let RTP and RTCP share a port where offer and answer agree on it
-/// (RFC 5761). With `--bridge` the calls of a relay may be joined, as those of a `bridge`. `bridge` plays a script whose calls may be joined: what one of the two opens, the other seals. `demo` writes
-/// the numbers of a demonstration. `migrate` writes the script of version 1 that the source holds as one of version 2.
-/// `capture` plays a script and the capture behind it, whose datagrams come at the moments of their records. Words that are
-/// no command are answered `Usage`, and then nothing is touched.
+/// (RFC 5761). With `--bridge` the calls of a relay may be joined, as those of a `bridge`. `bridge` plays a script whose calls
+/// may be joined: what one of the two opens, the other seals. `demo` writes the numbers of a demonstration. `migrate` writes
+/// the script of version 1 that the source holds as one of version 2. `capture` plays a script and the capture behind it,
+/// whose datagrams come at the moments of their records. Words that are no command are answered `Usage`, and then nothing is
+/// touched.
 pub fn run<R: Threads + Sync, S: Source, K: Sink, L: Link, C: Clock, N: Noise, G: Gate + Sync>(
     rt: &R,
     alloc: Global,
