@@ -170,8 +170,11 @@ module _ (calls after : Members) (p : Pair) (on : InForce calls p) (free : (s : 
     | inr of_p ↦ inr (elim of_p [ inl d ↦ this_one x.first.slot x.first.id x d was.0 | inr d ↦ this_one x.second.slot x.second.id x d was.1 ])
   ]
 
-  pub parts_it : Unties calls after p.first.id p.second.id
-  parts_it = (p, refl, refl, on, λ still. free p.first.slot (inl refl) p.first.id p still.0)
+  pub parts_told : (first second : CallId) → tells.Parted p.first.id p.second.id ≡ tells.Parted first second → Unties calls after first second
+  parts_told first second told =
+      let a : p.first.id ≡ first = cc in
+      let b : p.second.id ≡ second = cc in
+      (p, a, b, on, λ still. free p.first.slot (inl refl) p.first.id p still.0)
 
 pub parted_free : (calls : Members) (p : Pair) (s : ℕ) → IsOf s p → (id : CallId) (x : Pair) → tie (parted p calls) s ≡ tied id x → ⊥
 parted_free calls p s of_p id x is = free_tie (parted p calls) s (free_of calls p s of_p) id x is
@@ -270,15 +273,8 @@ module _ (calls : Members) (id : CallId) (slot media : ℕ) (why : Rattle.sg_out
         | inl still ↦ inl still
         | inr one ↦ inr (ap (λ (y : Pair). Some (tells_parted y)) (sym one), subst (λ (y : Pair). IsPartyOf y id slot) (sym one) party)
       ];
-      parted = λ first second is. one_told first second is;
+      parted = λ first second is. parts_told calls (set (parted p calls) slot None) p on free same first second (let told : tells_parted p ≡ tells.Parted first second = cc in told);
     }
-      where
-        one_told : (first second : CallId) → Some (tells_parted p) ≡ Some (tells.Parted first second) → Unties calls (set (parted p calls) slot None) first second
-        one_told first second is =
-            let told : tells_parted p ≡ tells.Parted first second = cc in
-            let a : p.first.id ≡ first = cc in
-            let b : p.second.id ≡ second = cc in
-            subst (λ i. Unties calls (set (parted p calls) slot None) i second) a (subst (λ j. Unties calls (set (parted p calls) slot None) p.first.id j) b (parts_it calls (set (parted p calls) slot None) p on free same))
 
     pub ends_pair : EndsPairAt calls (set (parted p calls) slot None) id slot p
     ends_pair = record {

@@ -11,7 +11,7 @@ use Rattle.sg_gateway.specs.Runs.{turns_from}
 use Rattle.sg_gateway.specs.Step.{Event, Signalled, Datagram, step}
 use Rattle.sg_gateway.specs.World.{World, empty, same_id}
 use Rattle.sg_outcome.specs.declared.outcomes.Outcome.{Outcome}
-use Rattle.sg_outcome.specs.declared.outcomes.Outcome.TheVariants.{Made, Live, Sdp, Refused, Ended, Out, Dropped, Unsent}
+use Rattle.sg_outcome.specs.declared.outcomes.Outcome.TheVariants.{Made, Live, Ended, Out}
 use Rattle.sg_bridge.specs.Bridged.{Bridging, Happens, arrived, bridging, bridgings_from, opened, passed, told_and_parted}
 use Rattle.sg_bridge.specs.Onward.{is_plain_port, medium_by_port, onward, onward_in, port_like, slot_by_port}
 use Rattle.sg_bridge.specs.Pairs.{Members, after_outcome, emptied, joined_pair, member_at, new_member, no_members, now_live, other_slot, vacated}
