@@ -49,12 +49,7 @@ digits_again n small =
 suite_step : (s : Suite) (o : Option Suite) → (s ≡ Raw80 → ⊥) → suite_at (suite_name s) ≡ Some s → crypto_suite_at (suite_name s) ≡ Some s
 unfolding crypto_suite_at
 suite_step Raw80 o other e = absurd (other refl)
-suite_step Cm128Tag80 o other e = rw e refl
-suite_step Cm128Tag32 o other e = rw e refl
-suite_step Cm192Tag80 o other e = rw e refl
-suite_step Cm192Tag32 o other e = rw e refl
-suite_step Cm256Tag80 o other e = rw e refl
-suite_step Cm256Tag32 o other e = rw e refl
+suite_step another o other e = rw e refl
 
 pub crypto_suite_again : (s : Suite) → (s ≡ Raw80 → ⊥) → crypto_suite_at (suite_name s) ≡ Some s
 crypto_suite_again s other = suite_step s None other (suite_again s)
