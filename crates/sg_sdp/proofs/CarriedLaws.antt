@@ -87,11 +87,8 @@ prefix_kept (v ∷ o ∷ s ∷ rest) prefix =
 
 proto_word : (p : Profile) (proto : List ℕ) → is_word proto ≡ true → is_word (carried_proto p proto) ≡ true
 unfolding carried_proto is_word
-proto_word Avp proto is = refl
-proto_word Savp proto is = refl
-proto_word Avpf proto is = refl
-proto_word Savpf proto is = refl
 proto_word Other proto is = is
+proto_word other proto is = refl
 
 medium_is : (port : ℕ) (p : Profile) (m : Medium) → port ≤ 65535 → IsMedium m → IsMedium (carried_medium port p m)
 unfolding carried_medium
