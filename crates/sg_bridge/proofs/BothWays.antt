@@ -2,7 +2,8 @@
 use Rattle.std.proofs.Common.{◌≡◌, ℕ, List, [], ◌∷◌, Some, refl, sym, subst}
 use Rattle.std.specs.List.{All}
 use Rattle.sg_bridge.proofs.Cases.{all_bridgings, all_lines, each_case, each_line, in_each_case}
-use Rattle.sg_bridge.proofs.Mates.{AreMates, comes_back, joining_mates, no_members_mates, outcome_mates, parting_mates}
+use Rattle.sg_bridge.proofs.Joined.{comes_back}
+use Rattle.sg_bridge.proofs.Mates.{AreMates, joining_mates, no_members_mates, outcome_mates, parting_mates}
 use Rattle.sg_bridge.specs.Bridged.{Bridging, GoesBothWays, Said, bridging, bridgings_from, told_and_parted}
 use Rattle.sg_bridge.specs.Calls.{AllLines}
 use Rattle.sg_bridge.specs.Onward.{onward}

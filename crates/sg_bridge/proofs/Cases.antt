@@ -2,6 +2,7 @@
 use Rattle.std.proofs.Common.{◌≡◌, ℕ, List, [], ◌∷◌, map, Option, Some, None, Ok, refl, sym, ap, subst}
 use Rattle.std.proofs.lemmas.List.Elements.{All-from_recursion}
 use Rattle.std.specs.List.{All, AllByRecursion}
+use Rattle.std.specs.Prelude.{option_to_list}
 use Rattle.sg_base.specs.declared.addresses.Address.{Address}
 use Rattle.sg_base.specs.declared.addresses.CallId.{CallId}
 use Rattle.sg_base.specs.declared.faults.DropCause.{DropCause}
@@ -12,13 +13,15 @@ use Rattle.sg_gateway.specs.PlainOf.{plain_at}
 use Rattle.sg_gateway.specs.Signals.{Signal}
 use Rattle.sg_gateway.specs.Step.{Event, Signalled, Datagram, step}
 use Rattle.sg_gateway.specs.World.{Call, World, empty}
-use Rattle.sg_outcome.specs.declared.outcomes.Outcome.TheVariants.{Out, Dropped}
+use Rattle.sg_outcome.specs.declared.outcomes.Outcome.{Outcome}
+use Rattle.sg_outcome.specs.declared.outcomes.Outcome.TheVariants.{Ended, Out, Dropped}
+use Rattle.sg_session.proofs.Lists.{each_append}
 use Rattle.sg_bridge.proofs.Found.{CanJoin, CanPart, joins_by, parts_by}
 use Rattle.sg_bridge.proofs.PutAt.{Coming, IsDropped, IsPut, PutBy, comes}
-use Rattle.sg_bridge.specs.Bridged.{Bridging, Said, Happens, Joins, Parts, arrived, bridging, bridgings_from, handed_on, happened, happens, inner, inner_told, joining, nothing_happens, opened, parting, passed}
+use Rattle.sg_bridge.specs.Bridged.{Bridging, Said, Happens, Joins, Parts, arrived, bridging, bridgings_from, handed_on, happened, happens, inner, inner_told, joining, nothing_happens, opened, parting, passed, told_and_parted}
 use Rattle.sg_bridge.specs.Calls.{AllLines}
 use Rattle.sg_bridge.specs.Onward.{onward}
-use Rattle.sg_bridge.specs.Pairs.{Members, no_members, pair, paired, parted}
+use Rattle.sg_bridge.specs.Pairs.{Members, after_outcome, joined_pair, member_at, no_members, pair, paired, parted, tells_parted, vacated}
 use Rattle.sg_bridge.specs.declared.faults.JoinFault.{JoinFault}
 use Rattle.sg_bridge.specs.declared.members.Found.{Found}
 use Rattle.sg_bridge.specs.declared.members.Pair.{Pair}
@@ -109,6 +112,24 @@ module _ (w : World) (calls : Members) (port : ℕ) (from : Address) (d : Octets
     refused = λ p q to x opens a at cause is. holds (e ∷ inner q a x ∷ []) (tells.Lost q cause) (step after (inner q a x)).world tt;
     sealed = λ p q to x opens a at c o by is es. holds (e ∷ inner q a x ∷ []) (tells.Table (Out o.port o.to o.octets)) (step after (inner q a x)).world tt;
   })
+
+-- ---- a signal
+
+-- what holds of each outcome as it is told, and of each parting, holds of all that is told
+module _ (Q : BridgeOutcome → Type 0) (parts : (p : Pair) → Q (tells_parted p)) where
+  parted_holds : (calls : Members) (o : Outcome) → AllByRecursion Q (option_to_list (after_outcome calls o).parted)
+  parted_holds calls (Ended id slot media why) = go (joined_pair (member_at calls slot))
+    where
+      go : (p : Option Pair) → AllByRecursion Q (option_to_list (vacated slot calls p).parted)
+      go None = tt
+      go (Some p) = (parts p, tt)
+  parted_holds calls other = tt
+
+  pub followed_holds : (calls : Members) (os : List Outcome) → AllByRecursion (λ o. Q (tells.Table o)) os → AllByRecursion Q (told_and_parted calls os).told
+  followed_holds calls [] each = tt
+  followed_holds calls (o ∷ os) each =
+      let n = after_outcome calls o in
+      (each.0, each_append Q (option_to_list n.parted) (told_and_parted n.calls os).told (parted_holds calls o) (followed_holds n.calls os each.1))
 
 -- ---- a line
 

@@ -1,10 +1,7 @@
 -- What is opened in a joined call stays inside, and is sealed in the other.
-use Rattle.std.proofs.Common.{◌≡◌, inl, inr, ◌⊎◌, ℕ, ◌+◌, ◌-◌, ◌%◌, ◌<◌, ◌≤◌, Bool, true, false, cond, List, [], ◌∷◌, Option, Some, None, Ok, refl, sym, ap, ◌∙◌, subst, arith, leb, ltb}
-use Rattle.std.specs.Prelude.{◌&&◌, option_to_list}
-use Rattle.std.proofs.lemmas.Bool.{and_parts, leb-true}
+use Rattle.std.proofs.Common.{◌≡◌, inl, inr, ◌⊎◌, ℕ, ◌+◌, ◌-◌, ◌%◌, ◌<◌, ◌≤◌, List, [], ◌∷◌, Some, None, Ok, refl, sym, ap, ◌∙◌, subst, arith}
 use Rattle.std.proofs.lemmas.Bool.Decides.{leb_tells}
 use Rattle.std.specs.List.{All, Any, AllByRecursion}
-use Rattle.std.specs.Option.{option_map}
 use Rattle.sg_base.proofs.Cases.{none_some}
 use Rattle.sg_base.specs.declared.addresses.Address.{Address}
 use Rattle.sg_base.specs.declared.faults.DropCause.TheVariants.{PortUnused}
@@ -16,68 +13,30 @@ use Rattle.sg_gateway.specs.Datagrams.{Put}
 use Rattle.sg_gateway.specs.Octets.{Octets, as_octets}
 use Rattle.sg_gateway.specs.Runs.{turn_of}
 use Rattle.sg_gateway.specs.SealedOut.{IsOut, IsSealedOutOf}
+use Rattle.sg_gateway.specs.Signals.{Signal}
 use Rattle.sg_gateway.specs.Step.{Event, Signalled, Datagram, step}
 use Rattle.sg_gateway.specs.World.{Call, World, empty}
 use Rattle.sg_outcome.specs.declared.outcomes.Outcome.{Outcome}
-use Rattle.sg_outcome.specs.declared.outcomes.Outcome.TheVariants.{Made, Live, Sdp, Ended, Out, Dropped}
-use Rattle.sg_session.proofs.Lists.{any_cases, any_here, any_none, any_weaker}
+use Rattle.sg_outcome.specs.declared.outcomes.Outcome.TheVariants.{Out, Dropped}
+use Rattle.sg_session.proofs.Lists.{any_cases, any_none, any_weaker, each_at}
 use Rattle.sg_session.specs.declared.names.Direction.TheVariants.{Sealing}
 use Rattle.sg_bridge.proofs.BothWays.{all_among_mates, both_ways}
-use Rattle.sg_bridge.proofs.Cases.{OpensOn, PutsOut, each_case, each_line}
-use Rattle.sg_bridge.proofs.Joined.{in_pair_goes_on, joined_goes_on}
+use Rattle.sg_bridge.proofs.Cases.{OpensOn, PutsOut, each_case, each_line, followed_holds}
+use Rattle.sg_bridge.proofs.Joined.{in_pair_goes_on, joined_goes_on, not_onward, plain_onward}
+use Rattle.sg_bridge.proofs.Mates.{AreMates}
 use Rattle.sg_bridge.proofs.PutAt.{FromPlain, PutBy, from_plain, from_secure}
-use Rattle.sg_bridge.specs.Bridged.{Bridging, Crosses, Following, GoesBothWays, IsCrossing, IsSealOf, LeavesAt, Said, StaysInside, TellsOut, behind, bridging, bridgings_from, told_and_parted, happened, happens, inner, joining, nothing_happens, parting}
+use Rattle.sg_bridge.specs.Bridged.{Bridging, Crosses, GoesBothWays, IsCrossing, IsSealOf, LeavesAt, Said, StaysInside, TellsOut, bridging, bridgings_from, told_and_parted, happened, happens, inner, joining, nothing_happens, parting}
 use Rattle.sg_bridge.specs.Joined.{port_of_leg}
-use Rattle.sg_bridge.specs.Onward.{is_plain_port, medium_by_port, onward, onward_in, port_like, slot_by_port}
-use Rattle.sg_bridge.specs.Pairs.{Members, after_outcome, joined_pair, member_at, no_members, other_slot, pair, paired, parted, tells_parted, vacated}
-use Rattle.sg_bridge.specs.declared.members.Member.{Member}
-use Rattle.sg_bridge.specs.declared.members.Pair.{Pair}
+use Rattle.sg_bridge.specs.Onward.{onward}
+use Rattle.sg_bridge.specs.Pairs.{Members, no_members, pair, paired, parted}
 use Rattle.sg_bridge.specs.declared.outcomes.BridgeOutcome.{BridgeOutcome}
 use Rattle.sg_bridge.specs.declared.outcomes.BridgeOutcome.TheVariants as tells
 
--- ---- ports
-
-is_plain : (p : ℕ) → is_plain_port p ≡ true → 2 ≤ (p - 20000) % 4
-is_plain p is = leb-true 2 ((p - 20000) % 4) (and_parts (leb 20000 p && ltb p 24096) (leb 2 ((p - 20000) % 4)) is).1
-
-abbrev IsHighAt : Option ℕ → Type 0
-IsHighAt None = Unit {0}
-IsHighAt (Some n) = 2 ≤ (n - 20000) % 4
-
-plain_onward : (calls : Members) (p q : ℕ) → onward calls p ≡ Some q → (2 ≤ (p - 20000) % 4) × (2 ≤ (q - 20000) % 4)
-plain_onward calls p q is = go (is_plain_port p) refl is
-  where
-    like : (slot : ℕ) → 2 ≤ (p - 20000) % 4 → 2 ≤ (port_like p slot - 20000) % 4
-    like slot h = omega (arith, h)
-
-    of_pair : 2 ≤ (p - 20000) % 4 → (o : Option Pair) → option_map (λ (x : Pair). port_like p (other_slot x (slot_by_port p))) o ≡ Some q → 2 ≤ (q - 20000) % 4
-    of_pair h None e = absurd cc
-    of_pair h (Some x) e = subst IsHighAt e (like (other_slot x (slot_by_port p)) h)
-
-    of_member : 2 ≤ (p - 20000) % 4 → (o : Option Member) → onward_in p o ≡ Some q → 2 ≤ (q - 20000) % 4
-    of_member h None e = absurd cc
-    of_member h (Some m) e = by (ltb (medium_by_port p) m.media) e
-      where
-        by : (b : Bool) → cond b (option_map (λ (x : Pair). port_like p (other_slot x (slot_by_port p))) m.pair) None ≡ Some q → 2 ≤ (q - 20000) % 4
-        by true e = of_pair h m.pair e
-        by false e = absurd cc
-
-    go : (b : Bool) → is_plain_port p ≡ b → cond b (onward_in p (member_at calls (slot_by_port p))) None ≡ Some q → (2 ≤ (p - 20000) % 4) × (2 ≤ (q - 20000) % 4)
-    go true plain e = (is_plain p plain, of_member (is_plain p plain) (member_at calls (slot_by_port p)) e)
-    go false plain e = absurd cc
-
-not_onward : (calls : Members) (p : ℕ) → (p - 20000) % 4 < 2 → onward calls p ≡ None
-not_onward calls p secure = go (is_plain_port p) refl
-  where
-    go : (b : Bool) → is_plain_port p ≡ b → cond b (onward_in p (member_at calls (slot_by_port p))) None ≡ None
-    go true plain = absurd (let h = is_plain p plain in omega (arith, h, secure))
-    go false plain = refl
-
 -- ---- what is told of a signal
 
-abbrev outs : BridgeOutcome → Type 0
-outs (tells.Table o) = IsOut o
-outs other = Unit {0}
+abbrev IsOutTold : BridgeOutcome → Type 0
+IsOutTold (tells.Table o) = IsOut o
+IsOutTold other = ⊥
 
 module _ (port : ℕ) (to : Address) (octets : List ℕ) where
   abbrev Is : BridgeOutcome → Type 0
@@ -89,31 +48,11 @@ module _ (port : ℕ) (to : Address) (octets : List ℕ) where
   one : (o : BridgeOutcome) → (Is o → ⊥) → NoOut (o ∷ [])
   one o not a = elim (any_cases Is o [] a) [ inl is ↦ not is | inr rest ↦ any_none Is rest ]
 
-  parted_not : (calls : Members) (o : Outcome) → NoOut (option_to_list (after_outcome calls o).parted)
-  parted_not calls (Made id slot media) a = any_none Is a
-  parted_not calls (Live id) a = any_none Is a
-  parted_not calls (Ended id slot media why) a = go (joined_pair (member_at calls slot)) a
-    where
-      go : (p : Option Pair) → NoOut (option_to_list (vacated slot calls p).parted)
-      go None a = any_none Is a
-      go (Some p) a = one (tells_parted p) (λ is. absurd cc) a
-  parted_not calls (Sdp id side text) a = any_none Is a
-  parted_not calls other a = any_none Is a
-
-  behind_not : (o : Outcome) → ¬ IsOut o → (parted : Option BridgeOutcome) → NoOut (option_to_list parted) → (f : Following) → NoOut f.told → NoOut (behind o parted f).told
-  behind_not o not None none f rest a = elim (any_cases Is (tells.Table o) f.told a) [ inl is ↦ not (subst outs (sym is) tt) | inr r ↦ rest r ]
-  behind_not o not (Some p) none f rest a = elim (any_cases Is (tells.Table o) (p ∷ f.told) a) [
-    | inl is ↦ not (subst outs (sym is) tt)
-    | inr r ↦ elim (any_cases Is p f.told r) [ inl is ↦ none (any_one is) | inr s ↦ rest s ]
-  ]
-    where
-      any_one : Is p → Any Is (p ∷ [])
-      any_one is = any_here Is p [] is
-
-  followed_not : (calls : Members) (os : List Outcome) → AllByRecursion (λ o. ¬ IsOut o) os → NoOut (told_and_parted calls os).told
-  followed_not calls [] none a = any_none Is a
-  followed_not calls (o ∷ os) none a =
-      behind_not o none.0 (after_outcome calls o).parted (parted_not calls o) (told_and_parted (after_outcome calls o).calls os) (followed_not (after_outcome calls o).calls os none.1) a
+  signal_not : (w : World) (calls : Members) (s : Signal) → NoOut (told_and_parted calls (step w (Signalled s)).outcomes).told
+  signal_not w calls s a =
+      let told = followed_holds (λ b. ¬ IsOutTold b) (λ p no. no) calls (step w (Signalled s)).outcomes (signal_quiet w s) in
+      let at = each_at (λ b. ¬ IsOutTold b) Is (told_and_parted calls (step w (Signalled s)).outcomes).told told a in
+      at.1 (subst IsOutTold (sym at.2) tt)
 
 -- ---- a datagram
 
@@ -168,7 +107,7 @@ none_both b none = ((λ port to octets a. absurd (none port to octets a)), (λ p
 quiet_both : (b : Bridging) (o : BridgeOutcome) → b.told ≡ o ∷ [] → ((port : ℕ) (to : Address) (octets : List ℕ) → Is port to octets o → ⊥) → Both b
 quiet_both b o is not = none_both b (λ port to octets a. one port to octets o (not port to octets) (subst (λ told. Any (Is port to octets) told) is a))
 
-module _ (w : World) (calls : Members) (port : ℕ) (from : Address) (d : Octets) where
+module _ (w : World) (calls : Members) (mates : AreMates calls) (port : ℕ) (from : Address) (d : Octets) where
   abbrev e : Event
   e = Datagram port from d
 
@@ -180,7 +119,7 @@ module _ (w : World) (calls : Members) (port : ℕ) (from : Address) (d : Octets
       → (step after (inner q a x)).outcomes ≡ Out o.port o.to o.octets ∷ [] → (step after (inner q a x)).entries ≡ o.entry ∷ []
       → Both (happens w calls (e ∷ inner q a x ∷ []) (tells.Table (Out o.port o.to o.octets) ∷ []) (step after (inner q a x)).world)
   sealed_both p q to x opens a c o by is es = (
-    (λ port' to' octets' t. subst (λ n. onward calls n ≡ None) (ap out_port (only_out o.port o.to o.octets port' to' octets' t)) (not_onward calls o.port plain.low)),
+    (λ port' to' octets' t. subst (λ n. onward calls n ≡ None) (ap out_port (only_out o.port o.to o.octets port' to' octets' t)) (not_onward calls mates o.port plain.low)),
     (λ port' q' to' octets' t low on'.
         let told = only_out o.port o.to o.octets port' to' octets' t in
         let same : o.port ≡ port' = ap out_port told in
@@ -202,7 +141,7 @@ module _ (w : World) (calls : Members) (port : ℕ) (from : Address) (d : Octets
   )
     where
       plain : FromPlain q o
-      plain = from_plain q c o by (plain_onward calls p q opens.on).1
+      plain = from_plain q c o by (plain_onward calls mates p q opens.on).1
 
       leaves : LeavesSealed (turn_of after (inner q a x)) o.entry
       leaves = (subst (λ (es : List _). AllByRecursion (LeavesSealed (turn_of after (inner q a x))) es) es (seals_leave_at after (inner q a x))).0
@@ -246,10 +185,10 @@ module _ (w : World) (calls : Members) (port : ℕ) (from : Address) (d : Octets
 
 -- ---- a line
 
-said_both : (w : World) (calls : Members) (s : Said) → Both (bridging w calls s)
-said_both w calls s = each_line w calls (λ s b. Both b) (record {
-  signal = λ s. none_both (happened w calls (Signalled s)) (λ port to octets. followed_not port to octets calls (step w (Signalled s)).outcomes (signal_quiet w s));
-  datagram = datagram_both w calls;
+said_both : (w : World) (calls : Members) (s : Said) → AreMates calls → Both (bridging w calls s)
+said_both w calls s mates = each_line w calls (λ s b. Both b) (record {
+  signal = λ s. none_both (happened w calls (Signalled s)) (λ port to octets. signal_not port to octets w calls s);
+  datagram = datagram_both w calls mates;
   joins = λ first second a b can. quiet_both (joining w calls first second (Ok (paired (pair a b) calls))) (tells.Joined first second) refl (λ port to octets is. absurd cc);
   unjoined = λ first second call cause. quiet_both (nothing_happens w calls (tells.Unjoined call cause)) (tells.Unjoined call cause) refl (λ port to octets is. absurd cc);
   parts = λ id f x can. quiet_both (parting w calls id (Ok (record { calls = parted x calls; pair = x }))) (tells.Parted x.first.id x.second.id) refl (λ port to octets is. absurd cc);
@@ -271,7 +210,7 @@ crosses b ways comes slot other medium leg to octets joined low tells =
     subst (λ n. IsCrossing b n (port_of_leg slot medium leg) to octets) (let is : over.from ≡ port_of_leg other medium (leg + 2) = cc in is) over.crossing
 
 pub all_inside : (said : List Said) → All StaysInside (bridgings_from empty no_members said)
-all_inside = all_among_mates StaysInside (λ w calls s mates. stays_inside (bridging w calls s) (said_both w calls s).0)
+all_inside = all_among_mates StaysInside (λ w calls s mates. stays_inside (bridging w calls s) (said_both w calls s mates).0)
 
 pub all_cross : (said : List Said) → All Crosses (bridgings_from empty no_members said)
-all_cross = all_among_mates Crosses (λ w calls s mates. crosses (bridging w calls s) (both_ways w calls s mates) (said_both w calls s).1)
+all_cross = all_among_mates Crosses (λ w calls s mates. crosses (bridging w calls s) (both_ways w calls s mates) (said_both w calls s mates).1)

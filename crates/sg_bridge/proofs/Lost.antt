@@ -1,6 +1,5 @@
 -- A packet that a joined call opens is sealed in the other or lost, and nothing else is lost.
-use Rattle.std.proofs.Common.{◌≡◌, inl, inr, ℕ, List, [], ◌∷◌, Option, Some, None, Ok, refl, sym, ap, ◌∙◌, subst}
-use Rattle.std.specs.Prelude.{option_to_list}
+use Rattle.std.proofs.Common.{◌≡◌, inl, inr, ℕ, List, [], ◌∷◌, Some, Ok, refl, sym, ap, ◌∙◌, subst}
 use Rattle.std.specs.List.{All, AllByRecursion, Any}
 use Rattle.sg_base.proofs.Cases.{none_some}
 use Rattle.sg_base.specs.declared.addresses.Address.{Address}
@@ -15,18 +14,17 @@ use Rattle.sg_gateway.specs.Signals.{Signal}
 use Rattle.sg_gateway.specs.Step.{Event, Signalled, Datagram, step}
 use Rattle.sg_gateway.specs.World.{World, empty}
 use Rattle.sg_outcome.specs.declared.outcomes.Outcome.{Outcome}
-use Rattle.sg_outcome.specs.declared.outcomes.Outcome.TheVariants.{Made, Live, Sdp, Ended, Out, Dropped}
-use Rattle.sg_session.proofs.Lists.{any_cases, any_none, each_append, each_at}
+use Rattle.sg_outcome.specs.declared.outcomes.Outcome.TheVariants.{Out, Dropped}
+use Rattle.sg_session.proofs.Lists.{any_cases, any_none, each_at, each_of}
 use Rattle.sg_bridge.proofs.BothWays.{all_among_mates, said_begins}
-use Rattle.sg_bridge.proofs.Cases.{OpensOn, PutsOut, each_case, each_line}
+use Rattle.sg_bridge.proofs.Cases.{OpensOn, PutsOut, each_case, each_line, followed_holds}
 use Rattle.sg_bridge.proofs.Joined.{goes_on_joined, joined_goes_on}
 use Rattle.sg_bridge.proofs.Mates.{AreMates}
 use Rattle.sg_bridge.specs.Bridged.{Bridging, Said, bridging, bridgings_from, happened, happens, inner, joining, nothing_happens, parting, told_and_parted}
 use Rattle.sg_bridge.specs.Joined.{port_of_leg}
 use Rattle.sg_bridge.specs.Lost.{IsLost, IsSettled, LosesOnlySo, Opens, SettlesWhatOpens, opened_world}
 use Rattle.sg_bridge.specs.Onward.{onward}
-use Rattle.sg_bridge.specs.Pairs.{Members, after_outcome, joined_pair, member_at, no_members, pair, paired, parted, vacated}
-use Rattle.sg_bridge.specs.declared.members.Pair.{Pair}
+use Rattle.sg_bridge.specs.Pairs.{Members, no_members, pair, paired, parted}
 use Rattle.sg_bridge.specs.declared.outcomes.BridgeOutcome.{BridgeOutcome}
 use Rattle.sg_bridge.specs.declared.outcomes.BridgeOutcome.TheVariants as tells
 
@@ -39,21 +37,8 @@ Loses other = ⊥
 abbrev NoLoss : List BridgeOutcome → Type 0
 NoLoss told = AllByRecursion (λ o. Loses o → ⊥) told
 
-parted_no_loss : (calls : Members) (o : Outcome) → NoLoss (option_to_list (after_outcome calls o).parted)
-parted_no_loss calls (Made id slot media) = tt
-parted_no_loss calls (Live id) = tt
-parted_no_loss calls (Ended id slot media why) = go (joined_pair (member_at calls slot))
-  where
-    go : (p : Option Pair) → NoLoss (option_to_list (vacated slot calls p).parted)
-    go None = tt
-    go (Some p) = ((λ no. no), tt)
-parted_no_loss calls (Sdp id side text) = tt
-parted_no_loss calls other = tt
-
 followed_no_loss : (calls : Members) (os : List Outcome) → NoLoss (told_and_parted calls os).told
-followed_no_loss calls [] = tt
-followed_no_loss calls (o ∷ os) =
-    ((λ no. no), each_append (λ o. Loses o → ⊥) (option_to_list (after_outcome calls o).parted) (told_and_parted (after_outcome calls o).calls os).told (parted_no_loss calls o) (followed_no_loss (after_outcome calls o).calls os))
+followed_no_loss calls os = followed_holds (λ o. Loses o → ⊥) (λ p no. no) calls os (each_of (λ o. Loses (tells.Table o) → ⊥) (λ o no. no) os)
 
 not_lost : (told : List BridgeOutcome) (q : ℕ) (cause : DropCause) → NoLoss told → Any (λ o. o ≡ tells.Lost q cause) told → ⊥
 not_lost told q cause none a = let at = each_at (λ o. Loses o → ⊥) (λ o. o ≡ tells.Lost q cause) told none a in at.1 (subst Loses (sym at.2) tt)

@@ -1,14 +1,13 @@
 -- Each pair stands at both its slots, so that a port goes on and comes back.
-use Rattle.std.proofs.Common.{◌≡◌, ◌⊎◌, inl, inr, ℕ, ◌-◌, ◌%◌, ◌<◌, ◌≤◌, Bool, true, false, cond, length, map, Option, Some, None, refl, sym, ap, ◌∙◌, subst, arith, eqb, leb, ltb}
-use Rattle.std.proofs.lemmas.Bool.{and_parts, cases_eq, cases_lt, cond-true, eq-eqb, le-leb, leb-true, lt-ltb, ne_eqb}
+use Rattle.std.proofs.Common.{◌≡◌, ◌⊎◌, inl, inr, ℕ, ◌<◌, Bool, true, false, cond, length, map, Option, Some, None, refl, sym, ap, ◌∙◌, subst, arith}
+use Rattle.std.proofs.lemmas.Bool.{cases_eq, cases_lt}
 use Rattle.std.proofs.lemmas.List.{get_or-replicate, get_or-set_other, get_or-set_same, get_or_past, length-map, length-replicate, length-set}
 use Rattle.std.proofs.Math.ListN.{get_or-map}
-use Rattle.std.specs.Prelude.{option_map, set, ◌&&◌}
+use Rattle.std.specs.Prelude.{option_map, set}
 use Rattle.sg_base.proofs.Cases.{none_some}
 use Rattle.sg_base.specs.declared.addresses.CallId.{CallId}
-use Rattle.sg_bridge.proofs.Found.{CanJoin, CanPart, first_in, in_range, others_in, second_in}
-use Rattle.sg_bridge.specs.Onward.{is_plain_port, medium_by_port, onward, onward_in, port_like, slot_by_port}
-use Rattle.sg_bridge.specs.Pairs.{Members, emptied, vacated, new_member, member_at, no_members, after_outcome, now_live, other_slot, pair, joined_pair, paired, parted, in_pair, in_pair_at}
+use Rattle.sg_bridge.proofs.Found.{CanJoin, CanPart, first_in, others_in, second_in}
+use Rattle.sg_bridge.specs.Pairs.{Members, emptied, vacated, new_member, member_at, no_members, after_outcome, now_live, pair, joined_pair, paired, parted, in_pair, in_pair_at}
 use Rattle.sg_bridge.specs.declared.members.Found.{Found}
 use Rattle.sg_bridge.specs.declared.members.Member.{Member}
 use Rattle.sg_bridge.specs.declared.members.Pair.{Pair}
@@ -54,7 +53,7 @@ same_pair m n x y is =
     let looks : joined_look m x ≡ joined_look n y = cc in
     let pairs : Some x ≡ Some y = ap (λ (l : Look). l.pair) looks in cc
 
-same_media : (m n : ℕ) (x y : Pair) → joined_in m x ≡ joined_in n y → m ≡ n
+pub same_media : (m n : ℕ) (x y : Pair) → joined_in m x ≡ joined_in n y → m ≡ n
 same_media m n x y is =
     let looks : joined_look m x ≡ joined_look n y = cc in ap (λ (l : Look). l.media) looks
 
@@ -126,7 +125,7 @@ module _ (calls : Members) (x : Pair) where
     | inr other ↦ free_set calls x.first.slot _ (unpaired (member_at calls x.first.slot)) media y (sym (look_set_other (in_pair_at None x.first.slot calls) x.second.slot x.first.slot _ other) ∙ is)
   ]
 
-  either_of : (s : ℕ) → IsOf s x ⊎ (IsOf s x → ⊥)
+  pub either_of : (s : ℕ) → IsOf s x ⊎ (IsOf s x → ⊥)
   either_of s = elim (cases_eq s x.first.slot) [
     | inl is ↦ inl (inl is)
     | inr not_first ↦ elim (cases_eq s x.second.slot) [
@@ -278,93 +277,10 @@ no_members_mates = record {
       | inr le ↦ none_some _ (ap (option_map look_of) (sym (get_or_past no_members s None (omega (arith, le, length-replicate 256 (let n : Option Member = None in n))))) ∙ is)
     ]
 
--- ---- a port goes on and comes back
-
-member_of : (calls : Members) (s media : ℕ) (x : Pair) → look calls s ≡ joined_in media x → (m : Member) × (member_at calls s ≡ Some m) × (m.media ≡ media) × (m.pair ≡ Some x)
+-- the call of a slot, by its look
+pub member_of : (calls : Members) (s media : ℕ) (x : Pair) → look calls s ≡ joined_in media x → (m : Member) × (member_at calls s ≡ Some m) × (m.media ≡ media) × (m.pair ≡ Some x)
 member_of calls s media x is = go (member_at calls s) refl is
   where
     go : (o : Option Member) → member_at calls s ≡ o → option_map look_of o ≡ joined_in media x → (m : Member) × (member_at calls s ≡ Some m) × (m.media ≡ media) × (m.pair ≡ Some x)
     go None at is = absurd (none_some _ is)
     go (Some m) at is = (let same : look_of m ≡ record { media = media; pair = Some x } = cc in (m, at, ap (λ (l : Look). l.media) same, ap (λ (l : Look). l.pair) same))
-
-plain_at_port : (q : ℕ) → 20000 ≤ q → q < 24096 → 2 ≤ (q - 20000) % 4 → is_plain_port q ≡ true
-plain_at_port q first last high = (λ i. le-leb 20000 q first i && lt-ltb q 24096 last i && le-leb 2 ((q - 20000) % 4) high i)
-
--- the port onward of one whose call is there and joined
-onward_is : (calls : Members) (q : ℕ) (m : Member) (x : Pair) → is_plain_port q ≡ true → member_at calls (slot_by_port q) ≡ Some m → ltb (medium_by_port q) m.media ≡ true → m.pair ≡ Some x
-    → onward calls q ≡ Some (port_like q (other_slot x (slot_by_port q)))
-onward_is calls q m x plain at within is =
-    cond-true (is_plain_port q) _ _ plain ∙ ap (onward_in q) at ∙ cond-true (ltb (medium_by_port q) m.media) _ _ within
-    ∙ ap (option_map (λ (p : Pair). port_like q (other_slot p (slot_by_port q)))) is
-
-module _ (calls : Members) (p : ℕ) (m : Member) (x : Pair) (mates : AreMates calls) (plain : is_plain_port p ≡ true) (at : member_at calls (slot_by_port p) ≡ Some m) (within : ltb (medium_by_port p) m.media ≡ true)
-    (is : m.pair ≡ Some x) where
-  abbrev slot : ℕ
-  slot = slot_by_port p
-
-  least : 20000 ≤ p
-  least = leb-true 20000 p (and_parts (leb 20000 p) (ltb p 24096) (and_parts (leb 20000 p && ltb p 24096) (leb 2 ((p - 20000) % 4)) plain).0).0
-
-  high : 2 ≤ (p - 20000) % 4
-  high = leb-true 2 ((p - 20000) % 4) (and_parts (leb 20000 p && ltb p 24096) (leb 2 ((p - 20000) % 4)) plain).1
-
-  here : look calls slot ≡ joined_in m.media x
-  here = ap (option_map look_of) at ∙ ap (λ (q : Option Pair). Some (let l : Look = record { media = m.media; pair = q } in l)) is
-
-  -- where the call in this slot is the other one
-  back_to : (o media : ℕ) → other_slot x slot ≡ o → other_slot x o ≡ slot → look calls o ≡ joined_in media x → m.media ≡ media → onward calls (port_like p (other_slot x slot)) ≡ Some p
-  back_to o media to from there same =
-      let other = member_of calls o media x there in
-      let range : o < 256 = (let r = in_range calls o other.0 other.1 in omega (arith, r, mates.size)) in
-      let q : ℕ = port_like p o in
-      let at_slot : slot_by_port q ≡ o = omega arith in
-      let at_medium : medium_by_port q ≡ medium_by_port p = omega arith in
-      let plain_q : is_plain_port q ≡ true = plain_at_port q (omega arith) (omega (arith, range)) (omega (arith, high)) in
-      let within_q : ltb (medium_by_port q) other.0.media ≡ true = (λ i. ltb (at_medium i) ((other.2 ∙ sym same) i)) ∙ within in
-      let comes : port_like q slot ≡ p = omega (arith, least) in
-      ap (λ n. onward calls (port_like p n)) to
-      ∙ onward_is calls q other.0 x plain_q (ap (member_at calls) at_slot ∙ other.1) within_q other.3
-      ∙ ap (λ n. Some (port_like q n)) (ap (other_slot x) at_slot ∙ from) ∙ ap (λ n. Some n) comes
-
-  stands : IsOf slot x × Stands calls x
-  stands = mates.mates slot m.media x here
-
-  as_media : (s : ℕ) → slot ≡ s → look calls s ≡ joined_in stands.1.media x → m.media ≡ stands.1.media
-  as_media s same there = same_media _ _ x x (sym here ∙ ap (look calls) same ∙ there)
-
-  apart : eqb x.first.slot x.second.slot ≡ false
-  apart = ne_eqb x.first.slot x.second.slot stands.1.apart
-
-  from_first : x.first.slot ≡ slot → other_slot x slot ≡ x.second.slot
-  from_first same = ap (λ b. cond b x.second.slot x.first.slot) (eq-eqb x.first.slot slot same)
-
-  from_second : other_slot x x.second.slot ≡ x.first.slot
-  from_second = ap (λ b. cond b x.second.slot x.first.slot) apart
-
-  pub back : onward calls (port_like p (other_slot x slot)) ≡ Some p
-  back = elim stands.0 [
-    | inl first ↦ back_to x.second.slot stands.1.media (from_first (sym first)) (from_second ∙ sym first) stands.1.at_second (as_media x.first.slot first stands.1.at_first)
-    | inr second ↦ back_to x.first.slot stands.1.media (ap (other_slot x) second ∙ from_second) (ap (λ b. cond b x.second.slot x.first.slot) (eq-eqb x.first.slot x.first.slot refl) ∙ sym second) stands.1.at_first
-        (as_media x.second.slot second stands.1.at_second)
-  ]
-
-pub comes_back : (calls : Members) → AreMates calls → (p q : ℕ) → onward calls p ≡ Some q → onward calls q ≡ Some p
-comes_back calls mates p q is = by_plain (is_plain_port p) refl is
-  where
-    by_pair : (m : Member) → is_plain_port p ≡ true → member_at calls (slot_by_port p) ≡ Some m → ltb (medium_by_port p) m.media ≡ true → (o : Option Pair) → m.pair ≡ o
-        → option_map (λ (x : Pair). port_like p (other_slot x (slot_by_port p))) o ≡ Some q → onward calls q ≡ Some p
-    by_pair m plain at within None none e = absurd (none_some q e)
-    by_pair m plain at within (Some x) some e = (let same : port_like p (other_slot x (slot_by_port p)) ≡ q = cc in subst (λ n. onward calls n ≡ Some p) same (back calls p m x mates plain at within some))
-
-    by_media : (m : Member) → is_plain_port p ≡ true → member_at calls (slot_by_port p) ≡ Some m → (b : Bool) → ltb (medium_by_port p) m.media ≡ b
-        → cond b (option_map (λ (x : Pair). port_like p (other_slot x (slot_by_port p))) m.pair) None ≡ Some q → onward calls q ≡ Some p
-    by_media m plain at true within e = by_pair m plain at within m.pair refl e
-    by_media m plain at false within e = absurd (none_some q e)
-
-    by_member : is_plain_port p ≡ true → (o : Option Member) → member_at calls (slot_by_port p) ≡ o → onward_in p o ≡ Some q → onward calls q ≡ Some p
-    by_member plain None at e = absurd (none_some q e)
-    by_member plain (Some m) at e = by_media m plain at (ltb (medium_by_port p) m.media) refl e
-
-    by_plain : (b : Bool) → is_plain_port p ≡ b → cond b (onward_in p (member_at calls (slot_by_port p))) None ≡ Some q → onward calls q ≡ Some p
-    by_plain true plain e = by_member plain (member_at calls (slot_by_port p)) refl e
-    by_plain false plain e = absurd (none_some q e)

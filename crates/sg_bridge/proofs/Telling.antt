@@ -9,7 +9,7 @@ use Rattle.sg_gateway.specs.Runs.{world_after}
 use Rattle.sg_gateway.specs.Step.{Event, Signalled, Datagram, step}
 use Rattle.sg_gateway.specs.World.{World, empty}
 use Rattle.sg_outcome.specs.declared.outcomes.Outcome.{Outcome}
-use Rattle.sg_outcome.specs.declared.outcomes.Outcome.TheVariants.{Made, Live, Sdp, Refused, Ended, Out, Dropped, Unsent}
+use Rattle.sg_outcome.specs.declared.outcomes.Outcome.TheVariants.{Made, Live, Ended}
 use Rattle.sg_outcome.specs.declared.outcomes.Why.{Why}
 use Rattle.sg_session.proofs.Lists.{any_cases, any_here, any_none, any_there}
 use Rattle.sg_bridge.proofs.Fits.{Fits, FitsOne, IsOfId}
@@ -96,11 +96,7 @@ module _ (calls : Members) where
     one_told (Ended id slot media why) mates named fits does later = by_pair id slot media why mates named fits (joined_pair (member_at now slot)) refl does later
     one_told (Made id slot media) mates named fits does later = passes (Made id slot media) (after_outcome now (Made id slot media)).calls does (λ p on end. end) later
     one_told (Live id) mates named fits does later = passes (Live id) (after_outcome now (Live id)).calls does (λ p on end. end) later
-    one_told (Sdp id side text) mates named fits does later = passes (Sdp id side text) now does (λ p on end. end) later
-    one_told (Refused id cause) mates named fits does later = passes (Refused id cause) now does (λ p on end. end) later
-    one_told (Out port to octets) mates named fits does later = passes (Out port to octets) now does (λ p on end. end) later
-    one_told (Dropped port cause) mates named fits does later = passes (Dropped port cause) now does (λ p on end. end) later
-    one_told (Unsent port to) mates named fits does later = passes (Unsent port to) now does (λ p on end. end) later
+    one_told other mates named fits does later = passes other now does (λ p on end. end) later
 
   all_told : (now : Members) (gone : List Pair) (os : List Outcome) → AreMates now → AreNamed now → Fits now os → Holds now gone → AreTold calls gone os (told_and_parted now os).told
   all_told now gone [] mates named fits holds = refl
