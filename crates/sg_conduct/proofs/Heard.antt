@@ -17,7 +17,7 @@ use Rattle.sg_gateway.proofs.Datagrams.{Apart, at_event, empty_kept}
 use Rattle.sg_gateway.proofs.Kept.{CallKept, IsKept, SessionKept}
 use Rattle.sg_gateway.proofs.Reached.{Anything, anything_had, anything_on}
 use Rattle.sg_gateway.proofs.Signals.{each_and_call, each_with_call, found, is_found}
-use Rattle.sg_gateway.proofs.StepCases.{each_datagram, each_signal, offered_by, manual_call, renewed_by}
+use Rattle.sg_gateway.proofs.StepCases.{each_datagram, each_signal, settled_offer, manual_call, renewed_by}
 use Rattle.sg_gateway.specs.CallSignals.{call_at_tick, drops_earlier, is_idle, without_earlier}
 use Rattle.sg_gateway.specs.Datagrams.{Entry, call_after, given_to, put}
 use Rattle.sg_gateway.specs.Early.{named}
@@ -151,11 +151,11 @@ module _ (ts : List Turn) (w : World) (heard : AllHeard ts w) (signal : Signal) 
           inr (renewed_now _ same d refl (any_new _ d w.calls (refl, refl)) (inr (h, refl, ap (λ s. Signalled s) (sym this), none))),
         ) still;
     begins = λ id way noise text none room a agreed this same.
-        let d : Call = (offered_by w.moment w.books (new_call w id) a).call in
+        let d : Call = (settled_offer w.moment w.books (new_call w id) a).call in
         each_and_call (WasHeard Now) d w.calls
         (goes_on _ same (new_call w id) d (goes w.moment (new_call w id) a.media (Some a.offer)) (inl refl) (ap named (sym this)) (no_refusals _ _ (λ no. no) (λ no. no)) (any_new _ d w.calls refl)) still;
     offers = λ id way noise text c at a agreed this same.
-        let d : Call = (offered_by w.moment w.books c a).call in
+        let d : Call = (settled_offer w.moment w.books c a).call in
         each_with_call (WasHeard Now) d w.calls
         (goes_on _ same c d (goes w.moment c a.media (Some a.offer)) (of_found id c at).1 (names _ this id c refl at) (no_refusal _ (λ no. no)) (any_put _ c d w.calls refl refl (is_found _ w.calls c at))) still;
     answers = λ id noise text c at o is_open g agreed ring is this same.

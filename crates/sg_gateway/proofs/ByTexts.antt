@@ -34,7 +34,7 @@ use Rattle.sg_gateway.proofs.MessageSessions.{by_message, by_own, by_part}
 use Rattle.sg_gateway.proofs.OwnMessages.{by_own_message}
 use Rattle.sg_gateway.proofs.PeersMessages.{by_peers_message}
 use Rattle.sg_gateway.proofs.Signals.{each_and_call, each_with_call, found}
-use Rattle.sg_gateway.proofs.StepCases.{each_signal, renewed_by, answer_of, offered_by, each_datagram}
+use Rattle.sg_gateway.proofs.StepCases.{each_signal, renewed_by, answer_of, settled_offer, each_datagram}
 use Rattle.sg_gateway.proofs.TurnByTurn.{kept_before}
 use Rattle.sg_gateway.specs.ByTexts.{AnswerIsByTexts, AnswersAreByTexts, AreByOwnMessage, AreByTexts, Exchange, HasItsLines, HaveLines}
 use Rattle.sg_gateway.specs.CallSignals.{at_hand, call_at_tick, drops_earlier, is_idle, without_earlier}
@@ -85,7 +85,7 @@ module _ (ts : List Turn) (w : World) (made : WereMade ts w) (e : Event) where
   -- an offer that is taken is made in this turn
   offer_made : (id : CallId) (c : Call) (way : Way) (noise text : List ℕ) → e ≡ Signalled (Offered id way noise text) → c.id ≡ id
       → (a : AgreedOffer) → agreed_offer (at_hand w.moment w.books c noise) way text ≡ Ok a
-      → Any (λ x. x ≡ Sdp id (other_side (side_of way)) a.text) (step w e).outcomes → WasMade Now (offered_by w.moment w.books c a).call
+      → Any (λ x. x ≡ Sdp id (other_side (side_of way)) a.text) (step w e).outcomes → WasMade Now (settled_offer w.moment w.books c a).call
   offer_made id c way noise text same own a agreed tells o open_one =
       subst (λ i. Any (MadeBy i o) Now) (sym own) (any_last (MadeBy id o) ts (turn_of w e) (record {
         way = way;

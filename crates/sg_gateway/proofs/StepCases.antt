@@ -44,8 +44,8 @@ module _ (now : ℕ) (books : Books) where
   renewed_by c text media ring = by_generation c text (record { sessions = sessions_from c.serial c.generations 0 (length books.ring) media; ring = ring })
 
   -- the call with this open offer
-  abbrev pub offered_by : Call → AgreedOffer → Settled
-  offered_by c a = record {
+  abbrev pub settled_offer : Call → AgreedOffer → Settled
+  settled_offer c a = record {
     text = a.text;
     call = record c { media = a.media; offer = Some a.offer; moment = now };
     books = record books { noted = with_notes books.noted a.noted };
@@ -70,7 +70,7 @@ module _ (now : ℕ) (books : Books) where
       (a.0, a.1, k.0, k.1, k.2)
 
   pub offered_is : (c : Call) (way : Way) (noise text : List ℕ) (r : Settled) → offered_in now books c way noise text ≡ Ok r
-      → (a : AgreedOffer) × (agreed_offer (at_hand now books c noise) way text ≡ Ok a) × (offered_by c a ≡ r)
+      → (a : AgreedOffer) × (agreed_offer (at_hand now books c noise) way text ≡ Ok a) × (settled_offer c a ≡ r)
   offered_is c way noise text r e =
       let a = stop_if_is (not (takes_offer c)) State _ r e in
       let b = after_ok_is (agreed_offer (at_hand now books c noise) way text) _ r a.1 in
@@ -116,9 +116,9 @@ module _ (w : World) where
 
   module _ (id : CallId) (way : Way) (noise text : List ℕ) (P : Answer → Type 0) (refuses : (cause : Refusal) → P (refused w (Some id) cause))
       (begins : call_of w id ≡ None → is_full w ≡ false → (a : AgreedOffer) → agreed_offer (at_hand w.moment w.books (new_call w id) noise) way text ≡ Ok a
-      → P (in_new w id (tells_text id (other_side (side_of way))) (Ok (offered_by w.moment w.books (new_call w id) a))))
+      → P (in_new w id (tells_text id (other_side (side_of way))) (Ok (settled_offer w.moment w.books (new_call w id) a))))
       (offers : (c : Call) → call_of w id ≡ Some c → (a : AgreedOffer) → agreed_offer (at_hand w.moment w.books c noise) way text ≡ Ok a
-      → P (in_old w id (tells_text id (other_side (side_of way))) (Ok (offered_by w.moment w.books c a)))) where
+      → P (in_old w id (tells_text id (other_side (side_of way))) (Ok (settled_offer w.moment w.books c a)))) where
     new_offer : call_of w id ≡ None → is_full w ≡ false → (q : Result Settled Refusal) → offered_in w.moment w.books (new_call w id) way noise text ≡ q
         → P (in_new w id (tells_text id (other_side (side_of way))) q)
     new_offer none room (Err cause) e = refuses cause
@@ -189,10 +189,10 @@ module _ (w : World) where
         → P (Manual h) (in_new w h.id (tells_live h.id) (Ok (renewed_by w.moment w.books (manual_call h) [] (Some (manual_medium h) ∷ []) ring)))
     pub begins : (id : CallId) (way : Way) (noise text : List ℕ) → call_of w id ≡ None → is_full w ≡ false → (a : AgreedOffer)
         → agreed_offer (at_hand w.moment w.books (new_call w id) noise) way text ≡ Ok a
-        → P (Offered id way noise text) (in_new w id (tells_text id (other_side (side_of way))) (Ok (offered_by w.moment w.books (new_call w id) a)))
+        → P (Offered id way noise text) (in_new w id (tells_text id (other_side (side_of way))) (Ok (settled_offer w.moment w.books (new_call w id) a)))
     pub offers : (id : CallId) (way : Way) (noise text : List ℕ) (c : Call) → call_of w id ≡ Some c → (a : AgreedOffer)
         → agreed_offer (at_hand w.moment w.books c noise) way text ≡ Ok a
-        → P (Offered id way noise text) (in_old w id (tells_text id (other_side (side_of way))) (Ok (offered_by w.moment w.books c a)))
+        → P (Offered id way noise text) (in_old w id (tells_text id (other_side (side_of way))) (Ok (settled_offer w.moment w.books c a)))
     pub answers : (id : CallId) (noise text : List ℕ) (c : Call) → call_of w id ≡ Some c → (o : Offer) → c.offer ≡ Some o → (g : AgreedAnswer)
         → agreed_answer c.slot o noise text ≡ Ok g → (ring : List Installed) → Installs w.moment w.books c g.media ring
         → P (Answered id noise text) (in_old w id (tells_answer id o.side) (Ok (renewed_by w.moment w.books c g.text g.media ring)))
