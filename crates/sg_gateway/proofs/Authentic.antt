@@ -2,58 +2,39 @@
 use Rattle.std.proofs.Common.{◌≡◌, inl, inr, ℕ, ◌+◌, Bool, true, false, cond, not, ◌&&◌, ◌||◌, List, [], ◌∷◌, ◌++◌, length, Option, Some, None, Result, Ok, Err, refl, sym, ap, ◌∙◌, subst, append_assoc, append-nil, eqb, eq-eqb, ltb, eqb-true}
 use Rattle.std.proofs.lemmas.Bool.{and_parts, false≢true, ltb-false, not-false, and_from}
 use Rattle.std.specs.List.{AllByRecursion, Any, filter_map, find}
-use Rattle.sg_agreement.specs.Media.{Medium}
-use Rattle.sg_agreement.proofs.AllAgreed.{offer_is}
 use Rattle.sg_agreement.proofs.KeyedSound.{Sometimes}
 use Rattle.sg_agreement.specs.Attributes.{has_message, mikey_octets, mikey_value, ssrcs_of}
 use Rattle.sg_agreement.specs.Described.{described}
-use Rattle.sg_agreement.specs.EachMedium.{each_active, if_active}
 use Rattle.sg_agreement.specs.Keying.{Keying, PeerLines, OwnLines, PeerMessage, PeerMessages, OwnMessage, Offer, note_in, notes_of}
 use Rattle.sg_agreement.specs.Messages.{Bundle, bundle_in, message_in}
 use Rattle.sg_agreement.specs.Offers.{AgreedOffer, agreed_offer, chosen_in, keying_by_messages, keying_of, noise_of}
-use Rattle.sg_agreement.specs.Refusals.{of_cs, of_message, of_psk, or_refusal}
-use Rattle.sg_agreement.specs.Sides.{active_count, is_active, side_of}
-use Rattle.sg_agreement.specs.declared.ways.Way.{Way}
-use Rattle.sg_agreement.specs.declared.ways.Way.TheVariants.{FromSecure, SdesFromPlain, MikeyFromPlain}
-use Rattle.sg_base.proofs.Cases.{some_is}
-use Rattle.sg_base.proofs.SameOctets.{same_octets_is, same_octets_true}
-use Rattle.sg_base.specs.Octets.{same_octets}
-use Rattle.sg_base.specs.declared.addresses.CallId.{CallId}
-use Rattle.sg_base.specs.declared.addresses.Side.TheVariants.{Secure, Plain}
 use Rattle.sg_base.specs.declared.faults.MikeyFault.TheVariants.{DataType}
 use Rattle.sg_base.specs.declared.faults.PskFault.{PskFault}
 use Rattle.sg_base.specs.declared.faults.PskFault.TheVariants.{Algorithm, BadMac, Skew, Repeated, CacheFull}
-use Rattle.sg_base.specs.declared.faults.Refusal.{Refusal}
 use Rattle.sg_base.specs.declared.faults.Refusal.TheVariants.{KeyMgmt, Mikey}
 use Rattle.sg_csmap.specs.CryptoSessions.{streams_of}
 use Rattle.sg_mikey.specs.Reading as messages
-use Rattle.sg_mikey.specs.declared.message.Message.{Message}
-use Rattle.sg_mikey.specs.declared.message.Tgk.{Tgk}
 use Rattle.sg_psk.specs.Accepting.{Accepted, accepted_with, fault_of, initial_fits, initial_of, initial_under, is_served, keys_in, note_of, unless, with_keys}
 use Rattle.sg_psk.specs.Envelope.{mac_of}
 use Rattle.sg_sdes.specs.Answers.{offered_by}
-use Rattle.sg_sdp.specs.Reading.{description_of}
 use Rattle.sg_sdp.specs.declared.medium.Medium as descriptions
 use Rattle.sg_sdp.specs.declared.sdp.Sdp.{Sdp}
 use Rattle.sg_psk.specs.Pairs.{is_noted, is_of, is_same, is_with, note, pair_named, pair_with, with_note}
 use Rattle.sg_psk.specs.Parts.{closing_in, names_in, stamp_in}
 use Rattle.sg_psk.specs.Sending.{sent_under}
 use Rattle.sg_psk.specs.Stamps.{distance, is_skewed, moment_of, since_1900}
-use Rattle.sg_psk.specs.declared.pairs.Pair.{Pair}
 use Rattle.sg_psk.specs.declared.replays.Noted.{Noted}
-use Rattle.sg_session.proofs.Inversions.{after_ok_is, ok_is, stop_if_is}
-use Rattle.sg_session.proofs.Lists.{any_here, any_there, both, each_weaker}
-use Rattle.sg_session.specs.Stages.{after_ok}
+use Rattle.sg_gateway.proofs.Common.{Answer, Books, Call, CallId, Datagram, Event, FromSecure, IsRefusal, Medium, Message, MikeyFromPlain, Offered, Pair}
+use Rattle.sg_gateway.proofs.Common.{Plain, Refusal, SdesFromPlain, Secure, Signalled, Tgk, Way, World, active_count, after_ok, after_ok_is, answer_to}
+use Rattle.sg_gateway.proofs.Common.{any_here, any_there, both, call_of, description_of, each_active, each_weaker, if_active, is_active, new_call, of_cs}
+use Rattle.sg_gateway.proofs.Common.{of_message, of_psk, offer_is, ok_is, or_refusal, same_id, same_octets, same_octets_is, same_octets_true, side_of}
+use Rattle.sg_gateway.proofs.Common.{some_is, step, stop_if_is}
 use Rattle.sg_gateway.specs.Authentic.{AreNamesOf, IsNoteOf, IsAuthentic, IsBundleAcceptedOnce, AreAcceptedOnce}
 use Rattle.sg_gateway.proofs.CarriedOut.{found_with, id_found}
 use Rattle.sg_gateway.proofs.Lists.{any_last, any_first}
 use Rattle.sg_gateway.proofs.StepCases.{each_signal, each_datagram, each_offer, settled_offer}
 use Rattle.sg_gateway.proofs.Taken.{found_new, same_id_itself}
 use Rattle.sg_gateway.specs.CallSignals.{at_hand, media_of, with_notes}
-use Rattle.sg_gateway.specs.Refusing.{IsRefusal}
-use Rattle.sg_gateway.specs.Signals.{Offered, Answer, new_call, answer_to}
-use Rattle.sg_gateway.specs.Step.{Event, Signalled, Datagram, step}
-use Rattle.sg_gateway.specs.World.{Books, Call, World, call_of, same_id}
 
 -- ---- stages
 

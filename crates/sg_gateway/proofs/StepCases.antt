@@ -5,33 +5,20 @@ use Rattle.std.specs.List.{Any, filter}
 use Rattle.std.specs.Option.{is_some}
 use Rattle.sg_agreement.specs.Answers.{AgreedAnswer, agreed_answer}
 use Rattle.sg_agreement.specs.Generations.{Generation, generation_of, keys_from, sessions_from}
-use Rattle.sg_agreement.specs.Keying.{Offer}
-use Rattle.sg_agreement.specs.Manual.{ManualCall, manual_medium}
-use Rattle.sg_agreement.specs.Media.{Medium}
 use Rattle.sg_agreement.specs.Offers.{AgreedOffer, agreed_offer}
-use Rattle.sg_agreement.specs.Sides.{other_side, side_of}
-use Rattle.sg_agreement.specs.declared.ways.Way.{Way}
 use Rattle.sg_base.specs.declared.addresses.Address.{Address}
-use Rattle.sg_base.specs.declared.addresses.CallId.{CallId}
-use Rattle.sg_base.specs.declared.faults.DropCause.{DropCause}
 use Rattle.sg_base.specs.declared.faults.DropCause.TheVariants.{PortUnused}
-use Rattle.sg_base.specs.declared.faults.Refusal.{Refusal}
 use Rattle.sg_base.specs.declared.faults.Refusal.TheVariants.{CallKnown, CallUnknown, PskFull, PskKnown, State, TableFull, TickBack}
 use Rattle.sg_outcome.specs.declared.outcomes.Why.TheVariants as why
 use Rattle.sg_psk.specs.Pairs.{has_pair}
-use Rattle.sg_psk.specs.declared.pairs.Pair.{Pair}
-use Rattle.sg_session.proofs.Inversions.{after_ok_is, ok_is, stop_if_is}
-use Rattle.sg_session.specs.Opening.{Taken}
 use Rattle.sg_session.specs.Ring.{Installed, install}
-use Rattle.sg_session.specs.Sealing.{datagram_of}
-use Rattle.sg_session.specs.Session.{Session}
+use Rattle.sg_gateway.proofs.Common.{Books, Call, CallId, DropCause, ManualCall, Medium, Offer, Pair, Refusal, Session, Taken, Way, World, after_ok_is}
+use Rattle.sg_gateway.proofs.Common.{call_at, call_of, datagram_of, is_full, manual_medium, ok_is, other_side, side_of, stop_if_is, with_call}
 use Rattle.sg_gateway.proofs.Arrivals.{Arrival, Is, IsDrop, IsOpening, IsSeal, arrival}
 use Rattle.sg_gateway.specs.CallSignals.{answered_to, at_hand, call_at_tick, has_begun, is_idle, keyed_manually, offered_in, takes_offer, with_notes}
 use Rattle.sg_gateway.specs.Datagrams.{Given, Happening, arrived_at, arrived_in, dropped, given_to, put}
 use Rattle.sg_gateway.specs.Generations.{Settled, keyed, renewed}
-use Rattle.sg_gateway.specs.Ports.{call_at}
 use Rattle.sg_gateway.specs.Signals.{Signal, Tick, Psk, Manual, Offered, Answered, Reject, Bye, Answer, answer, answer_to, answered, ending, in_new, in_old, left, new_call, offered_to, offering_side, refused, rejected, rejected_to, tells_answer, tells_ended, tells_live, tells_text}
-use Rattle.sg_gateway.specs.World.{Books, Call, World, call_of, is_full, with_call}
 
 -- ---- what a call settles
 

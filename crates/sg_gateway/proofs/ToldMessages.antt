@@ -4,8 +4,6 @@ use Rattle.std.specs.List.{Any}
 use Rattle.sg_csmap.specs.CryptoSessions.{streams_of}
 use Rattle.sg_hmac.specs.Hmac.{hmac_sha1}
 use Rattle.sg_hmac.specs.Labels.{authentication_key}
-use Rattle.sg_mikey.specs.declared.message.Message.{Message}
-use Rattle.sg_mikey.specs.declared.message.Tgk.{Tgk}
 use Rattle.sg_psk.proofs.ExchangeLaws.{initial_before, initial_spelled, response_before, response_spelled}
 use Rattle.sg_psk.specs.Accepting.{Accepted, accepted_with}
 use Rattle.sg_psk.specs.Ends.{initial_sent, response_sent}
@@ -13,7 +11,7 @@ use Rattle.sg_psk.specs.Envelope.{mac_of}
 use Rattle.sg_psk.specs.Parts.{closing_in, names_in, policies_in, random_in, stamp_in}
 use Rattle.sg_psk.specs.Policy.{own_policy}
 use Rattle.sg_psk.specs.Sending.{Sent, answered_map, initial_octets, key_of, response_octets}
-use Rattle.sg_psk.specs.declared.pairs.Pair.{Pair}
+use Rattle.sg_gateway.proofs.Common.{Message, Pair, Tgk}
 use Rattle.sg_gateway.specs.CryptoSessions.{Tells}
 use Rattle.sg_gateway.specs.OwnMessages.{OwnMessage}
 use Rattle.sg_gateway.specs.PeersMessages.{OwnResponse}
