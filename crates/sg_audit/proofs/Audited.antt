@@ -3,34 +3,20 @@ use Rattle.std.proofs.Common.{◌≡◌, ◌⊎◌, inl, inr, ℕ, List, [], ◌
 use Rattle.std.specs.List.{All, AllByRecursion, AllPairs, Any, flat_map}
 use Rattle.std.proofs.lemmas.List.Elements.{All-from_recursion, recursion_from_All}
 use Rattle.sg_base.specs.declared.addresses.Address.{Address}
-use Rattle.sg_base.specs.declared.addresses.Kind.{Kind}
-use Rattle.sg_base.specs.declared.addresses.Kind.TheVariants.{Rtp, Rtcp}
+use Rattle.sg_gateway.proofs.Common.{Call, Datagram, Direction, Entry, Event, IsOutPlain, Kind, Octets, Opening, Out, Outcome, Rtcp, Rtp, Sealing, Session}
+use Rattle.sg_gateway.proofs.Common.{Signal, Signalled, Turn, World, half_of, journal, session_keys, turns}
 use Rattle.sg_gateway.specs.Coming.{IsSealedFrom}
-use Rattle.sg_gateway.specs.Datagrams.{Entry}
-use Rattle.sg_gateway.specs.Octets.{Octets}
 use Rattle.sg_gateway.specs.Order.{DifferInName, IsOrderly}
-use Rattle.sg_gateway.specs.PeersPackets.{IsOutPlain}
-use Rattle.sg_gateway.specs.Runs.{Turn, journal, turns}
 use Rattle.sg_gateway.specs.SealedOut.{IsOut, IsOutSecure, sealed_by}
-use Rattle.sg_gateway.specs.Signals.{Signal}
-use Rattle.sg_gateway.specs.Step.{Event, Signalled, Datagram}
 use Rattle.sg_gateway.specs.Tags.{HasWholeTags, HaveWholeTags, IsTagLength}
 use Rattle.sg_gateway.specs.Twice.{IsSameUnderKey}
-use Rattle.sg_gateway.specs.World.{Call, World}
 use Rattle.sg_gateway.specs.Used.{used_by}
-use Rattle.sg_outcome.specs.declared.outcomes.Outcome.{Outcome}
-use Rattle.sg_outcome.specs.declared.outcomes.Outcome.TheVariants.{Out}
 use Rattle.sg_passages.specs.Headline.{Headline}
 use Rattle.sg_passages.specs.Passages.{ArePassagesOf, AreToldAs, IsFaithful, Leaves, Passage, out_by}
 use Rattle.sg_passages.specs.PutOut.{IsPutOutBy, IsPutOutOf, IsSealedAndLeaves, OpeningsGoOut, SealsGoOut}
 use Rattle.sg_passages.specs.Told.{OpensWhatGoesOut, SealsWhatGoesOut, SignalStaysIn, as_told}
 use Rattle.sg_session.proofs.Lists.{any_cases, any_none, each_at, each_at_this, each_map}
-use Rattle.sg_kdf.specs.SessionKeys.{session_keys}
-use Rattle.sg_session.specs.Halves.{half_of}
 use Rattle.sg_session.specs.Sealed.{sealed_text}
-use Rattle.sg_session.specs.Session.{Session}
-use Rattle.sg_session.specs.declared.names.Direction.{Direction}
-use Rattle.sg_session.specs.declared.names.Direction.TheVariants.{Opening, Sealing}
 use Rattle.sg_gateway.proofs.Lists.{any_first, any_second}
 use Rattle.sg_gateway.proofs.Agreements.{Agreements}
 use Rattle.sg_gateway.proofs.Pairs.{Pairs, pairs_from}

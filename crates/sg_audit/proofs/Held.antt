@@ -1,12 +1,8 @@
 -- Each pre-shared key that is held came in an earlier turn.
 use Rattle.std.proofs.Common.{◌≡◌, List, [], ◌∷◌, ◌++◌, refl}
 use Rattle.std.specs.List.{AllByRecursion, Any}
-use Rattle.sg_psk.specs.declared.pairs.Pair.{Pair}
-use Rattle.sg_session.proofs.Lists.{any_here, each_append, each_weaker}
-use Rattle.sg_gateway.specs.Runs.{Turn, turn_of, turns}
+use Rattle.sg_gateway.proofs.Common.{Datagram, Event, Pair, Signalled, Turn, World, any_here, each_append, each_weaker, empty, step, turn_of, turns}
 use Rattle.sg_gateway.specs.Signals.{Answered, Bye, Manual, Offered, Psk, Reject, Tick}
-use Rattle.sg_gateway.specs.Step.{Datagram, Event, Signalled, step}
-use Rattle.sg_gateway.specs.World.{World, empty}
 use Rattle.sg_gateway.proofs.Lists.{any_first, any_second}
 use Rattle.sg_gateway.proofs.StepCases.{each_datagram, each_signal}
 use Rattle.sg_gateway.proofs.TurnByTurn.{kept_before}

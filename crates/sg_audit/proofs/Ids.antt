@@ -1,8 +1,9 @@
 -- The call in a slot keeps its id, whatever comes that takes no session away; and sessions have their call's number.
 use Rattle.std.proofs.Common.{◌≡◌, ◌⊎◌, inl, inr, ℕ, ◌<◌, ◌≤◌, not, List, [], ◌∷◌, Some, refl, sym, ap, ◌∙◌, arith, eqb}
 use Rattle.std.specs.List.{AllByRecursion, Any}
-use Rattle.sg_base.specs.declared.addresses.CallId.{CallId}
-use Rattle.sg_session.proofs.Lists.{any_cases, any_none, any_weaker, each_at_this, each_filter, each_of, each_weaker}
+use Rattle.sg_gateway.proofs.Common.{Call, CallId, Datagram, Event, IsBefore, Signal, Signalled, World, and_call, answer_to, any_cases, any_none, any_weaker}
+use Rattle.sg_gateway.proofs.Common.{call_after, call_of, each_at_this, each_filter, each_of, each_weaker, has_port, new_call, same_id, step, turns}
+use Rattle.sg_gateway.proofs.Common.{with_call}
 use Rattle.sg_gateway.proofs.Datagrams.{every_turn}
 use Rattle.sg_gateway.proofs.Kept.{CallKept, SessionKept}
 use Rattle.sg_gateway.proofs.Ordered.{slot_free}
@@ -10,13 +11,6 @@ use Rattle.sg_gateway.proofs.Pairs.{Pairs}
 use Rattle.sg_gateway.proofs.Reached.{Anything, anything_had, anything_on}
 use Rattle.sg_gateway.proofs.Signals.{each_and_call, each_with_call, is_found}
 use Rattle.sg_gateway.proofs.StepCases.{each_datagram, each_signal}
-use Rattle.sg_gateway.specs.Datagrams.{call_after}
-use Rattle.sg_gateway.specs.Order.{IsBefore}
-use Rattle.sg_gateway.specs.Ports.{has_port}
-use Rattle.sg_gateway.specs.Runs.{turns}
-use Rattle.sg_gateway.specs.Signals.{Signal, answer_to, new_call}
-use Rattle.sg_gateway.specs.Step.{Datagram, Event, Signalled, step}
-use Rattle.sg_gateway.specs.World.{Call, World, call_of, same_id, and_call, with_call}
 use Rattle.sg_gateway.proofs.Lists.{each_of_list}
 use Rattle.sg_conduct.specs.Staying.{TakesSessions}
 

@@ -2,28 +2,18 @@
 use Rattle.std.proofs.Common.{◌≡◌, ◌⊎◌, inl, inr, ℕ, ◌+◌, List, [], ◌∷◌, ◌++◌, map, Some, None, refl, sym, ap, ◌∙◌, subst, append_assoc}
 use Rattle.std.proofs.lemmas.List.Elements.{recursion_from_All}
 use Rattle.std.specs.List.{All, AllByRecursion, Any, flat_map}
-use Rattle.sg_agreement.specs.Keying.{Offer}
-use Rattle.sg_agreement.specs.Sides.{side_of}
-use Rattle.sg_agreement.specs.declared.ways.Way.{Way}
-use Rattle.sg_agreement.specs.declared.ways.Way.TheVariants.{FromSecure, SdesFromPlain, MikeyFromPlain}
-use Rattle.sg_base.proofs.Cases.{none_some, some_is}
-use Rattle.sg_base.specs.declared.addresses.CallId.{CallId}
-use Rattle.sg_outcome.specs.declared.outcomes.Outcome.{Outcome}
 use Rattle.sg_outcome.specs.declared.outcomes.Outcome.TheVariants as outcomes
-use Rattle.sg_psk.specs.declared.pairs.Pair.{Pair}
 use Rattle.sg_sdp.specs.declared.sdp.Sdp.{Sdp}
-use Rattle.sg_session.proofs.Lists.{any_cases, any_here, any_none, any_there, each_append, each_at_this, each_map, each_weaker}
-use Rattle.sg_session.specs.Session.{Session}
+use Rattle.sg_gateway.proofs.Common.{Call, CallId, Event, FromSecure, MikeyFromPlain, Offer, Outcome, Pair, SdesFromPlain, Session, Signalled, Turn, Way}
+use Rattle.sg_gateway.proofs.Common.{World, after_turn, any_cases, any_here, any_none, any_there, call_of, each_append, each_at_this, each_map, each_weaker}
+use Rattle.sg_gateway.proofs.Common.{empty, none_some, side_of, some_is, step, turn_of, turns, turns_from}
 use Rattle.sg_gateway.proofs.Pairs.{Pairs, pairs_from}
 use Rattle.sg_gateway.specs.ByTexts.{AnswersAreByTexts, AreByTexts, HasItsLines}
 use Rattle.sg_gateway.specs.Lasting.{IsAnsweredIn, IsMadeIn, IsManualIn, IsOfManual, ManualCallsAreAsTold, ManualIsAsTold, SessionsLast}
 use Rattle.sg_gateway.specs.Order.{IsBefore, IsOrderly}
 use Rattle.sg_gateway.specs.OwnMessages.{IsInOwnSession}
 use Rattle.sg_gateway.specs.PeersMessages.{IsByPeersMessage}
-use Rattle.sg_gateway.specs.Runs.{Turn, after_turn, turn_of, turns, turns_from}
 use Rattle.sg_gateway.specs.Signals.{Answered, Manual, Psk}
-use Rattle.sg_gateway.specs.Step.{Event, Signalled, step}
-use Rattle.sg_gateway.specs.World.{Call, World, call_of, empty}
 use Rattle.sg_passages.specs.Passages.{ArePassagesOf, AreToldAs, IsFaithful, IsToldAs, Leaves, Passage}
 use Rattle.sg_gateway.proofs.Lists.{any_second}
 use Rattle.sg_conduct.specs.Others.{OtherCallsStay, OthersStay}

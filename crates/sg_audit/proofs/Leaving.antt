@@ -1,11 +1,8 @@
 -- By which port what is put out leaves, and to which address.
 use Rattle.std.proofs.Common.{◌≡◌, inl, inr, ℕ, ◌+◌, ◌*◌, ◌-◌, ◌%◌, List, [], ◌∷◌, ap, ◌∙◌, arith}
 use Rattle.sg_base.specs.declared.addresses.Address.{Address}
-use Rattle.sg_base.specs.declared.addresses.Kind.{Kind}
-use Rattle.sg_base.specs.declared.addresses.Kind.TheVariants.{Rtp, Rtcp}
+use Rattle.sg_gateway.proofs.Common.{Kind, Out, Outcome, Rtcp, Rtp}
 use Rattle.sg_gateway.specs.Legs.{end_for, plain_port_of, secure_port_of}
-use Rattle.sg_outcome.specs.declared.outcomes.Outcome.{Outcome}
-use Rattle.sg_outcome.specs.declared.outcomes.Outcome.TheVariants.{Out}
 use Rattle.sg_passages.specs.Passages.{KeepsLegs, Leaves, Leaving, out_by}
 use Rattle.sg_audit.specs.Seen.{LeavesBy}
 

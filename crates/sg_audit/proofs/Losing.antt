@@ -5,34 +5,21 @@ use Rattle.std.proofs.lemmas.List.Elements.{All-from_recursion}
 use Rattle.std.specs.List.{AllByRecursion, AllPairs, Any, Contains, flat_map}
 use Rattle.std.specs.Prelude.{is_ok}
 use Rattle.sg_base.specs.declared.addresses.Address.{Address}
-use Rattle.sg_base.specs.declared.addresses.Kind.{Kind}
-use Rattle.sg_base.specs.declared.addresses.Kind.TheVariants.{Rtp, Rtcp}
-use Rattle.sg_base.specs.declared.faults.DropCause.{DropCause}
-use Rattle.sg_kdf.specs.SessionKeys.{session_keys}
 use Rattle.sg_replay.specs.Freshness.{highest_of, highest_with}
-use Rattle.sg_session.proofs.Lists.{any_cases, any_here, any_none, any_there, any_weaker, each_at_this}
-use Rattle.sg_session.proofs.Taking.{opened_new}
-use Rattle.sg_session.specs.Halves.{half_of}
-use Rattle.sg_session.specs.Opening.{Taken, opens}
 use Rattle.sg_session.specs.Reach.{AreSealed, IsNear, IsNearIn, IsNext, IsSealed as WasSealed, IsSound, Sealed, choice_of, text_in}
 use Rattle.sg_session.specs.Sealed.{sealed_text}
 use Rattle.sg_session.specs.Session.{Done, Key, Session, indices_of, same_name}
-use Rattle.sg_session.specs.declared.names.Name.{Name}
-use Rattle.sg_session.specs.declared.names.Direction.TheVariants.{Opening}
+use Rattle.sg_gateway.proofs.Common.{Call, Datagram, DropCause, Entry, Event, Kind, Name, Octets, Opening, Rtcp, Rtp, Taken, Turn, World, any_cases, any_here}
+use Rattle.sg_gateway.proofs.Common.{any_none, any_there, any_weaker, each_at_this, empty, half_of, is_current, opened_new, opens, session_keys, step}
+use Rattle.sg_gateway.proofs.Common.{turn_of, turns_from}
 use Rattle.sg_gateway.proofs.Agreements.{Agreements}
 use Rattle.sg_gateway.proofs.Datagrams.{Apart, at_event, empty_kept}
 use Rattle.sg_gateway.proofs.Kept.{CallKept, IsKept, SessionKept, done_of}
 use Rattle.sg_gateway.proofs.Sound.{all_sound, sound_on}
 use Rattle.sg_gateway.specs.Arriving.{Comes}
-use Rattle.sg_gateway.specs.Datagrams.{Entry}
 use Rattle.sg_gateway.specs.Departing.{sealed_under}
-use Rattle.sg_gateway.specs.Generations.{is_current}
 use Rattle.sg_gateway.specs.Legs.{secure_leg_port}
 use Rattle.sg_gateway.specs.Newness.{IsAdmittedBy}
-use Rattle.sg_gateway.specs.Octets.{Octets}
-use Rattle.sg_gateway.specs.Runs.{Turn, turn_of, turns_from}
-use Rattle.sg_gateway.specs.Step.{Event, Datagram, step}
-use Rattle.sg_gateway.specs.World.{Call, World, empty}
 use Rattle.sg_passages.specs.Passages.{IsFaithful, Passage}
 use Rattle.sg_passages.proofs.Lifting.{one_out}
 use Rattle.sg_audit.proofs.Leaving.{by_plain, by_secure}

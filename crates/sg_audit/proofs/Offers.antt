@@ -4,33 +4,22 @@ use Rattle.std.proofs.lemmas.Bool.{false≢true}
 use Rattle.std.proofs.lemmas.List.Elements.{recursion_from_All}
 use Rattle.std.specs.List.{All, AllByRecursion, Any, filter}
 use Rattle.std.specs.Option.{is_some}
-use Rattle.sg_agreement.proofs.AllAgreed.{offer_is}
-use Rattle.sg_agreement.specs.Keying.{Offer}
-use Rattle.sg_agreement.specs.Sides.{other_side, side_of}
-use Rattle.sg_agreement.specs.declared.ways.Way.{Way}
-use Rattle.sg_base.proofs.Cases.{none_some, some_is}
-use Rattle.sg_base.specs.declared.addresses.CallId.{CallId}
-use Rattle.sg_base.specs.declared.faults.Refusal.{Refusal}
 use Rattle.sg_base.specs.declared.faults.Refusal.TheVariants.{CallKnown, CallUnknown, State}
-use Rattle.sg_outcome.specs.declared.outcomes.Outcome.{Outcome}
 use Rattle.sg_outcome.specs.declared.outcomes.Outcome.TheVariants.{Sdp, Refused, Dropped}
-use Rattle.sg_sdp.specs.Reading.{description_of}
 use Rattle.sg_session.proofs.Lists.{any_cases, any_here, any_none, any_there, each_append, each_at, each_at_this, each_filter, each_map, each_weaker}
+use Rattle.sg_gateway.proofs.Common.{Call, CallId, Datagram, Event, IsRefusal, IsRefused, Offer, Outcome, Refusal, Signalled, Turn, Way, World, call_of}
+use Rattle.sg_gateway.proofs.Common.{description_of, empty, find_call, none_some, offer_is, other_side, same_id, side_of, some_is, step, takes_offer, turn_of}
+use Rattle.sg_gateway.proofs.Common.{turns, turns_from, world_after}
 use Rattle.sg_gateway.proofs.Arrivals.{kept_by}
 use Rattle.sg_gateway.proofs.ByTexts.{MadeBy, WasMade, WereMade, event_made, same_call_id}
 use Rattle.sg_gateway.proofs.Pairs.{Pairs, each_two, pairs_from}
 use Rattle.sg_gateway.proofs.Refusals.{refused_first}
 use Rattle.sg_gateway.proofs.Signals.{found}
 use Rattle.sg_gateway.proofs.Taken.{same_id_itself}
-use Rattle.sg_gateway.specs.CallSignals.{takes_offer}
 use Rattle.sg_gateway.specs.CarriedOut.{AnswerRenews, AnswersRenew, ByeEnds, ByesEnd, RejectionCloses, RejectionsClose}
 use Rattle.sg_gateway.specs.Early.{early, early_answer, early_manual, early_offer, named}
 use Rattle.sg_gateway.specs.Order.{EachWorldIsOrderly, IsBefore}
-use Rattle.sg_gateway.specs.Refusing.{IsRefusal, IsRefused}
-use Rattle.sg_gateway.specs.Runs.{Turn, turn_of, turns, turns_from, world_after}
 use Rattle.sg_gateway.specs.Signals.{Answer, Answered, Bye, Manual, Offered, Psk, Reject, Signal, Tick}
-use Rattle.sg_gateway.specs.Step.{Datagram, Event, Signalled, step}
-use Rattle.sg_gateway.specs.World.{Call, World, call_of, empty, find_call, same_id}
 use Rattle.sg_passages.specs.Passages.{AreToldAs, IsFaithful, IsToldAs, Leaves, Passage}
 use Rattle.sg_gateway.proofs.Lists.{any_first, any_parts, any_second, each_of_list}
 use Rattle.sg_audit.proofs.Lists.{each_behind, map_parts}

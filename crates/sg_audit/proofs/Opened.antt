@@ -3,22 +3,13 @@ use Rattle.std.proofs.Common.{◌≡◌, ℕ, ◌+◌, ◌<◌, Bool, true, fals
 use Rattle.std.proofs.lemmas.Bool.{false≢true}
 use Rattle.std.proofs.lemmas.List.Elements.{recursion_from_All}
 use Rattle.std.specs.List.{AllByRecursion, Any}
-use Rattle.sg_base.proofs.Cases.{none_some, some_is}
-use Rattle.sg_base.specs.declared.addresses.CallId.{CallId}
-use Rattle.sg_session.proofs.Lists.{any_weaker, each_at_this, each_flat_map, each_map}
-use Rattle.sg_session.specs.Session.{Session}
-use Rattle.sg_session.specs.declared.names.Name.{Name}
+use Rattle.sg_gateway.proofs.Common.{Call, CallId, Event, IsBefore, Name, Session, Signal, Signalled, Tick, Turn, World, after_turn, any_weaker, call_of}
+use Rattle.sg_gateway.proofs.Common.{each_at_this, each_flat_map, each_map, named, none_some, same_id, some_is, step, turn_of, turns_from}
 use Rattle.sg_gateway.proofs.ByTexts.{same_call_id}
 use Rattle.sg_gateway.proofs.Ordered.{one_serial}
 use Rattle.sg_gateway.proofs.Pairs.{Pairs}
 use Rattle.sg_gateway.proofs.Signals.{is_found}
 use Rattle.sg_gateway.proofs.Taken.{same_id_itself}
-use Rattle.sg_gateway.specs.Early.{named}
-use Rattle.sg_gateway.specs.Order.{IsBefore}
-use Rattle.sg_gateway.specs.Runs.{Turn, after_turn, turn_of, turns_from}
-use Rattle.sg_gateway.specs.Signals.{Signal, Tick}
-use Rattle.sg_gateway.specs.Step.{Event, Signalled, step}
-use Rattle.sg_gateway.specs.World.{Call, World, call_of, same_id}
 use Rattle.sg_passages.specs.Passages.{Passage}
 use Rattle.sg_gateway.proofs.Lists.{each_of_list}
 use Rattle.sg_conduct.specs.Others.{OthersStay}

@@ -2,13 +2,10 @@
 use Rattle.std.proofs.Common.{◌≡◌, inl, inr, List, [], ◌∷◌, map, refl, sym, ap, ◌∙◌, subst}
 use Rattle.std.proofs.lemmas.List.Elements.{All-from_recursion, recursion_from_All}
 use Rattle.std.specs.List.{All, AllByRecursion, Any, flat_map}
-use Rattle.sg_session.proofs.Lists.{any_cases, any_none, any_weaker, each_at_this, each_flat_map, each_map, each_weaker}
-use Rattle.sg_session.specs.Session.{Session}
+use Rattle.sg_gateway.proofs.Common.{Call, Event, Session, Turn, World, after_turn, any_cases, any_none, any_weaker, each_at_this, each_flat_map, each_map}
+use Rattle.sg_gateway.proofs.Common.{each_weaker, empty, step, turn_of, turns, turns_from}
 use Rattle.sg_gateway.proofs.Pairs.{Pairs, pairs_from}
 use Rattle.sg_gateway.specs.Order.{EachWorldIsOrderly, IsBefore, IsOrderly}
-use Rattle.sg_gateway.specs.Runs.{Turn, after_turn, turn_of, turns, turns_from}
-use Rattle.sg_gateway.specs.Step.{Event, step}
-use Rattle.sg_gateway.specs.World.{Call, World, empty}
 use Rattle.sg_gateway.proofs.Lists.{any_first, any_second, each_of_list}
 use Rattle.sg_conduct.specs.Staying.{IsStillOpen, SessionsStay, SessionsStayOpen}
 use Rattle.sg_passages.specs.Passages.{ArePassagesOf, IsFaithful, Passage}

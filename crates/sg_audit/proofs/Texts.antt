@@ -3,24 +3,14 @@ use Rattle.std.proofs.Common.{◌≡◌, ℕ, ◌+◌, List, [], ◌∷◌, leng
 use Rattle.std.specs.List.{Any}
 use Rattle.sg_agreement.proofs.AllAgreed.{all_agreed, offer_is}
 use Rattle.sg_agreement.specs.Answers.{agreed_answer}
-use Rattle.sg_agreement.specs.Keying.{Offer}
-use Rattle.sg_agreement.specs.Sides.{side_of}
-use Rattle.sg_base.proofs.Cases.{some_is}
-use Rattle.sg_base.specs.declared.addresses.CallId.{CallId}
-use Rattle.sg_outcome.specs.declared.outcomes.Outcome.{Outcome}
 use Rattle.sg_outcome.specs.declared.outcomes.Outcome.TheVariants.{Live, Sdp}
-use Rattle.sg_psk.specs.declared.pairs.Pair.{Pair}
-use Rattle.sg_sdp.specs.Reading.{description_of}
 use Rattle.sg_sdp.specs.declared.sdp.Sdp as sdp
-use Rattle.sg_session.proofs.Lists.{any_here}
+use Rattle.sg_gateway.proofs.Common.{Call, CallId, Offer, Outcome, Pair, Signalled, Turn, World, any_here, call_of, description_of, side_of, some_is, step}
 use Rattle.sg_gateway.proofs.ByTexts.{MadeBy, by_way}
 use Rattle.sg_gateway.proofs.CarriedOut.{found_with, id_found}
 use Rattle.sg_gateway.proofs.StepCases.{renewed_by, answer_of}
 use Rattle.sg_gateway.specs.ByTexts.{AreByTexts}
-use Rattle.sg_gateway.specs.Runs.{Turn}
 use Rattle.sg_gateway.specs.Signals.{Answered}
-use Rattle.sg_gateway.specs.Step.{Signalled, step}
-use Rattle.sg_gateway.specs.World.{Call, World, call_of}
 
 -- What the answer of this text describes, what is told of it, and the sessions of its call by these and by the open offer's turn.
 pub record IsAnsweredBy (id : CallId) (o : Offer) (u : Turn) (by : MadeBy id o u) (told : List Outcome) (text : List ℕ) (d : Call) : Type 0 where

@@ -2,31 +2,19 @@
 use Rattle.std.proofs.Common.{◌≡◌, inl, inr, ℕ, ◌+◌, ◌<◌, List, [], ◌∷◌, ◌++◌, map, Option, Some, None, refl, sym, ap, ◌∙◌, subst, append_assoc}
 use Rattle.std.proofs.lemmas.List.Elements.{All-from_recursion, recursion_from_All}
 use Rattle.std.specs.List.{All, AllByRecursion, Any}
-use Rattle.sg_agreement.proofs.AllAgreed.{offer_is}
-use Rattle.sg_agreement.specs.Keying.{Offer}
-use Rattle.sg_agreement.specs.Sides.{other_side, side_of}
-use Rattle.sg_base.proofs.Cases.{some_is}
-use Rattle.sg_base.specs.declared.addresses.CallId.{CallId}
-use Rattle.sg_base.specs.declared.addresses.Side.{Side}
-use Rattle.sg_base.specs.declared.faults.Refusal.{Refusal}
-use Rattle.sg_outcome.specs.declared.outcomes.Outcome.{Outcome}
 use Rattle.sg_outcome.specs.declared.outcomes.Outcome.TheVariants.{Live, Sdp, Refused, Dropped}
 use Rattle.sg_sdp.specs.declared.medium.Medium as descriptions
 use Rattle.sg_sdp.specs.declared.sdp.Sdp as sdp
-use Rattle.sg_session.proofs.Lists.{any_cases, any_here, any_none, any_there, any_weaker, each_append, each_at_this, each_flat_map, each_map}
-use Rattle.sg_session.specs.declared.names.Name.{Name}
+use Rattle.sg_gateway.proofs.Common.{Call, CallId, Event, IsBefore, IsMediumAt, Name, Offer, Outcome, Refusal, Side, Signalled, Turn, World, after_turn}
+use Rattle.sg_gateway.proofs.Common.{any_cases, any_here, any_none, any_there, any_weaker, call_of, each_append, each_at_this, each_flat_map, each_map, empty}
+use Rattle.sg_gateway.proofs.Common.{offer_is, other_side, same_id, side_of, some_is, step, turn_of, turns, turns_from}
 use Rattle.sg_gateway.proofs.ByTexts.{same_call_id}
 use Rattle.sg_gateway.proofs.CarriedOut.{found_with, id_found}
 use Rattle.sg_gateway.proofs.Pairs.{Pairs, pairs_from}
 use Rattle.sg_gateway.proofs.Signals.{is_found}
 use Rattle.sg_gateway.proofs.StepCases.{answer_of, renewed_by}
-use Rattle.sg_gateway.specs.Addressed.{IsMediumAt}
 use Rattle.sg_gateway.specs.ByTexts.{AnswersAreByTexts, Exchange}
-use Rattle.sg_gateway.specs.Order.{IsBefore}
-use Rattle.sg_gateway.specs.Runs.{Turn, after_turn, turn_of, turns, turns_from}
 use Rattle.sg_gateway.specs.Signals.{Answer, Answered, answered, answer_to}
-use Rattle.sg_gateway.specs.Step.{Event, Signalled, step}
-use Rattle.sg_gateway.specs.World.{Call, World, call_of, empty, same_id}
 use Rattle.sg_passages.specs.Passages.{ArePassagesOf, AreToldAs, IsFaithful, IsToldAs, Leaves, Passage}
 use Rattle.sg_gateway.proofs.Lists.{each_of_list}
 use Rattle.sg_audit.proofs.Ids.{AreNamed, named_worlds}

@@ -6,31 +6,25 @@ use Rattle.std.specs.Option.{is_none, is_some, option_map}
 use Rattle.sg_agreement.proofs.TextLines.{mikey_is}
 use Rattle.sg_agreement.specs.Attributes.{first_of, mikey_octets, mikey_rest, mikey_value}
 use Rattle.sg_agreement.specs.Messages.{AtHand, Bundle, bundle_in, message_in}
-use Rattle.sg_agreement.specs.Refusals.{of_cs, of_message, of_psk, or_refusal}
 use Rattle.sg_agreement.specs.TextLines.{IsMessageLine}
-use Rattle.sg_base.proofs.SameOctets.{same_octets_is, same_octets_true}
 use Rattle.sg_base.specs.Fields.{◌>>=◌}
 use Rattle.sg_base.specs.Octets.{number_of, same_octets}
 use Rattle.sg_base.specs.declared.faults.CsFault.TheVariants.{PolicyValue}
 use Rattle.sg_base.specs.declared.faults.Refusal.TheVariants.{KeyMgmt}
 use Rattle.sg_csmap.specs.CryptoSessions.{lacks_policy, or_fault, pair_in, pairs_from, stream_in, streams_of}
 use Rattle.sg_csmap.specs.Policies.{are_served, each_once, has_kind, is_short, meaning, protection_of, said_by}
-use Rattle.sg_csmap.specs.declared.sessions.StreamKeys.{StreamKeys}
-use Rattle.sg_mikey.specs.declared.message.CsEntry.{CsEntry}
-use Rattle.sg_mikey.specs.declared.message.Tgk.{Tgk}
 use Rattle.sg_mikey.specs.declared.policy.Policy.{Policy}
 use Rattle.sg_psk.specs.Accepting.{Accepted, accepted_with, fault_of, initial_fits, initial_of, initial_under, is_served, keys_in, unless, with_keys}
 use Rattle.sg_psk.specs.Envelope.{mac_of}
 use Rattle.sg_psk.specs.Pairs.{is_noted, is_of, is_same, is_with, note, pair_named}
 use Rattle.sg_psk.specs.Parts.{closing_in, names_in, policies_in, random_in, stamp_in}
 use Rattle.sg_psk.specs.Stamps.{distance, is_skewed, since_1900}
-use Rattle.sg_psk.specs.declared.pairs.Pair.{Pair}
 use Rattle.sg_psk.specs.declared.replays.Noted.{Noted}
 use Rattle.sg_session.proofs.Inversions.{after_ok_of, stop_if_of}
-use Rattle.sg_session.proofs.Lists.{any_cases, any_none}
+use Rattle.sg_gateway.proofs.Common.{Books, CsEntry, Pair, StreamKeys, Tgk, any_cases, any_none, of_cs, of_message, of_psk, or_refusal, same_octets_is}
+use Rattle.sg_gateway.proofs.Common.{same_octets_true}
 use Rattle.sg_gateway.specs.Authentic.{AreNamesOf}
 use Rattle.sg_gateway.specs.CryptoSessions.{Carries, IsFirst}
-use Rattle.sg_gateway.specs.World.{Books}
 use Rattle.sg_conduct.specs.Offers.{AreOfOwnTypes, HasPolicy, IsAcceptable, IsFirstNamed, IsServed, served}
 
 -- ---- the attribute

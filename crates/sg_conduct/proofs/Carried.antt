@@ -15,24 +15,20 @@ use Rattle.sg_base.proofs.SuiteLemmas.{lacks_test}
 use Rattle.sg_base.specs.Fields.{Lacks, cut_at}
 use Rattle.sg_base.specs.Suites.{key_len_of}
 use Rattle.sg_base.specs.SuiteNames.{suite_name}
-use Rattle.sg_base.specs.declared.addresses.Side.{Side}
-use Rattle.sg_base.specs.declared.addresses.Side.TheVariants.{Secure, Plain}
 use Rattle.sg_base.specs.declared.suites.Suite.{Suite}
 use Rattle.sg_base.specs.declared.suites.Suite.TheVariants.{Cm128Tag80, Cm256Tag80}
 use Rattle.sg_sdes.specs.CryptoText.{crypto_text}
 use Rattle.sg_sdp.specs.Addresses.{with_address}
 use Rattle.sg_sdp.specs.Carrying.{attribute_name, carried_line, carried_lines, carried_media, carried_medium, carried_proto, is_one_sided}
 use Rattle.sg_sdp.specs.declared.medium.Medium as descriptions
-use Rattle.sg_sdp.specs.declared.medium.Profile.{Profile}
 use Rattle.sg_sdp.specs.declared.medium.Profile.TheVariants.{Avp, Savp, Avpf, Savpf, Other}
-use Rattle.sg_session.proofs.Lists.{any_cases, any_here, any_none, any_there}
 use Rattle.sg_agreement.specs.CarriedTexts.{crypto_attribute, exchanged, ports_from, rtp_port, with_media_lines}
 use Rattle.sg_agreement.specs.Sides.{actives, is_active, other_side, side_of}
-use Rattle.sg_agreement.specs.declared.ways.Way.{Way}
 use Rattle.sg_conduct.proofs.Offers.{active_takes}
 use Rattle.sg_conduct.proofs.Present.{takes_active}
 use Rattle.sg_conduct.specs.Carried.{AddsToMedium, AreCarried, AreCarriedMedia, HoldsForOneSide, IsAtPort, IsAttribute, IsCarriedAs, IsCarriedMedium, attributes_of, lines_of, of_one_side, other_word, own_line}
 use Rattle.sg_conduct.specs.ToldTexts.{port_towards}
+use Rattle.sg_gateway.proofs.Common.{Plain, Profile, Secure, Side, Way, any_cases, any_here, any_none, any_there}
 
 -- ---- beginnings
 

@@ -7,32 +7,20 @@ use Rattle.std.specs.Prelude.{◌||◌}
 use Rattle.std.specs.List.{AllByRecursion, Any, cons_option, filter_map, find, list_any}
 use Rattle.std.specs.Option.{is_none}
 use Rattle.sg_agreement.proofs.TextLines.{behind_is}
-use Rattle.sg_agreement.proofs.FewMedia.{described_is}
 use Rattle.sg_agreement.specs.Answers.{AgreedAnswer, agreed_answer, answered_by}
 use Rattle.sg_agreement.specs.Attributes.{behind, crypto_values, first_of, mikey_octets, mikey_value}
 use Rattle.sg_agreement.specs.Described.{described, of_text, unaddressed, with_addresses}
-use Rattle.sg_agreement.specs.EachMedium.{each_kept, if_kept}
 use Rattle.sg_agreement.specs.Generations.{generation_of, keys_from, owned, owner_at}
 use Rattle.sg_agreement.specs.Keying.{Keying, PeerLines, OwnLines, PeerMessage, PeerMessages, OwnMessage, Offer}
 use Rattle.sg_agreement.specs.LineAnswers.{keyed_by_own_lines, keyed_by_peer_line, lines_matched}
-use Rattle.sg_agreement.specs.Media.{AgreedKey, Medium}
 use Rattle.sg_agreement.specs.MessageAnswers.{keyed_as_initiator, keyed_as_responder, keyed_by_message, over_active, own_streams, streams_answered}
 use Rattle.sg_agreement.specs.Messages.{message_in}
-use Rattle.sg_agreement.specs.Refusals.{of_cs, of_message, of_psk, of_sdes, or_refusal}
-use Rattle.sg_agreement.specs.Sides.{active_count, actives_after, is_active, other_side}
 use Rattle.sg_agreement.specs.Sound.{IsSoundMedium}
-use Rattle.sg_base.proofs.Cases.{none_some, some_is}
-use Rattle.sg_base.proofs.SameOctets.{same_octets_true}
-use Rattle.sg_base.specs.Keys.{Master}
-use Rattle.sg_base.specs.Octets.{same_octets}
 use Rattle.sg_base.specs.SuiteNames.{suite_name}
-use Rattle.sg_base.specs.declared.addresses.CallId.{CallId}
-use Rattle.sg_base.specs.declared.addresses.Side.{Side}
 use Rattle.sg_base.specs.declared.faults.CsFault.{CsFault}
 use Rattle.sg_base.specs.declared.faults.MikeyFault.TheVariants.{DataType}
 use Rattle.sg_base.specs.declared.faults.PskFault.{PskFault}
 use Rattle.sg_base.specs.declared.faults.PskFault.TheVariants.{BadMac, Algorithm, OtherSession}
-use Rattle.sg_base.specs.declared.faults.Refusal.{Refusal}
 use Rattle.sg_base.specs.declared.faults.Refusal.TheVariants as causes
 use Rattle.sg_base.specs.declared.faults.SdesFault.{SdesFault}
 use Rattle.sg_base.specs.declared.faults.SdesFault.TheVariants.{NoLine, Tag, Suite}
@@ -40,8 +28,6 @@ use Rattle.sg_base.specs.declared.faults.SdpFault.{SdpFault}
 use Rattle.sg_base.specs.declared.faults.SdpFault.TheVariants.{Address}
 use Rattle.sg_csmap.specs.CryptoSessions.{streams_of}
 use Rattle.sg_mikey.specs.Reading.{Place, message_of}
-use Rattle.sg_mikey.specs.declared.message.CsEntry.{CsEntry}
-use Rattle.sg_mikey.specs.declared.message.Message.{Message}
 use Rattle.sg_outcome.specs.declared.outcomes.Outcome.TheVariants.{Live, Refused, Sdp}
 use Rattle.sg_psk.specs.Envelope.{mac_of}
 use Rattle.sg_psk.specs.Parts.{closing_in}
@@ -50,16 +36,14 @@ use Rattle.sg_psk.specs.Sending.{Sent, response_fits, response_of}
 use Rattle.sg_sdes.specs.Answers.{matched, same_suite}
 use Rattle.sg_sdes.specs.CryptoOf.{crypto_of}
 use Rattle.sg_sdes.specs.Keys as lines
-use Rattle.sg_sdes.specs.declared.lines.CryptoLine.{CryptoLine}
-use Rattle.sg_sdp.specs.Reading.{description_of}
 use Rattle.sg_sdp.specs.declared.medium.Medium as descriptions
 use Rattle.sg_sdp.specs.declared.sdp.Sdp as sdp
-use Rattle.sg_session.proofs.Inversions.{after_ok_is, ok_is, stop_if_is}
-use Rattle.sg_session.proofs.Lists.{any_cases, any_here, any_none, any_there}
 use Rattle.sg_session.specs.Ring.{Installed, derived, first_clash_by, install, key_of, keys_clash, same_secret, with_key_by, with_keys_by}
 use Rattle.sg_session.specs.Stages.{after_ok, stop_if}
-use Rattle.sg_session.specs.declared.names.Direction.TheVariants.{Opening, Sealing}
-use Rattle.sg_session.specs.declared.names.Owner.{Owner}
+use Rattle.sg_gateway.proofs.Common.{AgreedKey, Call, CallId, CryptoLine, CsEntry, Master, Medium, Message, Opening, Owner, Refusal, Sealing, Side, World}
+use Rattle.sg_gateway.proofs.Common.{active_count, actives_after, after_ok_is, any_cases, any_here, any_none, any_there, call_of, described_is}
+use Rattle.sg_gateway.proofs.Common.{description_of, each_kept, if_kept, is_active, none_some, of_cs, of_message, of_psk, of_sdes, ok_is, or_refusal}
+use Rattle.sg_gateway.proofs.Common.{other_side, same_id, same_octets, same_octets_true, some_is, stop_if_is}
 use Rattle.sg_gateway.proofs.Agreements.{Agreements, answer_media}
 use Rattle.sg_gateway.proofs.Kept.{IsOffered, WasOffered}
 use Rattle.sg_gateway.proofs.PeersMessages.{octets_carried}
@@ -68,7 +52,6 @@ use Rattle.sg_gateway.specs.CallSignals.{answered_to}
 use Rattle.sg_gateway.specs.CryptoSessions.{Carries}
 use Rattle.sg_gateway.specs.Generations.{Settled, keyed}
 use Rattle.sg_gateway.specs.Signals.{Answer, Answered, answer_to, answered as answers, in_old, offering_side, tells_answer}
-use Rattle.sg_gateway.specs.World.{Call, World, call_of, same_id}
 use Rattle.sg_conduct.proofs.Acceptable.{octets_are}
 use Rattle.sg_conduct.proofs.Manual.{apart_is, secret}
 use Rattle.sg_conduct.proofs.Offers.{active_takes}

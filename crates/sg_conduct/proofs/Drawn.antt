@@ -2,7 +2,6 @@
 use Rattle.std.proofs.Common.{◌≡◌, inl, inr, ℕ, ◌+◌, Bool, true, false, cond, eqb, List, [], ◌∷◌, length, map, Option, Some, None, Result, Ok, refl, sym, ap, ◌∙◌, subst}
 use Rattle.std.proofs.lemmas.List.Elements.{All-from_recursion}
 use Rattle.std.specs.List.{AllByRecursion, Any, find}
-use Rattle.sg_agreement.proofs.AllAgreed.{offer_is}
 use Rattle.sg_agreement.proofs.Inversions.{find_all}
 use Rattle.sg_agreement.proofs.KeyedSound.{sdes_is}
 use Rattle.sg_agreement.proofs.OwnMessages.{tells_message}
@@ -11,47 +10,25 @@ use Rattle.sg_agreement.specs.Answers.{Answered as Keyings, AgreedAnswer, accept
 use Rattle.sg_agreement.specs.Attributes.{crypto_values, first_of, mikey_value, ssrcs_of}
 use Rattle.sg_agreement.proofs.MessagesSound.{psk_is}
 use Rattle.sg_agreement.specs.Described.{described}
-use Rattle.sg_agreement.specs.EachMedium.{each_active, each_kept, if_active, if_kept}
-use Rattle.sg_agreement.specs.Generations.{keys_of, numbered, owner_at, sessions_from, stream_session, stream_sessions}
-use Rattle.sg_agreement.specs.Keyed.{Keyed, media_agreed}
 use Rattle.sg_agreement.specs.Keying.{Keying, PeerLines, OwnLines, OwnMessage, Offer}
 use Rattle.sg_agreement.specs.LineAnswers.{keyed_by_answer, keyed_by_matched, keyed_by_own_lines, keyed_by_peer_line, lines_matched}
-use Rattle.sg_agreement.specs.Media.{Medium, Stream}
-use Rattle.sg_agreement.specs.Messages.{AtHand}
 use Rattle.sg_agreement.specs.Offers.{AgreedOffer, accepted_offer, agreed_offer, chosen_in, keying_by_messages, keying_of, noise_of}
-use Rattle.sg_agreement.specs.Refusals.{of_psk, of_sdes}
-use Rattle.sg_agreement.specs.Sides.{actives_after, is_active, other_side, side_of}
 use Rattle.sg_agreement.specs.Streams.{line_key}
 use Rattle.sg_agreement.specs.TextLines.{HasNoMessage}
-use Rattle.sg_agreement.specs.declared.ways.Way.{Way}
-use Rattle.sg_agreement.specs.declared.ways.Way.TheVariants.{FromSecure, SdesFromPlain, MikeyFromPlain}
-use Rattle.sg_base.proofs.Cases.{some_is}
-use Rattle.sg_base.specs.Keys.{Master}
-use Rattle.sg_base.specs.declared.addresses.CallId.{CallId}
-use Rattle.sg_base.specs.declared.addresses.Kind.{Kind}
-use Rattle.sg_base.specs.declared.addresses.Kind.TheVariants.{Rtp, Rtcp}
-use Rattle.sg_base.specs.declared.addresses.Side.{Side}
-use Rattle.sg_base.specs.declared.addresses.Side.TheVariants.{Secure, Plain}
-use Rattle.sg_base.specs.declared.faults.Refusal.{Refusal}
 use Rattle.sg_base.specs.declared.faults.SdesFault.TheVariants.{Tag, Suite}
-use Rattle.sg_base.proofs.SameOctets.{same_octets_is}
 use Rattle.sg_outcome.specs.declared.outcomes.Outcome.TheVariants as outcomes
-use Rattle.sg_psk.specs.Pairs.{is_with, pair_with}
 use Rattle.sg_psk.specs.Sending.{Sent, sent_of, sent_under}
-use Rattle.sg_psk.specs.declared.pairs.Pair.{Pair}
 use Rattle.sg_sdes.specs.Answers.{answer_by, matched, offered_by, same_suite}
 use Rattle.sg_sdes.specs.CryptoOf.{crypto_of}
 use Rattle.sg_sdes.specs.Keys as lines
-use Rattle.sg_sdes.specs.declared.lines.CryptoLine.{CryptoLine}
 use Rattle.sg_sdes.specs.declared.lines.InlineKey.{InlineKey}
 use Rattle.sg_sdp.specs.declared.medium.Medium as descriptions
 use Rattle.sg_sdp.specs.declared.sdp.Sdp.{Sdp}
-use Rattle.sg_session.proofs.Inversions.{after_ok_is, ok_is}
-use Rattle.sg_session.proofs.Lists.{any_here, any_there, any_weaker, each_append}
-use Rattle.sg_session.specs.Session.{Session}
-use Rattle.sg_session.specs.Stages.{after_ok}
-use Rattle.sg_session.specs.declared.names.Direction.{Direction}
-use Rattle.sg_session.specs.declared.names.Direction.TheVariants.{Opening, Sealing}
+use Rattle.sg_gateway.proofs.Common.{AtHand, Call, CallId, CryptoLine, Direction, Event, FromSecure, Keyed, Kind, Master, Medium, MikeyFromPlain, Opening}
+use Rattle.sg_gateway.proofs.Common.{Pair, Plain, Refusal, Rtcp, Rtp, SdesFromPlain, Sealing, Secure, Session, Side, Stream, Turn, Way, World, actives_after}
+use Rattle.sg_gateway.proofs.Common.{after_ok, after_ok_is, any_here, any_there, any_weaker, call_of, each_active, each_append, each_kept, empty, if_active}
+use Rattle.sg_gateway.proofs.Common.{if_kept, is_active, is_with, keys_of, media_agreed, numbered, of_psk, of_sdes, offer_is, ok_is, other_side, owner_at}
+use Rattle.sg_gateway.proofs.Common.{pair_with, same_id, same_octets_is, sessions_from, side_of, some_is, step, stream_session, stream_sessions, turn_of}
 use Rattle.sg_gateway.proofs.Addressed.{IsAnswered, answered_now}
 use Rattle.sg_gateway.proofs.ByTexts.{MadeBy, WasMade, WereMade, event_made, same_call_id}
 use Rattle.sg_gateway.proofs.CarriedOut.{of_generation}
@@ -59,10 +36,7 @@ use Rattle.sg_gateway.proofs.LineSessions.{masters_of}
 use Rattle.sg_gateway.proofs.Signals.{found}
 use Rattle.sg_gateway.proofs.TurnByTurn.{kept_before}
 use Rattle.sg_gateway.specs.Generations.{keyed}
-use Rattle.sg_gateway.specs.Runs.{Turn, turn_of}
 use Rattle.sg_gateway.specs.Signals.{Answered, answer_to}
-use Rattle.sg_gateway.specs.Step.{Event, step}
-use Rattle.sg_gateway.specs.World.{Call, World, call_of, empty, same_id}
 use Rattle.sg_conduct.specs.Drawn.{AnswerDraws, AreDrawn, IsDrawn, TellsDrawn, IsForAnswer, IsForOffer, IsOfferOf, OwnKeysAreDrawn, SealsUnder}
 
 -- ---- a line that is matched

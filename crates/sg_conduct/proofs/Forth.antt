@@ -3,55 +3,36 @@ use Rattle.std.proofs.Common.{◌≡◌, ◌⊎◌, inl, inr, ℕ, ◌+◌, ◌<
 use Rattle.std.proofs.lemmas.Bool.{false≢true}
 use Rattle.std.specs.List.{AllByRecursion, Any, cons_option, filter, filter_map, find}
 use Rattle.std.specs.Option.{is_some}
-use Rattle.sg_agreement.proofs.FewMedia.{described_is}
 use Rattle.sg_agreement.proofs.KeyedSound.{sdes_is}
 use Rattle.sg_agreement.proofs.MessagesSound.{psk_is}
 use Rattle.sg_agreement.proofs.TextLines.{behind_is, has_none}
 use Rattle.sg_agreement.specs.Attributes.{behind, crypto_values, has_message, mikey_value, own_ssrc, ssrcs_of}
 use Rattle.sg_agreement.specs.CarriedTexts.{Added, carried_text, crypto_attribute, exchanged, nothing, ports_from, with_added}
 use Rattle.sg_agreement.specs.Described.{described}
-use Rattle.sg_agreement.specs.EachMedium.{each_active, if_active}
 use Rattle.sg_agreement.specs.Keying.{Keying, PeerLines, OwnLines, PeerMessage, PeerMessages, OwnMessage, Offer, added_by}
 use Rattle.sg_agreement.specs.Keying as keyings
 use Rattle.sg_agreement.specs.Messages.{AtHand, bundle_in}
 use Rattle.sg_agreement.specs.Offers.{AgreedOffer, accepted_offer, agreed_offer, chosen_in, keying_by_messages, keying_of, noise_of}
-use Rattle.sg_agreement.specs.Refusals.{of_psk}
 use Rattle.sg_agreement.specs.Sides.{active_count, actives, is_active, other_side, side_of}
-use Rattle.sg_agreement.specs.declared.ways.Way.{Way}
-use Rattle.sg_agreement.specs.declared.ways.Way.TheVariants.{FromSecure, SdesFromPlain, MikeyFromPlain}
-use Rattle.sg_base.proofs.Cases.{none_some, some_is}
-use Rattle.sg_base.proofs.SameOctets.{same_octets_true}
-use Rattle.sg_base.specs.declared.addresses.CallId.{CallId}
-use Rattle.sg_base.specs.declared.addresses.Side.{Side}
-use Rattle.sg_base.specs.declared.addresses.Side.TheVariants.{Secure, Plain}
-use Rattle.sg_base.specs.declared.faults.Refusal.{Refusal}
 use Rattle.sg_base.specs.declared.faults.Refusal.TheVariants.{State, TableFull}
 use Rattle.sg_base.specs.declared.faults.SdesFault.{SdesFault}
 use Rattle.sg_outcome.specs.declared.outcomes.Outcome.TheVariants.{Made, Refused, Sdp}
-use Rattle.sg_psk.specs.Pairs.{is_with, pair_with}
 use Rattle.sg_psk.specs.Sending.{Sent, own_map, sent_of, sent_under}
 use Rattle.sg_psk.specs.Stamps.{stamp_of}
-use Rattle.sg_psk.specs.declared.pairs.Pair.{Pair}
 use Rattle.sg_sdes.specs.Answers.{chosen_of, offered_by, or_next}
 use Rattle.sg_sdes.specs.CryptoOf.{crypto_of}
-use Rattle.sg_sdes.specs.declared.lines.CryptoLine.{CryptoLine}
 use Rattle.sg_sdp.specs.Addresses.{first_address}
 use Rattle.sg_sdp.specs.Carrying.{carried, carried_lines}
-use Rattle.sg_sdp.specs.Reading.{description_of}
 use Rattle.sg_sdp.specs.declared.medium.Medium as descriptions
 use Rattle.sg_sdp.specs.declared.sdp.Sdp as sdp
-use Rattle.sg_session.proofs.Inversions.{after_ok_is, ok_is, stop_if_is}
-use Rattle.sg_session.proofs.Lists.{any_here, each_weaker}
-use Rattle.sg_session.specs.Stages.{after_ok}
+use Rattle.sg_gateway.proofs.Common.{Call, CallId, CryptoLine, Event, FromSecure, IsRefusal, IsRefused, MikeyFromPlain, Pair, Plain, Refusal, SdesFromPlain}
+use Rattle.sg_gateway.proofs.Common.{Secure, Settled, Side, Signalled, Turn, Way, World, after_ok, after_ok_is, after_turn, any_here, call_of, described_is}
+use Rattle.sg_gateway.proofs.Common.{description_of, each_active, each_weaker, if_active, is_with, none_some, of_psk, ok_is, pair_with, same_octets_true}
+use Rattle.sg_gateway.proofs.Common.{some_is, step, stop_if_is, turn_of, turns_from}
 use Rattle.sg_gateway.proofs.Sources.{first_source}
 use Rattle.sg_gateway.specs.CallSignals.{at_hand, offered_in, takes_offer}
-use Rattle.sg_gateway.specs.Generations.{Settled}
-use Rattle.sg_gateway.specs.Refusing.{IsRefusal, IsRefused}
-use Rattle.sg_gateway.specs.Runs.{Turn, after_turn, turn_of, turns_from}
 use Rattle.sg_gateway.specs.Signals.{Offered, Answer, in_new, in_old, new_call, offered_to, refused, tells_text}
-use Rattle.sg_gateway.specs.Step.{Event, Signalled, step}
 use Rattle.sg_gateway.specs.Taken.{HasOpen, IsAgreed, LaterOfferIsTaken, NewOfferIsTaken}
-use Rattle.sg_gateway.specs.World.{Call, World, call_of}
 use Rattle.sg_conduct.proofs.Carried.{AreAdded, attributes_are, lines_carried, media_carried}
 use Rattle.sg_conduct.proofs.Drawn.{sent_drawn}
 use Rattle.sg_conduct.proofs.Offers.{active_takes}

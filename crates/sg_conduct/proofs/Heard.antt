@@ -2,14 +2,11 @@
 use Rattle.std.proofs.Common.{◌≡◌, ◌⊎◌, inl, inr, ℕ, ◌+◌, ◌<◌, arith, cond, not, List, [], ◌∷◌, ◌++◌, length, Option, Some, None, refl, sym, ap, ◌∙◌, subst, append_assoc, append-nil, eqb, ltb, eq-eqb}
 use Rattle.std.proofs.lemmas.Bool.{cond-true}
 use Rattle.std.specs.List.{AllByRecursion, AllPairs, Any, filter}
-use Rattle.sg_agreement.specs.Keying.{Offer}
-use Rattle.sg_agreement.specs.Manual.{manual_medium}
 use Rattle.sg_base.specs.declared.addresses.Address.{Address}
-use Rattle.sg_base.specs.declared.addresses.CallId.{CallId}
-use Rattle.sg_outcome.specs.declared.outcomes.Outcome.{Outcome}
-use Rattle.sg_session.proofs.Lists.{any_cases, any_here, any_none, any_there, any_weaker, both, each_at_this, each_filter, each_map, each_weaker}
-use Rattle.sg_session.specs.Opening.{Taken}
-use Rattle.sg_session.specs.Session.{Session}
+use Rattle.sg_gateway.proofs.Common.{Call, CallId, Datagram, Entry, Event, IsRefusal, Octets, Offer, Outcome, Session, Signalled, Taken, Turn, World}
+use Rattle.sg_gateway.proofs.Common.{and_call, any_cases, any_here, any_none, any_there, any_weaker, both, call_after, call_at, call_at_tick, call_of}
+use Rattle.sg_gateway.proofs.Common.{drops_earlier, each_at_this, each_filter, each_map, each_weaker, empty, given_to, has_port, is_idle, manual_medium}
+use Rattle.sg_gateway.proofs.Common.{named, put, same_id, step, turn_of, turns_from, with_call, without_call, without_earlier, world_after}
 use Rattle.sg_gateway.proofs.Arrivals.{Is}
 use Rattle.sg_gateway.proofs.ByTexts.{same_call_id}
 use Rattle.sg_gateway.proofs.CarriedOut.{any_mapped}
@@ -17,18 +14,9 @@ use Rattle.sg_gateway.proofs.Datagrams.{Apart, at_event, empty_kept}
 use Rattle.sg_gateway.proofs.Kept.{CallKept, IsKept, SessionKept}
 use Rattle.sg_gateway.proofs.Reached.{Anything, anything_had, anything_on}
 use Rattle.sg_gateway.proofs.Signals.{each_and_call, each_with_call, found, is_found}
-use Rattle.sg_gateway.proofs.StepCases.{each_datagram, each_signal, offered_by, manual_call, renewed_by}
-use Rattle.sg_gateway.specs.CallSignals.{call_at_tick, drops_earlier, is_idle, without_earlier}
-use Rattle.sg_gateway.specs.Datagrams.{Entry, call_after, given_to, put}
-use Rattle.sg_gateway.specs.Early.{named}
+use Rattle.sg_gateway.proofs.StepCases.{each_datagram, each_signal, settled_offer, manual_call, renewed_by}
 use Rattle.sg_gateway.specs.Lasting.{IsAnsweredIn, IsManualIn}
-use Rattle.sg_gateway.specs.Octets.{Octets}
-use Rattle.sg_gateway.specs.Ports.{call_at, has_port}
-use Rattle.sg_gateway.specs.Refusing.{IsRefusal}
-use Rattle.sg_gateway.specs.Runs.{Turn, turn_of, turns_from, world_after}
 use Rattle.sg_gateway.specs.Signals.{Signal, Answered, Answer, answer_to, new_call}
-use Rattle.sg_gateway.specs.Step.{Event, Signalled, Datagram, step}
-use Rattle.sg_gateway.specs.World.{Call, World, and_call, call_of, empty, same_id, with_call, without_call}
 use Rattle.sg_gateway.proofs.Lists.{any_first, any_last}
 use Rattle.sg_conduct.specs.Heard.{IsHeardIn, IsRenewedIn}
 
@@ -151,11 +139,11 @@ module _ (ts : List Turn) (w : World) (heard : AllHeard ts w) (signal : Signal) 
           inr (renewed_now _ same d refl (any_new _ d w.calls (refl, refl)) (inr (h, refl, ap (λ s. Signalled s) (sym this), none))),
         ) still;
     begins = λ id way noise text none room a agreed this same.
-        let d : Call = (offered_by w.moment w.books (new_call w id) a).call in
+        let d : Call = (settled_offer w.moment w.books (new_call w id) a).call in
         each_and_call (WasHeard Now) d w.calls
         (goes_on _ same (new_call w id) d (goes w.moment (new_call w id) a.media (Some a.offer)) (inl refl) (ap named (sym this)) (no_refusals _ _ (λ no. no) (λ no. no)) (any_new _ d w.calls refl)) still;
     offers = λ id way noise text c at a agreed this same.
-        let d : Call = (offered_by w.moment w.books c a).call in
+        let d : Call = (settled_offer w.moment w.books c a).call in
         each_with_call (WasHeard Now) d w.calls
         (goes_on _ same c d (goes w.moment c a.media (Some a.offer)) (of_found id c at).1 (names _ this id c refl at) (no_refusal _ (λ no. no)) (any_put _ c d w.calls refl refl (is_found _ w.calls c at))) still;
     answers = λ id noise text c at o is_open g agreed ring is this same.

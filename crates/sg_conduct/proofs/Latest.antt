@@ -2,14 +2,11 @@
 use Rattle.std.proofs.Common.{◌≡◌, ◌⊎◌, inl, inr, ℕ, ◌≤◌, Bool, true, false, cond, not, List, [], ◌∷◌, ◌++◌, map, Option, Some, None, refl, sym, ap, ◌∙◌, subst, arith, append_assoc, append-nil, eqb, eq-eqb}
 use Rattle.std.proofs.lemmas.Bool.{false≢true}
 use Rattle.std.specs.List.{AllByRecursion, Any, filter}
-use Rattle.sg_base.proofs.Cases.{none_some, some_is}
 use Rattle.sg_base.specs.declared.addresses.Address.{Address}
-use Rattle.sg_base.specs.declared.addresses.CallId.{CallId}
-use Rattle.sg_base.specs.declared.faults.DropCause.{DropCause}
-use Rattle.sg_base.specs.declared.faults.Refusal.{Refusal}
-use Rattle.sg_session.proofs.Lists.{any_cases, any_here, any_none, both, each_append, each_at_this, each_filter, each_map, each_weaker}
-use Rattle.sg_session.specs.Opening.{Taken}
-use Rattle.sg_session.specs.Session.{Session}
+use Rattle.sg_gateway.proofs.Common.{Answer, Call, CallId, Datagram, DropCause, Event, IsBefore, IsRefusal, Octets, Refusal, Session, Signal, Signalled}
+use Rattle.sg_gateway.proofs.Common.{Taken, Turn, World, after_turn, and_call, answer_to, any_cases, any_here, any_none, both, call_at, call_at_tick, call_of}
+use Rattle.sg_gateway.proofs.Common.{drops_earlier, each_append, each_at_this, each_filter, each_map, each_weaker, has_port, is_idle, named, none_some}
+use Rattle.sg_gateway.proofs.Common.{refused, same_id, some_is, step, turn_of, turns_from, with_call, without_call, without_earlier, world_after}
 use Rattle.sg_gateway.proofs.Arrivals.{Is, kept_by}
 use Rattle.sg_gateway.proofs.ByTexts.{same_call_id}
 use Rattle.sg_gateway.proofs.Kept.{CallKept, IsKept, SessionKept}
@@ -20,17 +17,7 @@ use Rattle.sg_gateway.proofs.Rested.{arrived_moment}
 use Rattle.sg_gateway.proofs.Signals.{each_and_call, found, is_found}
 use Rattle.sg_gateway.proofs.StepCases.{each_datagram, each_signal}
 use Rattle.sg_gateway.proofs.Taken.{same_id_itself}
-use Rattle.sg_gateway.specs.CallSignals.{call_at_tick, drops_earlier, is_idle, without_earlier}
 use Rattle.sg_gateway.specs.Datagrams.{Entry, call_after, given_to, put, Happening, dropped}
-use Rattle.sg_gateway.specs.Early.{named}
-use Rattle.sg_gateway.specs.Octets.{Octets}
-use Rattle.sg_gateway.specs.Order.{IsBefore}
-use Rattle.sg_gateway.specs.Ports.{call_at, has_port}
-use Rattle.sg_gateway.specs.Refusing.{IsRefusal}
-use Rattle.sg_gateway.specs.Runs.{Turn, after_turn, turn_of, turns_from, world_after}
-use Rattle.sg_gateway.specs.Signals.{Signal, Answer, answer_to, refused}
-use Rattle.sg_gateway.specs.Step.{Event, Signalled, Datagram, step}
-use Rattle.sg_gateway.specs.World.{Call, World, and_call, call_of, same_id, with_call, without_call}
 use Rattle.sg_gateway.proofs.Lists.{each_of_list}
 use Rattle.sg_conduct.specs.Heard.{Hears, IsLatest, IsNamedIn}
 

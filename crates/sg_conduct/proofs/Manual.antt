@@ -4,19 +4,11 @@ use Rattle.std.proofs.lemmas.Bool.{and_from, and_parts, cond-false, false_from_n
 use Rattle.std.specs.List.{AllByRecursion}
 use Rattle.std.specs.Prelude.{◌&&◌, not}
 use Rattle.sg_agreement.specs.Generations.{Generation, generation_of, sessions_from}
-use Rattle.sg_agreement.specs.Manual.{ManualCall, manual_medium}
-use Rattle.sg_base.proofs.SameOctets.{same_octets_is}
-use Rattle.sg_base.specs.Keys.{Master}
-use Rattle.sg_base.specs.Octets.{same_octets}
 use Rattle.sg_base.specs.Suites.{is_raw}
-use Rattle.sg_base.specs.declared.addresses.Kind.TheVariants.{Rtp, Rtcp}
-use Rattle.sg_base.specs.declared.faults.Refusal.{Refusal}
 use Rattle.sg_base.specs.declared.faults.Refusal.TheVariants.{KeyReused, RingFull}
 use Rattle.sg_session.specs.Ring.{Installed, derived, first_clash_by, install, key_of, keys_clash, same_secret, with_key_by, with_keys_by}
-use Rattle.sg_session.specs.Session.{Session}
 use Rattle.sg_session.specs.Stages.{after_ok, stop_if}
-use Rattle.sg_session.specs.declared.names.Direction.TheVariants.{Opening, Sealing}
-use Rattle.sg_gateway.specs.Runs.{Turn}
+use Rattle.sg_gateway.proofs.Common.{ManualCall, Master, Opening, Refusal, Rtcp, Rtp, Sealing, Session, Turn, manual_medium, same_octets, same_octets_is}
 use Rattle.sg_gateway.specs.Taken.{ManualCallIsTaken}
 use Rattle.sg_conduct.specs.Manual.{AreApart, AreByLine, AreFree, HasControl, IsApartInItself, ManualIsTaken, session_by}
 

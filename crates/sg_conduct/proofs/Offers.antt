@@ -6,40 +6,25 @@ use Rattle.std.specs.Option.{is_none, is_some}
 use Rattle.sg_agreement.proofs.TextLines.{has_none, no_message}
 use Rattle.sg_agreement.specs.Attributes.{behind, crypto_values, has_message, mikey_value, ssrcs_of}
 use Rattle.sg_agreement.specs.Described.{described, is_other_count, lacks_address, of_text, unaddressed, with_addresses}
-use Rattle.sg_agreement.specs.EachMedium.{each_active, if_active}
 use Rattle.sg_agreement.specs.Keying.{Keying, PeerLines, OwnLines, PeerMessage, PeerMessages, OwnMessage}
 use Rattle.sg_agreement.specs.Messages.{AtHand, bundle_in}
 use Rattle.sg_agreement.specs.Offers.{AgreedOffer, accepted_offer, agreed_offer, chosen_in, keying_by_messages, keying_of, noise_of}
-use Rattle.sg_agreement.specs.Refusals.{of_psk, of_sdes}
 use Rattle.sg_agreement.specs.Sides.{active_count, is_active, is_of_side, other_side, side_of}
 use Rattle.sg_agreement.specs.TextLines.{HasLine}
-use Rattle.sg_agreement.specs.declared.ways.Way.{Way}
-use Rattle.sg_agreement.specs.declared.ways.Way.TheVariants.{FromSecure, SdesFromPlain, MikeyFromPlain}
-use Rattle.sg_base.proofs.Cases.{none_some, some_is}
-use Rattle.sg_base.proofs.SameOctets.{same_octets_true}
-use Rattle.sg_base.specs.declared.addresses.CallId.{CallId}
-use Rattle.sg_base.specs.declared.addresses.Side.{Side}
-use Rattle.sg_base.specs.declared.addresses.Side.TheVariants.{Secure, Plain}
-use Rattle.sg_base.specs.declared.faults.Refusal.{Refusal}
 use Rattle.sg_base.specs.declared.faults.SdesFault.{SdesFault}
 use Rattle.sg_outcome.specs.declared.outcomes.Outcome.TheVariants as outcomes
-use Rattle.sg_psk.specs.Pairs.{is_with, pair_with}
 use Rattle.sg_psk.specs.Sending.{Sent, sent_of, sent_under}
-use Rattle.sg_psk.specs.declared.pairs.Pair.{Pair}
 use Rattle.sg_sdes.specs.Answers.{chosen_of, offered_by, or_next}
 use Rattle.sg_sdes.specs.CryptoOf.{crypto_of}
-use Rattle.sg_sdes.specs.declared.lines.CryptoLine.{CryptoLine}
 use Rattle.sg_sdp.specs.declared.medium.Medium as descriptions
-use Rattle.sg_sdp.specs.declared.medium.Profile.{Profile}
 use Rattle.sg_sdp.specs.declared.medium.Profile.TheVariants.{Avp, Savp, Avpf, Savpf, Other}
 use Rattle.sg_sdp.specs.declared.sdp.Sdp.{Sdp}
 use Rattle.sg_session.proofs.Inversions.{after_ok_of, stop_if_of}
-use Rattle.sg_session.proofs.Lists.{any_cases, any_none, any_weaker, each_of}
+use Rattle.sg_gateway.proofs.Common.{Books, Call, CallId, CryptoLine, FromSecure, MikeyFromPlain, Pair, Plain, Profile, Refusal, SdesFromPlain, Secure, Side}
+use Rattle.sg_gateway.proofs.Common.{Turn, Way, World, after_turn, any_cases, any_none, any_weaker, each_active, each_of, if_active, is_with, new_call}
+use Rattle.sg_gateway.proofs.Common.{none_some, of_psk, of_sdes, pair_with, same_octets_true, some_is}
 use Rattle.sg_gateway.specs.CallSignals.{at_hand, has_begun, media_of}
-use Rattle.sg_gateway.specs.Runs.{Turn, after_turn}
-use Rattle.sg_gateway.specs.Signals.{new_call}
 use Rattle.sg_gateway.specs.Taken.{HasOpen, LaterOfferIsTaken, NewOfferIsTaken}
-use Rattle.sg_gateway.specs.World.{Books, Call, World}
 use Rattle.sg_conduct.proofs.Acceptable.{bundle_given, value_is}
 use Rattle.sg_conduct.proofs.Present.{takes_active}
 use Rattle.sg_conduct.specs.Offers.{CanBeKeyed, Describes, HasLines, HasOwnMessages, IsAcceptable, IsOpen, OfferIsTaken}

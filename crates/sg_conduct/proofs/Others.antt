@@ -2,18 +2,14 @@
 use Rattle.std.proofs.Common.{◌≡◌, inl, inr, ℕ, Bool, true, false, cond, not, List, [], ◌∷◌, Some, refl, sym, ap, ◌∙◌, subst, eqb, ltb}
 use Rattle.std.proofs.lemmas.Bool.{cond-false, cond-true, ne_eqb}
 use Rattle.std.specs.List.{Any, filter}
-use Rattle.sg_base.specs.declared.addresses.CallId.{CallId}
-use Rattle.sg_session.proofs.Lists.{any_cases, any_here, any_none, any_there, both, each_at_this}
+use Rattle.sg_gateway.proofs.Common.{Call, CallId, IsBefore, Signal, Tick, World, and_call, answer_to, any_cases, any_here, any_none, any_there, both}
+use Rattle.sg_gateway.proofs.Common.{call_of, each_at_this, named, with_call, without_call}
 use Rattle.sg_gateway.proofs.ByTexts.{same_call_id}
 use Rattle.sg_gateway.proofs.CarriedOut.{any_mapped}
 use Rattle.sg_gateway.proofs.Ordered.{one_serial}
 use Rattle.sg_gateway.proofs.Pairs.{Pairs}
 use Rattle.sg_gateway.proofs.Signals.{is_found}
 use Rattle.sg_gateway.proofs.StepCases.{each_signal}
-use Rattle.sg_gateway.specs.Early.{named}
-use Rattle.sg_gateway.specs.Order.{IsBefore}
-use Rattle.sg_gateway.specs.Signals.{Signal, Tick, answer_to}
-use Rattle.sg_gateway.specs.World.{Call, World, and_call, call_of, with_call, without_call}
 
 any_and_call : (P : Call → Type 0) (d : Call) (cs : List Call) → Any P cs → Any P (and_call d cs)
 any_and_call P d [] a = absurd (any_none P a)

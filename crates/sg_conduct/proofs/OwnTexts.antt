@@ -2,22 +2,14 @@
 use Rattle.std.proofs.Common.{◌≡◌, ◌⊎◌, inl, inr, ℕ, suc, ◌+◌, ◌<◌, Bool, true, false, cond, not, List, [], ◌∷◌, ◌++◌, length, map, codes, Option, Some, None, Ok, refl, sym, ap, ◌∙◌, subst, arith}
 use Rattle.std.specs.Prelude.{filter, nat_eq}
 use Rattle.std.specs.List.{AllByRecursion, flat_map, starts_with}
-use Rattle.sg_base.specs.declared.addresses.Side.{Side}
-use Rattle.sg_base.specs.declared.addresses.Side.TheVariants.{Secure, Plain}
-use Rattle.sg_csmap.specs.declared.sessions.StreamKeys.{StreamKeys}
 use Rattle.sg_psk.specs.Accepting.{Accepted}
 use Rattle.sg_psk.specs.Sending.{initial_octets}
-use Rattle.sg_sdes.specs.declared.lines.CryptoLine.{CryptoLine}
 use Rattle.sg_sdp.specs.Addresses.{first_address, with_address}
 use Rattle.sg_sdp.specs.Carrying.{carried, carried_line, carried_lines, carried_media, carried_medium, is_one_sided}
 use Rattle.sg_sdp.specs.Descriptions.{IsKept, IsMedium, IsSdp, medium_line, medium_lines}
 use Rattle.sg_sdp.specs.LineForm.{is_letter}
-use Rattle.sg_sdp.specs.Reading.{description_of}
 use Rattle.sg_sdp.specs.declared.medium.Medium as descriptions
-use Rattle.sg_sdp.specs.declared.medium.Profile.{Profile}
 use Rattle.sg_sdp.specs.declared.sdp.Sdp.{Sdp}
-use Rattle.sg_session.proofs.Inversions.{after_ok_is, ok_is}
-use Rattle.sg_session.proofs.Lists.{each_append, each_weaker}
 use Rattle.sg_agreement.proofs.FewMedia.{described_count, described_is}
 use Rattle.sg_agreement.proofs.KeyedSound.{Sometimes}
 use Rattle.sg_agreement.proofs.Sound.{each_kept_is}
@@ -26,22 +18,19 @@ use Rattle.sg_agreement.specs.Answers.{Answered, answered_by, AgreedAnswer, acce
 use Rattle.sg_agreement.specs.Attributes.{crypto_values, first_of, mikey_value}
 use Rattle.sg_agreement.specs.CarriedTexts.{Added, carried_text, crypto_attribute, exchanged, mikey_attribute, ports_from, rtp_port, with_added, with_media_lines}
 use Rattle.sg_agreement.specs.Described.{described}
-use Rattle.sg_agreement.specs.EachMedium.{each_kept}
-use Rattle.sg_agreement.specs.Keyed.{Keyed}
 use Rattle.sg_agreement.specs.Keying.{Keying, PeerLines, OwnLines, PeerMessage, PeerMessages, OwnMessage, Offer, added_by, attributes_of}
 use Rattle.sg_agreement.specs.LineAnswers.{keyed_by_matched, keyed_by_own_lines, keyed_by_peer_line, lines_matched}
 use Rattle.sg_agreement.specs.MessageAnswers.{keyed_as_initiator, keyed_as_responder, keyed_by_message, over_active, own_streams, streams_answered}
-use Rattle.sg_agreement.specs.Messages.{AtHand}
 use Rattle.sg_agreement.specs.Offers.{AgreedOffer, agreed_offer, keying_of}
-use Rattle.sg_agreement.specs.Refusals.{of_sdes}
 use Rattle.sg_agreement.specs.Sides.{active_count, actives, actives_after, other_side, side_of}
-use Rattle.sg_agreement.specs.declared.ways.Way.{Way}
 use Rattle.sg_agreement.proofs.OneLines.{one_append}
 use Rattle.base64.specs.Engines.{standard}
 use Rattle.base64.specs.GeneralPurpose.{encode_of}
 use Rattle.sg_sdes.specs.CryptoText.{crypto_text}
 use Rattle.sg_conduct.proofs.Printed.{AreAttributes, IsAttribute, Laws, base64_one, crypto_one, test_one, told_read}
 use Rattle.sg_conduct.specs.ToldTexts.{HaveOwnPorts, IsOwnText, NamesGateway, port_towards}
+use Rattle.sg_gateway.proofs.Common.{AtHand, CryptoLine, Keyed, Plain, Profile, Secure, Side, StreamKeys, Way, after_ok_is, description_of, each_append}
+use Rattle.sg_gateway.proofs.Common.{each_kept, each_weaker, of_sdes, ok_is}
 
 -- ---- lines
 

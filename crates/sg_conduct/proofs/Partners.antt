@@ -4,32 +4,18 @@ use Rattle.std.proofs.lemmas.Bool.{and_parts, ltb-true}
 use Rattle.std.specs.List.{AllByRecursion}
 use Rattle.std.specs.Option.{is_some, option_map}
 use Rattle.sg_agreement.specs.Answers.{AgreedAnswer, agreed_answer}
-use Rattle.sg_agreement.specs.Generations.{sessions_from, stream_session, stream_sessions}
-use Rattle.sg_agreement.specs.Keyed.{Keyed, media_agreed, medium_agreed}
-use Rattle.sg_agreement.specs.Keying.{Offer}
-use Rattle.sg_agreement.specs.Media.{Medium, Stream}
-use Rattle.sg_agreement.specs.Sides.{is_active, other_side}
 use Rattle.sg_agreement.specs.Sound.{AreAgreedWhereActive}
-use Rattle.sg_base.proofs.Cases.{some_is}
-use Rattle.sg_base.specs.declared.addresses.CallId.{CallId}
-use Rattle.sg_base.specs.declared.addresses.Kind.TheVariants.{Rtcp}
-use Rattle.sg_base.specs.declared.addresses.Side.{Side}
-use Rattle.sg_base.specs.declared.addresses.Side.TheVariants.{Secure, Plain}
-use Rattle.sg_sdp.specs.Reading.{description_of}
 use Rattle.sg_sdp.specs.declared.medium.Medium as descriptions
 use Rattle.sg_sdp.specs.declared.sdp.Sdp.{Sdp}
-use Rattle.sg_session.proofs.Inversions.{ok_is}
-use Rattle.sg_session.proofs.Lists.{each_weaker}
-use Rattle.sg_session.specs.Session.{Key, Session}
-use Rattle.sg_session.specs.declared.names.Owner.{Owner}
+use Rattle.sg_gateway.proofs.Common.{Call, CallId, IsMediumAt, Key, Keyed, Medium, Offer, Owner, Plain, Rtcp, Secure, Session, Side, Stream, World, call_of}
+use Rattle.sg_gateway.proofs.Common.{description_of, each_weaker, is_active, media_agreed, medium_agreed, ok_is, other_side, same_id, sessions_from, some_is}
+use Rattle.sg_gateway.proofs.Common.{stream_session, stream_sessions}
 use Rattle.sg_gateway.proofs.Addressed.{HoldsFrom, OfEach, answered_now, each_from}
 use Rattle.sg_gateway.proofs.Agreements.{Agreements}
 use Rattle.sg_gateway.proofs.CarriedOut.{of_generation}
 use Rattle.sg_gateway.proofs.Kept.{IsOffered, WasOffered}
 use Rattle.sg_gateway.proofs.Signals.{found}
-use Rattle.sg_gateway.specs.Addressed.{IsMediumAt}
 use Rattle.sg_gateway.specs.Signals.{Answered, answer_to, answered}
-use Rattle.sg_gateway.specs.World.{Call, World, call_of, same_id}
 use Rattle.sg_conduct.proofs.Offers.{active_takes}
 use Rattle.sg_conduct.proofs.Present.{agreement_is}
 use Rattle.sg_conduct.specs.Present.{IsOfPartners, TakesPart}

@@ -3,20 +3,17 @@ use Rattle.std.proofs.Common.{◌≡◌, inl, inr, ℕ, ◌+◌, ◌≤◌, Bool
 use Rattle.std.proofs.lemmas.Bool.{eq-eqb, eqb-false, lt-ltb, ltb-true, or_parts}
 use Rattle.std.specs.List.{AllByRecursion, Any}
 use Rattle.std.specs.Prelude.{◌||◌}
-use Rattle.sg_base.specs.declared.addresses.Kind.{Kind}
-use Rattle.sg_base.specs.declared.addresses.Kind.TheVariants.{Rtp, Rtcp}
 use Rattle.sg_base.specs.declared.sources.Admit.{Admit}
 use Rattle.sg_base.specs.declared.sources.Admit.TheVariants as admit
+use Rattle.sg_gateway.proofs.Common.{Call, Kind, Rtcp, Rtp, Turn, World}
 use Rattle.sg_gateway.proofs.Newness.{live_is, new_is_fresh}
 use Rattle.sg_gateway.specs.Departing as departing
 use Rattle.sg_gateway.specs.Newness.{ArrivesNew, IsAdmittedBy}
-use Rattle.sg_gateway.specs.World.{Call, World}
 use Rattle.sg_replay.specs.Freshness.{is_in}
 use Rattle.sg_session.proofs.Lists.{any_append, any_cases, any_here, any_last, any_none, any_there, any_weaker, both, each_append}
 use Rattle.sg_session.specs.Reach.{IsFree, Sealed}
 use Rattle.sg_session.specs.Session.{Done, Key, Session, has_room, is_admitted, source_with, sources, sources_from}
 use Rattle.sg_base.specs.declared.addresses.Address.{Address}
-use Rattle.sg_gateway.specs.Runs.{Turn}
 use Rattle.sg_conduct.specs.Place.{ArrivesWithinReach, DepartsWithinReach, HasPlace, IsFreeIn, IsSealedUnder}
 
 -- ---- what is in the list of sources

@@ -3,35 +3,21 @@ use Rattle.std.proofs.Common.{◌≡◌, inl, inr, ℕ, zero, suc, ◌+◌, ◌<
 use Rattle.std.proofs.lemmas.Bool.{and_from, false≢true, lt-ltb, ne_eqb}
 use Rattle.std.specs.List.{AllByRecursion, filter}
 use Rattle.std.specs.Option.{is_some, option_map}
-use Rattle.sg_agreement.proofs.FewMedia.{described_is}
 use Rattle.sg_agreement.specs.Answers.{AgreedAnswer, accepted_answer, agreed_answer, answered_by}
 use Rattle.sg_agreement.specs.Described.{described}
-use Rattle.sg_agreement.specs.Generations.{numbered, owner_at, sessions_from, stream_session, stream_sessions}
-use Rattle.sg_agreement.specs.Keyed.{Keyed, medium_agreed, media_agreed}
-use Rattle.sg_agreement.specs.Keying.{Offer}
-use Rattle.sg_agreement.specs.Media.{Medium, Stream}
 use Rattle.sg_agreement.specs.Sides.{actives_after, is_active, is_of_side, other_side}
 use Rattle.sg_agreement.specs.Sound.{AreAgreedWhereActive}
-use Rattle.sg_base.specs.declared.addresses.CallId.{CallId}
-use Rattle.sg_base.specs.declared.addresses.Kind.TheVariants.{Rtp, Rtcp}
-use Rattle.sg_base.specs.declared.addresses.Side.{Side}
-use Rattle.sg_base.specs.declared.addresses.Side.TheVariants.{Secure, Plain}
-use Rattle.sg_sdp.specs.Reading.{description_of}
 use Rattle.sg_sdp.specs.declared.medium.Medium as descriptions
 use Rattle.sg_sdp.specs.declared.sdp.Sdp.{Sdp}
-use Rattle.sg_session.proofs.Inversions.{after_ok_is, ok_is}
-use Rattle.sg_session.proofs.Lists.{any_here, any_there}
-use Rattle.sg_session.specs.Session.{Key, Session}
-use Rattle.sg_session.specs.declared.names.Direction.{Direction}
-use Rattle.sg_session.specs.declared.names.Direction.TheVariants.{Opening, Sealing}
+use Rattle.sg_gateway.proofs.Common.{Call, CallId, Direction, IsMediumAt, Key, Keyed, Medium, Offer, Opening, Plain, Rtcp, Rtp, Sealing, Secure, Session}
+use Rattle.sg_gateway.proofs.Common.{Side, Stream, World, after_ok_is, any_here, any_there, call_of, described_is, description_of, media_agreed}
+use Rattle.sg_gateway.proofs.Common.{medium_agreed, numbered, ok_is, owner_at, same_id, sessions_from, stream_session, stream_sessions}
 use Rattle.sg_gateway.proofs.Addressed.{IsAnswered, answered_now}
 use Rattle.sg_gateway.proofs.Agreements.{Agreements}
 use Rattle.sg_gateway.proofs.CarriedOut.{stays}
 use Rattle.sg_gateway.proofs.Kept.{IsOffered, WasOffered}
 use Rattle.sg_gateway.proofs.Signals.{found}
-use Rattle.sg_gateway.specs.Addressed.{IsMediumAt}
 use Rattle.sg_gateway.specs.Signals.{Answered, answer_to, answered}
-use Rattle.sg_gateway.specs.World.{Call, World, call_of, same_id}
 use Rattle.sg_gateway.proofs.Lists.{any_first, any_second}
 use Rattle.sg_conduct.specs.Present.{HasProfileOf, HasSession, HasSessions, TakesPart}
 

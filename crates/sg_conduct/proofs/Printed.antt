@@ -13,25 +13,20 @@ use Rattle.sg_base.proofs.SuiteLemmas.{lacks_test}
 use Rattle.sg_base.specs.Fields.{Lacks}
 use Rattle.sg_base.specs.Mkis.{MkiValue}
 use Rattle.sg_base.specs.SuiteNames.{suite_name}
-use Rattle.sg_base.specs.declared.addresses.Side.{Side}
-use Rattle.sg_base.specs.declared.addresses.Side.TheVariants.{Secure, Plain}
 use Rattle.sg_base.specs.declared.suites.Suite.{Suite}
 use Rattle.sg_base.specs.declared.suites.Suite.TheVariants.{Raw80, Cm128Tag80, Cm128Tag32, Cm192Tag80, Cm192Tag32, Cm256Tag80, Cm256Tag32}
 use Rattle.sg_sdes.specs.CryptoText.{crypto_text, crypto_words, inline_text, keys_text, lifetime_text, mark_words, mki_text, plain_rtcp_words, plain_rtp_words, window_words}
-use Rattle.sg_sdes.specs.declared.lines.CryptoLine.{CryptoLine}
 use Rattle.sg_sdes.specs.declared.lines.InlineKey.{InlineKey}
 use Rattle.sg_sdp.specs.Addresses.{address_in, first_address, medium_address}
 use Rattle.sg_sdp.specs.Carrying.{carried}
 use Rattle.sg_sdp.specs.Descriptions.{HasPrefix, IsAddressed, IsKept, IsMedium, IsSdp, IsWithinLimits, all_lines, medium_lines, spelling}
 use Rattle.sg_sdp.specs.LineForm.{has_form, is_inner}
-use Rattle.sg_sdp.specs.Reading.{description_of}
 use Rattle.sg_sdp.specs.declared.medium.Medium as descriptions
-use Rattle.sg_sdp.specs.declared.medium.Profile.{Profile}
 use Rattle.sg_sdp.specs.declared.sdp.Sdp.{Sdp}
-use Rattle.sg_session.proofs.Lists.{each_append, each_weaker}
 use Rattle.sg_agreement.proofs.OneLines.{decimal_one, one_append, one_more, one_of}
 use Rattle.sg_agreement.specs.CarriedTexts.{Added, IsOneLine, ports_from, rtp_port, with_added, with_media_lines}
 use Rattle.sg_conduct.specs.ToldTexts.{IsReadable}
+use Rattle.sg_gateway.proofs.Common.{CryptoLine, Plain, Profile, Secure, Side, description_of, each_append, each_weaker}
 
 -- ---- base64 has no line end
 

@@ -3,27 +3,21 @@ use Rattle.std.proofs.Common.{◌≡◌, ℕ, zero, suc, ◌+◌, ◌-◌, ◌/�
 use Rattle.std.proofs.lemmas.Bool.{ltb-false, leb-true, leb-false}
 use Rattle.std.proofs.lemmas.List.{length-take-le, length-drop, take-append-drop, take-take, drop-drop}
 use Rattle.std.specs.List.{AllByRecursion}
-use Rattle.sg_base.proofs.SameOctets.{same_octets_is}
 use Rattle.sg_base.specs.Octets.{be, number_of}
-use Rattle.sg_base.specs.declared.addresses.Kind.{Kind}
-use Rattle.sg_base.specs.declared.addresses.Kind.TheVariants.{Rtp, Rtcp}
 use Rattle.sg_base.specs.declared.faults.DropCause.TheVariants as cause
 use Rattle.sg_base.specs.declared.faults.HeadFault.{HeadFault}
 use Rattle.sg_base.specs.declared.keys.HalfKeys.{HalfKeys}
 use Rattle.sg_hmac.specs.Hmac.{hmac_sha1}
-use Rattle.sg_kdf.specs.SessionKeys.{session_keys}
 use Rattle.sg_rtp.specs.Heads.{rtp_head, rtcp_head}
 use Rattle.sg_rtp.specs.declared.heads.RtcpHead.{RtcpHead}
 use Rattle.sg_rtp.specs.declared.heads.RtpHead.{RtpHead}
-use Rattle.sg_session.proofs.Inversions.{after_ok_is, ok_is, stop_if_is}
 use Rattle.sg_session.proofs.Leaves.{rtcp_size, rtp_size, rtp_stays}
 use Rattle.sg_session.proofs.Taking.{IsCheckOf, IsOpened, checked_is, fresh_index_is, opens_is}
 use Rattle.sg_session.proofs.Texts.{crypted_twice, take-crypted}
-use Rattle.sg_session.specs.Halves.{half_of}
 use Rattle.sg_session.specs.Opening.{Check, Head, Taken, before_mki, checked, covered, covered_of_kind, end_len, fresh_index, half_in, head_in, head_of_kind, index_word_in, key_with, mki_in, mki_len, of_rtcp, of_rtp, opens, packet_of, packet_part, part_of_kind, place_in, place_of_kind, tag_fits, tag_in}
 use Rattle.sg_session.specs.Reach.{HasTags, IsSound, Sealed, text_in}
 use Rattle.sg_session.specs.Sealed.{crypted, head_size, index_word, size_of, tagged_rtcp, tagged_rtp}
-use Rattle.sg_session.specs.Session.{Session}
+use Rattle.sg_gateway.proofs.Common.{Kind, Rtcp, Rtp, Session, after_ok_is, half_of, ok_is, same_octets_is, session_keys, stop_if_is}
 
 -- ---- numbers in four octets
 

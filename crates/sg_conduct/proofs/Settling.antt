@@ -2,12 +2,8 @@
 use Rattle.std.proofs.Common.{◌≡◌, ◌⊎◌, inl, inr, ℕ, List, [], ◌∷◌, Option, Some, None, refl, sym, subst}
 use Rattle.sg_base.specs.declared.addresses.Address.{Address}
 use Rattle.sg_base.specs.declared.faults.DropCause.TheVariants.{PortUnused}
+use Rattle.sg_gateway.proofs.Common.{Call, Datagram, Event, Octets, Turn, World, call_at, step, turn_of, turns_from}
 use Rattle.sg_gateway.specs.Datagrams.{Drops, Given, Puts, arrived_at, arrived_in, given_to}
-use Rattle.sg_gateway.specs.Octets.{Octets}
-use Rattle.sg_gateway.specs.Ports.{call_at}
-use Rattle.sg_gateway.specs.Runs.{Turn, turn_of, turns_from}
-use Rattle.sg_gateway.specs.Step.{Event, Datagram, step}
-use Rattle.sg_gateway.specs.World.{Call, World}
 use Rattle.std.specs.List.{AllByRecursion}
 use Rattle.sg_conduct.specs.Settled.{DatagramIsSettled, IsDropped, IsOneOut}
 

@@ -2,9 +2,8 @@
 use Rattle.std.proofs.Common.{◌≡◌, ℕ, Bool, true, false, cond, List, Some, refl, sym, ap, ◌∙◌, subst, arith, eqb, eqb-true}
 use Rattle.std.specs.List.{AllByRecursion, Any}
 use Rattle.sg_base.specs.declared.addresses.Address.{Address}
-use Rattle.sg_session.proofs.Lists.{any_weaker, both, each_at_this}
-use Rattle.sg_session.specs.Opening.{Taken}
-use Rattle.sg_session.specs.Session.{Session, same_name, with_done}
+use Rattle.sg_gateway.proofs.Common.{Call, Datagram, Entry, Event, IsBefore, Octets, Session, Signal, Signalled, Taken, World, answer_to, any_weaker, both}
+use Rattle.sg_gateway.proofs.Common.{call_after, call_at, each_at_this, given_to, has_port, put, same_name, step, with_call, with_done, without_call}
 use Rattle.sg_gateway.proofs.CarriedOut.{any_mapped}
 use Rattle.sg_gateway.proofs.Kept.{CallKept, IsKept, SessionKept}
 use Rattle.sg_gateway.proofs.Ordered.{one_serial}
@@ -12,13 +11,6 @@ use Rattle.sg_gateway.proofs.Pairs.{Pairs}
 use Rattle.sg_gateway.proofs.Reached.{Anything}
 use Rattle.sg_gateway.proofs.Signals.{is_found}
 use Rattle.sg_gateway.proofs.StepCases.{each_datagram, each_signal}
-use Rattle.sg_gateway.specs.Datagrams.{Entry, call_after, given_to, put}
-use Rattle.sg_gateway.specs.Octets.{Octets}
-use Rattle.sg_gateway.specs.Order.{IsBefore}
-use Rattle.sg_gateway.specs.Ports.{call_at, has_port}
-use Rattle.sg_gateway.specs.Signals.{Signal, answer_to}
-use Rattle.sg_gateway.specs.Step.{Event, Signalled, Datagram, step}
-use Rattle.sg_gateway.specs.World.{Call, World, with_call, without_call}
 use Rattle.sg_gateway.proofs.Lists.{each_of_list}
 use Rattle.sg_conduct.proofs.Others.{goes_stays, comes_stays}
 use Rattle.sg_conduct.specs.Staying.{IsStillOpen, TakesSessions}

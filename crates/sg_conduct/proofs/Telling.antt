@@ -2,27 +2,17 @@
 use Rattle.std.proofs.Common.{◌≡◌, ◌<◌, inl, inr, ℕ, Bool, true, false, not, List, [], ◌∷◌, length, Some, refl, subst, ltb, ltb-true, arith}
 use Rattle.std.specs.List.{AllByRecursion, Any, filter}
 use Rattle.sg_agreement.proofs.Texts.{Takes}
-use Rattle.sg_agreement.specs.Keying.{Offer}
-use Rattle.sg_agreement.specs.Sides.{other_side, side_of}
 use Rattle.sg_base.specs.declared.addresses.Address.{Address}
-use Rattle.sg_base.specs.declared.addresses.CallId.{CallId}
-use Rattle.sg_base.specs.declared.addresses.Side.{Side}
-use Rattle.sg_outcome.specs.declared.outcomes.Outcome.{Outcome}
 use Rattle.sg_outcome.specs.declared.outcomes.Outcome.TheVariants.{Sdp}
 use Rattle.sg_outcome.specs.declared.outcomes.Why.TheVariants as why
-use Rattle.sg_session.proofs.Lists.{any_cases, any_none, each_map, each_of}
+use Rattle.sg_gateway.proofs.Common.{Call, CallId, Datagram, Event, Offer, Outcome, Side, Signal, Signalled, World, answer_to, any_cases, any_none}
+use Rattle.sg_gateway.proofs.Common.{arrived_at, at_hand, call_at, call_of, each_map, each_of, free_slot, is_full, is_idle, new_call, other_side, same_id}
+use Rattle.sg_gateway.proofs.Common.{side_of, tells_ended, turn_of}
 use Rattle.sg_gateway.proofs.ByTexts.{same_call_id}
 use Rattle.sg_gateway.proofs.Ordered.{slot_low}
 use Rattle.sg_gateway.proofs.Orderly.{IsCall, OfferFits, Ordered}
 use Rattle.sg_gateway.proofs.Signals.{found, is_found}
-use Rattle.sg_gateway.proofs.StepCases.{each_datagram, each_signal, offered_by, renewed_by}
-use Rattle.sg_gateway.specs.CallSignals.{at_hand, is_idle}
-use Rattle.sg_gateway.specs.Datagrams.{arrived_at}
-use Rattle.sg_gateway.specs.Ports.{call_at}
-use Rattle.sg_gateway.specs.Runs.{turn_of}
-use Rattle.sg_gateway.specs.Signals.{Signal, answer_to, new_call, tells_ended}
-use Rattle.sg_gateway.specs.Step.{Event, Signalled, Datagram}
-use Rattle.sg_gateway.specs.World.{Call, World, call_of, free_slot, is_full, same_id}
+use Rattle.sg_gateway.proofs.StepCases.{each_datagram, each_signal, settled_offer, renewed_by}
 use Rattle.sg_conduct.proofs.Heard.{any_new, any_put}
 use Rattle.sg_conduct.proofs.OwnTexts.{answer_own, offer_own}
 use Rattle.sg_conduct.proofs.Printed.{Laws}
@@ -95,11 +85,11 @@ module _ (takes : Takes) (laws : Laws) (w : World) (ordered : Ordered w) where
     begins = λ id way noise text none room a agreed.
         let own = offer_own takes laws (at_hand w.moment w.books (new_call w id) noise) (new_low room) way text a agreed in
         and_quiet (λ i s t e. absurd cc) (and_text id (other_side (side_of way)) a.text
-        (any_new (λ c. (c.id ≡ id) × IsOwnText (other_side (side_of way)) c.slot c.media a.text) (offered_by w.moment w.books (new_call w id) a).call w.calls (refl, own)) nothing);
+        (any_new (λ c. (c.id ≡ id) × IsOwnText (other_side (side_of way)) c.slot c.media a.text) (settled_offer w.moment w.books (new_call w id) a).call w.calls (refl, own)) nothing);
     offers = λ id way noise text c at a agreed.
         let own = offer_own takes laws (at_hand w.moment w.books c noise) (low id c at) way text a agreed in
         and_text id (other_side (side_of way)) a.text
-        (any_put (λ c. (c.id ≡ id) × IsOwnText (other_side (side_of way)) c.slot c.media a.text) c (offered_by w.moment w.books c a).call w.calls refl (same_call_id id c w.calls at, own) (is_found _ w.calls c at)) nothing;
+        (any_put (λ c. (c.id ≡ id) × IsOwnText (other_side (side_of way)) c.slot c.media a.text) c (settled_offer w.moment w.books c a).call w.calls refl (same_call_id id c w.calls at, own) (is_found _ w.calls c at)) nothing;
     answers = λ id noise text c at o is_open g agreed ring is.
         let own = subst (λ n. IsOwnText o.side c.slot n g.text) (fits id c at o is_open) (answer_own takes laws c.slot (low id c at) o noise text g agreed) in
         and_text id o.side g.text

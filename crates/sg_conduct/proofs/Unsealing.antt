@@ -2,20 +2,12 @@
 use Rattle.std.proofs.Common.{◌≡◌, ℕ, List, Option, Some, None, refl, sym, subst}
 use Rattle.std.specs.List.{AllByRecursion, Any}
 use Rattle.sg_base.specs.declared.addresses.Address.{Address}
+use Rattle.sg_gateway.proofs.Common.{Call, Datagram, Direction, Entry, Event, Given, IsSound, Octets, Opening, Sealing, Signalled, World, any_weaker}
+use Rattle.sg_gateway.proofs.Common.{arrived_at, arrived_in, call_at, each_weaker, given_to, has_port, opened_new, step}
 use Rattle.sg_gateway.proofs.Arrivals.{Arrival, Is, IsDrop, IsOpening, IsSeal, arrival}
 use Rattle.sg_gateway.proofs.Kept.{IsKept}
 use Rattle.sg_gateway.proofs.OpenedAndPut.{held_kept}
 use Rattle.sg_gateway.proofs.Signals.{is_found}
-use Rattle.sg_gateway.specs.Datagrams.{Entry, Given, arrived_at, arrived_in, given_to}
-use Rattle.sg_gateway.specs.Octets.{Octets}
-use Rattle.sg_gateway.specs.Ports.{call_at, has_port}
-use Rattle.sg_gateway.specs.Step.{Event, Signalled, Datagram, step}
-use Rattle.sg_gateway.specs.World.{Call, World}
-use Rattle.sg_session.proofs.Lists.{any_weaker, each_weaker}
-use Rattle.sg_session.proofs.Taking.{opened_new}
-use Rattle.sg_session.specs.Reach.{IsSound}
-use Rattle.sg_session.specs.declared.names.Direction.{Direction}
-use Rattle.sg_session.specs.declared.names.Direction.TheVariants.{Opening, Sealing}
 use Rattle.sg_conduct.proofs.Sealings.{opened_again}
 use Rattle.sg_conduct.specs.Unsealed.{IsUnsealed, IsUnsealedFrom}
 

@@ -3,21 +3,11 @@ use Rattle.std.proofs.Common.{◌≡◌, ℕ, suc, ◌+◌, Bool, true, false, c
 use Rattle.std.proofs.lemmas.List.Elements.{All-from_recursion}
 use Rattle.std.specs.List.{All, AllByRecursion, filter}
 use Rattle.sg_agreement.specs.Answers.{AgreedAnswer, agreed_answer}
-use Rattle.sg_agreement.specs.Generations.{numbered, owner_at, sessions_from, stream_session, stream_sessions}
-use Rattle.sg_agreement.specs.Keying.{Offer}
-use Rattle.sg_agreement.specs.Media.{Medium, Stream}
-use Rattle.sg_base.proofs.Cases.{some_is}
-use Rattle.sg_base.specs.declared.addresses.CallId.{CallId}
-use Rattle.sg_base.specs.declared.addresses.Kind.{Kind}
-use Rattle.sg_base.specs.declared.addresses.Kind.TheVariants.{Rtp, Rtcp}
-use Rattle.sg_base.specs.declared.addresses.Side.{Side}
-use Rattle.sg_sdp.specs.Reading.{description_of}
 use Rattle.sg_sdp.specs.declared.medium.Medium as descriptions
 use Rattle.sg_sdp.specs.declared.sdp.Sdp.{Sdp}
-use Rattle.sg_session.proofs.Lists.{each_append, each_weaker}
-use Rattle.sg_session.specs.Session.{Key, Session}
-use Rattle.sg_session.specs.declared.names.Direction.TheVariants.{Opening, Sealing}
-use Rattle.sg_session.specs.declared.names.Owner.{Owner}
+use Rattle.sg_gateway.proofs.Common.{Call, CallId, Key, Kind, Medium, Offer, Opening, Owner, Rtcp, Rtp, Sealing, Session, Side, Stream, World, call_of}
+use Rattle.sg_gateway.proofs.Common.{description_of, each_append, each_weaker, numbered, owner_at, same_id, sessions_from, some_is, stream_session}
+use Rattle.sg_gateway.proofs.Common.{stream_sessions}
 use Rattle.sg_gateway.proofs.Between.{AreBetween, answer_between}
 use Rattle.sg_gateway.proofs.CarriedOut.{found_with, id_found, stays, of_generation}
 use Rattle.sg_gateway.proofs.Kept.{IsOffered, WasOffered}
@@ -25,7 +15,6 @@ use Rattle.sg_gateway.proofs.Signals.{found}
 use Rattle.sg_gateway.proofs.StepCases.{answer_of, renewed_by}
 use Rattle.sg_gateway.specs.Addressed.{IsBetween, IsMediumAt, HasAddresses}
 use Rattle.sg_gateway.specs.Signals.{Answered, answer_to}
-use Rattle.sg_gateway.specs.World.{Call, World, call_of, same_id}
 
 -- ---- the sessions of media, from one on
 

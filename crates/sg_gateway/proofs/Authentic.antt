@@ -2,59 +2,39 @@
 use Rattle.std.proofs.Common.{◌≡◌, inl, inr, ℕ, ◌+◌, Bool, true, false, cond, not, ◌&&◌, ◌||◌, List, [], ◌∷◌, ◌++◌, length, Option, Some, None, Result, Ok, Err, refl, sym, ap, ◌∙◌, subst, append_assoc, append-nil, eqb, eq-eqb, ltb, eqb-true}
 use Rattle.std.proofs.lemmas.Bool.{and_parts, false≢true, ltb-false, not-false, and_from}
 use Rattle.std.specs.List.{AllByRecursion, Any, filter_map, find}
-use Rattle.sg_agreement.specs.Media.{Medium}
-use Rattle.sg_agreement.proofs.AllAgreed.{offer_is}
 use Rattle.sg_agreement.proofs.KeyedSound.{Sometimes}
 use Rattle.sg_agreement.specs.Attributes.{has_message, mikey_octets, mikey_value, ssrcs_of}
 use Rattle.sg_agreement.specs.Described.{described}
-use Rattle.sg_agreement.specs.EachMedium.{each_active, if_active}
 use Rattle.sg_agreement.specs.Keying.{Keying, PeerLines, OwnLines, PeerMessage, PeerMessages, OwnMessage, Offer, note_in, notes_of}
 use Rattle.sg_agreement.specs.Messages.{Bundle, bundle_in, message_in}
 use Rattle.sg_agreement.specs.Offers.{AgreedOffer, agreed_offer, chosen_in, keying_by_messages, keying_of, noise_of}
-use Rattle.sg_agreement.specs.Refusals.{of_cs, of_message, of_psk, or_refusal}
-use Rattle.sg_agreement.specs.Sides.{active_count, is_active, other_side, side_of}
-use Rattle.sg_agreement.specs.declared.ways.Way.{Way}
-use Rattle.sg_agreement.specs.declared.ways.Way.TheVariants.{FromSecure, SdesFromPlain, MikeyFromPlain}
-use Rattle.sg_base.proofs.Cases.{some_is}
-use Rattle.sg_base.proofs.SameOctets.{same_octets_is, same_octets_true}
-use Rattle.sg_base.specs.Octets.{same_octets}
-use Rattle.sg_base.specs.declared.addresses.CallId.{CallId}
-use Rattle.sg_base.specs.declared.addresses.Side.TheVariants.{Secure, Plain}
 use Rattle.sg_base.specs.declared.faults.MikeyFault.TheVariants.{DataType}
 use Rattle.sg_base.specs.declared.faults.PskFault.{PskFault}
 use Rattle.sg_base.specs.declared.faults.PskFault.TheVariants.{Algorithm, BadMac, Skew, Repeated, CacheFull}
-use Rattle.sg_base.specs.declared.faults.Refusal.{Refusal}
-use Rattle.sg_base.specs.declared.faults.Refusal.TheVariants.{KeyMgmt, Mikey, State, TableFull}
+use Rattle.sg_base.specs.declared.faults.Refusal.TheVariants.{KeyMgmt, Mikey}
 use Rattle.sg_csmap.specs.CryptoSessions.{streams_of}
 use Rattle.sg_mikey.specs.Reading as messages
-use Rattle.sg_mikey.specs.declared.message.Message.{Message}
-use Rattle.sg_mikey.specs.declared.message.Tgk.{Tgk}
 use Rattle.sg_psk.specs.Accepting.{Accepted, accepted_with, fault_of, initial_fits, initial_of, initial_under, is_served, keys_in, note_of, unless, with_keys}
 use Rattle.sg_psk.specs.Envelope.{mac_of}
 use Rattle.sg_sdes.specs.Answers.{offered_by}
-use Rattle.sg_sdp.specs.Reading.{description_of}
 use Rattle.sg_sdp.specs.declared.medium.Medium as descriptions
 use Rattle.sg_sdp.specs.declared.sdp.Sdp.{Sdp}
 use Rattle.sg_psk.specs.Pairs.{is_noted, is_of, is_same, is_with, note, pair_named, pair_with, with_note}
 use Rattle.sg_psk.specs.Parts.{closing_in, names_in, stamp_in}
 use Rattle.sg_psk.specs.Sending.{sent_under}
 use Rattle.sg_psk.specs.Stamps.{distance, is_skewed, moment_of, since_1900}
-use Rattle.sg_psk.specs.declared.pairs.Pair.{Pair}
 use Rattle.sg_psk.specs.declared.replays.Noted.{Noted}
-use Rattle.sg_session.proofs.Inversions.{after_ok_is, ok_is, stop_if_is}
-use Rattle.sg_session.proofs.Lists.{any_here, any_there, both, each_weaker}
-use Rattle.sg_session.specs.Stages.{after_ok}
+use Rattle.sg_gateway.proofs.Common.{Answer, Books, Call, CallId, Datagram, Event, FromSecure, IsRefusal, Medium, Message, MikeyFromPlain, Offered, Pair}
+use Rattle.sg_gateway.proofs.Common.{Plain, Refusal, SdesFromPlain, Secure, Signalled, Tgk, Way, World, active_count, after_ok, after_ok_is, answer_to}
+use Rattle.sg_gateway.proofs.Common.{any_here, any_there, both, call_of, description_of, each_active, each_weaker, if_active, is_active, new_call, of_cs}
+use Rattle.sg_gateway.proofs.Common.{of_message, of_psk, offer_is, ok_is, or_refusal, same_id, same_octets, same_octets_is, same_octets_true, side_of}
+use Rattle.sg_gateway.proofs.Common.{some_is, step, stop_if_is}
 use Rattle.sg_gateway.specs.Authentic.{AreNamesOf, IsNoteOf, IsAuthentic, IsBundleAcceptedOnce, AreAcceptedOnce}
 use Rattle.sg_gateway.proofs.CarriedOut.{found_with, id_found}
 use Rattle.sg_gateway.proofs.Lists.{any_last, any_first}
-use Rattle.sg_gateway.proofs.StepCases.{each_signal, each_datagram}
+use Rattle.sg_gateway.proofs.StepCases.{each_signal, each_datagram, each_offer, settled_offer}
 use Rattle.sg_gateway.proofs.Taken.{found_new, same_id_itself}
-use Rattle.sg_gateway.specs.CallSignals.{at_hand, media_of, offered_in, takes_offer, with_notes}
-use Rattle.sg_gateway.specs.Generations.{Settled}
-use Rattle.sg_gateway.specs.Refusing.{IsRefusal}
-use Rattle.sg_gateway.specs.Signals.{Offered, Answer, refused, new_call, in_new, in_old, tells_text, offered_to, answer_to}
-use Rattle.sg_gateway.specs.Step.{Event, Signalled, Datagram, step}
-use Rattle.sg_gateway.specs.World.{Books, Call, World, call_of, is_full, same_id}
+use Rattle.sg_gateway.specs.CallSignals.{at_hand, media_of, with_notes}
 
 -- ---- stages
 
@@ -281,29 +261,13 @@ module _ (books : Books) (now : ℕ) where
   accepted_once after s (PeerMessages bs) p q = bundles_once after s.media bs p q
   accepted_once after s other p q = tt
 
-  -- an offer is open by what it was agreed by
-  pub record IsOpenBy (c : Call) (way : Way) (text : List ℕ) (d : Call) (after : List Noted) : Type 0 where
-    pub serial : d.serial ≡ c.serial
-    pub id : d.id ≡ c.id
-    pub offer : Offer
-    pub is_open : d.offer ≡ Some offer
-    pub once : AreAcceptedOnce books now after offer.description offer.keying
-    pub of_text : (offer.side ≡ side_of way) × (description_of text ≡ Ok offer.description)
-
-  pub opens_by : (c : Call) (way : Way) (noise text : List ℕ) (r : Settled) → offered_in now books c way noise text ≡ Ok r → IsOpenBy c way text r.call r.books.noted
-  opens_by c way noise text r e =
-      let a = stop_if_is (not (takes_offer c)) State _ r e in
-      let b = after_ok_is (agreed_offer (at_hand now books c noise) way text) _ r a.1 in
-      let is = offer_authentic books now c way noise text b.0 b.1 in
-      subst (λ (r : Settled). IsOpenBy c way text r.call r.books.noted) (ok_is _ r b.2) (record {
-        serial = refl;
-        id = refl;
-        offer = b.0.offer;
-        is_open = refl;
-        of_text = offer_is (at_hand now books c noise) way text b.0 b.1;
-        once = accepted_once (with_notes books.noted b.0.noted) b.0.offer.description b.0.offer.keying is.0
-            (subst (λ (ns : List Noted). AllByRecursion (λ n. Any (IsNote n) (with_notes books.noted b.0.noted)) ns) is.1 (all_noted books.noted b.0.noted));
-      })
+  -- what an offer that is agreed brings is accepted once
+  agreed_once : (c : Call) (way : Way) (noise text : List ℕ) (a : AgreedOffer) → agreed_offer (at_hand now books c noise) way text ≡ Ok a
+      → AreAcceptedOnce books now (with_notes books.noted a.noted) a.offer.description a.offer.keying
+  agreed_once c way noise text a e =
+      let is = offer_authentic books now c way noise text a e in
+      accepted_once (with_notes books.noted a.noted) a.offer.description a.offer.keying is.0
+      (subst (λ (ns : List Noted). AllByRecursion (λ n. Any (IsNote n) (with_notes books.noted a.noted)) ns) is.1 (all_noted books.noted a.noted))
 
 -- ---- an event
 
@@ -313,27 +277,24 @@ module _ (w : World) (id : CallId) (way : Way) (noise text : List ℕ) where
       → (c : Call) × (o : Offer) × (call_of a.world id ≡ Some c) × (c.offer ≡ Some o) × AreAcceptedOnce w.books w.moment a.world.books.noted o.description o.keying
       × ((o.side ≡ side_of way) × (description_of text ≡ Ok o.description))
 
-  refused_taken : (cause : Refusal) → IsTaken (refused w (Some id) cause)
-  refused_taken cause free = absurd (free (any_here IsRefusal _ [] tt))
-
-  new_taken : call_of w id ≡ None → (q : Result Settled Refusal) → offered_in w.moment w.books (new_call w id) way noise text ≡ q → IsTaken (in_new w id (tells_text id (other_side (side_of way))) q)
-  new_taken none (Err cause) e free = refused_taken cause free
-  new_taken none (Ok r) e free =
-      let is = opens_by w.books w.moment (new_call w id) way noise text r e in
-      (r.call, is.offer, found_new (λ c. same_id c.id id) r.call w.calls (subst (λ i. same_id i id ≡ true) (sym is.id) (same_id_itself id)) none, is.is_open, is.once, is.of_text)
-
-  old_taken : (c : Call) → call_of w id ≡ Some c → (q : Result Settled Refusal) → offered_in w.moment w.books c way noise text ≡ q → IsTaken (in_old w id (tells_text id (other_side (side_of way))) q)
-  old_taken c at (Err cause) e free = refused_taken cause free
-  old_taken c at (Ok r) e free =
-      let is = opens_by w.books w.moment c way noise text r e in
-      (r.call, is.offer, found_with id c r.call w.calls is.serial (subst (λ i. same_id i id ≡ true) (sym is.id) (id_found id c w.calls at)) at, is.is_open, is.once, is.of_text)
-
-  of_call : (o : Option Call) → call_of w id ≡ o → IsTaken (offered_to w id way noise text o)
-  of_call None none = both IsTaken (is_full w) _ _ (refused_taken TableFull) (new_taken none (offered_in w.moment w.books (new_call w id) way noise text) refl)
-  of_call (Some c) at = old_taken c at (offered_in w.moment w.books c way noise text) refl
-
   pub offer_once : IsTaken (answer_to w (Offered id way noise text))
-  offer_once = of_call (call_of w id) refl
+  offer_once = each_offer w id way noise text IsTaken (λ cause free. absurd (free (any_here IsRefusal _ [] tt)))
+      (λ none room a agreed free. (
+        (settled_offer w.moment w.books (new_call w id) a).call,
+        a.offer,
+        found_new (λ c. same_id c.id id) (settled_offer w.moment w.books (new_call w id) a).call w.calls (same_id_itself id) none,
+        refl,
+        agreed_once w.books w.moment (new_call w id) way noise text a agreed,
+        offer_is (at_hand w.moment w.books (new_call w id) noise) way text a agreed,
+      ))
+      (λ c at a agreed free. (
+        (settled_offer w.moment w.books c a).call,
+        a.offer,
+        found_with id c (settled_offer w.moment w.books c a).call w.calls refl (id_found id c w.calls at) at,
+        refl,
+        agreed_once w.books w.moment c way noise text a agreed,
+        offer_is (at_hand w.moment w.books c noise) way text a agreed,
+      ))
 
 -- ---- the book over every event
 

@@ -3,24 +3,17 @@ use Rattle.std.proofs.Common.{◌≡◌, ℕ, ◌+◌, Bool, true, false, cond, 
 use Rattle.std.proofs.lemmas.Bool.{and_parts}
 use Rattle.std.specs.List.{AllByRecursion}
 use Rattle.std.specs.Option.{is_none, is_some, option_map, option_map_or}
-use Rattle.sg_base.specs.declared.addresses.Side.{Side}
-use Rattle.sg_base.specs.declared.addresses.Side.TheVariants.{Secure, Plain}
 use Rattle.sg_base.specs.declared.faults.Refusal.TheVariants.{MediaCount, NoMedia}
-use Rattle.sg_sdp.specs.Reading.{description_of}
 use Rattle.sg_sdp.specs.declared.medium.Medium as descriptions
 use Rattle.sg_sdp.specs.declared.sdp.Sdp.{Sdp}
-use Rattle.sg_session.proofs.Inversions.{after_ok_is, ok_is, stop_if_is}
 use Rattle.sg_agreement.proofs.AllAgreed.{answered_all, offer_whole, there}
 use Rattle.sg_agreement.proofs.FewMedia.{described_is, described_count}
 use Rattle.sg_agreement.specs.Answers.{AgreedAnswer, accepted_answer, agreed_answer, answered_by}
 use Rattle.sg_agreement.specs.Described.{described, is_other_count, of_text, unaddressed, with_addresses}
 use Rattle.sg_agreement.specs.Keyed.{Keyed, address_of, media_agreed, medium_agreed}
-use Rattle.sg_agreement.specs.Keying.{Offer}
-use Rattle.sg_agreement.specs.Messages.{AtHand}
 use Rattle.sg_agreement.specs.Offers.{AgreedOffer, agreed_offer, keying_of}
-use Rattle.sg_agreement.specs.Sides.{actives_after, is_active, other_side, side_of}
-use Rattle.sg_agreement.specs.Media.{Medium}
-use Rattle.sg_agreement.specs.declared.ways.Way.{Way}
+use Rattle.sg_gateway.proofs.Common.{AtHand, Medium, Offer, Plain, Secure, Side, Way, actives_after, after_ok_is, description_of, is_active, ok_is}
+use Rattle.sg_gateway.proofs.Common.{other_side, side_of, stop_if_is}
 use Rattle.sg_gateway.specs.Addressed.{IsAddressOf, IsBetween}
 
 abbrev pub IsAgreedBetween : Side → descriptions.Medium → descriptions.Medium → Option Medium → Type 0

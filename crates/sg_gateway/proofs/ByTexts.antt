@@ -5,28 +5,15 @@ use Rattle.std.specs.List.{All, AllByRecursion, Any, filter}
 use Rattle.sg_agreement.proofs.AllAgreed.{all_agreed, offer_is}
 use Rattle.sg_agreement.proofs.TextLines.{from_plain, from_secure}
 use Rattle.sg_agreement.specs.Answers.{AgreedAnswer, agreed_answer}
-use Rattle.sg_agreement.specs.Generations.{sessions_from}
-use Rattle.sg_agreement.specs.Keying.{Offer}
-use Rattle.sg_agreement.specs.Media.{Medium}
-use Rattle.sg_agreement.specs.Messages.{AtHand}
 use Rattle.sg_agreement.specs.Offers.{AgreedOffer, agreed_offer}
-use Rattle.sg_agreement.specs.Sides.{other_side, side_of}
 use Rattle.sg_agreement.specs.TextLines.{StandInTexts}
-use Rattle.sg_agreement.specs.declared.ways.Way.{Way}
-use Rattle.sg_agreement.specs.declared.ways.Way.TheVariants.{FromSecure, SdesFromPlain, MikeyFromPlain}
-use Rattle.sg_base.proofs.Cases.{none_some, some_is}
-use Rattle.sg_base.specs.declared.addresses.CallId.{CallId}
-use Rattle.sg_base.specs.declared.addresses.Side.{Side}
-use Rattle.sg_outcome.specs.declared.outcomes.Outcome.{Outcome}
 use Rattle.sg_outcome.specs.declared.outcomes.Outcome.TheVariants.{Sdp, Live}
-use Rattle.sg_psk.specs.declared.pairs.Pair.{Pair}
-use Rattle.sg_sdp.specs.Reading.{description_of}
 use Rattle.sg_sdp.specs.declared.medium.Medium as descriptions
 use Rattle.sg_sdp.specs.declared.sdp.Sdp as sdp
-use Rattle.sg_session.proofs.Inversions.{ok_is}
-use Rattle.sg_session.proofs.Lists.{any_here, any_there, both, each_filter, each_map, each_weaker}
-use Rattle.sg_session.specs.Ring.{Installed}
-use Rattle.sg_session.specs.Session.{Session}
+use Rattle.sg_gateway.proofs.Common.{AtHand, Call, CallId, Datagram, Event, FromSecure, Installed, Medium, MikeyFromPlain, Offer, Outcome, Pair}
+use Rattle.sg_gateway.proofs.Common.{SdesFromPlain, Session, Side, Signalled, Turn, Way, World, any_here, any_there, at_hand, both, call_at_tick, call_of}
+use Rattle.sg_gateway.proofs.Common.{description_of, drops_earlier, each_filter, each_map, each_weaker, empty, find_call, has_port, is_idle, none_some, ok_is}
+use Rattle.sg_gateway.proofs.Common.{other_side, same_id, sessions_from, side_of, some_is, step, turn_of, without_call, without_earlier}
 use Rattle.sg_gateway.proofs.CarriedOut.{found_with, id_found, stays, of_generation}
 use Rattle.sg_gateway.proofs.LineSessions.{all_lined}
 use Rattle.sg_gateway.proofs.Lists.{any_last, any_first}
@@ -34,17 +21,12 @@ use Rattle.sg_gateway.proofs.MessageSessions.{by_message, by_own, by_part}
 use Rattle.sg_gateway.proofs.OwnMessages.{by_own_message}
 use Rattle.sg_gateway.proofs.PeersMessages.{by_peers_message}
 use Rattle.sg_gateway.proofs.Signals.{each_and_call, each_with_call, found}
-use Rattle.sg_gateway.proofs.StepCases.{each_signal, renewed_by, answer_of, offered_by, each_datagram}
+use Rattle.sg_gateway.proofs.StepCases.{each_signal, renewed_by, answer_of, settled_offer, each_datagram}
 use Rattle.sg_gateway.proofs.TurnByTurn.{kept_before}
 use Rattle.sg_gateway.specs.ByTexts.{AnswerIsByTexts, AnswersAreByTexts, AreByOwnMessage, AreByTexts, Exchange, HasItsLines, HaveLines}
-use Rattle.sg_gateway.specs.CallSignals.{at_hand, call_at_tick, drops_earlier, is_idle, without_earlier}
 use Rattle.sg_gateway.specs.OwnMessages.{IsInOwnSession}
 use Rattle.sg_gateway.specs.PeersMessages.{IsByPeersMessage}
-use Rattle.sg_gateway.specs.Ports.{has_port}
-use Rattle.sg_gateway.specs.Runs.{Turn, turn_of}
 use Rattle.sg_gateway.specs.Signals.{Offered, Answered, Answer, answer_to, new_call, Signal}
-use Rattle.sg_gateway.specs.Step.{Event, Signalled, Datagram, step}
-use Rattle.sg_gateway.specs.World.{Call, World, call_of, empty, find_call, same_id, without_call}
 
 -- in this turn the offer was made
 pub record MadeBy (id : CallId) (o : Offer) (u : Turn) : Type 0 where
@@ -85,7 +67,7 @@ module _ (ts : List Turn) (w : World) (made : WereMade ts w) (e : Event) where
   -- an offer that is taken is made in this turn
   offer_made : (id : CallId) (c : Call) (way : Way) (noise text : List ℕ) → e ≡ Signalled (Offered id way noise text) → c.id ≡ id
       → (a : AgreedOffer) → agreed_offer (at_hand w.moment w.books c noise) way text ≡ Ok a
-      → Any (λ x. x ≡ Sdp id (other_side (side_of way)) a.text) (step w e).outcomes → WasMade Now (offered_by w.moment w.books c a).call
+      → Any (λ x. x ≡ Sdp id (other_side (side_of way)) a.text) (step w e).outcomes → WasMade Now (settled_offer w.moment w.books c a).call
   offer_made id c way noise text same own a agreed tells o open_one =
       subst (λ i. Any (MadeBy i o) Now) (sym own) (any_last (MadeBy id o) ts (turn_of w e) (record {
         way = way;

@@ -4,16 +4,12 @@ use Rattle.std.proofs.lemmas.Bool.{cond-true, and_from, and_parts, eqb-true, eqb
 use Rattle.std.proofs.lemmas.List.Elements.{All-from_recursion}
 use Rattle.std.specs.List.{AllByRecursion, Any, Contains, filter}
 use Rattle.std.specs.Option.{is_some}
-use Rattle.sg_agreement.specs.Generations.{sessions_from}
-use Rattle.sg_agreement.specs.Keying.{Offer}
-use Rattle.sg_base.specs.declared.addresses.CallId.{CallId}
-use Rattle.sg_base.specs.declared.faults.Refusal.{Refusal}
 use Rattle.sg_base.specs.declared.faults.Refusal.TheVariants.{State, TickBack}
-use Rattle.sg_base.proofs.Cases.{some_is, none_some}
 use Rattle.sg_outcome.specs.declared.outcomes.Why.TheVariants as why
-use Rattle.sg_session.proofs.Lists.{each_weaker, any_here, any_there, any_weaker, any_cases, any_none, both, each_append}
 use Rattle.sg_session.specs.Session.{Session, same_direction}
-use Rattle.sg_session.specs.declared.names.Direction.TheVariants.{Opening}
+use Rattle.sg_gateway.proofs.Common.{Call, CallId, IsBefore, IsRefusal, Offer, Opening, Refusal, Signalled, World, any_cases, any_here, any_none, any_there}
+use Rattle.sg_gateway.proofs.Common.{any_weaker, both, call_of, each_append, each_weaker, find_call, is_current, is_opening, none_some, same_id}
+use Rattle.sg_gateway.proofs.Common.{sessions_from, some_is, with_call}
 use Rattle.sg_gateway.proofs.Arrivals.{kept_by}
 use Rattle.sg_gateway.proofs.Freed.{Frees, event_frees}
 use Rattle.sg_gateway.proofs.InTurn.{found_passes}
@@ -22,12 +18,7 @@ use Rattle.sg_gateway.proofs.Pairs.{Pairs}
 use Rattle.sg_gateway.proofs.StepCases.{answer_of, renewed_by}
 use Rattle.sg_gateway.specs.CallSignals.{rejected_in, is_idle, drops_earlier, without_earlier, call_at_tick}
 use Rattle.sg_gateway.specs.CarriedOut.{IsKeptTo}
-use Rattle.sg_gateway.specs.Generations.{is_current, is_opening}
-use Rattle.sg_gateway.specs.Order.{IsBefore}
-use Rattle.sg_gateway.specs.Refusing.{IsRefusal}
 use Rattle.sg_gateway.specs.Signals.{Reject, Bye, answer, refused, tells_ended, ticked, rejected_to, rejected, left, answer_to, Answer, Answered}
-use Rattle.sg_gateway.specs.Step.{Signalled}
-use Rattle.sg_gateway.specs.World.{Call, World, call_of, find_call, same_id, with_call}
 
 -- the call that is found has the id
 pub id_found : (id : CallId) (c : Call) (cs : List Call) → find_call (λ x. same_id x.id id) cs ≡ Some c → same_id c.id id ≡ true

@@ -1,29 +1,20 @@
 -- What is sent in the crypto sessions of a MIKEY exchange is what its two messages say.
 use Rattle.std.proofs.Common.{◌≡◌, ℕ, ◌+◌, ◌*◌, ◌<◌, ◌≤◌, not, eqb, List, [], ◌∷◌, ◌++◌, length, Some, Ok, refl, sym, ap, ◌∙◌, subst, arith, append_assoc, length-append}
 use Rattle.std.specs.List.{list_any}
-use Rattle.sg_agreement.specs.Keyed.{medium_agreed}
-use Rattle.sg_agreement.specs.Media.{Medium, Stream}
 use Rattle.sg_agreement.specs.MessageAnswers.{keyed_as_initiator, keyed_as_responder, responded}
 use Rattle.sg_agreement.specs.Attributes.{own_ssrc}
 use Rattle.sg_agreement.specs.Streams.{stream_of_session, with_source}
 use Rattle.sg_base.proofs.Cases.{and_then_some, map_some, some_is}
-use Rattle.sg_base.specs.declared.addresses.Side.TheVariants.{Secure, Plain}
 use Rattle.sg_base.specs.declared.faults.CsFault.TheVariants.{CsCount, PolicyMissing}
 use Rattle.sg_csmap.proofs.Loops.{is_there}
 use Rattle.sg_csmap.specs.CryptoSessions.{lacks_policy, pair_in, pairs_from, policy_at, stream_in, stream_keys, streams_of}
 use Rattle.sg_csmap.specs.Policies.{protection_of}
 use Rattle.sg_csmap.specs.declared.policies.Protection.{Protection}
-use Rattle.sg_csmap.specs.declared.sessions.StreamKeys.{StreamKeys}
-use Rattle.sg_mikey.specs.declared.message.CsEntry.{CsEntry}
-use Rattle.sg_mikey.specs.declared.message.Message.{Message}
-use Rattle.sg_mikey.specs.declared.message.Tgk.{Tgk}
 use Rattle.sg_mikey.specs.declared.policy.Policy.{Policy}
 use Rattle.sg_psk.specs.Parts.{policies_in, random_in}
 use Rattle.sg_psk.specs.Sending.{answered_map, entry_of, own_map}
 use Rattle.sg_sdp.specs.declared.medium.Medium as descriptions
-use Rattle.sg_session.proofs.Inversions.{stop_if_is}
-use Rattle.sg_session.specs.declared.names.Direction.{Direction}
-use Rattle.sg_session.specs.declared.names.Direction.TheVariants.{Opening, Sealing}
+use Rattle.sg_gateway.proofs.Common.{CsEntry, Direction, Medium, Message, Opening, Plain, Sealing, Secure, Stream, StreamKeys, Tgk, medium_agreed, stop_if_is}
 use Rattle.sg_gateway.proofs.Sources.{first_source}
 use Rattle.sg_gateway.specs.CryptoSessions.{IsEntryOf, IsFirstSource, IsOwnEntry, map_towards, session_of}
 

@@ -1,15 +1,10 @@
 -- Each event leaves the ring as it was, or with new keys behind the old ones.
 use Rattle.std.proofs.Common.{◌≡◌, List, [], ◌∷◌, ◌++◌, Option, Some, sym}
 use Rattle.std.proofs.lemmas.List.{append-nil}
-use Rattle.sg_agreement.specs.Generations.{keys_from}
-use Rattle.sg_agreement.specs.Manual.{manual_medium}
-use Rattle.sg_agreement.specs.Media.{Medium}
-use Rattle.sg_session.specs.Ring.{Installed}
+use Rattle.sg_gateway.proofs.Common.{Call, Datagram, Event, Installed, Medium, Signalled, World, keys_from, manual_medium, step}
 use Rattle.sg_gateway.proofs.Growth.{install_is}
 use Rattle.sg_gateway.proofs.Kept.{IsRing}
 use Rattle.sg_gateway.proofs.StepCases.{Installs, each_datagram, each_signal, manual_call}
-use Rattle.sg_gateway.specs.Step.{Event, Signalled, Datagram, step}
-use Rattle.sg_gateway.specs.World.{Call, World}
 
 module _ (w : World) (ring : IsRing w.books.ring) where
   -- it is the ring of this world with keys behind it, or none

@@ -3,19 +3,13 @@ use Rattle.std.proofs.Common.{◌≡◌, ℕ, List, Option, Some, None, refl, sy
 use Rattle.std.proofs.lemmas.Bool.{cond-true}
 use Rattle.std.specs.List.{AllByRecursion, Any}
 use Rattle.sg_base.specs.declared.addresses.Address.{Address}
-use Rattle.sg_session.proofs.Lists.{each_at_this}
-use Rattle.sg_session.specs.Opening.{Taken}
-use Rattle.sg_session.specs.Sealing.{datagram_of}
-use Rattle.sg_session.specs.Session.{Session}
+use Rattle.sg_gateway.proofs.Common.{Call, Datagram, Entry, Event, Given, Session, Signalled, Taken, World, arrived_at, arrived_in, call_after, call_at}
+use Rattle.sg_gateway.proofs.Common.{datagram_of, each_at_this, given_to, has_port, put, step}
 use Rattle.sg_gateway.proofs.Arrivals.{Arrival, IsDrop, IsOpening, IsSeal, Is, arrival}
 use Rattle.sg_gateway.proofs.CarriedOut.{any_mapped}
 use Rattle.sg_gateway.proofs.Kept.{CallKept, IsKept, SessionKept}
 use Rattle.sg_gateway.proofs.Reached.{Anything}
 use Rattle.sg_gateway.proofs.Signals.{found, is_found}
-use Rattle.sg_gateway.specs.Datagrams.{Entry, Given, call_after, put, given_to, arrived_in, arrived_at}
-use Rattle.sg_gateway.specs.Ports.{call_at, has_port}
-use Rattle.sg_gateway.specs.Step.{Event, Signalled, Datagram, step}
-use Rattle.sg_gateway.specs.World.{Call, World}
 
 module _ (past : List Entry) (w : World) (kept : IsKept Anything past w) where
   -- the entry's call is in the list, and was heard now

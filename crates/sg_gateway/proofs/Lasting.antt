@@ -2,19 +2,12 @@
 use Rattle.std.proofs.Common.{◌≡◌, ◌⊎◌, inl, inr, ℕ, ◌+◌, Bool, true, false, cond, not, List, [], ◌∷◌, ◌++◌, length, map, Option, Some, None, refl, sym, ap, ◌∙◌, subst, arith, eqb}
 use Rattle.std.proofs.lemmas.List.Elements.{All-from_recursion}
 use Rattle.std.specs.List.{AllByRecursion, Any, filter}
-use Rattle.sg_agreement.specs.Generations.{numbered, owner_at, sessions_from, stream_session, stream_sessions}
 use Rattle.sg_agreement.specs.Manual.{ManualCall, manual_medium, manual_stream}
-use Rattle.sg_agreement.specs.Media.{Medium, Stream}
-use Rattle.sg_base.proofs.Cases.{none_some, some_is}
-use Rattle.sg_base.specs.declared.addresses.CallId.{CallId}
-use Rattle.sg_base.specs.declared.addresses.Kind.TheVariants.{Rtp, Rtcp}
-use Rattle.sg_session.proofs.Lists.{any_here, any_there, both, each_append, each_filter, each_map, each_weaker, any_weaker}
-use Rattle.sg_session.specs.Ring.{Installed}
-use Rattle.sg_session.specs.Session.{Done, Key, Session, same_name, with_done}
-use Rattle.sg_session.specs.declared.names.Direction.{Direction}
-use Rattle.sg_session.specs.declared.names.Direction.TheVariants.{Opening, Sealing}
-use Rattle.sg_session.specs.declared.names.Name.{Name}
-use Rattle.sg_session.specs.declared.names.Owner.{Owner}
+use Rattle.sg_gateway.proofs.Common.{Books, Call, CallId, Datagram, Direction, Done, Event, Installed, Key, Medium, Name, Opening, Owner, Rtcp, Rtp, Sealing}
+use Rattle.sg_gateway.proofs.Common.{Session, Signalled, Stream, Turn, World, any_here, any_there, any_weaker, both, call_at_tick, call_of, drops_earlier}
+use Rattle.sg_gateway.proofs.Common.{each_append, each_filter, each_map, each_weaker, empty, has_port, is_idle, none_some, numbered, owner_at, same_id}
+use Rattle.sg_gateway.proofs.Common.{same_name, sessions_from, some_is, step, stream_session, stream_sessions, turn_of, turns_from, with_done, without_call}
+use Rattle.sg_gateway.proofs.Common.{without_earlier, world_after}
 use Rattle.sg_gateway.proofs.ByTexts.{same_call_id}
 use Rattle.sg_gateway.proofs.CarriedOut.{found_with, id_found, stays}
 use Rattle.sg_gateway.proofs.Lists.{any_last, any_first}
@@ -22,14 +15,9 @@ use Rattle.sg_gateway.proofs.Signals.{each_and_call, each_with_call, found}
 use Rattle.sg_gateway.proofs.StepCases.{each_signal, renewed_by, each_datagram, each_manual, manual_call}
 use Rattle.sg_gateway.proofs.Taken.{found_new, same_id_itself}
 use Rattle.sg_gateway.proofs.TurnByTurn.{kept_after, kept_before}
-use Rattle.sg_gateway.specs.CallSignals.{call_at_tick, drops_earlier, is_idle, without_earlier}
 use Rattle.sg_gateway.specs.Generations.{is_current, keyed}
 use Rattle.sg_gateway.specs.Lasting.{IsAnsweredIn, IsManualIn, IsMadeIn, WereMadeIn, SessionsLast, key_towards, IsOfManual}
-use Rattle.sg_gateway.specs.Ports.{has_port}
-use Rattle.sg_gateway.specs.Runs.{Turn, turn_of, turns_from, world_after}
 use Rattle.sg_gateway.specs.Signals.{Manual, Answered, Answer, answer_to, new_call, Signal}
-use Rattle.sg_gateway.specs.Step.{Event, Signalled, Datagram, step}
-use Rattle.sg_gateway.specs.World.{Books, Call, World, call_of, empty, same_id, without_call}
 
 -- ---- the sessions of a generation
 

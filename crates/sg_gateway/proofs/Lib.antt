@@ -7,6 +7,7 @@ pub mod ByTexts
 pub mod CallList
 pub mod Came
 pub mod CarriedOut
+pub mod Common
 pub mod CryptoSessions
 pub mod Datagrams
 pub mod Deliveries

@@ -1,18 +1,10 @@
 -- The sessions of media that are agreed by crypto lines are under these lines.
 use Rattle.std.proofs.Common.{◌≡◌, not, ℕ, suc, ◌+◌, Bool, true, false, cond, List, [], ◌∷◌, ◌++◌, length, map, Option, Some, None, refl, ap, ◌∙◌, subst, arith}
 use Rattle.std.specs.List.{AllByRecursion}
-use Rattle.sg_agreement.specs.Generations.{keys_of, numbered, owner_at, sessions_from, stream_session, stream_sessions}
-use Rattle.sg_agreement.specs.Media.{AgreedKey, Medium, Stream}
 use Rattle.sg_agreement.specs.TextLines.{HasLine, TellsLine, IsUnder, IsByLines, IsOfTexts, AreOfTexts}
-use Rattle.sg_base.specs.declared.addresses.Kind.{Kind}
-use Rattle.sg_base.specs.declared.addresses.Kind.TheVariants.{Rtp, Rtcp}
-use Rattle.sg_sdes.specs.declared.lines.CryptoLine.{CryptoLine}
 use Rattle.sg_sdp.specs.declared.medium.Medium as descriptions
-use Rattle.sg_session.proofs.Lists.{each_append, each_weaker}
-use Rattle.sg_session.specs.Session.{Session}
-use Rattle.sg_session.specs.declared.names.Direction.{Direction}
-use Rattle.sg_session.specs.declared.names.Direction.TheVariants.{Opening, Sealing}
-use Rattle.sg_gateway.specs.Addressed.{IsMediumAt}
+use Rattle.sg_gateway.proofs.Common.{AgreedKey, CryptoLine, Direction, IsMediumAt, Kind, Medium, Opening, Rtcp, Rtp, Sealing, Session, Stream, each_append}
+use Rattle.sg_gateway.proofs.Common.{each_weaker, keys_of, numbered, owner_at, sessions_from, stream_session, stream_sessions}
 use Rattle.sg_gateway.specs.ByTexts.{is_plain, line_towards, HasWindow, IsByLinesOf, HasItsLines}
 use Rattle.sg_gateway.specs.CryptoSessions.{life_of, tag_octets}
 

@@ -2,18 +2,10 @@
 use Rattle.std.proofs.Common.{◌≡◌, ℕ, ◌+◌, Bool, true, false, cond, ◌&&◌, List, [], ◌∷◌, Option, Some, None, Result, Ok, refl, ap, ◌∙◌, subst}
 use Rattle.std.specs.Option.{option_map}
 use Rattle.sg_agreement.proofs.TextLines.{kept_some}
-use Rattle.sg_agreement.specs.EachMedium.{each_kept, if_kept}
-use Rattle.sg_agreement.specs.Keyed.{Keyed, media_agreed, medium_agreed}
-use Rattle.sg_agreement.specs.Media.{Medium}
 use Rattle.sg_agreement.specs.MessageAnswers.{next_if, over_active}
-use Rattle.sg_agreement.specs.Sides.{actives_after, is_active, other_side}
-use Rattle.sg_base.proofs.Cases.{none_some, some_is}
-use Rattle.sg_base.specs.declared.addresses.Side.{Side}
-use Rattle.sg_base.specs.declared.faults.Refusal.{Refusal}
-use Rattle.sg_csmap.specs.declared.sessions.StreamKeys.{StreamKeys}
 use Rattle.sg_sdp.specs.declared.medium.Medium as descriptions
-use Rattle.sg_session.proofs.Inversions.{after_ok_is, ok_is}
-use Rattle.sg_session.specs.Stages.{after_ok}
+use Rattle.sg_gateway.proofs.Common.{Keyed, Medium, Refusal, Side, StreamKeys, actives_after, after_ok, after_ok_is, each_kept, if_kept, is_active}
+use Rattle.sg_gateway.proofs.Common.{media_agreed, medium_agreed, none_some, ok_is, other_side, some_is}
 use Rattle.sg_gateway.proofs.CryptoSessions.{EachFrom}
 
 -- Of media side by side, those of the offer, of the answer and of what is told: what holds of each that is agreed, behind so

@@ -3,43 +3,27 @@ use Rattle.std.proofs.Common.{◌≡◌, inl, inr, ℕ, suc, ◌^◌, ◌+◌, B
 use Rattle.std.proofs.lemmas.Bool.{eqb-false}
 use Rattle.std.specs.List.{AllByRecursion}
 use Rattle.sg_agreement.proofs.TextLines.{octets_are}
-use Rattle.sg_agreement.specs.Generations.{keys_of, numbered, owner_at, sessions_from, stream_session, stream_sessions}
-use Rattle.sg_agreement.specs.Media.{Medium, Stream}
-use Rattle.sg_agreement.specs.Messages.{AtHand}
-use Rattle.sg_agreement.specs.Sides.{is_active}
 use Rattle.sg_agreement.specs.Streams.{admit_of, session_key, stream_of_session, with_source}
 use Rattle.sg_agreement.specs.TextLines.{IsMessageLine, identifier}
-use Rattle.sg_base.proofs.Cases.{none_some, some_is}
-use Rattle.sg_base.specs.Keys.{Master}
-use Rattle.sg_base.specs.declared.addresses.Kind.{Kind}
-use Rattle.sg_base.specs.declared.addresses.Kind.TheVariants.{Rtp, Rtcp}
-use Rattle.sg_base.specs.declared.addresses.Side.{Side}
-use Rattle.sg_base.specs.declared.addresses.Side.TheVariants.{Secure, Plain}
 use Rattle.sg_base.specs.declared.sources.Admit.TheVariants as admit
 use Rattle.sg_base.specs.declared.suites.Suite.{Suite}
 use Rattle.sg_base.specs.declared.suites.Suite.TheVariants.{Cm128Tag80}
 use Rattle.sg_csmap.specs.CryptoSessions.{keys_in, policy_at, stream_keys}
 use Rattle.sg_csmap.specs.Policies.{each_once, meaning, protection_of, said_by, value_of}
 use Rattle.sg_csmap.specs.declared.policies.Protection.{Protection}
-use Rattle.sg_csmap.specs.declared.sessions.StreamKeys.{StreamKeys}
-use Rattle.sg_mikey.specs.declared.message.CsEntry.{CsEntry}
-use Rattle.sg_mikey.specs.declared.message.Message.{Message}
-use Rattle.sg_mikey.specs.declared.message.Tgk.{Tgk}
 use Rattle.sg_mikey.specs.declared.policy.Policy.{Policy}
 use Rattle.sg_psk.specs.Parts.{policies_in, random_in}
 use Rattle.sg_psk.specs.Policy.{own_policy}
 use Rattle.sg_sdp.specs.declared.medium.Medium as descriptions
 use Rattle.sg_sdp.specs.declared.sdp.Sdp.{Sdp}
-use Rattle.sg_session.proofs.Lists.{each_append, each_weaker}
-use Rattle.sg_session.specs.Session.{Session}
-use Rattle.sg_session.specs.declared.names.Direction.{Direction}
-use Rattle.sg_session.specs.declared.names.Direction.TheVariants.{Opening, Sealing}
+use Rattle.sg_gateway.proofs.Common.{AtHand, CsEntry, Direction, IsMediumAt, Kind, Master, Medium, Message, Opening, Plain, Rtcp, Rtp, Sealing, Secure}
+use Rattle.sg_gateway.proofs.Common.{Session, Side, Stream, StreamKeys, Tgk, each_append, each_weaker, is_active, keys_of, none_some, numbered, owner_at}
+use Rattle.sg_gateway.proofs.Common.{sessions_from, some_is, stream_session, stream_sessions}
 use Rattle.sg_gateway.proofs.CryptoSessions.{IsMediumIn, IsSent, IsStreamIn}
 use Rattle.sg_gateway.proofs.LineSessions.{masters_of, mkis_of}
 use Rattle.sg_gateway.proofs.MediaOver.{MediaFrom}
 use Rattle.sg_gateway.proofs.PeersMessages.{IsOfOwn, IsOfPart}
 use Rattle.sg_gateway.proofs.PolicySays.{IsByItems, by_items}
-use Rattle.sg_gateway.specs.Addressed.{IsMediumAt}
 use Rattle.sg_gateway.specs.CryptoSessions.{IsInCryptoSession, IsSource, Says, encryption_item, life_of, master_under, others_before, session_of, tag_octets, window_towards}
 use Rattle.sg_gateway.specs.OwnMessages.{IsInOwnSession}
 use Rattle.sg_gateway.specs.PeersMessages.{IsByPeersMessage, IsInPeersSession, OwnResponse, PeersMessage}

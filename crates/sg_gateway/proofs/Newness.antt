@@ -4,15 +4,13 @@ use Rattle.std.proofs.lemmas.Bool.{ne_eqb, eqb-true, eqb-false, false≢true, le
 use Rattle.std.specs.List.{AllByRecursion}
 use Rattle.sg_replay.specs.Freshness.{highest_of, highest_with, is_behind, is_in}
 use Rattle.sg_replay.specs.declared.seen.Freshness.TheVariants.{New, Repeat, TooOld}
-use Rattle.sg_session.proofs.Lists.{each_weaker}
-use Rattle.sg_session.specs.Reach.{Sealed}
 use Rattle.sg_session.specs.Session.{Done, Key, Session, indices_of, is_admitted, is_live}
 use Rattle.sg_base.specs.declared.sources.Admit.{Admit}
 use Rattle.sg_base.specs.declared.sources.Admit.TheVariants as admit
+use Rattle.sg_gateway.proofs.Common.{Call, Sealed, World, each_weaker}
 use Rattle.sg_gateway.proofs.Pairs.{each_two}
 use Rattle.sg_gateway.specs.Arriving.{Arrives}
 use Rattle.sg_gateway.specs.Newness.{IsNewIn, IsLiveIn, IsFresh, IsAdmittedBy, ArrivesNew}
-use Rattle.sg_gateway.specs.World.{Call, World}
 
 -- the highest, where there is one, is below
 abbrev IsUnder : ℕ → Option ℕ → Type 0

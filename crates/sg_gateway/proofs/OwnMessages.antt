@@ -3,49 +3,34 @@
 use Rattle.std.proofs.Common.{◌≡◌, ℕ, ◌+◌, Bool, true, false, cond, not, ◌&&◌, eqb, eqb-true, List, [], ◌∷◌, length, map, Option, Some, None, Ok, refl, sym, ap, ◌∙◌, subst}
 use Rattle.std.proofs.lemmas.Bool.{and_parts, false≢true, not-false}
 use Rattle.std.specs.List.{Any, filter}
-use Rattle.sg_agreement.proofs.FewMedia.{described_is}
 use Rattle.sg_agreement.proofs.Inversions.{or_refusal_is}
 use Rattle.sg_agreement.proofs.MessagesSound.{cs_is, psk_is}
 use Rattle.sg_agreement.specs.Answers.{Answered, AgreedAnswer, accepted_answer, agreed_answer, answered_by}
 use Rattle.sg_agreement.specs.Attributes.{mikey_octets, mikey_value, own_ssrc, ssrcs_of}
 use Rattle.sg_agreement.specs.CarriedTexts.{carried_text, exchanged, ports_from, with_added}
 use Rattle.sg_agreement.specs.Described.{described}
-use Rattle.sg_agreement.specs.EachMedium.{each_kept}
-use Rattle.sg_agreement.specs.Keyed.{Keyed, media_agreed}
 use Rattle.sg_agreement.specs.Keying as keying
-use Rattle.sg_agreement.specs.Media.{Medium}
 use Rattle.sg_agreement.specs.MessageAnswers.{keyed_as_initiator, over_active, responded, streams_answered}
 use Rattle.sg_agreement.specs.Messages.{AtHand, message_in}
 use Rattle.sg_agreement.specs.Offers.{AgreedOffer, accepted_offer, agreed_offer, keying_of}
-use Rattle.sg_agreement.specs.Refusals.{of_cs, of_message, of_psk, or_refusal}
 use Rattle.sg_agreement.specs.Sides.{active_count, actives, actives_after, is_active}
-use Rattle.sg_agreement.specs.declared.ways.Way.TheVariants.{MikeyFromPlain}
-use Rattle.sg_base.proofs.SameOctets.{same_octets_is}
-use Rattle.sg_base.specs.declared.addresses.Side.TheVariants.{Secure, Plain}
 use Rattle.sg_base.specs.declared.faults.MikeyFault.TheVariants.{DataType}
 use Rattle.sg_base.specs.declared.faults.PskFault.TheVariants.{Algorithm, BadMac, OtherSession}
 use Rattle.sg_base.specs.declared.faults.Refusal.TheVariants.{KeyMgmt, Mikey}
 use Rattle.sg_csmap.specs.CryptoSessions.{streams_of}
-use Rattle.sg_csmap.specs.declared.sessions.StreamKeys.{StreamKeys}
 use Rattle.sg_mikey.specs.Reading as messages
-use Rattle.sg_mikey.specs.declared.message.CsEntry.{CsEntry}
-use Rattle.sg_mikey.specs.declared.message.Message.{Message}
-use Rattle.sg_mikey.specs.declared.message.Tgk.{Tgk}
 use Rattle.sg_psk.specs.Ends.{initial_sent}
 use Rattle.sg_psk.specs.Envelope.{mac_of}
-use Rattle.sg_psk.specs.Pairs.{is_with, pair_with}
 use Rattle.sg_psk.specs.Parts.{closing_in, policies_in, random_in, stamp_in}
 use Rattle.sg_psk.specs.Policy.{own_policy}
 use Rattle.sg_psk.specs.Sending.{Sent, initial_octets, key_of, one_key, own_map, response_fits, response_of, sent_of, sent_under}
-use Rattle.sg_psk.specs.declared.pairs.Pair.{Pair}
 use Rattle.sg_sdp.specs.Carrying.{carried}
 use Rattle.sg_sdp.specs.Descriptions.{spelling}
-use Rattle.sg_sdp.specs.Reading.{description_of}
 use Rattle.sg_sdp.specs.declared.medium.Medium as descriptions
-use Rattle.sg_sdp.specs.declared.medium.Profile.{Profile}
 use Rattle.sg_sdp.specs.declared.sdp.Sdp.{Sdp}
-use Rattle.sg_session.proofs.Inversions.{after_ok_is, ok_is, stop_if_is}
-use Rattle.sg_session.specs.declared.names.Direction.TheVariants.{Sealing}
+use Rattle.sg_gateway.proofs.Common.{CsEntry, Keyed, Medium, Message, MikeyFromPlain, Pair, Plain, Profile, Sealing, Secure, StreamKeys, Tgk, after_ok_is}
+use Rattle.sg_gateway.proofs.Common.{described_is, description_of, each_kept, is_with, media_agreed, of_cs, of_message, of_psk, ok_is, or_refusal, pair_with}
+use Rattle.sg_gateway.proofs.Common.{same_octets_is, stop_if_is}
 use Rattle.sg_gateway.proofs.Authentic.{find_any, message_is}
 use Rattle.sg_gateway.proofs.CryptoSessions.{AreOffered, IsMediumIn, IsOffered, IsResponded, PairsFrom, RespondedFrom, all_offered, all_responded, as_initiator, streams_sent}
 use Rattle.sg_gateway.proofs.MediaOver.{MediaFrom, SaidFrom, media_over}

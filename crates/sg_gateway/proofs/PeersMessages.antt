@@ -5,7 +5,6 @@ use Rattle.std.proofs.lemmas.Bool.{false≢true, not-false}
 use Rattle.std.specs.List.{AllByRecursion, cons_option, filter, filter_map, list_any, starts_with}
 use Rattle.std.specs.Prelude.{nat_eq}
 use Rattle.std.specs.Option.{is_some, option_map}
-use Rattle.sg_agreement.proofs.FewMedia.{described_is}
 use Rattle.sg_agreement.proofs.Inversions.{or_refusal_is}
 use Rattle.sg_agreement.proofs.MessagesSound.{cs_is, psk_is}
 use Rattle.sg_agreement.proofs.TextLines.{behind_is, kept_some, active_some}
@@ -13,47 +12,32 @@ use Rattle.sg_agreement.specs.Answers.{Answered, AgreedAnswer, accepted_answer, 
 use Rattle.sg_agreement.specs.Attributes.{behind, ends_word, first_of, has_message, mikey_octets, mikey_rest, mikey_value, octets_behind, own_ssrc}
 use Rattle.sg_agreement.specs.CarriedTexts.{carried_text, mikey_attribute, ports_from, rtp_port, with_added, with_media_lines}
 use Rattle.sg_agreement.specs.Described.{described}
-use Rattle.sg_agreement.specs.EachMedium.{each_active, each_kept, if_active, if_kept}
-use Rattle.sg_agreement.specs.Keyed.{Keyed, media_agreed, medium_agreed}
-use Rattle.sg_agreement.specs.Keying.{Keying, PeerLines, PeerMessage, PeerMessages, Offer}
-use Rattle.sg_agreement.specs.Media.{Medium}
 use Rattle.sg_agreement.specs.MessageAnswers.{first_streams, keyed_as_responder, keyed_by_message, over_active, own_streams, ssrcs_answered}
 use Rattle.sg_agreement.specs.Messages.{AtHand, Bundle, bundle_in, message_in}
 use Rattle.sg_agreement.specs.Offers.{AgreedOffer, agreed_offer, chosen_in, keying_by_messages, keying_of}
-use Rattle.sg_agreement.specs.Refusals.{of_cs, of_message, of_psk, or_refusal}
-use Rattle.sg_agreement.specs.Sides.{active_count, actives_after, is_active}
 use Rattle.sg_agreement.specs.TextLines.{IsMessageLine, HasNoMessage}
-use Rattle.sg_agreement.specs.declared.ways.Way.TheVariants.{FromSecure}
 use Rattle.sg_base.proofs.Cases.{and_then_some, guarded, map_some, none_some, some_is}
-use Rattle.sg_base.proofs.SameOctets.{same_octets_is}
 use Rattle.sg_base.specs.Fields.{cut_at}
-use Rattle.sg_base.specs.declared.addresses.Side.TheVariants.{Secure, Plain}
 use Rattle.sg_base.specs.declared.faults.MikeyFault.TheVariants.{DataType}
 use Rattle.sg_base.specs.declared.faults.PskFault.TheVariants.{Algorithm, BadMac, CacheFull}
-use Rattle.sg_base.specs.declared.faults.Refusal.{Refusal}
 use Rattle.sg_base.specs.declared.faults.Refusal.TheVariants.{KeyMgmt, Mikey}
 use Rattle.sg_csmap.specs.CryptoSessions.{streams_of}
-use Rattle.sg_csmap.specs.declared.sessions.StreamKeys.{StreamKeys}
 use Rattle.sg_mikey.specs.Reading as messages
-use Rattle.sg_mikey.specs.declared.message.CsEntry.{CsEntry}
-use Rattle.sg_mikey.specs.declared.message.Message.{Message}
-use Rattle.sg_mikey.specs.declared.message.Tgk.{Tgk}
 use Rattle.sg_psk.specs.Accepting.{Accepted, accepted_with, fault_of, initial_fits, initial_of, is_served, initial_under, keys_in, with_keys}
 use Rattle.sg_psk.specs.Envelope.{mac_of}
 use Rattle.sg_psk.specs.Pairs.{pair_named}
 use Rattle.sg_psk.specs.Parts.{closing_in, names_in, policies_in, random_in}
 use Rattle.sg_psk.specs.Sending.{response_octets}
-use Rattle.sg_psk.specs.declared.pairs.Pair.{Pair}
 use Rattle.sg_psk.specs.declared.replays.Noted.{Noted}
 use Rattle.sg_sdp.specs.Addresses.{with_address}
 use Rattle.sg_sdp.specs.Carrying.{attribute_name, carried, carried_line, carried_lines, carried_media, carried_medium, is_one_sided}
 use Rattle.sg_sdp.specs.Descriptions.{spelling}
-use Rattle.sg_sdp.specs.Reading.{description_of}
 use Rattle.sg_sdp.specs.declared.medium.Medium as descriptions
 use Rattle.sg_sdp.specs.declared.sdp.Sdp.{Sdp}
-use Rattle.sg_session.proofs.Inversions.{after_ok_is, ok_is, stop_if_is}
-use Rattle.sg_session.specs.declared.names.Direction.TheVariants.{Opening}
-use Rattle.sg_session.specs.Stages.{after_ok}
+use Rattle.sg_gateway.proofs.Common.{CsEntry, FromSecure, Keyed, Keying, Medium, Message, Offer, Opening, Pair, PeerLines, PeerMessage, PeerMessages, Plain}
+use Rattle.sg_gateway.proofs.Common.{Refusal, Secure, StreamKeys, Tgk, active_count, actives_after, after_ok, after_ok_is, described_is, description_of}
+use Rattle.sg_gateway.proofs.Common.{each_active, each_kept, if_active, if_kept, is_active, media_agreed, medium_agreed, of_cs, of_message, of_psk, ok_is}
+use Rattle.sg_gateway.proofs.Common.{or_refusal, same_octets_is, stop_if_is}
 use Rattle.sg_gateway.proofs.Authentic.{message_is, none_unless, pair_is, unless_is}
 use Rattle.sg_gateway.proofs.CryptoSessions.{AreAnswered, IsAnswered, IsMediumIn, IsPair, PairsFrom, all_answered, as_responder, streams_sent}
 use Rattle.sg_gateway.proofs.MediaOver.{MediaFrom, SaidFrom, media_over}

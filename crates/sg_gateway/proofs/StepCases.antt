@@ -5,33 +5,20 @@ use Rattle.std.specs.List.{Any, filter}
 use Rattle.std.specs.Option.{is_some}
 use Rattle.sg_agreement.specs.Answers.{AgreedAnswer, agreed_answer}
 use Rattle.sg_agreement.specs.Generations.{Generation, generation_of, keys_from, sessions_from}
-use Rattle.sg_agreement.specs.Keying.{Offer}
-use Rattle.sg_agreement.specs.Manual.{ManualCall, manual_medium}
-use Rattle.sg_agreement.specs.Media.{Medium}
 use Rattle.sg_agreement.specs.Offers.{AgreedOffer, agreed_offer}
-use Rattle.sg_agreement.specs.Sides.{other_side, side_of}
-use Rattle.sg_agreement.specs.declared.ways.Way.{Way}
 use Rattle.sg_base.specs.declared.addresses.Address.{Address}
-use Rattle.sg_base.specs.declared.addresses.CallId.{CallId}
-use Rattle.sg_base.specs.declared.faults.DropCause.{DropCause}
 use Rattle.sg_base.specs.declared.faults.DropCause.TheVariants.{PortUnused}
-use Rattle.sg_base.specs.declared.faults.Refusal.{Refusal}
 use Rattle.sg_base.specs.declared.faults.Refusal.TheVariants.{CallKnown, CallUnknown, PskFull, PskKnown, State, TableFull, TickBack}
 use Rattle.sg_outcome.specs.declared.outcomes.Why.TheVariants as why
 use Rattle.sg_psk.specs.Pairs.{has_pair}
-use Rattle.sg_psk.specs.declared.pairs.Pair.{Pair}
-use Rattle.sg_session.proofs.Inversions.{after_ok_is, ok_is, stop_if_is}
-use Rattle.sg_session.specs.Opening.{Taken}
 use Rattle.sg_session.specs.Ring.{Installed, install}
-use Rattle.sg_session.specs.Sealing.{datagram_of}
-use Rattle.sg_session.specs.Session.{Session}
+use Rattle.sg_gateway.proofs.Common.{Books, Call, CallId, DropCause, ManualCall, Medium, Offer, Pair, Refusal, Session, Taken, Way, World, after_ok_is}
+use Rattle.sg_gateway.proofs.Common.{call_at, call_of, datagram_of, is_full, manual_medium, ok_is, other_side, side_of, stop_if_is, with_call}
 use Rattle.sg_gateway.proofs.Arrivals.{Arrival, Is, IsDrop, IsOpening, IsSeal, arrival}
 use Rattle.sg_gateway.specs.CallSignals.{answered_to, at_hand, call_at_tick, has_begun, is_idle, keyed_manually, offered_in, takes_offer, with_notes}
 use Rattle.sg_gateway.specs.Datagrams.{Given, Happening, arrived_at, arrived_in, dropped, given_to, put}
 use Rattle.sg_gateway.specs.Generations.{Settled, keyed, renewed}
-use Rattle.sg_gateway.specs.Ports.{call_at}
 use Rattle.sg_gateway.specs.Signals.{Signal, Tick, Psk, Manual, Offered, Answered, Reject, Bye, Answer, answer, answer_to, answered, ending, in_new, in_old, left, new_call, offered_to, offering_side, refused, rejected, rejected_to, tells_answer, tells_ended, tells_live, tells_text}
-use Rattle.sg_gateway.specs.World.{Books, Call, World, call_of, is_full, with_call}
 
 -- ---- what a call settles
 
@@ -44,8 +31,8 @@ module _ (now : ℕ) (books : Books) where
   renewed_by c text media ring = by_generation c text (record { sessions = sessions_from c.serial c.generations 0 (length books.ring) media; ring = ring })
 
   -- the call with this open offer
-  abbrev pub offered_by : Call → AgreedOffer → Settled
-  offered_by c a = record {
+  abbrev pub settled_offer : Call → AgreedOffer → Settled
+  settled_offer c a = record {
     text = a.text;
     call = record c { media = a.media; offer = Some a.offer; moment = now };
     books = record books { noted = with_notes books.noted a.noted };
@@ -70,7 +57,7 @@ module _ (now : ℕ) (books : Books) where
       (a.0, a.1, k.0, k.1, k.2)
 
   pub offered_is : (c : Call) (way : Way) (noise text : List ℕ) (r : Settled) → offered_in now books c way noise text ≡ Ok r
-      → (a : AgreedOffer) × (agreed_offer (at_hand now books c noise) way text ≡ Ok a) × (offered_by c a ≡ r)
+      → (a : AgreedOffer) × (agreed_offer (at_hand now books c noise) way text ≡ Ok a) × (settled_offer c a ≡ r)
   offered_is c way noise text r e =
       let a = stop_if_is (not (takes_offer c)) State _ r e in
       let b = after_ok_is (agreed_offer (at_hand now books c noise) way text) _ r a.1 in
@@ -116,9 +103,9 @@ module _ (w : World) where
 
   module _ (id : CallId) (way : Way) (noise text : List ℕ) (P : Answer → Type 0) (refuses : (cause : Refusal) → P (refused w (Some id) cause))
       (begins : call_of w id ≡ None → is_full w ≡ false → (a : AgreedOffer) → agreed_offer (at_hand w.moment w.books (new_call w id) noise) way text ≡ Ok a
-      → P (in_new w id (tells_text id (other_side (side_of way))) (Ok (offered_by w.moment w.books (new_call w id) a))))
+      → P (in_new w id (tells_text id (other_side (side_of way))) (Ok (settled_offer w.moment w.books (new_call w id) a))))
       (offers : (c : Call) → call_of w id ≡ Some c → (a : AgreedOffer) → agreed_offer (at_hand w.moment w.books c noise) way text ≡ Ok a
-      → P (in_old w id (tells_text id (other_side (side_of way))) (Ok (offered_by w.moment w.books c a)))) where
+      → P (in_old w id (tells_text id (other_side (side_of way))) (Ok (settled_offer w.moment w.books c a)))) where
     new_offer : call_of w id ≡ None → is_full w ≡ false → (q : Result Settled Refusal) → offered_in w.moment w.books (new_call w id) way noise text ≡ q
         → P (in_new w id (tells_text id (other_side (side_of way))) q)
     new_offer none room (Err cause) e = refuses cause
@@ -189,10 +176,10 @@ module _ (w : World) where
         → P (Manual h) (in_new w h.id (tells_live h.id) (Ok (renewed_by w.moment w.books (manual_call h) [] (Some (manual_medium h) ∷ []) ring)))
     pub begins : (id : CallId) (way : Way) (noise text : List ℕ) → call_of w id ≡ None → is_full w ≡ false → (a : AgreedOffer)
         → agreed_offer (at_hand w.moment w.books (new_call w id) noise) way text ≡ Ok a
-        → P (Offered id way noise text) (in_new w id (tells_text id (other_side (side_of way))) (Ok (offered_by w.moment w.books (new_call w id) a)))
+        → P (Offered id way noise text) (in_new w id (tells_text id (other_side (side_of way))) (Ok (settled_offer w.moment w.books (new_call w id) a)))
     pub offers : (id : CallId) (way : Way) (noise text : List ℕ) (c : Call) → call_of w id ≡ Some c → (a : AgreedOffer)
         → agreed_offer (at_hand w.moment w.books c noise) way text ≡ Ok a
-        → P (Offered id way noise text) (in_old w id (tells_text id (other_side (side_of way))) (Ok (offered_by w.moment w.books c a)))
+        → P (Offered id way noise text) (in_old w id (tells_text id (other_side (side_of way))) (Ok (settled_offer w.moment w.books c a)))
     pub answers : (id : CallId) (noise text : List ℕ) (c : Call) → call_of w id ≡ Some c → (o : Offer) → c.offer ≡ Some o → (g : AgreedAnswer)
         → agreed_answer c.slot o noise text ≡ Ok g → (ring : List Installed) → Installs w.moment w.books c g.media ring
         → P (Answered id noise text) (in_old w id (tells_answer id o.side) (Ok (renewed_by w.moment w.books c g.text g.media ring)))

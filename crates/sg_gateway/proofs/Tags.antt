@@ -2,16 +2,12 @@
 use Rattle.std.proofs.Common.{◌≡◌, ℕ, ◌+◌, ◌-◌, ◌/◌, true, List, ◌++◌, length, take, drop, Ok, sym, ap, ◌∙◌, arith, ltb}
 use Rattle.std.proofs.lemmas.Bool.{ltb-false}
 use Rattle.std.proofs.lemmas.List.{length-take-le, length-drop}
-use Rattle.sg_base.proofs.SameOctets.{same_octets_is, same_octets_true}
 use Rattle.sg_base.specs.Octets.{be}
-use Rattle.sg_base.specs.declared.addresses.Kind.{Kind}
-use Rattle.sg_base.specs.declared.addresses.Kind.TheVariants.{Rtp, Rtcp}
 use Rattle.sg_base.specs.declared.faults.DropCause.TheVariants as cause
 use Rattle.sg_hmac.specs.Hmac.{hmac_sha1}
-use Rattle.sg_session.proofs.Inversions.{stop_if_is}
 use Rattle.sg_session.proofs.Taking.{IsCheckOf, checked_is}
 use Rattle.sg_session.specs.Opening.{Check, Head, before_mki, checked, covered_of_kind, end_len, half_in, head_in, head_of_kind, mki_in, mki_len, tag_fits, tag_in}
-use Rattle.sg_session.specs.Session.{Session}
+use Rattle.sg_gateway.proofs.Common.{Kind, Rtcp, Rtp, Session, same_octets_is, same_octets_true, stop_if_is}
 use Rattle.sg_gateway.specs.Unforged.{HasTag, under_tag}
 
 mki_long : (s : Session) (d : List ℕ) (h : Head) → head_in s d ≡ Ok h → length (mki_in s d) ≡ mki_len s

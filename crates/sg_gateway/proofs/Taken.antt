@@ -4,22 +4,16 @@ use Rattle.std.proofs.lemmas.Bool.{cond-true, cond-false, lt-ltb}
 use Rattle.std.proofs.lemmas.List.{append-nil}
 use Rattle.std.specs.Option.{is_some}
 use Rattle.sg_agreement.specs.Generations.{Generation, generation_of}
-use Rattle.sg_agreement.specs.Manual.{ManualCall, manual_medium}
 use Rattle.sg_agreement.specs.Offers.{AgreedOffer}
-use Rattle.sg_agreement.specs.Sides.{side_of, other_side}
-use Rattle.sg_agreement.specs.declared.ways.Way.{Way}
-use Rattle.sg_base.specs.declared.addresses.CallId.{CallId}
-use Rattle.sg_base.specs.declared.faults.Refusal.{Refusal}
 use Rattle.sg_base.specs.declared.faults.Refusal.TheVariants.{State, CallKnown, TableFull}
-use Rattle.sg_outcome.specs.declared.outcomes.Outcome.{Outcome}
 use Rattle.sg_outcome.specs.declared.outcomes.Outcome.TheVariants.{Made, Live, Sdp}
-use Rattle.sg_session.specs.Stages.{after_ok}
+use Rattle.sg_gateway.proofs.Common.{Call, CallId, ManualCall, Outcome, Refusal, Way, World, after_ok, and_call, call_of, find_call, is_full, manual_medium}
+use Rattle.sg_gateway.proofs.Common.{other_side, same_id, side_of}
 use Rattle.sg_gateway.proofs.CarriedOut.{found_with, id_found}
 use Rattle.sg_gateway.specs.CallSignals.{offered_in, takes_offer, with_notes}
 use Rattle.sg_gateway.specs.Generations.{Settled, renewed}
 use Rattle.sg_gateway.specs.Signals.{Answer, Manual, Offered, answer_to, in_new, in_old, new_call, offered_to, refused, tells_live, tells_text}
 use Rattle.sg_gateway.specs.Taken.{IsAgreed, HasOpen}
-use Rattle.sg_gateway.specs.World.{Call, World, and_call, call_of, find_call, is_full, same_id}
 
 pub same_id_itself : (id : CallId) → same_id id id ≡ true
 same_id_itself id = eq-eqb id.0 id.0 refl

@@ -1,8 +1,6 @@
 -- What each event keeps of the turns so far and of the world holds before each turn of a run, and at its end.
 use Rattle.std.proofs.Common.{◌≡◌, List, [], ◌∷◌, ◌++◌, sym, ap, ◌∙◌, subst, append_assoc, append-nil}
-use Rattle.sg_gateway.specs.Runs.{Turn, turn_of, turns_from, world_after}
-use Rattle.sg_gateway.specs.Step.{Event, step}
-use Rattle.sg_gateway.specs.World.{World}
+use Rattle.sg_gateway.proofs.Common.{Event, Turn, World, step, turn_of, turns_from, world_after}
 
 module _ (Keeps : List Turn → World → Type 0) (on : (ts : List Turn) (w : World) → Keeps ts w → (e : Event) → Keeps (ts ++ turn_of w e ∷ []) (step w e).world) where
   pub kept_after : (ts : List Turn) (w : World) (es : List Event) → Keeps ts w → Keeps (ts ++ turns_from w es) (world_after w es)

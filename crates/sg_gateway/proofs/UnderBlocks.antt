@@ -4,20 +4,13 @@ use Rattle.std.proofs.lemmas.List.{get_or-append_right, get_or_append_left, get_
 use Rattle.std.specs.List.{Any}
 use Rattle.sg_base.specs.Octets.{xor_octets}
 use Rattle.sg_base.specs.declared.addresses.Address.{Address}
-use Rattle.sg_base.specs.declared.addresses.Kind.{Kind}
-use Rattle.sg_base.specs.declared.addresses.Kind.TheVariants.{Rtp, Rtcp}
 use Rattle.sg_base.specs.declared.keys.HalfKeys.{HalfKeys}
 use Rattle.sg_ctr.proofs.StreamLemmas.{length-keystream, octet_of_keystream, octet_of_xor}
 use Rattle.sg_ctr.specs.Keystream.{counter_value, key_block, keystream}
-use Rattle.sg_kdf.specs.SessionKeys.{session_keys}
-use Rattle.sg_outcome.specs.declared.outcomes.Outcome.TheVariants.{Out}
 use Rattle.sg_session.proofs.Texts.{length-crypted}
-use Rattle.sg_session.specs.Halves.{half_of}
 use Rattle.sg_session.specs.Reach.{choice_of, text_in}
 use Rattle.sg_session.specs.Sealed.{crypted, head_size, index_word, rtcp_tag, rtp_tag, sealed_text}
-use Rattle.sg_session.specs.Session.{Session}
-use Rattle.sg_gateway.specs.Datagrams.{Entry}
-use Rattle.sg_gateway.specs.Runs.{Turn}
+use Rattle.sg_gateway.proofs.Common.{Entry, Kind, Out, Rtcp, Rtp, Session, Turn, half_of, session_keys}
 use Rattle.sg_gateway.specs.SealedOut.{IsSealedOutOf, sealed_by}
 use Rattle.sg_gateway.specs.Used.{IsUnderItsBlocks}
 

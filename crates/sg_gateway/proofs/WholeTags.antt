@@ -5,38 +5,23 @@ use Rattle.sg_agreement.proofs.KeyedSound.{Sometimes}
 use Rattle.sg_agreement.specs.Answers.{Answered, AgreedAnswer, accepted_answer, agreed_answer, answered, answered_by}
 use Rattle.sg_agreement.specs.Attributes.{crypto_values, first_of, mikey_value}
 use Rattle.sg_agreement.specs.Described.{described}
-use Rattle.sg_agreement.specs.EachMedium.{each_kept, if_kept}
-use Rattle.sg_agreement.specs.Generations.{numbered, owner_at, stream_session, stream_sessions, sessions_from}
-use Rattle.sg_agreement.specs.Keyed.{Keyed, media_agreed, medium_agreed}
 use Rattle.sg_agreement.specs.Keying.{Keying, PeerLines, OwnLines, PeerMessage, PeerMessages, OwnMessage, Offer}
 use Rattle.sg_agreement.specs.LineAnswers.{keyed_by_matched, keyed_by_own_lines, keyed_by_peer_line, lines_matched}
-use Rattle.sg_agreement.specs.Manual.{ManualCall, manual_medium}
-use Rattle.sg_agreement.specs.Media.{Medium, Stream}
 use Rattle.sg_agreement.specs.MessageAnswers.{keyed_as_initiator, keyed_as_responder, keyed_by_message, over_active, own_streams, streams_answered}
 use Rattle.sg_agreement.specs.Offers.{noise_of}
-use Rattle.sg_agreement.specs.Refusals.{of_sdes}
-use Rattle.sg_agreement.specs.Sides.{active_count, actives_after, other_side}
 use Rattle.sg_base.specs.Suites.{tag_len_of}
-use Rattle.sg_base.specs.declared.addresses.Side.{Side}
-use Rattle.sg_base.specs.declared.addresses.Side.TheVariants.{Secure, Plain}
-use Rattle.sg_base.specs.declared.faults.Refusal.{Refusal}
 use Rattle.sg_sdes.specs.Answers.{answer_by}
 use Rattle.sg_sdp.specs.declared.medium.Medium as descriptions
 use Rattle.sg_sdp.specs.declared.sdp.Sdp.{Sdp}
-use Rattle.sg_session.proofs.Inversions.{after_ok_is, ok_is}
-use Rattle.sg_base.specs.declared.addresses.Kind.TheVariants.{Rtp, Rtcp}
 use Rattle.sg_base.specs.declared.suites.Suite.{Suite}
 use Rattle.sg_base.specs.declared.suites.Suite.TheVariants.{Raw80, Cm128Tag80, Cm128Tag32, Cm192Tag80, Cm192Tag32, Cm256Tag80, Cm256Tag32}
-use Rattle.sg_session.proofs.Lists.{each_append, each_weaker, both}
-use Rattle.sg_session.specs.Session.{Done, Key, Session, same_name, with_done}
-use Rattle.sg_session.specs.declared.names.Direction.TheVariants.{Opening, Sealing}
-use Rattle.sg_session.specs.declared.names.Name.{Name}
-use Rattle.sg_session.specs.declared.names.Owner.{Owner}
+use Rattle.sg_gateway.proofs.Common.{Done, Entry, Key, Keyed, ManualCall, Medium, Name, Opening, Owner, Plain, Refusal, Rtcp, Rtp, Sealing, Secure, Session}
+use Rattle.sg_gateway.proofs.Common.{Side, Stream, World, active_count, actives_after, after_ok_is, both, each_append, each_kept, each_weaker, if_kept}
+use Rattle.sg_gateway.proofs.Common.{manual_medium, media_agreed, medium_agreed, numbered, of_sdes, ok_is, other_side, owner_at, same_name, sessions_from}
+use Rattle.sg_gateway.proofs.Common.{stream_session, stream_sessions, with_done}
 use Rattle.sg_gateway.proofs.Kept.{IsKept}
 use Rattle.sg_gateway.proofs.Signals.{AllHave}
-use Rattle.sg_gateway.specs.Datagrams.{Entry}
 use Rattle.sg_gateway.specs.Tags.{IsTagLength, HasWholeTags, HaveWholeTags}
-use Rattle.sg_gateway.specs.World.{World}
 
 pub whole_on : (n : Name) (d : Done) (s : Session) → HasWholeTags s → HasWholeTags (with_done n d s)
 whole_on n d s is = both HasWholeTags (same_name s.name n) (record s { done = s.done ++ d ∷ [] }) s is is

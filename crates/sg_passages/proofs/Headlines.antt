@@ -1,9 +1,7 @@
 -- Each part of the headline that tells what becomes of an event, over passages.
 use Rattle.std.proofs.Common.{◌⊎◌, inl, inr, ℕ, ◌∷◌, List, get_or, ◌∙◌, subst}
 use Rattle.std.specs.List.{All}
-use Rattle.sg_session.proofs.Lists.{any_weaker}
-use Rattle.sg_session.specs.Reach.{Sealed}
-use Rattle.sg_session.specs.Session.{Session}
+use Rattle.sg_gateway.proofs.Common.{Call, Entry, Event, Sealed, Session, Turn, any_weaker, turns}
 use Rattle.sg_gateway.specs.Addressed.{OfferIsItsText, OffersAreTheirTexts}
 use Rattle.sg_conduct.specs.Carried.{OfferIsCarried, OffersAreCarried}
 use Rattle.sg_conduct.specs.Offers.{OfferIsTaken, OffersAreTaken}
@@ -13,16 +11,12 @@ use Rattle.sg_conduct.specs.Settled.{DatagramIsSettled, EachDatagramIsSettled, I
 use Rattle.sg_gateway.specs.Arriving as arriving
 use Rattle.sg_gateway.specs.Authentic.{MessagesAreAcceptedOnce, NotesStay, OfferIsAuthentic}
 use Rattle.sg_gateway.specs.CarriedOut.{AnswerRenews, AnswersRenew}
-use Rattle.sg_gateway.specs.Datagrams.{Entry}
 use Rattle.sg_gateway.specs.Ended.{EachEndFrees, EndsAreFree}
 use Rattle.sg_gateway.specs.PeersPackets as peers
 use Rattle.sg_gateway.specs.PlainTexts.{NoKeyGoesToThePlainSide, TellsNoKey}
 use Rattle.sg_gateway.specs.Refusing.{EachRefusalChangesNothing, EachRefusedOfferStaysOpen, OffersStayOpen}
-use Rattle.sg_gateway.specs.Runs.{Turn, turns}
 use Rattle.sg_gateway.specs.SealedOut as seals
-use Rattle.sg_gateway.specs.Step.{Event}
 use Rattle.sg_gateway.specs.Used.{EachSealUsesItsBlocks, SealsUseTheirBlocks}
-use Rattle.sg_gateway.specs.World.{Call}
 use Rattle.sg_passages.proofs.Lifting.{bars_out, bars_plain, bars_secure, each, made_live, none_told, one_out, some_end, some_refusal, told_out, told_refusal}
 use Rattle.sg_passages.proofs.Texts.{told_no_key}
 use Rattle.sg_passages.specs.Passages.{ArePassagesOf, AreToldAs, IsFaithful, Passage}

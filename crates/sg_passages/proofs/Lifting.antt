@@ -3,14 +3,9 @@ use Rattle.std.proofs.Common.{◌≡◌, inl, inr, ℕ, ◌+◌, ◌-◌, ◌/�
 use Rattle.std.specs.List.{All, Any, AllByRecursion}
 use Rattle.std.proofs.lemmas.List.Elements.{All-from_recursion, recursion_from_All}
 use Rattle.sg_base.specs.declared.addresses.Address.{Address}
-use Rattle.sg_base.specs.declared.addresses.CallId.{CallId}
-use Rattle.sg_outcome.specs.declared.outcomes.Outcome.{Outcome}
 use Rattle.sg_outcome.specs.declared.outcomes.Outcome.TheVariants.{Made, Live, Sdp, Refused, Ended, Out, Dropped, Unsent}
 use Rattle.sg_outcome.specs.declared.outcomes.Why.{Why}
-use Rattle.sg_session.proofs.Lists.{any_cases, any_here, any_none, any_there}
-use Rattle.sg_gateway.specs.PeersPackets.{IsOutPlain}
-use Rattle.sg_gateway.specs.Refusing.{IsRefusal, IsRefused}
-use Rattle.sg_gateway.specs.Runs.{Turn}
+use Rattle.sg_gateway.proofs.Common.{CallId, IsOutPlain, IsRefusal, IsRefused, Outcome, Turn, any_cases, any_here, any_none, any_there}
 use Rattle.sg_gateway.specs.SealedOut.{IsOut, IsOutSecure}
 use Rattle.sg_passages.specs.Passages.{AreToldAs, IsFaithful, IsToldAs, KeepsLegs, Leaves, Leaving, Passage, out_by}
 use Rattle.sg_passages.specs.Told.{as_told}

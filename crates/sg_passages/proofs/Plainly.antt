@@ -2,12 +2,9 @@
 use Rattle.std.proofs.Common.{◌≡◌, ◌⊎◌, inl, ℕ, List, [], ◌∷◌, map, refl, ap}
 use Rattle.std.specs.List.{Any, AllByRecursion, slice_split}
 use Rattle.std.proofs.lemmas.List.Elements.{All-from_recursion}
-use Rattle.sg_outcome.specs.declared.outcomes.Outcome.{Outcome}
 use Rattle.sg_outcome.specs.declared.outcomes.Outcome.TheVariants.{Made, Live, Sdp, Refused, Ended, Out, Dropped, Unsent}
-use Rattle.sg_session.proofs.Lists.{any_here, any_there, each_weaker}
+use Rattle.sg_gateway.proofs.Common.{Event, Outcome, Turn, any_here, any_there, each_weaker, turns}
 use Rattle.sg_gateway.specs.PlainTexts.{ends_line}
-use Rattle.sg_gateway.specs.Runs.{Turn, turns}
-use Rattle.sg_gateway.specs.Step.{Event}
 use Rattle.sg_passages.specs.Passages.{AddsMuxLines, ArePassagesOf, AreToldAs, IsFaithful, IsToldAs, mux_line, plain_passages, plainly, straight}
 
 -- a text has its own lines and no others

@@ -3,12 +3,8 @@ use Rattle.std.proofs.Common.{◌≡◌, ◌⊎◌, inl, inr, ℕ, List, [], ◌
 use Rattle.std.specs.List.{All, Any, AllByRecursion, slice_split}
 use Rattle.std.specs.Prelude.{slice_index}
 use Rattle.std.proofs.lemmas.List.Elements.{All-from_recursion, recursion_from_All}
-use Rattle.sg_base.specs.declared.addresses.CallId.{CallId}
-use Rattle.sg_base.specs.declared.addresses.Side.{Side}
-use Rattle.sg_base.specs.declared.addresses.Side.TheVariants.{Secure, Plain}
-use Rattle.sg_outcome.specs.declared.outcomes.Outcome.{Outcome}
 use Rattle.sg_outcome.specs.declared.outcomes.Outcome.TheVariants.{Made, Live, Sdp, Refused, Ended, Out, Dropped, Unsent}
-use Rattle.sg_session.proofs.Lists.{any_cases, any_none, each_at_this, each_weaker}
+use Rattle.sg_gateway.proofs.Common.{CallId, Outcome, Plain, Secure, Side, any_cases, any_none, each_at_this, each_weaker}
 use Rattle.sg_gateway.specs.PlainTexts.{HasNoKey, IsKeyLine, TellsNoKey, ends_line}
 use Rattle.sg_passages.specs.Passages.{AddsMuxLines, AreToldAs, IsFaithful, IsToldAs, Leaves, Passage, mux_line}
 

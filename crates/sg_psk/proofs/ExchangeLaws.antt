@@ -77,7 +77,7 @@ initial_spelled w =
     ap (λ prefix. prefix ++ mac_of w.pair.key w.csb w.random (initial_start w)) (initial_start_is w)
     ∙ sym (initial_ends w (mac_of w.pair.key w.csb w.random (initial_start w)))
 
-initial_before : (w : Sent) → before_mac (initial_octets w) ≡ initial_start w
+pub initial_before : (w : Sent) → before_mac (initial_octets w) ≡ initial_start w
 unfolding initial_octets
 initial_before w = before_is (initial_start w) _ (length-mac w.pair.key w.csb w.random (initial_start w))
 
@@ -156,7 +156,7 @@ pub response_spelled : (i : Accepted) (ssrcs : List ℕ) → response_octets i s
 unfolding response_octets
 response_spelled i ssrcs = ap (λ prefix. prefix ++ response_mac i ssrcs) (response_start_is i ssrcs) ∙ sym (response_ends i ssrcs (response_mac i ssrcs))
 
-response_before : (i : Accepted) (ssrcs : List ℕ) → before_mac (response_octets i ssrcs) ≡ response_start i ssrcs
+pub response_before : (i : Accepted) (ssrcs : List ℕ) → before_mac (response_octets i ssrcs) ≡ response_start i ssrcs
 unfolding response_octets
 response_before i ssrcs = before_is (response_start i ssrcs) _ (length-mac i.pair.key i.csb i.random _)
 

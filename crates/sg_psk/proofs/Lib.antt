@@ -1,5 +1,5 @@
 mod AcceptLemmas
-mod ExchangeLaws
+pub mod ExchangeLaws
 mod KeyLemmas
 mod Literals
 mod MacLemmas

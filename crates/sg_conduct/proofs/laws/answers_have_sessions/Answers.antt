@@ -1,14 +1,10 @@
 use Rattle.std.proofs.Common.{◌≡◌, ◌+◌, Ok, Some, sym, subst}
 use Rattle.std.proofs.lemmas.List.Elements.{All-from_recursion}
+use Rattle.sg_gateway.proofs.Common.{Event, call_of, description_of, each_of, each_weaker, step, turns}
 use Rattle.sg_gateway.proofs.Agreements.{Agreements}
 use Rattle.sg_gateway.proofs.Datagrams.{every_turn}
 use Rattle.sg_gateway.proofs.Kept.{IsOffered}
 use Rattle.sg_gateway.proofs.Reached.{Anything, anything_had, anything_on}
-use Rattle.sg_gateway.specs.Runs.{turns}
-use Rattle.sg_gateway.specs.Step.{Event, step}
-use Rattle.sg_gateway.specs.World.{call_of}
-use Rattle.sg_sdp.specs.Reading.{description_of}
-use Rattle.sg_session.proofs.Lists.{each_of, each_weaker}
 use Rattle.sg_conduct.proofs.Present.{AreTherein, answer_therein}
 use Rattle.sg_conduct.specs.Present.{AnswerHasSessions}
 use Rattle.sg_conduct.proofs.laws.answers_have_sessions.Goals as goal

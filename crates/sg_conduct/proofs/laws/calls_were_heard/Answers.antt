@@ -1,12 +1,11 @@
 use Rattle.std.proofs.Common.{[]}
 use Rattle.std.specs.List.{AllByRecursion}
+use Rattle.sg_gateway.proofs.Common.{after_turn, empty, world_after}
 use Rattle.sg_gateway.proofs.Agreements.{Agreements}
 use Rattle.sg_gateway.proofs.Datagrams.{every_turn}
 use Rattle.sg_gateway.proofs.Orderly.{Ordered}
 use Rattle.sg_gateway.proofs.Pairs.{each_two}
 use Rattle.sg_gateway.proofs.Reached.{Anything, anything_had, anything_on, ordered_worlds}
-use Rattle.sg_gateway.specs.Runs.{after_turn, world_after}
-use Rattle.sg_gateway.specs.World.{empty}
 use Rattle.sg_conduct.proofs.Heard.{calls_heard}
 use Rattle.sg_conduct.proofs.Latest.{Settles, event_settles, run_latest}
 use Rattle.sg_conduct.proofs.laws.calls_were_heard.Goals as goal

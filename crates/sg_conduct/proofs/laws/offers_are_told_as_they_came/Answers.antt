@@ -1,7 +1,6 @@
 use Rattle.std.proofs.lemmas.List.Elements.{All-from_recursion, recursion_from_All}
-use Rattle.sg_gateway.specs.Runs.{turns}
+use Rattle.sg_gateway.proofs.Common.{empty, turns}
 use Rattle.sg_gateway.specs.Taken.{LaterOfferIsTaken, NewOfferIsTaken}
-use Rattle.sg_gateway.specs.World.{empty}
 use Rattle.sg_conduct.proofs.Forth.{each_carried}
 use Rattle.sg_conduct.specs.Carried.{OfferIsCarried}
 use Rattle.sg_conduct.proofs.laws.offers_are_told_as_they_came.Goals as goal

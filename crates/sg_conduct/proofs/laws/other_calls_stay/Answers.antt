@@ -1,17 +1,12 @@
 use Rattle.std.proofs.Common.{◌≡◌, ℕ, Some, sym, subst}
 use Rattle.std.proofs.lemmas.List.Elements.{All-from_recursion}
 use Rattle.std.specs.List.{All, Any}
+use Rattle.sg_gateway.proofs.Common.{Event, IsBefore, Signal, Tick, World, answer_to, named, step, turns}
 use Rattle.sg_gateway.proofs.Agreements.{Agreements}
 use Rattle.sg_gateway.proofs.Datagrams.{every_turn}
 use Rattle.sg_gateway.proofs.Orderly.{Ordered}
 use Rattle.sg_gateway.proofs.Reached.{Anything, anything_had, anything_on, ordered_worlds}
-use Rattle.sg_gateway.specs.Early.{named}
-use Rattle.sg_gateway.specs.Runs.{turns}
 use Rattle.sg_gateway.proofs.Pairs.{Pairs}
-use Rattle.sg_gateway.specs.Order.{IsBefore}
-use Rattle.sg_gateway.specs.Signals.{Signal, Tick, answer_to}
-use Rattle.sg_gateway.specs.World.{World}
-use Rattle.sg_gateway.specs.Step.{Event, step}
 use Rattle.sg_gateway.proofs.Lists.{each_of_list}
 use Rattle.sg_conduct.proofs.Others.{others_stay}
 use Rattle.sg_conduct.specs.Others.{OthersStay}

@@ -1,14 +1,11 @@
 use Rattle.std.proofs.Common.{◌≡◌, Some, sym, subst}
 use Rattle.std.proofs.lemmas.List.Elements.{All-from_recursion}
 use Rattle.std.specs.List.{Any}
+use Rattle.sg_gateway.proofs.Common.{Event, Refused, each_of, each_weaker, step, turns}
 use Rattle.sg_gateway.proofs.Agreements.{Agreements}
 use Rattle.sg_gateway.proofs.Datagrams.{every_turn}
 use Rattle.sg_gateway.proofs.Kept.{IsOffered}
 use Rattle.sg_gateway.proofs.Reached.{Anything, anything_had, anything_on}
-use Rattle.sg_gateway.specs.Runs.{turns}
-use Rattle.sg_gateway.specs.Step.{Event, step}
-use Rattle.sg_outcome.specs.declared.outcomes.Outcome.TheVariants.{Refused}
-use Rattle.sg_session.proofs.Lists.{each_of, each_weaker}
 use Rattle.sg_conduct.proofs.Causes.{refusal_shows}
 use Rattle.sg_conduct.specs.Causes.{RefusedAnswerShowsCause, Shows}
 use Rattle.sg_conduct.proofs.laws.refused_answers_show_causes.Goals as goal

@@ -1,15 +1,9 @@
 use Rattle.std.proofs.Common.{◌≡◌, List, [], ◌∷◌, cond, refl, ◌∙◌}
+use Rattle.sg_gateway.proofs.Common.{Entry, IsSound, Name, each_weaker, empty, journal, same_name, world_after}
 use Rattle.sg_gateway.proofs.Agreements.{Agreements}
 use Rattle.sg_gateway.proofs.Datagrams.{journal_kept}
 use Rattle.sg_gateway.proofs.Kept.{done_of}
 use Rattle.sg_gateway.proofs.Sound.{all_sound, sound_on}
-use Rattle.sg_gateway.specs.Datagrams.{Entry}
-use Rattle.sg_gateway.specs.Runs.{journal, world_after}
-use Rattle.sg_gateway.specs.World.{empty}
-use Rattle.sg_session.proofs.Lists.{each_weaker}
-use Rattle.sg_session.specs.Reach.{IsSound}
-use Rattle.sg_session.specs.Session.{same_name}
-use Rattle.sg_session.specs.declared.names.Name.{Name}
 use Rattle.sg_conduct.specs.Standing.{done_by}
 use Rattle.sg_conduct.proofs.laws.sessions_have_done_what_was_done.Goals as goal
 

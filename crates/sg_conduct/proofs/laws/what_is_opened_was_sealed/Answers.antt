@@ -1,10 +1,8 @@
 use Rattle.std.proofs.lemmas.List.Elements.{All-from_recursion}
+use Rattle.sg_gateway.proofs.Common.{IsSound, each_of, turns}
 use Rattle.sg_gateway.proofs.Agreements.{Agreements}
 use Rattle.sg_gateway.proofs.Datagrams.{every_turn}
 use Rattle.sg_gateway.proofs.Sound.{all_sound, sound_on}
-use Rattle.sg_gateway.specs.Runs.{turns}
-use Rattle.sg_session.proofs.Lists.{each_of}
-use Rattle.sg_session.specs.Reach.{IsSound}
 use Rattle.sg_conduct.proofs.Unsealing.{unsealed_at}
 use Rattle.sg_conduct.specs.Unsealed.{OpeningsAreUnsealed}
 use Rattle.sg_conduct.proofs.laws.what_is_opened_was_sealed.Goals as goal

@@ -1,15 +1,10 @@
 use Rattle.std.proofs.Common.{◌≡◌, Some, sym, subst}
 use Rattle.std.proofs.lemmas.List.Elements.{All-from_recursion}
-use Rattle.sg_agreement.specs.Keying.{Offer}
+use Rattle.sg_gateway.proofs.Common.{Call, Event, IsRefused, Offer, World, call_of, each_of, step, turn_of, turns}
 use Rattle.sg_gateway.proofs.Authentic.{offer_once, event_stays}
 use Rattle.sg_gateway.proofs.Datagrams.{every_turn}
 use Rattle.sg_gateway.proofs.Reached.{Anything, anything_on, anything_had}
 use Rattle.sg_gateway.specs.Authentic.{AreAcceptedOnce, OfferIsAuthentic, NotesStay}
-use Rattle.sg_gateway.specs.Refusing.{IsRefused}
-use Rattle.sg_gateway.specs.Runs.{turns, turn_of}
-use Rattle.sg_gateway.specs.Step.{Event, step}
-use Rattle.sg_gateway.specs.World.{Call, World, call_of}
-use Rattle.sg_session.proofs.Lists.{each_of}
 use Rattle.sg_gateway.proofs.laws.messages_are_accepted_once.Goals as goal
 
 authentic_at : (w : World) (e : Event) → OfferIsAuthentic (turn_of w e)

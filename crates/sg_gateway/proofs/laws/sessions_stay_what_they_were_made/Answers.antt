@@ -1,14 +1,11 @@
 use Rattle.std.proofs.Common.{◌≡◌, Some, sym, subst}
 use Rattle.std.proofs.lemmas.List.Elements.{All-from_recursion}
 use Rattle.std.specs.List.{All}
-use Rattle.sg_session.proofs.Lists.{each_of}
+use Rattle.sg_gateway.proofs.Common.{Event, World, call_of, each_of, step, turn_of, turns}
 use Rattle.sg_gateway.proofs.Datagrams.{every_turn}
 use Rattle.sg_gateway.proofs.Lasting.{manual_told, sessions_last}
 use Rattle.sg_gateway.proofs.Reached.{Anything, anything_on, anything_had}
 use Rattle.sg_gateway.specs.Lasting.{ManualIsAsTold, IsOfManual}
-use Rattle.sg_gateway.specs.Runs.{turns, turn_of}
-use Rattle.sg_gateway.specs.Step.{Event, step}
-use Rattle.sg_gateway.specs.World.{World, call_of}
 use Rattle.sg_gateway.proofs.laws.sessions_stay_what_they_were_made.Goals as goal
 
 pub returns-clause-last : goal.returns-clause-last

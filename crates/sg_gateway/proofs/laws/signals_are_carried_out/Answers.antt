@@ -1,18 +1,13 @@
 use Rattle.std.proofs.Common.{◌≡◌, ◌+◌, ◌<◌, Some, None, sym, subst}
 use Rattle.std.proofs.lemmas.List.Elements.{All-from_recursion}
 use Rattle.std.specs.List.{All, Any, Contains}
+use Rattle.sg_gateway.proofs.Common.{Call, Event, IsRefused, Opening, call_of, each_of, each_weaker, step, turn_of, turns}
 use Rattle.sg_gateway.proofs.Agreements.{Agreements}
 use Rattle.sg_gateway.proofs.CarriedOut.{tick_moves, tick_keeps, bye_ends, rejection_closes, answer_renews, answer_keeps_earlier}
 use Rattle.sg_gateway.proofs.Datagrams.{every_turn}
 use Rattle.sg_gateway.proofs.Orderly.{Ordered}
 use Rattle.sg_gateway.proofs.Reached.{Anything, anything_on, anything_had, ordered_worlds}
 use Rattle.sg_gateway.specs.CarriedOut.{ByeEnds, TickMoves, IsKeptTo, TickKeeps, RejectionCloses, AnswerRenews, AnswerKeepsEarlier}
-use Rattle.sg_gateway.specs.Refusing.{IsRefused}
-use Rattle.sg_gateway.specs.Runs.{turns, turn_of}
-use Rattle.sg_gateway.specs.Step.{Event, step}
-use Rattle.sg_gateway.specs.World.{Call, call_of}
-use Rattle.sg_session.proofs.Lists.{each_of, each_weaker}
-use Rattle.sg_session.specs.declared.names.Direction.TheVariants.{Opening}
 use Rattle.sg_gateway.proofs.laws.signals_are_carried_out.Goals as goal
 
 pub returns-clause-byes : goal.returns-clause-byes

@@ -1,16 +1,11 @@
 use Rattle.std.proofs.Common.{◌≡◌, [], ◌∷◌, Some, sym, subst}
 use Rattle.std.proofs.lemmas.List.Elements.{All-from_recursion}
-use Rattle.sg_agreement.specs.Sides.{side_of, other_side}
 use Rattle.sg_outcome.specs.declared.outcomes.Outcome.TheVariants.{Made, Live, Sdp}
+use Rattle.sg_gateway.proofs.Common.{Call, Event, World, call_of, each_of, new_call, other_side, side_of, step, turn_of, turns}
 use Rattle.sg_gateway.proofs.Datagrams.{every_turn}
 use Rattle.sg_gateway.proofs.Reached.{Anything, anything_on, anything_had}
 use Rattle.sg_gateway.proofs.Taken.{new_offer_taken, later_offer_taken, manual_call_taken}
-use Rattle.sg_gateway.specs.Runs.{turns, turn_of}
-use Rattle.sg_gateway.specs.Signals.{new_call}
-use Rattle.sg_gateway.specs.Step.{Event, step}
 use Rattle.sg_gateway.specs.Taken.{HasOpen, NewOfferIsTaken, LaterOfferIsTaken, ManualCallIsTaken}
-use Rattle.sg_gateway.specs.World.{Call, World, call_of}
-use Rattle.sg_session.proofs.Lists.{each_of}
 use Rattle.sg_gateway.proofs.laws.signals_are_taken.Goals as goal
 
 offers_at : (w : World) (e : Event) → NewOfferIsTaken (turn_of w e) × LaterOfferIsTaken (turn_of w e)

@@ -1,10 +1,8 @@
 use Rattle.std.proofs.lemmas.List.Elements.{All-from_recursion}
+use Rattle.sg_gateway.proofs.Common.{each_of, empty, journal, turns, world_after}
 use Rattle.sg_gateway.proofs.Datagrams.{every_turn, journal_kept}
 use Rattle.sg_gateway.proofs.WholeTags.{all_whole, whole_at, whole_on}
-use Rattle.sg_gateway.specs.Runs.{journal, turns, world_after}
 use Rattle.sg_gateway.specs.Tags.{HasWholeTags, HaveWholeTags}
-use Rattle.sg_gateway.specs.World.{empty}
-use Rattle.sg_session.proofs.Lists.{each_of}
 use Rattle.sg_gateway.proofs.laws.tags_are_whole.Goals as goal
 
 pub returns : goal.returns

@@ -1,19 +1,12 @@
 use Rattle.std.proofs.Common.{◌≡◌, ◌+◌, Some, Ok, sym, subst}
 use Rattle.std.proofs.lemmas.List.Elements.{All-from_recursion}
-use Rattle.sg_agreement.specs.Keying.{Offer}
-use Rattle.sg_agreement.specs.Sides.{side_of}
-use Rattle.sg_sdp.specs.Reading.{description_of}
+use Rattle.sg_gateway.proofs.Common.{Call, Event, IsRefused, Offer, World, call_of, description_of, each_of, each_weaker, side_of, step, turn_of, turns}
 use Rattle.sg_gateway.proofs.Addressed.{AreAddressed, answer_addresses}
 use Rattle.sg_gateway.proofs.Authentic.{offer_once}
 use Rattle.sg_gateway.proofs.Datagrams.{every_turn}
 use Rattle.sg_gateway.proofs.Kept.{IsOffered}
 use Rattle.sg_gateway.proofs.Reached.{Anything, anything_on, anything_had}
 use Rattle.sg_gateway.specs.Addressed.{OfferIsItsText, AnswerHasAddresses}
-use Rattle.sg_gateway.specs.Refusing.{IsRefused}
-use Rattle.sg_gateway.specs.Runs.{turns, turn_of}
-use Rattle.sg_gateway.specs.Step.{Event, step}
-use Rattle.sg_gateway.specs.World.{Call, World, call_of}
-use Rattle.sg_session.proofs.Lists.{each_of, each_weaker}
 use Rattle.sg_gateway.proofs.laws.texts_tell_addresses.Goals as goal
 
 text_at : (w : World) (e : Event) → OfferIsItsText (turn_of w e)
