@@ -2,19 +2,16 @@ use Rattle.std.proofs.Common.{◌≡◌, ℕ, zero, suc, ◌<◌, ◌/◌, ◌^�
 use Rattle.std.specs.Prelude.{slice_index, nat_le, nat_lt}
 use Rattle.std.specs.List.{range_with_len}
 use Rattle.std.specs.Simd.Lanes.{zip2, Each1}
-use Rattle.std.proofs.lemmas.List.FromFn.{get_or-map-range_with_len}
-use Rattle.std.proofs.lemmas.List.{length-map}
-use Rattle.std.proofs.lemmas.Simd.{zip2_of_maps, zip2_splat, splat_is_map, map-map}
+use Rattle.std.proofs.lemmas.List.FromFn.{get_or-map-range_with_len, length-map-range_with_len}
+use Rattle.std.proofs.lemmas.List.{length-map, get_or-map}
+use Rattle.std.proofs.lemmas.Simd.{zip2_of_maps, zip2_splat, splat_is_map, map-map, get_or-zip2, length-zip2}
 use Rattle.sg_aes.specs.Field.{sub_byte, times_x, product, product_of_bits, inverse_in}
 use Rattle.sg_aes.specs.Lanes.{IsPlace, IsState, look, nibbles, upper, lower, either, last_first, last_second, substituted, once, twice, key_nibbles}
 use Rattle.sg_aes.specs.State.{state_by, sub_bytes, add_round_key, round, last_round, row_times}
 use Rattle.sg_aes.proofs.Octets.{agree, sub_byte_lt, times_x_lt, map_octets}
 use Rattle.sg_aes.proofs.CipherLemmas.{round_state}
 use Rattle.std.proofs.lemmas.Nat.{xor_of_8}
-use Rattle.std.proofs.lemmas.Simd.{get_or-zip2, length-zip2}
 use lib.Bits.{xor_assoc, xor_comm}
-use Rattle.std.proofs.lemmas.List.FromFn.{length-map-range_with_len}
-use Rattle.std.proofs.lemmas.List.{get_or-map}
 use Rattle.std.proofs.lemmas.Grind.{same_number_lists}
 use Rattle.sg_aes.specs.declared.vectors.TheConstants.{FROM_LOW, FROM_HIGH, INVERSE, QUOTIENT, FIRST, SECOND}
 
