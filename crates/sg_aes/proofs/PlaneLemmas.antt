@@ -1,5 +1,5 @@
 -- What the steps of a round do to planes of bits.
-use Rattle.std.proofs.Common.{◌≡◌, ℕ, zero, suc, ◌+◌, ◌*◌, ◌<◌, ◌%◌, ◌/◌, List, [], ◌++◌, refl, ap₂, ap, ◌∙◌, sym, arith, length, map, bit_and, bit_xor, get_or, ◌-◌, inl, inr, subst, ltb, eqb, cond, Bool, false, replicate, w8, ◌^◌, ltb-true, true}
+use Rattle.std.proofs.Common.{◌≡◌, ℕ, ◌+◌, ◌*◌, ◌<◌, ◌%◌, ◌/◌, List, [], ◌++◌, refl, ap₂, ap, ◌∙◌, sym, arith, length, map, bit_and, bit_xor, get_or, ◌-◌, inl, inr, subst, ltb, eqb, cond, Bool, false, replicate, w8, ◌^◌, ltb-true, true}
 use Rattle.std.specs.Prelude.{slice_index, set, slice_index_or, if◌then◌else◌, ◌==◌}
 use Rattle.std.specs.Int.{bit_at}
 use Rattle.std.specs.List.{range_with_len}
@@ -16,11 +16,11 @@ use Rattle.std.proofs.lemmas.List.{get_or-append-add, get_or-set_other, length-s
 use Rattle.std.proofs.lemmas.Grind.{get_or-set_at}
 use Rattle.sg_aes.specs.KeyExpansion.{round_key}
 use Rattle.sg_aes.specs.Field.{sub_byte, times_x}
-use Rattle.sg_aes.specs.State.{round, last_round, add_round_key, row_times}
+use Rattle.sg_aes.specs.State.{round, last_round, add_round_key}
 use Rattle.sg_aes.specs.Cipher.{rounds}
 use Rattle.sg_aes.proofs.Octets.{map_octets, agree, sub_byte_lt}
 use Rattle.sg_aes.specs.Lanes.{IsState}
-use Rattle.sg_aes.proofs.LaneLemmas.{picked, each_at, row_0, row_1, row_2, row_3, without, without_out, both_without}
+use Rattle.sg_aes.proofs.LaneLemmas.{picked, each_at, row_is, without, without_out, both_without}
 use Rattle.sg_aes.specs.Numbered.{numbered}
 use Rattle.sg_aes.specs.declared.planes.Planes.{Planes}
 use Rattle.sg_aes.specs.Planes.{IsBit, HasPlanes, without_constant, rows, next_rows, half_turned, octet_at, key_at, number_at, ArePlanesIn, AreKeyPlanes}
@@ -98,20 +98,6 @@ round_at s k p j = bit_xor (bit_xor (bit_xor (two_at s (slice_index half_turned 
 
 abbrev pub last_at : (ℕ → List ℕ) → List ℕ → ℕ → ℕ → ℕ
 last_at s k p j = bit_xor (boxed_at s (slice_index rows p) j) (key_at k p j)
-
--- what is computed of a column's octets at each of its rows
-abbrev summed_at : ℕ → ℕ → ℕ → ℕ → ℕ → ℕ
-summed_at zero a b c d = bit_xor (bit_xor (times_x (bit_xor a b)) b) (bit_xor c d)
-summed_at (suc zero) a b c d = bit_xor (bit_xor (times_x (bit_xor b c)) c) (bit_xor d a)
-summed_at (suc (suc zero)) a b c d = bit_xor (bit_xor (times_x (bit_xor c d)) d) (bit_xor a b)
-summed_at (suc (suc (suc r))) a b c d = bit_xor (bit_xor (times_x (bit_xor d a)) a) (bit_xor b c)
-
-row_is : (r a b c d : ℕ) → r < 4 → a < 256 → b < 256 → c < 256 → d < 256 → summed_at r a b c d ≡ row_times r a b c d
-row_is zero a b c d few ha hb hc hd = row_0 a b c d ha hb hc hd
-row_is (suc zero) a b c d few ha hb hc hd = row_1 a b c d ha hb hc hd
-row_is (suc (suc zero)) a b c d few ha hb hc hd = row_2 a b c d ha hb hc hd
-row_is (suc (suc (suc zero))) a b c d few ha hb hc hd = row_3 a b c d ha hb hc hd
-row_is (suc (suc (suc (suc r)))) a b c d few ha hb hc hd = absurd (omega (arith, few))
 
 pub round_octets : (s : ℕ → List ℕ) (k : List ℕ) (p j : ℕ) → p < 32 → j < 8 → round_at s k p j ≡ octet_at (λ n. round (s n) k) p j
 unfolding round
