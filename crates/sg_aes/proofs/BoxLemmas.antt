@@ -1,6 +1,6 @@
 -- Planes of bits through the circuit of the substitution: each wire's rule is a number of 256 bits, one for each octet,
 -- which the checker computes.
-use Rattle.std.proofs.Common.{◌≡◌, ℕ, ◌+◌, ◌<◌, ◌%◌, List, refl, ap₂, ap, ◌∙◌, sym, arith, length, map, bit_and, bit_xor, min}
+use Rattle.std.proofs.Common.{◌≡◌, ℕ, ◌+◌, ◌<◌, ◌%◌, List, [], ◌∷◌, refl, ap₂, ap, ◌∙◌, sym, arith, length, map, bit_and, bit_xor, min}
 use Rattle.std.specs.Prelude.{slice_index}
 use Rattle.std.specs.Int.{bit_at}
 use Rattle.std.specs.List.{range_with_len}
@@ -41,34 +41,18 @@ taken b t e {v} {x} small h = record {
 pub given : (b t : ℕ) → map (bit_at t) (range_with_len 0 256) ≡ map (λ n. bit_at (without_constant n) b) (range_with_len 0 256) → {v : ℕ → ℕ → ℕ} {x : List ℕ} → ((p j : ℕ) → v p j < 256) → IsPlane v x t → IsBit (λ p j. without_constant (v p j)) x b
 given b t e {v} {x} small h = record { long = h.long; bits = λ p j hp hj. h.bits p j hp hj ∙ agree 0 (bit_at t) (λ n. bit_at (without_constant n) b) 256 e (v p j) (small p j) }
 
-pub table_0 : map (bit_at 0xb0e152c690db85fbef424def3ff9154a9754b405753485ec4eb12198f6939112) (range_with_len 0 256) ≡ map (λ n. bit_at (without_constant n) 0) (range_with_len 0 256)
-unfolding sub_byte inverse_in product_of_bits
-table_0 = refl
+-- what the circuit gives, bit by bit
+abbrev pub outputs : List ℕ
+outputs =
+    0xb0e152c690db85fbef424def3ff9154a9754b405753485ec4eb12198f6939112
+    ∷ 0x378f68bf6b15275695baf4d10ccb794b19e5b3a1687e90858451ff82b3ac0382
+    ∷ 0xac39b6c0d6ce2efc577d64e03b0c3ffb23a869a2a428c424a16387fb3b48b4c6
+    ∷ 0x4e9ddb76c892fb1be9da849cf6ac6c1b2568ea2effa8527d109020a2193d586a
+    ∷ 0xf210a3aece472e532624b286bc48ecb4f7f17a494ce30f58c2b0f97752b8b11e
+    ∷ 0xab4db7ecf4b0da90827233b8f9ce61f7943d55b1f287855b07fba08492672280
+    ∷ 0xde1f47ccdaa6e87dc094346e4cf24aa61b7ae4c40c54da9f67f5c33d3d024b00
+    ∷ 0x52379de7b844e3e14cb3770196ca0329e7bac28f866aac825caa2ec7bf977090 ∷ []
 
-pub table_1 : map (bit_at 0x378f68bf6b15275695baf4d10ccb794b19e5b3a1687e90858451ff82b3ac0382) (range_with_len 0 256) ≡ map (λ n. bit_at (without_constant n) 1) (range_with_len 0 256)
+pub table : (b : ℕ) → b < 8 → map (bit_at (slice_index outputs b)) (range_with_len 0 256) ≡ map (λ n. bit_at (without_constant n) b) (range_with_len 0 256)
 unfolding sub_byte inverse_in product_of_bits
-table_1 = refl
-
-pub table_2 : map (bit_at 0xac39b6c0d6ce2efc577d64e03b0c3ffb23a869a2a428c424a16387fb3b48b4c6) (range_with_len 0 256) ≡ map (λ n. bit_at (without_constant n) 2) (range_with_len 0 256)
-unfolding sub_byte inverse_in product_of_bits
-table_2 = refl
-
-pub table_3 : map (bit_at 0x4e9ddb76c892fb1be9da849cf6ac6c1b2568ea2effa8527d109020a2193d586a) (range_with_len 0 256) ≡ map (λ n. bit_at (without_constant n) 3) (range_with_len 0 256)
-unfolding sub_byte inverse_in product_of_bits
-table_3 = refl
-
-pub table_4 : map (bit_at 0xf210a3aece472e532624b286bc48ecb4f7f17a494ce30f58c2b0f97752b8b11e) (range_with_len 0 256) ≡ map (λ n. bit_at (without_constant n) 4) (range_with_len 0 256)
-unfolding sub_byte inverse_in product_of_bits
-table_4 = refl
-
-pub table_5 : map (bit_at 0xab4db7ecf4b0da90827233b8f9ce61f7943d55b1f287855b07fba08492672280) (range_with_len 0 256) ≡ map (λ n. bit_at (without_constant n) 5) (range_with_len 0 256)
-unfolding sub_byte inverse_in product_of_bits
-table_5 = refl
-
-pub table_6 : map (bit_at 0xde1f47ccdaa6e87dc094346e4cf24aa61b7ae4c40c54da9f67f5c33d3d024b00) (range_with_len 0 256) ≡ map (λ n. bit_at (without_constant n) 6) (range_with_len 0 256)
-unfolding sub_byte inverse_in product_of_bits
-table_6 = refl
-
-pub table_7 : map (bit_at 0x52379de7b844e3e14cb3770196ca0329e7bac28f866aac825caa2ec7bf977090) (range_with_len 0 256) ≡ map (λ n. bit_at (without_constant n) 7) (range_with_len 0 256)
-unfolding sub_byte inverse_in product_of_bits
-table_7 = refl
+table = agree [] (λ b. map (bit_at (slice_index outputs b)) (range_with_len 0 256)) (λ b. map (λ n. bit_at (without_constant n) b) (range_with_len 0 256)) 8 refl

@@ -1,20 +1,17 @@
-use Rattle.std.proofs.Common.{◌≡◌, ℕ, zero, suc, ◌<◌, ◌/◌, ◌^◌, ◌||◌, true, T, List, [], ◌∷◌, ◌++◌, refl, ap, ap₂, ◌∙◌, sym, arith, subst, length, map, replicate, bit_and, bit_xor, w8, Fits, get_or}
+use Rattle.std.proofs.Common.{◌≡◌, ℕ, zero, suc, ◌+◌, ◌*◌, ◌%◌, ◌<◌, ◌/◌, ◌^◌, ◌||◌, true, T, List, [], ◌∷◌, ◌++◌, refl, ap, ap₂, ◌∙◌, sym, arith, subst, length, map, replicate, bit_and, bit_xor, w8, Fits, get_or}
 use Rattle.std.specs.Prelude.{slice_index, nat_le, nat_lt}
 use Rattle.std.specs.List.{range_with_len}
 use Rattle.std.specs.Simd.Lanes.{zip2, Each1}
-use Rattle.std.proofs.lemmas.List.FromFn.{get_or-map-range_with_len}
-use Rattle.std.proofs.lemmas.List.{length-map}
-use Rattle.std.proofs.lemmas.Simd.{zip2_of_maps, zip2_splat, splat_is_map, map-map}
+use Rattle.std.proofs.lemmas.List.FromFn.{get_or-map-range_with_len, length-map-range_with_len}
+use Rattle.std.proofs.lemmas.List.{length-map, get_or-map}
+use Rattle.std.proofs.lemmas.Simd.{zip2_of_maps, zip2_splat, splat_is_map, map-map, get_or-zip2, length-zip2}
 use Rattle.sg_aes.specs.Field.{sub_byte, times_x, product, product_of_bits, inverse_in}
 use Rattle.sg_aes.specs.Lanes.{IsPlace, IsState, look, nibbles, upper, lower, either, last_first, last_second, substituted, once, twice, key_nibbles}
 use Rattle.sg_aes.specs.State.{state_by, sub_bytes, add_round_key, round, last_round, row_times}
 use Rattle.sg_aes.proofs.Octets.{agree, sub_byte_lt, times_x_lt, map_octets}
 use Rattle.sg_aes.proofs.CipherLemmas.{round_state}
 use Rattle.std.proofs.lemmas.Nat.{xor_of_8}
-use Rattle.std.proofs.lemmas.Simd.{get_or-zip2, length-zip2}
 use lib.Bits.{xor_assoc, xor_comm}
-use Rattle.std.proofs.lemmas.List.FromFn.{length-map-range_with_len}
-use Rattle.std.proofs.lemmas.List.{get_or-map}
 use Rattle.std.proofs.lemmas.Grind.{same_number_lists}
 use Rattle.sg_aes.specs.declared.vectors.TheConstants.{FROM_LOW, FROM_HIGH, INVERSE, QUOTIENT, FIRST, SECOND}
 
@@ -136,21 +133,35 @@ turn_3 q b c p =
     ∙ xor_right q (bit_xor b c) p ∙ ap (λ x. bit_xor x p) (xor_right q b c)
 
 -- what is computed of a column at each row, for the octets b and c that follow a, and what is left
-pub row_0 : (a b c d : ℕ) → a < 256 → b < 256 → c < 256 → d < 256 → bit_xor (bit_xor (times_x (bit_xor a b)) b) (bit_xor c d) ≡ row_times 0 a b c d
+row_0 : (a b c d : ℕ) → a < 256 → b < 256 → c < 256 → d < 256 → bit_xor (bit_xor (times_x (bit_xor a b)) b) (bit_xor c d) ≡ row_times 0 a b c d
 row_0 a b c d ha hb hc hd =
     rw (two_and_three a b ha hb, times_one c hc, times_one d hd) (xor_right _ c d)
 
-pub row_1 : (a b c d : ℕ) → a < 256 → b < 256 → c < 256 → d < 256 → bit_xor (bit_xor (times_x (bit_xor b c)) c) (bit_xor d a) ≡ row_times 1 a b c d
+row_1 : (a b c d : ℕ) → a < 256 → b < 256 → c < 256 → d < 256 → bit_xor (bit_xor (times_x (bit_xor b c)) c) (bit_xor d a) ≡ row_times 1 a b c d
 row_1 a b c d ha hb hc hd =
     rw (two_and_three b c hb hc, times_one a ha, times_one d hd) (turn_1 a (product 2 b) (product 3 c) d)
 
-pub row_2 : (a b c d : ℕ) → a < 256 → b < 256 → c < 256 → d < 256 → bit_xor (bit_xor (times_x (bit_xor c d)) d) (bit_xor a b) ≡ row_times 2 a b c d
+row_2 : (a b c d : ℕ) → a < 256 → b < 256 → c < 256 → d < 256 → bit_xor (bit_xor (times_x (bit_xor c d)) d) (bit_xor a b) ≡ row_times 2 a b c d
 row_2 a b c d ha hb hc hd =
     rw (two_and_three c d hc hd, times_one a ha, times_one b hb) (turn_2 a b (product 2 c) (product 3 d))
 
-pub row_3 : (a b c d : ℕ) → a < 256 → b < 256 → c < 256 → d < 256 → bit_xor (bit_xor (times_x (bit_xor d a)) a) (bit_xor b c) ≡ row_times 3 a b c d
+row_3 : (a b c d : ℕ) → a < 256 → b < 256 → c < 256 → d < 256 → bit_xor (bit_xor (times_x (bit_xor d a)) a) (bit_xor b c) ≡ row_times 3 a b c d
 row_3 a b c d ha hb hc hd =
     rw (two_and_three d a hd ha, times_one b hb, times_one c hc) (turn_3 (product 3 a) b c (product 2 d))
+
+-- what is computed of a column's octets at each of its rows
+abbrev pub row_at : ℕ → ℕ → ℕ → ℕ → ℕ → ℕ
+row_at zero a b c d = bit_xor (bit_xor (times_x (bit_xor a b)) b) (bit_xor c d)
+row_at (suc zero) a b c d = bit_xor (bit_xor (times_x (bit_xor b c)) c) (bit_xor d a)
+row_at (suc (suc zero)) a b c d = bit_xor (bit_xor (times_x (bit_xor c d)) d) (bit_xor a b)
+row_at (suc (suc (suc r))) a b c d = bit_xor (bit_xor (times_x (bit_xor d a)) a) (bit_xor b c)
+
+pub row_is : (r a b c d : ℕ) → r < 4 → a < 256 → b < 256 → c < 256 → d < 256 → row_at r a b c d ≡ row_times r a b c d
+row_is zero a b c d few ha hb hc hd = row_0 a b c d ha hb hc hd
+row_is (suc zero) a b c d few ha hb hc hd = row_1 a b c d ha hb hc hd
+row_is (suc (suc zero)) a b c d few ha hb hc hd = row_2 a b c d ha hb hc hd
+row_is (suc (suc (suc zero))) a b c d few ha hb hc hd = row_3 a b c d ha hb hc hd
+row_is (suc (suc (suc (suc r)))) a b c d few ha hb hc hd = absurd (omega (arith, few))
 
 -- ---- a column in nibbles
 
@@ -207,10 +218,6 @@ cell a b c d k ha hb hc hd hk =
     ∙ nibbles_xor _ _ (without_lt (bit_xor p q) (xor_of_8 _ _ hp hq)) (without_lt k hk)
     ∙ ap nibbles (both_without (bit_xor p q) k)
 
--- a cell at a row of the matrix
-celled : (a b c d k r : ℕ) → a < 256 → b < 256 → c < 256 → d < 256 → k < 256 → bit_xor (bit_xor (times_x (bit_xor a b)) b) (bit_xor c d) ≡ r → summed a b c d k ≡ nibbles (bit_xor r k)
-celled a b c d k r ha hb hc hd hk e = cell a b c d k ha hb hc hd hk ∙ ap (λ x. nibbles (bit_xor x k)) e
-
 abbrev pub round_lanes : List ℕ → List ℕ → List ℕ → List ℕ
 round_lanes o t k = zip2 bit_xor (zip2 bit_xor (zip2 bit_xor (picked t rows) (picked (zip2 bit_xor o t) next_rows)) (zip2 bit_xor (picked o third_rows) (picked o last_rows))) k
 
@@ -225,24 +232,12 @@ round_nibbles n state key o t k h hk ek eo et =
     let os : o ≡ state_by (λ i. one (q i)) = along once (λ v. one (sub_byte v)) n state o once_is h eo in
     let ts : t ≡ state_by (λ i. two (q i)) = along twice (λ v. two (sub_byte v)) n state t twice_is h et in
     let ks : k ≡ state_by (λ i. key_nibbles (z i)) = ek ∙ same_along key_nibbles key_nibbles key (λ v lt. refl) hk in
+    let at : ℕ → ℕ → ℕ = λ i r. slice_index rows (4 * (i / 4) + r % 4) in
+    let c : ℕ → ℕ → ℕ = λ i r. q (at i r) in
+    let e : (i r : ℕ) → c i r < 256 = λ i r. f (at i r) in
     ap₂ (λ x y. round_lanes x y k) os ts ∙ ap (round_lanes (state_by (λ i. one (q i))) (state_by (λ i. two (q i)))) ks
-    ∙ (λ p.
-    celled (q 0) (q 5) (q 10) (q 15) (z 0) _ (f 0) (f 5) (f 10) (f 15) (g 0) (row_0 (q 0) (q 5) (q 10) (q 15) (f 0) (f 5) (f 10) (f 15)) p
-    ∷ celled (q 5) (q 10) (q 15) (q 0) (z 1) _ (f 5) (f 10) (f 15) (f 0) (g 1) (row_1 (q 0) (q 5) (q 10) (q 15) (f 0) (f 5) (f 10) (f 15)) p
-    ∷ celled (q 10) (q 15) (q 0) (q 5) (z 2) _ (f 10) (f 15) (f 0) (f 5) (g 2) (row_2 (q 0) (q 5) (q 10) (q 15) (f 0) (f 5) (f 10) (f 15)) p
-    ∷ celled (q 15) (q 0) (q 5) (q 10) (z 3) _ (f 15) (f 0) (f 5) (f 10) (g 3) (row_3 (q 0) (q 5) (q 10) (q 15) (f 0) (f 5) (f 10) (f 15)) p
-    ∷ celled (q 4) (q 9) (q 14) (q 3) (z 4) _ (f 4) (f 9) (f 14) (f 3) (g 4) (row_0 (q 4) (q 9) (q 14) (q 3) (f 4) (f 9) (f 14) (f 3)) p
-    ∷ celled (q 9) (q 14) (q 3) (q 4) (z 5) _ (f 9) (f 14) (f 3) (f 4) (g 5) (row_1 (q 4) (q 9) (q 14) (q 3) (f 4) (f 9) (f 14) (f 3)) p
-    ∷ celled (q 14) (q 3) (q 4) (q 9) (z 6) _ (f 14) (f 3) (f 4) (f 9) (g 6) (row_2 (q 4) (q 9) (q 14) (q 3) (f 4) (f 9) (f 14) (f 3)) p
-    ∷ celled (q 3) (q 4) (q 9) (q 14) (z 7) _ (f 3) (f 4) (f 9) (f 14) (g 7) (row_3 (q 4) (q 9) (q 14) (q 3) (f 4) (f 9) (f 14) (f 3)) p
-    ∷ celled (q 8) (q 13) (q 2) (q 7) (z 8) _ (f 8) (f 13) (f 2) (f 7) (g 8) (row_0 (q 8) (q 13) (q 2) (q 7) (f 8) (f 13) (f 2) (f 7)) p
-    ∷ celled (q 13) (q 2) (q 7) (q 8) (z 9) _ (f 13) (f 2) (f 7) (f 8) (g 9) (row_1 (q 8) (q 13) (q 2) (q 7) (f 8) (f 13) (f 2) (f 7)) p
-    ∷ celled (q 2) (q 7) (q 8) (q 13) (z 10) _ (f 2) (f 7) (f 8) (f 13) (g 10) (row_2 (q 8) (q 13) (q 2) (q 7) (f 8) (f 13) (f 2) (f 7)) p
-    ∷ celled (q 7) (q 8) (q 13) (q 2) (z 11) _ (f 7) (f 8) (f 13) (f 2) (g 11) (row_3 (q 8) (q 13) (q 2) (q 7) (f 8) (f 13) (f 2) (f 7)) p
-    ∷ celled (q 12) (q 1) (q 6) (q 11) (z 12) _ (f 12) (f 1) (f 6) (f 11) (g 12) (row_0 (q 12) (q 1) (q 6) (q 11) (f 12) (f 1) (f 6) (f 11)) p
-    ∷ celled (q 1) (q 6) (q 11) (q 12) (z 13) _ (f 1) (f 6) (f 11) (f 12) (g 13) (row_1 (q 12) (q 1) (q 6) (q 11) (f 12) (f 1) (f 6) (f 11)) p
-    ∷ celled (q 6) (q 11) (q 12) (q 1) (z 14) _ (f 6) (f 11) (f 12) (f 1) (g 14) (row_2 (q 12) (q 1) (q 6) (q 11) (f 12) (f 1) (f 6) (f 11)) p
-    ∷ celled (q 11) (q 12) (q 1) (q 6) (z 15) _ (f 11) (f 12) (f 1) (f 6) (g 15) (row_3 (q 12) (q 1) (q 6) (q 11) (f 12) (f 1) (f 6) (f 11)) p ∷ [])
+    ∙ (λ p. map (λ i. cell (c i i) (c i (i + 1)) (c i (i + 2)) (c i (i + 3)) (z i) (e i i) (e i (i + 1)) (e i (i + 2)) (e i (i + 3)) (g i) p) (range_with_len 0 16))
+    ∙ (λ p. map (λ i. nibbles (bit_xor (row_is (i % 4) (c i 0) (c i 1) (c i 2) (c i 3) (omega arith) (e i 0) (e i 1) (e i 2) (e i 3) p) (z i))) (range_with_len 0 16))
 
 pub round_is : (n state key o t k : List ℕ) → HasNibbles n state → IsState key → k ≡ map key_nibbles key → o ≡ map once n → t ≡ map twice n
     → HasNibbles (round_lanes o t k) (round state key)

@@ -1,31 +1,26 @@
 -- What the steps of a round do to planes of bits.
-use Rattle.std.proofs.Common.{◌≡◌, ℕ, ◌+◌, ◌*◌, ◌<◌, ◌%◌, ◌/◌, List, [], ◌∷◌, ◌++◌, refl, ap₂, ap, ◌∙◌, sym, arith, length, map, bit_and, bit_xor, get_or, ◌-◌, inl, inr, subst, ltb, eqb, cond, Bool, false, replicate, w8, ◌^◌, ltb-true, true}
-use Rattle.std.specs.Prelude.{slice_index}
+use Rattle.std.proofs.Common.{◌≡◌, ℕ, ◌+◌, ◌*◌, ◌<◌, ◌%◌, ◌/◌, List, [], ◌++◌, refl, ap₂, ap, ◌∙◌, sym, arith, length, map, bit_and, bit_xor, get_or, ◌-◌, inl, inr, subst, ltb, eqb, cond, Bool, false, replicate, w8, ◌^◌, ltb-true, true}
+use Rattle.std.specs.Prelude.{slice_index, set, slice_index_or, if◌then◌else◌, ◌==◌}
 use Rattle.std.specs.Int.{bit_at}
 use Rattle.std.specs.List.{range_with_len}
 use Rattle.std.specs.Simd.Lanes.{zip2}
-use lib.Lanes.{sel_l}
+use lib.Lanes.{sel_l, top, Each1}
 use mir.Val.{Fits, hbits}
-use lib.Lanes.{top, Each1}
 use Rattle.std.proofs.lemmas.Simd.{get_or-zip2, length-zip2, length-replicate, get_or-replicate, tops_compared, length-sel_l, get_or-sel_l}
 use Rattle.std.proofs.lemmas.Nat.Bits.{bit_at_xor}
 use lib.Bits.{xor_assoc, xor_comm, xor_zero_r}
 use Rattle.std.proofs.lemmas.Nat.{xor_of_8}
-use Rattle.std.specs.Prelude.{set, slice_index_or}
 use Rattle.std.proofs.lemmas.Bool.{cases_lt}
 use Rattle.std.proofs.lemmas.List.FromFn.{get_or-map-range_with_len}
-use Rattle.std.proofs.lemmas.List.{get_or-append-add, get_or-set_other, length-set}
+use Rattle.std.proofs.lemmas.List.{get_or-append-add, get_or-set_other, length-set, length-map, get_or-map, get_or_append_left}
 use Rattle.std.proofs.lemmas.Grind.{get_or-set_at}
 use Rattle.sg_aes.specs.KeyExpansion.{round_key}
-use Rattle.std.proofs.lemmas.List.{length-map, get_or-map, get_or_append_left}
 use Rattle.sg_aes.specs.Field.{sub_byte, times_x}
 use Rattle.sg_aes.specs.State.{round, last_round, add_round_key}
 use Rattle.sg_aes.specs.Cipher.{rounds}
-use Rattle.std.specs.Prelude.{if◌then◌else◌, ◌==◌}
-use Rattle.sg_aes.proofs.Octets.{map_octets}
+use Rattle.sg_aes.proofs.Octets.{map_octets, agree, sub_byte_lt}
 use Rattle.sg_aes.specs.Lanes.{IsState}
-use Rattle.sg_aes.proofs.LaneLemmas.{picked, each_at, row_0, row_1, row_2, row_3, without, without_out, both_without}
-use Rattle.sg_aes.proofs.Octets.{agree, sub_byte_lt}
+use Rattle.sg_aes.proofs.LaneLemmas.{picked, each_at, row_is, without, without_out, both_without}
 use Rattle.sg_aes.specs.Numbered.{numbered}
 use Rattle.sg_aes.specs.declared.planes.Planes.{Planes}
 use Rattle.sg_aes.specs.Planes.{IsBit, HasPlanes, without_constant, rows, next_rows, half_turned, octet_at, key_at, number_at, ArePlanesIn, AreKeyPlanes}
@@ -107,79 +102,20 @@ last_at s k p j = bit_xor (boxed_at s (slice_index rows p) j) (key_at k p j)
 pub round_octets : (s : ℕ → List ℕ) (k : List ℕ) (p j : ℕ) → p < 32 → j < 8 → round_at s k p j ≡ octet_at (λ n. round (s n) k) p j
 unfolding round
 round_octets s k p j hp hj =
-    let q : ℕ → ℕ → ℕ = λ h i. sub_byte (slice_index (s (8 * h + j)) i) in
-    let f : (h i : ℕ) → q h i < 256 = λ h i. sub_byte_lt (slice_index (s (8 * h + j)) i) in
-    agree 0 (λ p. round_at s k p j) (λ p. octet_at (λ n. round (s n) k) p j) 32 (λ z.
-    celled_in_planes (q 0 0) (q 0 5) (q 0 10) (q 0 15) (slice_index k 0) _ (row_0 (q 0 0) (q 0 5) (q 0 10) (q 0 15) (f 0 0) (f 0 5) (f 0 10) (f 0 15)) z
-    ∷ celled_in_planes (q 0 5) (q 0 10) (q 0 15) (q 0 0) (slice_index k 1) _ (row_1 (q 0 0) (q 0 5) (q 0 10) (q 0 15) (f 0 0) (f 0 5) (f 0 10) (f 0 15)) z
-    ∷ celled_in_planes (q 0 10) (q 0 15) (q 0 0) (q 0 5) (slice_index k 2) _ (row_2 (q 0 0) (q 0 5) (q 0 10) (q 0 15) (f 0 0) (f 0 5) (f 0 10) (f 0 15)) z
-    ∷ celled_in_planes (q 0 15) (q 0 0) (q 0 5) (q 0 10) (slice_index k 3) _ (row_3 (q 0 0) (q 0 5) (q 0 10) (q 0 15) (f 0 0) (f 0 5) (f 0 10) (f 0 15)) z
-    ∷ celled_in_planes (q 0 4) (q 0 9) (q 0 14) (q 0 3) (slice_index k 4) _ (row_0 (q 0 4) (q 0 9) (q 0 14) (q 0 3) (f 0 4) (f 0 9) (f 0 14) (f 0 3)) z
-    ∷ celled_in_planes (q 0 9) (q 0 14) (q 0 3) (q 0 4) (slice_index k 5) _ (row_1 (q 0 4) (q 0 9) (q 0 14) (q 0 3) (f 0 4) (f 0 9) (f 0 14) (f 0 3)) z
-    ∷ celled_in_planes (q 0 14) (q 0 3) (q 0 4) (q 0 9) (slice_index k 6) _ (row_2 (q 0 4) (q 0 9) (q 0 14) (q 0 3) (f 0 4) (f 0 9) (f 0 14) (f 0 3)) z
-    ∷ celled_in_planes (q 0 3) (q 0 4) (q 0 9) (q 0 14) (slice_index k 7) _ (row_3 (q 0 4) (q 0 9) (q 0 14) (q 0 3) (f 0 4) (f 0 9) (f 0 14) (f 0 3)) z
-    ∷ celled_in_planes (q 0 8) (q 0 13) (q 0 2) (q 0 7) (slice_index k 8) _ (row_0 (q 0 8) (q 0 13) (q 0 2) (q 0 7) (f 0 8) (f 0 13) (f 0 2) (f 0 7)) z
-    ∷ celled_in_planes (q 0 13) (q 0 2) (q 0 7) (q 0 8) (slice_index k 9) _ (row_1 (q 0 8) (q 0 13) (q 0 2) (q 0 7) (f 0 8) (f 0 13) (f 0 2) (f 0 7)) z
-    ∷ celled_in_planes (q 0 2) (q 0 7) (q 0 8) (q 0 13) (slice_index k 10) _ (row_2 (q 0 8) (q 0 13) (q 0 2) (q 0 7) (f 0 8) (f 0 13) (f 0 2) (f 0 7)) z
-    ∷ celled_in_planes (q 0 7) (q 0 8) (q 0 13) (q 0 2) (slice_index k 11) _ (row_3 (q 0 8) (q 0 13) (q 0 2) (q 0 7) (f 0 8) (f 0 13) (f 0 2) (f 0 7)) z
-    ∷ celled_in_planes (q 0 12) (q 0 1) (q 0 6) (q 0 11) (slice_index k 12) _ (row_0 (q 0 12) (q 0 1) (q 0 6) (q 0 11) (f 0 12) (f 0 1) (f 0 6) (f 0 11)) z
-    ∷ celled_in_planes (q 0 1) (q 0 6) (q 0 11) (q 0 12) (slice_index k 13) _ (row_1 (q 0 12) (q 0 1) (q 0 6) (q 0 11) (f 0 12) (f 0 1) (f 0 6) (f 0 11)) z
-    ∷ celled_in_planes (q 0 6) (q 0 11) (q 0 12) (q 0 1) (slice_index k 14) _ (row_2 (q 0 12) (q 0 1) (q 0 6) (q 0 11) (f 0 12) (f 0 1) (f 0 6) (f 0 11)) z
-    ∷ celled_in_planes (q 0 11) (q 0 12) (q 0 1) (q 0 6) (slice_index k 15) _ (row_3 (q 0 12) (q 0 1) (q 0 6) (q 0 11) (f 0 12) (f 0 1) (f 0 6) (f 0 11)) z
-    ∷ celled_in_planes (q 1 0) (q 1 5) (q 1 10) (q 1 15) (slice_index k 0) _ (row_0 (q 1 0) (q 1 5) (q 1 10) (q 1 15) (f 1 0) (f 1 5) (f 1 10) (f 1 15)) z
-    ∷ celled_in_planes (q 1 5) (q 1 10) (q 1 15) (q 1 0) (slice_index k 1) _ (row_1 (q 1 0) (q 1 5) (q 1 10) (q 1 15) (f 1 0) (f 1 5) (f 1 10) (f 1 15)) z
-    ∷ celled_in_planes (q 1 10) (q 1 15) (q 1 0) (q 1 5) (slice_index k 2) _ (row_2 (q 1 0) (q 1 5) (q 1 10) (q 1 15) (f 1 0) (f 1 5) (f 1 10) (f 1 15)) z
-    ∷ celled_in_planes (q 1 15) (q 1 0) (q 1 5) (q 1 10) (slice_index k 3) _ (row_3 (q 1 0) (q 1 5) (q 1 10) (q 1 15) (f 1 0) (f 1 5) (f 1 10) (f 1 15)) z
-    ∷ celled_in_planes (q 1 4) (q 1 9) (q 1 14) (q 1 3) (slice_index k 4) _ (row_0 (q 1 4) (q 1 9) (q 1 14) (q 1 3) (f 1 4) (f 1 9) (f 1 14) (f 1 3)) z
-    ∷ celled_in_planes (q 1 9) (q 1 14) (q 1 3) (q 1 4) (slice_index k 5) _ (row_1 (q 1 4) (q 1 9) (q 1 14) (q 1 3) (f 1 4) (f 1 9) (f 1 14) (f 1 3)) z
-    ∷ celled_in_planes (q 1 14) (q 1 3) (q 1 4) (q 1 9) (slice_index k 6) _ (row_2 (q 1 4) (q 1 9) (q 1 14) (q 1 3) (f 1 4) (f 1 9) (f 1 14) (f 1 3)) z
-    ∷ celled_in_planes (q 1 3) (q 1 4) (q 1 9) (q 1 14) (slice_index k 7) _ (row_3 (q 1 4) (q 1 9) (q 1 14) (q 1 3) (f 1 4) (f 1 9) (f 1 14) (f 1 3)) z
-    ∷ celled_in_planes (q 1 8) (q 1 13) (q 1 2) (q 1 7) (slice_index k 8) _ (row_0 (q 1 8) (q 1 13) (q 1 2) (q 1 7) (f 1 8) (f 1 13) (f 1 2) (f 1 7)) z
-    ∷ celled_in_planes (q 1 13) (q 1 2) (q 1 7) (q 1 8) (slice_index k 9) _ (row_1 (q 1 8) (q 1 13) (q 1 2) (q 1 7) (f 1 8) (f 1 13) (f 1 2) (f 1 7)) z
-    ∷ celled_in_planes (q 1 2) (q 1 7) (q 1 8) (q 1 13) (slice_index k 10) _ (row_2 (q 1 8) (q 1 13) (q 1 2) (q 1 7) (f 1 8) (f 1 13) (f 1 2) (f 1 7)) z
-    ∷ celled_in_planes (q 1 7) (q 1 8) (q 1 13) (q 1 2) (slice_index k 11) _ (row_3 (q 1 8) (q 1 13) (q 1 2) (q 1 7) (f 1 8) (f 1 13) (f 1 2) (f 1 7)) z
-    ∷ celled_in_planes (q 1 12) (q 1 1) (q 1 6) (q 1 11) (slice_index k 12) _ (row_0 (q 1 12) (q 1 1) (q 1 6) (q 1 11) (f 1 12) (f 1 1) (f 1 6) (f 1 11)) z
-    ∷ celled_in_planes (q 1 1) (q 1 6) (q 1 11) (q 1 12) (slice_index k 13) _ (row_1 (q 1 12) (q 1 1) (q 1 6) (q 1 11) (f 1 12) (f 1 1) (f 1 6) (f 1 11)) z
-    ∷ celled_in_planes (q 1 6) (q 1 11) (q 1 12) (q 1 1) (slice_index k 14) _ (row_2 (q 1 12) (q 1 1) (q 1 6) (q 1 11) (f 1 12) (f 1 1) (f 1 6) (f 1 11)) z
-    ∷ celled_in_planes (q 1 11) (q 1 12) (q 1 1) (q 1 6) (slice_index k 15) _ (row_3 (q 1 12) (q 1 1) (q 1 6) (q 1 11) (f 1 12) (f 1 1) (f 1 6) (f 1 11)) z ∷ []) p hp
+    let o : ℕ → ℕ = λ i. sub_byte (octet_at s i j) in
+    let first : ℕ → ℕ = λ p. o (slice_index rows p) in
+    let next : ℕ → ℕ = λ p. o (slice_index next_rows p) in
+    let half : ℕ → ℕ = λ p. slice_index half_turned p in
+    let cell : ℕ → ℕ → ℕ = λ p r. first (4 * (p / 4) + r) in
+    celled_in_planes (first p) (next p) (first (half p)) (next (half p)) (slice_index k (p % 16)) _ refl
+    ∙ agree 0 (λ p. bit_xor (bit_xor (bit_xor (times_x (bit_xor (first p) (next p))) (next p)) (bit_xor (first (half p)) (next (half p)))) (slice_index k (p % 16))) (λ p. octet_at (λ n. round (s n) k) p j) 32
+    (λ z. map (λ p. bit_xor (row_is (p % 4) (cell p 0) (cell p 1) (cell p 2) (cell p 3) (omega arith) (sub_byte_lt _) (sub_byte_lt _) (sub_byte_lt _) (sub_byte_lt _) z) (slice_index k (p % 16))) (range_with_len 0 32)) p hp
 
 pub last_octets : (s : ℕ → List ℕ) (k : List ℕ) (p j : ℕ) → p < 32 → j < 8 → last_at s k p j ≡ octet_at (λ n. last_round (s n) k) p j
 unfolding last_round
 last_octets s k p j hp hj =
-    let q : ℕ → ℕ → ℕ = λ h i. sub_byte (slice_index (s (8 * h + j)) i) in
-    agree 0 (λ p. last_at s k p j) (λ p. octet_at (λ n. last_round (s n) k) p j) 32 (λ z.
-    both_without (q 0 0) (slice_index k 0) z
-    ∷ both_without (q 0 5) (slice_index k 1) z
-    ∷ both_without (q 0 10) (slice_index k 2) z
-    ∷ both_without (q 0 15) (slice_index k 3) z
-    ∷ both_without (q 0 4) (slice_index k 4) z
-    ∷ both_without (q 0 9) (slice_index k 5) z
-    ∷ both_without (q 0 14) (slice_index k 6) z
-    ∷ both_without (q 0 3) (slice_index k 7) z
-    ∷ both_without (q 0 8) (slice_index k 8) z
-    ∷ both_without (q 0 13) (slice_index k 9) z
-    ∷ both_without (q 0 2) (slice_index k 10) z
-    ∷ both_without (q 0 7) (slice_index k 11) z
-    ∷ both_without (q 0 12) (slice_index k 12) z
-    ∷ both_without (q 0 1) (slice_index k 13) z
-    ∷ both_without (q 0 6) (slice_index k 14) z
-    ∷ both_without (q 0 11) (slice_index k 15) z
-    ∷ both_without (q 1 0) (slice_index k 0) z
-    ∷ both_without (q 1 5) (slice_index k 1) z
-    ∷ both_without (q 1 10) (slice_index k 2) z
-    ∷ both_without (q 1 15) (slice_index k 3) z
-    ∷ both_without (q 1 4) (slice_index k 4) z
-    ∷ both_without (q 1 9) (slice_index k 5) z
-    ∷ both_without (q 1 14) (slice_index k 6) z
-    ∷ both_without (q 1 3) (slice_index k 7) z
-    ∷ both_without (q 1 8) (slice_index k 8) z
-    ∷ both_without (q 1 13) (slice_index k 9) z
-    ∷ both_without (q 1 2) (slice_index k 10) z
-    ∷ both_without (q 1 7) (slice_index k 11) z
-    ∷ both_without (q 1 12) (slice_index k 12) z
-    ∷ both_without (q 1 1) (slice_index k 13) z
-    ∷ both_without (q 1 6) (slice_index k 14) z
-    ∷ both_without (q 1 11) (slice_index k 15) z ∷ []) p hp
+    both_without (sub_byte (octet_at s (slice_index rows p) j)) (slice_index k (p % 16))
+    ∙ agree 0 (λ p. bit_xor (sub_byte (octet_at s (slice_index rows p) j)) (slice_index k (p % 16))) (λ p. octet_at (λ n. last_round (s n) k) p j) 32 refl p hp
 
 -- ---- planes from octets
 

@@ -1,6 +1,6 @@
 -- Octets from planes: three exchanges of bits.
-use Rattle.std.proofs.Common.{◌≡◌, ℕ, ◌+◌, ◌-◌, ◌*◌, ◌<◌, ◌%◌, ◌/◌, ◌^◌, List, [], ◌∷◌, ◌++◌, inl, inr, refl, ap₂, ap, ◌∙◌, sym, arith, length, map, bit_and, bit_xor, min, replicate, subst, w8, true, false}
-use Rattle.std.specs.Prelude.{slice_index, nat_lt, if◌then◌else◌}
+use Rattle.std.proofs.Common.{◌≡◌, ℕ, ◌+◌, ◌-◌, ◌*◌, ◌<◌, ◌%◌, ◌/◌, ◌^◌, List, [], ◌++◌, inl, inr, refl, ap₂, ap, ◌∙◌, sym, arith, length, map, bit_and, bit_xor, min, replicate, subst, w8, Bool, true, false, cond, not, ◌||◌, eqb, ltb-true}
+use Rattle.std.specs.Prelude.{slice_index, nat_lt, if◌then◌else◌, ◌&&◌}
 use Rattle.std.specs.Int.{bit_at}
 use Rattle.std.specs.List.{range_with_len}
 use Rattle.std.specs.Simd.Lanes.{zip2, Each1}
@@ -8,7 +8,7 @@ use mir.Val.{Fits}
 use Rattle.std.proofs.lemmas.Nat.{and_le_r, xor_of_8}
 use Rattle.std.proofs.lemmas.Nat.Bits.{bit_at_xor, bit_at_and, bit_at-lt, same_from_bits_below}
 use Rattle.std.proofs.lemmas.Simd.{get_or-zip2, length-zip2, get_or-replicate}
-use Rattle.std.proofs.lemmas.Bool.{cases_lt}
+use Rattle.std.proofs.lemmas.Bool.{and_parts, cases_lt, eqb-true}
 use Rattle.std.proofs.lemmas.Grind.{same_number_lists}
 use Rattle.std.proofs.lemmas.List.{length-append, get_or_append_left, get_or-append_right}
 use Rattle.sg_aes.specs.Lanes.{IsState}
@@ -136,179 +136,55 @@ swapped_small s m a b hm la lb fa fb p hp =
       subst (λ (n : ℕ). n < 256) (sym (high_at s m a b la lb p hp)) (xor_of_8 y t (each_at b fb p) (moving_lt s m x y hm)),
     )
 
-low_bit_1 : (a b i : ℕ) → a < 256 → i < 8 → bit_at (low_of 1 85 a b) i ≡ below 1 (λ _. bit_at a) (λ _. bit_at b) 0 i
-low_bit_1 a b i ha hi =
-    agree 0 (λ i. bit_at (low_of 1 85 a b) i) (λ i. below 1 (λ _. bit_at a) (λ _. bit_at b) 0 i) 8 (λ z.
-    low_first 1 85 a b 0 refl (omega arith) (omega arith) refl z
-    ∷ low_taken 1 85 a b 1 refl refl (omega arith) ha (omega arith) refl refl refl z
-    ∷ low_stays 1 85 a b 2 refl (omega arith) (omega arith) refl refl z
-    ∷ low_taken 1 85 a b 3 refl refl (omega arith) ha (omega arith) refl refl refl z
-    ∷ low_stays 1 85 a b 4 refl (omega arith) (omega arith) refl refl z
-    ∷ low_taken 1 85 a b 5 refl refl (omega arith) ha (omega arith) refl refl refl z
-    ∷ low_stays 1 85 a b 6 refl (omega arith) (omega arith) refl refl z
-    ∷ low_taken 1 85 a b 7 refl refl (omega arith) ha (omega arith) refl refl refl z ∷ []) i hi
+-- What an exchange s places apart by the mask m needs of a place: where its bit stays or comes from.
+abbrev fits_place : Bool → ℕ → ℕ → ℕ → Bool
+fits_place true s m i = (nat_lt i s || eqb (bit_at m (i - s)) 0) && (eqb (bit_at m i) 1 && nat_lt (i + s) 8)
+fits_place false s m i = not (nat_lt i s) && (eqb (bit_at m (i - s)) 1 && (eqb (bit_at m i) 0 && eqb (i - s + s) i))
 
-high_bit_1 : (a b i : ℕ) → a < 256 → i < 8 → bit_at (high_of 1 85 a b) i ≡ above 1 (λ _. bit_at a) (λ _. bit_at b) 0 i
-high_bit_1 a b i ha hi =
-    agree 0 (λ i. bit_at (high_of 1 85 a b) i) (λ i. above 1 (λ _. bit_at a) (λ _. bit_at b) 0 i) 8 (λ z.
-    high_taken 1 85 a b 0 refl ha (omega arith) refl z
-    ∷ high_stays 1 85 a b 1 refl z
-    ∷ high_taken 1 85 a b 2 refl ha (omega arith) refl z
-    ∷ high_stays 1 85 a b 3 refl z
-    ∷ high_taken 1 85 a b 4 refl ha (omega arith) refl z
-    ∷ high_stays 1 85 a b 5 refl z
-    ∷ high_taken 1 85 a b 6 refl ha (omega arith) refl z
-    ∷ high_stays 1 85 a b 7 refl z ∷ []) i hi
+abbrev Exchanges : ℕ → ℕ → Type 0
+Exchanges s m = map (λ i. fits_place (eqb (i / s % 2) 0) s m i) (range_with_len 0 8) ≡ map (λ _. true) (range_with_len 0 8)
 
--- the rules of the bits in place of the octets
-below_told_1 : (f g : ℕ → ℕ → ℕ) (a b : List ℕ) (p i : ℕ) → AreBits f a → AreBits g b → p < 32 → i < 8
-    → below 1 (λ _. bit_at (slice_index a p)) (λ _. bit_at (slice_index b p)) 0 i ≡ below 1 f g p i
-below_told_1 f g a b p i ha hb hp hi =
-    agree 0 (λ i. below 1 (λ _. bit_at (slice_index a p)) (λ _. bit_at (slice_index b p)) 0 i) (λ i. below 1 f g p i) 8 (λ z.
-    ha.1 p 0 hp (omega arith) z
-    ∷ hb.1 p 0 hp (omega arith) z
-    ∷ ha.1 p 2 hp (omega arith) z
-    ∷ hb.1 p 2 hp (omega arith) z
-    ∷ ha.1 p 4 hp (omega arith) z
-    ∷ hb.1 p 4 hp (omega arith) z
-    ∷ ha.1 p 6 hp (omega arith) z
-    ∷ hb.1 p 6 hp (omega arith) z ∷ []) i hi
+not_so : (b : Bool) → not b ≡ true → b ≡ false
+not_so false e = refl
+not_so true e = absurd cc
 
-above_told_1 : (f g : ℕ → ℕ → ℕ) (a b : List ℕ) (p i : ℕ) → AreBits f a → AreBits g b → p < 32 → i < 8
-    → above 1 (λ _. bit_at (slice_index a p)) (λ _. bit_at (slice_index b p)) 0 i ≡ above 1 f g p i
-above_told_1 f g a b p i ha hb hp hi =
-    agree 0 (λ i. above 1 (λ _. bit_at (slice_index a p)) (λ _. bit_at (slice_index b p)) 0 i) (λ i. above 1 f g p i) 8 (λ z.
-    ha.1 p 1 hp (omega arith) z
-    ∷ hb.1 p 1 hp (omega arith) z
-    ∷ ha.1 p 3 hp (omega arith) z
-    ∷ hb.1 p 3 hp (omega arith) z
-    ∷ ha.1 p 5 hp (omega arith) z
-    ∷ hb.1 p 5 hp (omega arith) z
-    ∷ ha.1 p 7 hp (omega arith) z
-    ∷ hb.1 p 7 hp (omega arith) z ∷ []) i hi
+-- the rules of the bits, by the octets
+module _ (s m : ℕ) (shifts : Shifts s) (backs : Backs s) (small : m < 256) (exchanges : Exchanges s m) (f g : ℕ → ℕ → ℕ) (a b : List ℕ) (fits : Each1 (Fits w8) a) (ha : AreBits f a) (hb : AreBits g b) where
+  at_place : (i : ℕ) → i < 8 → fits_place (eqb (i / s % 2) 0) s m i ≡ true
+  at_place i hi = agree true (λ i. fits_place (eqb (i / s % 2) 0) s m i) (λ _. true) 8 exchanges i hi
 
-pub swapped_1_is : (f g : ℕ → ℕ → ℕ) (a b : List ℕ) → Each1 (Fits w8) a → AreBits f a → AreBits g b
-    → AreBits (below 1 f g) (low_lanes 1 85 a b) × AreBits (above 1 f g) (high_lanes 1 85 a b)
-swapped_1_is f g a b fits ha hb = (
-  (low_long 1 85 a b ha.0 hb.0, λ p i hp hi. ap (λ (n : ℕ). bit_at n i) (low_at 1 85 a b ha.0 hb.0 p hp) ∙ low_bit_1 (slice_index a p) (slice_index b p) i (each_at a fits p) hi ∙ below_told_1 f g a b p i ha hb hp hi),
-  (high_long 1 85 a b ha.0 hb.0, λ p i hp hi. ap (λ (n : ℕ). bit_at n i) (high_at 1 85 a b ha.0 hb.0 p hp) ∙ high_bit_1 (slice_index a p) (slice_index b p) i (each_at a fits p) hi ∙ above_told_1 f g a b p i ha hb hp hi),
-)
+  module _ (p i : ℕ) (hp : p < 32) (hi : i < 8) where
+    abbrev x : ℕ
+    x = slice_index a p
 
-low_bit_2 : (a b i : ℕ) → a < 256 → i < 8 → bit_at (low_of 2 51 a b) i ≡ below 2 (λ _. bit_at a) (λ _. bit_at b) 0 i
-low_bit_2 a b i ha hi =
-    agree 0 (λ i. bit_at (low_of 2 51 a b) i) (λ i. below 2 (λ _. bit_at a) (λ _. bit_at b) 0 i) 8 (λ z.
-    low_first 2 51 a b 0 refl (omega arith) (omega arith) refl z
-    ∷ low_first 2 51 a b 1 refl (omega arith) (omega arith) refl z
-    ∷ low_taken 2 51 a b 2 refl refl (omega arith) ha (omega arith) refl refl refl z
-    ∷ low_taken 2 51 a b 3 refl refl (omega arith) ha (omega arith) refl refl refl z
-    ∷ low_stays 2 51 a b 4 refl (omega arith) (omega arith) refl refl z
-    ∷ low_stays 2 51 a b 5 refl (omega arith) (omega arith) refl refl z
-    ∷ low_taken 2 51 a b 6 refl refl (omega arith) ha (omega arith) refl refl refl z
-    ∷ low_taken 2 51 a b 7 refl refl (omega arith) ha (omega arith) refl refl refl z ∷ []) i hi
+    abbrev y : ℕ
+    y = slice_index b p
 
-high_bit_2 : (a b i : ℕ) → a < 256 → i < 8 → bit_at (high_of 2 51 a b) i ≡ above 2 (λ _. bit_at a) (λ _. bit_at b) 0 i
-high_bit_2 a b i ha hi =
-    agree 0 (λ i. bit_at (high_of 2 51 a b) i) (λ i. above 2 (λ _. bit_at a) (λ _. bit_at b) 0 i) 8 (λ z.
-    high_taken 2 51 a b 0 refl ha (omega arith) refl z
-    ∷ high_taken 2 51 a b 1 refl ha (omega arith) refl z
-    ∷ high_stays 2 51 a b 2 refl z
-    ∷ high_stays 2 51 a b 3 refl z
-    ∷ high_taken 2 51 a b 4 refl ha (omega arith) refl z
-    ∷ high_taken 2 51 a b 5 refl ha (omega arith) refl z
-    ∷ high_stays 2 51 a b 6 refl z
-    ∷ high_stays 2 51 a b 7 refl z ∷ []) i hi
+    low_kept : (l : Bool) → nat_lt i s ≡ l → (l || eqb (bit_at m (i - s)) 0) ≡ true → bit_at (low_of s m x y) i ≡ bit_at x i
+    low_kept true e h = low_first s m x y i shifts small hi e
+    low_kept false e h = low_stays s m x y i shifts small hi e (eqb-true _ _ h)
 
--- the rules of the bits in place of the octets
-below_told_2 : (f g : ℕ → ℕ → ℕ) (a b : List ℕ) (p i : ℕ) → AreBits f a → AreBits g b → p < 32 → i < 8
-    → below 2 (λ _. bit_at (slice_index a p)) (λ _. bit_at (slice_index b p)) 0 i ≡ below 2 f g p i
-below_told_2 f g a b p i ha hb hp hi =
-    agree 0 (λ i. below 2 (λ _. bit_at (slice_index a p)) (λ _. bit_at (slice_index b p)) 0 i) (λ i. below 2 f g p i) 8 (λ z.
-    ha.1 p 0 hp (omega arith) z
-    ∷ ha.1 p 1 hp (omega arith) z
-    ∷ hb.1 p 0 hp (omega arith) z
-    ∷ hb.1 p 1 hp (omega arith) z
-    ∷ ha.1 p 4 hp (omega arith) z
-    ∷ ha.1 p 5 hp (omega arith) z
-    ∷ hb.1 p 4 hp (omega arith) z
-    ∷ hb.1 p 5 hp (omega arith) z ∷ []) i hi
+    low_is : (t : Bool) → fits_place t s m i ≡ true → bit_at (low_of s m x y) i ≡ cond t (f p i) (g p (i - s))
+    low_is true h = low_kept (nat_lt i s) refl (and_parts _ _ h).0 ∙ ha.1 p i hp hi
+    low_is false h =
+        let first = and_parts (not (nat_lt i s)) _ h in
+        let second = and_parts (eqb (bit_at m (i - s)) 1) _ first.1 in
+        low_taken s m x y i shifts backs small (each_at a fits p) hi (not_so _ first.0) (eqb-true _ _ second.0) (eqb-true _ _ (and_parts (eqb (bit_at m i) 0) _ second.1).1)
+        ∙ hb.1 p (i - s) hp (omega (arith, hi))
 
-above_told_2 : (f g : ℕ → ℕ → ℕ) (a b : List ℕ) (p i : ℕ) → AreBits f a → AreBits g b → p < 32 → i < 8
-    → above 2 (λ _. bit_at (slice_index a p)) (λ _. bit_at (slice_index b p)) 0 i ≡ above 2 f g p i
-above_told_2 f g a b p i ha hb hp hi =
-    agree 0 (λ i. above 2 (λ _. bit_at (slice_index a p)) (λ _. bit_at (slice_index b p)) 0 i) (λ i. above 2 f g p i) 8 (λ z.
-    ha.1 p 2 hp (omega arith) z
-    ∷ ha.1 p 3 hp (omega arith) z
-    ∷ hb.1 p 2 hp (omega arith) z
-    ∷ hb.1 p 3 hp (omega arith) z
-    ∷ ha.1 p 6 hp (omega arith) z
-    ∷ ha.1 p 7 hp (omega arith) z
-    ∷ hb.1 p 6 hp (omega arith) z
-    ∷ hb.1 p 7 hp (omega arith) z ∷ []) i hi
+    high_is : (t : Bool) → fits_place t s m i ≡ true → bit_at (high_of s m x y) i ≡ cond t (f p (i + s)) (g p i)
+    high_is true h =
+        let second = and_parts (eqb (bit_at m i) 1) _ (and_parts (nat_lt i s || eqb (bit_at m (i - s)) 0) _ h).1 in
+        high_taken s m x y i backs (each_at a fits p) hi (eqb-true _ _ second.0) ∙ ha.1 p (i + s) hp (ltb-true (i + s) 8 second.1)
+    high_is false h =
+        let second = and_parts (eqb (bit_at m (i - s)) 1) _ (and_parts (not (nat_lt i s)) _ h).1 in
+        high_stays s m x y i (eqb-true _ _ (and_parts (eqb (bit_at m i) 0) _ second.1).0) ∙ hb.1 p i hp hi
 
-pub swapped_2_is : (f g : ℕ → ℕ → ℕ) (a b : List ℕ) → Each1 (Fits w8) a → AreBits f a → AreBits g b
-    → AreBits (below 2 f g) (low_lanes 2 51 a b) × AreBits (above 2 f g) (high_lanes 2 51 a b)
-swapped_2_is f g a b fits ha hb = (
-  (low_long 2 51 a b ha.0 hb.0, λ p i hp hi. ap (λ (n : ℕ). bit_at n i) (low_at 2 51 a b ha.0 hb.0 p hp) ∙ low_bit_2 (slice_index a p) (slice_index b p) i (each_at a fits p) hi ∙ below_told_2 f g a b p i ha hb hp hi),
-  (high_long 2 51 a b ha.0 hb.0, λ p i hp hi. ap (λ (n : ℕ). bit_at n i) (high_at 2 51 a b ha.0 hb.0 p hp) ∙ high_bit_2 (slice_index a p) (slice_index b p) i (each_at a fits p) hi ∙ above_told_2 f g a b p i ha hb hp hi),
-)
-
-low_bit_4 : (a b i : ℕ) → a < 256 → i < 8 → bit_at (low_of 4 15 a b) i ≡ below 4 (λ _. bit_at a) (λ _. bit_at b) 0 i
-low_bit_4 a b i ha hi =
-    agree 0 (λ i. bit_at (low_of 4 15 a b) i) (λ i. below 4 (λ _. bit_at a) (λ _. bit_at b) 0 i) 8 (λ z.
-    low_first 4 15 a b 0 refl (omega arith) (omega arith) refl z
-    ∷ low_first 4 15 a b 1 refl (omega arith) (omega arith) refl z
-    ∷ low_first 4 15 a b 2 refl (omega arith) (omega arith) refl z
-    ∷ low_first 4 15 a b 3 refl (omega arith) (omega arith) refl z
-    ∷ low_taken 4 15 a b 4 refl refl (omega arith) ha (omega arith) refl refl refl z
-    ∷ low_taken 4 15 a b 5 refl refl (omega arith) ha (omega arith) refl refl refl z
-    ∷ low_taken 4 15 a b 6 refl refl (omega arith) ha (omega arith) refl refl refl z
-    ∷ low_taken 4 15 a b 7 refl refl (omega arith) ha (omega arith) refl refl refl z ∷ []) i hi
-
-high_bit_4 : (a b i : ℕ) → a < 256 → i < 8 → bit_at (high_of 4 15 a b) i ≡ above 4 (λ _. bit_at a) (λ _. bit_at b) 0 i
-high_bit_4 a b i ha hi =
-    agree 0 (λ i. bit_at (high_of 4 15 a b) i) (λ i. above 4 (λ _. bit_at a) (λ _. bit_at b) 0 i) 8 (λ z.
-    high_taken 4 15 a b 0 refl ha (omega arith) refl z
-    ∷ high_taken 4 15 a b 1 refl ha (omega arith) refl z
-    ∷ high_taken 4 15 a b 2 refl ha (omega arith) refl z
-    ∷ high_taken 4 15 a b 3 refl ha (omega arith) refl z
-    ∷ high_stays 4 15 a b 4 refl z
-    ∷ high_stays 4 15 a b 5 refl z
-    ∷ high_stays 4 15 a b 6 refl z
-    ∷ high_stays 4 15 a b 7 refl z ∷ []) i hi
-
--- the rules of the bits in place of the octets
-below_told_4 : (f g : ℕ → ℕ → ℕ) (a b : List ℕ) (p i : ℕ) → AreBits f a → AreBits g b → p < 32 → i < 8
-    → below 4 (λ _. bit_at (slice_index a p)) (λ _. bit_at (slice_index b p)) 0 i ≡ below 4 f g p i
-below_told_4 f g a b p i ha hb hp hi =
-    agree 0 (λ i. below 4 (λ _. bit_at (slice_index a p)) (λ _. bit_at (slice_index b p)) 0 i) (λ i. below 4 f g p i) 8 (λ z.
-    ha.1 p 0 hp (omega arith) z
-    ∷ ha.1 p 1 hp (omega arith) z
-    ∷ ha.1 p 2 hp (omega arith) z
-    ∷ ha.1 p 3 hp (omega arith) z
-    ∷ hb.1 p 0 hp (omega arith) z
-    ∷ hb.1 p 1 hp (omega arith) z
-    ∷ hb.1 p 2 hp (omega arith) z
-    ∷ hb.1 p 3 hp (omega arith) z ∷ []) i hi
-
-above_told_4 : (f g : ℕ → ℕ → ℕ) (a b : List ℕ) (p i : ℕ) → AreBits f a → AreBits g b → p < 32 → i < 8
-    → above 4 (λ _. bit_at (slice_index a p)) (λ _. bit_at (slice_index b p)) 0 i ≡ above 4 f g p i
-above_told_4 f g a b p i ha hb hp hi =
-    agree 0 (λ i. above 4 (λ _. bit_at (slice_index a p)) (λ _. bit_at (slice_index b p)) 0 i) (λ i. above 4 f g p i) 8 (λ z.
-    ha.1 p 4 hp (omega arith) z
-    ∷ ha.1 p 5 hp (omega arith) z
-    ∷ ha.1 p 6 hp (omega arith) z
-    ∷ ha.1 p 7 hp (omega arith) z
-    ∷ hb.1 p 4 hp (omega arith) z
-    ∷ hb.1 p 5 hp (omega arith) z
-    ∷ hb.1 p 6 hp (omega arith) z
-    ∷ hb.1 p 7 hp (omega arith) z ∷ []) i hi
-
-pub swapped_4_is : (f g : ℕ → ℕ → ℕ) (a b : List ℕ) → Each1 (Fits w8) a → AreBits f a → AreBits g b
-    → AreBits (below 4 f g) (low_lanes 4 15 a b) × AreBits (above 4 f g) (high_lanes 4 15 a b)
-swapped_4_is f g a b fits ha hb = (
-  (low_long 4 15 a b ha.0 hb.0, λ p i hp hi. ap (λ (n : ℕ). bit_at n i) (low_at 4 15 a b ha.0 hb.0 p hp) ∙ low_bit_4 (slice_index a p) (slice_index b p) i (each_at a fits p) hi ∙ below_told_4 f g a b p i ha hb hp hi),
-  (high_long 4 15 a b ha.0 hb.0, λ p i hp hi. ap (λ (n : ℕ). bit_at n i) (high_at 4 15 a b ha.0 hb.0 p hp) ∙ high_bit_4 (slice_index a p) (slice_index b p) i (each_at a fits p) hi ∙ above_told_4 f g a b p i ha hb hp hi),
-)
+  pub swapped_is : AreBits (below s f g) (low_lanes s m a b) × AreBits (above s f g) (high_lanes s m a b)
+  swapped_is = (
+    (low_long s m a b ha.0 hb.0, λ p i hp hi. ap (λ (n : ℕ). bit_at n i) (low_at s m a b ha.0 hb.0 p hp) ∙ low_is p i hp hi (eqb (i / s % 2) 0) (at_place i hi)),
+    (high_long s m a b ha.0 hb.0, λ p i hp hi. ap (λ (n : ℕ). bit_at n i) (high_at s m a b ha.0 hb.0 p hp) ∙ high_is p i hp hi (eqb (i / s % 2) 0) (at_place i hi)),
+  )
 
 -- ---- all three
 

@@ -7,13 +7,14 @@ use Rattle.sg_agreement.specs.declared.ways.Way.{Way}
 use Rattle.sg_base.specs.declared.addresses.CallId.{CallId}
 use Rattle.sg_base.specs.declared.addresses.Side.{Side}
 use Rattle.sg_base.specs.declared.addresses.Side.TheVariants.{Secure, Plain}
-use Rattle.sg_gateway.specs.Signals.{Tick, Psk, Manual, Offered, Answered, Reject, Bye}
+use Rattle.sg_gateway.specs.Signals.{Offered, Answered}
 use Rattle.sg_gateway.specs.Step.{Event, Signalled, Datagram}
 use Rattle.sg_gateway.specs.World.{same_id}
 use Rattle.sg_outcome.specs.declared.outcomes.Outcome.{Outcome}
 use Rattle.sg_outcome.specs.declared.outcomes.Why.{Why}
 use Rattle.sg_outcome.specs.declared.outcomes.Outcome.TheVariants.{Made, Live, Sdp, Refused, Ended, Out, Dropped, Unsent}
 use Rattle.sg_sdp.specs.Reading.{description_of}
+use Rattle.sg_mux.proofs.Lines.{first_of, rest_of}
 use Rattle.sg_mux.proofs.Marks.{line_from, line_to, port_from, port_to}
 use Rattle.sg_mux.specs.Latest.{AcceptsAnswer, AcceptsOffer, ChangesSlot, IsAnswered, IsOffered, SharesPort, Telling, TellsText, is_answer}
 use Rattle.sg_mux.specs.Legs.{muxes, same_side}
@@ -269,14 +270,6 @@ module _ (slot : ℕ) (P : Known → Type 0) (Q : Telling → Type 0) (step : (k
 if_other : (P : Known → Type 0) (b : Bool) (x : Option Known) (k : Known) → P k → (b ≡ true → ⊥) → Holds P (cond b x (Some k))
 if_other P true x k is never = absurd (never refl)
 if_other P false x k is never = is
-
-first_of : {X : Type 0} (P : X → Type 0) (xs ys : List X) → AllByRecursion P (xs ++ ys) → AllByRecursion P xs
-first_of P [] ys each = tt
-first_of P (x ∷ xs) ys each = (each.0, first_of P xs ys each.1)
-
-rest_of : {X : Type 0} (P : X → Type 0) (xs ys : List X) → AllByRecursion P (xs ++ ys) → AllByRecursion P ys
-rest_of P [] ys each = each
-rest_of P (x ∷ xs) ys each = rest_of P xs ys each.1
 
 and_each : {X : Type 0} (P Q : X → Type 0) (xs : List X) → AllByRecursion P xs → AllByRecursion Q xs → AllByRecursion (λ x. P x × Q x) xs
 and_each P Q [] p q = tt

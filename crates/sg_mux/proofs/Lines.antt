@@ -89,29 +89,31 @@ all_in (l ∷ ls) text (rest, inl is, later) =
 all_in (l ∷ ls) text (rest, inr is, later) =
     more text l rest (parts_of rest) (ap parts_of is ∙ parted ends_line l 10 rest refl) (λ x has. has) ls (all_in ls rest later)
 
+-- ---- lists of two parts
+
+pub first_of : {X : Type 0} (P : X → Type 0) (xs ys : List X) → AllByRecursion P (xs ++ ys) → AllByRecursion P xs
+first_of P [] ys each = tt
+first_of P (x ∷ xs) ys each = (each.0, first_of P xs ys each.1)
+
+pub rest_of : {X : Type 0} (P : X → Type 0) (xs ys : List X) → AllByRecursion P (xs ++ ys) → AllByRecursion P ys
+rest_of P [] ys each = each
+rest_of P (x ∷ xs) ys each = rest_of P xs ys each.1
+
 -- ---- the lines of a description that gets some
 
 module _ (P : List ℕ → Type 0) where
-  first_of : (xs ys : List (List ℕ)) → AllByRecursion P (xs ++ ys) → AllByRecursion P xs
-  first_of [] ys each = tt
-  first_of (x ∷ xs) ys each = (each.0, first_of xs ys each.1)
-
-  rest_of : (xs ys : List (List ℕ)) → AllByRecursion P (xs ++ ys) → AllByRecursion P ys
-  rest_of [] ys each = each
-  rest_of (x ∷ xs) ys each = rest_of xs ys each.1
-
   abbrev EachOf : Medium → Type 0
   EachOf m = AllByRecursion P (medium_lines m)
 
   by_medium : (ms : List Medium) → AllByRecursion P (flat_map medium_lines ms) → AllByRecursion EachOf ms
   by_medium [] each = tt
-  by_medium (m ∷ ms) each = (first_of (medium_lines m) (flat_map medium_lines ms) each, by_medium ms (rest_of (medium_lines m) (flat_map medium_lines ms) each))
+  by_medium (m ∷ ms) each = (first_of P (medium_lines m) (flat_map medium_lines ms) each, by_medium ms (rest_of P (medium_lines m) (flat_map medium_lines ms) each))
 
   abbrev Each : Sdp → Type 0
   Each s = AllByRecursion P s.session × AllByRecursion EachOf s.media
 
   by_lines : (s : Sdp) → AllByRecursion P (all_lines s) → Each s
-  by_lines s each = (first_of s.session (flat_map medium_lines s.media) each, by_medium s.media (rest_of s.session (flat_map medium_lines s.media) each))
+  by_lines s each = (first_of P s.session (flat_map medium_lines s.media) each, by_medium s.media (rest_of P s.session (flat_map medium_lines s.media) each))
 
   in_lines : (s : Sdp) → Each s → AllByRecursion P (all_lines s)
   in_lines s lines = each_append P s.session (flat_map medium_lines s.media) lines.0 (each_flat_map EachOf P medium_lines (λ m of. of) s.media lines.1)
@@ -121,7 +123,7 @@ module _ (P : List ℕ → Type 0) where
   at_medium_before : (i : ℕ) (ms : List Medium) → AllByRecursion EachOf (with_line_at i mux_line ms) → AllByRecursion EachOf ms
   unfolding with_line_at
   at_medium_before i [] each = tt
-  at_medium_before zero (m ∷ ms) each = ((each.0.0, first_of m.lines (mux_line ∷ []) each.0.1), each.1)
+  at_medium_before zero (m ∷ ms) each = ((each.0.0, first_of P m.lines (mux_line ∷ []) each.0.1), each.1)
   at_medium_before (suc i) (m ∷ ms) each = (each.0, at_medium_before i ms each.1)
 
   before_if : (b : Bool) (medium : ℕ) (s : Sdp) → Each (cond b (with_media_line medium mux_line s) s) → Each s

@@ -1,11 +1,12 @@
 -- What is marked of a text's media is what the text says of them.
-use Rattle.std.proofs.Common.{◌≡◌, ℕ, zero, suc, ◌<◌, Bool, true, false, not, List, [], ◌∷◌, ◌++◌, length, Option, Some, None, Result, Ok, Err, refl, sym, ap, ◌∙◌, arith}
+use Rattle.std.proofs.Common.{◌≡◌, ℕ, zero, suc, ◌<◌, Bool, true, not, List, [], ◌∷◌, ◌++◌, length, Option, Some, None, Result, Ok, Err, refl, sym, ap, ◌∙◌, arith}
 use Rattle.std.specs.Prelude.{codes}
-use Rattle.std.specs.List.{Any, list_any, slice_get}
+use Rattle.std.specs.List.{slice_get}
 use Rattle.std.specs.Str.{bytes_eq}
 use Rattle.std.proofs.lemmas.Bool.{eq-eqb, false≢true, ne_eqb}
 use Rattle.std.proofs.lemmas.List.Folds.{Any-from_list_any, list_any-from_Any}
 use Rattle.std.proofs.lemmas.Slice.Eq.{bytes_eq-Decides}
+use Rattle.sg_session.proofs.Lists.{any_weaker}
 use Rattle.sg_sdp.specs.Faults.{Fault}
 use Rattle.sg_sdp.specs.Reading.{description_of}
 use Rattle.sg_sdp.specs.declared.medium.Medium.{Medium}
@@ -70,19 +71,16 @@ module _ (test : Medium → Bool) where
       ∙ ap (λ (n : ℕ). is_such test (slice_get (is.before ++ m ∷ is.after) n)) (sym is.number)
       ∙ ap (is_such test) (of_place is.before is.after m) ∙ such)
 
-any_as : {X : Type 0} (P Q : X → Type 0) → ((x : X) → P x → Q x) → (xs : List X) → Any P xs → Any Q xs
-any_as P Q follows xs is = (is.0, is.1, is.2, is.3, follows is.1 is.4)
-
 pub line_from : (text : List ℕ) (medium : ℕ) → mark (offers_mux text) medium ≡ true → HasMuxLine text medium
 line_from text medium is =
     let one = of_description has_mux_line text medium (description_of text) refl is in
-    (one.0, one.1, any_as (λ line. bytes_eq line mux_line ≡ true) (λ line. line ≡ codes "a=rtcp-mux") (λ line same. (bytes_eq-Decides line mux_line).0 same) one.0.lines (Any-from_list_any (λ line. bytes_eq line mux_line) one.0.lines one.2))
+    (one.0, one.1, any_weaker (λ line. bytes_eq line mux_line ≡ true) (λ line. line ≡ codes "a=rtcp-mux") (λ line same. (bytes_eq-Decides line mux_line).0 same) one.0.lines (Any-from_list_any (λ line. bytes_eq line mux_line) one.0.lines one.2))
 
 pub line_to : (text : List ℕ) (medium : ℕ) → HasMuxLine text medium → mark (offers_mux text) medium ≡ true
 line_to text medium is =
     to_mark has_mux_line text medium is.0 is.1
     (list_any-from_Any (λ line. bytes_eq line mux_line) is.0.lines
-    (any_as (λ line. line ≡ codes "a=rtcp-mux") (λ line. bytes_eq line mux_line ≡ true) (λ line same. (bytes_eq-Decides line mux_line).1 same) is.0.lines is.2))
+    (any_weaker (λ line. line ≡ codes "a=rtcp-mux") (λ line. bytes_eq line mux_line ≡ true) (λ line same. (bytes_eq-Decides line mux_line).1 same) is.0.lines is.2))
 
 pub port_from : (text : List ℕ) (medium : ℕ) → mark (answers_port text) medium ≡ true → HasPort text medium
 port_from text medium is =

@@ -1,6 +1,6 @@
 -- By which ports what comes to a leg that shares its port is taken, and what leaves goes.
-use Rattle.std.proofs.Common.{◌≡◌, ℕ, zero, suc, ◌+◌, ◌-◌, ◌*◌, ◌<◌, ◌≤◌, Bool, true, false, cond, not, eqb, ltb, leb, List, [], ◌∷◌, ◌++◌, Option, refl, sym, ap, ◌∙◌, subst, arith}
-use Rattle.std.specs.Prelude.{◌&&◌, ◌/◌, ◌%◌, slice_index_or}
+use Rattle.std.proofs.Common.{◌≡◌, ℕ, ◌+◌, ◌-◌, ◌*◌, ◌<◌, ◌≤◌, Bool, true, false, cond, not, eqb, ltb, leb, List, [], ◌∷◌, ◌++◌, Option, refl, sym, ap, ◌∙◌, subst, arith}
+use Rattle.std.specs.Prelude.{◌&&◌, ◌%◌}
 use Rattle.std.proofs.lemmas.Bool.{and_parts, and_from, cond-true, cond-false, eq-eqb, eqb-true, false≢true, le-leb, le-ltb, leb-true, lt-ltb, ltb-false, ltb-true, ne_eqb}
 use Rattle.sg_base.specs.declared.addresses.Address.{Address}
 use Rattle.sg_base.specs.declared.addresses.Side.{Side}
@@ -9,11 +9,11 @@ use Rattle.sg_gateway.specs.Octets.{Octets}
 use Rattle.sg_gateway.specs.Step.{Event, Datagram}
 use Rattle.sg_gateway.specs.World.{World, empty}
 use Rattle.sg_passages.specs.Passages.{Leaving, Passage, straight}
-use Rattle.sg_mux.specs.Latest.{LegsAreMuxed, SharesPort, Telling, known_after, known_from, tellings}
+use Rattle.sg_mux.specs.Latest.{LegsAreMuxed, Telling, known_after, known_from, tellings}
 use Rattle.sg_mux.specs.Legs.{arrived_port, is_muxed, is_muxed_at, is_muxed_rtcp, is_muxed_rtp, is_port, is_report, leaves, medium_of, side_of_port, slot_of}
 use Rattle.sg_mux.specs.Muxed.{nobody}
 use Rattle.sg_mux.specs.Sharing.{IsReport, IsShared, IsTakenAt, LeavesBy, SharesAsTold, rtp_port_of}
-use Rattle.sg_mux.specs.Via.{events_from, events_via, muxing_after, passage_at, passages_from, passages_via, stepped, via}
+use Rattle.sg_mux.specs.Via.{events_from, muxing_after, passage_at, passages_from, stepped, via}
 use Rattle.sg_mux.specs.declared.known.Known.{Known}
 
 -- ---- the plan of ports

@@ -17,7 +17,7 @@ use Rattle.sg_gateway.specs.Signals.{Signal, Tick, Psk, Manual, Offered, Answere
 use Rattle.sg_gateway.specs.Step.{Event, Signalled, Datagram}
 use Rattle.sg_gateway.specs.World.{Call, World, call_of, empty}
 use Rattle.sg_outcome.specs.declared.outcomes.Outcome.{Outcome}
-use Rattle.sg_outcome.specs.declared.outcomes.Outcome.TheVariants.{Made, Live, Sdp, Refused, Ended, Out, Dropped, Unsent}
+use Rattle.sg_outcome.specs.declared.outcomes.Outcome.TheVariants.{Made, Sdp, Ended}
 use Rattle.sg_mux.proofs.Latest.{change_by, marks_of, said, said_append, said_of}
 use Rattle.sg_mux.specs.Latest.{Telling, is_answer, known_after, known_from, tellings, tellings_of}
 use Rattle.sg_mux.specs.Muxed.{agreed, settled_answer, changed_at, fresh, nobody, noted, noted_all}
@@ -103,12 +103,7 @@ module _ (slot : ℕ) where
     one_event : (e : Event) → At (muxing_after w calls e).calls ≡ said slot (At calls) (tellings_of (turn_of w (via calls e)))
     one_event (Datagram port from octets) = arrives _ _ from octets.items (call_at w _)
     one_event (Signalled (Answered id noise text)) = answer_settles id noise text (call_of w id)
-    one_event (Signalled (Offered id way noise text)) = each_noted (Signalled (Offered id way noise text)) calls (stepped w calls (Signalled (Offered id way noise text))).outcomes refl within
-    one_event (Signalled (Tick now)) = each_noted (Signalled (Tick now)) calls (stepped w calls (Signalled (Tick now))).outcomes refl within
-    one_event (Signalled (Psk pair)) = each_noted (Signalled (Psk pair)) calls (stepped w calls (Signalled (Psk pair))).outcomes refl within
-    one_event (Signalled (Manual h)) = each_noted (Signalled (Manual h)) calls (stepped w calls (Signalled (Manual h))).outcomes refl within
-    one_event (Signalled (Reject id)) = each_noted (Signalled (Reject id)) calls (stepped w calls (Signalled (Reject id))).outcomes refl within
-    one_event (Signalled (Bye id)) = each_noted (Signalled (Bye id)) calls (stepped w calls (Signalled (Bye id))).outcomes refl within
+    one_event (Signalled other) = each_noted (Signalled other) calls (stepped w calls (Signalled other)).outcomes refl within
 
   all_events : (w : World) (calls : List (Option Known)) (es : List Event) → slot < length calls
       → At (known_from w calls es) ≡ said slot (At calls) (flat_map tellings_of (turns_from w (events_from w calls es)))

@@ -4,13 +4,14 @@ use Rattle.std.specs.Prelude.{◌&&◌}
 use Rattle.std.proofs.lemmas.Bool.{and_parts, eqb-true}
 use Rattle.std.specs.List.{AllByRecursion}
 use Rattle.std.proofs.lemmas.List.Elements.{All-from_recursion}
+use Rattle.sg_passages.proofs.Plainly.{all_as_they_are}
 use Rattle.sg_base.specs.declared.addresses.Address.{Address}
-use Rattle.sg_gateway.specs.Signals.{Signal, Tick, Psk, Manual, Offered, Answered, Reject, Bye}
+use Rattle.sg_gateway.specs.Signals.{Signal, Offered, Answered}
 use Rattle.sg_gateway.specs.Runs.{turn_of, turns_from}
 use Rattle.sg_gateway.specs.Step.{Event, Signalled, Datagram}
 use Rattle.sg_gateway.specs.World.{World, empty}
 use Rattle.sg_outcome.specs.declared.outcomes.Outcome.{Outcome}
-use Rattle.sg_outcome.specs.declared.outcomes.Outcome.TheVariants.{Made, Live, Sdp, Refused, Ended, Out, Dropped, Unsent}
+use Rattle.sg_outcome.specs.declared.outcomes.Outcome.TheVariants.{Sdp, Dropped}
 use Rattle.sg_passages.specs.Passages.{ArePassagesOf, AreToldAs, IsFaithful, IsOneBefore, IsToldAs, KeepsLegs, KeepsOffers, Leaving, straight}
 use Rattle.sg_mux.proofs.Lines.{ReadIsSpelled, adds_lines, same_lines}
 use Rattle.sg_mux.specs.Legs.{is_muxed_at, is_muxed_rtcp, leaves}
@@ -30,15 +31,6 @@ all_told calls port [] = refl
 all_told calls port (o ∷ os) = (told_at calls port o, map (told_at calls port) os, refl, datagram_told calls port o, all_told calls port os)
 
 -- ---- what a signal gives
-
-as_it_is : (o : Outcome) → IsToldAs straight o o
-as_it_is (Dropped port cause) = (port, refl)
-as_it_is (Sdp id side text) = (text, refl, same_lines text)
-as_it_is other = refl
-
-all_as_they_are : (os : List Outcome) → AreToldAs straight os os
-all_as_they_are [] = refl
-all_as_they_are (o ∷ os) = (o, os, refl, as_it_is o, all_as_they_are os)
 
 module _ (spelled : ReadIsSpelled) where
   settled_told : (calls : List (Option Known)) (o : Outcome) → IsToldAs straight o (settled calls o).told

@@ -1,5 +1,5 @@
-use Rattle.std.proofs.Common.{refl}
-use Rattle.sg_aes.proofs.BoxLemmas.{IsPlane, summed, met, taken, given, table_0, table_1, table_2, table_3, table_4, table_5, table_6, table_7}
+use Rattle.std.proofs.Common.{refl, arith}
+use Rattle.sg_aes.proofs.BoxLemmas.{IsPlane, summed, met, taken, given, table}
 use Rattle.sg_aes.proofs.planes.boxed.Goals as goal
 
 pub returns : goal.returns
@@ -128,12 +128,12 @@ returns c v small h =
     let s1 : IsPlane v c.sum-s1.result 0xde1f47ccdaa6e87dc094346e4cf24aa61b7ae4c40c54da9f67f5c33d3d024b00 = summed t64 s3 c.sum-s1.ensures in
     let s2 : IsPlane v c.sum-s2.result 0xab4db7ecf4b0da90827233b8f9ce61f7943d55b1f287855b07fba08492672280 = summed t55 t67 c.sum-s2.ensures in
     record {
-      bit0 = given 0 0xb0e152c690db85fbef424def3ff9154a9754b405753485ec4eb12198f6939112 table_0 small s7;
-      bit1 = given 1 0x378f68bf6b15275695baf4d10ccb794b19e5b3a1687e90858451ff82b3ac0382 table_1 small s6;
-      bit2 = given 2 0xac39b6c0d6ce2efc577d64e03b0c3ffb23a869a2a428c424a16387fb3b48b4c6 table_2 small s5;
-      bit3 = given 3 0x4e9ddb76c892fb1be9da849cf6ac6c1b2568ea2effa8527d109020a2193d586a table_3 small s4;
-      bit4 = given 4 0xf210a3aece472e532624b286bc48ecb4f7f17a494ce30f58c2b0f97752b8b11e table_4 small s3;
-      bit5 = given 5 0xab4db7ecf4b0da90827233b8f9ce61f7943d55b1f287855b07fba08492672280 table_5 small s2;
-      bit6 = given 6 0xde1f47ccdaa6e87dc094346e4cf24aa61b7ae4c40c54da9f67f5c33d3d024b00 table_6 small s1;
-      bit7 = given 7 0x52379de7b844e3e14cb3770196ca0329e7bac28f866aac825caa2ec7bf977090 table_7 small s0;
+      bit0 = given 0 0xb0e152c690db85fbef424def3ff9154a9754b405753485ec4eb12198f6939112 (table 0 (omega arith)) small s7;
+      bit1 = given 1 0x378f68bf6b15275695baf4d10ccb794b19e5b3a1687e90858451ff82b3ac0382 (table 1 (omega arith)) small s6;
+      bit2 = given 2 0xac39b6c0d6ce2efc577d64e03b0c3ffb23a869a2a428c424a16387fb3b48b4c6 (table 2 (omega arith)) small s5;
+      bit3 = given 3 0x4e9ddb76c892fb1be9da849cf6ac6c1b2568ea2effa8527d109020a2193d586a (table 3 (omega arith)) small s4;
+      bit4 = given 4 0xf210a3aece472e532624b286bc48ecb4f7f17a494ce30f58c2b0f97752b8b11e (table 4 (omega arith)) small s3;
+      bit5 = given 5 0xab4db7ecf4b0da90827233b8f9ce61f7943d55b1f287855b07fba08492672280 (table 5 (omega arith)) small s2;
+      bit6 = given 6 0xde1f47ccdaa6e87dc094346e4cf24aa61b7ae4c40c54da9f67f5c33d3d024b00 (table 6 (omega arith)) small s1;
+      bit7 = given 7 0x52379de7b844e3e14cb3770196ca0329e7bac28f866aac825caa2ec7bf977090 (table 7 (omega arith)) small s0;
     }
