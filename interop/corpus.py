@@ -1,20 +1,22 @@
 #!/usr/bin/env python3
 """Plays all of what a sample would miss through the program, and compares each run's octets, status and text with the
-model's (`model/`).
+model's (`model/`), those of the borders with what is worked out by hand (`borders.py`).
 
     interop/corpus.py PROGRAM [--small] [--workers N] [PART..]
 
 The parts, all where none is named:
 
 captures    the known packet's capture in each of the four forms: each prefix, and each octet by each other value
+records     three records at moments that show, in each form and both versions: each prefix, each bit, and each octet of
+            the records' heads by each other value
 fields      each value of each field of two octets of a frame, in captures of 65,536 records
 bridges     all scripts of three lines over the alphabet of a bridge, behind six beginnings
 shared      the same of ports that RTP and RTCP share, behind five
 borders     scripts and captures that end at 2^30 octets, an octet before and an octet behind, by each command
 
-`--small` plays some of captures, bridges and shared, in half a minute. The whole takes an hour of one processor at the
-most, and 4 GiB of memory for the borders; N processes (one) share each part. What makes a difference is kept in the folder
-of the call as `PART-NUMBER.source`.
+`--small` plays some of captures, records, bridges and shared, in half a minute. The whole takes an hour of one processor at
+the most; N processes (one) share each part. What makes a difference is kept in the folder of the call as
+`PART-NUMBER.source`; a border, which is too long for that, is told.
 """
 import itertools
 import multiprocessing
@@ -24,23 +26,25 @@ import sys
 import time
 from pathlib import Path
 
+from borders import Border, borders, otherwise_by_model
 from calls import KEY
-from captured import MICRO, NANO, ethernet, frame, header, ipv4, record, udp
+from captured import LAST_MOMENT, MICRO, NANO, Captured, ethernet, frame, header, ipv4, record, udp
 from joined import SECOND, SECOND_PLAIN, TWOS, first_call, second_call
 from mixed import ended
 from model import TOLD
-from model.scripts import SCRIPT_MOST
 from shared import ALICE_MUXES, MUX, report
 from signals import (
-    ALICE_KEYED, BOB_ANSWERS, COUNTING, ONE, PLAIN, SECURE, SHIFTED, Script, answer, crypto, key, noise, offer_sdes,
+    ALICE, ALICE_KEYED, BOB, BOB_ANSWERS, COUNTING, ONE, PLAIN, SECURE, SHIFTED, Script, answer, crypto, key, noise, offer_sdes,
     offer_secure, plain_text, secure_text,
 )
 from srtp import KNOWN_SEALED, MasterKey, rtcp, rtp
 from usage import words_or_usage
 
 FORMS = [{"magic": magic, "order": order} for magic in (MICRO, NANO) for order in ("little", "big")]
+# When the first of three records was captured.
+MOMENT = 1_764_000_000_000
 # A run that takes longer doesn't end.
-SECONDS = 600
+SECONDS = 60
 
 
 def text(lines):
@@ -57,21 +61,62 @@ def begun(*lines):
 # ---- captures
 
 def captures():
+    lines = begun()
     for form in FORMS:
         whole = header(**form) + record(frame(KNOWN_SEALED), order=form["order"])
         for length in range(len(whole) + 1):
-            yield "capture", begun() + whole[:length]
-        for place, octet in enumerate(whole):
-            for other in set(range(256)) - {octet}:
-                yield "capture", begun() + whole[:place] + bytes([other]) + whole[place + 1:]
+            yield "capture", lines + whole[:length]
+        for place in range(len(whole)):
+            for other in changed(whole, place, range(256)):
+                yield "capture", lines + other
+
+
+def changed(octets, place, values):
+    """The octets with each of these values at a place that isn't the one that is there."""
+    return (octets[:place] + bytes([value]) + octets[place + 1:] for value in values if value != octets[place])
+
+
+def three_records(form, version):
+    """Each moves the end of a call: the second comes in the last fraction at which it is still there, the third in the first
+    one at which it isn't. In version 2 that would be behind the last moment that there is, and the call is there."""
+    s, began = Captured(version, **form), 0 if version == 1 else LAST_MOMENT - 100_000
+    s.lines.append(f"tick {began}")
+    first_call(s)
+    if version == 2:
+        s.arrives_at(began, 20000, KEY.srtp(rtp(7), 7))
+    s.begins().has(frame(KNOWN_SEALED), millis=MOMENT)
+    s.has(frame(rtp(8), 20002), millis=MOMENT + 59_999, more=s.per - 1)
+    s.has(frame(KEY.srtcp(rtcp(), 0), 20001), millis=MOMENT + 119_999)
+    return s.text(), s.capture
+
+
+def heads(capture, order):
+    """Where the octets of the records' heads stand."""
+    at, found = len(header()), set()
+    while at < len(capture):
+        found |= set(range(at, at + 16))
+        at += 16 + int.from_bytes(capture[at + 8:at + 12], order)
+    return found
+
+
+def records():
+    for form, version in itertools.product(FORMS, (1, 2)):
+        lines, capture = three_records(form, version)
+        in_heads = heads(capture, form["order"])
+        for length in range(len(capture) + 1):
+            yield "capture", lines + capture[:length]
+        for place, octet in enumerate(capture):
+            bits = [octet ^ 1 << bit for bit in range(8)]
+            for other in changed(capture, place, range(256) if place in in_heads else bits):
+                yield "capture", lines + other
 
 
 def fields():
     """Each record has a packet of its own, so that what is put out shows its octets."""
     packets = [ethernet(ipv4(udp(KEY.srtp(rtp(number), number)))) for number in range(65_536)]
     for place in range(12, len(ethernet(ipv4(udp(b"")))), 2):
-        changed = (it[:place] + value.to_bytes(2, "big") + it[place + 2:] for value, it in enumerate(packets))
-        yield "capture", begun() + header() + b"".join(record(it) for it in changed)
+        others = (it[:place] + value.to_bytes(2, "big") + it[place + 2:] for value, it in enumerate(packets))
+        yield "capture", begun() + header() + b"".join(map(record, others))
 
 
 # ---- scripts of three lines
@@ -85,19 +130,27 @@ def third_offers(name, drawn):
 
 
 def of_bridges(version):
-    """The alphabet of a bridge: three calls, of which the third may be by hand or by crypto lines."""
+    """The alphabet of a bridge: three calls, of which the third may be by hand or by crypto lines, and one of two media. What
+    comes for the first call and for the second one's plain side has one number, so that the later one may be lost."""
     return [
-        "join 1 2", "join 2 1", "join 1 3", "join 3 2", "part 1", "part 3", "bye 1", "bye 2", "reject 3", "tick 2000", "tick 60000",
+        "join 1 2", "join 2 1", "join 1 3", "join 3 2", "join 3 3", "join 2 4", "part 1", "part 3",
+        "bye 1", "bye 2", "reject 3", "tick 2000", "tick 60000",
         f"manual 3 {SECOND} {SECOND_PLAIN} 00000000 64 {key('three').field()} {key('four').field()}",
         third_offers("third", COUNTING), answer(3, plain_text(), noise("third")),
-        comes(version, 20000, KEY.srtp(rtp(7), 7)), comes(version, 20016, TWOS.srtp(rtp(8), 8), SECOND),
+        comes(version, 20000, KEY.srtp(rtp(9), 9)), comes(version, 20016, TWOS.srtp(rtp(8), 8), SECOND),
         comes(version, 20001, KEY.srtcp(rtcp(), 0)), comes(version, 20018, rtp(9), SECOND_PLAIN),
     ]
 
 
+def of_two_media():
+    """The fourth call is live."""
+    secure = [line for port in (40020, 40030) for line in (f"m=audio {port} RTP/SAVP 0", crypto(1, key(f"fourth {port}")))]
+    return [offer_secure(4, ALICE + secure), answer(4, BOB + ["m=audio 41020 RTP/AVP 0", "m=audio 41030 RTP/AVP 0"])]
+
+
 def beginnings_of_bridges():
     for version, more in (
-        (1, None), (1, []), (1, ["join 1 2"]), (1, ["join 1 2", third_offers("open", SHIFTED)]),
+        (1, None), (1, of_two_media()), (1, ["join 1 2"]), (1, ["join 1 2", third_offers("open", SHIFTED)]),
         (1, [third_offers("live", SHIFTED), answer(3, plain_text(), noise("live")), "join 1 3"]), (2, ["join 1 2"]),
     ):
         s = Script(version, "bridge")
@@ -142,72 +195,11 @@ def shared():
             yield "replay --mux", text(["srtpgw 1", *lines, *three])
 
 
-# ---- borders
-
-MARK = b"bye 4294967295\n"
-# An offer that is refused, since its text is too long.
-FILLING = text([offer_secure(7, bytes(32_768))])
-
-
-def refused(length):
-    """Lines of so many octets: such an offer, behind one of an odd number of octets where that is wanted."""
-    bare = len(text([offer_secure(7, b"")])) - 1
-    odd = b"tick 0\n" * ((length - bare) % 2)
-    return odd + text([offer_secure(7, bytes((length - bare - len(odd)) // 2))])
-
-
-def filled(octets, length):
-    """The octets with such lines behind them, to a length."""
-    count = (length - len(octets)) // len(FILLING) - 1
-    rest = length - len(octets) - count * len(FILLING)
-    return octets + count * FILLING + refused(rest // 2) + refused(rest - rest // 2)
-
-
-def borders_of_scripts(command, version=1):
-    first = text([f"srtpgw {version}"])
-    whole = filled(first, SCRIPT_MOST - len(MARK)) + MARK
-    yield command, whole
-    yield command, whole[:-1]
-    yield command, whole + MARK
-    yield command, filled(first, SCRIPT_MOST + 1 - len(MARK)) + MARK
-    yield command, filled(first, SCRIPT_MOST + 2 - len(MARK)) + MARK[:-1]
-
-
-def of_records(length, lines):
-    """Lines and a capture whose records end at a length."""
-    octets, longest = lines + header(), record(bytes(262_144))
-    count = (length - len(octets)) // len(longest) - 1
-    octets += longest * count
-    # two records of what is left
-    half = (length - len(octets)) // 2
-    return octets + record(bytes(half - 16)) + record(bytes(length - len(octets) - half - 16))
-
-
-def borders_of_captures():
-    line = b"capture\n"
-    yield "capture", filled(b"srtpgw 1\n", SCRIPT_MOST)
-    for more in (b"", b"\0"):
-        yield "capture", filled(b"srtpgw 1\n", SCRIPT_MOST - len(line)) + line + more
-    yield "capture", filled(b"srtpgw 1\n", SCRIPT_MOST + 1 - len(line)) + line
-    for behind in (2, 6, 22):
-        yield "capture", filled(b"srtpgw 1\n", SCRIPT_MOST - len(line) - behind) + line + header()
-    known = record(frame(KNOWN_SEALED))
-    for behind in (0, 1, 10, 14, len(known) - 1, len(known)):
-        yield "capture", of_records(SCRIPT_MOST - behind, begun()) + known
-    yield "capture", of_records(SCRIPT_MOST - len(known), begun()) + known + b"\0"
-
-
-def borders():
-    for command, version in (("replay", 1), ("replay", 2), ("replay --mux", 1), ("bridge", 1), ("migrate", 1)):
-        yield from borders_of_scripts(command, version)
-    yield from borders_of_captures()
-
-
 # ---- playing
 
-PARTS = {it.__name__: it for it in (captures, fields, bridges, shared, borders)}
+PARTS = {it.__name__: it for it in (captures, records, fields, bridges, shared, borders)}
 # Of how many runs `--small` plays one: a prime number, so that each letter comes in each place.
-STRIDES = {"captures": 97, "bridges": 47, "shared": 47}
+STRIDES = {"captures": 97, "records": 397, "bridges": 47, "shared": 47}
 
 
 class Player:
@@ -246,21 +238,38 @@ def late(*_):
     raise TimeoutError
 
 
+def differs(player, run):
+    """Whether what comes of a run is something else than it has to be."""
+    if isinstance(run, Border):
+        return run.differs(player.program)
+    command, source = run
+    return player.played(command, source) != ended(TOLD[command](source))
+
+
+def keep(part, number, run):
+    if isinstance(run, Border):
+        print(f"{part}-{number} by {run.command}: it has to end with {run.end}", flush=True)
+    else:
+        Path(f"{part}-{number}.source").write_bytes(run[1])
+
+
 def share(job):
     """A worker's share of a part: how many runs, and the numbers of those with a difference."""
     program, part, place, stride, step = job
     signal.signal(signal.SIGALRM, late)
     player, count, bad = Player(program), 0, []
-    for number, (command, source) in enumerate(PARTS[part]()):
+    for number, run in enumerate(PARTS[part]()):
         if number % stride or number // stride % step != place:
             continue
         count += 1
-        if player.played(command, source) != ended(TOLD[command](source)):
+        if differs(player, run):
             bad.append(number)
-            Path(f"{part}-{number}.source").write_bytes(source)
+            keep(part, number, run)
         if count % 500 == 0:
             # it keeps what it derived for each key of each run
             MasterKey.derived.cache_clear()
+        if count % 5_000 == 0:
+            print(f"{part}: {count} runs by worker {place}, {len(bad)} with a difference", flush=True)
     return count, bad
 
 
@@ -283,7 +292,9 @@ def options(words):
 def main():
     program, *rest = words_or_usage(__doc__)
     is_small, workers, parts = options(rest)
-    played = differences = 0
+    wrong, played = otherwise_by_model(), 0
+    print(f"borders at a lower limit beside the model: {len(wrong)} with a difference {wrong or ''}", flush=True)
+    differences = len(wrong)
     for part in parts:
         began, stride = time.monotonic(), STRIDES.get(part, 1) if is_small else 1
         jobs = [(os.path.abspath(program), part, place, stride, workers) for place in range(workers)]

@@ -31,7 +31,7 @@ use Rattle.sg_session.specs.Sealed.{sealed_text}
 use Rattle.sg_session.specs.Session.{Session}
 use Rattle.sg_session.specs.declared.names.Direction.{Direction}
 use Rattle.sg_session.specs.declared.names.Direction.TheVariants.{Opening, Sealing}
-use Rattle.sg_conduct.proofs.Lists.{any_first, any_second}
+use Rattle.sg_gateway.proofs.Lists.{any_first, any_second}
 use Rattle.sg_gateway.proofs.Agreements.{Agreements}
 use Rattle.sg_gateway.proofs.Pairs.{Pairs, pairs_from}
 use Rattle.sg_session.specs.Reach.{AreSealed, Sealed, choice_of, text_in}

@@ -25,7 +25,7 @@ use Rattle.sg_gateway.specs.Signals.{Answered, Manual, Psk}
 use Rattle.sg_gateway.specs.Step.{Event, Signalled, step}
 use Rattle.sg_gateway.specs.World.{Call, World, call_of, empty}
 use Rattle.sg_passages.specs.Passages.{ArePassagesOf, AreToldAs, IsFaithful, IsToldAs, Leaves, Passage}
-use Rattle.sg_conduct.proofs.Lists.{any_second}
+use Rattle.sg_gateway.proofs.Lists.{any_second}
 use Rattle.sg_conduct.specs.Others.{OtherCallsStay, OthersStay}
 use Rattle.sg_audit.proofs.Held.{CameIn, keys_came}
 use Rattle.sg_audit.proofs.Ids.{AreNamed, named_worlds}

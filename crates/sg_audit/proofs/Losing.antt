@@ -36,7 +36,7 @@ use Rattle.sg_gateway.specs.World.{Call, World, empty}
 use Rattle.sg_passages.specs.Passages.{IsFaithful, Passage}
 use Rattle.sg_passages.proofs.Lifting.{one_out}
 use Rattle.sg_audit.proofs.Leaving.{by_plain, by_secure}
-use Rattle.sg_conduct.proofs.Lists.{any_first, any_parts, any_second, each_of_list}
+use Rattle.sg_gateway.proofs.Lists.{any_first, any_parts, any_second, each_of_list}
 use Rattle.sg_conduct.proofs.Sealings.{opened_again}
 use Rattle.sg_conduct.specs.Place.{ArrivesWithinReach, DepartsWithinReach, HasPlace, IsFreeIn, IsSealedUnder, WithinReachAreSealed, WithinReachArePutOut}
 use Rattle.sg_audit.specs.Reached.{Arrives, Departs, Follows, IsClose, IsFirstOf, IsLive, IsOpened, IsReplacedBy, IsSealed, IsUnder, LosesNothing, MayOpen, MaySeal, NothingLostAfter}

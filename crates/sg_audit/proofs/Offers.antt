@@ -13,7 +13,7 @@ use Rattle.sg_base.specs.declared.addresses.CallId.{CallId}
 use Rattle.sg_base.specs.declared.faults.Refusal.{Refusal}
 use Rattle.sg_base.specs.declared.faults.Refusal.TheVariants.{CallKnown, CallUnknown, State}
 use Rattle.sg_outcome.specs.declared.outcomes.Outcome.{Outcome}
-use Rattle.sg_outcome.specs.declared.outcomes.Outcome.TheVariants.{Made, Live, Sdp, Refused, Ended, Out, Dropped, Unsent}
+use Rattle.sg_outcome.specs.declared.outcomes.Outcome.TheVariants.{Sdp, Refused, Dropped}
 use Rattle.sg_sdp.specs.Reading.{description_of}
 use Rattle.sg_session.proofs.Lists.{any_cases, any_here, any_none, any_there, each_append, each_at, each_at_this, each_filter, each_map, each_weaker}
 use Rattle.sg_gateway.proofs.Arrivals.{kept_by}
@@ -32,7 +32,7 @@ use Rattle.sg_gateway.specs.Signals.{Answer, Answered, Bye, Manual, Offered, Psk
 use Rattle.sg_gateway.specs.Step.{Datagram, Event, Signalled, step}
 use Rattle.sg_gateway.specs.World.{Call, World, call_of, empty, find_call, same_id}
 use Rattle.sg_passages.specs.Passages.{AreToldAs, IsFaithful, IsToldAs, Leaves, Passage}
-use Rattle.sg_conduct.proofs.Lists.{any_first, any_parts, any_second, each_of_list}
+use Rattle.sg_gateway.proofs.Lists.{any_first, any_parts, any_second, each_of_list}
 use Rattle.sg_audit.proofs.Lists.{each_behind, map_parts}
 use Rattle.sg_audit.specs.Offers.{OpenOffer, TakesNothing}
 use Rattle.sg_audit.specs.Seen.{seen_of}

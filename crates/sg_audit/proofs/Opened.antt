@@ -20,7 +20,7 @@ use Rattle.sg_gateway.specs.Signals.{Signal, Tick}
 use Rattle.sg_gateway.specs.Step.{Event, Signalled, step}
 use Rattle.sg_gateway.specs.World.{Call, World, call_of, same_id}
 use Rattle.sg_passages.specs.Passages.{Passage}
-use Rattle.sg_conduct.proofs.Lists.{each_of_list}
+use Rattle.sg_gateway.proofs.Lists.{each_of_list}
 use Rattle.sg_conduct.specs.Others.{OthersStay}
 use Rattle.sg_audit.proofs.Ids.{AreNamed}
 use Rattle.sg_audit.proofs.Losing.{is_open}

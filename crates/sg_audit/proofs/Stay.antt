@@ -9,7 +9,7 @@ use Rattle.sg_gateway.specs.Order.{EachWorldIsOrderly, IsBefore, IsOrderly}
 use Rattle.sg_gateway.specs.Runs.{Turn, after_turn, turn_of, turns, turns_from}
 use Rattle.sg_gateway.specs.Step.{Event, step}
 use Rattle.sg_gateway.specs.World.{Call, World, empty}
-use Rattle.sg_conduct.proofs.Lists.{any_first, any_second, each_of_list}
+use Rattle.sg_gateway.proofs.Lists.{any_first, any_second, each_of_list}
 use Rattle.sg_conduct.specs.Staying.{IsStillOpen, SessionsStay, SessionsStayOpen}
 use Rattle.sg_passages.specs.Passages.{ArePassagesOf, IsFaithful, Passage}
 use Rattle.sg_audit.proofs.Ids.{From, event_come, one_slot}

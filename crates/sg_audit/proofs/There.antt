@@ -1,5 +1,5 @@
 -- The sessions of an answer are open when the next thing comes.
-use Rattle.std.proofs.Common.{◌≡◌, inl, inr, ℕ, ◌+◌, true, ◌<◌, List, [], ◌∷◌, ◌++◌, map, Option, Some, None, Result, Ok, Err, refl, sym, ap, ◌∙◌, subst, append_assoc}
+use Rattle.std.proofs.Common.{◌≡◌, inl, inr, ℕ, ◌+◌, ◌<◌, List, [], ◌∷◌, ◌++◌, map, Option, Some, None, refl, sym, ap, ◌∙◌, subst, append_assoc}
 use Rattle.std.proofs.lemmas.List.Elements.{All-from_recursion, recursion_from_All}
 use Rattle.std.specs.List.{All, AllByRecursion, Any}
 use Rattle.sg_agreement.proofs.AllAgreed.{offer_is}
@@ -10,7 +10,7 @@ use Rattle.sg_base.specs.declared.addresses.CallId.{CallId}
 use Rattle.sg_base.specs.declared.addresses.Side.{Side}
 use Rattle.sg_base.specs.declared.faults.Refusal.{Refusal}
 use Rattle.sg_outcome.specs.declared.outcomes.Outcome.{Outcome}
-use Rattle.sg_outcome.specs.declared.outcomes.Outcome.TheVariants.{Made, Live, Sdp, Refused, Ended, Out, Dropped, Unsent}
+use Rattle.sg_outcome.specs.declared.outcomes.Outcome.TheVariants.{Live, Sdp, Refused, Dropped}
 use Rattle.sg_sdp.specs.declared.medium.Medium as descriptions
 use Rattle.sg_sdp.specs.declared.sdp.Sdp as sdp
 use Rattle.sg_session.proofs.Lists.{any_cases, any_here, any_none, any_there, any_weaker, each_append, each_at_this, each_flat_map, each_map}
@@ -19,18 +19,16 @@ use Rattle.sg_gateway.proofs.ByTexts.{same_call_id}
 use Rattle.sg_gateway.proofs.CarriedOut.{found_with, id_found}
 use Rattle.sg_gateway.proofs.Pairs.{Pairs, pairs_from}
 use Rattle.sg_gateway.proofs.Signals.{is_found}
+use Rattle.sg_gateway.proofs.StepCases.{answer_of, renewed_by}
 use Rattle.sg_gateway.specs.Addressed.{IsMediumAt}
 use Rattle.sg_gateway.specs.ByTexts.{AnswersAreByTexts, Exchange}
-use Rattle.sg_gateway.specs.CallSignals.{answered_to}
-use Rattle.sg_gateway.specs.Generations.{Settled}
 use Rattle.sg_gateway.specs.Order.{IsBefore}
 use Rattle.sg_gateway.specs.Runs.{Turn, after_turn, turn_of, turns, turns_from}
-use Rattle.sg_gateway.specs.Signals.{Answer, Answered, answered, in_old, offering_side, tells_answer}
+use Rattle.sg_gateway.specs.Signals.{Answer, Answered, answered, answer_to}
 use Rattle.sg_gateway.specs.Step.{Event, Signalled, step}
 use Rattle.sg_gateway.specs.World.{Call, World, call_of, empty, same_id}
 use Rattle.sg_passages.specs.Passages.{ArePassagesOf, AreToldAs, IsFaithful, IsToldAs, Leaves, Passage}
-use Rattle.sg_conduct.proofs.Heard.{answer_now}
-use Rattle.sg_conduct.proofs.Lists.{each_of_list}
+use Rattle.sg_gateway.proofs.Lists.{each_of_list}
 use Rattle.sg_audit.proofs.Ids.{AreNamed, named_worlds}
 use Rattle.sg_audit.proofs.Lists.{map_parts}
 use Rattle.sg_audit.proofs.Losing.{is_open}
@@ -74,28 +72,20 @@ module _ (w : World) (id : CallId) (noise text : List ℕ) where
   abbrev Lives : Answer → Type 0
   Lives a = Any (λ z. z ≡ Live id) a.outcomes → IsLive w id a.world
 
-  settled_lives : (c : Call) → call_of w id ≡ Some c → (q : Result Settled Refusal) → answered_to w.moment w.books c noise text c.offer ≡ q → Lives (in_old w id (tells_answer id (offering_side c.offer)) q)
-  settled_lives c at (Err cause) e = λ a. absurd (refused_no id (Some id) cause a)
-  settled_lives c at (Ok r) e = λ a.
-      let is = answer_now w.moment w.books c noise text c.offer r e in
-      record {
-        before = c;
-        found = at;
-        behind = r.call;
-        there = found_with id c r.call w.calls is.serial (subst (λ i. same_id i id ≡ true) (sym is.id) (id_found id c w.calls at)) at;
-        serial = is.serial;
-        more = is.generations;
-      }
-
-  lives : (o : Option Call) → call_of w id ≡ o → Lives (answered w id noise text o)
-  lives None at = λ a. absurd (refused_no id (Some id) _ a)
-  lives (Some c) at = settled_lives c at (answered_to w.moment w.books c noise text c.offer) refl
+  lives : Lives (answer_to w (Answered id noise text))
+  lives = go (call_of w id) refl
+    where
+      go : (o : Option Call) → call_of w id ≡ o → Lives (answer_to w (Answered id noise text))
+      go None at = subst (λ o. Lives (answered w id noise text o)) (sym at) (λ a. absurd (refused_no id (Some id) _ a))
+      go (Some c) at = answer_of w id noise text c Lives (λ cause a. absurd (refused_no id (Some id) cause a)) (λ o is_open g agreed ring is a.
+          let d : Call = (renewed_by w.moment w.books c g.text g.media ring).call in
+          record { before = c; found = at; behind = d; there = found_with id c d w.calls refl (id_found id c w.calls at) at; serial = refl; more = refl }) at
 
 live_at : (t : Turn) (w : World) (e : Event) → t ≡ turn_of w e → (id : CallId) (noise text : List ℕ) → t.event ≡ Signalled (Answered id noise text) → Any (λ z. z ≡ Live id) t.outcomes → IsLive t.before id (after_turn t)
 live_at t w e same id noise text event a =
     let of_event : e ≡ Signalled (Answered id noise text) = sym (ap (λ (t : Turn). t.event) same) ∙ event in
     let is : t ≡ turn_of w (Signalled (Answered id noise text)) = same ∙ ap (turn_of w) of_event in
-    subst (λ (t : Turn). IsLive t.before id (after_turn t)) (sym is) (lives w id noise text (call_of w id) refl (subst (λ (t : Turn). Any (λ z. z ≡ Live id) t.outcomes) is a))
+    subst (λ (t : Turn). IsLive t.before id (after_turn t)) (sym is) (lives w id noise text (subst (λ (t : Turn). Any (λ z. z ≡ Live id) t.outcomes) is a))
 
 -- ---- open sessions
 

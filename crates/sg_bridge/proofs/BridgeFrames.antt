@@ -1,7 +1,7 @@
 -- The frame of a bridge's line, whatever its fields say.
 use Rattle.std.proofs.Common.{◌≡◌, ◌<◌, ◌≤◌, ℕ, Bool, true, false, cond, List, [], ◌∷◌, length, map, Option, Some, None, Result, Ok, Err, refl, sym, ap, ◌∙◌, arith}
 use Rattle.std.proofs.lemmas.Bool.{cond-true, lt-ltb}
-use Rattle.std.specs.Prelude.{codes, take, nat_lt, not, ◌||◌, ◌==◌}
+use Rattle.std.specs.Prelude.{codes, nat_lt, not, ◌||◌, ◌==◌}
 use Rattle.std.specs.Str.{bytes_eq}
 use Rattle.sg_base.specs.Fields.{number_at}
 use Rattle.sg_base.specs.declared.addresses.CallId.{CallId}

@@ -1,36 +1,28 @@
 -- Before and after each line a bridge knows of its calls what they are.
-use Rattle.std.proofs.Common.{◌≡◌, ◌⊎◌, inl, inr, ℕ, ◌<◌, ◌≤◌, Bool, true, false, cond, not, List, [], ◌∷◌, Option, Some, None, Result, Ok, Err, refl, sym, ap, ◌∙◌, subst, arith, eqb}
+use Rattle.std.proofs.Common.{◌≡◌, ◌⊎◌, inl, inr, ℕ, ◌<◌, ◌≤◌, Bool, true, false, cond, List, [], ◌∷◌, Option, Some, None, refl, sym, ap, ◌∙◌, subst, arith, eqb}
 use Rattle.std.proofs.lemmas.Bool.{cases_lt, eqb-true}
 use Rattle.std.proofs.lemmas.List.{get_or-replicate, get_or_past, length-replicate}
 use Rattle.std.proofs.lemmas.List.Elements.{All-from_recursion}
-use Rattle.std.specs.List.{All, AllByRecursion, Any}
+use Rattle.std.specs.List.{AllByRecursion, Any}
 use Rattle.std.specs.Prelude.{option_map}
 use Rattle.sg_base.specs.declared.addresses.Address.{Address}
-use Rattle.sg_base.specs.declared.addresses.CallId.{CallId}
 use Rattle.sg_gateway.proofs.Pairs.{pairs_from}
 use Rattle.sg_gateway.specs.Octets.{Octets, as_octets}
 use Rattle.sg_gateway.specs.Order.{IsBefore, IsOrderly}
-use Rattle.sg_gateway.specs.PlainOf.{plain_at}
 use Rattle.sg_gateway.specs.Runs.{world_after}
 use Rattle.sg_gateway.specs.Step.{Event, Signalled, Datagram, step}
-use Rattle.sg_gateway.specs.World.{Call, World, empty, same_id}
-use Rattle.sg_outcome.specs.declared.outcomes.Outcome.{Outcome}
-use Rattle.sg_outcome.specs.declared.outcomes.Outcome.TheVariants.{Made, Live, Sdp, Refused, Ended, Out, Dropped, Unsent}
+use Rattle.sg_gateway.specs.World.{Call, World, empty}
 use Rattle.sg_session.proofs.Lists.{any_here, any_there, both, each_weaker}
-use Rattle.sg_bridge.proofs.BothWays.{said_step}
+use Rattle.sg_bridge.proofs.BothWays.{said_begins}
+use Rattle.sg_bridge.proofs.Cases.{each_case, each_line}
 use Rattle.sg_bridge.proofs.Fits.{each_at_slot}
 use Rattle.sg_bridge.proofs.Known.{Seen, at_slot, both_look, seen_at, seen_in, seen_of}
-use Rattle.sg_bridge.proofs.Mates.{AreMates, no_members_mates}
+use Rattle.sg_bridge.proofs.Mates.{AreMates}
 use Rattle.sg_bridge.proofs.Stepped.{Begun, HasCount, Same, datagram_same, signal_holds}
-use Rattle.sg_bridge.specs.Bridged.{Bridging, Said, Happens, Joins, Parts, arrived, bridging, bridgings_from, handed_on, inner, joining, opened, parting, passed}
+use Rattle.sg_bridge.specs.Bridged.{Bridging, Said, bridging, happened, inner}
 use Rattle.sg_bridge.specs.Calls.{AreTheCalls, IsKnownAs, KnowsItsCalls}
-use Rattle.sg_bridge.specs.Onward.{onward}
-use Rattle.sg_bridge.specs.Pairs.{Joining, Members, Parting, found, joined, joined_by, joined_free, member_at, no_members, pair, parted_found, parted_from, parted_pair}
-use Rattle.sg_bridge.specs.declared.faults.JoinFault.{JoinFault}
-use Rattle.sg_bridge.specs.declared.faults.JoinFault.TheVariants as faults
-use Rattle.sg_bridge.specs.declared.members.Found.{Found}
+use Rattle.sg_bridge.specs.Pairs.{Members, member_at, no_members, pair}
 use Rattle.sg_bridge.specs.declared.members.Member.{Member}
-use Rattle.sg_bridge.specs.declared.members.Pair.{Pair}
 
 -- what is known of each slot is what is there, and each call has begun
 pub record Knows (w : World) (calls : Members) : Type 0 where
@@ -56,76 +48,37 @@ module _ (w : World) (calls : Members) (stays : StaysOrderly w) (knows : Knows w
   abbrev after : World
   after = (step w e).world
 
-  knows_after : Knows after calls
-  knows_after = still w after calls knows (datagram_same w (stays []) knows.begun port from d)
+  goes_after : Knows after calls × StaysOrderly after
+  goes_after = (still w after calls knows (datagram_same w (stays []) knows.begun port from d), (λ es. stays (e ∷ es)))
 
-  stays_after : StaysOrderly after
-  stays_after es = stays (e ∷ es)
-
-  handed_goes : (q : ℕ) (x : List ℕ) (o : Option Address) → Goes (handed_on w calls e after q x o)
-  handed_goes q x None = (knows_after, stays_after)
-  handed_goes q x (Some a) = (
-    still after (step after (inner q a x)).world calls knows_after (datagram_same after (stays_after []) knows_after.begun q a (as_octets x)),
-    (λ es. stays_after (inner q a x ∷ es)),
+  -- an inner datagram
+  goes_inner : (q : ℕ) (a : Address) (x : List ℕ) → Knows (step after (inner q a x)).world calls × StaysOrderly (step after (inner q a x)).world
+  goes_inner q a x = (
+    still after (step after (inner q a x)).world calls goes_after.0 (datagram_same after (goes_after.1 []) goes_after.0.begun q a (as_octets x)),
+    (λ es. goes_after.1 (inner q a x ∷ es)),
   )
 
-  opened_goes : (p : ℕ) (to : Address) (x : List ℕ) (o : Option ℕ) → Goes (opened w calls e after p to x o)
-  opened_goes p to x None = (knows_after, stays_after)
-  opened_goes p to x (Some q) = handed_goes q x (plain_at after q)
-
-  passed_goes : (os : List Outcome) → Goes (passed w calls e after os)
-  passed_goes (Out p to x ∷ []) = opened_goes p to x (onward calls p)
-  passed_goes other = (knows_after, stays_after)
-
-  arrived_goes : (o : Option ℕ) → Goes (arrived w calls port e (step w e) o)
-  arrived_goes None = passed_goes (step w e).outcomes
-  arrived_goes (Some q) = (knows, stays)
-
--- a line that joins or parts changes nothing that is known of the calls
-abbrev JoinsSeen : Members → Joining → Type 0
-JoinsSeen calls (Ok after) = (s : ℕ) → seen_at after s ≡ seen_at calls s
-JoinsSeen calls (Err e) = Unit {0}
-
-free_seen : (a b : Found) (calls : Members) (p q : Option Pair) → JoinsSeen calls (joined_free a b calls p q)
-free_seen a b calls (Some p) q = tt
-free_seen a b calls None (Some q) = tt
-free_seen a b calls None None = both (JoinsSeen calls) (eqb a.member.media b.member.media) _ _ (λ s. both_look (Some (pair a b)) a.slot b.slot calls s) tt
-
-join_seen : (first second : CallId) (calls : Members) (a b : Option Found) → JoinsSeen calls (joined_by first second calls a b)
-join_seen first second calls None b = tt
-join_seen first second calls (Some a) None = tt
-join_seen first second calls (Some a) (Some b) =
-    both (JoinsSeen calls) (same_id a.member.id b.member.id) (Err (a.member.id, faults.Same)) _ tt
-    (both (JoinsSeen calls) (not a.member.is_live) (Err (a.member.id, faults.Unready)) _ tt
-    (both (JoinsSeen calls) (not b.member.is_live) (Err (b.member.id, faults.Unready)) _ tt (free_seen a b calls a.member.pair b.member.pair)))
-
-joining_goes : (w : World) (calls : Members) (first second : CallId) → StaysOrderly w → Knows w calls → (j : Joining) → JoinsSeen calls j → Goes (joining w calls first second j)
-joining_goes w calls first second stays knows (Ok others) same = (record { known = λ s. same s ∙ knows.known s; begun = knows.begun }, stays)
-joining_goes w calls first second stays knows (Err (call, cause)) same = (knows, stays)
-
-abbrev PartsSeen : Members → Result Parting JoinFault → Type 0
-PartsSeen calls (Ok p) = (s : ℕ) → seen_at p.calls s ≡ seen_at calls s
-PartsSeen calls (Err e) = Unit {0}
-
-part_seen : (calls : Members) (o : Option Found) → PartsSeen calls (parted_found calls o)
-part_seen calls None = tt
-part_seen calls (Some f) = go f.member.pair
-  where
-    go : (p : Option Pair) → PartsSeen calls (parted_pair calls p)
-    go None = tt
-    go (Some p) = λ s. both_look None p.first.slot p.second.slot calls s
-
-parting_goes : (w : World) (calls : Members) (call : CallId) → StaysOrderly w → Knows w calls → (r : Result Parting JoinFault) → PartsSeen calls r → Goes (parting w calls call r)
-parting_goes w calls call stays knows (Ok p) same = (record { known = λ s. same s ∙ knows.known s; begun = knows.begun }, stays)
-parting_goes w calls call stays knows (Err cause) same = (knows, stays)
+  datagram_goes : Goes (happened w calls (Datagram port from d))
+  datagram_goes = each_case w calls port from d Goes (record {
+    unused = λ q on. (knows, stays);
+    dropped = λ through cause is. goes_after;
+    put_out = λ o puts. goes_after;
+    nowhere = λ p q to x opens at. goes_after;
+    refused = λ p q to x opens a at cause is. goes_inner q a x;
+    sealed = λ p q to x opens a at c o by is es. goes_inner q a x;
+  })
 
 pub said_goes : HasCount → (w : World) (calls : Members) → StaysOrderly w → AreMates calls → Knows w calls → (s : Said) → Goes (bridging w calls s)
-said_goes count w calls stays mates knows (Happens (Signalled signal)) =
-    let holds = signal_holds count w calls (stays []) mates knows.known knows.begun signal (stays (Signalled signal ∷ [])) in
-    (record { known = holds.0; begun = holds.1 }, (λ es. stays (Signalled signal ∷ es)))
-said_goes count w calls stays mates knows (Happens (Datagram port from d)) = arrived_goes w calls stays knows port from d (onward calls port)
-said_goes count w calls stays mates knows (Joins first second) = joining_goes w calls first second stays knows (joined first second calls) (join_seen first second calls (found first calls) (found second calls))
-said_goes count w calls stays mates knows (Parts call) = parting_goes w calls call stays knows (parted_from call calls) (part_seen calls (found call calls))
+said_goes count w calls stays mates knows s = each_line w calls (λ s b. Goes b) (record {
+  signal = λ s.
+      let holds = signal_holds count w calls (stays []) mates knows.known knows.begun s (stays (Signalled s ∷ [])) in
+      (record { known = holds.0; begun = holds.1 }, (λ es. stays (Signalled s ∷ es)));
+  datagram = λ port from d. datagram_goes w calls stays knows port from d;
+  joins = λ first second a b can. (record { known = λ s. both_look (Some (pair a b)) a.slot b.slot calls s ∙ knows.known s; begun = knows.begun }, stays);
+  unjoined = λ first second call cause. (knows, stays);
+  parts = λ id f x can. (record { known = λ s. both_look None x.first.slot x.second.slot calls s ∙ knows.known s; begun = knows.begun }, stays);
+  unparted = λ id cause. (knows, stays);
+}) s
 
 -- ---- in the law's words
 
@@ -157,47 +110,12 @@ are_the_calls w calls orderly knows = record {
 
 -- ---- a run
 
-pub before_is : (w : World) (calls : Members) (s : Said) → (bridging w calls s).before ≡ w
-before_is w calls (Happens (Signalled signal)) = refl
-before_is w calls (Happens (Datagram port from d)) = arrived_before (onward calls port)
-  where
-    e : Event
-    e = Datagram port from d
-
-    handed_before : (q : ℕ) (x : List ℕ) (o : Option Address) → (handed_on w calls e (step w e).world q x o).before ≡ w
-    handed_before q x None = refl
-    handed_before q x (Some a) = refl
-
-    opened_before : (p : ℕ) (to : Address) (x : List ℕ) (o : Option ℕ) → (opened w calls e (step w e).world p to x o).before ≡ w
-    opened_before p to x None = refl
-    opened_before p to x (Some q) = handed_before q x (plain_at (step w e).world q)
-
-    passed_before : (os : List Outcome) → (passed w calls e (step w e).world os).before ≡ w
-    passed_before (Out p to x ∷ []) = opened_before p to x (onward calls p)
-    passed_before other = refl
-
-    arrived_before : (o : Option ℕ) → (arrived w calls port e (step w e) o).before ≡ w
-    arrived_before None = passed_before (step w e).outcomes
-    arrived_before (Some q) = refl
-before_is w calls (Joins first second) = go (joined first second calls)
-  where
-    go : (j : Joining) → (joining w calls first second j).before ≡ w
-    go (Ok others) = refl
-    go (Err (call, cause)) = refl
-before_is w calls (Parts call) = go (parted_from call calls)
-  where
-    go : (r : Result Parting JoinFault) → (parting w calls call r).before ≡ w
-    go (Ok p) = refl
-    go (Err cause) = refl
-
-each_knows : HasCount → (w : World) (calls : Members) (said : List Said) → StaysOrderly w → AreMates calls → Knows w calls → AllByRecursion KnowsItsCalls (bridgings_from w calls said)
-each_knows count w calls [] stays mates knows = tt
-each_knows count w calls (s ∷ ss) stays mates knows =
+pub knows_its_calls : HasCount → (w : World) (calls : Members) (s : Said) → StaysOrderly w → AreMates calls → Knows w calls → KnowsItsCalls (bridging w calls s)
+knows_its_calls count w calls s stays mates knows =
     let goes = said_goes count w calls stays mates knows s in
-    let step = said_step w calls s in
-    let b = bridging w calls s in (
-      (subst (λ (v : World). AreTheCalls v b.pairs) (sym (before_is w calls s)) (subst (AreTheCalls w) (sym step.0) (are_the_calls w calls (stays []) knows)), are_the_calls b.world b.calls (goes.1 []) goes.0),
-      each_knows count b.world b.calls ss goes.1 (step.1 mates) goes.0,
+    let begins = said_begins w calls s in (
+      subst (λ (v : World). AreTheCalls v (bridging w calls s).pairs) (sym begins.before) (subst (AreTheCalls w) (sym begins.pairs) (are_the_calls w calls (stays []) knows)),
+      are_the_calls (bridging w calls s).world (bridging w calls s).calls (goes.1 []) goes.0,
     )
 
 no_one : (s : ℕ) → seen_at no_members s ≡ None
@@ -209,6 +127,3 @@ no_one s = ap (option_map seen_in) (go (cases_lt s 256))
 
 pub nobody_known : Knows empty no_members
 nobody_known = record { known = no_one; begun = tt }
-
-pub all_known : HasCount → ((es : List Event) → IsOrderly (world_after empty es)) → (said : List Said) → All KnowsItsCalls (bridgings_from empty no_members said)
-all_known count orderly said = All-from_recursion KnowsItsCalls _ (each_knows count empty no_members said orderly no_members_mates nobody_known)

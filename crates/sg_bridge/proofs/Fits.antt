@@ -8,7 +8,7 @@ use Rattle.sg_gateway.specs.Order.{IsBefore}
 use Rattle.sg_gateway.specs.Signals.{tells_ended}
 use Rattle.sg_gateway.specs.World.{Call}
 use Rattle.sg_outcome.specs.declared.outcomes.Outcome.{Outcome}
-use Rattle.sg_outcome.specs.declared.outcomes.Outcome.TheVariants.{Made, Live, Sdp, Refused, Ended, Out, Dropped, Unsent}
+use Rattle.sg_outcome.specs.declared.outcomes.Outcome.TheVariants.{Made, Ended}
 use Rattle.sg_outcome.specs.declared.outcomes.Why.{Why}
 use Rattle.sg_session.proofs.Lists.{each_weaker}
 use Rattle.sg_bridge.proofs.Known.{Seen, at_slot, emptied_look, seen_at, seen_of}

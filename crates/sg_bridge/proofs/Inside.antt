@@ -1,14 +1,9 @@
 -- What is opened in a joined call stays inside, and is sealed in the other.
-use Rattle.std.proofs.Common.{◌≡◌, inl, inr, ◌⊎◌, ℕ, ◌+◌, ◌-◌, ◌%◌, ◌<◌, ◌≤◌, Bool, true, false, cond, List, [], ◌∷◌, map, Option, Some, None, Result, Ok, Err, refl, sym, ap, ◌∙◌, subst, arith, leb, ltb}
-use Rattle.std.specs.Prelude.{◌&&◌, option_to_list}
-use Rattle.std.proofs.lemmas.Bool.{and_parts, leb-true}
+use Rattle.std.proofs.Common.{◌≡◌, inl, inr, ◌⊎◌, ℕ, ◌+◌, ◌-◌, ◌%◌, ◌<◌, ◌≤◌, List, [], ◌∷◌, Some, None, Ok, refl, sym, ap, ◌∙◌, subst, arith}
 use Rattle.std.proofs.lemmas.Bool.Decides.{leb_tells}
-use Rattle.std.proofs.lemmas.List.Elements.{All-from_recursion, recursion_from_All}
 use Rattle.std.specs.List.{All, Any, AllByRecursion}
-use Rattle.std.specs.Option.{option_map}
 use Rattle.sg_base.proofs.Cases.{none_some}
 use Rattle.sg_base.specs.declared.addresses.Address.{Address}
-use Rattle.sg_base.specs.declared.addresses.CallId.{CallId}
 use Rattle.sg_base.specs.declared.faults.DropCause.TheVariants.{PortUnused}
 use Rattle.sg_gateway.proofs.Came.{seals_came}
 use Rattle.sg_gateway.proofs.OnlySeals.{signal_quiet}
@@ -18,69 +13,30 @@ use Rattle.sg_gateway.specs.Datagrams.{Put}
 use Rattle.sg_gateway.specs.Octets.{Octets, as_octets}
 use Rattle.sg_gateway.specs.Runs.{turn_of}
 use Rattle.sg_gateway.specs.SealedOut.{IsOut, IsSealedOutOf}
+use Rattle.sg_gateway.specs.Signals.{Signal}
 use Rattle.sg_gateway.specs.Step.{Event, Signalled, Datagram, step}
 use Rattle.sg_gateway.specs.World.{Call, World, empty}
 use Rattle.sg_outcome.specs.declared.outcomes.Outcome.{Outcome}
-use Rattle.sg_outcome.specs.declared.outcomes.Outcome.TheVariants.{Made, Live, Sdp, Refused, Ended, Out, Dropped, Unsent}
-use Rattle.sg_gateway.specs.PlainOf.{plain_at}
-use Rattle.sg_session.proofs.Lists.{any_cases, any_here, any_none, any_weaker}
+use Rattle.sg_outcome.specs.declared.outcomes.Outcome.TheVariants.{Out, Dropped}
+use Rattle.sg_session.proofs.Lists.{any_cases, any_none, any_weaker, each_at}
 use Rattle.sg_session.specs.declared.names.Direction.TheVariants.{Sealing}
-use Rattle.sg_bridge.proofs.BothWays.{all_both_ways}
-use Rattle.sg_bridge.proofs.Joined.{in_pair_goes_on, joined_goes_on}
-use Rattle.sg_bridge.proofs.PutAt.{Coming, IsDropped, IsPut, PutBy, FromPlain, comes, from_plain, from_secure}
-use Rattle.sg_bridge.specs.Bridged.{Bridging, Crosses, Following, GoesBothWays, IsCrossing, IsSealOf, LeavesAt, Said, Happens, Joins, Parts, StaysInside, TellsOut, arrived, behind, bridging, bridgings_from, told_and_parted, handed_on, happened, happens, inner, inner_told, joining, nothing_happens, opened, parting, passed}
+use Rattle.sg_bridge.proofs.BothWays.{all_among_mates, both_ways}
+use Rattle.sg_bridge.proofs.Cases.{OpensOn, PutsOut, each_case, each_line, followed_holds}
+use Rattle.sg_bridge.proofs.Joined.{in_pair_goes_on, joined_goes_on, not_onward, plain_onward}
+use Rattle.sg_bridge.proofs.Mates.{AreMates}
+use Rattle.sg_bridge.proofs.PutAt.{FromPlain, PutBy, from_plain, from_secure}
+use Rattle.sg_bridge.specs.Bridged.{Bridging, Crosses, GoesBothWays, IsCrossing, IsSealOf, LeavesAt, Said, StaysInside, TellsOut, bridging, bridgings_from, told_and_parted, happened, happens, inner, joining, nothing_happens, parting}
 use Rattle.sg_bridge.specs.Joined.{port_of_leg}
-use Rattle.sg_bridge.specs.Onward.{is_plain_port, medium_by_port, onward, onward_in, port_like, slot_by_port}
-use Rattle.sg_bridge.specs.Pairs.{Joining, Members, Parting, vacated, joined, member_at, no_members, after_outcome, other_slot, joined_pair, parted_from, tells_parted}
-use Rattle.sg_bridge.specs.declared.faults.JoinFault.{JoinFault}
-use Rattle.sg_bridge.specs.declared.members.Member.{Member}
-use Rattle.sg_bridge.specs.declared.members.Pair.{Pair}
+use Rattle.sg_bridge.specs.Onward.{onward}
+use Rattle.sg_bridge.specs.Pairs.{Members, no_members, pair, paired, parted}
 use Rattle.sg_bridge.specs.declared.outcomes.BridgeOutcome.{BridgeOutcome}
 use Rattle.sg_bridge.specs.declared.outcomes.BridgeOutcome.TheVariants as tells
 
--- ---- ports
-
-is_plain : (p : ℕ) → is_plain_port p ≡ true → 2 ≤ (p - 20000) % 4
-is_plain p is = leb-true 2 ((p - 20000) % 4) (and_parts (leb 20000 p && ltb p 24096) (leb 2 ((p - 20000) % 4)) is).1
-
-abbrev IsHighAt : Option ℕ → Type 0
-IsHighAt None = Unit {0}
-IsHighAt (Some n) = 2 ≤ (n - 20000) % 4
-
-plain_onward : (calls : Members) (p q : ℕ) → onward calls p ≡ Some q → (2 ≤ (p - 20000) % 4) × (2 ≤ (q - 20000) % 4)
-plain_onward calls p q is = go (is_plain_port p) refl is
-  where
-    like : (slot : ℕ) → 2 ≤ (p - 20000) % 4 → 2 ≤ (port_like p slot - 20000) % 4
-    like slot h = omega (arith, h)
-
-    of_pair : 2 ≤ (p - 20000) % 4 → (o : Option Pair) → option_map (λ (x : Pair). port_like p (other_slot x (slot_by_port p))) o ≡ Some q → 2 ≤ (q - 20000) % 4
-    of_pair h None e = absurd cc
-    of_pair h (Some x) e = subst IsHighAt e (like (other_slot x (slot_by_port p)) h)
-
-    of_member : 2 ≤ (p - 20000) % 4 → (o : Option Member) → onward_in p o ≡ Some q → 2 ≤ (q - 20000) % 4
-    of_member h None e = absurd cc
-    of_member h (Some m) e = by (ltb (medium_by_port p) m.media) e
-      where
-        by : (b : Bool) → cond b (option_map (λ (x : Pair). port_like p (other_slot x (slot_by_port p))) m.pair) None ≡ Some q → 2 ≤ (q - 20000) % 4
-        by true e = of_pair h m.pair e
-        by false e = absurd cc
-
-    go : (b : Bool) → is_plain_port p ≡ b → cond b (onward_in p (member_at calls (slot_by_port p))) None ≡ Some q → (2 ≤ (p - 20000) % 4) × (2 ≤ (q - 20000) % 4)
-    go true plain e = (is_plain p plain, of_member (is_plain p plain) (member_at calls (slot_by_port p)) e)
-    go false plain e = absurd cc
-
-not_onward : (calls : Members) (p : ℕ) → (p - 20000) % 4 < 2 → onward calls p ≡ None
-not_onward calls p secure = go (is_plain_port p) refl
-  where
-    go : (b : Bool) → is_plain_port p ≡ b → cond b (onward_in p (member_at calls (slot_by_port p))) None ≡ None
-    go true plain = absurd (let h = is_plain p plain in omega (arith, h, secure))
-    go false plain = refl
-
 -- ---- what is told of a signal
 
-abbrev outs : BridgeOutcome → Type 0
-outs (tells.Table o) = IsOut o
-outs other = Unit {0}
+abbrev IsOutTold : BridgeOutcome → Type 0
+IsOutTold (tells.Table o) = IsOut o
+IsOutTold other = ⊥
 
 module _ (port : ℕ) (to : Address) (octets : List ℕ) where
   abbrev Is : BridgeOutcome → Type 0
@@ -92,43 +48,11 @@ module _ (port : ℕ) (to : Address) (octets : List ℕ) where
   one : (o : BridgeOutcome) → (Is o → ⊥) → NoOut (o ∷ [])
   one o not a = elim (any_cases Is o [] a) [ inl is ↦ not is | inr rest ↦ any_none Is rest ]
 
-  parted_not : (calls : Members) (o : Outcome) → NoOut (option_to_list (after_outcome calls o).parted)
-  parted_not calls (Made id slot media) a = any_none Is a
-  parted_not calls (Live id) a = any_none Is a
-  parted_not calls (Ended id slot media why) a = go (joined_pair (member_at calls slot)) a
-    where
-      go : (p : Option Pair) → NoOut (option_to_list (vacated slot calls p).parted)
-      go None a = any_none Is a
-      go (Some p) a = one (tells_parted p) (λ is. absurd cc) a
-  parted_not calls (Sdp id side text) a = any_none Is a
-  parted_not calls other a = any_none Is a
-
-  behind_not : (o : Outcome) → ¬ IsOut o → (parted : Option BridgeOutcome) → NoOut (option_to_list parted) → (f : Following) → NoOut f.told → NoOut (behind o parted f).told
-  behind_not o not None none f rest a = elim (any_cases Is (tells.Table o) f.told a) [ inl is ↦ not (subst outs (sym is) tt) | inr r ↦ rest r ]
-  behind_not o not (Some p) none f rest a = elim (any_cases Is (tells.Table o) (p ∷ f.told) a) [
-    | inl is ↦ not (subst outs (sym is) tt)
-    | inr r ↦ elim (any_cases Is p f.told r) [ inl is ↦ none (any_one is) | inr s ↦ rest s ]
-  ]
-    where
-      any_one : Is p → Any Is (p ∷ [])
-      any_one is = any_here Is p [] is
-
-  followed_not : (calls : Members) (os : List Outcome) → AllByRecursion (λ o. ¬ IsOut o) os → NoOut (told_and_parted calls os).told
-  followed_not calls [] none a = any_none Is a
-  followed_not calls (o ∷ os) none a =
-      behind_not o none.0 (after_outcome calls o).parted (parted_not calls o) (told_and_parted (after_outcome calls o).calls os) (followed_not (after_outcome calls o).calls os none.1) a
-
--- ---- lines that join and part
-
-joins_inside : (w : World) (calls : Members) (first second : CallId) (j : Joining) (port : ℕ) (to : Address) (octets : List ℕ)
-    → NoOut port to octets (joining w calls first second j).told
-joins_inside w calls first second (Ok after) port to octets a = one port to octets (tells.Joined first second) (λ is. absurd cc) a
-joins_inside w calls first second (Err (call, cause)) port to octets a = one port to octets (tells.Unjoined call cause) (λ is. absurd cc) a
-
-parts_inside : (w : World) (calls : Members) (call : CallId) (r : Result Parting JoinFault) (port : ℕ) (to : Address) (octets : List ℕ)
-    → NoOut port to octets (parting w calls call r).told
-parts_inside w calls call (Ok p) port to octets a = one port to octets (tells.Parted p.pair.first.id p.pair.second.id) (λ is. absurd cc) a
-parts_inside w calls call (Err cause) port to octets a = one port to octets (tells.Unjoined call cause) (λ is. absurd cc) a
+  signal_not : (w : World) (calls : Members) (s : Signal) → NoOut (told_and_parted calls (step w (Signalled s)).outcomes).told
+  signal_not w calls s a =
+      let told = followed_holds (λ b. ¬ IsOutTold b) (λ p no. no) calls (step w (Signalled s)).outcomes (signal_quiet w s) in
+      let at = each_at (λ b. ¬ IsOutTold b) Is (told_and_parted calls (step w (Signalled s)).outcomes).told told a in
+      at.1 (subst IsOutTold (sym at.2) tt)
 
 -- ---- a datagram
 
@@ -179,7 +103,11 @@ Both b = GoesNoFurther b × ComesFromOther b
 none_both : (b : Bridging) → TellsNone b → Both b
 none_both b none = ((λ port to octets a. absurd (none port to octets a)), (λ port q to octets a low on. absurd (none port to octets a)))
 
-module _ (w : World) (calls : Members) (port : ℕ) (from : Address) (d : Octets) where
+-- where one thing is told that is no packet
+quiet_both : (b : Bridging) (o : BridgeOutcome) → b.told ≡ o ∷ [] → ((port : ℕ) (to : Address) (octets : List ℕ) → Is port to octets o → ⊥) → Both b
+quiet_both b o is not = none_both b (λ port to octets a. one port to octets o (not port to octets) (subst (λ told. Any (Is port to octets) told) is a))
+
+module _ (w : World) (calls : Members) (mates : AreMates calls) (port : ℕ) (from : Address) (d : Octets) where
   abbrev e : Event
   e = Datagram port from d
 
@@ -187,38 +115,33 @@ module _ (w : World) (calls : Members) (port : ℕ) (from : Address) (d : Octets
   after = (step w e).world
 
   -- the inner datagram
-  inner_both : (p q : ℕ) (to : Address) (x : List ℕ) → (step w e).outcomes ≡ Out p to x ∷ [] → onward calls p ≡ Some q → (a : Address)
-      → Coming after q (step after (inner q a x)).outcomes (step after (inner q a x)).entries
-      → Both (happens w calls (e ∷ inner q a x ∷ []) (map inner_told (step after (inner q a x)).outcomes) (step after (inner q a x)).world)
-  inner_both p q to x was on a (IsDropped cause is) = none_both (happens w calls (e ∷ inner q a x ∷ []) (map inner_told (step after (inner q a x)).outcomes) (step after (inner q a x)).world) (λ port' to' octets' t.
-      one port' to' octets' (tells.Lost q cause) (λ is. absurd cc) (subst (λ os. Any (Is port' to' octets') (map inner_told os)) is t))
-  inner_both p q to x was on a (IsPut c o by is es) = (
-    (λ port' to' octets' t. subst (λ n. onward calls n ≡ None) (ap out_port (told_is port' to' octets' t)) (not_onward calls o.port plain.low)),
+  sealed_both : (p q : ℕ) (to : Address) (x : List ℕ) → OpensOn w calls port e p q to x → (a : Address) (c : Call) (o : Put) → PutBy q c o
+      → (step after (inner q a x)).outcomes ≡ Out o.port o.to o.octets ∷ [] → (step after (inner q a x)).entries ≡ o.entry ∷ []
+      → Both (happens w calls (e ∷ inner q a x ∷ []) (tells.Table (Out o.port o.to o.octets) ∷ []) (step after (inner q a x)).world)
+  sealed_both p q to x opens a c o by is es = (
+    (λ port' to' octets' t. subst (λ n. onward calls n ≡ None) (ap out_port (only_out o.port o.to o.octets port' to' octets' t)) (not_onward calls mates o.port plain.low)),
     (λ port' q' to' octets' t low on'.
-        let same : o.port ≡ port' = ap out_port (told_is port' to' octets' t) in
+        let told = only_out o.port o.to o.octets port' to' octets' t in
+        let same : o.port ≡ port' = ap out_port told in
         record {
           from = p;
-          on = on ∙ ap (λ n. Some n) (plain.out ∙ ap (λ n. n + 2) same);
+          on = opens.on ∙ ap (λ n. Some n) (plain.out ∙ ap (λ n. n + 2) same);
           crossing = record {
             first = e;
             second = inner q a x;
             events_are = refl;
             opened_to = to;
             packet = x;
-            opened = was;
-            sealed = subst (λ (es : List _). Any (IsSealOf (turn_of after (inner q a x)) port' to' (as_octets x).items octets') es) (sym es) (0, o.entry, omega arith, refl, (plain.sealing, packet_is, sealed_at port' to' octets' (told_is port' to' octets' t)));
-            put_out = is ∙ ap (λ b. b ∷ []) (told_out o.port o.to o.octets port' to' octets' (told_is port' to' octets' t));
-            told = ap (map inner_told) is ∙ ap (λ b. b ∷ []) (told_is port' to' octets' t);
+            opened = opens.was;
+            sealed = subst (λ (es : List _). Any (IsSealOf (turn_of after (inner q a x)) port' to' (as_octets x).items octets') es) (sym es) (0, o.entry, omega arith, refl, (plain.sealing, packet_is, sealed_at port' to' octets' told));
+            put_out = is ∙ ap (λ b. b ∷ []) (told_out o.port o.to o.octets port' to' octets' told);
+            told = ap (λ b. b ∷ []) told;
           };
         }),
   )
     where
       plain : FromPlain q o
-      plain = from_plain q c o by (plain_onward calls p q on).1
-
-      told_is : (port' : ℕ) (to' : Address) (octets' : List ℕ) → Any (Is port' to' octets') (map inner_told (step after (inner q a x)).outcomes)
-          → Is port' to' octets' (tells.Table (Out o.port o.to o.octets))
-      told_is port' to' octets' t = only_out o.port o.to o.octets port' to' octets' (subst (λ os. Any (Is port' to' octets') (map inner_told os)) is t)
+      plain = from_plain q c o by (plain_onward calls mates p q opens.on).1
 
       leaves : LeavesSealed (turn_of after (inner q a x)) o.entry
       leaves = (subst (λ (es : List _). AllByRecursion (LeavesSealed (turn_of after (inner q a x))) es) es (seals_leave_at after (inner q a x))).0
@@ -234,49 +157,43 @@ module _ (w : World) (calls : Members) (port : ℕ) (from : Address) (d : Octets
       sealed_at port' to' octets' told = any_weaker (λ c. Any (IsSealedOutOf (turn_of after (inner q a x)) o.entry c) c.sessions) (λ c. Any (LeavesAt (turn_of after (inner q a x)) o.entry port' to' octets' c) c.sessions)
           (λ c b. any_weaker (IsSealedOutOf (turn_of after (inner q a x)) o.entry c) (LeavesAt (turn_of after (inner q a x)) o.entry port' to' octets' c) (λ s out. let same = same_out _ _ _ port' to' octets' (sym out.out ∙ is ∙ ap (λ b. b ∷ []) (told_out o.port o.to o.octets port' to' octets' told)) in (out, same.0, same.1, same.2)) c.sessions b) after.calls (leaves plain.sealing)
 
-  handed_both : (p q : ℕ) (to : Address) (x : List ℕ) → (step w e).outcomes ≡ Out p to x ∷ [] → onward calls p ≡ Some q → (o : Option Address)
-      → Both (handed_on w calls e after q x o)
-  handed_both p q to x is on None = none_both (happens w calls (e ∷ []) (tells.Lost q PortUnused ∷ []) after) (λ port' to' octets'. one port' to' octets' (tells.Lost q PortUnused) (λ is. absurd cc))
-  handed_both p q to x is on (Some a) = inner_both p q to x is on a (comes after q a (as_octets x))
-
-  opened_both : (p : ℕ) (to : Address) (x : List ℕ) → (step w e).outcomes ≡ Out p to x ∷ [] → onward calls port ≡ None
-      → ((p - 20000) % 4 < 2 → port ≡ p + 2) → (o : Option ℕ) → onward calls p ≡ o → Both (opened w calls e after p to x o)
-  opened_both p to x is unjoined beside None on = (
-    (λ port' to' octets' t. subst (λ n. onward calls n ≡ None) (ap out_port (only_out p to x port' to' octets' t)) on),
+  put_both : (o : Put) → PutsOut w calls port e o → Both (happens w calls (e ∷ []) (tells.Table (Out o.port o.to o.octets) ∷ []) after)
+  put_both o puts = (
+    (λ port' to' octets' t. subst (λ n. onward calls n ≡ None) (ap out_port (only_out o.port o.to o.octets port' to' octets' t)) puts.no_further),
     (λ port' q to' octets' t low on'.
-        let same : p ≡ port' = ap out_port (only_out p to x port' to' octets' t) in
+        let same : o.port ≡ port' = ap out_port (only_out o.port o.to o.octets port' to' octets' t) in
         let at : port ≡ port' + 2 = beside (subst (λ n. (n - 20000) % 4 < 2) (sym same) low) ∙ ap (λ n. n + 2) same in
-        absurd (none_some q (sym unjoined ∙ ap (onward calls) at ∙ on'))),
+        absurd (none_some q (sym puts.through ∙ ap (onward calls) at ∙ on'))),
   )
-  opened_both p to x is unjoined beside (Some q) on = handed_both p q to x is on (plain_at after q)
-
-  passed_both : onward calls port ≡ None → (os : List Outcome) → (step w e).outcomes ≡ os → Coming w port os (step w e).entries → Both (passed w calls e after os)
-  passed_both unjoined os was (IsDropped cause is) = subst (λ os. Both (passed w calls e after os)) (sym is)
-      (none_both (passed w calls e after (Dropped port cause ∷ [])) (λ port' to' octets'. one port' to' octets' (tells.Table (Dropped port cause)) (λ is. absurd cc)))
-  passed_both unjoined os was (IsPut c p by is es) = subst (λ os. Both (passed w calls e after os)) (sym is)
-      (opened_both p.port p.to p.octets (was ∙ is) unjoined (beside c p by) (onward calls p.port) refl)
     where
-      beside : (c : Call) (p : Put) → PutBy port c p → (p.port - 20000) % 4 < 2 → port ≡ p.port + 2
-      beside c p by low = elim (side port) [
-        | inl secure ↦ absurd (let h = from_secure port c p by secure in omega (arith, h, low))
-        | inr plain ↦ (from_plain port c p by plain).out
+      beside : (o.port - 20000) % 4 < 2 → port ≡ o.port + 2
+      beside low = elim (side port) [
+        | inl secure ↦ absurd (let h = from_secure port puts.call o puts.by secure in omega (arith, h, low))
+        | inr plain ↦ (from_plain port puts.call o puts.by plain).out
       ]
 
-  datagram_both : (o : Option ℕ) → onward calls port ≡ o → Both (arrived w calls port e (step w e) o)
-  datagram_both None on = passed_both on (step w e).outcomes refl (comes w port from d)
-  datagram_both (Some q) on = none_both (nothing_happens w calls (tells.Table (Dropped port PortUnused))) (λ port' to' octets'. one port' to' octets' (tells.Table (Dropped port PortUnused)) (λ is. absurd cc))
+  datagram_both : Both (happened w calls (Datagram port from d))
+  datagram_both = each_case w calls port from d Both (record {
+    unused = λ q on. quiet_both (nothing_happens w calls (tells.Table (Dropped port PortUnused))) (tells.Table (Dropped port PortUnused)) refl (λ port' to' octets' is. absurd cc);
+    dropped = λ through cause is. quiet_both (happens w calls (e ∷ []) (tells.Table (Dropped port cause) ∷ []) after) (tells.Table (Dropped port cause)) refl (λ port' to' octets' is. absurd cc);
+    put_out = put_both;
+    nowhere = λ p q to x opens at. quiet_both (happens w calls (e ∷ []) (tells.Lost q PortUnused ∷ []) after) (tells.Lost q PortUnused) refl (λ port' to' octets' is. absurd cc);
+    refused = λ p q to x opens a at cause is.
+        quiet_both (happens w calls (e ∷ inner q a x ∷ []) (tells.Lost q cause ∷ []) (step after (inner q a x)).world) (tells.Lost q cause) refl (λ port' to' octets' is. absurd cc);
+    sealed = λ p q to x opens a at c o by is es. sealed_both p q to x opens a c o by is es;
+  })
 
--- ---- a run
+-- ---- a line
 
-said_both : (w : World) (calls : Members) (s : Said) → Both (bridging w calls s)
-said_both w calls (Happens (Signalled signal)) = none_both (happened w calls (Signalled signal)) (λ port to octets. followed_not port to octets calls (step w (Signalled signal)).outcomes (signal_quiet w signal))
-said_both w calls (Happens (Datagram port from d)) = datagram_both w calls port from d (onward calls port) refl
-said_both w calls (Joins first second) = none_both (bridging w calls (Joins first second)) (joins_inside w calls first second (joined first second calls))
-said_both w calls (Parts call) = none_both (bridging w calls (Parts call)) (parts_inside w calls call (parted_from call calls))
-
-all_both : (w : World) (calls : Members) (said : List Said) → AllByRecursion Both (bridgings_from w calls said)
-all_both w calls [] = tt
-all_both w calls (s ∷ ss) = (said_both w calls s, all_both (bridging w calls s).world (bridging w calls s).calls ss)
+said_both : (w : World) (calls : Members) (s : Said) → AreMates calls → Both (bridging w calls s)
+said_both w calls s mates = each_line w calls (λ s b. Both b) (record {
+  signal = λ s. none_both (happened w calls (Signalled s)) (λ port to octets. signal_not port to octets w calls s);
+  datagram = datagram_both w calls mates;
+  joins = λ first second a b can. quiet_both (joining w calls first second (Ok (paired (pair a b) calls))) (tells.Joined first second) refl (λ port to octets is. absurd cc);
+  unjoined = λ first second call cause. quiet_both (nothing_happens w calls (tells.Unjoined call cause)) (tells.Unjoined call cause) refl (λ port to octets is. absurd cc);
+  parts = λ id f x can. quiet_both (parting w calls id (Ok (record { calls = parted x calls; pair = x }))) (tells.Parted x.first.id x.second.id) refl (λ port to octets is. absurd cc);
+  unparted = λ id cause. quiet_both (nothing_happens w calls (tells.Unjoined id cause)) (tells.Unjoined id cause) refl (λ port to octets is. absurd cc);
+}) s
 
 -- ---- in numbers
 
@@ -292,16 +209,8 @@ crosses b ways comes slot other medium leg to octets joined low tells =
     let same : Some over.from ≡ Some (port_of_leg other medium (leg + 2)) = sym (ways over.from (port_of_leg slot medium leg + 2) over.on) ∙ on in
     subst (λ n. IsCrossing b n (port_of_leg slot medium leg) to octets) (let is : over.from ≡ port_of_leg other medium (leg + 2) = cc in is) over.crossing
 
-each_inside : (bs : List Bridging) → AllByRecursion Both bs → AllByRecursion StaysInside bs
-each_inside [] all = tt
-each_inside (b ∷ bs) all = (stays_inside b all.0.0, each_inside bs all.1)
-
-each_crosses : (bs : List Bridging) → AllByRecursion GoesBothWays bs → AllByRecursion Both bs → AllByRecursion Crosses bs
-each_crosses [] ways all = tt
-each_crosses (b ∷ bs) ways all = (crosses b ways.0 all.0.1, each_crosses bs ways.1 all.1)
-
 pub all_inside : (said : List Said) → All StaysInside (bridgings_from empty no_members said)
-all_inside said = All-from_recursion StaysInside _ (each_inside _ (all_both empty no_members said))
+all_inside = all_among_mates StaysInside (λ w calls s mates. stays_inside (bridging w calls s) (said_both w calls s mates).0)
 
 pub all_cross : (said : List Said) → All Crosses (bridgings_from empty no_members said)
-all_cross said = All-from_recursion Crosses _ (each_crosses _ (recursion_from_All GoesBothWays _ (all_both_ways said)) (all_both empty no_members said))
+all_cross = all_among_mates Crosses (λ w calls s mates. crosses (bridging w calls s) (both_ways w calls s mates) (said_both w calls s mates).1)

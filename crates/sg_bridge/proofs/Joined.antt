@@ -1,9 +1,10 @@
 -- A plain port of a joined call's medium goes on, and what goes on is one.
-use Rattle.std.proofs.Common.{◌≡◌, inl, inr, ℕ, ◌+◌, ◌-◌, ◌*◌, ◌%◌, ◌<◌, ◌≤◌, Bool, true, false, Option, Some, None, refl, sym, ap, ◌∙◌, arith, eqb, cond, leb, ltb}
+use Rattle.std.proofs.Common.{◌≡◌, inl, inr, ℕ, ◌+◌, ◌-◌, ◌*◌, ◌%◌, ◌<◌, ◌≤◌, Bool, true, false, Option, Some, None, refl, sym, ap, ◌∙◌, subst, arith, eqb, cond, leb, ltb}
 use Rattle.std.proofs.lemmas.Bool.{and_parts, cases_eq, cond-false, cond-true, eq-eqb, eqb-false, eqb-true, le-leb, leb-true, lt-ltb, ltb-true, ne_eqb}
 use Rattle.std.specs.Prelude.{option_map, ◌&&◌}
 use Rattle.sg_base.proofs.Cases.{none_some}
-use Rattle.sg_bridge.proofs.Mates.{AreMates, IsOf, Look, look_of}
+use Rattle.sg_bridge.proofs.Found.{in_range}
+use Rattle.sg_bridge.proofs.Mates.{AreMates, IsOf, Look, Stands, joined_in, look, look_of, member_of, same_media}
 use Rattle.sg_bridge.specs.Joined.{AreJoined, IsAcross, IsInPair, port_of_leg}
 use Rattle.sg_bridge.specs.Onward.{is_plain_port, medium_by_port, onward, onward_in, port_like, slot_by_port}
 use Rattle.sg_bridge.specs.Pairs.{Members, member_at, other_slot}
@@ -130,3 +131,58 @@ goes_on_joined calls mates p q is = by_plain (is_plain_port p) refl is
     by_plain : (b : Bool) → is_plain_port p ≡ b → cond b (onward_in p (member_at calls (slot_by_port p))) None ≡ Some q → IsJoinedAt calls p q
     by_plain true plain e = by_member plain (member_at calls (slot_by_port p)) refl e
     by_plain false plain e = absurd (none_some q e)
+
+-- ---- a port that goes on comes back
+
+joined_back : (calls : Members) → AreMates calls → (slot other medium : ℕ) → AreJoined calls slot other medium → AreJoined calls other slot medium
+joined_back calls mates slot other medium j = go j.across
+  where
+    this : IsInPair calls slot medium
+    this = j.this
+
+    x : Pair
+    x = j.this.pair
+
+    here : look calls slot ≡ joined_in this.member.media x
+    here = ap (option_map look_of) this.at ∙ ap (λ (q : Option Pair). Some (let l : Look = record { media = this.member.media; pair = q } in l)) this.joined
+
+    stands : Stands calls x
+    stands = (mates.mates slot this.member.media x here).1
+
+    from : (s t : ℕ) → slot ≡ s → other ≡ t → look calls s ≡ joined_in stands.media x → look calls t ≡ joined_in stands.media x → IsAcross x other slot → AreJoined calls other slot medium
+    from s t is_s is_t at_s at_t across =
+        let m = member_of calls t stands.media x at_t in
+        let media : this.member.media ≡ stands.media = same_media _ _ x x (sym here ∙ ap (look calls) is_s ∙ at_s) in
+        record {
+          this = record {
+            member = m.0;
+            pair = x;
+            at = ap (member_at calls) is_t ∙ m.1;
+            joined = m.3;
+            slots = (let r = in_range calls t m.0 m.1 in omega (arith, r, mates.size, is_t));
+            media = this.media;
+            has = subst (λ n. medium < n) (media ∙ sym m.2) this.has;
+          };
+          across = across;
+        }
+
+    go : IsAcross x slot other → AreJoined calls other slot medium
+    go (inl is) = from x.first.slot x.second.slot is.0 is.1 stands.at_first stands.at_second (inr (is.1, is.0))
+    go (inr is) = from x.second.slot x.first.slot is.0 is.1 stands.at_second stands.at_first (inl (is.1, is.0))
+
+pub comes_back : (calls : Members) → AreMates calls → (p q : ℕ) → onward calls p ≡ Some q → onward calls q ≡ Some p
+comes_back calls mates p q is =
+    let j = goes_on_joined calls mates p q is in
+    let back = joined_back calls mates j.slot j.other j.medium j.joined in
+    ap (onward calls) j.q_is ∙ joined_goes_on calls j.other j.slot j.medium j.leg back j.plain.0 j.plain.1 ∙ ap (λ n. Some n) (sym j.p_is)
+
+-- ports of legs 0 and 1 don't go on, and those that do go on to such as they are
+pub plain_onward : (calls : Members) → AreMates calls → (p q : ℕ) → onward calls p ≡ Some q → (2 ≤ (p - 20000) % 4) × (2 ≤ (q - 20000) % 4)
+plain_onward calls mates p q is = let j = goes_on_joined calls mates p q is in (omega (arith, j.p_is, j.plain.0, j.plain.1), omega (arith, j.q_is, j.plain.0, j.plain.1))
+
+pub not_onward : (calls : Members) → AreMates calls → (p : ℕ) → (p - 20000) % 4 < 2 → onward calls p ≡ None
+not_onward calls mates p secure = go (onward calls p) refl
+  where
+    go : (o : Option ℕ) → onward calls p ≡ o → onward calls p ≡ None
+    go None is = is
+    go (Some q) is = absurd (omega (arith, secure, (plain_onward calls mates p q is).0))

@@ -1,8 +1,10 @@
 mod BothWays
 pub mod BridgeFrames
 mod Calls
+mod Cases
 mod Causes
 mod Fits
+mod Found
 mod Happening
 mod Inside
 mod Joined

@@ -11,14 +11,14 @@ use Rattle.sg_base.proofs.Cases.{chosen, guarded, is_name, map_some, none_some, 
 use Rattle.sg_base.proofs.Cuts.{cut_again, cut_takes, lacks_append}
 use Rattle.sg_base.proofs.Decimals.{number_again, number_takes}
 use Rattle.sg_base.proofs.FourNumbers.{bind_some, decimal_lacks}
-use Rattle.sg_base.specs.Fields.{◌>>=◌, Lacks, cut_at, number_at}
+use Rattle.sg_base.specs.Fields.{Lacks, cut_at, number_at}
 use Rattle.sg_base.specs.declared.addresses.CallId.{CallId}
 use Rattle.sg_base.specs.declared.faults.ScriptFault.{ScriptFault}
 use Rattle.sg_outcome.specs.OutcomeFields.{FitsOutcome}
 use Rattle.sg_outcome.specs.OutcomeOf.{outcome_of}
 use Rattle.sg_outcome.specs.OutcomeText.{outcome_line}
 use Rattle.sg_outcome.specs.declared.outcomes.Outcome.{Outcome}
-use Rattle.sg_outcome.specs.declared.outcomes.Outcome.TheVariants.{Made, Live, Sdp, Refused, Ended, Out, Dropped, Unsent}
+use Rattle.sg_outcome.specs.declared.outcomes.Outcome.TheVariants.{Made, Dropped}
 use Rattle.sg_bridge.proofs.LostLines.{behind, drop_is, lost_is}
 use Rattle.sg_bridge.specs.BridgeOutcomeOf.{FitsBridgeOutcome, FitsCallId, FitsJoinFault, as_joined, as_lost, as_parted, as_table, body_at, bridge_outcome_of, call_at, calls_at, join_fault_at, plain_fault_at, told_by_word, told_of_one, unjoined_at}
 use Rattle.sg_bridge.specs.BridgeText.{bridge_outcome_line, join_fault_text}

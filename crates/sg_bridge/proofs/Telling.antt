@@ -1,5 +1,5 @@
 -- What is told of a signal is what the gateway tells of it, and behind each end of a call of a pair that it is parted.
-use Rattle.std.proofs.Common.{◌≡◌, ◌⊎◌, inl, inr, ℕ, List, [], ◌∷◌, Option, Some, None, refl, sym, ap, ◌∙◌, subst}
+use Rattle.std.proofs.Common.{◌≡◌, inl, inr, ℕ, List, [], ◌∷◌, Option, Some, None, refl, sym, ap, ◌∙◌, subst}
 use Rattle.std.specs.List.{Any}
 use Rattle.std.specs.Prelude.{set}
 use Rattle.sg_base.proofs.Cases.{none_some}
@@ -9,17 +9,15 @@ use Rattle.sg_gateway.specs.Runs.{world_after}
 use Rattle.sg_gateway.specs.Step.{Event, Signalled, Datagram, step}
 use Rattle.sg_gateway.specs.World.{World, empty}
 use Rattle.sg_outcome.specs.declared.outcomes.Outcome.{Outcome}
-use Rattle.sg_outcome.specs.declared.outcomes.Outcome.TheVariants.{Made, Live, Sdp, Refused, Ended, Out, Dropped, Unsent}
+use Rattle.sg_outcome.specs.declared.outcomes.Outcome.TheVariants.{Made, Live, Ended}
 use Rattle.sg_outcome.specs.declared.outcomes.Why.{Why}
 use Rattle.sg_session.proofs.Lists.{any_cases, any_here, any_none, any_there}
-use Rattle.sg_bridge.proofs.BothWays.{said_step}
-use Rattle.sg_bridge.proofs.Calls.{Knows, StaysOrderly, nobody_known, said_goes}
 use Rattle.sg_bridge.proofs.Fits.{Fits, FitsOne, IsOfId}
-use Rattle.sg_bridge.proofs.Lasting.{nobody_named, said_lasts}
-use Rattle.sg_bridge.proofs.Mates.{AreMates, no_members_mates, outcome_mates}
+use Rattle.sg_bridge.proofs.Lasting.{Standing, all_standing}
+use Rattle.sg_bridge.proofs.Mates.{AreMates, outcome_mates}
 use Rattle.sg_bridge.proofs.Stepped.{HasCount, signal_holds}
 use Rattle.sg_bridge.proofs.Ties.{AreNamed, Does, InForce, IsEndOf, NoneNew, ends_pair, in_force, is_in_force, named_on, none_joined, outcome_does, tie}
-use Rattle.sg_bridge.specs.Bridged.{Said, Happens, Joins, Parts, behind, bridging, bridgings_from, told_and_parted}
+use Rattle.sg_bridge.specs.Bridged.{Said, Happens, behind, bridging, bridgings_from, told_and_parted}
 use Rattle.sg_bridge.specs.Calls.{AllLines}
 use Rattle.sg_bridge.specs.Lasting.{IsPartyOf}
 use Rattle.sg_bridge.specs.Pairs.{Members, after_outcome, joined_pair, member_at, no_members, parted, vacated}
@@ -98,11 +96,7 @@ module _ (calls : Members) where
     one_told (Ended id slot media why) mates named fits does later = by_pair id slot media why mates named fits (joined_pair (member_at now slot)) refl does later
     one_told (Made id slot media) mates named fits does later = passes (Made id slot media) (after_outcome now (Made id slot media)).calls does (λ p on end. end) later
     one_told (Live id) mates named fits does later = passes (Live id) (after_outcome now (Live id)).calls does (λ p on end. end) later
-    one_told (Sdp id side text) mates named fits does later = passes (Sdp id side text) now does (λ p on end. end) later
-    one_told (Refused id cause) mates named fits does later = passes (Refused id cause) now does (λ p on end. end) later
-    one_told (Out port to octets) mates named fits does later = passes (Out port to octets) now does (λ p on end. end) later
-    one_told (Dropped port cause) mates named fits does later = passes (Dropped port cause) now does (λ p on end. end) later
-    one_told (Unsent port to) mates named fits does later = passes (Unsent port to) now does (λ p on end. end) later
+    one_told other mates named fits does later = passes other now does (λ p on end. end) later
 
   all_told : (now : Members) (gone : List Pair) (os : List Outcome) → AreMates now → AreNamed now → Fits now os → Holds now gone → AreTold calls gone os (told_and_parted now os).told
   all_told now gone [] mates named fits holds = refl
@@ -111,22 +105,14 @@ module _ (calls : Members) where
       one_told now gone holds os o mates named fits.0 does
       (λ others at. all_told (after_outcome now o).calls others os (outcome_mates now o mates) (named_on now (after_outcome now o).calls does.new named) fits.1 at)
 
--- ---- a run
+-- ---- a line, and a run
 
-said_told : HasCount → (w : World) (calls : Members) → StaysOrderly w → AreMates calls → Knows w calls → AreNamed calls → (s : Said) → TellsSignal s (bridging w calls s)
-said_told count w calls stays mates knows named (Happens (Signalled signal)) =
-    let fits = signal_holds count w calls (stays []) mates knows.known knows.begun signal (stays (Signalled signal ∷ [])) in
-    all_told calls calls [] (step w (Signalled signal)).outcomes mates named fits.2 (record { was = λ x on. (on, λ a. any_none (λ q. q ≡ x) a); still = λ x on not. on })
-said_told count w calls stays mates knows named (Happens (Datagram port from d)) = tt
-said_told count w calls stays mates knows named other = tt
-
-each_told : HasCount → (w : World) (calls : Members) (said : List Said) → StaysOrderly w → AreMates calls → Knows w calls → AreNamed calls → AllLines TellsSignal said (bridgings_from w calls said)
-each_told count w calls [] stays mates knows named = tt
-each_told count w calls (s ∷ ss) stays mates knows named =
-    let goes = said_goes count w calls stays mates knows s in (
-      said_told count w calls stays mates knows named s,
-      each_told count (bridging w calls s).world (bridging w calls s).calls ss goes.1 ((said_step w calls s).1 mates) goes.0 (said_lasts count w calls stays mates knows named s).named,
-    )
+said_told : HasCount → (w : World) (calls : Members) (s : Said) → Standing w calls → TellsSignal s (bridging w calls s)
+said_told count w calls (Happens (Signalled signal)) is =
+    let fits = signal_holds count w calls (is.stays []) is.mates is.knows.known is.knows.begun signal (is.stays (Signalled signal ∷ [])) in
+    all_told calls calls [] (step w (Signalled signal)).outcomes is.mates is.named fits.2 (record { was = λ x on. (on, λ a. any_none (λ q. q ≡ x) a); still = λ x on not. on })
+said_told count w calls (Happens (Datagram port from d)) is = tt
+said_told count w calls other is = tt
 
 pub all_signals : HasCount → ((es : List Event) → IsOrderly (world_after empty es)) → (said : List Said) → AllLines TellsSignal said (bridgings_from empty no_members said)
-all_signals count orderly said = each_told count empty no_members said orderly no_members_mates nobody_known nobody_named
+all_signals count orderly = all_standing count orderly TellsSignal (said_told count)

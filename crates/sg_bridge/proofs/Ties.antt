@@ -9,11 +9,11 @@ use Rattle.sg_base.proofs.Cases.{none_some}
 use Rattle.sg_base.specs.declared.addresses.CallId.{CallId}
 use Rattle.sg_gateway.specs.World.{same_id}
 use Rattle.sg_outcome.specs.declared.outcomes.Outcome.{Outcome}
-use Rattle.sg_outcome.specs.declared.outcomes.Outcome.TheVariants.{Made, Live, Sdp, Refused, Ended, Out, Dropped, Unsent}
+use Rattle.sg_outcome.specs.declared.outcomes.Outcome.TheVariants.{Made, Live, Ended}
 use Rattle.sg_session.proofs.Lists.{any_cases, any_none}
 use Rattle.sg_bridge.proofs.Fits.{Fits, FitsOne, IsOfId}
 use Rattle.sg_bridge.proofs.Known.{seen_at, seen_in}
-use Rattle.sg_bridge.proofs.Mates.{AreMates, IsFree, IsOf, free_of, joined_in, look_of, outcome_mates}
+use Rattle.sg_bridge.proofs.Mates.{AreMates, IsFree, IsOf, either_of, free_of, joined_in, look_of, outcome_mates}
 use Rattle.sg_bridge.specs.Bridged.{Following, behind, told_and_parted}
 use Rattle.sg_bridge.specs.Lasting.{IsInForce, IsPartedAtEnd, IsPartyOf, WasParted}
 use Rattle.sg_bridge.specs.Pairs.{Members, Noted, after_outcome, emptied, in_pair_at, joined_pair, member_at, new_member, now_live, parted, tells_parted, vacated}
@@ -143,35 +143,29 @@ module _ (calls after : Members) (D : ℕ → Type 0) (decided : (s : ℕ) → D
     ]
   ]
 
-either_of : (p : Pair) (s : ℕ) → IsOf s p ⊎ (IsOf s p → ⊥)
-either_of p s = elim (cases_eq s p.first.slot) [
-  | inl is ↦ inl (inl is)
-  | inr f ↦ elim (cases_eq s p.second.slot) [
-    | inl is ↦ inl (inr is)
-    | inr g ↦ inr (λ of_p. elim of_p [ inl is ↦ f is | inr is ↦ g is ])
-  ]
-]
-
 free_tie : (calls : Members) (s : ℕ) → IsFree calls s → (id : CallId) (x : Pair) → tie calls s ≡ tied id x → ⊥
 free_tie calls s free id x is = let at = tie_look (member_at calls s) id x is in free at.0 x at.1
 
 -- A pair is parted, and perhaps a slot of it is emptied besides.
 module _ (calls after : Members) (p : Pair) (on : InForce calls p) (free : (s : ℕ) → IsOf s p → (id : CallId) (x : Pair) → tie after s ≡ tied id x → ⊥) (same : (s : ℕ) → (IsOf s p → ⊥) → tie after s ≡ tie calls s) where
   pub parts_new : NoneNew calls after
-  parts_new = freed_new calls after (λ s. IsOf s p) (either_of p) free same
+  parts_new = freed_new calls after (λ s. IsOf s p) (either_of calls p) free same
 
   this_one : (s : ℕ) (id : CallId) (x : Pair) → IsOf s p → tie calls s ≡ tied id x → x ≡ p
   this_one s id x (inl is) at = (one_pair _ _ x p (sym at ∙ ap (tie calls) is ∙ on.0)).1
   this_one s id x (inr is) at = (one_pair _ _ x p (sym at ∙ ap (tie calls) is ∙ on.1)).1
 
   pub parts_kept : (x : Pair) → InForce calls x → InForce after x ⊎ (x ≡ p)
-  parts_kept x was = elim (freed_kept calls after (λ s. IsOf s p) (either_of p) free same x was) [
+  parts_kept x was = elim (freed_kept calls after (λ s. IsOf s p) (either_of calls p) free same x was) [
     | inl still ↦ inl still
     | inr of_p ↦ inr (elim of_p [ inl d ↦ this_one x.first.slot x.first.id x d was.0 | inr d ↦ this_one x.second.slot x.second.id x d was.1 ])
   ]
 
-  pub parts_it : Unties calls after p.first.id p.second.id
-  parts_it = (p, refl, refl, on, λ still. free p.first.slot (inl refl) p.first.id p still.0)
+  pub parts_told : (first second : CallId) → tells.Parted p.first.id p.second.id ≡ tells.Parted first second → Unties calls after first second
+  parts_told first second told =
+      let a : p.first.id ≡ first = cc in
+      let b : p.second.id ≡ second = cc in
+      (p, a, b, on, λ still. free p.first.slot (inl refl) p.first.id p still.0)
 
 pub parted_free : (calls : Members) (p : Pair) (s : ℕ) → IsOf s p → (id : CallId) (x : Pair) → tie (parted p calls) s ≡ tied id x → ⊥
 parted_free calls p s of_p id x is = free_tie (parted p calls) s (free_of calls p s of_p) id x is
@@ -211,26 +205,28 @@ pub record EndsPairAt (calls after : Members) (id : CallId) (slot : ℕ) (p : Pa
 pub none_joined : (m : Option Member) → joined_pair m ≡ None → (id : CallId) (x : Pair) → option_map tie_of m ≡ tied id x → ⊥
 none_joined m none id x is = let k = tied_some m id x is in none_some x (sym none ∙ ap joined_pair k.1 ∙ k.3)
 
+-- where one slot is freed in which nobody was in a pair
+empty_does : (calls after : Members) (o : Outcome) (slot : ℕ) → ((i : CallId) (x : Pair) → tie calls slot ≡ tied i x → ⊥) → ((i : CallId) (x : Pair) → tie after slot ≡ tied i x → ⊥) → ((s : ℕ) → (s ≡ slot → ⊥) → tie after s ≡ tie calls s)
+    → Does calls o (record { calls = after; parted = None })
+empty_does calls after o slot nobody free same = record {
+  new = freed_new calls after (λ s. s ≡ slot) (λ s. cases_eq s slot) free_at same;
+  kept = λ x on. elim (freed_kept calls after (λ s. s ≡ slot) (λ s. cases_eq s slot) free_at same x on) [
+    | inl still ↦ inl still
+    | inr at ↦ absurd (elim at [ inl is ↦ nobody x.first.id x (ap (tie calls) (sym is) ∙ on.0) | inr is ↦ nobody x.second.id x (ap (tie calls) (sym is) ∙ on.1) ])
+  ];
+  parted = λ first second is. absurd (none_some _ is);
+}
+  where
+    free_at : (s : ℕ) → s ≡ slot → (i : CallId) (x : Pair) → tie after s ≡ tied i x → ⊥
+    free_at s is i x e = free i x (ap (tie after) (sym is) ∙ e)
+
 -- a call ends
 module _ (calls : Members) (id : CallId) (slot media : ℕ) (why : Rattle.sg_outcome.specs.declared.outcomes.Why.Why) (mates : AreMates calls) (named : AreNamed calls) (of_id : IsOfId calls slot id) where
   abbrev ended : Outcome
   ended = Ended id slot media why
 
   alone : joined_pair (member_at calls slot) ≡ None → Does calls ended (vacated slot calls None)
-  alone none = record {
-    new = freed_new calls (set calls slot None) (λ s. s ≡ slot) (λ s. cases_eq s slot) free same;
-    kept = λ x on. elim (freed_kept calls (set calls slot None) (λ s. s ≡ slot) (λ s. cases_eq s slot) free same x on) [
-      | inl still ↦ inl still
-      | inr at ↦ absurd (elim at [ inl is ↦ none_joined _ none x.first.id x (ap (tie calls) (sym is) ∙ on.0) | inr is ↦ none_joined _ none x.second.id x (ap (tie calls) (sym is) ∙ on.1) ])
-    ];
-    parted = λ first second is. absurd (none_some _ is);
-  }
-    where
-      free : (s : ℕ) → s ≡ slot → (i : CallId) (x : Pair) → tie (set calls slot None) s ≡ tied i x → ⊥
-      free s is i x e = set_free_at calls slot None (λ j y e. none_some _ e) i x (ap (tie (set calls slot None)) (sym is) ∙ e)
-
-      same : (s : ℕ) → (s ≡ slot → ⊥) → tie (set calls slot None) s ≡ tie calls s
-      same s other = tie_set_other calls slot s None other
+  alone none = empty_does calls (set calls slot None) ended slot (none_joined _ none) (set_free_at calls slot None (λ j y e. none_some _ e)) (λ s other. tie_set_other calls slot s None other)
 
   module _ (p : Pair) (is : joined_pair (member_at calls slot) ≡ Some p) where
     there : (m : Option Member) → joined_pair m ≡ Some p → (k : Member) × (m ≡ Some k) × (k.pair ≡ Some p)
@@ -270,15 +266,8 @@ module _ (calls : Members) (id : CallId) (slot media : ℕ) (why : Rattle.sg_out
         | inl still ↦ inl still
         | inr one ↦ inr (ap (λ (y : Pair). Some (tells_parted y)) (sym one), subst (λ (y : Pair). IsPartyOf y id slot) (sym one) party)
       ];
-      parted = λ first second is. one_told first second is;
+      parted = λ first second is. parts_told calls (set (parted p calls) slot None) p on free same first second (let told : tells_parted p ≡ tells.Parted first second = cc in told);
     }
-      where
-        one_told : (first second : CallId) → Some (tells_parted p) ≡ Some (tells.Parted first second) → Unties calls (set (parted p calls) slot None) first second
-        one_told first second is =
-            let told : tells_parted p ≡ tells.Parted first second = cc in
-            let a : p.first.id ≡ first = cc in
-            let b : p.second.id ≡ second = cc in
-            subst (λ i. Unties calls (set (parted p calls) slot None) i second) a (subst (λ j. Unties calls (set (parted p calls) slot None) p.first.id j) b (parts_it calls (set (parted p calls) slot None) p on free same))
 
     pub ends_pair : EndsPairAt calls (set (parted p calls) slot None) id slot p
     ends_pair = record {
@@ -297,14 +286,9 @@ module _ (calls : Members) (id : CallId) (slot media : ℕ) (why : Rattle.sg_out
 
 -- a call is made in an empty slot
 made_does : (calls : Members) (id : CallId) (slot media : ℕ) → seen_at calls slot ≡ None → Does calls (Made id slot media) (after_outcome calls (Made id slot media))
-made_does calls id slot media none = record {
-  new = freed_new calls made (λ s. s ≡ slot) (λ s. cases_eq s slot) free same;
-  kept = λ x on. elim (freed_kept calls made (λ s. s ≡ slot) (λ s. cases_eq s slot) free same x on) [
-    | inl still ↦ inl still
-    | inr at ↦ absurd (elim at [ inl is ↦ nobody x.first.id x (ap (tie calls) (sym is) ∙ on.0) | inr is ↦ nobody x.second.id x (ap (tie calls) (sym is) ∙ on.1) ])
-  ];
-  parted = λ first second is. absurd (none_some _ is);
-}
+made_does calls id slot media none =
+    empty_does calls made (Made id slot media) slot (λ i x is. none_some _ (ap (option_map tie_of) (sym nothing) ∙ is))
+    (set_free_at (emptied slot calls).calls slot (Some (new_member id media)) (none_joined (Some (new_member id media)) refl)) same
   where
     made : Members
     made = set (emptied slot calls).calls slot (Some (new_member id media))
@@ -316,19 +300,10 @@ made_does calls id slot media none = record {
     nothing : member_at calls slot ≡ None
     nothing = empty_there (member_at calls slot) none
 
-    nobody : (i : CallId) (x : Pair) → tie calls slot ≡ tied i x → ⊥
-    nobody i x is = none_some _ (ap (option_map tie_of) (sym nothing) ∙ is)
-
     emptied_is : (emptied slot calls).calls ≡ set calls slot None
     emptied_is = ap (λ (m : Option Member). (vacated slot calls (joined_pair m)).calls) nothing
 
-    unpaired : (i : CallId) (x : Pair) → option_map tie_of (Some (new_member id media)) ≡ tied i x → ⊥
-    unpaired i x is = none_joined (Some (new_member id media)) refl i x is
-
-    free : (s : ℕ) → s ≡ slot → (i : CallId) (x : Pair) → tie (set (emptied slot calls).calls slot (Some (new_member id media))) s ≡ tied i x → ⊥
-    free s is i x e = set_free_at (emptied slot calls).calls slot (Some (new_member id media)) unpaired i x (ap (tie (set (emptied slot calls).calls slot (Some (new_member id media)))) (sym is) ∙ e)
-
-    same : (s : ℕ) → (s ≡ slot → ⊥) → tie (set (emptied slot calls).calls slot (Some (new_member id media))) s ≡ tie calls s
+    same : (s : ℕ) → (s ≡ slot → ⊥) → tie made s ≡ tie calls s
     same s other = tie_set_other (emptied slot calls).calls slot s (Some (new_member id media)) other ∙ ap (λ (c : Members). tie c s) emptied_is ∙ tie_set_other calls slot s None other
 
 live_tie : (id : CallId) (m : Option Member) → option_map tie_of (now_live id m) ≡ option_map tie_of m
@@ -343,11 +318,7 @@ pub outcome_does : (calls : Members) (o : Outcome) → AreMates calls → AreNam
 outcome_does calls (Made id slot media) mates named fits = made_does calls id slot media fits
 outcome_does calls (Live id) mates named fits = still_does calls (map (now_live id) calls) (Live id) (λ s. ap (option_map tie_of) (get_or-map (now_live id) calls s None) ∙ live_tie id (member_at calls s))
 outcome_does calls (Ended id slot media why) mates named fits = ended_does calls id slot media why mates named fits
-outcome_does calls (Sdp id side text) mates named fits = still_does calls calls (Sdp id side text) (λ s. refl)
-outcome_does calls (Refused id cause) mates named fits = still_does calls calls (Refused id cause) (λ s. refl)
-outcome_does calls (Out port to octets) mates named fits = still_does calls calls (Out port to octets) (λ s. refl)
-outcome_does calls (Dropped port cause) mates named fits = still_does calls calls (Dropped port cause) (λ s. refl)
-outcome_does calls (Unsent port to) mates named fits = still_does calls calls (Unsent port to) (λ s. refl)
+outcome_does calls other mates named fits = still_does calls calls other (λ s. refl)
 
 -- ---- all that is told of a signal
 

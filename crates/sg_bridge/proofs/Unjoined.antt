@@ -5,14 +5,15 @@ use Rattle.std.proofs.lemmas.List.{get_or-replicate, get_or-set_other, get_or-se
 use Rattle.std.proofs.Math.ListN.{get_or-map}
 use Rattle.std.specs.List.{flat_map}
 use Rattle.std.specs.Prelude.{option_map, option_to_list, set}
-use Rattle.sg_base.specs.declared.addresses.Address.{Address}
+use Rattle.sg_base.proofs.Cases.{none_some}
 use Rattle.sg_base.specs.declared.addresses.CallId.{CallId}
 use Rattle.sg_gateway.specs.Runs.{turns_from}
 use Rattle.sg_gateway.specs.Step.{Event, Signalled, Datagram, step}
 use Rattle.sg_gateway.specs.World.{World, empty, same_id}
 use Rattle.sg_outcome.specs.declared.outcomes.Outcome.{Outcome}
-use Rattle.sg_outcome.specs.declared.outcomes.Outcome.TheVariants.{Made, Live, Sdp, Refused, Ended, Out, Dropped, Unsent}
-use Rattle.sg_bridge.specs.Bridged.{Bridging, Happens, arrived, bridging, bridgings_from, opened, passed, told_and_parted}
+use Rattle.sg_outcome.specs.declared.outcomes.Outcome.TheVariants.{Made, Live, Ended}
+use Rattle.sg_bridge.proofs.Cases.{each_case}
+use Rattle.sg_bridge.specs.Bridged.{Bridging, Happens, bridging, bridgings_from, told_and_parted}
 use Rattle.sg_bridge.specs.Onward.{is_plain_port, medium_by_port, onward, onward_in, port_like, slot_by_port}
 use Rattle.sg_bridge.specs.Pairs.{Members, after_outcome, emptied, joined_pair, member_at, new_member, no_members, now_live, other_slot, vacated}
 use Rattle.sg_bridge.specs.Unjoined.{IsToldAsItIs}
@@ -82,20 +83,21 @@ pub record IsPlain (w : World) (e : Event) (b : Bridging) : Type 0 where
   pub calls : AreUnjoined b.calls
 
 module _ (w : World) (calls : Members) (none : AreUnjoined calls) where
-  opened_plain : (e : Event) (p : ℕ) (to : Address) (x : List ℕ) → opened w calls e (step w e).world p to x None ≡ opened w calls e (step w e).world p to x (onward calls p)
-  opened_plain e p to x = ap (opened w calls e (step w e).world p to x) (sym (nowhere calls p none))
-
-  passed_plain : (e : Event) (os : List Outcome) → (step w e).outcomes ≡ os → IsPlain w e (passed w calls e (step w e).world os)
-  passed_plain e (Out p to x ∷ []) is = subst (IsPlain w e) (opened_plain e p to x) (record { events = refl; told = ap (map tells.Table) (sym is); world = refl; calls = none })
-  passed_plain e other is = record { events = refl; told = ap (map tells.Table) (sym is); world = refl; calls = none }
+  goes_nowhere : (p q : ℕ) → onward calls p ≡ Some q → ⊥
+  goes_nowhere p q on = none_some q (sym (nowhere calls p none) ∙ on)
 
   event_plain : (e : Event) → IsPlain w e (bridging w calls (Happens e))
   event_plain (Signalled signal) =
       let all = told_unjoined calls (step w (Signalled signal)).outcomes none in
       record { events = refl; told = all.1; world = refl; calls = all.0 }
-  event_plain (Datagram port from d) =
-      subst (λ (o : Option ℕ). IsPlain w (Datagram port from d) (arrived w calls port (Datagram port from d) (step w (Datagram port from d)) o)) (sym (nowhere calls port none))
-      (passed_plain (Datagram port from d) (step w (Datagram port from d)).outcomes refl)
+  event_plain (Datagram port from d) = each_case w calls port from d (IsPlain w (Datagram port from d)) (record {
+    unused = λ q on. absurd (goes_nowhere port q on);
+    dropped = λ through cause is. record { events = refl; told = sym (ap (map tells.Table) is); world = refl; calls = none };
+    put_out = λ o puts. record { events = refl; told = sym (ap (map tells.Table) puts.was); world = refl; calls = none };
+    nowhere = λ p q to x opens at. absurd (goes_nowhere p q opens.on);
+    refused = λ p q to x opens a at cause is. absurd (goes_nowhere p q opens.on);
+    sealed = λ p q to x opens a at c o by is es. absurd (goes_nowhere p q opens.on);
+  })
 
 all_plain : (w : World) (calls : Members) (es : List Event) → AreUnjoined calls
     → (flat_map (λ b. b.events) (bridgings_from w calls (map Happens es)) ≡ es)

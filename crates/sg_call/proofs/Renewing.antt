@@ -25,11 +25,11 @@ use Rattle.sg_gateway.specs.World as world
 use Rattle.sg_gateway.specs.World.{Call}
 use Rattle.sg_leg.specs.Open.{IsAnswered, IsGiven, answered_with, live_after}
 use Rattle.sg_leg.specs.Pairs.{EachPair}
-use Rattle.sg_leg.specs.Planned.{ArePlanned, planned}
+use Rattle.sg_leg.specs.Planned.{ArePlanned, Planned, planned_sides}
 use Rattle.sg_leg.specs.Standing.{Begins, manual_live}
 use Rattle.sg_leg.specs.Values.{LiveValue, OfferedValue}
 use Rattle.sg_leg.specs.declared.books.Books.{Books}
-use Rattle.sg_leg.specs.declared.media_spec.MediaSpec.{MediaSpec}
+use Rattle.sg_leg.specs.declared.media_spec.SideSpec.{SideSpec}
 use Rattle.sg_psk.specs.declared.pairs.Pair.{Pair}
 use Rattle.sg_session.proofs.Inversions.{after_ok_is, ok_is}
 use Rattle.sg_session.proofs.Lists.{each_weaker, each_append, each_filter}
@@ -41,7 +41,7 @@ use Rattle.sg_session.specs.declared.names.Direction.TheVariants.{Opening, Seali
 use Rattle.sg_call.proofs.Offering.{idle_begun}
 use Rattle.sg_call.proofs.Passing.{filter_append}
 use Rattle.sg_call.specs.Adding.{Adds, opens_route, opens_side, renewed_value}
-use Rattle.sg_call.specs.Settling.{BooksStandFor, IsKeyed, IsSettled, Settles}
+use Rattle.sg_call.specs.Settling.{BooksStandFor, IsSettled, Settles}
 use Rattle.sg_call.specs.Standing.{SideStandsFor, RouteStandsFor, SessionsStand, CallStandsFor}
 use Rattle.sg_call.specs.States.{IsIdle, IsOffered}
 use Rattle.sg_call.specs.Values.{CallValue}
@@ -244,10 +244,10 @@ are_new c ring media g e =
       differ = generation_differ c.serial c.generations 0 (length ring) media;
     })
 
-call_renewed : (pairs : List Pair) (call : CallValue) (c : Call) (now : ℕ) (l : LiveValue) (news : List Session) (specs : List MediaSpec) (routes : List Route) → IsBefore call c → AreNew c news
-    → l ≡ record { slot = c.slot; media = c.media; manual = c.manual } → ArePlanned specs news → Adds call.slot (planned specs) [] routes
+call_renewed : (pairs : List Pair) (call : CallValue) (c : Call) (now : ℕ) (l : LiveValue) (news : List Session) (plan : List Planned) (routes : List Route) → IsBefore call c → AreNew c news
+    → l ≡ record { slot = c.slot; media = c.media; manual = c.manual } → ArePlanned plan news → Adds call.slot plan [] routes
     → CallStandsFor pairs (renewed_value call now l routes) (renewed now c news)
-call_renewed pairs call c now l news specs routes h new live each adds =
+call_renewed pairs call c now l news plan routes h new live each adds =
     let some : eqb (c.generations + 1) 0 ≡ false = not_equal (c.generations + 1) 0 (λ e. (let x = e in absurd (omega (arith, x)))) in
     record {
       id_is = h.id_is;
@@ -307,7 +307,7 @@ module _ (now : ℕ) (b : world.Books) (c : Call) (noise text : List ℕ) (o : O
 
   -- no answer is given
   pub answer_failed : {F : Type 0} (v : OfferedValue) (f : F) (fault : Fault) (ring : List RingKey) (call : CallValue) (new : Books)
-      → IsAnswered {S = Vec MediaSpec} {F = F} (λ (specs : Vec MediaSpec). specs.items) v (Err (f, fault)) ring (answered_with c.slot o noise text c.serial c.generations b.ring) → IsSettled (Err fault) call new (answered_in now b c noise text)
+      → IsAnswered {S = Vec SideSpec} {F = F} (λ (sides : Vec SideSpec). planned_sides sides.items) v (Err (f, fault)) ring (answered_with c.slot o noise text c.serial c.generations b.ring) → IsSettled (Err fault) call new (answered_in now b c noise text)
   answer_failed v f (Refused cause) ring call new e = answer_refused cause e
   answer_failed v f NoMemory ring call new e = tt
 
@@ -328,8 +328,8 @@ module _ (now : ℕ) (b : world.Books) (c : Call) (noise text : List ℕ) (o : O
       })
 
   module _ (old new : Books) (books : BooksStandFor old b) (same : (new.psks ≡ old.psks) × (new.seen ≡ old.seen)) (call : CallValue) (h : CallStandsFor b.pairs call c) (v : OfferedValue) (open_is : IsOffered b.pairs v c)
-      (out : List ℕ) (specs : List MediaSpec) (routes : List Route) where
-    pub answered_so : IsGiven out specs new.ring (answered_with c.slot o noise text c.serial c.generations b.ring) → Adds call.slot (planned specs) [] routes
+      (out : List ℕ) (plan : List Planned) (routes : List Route) where
+    pub answered_so : IsGiven out plan new.ring (answered_with c.slot o noise text c.serial c.generations b.ring) → Adds call.slot plan [] routes
         → Settles CallStandsFor (renewed_value call now (live_after v) routes) out new (answered_in now b c noise text)
     answered_so (x, is, text_is, g) adds =
         let w = was_answered x is in
@@ -337,7 +337,7 @@ module _ (now : ℕ) (b : world.Books) (c : Call) (noise text : List ℕ) (o : O
           settled = with_generation x.0 x.1;
           is_settled = w.gives;
           text_is = text_is;
-          stands = call_renewed b.pairs call c now (live_after v) x.1.sessions specs routes
+          stands = call_renewed b.pairs call c now (live_after v) x.1.sessions plan routes
               (record { id_is = h.id_is; slot_is = h.slot_is; media_are = h.media_are; few = h.few; sessions = h.sessions })
               (are_new c b.ring w.media x.1 w.begun)
               (λ i. record { slot = open_is.slot_is i; media = open_is.media_are i; manual = sym open_is.not_manual i })
@@ -360,14 +360,14 @@ module _ (now : ℕ) (b : world.Books) (c : Call) (x : Medium) where
       ∙ ap (λ r. after_ok r (λ g. Ok (record { text = []; call = renewed now one_medium g.sessions; books = record b { ring = g.ring } }))) e
 
   module _ (slot : ℕ) (idle : IsIdle slot c) where
-    pub keyed_so : (old new : Books) → BooksStandFor old b → (new.psks ≡ old.psks) × (new.seen ≡ old.seen) → (call : CallValue) → CallStandsFor b.pairs call c → (specs : List MediaSpec) (routes : List Route)
-        → Begins (Ok specs) new.ring manual_generation → Adds call.slot (planned specs) [] routes
+    pub keyed_so : (old new : Books) → BooksStandFor old b → (new.psks ≡ old.psks) × (new.seen ≡ old.seen) → (call : CallValue) → CallStandsFor b.pairs call c → (plan : List Planned) (routes : List Route)
+        → Begins (Ok plan) new.ring manual_generation → Adds call.slot plan [] routes
         → Settles CallStandsFor (renewed_value (record call { media = 1 }) now (manual_live slot) routes) [] new (keyed_manually now b c x)
-    keyed_so old new books same call h specs routes (g, is, begun) adds = record {
+    keyed_so old new books same call h plan routes (g, is, begun) adds = record {
       settled = record { text = []; call = renewed now one_medium g.sessions; books = record b { ring = g.ring } };
       is_settled = keyed_as (idle_begun slot c idle) (Ok g) is;
       text_is = refl;
-      stands = call_renewed b.pairs (record call { media = 1 }) one_medium now (manual_live slot) g.sessions specs routes (before_manual b.pairs call c h)
+      stands = call_renewed b.pairs (record call { media = 1 }) one_medium now (manual_live slot) g.sessions plan routes (before_manual b.pairs call c h)
           (let n = are_new c b.ring (Some x ∷ []) g is in record { own = n.own; named = n.named; differ = n.differ })
           (λ i. record { slot = idle.slot_is i; media = 1; manual = true }) begun.planned adds;
       books_stand = record { pairs = same.0 ∙ books.pairs; noted = same.1 ∙ books.noted; ring = begun.installed };

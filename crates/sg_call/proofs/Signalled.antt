@@ -2,7 +2,6 @@
 use Rattle.std.proofs.Common.{◌≡◌, ℕ, ◌+◌, ◌≤◌, Bool, true, false, cond, not, List, [], ◌∷◌, ◌++◌, length, Option, Some, None, Result, Ok, Err, refl, sym, ap, ◌∙◌, subst, eqb, leb}
 use Rattle.std.specs.List.{AllByRecursion, filter}
 use Rattle.std.specs.Option.{is_some}
-use Rattle.sg_agreement.specs.Keying.{Offer}
 use Rattle.sg_agreement.specs.Offers.{AgreedOffer, agreed_offer}
 use Rattle.sg_agreement.specs.declared.ways.Way.{Way}
 use Rattle.sg_base.specs.declared.faults.Refusal.{Refusal}

@@ -1,15 +1,15 @@
 -- A call after a datagram.
-use Rattle.std.proofs.Common.{◌≡◌, ℕ, Option, Some, None, List, [], ◌∷◌, ◌++◌, ◌≤◌, append_assoc, drop, refl, sym, ap, ◌∙◌, subst, eqb}
+use Rattle.std.proofs.Common.{◌≡◌, ℕ, Option, Some, None, List, [], ◌++◌, ◌≤◌, drop, refl, sym, ap, ◌∙◌, subst, eqb}
 use Rattle.std.proofs.lemmas.List.{append-nil}
 use Rattle.sg_base.specs.declared.addresses.Address.{Address}
 use Rattle.sg_gateway.proofs.Arrivals.{Arrival, IsDrop, IsOpening, IsSeal, arrival}
 use Rattle.sg_gateway.specs.Batch as batch
 use Rattle.sg_gateway.specs.Datagrams.{Given, arrived_in}
 use Rattle.sg_gateway.specs.World.{Call}
-use Rattle.sg_call.specs.Drained.{IsDrained, IsNextHandled}
-use Rattle.sg_call.specs.Handling.{OnDrop, handled_of, moment_after, gives, call_after, all_handled, IsPassed}
+use Rattle.sg_call.specs.Drained.{IsDrained}
+use Rattle.sg_call.specs.Handling.{OnDrop, handled_of, moment_after, call_after, all_handled, IsPassed}
 use Rattle.sg_call.specs.Standing.{SessionsStand, CallStandsFor}
-use Rattle.sg_call.specs.Values.{CallValue, InboxValue, QueuedValue, RoutesValue}
+use Rattle.sg_call.specs.Values.{CallValue, InboxValue, RoutesValue}
 use Rattle.sg_call.specs.declared.handled.End.{End}
 use Rattle.sg_call.specs.declared.handled.End.TheVariants.{Out, Dropped}
 use Rattle.sg_call.specs.declared.handled.Handled.{Handled}

@@ -1,5 +1,5 @@
 -- Routes that are added for planned sessions.
-use Rattle.std.specs.Prelude.{ℕ, Bool, true, false, List, [], ◌∷◌, ◌++◌, filter, Option, Some, None}
+use Rattle.std.specs.Prelude.{ℕ, Bool, true, false, List, ◌++◌, filter}
 use Rattle.sg_base.specs.declared.addresses.Address.{Address}
 use Rattle.sg_keys.specs.declared.spec.SessionSpec.{SessionSpec}
 use Rattle.sg_session.specs.Session.{Session}
@@ -16,10 +16,6 @@ use Rattle.sg_call.specs.declared.state.State.TheVariants.{Live}
 
 abbrev pub as_planned : ℕ → Direction → SessionSpec → Address → Address → Planned
 as_planned medium direction spec secure plain = record { medium = medium; direction = direction; spec = spec; secure = secure; plain = plain }
-
-abbrev pub if_planned : ℕ → Direction → Option SessionSpec → Address → Address → List Planned
-if_planned medium direction None secure plain = []
-if_planned medium direction (Some spec) secure plain = as_planned medium direction spec secure plain ∷ []
 
 -- behind routes that stand for some sessions, the routes of the planned ones come
 abbrev pub Adds : ℕ → List Planned → List Route → List Route → Type 0

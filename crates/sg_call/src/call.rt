@@ -21,16 +21,13 @@ use sg_base::{
     Side,
 };
 use sg_lanes::Lane;
-use sg_leg::{Books, Ended, Idle, Live, Way};
+use sg_leg::{Books, Ended, Idle, Live, MEDIUM_SIDES, Way};
 use std::alloc::Global;
 use std::marker::Model;
 use std::mem;
 
-/// The most routes of a medium: RTP and RTCP, opened and sealed.
-const MEDIUM_ROUTES: usize = 4;
-
-/// The most routes of a generation.
-const ROUTES: usize = MEDIA_MOST * MEDIUM_ROUTES;
+/// The most routes of a generation, one for each side.
+const ROUTES: usize = MEDIA_MOST * MEDIUM_SIDES;
 
 /// A call of up to four media, with the routes of its current generation and those of the one before that still
 /// open, and an inbox.
@@ -265,8 +262,8 @@ impl Call {
                     return Err(Fault::NoMemory);
                 };
                 match open.settle(alloc, text, noise, books) {
-                    Ok((live, out, specs)) => {
-                        add_all(self.slot, specs, &mut routes);
+                    Ok((live, out, sides)) => {
+                        add_all(self.slot, sides, &mut routes);
                         self.renew(live, routes, now);
                         Ok(out)
                     }
@@ -308,13 +305,13 @@ impl Call {
     {
         match mem::replace(&mut self.state, State::Idle(Idle::make(self.slot))) {
             State::Idle(idle) => {
-                let Ok(mut routes) = Vec::with_capacity(alloc, MEDIUM_ROUTES) else {
+                let Ok(mut routes) = Vec::with_capacity(alloc, MEDIUM_SIDES) else {
                     self.go_on(State::Idle(idle));
                     return Err(Fault::NoMemory);
                 };
                 match idle.settle(alloc, secure, plain, roc, window, from_peer, to_peer, books) {
-                    Ok((live, specs)) => {
-                        add_all(self.slot, specs, &mut routes);
+                    Ok((live, sides)) => {
+                        add_all(self.slot, sides, &mut routes);
                         self.media = 1;
                         self.renew(live, routes, now);
                         Ok(())

@@ -1,8 +1,7 @@
 -- The keys of the gateway's own lines are drawn.
-use Rattle.std.proofs.Common.{◌≡◌, inl, inr, ℕ, ◌+◌, Bool, true, false, cond, eqb, List, [], ◌∷◌, ◌++◌, length, map, Option, Some, None, Result, Ok, Err, refl, sym, ap, ◌∙◌, subst, append_assoc, append-nil, arith}
-use Rattle.std.proofs.lemmas.Bool.{and_parts, eqb-true}
+use Rattle.std.proofs.Common.{◌≡◌, inl, inr, ℕ, ◌+◌, Bool, true, false, cond, eqb, List, [], ◌∷◌, length, map, Option, Some, None, Result, Ok, refl, sym, ap, ◌∙◌, subst}
 use Rattle.std.proofs.lemmas.List.Elements.{All-from_recursion}
-use Rattle.std.specs.List.{AllByRecursion, Any, filter, find}
+use Rattle.std.specs.List.{AllByRecursion, Any, find}
 use Rattle.sg_agreement.proofs.AllAgreed.{offer_is}
 use Rattle.sg_agreement.proofs.Inversions.{find_all}
 use Rattle.sg_agreement.proofs.KeyedSound.{sdes_is}
@@ -48,21 +47,20 @@ use Rattle.sg_sdes.specs.declared.lines.InlineKey.{InlineKey}
 use Rattle.sg_sdp.specs.declared.medium.Medium as descriptions
 use Rattle.sg_sdp.specs.declared.sdp.Sdp.{Sdp}
 use Rattle.sg_session.proofs.Inversions.{after_ok_is, ok_is}
-use Rattle.sg_session.proofs.Lists.{any_here, any_there, any_weaker, each_append, each_weaker}
+use Rattle.sg_session.proofs.Lists.{any_here, any_there, any_weaker, each_append}
 use Rattle.sg_session.specs.Session.{Session}
 use Rattle.sg_session.specs.Stages.{after_ok}
 use Rattle.sg_session.specs.declared.names.Direction.{Direction}
 use Rattle.sg_session.specs.declared.names.Direction.TheVariants.{Opening, Sealing}
-use Rattle.sg_gateway.proofs.Addressed.{IsAnswered, answer_is}
-use Rattle.sg_gateway.proofs.Arrivals.{kept_by}
+use Rattle.sg_gateway.proofs.Addressed.{IsAnswered, answered_now}
 use Rattle.sg_gateway.proofs.ByTexts.{MadeBy, WasMade, WereMade, event_made, same_call_id}
-use Rattle.sg_gateway.proofs.CarriedOut.{found_with, id_found, stays}
+use Rattle.sg_gateway.proofs.CarriedOut.{of_generation}
 use Rattle.sg_gateway.proofs.LineSessions.{masters_of}
 use Rattle.sg_gateway.proofs.Signals.{found}
-use Rattle.sg_gateway.specs.CallSignals.{answered_to}
-use Rattle.sg_gateway.specs.Generations.{Settled, is_current, is_opening, keyed}
-use Rattle.sg_gateway.specs.Runs.{Turn, turn_of, turns_from}
-use Rattle.sg_gateway.specs.Signals.{Answered, Answer, answer_to, answered, in_old, offering_side, tells_answer}
+use Rattle.sg_gateway.proofs.TurnByTurn.{kept_before}
+use Rattle.sg_gateway.specs.Generations.{keyed}
+use Rattle.sg_gateway.specs.Runs.{Turn, turn_of}
+use Rattle.sg_gateway.specs.Signals.{Answered, answer_to}
 use Rattle.sg_gateway.specs.Step.{Event, step}
 use Rattle.sg_gateway.specs.World.{Call, World, call_of, empty, same_id}
 use Rattle.sg_conduct.specs.Drawn.{AnswerDraws, AreDrawn, IsDrawn, TellsDrawn, IsForAnswer, IsForOffer, IsOfferOf, OwnKeysAreDrawn, SealsUnder}
@@ -263,17 +261,8 @@ own_answer slot o drawn noise text g ls keyed offered e =
 seals_under : (P : ℕ → List Master → Type 0) (c d : Call) (o : Offer) (noise text : List ℕ) (a : IsAnswered c d o noise text) → AllAt (λ k (x : Medium). StreamHas P k x.to_peer) 0 a.agreement.media → SealsUnder P d
 seals_under P c d o noise text a all =
     let new : List Session = sessions_from c.serial c.generations 0 a.number a.agreement.media in
-    let old : List Session = filter (stays c) c.sessions in
     All-from_recursion (λ s. s.name.owner.generation + 1 ≡ d.generations → Has P s) d.sessions
-    (subst (AllByRecursion (λ s. s.name.owner.generation + 1 ≡ d.generations → Has P s)) (sym a.sessions)
-    (each_append (λ s. s.name.owner.generation + 1 ≡ d.generations → Has P s) new old
-    (each_weaker (Has P) (λ s. s.name.owner.generation + 1 ≡ d.generations → Has P s) (λ s is at. is) new (sessions_have P c.serial c.generations 0 a.number a.agreement.media all))
-    (each_weaker (λ s. (stays c s ≡ true) × Any (λ x. x ≡ s) c.sessions) (λ s. s.name.owner.generation + 1 ≡ d.generations → Has P s)
-    (λ s p at.
-    let old_one : s.name.owner.generation + 1 ≡ c.generations = eqb-true _ _ (and_parts (is_opening s) (is_current c s) p.0).1 in
-    let more = a.generations in
-    absurd (omega (arith, old_one, at, more)))
-    old (kept_by (stays c) c.sessions))))
+    (of_generation c d new (Has P) a.sessions a.generations (sessions_have P c.serial c.generations 0 a.number a.agreement.media all))
 
 -- the message of an offer
 find_held : (peer : List ℕ) (pairs : List Pair) (pair : Pair) → find (is_with peer) pairs ≡ Some pair → Any (λ p. p ≡ pair) pairs × (is_with peer pair ≡ true)
@@ -342,21 +331,8 @@ module _ (ts : List Turn) (w : World) (made : WereMade ts w) (id : CallId) (nois
         draws u id by.way by.noise c d o noise text by refl refl lines a,
       )
 
-  abbrev Draws : Answer → Type 0
-  Draws a = (d : Call) → call_of a.world id ≡ Some d → d.generations ≡ c.generations + 1 → IsDrawnIn d
-
-  settled_draws : (q : Result Settled Refusal) → answered_to w.moment w.books c noise text (Some o) ≡ q → Draws (in_old w id (tells_answer id (offering_side c.offer)) q)
-  settled_draws (Err cause) e = λ d now more. let same = ap (λ (x : Call). x.generations) (some_is c d (sym at ∙ now)) in absurd (omega (arith, same, more))
-  settled_draws (Ok r) e = λ d now more.
-      let a = answer_is w.moment w.books c noise text o r e in
-      let here = found_with id c r.call w.calls a.serial (subst (λ i. same_id i id ≡ true) (sym a.id) (id_found id c w.calls at)) at in
-      subst IsDrawnIn (some_is r.call d (sym here ∙ now)) (any_weaker (MadeBy id o) _ (λ u by. of_turn r.call a u by) ts was)
-
-  answer_draws : Draws (answer_to w (Answered id noise text))
-  answer_draws =
-      subst (λ x. Draws (answered w id noise text x)) (sym at)
-      (subst (λ x. Draws (in_old w id (tells_answer id (offering_side c.offer)) (answered_to w.moment w.books c noise text x))) (sym open_one)
-      (settled_draws (answered_to w.moment w.books c noise text (Some o)) refl))
+  answer_draws : (d : Call) → call_of (answer_to w (Answered id noise text)).world id ≡ Some d → d.generations ≡ c.generations + 1 → IsDrawnIn d
+  answer_draws d now more = any_weaker (MadeBy id o) _ (λ u by. of_turn d (answered_now w id noise text c o at open_one d now more) u by) ts was
 
 -- ---- a run
 
@@ -365,17 +341,5 @@ turn_draws ts w made e id noise text c d o same at open_one =
     subst (λ (e : Event). call_of (step w e).world id ≡ Some d → d.generations ≡ c.generations + 1 → Any (λ u. (x : IsOfferOf u id o) × AreDrawn u id x.way x.drawn o.description noise d) ts)
     (sym same) (answer_draws ts w made id noise text c o at open_one d)
 
-run_draws : (ts : List Turn) (w : World) (es : List Event) → WereMade ts w → (earlier later : List Turn) (t : Turn) → turns_from w es ≡ earlier ++ t ∷ later → AnswerDraws (ts ++ earlier) t
-run_draws ts w [] made [] later t e = absurd cc
-run_draws ts w [] made (u ∷ earlier) later t e = absurd cc
-run_draws ts w (x ∷ es) made [] later t e =
-    let same : turn_of w x ≡ t = cc in
-    subst (AnswerDraws (ts ++ [])) same (subst (λ ts. AnswerDraws ts (turn_of w x)) (sym (append-nil ts)) (turn_draws ts w made x))
-run_draws ts w (x ∷ es) made (u ∷ earlier) later t e =
-    let same : turn_of w x ≡ u = cc in
-    let rest : turns_from (step w x).world es ≡ earlier ++ t ∷ later = cc in
-    subst (λ ts. AnswerDraws ts t) (append_assoc ts (turn_of w x ∷ []) earlier ∙ ap (λ u. ts ++ u ∷ earlier) same)
-    (run_draws (ts ++ turn_of w x ∷ []) (step w x).world es (event_made ts w made x) earlier later t rest)
-
 pub own_keys_drawn : (events : List Event) → OwnKeysAreDrawn events
-own_keys_drawn events = run_draws [] empty events tt
+own_keys_drawn events = kept_before WereMade event_made AnswerDraws turn_draws [] empty events tt

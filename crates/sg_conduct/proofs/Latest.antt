@@ -1,24 +1,16 @@
 -- No turn in which a call was heard is later than the call's moment.
-use Rattle.std.proofs.Common.{◌≡◌, ◌⊎◌, inl, inr, ℕ, ◌≤◌, Bool, true, false, cond, not, List, [], ◌∷◌, ◌++◌, length, map, Option, Some, None, Result, Ok, Err, refl, sym, ap, ◌∙◌, subst, arith, append_assoc, append-nil, eqb, ltb, eq-eqb}
-use Rattle.std.proofs.lemmas.Bool.{false≢true, ltb-false}
+use Rattle.std.proofs.Common.{◌≡◌, ◌⊎◌, inl, inr, ℕ, ◌≤◌, Bool, true, false, cond, not, List, [], ◌∷◌, ◌++◌, map, Option, Some, None, refl, sym, ap, ◌∙◌, subst, arith, append_assoc, append-nil, eqb, eq-eqb}
+use Rattle.std.proofs.lemmas.Bool.{false≢true}
 use Rattle.std.specs.List.{AllByRecursion, Any, filter}
-use Rattle.std.specs.Option.{is_some}
-use Rattle.sg_agreement.specs.Manual.{ManualCall, manual_medium}
-use Rattle.sg_agreement.specs.Sides.{other_side, side_of}
-use Rattle.sg_agreement.specs.declared.ways.Way.{Way}
 use Rattle.sg_base.proofs.Cases.{none_some, some_is}
 use Rattle.sg_base.specs.declared.addresses.Address.{Address}
 use Rattle.sg_base.specs.declared.addresses.CallId.{CallId}
 use Rattle.sg_base.specs.declared.faults.DropCause.{DropCause}
 use Rattle.sg_base.specs.declared.faults.Refusal.{Refusal}
-use Rattle.sg_base.specs.declared.faults.Refusal.TheVariants.{CallKnown, TableFull}
-use Rattle.sg_outcome.specs.declared.outcomes.Outcome.{Outcome}
-use Rattle.sg_psk.specs.Pairs.{has_pair}
 use Rattle.sg_session.proofs.Lists.{any_cases, any_here, any_none, both, each_append, each_at_this, each_filter, each_map, each_weaker}
 use Rattle.sg_session.specs.Opening.{Taken}
-use Rattle.sg_session.specs.Sealing.{datagram_of}
 use Rattle.sg_session.specs.Session.{Session}
-use Rattle.sg_gateway.proofs.Arrivals.{Arrival, Is, IsDrop, IsOpening, IsSeal, arrival, kept_by}
+use Rattle.sg_gateway.proofs.Arrivals.{Is, kept_by}
 use Rattle.sg_gateway.proofs.ByTexts.{same_call_id}
 use Rattle.sg_gateway.proofs.Kept.{CallKept, IsKept, SessionKept}
 use Rattle.sg_gateway.proofs.Ordered.{not_found}
@@ -26,21 +18,20 @@ use Rattle.sg_gateway.proofs.Pairs.{Pairs}
 use Rattle.sg_gateway.proofs.Reached.{Anything}
 use Rattle.sg_gateway.proofs.Rested.{arrived_moment}
 use Rattle.sg_gateway.proofs.Signals.{each_and_call, found, is_found}
+use Rattle.sg_gateway.proofs.StepCases.{each_datagram, each_signal}
 use Rattle.sg_gateway.proofs.Taken.{same_id_itself}
-use Rattle.sg_gateway.specs.CallSignals.{answered_to, call_at_tick, drops_earlier, is_idle, keyed_manually, offered_in, rejected_in, without_earlier}
-use Rattle.sg_gateway.specs.Datagrams.{Drops, Entry, Given, arrived_at, arrived_in, call_after, given_to, put}
+use Rattle.sg_gateway.specs.CallSignals.{call_at_tick, drops_earlier, is_idle, without_earlier}
+use Rattle.sg_gateway.specs.Datagrams.{Entry, call_after, given_to, put, Happening, dropped}
 use Rattle.sg_gateway.specs.Early.{named}
-use Rattle.sg_gateway.specs.Generations.{Settled}
 use Rattle.sg_gateway.specs.Octets.{Octets}
 use Rattle.sg_gateway.specs.Order.{IsBefore}
 use Rattle.sg_gateway.specs.Ports.{call_at, has_port}
 use Rattle.sg_gateway.specs.Refusing.{IsRefusal}
 use Rattle.sg_gateway.specs.Runs.{Turn, after_turn, turn_of, turns_from, world_after}
-use Rattle.sg_gateway.specs.Signals.{Signal, Tick, Psk, Manual, Offered, Answered, Reject, Bye, Answer, answer_to, answered, in_new, in_old, left, new_call, offered_to, offering_side, refused, rejected, rejected_to, tells_answer, tells_live, tells_text}
+use Rattle.sg_gateway.specs.Signals.{Signal, Answer, answer_to, refused}
 use Rattle.sg_gateway.specs.Step.{Event, Signalled, Datagram, step}
-use Rattle.sg_gateway.specs.World.{Call, World, and_call, call_of, is_full, same_id, with_call, without_call}
-use Rattle.sg_conduct.proofs.Heard.{answer_now, manual_now, offer_now, reject_now}
-use Rattle.sg_conduct.proofs.Lists.{each_of_list}
+use Rattle.sg_gateway.specs.World.{Call, World, and_call, call_of, same_id, with_call, without_call}
+use Rattle.sg_gateway.proofs.Lists.{each_of_list}
 use Rattle.sg_conduct.specs.Heard.{Hears, IsLatest, IsNamedIn}
 
 -- ---- one turn
@@ -122,15 +113,6 @@ module _ (w : World) (before : Pairs IsBefore w.calls) (signal : Signal) where
       false≢true (sym (each_at_this (λ y. same_id y.id id ≡ false) w.calls x (not_found (λ y. same_id y.id id) w.calls none) here)
       ∙ subst (λ i. same_id i id ≡ true) same (same_id_itself id))))
 
-  new_good : (id : CallId) (told : Settled → List Outcome) (q : Result Settled Refusal) → named signal ≡ Some id → call_of w id ≡ None → ((r : Settled) → q ≡ Ok r → r.call.moment ≡ w.moment) → Good (in_new w id told q)
-  new_good id told (Err cause) names none moment = refused_good (Some id) cause
-  new_good id told (Ok r) names none moment = λ same. come_in id r.call names none (moment r refl)
-
-  old_good : (id : CallId) (c : Call) (told : Settled → List Outcome) (q : Result Settled Refusal) → named signal ≡ Some id → call_of w id ≡ Some c
-      → ((r : Settled) → q ≡ Ok r → (r.call.serial ≡ c.serial) × (r.call.moment ≡ w.moment)) → Good (in_old w id told q)
-  old_good id c told (Err cause) names at is = refused_good (Some id) cause
-  old_good id c told (Ok r) names at is = λ same. put_in id c r.call names at (is r refl).0 (is r refl).1
-
   -- ---- each signal
 
   tick_good : (now : ℕ) → named signal ≡ None → Each (map (call_at_tick now) (filter (λ c. not (is_idle now c)) w.calls))
@@ -143,48 +125,19 @@ module _ (w : World) (before : Pairs IsBefore w.calls) (signal : Signal) where
   as_before : named signal ≡ None → Each w.calls
   as_before none = none_heard (λ x here. nameless none x)
 
-  offered_good : (id : CallId) (way : Way) (noise text : List ℕ) → named signal ≡ Some id → (o : Option Call) → call_of w id ≡ o → Good (offered_to w id way noise text o)
-  offered_good id way noise text names None none = both Good (is_full w) _ _ (refused_good _ _)
-      (new_good id (tells_text id (other_side (side_of way))) (offered_in w.moment w.books (new_call w id) way noise text) names none
-      (λ r e. (offer_now w.moment w.books (new_call w id) way noise text r e).moment))
-  offered_good id way noise text names (Some c) at = old_good id c (tells_text id (other_side (side_of way))) (offered_in w.moment w.books c way noise text) names at
-      (λ r e. let is = offer_now w.moment w.books c way noise text r e in (is.serial, is.moment))
-
-  answered_good : (id : CallId) (noise text : List ℕ) → named signal ≡ Some id → (o : Option Call) → call_of w id ≡ o → Good (answered w id noise text o)
-  answered_good id noise text names None at = refused_good _ _
-  answered_good id noise text names (Some c) at = old_good id c (tells_answer id (offering_side c.offer)) (answered_to w.moment w.books c noise text c.offer) names at
-      (λ r e. let is = answer_now w.moment w.books c noise text c.offer r e in (is.serial, is.moment))
-
-  reject_good : (id : CallId) (c : Call) → named signal ≡ Some id → call_of w id ≡ Some c → (q : Result (Option Call) Refusal) → rejected_in w.moment c ≡ q → Good (rejected_to w c q)
-  reject_good id c names at (Err cause) e = refused_good _ _
-  reject_good id c names at (Ok None) e = λ same. taken_out id c names at
-  reject_good id c names at (Ok (Some d)) e = λ same.
-      let next : record c { offer = None; moment = w.moment } ≡ d = reject_now w.moment c d e in
-      put_in id c d names at (ap (λ (c : Call). c.serial) (sym next)) (ap (λ (c : Call). c.moment) (sym next))
-
-  rejected_good : (id : CallId) → named signal ≡ Some id → (o : Option Call) → call_of w id ≡ o → Good (rejected w id o)
-  rejected_good id names None at = refused_good _ _
-  rejected_good id names (Some c) at = reject_good id c names at (rejected_in w.moment c) refl
-
-  left_good : (id : CallId) → named signal ≡ Some id → (o : Option Call) → call_of w id ≡ o → Good (left w id o)
-  left_good id names None at = refused_good _ _
-  left_good id names (Some c) at = λ same. taken_out id c names at
-
-  manual_good : (h : ManualCall) → named signal ≡ Some h.id → (o : Option Call) → call_of w h.id ≡ o → Good (cond (is_some o) (refused w (Some h.id) CallKnown)
-      (cond (is_full w) (refused w (Some h.id) TableFull) (in_new w h.id (tells_live h.id) (keyed_manually w.moment w.books (new_call w h.id) (manual_medium h)))))
-  manual_good h names (Some c) at = refused_good _ _
-  manual_good h names None none = both Good (is_full w) _ _ (refused_good _ _)
-      (new_good h.id (tells_live h.id) (keyed_manually w.moment w.books (new_call w h.id) (manual_medium h)) names none (λ r e. (manual_now w.moment w.books (new_call w h.id) (manual_medium h) r e).moment))
-
-signal_settles : (w : World) → Pairs IsBefore w.calls → (signal : Signal) → AllByRecursion (Settles (turn_of w (Signalled signal))) (answer_to w signal).world.calls
-signal_settles w before (Tick now) = both (Good w before (Tick now)) (ltb now w.moment) _ _ (refused_good w before (Tick now) _ _) (λ same. tick_good w before (Tick now) now refl) refl
-signal_settles w before (Psk p) = both (Good w before (Psk p)) (has_pair w.books.pairs p.own p.peer) _ _ (refused_good w before (Psk p) _ _)
-    (both (Good w before (Psk p)) (ltb (length w.books.pairs) 64) _ _ (λ same. as_before w before (Psk p) refl) (refused_good w before (Psk p) _ _)) refl
-signal_settles w before (Manual h) = manual_good w before (Manual h) h refl (call_of w h.id) refl refl
-signal_settles w before (Offered id way noise text) = offered_good w before (Offered id way noise text) id way noise text refl (call_of w id) refl refl
-signal_settles w before (Answered id noise text) = answered_good w before (Answered id noise text) id noise text refl (call_of w id) refl refl
-signal_settles w before (Reject id) = rejected_good w before (Reject id) id refl (call_of w id) refl refl
-signal_settles w before (Bye id) = left_good w before (Bye id) id refl (call_of w id) refl refl
+  signal_settles : Each (answer_to w signal).world.calls
+  signal_settles = each_signal w (λ s a. s ≡ signal → answer_to w signal ≡ a → Each a.world.calls) (record {
+    refuses = λ s id cause this same. refused_good id cause same;
+    ticks = λ now on this same. tick_good now (ap named (sym this));
+    pairs = λ p this same. as_before (ap named (sym this));
+    keys = λ h none room ring is this same. come_in h.id _ (ap named (sym this)) none refl;
+    begins = λ id way noise text none room a agreed this same. come_in id _ (ap named (sym this)) none refl;
+    offers = λ id way noise text c at a agreed this same. put_in id c _ (ap named (sym this)) at refl refl;
+    answers = λ id noise text c at o is_open g agreed ring is this same. put_in id c _ (ap named (sym this)) at refl refl;
+    rejects = λ id c at none this same. taken_out id c (ap named (sym this)) at;
+    closes = λ id c at this same. put_in id c _ (ap named (sym this)) at refl refl;
+    leaves = λ id c at this same. taken_out id c (ap named (sym this)) at;
+  }) signal refl refl
 
 -- ---- a datagram
 
@@ -197,101 +150,54 @@ module _ (past : List Entry) (w : World) (kept : IsKept Anything past w) (port :
   entry_of d (there, inl (signal, same, names, taken)) = absurd cc
   entry_of d (there, inr any) = any
 
-  module _ (c : Call) (at : call_at w port ≡ Some c) where
-    abbrev Gives : Given → Type 0
-    Gives g = step w (Datagram port from octets) ≡ given_to w port g → AllByRecursion (Settles t) (given_to w port g).world.calls
+  -- what the turn gives
+  abbrev Gives : Happening → Type 0
+  Gives h = step w (Datagram port from octets) ≡ h → AllByRecursion (Settles t) h.world.calls
 
-    put_settles : (s : Session) (x : Taken) (out : List ℕ) → Any (Is s) c.sessions → Gives (put w.moment c s x out)
-    put_settles s x out held same =
-        let of_call : s.name.owner.call ≡ c.serial = (each_at_this (SessionKept Anything past w.books.ring c.serial c.generations) c.sessions s
-        (found (CallKept Anything past w.books.ring w.made) (has_port port) w.calls c at kept.calls).sessions held).of_call in
-        each_map (λ y. Any (λ z. z ≡ y) w.calls) (Settles t) (λ y. cond (eqb y.serial c.serial) (call_after w.moment c s x) y) (λ y here. go of_call y here (eqb y.serial c.serial) refl) w.calls (each_of_list _ w.calls (λ y here. here))
-      where
-        go : s.name.owner.call ≡ c.serial → (y : Call) → Any (λ z. z ≡ y) w.calls → (b : Bool) → eqb y.serial c.serial ≡ b → Settles t (cond b (call_after w.moment c s x) y)
-        go of_call y here true is = inl refl
-        go of_call y here false is = inr (
-          stays_from w y here,
-          λ heard. elim (any_cases (λ (e : Entry). e.session.owner.call ≡ y.serial) _ [] (subst (λ h. Any (λ (e : Entry). e.session.owner.call ≡ y.serial) h.entries) same (entry_of y heard))) [
-            | inl one ↦ not_same y.serial c.serial is (sym one ∙ of_call)
-            | inr none ↦ any_none (λ (e : Entry). e.session.owner.call ≡ y.serial) none
-          ],
-        )
+  put_settles : (c : Call) → call_at w port ≡ Some c → (s : Session) (x : Taken) (out : List ℕ) → Any (Is s) c.sessions → Gives (given_to w port (put w.moment c s x out))
+  put_settles c at s x out held same =
+      let of_call : s.name.owner.call ≡ c.serial = (each_at_this (SessionKept Anything past w.books.ring c.serial c.generations) c.sessions s
+      (found (CallKept Anything past w.books.ring w.made) (has_port port) w.calls c at kept.calls).sessions held).of_call in
+      each_map (λ y. Any (λ z. z ≡ y) w.calls) (Settles t) (λ y. cond (eqb y.serial c.serial) (call_after w.moment c s x) y) (λ y here. go of_call y here (eqb y.serial c.serial) refl) w.calls (each_of_list _ w.calls (λ y here. here))
+    where
+      go : s.name.owner.call ≡ c.serial → (y : Call) → Any (λ z. z ≡ y) w.calls → (b : Bool) → eqb y.serial c.serial ≡ b → Settles t (cond b (call_after w.moment c s x) y)
+      go of_call y here true is = inl refl
+      go of_call y here false is = inr (
+        stays_from w y here,
+        λ heard. elim (any_cases (λ (e : Entry). e.session.owner.call ≡ y.serial) _ [] (subst (λ h. Any (λ (e : Entry). e.session.owner.call ≡ y.serial) h.entries) same (entry_of y heard))) [
+          | inl one ↦ not_same y.serial c.serial is (sym one ∙ of_call)
+          | inr none ↦ any_none (λ (e : Entry). e.session.owner.call ≡ y.serial) none
+        ],
+      )
 
-    dropped_settles : (cause : DropCause) → Gives (Drops cause)
-    dropped_settles cause same = each_of_list (Settles t) w.calls (λ y here. inr (
-      stays_from w y here,
-      λ heard.
-          any_none (λ (e : Entry). e.session.owner.call ≡ y.serial) (subst (λ h. Any (λ (e : Entry). e.session.owner.call ≡ y.serial) h.entries) same (entry_of y heard)),
-    ))
-
-    given_settles : (g : Given) → Arrival w.moment port octets.items c g → Gives g
-    given_settles g (IsDrop cause is) = subst Gives (sym is) (dropped_settles cause)
-    given_settles g (IsOpening o) = subst Gives (sym o.gives) (put_settles o.session o.taken o.taken.done.packet o.is_held)
-    given_settles g (IsSeal o) = subst Gives (sym o.gives) (put_settles o.session o.taken (datagram_of o.session o.taken) o.is_held)
-
-  datagram_settles : (o : Option Call) → call_at w port ≡ o → step w (Datagram port from octets) ≡ arrived_at w port from octets.items o → AllByRecursion (Settles t) (arrived_at w port from octets.items o).world.calls
-  datagram_settles None at same = each_of_list (Settles t) w.calls (λ y here. inr (
+  dropped_settles : (cause : DropCause) → Gives (dropped w port cause)
+  dropped_settles cause same = each_of_list (Settles t) w.calls (λ y here. inr (
     stays_from w y here,
     λ heard.
         any_none (λ (e : Entry). e.session.owner.call ≡ y.serial) (subst (λ h. Any (λ (e : Entry). e.session.owner.call ≡ y.serial) h.entries) same (entry_of y heard)),
   ))
-  datagram_settles (Some c) at same = given_settles c at (arrived_in w.moment port from octets.items c) (arrival w.moment port from octets.items c) same
 
 pub event_settles : (past : List Entry) (w : World) → IsKept Anything past w → Pairs IsBefore w.calls → (e : Event) → AllByRecursion (Settles (turn_of w e)) (step w e).world.calls
 event_settles past w kept before (Signalled signal) = signal_settles w before signal
-event_settles past w kept before (Datagram port from octets) = datagram_settles past w kept port from octets (call_at w port) refl refl
+event_settles past w kept before (Datagram port from octets) = each_datagram w port (Gives past w kept port from octets)
+    (record { drops = dropped_settles past w kept port from octets; puts = put_settles past w kept port from octets }) from octets.items refl
 
 -- ---- moments rise
 
-module _ (w : World) where
-  abbrev Rises : Answer → Type 0
-  Rises a = w.moment ≤ a.world.moment
-
-  same_moment : w.moment ≤ w.moment
-  same_moment = omega arith
-
-  new_rises : (id : CallId) (told : Settled → List Outcome) (q : Result Settled Refusal) → Rises (in_new w id told q)
-  new_rises id told (Err cause) = same_moment
-  new_rises id told (Ok r) = same_moment
-
-  old_rises : (id : CallId) (told : Settled → List Outcome) (q : Result Settled Refusal) → Rises (in_old w id told q)
-  old_rises id told (Err cause) = same_moment
-  old_rises id told (Ok r) = same_moment
-
-  tick_rises : (now : ℕ) (b : Bool) (o a : Answer) → ltb now w.moment ≡ b → o.world.moment ≡ w.moment → a.world.moment ≡ now → Rises (cond b o a)
-  tick_rises now true o a is back on = omega (arith, back)
-  tick_rises now false o a is back on = let le = ltb-false now w.moment is in omega (arith, on, le)
-
-  reject_rises : (c : Call) (q : Result (Option Call) Refusal) → Rises (rejected_to w c q)
-  reject_rises c (Err cause) = same_moment
-  reject_rises c (Ok None) = same_moment
-  reject_rises c (Ok (Some d)) = same_moment
-
-  offered_rises : (id : CallId) (way : Way) (noise text : List ℕ) (o : Option Call) → Rises (offered_to w id way noise text o)
-  offered_rises id way noise text None = both Rises (is_full w) _ _ same_moment (new_rises id (tells_text id (other_side (side_of way))) _)
-  offered_rises id way noise text (Some c) = old_rises id (tells_text id (other_side (side_of way))) _
-
-  answered_rises : (id : CallId) (noise text : List ℕ) (o : Option Call) → Rises (answered w id noise text o)
-  answered_rises id noise text None = same_moment
-  answered_rises id noise text (Some c) = old_rises id (tells_answer id (offering_side c.offer)) _
-
-  rejected_rises : (id : CallId) (o : Option Call) → Rises (rejected w id o)
-  rejected_rises id None = same_moment
-  rejected_rises id (Some c) = reject_rises c (rejected_in w.moment c)
-
-  left_rises : (id : CallId) (o : Option Call) → Rises (left w id o)
-  left_rises id None = same_moment
-  left_rises id (Some c) = same_moment
-
-  rises : (e : Event) → w.moment ≤ (step w e).world.moment
-  rises (Signalled (Tick now)) = tick_rises now (ltb now w.moment) _ _ refl refl refl
-  rises (Signalled (Psk p)) = both Rises (has_pair w.books.pairs p.own p.peer) _ _ same_moment (both Rises (ltb (length w.books.pairs) 64) _ _ same_moment same_moment)
-  rises (Signalled (Manual h)) = both Rises (is_some (call_of w h.id)) _ _ same_moment (both Rises (is_full w) _ _ same_moment (new_rises h.id (tells_live h.id) _))
-  rises (Signalled (Offered id way noise text)) = offered_rises id way noise text (call_of w id)
-  rises (Signalled (Answered id noise text)) = answered_rises id noise text (call_of w id)
-  rises (Signalled (Reject id)) = rejected_rises id (call_of w id)
-  rises (Signalled (Bye id)) = left_rises id (call_of w id)
-  rises (Datagram port from octets) = let same = arrived_moment w (Datagram port from octets) port from octets refl in omega (arith, same)
+rises : (w : World) (e : Event) → w.moment ≤ (step w e).world.moment
+rises w (Signalled signal) = each_signal w (λ signal a. w.moment ≤ a.world.moment) (record {
+  refuses = λ signal id cause. omega arith;
+  ticks = λ now on. on;
+  pairs = λ p. omega arith;
+  keys = λ h none room ring is. omega arith;
+  begins = λ id way noise text none room a agreed. omega arith;
+  offers = λ id way noise text c at a agreed. omega arith;
+  answers = λ id noise text c at o is_open g agreed ring is. omega arith;
+  rejects = λ id c at none. omega arith;
+  closes = λ id c at. omega arith;
+  leaves = λ id c at. omega arith;
+}) signal
+rises w (Datagram port from octets) = let same = arrived_moment w (Datagram port from octets) port from octets refl in omega (arith, same)
 
 -- ---- a run
 

@@ -5,7 +5,6 @@ mod Drawn
 mod Forth
 pub mod Heard
 mod Latest
-pub mod Lists
 mod Manual
 mod Offers
 mod Others

@@ -1,7 +1,7 @@
 -- An answer makes no session of a medium that takes no part.
-use Rattle.std.proofs.Common.{◌≡◌, ℕ, ◌+◌, ◌<◌, Bool, true, false, cond, ◌&&◌, ltb, List, [], ◌∷◌, Option, Some, None, Result, Ok, Err, refl, sym, ap, ◌∙◌, subst, arith}
-use Rattle.std.proofs.lemmas.Bool.{and_parts, eqb-true, ltb-true}
-use Rattle.std.specs.List.{AllByRecursion, filter}
+use Rattle.std.proofs.Common.{◌≡◌, ℕ, ◌+◌, ◌<◌, Bool, true, false, cond, ◌&&◌, ltb, List, [], ◌∷◌, Option, Some, None, Ok, refl, sym, ap, ◌∙◌, subst, arith}
+use Rattle.std.proofs.lemmas.Bool.{and_parts, ltb-true}
+use Rattle.std.specs.List.{AllByRecursion}
 use Rattle.std.specs.Option.{is_some, option_map}
 use Rattle.sg_agreement.specs.Answers.{AgreedAnswer, agreed_answer}
 use Rattle.sg_agreement.specs.Generations.{sessions_from, stream_session, stream_sessions}
@@ -15,24 +15,20 @@ use Rattle.sg_base.specs.declared.addresses.CallId.{CallId}
 use Rattle.sg_base.specs.declared.addresses.Kind.TheVariants.{Rtcp}
 use Rattle.sg_base.specs.declared.addresses.Side.{Side}
 use Rattle.sg_base.specs.declared.addresses.Side.TheVariants.{Secure, Plain}
-use Rattle.sg_base.specs.declared.faults.Refusal.{Refusal}
 use Rattle.sg_sdp.specs.Reading.{description_of}
 use Rattle.sg_sdp.specs.declared.medium.Medium as descriptions
 use Rattle.sg_sdp.specs.declared.sdp.Sdp.{Sdp}
 use Rattle.sg_session.proofs.Inversions.{ok_is}
-use Rattle.sg_session.proofs.Lists.{each_append, each_weaker}
+use Rattle.sg_session.proofs.Lists.{each_weaker}
 use Rattle.sg_session.specs.Session.{Key, Session}
 use Rattle.sg_session.specs.declared.names.Owner.{Owner}
-use Rattle.sg_gateway.proofs.Addressed.{HoldsFrom, IsAnswered, OfEach, answer_is, each_from}
+use Rattle.sg_gateway.proofs.Addressed.{HoldsFrom, OfEach, answered_now, each_from}
 use Rattle.sg_gateway.proofs.Agreements.{Agreements}
-use Rattle.sg_gateway.proofs.Arrivals.{kept_by}
-use Rattle.sg_gateway.proofs.CarriedOut.{found_with, id_found, stays}
+use Rattle.sg_gateway.proofs.CarriedOut.{of_generation}
 use Rattle.sg_gateway.proofs.Kept.{IsOffered, WasOffered}
 use Rattle.sg_gateway.proofs.Signals.{found}
 use Rattle.sg_gateway.specs.Addressed.{IsMediumAt}
-use Rattle.sg_gateway.specs.CallSignals.{answered_to}
-use Rattle.sg_gateway.specs.Generations.{Settled, is_current, is_opening}
-use Rattle.sg_gateway.specs.Signals.{Answer, Answered, answer_to, answered, in_old, offering_side, tells_answer}
+use Rattle.sg_gateway.specs.Signals.{Answered, answer_to, answered}
 use Rattle.sg_gateway.specs.World.{Call, World, call_of, same_id}
 use Rattle.sg_conduct.proofs.Offers.{active_takes}
 use Rattle.sg_conduct.proofs.Present.{agreement_is}
@@ -129,36 +125,11 @@ module _ (laws : Agreements) (w : World) (offered_are : AllByRecursion (λ c. Is
   was : WasOffered o
   was = subst IsOffered open_one (found (λ c. IsOffered c.offer) (λ x. same_id x.id id) w.calls c is offered_are)
 
-  no_others : (d : Call) → d.generations ≡ c.generations + 1 → IsAnswered c d o noise text → HasNoOthers o answer d
-  no_others d more a =
+  pub answer_alone : (d : Call) → call_of (answer_to w (Answered id noise text)).world id ≡ Some d → d.generations ≡ c.generations + 1 → HasNoOthers o answer d
+  answer_alone d at more =
+      let a = answered_now w id noise text c o is open_one d at more in
       let are = answer_partners laws c.slot o noise text a.agreement answer was a.agreed read in
       let new : List Session = sessions_from c.serial c.generations 0 a.number a.agreement.media in
-      subst (AllByRecursion (λ s. s.name.owner.generation + 1 ≡ d.generations → IsOfPartners o.side o.description.media answer.media s)) (sym a.sessions)
-      (each_append _ new (filter (stays c) c.sessions)
-      (each_weaker (HoldsFrom (OfPartner o.side) 0 o.description.media answer.media) _ (λ s p e. from_first o.side o.description.media answer.media s p) new
+      of_generation c d new (IsOfPartners o.side o.description.media answer.media) a.sessions more
+      (each_weaker (HoldsFrom (OfPartner o.side) 0 o.description.media answer.media) (IsOfPartners o.side o.description.media answer.media) (λ s p. from_first o.side o.description.media answer.media s p) new
       (each_from (OfPartner o.side) c.serial c.generations 0 a.number o.description.media answer.media a.agreement.media (each_partner o.side o.description.media answer.media a.agreement.media are)))
-      (each_weaker _ _ (λ s p e. absurd (earlier s p.0 e)) (filter (stays c) c.sessions) (kept_by (stays c) c.sessions)))
-    where
-      -- what stays is of the generation before
-      earlier : (s : Session) → stays c s ≡ true → s.name.owner.generation + 1 ≡ d.generations → ⊥
-      earlier s on e =
-          let p = and_parts (is_opening s) (is_current c s) on in
-          let current : s.name.owner.generation + 1 ≡ c.generations = eqb-true _ _ p.1 in
-          omega (arith, e, more, current)
-
-  abbrev NoOthers : Answer → Type 0
-  NoOthers a = (d : Call) → call_of a.world id ≡ Some d → d.generations ≡ c.generations + 1 → HasNoOthers o answer d
-
-  settled_alone : (q : Result Settled Refusal) → answered_to w.moment w.books c noise text (Some o) ≡ q → NoOthers (in_old w id (tells_answer id (offering_side c.offer)) q)
-  settled_alone (Err cause) e = λ d at more. let same = ap (λ (x : Call). x.generations) (some_is c d (sym is ∙ at)) in absurd (omega (arith, same, more))
-  settled_alone (Ok r) e = λ d at more.
-      let a = answer_is w.moment w.books c noise text o r e in
-      let here = found_with id c r.call w.calls a.serial (subst (λ i. same_id i id ≡ true) (sym a.id) (id_found id c w.calls is)) is in
-      let same : r.call ≡ d = some_is r.call d (sym here ∙ at) in
-      subst (HasNoOthers o answer) same (no_others r.call (ap (λ (x : Call). x.generations) same ∙ more) a)
-
-  pub answer_alone : NoOthers (answer_to w (Answered id noise text))
-  answer_alone =
-      subst (λ x. NoOthers (answered w id noise text x)) (sym is)
-      (subst (λ x. NoOthers (in_old w id (tells_answer id (offering_side c.offer)) (answered_to w.moment w.books c noise text x))) (sym open_one)
-      (settled_alone (answered_to w.moment w.books c noise text (Some o)) refl))

@@ -1,7 +1,7 @@
 -- The sessions of the media that take part.
-use Rattle.std.proofs.Common.{◌≡◌, inl, inr, ℕ, zero, suc, ◌+◌, ◌<◌, Bool, true, false, cond, not, ◌&&◌, eqb, ltb, List, [], ◌∷◌, ◌++◌, length, Option, Some, None, Result, Ok, Err, refl, sym, ap, ◌∙◌, subst, arith}
+use Rattle.std.proofs.Common.{◌≡◌, inl, inr, ℕ, zero, suc, ◌+◌, ◌<◌, Bool, true, false, cond, not, ◌&&◌, eqb, ltb, List, [], ◌∷◌, ◌++◌, length, Option, Some, None, Ok, refl, sym, ap, ◌∙◌, subst, arith}
 use Rattle.std.proofs.lemmas.Bool.{and_from, false≢true, lt-ltb, ne_eqb}
-use Rattle.std.specs.List.{AllByRecursion, Any, filter}
+use Rattle.std.specs.List.{AllByRecursion, filter}
 use Rattle.std.specs.Option.{is_some, option_map}
 use Rattle.sg_agreement.proofs.FewMedia.{described_is}
 use Rattle.sg_agreement.specs.Answers.{AgreedAnswer, accepted_answer, agreed_answer, answered_by}
@@ -12,12 +12,10 @@ use Rattle.sg_agreement.specs.Keying.{Offer}
 use Rattle.sg_agreement.specs.Media.{Medium, Stream}
 use Rattle.sg_agreement.specs.Sides.{actives_after, is_active, is_of_side, other_side}
 use Rattle.sg_agreement.specs.Sound.{AreAgreedWhereActive}
-use Rattle.sg_base.proofs.Cases.{some_is}
 use Rattle.sg_base.specs.declared.addresses.CallId.{CallId}
 use Rattle.sg_base.specs.declared.addresses.Kind.TheVariants.{Rtp, Rtcp}
 use Rattle.sg_base.specs.declared.addresses.Side.{Side}
 use Rattle.sg_base.specs.declared.addresses.Side.TheVariants.{Secure, Plain}
-use Rattle.sg_base.specs.declared.faults.Refusal.{Refusal}
 use Rattle.sg_sdp.specs.Reading.{description_of}
 use Rattle.sg_sdp.specs.declared.medium.Medium as descriptions
 use Rattle.sg_sdp.specs.declared.sdp.Sdp.{Sdp}
@@ -26,17 +24,15 @@ use Rattle.sg_session.proofs.Lists.{any_here, any_there}
 use Rattle.sg_session.specs.Session.{Key, Session}
 use Rattle.sg_session.specs.declared.names.Direction.{Direction}
 use Rattle.sg_session.specs.declared.names.Direction.TheVariants.{Opening, Sealing}
-use Rattle.sg_gateway.proofs.Addressed.{IsAnswered, answer_is}
+use Rattle.sg_gateway.proofs.Addressed.{IsAnswered, answered_now}
 use Rattle.sg_gateway.proofs.Agreements.{Agreements}
-use Rattle.sg_gateway.proofs.CarriedOut.{found_with, id_found, stays}
+use Rattle.sg_gateway.proofs.CarriedOut.{stays}
 use Rattle.sg_gateway.proofs.Kept.{IsOffered, WasOffered}
 use Rattle.sg_gateway.proofs.Signals.{found}
 use Rattle.sg_gateway.specs.Addressed.{IsMediumAt}
-use Rattle.sg_gateway.specs.CallSignals.{answered_to}
-use Rattle.sg_gateway.specs.Generations.{Settled}
-use Rattle.sg_gateway.specs.Signals.{Answered, Answer, answer_to, answered, in_old, offering_side, tells_answer}
+use Rattle.sg_gateway.specs.Signals.{Answered, answer_to, answered}
 use Rattle.sg_gateway.specs.World.{Call, World, call_of, same_id}
-use Rattle.sg_conduct.proofs.Lists.{any_first}
+use Rattle.sg_gateway.proofs.Lists.{any_first, any_second}
 use Rattle.sg_conduct.specs.Present.{HasProfileOf, HasSession, HasSessions, TakesPart}
 
 -- ---- what takes part is active
@@ -112,17 +108,13 @@ answer_there laws slot o noise text g answer was e read =
 
 -- ---- their sessions
 
-any_suffix : {X : Type 0} (P : X → Type 0) (xs ys : List X) → Any P ys → Any P (xs ++ ys)
-any_suffix P [] ys a = a
-any_suffix P (x ∷ xs) ys a = any_there P x (xs ++ ys) (any_suffix P xs ys a)
-
 module _ (call generation : ℕ) (a b : descriptions.Medium) where
   before : (medium : ℕ) (xs ys : List Session) → HasSessions ys call generation medium a b → HasSessions (xs ++ ys) call generation medium a b
   before medium xs ys is = record {
-    opens = any_suffix _ xs ys is.opens;
-    seals = any_suffix _ xs ys is.seals;
-    opens_rtcp = λ p q. any_suffix _ xs ys (is.opens_rtcp p q);
-    seals_rtcp = λ p q. any_suffix _ xs ys (is.seals_rtcp p q);
+    opens = any_second _ xs ys is.opens;
+    seals = any_second _ xs ys is.seals;
+    opens_rtcp = λ p q. any_second _ xs ys (is.opens_rtcp p q);
+    seals_rtcp = λ p q. any_second _ xs ys (is.seals_rtcp p q);
   }
 
   behind : (medium : ℕ) (xs ys : List Session) → HasSessions xs call generation medium a b → HasSessions (xs ++ ys) call generation medium a b
@@ -156,9 +148,9 @@ module _ (call generation : ℕ) (a b : descriptions.Medium) where
       let s = streams_have medium Sealing (numbered (n + length x.from_peer.keys) x.to_peer.keys) x.to_peer 1024 x rtcp in
       record {
         opens = any_first _ opening (sealing ++ later) o.0;
-        seals = any_suffix _ opening (sealing ++ later) (any_first _ sealing later s.0);
+        seals = any_second _ opening (sealing ++ later) (any_first _ sealing later s.0);
         opens_rtcp = λ p q. any_first _ opening (sealing ++ later) (o.1 p q);
-        seals_rtcp = λ p q. any_suffix _ opening (sealing ++ later) (any_first _ sealing later (s.1 p q));
+        seals_rtcp = λ p q. any_second _ opening (sealing ++ later) (any_first _ sealing later (s.1 p q));
       }
 
   module _ (side : Side) (takes : TakesPart side a) (answers : TakesPart (other_side side) b) where
@@ -211,18 +203,5 @@ module _ (laws : Agreements) (w : World) (offered_are : AllByRecursion (λ c. Is
       (subst (λ (k : ℕ). HasSessions new c.serial c.generations k m n) (let e : 0 + medium ≡ medium = omega arith in e)
       (sessions_there c.serial c.generations m n o.side takes answers o.description.media answer.media a.agreement.media are medium in_offer in_answer 0 a.number))))
 
-  abbrev Therein : Answer → Type 0
-  Therein a = (d : Call) → call_of a.world id ≡ Some d → d.generations ≡ c.generations + 1 → AreTherein o answer c.generations d
-
-  settled_therein : (q : Result Settled Refusal) → answered_to w.moment w.books c noise text (Some o) ≡ q → Therein (in_old w id (tells_answer id (offering_side c.offer)) q)
-  settled_therein (Err cause) e = λ d at more. let same = ap (λ (x : Call). x.generations) (some_is c d (sym is ∙ at)) in absurd (omega (arith, same, more))
-  settled_therein (Ok r) e = λ d at more.
-      let a = answer_is w.moment w.books c noise text o r e in
-      let here = found_with id c r.call w.calls a.serial (subst (λ i. same_id i id ≡ true) (sym a.id) (id_found id c w.calls is)) is in
-      subst (AreTherein o answer c.generations) (some_is r.call d (sym here ∙ at)) (therein r.call a)
-
-  pub answer_therein : Therein (answer_to w (Answered id noise text))
-  answer_therein =
-      subst (λ x. Therein (answered w id noise text x)) (sym is)
-      (subst (λ x. Therein (in_old w id (tells_answer id (offering_side c.offer)) (answered_to w.moment w.books c noise text x))) (sym open_one)
-      (settled_therein (answered_to w.moment w.books c noise text (Some o)) refl))
+  pub answer_therein : (d : Call) → call_of (answer_to w (Answered id noise text)).world id ≡ Some d → d.generations ≡ c.generations + 1 → AreTherein o answer c.generations d
+  answer_therein d at more = therein d (answered_now w id noise text c o is open_one d at more)

@@ -1,10 +1,9 @@
 -- The sessions of an answer's generation have the addresses of its texts.
-use Rattle.std.proofs.Common.{◌≡◌, ℕ, suc, ◌+◌, Bool, true, false, cond, List, [], ◌∷◌, ◌++◌, length, Option, Some, None, Result, Ok, Err, refl, sym, ap, ◌∙◌, subst, arith, eqb-true}
-use Rattle.std.proofs.lemmas.Bool.{and_parts}
+use Rattle.std.proofs.Common.{◌≡◌, ℕ, suc, ◌+◌, Bool, true, false, cond, List, [], ◌∷◌, ◌++◌, length, Option, Some, None, Ok, refl, sym, ap, ◌∙◌, subst, arith}
 use Rattle.std.proofs.lemmas.List.Elements.{All-from_recursion}
-use Rattle.std.specs.List.{All, AllByRecursion, Any, filter}
+use Rattle.std.specs.List.{All, AllByRecursion, filter}
 use Rattle.sg_agreement.specs.Answers.{AgreedAnswer, agreed_answer}
-use Rattle.sg_agreement.specs.Generations.{Generation, generation_of, keys_from, numbered, owner_at, sessions_from, stream_session, stream_sessions}
+use Rattle.sg_agreement.specs.Generations.{numbered, owner_at, sessions_from, stream_session, stream_sessions}
 use Rattle.sg_agreement.specs.Keying.{Offer}
 use Rattle.sg_agreement.specs.Media.{Medium, Stream}
 use Rattle.sg_base.proofs.Cases.{some_is}
@@ -12,26 +11,21 @@ use Rattle.sg_base.specs.declared.addresses.CallId.{CallId}
 use Rattle.sg_base.specs.declared.addresses.Kind.{Kind}
 use Rattle.sg_base.specs.declared.addresses.Kind.TheVariants.{Rtp, Rtcp}
 use Rattle.sg_base.specs.declared.addresses.Side.{Side}
-use Rattle.sg_base.specs.declared.faults.Refusal.{Refusal}
 use Rattle.sg_sdp.specs.Reading.{description_of}
 use Rattle.sg_sdp.specs.declared.medium.Medium as descriptions
 use Rattle.sg_sdp.specs.declared.sdp.Sdp.{Sdp}
-use Rattle.sg_session.proofs.Inversions.{after_ok_is, ok_is}
 use Rattle.sg_session.proofs.Lists.{each_append, each_weaker}
-use Rattle.sg_session.specs.Ring.{install}
 use Rattle.sg_session.specs.Session.{Key, Session}
 use Rattle.sg_session.specs.declared.names.Direction.TheVariants.{Opening, Sealing}
 use Rattle.sg_session.specs.declared.names.Owner.{Owner}
-use Rattle.sg_gateway.proofs.Arrivals.{kept_by}
 use Rattle.sg_gateway.proofs.Between.{AreBetween, answer_between}
-use Rattle.sg_gateway.proofs.CarriedOut.{found_with, id_found, stays}
+use Rattle.sg_gateway.proofs.CarriedOut.{found_with, id_found, stays, of_generation}
 use Rattle.sg_gateway.proofs.Kept.{IsOffered, WasOffered}
 use Rattle.sg_gateway.proofs.Signals.{found}
+use Rattle.sg_gateway.proofs.StepCases.{answer_of, renewed_by}
 use Rattle.sg_gateway.specs.Addressed.{IsBetween, IsMediumAt, HasAddresses}
-use Rattle.sg_gateway.specs.CallSignals.{answered_to}
-use Rattle.sg_gateway.specs.Generations.{Settled, is_current, is_opening, keyed}
-use Rattle.sg_gateway.specs.Signals.{Answered, Answer, answer_to, answered, in_old, offering_side, tells_answer}
-use Rattle.sg_gateway.specs.World.{Books, Call, World, call_of, same_id}
+use Rattle.sg_gateway.specs.Signals.{Answered, answer_to}
+use Rattle.sg_gateway.specs.World.{Call, World, call_of, same_id}
 
 -- ---- the sessions of media, from one on
 
@@ -146,21 +140,24 @@ pub record IsAnswered (c d : Call) (o : Offer) (noise text : List ℕ) : Type 0 
   pub number : ℕ
   pub sessions : d.sessions ≡ sessions_from c.serial c.generations 0 number agreement.media ++ filter (stays c) c.sessions
 
-pub answer_is : (now : ℕ) (books : Books) (c : Call) (noise text : List ℕ) (o : Offer) (r : Settled) → answered_to now books c noise text (Some o) ≡ Ok r → IsAnswered c r.call o noise text
-answer_is now books c noise text o r e =
-    let a = after_ok_is (agreed_answer c.slot o noise text) (λ a. keyed now books c a.text a.media) r e in
-    let b = after_ok_is (generation_of c.serial c.generations books.ring a.0.media) _ r a.2 in
-    let g = after_ok_is (install books.ring (keys_from c.serial c.generations 0 a.0.media)) _ b.0 b.1 in
-    let news : sessions_from c.serial c.generations 0 (length books.ring) a.0.media ≡ b.0.sessions = ap (λ (g : Generation). g.sessions) (ok_is _ b.0 g.2) in
-    subst (λ (r : Settled). IsAnswered c r.call o noise text) (ok_is _ r b.2) (record {
+-- a call that has one generation more after an answer was renewed by it
+pub answered_now : (w : World) (id : CallId) (noise text : List ℕ) (c : Call) (o : Offer) → call_of w id ≡ Some c → c.offer ≡ Some o
+    → (d : Call) → call_of (answer_to w (Answered id noise text)).world id ≡ Some d → d.generations ≡ c.generations + 1 → IsAnswered c d o noise text
+answered_now w id noise text c o is open_one d at more = answer_of w id noise text c (λ a. call_of a.world id ≡ Some d → IsAnswered c d o noise text)
+    (λ cause at. let same = ap (λ (x : Call). x.generations) (some_is c d (sym is ∙ at)) in absurd (omega (arith, same, more)))
+    (λ p is_open g agreed ring installs at.
+    let e : Call = (renewed_by w.moment w.books c g.text g.media ring).call in
+    let one : p ≡ o = some_is p o (sym is_open ∙ open_one) in
+    subst (λ (d : Call). IsAnswered c d o noise text) (some_is e d (sym (found_with id c e w.calls refl (id_found id c w.calls is) is) ∙ at)) (record {
       serial = refl;
       id = refl;
       generations = refl;
-      agreement = a.0;
-      agreed = a.1;
-      number = length books.ring;
-      sessions = ap (λ (ss : List Session). ss ++ filter (stays c) c.sessions) (sym news);
-    })
+      agreement = g;
+      agreed = ap (λ (o : Offer). agreed_answer c.slot o noise text) (sym one) ∙ agreed;
+      number = length w.books.ring;
+      sessions = refl;
+    }))
+    is at
 
 abbrev pub AreAddressed : Offer → List ℕ → Call → Type 0
 AreAddressed o text d =
@@ -171,41 +168,18 @@ answered_between : (c d : Call) (o : Offer) (noise text : List ℕ) → WasOffer
 answered_between c d o noise text was is =
     let b = answer_between was.hand was.way was.text noise text c.slot was.accepted is.agreement was.agreed (ap (λ (o : Offer). agreed_answer c.slot o noise text) was.same ∙ is.agreed) in
     let between : AreBetween o.side o.description.media b.0.media is.agreement.media = subst (λ (o : Offer). AreBetween o.side o.description.media b.0.media is.agreement.media) was.same b.2 in
-    let new : List Session = sessions_from c.serial c.generations 0 is.number is.agreement.media in
-    let old : List Session = filter (stays c) c.sessions in (
+    let new : List Session = sessions_from c.serial c.generations 0 is.number is.agreement.media in (
       b.0,
       b.1,
-      All-from_recursion (λ s. s.name.owner.generation + 1 ≡ d.generations → HasAddresses o.side o.description.media b.0.media s) d.sessions
-          (subst (AllByRecursion (λ s. s.name.owner.generation + 1 ≡ d.generations → HasAddresses o.side o.description.media b.0.media s)) (sym is.sessions)
-          (each_append (λ s. s.name.owner.generation + 1 ≡ d.generations → HasAddresses o.side o.description.media b.0.media s) new old
-          (each_weaker (HoldsFrom (Between o.side) 0 o.description.media b.0.media) (λ s. s.name.owner.generation + 1 ≡ d.generations → HasAddresses o.side o.description.media b.0.media s)
-          (λ s has at. from_first o.side o.description.media b.0.media s has) new
-          (each_from (Between o.side) c.serial c.generations 0 is.number o.description.media b.0.media is.agreement.media (each_between o.side o.description.media b.0.media is.agreement.media between)))
-          (each_weaker (λ s. (stays c s ≡ true) × Any (λ x. x ≡ s) c.sessions) (λ s. s.name.owner.generation + 1 ≡ d.generations → HasAddresses o.side o.description.media b.0.media s)
-          (λ s p at.
-          let old_one : s.name.owner.generation + 1 ≡ c.generations = eqb-true _ _ (and_parts (is_opening s) (is_current c s) p.0).1 in
-          let more = is.generations in
-          absurd (omega (arith, old_one, at, more)))
-          old (kept_by (stays c) c.sessions)))),
+      All-from_recursion _ d.sessions (of_generation c d new (HasAddresses o.side o.description.media b.0.media) is.sessions is.generations
+          (each_weaker (HoldsFrom (Between o.side) 0 o.description.media b.0.media) (HasAddresses o.side o.description.media b.0.media) (from_first o.side o.description.media b.0.media) new
+          (each_from (Between o.side) c.serial c.generations 0 is.number o.description.media b.0.media is.agreement.media (each_between o.side o.description.media b.0.media is.agreement.media between)))),
     )
 
 module _ (w : World) (offered_are : AllByRecursion (λ c. IsOffered c.offer) w.calls) (id : CallId) (noise text : List ℕ) (c : Call) (o : Offer)
     (is : call_of w id ≡ Some c) (open_one : c.offer ≡ Some o) where
-  abbrev Addresses : Answer → Type 0
-  Addresses a = (d : Call) → call_of a.world id ≡ Some d → d.generations ≡ c.generations + 1 → AreAddressed o text d
-
   was : WasOffered o
   was = subst IsOffered open_one (found (λ c. IsOffered c.offer) (λ x. same_id x.id id) w.calls c is offered_are)
 
-  settled_addresses : (q : Result Settled Refusal) → answered_to w.moment w.books c noise text (Some o) ≡ q → Addresses (in_old w id (tells_answer id (offering_side c.offer)) q)
-  settled_addresses (Err cause) e d at more = let same = ap (λ (x : Call). x.generations) (some_is c d (sym is ∙ at)) in absurd (omega (arith, same, more))
-  settled_addresses (Ok r) e d at more =
-      let a = answer_is w.moment w.books c noise text o r e in
-      let here = found_with id c r.call w.calls a.serial (subst (λ i. same_id i id ≡ true) (sym a.id) (id_found id c w.calls is)) is in
-      subst (AreAddressed o text) (some_is r.call d (sym here ∙ at)) (answered_between c r.call o noise text was a)
-
-  pub answer_addresses : Addresses (answer_to w (Answered id noise text))
-  answer_addresses =
-      subst (λ x. Addresses (answered w id noise text x)) (sym is)
-      (subst (λ x. Addresses (in_old w id (tells_answer id (offering_side c.offer)) (answered_to w.moment w.books c noise text x))) (sym open_one)
-      (settled_addresses (answered_to w.moment w.books c noise text (Some o)) refl))
+  pub answer_addresses : (d : Call) → call_of (answer_to w (Answered id noise text)).world id ≡ Some d → d.generations ≡ c.generations + 1 → AreAddressed o text d
+  answer_addresses d at more = answered_between c d o noise text was (answered_now w id noise text c o is open_one d at more)

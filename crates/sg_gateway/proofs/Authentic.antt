@@ -2,10 +2,6 @@
 use Rattle.std.proofs.Common.{◌≡◌, inl, inr, ℕ, ◌+◌, Bool, true, false, cond, not, ◌&&◌, ◌||◌, List, [], ◌∷◌, ◌++◌, length, Option, Some, None, Result, Ok, Err, refl, sym, ap, ◌∙◌, subst, append_assoc, append-nil, eqb, eq-eqb, ltb, eqb-true}
 use Rattle.std.proofs.lemmas.Bool.{and_parts, false≢true, ltb-false, not-false, and_from}
 use Rattle.std.specs.List.{AllByRecursion, Any, filter_map, find}
-use Rattle.std.specs.Option.{is_some}
-use Rattle.sg_agreement.specs.Answers.{agreed_answer}
-use Rattle.sg_agreement.specs.Generations.{generation_of}
-use Rattle.sg_agreement.specs.Manual.{manual_medium}
 use Rattle.sg_agreement.specs.Media.{Medium}
 use Rattle.sg_agreement.proofs.AllAgreed.{offer_is}
 use Rattle.sg_agreement.proofs.KeyedSound.{Sometimes}
@@ -22,7 +18,6 @@ use Rattle.sg_agreement.specs.declared.ways.Way.TheVariants.{FromSecure, SdesFro
 use Rattle.sg_base.proofs.Cases.{some_is}
 use Rattle.sg_base.proofs.SameOctets.{same_octets_is, same_octets_true}
 use Rattle.sg_base.specs.Octets.{same_octets}
-use Rattle.sg_base.specs.declared.addresses.Address.{Address}
 use Rattle.sg_base.specs.declared.addresses.CallId.{CallId}
 use Rattle.sg_base.specs.declared.addresses.Side.TheVariants.{Secure, Plain}
 use Rattle.sg_base.specs.declared.faults.MikeyFault.TheVariants.{DataType}
@@ -40,25 +35,24 @@ use Rattle.sg_sdes.specs.Answers.{offered_by}
 use Rattle.sg_sdp.specs.Reading.{description_of}
 use Rattle.sg_sdp.specs.declared.medium.Medium as descriptions
 use Rattle.sg_sdp.specs.declared.sdp.Sdp.{Sdp}
-use Rattle.sg_outcome.specs.declared.outcomes.Outcome.{Outcome}
-use Rattle.sg_psk.specs.Pairs.{has_pair, is_noted, is_of, is_same, is_with, note, pair_named, pair_with, with_note}
+use Rattle.sg_psk.specs.Pairs.{is_noted, is_of, is_same, is_with, note, pair_named, pair_with, with_note}
 use Rattle.sg_psk.specs.Parts.{closing_in, names_in, stamp_in}
 use Rattle.sg_psk.specs.Sending.{sent_under}
 use Rattle.sg_psk.specs.Stamps.{distance, is_skewed, moment_of, since_1900}
 use Rattle.sg_psk.specs.declared.pairs.Pair.{Pair}
 use Rattle.sg_psk.specs.declared.replays.Noted.{Noted}
 use Rattle.sg_session.proofs.Inversions.{after_ok_is, ok_is, stop_if_is}
-use Rattle.sg_session.proofs.Lists.{any_cases, any_here, any_none, any_there, both, each_weaker}
+use Rattle.sg_session.proofs.Lists.{any_here, any_there, both, each_weaker}
 use Rattle.sg_session.specs.Stages.{after_ok}
 use Rattle.sg_gateway.specs.Authentic.{AreNamesOf, IsNoteOf, IsAuthentic, IsBundleAcceptedOnce, AreAcceptedOnce}
 use Rattle.sg_gateway.proofs.CarriedOut.{found_with, id_found}
+use Rattle.sg_gateway.proofs.Lists.{any_last, any_first}
+use Rattle.sg_gateway.proofs.StepCases.{each_signal, each_datagram}
 use Rattle.sg_gateway.proofs.Taken.{found_new, same_id_itself}
-use Rattle.sg_gateway.specs.CallSignals.{answered_to, at_hand, has_begun, keyed_manually, media_of, offered_in, rejected_in, takes_offer, with_notes}
-use Rattle.sg_gateway.specs.Datagrams.{Given, Drops, Puts, given_to, arrived_in, arrived_at}
-use Rattle.sg_gateway.specs.Generations.{Settled, keyed}
-use Rattle.sg_gateway.specs.Ports.{call_at}
+use Rattle.sg_gateway.specs.CallSignals.{at_hand, media_of, offered_in, takes_offer, with_notes}
+use Rattle.sg_gateway.specs.Generations.{Settled}
 use Rattle.sg_gateway.specs.Refusing.{IsRefusal}
-use Rattle.sg_gateway.specs.Signals.{Signal, Tick, Psk, Manual, Offered, Answered, Reject, Bye, Answer, refused, new_call, in_new, in_old, tells_live, tells_text, offered_to, offering_side, tells_answer, answered, rejected_to, rejected, left, answer_to}
+use Rattle.sg_gateway.specs.Signals.{Offered, Answer, refused, new_call, in_new, in_old, tells_text, offered_to, answer_to}
 use Rattle.sg_gateway.specs.Step.{Event, Signalled, Datagram, step}
 use Rattle.sg_gateway.specs.World.{Books, Call, World, call_of, is_full, same_id}
 
@@ -254,24 +248,13 @@ noted_is (x ∷ xs) n e = go (is_same n x) refl (noted_is xs n) e
         any_here (IsNote n) x xs (sym (same_octets_is n.peer x.peer q.0), sym (eqb-true n.csb x.csb q.1), sym (same_octets_is n.stamp x.stamp p.1))
     go false is rest e = any_there (IsNote n) x xs (rest e)
 
-any_prefix : {X : Type 0} (P : X → Type 0) (xs ys : List X) → Any P xs → Any P (xs ++ ys)
-any_prefix P [] ys a = absurd (any_none P a)
-any_prefix P (x ∷ xs) ys a = elim (any_cases P x xs a) [
-  | inl here ↦ any_here P x (xs ++ ys) here
-  | inr later ↦ any_there P x (xs ++ ys) (any_prefix P xs ys later)
-]
-
-any_at_end : {X : Type 0} (P : X → Type 0) (xs : List X) (x : X) → P x → Any P (xs ++ x ∷ [])
-any_at_end P [] x p = any_here P x [] p
-any_at_end P (y ∷ xs) x p = any_there P y (xs ++ x ∷ []) (any_at_end P xs x p)
-
 -- what is noted stays, and what comes is noted
 with_note_is : (noted : List Noted) (n : Noted) → ((new : List Noted) × (with_note noted n ≡ noted ++ new)) × Any (IsNote n) (with_note noted n)
 with_note_is noted n = go (is_noted noted n) refl
   where
     go : (b : Bool) → is_noted noted n ≡ b → ((new : List Noted) × (cond b noted (noted ++ n ∷ []) ≡ noted ++ new)) × Any (IsNote n) (cond b noted (noted ++ n ∷ []))
     go true is = (([], sym (append-nil noted)), noted_is noted n is)
-    go false is = ((n ∷ [], refl), any_at_end (IsNote n) noted n (refl, refl, refl))
+    go false is = ((n ∷ [], refl), any_last (IsNote n) noted n (refl, refl, refl))
 
 pub notes_stay : (noted ns : List Noted) → (new : List Noted) × (with_notes noted ns ≡ noted ++ new)
 notes_stay noted [] = ([], sym (append-nil noted))
@@ -284,7 +267,7 @@ all_noted : (noted ns : List Noted) → AllByRecursion (λ n. Any (IsNote n) (wi
 all_noted noted [] = tt
 all_noted noted (n ∷ ns) =
     let rest = notes_stay (with_note noted n) ns in
-    (subst (Any (IsNote n)) (sym rest.1) (any_prefix (IsNote n) (with_note noted n) rest.0 (with_note_is noted n).1), all_noted (with_note noted n) ns)
+    (subst (Any (IsNote n)) (sym rest.1) (any_first (IsNote n) (with_note noted n) rest.0 (with_note_is noted n).1), all_noted (with_note noted n) ns)
 
 module _ (books : Books) (now : ℕ) where
   bundles_once : (after : List Noted) (ms : List descriptions.Medium) (bs : List (Option Bundle)) → AllByRecursion (Sometimes (IsOfMedium books now ms)) bs
@@ -361,78 +344,17 @@ module _ (w : World) where
   stay : Stay w.books.noted
   stay = ([], sym (append-nil w.books.noted))
 
-  abbrev Stays : Answer → Type 0
-  Stays a = Stay a.world.books.noted
-
-  keyed_stays : (c : Call) (text : List ℕ) (media : List (Option Medium)) (r : Settled) → keyed w.moment w.books c text media ≡ Ok r → Stay r.books.noted
-  keyed_stays c text media r e =
-      let a = after_ok_is (generation_of c.serial c.generations w.books.ring media) _ r e in
-      subst (λ (r : Settled). Stay r.books.noted) (ok_is _ r a.2) stay
-
-  manual_stays : (c : Call) (x : Medium) (r : Settled) → keyed_manually w.moment w.books c x ≡ Ok r → Stay r.books.noted
-  manual_stays c x r e =
-      let a = stop_if_is (has_begun c) State (keyed w.moment w.books (record c { media = 1; manual = true }) [] (Some x ∷ [])) r e in
-      keyed_stays (record c { media = 1; manual = true }) [] (Some x ∷ []) r a.1
-
-  answer_stays : (c : Call) (noise text : List ℕ) (o : Option Offer) (r : Settled) → answered_to w.moment w.books c noise text o ≡ Ok r → Stay r.books.noted
-  answer_stays c noise text None r e = absurd cc
-  answer_stays c noise text (Some o) r e =
-      let a = after_ok_is (agreed_answer c.slot o noise text) (λ a. keyed w.moment w.books c a.text a.media) r e in
-      keyed_stays c a.0.text a.0.media r a.2
-
-  offer_stays : (c : Call) (way : Way) (noise text : List ℕ) (r : Settled) → offered_in w.moment w.books c way noise text ≡ Ok r → Stay r.books.noted
-  offer_stays c way noise text r e =
-      let a = stop_if_is (not (takes_offer c)) State _ r e in
-      let b = after_ok_is (agreed_offer (at_hand w.moment w.books c noise) way text) _ r a.1 in
-      subst (λ (r : Settled). Stay r.books.noted) (ok_is _ r b.2) (notes_stay w.books.noted b.0.noted)
-
-  new_stays : (id : CallId) (told : Settled → List Outcome) (q : Result Settled Refusal) → ((r : Settled) → q ≡ Ok r → Stay r.books.noted) → Stays (in_new w id told q)
-  new_stays id told (Err cause) is = stay
-  new_stays id told (Ok r) is = is r refl
-
-  old_stays : (id : CallId) (told : Settled → List Outcome) (q : Result Settled Refusal) → ((r : Settled) → q ≡ Ok r → Stay r.books.noted) → Stays (in_old w id told q)
-  old_stays id told (Err cause) is = stay
-  old_stays id told (Ok r) is = is r refl
-
-  signal_stays : (signal : Signal) → Stays (answer_to w signal)
-  signal_stays (Tick now) = both Stays (ltb now w.moment) _ _ stay stay
-  signal_stays (Psk p) = both Stays (has_pair w.books.pairs p.own p.peer) _ _ stay (both Stays (ltb (length w.books.pairs) 64) _ _ stay stay)
-  signal_stays (Manual h) = both Stays (is_some (call_of w h.id)) _ _ stay
-      (both Stays (is_full w) _ _ stay (new_stays h.id (tells_live h.id) _ (λ r e. manual_stays (new_call w h.id) (manual_medium h) r e)))
-  signal_stays (Offered id way noise text) = go (call_of w id)
-    where
-      go : (o : Option Call) → Stays (offered_to w id way noise text o)
-      go None = both Stays (is_full w) _ _ stay (new_stays id (tells_text id (other_side (side_of way))) _ (λ r e. offer_stays (new_call w id) way noise text r e))
-      go (Some c) = old_stays id (tells_text id (other_side (side_of way))) _ (λ r e. offer_stays c way noise text r e)
-  signal_stays (Answered id noise text) = go (call_of w id)
-    where
-      go : (o : Option Call) → Stays (answered w id noise text o)
-      go None = stay
-      go (Some c) = old_stays id (tells_answer id (offering_side c.offer)) _ (λ r e. answer_stays c noise text c.offer r e)
-  signal_stays (Reject id) = go (call_of w id)
-    where
-      at : (c : Call) (r : Result (Option Call) Refusal) → Stays (rejected_to w c r)
-      at c (Err cause) = stay
-      at c (Ok None) = stay
-      at c (Ok (Some d)) = stay
-
-      go : (o : Option Call) → Stays (rejected w id o)
-      go None = stay
-      go (Some c) = at c (rejected_in w.moment c)
-  signal_stays (Bye id) = go (call_of w id)
-    where
-      go : (o : Option Call) → Stays (left w id o)
-      go None = stay
-      go (Some c) = stay
-
-  arrived_stays : (port : ℕ) (from : Address) (d : List ℕ) (o : Option Call) → Stay (arrived_at w port from d o).world.books.noted
-  arrived_stays port from d None = stay
-  arrived_stays port from d (Some c) = go (arrived_in w.moment port from d c)
-    where
-      go : (g : Given) → Stay (given_to w port g).world.books.noted
-      go (Drops cause) = stay
-      go (Puts p) = stay
-
   pub event_stays : (e : Event) → Stay (step w e).world.books.noted
-  event_stays (Signalled signal) = signal_stays signal
-  event_stays (Datagram port from d) = arrived_stays port from d.items (call_at w port)
+  event_stays (Signalled signal) = each_signal w (λ signal a. Stay a.world.books.noted) (record {
+    refuses = λ signal id cause. stay;
+    ticks = λ now on. stay;
+    pairs = λ p. stay;
+    keys = λ h none room ring is. stay;
+    begins = λ id way noise text none room a agreed. notes_stay w.books.noted a.noted;
+    offers = λ id way noise text c at a agreed. notes_stay w.books.noted a.noted;
+    answers = λ id noise text c at o is_open g agreed ring is. stay;
+    rejects = λ id c at none. stay;
+    closes = λ id c at. stay;
+    leaves = λ id c at. stay;
+  }) signal
+  event_stays (Datagram port from d) = each_datagram w port (λ h. Stay h.world.books.noted) (record { drops = λ cause. stay; puts = λ c at s t octets held. stay }) from d.items

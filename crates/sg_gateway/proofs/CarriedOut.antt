@@ -1,32 +1,33 @@
 -- A signal that is taken does its part.
-use Rattle.std.proofs.Common.{◌≡◌, ◌⊎◌, inl, inr, ℕ, ◌+◌, ◌<◌, ◌≤◌, Bool, true, false, cond, not, ◌&&◌, List, [], ◌∷◌, ◌++◌, get_or, map, Option, Some, None, Result, Ok, Err, refl, sym, ap, ◌∙◌, subst, arith, eqb, ltb, eq-eqb}
-use Rattle.std.proofs.lemmas.Bool.{cond-true, and_from, eqb-true, eqb-false, ltb-true, leb-true, lt-leb}
+use Rattle.std.proofs.Common.{◌≡◌, ◌⊎◌, inl, inr, ℕ, ◌+◌, ◌<◌, ◌≤◌, Bool, true, false, cond, not, ◌&&◌, List, [], ◌∷◌, ◌++◌, get_or, map, Option, Some, None, Result, Ok, Err, refl, sym, ap, ◌∙◌, subst, arith, eqb, ltb, eq-eqb, length}
+use Rattle.std.proofs.lemmas.Bool.{cond-true, and_from, and_parts, eqb-true, eqb-false, ltb-true, leb-true, lt-leb}
 use Rattle.std.proofs.lemmas.List.Elements.{All-from_recursion}
 use Rattle.std.specs.List.{AllByRecursion, Any, Contains, filter}
 use Rattle.std.specs.Option.{is_some}
-use Rattle.sg_agreement.specs.Answers.{agreed_answer}
-use Rattle.sg_agreement.specs.Generations.{generation_of}
+use Rattle.sg_agreement.specs.Generations.{sessions_from}
 use Rattle.sg_agreement.specs.Keying.{Offer}
 use Rattle.sg_base.specs.declared.addresses.CallId.{CallId}
 use Rattle.sg_base.specs.declared.faults.Refusal.{Refusal}
 use Rattle.sg_base.specs.declared.faults.Refusal.TheVariants.{State, TickBack}
 use Rattle.sg_base.proofs.Cases.{some_is, none_some}
 use Rattle.sg_outcome.specs.declared.outcomes.Why.TheVariants as why
-use Rattle.sg_session.proofs.Inversions.{after_ok_is, ok_is}
-use Rattle.sg_session.proofs.Lists.{each_weaker, any_here, any_there, any_weaker, any_cases, any_none, both}
+use Rattle.sg_session.proofs.Lists.{each_weaker, any_here, any_there, any_weaker, any_cases, any_none, both, each_append}
 use Rattle.sg_session.specs.Session.{Session, same_direction}
 use Rattle.sg_session.specs.declared.names.Direction.TheVariants.{Opening}
+use Rattle.sg_gateway.proofs.Arrivals.{kept_by}
 use Rattle.sg_gateway.proofs.Freed.{Frees, event_frees}
 use Rattle.sg_gateway.proofs.InTurn.{found_passes}
+use Rattle.sg_gateway.proofs.Lists.{all_any, any_second}
 use Rattle.sg_gateway.proofs.Pairs.{Pairs}
-use Rattle.sg_gateway.specs.CallSignals.{answered_to, answered_in, rejected_in, is_idle, drops_earlier, without_earlier, call_at_tick}
+use Rattle.sg_gateway.proofs.StepCases.{answer_of, renewed_by}
+use Rattle.sg_gateway.specs.CallSignals.{rejected_in, is_idle, drops_earlier, without_earlier, call_at_tick}
 use Rattle.sg_gateway.specs.CarriedOut.{IsKeptTo}
-use Rattle.sg_gateway.specs.Generations.{Settled, is_current, is_opening, keyed}
+use Rattle.sg_gateway.specs.Generations.{is_current, is_opening}
 use Rattle.sg_gateway.specs.Order.{IsBefore}
 use Rattle.sg_gateway.specs.Refusing.{IsRefusal}
-use Rattle.sg_gateway.specs.Signals.{Reject, Bye, answer, refused, tells_ended, ticked, in_old, offering_side, tells_answer, answered, rejected_to, rejected, left, answer_to}
+use Rattle.sg_gateway.specs.Signals.{Reject, Bye, answer, refused, tells_ended, ticked, rejected_to, rejected, left, answer_to, Answer, Answered}
 use Rattle.sg_gateway.specs.Step.{Signalled}
-use Rattle.sg_gateway.specs.World.{Books, Call, World, call_of, find_call, same_id, with_call}
+use Rattle.sg_gateway.specs.World.{Call, World, call_of, find_call, same_id, with_call}
 
 -- the call that is found has the id
 pub id_found : (id : CallId) (c : Call) (cs : List Call) → find_call (λ x. same_id x.id id) cs ≡ Some c → same_id c.id id ≡ true
@@ -104,22 +105,19 @@ module _ (w : World) (before : Pairs IsBefore w.calls) (older : AllByRecursion (
 abbrev pub stays : Call → Session → Bool
 stays c s = is_opening s && is_current c s
 
--- the call with one generation more
-record IsRenewed (now : ℕ) (c d : Call) : Type 0 where
-  moment : d.moment ≡ now
-  serial : d.serial ≡ c.serial
-  id : d.id ≡ c.id
-  generations : d.generations ≡ c.generations + 1
-  offer : d.offer ≡ None
-  news : List Session
-  sessions : d.sessions ≡ news ++ filter (stays c) c.sessions
-
-renews : (now : ℕ) (books : Books) (c : Call) (noise text : List ℕ) (o : Option Offer) (r : Settled) → answered_to now books c noise text o ≡ Ok r → IsRenewed now c r.call
-renews now books c noise text None r e = absurd cc
-renews now books c noise text (Some o) r e =
-    let a = after_ok_is (agreed_answer c.slot o noise text) (λ a. keyed now books c a.text a.media) r e in
-    let b = after_ok_is (generation_of c.serial c.generations books.ring a.0.media) _ r a.2 in
-    subst (λ (r : Settled). IsRenewed now c r.call) (ok_is _ r b.2) (record { moment = refl; serial = refl; id = refl; generations = refl; offer = refl; news = b.0.sessions; sessions = refl })
+-- what holds of the sessions that an agreement makes, holds of those of the current generation
+pub of_generation : (c d : Call) (new : List Session) (P : Session → Type 0) → d.sessions ≡ new ++ filter (stays c) c.sessions → d.generations ≡ c.generations + 1 → AllByRecursion P new
+    → AllByRecursion (λ s. s.name.owner.generation + 1 ≡ d.generations → P s) d.sessions
+of_generation c d new P sessions generations are =
+    subst (AllByRecursion (λ s. s.name.owner.generation + 1 ≡ d.generations → P s)) (sym sessions)
+    (each_append (λ s. s.name.owner.generation + 1 ≡ d.generations → P s) new (filter (stays c) c.sessions)
+    (each_weaker P (λ s. s.name.owner.generation + 1 ≡ d.generations → P s) (λ s is at. is) new are)
+    (each_weaker (λ s. (stays c s ≡ true) × Any (λ x. x ≡ s) c.sessions) (λ s. s.name.owner.generation + 1 ≡ d.generations → P s)
+    (λ s p at.
+    let old_one : s.name.owner.generation + 1 ≡ c.generations = eqb-true _ _ (and_parts (is_opening s) (is_current c s) p.0).1 in
+    let more = generations in
+    absurd (omega (arith, old_one, at, more)))
+    (filter (stays c) c.sessions) (kept_by (stays c) c.sessions)))
 
 module _ {X : Type 0} where
   -- what passes a test stays
@@ -131,56 +129,37 @@ module _ {X : Type 0} where
         (λ z h on. both (λ (l : List X). Any (λ y. y ≡ z) l) (test x) (x ∷ filter test xs) (filter test xs) (any_there (λ y. y ≡ z) x (filter test xs) (h on)) (h on)) xs (stays_in test xs),
   )
 
-  any_behind : (P : X → Type 0) (xs ys : List X) → Any P ys → Any P (xs ++ ys)
-  any_behind P [] ys a = a
-  any_behind P (x ∷ xs) ys a = any_there P x (xs ++ ys) (any_behind P xs ys a)
-
   contains : (x : X) (xs : List X) → Any (λ y. y ≡ x) xs → Contains xs x
   contains x xs a = (a.0, a.2, subst (λ (y : X). get_or xs a.0 y ≡ y) a.4 a.3)
 
-kept_behind : (now : ℕ) (c d : Call) → IsRenewed now c d
-    → AllByRecursion (λ s. s.name.owner.direction ≡ Opening → s.name.owner.generation + 1 ≡ c.generations → Contains d.sessions s) c.sessions
-kept_behind now c d is = each_weaker (λ s. stays c s ≡ true → Any (λ y. y ≡ s) (filter (stays c) c.sessions)) _
-    (λ s h opening current. contains s d.sessions (subst (λ (l : List Session). Any (λ y. y ≡ s) l) (sym is.sessions)
-    (any_behind (λ y. y ≡ s) is.news (filter (stays c) c.sessions) (h (and_from _ _ (ap (λ x. same_direction x Opening) opening) (eq-eqb _ _ current))))))
-    c.sessions (stays_in (stays c) c.sessions)
-
 module _ (w : World) (id : CallId) (noise text : List ℕ) (c : Call) (is : call_of w id ≡ Some c) where
-  -- the call that is put in its place is found again
-  found_again : (r : Settled) → IsRenewed w.moment c r.call → call_of (record w { calls = with_call r.call w.calls; books = r.books }) id ≡ Some r.call
-  found_again r new = found_with id c r.call w.calls new.serial (subst (λ i. same_id i id ≡ true) (sym new.id) (id_found id c w.calls is)) is
+  abbrev Renews : Answer → Type 0
+  Renews a = ¬ Any IsRefusal a.outcomes → (d : Call) × (call_of a.world id ≡ Some d) × (d.generations ≡ c.generations + 1) × (d.offer ≡ None) × (d.moment ≡ w.moment)
 
-  abbrev Renews : Option Call → Type 0
-  Renews o = ¬ Any IsRefusal (answered w id noise text o).outcomes
-      → (d : Call) × (call_of (answered w id noise text o).world id ≡ Some d) × (d.generations ≡ c.generations + 1) × (d.offer ≡ None) × (d.moment ≡ w.moment)
+  pub answer_renews : Renews (answer_to w (Answered id noise text))
+  answer_renews = answer_of w id noise text c Renews (λ cause free. absurd (free (any_here IsRefusal _ [] tt)))
+      (λ o is_open g agreed ring installs free.
+      let d : Call = (renewed_by w.moment w.books c g.text g.media ring).call in
+      (d, found_with id c d w.calls refl (id_found id c w.calls is) is, refl, refl, refl))
+      is
 
-  abbrev KeepsEarlier : Option Call → Type 0
-  KeepsEarlier o = (d : Call) → call_of (answered w id noise text o).world id ≡ Some d → d.generations ≡ c.generations + 1
-      → AllByRecursion (λ s. s.name.owner.direction ≡ Opening → s.name.owner.generation + 1 ≡ c.generations → Contains d.sessions s) c.sessions
+  abbrev KeepsEarlier : Call → Type 0
+  KeepsEarlier d = AllByRecursion (λ s. s.name.owner.direction ≡ Opening → s.name.owner.generation + 1 ≡ c.generations → Contains d.sessions s) c.sessions
 
-  of_call : Renews (Some c) × KeepsEarlier (Some c)
-  of_call = go (answered_in w.moment w.books c noise text) refl
-    where
-      go : (q : Result Settled Refusal) → answered_in w.moment w.books c noise text ≡ q
-          → (¬ Any IsRefusal (in_old w id (tells_answer id (offering_side c.offer)) q).outcomes → (d : Call) × (call_of (in_old w id (tells_answer id (offering_side c.offer)) q).world id ≡ Some d) × (d.generations ≡ c.generations + 1) × (d.offer ≡ None) × (d.moment ≡ w.moment))
-          × ((d : Call) → call_of (in_old w id (tells_answer id (offering_side c.offer)) q).world id ≡ Some d → d.generations ≡ c.generations + 1
-          → AllByRecursion (λ s. s.name.owner.direction ≡ Opening → s.name.owner.generation + 1 ≡ c.generations → Contains d.sessions s) c.sessions)
-      go (Err cause) e = (
-        λ free. absurd (free (any_here IsRefusal _ [] tt)),
-        λ d at more. let same = ap (λ (x : Call). x.generations) (some_is c d (sym is ∙ at)) in absurd (omega (arith, same, more)),
-      )
-      go (Ok r) e =
-          let new = renews w.moment w.books c noise text c.offer r e in (
-            λ free. (r.call, found_again r new, new.generations, new.offer, new.moment),
-            λ d at more. subst (λ (d : Call). AllByRecursion (λ s. s.name.owner.direction ≡ Opening → s.name.owner.generation + 1 ≡ c.generations → Contains d.sessions s) c.sessions)
-                (some_is r.call d (sym (found_again r new) ∙ at)) (kept_behind w.moment c r.call new),
-          )
+  kept_behind : (d : Call) (news : List Session) → d.sessions ≡ news ++ filter (stays c) c.sessions → KeepsEarlier d
+  kept_behind d news sessions = each_weaker (λ s. stays c s ≡ true → Any (λ y. y ≡ s) (filter (stays c) c.sessions)) _
+      (λ s h opening current. contains s d.sessions (subst (λ (l : List Session). Any (λ y. y ≡ s) l) (sym sessions)
+      (any_second (λ y. y ≡ s) news (filter (stays c) c.sessions) (h (and_from _ _ (ap (λ x. same_direction x Opening) opening) (eq-eqb _ _ current))))))
+      c.sessions (stays_in (stays c) c.sessions)
 
-  pub answer_renews : Renews (call_of w id)
-  answer_renews = subst Renews (sym is) of_call.0
-
-  pub answer_keeps_earlier : KeepsEarlier (call_of w id)
-  answer_keeps_earlier = subst KeepsEarlier (sym is) of_call.1
+  pub answer_keeps_earlier : (d : Call) → call_of (answer_to w (Answered id noise text)).world id ≡ Some d → d.generations ≡ c.generations + 1 → KeepsEarlier d
+  answer_keeps_earlier d now more = answer_of w id noise text c (λ a. call_of a.world id ≡ Some d → KeepsEarlier d)
+      (λ cause now. let same = ap (λ (x : Call). x.generations) (some_is c d (sym is ∙ now)) in absurd (omega (arith, same, more)))
+      (λ o is_open g agreed ring installs now.
+      let e : Call = (renewed_by w.moment w.books c g.text g.media ring).call in
+      subst KeepsEarlier (some_is e d (sym (found_with id c e w.calls refl (id_found id c w.calls is) is) ∙ now))
+      (kept_behind e (sessions_from c.serial c.generations 0 (length w.books.ring) g.media) refl))
+      is now
 
 -- ---- what a tick leaves
 
@@ -193,16 +172,12 @@ module _ {X : Type 0} where
       go rest (inl same) = any_here P (f y) (map f ys) (subst (λ z. P (f z)) (sym same) p)
       go rest (inr more) = any_there P (f y) (map f ys) (rest more)
 
-each_among : {X : Type 0} (xs : List X) → AllByRecursion (λ x. Any (λ y. y ≡ x) xs) xs
-each_among [] = tt
-each_among (x ∷ xs) = (any_here (λ y. y ≡ x) x xs refl, each_weaker _ _ (λ z a. any_there (λ y. y ≡ z) x xs a) xs (each_among xs))
-
 itself : (now : ℕ) (c : Call) → IsKeptTo now c c
 itself now c = record {
   serial = refl;
   offer = refl;
   current = All-from_recursion _ c.sessions
-      (each_weaker (λ s. Any (λ y. y ≡ s) c.sessions) (λ s. s.name.owner.generation + 1 ≡ c.generations → Contains c.sessions s) (λ s a of_it. contains s c.sessions a) c.sessions (each_among c.sessions));
+      (each_weaker (λ s. Any (λ y. y ≡ s) c.sessions) (λ s. s.name.owner.generation + 1 ≡ c.generations → Contains c.sessions s) (λ s a of_it. contains s c.sessions a) c.sessions (all_any c.sessions));
   earlier = λ before. refl;
 }
 
@@ -226,7 +201,7 @@ tick_keeps w now = go (ltb now w.moment)
     go : (b : Bool) → AllByRecursion (λ c. now < c.moment + 60000 → Any (IsKeptTo now c)
         (cond b (refused w None (TickBack w.moment)) (answer (map (tells_ended why.Idle) (filter (is_idle now) w.calls))
         (record w { calls = map (call_at_tick now) (filter (λ c. not (is_idle now c)) w.calls); moment = now }))).world.calls) w.calls
-    go true = each_weaker (λ c. Any (λ y. y ≡ c) w.calls) (λ c. now < c.moment + 60000 → Any (IsKeptTo now c) w.calls) (λ c a busy. any_weaker (λ y. y ≡ c) (IsKeptTo now c) (λ y same. subst (IsKeptTo now c) (sym same) (itself now c)) w.calls a) w.calls (each_among w.calls)
+    go true = each_weaker (λ c. Any (λ y. y ≡ c) w.calls) (λ c. now < c.moment + 60000 → Any (IsKeptTo now c) w.calls) (λ c a busy. any_weaker (λ y. y ≡ c) (IsKeptTo now c) (λ y same. subst (IsKeptTo now c) (sym same) (itself now c)) w.calls a) w.calls (all_any w.calls)
     go false =
         each_weaker (λ c. not (is_idle now c) ≡ true → Any (λ y. y ≡ c) (filter (λ c. not (is_idle now c)) w.calls))
         (λ c. now < c.moment + 60000 → Any (IsKeptTo now c) (map (call_at_tick now) (filter (λ c. not (is_idle now c)) w.calls)))

@@ -22,6 +22,7 @@ pub mod InTurn
 pub mod Kept
 pub mod Lasting
 pub mod LineSessions
+pub mod Lists
 pub mod Lives
 pub mod MediaOver
 pub mod MessageSessions
@@ -54,10 +55,12 @@ pub mod Signals
 pub mod Sound
 pub mod Sources
 pub mod StaysAway
+pub mod StepCases
 pub mod Tags
 pub mod Taken
 pub mod ToldInWorld
 pub mod ToldMessages
+pub mod TurnByTurn
 pub mod UnderBlocks
 pub mod Used
 pub mod WholeTags

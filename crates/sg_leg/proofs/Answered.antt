@@ -1,6 +1,5 @@
 -- An answer and the generation that it begins.
 use Rattle.std.proofs.Common.{◌≡◌, ℕ, List, Option, Result, Ok, Err, refl, ap, ◌∙◌}
-use Rattle.std.specs.Global.{Vec}
 use Rattle.sg_agreement.specs.Answers.{AgreedAnswer, agreed_answer}
 use Rattle.sg_agreement.specs.Generations.{Generation, generation_of}
 use Rattle.sg_agreement.specs.Keying.{Offer}
@@ -10,10 +9,9 @@ use Rattle.sg_base.specs.declared.faults.Fault.TheVariants.{Refused, NoMemory}
 use Rattle.sg_base.specs.declared.faults.Refusal.{Refusal}
 use Rattle.sg_session.specs.Ring.{Installed, RingKey}
 use Rattle.sg_session.specs.Stages.{after_ok}
-use Rattle.sg_leg.specs.Open.{IsAnswerOf, IsAgreed, IsAnswered, IsGiven, answered_with}
+use Rattle.sg_leg.specs.Open.{IsGiven, IsRefusedBy, answered_with}
+use Rattle.sg_leg.specs.Planned.{Planned}
 use Rattle.sg_leg.specs.Standing.{Begins}
-use Rattle.sg_leg.specs.Values.{OfferedValue}
-use Rattle.sg_leg.specs.declared.media_spec.MediaSpec.{MediaSpec}
 
 module _ (slot : ℕ) (o : Offer) (noise text : List ℕ) (call generation : ℕ) (old : List Installed) where
   answered_as : (r : Result AgreedAnswer Refusal) → agreed_answer slot o noise text ≡ r
@@ -24,9 +22,9 @@ module _ (slot : ℕ) (o : Offer) (noise text : List ℕ) (call generation : ℕ
     begun_as : (r : Result Generation Refusal) → generation_of call generation old media ≡ r → answered_with slot o noise text call generation old ≡ after_ok r (λ g. Ok (out, g))
     begun_as r e = answered_as (Ok (record { text = out; media = media })) agreed ∙ ap (λ r. after_ok r (λ g. Ok (out, g))) e
 
-    pub given : (specs : List MediaSpec) (ring : List RingKey) → Begins (Ok specs) ring (generation_of call generation old media) → IsGiven out specs ring (answered_with slot o noise text call generation old)
-    given specs ring (g, is, begun) = ((out, g), begun_as (Ok g) is, refl, begun)
+    pub given : (plan : List Planned) (ring : List RingKey) → Begins (Ok plan) ring (generation_of call generation old media) → IsGiven out plan ring (answered_with slot o noise text call generation old)
+    given plan ring (g, is, begun) = ((out, g), begun_as (Ok g) is, refl, begun)
 
-    pub not_given : (fault : Fault) (ring : List RingKey) → Begins (Err fault) ring (generation_of call generation old media) → IsAgreed (Err fault) ring (answered_with slot o noise text call generation old)
+    pub not_given : (fault : Fault) (ring : List RingKey) → Begins (Err fault) ring (generation_of call generation old media) → IsRefusedBy fault (answered_with slot o noise text call generation old)
     not_given (Refused cause) ring e = begun_as (Err cause) e
     not_given NoMemory ring e = tt

@@ -8,7 +8,7 @@ use Rattle.sg_agreement.specs.declared.ways.Way.TheVariants as ways
 use Rattle.sg_base.specs.declared.addresses.Side.TheVariants.{Plain}
 use Rattle.sg_sdes.specs.Answers.{offered_by}
 use Rattle.sg_agreement.specs.Messages.{AtHand}
-use Rattle.sg_agreement.specs.Offers.{AgreedOffer, accepted_offer, keying_of, noise_of, agreed_offer}
+use Rattle.sg_agreement.specs.Offers.{accepted_offer, keying_of, noise_of, agreed_offer}
 use Rattle.sg_agreement.specs.Sides.{side_of, other_side, actives}
 use Rattle.sg_agreement.specs.declared.ways.Way.{Way}
 use Rattle.sg_base.specs.declared.faults.Fault.{Fault}
@@ -21,7 +21,7 @@ use Rattle.sg_sdp.specs.declared.sdp.Sdp.{Sdp}
 use Rattle.sg_session.specs.Stages.{after_ok}
 use Rattle.sg_leg.specs.Answering.{Tells, Gives}
 use Rattle.sg_leg.specs.Messages.{IsAtHand}
-use Rattle.sg_leg.specs.Open.{IsKeyingOf, IsOpeningOf, Opens, IsOpened, IsOffered, at_hand, with_notes}
+use Rattle.sg_leg.specs.Open.{IsKeyingOf, IsOpeningOf, Opens, IsOpened, at_hand, with_notes}
 use Rattle.sg_leg.specs.Values.{LiveValue}
 use Rattle.sg_leg.specs.declared.books.Books.{Books}
 use Rattle.sg_leg.specs.declared.keying.Opening.{Opening}

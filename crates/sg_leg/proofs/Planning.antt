@@ -7,7 +7,6 @@ use Rattle.sg_base.specs.declared.addresses.Kind.{Kind}
 use Rattle.sg_base.specs.declared.addresses.Kind.TheVariants.{Rtp, Rtcp}
 use Rattle.sg_keys.specs.Installing.{keys_of}
 use Rattle.sg_keys.specs.declared.spec.SessionSpec.{SessionSpec}
-use Rattle.sg_media.specs.Accepting.{IsMadeOf}
 use Rattle.sg_session.specs.Ring.{RingKey, Installed, key_of}
 use Rattle.sg_session.specs.Session.{Session}
 use Rattle.sg_session.specs.declared.names.Direction.{Direction}
@@ -15,7 +14,7 @@ use Rattle.sg_session.specs.declared.names.Direction.TheVariants.{Opening, Seali
 use Rattle.sg_session.specs.declared.names.Owner.{Owner}
 use Rattle.sg_leg.specs.FreshKeys.{encrypts_for, tag_for, ring_keys, media_keys}
 use Rattle.sg_leg.specs.Pairs.{EachPair}
-use Rattle.sg_leg.specs.Planned.{Planned, IsPlanned, planned_in, planned, IsNext}
+use Rattle.sg_leg.specs.Planned.{Planned, IsPlanned, ArePlanned, planned_in, planned, planned_for, IsMadeFor, IsNext}
 use Rattle.sg_leg.specs.declared.media_spec.MediaSpec.{MediaSpec}
 
 pub pairs_append : {X Y : Type 0} (R : X → Y → Type 0) (xs xs' : List X) (ys ys' : List Y) → EachPair R xs ys → EachPair R xs' ys' → EachPair R (xs ++ xs') (ys ++ ys')
@@ -24,33 +23,28 @@ pairs_append R [] xs' (y ∷ ys) ys' p q = absurd p
 pairs_append R (x ∷ xs) xs' [] ys' p q = absurd p
 pairs_append R (x ∷ xs) xs' (y ∷ ys) ys' p q = (p.0, pairs_append R xs xs' ys ys' p.1 q)
 
--- the spec of one kind of what is sent is made for every owner and medium
-abbrev pub MadeFor : Stream → Kind → ℕ → ℕ → SessionSpec → Type 0
-MadeFor s kind n window spec =
-    (owner : Owner) (x : Medium) → IsMadeOf (stream_session owner (numbered n s.keys) s window x kind (encrypts_for kind s) (tag_for kind s)) spec
-
 module _ (x : Medium) (call generation medium n : ℕ) where
   abbrev pub one : Direction → SessionSpec → Planned
-  one dir spec = record { medium = medium; direction = dir; spec = spec; secure = x.secure; plain = x.plain }
+  one dir spec = planned_for x medium dir spec
 
   abbrev session : Direction → Kind → Stream → ℕ → ℕ → Session
   session dir kind s number window = stream_session (owner_at call generation medium dir) (numbered number s.keys) s window x kind (encrypts_for kind s) (tag_for kind s)
 
-  planned_as : (dir : Direction) (kind : Kind) (s : Stream) (number window : ℕ) (spec : SessionSpec) → MadeFor s kind number window spec
+  planned_as : (dir : Direction) (kind : Kind) (s : Stream) (number window : ℕ) (spec : SessionSpec) → IsMadeFor s kind number window spec
       → IsPlanned (one dir spec) (session dir kind s number window)
   planned_as dir kind s number window spec made = record { made = made (owner_at call generation medium dir) x; medium_is = refl; direction_is = refl; secure_is = refl; plain_is = refl }
 
   abbrev second : ℕ
   second = n + length x.from_peer.keys
 
-  module _ (a c : SessionSpec) (opens : MadeFor x.from_peer Rtp n x.window a) (seals : MadeFor x.to_peer Rtp second 1024 c) where
+  module _ (a c : SessionSpec) (opens : IsMadeFor x.from_peer Rtp n x.window a) (seals : IsMadeFor x.to_peer Rtp second 1024 c) where
     pub without : x.has_rtcp ≡ false → EachPair IsPlanned (one Opening a ∷ one Sealing c ∷ []) (sessions_from call generation medium n (Some x ∷ []))
     without none = subst (λ b. EachPair IsPlanned (one Opening a ∷ one Sealing c ∷ [])
         ((session Opening Rtp x.from_peer n x.window ∷ cond b (session Opening Rtcp x.from_peer n x.window ∷ []) [])
         ++ ((session Sealing Rtp x.to_peer second 1024 ∷ cond b (session Sealing Rtcp x.to_peer second 1024 ∷ []) []) ++ []))) (sym none)
         (planned_as Opening Rtp x.from_peer n x.window a opens, (planned_as Sealing Rtp x.to_peer second 1024 c seals, tt))
 
-    pub with_all : (b d : SessionSpec) → MadeFor x.from_peer Rtcp n x.window b → MadeFor x.to_peer Rtcp second 1024 d → x.has_rtcp ≡ true
+    pub with_all : (b d : SessionSpec) → IsMadeFor x.from_peer Rtcp n x.window b → IsMadeFor x.to_peer Rtcp second 1024 d → x.has_rtcp ≡ true
         → EachPair IsPlanned (one Opening a ∷ one Opening b ∷ one Sealing c ∷ one Sealing d ∷ []) (sessions_from call generation medium n (Some x ∷ []))
     with_all b d opens_too seals_too all = subst (λ r. EachPair IsPlanned (one Opening a ∷ one Opening b ∷ one Sealing c ∷ one Sealing d ∷ [])
         ((session Opening Rtp x.from_peer n x.window ∷ cond r (session Opening Rtcp x.from_peer n x.window ∷ []) [])
@@ -82,29 +76,33 @@ first_planned call generation m n count x rest of_one more these many later =
     two : (a b c : List Session) → (a ++ (b ++ [])) ++ c ≡ a ++ (b ++ c)
     two a b c = ap (λ l. (a ++ l) ++ c) (append-nil b) ∙ append_assoc a b c
 
-planned_push : (old : List MediaSpec) (spec : MediaSpec) → planned (old ++ spec ∷ []) ≡ planned old ++ planned_in spec
+-- one more behind what was added
+pub pushed : (before now next these : List Planned) (p : Planned) → now ≡ before ++ these → next ≡ now ++ p ∷ [] → next ≡ before ++ (these ++ p ∷ [])
+pushed before now next these p is more = more ∙ ap (λ l. l ++ p ∷ []) is ∙ append_assoc before these (p ∷ [])
+
+pub planned_push : (old : List MediaSpec) (spec : MediaSpec) → planned (old ++ spec ∷ []) ≡ planned old ++ planned_in spec
 planned_push [] spec = append-nil (planned_in spec)
 planned_push (x ∷ old) spec = ap (λ l. planned_in x ++ l) (planned_push old spec) ∙ sym (append_assoc (planned_in x) (planned old) (planned_in spec))
 
 -- an active one adds its own
-pub next_some : (m first count count' : ℕ) (x : Medium) (old new : List MediaSpec) (spec : MediaSpec) → new ≡ old ++ spec ∷ [] → count' ≡ count + length x.from_peer.keys + length x.to_peer.keys
-    → ((call generation : ℕ) → EachPair IsPlanned (planned_in spec) (sessions_from call generation m (first + count) (Some x ∷ []))) → IsNext m first (Some x) old count new count'
-next_some m first count count' x old new spec pushed many of_one = λ call generation rest more later. (
-  planned_in spec,
-  ap planned pushed ∙ planned_push old spec,
-  first_planned call generation m (first + count) (first + count') x rest (planned_in spec) more (of_one call generation) (omega (arith, many)) later,
+pub next_some : (m first count count' : ℕ) (x : Medium) (old new these : List Planned) → new ≡ old ++ these → count' ≡ count + length x.from_peer.keys + length x.to_peer.keys
+    → ((call generation : ℕ) → ArePlanned these (sessions_from call generation m (first + count) (Some x ∷ []))) → IsNext m first (Some x) old count new count'
+next_some m first count count' x old new these pushed many of_one = λ call generation rest more later. (
+  these,
+  pushed,
+  first_planned call generation m (first + count) (first + count') x rest these more (of_one call generation) (omega (arith, many)) later,
 )
 
 -- what a loop over the media keeps
-abbrev pub WillBePlanned : ℕ → ℕ → List (Option Medium) → List MediaSpec → ℕ → List (Option Medium) → Type 0
-WillBePlanned m first media specs count left =
+abbrev pub WillBePlanned : ℕ → ℕ → List (Option Medium) → List Planned → ℕ → List (Option Medium) → Type 0
+WillBePlanned m first media plan count left =
     (call generation : ℕ) (more : List Planned) → EachPair IsPlanned more (sessions_from call generation m (first + count) left)
-    → EachPair IsPlanned (planned specs ++ more) (sessions_from call generation 0 first media)
+    → EachPair IsPlanned (plan ++ more) (sessions_from call generation 0 first media)
 
-pub will_be_all : (m first : ℕ) (media : List (Option Medium)) (specs : List MediaSpec) (count : ℕ) (left : List (Option Medium)) → left ≡ [] → WillBePlanned m first media specs count left
-    → (call generation : ℕ) → EachPair IsPlanned (planned specs) (sessions_from call generation 0 first media)
-will_be_all m first media specs count left none will = λ call generation.
-    subst (λ l. EachPair IsPlanned l (sessions_from call generation 0 first media)) (append-nil (planned specs))
+pub will_be_all : (m first : ℕ) (media : List (Option Medium)) (plan : List Planned) (count : ℕ) (left : List (Option Medium)) → left ≡ [] → WillBePlanned m first media plan count left
+    → (call generation : ℕ) → ArePlanned plan (sessions_from call generation 0 first media)
+will_be_all m first media plan count left none will = λ call generation.
+    subst (λ l. EachPair IsPlanned l (sessions_from call generation 0 first media)) (append-nil plan)
     (will call generation [] (subst (λ l. EachPair IsPlanned [] (sessions_from call generation m (first + count) l)) (sym none) tt))
 
 -- ---- the ring's keys

@@ -1,11 +1,7 @@
 -- Messages, by their stages.
-use Rattle.std.proofs.Common.{is_some, slice_get, zero, suc, ◌≡◌, ◌≤◌, ◌<◌, ◌+◌, ◌++◌, ◌∷◌, [], ℕ, Bool, true, false, cond, not, eqb, ltb, List, length, drop, get_or, Option, Some, None, Result, Ok, Err, refl, sym, ap, ◌∙◌, subst, arith}
+use Rattle.std.proofs.Common.{slice_get, zero, suc, ◌≡◌, ◌≤◌, ◌<◌, ◌+◌, ◌++◌, ◌∷◌, [], ℕ, Bool, true, false, cond, not, eqb, ltb, List, length, drop, get_or, Option, Some, None, Result, Ok, Err, refl, sym, ap, ◌∙◌, subst, arith}
 use Rattle.std.specs.Prelude.{IfSome}
 use Rattle.std.proofs.lemmas.Bool.{ltb-false}
-use Rattle.sg_agreement.specs.Attributes.{mikey_value}
-use Rattle.sg_agreement.specs.Offers.{keying_by_messages}
-use Rattle.sg_agreement.specs.Sides.{active_count}
-use Rattle.sg_sdp.specs.declared.sdp.Sdp.{Sdp}
 use Rattle.std.proofs.lemmas.List.{append-nil}
 use Rattle.sg_agreement.proofs.Walks.{active_at}
 use Rattle.sg_agreement.specs.EachMedium.{if_active, each_active}

@@ -10,19 +10,19 @@ use Rattle.sg_keys.specs.declared.ring.RingFault.{RingFault}
 use Rattle.sg_keys.specs.declared.ring.RingFault.TheVariants as ring
 use Rattle.sg_session.specs.Ring.{Installed, RingKey, install}
 use Rattle.std.specs.Global.{Vec}
-use Rattle.sg_leg.specs.Planned.{ArePlanned}
-use Rattle.sg_leg.specs.declared.media_spec.MediaSpec.{MediaSpec}
+use Rattle.sg_leg.specs.Planned.{Planned, ArePlanned, planned_sides}
+use Rattle.sg_leg.specs.declared.media_spec.SideSpec.{SideSpec}
 
--- The keys of the media are in the ring, and the specs are those of their sessions; or they are refused.
-abbrev pub IsKeyed : ℕ → ℕ → List Installed → List (Option Medium) → Result (List MediaSpec) Fault → List RingKey → Type 0
-IsKeyed call generation old media (Ok specs) ring =
-    (new : List Installed) × (install old (keys_from call generation 0 media) ≡ Ok new) × (keys_of new ≡ ring) × ArePlanned specs (sessions_from call generation 0 (length old) media)
+-- The keys of the media are in the ring, and what is planned are their sessions; or they are refused.
+abbrev pub IsKeyed : ℕ → ℕ → List Installed → List (Option Medium) → Result (List Planned) Fault → List RingKey → Type 0
+IsKeyed call generation old media (Ok plan) ring =
+    (new : List Installed) × (install old (keys_from call generation 0 media) ≡ Ok new) × (keys_of new ≡ ring) × ArePlanned plan (sessions_from call generation 0 (length old) media)
 IsKeyed call generation old media (Err (Refused cause)) ring = install old (keys_from call generation 0 media) ≡ Err cause
 IsKeyed call generation old media (Err NoMemory) ring = Unit {0}
 
-abbrev pub specs_of : Result (Vec MediaSpec) Fault → Result (List MediaSpec) Fault
-specs_of (Ok specs) = Ok specs.items
-specs_of (Err fault) = Err fault
+abbrev pub plan_of : Result (Vec SideSpec) Fault → Result (List Planned) Fault
+plan_of (Ok sides) = Ok (planned_sides sides.items)
+plan_of (Err fault) = Err fault
 
 abbrev pub fault_of : RingFault → Fault
 fault_of (ring.KeyReused n) = Refused (KeyReused n)

@@ -1,6 +1,5 @@
 -- Open offers, as they are kept, and what offers and answers give.
 use Rattle.std.specs.Prelude.{◌≡◌, ◌≤◌, ℕ, true, is_some, List, [], ◌∷◌, length, slice_get, Option, Some, None, option_map, Result, Ok, Err}
-use Rattle.std.specs.Global.{Vec}
 use Rattle.sg_agreement.specs.Answers.{AgreedAnswer, agreed_answer}
 use Rattle.sg_agreement.specs.Generations.{Generation, generation_of}
 use Rattle.sg_agreement.specs.Keyed.{Keyed}
@@ -23,6 +22,7 @@ use Rattle.sg_sdp.specs.declared.medium.Medium as descriptions
 use Rattle.sg_session.specs.Ring.{Installed, RingKey}
 use Rattle.sg_session.specs.Stages.{after_ok}
 use Rattle.sg_leg.specs.Pairs.{EachPair}
+use Rattle.sg_leg.specs.Planned.{Planned}
 use Rattle.sg_leg.specs.Standing.{IsGeneration}
 use Rattle.sg_leg.specs.Values.{LiveValue, OfferedValue}
 use Rattle.sg_leg.specs.declared.books.Books.{Books}
@@ -30,7 +30,6 @@ use Rattle.sg_leg.specs.declared.keying.Bundle.{Bundle}
 use Rattle.sg_leg.specs.declared.keying.Keying.{Keying}
 use Rattle.sg_leg.specs.declared.keying.Keying.TheVariants as kept
 use Rattle.sg_leg.specs.declared.keying.Opening.{Opening}
-use Rattle.sg_leg.specs.declared.media_spec.MediaSpec.{MediaSpec}
 
 -- ---- what is kept names pre-shared pairs by their positions
 
@@ -127,23 +126,27 @@ answer_of (Err fault) = Err fault
 abbrev pub IsAnswerOf : Result AgreedAnswer Fault → Result AgreedAnswer Refusal → Type 0
 IsAnswerOf a r = Tells a r
 
-abbrev pub IsGiven : List ℕ → List MediaSpec → List RingKey → Result (List ℕ × Generation) Refusal → Type 0
-IsGiven text specs ring r = (x : List ℕ × Generation) × (r ≡ Ok x) × (text ≡ x.0) × IsGeneration specs ring x.1
+abbrev pub IsGiven : List ℕ → List Planned → List RingKey → Result (List ℕ × Generation) Refusal → Type 0
+IsGiven text plan ring r = (x : List ℕ × Generation) × (r ≡ Ok x) × (text ≡ x.0) × IsGeneration plan ring x.1
 
-abbrev pub IsAgreed : Result (List ℕ × Vec MediaSpec) Fault → List RingKey → Result (List ℕ × Generation) Refusal → Type 0
-IsAgreed (Ok (text, specs)) ring r = IsGiven text specs.items ring r
-IsAgreed (Err (Refused cause)) ring r = r ≡ Err cause
-IsAgreed (Err NoMemory) ring r = Unit {0}
+-- it is refused for this cause; memory may be wanting
+abbrev pub IsRefusedBy : Fault → Result (List ℕ × Generation) Refusal → Type 0
+IsRefusedBy (Refused cause) r = r ≡ Err cause
+IsRefusedBy NoMemory r = Unit {0}
+
+abbrev pub IsAgreed : {S : Type 0} → (S → List Planned) → Result (List ℕ × S) Fault → List RingKey → Result (List ℕ × Generation) Refusal → Type 0
+IsAgreed plan (Ok (text, specs)) ring r = IsGiven text (plan specs) ring r
+IsAgreed plan (Err fault) ring r = IsRefusedBy fault r
 
 -- the state after it
 abbrev pub live_after : OfferedValue → LiveValue
 live_after o = record { slot = o.slot; media = length o.description.media; manual = Rattle.std.specs.Prelude.false }
 
--- the specs stand in a list, of which `items` is what it holds
-abbrev pub IsAnswered : {S F : Type 0} → (S → List MediaSpec) → OfferedValue → Result (LiveValue × List ℕ × S) (F × Fault) → List RingKey → Result (List ℕ × Generation) Refusal → Type 0
-IsAnswered items o (Ok (live, text, specs)) ring r = (live ≡ live_after o) × IsGiven text (items specs) ring r
-IsAnswered items o (Err (state, Refused cause)) ring r = r ≡ Err cause
-IsAnswered items o (Err (state, NoMemory)) ring r = Unit {0}
+-- the sessions are those that `plan` tells
+abbrev pub IsAnswered : {S F : Type 0} → (S → List Planned) → OfferedValue → Result (LiveValue × List ℕ × S) (F × Fault) → List RingKey → Result (List ℕ × Generation) Refusal → Type 0
+IsAnswered plan o (Ok (live, text, specs)) ring r = (live ≡ live_after o) × IsGiven text (plan specs) ring r
+IsAnswered plan o (Err (state, Refused cause)) ring r = r ≡ Err cause
+IsAnswered plan o (Err (state, NoMemory)) ring r = Unit {0}
 
 -- ---- addresses
 

@@ -8,12 +8,13 @@ ghost use Rattle.sg_agreement.specs.Manual.{medium_under, manual_stream};
 ghost use Rattle.sg_keys.specs.Installing.{keys_of};
 ghost use Rattle.sg_session.specs.Ring.{Installed};
 ghost use Rattle.sg_leg.specs.Served.{IsServedMedium};
+ghost use Rattle.sg_leg.specs.Planned.{planned_in, planned_sides};
 ghost use Rattle.sg_leg.specs.Standing.{IsManual};
 
 use crate::media::{AgreedMedium, SideKeys};
 use crate::offered::open;
 use crate::settling::settle_one;
-use crate::{Books, Live, MediaSpec, Offered, Way};
+use crate::{Books, Live, MediaSpec, Offered, SideSpec, Way};
 use sg_base::{Address, Fault, MasterKey, Octets, RTP_LIFE, WINDOW_LEAST, WINDOW_MOST};
 use sg_keys::Admit;
 use sg_sdes::{InlineKey, InlineKeys};
@@ -75,14 +76,6 @@ fn manual_medium(
     }
 }
 
-/// The spec of the one medium.
-fn only(mut specs: Vec<MediaSpec>) -> MediaSpec
-    requires { length specs.items ≡ 1 }
-    ensures { result ∷ [] ≡ specs.items }
-{
-    specs.remove(0)
-}
-
 impl Idle {
     /// A call in this slot.
     pub fn make(slot: u8) -> Idle
@@ -125,21 +118,21 @@ impl Idle {
         from_peer: &MasterKey,
         to_peer: &MasterKey,
         books: &mut Books,
-    ) -> Result<(Live, Vec<MediaSpec>), (Idle, Fault)>
-        ensures answer { (call generation : ℕ) (ring : List Installed) → keys_of ring ≡ books.old.ring → IsManual (λ specs. specs.items) self result books.new.ring
+    ) -> Result<(Live, Vec<SideSpec>), (Idle, Fault)>
+        ensures answer { (call generation : ℕ) (ring : List Installed) → keys_of ring ≡ books.old.ring → IsManual (λ sides. planned_sides sides.items) self result books.new.ring
             (generation_of call generation ring (Some (medium_under secure plain roc window from_peer.now to_peer.now) ∷ [])) }
-        ensures one { IfOk result (λ r. length r.1.items ≡ 1) }
+        ensures few { IfOk result (λ r. length r.1.items ≤ 4) }
         ensures back { IfErr result (λ e. (e.0 ≡ self) × (books.new ≡ books.old)) }
         ensures others { (books.new.psks ≡ books.old.psks) × (books.new.seen ≡ books.old.seen) }
     {
         let medium = manual_medium(secure, plain, roc, window, from_peer, to_peer);
         match settle_one(alloc, &medium, &mut books.ring) {
-            Ok(specs) => Ok((Live::new(self.slot, 1, true), specs)),
+            Ok(sides) => Ok((Live::new(self.slot, 1, true), sides)),
             Err(fault) => Err((self, fault)),
         }
     }
 
-    /// The same, with what the sides are made of on the stack: some 32 KB.
+    /// The same, with what all sides are made of in one value on the stack: some 32 KB.
     pub fn manual(
         self,
         alloc: Global,
@@ -151,14 +144,19 @@ impl Idle {
         to_peer: &MasterKey,
         books: &mut Books,
     ) -> Result<(Live, MediaSpec), (Idle, Fault)>
-        ensures answer { (call generation : ℕ) (ring : List Installed) → keys_of ring ≡ books.old.ring → IsManual (λ spec. spec ∷ []) self result books.new.ring
+        ensures answer { (call generation : ℕ) (ring : List Installed) → keys_of ring ≡ books.old.ring → IsManual planned_in self result books.new.ring
             (generation_of call generation ring (Some (medium_under secure plain roc window from_peer.now to_peer.now) ∷ [])) }
         ensures back { IfErr result (λ e. (e.0 ≡ self) × (books.new ≡ books.old)) }
         ensures others { (books.new.psks ≡ books.old.psks) × (books.new.seen ≡ books.old.seen) }
     {
-        match self.settle(alloc, secure, plain, roc, window, from_peer, to_peer, books) {
-            Ok((live, specs)) => Ok((live, only(specs))),
-            Err(back) => Err(back),
+        let medium = manual_medium(secure, plain, roc, window, from_peer, to_peer);
+        let first = books.ring.count();
+        match settle_one(alloc, &medium, &mut books.ring) {
+            Ok(sides) => {
+                drop(sides);
+                Ok((Live::new(self.slot, 1, true), medium.spec(0, first)))
+            }
+            Err(fault) => Err((self, fault)),
         }
     }
 }

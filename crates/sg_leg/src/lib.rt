@@ -17,11 +17,12 @@ mod noting;
 mod offered;
 mod replying;
 mod settling;
+mod sides;
 
 pub use books::Books;
 pub use idle::Idle;
 pub use keying::{Bundle, Keying, Opening};
 pub use live::{Ended, Live};
-pub use media_spec::MediaSpec;
+pub use media_spec::{MEDIUM_SIDES, MediaSpec, SideSpec};
 pub use offered::Offered;
 pub use sg_agreement::Way;

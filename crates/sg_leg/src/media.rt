@@ -178,7 +178,7 @@ impl SideKeys {
     }
 
     /// How many keys it has.
-    fn count(&self) -> u32
+    pub(crate) fn count(&self) -> u32
         requires { length self.now.keys ≤ 8 }
         ensures { result ≡ length self.now.keys }
     {
@@ -205,6 +205,15 @@ impl SideKeys {
 }
 
 impl AgreedMedium {
+    /// How many keys it has, both ways.
+    pub(crate) fn count(&self) -> u32
+        requires from_peer { length self.now.from_peer.keys ≤ 8 }
+        requires to_peer { length self.now.to_peer.keys ≤ 8 }
+        ensures { result ≡ length self.now.from_peer.keys + length self.now.to_peer.keys }
+    {
+        self.from_peer.count() + self.to_peer.count()
+    }
+
     /// What the sides of this medium are made of, whose keys' numbers begin at `first`.
     pub(crate) fn spec(&self, medium: u8, first: u32) -> MediaSpec
         requires served { IsServedMedium self.now }

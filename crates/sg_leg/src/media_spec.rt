@@ -2,11 +2,15 @@
 
 ghost use Rattle.std.specs.Prelude.{◌≡◌};
 ghost use Rattle.sg_media.specs.Sides.{CanBeMade};
-ghost use Rattle.sg_leg.specs.Sound.{AreSound};
+ghost use Rattle.sg_leg.specs.Sound.{AreSound, IsSound};
 
 use arrayvec::ArrayVec;
 use sg_base::{Address, CipherKey, HalfKeys, Kind, RTCP_TAG, WINDOW_LEAST};
 use sg_keys::{Admit, KeySet, LiveKey, SessionSpec};
+use sg_session::Direction;
+
+/// The most sides of a medium: RTP and RTCP, opened and sealed.
+pub const MEDIUM_SIDES: usize = 4;
 
 /// What the sides of an active medium are made of, and where its packets go.
 #[derive(Drop)]
@@ -19,6 +23,17 @@ pub struct MediaSpec {
     pub secure: Address,
     pub plain: Address,
     ghost sound: { AreSound open_rtp open_rtcp seal_rtp seal_rtcp secure plain },
+}
+
+/// What one side of an active medium is made of, and where its packets go.
+#[derive(Drop)]
+pub struct SideSpec {
+    pub medium: u8,
+    pub direction: Direction,
+    pub spec: SessionSpec,
+    pub secure: Address,
+    pub plain: Address,
+    ghost sound: { IsSound spec secure plain },
 }
 
 /// The blank of a bounded list: a medium under a key that serves no packet.

@@ -1,9 +1,10 @@
 //! A call with an open offer.
 
-ghost use Rattle.std.specs.Prelude.{◌≡◌, ◌≤◌, ℕ, List, Some, None, length, map, IfOk, IfErr, OnErr, MatchResult};
+ghost use Rattle.std.specs.Prelude.{◌≡◌, ◌≤◌, ◌<◌, ◌+◌, ℕ, List, Some, None, length, map, IfOk, IfErr, OnErr, MatchResult};
 ghost use Rattle.std.specs.List.{All};
 ghost use Rattle.sg_agreement.specs.Answers.{agreed_answer, answered_by, lines_of};
 ghost use Rattle.sg_agreement.specs.CarriedTexts.{carried_text, ports_from};
+ghost use Rattle.sg_agreement.specs.Generations.{sessions_from};
 ghost use Rattle.sg_agreement.specs.Keyed.{media_agreed};
 ghost use Rattle.sg_agreement.specs.Keying.{Offer};
 ghost use Rattle.sg_agreement.specs.Offers.{agreed_offer};
@@ -12,6 +13,7 @@ ghost use Rattle.sg_sdp.specs.declared.medium.Medium as descriptions;
 ghost use Rattle.sg_session.specs.Ring.{Installed};
 ghost use Rattle.sg_leg.specs.Answering.{Tells};
 ghost use Rattle.sg_leg.specs.Open.{AreAddressed, IsAgreed, IsAnswerOf, IsAnswered, IsOpen, IsOpened, answer_of, answered_with, at_hand, media_of};
+ghost use Rattle.sg_leg.specs.Planned.{ArePlanned, IsNext, planned, planned_sides};
 ghost use Rattle.sg_leg.specs.Served.{IsServedIf};
 
 use crate::answering::{
@@ -24,7 +26,7 @@ use crate::media::AgreedMedium;
 use crate::noting::note_all;
 use crate::replying::{by_media_messages, by_response, by_session_message};
 use crate::settling::settle;
-use crate::{Books, Ended, Live, MediaSpec, Way};
+use crate::{Books, Ended, Live, MediaSpec, SideSpec, Way};
 use arrayvec::ArrayVec;
 use sg_agreement::agreements_are_sound;
 use sg_base::{Fault, NoMemory, Octets, Side};
@@ -120,16 +122,45 @@ pub(crate) fn open(
     Ok((offered, out))
 }
 
-/// The same specs in a list of four at most.
-fn bounded(specs: Vec<MediaSpec>) -> ArrayVec<MediaSpec, 4>
-    requires { length specs.items ≤ 4 }
-    ensures { result.items ≡ specs.items }
+/// Adds what the sides of a medium are made of, behind so many keys, and tells how many keys there are then. Of an idle medium
+/// nothing is added.
+fn add_spec(
+    medium: &Option<AgreedMedium>,
+    m: u8,
+    first: u32,
+    count: u32,
+    specs: &mut ArrayVec<MediaSpec, 4>,
+) -> u32
+    requires served { IsServedIf medium.now }
+    requires first { first ≤ 65536 }
+    requires count { count ≤ 48 }
+    requires room { length specs.old.items < 4 }
+    ensures next { IsNext m first medium.now (planned specs.old.items) count (planned specs.new.items) result }
+    ensures few { result ≤ count + 16 }
+    ensures one { length specs.new.items ≤ length specs.old.items + 1 }
 {
-    let mut list = ArrayVec::new();
-    for spec in specs {
-        list.push(spec);
+    match medium {
+        None => count,
+        Some(medium) => {
+            specs.push(medium.spec(m, first + count));
+            count + medium.count()
+        }
     }
-    list
+}
+
+/// What the sides of media are made of, where the first key has this number.
+fn specs_of(media: &[Option<AgreedMedium>], first: u32) -> ArrayVec<MediaSpec, 4>
+    requires few { length media.now ≤ 4 }
+    requires first { first ≤ 65536 }
+    requires served { All IsServedIf media.now }
+    ensures { (call generation : ℕ) → ArePlanned (planned result.items) (sessions_from call generation 0 first media.now) }
+{
+    let mut specs = ArrayVec::new();
+    let mut count = 0;
+    for (m, medium) in media.iter().enumerate() {
+        count = add_spec(medium, m as u8, first, count, &mut specs);
+    }
+    specs
 }
 
 impl Offered {
@@ -157,25 +188,25 @@ impl Offered {
         text: &[u8],
         noise: &[u8; 304],
         books: &mut Books,
-    ) -> Result<(Live, Octets, Vec<MediaSpec>), (Offered, Fault)>
+    ) -> Result<(Live, Octets, Vec<SideSpec>), (Offered, Fault)>
         requires open { (offer : Offer) × IsOpen books.old.psks self offer }
         ensures answer { (offer : Offer) (call generation : ℕ) (ring : List Installed) → IsOpen books.old.psks self offer → keys_of ring ≡ books.old.ring
-            → IsAnswered (λ specs. specs.items) self result books.new.ring (answered_with self.slot offer noise.now text.now call generation ring) }
-        ensures few { IfOk result (λ r. length r.2.items ≤ 4) }
+            → IsAnswered (λ sides. planned_sides sides.items) self result books.new.ring (answered_with self.slot offer noise.now text.now call generation ring) }
+        ensures few { IfOk result (λ r. length r.2.items ≤ 16) }
         ensures back { IfErr result (λ e. (e.0 ≡ self) × (books.new ≡ books.old)) }
         ensures others { (books.new.psks ≡ books.old.psks) × (books.new.seen ≡ books.old.seen) }
     {
         match self.new_generation(alloc, text, noise, books) {
-            Ok((text, specs)) => {
+            Ok((text, sides)) => {
                 let live = Live::new(self.slot, self.media(), false);
                 drop(self);
-                Ok((live, text, specs))
+                Ok((live, text, sides))
             }
             Err(fault) => Err((self, fault)),
         }
     }
 
-    /// The same, with what the sides are made of in a list of four at most, which lies on the stack: some 128 KB.
+    /// The same, with what the sides are made of by medium, in a list of four at most, which lies on the stack: some 128 KB.
     pub fn answer(
         self,
         alloc: Global,
@@ -185,29 +216,33 @@ impl Offered {
     ) -> Result<(Live, Octets, ArrayVec<MediaSpec, 4>), (Offered, Fault)>
         requires open { (offer : Offer) × IsOpen books.old.psks self offer }
         ensures answer { (offer : Offer) (call generation : ℕ) (ring : List Installed) → IsOpen books.old.psks self offer → keys_of ring ≡ books.old.ring
-            → IsAnswered (λ specs. specs.items) self result books.new.ring (answered_with self.slot offer noise.now text.now call generation ring) }
+            → IsAnswered (λ specs. planned specs.items) self result books.new.ring (answered_with self.slot offer noise.now text.now call generation ring) }
         ensures back { IfErr result (λ e. (e.0 ≡ self) × (books.new ≡ books.old)) }
         ensures others { (books.new.psks ≡ books.old.psks) × (books.new.seen ≡ books.old.seen) }
     {
-        match self.settle(alloc, text, noise, books) {
-            Ok((live, text, specs)) => Ok((live, text, bounded(specs))),
-            Err(back) => Err(back),
+        match self.new_specs(alloc, text, noise, books) {
+            Ok((text, specs)) => {
+                let live = Live::new(self.slot, self.media(), false);
+                drop(self);
+                Ok((live, text, specs))
+            }
+            Err(fault) => Err((self, fault)),
         }
     }
 
-    /// The text for the side that offered, and the specs of the new generation. Memory is taken before the ring
-    /// changes.
+    /// The text for the side that offered, and what the sides of the new generation are made of. Memory is taken before the
+    /// ring changes.
     fn new_generation(
         &self,
         alloc: Global,
         text: &[u8],
         noise: &[u8; 304],
         books: &mut Books,
-    ) -> Result<(Octets, Vec<MediaSpec>), Fault>
+    ) -> Result<(Octets, Vec<SideSpec>), Fault>
         requires open { (offer : Offer) × IsOpen books.old.psks self.now offer }
         ensures given { (offer : Offer) (call generation : ℕ) (ring : List Installed) → IsOpen books.old.psks self.now offer → keys_of ring ≡ books.old.ring
-            → IsAgreed result books.new.ring (answered_with self.now.slot offer noise.now text.now call generation ring) }
-        ensures few { IfOk result (λ r. length r.1.items ≤ 4) }
+            → IsAgreed (λ sides. planned_sides sides.items) result books.new.ring (answered_with self.now.slot offer noise.now text.now call generation ring) }
+        ensures few { IfOk result (λ r. length r.1.items ≤ 16) }
         ensures err { OnErr result (books.new ≡ books.old) }
         ensures others { (books.new.psks ≡ books.old.psks) × (books.new.seen ≡ books.old.seen) }
     {
@@ -216,7 +251,35 @@ impl Offered {
             Err(fault) => return Err(fault),
         };
         match settle(alloc, media.as_slice(), &mut books.ring) {
-            Ok(specs) => Ok((text, specs)),
+            Ok(sides) => Ok((text, sides)),
+            Err(fault) => Err(fault),
+        }
+    }
+
+    /// The same, by medium.
+    fn new_specs(
+        &self,
+        alloc: Global,
+        text: &[u8],
+        noise: &[u8; 304],
+        books: &mut Books,
+    ) -> Result<(Octets, ArrayVec<MediaSpec, 4>), Fault>
+        requires open { (offer : Offer) × IsOpen books.old.psks self.now offer }
+        ensures given { (offer : Offer) (call generation : ℕ) (ring : List Installed) → IsOpen books.old.psks self.now offer → keys_of ring ≡ books.old.ring
+            → IsAgreed (λ specs. planned specs.items) result books.new.ring (answered_with self.now.slot offer noise.now text.now call generation ring) }
+        ensures err { OnErr result (books.new ≡ books.old) }
+        ensures others { (books.new.psks ≡ books.old.psks) × (books.new.seen ≡ books.old.seen) }
+    {
+        let (text, media) = match self.read_answer(alloc, text, noise, &books.psks) {
+            Ok(agreed) => agreed,
+            Err(fault) => return Err(fault),
+        };
+        let first = books.ring.count();
+        match settle(alloc, media.as_slice(), &mut books.ring) {
+            Ok(sides) => {
+                drop(sides);
+                Ok((text, specs_of(media.as_slice(), first)))
+            }
             Err(fault) => Err(fault),
         }
     }

@@ -8,13 +8,12 @@ ghost use Rattle.sg_keys.specs.Reused.{given};
 ghost use Rattle.sg_session.specs.Ring as ring;
 ghost use Rattle.sg_session.specs.Ring.{Installed};
 ghost use Rattle.sg_leg.specs.FreshKeys.{media_keys, ring_keys};
-ghost use Rattle.sg_leg.specs.Installing.{IsKeyed, IsInstalled, fault_of, specs_of};
-ghost use Rattle.sg_leg.specs.Planned.{AreOfMedium, ArePlanned, IsNext};
-ghost use Rattle.sg_leg.specs.declared.media_spec.MediaSpec.{MediaSpec};
+ghost use Rattle.sg_leg.specs.Installing.{IsKeyed, IsInstalled, fault_of, plan_of};
+ghost use Rattle.sg_leg.specs.Planned.{ArePlanned, IsNext, planned_sides};
 ghost use Rattle.sg_leg.specs.Served.{IsServedIf, IsServedMedium};
 
-use crate::MediaSpec;
 use crate::media::AgreedMedium;
+use crate::{MEDIUM_SIDES, SideSpec};
 use sg_base::{Fault, MEDIA_MOST, MasterKey, NoMemory, Refusal, SessionKeys};
 use sg_keys::{Ring, RingFault};
 use sg_sdes::InlineKey;
@@ -27,7 +26,7 @@ type Derived = (MasterKey, SessionKeys);
 #[derive(Drop)]
 struct Prepared {
     keys: Vec<Derived>,
-    specs: Vec<MediaSpec>,
+    sides: Vec<SideSpec>,
 }
 
 fn derived(master: &MasterKey) -> Derived
@@ -57,40 +56,25 @@ fn add_medium_keys(medium: &AgreedMedium, out: &mut Vec<Derived>) -> Result<(), 
     Ok(())
 }
 
-/// Adds what the sides of a medium are made of, whose first key has this number. It isn't inlined, so that its frame,
-/// some 100 KB, is no part of a caller's.
-#[inline(never)]
-fn add_spec(medium: &AgreedMedium, m: u8, first: u32, specs: &mut Vec<MediaSpec>)
-    requires served { IsServedMedium medium.now }
-    requires numbers { first + length medium.now.from_peer.keys ≤ 65600 }
-    requires room { vec_len specs.old < vec_capacity specs.old }
-    ensures spec { (spec : MediaSpec) × (specs.new.items ≡ specs.old.items ++ spec ∷ [])
-        × ((call generation : ℕ) → AreOfMedium spec (sessions_from call generation m first (Some medium.now ∷ []))) }
-    ensures len { vec_len specs.new ≡ vec_len specs.old + 1 }
-    ensures capacity { vec_capacity specs.new ≡ vec_capacity specs.old }
-{
-    specs.push_reserved(medium.spec(m, first));
-}
-
 /// Adds the keys of a medium and what its sides are made of.
 fn add_medium(
     medium: &AgreedMedium,
     m: u8,
     first: u32,
     keys: &mut Vec<Derived>,
-    specs: &mut Vec<MediaSpec>,
+    sides: &mut Vec<SideSpec>,
 ) -> Result<(), NoMemory>
     requires served { IsServedMedium medium.now }
     requires first { first ≤ 65536 }
     requires few { vec_len keys.old ≤ 48 }
-    requires room { vec_len specs.old < vec_capacity specs.old }
+    requires room { vec_len sides.old + 4 ≤ vec_capacity sides.old }
     ensures given { OnOk result (map given keys.new.items ≡ map given keys.old.items ++ media_keys (Some medium.now ∷ [])) }
-    ensures next { OnOk result (IsNext m first (Some medium.now) specs.old.items (vec_len keys.old) specs.new.items (vec_len keys.new)) }
+    ensures next { OnOk result (IsNext m first (Some medium.now) (planned_sides sides.old.items) (vec_len keys.old) (planned_sides sides.new.items) (vec_len keys.new)) }
     ensures few { OnOk result (vec_len keys.new ≤ vec_len keys.old + 16) }
-    ensures one { OnOk result (vec_len specs.new ≤ vec_len specs.old + 1) }
-    ensures capacity { OnOk result (vec_capacity specs.new ≡ vec_capacity specs.old) }
+    ensures four { OnOk result (vec_len sides.new ≤ vec_len sides.old + 4) }
+    ensures capacity { OnOk result (vec_capacity sides.new ≡ vec_capacity sides.old) }
 {
-    add_spec(medium, m, first + keys.len() as u32, specs);
+    medium.add_sides(m, first + keys.len() as u32, sides);
     add_medium_keys(medium, keys)?;
     Ok(())
 }
@@ -101,21 +85,21 @@ fn add(
     m: u8,
     first: u32,
     keys: &mut Vec<Derived>,
-    specs: &mut Vec<MediaSpec>,
+    sides: &mut Vec<SideSpec>,
 ) -> Result<(), NoMemory>
     requires served { IsServedIf medium.now }
     requires first { first ≤ 65536 }
     requires few { vec_len keys.old ≤ 48 }
-    requires room { vec_len specs.old < vec_capacity specs.old }
+    requires room { vec_len sides.old + 4 ≤ vec_capacity sides.old }
     ensures given { OnOk result (map given keys.new.items ≡ map given keys.old.items ++ media_keys (medium.now ∷ [])) }
-    ensures next { OnOk result (IsNext m first medium.now specs.old.items (vec_len keys.old) specs.new.items (vec_len keys.new)) }
+    ensures next { OnOk result (IsNext m first medium.now (planned_sides sides.old.items) (vec_len keys.old) (planned_sides sides.new.items) (vec_len keys.new)) }
     ensures few { OnOk result (vec_len keys.new ≤ vec_len keys.old + 16) }
-    ensures one { OnOk result (vec_len specs.new ≤ vec_len specs.old + 1) }
-    ensures capacity { OnOk result (vec_capacity specs.new ≡ vec_capacity specs.old) }
+    ensures four { OnOk result (vec_len sides.new ≤ vec_len sides.old + 4) }
+    ensures capacity { OnOk result (vec_capacity sides.new ≡ vec_capacity sides.old) }
 {
     match medium {
         None => Ok(()),
-        Some(medium) => add_medium(medium, m, first, keys, specs),
+        Some(medium) => add_medium(medium, m, first, keys, sides),
     }
 }
 
@@ -126,15 +110,15 @@ fn prepare(alloc: Global, media: &[Option<AgreedMedium>], first: u32) -> Result<
     requires served { All IsServedIf media.now }
     ensures given { IfOk result (λ p. map given p.keys.items ≡ media_keys media.now) }
     ensures few { IfOk result (λ p. length p.keys.items ≤ 65536) }
-    ensures four { IfOk result (λ p. length p.specs.items ≤ 4) }
-    ensures planned { IfOk result (λ p. (call generation : ℕ) → ArePlanned p.specs.items (sessions_from call generation 0 first media.now)) }
+    ensures four { IfOk result (λ p. length p.sides.items ≤ 16) }
+    ensures planned { IfOk result (λ p. (call generation : ℕ) → ArePlanned (planned_sides p.sides.items) (sessions_from call generation 0 first media.now)) }
 {
     let mut keys = Vec::new(alloc);
-    let mut specs = Vec::with_capacity(alloc, MEDIA_MOST)?;
+    let mut sides = Vec::with_capacity(alloc, MEDIA_MOST * MEDIUM_SIDES)?;
     for (m, medium) in media.iter().enumerate() {
-        add(medium, m as u8, first, &mut keys, &mut specs)?;
+        add(medium, m as u8, first, &mut keys, &mut sides)?;
     }
-    Ok(Prepared { keys, specs })
+    Ok(Prepared { keys, sides })
 }
 
 /// The fault of keys that the ring doesn't take in.
@@ -167,19 +151,19 @@ pub(crate) fn settle(
     alloc: Global,
     media: &[Option<AgreedMedium>],
     ring: &mut Ring,
-) -> Result<Vec<MediaSpec>, Fault>
+) -> Result<Vec<SideSpec>, Fault>
     requires few { length media.now ≤ 4 }
     requires served { All IsServedIf media.now }
     ensures keyed { (call generation : ℕ) (old : List Installed) → keys_of old ≡ ring.old
-        → IsKeyed call generation old media.now (specs_of result) ring.new }
-    ensures few { IfOk result (λ specs. length specs.items ≤ 4) }
+        → IsKeyed call generation old media.now (plan_of result) ring.new }
+    ensures few { IfOk result (λ sides. length sides.items ≤ 16) }
     ensures err { OnErr result (ring.new ≡ ring.old) }
 {
     let Ok(prepared) = prepare(alloc, media, ring.count()) else {
         return Err(Fault::NoMemory);
     };
     match install(ring, &prepared.keys) {
-        Ok(()) => Ok(prepared.specs),
+        Ok(()) => Ok(prepared.sides),
         Err(fault) => Err(fault),
     }
 }
@@ -189,23 +173,23 @@ pub(crate) fn settle_one(
     alloc: Global,
     medium: &AgreedMedium,
     ring: &mut Ring,
-) -> Result<Vec<MediaSpec>, Fault>
+) -> Result<Vec<SideSpec>, Fault>
     requires served { IsServedMedium medium.now }
     ensures keyed { (call generation : ℕ) (old : List Installed) → keys_of old ≡ ring.old
-        → IsKeyed call generation old (Some medium.now ∷ []) (specs_of result) ring.new }
-    ensures one { IfOk result (λ specs. length specs.items ≡ 1) }
+        → IsKeyed call generation old (Some medium.now ∷ []) (plan_of result) ring.new }
+    ensures few { IfOk result (λ sides. length sides.items ≤ 4) }
     ensures err { OnErr result (ring.new ≡ ring.old) }
 {
     let mut keys = Vec::new(alloc);
     let Ok(()) = add_medium_keys(medium, &mut keys) else {
         return Err(Fault::NoMemory);
     };
-    let Ok(mut specs) = Vec::with_capacity(alloc, 1) else {
+    let Ok(mut sides) = Vec::with_capacity(alloc, MEDIUM_SIDES) else {
         return Err(Fault::NoMemory);
     };
-    add_spec(medium, 0, ring.count(), &mut specs);
+    medium.add_sides(0, ring.count(), &mut sides);
     match install(ring, &keys) {
-        Ok(()) => Ok(specs),
+        Ok(()) => Ok(sides),
         Err(fault) => Err(fault),
     }
 }

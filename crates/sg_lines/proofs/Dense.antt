@@ -63,12 +63,7 @@ dense_hex (b ∷ octets) fits = dense_encoded (b ∷ octets) fits
 pub dense_suite : (s : Suite) → IsDense (suite_name s)
 unfolding suite_name
 dense_suite Raw80 = dense_test (suite_name Raw80) refl
-dense_suite Cm128Tag80 = dense_test (suite_name Cm128Tag80) refl
-dense_suite Cm128Tag32 = dense_test (suite_name Cm128Tag32) refl
-dense_suite Cm192Tag80 = dense_test (suite_name Cm192Tag80) refl
-dense_suite Cm192Tag32 = dense_test (suite_name Cm192Tag32) refl
-dense_suite Cm256Tag80 = dense_test (suite_name Cm256Tag80) refl
-dense_suite Cm256Tag32 = dense_test (suite_name Cm256Tag32) refl
+dense_suite other = dense_test (suite_name other) refl
 
 dense_printing : (t : List ℕ) → list_all is_printing t ≡ true → IsDense t
 dense_printing [] e = tt

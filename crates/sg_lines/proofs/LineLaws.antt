@@ -118,8 +118,6 @@ signal_again version (Bye call) fits = rw (FieldLaws.call_again call fits) refl
 
 body_again : (version : ℕ) (l : Line) → FitsBody version l → said_by version (line_fields l) ≡ Ok l
 unfolding four_fields five_fields datagram_from datagram_at_from
-body_again version lines.Header fits = absurd fits
-body_again version lines.HeaderTwo fits = absurd fits
 body_again version (lines.DatagramAt now port from octets) fits =
     let most = fits.4 in
     rw (
@@ -132,6 +130,7 @@ body_again version (lines.DatagramAt now port from octets) fits =
 body_again version (lines.Datagram port from octets) fits =
     rw (ne_eqb version 2 fits.3, FieldLaws.number_in_again 65535 port fits.0 (lit< tt), FieldLaws.address_in_again from fits.1, FieldLaws.octets_in_again 0 4352 octets fits.2) refl
 body_again version (lines.Signal s) fits = signal_again version s fits
+body_again version other fits = absurd fits
 
 pub cut_fields : (f : List ℕ) (fs : List (List ℕ)) → AllByRecursion (Lacks 32) (f ∷ fs) → fields_of (join_with_byte 32 (f ∷ fs)) ≡ f ∷ fs
 cut_fields f [] lack = slice_split_none (λ b. eqb b 32) f (lacks_all 32 f lack.0)
@@ -140,10 +139,8 @@ cut_fields f (g ∷ fs) lack = slice_split_at (λ b. eqb b 32) f 32 (join_with_b
 some_fields : (l : Line) → (f : List ℕ) × (fs : List (List ℕ)) × (line_fields l ≡ f ∷ fs)
 some_fields lines.Header = (codes "srtpgw", codes "1" ∷ [], refl)
 some_fields lines.HeaderTwo = (codes "srtpgw", codes "2" ∷ [], refl)
-some_fields (lines.Datagram port from octets) = (_, _, refl)
-some_fields (lines.DatagramAt now port from octets) = (_, _, refl)
 some_fields (lines.Signal (Tick now)) = (_, _, refl)
-some_fields (lines.Signal other) = (_, _, refl)
+some_fields other = (_, _, refl)
 
 pub cut_some : (gs : List (List ℕ)) (f : List ℕ) (fs : List (List ℕ)) → gs ≡ f ∷ fs → AreDense gs → fields_of (join_with_byte 32 gs) ≡ gs
 cut_some gs f fs e dense =
@@ -171,8 +168,6 @@ last_is (x ∷ y ∷ ys) e =
 
 last_step : (version number : ℕ) (l : Line) → FitsLine version number l
     → cond (eqb number 1) (header_from (join_with_byte 32 (line_fields l))) (said_by version (fields_of (join_with_byte 32 (line_fields l)))) ≡ Ok l
-last_step version number lines.Header fits = rw (eq-eqb number 1 fits) refl
-last_step version number lines.HeaderTwo fits = rw (eq-eqb number 1 fits) refl
 last_step version number (lines.Datagram port from octets) fits =
     let l : Line = lines.Datagram port from octets in
     rw (ne_eqb number 1 fits.0, cut_again l (dense_line version number l fits)) (body_again version l fits.1)
@@ -182,6 +177,7 @@ last_step version number (lines.DatagramAt now port from octets) fits =
 last_step version number (lines.Signal s) fits =
     let l : Line = lines.Signal s in
     rw (ne_eqb number 1 fits.0, cut_again l (dense_line version number l fits)) (body_again version l fits.1)
+last_step version number other fits = rw (eq-eqb number 1 fits) refl
 
 pub line_again : (version number : ℕ) (l : Line) → FitsLine version number l → length (line_text l) ≤ 70000 → line_of version number (line_text l) ≡ Ok l
 unfolding line_of
@@ -424,9 +420,7 @@ fields_take version (w ∷ a ∷ b ∷ c ∷ more) l e = more_take version w a b
 body_fits : (version number : ℕ) (l : Line) → (number ≡ 1 → ⊥) → FitsBody version l → FitsLine version number l
 body_fits version number lines.Header other fits = absurd fits
 body_fits version number lines.HeaderTwo other fits = absurd fits
-body_fits version number (lines.Datagram port from octets) other fits = (other, fits)
-body_fits version number (lines.DatagramAt now port from octets) other fits = (other, fits)
-body_fits version number (lines.Signal s) other fits = (other, fits)
+body_fits version number another other fits = (other, fits)
 
 -- a header, by its text
 header_takes : (version number : ℕ) (t : List ℕ) (l : Line) → number ≡ 1 → t ≡ body_of t ++ 10 ∷ [] → header_from (body_of t) ≡ Ok l → (t ≡ line_text l) × FitsLine version number l

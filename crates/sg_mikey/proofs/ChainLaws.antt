@@ -65,12 +65,7 @@ chain_takes (suc fuel) kind stage next octets y fits e =
 
 number_known : (p : Payload) → is_number (payload_number p) ≡ true
 number_known (Kemac cipher inner mac tag) = refl
-number_known (Time form stamp) = refl
-number_known (Id form name) = refl
-number_known (Verify mac tag) = refl
-number_known (Sp policy) = refl
-number_known (Random inner) = refl
-number_known (Extension form inner) = refl
+number_known other = refl
 
 pub next_known : (ps : List Payload) → is_number (next_number ps) ≡ true
 next_known [] = refl
@@ -79,12 +74,7 @@ next_known (p ∷ ps) = number_known p
 -- a payload's number isn't 0
 not_over : (stage : Stage) (p : Payload) → (is_over stage && nat_eq (payload_number p) 0) ≡ false
 not_over stage (Kemac cipher inner mac tag) = and-false (is_over stage)
-not_over stage (Time form stamp) = and-false (is_over stage)
-not_over stage (Id form name) = and-false (is_over stage)
-not_over stage (Verify mac tag) = and-false (is_over stage)
-not_over stage (Sp policy) = and-false (is_over stage)
-not_over stage (Random inner) = and-false (is_over stage)
-not_over stage (Extension form inner) = and-false (is_over stage)
+not_over stage other = and-false (is_over stage)
 
 pub chain_again : (ps : List Payload) (fuel kind : ℕ) (stage : Stage) (rest : List ℕ) → AllByRecursion IsPayload ps → Accepts kind stage (map payload_number ps) → length ps < fuel
     → chain_at fuel kind stage (next_number ps) (chain_octets ps ++ rest) ≡ Ok (ps, rest)

@@ -116,24 +116,8 @@ plain_drop_cause_fields other e = (refl, tt)
 
 pub drop_cause_again : (x : DropCause) → FitsDropCause x → drop_cause_from (drop_cause_fields x) ≡ Ok x
 unfolding key_spent_from
-drop_cause_again drops.Short fits = rw (NameLaws.plain_drop_cause_again drops.Short refl) refl
-drop_cause_again drops.Version fits = rw (NameLaws.plain_drop_cause_again drops.Version refl) refl
-drop_cause_again drops.CsrcCut fits = rw (NameLaws.plain_drop_cause_again drops.CsrcCut refl) refl
-drop_cause_again drops.ExtensionCut fits = rw (NameLaws.plain_drop_cause_again drops.ExtensionCut refl) refl
-drop_cause_again drops.SsrcUnknown fits = rw (NameLaws.plain_drop_cause_again drops.SsrcUnknown refl) refl
-drop_cause_again drops.MkiUnknown fits = rw (NameLaws.plain_drop_cause_again drops.MkiUnknown refl) refl
 drop_cause_again (drops.KeySpent number count) fits = rw (word_again number fits.0, long_again count fits.1) refl
-drop_cause_again drops.BeforeFirst fits = rw (NameLaws.plain_drop_cause_again drops.BeforeFirst refl) refl
-drop_cause_again drops.IndexSpent fits = rw (NameLaws.plain_drop_cause_again drops.IndexSpent refl) refl
-drop_cause_again drops.Repeat fits = rw (NameLaws.plain_drop_cause_again drops.Repeat refl) refl
-drop_cause_again drops.TooOld fits = rw (NameLaws.plain_drop_cause_again drops.TooOld refl) refl
-drop_cause_again drops.BadTag fits = rw (NameLaws.plain_drop_cause_again drops.BadTag refl) refl
-drop_cause_again drops.StreamsFull fits = rw (NameLaws.plain_drop_cause_again drops.StreamsFull refl) refl
-drop_cause_again drops.RtcpIndexSpent fits = rw (NameLaws.plain_drop_cause_again drops.RtcpIndexSpent refl) refl
-drop_cause_again drops.PortUnused fits = rw (NameLaws.plain_drop_cause_again drops.PortUnused refl) refl
-drop_cause_again drops.NotLive fits = rw (NameLaws.plain_drop_cause_again drops.NotLive refl) refl
-drop_cause_again drops.TooLong fits = rw (NameLaws.plain_drop_cause_again drops.TooLong refl) refl
-drop_cause_again drops.SourceUnknown fits = rw (NameLaws.plain_drop_cause_again drops.SourceUnknown refl) refl
+drop_cause_again other fits = rw (NameLaws.plain_drop_cause_again other refl) refl
 
 pub drop_cause_takes : (fs : List (List ℕ)) (x : DropCause) → drop_cause_from fs ≡ Ok x → (fs ≡ drop_cause_fields x) × FitsDropCause x
 unfolding key_spent_from
@@ -157,26 +141,10 @@ drop_cause_takes (name ∷ a ∷ b ∷ []) x e =
 drop_cause_takes (name ∷ a ∷ b ∷ c ∷ fs) x e = absurd (FieldLaws.err_ok script.Word x e)
 
 pub dense_drop_cause : (x : DropCause) → FitsDropCause x → AreDense (drop_cause_fields x)
-dense_drop_cause drops.Short fits = (NameLaws.dense_drop_cause drops.Short, tt)
-dense_drop_cause drops.Version fits = (NameLaws.dense_drop_cause drops.Version, tt)
-dense_drop_cause drops.CsrcCut fits = (NameLaws.dense_drop_cause drops.CsrcCut, tt)
-dense_drop_cause drops.ExtensionCut fits = (NameLaws.dense_drop_cause drops.ExtensionCut, tt)
-dense_drop_cause drops.SsrcUnknown fits = (NameLaws.dense_drop_cause drops.SsrcUnknown, tt)
-dense_drop_cause drops.MkiUnknown fits = (NameLaws.dense_drop_cause drops.MkiUnknown, tt)
 dense_drop_cause (drops.KeySpent number count) fits =
     let a = fits.0 in let b = fits.1 in
     (dense_test (codes "KeySpent") refl, (dense_decimal number (omega (arith, a)), (dense_decimal count (omega (arith, b)), tt)))
-dense_drop_cause drops.BeforeFirst fits = (NameLaws.dense_drop_cause drops.BeforeFirst, tt)
-dense_drop_cause drops.IndexSpent fits = (NameLaws.dense_drop_cause drops.IndexSpent, tt)
-dense_drop_cause drops.Repeat fits = (NameLaws.dense_drop_cause drops.Repeat, tt)
-dense_drop_cause drops.TooOld fits = (NameLaws.dense_drop_cause drops.TooOld, tt)
-dense_drop_cause drops.BadTag fits = (NameLaws.dense_drop_cause drops.BadTag, tt)
-dense_drop_cause drops.StreamsFull fits = (NameLaws.dense_drop_cause drops.StreamsFull, tt)
-dense_drop_cause drops.RtcpIndexSpent fits = (NameLaws.dense_drop_cause drops.RtcpIndexSpent, tt)
-dense_drop_cause drops.PortUnused fits = (NameLaws.dense_drop_cause drops.PortUnused, tt)
-dense_drop_cause drops.NotLive fits = (NameLaws.dense_drop_cause drops.NotLive, tt)
-dense_drop_cause drops.TooLong fits = (NameLaws.dense_drop_cause drops.TooLong, tt)
-dense_drop_cause drops.SourceUnknown fits = (NameLaws.dense_drop_cause drops.SourceUnknown, tt)
+dense_drop_cause other fits = (NameLaws.dense_drop_cause other, tt)
 
 -- ---- faults of the pre-shared-key exchange
 
@@ -207,15 +175,9 @@ dense_signed (pos n) fits = dense_decimal n (omega (arith, fits))
 dense_signed (negsuc n) fits = (omega arith, dense_decimal (suc n) (omega (arith, fits)))
 
 dense_psk_fault : (x : PskFault) → FitsPskFault x → AreDense (psk_fault_fields x)
-dense_psk_fault psk.IdUnknown fits = (NameLaws.dense_psk_fault psk.IdUnknown, tt)
-dense_psk_fault psk.BadMac fits = (NameLaws.dense_psk_fault psk.BadMac, tt)
 dense_psk_fault (psk.Skew stamp now) fits =
     let b = fits.1 in (dense_test (codes "Skew") refl, (dense_signed stamp fits.0, (dense_decimal now (omega (arith, b)), tt)))
-dense_psk_fault psk.Repeated fits = (NameLaws.dense_psk_fault psk.Repeated, tt)
-dense_psk_fault psk.Algorithm fits = (NameLaws.dense_psk_fault psk.Algorithm, tt)
-dense_psk_fault psk.KeyType fits = (NameLaws.dense_psk_fault psk.KeyType, tt)
-dense_psk_fault psk.CacheFull fits = (NameLaws.dense_psk_fault psk.CacheFull, tt)
-dense_psk_fault psk.OtherSession fits = (NameLaws.dense_psk_fault psk.OtherSession, tt)
+dense_psk_fault other fits = (NameLaws.dense_psk_fault other, tt)
 
 -- ---- refusals
 
@@ -247,15 +209,7 @@ refusal_again (refusals.Cs medium fault) fits = rw (byte_again medium fits, Name
 refusal_again (refusals.KeyMgmt medium) fits = rw (byte_again medium fits) refl
 refusal_again (refusals.KeyReused number) fits = rw (word_again number fits) refl
 refusal_again (refusals.TickBack last) fits = rw (long_again last fits) refl
-refusal_again refusals.RingFull fits = rw (NameLaws.plain_refusal_again refusals.RingFull refl) refl
-refusal_again refusals.NoMedia fits = rw (NameLaws.plain_refusal_again refusals.NoMedia refl) refl
-refusal_again refusals.MediaCount fits = rw (NameLaws.plain_refusal_again refusals.MediaCount refl) refl
-refusal_again refusals.TableFull fits = rw (NameLaws.plain_refusal_again refusals.TableFull refl) refl
-refusal_again refusals.CallKnown fits = rw (NameLaws.plain_refusal_again refusals.CallKnown refl) refl
-refusal_again refusals.CallUnknown fits = rw (NameLaws.plain_refusal_again refusals.CallUnknown refl) refl
-refusal_again refusals.PskKnown fits = rw (NameLaws.plain_refusal_again refusals.PskKnown refl) refl
-refusal_again refusals.PskFull fits = rw (NameLaws.plain_refusal_again refusals.PskFull refl) refl
-refusal_again refusals.State fits = rw (NameLaws.plain_refusal_again refusals.State refl) refl
+refusal_again other fits = rw (NameLaws.plain_refusal_again other refl) refl
 
 unfoldable Reads : List (List ℕ) → Refusal → Type 0
 Reads fs x = (fs ≡ refusal_fields x) × FitsRefusal x
@@ -415,12 +369,4 @@ dense_refusal (refusals.Cs medium fault) fits = (dense_test (codes "Cs") refl, (
 dense_refusal (refusals.KeyMgmt medium) fits = (dense_test (codes "KeyMgmt") refl, (small_dense medium (omega (arith, fits)), tt))
 dense_refusal (refusals.KeyReused number) fits = (dense_test (codes "KeyReused") refl, (small_dense number (omega (arith, fits)), tt))
 dense_refusal (refusals.TickBack last) fits = (dense_test (codes "TickBack") refl, (small_dense last fits, tt))
-dense_refusal refusals.RingFull fits = (NameLaws.dense_refusal refusals.RingFull, tt)
-dense_refusal refusals.NoMedia fits = (NameLaws.dense_refusal refusals.NoMedia, tt)
-dense_refusal refusals.MediaCount fits = (NameLaws.dense_refusal refusals.MediaCount, tt)
-dense_refusal refusals.TableFull fits = (NameLaws.dense_refusal refusals.TableFull, tt)
-dense_refusal refusals.CallKnown fits = (NameLaws.dense_refusal refusals.CallKnown, tt)
-dense_refusal refusals.CallUnknown fits = (NameLaws.dense_refusal refusals.CallUnknown, tt)
-dense_refusal refusals.PskKnown fits = (NameLaws.dense_refusal refusals.PskKnown, tt)
-dense_refusal refusals.PskFull fits = (NameLaws.dense_refusal refusals.PskFull, tt)
-dense_refusal refusals.State fits = (NameLaws.dense_refusal refusals.State, tt)
+dense_refusal other fits = (NameLaws.dense_refusal other, tt)

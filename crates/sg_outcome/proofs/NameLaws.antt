@@ -63,8 +63,7 @@ why_takes t x e = (bytes_eq-Decides t (why_name x)).0 (find_passes (λ x. bytes_
 
 pub dense_why : (x : Why) → IsDense (why_name x)
 dense_why Bye = dense_test (why_name Bye) refl
-dense_why Rejected = dense_test (why_name Rejected) refl
-dense_why Idle = dense_test (why_name Idle) refl
+dense_why other = dense_test (why_name other) refl
 
 pub sdp_fault_again : (x : SdpFault) → sdp_fault_at (sdp_fault_name x) ≡ Some x
 unfolding sdp_fault_at
@@ -77,10 +76,7 @@ sdp_fault_takes t x e = (bytes_eq-Decides t (sdp_fault_name x)).0 (find_passes (
 
 pub dense_sdp_fault : (x : SdpFault) → IsDense (sdp_fault_name x)
 dense_sdp_fault sdp.Order = dense_test (sdp_fault_name sdp.Order) refl
-dense_sdp_fault sdp.Form = dense_test (sdp_fault_name sdp.Form) refl
-dense_sdp_fault sdp.TooLong = dense_test (sdp_fault_name sdp.TooLong) refl
-dense_sdp_fault sdp.TooManyMedia = dense_test (sdp_fault_name sdp.TooManyMedia) refl
-dense_sdp_fault sdp.Address = dense_test (sdp_fault_name sdp.Address) refl
+dense_sdp_fault other = dense_test (sdp_fault_name other) refl
 
 pub sdes_fault_again : (x : SdesFault) → sdes_fault_at (sdes_fault_name x) ≡ Some x
 unfolding sdes_fault_at
@@ -93,12 +89,7 @@ sdes_fault_takes t x e = (bytes_eq-Decides t (sdes_fault_name x)).0 (find_passes
 
 pub dense_sdes_fault : (x : SdesFault) → IsDense (sdes_fault_name x)
 dense_sdes_fault sdes.NoLine = dense_test (sdes_fault_name sdes.NoLine) refl
-dense_sdes_fault sdes.Tag = dense_test (sdes_fault_name sdes.Tag) refl
-dense_sdes_fault sdes.Suite = dense_test (sdes_fault_name sdes.Suite) refl
-dense_sdes_fault sdes.Key = dense_test (sdes_fault_name sdes.Key) refl
-dense_sdes_fault sdes.Lifetime = dense_test (sdes_fault_name sdes.Lifetime) refl
-dense_sdes_fault sdes.MkiValue = dense_test (sdes_fault_name sdes.MkiValue) refl
-dense_sdes_fault sdes.Parameter = dense_test (sdes_fault_name sdes.Parameter) refl
+dense_sdes_fault other = dense_test (sdes_fault_name other) refl
 
 pub mikey_fault_again : (x : MikeyFault) → mikey_fault_at (mikey_fault_name x) ≡ Some x
 unfolding mikey_fault_at
@@ -111,12 +102,7 @@ mikey_fault_takes t x e = (bytes_eq-Decides t (mikey_fault_name x)).0 (find_pass
 
 pub dense_mikey_fault : (x : MikeyFault) → IsDense (mikey_fault_name x)
 dense_mikey_fault mikey.Cut = dense_test (mikey_fault_name mikey.Cut) refl
-dense_mikey_fault mikey.Version = dense_test (mikey_fault_name mikey.Version) refl
-dense_mikey_fault mikey.DataType = dense_test (mikey_fault_name mikey.DataType) refl
-dense_mikey_fault mikey.Payload = dense_test (mikey_fault_name mikey.Payload) refl
-dense_mikey_fault mikey.Order = dense_test (mikey_fault_name mikey.Order) refl
-dense_mikey_fault mikey.Value = dense_test (mikey_fault_name mikey.Value) refl
-dense_mikey_fault mikey.Trailing = dense_test (mikey_fault_name mikey.Trailing) refl
+dense_mikey_fault other = dense_test (mikey_fault_name other) refl
 
 pub cs_fault_again : (x : CsFault) → cs_fault_at (cs_fault_name x) ≡ Some x
 unfolding cs_fault_at
@@ -129,8 +115,7 @@ cs_fault_takes t x e = (bytes_eq-Decides t (cs_fault_name x)).0 (find_passes (λ
 
 pub dense_cs_fault : (x : CsFault) → IsDense (cs_fault_name x)
 dense_cs_fault cs.CsCount = dense_test (cs_fault_name cs.CsCount) refl
-dense_cs_fault cs.PolicyMissing = dense_test (cs_fault_name cs.PolicyMissing) refl
-dense_cs_fault cs.PolicyValue = dense_test (cs_fault_name cs.PolicyValue) refl
+dense_cs_fault other = dense_test (cs_fault_name other) refl
 
 -- it has no numbers
 abbrev pub is_plain_drop_cause : DropCause → Bool
@@ -149,23 +134,7 @@ plain_drop_cause_takes t x e =
 
 pub dense_drop_cause : (x : DropCause) → IsDense (drop_cause_name x)
 dense_drop_cause drops.Short = dense_test (drop_cause_name drops.Short) refl
-dense_drop_cause drops.Version = dense_test (drop_cause_name drops.Version) refl
-dense_drop_cause drops.CsrcCut = dense_test (drop_cause_name drops.CsrcCut) refl
-dense_drop_cause drops.ExtensionCut = dense_test (drop_cause_name drops.ExtensionCut) refl
-dense_drop_cause drops.SsrcUnknown = dense_test (drop_cause_name drops.SsrcUnknown) refl
-dense_drop_cause drops.MkiUnknown = dense_test (drop_cause_name drops.MkiUnknown) refl
-dense_drop_cause (drops.KeySpent number count) = dense_test (drop_cause_name (drops.KeySpent number count)) refl
-dense_drop_cause drops.BeforeFirst = dense_test (drop_cause_name drops.BeforeFirst) refl
-dense_drop_cause drops.IndexSpent = dense_test (drop_cause_name drops.IndexSpent) refl
-dense_drop_cause drops.Repeat = dense_test (drop_cause_name drops.Repeat) refl
-dense_drop_cause drops.TooOld = dense_test (drop_cause_name drops.TooOld) refl
-dense_drop_cause drops.BadTag = dense_test (drop_cause_name drops.BadTag) refl
-dense_drop_cause drops.StreamsFull = dense_test (drop_cause_name drops.StreamsFull) refl
-dense_drop_cause drops.RtcpIndexSpent = dense_test (drop_cause_name drops.RtcpIndexSpent) refl
-dense_drop_cause drops.PortUnused = dense_test (drop_cause_name drops.PortUnused) refl
-dense_drop_cause drops.NotLive = dense_test (drop_cause_name drops.NotLive) refl
-dense_drop_cause drops.TooLong = dense_test (drop_cause_name drops.TooLong) refl
-dense_drop_cause drops.SourceUnknown = dense_test (drop_cause_name drops.SourceUnknown) refl
+dense_drop_cause other = dense_test (drop_cause_name other) refl
 
 -- it has no numbers
 abbrev pub is_plain_psk_fault : PskFault → Bool
@@ -184,13 +153,7 @@ plain_psk_fault_takes t x e =
 
 pub dense_psk_fault : (x : PskFault) → IsDense (psk_fault_name x)
 dense_psk_fault psk.IdUnknown = dense_test (psk_fault_name psk.IdUnknown) refl
-dense_psk_fault psk.BadMac = dense_test (psk_fault_name psk.BadMac) refl
-dense_psk_fault (psk.Skew stamp now) = dense_test (psk_fault_name (psk.Skew stamp now)) refl
-dense_psk_fault psk.Repeated = dense_test (psk_fault_name psk.Repeated) refl
-dense_psk_fault psk.Algorithm = dense_test (psk_fault_name psk.Algorithm) refl
-dense_psk_fault psk.KeyType = dense_test (psk_fault_name psk.KeyType) refl
-dense_psk_fault psk.CacheFull = dense_test (psk_fault_name psk.CacheFull) refl
-dense_psk_fault psk.OtherSession = dense_test (psk_fault_name psk.OtherSession) refl
+dense_psk_fault other = dense_test (psk_fault_name other) refl
 
 -- it has no numbers
 abbrev pub is_plain_refusal : Refusal → Bool
@@ -223,19 +186,4 @@ plain_refusal_takes t x e =
 
 pub dense_refusal : (x : Refusal) → IsDense (refusal_name x)
 dense_refusal (refusals.Sdp line fault) = dense_test (refusal_name (refusals.Sdp line fault)) refl
-dense_refusal (refusals.Sdes medium fault) = dense_test (refusal_name (refusals.Sdes medium fault)) refl
-dense_refusal (refusals.Mikey medium offset fault) = dense_test (refusal_name (refusals.Mikey medium offset fault)) refl
-dense_refusal (refusals.Psk medium fault) = dense_test (refusal_name (refusals.Psk medium fault)) refl
-dense_refusal (refusals.Cs medium fault) = dense_test (refusal_name (refusals.Cs medium fault)) refl
-dense_refusal (refusals.KeyMgmt medium) = dense_test (refusal_name (refusals.KeyMgmt medium)) refl
-dense_refusal (refusals.KeyReused number) = dense_test (refusal_name (refusals.KeyReused number)) refl
-dense_refusal refusals.RingFull = dense_test (refusal_name refusals.RingFull) refl
-dense_refusal refusals.NoMedia = dense_test (refusal_name refusals.NoMedia) refl
-dense_refusal refusals.MediaCount = dense_test (refusal_name refusals.MediaCount) refl
-dense_refusal refusals.TableFull = dense_test (refusal_name refusals.TableFull) refl
-dense_refusal refusals.CallKnown = dense_test (refusal_name refusals.CallKnown) refl
-dense_refusal refusals.CallUnknown = dense_test (refusal_name refusals.CallUnknown) refl
-dense_refusal refusals.PskKnown = dense_test (refusal_name refusals.PskKnown) refl
-dense_refusal refusals.PskFull = dense_test (refusal_name refusals.PskFull) refl
-dense_refusal (refusals.TickBack last) = dense_test (refusal_name (refusals.TickBack last)) refl
-dense_refusal refusals.State = dense_test (refusal_name refusals.State) refl
+dense_refusal other = dense_test (refusal_name other) refl

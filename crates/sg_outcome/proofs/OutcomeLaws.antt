@@ -81,20 +81,17 @@ three_parts a b c = simp append_assoc refl
 
 pub outcome_joined : (o : Outcome) → outcome_line o ≡ join_with_byte 32 (outcome_fields o) ++ 10 ∷ []
 unfolding outcome_line
-outcome_joined (Made call slot media) = simp append_assoc refl
-outcome_joined (Live call) = simp append_assoc refl
-outcome_joined (Sdp call side text) = simp append_assoc refl
 outcome_joined (Refused call cause) =
     let more = refusal_more cause in
     let inner : join_with_byte 32 (call_text call ∷ refusal_fields cause) ≡ call_text call ++ 32 ∷ join_with_byte 32 (refusal_fields cause) = join_more (call_text call) (refusal_fields cause) more.0 more.1 more.2 in
     rw (refusal_joined cause, inner) (ap (λ (l : List ℕ). 114 ∷ 101 ∷ 102 ∷ 117 ∷ 115 ∷ 101 ∷ 100 ∷ 32 ∷ l ++ 10 ∷ []) (append_assoc (call_text call) (32 ∷ []) (join_with_byte 32 (refusal_fields cause))))
-outcome_joined (Ended call slot media why) = simp append_assoc refl
 outcome_joined (Out port to octets) = ap (λ (l : List ℕ). 111 ∷ 117 ∷ 116 ∷ 32 ∷ l) (three_parts (decimal port) (address_text to) (hex_text octets))
 outcome_joined (Dropped port cause) =
     let more = drop_more cause in
     let inner : join_with_byte 32 (decimal port ∷ drop_cause_fields cause) ≡ decimal port ++ 32 ∷ join_with_byte 32 (drop_cause_fields cause) = join_more (decimal port) (drop_cause_fields cause) more.0 more.1 more.2 in
     rw inner (named (codes "drop ") (codes " ") (decimal port) (drop_cause_name cause) (drop_cause_numbers cause) (join_with_byte 32 (drop_cause_fields cause)) (drop_joined cause) ∙ simp append_assoc refl)
 outcome_joined (Unsent port to) = ap (λ (l : List ℕ). 117 ∷ 110 ∷ 115 ∷ 101 ∷ 110 ∷ 116 ∷ 32 ∷ l) (two_parts (decimal port) (address_text to))
+outcome_joined other = simp append_assoc refl
 
 -- ---- no field has a space or a line end
 

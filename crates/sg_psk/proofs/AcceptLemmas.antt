@@ -20,14 +20,13 @@ use Rattle.sg_psk.specs.declared.pairs.Pair.{Pair}
 -- what a KEMAC covers is shorter than its length's field can say
 pub closing_small : (ps : List Payload) → AllByRecursion IsPayload ps → length (closing_in ps).octets < 2 ^ 16
 unfolding closing_in
-closing_small [] all = omega arith
 closing_small (Time form stamp ∷ ps) all = closing_small ps all.1
 closing_small (Random octets ∷ ps) all = closing_small ps all.1
 closing_small (Id form name ∷ ps) all = closing_small ps all.1
 closing_small (Sp policy ∷ ps) all = closing_small ps all.1
 closing_small (Extension form octets ∷ ps) all = closing_small ps all.1
 closing_small (Kemac cipher octets mac tag ∷ ps) all = all.0.0
-closing_small (Verify mac tag ∷ ps) all = omega arith
+closing_small other all = omega arith
 
 -- what holds anyway holds where out of memory is answered
 pub anyway : {X P : Type 0} (r : Result X PskError) → P → OnNoMemory r P

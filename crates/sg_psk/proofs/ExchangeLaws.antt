@@ -171,10 +171,9 @@ entries_answered (i ∷ r ∷ map) (ssrc ∷ ssrcs) p q = (p.0, ((q.0, omega ari
 count_answered : (map : List CsEntry) (ssrcs : List ℕ) → length map ≡ 2 * length ssrcs → length (answered_map map ssrcs) ≡ length map
 unfolding answered_map
 count_answered [] ssrcs e = refl
-count_answered (i ∷ []) [] e = absurd (omega (arith, e))
-count_answered (i ∷ []) (s ∷ ssrcs) e = absurd (omega (arith, e))
 count_answered (i ∷ r ∷ map) [] e = absurd (omega (arith, e))
 count_answered (i ∷ r ∷ map) (s ∷ ssrcs) e = ap (λ n. suc (suc n)) (count_answered map ssrcs (omega (arith, e)))
+count_answered (i ∷ []) other e = absurd (omega (arith, e))
 
 count_below : (map : List CsEntry) (ssrcs : List ℕ) → length (answered_map map ssrcs) ≤ length map
 unfolding answered_map

@@ -2,11 +2,10 @@
 use Rattle.std.proofs.Common.{◌≡◌, ℕ, ◌+◌, ◌-◌, ◌^◌, ◌<◌, ◌≤◌, Bool, true, false, cond, eqb, List, [], ◌∷◌, ◌++◌, length, take, drop, map, Option, Some, None, Result, Ok, refl, sym, ap, ◌∙◌, arith, append_assoc, length-append}
 use Rattle.std.proofs.Math.Seq.{drop-append_seam}
 use Rattle.std.proofs.Math.Bool.{and-false}
-use Rattle.std.specs.Prelude.{codes, IfSome}
+use Rattle.std.specs.Prelude.{codes, IfSome, nat_eq}
 use Rattle.std.specs.Char.{is_ascii_digit}
 use Rattle.std.specs.List.{AllByRecursion, join_with_byte, list_all, slice_split, starts_with}
 use Rattle.std.specs.Fmt.{decimal}
-use Rattle.std.specs.Prelude.{nat_eq}
 use Rattle.std.proofs.lemmas.Bool.{ne_eqb, eq-eqb, eqb-true, eqb-false, le-leb, lt-ltb}
 use Rattle.std.proofs.lemmas.Fmt.{digits_decimal, digits_value-decimal, decimal_nonempty, length-decimal-le}
 use Rattle.std.proofs.lemmas.List.{append-nil, take_at}
@@ -49,12 +48,7 @@ digits_again n small =
 suite_step : (s : Suite) (o : Option Suite) → (s ≡ Raw80 → ⊥) → suite_at (suite_name s) ≡ Some s → crypto_suite_at (suite_name s) ≡ Some s
 unfolding crypto_suite_at
 suite_step Raw80 o other e = absurd (other refl)
-suite_step Cm128Tag80 o other e = rw e refl
-suite_step Cm128Tag32 o other e = rw e refl
-suite_step Cm192Tag80 o other e = rw e refl
-suite_step Cm192Tag32 o other e = rw e refl
-suite_step Cm256Tag80 o other e = rw e refl
-suite_step Cm256Tag32 o other e = rw e refl
+suite_step another o other e = rw e refl
 
 pub crypto_suite_again : (s : Suite) → (s ≡ Raw80 → ⊥) → crypto_suite_at (suite_name s) ≡ Some s
 crypto_suite_again s other = suite_step s None other (suite_again s)

@@ -1,8 +1,7 @@
 -- Choosing a line, value by value.
 use Rattle.std.proofs.Common.{◌≡◌, ◌≢◌, ℕ, ◌+◌, ◌^◌, ◌<◌, ◌≤◌, List, [], ◌∷◌, Bool, true, false, cond, None, length, drop, get_or, Result, Ok, Err, refl, sym, ◌∙◌, subst, arith}
-use Rattle.std.specs.Prelude.{IfOk, IfErr}
+use Rattle.std.specs.Prelude.{IfOk, IfErr, ◌==◌}
 use Rattle.std.specs.List.{AllByRecursion, find}
-use Rattle.std.specs.Prelude.{◌==◌}
 use Rattle.std.proofs.Math.ListN.{drop_of_length-le}
 use Rattle.base64.specs.GeneralPurpose.{IsBytes}
 use Rattle.sg_base.specs.declared.Suite as suites

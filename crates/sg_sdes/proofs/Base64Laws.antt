@@ -1,14 +1,12 @@
 -- Keys in base64.
 use Rattle.std.proofs.Common.{◌≡◌, ℕ, ◌+◌, ◌*◌, ◌-◌, ◌/◌, ◌%◌, ◌<◌, cond, eqb, List, length, Option, Some, None, Result, Ok, Err, refl, sym, ap, ◌∙◌, arith, inl, inr}
-use Rattle.std.specs.Prelude.{◌⊎◌, option_and_then}
+use Rattle.std.specs.Prelude.{◌⊎◌, option_and_then, replicate}
 use Rattle.base64.specs.GeneralPurpose.{decode_of, encode_of, IsBytes, IsStrict}
 use Rattle.base64.specs.Engines.{standard, standard_no_pad}
 use Rattle.base64.specs.declared.decode.DecodeError.{DecodeError}
-use Rattle.base64.proofs.EngineFacts.{decode_of_strict, decode_of-encode_of}
+use Rattle.base64.proofs.EngineFacts.{decode_of_strict, decode_of-encode_of, IsAscii-encode_of}
 use Rattle.base64.specs.Rfc4648.{encode_symbols}
-use Rattle.base64.proofs.EngineFacts.{IsAscii-encode_of}
 use Rattle.base64.proofs.RoundTrip.{length-encode_symbols}
-use Rattle.std.specs.Prelude.{replicate}
 use Rattle.std.proofs.lemmas.List.{length-append, append-nil, length-replicate}
 use Rattle.std.proofs.lemmas.Bool.{cases_eq, ne_eqb}
 use Rattle.sg_base.specs.declared.Suite.{Suite}

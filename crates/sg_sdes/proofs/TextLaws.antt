@@ -128,12 +128,7 @@ keys_lack_space suite (k ∷ l ∷ keys) all = lacks_append 32 (inline_text k) (
 pub some_suite : (s : Suite) → 0 < length (suite_name s)
 unfolding suite_name
 some_suite Raw80 = omega arith
-some_suite Cm128Tag80 = omega arith
-some_suite Cm128Tag32 = omega arith
-some_suite Cm192Tag80 = omega arith
-some_suite Cm192Tag32 = omega arith
-some_suite Cm256Tag80 = omega arith
-some_suite Cm256Tag32 = omega arith
+some_suite other = omega arith
 
 some_keys : (keys : List InlineKey) → 1 ≤ length keys → 0 < length (keys_text keys)
 some_keys [] some = absurd (omega arith)

@@ -8,7 +8,7 @@ use Rattle.sg_base.specs.Fields.{four_at}
 use Rattle.sg_base.proofs.FourNumbers.{four_again}
 use Rattle.sg_sdp.specs.declared.medium.Medium.{Medium}
 use Rattle.sg_sdp.specs.declared.medium.Profile.{Profile}
-use Rattle.sg_sdp.specs.declared.medium.Profile.TheVariants.{Avp, Savp, Avpf, Savpf, Other}
+use Rattle.sg_sdp.specs.declared.medium.Profile.TheVariants.{Other}
 use Rattle.sg_sdp.specs.declared.sdp.Sdp.{Sdp}
 use Rattle.sg_sdp.specs.Addresses.{first_address}
 use Rattle.sg_sdp.specs.Carrying.{carried, carried_line, carried_lines, carried_media, carried_medium, carried_proto, is_one_sided}
@@ -87,11 +87,8 @@ prefix_kept (v ∷ o ∷ s ∷ rest) prefix =
 
 proto_word : (p : Profile) (proto : List ℕ) → is_word proto ≡ true → is_word (carried_proto p proto) ≡ true
 unfolding carried_proto is_word
-proto_word Avp proto is = refl
-proto_word Savp proto is = refl
-proto_word Avpf proto is = refl
-proto_word Savpf proto is = refl
 proto_word Other proto is = is
+proto_word another proto is = refl
 
 medium_is : (port : ℕ) (p : Profile) (m : Medium) → port ≤ 65535 → IsMedium m → IsMedium (carried_medium port p m)
 unfolding carried_medium

@@ -4,7 +4,7 @@ use Rattle.std.specs.Prelude.{◌&&◌, ◌||◌, codes, is_none, is_some, not}
 use Rattle.std.specs.List.{slice_split}
 use Rattle.std.specs.Option.{option_or}
 use Rattle.std.specs.Result.{result_err}
-use Rattle.std.proofs.lemmas.Bool.{ne_eqb}
+use Rattle.std.proofs.lemmas.Bool.{ne_eqb, and_left}
 use Rattle.std.proofs.lemmas.List.{length-append}
 use Rattle.sg_base.specs.declared.SdpFault.{SdpFault}
 use Rattle.sg_base.specs.declared.SdpFault.TheVariants.{Order, Form, TooLong, TooManyMedia, Address}
@@ -49,17 +49,13 @@ unfolding placed
 places s line (Some h) = refl
 places s line None = refl
 
-no_address : (a b : Bool) → a ≡ false → (a && b) ≡ false
-no_address true b e = absurd cc
-no_address false b e = refl
-
 step_fault : (most n : ℕ) (s : Sdp) (line : List ℕ) → result_err (step most n s line) ≡ line_fault most n (length s.media) line
 unfolding step form_of line_fault
 step_fault most n s line =
     let medium = is_letter 109 line in
     let bad = is_letter 99 line && is_none (connection_of (drop 2 line)) in
     let apart : is_letter 109 line ≡ true → (is_letter 99 line && is_none (connection_of (drop 2 line))) ≡ false =
-    λ e. no_address (is_letter 99 line) (is_none (connection_of (drop 2 line))) (letter_differs 109 99 line e (λ same. omega (arith, same))) in
+    λ e. and_left (is_letter 99 line) (is_none (connection_of (drop 2 line))) (letter_differs 109 99 line e (λ same. omega (arith, same))) in
     simp places (step_cases (ltb most (length line)) (has_form line) (is_letter 109 line) (is_in_order n line) (eqb (length s.media) 4) (is_letter 99 line && is_none (connection_of (drop 2 line))) (head_of (drop 2 line)) (λ h. with_medium (opened h) s) (with_last_line line s) apart)
 
 -- ---- many lines

@@ -21,7 +21,7 @@ use crate::places::{free_slot, position_of, put_in};
 use sg_base::{Address, CallId, Fault, MasterKey, NoMemory, Refusal, Side};
 use sg_call::Call;
 use sg_gateway::calls_in_order;
-use sg_leg::{Books, MediaSpec, Way};
+use sg_leg::{Books, MEDIUM_SIDES, SideSpec, Way};
 use sg_outcome::Outcome;
 use std::alloc::Global;
 
@@ -53,7 +53,7 @@ fn new_call(alloc: Global, id: CallId, slot: u8) -> Result<Call, NoMemory>
     ensures stands { IfOk result (λ call. (pairs : List Pair) (serial : ℕ) → CallStandsFor pairs call (idle_call serial id slot)) }
     ensures inbox { IfOk result (λ call. (call.waiting ≡ []) × (call.handled ≡ [])) }
 {
-    let room: Vec<MediaSpec> = Vec::with_capacity(alloc, 1)?;
+    let room: Vec<SideSpec> = Vec::with_capacity(alloc, MEDIUM_SIDES)?;
     let call = Call::make(alloc, id, slot)?;
     drop(room);
     Ok(call)

@@ -11,10 +11,14 @@ use std::io::{BufWriter, ErrorKind, Printer};
 use std::net::Net;
 use std::process::ExitCode;
 use std::rt::Clock;
-use std::thread::Threads;
+use std::thread::{Builder, Threads};
 
 /// How many octets standard output holds before it passes them on unasked.
 const OUTPUT_ROOM: usize = 65_536;
+
+/// The octets of the stack on which the command runs. A thread has them from its start or isn't made, while the main
+/// thread's stack grows as it is used, and where it may not the system ends the process.
+const STACK: usize = 1024 * 1024;
 
 /// The words after the program's name. `Usage` where one of all words isn't UTF-8.
 fn words(rt: &HostRuntime) -> Result<Vec<String>, Status> {
@@ -47,13 +51,23 @@ fn run(
     )
 }
 
+/// Runs the command of the words on the command line.
+fn command(rt: &HostRuntime, host: &(impl Threads + Net + Clock + Sync)) -> Status {
+    let words = match words(rt) {
+        Ok(words) => words,
+        Err(status) => return status,
+    };
+    match BufWriter::with_capacity(rt.alloc(), OUTPUT_ROOM, std::io::writer(rt)) {
+        Ok(output) => run(rt, host, &words, output),
+        Err(_) => Status::NoMemory,
+    }
+}
+
 fn main(rt: HostRuntime) -> ExitCode {
-    let status = match words(&rt) {
-        Ok(words) => match BufWriter::with_capacity(rt.alloc(), OUTPUT_ROOM, std::io::writer(&rt)) {
-            Ok(output) => run(&rt, &rt, &words, output),
-            Err(_) => Status::NoMemory,
-        },
-        Err(status) => status,
+    let thread = Builder::new().stack_size(STACK);
+    let status = match thread.spawn(&rt, move || command(&rt, &rt)) {
+        Ok(running) => running.join(&rt),
+        Err(_) => Status::NoMemory,
     };
     if status != Status::Done {
         let _ = eprintln!(rt; "{status}");

@@ -1,4 +1,4 @@
-use Rattle.sg_bridge.proofs.Causes.{all_as_told, all_so}
+use Rattle.sg_bridge.proofs.Lasting.{all_as_told, all_so}
 use Rattle.sg_bridge.proofs.laws.joins_have_their_causes.Goals as goal
 
 pub returns-clause-causes : goal.returns-clause-causes

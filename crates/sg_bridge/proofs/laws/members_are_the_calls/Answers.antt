@@ -1,4 +1,4 @@
-use Rattle.sg_bridge.proofs.Calls.{all_known}
+use Rattle.sg_bridge.proofs.Lasting.{all_known}
 use Rattle.sg_bridge.proofs.laws.members_are_the_calls.Goals as goal
 
 pub returns : goal.returns

@@ -12,7 +12,7 @@ use Rattle.sg_gateway.specs.Order.{IsBefore}
 use Rattle.sg_gateway.specs.Signals.{Signal, Tick, answer_to}
 use Rattle.sg_gateway.specs.World.{World}
 use Rattle.sg_gateway.specs.Step.{Event, step}
-use Rattle.sg_conduct.proofs.Lists.{each_of_list}
+use Rattle.sg_gateway.proofs.Lists.{each_of_list}
 use Rattle.sg_conduct.proofs.Others.{others_stay}
 use Rattle.sg_conduct.specs.Others.{OthersStay}
 use Rattle.sg_conduct.proofs.laws.other_calls_stay.Goals as goal

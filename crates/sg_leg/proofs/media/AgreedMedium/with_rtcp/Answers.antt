@@ -4,8 +4,8 @@ use Rattle.sg_agreement.specs.Media as agreed
 use Rattle.sg_base.specs.declared.addresses.Kind.TheVariants.{Rtp, Rtcp}
 use Rattle.sg_session.specs.declared.names.Direction.TheVariants.{Opening, Sealing}
 use Rattle.sg_leg.specs.Pairs.{EachPair}
-use Rattle.sg_leg.specs.Planned.{IsPlanned}
-use Rattle.sg_leg.proofs.Planning.{MadeFor, one, with_all}
+use Rattle.sg_leg.specs.Planned.{IsPlanned, IsMadeFor}
+use Rattle.sg_leg.proofs.Planning.{one, with_all}
 use Rattle.sg_leg.proofs.media.AgreedMedium.with_rtcp.Goals as goal
 
 pub returns : goal.returns
@@ -16,7 +16,7 @@ returns c = λ call generation.
     ∷ one v call generation c.args.medium c.args.first Sealing c.spec-seal_rtp.result ∷ one v call generation c.args.medium c.args.first Sealing c.spec-seal_rtcp.result ∷ [])
     (sessions_from call generation c.args.medium c.args.first (Some x ∷ []))) c.self.view_is
     (with_all v call generation c.args.medium c.args.first c.spec-open_rtp.result c.spec-seal_rtp.result c.spec-open_rtp.ensures.made
-    (subst (λ n. MadeFor c.self.inside.to_peer Rtp n 1024 c.spec-seal_rtp.result) (ap (λ k. c.args.first + k) c.count.ensures) c.spec-seal_rtp.ensures.made)
+    (subst (λ n. IsMadeFor c.self.inside.to_peer Rtp n 1024 c.spec-seal_rtp.result) (ap (λ k. c.args.first + k) c.count.ensures) c.spec-seal_rtp.ensures.made)
     c.spec-open_rtcp.result c.spec-seal_rtcp.result c.spec-open_rtcp.ensures.made
-    (subst (λ n. MadeFor c.self.inside.to_peer Rtcp n 1024 c.spec-seal_rtcp.result) (ap (λ k. c.args.first + k) c.count.ensures) c.spec-seal_rtcp.ensures.made)
+    (subst (λ n. IsMadeFor c.self.inside.to_peer Rtcp n 1024 c.spec-seal_rtcp.result) (ap (λ k. c.args.first + k) c.count.ensures) c.spec-seal_rtcp.ensures.made)
     (ap (λ (x : agreed.Medium). x.has_rtcp) c.self.view_is ∙ c.requires.rtcp))

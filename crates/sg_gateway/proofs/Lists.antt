@@ -28,3 +28,10 @@ module _ {X : Type 0} where
   pub any_second : (P : X → Type 0) (xs ys : List X) → Any P ys → Any P (xs ++ ys)
   any_second P [] ys a = a
   any_second P (x ∷ xs) ys a = any_there P x (xs ++ ys) (any_second P xs ys a)
+
+  pub any_last : (P : X → Type 0) (xs : List X) (x : X) → P x → Any P (xs ++ x ∷ [])
+  any_last P xs x p = any_second P xs (x ∷ []) (any_here P x [] p)
+
+-- each is among them
+pub all_any : {X : Type 0} (xs : List X) → AllByRecursion (λ x. Any (λ y. y ≡ x) xs) xs
+all_any xs = each_of_list (λ x. Any (λ y. y ≡ x) xs) xs (λ x a. a)
