@@ -3,7 +3,7 @@
 ghost use Rattle.std.specs.Prelude.{◌≡◌, ◌≤◌, ◌+◌, ◌^◌, ℕ, true, false, List, [], Option, Some, IfErr, IfSome, IsOk, OnOk, length};
 ghost use Rattle.sg_edge.specs.Links.{Added};
 ghost use Rattle.sg_edge.specs.Told.{Wrote};
-ghost use Rattle.sg_front.specs.States.{FrontStandsFor, State, start};
+ghost use Rattle.sg_front.specs.States.{FrontStandsFor, State};
 ghost use Rattle.sg_gateway.specs.Step.{Event};
 ghost use Rattle.sg_lines.specs.LineText.{FitsLine};
 ghost use Rattle.sg_lines.specs.declared.lines.Line.{Line};
@@ -41,7 +41,7 @@ impl PlayedLine for Line {
     }
 }
 
-/// Plays the script of the source, from its first line to the last, by a player that has played nothing, and gives it back.
+/// Plays the script of the source, from its first line to the last, by a player for which nothing waits, and gives it back.
 /// Then all that the lines tell is told and passed on, and the reader is behind the last line. Where the run ends before, that
 /// is its status: whatever ends the reading, what waits is told then. What is told is passed on before a read that may wait.
 pub fn play_lines<L: PlayedLine, R: Threads + Sync, S: Source, K: Sink, N: Noise, G: Gate + Sync>(
@@ -54,11 +54,11 @@ pub fn play_lines<L: PlayedLine, R: Threads + Sync, S: Source, K: Sink, N: Noise
     noise: &mut N,
     gate: &G,
 ) -> Result<Player, Status>
-    requires front { FrontStandsFor player.front (start player.front.muxes) }
+    requires front { (s : State) × FrontStandsFor player.front s }
     requires waits { player.waits ≡ [] }
     requires start { script.old ≡ record { waits = []; version = 1; number = 1; offset = 0; budget = 2 ^ 30 + 1 } }
-    ensures ran { (octets draws out : List ℕ)
-        × IsScriptPlayed result (ways_of L.spelled L.followed L.last (λ l. gives_of (L.played l))) (start player.front.muxes)
+    ensures ran { (s : State) → FrontStandsFor player.front s → (octets draws out : List ℕ)
+        × IsScriptPlayed result (ways_of L.spelled L.followed L.last (λ l. gives_of (L.played l))) s
         (record { left = S.left source.old; written = K.written sink.old; drawn = N.given noise.old })
         (record { left = S.left source.new; written = K.written sink.new; drawn = N.given noise.new })
         script.new octets draws out }
@@ -114,8 +114,6 @@ impl<
     ghost gives = { λ l. gives_of (L.played l) };
 
     ghost effects = { effects };
-
-    ghost start = { λ s. start s.player.front.muxes };
 
     ghost stands = { λ s state. IsStaffed (F.pre s.playing) (F.post s.playing) (E.pre s.settling) (E.post s.settling) (λ p. p.now)
         (λ k. K.written k.now) (λ k. K.faults k.now) (λ k. K.failed k.now) (λ n. N.given n.now) (λ n. N.faults n.now) (λ n. N.failed n.now) s.player state };
