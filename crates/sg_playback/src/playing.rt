@@ -12,7 +12,7 @@ ghost use Rattle.sg_playback.specs.Scripts.{HasPlayed, HasSettled, IsScriptPlaye
 ghost use Rattle.sg_trace.specs.Causes.{EndedBy, IsCaused};
 ghost use Rattle.sg_trace.specs.Loop.{GoInOrder, IsPlayed, IsSettled, IsWant, ways_of};
 
-use crate::player::Player;
+use crate::player::{Player, Workers};
 use sg_edge::{Noise, Sink, Source};
 use sg_lanes::Gate;
 use sg_lines::Line;
@@ -45,14 +45,13 @@ impl PlayedLine for Line {
 /// Then all that the lines tell is told and passed on, and the reader is behind the last line. Where the run ends before, that
 /// is its status: whatever ends the reading, what waits is told then. What is told is passed on before a read that may wait.
 pub fn play_lines<L: PlayedLine, R: Threads + Sync, S: Source, K: Sink, N: Noise, G: Gate + Sync>(
-    rt: &R,
+    workers: &Workers<R, G>,
     alloc: Global,
     player: Player,
     script: &mut ScriptReader,
     source: &mut S,
     sink: &mut K,
     noise: &mut N,
-    gate: &G,
 ) -> Result<Player, Status>
     requires front { (s : State) × FrontStandsFor player.front s }
     requires waits { player.waits ≡ [] }
@@ -77,10 +76,10 @@ pub fn play_lines<L: PlayedLine, R: Threads + Sync, S: Source, K: Sink, N: Noise
             requires { (version number : ℕ) × FitsLine version number line }
             ensures { HasPlayed line result player.old player.new (K.written sink.old) (K.written sink.new) (N.given noise.old) (N.given noise.new)
                 (K.faults sink.old) (K.faults sink.new) (K.failed sink.new) (N.faults noise.old) (N.faults noise.new) (N.failed noise.new) }
-        { player.play(rt, alloc, line, sink, noise, gate) },
+        { player.play(workers, alloc, line, sink, noise) },
         settling: |player: &mut Player, sink: &mut K| -> Result<(), Status>
             ensures { HasSettled result player.old player.new (K.written sink.old) (K.written sink.new) (K.faults sink.old) (K.faults sink.new) (K.failed sink.new) }
-        { player.settle_at_once(rt, alloc, sink, gate) },
+        { player.settle_at_once(workers, alloc, sink) },
         lines: PhantomData::<L>,
     };
     match sg_trace::play_lines(alloc, &mut staffed, script, source, sink, noise) {
