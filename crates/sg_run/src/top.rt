@@ -40,7 +40,7 @@ use sg_mux::{
 };
 use sg_passages::{a_plain_run_is_faithful, the_headline_holds};
 use sg_playback::{Workers, replay};
-use sg_relay::{relay, relay_joined};
+use sg_relay::{RelayOptions, relay, relay_joined};
 use sg_trace::{Status, the_capture_holds};
 use sg_words::{Command, CommandFault, read_command};
 use std::alloc::Global;
@@ -136,7 +136,10 @@ pub fn run<R: Threads + Sync, S: Source, K: Sink, L: Link, C: Clock, N: Noise, G
             };
             replay(&workers, alloc, mux, source, sink, noise)
         }
-        Command::Relay { turns, mux } => relay(alloc, turns, mux, source, sink, link, clock, noise),
+        Command::Relay { turns, mux } => {
+            let options = RelayOptions { turns, muxes: mux };
+            relay(alloc, options, source, sink, link, clock, noise)
+        }
         Command::RelayJoined { turns } => {
             relay_joined(alloc, turns, source, sink, link, clock, noise)
         }
