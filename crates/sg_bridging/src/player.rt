@@ -48,7 +48,7 @@ impl<K: Sink, N: Noise> Play<K, N> for BridgePlayer {
     ghost use Rattle.sg_bridge.specs.Bridged.{Said};
     ghost use Rattle.sg_bridging.specs.Bridge.{gives};
     ghost use Rattle.sg_bridging.specs.Steps.{effects};
-    ghost use Rattle.sg_switchboard.specs.Switching.{StandsFor, State, start};
+    ghost use Rattle.sg_switchboard.specs.Switching.{StandsFor, State};
 
     type Line = BridgeLine;
 
@@ -59,8 +59,6 @@ impl<K: Sink, N: Noise> Play<K, N> for BridgePlayer {
     ghost gives = { gives };
 
     ghost effects = { effects };
-
-    ghost start = { λ _. start };
 
     ghost stands = { StandsFor };
 

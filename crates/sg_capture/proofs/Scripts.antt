@@ -6,7 +6,6 @@ use Rattle.sg_capture.proofs.CaptureLines.{line_is, unended_stops}
 use Rattle.sg_capture.proofs.Captureds.{captured_at}
 use Rattle.sg_capture.proofs.Outputs.{happens-append, happens_text}
 use Rattle.sg_capture.specs.CaptureLines.{of_capture, of_script}
-use Rattle.sg_capture.specs.Meeting.{StandsFor}
 use Rattle.sg_capture.specs.Capturing.{CaptureEnds, IsAllTold, IsCapture, IsCutCapture, IsWholeCapture}
 use Rattle.sg_capture.specs.declared.lines.CaptureLine.{CaptureLine}
 use Rattle.sg_capture.specs.declared.lines.CaptureLine.TheVariants as lines
@@ -20,13 +19,11 @@ use Rattle.sg_lines.specs.LineOf.{version_after}
 use Rattle.sg_lines.specs.ScriptLines.{lines_of}
 use Rattle.sg_lines.specs.declared.lines.Line.{Line}
 use Rattle.sg_playback.proofs.Replays.{as_trace, given_so}
-use Rattle.sg_playback.specs.Playing.{Playing, text_from}
-use Rattle.sg_playback.specs.Scripts.{IsScriptPlayed}
+use Rattle.sg_playback.specs.Playing.{text_from}
 use Rattle.sg_trace.specs.Captured.{CaptureTrace, Happens, InScript, after_script, captured, output_of, script_alone, script_of}
 use Rattle.sg_trace.specs.Course.{Course, behind_line, course, course_from, ended, with_deeds}
 use Rattle.sg_trace.specs.Loop.{HasNoLast, IsAll, IsCut, IsRun, IsUnended, LoopEnds, Tellings}
 use Rattle.sg_trace.specs.Output.{IsPrefixOf, output, text}
-use Rattle.sg_trace.specs.Reading.{Reading}
 use Rattle.sg_trace.specs.Trace.{AtCapture, AtEnd as BehindAll, AtFault, Captures, ForDraw, Later, Stop, Trace, after_line, begins_capture, drawing, line_at, stopped, trace_from}
 use Rattle.sg_trace.specs.declared.status.Status.{Status}
 use Rattle.sg_trace.specs.declared.status.Status.TheVariants.{Done, Script, Read, Write, NoMemory, Noise}
@@ -52,11 +49,6 @@ script_so octets draws = sym (from_so 1 1 0 (lines_of octets) draws)
 -- what is told from the start on, where no leg may share its ports
 pub output_so : (events : List Event) → text_from (start false) events ≡ output events
 output_so events = ap text (unshared_told empty events)
-
--- a script by a player none of whose legs may share its ports
-pub begun_so : (player : Playing) → StandsFor player.front empty → (r : Result Playing Status) (old new : Tellings) (script : Reading) (octets draws out : List ℕ)
-    → IsScriptPlayed r of_capture (start player.front.muxes) old new script octets draws out → IsScriptPlayed r of_capture (start false) old new script octets draws out
-begun_so player stands r old new script octets draws out is = subst (λ (muxes : Bool). IsScriptPlayed r of_capture (start muxes) old new script octets draws out) (sym stands.muxes) is
 
 -- ---- a script that ends before a capture
 

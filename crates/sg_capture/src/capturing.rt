@@ -13,7 +13,7 @@ use crate::records::play_capture;
 use sg_base::NoMemory;
 use sg_edge::{Noise, Sink, Source};
 use sg_lanes::Gate;
-use sg_playback::{Player, play_lines};
+use sg_playback::{Player, Workers, play_lines};
 use sg_trace::{CaptureReader, ScriptReader, Status, passed_on};
 use std::alloc::Global;
 use std::thread::Threads;
@@ -44,10 +44,11 @@ pub fn capture<R: Threads + Sync, S: Source, K: Sink, N: Noise, G: Gate + Sync>(
     ensures complete { ¬ Rose (S.faults source.old) (S.faults source.new) → ¬ Rose (K.faults sink.old) (K.faults sink.new) → ¬ Rose (N.faults noise.old) (N.faults noise.new)
         → IsCompleteCapture result (S.left source.old) (S.left source.new) }
 {
-    match Player::make(alloc, 1, false) {
+    match Player::make(alloc, false) {
         Err(NoMemory) => Status::NoMemory,
         Ok(player) => {
-            let end = play_source(rt, alloc, player, source, sink, noise, gate);
+            let workers = Workers { rt, count: 1, gate };
+            let end = play_source(&workers, alloc, player, source, sink, noise);
             passed_on(end, sink)
         }
     }
@@ -55,13 +56,12 @@ pub fn capture<R: Threads + Sync, S: Source, K: Sink, N: Noise, G: Gate + Sync>(
 
 /// The same by a player that has played nothing.
 fn play_source<R: Threads + Sync, S: Source, K: Sink, N: Noise, G: Gate + Sync>(
-    rt: &R,
+    workers: &Workers<R, G>,
     alloc: Global,
     player: Player,
     source: &mut S,
     sink: &mut K,
     noise: &mut N,
-    gate: &G,
 ) -> Status
     requires front { StandsFor player.front empty }
     requires waits { player.waits ≡ [] }
@@ -77,19 +77,18 @@ fn play_source<R: Threads + Sync, S: Source, K: Sink, N: Noise, G: Gate + Sync>(
 {
     let mut script = ScriptReader::new(alloc);
     match play_lines::<CaptureLine, R, S, K, N, G>(
-        rt,
+        workers,
         alloc,
         player,
         &mut script,
         source,
         sink,
         noise,
-        gate,
     ) {
         Err(status) => status,
         Ok(mut player) => {
             let mut reader = CaptureReader::new(alloc, script);
-            play_capture(rt, alloc, &mut player, &mut reader, source, sink, gate)
+            play_capture(workers, alloc, &mut player, &mut reader, source, sink)
         }
     }
 }

@@ -16,20 +16,19 @@ use sg_base::PAD_MOST;
 use sg_edge::{Sink, write_all};
 use sg_lanes::Gate;
 use sg_pcap::{Frame, SkipCause, print_skip, read_frame};
-use sg_playback::Player;
+use sg_playback::{Player, Workers};
 use sg_trace::Status;
 use std::alloc::Global;
 use std::thread::Threads;
 
 /// A tick to the record's moment, where it is greater than all before.
 pub(crate) fn come_to<R: Threads + Sync, K: Sink, G: Gate + Sync>(
-    rt: &R,
+    workers: &Workers<R, G>,
     alloc: Global,
     player: &mut Player,
     top: u64,
     moment: u64,
     sink: &mut K,
-    gate: &G,
 ) -> Result<(), Status>
     requires moment { moment ≤ 2085978495999 }
     requires few { length player.old.waits ≤ 256 }
@@ -41,18 +40,17 @@ pub(crate) fn come_to<R: Threads + Sync, K: Sink, G: Gate + Sync>(
     if moment <= top {
         return Ok(());
     }
-    player.tick(rt, alloc, moment, sink, gate)
+    player.tick(workers, alloc, moment, sink)
 }
 
 /// The datagram of the record's frame waits for its batch, or the line of the record is told.
 pub(crate) fn play_frame<R: Threads + Sync, K: Sink, G: Gate + Sync>(
-    rt: &R,
+    workers: &Workers<R, G>,
     alloc: Global,
     player: &mut Player,
     number: u64,
     frame: &[u8],
     sink: &mut K,
-    gate: &G,
 ) -> Result<(), Status>
     requires { length player.old.waits ≤ 256 }
     ensures met { (w : World) → StandsFor player.old.front w → (out : List ℕ) × Wrote (K.written sink.old) (K.written sink.new) out
@@ -62,30 +60,29 @@ pub(crate) fn play_frame<R: Threads + Sync, K: Sink, G: Gate + Sync>(
 {
     match read_frame(frame) {
         Frame::Passed => Ok(()),
-        Frame::Skip(cause) => tell_skip(rt, alloc, player, number, cause, sink, gate),
+        Frame::Skip(cause) => tell_skip(workers, alloc, player, number, cause, sink),
         Frame::Datagram { port, from, octets } => {
             let counted = octets.len().min(PAD_MOST);
-            player.arrive(rt, alloc, port, from, &octets[..counted], sink, gate)
+            player.arrive(workers, alloc, port, from, &octets[..counted], sink)
         }
     }
 }
 
 /// Writes the line of a record that is skipped, once what waits is told.
 fn tell_skip<R: Threads + Sync, K: Sink, G: Gate + Sync>(
-    rt: &R,
+    workers: &Workers<R, G>,
     alloc: Global,
     player: &mut Player,
     number: u64,
     cause: SkipCause,
     sink: &mut K,
-    gate: &G,
 ) -> Result<(), Status>
     ensures met { (w : World) → StandsFor player.old.front w → (out : List ℕ) × Wrote (K.written sink.old) (K.written sink.new) out
         × IsMet result w (waiting player.old) (waiting player.new) (Skipped number cause ∷ []) (StandsFor player.new.front) out }
     ensures few { OnOk result (length player.new.waits ≤ 256) }
     ensures write { IsCaused Status.Write result (K.faults sink.old) (K.faults sink.new) (K.failed sink.new) }
 {
-    match player.settle(rt, alloc, sink, gate) {
+    match player.settle(workers, alloc, sink) {
         Err(status) => return Err(status),
         Ok(()) => {}
     }

@@ -14,20 +14,19 @@ use crate::progress::Progress;
 use sg_edge::{Sink, Source};
 use sg_lanes::Gate;
 use sg_pcap::Form;
-use sg_playback::Player;
+use sg_playback::{Player, Workers};
 use sg_trace::{CaptureReader, Status, pass_on};
 use std::alloc::Global;
 use std::thread::Threads;
 
 /// Plays a capture, of which nothing was read, to its end or its first fault.
 pub(crate) fn play_capture<R: Threads + Sync, S: Source, K: Sink, G: Gate + Sync>(
-    rt: &R,
+    workers: &Workers<R, G>,
     alloc: Global,
     player: &mut Player,
     reader: &mut CaptureReader,
     source: &mut S,
     sink: &mut K,
-    gate: &G,
 ) -> Status
     requires stands { (w : World) × StandsFor player.old.front w }
     requires start { reader.old.at ≡ 0 }
@@ -42,21 +41,20 @@ pub(crate) fn play_capture<R: Threads + Sync, S: Source, K: Sink, G: Gate + Sync
     ensures write { HasFailed (result ≡ Status.Write) (K.faults sink.old) (K.faults sink.new) (K.failed sink.new) }
 {
     match reader.header(source) {
-        Err(status) => player.close(rt, alloc, status, sink, gate),
-        Ok(form) => play_records(rt, alloc, player, reader, form, source, sink, gate),
+        Err(status) => player.close(workers, alloc, status, sink),
+        Ok(form) => play_records(workers, alloc, player, reader, form, source, sink),
     }
 }
 
 /// Plays the records that come next.
 fn play_records<R: Threads + Sync, S: Source, K: Sink, G: Gate + Sync>(
-    rt: &R,
+    workers: &Workers<R, G>,
     alloc: Global,
     player: &mut Player,
     reader: &mut CaptureReader,
     form: Form,
     source: &mut S,
     sink: &mut K,
-    gate: &G,
 ) -> Status
     requires stands { (w : World) × StandsFor player.old.front w }
     requires start { 1 ≤ reader.old.at }
@@ -84,19 +82,18 @@ fn play_records<R: Threads + Sync, S: Source, K: Sink, G: Gate + Sync>(
             Ok(()) => {}
         }
         let record = match reader.next(source, form) {
-            Err(status) => return player.close(rt, alloc, status, sink, gate),
-            Ok(None) => return player.close(rt, alloc, Status::Done, sink, gate),
+            Err(status) => return player.close(workers, alloc, status, sink),
+            Ok(None) => return player.close(workers, alloc, Status::Done, sink),
             Ok(Some(record)) => record,
         };
         match play_record(
-            rt,
+            workers,
             alloc,
             player,
             progress,
             record.millis,
             reader.frame(),
             sink,
-            gate,
         ) {
             Err(status) => return status,
             Ok(()) => {}
@@ -107,14 +104,13 @@ fn play_records<R: Threads + Sync, S: Source, K: Sink, G: Gate + Sync>(
 
 /// Plays the next record: its tick, and then what its frame gives.
 fn play_record<R: Threads + Sync, K: Sink, G: Gate + Sync>(
-    rt: &R,
+    workers: &Workers<R, G>,
     alloc: Global,
     player: &mut Player,
     progress: Progress,
     millis: u64,
     frame: &[u8],
     sink: &mut K,
-    gate: &G,
 ) -> Result<(), Status>
     requires { length player.old.waits ≤ 256 }
     ensures met { (w : World) → StandsFor player.old.front w → (out : List ℕ) × Wrote (K.written sink.old) (K.written sink.new) out
@@ -123,9 +119,9 @@ fn play_record<R: Threads + Sync, K: Sink, G: Gate + Sync>(
     ensures write { IsCaused Status.Write result (K.faults sink.old) (K.faults sink.new) (K.failed sink.new) }
 {
     let moment = progress.moment_of(millis);
-    match come_to(rt, alloc, player, progress.top, moment, sink, gate) {
+    match come_to(workers, alloc, player, progress.top, moment, sink) {
         Err(status) => return Err(status),
         Ok(()) => {}
     }
-    play_frame(rt, alloc, player, progress.number, frame, sink, gate)
+    play_frame(workers, alloc, player, progress.number, frame, sink)
 }

@@ -56,8 +56,6 @@ impl<K: Sink, N: Noise> Play<K, N> for Migrating {
 
     ghost effects = { effects };
 
-    ghost start = { λ _. 0 };
-
     ghost stands = { λ m moment. m.moment ≡ moment };
 
     ghost waits = { λ _. [] };

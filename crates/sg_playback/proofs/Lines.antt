@@ -1,7 +1,7 @@
 -- What playing a line leaves, as the loop has it.
 use Rattle.std.proofs.Common.{◌≡◌, ◌≤◌, ℕ, Bool, true, false, if◌then◌else◌, List, [], ◌∷◌, ◌++◌, length, Option, None, Some, Result, Ok, Err, refl, ap, subst, length-append, arith}
 use Rattle.std.proofs.lemmas.List.{append-nil, length-map}
-use Rattle.sg_front.specs.States.{FrontStandsFor, FrontValue, State, start, state_after}
+use Rattle.sg_front.specs.States.{FrontStandsFor, State, state_after}
 use Rattle.sg_gateway.specs.Drawn.{Supplied, supplied}
 use Rattle.sg_gateway.specs.Events.{events_of, signal_lacks_noise}
 use Rattle.sg_gateway.specs.Step.{Event}
@@ -106,7 +106,3 @@ player_behind w begun old new script player stands octets draws out goes is = re
 
 pub err_so : {T : Type 0} (a b : Status) → (let r : Result T Status = Err a in r ≡ Err b) → a ≡ b
 err_so a b is = cc
-
--- how a player begins
-pub started : (front : FrontValue) (muxes : Bool) → FrontStandsFor front (start muxes) → FrontStandsFor front (start front.muxes)
-started front muxes stands = subst (λ (m : Bool). FrontStandsFor front (start m)) stands.muxes stands

@@ -7,6 +7,6 @@ mod playing;
 mod replaying;
 mod writing;
 
-pub use player::Player;
+pub use player::{Player, Workers};
 pub use playing::{PlayedLine, play_lines};
 pub use replaying::replay;

@@ -29,13 +29,19 @@ use std::marker::Model;
 use std::mem;
 use std::thread::Threads;
 
+/// What shares out a batch: threads, how many of them at once (one, where none is asked for), and the gate that each passes.
+#[derive(Drop)]
+pub struct Workers<'a, R, G> {
+    pub rt: &'a R,
+    pub count: usize,
+    pub gate: &'a G,
+}
+
 /// Plays the lines of a script, or ticks and datagrams one by one. It is seen as a front, and the datagrams that
 /// wait for their batch, in order of arrival.
 #[derive(Drop)]
 pub struct Player {
     front: Front,
-    /// How many workers share out a batch.
-    workers: usize,
     arrivals: Vec<Arrival>,
     /// Pads of earlier batches, to be used again.
     spare: Vec<Pad>,
@@ -48,25 +54,23 @@ pub struct Player {
 }
 
 impl Model for Player {
-    ghost use Rattle.std.specs.Prelude.{◌<◌, ◌≤◌, All, IsSome, length};
+    ghost use Rattle.std.specs.Prelude.{◌≤◌, All, IsSome, length};
     ghost use Rattle.sg_playback.specs.Playing.{Playing};
 
     ghost Value = { Playing };
 
     ghost view = { λ p. record { front = p.front; waits = p.arrivals.items } };
 
-    ghost invariant = { λ p. (0 < p.workers) × (length p.arrivals.items ≤ 256) × All (λ a. IsSome a.pad) p.arrivals.items };
+    ghost invariant = { λ p. (length p.arrivals.items ≤ 256) × All (λ a. IsSome a.pad) p.arrivals.items };
 }
 
 impl Player {
     /// A front without calls, whose legs may share their ports or may not, and no datagram waits.
-    pub fn make(alloc: Global, workers: usize, muxes: bool) -> Result<Player, NoMemory>
-        requires { 0 < workers }
+    pub fn make(alloc: Global, muxes: bool) -> Result<Player, NoMemory>
         ensures { IfOk result (λ player. FrontStandsFor player.front (start muxes) × (player.waits ≡ [])) }
     {
         Ok(Player {
             front: Front::make(alloc, muxes)?,
-            workers,
             arrivals: Vec::new(alloc),
             spare: Vec::new(alloc),
             lines: Vec::new(alloc),
@@ -80,12 +84,11 @@ impl Player {
     /// signal lacks is drawn.
     pub fn play<R: Threads + Sync, K: Sink, N: Noise, G: Gate + Sync>(
         &mut self,
-        rt: &R,
+        workers: &Workers<R, G>,
         alloc: Global,
         line: Line,
         sink: &mut K,
         noise: &mut N,
-        gate: &G,
     ) -> Result<(), Status>
         requires { (version number : ℕ) × FitsLine version number line }
         ensures played { (s : State) → FrontStandsFor self.old.front s → (draws out : List ℕ)
@@ -100,7 +103,7 @@ impl Player {
         match line {
             Line::Header | Line::HeaderTwo => Ok(()),
             Line::Datagram { port, from, octets } => {
-                self.arrive(rt, alloc, port, from, octets.as_slice(), sink, gate)
+                self.arrive(workers, alloc, port, from, octets.as_slice(), sink)
             }
             Line::DatagramAt {
                 now,
@@ -108,25 +111,24 @@ impl Player {
                 from,
                 octets,
             } => {
-                match self.come_to(rt, alloc, now, sink, gate) {
+                match self.come_to(workers, alloc, now, sink) {
                     Err(status) => return Err(status),
                     Ok(()) => {}
                 }
-                self.arrive(rt, alloc, port, from, octets.as_slice(), sink, gate)
+                self.arrive(workers, alloc, port, from, octets.as_slice(), sink)
             }
-            Line::Signal(kept) => { self.obey(rt, alloc, kept.into_signal(), sink, noise, gate) }
+            Line::Signal(kept) => { self.obey(workers, alloc, kept.into_signal(), sink, noise) }
         }
     }
 
     /// Handles a signal, once what waits is told and its noise is there.
     fn obey<R: Threads + Sync, K: Sink, N: Noise, G: Gate + Sync>(
         &mut self,
-        rt: &R,
+        workers: &Workers<R, G>,
         alloc: Global,
         signal: Signal,
         sink: &mut K,
         noise: &mut N,
-        gate: &G,
     ) -> Result<(), Status>
         requires { IsTimely signal }
         ensures played { (s : State) → FrontStandsFor self.old.front s → (draws out : List ℕ)
@@ -136,7 +138,7 @@ impl Player {
         ensures write { IsCaused Status.Write result (K.faults sink.old) (K.faults sink.new) (K.failed sink.new) }
         ensures noise { IsCaused Status.Noise result (N.faults noise.old) (N.faults noise.new) (N.failed noise.new) }
     {
-        match self.settle(rt, alloc, sink, gate) {
+        match self.settle(workers, alloc, sink) {
             Err(status) => return Err(status),
             Ok(()) => {}
         }
@@ -150,11 +152,10 @@ impl Player {
     /// changes nothing, and the line before had this moment too: so the datagrams of one moment share a batch.
     fn come_to<R: Threads + Sync, K: Sink, G: Gate + Sync>(
         &mut self,
-        rt: &R,
+        workers: &Workers<R, G>,
         alloc: Global,
         now: u64,
         sink: &mut K,
-        gate: &G,
     ) -> Result<(), Status>
         requires { now ≤ 2085978495999 }
         ensures came { (s : State) → FrontStandsFor self.old.front s → (out : List ℕ)
@@ -166,17 +167,16 @@ impl Player {
             return Ok(());
         }
         self.line_moment = Some(now);
-        self.tick(rt, alloc, now, sink, gate)
+        self.tick(workers, alloc, now, sink)
     }
 
     /// Handles and tells what waits, then a tick, at most 2,085,978,495,999 ms since 1970. `Write` where the sink fails.
     pub fn tick<R: Threads + Sync, K: Sink, G: Gate + Sync>(
         &mut self,
-        rt: &R,
+        workers: &Workers<R, G>,
         alloc: Global,
         now: u64,
         sink: &mut K,
-        gate: &G,
     ) -> Result<(), Status>
         requires { now ≤ 2085978495999 }
         ensures ticked { (s : State) → FrontStandsFor self.old.front s → (out : List ℕ)
@@ -186,7 +186,7 @@ impl Player {
         ensures only { IfErr result (λ status. IsWant status) }
         ensures write { IsCaused Status.Write result (K.faults sink.old) (K.faults sink.new) (K.failed sink.new) }
     {
-        match self.settle(rt, alloc, sink, gate) {
+        match self.settle(workers, alloc, sink) {
             Err(status) => return Err(status),
             Ok(()) => {}
         }
@@ -204,13 +204,12 @@ impl Player {
     /// `Write` where the sink fails.
     pub fn arrive<R: Threads + Sync, K: Sink, G: Gate + Sync>(
         &mut self,
-        rt: &R,
+        workers: &Workers<R, G>,
         alloc: Global,
         port: u16,
         from: Address,
         octets: &[u8],
         sink: &mut K,
-        gate: &G,
     ) -> Result<(), Status>
         requires { length octets.now ≤ 4352 }
         ensures came { (s : State) → FrontStandsFor self.old.front s → (out : List ℕ)
@@ -220,7 +219,7 @@ impl Player {
         ensures only { IfErr result (λ status. IsWant status) }
         ensures write { IsCaused Status.Write result (K.faults sink.old) (K.faults sink.new) (K.failed sink.new) }
     {
-        match self.make_room(rt, alloc, sink, gate) {
+        match self.make_room(workers, alloc, sink) {
             Err(status) => return Err(status),
             Ok(()) => {}
         }
@@ -230,10 +229,9 @@ impl Player {
     /// Where the batch is full, it is handled and told.
     fn make_room<R: Threads + Sync, K: Sink, G: Gate + Sync>(
         &mut self,
-        rt: &R,
+        workers: &Workers<R, G>,
         alloc: Global,
         sink: &mut K,
-        gate: &G,
     ) -> Result<(), Status>
         ensures made { (s : State) → FrontStandsFor self.old.front s → (out : List ℕ)
             × Wrote (K.written sink.old) (K.written sink.new) out × HasRoom result s (waiting self.old) (waiting self.new) (FrontStandsFor self.new.front) out }
@@ -244,16 +242,15 @@ impl Player {
         if self.arrivals.len() < BATCH_MOST {
             return Ok(());
         }
-        self.settle(rt, alloc, sink, gate)
+        self.settle(workers, alloc, sink)
     }
 
     /// Handles the datagrams that wait, and writes what becomes of them in order of arrival.
     pub fn settle<R: Threads + Sync, K: Sink, G: Gate + Sync>(
         &mut self,
-        rt: &R,
+        workers: &Workers<R, G>,
         alloc: Global,
         sink: &mut K,
-        gate: &G,
     ) -> Result<(), Status>
         ensures settled { (s : State) → FrontStandsFor self.old.front s → (out : List ℕ)
             × Wrote (K.written sink.old) (K.written sink.new) out × IsSettled result effects 258 s (waiting self.old) (waiting self.new) (FrontStandsFor self.new.front) out }
@@ -266,8 +263,9 @@ impl Player {
             return Ok(());
         }
         let mut arrivals = mem::replace(&mut self.arrivals, Vec::new(alloc));
-        let workers = self.workers.min(arrivals.len());
-        self.front.batch(rt, arrivals.as_mut_slice(), workers, gate);
+        let count = workers.count.min(arrivals.len()).max(1);
+        self.front
+            .batch(workers.rt, arrivals.as_mut_slice(), count, workers.gate);
         match tell_ends(&arrivals, &mut self.lines, sink) {
             Err(status) => return Err(status),
             Ok(()) => {}
@@ -280,10 +278,9 @@ impl Player {
     /// The same, and the sink passes on what it holds.
     pub fn settle_at_once<R: Threads + Sync, K: Sink, G: Gate + Sync>(
         &mut self,
-        rt: &R,
+        workers: &Workers<R, G>,
         alloc: Global,
         sink: &mut K,
-        gate: &G,
     ) -> Result<(), Status>
         ensures settled { (s : State) → FrontStandsFor self.old.front s → (out : List ℕ)
             × Wrote (K.written sink.old) (K.written sink.new) out × IsSettled result effects 258 s (waiting self.old) (waiting self.new) (FrontStandsFor self.new.front) out }
@@ -292,7 +289,7 @@ impl Player {
         ensures only { IfErr result (λ status. IsWant status) }
         ensures write { IsCaused Status.Write result (K.faults sink.old) (K.faults sink.new) (K.failed sink.new) }
     {
-        match self.settle(rt, alloc, sink, gate) {
+        match self.settle(workers, alloc, sink) {
             Err(status) => return Err(status),
             Ok(()) => {}
         }
@@ -303,18 +300,17 @@ impl Player {
     /// on.
     pub fn close<R: Threads + Sync, K: Sink, G: Gate + Sync>(
         &mut self,
-        rt: &R,
+        workers: &Workers<R, G>,
         alloc: Global,
         end: Status,
         sink: &mut K,
-        gate: &G,
     ) -> Status
         requires { end ≢ Status.Write }
         ensures closed { (s : State) → FrontStandsFor self.old.front s → (out : List ℕ)
             × Wrote (K.written sink.old) (K.written sink.new) out × Closes end result effects 258 s (waiting self.old) out }
         ensures write { HasFailed (result ≡ Status.Write) (K.faults sink.old) (K.faults sink.new) (K.failed sink.new) }
     {
-        match self.settle_at_once(rt, alloc, sink, gate) {
+        match self.settle_at_once(workers, alloc, sink) {
             Err(status) => status,
             Ok(()) => end,
         }

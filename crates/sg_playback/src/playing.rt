@@ -3,7 +3,7 @@
 ghost use Rattle.std.specs.Prelude.{◌≡◌, ◌≤◌, ◌+◌, ◌^◌, ℕ, true, false, List, [], Option, Some, IfErr, IfSome, IsOk, OnOk, length};
 ghost use Rattle.sg_edge.specs.Links.{Added};
 ghost use Rattle.sg_edge.specs.Told.{Wrote};
-ghost use Rattle.sg_front.specs.States.{FrontStandsFor, State, start};
+ghost use Rattle.sg_front.specs.States.{FrontStandsFor, State};
 ghost use Rattle.sg_gateway.specs.Step.{Event};
 ghost use Rattle.sg_lines.specs.LineText.{FitsLine};
 ghost use Rattle.sg_lines.specs.declared.lines.Line.{Line};
@@ -12,7 +12,7 @@ ghost use Rattle.sg_playback.specs.Scripts.{HasPlayed, HasSettled, IsScriptPlaye
 ghost use Rattle.sg_trace.specs.Causes.{EndedBy, IsCaused};
 ghost use Rattle.sg_trace.specs.Loop.{GoInOrder, IsPlayed, IsSettled, IsWant, ways_of};
 
-use crate::player::Player;
+use crate::player::{Player, Workers};
 use sg_edge::{Noise, Sink, Source};
 use sg_lanes::Gate;
 use sg_lines::Line;
@@ -41,24 +41,23 @@ impl PlayedLine for Line {
     }
 }
 
-/// Plays the script of the source, from its first line to the last, by a player that has played nothing, and gives it back.
+/// Plays the script of the source, from its first line to the last, by a player for which nothing waits, and gives it back.
 /// Then all that the lines tell is told and passed on, and the reader is behind the last line. Where the run ends before, that
 /// is its status: whatever ends the reading, what waits is told then. What is told is passed on before a read that may wait.
 pub fn play_lines<L: PlayedLine, R: Threads + Sync, S: Source, K: Sink, N: Noise, G: Gate + Sync>(
-    rt: &R,
+    workers: &Workers<R, G>,
     alloc: Global,
     player: Player,
     script: &mut ScriptReader,
     source: &mut S,
     sink: &mut K,
     noise: &mut N,
-    gate: &G,
 ) -> Result<Player, Status>
-    requires front { FrontStandsFor player.front (start player.front.muxes) }
+    requires front { (s : State) × FrontStandsFor player.front s }
     requires waits { player.waits ≡ [] }
     requires start { script.old ≡ record { waits = []; version = 1; number = 1; offset = 0; budget = 2 ^ 30 + 1 } }
-    ensures ran { (octets draws out : List ℕ)
-        × IsScriptPlayed result (ways_of L.spelled L.followed L.last (λ l. gives_of (L.played l))) (start player.front.muxes)
+    ensures ran { (s : State) → FrontStandsFor player.front s → (octets draws out : List ℕ)
+        × IsScriptPlayed result (ways_of L.spelled L.followed L.last (λ l. gives_of (L.played l))) s
         (record { left = S.left source.old; written = K.written sink.old; drawn = N.given noise.old })
         (record { left = S.left source.new; written = K.written sink.new; drawn = N.given noise.new })
         script.new octets draws out }
@@ -77,10 +76,10 @@ pub fn play_lines<L: PlayedLine, R: Threads + Sync, S: Source, K: Sink, N: Noise
             requires { (version number : ℕ) × FitsLine version number line }
             ensures { HasPlayed line result player.old player.new (K.written sink.old) (K.written sink.new) (N.given noise.old) (N.given noise.new)
                 (K.faults sink.old) (K.faults sink.new) (K.failed sink.new) (N.faults noise.old) (N.faults noise.new) (N.failed noise.new) }
-        { player.play(rt, alloc, line, sink, noise, gate) },
+        { player.play(workers, alloc, line, sink, noise) },
         settling: |player: &mut Player, sink: &mut K| -> Result<(), Status>
             ensures { HasSettled result player.old player.new (K.written sink.old) (K.written sink.new) (K.faults sink.old) (K.faults sink.new) (K.failed sink.new) }
-        { player.settle_at_once(rt, alloc, sink, gate) },
+        { player.settle_at_once(workers, alloc, sink) },
         lines: PhantomData::<L>,
     };
     match sg_trace::play_lines(alloc, &mut staffed, script, source, sink, noise) {
@@ -114,8 +113,6 @@ impl<
     ghost gives = { λ l. gives_of (L.played l) };
 
     ghost effects = { effects };
-
-    ghost start = { λ s. start s.player.front.muxes };
 
     ghost stands = { λ s state. IsStaffed (F.pre s.playing) (F.post s.playing) (E.pre s.settling) (E.post s.settling) (λ p. p.now)
         (λ k. K.written k.now) (λ k. K.faults k.now) (λ k. K.failed k.now) (λ n. N.given n.now) (λ n. N.faults n.now) (λ n. N.failed n.now) s.player state };

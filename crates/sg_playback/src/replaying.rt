@@ -1,12 +1,12 @@
 //! The command `replay`: the lines of a script, in order.
 
-ghost use Rattle.std.specs.Prelude.{◌≡◌, ◌<◌, ◌≤◌, ◌+◌, ◌^◌, ℕ, List};
+ghost use Rattle.std.specs.Prelude.{◌≡◌, ◌≤◌, ◌+◌, ◌^◌, ℕ, List};
 ghost use Rattle.sg_trace.specs.Causes.{EndedBy, HasFailed};
 ghost use Rattle.sg_trace.specs.Loop.{IsWant};
 ghost use Rattle.sg_edge.specs.Told.{Rose};
 ghost use Rattle.sg_playback.specs.Replay.{IsCompleteReplay, IsReplay};
 
-use crate::player::Player;
+use crate::player::{Player, Workers};
 use crate::playing::play_lines;
 use sg_base::NoMemory;
 use sg_edge::{Noise, Sink, Source};
@@ -26,16 +26,13 @@ use std::thread::Threads;
 /// It isn't inlined, so no other command has its frame.
 #[inline(never)]
 pub fn replay<R: Threads + Sync, S: Source, K: Sink, N: Noise, G: Gate + Sync>(
-    rt: &R,
+    workers: &Workers<R, G>,
     alloc: Global,
-    workers: usize,
     muxes: bool,
     source: &mut S,
     sink: &mut K,
     noise: &mut N,
-    gate: &G,
 ) -> Status
-    requires { 0 < workers }
     ensures ran { (octets draws out : List ℕ)
         × IsReplay muxes result
         (record { left = S.left source.old; written = K.written sink.old; drawn = N.given noise.old })
@@ -48,19 +45,18 @@ pub fn replay<R: Threads + Sync, S: Source, K: Sink, N: Noise, G: Gate + Sync>(
     ensures complete { ¬ Rose (S.faults source.old) (S.faults source.new) → ¬ Rose (K.faults sink.old) (K.faults sink.new) → ¬ Rose (N.faults noise.old) (N.faults noise.new)
         → IsCompleteReplay result (S.left source.old) (S.left source.new) }
 {
-    match Player::make(alloc, workers, muxes) {
+    match Player::make(alloc, muxes) {
         Err(NoMemory) => Status::NoMemory,
         Ok(player) => {
             let mut script = ScriptReader::new(alloc);
             match play_lines::<Line, R, S, K, N, G>(
-                rt,
+                workers,
                 alloc,
                 player,
                 &mut script,
                 source,
                 sink,
                 noise,
-                gate,
             ) {
                 Err(status) => passed_on(status, sink),
                 // no line is the last

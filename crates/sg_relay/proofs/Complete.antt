@@ -46,16 +46,6 @@ complete w acts (Script n f) turns link link' old new p run a b c d e = λ all r
     (none_fails old.left new.left p.octets all rest f (λ (o : List ℕ). (woven w o p.readings (receipts_in p.calls) p.draws).stop ≡ AtFault n f) run.took told told'
     (script p.readings (receipts_in p.calls) p.draws n f) run.ends.0.stops run.ends.1 run.ends.2)
 
--- the same where a failure of these shows in the status
-pub completes : {L D : Type 0} (w : Weaves L D) (acts : List D → List Act) (s : Status) (turns link link' : ℕ) (old new : RelayTellings) (p : Passed) (source sink clock noise : Type 0) → IsRelay w acts s turns old new p
-    → (s ≡ Read → source) → (s ≡ Write → sink) → (s ≡ Clock → clock) → (s ≡ Noise → noise) → (s ≡ Link → Rose link link')
-    → (p : Passed) × IsRelay w acts s turns old new p × (¬ source → ¬ sink → ¬ clock → ¬ noise → IsCompleteRelay w s turns old.left new.left link link' p)
-completes w acts s turns link link' old new p source sink clock noise run read write clocks noises links = (
-  p,
-  run,
-  λ no_source no_sink no_clock no_noise. complete w acts s turns link link' old new p run (λ is. no_source (read is)) (λ is. no_sink (write is)) (λ is. no_clock (clocks is)) (λ is. no_noise (noises is)) links,
-)
-
 -- ---- a run that ends before anything is done
 
 abbrev pub none_passed : Passed
@@ -74,9 +64,3 @@ none_relayed w acts none old turns = record {
   paced = refl;
   in_order = order_none (acts_by w acts none_passed) [] refl;
 }
-
-pub at_once : {L D : Type 0} (w : Weaves L D) (acts : List D → List Act) → acts [] ≡ [] → (old : RelayTellings) (turns link link' : ℕ) (source sink clock noise : Type 0)
-    → (p : Passed) × IsRelay w acts NoMemory turns old old p × (¬ source → ¬ sink → ¬ clock → ¬ noise → IsCompleteRelay w NoMemory turns old.left old.left link link' p)
-at_once w acts none old turns link link' source sink clock noise =
-    completes w acts NoMemory turns link link' old old none_passed source sink clock noise (none_relayed w acts none old turns)
-    (λ is. absurd cc) (λ is. absurd cc) (λ is. absurd cc) (λ is. absurd cc) (λ is. absurd cc)

@@ -5,7 +5,7 @@ use Rattle.std.proofs.lemmas.List.{map-append}
 use Rattle.sg_base.specs.declared.addresses.Address.{Address}
 use Rattle.sg_edge.specs.Links.{LinkCall}
 use Rattle.sg_front.proofs.Sequences.{state_after-append, told_from-append}
-use Rattle.sg_front.specs.States.{State, state_after, told_from}
+use Rattle.sg_front.specs.States.{state_after, told_from}
 use Rattle.sg_gateway.specs.Events.{events_of_signal}
 use Rattle.sg_gateway.specs.Step.{Event}
 use Rattle.sg_lines.specs.declared.lines.Line.{Line}
@@ -19,7 +19,7 @@ use Rattle.sg_relay.specs.Acting.{Acting, GoInOrder}
 use Rattle.sg_relay.specs.Asked.{act_of}
 use Rattle.sg_relay.specs.Causes.{IsOfOutcomes}
 use Rattle.sg_relay.specs.Parts.{AreHandled, Gives, IsGiven}
-use Rattle.sg_relay.specs.Plain.{acting, arrives, given, gives}
+use Rattle.sg_relay.specs.Plain.{acting, arrives, given, gives_by}
 use Rattle.sg_relay.proofs.Blames.{outcomes_not}
 
 pub in_order : GoInOrder acting
@@ -37,29 +37,32 @@ given_so (Ok x) g a state ds stands_for calls draws out only says handled = (ds,
 given_so (Err Noise) g a state ds stands_for calls draws out only says handled = absurd (outcomes_not Noise (λ e. cc) (λ e. cc) (λ e. cc) Noise only refl)
 given_so (Err other) g a state ds stands_for calls draws out only says handled = (ds, says, handled.0, handled.1)
 
--- ---- a header, of either version
+-- ---- a line that every script may have, by what its events give
 
-pub gives_header : (l : Line) → (l ≡ lines.Header) ⊎ (l ≡ lines.HeaderTwo) → Gives (gives l) [] []
-gives_header l (inl is) more = ap (λ (m : Line). gives m more) is
-gives_header l (inr is) more = ap (λ (m : Line). gives m more) is
+module _ {D : Type 0} (deeds : List Event → List D) (l : Line) where
+  -- a header, of either version
+  pub gives_header : deeds [] ≡ [] → (l ≡ lines.Header) ⊎ (l ≡ lines.HeaderTwo) → Gives (gives_by deeds l) [] []
+  gives_header none is more = go is ∙ ap (λ (ds : List D). let g : Option (Given D) = Some (record { deeds = ds; left = more }) in g) none
+    where
+      go : (l ≡ lines.Header) ⊎ (l ≡ lines.HeaderTwo) → gives_by deeds l more ≡ Some (record { deeds = deeds []; left = more })
+      go (inl is) = ap (λ (m : Line). gives_by deeds m more) is
+      go (inr is) = ap (λ (m : Line). gives_by deeds m more) is
 
--- ---- a datagram, of which a relay leaves out the moment where it has one
+  -- a datagram, of which a relay leaves out the moment where it has one
+  pub gives_datagram : (port : ℕ) (from : Address) (octets pad : List ℕ) → (l ≡ lines.Datagram port from octets) ⊎ ((now : ℕ) × (l ≡ lines.DatagramAt now port from octets)) → pad ≡ octets
+      → Gives (gives_by deeds l) [] (deeds (arrives port from pad))
+  gives_datagram port from octets pad is same more = go is ∙ ap (λ (d : List ℕ). let g : Option (Given D) = Some (record { deeds = deeds (arrives port from d); left = more }) in g) (sym same)
+    where
+      go : (l ≡ lines.Datagram port from octets) ⊎ ((now : ℕ) × (l ≡ lines.DatagramAt now port from octets)) → gives_by deeds l more ≡ Some (record { deeds = deeds (arrives port from octets); left = more })
+      go (inl is) = ap (λ (m : Line). gives_by deeds m more) is
+      go (inr (now, is)) = ap (λ (m : Line). gives_by deeds m more) is
 
-pub gives_datagram : (l : Line) (port : ℕ) (from : Address) (octets pad : List ℕ) → (l ≡ lines.Datagram port from octets) ⊎ ((now : ℕ) × (l ≡ lines.DatagramAt now port from octets)) → pad ≡ octets
-    → Gives (gives l) [] (arrives port from pad)
-gives_datagram l port from octets pad is same more = go is ∙ ap (λ (d : List ℕ). let g : Option (Given Event) = Some (record { deeds = arrives port from d; left = more }) in g) (sym same)
-  where
-    go : (l ≡ lines.Datagram port from octets) ⊎ ((now : ℕ) × (l ≡ lines.DatagramAt now port from octets)) → gives l more ≡ Some (record { deeds = arrives port from octets; left = more })
-    go (inl is) = ap (λ (m : Line). gives m more) is
-    go (inr (now, is)) = ap (λ (m : Line). gives m more) is
+  -- a signal
+  pub gives_signal : (signal s : Signal) (draws : List ℕ) → l ≡ lines.Signal signal → IsSupplied (Ok s) signal draws → Gives (gives_by deeds l) draws (deeds (events_of_signal s))
+  gives_signal signal s draws is supplies more = ap (λ (m : Line). gives_by deeds m (draws ++ more)) is ∙ ap (given deeds) (supplies more)
 
--- ---- a signal
-
-pub gives_signal : (l : Line) (signal s : Signal) (draws : List ℕ) → l ≡ lines.Signal signal → IsSupplied (Ok s) signal draws → Gives (gives l) draws (events_of_signal s)
-gives_signal l signal s draws is supplies more = ap (λ (m : Line). gives m (draws ++ more)) is ∙ ap given (supplies more)
-
--- its noise couldn't be drawn
-pub unsupplied : (T : Type 0) (l : Line) (signal : Signal) (draws : List ℕ) (s : Status) (state : State) (stands_for : State → Type 0) → l ≡ lines.Signal signal → IsSupplied (Err s) signal draws
-    → IsGiven {T = T} (Err s) (gives l) acting state stands_for [] draws []
-unsupplied T l signal draws Noise state stands_for is lacks = (lacks.0, ap (λ (m : Line). gives m []) is ∙ ap given lacks.1, refl, refl)
-unsupplied T l signal draws other state stands_for is lacks = absurd lacks
+  -- its noise couldn't be drawn
+  pub unsupplied : {S : Type 0} (a : Acting S D) (T : Type 0) (signal : Signal) (draws : List ℕ) (s : Status) (state : S) (stands_for : S → Type 0) → l ≡ lines.Signal signal → IsSupplied (Err s) signal draws
+      → IsGiven {T = T} (Err s) (gives_by deeds l) a state stands_for [] draws []
+  unsupplied a T signal draws Noise state stands_for is lacks = (lacks.0, ap (λ (m : Line). gives_by deeds m []) is ∙ ap (given deeds) lacks.1, refl, refl)
+  unsupplied a T signal draws other state stands_for is lacks = absurd lacks

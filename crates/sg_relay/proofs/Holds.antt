@@ -1,17 +1,19 @@
 -- What a relay asked its link for is a prefix of what some acts ask for, and so are the ports that it holds.
-use Rattle.std.proofs.Common.{◌≡◌, inl, inr, ℕ, List, [], ◌∷◌, ◌++◌, sym, ap, ◌∙◌, subst, append_assoc, length, length-append, arith}
+use Rattle.std.proofs.Common.{◌≡◌, inl, inr, refl, ℕ, List, [], ◌∷◌, ◌++◌, sym, ap, ◌∙◌, subst, append_assoc, length, length-append, arith}
 use Rattle.std.proofs.lemmas.List.{append-nil}
 use Rattle.std.specs.List.{flat_map}
 use Rattle.sg_edge.specs.Links.{Failing, LinkCall, Receive}
-use Rattle.sg_edge.specs.Told.{Tally}
+use Rattle.sg_edge.specs.Told.{Rose, Tally}
 use Rattle.sg_gateway.specs.World.{World}
 use Rattle.sg_trace.specs.Output.{IsPrefixOf}
 use Rattle.sg_trace.specs.declared.status.Status.{Status}
-use Rattle.sg_trace.specs.declared.status.Status.TheVariants.{Done, Usage, Script, Link, Clock, Noise, TurnsSpent, Capture}
+use Rattle.sg_trace.specs.declared.status.Status.TheVariants.{Done, Usage, Script, Read, Write, Link, NoMemory, Clock, Noise, TurnsSpent, Capture}
 use Rattle.sg_relay.specs.Asked.{Act, Ask, IsAtNext, IsCutOff, IsPart, ask_in, asks_in, asks_of, receipts_in}
+use Rattle.sg_relay.specs.Completeness.{Failures, HasPassed}
 use Rattle.sg_relay.specs.Held.{AreOfCalls, EachFits, PortsAreOfCalls}
 use Rattle.sg_relay.specs.Relay.{HoldsItsCallsPorts, IsRelay, IsWholeRelay, Passed, RelayEnds, RelayTellings, deeds_by, world_by, woven_of}
 use Rattle.sg_relay.specs.Weaving.{Weaves}
+use Rattle.sg_relay.proofs.Complete.{complete, none_passed, none_relayed}
 use Rattle.sg_relay.proofs.Deeds.{flat_append, prefix_after, prefix_all, prefix_longer}
 
 -- the asks are a prefix of those that are of some deeds
@@ -80,22 +82,32 @@ holds w acts world law s turns old new p run =
       each = fits_prefix (asks_in p.calls) (flat_map asks_of (acts asked.0)) asked.1 (law asked.0).each;
     }
 
--- a relay by acts that are the same
-pub relayed_as : {L D : Type 0} (w : Weaves L D) (acts acts' : List D → List Act) → ((ds : List D) → acts ds ≡ acts' ds) → (s : Status) (turns : ℕ) (old new : RelayTellings) (p : Passed)
-    → IsRelay w acts s turns old new p → IsRelay w acts' s turns old new p
-relayed_as {L} {D} w acts acts' same s turns old new p run = subst (λ (f : List D → List Act). IsRelay w f s turns old new p) (λ i ds. same ds i) run
-
--- the same of all that a run says, with its ports
-pub relayed_with_ports : {L D : Type 0} (w : Weaves L D) (acts acts' : List D → List Act) (world : List D → World) → ((ds : List D) → acts ds ≡ acts' ds) → ((ds : List D) → PortsAreOfCalls (acts' ds) (world ds))
-    → (s : Status) (turns : ℕ) (old new : RelayTellings) (complete : Passed → Type 0) → (p : Passed) × IsRelay w acts s turns old new p × complete p
-    → (p : Passed) × IsRelay w acts' s turns old new p × HoldsItsCallsPorts w world p × complete p
-relayed_with_ports w acts acts' world same law s turns old new complete (p, run, ends) =
-    let run' = relayed_as w acts acts' same s turns old new p run in
-    (p, run', holds w acts' world law s turns old new p run', ends)
+-- A run of which each failure shows in the status, sends aside, with its ports, by acts that are the same.
+pub has_passed : {L D : Type 0} (w : Weaves L D) (acts acts' : List D → List Act) (world : List D → World) → ((ds : List D) → acts ds ≡ acts' ds) → ((ds : List D) → PortsAreOfCalls (acts' ds) (world ds))
+    → (s : Status) (turns : ℕ) (old new : RelayTellings) (failures failures' : Failures) → (p : Passed) × IsRelay w acts s turns old new p
+    → (s ≡ Read → Rose failures.source failures'.source) → (s ≡ Write → Rose failures.sink failures'.sink) → (s ≡ Clock → Rose failures.clock failures'.clock) → (s ≡ Noise → Rose failures.noise failures'.noise)
+    → (s ≡ Link → Rose failures.link failures'.link) → HasPassed w acts' world s turns old new failures failures'
+has_passed {L} {D} w acts acts' world same law s turns old new failures failures' (p, is) read write clock noise link =
+    let run : IsRelay w acts' s turns old new p = subst (λ (f : List D → List Act). IsRelay w f s turns old new p) (λ i ds. same ds i) is in record {
+      passed = p;
+      is = run;
+      ports = holds w acts' world law s turns old new p run;
+      complete = λ only. complete w acts' s turns failures.link failures'.link old new p run
+          (λ e. only.source (read e)) (λ e. only.sink (write e)) (λ e. only.clock (clock e)) (λ e. only.noise (noise e)) link;
+    }
 
 -- a relay that asked its link for nothing
-pub holds_none : {L D : Type 0} (w : Weaves L D) (world : List D → World) (p : Passed) → p.calls ≡ [] → HoldsItsCallsPorts w world p
+holds_none : {L D : Type 0} (w : Weaves L D) (world : List D → World) (p : Passed) → p.calls ≡ [] → HoldsItsCallsPorts w world p
 holds_none w world p none = record {
   at_receives = λ before rest x is. absurd (omega (arith, ap length (sym none ∙ is), length-append before (Receive x ∷ rest)));
   each = λ before rest ask is. absurd (omega (arith, ap length (sym (ap asks_in none) ∙ is), length-append before (ask ∷ rest)));
+}
+
+-- memory ran out before anything was done
+pub nothing_passed : {L D : Type 0} (w : Weaves L D) (acts : List D → List Act) (world : List D → World) → acts [] ≡ [] → (turns : ℕ) (old : RelayTellings) (failures : Failures) → HasPassed w acts world NoMemory turns old old failures failures
+nothing_passed w acts world none turns old failures = record {
+  passed = none_passed;
+  is = none_relayed w acts none old turns;
+  ports = holds_none w world none_passed refl;
+  complete = λ only all rest told told' script few well. inr refl;
 }

@@ -3,24 +3,18 @@ use Rattle.std.proofs.Common.{◌≡◌, ◌∷◌, [], ℕ, Bool, false, cond, 
 use Rattle.std.proofs.lemmas.List.{map-append}
 use Rattle.std.specs.Prelude.{OnOk}
 use Rattle.sg_bridge.specs.Bridged.{Happens, Said, bridging}
-use Rattle.sg_bridge.specs.declared.lines.BridgeLine.TheVariants as bridge_lines
 use Rattle.sg_bridge.specs.declared.outcomes.BridgeOutcome.{BridgeOutcome}
 use Rattle.sg_edge.specs.Links.{LinkCall}
 use Rattle.sg_gateway.specs.Events.{events_of_signal, signal_lacks_noise, signal_of}
-use Rattle.sg_gateway.specs.Step.{Event, Signalled}
-use Rattle.sg_lines.specs.declared.lines.Line.{Line}
-use Rattle.sg_lines.specs.declared.lines.Line.TheVariants as lines
+use Rattle.sg_gateway.specs.Step.{Signalled}
 use Rattle.sg_lines.specs.declared.lines.Signal.{Signal}
 use Rattle.sg_relay.specs.Acting.{GoInOrder}
 use Rattle.sg_relay.specs.Asked.{Act, IsDone}
-use Rattle.sg_relay.specs.Joined.{act_of_bridge, acting, acts_of_all, gives, happen, happen_all}
-use Rattle.sg_relay.specs.Parts.{AreCarriedOut, AreHandled, Gives, IsGiven, StopsWith}
-use Rattle.sg_relay.specs.Plain as plain
+use Rattle.sg_relay.specs.Joined.{act_of_bridge, acting, acts_of_all, happen_all}
+use Rattle.sg_relay.specs.Parts.{AreCarriedOut, AreHandled, StopsWith, ended_as}
 use Rattle.sg_switchboard.proofs.Order.{state_after-append, told_from-append, told_of_one}
 use Rattle.sg_switchboard.specs.Switching.{State, after, state_after, told_from}
-use Rattle.sg_trace.specs.Supplying.{IsSupplied}
 use Rattle.sg_trace.specs.declared.status.Status.{Status}
-use Rattle.sg_trace.specs.declared.status.Status.TheVariants.{Noise}
 
 pub in_order : GoInOrder acting
 in_order = record {
@@ -50,17 +44,10 @@ module _ (state : State) (x : Said) (told : List BridgeOutcome) (is : (bridging 
   one_handled (Ok u) done stands = one_done u done stands
   one_handled (Err s) done stands = one_stops (Unit {0}) s done
 
+  pub one_carried_out : {T : Type 0} (r : Result T Status) → AreCarriedOut (ended_as r) (acts_of_all told) calls out → stands_for (after (bridging state.world state.calls x)) → AreHandled r acting state (x ∷ []) stands_for calls out
+  one_carried_out (Ok y) done stands = one_done y done stands
+  one_carried_out {T} (Err s) done stands = one_stops T s done
+
 -- a signal that has its noise
 pub happens_one : (signal : Signal) → signal_lacks_noise signal ≡ false → happen_all (events_of_signal signal) ≡ Happens (Signalled (signal_of signal)) ∷ []
 happens_one signal ready = ap (λ (b : Bool). happen_all (cond b [] (Signalled (signal_of signal) ∷ []))) ready
-
--- ---- a line that every script may have
-
-pub gives_script : (l : Line) (draws : List ℕ) (events : List Event) → Gives (plain.gives l) draws events → Gives (gives (bridge_lines.Script l)) draws (happen_all events)
-gives_script l draws events says more = ap happen (says more)
-
--- its noise couldn't be drawn
-pub unsupplied_script : (T : Type 0) (l : Line) (signal : Signal) (draws : List ℕ) (s : Status) (state : State) (stands_for : State → Type 0) → l ≡ lines.Signal signal → IsSupplied (Err s) signal draws
-    → IsGiven {T = T} (Err s) (gives (bridge_lines.Script l)) acting state stands_for [] draws []
-unsupplied_script T l signal draws Noise state stands_for is lacks = (lacks.0, ap (λ (m : Line). happen (plain.gives m [])) is ∙ ap (λ found. happen (plain.given found)) lacks.1, refl, refl)
-unsupplied_script T l signal draws other state stands_for is lacks = absurd lacks

@@ -7,7 +7,6 @@ use Rattle.sg_edge.proofs.Passed.{took_more, wrote_more}
 use Rattle.sg_edge.specs.Links.{Added, Called, Failing, LinkCall, Receive, Received}
 use Rattle.sg_edge.specs.Told.{AtEnd, Tally, TookIn, Wrote}
 use Rattle.sg_lines.specs.ScriptLines.{lines_of}
-use Rattle.sg_trace.proofs.Traces.{whole_some}
 use Rattle.sg_trace.specs.Reading.{IsFaultBy, IsNextBy, IsReadBy, Reading}
 use Rattle.sg_trace.specs.Trace.{AtEnd as BehindAll, AtFault, ForDraw, ForReading, ForReceive, Outside, Stop, moment_of}
 use Rattle.sg_trace.specs.declared.status.Status.{Status}
@@ -50,11 +49,6 @@ pace_so [] receipts (inl same) = absurd (omega (arith, same))
 pace_so [] receipts (inr same) = absurd (omega (arith, same))
 pace_so (r ∷ rs) receipts (inl same) = inl (omega (arith, same))
 pace_so (r ∷ rs) receipts (inr same) = inr (omega (arith, same))
-
--- the next line isn't read for this reason
-pub next_at : {L D : Type 0} (w : Weaves L D) (own s : Status) (at at' : Reading) (got : List ℕ) (left : Tally) → s ≡ own → (let r : Result (Option L) Status = Err s in IsNextBy w.spelled w.followed r at at' got left)
-    → (let r : Result (Option L) Status = Err own in IsNextBy w.spelled w.followed r at at' got left)
-next_at {L} w own s at at' got left same next = subst (λ (x : Status). (let r : Result (Option L) Status = Err x in IsNextBy w.spelled w.followed r at at' got left)) same next
 
 -- what holds of each status of a line holds of one that is such
 of_lines : (P : Status → Type 0) (s : Status) → IsOfLines s → P Noise → P TurnsSpent → P Clock → P Write → P Link → P NoMemory → P s
@@ -230,10 +224,6 @@ module _ {L S D : Type 0} (w : Weaves L D) (acting : Acting S D) (law : GoInOrde
         in_order = line_order order;
       }
 
-      -- the next line begins behind this one
-      pub farther : at.offset < at'.offset
-      farther = omega (arith, is.offset, whole_some is.line is.whole)
-
       -- a line that stops where nothing more was taken
       stopped_so : (stop : Stop) → IsStopped w acting began l (acting.after state ds) top stop readings calls draws out → IsWholeRelay w (acting.acts state) with_line stop
       stopped_so stop at_stop =
@@ -384,7 +374,12 @@ module _ {L S D : Type 0} (w : Weaves L D) (acting : Acting S D) (law : GoInOrde
     in_order = λ rest o. order_none (told_by w acting state rest (readings ++ o.readings) o.draws) calls none;
   }
 
-  -- the same of an equal reading
+  -- the same of an equal beginning
+  pub began_so : (old now : RelayTellings) (turns began began' : ℕ) (p : Passed) (at : Reading) (ds : List D) (top left : ℕ) → began' ≡ began → IsRelaying w acting state old now turns began p at ds top left
+      → IsRelaying w acting state old now turns began' p at ds top left
+  began_so old now turns began began' p at ds top left same going = subst (λ (b : ℕ). IsRelaying w acting state old now turns b p at ds top left) (sym same) going
+
+  -- and of an equal reading
   pub reading_so : (old now : RelayTellings) (turns began : ℕ) (p : Passed) (at at' : Reading) (ds : List D) (top left : ℕ) → at ≡ at' → IsRelaying w acting state old now turns began p at' ds top left
       → IsRelaying w acting state old now turns began p at ds top left
   reading_so old now turns began p at at' ds top left same going = subst (λ (a : Reading). IsRelaying w acting state old now turns began p a ds top left) (sym same) going

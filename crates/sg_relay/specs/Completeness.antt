@@ -1,4 +1,4 @@
--- Where nothing fails, sends aside, a relay handles its script to the end.
+-- What a relay promises. Where nothing fails, sends aside, it handles its script to the end.
 use Rattle.std.specs.Prelude.{◌≡◌, ◌⊎◌, ℕ, ◌+◌, List, length, Some}
 use Rattle.sg_base.specs.declared.faults.ScriptFault.{ScriptFault}
 use Rattle.sg_edge.specs.Links.{Received}
@@ -6,8 +6,9 @@ use Rattle.sg_edge.specs.Told.{Rose, Tally}
 use Rattle.sg_trace.specs.Trace.{AtFault, ForReading}
 use Rattle.sg_trace.specs.declared.status.Status.{Status}
 use Rattle.sg_trace.specs.declared.status.Status.TheVariants.{Done, NoMemory}
-use Rattle.sg_relay.specs.Asked.{AreGood}
-use Rattle.sg_relay.specs.Relay.{Passed, woven_of}
+use Rattle.sg_gateway.specs.World.{World}
+use Rattle.sg_relay.specs.Asked.{Act, AreGood}
+use Rattle.sg_relay.specs.Relay.{HoldsItsCallsPorts, IsRelay, Passed, RelayTellings, woven_of}
 use Rattle.sg_relay.specs.Weaving.{Weaves, woven}
 
 -- The octets are a script of this kind: whatever is read, received and drawn, no line of them is outside the grammar.
@@ -24,3 +25,26 @@ abbrev pub IsCompleteRelay : {L D : Type 0} → Weaves L D → Status → ℕ �
 IsCompleteRelay w status turns left left' link link' p =
     (all rest : List ℕ) → left.told ≡ Some all → left'.told ≡ Some rest → IsScriptOf w all → AsksNoMore w turns p
     → (¬ Rose link link' ⊎ AreGood p.calls) → (status ≡ Done) ⊎ (status ≡ NoMemory)
+
+-- how often a source, a sink, a link, a clock and a source of noise have failed
+pub record Failures : Type 0 where
+  pub source : ℕ
+  pub sink : ℕ
+  pub link : ℕ
+  pub clock : ℕ
+  pub noise : ℕ
+
+-- nothing but the link has failed
+pub record OnlyLinkFailed (old new : Failures) : Type 0 where
+  pub source : ¬ Rose old.source new.source
+  pub sink : ¬ Rose old.sink new.sink
+  pub clock : ¬ Rose old.clock new.clock
+  pub noise : ¬ Rose old.noise new.noise
+
+-- This passed between a relay and the outside. It listened at the ports of the calls that were there, and at no others. Where nothing
+-- fails, sends aside, it handled its script to the end, or memory ran out.
+pub record HasPassed {L D : Type 0} (w : Weaves L D) (acts : List D → List Act) (world : List D → World) (status : Status) (turns : ℕ) (old new : RelayTellings) (failures failures' : Failures) : Type 0 where
+  pub passed : Passed
+  pub is : IsRelay w acts status turns old new passed
+  pub ports : HoldsItsCallsPorts w world passed
+  pub complete : OnlyLinkFailed failures failures' → IsCompleteRelay w status turns old.left new.left failures.link failures'.link passed

@@ -32,12 +32,8 @@ waits other = None
 abbrev pub happen_all : List Event → List Said
 happen_all events = map Happens events
 
-abbrev pub happen : Option (Given Event) → Option (Given Said)
-happen None = None
-happen (Some g) = Some (record { deeds = happen_all g.deeds; left = g.left })
-
 abbrev pub gives : BridgeLine → List ℕ → Option (Given Said)
-gives (lines.Script l) draws = happen (plain.gives l draws)
+gives (lines.Script l) draws = plain.gives_by happen_all l draws
 gives (lines.Join first second) draws = Some (record { deeds = Joins first second ∷ []; left = draws })
 gives (lines.Part call) draws = Some (record { deeds = Parts call ∷ []; left = draws })
 

@@ -22,6 +22,11 @@ abbrev pub StopsWith : Status → List Act → List LinkCall → List ℕ → Ty
 StopsWith Link acts calls out = IsCutOff acts calls out
 StopsWith other acts calls out = IsPart acts calls out × AreGood calls
 
+-- how it ended, whatever it hands back
+abbrev pub ended_as : {T : Type 0} → Result T Status → Result (Unit {0}) Status
+ended_as (Ok x) = Ok tt
+ended_as (Err status) = Err status
+
 -- The acts were done, or a prefix of them; nothing was received.
 abbrev pub AreCarriedOut : Result (Unit {0}) Status → List Act → List LinkCall → List ℕ → Type 0
 AreCarriedOut (Ok u) acts calls out = IsDone acts calls out × AreGood calls × (receipts_in calls ≡ [])

@@ -27,13 +27,16 @@ abbrev pub untimed : Line → Line
 untimed (lines.DatagramAt now port from octets) = lines.Datagram port from octets
 untimed other = other
 
--- the events of a line that has its noise
-abbrev pub given : Option Supplied → Option (Given Event)
-given None = None
-given (Some s) = Some (record { deeds = events_of s.line; left = s.draws })
+-- what a line gives that has its noise, by what its events give
+abbrev pub given : {D : Type 0} → (List Event → List D) → Option Supplied → Option (Given D)
+given deeds None = None
+given deeds (Some s) = Some (record { deeds = deeds (events_of s.line); left = s.draws })
+
+abbrev pub gives_by : {D : Type 0} → (List Event → List D) → Line → List ℕ → Option (Given D)
+gives_by deeds l draws = given deeds (supplied draws (untimed l))
 
 abbrev pub gives : Line → List ℕ → Option (Given Event)
-gives l draws = given (supplied draws (untimed l))
+gives l = gives_by (λ events. events) l
 
 abbrev pub ticks : ℕ → List Event
 ticks moment = events_of (lines.Signal (Tick moment))

@@ -1,22 +1,18 @@
 //! The calls of a relay of which some may be joined: a switchboard. Its ports stay bound while calls are joined: what comes
 //! from outside to a plain port of a joined call is dropped before the table.
 
-ghost use Rattle.std.specs.Prelude.{◌≡◌, ◌∷◌, [], ℕ, List, IfErr, OnOk, false};
+ghost use Rattle.std.specs.Prelude.{◌≡◌, ◌∷◌, [], ℕ, List, IfErr, OnOk};
 ghost use Rattle.sg_bridge.specs.Bridged.{told_and_parted};
 ghost use Rattle.sg_bridge.specs.Pairs.{after_outcome};
-ghost use Rattle.sg_bridge.specs.declared.lines.BridgeLine.TheVariants as lines;
-ghost use Rattle.sg_edge.specs.Links.{Added, Called, LinkCall};
+ghost use Rattle.sg_edge.specs.Links.{Called, LinkCall};
 ghost use Rattle.sg_edge.specs.Told.{Wrote};
-ghost use Rattle.sg_gateway.specs.Events.{events_of_signal, signal_lacks_noise};
-ghost use Rattle.sg_lines.specs.LineText.{FitsLine};
-ghost use Rattle.sg_relay.specs.Causes.{IsDueTo, IsDueToLink, IsOfOutcomes, IsOfSignals};
-ghost use Rattle.sg_relay.specs.Joined.{act_of_bridge, acting, acts_next, acts_of_all, gives, happen_all};
-ghost use Rattle.sg_relay.specs.Parts.{AreCarriedOut, AreHandled, IsGiven};
-ghost use Rattle.sg_switchboard.specs.Switching.{StandsFor, State, outcome_of};
-ghost use Rattle.sg_table.specs.Telling.{IsTimely};
+ghost use Rattle.sg_relay.specs.Causes.{IsDueTo, IsDueToLink, IsOfOutcomes};
+ghost use Rattle.sg_relay.specs.Joined.{act_of_bridge, acts_next, acts_of_all};
+ghost use Rattle.sg_relay.specs.Parts.{AreCarriedOut, ended_as};
+ghost use Rattle.sg_switchboard.specs.Switching.{outcome_of};
 
 use crate::carrying_out::{carry_out, carry_out_bridge, send_out};
-use crate::exchange::{Exchange, filled};
+use crate::exchange::{Exchange, Handling, handle_line};
 use sg_base::{Address, NoMemory, Pad};
 use sg_bridge::{BridgeLine, BridgeOutcome};
 use sg_edge::{Link, Noise, Sink};
@@ -24,13 +20,14 @@ use sg_lines::{Line, Signal};
 use sg_outcome::Outcome;
 use sg_switchboard::{Switchboard, Switched, SwitchedEnd};
 use sg_table::Outcomes;
-use sg_trace::{Status, supply};
+use sg_trace::Status;
 use std::alloc::Global;
 
-impl Exchange for Switchboard {
+impl Handling for Switchboard {
+    ghost use Rattle.std.specs.Prelude.{refl};
     ghost use Rattle.sg_bridge.specs.Bridged.{Said};
-    ghost use Rattle.sg_relay.specs.Joined.{acting, arrives, gives, ticks, waits};
-    ghost use Rattle.sg_switchboard.specs.Switching.{StandsFor, State, start};
+    ghost use Rattle.sg_relay.specs.Joined.{acting, arrives, gives, happen_all, ticks, waits};
+    ghost use Rattle.sg_switchboard.specs.Switching.{StandsFor, State};
 
     type Line = BridgeLine;
 
@@ -46,12 +43,64 @@ impl Exchange for Switchboard {
 
     ghost arrives = { arrives };
 
-    ghost acting = { acting };
+    ghost gives_of = { happen_all };
 
-    ghost start = { λ _. start };
+    ghost acting = { acting };
 
     ghost stands = { StandsFor };
 
+    fn obey<K: Sink, L: Link>(
+        &mut self,
+        alloc: Global,
+        signal: &Signal,
+        sink: &mut K,
+        link: &mut L,
+    ) -> Result<(), Status> {
+        let mut told = Outcomes::new();
+        match self.take(alloc, signal, &mut told) {
+            Err(NoMemory) => Err(Status::NoMemory),
+            Ok(()) => carry_out_noted(alloc, self, told.as_slice(), sink, link),
+        }
+    }
+
+    /// A tick that tells nothing makes no list of outcomes.
+    fn tick<K: Sink, L: Link>(
+        &mut self,
+        alloc: Global,
+        moment: u64,
+        sink: &mut K,
+        link: &mut L,
+    ) -> Result<(), Status> {
+        if self.tick_quietly(moment) {
+            return Ok(());
+        }
+        self.obey(alloc, &Signal::Tick { now: moment }, sink, link)
+    }
+
+    fn arrive<K: Sink, L: Link>(
+        &mut self,
+        alloc: Global,
+        port: u16,
+        from: Address,
+        pad: Pad,
+        sink: &mut K,
+        link: &mut L,
+    ) -> Result<Pad, Status> {
+        let switched = self.datagram(port, from, pad);
+        match put_out(alloc, &switched, sink, link) {
+            Err(status) => Err(status),
+            Ok(()) => Ok(switched.pad),
+        }
+    }
+
+    fn are_in_order() {}
+
+    ghost silent = { refl };
+
+    ghost datagrams = { λ port from octets. refl };
+}
+
+impl Exchange for Switchboard {
     fn wait_at(line: &BridgeLine) -> Option<u64> {
         match line {
             BridgeLine::Script(Line::Signal(kept)) => match kept.signal() {
@@ -75,116 +124,33 @@ impl Exchange for Switchboard {
             BridgeLine::Script(line) => handle_line(alloc, self, line, pad, sink, link, noise),
             BridgeLine::Join { first, second } => {
                 let joined = self.join(first, second);
-                match carry_out_bridge(alloc, &joined, sink, link) {
-                    Err(status) => Err(status),
-                    Ok(()) => Ok(pad),
-                }
+                hand_back(alloc, &joined, pad, sink, link)
             }
             BridgeLine::Part { call } => {
                 let parted = self.part(call);
-                match carry_out_bridge(alloc, &parted, sink, link) {
-                    Err(status) => Err(status),
-                    Ok(()) => Ok(pad),
-                }
+                hand_back(alloc, &parted, pad, sink, link)
             }
         }
     }
-
-    /// A tick that tells nothing makes no list of outcomes.
-    fn tick<K: Sink, L: Link>(
-        &mut self,
-        alloc: Global,
-        moment: u64,
-        sink: &mut K,
-        link: &mut L,
-    ) -> Result<(), Status> {
-        if self.tick_quietly(moment) {
-            return Ok(());
-        }
-        obey(alloc, self, &Signal::Tick { now: moment }, sink, link)
-    }
-
-    fn arrive<K: Sink, L: Link>(
-        &mut self,
-        alloc: Global,
-        port: u16,
-        from: Address,
-        pad: Pad,
-        sink: &mut K,
-        link: &mut L,
-    ) -> Result<Pad, Status> {
-        let switched = self.datagram(port, from, pad);
-        match put_out(alloc, &switched, sink, link) {
-            Err(status) => Err(status),
-            Ok(()) => Ok(switched.pad),
-        }
-    }
-
-    fn are_in_order() {}
 }
 
-/// Handles a line that every script may have. The moment of a datagram line isn't used: a relay's moments are those of its clock.
-fn handle_line<K: Sink, L: Link, N: Noise>(
+/// Does what an outcome asks for, and writes its line; hands the pad back.
+fn hand_back<K: Sink, L: Link>(
     alloc: Global,
-    switchboard: &mut Switchboard,
-    line: Line,
+    outcome: &BridgeOutcome,
     pad: Pad,
     sink: &mut K,
     link: &mut L,
-    noise: &mut N,
 ) -> Result<Pad, Status>
-    requires fits { (version number : ℕ) × FitsLine version number line }
-    ensures handled { (state : State) → StandsFor switchboard.old state → (calls : List LinkCall) × (draws : List ℕ) × (out : List ℕ)
-        × Called (L.told link.old) (L.told link.new) calls × Added (N.given noise.old) (N.given noise.new) draws × Wrote (K.written sink.old) (K.written sink.new) out
-        × IsGiven result (gives (lines.Script line)) acting state (StandsFor switchboard.new) calls draws out }
-    ensures only { IfErr result IsOfSignals }
-    ensures write { IsDueTo Status.Write result (K.faults sink.old) (K.faults sink.new) (K.failed sink.new) }
-    ensures link { IsDueToLink result (L.faults link.old) (L.faults link.new) }
-    ensures noise { IsDueTo Status.Noise result (N.faults noise.old) (N.faults noise.new) (N.failed noise.new) }
-{
-    match line {
-        Line::Header | Line::HeaderTwo => Ok(pad),
-        Line::Datagram { port, from, octets }
-        | Line::DatagramAt {
-            port,
-            from,
-            octets,
-            ..
-        } => {
-            let pad = filled(pad, octets.as_slice());
-            switchboard.arrive(alloc, port, from, pad, sink, link)
-        }
-        Line::Signal(kept) => match supply(noise, kept.into_signal()) {
-            Err(status) => Err(status),
-            Ok(signal) => match obey(alloc, switchboard, &signal, sink, link) {
-                Err(status) => Err(status),
-                Ok(()) => Ok(pad),
-            },
-        },
-    }
-}
-
-/// Has the switchboard handle a signal, and does what its outcomes ask for.
-fn obey<K: Sink, L: Link>(
-    alloc: Global,
-    switchboard: &mut Switchboard,
-    signal: &Signal,
-    sink: &mut K,
-    link: &mut L,
-) -> Result<(), Status>
-    requires noise { signal_lacks_noise signal.now ≡ false }
-    requires timely { IsTimely signal.now }
-    ensures handled { (state : State) → StandsFor switchboard.old state
-        → (calls : List LinkCall) × (out : List ℕ) × Called (L.told link.old) (L.told link.new) calls × Wrote (K.written sink.old) (K.written sink.new) out
-        × AreHandled result acting state (happen_all (events_of_signal signal.now)) (StandsFor switchboard.new) calls out }
+    ensures done { (calls : List LinkCall) × (out : List ℕ) × Called (L.told link.old) (L.told link.new) calls × Wrote (K.written sink.old) (K.written sink.new) out
+        × AreCarriedOut (ended_as result) (act_of_bridge outcome.now ∷ []) calls out }
     ensures only { IfErr result IsOfOutcomes }
     ensures write { IsDueTo Status.Write result (K.faults sink.old) (K.faults sink.new) (K.failed sink.new) }
     ensures link { IsDueToLink result (L.faults link.old) (L.faults link.new) }
 {
-    let mut told = Outcomes::new();
-    match switchboard.take(alloc, signal, &mut told) {
-        Err(NoMemory) => Err(Status::NoMemory),
-        Ok(()) => carry_out_noted(alloc, switchboard, told.as_slice(), sink, link),
+    match carry_out_bridge(alloc, outcome, sink, link) {
+        Err(status) => Err(status),
+        Ok(()) => Ok(pad),
     }
 }
 

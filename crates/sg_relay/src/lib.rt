@@ -11,4 +11,4 @@ mod relaying;
 mod turns;
 
 pub use laws::{ports_are_of_calls, ports_of_joined_calls_are_of_calls};
-pub use relaying::{relay, relay_joined};
+pub use relaying::{RelayOptions, relay, relay_joined};

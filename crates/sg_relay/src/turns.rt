@@ -14,6 +14,18 @@ use sg_edge::{Clock, Link, Receipt, Sink};
 use sg_trace::Status;
 use std::alloc::Global;
 
+/// A relay under way: what handles its lines, and how far it has come.
+#[derive(Drop)]
+pub(crate) struct Relaying<E> {
+    pub(crate) alloc: Global,
+    pub(crate) exchange: E,
+    /// The moment of its first reading, and the greatest so far; 0 before it.
+    pub(crate) began: u64,
+    pub(crate) top: u64,
+    /// How many turns are left.
+    pub(crate) left: u64,
+}
+
 /// Hands a moment on as a tick, where it is greater than all before.
 fn tick<E: Exchange, K: Sink, L: Link>(
     alloc: Global,
@@ -101,43 +113,51 @@ fn turn<E: Exchange, K: Sink, L: Link, C: Clock>(
     }
 }
 
-/// Takes turns until a reading is at least this moment, and hands the pad back. `TurnsSpent` where no turn is
-/// left and one more is asked for.
-pub(crate) fn wait<E: Exchange, K: Sink, L: Link, C: Clock>(
-    alloc: Global,
-    exchange: &mut E,
-    until: u64,
-    turns: &mut u64,
-    top: &mut u64,
-    pad: Pad,
-    sink: &mut K,
-    link: &mut L,
-    clock: &mut C,
-) -> Result<Pad, Status>
-    ensures waited { (state : E.State) → E.stands exchange.old state
-        → (readings : List ℕ) × (calls : List LinkCall) × (out : List ℕ)
-        × Added (C.given clock.old) (C.given clock.new) readings × Called (L.told link.old) (L.told link.new) calls × Wrote (K.written sink.old) (K.written sink.new) out
-        × IsWaited result (weaves_of E.Line.spelled E.Line.followed E.waits E.gives E.ticks E.arrives) E.acting until state top.old top.new turns.old turns.new (E.stands exchange.new) readings calls out
-        × IsWaitInOrder (weaves_of E.Line.spelled E.Line.followed E.waits E.gives E.ticks E.arrives) E.acting until state top.old readings calls }
-    ensures only { IfErr result IsOfWaits }
-    ensures write { IsDueTo Status.Write result (K.faults sink.old) (K.faults sink.new) (K.failed sink.new) }
-    ensures link { IsDueToLink result (L.faults link.old) (L.faults link.new) }
-    ensures clock { IsDueTo Status.Clock result (C.faults clock.old) (C.faults clock.new) (C.failed clock.new) }
-    ensures count { (C.given clock.new).count + turns.new ≤ (C.given clock.old).count + turns.old }
-{
-    E::are_in_order();
-    let mut pad = pad;
-    'turns: while *turns > 0 {
-        *turns -= 1;
-        match turn(alloc, exchange, top, pad, sink, link, clock) {
-            Err(status) => return Err(status),
-            Ok((moment, back)) => {
-                if until <= moment {
-                    return Ok(back);
+impl<E: Exchange> Relaying<E> {
+    /// Takes turns until a reading is at least this moment, and hands the pad back. `TurnsSpent` where no turn is
+    /// left and one more is asked for.
+    pub(crate) fn wait<K: Sink, L: Link, C: Clock>(
+        &mut self,
+        until: u64,
+        pad: Pad,
+        sink: &mut K,
+        link: &mut L,
+        clock: &mut C,
+    ) -> Result<Pad, Status>
+        ensures waited { (state : E.State) → E.stands self.old.exchange state
+            → (readings : List ℕ) × (calls : List LinkCall) × (out : List ℕ)
+            × Added (C.given clock.old) (C.given clock.new) readings × Called (L.told link.old) (L.told link.new) calls × Wrote (K.written sink.old) (K.written sink.new) out
+            × IsWaited result (weaves_of E.Line.spelled E.Line.followed E.waits E.gives E.ticks E.arrives) E.acting until state self.old.top self.new.top self.old.left self.new.left (E.stands self.new.exchange) readings calls out
+            × IsWaitInOrder (weaves_of E.Line.spelled E.Line.followed E.waits E.gives E.ticks E.arrives) E.acting until state self.old.top readings calls }
+        ensures began { self.new.began ≡ self.old.began }
+        ensures only { IfErr result IsOfWaits }
+        ensures write { IsDueTo Status.Write result (K.faults sink.old) (K.faults sink.new) (K.failed sink.new) }
+        ensures link { IsDueToLink result (L.faults link.old) (L.faults link.new) }
+        ensures clock { IsDueTo Status.Clock result (C.faults clock.old) (C.faults clock.new) (C.failed clock.new) }
+        ensures count { (C.given clock.new).count + self.new.left ≤ (C.given clock.old).count + self.old.left }
+    {
+        E::are_in_order();
+        let mut pad = pad;
+        'turns: while self.left > 0 {
+            self.left -= 1;
+            match turn(
+                self.alloc,
+                &mut self.exchange,
+                &mut self.top,
+                pad,
+                sink,
+                link,
+                clock,
+            ) {
+                Err(status) => return Err(status),
+                Ok((moment, back)) => {
+                    if until <= moment {
+                        return Ok(back);
+                    }
+                    pad = back;
                 }
-                pad = back;
             }
         }
+        Err(Status::TurnsSpent)
     }
-    Err(Status::TurnsSpent)
 }

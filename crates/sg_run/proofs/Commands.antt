@@ -28,8 +28,7 @@ use Rattle.sg_passages.specs.Passages.{Passage}
 use Rattle.sg_playback.proofs.Completes.{untouched as nothing_replayed}
 use Rattle.sg_playback.specs.Replay.{IsReplay}
 use Rattle.sg_playback.specs.Replay as replays
-use Rattle.sg_relay.proofs.Complete.{none_passed, none_relayed}
-use Rattle.sg_relay.proofs.Holds.{holds_none}
+use Rattle.sg_relay.proofs.Holds.{nothing_passed}
 use Rattle.sg_relay.specs.Asked.{Act, act_of}
 use Rattle.sg_relay.specs.Joined as joined
 use Rattle.sg_relay.specs.Plain as plain
@@ -89,26 +88,20 @@ nothing_said = record {
 
 not_relayed : (legs : (es : List Event) → LegsAreMuxed es) (muxes : Bool) (turns : ℕ) (old : Surroundings) → HasRelayed muxes turns NoMemory old old [] []
 not_relayed legs muxes turns old = record {
-  passed = none_passed;
-  is = none_relayed plain.weaves (plain.acts muxes) (ap (map act_of) (no_outcomes muxes)) (of_relay old) turns;
+  run = nothing_passed plain.weaves (plain.acts muxes) (plain.world muxes) (ap (map act_of) (no_outcomes muxes)) turns (of_relay old) old.failures;
   events_are = no_events muxes;
   passages_are = no_passages muxes;
   legs = λ before after is. legs before;
-  ports = holds_none plain.weaves (plain.world muxes) none_passed refl;
   most = omega arith;
-  complete = λ only all rest left left' whole more link. inr refl;
 }
 
 not_relayed_joined : (turns : ℕ) (old : Surroundings) → HasRelayedJoined turns NoMemory old old [] []
 not_relayed_joined turns old = record {
-  passed = none_passed;
-  is = none_relayed joined.weaves joined.acts refl (of_relay old) turns;
+  run = nothing_passed joined.weaves joined.acts joined.world refl turns (of_relay old) old.failures;
   events_are = refl;
   passages_are = refl;
   holds = nothing_said;
-  ports = holds_none joined.weaves joined.world none_passed refl;
   most = omega arith;
-  complete = λ only all rest left left' whole more link. inr refl;
 }
 
 not_shown : (calls start : ℕ) (old : Surroundings) → HasShown calls start NoMemory old old [] []

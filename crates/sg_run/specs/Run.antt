@@ -22,22 +22,14 @@ use Rattle.sg_mux.specs.Via.{events_in as table_events, passages_in}
 use Rattle.sg_passages.specs.Passages.{Passage, plain_passages}
 use Rattle.sg_playback.specs.Replay.{IsCompleteReplay, IsReplay}
 use Rattle.sg_playback.specs.Replay as replays
-use Rattle.sg_relay.specs.Completeness.{IsCompleteRelay}
+use Rattle.sg_relay.specs.Completeness.{Failures, HasPassed}
 use Rattle.sg_relay.specs.Joined as joined
 use Rattle.sg_relay.specs.Plain as plain
-use Rattle.sg_relay.specs.Relay.{HoldsItsCallsPorts, IsRelay, Passed, woven_of}
+use Rattle.sg_relay.specs.Relay.{woven_of}
 use Rattle.sg_relay.specs.Relay as relays
 use Rattle.sg_words.specs.Commands.{AreWordsOf, Words}
 use Rattle.sg_words.specs.declared.command.Command.{Command}
 use Rattle.sg_words.specs.declared.command.Command.TheVariants.{Replay, Relay, RelayJoined, Demo, Migrate, Capture, Bridge}
-
--- how often a source, a sink, a link, a clock and a source of noise have failed
-pub record Failures : Type 0 where
-  pub source : ℕ
-  pub sink : ℕ
-  pub link : ℕ
-  pub clock : ℕ
-  pub noise : ℕ
 
 -- what they tell, and how often they have failed
 pub record Surroundings : Type 0 where
@@ -77,40 +69,25 @@ pub record HasReplayed (muxes : Bool) (status : Status) (old new : Surroundings)
   pub legs : LegsAreMuxedThroughout (replayed octets draws).events
   pub complete : NoneOfScriptsFailed old.failures new.failures → IsCompleteReplay status old.left new.left
 
--- nothing but the link has failed
-pub record OnlyLinkFailed (old new : Failures) : Type 0 where
-  pub source : ¬ Rose old.source new.source
-  pub sink : ¬ Rose old.sink new.sink
-  pub clock : ¬ Rose old.clock new.clock
-  pub noise : ¬ Rose old.noise new.noise
-
 -- This passed between a relay and the outside; these are its events as they come to the gateway, and what is told of them.
 -- It listened at the ports of the calls that were there, and at no others, and took so many turns at most. Where nothing fails,
 -- sends aside, it handles its script to the end, or memory runs out.
 pub record HasRelayed (muxes : Bool) (turns : ℕ) (status : Status) (old new : Surroundings) (events : List Event) (passages : List Passage) : Type 0 where
-  pub passed : Passed
-  pub is : IsRelay plain.weaves (plain.acts muxes) status turns (of_relay old) (of_relay new) passed
-  pub events_are : events ≡ table_events muxes (woven_of plain.weaves passed).deeds
-  pub passages_are : passages ≡ passages_in muxes (woven_of plain.weaves passed).deeds
-  pub legs : LegsAreMuxedThroughout (woven_of plain.weaves passed).deeds
-  pub ports : HoldsItsCallsPorts plain.weaves (plain.world muxes) passed
+  pub run : HasPassed plain.weaves (plain.acts muxes) (plain.world muxes) status turns (of_relay old) (of_relay new) old.failures new.failures
+  pub events_are : events ≡ table_events muxes (woven_of plain.weaves run.passed).deeds
+  pub passages_are : passages ≡ passages_in muxes (woven_of plain.weaves run.passed).deeds
+  pub legs : LegsAreMuxedThroughout (woven_of plain.weaves run.passed).deeds
   pub most : new.readings.count ≤ old.readings.count + (turns + 1)
-  pub complete : OnlyLinkFailed old.failures new.failures
-      → IsCompleteRelay plain.weaves status turns old.left new.left old.failures.link new.failures.link passed
 
 -- This passed between a relay whose calls may be joined and the outside. Its events at the gateway are those of its lines, its ticks
 -- and the datagrams that came, each inner one right behind the one that opened it, with what the gateway tells of them. What a
 -- bridge holds of joined calls is so of them, and all that a relay promises besides.
 pub record HasRelayedJoined (turns : ℕ) (status : Status) (old new : Surroundings) (events : List Event) (passages : List Passage) : Type 0 where
-  pub passed : Passed
-  pub is : IsRelay joined.weaves joined.acts status turns (of_relay old) (of_relay new) passed
-  pub events_are : events ≡ bridged_events (woven_of joined.weaves passed).deeds
+  pub run : HasPassed joined.weaves joined.acts joined.world status turns (of_relay old) (of_relay new) old.failures new.failures
+  pub events_are : events ≡ bridged_events (woven_of joined.weaves run.passed).deeds
   pub passages_are : passages ≡ plain_passages events
-  pub holds : BridgeHolds (woven_of joined.weaves passed).deeds
-  pub ports : HoldsItsCallsPorts joined.weaves joined.world passed
+  pub holds : BridgeHolds (woven_of joined.weaves run.passed).deeds
   pub most : new.readings.count ≤ old.readings.count + (turns + 1)
-  pub complete : OnlyLinkFailed old.failures new.failures
-      → IsCompleteRelay joined.weaves status turns old.left new.left old.failures.link new.failures.link passed
 
 -- with Done these are all of the demonstration's events, and else the first of them
 abbrev pub AreTaken : Status → List Event → List Event → Type 0

@@ -39,8 +39,8 @@ use sg_mux::{
     told_texts_are_descriptions,
 };
 use sg_passages::{a_plain_run_is_faithful, the_headline_holds};
-use sg_playback::replay;
-use sg_relay::{relay, relay_joined};
+use sg_playback::{Workers, replay};
+use sg_relay::{RelayOptions, relay, relay_joined};
 use sg_trace::{Status, the_capture_holds};
 use sg_words::{Command, CommandFault, read_command};
 use std::alloc::Global;
@@ -128,10 +128,18 @@ pub fn run<R: Threads + Sync, S: Source, K: Sink, L: Link, C: Clock, N: Noise, G
         Ok(command) => command,
     };
     match command {
-        Command::Replay { workers, mux } => replay(
-            rt, alloc, workers, mux, source, sink, noise, gate,
-        ),
-        Command::Relay { turns, mux } => relay(alloc, turns, mux, source, sink, link, clock, noise),
+        Command::Replay { workers, mux } => {
+            let workers = Workers {
+                rt,
+                count: workers,
+                gate,
+            };
+            replay(&workers, alloc, mux, source, sink, noise)
+        }
+        Command::Relay { turns, mux } => {
+            let options = RelayOptions { turns, muxes: mux };
+            relay(alloc, options, source, sink, link, clock, noise)
+        }
         Command::RelayJoined { turns } => {
             relay_joined(alloc, turns, source, sink, link, clock, noise)
         }

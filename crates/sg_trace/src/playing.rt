@@ -29,9 +29,7 @@ pub trait Play<K: Sink, N: Noise> {
 
     ghost effects: { Effects State Deed };
 
-    /// The state from which a script is played, and the one for which it stands.
-    ghost start: { Self → State };
-
+    /// The states for which it stands.
     ghost stands: { Self → State → Type 0 };
 
     /// What waits, and how many deeds may be under way.
@@ -75,9 +73,9 @@ pub trait Play<K: Sink, N: Noise> {
     ghost at_once: { is_prompt ≡ true → (player : Self) → waits player ≡ [] };
 }
 
-/// Plays the script of the source, line by line, by what has played nothing: a script of which no line is the last. Whatever
-/// ends the reading, what waits is told then; where that fails, the status is that fault's. What is told is passed on before a
-/// read that may wait, and at the end.
+/// Plays the script of the source, line by line, by something for which nothing waits: a script of which no line is the last.
+/// Whatever ends the reading, what waits is told then; where that fails, the status is that fault's. What is told is passed on
+/// before a read that may wait, and at the end.
 pub fn run_script<K: Sink, N: Noise, P: Play<K, N>, S: Source>(
     alloc: Global,
     player: &mut P,
@@ -85,11 +83,11 @@ pub fn run_script<K: Sink, N: Noise, P: Play<K, N>, S: Source>(
     sink: &mut K,
     noise: &mut N,
 ) -> Status
-    requires stands { P.stands player.old (P.start player.old) }
+    requires stands { (s : P.State) × P.stands player.old s }
     requires waits { P.waits player.old ≡ [] }
     requires lines { (line : P.Line) → P.Line.last line ≡ false }
-    ensures ran { (octets draws out : List ℕ)
-        × IsRun (ways_of P.Line.spelled P.Line.followed P.Line.last P.gives) (P.effects.tells (P.start player.old)) P.batch P.is_prompt result
+    ensures ran { (s : P.State) → P.stands player.old s → (octets draws out : List ℕ)
+        × IsRun (ways_of P.Line.spelled P.Line.followed P.Line.last P.gives) (P.effects.tells s) P.batch P.is_prompt result
         (record { left = S.left source.old; written = K.written sink.old; drawn = N.given noise.old })
         (record { left = S.left source.new; written = K.written sink.new; drawn = N.given noise.new })
         octets draws out }
@@ -109,9 +107,9 @@ pub fn run_script<K: Sink, N: Noise, P: Play<K, N>, S: Source>(
     }
 }
 
-/// Plays the script of the source, from its first line to the last, by what has played nothing. Then all that the lines tell
-/// is told and passed on, and the reader is behind the last line. Where the run ends before, that is its status, and the sink
-/// may hold the last of what is told.
+/// Plays the script of the source, from its first line to the last, by something for which nothing waits. Then all that the
+/// lines tell is told and passed on, and the reader is behind the last line. Where the run ends before, that is its status, and
+/// the sink may hold the last of what is told.
 pub fn play_lines<K: Sink, N: Noise, P: Play<K, N>, S: Source>(
     alloc: Global,
     player: &mut P,
@@ -120,11 +118,11 @@ pub fn play_lines<K: Sink, N: Noise, P: Play<K, N>, S: Source>(
     sink: &mut K,
     noise: &mut N,
 ) -> Result<(), Status>
-    requires stands { P.stands player.old (P.start player.old) }
+    requires stands { (s : P.State) × P.stands player.old s }
     requires waits { P.waits player.old ≡ [] }
     requires start { script.old ≡ record { waits = []; version = 1; number = 1; offset = 0; budget = 2 ^ 30 + 1 } }
-    ensures ran { (octets draws out : List ℕ)
-        × IsScriptPlayed result (ways_of P.Line.spelled P.Line.followed P.Line.last P.gives) P.effects (P.start player.old) P.batch P.is_prompt
+    ensures ran { (s : P.State) → P.stands player.old s → (octets draws out : List ℕ)
+        × IsScriptPlayed result (ways_of P.Line.spelled P.Line.followed P.Line.last P.gives) P.effects s P.batch P.is_prompt
         (record { left = S.left source.old; written = K.written sink.old; drawn = N.given noise.old })
         (record { left = S.left source.new; written = K.written sink.new; drawn = N.given noise.new })
         script.new (P.stands player.new) octets draws out }

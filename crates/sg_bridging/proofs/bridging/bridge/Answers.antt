@@ -1,13 +1,14 @@
 use Rattle.std.proofs.Common.{[], refl}
 use Rattle.sg_bridging.proofs.Completes.{untouched}
 use Rattle.sg_bridging.proofs.bridging.bridge.Goals as goal
+use Rattle.sg_switchboard.specs.Switching.{start}
 
 pub returns-in-Err-clause-ran : goal.returns-in-Err-clause-ran
 returns-in-Err-clause-ran g c = ([], [], [], untouched _)
 
 pub returns-in-Ok-clause-ran : goal.returns-in-Ok-clause-ran
 returns-in-Ok-clause-ran g c =
-    let ran = c.run_script.ensures.ran in (
+    let ran = c.run_script.ensures.ran start c.in-Ok.ensures in (
       ran.0,
       ran.1,
       ran.2,

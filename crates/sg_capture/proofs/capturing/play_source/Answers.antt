@@ -1,6 +1,6 @@
 use Rattle.std.proofs.Common.{◌≡◌, ◌≤◌, ◌-◌, ◌^◌, ◌++◌, ℕ, false, List, [], length, Ok, Err, refl, sym, ap, subst, arith}
 use Rattle.sg_capture.proofs.Compositions.{composed, ends_not_noise}
-use Rattle.sg_capture.proofs.Scripts.{begun_so, run_so}
+use Rattle.sg_capture.proofs.Scripts.{run_so}
 use Rattle.sg_capture.specs.Meeting.{EndsReading, StandsFor}
 use Rattle.sg_front.proofs.Runs.{unshared_after}
 use Rattle.sg_front.specs.States.{FrontStandsFor, FrontValue, start, state_after}
@@ -8,7 +8,7 @@ use Rattle.sg_gateway.specs.Runs.{world_after}
 use Rattle.sg_gateway.specs.Step.{Event}
 use Rattle.sg_gateway.specs.World.{World, empty}
 use Rattle.sg_pcap.specs.Capture.{capture_of}
-use Rattle.sg_playback.proofs.Lines.{err_so, started}
+use Rattle.sg_playback.proofs.Lines.{err_so}
 use Rattle.sg_playback.specs.Playing.{waiting}
 use Rattle.std.proofs.lemmas.List.{length-map}
 use Rattle.sg_table.specs.Batches.{arrived}
@@ -20,12 +20,12 @@ use Rattle.sg_trace.specs.declared.status.Status.TheVariants.{Read}
 use Rattle.sg_capture.proofs.capturing.play_source.Goals as goal
 
 pub play_lines-requires-clause-front : goal.play_lines-requires-clause-front
-play_lines-requires-clause-front g c = λ bounds outlives. started c.args.player.front false c.requires.front
+play_lines-requires-clause-front g c = λ bounds outlives. (start false, c.requires.front)
 
 pub returns-in-Err-clause-ran : goal.returns-in-Err-clause-ran
 returns-in-Err-clause-ran g c =
-    let ran = c.in-Err.ensures.ran in
-    (ran.0, ran.1, ran.2, run_so c.in-Err.status _ _ ran.0 ran.1 ran.2 (begun_so c.args.player c.requires.front (Err c.in-Err.status) _ _ c.play_lines.new.script ran.0 ran.1 ran.2 ran.3))
+    let ran = c.in-Err.ensures.ran (start false) c.requires.front in
+    (ran.0, ran.1, ran.2, run_so c.in-Err.status _ _ ran.0 ran.1 ran.2 ran.3)
 
 pub returns-in-Err-clause-write : goal.returns-in-Err-clause-write
 returns-in-Err-clause-write g c = failed_as _ _ _ _ _ (λ is. ap Err is) (λ is. err_so _ _ is) c.in-Err.ensures.write
@@ -34,7 +34,7 @@ pub returns-in-Err-clause-noise : goal.returns-in-Err-clause-noise
 returns-in-Err-clause-noise g c = failed_as _ _ _ _ _ (λ is. ap Err is) (λ is. err_so _ _ is) c.in-Err.ensures.noise
 
 pub new-reader-requires : goal.new-reader-requires
-new-reader-requires g c = c.in-Ok.ensures.ran.3.0.within
+new-reader-requires g c = (c.in-Ok.ensures.ran (start false) c.requires.front).3.0.within
 
 -- the front stands for the world behind the script
 stands_so : (front : FrontValue) (events : List Event) → FrontStandsFor front (state_after (start false) events) → StandsFor front (world_after empty events)
@@ -42,14 +42,13 @@ stands_so front events stands = subst (FrontStandsFor front) (unshared_after emp
 
 pub play_capture-requires-clause-stands : goal.play_capture-requires-clause-stands
 play_capture-requires-clause-stands g c = λ bounds outlives.
-    let ran = c.in-Ok.ensures.ran in
-    let so_far = (begun_so c.args.player c.requires.front (Ok c.in-Ok.player) _ _ _ ran.0 ran.1 ran.2 ran.3).0 in
+    let so_far = (c.in-Ok.ensures.ran (start false) c.requires.front).3.0 in
     (world_after empty so_far.deeds, stands_so c.in-Ok.player.front so_far.deeds so_far.stands)
 
 pub returns-in-Ok-clause-ran : goal.returns-in-Ok-clause-ran
 returns-in-Ok-clause-ran g c =
-    let ran = c.in-Ok.ensures.ran in
-    let so_far = (begun_so c.args.player c.requires.front (Ok c.in-Ok.player) _ _ _ ran.0 ran.1 ran.2 ran.3).0 in
+    let ran = c.in-Ok.ensures.ran (start false) c.requires.front in
+    let so_far = ran.3.0 in
     let w : World = world_after empty so_far.deeds in
     let stands : StandsFor c.in-Ok.player.front w = stands_so c.in-Ok.player.front so_far.deeds so_far.stands in
     let then = c.play_capture.ensures.ran in
@@ -79,14 +78,14 @@ returns-in-Ok-clause-write g c = failed_now _ _ _ _ _ (c.in-Ok.ensures.write.qui
 
 pub returns-in-Ok-clause-noise : goal.returns-in-Ok-clause-noise
 returns-in-Ok-clause-noise g c =
-    let ran = c.in-Ok.ensures.ran in
-    let so_far = (begun_so c.args.player c.requires.front (Ok c.in-Ok.player) _ _ _ ran.0 ran.1 ran.2 ran.3).0 in
+    let ran = c.in-Ok.ensures.ran (start false) c.requires.front in
+    let so_far = ran.3.0 in
     let then = c.play_capture.ensures.ran in
     let r = then.3 (world_after empty so_far.deeds) (stands_so _ so_far.deeds so_far.stands) in
     not_failed _ _ _ _ (c.in-Ok.ensures.noise.quiet (λ is. ok_not _ _ is)) (ends_not_noise c.play_capture.result _ _ _ _ _ r.0 _ r.2)
 
 pub play_capture-requires-clause-few : goal.play_capture-requires-clause-few
-play_capture-requires-clause-few g c = omega (arith, ap length c.in-Ok.ensures.ran.3.1, length-map c.in-Ok.player.waits arrived)
+play_capture-requires-clause-few g c = omega (arith, ap length (c.in-Ok.ensures.ran (start false) c.requires.front).3.1, length-map c.in-Ok.player.waits arrived)
 
 pub play_capture-requires-clause-near : goal.play_capture-requires-clause-near
-play_capture-requires-clause-near g c = let near = c.in-Ok.ensures.ran.3.0.near in omega (arith, near, ap (λ (v : Capturing). length v.waits) c.new-reader.ensures)
+play_capture-requires-clause-near g c = let near = (c.in-Ok.ensures.ran (start false) c.requires.front).3.0.near in omega (arith, near, ap (λ (v : Capturing). length v.waits) c.new-reader.ensures)

@@ -7,7 +7,7 @@ use Rattle.sg_migrate.proofs.migrating.migrate.Goals as goal
 
 pub returns-clause-ran : goal.returns-clause-ran
 returns-clause-ran g c =
-    let ran = c.run_script.ensures.ran in
+    let ran = c.run_script.ensures.ran 0 refl in
     let none = none_drawn ran.1 ran.3.drew in
     let ends = subst (λ (draws : List ℕ). LoopEnds of_migration (written_of 0) 1 c.run_script.result ran.0 draws ran.2 (g.S.Source.left c.run_script.new.source)) none ran.3.ends in (
       ran.0,

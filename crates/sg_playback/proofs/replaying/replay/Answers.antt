@@ -1,28 +1,27 @@
-use Rattle.std.proofs.Common.{◌≡◌, Bool, [], Err, ap, false, subst, sym, true}
+use Rattle.std.proofs.Common.{◌≡◌, [], Err, ap, false, true}
 use Rattle.sg_front.specs.States.{start}
 use Rattle.sg_playback.proofs.Completes.{complete, untouched}
-use Rattle.sg_playback.proofs.Lines.{err_so, started}
+use Rattle.sg_playback.proofs.Lines.{err_so}
 use Rattle.sg_playback.proofs.Replays.{ends_so}
 use Rattle.sg_playback.specs.Playing.{text_from}
 use Rattle.sg_playback.specs.Replay.{of_replay}
 use Rattle.sg_trace.proofs.Causes.{failed_as}
 use Rattle.sg_trace.proofs.PassedOn.{before_kept, ended_passed, loop_passed, noise_passed, passed_so, write_passed}
-use Rattle.sg_trace.specs.Loop.{LoopEnds}
 use Rattle.sg_playback.proofs.replaying.replay.Goals as goal
 
 pub returns-in-Err-clause-ran : goal.returns-in-Err-clause-ran
 returns-in-Err-clause-ran g c = ([], [], [], untouched c.args.muxes _)
 
 pub play_lines-requires-clause-front : goal.play_lines-requires-clause-front
-play_lines-requires-clause-front g c = λ bounds outlives. started c.in-Ok.player.front c.args.muxes c.in-Ok.ensures.0
+play_lines-requires-clause-front g c = λ bounds outlives. (start c.args.muxes, c.in-Ok.ensures.0)
 
 -- no line is the last
 pub unreachable-requires : goal.unreachable-requires
-unreachable-requires g c = let last : false ≡ true = c.in-Ok-play_lines.ensures.ran.3.0.is_last in cc
+unreachable-requires g c = let last : false ≡ true = (c.in-Ok-play_lines.ensures.ran (start c.args.muxes) c.in-Ok.ensures.0).3.0.is_last in cc
 
 pub returns-in-Err-play_lines-clause-ran : goal.returns-in-Err-play_lines-clause-ran
 returns-in-Err-play_lines-clause-ran g c =
-    let ran = c.in-Err-play_lines.ensures.ran in
+    let ran = c.in-Err-play_lines.ensures.ran (start c.args.muxes) c.in-Ok.ensures.0 in
     let left = g.S.Source.left c.play_lines.new.source in
     let status = passed_so c.in-Err-play_lines.status c.passed_on.result g.K.Sink.faults g.K.Sink.failed _ _ c.passed_on.ensures.passed in (
       ran.0,
@@ -34,8 +33,7 @@ returns-in-Err-play_lines-clause-ran g c =
         wrote = before_kept _ _ _ ran.2 c.passed_on.ensures.kept ran.3.wrote;
         ends =
             ends_so c.args.muxes c.passed_on.result ran.0 ran.1 ran.2 left
-            (subst (λ (muxes : Bool). LoopEnds of_replay (text_from (start muxes)) 258 c.passed_on.result ran.0 ran.1 ran.2 left) (sym c.in-Ok.ensures.0.muxes)
-            (loop_passed of_replay (text_from (start c.in-Ok.player.front.muxes)) 258 ran.0 ran.1 ran.2 c.in-Err-play_lines.status c.passed_on.result left status ran.3.ends));
+            (loop_passed of_replay (text_from (start c.args.muxes)) 258 ran.0 ran.1 ran.2 c.in-Err-play_lines.status c.passed_on.result left status ran.3.ends);
         bound = ran.3.bound;
       },
     )

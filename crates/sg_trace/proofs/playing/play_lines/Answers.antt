@@ -14,12 +14,11 @@ use Rattle.sg_trace.proofs.playing.play_lines.Goals as goal
 -- ---- where what was told isn't passed on
 
 pub returns-in-Err-clause-ran : goal.returns-in-Err-clause-ran
-returns-in-Err-clause-ran g c =
-    let begun = g.P.Play.start c.args.player.now in
+returns-in-Err-clause-ran g c = λ begun stood.
     let e = g.P.Play.effects in
     let order = c.are_in_order.ensures in
     let batch = g.P.Play.batch in
-    let so_far = c.lines.invariant.0 in
+    let so_far = c.lines.invariant.0 begun stood in
     let none : List ℕ = [] in
     let left = g.S.Source.left c.lines.source in
     let near : length (c.lines.script.waits ++ none) ≤ 74097 = omega (arith, c.lines.invariant.3, length-append c.lines.script.waits none) in (
@@ -45,15 +44,16 @@ pub close-requires-clause-not_write : goal.close-requires-clause-not_write
 close-requires-clause-not_write g c = next_isnt g.P.Line.ScriptLine.spelled g.P.Line.ScriptLine.followed c.in-Err-next.status Write c.lines.script c.next.new.self c.in-Err-next.ensures.next.0 _ (λ never. never) c.in-Err-next.ensures.next.2
 
 pub close-requires-clause-stands : goal.close-requires-clause-stands
-close-requires-clause-stands g c = (g.P.Play.effects.after (g.P.Play.start c.args.player.now) c.lines.invariant.0.2, c.lines.invariant.0.5)
+close-requires-clause-stands g c =
+    let so_far = c.lines.invariant.0 c.requires.stands.0 c.requires.stands.1 in
+    (g.P.Play.effects.after c.requires.stands.0 so_far.2, so_far.5)
 
 pub returns-in-Err-next-clause-ran : goal.returns-in-Err-next-clause-ran
-returns-in-Err-next-clause-ran g c =
-    let begun = g.P.Play.start c.args.player.now in
+returns-in-Err-next-clause-ran g c = λ begun stood.
     let e = g.P.Play.effects in
     let order = c.are_in_order.ensures in
     let batch = g.P.Play.batch in
-    let so_far = c.lines.invariant.0 in
+    let so_far = c.lines.invariant.0 begun stood in
     let got = c.in-Err-next.ensures.next in
     let near = near_by c.lines.script.waits got.0 _ _ (c.in-Err-next.ensures.near c.lines.invariant.3).1 got.3 in
     let closed = c.close.ensures.closed (e.after begun so_far.2) so_far.5 in (
@@ -66,8 +66,8 @@ returns-in-Err-next-clause-ran g c =
 
 pub returns-in-Err-next-clause-read : goal.returns-in-Err-next-clause-read
 returns-in-Err-next-clause-read g c =
-    let so_far = c.lines.invariant.0 in
-    let closed = c.close.ensures.closed (g.P.Play.effects.after (g.P.Play.start c.args.player.now) so_far.2) so_far.5 in
+    let so_far = c.lines.invariant.0 c.requires.stands.0 c.requires.stands.1 in
+    let closed = c.close.ensures.closed (g.P.Play.effects.after c.requires.stands.0 so_far.2) so_far.5 in
     ended_closed g.P.Play.effects g.P.Play.batch _ c.in-Err-next.status c.close.result _ _ closed.0 closed.2 _ _ _ _ c.lines.invariant.4 c.in-Err-next.ensures.cause
 
 pub returns-in-Err-next-clause-prompt : goal.returns-in-Err-next-clause-prompt
@@ -78,9 +78,9 @@ returns-in-Err-next-clause-prompt g c = λ prompt.
 
 pub returns-in-Err-next-clause-noise : goal.returns-in-Err-next-clause-noise
 returns-in-Err-next-clause-noise g c =
-    let so_far = c.lines.invariant.0 in
+    let so_far = c.lines.invariant.0 c.requires.stands.0 c.requires.stands.1 in
     let got = c.in-Err-next.ensures.next in
-    let closed = c.close.ensures.closed (g.P.Play.effects.after (g.P.Play.start c.args.player.now) so_far.2) so_far.5 in
+    let closed = c.close.ensures.closed (g.P.Play.effects.after c.requires.stands.0 so_far.2) so_far.5 in
     not_failed _ _ _ _ c.lines.invariant.6
     (λ is. closes_not g.P.Play.effects g.P.Play.batch c.in-Err-next.status c.close.result Noise _ _ closed.0 closed.2
     (next_isnt g.P.Line.ScriptLine.spelled g.P.Line.ScriptLine.followed c.in-Err-next.status Noise c.lines.script c.next.new.self got.0 _ (λ never. never) got.2) (λ same. cc) (λ same. cc) (err_so _ _ is))
@@ -88,12 +88,11 @@ returns-in-Err-next-clause-noise g c =
 -- ---- at the source's end
 
 pub returns-in-Ok-None-clause-ran : goal.returns-in-Ok-None-clause-ran
-returns-in-Ok-None-clause-ran g c =
-    let begun = g.P.Play.start c.args.player.now in
+returns-in-Ok-None-clause-ran g c = λ begun stood.
     let e = g.P.Play.effects in
     let order = c.are_in_order.ensures in
     let batch = g.P.Play.batch in
-    let so_far = c.lines.invariant.0 in
+    let so_far = c.lines.invariant.0 begun stood in
     let got = c.in-Ok-None.ensures.next in
     let next : IsNextBy g.P.Line.ScriptLine.spelled g.P.Line.ScriptLine.followed (Ok None) c.lines.script c.next.new.self got.0 (g.S.Source.left c.next.new.source) =
     subst (λ r. IsNextBy g.P.Line.ScriptLine.spelled g.P.Line.ScriptLine.followed (Ok r) c.lines.script c.next.new.self got.0 (g.S.Source.left c.next.new.source)) c.in-Ok-None.field-0-is got.2 in
@@ -112,8 +111,8 @@ returns-in-Ok-None-clause-ran g c =
 
 pub returns-in-Ok-None-clause-read : goal.returns-in-Ok-None-clause-read
 returns-in-Ok-None-clause-read g c =
-    let so_far = c.lines.invariant.0 in
-    let closed = c.close-in-Ok-None.ensures.closed (g.P.Play.effects.after (g.P.Play.start c.args.player.now) so_far.2) so_far.5 in
+    let so_far = c.lines.invariant.0 c.requires.stands.0 c.requires.stands.1 in
+    let closed = c.close-in-Ok-None.ensures.closed (g.P.Play.effects.after c.requires.stands.0 so_far.2) so_far.5 in
     ended_quiet _ _ _ _ _ (c.in-Ok-None.ensures.cause.quiet (λ is. ok_not _ _ is) ∙ c.lines.invariant.4)
     (closes_not g.P.Play.effects g.P.Play.batch Done c.close-in-Ok-None.result Read _ _ closed.0 closed.2 (λ is. cc) (λ is. cc) (λ is. cc))
 
@@ -124,23 +123,24 @@ returns-in-Ok-None-clause-prompt g c = λ prompt.
 
 pub returns-in-Ok-None-clause-noise : goal.returns-in-Ok-None-clause-noise
 returns-in-Ok-None-clause-noise g c =
-    let so_far = c.lines.invariant.0 in
-    let closed = c.close-in-Ok-None.ensures.closed (g.P.Play.effects.after (g.P.Play.start c.args.player.now) so_far.2) so_far.5 in
+    let so_far = c.lines.invariant.0 c.requires.stands.0 c.requires.stands.1 in
+    let closed = c.close-in-Ok-None.ensures.closed (g.P.Play.effects.after c.requires.stands.0 so_far.2) so_far.5 in
     not_failed _ _ _ _ c.lines.invariant.6
     (λ is. closes_not g.P.Play.effects g.P.Play.batch Done c.close-in-Ok-None.result Noise _ _ closed.0 closed.2 (λ same. cc) (λ same. cc) (λ same. cc) (err_so _ _ is))
 
 -- ---- behind the last line
 
 pub settle-requires : goal.settle-requires
-settle-requires g c = (g.P.Play.effects.after (g.P.Play.start c.args.player.now) c.lines.invariant.0.2, c.lines.invariant.0.5)
+settle-requires g c =
+    let so_far = c.lines.invariant.0 c.requires.stands.0 c.requires.stands.1 in
+    (g.P.Play.effects.after c.requires.stands.0 so_far.2, so_far.5)
 
 pub returns-then-is_last-clause-ran : goal.returns-then-is_last-clause-ran
-returns-then-is_last-clause-ran g c =
-    let begun = g.P.Play.start c.args.player.now in
+returns-then-is_last-clause-ran g c = λ begun stood.
     let e = g.P.Play.effects in
     let order = c.are_in_order.ensures in
     let batch = g.P.Play.batch in
-    let so_far = c.lines.invariant.0 in
+    let so_far = c.lines.invariant.0 begun stood in
     let got = c.in-Ok-Some.ensures.next in
     let near = c.in-Ok-Some.ensures.near c.lines.invariant.3 in
     let read : IsReadBy g.P.Line.ScriptLine.spelled g.P.Line.ScriptLine.followed c.in-Ok-Some.line c.lines.script c.next.new.self got.0 =
@@ -156,8 +156,8 @@ returns-then-is_last-clause-ran g c =
 
 pub returns-then-is_last-clause-none : goal.returns-then-is_last-clause-none
 returns-then-is_last-clause-none g c =
-    let so_far = c.lines.invariant.0 in
-    none_wait c.settle.result _ _ _ _ _ _ _ (c.settle.ensures.settled (g.P.Play.effects.after (g.P.Play.start c.args.player.now) so_far.2) so_far.5).2
+    let so_far = c.lines.invariant.0 c.requires.stands.0 c.requires.stands.1 in
+    none_wait c.settle.result _ _ _ _ _ _ _ (c.settle.ensures.settled (g.P.Play.effects.after c.requires.stands.0 so_far.2) so_far.5).2
 
 pub returns-then-is_last-clause-read : goal.returns-then-is_last-clause-read
 returns-then-is_last-clause-read g c = settled_read c.settle.result _ _ _ c.settle.ensures.only (c.in-Ok-Some.ensures.cause.quiet (λ is. ok_not _ _ is) ∙ c.lines.invariant.4)
@@ -171,15 +171,16 @@ pub play-requires-clause-fits : goal.play-requires-clause-fits
 play-requires-clause-fits g c = (c.lines.script.version, c.lines.script.number, subst (λ r. IfSome r (λ line. g.P.Line.ScriptLine.fits c.lines.script.version c.lines.script.number line)) c.in-Ok-Some.field-0-is c.in-Ok-Some.ensures.fits)
 
 pub play-requires-clause-stands : goal.play-requires-clause-stands
-play-requires-clause-stands g c = (g.P.Play.effects.after (g.P.Play.start c.args.player.now) c.lines.invariant.0.2, c.lines.invariant.0.5)
+play-requires-clause-stands g c =
+    let so_far = c.lines.invariant.0 c.requires.stands.0 c.requires.stands.1 in
+    (g.P.Play.effects.after c.requires.stands.0 so_far.2, so_far.5)
 
 pub returns-in-Err-play-clause-ran : goal.returns-in-Err-play-clause-ran
-returns-in-Err-play-clause-ran g c =
-    let begun = g.P.Play.start c.args.player.now in
+returns-in-Err-play-clause-ran g c = λ begun stood.
     let e = g.P.Play.effects in
     let order = c.are_in_order.ensures in
     let batch = g.P.Play.batch in
-    let so_far = c.lines.invariant.0 in
+    let so_far = c.lines.invariant.0 begun stood in
     let got = c.in-Ok-Some.ensures.next in
     let read : IsReadBy g.P.Line.ScriptLine.spelled g.P.Line.ScriptLine.followed c.in-Ok-Some.line c.lines.script c.next.new.self got.0 =
     subst (λ r. IsNextBy g.P.Line.ScriptLine.spelled g.P.Line.ScriptLine.followed (Ok r) c.lines.script c.next.new.self got.0 (g.S.Source.left c.next.new.source)) c.in-Ok-Some.field-0-is got.2 in
@@ -195,12 +196,14 @@ returns-in-Err-play-clause-ran g c =
 
 pub returns-in-Err-play-clause-read : goal.returns-in-Err-play-clause-read
 returns-in-Err-play-clause-read g c =
-    let played = c.in-Err-play.ensures.played (g.P.Play.effects.after (g.P.Play.start c.args.player.now) c.lines.invariant.0.2) c.lines.invariant.0.5 in
+    let so_far = c.lines.invariant.0 c.requires.stands.0 c.requires.stands.1 in
+    let played = c.in-Err-play.ensures.played (g.P.Play.effects.after c.requires.stands.0 so_far.2) so_far.5 in
     ended_quiet _ _ _ _ _ (c.in-Ok-Some.ensures.cause.quiet (λ is. ok_not _ _ is) ∙ c.lines.invariant.4) (played_not_read c.in-Err-play.status g.P.Play.effects (g.P.Play.gives c.in-Ok-Some.line) g.P.Play.batch _ _ _ _ played.0 played.1 played.4)
 
 pub returns-in-Err-play-clause-prompt : goal.returns-in-Err-play-clause-prompt
 returns-in-Err-play-clause-prompt g c = λ prompt.
-    let played = c.in-Err-play.ensures.played (g.P.Play.effects.after (g.P.Play.start c.args.player.now) c.lines.invariant.0.2) c.lines.invariant.0.5 in
+    let so_far = c.lines.invariant.0 c.requires.stands.0 c.requires.stands.1 in
+    let played = c.in-Err-play.ensures.played (g.P.Play.effects.after c.requires.stands.0 so_far.2) so_far.5 in
     not_failed _ _ _ _ (c.in-Ok-Some.ensures.cause.quiet (λ is. ok_not _ _ is) ∙ c.lines.invariant.4) (played_not_read c.in-Err-play.status g.P.Play.effects (g.P.Play.gives c.in-Ok-Some.line) g.P.Play.batch _ _ _ _ played.0 played.1 played.4)
 
 pub lines-smaller : goal.lines-smaller
@@ -213,24 +216,22 @@ lines-smaller g c =
 
 pub lines-preserved : goal.lines-preserved
 lines-preserved g c =
-    let begun = g.P.Play.start c.args.player.now in
     let e = g.P.Play.effects in
     let order = c.are_in_order.ensures in
-    let batch = g.P.Play.batch in
-    let so_far = c.lines.invariant.0 in
     let got = c.in-Ok-Some.ensures.next in
     let read : IsReadBy g.P.Line.ScriptLine.spelled g.P.Line.ScriptLine.followed c.in-Ok-Some.line c.lines.script c.next.new.self got.0 =
     subst (λ r. IsNextBy g.P.Line.ScriptLine.spelled g.P.Line.ScriptLine.followed (Ok r) c.lines.script c.next.new.self got.0 (g.S.Source.left c.next.new.source)) c.in-Ok-Some.field-0-is got.2 in
-    let near = near_by c.lines.script.waits got.0 _ _ (c.in-Ok-Some.ensures.near c.lines.invariant.3).1 got.3 in
-    let played = c.in-Ok-play.ensures.played (e.after begun so_far.2) so_far.5 in (
-      (
-        so_far.0 ++ read.line,
-        so_far.1 ++ played.0,
-        so_far.2 ++ played.4.told,
-        goes_on (ways_of g.P.Line.ScriptLine.spelled g.P.Line.ScriptLine.followed g.P.Line.ScriptLine.last g.P.Play.gives) e order begun batch _ _ so_far.0 so_far.1 so_far.2 _ c.lines.script so_far.3 _ got.0 got.1 near c.in-Ok-Some.line c.next.new.self read (sym c.is_last.ensures ∙ c.if-is_last.false) _ _ _ _ played.0 played.1 played.4 played.2 (behind_kept _ _ _ played.1 c.in-Ok.ensures.kept played.3),
-        omega (arith, so_far.4, read.offset, length-append so_far.0 read.line),
-        subst (g.P.Play.stands c.play.new.self) (sym (order.after begun so_far.2 played.4.told)) played.4.left,
-      ),
+    let near = near_by c.lines.script.waits got.0 _ _ (c.in-Ok-Some.ensures.near c.lines.invariant.3).1 got.3 in (
+      (λ begun stood.
+          let so_far = c.lines.invariant.0 begun stood in
+          let played = c.in-Ok-play.ensures.played (e.after begun so_far.2) so_far.5 in (
+            so_far.0 ++ read.line,
+            so_far.1 ++ played.0,
+            so_far.2 ++ played.4.told,
+            goes_on (ways_of g.P.Line.ScriptLine.spelled g.P.Line.ScriptLine.followed g.P.Line.ScriptLine.last g.P.Play.gives) e order begun g.P.Play.batch _ _ so_far.0 so_far.1 so_far.2 _ c.lines.script so_far.3 _ got.0 got.1 near c.in-Ok-Some.line c.next.new.self read (sym c.is_last.ensures ∙ c.if-is_last.false) _ _ _ _ played.0 played.1 played.4 played.2 (behind_kept _ _ _ played.1 c.in-Ok.ensures.kept played.3),
+            omega (arith, so_far.4, read.offset, length-append so_far.0 read.line),
+            subst (g.P.Play.stands c.play.new.self) (sym (order.after begun so_far.2 played.4.told)) played.4.left,
+          )),
       omega (arith, read.offset, got.3, c.lines.invariant.1, length-append c.lines.script.waits got.0, ap length read.split, length-append read.line c.next.new.self.waits),
       read.within,
       (c.in-Ok-Some.ensures.near c.lines.invariant.3).0,
@@ -244,18 +245,17 @@ lines-preserved g c =
 -- nothing is read, drawn, told or written yet
 pub lines-init : goal.lines-init
 lines-init g c =
-    let begun = g.P.Play.start c.args.player.now in
     let order = c.are_in_order.ensures in
     let none : List ℕ = [] in
     let es : List g.P.Play.Deed = [] in (
-      (
+      (λ begun stood. (
         none,
         none,
         es,
         begins (ways_of g.P.Line.ScriptLine.spelled g.P.Line.ScriptLine.followed g.P.Line.ScriptLine.last g.P.Play.gives) g.P.Play.effects order begun _ (g.P.Play.waits c.args.player.now) c.args.script.now c.requires.waits c.requires.start,
         sym (ap (λ (s : Reading). s.offset) c.requires.start),
-        subst (g.P.Play.stands c.args.player.now) (sym (order.none_after begun)) c.requires.stands,
-      ),
+        subst (g.P.Play.stands c.args.player.now) (sym (order.none_after begun)) stood,
+      )),
       search rules,
       search rules,
       omega (arith, ap (λ (s : Reading). length s.waits) c.requires.start),

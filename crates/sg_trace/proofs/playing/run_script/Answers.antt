@@ -1,13 +1,19 @@
-use Rattle.std.proofs.Common.{Err, ap}
+use Rattle.std.proofs.Common.{◌≡◌, ◌∙◌, Err, ap, false, sym, true}
 use Rattle.sg_trace.proofs.Causes.{failed_as}
 use Rattle.sg_trace.proofs.Ends.{completes}
 use Rattle.sg_trace.proofs.PassedOn.{before_kept, ended_passed, loop_passed, noise_passed, passed_so, read_passed, write_passed}
 use Rattle.sg_trace.proofs.Runs.{err_so, read_so}
 use Rattle.sg_trace.proofs.playing.run_script.Goals as goal
 
+-- no line is the last
+pub unreachable-requires : goal.unreachable-requires
+unreachable-requires g c =
+    let behind = (c.in-Ok.ensures.ran c.requires.stands.0 c.requires.stands.1).3 in
+    let last : false ≡ true = sym (c.requires.lines behind.last) ∙ behind.is_last in cc
+
 pub returns-clause-ran : goal.returns-clause-ran
-returns-clause-ran g c =
-    let ran = c.in-Err.ensures.ran in
+returns-clause-ran g c = λ begun stood.
+    let ran = c.in-Err.ensures.ran begun stood in
     let status = passed_so c.in-Err.status c.passed_on.result g.K.Sink.faults g.K.Sink.failed _ _ c.passed_on.ensures.passed in (
       ran.0,
       ran.1,
@@ -39,6 +45,6 @@ returns-clause-noise g c =
 
 pub returns-clause-complete : goal.returns-clause-complete
 returns-clause-complete g c = λ source sink noise all rest told told' none.
-    let ran = returns-clause-ran g c in
+    let ran = returns-clause-ran g c c.requires.stands.0 c.requires.stands.1 in
     completes _ _ g.P.Play.batch ran.0 ran.1 ran.2 _ _ ran.3.took c.passed_on.result ran.3.ends
     (λ is. source ((returns-clause-read g c).rose is)) (λ is. sink ((returns-clause-write g c).rose is)) (λ is. noise ((returns-clause-noise g c).rose is)) all rest told told' (none ran.1)

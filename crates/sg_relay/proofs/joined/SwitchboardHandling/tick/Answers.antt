@@ -7,7 +7,7 @@ use Rattle.sg_gateway.specs.Step.{Signalled}
 use Rattle.sg_lines.specs.declared.lines.Signal.TheVariants.{Tick}
 use Rattle.sg_relay.proofs.Deeds.{done_none}
 use Rattle.sg_relay.proofs.Joins.{one_done}
-use Rattle.sg_relay.proofs.joined.SwitchboardExchange.tick.Goals as goal
+use Rattle.sg_relay.proofs.joined.SwitchboardHandling.tick.Goals as goal
 use Rattle.sg_switchboard.proofs.Noted.{signal_noted}
 use Rattle.sg_switchboard.specs.Switching.{StandsFor}
 

@@ -4,7 +4,7 @@ use Rattle.sg_edge.proofs.Passed.{wrote_none}
 use Rattle.sg_outcome.specs.declared.outcomes.Outcome.{Outcome}
 use Rattle.sg_relay.specs.Asked.{IsDone, act_of}
 use Rattle.sg_relay.proofs.Deeds.{done_none}
-use Rattle.sg_relay.proofs.plain.FrontExchange.tick.Goals as goal
+use Rattle.sg_relay.proofs.plain.FrontHandling.tick.Goals as goal
 
 pub returns-then-tick_quietly-clause-ticked : goal.returns-then-tick_quietly-clause-ticked
 returns-then-tick_quietly-clause-ticked g c = λ state stands.

@@ -9,17 +9,17 @@ use Rattle.sg_relay.specs.Joined.{acting, happen_all}
 use Rattle.sg_relay.specs.Parts.{AreHandled}
 use Rattle.sg_relay.proofs.Deeds.{unhandled}
 use Rattle.sg_relay.proofs.Joins.{happens_one, on_ok, one_handled}
-use Rattle.sg_relay.proofs.joined.obey.Goals as goal
+use Rattle.sg_relay.proofs.joined.SwitchboardHandling.obey.Goals as goal
 use Rattle.sg_switchboard.proofs.Noted.{signal_noted}
 use Rattle.sg_switchboard.specs.Switching.{StandsFor, SwitchboardValue, after}
 use Rattle.sg_table.specs.Telling.{IsTold}
 
-pub returns-in-Err-clause-handled : goal.returns-in-Err-clause-handled
-returns-in-Err-clause-handled g c = λ state stands.
+pub returns-in-Err-clause-obeyed : goal.returns-in-Err-clause-obeyed
+returns-in-Err-clause-obeyed g c = λ state stands.
     ([], [], called_none _, wrote_none _, unhandled acting state (happen_all (events_of_signal c.args.signal.now)) (StandsFor c.take.new.self))
 
-pub returns-clause-handled : goal.returns-clause-handled
-returns-clause-handled g c = λ state stands.
+pub returns-clause-obeyed : goal.returns-clause-obeyed
+returns-clause-obeyed g c = λ state stands.
     let board : SwitchboardValue = c.take.new.self in
     let os : List Outcome = c.as_slice.result.now in
     let done = c.carry_out_noted.ensures.done in
