@@ -11,9 +11,8 @@ use Rattle.sg_edge.specs.Links.{Added}
 use Rattle.sg_edge.specs.Told.{Tally, TookIn, Wrote}
 use Rattle.sg_gateway.specs.Drawn.{Supplied, supplied}
 use Rattle.sg_gateway.specs.Events.{events_of}
-use Rattle.sg_playback.specs.Replay.{ReplayTellings}
 use Rattle.sg_trace.specs.Course.{Course, Given, Ways, course}
-use Rattle.sg_trace.specs.Loop.{PromptEnds}
+use Rattle.sg_trace.specs.Loop.{PromptEnds, Tellings}
 use Rattle.sg_trace.specs.Trace.{AtFault}
 use Rattle.sg_trace.specs.declared.status.Status.{Status}
 use Rattle.sg_trace.specs.declared.status.Status.TheVariants.{Done, NoMemory}
@@ -51,7 +50,7 @@ abbrev pub BridgeEnds : Status → List ℕ → List ℕ → List ℕ → Tally 
 BridgeEnds status octets draws out left = PromptEnds of_bridge bridge_text 2 status octets draws out left
 
 -- The bridge read these octets, of which there are at most 2^30 + 1, drew these, and wrote those.
-pub record IsBridge (status : Status) (old new : ReplayTellings) (octets draws out : List ℕ) : Type 0 where
+pub record IsBridge (status : Status) (old new : Tellings) (octets draws out : List ℕ) : Type 0 where
   pub took : TookIn old.left new.left octets
   pub drew : Added old.drawn new.drawn draws
   pub wrote : Wrote old.written new.written out
