@@ -1,5 +1,5 @@
 -- What a run did, by how its words were read.
-use Rattle.std.proofs.Common.{◌≡◌, ◌⊎◌, ℕ, List, [], Bool, map, Option, Result, Ok, Err, refl, sym, ap, ◌∙◌, subst, inl, inr, arith, true, false}
+use Rattle.std.proofs.Common.{◌≡◌, ◌⊎◌, ℕ, List, [], Bool, map, Option, Result, Ok, Err, refl, sym, ap, ◌∙◌, subst, inl, inr, arith, true, false, ◌∷◌, ◌++◌, length, length-append}
 use Rattle.std.proofs.lemmas.List.{append-nil}
 use Rattle.std.proofs.lemmas.List.Elements.{All-from_recursion}
 use Rattle.sg_bridge.specs.BridgeHolds.{BridgeHolds}
@@ -17,8 +17,10 @@ use Rattle.sg_demo.specs.Demonstration.{demonstration, events_shown}
 use Rattle.sg_demo.specs.Text.{IsShown, summary_text}
 use Rattle.sg_edge.proofs.Links.{added_none}
 use Rattle.sg_edge.proofs.Passed.{took_none, wrote_none}
+use Rattle.sg_edge.specs.Links.{Receive}
 use Rattle.sg_edge.specs.Told.{Rose, Tally}
 use Rattle.sg_gateway.specs.Step.{Event}
+use Rattle.sg_gateway.specs.World.{World}
 use Rattle.sg_migrate.specs.Migrated.{of_migration, written_of}
 use Rattle.sg_migrate.specs.Migration.{IsMigration}
 use Rattle.sg_migrate.specs.Migration as migrations
@@ -28,8 +30,9 @@ use Rattle.sg_passages.specs.Passages.{Passage}
 use Rattle.sg_playback.proofs.Completes.{untouched as nothing_replayed}
 use Rattle.sg_playback.specs.Replay.{IsReplay}
 use Rattle.sg_playback.specs.Replay as replays
-use Rattle.sg_relay.proofs.Holds.{nothing_passed}
+use Rattle.sg_relay.proofs.Complete.{none_passed, none_relayed}
 use Rattle.sg_relay.specs.Asked.{Act, act_of}
+use Rattle.sg_relay.specs.Completeness.{HasPassed}
 use Rattle.sg_relay.specs.Joined as joined
 use Rattle.sg_relay.specs.Plain as plain
 use Rattle.sg_relay.specs.Relay.{IsRelay}
@@ -86,9 +89,21 @@ nothing_said = record {
   behind = tt;
 }
 
+abbrev nothing_relayed : {L D : Type 0} (w : Weaves L D) (acts : List D → List Act) (world : List D → World) → acts [] ≡ [] → (turns : ℕ) (old : Surroundings)
+    → HasPassed w acts world NoMemory turns (of_relay old) (of_relay old) old.failures old.failures
+nothing_relayed w acts world none turns old = record {
+  passed = none_passed;
+  is = none_relayed w acts none (of_relay old) turns;
+  ports = record {
+    at_receives = λ before rest x is. absurd (omega (arith, ap length is, length-append before (Receive x ∷ rest)));
+    each = λ before rest ask is. absurd (omega (arith, ap length is, length-append before (ask ∷ rest)));
+  };
+  complete = λ only all rest told told' script few well. inr refl;
+}
+
 not_relayed : (legs : (es : List Event) → LegsAreMuxed es) (muxes : Bool) (turns : ℕ) (old : Surroundings) → HasRelayed muxes turns NoMemory old old [] []
 not_relayed legs muxes turns old = record {
-  run = nothing_passed plain.weaves (plain.acts muxes) (plain.world muxes) (ap (map act_of) (no_outcomes muxes)) turns (of_relay old) old.failures;
+  run = nothing_relayed plain.weaves (plain.acts muxes) (plain.world muxes) (ap (map act_of) (no_outcomes muxes)) turns old;
   events_are = no_events muxes;
   passages_are = no_passages muxes;
   legs = λ before after is. legs before;
@@ -97,7 +112,7 @@ not_relayed legs muxes turns old = record {
 
 not_relayed_joined : (turns : ℕ) (old : Surroundings) → HasRelayedJoined turns NoMemory old old [] []
 not_relayed_joined turns old = record {
-  run = nothing_passed joined.weaves joined.acts joined.world refl turns (of_relay old) old.failures;
+  run = nothing_relayed joined.weaves joined.acts joined.world refl turns old;
   events_are = refl;
   passages_are = refl;
   holds = nothing_said;
