@@ -1,8 +1,7 @@
 -- How a trace goes on, line by line.
-use Rattle.std.proofs.Common.{◌≡◌, ◌<◌, ◌+◌, ℕ, false, List, [], ◌∷◌, ◌++◌, length, Ok, refl, sym, ap, ◌∙◌, append_assoc, length-append, arith}
+use Rattle.std.proofs.Common.{◌≡◌, ◌<◌, ◌+◌, ℕ, false, List, [], ◌∷◌, ◌++◌, length, Ok, refl, ap, ◌∙◌, append_assoc, length-append, arith}
 use Rattle.std.specs.List.{flat_map}
 use Rattle.std.proofs.lemmas.Grind.{flat_map-append}
-use Rattle.sg_base.specs.declared.faults.ScriptFault.{ScriptFault}
 use Rattle.sg_gateway.specs.Events.{outcomes_from}
 use Rattle.sg_gateway.specs.Runs.{Turn, turns_from, world_after}
 use Rattle.sg_gateway.specs.Step.{Event, step}
@@ -13,9 +12,8 @@ use Rattle.sg_lines.specs.ScriptLines.{IsWhole, lines_of}
 use Rattle.sg_lines.specs.declared.lines.Line.{Line}
 use Rattle.sg_outcome.specs.OutcomeText.{outcome_line}
 use Rattle.std.proofs.lemmas.Bool.{cond-false}
-use Rattle.sg_trace.specs.Trace.{AtFault, Command, begins_capture, Trace, Outside, after_line, trace_from, line_at, handled, stopped, with_events}
+use Rattle.sg_trace.specs.Trace.{Command, begins_capture, Trace, Outside, after_line, trace_from, line_at, handled, with_events}
 use Rattle.sg_trace.specs.Output.{output_from, text}
-use Rattle.sg_trace.specs.Reading.{FirstFails}
 
 -- ---- lines
 
@@ -29,14 +27,6 @@ reads_on k version n at line rest l top o other whole is =
     ap (λ ls. trace_from k version n at ls top o) (lines_of_whole line rest whole)
     ∙ cond-false (begins_capture k n at line) _ _ other
     ∙ ap (λ r. after_line k version n r (λ v. trace_from k v (n + 1) (at + length line) (lines_of rest)) top o) is
-
--- a line outside the grammar
-pub stops_at : (k : Command) (version n at : ℕ) (octets : List ℕ) (fault : ScriptFault) (top : ℕ) (o : Outside) → (first : FirstFails version n at octets fault) → begins_capture k n at first.line ≡ false
-    → trace_from k version n at (lines_of octets) top o ≡ stopped (AtFault n fault) o
-stops_at k version n at octets fault top o first other =
-    ap (λ ls. trace_from k version n at ls top o) first.split
-    ∙ cond-false (begins_capture k n at first.line) _ _ other
-    ∙ ap (λ r. after_line k version n r (λ v. trace_from k v (n + 1) (at + length first.line) first.others) top o) first.fails
 
 -- ---- events
 

@@ -5,8 +5,6 @@ use Rattle.sg_base.specs.declared.faults.ScriptFault.TheVariants.{Length, Unende
 use Rattle.sg_edge.specs.Told.{AtEnd, Tally}
 use Rattle.sg_lines.specs.declared.faults.ReadLineFault.{ReadLineFault}
 use Rattle.sg_lines.specs.declared.faults.ReadLineFault.TheVariants as faults
-use Rattle.sg_lines.specs.declared.lines.Line.{Line}
-use Rattle.sg_lines.specs.LineOf.{line_of, version_after}
 use Rattle.sg_lines.specs.ScriptLines.{IsWhole, NoEnd, lines_of}
 use Rattle.sg_trace.specs.Trace.{Spelling, spelled_at}
 use Rattle.sg_trace.specs.declared.status.Status.{Status}
@@ -63,10 +61,7 @@ IsNextBy spelled followed (Err Read) old new got left = NoEnd (old.waits ++ got)
 IsNextBy spelled followed (Err NoMemory) old new got left = ⊤
 IsNextBy spelled followed (Err other) old new got left = ⊥
 
--- ---- lines of a script without calls that are joined
-
-abbrev pub FirstFails : ℕ → ℕ → ℕ → List ℕ → ScriptFault → Type 0
-FirstFails = FirstFailsBy line_of
+-- ---- faults of lines
 
 -- why the n-th line isn't read
 abbrev pub refused_as : ℕ → ReadLineFault → Status
