@@ -1,5 +1,5 @@
 #!/usr/bin/env python3
-"""prompt.py PROGRAM: what a line tells is written before the next line is waited for, by each command that plays a script
+"""prompt.py PROGRAM: what a line or a record tells is written before the next is waited for, by each command that plays a script
 and by a relay; and where many lines come at once to one that isn't a relay there are no more writes than reads."""
 import os
 import select
@@ -10,6 +10,9 @@ import time
 from loopback import has_own_loopback
 
 PATIENCE = 20.0
+# The header of a capture, and a frame: Ethernet, IPv4, UDP to port 20000, and two octets.
+CAPTURE = bytes.fromhex("d4c3b2a1 02000400 00000000 00000000 ffff0000 01000000")
+FRAME = bytes(12) + bytes.fromhex("0800 4500001e 00000000 40110000 7f000001 7f000001 9c404e20 000a0000 8000")
 RELAYS = "relay --turns 1", "relay --turns 1 --mux", "relay --turns 1 --bridge"
 
 
@@ -66,6 +69,17 @@ def answers(program, command, version):
     return bad
 
 
+def records(program):
+    """What a record of a capture tells is written before the record behind the next is waited for: the next one's moment is later."""
+    process, wanted = begin(program, "capture"), b"drop 20000 PortUnused\n"
+    os.write(process.stdin.fileno(), b"srtpgw 2\ncapture\n" + CAPTURE)
+    for second in (1, 2):
+        os.write(process.stdin.fileno(), second.to_bytes(4, "little") + bytes(4) + 2 * len(FRAME).to_bytes(4, "little") + FRAME)
+    said = read_until(process, len(wanted))
+    process.stdin.close()
+    return ([] if said == wanted else [f"a record is answered {said!r}"]) + ([] if process.wait(PATIENCE) == 0 else ["it failed"])
+
+
 def counts(program, command):
     """How many reads and writes a process has asked the system for."""
     process = begin(program, command)
@@ -92,6 +106,7 @@ def main():
     for command in ("replay", "capture", "bridge", "migrate", *RELAYS):
         for version in (1,) if command == "migrate" else (1, 2):
             bad += [f"{command}, version {version}: {it}" for it in answers(program, command, version)]
+    bad += [f"capture: {it}" for it in records(program)]
     for command in ("replay", "capture", "bridge"):
         bad += [f"{command}: {it}" for it in counts(program, command)]
     print("\n".join(f"prompt: {it}" for it in bad) or "prompt: each line is answered before the next, by no more writes than reads")
