@@ -86,8 +86,8 @@ pub fn offers_are_told_as_they_came()
     sg_gateway::signals_are_taken();
 }
 
-/// An answer to an open offer is refused only for a cause that its text, its message or the ring shows; of `Cs` only that the offer
-/// is keyed by the gateway's message.
+/// An answer to an open offer is refused only for a cause that its text, its message or the ring shows; of `Cs` only that the
+/// offer is keyed by the gateway's message.
 pub fn refused_answers_show_causes()
     ensures { (events : List Event) → RefusedAnswersShowCauses events }
 {

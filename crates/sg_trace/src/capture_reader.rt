@@ -46,7 +46,8 @@ impl Model for CaptureReader {
 }
 
 impl CaptureReader {
-    /// At the first octet behind the lines that were read. Of the source the first 2^30 octets count.
+    /// At the first octet behind the lines that were read, which have at most 2^30. Of the source the first 2^30 octets
+    /// count.
     pub fn new(alloc: Global, script: ScriptReader) -> CaptureReader
         requires { script.offset ≤ 2 ^ 30 }
         ensures { result ≡ record { waits = script.waits; part = []; at = 0; most = 2 ^ 30 - script.offset; budget = script.budget } }
