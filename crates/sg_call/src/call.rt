@@ -73,7 +73,7 @@ impl Call {
     ghost use Rattle.sg_gateway.specs.PlainOf.{plain_of};
     ghost use Rattle.sg_call.specs.Standing.{CallStandsFor};
 
-    /// A new call in this slot: idle, with an inbox for 256 datagrams.
+    /// A new call in this slot: idle, with an empty inbox for 256 datagrams. `NoMemory` where there is none for it.
     pub fn make(alloc: Global, id: CallId, slot: u8) -> Result<Call, NoMemory>
         ensures stands { IfOk result (λ call. (pairs : List psk.Pair) (serial : ℕ) → CallStandsFor pairs call (idle_call serial id slot)) }
         ensures inbox { IfOk result (λ call. (call.waiting ≡ []) × (call.handled ≡ [])) }
@@ -106,7 +106,7 @@ impl Call {
         self.slot
     }
 
-    /// The number of media, 0 while no offer was accepted.
+    /// The number of media, 4 at most; 0 while no offer was accepted and the call isn't keyed manually.
     pub fn media(&self) -> u8
         ensures value { result ≡ self.now.media }
         ensures most { result ≤ 4 }

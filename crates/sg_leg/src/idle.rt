@@ -84,8 +84,8 @@ impl Idle {
         Idle { slot }
     }
 
-    /// Takes an offer and tells the text for the other side; or gives the state back with the first cause why not, and
-    /// then the books are as they were.
+    /// Takes an offer and tells the text for the other side; or gives the state back with the first cause why not, or
+    /// out of memory, and then the books are as they were.
     pub fn offer(
         self,
         alloc: Global,

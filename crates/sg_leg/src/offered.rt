@@ -180,8 +180,8 @@ impl Offered {
     }
 
     /// Settles the offer by the answer of the other side: tells the text for the side that offered, and what the sides of
-    /// the new generation are made of; or gives the state back with the first cause why not, and then the books are as
-    /// they were.
+    /// the new generation are made of; or gives the state back with the first cause why not, or out of memory, and then the
+    /// books are as they were.
     pub fn settle(
         self,
         alloc: Global,
