@@ -21,7 +21,7 @@ use sg_base::{
     Side,
 };
 use sg_lanes::Lane;
-use sg_leg::{Books, Ended, Idle, Live, MEDIUM_SIDES, Way};
+use sg_leg::{Books, Ended, Idle, Live, MEDIUM_SIDES, ManualMedium, Way};
 use std::alloc::Global;
 use std::marker::Model;
 use std::mem;
@@ -303,13 +303,21 @@ impl Call {
         ensures state { (pairs : List psk.Pair) (c : world.Call) → CallStandsFor pairs self.old c → has_begun c ≡ true
             → result ≡ Err (faults.Refused refusals.State) }
     {
+        let given = ManualMedium {
+            secure,
+            plain,
+            roc,
+            window,
+            from_peer,
+            to_peer,
+        };
         match mem::replace(&mut self.state, State::Idle(Idle::make(self.slot))) {
             State::Idle(idle) => {
                 let Ok(mut routes) = Vec::with_capacity(alloc, MEDIUM_SIDES) else {
                     self.go_on(State::Idle(idle));
                     return Err(Fault::NoMemory);
                 };
-                match idle.settle(alloc, secure, plain, roc, window, from_peer, to_peer, books) {
+                match idle.settle(alloc, &given, books) {
                     Ok((live, sides)) => {
                         add_all(self.slot, sides, &mut routes);
                         self.media = 1;
