@@ -32,7 +32,8 @@ pub fn joined_ports_go_both_ways()
 {}
 
 /// A packet that is opened for a joined call is put out in the other call, or lost, and that is all that is told. What is
-/// told as lost was opened in the other call, and there is no plain address for it, or it is refused with that cause.
+/// told as lost was opened in the other call, and there is no plain address for it (`PortUnused`), or it is refused with
+/// that cause.
 pub fn lost_is_refused()
     ensures settled { (said : List Said) → EachOpenedIsSettled said }
     ensures refused { (said : List Said) → EachLostIsRefused said }
@@ -102,7 +103,8 @@ pub fn the_bridge_holds()
     signals_are_told();
 }
 
-/// A line is read exactly where it has at most 70,000 octets and an outcome is spelled so, as that outcome.
+/// A line is read exactly where it has at most 70,000 octets and an outcome is spelled so whose numbers are in their ranges, as
+/// that outcome.
 pub fn bridge_outcomes_have_one_spelling()
     ensures { (line : List ℕ) (o : BridgeOutcome) → (bridge_outcome_of line ≡ Some o) ↔ (FitsBridgeOutcome o × (line ≡ bridge_outcome_line o) × (length line ≤ 70000)) }
 {

@@ -1,5 +1,5 @@
 //! Calls that are joined: what the peer of the one seals is opened, goes on to the other call, and is sealed
-//! for its peer.
+//! for its peer, or lost.
 #![tactic(auto)]
 
 mod bridge;

@@ -158,7 +158,8 @@ fn told(alloc: Global, line: &[u8]) -> Result<Option<BridgeOutcome>, NoMemory>
     told_of_one(alloc, line)
 }
 
-/// The outcome of the line, of at most 70,000 octets, that `print_bridge` prints, with its end; none of every other line.
+/// The outcome of the line, of at most 70,000 octets, that `print_bridge` prints, with its end; none of every other line;
+/// or `NoMemory` where memory runs out.
 #[tactic(auto, unfolding(crate::specs::BridgeOutcomeOf::bridge_outcome_of))]
 pub fn read_bridge_outcome(alloc: Global, line: &[u8]) -> Result<Option<BridgeOutcome>, NoMemory>
     ensures { IfOk result (λ o. o ≡ bridge_outcome_of line.now) }

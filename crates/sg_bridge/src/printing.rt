@@ -68,7 +68,8 @@ fn push_lost(alloc: Global, out: &mut Vec<u8>, port: u16, cause: DropCause) -> R
     push(out, behind_word(line.as_slice()))
 }
 
-/// Adds the line of an outcome, with its line end.
+/// Adds the line of an outcome, with its line end. Where memory runs out (`NoMemory`), what `out`
+/// then holds isn't said.
 #[tactic(auto, unfolding(crate::specs::BridgeText::bridge_outcome_line))]
 pub fn push_bridge_outcome(
     alloc: Global,
@@ -86,7 +87,7 @@ pub fn push_bridge_outcome(
     }
 }
 
-/// The line of an outcome, with its line end.
+/// The line of an outcome, with its line end; or `NoMemory` where memory runs out.
 pub fn print_bridge(alloc: Global, outcome: &BridgeOutcome) -> Result<Octets, NoMemory>
     ensures { IfOk result (λ o. o ≡ bridge_outcome_line outcome.now) }
 {

@@ -77,7 +77,8 @@ fn line_of_fields(
 }
 
 /// The line of a bridge's script that the octets are, its end among them, in a script of version 1 or 2: from the
-/// second line on `join CALL CALL` or `part CALL`, and else what `read_line` reads, with its first fault.
+/// second line on `join CALL CALL` or `part CALL`, and else what `read_line` reads, with its first fault; or
+/// `NoMemory` where memory runs out.
 #[tactic(auto, unfolding(crate::specs::BridgeLines::bridge_line_of))]
 pub fn read_bridge_line(
     alloc: Global,

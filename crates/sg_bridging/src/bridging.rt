@@ -12,9 +12,11 @@ use sg_trace::{Status, run_script};
 use std::alloc::Global;
 
 /// Plays the script of the source: its lines in order, from an empty table, and what they tell is written to the
-/// sink. Where two calls are joined, a packet that is opened in the one goes on to the other, and is sealed there.
-/// In a script of version 2 a tick to its moment comes before a datagram. Where a signal lacks its noise, 304 octets
-/// are drawn. What is told is passed on before a read that may wait, and at the end.
+/// sink. Where two calls are joined, a packet that is opened in the one goes on to the other, and is sealed there or
+/// told as lost. In a script of version 2 a tick to its moment comes before a datagram. Where a signal lacks its
+/// noise, 304 octets are drawn. It ends with `Done` at the source's end; with `Script` at the first line outside the
+/// grammar; with `Read`, `Write` or `Noise` where the source, the sink or the noise fails; or with `NoMemory`. What
+/// is told is passed on before a read that may wait, and at the end, of which no clause tells.
 /// It isn't inlined, so no other command has its frame.
 #[inline(never)]
 pub fn bridge<S: Source, K: Sink, N: Noise>(

@@ -21,7 +21,7 @@ use sg_base::{
     Side,
 };
 use sg_lanes::Lane;
-use sg_leg::{Books, Ended, Idle, Live, MEDIUM_SIDES, Way};
+use sg_leg::{Books, Ended, Idle, Live, MEDIUM_SIDES, ManualMedium, Way};
 use std::alloc::Global;
 use std::marker::Model;
 use std::mem;
@@ -73,7 +73,7 @@ impl Call {
     ghost use Rattle.sg_gateway.specs.PlainOf.{plain_of};
     ghost use Rattle.sg_call.specs.Standing.{CallStandsFor};
 
-    /// A new call in this slot: idle, with an inbox for 256 datagrams.
+    /// A new call in this slot: idle, with an empty inbox for 256 datagrams. `NoMemory` where there is none for it.
     pub fn make(alloc: Global, id: CallId, slot: u8) -> Result<Call, NoMemory>
         ensures stands { IfOk result (λ call. (pairs : List psk.Pair) (serial : ℕ) → CallStandsFor pairs call (idle_call serial id slot)) }
         ensures inbox { IfOk result (λ call. (call.waiting ≡ []) × (call.handled ≡ [])) }
@@ -106,7 +106,7 @@ impl Call {
         self.slot
     }
 
-    /// The number of media, 0 while no offer was accepted.
+    /// The number of media, 4 at most; 0 while no offer was accepted and the call isn't keyed manually.
     pub fn media(&self) -> u8
         ensures value { result ≡ self.now.media }
         ensures most { result ≤ 4 }
@@ -303,13 +303,21 @@ impl Call {
         ensures state { (pairs : List psk.Pair) (c : world.Call) → CallStandsFor pairs self.old c → has_begun c ≡ true
             → result ≡ Err (faults.Refused refusals.State) }
     {
+        let given = ManualMedium {
+            secure,
+            plain,
+            roc,
+            window,
+            from_peer,
+            to_peer,
+        };
         match mem::replace(&mut self.state, State::Idle(Idle::make(self.slot))) {
             State::Idle(idle) => {
                 let Ok(mut routes) = Vec::with_capacity(alloc, MEDIUM_SIDES) else {
                     self.go_on(State::Idle(idle));
                     return Err(Fault::NoMemory);
                 };
-                match idle.settle(alloc, secure, plain, roc, window, from_peer, to_peer, books) {
+                match idle.settle(alloc, &given, books) {
                     Ok((live, sides)) => {
                         add_all(self.slot, sides, &mut routes);
                         self.media = 1;

@@ -18,10 +18,13 @@ use sg_trace::{CaptureReader, ScriptReader, Status, passed_on};
 use std::alloc::Global;
 use std::thread::Threads;
 
-/// Plays the script of the source, and then the capture behind its line `capture`: its UDP datagrams at the moments of
-/// their records, the first of which has the script's last moment. What they tell is written to the sink, with a line for
-/// each record whose datagram can't be had. Without that line it is a replay by one worker. Where the source fails, all lines
-/// and records that were read are told first. What is told is passed on before a read that may wait, and at the end.
+/// Plays the script of the source, and then the capture behind its line `capture`: its UDP datagrams at the moments of their
+/// records, the first of which has the script's last moment. What they tell is written to the sink, with a line for each
+/// record whose datagram can't be had. Without that line it is a replay by one worker. It ends with `Done` at the source's
+/// end; with `Script` or `Capture` at the first fault, of a line or of the capture; with `Read` where the source fails, once
+/// all whole lines and records that were read are told; with `Noise` where no noise can be drawn; with `Write` where the sink
+/// fails; or with `NoMemory`. What is told is passed on before a read that may wait, and at the end, of which no clause
+/// tells.
 /// It isn't inlined, so no other command has its frame.
 #[inline(never)]
 pub fn capture<R: Threads + Sync, S: Source, K: Sink, N: Noise, G: Gate + Sync>(

@@ -42,7 +42,8 @@ pub fn sessions_have_done_what_was_done()
     offers_fit_their_calls();
 }
 
-/// Each packet that arrives new is put out, and each that departs new is sealed, by what is done alone.
+/// Each sealed packet that arrives within reach is opened and put out, and each plain one that departs within reach is sealed
+/// and put out: its place, a live key, its new index and its admitted source are told of what is done alone.
 pub fn what_is_new_leaves()
     ensures { (events : List Event) → NewLeaves events }
 {
@@ -50,7 +51,7 @@ pub fn what_is_new_leaves()
     sg_gateway::nothing_within_reach_lost();
 }
 
-/// A signal leaves the calls that it doesn't name as they are.
+/// A signal that is no tick leaves the calls that it doesn't name as they are.
 pub fn other_calls_stay()
     ensures { (events : List Event) → OtherCallsStay events }
 {
@@ -68,7 +69,9 @@ pub fn sessions_stay_open()
     offers_fit_their_calls();
 }
 
-/// An offer against which neither its text nor its messages speak is open, and is told to the other side.
+/// An offer against which neither its text nor its messages speak is open, and is told to the other side: of a new call where
+/// fewer than 256 are there; of one that is there where it has as many media, no open offer, and isn't keyed manually. Where the
+/// gateway is to send a message, a key has to be held of that peer.
 pub fn offers_are_taken()
     ensures { (events : List Event) → OffersAreTaken events }
 {
@@ -83,7 +86,8 @@ pub fn offers_are_told_as_they_came()
     sg_gateway::signals_are_taken();
 }
 
-/// An answer to an open offer is refused only for a cause that its text, its message or the ring shows.
+/// An answer to an open offer is refused only for a cause that its text, its message or the ring shows; of `Cs` only that the
+/// offer is keyed by the gateway's message.
 pub fn refused_answers_show_causes()
     ensures { (events : List Event) → RefusedAnswersShowCauses events }
 {
@@ -92,15 +96,16 @@ pub fn refused_answers_show_causes()
     offers_fit_their_calls();
 }
 
-/// A call that is keyed manually is made and live where its keys are free, under the sessions that its line says.
+/// A call that is keyed manually is made and live, under the sessions that its line says, where its id is of no call, fewer than
+/// 256 calls are there and its keys are free.
 pub fn manual_calls_are_taken()
     ensures { (events : List Event) → ManualCallsAreTaken events }
 {
     sg_gateway::signals_are_taken();
 }
 
-/// Each call was last heard at the moment that is its own, and its generation was made in an earlier turn at the moment from
-/// which the keys before it are counted.
+/// Each call was last heard at the moment that is its own, and its generation, where it has one, was made in an earlier turn at
+/// the moment from which the keys before it are counted.
 pub fn calls_were_heard()
     ensures { (events : List Event) → CallsWereHeard events }
 {
@@ -109,7 +114,8 @@ pub fn calls_were_heard()
     offers_fit_their_calls();
 }
 
-/// Each `c=` line of a text that is told names the gateway's own address, and each medium has port 0 or that of the call's slot.
+/// Each text that is told spells a description of as many media as its call has: each `c=` line names the gateway's own address,
+/// and each medium has port 0 or that of the call's slot. Within the limits of what is read it is read as that one alone.
 pub fn told_texts_are_own()
     ensures { (events : List Event) → ToldTextsAreOwn events }
 {
@@ -139,7 +145,7 @@ pub fn answers_have_no_other_sessions()
     offers_fit_their_calls();
 }
 
-/// The keys that the gateway makes for crypto lines and messages are octets of the noise of their turn.
+/// The keys that the gateway makes for crypto lines, and for its own MIKEY messages, are octets of the noise of their turn.
 pub fn own_keys_are_drawn()
     ensures { (events : List Event) → OwnKeysAreDrawn events }
 {}

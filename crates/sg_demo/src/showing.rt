@@ -17,8 +17,8 @@ use std::alloc::Global;
 use std::thread::Threads;
 
 /// Shows a demonstration of 1 to 256 calls whose keys and traffic are drawn from a number: the nine lines of its
-/// numbers are written. Where that fails, a prefix of them is written. Its peers are large, so it isn't inlined: no other
-/// command has them in its frame.
+/// numbers are written. `Write` where the sink fails, `NoMemory` where memory runs out: then a prefix of them is written.
+/// Its peers are large, so it isn't inlined: no other command has them in its frame.
 #[inline(never)]
 pub fn demo<R: Threads + Sync, K: Sink, G: Gate + Sync>(
     rt: &R,

@@ -62,7 +62,8 @@ impl Demo {
         }
     }
 
-    /// The call of this number draws its two keys and is told to the table. Where it is refused it takes no part.
+    /// The call of this number draws its two keys and is told to the table. Where it is refused it takes no part. Out of
+    /// memory, the table has taken the first of the events, up to some of them.
     pub fn call(&mut self, alloc: Global, number: u32, table: &mut Table) -> Result<(), NoMemory>
         requires within { self.old.summary.calls < 256 }
         ensures called { OnOk result ((d : model.Demo) → DemoStandsFor self.old table.old d → DemoStandsFor self.new table.new (with_call number d)) }
@@ -92,7 +93,8 @@ impl Demo {
         }
     }
 
-    /// Each call has its turn; then what arrives is handled in order, by so many workers, and counted.
+    /// Each call has its turn; then what arrives is handled in order, by so many workers, and counted. Out of memory, the
+    /// table has taken the first of the events, up to some of them.
     pub fn round<R: Threads + Sync, G: Gate + Sync>(
         &mut self,
         rt: &R,

@@ -18,7 +18,7 @@ fn push_line(out: &mut Vec<u8>, word: &[u8], number: u64) -> Result<(), NoMemory
     push(out, b"\n")
 }
 
-/// The nine lines of the numbers.
+/// The nine lines of the numbers; or `NoMemory` where memory runs out.
 #[tactic(auto, unfolding(crate::specs::Text::summary_text))]
 pub fn summary_text(alloc: Global, summary: &Summary) -> Result<Vec<u8>, NoMemory>
     ensures { IfOk result (λ text. text.items ≡ summary_text summary.now) }

@@ -169,9 +169,11 @@ fn fill_prefix(pad: &mut Pad, octets: &[u8])
     pad.append(&octets[..count]);
 }
 
-/// A link over datagrams in memory, which keeps a record of its calls. A call fails exactly where its
-/// number, from 1, is in the list that it was made with, or where no memory is found for the record: then
-/// the link tells no record from then on. A receive that fails leaves what is to come as it is.
+/// A link over datagrams in memory, which keeps a record of its calls. A call fails where its number, from
+/// 1, is in the list that it was made with, and else only where no memory is found for the record: then the
+/// link tells no record from then on. A receive gives the next that is to come, of a longer datagram the
+/// first 4,352 octets, and nothing behind the last. One that fails by the list leaves what is to come, and
+/// the pad, as they are; what one leaves that fails for want of memory isn't said.
 #[derive(Drop)]
 pub struct MemLink {
     link: LinkBook,
@@ -319,8 +321,9 @@ impl Link for MemLink {
     }
 }
 
-/// A link over datagrams in memory that never fails. Where it finds no memory for its record, it tells none
-/// from then on, and goes on.
+/// A link over datagrams in memory that never fails. A receive gives the next that is to come, of a longer
+/// datagram the first 4,352 octets, and nothing behind the last. Where it finds no memory for its record,
+/// it tells none from then on, and goes on.
 #[derive(Drop)]
 pub struct SureLink {
     link: LinkBook,

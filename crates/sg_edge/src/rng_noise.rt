@@ -20,7 +20,7 @@ pub struct RngNoise<G: TryRng + Drop> {
 }
 
 impl<G: TryRng + Drop> RngNoise<G> {
-    /// The generator as noise that hasn't failed.
+    /// The generator as noise that has given nothing.
     pub fn make(rng: G) -> RngNoise<G>
         ensures rng { result.rng ≡ rng }
         ensures count { result.count ≡ 0 }

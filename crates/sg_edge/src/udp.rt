@@ -110,7 +110,8 @@ fn join_all(ports: &mut Ports, events: &Events)
 }
 
 impl<R: Net + Clock + Drop> UdpLink<R> {
-    /// A link without ports. What it needs of the system it takes at its first call.
+    /// A link without ports, on which no call was made. It takes a descriptor for readiness, and memory for
+    /// what the system tells, at its first bind or receive: no clause tells of them.
     pub fn make(alloc: Global, net: R) -> UdpLink<R>
         ensures bound { (port : ℕ) → socket_at result.ports.bound port ≡ None }
         ensures waiting { result.ports.waiting.items ≡ [] }

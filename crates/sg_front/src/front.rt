@@ -35,7 +35,7 @@ impl Model for Front {
 }
 
 impl Front {
-    /// A table without calls, whose legs may share their ports or may not.
+    /// A table without calls, whose legs may share their ports or may not. `NoMemory` where there is none for it.
     pub fn make(alloc: Global, muxes: bool) -> Result<Front, NoMemory>
         ensures { IfOk result (λ front. FrontStandsFor front (start muxes)) }
     {
@@ -76,7 +76,7 @@ impl Front {
         }
     }
 
-    /// Takes a tick that tells nothing, as `step` does; where it tells something, nothing is done, and it is false.
+    /// Takes a tick that tells nothing, as `take` does; where it tells something, nothing is done, and it is false.
     /// It doesn't allocate. A tick is at most 2,085,978,495,999 ms since 1970.
     pub fn tick_quietly(&mut self, now: u64) -> bool
         requires timely { now ≤ 2085978495999 }
@@ -97,8 +97,9 @@ impl Front {
         }
     }
 
-    /// Handles up to 256 datagrams, as many calls at a time as there are workers: what they tell is the same for every
-    /// number of workers. It doesn't allocate but for its threads.
+    /// Handles up to 256 datagrams, as many calls at a time as there are workers, at least one: they tell, in order,
+    /// what they tell when they come one at a time, whatever the number of workers. It doesn't allocate but for its
+    /// threads.
     pub fn batch<R: Threads + Sync, G: Gate + Sync>(
         &mut self,
         rt: &R,

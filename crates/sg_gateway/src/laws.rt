@@ -84,8 +84,9 @@ pub fn nothing_twice()
 }
 
 /// Each sealed packet that arrives new, within reach and under a live key, in a datagram of at most 4,238 octets,
-/// is opened and put out. And each plain packet of at most 4,096 octets that comes from the plain side and can be
-/// sealed is sealed and put out.
+/// is opened and put out; in an earlier generation only where no session of the current one at that port opens the
+/// datagram. And each plain packet of at most 4,096 octets that comes from the plain side and can be sealed is sealed
+/// and put out.
 pub fn nothing_within_reach_lost()
     ensures arriving { (events : List Event) (sealed : List Sealed) → AreSealed sealed → EachArrivingIsPutOut sealed events }
     ensures departing { (events : List Event) → EachDepartingIsSealed events }
@@ -121,9 +122,9 @@ pub fn seals_use_their_blocks()
     what_is_sealed_goes_out();
 }
 
-/// In every world of a run the calls stand by rising slot, below 256, with four media at most and serial numbers
-/// below the number of calls made. No two sessions have one name; those of a call are of its media, of its current
-/// generation and, behind them, opening ones of the generation before.
+/// In every world of a run the calls stand by rising slot, below 256, each under an id and a serial number of its
+/// own, with four media at most and serial numbers below the number of calls made. No two sessions have one name;
+/// those of a call are of its media, of its current generation and, behind them, opening ones of the generation before.
 pub fn calls_in_order()
     ensures { (events : List Event) → EachWorldIsOrderly events }
 {
@@ -143,8 +144,9 @@ pub fn each_call_by_itself()
     offers_fit_their_calls();
 }
 
-/// What a table does at a call's place: a call is put in the place of the one of its serial number, a call
-/// goes, and a new call comes before the first of a higher slot.
+/// What a table does at a call's place, where no two calls have one serial number: a call is put in the place of
+/// the one of its serial number, and a call goes. Of any calls: a new call comes before the first of a higher slot,
+/// and the first that passes a test is the one at the first position that does.
 pub fn calls_have_places()
     ensures put { (cs : List Call) (i : ℕ) (c d : Call) → AllPairs DifferInSerial cs → i < length cs → get_or cs i c ≡ c → d.serial ≡ c.serial
         → with_call d cs ≡ set cs i d }
@@ -196,9 +198,9 @@ pub fn no_call_stays_idle()
 {}
 
 /// After a bye no call has the id. After a tick the last moment is its own, unless it was before the last one, and each
-/// call is left that isn't idle: with its sessions, but for those of an earlier generation from 2,000 ms on. After a
-/// rejection no offer of the call is open. An answer that isn't refused gives its call a generation and closes the
-/// offer, and what opens of the generation that it replaces is still there.
+/// call is left that isn't idle: with its offer and its sessions, but for those of an earlier generation from 2,000 ms
+/// on. After a rejection no offer of the call is open. An answer that isn't refused gives its call a generation and
+/// closes the offer, and what opens of the generation that it replaces is still there.
 pub fn signals_are_carried_out()
     ensures byes { (events : List Event) → ByesEnd events }
     ensures ticks { (events : List Event) → TicksMove events }
@@ -212,16 +214,17 @@ pub fn signals_are_carried_out()
     offers_fit_their_calls();
 }
 
-/// An offer on which a call agrees is open where nothing of the world speaks against it: a call that is there has no open
-/// offer and isn't keyed manually, and for a new one there is room. A call that is keyed manually is made and live where
-/// its id is free, there is room and its keys can come into use.
+/// An offer on which a call agrees is open, and told, where nothing of the world speaks against it: a call that is there
+/// has no open offer and isn't keyed manually, and for a new one there is room. A call that is keyed manually is made and
+/// live where its id is free, there is room and its keys can come into use.
 pub fn signals_are_taken()
     ensures offers { (events : List Event) → OffersAreTaken events }
     ensures manual { (events : List Event) → ManualCallsAreTaken events }
 {}
 
-/// Each MIKEY message that an accepted offer is keyed by is authentic under a key that is held of its two names, its stamp is
-/// within 300,000 ms of the moment, it wasn't noted and is noted afterwards; and what is noted stays noted.
+/// Each MIKEY message of a peer's that an accepted offer is keyed by is authentic under a key that is held of its two names
+/// (RFC 3830, 5.2 to 5.4), its stamp is within 300,000 ms of the moment, it wasn't noted and is noted afterwards; and what is
+/// noted stays noted.
 pub fn messages_are_accepted_once()
     ensures { (events : List Event) → MessagesAreAcceptedOnce events }
 {}
@@ -242,8 +245,8 @@ pub fn answers_are_by_their_texts()
 {}
 
 /// Each session of every world was made in an earlier turn, by an answer or where its call was keyed manually, and is what it
-/// was made, but for what it has done. One that is made manually is under the key of its direction, and encrypts but for
-/// RTP in the raw form.
+/// was made, but for what it has done. One that is made manually is under the key of its direction, from its line's rollover
+/// on and between its line's two addresses, and encrypts but for RTP in the raw form.
 pub fn sessions_stay_what_they_were_made()
     ensures last { (events : List Event) → SessionsLast events }
     ensures manual { (events : List Event) → ManualCallsAreAsTold events }
@@ -279,8 +282,8 @@ pub fn no_key_serves_past_its_life()
 }
 
 /// An index is fresh exactly where it isn't done and none that is done of its source is a window or more ahead of it.
-/// Each sealed packet that arrives so, near, from an admitted source and under a key under which fewer packets are done
-/// than its life, is opened and put out.
+/// Each sealed packet that arrives so, near, from an admitted source that has a place and under a key under which fewer
+/// packets are done than its life, is opened and put out.
 pub fn what_is_new_is_put_out()
     ensures fresh { (s : Session) (ssrc index : ℕ) → IsNewIn s ssrc index → IsFresh s ssrc index }
     ensures new { (s : Session) (ssrc index : ℕ) → IsFresh s ssrc index → IsNewIn s ssrc index }

@@ -294,19 +294,19 @@ pub(crate) fn answered_text(
     offered: &[sdp::Medium],
     answer: &sdp::Sdp,
     active: &[bool],
-    session: &[Octets],
-    keyed: &[Option<KeyedMedium>],
+    keyed: &Answered,
 ) -> Result<Octets, NoMemory>
     requires few { length offered.now ≤ 4 }
     requires answers { length answer.now.media ≡ length offered.now }
     requires actives { length active.now ≡ length offered.now }
-    requires keyed { length keyed.now ≡ length offered.now }
+    requires keyed { length keyed.now.media ≡ length offered.now }
     ensures { IfOk result (λ text. text ≡ carried_text (ports_from slot 0 side active.now) (map (λ (m : descriptions.Medium). m.profile) offered.now)
-        (record { session = session.now; media = map lines_of keyed.now }) answer.now) }
+        (record { session = keyed.now.session; media = map lines_of keyed.now.media }) answer.now) }
 {
     let ports = ports_of(slot, side, active);
     let profiles = profiles_of(alloc, offered)?;
-    let lines = lines_of(alloc, keyed)?;
+    let lines = lines_of(alloc, keyed.media.as_slice())?;
+    let session = keyed.session.as_slice();
     Ok(carried_text(alloc, ports.as_slice(), &profiles, session, &lines, answer)?)
 }
 

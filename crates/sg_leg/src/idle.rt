@@ -12,7 +12,7 @@ ghost use Rattle.sg_leg.specs.Planned.{planned_in, planned_sides};
 ghost use Rattle.sg_leg.specs.Standing.{IsManual};
 
 use crate::media::{AgreedMedium, SideKeys};
-use crate::offered::open;
+use crate::offered::{Before, open};
 use crate::settling::settle_one;
 use crate::{Books, Live, MediaSpec, Offered, SideSpec, Way};
 use sg_base::{Address, Fault, MasterKey, Octets, RTP_LIFE, WINDOW_LEAST, WINDOW_MOST};
@@ -53,26 +53,31 @@ fn manual_stream(roc: u32, key: &MasterKey) -> SideKeys
     }
 }
 
+/// What a call that is keyed manually is given of its one medium: the addresses of its sides, the starting rollover, the
+/// window in which the gateway opens, and the keys under which the peer sends and is sent to.
+#[derive(Drop)]
+pub struct ManualMedium<'a> {
+    pub secure: Address,
+    pub plain: Address,
+    pub roc: u32,
+    pub window: u16,
+    pub from_peer: &'a MasterKey,
+    pub to_peer: &'a MasterKey,
+}
+
 /// The one medium of a call that is keyed manually.
-fn manual_medium(
-    secure: Address,
-    plain: Address,
-    roc: u32,
-    window: u16,
-    from_peer: &MasterKey,
-    to_peer: &MasterKey,
-) -> AgreedMedium
-    ensures medium { result ≡ medium_under secure plain roc window from_peer.now to_peer.now }
+fn manual_medium(given: &ManualMedium) -> AgreedMedium
+    ensures medium { result ≡ medium_under given.now.secure given.now.plain given.now.roc given.now.window given.now.from_peer.now given.now.to_peer.now }
     ensures served { IsServedMedium result }
 {
-    let secret = !from_peer.suite().is_raw() && !to_peer.suite().is_raw();
+    let secret = !given.from_peer.suite().is_raw() && !given.to_peer.suite().is_raw();
     AgreedMedium {
-        from_peer: manual_stream(roc, from_peer),
-        to_peer: manual_stream(roc, to_peer),
-        window: window.clamp(WINDOW_LEAST, WINDOW_MOST),
-        has_rtcp: secret && (secure.port < 65535 && plain.port < 65535),
-        secure,
-        plain,
+        from_peer: manual_stream(given.roc, given.from_peer),
+        to_peer: manual_stream(given.roc, given.to_peer),
+        window: given.window.clamp(WINDOW_LEAST, WINDOW_MOST),
+        has_rtcp: secret && (given.secure.port < 65535 && given.plain.port < 65535),
+        secure: given.secure,
+        plain: given.plain,
     }
 }
 
@@ -84,8 +89,8 @@ impl Idle {
         Idle { slot }
     }
 
-    /// Takes an offer and tells the text for the other side; or gives the state back with the first cause why not, and
-    /// then the books are as they were.
+    /// Takes an offer and tells the text for the other side; or gives the state back with the first cause why not, or
+    /// out of memory, and then the books are as they were.
     pub fn offer(
         self,
         alloc: Global,
@@ -99,33 +104,32 @@ impl Idle {
         ensures answer { IsOffered self None (agreed_offer (at_hand self None noise.now now books.old) way text.now) result books.old books.new }
         ensures back { IfErr result (λ e. (e.0 ≡ self) × (books.new ≡ books.old)) }
     {
-        match open(alloc, self.slot, None, &way, text, noise, now, books) {
+        let before = Before {
+            slot: self.slot,
+            former: None,
+        };
+        match open(alloc, before, &way, text, noise, now, books) {
             Ok(offered) => Ok(offered),
             Err(fault) => Err((self, fault)),
         }
     }
 
     /// Keys the call manually and tells what the sides of its one medium are made of: what the peer sends under
-    /// `from_peer`, and what the gateway sends to it under `to_peer`, both from this rollover on. Refused as the
+    /// `from_peer`, and what the gateway sends to it under `to_peer`, both from its rollover on. Refused as the
     /// ring refuses keys, or out of memory, the call is what it was, and so are the books.
     pub fn settle(
         self,
         alloc: Global,
-        secure: Address,
-        plain: Address,
-        roc: u32,
-        window: u16,
-        from_peer: &MasterKey,
-        to_peer: &MasterKey,
+        given: &ManualMedium,
         books: &mut Books,
     ) -> Result<(Live, Vec<SideSpec>), (Idle, Fault)>
         ensures answer { (call generation : ℕ) (ring : List Installed) → keys_of ring ≡ books.old.ring → IsManual (λ sides. planned_sides sides.items) self result books.new.ring
-            (generation_of call generation ring (Some (medium_under secure plain roc window from_peer.now to_peer.now) ∷ [])) }
+            (generation_of call generation ring (Some (medium_under given.now.secure given.now.plain given.now.roc given.now.window given.now.from_peer.now given.now.to_peer.now) ∷ [])) }
         ensures few { IfOk result (λ r. length r.1.items ≤ 4) }
         ensures back { IfErr result (λ e. (e.0 ≡ self) × (books.new ≡ books.old)) }
         ensures others { (books.new.psks ≡ books.old.psks) × (books.new.seen ≡ books.old.seen) }
     {
-        let medium = manual_medium(secure, plain, roc, window, from_peer, to_peer);
+        let medium = manual_medium(given);
         match settle_one(alloc, &medium, &mut books.ring) {
             Ok(sides) => Ok((Live::new(self.slot, 1, true), sides)),
             Err(fault) => Err((self, fault)),
@@ -149,7 +153,14 @@ impl Idle {
         ensures back { IfErr result (λ e. (e.0 ≡ self) × (books.new ≡ books.old)) }
         ensures others { (books.new.psks ≡ books.old.psks) × (books.new.seen ≡ books.old.seen) }
     {
-        let medium = manual_medium(secure, plain, roc, window, from_peer, to_peer);
+        let medium = manual_medium(&ManualMedium {
+            secure,
+            plain,
+            roc,
+            window,
+            from_peer,
+            to_peer,
+        });
         let first = books.ring.count();
         match settle_one(alloc, &medium, &mut books.ring) {
             Ok(sides) => {

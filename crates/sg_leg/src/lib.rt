@@ -20,7 +20,7 @@ mod settling;
 mod sides;
 
 pub use books::Books;
-pub use idle::Idle;
+pub use idle::{Idle, ManualMedium};
 pub use keying::{Bundle, Keying, Opening};
 pub use live::{Ended, Live};
 pub use media_spec::{MEDIUM_SIDES, MediaSpec, SideSpec};

@@ -6,7 +6,7 @@ ghost use Rattle.sg_base.specs.declared.faults.Fault.TheVariants as faults;
 ghost use Rattle.sg_base.specs.declared.faults.Refusal.TheVariants as refusals;
 ghost use Rattle.sg_leg.specs.Open.{IsOffered, at_hand};
 
-use crate::offered::open;
+use crate::offered::{Before, open};
 use crate::{Books, Offered, Way};
 use sg_base::{Fault, Octets, Refusal};
 use std::alloc::Global;
@@ -86,16 +86,11 @@ impl Live {
         if self.manual {
             return Err((self, Fault::Refused(Refusal::State)));
         }
-        match open(
-            alloc,
-            self.slot,
-            Some(self.clone()),
-            &way,
-            text,
-            noise,
-            now,
-            books,
-        ) {
+        let before = Before {
+            slot: self.slot,
+            former: Some(self.clone()),
+        };
+        match open(alloc, before, &way, text, noise, now, books) {
             Ok(offered) => Ok(offered),
             Err(fault) => Err((self, fault)),
         }

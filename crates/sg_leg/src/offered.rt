@@ -68,11 +68,17 @@ fn media_of(former: &Option<Live>) -> Option<u8>
     }
 }
 
-/// Takes an offer, of a call with this generation. Memory is taken before the books change.
+/// A call before its offer: its slot, and its generation, where it has one.
+#[derive(Drop)]
+pub(crate) struct Before {
+    pub slot: u8,
+    pub former: Option<Live>,
+}
+
+/// Takes an offer of a call. Memory is taken before the books change.
 pub(crate) fn open(
     alloc: Global,
-    slot: u8,
-    former: Option<Live>,
+    before: Before,
     way: &Way,
     text: &[u8],
     noise: &[u8; 304],
@@ -80,9 +86,10 @@ pub(crate) fn open(
     books: &mut Books,
 ) -> Result<(Offered, Octets), Fault>
     requires moment { now ≤ 2085978495999 }
-    ensures opened { IsOpened slot former (agreed_offer (at_hand slot (media_of former) noise.now now books.old) way.now text.now) result books.old books.new }
+    ensures opened { IsOpened before.slot before.former (agreed_offer (at_hand before.slot (media_of before.former) noise.now now books.old) way.now text.now) result books.old books.new }
     ensures err { OnErr result (books.new ≡ books.old) }
 {
+    let Before { slot, former } = before;
     let side = way.side();
     let description = match describe(alloc, side, media_of(&former), text) {
         Ok(description) => description,
@@ -180,8 +187,8 @@ impl Offered {
     }
 
     /// Settles the offer by the answer of the other side: tells the text for the side that offered, and what the sides of
-    /// the new generation are made of; or gives the state back with the first cause why not, and then the books are as
-    /// they were.
+    /// the new generation are made of; or gives the state back with the first cause why not, or out of memory, and then the
+    /// books are as they were.
     pub fn settle(
         self,
         alloc: Global,
@@ -379,11 +386,8 @@ impl Offered {
         ensures media { IfOk result (λ r. r.1 ≡ media_agreed self.now.side self.now.description.media answer.now.media keyed.now.media) }
     {
         let offered = self.description.media.as_slice();
-        let lines = keyed.session.as_slice();
+        let text = answered_text(alloc, self.slot, self.side, offered, answer, active, keyed)?;
         let media = keyed.media.as_slice();
-        let text = answered_text(
-            alloc, self.slot, self.side, offered, answer, active, lines, media,
-        )?;
         let agreed = media_agreed(alloc, self.side, offered, answer.media.as_slice(), media)?;
         Ok((text, Items::from_vec(agreed)))
     }

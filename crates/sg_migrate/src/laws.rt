@@ -7,7 +7,8 @@ ghost use Rattle.sg_migrate.specs.Migrated.{IsOfVersionOne, migrated};
 ghost use Rattle.sg_migrate.specs.VersionTwo.{IsVersionTwo, TicksFirst};
 ghost use Rattle.sg_trace.specs.Trace.{replayed};
 
-/// A script and what it is migrated to are played alike: whatever is drawn, their outcomes are the same.
+/// A script that doesn't begin with the line `srtpgw 2`, and what it is migrated to, are played alike where the latter has
+/// at most 2^30 octets: whatever is drawn, their replays tell the same outcomes.
 pub fn migrated_scripts_tell_the_same()
     ensures { (octets draws : List ℕ) → IsOfVersionOne octets → length (migrated octets) ≤ 2 ^ 30
         → outcomes (replayed (migrated octets) draws).events ≡ outcomes (replayed octets draws).events }
@@ -17,8 +18,9 @@ pub fn migrated_scripts_tell_the_same()
     sg_gateway::a_moment_comes_once();
 }
 
-/// What is migrated is a script of version 2: its first line says so, and no line of it is outside the grammar. Of a script
-/// that is of version 2 already nothing is written.
+/// What is migrated is a script of version 2: where anything is written, it begins with the line `srtpgw 2`; and where it
+/// has at most 2^30 octets, a replay finds no line of it outside the grammar, whatever is drawn. Of a script that begins
+/// with that line already nothing is written: its first line is `Version`.
 pub fn migrated_scripts_are_of_version_two()
     ensures { (octets : List ℕ) → IsVersionTwo octets }
 {

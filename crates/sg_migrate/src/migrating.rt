@@ -15,8 +15,9 @@ use sg_trace::{Play, Status, run_script};
 use std::alloc::Global;
 
 /// Writes the script of version 1 that the source holds as one of version 2: each datagram gets the greatest
-/// moment of the ticks before it, or 0. A script of version 2 is refused at its first line. What is written is passed on
-/// before a read that may wait, and at the end.
+/// moment of the ticks before it, or 0. `Script` at the first line outside the grammar, with those before it written: of
+/// a script of version 2 at its first line. `Read` or `Write` where the source or the sink fails, `NoMemory` where
+/// memory runs out. What is written is passed on before a read that may wait, and at the end, of which no clause tells.
 /// It isn't inlined, so no other command has its frame.
 #[inline(never)]
 pub fn migrate<S: Source, K: Sink>(alloc: Global, source: &mut S, sink: &mut K) -> Status

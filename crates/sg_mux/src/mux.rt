@@ -71,7 +71,7 @@ impl Mux {
     }
 
     /// By which port a packet leaves, and to which address it goes: RTCP of a leg that shares its port leaves by the leg's
-    /// RTP port and goes to the port before. It doesn't allocate.
+    /// RTP port and goes to the port before, unless its own is 0. It doesn't allocate.
     pub fn depart(&self, port: u16, to: Address) -> (u16, Address)
         ensures port { result.0 ≡ (leaves self.now port to).port }
         ensures to { result.1 ≡ (leaves self.now port to).to }

@@ -6,7 +6,8 @@ ghost use Rattle.sg_passages.specs.Headline.{Headline};
 ghost use Rattle.sg_passages.specs.Passages.{ArePassagesOf, Passage, plain_passages};
 
 /// The headline holds of every list of events, however a run tells what becomes of them, as long as each packet leaves by
-/// the port by which it was put out, or by the first port of that leg, and all else is told as `IsToldAs` says.
+/// the port by which it was put out, or by the first port of that leg, what is told of an offer is told as it is, and all
+/// else is told as `IsToldAs` says.
 pub fn the_headline_holds()
     ensures { (events : List Event) (passages : List Passage) → ArePassagesOf events passages → Headline events passages }
 {

@@ -65,7 +65,8 @@ impl Model for Player {
 }
 
 impl Player {
-    /// A front without calls, whose legs may share their ports or may not, and no datagram waits.
+    /// A front without calls, whose legs may share their ports or may not, and no datagram waits. `NoMemory` where there is
+    /// none for it.
     pub fn make(alloc: Global, muxes: bool) -> Result<Player, NoMemory>
         ensures { IfOk result (λ player. FrontStandsFor player.front (start muxes) × (player.waits ≡ [])) }
     {
@@ -81,7 +82,7 @@ impl Player {
 
     /// Handles a line. A datagram waits for its batch, and what waits is handled before a signal, before a datagram
     /// of another moment than the line before it, and before one for which the batch has no room; the noise that a
-    /// signal lacks is drawn.
+    /// signal lacks is drawn. `Noise` where it can't be, `Write` where the sink fails, `NoMemory` where memory runs out.
     pub fn play<R: Threads + Sync, K: Sink, N: Noise, G: Gate + Sync>(
         &mut self,
         workers: &Workers<R, G>,
@@ -170,7 +171,8 @@ impl Player {
         self.tick(workers, alloc, now, sink)
     }
 
-    /// Handles and tells what waits, then a tick, at most 2,085,978,495,999 ms since 1970. `Write` where the sink fails.
+    /// Handles and tells what waits, then a tick, at most 2,085,978,495,999 ms since 1970. `Write` where the sink fails,
+    /// `NoMemory` where memory runs out.
     pub fn tick<R: Threads + Sync, K: Sink, G: Gate + Sync>(
         &mut self,
         workers: &Workers<R, G>,
@@ -201,7 +203,7 @@ impl Player {
     }
 
     /// A datagram of at most 4,352 octets waits for its batch; where the batch is full, that is handled and told first.
-    /// `Write` where the sink fails.
+    /// `Write` where the sink fails, `NoMemory` where memory runs out.
     pub fn arrive<R: Threads + Sync, K: Sink, G: Gate + Sync>(
         &mut self,
         workers: &Workers<R, G>,
@@ -245,7 +247,8 @@ impl Player {
         self.settle(workers, alloc, sink)
     }
 
-    /// Handles the datagrams that wait, and writes what becomes of them in order of arrival.
+    /// Handles the datagrams that wait, and writes what becomes of them in order of arrival. `Write` where the sink fails,
+    /// `NoMemory` where memory runs out: then a prefix of that is written.
     pub fn settle<R: Threads + Sync, K: Sink, G: Gate + Sync>(
         &mut self,
         workers: &Workers<R, G>,
@@ -275,7 +278,7 @@ impl Player {
         Ok(())
     }
 
-    /// The same, and the sink passes on what it holds.
+    /// The same, and the sink passes on what it holds, of which no clause tells.
     pub fn settle_at_once<R: Threads + Sync, K: Sink, G: Gate + Sync>(
         &mut self,
         workers: &Workers<R, G>,
@@ -297,7 +300,7 @@ impl Player {
     }
 
     /// The status of a run of which nothing more is read, for this reason: what waits is handled and told first, and passed
-    /// on.
+    /// on, of which no clause tells. `Write` where the sink fails, `NoMemory` where memory runs out.
     pub fn close<R: Threads + Sync, K: Sink, G: Gate + Sync>(
         &mut self,
         workers: &Workers<R, G>,

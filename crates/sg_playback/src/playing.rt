@@ -43,7 +43,8 @@ impl PlayedLine for Line {
 
 /// Plays the script of the source, from its first line to the last, by a player for which nothing waits, and gives it back.
 /// Then all that the lines tell is told and passed on, and the reader is behind the last line. Where the run ends before, that
-/// is its status: whatever ends the reading, what waits is told then. What is told is passed on before a read that may wait.
+/// is its status: whatever ends the reading, what waits is told then, and where that fails it is that fault's. What is told is
+/// passed on before a read that may wait, of which no clause tells.
 pub fn play_lines<L: PlayedLine, R: Threads + Sync, S: Source, K: Sink, N: Noise, G: Gate + Sync>(
     workers: &Workers<R, G>,
     alloc: Global,

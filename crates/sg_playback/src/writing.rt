@@ -15,6 +15,7 @@ use sg_trace::{Status, tell};
 use std::alloc::Global;
 
 /// Writes what became of datagrams, in order, once all of it is printed: in the room of `lines`, whose text is gone.
+/// `Write` where the sink fails, `NoMemory` where memory runs out: then a prefix of it is written.
 pub fn tell_ends<K: Sink>(
     arrivals: &[Arrival],
     lines: &mut Vec<u8>,
@@ -63,7 +64,8 @@ fn add_end(port: u16, pad: &Pad, end: End, lines: &mut Vec<u8>) -> Result<(), No
     }
 }
 
-/// Writes the outcomes of a signal, in order.
+/// Writes the outcomes of a signal, in order. `Write` where the sink fails, `NoMemory` where memory runs out: then a
+/// prefix of their lines is written.
 pub fn tell_all<K: Sink>(alloc: Global, outcomes: &[Outcome], sink: &mut K) -> Result<(), Status>
     ensures told { IsWritten result (K.written sink.old) (K.written sink.new) (text outcomes.now) }
     ensures write { IsCaused Status.Write result (K.faults sink.old) (K.faults sink.new) (K.failed sink.new) }

@@ -28,8 +28,11 @@ pub struct RelayOptions {
     pub muxes: bool,
 }
 
-/// Handles the lines of the source in order, and at a `tick` line takes turns until a reading of the clock is
-/// at least so many milliseconds after the first reading. A datagram is handled in the one pad that the relay keeps.
+/// Handles the lines of the source in order, and at a `tick` line takes turns, each a reading and then a receive, until a
+/// reading of the clock is at least so many milliseconds after the first reading. It ends with `Done` at the source's end;
+/// with `Script` at the first line outside the grammar; with `TurnsSpent` where all turns were taken and a `tick` line asks
+/// for one more; with `Read`, `Write`, `Link`, `Clock` or `Noise` where that of the outside fails, but for a send, which is
+/// told; or with `NoMemory`.
 /// It isn't inlined, so no other command has its frame.
 #[inline(never)]
 pub fn relay<S: Source, K: Sink, L: Link, C: Clock, N: Noise>(
@@ -71,7 +74,8 @@ pub fn relay<S: Source, K: Sink, L: Link, C: Clock, N: Noise>(
 }
 
 /// The same of calls of which some may be joined: at a line `join` two are, and until they are parted what is opened in the one goes
-/// on to the other in the same turn, and is sealed there. Their plain ports stay bound, and what comes there from outside is dropped.
+/// on to the other at once, and is sealed there or told as lost. Their plain ports stay bound, and what comes there from outside is
+/// dropped.
 #[inline(never)]
 pub fn relay_joined<S: Source, K: Sink, L: Link, C: Clock, N: Noise>(
     alloc: Global,

@@ -49,12 +49,13 @@ use std::thread::Threads;
 /// Runs the command that the words name. `replay` plays the script of the source, writes what it tells to the
 /// sink, and draws the noise that its signals lack; the link and the clock aren't touched. `relay` handles
 /// its lines likewise, and at a `tick` line it takes what the link receives and sends what goes out, until the clock
-/// says that the moment has come. With `--mux` these two let RTP and RTCP share a port where offer and answer agree on it
-/// (RFC 5761). With `--bridge` the calls of a relay may be joined, as those of a `bridge`. `bridge` plays a script whose calls
-/// may be joined: what one of the two opens, the other seals. `demo` writes the numbers of a demonstration. `migrate` writes
-/// the script of version 1 that the source holds as one of version 2. `capture` plays a script and the capture behind it,
-/// whose datagrams come at the moments of their records. Words that are no command are answered `Usage`, and then nothing is
-/// touched.
+/// says that the moment has come, or its turns are spent. With `--mux` these two let RTP and RTCP share a port where offer
+/// and answer agree on it (RFC 5761). With `--bridge` the calls of a relay may be joined, as those of a `bridge`. `bridge`
+/// plays a script whose calls may be joined: what one of the two opens, the other seals, or it is told as lost. `demo` writes
+/// the numbers of a demonstration. `migrate` writes the script of version 1 that the source holds as one of version 2.
+/// `capture` plays a script and the capture behind it, whose datagrams come at the moments of their records. A status tells
+/// whose failure ended the run; `NoMemory` may come anywhere. Words that are no command are answered `Usage`, or `NoMemory`
+/// where there is none to read them, and then nothing is touched. Of the source at most 2^30 + 1 octets are read.
 pub fn run<R: Threads + Sync, S: Source, K: Sink, L: Link, C: Clock, N: Noise, G: Gate + Sync>(
     rt: &R,
     alloc: Global,

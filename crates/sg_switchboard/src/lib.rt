@@ -1,5 +1,5 @@
-//! A table, and which of its calls are joined: what is opened in the one of two joined calls is sealed in the other. Nothing is
-//! written or sent here.
+//! A table, and which of its calls are joined: what is opened in the one of two joined calls is sealed in the other, or lost.
+//! Nothing is written or sent here.
 #![tactic(auto)]
 
 mod switchboard;

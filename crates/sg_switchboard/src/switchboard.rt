@@ -40,7 +40,7 @@ impl Model for Switchboard {
 }
 
 impl Switchboard {
-    /// An empty table, and no call is joined.
+    /// An empty table, and no call is joined. `NoMemory` where there is none for it.
     pub fn make(alloc: Global) -> Result<Switchboard, NoMemory>
         ensures { IfOk result (λ switchboard. StandsFor switchboard start) }
     {
@@ -53,7 +53,7 @@ impl Switchboard {
 
     /// Has the table take a signal, whose noise is there, and tell its outcomes in a list that the caller keeps, in the place of
     /// what it held. Which calls are known and joined stays until each of them is noted. `NoMemory` comes as the table tells it, and
-    /// then all is what it was. A tick is at most 2,085,978,495,999 ms since 1970.
+    /// then nothing is told and all is what it was. A tick is at most 2,085,978,495,999 ms since 1970.
     pub fn take(
         &mut self,
         alloc: Global,
@@ -92,7 +92,7 @@ impl Switchboard {
     }
 
     /// Handles a datagram that comes to a port from outside. A plain port of a joined call is unused. What is opened for a joined
-    /// call goes on to the other at once. It doesn't allocate.
+    /// call goes on to the other at once, and is sealed there or lost. It doesn't allocate.
     pub fn datagram(&mut self, port: u16, from: Address, pad: Pad) -> Switched
         ensures { (s : State) → StandsFor self.old s → IsSwitched s (Datagram port from (as_octets pad)) result self.new }
     {

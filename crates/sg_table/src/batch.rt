@@ -27,7 +27,8 @@ use std::thread::Threads;
 impl Table {
     /// Handles up to 256 datagrams, as many calls at a time as there are workers: each arrival has the pad and the
     /// end that it would have if they came one at a time, in order, or in any other order that keeps each call's own.
-    /// Where there are several each call is a lane, by rising slot. It doesn't allocate.
+    /// Where there are several each call is a lane, by rising slot; of lanes and workers no clause tells. It doesn't
+    /// allocate.
     pub fn batch<R: Threads + Sync, G: Gate + Sync>(
         &mut self,
         rt: &R,

@@ -11,7 +11,7 @@ ghost use Rattle.sg_table.specs.Telling.{IsAnswered, IsTimely};
 use crate::outcomes::Outcomes;
 use sg_base::{Identity, NoMemory, Noise304};
 use sg_call::Call;
-use sg_leg::{Books, Way};
+use sg_leg::{Books, ManualMedium, Way};
 use sg_lines::Signal;
 use std::alloc::Global;
 use std::marker::Model;
@@ -93,9 +93,17 @@ impl Calls {
                 window,
                 from_peer,
                 to_peer,
-            } => self.manual(
-                alloc, *call, *secure, *plain, *roc, *window, from_peer, to_peer, told,
-            ),
+            } => {
+                let medium = ManualMedium {
+                    secure: *secure,
+                    plain: *plain,
+                    roc: *roc,
+                    window: *window,
+                    from_peer,
+                    to_peer,
+                };
+                self.manual(alloc, *call, &medium, told)
+            }
             Signal::OfferSecure { call, noise, text } => self.offer(
                 alloc,
                 *call,

@@ -17,7 +17,7 @@ pub fn only_its_own_call_counts()
 }
 
 /// In every world of a run each arrival tells the same, and the world after them is the same, in every order that
-/// keeps each call's own.
+/// keeps each call's own; those at no call's port may stand in any.
 pub fn every_order_gives_the_same()
     ensures { (events : List Event) → SameInEveryOrder (world_after empty events) }
 {

@@ -1,6 +1,6 @@
 //! Signals that make and key calls. Memory is taken before anything changes.
 
-ghost use Rattle.std.specs.Prelude.{◌≡◌, None, Some, [], ◌∷◌, ◌<◌, ◌≤◌, ℕ, List, IfOk, OnOk, OnErr, position, insert, length};
+ghost use Rattle.std.specs.Prelude.{◌≡◌, None, Some, [], ◌∷◌, ◌<◌, ℕ, List, IfOk, OnOk, OnErr, position, insert, length};
 ghost use Rattle.sg_table.specs.Found.{has_id};
 ghost use Rattle.sg_agreement.specs.Sides.{other_side};
 ghost use Rattle.sg_call.specs.Standing.{CallStandsFor};
@@ -18,10 +18,10 @@ ghost use Rattle.sg_table.specs.Values.{shapes_of};
 use crate::calls::Calls;
 use crate::outcomes::Outcomes;
 use crate::places::{free_slot, position_of, put_in};
-use sg_base::{Address, CallId, Fault, MasterKey, NoMemory, Refusal, Side};
+use sg_base::{CallId, Fault, NoMemory, Refusal, Side};
 use sg_call::Call;
 use sg_gateway::calls_in_order;
-use sg_leg::{Books, MEDIUM_SIDES, SideSpec, Way};
+use sg_leg::{MEDIUM_SIDES, ManualMedium, SideSpec, Way};
 use sg_outcome::Outcome;
 use std::alloc::Global;
 
@@ -87,17 +87,20 @@ impl Calls {
         &mut self,
         alloc: Global,
         id: CallId,
-        secure: Address,
-        plain: Address,
-        roc: u32,
-        window: u16,
-        from_peer: &MasterKey,
-        to_peer: &MasterKey,
+        given: &ManualMedium,
         told: &mut Outcomes,
     ) -> Result<(), NoMemory>
         requires none { told.old.items ≡ [] }
         ensures told { OnOk result ((w : World) → TableStandsFor self.old w → IsAnswered told.new.items self.new
-            (manual_answer w (record { id = id; secure = secure; plain = plain; roc = roc; window = window; from_peer = from_peer.now; to_peer = to_peer.now }))) }
+            (manual_answer w (record {
+              id = id;
+              secure = given.now.secure;
+              plain = given.now.plain;
+              roc = given.now.roc;
+              window = given.now.window;
+              from_peer = given.now.from_peer.now;
+              to_peer = given.now.to_peer.now;
+            }))) }
         ensures same { OnErr result (self.new ≡ self.old) }
         ensures needs { OnErr result ((w : World) → TableStandsFor self.old w → early_manual w (call_of w id) ≡ None) }
     {
@@ -113,12 +116,12 @@ impl Calls {
         let mut call = new_call(alloc, id, slot)?;
         match call.manual(
             alloc,
-            secure,
-            plain,
-            roc,
-            window,
-            from_peer,
-            to_peer,
+            given.secure,
+            given.plain,
+            given.roc,
+            given.window,
+            given.from_peer,
+            given.to_peer,
             self.moment,
             &mut self.books,
         ) {
@@ -154,33 +157,31 @@ impl Calls {
         ensures same { OnErr result (self.new ≡ self.old) }
         ensures needs { OnErr result ((w : World) → TableStandsFor self.old w → early_offer w (call_of w id) ≡ None) }
     {
-        match position_of(&self.by_slot, id) {
-            Some(i) => offer_at(
-                &mut self.by_slot,
-                i,
-                &mut self.books,
-                self.moment,
-                alloc,
-                id,
-                way,
-                noise,
-                text,
-                told,
-            ),
-            None => match free_slot(&self.by_slot) {
-                Some(slot) => self.offer_in(slot, alloc, id, way, noise, text, told),
-                None => {
-                    refused(id, Refusal::TableFull, told);
-                    Ok(())
-                }
-            },
+        calls_in_order();
+        let Some(i) = position_of(&self.by_slot, id) else {
+            return self.offer_new(alloc, id, way, noise, text, told);
+        };
+        let side = other_side(way.side());
+        match self.by_slot[i].offer(alloc, way, text, noise, self.moment, &mut self.books) {
+            Ok(text) => {
+                told.push(Outcome::Sdp {
+                    call: id,
+                    side,
+                    text,
+                });
+                Ok(())
+            }
+            Err(Fault::Refused(cause)) => {
+                refused(id, cause, told);
+                Ok(())
+            }
+            Err(Fault::NoMemory) => Err(NoMemory),
         }
     }
 
-    /// An offer of a new call, which has this slot.
-    fn offer_in(
+    /// An offer of a new call, in the lowest slot that is free.
+    fn offer_new(
         &mut self,
-        slot: u8,
         alloc: Global,
         id: CallId,
         way: Way,
@@ -189,8 +190,6 @@ impl Calls {
         told: &mut Outcomes,
     ) -> Result<(), NoMemory>
         requires new { position (has_id id) self.old.calls ≡ None }
-        requires room { length self.old.calls < 256 }
-        requires slot { slot ≡ free_shape 0 (shapes_of self.old.calls) }
         requires none { told.old.items ≡ [] }
         ensures told { OnOk result ((w : World) → TableStandsFor self.old w
             → IsAnswered told.new.items self.new (offered_to w id way noise.now text.now (call_of w id))) }
@@ -198,6 +197,10 @@ impl Calls {
         ensures needs { OnErr result ((w : World) → TableStandsFor self.old w → early_offer w (call_of w id) ≡ None) }
     {
         calls_in_order();
+        let Some(slot) = free_slot(&self.by_slot) else {
+            refused(id, Refusal::TableFull, told);
+            return Ok(());
+        };
         let side = other_side(way.side());
         let mut call = Call::make(alloc, id, slot)?;
         match call.offer(alloc, way, text, noise, self.moment, &mut self.books) {
@@ -238,111 +241,30 @@ impl Calls {
         ensures same { OnErr result (self.new ≡ self.old) }
         ensures needs { OnErr result ((w : World) → TableStandsFor self.old w → early_answer (call_of w id) ≡ None) }
     {
-        match position_of(&self.by_slot, id) {
-            Some(i) => answer_at(
-                &mut self.by_slot,
-                i,
-                &mut self.books,
-                self.moment,
-                alloc,
-                id,
-                noise,
-                text,
-                told,
-            ),
-            None => {
-                refused(id, Refusal::CallUnknown, told);
+        calls_in_order();
+        let Some(i) = position_of(&self.by_slot, id) else {
+            refused(id, Refusal::CallUnknown, told);
+            return Ok(());
+        };
+        let Some(side) = self.by_slot[i].side() else {
+            refused(id, Refusal::State, told);
+            return Ok(());
+        };
+        match self.by_slot[i].answer(alloc, text, noise, self.moment, &mut self.books) {
+            Ok(text) => {
+                told.push(Outcome::Sdp {
+                    call: id,
+                    side,
+                    text,
+                });
+                told.push(Outcome::Live { call: id });
                 Ok(())
             }
+            Err(Fault::Refused(cause)) => {
+                refused(id, cause, told);
+                Ok(())
+            }
+            Err(Fault::NoMemory) => Err(NoMemory),
         }
-    }
-}
-
-/// An offer of the call of this id, at its position.
-fn offer_at(
-    calls: &mut [Call],
-    i: usize,
-    books: &mut Books,
-    now: u64,
-    alloc: Global,
-    id: CallId,
-    way: Way,
-    noise: &[u8; 304],
-    text: &[u8],
-    told: &mut Outcomes,
-) -> Result<(), NoMemory>
-    requires found { position (has_id id) calls.old ≡ Some i }
-    requires within { i < length calls.old }
-    requires moment { now ≤ 2085978495999 }
-    requires none { told.old.items ≡ [] }
-    ensures told { OnOk result ((w : World) → TableStandsFor (record { calls = calls.old; books = books.old; moment = now }) w
-        → IsAnswered told.new.items (record { calls = calls.new; books = books.new; moment = now }) (offered_to w id way noise.now text.now (call_of w id))) }
-    ensures same { OnErr result ((calls.new ≡ calls.old) × (books.new ≡ books.old)) }
-    ensures needs { OnErr result ((w : World) → TableStandsFor (record { calls = calls.old; books = books.old; moment = now }) w
-        → early_offer w (call_of w id) ≡ None) }
-    ensures len { length calls.new ≡ length calls.old }
-{
-    calls_in_order();
-    let side = other_side(way.side());
-    match calls[i].offer(alloc, way, text, noise, now, books) {
-        Ok(text) => {
-            told.push(Outcome::Sdp {
-                call: id,
-                side,
-                text,
-            });
-            Ok(())
-        }
-        Err(Fault::Refused(cause)) => {
-            refused(id, cause, told);
-            Ok(())
-        }
-        Err(Fault::NoMemory) => Err(NoMemory),
-    }
-}
-
-/// An answer to the open offer of the call of this id, at its position.
-fn answer_at(
-    calls: &mut [Call],
-    i: usize,
-    books: &mut Books,
-    now: u64,
-    alloc: Global,
-    id: CallId,
-    noise: &[u8; 304],
-    text: &[u8],
-    told: &mut Outcomes,
-) -> Result<(), NoMemory>
-    requires found { position (has_id id) calls.old ≡ Some i }
-    requires within { i < length calls.old }
-    requires stands { Stands (record { calls = calls.old; books = books.old; moment = now }) }
-    requires none { told.old.items ≡ [] }
-    ensures told { OnOk result ((w : World) → TableStandsFor (record { calls = calls.old; books = books.old; moment = now }) w
-        → IsAnswered told.new.items (record { calls = calls.new; books = books.new; moment = now }) (answered w id noise.now text.now (call_of w id))) }
-    ensures same { OnErr result ((calls.new ≡ calls.old) × (books.new ≡ books.old)) }
-    ensures needs { OnErr result ((w : World) → TableStandsFor (record { calls = calls.old; books = books.old; moment = now }) w
-        → early_answer (call_of w id) ≡ None) }
-    ensures len { length calls.new ≡ length calls.old }
-{
-    calls_in_order();
-    let Some(side) = calls[i].side() else {
-        refused(id, Refusal::State, told);
-        return Ok(());
-    };
-    match calls[i].answer(alloc, text, noise, now, books) {
-        Ok(text) => {
-            told.push(Outcome::Sdp {
-                call: id,
-                side,
-                text,
-            });
-            told.push(Outcome::Live { call: id });
-            Ok(())
-        }
-        Err(Fault::Refused(cause)) => {
-            refused(id, cause, told);
-            Ok(())
-        }
-        Err(Fault::NoMemory) => Err(NoMemory),
     }
 }

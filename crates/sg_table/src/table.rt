@@ -41,7 +41,7 @@ impl Model for Table {
 }
 
 impl Table {
-    /// A table without calls.
+    /// A table without calls. `NoMemory` where there is none for it.
     pub fn make(alloc: Global) -> Result<Table, NoMemory>
         ensures { IfOk result (λ table. TableStandsFor table empty) }
     {

@@ -46,7 +46,8 @@ impl Model for CaptureReader {
 }
 
 impl CaptureReader {
-    /// At the first octet behind the lines that were read. Of the source the first 2^30 octets count.
+    /// At the first octet behind the lines that were read, which have at most 2^30. Of the source the first 2^30 octets
+    /// count.
     pub fn new(alloc: Global, script: ScriptReader) -> CaptureReader
         requires { script.offset ≤ 2 ^ 30 }
         ensures { result ≡ record { waits = script.waits; part = []; at = 0; most = 2 ^ 30 - script.offset; budget = script.budget } }
@@ -69,7 +70,8 @@ impl CaptureReader {
         waiting.len() >= HEAD && waiting.len() >= record_length(form, waiting)
     }
 
-    /// Reads the header, where nothing was read yet. `Capture` where it has a fault; `Read` where the source fails.
+    /// Reads the header, where nothing was read yet. `Capture` with the header's first fault; `Read` where the source
+    /// fails; `NoMemory` where memory runs out.
     pub fn header<S: Source>(&mut self, source: &mut S) -> Result<Form, Status>
         requires { self.old.at ≡ 0 }
         ensures header { (got : List ℕ) × TookIn (S.left source.old) (S.left source.new) got
@@ -95,8 +97,9 @@ impl CaptureReader {
         }
     }
 
-    /// Reads the next record, whose captured octets `frame` gives; none at the end of the source. `Capture` where it has
-    /// a fault; `Read` where the source fails.
+    /// Reads the next record, whose captured octets `frame` gives; none at the end of the source, or where more were read
+    /// than the octets that count. `Capture` with the record's first fault; `Read` where the source fails; `NoMemory`
+    /// where memory runs out.
     pub fn next<S: Source>(&mut self, source: &mut S, form: Form) -> Result<Option<Record>, Status>
         ensures next { (got : List ℕ) × TookIn (S.left source.old) (S.left source.new) got
             × IsRecordRead form result self.old self.new got (S.left source.new) × (length got + self.new.budget ≡ self.old.budget) }

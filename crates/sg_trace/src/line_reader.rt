@@ -12,8 +12,8 @@ use sg_base::LINE_MOST;
 use sg_edge::Source;
 
 /// Reads the next line, with its line end, into the empty `line`; false at the end of the source. A line
-/// stops at its line end, at the end of the source or of the budget, or above 70,000 octets. Where the source fails, no line
-/// end was read.
+/// stops at its line end, at the end of the source or of the budget, or above 70,000 octets. `Read` where the source fails:
+/// then no line end was read; `NoMemory` where memory runs out.
 pub fn next_line<S: Source>(
     read_buffer: &mut ReadBuffer,
     source: &mut S,

@@ -9,8 +9,8 @@ use crate::read_buffer::ReadBuffer;
 use crate::status::Status;
 use sg_edge::Source;
 
-/// Reads on until `part` has so many octets, or to the end of the source or of the budget. Where the source fails, all that
-/// came is in `part`, and those are fewer.
+/// Reads on until `part` has so many octets, or to the end of the source or of the budget. `Read` where the source fails:
+/// all that came is in `part` then, and those are fewer; `NoMemory` where memory runs out.
 pub fn next_part<S: Source>(
     read_buffer: &mut ReadBuffer,
     source: &mut S,

@@ -40,7 +40,8 @@ pub trait Play<K: Sink, N: Noise> {
     /// Whether it tells each line at once.
     ghost is_prompt: { Bool };
 
-    /// Takes a line. `Noise` where the noise that it lacks can't be drawn, and `Write` where the sink fails.
+    /// Takes a line. `Noise` where the noise that it lacks can't be drawn, `Write` where the sink fails, and `NoMemory` where
+    /// memory runs out.
     fn play(
         &mut self,
         alloc: Global,
@@ -57,7 +58,8 @@ pub trait Play<K: Sink, N: Noise> {
         ensures write { IsCaused Status.Write result (K.faults sink.old) (K.faults sink.new) (K.failed sink.new) }
         ensures noise { IsCaused Status.Noise result (N.faults noise.old) (N.faults noise.new) (N.failed noise.new) };
 
-    /// Tells what waits, and has it passed on. `Write` where the sink fails.
+    /// Tells what waits, and has it passed on. `Write` where the sink fails, and `NoMemory` where memory runs out; neither
+    /// where it tells each line at once.
     fn settle(&mut self, alloc: Global, sink: &mut K) -> Result<(), Status>
         requires { (s : State) × stands self.old s }
         ensures settled { (s : State) → stands self.old s → (out : List ℕ) × Wrote (K.written sink.old) (K.written sink.new) out
@@ -75,7 +77,9 @@ pub trait Play<K: Sink, N: Noise> {
 
 /// Plays the script of the source, line by line, by something for which nothing waits: a script of which no line is the last.
 /// Whatever ends the reading, what waits is told then; where that fails, the status is that fault's. What is told is passed on
-/// before a read that may wait, and at the end.
+/// before a read that may wait, and at the end, of which no clause tells. It ends with `Done` at the source's end; with
+/// `Script` at the first line outside the grammar; with `Read`, `Write` or `Noise` where the source, the sink or the noise
+/// fails; or with `NoMemory`.
 pub fn run_script<K: Sink, N: Noise, P: Play<K, N>, S: Source>(
     alloc: Global,
     player: &mut P,

@@ -65,7 +65,7 @@ impl ReadBuffer {
     }
 
     /// Moves a line's octets from the front to the end of `line`: all up to the first line end, or as many
-    /// as there are. At most `most` are moved. True where a line end was.
+    /// as there are. At most `most` are moved. True where a line end was. Out of memory, nothing is moved.
     pub fn move_line(&mut self, line: &mut Vec<u8>, most: usize) -> Result<bool, NoMemory>
         ensures moved { IfOk result (λ ended. (part : List ℕ) × MovesPart self.old self.new line.old.items line.new.items part × EndsLine ended part self.new most) }
         ensures short { OnOk result (length line.new.items ≤ length line.old.items + most) }
@@ -78,7 +78,8 @@ impl ReadBuffer {
         Ok(ended)
     }
 
-    /// Moves octets from the front to the end of `part`: `most`, or as many as there are.
+    /// Moves octets from the front to the end of `part`: `most`, or as many as there are. Out of memory, none
+    /// are moved.
     pub fn move_part(&mut self, part: &mut Vec<u8>, most: usize) -> Result<(), NoMemory>
         ensures moved { OnOk result ((moved : List ℕ) × MovesPart self.old self.new part.old.items part.new.items moved × HasMoved moved self.new most) }
         ensures err { OnErr result ((self.new ≡ self.old) × (part.new.items ≡ part.old.items)) }
@@ -91,7 +92,7 @@ impl ReadBuffer {
     }
 
     /// Where nothing waits, reads the next octets, within the budget; none at the end of the source, or where
-    /// the budget is spent.
+    /// the budget is spent. Where the source fails, nothing waits.
     pub fn fill<S: Source>(&mut self, source: &mut S, budget: &mut u64) -> Result<(), Failed>
         ensures got { (got : List ℕ) × TookIn (S.left source.old) (S.left source.new) got × (self.new ≡ self.old ++ got) × (length got + budget.new ≡ budget.old) }
         ensures ended { OnOk result (self.new ≡ [] → AtEnd (S.left source.new) ⊎ (budget.new ≡ 0)) }

@@ -68,8 +68,9 @@ impl ScriptReader {
         self.read_buffer.holds_line()
     }
 
-    /// Reads the next line; none at the end of the source. `Script` where the line is outside the grammar,
-    /// or holds an octet past the first 2^30 of the script; `Read` where the source fails.
+    /// Reads the next line; none at the end of the source, or behind more than 2^30 octets of the script.
+    /// `Script` where the line is outside the grammar, or holds an octet past the first 2^30 of the script;
+    /// `Read` where the source fails; `NoMemory` where memory runs out.
     pub fn next<L: ScriptLine, S: Source>(
         &mut self,
         alloc: Global,

@@ -183,7 +183,8 @@ fn refused(kind: ErrorKind) -> CommandFault
     }
 }
 
-/// The command that the words after the program's name are, or `Usage` exactly where they are none.
+/// The command that the words after the program's name are, or `Usage` where they are none; or `NoMemory`, whatever they are,
+/// where there is no memory to read them.
 ///
 /// `replay [--workers W] [--mux]`, `relay --turns T [--mux | --bridge]`, `demo CALLS START [--workers W]`, `migrate`, `capture` and
 /// `bridge`. An option stands in front of the numbers, between or behind them, once at most, as `--workers 4` or

@@ -23,14 +23,14 @@ use Rattle.sg_table.proofs.calls.Calls.manual.Goals as goal
 
 pub returns-then-is_some-clause-told : goal.returns-then-is_some-clause-told
 returns-then-is_some-clause-told c = λ w s.
-    let h : ManualCall = record { id = c.args.id; secure = c.args.secure; plain = c.args.plain; roc = c.args.roc; window = c.args.window; from_peer = c.args.from_peer.now; to_peer = c.args.to_peer.now } in
+    let h : ManualCall = record { id = c.args.id; secure = c.args.given.now.secure; plain = c.args.given.now.plain; roc = c.args.given.now.roc; window = c.args.given.now.window; from_peer = c.args.given.now.from_peer.now; to_peer = c.args.given.now.to_peer.now } in
     let at : c.deref.result.now ≡ c.args.self.now.calls = c.deref.ensures.value ∙ ap (λ (v : TableValue). v.calls) c.self.view_is in
     let e : is_some (position (has_id c.args.id) c.args.self.now.calls) ≡ true = ap (λ l. is_some (position (has_id c.args.id) l)) (sym at) ∙ ap is_some (sym c.position_of.ensures.value) ∙ sym c.is_some.ensures ∙ c.if-is_some.true in
     subst (IsAnswered c.refused.new.told.items c.args.self.now) (sym (manual_known c.args.self.now w s.holds h e)) (refused_holds c.args.self.now w s.holds (Some c.args.id) CallKnown c.refused.new.told.items c.refused.ensures)
 
 pub returns-in_default-clause-told : goal.returns-in_default-clause-told
 returns-in_default-clause-told c = λ w s.
-    let h : ManualCall = record { id = c.args.id; secure = c.args.secure; plain = c.args.plain; roc = c.args.roc; window = c.args.window; from_peer = c.args.from_peer.now; to_peer = c.args.to_peer.now } in
+    let h : ManualCall = record { id = c.args.id; secure = c.args.given.now.secure; plain = c.args.given.now.plain; roc = c.args.given.now.roc; window = c.args.given.now.window; from_peer = c.args.given.now.from_peer.now; to_peer = c.args.given.now.to_peer.now } in
     let at : c.deref.result.now ≡ c.args.self.now.calls = c.deref.ensures.value ∙ ap (λ (v : TableValue). v.calls) c.self.view_is in
     let at2 : c.deref-2.result.now ≡ c.args.self.now.calls = c.deref-2.ensures.value ∙ ap (λ (v : TableValue). v.calls) c.self.view_is in
     let e : is_some (position (has_id c.args.id) c.args.self.now.calls) ≡ false = ap (λ l. is_some (position (has_id c.args.id) l)) (sym at) ∙ ap is_some (sym c.position_of.ensures.value) ∙ sym c.is_some.ensures ∙ c.if-is_some.false in
@@ -55,7 +55,7 @@ returns-in-Err-NoMemory-clause-needs c = λ w s.
 
 pub returns-in-Ok-clause-told : goal.returns-in-Ok-clause-told
 returns-in-Ok-clause-told c = λ w s.
-    let h : ManualCall = record { id = c.args.id; secure = c.args.secure; plain = c.args.plain; roc = c.args.roc; window = c.args.window; from_peer = c.args.from_peer.now; to_peer = c.args.to_peer.now } in
+    let h : ManualCall = record { id = c.args.id; secure = c.args.given.now.secure; plain = c.args.given.now.plain; roc = c.args.given.now.roc; window = c.args.given.now.window; from_peer = c.args.given.now.from_peer.now; to_peer = c.args.given.now.to_peer.now } in
     let s' : TableStandsFor (the_view c.self.inside) w = subst (λ v. TableStandsFor v w) (sym c.self.view_is) s in
     let order = order_of c.calls_in_order.ensures (the_view c.self.inside) w s' in
     let e : is_some (position (has_id c.args.id) c.self.inside.by_slot.items) ≡ false = ap (λ l. is_some (position (has_id c.args.id) l)) (sym c.deref.ensures.value) ∙ ap is_some (sym c.position_of.ensures.value) ∙ sym c.is_some.ensures ∙ c.if-is_some.false in
@@ -69,7 +69,7 @@ returns-in-Ok-clause-told c = λ w s.
 pub returns-in-Err-Refused-clause-told : goal.returns-in-Err-Refused-clause-told
 returns-in-Err-Refused-clause-told c = λ w s.
     let tells : c.refused-in-Err-Refused.new.told.items ≡ Refused (Some c.args.id) c.in-Err-Refused.cause ∷ [] = c.refused-in-Err-Refused.ensures in
-    let h : ManualCall = record { id = c.args.id; secure = c.args.secure; plain = c.args.plain; roc = c.args.roc; window = c.args.window; from_peer = c.args.from_peer.now; to_peer = c.args.to_peer.now } in
+    let h : ManualCall = record { id = c.args.id; secure = c.args.given.now.secure; plain = c.args.given.now.plain; roc = c.args.given.now.roc; window = c.args.given.now.window; from_peer = c.args.given.now.from_peer.now; to_peer = c.args.given.now.to_peer.now } in
     let s' : TableStandsFor (the_view c.self.inside) w = subst (λ v. TableStandsFor v w) (sym c.self.view_is) s in
     let order = order_of c.calls_in_order.ensures (the_view c.self.inside) w s' in
     let e : is_some (position (has_id c.args.id) c.self.inside.by_slot.items) ≡ false = ap (λ l. is_some (position (has_id c.args.id) l)) (sym c.deref.ensures.value) ∙ ap is_some (sym c.position_of.ensures.value) ∙ sym c.is_some.ensures ∙ c.if-is_some.false in
