@@ -15,8 +15,9 @@ rows: ## interop/rows and examples, written anew
 	  $(PYTHON) interop/demonstration.py $${of%%-*} $${of#*-} > $$file || exit; done
 hostile: ## the program that is built, used badly
 	.ci/refused-memory && .ci/hostile && .ci/hostile-relay
-corpus: ## captures, short scripts and the borders of 2^30 octets, by the program that is built: once a release, an hour of one processor at the most
+corpus: ## captures, short scripts, the borders of 2^30 octets and the deepest stack, by the program that is built: once a release, an hour of one processor at the most
 	$(PYTHON) interop/corpus.py crates/srtpgw/out/srtpgw
+	$(PYTHON) interop/deepest.py crates/srtpgw/out/srtpgw || [ $$? -eq 77 ]
 	$(PYTHON) interop/captured_live.py crates/srtpgw/out/srtpgw || [ $$? -eq 77 ]
 strength: ## the wrong bodies that the gate doesn't try, of all crates or of CRATE=..
 	scripts/strength $(CRATE)

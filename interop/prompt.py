@@ -1,10 +1,13 @@
 #!/usr/bin/env python3
 """prompt.py PROGRAM: what a line or a record tells is written before the next is waited for, by each command that plays a script
-and by a relay; and where many lines come at once to one that isn't a relay there are no more writes than reads."""
+and by a relay; and where many lines come at once to one that isn't a relay there are no more writes than reads. Input that
+has nothing and output that has no room are asked again once a millisecond, where they don't block."""
+import fcntl
 import os
 import select
 import subprocess
 import sys
+import termios
 import time
 
 from loopback import has_own_loopback
@@ -80,8 +83,15 @@ def records(program):
     return ([] if said == wanted else [f"a record is answered {said!r}"]) + ([] if process.wait(PATIENCE) == 0 else ["it failed"])
 
 
-def counts(program, command):
+def asked(process):
     """How many reads and writes a process has asked the system for."""
+    with open(f"/proc/{process.pid}/io") as it:
+        seen = dict(line.split(": ") for line in it.read().splitlines())
+    return int(seen["syscr"]), int(seen["syscw"])
+
+
+def counts(program, command):
+    """Of lines that come at once all is written, by no more writes than there are reads."""
     process = begin(program, command)
     lines = "srtpgw 2\n" + "".join(f"in {k} 20000 203.0.113.9:40000 8000\n" for k in range(20000)) + "tick 20000\n"
     wanted = 20000 * len("drop 20000 PortUnused\n")
@@ -92,12 +102,40 @@ def counts(program, command):
         os._exit(0)
     size = len(read_until(process, wanted))
     os.waitpid(writer, 0)
-    with open(f"/proc/{process.pid}/io") as it:
-        seen = dict(line.split(": ") for line in it.read().splitlines())
+    reads, writes = asked(process)
     process.stdin.close()
     process.wait(PATIENCE)
     bad = [] if size == wanted else [f"{size} octets are written of {wanted}"]
-    return bad + ([] if int(seen["syscw"]) <= int(seen["syscr"]) else [f"{seen['syscw']} writes and {seen['syscr']} reads"])
+    return bad + ([] if writes <= reads else [f"{writes} writes and {reads} reads"])
+
+
+def held(pipe):
+    """The octets of it that nobody has read."""
+    return int.from_bytes(fcntl.ioctl(pipe, termios.FIONREAD, bytes(4)), sys.byteorder)
+
+
+def waits(program, command):
+    """Input that has nothing at first, then output that has no room, and neither blocks: all is written in the end, and no call
+    was made again before a millisecond was over."""
+    (source, to), (back, sink) = os.pipe(), os.pipe()
+    os.set_blocking(source, False)
+    os.set_blocking(sink, False)
+    fcntl.fcntl(sink, fcntl.F_SETPIPE_SZ, 4096)
+    begun, count = time.monotonic(), 600
+    with subprocess.Popen([program, *command.split()], stdin=source, stdout=sink) as process, open(to, "wb") as lines, open(back, "rb") as told:
+        os.close(source)
+        os.close(sink)
+        time.sleep(0.1)
+        lines.write(b"srtpgw 1\n" + count * b"bye 1\n")
+        lines.flush()
+        while time.monotonic() < begun + PATIENCE and held(told) < 4070:
+            time.sleep(0.01)
+        time.sleep(0.1)
+        calls, millis = sum(asked(process)), 1000 * (time.monotonic() - begun)
+        lines.close()
+        said = told.read()
+    bad = [] if said == count * b"refused 1 CallUnknown\n" else [f"{len(said)} octets are written late"]
+    return bad + ([] if calls < millis + 500 else [f"{calls} reads and writes in {millis:.0f} milliseconds, in which it waits"])
 
 
 def main():
@@ -109,6 +147,8 @@ def main():
     bad += [f"capture: {it}" for it in records(program)]
     for command in ("replay", "capture", "bridge"):
         bad += [f"{command}: {it}" for it in counts(program, command)]
+    for command in ("replay", "relay --turns 1"):
+        bad += [f"{command}: {it}" for it in waits(program, command)]
     print("\n".join(f"prompt: {it}" for it in bad) or "prompt: each line is answered before the next, by no more writes than reads")
     return 1 if bad else 0
 

@@ -6,10 +6,11 @@
  *   REFUSE_COUNT=F  the file keeps their number so far, in eight octets, as the machine has them
  *   REFUSE_CALL=C   the calls that are counted in place of allocations: read (of standard input), write (of standard
  *                   output), socket, bind, ioctl, epoll_create1, epoll_ctl, epoll_wait, recvfrom, sendto, clock_gettime
- *                   (of the time of day), getentropy
+ *                   (of the time of day), 1969 (the same, which doesn't fail but tells a moment of then), getentropy, nanosleep
  *   REFUSE_ERROR=E  the number of the error by which such a call fails: EIO where nothing is said
  *
- * Octets that are drawn are the same in each run.
+ * Octets that are drawn are the same in each run. Where calls of nanosleep are counted, the monotonic clock goes on by them and
+ * by its own readings alone, and one of a millisecond, or behind another with no epoll_wait between, ends the program.
  */
 #define _GNU_SOURCE
 #include <errno.h>
@@ -136,11 +137,37 @@ ssize_t sendto(int file, const void *part, size_t size, int flags, const struct 
     return fails("sendto") ? -1 : syscall(SYS_sendto, file, part, size, flags, to, length);
 }
 
+static atomic_long passed;
+static atomic_int has_slept;
+
+static int counts_sleeps(void) { return is_set && refused_call && strcmp(refused_call, "nanosleep") == 0; }
+
+int nanosleep(const struct timespec *asked, struct timespec *left) {
+    if (!counts_sleeps()) {
+        return syscall(SYS_nanosleep, asked, left);
+    }
+    if (atomic_exchange(&has_slept, 1) || asked->tv_sec || asked->tv_nsec >= 1000000) {
+        abort();
+    }
+    atomic_fetch_add(&passed, asked->tv_nsec);
+    return fails("nanosleep") ? -1 : 0;
+}
+
 int epoll_wait(int file, struct epoll_event *events, int most, int millis) {
+    atomic_store(&has_slept, 0);
     return fails("epoll_wait") ? -1 : syscall(SYS_epoll_wait, file, events, most, millis);
 }
 
 int clock_gettime(clockid_t clock, struct timespec *time) {
+    if (clock == CLOCK_REALTIME && fails("1969")) {
+        *time = (struct timespec){-1, 0};
+        return 0;
+    }
+    if (clock == CLOCK_MONOTONIC && counts_sleeps()) {
+        long nanos = atomic_fetch_add(&passed, 50000);
+        *time = (struct timespec){nanos / 1000000000, nanos % 1000000000};
+        return 0;
+    }
     return clock == CLOCK_REALTIME && fails("clock_gettime") ? -1 : syscall(SYS_clock_gettime, clock, time);
 }
 

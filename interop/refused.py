@@ -10,8 +10,9 @@ beside it; its output must be the file beside it. Then, with the Nth allocation 
 own ports and a demonstration are played, too; what a relay's sockets can't have is `link failed` (5). `refuse.c` refuses.
 
 Of each command, every read, write, bind, receive, wait, reading of the clock and draw fails in turn, too: the run must end
-with that call's status and a prefix of the output. A send that fails is told as `unsent`. A call that was interrupted, or
-would have had to wait, is made again: the output is the whole."""
+with that call's status and a prefix of the output; so must one whose clock tells a moment before 1970. A send that fails
+is told as `unsent`. A call that was interrupted, or would have had to wait, is made again: the output is the whole. A relay
+to which datagrams come fast rests, but for no millisecond, and once before a wait."""
 
 import errno
 import os
@@ -50,7 +51,7 @@ SCRIPTS = [
 OF_LINKS = "socket", "bind", "ioctl", "epoll_create1", "epoll_ctl", "epoll_wait", "recvfrom"
 STATUSES = {
     "read": (3, b"read failed"), "write": (4, b"write failed"), **dict.fromkeys(OF_LINKS, (5, b"link failed")),
-    "clock_gettime": (7, b"clock failed"), "getentropy": (8, b"noise failed"),
+    **dict.fromkeys(("clock_gettime", "1969"), (7, b"clock failed")), "getentropy": (8, b"noise failed"),
 }
 PASSING = [
     ("read", errno.EINTR), ("read", errno.EAGAIN), ("write", errno.EINTR), ("write", errno.EAGAIN), ("sendto", errno.EINTR),
@@ -82,16 +83,27 @@ def of_a_joined_relay():
     return ["relay", "--turns", "100", "--bridge"], "".join(line + "\n" for line in lines).encode(), None
 
 
-def of_a_relay(*more):
-    """A relay that talks to itself: what the first call puts out comes to the second one's plain port, and what that one
-    seals comes to the first one's secure port, where its tag doesn't fit. And an offer whose noise is drawn."""
+def to_itself(*lines):
+    """These lines behind the calls of a relay that talks to itself: what the first call puts out comes to the second one's
+    plain port, and what that one seals comes to the first one's secure port, where its tag doesn't fit."""
     calls = [("40000", "20018", KEY, ONES), ("20000", "41010", TWOS, THREES)]
-    lines = ["srtpgw 1"] + [
+    made = [
         f"manual {call} 127.0.0.1:{secure} 127.0.0.1:{plain} 00000000 64 {opening.field()} {sealing.field()}"
         for call, (secure, plain, opening, sealing) in enumerate(calls, 1)
     ]
-    lines += [f"in 20000 127.0.0.1:40000 {KNOWN_SEALED.hex()}", *6 * ["tick 0"], f"offer-plain 7 sdes - {hexed(BOB_ANSWERS)}", "bye 1"]
-    return ["relay", "--turns", "100", *more], "".join(line + "\n" for line in lines).encode(), None
+    return "".join(line + "\n" for line in ["srtpgw 1", *made, *lines]).encode()
+
+
+def of_a_relay(*more):
+    """Such a relay, and an offer whose noise is drawn."""
+    lines = [f"in 20000 127.0.0.1:40000 {KNOWN_SEALED.hex()}", *6 * ["tick 0"], f"offer-plain 7 sdes - {hexed(BOB_ANSWERS)}", "bye 1"]
+    return ["relay", "--turns", "100", *more], to_itself(*lines), None
+
+
+def of_a_loaded_relay():
+    """Such a relay to which packets come, one by one, as fast as it takes them."""
+    packets = [KEY.srtp(rtp(seq), seq).hex() for seq in range(1, 101)]
+    return ["relay", "--turns", "200"], to_itself(*(f"in 20000 127.0.0.1:40000 {each}\ntick 0\ntick 0" for each in packets)), None
 
 
 class Refusing:
@@ -170,6 +182,10 @@ class Refusing:
                 self.fails(f"sendto {number} failed: {status} {said!r} {lines}")
         return count
 
+    def rests(self):
+        """How often it rested; a rest of more than a millisecond, or a second one before a wait, would have ended it."""
+        return self.counts("nanosleep") or self.fails("it never rested")
+
 
 # The runs in which calls of the system fail, by a row or an example: each command.
 OF_CALLS = (
@@ -197,6 +213,8 @@ def main():
             run = Refusing(program, shim, room, *of)
             failed, passed, unsent = run.calls(), run.passes(), run.unsent()
             print(f"{name}: {failed} runs ended by a call that failed, {passed} made one again, {unsent} told a packet as unsent", flush=True)
+        if not names:
+            print(f"a loaded relay: {Refusing(program, shim, room, *of_a_loaded_relay()).rests()} rests", flush=True)
 
 
 if __name__ == "__main__":

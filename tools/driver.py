@@ -261,7 +261,7 @@ class Driver:
         if gateway.files is not None and gateway.files < FILES_MOST:
             self._warn(f"the gateway may open {gateway.files} files, and a full table needs {FILES_MOST}")
         if gateway.never_waits():
-            self._warn("the gateway's standard input never waits (O_NONBLOCK), so it takes a processor that nobody else wants")
+            self._warn("the gateway's standard input never waits (O_NONBLOCK), so it asks again each millisecond: give it a pipe")
         for line in self.shared:
             gateway.tell(*line)
         return gateway

@@ -357,7 +357,7 @@ class Gateway:
         return kept_by_host(_text("/proc/stat"))
 
     def never_waits(self):
-        """Whether its standard input was opened so that a read never waits: it would read on all the time."""
+        """Whether its standard input was opened so that a read never waits: it would ask again each millisecond."""
         try:
             flags = Path(f"/proc/{self.pid}/fdinfo/0").read_text().split("flags:")[1].split()[0]
         except (OSError, IndexError):

@@ -1,6 +1,6 @@
 -- A medium is agreed exactly where it is active in the offer and in the answer.
 use Rattle.std.proofs.Common.{◌≡◌, ℕ, zero, suc, ◌+◌, ◌*◌, Bool, true, false, cond, not, ◌&&◌, eqb, List, [], ◌∷◌, length, map, Option, Some, None, is_some, Result, Ok, refl, sym, ap, ◌∙◌, subst, arith}
-use Rattle.std.proofs.lemmas.Bool.{and_parts, eqb-true}
+use Rattle.std.proofs.lemmas.Bool.{and_parts, eqb-true, not-false}
 use Rattle.std.specs.List.{AllByRecursion, filter, list_any}
 use Rattle.std.specs.Option.{option_map}
 use Rattle.sg_base.specs.declared.addresses.Side.{Side}
@@ -26,13 +26,12 @@ use Rattle.sg_sdp.specs.declared.medium.Medium as descriptions
 use Rattle.sg_sdp.specs.declared.sdp.Sdp.{Sdp}
 use Rattle.sg_session.proofs.Inversions.{after_ok_is, stop_if_is, ok_is}
 use Rattle.sg_session.specs.Stages.{after_ok}
-use Rattle.sg_agreement.proofs.FewMedia.{described_is, described_count}
+use Rattle.sg_agreement.proofs.FewMedia.{described_is, described_count, of_answer, of_offer}
 use Rattle.sg_base.proofs.Cases.{and_then_some, map_some, some_is}
 use Rattle.sg_agreement.proofs.KeyedSound.{Sometimes, each_active_is}
 use Rattle.sg_agreement.proofs.MessagesSound.{psk_is, cs_is}
-use Rattle.sg_agreement.specs.Answers.{Answered, answered_by, AgreedAnswer, accepted_answer, agreed_answer}
+use Rattle.sg_agreement.specs.Answers.{Answered, answered_by, AgreedAnswer, agreed_answer}
 use Rattle.sg_agreement.specs.Attributes.{has_message, mikey_value, ssrcs_of}
-use Rattle.sg_agreement.specs.Described.{described}
 use Rattle.sg_agreement.specs.EachMedium.{if_active, each_active, if_kept, each_kept}
 use Rattle.sg_agreement.specs.Keyed.{Keyed, medium_agreed, media_agreed}
 use Rattle.sg_agreement.specs.Keying.{Keying, PeerLines, OwnLines, PeerMessage, PeerMessages, OwnMessage, Offer}
@@ -53,10 +52,6 @@ there xs = map is_some xs
 
 -- ---- as many crypto sessions as media
 
-not_false : (b : Bool) → not b ≡ false → b ≡ true
-not_false true e = refl
-not_false false e = absurd cc
-
 module _ (csb : ℕ) (random : List ℕ) (policies : List Policy) (tgks : List Tgk) where
   pairs_long : (session count : ℕ) (map : List CsEntry) (ps : List (StreamKeys × StreamKeys)) → length map ≡ 2 * count → pairs_from csb random policies tgks session map ≡ Some ps → length ps ≡ count
   unfolding pairs_from
@@ -76,7 +71,7 @@ module _ (csb : ℕ) (random : List ℕ) (policies : List Policy) (tgks : List T
   streams_long entries count ps e =
       let a = stop_if_is (not (eqb (length entries) (2 * count))) CsCount _ ps e in
       let b = stop_if_is (list_any (lacks_policy policies) entries) PolicyMissing _ ps a.1 in
-      let long = eqb-true (length entries) (2 * count) (not_false _ a.0) in
+      let long = eqb-true (length entries) (2 * count) (not-false _ a.0) in
       (long, pairs_long 1 count entries ps long (is_there (pairs_from csb random policies tgks 1 entries) ps b.1))
 
 -- ---- what an offer keeps
@@ -166,18 +161,10 @@ abbrev pub IsWholeOffer : AgreedOffer → Type 0
 IsWholeOffer a = IsWhole a.offer.side a.offer.description.media a.offer.keying
 
 pub offer_is : (h : AtHand) (way : Way) (text : List ℕ) (a : AgreedOffer) → agreed_offer h way text ≡ Ok a → (a.offer.side ≡ side_of way) × (description_of text ≡ Ok a.offer.description)
-unfolding agreed_offer
-offer_is h way text a e =
-    let p = after_ok_is (described (side_of way) h.media text) _ a e in
-    let q = after_ok_is (keying_of h p.0 way) _ a p.2 in
-    subst (IsOfText way text) (ok_is _ a q.2) (refl, described_is (side_of way) h.media text p.0 p.1)
+offer_is h way text a e = of_offer (IsOfText way text) h way text a e (λ s k was is. (refl, described_is (side_of way) h.media text s was))
 
 pub offer_whole : (h : AtHand) (way : Way) (text : List ℕ) (a : AgreedOffer) → agreed_offer h way text ≡ Ok a → IsWholeOffer a
-unfolding agreed_offer
-offer_whole h way text a e =
-    let p = after_ok_is (described (side_of way) h.media text) _ a e in
-    let q = after_ok_is (keying_of h p.0 way) _ a p.2 in
-    subst IsWholeOffer (ok_is _ a q.2) (keying_whole h p.0 way q.0 q.1)
+offer_whole h way text a e = of_offer IsWholeOffer h way text a e (λ s k was is. keying_whole h s way k is)
 
 -- ---- what an answer keeps of it
 
@@ -210,7 +197,7 @@ response_long octets m s entries e =
     let a = stop_if_is (not (eqb (closing_in m.payloads).mac 1)) Algorithm _ entries e in
     let b = stop_if_is (not (response_fits octets m s)) BadMac _ entries a.1 in
     let c = stop_if_is (not (eqb m.csb s.csb && eqb (length m.map) (length s.map))) OtherSession (Ok m.map) entries b.1 in
-    let d = and_parts (eqb m.csb s.csb) (eqb (length m.map) (length s.map)) (not_false _ c.0) in
+    let d = and_parts (eqb m.csb s.csb) (eqb (length m.map) (length s.map)) (not-false _ c.0) in
     ap length (sym (ok_is m.map entries c.1)) ∙ eqb-true (length m.map) (length s.map) d.1
 
 responded_long : (ss : List (StreamKeys × StreamKeys)) (entries : List CsEntry) → length entries ≡ 2 * length ss → length (responded ss entries) ≡ length ss
@@ -293,17 +280,12 @@ IsAgreedOf o text g = (s : Sdp) × (description_of text ≡ Ok s) × AreAgreedWh
 
 pub all_agreed : (h : AtHand) (way : Way) (offered noise text : List ℕ) (slot : ℕ) (a : AgreedOffer) (g : AgreedAnswer) → agreed_offer h way offered ≡ Ok a → agreed_answer slot a.offer noise text ≡ Ok g
     → (s : Sdp) × (description_of text ≡ Ok s) × AreAgreedWhereActive a.offer.side a.offer.description.media s.media g.media
-unfolding agreed_answer
 all_agreed h way offered noise text slot a g made e =
     let o : Offer = a.offer in
     let count : ℕ = length o.description.media in
-    let p = after_ok_is (described (other_side o.side) (Some count) text) _ g e in
-    let active : List Bool = actives_after o.side o.description.media p.0.media in
-    let q = after_ok_is (answered_by o noise p.0 active o.keying) _ g p.2 in
-    let keyed = answered_all o noise p.0 o.keying q.0 (offer_whole h way offered a made) q.1 in
-    let are = media_there o.side o.description.media p.0.media q.0.media keyed in
-    subst (IsAgreedOf o text) (ok_is (accepted_answer slot o p.0 active q.0) g q.2) (
-      p.0,
-      described_is (other_side o.side) (Some count) text p.0 p.1,
-      where_active o.side o.description.media p.0.media _ (described_count (other_side o.side) count text p.0 p.1) are,
-    )
+    of_answer (IsAgreedOf o text) slot o noise text g e (λ s b was is. (
+      s,
+      described_is (other_side o.side) (Some count) text s was,
+      where_active o.side o.description.media s.media _ (described_count (other_side o.side) count text s was)
+          (media_there o.side o.description.media s.media b.media (answered_all o noise s o.keying b (offer_whole h way offered a made) is)),
+    ))

@@ -13,18 +13,18 @@ use Rattle.sg_sdp.specs.declared.medium.Medium as descriptions
 use Rattle.sg_sdp.specs.declared.sdp.Sdp.{Sdp}
 use Rattle.sg_session.proofs.Inversions.{after_ok_is, ok_is}
 use Rattle.sg_session.specs.Stages.{after_ok}
+use Rattle.sg_agreement.proofs.FewMedia.{of_offer}
 use Rattle.sg_agreement.proofs.LinesSound.{Valid, IsSoundLine, chosen_line, offered_lines}
 use Rattle.sg_agreement.proofs.MessageKeys.{AreSoundTgks}
 use Rattle.sg_agreement.proofs.MessageOctets.{Found}
 use Rattle.sg_agreement.proofs.MessagesSound.{IsSoundBundle, bundle_sound, psk_is, sent_sound}
 use Rattle.sg_agreement.specs.Attributes.{crypto_values, has_message, mikey_value, ssrcs_of}
-use Rattle.sg_agreement.specs.Described.{described}
 use Rattle.sg_agreement.specs.EachMedium.{if_active, each_active}
 use Rattle.sg_agreement.specs.Keying.{Keying, PeerLines, OwnLines, PeerMessage, PeerMessages, OwnMessage}
 use Rattle.sg_agreement.specs.Messages.{AtHand, bundle_in}
 use Rattle.sg_agreement.specs.Offers.{AgreedOffer, chosen_in, noise_of, keying_by_messages, keying_of, agreed_offer}
 use Rattle.sg_agreement.specs.Refusals.{of_sdes, of_psk}
-use Rattle.sg_agreement.specs.Sides.{side_of, is_active, active_count}
+use Rattle.sg_agreement.specs.Sides.{is_active, active_count}
 use Rattle.sg_agreement.specs.declared.ways.Way.{Way}
 use Rattle.sg_agreement.specs.declared.ways.Way.TheVariants.{FromSecure, SdesFromPlain, MikeyFromPlain}
 
@@ -92,8 +92,4 @@ keying_sound valid found h s (MikeyFromPlain peer) k e =
     subst IsSoundKeying (ok_is (OwnMessage a.0) k a.2) (sent_sound h.now h.noise (ssrcs_of Plain s.media) (pair_with h.pairs peer) a.0 (psk_is 255 _ a.0 a.1))
 
 pub offer_sound : Valid → Found → (h : AtHand) (way : Way) (text : List ℕ) (a : AgreedOffer) → agreed_offer h way text ≡ Ok a → IsSoundKeying a.offer.keying
-unfolding agreed_offer
-offer_sound valid found h way text a e =
-    let p = after_ok_is (described (side_of way) h.media text) _ a e in
-    let q = after_ok_is (keying_of h p.0 way) _ a p.2 in
-    subst (λ (a : AgreedOffer). IsSoundKeying a.offer.keying) (ok_is _ a q.2) (keying_sound valid found h p.0 way q.0 q.1)
+offer_sound valid found h way text a e = of_offer (λ a. IsSoundKeying a.offer.keying) h way text a e (λ s k was is. keying_sound valid found h s way k is)

@@ -1,5 +1,4 @@
 pub mod AllAgreed
-mod DistinctMkis
 pub mod FewMedia
 pub mod Inversions
 pub mod KeyedSound
@@ -11,9 +10,7 @@ pub mod MessagesSound
 pub mod OneLines
 pub mod OwnMessages
 pub mod SessionsSound
-mod SideWalks
 pub mod Sound
 pub mod TextLines
 pub mod Texts
-mod TwoSided
 pub mod Walks

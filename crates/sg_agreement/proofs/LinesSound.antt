@@ -1,13 +1,14 @@
 -- The keys of a crypto line that was read, and those of the gateway's own lines, are sound.
-use Rattle.std.proofs.Common.{◌≡◌, ◌≢◌, ◌≤◌, ◌<◌, ◌^◌, ℕ, suc, true, false, List, [], ◌∷◌, length, map, Option, Some, None, Result, Ok, Err, refl, sym, ap, ◌∙◌, subst, arith}
+use Rattle.std.proofs.Common.{◌≡◌, ◌≢◌, ◌≤◌, ◌<◌, ◌^◌, ℕ, true, false, List, [], ◌∷◌, length, map, Option, Some, None, Result, Ok, Err, refl, sym, ap, ◌∙◌, subst, arith}
 use Rattle.std.proofs.lemmas.Bool.{and_parts}
+use Rattle.std.proofs.lemmas.List.{length-map}
 use Rattle.std.specs.Prelude.{IfSome}
 use Rattle.std.specs.List.{AllByRecursion, list_all}
-use Rattle.sg_base.specs.Mkis.{MkiValue, IsMki, mkis_differ}
+use Rattle.sg_base.specs.Mkis.{MkiValue, IsMki}
 use Rattle.sg_base.specs.Suites.{is_raw, tag_len_of}
 use Rattle.sg_base.specs.declared.faults.SdesFault.{SdesFault}
 use Rattle.sg_base.specs.declared.suites.Suite.{Suite}
-use Rattle.sg_base.specs.declared.suites.Suite.TheVariants.{Raw80, Cm128Tag80, Cm128Tag32, Cm192Tag80, Cm192Tag32, Cm256Tag80, Cm256Tag32}
+use Rattle.sg_base.specs.declared.suites.Suite.TheVariants.{Raw80}
 use Rattle.sg_sdes.specs.Answers.{answer_by, chosen_of, offered_by, or_next}
 use Rattle.sg_sdes.specs.CryptoOf.{crypto_of}
 use Rattle.sg_sdes.specs.CryptoText.{IsInlineKey, IsCryptoLine}
@@ -16,7 +17,7 @@ use Rattle.sg_sdes.specs.declared.lines.CryptoLine.{CryptoLine}
 use Rattle.sg_sdes.specs.declared.lines.InlineKey.{InlineKey}
 use Rattle.sg_session.proofs.Lists.{each_map}
 use Rattle.sg_session.specs.Reach.{AreMkis}
-use Rattle.sg_agreement.proofs.DistinctMkis.{Differ, AllDiffer, Fits, mkis_are, differ_by}
+use Rattle.sg_agreement.proofs.MessageKeys.{Differ, AllDiffer, Fits, mkis_are, differ_by}
 use Rattle.sg_agreement.proofs.Inversions.{each_true}
 use Rattle.sg_agreement.specs.Sound.{IsSoundStream}
 use Rattle.sg_agreement.specs.Streams.{octets_of, line_key, stream_of_line}
@@ -30,13 +31,8 @@ tag_low Raw80 = omega arith
 tag_low other = omega arith
 
 not_raw : (s : Suite) → s ≢ Raw80 → is_raw s ≡ false
-not_raw Raw80 other = absurd (other refl)
-not_raw Cm128Tag80 other = refl
-not_raw Cm128Tag32 other = refl
-not_raw Cm192Tag80 other = refl
-not_raw Cm192Tag32 other = refl
-not_raw Cm256Tag80 other = refl
-not_raw Cm256Tag32 other = refl
+not_raw Raw80 differ = absurd (differ refl)
+not_raw other differ = refl
 
 pub record IsSoundLine (l : CryptoLine) : Type 0 where
   pub suite : is_raw l.suite ≡ false
@@ -44,10 +40,6 @@ pub record IsSoundLine (l : CryptoLine) : Type 0 where
   pub secret : AllByRecursion (λ k. is_raw k.master.suite ≡ false) (map line_key l.keys)
   pub some : 1 ≤ length (map line_key l.keys)
   pub few : length (map line_key l.keys) ≤ 8
-
-as_many : {X Y : Type 0} (f : X → Y) (xs : List X) → length (map f xs) ≡ length xs
-as_many f [] = refl
-as_many f (x ∷ xs) = ap suc (as_many f xs)
 
 mkis_of_keys : (ks : List InlineKey) → map octets_of (map (λ k. k.mki) ks) ≡ map (λ k. k.mki) (map line_key ks)
 mkis_of_keys [] = refl
@@ -60,18 +52,12 @@ fits_of suite k (Some m) e is = let p = subst (λ o. IfSome o (λ m. IsMki m.val
 keys_fit : (suite : Suite) (ks : List InlineKey) → AllByRecursion (IsInlineKey suite) ks → AllByRecursion Fits (map (λ k. k.mki) ks)
 keys_fit suite ks p = each_map (IsInlineKey suite) Fits (λ k. k.mki) (λ k is. fits_of suite k k.mki refl is) ks p
 
-mki_differs : (o p : Option MkiValue) → mkis_differ o p ≡ true → Differ o p
-mki_differs (Some a) (Some b) e = differ_by a b e
-mki_differs None None e = absurd cc
-mki_differs None (Some b) e = absurd cc
-mki_differs (Some a) None e = absurd cc
-
 keys_differ : (ks : List InlineKey) → lines.all_differ ks ≡ true → AllDiffer (map (λ k. k.mki) ks)
 unfolding lines.all_differ
 keys_differ [] e = tt
 keys_differ (k ∷ ks) e =
     let p = and_parts (list_all (lines.differs k) ks) (lines.all_differ ks) e in (
-      each_map (λ l. lines.differs k l ≡ true) (Differ k.mki) (λ l. l.mki) (λ l is. mki_differs k.mki l.mki is) ks (each_true (lines.differs k) ks p.0),
+      each_map (λ l. lines.differs k l ≡ true) (Differ k.mki) (λ l. l.mki) (λ l is. differ_by k.mki l.mki is) ks (each_true (lines.differs k) ks p.0),
       keys_differ ks p.1,
     )
 
@@ -82,8 +68,8 @@ line_sound l is = record {
   suite = not_raw l.suite is.suite;
   mkis = subst AreMkis (mkis_of_keys l.keys) (mkis_are (map (λ k. k.mki) l.keys) (keys_fit l.suite l.keys is.keys) (keys_differ l.keys is.mkis));
   secret = each_map (IsInlineKey l.suite) (λ k. is_raw k.master.suite ≡ false) line_key (λ k of. ap is_raw of.suite_is ∙ not_raw l.suite is.suite) l.keys is.keys;
-  some = let at = as_many line_key l.keys in let le = is.some in omega (arith, at, le);
-  few = let at = as_many line_key l.keys in let le = is.few in omega (arith, at, le);
+  some = let at = length-map l.keys line_key in let le = is.some in omega (arith, at, le);
+  few = let at = length-map l.keys line_key in let le = is.few in omega (arith, at, le);
 }
 
 chosen_step : (value : List ℕ) (r s : Result CryptoLine SdesFault) (l : CryptoLine) → Valid → crypto_of value ≡ r → (s ≡ Ok l → IsSoundLine l) → or_next r s ≡ Ok l → IsSoundLine l

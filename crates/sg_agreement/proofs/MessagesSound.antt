@@ -1,5 +1,6 @@
 -- What an accepted message keys is sound.
 use Rattle.std.proofs.Common.{◌≡◌, ℕ, List, length, not, eqb, ltb, Option, Some, None, Result, Ok, Err, refl, ap, subst, arith}
+use Rattle.std.proofs.lemmas.Bool.{eqb-true, not-false}
 use Rattle.std.specs.List.{AllByRecursion}
 use Rattle.sg_base.specs.declared.faults.CsFault.{CsFault}
 use Rattle.sg_base.specs.declared.faults.MikeyFault.TheVariants.{DataType}
@@ -41,16 +42,17 @@ message_is k (Err f) m e = absurd cc
 
 -- ---- reading
 
-abbrev IsRead : List ℕ × Message → Type 0
-IsRead r = AreOctets r.0 × (messages.message_of r.0 ≡ Ok r.1)
+abbrev pub IsRead : ℕ → Option (List ℕ) → List ℕ × Message → Type 0
+IsRead kind value r = (mikey_octets value ≡ Some r.0) × ((messages.message_of r.0 ≡ Ok r.1) × (r.1.kind ≡ kind))
 
-read_is : (medium kind : ℕ) (value : Option (List ℕ)) (r : List ℕ × Message) → message_in medium kind value ≡ Ok r → IsRead r
+pub read_is : (medium kind : ℕ) (value : Option (List ℕ)) (r : List ℕ × Message) → message_in medium kind value ≡ Ok r → IsRead kind value r
 unfolding message_in
 read_is medium kind value r e =
     let a = after_ok_is (or_refusal (KeyMgmt medium) (mikey_octets value)) _ r e in
     let b = after_ok_is (of_message medium (messages.message_of a.0)) _ r a.2 in
     let c = stop_if_is (not (eqb b.0.kind kind)) (Mikey medium 1 DataType) (Ok (a.0, b.0)) r b.2 in
-    subst IsRead (ok_is (a.0, b.0) r c.1) (value_octets value a.0 (or_refusal_is (KeyMgmt medium) (mikey_octets value) a.0 a.1), message_is medium (messages.message_of a.0) b.0 b.1)
+    subst (IsRead kind value) (ok_is (a.0, b.0) r c.1)
+    (or_refusal_is (KeyMgmt medium) (mikey_octets value) a.0 a.1, (message_is medium (messages.message_of a.0) b.0 b.1, eqb-true b.0.kind kind (not-false _ c.0)))
 
 -- ---- the peer's message
 
@@ -99,7 +101,7 @@ bundle_sound found h medium count value b e =
     let q = after_ok_is (of_psk medium (initial_of p.0.0 p.0.1 h.pairs h.noted h.now)) _ b p.2 in
     let a : Accepted = q.0 in
     let r = after_ok_is (of_cs medium (streams_of a.csb a.random a.map a.policies a.tgks count)) _ b q.2 in
-    let tgks = initial_sound found p.0.0 p.0.1 read.0 read.1 h.pairs h.noted h.now a (psk_is medium _ a q.1) in
+    let tgks = initial_sound found p.0.0 p.0.1 (value_octets value p.0.0 read.0) read.1.0 h.pairs h.noted h.now a (psk_is medium _ a q.1) in
     subst IsSoundBundle (ok_is _ b r.2) (streams_sound a.csb a.random a.policies a.tgks tgks a.map count r.0 (cs_is medium _ r.0 r.1))
 
 -- ---- the gateway's message

@@ -1,23 +1,18 @@
 -- What the gateway's own message keys encrypts, and the response to it is authentic.
-use Rattle.std.proofs.Common.{◌≡◌, ℕ, ◌+◌, ◌*◌, Bool, true, false, cond, not, ◌&&◌, eqb, List, [], ◌∷◌, ◌++◌, length, map, Option, Some, None, Result, Ok, Err, refl, sym, ap, ◌∙◌, subst, arith}
+use Rattle.std.proofs.Common.{◌≡◌, ℕ, ◌+◌, ◌*◌, Bool, true, false, cond, not, ◌&&◌, eqb, List, [], ◌∷◌, length, map, Option, Some, None, Ok, refl, sym, ap, ◌∙◌, subst}
 use Rattle.std.proofs.lemmas.Bool.{and_parts, eqb-true, not-false}
-use Rattle.std.specs.List.{AllByRecursion, Any, list_any}
-use Rattle.sg_base.proofs.Cases.{and_then_some, map_some, none_some, some_is}
+use Rattle.std.specs.List.{AllByRecursion}
+use Rattle.sg_base.proofs.Cases.{and_then_some, none_some, some_is}
 use Rattle.sg_base.proofs.SameOctets.{same_octets_is}
 use Rattle.sg_base.specs.Keys.{Master}
 use Rattle.sg_base.specs.Mkis.{MkiValue}
 use Rattle.sg_base.specs.declared.addresses.Side.TheVariants.{Secure, Plain}
-use Rattle.sg_base.specs.declared.faults.CsFault.TheVariants.{CsCount, PolicyMissing}
-use Rattle.sg_base.specs.declared.faults.MikeyFault.TheVariants.{DataType}
 use Rattle.sg_base.specs.declared.faults.PskFault.TheVariants.{Algorithm, BadMac, OtherSession}
-use Rattle.sg_base.specs.declared.faults.Refusal.TheVariants.{KeyMgmt, Mikey}
 use Rattle.sg_base.specs.declared.suites.Suite.TheVariants.{Cm128Tag80}
-use Rattle.sg_csmap.proofs.Loops.{is_there}
-use Rattle.sg_csmap.specs.CryptoSessions.{keys_in, lacks_policy, master_in, pair_in, pairs_from, policy_at, stream_in, stream_keys, streams_of}
+use Rattle.sg_csmap.specs.CryptoSessions.{keys_in, master_in, policy_at, stream_in, stream_keys, streams_of}
 use Rattle.sg_csmap.specs.Policies.{each_once, meaning, protection_of, said_by, value_of}
 use Rattle.sg_csmap.specs.declared.policies.Protection.{Protection}
 use Rattle.sg_csmap.specs.declared.sessions.StreamKeys.{StreamKeys}
-use Rattle.sg_mikey.specs.Reading as messages
 use Rattle.sg_mikey.specs.declared.message.CsEntry.{CsEntry}
 use Rattle.sg_mikey.specs.declared.message.Message.{Message}
 use Rattle.sg_mikey.specs.declared.message.Tgk.{Tgk}
@@ -33,26 +28,26 @@ use Rattle.sg_sdp.specs.declared.medium.Medium as descriptions
 use Rattle.sg_sdp.specs.declared.medium.Profile.{Profile}
 use Rattle.sg_sdp.specs.declared.sdp.Sdp.{Sdp}
 use Rattle.sg_session.proofs.Inversions.{after_ok_is, ok_is, stop_if_is}
-use Rattle.sg_session.proofs.Lists.{any_here, any_there}
-use Rattle.sg_agreement.proofs.FewMedia.{described_is}
-use Rattle.sg_agreement.proofs.Inversions.{or_refusal_is}
+use Rattle.sg_session.proofs.Lists.{any_here}
+use Rattle.sg_agreement.proofs.FewMedia.{described_is, of_answer, of_offer}
 use Rattle.sg_agreement.proofs.KeyedSound.{Sometimes}
-use Rattle.sg_agreement.proofs.MessagesSound.{cs_is, psk_is}
-use Rattle.sg_agreement.proofs.Sound.{each_kept_is}
-use Rattle.sg_agreement.specs.Answers.{Answered, AgreedAnswer, accepted_answer, agreed_answer, answered_by}
-use Rattle.sg_agreement.specs.Attributes.{mikey_octets, mikey_value, ssrcs_of}
+use Rattle.sg_agreement.proofs.MessagesSound.{IsRead, cs_is, psk_is, read_is}
+use Rattle.sg_agreement.proofs.SessionsSound.{IsPairOf, streams_each}
+use Rattle.sg_agreement.proofs.Sound.{each_kept_is, over_sound}
+use Rattle.sg_agreement.proofs.TextLines.{any_behind}
+use Rattle.sg_agreement.specs.Answers.{Answered, AgreedAnswer, accepted_answer, agreed_answer}
+use Rattle.sg_agreement.specs.Attributes.{mikey_value, ssrcs_of}
 use Rattle.sg_agreement.specs.CarriedTexts.{carried_text, exchanged, mikey_attribute, ports_from, with_added}
-use Rattle.sg_agreement.specs.Described.{described}
 use Rattle.sg_agreement.specs.EachMedium.{each_kept}
 use Rattle.sg_agreement.specs.Keyed.{Keyed, media_agreed, medium_agreed}
 use Rattle.sg_agreement.specs.Keying.{OwnMessage, Offer, added_by}
 use Rattle.sg_agreement.specs.Media.{Medium}
-use Rattle.sg_agreement.specs.MessageAnswers.{keyed_as_initiator, next_if, over_active, responded, streams_answered}
+use Rattle.sg_agreement.specs.MessageAnswers.{keyed_as_initiator, over_active, responded, streams_answered}
 use Rattle.sg_agreement.specs.Messages.{AtHand, message_in}
-use Rattle.sg_agreement.specs.Offers.{AgreedOffer, accepted_offer, agreed_offer, keying_of}
+use Rattle.sg_agreement.specs.Offers.{AgreedOffer, accepted_offer, agreed_offer}
 use Rattle.sg_agreement.specs.OwnMessages.{TellsMessage, IsResponseTo, IsInSession, IsByOwnMessage, AreByOwnMessage, AreByMessageOf}
-use Rattle.sg_agreement.specs.Refusals.{of_cs, of_message, of_psk, or_refusal}
-use Rattle.sg_agreement.specs.Sides.{active_count, actives, actives_after, is_active}
+use Rattle.sg_agreement.specs.Refusals.{of_cs, of_psk}
+use Rattle.sg_agreement.specs.Sides.{active_count, actives, actives_after}
 use Rattle.sg_agreement.specs.Streams.{session_key, stream_of_session}
 use Rattle.sg_agreement.specs.declared.ways.Way.TheVariants.{MikeyFromPlain}
 
@@ -87,33 +82,7 @@ module _ (sent : Sent) where
 
   -- the gateway sends in one crypto session and the peer in the next
   abbrev IsOwnPair : StreamKeys × StreamKeys → Type 0
-  IsOwnPair p = (k : ℕ) × IsOwnStream (2 * k + 1) p.0 × IsOwnStream (2 * k + 2) p.1
-
-  pair_own : (k : ℕ) (i r : CsEntry) (p : StreamKeys × StreamKeys) → pair_in sent.csb sent.random (own_policy ∷ []) sent.tgks (2 * k + 1) i r ≡ Some p → IsOwnPair p
-  unfolding pair_in
-  pair_own k i r p e =
-      let a = and_then_some (stream_in sent.csb sent.random (own_policy ∷ []) sent.tgks (2 * k + 1) i) _ p e in
-      let b = and_then_some (stream_in sent.csb sent.random (own_policy ∷ []) sent.tgks (2 * k + 1 + 1) r) _ p a.2 in
-      let next : 2 * k + 1 + 1 ≡ 2 * k + 2 = omega arith in
-      subst IsOwnPair (some_is (a.0, b.0) p b.2) (k, stream_own (2 * k + 1) i a.0 a.1, subst (λ n. IsOwnStream n b.0) next (stream_own (2 * k + 1 + 1) r b.0 b.1))
-
-  pairs_own : (k : ℕ) (map : List CsEntry) (ps : List (StreamKeys × StreamKeys)) → pairs_from sent.csb sent.random (own_policy ∷ []) sent.tgks (2 * k + 1) map ≡ Some ps → AllByRecursion IsOwnPair ps
-  unfolding pairs_from
-  pairs_own k [] ps e = subst (AllByRecursion IsOwnPair) (some_is [] ps e) tt
-  pairs_own k (i ∷ []) ps e = subst (AllByRecursion IsOwnPair) (some_is [] ps e) tt
-  pairs_own k (i ∷ r ∷ map) ps e =
-      let a = and_then_some (pair_in sent.csb sent.random (own_policy ∷ []) sent.tgks (2 * k + 1) i r) _ ps e in
-      let b = map_some (pairs_from sent.csb sent.random (own_policy ∷ []) sent.tgks (2 * k + 1 + 2) map) (λ pairs. a.0 ∷ pairs) ps a.2 in
-      let next : 2 * k + 1 + 2 ≡ 2 * (k + 1) + 1 = omega arith in
-      subst (AllByRecursion IsOwnPair) b.2
-      (pair_own k i r a.0 a.1, pairs_own (k + 1) map b.0 (ap (λ n. pairs_from sent.csb sent.random (own_policy ∷ []) sent.tgks n map) (sym next) ∙ b.1))
-
-  streams_own : (media : ℕ) (ps : List (StreamKeys × StreamKeys)) → streams_of sent.csb sent.random sent.map (own_policy ∷ []) sent.tgks media ≡ Ok ps → AllByRecursion IsOwnPair ps
-  unfolding streams_of
-  streams_own media ps e =
-      let a = stop_if_is (not (eqb (length sent.map) (2 * media))) CsCount _ ps e in
-      let b = stop_if_is (list_any (lacks_policy (own_policy ∷ [])) sent.map) PolicyMissing _ ps a.1 in
-      pairs_own 0 sent.map ps (is_there (pairs_from sent.csb sent.random (own_policy ∷ []) sent.tgks 1 sent.map) ps b.1)
+  IsOwnPair = IsPairOf IsOwnStream
 
   responded_own : (ss : List (StreamKeys × StreamKeys)) (map : List CsEntry) → AllByRecursion IsOwnPair ss → AllByRecursion IsOwnPair (responded ss map)
   responded_own [] map p = tt
@@ -124,23 +93,7 @@ module _ (sent : Sent) where
 
   -- ---- the response
 
-  message_is : (medium : ℕ) (r : Result Message messages.Place) (m : Message) → of_message medium r ≡ Ok m → r ≡ Ok m
-  message_is medium (Ok n) m e = ap Ok (ok_is n m e)
-  message_is medium (Err place) m e = absurd cc
-
-  abbrev Responds : List (List ℕ) → List ℕ × Message → Type 0
-  Responds lines r = (mikey_octets (mikey_value lines) ≡ Some r.0) × ((messages.message_of r.0 ≡ Ok r.1) × (r.1.kind ≡ 1))
-
-  response_read : (lines : List (List ℕ)) (r : List ℕ × Message) → message_in 255 1 (mikey_value lines) ≡ Ok r → Responds lines r
-  unfolding message_in
-  response_read lines r e =
-      let a = after_ok_is (or_refusal (KeyMgmt 255) (mikey_octets (mikey_value lines))) _ r e in
-      let b = after_ok_is (of_message 255 (messages.message_of a.0)) _ r a.2 in
-      let c = stop_if_is (not (eqb b.0.kind 1)) (Mikey 255 1 DataType) (Ok (a.0, b.0)) r b.2 in
-      subst (Responds lines) (ok_is (a.0, b.0) r c.1)
-      (or_refusal_is (KeyMgmt 255) (mikey_octets (mikey_value lines)) a.0 a.1, (message_is 255 (messages.message_of a.0) b.0 b.1, eqb-true b.0.kind 1 (not-false _ c.0)))
-
-  responds : (lines : List (List ℕ)) (r : List ℕ × Message) (map : List CsEntry) → Responds lines r → response_of r.0 r.1 sent ≡ Ok map → IsResponseTo sent lines
+  responds : (lines : List (List ℕ)) (r : List ℕ × Message) (map : List CsEntry) → IsRead 1 (mikey_value lines) r → response_of r.0 r.1 sent ≡ Ok map → IsResponseTo sent lines
   unfolding response_of response_fits mac_of
   responds lines r map read e =
       let a = stop_if_is (not (eqb (closing_in r.1.payloads).mac 1)) Algorithm _ map e in
@@ -164,9 +117,9 @@ module _ (sent : Sent) where
       let a = after_ok_is (message_in 255 1 (mikey_value lines)) _ ss e in
       let b = after_ok_is (of_psk 255 (response_of a.0.0 a.0.1 sent)) _ ss a.2 in
       let c = after_ok_is (of_cs 255 (streams_of sent.csb sent.random sent.map (own_policy ∷ []) sent.tgks count)) _ ss b.2 in (
-        responds lines a.0 b.0 (response_read lines a.0 a.1) (psk_is 255 (response_of a.0.0 a.0.1 sent) b.0 b.1),
+        responds lines a.0 b.0 (read_is 255 1 (mikey_value lines) a.0 a.1) (psk_is 255 (response_of a.0.0 a.0.1 sent) b.0 b.1),
         subst (AllByRecursion IsOwnPair) (ok_is _ ss c.2)
-            (responded_own c.0 b.0 (streams_own count c.0 (cs_is 255 (streams_of sent.csb sent.random sent.map (own_policy ∷ []) sent.tgks count) c.0 c.1))),
+            (responded_own c.0 b.0 (streams_each sent.csb sent.random (own_policy ∷ []) sent.tgks IsOwnStream stream_own sent.map count c.0 (cs_is 255 (streams_of sent.csb sent.random sent.map (own_policy ∷ []) sent.tgks count) c.0 c.1))),
       )
 
   -- ---- what is agreed
@@ -194,16 +147,6 @@ module _ (sent : Sent) where
   abbrev IsOwnKeyed : Keyed → Type 0
   IsOwnKeyed k = (p : StreamKeys × StreamKeys) × IsOwnPair p × (keyed_as_initiator p ≡ k)
 
-  over_own : (ms : List descriptions.Medium) (xs : List (StreamKeys × StreamKeys)) → AllByRecursion IsOwnPair xs → AllByRecursion (Sometimes IsOwnPair) (over_active Plain ms xs)
-  over_own [] xs p = tt
-  over_own (m ∷ ms) xs p = go (λ xs p. over_own ms xs p) (is_active Plain m) xs p
-    where
-      go : ((xs : List (StreamKeys × StreamKeys)) → AllByRecursion IsOwnPair xs → AllByRecursion (Sometimes IsOwnPair) (over_active Plain ms xs)) → (b : Bool) (xs : List (StreamKeys × StreamKeys))
-          → AllByRecursion IsOwnPair xs → AllByRecursion (Sometimes IsOwnPair) (next_if b xs (over_active Plain ms))
-      go rest true (x ∷ xs) p = (p.0, rest xs p.1)
-      go rest true [] p = (tt, rest [] tt)
-      go rest false xs p = (tt, rest xs p)
-
   media_own : (ms ns : List descriptions.Medium) (ks : List (Option Keyed)) → AllByRecursion (Sometimes IsOwnKeyed) ks → AreByOwnMessage sent (media_agreed Plain ms ns ks)
   media_own [] ns ks p = tt
   media_own (m ∷ ms) [] ks p = tt
@@ -217,10 +160,6 @@ module _ (sent : Sent) where
 abbrev IsAnswered : List ℕ → List ℕ → List (Option Medium) → Type 0
 IsAnswered text answer media = (s : Sdp) × (description_of answer ≡ Ok s) × AreByMessageOf text s media
 
-any_behind : {X : Type 0} (P : X → Type 0) (xs ys : List X) → Any P ys → Any P (xs ++ ys)
-any_behind P [] ys a = a
-any_behind P (x ∷ xs) ys a = any_there P x (xs ++ ys) (any_behind P xs ys a)
-
 pub tells_message : (slot : ℕ) (s : Sdp) (sent : Sent) → TellsMessage (accepted_offer slot (record { side = Plain; description = s; keying = OwnMessage sent })).text sent
 unfolding carried_text
 tells_message slot s sent =
@@ -230,37 +169,22 @@ tells_message slot s sent =
 
 by_sent : (text : List ℕ) (s : Sdp) (sent : Sent) (slot : ℕ) (noise answer : List ℕ) (g : AgreedAnswer) → TellsMessage text sent
     → agreed_answer slot (record { side = Plain; description = s; keying = OwnMessage sent }) noise answer ≡ Ok g → IsAnswered text answer g.media
-unfolding agreed_answer
 by_sent text s sent slot noise answer g tells e =
     let o : Offer = record { side = Plain; description = s; keying = OwnMessage sent } in
-    let p = after_ok_is (described Secure (Some (length s.media)) answer) _ g e in
-    let active : List Bool = actives_after Plain s.media p.0.media in
-    let q = after_ok_is (answered_by o noise p.0 active (OwnMessage sent)) _ g p.2 in
-    let r = after_ok_is (streams_answered sent (active_count Plain s.media) (mikey_value p.0.session)) _ q.0 q.1 in
+    of_answer (λ g. IsAnswered text answer g.media) slot o noise answer g e (λ n b was by.
+    let active : List Bool = actives_after Plain s.media n.media in
+    let r = after_ok_is (streams_answered sent (active_count Plain s.media) (mikey_value n.session)) _ b by in
     let over : List (Option (StreamKeys × StreamKeys)) = over_active Plain s.media r.0 in
-    let t = after_ok_is (each_kept (λ k streams n. Ok (keyed_as_initiator streams)) 0 active over p.0.media) _ q.0 r.2 in
-    let own = answered_own sent p.0.session (active_count Plain s.media) r.0 r.1 in
-    let keyed = each_kept_is (IsOwnPair sent) (IsOwnKeyed sent) (λ k streams n. Ok (keyed_as_initiator streams)) (λ k x n y pair v. (x, pair, ok_is (keyed_as_initiator x) y v)) 0 active over p.0.media t.0
-    (over_own sent s.media r.0 own.1) t.1 in
-    let answered : Answered = record { session = []; media = t.0 } in (
-      p.0,
-      described_is Secure (Some (length s.media)) answer p.0 p.1,
-      record {
-        sent = sent;
-        tells = tells;
-        responds = own.0;
-        agreed = subst (λ (g : AgreedAnswer). AreByOwnMessage sent g.media) (ap (accepted_answer slot o p.0 active) (ok_is answered q.0 t.2) ∙ ok_is (accepted_answer slot o p.0 active q.0) g q.2)
-            (media_own sent s.media p.0.media t.0 keyed);
-      },
-    )
+    let t = after_ok_is (each_kept (λ k streams n. Ok (keyed_as_initiator streams)) 0 active over n.media) _ b r.2 in
+    let own = answered_own sent n.session (active_count Plain s.media) r.0 r.1 in
+    let keyed = each_kept_is (IsOwnPair sent) (IsOwnKeyed sent) (λ k streams n. Ok (keyed_as_initiator streams)) (λ k x n y pair v. (x, pair, ok_is (keyed_as_initiator x) y v)) 0 active over n.media t.0
+    (over_sound (IsOwnPair sent) Plain s.media r.0 own.1) t.1 in
+    subst (λ (b : Answered). IsAnswered text answer (accepted_answer slot o n active b).media) (ok_is _ b t.2)
+    (n, described_is Secure (Some (length s.media)) answer n was, record { sent = sent; tells = tells; responds = own.0; agreed = media_own sent s.media n.media t.0 keyed }))
 
 pub by_own_message : (h : AtHand) (peer offered noise answer : List ℕ) (slot : ℕ) (a : AgreedOffer) (g : AgreedAnswer) → agreed_offer h (MikeyFromPlain peer) offered ≡ Ok a
     → agreed_answer slot a.offer noise answer ≡ Ok g → (s : Sdp) × (description_of answer ≡ Ok s) × AreByMessageOf a.text s g.media
-unfolding agreed_offer
-by_own_message h peer offered noise answer slot a g made e =
-    let p = after_ok_is (described Plain h.media offered) _ a made in
-    let q = after_ok_is (keying_of h p.0 (MikeyFromPlain peer)) _ a p.2 in
-    let r = after_ok_is (of_psk 255 (sent_under h.now h.noise (ssrcs_of Plain p.0.media) (pair_with h.pairs peer))) _ q.0 q.1 in
-    let same = ap (λ k. accepted_offer h.slot (record { side = Plain; description = p.0; keying = k })) (ok_is (OwnMessage r.0) q.0 r.2) ∙ ok_is _ a q.2 in
-    subst (λ (a : AgreedOffer). IsAnswered a.text answer g.media) same
-    (by_sent _ p.0 r.0 slot noise answer g (tells_message h.slot p.0 r.0) (ap (λ (a : AgreedOffer). agreed_answer slot a.offer noise answer) same ∙ e))
+by_own_message h peer offered noise answer slot a g made = of_offer (λ a. agreed_answer slot a.offer noise answer ≡ Ok g → IsAnswered a.text answer g.media) h (MikeyFromPlain peer) offered a made (λ s k was is.
+    let r = after_ok_is (of_psk 255 (sent_under h.now h.noise (ssrcs_of Plain s.media) (pair_with h.pairs peer))) _ k is in
+    subst (λ k. let o : Offer = record { side = Plain; description = s; keying = k } in agreed_answer slot o noise answer ≡ Ok g → IsAnswered (accepted_offer h.slot o).text answer g.media)
+    (ok_is (OwnMessage r.0) k r.2) (by_sent _ s r.0 slot noise answer g (tells_message h.slot s r.0)))

@@ -1,5 +1,5 @@
 -- The keys of crypto sessions are sound.
-use Rattle.std.proofs.Common.{◌≡◌, ◌≤◌, ℕ, suc, ◌+◌, ◌*◌, Bool, true, false, cond, not, List, [], ◌∷◌, length, map, Some, Ok, refl, ap, subst, arith, eqb}
+use Rattle.std.proofs.Common.{◌≡◌, ◌≤◌, ℕ, suc, ◌+◌, ◌*◌, Bool, true, false, cond, not, List, [], ◌∷◌, length, map, Some, Ok, refl, sym, ap, ◌∙◌, subst, arith, eqb}
 use Rattle.std.specs.List.{AllByRecursion, list_any}
 use Rattle.sg_base.specs.Suites.{is_raw}
 use Rattle.sg_base.specs.declared.faults.CsFault.TheVariants.{CsCount, PolicyMissing}
@@ -14,6 +14,7 @@ use Rattle.sg_mikey.specs.declared.message.CsEntry.{CsEntry}
 use Rattle.sg_mikey.specs.declared.message.Tgk.{Tgk}
 use Rattle.sg_mikey.specs.declared.policy.Policy.{Policy}
 use Rattle.sg_session.proofs.Inversions.{stop_if_is}
+use Rattle.sg_session.proofs.Lists.{each_weaker}
 use Rattle.sg_session.specs.Reach.{AreMkis}
 use Rattle.sg_base.proofs.Cases.{and_then_some, map_some, some_is, guarded}
 use Rattle.sg_agreement.proofs.LinesSound.{tag_low}
@@ -84,6 +85,38 @@ keys_sound csb random tgks session entry p are secret = record {
 
 -- ---- crypto sessions
 
+-- one sends in a crypto session and the other in the next
+abbrev pub IsPairOf : (ℕ → StreamKeys → Type 0) → StreamKeys × StreamKeys → Type 0
+IsPairOf S p = (k : ℕ) × S (2 * k + 1) p.0 × S (2 * k + 2) p.1
+
+-- what holds of the stream of each session, holds of all pairs
+module _ (csb : ℕ) (random : List ℕ) (policies : List Policy) (tgks : List Tgk) (S : ℕ → StreamKeys → Type 0)
+    (each : (session : ℕ) (entry : CsEntry) (s : StreamKeys) → stream_in csb random policies tgks session entry ≡ Some s → S session s) where
+  pair_each : (k : ℕ) (i r : CsEntry) (p : StreamKeys × StreamKeys) → pair_in csb random policies tgks (2 * k + 1) i r ≡ Some p → IsPairOf S p
+  unfolding pair_in
+  pair_each k i r p e =
+      let a = and_then_some (stream_in csb random policies tgks (2 * k + 1) i) _ p e in
+      let b = and_then_some (stream_in csb random policies tgks (2 * k + 1 + 1) r) _ p a.2 in
+      let next : 2 * k + 1 + 1 ≡ 2 * k + 2 = omega arith in
+      subst (IsPairOf S) (some_is (a.0, b.0) p b.2) (k, each (2 * k + 1) i a.0 a.1, subst (λ n. S n b.0) next (each (2 * k + 1 + 1) r b.0 b.1))
+
+  pairs_each : (k : ℕ) (map : List CsEntry) (ps : List (StreamKeys × StreamKeys)) → pairs_from csb random policies tgks (2 * k + 1) map ≡ Some ps → AllByRecursion (IsPairOf S) ps
+  unfolding pairs_from
+  pairs_each k [] ps e = subst (AllByRecursion (IsPairOf S)) (some_is [] ps e) tt
+  pairs_each k (i ∷ []) ps e = subst (AllByRecursion (IsPairOf S)) (some_is [] ps e) tt
+  pairs_each k (i ∷ r ∷ map) ps e =
+      let a = and_then_some (pair_in csb random policies tgks (2 * k + 1) i r) _ ps e in
+      let b = map_some (pairs_from csb random policies tgks (2 * k + 1 + 2) map) (λ pairs. a.0 ∷ pairs) ps a.2 in
+      let next : 2 * k + 1 + 2 ≡ 2 * (k + 1) + 1 = omega arith in
+      subst (AllByRecursion (IsPairOf S)) b.2 (pair_each k i r a.0 a.1, pairs_each (k + 1) map b.0 (ap (λ n. pairs_from csb random policies tgks n map) (sym next) ∙ b.1))
+
+  pub streams_each : (entries : List CsEntry) (media : ℕ) (ps : List (StreamKeys × StreamKeys)) → streams_of csb random entries policies tgks media ≡ Ok ps → AllByRecursion (IsPairOf S) ps
+  unfolding streams_of
+  streams_each entries media ps e =
+      let a = stop_if_is (not (eqb (length entries) (2 * media))) CsCount _ ps e in
+      let b = stop_if_is (list_any (lacks_policy policies) entries) PolicyMissing _ ps a.1 in
+      pairs_each 0 entries ps (is_there (pairs_from csb random policies tgks 1 entries) ps b.1)
+
 module _ (csb : ℕ) (random : List ℕ) (policies : List Policy) (tgks : List Tgk) (are : AreSoundTgks tgks) where
   stream_sound : (session : ℕ) (entry : CsEntry) (s : StreamKeys) → stream_in csb random policies tgks session entry ≡ Some s → IsSoundKeys s
   unfolding stream_in
@@ -92,25 +125,6 @@ module _ (csb : ℕ) (random : List ℕ) (policies : List Policy) (tgks : List T
       let b = and_then_some (protection_of a.0) _ s a.2 in
       subst IsSoundKeys (some_is (stream_keys csb random tgks session entry b.0) s b.2) (keys_sound csb random tgks session entry b.0 are (protection_secret a.0 b.0 b.1))
 
-  pair_sound : (session : ℕ) (i r : CsEntry) (p : StreamKeys × StreamKeys) → pair_in csb random policies tgks session i r ≡ Some p → IsSoundPair p
-  unfolding pair_in
-  pair_sound session i r p e =
-      let a = and_then_some (stream_in csb random policies tgks session i) _ p e in
-      let b = and_then_some (stream_in csb random policies tgks (session + 1) r) _ p a.2 in
-      subst IsSoundPair (some_is (a.0, b.0) p b.2) (stream_sound session i a.0 a.1, stream_sound (session + 1) r b.0 b.1)
-
-  pairs_sound : (session : ℕ) (map : List CsEntry) (ps : List (StreamKeys × StreamKeys)) → pairs_from csb random policies tgks session map ≡ Some ps → AllByRecursion IsSoundPair ps
-  unfolding pairs_from
-  pairs_sound session [] ps e = subst (AllByRecursion IsSoundPair) (some_is [] ps e) tt
-  pairs_sound session (i ∷ []) ps e = subst (AllByRecursion IsSoundPair) (some_is [] ps e) tt
-  pairs_sound session (i ∷ r ∷ map) ps e =
-      let a = and_then_some (pair_in csb random policies tgks session i r) _ ps e in
-      let b = map_some (pairs_from csb random policies tgks (session + 2) map) (λ pairs. a.0 ∷ pairs) ps a.2 in
-      subst (AllByRecursion IsSoundPair) b.2 (pair_sound session i r a.0 a.1, pairs_sound (session + 2) map b.0 b.1)
-
   pub streams_sound : (entries : List CsEntry) (media : ℕ) (ps : List (StreamKeys × StreamKeys)) → streams_of csb random entries policies tgks media ≡ Ok ps → AllByRecursion IsSoundPair ps
-  unfolding streams_of
   streams_sound entries media ps e =
-      let a = stop_if_is (not (eqb (length entries) (2 * media))) CsCount _ ps e in
-      let b = stop_if_is (list_any (lacks_policy policies) entries) PolicyMissing _ ps a.1 in
-      pairs_sound 1 entries ps (is_there (pairs_from csb random policies tgks 1 entries) ps b.1)
+      each_weaker (IsPairOf (λ n s. IsSoundKeys s)) IsSoundPair (λ p is. (is.1, is.2)) ps (streams_each csb random policies tgks (λ n s. IsSoundKeys s) stream_sound entries media ps e)

@@ -1,48 +1,54 @@
--- What an accepted answer agrees is sound.
-use Rattle.std.proofs.Common.{◌≡◌, ◌≤◌, ℕ, ◌+◌, Bool, true, false, cond, eqb, List, [], ◌∷◌, map, length, Option, Some, None, Result, Ok, Err, refl, ap, subst, arith}
-use Rattle.std.specs.List.{AllByRecursion, find}
+-- What an accepted answer agrees is sound, and nothing that holds for one side alone is carried to the plain side.
+use Rattle.std.proofs.Common.{◌≡◌, ◌≤◌, ℕ, ◌+◌, Bool, true, false, List, [], ◌∷◌, map, Option, Some, None, Result, Ok, subst, arith, cond, ◌++◌, length, refl, sym, ap, ◌∙◌, append-nil}
+use Rattle.std.specs.List.{AllByRecursion, flat_map}
 use Rattle.std.specs.Option.{option_map}
 use Rattle.sg_base.specs.declared.addresses.Side.{Side}
 use Rattle.sg_base.specs.declared.addresses.Side.TheVariants.{Secure, Plain}
-use Rattle.sg_base.specs.declared.faults.SdesFault.{SdesFault}
-use Rattle.sg_base.specs.declared.faults.SdesFault.TheVariants.{Tag, Suite}
 use Rattle.sg_base.specs.declared.faults.Refusal.{Refusal}
 use Rattle.sg_csmap.specs.CryptoSessions.{streams_of}
 use Rattle.sg_csmap.specs.declared.sessions.StreamKeys.{StreamKeys}
 use Rattle.sg_mikey.specs.declared.message.CsEntry.{CsEntry}
 use Rattle.sg_psk.specs.Accepting.{Accepted}
+use Rattle.sg_psk.specs.Pairs.{pair_with}
 use Rattle.sg_psk.specs.Policy.{own_policy}
-use Rattle.sg_psk.specs.Sending.{Sent, response_of}
-use Rattle.sg_sdes.specs.Answers.{matched, same_suite}
-use Rattle.sg_sdes.specs.CryptoOf.{crypto_of}
-use Rattle.sg_sdes.specs.Keys as lines
+use Rattle.sg_psk.specs.Sending.{Sent, response_of, sent_under}
+use Rattle.sg_sdes.specs.Answers.{matched, offered_by}
 use Rattle.sg_sdes.specs.declared.lines.CryptoLine.{CryptoLine}
+use Rattle.sg_sdp.specs.Carrying.{carried, is_one_sided}
+use Rattle.sg_sdp.specs.Descriptions.{all_lines, medium_line, medium_lines}
+use Rattle.sg_sdp.specs.Reading.{description_of}
 use Rattle.sg_sdp.specs.declared.medium.Medium as descriptions
+use Rattle.sg_sdp.specs.declared.medium.Profile.{Profile}
 use Rattle.sg_sdp.specs.declared.sdp.Sdp.{Sdp}
 use Rattle.sg_session.proofs.Inversions.{after_ok_is, ok_is}
 use Rattle.sg_session.proofs.Lists.{each_map}
-use Rattle.sg_agreement.proofs.Inversions.{find_all}
+use Rattle.sg_session.specs.Stages.{after_ok}
+use Rattle.sg_agreement.proofs.FewMedia.{of_answer, described_is, of_offer}
 use Rattle.sg_agreement.proofs.KeyedSound.{Sometimes, IsSoundKeying, sdes_is, offer_sound}
 use Rattle.sg_agreement.proofs.LinesSound.{Valid, IsSoundLine, line_sound, line_stream, answer_line}
 use Rattle.sg_agreement.proofs.MessageKeys.{AreSoundTgks}
 use Rattle.sg_agreement.proofs.MessageOctets.{Found}
 use Rattle.sg_agreement.proofs.MessagesSound.{IsSoundBundle, cs_is}
+use Rattle.sg_agreement.proofs.OneLines.{carried_one}
 use Rattle.sg_agreement.proofs.SessionsSound.{IsSoundPair, session_stream, other_source, streams_sound}
-use Rattle.sg_agreement.specs.Answers.{Answered, answered, answered_by, AgreedAnswer, accepted_answer, agreed_answer}
-use Rattle.sg_agreement.specs.Attributes.{crypto_values, first_of, mikey_value, own_ssrc}
-use Rattle.sg_agreement.specs.Described.{described}
-use Rattle.sg_agreement.specs.EachMedium.{if_kept, each_kept}
+use Rattle.sg_agreement.proofs.TextLines.{matched_is}
+use Rattle.sg_agreement.proofs.Texts.{Takes}
+use Rattle.sg_agreement.specs.Answers.{Answered, answered, answered_by, AgreedAnswer, agreed_answer, lines_of}
+use Rattle.sg_agreement.specs.Attributes.{crypto_values, first_of, mikey_value, own_ssrc, has_message, ssrcs_of}
+use Rattle.sg_agreement.specs.CarriedTexts.{Added, nothing, with_media_lines, with_added, carried_text, IsOneLine, IsTwoSided}
+use Rattle.sg_agreement.specs.EachMedium.{if_kept, each_kept, each_active}
 use Rattle.sg_agreement.specs.Keyed.{Keyed, medium_agreed, media_agreed}
-use Rattle.sg_agreement.specs.Keying.{Keying, PeerLines, OwnLines, PeerMessage, PeerMessages, OwnMessage, Offer}
+use Rattle.sg_agreement.specs.Keying.{Keying, PeerLines, OwnLines, PeerMessage, PeerMessages, OwnMessage, Offer, added_by}
 use Rattle.sg_agreement.specs.LineAnswers.{keyed_by_peer_line, lines_matched, keyed_by_matched, keyed_by_own_lines}
 use Rattle.sg_agreement.specs.MessageAnswers.{next_if, over_active, keyed_as_responder, keyed_as_initiator, first_streams, own_streams, keyed_by_message, responded, streams_answered}
-use Rattle.sg_agreement.specs.Messages.{AtHand, Bundle, message_in}
-use Rattle.sg_agreement.specs.Offers.{AgreedOffer, noise_of, agreed_offer}
+use Rattle.sg_agreement.specs.Messages.{AtHand, Bundle, message_in, bundle_in}
+use Rattle.sg_agreement.specs.Offers.{AgreedOffer, noise_of, agreed_offer, chosen_in, keying_by_messages, keying_of}
 use Rattle.sg_agreement.specs.Refusals.{of_sdes, of_psk, of_cs}
-use Rattle.sg_agreement.specs.Sides.{other_side, is_active, active_count, actives_after}
+use Rattle.sg_agreement.specs.Sides.{is_active, active_count, actives_after, side_of, other_side}
 use Rattle.sg_agreement.specs.Sound.{IsSoundStream, IsSound, IsSoundMedium}
 use Rattle.sg_agreement.specs.Streams.{window_of}
 use Rattle.sg_agreement.specs.declared.ways.Way.{Way}
+use Rattle.sg_agreement.specs.declared.ways.Way.TheVariants.{FromSecure, SdesFromPlain, MikeyFromPlain}
 
 record IsSoundKeyed (k : Keyed) : Type 0 where
   from_peer : IsSoundStream k.from_peer
@@ -98,28 +104,11 @@ peer_keyed noise k peer n y is e = subst IsSoundKeyed (ok_is _ y e) (record {
   most = low_window peer.window;
 })
 
-bind_is : {A B : Type 0} (r : Result A SdesFault) (f : A → Result B SdesFault) (y : B) → lines.◌>>=◌ r f ≡ Ok y → (x : A) × (r ≡ Ok x) × (f x ≡ Ok y)
-bind_is (Ok x) f y e = (x, refl, e)
-bind_is (Err c) f y e = absurd cc
-
-or_line_is : {A : Type 0} (fault : SdesFault) (o : Option A) (x : A) → lines.or_fault fault o ≡ Ok x → o ≡ Some x
-or_line_is fault None x e = absurd cc
-or_line_is fault (Some y) x e = let same : y ≡ x = cc in ap Some same
-
-if_same : {A : Type 0} (b : Bool) (x y : A) (f : SdesFault) → cond b (Ok x) (Err f) ≡ Ok y → x ≡ y
-if_same true x y f e = cc
-if_same false x y f e = absurd cc
-
 abbrev AreSoundLines : CryptoLine × CryptoLine → Type 0
 AreSoundLines p = IsSoundLine p.0 × IsSoundLine p.1
 
 matched_sound : Valid → (offered : List CryptoLine) (value : List ℕ) (p : CryptoLine × CryptoLine) → AllByRecursion IsSoundLine offered → matched offered value ≡ Ok p → AreSoundLines p
-unfolding matched
-matched_sound valid offered value p all e =
-    let a = bind_is (crypto_of value) _ p e in
-    let b = bind_is (lines.or_fault Tag (find (λ l. eqb l.tag a.0.tag) offered)) _ p a.2 in
-    subst AreSoundLines (if_same (same_suite b.0.suite a.0.suite) (b.0, a.0) p Suite b.2)
-    (find_all IsSoundLine _ offered b.0 (or_line_is Tag _ b.0 b.1) all, line_sound a.0 (valid value a.0 a.1))
+matched_sound valid offered value p all e = let m = matched_is IsSoundLine offered value p all e in (m.1.0, line_sound p.1 (valid value p.1 m.0))
 
 value_matched : Valid → (offered : List CryptoLine) (value : Option (List ℕ)) (p : CryptoLine × CryptoLine) → AllByRecursion IsSoundLine offered → lines_matched offered value ≡ Ok p → AreSoundLines p
 value_matched valid offered None p all e = absurd cc
@@ -149,7 +138,7 @@ responder_keyed added streams n is = record {
 initiator_keyed : (streams : StreamKeys × StreamKeys) → IsSoundPair streams → IsSoundKeyed (keyed_as_initiator streams)
 initiator_keyed streams is = record { from_peer = session_stream streams.1 is.1; to_peer = session_stream streams.0 is.0; least = omega arith; most = omega arith }
 
-over_sound : {X : Type 0} (P : X → Type 0) (side : Side) (ms : List descriptions.Medium) (xs : List X) → AllByRecursion P xs → AllByRecursion (Sometimes P) (over_active side ms xs)
+pub over_sound : {X : Type 0} (P : X → Type 0) (side : Side) (ms : List descriptions.Medium) (xs : List X) → AllByRecursion P xs → AllByRecursion (Sometimes P) (over_active side ms xs)
 over_sound P side [] xs p = tt
 over_sound {X = X} P side (m ∷ ms) xs p = go (λ xs p. over_sound P side ms xs p) (is_active side m) xs p
   where
@@ -220,14 +209,139 @@ abbrev AreSound : AgreedAnswer → Type 0
 AreSound a = AllByRecursion IsSoundMedium a.media
 
 answer_sound : Valid → (slot : ℕ) (o : Offer) (noise text : List ℕ) (a : AgreedAnswer) → IsSoundKeying o.keying → agreed_answer slot o noise text ≡ Ok a → AreSound a
-unfolding agreed_answer
-answer_sound valid slot o noise text a is e =
-    let p = after_ok_is (described (other_side o.side) (Some (length o.description.media)) text) _ a e in
-    let active : List Bool = actives_after o.side o.description.media p.0.media in
-    let q = after_ok_is (answered_by o noise p.0 active o.keying) _ a p.2 in
-    subst AreSound (ok_is (accepted_answer slot o p.0 active q.0) a q.2)
-    (media_are o.side o.description.media p.0.media q.0.media (answered_sound valid o noise p.0 active o.keying q.0 is q.1))
+answer_sound valid slot o noise text a is e = of_answer AreSound slot o noise text a e (λ s b was by.
+    media_are o.side o.description.media s.media b.media (answered_sound valid o noise s (actives_after o.side o.description.media s.media) o.keying b is by))
 
 pub media_sound : Valid → Found → (h : AtHand) (way : Way) (offered noise text : List ℕ) (slot : ℕ) (a : AgreedOffer) (g : AgreedAnswer)
     → agreed_offer h way offered ≡ Ok a → agreed_answer slot a.offer noise text ≡ Ok g → AllByRecursion IsSoundMedium g.media
 media_sound valid found h way offered noise text slot a g made e = answer_sound valid slot a.offer noise text g (offer_sound valid found h way offered a made) e
+
+-- ---- nothing that holds for one side alone is carried to the plain side
+
+-- what sg_sdp's law says
+abbrev pub TwoSided : Type 0
+TwoSided = (ports : List ℕ) (profiles : List Profile) (s : Sdp) → AllByRecursion (λ line. is_one_sided line ≡ false) (all_lines (carried ports profiles s))
+
+-- ---- nothing is added
+
+abbrev IsEmpty : List (List ℕ) → Type 0
+IsEmpty lines = lines ≡ []
+
+same_media : (ms : List descriptions.Medium) (more : List (List (List ℕ))) → AllByRecursion IsEmpty more → flat_map medium_lines (with_media_lines ms more) ≡ flat_map medium_lines ms
+same_media [] more p = refl
+same_media (m ∷ ms) [] p = refl
+same_media (m ∷ ms) (lines ∷ more) p =
+    let own : m.lines ++ lines ≡ m.lines = ap (λ l. m.lines ++ l) p.0 ∙ append-nil m.lines in
+    let rest = same_media ms more p.1 in
+    λ i. (medium_line m ∷ own i) ++ rest i
+
+same_all : (added : Added) (s : Sdp) → IsEmpty added.session → AllByRecursion IsEmpty added.media → all_lines (with_added added s) ≡ all_lines s
+same_all added s none empty =
+    let session : s.session ++ added.session ≡ s.session = ap (λ l. s.session ++ l) none ∙ append-nil s.session in
+    let media = same_media s.media added.media empty in
+    λ i. session i ++ media i
+
+two_sided_text : TwoSided → Takes → (ports : List ℕ) (profiles : List Profile) (added : Added) (text : List ℕ) (s : Sdp) → description_of text ≡ Ok s
+    → IsEmpty added.session → AllByRecursion IsEmpty added.media → IsTwoSided (carried_text ports profiles added s)
+unfolding carried_text
+two_sided_text two takes ports profiles added text s read none empty =
+    let same = sym (same_all added (carried ports profiles s) none empty) in (
+      with_added added (carried ports profiles s),
+      refl,
+      subst (λ (ls : List (List ℕ)). AllByRecursion (λ line. is_one_sided line ≡ false) ls) same (two ports profiles s),
+      subst (λ (ls : List (List ℕ)). AllByRecursion IsOneLine ls) same (carried_one takes ports profiles text s read),
+    )
+
+-- ---- an offer from the secure side
+
+by_messages_added : (h : AtHand) (s : Sdp) (value : Option (List ℕ)) (k : Keying) → keying_by_messages h s value ≡ Ok k → added_by k ≡ nothing
+by_messages_added h s (Some value) k e =
+    let a = after_ok_is (bundle_in h 255 (active_count Secure s.media) (Some value)) _ k e in
+    ap added_by (sym (ok_is (PeerMessage a.0) k a.2))
+by_messages_added h s None k e =
+    let a = after_ok_is (each_active Secure (λ k m. bundle_in h k 1 (mikey_value m.lines)) 0 s.media) _ k e in
+    ap added_by (sym (ok_is (PeerMessages a.0) k a.2))
+
+secure_added : (h : AtHand) (s : Sdp) (k : Keying) → keying_of h s FromSecure ≡ Ok k → added_by k ≡ nothing
+secure_added h s k e = go (has_message s) e
+  where
+    go : (b : Bool) → cond b (keying_by_messages h s (mikey_value s.session)) (after_ok (each_active Secure chosen_in 0 s.media) (λ ls. Ok (PeerLines ls))) ≡ Ok k → added_by k ≡ nothing
+    go true e = by_messages_added h s (mikey_value s.session) k e
+    go false e =
+        let a = after_ok_is (each_active Secure chosen_in 0 s.media) _ k e in
+        ap added_by (sym (ok_is (PeerLines a.0) k a.2))
+
+abbrev AddsNothing : Added → Type 0
+AddsNothing added = IsEmpty added.session × AllByRecursion IsEmpty added.media
+
+pub offer_two_sided : TwoSided → Takes → (h : AtHand) (text : List ℕ) (a : AgreedOffer) → agreed_offer h FromSecure text ≡ Ok a → IsTwoSided a.text
+offer_two_sided two takes h text a e = of_offer (λ a. IsTwoSided a.text) h FromSecure text a e (λ s k was is.
+    let none : AddsNothing (added_by k) = subst AddsNothing (sym (secure_added h s k is)) (refl, tt) in
+    two_sided_text two takes _ _ (added_by k) text s (described_is Secure h.media text s was) none.0 none.1)
+
+-- ---- an answer to an offer from the plain side
+
+-- keyed by what the gateway offers
+abbrev IsOwn : Keying → Type 0
+IsOwn (OwnLines ls) = Unit {0}
+IsOwn (OwnMessage s) = Unit {0}
+IsOwn other = ⊥
+
+own_keying : (h : AtHand) (s : Sdp) (way : Way) (k : Keying) → side_of way ≡ Plain → keying_of h s way ≡ Ok k → IsOwn k
+own_keying h s FromSecure k plain e = absurd cc
+own_keying h s SdesFromPlain k plain e =
+    let a = after_ok_is (each_active Plain (λ k m. Ok (offered_by (noise_of k h.noise))) 0 s.media) _ k e in
+    subst IsOwn (ok_is (OwnLines a.0) k a.2) tt
+own_keying h s (MikeyFromPlain peer) k plain e =
+    let a = after_ok_is (of_psk 255 (sent_under h.now h.noise (ssrcs_of Plain s.media) (pair_with h.pairs peer))) _ k e in
+    subst IsOwn (ok_is (OwnMessage a.0) k a.2) tt
+
+own_offer : (h : AtHand) (way : Way) (text : List ℕ) (a : AgreedOffer) → side_of way ≡ Plain → agreed_offer h way text ≡ Ok a → IsOwn a.offer.keying
+own_offer h way text a plain e = of_offer (λ a. IsOwn a.offer.keying) h way text a e (λ s k was is. own_keying h s way k plain is)
+
+abbrev AddsNoLine : Keyed → Type 0
+AddsNoLine k = IsEmpty k.lines
+
+abbrev AddsNone : Answered → Type 0
+AddsNone a = IsEmpty a.session × AllByRecursion (Sometimes AddsNoLine) a.media
+
+any_of : {X : Type 0} (xs : List (Option X)) → AllByRecursion (Sometimes (λ (x : X). Unit {0})) xs
+any_of [] = tt
+any_of (None ∷ xs) = (tt, any_of xs)
+any_of (Some x ∷ xs) = (tt, any_of xs)
+
+own_lines_empty : (k : ℕ) (offered : List CryptoLine) (n : descriptions.Medium) (y : Keyed) → keyed_by_own_lines k offered n ≡ Ok y → AddsNoLine y
+own_lines_empty k offered n y e =
+    let a = after_ok_is (of_sdes k (lines_matched offered (first_of (crypto_values n.lines)))) _ y e in
+    subst AddsNoLine (ok_is (keyed_by_matched a.0) y a.2) refl
+
+answered_none : (o : Offer) (noise : List ℕ) (s : Sdp) (active : List Bool) (k : Keying) (a : Answered) → IsOwn k → answered_by o noise s active k ≡ Ok a → AddsNone a
+answered_none o noise s active (PeerLines ls) a own e = absurd own
+answered_none o noise s active (PeerMessage b) a own e = absurd own
+answered_none o noise s active (PeerMessages bs) a own e = absurd own
+answered_none o noise s active (OwnLines ls) a own e =
+    let p = after_ok_is (each_kept keyed_by_own_lines 0 active ls s.media) _ a e in
+    subst AddsNone (ok_is _ a p.2)
+    (refl, each_kept_is (λ (x : List CryptoLine). Unit {0}) AddsNoLine keyed_by_own_lines (λ k x n y u v. own_lines_empty k x n y v) 0 active ls s.media p.0 (any_of ls) p.1)
+answered_none o noise s active (OwnMessage w) a own e =
+    let count : ℕ = active_count o.side o.description.media in
+    let p = after_ok_is (streams_answered w count (mikey_value s.session)) _ a e in
+    let over : List (Option (StreamKeys × StreamKeys)) = over_active o.side o.description.media p.0 in
+    let q = after_ok_is (each_kept (λ k streams n. Ok (keyed_as_initiator streams)) 0 active over s.media) _ a p.2 in
+    subst AddsNone (ok_is _ a q.2) (
+      refl,
+      each_kept_is (λ (x : StreamKeys × StreamKeys). Unit {0}) AddsNoLine (λ k streams n. Ok (keyed_as_initiator streams))
+          (λ k x n y u v. subst AddsNoLine (ok_is (keyed_as_initiator x) y v) refl) 0 active over s.media q.0 (any_of over) q.1,
+    )
+
+no_lines : (ks : List (Option Keyed)) → AllByRecursion (Sometimes AddsNoLine) ks → AllByRecursion IsEmpty (map lines_of ks)
+no_lines [] p = tt
+no_lines (None ∷ ks) p = (refl, no_lines ks p.1)
+no_lines (Some k ∷ ks) p = (p.0, no_lines ks p.1)
+
+pub answer_two_sided : TwoSided → Takes → (h : AtHand) (way : Way) (offered noise text : List ℕ) (slot : ℕ) (a : AgreedOffer) (g : AgreedAnswer)
+    → side_of way ≡ Plain → agreed_offer h way offered ≡ Ok a → agreed_answer slot a.offer noise text ≡ Ok g → IsTwoSided g.text
+answer_two_sided two takes h way offered noise text slot a g plain made e = of_answer (λ g. IsTwoSided g.text) slot a.offer noise text g e (λ s b was is.
+    let none = answered_none a.offer noise s (actives_after a.offer.side a.offer.description.media s.media) a.offer.keying b (own_offer h way offered a plain made) is in
+    two_sided_text two takes _ _ (record { session = b.session; media = map lines_of b.media }) text s
+    (described_is (other_side a.offer.side) (Some (length a.offer.description.media)) text s was) none.0 (no_lines b.media none.1))

@@ -20,15 +20,14 @@ use Rattle.sg_sdp.specs.Addresses.{with_address}
 use Rattle.sg_sdp.specs.Carrying.{carried, carried_media, carried_medium}
 use Rattle.sg_sdp.specs.Reading.{description_of}
 use Rattle.sg_sdp.specs.declared.medium.Medium as descriptions
-use Rattle.sg_sdp.specs.declared.medium.Profile.{Profile}
 use Rattle.sg_sdp.specs.declared.sdp.Sdp.{Sdp}
 use Rattle.sg_session.proofs.Inversions.{after_ok_is, ok_is}
 use Rattle.sg_session.proofs.Lists.{any_here, any_there, any_weaker, each_weaker}
 use Rattle.sg_session.specs.Stages.{after_ok}
-use Rattle.sg_agreement.proofs.FewMedia.{described_is, described_count}
+use Rattle.sg_agreement.proofs.FewMedia.{described_is, described_count, of_answer, of_offer}
 use Rattle.sg_agreement.proofs.Inversions.{find_all}
 use Rattle.sg_agreement.proofs.KeyedSound.{sdes_is}
-use Rattle.sg_agreement.specs.Answers.{Answered, AgreedAnswer, accepted_answer, agreed_answer, answered_by, lines_of}
+use Rattle.sg_agreement.specs.Answers.{Answered, AgreedAnswer, accepted_answer, agreed_answer, lines_of}
 use Rattle.sg_agreement.specs.Attributes.{behind, crypto_values, ends_word, first_of, has_message, mikey_rest, mikey_value}
 use Rattle.sg_agreement.specs.CarriedTexts.{Added, carried_text, crypto_attribute, exchanged, ports_from, with_added, with_media_lines}
 use Rattle.sg_agreement.specs.Described.{described}
@@ -168,7 +167,7 @@ active_some true r x e =
     let a = after_ok_is r (λ x. Ok (Some x)) (Some x) e in
     a.1 ∙ ap Ok (some_is a.0 x (ok_is (Some a.0) (Some x) a.2))
 
-any_behind : {X : Type 0} (P : X → Type 0) (xs ys : List X) → Any P ys → Any P (xs ++ ys)
+pub any_behind : {X : Type 0} (P : X → Type 0) (xs ys : List X) → Any P ys → Any P (xs ++ ys)
 any_behind P [] ys a = a
 any_behind P (x ∷ xs) ys a = any_there P x (xs ++ ys) (any_behind P xs ys a)
 
@@ -251,7 +250,7 @@ if_same false x y f e = absurd cc
 abbrev IsMatched : (CryptoLine → Type 0) → List ℕ → CryptoLine × CryptoLine → Type 0
 IsMatched P value p = (crypto_of value ≡ Ok p.1) × (P p.0 × (p.0.tag ≡ p.1.tag))
 
-matched_is : (P : CryptoLine → Type 0) (offered : List CryptoLine) (value : List ℕ) (p : CryptoLine × CryptoLine) → AllByRecursion P offered → matched offered value ≡ Ok p → IsMatched P value p
+pub matched_is : (P : CryptoLine → Type 0) (offered : List CryptoLine) (value : List ℕ) (p : CryptoLine × CryptoLine) → AllByRecursion P offered → matched offered value ≡ Ok p → IsMatched P value p
 unfolding matched
 matched_is P offered value p all e =
     let a = bind_is (crypto_of value) _ p e in
@@ -365,22 +364,16 @@ secure_offer h text a e none =
 
 by_lines : (slot : ℕ) (s : Sdp) (ls : List (Option CryptoLine)) (noise answer : List ℕ) (g : AgreedAnswer) → each_active Secure chosen_in 0 s.media ≡ Ok ls
     → agreed_answer slot (record { side = Secure; description = s; keying = PeerLines ls }) noise answer ≡ Ok g → StandInTexts s.media g.text g.media
-unfolding agreed_answer carried_text
+unfolding carried_text
 by_lines slot s ls noise answer g chosen e =
     let o : Offer = record { side = Secure; description = s; keying = PeerLines ls } in
-    let p = after_ok_is (described Plain (Some (length s.media)) answer) _ g e in
-    let active : List Bool = actives_after Secure s.media p.0.media in
-    let q = after_ok_is (answered_by o noise p.0 active (PeerLines ls)) _ g p.2 in
-    let r = after_ok_is (each_kept (keyed_by_peer_line noise) 0 active ls p.0.media) _ q.0 q.1 in
-    let profiles : List Profile = map (λ (m : descriptions.Medium). m.profile) s.media in
-    let text : Sdp = carried (ports_from slot 0 Secure active) profiles p.0 in
+    of_answer (λ g. StandInTexts s.media g.text g.media) slot o noise answer g e (λ n b was by.
+    let active : List Bool = actives_after Secure s.media n.media in
+    let r = after_ok_is (each_kept (keyed_by_peer_line noise) 0 active ls n.media) _ b by in
+    let text : Sdp = carried (ports_from slot 0 Secure active) (map (λ (m : descriptions.Medium). m.profile) s.media) n in
     let added : Added = record { session = []; media = map lines_of r.0 } in
-    let answered : Answered = record { session = []; media = r.0 } in
-    subst (λ (g : AgreedAnswer). StandInTexts s.media g.text g.media) (ap (accepted_answer slot o p.0 active) (ok_is answered q.0 r.2) ∙ ok_is (accepted_answer slot o p.0 active q.0) g q.2) (
-      with_added added text,
-      refl,
-      by_peers_lines noise slot _ 0 s.media p.0.media ls r.0 (described_count Plain (length s.media) answer p.0 p.1) chosen r.1,
-    )
+    subst (λ (b : Answered). let g : AgreedAnswer = accepted_answer slot o n active b in StandInTexts s.media g.text g.media) (ok_is _ b r.2)
+    (with_added added text, refl, by_peers_lines noise slot _ 0 s.media n.media ls r.0 (described_count Plain (length s.media) answer n was) chosen r.1))
 
 pub from_secure : (h : AtHand) (offered noise answer : List ℕ) (slot : ℕ) (a : AgreedOffer) (g : AgreedAnswer) → agreed_offer h FromSecure offered ≡ Ok a → HasNoMessage a.offer.description
     → agreed_answer slot a.offer noise answer ≡ Ok g → StandInTexts a.offer.description.media g.text g.media
@@ -396,30 +389,23 @@ by_offered : (h : AtHand) (s : Sdp) (ls : List (Option (List CryptoLine))) (slot
     → each_active Plain (λ k m. Ok (offered_by (noise_of k h.noise))) 0 s.media ≡ Ok ls
     → agreed_answer slot (record { side = Plain; description = s; keying = OwnLines ls }) noise answer ≡ Ok g
     → IsAnswerOf (accepted_offer h.slot (record { side = Plain; description = s; keying = OwnLines ls })).text answer g.media
-unfolding agreed_answer carried_text
+unfolding carried_text
 by_offered h s ls slot noise answer g offered e =
     let o : Offer = record { side = Plain; description = s; keying = OwnLines ls } in
-    let p = after_ok_is (described Secure (Some (length s.media)) answer) _ g e in
-    let active : List Bool = actives_after Plain s.media p.0.media in
-    let q = after_ok_is (answered_by o noise p.0 active (OwnLines ls)) _ g p.2 in
-    let r = after_ok_is (each_kept keyed_by_own_lines 0 active ls p.0.media) _ q.0 q.1 in
-    let profiles : List Profile = map (λ (m : descriptions.Medium). exchanged m.profile) s.media in
-    let text : Sdp = carried (ports_from h.slot 0 Secure (actives Plain s.media)) profiles s in
+    of_answer (λ g. IsAnswerOf (accepted_offer h.slot o).text answer g.media) slot o noise answer g e (λ n b was by.
+    let active : List Bool = actives_after Plain s.media n.media in
+    let r = after_ok_is (each_kept keyed_by_own_lines 0 active ls n.media) _ b by in
+    let text : Sdp = carried (ports_from h.slot 0 Secure (actives Plain s.media)) (map (λ (m : descriptions.Medium). exchanged m.profile) s.media) s in
     let added : Added = record { session = []; media = map attributes_of ls } in
-    let answered : Answered = record { session = []; media = r.0 } in
-    subst (λ (g : AgreedAnswer). IsAnswerOf (accepted_offer h.slot o).text answer g.media) (ap (accepted_answer slot o p.0 active) (ok_is answered q.0 r.2) ∙ ok_is (accepted_answer slot o p.0 active q.0) g q.2) (
-      p.0,
-      described_is Secure (Some (length s.media)) answer p.0 p.1,
-      (with_added added text, refl, by_own_lines h.slot _ 0 s.media p.0.media ls r.0 (described_count Secure (length s.media) answer p.0 p.1) (each_long _ 0 s.media ls offered) r.1),
-    )
+    subst (λ (b : Answered). IsAnswerOf (accepted_offer h.slot o).text answer (accepted_answer slot o n active b).media) (ok_is _ b r.2) (
+      n,
+      described_is Secure (Some (length s.media)) answer n was,
+      (with_added added text, refl, by_own_lines h.slot _ 0 s.media n.media ls r.0 (described_count Secure (length s.media) answer n was) (each_long _ 0 s.media ls offered) r.1),
+    ))
 
 pub from_plain : (h : AtHand) (offered noise answer : List ℕ) (slot : ℕ) (a : AgreedOffer) (g : AgreedAnswer) → agreed_offer h SdesFromPlain offered ≡ Ok a
     → agreed_answer slot a.offer noise answer ≡ Ok g → IsAnswerOf a.text answer g.media
-unfolding agreed_offer
-from_plain h offered noise answer slot a g made e =
-    let p = after_ok_is (described Plain h.media offered) _ a made in
-    let q = after_ok_is (keying_of h p.0 SdesFromPlain) _ a p.2 in
-    let r = after_ok_is (each_active Plain (λ k m. Ok (offered_by (noise_of k h.noise))) 0 p.0.media) _ q.0 q.1 in
-    let same = ap (λ k. accepted_offer h.slot (record { side = Plain; description = p.0; keying = k })) (ok_is (OwnLines r.0) q.0 r.2) ∙ ok_is _ a q.2 in
-    subst (λ (a : AgreedOffer). IsAnswerOf a.text answer g.media) same
-    (by_offered h p.0 r.0 slot noise answer g r.1 (ap (λ (a : AgreedOffer). agreed_answer slot a.offer noise answer) same ∙ e))
+from_plain h offered noise answer slot a g made = of_offer (λ a. agreed_answer slot a.offer noise answer ≡ Ok g → IsAnswerOf a.text answer g.media) h SdesFromPlain offered a made (λ s k was is.
+    let r = after_ok_is (each_active Plain (λ k m. Ok (offered_by (noise_of k h.noise))) 0 s.media) _ k is in
+    subst (λ k. let o : Offer = record { side = Plain; description = s; keying = k } in agreed_answer slot o noise answer ≡ Ok g → IsAnswerOf (accepted_offer h.slot o).text answer g.media)
+    (ok_is (OwnLines r.0) k r.2) (by_offered h s r.0 slot noise answer g r.1))

@@ -10,6 +10,7 @@ use Rattle.sg_base.specs.declared.faults.DropCause.TheVariants.{PortUnused}
 use Rattle.sg_gateway.specs.Datagrams.{Put}
 use Rattle.sg_gateway.specs.Octets.{Octets, as_octets}
 use Rattle.sg_gateway.specs.PlainOf.{plain_at}
+use Rattle.sg_gateway.specs.Runs.{world_after}
 use Rattle.sg_gateway.specs.Signals.{Signal}
 use Rattle.sg_gateway.specs.Step.{Event, Signalled, Datagram, step}
 use Rattle.sg_gateway.specs.World.{Call, World, empty}
@@ -103,14 +104,14 @@ module _ (w : World) (calls : Members) (port : ℕ) (from : Address) (d : Octets
     each_case = arrives (onward calls port) refl
 
   -- what holds whatever happens and is told
-  pub in_each_case : (P : Bridging → Type 0) → ((events : List Event) (o : BridgeOutcome) (world : World) → IsOfDatagram o → P (happens w calls events (o ∷ []) world)) → P (happened w calls (Datagram port from d))
+  pub in_each_case : (P : Bridging → Type 0) → ((events : List Event) (o : BridgeOutcome) → IsOfDatagram o → P (happens w calls events (o ∷ []) (world_after w events))) → P (happened w calls (Datagram port from d))
   in_each_case P holds = each_case P (record {
-    unused = λ q on. holds [] (tells.Table (Dropped port PortUnused)) w tt;
-    dropped = λ through cause is. holds (e ∷ []) (tells.Table (Dropped port cause)) after tt;
-    put_out = λ o puts. holds (e ∷ []) (tells.Table (Out o.port o.to o.octets)) after tt;
-    nowhere = λ p q to x opens at. holds (e ∷ []) (tells.Lost q PortUnused) after tt;
-    refused = λ p q to x opens a at cause is. holds (e ∷ inner q a x ∷ []) (tells.Lost q cause) (step after (inner q a x)).world tt;
-    sealed = λ p q to x opens a at c o by is es. holds (e ∷ inner q a x ∷ []) (tells.Table (Out o.port o.to o.octets)) (step after (inner q a x)).world tt;
+    unused = λ q on. holds [] (tells.Table (Dropped port PortUnused)) tt;
+    dropped = λ through cause is. holds (e ∷ []) (tells.Table (Dropped port cause)) tt;
+    put_out = λ o puts. holds (e ∷ []) (tells.Table (Out o.port o.to o.octets)) tt;
+    nowhere = λ p q to x opens at. holds (e ∷ []) (tells.Lost q PortUnused) tt;
+    refused = λ p q to x opens a at cause is. holds (e ∷ inner q a x ∷ []) (tells.Lost q cause) tt;
+    sealed = λ p q to x opens a at c o by is es. holds (e ∷ inner q a x ∷ []) (tells.Table (Out o.port o.to o.octets)) tt;
   })
 
 -- ---- a signal

@@ -1,12 +1,13 @@
 -- Who is found under a number, and of whom a line makes a pair or parts one.
-use Rattle.std.proofs.Common.{◌≡◌, ℕ, zero, suc, ◌+◌, ◌<◌, Bool, true, false, cond, not, [], ◌∷◌, get_or, length, Option, Some, None, Result, Ok, Err, refl, sym, ap, ◌∙◌, subst, arith, add-one, eqb, inl, inr}
+use Rattle.std.proofs.Common.{◌≡◌, ℕ, zero, suc, ◌+◌, ◌<◌, Bool, true, false, cond, not, [], ◌∷◌, get_or, length, map, set, Option, Some, None, Result, Ok, Err, refl, sym, ap, ◌∙◌, subst, arith, add-one, eqb, inl, inr}
 use Rattle.std.proofs.lemmas.Bool.{cases_lt, eq-eqb, eqb-true}
-use Rattle.std.proofs.lemmas.List.{get_or-set_other, get_or-set_same, get_or_past, length-set}
+use Rattle.std.proofs.lemmas.List.{get_or-replicate, get_or-set_other, get_or-set_same, get_or_past, length-replicate, length-set}
+use Rattle.std.proofs.Math.ListN.{get_or-map}
 use Rattle.sg_base.proofs.Cases.{none_some}
 use Rattle.sg_base.specs.declared.addresses.CallId.{CallId}
 use Rattle.sg_gateway.specs.World.{same_id}
 use Rattle.sg_session.proofs.Lists.{both}
-use Rattle.sg_bridge.specs.Pairs.{Joining, Members, Parting, found, found_from, in_pair, in_pair_at, joined, joined_by, joined_free, member_at, pair, paired, parted, parted_found, parted_from, parted_pair}
+use Rattle.sg_bridge.specs.Pairs.{Joining, Members, Parting, found, found_from, in_pair, in_pair_at, joined, joined_by, joined_free, member_at, no_members, now_live, pair, paired, parted, parted_found, parted_from, parted_pair}
 use Rattle.sg_bridge.specs.declared.faults.JoinFault.{JoinFault}
 use Rattle.sg_bridge.specs.declared.faults.JoinFault.TheVariants as faults
 use Rattle.sg_bridge.specs.declared.members.Found.{Found}
@@ -27,6 +28,39 @@ in_range calls s m is = elim (cases_lt s (length calls)) [
   | inl lt ↦ lt
   | inr le ↦ absurd (none_some m (sym (get_or_past calls s None le) ∙ is))
 ]
+
+-- ---- slots that are set
+
+module _ (calls : Members) (slot : ℕ) (v : Option Member) where
+  pub set_other : {A : Type 0} (F : Option Member → A) (s : ℕ) → (s ≡ slot → ⊥) → F (member_at (set calls slot v) s) ≡ F (member_at calls s)
+  set_other F s other = ap F (get_or-set_other calls slot s v None other)
+
+  -- what holds of what it is set to, and of no call, holds of it
+  pub at_set : (P : Option Member → Type 0) → P v → P None → P (member_at (set calls slot v) slot)
+  at_set P p none = elim (cases_lt slot (length calls)) [
+    | inl lt ↦ subst P (sym (get_or-set_same calls slot v None lt)) p
+    | inr le ↦ subst P (sym (get_or_past (set calls slot v) slot None (omega (arith, le, length-set calls slot v)))) none
+  ]
+
+-- at first no slot has a call
+pub no_member : (s : ℕ) → member_at no_members s ≡ None
+no_member s = elim (cases_lt s 256) [
+  | inl lt ↦ get_or-replicate 256 s None None lt
+  | inr le ↦ get_or_past no_members s None (omega (arith, le, length-replicate 256 (let none : Option Member = None in none)))
+]
+
+-- where a call has a generation now, all is as it was that says nothing of generations
+pub live_keeps : {A : Type 0} (F : Option Member → A) → ((m : Member) → F (Some (record m { is_live = true })) ≡ F (Some m)) → (id : CallId) (calls : Members) (s : ℕ)
+    → F (member_at (map (now_live id) calls) s) ≡ F (member_at calls s)
+live_keeps F keeps id calls s = ap F (get_or-map (now_live id) calls s None) ∙ at (member_at calls s)
+  where
+    go : (m : Member) (b : Bool) → F (Some (cond b (record m { is_live = true }) m)) ≡ F (Some m)
+    go m true = keeps m
+    go m false = refl
+
+    at : (o : Option Member) → F (now_live id o) ≡ F o
+    at None = refl
+    at (Some m) = go m (same_id m.id id)
 
 -- ---- who is found
 

@@ -1,9 +1,10 @@
--- What is opened in a joined call stays inside, and is sealed in the other.
-use Rattle.std.proofs.Common.{◌≡◌, inl, inr, ◌⊎◌, ℕ, ◌+◌, ◌-◌, ◌%◌, ◌<◌, ◌≤◌, List, [], ◌∷◌, Some, None, Ok, refl, sym, ap, ◌∙◌, subst, arith}
+-- What is opened in a joined call stays inside, and is sealed in the other or lost; nothing else is lost.
+use Rattle.std.proofs.Common.{◌≡◌, inl, inr, ◌⊎◌, ℕ, ◌+◌, ◌-◌, ◌%◌, ◌<◌, ◌≤◌, List, [], ◌∷◌, Some, None, refl, sym, ap, ◌∙◌, subst, arith}
 use Rattle.std.proofs.lemmas.Bool.Decides.{leb_tells}
 use Rattle.std.specs.List.{All, Any, AllByRecursion}
 use Rattle.sg_base.proofs.Cases.{none_some}
 use Rattle.sg_base.specs.declared.addresses.Address.{Address}
+use Rattle.sg_base.specs.declared.faults.DropCause.{DropCause}
 use Rattle.sg_base.specs.declared.faults.DropCause.TheVariants.{PortUnused}
 use Rattle.sg_gateway.proofs.Came.{seals_came}
 use Rattle.sg_gateway.proofs.OnlySeals.{signal_quiet}
@@ -11,6 +12,7 @@ use Rattle.sg_gateway.proofs.SealsOut.{LeavesSealed, seals_leave_at}
 use Rattle.sg_gateway.specs.Coming.{IsSealedFrom}
 use Rattle.sg_gateway.specs.Datagrams.{Put}
 use Rattle.sg_gateway.specs.Octets.{Octets, as_octets}
+use Rattle.sg_gateway.specs.PlainOf.{plain_at}
 use Rattle.sg_gateway.specs.Runs.{turn_of}
 use Rattle.sg_gateway.specs.SealedOut.{IsOut, IsSealedOutOf}
 use Rattle.sg_gateway.specs.Signals.{Signal}
@@ -18,15 +20,16 @@ use Rattle.sg_gateway.specs.Step.{Event, Signalled, Datagram, step}
 use Rattle.sg_gateway.specs.World.{Call, World, empty}
 use Rattle.sg_outcome.specs.declared.outcomes.Outcome.{Outcome}
 use Rattle.sg_outcome.specs.declared.outcomes.Outcome.TheVariants.{Out, Dropped}
-use Rattle.sg_session.proofs.Lists.{any_cases, any_none, any_weaker, each_at}
+use Rattle.sg_session.proofs.Lists.{any_cases, any_none, any_weaker, each_at, each_of}
 use Rattle.sg_session.specs.declared.names.Direction.TheVariants.{Sealing}
-use Rattle.sg_bridge.proofs.BothWays.{all_among_mates, both_ways}
+use Rattle.sg_bridge.proofs.BothWays.{all_among_mates, both_ways, said_begins}
 use Rattle.sg_bridge.proofs.Cases.{OpensOn, PutsOut, each_case, each_line, followed_holds}
-use Rattle.sg_bridge.proofs.Joined.{in_pair_goes_on, joined_goes_on, not_onward, plain_onward}
+use Rattle.sg_bridge.proofs.Joined.{in_pair_goes_on, joined_goes_on, not_onward, plain_onward, goes_on_joined}
 use Rattle.sg_bridge.proofs.Mates.{AreMates}
 use Rattle.sg_bridge.proofs.PutAt.{FromPlain, PutBy, from_plain, from_secure}
-use Rattle.sg_bridge.specs.Bridged.{Bridging, Crosses, GoesBothWays, IsCrossing, IsSealOf, LeavesAt, Said, StaysInside, TellsOut, bridging, bridgings_from, told_and_parted, happened, happens, inner, joining, nothing_happens, parting}
+use Rattle.sg_bridge.specs.Bridged.{Bridging, Crosses, GoesBothWays, IsCrossing, IsSealOf, LeavesAt, Said, StaysInside, TellsOut, bridging, bridgings_from, told_and_parted, happened, happens, inner, nothing_happens}
 use Rattle.sg_bridge.specs.Joined.{port_of_leg}
+use Rattle.sg_bridge.specs.Lost.{IsLost, IsSettled, LosesOnlySo, Opens, SettlesWhatOpens, opened_world}
 use Rattle.sg_bridge.specs.Onward.{onward}
 use Rattle.sg_bridge.specs.Pairs.{Members, no_members, pair, paired, parted}
 use Rattle.sg_bridge.specs.declared.outcomes.BridgeOutcome.{BridgeOutcome}
@@ -104,8 +107,85 @@ none_both : (b : Bridging) → TellsNone b → Both b
 none_both b none = ((λ port to octets a. absurd (none port to octets a)), (λ port q to octets a low on. absurd (none port to octets a)))
 
 -- where one thing is told that is no packet
-quiet_both : (b : Bridging) (o : BridgeOutcome) → b.told ≡ o ∷ [] → ((port : ℕ) (to : Address) (octets : List ℕ) → Is port to octets o → ⊥) → Both b
-quiet_both b o is not = none_both b (λ port to octets a. one port to octets o (not port to octets) (subst (λ told. Any (Is port to octets) told) is a))
+quiet_both : (b : Bridging) (o : BridgeOutcome) → b.told ≡ o ∷ [] → ¬ IsOutTold o → Both b
+quiet_both b o is not = none_both b (λ port to octets a. one port to octets o (λ same. not (subst IsOutTold (sym same) tt)) (subst (λ told. Any (Is port to octets) told) is a))
+
+-- ---- what tells of no loss
+
+abbrev Loses : BridgeOutcome → Type 0
+Loses (tells.Lost port cause) = Unit {0}
+Loses other = ⊥
+
+abbrev NoLoss : List BridgeOutcome → Type 0
+NoLoss told = AllByRecursion (λ o. Loses o → ⊥) told
+
+followed_no_loss : (calls : Members) (os : List Outcome) → NoLoss (told_and_parted calls os).told
+followed_no_loss calls os = followed_holds (λ o. Loses o → ⊥) (λ p no. no) calls os (each_of (λ o. Loses (tells.Table o) → ⊥) (λ o no. no) os)
+
+not_lost : (told : List BridgeOutcome) (q : ℕ) (cause : DropCause) → NoLoss told → Any (λ o. o ≡ tells.Lost q cause) told → ⊥
+not_lost told q cause none a = let at = each_at (λ o. Loses o → ⊥) (λ o. o ≡ tells.Lost q cause) told none a in at.1 (subst Loses (sym at.2) tt)
+
+-- ---- by the ports onward
+
+-- a packet that is opened at a port that goes on is settled at the port onward
+abbrev SettlesOnward : Bridging → Type 0
+SettlesOnward b = (p q : ℕ) (packet : List ℕ) → onward b.pairs p ≡ Some q → (o : Opens b p packet) → IsSettled b (opened_world b p packet o) q packet o.later
+
+-- what is told as lost was opened at a port that goes on
+pub record IsLostOnward (b : Bridging) (q : ℕ) (cause : DropCause) : Type 0 where
+  pub p : ℕ
+  pub on : onward b.pairs p ≡ Some q
+  pub packet : List ℕ
+  pub opens : Opens b p packet
+  pub lost : IsLost (opened_world b p packet opens) q packet opens.later cause
+  pub told : b.told ≡ tells.Lost q cause ∷ []
+
+abbrev LosesOnward : Bridging → Type 0
+LosesOnward b = (q : ℕ) (cause : DropCause) → Any (λ o. o ≡ tells.Lost q cause) b.told → IsLostOnward b q cause
+
+abbrev Two : Bridging → Type 0
+Two b = SettlesOnward b × LosesOnward b
+
+-- a bridging that loses nothing and opens nothing
+quiet_two : (b : Bridging) → NoLoss b.told → ((p : ℕ) (packet : List ℕ) → Opens b p packet → ⊥) → Two b
+quiet_two b none never = ((λ p q packet on o. absurd (never p packet o)), (λ q cause a. absurd (not_lost b.told q cause none a)))
+
+-- where nothing happens
+silent_two : (b : Bridging) → b.events ≡ [] → NoLoss b.told → Two b
+silent_two b none lost = quiet_two b lost (λ p packet opens. nothing opens.event opens.later (sym none ∙ opens.events_are))
+  where
+    nothing : (e : Event) (later : List Event) → [] ≡ e ∷ later → ⊥
+    nothing e later is = cc
+
+one_event : (e e' : Event) (l l' : List Event) → e ∷ l ≡ e' ∷ l' → (e ≡ e') × (l ≡ l')
+one_event e e' l l' is = ((let same : e ≡ e' = cc in same), (let same : l ≡ l' = cc in same))
+
+one_lost : (q q' : ℕ) (c c' : DropCause) → Any (λ o. o ≡ tells.Lost q' c') (tells.Lost q c ∷ []) → (q ≡ q') × (c ≡ c')
+one_lost q q' c c' a = elim (any_cases (λ o. o ≡ tells.Lost q' c') (tells.Lost q c) [] a) [
+  | inl is ↦ ((let same : q ≡ q' = cc in same), (let same : c ≡ c' = cc in same))
+  | inr rest ↦ absurd (any_none (λ o. o ≡ tells.Lost q' c') rest)
+]
+
+-- where the first event puts one packet out, that packet is what is opened, at that port
+settles_one : (b : Bridging) (e : Event) (later : List Event) (p : ℕ) (to : Address) (x : List ℕ) → b.events ≡ e ∷ later → (step b.before e).outcomes ≡ Out p to x ∷ []
+    → ((q : ℕ) → onward b.pairs p ≡ Some q → IsSettled b (step b.before e).world q x later) → SettlesOnward b
+settles_one b e later p to x are was settled p' q' packet on o =
+    let events = one_event e o.event later o.later (sym are ∙ o.events_are) in
+    let out = same_out p to x p' o.to packet (sym was ∙ ap (λ e. (step b.before e).outcomes) events.0 ∙ o.opened) in
+    let there : IsSettled b (step b.before o.event).world q' packet o.later = rw (sym events.0, sym events.1, sym out.2) (settled q' (ap (onward b.pairs) out.0 ∙ on)) in
+    there
+
+-- ---- both of it
+
+abbrev Four : Bridging → Type 0
+Four b = Both b × Two b
+
+-- where nothing happens, and no packet or loss is told
+silent : (w : World) (calls after : Members) (o : BridgeOutcome) → ¬ IsOutTold o → ¬ Loses o → Four (record (nothing_happens w calls o) { calls = after })
+silent w calls after o out lost = (quiet_both b o refl out, silent_two b refl (lost, tt))
+  where
+    b : Bridging
+    b = record (nothing_happens w calls o) { calls = after }
 
 module _ (w : World) (calls : Members) (mates : AreMates calls) (port : ℕ) (from : Address) (d : Octets) where
   abbrev e : Event
@@ -172,27 +252,89 @@ module _ (w : World) (calls : Members) (mates : AreMates calls) (port : ℕ) (fr
         | inr plain ↦ (from_plain port puts.call o puts.by plain).out
       ]
 
-  datagram_both : Both (happened w calls (Datagram port from d))
-  datagram_both = each_case w calls port from d Both (record {
-    unused = λ q on. quiet_both (nothing_happens w calls (tells.Table (Dropped port PortUnused))) (tells.Table (Dropped port PortUnused)) refl (λ port' to' octets' is. absurd cc);
-    dropped = λ through cause is. quiet_both (happens w calls (e ∷ []) (tells.Table (Dropped port cause) ∷ []) after) (tells.Table (Dropped port cause)) refl (λ port' to' octets' is. absurd cc);
-    put_out = put_both;
-    nowhere = λ p q to x opens at. quiet_both (happens w calls (e ∷ []) (tells.Lost q PortUnused ∷ []) after) (tells.Lost q PortUnused) refl (λ port' to' octets' is. absurd cc);
-    refused = λ p q to x opens a at cause is.
-        quiet_both (happens w calls (e ∷ inner q a x ∷ []) (tells.Lost q cause ∷ []) (step after (inner q a x)).world) (tells.Lost q cause) refl (λ port' to' octets' is. absurd cc);
-    sealed = λ p q to x opens a at c o by is es. sealed_both p q to x opens a c o by is es;
+  same_onward : (p q q' : ℕ) → onward calls p ≡ Some q → onward calls p ≡ Some q' → q ≡ q'
+  same_onward p q q' on on' = (let same : Some q ≡ Some q' = sym on ∙ on' in (let is : q ≡ q' = cc in is))
+
+  -- the packet is lost, with what is later
+  lost_two : (p q : ℕ) (to : Address) (x : List ℕ) → OpensOn w calls port e p q to x → (later : List Event) (world : World) (cause : DropCause) → IsLost after q x later cause
+      → Two (happens w calls (e ∷ later) (tells.Lost q cause ∷ []) world)
+  lost_two p q to x opens later world cause lost = (
+    settles_one b e later p to x refl opens.was (λ q' on'. subst (λ n. IsSettled b after n x later) (same_onward p q q' opens.on on') (inl (cause, lost, refl))),
+    (λ q' cause' t.
+        let same = one_lost q q' cause cause' t in
+        subst (λ n. IsLostOnward b n cause') same.0 (subst (λ c. IsLostOnward b q c) same.1 (record {
+          p = p;
+          on = opens.on;
+          packet = x;
+          opens = record { event = e; later = later; events_are = refl; to = to; opened = opens.was };
+          lost = lost;
+          told = refl;
+        }))),
+  )
+    where
+      b : Bridging
+      b = happens w calls (e ∷ later) (tells.Lost q cause ∷ []) world
+
+  dropped_two : (cause : DropCause) → (step w e).outcomes ≡ Dropped port cause ∷ [] → Two (happens w calls (e ∷ []) (tells.Table (Dropped port cause) ∷ []) after)
+  dropped_two cause is = quiet_two (happens w calls (e ∷ []) (tells.Table (Dropped port cause) ∷ []) after) ((λ no. no), tt) never
+    where
+      never : (p : ℕ) (packet : List ℕ) → Opens (happens w calls (e ∷ []) (tells.Table (Dropped port cause) ∷ []) after) p packet → ⊥
+      never p packet o =
+          let events = one_event e o.event [] o.later o.events_are in
+          let same : Dropped port cause ∷ [] ≡ Out p o.to packet ∷ [] = sym is ∙ ap (λ e. (step w e).outcomes) events.0 ∙ o.opened in absurd cc
+
+  put_two : (o : Put) → PutsOut w calls port e o → Two (happens w calls (e ∷ []) (tells.Table (Out o.port o.to o.octets) ∷ []) after)
+  put_two o puts = (
+    settles_one (happens w calls (e ∷ []) (tells.Table (Out o.port o.to o.octets) ∷ []) after) e [] o.port o.to o.octets refl puts.was (λ q' on'. absurd (none_some q' (sym puts.no_further ∙ on'))),
+    (λ q' cause' t. absurd (not_lost (tells.Table (Out o.port o.to o.octets) ∷ []) q' cause' ((λ no. no), tt) t)),
+  )
+
+  sealed_two : (p q : ℕ) (to : Address) (x : List ℕ) → OpensOn w calls port e p q to x → (a : Address) → plain_at after q ≡ Some a → (o : Put) → (step after (inner q a x)).outcomes ≡ Out o.port o.to o.octets ∷ []
+      → Two (happens w calls (e ∷ inner q a x ∷ []) (tells.Table (Out o.port o.to o.octets) ∷ []) (step after (inner q a x)).world)
+  sealed_two p q to x opens a at o is = (
+    settles_one b e (inner q a x ∷ []) p to x refl opens.was (λ q' on'. subst (λ n. IsSettled b after n x (inner q a x ∷ [])) (same_onward p q q' opens.on on')
+        (inr (o.port, o.to, o.octets, record { comes = record { from = a; address = at; later_are = refl }; put = is }, refl))),
+    (λ q' cause' t. absurd (not_lost (tells.Table (Out o.port o.to o.octets) ∷ []) q' cause' ((λ no. no), tt) t)),
+  )
+    where
+      b : Bridging
+      b = happens w calls (e ∷ inner q a x ∷ []) (tells.Table (Out o.port o.to o.octets) ∷ []) (step after (inner q a x)).world
+
+  datagram_four : Four (happened w calls (Datagram port from d))
+  datagram_four = each_case w calls port from d Four (record {
+    unused = λ q on. silent w calls calls (tells.Table (Dropped port PortUnused)) (λ no. no) (λ no. no);
+    dropped = λ through cause is. (quiet_both (happens w calls (e ∷ []) (tells.Table (Dropped port cause) ∷ []) after) (tells.Table (Dropped port cause)) refl (λ no. no), dropped_two cause is);
+    put_out = λ o puts. (put_both o puts, put_two o puts);
+    nowhere = λ p q to x opens at. (
+      quiet_both (happens w calls (e ∷ []) (tells.Lost q PortUnused ∷ []) after) (tells.Lost q PortUnused) refl (λ no. no),
+      lost_two p q to x opens [] after PortUnused (inl (record { none = at; later_are = refl }, refl)),
+    );
+    refused = λ p q to x opens a at cause is. (
+      quiet_both (happens w calls (e ∷ inner q a x ∷ []) (tells.Lost q cause ∷ []) (step after (inner q a x)).world) (tells.Lost q cause) refl (λ no. no),
+      lost_two p q to x opens (inner q a x ∷ []) (step after (inner q a x)).world cause (inr (record { comes = record { from = a; address = at; later_are = refl }; refused = is })),
+    );
+    sealed = λ p q to x opens a at c o by is es. (sealed_both p q to x opens a c o by is es, sealed_two p q to x opens a at o is);
   })
 
 -- ---- a line
 
-said_both : (w : World) (calls : Members) (s : Said) → AreMates calls → Both (bridging w calls s)
-said_both w calls s mates = each_line w calls (λ s b. Both b) (record {
-  signal = λ s. none_both (happened w calls (Signalled s)) (λ port to octets. signal_not port to octets w calls s);
-  datagram = datagram_both w calls mates;
-  joins = λ first second a b can. quiet_both (joining w calls first second (Ok (paired (pair a b) calls))) (tells.Joined first second) refl (λ port to octets is. absurd cc);
-  unjoined = λ first second call cause. quiet_both (nothing_happens w calls (tells.Unjoined call cause)) (tells.Unjoined call cause) refl (λ port to octets is. absurd cc);
-  parts = λ id f x can. quiet_both (parting w calls id (Ok (record { calls = parted x calls; pair = x }))) (tells.Parted x.first.id x.second.id) refl (λ port to octets is. absurd cc);
-  unparted = λ id cause. quiet_both (nothing_happens w calls (tells.Unjoined id cause)) (tells.Unjoined id cause) refl (λ port to octets is. absurd cc);
+signal_two : (w : World) (calls : Members) (signal : Signal) → Two (happened w calls (Signalled signal))
+signal_two w calls signal = quiet_two (happened w calls (Signalled signal)) (followed_no_loss calls (step w (Signalled signal)).outcomes) never
+  where
+    never : (p : ℕ) (packet : List ℕ) → Opens (happened w calls (Signalled signal)) p packet → ⊥
+    never p packet o =
+        let events = one_event (Signalled signal) o.event [] o.later o.events_are in
+        let is = ap (λ e. (step w e).outcomes) events.0 ∙ o.opened in
+        (subst (λ os. AllByRecursion (λ o. ¬ IsOut o) os) is (signal_quiet w signal)).0 tt
+
+said_four : (w : World) (calls : Members) (s : Said) → AreMates calls → Four (bridging w calls s)
+said_four w calls s mates = each_line w calls (λ s b. Four b) (record {
+  signal = λ s. (none_both (happened w calls (Signalled s)) (λ port to octets. signal_not port to octets w calls s), signal_two w calls s);
+  datagram = datagram_four w calls mates;
+  joins = λ first second a b can. silent w calls (paired (pair a b) calls) (tells.Joined first second) (λ no. no) (λ no. no);
+  unjoined = λ first second call cause. silent w calls calls (tells.Unjoined call cause) (λ no. no) (λ no. no);
+  parts = λ id f x can. silent w calls (parted x calls) (tells.Parted x.first.id x.second.id) (λ no. no) (λ no. no);
+  unparted = λ id cause. silent w calls calls (tells.Unjoined id cause) (λ no. no) (λ no. no);
 }) s
 
 -- ---- in numbers
@@ -210,7 +352,35 @@ crosses b ways comes slot other medium leg to octets joined low tells =
     subst (λ n. IsCrossing b n (port_of_leg slot medium leg) to octets) (let is : over.from ≡ port_of_leg other medium (leg + 2) = cc in is) over.crossing
 
 pub all_inside : (said : List Said) → All StaysInside (bridgings_from empty no_members said)
-all_inside = all_among_mates StaysInside (λ w calls s mates. stays_inside (bridging w calls s) (said_both w calls s mates).0)
+all_inside = all_among_mates StaysInside (λ w calls s mates. stays_inside (bridging w calls s) (said_four w calls s mates).0.0)
 
 pub all_cross : (said : List Said) → All Crosses (bridgings_from empty no_members said)
-all_cross = all_among_mates Crosses (λ w calls s mates. crosses (bridging w calls s) (both_ways w calls s mates) (said_both w calls s mates).1)
+all_cross = all_among_mates Crosses (λ w calls s mates. crosses (bridging w calls s) (both_ways w calls s mates) (said_four w calls s mates).0.1)
+
+settles : (b : Bridging) → SettlesOnward b → SettlesWhatOpens b
+settles b onwards slot other medium leg packet joined high low o =
+    onwards (port_of_leg slot medium leg) (port_of_leg other medium leg) packet (joined_goes_on b.pairs slot other medium leg joined high low) o
+
+loses : (b : Bridging) → AreMates b.pairs → LosesOnward b → LosesOnlySo b
+loses b mates onwards q cause t =
+    let l = onwards q cause t in
+    let j = goes_on_joined b.pairs mates l.p q l.on in
+    record {
+      slot = j.slot;
+      other = j.other;
+      medium = j.medium;
+      leg = j.leg;
+      plain = j.plain;
+      joined = j.joined;
+      q_is = j.q_is;
+      packet = l.packet;
+      opens = record { event = l.opens.event; later = l.opens.later; events_are = l.opens.events_are; to = l.opens.to; opened = l.opens.opened ∙ ap (λ n. Out n l.opens.to l.packet ∷ []) j.p_is };
+      lost = l.lost;
+      told = l.told;
+    }
+
+pub all_settled : (said : List Said) → All SettlesWhatOpens (bridgings_from empty no_members said)
+all_settled = all_among_mates SettlesWhatOpens (λ w calls s mates. settles (bridging w calls s) (said_four w calls s mates).1.0)
+
+pub all_lost : (said : List Said) → All LosesOnlySo (bridgings_from empty no_members said)
+all_lost = all_among_mates LosesOnlySo (λ w calls s mates. loses (bridging w calls s) (subst AreMates (sym (said_begins w calls s).pairs) mates) (said_four w calls s mates).1.1)

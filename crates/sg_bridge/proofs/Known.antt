@@ -1,20 +1,24 @@
 -- What a bridge knows of its calls, slot by slot, and how an outcome changes it.
 use Rattle.std.proofs.Common.{◌≡◌, ◌⊎◌, inl, inr, ℕ, ◌<◌, ◌≤◌, Bool, true, false, cond, not, ◌||◌, List, [], ◌∷◌, length, map, Option, Some, None, refl, sym, ap, ◌∙◌, arith, eqb, ltb}
+use Rattle.std.proofs.Math.ListN.{get_or-map}
 use Rattle.std.proofs.lemmas.Bool.{cases_eq, cases_lt, cond-false, eq-eqb, eqb-false, eqb-true, ne_eqb, false≢true}
 use Rattle.std.proofs.lemmas.List.{get_or-set_other, get_or-set_same, get_or_past, length-set}
-use Rattle.std.proofs.Math.ListN.{get_or-map}
 use Rattle.std.specs.List.{AllByRecursion, Any, filter}
 use Rattle.std.specs.Prelude.{option_map, set}
 use Rattle.sg_base.specs.declared.addresses.CallId.{CallId}
+use Rattle.sg_gateway.proofs.Pairs.{Pairs, each_two}
+use Rattle.sg_gateway.specs.Order.{IsBefore}
+use Rattle.sg_gateway.specs.Signals.{tells_ended}
+use Rattle.sg_gateway.specs.World.{Call, and_call, same_id}
+use Rattle.sg_outcome.specs.declared.outcomes.Outcome.{Outcome}
+use Rattle.sg_outcome.specs.declared.outcomes.Outcome.TheVariants.{Made, Ended}
+use Rattle.sg_outcome.specs.declared.outcomes.Why.{Why}
+use Rattle.sg_session.proofs.Lists.{any_cases, any_none, each_at_this, each_filter, each_weaker}
+use Rattle.sg_bridge.proofs.Found.{at_set}
 use Rattle.sg_bridge.proofs.Mates.{AreMates, emptied_mates}
 use Rattle.sg_bridge.specs.Pairs.{Members, after_outcome, emptied, in_pair, in_pair_at, joined_pair, member_at, new_member, now_live, parted, vacated}
 use Rattle.sg_bridge.specs.declared.members.Member.{Member}
 use Rattle.sg_bridge.specs.declared.members.Pair.{Pair}
-use Rattle.sg_gateway.proofs.Pairs.{Pairs}
-use Rattle.sg_gateway.specs.Order.{IsBefore}
-use Rattle.sg_gateway.specs.World.{Call, and_call, same_id}
-use Rattle.sg_outcome.specs.declared.outcomes.Outcome.TheVariants.{Made}
-use Rattle.sg_session.proofs.Lists.{any_cases, any_none, each_at_this, each_filter, each_weaker}
 
 -- what is known of a call: its number, its media, and whether it has a generation
 pub record Seen : Type 0 where
@@ -72,12 +76,8 @@ emptied_look slot calls s = go (joined_pair (member_at calls slot))
     gone : (c : Members) → seen_at c s ≡ seen_at calls s → seen_at (set c slot None) s ≡ cond (eqb slot s) None (seen_at calls s)
     gone c same = by (eqb slot s) refl
       where
-        at : (slot < length c) ⊎ (length c ≤ slot) → seen_at (set c slot None) slot ≡ None
-        at (inl lt) = ap (option_map seen_in) (get_or-set_same c slot None None lt)
-        at (inr le) = ap (option_map seen_in) (get_or_past (set c slot None) slot None (omega (arith, le, length-set c slot (let n : Option Member = None in n))))
-
         by : (b : Bool) → eqb slot s ≡ b → seen_at (set c slot None) s ≡ cond b None (seen_at calls s)
-        by true is = ap (seen_at (set c slot None)) (sym (eqb-true slot s is)) ∙ at (cases_lt slot (length c))
+        by true is = ap (seen_at (set c slot None)) (sym (eqb-true slot s is)) ∙ at_set c slot None (λ o. option_map seen_in o ≡ None) refl refl
         by false is = ap (option_map seen_in) (get_or-set_other c slot s None None (λ e. eqb-false slot s is (sym e))) ∙ same
 
     go : (o : Option Pair) → seen_at (vacated slot calls o).calls s ≡ cond (eqb slot s) None (seen_at calls s)
@@ -222,3 +222,51 @@ one_id c (x ∷ xs) apart a = go (λ rest. one_id c xs apart.1 rest) (any_cases 
     go : (Any (λ x. x ≡ c) xs → AllByRecursion (λ x. x.id ≡ c.id → x ≡ c) xs) → (x ≡ c) ⊎ Any (λ x. x ≡ c) xs → AllByRecursion (λ x. x.id ≡ c.id → x ≡ c) (x ∷ xs)
     go more (inl same) = ((λ e. same), each_weaker _ _ (λ y before e. absurd (before.id (ap (λ (c : Call). c.id) same ∙ sym e))) xs apart.0)
     go more (inr rest) = ((λ e. absurd ((each_at_this (IsBefore x) xs c apart.0 rest).id e)), more rest)
+
+-- ---- what the table tells fits what a bridge knows: a call is made in an empty slot, and ends in its own
+
+-- whoever is known in the slot has this number
+abbrev pub IsOfId : Members → ℕ → CallId → Type 0
+IsOfId calls slot id = (x : Seen) → seen_at calls slot ≡ Some x → x.id ≡ id
+
+abbrev pub FitsOne : Members → Outcome → Type 0
+FitsOne calls (Made id slot media) = seen_at calls slot ≡ None
+FitsOne calls (Ended id slot media why) = IsOfId calls slot id
+FitsOne calls other = Unit {0}
+
+-- each of them, after those before it
+abbrev pub Fits : Members → List Outcome → Type 0
+Fits calls [] = Unit {0}
+Fits calls (o ∷ os) = FitsOne calls o × Fits (after_outcome calls o).calls os
+
+-- each call is at its slot
+pub each_at_slot : (cs : List Call) → Pairs IsBefore cs → AllByRecursion (λ c. at_slot cs c.slot ≡ Some (seen_of c)) cs
+each_at_slot [] apart = tt
+each_at_slot (c ∷ cs) apart = (
+  ap (λ b. cond b (Some (seen_of c)) (at_slot cs c.slot)) (eq-eqb c.slot c.slot refl),
+  each_two (IsBefore c) (λ d. at_slot cs d.slot ≡ Some (seen_of d)) (λ d. at_slot (c ∷ cs) d.slot ≡ Some (seen_of d))
+      (λ d b at. cond-false (eqb c.slot d.slot) (Some (seen_of c)) (at_slot cs d.slot) (ne_eqb c.slot d.slot (λ e. let lt = b.slot in omega (arith, lt, e))) ∙ at) cs apart.0 (each_at_slot cs apart.1),
+)
+
+-- where a call ends, the others keep their numbers
+still_of_id : (calls : Members) (gone slot : ℕ) (id : CallId) → IsOfId calls slot id → IsOfId (emptied gone calls).calls slot id
+still_of_id calls gone slot id of x is = go (eqb gone slot) (sym (emptied_look gone calls slot) ∙ is)
+  where
+    go : (b : Bool) → cond b None (seen_at calls slot) ≡ Some x → x.id ≡ id
+    go true e = absurd cc
+    go false e = of x e
+
+pub ends_fit : (why : Why) (calls : Members) (ds : List Call) → AllByRecursion (λ d. IsOfId calls d.slot d.id) ds → Fits calls (map (tells_ended why) ds)
+ends_fit why calls [] of = tt
+ends_fit why calls (d ∷ ds) of = (
+  of.0,
+  ends_fit why (emptied d.slot calls).calls ds (each_weaker (λ e. IsOfId calls e.slot e.id) (λ e. IsOfId (emptied d.slot calls).calls e.slot e.id) (λ e is. still_of_id calls d.slot e.slot e.id is) ds of.1),
+)
+
+-- each call is known in its slot under its number
+pub each_of_id : (calls : Members) (cs : List Call) → Pairs IsBefore cs → ((s : ℕ) → seen_at calls s ≡ at_slot cs s) → AllByRecursion (λ c. IsOfId calls c.slot c.id) cs
+each_of_id calls cs apart knows =
+    each_weaker (λ c. at_slot cs c.slot ≡ Some (seen_of c)) (λ c. IsOfId calls c.slot c.id) (λ c at. of_it c at) cs (each_at_slot cs apart)
+  where
+    of_it : (c : Call) → at_slot cs c.slot ≡ Some (seen_of c) → IsOfId calls c.slot c.id
+    of_it c at x is = let same : Some x ≡ Some (seen_of c) = sym is ∙ knows c.slot ∙ at in (let one : x ≡ seen_of c = cc in ap (λ (x : Seen). x.id) one)

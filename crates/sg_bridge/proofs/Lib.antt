@@ -2,21 +2,13 @@ mod BothWays
 pub mod BridgeFrames
 mod Calls
 mod Cases
-mod Causes
-mod Fits
 mod Found
-mod Happening
 mod Inside
 mod Joined
 mod Known
 mod Lasting
-mod Loops
-mod Lost
-mod LostLines
 mod Mates
 mod OutcomeLines
 mod PutAt
 mod Stepped
-mod Telling
 mod Ties
-mod Unjoined

@@ -1,17 +1,15 @@
 -- Each pair stands at both its slots, so that a port goes on and comes back.
-use Rattle.std.proofs.Common.{◌≡◌, ◌⊎◌, inl, inr, ℕ, ◌<◌, Bool, true, false, cond, length, map, Option, Some, None, refl, sym, ap, ◌∙◌, subst, arith}
+use Rattle.std.proofs.Common.{◌≡◌, ◌⊎◌, inl, inr, ℕ, ◌<◌, length, map, Option, Some, None, refl, sym, ap, ◌∙◌, subst, arith}
 use Rattle.std.proofs.lemmas.Bool.{cases_eq, cases_lt}
-use Rattle.std.proofs.lemmas.List.{get_or-replicate, get_or-set_other, get_or-set_same, get_or_past, length-map, length-replicate, length-set}
-use Rattle.std.proofs.Math.ListN.{get_or-map}
+use Rattle.std.proofs.lemmas.List.{get_or-set_other, get_or-set_same, get_or_past, length-map, length-replicate, length-set}
 use Rattle.std.specs.Prelude.{option_map, set}
-use Rattle.sg_base.proofs.Cases.{none_some}
+use Rattle.sg_base.proofs.Cases.{map_some, none_some}
 use Rattle.sg_base.specs.declared.addresses.CallId.{CallId}
-use Rattle.sg_bridge.proofs.Found.{CanJoin, CanPart, first_in, others_in, second_in}
+use Rattle.sg_bridge.proofs.Found.{CanJoin, CanPart, at_set, first_in, live_keeps, no_member, others_in, second_in, set_other}
 use Rattle.sg_bridge.specs.Pairs.{Members, emptied, vacated, new_member, member_at, no_members, after_outcome, now_live, pair, joined_pair, paired, parted, in_pair, in_pair_at}
 use Rattle.sg_bridge.specs.declared.members.Found.{Found}
 use Rattle.sg_bridge.specs.declared.members.Member.{Member}
 use Rattle.sg_bridge.specs.declared.members.Pair.{Pair}
-use Rattle.sg_gateway.specs.World.{same_id}
 use Rattle.sg_outcome.specs.declared.outcomes.Outcome.{Outcome}
 use Rattle.sg_outcome.specs.declared.outcomes.Outcome.TheVariants.{Made, Live, Ended}
 
@@ -57,21 +55,12 @@ pub same_media : (m n : ℕ) (x y : Pair) → joined_in m x ≡ joined_in n y �
 same_media m n x y is =
     let looks : joined_look m x ≡ joined_look n y = cc in ap (λ (l : Look). l.media) looks
 
-look_set_other : (calls : Members) (slot s : ℕ) (v : Option Member) → (s ≡ slot → ⊥) → look (set calls slot v) s ≡ look calls s
-look_set_other calls slot s v other = ap (option_map look_of) (get_or-set_other calls slot s v None other)
-
-look_set_same : (calls : Members) (slot : ℕ) (v : Option Member) → slot < length calls → look (set calls slot v) slot ≡ option_map look_of v
-look_set_same calls slot v lt = ap (option_map look_of) (get_or-set_same calls slot v None lt)
-
 -- the slots in which no call is joined
 abbrev pub IsFree : Members → ℕ → Type 0
 IsFree calls s = (media : ℕ) (x : Pair) → look calls s ≡ joined_in media x → ⊥
 
 free_set : (calls : Members) (slot : ℕ) (v : Option Member) → ((media : ℕ) (x : Pair) → option_map look_of v ≡ joined_in media x → ⊥) → IsFree (set calls slot v) slot
-free_set calls slot v free media x is = elim (cases_lt slot (length calls)) [
-  | inl lt ↦ free media x (sym (look_set_same calls slot v lt) ∙ is)
-  | inr le ↦ none_some _ (ap (option_map look_of) (sym (get_or_past (set calls slot v) slot None (omega (arith, le, length-set calls slot v)))) ∙ is)
-]
+free_set calls slot v free = at_set calls slot v (λ o. (media : ℕ) (x : Pair) → option_map look_of o ≡ joined_in media x → ⊥) free (λ media x e. none_some _ e)
 
 -- ---- where calls stop being joined
 
@@ -104,7 +93,7 @@ module _ (old new : Members) (D : ℕ → Type 0) (decided : (s : ℕ) → D s �
 pub set_free : (calls : Members) (slot : ℕ) (v : Option Member) → IsFree calls slot → ((media : ℕ) (x : Pair) → option_map look_of v ≡ joined_in media x → ⊥) → AreMates calls → AreMates (set calls slot v)
 set_free calls slot v was free mates =
     freed calls (set calls slot v) (λ s. s ≡ slot) (λ s. cases_eq s slot) (λ s is. subst (IsFree (set calls slot v)) (sym is) (free_set calls slot v free))
-    (λ s other. look_set_other calls slot s v other) (λ s media x is at t of_x. absurd (was media x (ap (look calls) (sym is) ∙ at))) (length-set calls slot v ∙ mates.size) mates
+    (set_other calls slot v (option_map look_of)) (λ s media x is at t of_x. absurd (was media x (ap (look calls) (sym is) ∙ at))) (length-set calls slot v ∙ mates.size) mates
 
 -- ---- a pair that is parted
 
@@ -122,7 +111,7 @@ module _ (calls : Members) (x : Pair) where
   free_first : IsFree (parted x calls) x.first.slot
   free_first media y is = elim (cases_eq x.first.slot x.second.slot) [
     | inl same ↦ free_second media y (ap (look (parted x calls)) (sym same) ∙ is)
-    | inr other ↦ free_set calls x.first.slot _ (unpaired (member_at calls x.first.slot)) media y (sym (look_set_other (in_pair_at None x.first.slot calls) x.second.slot x.first.slot _ other) ∙ is)
+    | inr other ↦ free_set calls x.first.slot _ (unpaired (member_at calls x.first.slot)) media y (sym (set_other (in_pair_at None x.first.slot calls) x.second.slot _ (option_map look_of) x.first.slot other) ∙ is)
   ]
 
   pub either_of : (s : ℕ) → IsOf s x ⊎ (IsOf s x → ⊥)
@@ -141,7 +130,7 @@ module _ (calls : Members) (x : Pair) where
   pub parted_mates : Stands calls x → AreMates calls → AreMates (parted x calls)
   parted_mates stands mates =
       freed calls (parted x calls) (λ s. IsOf s x) either_of free_of
-      (λ s other. look_set_other (in_pair_at None x.first.slot calls) x.second.slot s _ (λ is. other (inr is)) ∙ look_set_other calls x.first.slot s _ (λ is. other (inl is)))
+      (λ s other. set_other (in_pair_at None x.first.slot calls) x.second.slot _ (option_map look_of) s (λ is. other (inr is)) ∙ set_other calls x.first.slot _ (option_map look_of) s (λ is. other (inl is)))
       (λ s media y of_x at t of_y. subst (IsOf t) (same_as s media y of_x at) of_y) (parted_size ∙ mates.size) mates
     where
       same_as : (s media : ℕ) (y : Pair) → IsOf s x → look calls s ≡ joined_in media y → y ≡ x
@@ -173,33 +162,13 @@ emptied_mates slot calls mates = go (joined_pair (member_at calls slot)) refl
           free_set (parted x calls) slot None (λ media y e. none_some _ e),
         )
 
-live_look : (id : CallId) (m : Option Member) → option_map look_of (now_live id m) ≡ option_map look_of m
-live_look id None = refl
-live_look id (Some m) = by (same_id m.id id)
-  where
-    by : (b : Bool) → option_map look_of (Some (cond b (record m { is_live = true }) m)) ≡ option_map look_of (Some m)
-    by true = refl
-    by false = refl
-
 live_mates : (id : CallId) (calls : Members) → AreMates calls → AreMates (map (now_live id) calls)
-live_mates id calls mates = record {
-  size = length-map calls (now_live id) ∙ mates.size;
-  mates = λ s media x is.
-      let was = mates.mates s media x (sym (same s) ∙ is) in
-      let stands = was.1 in (
-        was.0,
-        record { media = stands.media; at_first = same x.first.slot ∙ stands.at_first; at_second = same x.second.slot ∙ stands.at_second; apart = stands.apart },
-      );
-}
-  where
-    same : (s : ℕ) → look (map (now_live id) calls) s ≡ look calls s
-    same s = ap (option_map look_of) (get_or-map (now_live id) calls s None) ∙ live_look id (member_at calls s)
-
-new_free : (id : CallId) (n media : ℕ) (x : Pair) → option_map look_of (Some (new_member id n)) ≡ joined_in media x → ⊥
-new_free id n media x is = (let same : record { media = n; pair = None } ≡ record { media = media; pair = Some x } = cc in none_some x (ap (λ (l : Look). l.pair) same))
+live_mates id calls mates =
+    freed calls (map (now_live id) calls) (λ s. ⊥) (λ s. inr (λ no. no)) (λ s no. absurd no) (λ s none. live_keeps (option_map look_of) (λ m. refl) id calls s)
+    (λ s media x no. absurd no) (length-map calls (now_live id) ∙ mates.size) mates
 
 pub outcome_mates : (calls : Members) (o : Outcome) → AreMates calls → AreMates (after_outcome calls o).calls
-outcome_mates calls (Made id slot media) mates = let e = emptied_mates slot calls mates in set_free (emptied slot calls).calls slot (Some (new_member id media)) e.1 (new_free id media) e.0
+outcome_mates calls (Made id slot media) mates = let e = emptied_mates slot calls mates in set_free (emptied slot calls).calls slot (Some (new_member id media)) e.1 (free_look (Some (new_member id media)) refl) e.0
 outcome_mates calls (Live id) mates = live_mates id calls mates
 outcome_mates calls (Ended id slot media why) mates = (emptied_mates slot calls mates).0
 outcome_mates calls other mates = mates
@@ -268,19 +237,11 @@ parting_mates calls id f x can mates =
 pub no_members_mates : AreMates no_members
 no_members_mates = record {
   size = length-replicate 256 (let none : Option Member = None in none);
-  mates = λ s media x is. absurd (none_joined s media x is);
+  mates = λ s media x is. absurd (none_some _ (ap (option_map look_of) (sym (no_member s)) ∙ is));
 }
-  where
-    none_joined : (s media : ℕ) (x : Pair) → look no_members s ≡ joined_in media x → ⊥
-    none_joined s media x is = elim (cases_lt s 256) [
-      | inl lt ↦ none_some _ (ap (option_map look_of) (sym (get_or-replicate 256 s None None lt)) ∙ is)
-      | inr le ↦ none_some _ (ap (option_map look_of) (sym (get_or_past no_members s None (omega (arith, le, length-replicate 256 (let n : Option Member = None in n))))) ∙ is)
-    ]
 
 -- the call of a slot, by its look
 pub member_of : (calls : Members) (s media : ℕ) (x : Pair) → look calls s ≡ joined_in media x → (m : Member) × (member_at calls s ≡ Some m) × (m.media ≡ media) × (m.pair ≡ Some x)
-member_of calls s media x is = go (member_at calls s) refl is
-  where
-    go : (o : Option Member) → member_at calls s ≡ o → option_map look_of o ≡ joined_in media x → (m : Member) × (member_at calls s ≡ Some m) × (m.media ≡ media) × (m.pair ≡ Some x)
-    go None at is = absurd (none_some _ is)
-    go (Some m) at is = (let same : look_of m ≡ record { media = media; pair = Some x } = cc in (m, at, ap (λ (l : Look). l.media) same, ap (λ (l : Look). l.pair) same))
+member_of calls s media x is =
+    let m = map_some (member_at calls s) look_of (joined_look media x) is in
+    (m.0, m.1, ap (λ (l : Look). l.media) m.2, ap (λ (l : Look). l.pair) m.2)

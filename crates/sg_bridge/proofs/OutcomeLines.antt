@@ -1,31 +1,50 @@
--- What a bridge tells is read exactly where it is spelled so.
-use Rattle.std.proofs.Common.{◌≡◌, ◌<◌, ◌≤◌, ◌^◌, ℕ, Bool, true, false, cond, eqb, ltb, List, [], ◌∷◌, ◌++◌, length, drop, take, Option, Some, None, Result, Ok, Err, refl, sym, ap, ◌∙◌, arith, inl, inr, append_assoc, lit<}
+-- What a bridge tells is read exactly where it is spelled so. What is lost is told in the words of a drop.
+use Rattle.std.proofs.Common.{◌≡◌, ◌≤◌, ℕ, List, ◌++◌, length, drop, refl, sym, ap, ◌∙◌, arith, append_assoc, ◌<◌, ◌^◌, Bool, true, false, cond, eqb, ltb, [], ◌∷◌, take, Option, Some, None, Result, Ok, Err, inl, inr, lit<}
+use Rattle.std.proofs.lemmas.Bool.{eqb-true, le-ltb, ltb-false}
+use Rattle.std.proofs.lemmas.List.{take-append-drop}
+use Rattle.std.proofs.lemmas.Slice.Eq.{bytes_eq-Decides}
 use Rattle.std.specs.Fmt.{decimal}
 use Rattle.std.specs.List.{starts_with}
 use Rattle.std.specs.Prelude.{codes, nat_eq, option_map}
 use Rattle.std.specs.Str.{bytes_eq}
-use Rattle.std.proofs.lemmas.Bool.{eqb-true, le-ltb, ltb-false}
-use Rattle.std.proofs.lemmas.List.{take-append-drop}
-use Rattle.std.proofs.lemmas.Slice.Eq.{bytes_eq-Decides}
 use Rattle.sg_base.proofs.Cases.{chosen, guarded, is_name, map_some, none_some, some_is}
 use Rattle.sg_base.proofs.Cuts.{cut_again, cut_takes, lacks_append}
 use Rattle.sg_base.proofs.Decimals.{number_again, number_takes}
 use Rattle.sg_base.proofs.FourNumbers.{bind_some, decimal_lacks}
 use Rattle.sg_base.specs.Fields.{Lacks, cut_at, number_at}
 use Rattle.sg_base.specs.declared.addresses.CallId.{CallId}
+use Rattle.sg_base.specs.declared.faults.DropCause.{DropCause}
 use Rattle.sg_base.specs.declared.faults.ScriptFault.{ScriptFault}
 use Rattle.sg_outcome.specs.OutcomeFields.{FitsOutcome}
 use Rattle.sg_outcome.specs.OutcomeOf.{outcome_of}
-use Rattle.sg_outcome.specs.OutcomeText.{outcome_line}
+use Rattle.sg_outcome.specs.OutcomeText.{drop_cause_name, drop_cause_numbers, outcome_line}
 use Rattle.sg_outcome.specs.declared.outcomes.Outcome.{Outcome}
-use Rattle.sg_outcome.specs.declared.outcomes.Outcome.TheVariants.{Made, Dropped}
-use Rattle.sg_bridge.proofs.LostLines.{behind, drop_is, lost_is}
+use Rattle.sg_outcome.specs.declared.outcomes.Outcome.TheVariants.{Dropped, Made}
 use Rattle.sg_bridge.specs.BridgeOutcomeOf.{FitsBridgeOutcome, FitsCallId, FitsJoinFault, as_joined, as_lost, as_parted, as_table, body_at, bridge_outcome_of, call_at, calls_at, join_fault_at, plain_fault_at, told_by_word, told_of_one, unjoined_at}
 use Rattle.sg_bridge.specs.BridgeText.{bridge_outcome_line, join_fault_text}
 use Rattle.sg_bridge.specs.declared.faults.JoinFault.{JoinFault}
 use Rattle.sg_bridge.specs.declared.faults.JoinFault.TheVariants as faults
 use Rattle.sg_bridge.specs.declared.outcomes.BridgeOutcome.{BridgeOutcome}
 use Rattle.sg_bridge.specs.declared.outcomes.BridgeOutcome.TheVariants as tells
+
+abbrev pub behind : ℕ → DropCause → List ℕ
+behind port cause = decimal port ++ codes " " ++ drop_cause_name cause ++ drop_cause_numbers cause ++ codes "\n"
+
+pub drop_is : (port : ℕ) (cause : DropCause) → outcome_line (Dropped port cause) ≡ codes "drop " ++ behind port cause
+unfolding outcome_line
+drop_is port cause = refl
+
+pub lost_is : (port : ℕ) (cause : DropCause) → bridge_outcome_line (tells.Lost port cause) ≡ codes "lost " ++ behind port cause
+unfolding bridge_outcome_line
+lost_is port cause = refl
+
+pub has_word : (port : ℕ) (cause : DropCause) (line : List ℕ) → line ≡ outcome_line (Dropped port cause) → 5 ≤ length line
+has_word port cause line is = omega (arith, ap length (is ∙ drop_is port cause))
+
+pub lost_line : (port : ℕ) (cause : DropCause) (line out : List ℕ) → line ≡ outcome_line (Dropped port cause)
+    → (out ++ codes "lost ") ++ drop 5 line ≡ out ++ bridge_outcome_line (tells.Lost port cause)
+lost_line port cause line out is =
+    append_assoc out (codes "lost ") (drop 5 line) ∙ ap (λ (l : List ℕ). out ++ (codes "lost " ++ drop 5 l)) (is ∙ drop_is port cause) ∙ ap (λ (l : List ℕ). out ++ l) (sym (lost_is port cause))
 
 -- ---- calls, and lines that end
 
@@ -109,33 +128,26 @@ begins needle t e =
     sym (take-append-drop (length needle) t)
     ∙ ap (λ (l : List ℕ). l ++ drop (length needle) t) (sym ((bytes_eq-Decides needle (take (length needle) t)).0 e))
 
--- a name is this fault's
-named : (name word : List ℕ) (f g : JoinFault) → bytes_eq name word ≡ true → word ≡ join_fault_text g → FitsJoinFault g → Some g ≡ Some f → (name ≡ join_fault_text f) × FitsJoinFault f
-named name word f g is word_is fits same =
-    let one : g ≡ f = some_is g f same in
-    (is_name name word is ∙ word_is ∙ ap join_fault_text one, Rattle.std.proofs.Common.subst FitsJoinFault one fits)
+abbrev IsNamed : List ℕ → JoinFault → Type 0
+IsNamed name f = (name ≡ join_fault_text f) × FitsJoinFault f
 
-plain_takes : (name : List ℕ) (f : JoinFault) → plain_fault_at name ≡ Some f → (name ≡ join_fault_text f) × FitsJoinFault f
+-- a name is this fault's, or one of the others
+named : (name word : List ℕ) (g f : JoinFault) (rest : Option JoinFault) → word ≡ join_fault_text g → FitsJoinFault g → (rest ≡ Some f → IsNamed name f) → cond (bytes_eq name word) (Some g) rest ≡ Some f → IsNamed name f
+named name word g f rest word_is fits others e = elim (chosen (bytes_eq name word) (Some g) rest (Some f) e) [
+  | inl h ↦ (let one : g ≡ f = some_is g f h.1 in (is_name name word h.0 ∙ word_is ∙ ap join_fault_text one, Rattle.std.proofs.Common.subst FitsJoinFault one fits))
+  | inr h ↦ others h.1
+]
+
+plain_takes : (name : List ℕ) (f : JoinFault) → plain_fault_at name ≡ Some f → IsNamed name f
 unfolding plain_fault_at
 plain_takes name f e =
-    elim (chosen (bytes_eq name (codes "CallUnknown")) (Some faults.CallUnknown) _ (Some f) e) [
-      | inl h ↦ named name (codes "CallUnknown") f faults.CallUnknown h.0 refl tt h.1
-      | inr h ↦ elim (chosen (bytes_eq name (codes "Same")) (Some faults.Same) _ (Some f) h.1) [
-        | inl k ↦ named name (codes "Same") f faults.Same k.0 refl tt k.1
-        | inr k ↦ elim (chosen (bytes_eq name (codes "Unready")) (Some faults.Unready) _ (Some f) k.1) [
-          | inl l ↦ named name (codes "Unready") f faults.Unready l.0 refl tt l.1
-          | inr l ↦ elim (chosen (bytes_eq name (codes "MediaCount")) (Some faults.MediaCount) _ (Some f) l.1) [
-            | inl m ↦ named name (codes "MediaCount") f faults.MediaCount m.0 refl tt m.1
-            | inr m ↦ elim (chosen (bytes_eq name (codes "NotJoined")) (Some faults.NotJoined) None (Some f) m.1) [
-              | inl n ↦ named name (codes "NotJoined") f faults.NotJoined n.0 refl tt n.1
-              | inr n ↦ absurd (none_some f n.1)
-            ]
-          ]
-        ]
-      ]
-    ]
+    named name (codes "CallUnknown") faults.CallUnknown f _ refl tt
+    (named name (codes "Same") faults.Same f _ refl tt
+    (named name (codes "Unready") faults.Unready f _ refl tt
+    (named name (codes "MediaCount") faults.MediaCount f _ refl tt
+    (named name (codes "NotJoined") faults.NotJoined f None refl tt (λ none. absurd (none_some f none)))))) e
 
-fault_takes : (text : List ℕ) (f : JoinFault) → join_fault_at text ≡ Some f → (text ≡ join_fault_text f) × FitsJoinFault f
+fault_takes : (text : List ℕ) (f : JoinFault) → join_fault_at text ≡ Some f → IsNamed text f
 unfolding join_fault_at
 fault_takes text f e =
     elim (chosen (starts_with nat_eq text (codes "Joined ")) (option_map faults.Joined (call_at (drop 7 text))) (plain_fault_at text) (Some f) e) [

@@ -41,8 +41,7 @@ use Rattle.sg_gateway.specs.Ports.{call_at}
 use Rattle.sg_gateway.specs.Signals.{Signal, Tick, Psk, Manual, Offered, Answered, Reject, Bye, Answer, tells_ended, refused, ticked, new_call, in_new, in_old, tells_live, tells_text, offered_to, offering_side, tells_answer, answered, rejected_to, rejected, left, answer_to}
 use Rattle.sg_gateway.specs.Step.{Datagram, step}
 use Rattle.sg_gateway.specs.World.{Books, Call, World, call_of, free_slot, with_call, without_call, and_call, is_full, same_id}
-use Rattle.sg_bridge.proofs.Fits.{Fits, IsOfId, each_of_id, ends_fit}
-use Rattle.sg_bridge.proofs.Known.{Seen, at_and, at_filter, at_lives, at_map, at_slot, emptied_look, filter_one, is_in, live_look, lives, made_look, new_seen, none_at, none_lives, of_and, one_id, seen_at, seen_of}
+use Rattle.sg_bridge.proofs.Known.{Fits, IsOfId, each_of_id, ends_fit, Seen, at_and, at_filter, at_lives, at_map, at_slot, emptied_look, filter_one, is_in, live_look, lives, made_look, new_seen, none_at, none_lives, of_and, one_id, seen_at, seen_of}
 use Rattle.sg_bridge.proofs.Mates.{AreMates}
 use Rattle.sg_bridge.specs.Bridged.{told_and_parted}
 use Rattle.sg_bridge.specs.Pairs.{Members, after_outcome, emptied}

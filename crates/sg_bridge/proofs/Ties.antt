@@ -1,18 +1,16 @@
 -- Which calls are tied in pairs, slot by slot, and what an outcome does to the pairs in force.
-use Rattle.std.proofs.Common.{◌≡◌, ◌⊎◌, inl, inr, ℕ, ◌<◌, Bool, true, false, cond, List, [], ◌∷◌, length, map, Option, Some, None, refl, sym, ap, ◌∙◌, subst, arith}
+use Rattle.std.proofs.Common.{◌≡◌, ◌⊎◌, inl, inr, ℕ, ◌<◌, List, [], ◌∷◌, length, map, Option, Some, None, refl, sym, ap, ◌∙◌, subst, arith}
 use Rattle.std.proofs.lemmas.Bool.{cases_eq, cases_lt}
 use Rattle.std.proofs.lemmas.List.{get_or-set_other, get_or-set_same, get_or_past, length-set}
-use Rattle.std.proofs.Math.ListN.{get_or-map}
 use Rattle.std.specs.List.{Any}
 use Rattle.std.specs.Prelude.{option_map, option_to_list, set, ◌++◌}
-use Rattle.sg_base.proofs.Cases.{none_some}
+use Rattle.sg_base.proofs.Cases.{map_some, none_some}
 use Rattle.sg_base.specs.declared.addresses.CallId.{CallId}
-use Rattle.sg_gateway.specs.World.{same_id}
 use Rattle.sg_outcome.specs.declared.outcomes.Outcome.{Outcome}
 use Rattle.sg_outcome.specs.declared.outcomes.Outcome.TheVariants.{Made, Live, Ended}
 use Rattle.sg_session.proofs.Lists.{any_cases, any_none}
-use Rattle.sg_bridge.proofs.Fits.{Fits, FitsOne, IsOfId}
-use Rattle.sg_bridge.proofs.Known.{seen_at, seen_in}
+use Rattle.sg_bridge.proofs.Known.{Fits, FitsOne, IsOfId, seen_at, seen_in}
+use Rattle.sg_bridge.proofs.Found.{at_set, live_keeps, set_other}
 use Rattle.sg_bridge.proofs.Mates.{AreMates, IsFree, IsOf, either_of, free_of, joined_in, look_of, outcome_mates}
 use Rattle.sg_bridge.specs.Bridged.{Following, behind, told_and_parted}
 use Rattle.sg_bridge.specs.Lasting.{IsInForce, IsPartedAtEnd, IsPartyOf, WasParted}
@@ -39,9 +37,8 @@ tied id x = Some (record { id = id; pair = Some x })
 -- ---- single slots
 
 pub tied_some : (m : Option Member) (id : CallId) (x : Pair) → option_map tie_of m ≡ tied id x → (k : Member) × (m ≡ Some k) × (k.id ≡ id) × (k.pair ≡ Some x)
-tied_some None id x is = absurd cc
-tied_some (Some k) id x is =
-    let same : tie_of k ≡ record { id = id; pair = Some x } = cc in (k, refl, ap (λ (t : Tie). t.id) same, ap (λ (t : Tie). t.pair) same)
+tied_some m id x is =
+    let k = map_some m tie_of (record { id = id; pair = Some x }) is in (k.0, k.1, ap (λ (t : Tie). t.id) k.2, ap (λ (t : Tie). t.pair) k.2)
 
 pub some_tied : (m : Option Member) (k : Member) (id : CallId) (x : Pair) → m ≡ Some k → k.id ≡ id → k.pair ≡ Some x → option_map tie_of m ≡ tied id x
 some_tied m k id x at named is = ap (option_map tie_of) at ∙ (λ i. Some (let t : Tie = record { id = named i; pair = is i } in t))
@@ -63,18 +60,9 @@ look_tie (Some m) media x is =
     let same : look_of m ≡ record { media = media; pair = Some x } = cc in
     (m.id, ap (λ (p : Option Pair). Some (let t : Tie = record { id = m.id; pair = p } in t)) (ap (λ (l : Rattle.sg_bridge.proofs.Mates.Look). l.pair) same))
 
-pub tie_set_other : (calls : Members) (slot s : ℕ) (v : Option Member) → (s ≡ slot → ⊥) → tie (set calls slot v) s ≡ tie calls s
-tie_set_other calls slot s v other = ap (option_map tie_of) (get_or-set_other calls slot s v None other)
-
-pub tie_set_same : (calls : Members) (slot : ℕ) (v : Option Member) → slot < length calls → tie (set calls slot v) slot ≡ option_map tie_of v
-tie_set_same calls slot v lt = ap (option_map tie_of) (get_or-set_same calls slot v None lt)
-
 -- nobody is in a pair in a slot that was set to one who is in none
 set_free_at : (calls : Members) (slot : ℕ) (v : Option Member) → ((id : CallId) (x : Pair) → option_map tie_of v ≡ tied id x → ⊥) → (id : CallId) (x : Pair) → tie (set calls slot v) slot ≡ tied id x → ⊥
-set_free_at calls slot v free id x is = elim (cases_lt slot (length calls)) [
-  | inl lt ↦ free id x (sym (tie_set_same calls slot v lt) ∙ is)
-  | inr le ↦ none_some _ (ap (option_map tie_of) (sym (get_or_past (set calls slot v) slot None (omega (arith, le, length-set calls slot v)))) ∙ is)
-]
+set_free_at calls slot v free = at_set calls slot v (λ o. (id : CallId) (x : Pair) → option_map tie_of o ≡ tied id x → ⊥) free (λ id x e. none_some _ e)
 
 -- ---- pairs in force
 
@@ -104,17 +92,9 @@ whole_in calls mates named s id x is =
     let stands = (mates.mates s at.0 x at.1).1 in
     let first = look_tie (member_at calls x.first.slot) stands.media x stands.at_first in
     let second = look_tie (member_at calls x.second.slot) stands.media x stands.at_second in (
-      first.1 ∙ ap (λ n. tied n x) (of_first stands.apart first.0 (named x.first.slot first.0 x first.1)),
-      second.1 ∙ ap (λ n. tied n x) (of_second stands.apart second.0 (named x.second.slot second.0 x second.1)),
+      first.1 ∙ ap (λ n. tied n x) (elim (named x.first.slot first.0 x first.1) [ inl is ↦ is.0 | inr is ↦ absurd (stands.apart is.1) ]),
+      second.1 ∙ ap (λ n. tied n x) (elim (named x.second.slot second.0 x second.1) [ inl is ↦ absurd (stands.apart (sym is.1)) | inr is ↦ is.0 ]),
     )
-  where
-    of_first : (x.first.slot ≡ x.second.slot → ⊥) → (n : CallId) → IsPartyOf x n x.first.slot → n ≡ x.first.id
-    of_first apart n (inl is) = is.0
-    of_first apart n (inr is) = absurd (apart is.1)
-
-    of_second : (x.first.slot ≡ x.second.slot → ⊥) → (n : CallId) → IsPartyOf x n x.second.slot → n ≡ x.second.id
-    of_second apart n (inl is) = absurd (apart (sym is.1))
-    of_second apart n (inr is) = is.0
 
 -- a pair was in force, and isn't any more
 abbrev pub Unties : Members → Members → CallId → CallId → Type 0
@@ -172,7 +152,7 @@ parted_free calls p s of_p id x is = free_tie (parted p calls) s (free_of calls 
 
 pub parted_same : (calls : Members) (p : Pair) (s : ℕ) → (IsOf s p → ⊥) → tie (parted p calls) s ≡ tie calls s
 parted_same calls p s other =
-    tie_set_other (in_pair_at None p.first.slot calls) p.second.slot s _ (λ is. other (inr is)) ∙ tie_set_other calls p.first.slot s _ (λ is. other (inl is))
+    set_other (in_pair_at None p.first.slot calls) p.second.slot _ (option_map tie_of) s (λ is. other (inr is)) ∙ set_other calls p.first.slot _ (option_map tie_of) s (λ is. other (inl is))
 
 -- ---- an outcome
 
@@ -226,7 +206,7 @@ module _ (calls : Members) (id : CallId) (slot media : ℕ) (why : Rattle.sg_out
   ended = Ended id slot media why
 
   alone : joined_pair (member_at calls slot) ≡ None → Does calls ended (vacated slot calls None)
-  alone none = empty_does calls (set calls slot None) ended slot (none_joined _ none) (set_free_at calls slot None (λ j y e. none_some _ e)) (λ s other. tie_set_other calls slot s None other)
+  alone none = empty_does calls (set calls slot None) ended slot (none_joined _ none) (set_free_at calls slot None (λ j y e. none_some _ e)) (λ s other. set_other calls slot None (option_map tie_of) s other)
 
   module _ (p : Pair) (is : joined_pair (member_at calls slot) ≡ Some p) where
     there : (m : Option Member) → joined_pair m ≡ Some p → (k : Member) × (m ≡ Some k) × (k.pair ≡ Some p)
@@ -250,11 +230,11 @@ module _ (calls : Members) (id : CallId) (slot media : ℕ) (why : Rattle.sg_out
     free : (s : ℕ) → IsOf s p → (i : CallId) (x : Pair) → tie (set (parted p calls) slot None) s ≡ tied i x → ⊥
     free s of_p i x e = elim (cases_eq s slot) [
       | inl at ↦ set_free_at (parted p calls) slot None (λ j y e. none_some _ e) i x (ap (tie (set (parted p calls) slot None)) (sym at) ∙ e)
-      | inr other ↦ parted_free calls p s of_p i x (sym (tie_set_other (parted p calls) slot s None other) ∙ e)
+      | inr other ↦ parted_free calls p s of_p i x (sym (set_other (parted p calls) slot None (option_map tie_of) s other) ∙ e)
     ]
 
     same : (s : ℕ) → (IsOf s p → ⊥) → tie (set (parted p calls) slot None) s ≡ tie calls s
-    same s other = tie_set_other (parted p calls) slot s None (λ at. other (subst (λ n. IsOf n p) (sym at) is_of)) ∙ parted_same calls p s other
+    same s other = set_other (parted p calls) slot None (option_map tie_of) s (λ at. other (subst (λ n. IsOf n p) (sym at) is_of)) ∙ parted_same calls p s other
 
     on : InForce calls p
     on = whole_in calls mates named slot its_tie.0 p its_tie.1
@@ -304,19 +284,11 @@ made_does calls id slot media none =
     emptied_is = ap (λ (m : Option Member). (vacated slot calls (joined_pair m)).calls) nothing
 
     same : (s : ℕ) → (s ≡ slot → ⊥) → tie made s ≡ tie calls s
-    same s other = tie_set_other (emptied slot calls).calls slot s (Some (new_member id media)) other ∙ ap (λ (c : Members). tie c s) emptied_is ∙ tie_set_other calls slot s None other
-
-live_tie : (id : CallId) (m : Option Member) → option_map tie_of (now_live id m) ≡ option_map tie_of m
-live_tie id None = refl
-live_tie id (Some m) = by (same_id m.id id)
-  where
-    by : (b : Bool) → option_map tie_of (Some (cond b (record m { is_live = true }) m)) ≡ option_map tie_of (Some m)
-    by true = refl
-    by false = refl
+    same s other = set_other (emptied slot calls).calls slot (Some (new_member id media)) (option_map tie_of) s other ∙ ap (λ (c : Members). tie c s) emptied_is ∙ set_other calls slot None (option_map tie_of) s other
 
 pub outcome_does : (calls : Members) (o : Outcome) → AreMates calls → AreNamed calls → FitsOne calls o → Does calls o (after_outcome calls o)
 outcome_does calls (Made id slot media) mates named fits = made_does calls id slot media fits
-outcome_does calls (Live id) mates named fits = still_does calls (map (now_live id) calls) (Live id) (λ s. ap (option_map tie_of) (get_or-map (now_live id) calls s None) ∙ live_tie id (member_at calls s))
+outcome_does calls (Live id) mates named fits = still_does calls (map (now_live id) calls) (Live id) (live_keeps (option_map tie_of) (λ m. refl) id calls)
 outcome_does calls (Ended id slot media why) mates named fits = ended_does calls id slot media why mates named fits
 outcome_does calls other mates named fits = still_does calls calls other (λ s. refl)
 

@@ -1,3 +1,2 @@
-pub mod Completes
 mod Replayed
 mod Steps

@@ -1,21 +1,17 @@
 -- What a bridge answers, and what has passed between it and the outside by then.
-use Rattle.std.specs.Prelude.{◌≡◌, ◌⊎◌, ◌≤◌, ◌+◌, ◌^◌, length, map, ℕ, false, List, [], ◌∷◌, Option, Some, None}
+use Rattle.std.specs.Prelude.{map, ℕ, false, true, List, [], ◌∷◌, Option, Some, None}
 use Rattle.std.specs.List.{flat_map}
-use Rattle.sg_base.specs.declared.faults.ScriptFault.{ScriptFault}
 use Rattle.sg_bridge.specs.BridgeLines.{bridge_line_of, bridge_version_after}
 use Rattle.sg_bridge.specs.BridgeText.{bridge_outcome_line}
 use Rattle.sg_bridge.specs.Bridged.{Said, Happens, Joins, Parts, bridged_outcomes}
 use Rattle.sg_bridge.specs.declared.lines.BridgeLine.{BridgeLine}
 use Rattle.sg_bridge.specs.declared.lines.BridgeLine.TheVariants as lines
-use Rattle.sg_edge.specs.Links.{Added}
-use Rattle.sg_edge.specs.Told.{Tally, TookIn, Wrote}
+use Rattle.sg_edge.specs.Told.{Tally}
 use Rattle.sg_gateway.specs.Drawn.{Supplied, supplied}
 use Rattle.sg_gateway.specs.Events.{events_of}
 use Rattle.sg_trace.specs.Course.{Course, Given, Ways, course}
-use Rattle.sg_trace.specs.Loop.{PromptEnds, Tellings}
-use Rattle.sg_trace.specs.Trace.{AtFault}
+use Rattle.sg_trace.specs.Loop.{IsCompleteRun, IsRun, Tellings}
 use Rattle.sg_trace.specs.declared.status.Status.{Status}
-use Rattle.sg_trace.specs.declared.status.Status.TheVariants.{Done, NoMemory}
 
 -- ---- the course of a bridge
 
@@ -44,23 +40,11 @@ bridge_text said = flat_map bridge_outcome_line (bridged_outcomes said)
 
 -- ---- how a run ends
 
--- The status, by the octets read, drawn and written, and by what the source has left: as of every loop that plays each line
--- at once. A line says two things at most, a tick and a datagram.
-abbrev pub BridgeEnds : Status → List ℕ → List ℕ → List ℕ → Tally → Type 0
-BridgeEnds status octets draws out left = PromptEnds of_bridge bridge_text 2 status octets draws out left
+-- The bridge read these octets, drew these, and wrote those, as every loop does that plays each line at once. A line says two things
+-- at most, a tick and a datagram.
+abbrev pub IsBridge : Status → Tellings → Tellings → List ℕ → List ℕ → List ℕ → Type 0
+IsBridge status old new octets draws out = IsRun of_bridge bridge_text 2 true status old new octets draws out
 
--- The bridge read these octets, of which there are at most 2^30 + 1, drew these, and wrote those.
-pub record IsBridge (status : Status) (old new : Tellings) (octets draws out : List ℕ) : Type 0 where
-  pub took : TookIn old.left new.left octets
-  pub drew : Added old.drawn new.drawn draws
-  pub wrote : Wrote old.written new.written out
-  pub ends : BridgeEnds status octets draws out new.left
-  pub bound : length octets ≤ 2 ^ 30 + 1
-
--- The octets are a bridge's script: whatever is drawn, no line of them is outside the grammar.
-abbrev pub IsBridgeScript : List ℕ → Type 0
-IsBridgeScript octets = (draws : List ℕ) (n : ℕ) (fault : ScriptFault) → (bridge_trace octets draws).stop ≡ AtFault n fault → ⊥
-
--- Where the source's octets are such a script, the bridge handles it to its end, or memory runs out.
+-- Where the source's octets are a bridge's script, whatever is drawn, the bridge handles it to its end, or memory runs out.
 abbrev pub IsCompleteBridge : Status → Tally → Tally → Type 0
-IsCompleteBridge status left left' = (all rest : List ℕ) → left.told ≡ Some all → left'.told ≡ Some rest → IsBridgeScript all → (status ≡ Done) ⊎ (status ≡ NoMemory)
+IsCompleteBridge status left left' = IsCompleteRun of_bridge status left left'

@@ -70,9 +70,8 @@ sealing_stays route side new is same = λ i. record route { side = (ap Seals sam
 -- what no side opens is handed back with its cause
 pub refused_so : (kind : Kind) (d : List ℕ) (e : List ℕ × DropCause) (b : Bool) (r : Result Taken DropCause) → b ≡ false → (let x : Result Opened (List ℕ × DropCause) = Err e in x ≡ opened_of kind d r)
     → (let x : Result (List ℕ) (List ℕ × DropCause) = Err e in x ≡ kept_or d (packet_in (cond b (Err TooLong) r)))
-refused_so kind d e true r is h = absurd cc
-refused_so kind d e false (Ok t) is h = absurd cc
 refused_so kind d e false (Err cause) is h = let same : e ≡ (d, cause) = cc in ap (λ p. Err p) same
+refused_so kind d e b r is h = absurd cc
 
 -- what isn't too long is as the session has it
 pub not_too_long : (P : Result Taken DropCause → Type 0) (b : Bool) (r : Result Taken DropCause) → b ≡ false → P r → P (cond b (Err TooLong) r)
@@ -83,13 +82,10 @@ not_too_long P false r is h = h
 pub seal_refused : (s : Session) (d : List ℕ) (e : List ℕ × DropCause) (b same : Bool) (r : Result Taken DropCause) → b ≡ false → same ≡ true
     → (let x : Result Sealed (List ℕ × DropCause) = Err e in x ≡ sealed_of s d r)
     → (let x : Result (List ℕ) (List ℕ × DropCause) = Err e in x ≡ kept_or d (datagram_in s (cond b (Err TooLong) (cond same r (Err SourceUnknown)))))
-seal_refused s d e true same r is at h = absurd cc
-seal_refused s d e false false r is at h = absurd cc
-seal_refused s d e false true (Ok t) is at h = absurd cc
 seal_refused s d e false true (Err cause) is at h = let same : e ≡ (d, cause) = cc in ap (λ p. Err p) same
+seal_refused s d e b same r is at h = absurd cc
 
 -- what comes from there is as the session has it
 pub from_there : (P : Result Taken DropCause → Type 0) (b same : Bool) (r : Result Taken DropCause) → b ≡ false → same ≡ true → P r → P (cond b (Err TooLong) (cond same r (Err SourceUnknown)))
-from_there P true same r is at h = absurd cc
-from_there P false false r is at h = absurd cc
 from_there P false true r is at h = h
+from_there P b same r is at h = absurd cc

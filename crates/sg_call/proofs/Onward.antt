@@ -51,8 +51,7 @@ module _ (c : world.Call) (port : ℕ) where
   current : (routes : List Route) (ss : List Session) → EachPair (RouteStandsFor c.slot) routes ss → AllByRecursion (λ s. is_current c s ≡ true) ss → plain_by port routes ≡ plain_in c port ss
   current [] [] each now = refl
   current (p ∷ ps) (s ∷ ss) each now = one p s each.0 now.0 _ _ (current ps ss each.1 now.1)
-  current [] (s ∷ ss) each now = absurd each
-  current (p ∷ ps) [] each now = absurd each
+  current routes ss each now = absurd each
 
   earlier : (ss : List Session) → AllByRecursion (λ s. is_current c s ≡ false) ss → plain_in c port ss ≡ None
   earlier [] before = refl

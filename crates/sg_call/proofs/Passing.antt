@@ -3,8 +3,9 @@ use Rattle.std.proofs.Common.{◌≡◌, ℕ, ◌+◌, Bool, true, false, cond, 
 use Rattle.std.proofs.Math.ListN.{set}
 use Rattle.std.proofs.lemmas.Bool.{eqb-true, false≢true}
 use Rattle.std.proofs.lemmas.List.{set-get_or, map-append}
-use Rattle.std.proofs.lemmas.List.Elements.{All-from_recursion}
+use Rattle.std.proofs.lemmas.List.Elements.{All-from_recursion, filter-append}
 use Rattle.std.specs.List.{AllByRecursion, filter, position}
+use Rattle.sg_base.proofs.Cases.{none_some}
 use Rattle.sg_base.specs.declared.addresses.Address.{Address}
 use Rattle.sg_base.specs.declared.faults.DropCause.{DropCause}
 use Rattle.sg_base.specs.declared.faults.DropCause.TheVariants.{PortUnused, TooLong, SourceUnknown}
@@ -53,12 +54,7 @@ with_taken now c s (Ok t) = call_after now c s t
 with_taken now c s (Err cause) = c
 
 pub filter_append : {X : Type 0} (test : X → Bool) (xs ys : List X) → filter test (xs ++ ys) ≡ filter test xs ++ filter test ys
-filter_append test [] ys = refl
-filter_append test (x ∷ xs) ys = go (filter_append test xs ys) (test x)
-  where
-    go : filter test (xs ++ ys) ≡ filter test xs ++ filter test ys → (b : Bool) → cond b (x ∷ filter test (xs ++ ys)) (filter test (xs ++ ys)) ≡ cond b (x ∷ filter test xs) (filter test xs) ++ filter test ys
-    go rest true = ap (λ l. x ∷ l) rest
-    go rest false = rest
+filter_append = filter-append
 
 module _ (now : ℕ) (c : Call) where
   current_by_name : (s t : Session) → s.name ≡ t.name → is_current c s ≡ is_current c t
@@ -221,9 +217,6 @@ module _ (now port : ℕ) (from : Address) (d : List ℕ) (c : Call) where
 
     sessions_are : sessions_at c port ≡ filter (At c.slot port) stand.now ++ filter (At c.slot port) stand.before
     sessions_are = ap (filter (At c.slot port)) stand.are ∙ filter_append (At c.slot port) stand.now stand.before
-
-    none_some : {A : Type 0} (x : A) → None ≡ Some x → ⊥
-    none_some x e = cc
 
     -- a list with a place has an element
     with_some : (P : Type 0) (i : ℕ) → ((t : Session) → P) → (ss : List Session) → position (At c.slot port) ss ≡ Some i → P

@@ -1,6 +1,7 @@
 -- A call under a new generation.
-use Rattle.std.proofs.Common.{◌≡◌, ℕ, ◌+◌, ◌≤◌, Bool, true, false, cond, ◌&&◌, List, [], ◌∷◌, ◌++◌, map, length, Option, Some, None, Result, Ok, Err, refl, sym, ap, ◌∙◌, subst, eqb, arith}
-use Rattle.std.proofs.lemmas.Bool.{eqb-true, eq-eqb, false≢true}
+use Rattle.std.proofs.Common.{◌≡◌, ℕ, ◌+◌, ◌≤◌, Bool, true, false, cond, ◌&&◌, List, [], ◌∷◌, ◌++◌, map, length, Option, Some, None, Result, Ok, Err, refl, sym, ap, ◌∙◌, subst, eqb, ltb, arith}
+use Rattle.std.proofs.lemmas.Bool.{eqb-true, eq-eqb, ne_eqb, false≢true}
+use Rattle.std.proofs.Math.Bool.{and-true}
 use Rattle.std.proofs.lemmas.List.{append-nil}
 use Rattle.std.specs.Global.{Vec}
 use Rattle.std.specs.List.{AllByRecursion, filter}
@@ -32,7 +33,7 @@ use Rattle.sg_leg.specs.declared.books.Books.{Books}
 use Rattle.sg_leg.specs.declared.media_spec.SideSpec.{SideSpec}
 use Rattle.sg_psk.specs.declared.pairs.Pair.{Pair}
 use Rattle.sg_session.proofs.Inversions.{after_ok_is, ok_is}
-use Rattle.sg_session.proofs.Lists.{each_weaker, each_append, each_filter}
+use Rattle.sg_session.proofs.Lists.{each_weaker, each_append, each_filter, both}
 use Rattle.sg_session.specs.Ring.{Installed, RingKey, install}
 use Rattle.sg_session.specs.Session.{Key, Session, same_direction}
 use Rattle.sg_session.specs.Stages.{after_ok, stop_if}
@@ -40,6 +41,7 @@ use Rattle.sg_session.specs.declared.names.Direction.{Direction}
 use Rattle.sg_session.specs.declared.names.Direction.TheVariants.{Opening, Sealing}
 use Rattle.sg_call.proofs.Offering.{idle_begun}
 use Rattle.sg_call.proofs.Passing.{filter_append}
+use Rattle.sg_call.proofs.Signalled.{sessions_as}
 use Rattle.sg_call.specs.Adding.{Adds, opens_route, opens_side, renewed_value}
 use Rattle.sg_call.specs.Settling.{BooksStandFor, IsSettled, Settles}
 use Rattle.sg_call.specs.Standing.{SideStandsFor, RouteStandsFor, SessionsStand, CallStandsFor}
@@ -54,11 +56,8 @@ abbrev pub IsOwn : ℕ → ℕ → Session → Type 0
 IsOwn call generation s = s.name.owner ≡ owner_at call generation s.name.owner.medium s.name.owner.direction
 
 streams_own : (call generation m : ℕ) (dir : Direction) (keys : List Key) (s : Stream) (window : ℕ) (x : Medium) → AllByRecursion (IsOwn call generation) (stream_sessions (owner_at call generation m dir) keys s window x)
-streams_own call generation m dir keys s window x = (refl, two x.has_rtcp)
-  where
-    two : (b : Bool) → AllByRecursion (IsOwn call generation) (cond b (stream_session (owner_at call generation m dir) keys s window x Rtcp s.encrypts_rtcp 10 ∷ []) [])
-    two true = (refl, tt)
-    two false = tt
+streams_own call generation m dir keys s window x =
+    (refl, both (AllByRecursion (IsOwn call generation)) x.has_rtcp (stream_session (owner_at call generation m dir) keys s window x Rtcp s.encrypts_rtcp 10 ∷ []) [] (refl, tt) tt)
 
 all_own : (call generation m n : ℕ) (media : List (Option Medium)) → AllByRecursion (IsOwn call generation) (sessions_from call generation m n media)
 all_own call generation m n [] = tt
@@ -77,29 +76,15 @@ leg_most Opening Rtcp = omega arith
 leg_most Sealing Rtp = omega arith
 leg_most Sealing Rtcp = omega arith
 
-direction_same : (d e : Direction) (k l : Kind) → leg_of d k ≡ leg_of e l → d ≡ e
-direction_same Opening Opening k l e = refl
-direction_same Sealing Sealing k l e = refl
-direction_same Opening Sealing Rtp Rtp e = absurd (omega (arith, e))
-direction_same Opening Sealing Rtp Rtcp e = absurd (omega (arith, e))
-direction_same Opening Sealing Rtcp Rtp e = absurd (omega (arith, e))
-direction_same Opening Sealing Rtcp Rtcp e = absurd (omega (arith, e))
-direction_same Sealing Opening Rtp Rtp e = absurd (omega (arith, e))
-direction_same Sealing Opening Rtp Rtcp e = absurd (omega (arith, e))
-direction_same Sealing Opening Rtcp Rtp e = absurd (omega (arith, e))
-direction_same Sealing Opening Rtcp Rtcp e = absurd (omega (arith, e))
+-- what a leg is told by
+abbrev of_leg : ℕ → Direction × Kind
+of_leg n = cond (ltb n 2) (Opening, cond (eqb n 0) Rtp Rtcp) (Sealing, cond (eqb n 2) Rtp Rtcp)
 
-kind_same : (d e : Direction) (k l : Kind) → leg_of d k ≡ leg_of e l → k ≡ l
-kind_same d e Rtp Rtp is = refl
-kind_same d e Rtcp Rtcp is = refl
-kind_same Opening Opening Rtp Rtcp is = absurd (omega (arith, is))
-kind_same Opening Sealing Rtp Rtcp is = absurd (omega (arith, is))
-kind_same Sealing Opening Rtp Rtcp is = absurd (omega (arith, is))
-kind_same Sealing Sealing Rtp Rtcp is = absurd (omega (arith, is))
-kind_same Opening Opening Rtcp Rtp is = absurd (omega (arith, is))
-kind_same Opening Sealing Rtcp Rtp is = absurd (omega (arith, is))
-kind_same Sealing Opening Rtcp Rtp is = absurd (omega (arith, is))
-kind_same Sealing Sealing Rtcp Rtp is = absurd (omega (arith, is))
+leg_back : (d : Direction) (k : Kind) → of_leg (leg_of d k) ≡ (d, k)
+leg_back Opening Rtp = refl
+leg_back Opening Rtcp = refl
+leg_back Sealing Rtp = refl
+leg_back Sealing Rtcp = refl
 
 name_same : (slot call generation : ℕ) (s t : Session) → IsOwn call generation s → IsOwn call generation t → port_of slot s ≡ port_of slot t → s.name ≡ t.name
 name_same slot call generation s t p q e =
@@ -107,10 +92,9 @@ name_same slot call generation s t p q e =
     let b : leg_of t.name.owner.direction t.name.kind ≤ 3 = leg_most t.name.owner.direction t.name.kind in
     let route : leg_of s.name.owner.direction s.name.kind ≡ leg_of t.name.owner.direction t.name.kind = omega (arith, a, b, e) in
     let medium : s.name.owner.medium ≡ t.name.owner.medium = omega (arith, a, b, e) in
-    let dir : s.name.owner.direction ≡ t.name.owner.direction = direction_same s.name.owner.direction t.name.owner.direction s.name.kind t.name.kind route in
-    let kind : s.name.kind ≡ t.name.kind = kind_same s.name.owner.direction t.name.owner.direction s.name.kind t.name.kind route in
-    let owner : s.name.owner ≡ t.name.owner = p ∙ (λ i. owner_at call generation (medium i) (dir i)) ∙ sym q in
-    (λ i. record { owner = owner i; kind = kind i })
+    let both : (s.name.owner.direction, s.name.kind) ≡ (t.name.owner.direction, t.name.kind) = sym (leg_back s.name.owner.direction s.name.kind) ∙ ap of_leg route ∙ leg_back t.name.owner.direction t.name.kind in
+    let owner : s.name.owner ≡ t.name.owner = p ∙ (λ i. owner_at call generation (medium i) (both i).0) ∙ sym q in
+    (λ i. record { owner = owner i; kind = (both i).1 })
 
 ports_apart : (slot call generation : ℕ) (s : Session) (ss : List Session) → IsOwn call generation s → AllByRecursion (IsOwn call generation) ss → AllByRecursion (DifferInName s) ss → AllByRecursion (λ n. port_of slot s ≡ n → ⊥) (map (port_of slot) ss)
 ports_apart slot call generation s [] p q d = tt
@@ -123,19 +107,15 @@ own_ports slot call generation (s ∷ ss) q d = (ports_apart slot call generatio
 -- The opening routes of the generation before.
 each_place : (P : ℕ → Type 0) (g : Session → ℕ) (test : Session → Bool) (ss : List Session) → AllByRecursion P (map g ss) → AllByRecursion P (map g (filter test ss))
 each_place P g test [] p = tt
-each_place P g test (s ∷ ss) p = go (test s) (each_place P g test ss p.1)
-  where
-    go : (b : Bool) → AllByRecursion P (map g (filter test ss)) → AllByRecursion P (map g (cond b (s ∷ filter test ss) (filter test ss)))
-    go true rest = (p.0, rest)
-    go false rest = rest
+each_place P g test (s ∷ ss) p =
+    let rest = each_place P g test ss p.1 in
+    both (λ l. AllByRecursion P (map g l)) (test s) (s ∷ filter test ss) (filter test ss) (p.0, rest) rest
 
 fewer_ports : (slot : ℕ) (test : Session → Bool) (ss : List Session) → HaveOwnPorts slot ss → HaveOwnPorts slot (filter test ss)
 fewer_ports slot test [] p = tt
-fewer_ports slot test (s ∷ ss) p = go (test s) (fewer_ports slot test ss p.1)
-  where
-    go : (b : Bool) → HaveOwnPorts slot (filter test ss) → HaveOwnPorts slot (cond b (s ∷ filter test ss) (filter test ss))
-    go true rest = (each_place (λ n. port_of slot s ≡ n → ⊥) (port_of slot) test ss p.0, rest)
-    go false rest = rest
+fewer_ports slot test (s ∷ ss) p =
+    let rest = fewer_ports slot test ss p.1 in
+    both (HaveOwnPorts slot) (test s) (s ∷ filter test ss) (filter test ss) (each_place (λ n. port_of slot s ≡ n → ⊥) (port_of slot) test ss p.0, rest) rest
 
 opens_same : (side : MediaSide) (s : Session) → SideStandsFor side s → opens_side side ≡ is_opening s
 opens_same (Opens o) s h = ap (λ d. same_direction d Opening) (sym h.0)
@@ -143,8 +123,6 @@ opens_same (Seals o) s h = ap (λ d. same_direction d Opening) (sym h.0)
 
 fewer_routes : (slot : ℕ) (routes : List Route) (ss : List Session) → EachPair (RouteStandsFor slot) routes ss → EachPair (RouteStandsFor slot) (filter opens_route routes) (filter is_opening ss)
 fewer_routes slot [] [] h = tt
-fewer_routes slot [] (s ∷ ss) h = absurd h
-fewer_routes slot (route ∷ routes) [] h = absurd h
 fewer_routes slot (route ∷ routes) (s ∷ ss) h =
     subst (λ b. EachPair (RouteStandsFor slot) (cond (opens_route route) (route ∷ filter opens_route routes) (filter opens_route routes)) (cond b (s ∷ filter is_opening ss) (filter is_opening ss))) (opens_same route.side s h.0.side)
     (go (opens_route route) (fewer_routes slot routes ss h.1))
@@ -153,6 +131,7 @@ fewer_routes slot (route ∷ routes) (s ∷ ss) h =
         → EachPair (RouteStandsFor slot) (cond b (route ∷ filter opens_route routes) (filter opens_route routes)) (cond b (s ∷ filter is_opening ss) (filter is_opening ss))
     go true rest = (h.0, rest)
     go false rest = rest
+fewer_routes slot routes ss h = absurd h
 
 opening_is : (d : Direction) → same_direction d Opening ≡ true → d ≡ Opening
 opening_is Opening e = refl
@@ -167,17 +146,13 @@ all_opening (s ∷ ss) = go (is_opening s) refl (all_opening ss)
     go true e rest = (opening_is s.name.owner.direction e, rest)
     go false e rest = rest
 
-and_true : (a : Bool) → (a && true) ≡ a
-and_true true = refl
-and_true false = refl
-
 and_false : (a : Bool) → (a && false) ≡ false
 and_false true = refl
 and_false false = refl
 
 now_kept : (c : Call) (ss : List Session) → AllByRecursion (λ s. is_current c s ≡ true) ss → filter (λ s. is_opening s && is_current c s) ss ≡ filter is_opening ss
 now_kept c [] p = refl
-now_kept c (s ∷ ss) p = let rest = now_kept c ss p.1 in let test : (is_opening s && is_current c s) ≡ is_opening s = ap (λ b. is_opening s && b) p.0 ∙ and_true (is_opening s) in
+now_kept c (s ∷ ss) p = let rest = now_kept c ss p.1 in let test : (is_opening s && is_current c s) ≡ is_opening s = ap (λ b. is_opening s && b) p.0 ∙ and-true (is_opening s) in
     (λ i. cond (test i) (s ∷ rest i) (rest i))
 
 before_gone : (c : Call) (ss : List Session) → AllByRecursion (λ s. is_current c s ≡ false) ss → filter (λ s. is_opening s && is_current c s) ss ≡ []
@@ -185,22 +160,8 @@ before_gone c [] p = refl
 before_gone c (s ∷ ss) p = let rest = before_gone c ss p.1 in let test : (is_opening s && is_current c s) ≡ false = ap (λ b. is_opening s && b) p.0 ∙ and_false (is_opening s) in
     ap (λ b. cond b (s ∷ filter (λ s. is_opening s && is_current c s) ss) (filter (λ s. is_opening s && is_current c s) ss)) test ∙ rest
 
-not_equal : (a b : ℕ) → (a ≡ b → ⊥) → eqb a b ≡ false
-not_equal a b differ = go (eqb a b) refl
-  where
-    go : (x : Bool) → eqb a b ≡ x → eqb a b ≡ false
-    go true e = absurd (differ (eqb-true a b e))
-    go false e = e
-
 no_longer : (g n : ℕ) → eqb (g + 1) n ≡ true → eqb (g + 1) (n + 1) ≡ false
-no_longer g n e = let same : g + 1 ≡ n = eqb-true (g + 1) n e in not_equal (g + 1) (n + 1) (λ f. (let x = f in let y = same in absurd (omega (arith, x, y))))
-
-self_equal : (n : ℕ) → eqb n n ≡ true
-self_equal n = go (eqb n n) refl
-  where
-    go : (x : Bool) → eqb n n ≡ x → eqb n n ≡ true
-    go true e = e
-    go false e = absurd (false≢true (sym e ∙ eq-eqb n n refl))
+no_longer g n e = let same : g + 1 ≡ n = eqb-true (g + 1) n e in ne_eqb (g + 1) (n + 1) (λ f. (let x = f in let y = same in absurd (omega (arith, x, y))))
 
 -- what is used of the call before
 record IsBefore (call : CallValue) (c : Call) : Type 0 where
@@ -212,21 +173,12 @@ record IsBefore (call : CallValue) (c : Call) : Type 0 where
 
 -- a call that is keyed manually has one medium
 before_manual : (pairs : List Pair) (call : CallValue) (c : Call) → CallStandsFor pairs call c → IsBefore (record call { media = 1 }) (record c { media = 1; manual = true })
-before_manual pairs call c h = let k = h.sessions in record {
+before_manual pairs call c h = record {
   id_is = h.id_is;
   slot_is = h.slot_is;
   media_are = refl;
   few = omega arith;
-  sessions = record {
-    now = k.now;
-    before = k.before;
-    are = k.are;
-    now_stand = k.now_stand;
-    before_stand = k.before_stand;
-    now_current = k.now_current;
-    before_not = k.before_not;
-    before_open = k.before_open;
-  };
+  sessions = sessions_as call.current call.earlier c (record c { media = 1; manual = true }) refl refl refl h.sessions;
 }
 
 -- the call's new sessions are those of its next generation
@@ -248,7 +200,7 @@ call_renewed : (pairs : List Pair) (call : CallValue) (c : Call) (now : ℕ) (l 
     → l ≡ record { slot = c.slot; media = c.media; manual = c.manual } → ArePlanned plan news → Adds call.slot plan [] routes
     → CallStandsFor pairs (renewed_value call now l routes) (renewed now c news)
 call_renewed pairs call c now l news plan routes h new live each adds =
-    let some : eqb (c.generations + 1) 0 ≡ false = not_equal (c.generations + 1) 0 (λ e. (let x = e in absurd (omega (arith, x)))) in
+    let some : eqb (c.generations + 1) 0 ≡ false = ne_eqb (c.generations + 1) 0 (λ e. (let x = e in absurd (omega (arith, x)))) in
     record {
       id_is = h.id_is;
       slot_is = h.slot_is;
@@ -268,7 +220,7 @@ call_renewed pairs call c now l news plan routes h new live each adds =
           own = fewer_ports c.slot is_opening h.sessions.now h.sessions.now_stand.own;
           each = fewer_routes c.slot call.current h.sessions.now h.sessions.now_stand.each;
         };
-        now_current = each_weaker _ _ (λ s p. ap (λ n. eqb (n + 1) (c.generations + 1)) p.0 ∙ self_equal (c.generations + 1)) news new.named;
+        now_current = each_weaker _ _ (λ s p. ap (λ n. eqb (n + 1) (c.generations + 1)) p.0 ∙ eq-eqb _ (c.generations + 1) refl) news new.named;
         before_not = each_filter (λ (s : Session). eqb (s.name.owner.generation + 1) (c.generations + 1) ≡ false) is_opening h.sessions.now
             (each_weaker _ _ (λ (s : Session) e. no_longer s.name.owner.generation c.generations e) h.sessions.now h.sessions.now_current);
         before_open = all_opening h.sessions.now;

@@ -19,7 +19,7 @@ use Rattle.sg_call.proofs.Passing.{filter_append}
 use Rattle.sg_call.proofs.Standing.{state_moved}
 use Rattle.sg_call.specs.Settling.{IsRejected, Settles}
 use Rattle.sg_call.specs.Standing.{CallStandsFor, RoutesStandFor, SessionsStand}
-use Rattle.sg_call.specs.States.{IsIdle, IsLive, IsOffered, StateStandsFor, former_live}
+use Rattle.sg_call.specs.States.{IsOffered, former_live}
 use Rattle.sg_call.specs.Values.{CallValue}
 use Rattle.sg_call.specs.declared.route.Route.{Route}
 use Rattle.sg_call.specs.declared.state.State.TheVariants.{Offered, Live}
@@ -45,7 +45,7 @@ offered_keeps now b c way noise text s e = go (not (takes_offer c)) (agreed_offe
     go false (Err cause) e = absurd cc
 
 -- what doesn't touch generations and sessions leaves the routes' part
-sessions_as : (current earlier : List Route) (c d : Call) → d.slot ≡ c.slot → d.generations ≡ c.generations → d.sessions ≡ c.sessions → SessionsStand current earlier c → SessionsStand current earlier d
+pub sessions_as : (current earlier : List Route) (c d : Call) → d.slot ≡ c.slot → d.generations ≡ c.generations → d.sessions ≡ c.sessions → SessionsStand current earlier c → SessionsStand current earlier d
 sessions_as current earlier c d slot generations sessions h = record {
   now = h.now;
   before = h.before;

@@ -1,22 +1,13 @@
 -- The lines of a script behind which a capture may stand, and how they stop.
-use Rattle.std.proofs.Common.{◌≡◌, ◌⊎◌, ◌+◌, ◌^◌, ℕ, Bool, true, false, cond, leb-true, leb-false, List, [], ◌∷◌, length, Result, Ok, Err, refl, ap, ◌∙◌, subst, inl, inr, arith}
-use Rattle.std.specs.Prelude.{nat_le, nat_lt, ◌&&◌, codes}
-use Rattle.std.proofs.lemmas.Bool.{and_parts, cases_Bool, cond-false, ltb-true, ltb-false}
+use Rattle.std.proofs.Common.{◌≡◌, ◌⊎◌, ◌+◌, ◌^◌, ℕ, Bool, true, false, cond, leb-true, leb-false, List, [], ◌∷◌, length, Result, Ok, Err, refl, ap, ◌∙◌, subst, inl, inr, arith, nat_le, nat_lt, ◌&&◌, codes}
 use Rattle.sg_base.proofs.Cases.{is_name}
-use Rattle.sg_base.specs.declared.faults.ScriptFault.{ScriptFault}
-use Rattle.sg_base.specs.declared.faults.ScriptFault.TheVariants.{Length, Unended}
-use Rattle.sg_capture.specs.CaptureLines.{capture_line_of, of_capture, of_script}
-use Rattle.sg_capture.specs.declared.lines.CaptureLine.{CaptureLine}
 use Rattle.sg_capture.specs.declared.lines.CaptureLine.TheVariants as lines
 use Rattle.sg_lines.proofs.FaultLaws.{too_long}
 use Rattle.sg_lines.proofs.FrameLaws.{open_line, whole_line}
 use Rattle.sg_lines.proofs.Splits.{lines_of_rest}
-use Rattle.sg_lines.specs.LineOf.{line_of}
-use Rattle.sg_lines.specs.ScriptLines.{NoEnd, lines_of}
-use Rattle.sg_lines.specs.declared.lines.Line.{Line}
 use Rattle.sg_trace.proofs.Frames.{IsFar, IsLong, IsOpen, Opening, at_far, at_long, opening}
-use Rattle.sg_trace.specs.Course.{behind_line, course_from, ended, read_at}
-use Rattle.sg_trace.specs.Reading.{IsFramed}
+use Rattle.sg_capture.proofs.Common.{CaptureLine, IsFramed, Length, Line, NoEnd, ScriptFault, Unended, and_parts, behind_line, capture_line_of, cases_Bool}
+use Rattle.sg_capture.proofs.Common.{cond-false, course_from, ended, line_of, lines_of, ltb-false, ltb-true, of_capture, of_script, read_at}
 use Rattle.sg_trace.specs.Trace.{AtEnd, AtFault, Captures, begins_capture, line_at, says_capture}
 
 -- ---- the frame of a line

@@ -1,34 +1,15 @@
 -- A script, and the capture behind it, make one run; and a run without a fault comes to its end.
-use Rattle.std.specs.Prelude.{IfSome}
-use Rattle.std.proofs.Common.{◌≡◌, ◌⊎◌, ◌-◌, ◌≤◌, ◌^◌, ℕ, false, List, [], ◌++◌, length, map, drop, Option, Some, None, refl, sym, ap, ◌∙◌, subst, inl, inr, append_assoc, length-append, arith}
-use Rattle.std.proofs.Math.Seq.{drop-append_seam}
-use Rattle.std.proofs.lemmas.List.{append-nil}
-use Rattle.sg_base.specs.declared.faults.ScriptFault.{ScriptFault}
-use Rattle.sg_base.specs.declared.faults.ScriptFault.TheVariants.{Unended}
-use Rattle.sg_capture.proofs.Captureds.{captured_at}
-use Rattle.sg_capture.proofs.Outputs.{happens_events, happens_output, output_of-append}
-use Rattle.sg_capture.specs.Capturing.{CaptureEnds, IsAllTold, IsCapture, IsCompleteCapture, IsCutCapture, IsWholeCapture}
-use Rattle.sg_capture.proofs.Scripts.{output_so, script_so}
-use Rattle.sg_capture.specs.CaptureLines.{of_capture}
-use Rattle.sg_capture.specs.Meeting.{EndsReading, IsCutReading, all_behind}
+use Rattle.std.proofs.Common.{◌≡◌, ◌⊎◌, ◌-◌, ◌≤◌, ◌^◌, ℕ, false, List, [], ◌++◌, length, map, drop, Option, Some, None, refl, sym, ap, ◌∙◌, subst, inl, inr, append_assoc, length-append, arith, IfSome, append-nil}
+use Rattle.sg_capture.proofs.Common.{AtCapture, AtEnd, AtFault, Capture, CaptureEnds, CaptureFault, CaptureStop, CaptureTrace, EndsReading, Event, Happens}
+use Rattle.sg_capture.proofs.Common.{InCapture, InScript, IsAllTold, IsBehindLast, IsCapture, IsCompleteCapture, IsCutCapture, IsCutReading, IsWholeCapture}
+use Rattle.sg_capture.proofs.Common.{Occurrence, Reading, ScriptFault, State, Status, Tally, Tellings, TookIn, Trace, Unended, World, Wrote, all_behind}
+use Rattle.sg_capture.proofs.Common.{as_trace, capture_occurs, capture_of, captured, drawing, drop-append_seam, effects, empty, of_capture, output, output_of}
+use Rattle.sg_capture.proofs.Common.{start, stopped, then_capture, took_more, took_none, with_events, world_after, wrote_more, wrote_none}
+use Rattle.sg_capture.proofs.Scripts.{captured_at, output_so, script_so}
+use Rattle.sg_capture.proofs.Outputs.{happens_events, output_of-append}
+use Rattle.sg_trace.proofs.Capturings.{happens_output}
 use Rattle.sg_edge.proofs.Links.{added_none}
-use Rattle.sg_edge.proofs.Passed.{took_more, took_none, wrote_more, wrote_none}
-use Rattle.sg_edge.specs.Told.{AtEnd, Tally, TookIn, Wrote}
-use Rattle.sg_front.specs.States.{State, start}
-use Rattle.sg_gateway.specs.Runs.{world_after}
-use Rattle.sg_gateway.specs.Step.{Event}
-use Rattle.sg_gateway.specs.World.{World, empty}
-use Rattle.sg_pcap.specs.Capture.{Capture, capture_of}
-use Rattle.sg_pcap.specs.declared.faults.CaptureFault.{CaptureFault}
 use Rattle.sg_pcap.specs.declared.faults.CaptureFault.TheVariants as capture_faults
-use Rattle.sg_playback.proofs.Replays.{as_trace}
-use Rattle.sg_playback.specs.Playing.{effects}
-use Rattle.sg_trace.specs.Captured.{CaptureStop, CaptureTrace, Happens, Occurrence, InCapture, InScript, capture_occurs, captured, output_of, then_capture}
-use Rattle.sg_trace.specs.Loop.{IsBehindLast, Tellings}
-use Rattle.sg_trace.specs.Output.{output}
-use Rattle.sg_trace.specs.Reading.{Reading}
-use Rattle.sg_trace.specs.Trace.{AtCapture, AtFault, Trace, drawing, stopped, with_events}
-use Rattle.sg_trace.specs.declared.status.Status.{Status}
 use Rattle.sg_trace.specs.declared.status.Status.TheVariants as statuses
 
 module _ (old mid new : Tellings) (script : Reading) (stands_for : State → Type 0) (octets draws out : List ℕ) (so_far : IsBehindLast of_capture effects (start false) old mid script stands_for octets draws out)

@@ -1,6 +1,6 @@
 mod CaptureLines
-mod Captureds
-mod Compositions
+mod Common
+pub mod Compositions
 mod Meets
 mod Outputs
 mod Readings

@@ -1,36 +1,18 @@
 -- How what a record gives is handled, part by part.
-use Rattle.std.proofs.Common.{◌≡◌, ◌≤◌, ◌<◌, ℕ, ltb, List, [], ◌∷◌, ◌++◌, length, take, map, Result, Ok, Err, OnOk, refl, sym, ap, ◌∙◌, subst, inl, inr, append_assoc, arith}
-use Rattle.std.specs.Prelude.{min}
-use Rattle.std.proofs.Math.Seq.{take-length}
-use Rattle.std.proofs.lemmas.Bool.{cases_lt, cond-false, cond-true, le-ltb, lt-ltb}
-use Rattle.std.proofs.lemmas.List.{append-nil, take_all}
+use Rattle.std.proofs.Common.{◌≡◌, ◌≤◌, ◌<◌, ℕ, ltb, List, [], ◌∷◌, ◌++◌, length, take, map, Result, Ok, Err, OnOk, refl, sym, ap, ◌∙◌, subst, inl, inr, append_assoc, arith, min, append-nil, take_all}
+use Rattle.sg_capture.proofs.Common.{Event, Happens, HasRoom, IsMet, IsPrefixOf, IsSettled, IsStepped, IsToldOf, IsWant, IsWritten, Occurrence, Signalled}
+use Rattle.sg_capture.proofs.Common.{Skipped, State, Status, Tally, World, Wrote, captured_events, cases_lt, cond-false, cond-true, effects, le-ltb, lt-ltb}
+use Rattle.sg_capture.proofs.Common.{output_of, skip_line, take-length, text_from, ticks_at, unshared, unshared_after, world_after, world_after-append}
 use Rattle.sg_capture.proofs.Outputs.{events_in-append, happens-append, happens_events, happens_text, output_of-append}
-use Rattle.sg_capture.specs.Meeting.{IsMet, IsToldOf}
-use Rattle.sg_edge.specs.Told.{Tally, Wrote}
-use Rattle.sg_front.proofs.Runs.{unshared_after}
-use Rattle.sg_front.specs.States.{State, unshared}
-use Rattle.sg_gateway.specs.Runs.{world_after}
 use Rattle.sg_gateway.specs.Signals.{Tick}
-use Rattle.sg_gateway.specs.Step.{Event, Signalled}
-use Rattle.sg_gateway.specs.World.{World}
-use Rattle.sg_pcap.specs.Skips.{skip_line}
+use Rattle.sg_trace.proofs.Writings.{prefix_longer}
 use Rattle.sg_pcap.specs.declared.skips.SkipCause.{SkipCause}
-use Rattle.sg_playback.specs.Playing.{HasRoom, IsStepped, effects, text_from}
-use Rattle.sg_trace.proofs.Traces.{world_after-append}
-use Rattle.sg_trace.specs.Captured.{Happens, Occurrence, Skipped, captured_events, output_of}
-use Rattle.sg_trace.specs.Loop.{IsSettled, IsWant}
-use Rattle.sg_trace.specs.Output.{IsPrefixOf, IsWritten}
-use Rattle.sg_trace.specs.Trace.{ticks_at}
-use Rattle.sg_trace.specs.declared.status.Status.{Status}
 use Rattle.sg_trace.specs.declared.status.Status.TheVariants as statuses
 
 -- ---- prefixes
 
-pub prefix_more : (prefix all more : List ℕ) → IsPrefixOf prefix all → IsPrefixOf prefix (all ++ more)
-prefix_more prefix all more is = (is.0 ++ more, ap (λ (l : List ℕ). l ++ more) is.1 ∙ append_assoc prefix is.0 more)
-
 pub prefix_of-more : (w : World) (os ps : List Occurrence) (prefix : List ℕ) → IsPrefixOf prefix (output_of w os) → IsPrefixOf prefix (output_of w (os ++ ps))
-prefix_of-more w os ps prefix is = subst (IsPrefixOf prefix) (sym (output_of-append w os ps)) (prefix_more prefix (output_of w os) (output_of (world_after w (captured_events os)) ps) is)
+prefix_of-more w os ps prefix is = subst (IsPrefixOf prefix) (sym (output_of-append w os ps)) (prefix_longer prefix (output_of w os) (output_of (world_after w (captured_events os)) ps) is)
 
 pub prefix_of-behind : (w : World) (os ps : List Occurrence) (prefix : List ℕ) → IsPrefixOf prefix (output_of (world_after w (captured_events os)) ps) → IsPrefixOf (output_of w os ++ prefix) (output_of w (os ++ ps))
 prefix_of-behind w os ps prefix is = (is.0, output_of-append w os ps ∙ ap (λ (l : List ℕ). output_of w os ++ l) is.1 ∙ sym (append_assoc (output_of w os) prefix is.0))

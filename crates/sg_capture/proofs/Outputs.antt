@@ -1,16 +1,9 @@
 -- What occurrences tell, one behind the other.
 use Rattle.std.proofs.Common.{◌≡◌, ℕ, List, [], ◌∷◌, ◌++◌, map, refl, sym, ap, ◌∙◌, append_assoc}
-use Rattle.sg_front.proofs.Runs.{unshared_told}
-use Rattle.sg_front.specs.States.{unshared}
+use Rattle.sg_trace.proofs.Capturings.{happens_output}
 use Rattle.sg_gateway.specs.Events.{outcomes_from}
-use Rattle.sg_gateway.specs.Runs.{world_after}
-use Rattle.sg_gateway.specs.Step.{Event, step}
-use Rattle.sg_gateway.specs.World.{World}
-use Rattle.sg_pcap.specs.Skips.{skip_line}
-use Rattle.sg_playback.specs.Playing.{text_from}
-use Rattle.sg_trace.proofs.Traces.{output_from-append}
-use Rattle.sg_trace.specs.Captured.{Happens, Occurrence, Skipped, captured_events, output_of}
-use Rattle.sg_trace.specs.Output.{output_from, text}
+use Rattle.sg_capture.proofs.Common.{Event, Happens, Occurrence, Skipped, World, captured_events, output_from, output_of, skip_line, step}
+use Rattle.sg_capture.proofs.Common.{text, text_from, unshared, unshared_told, world_after}
 
 pub output_of-append : (w : World) (os ps : List Occurrence) → output_of w (os ++ ps) ≡ output_of w os ++ output_of (world_after w (captured_events os)) ps
 output_of-append w [] ps = refl
@@ -29,10 +22,6 @@ events_in-append (Skipped number cause ∷ os) ps = events_in-append os ps
 pub happens_events : (es : List Event) → captured_events (map Happens es) ≡ es
 happens_events [] = refl
 happens_events (e ∷ es) = ap (λ (l : List Event). e ∷ l) (happens_events es)
-
-pub happens_output : (w : World) (es : List Event) → output_of w (map Happens es) ≡ output_from w es
-happens_output w [] = refl
-happens_output w (e ∷ es) = ap (λ (l : List ℕ). output_from w (e ∷ []) ++ l) (happens_output (step w e).world es) ∙ sym (output_from-append w (e ∷ []) es)
 
 -- as a player tells them, none of whose legs may share its ports
 pub happens_text : (w : World) (es : List Event) → output_of w (map Happens es) ≡ text_from (unshared w) es

@@ -1,30 +1,15 @@
 -- How the records of a capture are played, one by one, and how that ends.
 use Rattle.std.proofs.Common.{◌≡◌, ◌+◌, ◌≤◌, ℕ, Bool, true, false, cond, ltb, max, arith, length-append, List, [], ◌∷◌, ◌++◌, length, map, drop, Some, None, Ok, Err, refl, sym, ap, ◌∙◌, subst, inl, inr, append_assoc}
-use Rattle.std.proofs.lemmas.List.{append-nil, length-map}
+use Rattle.sg_capture.proofs.Common.{AtEnd, Capture, CaptureFault, Captured, Capturing, Closes, EndsReading, Event, Form, Framed, Happens, IsCaptureFault}
+use Rattle.sg_capture.proofs.Common.{IsCutReading, IsHeaderRead, IsMet, IsPrefixOf, IsRecordRead, IsToldOf, Occurrence, Progress, Record, Status, Tally}
+use Rattle.sg_capture.proofs.Common.{World, all_behind, append-nil, capture_occurs, capture_of, captured_events, faulty, first_of, frame_occurs, frame_of}
+use Rattle.sg_capture.proofs.Common.{length-map, moment_in, next_record, output_of, record_occurs, record_within, records_in, records_occur, ticks_at}
+use Rattle.sg_capture.proofs.Common.{unshared, with_record, world_after}
 use Rattle.sg_capture.proofs.Meets.{prefix_of-behind}
 use Rattle.sg_capture.proofs.Outputs.{happens_text, output_of-append}
-use Rattle.sg_capture.specs.Meeting.{EndsReading, IsCutReading, IsMet, IsToldOf, all_behind, first_of, record_occurs}
-use Rattle.sg_capture.specs.declared.progress.Progress.{Progress}
-use Rattle.sg_edge.specs.Told.{AtEnd, Tally}
-use Rattle.sg_front.specs.States.{unshared}
-use Rattle.sg_gateway.specs.Runs.{world_after}
-use Rattle.sg_gateway.specs.Step.{Event}
-use Rattle.sg_gateway.specs.World.{World}
-use Rattle.sg_pcap.proofs.Captures.{next_record}
-use Rattle.sg_pcap.specs.Capture.{Captured, Capture, capture_of, faulty, records_in, record_within, with_record}
-use Rattle.sg_pcap.specs.Frames.{Framed, frame_of}
 use Rattle.sg_pcap.specs.Frames as frames
-use Rattle.sg_pcap.specs.declared.faults.CaptureFault.{CaptureFault}
-use Rattle.sg_pcap.specs.declared.header.Form.{Form}
-use Rattle.sg_pcap.specs.declared.records.Record.{Record}
 use Rattle.sg_playback.specs.Playing.{IsWant, effects, text_from}
-use Rattle.sg_trace.specs.Captured.{Happens, Occurrence, capture_occurs, captured_events, frame_occurs, moment_in, output_of, records_occur}
-use Rattle.sg_trace.specs.CaptureReading.{Capturing, IsCaptureFault, IsHeaderRead, IsRecordRead}
-use Rattle.sg_trace.specs.Loop.{Closes}
-use Rattle.sg_trace.specs.Output.{IsPrefixOf}
-use Rattle.sg_trace.specs.Trace.{ticks_at}
 use Rattle.sg_trace.proofs.CaptureReads.{header_short}
-use Rattle.sg_trace.specs.declared.status.Status.{Status}
 use Rattle.sg_trace.specs.declared.status.Status.TheVariants as statuses
 
 -- ---- what records give

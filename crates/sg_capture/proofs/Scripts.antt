@@ -1,32 +1,18 @@
 -- The script of a run is the course of its lines, and how it ends is how the loop does.
 use Rattle.std.proofs.Common.{◌≡◌, ◌+◌, ℕ, Bool, true, false, cond, List, [], ◌∷◌, ◌++◌, length, map, Result, Ok, Err, refl, sym, ap, ◌∙◌, subst, inl, inr, arith}
-use Rattle.std.proofs.lemmas.List.{append-nil, length-map}
-use Rattle.sg_base.specs.declared.faults.ScriptFault.{ScriptFault}
-use Rattle.sg_capture.proofs.CaptureLines.{line_is, unended_stops}
-use Rattle.sg_capture.proofs.Captureds.{captured_at}
-use Rattle.sg_capture.proofs.Outputs.{happens-append, happens_text}
-use Rattle.sg_capture.specs.CaptureLines.{of_capture, of_script}
-use Rattle.sg_capture.specs.Capturing.{CaptureEnds, IsAllTold, IsCapture, IsCutCapture, IsWholeCapture}
-use Rattle.sg_capture.specs.declared.lines.CaptureLine.{CaptureLine}
-use Rattle.sg_capture.specs.declared.lines.CaptureLine.TheVariants as lines
-use Rattle.sg_edge.specs.Told.{Tally}
-use Rattle.sg_front.proofs.Runs.{unshared_told}
-use Rattle.sg_front.specs.States.{start}
 use Rattle.sg_gateway.specs.Drawn.{supplied}
-use Rattle.sg_gateway.specs.Step.{Event}
-use Rattle.sg_gateway.specs.World.{empty}
-use Rattle.sg_lines.specs.LineOf.{version_after}
-use Rattle.sg_lines.specs.ScriptLines.{lines_of}
-use Rattle.sg_lines.specs.declared.lines.Line.{Line}
-use Rattle.sg_playback.proofs.Replays.{as_trace, given_so}
-use Rattle.sg_playback.specs.Playing.{text_from}
-use Rattle.sg_trace.specs.Captured.{CaptureTrace, Happens, InScript, after_script, captured, output_of, script_alone, script_of}
-use Rattle.sg_trace.specs.Course.{Course, behind_line, course, course_from, ended, with_deeds}
-use Rattle.sg_trace.specs.Loop.{HasNoLast, IsAll, IsCut, IsRun, IsUnended, LoopEnds, Tellings}
-use Rattle.sg_trace.specs.Output.{IsPrefixOf, output, text}
 use Rattle.sg_trace.specs.Trace.{AtCapture, AtEnd as BehindAll, AtFault, Captures, ForDraw, Later, Stop, Trace, after_line, begins_capture, drawing, line_at, stopped, trace_from}
-use Rattle.sg_trace.specs.declared.status.Status.{Status}
-use Rattle.sg_trace.specs.declared.status.Status.TheVariants.{Done, Script, Read, Write, NoMemory, Noise}
+use Rattle.sg_capture.specs.declared.lines.CaptureLine.TheVariants as lines
+use Rattle.sg_capture.proofs.Common.{CaptureEnds, CaptureLine, CaptureTrace, Course, Done, Event, Happens, HasNoLast, InScript, IsAll, IsAllTold, IsCapture}
+use Rattle.sg_capture.proofs.Common.{IsCut, IsCutCapture, IsPrefixOf, IsRun, IsUnended, IsWholeCapture, Line, LoopEnds, NoMemory, Noise, Read, Script}
+use Rattle.sg_capture.proofs.Common.{ScriptFault, Status, Tally, Tellings, Write, after_script, append-nil, as_trace, behind_line, captured, course}
+use Rattle.sg_capture.proofs.Common.{course_from, empty, ended, given_so, length-map, lines_of, of_capture, of_script, output, output_of, script_alone}
+use Rattle.sg_capture.proofs.Common.{script_of, start, text, text_from, unshared_told, version_after, with_deeds}
+use Rattle.sg_capture.proofs.CaptureLines.{line_is, unended_stops}
+use Rattle.sg_capture.proofs.Outputs.{happens-append, happens_text}
+
+pub captured_at : (octets draws : List ℕ) (c : Trace) → script_of octets draws ≡ c → captured octets draws ≡ after_script octets c c.stop
+captured_at octets draws c is = ap (λ (t : Trace). after_script octets t t.stop) is
 
 -- ---- courses
 

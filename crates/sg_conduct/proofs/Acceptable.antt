@@ -13,6 +13,7 @@ use Rattle.sg_base.specs.declared.faults.CsFault.TheVariants.{PolicyValue}
 use Rattle.sg_base.specs.declared.faults.Refusal.TheVariants.{KeyMgmt}
 use Rattle.sg_csmap.specs.CryptoSessions.{lacks_policy, or_fault, pair_in, pairs_from, stream_in, streams_of}
 use Rattle.sg_csmap.specs.Policies.{are_served, each_once, has_kind, is_short, meaning, protection_of, said_by}
+use Rattle.sg_csmap.specs.declared.policies.Protection.{Protection}
 use Rattle.sg_mikey.specs.declared.policy.Policy.{Policy}
 use Rattle.sg_psk.specs.Accepting.{Accepted, accepted_with, fault_of, initial_fits, initial_of, initial_under, is_served, keys_in, unless, with_keys}
 use Rattle.sg_psk.specs.Envelope.{mac_of}
@@ -21,7 +22,7 @@ use Rattle.sg_psk.specs.Parts.{closing_in, names_in, policies_in, random_in, sta
 use Rattle.sg_psk.specs.Stamps.{distance, is_skewed, since_1900}
 use Rattle.sg_psk.specs.declared.replays.Noted.{Noted}
 use Rattle.sg_session.proofs.Inversions.{after_ok_of, stop_if_of}
-use Rattle.sg_gateway.proofs.Common.{Books, CsEntry, Pair, StreamKeys, Tgk, any_cases, any_none, of_cs, of_message, of_psk, or_refusal, same_octets_is}
+use Rattle.sg_gateway.proofs.Common.{Books, CsEntry, Pair, StreamKeys, Tgk, any_cases, any_none, each_weaker, of_cs, of_message, of_psk, or_refusal, same_octets_is}
 use Rattle.sg_gateway.proofs.Common.{same_octets_true}
 use Rattle.sg_gateway.specs.Authentic.{AreNamesOf}
 use Rattle.sg_gateway.specs.CryptoSessions.{Carries, IsFirst}
@@ -139,16 +140,31 @@ once (item ∷ items) own = and_from (not (has_kind item.0 items)) (each_once it
 bind_of : {A B : Type 0} (o : Option A) (f : A → Option B) (x : A) → o ≡ Some x → (o >>= f) ≡ f x
 bind_of o f x e = ap (λ o. o >>= f) e
 
+-- the first policy that has the crypto session's number means something
+pub record HasMeaning (policies : List Policy) (entry : CsEntry) : Type 0 where
+  pub policy : Policy
+  pub named : find (λ (p : Policy). eqb p.number entry.policy) policies ≡ Some policy
+  pub protection : Protection
+  pub means : protection_of policy ≡ Some protection
+
+policy_means : (policies : List Policy) (entry : CsEntry) → HasPolicy policies entry → HasMeaning policies entry
+unfolding protection_of
+policy_means policies entry has = record {
+  policy = has.policy;
+  named = has.named;
+  protection = _;
+  means = cond-true (are_served has.policy.items) _ None (and_from _ (each_once has.policy.items) (all_said has.policy.items has.each) (once has.policy.items has.own));
+}
+
 module _ (csb : ℕ) (random : List ℕ) (policies : List Policy) (tgks : List Tgk) where
-  stream_given : (session : ℕ) (entry : CsEntry) → HasPolicy policies entry → (x : StreamKeys) × (stream_in csb random policies tgks session entry ≡ Some x)
-  unfolding stream_in protection_of
+  stream_given : (session : ℕ) (entry : CsEntry) → HasMeaning policies entry → (x : StreamKeys) × (stream_in csb random policies tgks session entry ≡ Some x)
+  unfolding stream_in
   stream_given session entry has = (
     _,
-    bind_of (find (λ (p : Policy). eqb p.number entry.policy) policies) _ has.policy has.named
-        ∙ bind_of (protection_of has.policy) _ _ (cond-true (are_served has.policy.items) _ None (and_from _ (each_once has.policy.items) (all_said has.policy.items has.each) (once has.policy.items has.own))),
+    bind_of (find (λ (p : Policy). eqb p.number entry.policy) policies) _ has.policy has.named ∙ bind_of (protection_of has.policy) _ has.protection has.means,
   )
 
-  pairs_given : (session : ℕ) (map : List CsEntry) → AllByRecursion (HasPolicy policies) map → (xs : List (StreamKeys × StreamKeys)) × (pairs_from csb random policies tgks session map ≡ Some xs)
+  pairs_given : (session : ℕ) (map : List CsEntry) → AllByRecursion (HasMeaning policies) map → (xs : List (StreamKeys × StreamKeys)) × (pairs_from csb random policies tgks session map ≡ Some xs)
   unfolding pairs_from pair_in
   pairs_given session [] all = ([], refl)
   pairs_given session (alone ∷ []) all = ([], refl)
@@ -162,11 +178,11 @@ module _ (csb : ℕ) (random : List ℕ) (policies : List Policy) (tgks : List T
         bind_of (pair_in csb random policies tgks session i r) _ (a.0, b.0) pair ∙ ap (λ o. option_map (λ pairs. (a.0, b.0) ∷ pairs) o) rest.1,
       )
 
-  none_lacks : (map : List CsEntry) → AllByRecursion (HasPolicy policies) map → list_any (lacks_policy policies) map ≡ false
+  none_lacks : (map : List CsEntry) → AllByRecursion (HasMeaning policies) map → list_any (lacks_policy policies) map ≡ false
   none_lacks [] all = refl
   none_lacks (entry ∷ map) all = or_from (lacks_policy policies entry) (list_any (lacks_policy policies) map) (ap is_none all.0.named) (none_lacks map all.1)
 
-  pub streams_given : (map : List CsEntry) (media : ℕ) → length map ≡ 2 * media → AllByRecursion (HasPolicy policies) map → (xs : List (StreamKeys × StreamKeys)) × (streams_of csb random map policies tgks media ≡ Ok xs)
+  pub streams_given : (map : List CsEntry) (media : ℕ) → length map ≡ 2 * media → AllByRecursion (HasMeaning policies) map → (xs : List (StreamKeys × StreamKeys)) × (streams_of csb random map policies tgks media ≡ Ok xs)
   unfolding streams_of
   streams_given map media many all =
       let p = pairs_given 1 map all in (
@@ -202,7 +218,9 @@ module _ (books : Books) (now : ℕ) (lines : List (List ℕ)) (media : ℕ) (is
   pub bundle_given : (h : AtHand) (medium : ℕ) → h.pairs ≡ books.pairs → h.noted ≡ books.noted → h.now ≡ now → (b : Bundle) × (bundle_in h medium media (mikey_value lines) ≡ Ok b)
   unfolding bundle_in message_in
   bundle_given h medium pairs noted moment =
-      let streams = streams_given is.message.csb (random_in is.message.payloads) (policies_in is.message.payloads) is.tgks is.message.map media is.sessions is.policies in
+      let policies : List Policy = policies_in is.message.payloads in
+      let means = each_weaker (HasPolicy policies) (HasMeaning policies) (policy_means policies) is.message.map is.policies in
+      let streams = streams_given is.message.csb (random_in is.message.payloads) policies is.tgks is.message.map media is.sessions means in
       let read : message_in medium 0 (mikey_value lines) ≡ Ok (is.octets, is.message) =
       after_ok_of _ _ is.octets (ap (or_refusal (KeyMgmt medium)) (octets_are lines is.octets is.carried))
       ∙ after_ok_of _ _ is.message (ap (of_message medium) is.read)

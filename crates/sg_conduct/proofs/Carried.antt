@@ -27,7 +27,7 @@ use Rattle.sg_agreement.specs.Sides.{actives, is_active, other_side, side_of}
 use Rattle.sg_conduct.proofs.Offers.{active_takes}
 use Rattle.sg_conduct.proofs.Present.{takes_active}
 use Rattle.sg_conduct.specs.Carried.{AddsToMedium, AreCarried, AreCarriedMedia, HoldsForOneSide, IsAtPort, IsAttribute, IsCarriedAs, IsCarriedMedium, attributes_of, lines_of, of_one_side, other_word, own_line}
-use Rattle.sg_conduct.specs.ToldTexts.{port_towards}
+use Rattle.sg_conduct.specs.OwnPorts.{port_towards}
 use Rattle.sg_gateway.proofs.Common.{Plain, Profile, Secure, Side, Way, any_cases, any_here, any_none, any_there}
 
 -- ---- beginnings

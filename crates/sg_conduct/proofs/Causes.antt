@@ -1,12 +1,12 @@
 -- What refuses an answer shows in its text, its message or the ring.
 use Rattle.std.proofs.Common.{◌≡◌, ◌⊎◌, inl, inr, ℕ, suc, ◌+◌, ◌*◌, ◌≤◌, Bool, true, false, cond, not, ◌&&◌, eqb, ltb, ltb-true, List, [], ◌∷◌, ◌++◌, length, map, codes, Option, Some, None, Result, Ok, Err, refl, sym, ap, ◌∙◌, subst, arith, append_assoc, append-nil, length-append}
 use Rattle.std.proofs.lemmas.Bool.{and_from, eq-eqb, eqb-false, eqb-true, false≢true, not-false, not-true, or_parts}
+use Rattle.std.proofs.lemmas.List.{map-append}
 use Rattle.std.proofs.lemmas.List.Elements.{recursion_from_All}
 use Rattle.std.proofs.lemmas.Slice.Eq.{bytes_eq-Decides}
 use Rattle.std.specs.Prelude.{◌||◌}
-use Rattle.std.specs.List.{AllByRecursion, Any, cons_option, filter_map, find, list_any}
+use Rattle.std.specs.List.{AllByRecursion, Any, filter_map, find, list_any}
 use Rattle.std.specs.Option.{is_none}
-use Rattle.sg_agreement.proofs.TextLines.{behind_is}
 use Rattle.sg_agreement.specs.Answers.{AgreedAnswer, agreed_answer, answered_by}
 use Rattle.sg_agreement.specs.Attributes.{behind, crypto_values, first_of, mikey_octets, mikey_value}
 use Rattle.sg_agreement.specs.Described.{described, of_text, unaddressed, with_addresses}
@@ -17,7 +17,6 @@ use Rattle.sg_agreement.specs.MessageAnswers.{keyed_as_initiator, keyed_as_respo
 use Rattle.sg_agreement.specs.Messages.{message_in}
 use Rattle.sg_agreement.specs.Sound.{IsSoundMedium}
 use Rattle.sg_base.specs.SuiteNames.{suite_name}
-use Rattle.sg_base.specs.declared.faults.CsFault.{CsFault}
 use Rattle.sg_base.specs.declared.faults.MikeyFault.TheVariants.{DataType}
 use Rattle.sg_base.specs.declared.faults.PskFault.{PskFault}
 use Rattle.sg_base.specs.declared.faults.PskFault.TheVariants.{BadMac, Algorithm, OtherSession}
@@ -40,23 +39,28 @@ use Rattle.sg_sdp.specs.declared.medium.Medium as descriptions
 use Rattle.sg_sdp.specs.declared.sdp.Sdp as sdp
 use Rattle.sg_session.specs.Ring.{Installed, derived, first_clash_by, install, key_of, keys_clash, same_secret, with_key_by, with_keys_by}
 use Rattle.sg_session.specs.Stages.{after_ok, stop_if}
-use Rattle.sg_gateway.proofs.Common.{AgreedKey, Call, CallId, CryptoLine, CsEntry, Master, Medium, Message, Opening, Owner, Refusal, Sealing, Side, World}
+use Rattle.sg_gateway.proofs.Common.{AgreedKey, Call, CallId, CryptoLine, CsEntry, IsRefusal, Master, Medium, Message, Opening, Owner, Refusal, Sealing, Side, World}
 use Rattle.sg_gateway.proofs.Common.{active_count, actives_after, after_ok_is, any_cases, any_here, any_none, any_there, call_of, described_is}
 use Rattle.sg_gateway.proofs.Common.{description_of, each_kept, if_kept, is_active, none_some, of_cs, of_message, of_psk, of_sdes, ok_is, or_refusal}
-use Rattle.sg_gateway.proofs.Common.{other_side, same_id, same_octets, same_octets_true, some_is, stop_if_is}
+use Rattle.sg_gateway.proofs.Common.{Event, Turn, empty, other_side, same_octets, same_octets_true, some_is, step, stop_if_is, turn_of}
 use Rattle.sg_gateway.proofs.Agreements.{Agreements, answer_media}
-use Rattle.sg_gateway.proofs.Kept.{IsOffered, WasOffered}
+use Rattle.sg_gateway.proofs.Kept.{WasOffered}
 use Rattle.sg_gateway.proofs.PeersMessages.{octets_carried}
-use Rattle.sg_gateway.proofs.Signals.{found}
+use Rattle.sg_gateway.proofs.TurnByTurn.{kept_before}
 use Rattle.sg_gateway.specs.CallSignals.{answered_to}
 use Rattle.sg_gateway.specs.CryptoSessions.{Carries}
 use Rattle.sg_gateway.specs.Generations.{Settled, keyed}
+use Rattle.sg_gateway.specs.Runs.{turns}
 use Rattle.sg_gateway.specs.Signals.{Answer, Answered, answer_to, answered as answers, in_old, offering_side, tells_answer}
 use Rattle.sg_conduct.proofs.Acceptable.{octets_are}
+use Rattle.sg_conduct.proofs.Brought.{OpenedBy, WereOpened, event_opened, keys_brought, was_offered, was_opened}
+use Rattle.sg_conduct.proofs.FirstLines.{first_value}
 use Rattle.sg_conduct.proofs.Manual.{apart_is, secret}
 use Rattle.sg_conduct.proofs.Offers.{active_takes}
 use Rattle.sg_conduct.proofs.Present.{takes_active}
-use Rattle.sg_conduct.specs.Causes.{ComeIntoUse, HasNoValue, IsFirstValue, IsNotTo, IsOfNone, IsReusedAt, IsToRespond, LacksAddress, Shows, ShowsNoLine}
+use Rattle.sg_conduct.proofs.Serving.{Serves, offer_serves}
+use Rattle.sg_conduct.specs.Brought.{AreBrought}
+use Rattle.sg_conduct.specs.Causes.{ComeIntoUse, IsNotTo, IsOfNone, IsReusedAt, IsToRespond, LacksAddress, RefusedAnswerShowsCause, Shows, ShowsNoLine}
 use Rattle.sg_conduct.specs.Manual.{AreApart, IsApartInItself}
 use Rattle.sg_conduct.specs.Present.{TakesPart}
 
@@ -94,9 +98,9 @@ none_take side (m ∷ ms) e =
     let p = or_parts (is_active side m) (list_any (is_active side) ms) e in
     ((λ takes. false≢true (sym p.0 ∙ takes_active side m takes)), none_take side ms p.1)
 
-module _ (ring : List Installed) (o : Offer) (text : List ℕ) where
+module _ (ring : List Installed) (Brings : List Master → Type 0) (o : Offer) (text : List ℕ) where
   abbrev Cause : Refusal → Type 0
-  Cause cause = Shows ring o text cause
+  Cause cause = Shows ring Brings o text cause
 
   abbrev side : Side
   side = other_side o.side
@@ -216,23 +220,6 @@ module _ {X Y : Type 0} (value : ℕ → X → descriptions.Medium → Result Y 
 
 -- ---- crypto lines
 
-first_value : (lines : List (List ℕ)) (o : Option (List ℕ)) → first_of (filter_map (behind (codes "a=crypto:")) lines) ≡ o → (HasNoValue lines × (o ≡ None)) ⊎ ((value : List ℕ) × IsFirstValue lines value × (o ≡ Some value))
-first_value [] o e = inl (tt, sym e)
-first_value (line ∷ lines) o e = go (first_value lines o) (behind (codes "a=crypto:") line) refl e
-  where
-    Found : List (List ℕ) → Type 0
-    Found ls = (HasNoValue ls × (o ≡ None)) ⊎ ((value : List ℕ) × IsFirstValue ls value × (o ≡ Some value))
-
-    go : (first_of (filter_map (behind (codes "a=crypto:")) lines) ≡ o → Found lines) → (p : Option (List ℕ)) → behind (codes "a=crypto:") line ≡ p
-        → first_of (cons_option p (filter_map (behind (codes "a=crypto:")) lines)) ≡ o → Found (line ∷ lines)
-    go rest (Some value) is e = inr (value, ([], lines, ap (λ (x : List ℕ). x ∷ lines) (behind_is (codes "a=crypto:") line value is), tt), sym e)
-    go rest None is e =
-        let none : (value : List ℕ) → ¬ line ≡ codes "a=crypto:" ++ value = λ value same. none_some value (sym is ∙ ap (behind (codes "a=crypto:")) same) in
-        elim (rest e) [
-          | inl x ↦ inl ((none, x.0), x.1)
-          | inr x ↦ inr (x.0, (line ∷ x.1.0, x.1.1, ap (λ (ls : List (List ℕ)). line ∷ ls) x.1.2, (none, x.1.3)), x.2)
-        ]
-
 fault_is : {A B : Type 0} (r : Result A SdesFault) (f : A → Result B SdesFault) (c : SdesFault) → lines.◌>>=◌ r f ≡ Err c → (r ≡ Err c) ⊎ ((x : A) × (r ≡ Ok x) × (f x ≡ Err c))
 fault_is (Ok x) f c e = inr (x, refl, e)
 fault_is (Err d) f c e = let same : d ≡ c = cc in inl (ap Err same)
@@ -303,10 +290,6 @@ psk_err : {X : Type 0} (k : ℕ) (r : Result X PskFault) (c : Refusal) → of_ps
 psk_err k (Ok x) c e = absurd (ok_err x c e)
 psk_err {X} k (Err fault) c e = (fault, refl, err_is {X = X} (causes.Psk k fault) c e)
 
-cs_err : {X : Type 0} (k : ℕ) (r : Result X CsFault) (c : Refusal) → of_cs k r ≡ Err c → (fault : CsFault) × (causes.Cs k fault ≡ c)
-cs_err k (Ok x) c e = absurd (ok_err x c e)
-cs_err {X} k (Err fault) c e = (fault, err_is {X = X} (causes.Cs k fault) c e)
-
 message_err : (k : ℕ) (r : Result Message Place) (c : Refusal) → of_message k r ≡ Err c → (place : Place) × (r ≡ Err place) × (causes.Mikey k place.offset place.fault ≡ c)
 message_err k (Ok x) c e = absurd (ok_err x c e)
 message_err k (Err place) c e = (place, refl, err_is {X = Message} (causes.Mikey k place.offset place.fault) c e)
@@ -358,9 +341,9 @@ message_in_is value r e =
 
 -- ---- how the answer is keyed
 
-module _ (ring : List Installed) (o : Offer) (text : List ℕ) (s : sdp.Sdp) (read : description_of text ≡ Ok s) where
+module _ (ring : List Installed) (Brings : List Master → Type 0) (o : Offer) (serves : Serves o) (text : List ℕ) (s : sdp.Sdp) (read : description_of text ≡ Ok s) where
   abbrev IsCause : Refusal → Type 0
-  IsCause cause = Shows ring o text cause
+  IsCause cause = Shows ring Brings o text cause
 
   own_lines_show : (ls : List (Option (List CryptoLine))) → o.keying ≡ OwnLines ls → (c : Refusal) → Stops keyed_by_own_lines o.side 0 ls s.media c → IsCause c
   own_lines_show ls keying c at = elim (after_ok_err (of_sdes at.number (lines_matched at.x (first_of (crypto_values at.n.lines)))) _ c at.gives) [
@@ -409,9 +392,12 @@ module _ (ring : List Installed) (o : Offer) (text : List ℕ) (s : sdp.Sdp) (re
           ]
     ]
 
-    streams_show : (count : ℕ) (c : Refusal) → streams_answered sent count (mikey_value s.session) ≡ Err c → IsCause c
+    abbrev count : ℕ
+    count = active_count o.side o.description.media
+
+    streams_show : (c : Refusal) → streams_answered sent count (mikey_value s.session) ≡ Err c → IsCause c
     unfolding streams_answered responds
-    streams_show count c e = elim (after_ok_err (message_in 255 1 (mikey_value s.session)) _ c e) [
+    streams_show c e = elim (after_ok_err (message_in 255 1 (mikey_value s.session)) _ c e) [
       | inl fails ↦ no_message c fails
       | inr x ↦
           let is = message_in_is (mikey_value s.session) x.0 x.1 in
@@ -420,7 +406,7 @@ module _ (ring : List Installed) (o : Offer) (text : List ℕ) (s : sdp.Sdp) (re
                 let f = psk_err 255 (response_of x.0.0 x.0.1 sent) c fails in
                 subst IsCause f.2 (responds, x.0.0, x.0.1, octets_carried s.session x.0.0 is.octets_are, is.read, is.kind, response_shows x.0.0 x.0.1 sent f.0 f.1)
             | inr y ↦ elim (after_ok_err (of_cs 255 (streams_of sent.csb sent.random sent.map (own_policy ∷ []) sent.tgks count)) _ c y.2) [
-              | inl fails ↦ let f = cs_err 255 (streams_of sent.csb sent.random sent.map (own_policy ∷ []) sent.tgks count) c fails in subst IsCause f.1 responds
+              | inl fails ↦ let is = serves sent keying in absurd (ok_err is.0 c (sym (ap (of_cs 255) is.1) ∙ fails))
               | inr z ↦ absurd (ok_err _ c z.2)
             ]
           ]
@@ -450,19 +436,19 @@ module _ (ring : List Installed) (o : Offer) (text : List ℕ) (s : sdp.Sdp) (re
         | inr x ↦ absurd (ok_err _ c x.2)
       ]
   keying_shows noise (OwnMessage sent) keying c e = elim (after_ok_err (streams_answered sent (active_count o.side o.description.media) (mikey_value s.session)) _ c e) [
-    | inl fails ↦ streams_show sent keying (active_count o.side o.description.media) c fails
+    | inl fails ↦ streams_show sent keying c fails
     | inr x ↦ elim (after_ok_err (each_kept (λ k streams n. Ok (keyed_as_initiator streams)) 0 (actives_after o.side o.description.media s.media) (over_active o.side o.description.media x.0) s.media) _ c x.2) [
       | inl fails ↦ absurd (never (λ k streams n. keyed_as_initiator streams) (over_active o.side o.description.media x.0) c fails)
       | inr y ↦ absurd (ok_err _ c y.2)
     ]
   ]
 
-answer_shows : (ring : List Installed) (slot : ℕ) (o : Offer) (noise text : List ℕ) (c : Refusal) → agreed_answer slot o noise text ≡ Err c → Shows ring o text c
+answer_shows : (ring : List Installed) (Brings : List Master → Type 0) (slot : ℕ) (o : Offer) → Serves o → (noise text : List ℕ) (c : Refusal) → agreed_answer slot o noise text ≡ Err c → Shows ring Brings o text c
 unfolding agreed_answer
-answer_shows ring slot o noise text c e = elim (after_ok_err (described (other_side o.side) (Some (length o.description.media)) text) _ c e) [
-  | inl fails ↦ description_shows ring o text c fails
+answer_shows ring Brings slot o serves noise text c e = elim (after_ok_err (described (other_side o.side) (Some (length o.description.media)) text) _ c e) [
+  | inl fails ↦ description_shows ring Brings o text c fails
   | inr x ↦ elim (after_ok_err (answered_by o noise x.0 (actives_after o.side o.description.media x.0.media) o.keying) _ c x.2) [
-    | inl fails ↦ keying_shows ring o text x.0 (described_is (other_side o.side) (Some (length o.description.media)) text x.0 x.1) noise o.keying refl c fails
+    | inl fails ↦ keying_shows ring Brings o serves text x.0 (described_is (other_side o.side) (Some (length o.description.media)) text x.0 x.1) noise o.keying refl c fails
     | inr y ↦ absurd (ok_err _ c y.2)
   ]
 ]
@@ -580,27 +566,37 @@ keys_few call generation m (Some x ∷ xs) all =
     let part = length-append (owned (owner_at call generation m Sealing) x.to_peer.keys) (keys_from call generation (m + 1) xs) in
     omega (arith, rest, a, b, p, q, whole, part)
 
-ring_shows : (ring : List Installed) (o : Offer) (text : List ℕ) (ks : List Installed) → length ks ≤ 64 → (c : Refusal) → install ring ks ≡ Err c → Shows ring o text c
-ring_shows ring o text ks few c e = elim (after_ok_err (with_keys_by key_of ring ks) _ c e) [
+ring_shows : (ring : List Installed) (Brings : List Master → Type 0) (o : Offer) (text : List ℕ) (ks : List Installed) → Brings (map (λ k. k.master) ks) → length ks ≤ 64 → (c : Refusal) → install ring ks ≡ Err c → Shows ring Brings o text c
+ring_shows ring Brings o text ks brings few c e = elim (after_ok_err (with_keys_by key_of ring ks) _ c e) [
   | inl fails ↦
       let at = stops_at ring ks c fails in
       let long = ap (λ (l : List Installed). length l) at.parts ∙ length-append at.new (at.key ∷ at.later) in
-      subst (Shows ring o text) at.is (record { new = at.new; key = at.key.master; few = omega (arith, few, long); come = at.come; reused = at.at })
+      subst (Shows ring Brings o text) at.is (record {
+        new = at.new;
+        key = at.key.master;
+        later = map (λ k. k.master) at.later;
+        brings = subst Brings (ap (map (λ k. k.master)) at.parts ∙ map-append (λ k. k.master) at.new (at.key ∷ at.later)) brings;
+        few = omega (arith, few, long);
+        come = at.come;
+        reused = at.at;
+      })
   | inr x ↦
       let all = all_in ring ks x.0 x.1 in
       let long = ap (λ (l : List Installed). length l) (sym all.1) ∙ length-append ring ks in
       elim (stop_if_err (ltb 65536 (length x.0)) causes.RingFull c _ x.2) [
-        | inl full ↦ subst (Shows ring o text) full.1 (ks, few, all.0, (let lt = ltb-true 65536 (length x.0) full.0 in omega (arith, lt, long)))
+        | inl full ↦ subst (Shows ring Brings o text) full.1 (ks, brings, few, all.0, (let lt = ltb-true 65536 (length x.0) full.0 in omega (arith, lt, long)))
         | inr fails ↦ absurd (ok_err _ c fails.1)
       ]
 ]
 
 -- ---- a turn
 
-module _ (laws : Agreements) (w : World) (offered_are : AllByRecursion (λ c. IsOffered c.offer) w.calls) (id : CallId) (noise text : List ℕ) (c : Call) (o : Offer)
-    (at : call_of w id ≡ Some c) (open_one : c.offer ≡ Some o) where
+module _ (laws : Agreements) (ts : List Turn) (w : World) (opened : WereOpened ts w) (id : CallId) (noise text : List ℕ) (c : Call) (o : Offer) (at : call_of w id ≡ Some c) (open_one : c.offer ≡ Some o) where
+  by : Any (OpenedBy id o) ts
+  by = was_opened ts w opened id c o at open_one
+
   was : WasOffered o
-  was = subst IsOffered open_one (found (λ c. IsOffered c.offer) (λ x. same_id x.id id) w.calls c at offered_are)
+  was = was_offered id o by.1 by.4
 
   keys_are_few : (g : AgreedAnswer) → agreed_answer c.slot o noise text ≡ Ok g → length (keys_from c.serial c.generations 0 g.media) ≤ 64
   keys_are_few g e =
@@ -611,12 +607,15 @@ module _ (laws : Agreements) (w : World) (offered_are : AllByRecursion (λ c. Is
       let few = laws.few was.hand was.way was.text was.accepted was.agreed in
       omega (arith, keys, media, offered, few)
 
-  refused_shows : (cause : Refusal) → answered_to w.moment w.books c noise text (Some o) ≡ Err cause → Shows w.books.ring o text cause
+  abbrev Showing : Refusal → Type 0
+  Showing = Shows w.books.ring (AreBrought ts id o noise text) o text
+
+  refused_shows : (cause : Refusal) → answered_to w.moment w.books c noise text (Some o) ≡ Err cause → Showing cause
   refused_shows cause e = elim (after_ok_err (agreed_answer c.slot o noise text) (λ a. keyed w.moment w.books c a.text a.media) cause e) [
-    | inl fails ↦ answer_shows w.books.ring c.slot o noise text cause fails
+    | inl fails ↦ answer_shows w.books.ring (AreBrought ts id o noise text) c.slot o (offer_serves o was) noise text cause fails
     | inr g ↦ elim (after_ok_err (generation_of c.serial c.generations w.books.ring g.0.media) _ cause g.2) [
       | inl fails ↦ elim (after_ok_err (install w.books.ring (keys_from c.serial c.generations 0 g.0.media)) _ cause fails) [
-        | inl full ↦ ring_shows w.books.ring o text (keys_from c.serial c.generations 0 g.0.media) (keys_are_few g.0 g.1) cause full
+        | inl full ↦ ring_shows w.books.ring (AreBrought ts id o noise text) o text (keys_from c.serial c.generations 0 g.0.media) (keys_brought laws ts id o noise text c by g.0 g.1) (keys_are_few g.0 g.1) cause full
         | inr x ↦ absurd (ok_err _ cause x.2)
       ]
       | inr x ↦ absurd (ok_err _ cause x.2)
@@ -624,23 +623,30 @@ module _ (laws : Agreements) (w : World) (offered_are : AllByRecursion (λ c. Is
   ]
 
   abbrev Told : Answer → Type 0
-  Told a = (cause : Refusal) → Any (λ x. x ≡ Refused (Some id) cause) a.outcomes → Shows w.books.ring o text cause
+  Told a = Any IsRefusal a.outcomes → (cause : Refusal) × (a.outcomes ≡ Refused (Some id) cause ∷ []) × Showing cause
 
   settled_shows : (side : Side) (q : Result Settled Refusal) → answered_to w.moment w.books c noise text (Some o) ≡ q → Told (in_old w id (tells_answer id side) q)
-  settled_shows side (Err d) e cause any = elim (any_cases (λ x. x ≡ Refused (Some id) cause) (Refused (Some id) d) [] any) [
-    | inl here ↦ let same : d ≡ cause = cc in subst (Shows w.books.ring o text) same (refused_shows d e)
-    | inr none ↦ absurd (any_none (λ x. x ≡ Refused (Some id) cause) none)
-  ]
-  settled_shows side (Ok r) e cause any = elim (any_cases (λ x. x ≡ Refused (Some id) cause) (Sdp id side r.text) (Live id ∷ []) any) [
-    | inl here ↦ absurd cc
-    | inr more ↦ elim (any_cases (λ x. x ≡ Refused (Some id) cause) (Live id) [] more) [
-      | inl here ↦ absurd cc
-      | inr none ↦ absurd (any_none (λ x. x ≡ Refused (Some id) cause) none)
+  settled_shows side (Err d) e any = (d, refl, refused_shows d e)
+  settled_shows side (Ok r) e any = elim (any_cases IsRefusal (Sdp id side r.text) (Live id ∷ []) any) [
+    | inl here ↦ absurd here
+    | inr more ↦ elim (any_cases IsRefusal (Live id) [] more) [
+      | inl here ↦ absurd here
+      | inr none ↦ absurd (any_none IsRefusal none)
     ]
   ]
 
-  pub refusal_shows : Told (answer_to w (Answered id noise text))
+  refusal_shows : Told (answer_to w (Answered id noise text))
   refusal_shows =
       subst (λ x. Told (answers w id noise text x)) (sym at)
       (subst (λ x. Told (in_old w id (tells_answer id (offering_side c.offer)) (answered_to w.moment w.books c noise text x))) (sym open_one)
       (settled_shows (offering_side c.offer) (answered_to w.moment w.books c noise text (Some o)) refl))
+
+-- ---- a run
+
+turn_shows : Agreements → (ts : List Turn) (w : World) → WereOpened ts w → (e : Event) → RefusedAnswerShowsCause ts (turn_of w e)
+turn_shows laws ts w opened e id noise text c o same at open_one =
+    subst (λ (e : Event). Any IsRefusal (step w e).outcomes → (cause : Refusal) × ((step w e).outcomes ≡ Refused (Some id) cause ∷ []) × Shows w.books.ring (AreBrought ts id o noise text) o text cause) (sym same)
+    (refusal_shows laws ts w opened id noise text c o at open_one)
+
+pub refused_show : Agreements → (events : List Event) (earlier later : List Turn) (t : Turn) → turns events ≡ earlier ++ t ∷ later → RefusedAnswerShowsCause earlier t
+refused_show laws events = kept_before WereOpened event_opened RefusedAnswerShowsCause (turn_shows laws) [] empty events tt

@@ -49,37 +49,37 @@ own_matched P offered value p all e =
     let at = or_line_is Tag _ b.0 b.1 in
     subst (λ (p : CryptoLine × CryptoLine). P p.0) (if_same (same_suite b.0.suite a.0.suite) (b.0, a.0) p Suite b.2) (find_all P _ offered b.0 at all)
 
-own_of_lines : (P : CryptoLine → Type 0) (offered : List CryptoLine) (o : Option (List ℕ)) (p : CryptoLine × CryptoLine) → AllByRecursion P offered → lines_matched offered o ≡ Ok p → P p.0
+pub own_of_lines : (P : CryptoLine → Type 0) (offered : List CryptoLine) (o : Option (List ℕ)) (p : CryptoLine × CryptoLine) → AllByRecursion P offered → lines_matched offered o ≡ Ok p → P p.0
 own_of_lines P offered None p all e = absurd cc
 own_of_lines P offered (Some value) p all e = own_matched P offered value p all e
 
 -- ---- what is at each number
 
-abbrev AllAt : {X : Type 0} → (ℕ → X → Type 0) → ℕ → List (Option X) → Type 0
+abbrev pub AllAt : {X : Type 0} → (ℕ → X → Type 0) → ℕ → List (Option X) → Type 0
 AllAt P k [] = Unit {0}
 AllAt P k (None ∷ xs) = AllAt P (k + 1) xs
 AllAt P k (Some x ∷ xs) = P k x × AllAt P (k + 1) xs
 
-some_at : {X : Type 0} (P : ℕ → X → Type 0) (k : ℕ) (o : Option X) (xs : List (Option X)) → ((x : X) → o ≡ Some x → P k x) → AllAt P (k + 1) xs → AllAt P k (o ∷ xs)
+pub some_at : {X : Type 0} (P : ℕ → X → Type 0) (k : ℕ) (o : Option X) (xs : List (Option X)) → ((x : X) → o ≡ Some x → P k x) → AllAt P (k + 1) xs → AllAt P k (o ∷ xs)
 some_at P k None xs is all = all
 some_at P k (Some x) xs is all = (is x refl, all)
 
-rest_at : {X : Type 0} (P : ℕ → X → Type 0) (k : ℕ) (o : Option X) (xs : List (Option X)) → AllAt P k (o ∷ xs) → AllAt P (k + 1) xs
+pub rest_at : {X : Type 0} (P : ℕ → X → Type 0) (k : ℕ) (o : Option X) (xs : List (Option X)) → AllAt P k (o ∷ xs) → AllAt P (k + 1) xs
 rest_at P k None xs all = all
 rest_at P k (Some x) xs all = all.1
 
-this_at : {X : Type 0} (P : ℕ → X → Type 0) (k : ℕ) (o : Option X) (xs : List (Option X)) → AllAt P k (o ∷ xs) → (x : X) → o ≡ Some x → P k x
+pub this_at : {X : Type 0} (P : ℕ → X → Type 0) (k : ℕ) (o : Option X) (xs : List (Option X)) → AllAt P k (o ∷ xs) → (x : X) → o ≡ Some x → P k x
 this_at P k None xs all x e = absurd cc
 this_at P k (Some y) xs all x e = subst (P k) (some_is y x e) all.0
 
-kept_some : {X Y : Type 0} (b : Bool) (o : Option X) (value : X → Result Y Refusal) (y : Y) → if_kept b o value ≡ Ok (Some y) → (x : X) × (o ≡ Some x) × (value x ≡ Ok y)
+pub kept_some : {X Y : Type 0} (b : Bool) (o : Option X) (value : X → Result Y Refusal) (y : Y) → if_kept b o value ≡ Ok (Some y) → (x : X) × (o ≡ Some x) × (value x ≡ Ok y)
 kept_some false o value y e = absurd cc
 kept_some true None value y e = absurd cc
 kept_some true (Some x) value y e =
     let a = after_ok_is (value x) (λ y. Ok (Some y)) (Some y) e in
     (x, refl, a.1 ∙ ap Ok (some_is a.0 y (ok_is (Some a.0) (Some y) a.2)))
 
-each_kept_at : {X Y : Type 0} (Q : ℕ → X → Type 0) (P : ℕ → Y → Type 0) (value : ℕ → X → descriptions.Medium → Result Y Refusal) → ((k : ℕ) (x : X) (n : descriptions.Medium) (y : Y) → Q k x → value k x n ≡ Ok y → P k y)
+pub each_kept_at : {X Y : Type 0} (Q : ℕ → X → Type 0) (P : ℕ → Y → Type 0) (value : ℕ → X → descriptions.Medium → Result Y Refusal) → ((k : ℕ) (x : X) (n : descriptions.Medium) (y : Y) → Q k x → value k x n ≡ Ok y → P k y)
     → (k : ℕ) (active : List Bool) (xs : List (Option X)) (ns : List descriptions.Medium) (ys : List (Option Y)) → AllAt Q k xs → each_kept value k active xs ns ≡ Ok ys → AllAt P k ys
 each_kept_at Q P value each k [] xs ns ys all e = subst (AllAt P k) (ok_is [] ys e) tt
 each_kept_at Q P value each k (on ∷ active) [] ns ys all e = subst (AllAt P k) (ok_is [] ys e) tt
@@ -92,7 +92,7 @@ each_kept_at Q P value each k (on ∷ active) (x ∷ xs) (n ∷ ns) ys all e =
     (λ y is. let s = kept_some on x (λ x. value k x n) y (a.1 ∙ ap Ok is) in each k s.0 n y (this_at Q k x xs all s.0 s.1) s.2)
     (each_kept_at Q P value each (k + 1) active xs ns b.0 (rest_at Q k x xs all) b.1))
 
-each_active_at : {X : Type 0} (P : ℕ → X → Type 0) (side : Side) (value : ℕ → descriptions.Medium → Result X Refusal) → ((k : ℕ) (m : descriptions.Medium) (x : X) → value k m ≡ Ok x → P k x)
+pub each_active_at : {X : Type 0} (P : ℕ → X → Type 0) (side : Side) (value : ℕ → descriptions.Medium → Result X Refusal) → ((k : ℕ) (m : descriptions.Medium) (x : X) → value k m ≡ Ok x → P k x)
     → (k : ℕ) (ms : List descriptions.Medium) (xs : List (Option X)) → each_active side value k ms ≡ Ok xs → AllAt P k xs
 each_active_at P side value each k [] xs e = subst (AllAt P k) (ok_is [] xs e) tt
 each_active_at P side value each k (m ∷ ms) xs e =
@@ -104,7 +104,7 @@ each_active_at P side value each k (m ∷ ms) xs e =
 -- ---- sessions that seal
 
 module _ (P : ℕ → List Master → Type 0) where
-  abbrev StreamHas : ℕ → Stream → Type 0
+  abbrev pub StreamHas : ℕ → Stream → Type 0
   StreamHas k st = P k (map (λ k. k.master) st.keys)
 
   media_have : (side : Side) (k : ℕ) (ms ns : List descriptions.Medium) (ks : List (Option Keyed)) → AllAt (λ k (y : Keyed). StreamHas k y.to_peer) k ks
@@ -150,7 +150,7 @@ module _ (P : ℕ → List Master → Type 0) where
 
 -- ---- by lines
 
-masters_mapped : (l : CryptoLine) → map (λ k. k.master) (map line_key l.keys) ≡ map (λ k. k.key) l.keys
+pub masters_mapped : (l : CryptoLine) → map (λ k. k.master) (map line_key l.keys) ≡ map (λ k. k.key) l.keys
 masters_mapped l = go l.keys
   where
     go : (ks : List InlineKey) → map (λ k. k.master) (map line_key ks) ≡ map (λ k. k.key) ks
@@ -171,13 +171,13 @@ own_lines_draw drawn k offered n y all e =
     let own = own_of_lines (IsOffered drawn k) offered (first_of (crypto_values n.lines)) a.0 all (sdes_is k (lines_matched offered (first_of (crypto_values n.lines))) a.0 a.1) in
     subst (λ (y : Keyed). StreamHas (IsForOffer drawn) k y.to_peer) (ok_is (keyed_by_matched a.0) y a.2) (subst (IsForOffer drawn k) (sym (masters_mapped a.0.0)) own)
 
-any_at : {X : Type 0} (k : ℕ) (xs : List (Option X)) → AllAt (λ k (x : X). Unit {0}) k xs
+pub any_at : {X : Type 0} (k : ℕ) (xs : List (Option X)) → AllAt (λ k (x : X). Unit {0}) k xs
 any_at k [] = tt
 any_at k (None ∷ xs) = any_at (k + 1) xs
 any_at k (Some x ∷ xs) = (tt, any_at (k + 1) xs)
 
 -- how the offer is keyed by lines, with this noise
-abbrev LinesOf : Way → List ℕ → Offer → Type 0
+abbrev pub LinesOf : Way → List ℕ → Offer → Type 0
 LinesOf FromSecure drawn o = HasNoMessage o.description → (ls : List (Option CryptoLine)) × (o.keying ≡ PeerLines ls)
 LinesOf SdesFromPlain drawn o = (ls : List (Option (List CryptoLine))) × (o.keying ≡ OwnLines ls) × AllAt (λ k l. AllByRecursion (IsOffered drawn k) l) 0 ls
 LinesOf (MikeyFromPlain peer) drawn o = Unit {0}
@@ -196,7 +196,7 @@ lines_of_keying h s SdesFromPlain k e =
     )
 lines_of_keying h s (MikeyFromPlain peer) k e = tt
 
-offer_lines : (h : AtHand) (way : Way) (text : List ℕ) (a : AgreedOffer) → agreed_offer h way text ≡ Ok a → LinesOf way h.noise a.offer
+pub offer_lines : (h : AtHand) (way : Way) (text : List ℕ) (a : AgreedOffer) → agreed_offer h way text ≡ Ok a → LinesOf way h.noise a.offer
 unfolding agreed_offer
 offer_lines h way text a e =
     let p = after_ok_is (described (side_of way) h.media text) _ a e in
@@ -269,7 +269,7 @@ offer_message h peer text a e =
       tells_message h.slot p.0 r.0,
     )
 
-draws : (u : Turn) (id : CallId) (way : Way) (drawn : List ℕ) (c d : Call) (o : Offer) (noise text : List ℕ) (by : MadeBy id o u) → by.way ≡ way → by.noise ≡ drawn → LinesOf way drawn o → (a : IsAnswered c d o noise text)
+pub draws : (u : Turn) (id : CallId) (way : Way) (drawn : List ℕ) (c d : Call) (o : Offer) (noise text : List ℕ) (by : MadeBy id o u) → by.way ≡ way → by.noise ≡ drawn → LinesOf way drawn o → (a : IsAnswered c d o noise text)
     → AreDrawn u id way drawn o.description noise d
 draws u id FromSecure drawn c d o noise text by of_way of_noise lines a = λ none.
     let ls = lines none in

@@ -88,7 +88,7 @@ first_read (line ∷ lines) l e = go (first_read lines l) (behind (codes "a=cryp
     go rest None is n = later (rest n) (λ v other same said. none_some v (sym is ∙ ap (behind (codes "a=crypto:")) same))
     go rest (Some value) is n = read rest value is (crypto_of value) refl n
 
-first_line : (k : ℕ) (m : descriptions.Medium) (l : CryptoLine) → chosen_in k m ≡ Ok l → IsFirstLine m.lines l
+pub first_line : (k : ℕ) (m : descriptions.Medium) (l : CryptoLine) → chosen_in k m ≡ Ok l → IsFirstLine m.lines l
 unfolding crypto_values
 first_line k m l e = first_read m.lines l (sdes_is k (chosen_of (crypto_values m.lines)) l e)
 

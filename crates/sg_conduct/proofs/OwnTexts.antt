@@ -28,7 +28,8 @@ use Rattle.base64.specs.Engines.{standard}
 use Rattle.base64.specs.GeneralPurpose.{encode_of}
 use Rattle.sg_sdes.specs.CryptoText.{crypto_text}
 use Rattle.sg_conduct.proofs.Printed.{AreAttributes, IsAttribute, Laws, base64_one, crypto_one, test_one, told_read}
-use Rattle.sg_conduct.specs.ToldTexts.{HaveOwnPorts, IsOwnText, NamesGateway, port_towards}
+use Rattle.sg_conduct.specs.OwnPorts.{port_towards}
+use Rattle.sg_conduct.specs.ToldTexts.{HaveOwnPorts, IsOwnText, NamesGateway}
 use Rattle.sg_gateway.proofs.Common.{AtHand, CryptoLine, Keyed, Plain, Profile, Secure, Side, StreamKeys, Way, after_ok_is, description_of, each_append}
 use Rattle.sg_gateway.proofs.Common.{each_kept, each_weaker, of_sdes, ok_is}
 

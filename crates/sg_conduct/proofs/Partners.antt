@@ -15,7 +15,7 @@ use Rattle.sg_gateway.proofs.Agreements.{Agreements}
 use Rattle.sg_gateway.proofs.CarriedOut.{of_generation}
 use Rattle.sg_gateway.proofs.Kept.{IsOffered, WasOffered}
 use Rattle.sg_gateway.proofs.Signals.{found}
-use Rattle.sg_gateway.specs.Signals.{Answered, answer_to, answered}
+use Rattle.sg_gateway.specs.Signals.{Answered, answer_to}
 use Rattle.sg_conduct.proofs.Offers.{active_takes}
 use Rattle.sg_conduct.proofs.Present.{agreement_is}
 use Rattle.sg_conduct.specs.Present.{IsOfPartners, TakesPart}
@@ -106,6 +106,15 @@ module _ (side : Side) where
 abbrev HasNoOthers : Offer → Sdp → Call → Type 0
 HasNoOthers o answer d = AllByRecursion (λ s. s.name.owner.generation + 1 ≡ d.generations → IsOfPartners o.side o.description.media answer.media s) d.sessions
 
+-- the sessions that are made of an answer
+pub new_partners : (laws : Agreements) (slot : ℕ) (o : Offer) (noise text : List ℕ) (g : AgreedAnswer) (answer : Sdp) → WasOffered o → agreed_answer slot o noise text ≡ Ok g → description_of text ≡ Ok answer
+    → (call generation n : ℕ) → AllByRecursion (IsOfPartners o.side o.description.media answer.media) (sessions_from call generation 0 n g.media)
+new_partners laws slot o noise text g answer was agreed read call generation n =
+    let are = answer_partners laws slot o noise text g answer was agreed read in
+    each_weaker (HoldsFrom (OfPartner o.side) 0 o.description.media answer.media) (IsOfPartners o.side o.description.media answer.media) (λ s p. from_first o.side o.description.media answer.media s p)
+    (sessions_from call generation 0 n g.media)
+    (each_from (OfPartner o.side) call generation 0 n o.description.media answer.media g.media (each_partner o.side o.description.media answer.media g.media are))
+
 module _ (laws : Agreements) (w : World) (offered_are : AllByRecursion (λ c. IsOffered c.offer) w.calls) (id : CallId) (noise text : List ℕ) (c : Call) (o : Offer)
     (is : call_of w id ≡ Some c) (open_one : c.offer ≡ Some o) (answer : Sdp) (read : description_of text ≡ Ok answer) where
   was : WasOffered o
@@ -114,8 +123,6 @@ module _ (laws : Agreements) (w : World) (offered_are : AllByRecursion (λ c. Is
   pub answer_alone : (d : Call) → call_of (answer_to w (Answered id noise text)).world id ≡ Some d → d.generations ≡ c.generations + 1 → HasNoOthers o answer d
   answer_alone d at more =
       let a = answered_now w id noise text c o is open_one d at more in
-      let are = answer_partners laws c.slot o noise text a.agreement answer was a.agreed read in
       let new : List Session = sessions_from c.serial c.generations 0 a.number a.agreement.media in
       of_generation c d new (IsOfPartners o.side o.description.media answer.media) a.sessions more
-      (each_weaker (HoldsFrom (OfPartner o.side) 0 o.description.media answer.media) (IsOfPartners o.side o.description.media answer.media) (λ s p. from_first o.side o.description.media answer.media s p) new
-      (each_from (OfPartner o.side) c.serial c.generations 0 a.number o.description.media answer.media a.agreement.media (each_partner o.side o.description.media answer.media a.agreement.media are)))
+      (new_partners laws c.slot o noise text a.agreement answer was a.agreed read c.serial c.generations a.number)

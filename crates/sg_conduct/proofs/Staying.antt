@@ -3,7 +3,7 @@ use Rattle.std.proofs.Common.{◌≡◌, ℕ, Bool, true, false, cond, List, Som
 use Rattle.std.specs.List.{AllByRecursion, Any}
 use Rattle.sg_base.specs.declared.addresses.Address.{Address}
 use Rattle.sg_gateway.proofs.Common.{Call, Datagram, Entry, Event, IsBefore, Octets, Session, Signal, Signalled, Taken, World, answer_to, any_weaker, both}
-use Rattle.sg_gateway.proofs.Common.{call_after, call_at, each_at_this, given_to, has_port, put, same_name, step, with_call, with_done, without_call}
+use Rattle.sg_gateway.proofs.Common.{call_after, call_at, each_at_this, given_to, has_port, put, same_name, step, turn_of, with_call, with_done, without_call}
 use Rattle.sg_gateway.proofs.CarriedOut.{any_mapped}
 use Rattle.sg_gateway.proofs.Kept.{CallKept, IsKept, SessionKept}
 use Rattle.sg_gateway.proofs.Ordered.{one_serial}
@@ -13,7 +13,7 @@ use Rattle.sg_gateway.proofs.Signals.{is_found}
 use Rattle.sg_gateway.proofs.StepCases.{each_datagram, each_signal}
 use Rattle.sg_gateway.proofs.Lists.{each_of_list}
 use Rattle.sg_conduct.proofs.Others.{goes_stays, comes_stays}
-use Rattle.sg_conduct.specs.Staying.{IsStillOpen, TakesSessions}
+use Rattle.sg_conduct.specs.Staying.{IsStillOpen, OpenOffersStay, MayChangeOffers, TakesSessions}
 
 -- an offer leaves the call's sessions as they are
 record IsOpened (c d : Call) : Type 0 where
@@ -99,3 +99,43 @@ event_still past w kept before (Signalled signal) keeps =
 event_still past w kept before (Datagram port from octets) keeps =
     each_of_list (λ c. AllByRecursion (λ s. IsStillOpen c s (step w (Datagram port from octets)).world) c.sessions) w.calls (λ c here.
     each_of_list (λ s. IsStillOpen c s (step w (Datagram port from octets)).world) c.sessions (λ s held. arrived_still past w kept before c here s held port from octets))
+
+-- ---- offers
+
+module _ (w : World) (before : Pairs IsBefore w.calls) (c : Call) (here : Any (λ x. x ≡ c) w.calls) where
+  abbrev HasOffer : Call → Type 0
+  HasOffer d = (d.id ≡ c.id) × (d.offer ≡ c.offer)
+
+  as_it_was : (cs : List Call) → Any (λ x. x ≡ c) cs → Any HasOffer cs
+  as_it_was cs there = any_weaker (λ x. x ≡ c) HasOffer (λ x same. (ap (λ (x : Call). x.id) same, ap (λ (x : Call). x.offer) same)) cs there
+
+  signal_leaves : (signal : Signal) → (MayChangeOffers signal → ⊥) → Any HasOffer (answer_to w signal).world.calls
+  signal_leaves = each_signal w (λ signal a. (MayChangeOffers signal → ⊥) → Any HasOffer a.world.calls) (record {
+    refuses = λ signal id cause stays. as_it_was w.calls here;
+    ticks = λ now on stays. absurd (stays tt);
+    pairs = λ p stays. as_it_was w.calls here;
+    keys = λ h none room ring is stays. as_it_was _ (comes_stays w before c here _);
+    begins = λ id way noise text none room a agreed stays. absurd (stays tt);
+    offers = λ id way noise text d at a agreed stays. absurd (stays tt);
+    answers = λ id noise text d at o is_open g agreed ring is stays. absurd (stays tt);
+    rejects = λ id d at none stays. absurd (stays tt);
+    closes = λ id d at stays. absurd (stays tt);
+    leaves = λ id d at stays. absurd (stays tt);
+  })
+
+  put_leaves : (port : ℕ) (d : Call) → call_at w port ≡ Some d → (x : Session) (t : Taken) (octets : List ℕ) → Any HasOffer (given_to w port (put w.moment d x t octets)).world.calls
+  put_leaves port d at x t octets = any_mapped HasOffer (λ y. cond (eqb y.serial d.serial) (call_after w.moment d x t) y) c w.calls (go (eqb c.serial d.serial) refl) here
+    where
+      go : (b : Bool) → eqb c.serial d.serial ≡ b → HasOffer (cond b (call_after w.moment d x t) c)
+      go false apart = (refl, refl)
+      go true same =
+          let one : c ≡ d = each_at_this (λ x. x.serial ≡ d.serial → x ≡ d) w.calls c (one_serial d w.calls before (is_found (has_port port) w.calls d at)) here (eqb-true c.serial d.serial same) in
+          (ap (λ (x : Call). x.id) (sym one), ap (λ (x : Call). x.offer) (sym one))
+
+  event_leaves : (e : Event) → ((signal : Signal) → e ≡ Signalled signal → MayChangeOffers signal → ⊥) → Any HasOffer (step w e).world.calls
+  event_leaves (Signalled signal) stays = signal_leaves signal (stays signal refl)
+  event_leaves (Datagram port from d) stays =
+      each_datagram w port (λ h. Any HasOffer h.world.calls) (record { drops = λ cause. as_it_was w.calls here; puts = λ e at x t octets on. put_leaves port e at x t octets }) from d.items
+
+pub offers_stay : (w : World) → Pairs IsBefore w.calls → (e : Event) → OpenOffersStay (turn_of w e)
+offers_stay w before e stays = each_of_list (λ c. Any (λ d. (d.id ≡ c.id) × (d.offer ≡ c.offer)) (step w e).world.calls) w.calls (λ c here. event_leaves w before c here e stays)

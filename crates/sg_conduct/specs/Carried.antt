@@ -37,8 +37,8 @@ use Rattle.sg_gateway.specs.Step.{Event, Signalled}
 use Rattle.sg_gateway.specs.World.{Call, World, call_of}
 use Rattle.sg_conduct.specs.Drawn.{IsDrawn, noise_for}
 use Rattle.sg_conduct.specs.Offers.{IsOpen}
+use Rattle.sg_conduct.specs.OwnPorts.{port_towards}
 use Rattle.sg_conduct.specs.Present.{TakesPart}
-use Rattle.sg_conduct.specs.ToldTexts.{port_towards}
 
 -- ---- lines
 

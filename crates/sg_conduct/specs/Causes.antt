@@ -1,5 +1,6 @@
--- An answer to an open offer is refused only for a cause that its text, its message or the ring shows.
-use Rattle.std.specs.Prelude.{◌≡◌, ◌⊎◌, ◌<◌, ◌≤◌, ℕ, ◌+◌, List, [], ◌∷◌, ◌++◌, length, codes, Option, Some, None, Ok, Err}
+-- An answer to an open offer is refused only for a cause that its text, its message or the ring shows: of the ring, by the keys that
+-- this answer brings.
+use Rattle.std.specs.Prelude.{◌≡◌, ◌⊎◌, ◌<◌, ◌≤◌, ℕ, ◌+◌, List, [], ◌∷◌, ◌++◌, length, map, codes, Option, Some, None, Ok, Err}
 use Rattle.std.specs.List.{All, AllByRecursion, Any}
 use Rattle.sg_agreement.specs.Keying.{OwnLines, OwnMessage, Offer}
 use Rattle.sg_agreement.specs.Sides.{other_side}
@@ -31,12 +32,17 @@ use Rattle.sg_sdp.specs.declared.medium.Medium as descriptions
 use Rattle.sg_sdp.specs.declared.sdp.Sdp.{Sdp}
 use Rattle.sg_session.specs.Ring.{Installed}
 use Rattle.sg_gateway.specs.CryptoSessions.{Carries}
-use Rattle.sg_gateway.specs.Runs.{Turn, turns}
+use Rattle.sg_gateway.specs.Refusing.{IsRefused}
+use Rattle.sg_gateway.specs.Runs.{Turn, after_turn, turns, world_after}
 use Rattle.sg_gateway.specs.Signals.{Answered}
 use Rattle.sg_gateway.specs.Step.{Event, Signalled}
-use Rattle.sg_gateway.specs.World.{Call, call_of}
+use Rattle.sg_gateway.specs.World.{Call, call_of, empty}
+use Rattle.sg_conduct.specs.Brought.{AreBrought}
+use Rattle.sg_conduct.specs.Firsts.{AnswerIsByFirst}
 use Rattle.sg_conduct.specs.Manual.{AreApart, IsApartInItself}
+use Rattle.sg_conduct.specs.Offers.{NotesComeWithOffers}
 use Rattle.sg_conduct.specs.Present.{TakesPart}
+use Rattle.sg_conduct.specs.Staying.{HasBegun, MarksStay, MomentStays, OpenOffersStay, PairsStay, PskIsHeld, RejectedFirstEnds}
 
 -- ---- the text
 
@@ -134,37 +140,63 @@ IsReusedAt keys key number =
     ((before behind : List Installed) × (r : Installed) × (keys ≡ before ++ r ∷ behind) × (number ≡ length before) × (¬ AreApart r.master key))
     ⊎ ((number ≡ length keys) × (¬ IsApartInItself key))
 
--- so of the next key, behind the ring and those of the answer that came into use: an answer has 64 keys at most
-pub record IsReused (ring : List Installed) (number : ℕ) : Type 0 where
+-- so of one of the keys that the answer brings, behind the ring and those before it, which came into use: it has 64 keys at most
+pub record IsReused (ring : List Installed) (Brings : List Master → Type 0) (number : ℕ) : Type 0 where
   pub new : List Installed
   pub key : Master
+  pub later : List Master
+  pub brings : Brings (map (λ k. k.master) new ++ key ∷ later)
   pub few : length new < 64
   pub come : ComeIntoUse ring new
   pub reused : IsReusedAt (ring ++ new) key number
 
-abbrev pub IsFull : List Installed → Type 0
-IsFull ring = (new : List Installed) × (length new ≤ 64) × ComeIntoUse ring new × (65536 < length ring + length new)
+-- all come into use, and are too many
+abbrev pub IsFull : List Installed → (List Master → Type 0) → Type 0
+IsFull ring Brings = (new : List Installed) × Brings (map (λ k. k.master) new) × (length new ≤ 64) × ComeIntoUse ring new × (65536 < length ring + length new)
+
+-- a session of the key's owner is under it
+abbrev pub HasUser : List Call → Installed → Type 0
+HasUser calls k = Any (λ c. Any (λ s. (s.name.owner ≡ k.owner) × Any (λ x. x.master ≡ k.master) s.keys) c.sessions) calls
+
+-- what comes into the ring has such a session
+abbrev pub KeysComeWithUsers : Turn → Type 0
+KeysComeWithUsers t = (new : List Installed) × ((after_turn t).books.ring ≡ t.before.books.ring ++ new) × AllByRecursion (HasUser (after_turn t).calls) new
 
 -- ---- the cause
 
--- Why the crypto sessions of the gateway's own message wouldn't serve (`Cs`), nothing here says.
-abbrev pub Shows : List Installed → Offer → List ℕ → Refusal → Type 0
-Shows ring o text (causes.Sdp line fault) = ShowsFault (other_side o.side) text line fault
-Shows ring o text causes.NoMedia = (s : Sdp) × (description_of text ≡ Ok s) × AllByRecursion (λ m. ¬ TakesPart (other_side o.side) m) s.media
-Shows ring o text causes.MediaCount = (s : Sdp) × (description_of text ≡ Ok s) × (¬ length s.media ≡ length o.description.media)
-Shows ring o text (causes.Sdes medium fault) = LacksLine o text medium fault
-Shows ring o text (causes.KeyMgmt medium) = LacksMessage o text medium
-Shows ring o text (causes.Mikey medium offset fault) = ShowsNoMessage o text medium offset fault
-Shows ring o text (causes.Psk medium fault) = ShowsNoResponse o text medium fault
-Shows ring o text (causes.Cs medium fault) = IsToRespond o text medium
-Shows ring o text (causes.KeyReused number) = IsReused ring number
-Shows ring o text causes.RingFull = IsFull ring
-Shows ring o text other = ⊥
+-- By no other cause. Never by `Cs`: the crypto sessions and the policy of the gateway's own message serve (RFC 3830, 6.1.1 and 6.10.1).
+abbrev pub Shows : List Installed → (List Master → Type 0) → Offer → List ℕ → Refusal → Type 0
+Shows ring Brings o text (causes.Sdp line fault) = ShowsFault (other_side o.side) text line fault
+Shows ring Brings o text causes.NoMedia = (s : Sdp) × (description_of text ≡ Ok s) × AllByRecursion (λ m. ¬ TakesPart (other_side o.side) m) s.media
+Shows ring Brings o text causes.MediaCount = (s : Sdp) × (description_of text ≡ Ok s) × (¬ length s.media ≡ length o.description.media)
+Shows ring Brings o text (causes.Sdes medium fault) = LacksLine o text medium fault
+Shows ring Brings o text (causes.KeyMgmt medium) = LacksMessage o text medium
+Shows ring Brings o text (causes.Mikey medium offset fault) = ShowsNoMessage o text medium offset fault
+Shows ring Brings o text (causes.Psk medium fault) = ShowsNoResponse o text medium fault
+Shows ring Brings o text (causes.KeyReused number) = IsReused ring Brings number
+Shows ring Brings o text causes.RingFull = IsFull ring Brings
+Shows ring Brings o text other = ⊥
 
-abbrev pub RefusedAnswerShowsCause : Turn → Type 0
-RefusedAnswerShowsCause t =
-    (id : CallId) (noise text : List ℕ) (c : Call) (o : Offer) (cause : Refusal) → t.event ≡ Signalled (Answered id noise text)
-    → call_of t.before id ≡ Some c → c.offer ≡ Some o → Any (λ x. x ≡ Refused (Some id) cause) t.outcomes → Shows t.before.books.ring o text cause
+-- that one cause is told, and nothing else
+abbrev pub RefusedAnswerShowsCause : List Turn → Turn → Type 0
+RefusedAnswerShowsCause earlier t =
+    (id : CallId) (noise text : List ℕ) (c : Call) (o : Offer) → t.event ≡ Signalled (Answered id noise text)
+    → call_of t.before id ≡ Some c → c.offer ≡ Some o → IsRefused t
+    → (cause : Refusal) × (t.outcomes ≡ Refused (Some id) cause ∷ []) × Shows t.before.books.ring (AreBrought earlier id o noise text) o text cause
 
-abbrev pub RefusedAnswersShowCauses : List Event → Type 0
-RefusedAnswersShowCauses events = All RefusedAnswerShowsCause (turns events)
+-- So in a run. And the gateway makes no cause by itself: no packet, pre-shared key or manual line closes an open offer, no key comes
+-- into the ring without a session under it, and none is noted but the messages of offers that are open then. Ticks alone move the
+-- moment, `psk` lines alone change the pre-shared keys, manual lines alone mark calls; and each call has a generation or an open
+-- offer. The sessions of an answer that is taken are by the first crypto line of the peer's that is read.
+pub record RefusedAnswersShowCauses (events : List Event) : Type 0 where
+  pub shown : (earlier later : List Turn) (t : Turn) → turns events ≡ earlier ++ t ∷ later → RefusedAnswerShowsCause earlier t
+  pub stay : All OpenOffersStay (turns events)
+  pub used : All KeysComeWithUsers (turns events)
+  pub noted : All NotesComeWithOffers (turns events)
+  pub moment : All MomentStays (turns events)
+  pub pairs : All PairsStay (turns events)
+  pub held : All PskIsHeld (turns events)
+  pub marks : All MarksStay (turns events)
+  pub rejected : All RejectedFirstEnds (turns events)
+  pub begun : AllByRecursion HasBegun (world_after empty events).calls
+  pub firsts : (earlier later : List Turn) (t : Turn) → turns events ≡ earlier ++ t ∷ later → AnswerIsByFirst earlier t

@@ -1,10 +1,14 @@
+pub mod Brought
 pub mod Carried
+pub mod CarriedBack
 pub mod Causes
 pub mod Drawn
+pub mod Firsts
 pub mod Heard
 pub mod Manual
 pub mod Offers
 pub mod Others
+pub mod OwnPorts
 pub mod Place
 pub mod Present
 pub mod Settled

@@ -2,7 +2,8 @@
 -- what they say (RFC 3830, 5.2 to 5.4). And it is told to the other side.
 use Rattle.std.specs.Prelude.{◌≡◌, ◌⊎◌, ◌<◌, ◌≤◌, ℕ, ◌+◌, ◌*◌, false, List, [], ◌∷◌, ◌++◌, length, filter, Some, None, Ok, ◌==◌}
 use Rattle.std.specs.List.{All, AllByRecursion, Any, find}
-use Rattle.sg_agreement.specs.Keying.{Offer}
+use Rattle.sg_agreement.specs.Keying.{Keying, PeerMessage, PeerMessages, Offer}
+use Rattle.sg_agreement.specs.Messages.{Bundle}
 use Rattle.sg_agreement.specs.Sides.{is_active, other_side, side_of}
 use Rattle.sg_agreement.specs.TextLines.{HasLine, HasNoMessage, IsMessageLine}
 use Rattle.sg_agreement.specs.declared.ways.Way.{Way}
@@ -28,7 +29,7 @@ use Rattle.sg_psk.specs.declared.replays.Noted.{Noted}
 use Rattle.sg_sdes.specs.declared.lines.CryptoLine.{CryptoLine}
 use Rattle.sg_sdp.specs.Reading.{description_of}
 use Rattle.sg_sdp.specs.declared.sdp.Sdp.{Sdp}
-use Rattle.sg_gateway.specs.Authentic.{AreNamesOf}
+use Rattle.sg_gateway.specs.Authentic.{AreNamesOf, IsNoteOf}
 use Rattle.sg_gateway.specs.CryptoSessions.{Carries}
 use Rattle.sg_gateway.specs.Runs.{Turn, turns, after_turn}
 use Rattle.sg_gateway.specs.Signals.{Offered, new_call}
@@ -166,3 +167,25 @@ OfferIsTaken t = NewOfferIsOpen t × LaterOfferIsOpen t
 
 abbrev pub OffersAreTaken : List Event → Type 0
 OffersAreTaken events = All OfferIsTaken (turns events)
+
+-- ---- the book
+
+-- an offer is keyed by the message of this note
+abbrev pub IsOfMessage : Keying → Noted → Type 0
+IsOfMessage (PeerMessage b) n = IsNoteOf b.initial n
+IsOfMessage (PeerMessages bs) n = Any (λ x. (b : Bundle) × (x ≡ Some b) × IsNoteOf b.initial n) bs
+IsOfMessage other n = ⊥
+
+-- so an open one
+abbrev pub HasNoted : List Call → Noted → Type 0
+HasNoted calls n = Any (λ c. (o : Offer) × (c.offer ≡ Some o) × IsOfMessage o.keying n) calls
+
+-- they come behind a book that hasn't them
+abbrev pub AreNew : List Noted → List Noted → Type 0
+AreNew book [] = Unit {0}
+AreNew book (n ∷ ns) = AllByRecursion (λ x. ¬ x ≡ n) book × AreNew (book ++ n ∷ []) ns
+
+-- what is noted is so for an offer that is open then, once
+abbrev pub NotesComeWithOffers : Turn → Type 0
+NotesComeWithOffers t =
+    (new : List Noted) × ((after_turn t).books.noted ≡ t.before.books.noted ++ new) × AreNew t.before.books.noted new × AllByRecursion (HasNoted (after_turn t).calls) new

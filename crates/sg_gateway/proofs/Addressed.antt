@@ -1,20 +1,128 @@
 -- The sessions of an answer's generation have the addresses of its texts.
-use Rattle.std.proofs.Common.{◌≡◌, ℕ, suc, ◌+◌, Bool, true, false, cond, List, [], ◌∷◌, ◌++◌, length, Option, Some, None, Ok, refl, sym, ap, ◌∙◌, subst, arith}
-use Rattle.std.proofs.lemmas.List.Elements.{All-from_recursion}
-use Rattle.std.specs.List.{All, AllByRecursion, filter}
-use Rattle.sg_agreement.specs.Answers.{AgreedAnswer, agreed_answer}
+use Rattle.std.proofs.Common.{◌≡◌, ℕ, ◌+◌, List, [], ◌∷◌, ◌++◌, length, Option, Some, None, Ok, refl, sym, ap, ◌∙◌, subst, arith, Bool, true, false, cond, ◌&&◌}
+use Rattle.sg_agreement.specs.Answers.{AgreedAnswer, agreed_answer, accepted_answer, answered_by}
 use Rattle.sg_sdp.specs.declared.medium.Medium as descriptions
 use Rattle.sg_sdp.specs.declared.sdp.Sdp.{Sdp}
-use Rattle.sg_gateway.proofs.Common.{Call, CallId, Key, Kind, Medium, Offer, Opening, Owner, Rtcp, Rtp, Sealing, Session, Side, Stream, World, call_of}
-use Rattle.sg_gateway.proofs.Common.{description_of, each_append, each_weaker, numbered, owner_at, same_id, sessions_from, some_is, stream_session}
-use Rattle.sg_gateway.proofs.Common.{stream_sessions}
-use Rattle.sg_gateway.proofs.Between.{AreBetween, answer_between}
+use Rattle.sg_gateway.proofs.Common.{All, All-from_recursion, AllByRecursion, AtHand, Call, CallId, Key, Medium, Offer, Opening, Owner, Plain, Sealing, Secure}
+use Rattle.sg_gateway.proofs.Common.{Session, Side, Stream, Way, World, actives_after, after_ok_is, call_of, description_of, each_weaker, filter, is_active}
+use Rattle.sg_gateway.proofs.Common.{numbered, ok_is, other_side, owner_at, same_id, sessions_from, side_of, some_is, stop_if_is, stream_sessions}
 use Rattle.sg_gateway.proofs.CarriedOut.{found_with, id_found, stays, of_generation}
 use Rattle.sg_gateway.proofs.Kept.{IsOffered, WasOffered}
+use Rattle.sg_gateway.proofs.MediaOver.{MediaFrom}
+use Rattle.sg_gateway.proofs.MediaSessions.{IsFrom, all_from, each_stream}
 use Rattle.sg_gateway.proofs.Signals.{found}
 use Rattle.sg_gateway.proofs.StepCases.{answer_of, renewed_by}
-use Rattle.sg_gateway.specs.Addressed.{IsBetween, IsMediumAt, HasAddresses}
+use Rattle.sg_gateway.specs.Addressed.{IsBetween, IsMediumAt, HasAddresses, IsAddressOf}
 use Rattle.sg_gateway.specs.Signals.{Answered, answer_to}
+use Rattle.std.proofs.lemmas.Bool.{and_parts}
+use Rattle.std.specs.Option.{is_none, is_some, option_map, option_map_or}
+use Rattle.sg_base.specs.declared.faults.Refusal.TheVariants.{MediaCount, NoMedia}
+use Rattle.sg_agreement.proofs.AllAgreed.{answered_all, offer_whole, there}
+use Rattle.sg_agreement.proofs.FewMedia.{described_is, described_count}
+use Rattle.sg_agreement.specs.Described.{described, is_other_count, of_text, unaddressed, with_addresses}
+use Rattle.sg_agreement.specs.Keyed.{Keyed, address_of, media_agreed, medium_agreed}
+use Rattle.sg_agreement.specs.Offers.{AgreedOffer, agreed_offer, keying_of}
+
+-- ---- each medium that is agreed is between the ends that the two texts name
+
+abbrev pub IsAgreedBetween : Side → descriptions.Medium → descriptions.Medium → Option Medium → Type 0
+IsAgreedBetween side m n None = Unit {0}
+IsAgreedBetween side m n (Some x) = IsBetween side m n x.secure x.plain
+
+-- Offer and answer have as many media, and each that is agreed is between that of the offer from this side and that of
+-- the answer.
+abbrev pub AreBetween : Side → List descriptions.Medium → List descriptions.Medium → List (Option Medium) → Type 0
+AreBetween side [] [] [] = Unit {0}
+AreBetween side (m ∷ ms) (n ∷ ns) (x ∷ xs) = IsAgreedBetween side m n x × AreBetween side ms ns xs
+AreBetween side _ _ _ = ⊥
+
+-- each active medium has an address
+abbrev HaveAddresses : Side → List descriptions.Medium → Type 0
+HaveAddresses side ms = AllByRecursion (λ m. is_active side m ≡ true → is_none m.address ≡ false) ms
+
+all_addressed : (side : Side) (n : ℕ) (ms : List descriptions.Medium) → unaddressed side n ms ≡ None → HaveAddresses side ms
+all_addressed side n [] e = tt
+all_addressed side n (m ∷ ms) e = go (is_active side m) (is_none m.address) (all_addressed side (n + 1 + length m.lines) ms) e
+  where
+    go : (on none : Bool) → (unaddressed side (n + 1 + length m.lines) ms ≡ None → HaveAddresses side ms)
+        → cond (on && none) (Some n) (unaddressed side (n + 1 + length m.lines) ms) ≡ None → (on ≡ true → none ≡ false) × HaveAddresses side ms
+    go true true rest e = absurd cc
+    go true false rest e = ((λ on. refl), rest e)
+    go false none rest e = ((λ on. absurd cc), rest e)
+
+with_addresses_is : (s t : Sdp) (o : Option ℕ) → with_addresses s o ≡ Ok t → (o ≡ None) × (s ≡ t)
+with_addresses_is s t None e = (refl, ok_is s t e)
+with_addresses_is s t (Some n) e = absurd cc
+
+described_addressed : (side : Side) (count : Option ℕ) (text : List ℕ) (s : Sdp) → described side count text ≡ Ok s → HaveAddresses side s.media
+unfolding described
+described_addressed side count text s e =
+    let a = after_ok_is (of_text (description_of text)) _ s e in
+    let b = after_ok_is (with_addresses a.0 (unaddressed side (length a.0.session + 1) a.0.media)) _ s a.2 in
+    let c = stop_if_is _ NoMedia _ s b.2 in
+    let d = stop_if_is (is_other_count count (length b.0.media)) MediaCount (Ok b.0) s c.1 in
+    let w = with_addresses_is a.0 b.0 (unaddressed side (length a.0.session + 1) a.0.media) b.1 in
+    subst (λ (s : Sdp). HaveAddresses side s.media) (w.1 ∙ ok_is b.0 s d.1) (all_addressed side (length a.0.session + 1) a.0.media w.0)
+
+-- ---- a medium's ends
+
+end_is : (m : descriptions.Medium) → is_none m.address ≡ false → IsAddressOf (address_of m) m
+end_is m some = record { ip = go m.address some; port = refl }
+  where
+    go : (o : Option (List ℕ)) → is_none o ≡ false → o ≡ Some (option_map_or (λ ip. ip) o [])
+    go None some = absurd cc
+    go (Some ip) some = refl
+
+ends_are : (side : Side) (k : Keyed) (m n : descriptions.Medium) → is_none m.address ≡ false → is_none n.address ≡ false → IsBetween side m n (medium_agreed side k m n).secure (medium_agreed side k m n).plain
+ends_are Secure k m n of_m of_n = (end_is m of_m, end_is n of_n)
+ends_are Plain k m n of_m of_n = (end_is n of_n, end_is m of_m)
+
+agreed_between : (side : Side) (m n : descriptions.Medium) (k : Option Keyed) (p : is_active side m ≡ true → is_none m.address ≡ false) (q : is_active (other_side side) n ≡ true → is_none n.address ≡ false)
+    → is_some k ≡ (is_active side m && is_active (other_side side) n) → IsAgreedBetween side m n (option_map (λ k. medium_agreed side k m n) k)
+agreed_between side m n None p q is = tt
+agreed_between side m n (Some k) p q is =
+    let on = and_parts (is_active side m) (is_active (other_side side) n) (sym is) in
+    ends_are side k m n (p on.0) (q on.1)
+
+all_between : (side : Side) (ms ns : List descriptions.Medium) (ks : List (Option Keyed)) → length ns ≡ length ms → HaveAddresses side ms → HaveAddresses (other_side side) ns
+    → there ks ≡ actives_after side ms ns → AreBetween side ms ns (media_agreed side ms ns ks)
+all_between side [] [] ks long p q are = tt
+all_between side [] (n ∷ ns) ks long p q are = absurd (omega (arith, long))
+all_between side (m ∷ ms) [] ks long p q are = absurd (omega (arith, long))
+all_between side (m ∷ ms) (n ∷ ns) [] long p q are = absurd cc
+all_between side (m ∷ ms) (n ∷ ns) (k ∷ ks) long p q are =
+    let this : is_some k ≡ (is_active side m && is_active (other_side side) n) = cc in
+    let others : there ks ≡ actives_after side ms ns = cc in
+    (agreed_between side m n k p.0 q.0 this, all_between side ms ns ks (omega (arith, long)) p.1 q.1 others)
+
+-- ---- an offer and its answer
+
+offer_addressed : (h : AtHand) (way : Way) (text : List ℕ) (a : AgreedOffer) → agreed_offer h way text ≡ Ok a → HaveAddresses a.offer.side a.offer.description.media
+unfolding agreed_offer
+offer_addressed h way text a e =
+    let p = after_ok_is (described (side_of way) h.media text) _ a e in
+    let q = after_ok_is (keying_of h p.0 way) _ a p.2 in
+    subst (λ (a : AgreedOffer). HaveAddresses a.offer.side a.offer.description.media) (ok_is _ a q.2) (described_addressed (side_of way) h.media text p.0 p.1)
+
+abbrev IsAnswerBetween : Offer → List ℕ → AgreedAnswer → Type 0
+IsAnswerBetween o text g = (s : Sdp) × (description_of text ≡ Ok s) × AreBetween o.side o.description.media s.media g.media
+
+pub answer_between : (h : AtHand) (way : Way) (offered noise text : List ℕ) (slot : ℕ) (a : AgreedOffer) (g : AgreedAnswer) → agreed_offer h way offered ≡ Ok a → agreed_answer slot a.offer noise text ≡ Ok g
+    → (s : Sdp) × (description_of text ≡ Ok s) × AreBetween a.offer.side a.offer.description.media s.media g.media
+unfolding agreed_answer
+answer_between h way offered noise text slot a g made e =
+    let o : Offer = a.offer in
+    let count : ℕ = length o.description.media in
+    let p = after_ok_is (described (other_side o.side) (Some count) text) _ g e in
+    let active : List Bool = actives_after o.side o.description.media p.0.media in
+    let q = after_ok_is (answered_by o noise p.0 active o.keying) _ g p.2 in
+    let keyed = answered_all o noise p.0 o.keying q.0 (offer_whole h way offered a made) q.1 in
+    subst (IsAnswerBetween o text) (ok_is (accepted_answer slot o p.0 active q.0) g q.2) (
+      p.0,
+      described_is (other_side o.side) (Some count) text p.0 p.1,
+      all_between o.side o.description.media p.0.media q.0.media (described_count (other_side o.side) count text p.0 p.1)
+          (offer_addressed h way offered a made) (described_addressed (other_side o.side) (Some count) text p.0 p.1) keyed,
+    )
 
 -- ---- the sessions of media, from one on
 
@@ -40,47 +148,20 @@ module _ (P : descriptions.Medium → descriptions.Medium → Session → Type 0
   OfEach (m ∷ ms) (n ∷ ns) (x ∷ xs) = OfStreams m n x × OfEach ms ns xs
   OfEach _ _ _ = ⊥
 
-  next : (k : ℕ) (m n : descriptions.Medium) (ms ns : List descriptions.Medium) (s : Session) → HoldsFrom (k + 1) ms ns s → HoldsFrom k (m ∷ ms) (n ∷ ns) s
-  next k m n ms ns s is = record {
-    of_offer = is.of_offer;
-    of_answer = is.of_answer;
-    at = suc is.at;
-    place = let e = is.place in omega (arith, e);
-    in_offer = ((let lt = is.in_offer.0 in omega (arith, lt)), is.in_offer.1);
-    in_answer = ((let lt = is.in_answer.0 in omega (arith, lt)), is.in_answer.1);
-    has = is.has;
-  }
-
-  stream_from : (k : ℕ) (m n : descriptions.Medium) (ms ns : List descriptions.Medium) (owner : Owner) (keys : List Key) (st : Stream) (window : ℕ) (x : Medium)
-      → owner.medium ≡ k → AllByRecursion (P m n) (stream_sessions owner keys st window x) → AllByRecursion (HoldsFrom k (m ∷ ms) (n ∷ ns)) (stream_sessions owner keys st window x)
-  stream_from k m n ms ns owner keys st window x of_medium are = (this Rtp st.encrypts_rtp st.tag_len are.0, go x.has_rtcp are.1)
-    where
-      this : (kind : Kind) (encrypts : Bool) (tag_len : ℕ) → P m n (stream_session owner keys st window x kind encrypts tag_len) → HoldsFrom k (m ∷ ms) (n ∷ ns) (stream_session owner keys st window x kind encrypts tag_len)
-      this kind encrypts tag_len has = record { of_offer = m; of_answer = n; at = 0; place = (let e = of_medium in omega (arith, e)); in_offer = (omega arith, refl); in_answer = (omega arith, refl); has = has }
-
-      go : (b : Bool) → AllByRecursion (P m n) (cond b (stream_session owner keys st window x Rtcp st.encrypts_rtcp 10 ∷ []) [])
-          → AllByRecursion (HoldsFrom k (m ∷ ms) (n ∷ ns)) (cond b (stream_session owner keys st window x Rtcp st.encrypts_rtcp 10 ∷ []) [])
-      go true are = (this Rtcp st.encrypts_rtcp 10 are.0, tt)
-      go false are = tt
+  as_media : (ms ns : List descriptions.Medium) (xs : List (Option Medium)) → OfEach ms ns xs → (others : ℕ) → MediaFrom Plain (λ others m n t x. OfStreams m n (Some x)) others ms ns ns xs
+  as_media [] [] [] are others = tt
+  as_media (m ∷ ms) (n ∷ ns) (x ∷ xs) are others = ((λ y same. subst (OfStreams m n) same are.0), as_media ms ns xs are.1 _)
+  as_media _ _ _ are others = absurd are
 
   pub each_from : (call generation k number : ℕ) (ms ns : List descriptions.Medium) (xs : List (Option Medium)) → OfEach ms ns xs
       → AllByRecursion (HoldsFrom k ms ns) (sessions_from call generation k number xs)
-  each_from call generation k number [] [] [] are = tt
-  each_from call generation k number [] [] (x ∷ xs) are = absurd are
-  each_from call generation k number [] (n ∷ ns) xs are = absurd are
-  each_from call generation k number (m ∷ ms) [] xs are = absurd are
-  each_from call generation k number (m ∷ ms) (n ∷ ns) [] are = absurd are
-  each_from call generation k number (m ∷ ms) (n ∷ ns) (None ∷ xs) are =
-      each_weaker (HoldsFrom (k + 1) ms ns) (HoldsFrom k (m ∷ ms) (n ∷ ns)) (next k m n ms ns) (sessions_from call generation (k + 1) number xs)
-      (each_from call generation (k + 1) number ms ns xs are.1)
-  each_from call generation k number (m ∷ ms) (n ∷ ns) (Some x ∷ xs) are =
-      let opening : List Session = stream_sessions (owner_at call generation k Opening) (numbered number x.from_peer.keys) x.from_peer x.window x in
-      let sealing : List Session = stream_sessions (owner_at call generation k Sealing) (numbered (number + length x.from_peer.keys) x.to_peer.keys) x.to_peer 1024 x in
-      let later : List Session = sessions_from call generation (k + 1) (number + length x.from_peer.keys + length x.to_peer.keys) xs in
-      each_append (HoldsFrom k (m ∷ ms) (n ∷ ns)) opening (sealing ++ later) (stream_from k m n ms ns (owner_at call generation k Opening) _ x.from_peer x.window x refl (are.0 (owner_at call generation k Opening) (numbered number x.from_peer.keys) x.from_peer x.window))
-      (each_append (HoldsFrom k (m ∷ ms) (n ∷ ns)) sealing later (stream_from k m n ms ns (owner_at call generation k Sealing) _ x.to_peer 1024 x refl (are.0 (owner_at call generation k Sealing) (numbered (number + length x.from_peer.keys) x.to_peer.keys) x.to_peer 1024))
-      (each_weaker (HoldsFrom (k + 1) ms ns) (HoldsFrom k (m ∷ ms) (n ∷ ns)) (next k m n ms ns) later
-      (each_from call generation (k + 1) (number + length x.from_peer.keys + length x.to_peer.keys) ms ns xs are.1)))
+  each_from call generation k number ms ns xs are =
+      each_weaker (IsFrom Plain (λ others m n t x. OfStreams m n (Some x)) (λ others m n t s. P m n s) k 0 ms ns ns) (HoldsFrom k ms ns)
+      (λ s is. record { of_offer = is.offered; of_answer = is.answered; at = is.at; place = is.place; in_offer = is.in_offer; in_answer = is.in_answer; has = is.is }) (sessions_from call generation k number xs)
+      (all_from Plain (λ others m n t x. OfStreams m n (Some x)) (λ others m n t s. P m n s) (λ others m n t call generation k number x q. (
+        q (owner_at call generation k Opening) (numbered number x.from_peer.keys) x.from_peer x.window,
+        q (owner_at call generation k Sealing) (numbered (number + length x.from_peer.keys) x.to_peer.keys) x.to_peer 1024,
+      )) call generation k number 0 ms ns ns xs (as_media ms ns xs are 0))
 
 -- ---- their addresses
 
@@ -90,20 +171,13 @@ module _ (side : Side) where
 
   streams_between : (m n : descriptions.Medium) (x : Medium) → IsBetween side m n x.secure x.plain → (owner : Owner) (keys : List Key) (st : Stream) (window : ℕ)
       → AllByRecursion (Between m n) (stream_sessions owner keys st window x)
-  streams_between m n x is owner keys st window = (is, go x.has_rtcp)
-    where
-      go : (b : Bool) → AllByRecursion (Between m n) (cond b (stream_session owner keys st window x Rtcp st.encrypts_rtcp 10 ∷ []) [])
-      go true = (is, tt)
-      go false = tt
+  streams_between m n x is owner keys st window = each_stream (Between m n) owner keys st window x is (λ on. is)
 
   each_between : (ms ns : List descriptions.Medium) (xs : List (Option Medium)) → AreBetween side ms ns xs → OfEach Between ms ns xs
   each_between [] [] [] are = tt
-  each_between [] [] (x ∷ xs) are = absurd are
-  each_between [] (n ∷ ns) xs are = absurd are
-  each_between (m ∷ ms) [] xs are = absurd are
-  each_between (m ∷ ms) (n ∷ ns) [] are = absurd are
   each_between (m ∷ ms) (n ∷ ns) (None ∷ xs) are = (tt, each_between ms ns xs are.1)
   each_between (m ∷ ms) (n ∷ ns) (Some x ∷ xs) are = (streams_between m n x are.0, each_between ms ns xs are.1)
+  each_between _ _ _ are = absurd are
 
   -- from the first medium on
   from_first : (ms ns : List descriptions.Medium) (s : Session) → HoldsFrom Between 0 ms ns s → HasAddresses side ms ns s

@@ -2,6 +2,8 @@
 use Rattle.std.proofs.Common.{◌≡◌, inl, inr, ℕ, ◌+◌, Bool, true, false, cond, not, ◌&&◌, ◌||◌, List, [], ◌∷◌, ◌++◌, length, Option, Some, None, Result, Ok, Err, refl, sym, ap, ◌∙◌, subst, append_assoc, append-nil, eqb, eq-eqb, ltb, eqb-true}
 use Rattle.std.proofs.lemmas.Bool.{and_parts, false≢true, ltb-false, not-false, and_from}
 use Rattle.std.specs.List.{AllByRecursion, Any, filter_map, find}
+use Rattle.sg_agreement.proofs.Inversions.{or_refusal_is}
+use Rattle.sg_agreement.proofs.MessagesSound.{psk_is}
 use Rattle.sg_agreement.proofs.KeyedSound.{Sometimes}
 use Rattle.sg_agreement.specs.Attributes.{has_message, mikey_octets, mikey_value, ssrcs_of}
 use Rattle.sg_agreement.specs.Described.{described}
@@ -24,15 +26,14 @@ use Rattle.sg_psk.specs.Parts.{closing_in, names_in, stamp_in}
 use Rattle.sg_psk.specs.Sending.{sent_under}
 use Rattle.sg_psk.specs.Stamps.{distance, is_skewed, moment_of, since_1900}
 use Rattle.sg_psk.specs.declared.replays.Noted.{Noted}
-use Rattle.sg_gateway.proofs.Common.{Answer, Books, Call, CallId, Datagram, Event, FromSecure, IsRefusal, Medium, Message, MikeyFromPlain, Offered, Pair}
-use Rattle.sg_gateway.proofs.Common.{Plain, Refusal, SdesFromPlain, Secure, Signalled, Tgk, Way, World, active_count, after_ok, after_ok_is, answer_to}
-use Rattle.sg_gateway.proofs.Common.{any_here, any_there, both, call_of, description_of, each_active, each_weaker, if_active, is_active, new_call, of_cs}
-use Rattle.sg_gateway.proofs.Common.{of_message, of_psk, offer_is, ok_is, or_refusal, same_id, same_octets, same_octets_is, same_octets_true, side_of}
-use Rattle.sg_gateway.proofs.Common.{some_is, step, stop_if_is}
+use Rattle.sg_gateway.proofs.Common.{Answer, Books, Call, CallId, FromSecure, IsRefusal, Message, MikeyFromPlain, Offered, Pair, Plain, Refusal, SdesFromPlain}
+use Rattle.sg_gateway.proofs.Common.{Secure, Tgk, Way, World, active_count, after_ok, after_ok_is, answer_to, any_here, any_there, call_of, description_of}
+use Rattle.sg_gateway.proofs.Common.{each_active, each_weaker, if_active, is_active, new_call, of_cs, of_message, of_psk, offer_is, ok_is, or_refusal, same_id}
+use Rattle.sg_gateway.proofs.Common.{same_octets, same_octets_is, same_octets_true, side_of, some_is, stop_if_is}
 use Rattle.sg_gateway.specs.Authentic.{AreNamesOf, IsNoteOf, IsAuthentic, IsBundleAcceptedOnce, AreAcceptedOnce}
 use Rattle.sg_gateway.proofs.CarriedOut.{found_with, id_found}
 use Rattle.sg_gateway.proofs.Lists.{any_last, any_first}
-use Rattle.sg_gateway.proofs.StepCases.{each_signal, each_datagram, each_offer, settled_offer}
+use Rattle.sg_gateway.proofs.StepCases.{each_offer, settled_offer}
 use Rattle.sg_gateway.proofs.Taken.{found_new, same_id_itself}
 use Rattle.sg_gateway.specs.CallSignals.{at_hand, media_of, with_notes}
 
@@ -45,10 +46,6 @@ none_unless false x r e = (refl, e)
 pub unless_is : {X : Type 0} (fault : Option PskFault) (next : Result X PskFault) (x : X) → unless fault next ≡ Ok x → (fault ≡ None) × (next ≡ Ok x)
 unless_is None next x e = (refl, e)
 unless_is (Some fault) next x e = absurd cc
-
-psk_is : {X : Type 0} (medium : ℕ) (r : Result X PskFault) (x : X) → of_psk medium r ≡ Ok x → r ≡ Ok x
-psk_is medium (Ok y) x e = let same : y ≡ x = cc in ap Ok same
-psk_is medium (Err fault) x e = absurd cc
 
 pub message_is : (medium : ℕ) (r : Result Message messages.Place) (m : Message) → of_message medium r ≡ Ok m → r ≡ Ok m
 message_is medium (Ok y) m e = let same : y ≡ m = cc in ap Ok same
@@ -92,64 +89,67 @@ not_noted a (n ∷ ns) e = go (is_same (note_of a) n) refl (not_noted a ns) e
 
 -- ---- one message
 
+-- the octets that are read, and the message of this kind in them
+pub message_read : (medium kind : ℕ) (value : Option (List ℕ)) (r : List ℕ × Message) → message_in medium kind value ≡ Ok r → (mikey_octets value ≡ Some r.0) × (messages.message_of r.0 ≡ Ok r.1) × (r.1.kind ≡ kind)
+unfolding message_in
+message_read medium kind value r e =
+    let a = after_ok_is (or_refusal (KeyMgmt medium) (mikey_octets value)) _ r e in
+    let b = after_ok_is (of_message medium (messages.message_of a.0)) _ r a.2 in
+    let c = stop_if_is (not (eqb b.0.kind kind)) (Mikey medium 1 DataType) (Ok (a.0, b.0)) r b.2 in
+    subst (λ (r : List ℕ × Message). (mikey_octets value ≡ Some r.0) × (messages.message_of r.0 ≡ Ok r.1) × (r.1.kind ≡ kind)) (ok_is (a.0, b.0) r c.1)
+    (or_refusal_is (KeyMgmt medium) (mikey_octets value) a.0 a.1, message_is medium (messages.message_of a.0) b.0 b.1, eqb-true b.0.kind kind (not-false _ c.0))
+
+-- the pair and the keys of what is accepted
+pub initial_parts : (octets : List ℕ) (m : Message) (pairs : List Pair) (noted : List Noted) (now : ℕ) (a : Accepted) → initial_of octets m pairs noted now ≡ Ok a
+    → (pair : Pair) × (pair_named pairs (names_in m.payloads) ≡ Some pair) × (fault_of octets m pair noted now ≡ None) × (ts : List Tgk) × (keys_in m pair ≡ Some ts) × (accepted_with m pair ts ≡ a)
+unfolding initial_of initial_under with_keys
+initial_parts octets m pairs noted now a e = go (pair_named pairs (names_in m.payloads)) refl e
+  where
+    keys : (pair : Pair) (o : Option (List Tgk)) → with_keys m pair (length noted) o ≡ Ok a → (ts : List Tgk) × (o ≡ Some ts) × (accepted_with m pair ts ≡ a)
+    keys pair None e = absurd cc
+    keys pair (Some ts) e = let p = stop_if_is (ltb 1020 (length noted)) CacheFull (Ok (accepted_with m pair ts)) a e in (ts, refl, ok_is (accepted_with m pair ts) a p.1)
+
+    go : (o : Option Pair) → pair_named pairs (names_in m.payloads) ≡ o → initial_under octets m noted now o ≡ Ok a
+        → (pair : Pair) × (o ≡ Some pair) × (fault_of octets m pair noted now ≡ None) × (ts : List Tgk) × (keys_in m pair ≡ Some ts) × (accepted_with m pair ts ≡ a)
+    go None is e = absurd cc
+    go (Some pair) is e =
+        let u = unless_is (fault_of octets m pair noted now) (with_keys m pair (length noted) (keys_in m pair)) a e in
+        let k = keys pair (keys_in m pair) u.1 in (pair, refl, u.0, k.0, k.1, k.2)
+
 module _ (books : Books) (now : ℕ) where
   initial_is : (lines : List (List ℕ)) (octets : List ℕ) (m : Message) (a : Accepted) → mikey_octets (mikey_value lines) ≡ Some octets → messages.message_of octets ≡ Ok m → initial_of octets m books.pairs books.noted now ≡ Ok a → IsAuthentic books now lines a
-  unfolding initial_of initial_under fault_of with_keys initial_fits mac_of
-  initial_is lines octets m a carried read e = go (pair_named books.pairs (names_in m.payloads)) refl e
-    where
-      keys : (pair : Pair) (tgks : Option (List Tgk)) → with_keys m pair (length books.noted) tgks ≡ Ok a → (ts : List Tgk) × (accepted_with m pair ts ≡ a)
-      keys pair None e = absurd cc
-      keys pair (Some ts) e = at (ltb 1020 (length books.noted)) e
-        where
-          at : (b : Bool) → cond b (Err CacheFull) (Ok (accepted_with m pair ts)) ≡ Ok a → (ts : List Tgk) × (accepted_with m pair ts ≡ a)
-          at true e = absurd cc
-          at false e = (ts, ok_is _ a e)
-
-      go : (p : Option Pair) → pair_named books.pairs (names_in m.payloads) ≡ p → initial_under octets m books.noted now p ≡ Ok a → IsAuthentic books now lines a
-      go None is e = absurd cc
-      go (Some pair) is e =
-          let u = unless_is (fault_of octets m pair books.noted now) (with_keys m pair (length books.noted) (keys_in m pair)) a e in
-          let served = none_unless (not (is_served (closing_in m.payloads))) Algorithm _ u.0 in
-          let mac = none_unless (not (initial_fits octets m pair)) BadMac _ served.1 in
-          let skew = none_unless (is_skewed (stamp_in m.payloads) now) (Skew (moment_of (stamp_in m.payloads)) now) _ mac.1 in
-          let repeated = none_unless (is_noted books.noted (note pair.peer m.csb (stamp_in m.payloads))) Repeated None skew.1 in
-          let k = keys pair (keys_in m pair) u.1 in
-          let p = pair_is books.pairs (names_in m.payloads) pair is in
-          let x : Accepted = accepted_with m pair k.0 in
-          subst (IsAuthentic books now lines) k.1 (record {
-            octets = octets;
-            carried = carried;
-            message = m;
-            read = read;
-            csb = refl;
-            stamp = refl;
-            held = p.0;
-            names = p.1;
-            code = same_octets_is _ _ (not-false _ mac.0);
-            near = ltb-false 300000 (distance (since_1900 (stamp_in m.payloads)) (now + 2208988800000)) skew.0;
-            new = not_noted (accepted_with m pair k.0) books.noted repeated.0;
-          })
-
-  refusal_is : {X : Type 0} (refusal : Refusal) (o : Option X) (x : X) → or_refusal refusal o ≡ Ok x → o ≡ Some x
-  refusal_is refusal None x e = absurd cc
-  refusal_is refusal (Some y) x e = ap Some (ok_is y x e)
+  unfolding initial_of fault_of initial_fits mac_of
+  initial_is lines octets m a carried read e =
+      let i = initial_parts octets m books.pairs books.noted now a e in
+      let served = none_unless (not (is_served (closing_in m.payloads))) Algorithm _ i.2 in
+      let mac = none_unless (not (initial_fits octets m i.0)) BadMac _ served.1 in
+      let skew = none_unless (is_skewed (stamp_in m.payloads) now) (Skew (moment_of (stamp_in m.payloads)) now) _ mac.1 in
+      let repeated = none_unless (is_noted books.noted (note i.0.peer m.csb (stamp_in m.payloads))) Repeated None skew.1 in
+      let p = pair_is books.pairs (names_in m.payloads) i.0 i.1 in
+      subst (IsAuthentic books now lines) i.5 (record {
+        octets = octets;
+        carried = carried;
+        message = m;
+        read = read;
+        csb = refl;
+        stamp = refl;
+        held = p.0;
+        names = p.1;
+        code = same_octets_is _ _ (not-false _ mac.0);
+        near = ltb-false 300000 (distance (since_1900 (stamp_in m.payloads)) (now + 2208988800000)) skew.0;
+        new = not_noted (accepted_with m i.0 i.3) books.noted repeated.0;
+      })
 
   bundle_is : (c : Call) (noise : List ℕ) (medium count : ℕ) (lines : List (List ℕ)) (value : Option (List ℕ)) (b : Bundle) → mikey_value lines ≡ value
       → bundle_in (at_hand now books c noise) medium count value ≡ Ok b → IsAuthentic books now lines b.initial
-  unfolding bundle_in message_in
+  unfolding bundle_in
   bundle_is c noise medium count lines value b is e =
       let p = after_ok_is (message_in medium 0 value) _ b e in
       let q = after_ok_is (of_psk medium (initial_of p.0.0 p.0.1 books.pairs books.noted now)) _ b p.2 in
       let r = after_ok_is (of_cs medium (streams_of q.0.csb q.0.random q.0.map q.0.policies q.0.tgks count)) _ b q.2 in
-      let s = after_ok_is (or_refusal (KeyMgmt medium) (mikey_octets value)) _ p.0 p.1 in
-      let t = after_ok_is (of_message medium (messages.message_of s.0)) _ p.0 s.2 in
-      let u = stop_if_is (not (eqb t.0.kind 0)) (Mikey medium 1 DataType) (Ok (s.0, t.0)) p.0 t.2 in
-      let same : (s.0, t.0) ≡ p.0 = ok_is _ p.0 u.1 in
-      let carried : mikey_octets (mikey_value lines) ≡ Some p.0.0 =
-      ap mikey_octets is ∙ refusal_is (KeyMgmt medium) (mikey_octets value) s.0 s.1 ∙ ap (λ (x : List ℕ × Message). Some x.0) same in
-      let read : messages.message_of p.0.0 ≡ Ok p.0.1 = subst (λ (x : List ℕ × Message). messages.message_of x.0 ≡ Ok x.1) same (message_is medium (messages.message_of s.0) t.0 t.1) in
+      let m = message_read medium 0 value p.0 p.1 in
       subst (λ (b : Bundle). IsAuthentic books now lines b.initial) (ok_is _ b r.2)
-      (initial_is lines p.0.0 p.0.1 q.0 carried read (psk_is medium (initial_of p.0.0 p.0.1 books.pairs books.noted now) q.0 q.1))
+      (initial_is lines p.0.0 p.0.1 q.0 (ap mikey_octets is ∙ m.0) m.1 (psk_is medium (initial_of p.0.0 p.0.1 books.pairs books.noted now) q.0 q.1))
 
   -- each message that an offer of this description is keyed by
   abbrev IsOfMedium : List descriptions.Medium → Bundle → Type 0
@@ -295,27 +295,3 @@ module _ (w : World) (id : CallId) (way : Way) (noise text : List ℕ) where
         agreed_once w.books w.moment c way noise text a agreed,
         offer_is (at_hand w.moment w.books c noise) way text a agreed,
       ))
-
--- ---- the book over every event
-
-module _ (w : World) where
-  abbrev Stay : List Noted → Type 0
-  Stay after = (new : List Noted) × (after ≡ w.books.noted ++ new)
-
-  stay : Stay w.books.noted
-  stay = ([], sym (append-nil w.books.noted))
-
-  pub event_stays : (e : Event) → Stay (step w e).world.books.noted
-  event_stays (Signalled signal) = each_signal w (λ signal a. Stay a.world.books.noted) (record {
-    refuses = λ signal id cause. stay;
-    ticks = λ now on. stay;
-    pairs = λ p. stay;
-    keys = λ h none room ring is. stay;
-    begins = λ id way noise text none room a agreed. notes_stay w.books.noted a.noted;
-    offers = λ id way noise text c at a agreed. notes_stay w.books.noted a.noted;
-    answers = λ id noise text c at o is_open g agreed ring is. stay;
-    rejects = λ id c at none. stay;
-    closes = λ id c at. stay;
-    leaves = λ id c at. stay;
-  }) signal
-  event_stays (Datagram port from d) = each_datagram w port (λ h. Stay h.world.books.noted) (record { drops = λ cause. stay; puts = λ c at s t octets held. stay }) from d.items

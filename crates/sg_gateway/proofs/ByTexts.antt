@@ -1,20 +1,18 @@
 -- An open offer was made in an earlier turn, and the sessions of its answer are by the texts.
-use Rattle.std.proofs.Common.{◌≡◌, inl, inr, ℕ, ◌+◌, not, List, [], ◌∷◌, ◌++◌, length, Option, Some, Ok, refl, sym, ap, ◌∙◌, subst, arith, eqb, eqb-true}
-use Rattle.std.proofs.lemmas.List.Elements.{All-from_recursion}
-use Rattle.std.specs.List.{All, AllByRecursion, Any, filter}
+use Rattle.std.proofs.Common.{◌≡◌, inl, inr, ℕ, ◌+◌, not, List, [], ◌∷◌, ◌++◌, length, Option, Some, Ok, refl, sym, ap, ◌∙◌, subst, arith, eqb}
 use Rattle.sg_agreement.proofs.AllAgreed.{all_agreed, offer_is}
 use Rattle.sg_agreement.proofs.TextLines.{from_plain, from_secure}
-use Rattle.sg_agreement.specs.Answers.{AgreedAnswer, agreed_answer}
-use Rattle.sg_agreement.specs.Offers.{AgreedOffer, agreed_offer}
 use Rattle.sg_agreement.specs.TextLines.{StandInTexts}
 use Rattle.sg_outcome.specs.declared.outcomes.Outcome.TheVariants.{Sdp, Live}
 use Rattle.sg_sdp.specs.declared.medium.Medium as descriptions
 use Rattle.sg_sdp.specs.declared.sdp.Sdp as sdp
-use Rattle.sg_gateway.proofs.Common.{AtHand, Call, CallId, Datagram, Event, FromSecure, Installed, Medium, MikeyFromPlain, Offer, Outcome, Pair}
-use Rattle.sg_gateway.proofs.Common.{SdesFromPlain, Session, Side, Signalled, Turn, Way, World, any_here, any_there, at_hand, both, call_at_tick, call_of}
-use Rattle.sg_gateway.proofs.Common.{description_of, drops_earlier, each_filter, each_map, each_weaker, empty, find_call, has_port, is_idle, none_some, ok_is}
-use Rattle.sg_gateway.proofs.Common.{other_side, same_id, sessions_from, side_of, some_is, step, turn_of, without_call, without_earlier}
+use Rattle.sg_gateway.proofs.Common.{AgreedAnswer, AgreedOffer, All, All-from_recursion, AllByRecursion, Any, AtHand, Call, CallId, Datagram, Event, FromSecure}
+use Rattle.sg_gateway.proofs.Common.{Installed, Medium, MikeyFromPlain, Offer, Outcome, Pair, SdesFromPlain, Session, Side, Signalled, Turn, Way, World}
+use Rattle.sg_gateway.proofs.Common.{agreed_answer, agreed_offer, any_here, any_there, at_hand, both, call_at_tick, call_of, description_of, drops_earlier}
+use Rattle.sg_gateway.proofs.Common.{each_filter, each_map, each_weaker, empty, filter, has_port, is_idle, none_some, ok_is, other_side, same_id, sessions_from}
+use Rattle.sg_gateway.proofs.Common.{side_of, some_is, step, turn_of, without_call, without_earlier}
 use Rattle.sg_gateway.proofs.CarriedOut.{found_with, id_found, stays, of_generation}
+pub use Rattle.sg_gateway.proofs.CarriedOut.{same_call_id}
 use Rattle.sg_gateway.proofs.LineSessions.{all_lined}
 use Rattle.sg_gateway.proofs.Lists.{any_last, any_first}
 use Rattle.sg_gateway.proofs.MessageSessions.{by_message, by_own, by_part}
@@ -50,9 +48,6 @@ abbrev pub WereMade : List Turn → World → Type 0
 WereMade ts w = AllByRecursion (WasMade ts) w.calls
 
 -- ---- an event
-
-pub same_call_id : (id : CallId) (c : Call) (cs : List Call) → find_call (λ x. same_id x.id id) cs ≡ Some c → c.id ≡ id
-same_call_id id c cs e = let is : c.id.0 ≡ id.0 = eqb-true _ _ (id_found id c cs e) in (λ i. record { 0 = is i })
 
 module _ (ts : List Turn) (w : World) (made : WereMade ts w) (e : Event) where
   abbrev Now : List Turn

@@ -1,31 +1,29 @@
 -- A signal that is taken does its part.
 use Rattle.std.proofs.Common.{◌≡◌, ◌⊎◌, inl, inr, ℕ, ◌+◌, ◌<◌, ◌≤◌, Bool, true, false, cond, not, ◌&&◌, List, [], ◌∷◌, ◌++◌, get_or, map, Option, Some, None, Result, Ok, Err, refl, sym, ap, ◌∙◌, subst, arith, eqb, ltb, eq-eqb, length}
 use Rattle.std.proofs.lemmas.Bool.{cond-true, and_from, and_parts, eqb-true, eqb-false, ltb-true, leb-true, lt-leb}
-use Rattle.std.proofs.lemmas.List.Elements.{All-from_recursion}
-use Rattle.std.specs.List.{AllByRecursion, Any, Contains, filter}
 use Rattle.std.specs.Option.{is_some}
 use Rattle.sg_base.specs.declared.faults.Refusal.TheVariants.{State, TickBack}
 use Rattle.sg_outcome.specs.declared.outcomes.Why.TheVariants as why
 use Rattle.sg_session.specs.Session.{Session, same_direction}
-use Rattle.sg_gateway.proofs.Common.{Call, CallId, IsBefore, IsRefusal, Offer, Opening, Refusal, Signalled, World, any_cases, any_here, any_none, any_there}
-use Rattle.sg_gateway.proofs.Common.{any_weaker, both, call_of, each_append, each_weaker, find_call, is_current, is_opening, none_some, same_id}
-use Rattle.sg_gateway.proofs.Common.{sessions_from, some_is, with_call}
+use Rattle.sg_gateway.proofs.Common.{All-from_recursion, AllByRecursion, Any, Call, CallId, Contains, IsBefore, IsRefusal, Offer, Opening, Refusal, Signalled}
+use Rattle.sg_gateway.proofs.Common.{World, any_cases, any_here, any_none, any_there, any_weaker, both, call_of, each_append, each_weaker, filter, find_call}
+use Rattle.sg_gateway.proofs.Common.{is_current, is_opening, none_some, same_id, sessions_from, some_is, with_call}
 use Rattle.sg_gateway.proofs.Arrivals.{kept_by}
 use Rattle.sg_gateway.proofs.Freed.{Frees, event_frees}
 use Rattle.sg_gateway.proofs.InTurn.{found_passes}
 use Rattle.sg_gateway.proofs.Lists.{all_any, any_second}
 use Rattle.sg_gateway.proofs.Pairs.{Pairs}
-use Rattle.sg_gateway.proofs.StepCases.{answer_of, renewed_by}
+use Rattle.sg_gateway.proofs.StepCases.{after_tick, answer_of, renewed_by}
 use Rattle.sg_gateway.specs.CallSignals.{rejected_in, is_idle, drops_earlier, without_earlier, call_at_tick}
 use Rattle.sg_gateway.specs.CarriedOut.{IsKeptTo}
-use Rattle.sg_gateway.specs.Signals.{Reject, Bye, answer, refused, tells_ended, ticked, rejected_to, rejected, left, answer_to, Answer, Answered}
+use Rattle.sg_gateway.specs.Signals.{Reject, Bye, refused, ticked, rejected_to, rejected, left, answer_to, Answer, Answered}
 
 -- the call that is found has the id
 pub id_found : (id : CallId) (c : Call) (cs : List Call) → find_call (λ x. same_id x.id id) cs ≡ Some c → same_id c.id id ≡ true
 id_found id c cs e = found_passes (λ x. same_id x.id id) cs c e
 
-id_is : (id : CallId) (c : Call) (cs : List Call) → find_call (λ x. same_id x.id id) cs ≡ Some c → c.id ≡ id
-id_is id c cs e = let is : c.id.0 ≡ id.0 = eqb-true _ _ (id_found id c cs e) in (λ i. record { 0 = is i })
+pub same_call_id : (id : CallId) (c : Call) (cs : List Call) → find_call (λ x. same_id x.id id) cs ≡ Some c → c.id ≡ id
+same_call_id id c cs e = let is : c.id.0 ≡ id.0 = eqb-true _ _ (id_found id c cs e) in (λ i. record { 0 = is i })
 
 -- a call that is put in the place of the one of an id is found by that id
 pub found_with : (id : CallId) (c d : Call) (cs : List Call) → d.serial ≡ c.serial → same_id d.id id ≡ true → find_call (λ x. same_id x.id id) cs ≡ Some c
@@ -48,9 +46,7 @@ found_with id c d (x ∷ xs) serial own e = at (find_call (λ x. same_id x.id id
 pub tick_moves : (w : World) (now : ℕ) → w.moment ≤ now → (ticked w now).world.moment ≡ now
 tick_moves w now le = go (ltb now w.moment) refl
   where
-    go : (b : Bool) → ltb now w.moment ≡ b
-        → (cond b (refused w None (TickBack w.moment)) (answer (map (tells_ended why.Idle) (filter (is_idle now) w.calls))
-        (record w { calls = map (call_at_tick now) (filter (λ c. not (is_idle now c)) w.calls); moment = now }))).world.moment ≡ now
+    go : (b : Bool) → ltb now w.moment ≡ b → (cond b (refused w None (TickBack w.moment)) (after_tick w now)).world.moment ≡ now
     go true is = let lt = ltb-true now w.moment is in absurd (omega (arith, le, lt))
     go false is = refl
 
@@ -60,7 +56,7 @@ module _ (w : World) (before : Pairs IsBefore w.calls) (older : AllByRecursion (
   bye_at : (id : CallId) (o : Option Call) → call_of w id ≡ o → AllByRecursion (Frees w (left w id o).world) (left w id o).outcomes → call_of (left w id o).world id ≡ None
   bye_at id None is free = is
   bye_at id (Some c) is free =
-      subst (λ i. call_of (left w id (Some c)).world i ≡ None) (id_is id c w.calls is) (free.0 c.id c.slot c.media why.Bye refl).id_free
+      subst (λ i. call_of (left w id (Some c)).world i ≡ None) (same_call_id id c w.calls is) (free.0 c.id c.slot c.media why.Bye refl).id_free
 
   pub bye_ends : (id : CallId) → call_of (answer_to w (Bye id)).world id ≡ None
   bye_ends id = bye_at id (call_of w id) refl (event_frees w before older (Signalled (Bye id)))
@@ -82,7 +78,7 @@ module _ (w : World) (before : Pairs IsBefore w.calls) (older : AllByRecursion (
       go : (r : Result (Option Call) Refusal) → rejected_in w.moment c ≡ r → AllByRecursion (Frees w (rejected_to w c r).world) (rejected_to w c r).outcomes
           → call_of (rejected_to w c r).world id ≡ Some d → d.offer ≡ None
       go (Err cause) r free e = subst (λ (x : Call). x.offer ≡ None) (some_is c d (sym is ∙ e)) (closed cause _ c.offer (_, refl) r)
-      go (Ok None) r free e = absurd (none_some d (sym (subst (λ i. call_of (rejected_to w c (Ok None)).world i ≡ None) (id_is id c w.calls is) (free.0 c.id c.slot c.media why.Rejected refl).id_free) ∙ e))
+      go (Ok None) r free e = absurd (none_some d (sym (subst (λ i. call_of (rejected_to w c (Ok None)).world i ≡ None) (same_call_id id c w.calls is) (free.0 c.id c.slot c.media why.Rejected refl).id_free) ∙ e))
       go (Ok (Some next)) r free e =
           let same : record c { offer = None; moment = w.moment } ≡ next = next_is (record c { offer = None; moment = w.moment }) next (is_some c.offer) (eqb c.generations 0) r in
           let at = found_with id c next w.calls (sym (ap (λ (x : Call). x.serial) same)) (subst (λ (x : Call). same_id x.id id ≡ true) same (id_found id c w.calls is)) is in
@@ -112,7 +108,7 @@ of_generation c d new P sessions generations are =
 
 module _ {X : Type 0} where
   -- what passes a test stays
-  stays_in : (test : X → Bool) (xs : List X) → AllByRecursion (λ x. test x ≡ true → Any (λ y. y ≡ x) (filter test xs)) xs
+  pub stays_in : (test : X → Bool) (xs : List X) → AllByRecursion (λ x. test x ≡ true → Any (λ y. y ≡ x) (filter test xs)) xs
   stays_in test [] = tt
   stays_in test (x ∷ xs) = (
     λ on. subst (λ (l : List X). Any (λ y. y ≡ x) l) (sym (cond-true (test x) (x ∷ filter test xs) (filter test xs) on)) (any_here (λ y. y ≡ x) x (filter test xs) refl),
@@ -189,9 +185,7 @@ kept_at now c = go (drops_earlier now c) refl
 pub tick_keeps : (w : World) (now : ℕ) → AllByRecursion (λ c. now < c.moment + 60000 → Any (IsKeptTo now c) (ticked w now).world.calls) w.calls
 tick_keeps w now = go (ltb now w.moment)
   where
-    go : (b : Bool) → AllByRecursion (λ c. now < c.moment + 60000 → Any (IsKeptTo now c)
-        (cond b (refused w None (TickBack w.moment)) (answer (map (tells_ended why.Idle) (filter (is_idle now) w.calls))
-        (record w { calls = map (call_at_tick now) (filter (λ c. not (is_idle now c)) w.calls); moment = now }))).world.calls) w.calls
+    go : (b : Bool) → AllByRecursion (λ c. now < c.moment + 60000 → Any (IsKeptTo now c) (cond b (refused w None (TickBack w.moment)) (after_tick w now)).world.calls) w.calls
     go true = each_weaker (λ c. Any (λ y. y ≡ c) w.calls) (λ c. now < c.moment + 60000 → Any (IsKeptTo now c) w.calls) (λ c a busy. any_weaker (λ y. y ≡ c) (IsKeptTo now c) (λ y same. subst (IsKeptTo now c) (sym same) (itself now c)) w.calls a) w.calls (all_any w.calls)
     go false =
         each_weaker (λ c. not (is_idle now c) ≡ true → Any (λ y. y ≡ c) (filter (λ c. not (is_idle now c)) w.calls))

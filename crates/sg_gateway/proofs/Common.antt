@@ -1,6 +1,7 @@
 -- What most lemmas of this crate speak of: each name stands in the module that its line tells.
 pub use Rattle.sg_agreement.proofs.AllAgreed.{offer_is}
 pub use Rattle.sg_agreement.proofs.FewMedia.{described_is}
+pub use Rattle.sg_agreement.specs.Answers.{AgreedAnswer, agreed_answer}
 pub use Rattle.sg_agreement.specs.EachMedium.{each_active, each_kept, if_active, if_kept}
 pub use Rattle.sg_agreement.specs.Generations.{keys_from, keys_of, numbered, owner_at, sessions_from, stream_session, stream_sessions}
 pub use Rattle.sg_agreement.specs.Keyed.{Keyed, media_agreed, medium_agreed}
@@ -8,19 +9,21 @@ pub use Rattle.sg_agreement.specs.Keying.{Keying, Offer, OwnLines, PeerLines, Pe
 pub use Rattle.sg_agreement.specs.Manual.{ManualCall, manual_medium}
 pub use Rattle.sg_agreement.specs.Media.{AgreedKey, Medium, Stream}
 pub use Rattle.sg_agreement.specs.Messages.{AtHand}
+pub use Rattle.sg_agreement.specs.Offers.{AgreedOffer, agreed_offer}
 pub use Rattle.sg_agreement.specs.Refusals.{of_cs, of_message, of_psk, of_sdes, or_refusal}
 pub use Rattle.sg_agreement.specs.Sides.{active_count, actives_after, is_active, other_side, side_of}
-pub use Rattle.sg_agreement.specs.declared.ways.Way.{Way}
 pub use Rattle.sg_agreement.specs.declared.ways.Way.TheVariants.{FromSecure, MikeyFromPlain, SdesFromPlain}
+pub use Rattle.sg_agreement.specs.declared.ways.Way.{Way}
 pub use Rattle.sg_base.proofs.Cases.{none_some, some_is}
 pub use Rattle.sg_base.proofs.SameOctets.{same_octets_is, same_octets_true}
 pub use Rattle.sg_base.specs.Keys.{Master}
 pub use Rattle.sg_base.specs.Octets.{same_octets}
+pub use Rattle.sg_base.specs.declared.addresses.Address.{Address}
 pub use Rattle.sg_base.specs.declared.addresses.CallId.{CallId}
-pub use Rattle.sg_base.specs.declared.addresses.Kind.{Kind}
 pub use Rattle.sg_base.specs.declared.addresses.Kind.TheVariants.{Rtcp, Rtp}
-pub use Rattle.sg_base.specs.declared.addresses.Side.{Side}
+pub use Rattle.sg_base.specs.declared.addresses.Kind.{Kind}
 pub use Rattle.sg_base.specs.declared.addresses.Side.TheVariants.{Plain, Secure}
+pub use Rattle.sg_base.specs.declared.addresses.Side.{Side}
 pub use Rattle.sg_base.specs.declared.faults.DropCause.{DropCause}
 pub use Rattle.sg_base.specs.declared.faults.Refusal.{Refusal}
 pub use Rattle.sg_csmap.specs.declared.sessions.StreamKeys.{StreamKeys}
@@ -42,8 +45,8 @@ pub use Rattle.sg_kdf.specs.SessionKeys.{session_keys}
 pub use Rattle.sg_mikey.specs.declared.message.CsEntry.{CsEntry}
 pub use Rattle.sg_mikey.specs.declared.message.Message.{Message}
 pub use Rattle.sg_mikey.specs.declared.message.Tgk.{Tgk}
-pub use Rattle.sg_outcome.specs.declared.outcomes.Outcome.{Outcome}
 pub use Rattle.sg_outcome.specs.declared.outcomes.Outcome.TheVariants.{Dropped, Live, Made, Out, Refused}
+pub use Rattle.sg_outcome.specs.declared.outcomes.Outcome.{Outcome}
 pub use Rattle.sg_psk.specs.Pairs.{is_with, pair_with}
 pub use Rattle.sg_psk.specs.declared.pairs.Pair.{Pair}
 pub use Rattle.sg_sdes.specs.declared.lines.CryptoLine.{CryptoLine}
@@ -60,7 +63,10 @@ pub use Rattle.sg_session.specs.Ring.{Installed}
 pub use Rattle.sg_session.specs.Sealing.{datagram_of}
 pub use Rattle.sg_session.specs.Session.{Done, Key, Session, same_name, with_done}
 pub use Rattle.sg_session.specs.Stages.{after_ok}
-pub use Rattle.sg_session.specs.declared.names.Direction.{Direction}
 pub use Rattle.sg_session.specs.declared.names.Direction.TheVariants.{Opening, Sealing}
+pub use Rattle.sg_session.specs.declared.names.Direction.{Direction}
 pub use Rattle.sg_session.specs.declared.names.Name.{Name}
 pub use Rattle.sg_session.specs.declared.names.Owner.{Owner}
+pub use Rattle.std.proofs.lemmas.List.Elements.{All-from_recursion, recursion_from_All}
+pub use Rattle.std.proofs.lemmas.List.{append-nil}
+pub use Rattle.std.specs.List.{All, AllByRecursion, AllPairs, Any, Contains, filter, flat_map}

@@ -27,11 +27,10 @@ EachFrom P others (x ∷ xs) = P others x × EachFrom P (others + 1) xs
 
 same_place : (xs ys behind after : List CsEntry) (a b : CsEntry) → xs ++ a ∷ behind ≡ ys ++ b ∷ after → length xs ≡ length ys → a ≡ b
 same_place [] [] behind after a b e long = cc
-same_place [] (y ∷ ys) behind after a b e long = absurd (omega (arith, long))
-same_place (x ∷ xs) [] behind after a b e long = absurd (omega (arith, long))
 same_place (x ∷ xs) (y ∷ ys) behind after a b e long =
     let rest : xs ++ a ∷ behind ≡ ys ++ b ∷ after = cc in
     same_place xs ys behind after a b rest (omega (arith, long))
+same_place _ _ behind after a b e long = absurd (omega (arith, long))
 
 -- one number is of one entry
 entry_same : (entries : List CsEntry) (number : ℕ) (a b : CsEntry) → IsEntryOf entries number a → IsEntryOf entries number b → a ≡ b
@@ -177,8 +176,6 @@ module _ (m : Message) (tgks : List Tgk) where
   responded_from : (peers : List CsEntry) (others : ℕ) (b es : List CsEntry) (ps : List (StreamKeys × StreamKeys)) → peers ≡ b ++ es → length b ≡ 2 * others → PairsFrom others ps
       → RespondedFrom peers others (responded ps es)
   responded_from peers others b es [] whole long are = tt
-  responded_from peers others b [] (p ∷ ps) whole long are = tt
-  responded_from peers others b (i ∷ []) (p ∷ ps) whole long are = tt
   responded_from peers others b (i ∷ r ∷ es) (p ∷ ps) whole long are = (
     record {
       pair = p;
@@ -189,6 +186,7 @@ module _ (m : Message) (tgks : List Tgk) where
     },
     responded_from peers (others + 1) (b ++ i ∷ r ∷ []) es ps (whole ∙ sym (append_assoc b (i ∷ r ∷ []) es)) (omega (arith, long, length-append b (i ∷ r ∷ []))) are.1,
   )
+  responded_from peers others b _ (p ∷ ps) whole long are = tt
 
   pub all_responded : (peers : List CsEntry) (ps : List (StreamKeys × StreamKeys)) → PairsFrom 0 ps → RespondedFrom peers 0 (responded ps peers)
   all_responded peers ps are = responded_from peers 0 [] peers ps refl refl are

@@ -1,48 +1,30 @@
 -- Each session was made in an earlier turn, and stays what it was made.
-use Rattle.std.proofs.Common.{◌≡◌, ◌⊎◌, inl, inr, ℕ, ◌+◌, Bool, true, false, cond, not, List, [], ◌∷◌, ◌++◌, length, map, Option, Some, None, refl, sym, ap, ◌∙◌, subst, arith, eqb}
-use Rattle.std.proofs.lemmas.List.Elements.{All-from_recursion}
-use Rattle.std.specs.List.{AllByRecursion, Any, filter}
+use Rattle.std.proofs.Common.{◌≡◌, ◌⊎◌, inl, inr, ℕ, ◌+◌, not, List, [], ◌∷◌, ◌++◌, length, map, Option, Some, None, refl, sym, ap, ◌∙◌, subst, arith, eqb}
 use Rattle.sg_agreement.specs.Manual.{ManualCall, manual_medium, manual_stream}
-use Rattle.sg_gateway.proofs.Common.{Books, Call, CallId, Datagram, Direction, Done, Event, Installed, Key, Medium, Name, Opening, Owner, Rtcp, Rtp, Sealing}
-use Rattle.sg_gateway.proofs.Common.{Session, Signalled, Stream, Turn, World, any_here, any_there, any_weaker, both, call_at_tick, call_of, drops_earlier}
-use Rattle.sg_gateway.proofs.Common.{each_append, each_filter, each_map, each_weaker, empty, has_port, is_idle, none_some, numbered, owner_at, same_id}
-use Rattle.sg_gateway.proofs.Common.{same_name, sessions_from, some_is, step, stream_session, stream_sessions, turn_of, turns_from, with_done, without_call}
-use Rattle.sg_gateway.proofs.Common.{without_earlier, world_after}
+use Rattle.sg_gateway.proofs.Common.{All-from_recursion, AllByRecursion, Any, Books, Call, CallId, Datagram, Direction, Done, Event, Installed, Medium, Name}
+use Rattle.sg_gateway.proofs.Common.{Opening, Sealing, Session, Signalled, Turn, World, any_here, any_there, any_weaker, both, call_at_tick, call_of}
+use Rattle.sg_gateway.proofs.Common.{drops_earlier, each_append, each_filter, each_map, each_of, each_weaker, empty, filter, has_port, is_current, is_idle}
+use Rattle.sg_gateway.proofs.Common.{none_some, numbered, owner_at, same_id, same_name, sessions_from, some_is, step, stream_sessions, turn_of, turns_from}
+use Rattle.sg_gateway.proofs.Common.{with_done, without_call, without_earlier, world_after}
 use Rattle.sg_gateway.proofs.ByTexts.{same_call_id}
 use Rattle.sg_gateway.proofs.CarriedOut.{found_with, id_found, stays}
 use Rattle.sg_gateway.proofs.Lists.{any_last, any_first}
+use Rattle.sg_gateway.proofs.MediaSessions.{each_session, each_stream}
 use Rattle.sg_gateway.proofs.Signals.{each_and_call, each_with_call, found}
 use Rattle.sg_gateway.proofs.StepCases.{each_signal, renewed_by, each_datagram, each_manual, manual_call}
 use Rattle.sg_gateway.proofs.Taken.{found_new, same_id_itself}
 use Rattle.sg_gateway.proofs.TurnByTurn.{kept_after, kept_before}
-use Rattle.sg_gateway.specs.Generations.{is_current, keyed}
 use Rattle.sg_gateway.specs.Lasting.{IsAnsweredIn, IsManualIn, IsMadeIn, WereMadeIn, SessionsLast, key_towards, IsOfManual}
 use Rattle.sg_gateway.specs.Signals.{Manual, Answered, Answer, answer_to, new_call, Signal}
 
 -- ---- the sessions of a generation
 
--- what holds of each session of what the two sides of each medium send
-stream_have : (P : Session → Type 0) (owner : Owner) (keys : List Key) (st : Stream) (window : ℕ) (x : Medium)
-    → P (stream_session owner keys st window x Rtp st.encrypts_rtp st.tag_len) → P (stream_session owner keys st window x Rtcp st.encrypts_rtcp 10) → AllByRecursion P (stream_sessions owner keys st window x)
-stream_have P owner keys st window x rtp rtcp = (rtp, go x.has_rtcp)
-  where
-    go : (b : Bool) → AllByRecursion P (cond b (stream_session owner keys st window x Rtcp st.encrypts_rtcp 10 ∷ []) [])
-    go true = (rtcp, tt)
-    go false = tt
-
 abbrev IsOf : ℕ → Session → Type 0
 IsOf generation s = s.name.owner.generation ≡ generation
 
 of_generation : (call generation m n : ℕ) (xs : List (Option Medium)) → AllByRecursion (IsOf generation) (sessions_from call generation m n xs)
-of_generation call generation m n [] = tt
-of_generation call generation m n (None ∷ xs) = of_generation call generation (m + 1) n xs
-of_generation call generation m n (Some x ∷ xs) =
-    let opening : List Session = stream_sessions (owner_at call generation m Opening) (numbered n x.from_peer.keys) x.from_peer x.window x in
-    let sealing : List Session = stream_sessions (owner_at call generation m Sealing) (numbered (n + length x.from_peer.keys) x.to_peer.keys) x.to_peer 1024 x in
-    let later : List Session = sessions_from call generation (m + 1) (n + length x.from_peer.keys + length x.to_peer.keys) xs in
-    each_append (IsOf generation) opening (sealing ++ later) (stream_have (IsOf generation) _ (numbered n x.from_peer.keys) x.from_peer x.window x refl refl)
-    (each_append (IsOf generation) sealing later (stream_have (IsOf generation) _ (numbered (n + length x.from_peer.keys) x.to_peer.keys) x.to_peer 1024 x refl refl)
-    (of_generation call generation (m + 1) (n + length x.from_peer.keys + length x.to_peer.keys) xs))
+of_generation call generation m n xs = each_session (IsOf generation) (λ o. Unit {0}) call generation (λ m n x u. each_stream (IsOf generation) _ _ x.from_peer x.window x refl (λ on. refl))
+    (λ m n x u. each_stream (IsOf generation) _ _ x.to_peer 1024 x refl (λ on. refl)) m n xs (each_of (λ o. Unit {0}) (λ o. tt) xs)
 
 -- each of the first ones, and what more is to be had of each
 each_held : (P : Session → Type 0) (xs more : List Session) → AllByRecursion P xs → AllByRecursion (λ s. Any (λ x. x ≡ s) (xs ++ more) × P s) xs
@@ -182,9 +164,9 @@ module _ (h : ManualCall) where
       → AllByRecursion (IsOfManual h)
       (stream_sessions (owner_at call generation 0 direction) (numbered n (manual_stream h.roc (key_towards direction h)).keys) (manual_stream h.roc (key_towards direction h)) window (manual_medium h))
   direction_manual call generation n direction window =
-      stream_have (IsOfManual h) _ _ (manual_stream h.roc (key_towards direction h)) window (manual_medium h)
+      each_stream (IsOfManual h) _ _ (manual_stream h.roc (key_towards direction h)) window (manual_medium h)
       (record { masters = refl; encrypts = refl; roc = refl; secure = refl; plain = refl })
-      (record { masters = refl; encrypts = refl; roc = refl; secure = refl; plain = refl })
+      (λ on. record { masters = refl; encrypts = refl; roc = refl; secure = refl; plain = refl })
 
   sessions_manual : (call generation n : ℕ) → AllByRecursion (IsOfManual h) (sessions_from call generation 0 n (Some (manual_medium h) ∷ []))
   sessions_manual call generation n =

@@ -2,7 +2,6 @@ pub mod Addressed
 pub mod Agreements
 pub mod Arrivals
 pub mod Authentic
-pub mod Between
 pub mod ByTexts
 pub mod CallList
 pub mod Came
@@ -11,21 +10,18 @@ pub mod Common
 pub mod CryptoSessions
 pub mod Datagrams
 pub mod Deliveries
-pub mod Departs
 pub mod Forgotten
 pub mod Found
 pub mod Freed
 pub mod GoesOut
 pub mod Growth
-pub mod Heard
-pub mod Highest
 pub mod InTurn
 pub mod Kept
 pub mod Lasting
 pub mod LineSessions
 pub mod Lists
-pub mod Lives
 pub mod MediaOver
+pub mod MediaSessions
 pub mod MessageSessions
 pub mod NewSessions
 pub mod Newness
@@ -36,7 +32,6 @@ pub mod Orderly
 pub mod Origins
 pub mod Overspent
 pub mod OwnMessages
-pub mod Owned
 pub mod Owners
 pub mod Pairs
 pub mod Passing
@@ -49,9 +44,7 @@ pub mod Reached
 pub mod Refusals
 pub mod Rested
 pub mod SealsOut
-pub mod Served
 pub mod Serving
-pub mod Sessions
 pub mod Signals
 pub mod Sound
 pub mod Sources
@@ -60,7 +53,6 @@ pub mod StepCases
 pub mod Tags
 pub mod Taken
 pub mod ToldInWorld
-pub mod ToldMessages
 pub mod TurnByTurn
 pub mod UnderBlocks
 pub mod Used

@@ -1,7 +1,6 @@
 -- The sessions of media that are agreed by messages are in the crypto sessions of these.
-use Rattle.std.proofs.Common.{◌≡◌, inl, inr, ℕ, suc, ◌^◌, ◌+◌, Bool, true, false, cond, not, eqb, eqb-true, List, [], ◌∷◌, ◌++◌, length, map, take, filter, Option, Some, None, refl, sym, ap, ◌∙◌, subst, arith}
+use Rattle.std.proofs.Common.{◌≡◌, inl, inr, ℕ, ◌^◌, ◌+◌, Bool, true, false, cond, not, eqb, eqb-true, List, [], ◌∷◌, length, map, Option, Some, None, refl, sym, ap, ◌∙◌, subst}
 use Rattle.std.proofs.lemmas.Bool.{eqb-false}
-use Rattle.std.specs.List.{AllByRecursion}
 use Rattle.sg_agreement.proofs.TextLines.{octets_are}
 use Rattle.sg_agreement.specs.Streams.{admit_of, session_key, stream_of_session, with_source}
 use Rattle.sg_agreement.specs.TextLines.{IsMessageLine, identifier}
@@ -16,15 +15,16 @@ use Rattle.sg_psk.specs.Parts.{policies_in, random_in}
 use Rattle.sg_psk.specs.Policy.{own_policy}
 use Rattle.sg_sdp.specs.declared.medium.Medium as descriptions
 use Rattle.sg_sdp.specs.declared.sdp.Sdp.{Sdp}
-use Rattle.sg_gateway.proofs.Common.{AtHand, CsEntry, Direction, IsMediumAt, Kind, Master, Medium, Message, Opening, Plain, Rtcp, Rtp, Sealing, Secure}
-use Rattle.sg_gateway.proofs.Common.{Session, Side, Stream, StreamKeys, Tgk, each_append, each_weaker, is_active, keys_of, none_some, numbered, owner_at}
-use Rattle.sg_gateway.proofs.Common.{sessions_from, some_is, stream_session, stream_sessions}
+use Rattle.sg_gateway.proofs.Common.{AllByRecursion, AtHand, CsEntry, Direction, Kind, Master, Medium, Message, Opening, Plain, Rtcp, Rtp, Sealing, Secure}
+use Rattle.sg_gateway.proofs.Common.{Session, Stream, StreamKeys, Tgk, each_weaker, keys_of, none_some, numbered, owner_at, sessions_from, some_is}
+use Rattle.sg_gateway.proofs.Common.{stream_session, stream_sessions}
 use Rattle.sg_gateway.proofs.CryptoSessions.{IsMediumIn, IsSent, IsStreamIn}
 use Rattle.sg_gateway.proofs.LineSessions.{masters_of, mkis_of}
 use Rattle.sg_gateway.proofs.MediaOver.{MediaFrom}
+use Rattle.sg_gateway.proofs.MediaSessions.{IsOf, all_of, each_stream, stream_weaker}
 use Rattle.sg_gateway.proofs.PeersMessages.{IsOfOwn, IsOfPart}
 use Rattle.sg_gateway.proofs.PolicySays.{IsByItems, by_items}
-use Rattle.sg_gateway.specs.CryptoSessions.{IsInCryptoSession, IsSource, Says, encryption_item, life_of, master_under, others_before, session_of, tag_octets, window_towards}
+use Rattle.sg_gateway.specs.CryptoSessions.{IsInCryptoSession, IsSource, Says, encryption_item, life_of, master_under, session_of, tag_octets, window_towards}
 use Rattle.sg_gateway.specs.OwnMessages.{IsInOwnSession}
 use Rattle.sg_gateway.specs.PeersMessages.{IsByPeersMessage, IsInPeersSession, OwnResponse, PeersMessage}
 
@@ -108,12 +108,8 @@ module _ (m : Message) (tgks : List Tgk) (peers own : List CsEntry) (plain : des
     )
 
     sessions_of_stream : AllByRecursion (IsUnder is.sent.protection number) (stream_sessions (owner_at call generation medium direction) (numbered n stream.keys) stream (window_towards direction) x)
-    sessions_of_stream = (this Rtp stream.encrypts_rtp stream.tag_len items.rtp items.says_rtp (ap not items.plain_rtp) refl refl, go x.has_rtcp)
-      where
-        go : (b : Bool) → AllByRecursion (IsUnder is.sent.protection number)
-            (cond b (stream_session (owner_at call generation medium direction) (numbered n stream.keys) stream (window_towards direction) x Rtcp stream.encrypts_rtcp 10 ∷ []) [])
-        go true = (this Rtcp stream.encrypts_rtcp 10 items.rtcp items.says_rtcp (ap not items.plain_rtcp) refl refl, tt)
-        go false = tt
+    sessions_of_stream = each_stream (IsUnder is.sent.protection number) _ _ stream (window_towards direction) x
+        (this Rtp stream.encrypts_rtp stream.tag_len items.rtp items.says_rtp (ap not items.plain_rtp) refl refl) (λ on. this Rtcp stream.encrypts_rtcp 10 items.rtcp items.says_rtcp (ap not items.plain_rtcp) refl refl)
 
     sessions_of : AllByRecursion (IsUnder is.sent.protection number) (stream_sessions (owner_at call generation medium direction) (numbered n st.keys) st (window_towards direction) x)
     sessions_of =
@@ -139,14 +135,8 @@ module _ (m : Message) (tgks : List Tgk) (peers own : List CsEntry) (plain : des
   towards : (p : Protection) (initiator direction : Direction) (others call generation medium n window : ℕ) (st : Stream) (x : Medium)
       → AllByRecursion (IsUnder p (session_of initiator direction others)) (stream_sessions (owner_at call generation medium direction) (numbered n st.keys) st window x)
       → AllByRecursion (IsInUnder p initiator others) (stream_sessions (owner_at call generation medium direction) (numbered n st.keys) st window x)
-  towards p initiator direction others call generation medium n window st x is = (is.0, go x.has_rtcp is.1)
-    where
-      rtcp : Session
-      rtcp = stream_session (owner_at call generation medium direction) (numbered n st.keys) st window x Rtcp st.encrypts_rtcp 10
-
-      go : (b : Bool) → AllByRecursion (IsUnder p (session_of initiator direction others)) (cond b (rtcp ∷ []) []) → AllByRecursion (IsInUnder p initiator others) (cond b (rtcp ∷ []) [])
-      go true is = (is.0, tt)
-      go false is = tt
+  towards p initiator direction others call generation medium n window st x is =
+      stream_weaker (IsUnder p (session_of initiator direction others)) (IsInUnder p initiator others) _ _ st window x (λ kind on tag_len u. u) is
 
   opening_under : (initiator : Direction) (others call generation medium n : ℕ) (x : Medium) (is : IsMediumIn m tgks peers own plain initiator others x)
       → AllByRecursion (IsInUnder is.opens.sent.protection initiator others) (Opens call generation medium n x)
@@ -168,131 +158,6 @@ module _ (m : Message) (tgks : List Tgk) (peers own : List CsEntry) (plain : des
   sealing_in : (initiator : Direction) (others call generation medium n : ℕ) (x : Medium) → IsMediumIn m tgks peers own plain initiator others x → AllByRecursion (IsIn initiator others) (Seals call generation medium n x)
   sealing_in initiator others call generation medium n x is =
       each_weaker (IsInUnder is.seals.sent.protection initiator others) (IsIn initiator others) (λ s is. is.0) (Seals call generation medium n x) (sealing_under initiator others call generation medium n x is)
-
--- ---- the sessions of media, from one on
-
--- what holds of a medium that is agreed, holds so of its sessions
-module _ (side : Side) (Q : ℕ → descriptions.Medium → descriptions.Medium → descriptions.Medium → Medium → Type 0)
-    (P : ℕ → descriptions.Medium → descriptions.Medium → descriptions.Medium → Session → Type 0) where
-  abbrev GoesOver : Type 0
-  GoesOver = (others : ℕ) (m n t : descriptions.Medium) (call generation medium a : ℕ) (x : Medium) → Q others m n t x
-      → AllByRecursion (P others m n t) (stream_sessions (owner_at call generation medium Opening) (numbered a x.from_peer.keys) x.from_peer x.window x)
-      × AllByRecursion (P others m n t) (stream_sessions (owner_at call generation medium Sealing) (numbered (a + length x.from_peer.keys) x.to_peer.keys) x.to_peer 1024 x)
-
-  -- by its medium, where the media begin at that of number k, behind so many others
-  record IsFrom (k others : ℕ) (ms ns ts : List descriptions.Medium) (s : Session) : Type 0 where
-    offered : descriptions.Medium
-    answered : descriptions.Medium
-    told : descriptions.Medium
-    at : ℕ
-    place : s.name.owner.medium ≡ k + at
-    in_offer : IsMediumAt ms at offered
-    in_answer : IsMediumAt ns at answered
-    in_told : IsMediumAt ts at told
-    is : P (others + others_before side ms at) offered answered told s
-
-  next : (k others : ℕ) (m n t : descriptions.Medium) (ms ns ts : List descriptions.Medium) (s : Session) → IsFrom (k + 1) (cond (is_active side m) (others + 1) others) ms ns ts s
-      → IsFrom k others (m ∷ ms) (n ∷ ns) (t ∷ ts) s
-  next k others m n t ms ns ts s is = record {
-    offered = is.offered;
-    answered = is.answered;
-    told = is.told;
-    at = suc is.at;
-    place = let e = is.place in omega (arith, e);
-    in_offer = ((let lt = is.in_offer.0 in omega (arith, lt)), is.in_offer.1);
-    in_answer = ((let lt = is.in_answer.0 in omega (arith, lt)), is.in_answer.1);
-    in_told = ((let lt = is.in_told.0 in omega (arith, lt)), is.in_told.1);
-    is = subst (λ o. P o is.offered is.answered is.told s) (count (is_active side m)) is.is;
-  }
-    where
-      rest : List descriptions.Medium
-      rest = filter (is_active side) (take is.at ms)
-
-      count : (b : Bool) → cond b (others + 1) others + length rest ≡ others + length (cond b (m ∷ rest) rest)
-      count true = omega arith
-      count false = refl
-
-  first : (k others : ℕ) (m n t : descriptions.Medium) (ms ns ts : List descriptions.Medium) (s : Session) → s.name.owner.medium ≡ k → P others m n t s → IsFrom k others (m ∷ ms) (n ∷ ns) (t ∷ ts) s
-  first k others m n t ms ns ts s of_medium is = record {
-    offered = m;
-    answered = n;
-    told = t;
-    at = 0;
-    place = (let e = of_medium in omega (arith, e));
-    in_offer = (omega arith, refl);
-    in_answer = (omega arith, refl);
-    in_told = (omega arith, refl);
-    is = subst (λ o. P o m n t s) (none others) is;
-  }
-    where
-      none : (o : ℕ) → o ≡ o + 0
-      none o = omega arith
-
-  of_stream : (k others : ℕ) (m n t : descriptions.Medium) (ms ns ts : List descriptions.Medium) (call generation a : ℕ) (direction : Direction) (st : Stream) (window : ℕ) (x : Medium)
-      → AllByRecursion (P others m n t) (stream_sessions (owner_at call generation k direction) (numbered a st.keys) st window x)
-      → AllByRecursion (IsFrom k others (m ∷ ms) (n ∷ ns) (t ∷ ts)) (stream_sessions (owner_at call generation k direction) (numbered a st.keys) st window x)
-  of_stream k others m n t ms ns ts call generation a direction st window x is = (first k others m n t ms ns ts _ refl is.0, go x.has_rtcp is.1)
-    where
-      rtcp : Session
-      rtcp = stream_session (owner_at call generation k direction) (numbered a st.keys) st window x Rtcp st.encrypts_rtcp 10
-
-      go : (b : Bool) → AllByRecursion (P others m n t) (cond b (rtcp ∷ []) []) → AllByRecursion (IsFrom k others (m ∷ ms) (n ∷ ns) (t ∷ ts)) (cond b (rtcp ∷ []) [])
-      go true is = (first k others m n t ms ns ts rtcp refl is.0, tt)
-      go false is = tt
-
-  all_from : GoesOver → (call generation k a others : ℕ) (ms ns ts : List descriptions.Medium) (xs : List (Option Medium)) → MediaFrom side Q others ms ns ts xs
-      → AllByRecursion (IsFrom k others ms ns ts) (sessions_from call generation k a xs)
-  all_from over call generation k a others ms ns ts [] are = tt
-  all_from over call generation k a others [] ns ts (x ∷ xs) are = absurd are
-  all_from over call generation k a others (m ∷ ms) [] ts (x ∷ xs) are = absurd are
-  all_from over call generation k a others (m ∷ ms) (n ∷ ns) [] (x ∷ xs) are = absurd are
-  all_from over call generation k a others (m ∷ ms) (n ∷ ns) (t ∷ ts) (None ∷ xs) are =
-      each_weaker (IsFrom (k + 1) (cond (is_active side m) (others + 1) others) ms ns ts) (IsFrom k others (m ∷ ms) (n ∷ ns) (t ∷ ts)) (next k others m n t ms ns ts) (sessions_from call generation (k + 1) a xs)
-      (all_from over call generation (k + 1) a (cond (is_active side m) (others + 1) others) ms ns ts xs are.1)
-  all_from over call generation k a others (m ∷ ms) (n ∷ ns) (t ∷ ts) (Some x ∷ xs) are =
-      let both = over others m n t call generation k a x (are.0 x refl) in
-      let opening : List Session = stream_sessions (owner_at call generation k Opening) (numbered a x.from_peer.keys) x.from_peer x.window x in
-      let sealing : List Session = stream_sessions (owner_at call generation k Sealing) (numbered (a + length x.from_peer.keys) x.to_peer.keys) x.to_peer 1024 x in
-      let later : List Session = sessions_from call generation (k + 1) (a + length x.from_peer.keys + length x.to_peer.keys) xs in
-      each_append (IsFrom k others (m ∷ ms) (n ∷ ns) (t ∷ ts)) opening (sealing ++ later)
-      (of_stream k others m n t ms ns ts call generation a Opening x.from_peer x.window x both.0)
-      (each_append (IsFrom k others (m ∷ ms) (n ∷ ns) (t ∷ ts)) sealing later
-      (of_stream k others m n t ms ns ts call generation (a + length x.from_peer.keys) Sealing x.to_peer 1024 x both.1)
-      (each_weaker (IsFrom (k + 1) (cond (is_active side m) (others + 1) others) ms ns ts) (IsFrom k others (m ∷ ms) (n ∷ ns) (t ∷ ts)) (next k others m n t ms ns ts) later
-      (all_from over call generation (k + 1) (a + length x.from_peer.keys + length x.to_peer.keys) (cond (is_active side m) (others + 1) others) ms ns ts xs are.1)))
-
-  -- from the first medium on
-  record IsOf (ms ns ts : List descriptions.Medium) (s : Session) : Type 0 where
-    offered : descriptions.Medium
-    answered : descriptions.Medium
-    told : descriptions.Medium
-    in_offer : IsMediumAt ms s.name.owner.medium offered
-    in_answer : IsMediumAt ns s.name.owner.medium answered
-    in_told : IsMediumAt ts s.name.owner.medium told
-    is : P (others_before side ms s.name.owner.medium) offered answered told s
-
-  place_is : (k at : ℕ) → k ≡ 0 + at → at ≡ k
-  place_is k at e = omega (arith, e)
-
-  from_none : (o : ℕ) → 0 + o ≡ o
-  from_none o = omega arith
-
-  all_of : GoesOver → (call generation a : ℕ) (ms ns ts : List descriptions.Medium) (xs : List (Option Medium)) → MediaFrom side Q 0 ms ns ts xs → AllByRecursion (IsOf ms ns ts) (sessions_from call generation 0 a xs)
-  all_of over call generation a ms ns ts xs are =
-      each_weaker (IsFrom 0 0 ms ns ts) (IsOf ms ns ts) from_first (sessions_from call generation 0 a xs) (all_from over call generation 0 a 0 ms ns ts xs are)
-    where
-      from_first : (s : Session) → IsFrom 0 0 ms ns ts s → IsOf ms ns ts s
-      from_first s is =
-          let same : is.at ≡ s.name.owner.medium = place_is s.name.owner.medium is.at is.place in
-          record {
-            offered = is.offered;
-            answered = is.answered;
-            told = is.told;
-            in_offer = subst (λ k. IsMediumAt ms k is.offered) same is.in_offer;
-            in_answer = subst (λ k. IsMediumAt ns k is.answered) same is.in_answer;
-            in_told = subst (λ k. IsMediumAt ts k is.told) same is.in_told;
-            is = subst (λ k. P (others_before side ms k) is.offered is.answered is.told s) same (subst (λ o. P o is.offered is.answered is.told s) (from_none (others_before side ms is.at)) is.is);
-          }
 
 -- ---- by the messages of an offer
 

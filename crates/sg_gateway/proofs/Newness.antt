@@ -1,13 +1,12 @@
 -- An index is new by what is done exactly where it is by the replay list.
-use Rattle.std.proofs.Common.{◌≡◌, ℕ, ◌+◌, ◌<◌, Bool, true, false, cond, ◌||◌, List, [], ◌∷◌, Option, Some, None, refl, sym, arith, eqb, eq-eqb}
-use Rattle.std.proofs.lemmas.Bool.{ne_eqb, eqb-true, eqb-false, false≢true, leb-false, lt-leb, lt-ltb}
-use Rattle.std.specs.List.{AllByRecursion}
+use Rattle.std.proofs.Common.{◌≡◌, ℕ, ◌+◌, ◌<◌, Bool, true, false, cond, List, [], ◌∷◌, Option, Some, None, refl, sym, arith, eqb, eq-eqb}
+use Rattle.std.proofs.lemmas.Bool.{or_parts, ne_eqb, eqb-true, eqb-false, leb-false, lt-leb, lt-ltb}
 use Rattle.sg_replay.specs.Freshness.{highest_of, highest_with, is_behind, is_in}
 use Rattle.sg_replay.specs.declared.seen.Freshness.TheVariants.{New, Repeat, TooOld}
 use Rattle.sg_session.specs.Session.{Done, Key, Session, indices_of, is_admitted, is_live}
 use Rattle.sg_base.specs.declared.sources.Admit.{Admit}
 use Rattle.sg_base.specs.declared.sources.Admit.TheVariants as admit
-use Rattle.sg_gateway.proofs.Common.{Call, Sealed, World, each_weaker}
+use Rattle.sg_gateway.proofs.Common.{AllByRecursion, Call, Sealed, World, each_weaker}
 use Rattle.sg_gateway.proofs.Pairs.{each_two}
 use Rattle.sg_gateway.specs.Arriving.{Arrives}
 use Rattle.sg_gateway.specs.Newness.{IsNewIn, IsLiveIn, IsFresh, IsAdmittedBy, ArrivesNew}
@@ -32,10 +31,6 @@ not_behind window i (Some h) under = lt-leb (i + window) h under
 is_under : (window i : ℕ) (o : Option ℕ) → is_behind window o i ≡ false → IsUnder (i + window) o
 is_under window i None e = tt
 is_under window i (Some h) e = leb-false (i + window) h e
-
-or_parts : (a b : Bool) → (a || b) ≡ false → (a ≡ false) × (b ≡ false)
-or_parts true b e = absurd (false≢true (sym e))
-or_parts false b e = (refl, e)
 
 module _ (ssrc : ℕ) where
   -- all that is done of the source is below, and so is the highest

@@ -2,8 +2,6 @@
 -- it is authentic.
 use Rattle.std.proofs.Common.{◌≡◌, ℕ, ◌+◌, Bool, true, false, cond, not, ◌&&◌, eqb, eqb-true, List, [], ◌∷◌, length, map, Option, Some, None, Ok, refl, sym, ap, ◌∙◌, subst}
 use Rattle.std.proofs.lemmas.Bool.{and_parts, false≢true, not-false}
-use Rattle.std.specs.List.{Any, filter}
-use Rattle.sg_agreement.proofs.Inversions.{or_refusal_is}
 use Rattle.sg_agreement.proofs.MessagesSound.{cs_is, psk_is}
 use Rattle.sg_agreement.specs.Answers.{Answered, AgreedAnswer, accepted_answer, agreed_answer, answered_by}
 use Rattle.sg_agreement.specs.Attributes.{mikey_octets, mikey_value, own_ssrc, ssrcs_of}
@@ -14,9 +12,7 @@ use Rattle.sg_agreement.specs.MessageAnswers.{keyed_as_initiator, over_active, r
 use Rattle.sg_agreement.specs.Messages.{AtHand, message_in}
 use Rattle.sg_agreement.specs.Offers.{AgreedOffer, accepted_offer, agreed_offer, keying_of}
 use Rattle.sg_agreement.specs.Sides.{active_count, actives, actives_after, is_active}
-use Rattle.sg_base.specs.declared.faults.MikeyFault.TheVariants.{DataType}
 use Rattle.sg_base.specs.declared.faults.PskFault.TheVariants.{Algorithm, BadMac, OtherSession}
-use Rattle.sg_base.specs.declared.faults.Refusal.TheVariants.{KeyMgmt, Mikey}
 use Rattle.sg_csmap.specs.CryptoSessions.{streams_of}
 use Rattle.sg_mikey.specs.Reading as messages
 use Rattle.sg_psk.specs.Ends.{initial_sent}
@@ -28,15 +24,14 @@ use Rattle.sg_sdp.specs.Carrying.{carried}
 use Rattle.sg_sdp.specs.Descriptions.{spelling}
 use Rattle.sg_sdp.specs.declared.medium.Medium as descriptions
 use Rattle.sg_sdp.specs.declared.sdp.Sdp.{Sdp}
-use Rattle.sg_gateway.proofs.Common.{CsEntry, Keyed, Medium, Message, MikeyFromPlain, Pair, Plain, Profile, Sealing, Secure, StreamKeys, Tgk, after_ok_is}
-use Rattle.sg_gateway.proofs.Common.{described_is, description_of, each_kept, is_with, media_agreed, of_cs, of_message, of_psk, ok_is, or_refusal, pair_with}
+use Rattle.sg_gateway.proofs.Common.{Any, CsEntry, Keyed, Medium, Message, MikeyFromPlain, Pair, Plain, Profile, Sealing, Secure, StreamKeys, Tgk, after_ok_is}
+use Rattle.sg_gateway.proofs.Common.{described_is, description_of, each_kept, filter, is_with, media_agreed, of_cs, of_message, of_psk, ok_is, pair_with}
 use Rattle.sg_gateway.proofs.Common.{same_octets_is, stop_if_is}
-use Rattle.sg_gateway.proofs.Authentic.{find_any, message_is}
+use Rattle.sg_gateway.proofs.Authentic.{message_read, find_any}
 use Rattle.sg_gateway.proofs.CryptoSessions.{AreOffered, IsMediumIn, IsOffered, IsResponded, PairsFrom, RespondedFrom, all_offered, all_responded, as_initiator, streams_sent}
 use Rattle.sg_gateway.proofs.MediaOver.{MediaFrom, SaidFrom, media_over}
 use Rattle.sg_gateway.proofs.MessageSessions.{IsOfMessage}
-use Rattle.sg_gateway.proofs.PeersMessages.{first_told, octets_carried}
-use Rattle.sg_gateway.proofs.ToldMessages.{own_message, own_streams_of}
+use Rattle.sg_gateway.proofs.PeersMessages.{first_told, octets_carried, own_message, own_streams_of}
 use Rattle.sg_gateway.specs.OwnMessages.{OwnMessage, PeersResponse}
 
 -- ---- the response
@@ -44,15 +39,6 @@ use Rattle.sg_gateway.specs.OwnMessages.{OwnMessage, PeersResponse}
 module _ (lines : List (List ℕ)) where
   abbrev Reads : List ℕ × Message → Type 0
   Reads r = (mikey_octets (mikey_value lines) ≡ Some r.0) × (messages.message_of r.0 ≡ Ok r.1) × (r.1.kind ≡ 1)
-
-  response_read : (r : List ℕ × Message) → message_in 255 1 (mikey_value lines) ≡ Ok r → Reads r
-  unfolding message_in
-  response_read r e =
-      let a = after_ok_is (or_refusal (KeyMgmt 255) (mikey_octets (mikey_value lines))) _ r e in
-      let b = after_ok_is (of_message 255 (messages.message_of a.0)) _ r a.2 in
-      let c = stop_if_is (not (eqb b.0.kind 1)) (Mikey 255 1 DataType) (Ok (a.0, b.0)) r b.2 in
-      subst Reads (ok_is (a.0, b.0) r c.1)
-      (or_refusal_is (KeyMgmt 255) (mikey_octets (mikey_value lines)) a.0 a.1, message_is 255 (messages.message_of a.0) b.0 b.1, eqb-true b.0.kind 1 (not-false _ c.0))
 
   -- what is accepted as the response to the message, with its map
   responds : (w : Sent) (r : List ℕ × Message) (entries : List CsEntry) → Reads r → response_of r.0 r.1 w ≡ Ok entries
@@ -107,7 +93,7 @@ module _ (w : Sent) where
       let a = after_ok_is (message_in 255 1 (mikey_value lines)) _ ss e in
       let b = after_ok_is (of_psk 255 (response_of a.0.0 a.0.1 w)) _ ss a.2 in
       let c = after_ok_is (of_cs 255 (streams_of w.csb w.random w.map (own_policy ∷ []) w.tgks count)) _ ss b.2 in
-      let p = responds lines w a.0 b.0 (response_read lines a.0 a.1) (psk_is 255 (response_of a.0.0 a.0.1 w) b.0 b.1) in
+      let p = responds lines w a.0 b.0 (message_read 255 1 (mikey_value lines) a.0 a.1) (psk_is 255 (response_of a.0.0 a.0.1 w) b.0 b.1) in
       let pairs : PairsFrom sent_message w.tgks 0 c.0 =
       streams_sent sent_message w.tgks count c.0 (own_streams_of w count ∙ cs_is 255 (streams_of w.csb w.random w.map (own_policy ∷ []) w.tgks count) c.0 c.1) in
       let same : responded c.0 p.0.response.map ≡ ss = ap (responded c.0) p.1 ∙ ok_is _ ss c.2 in

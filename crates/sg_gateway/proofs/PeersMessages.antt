@@ -1,11 +1,10 @@
 -- What the peer's own MIKEY message keys is under the keys that it carries, in the crypto sessions of its medium, and the peer is
 -- told the response to it.
-use Rattle.std.proofs.Common.{◌≡◌, ◌⊎◌, inl, inr, ℕ, ◌+◌, Bool, true, false, cond, not, ◌&&◌, ◌||◌, eqb, eqb-true, ltb, List, [], ◌∷◌, ◌++◌, length, map, codes, Option, Some, None, Result, Ok, refl, sym, ap, ◌∙◌, subst}
-use Rattle.std.proofs.lemmas.Bool.{false≢true, not-false}
-use Rattle.std.specs.List.{AllByRecursion, cons_option, filter, filter_map, list_any, starts_with}
+use Rattle.std.proofs.Common.{◌≡◌, ◌⊎◌, inl, inr, ℕ, ◌+◌, Bool, true, false, cond, not, ◌&&◌, eqb-true, List, [], ◌∷◌, ◌++◌, length, map, codes, Option, Some, None, Result, Ok, refl, sym, ap, ◌∙◌, subst}
+use Rattle.std.proofs.lemmas.Bool.{or_parts, false≢true, not-false}
+use Rattle.std.specs.List.{AllByRecursion, cons_option, filter, filter_map, list_any, starts_with, Any}
 use Rattle.std.specs.Prelude.{nat_eq}
 use Rattle.std.specs.Option.{is_some, option_map}
-use Rattle.sg_agreement.proofs.Inversions.{or_refusal_is}
 use Rattle.sg_agreement.proofs.MessagesSound.{cs_is, psk_is}
 use Rattle.sg_agreement.proofs.TextLines.{behind_is, kept_some, active_some}
 use Rattle.sg_agreement.specs.Answers.{Answered, AgreedAnswer, accepted_answer, agreed_answer, answered_by, lines_of}
@@ -18,16 +17,13 @@ use Rattle.sg_agreement.specs.Offers.{AgreedOffer, agreed_offer, chosen_in, keyi
 use Rattle.sg_agreement.specs.TextLines.{IsMessageLine, HasNoMessage}
 use Rattle.sg_base.proofs.Cases.{and_then_some, guarded, map_some, none_some, some_is}
 use Rattle.sg_base.specs.Fields.{cut_at}
-use Rattle.sg_base.specs.declared.faults.MikeyFault.TheVariants.{DataType}
-use Rattle.sg_base.specs.declared.faults.PskFault.TheVariants.{Algorithm, BadMac, CacheFull}
-use Rattle.sg_base.specs.declared.faults.Refusal.TheVariants.{KeyMgmt, Mikey}
+use Rattle.sg_base.specs.declared.faults.PskFault.TheVariants.{Algorithm, BadMac}
 use Rattle.sg_csmap.specs.CryptoSessions.{streams_of}
 use Rattle.sg_mikey.specs.Reading as messages
-use Rattle.sg_psk.specs.Accepting.{Accepted, accepted_with, fault_of, initial_fits, initial_of, is_served, initial_under, keys_in, with_keys}
+use Rattle.sg_psk.specs.Accepting.{Accepted, accepted_with, fault_of, initial_fits, initial_of, is_served, keys_in}
 use Rattle.sg_psk.specs.Envelope.{mac_of}
-use Rattle.sg_psk.specs.Pairs.{pair_named}
-use Rattle.sg_psk.specs.Parts.{closing_in, names_in, policies_in, random_in}
-use Rattle.sg_psk.specs.Sending.{response_octets}
+use Rattle.sg_psk.specs.Parts.{closing_in, names_in, policies_in, random_in, stamp_in}
+use Rattle.sg_psk.specs.Sending.{response_octets, Sent, answered_map, initial_octets, key_of}
 use Rattle.sg_psk.specs.declared.replays.Noted.{Noted}
 use Rattle.sg_sdp.specs.Addresses.{with_address}
 use Rattle.sg_sdp.specs.Carrying.{attribute_name, carried, carried_line, carried_lines, carried_media, carried_medium, is_one_sided}
@@ -36,16 +32,79 @@ use Rattle.sg_sdp.specs.declared.medium.Medium as descriptions
 use Rattle.sg_sdp.specs.declared.sdp.Sdp.{Sdp}
 use Rattle.sg_gateway.proofs.Common.{CsEntry, FromSecure, Keyed, Keying, Medium, Message, Offer, Opening, Pair, PeerLines, PeerMessage, PeerMessages, Plain}
 use Rattle.sg_gateway.proofs.Common.{Refusal, Secure, StreamKeys, Tgk, active_count, actives_after, after_ok, after_ok_is, described_is, description_of}
-use Rattle.sg_gateway.proofs.Common.{each_active, each_kept, if_active, if_kept, is_active, media_agreed, medium_agreed, of_cs, of_message, of_psk, ok_is}
-use Rattle.sg_gateway.proofs.Common.{or_refusal, same_octets_is, stop_if_is}
-use Rattle.sg_gateway.proofs.Authentic.{message_is, none_unless, pair_is, unless_is}
+use Rattle.sg_gateway.proofs.Common.{each_active, each_kept, if_active, if_kept, is_active, media_agreed, medium_agreed, of_cs, of_psk, ok_is, same_octets_is}
+use Rattle.sg_gateway.proofs.Authentic.{initial_parts, message_read, none_unless, pair_is}
 use Rattle.sg_gateway.proofs.CryptoSessions.{AreAnswered, IsAnswered, IsMediumIn, IsPair, PairsFrom, all_answered, as_responder, streams_sent}
 use Rattle.sg_gateway.proofs.MediaOver.{MediaFrom, SaidFrom, media_over}
 use Rattle.sg_gateway.proofs.PlainTexts.{no_key_line}
-use Rattle.sg_gateway.proofs.ToldMessages.{own_response}
 use Rattle.sg_gateway.specs.CryptoSessions.{Carries, Tells}
 use Rattle.sg_gateway.specs.PeersMessages.{OwnResponse, PeersMessage}
 use Rattle.sg_gateway.specs.PlainTexts.{IsKeyLine}
+use Rattle.sg_hmac.specs.Hmac.{hmac_sha1}
+use Rattle.sg_hmac.specs.Labels.{authentication_key}
+use Rattle.sg_psk.proofs.ExchangeLaws.{initial_before, initial_spelled, response_before, response_spelled}
+use Rattle.sg_psk.specs.Ends.{initial_sent, response_sent}
+use Rattle.sg_psk.specs.Policy.{own_policy}
+use Rattle.sg_gateway.specs.OwnMessages.{OwnMessage}
+
+-- ---- the messages that the gateway tells are spelled with their MACs: what stands before a MAC doesn't depend on it
+
+-- ---- the initiator's message
+
+-- what is told of it, and that it is this message
+pub own_message : (pairs : List Pair) (peer : List ℕ) (lines : List (List ℕ)) (w : Sent) → Any (λ p. p ≡ w.pair) pairs → w.pair.peer ≡ peer → Tells lines (initial_octets w)
+    → (m : OwnMessage pairs peer lines) × (m.message ≡ initial_sent w) × (m.pair ≡ w.pair) × (m.key ≡ key_of w.tgks)
+unfolding random_in stamp_in names_in closing_in mac_of
+own_message pairs peer lines w held of_peer told = (
+  record {
+    octets = initial_octets w;
+    told = told;
+    message = initial_sent w;
+    spelled = initial_spelled w;
+    kind = refl;
+    pair = w.pair;
+    held = held;
+    of_peer = of_peer;
+    names = refl;
+    code = ap (λ start. hmac_sha1 (authentication_key w.pair.key w.csb w.random) start) (sym (initial_before w));
+    key = key_of w.tgks;
+    keys = refl;
+  },
+  refl,
+  refl,
+  refl,
+)
+
+-- its crypto sessions are those that the gateway keeps of it
+pub own_streams_of : (w : Sent) (count : ℕ)
+    → streams_of (initial_sent w).csb (random_in (initial_sent w).payloads) (initial_sent w).map (policies_in (initial_sent w).payloads) w.tgks count
+    ≡ streams_of w.csb w.random w.map (own_policy ∷ []) w.tgks count
+unfolding random_in policies_in
+own_streams_of w count = refl
+
+-- ---- the response
+
+-- what is told of it, and its map
+pub own_response : (m : Message) (pair : Pair) (tgks : List Tgk) (lines : List (List ℕ)) (ssrcs : List ℕ) → Tells lines (response_octets (accepted_with m pair tgks) ssrcs)
+    → (r : OwnResponse m pair lines) × (r.response.map ≡ answered_map m.map ssrcs)
+unfolding random_in stamp_in names_in closing_in mac_of
+own_response m pair tgks lines ssrcs told =
+    let i : Accepted = accepted_with m pair tgks in (
+      record {
+        octets = response_octets i ssrcs;
+        told = told;
+        response = response_sent i ssrcs;
+        spelled = response_spelled i ssrcs;
+        answers = record {
+          kind = refl;
+          csb = refl;
+          code = ap (λ start. hmac_sha1 (authentication_key pair.key m.csb (random_in m.payloads)) (start ++ (pair.peer ++ (pair.own ++ stamp_in m.payloads)))) (sym (response_before i ssrcs));
+        };
+        stamp = refl;
+        names = refl;
+      },
+      refl,
+    )
 
 -- ---- the attribute
 
@@ -110,18 +169,14 @@ is_none : (o : Option (List ℕ)) → is_some o ≡ false → o ≡ None
 is_none None e = refl
 is_none (Some x) e = absurd cc
 
-neither : (a b : Bool) → (a || b) ≡ false → (a ≡ false) × (b ≡ false)
-neither false b e = (refl, e)
-neither true b e = absurd cc
-
 no_media : (ms : List descriptions.Medium) → list_any (λ (m : descriptions.Medium). is_some (mikey_value m.lines)) ms ≡ false
     → AllByRecursion (λ (m : descriptions.Medium). AllByRecursion (λ line. ¬ IsMessageLine line) m.lines) ms
 no_media [] e = tt
-no_media (m ∷ ms) e = let p = neither (is_some (mikey_value m.lines)) _ e in (no_value m.lines (is_none (mikey_value m.lines) p.0), no_media ms p.1)
+no_media (m ∷ ms) e = let p = or_parts (is_some (mikey_value m.lines)) _ e in (no_value m.lines (is_none (mikey_value m.lines) p.0), no_media ms p.1)
 
 has_none : (s : Sdp) → has_message s ≡ false → HasNoMessage s
 has_none s e =
-    let p = neither (is_some (mikey_value s.session)) _ e in
+    let p = or_parts (is_some (mikey_value s.session)) _ e in
     record { session = no_value s.session (is_none (mikey_value s.session) p.0); media = no_media s.media p.1 }
 
 -- ---- the message
@@ -130,22 +185,13 @@ has_none s e =
 module _ (pairs : List Pair) (lines : List (List ℕ)) where
   initial_is : (octets : List ℕ) (m : Message) (noted : List Noted) (now : ℕ) (a : Accepted) → mikey_octets (mikey_value lines) ≡ Some octets → messages.message_of octets ≡ Ok m → m.kind ≡ 0
       → initial_of octets m pairs noted now ≡ Ok a → (p : PeersMessage pairs lines) × (accepted_with p.message p.pair p.tgks ≡ a)
-  unfolding initial_of initial_under with_keys keys_in fault_of initial_fits mac_of
-  initial_is octets m noted now a carried read kind e = go (pair_named pairs (names_in m.payloads)) refl e
-    where
-      keys : (pair : Pair) (o : Option (List Tgk)) → with_keys m pair (length noted) o ≡ Ok a → (ts : List Tgk) × (o ≡ Some ts) × (accepted_with m pair ts ≡ a)
-      keys pair None e = absurd cc
-      keys pair (Some ts) e = let p = stop_if_is (ltb 1020 (length noted)) CacheFull (Ok (accepted_with m pair ts)) a e in (ts, refl, ok_is (accepted_with m pair ts) a p.1)
-
-      go : (o : Option Pair) → pair_named pairs (names_in m.payloads) ≡ o → initial_under octets m noted now o ≡ Ok a → (p : PeersMessage pairs lines) × (accepted_with p.message p.pair p.tgks ≡ a)
-      go None is e = absurd cc
-      go (Some pair) is e =
-          let u = unless_is (fault_of octets m pair noted now) (with_keys m pair (length noted) (keys_in m pair)) a e in
-          let k = keys pair (keys_in m pair) u.1 in
-          let p = pair_is pairs (names_in m.payloads) pair is in
-          let served = none_unless (not (is_served (closing_in m.payloads))) Algorithm _ u.0 in
-          let mac = none_unless (not (initial_fits octets m pair)) BadMac _ served.1 in
-          (record { octets = octets; carried = octets_carried lines octets carried; message = m; read = read; kind = kind; pair = pair; held = p.0; names = p.1; code = same_octets_is _ _ (not-false _ mac.0); tgks = k.0; keys = k.1 }, k.2)
+  unfolding initial_of keys_in fault_of initial_fits mac_of
+  initial_is octets m noted now a carried read kind e =
+      let i = initial_parts octets m pairs noted now a e in
+      let p = pair_is pairs (names_in m.payloads) i.0 i.1 in
+      let served = none_unless (not (is_served (closing_in m.payloads))) Algorithm _ i.2 in
+      let mac = none_unless (not (initial_fits octets m i.0)) BadMac _ served.1 in
+      (record { octets = octets; carried = octets_carried lines octets carried; message = m; read = read; kind = kind; pair = i.0; held = p.0; names = p.1; code = same_octets_is _ _ (not-false _ mac.0); tgks = i.3; keys = i.4 }, i.5)
 
 -- ---- what is told
 
@@ -186,20 +232,13 @@ record IsBundleOf (pairs : List Pair) (lines : List (List ℕ)) (b : Bundle) : T
 
 bundle_is : (h : AtHand) (medium count : ℕ) (lines : List (List ℕ)) (value : Option (List ℕ)) (b : Bundle) → mikey_value lines ≡ value → bundle_in h medium count value ≡ Ok b
     → IsBundleOf h.pairs lines b
-unfolding bundle_in message_in
+unfolding bundle_in
 bundle_is h medium count lines value b is e =
     let p = after_ok_is (message_in medium 0 value) _ b e in
     let q = after_ok_is (of_psk medium (initial_of p.0.0 p.0.1 h.pairs h.noted h.now)) _ b p.2 in
     let r = after_ok_is (of_cs medium (streams_of q.0.csb q.0.random q.0.map q.0.policies q.0.tgks count)) _ b q.2 in
-    let s = after_ok_is (or_refusal (KeyMgmt medium) (mikey_octets value)) _ p.0 p.1 in
-    let t = after_ok_is (of_message medium (messages.message_of s.0)) _ p.0 s.2 in
-    let u = stop_if_is (not (eqb t.0.kind 0)) (Mikey medium 1 DataType) (Ok (s.0, t.0)) p.0 t.2 in
-    let same : (s.0, t.0) ≡ p.0 = ok_is _ p.0 u.1 in
-    let carried : mikey_octets (mikey_value lines) ≡ Some p.0.0 =
-    ap mikey_octets is ∙ or_refusal_is (KeyMgmt medium) (mikey_octets value) s.0 s.1 ∙ ap (λ (x : List ℕ × Message). Some x.0) same in
-    let read : messages.message_of p.0.0 ≡ Ok p.0.1 = subst (λ (x : List ℕ × Message). messages.message_of x.0 ≡ Ok x.1) same (message_is medium (messages.message_of s.0) t.0 t.1) in
-    let kind : p.0.1.kind ≡ 0 = subst (λ (x : List ℕ × Message). x.1.kind ≡ 0) same (eqb-true t.0.kind 0 (not-false _ u.0)) in
-    let i = initial_is h.pairs lines p.0.0 p.0.1 h.noted h.now q.0 carried read kind (psk_is medium _ q.0 q.1) in
+    let m = message_read medium 0 value p.0 p.1 in
+    let i = initial_is h.pairs lines p.0.0 p.0.1 h.noted h.now q.0 (ap mikey_octets is ∙ m.0) m.1 m.2 (psk_is medium _ q.0 q.1) in
     let streams : streams_of i.0.message.csb (random_in i.0.message.payloads) i.0.message.map (policies_in i.0.message.payloads) i.0.tgks count ≡ Ok r.0 =
     ap (λ (a : Accepted). streams_of a.csb a.random a.map a.policies a.tgks count) i.1 ∙ cs_is medium _ r.0 r.1 in
     subst (IsBundleOf h.pairs lines) (ok_is _ b r.2) (record { message = i.0; initial = i.1; sent = streams_sent i.0.message i.0.tgks count r.0 streams })

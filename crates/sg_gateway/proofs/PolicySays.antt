@@ -12,7 +12,7 @@ use Rattle.sg_base.specs.declared.suites.Suite.TheVariants.{Cm128Tag80, Cm128Tag
 use Rattle.sg_csmap.specs.Policies.{Row, are_served, each_once, is_served, is_short, meaning, protection_by, protection_of, rows, said_by, said_or, suite_of, value_in, value_of}
 use Rattle.sg_csmap.specs.declared.policies.Protection.{Protection}
 use Rattle.sg_mikey.specs.declared.policy.Policy.{Policy}
-use Rattle.sg_session.proofs.Lists.{any_here, any_there, any_weaker}
+use Rattle.sg_session.proofs.Lists.{any_here, any_there, any_weaker, both}
 use Rattle.sg_gateway.specs.CryptoSessions.{Says}
 
 -- ---- one value
@@ -108,15 +108,6 @@ value_said items kind default all = go (first_of_kind kind items)
 
 -- ---- a suite has the lengths that are said
 
-one_of_three : (a b c v : ℕ) → list_any (λ w. eqb w v) (a ∷ b ∷ c ∷ []) ≡ true → (a ≡ v) ⊎ (b ≡ v) ⊎ (c ≡ v)
-one_of_three a b c v e = go (eqb a v) (eqb b v) (eqb c v) refl refl refl e
-  where
-    go : (p q r : Bool) → eqb a v ≡ p → eqb b v ≡ q → eqb c v ≡ r → (p || (q || (r || false))) ≡ true → (a ≡ v) ⊎ (b ≡ v) ⊎ (c ≡ v)
-    go true q r x y z e = inl (eqb-true a v x)
-    go false true r x y z e = inr (inl (eqb-true b v y))
-    go false false true x y z e = inr (inr (eqb-true c v z))
-    go false false false x y z e = absurd cc
-
 one_of_two : (a b v : ℕ) → list_any (λ w. eqb w v) (a ∷ b ∷ []) ≡ true → (a ≡ v) ⊎ (b ≡ v)
 one_of_two a b v e = go (eqb a v) (eqb b v) refl refl e
   where
@@ -125,66 +116,31 @@ one_of_two a b v e = go (eqb a v) (eqb b v) refl refl e
     go false true x y e = inr (eqb-true b v y)
     go false false x y e = absurd cc
 
-key_of_128 : (t : ℕ) → key_len_of (suite_of 16 t) ≡ 16
-key_of_128 t = go (eqb t 10)
+one_of_three : (a b c v : ℕ) → list_any (λ w. eqb w v) (a ∷ b ∷ c ∷ []) ≡ true → (a ≡ v) ⊎ (b ≡ v) ⊎ (c ≡ v)
+one_of_three a b c v e = go (eqb a v) refl e
   where
-    go : (b : Bool) → key_len_of (cond b Cm128Tag80 Cm128Tag32) ≡ 16
-    go true = refl
-    go false = refl
-
-key_of_192 : (t : ℕ) → key_len_of (suite_of 24 t) ≡ 24
-key_of_192 t = go (eqb t 10)
-  where
-    go : (b : Bool) → key_len_of (cond b Cm192Tag80 Cm192Tag32) ≡ 24
-    go true = refl
-    go false = refl
-
-key_of_256 : (t : ℕ) → key_len_of (suite_of 32 t) ≡ 32
-key_of_256 t = go (eqb t 10)
-  where
-    go : (b : Bool) → key_len_of (cond b Cm256Tag80 Cm256Tag32) ≡ 32
-    go true = refl
-    go false = refl
-
-tag_of_80 : (k : ℕ) → tag_len_of (suite_of k 10) ≡ 10
-tag_of_80 k = go (eqb k 16) (eqb k 24)
-  where
-    go : (a b : Bool) → tag_len_of (cond a Cm128Tag80 (cond b Cm192Tag80 Cm256Tag80)) ≡ 10
-    go true b = refl
-    go false true = refl
-    go false false = refl
-
-tag_of_32 : (k : ℕ) → tag_len_of (suite_of k 4) ≡ 4
-tag_of_32 k = go (eqb k 16) (eqb k 24)
-  where
-    go : (a b : Bool) → tag_len_of (cond a Cm128Tag32 (cond b Cm192Tag32 Cm256Tag32)) ≡ 4
-    go true b = refl
-    go false true = refl
-    go false false = refl
+    go : (p : Bool) → eqb a v ≡ p → (p || list_any (λ w. eqb w v) (b ∷ c ∷ [])) ≡ true → (a ≡ v) ⊎ (b ≡ v) ⊎ (c ≡ v)
+    go true x e = inl (eqb-true a v x)
+    go false x e = inr (one_of_two b c v e)
 
 key_said : (items : List (ℕ × List ℕ)) (v t : ℕ) → IsSaid items 1 16 v → key_len_of (suite_of v t) ≡ v
 key_said items v t is = go is.from
   where
-    of_row : (v ≡ 16) ⊎ (v ≡ 24) ⊎ (v ≡ 32) → key_len_of (suite_of v t) ≡ v
-    of_row (inl e) = subst (λ v. key_len_of (suite_of v t) ≡ v) (sym e) (key_of_128 t)
-    of_row (inr (inl e)) = subst (λ v. key_len_of (suite_of v t) ≡ v) (sym e) (key_of_192 t)
-    of_row (inr (inr e)) = subst (λ v. key_len_of (suite_of v t) ≡ v) (sym e) (key_of_256 t)
-
-    turned : (16 ≡ v) ⊎ (24 ≡ v) ⊎ (32 ≡ v) → (v ≡ 16) ⊎ (v ≡ 24) ⊎ (v ≡ 32)
-    turned (inl e) = inl (sym e)
-    turned (inr (inl e)) = inr (inl (sym e))
-    turned (inr (inr e)) = inr (inr (sym e))
+    of_row : (16 ≡ v) ⊎ (24 ≡ v) ⊎ (32 ≡ v) → key_len_of (suite_of v t) ≡ v
+    of_row (inl e) = subst (λ v. key_len_of (suite_of v t) ≡ v) e (both (λ s. key_len_of s ≡ 16) (eqb t 10) Cm128Tag80 Cm128Tag32 refl refl)
+    of_row (inr (inl e)) = subst (λ v. key_len_of (suite_of v t) ≡ v) e (both (λ s. key_len_of s ≡ 24) (eqb t 10) Cm192Tag80 Cm192Tag32 refl refl)
+    of_row (inr (inr e)) = subst (λ v. key_len_of (suite_of v t) ≡ v) e (both (λ s. key_len_of s ≡ 32) (eqb t 10) Cm256Tag80 Cm256Tag32 refl refl)
 
     go : (v ≡ 16) ⊎ ((row : Row) × (find (λ (r : Row). eqb r.kind 1) rows ≡ Some row) × (is_served row v ≡ true)) → key_len_of (suite_of v t) ≡ v
-    go (inl e) = of_row (inl e)
-    go (inr r) = of_row (turned (one_of_three 16 24 32 v (subst (λ (row : Row). is_served row v ≡ true) (sym (some_is _ r.0 r.1)) r.2)))
+    go (inl e) = of_row (inl (sym e))
+    go (inr r) = of_row (one_of_three 16 24 32 v (subst (λ (row : Row). is_served row v ≡ true) (sym (some_is _ r.0 r.1)) r.2))
 
 tag_said : (items : List (ℕ × List ℕ)) (k v : ℕ) → IsSaid items 11 10 v → tag_len_of (suite_of k v) ≡ v
 tag_said items k v is = go is.from
   where
     of_row : (10 ≡ v) ⊎ (4 ≡ v) → tag_len_of (suite_of k v) ≡ v
-    of_row (inl e) = subst (λ v. tag_len_of (suite_of k v) ≡ v) e (tag_of_80 k)
-    of_row (inr e) = subst (λ v. tag_len_of (suite_of k v) ≡ v) e (tag_of_32 k)
+    of_row (inl e) = subst (λ v. tag_len_of (suite_of k v) ≡ v) e (both (λ s. tag_len_of s ≡ 10) (eqb k 16) Cm128Tag80 _ refl (both (λ s. tag_len_of s ≡ 10) (eqb k 24) Cm192Tag80 Cm256Tag80 refl refl))
+    of_row (inr e) = subst (λ v. tag_len_of (suite_of k v) ≡ v) e (both (λ s. tag_len_of s ≡ 4) (eqb k 16) Cm128Tag32 _ refl (both (λ s. tag_len_of s ≡ 4) (eqb k 24) Cm192Tag32 Cm256Tag32 refl refl))
 
     go : (v ≡ 10) ⊎ ((row : Row) × (find (λ (r : Row). eqb r.kind 11) rows ≡ Some row) × (is_served row v ≡ true)) → tag_len_of (suite_of k v) ≡ v
     go (inl e) = of_row (inl (sym e))

@@ -1,20 +1,18 @@
 -- What holds in each case of a step holds of every step.
 use Rattle.std.proofs.Common.{◌≡◌, ℕ, ◌≤◌, Bool, true, false, cond, not, List, [], ◌∷◌, ◌++◌, length, map, Option, Some, None, Result, Ok, Err, refl, sym, ap, ◌∙◌, subst, eqb, ltb, eqb-true}
 use Rattle.std.proofs.lemmas.Bool.{ltb-false}
-use Rattle.std.specs.List.{Any, filter}
 use Rattle.std.specs.Option.{is_some}
-use Rattle.sg_agreement.specs.Answers.{AgreedAnswer, agreed_answer}
 use Rattle.sg_agreement.specs.Generations.{Generation, generation_of, keys_from, sessions_from}
-use Rattle.sg_agreement.specs.Offers.{AgreedOffer, agreed_offer}
-use Rattle.sg_base.specs.declared.addresses.Address.{Address}
 use Rattle.sg_base.specs.declared.faults.DropCause.TheVariants.{PortUnused}
 use Rattle.sg_base.specs.declared.faults.Refusal.TheVariants.{CallKnown, CallUnknown, PskFull, PskKnown, State, TableFull, TickBack}
 use Rattle.sg_outcome.specs.declared.outcomes.Why.TheVariants as why
 use Rattle.sg_psk.specs.Pairs.{has_pair}
 use Rattle.sg_session.specs.Ring.{Installed, install}
-use Rattle.sg_gateway.proofs.Common.{Books, Call, CallId, DropCause, ManualCall, Medium, Offer, Pair, Refusal, Session, Taken, Way, World, after_ok_is}
-use Rattle.sg_gateway.proofs.Common.{call_at, call_of, datagram_of, is_full, manual_medium, ok_is, other_side, side_of, stop_if_is, with_call}
-use Rattle.sg_gateway.proofs.Arrivals.{Arrival, Is, IsDrop, IsOpening, IsSeal, arrival}
+use Rattle.sg_gateway.proofs.Common.{Address, AgreedAnswer, AgreedOffer, Any, Books, Call, CallId, DropCause, ManualCall, Medium, Offer, Pair, Refusal, Session}
+use Rattle.sg_gateway.proofs.Common.{Taken, Way, World, after_ok_is, agreed_answer, agreed_offer, call_at, call_of, datagram_of, filter, is_full, manual_medium}
+use Rattle.sg_gateway.proofs.Common.{ok_is, opened_new, other_side, seals_is, side_of, stop_if_is, with_call}
+use Rattle.sg_gateway.proofs.Arrivals.{Arrival, Is, IsDrop, IsOpening, IsSeal, OpenedBy, SealedBy, arrival}
+use Rattle.sg_session.proofs.Taking.{IsNewIn}
 use Rattle.sg_gateway.specs.CallSignals.{answered_to, at_hand, call_at_tick, has_begun, is_idle, keyed_manually, offered_in, takes_offer, with_notes}
 use Rattle.sg_gateway.specs.Datagrams.{Given, Happening, arrived_at, arrived_in, dropped, given_to, put}
 use Rattle.sg_gateway.specs.Generations.{Settled, keyed, renewed}
@@ -218,20 +216,33 @@ module _ (w : World) where
 -- ---- datagrams
 
 module _ (w : World) (port : ℕ) where
-  -- a datagram is dropped, or a session of the call that has its port puts it out
+  -- a datagram is dropped, or a session of the call that has its port opens or seals it
+  module _ (from : Address) (d : List ℕ) (P : Happening → Type 0) (drops : (cause : DropCause) → P (dropped w port cause))
+      (opens : (c : Call) → call_at w port ≡ Some c → (g : Given) (o : OpenedBy w.moment port d c g) → P (given_to w port (put w.moment c o.session o.taken o.taken.done.packet)))
+      (seals : (c : Call) → call_at w port ≡ Some c → (g : Given) (o : SealedBy w.moment port d c g) → P (given_to w port (put w.moment c o.session o.taken (datagram_of o.session o.taken)))) where
+    at_given : (c : Call) → call_at w port ≡ Some c → (g : Given) → Arrival w.moment port d c g → P (given_to w port g)
+    at_given c at g (IsDrop cause is) = subst (λ g. P (given_to w port g)) (sym is) (drops cause)
+    at_given c at g (IsOpening o) = subst (λ g. P (given_to w port g)) (sym o.gives) (opens c at g o)
+    at_given c at g (IsSeal o) = subst (λ g. P (given_to w port g)) (sym o.gives) (seals c at g o)
+
+    at_port : (o : Option Call) → call_at w port ≡ o → P (arrived_at w port from d o)
+    at_port None at = drops PortUnused
+    at_port (Some c) at = at_given c at (arrived_in w.moment port from d c) (arrival w.moment port from d c)
+
+    pub each_arrived : P (arrived_at w port from d (call_at w port))
+    each_arrived = at_port (call_at w port) refl
+
+  -- what it puts out is new in that session
+  pub each_taken : (P : Happening → Type 0) → ((cause : DropCause) → P (dropped w port cause))
+      → ((c : Call) → call_at w port ≡ Some c → (s : Session) (t : Taken) (octets : List ℕ) → Any (Is s) c.sessions → IsNewIn s t → P (given_to w port (put w.moment c s t octets)))
+      → (from : Address) (d : List ℕ) → P (arrived_at w port from d (call_at w port))
+  each_taken P drops puts from d = each_arrived from d P drops (λ c at g o. puts c at o.session o.taken o.taken.done.packet o.is_held (opened_new o.session d o.taken o.opened))
+      (λ c at g o. puts c at o.session o.taken (datagram_of o.session o.taken) o.is_held (seals_is o.session d o.taken o.sealed).3.taken)
+
+  -- dropped, or put out by a session of the call that has its port
   pub record DatagramCases (P : Happening → Type 0) : Type 0 where
     pub drops : (cause : DropCause) → P (dropped w port cause)
     pub puts : (c : Call) → call_at w port ≡ Some c → (s : Session) (t : Taken) (octets : List ℕ) → Any (Is s) c.sessions → P (given_to w port (put w.moment c s t octets))
 
-  module _ (P : Happening → Type 0) (cases : DatagramCases P) (from : Address) (d : List ℕ) where
-    at_given : (c : Call) → call_at w port ≡ Some c → (g : Given) → Arrival w.moment port d c g → P (given_to w port g)
-    at_given c at g (IsDrop cause is) = subst (λ g. P (given_to w port g)) (sym is) (cases.drops cause)
-    at_given c at g (IsOpening o) = subst (λ g. P (given_to w port g)) (sym o.gives) (cases.puts c at o.session o.taken o.taken.done.packet o.is_held)
-    at_given c at g (IsSeal o) = subst (λ g. P (given_to w port g)) (sym o.gives) (cases.puts c at o.session o.taken (datagram_of o.session o.taken) o.is_held)
-
-    at_port : (o : Option Call) → call_at w port ≡ o → P (arrived_at w port from d o)
-    at_port None at = cases.drops PortUnused
-    at_port (Some c) at = at_given c at (arrived_in w.moment port from d c) (arrival w.moment port from d c)
-
-    pub each_datagram : P (arrived_at w port from d (call_at w port))
-    each_datagram = at_port (call_at w port) refl
+  pub each_datagram : (P : Happening → Type 0) (cases : DatagramCases P) (from : Address) (d : List ℕ) → P (arrived_at w port from d (call_at w port))
+  each_datagram P cases from d = each_taken P cases.drops (λ c at s t octets held new. cases.puts c at s t octets held) from d

@@ -1,14 +1,12 @@
 -- Offers and manual calls that nothing speaks against are taken.
 use Rattle.std.proofs.Common.{◌≡◌, ℕ, ◌+◌, ◌<◌, Bool, true, false, cond, not, List, [], ◌∷◌, ◌++◌, length, Option, Some, None, Result, Ok, Err, refl, sym, ap, ◌∙◌, subst, arith, eqb, ltb, eq-eqb}
 use Rattle.std.proofs.lemmas.Bool.{cond-true, cond-false, lt-ltb}
-use Rattle.std.proofs.lemmas.List.{append-nil}
 use Rattle.std.specs.Option.{is_some}
 use Rattle.sg_agreement.specs.Generations.{Generation, generation_of}
-use Rattle.sg_agreement.specs.Offers.{AgreedOffer}
 use Rattle.sg_base.specs.declared.faults.Refusal.TheVariants.{State, CallKnown, TableFull}
 use Rattle.sg_outcome.specs.declared.outcomes.Outcome.TheVariants.{Made, Live, Sdp}
-use Rattle.sg_gateway.proofs.Common.{Call, CallId, ManualCall, Outcome, Refusal, Way, World, after_ok, and_call, call_of, find_call, is_full, manual_medium}
-use Rattle.sg_gateway.proofs.Common.{other_side, same_id, side_of}
+use Rattle.sg_gateway.proofs.Common.{AgreedOffer, Call, CallId, ManualCall, Outcome, Refusal, Way, World, after_ok, and_call, append-nil, call_of, find_call}
+use Rattle.sg_gateway.proofs.Common.{is_full, manual_medium, other_side, same_id, side_of}
 use Rattle.sg_gateway.proofs.CarriedOut.{found_with, id_found}
 use Rattle.sg_gateway.specs.CallSignals.{offered_in, takes_offer, with_notes}
 use Rattle.sg_gateway.specs.Generations.{Settled, renewed}

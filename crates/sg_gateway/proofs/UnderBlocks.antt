@@ -1,16 +1,14 @@
 -- What is sealed is, behind its head, under the blocks that its entry says.
 use Rattle.std.proofs.Common.{◌≡◌, ℕ, ◌+◌, ◌-◌, ◌<◌, ◌/◌, ◌%◌, true, List, [], ◌∷◌, ◌++◌, bit_xor, length, slice_index, take, drop, sym, ap, ◌∙◌, subst, arith, length-append}
 use Rattle.std.proofs.lemmas.List.{get_or-append_right, get_or_append_left, get_or-drop, length-take-le, length-drop}
-use Rattle.std.specs.List.{Any}
 use Rattle.sg_base.specs.Octets.{xor_octets}
-use Rattle.sg_base.specs.declared.addresses.Address.{Address}
 use Rattle.sg_base.specs.declared.keys.HalfKeys.{HalfKeys}
 use Rattle.sg_ctr.proofs.StreamLemmas.{length-keystream, octet_of_keystream, octet_of_xor}
 use Rattle.sg_ctr.specs.Keystream.{counter_value, key_block, keystream}
 use Rattle.sg_session.proofs.Texts.{length-crypted}
 use Rattle.sg_session.specs.Reach.{choice_of, text_in}
 use Rattle.sg_session.specs.Sealed.{crypted, head_size, index_word, rtcp_tag, rtp_tag, sealed_text}
-use Rattle.sg_gateway.proofs.Common.{Entry, Kind, Out, Rtcp, Rtp, Session, Turn, half_of, session_keys}
+use Rattle.sg_gateway.proofs.Common.{Address, Any, Entry, Kind, Out, Rtcp, Rtp, Session, Turn, half_of, session_keys}
 use Rattle.sg_gateway.specs.SealedOut.{IsSealedOutOf, sealed_by}
 use Rattle.sg_gateway.specs.Used.{IsUnderItsBlocks}
 

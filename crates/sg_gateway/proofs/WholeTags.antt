@@ -1,6 +1,5 @@
 -- The sessions of every world have tags of whole length.
-use Rattle.std.proofs.Common.{◌≡◌, inl, inr, ℕ, ◌+◌, Bool, true, false, cond, List, [], ◌∷◌, ◌++◌, length, map, Option, Some, None, Result, Ok, refl, subst}
-use Rattle.std.specs.List.{AllByRecursion}
+use Rattle.std.proofs.Common.{◌≡◌, inl, inr, ℕ, ◌+◌, Bool, true, false, List, [], ◌∷◌, ◌++◌, length, map, Option, Some, None, Result, Ok, refl, subst}
 use Rattle.sg_agreement.proofs.KeyedSound.{Sometimes}
 use Rattle.sg_agreement.specs.Answers.{Answered, AgreedAnswer, accepted_answer, agreed_answer, answered, answered_by}
 use Rattle.sg_agreement.specs.Attributes.{crypto_values, first_of, mikey_value}
@@ -14,12 +13,12 @@ use Rattle.sg_sdes.specs.Answers.{answer_by}
 use Rattle.sg_sdp.specs.declared.medium.Medium as descriptions
 use Rattle.sg_sdp.specs.declared.sdp.Sdp.{Sdp}
 use Rattle.sg_base.specs.declared.suites.Suite.{Suite}
-use Rattle.sg_base.specs.declared.suites.Suite.TheVariants.{Raw80, Cm128Tag80, Cm128Tag32, Cm192Tag80, Cm192Tag32, Cm256Tag80, Cm256Tag32}
-use Rattle.sg_gateway.proofs.Common.{Done, Entry, Key, Keyed, ManualCall, Medium, Name, Opening, Owner, Plain, Refusal, Rtcp, Rtp, Sealing, Secure, Session}
-use Rattle.sg_gateway.proofs.Common.{Side, Stream, World, active_count, actives_after, after_ok_is, both, each_append, each_kept, each_weaker, if_kept}
-use Rattle.sg_gateway.proofs.Common.{manual_medium, media_agreed, medium_agreed, numbered, of_sdes, ok_is, other_side, owner_at, same_name, sessions_from}
-use Rattle.sg_gateway.proofs.Common.{stream_session, stream_sessions, with_done}
+use Rattle.sg_base.specs.declared.suites.Suite.TheVariants.{Cm128Tag32, Cm192Tag32, Cm256Tag32}
+use Rattle.sg_gateway.proofs.Common.{AllByRecursion, Done, Entry, Key, Keyed, ManualCall, Medium, Name, Owner, Plain, Refusal, Rtp, Secure, Session, Side}
+use Rattle.sg_gateway.proofs.Common.{Stream, World, active_count, actives_after, after_ok_is, both, each_kept, each_weaker, if_kept, manual_medium}
+use Rattle.sg_gateway.proofs.Common.{media_agreed, medium_agreed, numbered, of_sdes, ok_is, other_side, same_name, sessions_from, stream_sessions, with_done}
 use Rattle.sg_gateway.proofs.Kept.{IsKept}
+use Rattle.sg_gateway.proofs.MediaSessions.{each_session, each_stream}
 use Rattle.sg_gateway.proofs.Signals.{AllHave}
 use Rattle.sg_gateway.specs.Tags.{IsTagLength, HasWholeTags, HaveWholeTags}
 
@@ -27,20 +26,7 @@ pub whole_on : (n : Name) (d : Done) (s : Session) → HasWholeTags s → HasWho
 whole_on n d s is = both HasWholeTags (same_name s.name n) (record s { done = s.done ++ d ∷ [] }) s is is
 
 stream_whole : (owner : Owner) (keys : List Key) (st : Stream) (window : ℕ) (x : Medium) → IsTagLength Rtp st.tag_len → AllByRecursion HasWholeTags (stream_sessions owner keys st window x)
-stream_whole owner keys st window x is = (is, go x.has_rtcp)
-  where
-    go : (b : Bool) → AllByRecursion HasWholeTags (cond b (stream_session owner keys st window x Rtcp st.encrypts_rtcp 10 ∷ []) [])
-    go true = (refl, tt)
-    go false = tt
-
-medium_whole : (call generation m n : ℕ) (x : Medium) (later : List Session) → IsTagLength Rtp x.from_peer.tag_len → IsTagLength Rtp x.to_peer.tag_len → AllByRecursion HasWholeTags later
-    → AllByRecursion HasWholeTags (stream_sessions (owner_at call generation m Opening) (numbered n x.from_peer.keys) x.from_peer x.window x
-    ++ (stream_sessions (owner_at call generation m Sealing) (numbered (n + length x.from_peer.keys) x.to_peer.keys) x.to_peer 1024 x ++ later))
-medium_whole call generation m n x later from to rest =
-    let sealing : List Session = stream_sessions (owner_at call generation m Sealing) (numbered (n + length x.from_peer.keys) x.to_peer.keys) x.to_peer 1024 x in
-    each_append HasWholeTags (stream_sessions (owner_at call generation m Opening) (numbered n x.from_peer.keys) x.from_peer x.window x) (sealing ++ later)
-    (stream_whole _ (numbered n x.from_peer.keys) x.from_peer x.window x from)
-    (each_append HasWholeTags sealing later (stream_whole _ (numbered (n + length x.from_peer.keys) x.to_peer.keys) x.to_peer 1024 x to) rest)
+stream_whole owner keys st window x is = each_stream HasWholeTags owner keys st window x is (λ on. refl)
 
 of_suite : (s : Suite) → IsTagLength Rtp (tag_len_of s)
 of_suite Cm128Tag32 = inl refl
@@ -111,11 +97,9 @@ medium_of Secure m n k is = is
 medium_of Plain m n k is = is
 
 media_whole : (side : Side) (ms ns : List descriptions.Medium) (ks : List (Option Keyed)) → AllWhole ks → AllByRecursion (Sometimes AreWholeMedium) (media_agreed side ms ns ks)
-media_whole side [] ns ks p = tt
-media_whole side (m ∷ ms) [] ks p = tt
-media_whole side (m ∷ ms) (n ∷ ns) [] p = tt
 media_whole side (m ∷ ms) (n ∷ ns) (None ∷ ks) p = (tt, media_whole side ms ns ks p.1)
 media_whole side (m ∷ ms) (n ∷ ns) (Some k ∷ ks) p = (medium_of side m n k p.0, media_whole side ms ns ks p.1)
+media_whole side _ _ _ p = tt
 
 answer_whole : (slot : ℕ) (o : Offer) (noise text : List ℕ) (g : AgreedAnswer) → agreed_answer slot o noise text ≡ Ok g → AllByRecursion (Sometimes AreWholeMedium) g.media
 unfolding agreed_answer
@@ -127,13 +111,11 @@ answer_whole slot o noise text g e =
     (media_whole o.side o.description.media p.0.media q.0.media (answered_whole o noise p.0 active o.keying q.0 q.1))
 
 agreed_whole : (media : List (Option Medium)) → AllByRecursion (Sometimes AreWholeMedium) media → (call generation m n : ℕ) → AllByRecursion HasWholeTags (sessions_from call generation m n media)
-agreed_whole [] p call generation m n = tt
-agreed_whole (None ∷ ms) p call generation m n = agreed_whole ms p.1 call generation (m + 1) n
-agreed_whole (Some x ∷ ms) p call generation m n =
-    medium_whole call generation m n x _ p.0.0 p.0.1 (agreed_whole ms p.1 call generation (m + 1) (n + length x.from_peer.keys + length x.to_peer.keys))
+agreed_whole media p call generation m n = each_session HasWholeTags (Sometimes AreWholeMedium) call generation
+    (λ m n x is. stream_whole _ (numbered n x.from_peer.keys) x.from_peer x.window x is.0) (λ m n x is. stream_whole _ (numbered n x.to_peer.keys) x.to_peer 1024 x is.1) m n media p
 
 manual_whole : (h : ManualCall) (call generation n : ℕ) → AllByRecursion HasWholeTags (sessions_from call generation 0 n (Some (manual_medium h) ∷ []))
-manual_whole h call generation n = medium_whole call generation 0 n (manual_medium h) [] (of_suite h.from_peer.suite) (of_suite h.to_peer.suite) tt
+manual_whole h call generation n = agreed_whole (Some (manual_medium h) ∷ []) ((of_suite h.from_peer.suite, of_suite h.to_peer.suite), tt) call generation 0 n
 
 pub all_whole : AllHave HasWholeTags
 all_whole = record {

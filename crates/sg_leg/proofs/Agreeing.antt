@@ -2,6 +2,7 @@
 use Rattle.std.proofs.Common.{◌≡◌, ℕ, zero, suc, ◌+◌, ◌≤◌, ◌<◌, Bool, true, false, cond, not, ◌&&◌, List, [], ◌∷◌, length, map, slice_get, Option, option_map, Some, None, is_some, is_none, Result, Ok, Err, refl, sym, ap, ◌∙◌, subst, arith}
 use Rattle.std.proofs.lemmas.Bool.{and_parts}
 use Rattle.std.proofs.lemmas.List.Elements.{All-from_recursion, recursion_from_All}
+use Rattle.std.proofs.lemmas.List.{length-map}
 use Rattle.std.specs.List.{All, AllByRecursion}
 use Rattle.sg_agreement.proofs.AllAgreed.{there, IsWhole, answered_all, offer_whole}
 use Rattle.sg_agreement.proofs.FewMedia.{described_count}
@@ -85,9 +86,6 @@ keyed_where : (side : Side) (ms ns : List descriptions.Medium) (ks : List (Optio
     → HaveAddresses side ms → HaveAddresses (other_side side) ns
     → (i : ℕ) (m n : descriptions.Medium) (k : Option Keyed) → slice_get ms i ≡ Some m → slice_get ns i ≡ Some n → slice_get ks i ≡ Some k → is_some k ≡ true
     → (is_some m.address ≡ true) × (is_some n.address ≡ true)
-keyed_where side [] ns ks are p q i m n k am an ak is = absurd cc
-keyed_where side (x ∷ ms) [] ks are p q i m n k am an ak is = absurd cc
-keyed_where side (x ∷ ms) (y ∷ ns) [] are p q i m n k am an ak is = absurd cc
 keyed_where side (x ∷ ms) (y ∷ ns) (z ∷ ks) are p q zero m n k am an ak is =
     let this : is_some z ≡ (is_active side x && is_active (other_side side) y) = cc in
     let same_m : x ≡ m = cc in
@@ -98,15 +96,12 @@ keyed_where side (x ∷ ms) (y ∷ ns) (z ∷ ks) are p q zero m n k am an ak is
 keyed_where side (x ∷ ms) (y ∷ ns) (z ∷ ks) are p q (suc i) m n k am an ak is =
     let others : there ks ≡ actives_after side ms ns = cc in
     keyed_where side ms ns ks others p.1 q.1 i m n k am an ak is
+keyed_where side ms ns ks are p q i m n k am an ak is = absurd cc
 
 pub active_long : (side : Side) (ms ns : List descriptions.Medium) → length ns ≡ length ms → length (actives_after side ms ns) ≡ length ms
 active_long side [] ns e = refl
 active_long side (m ∷ ms) [] e = absurd (omega (arith, e))
 active_long side (m ∷ ms) (n ∷ ns) e = ap suc (active_long side ms ns (omega (arith, e)))
-
-there_long : (ks : List (Option Keyed)) → length (there ks) ≡ length ks
-there_long [] = refl
-there_long (k ∷ ks) = ap suc (there_long ks)
 
 -- ---- an answer
 
@@ -122,7 +117,7 @@ module _ (o : Offer) (was : WasOffered o) (noise text : List ℕ) (s : Sdp) (is 
     all_there = answered_all o noise s o.keying a (was_whole o was) by
 
     pub keyed_long : length a.media ≡ length o.description.media
-    keyed_long = sym (there_long a.media) ∙ ap length all_there ∙ active_long o.side o.description.media s.media answer_long
+    keyed_long = sym (length-map a.media is_some) ∙ ap length all_there ∙ active_long o.side o.description.media s.media answer_long
 
     pub are_addressed : AreAddressed o.description.media s.media a.media
     are_addressed = keyed_where o.side o.description.media s.media a.media all_there (was_addressed o was) (described_addressed (other_side o.side) (Some (length o.description.media)) text s is)

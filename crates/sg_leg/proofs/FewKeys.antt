@@ -1,5 +1,6 @@
 -- Messages that were accepted or sent have one to eight keys.
 use Rattle.std.proofs.Common.{◌≡◌, ◌≤◌, suc, List, [], ◌∷◌, length, map, Option, Some, None, refl, sym, ap, subst}
+use Rattle.std.proofs.lemmas.List.{length-map}
 use Rattle.std.specs.List.{AllByRecursion}
 use Rattle.sg_agreement.proofs.KeyedSound.{Sometimes, IsSoundKeying, offer_sound}
 use Rattle.sg_agreement.proofs.LinesSound.{Valid}
@@ -19,25 +20,21 @@ use Rattle.sg_psk.specs.Policy.{own_policy}
 use Rattle.sg_psk.specs.Sending.{Sent, response_of}
 use Rattle.sg_psk.specs.declared.pairs.Pair.{Pair}
 use Rattle.sg_session.proofs.Inversions.{after_ok_is, ok_is}
+use Rattle.sg_session.proofs.Lists.{each_weaker}
 use Rattle.sg_leg.specs.Messages.{HasFewKeys}
 use Rattle.sg_leg.specs.Open.{IsBundleIf, WasOffered}
 use Rattle.sg_leg.specs.Pairs.{EachPair}
 use Rattle.sg_leg.specs.Replying.{HaveFewKeys, WillHaveFewKeys}
 use Rattle.sg_leg.specs.declared.keying.Bundle as kept
 
-pub map_long : {A B : Type 0} (f : A → B) (xs : List A) → length (map f xs) ≡ length xs
-map_long f [] = refl
-map_long f (x ∷ xs) = ap suc (map_long f xs)
-
 pub was_sound : Valid → Found → (o : Offer) → WasOffered o → IsSoundKeying o.keying
 was_sound valid found o was = subst (λ (o : Offer). IsSoundKeying o.keying) was.is (offer_sound valid found was.hand was.way was.text was.agreed was.is_agreed)
 
 pair_few : (p : StreamKeys × StreamKeys) → IsSoundPair p → HasFewKeys p
-pair_few p is = (subst (λ n. n ≤ 8) (map_long session_key p.0.keys) is.0.few, subst (λ n. n ≤ 8) (map_long session_key p.1.keys) is.1.few)
+pair_few p is = (subst (λ n. n ≤ 8) (length-map p.0.keys session_key) is.0.few, subst (λ n. n ≤ 8) (length-map p.1.keys session_key) is.1.few)
 
 pub each_few : (ps : List (StreamKeys × StreamKeys)) → AllByRecursion IsSoundPair ps → AllByRecursion HasFewKeys ps
-each_few [] all = tt
-each_few (p ∷ ps) all = (pair_few p all.0, each_few ps all.1)
+each_few = each_weaker IsSoundPair HasFewKeys pair_few
 
 pub bundles_few : (pairs : List Pair) (bs : List (Option kept.Bundle)) (cs : List (Option Bundle)) → EachPair (IsBundleIf pairs) bs cs → AllByRecursion (Sometimes IsSoundBundle) cs → AllByRecursion HaveFewKeys bs
 bundles_few pairs [] cs p q = tt

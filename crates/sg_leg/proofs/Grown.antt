@@ -16,10 +16,9 @@ use Rattle.sg_leg.proofs.Kept.{own_lines, own_message, peer_lines, peer_message,
 
 module _ (pairs more : List Pair) where
   got : (xs : List Pair) (i : ℕ) (x : Pair) → slice_get xs i ≡ Some x → slice_get (xs ++ more) i ≡ Some x
-  got [] zero x e = absurd cc
-  got [] (suc i) x e = absurd cc
   got (y ∷ xs) zero x e = e
   got (y ∷ xs) (suc i) x e = got xs i x e
+  got [] i x e = absurd cc
 
   accepted : (i : Initial) (a : Accepted) → IsAccepted pairs i a → IsAccepted (pairs ++ more) i a
   accepted i a is = record { pair = got pairs i.pair a.pair is.pair; peer = is.peer; same = is.same }
@@ -30,14 +29,12 @@ module _ (pairs more : List Pair) where
   bundle_if : (b : Option Bundle) (c : Option messages.Bundle) → IsBundleIf pairs b c → IsBundleIf (pairs ++ more) b c
   bundle_if None None is = tt
   bundle_if (Some b) (Some c) is = bundle b c is
-  bundle_if None (Some c) is = absurd is
-  bundle_if (Some b) None is = absurd is
+  bundle_if b c is = absurd is
 
   each : (bs : List (Option Bundle)) (cs : List (Option messages.Bundle)) → EachPair (IsBundleIf pairs) bs cs → EachPair (IsBundleIf (pairs ++ more)) bs cs
   each [] [] p = tt
-  each [] (c ∷ cs) p = absurd p
-  each (b ∷ bs) [] p = absurd p
   each (b ∷ bs) (c ∷ cs) p = (bundle_if b c p.0, each bs cs p.1)
+  each bs cs p = absurd p
 
   keying : (k : Keying) (c : agreed.Keying) → IsKeyingOf pairs k c → IsKeyingOf (pairs ++ more) k c
   keying (kept.PeerLines ls) c e = subst (IsKeyingOf (pairs ++ more) (kept.PeerLines ls)) (sym (peer_lines pairs ls c e)) refl

@@ -16,6 +16,7 @@ use Rattle.sg_leg.specs.Open.{IsBundleIf, IsBundleOf, IsKeyingOf, IsOpen}
 use Rattle.sg_leg.specs.Pairs.{EachPair}
 use Rattle.sg_leg.specs.declared.keying.Bundle.{Bundle}
 use Rattle.sg_leg.specs.declared.keying.Keying.TheVariants as kept
+use Rattle.std.proofs.lemmas.List.{length-map}
 use Rattle.std.specs.List.{AllByRecursion}
 use Rattle.sg_agreement.proofs.KeyedSound.{IsSoundKeying}
 use Rattle.sg_agreement.proofs.LinesSound.{Valid}
@@ -26,53 +27,37 @@ use Rattle.sg_leg.specs.Replying.{HaveFewKeys, WillHaveFewKeys}
 use Rattle.sg_leg.specs.Values.{OfferedValue}
 use Rattle.sg_leg.specs.declared.keying.Keying.{Keying}
 use Rattle.sg_leg.proofs.Agreeing.{was_whole}
-use Rattle.sg_leg.proofs.FewKeys.{map_long, was_sound, each_few, bundles_few, will_few}
+use Rattle.sg_leg.proofs.FewKeys.{was_sound, each_few, bundles_few, will_few}
 
 module _ (pairs : List Pair) where
   pub peer_lines : (ls : List (Option CryptoLine)) (k : agreed.Keying) → IsKeyingOf pairs (kept.PeerLines ls) k → k ≡ agreed.PeerLines ls
   peer_lines ls (agreed.PeerLines ms) e = ap agreed.PeerLines (sym e)
-  peer_lines ls (agreed.OwnLines ms) e = absurd e
-  peer_lines ls (agreed.PeerMessage b) e = absurd e
-  peer_lines ls (agreed.PeerMessages bs) e = absurd e
-  peer_lines ls (agreed.OwnMessage s) e = absurd e
+  peer_lines ls k e = absurd e
 
   pub own_lines : (ls : List (Option (List CryptoLine))) (k : agreed.Keying) → IsKeyingOf pairs (kept.OwnLines ls) k → k ≡ agreed.OwnLines ls
-  own_lines ls (agreed.PeerLines ms) e = absurd e
   own_lines ls (agreed.OwnLines ms) e = ap agreed.OwnLines (sym e)
-  own_lines ls (agreed.PeerMessage b) e = absurd e
-  own_lines ls (agreed.PeerMessages bs) e = absurd e
-  own_lines ls (agreed.OwnMessage s) e = absurd e
+  own_lines ls k e = absurd e
 
   pub peer_message : (b : Bundle) (k : agreed.Keying) → IsKeyingOf pairs (kept.PeerMessage b) k → (c : messages.Bundle) × (k ≡ agreed.PeerMessage c) × IsBundleOf pairs b c
-  peer_message b (agreed.PeerLines ms) e = absurd e
-  peer_message b (agreed.OwnLines ms) e = absurd e
   peer_message b (agreed.PeerMessage c) e = (c, refl, e)
-  peer_message b (agreed.PeerMessages bs) e = absurd e
-  peer_message b (agreed.OwnMessage s) e = absurd e
+  peer_message b k e = absurd e
 
   pub peer_messages : (bs : List (Option Bundle)) (k : agreed.Keying) → IsKeyingOf pairs (kept.PeerMessages bs) k → (cs : List (Option messages.Bundle)) × (k ≡ agreed.PeerMessages cs) × EachPair (IsBundleIf pairs) bs cs
-  peer_messages bs (agreed.PeerLines ms) e = absurd e
-  peer_messages bs (agreed.OwnLines ms) e = absurd e
-  peer_messages bs (agreed.PeerMessage c) e = absurd e
   peer_messages bs (agreed.PeerMessages cs) e = (cs, refl, e)
-  peer_messages bs (agreed.OwnMessage s) e = absurd e
+  peer_messages bs k e = absurd e
 
   pub own_message : (w : Waiting) (k : agreed.Keying) → IsKeyingOf pairs (kept.OwnMessage w) k → (s : Sent) × (k ≡ agreed.OwnMessage s) × IsSent pairs w s
-  own_message w (agreed.PeerLines ms) e = absurd e
-  own_message w (agreed.OwnLines ms) e = absurd e
-  own_message w (agreed.PeerMessage c) e = absurd e
-  own_message w (agreed.PeerMessages bs) e = absurd e
   own_message w (agreed.OwnMessage s) e = (s, refl, e)
+  own_message w k e = absurd e
 
   pub pairs_long : (bs : List (Option Bundle)) (cs : List (Option messages.Bundle)) → EachPair (IsBundleIf pairs) bs cs → length bs ≡ length cs
   pairs_long [] [] p = refl
-  pairs_long [] (c ∷ cs) p = absurd p
-  pairs_long (b ∷ bs) [] p = absurd p
   pairs_long (b ∷ bs) (c ∷ cs) p = ap suc (pairs_long bs cs p.1)
+  pairs_long bs cs p = absurd p
 
 -- there is one value for each medium
 pub kept_long : {X : Type 0} (side : Side) (xs : List (Option X)) (ms : List descriptions.Medium) → there xs ≡ actives side ms → length xs ≡ length ms
-kept_long side xs ms are = sym (map_long Rattle.std.specs.Option.is_some xs) ∙ ap length are ∙ map_long (is_active side) ms
+kept_long side xs ms are = sym (length-map xs Rattle.std.specs.Option.is_some) ∙ ap length are ∙ length-map ms (is_active side)
 
 -- of an open offer
 module _ (pairs : List Pair) (o : OfferedValue) (offer : agreed.Offer) (is : IsOpen pairs o offer) where
@@ -99,7 +84,7 @@ module _ (pairs : List Pair) (o : OfferedValue) (offer : agreed.Offer) (is : IsO
   pub bundles_long : (bs : List (Option Bundle)) → o.keying ≡ kept.PeerMessages bs → length bs ≡ length o.description.media
   bundles_long bs e =
       let p = bundles_are bs e in
-      pairs_long pairs bs p.0 p.2 ∙ sym (map_long own_streams p.0)
+      pairs_long pairs bs p.0 p.2 ∙ sym (length-map p.0 own_streams)
       ∙ kept_long offer.side (map own_streams p.0) offer.description.media (subst (IsWhole offer.side offer.description.media) p.1 whole) ∙ same_long
 
   module _ (valid : Valid) (found : Found) where

@@ -27,7 +27,4 @@ notes_end pairs (c ∷ left) n m each e = absurd each
 pub notes_of_messages : (pairs : List Pair) (bs : List (Option kept.Bundle)) (k : Keying) (n' n : List Noted) → IsKeyingOf pairs (keyings.PeerMessages bs) k
     → ((cs : List (Option Bundle)) → EachPair (IsBundleIf pairs) bs cs → n' ≡ with_notes n (filter_map note_in cs)) → n' ≡ with_notes n (notes_of k)
 notes_of_messages pairs bs (PeerMessages cs) n' n is notes = notes cs is
-notes_of_messages pairs bs (PeerLines ls) n' n is notes = absurd is
-notes_of_messages pairs bs (OwnLines ls) n' n is notes = absurd is
-notes_of_messages pairs bs (PeerMessage c) n' n is notes = absurd is
-notes_of_messages pairs bs (OwnMessage s) n' n is notes = absurd is
+notes_of_messages pairs bs k n' n is notes = absurd is

@@ -19,9 +19,8 @@ use Rattle.sg_leg.specs.declared.media_spec.MediaSpec.{MediaSpec}
 
 pub pairs_append : {X Y : Type 0} (R : X → Y → Type 0) (xs xs' : List X) (ys ys' : List Y) → EachPair R xs ys → EachPair R xs' ys' → EachPair R (xs ++ xs') (ys ++ ys')
 pairs_append R [] xs' [] ys' p q = q
-pairs_append R [] xs' (y ∷ ys) ys' p q = absurd p
-pairs_append R (x ∷ xs) xs' [] ys' p q = absurd p
 pairs_append R (x ∷ xs) xs' (y ∷ ys) ys' p q = (p.0, pairs_append R xs xs' ys ys' p.1 q)
+pairs_append R xs xs' ys ys' p q = absurd p
 
 module _ (x : Medium) (call generation medium n : ℕ) where
   abbrev pub one : Direction → SessionSpec → Planned

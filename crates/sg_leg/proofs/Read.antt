@@ -226,11 +226,11 @@ abbrev HasRoomIn : ℕ → List (Option kept.Bundle) → Type 0
 HasRoomIn n so = (i : ℕ) (b : kept.Bundle) → slice_get so i ≡ Some (Some b) → n ≤ 1020
 
 pushed_room : (n : ℕ) (so : List (Option kept.Bundle)) (x : Option kept.Bundle) → HasRoomIn n so → IfSome x (λ _. n ≤ 1020) → HasRoomIn n (so ++ x ∷ [])
-pushed_room n [] None room here zero b e = absurd cc
 pushed_room n [] (Some a) room here zero b e = here
-pushed_room n [] x room here (suc i) b e = absurd cc
 pushed_room n (y ∷ so) x room here zero b e = room zero b e
 pushed_room n (y ∷ so) x room here (suc i) b e = pushed_room n so x (λ i b e. room (suc i) b e) here i b e
+pushed_room n [] None room here zero b e = absurd cc
+pushed_room n [] x room here (suc i) b e = absurd cc
 
 pub room_next : (n : ℕ) (so : List (Option kept.Bundle)) (x : Option kept.Bundle) → HasRoomIn n so → IfSome x (λ _. n ≤ 1020) → (so' : List (Option kept.Bundle)) → so' ≡ so ++ x ∷ [] → HasRoomIn n so'
 room_next n so x room here so' pushed = subst (HasRoomIn n) (sym pushed) (pushed_room n so x room here)

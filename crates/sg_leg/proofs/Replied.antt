@@ -69,28 +69,27 @@ split_read (suc i) (x ∷ xs) lt =
     split_read i xs (omega (arith, lt)) ∙ ap (λ n. get_or xs i false ∷ drop n (x ∷ xs)) (sym one)
 
 pub there_at : {X : Type 0} (xs : List X) (i : ℕ) (x : X) → slice_get xs i ≡ Some x → i < length xs
-there_at [] zero x e = absurd cc
-there_at [] (suc i) x e = absurd cc
 there_at (y ∷ xs) zero x e = omega arith
 there_at (y ∷ xs) (suc i) x e = let lt = there_at xs i x e in omega (arith, lt)
+there_at [] i x e = absurd cc
 
 pub all_at : {X : Type 0} (P : X → Type 0) (i : ℕ) (xs : List X) (x : X) (rest : List X) → AllByRecursion P xs → drop i xs ≡ x ∷ rest → P x
-all_at P zero [] x rest p e = absurd cc
-all_at P (suc i) [] x rest p e = absurd cc
 all_at P zero (y ∷ ys) x rest p e = let same : y ≡ x = cc in subst P same p.0
 all_at P (suc i) (y ∷ ys) x rest p e = all_at P i ys x rest p.1 e
+all_at P zero [] x rest p e = absurd cc
+all_at P (suc i) [] x rest p e = absurd cc
 
 pub each_own : (pairs : List Pair) (i : ℕ) (xs : List (Option kept.Bundle)) (cs : List (Option Bundle)) (x : Option kept.Bundle) (rest : List (Option kept.Bundle))
     → EachPair (IsBundleIf pairs) xs cs → drop i xs ≡ x ∷ rest
     → (c : Option Bundle) × (drop i (map own_streams cs) ≡ own_streams c ∷ drop (i + 1) (map own_streams cs)) × IsBundleIf pairs x c
-each_own pairs zero [] cs x rest p e = absurd cc
-each_own pairs (suc i) [] cs x rest p e = absurd cc
 each_own pairs i (y ∷ xs) [] x rest p e = absurd p
 each_own pairs zero (y ∷ xs) (c ∷ cs) x rest p e = let same : y ≡ x = cc in (c, refl, subst (λ x. IsBundleIf pairs x c) same p.0)
 each_own pairs (suc i) (y ∷ xs) (c ∷ cs) x rest p e =
     let q = each_own pairs i xs cs x rest p.1 e in
     let one : suc i + 1 ≡ suc (i + 1) = omega arith in
     (q.0, q.1 ∙ ap (λ n. own_streams q.0 ∷ drop n (map own_streams (c ∷ cs))) (sym one), q.2)
+each_own pairs zero [] cs x rest p e = absurd cc
+each_own pairs (suc i) [] cs x rest p e = absurd cc
 
 pub some_bundle : (pairs : List Pair) (b : kept.Bundle) (c : Option Bundle) → IsBundleIf pairs (Some b) c → (d : Bundle) × (c ≡ Some d) × IsBundleOf pairs b d
 some_bundle pairs b None p = absurd p

@@ -8,7 +8,7 @@ use Rattle.std.proofs.lemmas.Fmt.{decimal_by_steps_wide}
 use Rattle.hex.specs.Hex.{encode_lower, encode_with, IsBytes, lower_digits}
 use Rattle.sg_base.specs.declared.Address.{Address}
 use Rattle.sg_base.specs.declared.Suite.{Suite}
-use Rattle.sg_base.specs.declared.Suite.TheVariants.{Raw80, Cm128Tag80, Cm128Tag32, Cm192Tag80, Cm192Tag32, Cm256Tag80, Cm256Tag32}
+use Rattle.sg_base.specs.declared.Suite.TheVariants.{Raw80}
 use Rattle.sg_base.specs.Fields.{Lacks, four_text, address_text, IsFour, IsAddress}
 use Rattle.sg_base.specs.Identities.{is_printing, is_identity}
 use Rattle.sg_base.specs.SuiteNames.{suite_name}

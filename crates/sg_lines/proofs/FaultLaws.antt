@@ -153,21 +153,12 @@ fails fault = Err fault
 pub header_not : (body : List ℕ) → header_from body ≡ Err Unended → ⊥
 header_not body e =
     elim (chosen (bytes_eq body (codes "srtpgw 1")) _ _ (Err Unended) e) [
-      | inl p ↦ one p.1
-      | inr p ↦ elim (chosen (bytes_eq body (codes "srtpgw 2")) _ _ (Err Unended) p.1) [ inl q ↦ two_line q.1 | inr q ↦ other q.1 ]
+      | inl p ↦ let no : Ok lines.Header ≡ fails Unended = p.1 in cc
+      | inr p ↦ elim (chosen (bytes_eq body (codes "srtpgw 2")) _ _ (Err Unended) p.1) [
+        | inl q ↦ let no : Ok lines.HeaderTwo ≡ fails Unended = q.1 in cc
+        | inr q ↦ let no : fails Version ≡ fails Unended = q.1 in cc
+      ]
     ]
-  where
-    one : Ok lines.Header ≡ fails Unended → ⊥
-    one e = cc
-
-    two_line : Ok lines.HeaderTwo ≡ fails Unended → ⊥
-    two_line e = cc
-
-    other : fails Version ≡ fails Unended → ⊥
-    other e = cc
-
-pub length_not : fails Length ≡ fails Unended → ⊥
-length_not e = cc
 
 -- a line of at most 70,000 octets is Unended where its last octet isn't a line end, and nowhere else
 pub unended : (version number : ℕ) (t : List ℕ) → length t ≤ 70000 → is_ended t ≡ false → line_of version number t ≡ Err Unended
@@ -178,7 +169,7 @@ pub unended_only : (version number : ℕ) (t : List ℕ) → line_of version num
 unfolding line_of
 unended_only version number t e =
     elim (chosen (ltb 70000 (length t)) _ _ (Err Unended) e) [
-      | inl p ↦ absurd (length_not p.1)
+      | inl p ↦ absurd (let no : fails Length ≡ fails Unended = p.1 in cc)
       | inr p ↦
           elim (chosen (not (is_ended t)) _ _ (Err Unended) p.1) [
             | inl q ↦ (ltb-false _ _ p.0, not-true _ q.0)

@@ -196,9 +196,8 @@ noise_takes t noise e =
           let o = bind_ok (octets_from 304 304 t) (λ octets. Ok (Some (record { 0 = octets }))) noise p.1 in
           let s = octets_in_takes 304 304 t o.0 o.1 in
           let made : Option Noise304 = Some (record { 0 = o.0 }) in
-          let low = s.1.low in
           let high = s.1.high in
-          subst (λ (o : Option Noise304). (t ≡ noise_text o) × FitsNoise o) (ok_is made noise o.2) (s.0, (s.1.bytes, omega (arith, low, high)))
+          subst (λ (o : Option Noise304). (t ≡ noise_text o) × FitsNoise o) (ok_is made noise o.2) (s.0, (s.1.bytes, omega (arith, s.1.low, high)))
     ]
 
 -- ---- keys

@@ -11,6 +11,7 @@ use Rattle.std.proofs.Math.Seq.{get_or-append_seam}
 use Rattle.std.proofs.lemmas.List.{length-append, take_at}
 use Rattle.std.proofs.lemmas.List.Splits.{slice_split_none, slice_split_at, join_with_byte-slice_split}
 use Rattle.sg_base.specs.declared.Noise304.{Noise304}
+use Rattle.sg_base.specs.declared.ScriptFault.{ScriptFault}
 use Rattle.sg_base.specs.declared.ScriptFault.TheVariants.{Word, Length, Version, Unended}
 use Rattle.sg_base.specs.Fields.{Lacks}
 use Rattle.sg_base.specs.Keys.{Master}
@@ -23,7 +24,7 @@ use Rattle.sg_lines.specs.declared.lines.Line.TheVariants as lines
 use Rattle.sg_lines.specs.declared.lines.Signal.{Signal}
 use Rattle.sg_lines.specs.declared.lines.Signal.TheVariants.{Tick, Psk, Manual, OfferSecure, OfferSdes, OfferMikey, Answer, Reject, Bye}
 use Rattle.sg_lines.specs.declared.faults.ReadLineFault.{ReadLineFault}
-use Rattle.sg_lines.specs.Fields.{Gives, number_from, call_from, port_from, address_from, octets_from, rollover_from, window_from, noise_from, key_from, identity_from}
+use Rattle.sg_lines.specs.Fields.{◌>>=◌, Gives, number_from, call_from, port_from, address_from, octets_from, rollover_from, window_from, noise_from, key_from, identity_from}
 use Rattle.sg_lines.specs.LineOf.{tick_from, reject_from, bye_from, datagram_from, datagram_at_from, psk_from, offer_secure_from, offer_sdes_from, offer_mikey_from, answer_from, manual_from, two_fields, four_fields, five_fields, six_fields, eight_fields, more_fields, said_by, fields_of, body_of, is_ended, header_from, line_of}
 use Rattle.sg_lines.specs.LineText.{hex_text, key_text, noise_text, signal_fields, line_fields, line_text, FitsKey, FitsNoise, FitsSignal, FitsBody, FitsLine}
 use Rattle.sg_lines.proofs.Dense.{IsDense, AreDense, dense_test, dense_append, dense_decimal, dense_address, dense_encoded, dense_hex, dense_suite, dense_identity, lack_spaces}
@@ -119,10 +120,9 @@ signal_again version (Bye call) fits = rw (FieldLaws.call_again call fits) refl
 body_again : (version : ℕ) (l : Line) → FitsBody version l → said_by version (line_fields l) ≡ Ok l
 unfolding four_fields five_fields datagram_from datagram_at_from
 body_again version (lines.DatagramAt now port from octets) fits =
-    let most = fits.4 in
     rw (
       eq-eqb version 2 fits.3,
-      FieldLaws.number_in_again 2085978495999 now (omega (arith, most)) (lit< tt),
+      FieldLaws.number_in_again 2085978495999 now (omega (arith, fits.4)) (lit< tt),
       FieldLaws.number_in_again 65535 port fits.0 (lit< tt),
       FieldLaws.address_in_again from fits.1,
       FieldLaws.octets_in_again 0 4352 octets fits.2,
@@ -168,16 +168,9 @@ last_is (x ∷ y ∷ ys) e =
 
 last_step : (version number : ℕ) (l : Line) → FitsLine version number l
     → cond (eqb number 1) (header_from (join_with_byte 32 (line_fields l))) (said_by version (fields_of (join_with_byte 32 (line_fields l)))) ≡ Ok l
-last_step version number (lines.Datagram port from octets) fits =
-    let l : Line = lines.Datagram port from octets in
-    rw (ne_eqb number 1 fits.0, cut_again l (dense_line version number l fits)) (body_again version l fits.1)
-last_step version number (lines.DatagramAt now port from octets) fits =
-    let l : Line = lines.DatagramAt now port from octets in
-    rw (ne_eqb number 1 fits.0, cut_again l (dense_line version number l fits)) (body_again version l fits.1)
-last_step version number (lines.Signal s) fits =
-    let l : Line = lines.Signal s in
-    rw (ne_eqb number 1 fits.0, cut_again l (dense_line version number l fits)) (body_again version l fits.1)
-last_step version number other fits = rw (eq-eqb number 1 fits) refl
+last_step version number lines.Header fits = rw (eq-eqb number 1 fits) refl
+last_step version number lines.HeaderTwo fits = rw (eq-eqb number 1 fits) refl
+last_step version number other fits = rw (ne_eqb number 1 fits.0, cut_again other (dense_line version number other fits)) (body_again version other fits.1)
 
 pub line_again : (version number : ℕ) (l : Line) → FitsLine version number l → length (line_text l) ≤ 70000 → line_of version number (line_text l) ≡ Ok l
 unfolding line_of
@@ -190,125 +183,108 @@ line_again version number l fits short =
 unfoldable Reads : ℕ → List (List ℕ) → Line → Type 0
 Reads version fs l = (fs ≡ line_fields l) × FitsBody version l
 
-two_same : (w a w' a' : List ℕ) → w ≡ w' → a ≡ a' → w ∷ a ∷ [] ≡ w' ∷ a' ∷ []
-two_same w a w' a' p q = rw (p, q) refl
+so : (version : ℕ) (fs : List (List ℕ)) (x l : Line) → FieldLaws.done x ≡ FieldLaws.done l → fs ≡ line_fields x → FitsBody version x → Reads version fs l
+unfolding Reads
+so version fs x l e same fits = subst (Reads version fs) (FieldLaws.ok_is x l e) (same, fits)
 
-four_same : (w a b c w' a' b' c' : List ℕ) → w ≡ w' → a ≡ a' → b ≡ b' → c ≡ c' → w ∷ a ∷ b ∷ c ∷ [] ≡ w' ∷ a' ∷ b' ∷ c' ∷ []
-four_same w a b c w' a' b' c' p q r s = rw (p, q, r, s) refl
+-- a field that was read, what it is, and what is read with it
+taken : {A : Type 0} {P : A → Type 0} (r : Result A ScriptFault) (f : A → Result Line ScriptFault) (l : Line) → ((x : A) → r ≡ Ok x → P x) → (r >>= f) ≡ Ok l
+    → (x : A) × P x × (f x ≡ Ok l)
+taken r f l is e = let p = FieldLaws.bind_ok r f l e in (p.0, is p.0 p.1, p.2)
 
-five_same : (w a b c d w' a' b' c' d' : List ℕ) → w ≡ w' → a ≡ a' → b ≡ b' → c ≡ c' → d ≡ d' → w ∷ a ∷ b ∷ c ∷ d ∷ [] ≡ w' ∷ a' ∷ b' ∷ c' ∷ d' ∷ []
-five_same w a b c d w' a' b' c' d' p q r s t = rw (p, q, r, s, t) refl
+two_take : (version : ℕ) (w a : List ℕ) (l : Line) → two_fields w a ≡ Ok l → Reads version (w ∷ a ∷ []) l
+unfolding two_fields tick_from reject_from bye_from
+two_take version w a l e = elim (chosen (bytes_eq w (codes "tick")) _ _ (Ok l) e) [
+  | inl p ↦
+      let now = taken (number_from 2085978495999 a) _ l (FieldLaws.number_in_takes 2085978495999 a) p.1 in
+      so version _ (lines.Signal (Tick now.0)) l now.2 (λ i. is_name w (codes "tick") p.0 i ∷ now.1.0 i ∷ []) (omega (arith, now.1.1))
+  | inr p ↦ elim (chosen (bytes_eq w (codes "reject")) _ _ (Ok l) p.1) [
+    | inl q ↦
+        let call = taken (call_from a) _ l (FieldLaws.call_takes a) q.1 in
+        so version _ (lines.Signal (Reject call.0)) l call.2 (λ i. is_name w (codes "reject") q.0 i ∷ call.1.0 i ∷ []) call.1.1
+    | inr q ↦ elim (chosen (bytes_eq w (codes "bye")) _ _ (Ok l) q.1) [
+      | inl r ↦
+          let call = taken (call_from a) _ l (FieldLaws.call_takes a) r.1 in
+          so version _ (lines.Signal (Bye call.0)) l call.2 (λ i. is_name w (codes "bye") r.0 i ∷ call.1.0 i ∷ []) call.1.1
+      | inr r ↦ absurd (FieldLaws.err_ok Word l r.1)
+    ]
+  ]
+]
 
-six_same : (w a b c d e w' a' b' c' d' e' : List ℕ) → w ≡ w' → a ≡ a' → b ≡ b' → c ≡ c' → d ≡ d' → e ≡ e' → w ∷ a ∷ b ∷ c ∷ d ∷ e ∷ [] ≡ w' ∷ a' ∷ b' ∷ c' ∷ d' ∷ e' ∷ []
-six_same w a b c d e w' a' b' c' d' e' p q r s t u = rw (p, q, r, s, t, u) refl
+four_take : (version : ℕ) (w a b c : List ℕ) (l : Line) → four_fields version w a b c ≡ Ok l → Reads version (w ∷ a ∷ b ∷ c ∷ []) l
+unfolding four_fields datagram_from psk_from offer_secure_from answer_from
+four_take version w a b c l e = elim (chosen (bytes_eq w (codes "in") && not (eqb version 2)) _ _ (Ok l) e) [
+  | inl p ↦
+      let both = and_parts (bytes_eq w (codes "in")) (not (eqb version 2)) p.0 in
+      let port = taken (port_from a) _ l (FieldLaws.number_in_takes 65535 a) p.1 in
+      let from = taken (address_from b) _ l (FieldLaws.address_in_takes b) port.2 in
+      let octets = taken (octets_from 0 4352 c) _ l (FieldLaws.octets_in_takes 0 4352 c) from.2 in
+      so version _ (lines.Datagram port.0 from.0 octets.0) l octets.2 (λ i. is_name w (codes "in") both.0 i ∷ port.1.0 i ∷ from.1.0 i ∷ octets.1.0 i ∷ [])
+      (port.1.1, from.1.1, octets.1.1, eqb-false _ _ (not-true _ both.1))
+  | inr p ↦ elim (chosen (bytes_eq w (codes "psk")) _ _ (Ok l) p.1) [
+    | inl q ↦
+        let own = taken (identity_from a) _ l (FieldLaws.identity_takes a) q.1 in
+        let peer = taken (identity_from b) _ l (FieldLaws.identity_takes b) own.2 in
+        let key = taken (octets_from 16 64 c) _ l (FieldLaws.octets_in_takes 16 64 c) peer.2 in
+        so version _ (lines.Signal (Psk own.0 peer.0 key.0)) l key.2 (λ i. is_name w (codes "psk") q.0 i ∷ own.1.0 i ∷ peer.1.0 i ∷ key.1.0 i ∷ [])
+        (own.1.1, peer.1.1, key.1.1)
+    | inr q ↦ elim (chosen (bytes_eq w (codes "offer-secure")) _ _ (Ok l) q.1) [
+      | inl r ↦
+          let call = taken (call_from a) _ l (FieldLaws.call_takes a) r.1 in
+          let noise = taken (noise_from b) _ l (FieldLaws.noise_takes b) call.2 in
+          let text = taken (octets_from 0 32768 c) _ l (FieldLaws.octets_in_takes 0 32768 c) noise.2 in
+          so version _ (lines.Signal (OfferSecure call.0 noise.0 text.0)) l text.2
+          (λ i. is_name w (codes "offer-secure") r.0 i ∷ call.1.0 i ∷ noise.1.0 i ∷ text.1.0 i ∷ []) (call.1.1, noise.1.1, text.1.1)
+      | inr r ↦ elim (chosen (bytes_eq w (codes "answer")) _ _ (Ok l) r.1) [
+        | inl s ↦
+            let call = taken (call_from a) _ l (FieldLaws.call_takes a) s.1 in
+            let noise = taken (noise_from b) _ l (FieldLaws.noise_takes b) call.2 in
+            let text = taken (octets_from 0 32768 c) _ l (FieldLaws.octets_in_takes 0 32768 c) noise.2 in
+            so version _ (lines.Signal (Answer call.0 noise.0 text.0)) l text.2
+            (λ i. is_name w (codes "answer") s.0 i ∷ call.1.0 i ∷ noise.1.0 i ∷ text.1.0 i ∷ []) (call.1.1, noise.1.1, text.1.1)
+        | inr s ↦ absurd (FieldLaws.err_ok Word l s.1)
+      ]
+    ]
+  ]
+]
 
-eight_same : (w a b c d e f g w' a' b' c' d' e' f' g' : List ℕ) → w ≡ w' → a ≡ a' → b ≡ b' → c ≡ c' → d ≡ d' → e ≡ e' → f ≡ f' → g ≡ g'
-    → w ∷ a ∷ b ∷ c ∷ d ∷ e ∷ f ∷ g ∷ [] ≡ w' ∷ a' ∷ b' ∷ c' ∷ d' ∷ e' ∷ f' ∷ g' ∷ []
-eight_same w a b c d e f g w' a' b' c' d' e' f' g' p0 p1 p2 p3 p4 p5 p6 p7 = rw (p0, p1, p2, p3, p4, p5, p6, p7) refl
+five_take : (version : ℕ) (w a b c d : List ℕ) (l : Line) → five_fields version w a b c d ≡ Ok l → Reads version (w ∷ a ∷ b ∷ c ∷ d ∷ []) l
+unfolding five_fields datagram_at_from offer_sdes_from
+five_take version w a b c d l e = elim (chosen (bytes_eq w (codes "in") && eqb version 2) _ _ (Ok l) e) [
+  | inl p ↦
+      let both = and_parts (bytes_eq w (codes "in")) (eqb version 2) p.0 in
+      let now = taken (number_from 2085978495999 a) _ l (FieldLaws.number_in_takes 2085978495999 a) p.1 in
+      let port = taken (port_from b) _ l (FieldLaws.number_in_takes 65535 b) now.2 in
+      let from = taken (address_from c) _ l (FieldLaws.address_in_takes c) port.2 in
+      let octets = taken (octets_from 0 4352 d) _ l (FieldLaws.octets_in_takes 0 4352 d) from.2 in
+      so version _ (lines.DatagramAt now.0 port.0 from.0 octets.0) l octets.2
+      (λ i. is_name w (codes "in") both.0 i ∷ now.1.0 i ∷ port.1.0 i ∷ from.1.0 i ∷ octets.1.0 i ∷ []) (port.1.1, from.1.1, octets.1.1, eqb-true _ _ both.1, now.1.1)
+  | inr p ↦ elim (chosen (bytes_eq w (codes "offer-plain") && bytes_eq b (codes "sdes")) _ _ (Ok l) p.1) [
+    | inl q ↦
+        let both = and_parts (bytes_eq w (codes "offer-plain")) (bytes_eq b (codes "sdes")) q.0 in
+        let call = taken (call_from a) _ l (FieldLaws.call_takes a) q.1 in
+        let noise = taken (noise_from c) _ l (FieldLaws.noise_takes c) call.2 in
+        let text = taken (octets_from 0 32768 d) _ l (FieldLaws.octets_in_takes 0 32768 d) noise.2 in
+        so version _ (lines.Signal (OfferSdes call.0 noise.0 text.0)) l text.2
+        (λ i. is_name w (codes "offer-plain") both.0 i ∷ call.1.0 i ∷ is_name b (codes "sdes") both.1 i ∷ noise.1.0 i ∷ text.1.0 i ∷ []) (call.1.1, noise.1.1, text.1.1)
+    | inr q ↦ absurd (FieldLaws.err_ok Word l q.1)
+  ]
+]
 
-tick_takes : (version : ℕ) (w a : List ℕ) (l : Line) → w ≡ codes "tick" → tick_from a ≡ Ok l → Reads version (w ∷ a ∷ []) l
-unfolding tick_from Reads
-tick_takes version w a l word e =
-    let n = FieldLaws.bind_ok (number_from 2085978495999 a) (λ now. Ok (lines.Signal (Tick now))) l e in
-    let p = FieldLaws.number_in_takes 2085978495999 a n.0 n.1 in
-    let small = p.1 in
-    subst (Reads version (w ∷ a ∷ [])) (FieldLaws.ok_is (lines.Signal (Tick n.0)) l n.2) (two_same w a _ _ word p.0, omega (arith, small))
-
-reject_takes : (version : ℕ) (w a : List ℕ) (l : Line) → w ≡ codes "reject" → reject_from a ≡ Ok l → Reads version (w ∷ a ∷ []) l
-unfolding reject_from Reads
-reject_takes version w a l word e =
-    let n = FieldLaws.bind_ok (call_from a) (λ call. Ok (lines.Signal (Reject call))) l e in
-    let p = FieldLaws.call_takes a n.0 n.1 in
-    subst (Reads version (w ∷ a ∷ [])) (FieldLaws.ok_is (lines.Signal (Reject n.0)) l n.2) (two_same w a _ _ word p.0, p.1)
-
-bye_takes : (version : ℕ) (w a : List ℕ) (l : Line) → w ≡ codes "bye" → bye_from a ≡ Ok l → Reads version (w ∷ a ∷ []) l
-unfolding bye_from Reads
-bye_takes version w a l word e =
-    let n = FieldLaws.bind_ok (call_from a) (λ call. Ok (lines.Signal (Bye call))) l e in
-    let p = FieldLaws.call_takes a n.0 n.1 in
-    subst (Reads version (w ∷ a ∷ [])) (FieldLaws.ok_is (lines.Signal (Bye n.0)) l n.2) (two_same w a _ _ word p.0, p.1)
-
-datagram_takes : (version : ℕ) (w a b c : List ℕ) (l : Line) → (version ≡ 2 → ⊥) → w ≡ codes "in" → datagram_from a b c ≡ Ok l → Reads version (w ∷ a ∷ b ∷ c ∷ []) l
-unfolding datagram_from Reads
-datagram_takes version w a b c l one word e =
-    let port = FieldLaws.bind_ok (port_from a) _ l e in
-    let from = FieldLaws.bind_ok (address_from b) _ l port.2 in
-    let octets = FieldLaws.bind_ok (octets_from 0 4352 c) _ l from.2 in
-    let p = FieldLaws.number_in_takes 65535 a port.0 port.1 in
-    let q = FieldLaws.address_in_takes b from.0 from.1 in
-    let r = FieldLaws.octets_in_takes 0 4352 c octets.0 octets.1 in
-    subst (Reads version (w ∷ a ∷ b ∷ c ∷ [])) (FieldLaws.ok_is (lines.Datagram port.0 from.0 octets.0) l octets.2) (four_same w a b c _ _ _ _ word p.0 q.0 r.0, (p.1, q.1, r.1, one))
-
-datagram_at_takes : (version : ℕ) (w a b c d : List ℕ) (l : Line) → version ≡ 2 → w ≡ codes "in" → datagram_at_from a b c d ≡ Ok l → Reads version (w ∷ a ∷ b ∷ c ∷ d ∷ []) l
-unfolding datagram_at_from Reads
-datagram_at_takes version w a b c d l two word e =
-    let now = FieldLaws.bind_ok (number_from 2085978495999 a) _ l e in
-    let port = FieldLaws.bind_ok (port_from b) _ l now.2 in
-    let from = FieldLaws.bind_ok (address_from c) _ l port.2 in
-    let octets = FieldLaws.bind_ok (octets_from 0 4352 d) _ l from.2 in
-    let n = FieldLaws.number_in_takes 2085978495999 a now.0 now.1 in
-    let p = FieldLaws.number_in_takes 65535 b port.0 port.1 in
-    let q = FieldLaws.address_in_takes c from.0 from.1 in
-    let r = FieldLaws.octets_in_takes 0 4352 d octets.0 octets.1 in
-    subst (Reads version (w ∷ a ∷ b ∷ c ∷ d ∷ [])) (FieldLaws.ok_is (lines.DatagramAt now.0 port.0 from.0 octets.0) l octets.2)
-    (five_same w a b c d _ _ _ _ _ word n.0 p.0 q.0 r.0, (p.1, q.1, r.1, two, n.1))
-
-psk_takes : (version : ℕ) (w a b c : List ℕ) (l : Line) → w ≡ codes "psk" → psk_from a b c ≡ Ok l → Reads version (w ∷ a ∷ b ∷ c ∷ []) l
-unfolding psk_from Reads
-psk_takes version w a b c l word e =
-    let own = FieldLaws.bind_ok (identity_from a) _ l e in
-    let peer = FieldLaws.bind_ok (identity_from b) _ l own.2 in
-    let key = FieldLaws.bind_ok (octets_from 16 64 c) _ l peer.2 in
-    let p = FieldLaws.identity_takes a own.0 own.1 in
-    let q = FieldLaws.identity_takes b peer.0 peer.1 in
-    let r = FieldLaws.octets_in_takes 16 64 c key.0 key.1 in
-    subst (Reads version (w ∷ a ∷ b ∷ c ∷ [])) (FieldLaws.ok_is (lines.Signal (Psk own.0 peer.0 key.0)) l key.2) (four_same w a b c _ _ _ _ word p.0 q.0 r.0, (p.1, q.1, r.1))
-
-offer_secure_takes : (version : ℕ) (w a b c : List ℕ) (l : Line) → w ≡ codes "offer-secure" → offer_secure_from a b c ≡ Ok l → Reads version (w ∷ a ∷ b ∷ c ∷ []) l
-unfolding offer_secure_from Reads
-offer_secure_takes version w a b c l word e =
-    let call = FieldLaws.bind_ok (call_from a) _ l e in
-    let noise = FieldLaws.bind_ok (noise_from b) _ l call.2 in
-    let text = FieldLaws.bind_ok (octets_from 0 32768 c) _ l noise.2 in
-    let p = FieldLaws.call_takes a call.0 call.1 in
-    let q = FieldLaws.noise_takes b noise.0 noise.1 in
-    let r = FieldLaws.octets_in_takes 0 32768 c text.0 text.1 in
-    subst (Reads version (w ∷ a ∷ b ∷ c ∷ [])) (FieldLaws.ok_is (lines.Signal (OfferSecure call.0 noise.0 text.0)) l text.2) (four_same w a b c _ _ _ _ word p.0 q.0 r.0, (p.1, q.1, r.1))
-
-answer_takes : (version : ℕ) (w a b c : List ℕ) (l : Line) → w ≡ codes "answer" → answer_from a b c ≡ Ok l → Reads version (w ∷ a ∷ b ∷ c ∷ []) l
-unfolding answer_from Reads
-answer_takes version w a b c l word e =
-    let call = FieldLaws.bind_ok (call_from a) _ l e in
-    let noise = FieldLaws.bind_ok (noise_from b) _ l call.2 in
-    let text = FieldLaws.bind_ok (octets_from 0 32768 c) _ l noise.2 in
-    let p = FieldLaws.call_takes a call.0 call.1 in
-    let q = FieldLaws.noise_takes b noise.0 noise.1 in
-    let r = FieldLaws.octets_in_takes 0 32768 c text.0 text.1 in
-    subst (Reads version (w ∷ a ∷ b ∷ c ∷ [])) (FieldLaws.ok_is (lines.Signal (Answer call.0 noise.0 text.0)) l text.2) (four_same w a b c _ _ _ _ word p.0 q.0 r.0, (p.1, q.1, r.1))
-
-offer_sdes_takes : (version : ℕ) (w a b c d : List ℕ) (l : Line) → w ≡ codes "offer-plain" → b ≡ codes "sdes" → offer_sdes_from a c d ≡ Ok l → Reads version (w ∷ a ∷ b ∷ c ∷ d ∷ []) l
-unfolding offer_sdes_from Reads
-offer_sdes_takes version w a b c d l word second e =
-    let call = FieldLaws.bind_ok (call_from a) _ l e in
-    let noise = FieldLaws.bind_ok (noise_from c) _ l call.2 in
-    let text = FieldLaws.bind_ok (octets_from 0 32768 d) _ l noise.2 in
-    let p = FieldLaws.call_takes a call.0 call.1 in
-    let q = FieldLaws.noise_takes c noise.0 noise.1 in
-    let r = FieldLaws.octets_in_takes 0 32768 d text.0 text.1 in
-    subst (Reads version (w ∷ a ∷ b ∷ c ∷ d ∷ [])) (FieldLaws.ok_is (lines.Signal (OfferSdes call.0 noise.0 text.0)) l text.2) (five_same w a b c d _ _ _ _ _ word p.0 second q.0 r.0, (p.1, q.1, r.1))
-
-offer_mikey_takes : (version : ℕ) (w a b c d e : List ℕ) (l : Line) → w ≡ codes "offer-plain" → b ≡ codes "mikey" → offer_mikey_from a c d e ≡ Ok l → Reads version (w ∷ a ∷ b ∷ c ∷ d ∷ e ∷ []) l
-unfolding offer_mikey_from Reads
-offer_mikey_takes version w a b c d e l word second read =
-    let call = FieldLaws.bind_ok (call_from a) _ l read in
-    let peer = FieldLaws.bind_ok (identity_from c) _ l call.2 in
-    let noise = FieldLaws.bind_ok (noise_from d) _ l peer.2 in
-    let text = FieldLaws.bind_ok (octets_from 0 32768 e) _ l noise.2 in
-    let p = FieldLaws.call_takes a call.0 call.1 in
-    let n = FieldLaws.identity_takes c peer.0 peer.1 in
-    let q = FieldLaws.noise_takes d noise.0 noise.1 in
-    let r = FieldLaws.octets_in_takes 0 32768 e text.0 text.1 in
-    subst (Reads version (w ∷ a ∷ b ∷ c ∷ d ∷ e ∷ [])) (FieldLaws.ok_is (lines.Signal (OfferMikey call.0 peer.0 noise.0 text.0)) l text.2) (six_same w a b c d e _ _ _ _ _ _ word p.0 second n.0 q.0 r.0, (p.1, n.1, q.1, r.1))
+six_take : (version : ℕ) (w a b c d f : List ℕ) (l : Line) → six_fields w a b c d f ≡ Ok l → Reads version (w ∷ a ∷ b ∷ c ∷ d ∷ f ∷ []) l
+unfolding six_fields offer_mikey_from
+six_take version w a b c d f l e = elim (chosen (bytes_eq w (codes "offer-plain") && bytes_eq b (codes "mikey")) _ _ (Ok l) e) [
+  | inl p ↦
+      let both = and_parts (bytes_eq w (codes "offer-plain")) (bytes_eq b (codes "mikey")) p.0 in
+      let call = taken (call_from a) _ l (FieldLaws.call_takes a) p.1 in
+      let peer = taken (identity_from c) _ l (FieldLaws.identity_takes c) call.2 in
+      let noise = taken (noise_from d) _ l (FieldLaws.noise_takes d) peer.2 in
+      let text = taken (octets_from 0 32768 f) _ l (FieldLaws.octets_in_takes 0 32768 f) noise.2 in
+      so version _ (lines.Signal (OfferMikey call.0 peer.0 noise.0 text.0)) l text.2
+      (λ i. is_name w (codes "offer-plain") both.0 i ∷ call.1.0 i ∷ is_name b (codes "mikey") both.1 i ∷ peer.1.0 i ∷ noise.1.0 i ∷ text.1.0 i ∷ [])
+      (call.1.1, peer.1.1, noise.1.1, text.1.1)
+  | inr p ↦ absurd (FieldLaws.err_ok Word l p.1)
+]
 
 beq_true : (a b : Bool) → beq a b ≡ true → a ≡ b
 beq_true true true e = refl
@@ -316,90 +292,25 @@ beq_true true false e = absurd cc
 beq_true false true e = absurd cc
 beq_true false false e = refl
 
-manual_takes : (version : ℕ) (w a b c d e f g : List ℕ) (l : Line) → w ≡ codes "manual" → manual_from a b c d e f g ≡ Ok l → Reads version (w ∷ a ∷ b ∷ c ∷ d ∷ e ∷ f ∷ g ∷ []) l
-unfolding manual_from Reads
-manual_takes version w a b c d e f g l word read =
-    let call = FieldLaws.bind_ok (call_from a) _ l read in
-    let secure = FieldLaws.bind_ok (address_from b) _ l call.2 in
-    let plain = FieldLaws.bind_ok (address_from c) _ l secure.2 in
-    let rollover = FieldLaws.bind_ok (rollover_from d) _ l plain.2 in
-    let window = FieldLaws.bind_ok (window_from e) _ l rollover.2 in
-    let from_peer = FieldLaws.bind_ok (key_from f) _ l window.2 in
-    let to_peer = FieldLaws.bind_ok (key_from g) _ l from_peer.2 in
-    let rule = FieldLaws.guard_true (beq (is_raw from_peer.0.suite) (is_raw to_peer.0.suite)) Word (lines.Signal (Manual call.0 secure.0 plain.0 rollover.0 window.0 from_peer.0 to_peer.0)) l to_peer.2 in
-    let p1 = FieldLaws.call_takes a call.0 call.1 in
-    let p2 = FieldLaws.address_in_takes b secure.0 secure.1 in
-    let p3 = FieldLaws.address_in_takes c plain.0 plain.1 in
-    let p4 = FieldLaws.rollover_takes d rollover.0 rollover.1 in
-    let p5 = FieldLaws.window_takes e window.0 window.1 in
-    let p6 = FieldLaws.key_takes f from_peer.0 from_peer.1 in
-    let p7 = FieldLaws.key_takes g to_peer.0 to_peer.1 in
-    subst (Reads version (w ∷ a ∷ b ∷ c ∷ d ∷ e ∷ f ∷ g ∷ [])) rule.1
-    (eight_same w a b c d e f g _ _ _ _ _ _ _ _ word p1.0 p2.0 p3.0 p4.0 p5.0 p6.0 p7.0, (p1.1, p2.1, p3.1, p4.1, p5.1, p5.2, p6.1, p7.1, beq_true _ _ rule.0))
-
-two_take : (version : ℕ) (w a : List ℕ) (l : Line) → two_fields w a ≡ Ok l → Reads version (w ∷ a ∷ []) l
-unfolding two_fields
-two_take version w a l e =
-    elim (chosen (bytes_eq w (codes "tick")) _ _ (Ok l) e) [
-      | inl p ↦ tick_takes version w a l (is_name w _ p.0) p.1
-      | inr p ↦
-          elim (chosen (bytes_eq w (codes "reject")) _ _ (Ok l) p.1) [
-            | inl q ↦ reject_takes version w a l (is_name w _ q.0) q.1
-            | inr q ↦
-                elim (chosen (bytes_eq w (codes "bye")) _ _ (Ok l) q.1) [
-                  | inl r ↦ bye_takes version w a l (is_name w _ r.0) r.1
-                  | inr r ↦ absurd (FieldLaws.err_ok Word l r.1)
-                ]
-          ]
-    ]
-
-four_take : (version : ℕ) (w a b c : List ℕ) (l : Line) → four_fields version w a b c ≡ Ok l → Reads version (w ∷ a ∷ b ∷ c ∷ []) l
-unfolding four_fields
-four_take version w a b c l e =
-    elim (chosen (bytes_eq w (codes "in") && not (eqb version 2)) _ _ (Ok l) e) [
-      | inl p ↦ let both = and_parts (bytes_eq w (codes "in")) (not (eqb version 2)) p.0 in datagram_takes version w a b c l (eqb-false _ _ (not-true _ both.1)) (is_name w _ both.0) p.1
-      | inr p ↦
-          elim (chosen (bytes_eq w (codes "psk")) _ _ (Ok l) p.1) [
-            | inl q ↦ psk_takes version w a b c l (is_name w _ q.0) q.1
-            | inr q ↦
-                elim (chosen (bytes_eq w (codes "offer-secure")) _ _ (Ok l) q.1) [
-                  | inl r ↦ offer_secure_takes version w a b c l (is_name w _ r.0) r.1
-                  | inr r ↦
-                      elim (chosen (bytes_eq w (codes "answer")) _ _ (Ok l) r.1) [
-                        | inl s ↦ answer_takes version w a b c l (is_name w _ s.0) s.1
-                        | inr s ↦ absurd (FieldLaws.err_ok Word l s.1)
-                      ]
-                ]
-          ]
-    ]
-
-five_take : (version : ℕ) (w a b c d : List ℕ) (l : Line) → five_fields version w a b c d ≡ Ok l → Reads version (w ∷ a ∷ b ∷ c ∷ d ∷ []) l
-unfolding five_fields
-five_take version w a b c d l e =
-    elim (chosen (bytes_eq w (codes "in") && eqb version 2) _ _ (Ok l) e) [
-      | inl p ↦ let both = and_parts (bytes_eq w (codes "in")) (eqb version 2) p.0 in datagram_at_takes version w a b c d l (eqb-true _ _ both.1) (is_name w _ both.0) p.1
-      | inr p ↦
-          elim (chosen (bytes_eq w (codes "offer-plain") && bytes_eq b (codes "sdes")) _ _ (Ok l) p.1) [
-            | inl q ↦ let both = and_parts (bytes_eq w (codes "offer-plain")) (bytes_eq b (codes "sdes")) q.0 in offer_sdes_takes version w a b c d l (is_name w _ both.0) (is_name b _ both.1) q.1
-            | inr q ↦ absurd (FieldLaws.err_ok Word l q.1)
-          ]
-    ]
-
-six_take : (version : ℕ) (w a b c d f : List ℕ) (l : Line) → six_fields w a b c d f ≡ Ok l → Reads version (w ∷ a ∷ b ∷ c ∷ d ∷ f ∷ []) l
-unfolding six_fields
-six_take version w a b c d f l e =
-    elim (chosen (bytes_eq w (codes "offer-plain") && bytes_eq b (codes "mikey")) _ _ (Ok l) e) [
-      | inl p ↦ let both = and_parts (bytes_eq w (codes "offer-plain")) (bytes_eq b (codes "mikey")) p.0 in offer_mikey_takes version w a b c d f l (is_name w _ both.0) (is_name b _ both.1) p.1
-      | inr p ↦ absurd (FieldLaws.err_ok Word l p.1)
-    ]
-
 eight_take : (version : ℕ) (w a b c d f g h : List ℕ) (l : Line) → eight_fields w a b c d f g h ≡ Ok l → Reads version (w ∷ a ∷ b ∷ c ∷ d ∷ f ∷ g ∷ h ∷ []) l
-unfolding eight_fields
-eight_take version w a b c d f g h l e =
-    elim (chosen (bytes_eq w (codes "manual")) _ _ (Ok l) e) [
-      | inl p ↦ manual_takes version w a b c d f g h l (is_name w _ p.0) p.1
-      | inr p ↦ absurd (FieldLaws.err_ok Word l p.1)
-    ]
+unfolding eight_fields manual_from Reads
+eight_take version w a b c d f g h l e = elim (chosen (bytes_eq w (codes "manual")) _ _ (Ok l) e) [
+  | inl p ↦
+      let call = taken (call_from a) _ l (FieldLaws.call_takes a) p.1 in
+      let secure = taken (address_from b) _ l (FieldLaws.address_in_takes b) call.2 in
+      let plain = taken (address_from c) _ l (FieldLaws.address_in_takes c) secure.2 in
+      let rollover = taken (rollover_from d) _ l (FieldLaws.rollover_takes d) plain.2 in
+      let window = taken (window_from f) _ l (FieldLaws.window_takes f) rollover.2 in
+      let from_peer = taken (key_from g) _ l (FieldLaws.key_takes g) window.2 in
+      let to_peer = taken (key_from h) _ l (FieldLaws.key_takes h) from_peer.2 in
+      let made : Line = lines.Signal (Manual call.0 secure.0 plain.0 rollover.0 window.0 from_peer.0 to_peer.0) in
+      let rule = FieldLaws.guard_true (beq (is_raw from_peer.0.suite) (is_raw to_peer.0.suite)) Word made l to_peer.2 in
+      subst (Reads version (w ∷ a ∷ b ∷ c ∷ d ∷ f ∷ g ∷ h ∷ [])) rule.1 (
+        (λ i. is_name w (codes "manual") p.0 i ∷ call.1.0 i ∷ secure.1.0 i ∷ plain.1.0 i ∷ rollover.1.0 i ∷ window.1.0 i ∷ from_peer.1.0 i ∷ to_peer.1.0 i ∷ []),
+        (call.1.1, secure.1.1, plain.1.1, rollover.1.1, window.1.1, window.1.2, from_peer.1.1, to_peer.1.1, beq_true _ _ rule.0),
+      )
+  | inr p ↦ absurd (FieldLaws.err_ok Word l p.1)
+]
 
 more_take : (version : ℕ) (w a b c : List ℕ) (more : List (List ℕ)) (l : Line) → more_fields version w a b c more ≡ Ok l → Reads version (w ∷ a ∷ b ∷ c ∷ more) l
 more_take version w a b c [] l e = four_take version w a b c l e

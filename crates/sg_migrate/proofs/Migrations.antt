@@ -1,5 +1,5 @@
 -- A migration as the loop has it, line by line.
-use Rattle.std.proofs.Common.{◌≡◌, ◌+◌, ℕ, List, [], ◌∷◌, ◌++◌, length, Result, Ok, Err, refl, sym, ap, ◌∙◌, subst, append_assoc, arith}
+use Rattle.std.proofs.Common.{◌≡◌, ◌+◌, ℕ, true, List, [], ◌∷◌, ◌++◌, length, Result, Ok, Err, refl, sym, ap, ◌∙◌, subst, append_assoc, arith}
 use Rattle.std.proofs.lemmas.List.{append-nil}
 use Rattle.sg_base.specs.declared.faults.ScriptFault.{ScriptFault}
 use Rattle.sg_base.specs.declared.faults.ScriptFault.TheVariants.{Unended}
@@ -11,7 +11,7 @@ use Rattle.sg_migrate.specs.Migrated.{effects, migrated_line, moment_after, mome
 use Rattle.sg_migrate.specs.declared.lines.LineOfVersionOne.{LineOfVersionOne}
 use Rattle.sg_trace.proofs.Frames.{lines_framed}
 use Rattle.sg_trace.specs.Course.{behind_line, course_from, read_at}
-use Rattle.sg_trace.specs.Loop.{GoInOrder, IsCutShort, IsPlayed, IsTaken, LoopEnds}
+use Rattle.sg_trace.specs.Loop.{GoInOrder, IsCutShort, IsPlayed, IsRun, IsTaken, LoopEnds, Tellings}
 use Rattle.sg_trace.specs.Output.{IsPrefixOf, IsWritten}
 use Rattle.sg_trace.specs.Reading.{IsFramed}
 use Rattle.sg_trace.specs.declared.status.Status.{Status}
@@ -93,8 +93,12 @@ pub quiet_so : (status : Status) (octets out : List ℕ) (left : Tally) → Loop
 quiet_so status octets out left ends is = never_draws 1 1 0 (lines_of octets) [] (subst (λ s. LoopEnds of_migration (written_of 0) 1 s octets [] out left) is ends).stops
 
 -- what gives nothing gave none of these
-pub none_drawn : (draws : List ℕ) → Added (telling [] 0) (telling [] 0) draws → draws ≡ []
+none_drawn : (draws : List ℕ) → Added (telling [] 0) (telling [] 0) draws → draws ≡ []
 none_drawn draws drew =
     let before = drew.0 [] refl in
     let none : before.0 ≡ [] = cc in
     sym (before.2 ∙ ap (λ (o : List ℕ). o ++ draws) none)
+
+pub run_undrawn : (status : Status) (old new : Tellings) (octets draws out : List ℕ) → Added (telling [] 0) (telling [] 0) draws → IsRun of_migration (written_of 0) 1 true status old new octets draws out
+    → IsRun of_migration (written_of 0) 1 true status old new octets [] out
+run_undrawn status old new octets draws out drew run = subst (λ (none : List ℕ). IsRun of_migration (written_of 0) 1 true status old new octets none out) (none_drawn draws drew) run

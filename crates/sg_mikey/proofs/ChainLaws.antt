@@ -7,7 +7,7 @@ use Rattle.sg_base.proofs.Cases.{chosen}
 use Rattle.sg_mikey.specs.declared.chain.Stage.{Stage}
 use Rattle.sg_mikey.specs.declared.faults.Stop.{Stop}
 use Rattle.sg_mikey.specs.declared.payload.Payload.{Payload}
-use Rattle.sg_mikey.specs.declared.payload.Payload.TheVariants.{Time, Random, Id, Sp, Extension, Kemac, Verify}
+use Rattle.sg_mikey.specs.declared.payload.Payload.TheVariants.{Kemac}
 use Rattle.sg_mikey.specs.Chain.{stage_after, is_over}
 use Rattle.sg_mikey.specs.Spelling.{payload_number, next_number, body_octets, chain_octets, IsPayload}
 use Rattle.sg_mikey.specs.Reading.{◌>>=◌, Chained, is_number, in_place, payload_at, chain_at}

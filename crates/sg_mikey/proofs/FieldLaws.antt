@@ -31,6 +31,11 @@ pub bind_ok : {A B : Type 0} (r : Result A Stop) (f : A → Result B Stop) (y : 
 bind_ok (Ok x) f y e = (x, refl, e)
 bind_ok (Err d) f y e = absurd cc
 
+-- a part that was read, what it is, and what is read behind it
+pub took : {A B : Type 0} {P : A → Type 0} (r : Result A Stop) (f : A → Result B Stop) (y : B) → ((x : A) → r ≡ Ok x → P x) → (r >>= f) ≡ Ok y
+    → (x : A) × P x × (f x ≡ Ok y)
+took r f y is e = let p = bind_ok r f y e in (p.0, is p.0 p.1, p.2)
+
 -- a test that did not fail
 pub guard_ok : {A : Type 0} (b : Bool) (d : Stop) (x y : A) → cond b (Err d) (Ok x) ≡ Ok y → (b ≡ false) × (x ≡ y)
 guard_ok true d x y e = absurd cc

@@ -14,7 +14,7 @@ use Rattle.sg_mikey.specs.declared.message.Message.{Message}
 use Rattle.sg_mikey.specs.declared.payload.Payload.{Payload}
 use Rattle.sg_mikey.specs.Spelling.{payload_number, next_number, chain_octets, entry_octets, message_octets, IsEntry, IsMessage}
 use Rattle.sg_mikey.specs.Reading.{◌>>=◌, stop, is_number, octet_at, up_to_at, number_at, next_at, version_at, verify_bit_at, chain_at, entry_at, entries_at, header_at, whole_at, message_of, placed}
-use Rattle.sg_mikey.proofs.FieldLaws.{IsOctets, bind_ok, pass_ok, ok_is, Takes, Takes-then, octet_takes, octet_again, up_to_takes, up_to_again, wide_four, number_takes, number_again, next_takes, next_again, version_takes, version_again, verify_octet, verify_takes, verify_again}
+use Rattle.sg_mikey.proofs.FieldLaws.{IsOctets, bind_ok, took, pass_ok, ok_is, Takes, Takes-then, octet_takes, octet_again, up_to_takes, up_to_again, wide_four, number_takes, number_again, next_takes, next_again, version_takes, version_again, verify_octet, verify_takes, verify_again}
 use Rattle.sg_mikey.proofs.Orders.{chain_of, accepts_chain}
 use Rattle.sg_mikey.proofs.ChainLaws.{TakesChain, chain_takes, chain_again, next_known, length-chain_octets}
 
@@ -23,16 +23,12 @@ use Rattle.sg_mikey.proofs.ChainLaws.{TakesChain, chain_takes, chain_again, next
 entry_takes : (octets : List ℕ) (y : CsEntry × List ℕ) → IsOctets octets → entry_at octets ≡ Ok y → Takes octets (entry_octets y.0) y.1 × IsEntry y.0
 unfolding entry_at
 entry_takes octets y fits e =
-    let a = bind_ok (octet_at octets) (λ policy. number_at 4 policy.1 >>= λ ssrc. number_at 4 ssrc.1 >>= λ roc. Ok (record { policy = policy.0; ssrc = ssrc.0; roc = roc.0 }, roc.1)) y e in
-    let b = bind_ok (number_at 4 a.0.1) (λ ssrc. number_at 4 ssrc.1 >>= λ roc. Ok (record { policy = a.0.0; ssrc = ssrc.0; roc = roc.0 }, roc.1)) y a.2 in
-    let c = bind_ok (number_at 4 b.0.1) (λ roc. Ok (record { policy = a.0.0; ssrc = b.0.0; roc = roc.0 }, roc.1)) y b.2 in
-    let ta = octet_takes octets a.0 fits a.1 in
-    let tb = number_takes 4 (2 ^ 32) wide_four a.0.1 b.0 ta.0.rest_fits b.1 in
-    let tc = number_takes 4 (2 ^ 32) wide_four b.0.1 c.0 tb.0.rest_fits c.1 in
-    let e1 = Takes-then a.0.1 (be b.0.0 4) b.0.1 (be c.0.0 4) c.0.1 tb.0 tc.0 in
-    let e2 = Takes-then octets (a.0.0 ∷ []) a.0.1 (be b.0.0 4 ++ be c.0.0 4) c.0.1 ta.0 e1 in
+    let a = took (octet_at octets) _ y (λ x. octet_takes octets x fits) e in
+    let b = took (number_at 4 a.0.1) _ y (λ x. number_takes 4 (2 ^ 32) wide_four a.0.1 x a.1.0.rest_fits) a.2 in
+    let c = took (number_at 4 b.0.1) _ y (λ x. number_takes 4 (2 ^ 32) wide_four b.0.1 x b.1.0.rest_fits) b.2 in
     let made : CsEntry × List ℕ = (record { policy = a.0.0; ssrc = b.0.0; roc = c.0.0 }, c.0.1) in
-    subst (λ (z : CsEntry × List ℕ). Takes octets (entry_octets z.0) z.1 × IsEntry z.0) (ok_is made y c.2) (e2, (tb.1, tc.1))
+    subst (λ (z : CsEntry × List ℕ). Takes octets (entry_octets z.0) z.1 × IsEntry z.0) (ok_is made y c.2)
+    (Takes-then _ _ _ _ _ a.1.0 (Takes-then _ _ _ _ _ b.1.0 c.1.0), (b.1.1, c.1.1))
 
 entry_again : (x : CsEntry) (rest : List ℕ) → IsEntry x → entry_at (entry_octets x ++ rest) ≡ Ok (x, rest)
 unfolding entry_at
@@ -91,15 +87,11 @@ header_made : (octets a : List ℕ) (b c : ℕ × List ℕ) (d : Bool × List �
 header_made octets a b c d f g h y ta tb kind tc td tf csb tg count th least e =
     let zero_is : h.0 ≡ 0 = omega arith in
     let form : Takes g.1 (0 ∷ []) h.1 = subst (λ (n : ℕ). Takes g.1 (n ∷ []) h.1) zero_is th in
-    let e1 = Takes-then f.1 (g.0 ∷ []) g.1 (0 ∷ []) h.1 tg form in
-    let e2 = Takes-then d.1 (be f.0 4) f.1 (g.0 ∷ 0 ∷ []) h.1 tf e1 in
-    let e3 = Takes-then c.1 (verify_octet d.0 ∷ []) d.1 (be f.0 4 ++ g.0 ∷ 0 ∷ []) h.1 td e2 in
-    let e4 = Takes-then b.1 (c.0 ∷ []) c.1 (verify_octet d.0 ∷ (be f.0 4 ++ g.0 ∷ 0 ∷ [])) h.1 tc e3 in
-    let e5 = Takes-then a (b.0 ∷ []) b.1 (c.0 ∷ verify_octet d.0 ∷ (be f.0 4 ++ g.0 ∷ 0 ∷ [])) h.1 tb e4 in
-    let e6 = Takes-then octets (1 ∷ []) a (b.0 ∷ c.0 ∷ verify_octet d.0 ∷ (be f.0 4 ++ g.0 ∷ 0 ∷ [])) h.1 ta e5 in
+    let back = Takes-then d.1 _ _ _ _ tf (Takes-then f.1 _ _ _ _ tg form) in
+    let whole = Takes-then octets _ _ _ _ ta (Takes-then a _ _ _ _ tb (Takes-then b.1 _ _ _ _ tc (Takes-then c.1 _ _ _ _ td back))) in
     let made : Header × List ℕ = (record { kind = b.0; next = c.0; verify = d.0; csb = f.0; count = g.0 }, h.1) in
     subst (λ (z : Header × List ℕ). Takes octets (header_octets z.0) z.1 × IsHeader z.0) (ok_is made y e)
-    (e6, record { kind = kind; csb = csb; count = count })
+    (whole, record { kind = kind; csb = csb; count = count })
 
 header_takes : (octets : List ℕ) (y : Header × List ℕ) → IsOctets octets → header_at octets ≡ Ok y → Takes octets (header_octets y.0) y.1 × IsHeader y.0
 unfolding header_at

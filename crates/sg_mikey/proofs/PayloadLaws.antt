@@ -8,9 +8,9 @@ use Rattle.sg_mikey.specs.declared.faults.Stop.{Stop}
 use Rattle.sg_mikey.specs.declared.payload.Payload.{Payload}
 use Rattle.sg_mikey.specs.declared.payload.Payload.TheVariants.{Time, Random, Id, Sp, Extension, Kemac, Verify}
 use Rattle.sg_mikey.specs.declared.policy.Policy.{Policy}
-use Rattle.sg_mikey.specs.Spelling.{payload_number, short, sized, item_octets, body_octets, tag_length, FitsItem, IsPayload}
+use Rattle.sg_mikey.specs.Spelling.{payload_number, sized, item_octets, body_octets, tag_length, FitsItem, IsPayload}
 use Rattle.sg_mikey.specs.Reading.{◌>>=◌, Chained, octet_at, up_to_at, octets_at, number_at, sized_at, is_number, next_at, kemac_at, time_at, id_at, verify_at, random_at, extension_at, item_type_at, item_at, items_at, policy_at, payload_at}
-use Rattle.sg_mikey.proofs.FieldLaws.{IsOctets, bind_ok, ok_is, Takes, Takes-then, octet_takes, octet_again, up_to_takes, up_to_again, octets_takes, octets_again, wide_two, number_takes, number_again, sized_takes, sized_again, next_takes, next_again, item_type_takes, item_type_again}
+use Rattle.sg_mikey.proofs.FieldLaws.{IsOctets, bind_ok, took, ok_is, Takes, Takes-then, octet_takes, octet_again, up_to_takes, up_to_again, octets_takes, octets_again, wide_two, number_takes, number_again, sized_takes, sized_again, next_takes, next_again, item_type_takes, item_type_again}
 
 -- what a reader of a payload took
 pub record TakesChained (octets : List ℕ) (number : ℕ) (link : Chained) : Type 0 where
@@ -24,23 +24,15 @@ pub record TakesChained (octets : List ℕ) (number : ℕ) (link : Chained) : Ty
 kemac_takes : (octets : List ℕ) (y : Chained) → IsOctets octets → kemac_at octets ≡ Ok y → TakesChained octets 1 y
 unfolding kemac_at
 kemac_takes octets y fits e =
-    let a = bind_ok (next_at octets) (λ next. up_to_at 2 faults.Value next.1 >>= λ cipher. sized_at cipher.1 >>= λ inner. up_to_at 1 faults.Value inner.1 >>= λ mac. octets_at (tag_length mac.0) mac.1 >>= λ tag. Ok (Kemac cipher.0 inner.0 mac.0 tag.0, next.0, tag.1)) y e in
-    let b = bind_ok (up_to_at 2 faults.Value a.0.1) (λ cipher. sized_at cipher.1 >>= λ inner. up_to_at 1 faults.Value inner.1 >>= λ mac. octets_at (tag_length mac.0) mac.1 >>= λ tag. Ok (Kemac cipher.0 inner.0 mac.0 tag.0, a.0.0, tag.1)) y a.2 in
-    let c = bind_ok (sized_at b.0.1) (λ inner. up_to_at 1 faults.Value inner.1 >>= λ mac. octets_at (tag_length mac.0) mac.1 >>= λ tag. Ok (Kemac b.0.0 inner.0 mac.0 tag.0, a.0.0, tag.1)) y b.2 in
-    let d = bind_ok (up_to_at 1 faults.Value c.0.1) (λ mac. octets_at (tag_length mac.0) mac.1 >>= λ tag. Ok (Kemac b.0.0 c.0.0 mac.0 tag.0, a.0.0, tag.1)) y c.2 in
-    let t = bind_ok (octets_at (tag_length d.0.0) d.0.1) (λ tag. Ok (Kemac b.0.0 c.0.0 d.0.0 tag.0, a.0.0, tag.1)) y d.2 in
-    let ta = next_takes octets a.0 fits a.1 in
-    let tb = up_to_takes 2 faults.Value a.0.1 b.0 ta.0.rest_fits b.1 in
-    let tc = sized_takes b.0.1 c.0 tb.0.rest_fits c.1 in
-    let td = up_to_takes 1 faults.Value c.0.1 d.0 tc.0.rest_fits d.1 in
-    let tt' = octets_takes (tag_length d.0.0) d.0.1 t.0 td.0.rest_fits t.1 in
-    let e1 = Takes-then c.0.1 (d.0.0 ∷ []) d.0.1 t.0.0 t.0.1 td.0 tt'.0 in
-    let e2 = Takes-then b.0.1 (sized c.0.0) c.0.1 (d.0.0 ∷ t.0.0) t.0.1 tc.0 e1 in
-    let e3 = Takes-then a.0.1 (b.0.0 ∷ []) b.0.1 (sized c.0.0 ++ d.0.0 ∷ t.0.0) t.0.1 tb.0 e2 in
-    let e4 = Takes-then octets (a.0.0 ∷ []) a.0.1 (b.0.0 ∷ (sized c.0.0 ++ d.0.0 ∷ t.0.0)) t.0.1 ta.0 e3 in
+    let a = took (next_at octets) _ y (λ x. next_takes octets x fits) e in
+    let b = took (up_to_at 2 faults.Value a.0.1) _ y (λ x. up_to_takes 2 faults.Value a.0.1 x a.1.0.rest_fits) a.2 in
+    let c = took (sized_at b.0.1) _ y (λ x. sized_takes b.0.1 x b.1.0.rest_fits) b.2 in
+    let d = took (up_to_at 1 faults.Value c.0.1) _ y (λ x. up_to_takes 1 faults.Value c.0.1 x c.1.0.rest_fits) c.2 in
+    let t = took (octets_at (tag_length d.0.0) d.0.1) _ y (λ x. octets_takes (tag_length d.0.0) d.0.1 x d.1.0.rest_fits) d.2 in
+    let takes = Takes-then _ _ _ _ _ a.1.0 (Takes-then _ _ _ _ _ b.1.0 (Takes-then _ _ _ _ _ c.1.0 (Takes-then _ _ _ _ _ d.1.0 t.1.0))) in
     let made : Chained = (Kemac b.0.0 c.0.0 d.0.0 t.0.0, a.0.0, t.0.1) in
     subst (λ (z : Chained). TakesChained octets 1 z) (ok_is made y t.2)
-    (record { takes = e4; payload = (tc.1, (tb.1, td.1, tt'.1)); number_is = refl; known = ta.1 })
+    (record { takes = takes; payload = (c.1.1, (b.1.1, d.1.1, t.1.1)); number_is = refl; known = a.1.1 })
 
 kemac_again : (cipher : ℕ) (inner : List ℕ) (mac : ℕ) (tag : List ℕ) (next : ℕ) (rest : List ℕ) → IsPayload (Kemac cipher inner mac tag) → is_number next ≡ true
     → kemac_at (next ∷ (body_octets (Kemac cipher inner mac tag) ++ rest)) ≡ Ok (Kemac cipher inner mac tag, next, rest)
@@ -61,17 +53,12 @@ kemac_again cipher inner mac tag next rest p known =
 time_takes : (octets : List ℕ) (y : Chained) → IsOctets octets → time_at octets ≡ Ok y → TakesChained octets 5 y
 unfolding time_at
 time_takes octets y fits e =
-    let a = bind_ok (next_at octets) (λ next. up_to_at 1 faults.Value next.1 >>= λ form. octets_at 8 form.1 >>= λ stamp. Ok (Time form.0 stamp.0, next.0, stamp.1)) y e in
-    let b = bind_ok (up_to_at 1 faults.Value a.0.1) (λ form. octets_at 8 form.1 >>= λ stamp. Ok (Time form.0 stamp.0, a.0.0, stamp.1)) y a.2 in
-    let c = bind_ok (octets_at 8 b.0.1) (λ stamp. Ok (Time b.0.0 stamp.0, a.0.0, stamp.1)) y b.2 in
-    let ta = next_takes octets a.0 fits a.1 in
-    let tb = up_to_takes 1 faults.Value a.0.1 b.0 ta.0.rest_fits b.1 in
-    let tc = octets_takes 8 b.0.1 c.0 tb.0.rest_fits c.1 in
-    let e1 = Takes-then a.0.1 (b.0.0 ∷ []) b.0.1 c.0.0 c.0.1 tb.0 tc.0 in
-    let e2 = Takes-then octets (a.0.0 ∷ []) a.0.1 (b.0.0 ∷ c.0.0) c.0.1 ta.0 e1 in
+    let a = took (next_at octets) _ y (λ x. next_takes octets x fits) e in
+    let b = took (up_to_at 1 faults.Value a.0.1) _ y (λ x. up_to_takes 1 faults.Value a.0.1 x a.1.0.rest_fits) a.2 in
+    let c = took (octets_at 8 b.0.1) _ y (λ x. octets_takes 8 b.0.1 x b.1.0.rest_fits) b.2 in
     let made : Chained = (Time b.0.0 c.0.0, a.0.0, c.0.1) in
     subst (λ (z : Chained). TakesChained octets 5 z) (ok_is made y c.2)
-    (record { takes = e2; payload = (tt, (tb.1, tc.1)); number_is = refl; known = ta.1 })
+    (record { takes = Takes-then _ _ _ _ _ a.1.0 (Takes-then _ _ _ _ _ b.1.0 c.1.0); payload = (tt, (b.1.1, c.1.1)); number_is = refl; known = a.1.1 })
 
 time_again : (form : ℕ) (stamp : List ℕ) (next : ℕ) (rest : List ℕ) → IsPayload (Time form stamp) → is_number next ≡ true
     → time_at (next ∷ (body_octets (Time form stamp) ++ rest)) ≡ Ok (Time form stamp, next, rest)
@@ -84,17 +71,12 @@ time_again form stamp next rest p known =
 id_takes : (octets : List ℕ) (y : Chained) → IsOctets octets → id_at octets ≡ Ok y → TakesChained octets 6 y
 unfolding id_at
 id_takes octets y fits e =
-    let a = bind_ok (next_at octets) (λ next. up_to_at 1 faults.Value next.1 >>= λ form. sized_at form.1 >>= λ name. Ok (Id form.0 name.0, next.0, name.1)) y e in
-    let b = bind_ok (up_to_at 1 faults.Value a.0.1) (λ form. sized_at form.1 >>= λ name. Ok (Id form.0 name.0, a.0.0, name.1)) y a.2 in
-    let c = bind_ok (sized_at b.0.1) (λ name. Ok (Id b.0.0 name.0, a.0.0, name.1)) y b.2 in
-    let ta = next_takes octets a.0 fits a.1 in
-    let tb = up_to_takes 1 faults.Value a.0.1 b.0 ta.0.rest_fits b.1 in
-    let tc = sized_takes b.0.1 c.0 tb.0.rest_fits c.1 in
-    let e1 = Takes-then a.0.1 (b.0.0 ∷ []) b.0.1 (sized c.0.0) c.0.1 tb.0 tc.0 in
-    let e2 = Takes-then octets (a.0.0 ∷ []) a.0.1 (b.0.0 ∷ sized c.0.0) c.0.1 ta.0 e1 in
+    let a = took (next_at octets) _ y (λ x. next_takes octets x fits) e in
+    let b = took (up_to_at 1 faults.Value a.0.1) _ y (λ x. up_to_takes 1 faults.Value a.0.1 x a.1.0.rest_fits) a.2 in
+    let c = took (sized_at b.0.1) _ y (λ x. sized_takes b.0.1 x b.1.0.rest_fits) b.2 in
     let made : Chained = (Id b.0.0 c.0.0, a.0.0, c.0.1) in
     subst (λ (z : Chained). TakesChained octets 6 z) (ok_is made y c.2)
-    (record { takes = e2; payload = (tc.1, tb.1); number_is = refl; known = ta.1 })
+    (record { takes = Takes-then _ _ _ _ _ a.1.0 (Takes-then _ _ _ _ _ b.1.0 c.1.0); payload = (c.1.1, b.1.1); number_is = refl; known = a.1.1 })
 
 id_again : (form : ℕ) (name : List ℕ) (next : ℕ) (rest : List ℕ) → IsPayload (Id form name) → is_number next ≡ true
     → id_at (next ∷ (body_octets (Id form name) ++ rest)) ≡ Ok (Id form name, next, rest)
@@ -107,17 +89,12 @@ id_again form name next rest p known =
 verify_takes : (octets : List ℕ) (y : Chained) → IsOctets octets → verify_at octets ≡ Ok y → TakesChained octets 9 y
 unfolding verify_at
 verify_takes octets y fits e =
-    let a = bind_ok (next_at octets) (λ next. up_to_at 1 faults.Value next.1 >>= λ mac. octets_at (tag_length mac.0) mac.1 >>= λ tag. Ok (Verify mac.0 tag.0, next.0, tag.1)) y e in
-    let b = bind_ok (up_to_at 1 faults.Value a.0.1) (λ mac. octets_at (tag_length mac.0) mac.1 >>= λ tag. Ok (Verify mac.0 tag.0, a.0.0, tag.1)) y a.2 in
-    let c = bind_ok (octets_at (tag_length b.0.0) b.0.1) (λ tag. Ok (Verify b.0.0 tag.0, a.0.0, tag.1)) y b.2 in
-    let ta = next_takes octets a.0 fits a.1 in
-    let tb = up_to_takes 1 faults.Value a.0.1 b.0 ta.0.rest_fits b.1 in
-    let tc = octets_takes (tag_length b.0.0) b.0.1 c.0 tb.0.rest_fits c.1 in
-    let e1 = Takes-then a.0.1 (b.0.0 ∷ []) b.0.1 c.0.0 c.0.1 tb.0 tc.0 in
-    let e2 = Takes-then octets (a.0.0 ∷ []) a.0.1 (b.0.0 ∷ c.0.0) c.0.1 ta.0 e1 in
+    let a = took (next_at octets) _ y (λ x. next_takes octets x fits) e in
+    let b = took (up_to_at 1 faults.Value a.0.1) _ y (λ x. up_to_takes 1 faults.Value a.0.1 x a.1.0.rest_fits) a.2 in
+    let c = took (octets_at (tag_length b.0.0) b.0.1) _ y (λ x. octets_takes (tag_length b.0.0) b.0.1 x b.1.0.rest_fits) b.2 in
     let made : Chained = (Verify b.0.0 c.0.0, a.0.0, c.0.1) in
     subst (λ (z : Chained). TakesChained octets 9 z) (ok_is made y c.2)
-    (record { takes = e2; payload = (tt, (tb.1, tc.1)); number_is = refl; known = ta.1 })
+    (record { takes = Takes-then _ _ _ _ _ a.1.0 (Takes-then _ _ _ _ _ b.1.0 c.1.0); payload = (tt, (b.1.1, c.1.1)); number_is = refl; known = a.1.1 })
 
 verify_again : (mac : ℕ) (tag : List ℕ) (next : ℕ) (rest : List ℕ) → IsPayload (Verify mac tag) → is_number next ≡ true
     → verify_at (next ∷ (body_octets (Verify mac tag) ++ rest)) ≡ Ok (Verify mac tag, next, rest)
@@ -130,19 +107,14 @@ verify_again mac tag next rest p known =
 random_takes : (octets : List ℕ) (y : Chained) → IsOctets octets → random_at octets ≡ Ok y → TakesChained octets 11 y
 unfolding random_at
 random_takes octets y fits e =
-    let a = bind_ok (next_at octets) (λ next. octet_at next.1 >>= λ size. octets_at size.0 size.1 >>= λ inner. Ok (Random inner.0, next.0, inner.1)) y e in
-    let b = bind_ok (octet_at a.0.1) (λ size. octets_at size.0 size.1 >>= λ inner. Ok (Random inner.0, a.0.0, inner.1)) y a.2 in
-    let c = bind_ok (octets_at b.0.0 b.0.1) (λ inner. Ok (Random inner.0, a.0.0, inner.1)) y b.2 in
-    let ta = next_takes octets a.0 fits a.1 in
-    let tb = octet_takes a.0.1 b.0 ta.0.rest_fits b.1 in
-    let tc = octets_takes b.0.0 b.0.1 c.0 tb.0.rest_fits c.1 in
-    let size : b.0.0 ≡ length c.0.0 % 256 = omega (arith, tb.1, tc.1) in
-    let prefix : Takes a.0.1 (be (length c.0.0) 1) b.0.1 = subst (λ (n : ℕ). Takes a.0.1 (n ∷ []) b.0.1) size tb.0 in
-    let e1 = Takes-then a.0.1 (be (length c.0.0) 1) b.0.1 c.0.0 c.0.1 prefix tc.0 in
-    let e2 = Takes-then octets (a.0.0 ∷ []) a.0.1 (short c.0.0) c.0.1 ta.0 e1 in
+    let a = took (next_at octets) _ y (λ x. next_takes octets x fits) e in
+    let b = took (octet_at a.0.1) _ y (λ x. octet_takes a.0.1 x a.1.0.rest_fits) a.2 in
+    let c = took (octets_at b.0.0 b.0.1) _ y (λ x. octets_takes b.0.0 b.0.1 x b.1.0.rest_fits) b.2 in
+    let size : b.0.0 ≡ length c.0.0 % 256 = omega (arith, b.1.1, c.1.1) in
+    let prefix : Takes a.0.1 (be (length c.0.0) 1) b.0.1 = subst (λ (n : ℕ). Takes a.0.1 (n ∷ []) b.0.1) size b.1.0 in
     let made : Chained = (Random c.0.0, a.0.0, c.0.1) in
     subst (λ (z : Chained). TakesChained octets 11 z) (ok_is made y c.2)
-    (record { takes = e2; payload = (rw tc.1 tb.1, tt); number_is = refl; known = ta.1 })
+    (record { takes = Takes-then _ _ _ _ _ a.1.0 (Takes-then _ _ _ _ _ prefix c.1.0); payload = (rw c.1.1 b.1.1, tt); number_is = refl; known = a.1.1 })
 
 random_again : (inner : List ℕ) (next : ℕ) (rest : List ℕ) → length inner < 2 ^ 8 → is_number next ≡ true
     → random_at (next ∷ (body_octets (Random inner) ++ rest)) ≡ Ok (Random inner, next, rest)
@@ -157,17 +129,12 @@ random_again inner next rest fits known =
 extension_takes : (octets : List ℕ) (y : Chained) → IsOctets octets → extension_at octets ≡ Ok y → TakesChained octets 21 y
 unfolding extension_at
 extension_takes octets y fits e =
-    let a = bind_ok (next_at octets) (λ next. octet_at next.1 >>= λ form. sized_at form.1 >>= λ inner. Ok (Extension form.0 inner.0, next.0, inner.1)) y e in
-    let b = bind_ok (octet_at a.0.1) (λ form. sized_at form.1 >>= λ inner. Ok (Extension form.0 inner.0, a.0.0, inner.1)) y a.2 in
-    let c = bind_ok (sized_at b.0.1) (λ inner. Ok (Extension b.0.0 inner.0, a.0.0, inner.1)) y b.2 in
-    let ta = next_takes octets a.0 fits a.1 in
-    let tb = octet_takes a.0.1 b.0 ta.0.rest_fits b.1 in
-    let tc = sized_takes b.0.1 c.0 tb.0.rest_fits c.1 in
-    let e1 = Takes-then a.0.1 (b.0.0 ∷ []) b.0.1 (sized c.0.0) c.0.1 tb.0 tc.0 in
-    let e2 = Takes-then octets (a.0.0 ∷ []) a.0.1 (b.0.0 ∷ sized c.0.0) c.0.1 ta.0 e1 in
+    let a = took (next_at octets) _ y (λ x. next_takes octets x fits) e in
+    let b = took (octet_at a.0.1) _ y (λ x. octet_takes a.0.1 x a.1.0.rest_fits) a.2 in
+    let c = took (sized_at b.0.1) _ y (λ x. sized_takes b.0.1 x b.1.0.rest_fits) b.2 in
     let made : Chained = (Extension b.0.0 c.0.0, a.0.0, c.0.1) in
     subst (λ (z : Chained). TakesChained octets 21 z) (ok_is made y c.2)
-    (record { takes = e2; payload = (tc.1, tt); number_is = refl; known = ta.1 })
+    (record { takes = Takes-then _ _ _ _ _ a.1.0 (Takes-then _ _ _ _ _ b.1.0 c.1.0); payload = (c.1.1, tt); number_is = refl; known = a.1.1 })
 
 extension_again : (form : ℕ) (inner : List ℕ) (next : ℕ) (rest : List ℕ) → IsPayload (Extension form inner) → is_number next ≡ true
     → extension_at (next ∷ (body_octets (Extension form inner) ++ rest)) ≡ Ok (Extension form inner, next, rest)
@@ -187,20 +154,15 @@ item_takes : (room : ℕ) (octets : List ℕ) (y : Item × List ℕ) → IsOctet
     → Takes octets (item_octets y.0) y.1 × FitsItem y.0 × (2 + length y.0.1 ≤ room)
 unfolding item_at
 item_takes room octets y fits e =
-    let a = bind_ok (item_type_at room octets) (λ kind. up_to_at (room - 2) faults.Value kind.1 >>= λ size. octets_at size.0 size.1 >>= λ value. Ok ((kind.0, value.0), value.1)) y e in
-    let b = bind_ok (up_to_at (room - 2) faults.Value a.0.1) (λ size. octets_at size.0 size.1 >>= λ value. Ok ((a.0.0, value.0), value.1)) y a.2 in
-    let c = bind_ok (octets_at b.0.0 b.0.1) (λ value. Ok ((a.0.0, value.0), value.1)) y b.2 in
-    let ta = item_type_takes room octets a.0 fits a.1 in
-    let tb = up_to_takes (room - 2) faults.Value a.0.1 b.0 ta.0.rest_fits b.1 in
-    let tc = octets_takes b.0.0 b.0.1 c.0 tb.0.rest_fits c.1 in
-    let small : b.0.0 < 256 = first_octet a.0.1 b.0.0 b.0.1 ta.0.rest_fits tb.0 in
-    let size : b.0.0 ≡ length c.0.0 % 256 = omega (arith, small, tc.1) in
-    let prefix : Takes a.0.1 (be (length c.0.0) 1) b.0.1 = subst (λ (n : ℕ). Takes a.0.1 (n ∷ []) b.0.1) size tb.0 in
-    let e1 = Takes-then a.0.1 (be (length c.0.0) 1) b.0.1 c.0.0 c.0.1 prefix tc.0 in
-    let e2 = Takes-then octets (a.0.0 ∷ []) a.0.1 (short c.0.0) c.0.1 ta.0 e1 in
+    let a = took (item_type_at room octets) _ y (λ x. item_type_takes room octets x fits) e in
+    let b = took (up_to_at (room - 2) faults.Value a.0.1) _ y (λ x. up_to_takes (room - 2) faults.Value a.0.1 x a.1.0.rest_fits) a.2 in
+    let c = took (octets_at b.0.0 b.0.1) _ y (λ x. octets_takes b.0.0 b.0.1 x b.1.0.rest_fits) b.2 in
+    let small : b.0.0 < 256 = first_octet a.0.1 b.0.0 b.0.1 a.1.0.rest_fits b.1.0 in
+    let size : b.0.0 ≡ length c.0.0 % 256 = omega (arith, small, c.1.1) in
+    let prefix : Takes a.0.1 (be (length c.0.0) 1) b.0.1 = subst (λ (n : ℕ). Takes a.0.1 (n ∷ []) b.0.1) size b.1.0 in
     let made : Item × List ℕ = ((a.0.0, c.0.0), c.0.1) in
     subst (λ (z : Item × List ℕ). Takes octets (item_octets z.0) z.1 × FitsItem z.0 × (2 + length z.0.1 ≤ room)) (ok_is made y c.2)
-    (e2, rw tc.1 small, omega (arith, ta.1, tb.1, tc.1))
+    (Takes-then _ _ _ _ _ a.1.0 (Takes-then _ _ _ _ _ prefix c.1.0), rw c.1.1 small, omega (arith, a.1.1, b.1.1, c.1.1))
 
 pub items_take : (fuel room : ℕ) (octets : List ℕ) (y : List Item × List ℕ) → IsOctets octets → room ≤ fuel → items_at fuel room octets ≡ Ok y
     → Takes octets (flat_map item_octets y.0) y.1 × (length (flat_map item_octets y.0) ≡ room) × AllByRecursion FitsItem y.0

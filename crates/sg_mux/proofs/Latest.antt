@@ -1,6 +1,6 @@
 -- A leg is muxed exactly where the offer accepted last before the answer accepted last says so, and that answer.
-use Rattle.std.proofs.Common.{◌≡◌, ◌⊎◌, inl, inr, ℕ, zero, suc, Bool, true, false, cond, eqb, List, [], ◌∷◌, ◌++◌, Option, Some, None, refl, sym, ap, ◌∙◌, subst}
-use Rattle.std.specs.Prelude.{◌↔◌}
+use Rattle.std.proofs.Common.{◌≡◌, ◌⊎◌, inl, inr, ℕ, Bool, true, false, cond, eqb, List, [], ◌∷◌, ◌++◌, Option, Some, None, refl, sym, ap, ◌∙◌, subst}
+use Rattle.std.specs.Prelude.{◌↔◌, ◌&&◌}
 use Rattle.std.specs.List.{AllByRecursion, slice_get}
 use Rattle.std.proofs.lemmas.Bool.{and_parts, eq-eqb, eqb-true, false≢true}
 use Rattle.sg_agreement.specs.declared.ways.Way.{Way}
@@ -12,10 +12,10 @@ use Rattle.sg_gateway.specs.Step.{Event, Signalled, Datagram}
 use Rattle.sg_gateway.specs.World.{same_id}
 use Rattle.sg_outcome.specs.declared.outcomes.Outcome.{Outcome}
 use Rattle.sg_outcome.specs.declared.outcomes.Why.{Why}
-use Rattle.sg_outcome.specs.declared.outcomes.Outcome.TheVariants.{Made, Live, Sdp, Refused, Ended, Out, Dropped, Unsent}
+use Rattle.sg_outcome.specs.declared.outcomes.Outcome.TheVariants.{Made, Sdp, Ended}
 use Rattle.sg_sdp.specs.Reading.{description_of}
 use Rattle.sg_mux.proofs.Lines.{first_of, rest_of}
-use Rattle.sg_mux.proofs.Marks.{line_from, line_to, port_from, port_to}
+use Rattle.sg_mux.proofs.Marks.{line_from, line_to, mark_of, marked, port_from, port_to}
 use Rattle.sg_mux.specs.Latest.{AcceptsAnswer, AcceptsOffer, ChangesSlot, IsAnswered, IsOffered, SharesPort, Telling, TellsText, is_answer}
 use Rattle.sg_mux.specs.Legs.{muxes, same_side}
 use Rattle.sg_mux.specs.Muxed.{agreed, changed_at, fresh}
@@ -25,18 +25,10 @@ use Rattle.sg_mux.specs.declared.known.Known.{Known}
 -- ---- marks
 
 none_marked : (medium : ℕ) → mark no_marks medium ≡ true → ⊥
-none_marked zero e = absurd cc
-none_marked (suc zero) e = absurd cc
-none_marked (suc (suc zero)) e = absurd cc
-none_marked (suc (suc (suc zero))) e = absurd cc
-none_marked (suc (suc (suc (suc n)))) e = absurd cc
+none_marked medium e = false≢true (marked (λ medium. false) medium e).1
 
 both_marked : (some others : List Bool) (medium : ℕ) → mark (both some others) medium ≡ true → (mark some medium ≡ true) × (mark others medium ≡ true)
-both_marked some others zero e = and_parts _ _ e
-both_marked some others (suc zero) e = and_parts _ _ e
-both_marked some others (suc (suc zero)) e = and_parts _ _ e
-both_marked some others (suc (suc (suc zero))) e = and_parts _ _ e
-both_marked some others (suc (suc (suc (suc n)))) e = absurd cc
+both_marked some others medium e = and_parts _ _ (marked (λ medium. mark some medium && mark others medium) medium e).1
 
 -- ---- what is known of a slot's call after an outcome
 
@@ -243,11 +235,7 @@ module _ (slot medium : ℕ) (side : Side) where
   back known e (Ended id at media why) ts reached = ended_at known e id at media why ts (eqb at slot) refl reached
   back None e (Sdp id s text) ts reached = shares_more _ ts slot medium side reached
   back (Some k) e (Sdp id s text) ts reached = text_here k e id s text ts (same_id k.id id) (is_answer e) refl refl reached
-  back known e (Live id) ts reached = passed known _ ts (λ h. h) (quiet known (Live id) (λ i never. never)) reached
-  back known e (Refused id cause) ts reached = passed known _ ts (λ h. h) (quiet known (Refused id cause) (λ i never. never)) reached
-  back known e (Out port to octets) ts reached = passed known _ ts (λ h. h) (quiet known (Out port to octets) (λ i never. never)) reached
-  back known e (Dropped port cause) ts reached = passed known _ ts (λ h. h) (quiet known (Dropped port cause) (λ i never. never)) reached
-  back known e (Unsent port to) ts reached = passed known _ ts (λ h. h) (quiet known (Unsent port to) (λ i never. never)) reached
+  back known e other ts reached = passed known (record { event = e; outcome = other }) ts (λ h. h) (quiet known other (λ i never. never)) reached
 
   reached_by : (known : Option Known) (ts : List Telling) → muxes (said slot known ts) medium side ≡ true → Reached known ts
   reached_by None [] is = absurd cc
@@ -276,11 +264,7 @@ and_each P Q [] p q = tt
 and_each P Q (x ∷ xs) p q = ((p.0, q.0), and_each P Q xs p.1 q.1)
 
 marked_both : (test : ℕ → Bool) (others : List Bool) (medium : ℕ) → mark (at_places test) medium ≡ true → mark others medium ≡ true → mark (both (at_places test) others) medium ≡ true
-marked_both test others zero e f = rw (e, f) refl
-marked_both test others (suc zero) e f = rw (e, f) refl
-marked_both test others (suc (suc zero)) e f = rw (e, f) refl
-marked_both test others (suc (suc (suc zero))) e f = rw (e, f) refl
-marked_both test others (suc (suc (suc (suc n)))) e f = absurd cc
+marked_both test others medium e f = mark_of (λ medium. mark (at_places test) medium && mark others medium) medium (marked test medium e).0 (rw (e, f) refl)
 
 its_side : (s : Side) → same_side s s ≡ true
 its_side Secure = refl

@@ -1,19 +1,25 @@
--- Which lines a text has that is told with lines of RFC 5761.
-use Rattle.std.proofs.Common.{◌≡◌, inl, inr, ℕ, zero, suc, ◌<◌, Bool, true, false, cond, ltb, List, [], ◌∷◌, ◌++◌, append_assoc, length, Result, Ok, Err, refl, sym, ap, ◌∙◌, subst, arith}
-use Rattle.std.specs.Prelude.{◌&&◌, ◌⊎◌}
-use Rattle.std.specs.List.{All, AllByRecursion, Any, Contains, flat_map, onto_first, slice_split}
+-- Which lines a text has that is told with lines of RFC 5761, and that it spells a description.
+use Rattle.std.proofs.Common.{◌≡◌, inl, inr, ℕ, zero, suc, ◌<◌, Bool, true, false, cond, ltb, List, [], ◌∷◌, ◌++◌, append_assoc, length, Result, Ok, Err, refl, sym, ap, ◌∙◌, subst, arith, ◌⊎◌, Option}
 use Rattle.std.proofs.lemmas.List.Elements.{All-contains_itself, All-from_recursion, Contains-append_left, Contains-append_right, recursion_from_All}
 use Rattle.std.proofs.lemmas.List.Splits.{length-slice_split, slice_split-cons_yes}
-use Rattle.sg_session.proofs.Lists.{each_append, each_flat_map, each_weaker}
-use Rattle.sg_sdp.specs.Descriptions.{IsSdp, IsShort, Spells, all_lines, ended, medium_lines, spelling}
+use Rattle.std.specs.List.{All, AllByRecursion, Any, Contains, flat_map, onto_first, slice_split}
+use Rattle.std.specs.Prelude.{◌&&◌, ◌⊎◌}
+use Rattle.sg_base.specs.declared.addresses.CallId.{CallId}
+use Rattle.sg_base.specs.declared.addresses.Side.{Side}
+use Rattle.sg_gateway.specs.PlainTexts.{ends_line}
+use Rattle.sg_passages.specs.Passages.{AddsMuxLines, mux_line}
+use Rattle.sg_sdp.specs.Descriptions.{IsSdp, IsShort, Spells, all_lines, ended, medium_lines, spelling, IsKept}
 use Rattle.sg_sdp.specs.Faults.{Fault}
+use Rattle.sg_sdp.specs.LineForm.{has_form, is_letter}
 use Rattle.sg_sdp.specs.Parts.{with_line_at, with_media_line}
 use Rattle.sg_sdp.specs.Reading.{description_of, description_within}
 use Rattle.sg_sdp.specs.declared.medium.Medium.{Medium}
 use Rattle.sg_sdp.specs.declared.sdp.Sdp.{Sdp}
-use Rattle.sg_gateway.specs.PlainTexts.{ends_line}
-use Rattle.sg_passages.specs.Passages.{AddsMuxLines, mux_line}
+use Rattle.sg_session.proofs.Lists.{each_append, each_flat_map, each_weaker}
+use Rattle.sg_mux.specs.Lined.{GetLines, GetsLine, IsLined, IsToldWithLines}
+use Rattle.sg_mux.specs.Muxed.{agreed, offered_by}
 use Rattle.sg_mux.specs.Texts.{is_some_marked, mark, spelled_with, with_line_if, with_lines, with_mux_lines}
+use Rattle.sg_mux.specs.declared.known.Known.{Known}
 
 -- ---- a text that is parted where lines end
 
@@ -101,6 +107,22 @@ rest_of P (x ∷ xs) ys each = rest_of P xs ys each.1
 
 -- ---- the lines of a description that gets some
 
+-- what holds with a line more and with none, medium by medium, holds with all that are marked
+module _ (Q : ℕ → Sdp → Type 0) (add : (i : ℕ) (s : Sdp) → Q i s → Q (suc i) (with_media_line i mux_line s)) (stay : (i : ℕ) (s : Sdp) → Q i s → Q (suc i) s) where
+  by_bit : (b : Bool) (i : ℕ) (s : Sdp) → Q i s → Q (suc i) (cond b (with_media_line i mux_line s) s)
+  by_bit true i s is = add i s is
+  by_bit false i s is = stay i s is
+
+  next : (marked : Bool) (i : ℕ) (s : Sdp) → Q i s → Q (suc i) (with_line_if marked i s)
+  next marked i s is = by_bit (marked && ltb i (length s.media)) i s is
+
+  pub with_each : (marks : List Bool) (s : Sdp) → Q 0 s → Q 4 (with_lines marks s)
+  with_each marks s is =
+      let a = with_line_if (mark marks 0) 0 s in
+      let b = with_line_if (mark marks 1) 1 a in
+      let c = with_line_if (mark marks 2) 2 b in
+      next (mark marks 3) 3 c (next (mark marks 2) 2 b (next (mark marks 1) 1 a (next (mark marks 0) 0 s is)))
+
 module _ (P : List ℕ → Type 0) where
   abbrev EachOf : Medium → Type 0
   EachOf m = AllByRecursion P (medium_lines m)
@@ -126,19 +148,9 @@ module _ (P : List ℕ → Type 0) where
   at_medium_before zero (m ∷ ms) each = ((each.0.0, first_of P m.lines (mux_line ∷ []) each.0.1), each.1)
   at_medium_before (suc i) (m ∷ ms) each = (each.0, at_medium_before i ms each.1)
 
-  before_if : (b : Bool) (medium : ℕ) (s : Sdp) → Each (cond b (with_media_line medium mux_line s) s) → Each s
-  before_if true medium s each = (each.0, at_medium_before medium s.media each.1)
-  before_if false medium s each = each
-
-  before_mark : (marked : Bool) (medium : ℕ) (s : Sdp) → Each (with_line_if marked medium s) → Each s
-  before_mark marked medium s each = before_if (marked && ltb medium (length s.media)) medium s each
-
   each_before : (marks : List Bool) (s : Sdp) → AllByRecursion P (all_lines (with_lines marks s)) → AllByRecursion P (all_lines s)
   each_before marks s each =
-      let first = with_line_if (mark marks 0) 0 s in
-      let second = with_line_if (mark marks 1) 1 first in
-      let third = with_line_if (mark marks 2) 2 second in
-      in_lines s (before_mark (mark marks 0) 0 s (before_mark (mark marks 1) 1 first (before_mark (mark marks 2) 2 second (before_mark (mark marks 3) 3 third (by_lines (with_lines marks s) each)))))
+      in_lines s (with_each (λ i t. Each t → Each s) (λ i t before each. before (each.0, at_medium_before i t.media each.1)) (λ i t before. before) marks s (λ each. each) (by_lines (with_lines marks s) each))
 
   module _ (line : P mux_line) where
     at_medium : (i : ℕ) (ms : List Medium) → AllByRecursion EachOf ms → AllByRecursion EachOf (with_line_at i mux_line ms)
@@ -147,23 +159,9 @@ module _ (P : List ℕ → Type 0) where
     at_medium zero (m ∷ ms) each = ((each.0.0, each_append P m.lines (mux_line ∷ []) each.0.1 (line, tt)), each.1)
     at_medium (suc i) (m ∷ ms) each = (each.0, at_medium i ms each.1)
 
-    if_so : (b : Bool) (medium : ℕ) (s : Sdp) → Each s → Each (cond b (with_media_line medium mux_line s) s)
-    if_so true medium s each = (each.0, at_medium medium s.media each.1)
-    if_so false medium s each = each
-
-    if_marked : (marked : Bool) (medium : ℕ) (s : Sdp) → Each s → Each (with_line_if marked medium s)
-    if_marked marked medium s each = if_so (marked && ltb medium (length s.media)) medium s each
-
-    at_each : (marks : List Bool) (s : Sdp) → Each s → Each (with_lines marks s)
-    at_each marks s each =
-        let first = with_line_if (mark marks 0) 0 s in
-        let second = with_line_if (mark marks 1) 1 first in
-        let third = with_line_if (mark marks 2) 2 second in
-        if_marked (mark marks 3) 3 third (if_marked (mark marks 2) 2 second (if_marked (mark marks 1) 1 first (if_marked (mark marks 0) 0 s each)))
-
     each_line : (marks : List Bool) (s : Sdp) → AllByRecursion P (all_lines s) → AllByRecursion P (all_lines (with_lines marks s))
     each_line marks s each =
-        in_lines (with_lines marks s) (at_each marks s (by_lines s each))
+        in_lines (with_lines marks s) (with_each (λ i t. Each t) (λ i t each. (each.0, at_medium i t.media each.1)) (λ i t each. each) marks s (by_lines s each))
 
 -- ---- a text as it is told
 
@@ -174,17 +172,17 @@ module _ (first : List ℕ) where
   as_it_was : (line : List ℕ) → Contains (parts_of first) line → IsTold line
   as_it_was line (k, within, is) = inl (k, line, within, is, refl)
 
-  abbrev IsKept : List ℕ → List ℕ → Type 0
-  IsKept text line = Any (λ l. l ≡ line) (parts_of text)
+  abbrev IsStill : List ℕ → List ℕ → Type 0
+  IsStill text line = Any (λ l. l ≡ line) (parts_of text)
 
-  kept_in : (text line : List ℕ) → Contains (parts_of text) line → IsKept text line
+  kept_in : (text line : List ℕ) → Contains (parts_of text) line → IsStill text line
   kept_in text line (k, within, is) = (k, line, within, is, refl)
 
   pub same_lines : AddsMuxLines first first
   same_lines =
       let own = recursion_from_All (Contains (parts_of first)) (parts_of first) (All-contains_itself (parts_of first)) in record {
         added = All-from_recursion IsTold (parts_of first) (each_weaker (Contains (parts_of first)) IsTold as_it_was (parts_of first) own);
-        kept = All-from_recursion (IsKept first) (parts_of first) (each_weaker (Contains (parts_of first)) (IsKept first) (kept_in first) (parts_of first) own);
+        kept = All-from_recursion (IsStill first) (parts_of first) (each_weaker (Contains (parts_of first)) (IsStill first) (kept_in first) (parts_of first) own);
       }
 
   more_lines : (marks : List Bool) (s : Sdp) → Spells (all_lines s) first → AddsMuxLines first (spelled_with first marks (Ok s))
@@ -198,15 +196,15 @@ module _ (first : List ℕ) where
           (each_line (λ l. AllByRecursion IsTold (parts_of l)) (inr refl, tt) marks s
           (each_weaker (IsIn first) (λ l. AllByRecursion IsTold (parts_of l)) (λ l is. each_weaker (Contains (parts_of first)) IsTold as_it_was (parts_of l) is) (all_lines s) were.0)))
 
-      in_told : (l : List ℕ) → IsIn (spelling (with_lines marks s)) l → AllByRecursion (IsKept (spelling (with_lines marks s))) (parts_of l)
-      in_told l is = each_weaker (Contains (parts_of (spelling (with_lines marks s)))) (IsKept (spelling (with_lines marks s))) (kept_in (spelling (with_lines marks s))) (parts_of l) is
+      in_told : (l : List ℕ) → IsIn (spelling (with_lines marks s)) l → AllByRecursion (IsStill (spelling (with_lines marks s))) (parts_of l)
+      in_told l is = each_weaker (Contains (parts_of (spelling (with_lines marks s)))) (IsStill (spelling (with_lines marks s))) (kept_in (spelling (with_lines marks s))) (parts_of l) is
 
-      are_kept : All (IsKept (spelling (with_lines marks s))) (parts_of first)
+      are_kept : All (IsStill (spelling (with_lines marks s))) (parts_of first)
       are_kept =
           let now = all_in (all_lines (with_lines marks s)) (spelling (with_lines marks s)) (spells (all_lines (with_lines marks s))) in
-          All-from_recursion (IsKept (spelling (with_lines marks s))) (parts_of first)
-          (spelt (IsKept (spelling (with_lines marks s))) (kept_in (spelling (with_lines marks s)) [] now.1) (all_lines s) first is
-          (each_weaker (IsIn (spelling (with_lines marks s))) (λ l. AllByRecursion (IsKept (spelling (with_lines marks s))) (parts_of l)) in_told (all_lines s)
+          All-from_recursion (IsStill (spelling (with_lines marks s))) (parts_of first)
+          (spelt (IsStill (spelling (with_lines marks s))) (kept_in (spelling (with_lines marks s)) [] now.1) (all_lines s) first is
+          (each_weaker (IsIn (spelling (with_lines marks s))) (λ l. AllByRecursion (IsStill (spelling (with_lines marks s))) (parts_of l)) in_told (all_lines s)
           (each_before (IsIn (spelling (with_lines marks s))) marks s now.0)))
 
 -- what a description that is read spells, by the law of sg_sdp
@@ -228,3 +226,65 @@ adds_lines spelled text marks = go (is_some_marked marks) (description_of text) 
     go false r is = same_lines text
     go true (Err fault) is = same_lines text
     go true (Ok s) is = more_lines text marks s (spelled 2048 text s (within text s is)).1
+
+-- ---- the text of an answer, as it is told, spells a description
+
+-- ---- media
+
+-- of the first so many each is as it was or has the line last, and the others are as they were
+abbrev FirstGet : ℕ → List Medium → List Medium → Type 0
+FirstGet zero ms ns = ns ≡ ms
+FirstGet (suc i) [] ns = ns ≡ []
+FirstGet (suc i) (m ∷ ms) ns = (n : Medium) × (others : List Medium) × (ns ≡ n ∷ others) × GetsLine m n × FirstGet i ms others
+
+one_more : (i : ℕ) (ms ns : List Medium) → FirstGet i ms ns → FirstGet (suc i) ms (with_line_at i mux_line ns)
+unfolding with_line_at
+one_more zero [] ns is = ap (with_line_at zero mux_line) is
+one_more zero (m ∷ ms) ns is = (record m { lines = m.lines ++ mux_line ∷ [] }, ms, ap (with_line_at zero mux_line) is, inr refl, refl)
+one_more (suc i) [] ns is = ap (with_line_at (suc i) mux_line) is
+one_more (suc i) (m ∷ ms) ns (n, others, is, gets, later) = (n, with_line_at i mux_line others, ap (with_line_at (suc i) mux_line) is, gets, one_more i ms others later)
+
+none_more : (i : ℕ) (ms ns : List Medium) → FirstGet i ms ns → FirstGet (suc i) ms ns
+none_more zero [] ns is = is
+none_more zero (m ∷ ms) ns is = (m, ms, is, inl refl, refl)
+none_more (suc i) [] ns is = is
+none_more (suc i) (m ∷ ms) ns (n, others, is, gets, later) = (n, others, is, gets, none_more i ms others later)
+
+all_get : (i : ℕ) (ms ns : List Medium) → FirstGet i ms ns → GetLines ms ns
+all_get zero [] ns is = is
+all_get zero (m ∷ ms) ns is = (m, ms, is, inl refl, all_get zero ms ms refl)
+all_get (suc i) [] ns is = is
+all_get (suc i) (m ∷ ms) ns (n, others, is, gets, later) = (n, others, is, gets, all_get i ms others later)
+
+-- ---- a description
+
+abbrev StaysOne : Type 0
+StaysOne = (s : Sdp) (medium : ℕ) (line : List ℕ) → IsSdp s → IsKept line → is_letter 99 line ≡ false → IsSdp (with_media_line medium line s)
+
+kept : IsKept mux_line
+unfolding has_form
+kept = record { form = refl; no_medium = refl; address = λ is. cc }
+
+module _ (stays : StaysOne) (first : Sdp) where
+  -- so far the description is one, with the same session part, and its first media have the line or have it not
+  pub record IsSoFar (i : ℕ) (s : Sdp) : Type 0 where
+    pub one : IsSdp s
+    pub session : s.session ≡ first.session
+    pub media : FirstGet i first.media s.media
+
+  with_all : (marks : List Bool) → IsSdp first → IsSoFar 4 (with_lines marks first)
+  with_all marks one = with_each IsSoFar
+      (λ i s is. record { one = stays s i mux_line is.one kept refl; session = is.session; media = one_more i first.media s.media is.media })
+      (λ i s is. record { one = is.one; session = is.session; media = none_more i first.media s.media is.media })
+      marks first (record { one = one; session = refl; media = refl })
+
+-- ---- the text
+
+pub told_with_lines : ReadIsSpelled → StaysOne → (calls : List (Option Known)) (id : CallId) (side : Side) (text : List ℕ) → IsToldWithLines calls id side text
+told_with_lines spelled stays calls id side text = (with_mux_lines text (agreed text (offered_by id calls)), refl, go (agreed text (offered_by id calls)) (is_some_marked (agreed text (offered_by id calls))) (description_of text) refl)
+  where
+    go : (marks : List Bool) (b : Bool) (r : Result Sdp Fault) → description_of text ≡ r → (cond b (spelled_with text marks r) text ≡ text) ⊎ IsLined text (cond b (spelled_with text marks r) text)
+    go marks false r is = inl refl
+    go marks true (Err fault) is = inl refl
+    go marks true (Ok s) is = (let lined = with_all stays s marks (spelled 2048 text s (within text s is)).0 in
+        inr (record { first = s; second = with_lines marks s; was = is; is_one = lined.one; spells = spells (all_lines (with_lines marks s)); session = lined.session; media = all_get 4 s.media (with_lines marks s).media lined.media }))

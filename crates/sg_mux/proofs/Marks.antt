@@ -13,7 +13,7 @@ use Rattle.sg_sdp.specs.declared.medium.Medium.{Medium}
 use Rattle.sg_sdp.specs.declared.sdp.Sdp.{Sdp}
 use Rattle.sg_passages.specs.Passages.{mux_line}
 use Rattle.sg_mux.specs.Shares.{HasMuxLine, HasPort, IsMediumOf}
-use Rattle.sg_mux.specs.Texts.{answers_port, has_media_port, has_mux_line, is_such, mark, marks_by, media_read, offers_mux}
+use Rattle.sg_mux.specs.Texts.{answers_port, at_places, has_media_port, has_mux_line, is_such, mark, marks_by, media_read, offers_mux}
 
 -- ---- a medium of a list
 
@@ -36,29 +36,31 @@ of_place (x ∷ before) after m = of_place before after m
 
 -- ---- marks
 
+-- what is marked of the four places
+module _ (test : ℕ → Bool) where
+  pub marked : (medium : ℕ) → mark (at_places test) medium ≡ true → (medium < 4) × (test medium ≡ true)
+  marked zero is = (omega arith, is)
+  marked (suc zero) is = (omega arith, is)
+  marked (suc (suc zero)) is = (omega arith, is)
+  marked (suc (suc (suc zero))) is = (omega arith, is)
+  marked (suc (suc (suc (suc n)))) is = absurd cc
+
+  pub mark_of : (medium : ℕ) → medium < 4 → test medium ≡ true → mark (at_places test) medium ≡ true
+  mark_of zero few is = is
+  mark_of (suc zero) few is = is
+  mark_of (suc (suc zero)) few is = is
+  mark_of (suc (suc (suc zero))) few is = is
+  mark_of (suc (suc (suc (suc n)))) few is = absurd (omega (arith, few))
+
 module _ (test : Medium → Bool) where
   such : (o : Option Medium) → is_such test o ≡ true → (m : Medium) × (o ≡ Some m) × (test m ≡ true)
   such None is = absurd cc
   such (Some m) is = (m, refl, is)
 
-  marked : (ms : List Medium) (medium : ℕ) → mark (marks_by test ms) medium ≡ true → (medium < 4) × (is_such test (slice_get ms medium) ≡ true)
-  marked ms zero is = (omega arith, is)
-  marked ms (suc zero) is = (omega arith, is)
-  marked ms (suc (suc zero)) is = (omega arith, is)
-  marked ms (suc (suc (suc zero))) is = (omega arith, is)
-  marked ms (suc (suc (suc (suc n)))) is = absurd cc
-
-  mark_of : (ms : List Medium) (medium : ℕ) → medium < 4 → is_such test (slice_get ms medium) ≡ true → mark (marks_by test ms) medium ≡ true
-  mark_of ms zero few is = is
-  mark_of ms (suc zero) few is = is
-  mark_of ms (suc (suc zero)) few is = is
-  mark_of ms (suc (suc (suc zero))) few is = is
-  mark_of ms (suc (suc (suc (suc n)))) few is = absurd (omega (arith, few))
-
   of_description : (text : List ℕ) (medium : ℕ) (r : Result Sdp Fault) → description_of text ≡ r → mark (marks_by test (media_read r)) medium ≡ true → (m : Medium) × IsMediumOf text medium m × (test m ≡ true)
-  of_description text medium (Err fault) read is = (let none = (marked [] medium is).1 in absurd cc)
+  of_description text medium (Err fault) read is = (let none = (marked (λ n. is_such test (slice_get [] n)) medium is).1 in absurd cc)
   of_description text medium (Ok s) read is =
-      let there = marked s.media medium is in
+      let there = marked (λ n. is_such test (slice_get s.media n)) medium is in
       let one = such (slice_get s.media medium) there.1 in
       let place = at_place s.media medium one.0 one.1 in
       (one.0, record { description = s; is_one = read; before = place.before; after = place.after; media_are = place.are; number = place.number; few = there.0 }, one.2)
@@ -66,7 +68,7 @@ module _ (test : Medium → Bool) where
   to_mark : (text : List ℕ) (medium : ℕ) (m : Medium) → IsMediumOf text medium m → test m ≡ true → mark (marks_by test (media_read (description_of text))) medium ≡ true
   to_mark text medium m is such =
       ap (λ (r : Result Sdp Fault). mark (marks_by test (media_read r)) medium) is.is_one
-      ∙ mark_of is.description.media medium is.few
+      ∙ mark_of (λ n. is_such test (slice_get is.description.media n)) medium is.few
       (ap (λ (l : List Medium). is_such test (slice_get l medium)) is.media_are
       ∙ ap (λ (n : ℕ). is_such test (slice_get (is.before ++ m ∷ is.after) n)) (sym is.number)
       ∙ ap (is_such test) (of_place is.before is.after m) ∙ such)

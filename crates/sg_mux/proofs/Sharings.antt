@@ -19,17 +19,19 @@ use Rattle.sg_mux.specs.declared.known.Known.{Known}
 -- ---- the plan of ports
 
 module _ (slot medium place : ℕ) (slots : slot < 256) (media : medium < 4) (places : place < 2) where
-  slot_secure : slot_of (20000 + 16 * slot + 4 * medium + place) ≡ slot
-  slot_secure = omega (arith, slots, media, places)
+  -- a port of the medium, by its leg and its place in it
+  module _ (leg port : ℕ) (is : port ≡ 20000 + 16 * slot + 4 * medium + leg) (four : leg < 4) where
+    slot_is : slot_of port ≡ slot
+    slot_is = omega (arith, is, media, four)
 
-  slot_plain : slot_of (20000 + 16 * slot + 4 * medium + 2 + place) ≡ slot
-  slot_plain = omega (arith, slots, media, places)
+    medium_is : medium_of port ≡ medium
+    medium_is = omega (arith, is, media, four)
 
-  medium_secure : medium_of (20000 + 16 * slot + 4 * medium + place) ≡ medium
-  medium_secure = omega (arith, slots, media, places)
+    port_is : is_port port ≡ true
+    port_is = and_from (leb 20000 port) (ltb port 24096) (le-leb 20000 port (omega (arith, is))) (lt-ltb port 24096 (omega (arith, is, slots, media, four)))
 
-  medium_plain : medium_of (20000 + 16 * slot + 4 * medium + 2 + place) ≡ medium
-  medium_plain = omega (arith, slots, media, places)
+    at : (calls : List (Option Known)) (side : Side) → side_of_port port ≡ side → is_muxed_at calls port ≡ is_muxed calls slot medium side
+    at calls side of = λ i. (port_is i && is_muxed calls (slot_is i) (medium_is i) (of i))
 
   side_secure : side_of_port (20000 + 16 * slot + 4 * medium + place) ≡ Secure
   side_secure = cond-true (ltb ((20000 + 16 * slot + 4 * medium + place - 20000) % 4) 2) _ _ (lt-ltb ((20000 + 16 * slot + 4 * medium + place - 20000) % 4) 2 (omega (arith, places)))
@@ -37,20 +39,10 @@ module _ (slot medium place : ℕ) (slots : slot < 256) (media : medium < 4) (pl
   side_plain : side_of_port (20000 + 16 * slot + 4 * medium + 2 + place) ≡ Plain
   side_plain = cond-false (ltb ((20000 + 16 * slot + 4 * medium + 2 + place - 20000) % 4) 2) _ _ (le-ltb ((20000 + 16 * slot + 4 * medium + 2 + place - 20000) % 4) 2 (omega (arith, places)))
 
-  port_secure : is_port (20000 + 16 * slot + 4 * medium + place) ≡ true
-  port_secure =
-      and_from (leb 20000 (20000 + 16 * slot + 4 * medium + place)) (ltb (20000 + 16 * slot + 4 * medium + place) 24096)
-      (le-leb 20000 (20000 + 16 * slot + 4 * medium + place) (omega arith)) (lt-ltb (20000 + 16 * slot + 4 * medium + place) 24096 (omega (arith, slots, media, places)))
-
-  port_plain : is_port (20000 + 16 * slot + 4 * medium + 2 + place) ≡ true
-  port_plain =
-      and_from (leb 20000 (20000 + 16 * slot + 4 * medium + 2 + place)) (ltb (20000 + 16 * slot + 4 * medium + 2 + place) 24096)
-      (le-leb 20000 (20000 + 16 * slot + 4 * medium + 2 + place) (omega arith)) (lt-ltb (20000 + 16 * slot + 4 * medium + 2 + place) 24096 (omega (arith, slots, media, places)))
-
   -- the leg of a port by its plan
   at_leg : (calls : List (Option Known)) (side : Side) → is_muxed_at calls (rtp_port_of slot medium side + place) ≡ is_muxed calls slot medium side
-  at_leg calls Secure = λ i. (port_secure i && is_muxed calls (slot_secure i) (medium_secure i) (side_secure i))
-  at_leg calls Plain = λ i. (port_plain i && is_muxed calls (slot_plain i) (medium_plain i) (side_plain i))
+  at_leg calls Secure = at place (20000 + 16 * slot + 4 * medium + place) refl (omega (arith, places)) calls Secure side_secure
+  at_leg calls Plain = at (2 + place) (20000 + 16 * slot + 4 * medium + 2 + place) (omega arith) (omega (arith, places)) calls Plain side_plain
 
   -- its place is that in the leg
   place_of : (side : Side) → (rtp_port_of slot medium side + place - 20000) % 2 ≡ place

@@ -1,12 +1,12 @@
 -- Each frame of octets is of one of the kinds.
-use Rattle.std.proofs.Common.{◌≡◌, ◌⊎◌, ◌+◌, ◌-◌, ◌*◌, ◌≤◌, ◌<◌, ◌^◌, ℕ, zero, suc, List, [], ◌∷◌, ◌++◌, length, take, drop, slice_index, refl, sym, ap, ◌∙◌, subst, inl, inr, arith, append_assoc, length-drop, length-take}
+use Rattle.std.proofs.Common.{◌≡◌, ◌+◌, ◌-◌, ◌*◌, ◌≤◌, ◌<◌, ◌^◌, ℕ, zero, suc, List, [], ◌∷◌, ◌++◌, length, take, drop, slice_index, refl, ap, ◌∙◌, subst, inl, inr, arith, append_assoc, length-drop, length-take}
 use Rattle.std.specs.Prelude.{◌/◌, ◌%◌}
 use Rattle.std.specs.List.{AllByRecursion}
 use Rattle.std.proofs.lemmas.Bool.{cases_eq, cases_lt}
 use Rattle.std.proofs.lemmas.List.{take-append-drop}
 use Rattle.sg_pcap.specs.Frames.{Framed, Passed, Skip, Datagram}
 use Rattle.sg_pcap.specs.Kinds.{Behind, Carried, Cut, CutHeader, Headless, IsCarried, IsFrame, IsPacket, IsSound, IsWhole, NoHeader, OfMore, OfPacket, OtherProtocol, OtherType, OtherVersion, ShortHeader, ShortPacket, TooLong, TooShort, Whole}
-use Rattle.sg_pcap.specs.Written.{Ethernet, FitsEthernet, FitsIpv4, FitsUdp, Ipv4, Udp, ethernet_written, ipv4_written, two, udp_written}
+use Rattle.sg_pcap.specs.Written.{Ethernet, FitsEthernet, FitsIpv4, FitsUdp, Ipv4, Udp, ethernet_written, ipv4_written, udp_written}
 use Rattle.sg_pcap.specs.declared.skips.SkipCause.TheVariants.{Fragment, CutShort, Malformed}
 
 abbrev pub AreOctets : List ℕ → Type 0
@@ -170,13 +170,11 @@ ipv4_in xs = record {
 
 ipv4_fits : (xs : List ℕ) → AreOctets xs → 20 ≤ length xs → FitsIpv4 (ipv4_in xs)
 ipv4_fits xs all long =
-    let a = small_at xs 0 all (omega (arith, long)) in
-    let f = at16_small xs 6 all (omega (arith, long)) in
     record {
-      version = omega (arith, a);
+      version = omega (arith, small_at xs 0 all (omega (arith, long)));
       words = omega arith;
       total = at16_small xs 2 all (omega (arith, long));
-      reserved = omega (arith, f);
+      reserved = omega (arith, at16_small xs 6 all (omega (arith, long)));
       dont_fragment = omega arith;
       more_fragments = omega arith;
       offset = omega arith;

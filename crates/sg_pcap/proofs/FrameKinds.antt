@@ -1,11 +1,11 @@
 -- Frames as they are written are read as what they are.
-use Rattle.std.proofs.Common.{◌≡◌, ◌⊎◌, ◌+◌, ◌-◌, ◌*◌, ◌≤◌, ◌<◌, ◌^◌, ℕ, zero, suc, Bool, true, false, cond, not, eqb, ltb, List, [], ◌∷◌, ◌++◌, length, take, drop, slice_index, refl, sym, ap, ◌∙◌, subst, inl, inr, arith, length-append, append_assoc, get_or-append-add, length-drop}
+use Rattle.std.proofs.Common.{◌≡◌, ◌+◌, ◌-◌, ◌*◌, ◌<◌, ℕ, Bool, true, false, cond, not, eqb, ltb, List, [], ◌∷◌, ◌++◌, length, take, drop, slice_index, refl, sym, ap, ◌∙◌, subst, arith, length-append, append_assoc, get_or-append-add}
 use Rattle.std.specs.Prelude.{◌/◌, ◌%◌, ◌||◌}
+use Rattle.std.proofs.Math.Bool.{or-true}
 use Rattle.std.proofs.Math.Seq.{take-append_seam, drop-append-add}
 use Rattle.std.proofs.lemmas.Bool.{cond-true, cond-false, eq-eqb, le-ltb, lt-ltb, ne_eqb}
-use Rattle.sg_base.specs.declared.addresses.Address.{Address}
 use Rattle.sg_pcap.specs.Fields.{u16_by_order}
-use Rattle.sg_pcap.specs.Frames.{Framed, Passed, Skip, Datagram, datagram_in, frame_of, header_length_of, ip_version_of, is_fragment, is_ipv4, is_udp, packet_in, sender_of, total_length_of}
+use Rattle.sg_pcap.specs.Frames.{Framed, Passed, Skip, Datagram, datagram_in, frame_of, header_length_of, ip_version_of, is_fragment, is_ipv4, total_length_of}
 use Rattle.sg_pcap.specs.Kinds.{Behind, Carried, Cut, CutHeader, Headless, IsCarried, IsFrame, IsPacket, IsSound, IsWhole, NoHeader, OfMore, OfPacket, OtherProtocol, OtherType, OtherVersion, ShortHeader, ShortPacket, TooLong, TooShort, Whole}
 use Rattle.sg_pcap.specs.Written.{Ethernet, FitsEthernet, FitsIpv4, FitsUdp, Ipv4, Udp, ethernet_written, ipv4_written, two, udp_written}
 use Rattle.sg_pcap.specs.declared.skips.SkipCause.TheVariants.{Fragment, CutShort, Malformed}
@@ -39,26 +39,8 @@ module _ (front padding source : List ℕ) where
       → slice_index frame 26 ∷ (slice_index frame 27 ∷ (slice_index frame 28 ∷ (slice_index frame 29 ∷ []))) ≡ source
       → datagram_in (length front) (length payload) frame ≡ m
 
-  headless : (payload : List ℕ) → length payload < 8 → Read payload (Skip Malformed)
-  headless payload less frame is from = cond-true (ltb (length payload) 8) _ _ (lt-ltb (length payload) 8 less)
-
   size_at : (u : Udp) (rest frame : List ℕ) → FitsUdp u → frame ≡ front ++ ((udp_written u ++ rest) ++ padding) → u16_by_order true frame (length front + 4) ≡ u.length
   size_at u rest frame fits is = ap (λ (f : List ℕ). u16_by_order true f (length front + 4)) is ∙ length_at u (rest ++ padding) fits
-
-  too_short : (u : Udp) (rest : List ℕ) → FitsUdp u → u.length < 8 → Read (udp_written u ++ rest) (Skip Malformed)
-  too_short u rest fits less frame is from =
-      let n = udp_size u rest in
-      cond-false (ltb (length (udp_written u ++ rest)) 8) _ _ (le-ltb (length (udp_written u ++ rest)) 8 (omega (arith, n)))
-      ∙ cond-true (ltb (u16_by_order true frame (length front + 4)) 8) _ _ (ap (λ (n : ℕ). ltb n 8) (size_at u rest frame fits is) ∙ lt-ltb u.length 8 less)
-
-  too_long : (u : Udp) (rest : List ℕ) → FitsUdp u → 8 + length rest < u.length → Read (udp_written u ++ rest) (Skip Malformed)
-  too_long u rest fits more frame is from =
-      let n = udp_size u rest in
-      let size = size_at u rest frame fits is in
-      cond-false (ltb (length (udp_written u ++ rest)) 8) _ _ (le-ltb (length (udp_written u ++ rest)) 8 (omega (arith, n)))
-      ∙ cond-false (ltb (u16_by_order true frame (length front + 4)) 8) _ _ (ap (λ (n : ℕ). ltb n 8) size ∙ le-ltb u.length 8 (omega (arith, more)))
-      ∙ cond-true (ltb (length (udp_written u ++ rest)) (u16_by_order true frame (length front + 4))) _ _
-      (ap (λ (k : ℕ). ltb (length (udp_written u ++ rest)) k) size ∙ lt-ltb (length (udp_written u ++ rest)) u.length (omega (arith, n, more)))
 
   held_at : (u : Udp) (held rest : List ℕ) → take (8 + length held - 8) (drop (length front + 8) (front ++ (udp_written u ++ (held ++ rest)))) ≡ held
   held_at u held rest =
@@ -90,10 +72,19 @@ module _ (front padding source : List ℕ) where
       ∙ (λ i. Datagram (to i) (record { ip = from i; port = port i }) (octets i))
 
   carried_read : (payload : List ℕ) (m : Framed) → IsCarried source payload m → Read payload m
-  carried_read payload m (Headless octets less) = headless octets less
-  carried_read payload m (TooShort u rest fits less) = too_short u rest fits less
-  carried_read payload m (TooLong u rest fits more) = too_long u rest fits more
-  carried_read payload m (Carried u held behind fits sized) = carried u held behind fits sized
+  carried_read payload m (Headless octets less) frame is from = rw (lt-ltb (length payload) 8 less) refl
+  carried_read payload m (TooShort u rest fits less) frame is from =
+      let n = udp_size u rest in
+      rw (le-ltb (length (udp_written u ++ rest)) 8 (omega (arith, n)), size_at u rest frame fits is, lt-ltb u.length 8 less) refl
+  carried_read payload m (TooLong u rest fits more) frame is from =
+      let n = udp_size u rest in
+      rw (
+        le-ltb (length (udp_written u ++ rest)) 8 (omega (arith, n)),
+        size_at u rest frame fits is,
+        le-ltb u.length 8 (omega (arith, more)),
+        lt-ltb (length (udp_written u ++ rest)) u.length (omega (arith, n, more)),
+      ) refl
+  carried_read payload m (Carried u held behind fits sized) frame is from = carried u held behind fits sized frame is from
 
 -- ---- a packet
 
@@ -115,19 +106,14 @@ judged version header total protocol part size m =
 
 ethernet_size : (e : Ethernet) → FitsEthernet e → length (ethernet_written e) ≡ 14
 ethernet_size e fits =
-    let a = length-append (e.destination ++ e.source) (two true e.type) in
-    let b = length-append e.destination e.source in
-    let c = fits.destination in
-    let d = fits.source in
-    omega (arith, a, b, c, d)
+    omega (arith, length-append (e.destination ++ e.source) (two true e.type), length-append e.destination e.source, fits.destination, fits.source)
 
 type_read : (e : Ethernet) (rest : List ℕ) → FitsEthernet e → u16_by_order true (ethernet_written e ++ rest) 12 ≡ e.type
 type_read e rest fits =
     let seam : ethernet_written e ++ rest ≡ (e.destination ++ e.source) ++ (two true e.type ++ rest) = append_assoc (e.destination ++ e.source) (two true e.type) rest in
     let size : length (e.destination ++ e.source) ≡ 12 = (let a = length-append e.destination e.source in let b = fits.destination in let c = fits.source in omega (arith, a, b, c)) in
-    let small = fits.type in
     ap (λ (f : List ℕ). u16_by_order true f 12) seam ∙ u16_behind (e.destination ++ e.source) (two true e.type ++ rest) 12 0 size
-    ∙ (let same : e.type / 256 * 256 + e.type % 256 ≡ e.type = omega (arith, small) in same)
+    ∙ (let same : e.type / 256 * 256 + e.type % 256 ≡ e.type = omega (arith, fits.type) in same)
 
 module _ (e : Ethernet) (h : Ipv4) (rest : List ℕ) (ethernet_fits : FitsEthernet e) (fits : FitsIpv4 h) where
   abbrev frame : List ℕ
@@ -141,28 +127,23 @@ module _ (e : Ethernet) (h : Ipv4) (rest : List ℕ) (ethernet_fits : FitsEthern
 
   version_is : ip_version_of frame ≡ h.version
   version_is =
-      let a = fits.version in
-      let b = fits.words in
       ap (λ (n : ℕ). n / 16) (at_behind (ethernet_written e) (ipv4_written h ++ rest) 14 0 (ethernet_size e ethernet_fits))
-      ∙ (let same : (h.version * 16 + h.words) / 16 ≡ h.version = omega (arith, a, b) in same)
+      ∙ (let same : (h.version * 16 + h.words) / 16 ≡ h.version = omega (arith, fits.version, fits.words) in same)
 
   header_is : header_length_of frame ≡ h.words * 4
   header_is =
-      let b = fits.words in
       ap (λ (n : ℕ). n % 16 * 4) (at_behind (ethernet_written e) (ipv4_written h ++ rest) 14 0 (ethernet_size e ethernet_fits))
-      ∙ (let same : (h.version * 16 + h.words) % 16 * 4 ≡ h.words * 4 = omega (arith, b) in same)
+      ∙ (let same : (h.version * 16 + h.words) % 16 * 4 ≡ h.words * 4 = omega (arith, fits.words) in same)
 
   total_is : total_length_of frame ≡ h.total
   total_is =
-      let a = fits.total in
       u16_behind (ethernet_written e) (ipv4_written h ++ rest) 14 2 (ethernet_size e ethernet_fits)
-      ∙ (let same : h.total / 256 * 256 + h.total % 256 ≡ h.total = omega (arith, a) in same)
+      ∙ (let same : h.total / 256 * 256 + h.total % 256 ≡ h.total = omega (arith, fits.total) in same)
 
   flags_are : u16_by_order true frame 20 ≡ flags
   flags_are =
-      let a = flags_small in
       u16_behind (ethernet_written e) (ipv4_written h ++ rest) 14 6 (ethernet_size e ethernet_fits)
-      ∙ (let same : flags / 256 * 256 + flags % 256 ≡ flags = omega (arith, a) in same)
+      ∙ (let same : flags / 256 * 256 + flags % 256 ≡ flags = omega (arith, flags_small) in same)
 
   more_is : flags / 8192 % 2 ≡ h.more_fragments
   more_is = let c = fits.more_fragments in let d = fits.offset in omega (arith, c, d)
@@ -181,11 +162,8 @@ module _ (e : Ethernet) (h : Ipv4) (rest : List ℕ) (ethernet_fits : FitsEthern
 
   frame_size : length frame ≡ 34 + length rest
   frame_size =
-      let a = length-append (ethernet_written e) (ipv4_written h ++ rest) in
-      let b = length-append (ipv4_written h) rest in
       let c = ethernet_size e ethernet_fits in
-      let d = ipv4_size in
-      omega (arith, a, b, c, d)
+      omega (arith, length-append (ethernet_written e) (ipv4_written h ++ rest), length-append (ipv4_written h) rest, c, ipv4_size)
 
   from_is : slice_index frame 26 ∷ (slice_index frame 27 ∷ (slice_index frame 28 ∷ (slice_index frame 29 ∷ []))) ≡ h.source
   from_is =
@@ -206,54 +184,8 @@ module _ (e : Ethernet) (h : Ipv4) (rest : List ℕ) (ethernet_fits : FitsEthern
       ∙ cond-false (ltb (length frame) 34) _ _ (le-ltb (length frame) 34 (let n = frame_size in omega (arith, n)))
       ∙ (λ i. judged (version_is i) (header_is i) (total_is i) (protocol_is i) (part_is i) (frame_size i) (datagram_in (14 + header_is i) (total_is i - header_is i) frame))
 
-  version_passed : h.version ≡ 4 → not (eqb h.version 4) ≡ false
-  version_passed is = ap not (eq-eqb _ _ is)
-
-  module _ (d : Framed) (part : Bool) (size : ℕ) where
-    abbrev j : Framed
-    j = judged h.version (h.words * 4) h.total h.protocol part size d
-
-    other_version : ¬ (h.version ≡ 4) → j ≡ Skip Malformed
-    other_version isnt = cond-true (not (eqb h.version 4)) _ _ (ap not (ne_eqb h.version 4 isnt))
-
-    short_header : h.version ≡ 4 → h.words < 5 → j ≡ Skip Malformed
-    short_header is less = cond-false (not (eqb h.version 4)) _ _ (version_passed is) ∙ cond-true (ltb (h.words * 4) 20) _ _ (lt-ltb (h.words * 4) 20 (omega (arith, less)))
-
-    short_packet : h.version ≡ 4 → 5 ≤ h.words → h.total < h.words * 4 → j ≡ Skip Malformed
-    short_packet is five less =
-        cond-false (not (eqb h.version 4)) _ _ (version_passed is) ∙ cond-false (ltb (h.words * 4) 20) _ _ (le-ltb (h.words * 4) 20 (omega (arith, five)))
-        ∙ cond-true (ltb h.total (h.words * 4)) _ _ (lt-ltb h.total (h.words * 4) less)
-
-    sound : IsSound h → j ≡ cond (not (eqb h.protocol 17)) Passed (cond part (Skip Fragment) (cond (ltb size (14 + h.total)) (Skip CutShort) d))
-    sound s =
-        let five = s.words in
-        cond-false (not (eqb h.version 4)) _ _ (version_passed s.version) ∙ cond-false (ltb (h.words * 4) 20) _ _ (le-ltb (h.words * 4) 20 (omega (arith, five)))
-        ∙ cond-false (ltb h.total (h.words * 4)) _ _ (le-ltb h.total (h.words * 4) s.inside)
-
-    other_protocol : IsSound h → ¬ (h.protocol ≡ 17) → j ≡ Passed
-    other_protocol s isnt = sound s ∙ cond-true (not (eqb h.protocol 17)) _ _ (ap not (ne_eqb h.protocol 17 isnt))
-
-    of_udp : IsSound h → h.protocol ≡ 17 → j ≡ cond part (Skip Fragment) (cond (ltb size (14 + h.total)) (Skip CutShort) d)
-    of_udp s is = sound s ∙ cond-false (not (eqb h.protocol 17)) _ _ (ap not (eq-eqb _ _ is))
-
   abbrev part : Bool
   part = eqb h.more_fragments 1 || not (eqb h.offset 0)
-
-  part_more : h.more_fragments ≡ 1 → part ≡ true
-  part_more is = ap (λ (b : Bool). b || not (eqb h.offset 0)) (eq-eqb _ _ is)
-
-  part_behind : ¬ (h.offset ≡ 0) → part ≡ true
-  part_behind isnt = ap (λ (b : Bool). eqb h.more_fragments 1 || not b) (ne_eqb h.offset 0 isnt) ∙ or_true (eqb h.more_fragments 1)
-    where
-      or_true : (b : Bool) → (b || true) ≡ true
-      or_true true = refl
-      or_true false = refl
-
-  part_none : IsWhole h → part ≡ false
-  part_none w = λ i. (none i || not (eq-eqb h.offset 0 w.first i))
-    where
-      none : eqb h.more_fragments 1 ≡ false
-      none = ap (λ (n : ℕ). eqb n 1) w.last
 
 module _ (e : Ethernet) (h : Ipv4) (ethernet_fits : FitsEthernet e) (type : e.type ≡ 2048) (fits : FitsIpv4 h) where
   abbrev within : List ℕ → Framed
@@ -262,44 +194,49 @@ module _ (e : Ethernet) (h : Ipv4) (ethernet_fits : FitsEthernet e) (type : e.ty
   abbrev is_read : (rest : List ℕ) → frame_of (frame e h rest ethernet_fits fits) ≡ judged h.version (h.words * 4) h.total h.protocol (part e h rest ethernet_fits fits) (34 + length rest) (within rest)
   is_read rest = read_is e h rest ethernet_fits fits type
 
+  is_sound : (rest : List ℕ) → IsSound h → frame_of (frame e h rest ethernet_fits fits)
+      ≡ cond (not (eqb h.protocol 17)) Passed (cond (part e h rest ethernet_fits fits) (Skip Fragment) (cond (ltb (34 + length rest) (14 + h.total)) (Skip CutShort) (within rest)))
+  is_sound rest s =
+      is_read rest ∙ rw (eq-eqb h.version 4 s.version, le-ltb (h.words * 4) 20 (omega (arith, s.words)), le-ltb h.total (h.words * 4) s.inside) refl
+
+  not_more : IsWhole h → eqb h.more_fragments 1 ≡ false
+  not_more w = ap (λ (n : ℕ). eqb n 1) w.last
+
   pub whole : (options payload padding : List ℕ) (m : Framed) → IsSound h → IsWhole h → h.protocol ≡ 17 → 20 + length options ≡ h.words * 4 → h.words * 4 + length payload ≡ h.total
       → IsCarried h.source payload m → frame_of (frame e h (options ++ payload ++ padding) ethernet_fits fits) ≡ m
   whole options payload padding m s w udp words total is =
       let front : List ℕ = ethernet_written e ++ (ipv4_written h ++ options) in
       let a = length-append (options ++ payload) padding in
-      let b = length-append options payload in
       let front_size : length front ≡ 14 + h.words * 4 =
       (let p = length-append (ethernet_written e) (ipv4_written h ++ options) in
-      let q = length-append (ipv4_written h) options in
       let r = ethernet_size e ethernet_fits in
-      let t = ipv4_size e h (options ++ payload ++ padding) ethernet_fits fits in
-      omega (arith, p, q, r, t, words)) in
+      omega (arith, p, length-append (ipv4_written h) options, r, ipv4_size e h (options ++ payload ++ padding) ethernet_fits fits, words)) in
       let seam : ethernet_written e ++ (ipv4_written h ++ ((options ++ payload) ++ padding)) ≡ front ++ (payload ++ padding) =
       ap (λ (r : List ℕ). ethernet_written e ++ (ipv4_written h ++ r)) (append_assoc options payload padding)
       ∙ ap (λ (r : List ℕ). ethernet_written e ++ r) (sym (append_assoc (ipv4_written h) options (payload ++ padding)))
       ∙ sym (append_assoc (ethernet_written e) (ipv4_written h ++ options) (payload ++ padding)) in
-      is_read (options ++ payload ++ padding)
-      ∙ of_udp e h (options ++ payload ++ padding) ethernet_fits fits (within (options ++ payload ++ padding)) (part e h (options ++ payload ++ padding) ethernet_fits fits) (34 + length (options ++ payload ++ padding)) s udp
-      ∙ cond-false (part e h (options ++ payload ++ padding) ethernet_fits fits) _ _ (part_none e h (options ++ payload ++ padding) ethernet_fits fits w)
-      ∙ cond-false (ltb (34 + length (options ++ payload ++ padding)) (14 + h.total)) _ _ (le-ltb (34 + length (options ++ payload ++ padding)) (14 + h.total) (omega (arith, a, b, words, total)))
-      ∙ (λ i. datagram_in (sym front_size i) ((let n : h.total - h.words * 4 ≡ length payload = omega (arith, total) in n) i) (ethernet_written e ++ (ipv4_written h ++ ((options ++ payload) ++ padding))))
-      ∙ carried_read front padding h.source payload m is (ethernet_written e ++ (ipv4_written h ++ ((options ++ payload) ++ padding))) seam (from_is e h (options ++ payload ++ padding) ethernet_fits fits)
+      is_sound (options ++ payload ++ padding) s
+      ∙ rw (
+        eq-eqb h.protocol 17 udp,
+        not_more w,
+        eq-eqb h.offset 0 w.first,
+        le-ltb (34 + length (options ++ payload ++ padding)) (14 + h.total) (omega (arith, a, length-append options payload, words, total)),
+      )
+      ((λ i. datagram_in (sym front_size i) ((let n : h.total - h.words * 4 ≡ length payload = omega (arith, total) in n) i) (ethernet_written e ++ (ipv4_written h ++ ((options ++ payload) ++ padding))))
+      ∙ carried_read front padding h.source payload m is (ethernet_written e ++ (ipv4_written h ++ ((options ++ payload) ++ padding))) seam (from_is e h (options ++ payload ++ padding) ethernet_fits fits))
 
   by_packet : (rest : List ℕ) (m : Framed) → IsPacket h rest m → frame_of (frame e h rest ethernet_fits fits) ≡ m
-  by_packet rest m (OtherVersion r isnt) = is_read rest ∙ other_version e h rest ethernet_fits fits (within rest) (part e h rest ethernet_fits fits) (34 + length rest) isnt
-  by_packet rest m (ShortHeader r is less) = is_read rest ∙ short_header e h rest ethernet_fits fits (within rest) (part e h rest ethernet_fits fits) (34 + length rest) is less
-  by_packet rest m (ShortPacket r is five less) = is_read rest ∙ short_packet e h rest ethernet_fits fits (within rest) (part e h rest ethernet_fits fits) (34 + length rest) is five less
-  by_packet rest m (OtherProtocol r s isnt) = is_read rest ∙ other_protocol e h rest ethernet_fits fits (within rest) (part e h rest ethernet_fits fits) (34 + length rest) s isnt
-  by_packet rest m (OfMore r s is more) =
-      is_read rest ∙ of_udp e h rest ethernet_fits fits (within rest) (part e h rest ethernet_fits fits) (34 + length rest) s is
-      ∙ cond-true (part e h rest ethernet_fits fits) _ _ (part_more e h rest ethernet_fits fits more)
+  by_packet rest m (OtherVersion r isnt) = is_read rest ∙ rw (ne_eqb h.version 4 isnt) refl
+  by_packet rest m (ShortHeader r is less) = is_read rest ∙ rw (eq-eqb h.version 4 is, lt-ltb (h.words * 4) 20 (omega (arith, less))) refl
+  by_packet rest m (ShortPacket r is five less) =
+      is_read rest ∙ rw (eq-eqb h.version 4 is, le-ltb (h.words * 4) 20 (omega (arith, five)), lt-ltb h.total (h.words * 4) less) refl
+  by_packet rest m (OtherProtocol r s isnt) = is_sound rest s ∙ rw (ne_eqb h.protocol 17 isnt) refl
+  by_packet rest m (OfMore r s is more) = is_sound rest s ∙ rw (eq-eqb h.protocol 17 is, eq-eqb h.more_fragments 1 more) refl
   by_packet rest m (Behind r s is isnt) =
-      is_read rest ∙ of_udp e h rest ethernet_fits fits (within rest) (part e h rest ethernet_fits fits) (34 + length rest) s is
-      ∙ cond-true (part e h rest ethernet_fits fits) _ _ (part_behind e h rest ethernet_fits fits isnt)
+      is_sound rest s ∙ rw (eq-eqb h.protocol 17 is, ne_eqb h.offset 0 isnt, or-true (eqb h.more_fragments 1)) refl
   by_packet rest m (Cut r s is w less) =
-      is_read rest ∙ of_udp e h rest ethernet_fits fits (within rest) (part e h rest ethernet_fits fits) (34 + length rest) s is
-      ∙ cond-false (part e h rest ethernet_fits fits) _ _ (part_none e h rest ethernet_fits fits w)
-      ∙ cond-true (ltb (34 + length rest) (14 + h.total)) _ _ (lt-ltb (34 + length rest) (14 + h.total) (omega (arith, less)))
+      is_sound rest s
+      ∙ rw (eq-eqb h.protocol 17 is, not_more w, eq-eqb h.offset 0 w.first, lt-ltb (34 + length rest) (14 + h.total) (omega (arith, less))) refl
   by_packet rest m (Whole options payload padding n s is w words total held) = whole options payload padding m s w is words total held
 
 pub frame_read : (frame : List ℕ) (m : Framed) → IsFrame frame m → frame_of frame ≡ m
@@ -307,13 +244,15 @@ frame_read frame m (NoHeader octets less) = cond-true (ltb (length frame) 14) _ 
 frame_read frame m (OtherType e rest fits isnt) =
     let size = ethernet_size e fits in
     let all = length-append (ethernet_written e) rest in
-    cond-false (ltb (length (ethernet_written e ++ rest)) 14) _ _ (le-ltb (length (ethernet_written e ++ rest)) 14 (omega (arith, size, all)))
-    ∙ cond-true (not (is_ipv4 (ethernet_written e ++ rest))) _ _ (ap not (ap (λ (n : ℕ). eqb n 2048) (type_read e rest fits) ∙ ne_eqb e.type 2048 isnt))
+    rw (le-ltb (length (ethernet_written e ++ rest)) 14 (omega (arith, size, all)), type_read e rest fits, ne_eqb e.type 2048 isnt) refl
 frame_read frame m (CutHeader e rest fits is less) =
     let size = ethernet_size e fits in
     let all = length-append (ethernet_written e) rest in
-    cond-false (ltb (length (ethernet_written e ++ rest)) 14) _ _ (le-ltb (length (ethernet_written e ++ rest)) 14 (omega (arith, size, all)))
-    ∙ cond-false (not (is_ipv4 (ethernet_written e ++ rest))) _ _ (ap not (ap (λ (n : ℕ). eqb n 2048) (type_read e rest fits) ∙ eq-eqb e.type 2048 is))
-    ∙ cond-true (ltb (length (ethernet_written e ++ rest)) 34) _ _ (lt-ltb (length (ethernet_written e ++ rest)) 34 (omega (arith, size, all, less)))
+    rw (
+      le-ltb (length (ethernet_written e ++ rest)) 14 (omega (arith, size, all)),
+      type_read e rest fits,
+      eq-eqb e.type 2048 is,
+      lt-ltb (length (ethernet_written e ++ rest)) 34 (omega (arith, size, all, less)),
+    ) refl
 frame_read frame m (OfPacket e h rest n ethernet_fits is fits held) =
     ap frame_of (append_assoc (ethernet_written e) (ipv4_written h) rest) ∙ by_packet e h ethernet_fits is fits rest m held

@@ -1,5 +1,5 @@
 -- The line of a skipped record is read exactly where one is spelled so.
-use Rattle.std.proofs.Common.{◌≡◌, ◌<◌, ◌^◌, ℕ, Bool, true, false, cond, eqb, List, [], ◌∷◌, ◌++◌, length, drop, take, Option, Some, None, refl, sym, ap, ◌∙◌, arith, inl, inr, append_assoc, lit<}
+use Rattle.std.proofs.Common.{◌≡◌, ◌<◌, ◌^◌, ℕ, true, eqb, List, [], ◌∷◌, ◌++◌, length, drop, take, Some, None, refl, sym, ap, ◌∙◌, arith, inl, inr, append_assoc, lit<}
 use Rattle.std.specs.Fmt.{decimal}
 use Rattle.std.specs.List.{starts_with}
 use Rattle.std.specs.Prelude.{codes, nat_eq}
@@ -11,7 +11,7 @@ use Rattle.sg_base.proofs.Cases.{chosen, is_name, none_some, some_is}
 use Rattle.sg_base.proofs.Cuts.{cut_again, cut_takes, lacks_append}
 use Rattle.sg_base.proofs.Decimals.{number_again, number_takes}
 use Rattle.sg_base.proofs.FourNumbers.{bind_some, decimal_lacks}
-use Rattle.sg_base.specs.Fields.{◌>>=◌, Lacks, cut_at, number_at}
+use Rattle.sg_base.specs.Fields.{Lacks, cut_at, number_at}
 use Rattle.sg_pcap.specs.Skips.{skip_at, skip_body_at, skip_cause_at, skip_cause_name, skip_fields_at, skip_line}
 use Rattle.sg_pcap.specs.declared.skips.SkipCause.{SkipCause}
 use Rattle.sg_pcap.specs.declared.skips.SkipCause.TheVariants.{Fragment, CutShort, Malformed}

@@ -1,7 +1,7 @@
 -- Captures as they are written are read.
-use Rattle.std.proofs.Common.{◌≡◌, ◌+◌, ◌-◌, ◌*◌, ◌≤◌, ◌<◌, ◌^◌, ℕ, zero, suc, Bool, true, false, cond, not, eqb, ltb, List, [], ◌∷◌, ◌++◌, length, map, take, drop, slice_index, Option, Some, None, Result, Ok, Err, refl, sym, ap, ◌∙◌, subst, inl, inr, arith, length-append, append_assoc}
-use Rattle.std.specs.Prelude.{◌/◌, ◌%◌, min}
-use Rattle.std.specs.List.{All, AllByRecursion, flat_map}
+use Rattle.std.proofs.Common.{◌≡◌, ◌+◌, ◌*◌, ◌≤◌, ◌<◌, ◌^◌, ℕ, Bool, true, false, cond, not, eqb, ltb, List, [], ◌∷◌, ◌++◌, length, map, drop, Some, None, Result, Ok, Err, refl, sym, ap, ◌∙◌, inl, inr, arith, length-append}
+use Rattle.std.specs.Prelude.{◌/◌, ◌%◌}
+use Rattle.std.specs.List.{AllByRecursion, flat_map}
 use Rattle.std.proofs.lemmas.Bool.{cases_eq, cond-true, cond-false, eq-eqb, le-ltb, ne_eqb}
 use Rattle.std.proofs.Math.Seq.{drop-append_seam}
 use Rattle.sg_pcap.proofs.Captures.{counted_near, next_record}
@@ -10,7 +10,7 @@ use Rattle.sg_pcap.specs.Fields.{u16_by_order, u32_by_order}
 use Rattle.sg_pcap.specs.Header.{form_of, header_as, header_of}
 use Rattle.sg_pcap.specs.Records.{fractions, record_of}
 use Rattle.sg_pcap.specs.Readings.{CapturesAreRead}
-use Rattle.sg_pcap.specs.Written.{FitsHeader, FitsTaken, Header, Taken, capture_written, four, header_written, magic_of, moment_taken, record_written, two}
+use Rattle.sg_pcap.specs.Written.{FitsHeader, FitsTaken, Header, Taken, header_written, moment_taken, record_written}
 use Rattle.sg_pcap.specs.declared.faults.CaptureFault.{CaptureFault}
 use Rattle.sg_pcap.specs.declared.faults.CaptureFault.TheVariants.{Version, LinkType, Length}
 use Rattle.sg_pcap.specs.declared.header.Form.{Form}
@@ -81,8 +81,7 @@ header_size form h = by_order form.big
 module _ (most : ℕ) (form : Form) (h : Header) (rest : List ℕ) (fits : FitsHeader h) (counts : 24 ≤ most) where
   judged_within : header_within most (header_written form h ++ rest) ≡ header_as_counted most (header_written form h ++ rest) (judged h rest form h.major h.minor h.link)
   judged_within =
-      let size = header_size form h in
-      let part = counted_near most (header_written form h) rest (omega (arith, size, counts)) in
+      let part = counted_near most (header_written form h) rest (omega (arith, header_size form h, counts)) in
       ap (λ (l : List ℕ). header_as_counted most (header_written form h ++ rest) (header_of l)) part.1
       ∙ ap (header_as_counted most (header_written form h ++ rest)) (header_judged h part.0 fits form)
 

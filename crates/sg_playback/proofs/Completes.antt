@@ -1,14 +1,10 @@
 -- A script in the grammar is played to its end, where nothing fails.
-use Rattle.std.proofs.Common.{◌≡◌, ℕ, Bool, List, [], refl, sym, ◌∙◌, inl, inr, arith}
-use Rattle.std.proofs.lemmas.List.{append-nil}
+use Rattle.std.proofs.Common.{◌≡◌, ℕ, Bool, List, [], refl, sym, ◌∙◌, inl, inr, arith, append-nil}
 use Rattle.sg_trace.proofs.Grammars.{in_replay, no_fault}
 use Rattle.sg_trace.specs.Trace.{AtFault, replayed}
-use Rattle.sg_trace.specs.declared.status.Status.{Status}
-use Rattle.sg_trace.specs.declared.status.Status.TheVariants.{Done, Script, Read, Write, NoMemory, Noise}
-use Rattle.sg_edge.proofs.Links.{added_none}
-use Rattle.sg_edge.proofs.Passed.{took_none, wrote_none}
+use Rattle.sg_playback.proofs.Common.{Done, IsCompleteReplay, IsReplay, NoMemory, Noise, Read, ReplayTellings, Script, Status, Write, added_none, output_in}
+use Rattle.sg_playback.proofs.Common.{took_none, wrote_none}
 use Rattle.sg_playback.proofs.Replays.{output_so}
-use Rattle.sg_playback.specs.Replay.{IsCompleteReplay, IsReplay, ReplayTellings, output_in}
 
 pub complete : (muxes : Bool) (status : Status) (old new : ReplayTellings) (octets draws out : List ℕ) → IsReplay muxes status old new octets draws out
     → (status ≡ Read → ⊥) → (status ≡ Write → ⊥) → (status ≡ Noise → ⊥) → IsCompleteReplay status old.left new.left

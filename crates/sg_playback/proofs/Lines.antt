@@ -1,22 +1,11 @@
 -- What playing a line leaves, as the loop has it.
-use Rattle.std.proofs.Common.{◌≡◌, ◌≤◌, ℕ, Bool, true, false, if◌then◌else◌, List, [], ◌∷◌, ◌++◌, length, Option, None, Some, Result, Ok, Err, refl, ap, subst, length-append, arith}
-use Rattle.std.proofs.lemmas.List.{append-nil, length-map}
-use Rattle.sg_front.specs.States.{FrontStandsFor, State, state_after}
-use Rattle.sg_gateway.specs.Drawn.{Supplied, supplied}
-use Rattle.sg_gateway.specs.Events.{events_of, signal_lacks_noise}
-use Rattle.sg_gateway.specs.Step.{Event}
-use Rattle.sg_lines.specs.declared.lines.Line.{Line}
+use Rattle.std.proofs.Common.{◌≡◌, ◌≤◌, ℕ, Bool, true, false, if◌then◌else◌, List, [], ◌∷◌, ◌++◌, length, Option, None, Some, Result, Ok, Err, refl, ap, subst, length-append, arith, OnOk}
 use Rattle.sg_lines.specs.declared.lines.Line.TheVariants as lines
-use Rattle.sg_playback.specs.Playing.{Playing, effects, text_from, waiting}
-use Rattle.sg_playback.specs.Replay.{given_by, gives}
 use Rattle.sg_playback.specs.Scripts.{gives_of}
-use Rattle.sg_trace.specs.Course.{Given, Ways}
-use Rattle.std.specs.Prelude.{OnOk}
-use Rattle.sg_table.specs.Batches.{arrived}
-use Rattle.sg_trace.specs.Loop.{IsBehindLast, IsPlayed, IsSettled, IsTaken, Tellings, deeds_of}
 use Rattle.sg_trace.specs.Reading.{Reading}
-use Rattle.sg_trace.specs.declared.status.Status.{Status}
-use Rattle.sg_trace.specs.declared.status.Status.TheVariants.{Write, NoMemory, Noise}
+use Rattle.sg_playback.proofs.Common.{Event, FrontStandsFor, Given, IsBehindLast, IsPlayed, IsSettled, IsTaken, Line, NoMemory, Noise, Playing, State, Status}
+use Rattle.sg_playback.proofs.Common.{Supplied, Tellings, Ways, Write, append-nil, arrived, deeds_of, effects, events_of, given_by, gives, length-map}
+use Rattle.sg_playback.proofs.Common.{signal_lacks_noise, state_after, supplied, text_from, waiting}
 
 -- a line has at most two events
 two_of : (l : Line) → length (events_of l) ≤ 2

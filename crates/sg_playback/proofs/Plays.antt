@@ -1,34 +1,20 @@
 -- What playing a line leaves, from what its parts leave.
-use Rattle.std.proofs.Common.{◌≡◌, ◌≤◌, ℕ, List, length, Option, Some, [], ◌∷◌, ◌++◌, map, Result, Ok, Err, IfErr, OnOk, refl, sym, ap, ◌∙◌, subst, inl, inr, append_assoc}
-use Rattle.std.proofs.lemmas.List.{append-nil}
-use Rattle.sg_trace.specs.Course.{Given}
-use Rattle.sg_trace.specs.Loop.{AreAlike, IsCutShort, IsPlayed, IsTaken, deeds_of}
-use Rattle.sg_trace.specs.Output.{IsPrefixOf, IsWritten}
+use Rattle.std.proofs.Common.{◌≡◌, ◌≤◌, ℕ, List, length, Option, Some, [], ◌∷◌, ◌++◌, map, Result, Ok, Err, IfErr, OnOk, refl, sym, ap, ◌∙◌, subst, inl, inr, append_assoc, append-nil}
+use Rattle.sg_trace.proofs.Loops.{alike_more}
+use Rattle.sg_trace.proofs.Writings.{prefix_longer}
 use Rattle.sg_trace.specs.Supplying.{IsSupplied}
-use Rattle.sg_trace.specs.declared.status.Status.{Status}
-use Rattle.sg_trace.specs.declared.status.Status.TheVariants.{Done, Write, NoMemory, Noise}
-use Rattle.sg_edge.specs.Told.{Tally, Wrote}
-use Rattle.sg_front.proofs.Sequences.{state_after-append}
-use Rattle.sg_front.specs.States.{State, state_after}
-use Rattle.sg_gateway.specs.Events.{events_of}
-use Rattle.sg_gateway.specs.Signals.{Tick}
-use Rattle.sg_gateway.specs.Step.{Event, Signalled}
-use Rattle.sg_lines.specs.declared.lines.Line.{Line}
-use Rattle.sg_lines.specs.declared.lines.Line.TheVariants as lines
 use Rattle.sg_lines.specs.declared.lines.Signal.{Signal}
-use Rattle.sg_table.specs.Batches.{arrived}
-use Rattle.sg_playback.proofs.Alike.{alike_more, same_alike, text_from-append}
+use Rattle.sg_lines.specs.declared.lines.Line.TheVariants as lines
+use Rattle.sg_playback.proofs.Common.{AreAlike, Done, Event, Given, HasCome, HasRoom, IsCutShort, IsPlayed, IsPrefixOf, IsSettled, IsStepped, IsTaken, IsWant}
+use Rattle.sg_playback.proofs.Common.{IsWritten, Line, NoMemory, Noise, Playing, Signalled, State, Status, Tally, Tick, Write, Wrote, arrived, deeds_of}
+use Rattle.sg_playback.proofs.Common.{effects, events_of, given_by, gives, state_after, state_after-append, text_from, waiting}
+use Rattle.sg_playback.proofs.Alike.{events_in_order, same_alike, text_from-append}
 use Rattle.sg_playback.proofs.Lines.{few_with}
-use Rattle.sg_playback.specs.Playing.{HasCome, HasRoom, IsStepped, IsWant, Playing, effects, text_from, waiting}
-use Rattle.sg_playback.specs.Replay.{given_by, gives}
 
 -- ---- fronts
 
-pub prefix_more : (prefix all more : List ℕ) → IsPrefixOf prefix all → IsPrefixOf prefix (all ++ more)
-prefix_more prefix all more is = (is.0 ++ more, ap (λ (l : List ℕ). l ++ more) is.1 ∙ append_assoc prefix is.0 more)
-
 pub prefix_all : (state : State) (es fs : List Event) (prefix : List ℕ) → IsPrefixOf prefix (text_from state es) → IsPrefixOf prefix (text_from state (es ++ fs))
-prefix_all state es fs prefix is = subst (IsPrefixOf prefix) (sym (text_from-append state es fs)) (prefix_more prefix (text_from state es) (text_from (state_after state es) fs) is)
+prefix_all state es fs prefix is = subst (IsPrefixOf prefix) (sym (text_from-append state es fs)) (prefix_longer prefix (text_from state es) (text_from (state_after state es) fs) is)
 
 pub prefix_behind : (state : State) (es fs : List Event) (prefix : List ℕ) → IsPrefixOf prefix (text_from (state_after state es) fs) → IsPrefixOf (text_from state es ++ prefix) (text_from state (es ++ fs))
 prefix_behind state es fs prefix is = (
@@ -89,7 +75,7 @@ module _ (l : Line) (goes : Goes l) (state : State) (waited others : List Event)
 
   module _ (waits prefix : List Event) (alike : AreAlike effects state (waited ++ others) (prefix ++ waits)) (out : List ℕ) (told : out ≡ text_from state prefix) where
     all_alike : AreAlike effects state ((waited ++ others) ++ e ∷ []) (prefix ++ (waits ++ e ∷ []))
-    all_alike = subst (λ (es : List Event). AreAlike effects state ((waited ++ others) ++ e ∷ []) es) (append_assoc prefix waits (e ∷ [])) (alike_more state (waited ++ others) (prefix ++ waits) (e ∷ []) alike)
+    all_alike = subst (λ (es : List Event). AreAlike effects state ((waited ++ others) ++ e ∷ []) es) (append_assoc prefix waits (e ∷ [])) (alike_more effects events_in_order state (waited ++ others) (prefix ++ waits) (e ∷ []) alike)
 
     pub line_arrived : (r : Result (Unit {0}) Status) (waits' : List Event) (stands_for : State → Type 0) (out' : List ℕ) → HasRoom r (state_after state prefix) (waits ++ e ∷ []) waits' stands_for out'
         → IsPlayed r effects (gives l) 258 state waited waits' stands_for [] (out ++ out')
@@ -216,3 +202,10 @@ pub signal_played : (r : Result (Unit {0}) Status) (signal s : Signal) (draws : 
 signal_played (Ok u) signal s draws has state waited waits stands_for out out' few none told stepped = signal_taken signal s draws has state waited waits stands_for out out' none told stepped
 signal_played (Err status) signal s draws has state waited waits stands_for out out' few none told cut =
     played_cut status (lines.Signal signal) state waited waits stands_for draws (out ++ out') cut.0 (signal_cut signal s draws has state waited out out' few told cut.1)
+
+-- ---- where a batch was handled there is room again
+
+pub has_room : (r : Result (Unit {0}) Status) (state : State) (waited waits : List Event) (stands_for : State → Type 0) (out : List ℕ)
+    → IsSettled r effects 258 state waited waits stands_for out → HasRoom r state waited waits stands_for out
+has_room (Ok u) state waited waits stands_for out settled = (waited, sym (ap (λ (later : List Event). waited ++ later) settled.1 ∙ append-nil waited), (settled.0, settled.2))
+has_room (Err status) state waited waits stands_for out settled = (settled.0, settled.1)

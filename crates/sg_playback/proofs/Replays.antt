@@ -2,22 +2,12 @@
 use Rattle.std.proofs.Common.{◌≡◌, ◌+◌, ℕ, Bool, List, [], ◌∷◌, ◌++◌, length, Option, None, Some, Result, Ok, Err, refl, sym, ap, ◌∙◌, subst}
 use Rattle.sg_base.specs.declared.faults.ScriptFault.{ScriptFault}
 use Rattle.sg_front.proofs.Runs.{told_in}
-use Rattle.sg_front.specs.States.{start}
-use Rattle.sg_gateway.specs.Drawn.{Supplied, supplied}
-use Rattle.sg_gateway.specs.Events.{events_of}
-use Rattle.sg_gateway.specs.Step.{Event}
 use Rattle.sg_lines.specs.LineOf.{version_after}
 use Rattle.sg_lines.specs.ScriptLines.{lines_of}
-use Rattle.sg_lines.specs.declared.lines.Line.{Line}
-use Rattle.sg_playback.specs.Playing.{text_from}
-use Rattle.sg_playback.specs.Replay.{IsCutReplay, IsReplayOfLines, IsWholeReplay, ReplayEnds, given_by, of_replay, output_in}
-use Rattle.sg_trace.specs.Course.{Course, behind_given, behind_line, course, course_from}
-use Rattle.sg_trace.specs.Loop.{AreTold, IsAll, IsCut, LoopEnds}
-use Rattle.sg_trace.specs.Output.{IsPrefixOf, text}
 use Rattle.sg_trace.specs.Trace.{AtEnd as BehindAll, AtFault, Later, Replays, Stop, Trace, after_line, drawing, handled_as, line_at, replayed, trace_from, with_events}
-use Rattle.sg_trace.specs.declared.status.Status.{Status}
-use Rattle.sg_trace.specs.declared.status.Status.TheVariants.{Done, Script, Read, Write, NoMemory, Noise}
-use Rattle.sg_edge.specs.Told.{Tally}
+use Rattle.sg_playback.proofs.Common.{AreTold, Course, Done, Event, IsAll, IsCut, IsCutReplay, IsPrefixOf, IsReplayOfLines, IsWholeReplay, Line, LoopEnds}
+use Rattle.sg_playback.proofs.Common.{NoMemory, Noise, Read, ReplayEnds, Script, Status, Supplied, Tally, Write, behind_given, behind_line, course}
+use Rattle.sg_playback.proofs.Common.{course_from, events_of, given_by, of_replay, output_in, start, supplied, text, text_from}
 
 -- ---- courses
 

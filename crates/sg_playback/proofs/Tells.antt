@@ -1,16 +1,7 @@
 -- The texts of what is told, one by one.
-use Rattle.std.proofs.Common.{◌≡◌, ◌<◌, ◌+◌, ℕ, List, [], ◌∷◌, ◌++◌, length, take, drop, get_or, Err, refl, sym, ◌∙◌, subst}
-use Rattle.std.specs.List.{flat_map}
-use Rattle.std.proofs.lemmas.Grind.{flat_map-append}
-use Rattle.std.proofs.lemmas.List.{append-nil}
+use Rattle.std.proofs.Common.{◌≡◌, ◌<◌, ◌+◌, ℕ, List, [], ◌∷◌, ◌++◌, length, take, drop, get_or, Err, refl, sym, ◌∙◌, subst, flat_map, append-nil}
 use Rattle.sg_trace.proofs.Writings.{all_text, next_text, written_behind}
-use Rattle.sg_trace.specs.Output.{IsWritten, text}
-use Rattle.sg_trace.specs.declared.status.Status.{Status}
-use Rattle.sg_edge.proofs.Passed.{wrote_more}
-use Rattle.sg_edge.specs.Told.{Tally, Wrote}
-use Rattle.sg_outcome.specs.OutcomeText.{outcome_line}
-use Rattle.sg_table.specs.Batches.{told_by, told_of}
-use Rattle.sg_table.specs.declared.arrival.Arrival.{Arrival}
+use Rattle.sg_playback.proofs.Common.{Arrival, IsWritten, Status, Tally, Wrote, flat_map-append, outcome_line, text, told_by, told_of, wrote_more}
 
 -- what a list of parts writes, part by part
 module _ {A : Type 0} (text_of : A → List ℕ) (xs : List A) (i : ℕ) (x : A) (within : i < length xs) (is : x ≡ get_or xs i x) (a b c : Tally)

@@ -22,8 +22,8 @@ use std::thread::Threads;
 /// version 2 also end before a line whose moment isn't that of the line before. The workers share out a batch, each of
 /// them passing the gate; what is written is the same for every number of workers and every gate, unless the sink fails or
 /// memory runs out. Where a signal lacks its noise, 304 octets are drawn. It ends with `Done` at the source's end; with
-/// `Script` at the first line outside the grammar; with `Read` where the source fails, once all lines that were read are
-/// told; with `Noise` where no noise can be drawn; with `Write` where the sink fails; or with `NoMemory`. What is told is
+/// `Script` at the first line outside the grammar; with `Read` where the source fails, once all whole lines that were read
+/// are told; with `Noise` where no noise can be drawn; with `Write` where the sink fails; or with `NoMemory`. What is told is
 /// passed on before a read that may wait, and at the end, of which no clause tells.
 /// It isn't inlined, so no other command has its frame.
 #[inline(never)]

@@ -1,10 +1,6 @@
 -- After each event the ports that are held are those of the calls that are there.
-use Rattle.std.proofs.Common.{◌≡◌, ◌⊎◌, inl, inr, ℕ, ◌+◌, ◌<◌, ◌≤◌, Bool, true, false, cond, not, ◌||◌, List, [], ◌∷◌, ◌++◌, Option, Some, None, Result, Ok, Err, refl, sym, ap, ◌∙◌, subst, arith, eqb, ltb}
-use Rattle.std.proofs.lemmas.Bool.{eqb-true, eq-eqb, ne_eqb, false≢true, or_left, or_right}
-use Rattle.std.proofs.lemmas.List.{append-nil}
+use Rattle.std.proofs.Common.{◌≡◌, ◌⊎◌, inl, inr, ℕ, ◌+◌, ◌<◌, ◌≤◌, Bool, true, false, cond, not, ◌||◌, List, [], ◌∷◌, ◌++◌, Option, Some, None, Result, Ok, Err, refl, sym, ap, ◌∙◌, subst, arith, eqb, ltb, append-nil, is_some}
 use Rattle.std.proofs.lemmas.List.Elements.{recursion_from_All}
-use Rattle.std.specs.List.{AllByRecursion, Any, filter, flat_map}
-use Rattle.std.specs.Option.{is_some}
 use Rattle.sg_agreement.specs.Answers.{agreed_answer}
 use Rattle.sg_agreement.specs.Generations.{generation_of}
 use Rattle.sg_agreement.specs.Keying.{Offer}
@@ -14,14 +10,10 @@ use Rattle.sg_agreement.specs.Messages.{AtHand}
 use Rattle.sg_agreement.specs.Offers.{AgreedOffer, agreed_offer}
 use Rattle.sg_agreement.specs.Sides.{side_of, other_side}
 use Rattle.sg_agreement.specs.declared.ways.Way.{Way}
-use Rattle.sg_base.specs.declared.addresses.Address.{Address}
-use Rattle.sg_base.specs.declared.addresses.CallId.{CallId}
 use Rattle.sg_base.specs.declared.addresses.Kind.{Kind}
 use Rattle.sg_base.specs.declared.addresses.Kind.TheVariants.{Rtp, Rtcp}
 use Rattle.sg_base.specs.declared.faults.Refusal.{Refusal}
 use Rattle.sg_base.specs.declared.faults.Refusal.TheVariants.{State}
-use Rattle.sg_outcome.specs.declared.outcomes.Outcome.{Outcome}
-use Rattle.sg_outcome.specs.declared.outcomes.Why.{Why}
 use Rattle.sg_outcome.specs.declared.outcomes.Why.TheVariants as why
 use Rattle.sg_psk.specs.Pairs.{has_pair}
 use Rattle.sg_session.specs.Opening.{Taken}
@@ -30,20 +22,18 @@ use Rattle.sg_session.specs.declared.names.Direction.{Direction}
 use Rattle.sg_session.specs.declared.names.Direction.TheVariants.{Opening, Sealing}
 use Rattle.sg_session.specs.Session.{Session}
 use Rattle.sg_session.proofs.Inversions.{after_ok_is, stop_if_is, ok_is}
-use Rattle.sg_session.proofs.Lists.{each_weaker, each_filter, each_map, each_at_this, each_of, both}
 use Rattle.sg_gateway.proofs.Arrivals.{Arrival, IsDrop, IsOpening, IsSeal, arrival}
 use Rattle.sg_gateway.proofs.Ordered.{one_serial}
-use Rattle.sg_gateway.proofs.Pairs.{Pairs, pairs_from}
 use Rattle.sg_gateway.proofs.Signals.{is_found, each_and_call, each_with_call}
 use Rattle.sg_gateway.specs.CallSignals.{has_begun, keyed_manually, at_hand, takes_offer, offered_in, answered_to, answered_in, is_idle, call_at_tick, drops_earlier, without_earlier}
-use Rattle.sg_gateway.specs.Datagrams.{Given, put, call_after, given_to, arrived_in, arrived_at}
 use Rattle.sg_gateway.specs.Generations.{Settled, keyed}
-use Rattle.sg_gateway.specs.Order.{IsBefore, IsOrderly, AreOfMedia}
-use Rattle.sg_gateway.specs.Ports.{call_at, has_port, port_at, port_out, leg_of, other_direction}
-use Rattle.sg_gateway.specs.Signals.{Signal, Tick, Psk, Manual, Offered, Answered, Reject, Bye, Answer, tells_ended, refused, ticked, new_call, in_new, in_old, tells_live, tells_text, offered_to, offering_side, tells_answer, answered, rejected_to, rejected, left, answer_to}
-use Rattle.sg_gateway.specs.Step.{Event, Signalled, Datagram, step}
-use Rattle.sg_gateway.specs.World.{Books, Call, World, call_of, with_call, without_call, and_call, is_full}
-use Rattle.sg_relay.specs.Held.{held_after}
+use Rattle.sg_relay.proofs.Common.{Address, AllByRecursion, Answer, Answered, Any, AreOfMedia, Books, Bye, Call, CallId, Datagram, Event, Given, IsBefore}
+use Rattle.sg_relay.proofs.Common.{IsOrderly, Manual, Offered, Outcome, Pairs, Psk, Reject, Signal, Signalled, Tick, Why, World, and_call, answer_to}
+use Rattle.sg_relay.proofs.Common.{answered, arrived_at, arrived_in, both, call_after, call_at, call_of, each_at_this, each_filter, each_map, each_of}
+use Rattle.sg_relay.proofs.Common.{each_weaker, eq-eqb, eqb-true, false≢true, filter, flat_map, given_to, has_port, held_after, in_new, in_old, is_full, left}
+use Rattle.sg_relay.proofs.Common.{leg_of, ne_eqb, new_call, offered_to, offering_side, or_left, or_right, other_direction, pairs_from, port_at, port_out}
+use Rattle.sg_relay.proofs.Common.{put, refused, rejected, rejected_to, step, tells_answer, tells_ended, tells_live, tells_text, ticked, with_call}
+use Rattle.sg_relay.proofs.Common.{without_call}
 use Rattle.sg_relay.proofs.Asks.{asked_by}
 use Rattle.sg_relay.proofs.Held.{AreFit}
 use Rattle.sg_relay.proofs.CallPorts.{Apart, apart_from, all_ended, ended_fit, ended_in, ended_other, has_within, made_asks, made_fit, made_held, none_has, of_calls, of_map, of_one, others_have, parted, tested_held}

@@ -1,8 +1,6 @@
 -- What outcomes ask of a link.
-use Rattle.std.proofs.Common.{◌≡◌, List, [], ◌∷◌, ◌++◌, map, refl, ap}
-use Rattle.std.specs.List.{flat_map}
-use Rattle.sg_outcome.specs.declared.outcomes.Outcome.{Outcome}
-use Rattle.sg_relay.specs.Asked.{Ask, act_of, asks_of}
+use Rattle.std.proofs.Common.{◌≡◌, List, [], ◌∷◌, ◌++◌, map, refl, ap, flat_map}
+use Rattle.sg_relay.proofs.Common.{Ask, Outcome, act_of, asks_of}
 
 abbrev pub asked_by : Outcome → List Ask
 asked_by o = asks_of (act_of o)

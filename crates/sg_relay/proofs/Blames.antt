@@ -1,11 +1,8 @@
 -- How the causes of a part's answers follow one another.
-use Rattle.std.proofs.Common.{◌≡◌, ℕ, Bool, Option, Result, Ok, Err, sym, ap, ◌∙◌, inl, inr, arith}
-use Rattle.std.specs.Prelude.{IfErr}
-use Rattle.sg_trace.proofs.Causes.{failed_as}
+use Rattle.std.proofs.Common.{◌≡◌, ℕ, Bool, Option, Result, Ok, Err, sym, ap, ◌∙◌, inl, inr, arith, IfErr}
 use Rattle.sg_trace.specs.Causes.{IsCaused}
-use Rattle.sg_trace.specs.declared.status.Status.{Status}
-use Rattle.sg_trace.specs.declared.status.Status.TheVariants.{Read, Write, Link, NoMemory, Clock, Noise, TurnsSpent}
-use Rattle.sg_relay.specs.Causes.{IsDueTo, IsDueToLink, IsOfLines, IsOfOutcomes, IsOfTurns, IsOfWriting}
+use Rattle.sg_relay.proofs.Common.{Clock, IsDueTo, IsDueToLink, IsOfLines, IsOfOutcomes, IsOfTurns, IsOfWriting, Link, NoMemory, Noise, Read, Status}
+use Rattle.sg_relay.proofs.Common.{TurnsSpent, Write, failed_as}
 
 err_is : {T : Type 0} (s t : Status) → (let r : Result T Status = Err s in r ≡ Err t) → s ≡ t
 err_is s t is = cc

@@ -1,17 +1,9 @@
 -- The ports of calls, as the gateway finds the call of a port, and what their binds and unbinds hold.
 use Rattle.std.proofs.Common.{◌≡◌, ◌⊎◌, inl, inr, ℕ, ◌+◌, ◌*◌, ◌<◌, ◌≤◌, ◌-◌, ◌/◌, ◌%◌, Bool, true, false, cond, not, ◌||◌, List, [], ◌∷◌, map, refl, sym, ap, ap₂, ◌∙◌, arith, ltb, leb}
-use Rattle.std.proofs.lemmas.Bool.{and_parts, and_from, and_cases, le-leb, leb-true, leb-false, lt-ltb, ltb-true, ltb-false, or_left, or_right, or_cases, false≢true}
-use Rattle.std.specs.List.{AllByRecursion, Any, filter, flat_map}
-use Rattle.sg_gateway.proofs.Pairs.{Pairs}
 use Rattle.sg_gateway.proofs.Reached.{before_apart}
-use Rattle.sg_gateway.specs.Order.{IsBefore}
-use Rattle.sg_gateway.specs.Ports.{has_port, port_at}
-use Rattle.sg_gateway.specs.World.{Call, and_call}
-use Rattle.sg_outcome.specs.declared.outcomes.Why.{Why}
-use Rattle.sg_gateway.specs.Signals.{tells_ended}
-use Rattle.sg_session.proofs.Lists.{each_weaker, any_here, any_there, any_cases, any_none}
-use Rattle.sg_relay.specs.Asked.{Ask, hold, ports_of}
-use Rattle.sg_relay.specs.Held.{held_after, IsPortOf}
+use Rattle.sg_relay.proofs.Common.{AllByRecursion, Any, Ask, Call, IsBefore, IsPortOf, Pairs, Why, and_call, and_cases, and_from, and_parts, any_cases}
+use Rattle.sg_relay.proofs.Common.{any_here, any_none, any_there, each_weaker, false≢true, filter, flat_map, has_port, held_after, hold, le-leb, leb-false}
+use Rattle.sg_relay.proofs.Common.{leb-true, lt-ltb, ltb-false, ltb-true, or_cases, or_left, or_right, port_at, ports_of, tells_ended}
 use Rattle.sg_relay.proofs.Asks.{asked_by}
 use Rattle.sg_relay.proofs.Held.{AreFit, after, bound_fit, bound_in, bound_other, fit_append, given_fit, given_in, given_other, held-append}
 

@@ -1,17 +1,9 @@
 -- A script of its kind is relayed to its end, where nothing fails, sends aside.
 use Rattle.std.proofs.Common.{◌≡◌, List, [], ◌∷◌, ◌++◌, ℕ, refl, sym, subst, inl, inr, arith}
-use Rattle.sg_edge.proofs.Links.{added_none, called_none}
-use Rattle.sg_edge.proofs.Passed.{took_none, wrote_none}
-use Rattle.sg_edge.specs.Links.{Failing, LinkCall, Receive}
-use Rattle.sg_edge.specs.Told.{Rose, Tally}
 use Rattle.sg_trace.proofs.Grammars.{none_fails}
-use Rattle.sg_trace.specs.Trace.{AtFault}
-use Rattle.sg_trace.specs.declared.status.Status.{Status}
-use Rattle.sg_trace.specs.declared.status.Status.TheVariants.{Done, Usage, Script, Read, Write, Link, NoMemory, Clock, Noise, TurnsSpent, Capture}
-use Rattle.sg_relay.specs.Asked.{Act, AreGood, EndsBadly, IsGood, IsPart, receipts_in}
-use Rattle.sg_relay.specs.Completeness.{IsCompleteRelay}
-use Rattle.sg_relay.specs.Relay.{IsRelay, Passed, RelayEnds, RelayTellings, acts_by}
-use Rattle.sg_relay.specs.Weaving.{Weaves, woven}
+use Rattle.sg_relay.proofs.Common.{Act, AreGood, AtFault, Capture, Clock, Done, EndsBadly, Failing, IsCompleteRelay, IsGood, IsPart, IsRelay, Link, LinkCall}
+use Rattle.sg_relay.proofs.Common.{NoMemory, Noise, Passed, Read, Receive, RelayEnds, RelayTellings, Rose, Script, Status, Tally, TurnsSpent, Usage, Weaves}
+use Rattle.sg_relay.proofs.Common.{Write, acts_by, added_none, called_none, receipts_in, took_none, woven, wrote_none}
 use Rattle.sg_relay.proofs.Deeds.{cut_off_bad, done_none, part_of}
 use Rattle.sg_relay.proofs.Order.{order_none}
 

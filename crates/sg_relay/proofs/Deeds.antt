@@ -1,24 +1,11 @@
 -- How what was done for acts adds up.
-use Rattle.std.proofs.Common.{◌≡◌, ◌<◌, ◌+◌, ℕ, zero, suc, arith, Bool, true, false, List, [], ◌∷◌, ◌++◌, length, map, take, get_or, Result, Ok, Err, refl, sym, ap, ap₂, ◌∙◌, subst, append_assoc, inl, inr}
-use Rattle.std.specs.Prelude.{is_ok, IfErr, IsOk}
-use Rattle.std.specs.List.{flat_map}
-use Rattle.std.proofs.lemmas.Bool.{false≢true}
-use Rattle.std.proofs.lemmas.List.{append-nil, map-append}
-use Rattle.sg_base.specs.declared.addresses.Address.{Address}
+use Rattle.std.proofs.Common.{◌≡◌, ◌<◌, ◌+◌, ℕ, zero, suc, arith, Bool, true, false, List, [], ◌∷◌, ◌++◌, length, map, take, get_or, Result, Ok, Err, refl, sym, ap, ap₂, ◌∙◌, subst, append_assoc, inl, inr, is_ok, IfErr, IsOk, flat_map}
 use Rattle.sg_base.specs.declared.faults.Failed.{Failed}
-use Rattle.sg_trace.specs.Output.{IsPrefixOf, IsWritten}
-use Rattle.sg_trace.specs.declared.status.Status.{Status}
-use Rattle.sg_trace.specs.declared.status.Status.TheVariants.{Write, Link, NoMemory}
-use Rattle.sg_edge.specs.Links.{LinkCall, Received}
 use Rattle.sg_edge.specs.Links as links
-use Rattle.sg_edge.specs.Told.{Tally, Wrote}
 use Rattle.sg_outcome.specs.OutcomeText.{outcome_line}
-use Rattle.sg_outcome.specs.declared.outcomes.Outcome.{Outcome}
-use Rattle.sg_outcome.specs.declared.outcomes.Outcome.TheVariants.{Unsent}
-use Rattle.sg_relay.specs.Acting.{Acting}
 use Rattle.sg_relay.specs.Asked.{Act, AreGood, Ask, Done as Deed, EndsBadly, IsAtNext, IsCutOff, IsDone, IsGood, IsPart, IsUntold, Sends, Tells, act_of, ask_in, asks_in, asks_of, hold, ports_from, receipt_in, receipts_in, sent_in, sent_of, written_of}
-use Rattle.sg_relay.specs.Causes.{IsOfWriting}
-use Rattle.sg_relay.specs.Parts.{AreCarriedOut, AreHandled, IsHeld, StopsWith}
+use Rattle.sg_relay.proofs.Common.{Acting, Address, AreCarriedOut, AreHandled, IsHeld, IsOfWriting, IsPrefixOf, IsWritten, Link, LinkCall, NoMemory, Outcome}
+use Rattle.sg_relay.proofs.Common.{Received, Status, StopsWith, Tally, Unsent, Write, Wrote, append-nil, false≢true, map-append}
 
 pub flat_append : {A B : Type 0} (f : A → List B) (xs ys : List A) → flat_map f (xs ++ ys) ≡ flat_map f xs ++ flat_map f ys
 flat_append f [] ys = refl

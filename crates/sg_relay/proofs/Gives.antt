@@ -1,25 +1,14 @@
 -- What the lines of a relay give whose calls aren't joined, and that their events go in order.
-use Rattle.std.proofs.Common.{◌≡◌, ◌⊎◌, ℕ, List, [], ◌++◌, map, Option, Some, Result, Ok, Err, refl, sym, ap, ◌∙◌, inl, inr}
-use Rattle.std.specs.Prelude.{IfErr}
-use Rattle.std.proofs.lemmas.List.{map-append}
-use Rattle.sg_base.specs.declared.addresses.Address.{Address}
-use Rattle.sg_edge.specs.Links.{LinkCall}
+use Rattle.std.proofs.Common.{◌≡◌, ◌⊎◌, ℕ, List, [], ◌++◌, map, Option, Some, Result, Ok, Err, refl, sym, ap, ◌∙◌, inl, inr, IfErr}
 use Rattle.sg_front.proofs.Sequences.{state_after-append, told_from-append}
-use Rattle.sg_front.specs.States.{state_after, told_from}
-use Rattle.sg_gateway.specs.Events.{events_of_signal}
-use Rattle.sg_gateway.specs.Step.{Event}
 use Rattle.sg_lines.specs.declared.lines.Line.{Line}
 use Rattle.sg_lines.specs.declared.lines.Line.TheVariants as lines
 use Rattle.sg_lines.specs.declared.lines.Signal.{Signal}
 use Rattle.sg_trace.specs.Course.{Given}
 use Rattle.sg_trace.specs.Supplying.{IsSupplied}
-use Rattle.sg_trace.specs.declared.status.Status.{Status}
-use Rattle.sg_trace.specs.declared.status.Status.TheVariants.{Noise}
-use Rattle.sg_relay.specs.Acting.{Acting, GoInOrder}
-use Rattle.sg_relay.specs.Asked.{act_of}
-use Rattle.sg_relay.specs.Causes.{IsOfOutcomes}
-use Rattle.sg_relay.specs.Parts.{AreHandled, Gives, IsGiven}
 use Rattle.sg_relay.specs.Plain.{acting, arrives, given, gives_by}
+use Rattle.sg_relay.proofs.Common.{Acting, Address, AreHandled, Event, Gives, GoInOrder, IsGiven, IsOfOutcomes, LinkCall, Noise, Status, act_of}
+use Rattle.sg_relay.proofs.Common.{events_of_signal, map-append, state_after, told_from}
 use Rattle.sg_relay.proofs.Blames.{outcomes_not}
 
 pub in_order : GoInOrder acting

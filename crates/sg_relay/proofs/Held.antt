@@ -1,8 +1,6 @@
 -- What is held after asks.
 use Rattle.std.proofs.Common.{◌≡◌, ◌⊎◌, inl, inr, ℕ, zero, suc, ◌+◌, ◌<◌, ◌≤◌, Bool, true, false, cond, List, [], ◌∷◌, ◌++◌, map, refl, sym, ap, ◌∙◌, subst, arith, eqb}
-use Rattle.std.proofs.lemmas.Bool.{eq-eqb, ne_eqb, false≢true}
-use Rattle.sg_relay.specs.Asked.{Ask, Bind, Unbind, Send, hold, ports_from}
-use Rattle.sg_relay.specs.Held.{held_after, EachFits, Fits}
+use Rattle.sg_relay.proofs.Common.{Ask, Bind, EachFits, Fits, Send, Unbind, eq-eqb, false≢true, held_after, hold, ne_eqb, ports_from}
 
 pub held-append : (port : ℕ) (was : Bool) (a b : List Ask) → held_after port was (a ++ b) ≡ held_after port (held_after port was a) b
 held-append port was [] b = refl

@@ -1,18 +1,9 @@
 -- What a relay asked its link for is a prefix of what some acts ask for, and so are the ports that it holds.
-use Rattle.std.proofs.Common.{◌≡◌, inl, inr, refl, ℕ, List, [], ◌∷◌, ◌++◌, sym, ap, ◌∙◌, subst, append_assoc, length, length-append, arith}
-use Rattle.std.proofs.lemmas.List.{append-nil}
-use Rattle.std.specs.List.{flat_map}
-use Rattle.sg_edge.specs.Links.{Failing, LinkCall, Receive}
-use Rattle.sg_edge.specs.Told.{Rose, Tally}
-use Rattle.sg_gateway.specs.World.{World}
-use Rattle.sg_trace.specs.Output.{IsPrefixOf}
-use Rattle.sg_trace.specs.declared.status.Status.{Status}
-use Rattle.sg_trace.specs.declared.status.Status.TheVariants.{Done, Usage, Script, Read, Write, Link, NoMemory, Clock, Noise, TurnsSpent, Capture}
-use Rattle.sg_relay.specs.Asked.{Act, Ask, IsAtNext, IsCutOff, IsPart, ask_in, asks_in, asks_of, receipts_in}
-use Rattle.sg_relay.specs.Completeness.{Failures, HasPassed}
-use Rattle.sg_relay.specs.Held.{AreOfCalls, EachFits, PortsAreOfCalls}
-use Rattle.sg_relay.specs.Relay.{HoldsItsCallsPorts, IsRelay, IsWholeRelay, Passed, RelayEnds, RelayTellings, deeds_by, world_by, woven_of}
-use Rattle.sg_relay.specs.Weaving.{Weaves}
+use Rattle.std.proofs.Common.{◌≡◌, inl, inr, refl, ℕ, List, [], ◌∷◌, ◌++◌, sym, ap, ◌∙◌, subst, append_assoc, length, length-append, arith, append-nil, flat_map}
+use Rattle.sg_relay.proofs.Common.{Act, AreOfCalls, Ask, Capture, Clock, Done, EachFits, Failing, Failures, HasPassed, HoldsItsCallsPorts, IsAtNext, IsCutOff}
+use Rattle.sg_relay.proofs.Common.{IsPart, IsPrefixOf, IsRelay, IsWholeRelay, Link, LinkCall, NoMemory, Noise, Passed, PortsAreOfCalls, Read, Receive}
+use Rattle.sg_relay.proofs.Common.{RelayEnds, RelayTellings, Rose, Script, Status, Tally, TurnsSpent, Usage, Weaves, World, Write, ask_in, asks_in, asks_of}
+use Rattle.sg_relay.proofs.Common.{deeds_by, receipts_in, world_by, woven_of}
 use Rattle.sg_relay.proofs.Complete.{complete, none_passed, none_relayed}
 use Rattle.sg_relay.proofs.Deeds.{flat_append, prefix_after, prefix_all, prefix_longer}
 
@@ -97,14 +88,14 @@ has_passed {L} {D} w acts acts' world same law s turns old new failures failures
     }
 
 -- a relay that asked its link for nothing
-holds_none : {L D : Type 0} (w : Weaves L D) (world : List D → World) (p : Passed) → p.calls ≡ [] → HoldsItsCallsPorts w world p
+pub holds_none : {L D : Type 0} (w : Weaves L D) (world : List D → World) (p : Passed) → p.calls ≡ [] → HoldsItsCallsPorts w world p
 holds_none w world p none = record {
   at_receives = λ before rest x is. absurd (omega (arith, ap length (sym none ∙ is), length-append before (Receive x ∷ rest)));
   each = λ before rest ask is. absurd (omega (arith, ap length (sym (ap asks_in none) ∙ is), length-append before (ask ∷ rest)));
 }
 
 -- memory ran out before anything was done
-pub nothing_passed : {L D : Type 0} (w : Weaves L D) (acts : List D → List Act) (world : List D → World) → acts [] ≡ [] → (turns : ℕ) (old : RelayTellings) (failures : Failures) → HasPassed w acts world NoMemory turns old old failures failures
+abbrev pub nothing_passed : {L D : Type 0} (w : Weaves L D) (acts : List D → List Act) (world : List D → World) → acts [] ≡ [] → (turns : ℕ) (old : RelayTellings) (failures : Failures) → HasPassed w acts world NoMemory turns old old failures failures
 nothing_passed w acts world none turns old failures = record {
   passed = none_passed;
   is = none_relayed w acts none old turns;

@@ -1,33 +1,20 @@
 -- Where calls are joined, what is asked of a link is what the table's outcomes ask for, with some sends left out: so the ports are
 -- those of the calls all the same.
-use Rattle.std.proofs.Common.{◌≡◌, inl, inr, ℕ, false, List, [], ◌∷◌, ◌++◌, map, Option, Some, None, Result, Ok, Err, refl, sym, ap, ◌∙◌, subst}
-use Rattle.std.proofs.lemmas.List.{append-nil}
-use Rattle.std.specs.List.{flat_map}
-use Rattle.std.specs.Prelude.{option_to_list}
-use Rattle.sg_base.specs.declared.addresses.Address.{Address}
-use Rattle.sg_base.specs.declared.addresses.CallId.{CallId}
-use Rattle.sg_bridge.specs.Bridged.{Bridging, Said, Happens, Joins, Parts, arrived, bridging, bridgings_from, handed_on, inner, inner_told, joining, opened, parting, passed, told_and_parted}
+use Rattle.std.proofs.Common.{◌≡◌, inl, inr, ℕ, false, List, [], ◌∷◌, ◌++◌, map, Option, Some, None, Result, Ok, Err, refl, sym, ap, ◌∙◌, subst, append-nil, flat_map, option_to_list}
 use Rattle.sg_bridge.specs.Onward.{onward}
-use Rattle.sg_bridge.specs.Pairs.{Joining, Members, Parting, after_outcome, joined, joined_pair, member_at, no_members, parted_from, vacated}
 use Rattle.sg_bridge.specs.declared.faults.JoinFault.{JoinFault}
 use Rattle.sg_bridge.specs.declared.members.Pair.{Pair}
-use Rattle.sg_bridge.specs.declared.outcomes.BridgeOutcome.{BridgeOutcome}
 use Rattle.sg_bridge.specs.declared.outcomes.BridgeOutcome.TheVariants as tells
-use Rattle.sg_gateway.specs.Events.{outcomes_from}
 use Rattle.sg_gateway.specs.PlainOf.{plain_at}
-use Rattle.sg_gateway.specs.Runs.{world_after}
-use Rattle.sg_gateway.specs.Step.{Event, Signalled, Datagram, step}
-use Rattle.sg_gateway.specs.World.{World, empty}
-use Rattle.sg_outcome.specs.declared.outcomes.Outcome.{Outcome}
-use Rattle.sg_outcome.specs.declared.outcomes.Outcome.TheVariants.{Made, Live, Ended, Out, Dropped}
-use Rattle.sg_relay.specs.Asked.{Ask, asks_of}
-use Rattle.sg_relay.specs.Held.{PortsAreOfCalls}
-use Rattle.sg_relay.specs.Joined.{act_of_bridge, acts, acts_of_all, world}
 use Rattle.sg_relay.specs.Plain as plain
+use Rattle.sg_relay.proofs.Common.{Address, Ask, BridgeOutcome, Bridging, CallId, Datagram, Dropped, Ended, Event, Happens, Joining, Joins, Live, Made}
+use Rattle.sg_relay.proofs.Common.{Members, Out, Outcome, Parting, Parts, PortsAreOfCalls, Said, Signalled, World, act_of_bridge, acts, acts_of_all}
+use Rattle.sg_relay.proofs.Common.{after_outcome, arrived, asks_of, bridging, bridgings_from, empty, handed_on, inner, inner_told, joined, joined_pair}
+use Rattle.sg_relay.proofs.Common.{joining, member_at, no_members, opened, outcomes_from, outcomes_from-append, parted_from, parting, passed, step}
+use Rattle.sg_relay.proofs.Common.{told_and_parted, vacated, world, world_after}
 use Rattle.sg_relay.proofs.Asks.{asked_by, asks_of_acts}
 use Rattle.sg_relay.proofs.Deeds.{flat_append}
 use Rattle.sg_relay.proofs.Leaving.{LeavesOutSends, leaves_more, leaves_none, ports_left}
-use Rattle.sg_trace.proofs.Traces.{outcomes_from-append}
 
 -- ---- what a bridge tells
 

@@ -1,20 +1,11 @@
 -- What a relay does for one thing that is said, where calls may be joined.
-use Rattle.std.proofs.Common.{◌≡◌, ◌∷◌, [], ℕ, Bool, false, cond, List, Result, Ok, Err, refl, sym, ap, ◌∙◌, subst}
-use Rattle.std.proofs.lemmas.List.{map-append}
-use Rattle.std.specs.Prelude.{OnOk}
-use Rattle.sg_bridge.specs.Bridged.{Happens, Said, bridging}
-use Rattle.sg_bridge.specs.declared.outcomes.BridgeOutcome.{BridgeOutcome}
-use Rattle.sg_edge.specs.Links.{LinkCall}
-use Rattle.sg_gateway.specs.Events.{events_of_signal, signal_lacks_noise, signal_of}
-use Rattle.sg_gateway.specs.Step.{Signalled}
+use Rattle.std.proofs.Common.{◌≡◌, ◌∷◌, [], ℕ, Bool, false, cond, List, Result, Ok, Err, refl, sym, ap, ◌∙◌, subst, OnOk}
 use Rattle.sg_lines.specs.declared.lines.Signal.{Signal}
-use Rattle.sg_relay.specs.Acting.{GoInOrder}
-use Rattle.sg_relay.specs.Asked.{Act, IsDone}
-use Rattle.sg_relay.specs.Joined.{act_of_bridge, acting, acts_of_all, happen_all}
-use Rattle.sg_relay.specs.Parts.{AreCarriedOut, AreHandled, StopsWith, ended_as}
 use Rattle.sg_switchboard.proofs.Order.{state_after-append, told_from-append, told_of_one}
 use Rattle.sg_switchboard.specs.Switching.{State, after, state_after, told_from}
-use Rattle.sg_trace.specs.declared.status.Status.{Status}
+use Rattle.sg_relay.proofs.Common.{Act, AreCarriedOut, AreHandled, BridgeOutcome, GoInOrder, Happens, IsDone, LinkCall, Said, Signalled, Status, StopsWith}
+use Rattle.sg_relay.proofs.Common.{act_of_bridge, acting, acts_of_all, bridging, ended_as, events_of_signal, happen_all, map-append, signal_lacks_noise}
+use Rattle.sg_relay.proofs.Common.{signal_of}
 
 pub in_order : GoInOrder acting
 in_order = record {

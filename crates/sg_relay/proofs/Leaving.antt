@@ -1,9 +1,6 @@
 -- Asks of which some sends are left out: they hold the same ports, and each fits where it did.
-use Rattle.std.proofs.Common.{◌≡◌, ◌⊎◌, inl, inr, ℕ, Bool, true, false, cond, List, [], ◌∷◌, ◌++◌, refl, sym, ap, ◌∙◌, subst, eqb}
-use Rattle.std.specs.List.{flat_map}
-use Rattle.sg_gateway.specs.World.{World}
-use Rattle.sg_relay.specs.Asked.{Act, Ask, Bind, Unbind, Send, asks_of}
-use Rattle.sg_relay.specs.Held.{EachFits, Fits, PortsAreOfCalls, held_after}
+use Rattle.std.proofs.Common.{◌≡◌, ◌⊎◌, inl, inr, ℕ, Bool, true, false, cond, List, [], ◌∷◌, ◌++◌, refl, sym, ap, ◌∙◌, subst, eqb, flat_map}
+use Rattle.sg_relay.proofs.Common.{Act, Ask, Bind, EachFits, Fits, PortsAreOfCalls, Send, Unbind, World, asks_of, held_after}
 
 -- the second are the first, but for some sends
 abbrev pub LeavesOutSends : List Ask → List Ask → Type 0

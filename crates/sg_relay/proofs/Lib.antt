@@ -2,13 +2,14 @@ mod Accounts
 mod Asks
 mod Blames
 mod CallPorts
+mod Common
 pub mod Complete
 mod Deeds
 mod Gives
 mod Held
+pub mod Holds
 mod JoinedPorts
 mod Joins
-pub mod Holds
 mod Leaving
 mod Order
 mod Relays

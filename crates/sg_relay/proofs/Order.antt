@@ -1,12 +1,7 @@
 -- Calls of a link are in order where those of the parts are.
-use Rattle.std.proofs.Common.{◌≡◌, ◌⊎◌, ◌≤◌, ℕ, List, [], ◌∷◌, ◌++◌, length, refl, sym, ap, ap₂, ◌∙◌, subst, length-append, inl, inr, arith}
-use Rattle.std.specs.List.{flat_map}
-use Rattle.std.proofs.lemmas.List.{append-nil}
-use Rattle.sg_edge.specs.Links.{LinkCall, Receive, Received}
-use Rattle.sg_relay.specs.Acting.{Acting}
-use Rattle.sg_relay.specs.Asked.{Act, AreInOrder, Ask, ask_in, asks_in, asks_of, receipt_in, receipts_in}
-use Rattle.sg_relay.specs.Parts.{IsReceivedFirst, IsTurnInOrder, turned}
-use Rattle.sg_relay.specs.Weaving.{Weaves, ticks_of}
+use Rattle.std.proofs.Common.{◌≡◌, ◌⊎◌, ◌≤◌, ℕ, List, [], ◌∷◌, ◌++◌, length, refl, sym, ap, ap₂, ◌∙◌, subst, length-append, inl, inr, arith, flat_map, append-nil}
+use Rattle.sg_relay.proofs.Common.{Act, Acting, AreInOrder, Ask, IsReceivedFirst, IsTurnInOrder, LinkCall, Receive, Received, Weaves, ask_in, asks_in}
+use Rattle.sg_relay.proofs.Common.{asks_of, receipt_in, receipts_in, ticks_of, turned}
 use Rattle.sg_relay.proofs.Deeds.{flat_append}
 
 -- without a receive

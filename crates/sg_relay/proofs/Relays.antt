@@ -1,22 +1,12 @@
 -- How a relay goes on, line by line.
-use Rattle.std.proofs.Common.{◌≡◌, ◌⊎◌, ◌<◌, ◌≤◌, ◌+◌, ◌^◌, ℕ, List, [], ◌∷◌, ◌++◌, length, Option, Result, Ok, Err, refl, sym, ap, ◌∙◌, subst, append_assoc, length-append, inl, inr, arith}
-use Rattle.std.proofs.lemmas.List.{append-nil}
-use Rattle.sg_base.specs.declared.faults.ScriptFault.{ScriptFault}
-use Rattle.sg_edge.proofs.Links.{added_more, called_more}
-use Rattle.sg_edge.proofs.Passed.{took_more, wrote_more}
-use Rattle.sg_edge.specs.Links.{Added, Called, Failing, LinkCall, Receive, Received}
-use Rattle.sg_edge.specs.Told.{AtEnd, Tally, TookIn, Wrote}
-use Rattle.sg_lines.specs.ScriptLines.{lines_of}
-use Rattle.sg_trace.specs.Reading.{IsFaultBy, IsNextBy, IsReadBy, Reading}
+use Rattle.std.proofs.Common.{◌≡◌, ◌⊎◌, ◌<◌, ◌≤◌, ◌+◌, ◌^◌, ℕ, List, [], ◌∷◌, ◌++◌, length, Option, Result, Ok, Err, refl, sym, ap, ◌∙◌, subst, append_assoc, length-append, inl, inr, arith, append-nil}
 use Rattle.sg_trace.specs.Trace.{AtEnd as BehindAll, AtFault, ForDraw, ForReading, ForReceive, Outside, Stop, moment_of}
-use Rattle.sg_trace.specs.declared.status.Status.{Status}
-use Rattle.sg_trace.specs.declared.status.Status.TheVariants.{Done, Script, Read, Write, Link, NoMemory, Clock, Noise, TurnsSpent}
-use Rattle.sg_relay.specs.Acting.{Acting, GoInOrder}
-use Rattle.sg_relay.specs.Asked.{Act, AreGood, AreInOrder, AtFailedReceive, IsDone, IsPart, receipt_in, receipts_in}
-use Rattle.sg_relay.specs.Causes.{IsOfLines, IsOfTurns}
-use Rattle.sg_relay.specs.Parts.{ArePairs, IsBegun, IsLineCut, IsLineInOrder, IsSaid, IsStopped, StopsWith, taken, taking}
-use Rattle.sg_relay.specs.Relay.{ArePaced, IsBroken, IsRelay, IsWholeRelay, Passed, RelayEnds, RelayTellings, nothing, woven_of}
-use Rattle.sg_relay.specs.Weaving.{Later, Weaves, Woven, said, stopped, with_deeds, woven, woven_from}
+use Rattle.sg_relay.proofs.Common.{Act, Acting, Added, AreGood, AreInOrder, ArePaced, ArePairs, AtEnd, AtFailedReceive, Called, Clock, Done, Failing}
+use Rattle.sg_relay.proofs.Common.{GoInOrder, IsBegun, IsBroken, IsDone, IsFaultBy, IsLineCut, IsLineInOrder, IsNextBy, IsOfLines, IsOfTurns, IsPart}
+use Rattle.sg_relay.proofs.Common.{IsReadBy, IsRelay, IsSaid, IsStopped, IsWholeRelay, Later, Link, LinkCall, NoMemory, Noise, Passed, Read, Reading, Receive}
+use Rattle.sg_relay.proofs.Common.{Received, RelayEnds, RelayTellings, Script, ScriptFault, Status, StopsWith, Tally, TookIn, TurnsSpent, Weaves, Woven}
+use Rattle.sg_relay.proofs.Common.{Write, Wrote, added_more, called_more, lines_of, nothing, receipt_in, receipts_in, said, stopped, taken, taking, took_more}
+use Rattle.sg_relay.proofs.Common.{with_deeds, woven, woven_from, woven_of, wrote_more}
 use Rattle.sg_relay.proofs.Deeds.{AreGood-append, done_more, done_none, flat_append, part_longer, part_of, stops_after, stops_longer}
 use Rattle.sg_relay.proofs.Order.{order_more, order_none}
 use Rattle.sg_relay.proofs.Waits.{done_nothing, of_turns}

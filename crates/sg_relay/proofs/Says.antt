@@ -1,16 +1,9 @@
 -- What a line of a relay makes of what was taken of the outside.
-use Rattle.std.proofs.Common.{◌≡◌, ◌+◌, ℕ, List, [], ◌∷◌, ◌++◌, length, Option, Some, None, Result, Ok, Err, refl, sym, ap, ap₂, ◌∙◌, subst, inl, inr, arith}
-use Rattle.std.specs.Prelude.{IfErr, option_map}
-use Rattle.std.proofs.lemmas.List.{append-nil}
-use Rattle.sg_edge.specs.Links.{LinkCall, Received}
-use Rattle.sg_trace.specs.Trace.{ForReading, ForReceive, Outside, Stop, moment_of}
-use Rattle.sg_trace.specs.declared.status.Status.{Status}
-use Rattle.sg_trace.specs.declared.status.Status.TheVariants.{Write, Link, NoMemory, Noise}
-use Rattle.sg_relay.specs.Acting.{Acting, GoInOrder}
-use Rattle.sg_relay.specs.Asked.{Act, AreGood, AreInOrder, IsDone, receipts_in}
-use Rattle.sg_relay.specs.Causes.{IsOfOutcomes, IsOfSignals, IsOfWaits}
-use Rattle.sg_relay.specs.Parts.{Gives, IsBegun, IsGiven, IsLineCut, IsLineInOrder, IsSaid, IsStopped, IsWaitCut, IsWaitInOrder, IsWaited, IsWaiting, StopsWith, taken, taking}
-use Rattle.sg_relay.specs.Weaving.{Later, Weaves, behind_given, said, waited, waited_or_given, with_deeds}
+use Rattle.std.proofs.Common.{◌≡◌, ◌+◌, ℕ, List, [], ◌∷◌, ◌++◌, length, Option, Some, None, Result, Ok, Err, refl, sym, ap, ap₂, ◌∙◌, subst, inl, inr, arith, IfErr, option_map, append-nil}
+use Rattle.sg_relay.proofs.Common.{Act, Acting, AreGood, AreInOrder, ForReading, ForReceive, Gives, GoInOrder, IsBegun, IsDone, IsGiven, IsLineCut}
+use Rattle.sg_relay.proofs.Common.{IsLineInOrder, IsOfOutcomes, IsOfSignals, IsOfWaits, IsSaid, IsStopped, IsWaitCut, IsWaitInOrder, IsWaited, IsWaiting}
+use Rattle.sg_relay.proofs.Common.{Later, Link, LinkCall, NoMemory, Noise, Outside, Received, Status, Stop, StopsWith, Weaves, Write, behind_given, moment_of}
+use Rattle.sg_relay.proofs.Common.{receipts_in, said, taken, taking, waited, waited_or_given, with_deeds}
 use Rattle.sg_relay.proofs.Deeds.{done_none}
 use Rattle.sg_relay.proofs.Order.{order_none}
 use Rattle.sg_relay.proofs.Waits.{of_outcomes, of_signals, of_turns}

@@ -1,28 +1,17 @@
 -- What is told of an event asks for what its outcomes ask for, and a packet that leaves by the port that its leg shares
 -- leaves by another port of its call: so after each event the ports that are held are those of the calls that are there.
 use Rattle.std.proofs.Common.{◌≡◌, inl, inr, ℕ, ◌-◌, ◌%◌, Bool, true, false, cond, not, ◌&&◌, eqb, List, [], ◌∷◌, ◌++◌, map, Option, Some, None, refl, sym, ap, ◌∙◌, subst, arith}
-use Rattle.std.proofs.lemmas.Bool.{and_parts, eqb-true, or_cases, or_left, or_right}
-use Rattle.std.specs.List.{AllByRecursion, flat_map}
-use Rattle.sg_base.specs.declared.addresses.Address.{Address}
-use Rattle.sg_front.proofs.Runs.{told_in, world_in}
 use Rattle.sg_front.specs.States.{State, comes, muxing, next, start, state_after, told_from}
-use Rattle.sg_gateway.specs.Datagrams.{Drops, Given, Puts, arrived_at, arrived_in, given_to}
-use Rattle.sg_gateway.specs.Order.{IsOrderly}
-use Rattle.sg_gateway.specs.Ports.{call_at, has_port}
-use Rattle.sg_gateway.specs.Runs.{world_after}
-use Rattle.sg_gateway.specs.Signals.{Signal, Answered, answer_to}
-use Rattle.sg_gateway.specs.Step.{Event, Signalled, Datagram, step}
-use Rattle.sg_gateway.specs.World.{Call, World, empty}
 use Rattle.sg_mux.specs.Legs.{arrived_port, is_muxed_at, is_muxed_rtcp, leaves}
 use Rattle.sg_mux.specs.Muxed.{settled_answer, settled, signalled}
 use Rattle.sg_mux.specs.Via.{events_in, outcomes_in, told_at}
 use Rattle.sg_mux.specs.declared.known.Known.{Known}
-use Rattle.sg_outcome.specs.declared.outcomes.Outcome.{Outcome}
 use Rattle.sg_outcome.specs.declared.outcomes.Outcome.TheVariants as outcomes
 use Rattle.sg_passages.specs.Passages.{Leaving, straight}
-use Rattle.sg_relay.specs.Asked.{Ask, asks_of}
 use Rattle.sg_relay.specs.Plain as plain
-use Rattle.sg_relay.specs.Held.{AreOfCalls, EachFits, PortsAreOfCalls, held_after}
+use Rattle.sg_relay.proofs.Common.{Address, AllByRecursion, Answered, AreOfCalls, Ask, Call, Datagram, Drops, EachFits, Event, Given, IsOrderly, Outcome}
+use Rattle.sg_relay.proofs.Common.{PortsAreOfCalls, Puts, Signal, Signalled, World, and_parts, answer_to, arrived_at, arrived_in, asks_of, call_at, empty}
+use Rattle.sg_relay.proofs.Common.{eqb-true, flat_map, given_to, has_port, held_after, or_cases, or_left, or_right, step, told_in, world_after, world_in}
 use Rattle.sg_relay.proofs.Accounts.{Accounts, Begun, HasFew, event_accounts}
 use Rattle.sg_relay.proofs.Asks.{asked_by, asks_of_acts}
 use Rattle.sg_relay.proofs.CallPorts.{any_of_calls, has_within, of_any, of_calls, within}

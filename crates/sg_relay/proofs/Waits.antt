@@ -1,18 +1,11 @@
 -- How a relay's turns and waits go on.
-use Rattle.std.proofs.Common.{◌≡◌, ◌⊎◌, ◌<◌, ◌≤◌, ◌+◌, ℕ, true, false, List, [], ◌∷◌, ◌++◌, length, max, Result, Ok, Err, refl, sym, ap, ap₂, ◌∙◌, subst, append_assoc, length-append, inl, inr, arith}
-use Rattle.std.specs.Prelude.{nat_le, if◌then◌else◌}
-use Rattle.std.proofs.lemmas.Bool.{cond-true, cond-false, le-leb, lt-leb}
-use Rattle.std.proofs.lemmas.List.{append-nil}
-use Rattle.sg_trace.specs.Trace.{ForReading, ForReceive, moment_of}
-use Rattle.sg_trace.specs.declared.status.Status.{Status}
-use Rattle.sg_trace.specs.declared.status.Status.TheVariants.{Write, Link, NoMemory, Clock, Noise}
-use Rattle.sg_edge.specs.Links.{Failing, LinkCall, Nothing, Received}
+use Rattle.std.proofs.Common.{◌≡◌, ◌⊎◌, ◌<◌, ◌≤◌, ◌+◌, ℕ, true, false, List, [], ◌∷◌, ◌++◌, length, max, Result, Ok, Err, refl, sym, ap, ap₂, ◌∙◌, subst, append_assoc, length-append, inl, inr, arith, nat_le, if◌then◌else◌, append-nil}
 use Rattle.sg_edge.specs.Links as links
-use Rattle.sg_relay.specs.Acting.{Acting, GoInOrder}
-use Rattle.sg_relay.specs.Asked.{Act, AreGood, AreInOrder, AtFailedReceive, IsDone, IsGood, receipt_in, receipts_in}
-use Rattle.sg_relay.specs.Causes.{IsOfOutcomes, IsOfSignals, IsOfTurns}
-use Rattle.sg_relay.specs.Parts.{AreHandled, IsReceived, IsTurn, IsTurnCut, IsTurnInOrder, IsTurnUnreceived, IsWaitCut, IsWaitInOrder, IsWaited, IsWaiting, StopsWith, turned}
-use Rattle.sg_relay.specs.Weaving.{Later, Weaves, Woven, arrivals_of, stopped, ticks_of, waited, with_deeds}
+use Rattle.sg_relay.proofs.Common.{Act, Acting, AreGood, AreHandled, AreInOrder, AtFailedReceive, Clock, Failing, ForReading, ForReceive, GoInOrder, IsDone}
+use Rattle.sg_relay.proofs.Common.{IsGood, IsOfOutcomes, IsOfSignals, IsOfTurns, IsReceived, IsTurn, IsTurnCut, IsTurnInOrder, IsTurnUnreceived, IsWaitCut}
+use Rattle.sg_relay.proofs.Common.{IsWaitInOrder, IsWaited, IsWaiting, Later, Link, LinkCall, NoMemory, Noise, Nothing, Received, Status, StopsWith, Weaves}
+use Rattle.sg_relay.proofs.Common.{Woven, Write, arrivals_of, cond-false, cond-true, le-leb, lt-leb, moment_of, receipt_in, receipts_in, stopped, ticks_of}
+use Rattle.sg_relay.proofs.Common.{turned, waited, with_deeds}
 use Rattle.sg_relay.proofs.Deeds.{AreGood-append, done_more, done_none, flat_append, stops_after}
 use Rattle.sg_relay.proofs.Order.{order_as, order_more, order_none}
 use Rattle.sg_relay.proofs.Weavings.{with_deeds_again}

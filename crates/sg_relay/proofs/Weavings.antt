@@ -1,11 +1,8 @@
 -- How a relay's weaving goes on, line by line.
 use Rattle.std.proofs.Common.{◌≡◌, ◌+◌, ℕ, List, ◌++◌, length, Ok, sym, ap, ◌∙◌, append_assoc}
-use Rattle.sg_base.specs.declared.faults.ScriptFault.{ScriptFault}
 use Rattle.sg_lines.proofs.Splits.{lines_of_whole}
-use Rattle.sg_lines.specs.ScriptLines.{IsWhole, lines_of}
-use Rattle.sg_trace.specs.Reading.{FirstFailsBy}
-use Rattle.sg_trace.specs.Trace.{AtFault, Outside, spelled_at}
-use Rattle.sg_relay.specs.Weaving.{Weaves, Woven, behind_line, said, stopped, with_deeds, woven_from}
+use Rattle.sg_relay.proofs.Common.{AtFault, FirstFailsBy, IsWhole, Outside, ScriptFault, Weaves, Woven, behind_line, lines_of, said, spelled_at, stopped}
+use Rattle.sg_relay.proofs.Common.{with_deeds, woven_from}
 
 -- a line that is read
 pub reads_on : {L D : Type 0} (w : Weaves L D) (began version n at : ℕ) (line rest : List ℕ) (l : L) (top : ℕ) (o : Outside) → IsWhole line → spelled_at w.spelled version n at line ≡ Ok l

@@ -1,4 +1,4 @@
--- What a relay promises. Where nothing fails, sends aside, it handles its script to the end.
+-- What a relay promises. Where nothing fails, sends aside, it handles a script in the grammar to the end.
 use Rattle.std.specs.Prelude.{◌≡◌, ◌⊎◌, ℕ, ◌+◌, List, length, Some}
 use Rattle.sg_base.specs.declared.faults.ScriptFault.{ScriptFault}
 use Rattle.sg_edge.specs.Links.{Received}
@@ -41,8 +41,9 @@ pub record OnlyLinkFailed (old new : Failures) : Type 0 where
   pub clock : ¬ Rose old.clock new.clock
   pub noise : ¬ Rose old.noise new.noise
 
--- This passed between a relay and the outside. It listened at the ports of the calls that were there, and at no others. Where nothing
--- fails, sends aside, it handled its script to the end, or memory ran out.
+-- This passed between a relay and the outside. Whenever it received it listened at the ports of the calls that were there, and at no
+-- others. Where nothing fails, sends aside, it handled a script in the grammar that asks for no more turns to the end, or memory ran
+-- out.
 pub record HasPassed {L D : Type 0} (w : Weaves L D) (acts : List D → List Act) (world : List D → World) (status : Status) (turns : ℕ) (old new : RelayTellings) (failures failures' : Failures) : Type 0 where
   pub passed : Passed
   pub is : IsRelay w acts status turns old new passed

@@ -73,9 +73,9 @@ pub fn relay<S: Source, K: Sink, L: Link, C: Clock, N: Noise>(
     }
 }
 
-/// The same of calls of which some may be joined: at a line `join` two are, and until they are parted what is opened in the one goes
-/// on to the other at once, and is sealed there or told as lost. Their plain ports stay bound, and what comes there from outside is
-/// dropped.
+/// The same of calls of which some may be joined: at a line `join` two are, where nothing is told against it, and until they are
+/// parted what is opened in the one goes on to the other at once, and is sealed there or told as lost. Their plain ports stay bound,
+/// and what comes there from outside is dropped.
 #[inline(never)]
 pub fn relay_joined<S: Source, K: Sink, L: Link, C: Clock, N: Noise>(
     alloc: Global,

@@ -1,38 +1,27 @@
 -- What a run did, by how its words were read.
-use Rattle.std.proofs.Common.{◌≡◌, ◌⊎◌, ℕ, List, [], Bool, map, Option, Result, Ok, Err, refl, sym, ap, ◌∙◌, subst, inl, inr, arith, true, false, ◌∷◌, ◌++◌, length, length-append}
+use Rattle.std.proofs.Common.{◌≡◌, ◌⊎◌, ℕ, List, [], Bool, map, Option, Result, Ok, Err, refl, sym, ap, ◌∙◌, subst, inl, inr, arith, true, false}
 use Rattle.std.proofs.lemmas.List.{append-nil}
-use Rattle.std.proofs.lemmas.List.Elements.{All-from_recursion}
 use Rattle.sg_bridge.specs.BridgeHolds.{BridgeHolds}
-use Rattle.sg_bridge.specs.Bridged.{Crosses, GoesBothWays, StaysInside}
-use Rattle.sg_bridge.specs.Calls.{KnowsItsCalls}
-use Rattle.sg_bridge.specs.Lost.{LosesOnlySo, SettlesWhatOpens}
-use Rattle.sg_bridging.proofs.Completes.{untouched as nothing_bridged}
-use Rattle.sg_bridging.specs.Bridge.{IsBridge}
-use Rattle.sg_trace.proofs.Ends.{nothing_read}
+use Rattle.sg_bridge.specs.Bridged.{Said}
+use Rattle.sg_bridging.specs.Bridge.{bridge_text, of_bridge}
+use Rattle.sg_trace.proofs.Ends.{nothing_run}
 use Rattle.sg_trace.specs.Causes.{EndedBy, HasFailed}
-use Rattle.sg_capture.specs.Capturing.{IsCapture}
+use Rattle.sg_trace.specs.Loop.{Tellings}
+use Rattle.sg_capture.proofs.Compositions.{untouched as nothing_captured}
 use Rattle.sg_trace.specs.declared.status.Status.{Status}
 use Rattle.sg_trace.specs.declared.status.Status.TheVariants.{Done, Write, NoMemory}
 use Rattle.sg_demo.specs.Demonstration.{demonstration, events_shown}
 use Rattle.sg_demo.specs.Text.{IsShown, summary_text}
-use Rattle.sg_edge.proofs.Links.{added_none}
-use Rattle.sg_edge.proofs.Passed.{took_none, wrote_none}
-use Rattle.sg_edge.specs.Links.{Receive}
+use Rattle.sg_edge.proofs.Passed.{wrote_none}
 use Rattle.sg_edge.specs.Told.{Rose, Tally}
 use Rattle.sg_gateway.specs.Step.{Event}
-use Rattle.sg_gateway.specs.World.{World}
 use Rattle.sg_migrate.specs.Migrated.{of_migration, written_of}
-use Rattle.sg_migrate.specs.Migration.{IsMigration}
-use Rattle.sg_migrate.specs.Migration as migrations
 use Rattle.sg_mux.specs.Latest.{LegsAreMuxed}
 use Rattle.sg_mux.specs.Via.{events_in as table_events, outcomes_in, passages_in}
 use Rattle.sg_passages.specs.Passages.{Passage}
 use Rattle.sg_playback.proofs.Completes.{untouched as nothing_replayed}
-use Rattle.sg_playback.specs.Replay.{IsReplay}
-use Rattle.sg_playback.specs.Replay as replays
-use Rattle.sg_relay.proofs.Complete.{none_passed, none_relayed}
+use Rattle.sg_relay.proofs.Holds.{nothing_passed}
 use Rattle.sg_relay.specs.Asked.{Act, act_of}
-use Rattle.sg_relay.specs.Completeness.{HasPassed}
 use Rattle.sg_relay.specs.Joined as joined
 use Rattle.sg_relay.specs.Plain as plain
 use Rattle.sg_relay.specs.Relay.{IsRelay}
@@ -72,50 +61,21 @@ not_replayed legs muxes old = record {
   complete = λ none all rest left left' script. inr refl;
 }
 
--- of nothing that is said
-nothing_said : BridgeHolds []
-nothing_said = record {
-  inside = All-from_recursion StaysInside [] tt;
-  crossing = All-from_recursion Crosses [] tt;
-  both_ways = All-from_recursion GoesBothWays [] tt;
-  settled = All-from_recursion SettlesWhatOpens [] tt;
-  lost = All-from_recursion LosesOnlySo [] tt;
-  members = All-from_recursion KnowsItsCalls [] tt;
-  causes = tt;
-  told = tt;
-  pairs = tt;
-  lines = tt;
-  signals = tt;
-  behind = tt;
-}
-
-abbrev nothing_relayed : {L D : Type 0} (w : Weaves L D) (acts : List D → List Act) (world : List D → World) → acts [] ≡ [] → (turns : ℕ) (old : Surroundings)
-    → HasPassed w acts world NoMemory turns (of_relay old) (of_relay old) old.failures old.failures
-nothing_relayed w acts world none turns old = record {
-  passed = none_passed;
-  is = none_relayed w acts none (of_relay old) turns;
-  ports = record {
-    at_receives = λ before rest x is. absurd (omega (arith, ap length is, length-append before (Receive x ∷ rest)));
-    each = λ before rest ask is. absurd (omega (arith, ap length is, length-append before (ask ∷ rest)));
-  };
-  complete = λ only all rest told told' script few well. inr refl;
-}
-
 not_relayed : (legs : (es : List Event) → LegsAreMuxed es) (muxes : Bool) (turns : ℕ) (old : Surroundings) → HasRelayed muxes turns NoMemory old old [] []
 not_relayed legs muxes turns old = record {
-  run = nothing_relayed plain.weaves (plain.acts muxes) (plain.world muxes) (ap (map act_of) (no_outcomes muxes)) turns old;
+  run = nothing_passed plain.weaves (plain.acts muxes) (plain.world muxes) (ap (map act_of) (no_outcomes muxes)) turns (of_relay old) old.failures;
   events_are = no_events muxes;
   passages_are = no_passages muxes;
   legs = λ before after is. legs before;
   most = omega arith;
 }
 
-not_relayed_joined : (turns : ℕ) (old : Surroundings) → HasRelayedJoined turns NoMemory old old [] []
-not_relayed_joined turns old = record {
-  run = nothing_relayed joined.weaves joined.acts joined.world refl turns old;
+not_relayed_joined : (law : (said : List Said) → BridgeHolds said) (turns : ℕ) (old : Surroundings) → HasRelayedJoined turns NoMemory old old [] []
+not_relayed_joined law turns old = record {
+  run = nothing_passed joined.weaves joined.acts joined.world refl turns (of_relay old) old.failures;
   events_are = refl;
   passages_are = refl;
-  holds = nothing_said;
+  holds = law [];
   most = omega arith;
 }
 
@@ -131,13 +91,7 @@ not_migrated : (old : Surroundings) → HasMigrated NoMemory old old [] []
 not_migrated old = record {
   octets = [];
   out = [];
-  is = record {
-    took = took_none old.left;
-    wrote = wrote_none old.written;
-    ends = nothing_read of_migration (written_of 0) 1 old.left refl;
-    quiet = λ is. cc;
-    bound = omega arith;
-  };
+  is = record { run = nothing_run of_migration (written_of 0) 1 true _ refl; quiet = λ is. cc };
   events_are = refl;
   passages_are = refl;
   complete = λ source sink all rest left left' script. inr refl;
@@ -148,53 +102,36 @@ not_captured old = record {
   octets = [];
   draws = [];
   out = [];
-  is = record {
-    took = took_none old.left;
-    drew = added_none old.drawn;
-    wrote = wrote_none old.written;
-    ends = record {
-      played = [];
-      ahead = [];
-      split = refl;
-      near = omega arith;
-      told = [];
-      late = [];
-      alike = refl;
-      few = omega arith;
-      begun = ([], refl);
-      within = ([], refl);
-    };
-    bound = omega arith;
-  };
+  is = nothing_captured (of_replay old);
   events_are = refl;
   passages_are = refl;
   complete = λ none all rest left left' script. inr refl;
 }
 
-not_bridged : (old : Surroundings) → HasBridged NoMemory old old [] []
-not_bridged old = record {
+not_bridged : (law : (said : List Said) → BridgeHolds said) (old : Surroundings) → HasBridged NoMemory old old [] []
+not_bridged law old = record {
   octets = [];
   draws = [];
   out = [];
-  is = nothing_bridged (of_replay old);
+  is = nothing_run of_bridge bridge_text 2 true (of_replay old) refl;
   events_are = refl;
   passages_are = refl;
-  holds = nothing_said;
+  holds = law [];
   alike = λ none. record { said = refl; stop = refl; left = refl; events = refl; told = refl; text = refl };
   complete = λ none all rest left left' script. inr refl;
 }
 
-none_done : (legs : (es : List Event) → LegsAreMuxed es) (command : Command) (old : Surroundings) → HasDone command NoMemory old old [] []
-none_done legs (Replay workers muxes) old = not_replayed legs muxes old
-none_done legs (Relay turns muxes) old = not_relayed legs muxes turns old
-none_done legs (RelayJoined turns) old = not_relayed_joined turns old
-none_done legs (Demo calls start workers) old = not_shown calls start old
-none_done legs Migrate old = not_migrated old
-none_done legs commands.Capture old = not_captured old
-none_done legs Bridge old = not_bridged old
+none_done : (legs : (es : List Event) → LegsAreMuxed es) (law : (said : List Said) → BridgeHolds said) (command : Command) (old : Surroundings) → HasDone command NoMemory old old [] []
+none_done legs law (Replay workers muxes) old = not_replayed legs muxes old
+none_done legs law (Relay turns muxes) old = not_relayed legs muxes turns old
+none_done legs law (RelayJoined turns) old = not_relayed_joined law turns old
+none_done legs law (Demo calls start workers) old = not_shown calls start old
+none_done legs law Migrate old = not_migrated old
+none_done legs law commands.Capture old = not_captured old
+none_done legs law Bridge old = not_bridged law old
 
-pub not_begun : ((es : List Event) → LegsAreMuxed es) → (words : Words) (old : Surroundings) → HasRun words NoMemory old old [] []
-not_begun legs words old = λ command are. none_done legs command old
+pub not_begun : ((es : List Event) → LegsAreMuxed es) → ((said : List Said) → BridgeHolds said) → (words : Words) (old : Surroundings) → HasRun words NoMemory old old [] []
+not_begun legs law words old = λ command are. none_done legs law command old
 
 -- words that are no command
 pub no_run : (words : Words) (status : Status) (old new : Surroundings) → IsNoCommand words → HasRun words status old new [] []
@@ -229,13 +166,11 @@ pub leaves_all : {S K L C N : Type 0} (words : Words) (lent : Lent S K L C N) �
 leaves_all words lent = λ command are. none_touched command
   where
     none_touched : (command : Command) → LeavesAlone command lent lent
-    none_touched (Replay workers muxes) = (refl, refl)
     none_touched (Relay turns muxes) = tt
     none_touched (RelayJoined turns) = tt
     none_touched (Demo calls start workers) = (refl, refl, refl, refl)
     none_touched Migrate = (refl, refl, refl)
-    none_touched commands.Capture = (refl, refl)
-    none_touched Bridge = (refl, refl)
+    none_touched other = (refl, refl)
 
 -- all of a demonstration's events were taken
 pub all_taken : (status : Status) (events : List Event) → AreTaken status events events
@@ -244,23 +179,13 @@ all_taken other events = ([], sym (append-nil events))
 
 -- ---- what a command doesn't answer
 
-pub replay_not : (other : Status) {muxes : Bool} {status : Status} {old new : replays.ReplayTellings} {octets draws out : List ℕ} → (IsReplay muxes other old new octets draws out → ⊥)
-    → IsReplay muxes status old new octets draws out → status ≡ other → ⊥
-replay_not other {muxes} {status} {old} {new} {octets} {draws} {out} isnt run is = isnt (subst (λ s. IsReplay muxes s old new octets draws out) is run)
+pub loop_not : (so : Status → Tellings → Tellings → List ℕ → List ℕ → List ℕ → Type 0) (other : Status) {status : Status} {old new : Tellings} {octets draws out : List ℕ} → (so other old new octets draws out → ⊥)
+    → so status old new octets draws out → status ≡ other → ⊥
+loop_not so other {status} {old} {new} {octets} {draws} {out} isnt run is = isnt (subst (λ s. so s old new octets draws out) is run)
 
 pub relay_not : (other : Status) {L D : Type 0} {w : Weaves L D} {acts : List D → List Act} {status : Status} {turns : ℕ} {old new : relays.RelayTellings} {p : relays.Passed} → (IsRelay w acts other turns old new p → ⊥)
     → IsRelay w acts status turns old new p → status ≡ other → ⊥
 relay_not other {L} {D} {w} {acts} {status} {turns} {old} {new} {p} isnt run is = isnt (subst (λ s. IsRelay w acts s turns old new p) is run)
-
-pub migration_not : (other : Status) {status : Status} {old new : migrations.MigrationTellings} {octets out : List ℕ} → (IsMigration other old new octets out → ⊥) → IsMigration status old new octets out → status ≡ other → ⊥
-migration_not other {status} {old} {new} {octets} {out} isnt run is = isnt (subst (λ s. IsMigration s old new octets out) is run)
-
-pub capture_not : (other : Status) {status : Status} {old new : replays.ReplayTellings} {octets draws out : List ℕ} → (IsCapture other old new octets draws out → ⊥)
-    → IsCapture status old new octets draws out → status ≡ other → ⊥
-capture_not other {status} {old} {new} {octets} {draws} {out} isnt run is = isnt (subst (λ s. IsCapture s old new octets draws out) is run)
-
-pub bridge_not : (other : Status) {status : Status} {old new : replays.ReplayTellings} {octets draws out : List ℕ} → (IsBridge other old new octets draws out → ⊥) → IsBridge status old new octets draws out → status ≡ other → ⊥
-bridge_not other {status} {old} {new} {octets} {draws} {out} isnt run is = isnt (subst (λ s. IsBridge s old new octets draws out) is run)
 
 pub demo_not : (other status : Status) (written written' : Tally) (octets : List ℕ) → (IsShown other written written' octets → ⊥) → IsShown status written written' octets → status ≡ other → ⊥
 demo_not other status written written' octets isnt shown is = isnt (subst (λ s. IsShown s written written' octets) is shown)

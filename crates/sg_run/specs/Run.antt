@@ -58,7 +58,7 @@ pub record NoneOfScriptsFailed (old new : Failures) : Type 0 where
 
 -- A replay read, drew and wrote these octets; these are its events as they come to the gateway, and what is told of them. The
 -- legs that share their ports, where they may, are after each event those of which offers and answers say so. Where nothing fails
--- it plays its script to the end, or memory runs out.
+-- it plays a script in the grammar to the end, or memory runs out.
 pub record HasReplayed (muxes : Bool) (status : Status) (old new : Surroundings) (events : List Event) (passages : List Passage) : Type 0 where
   pub octets : List ℕ
   pub draws : List ℕ
@@ -70,8 +70,8 @@ pub record HasReplayed (muxes : Bool) (status : Status) (old new : Surroundings)
   pub complete : NoneOfScriptsFailed old.failures new.failures → IsCompleteReplay status old.left new.left
 
 -- This passed between a relay and the outside; these are its events as they come to the gateway, and what is told of them.
--- It listened at the ports of the calls that were there, and at no others, and took so many turns at most. Where nothing fails,
--- sends aside, it handles its script to the end, or memory runs out.
+-- Whenever it received it listened at the ports of the calls that were there, and at no others, and it took so many turns at most.
+-- Where nothing fails, sends aside, it handles a script in the grammar that asks for no more turns to the end, or memory runs out.
 pub record HasRelayed (muxes : Bool) (turns : ℕ) (status : Status) (old new : Surroundings) (events : List Event) (passages : List Passage) : Type 0 where
   pub run : HasPassed plain.weaves (plain.acts muxes) (plain.world muxes) status turns (of_relay old) (of_relay new) old.failures new.failures
   pub events_are : events ≡ table_events muxes (woven_of plain.weaves run.passed).deeds
@@ -102,8 +102,8 @@ pub record HasShown (calls start : ℕ) (status : Status) (old new : Surrounding
   pub passages_are : passages ≡ plain_passages events
   pub complete : ¬ Rose old.failures.sink new.failures.sink → (status ≡ Done) ⊎ (status ≡ NoMemory)
 
--- A migration read and wrote these octets. It hands no event to the gateway. Where nothing fails it writes its script to the end,
--- or memory runs out.
+-- A migration read and wrote these octets. It hands no event to the gateway. Where nothing fails it writes a script of version 1 to
+-- the end, or memory runs out.
 pub record HasMigrated (status : Status) (old new : Surroundings) (events : List Event) (passages : List Passage) : Type 0 where
   pub octets : List ℕ
   pub out : List ℕ
@@ -114,7 +114,7 @@ pub record HasMigrated (status : Status) (old new : Surroundings) (events : List
       → migrations.IsCompleteMigration status old.left new.left
 
 -- A script and the capture behind it were read, drew and wrote these octets; these are their events, told as they are. Where
--- nothing fails they are played to the end, or memory runs out.
+-- nothing fails, and they have no fault, they are played to the end, or memory runs out.
 pub record HasCaptured (status : Status) (old new : Surroundings) (events : List Event) (passages : List Passage) : Type 0 where
   pub octets : List ℕ
   pub draws : List ℕ
@@ -126,8 +126,8 @@ pub record HasCaptured (status : Status) (old new : Surroundings) (events : List
 
 -- A bridge read, drew and wrote these octets, and these are its events at the gateway, each inner one too, with what the
 -- gateway tells of them; what is written is told by the definitions of bridges. What a bridge holds of joined calls is so of
--- its lines, and where no line joins or parts it is played as a replay. Where nothing fails it is played to the end, or memory runs
--- out.
+-- its lines, and where no line joins or parts it is played as a replay. Where nothing fails, and no line is outside the grammar, it
+-- is played to the end, or memory runs out.
 pub record HasBridged (status : Status) (old new : Surroundings) (events : List Event) (passages : List Passage) : Type 0 where
   pub octets : List ℕ
   pub draws : List ℕ
@@ -168,13 +168,11 @@ pub record Lent (S K L C N : Type 0) : Type 0 where
   pub noise : N
 
 abbrev pub LeavesAlone : {S K L C N : Type 0} → Command → Lent S K L C N → Lent S K L C N → Type 0
-LeavesAlone (Replay workers muxes) old new = (new.link ≡ old.link) × (new.clock ≡ old.clock)
 LeavesAlone (Relay turns muxes) old new = ⊤
 LeavesAlone (RelayJoined turns) old new = ⊤
 LeavesAlone (Demo calls start workers) old new = (new.source ≡ old.source) × (new.link ≡ old.link) × (new.clock ≡ old.clock) × (new.noise ≡ old.noise)
 LeavesAlone Migrate old new = (new.link ≡ old.link) × (new.clock ≡ old.clock) × (new.noise ≡ old.noise)
-LeavesAlone Capture old new = (new.link ≡ old.link) × (new.clock ≡ old.clock)
-LeavesAlone Bridge old new = (new.link ≡ old.link) × (new.clock ≡ old.clock)
+LeavesAlone other old new = (new.link ≡ old.link) × (new.clock ≡ old.clock)
 
 -- whatever command the words are
 abbrev pub LeavesOthersAlone : {S K L C N : Type 0} → Words → Lent S K L C N → Lent S K L C N → Type 0

@@ -91,9 +91,8 @@ pub fn run<R: Threads + Sync, S: Source, K: Sink, L: Link, C: Clock, N: Noise, G
         × AuditorsPages (map seen_of passages) }
     ensures given { (S.left source.new).count ≤ (S.left source.old).count + (2 ^ 30 + 1) }
     ensures usage { result ≡ Status.Usage → IsNoCommand (map string_bytes words.now) }
-    ensures no_command { IsNoCommand (map string_bytes words.now) → (result ≡ Status.Usage) ⊎ (result ≡ Status.NoMemory) }
-    ensures untouched { IsNoCommand (map string_bytes words.now)
-        → (source.new ≡ source.old) × (sink.new ≡ sink.old) × (link.new ≡ link.old) × (clock.new ≡ clock.old) × (noise.new ≡ noise.old) }
+    ensures no_command { IsNoCommand (map string_bytes words.now) → ((result ≡ Status.Usage) ⊎ (result ≡ Status.NoMemory))
+        × (source.new ≡ source.old) × (sink.new ≡ sink.old) × (link.new ≡ link.old) × (clock.new ≡ clock.old) × (noise.new ≡ noise.old) }
     ensures alone { LeavesOthersAlone (map string_bytes words.now)
         (record { source = source.old; sink = sink.old; link = link.old; clock = clock.old; noise = noise.old })
         (record { source = source.new; sink = sink.new; link = link.new; clock = clock.new; noise = noise.new }) }

@@ -1,7 +1,7 @@
 -- Choosing a line, value by value.
-use Rattle.std.proofs.Common.{◌≡◌, ◌≢◌, ℕ, ◌+◌, ◌^◌, ◌<◌, ◌≤◌, List, [], ◌∷◌, Bool, true, false, cond, None, length, drop, get_or, Result, Ok, Err, refl, sym, ◌∙◌, subst, arith}
-use Rattle.std.specs.Prelude.{IfOk, IfErr, ◌==◌}
-use Rattle.std.specs.List.{AllByRecursion, find}
+use Rattle.std.proofs.Common.{◌≡◌, ◌≢◌, ℕ, ◌+◌, ◌^◌, ◌<◌, ◌≤◌, List, [], ◌∷◌, Bool, true, None, length, drop, get_or, Result, Ok, Err, refl, sym, ◌∙◌, arith}
+use Rattle.std.specs.Prelude.{IfOk, IfErr}
+use Rattle.std.specs.List.{AllByRecursion}
 use Rattle.std.proofs.Math.ListN.{drop_of_length-le}
 use Rattle.base64.specs.GeneralPurpose.{IsBytes}
 use Rattle.sg_base.specs.declared.Suite as suites
@@ -9,14 +9,14 @@ use Rattle.sg_base.specs.declared.Suite.TheVariants.{Raw80}
 use Rattle.sg_base.specs.Keys.{master_of}
 use Rattle.sg_base.specs.Suites.{key_len_of, salt_len_of}
 use Rattle.sg_base.specs.declared.SdesFault.{SdesFault}
-use Rattle.sg_base.specs.declared.SdesFault.TheVariants.{NoLine, Tag, Suite as NoSuite}
+use Rattle.sg_base.specs.declared.SdesFault.TheVariants.{NoLine}
 use Rattle.sg_sdes.specs.declared.lines.CryptoLine.{CryptoLine}
 use Rattle.sg_base.proofs.Lists.{split_here}
-use Rattle.sg_sdes.specs.Answers.{chosen_of, or_next, IsUnread, fresh_line, matched, same_suite}
+use Rattle.sg_sdes.specs.Answers.{chosen_of, or_next, IsUnread, fresh_line}
 use Rattle.sg_sdes.specs.CryptoOf.{crypto_of}
 use Rattle.sg_sdes.specs.CryptoText.{IsCryptoLine}
-use Rattle.sg_sdes.specs.Keys.{all_differ, or_fault}
-use Rattle.sg_sdes.proofs.ValidLaws.{crypto_valid, made_key, inline_made, longest, bind_ok}
+use Rattle.sg_sdes.specs.Keys.{all_differ}
+use Rattle.sg_sdes.proofs.ValidLaws.{crypto_valid, made_key, inline_made, longest}
 
 pub is_read : (vs : List (List ℕ)) (i : ℕ) (v : List ℕ) (l : CryptoLine) (total : Result CryptoLine SdesFault) → i < length vs → v ≡ get_or vs i v → Ok l ≡ crypto_of v
     → chosen_of (drop i vs) ≡ total → Ok l ≡ total

@@ -1,37 +1,33 @@
 -- The keys of a line and their texts, both ways.
-use Rattle.std.proofs.Common.{◌≡◌, ℕ, zero, suc, ◌+◌, ◌-◌, ◌^◌, ◌<◌, ◌≤◌, true, false, eqb, List, [], ◌∷◌, ◌++◌, length, drop, Option, Some, None, Result, Ok, Err, refl, sym, ap, ◌∙◌, subst, arith, inl, inr}
-use Rattle.std.specs.Prelude.{◌||◌, not, codes, is_some, is_none, nat_eq, IfSome}
+use Rattle.std.proofs.Common.{◌≡◌, ℕ, zero, suc, ◌+◌, ◌^◌, ◌<◌, ◌≤◌, true, false, eqb, List, [], ◌∷◌, ◌++◌, length, drop, Option, Some, None, Result, Ok, Err, refl, sym, ap, ◌∙◌, subst, arith, inl, inr}
+use Rattle.std.specs.Prelude.{not, codes, IfSome}
 use Rattle.std.specs.Fmt.{decimal}
-use Rattle.std.specs.List.{AllByRecursion, join_with_byte, list_all, slice_split, starts_with}
+use Rattle.std.specs.List.{AllByRecursion, join_with_byte, list_all, slice_split}
 use Rattle.std.proofs.Math.Pow.{pow_mono}
 use Rattle.std.proofs.lemmas.Bool.{cases_lt, ne_eqb}
-use Rattle.std.proofs.lemmas.List.{append-nil, take-append-drop}
+use Rattle.std.proofs.lemmas.List.{append-nil}
 use Rattle.std.proofs.lemmas.List.Splits.{join_with_byte-slice_split, slice_split_at, slice_split_none}
 use Rattle.base64.specs.GeneralPurpose.{IsBytes}
 use Rattle.base64.specs.Engines.{standard}
 use Rattle.base64.specs.Rfc4648.{encode_symbols}
 use Rattle.sg_base.specs.declared.SdesFault.{SdesFault}
-use Rattle.sg_base.specs.declared.SdesFault.TheVariants.{Key, Lifetime, MkiValue as NoMki}
+use Rattle.sg_base.specs.declared.SdesFault.TheVariants.{Key}
 use Rattle.sg_base.specs.declared.Suite.{Suite}
-use Rattle.sg_base.specs.Fields.{Lacks, cut_at, number_at}
-use Rattle.sg_base.specs.Keys.{Master, master_of}
-use Rattle.sg_base.specs.Mkis.{MkiValue, IsMki, mki_of}
-use Rattle.sg_base.specs.Suites.{key_len_of, salt_len_of}
+use Rattle.sg_base.specs.Fields.{Lacks, cut_at}
+use Rattle.sg_base.specs.Mkis.{MkiValue, IsMki}
 use Rattle.sg_base.proofs.Cases.{chosen}
-use Rattle.sg_base.proofs.Cuts.{cut_takes, lacks_all, lacks_append}
-use Rattle.sg_base.proofs.Decimals.{number_again, number_takes}
-use Rattle.sg_base.proofs.FourNumbers.{bind_some}
+use Rattle.sg_base.proofs.Cuts.{lacks_all, lacks_append}
+use Rattle.sg_base.proofs.Decimals.{number_again}
 use Rattle.sg_base.proofs.SuiteLemmas.{lacks_test}
 use Rattle.sg_sdes.specs.declared.lines.InlineKey.{InlineKey}
 use Rattle.sg_sdes.specs.CryptoText.{mki_text, IsInlineKey}
 use Rattle.sg_sdes.specs.Grammar.{SaysOctets, SaysPackets, SaysLifetime, SaysKey, SayKeys}
-use Rattle.sg_sdes.specs.Keys.{alone, with_one, with_both, behind_bar, at_bar, inline_at, keys_from, keys_of}
-use Rattle.sg_sdes.specs.KeyTexts.{base64_at, key_at, lifetime_at, is_mki, mki_at}
+use Rattle.sg_sdes.specs.Keys.{at_bar, inline_at, keys_from, keys_of}
+use Rattle.sg_sdes.specs.KeyTexts.{base64_at, key_at, lifetime_at}
 use Rattle.sg_sdes.proofs.AgainLaws.{a_lifetime, an_mki, both_there, key_of, lifetime_again, mki_again, neither, one_part, small_length, two_parts}
 use Rattle.sg_sdes.proofs.Base64Laws.{base64_bare, base64_padded, base64_takes}
-use Rattle.sg_sdes.proofs.ParameterGrammar.{begins}
 use Rattle.sg_sdes.proofs.TextLaws.{base64_lacks, decimal_without, mki_lacks, mki_part, mki_text_is, some_mki_lacks, symbols_lack}
-use Rattle.sg_sdes.proofs.ValidLaws.{allowed, bind_ok, done, found, mapped, ok_if, some_if, some_unless}
+use Rattle.sg_sdes.proofs.ValidLaws.{bind_ok, done, inline_parts}
 
 -- ---- octets of a text's parts
 
@@ -53,124 +49,16 @@ parts_bytes (t ∷ u ∷ us) h =
 
 -- ---- what is read of a key's text says so
 
-key_says : (suite : Suite) (t : List ℕ) (k : Master) → IsBytes t → key_at suite t ≡ Some k → SaysOctets t (k.key ++ k.salt)
-unfolding key_at
-key_says suite t k fits e =
-    let p = bind_some (base64_at t) _ k e in
-    let g = some_if (eqb (length p.0) (key_len_of suite + salt_len_of suite)) (master_of suite p.0) k p.2 in
-    subst (λ (m : Master). SaysOctets t (m.key ++ m.salt)) g.1
-    (subst (SaysOctets t) (sym (take-append-drop (key_len_of suite) p.0)) (base64_takes t p.0 fits p.1))
-
-packets_say : (t : List ℕ) (n : ℕ) → lifetime_at t ≡ Some n → SaysPackets t n
-unfolding lifetime_at
-packets_say t n e =
-    elim (chosen (starts_with nat_eq t (codes "2^")) _ _ (Some n) e) [
-      | inl p ↦
-          let m = mapped (number_at 48 (drop 2 t)) n p.1 in
-          let d = number_takes 48 (drop 2 t) m.0 m.1 in
-          inr (m.0, begins (codes "2^") t p.0 ∙ ap (λ (l : List ℕ). codes "2^" ++ l) d.0, sym m.2)
-      | inr p ↦
-          let q = bind_some (number_at (2 ^ 48) t) _ n p.1 in
-          let g = some_unless (eqb q.0 0) q.0 n q.2 in
-          inl (subst (λ (x : ℕ). t ≡ decimal x) g.1 (number_takes (2 ^ 48) t q.0 q.1).0)
-    ]
-
-two_numbers : (t v l a b : List ℕ) → t ≡ v ++ 58 ∷ l → v ≡ a → l ≡ b → t ≡ a ++ 58 ∷ b
-two_numbers t v l a b e p q = rw (e, p, q) refl
-
-mki_says : (t : List ℕ) (m : MkiValue) → mki_at t ≡ Some m → mki_text (Some m) ≡ 124 ∷ t
-unfolding mki_at
-mki_says t m e =
-    let p = bind_some (cut_at 58 t) _ m e in
-    let v = bind_some (number_at (2 ^ 128 - 1) p.0.0) _ m p.2 in
-    let s = bind_some (number_at 128 p.0.1) _ m v.2 in
-    let g = some_if (is_mki v.0 s.0) (mki_of v.0 s.0) m s.2 in
-    let made : MkiValue = mki_of v.0 s.0 in
-    let whole : t ≡ mki_part made =
-    two_numbers t p.0.0 p.0.1 (decimal v.0) (decimal s.0) (cut_takes 58 t p.0.0 p.0.1 p.1) (number_takes (2 ^ 128 - 1) p.0.0 v.0 v.1).0 (number_takes 128 p.0.1 s.0 s.1).0 in
-    subst (λ (x : MkiValue). mki_text (Some x) ≡ 124 ∷ t) g.1 (mki_text_is made ∙ ap (λ (l : List ℕ). 124 ∷ l) (sym whole))
-
--- a key's text behind `inline:`
-record SaysBody (body : List ℕ) (k : InlineKey) : Type 0 where
-  octets : List ℕ
-  lifetime : List ℕ
-  parts : body ≡ octets ++ (lifetime ++ mki_text k.mki)
-  says_octets : SaysOctets octets (k.key.key ++ k.key.salt)
-  says_lifetime : SaysLifetime lifetime k.lifetime
-
-alone_says : (suite : Suite) (body : List ℕ) (k : InlineKey) → IsBytes body → alone suite body ≡ Ok k → SaysBody body k
-alone_says suite body k fits e =
-    let p = found Key (key_at suite body) _ k e in
-    let made : InlineKey = record { key = p.0; lifetime = 2 ^ 48; mki = None } in
-    let says : SaysBody body made = record { octets = body; lifetime = []; parts = sym (append-nil body); says_octets = key_says suite body p.0 fits p.1; says_lifetime = inl (refl, refl) } in
-    subst (λ (x : InlineKey). SaysBody body x) (done made k p.2) says
-
-with_one_says : (suite : Suite) (b part body : List ℕ) (k : InlineKey) → body ≡ b ++ 124 ∷ part → IsBytes b → with_one suite b part ≡ Ok k → SaysBody body k
-with_one_says suite b part body k whole fits e =
-    let p = found Key (key_at suite b) _ k e in
-    elim (chosen (is_some (cut_at 58 part)) _ _ (Ok k) p.2) [
-      | inl q ↦
-          let m = found NoMki (mki_at part) _ k q.1 in
-          let made : InlineKey = record { key = p.0; lifetime = 2 ^ 48; mki = Some m.0 } in
-          let says : SaysBody body made = record {
-            octets = b;
-            lifetime = [];
-            parts = whole ∙ ap (λ (l : List ℕ). b ++ l) (sym (mki_says part m.0 m.1));
-            says_octets = key_says suite b p.0 fits p.1;
-            says_lifetime = inl (refl, refl);
-          } in
-          subst (λ (x : InlineKey). SaysBody body x) (done made k m.2) says
-      | inr q ↦
-          let n = found Lifetime (lifetime_at part) _ k q.1 in
-          let made : InlineKey = record { key = p.0; lifetime = n.0; mki = None } in
-          let says : SaysBody body made = record {
-            octets = b;
-            lifetime = 124 ∷ part;
-            parts = whole ∙ ap (λ (l : List ℕ). b ++ l) (sym (append-nil (124 ∷ part)));
-            says_octets = key_says suite b p.0 fits p.1;
-            says_lifetime = inr (part, refl, packets_say part n.0 n.1);
-          } in
-          subst (λ (x : InlineKey). SaysBody body x) (done made k n.2) says
-    ]
-
-with_both_says : (suite : Suite) (b first second body : List ℕ) (k : InlineKey) → body ≡ b ++ 124 ∷ (first ++ 124 ∷ second) → IsBytes b → with_both suite b first second ≡ Ok k → SaysBody body k
-with_both_says suite b first second body k whole fits e =
-    let a = allowed (is_some (cut_at 124 second) || is_some (cut_at 58 first) || is_none (cut_at 58 second)) _ Key k e in
-    let p = found Key (key_at suite b) _ k a in
-    let n = found Lifetime (lifetime_at first) _ k p.2 in
-    let m = found NoMki (mki_at second) _ k n.2 in
-    let made : InlineKey = record { key = p.0; lifetime = n.0; mki = Some m.0 } in
-    let says : SaysBody body made = record {
-      octets = b;
-      lifetime = 124 ∷ first;
-      parts = whole ∙ ap (λ (l : List ℕ). b ++ 124 ∷ (first ++ l)) (sym (mki_says second m.0 m.1));
-      says_octets = key_says suite b p.0 fits p.1;
-      says_lifetime = inr (first, refl, packets_say first n.0 n.1);
-    } in
-    subst (λ (x : InlineKey). SaysBody body x) (done made k m.2) says
-
-behind_says : (suite : Suite) (b rest body : List ℕ) (o : Option (List ℕ × List ℕ)) (k : InlineKey) → cut_at 124 rest ≡ o → body ≡ b ++ 124 ∷ rest → IsBytes b → behind_bar suite b rest o ≡ Ok k → SaysBody body k
-behind_says suite b rest body None k cut whole fits e = with_one_says suite b rest body k whole fits e
-behind_says suite b rest body (Some q) k cut whole fits e =
-    with_both_says suite b q.0 q.1 body k (whole ∙ ap (λ (l : List ℕ). b ++ 124 ∷ l) (cut_takes 124 rest q.0 q.1 cut)) fits e
-
-body_says : (suite : Suite) (body : List ℕ) (o : Option (List ℕ × List ℕ)) (k : InlineKey) → cut_at 124 body ≡ o → IsBytes body → at_bar suite body o ≡ Ok k → SaysBody body k
-body_says suite body None k cut fits e = alone_says suite body k fits e
-body_says suite body (Some p) k cut fits e =
-    let whole : body ≡ p.0 ++ 124 ∷ p.1 = cut_takes 124 body p.0 p.1 cut in
-    behind_says suite p.0 p.1 body (cut_at 124 p.1) k refl whole (left_bytes p.0 (124 ∷ p.1) (subst IsBytes whole fits)) e
-
 inline_says : (suite : Suite) (t : List ℕ) (k : InlineKey) → IsBytes t → inline_at suite t ≡ Ok k → SaysKey t k
-unfolding inline_at
 inline_says suite t k fits e =
-    let g = ok_if (starts_with nat_eq t (codes "inline:")) _ Key k e in
-    let is : t ≡ codes "inline:" ++ drop 7 t = begins (codes "inline:") t g.0 in
-    let s = body_says suite (drop 7 t) (cut_at 124 (drop 7 t)) k refl (right_bytes (codes "inline:") (drop 7 t) (subst IsBytes is fits)) g.1 in
+    let r = inline_parts suite t k e in
+    let s = r.1 in
+    let body : IsBytes (s.octets ++ (s.lifetime ++ mki_text k.mki)) = subst IsBytes s.parts (right_bytes (codes "inline:") (drop 7 t) (subst IsBytes r.0 fits)) in
     record {
       octets = s.octets;
       lifetime = s.lifetime;
-      parts = is ∙ ap (λ (l : List ℕ). codes "inline:" ++ l) s.parts;
-      says_octets = s.says_octets;
+      parts = r.0 ∙ ap (λ (l : List ℕ). codes "inline:" ++ l) s.parts;
+      says_octets = base64_takes s.octets (k.key.key ++ k.key.salt) (left_bytes s.octets (s.lifetime ++ mki_text k.mki) body) s.spelled;
       says_lifetime = s.says_lifetime;
     }
 
@@ -221,8 +109,7 @@ octets_lack c b m above table closing (inr e) = subst (Lacks c) (sym e) (lacks_a
 packets_lack : (c : ℕ) (d : List ℕ) (n : ℕ) → ((x : ℕ) → x < 2 ^ 128 → Lacks c (decimal x)) → Lacks c (codes "2^") → n ≤ 2 ^ 48 → SaysPackets d n → Lacks c d
 packets_lack c d n numbers power most (inl e) = subst (Lacks c) (sym e) (numbers n (omega (arith, most)))
 packets_lack c d n numbers power most (inr p) =
-    let small = exponent p.0 n p.2 most in
-    subst (Lacks c) (sym p.1) (lacks_append c (codes "2^") (decimal p.0) power (numbers p.0 (omega (arith, small))))
+    subst (Lacks c) (sym p.1) (lacks_append c (codes "2^") (decimal p.0) power (numbers p.0 (omega (arith, exponent p.0 n p.2 most))))
 
 lifetime_lacks : (c : ℕ) (t : List ℕ) (n : ℕ) → ((x : ℕ) → x < 2 ^ 128 → Lacks c (decimal x)) → Lacks c (codes "2^") → eqb 124 c ≡ false → n ≤ 2 ^ 48 → SaysLifetime t n → Lacks c t
 lifetime_lacks c t n numbers power bar most (inl p) = subst (Lacks c) (sym p.0) tt

@@ -1,10 +1,12 @@
 -- A line is read of exactly the texts that say it.
-use Rattle.std.proofs.Common.{◌≡◌, ℕ, zero, suc, ◌+◌, ◌<◌, ◌≤◌, Bool, true, false, leb, List, [], ◌∷◌, ◌++◌, length, Some, Ok, refl, sym, ap, ◌∙◌, subst, arith, inl, inr, length-append}
+use Rattle.std.proofs.Common.{◌≡◌, ℕ, zero, suc, ◌+◌, ◌^◌, ◌<◌, ◌≤◌, Bool, true, false, leb, List, [], ◌∷◌, ◌++◌, length, map, Some, Ok, refl, sym, ap, ◌∙◌, subst, arith, inl, inr, append_assoc, length-append}
+use Rattle.std.specs.Fmt.{decimal}
 use Rattle.std.specs.Prelude.{◌↔◌, codes, replicate}
 use Rattle.std.specs.Char.{is_ascii_digit}
 use Rattle.std.specs.List.{AllByRecursion, filter, join_with_byte, list_all}
-use Rattle.std.proofs.lemmas.Bool.{and_parts, leb-true, ne_eqb}
-use Rattle.base64.specs.GeneralPurpose.{IsBytes}
+use Rattle.std.proofs.lemmas.Bool.{and_parts, cases_eq, eq-eqb, leb-true, ne_eqb}
+use Rattle.base64.specs.GeneralPurpose.{IsBytes, encode_of}
+use Rattle.base64.specs.Engines.{standard}
 use Rattle.sg_base.specs.declared.SdesFault.TheVariants.{Tag, Suite as NoSuite, MkiValue as NoMki, Parameter}
 use Rattle.sg_base.specs.declared.Suite.{Suite}
 use Rattle.sg_base.specs.Fields.{Lacks}
@@ -17,18 +19,18 @@ use Rattle.sg_sdes.specs.declared.lines.CryptoLine.{CryptoLine}
 use Rattle.sg_sdes.specs.declared.lines.InlineKey.{InlineKey}
 use Rattle.sg_sdes.specs.declared.parameters.Parameters.{Parameters}
 use Rattle.sg_sdes.specs.CryptoOf.{crypto_by, crypto_of, crypto_parts}
-use Rattle.sg_sdes.specs.CryptoText.{IsCryptoLine, IsInlineKey}
-use Rattle.sg_sdes.specs.Grammar.{AreSpaced, IsParameter, SaysLine, SaysNumber, SayKeys, SayParameters, SayWindow, count_of, is_window, times}
+use Rattle.sg_sdes.specs.CryptoText.{IsCryptoLine, IsInlineKey, crypto_text, crypto_words, inline_text, keys_text, lifetime_text, mark_words, mki_text}
+use Rattle.sg_sdes.specs.Grammar.{AreSpaced, IsParameter, SaysLifetime, SaysLine, SaysNumber, SayKeys, SayParameters, SayWindow, count_of, is_window, times}
 use Rattle.sg_sdes.specs.Keys.{keys_of, all_differ}
 use Rattle.sg_sdes.specs.KeyTexts.{digits_at, crypto_suite_at}
 use Rattle.sg_sdes.specs.Parameters.{unsaid, parameters_from}
 use Rattle.sg_sdes.specs.Words.{words_of}
-use Rattle.sg_sdes.proofs.AgainLaws.{crypto_suite_again}
+use Rattle.sg_sdes.proofs.AgainLaws.{crypto_suite_again, digits_again, parameters_again}
 use Rattle.sg_sdes.proofs.KeyGrammar.{key_lacks_space, keys_read, keys_say, left_bytes, right_bytes}
 use Rattle.sg_sdes.proofs.NumberGrammar.{number_reads, number_says}
-use Rattle.sg_sdes.proofs.ParameterGrammar.{From, parameters_read, parameters_say}
-use Rattle.sg_sdes.proofs.TextLaws.{IsWord, some_suite, space_decimal}
-use Rattle.sg_sdes.proofs.ValidLaws.{bind_ok, crypto_valid, done, found, ok_if, parts_valid, some_unless}
+use Rattle.sg_sdes.proofs.ParameterGrammar.{From, parameters_read, parameters_say, some_unless}
+use Rattle.sg_sdes.proofs.TextLaws.{IsWord, marks_lack, some_suite, space_decimal}
+use Rattle.sg_sdes.proofs.ValidLaws.{bind_ok, crypto_valid, done, found, ok_if, parts_valid}
 use Rattle.sg_sdes.proofs.WordGrammar.{Spaced, spaced_words, words_spaced}
 
 -- ---- what is read of a text says the line
@@ -84,17 +86,13 @@ mark_most false = omega arith
 from_nothing : (said : List (List ℕ)) (all : Parameters) (l : CryptoLine) → From unsaid said all → AllByRecursion (Lacks 32) said → all.plain_rtp ≡ l.plain_rtp → all.plain_rtcp ≡ l.plain_rtcp → all.window ≡ l.window
     → SayParameters said l
 from_nothing said all l from lacks rtp rtcp window =
-    let r = from.rate in
-    let o = from.order in
-    let p = from.plain_rtp in
-    let c = from.plain_rtcp in
     record {
       known = from.known;
       lack_spaces = lacks;
-      rate = (let m = mark_most all.rate in omega (arith, r, m));
-      order = (let m = mark_most all.order in omega (arith, o, m));
-      plain_rtp = (let e = ap times rtp in omega (arith, p, e));
-      plain_rtcp = (let e = ap times rtcp in omega (arith, c, e));
+      rate = (let m = mark_most all.rate in omega (arith, from.rate, m));
+      order = (let m = mark_most all.order in omega (arith, from.order, m));
+      plain_rtp = (let e = ap times rtp in omega (arith, from.plain_rtp, e));
+      plain_rtcp = (let e = ap times rtcp in omega (arith, from.plain_rtcp, e));
       window = subst (SayWindow (filter is_window said)) window from.window;
     }
 
@@ -143,8 +141,7 @@ digits_lack [] e = tt
 digits_lack (x ∷ xs) e =
     let p = and_parts (is_ascii_digit x) (list_all is_ascii_digit xs) e in
     let q = and_parts (leb 48 x) (leb x 57) p.0 in
-    let low = leb-true 48 x q.0 in
-    (ne_eqb x 32 (λ f. omega (arith, low, f)), digits_lack xs p.1)
+    (ne_eqb x 32 (λ f. omega (arith, leb-true 48 x q.0, f)), digits_lack xs p.1)
 
 parameter_some : (t : List ℕ) → IsParameter t → 0 < length t
 parameter_some [] (inl p) = absurd cc
@@ -184,8 +181,6 @@ parameters_of : (ts : List (List ℕ)) (l : CryptoLine) → SayParameters ts l
 parameters_of ts l says =
     let r = marked (count_of (codes "KDR=0") ts) says.rate in
     let o = marked (count_of (codes "FEC_ORDER=FEC_SRTP") ts) says.order in
-    let p = says.plain_rtp in
-    let c = says.plain_rtcp in
     let all : Parameters = record { rate = r.0; order = o.0; plain_rtp = l.plain_rtp; plain_rtcp = l.plain_rtcp; window = l.window } in (
       r.0,
       o.0,
@@ -193,8 +188,8 @@ parameters_of ts l says =
         known = says.known;
         rate = r.1;
         order = o.1;
-        plain_rtp = omega (arith, p);
-        plain_rtcp = omega (arith, c);
+        plain_rtp = omega (arith, says.plain_rtp);
+        plain_rtcp = omega (arith, says.plain_rtcp);
         window = says.window;
       }),
     )
@@ -210,9 +205,8 @@ crypto_reads : (t : List ℕ) (l : CryptoLine) → IsCryptoLine l → SaysLine t
 unfolding crypto_of
 crypto_reads t l is says =
     let tag = says.says_tag in
-    let tag_some = tag.some in
     let words : AllByRecursion IsWord (says.tag ∷ suite_name l.suite ∷ join_with_byte 59 says.keys ∷ says.parameters) = (
-      record { lacks = digits_lack says.tag tag.digits; some = omega (arith, tag_some) },
+      record { lacks = digits_lack says.tag tag.digits; some = omega (arith, tag.some) },
       (
         record { lacks = suite_lacks_space l.suite; some = some_suite l.suite },
         (
@@ -226,3 +220,37 @@ crypto_reads t l is says =
 
 pub line_read_iff : (t : List ℕ) (l : CryptoLine) → IsBytes t → (crypto_of t ≡ Ok l) ↔ (IsCryptoLine l × SaysLine t l)
 line_read_iff t l fits = (λ e. (crypto_valid t l e, crypto_says t l fits e), λ p. crypto_reads t l p.0 p.1)
+
+-- ---- the one spelling of a line says it
+
+lifetime_said : (n : ℕ) → SaysLifetime (lifetime_text n) n
+lifetime_said n = elim (cases_eq n (2 ^ 48)) [
+  | inl is ↦ inl (rw (eq-eqb n (2 ^ 48) is) refl, is)
+  | inr isnt ↦ inr (decimal n, rw (ne_eqb n (2 ^ 48) isnt) refl, inl refl)
+]
+
+keys_said : (ks : List InlineKey) → SayKeys (map inline_text ks) ks
+keys_said [] = tt
+keys_said (k ∷ ks) =
+    let octets : List ℕ = encode_of standard (k.key.key ++ k.key.salt) in
+    let parts = ap (λ (l : List ℕ). codes "inline:" ++ l) (append_assoc octets (lifetime_text k.lifetime) (mki_text k.mki)) in
+    (record { octets = octets; lifetime = lifetime_text k.lifetime; parts = parts; says_octets = inl refl; says_lifetime = lifetime_said k.lifetime }, keys_said ks)
+
+words_said : (w : List ℕ) (ws : List (List ℕ)) → AreSpaced (w ∷ ws) (join_with_byte 32 (w ∷ ws))
+words_said w [] = refl
+words_said w (v ∷ vs) = (0, join_with_byte 32 (v ∷ vs), refl, words_said v vs)
+
+pub crypto_again : (l : CryptoLine) → IsCryptoLine l → crypto_of (crypto_text l) ≡ Ok l
+unfolding crypto_text
+crypto_again l is =
+    let all : Parameters = record { rate = false; order = false; plain_rtp = l.plain_rtp; plain_rtcp = l.plain_rtcp; window = l.window } in
+    let from = parameters_say unsaid all (mark_words l) (parameters_again l.plain_rtp l.plain_rtcp l.window is.window) in
+    crypto_reads (join_with_byte 32 (crypto_words l)) l is (record {
+      tag = decimal l.tag;
+      keys = map inline_text l.keys;
+      parameters = mark_words l;
+      words = words_said (decimal l.tag) (suite_name l.suite ∷ keys_text l.keys ∷ mark_words l);
+      says_tag = number_says (decimal l.tag) l.tag (digits_again l.tag is.tag);
+      say_keys = keys_said l.keys;
+      say_parameters = from_nothing (mark_words l) all l from (marks_lack l.plain_rtp l.plain_rtcp l.window is.window) refl refl refl;
+    })

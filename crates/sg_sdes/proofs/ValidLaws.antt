@@ -1,12 +1,10 @@
 -- What is read of a text is a line with a spelling.
 use Rattle.std.proofs.Common.{◌≡◌, ◌≢◌, ℕ, ◌+◌, ◌-◌, ◌^◌, ◌<◌, ◌≤◌, Bool, true, false, cond, eqb, leb, ltb, List, [], ◌∷◌, ◌++◌, length, drop, Option, Some, None, Result, Ok, Err, refl, sym, ap, ◌∙◌, subst, arith, inl, inr, length-take, length-drop}
-use Rattle.std.specs.Prelude.{◌&&◌, ◌||◌, codes, IfSome, IfOk, is_some, is_none, option_map, option_and_then, nat_eq}
-use Rattle.std.specs.Char.{is_ascii_digit}
-use Rattle.std.specs.List.{AllByRecursion, list_all, slice_split, starts_with}
-use Rattle.std.specs.Str.{bytes_eq}
-use Rattle.std.specs.Str.Parse.{digits_value}
+use Rattle.std.specs.Fmt.{decimal}
+use Rattle.std.specs.Prelude.{◌&&◌, ◌||◌, codes, IfSome, IfOk, is_some, is_none, option_map, nat_eq}
+use Rattle.std.specs.List.{AllByRecursion, filter, slice_split, starts_with}
 use Rattle.std.proofs.lemmas.Bool.{and_parts, leb-true, ltb-true, eqb-true, eqb-false}
-use Rattle.std.proofs.lemmas.List.{take-append-drop}
+use Rattle.std.proofs.lemmas.List.{append-nil, take-append-drop}
 use Rattle.std.proofs.lemmas.List.Splits.{length-slice_split}
 use Rattle.std.proofs.lemmas.Nat.{pow_pos}
 use Rattle.std.proofs.Math.Pow.{pow_mono}
@@ -21,21 +19,25 @@ use Rattle.sg_base.specs.Keys.{Master, master_of}
 use Rattle.sg_base.specs.Mkis.{MkiValue, mki_of, IsMki}
 use Rattle.sg_base.specs.Suites.{is_raw, key_len_of, salt_len_of}
 use Rattle.sg_base.specs.SuiteNames.{suite_at}
+use Rattle.sg_base.proofs.Cuts.{cut_takes}
 use Rattle.sg_base.proofs.Decimals.{number_takes}
 use Rattle.sg_base.proofs.FourNumbers.{bind_some}
 use Rattle.sg_base.proofs.Cases.{chosen}
 use Rattle.sg_sdes.specs.declared.lines.CryptoLine.{CryptoLine}
 use Rattle.sg_sdes.specs.declared.lines.InlineKey.{InlineKey}
-use Rattle.sg_sdes.specs.declared.parameters.Parameters.{Parameters}
 use Rattle.sg_sdes.specs.CryptoOf.{crypto_parts, crypto_of}
-use Rattle.sg_sdes.specs.CryptoText.{IsInlineKey, IsCryptoLine}
+use Rattle.sg_sdes.specs.CryptoText.{mki_text, IsInlineKey, IsCryptoLine}
+use Rattle.sg_sdes.specs.Grammar.{SaysLifetime, SaysNumber, SaysPackets, SayWindow, is_window}
 use Rattle.sg_sdes.specs.Keys.{◌>>=◌, or_fault, alone, with_one, with_both, behind_bar, at_bar, inline_at, keys_from, keys_of, all_differ}
 use Rattle.sg_sdes.specs.KeyTexts.{digits_at, crypto_suite_at, base64_at, key_at, lifetime_at, is_mki, mki_at}
-use Rattle.sg_sdes.specs.Parameters.{unsaid, with_window, with_parameter, parameters_from}
+use Rattle.sg_sdes.specs.Parameters.{unsaid, parameters_from}
 use Rattle.sg_sdes.specs.Words.{words_of, word_at}
 use Rattle.sg_sdes.proofs.Base64Laws.{either}
 use Rattle.sg_sdes.proofs.DecodedBytes.{decoded_are_bytes}
 use Rattle.sg_sdes.proofs.DigitLaws.{small}
+use Rattle.sg_sdes.proofs.NumberGrammar.{number_says}
+use Rattle.sg_sdes.proofs.ParameterGrammar.{begins, parameters_say, some_unless}
+use Rattle.sg_sdes.proofs.TextLaws.{mki_part, mki_text_is}
 
 -- ---- steps that may fail
 
@@ -54,27 +56,18 @@ pub ok_if : {A : Type 0} (b : Bool) (r : Result A SdesFault) (d : SdesFault) (y 
 ok_if true r d y e = (refl, e)
 ok_if false r d y e = absurd cc
 
-pub allowed : {A : Type 0} (b : Bool) (r : Result A SdesFault) (d : SdesFault) (y : A) → cond b (Err d) r ≡ Ok y → r ≡ Ok y
+allowed : {A : Type 0} (b : Bool) (r : Result A SdesFault) (d : SdesFault) (y : A) → cond b (Err d) r ≡ Ok y → r ≡ Ok y
 allowed true r d y e = absurd cc
 allowed false r d y e = e
 
-pub some_if : {A : Type 0} (b : Bool) (x y : A) → cond b (Some x) None ≡ Some y → (b ≡ true) × (x ≡ y)
+some_if : {A : Type 0} (b : Bool) (x y : A) → cond b (Some x) None ≡ Some y → (b ≡ true) × (x ≡ y)
 some_if true x y e = (refl, cc)
 some_if false x y e = absurd cc
 
-pub some_unless : {A : Type 0} (b : Bool) (x y : A) → cond b None (Some x) ≡ Some y → (b ≡ false) × (x ≡ y)
-some_unless true x y e = absurd cc
-some_unless false x y e = (refl, cc)
-
 -- ---- numbers and suites
 
-pub digits_small : (t : List ℕ) (n : ℕ) → digits_at t ≡ Some n → n < 10 ^ 9
-unfolding digits_at
-digits_small t n e =
-    let g = some_if (leb 1 (length t) && leb (length t) 9 && list_all is_ascii_digit t) (digits_value 10 t) n e in
-    let p = and_parts (leb 1 (length t) && leb (length t) 9) (list_all is_ascii_digit t) g.0 in
-    let q = and_parts (leb 1 (length t)) (leb (length t) 9) p.0 in
-    subst (λ m. m < 10 ^ 9) g.1 (small t p.1 (leb-true _ _ q.1))
+digits_small : (t : List ℕ) (n : ℕ) → SaysNumber t n → n < 10 ^ 9
+digits_small t n says = subst (λ m. m < 10 ^ 9) says.value (small t says.digits says.few)
 
 raw_not : (s : Suite) → is_raw s ≡ false → s ≢ Raw80
 raw_not s e is = let f : is_raw Raw80 ≡ false = ap is_raw (sym is) ∙ e in absurd cc
@@ -110,48 +103,57 @@ made_key suite b bytes size = record {
   octets = subst IsBytes (sym (take-append-drop (key_len_of suite) b)) bytes;
 }
 
-key_is : (suite : Suite) (t : List ℕ) (k : Master) → key_at suite t ≡ Some k → IsKey suite k
+key_read : (suite : Suite) (t : List ℕ) (k : Master) → key_at suite t ≡ Some k → IsKey suite k × (base64_at t ≡ Some (k.key ++ k.salt))
 unfolding key_at
-key_is suite t k e =
+key_read suite t k e =
     let p = bind_some (base64_at t) _ k e in
     let g = some_if (eqb (length p.0) (key_len_of suite + salt_len_of suite)) (master_of suite p.0) k p.2 in
-    subst (IsKey suite) g.1 (made_key suite p.0 (base64_bytes t p.0 p.1) (eqb-true _ _ g.0))
+    subst (λ (m : Master). IsKey suite m × (base64_at t ≡ Some (m.key ++ m.salt))) g.1
+    (made_key suite p.0 (base64_bytes t p.0 p.1) (eqb-true _ _ g.0), p.1 ∙ ap Some (sym (take-append-drop (key_len_of suite) p.0)))
 
 power_fits : (n : ℕ) → n ≤ 48 → (1 ≤ 2 ^ n) × (2 ^ n ≤ 2 ^ 48)
 power_fits n le = (let p = pow_pos n in omega (arith, p), pow_mono {i = n} {j = 48} le)
 
-pub mapped : (o : Option ℕ) (n : ℕ) → option_map (λ x. 2 ^ x) o ≡ Some n → (x : ℕ) × (o ≡ Some x) × (2 ^ x ≡ n)
+mapped : (o : Option ℕ) (n : ℕ) → option_map (λ x. 2 ^ x) o ≡ Some n → (x : ℕ) × (o ≡ Some x) × (2 ^ x ≡ n)
 mapped None n e = absurd cc
 mapped (Some x) n e = (x, refl, cc)
 
-lifetime_is : (t : List ℕ) (n : ℕ) → lifetime_at t ≡ Some n → (1 ≤ n) × (n ≤ 2 ^ 48)
+lifetime_says : (t : List ℕ) (n : ℕ) → lifetime_at t ≡ Some n → SaysPackets t n × (1 ≤ n) × (n ≤ 2 ^ 48)
 unfolding lifetime_at
-lifetime_is t n e =
+lifetime_says t n e =
     elim (chosen (starts_with nat_eq t (codes "2^")) _ _ (Some n) e) [
       | inl p ↦
           let m = mapped (number_at 48 (drop 2 t)) n p.1 in
-          let f = power_fits m.0 (number_takes 48 (drop 2 t) m.0 m.1).1 in
-          (subst (λ x. 1 ≤ x) m.2 f.0, subst (λ x. x ≤ 2 ^ 48) m.2 f.1)
+          let d = number_takes 48 (drop 2 t) m.0 m.1 in
+          let f = power_fits m.0 d.1 in
+          let says : SaysPackets t n = inr (m.0, begins (codes "2^") t p.0 ∙ ap (λ (l : List ℕ). codes "2^" ++ l) d.0, sym m.2) in
+          (says, subst (λ x. 1 ≤ x) m.2 f.0, subst (λ x. x ≤ 2 ^ 48) m.2 f.1)
       | inr p ↦
           let q = bind_some (number_at (2 ^ 48) t) _ n p.1 in
           let g = some_unless (eqb q.0 0) q.0 n q.2 in
-          let most = (number_takes (2 ^ 48) t q.0 q.1).1 in
-          let least = eqb-false q.0 0 g.0 in
-          (subst (λ x. 1 ≤ x) g.1 (grind (arith, least)), subst (λ x. x ≤ 2 ^ 48) g.1 most)
+          let d = number_takes (2 ^ 48) t q.0 q.1 in
+          subst (λ x. SaysPackets t x × (1 ≤ x) × (x ≤ 2 ^ 48)) g.1 (inl d.0, grind (arith, eqb-false q.0 0 g.0), d.1)
     ]
 
-mki_is : (t : List ℕ) (m : MkiValue) → mki_at t ≡ Some m → IsMki m.value m.length × (m.value < 2 ^ 128)
+two_numbers : (t v l a b : List ℕ) → t ≡ v ++ 58 ∷ l → v ≡ a → l ≡ b → t ≡ a ++ 58 ∷ b
+two_numbers t v l a b e p q = rw (e, p, q) refl
+
+mki_says : (t : List ℕ) (m : MkiValue) → mki_at t ≡ Some m → (mki_text (Some m) ≡ 124 ∷ t) × IsMki m.value m.length × (m.value < 2 ^ 128)
 unfolding mki_at
-mki_is t m e =
+mki_says t m e =
     let p = bind_some (cut_at 58 t) _ m e in
     let v = bind_some (number_at (2 ^ 128 - 1) p.0.0) _ m p.2 in
     let s = bind_some (number_at 128 p.0.1) _ m v.2 in
     let g = some_if (is_mki v.0 s.0) (mki_of v.0 s.0) m s.2 in
     let a = and_parts (leb 1 s.0 && leb s.0 128) (ltb v.0 (256 ^ s.0)) g.0 in
     let b = and_parts (leb 1 s.0) (leb s.0 128) a.0 in
-    let most = (number_takes (2 ^ 128 - 1) p.0.0 v.0 v.1).1 in
-    let made : IsMki v.0 s.0 = record { least = leb-true _ _ b.0; most = leb-true _ _ b.1; fits = ltb-true _ _ a.1 } in
-    subst (λ (x : MkiValue). IsMki x.value x.length × (x.value < 2 ^ 128)) g.1 (made, omega (arith, most))
+    let n = number_takes (2 ^ 128 - 1) p.0.0 v.0 v.1 in
+    let most = n.1 in
+    let is : IsMki v.0 s.0 = record { least = leb-true _ _ b.0; most = leb-true _ _ b.1; fits = ltb-true _ _ a.1 } in
+    let whole : t ≡ mki_part (mki_of v.0 s.0) =
+    two_numbers t p.0.0 p.0.1 (decimal v.0) (decimal s.0) (cut_takes 58 t p.0.0 p.0.1 p.1) n.0 (number_takes 128 p.0.1 s.0 s.1).0 in
+    subst (λ (x : MkiValue). (mki_text (Some x) ≡ 124 ∷ t) × IsMki x.value x.length × (x.value < 2 ^ 128)) g.1
+    (mki_text_is (mki_of v.0 s.0) ∙ ap (λ (l : List ℕ). 124 ∷ l) (sym whole), is, omega (arith, most))
 
 pub inline_made : (suite : Suite) (k : Master) (n : ℕ) (mki : Option MkiValue) → IsKey suite k → (1 ≤ n) × (n ≤ 2 ^ 48) → IfSome mki (λ m. IsMki m.value m.length × (m.value < 2 ^ 128))
     → IsInlineKey suite (record { key = k; lifetime = n; mki = mki })
@@ -160,44 +162,68 @@ inline_made suite k n mki is life m = record { suite_is = is.suite_is; key = is.
 pub longest : (1 ≤ 2 ^ 48) × (2 ^ 48 ≤ 2 ^ 48)
 longest = (omega arith, omega arith)
 
-alone_is : (suite : Suite) (t : List ℕ) (k : InlineKey) → alone suite t ≡ Ok k → IsInlineKey suite k
-alone_is suite t k e =
-    let p = found Key (key_at suite t) _ k e in
-    subst (IsInlineKey suite) (done _ k p.2) (inline_made suite p.0 (2 ^ 48) None (key_is suite t p.0 p.1) longest tt)
+-- what is read of a key's text behind `inline:`
+pub record ReadSo (suite : Suite) (body : List ℕ) (k : InlineKey) : Type 0 where
+  pub octets : List ℕ
+  pub lifetime : List ℕ
+  pub parts : body ≡ octets ++ (lifetime ++ mki_text k.mki)
+  pub spelled : base64_at octets ≡ Some (k.key.key ++ k.key.salt)
+  pub says_lifetime : SaysLifetime lifetime k.lifetime
+  pub valid : IsInlineKey suite k
 
-with_one_is : (suite : Suite) (t part : List ℕ) (k : InlineKey) → with_one suite t part ≡ Ok k → IsInlineKey suite k
-with_one_is suite t part k e =
-    let p = found Key (key_at suite t) _ k e in
+read_so : (suite : Suite) (body : List ℕ) (key : Master) (n : ℕ) (mki : Option MkiValue) (octets lifetime : List ℕ) → body ≡ octets ++ (lifetime ++ mki_text mki)
+    → key_at suite octets ≡ Some key → SaysLifetime lifetime n → (1 ≤ n) × (n ≤ 2 ^ 48) → IfSome mki (λ m. IsMki m.value m.length × (m.value < 2 ^ 128))
+    → ReadSo suite body (record { key = key; lifetime = n; mki = mki })
+read_so suite body key n mki octets lifetime parts at says life m =
+    let k = key_read suite octets key at in
+    record { octets = octets; lifetime = lifetime; parts = parts; spelled = k.1; says_lifetime = says; valid = inline_made suite key n mki k.0 life m }
+
+alone_read : (suite : Suite) (body : List ℕ) (k : InlineKey) → alone suite body ≡ Ok k → ReadSo suite body k
+alone_read suite body k e =
+    let p = found Key (key_at suite body) _ k e in
+    subst (ReadSo suite body) (done _ k p.2) (read_so suite body p.0 (2 ^ 48) None body [] (sym (append-nil body)) p.1 (inl (refl, refl)) longest tt)
+
+with_one_read : (suite : Suite) (b part body : List ℕ) (k : InlineKey) → body ≡ b ++ 124 ∷ part → with_one suite b part ≡ Ok k → ReadSo suite body k
+with_one_read suite b part body k whole e =
+    let p = found Key (key_at suite b) _ k e in
     elim (chosen (is_some (cut_at 58 part)) _ _ (Ok k) p.2) [
       | inl q ↦
           let m = found NoMki (mki_at part) _ k q.1 in
-          subst (IsInlineKey suite) (done _ k m.2) (inline_made suite p.0 (2 ^ 48) (Some m.0) (key_is suite t p.0 p.1) longest (mki_is part m.0 m.1))
+          let s = mki_says part m.0 m.1 in
+          let parts : body ≡ b ++ mki_text (Some m.0) = whole ∙ ap (λ (l : List ℕ). b ++ l) (sym s.0) in
+          subst (ReadSo suite body) (done _ k m.2) (read_so suite body p.0 (2 ^ 48) (Some m.0) b [] parts p.1 (inl (refl, refl)) longest (s.1, s.2))
       | inr q ↦
           let n = found Lifetime (lifetime_at part) _ k q.1 in
-          subst (IsInlineKey suite) (done _ k n.2) (inline_made suite p.0 n.0 None (key_is suite t p.0 p.1) (lifetime_is part n.0 n.1) tt)
+          let s = lifetime_says part n.0 n.1 in
+          let parts : body ≡ b ++ (124 ∷ part ++ []) = whole ∙ ap (λ (l : List ℕ). b ++ l) (sym (append-nil (124 ∷ part))) in
+          subst (ReadSo suite body) (done _ k n.2) (read_so suite body p.0 n.0 None b (124 ∷ part) parts p.1 (inr (part, refl, s.0)) (s.1, s.2) tt)
     ]
 
-with_both_is : (suite : Suite) (t first second : List ℕ) (k : InlineKey) → with_both suite t first second ≡ Ok k → IsInlineKey suite k
-with_both_is suite t first second k e =
+with_both_read : (suite : Suite) (b first second body : List ℕ) (k : InlineKey) → body ≡ b ++ 124 ∷ (first ++ 124 ∷ second) → with_both suite b first second ≡ Ok k → ReadSo suite body k
+with_both_read suite b first second body k whole e =
     let a = allowed (is_some (cut_at 124 second) || is_some (cut_at 58 first) || is_none (cut_at 58 second)) _ Key k e in
-    let p = found Key (key_at suite t) _ k a in
+    let p = found Key (key_at suite b) _ k a in
     let n = found Lifetime (lifetime_at first) _ k p.2 in
     let m = found NoMki (mki_at second) _ k n.2 in
-    subst (IsInlineKey suite) (done _ k m.2) (inline_made suite p.0 n.0 (Some m.0) (key_is suite t p.0 p.1) (lifetime_is first n.0 n.1) (mki_is second m.0 m.1))
+    let s = lifetime_says first n.0 n.1 in
+    let t = mki_says second m.0 m.1 in
+    let parts : body ≡ b ++ (124 ∷ first ++ mki_text (Some m.0)) = whole ∙ ap (λ (l : List ℕ). b ++ 124 ∷ (first ++ l)) (sym t.0) in
+    subst (ReadSo suite body) (done _ k m.2) (read_so suite body p.0 n.0 (Some m.0) b (124 ∷ first) parts p.1 (inr (first, refl, s.0)) (s.1, s.2) (t.1, t.2))
 
-behind_is : (suite : Suite) (t rest : List ℕ) (o : Option (List ℕ × List ℕ)) (k : InlineKey) → behind_bar suite t rest o ≡ Ok k → IsInlineKey suite k
-behind_is suite t rest None k e = with_one_is suite t rest k e
-behind_is suite t rest (Some p) k e = with_both_is suite t p.0 p.1 k e
+behind_read : (suite : Suite) (b rest body : List ℕ) (o : Option (List ℕ × List ℕ)) (k : InlineKey) → cut_at 124 rest ≡ o → body ≡ b ++ 124 ∷ rest → behind_bar suite b rest o ≡ Ok k → ReadSo suite body k
+behind_read suite b rest body None k cut whole e = with_one_read suite b rest body k whole e
+behind_read suite b rest body (Some q) k cut whole e =
+    with_both_read suite b q.0 q.1 body k (whole ∙ ap (λ (l : List ℕ). b ++ 124 ∷ l) (cut_takes 124 rest q.0 q.1 cut)) e
 
-at_bar_is : (suite : Suite) (t : List ℕ) (o : Option (List ℕ × List ℕ)) (k : InlineKey) → at_bar suite t o ≡ Ok k → IsInlineKey suite k
-at_bar_is suite t None k e = alone_is suite t k e
-at_bar_is suite t (Some p) k e = behind_is suite p.0 p.1 (cut_at 124 p.1) k e
+body_read : (suite : Suite) (body : List ℕ) (o : Option (List ℕ × List ℕ)) (k : InlineKey) → cut_at 124 body ≡ o → at_bar suite body o ≡ Ok k → ReadSo suite body k
+body_read suite body None k cut e = alone_read suite body k e
+body_read suite body (Some p) k cut e = behind_read suite p.0 p.1 body (cut_at 124 p.1) k refl (cut_takes 124 body p.0 p.1 cut) e
 
-inline_is : (suite : Suite) (t : List ℕ) (k : InlineKey) → inline_at suite t ≡ Ok k → IsInlineKey suite k
+pub inline_parts : (suite : Suite) (t : List ℕ) (k : InlineKey) → inline_at suite t ≡ Ok k → (t ≡ codes "inline:" ++ drop 7 t) × ReadSo suite (drop 7 t) k
 unfolding inline_at
-inline_is suite t k e =
+inline_parts suite t k e =
     let g = ok_if (starts_with nat_eq t (codes "inline:")) _ Key k e in
-    at_bar_is suite (drop 7 t) (cut_at 124 (drop 7 t)) k g.1
+    (begins (codes "inline:") t g.0, body_read suite (drop 7 t) (cut_at 124 (drop 7 t)) k refl g.1)
 
 -- ---- the keys
 
@@ -210,11 +236,10 @@ keys_are suite n (t ∷ ts) ks le e = elim (chosen (eqb n 8) _ _ (Ok ks) e) [
   | inr p ↦
       let k = bind_ok (inline_at suite t) _ ks p.1 in
       let r = bind_ok (keys_from suite (n + 1) ts) _ ks k.2 in
-      let other = eqb-false n 8 p.0 in
-      let room : n + 1 ≤ 8 = grind (arith, other) in
+      let room : n + 1 ≤ 8 = grind (arith, eqb-false n 8 p.0) in
       let rest = keys_are suite (n + 1) ts r.0 room r.1 in
       subst (λ (x : List InlineKey). AllByRecursion (IsInlineKey suite) x × (n + length x ≤ 8) × (length x ≡ length (t ∷ ts))) (done (k.0 ∷ r.0) ks r.2)
-      ((inline_is suite t k.0 k.1, rest.0), omega (arith, rest), omega (arith, rest))
+      (((inline_parts suite t k.0 k.1).1.valid, rest.0), omega (arith, rest), omega (arith, rest))
 ]
   where
     no : Err Key ≡ (let r : Result (List InlineKey) SdesFault = Ok ks in r) → ⊥
@@ -225,57 +250,12 @@ some_parts t = let n = length-slice_split (λ x. eqb x 59) t in omega (arith, n)
 
 -- ---- the parameters
 
--- the window that was said is of nine digits at most
-abbrev Fits : Parameters → Type 0
-Fits said = IfSome said.window (λ n. n < 10 ^ 9)
-
-flag_fits : (b : Bool) (next more : Parameters) → Fits next → cond b None (Some next) ≡ Some more → Fits more
-flag_fits b next more fits e = let g = some_unless b next more e in subst Fits g.1 fits
-
-said_window : (said more : Parameters) (t : List ℕ) → with_window said t ≡ Some more → Fits more
-said_window said more t e = at_bit (is_some said.window) e
-  where
-    at_bit : (b : Bool) → cond b None (option_and_then (λ n. Some (record said { window = Some n })) (digits_at t)) ≡ Some more → Fits more
-    at_bit true e = absurd cc
-    at_bit false e =
-        let p = bind_some (digits_at t) (λ n. Some (record said { window = Some n })) more e in
-        let small : p.0 < 10 ^ 9 = digits_small t p.0 p.1 in
-        let made : Parameters = record said { window = Some p.0 } in
-        let same : made ≡ more = (let f : Some made ≡ Some more = p.2 in cc) in
-        subst Fits same small
-
-window_fits : (said more : Parameters) (t : List ℕ) → Fits said → with_parameter said t ≡ Some more → Fits more
-unfolding with_parameter
-window_fits said more t fits e =
-    elim (chosen (starts_with nat_eq t (codes "-")) _ _ (Some more) e) [
-      | inl p ↦ flag_fits false said more fits p.1
-      | inr p ↦ elim (chosen (starts_with nat_eq t (codes "WSH=")) _ _ (Some more) p.1) [
-        | inl q ↦ said_window said more (drop 4 t) q.1
-        | inr q ↦ elim (chosen (bytes_eq t (codes "KDR=0")) _ _ (Some more) q.1) [
-          | inl r ↦ flag_fits said.rate (record said { rate = true }) more fits r.1
-          | inr r ↦ elim (chosen (bytes_eq t (codes "FEC_ORDER=FEC_SRTP")) _ _ (Some more) r.1) [
-            | inl s ↦ flag_fits said.order (record said { order = true }) more fits s.1
-            | inr s ↦ elim (chosen (bytes_eq t (codes "UNENCRYPTED_SRTP")) _ _ (Some more) s.1) [
-              | inl u ↦ flag_fits said.plain_rtp (record said { plain_rtp = true }) more fits u.1
-              | inr u ↦ elim (chosen (bytes_eq t (codes "UNENCRYPTED_SRTCP")) _ _ (Some more) u.1) [
-                | inl v ↦ flag_fits said.plain_rtcp (record said { plain_rtcp = true }) more fits v.1
-                | inr v ↦ absurd (no v.1)
-              ]
-            ]
-          ]
-        ]
-      ]
-    ]
-  where
-    no : None ≡ Some more → ⊥
-    no e = cc
-
-parameters_fit : (said all : Parameters) (ts : List (List ℕ)) → Fits said → parameters_from said ts ≡ Some all → Fits all
-unfolding parameters_from
-parameters_fit said all [] fits e = let same : said ≡ all = cc in subst Fits same fits
-parameters_fit said all (t ∷ ts) fits e =
-    let p = bind_some (with_parameter said t) _ all e in
-    parameters_fit p.0 all ts (window_fits said p.0 t fits p.1) p.2
+-- the window that is said is of nine digits at most
+window_small : (ts : List (List ℕ)) (w : Option ℕ) → SayWindow ts w → IfSome w (λ n. n < 10 ^ 9)
+window_small ts None says = tt
+window_small [] (Some n) says = absurd says
+window_small (t ∷ []) (Some n) says = digits_small (drop 4 t) n says
+window_small (t ∷ u ∷ us) (Some n) says = absurd says
 
 -- ---- the line
 
@@ -283,8 +263,7 @@ keys_of_are : (suite : Suite) (t : List ℕ) (ks : List InlineKey) → keys_of s
 unfolding keys_of
 keys_of_are suite t ks e =
     let p = keys_are suite 0 (slice_split (λ x. eqb x 59) t) ks (omega arith) e in
-    let some = some_parts t in
-    (p.0, omega (arith, p.2, some), omega (arith, p.1))
+    (p.0, omega (arith, p.2, some_parts t), omega (arith, p.1))
 
 pub parts_valid : (tag suite keys : List ℕ) (said : List (List ℕ)) (l : CryptoLine) → crypto_parts tag suite keys said ≡ Ok l → IsCryptoLine l
 unfolding crypto_parts
@@ -297,13 +276,13 @@ parts_valid tag suite keys said l e =
     let is = keys_of_are s.0 keys k.0 k.1 in
     let made : CryptoLine = record { tag = n.0; suite = s.0; keys = k.0; window = p.0.window; plain_rtp = p.0.plain_rtp; plain_rtcp = p.0.plain_rtcp } in
     let valid : IsCryptoLine made = record {
-      tag = digits_small tag n.0 n.1;
+      tag = digits_small tag n.0 (number_says tag n.0 n.1);
       suite = suite_not_raw suite s.0 s.1;
       some = is.1;
       few = is.2;
       keys = is.0;
       mkis = g.0;
-      window = parameters_fit unsaid p.0 said tt p.1;
+      window = window_small (filter is_window said) p.0.window (parameters_say unsaid p.0 said p.1).window;
     } in
     subst IsCryptoLine (done made l p.2) valid
 

@@ -52,13 +52,13 @@ own_kept : IsKept (codes "c=IN IP4 127.0.0.1")
 unfolding has_form connection_of
 own_kept = record { form = refl; no_medium = refl; address = λ h. rw local_read refl }
 
-kept_case : (b : Bool) (l own : List ℕ) → IsKept l → IsKept own → IsKept (cond b own l)
-kept_case true l own k o = o
-kept_case false l own k o = k
+one_of : (P : List ℕ → Type 0) (b : Bool) (l own : List ℕ) → P l → P own → P (cond b own l)
+one_of P true l own k o = o
+one_of P false l own k o = k
 
 line_kept : (l : List ℕ) → IsKept l → IsKept (carried_line l)
 unfolding carried_line
-line_kept l kept = kept_case (starts_with nat_eq l (codes "c=")) l (codes "c=IN IP4 127.0.0.1") kept own_kept
+line_kept l kept = one_of IsKept (starts_with nat_eq l (codes "c=")) l (codes "c=IN IP4 127.0.0.1") kept own_kept
 
 filtered : {A : Type 0} (P : A → Type 0) (f : A → A) (b : Bool) (x : A) (rest : List A) → P (f x) → AllByRecursion P (map f rest) → AllByRecursion P (map f (cond b (x ∷ rest) rest))
 filtered P f true x rest p ps = (p, ps)
@@ -69,9 +69,6 @@ lines_kept [] kept = tt
 lines_kept (l ∷ ls) kept = filtered IsKept carried_line (not (is_one_sided l)) l (filter (λ line. not (is_one_sided line)) ls) (line_kept l kept.0) (lines_kept ls kept.1)
 
 prefix_kept : (session : List (List ℕ)) → HasPrefix session → HasPrefix (carried_lines session)
-prefix_kept [] prefix = absurd prefix
-prefix_kept (v ∷ []) prefix = absurd prefix
-prefix_kept (v ∷ o ∷ []) prefix = absurd prefix
 prefix_kept (v ∷ o ∷ s ∷ rest) prefix =
     let version : is_letter 118 v ≡ true = rw prefix.0 refl in
     rw (
@@ -82,6 +79,7 @@ prefix_kept (v ∷ o ∷ s ∷ rest) prefix =
       same_unless o (letter_differs 111 99 o prefix.1 (λ e. omega (arith, e))),
       same_unless s (letter_differs 115 99 s prefix.2 (λ e. omega (arith, e))),
     ) prefix
+prefix_kept fewer prefix = absurd prefix
 
 -- ---- media
 
@@ -96,16 +94,12 @@ medium_is port p m small is =
     record { word = is.word; port = small; proto = proto_word p m.proto is.proto; profile = refl; formats = is.formats; inner = is.inner; lines = lines_kept m.lines is.lines }
 
 media_are : (ports : List ℕ) (ps : List Profile) (ms : List Medium) → AllByRecursion (λ port. port ≤ 65535) ports → AllByRecursion IsMedium ms → AllByRecursion IsMedium (carried_media ports ps ms)
-media_are [] ps ms small is = tt
-media_are (port ∷ ports) [] ms small is = tt
-media_are (port ∷ ports) (p ∷ ps) [] small is = tt
 media_are (port ∷ ports) (p ∷ ps) (m ∷ ms) small is = (medium_is port p m small.0 is.0, media_are ports ps ms small.1 is.1)
+media_are ports ps ms small is = tt
 
 no_more : (ports : List ℕ) (ps : List Profile) (ms : List Medium) → length (carried_media ports ps ms) ≤ length ms
-no_more [] ps ms = omega arith
-no_more (port ∷ ports) [] ms = omega arith
-no_more (port ∷ ports) (p ∷ ps) [] = omega arith
 no_more (port ∷ ports) (p ∷ ps) (m ∷ ms) = let h = no_more ports ps ms in omega arith
+no_more ports ps ms = omega arith
 
 pub carried_is : (ports : List ℕ) (ps : List Profile) (s : Sdp) → IsSdp s → AllByRecursion (λ port. port ≤ 65535) ports → IsSdp (carried ports ps s)
 carried_is ports ps s is small =
@@ -115,10 +109,8 @@ carried_is ports ps s is small =
 
 pub media_count : (ports : List ℕ) (ps : List Profile) (ms : List Medium) → length ports ≡ length ms → length ps ≡ length ms → length (carried_media ports ps ms) ≡ length ms
 media_count [] ps [] a b = refl
-media_count [] ps (m ∷ ms) a b = absurd (omega arith)
-media_count (port ∷ ports) ps [] a b = absurd (omega arith)
-media_count (port ∷ ports) [] (m ∷ ms) a b = absurd (omega arith)
 media_count (port ∷ ports) (p ∷ ps) (m ∷ ms) a b = ap suc (media_count ports ps ms (omega arith) (omega arith))
+media_count ports ps ms a b = absurd (omega arith)
 
 -- ---- nothing of one side alone
 
@@ -128,13 +120,9 @@ TwoSided line = is_one_sided line ≡ false
 own_two_sided : TwoSided (codes "c=IN IP4 127.0.0.1")
 own_two_sided = two_sided_unless (codes "c=IN IP4 127.0.0.1") refl
 
-two_sided_case : (b : Bool) (l own : List ℕ) → TwoSided l → TwoSided own → TwoSided (cond b own l)
-two_sided_case true l own k o = o
-two_sided_case false l own k o = k
-
 line_two_sided : (l : List ℕ) → TwoSided l → TwoSided (carried_line l)
 unfolding carried_line
-line_two_sided l two = two_sided_case (starts_with nat_eq l (codes "c=")) l (codes "c=IN IP4 127.0.0.1") two own_two_sided
+line_two_sided l two = one_of TwoSided (starts_with nat_eq l (codes "c=")) l (codes "c=IN IP4 127.0.0.1") two own_two_sided
 
 lines_two_sided : (ls : List (List ℕ)) → AllByRecursion TwoSided (carried_lines ls)
 lines_two_sided [] = tt
@@ -146,13 +134,11 @@ lines_two_sided (l ∷ ls) =
 
 media_two_sided : (ports : List ℕ) (ps : List Profile) (ms : List Medium) → AllByRecursion TwoSided (flat_map medium_lines (carried_media ports ps ms))
 unfolding carried_medium
-media_two_sided [] ps ms = tt
-media_two_sided (port ∷ ports) [] ms = tt
-media_two_sided (port ∷ ports) (p ∷ ps) [] = tt
 media_two_sided (port ∷ ports) (p ∷ ps) (m ∷ ms) = (
   two_sided_unless (medium_line (carried_medium port p m)) refl,
   all_append TwoSided (carried_lines m.lines) (flat_map medium_lines (carried_media ports ps ms)) (lines_two_sided m.lines) (media_two_sided ports ps ms),
 )
+media_two_sided ports ps ms = tt
 
 pub carried_two_sided : (ports : List ℕ) (ps : List Profile) (s : Sdp) → AllByRecursion TwoSided (all_lines (carried ports ps s))
 carried_two_sided ports ps s =

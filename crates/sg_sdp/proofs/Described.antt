@@ -113,14 +113,11 @@ spelled_short n (l ∷ ls) text spelled fits =
       | inr lf ↦ let b = behind l (10 ∷ []) spelled.0 text (lf ∙ sym (append_assoc l (10 ∷ []) spelled.0)) in (omega arith, spelled_short n ls spelled.0 spelled.2 (omega arith))
     ]
 
-ok_same : (text : List ℕ) (n : ℕ) (s t : Sdp) → description_within n text ≡ Ok s → description_within n text ≡ Ok t → s ≡ t
-ok_same text n s t a b = ok_is {E = Fault} s t (sym a ∙ b)
-
 -- a text spells one description at most
 pub one_value : (text : List ℕ) (s t : Sdp) → IsSdp s → IsSdp t → Spells (all_lines s) text → Spells (all_lines t) text → s ≡ t
 one_value text s t is it ss st =
-    ok_same text (length text) s t (within_again (length text) text s is ss (spelled_short (length text) (all_lines s) text ss (omega arith)))
-    (within_again (length text) text t it st (spelled_short (length text) (all_lines t) text st (omega arith)))
+    ok_is {E = Fault} s t (sym (within_again (length text) text s is ss (spelled_short (length text) (all_lines s) text ss (omega arith)))
+    ∙ within_again (length text) text t it st (spelled_short (length text) (all_lines t) text st (omega arith)))
 
 pub printed_again : (s : Sdp) → IsSdp s → IsWithinLimits s (spelling s) → description_of (spelling s) ≡ Ok s
 printed_again s is fits = described_again (spelling s) s is fits (spells_again (all_lines s))

@@ -1,6 +1,6 @@
 -- What is refused has the first fault of the text, and what is read has none.
-use Rattle.std.proofs.Common.{◌≡◌, ℕ, ◌+◌, ◌-◌, Bool, true, false, cond, eqb, ltb, List, [], ◌∷◌, ◌++◌, length, take, drop, map, Option, Some, None, Result, Ok, Err, refl, sym, ap, subst, ◌∙◌, arith, inl, inr}
-use Rattle.std.specs.Prelude.{◌&&◌, ◌||◌, codes, is_none, is_some, not}
+use Rattle.std.proofs.Common.{◌≡◌, ℕ, ◌+◌, ◌-◌, Bool, true, false, cond, eqb, ltb, List, [], ◌∷◌, length, take, drop, map, Option, Some, None, Result, Ok, Err, refl, sym, ap, subst, ◌∙◌, arith, inl, inr}
+use Rattle.std.specs.Prelude.{◌&&◌, ◌||◌, is_none, is_some, not}
 use Rattle.std.specs.List.{slice_split}
 use Rattle.std.specs.Option.{option_or}
 use Rattle.std.specs.Result.{result_err}
@@ -69,9 +69,6 @@ unfolding with_last_line
 same_count session [] line = refl
 same_count session (m ∷ ms) line = rw (ne_eqb (length (m ∷ ms)) 0 (λ e. omega arith)) (length-with_line_at (m ∷ ms) (length (m ∷ ms) - 1) line)
 
-begins_with : (line rest : List ℕ) → line ≡ codes "m=" ++ rest → is_letter 109 line ≡ true
-begins_with line rest e = rw e refl
-
 placed_count : (s t : Sdp) (line : List ℕ) (head : Option HeadParts) → HeadIs line head → placed s line head ≡ Ok t → length t.media ≡ media_behind (length s.media) line
 unfolding placed
 placed_count s t line None other e =
@@ -79,7 +76,7 @@ placed_count s t line None other e =
     ap (λ (x : Sdp). length x.media) (sym g.1) ∙ same_count s.session s.media line ∙ (rw other refl)
 placed_count s t line (Some h) is e =
     let g = guard_false (eqb (length s.media) 4) TooManyMedia (with_medium (opened h) s) t e in
-    ap (λ (x : Sdp). length x.media) (sym g.1) ∙ length-append s.media (opened h ∷ []) ∙ (rw (begins_with line _ is.0) refl)
+    ap (λ (x : Sdp). length x.media) (sym g.1) ∙ length-append s.media (opened h ∷ []) ∙ (rw is.0 refl)
 
 step_count : (most n : ℕ) (s t : Sdp) (line : List ℕ) → step most n s line ≡ Ok t → length t.media ≡ media_behind (length s.media) line
 unfolding step

@@ -21,17 +21,13 @@ later number (l ∷ ls) far =
 
 pub prefix_again : (session more : List (List ℕ)) → HasPrefix session → InOrder 1 (session ++ more)
 unfolding is_in_order
-prefix_again [] more prefix = absurd prefix
-prefix_again (v ∷ []) more prefix = absurd prefix
-prefix_again (v ∷ o ∷ []) more prefix = absurd prefix
 prefix_again (v ∷ o ∷ s ∷ rest) more prefix =
     ((bytes_eq-Decides v (codes "v=0")).1 prefix.0, (prefix.1, (prefix.2, later 4 (rest ++ more) (omega arith))))
+prefix_again fewer more prefix = absurd prefix
 
 pub prefix_three : (session : List (List ℕ)) → HasPrefix session → 3 ≤ length session
-prefix_three [] prefix = absurd prefix
-prefix_three (v ∷ []) prefix = absurd prefix
-prefix_three (v ∷ o ∷ []) prefix = absurd prefix
 prefix_three (v ∷ o ∷ s ∷ rest) prefix = omega arith
+prefix_three fewer prefix = absurd prefix
 
 -- no `m=` line is among them
 pub prefix_takes : (session : List (List ℕ)) (ms : List Medium) → InOrder 1 (session ++ flat_map medium_lines ms) → 3 ≤ length (session ++ flat_map medium_lines ms) → HasPrefix session

@@ -1,13 +1,12 @@
 -- What a text spells is read of it.
-use Rattle.std.proofs.Common.{◌≡◌, ℕ, zero, suc, ◌+◌, ◌-◌, ◌<◌, ◌≤◌, Bool, true, false, eqb, leb, List, [], ◌∷◌, ◌++◌, length, take, drop, map, Some, None, Result, Ok, Err, refl, sym, ap, subst, ◌∙◌, arith, inl, inr, append_assoc}
+use Rattle.std.proofs.Common.{◌≡◌, ℕ, zero, suc, ◌+◌, ◌-◌, ◌<◌, ◌≤◌, Bool, true, false, eqb, List, [], ◌∷◌, ◌++◌, length, take, drop, map, Some, None, Result, Ok, Err, refl, sym, ap, subst, ◌∙◌, arith, inl, inr, append_assoc}
 use Rattle.std.specs.Prelude.{◌&&◌, not, is_none, nat_le, slice_index}
 use Rattle.std.specs.List.{list_all, flat_map, slice_split, AllByRecursion}
-use Rattle.std.proofs.lemmas.Bool.{eqb-true, eqb-false, eq-eqb, ne_eqb, le-ltb, leb-true, and_parts, not-true}
+use Rattle.std.proofs.lemmas.Bool.{eqb-true, eqb-false, eq-eqb, ne_eqb, le-ltb, leb-true, lt-leb, and_parts, not-true}
 use Rattle.std.proofs.lemmas.List.{length-append, append-nil, length-map, take_at}
 use Rattle.std.proofs.Math.Seq.{get_or-append_seam}
 use Rattle.std.proofs.lemmas.List.Elements.{All-from_recursion}
 use Rattle.std.proofs.lemmas.List.Splits.{slice_split_at}
-use Rattle.std.proofs.lemmas.Bool.Decides.{nat_tests}
 use Rattle.sg_base.specs.Fields.{Lacks}
 use Rattle.sg_base.proofs.Cuts.{lacks_append}
 use Rattle.sg_sdp.specs.declared.medium.Medium.{Medium}
@@ -88,20 +87,16 @@ run_one : (most n : ℕ) (s t u : Sdp) (l : List ℕ) (ls more : List (List ℕ)
 unfolding run
 run_one most n s t u l ls more e rest = record { from = rest.from; stands = rest.stands; same = rw e rest.same }
 
-first_line : (session : List (List ℕ)) (l : List ℕ) → with_last_line l (record { session = session; media = [] }) ≡ record { session = session ++ l ∷ []; media = [] }
-unfolding with_last_line
-first_line session l = refl
-
 run_session : (most n : ℕ) (session ls more : List (List ℕ)) → AllByRecursion IsKept ls → Stands most n (ls ++ more)
     → Rest most n (record { session = session; media = [] }) (record { session = session ++ ls; media = [] }) ls more
-unfolding Stands
+unfolding Stands with_last_line
 run_session most n session [] more kept stands =
     record { from = n; stands = stands; same = ap (λ (x : List (List ℕ)). run most n (record { session = x; media = [] }) more) (sym (append-nil session)) }
 run_session most n session (l ∷ ls) more kept stands =
     let s : Sdp = record { session = session; media = [] } in
     let t : Sdp = record { session = session ++ l ∷ []; media = [] } in
     let u : Sdp = record { session = session ++ l ∷ ls; media = [] } in
-    let one : step most n s l ≡ Ok t = step_kept most n s l kept.0 stands.1.0 stands.0.0 ∙ ap (λ (x : Sdp). Ok x) (first_line session l) in
+    let one : step most n s l ≡ Ok t = step_kept most n s l kept.0 stands.1.0 stands.0.0 in
     let rest = run_session most (n + 1) (session ++ l ∷ []) ls more kept.1 (stands.0.1, stands.1.1) in
     let regrouped : Rest most (n + 1) t u ls more = subst (λ (x : List (List ℕ)). Rest most (n + 1) t (record { session = x; media = [] }) ls more) (append_assoc session (l ∷ []) ls) rest in
     run_one most n s t u l ls more one regrouped
@@ -158,9 +153,6 @@ run_all most s is short =
 
 -- ---- the text
 
-lt_leb : (n k : ℕ) → k < n → leb n k ≡ false
-lt_leb n k lt = grind (arith, nat_tests)
-
 inner_lacks : (t : List ℕ) → list_all is_inner t ≡ true → Lacks 10 t × Lacks 13 t
 inner_lacks [] e = (tt, tt)
 inner_lacks (c ∷ t) e =
@@ -215,7 +207,7 @@ strip_none l none = rw (ne_eqb (slice_index l (length l - 1)) 13 (λ e. never l 
 
 end_fine : (most n : ℕ) → 3 < n → end_of most n [] ≡ Ok tt
 unfolding end_of
-end_fine most n many = rw (le-ltb most 0 (omega arith), lt_leb n 3 many) refl
+end_fine most n many = rw (le-ltb most 0 (omega arith), lt-leb n 3 many) refl
 
 -- the raw parts of a text of these lines
 record Raws (ls : List (List ℕ)) (text : List ℕ) : Type 0 where

@@ -2,7 +2,7 @@
 use Rattle.std.proofs.Common.{◌≡◌, ℕ, zero, suc, ◌+◌, ◌-◌, ◌<◌, ◌≤◌, Bool, true, false, eqb, ltb, leb, List, [], ◌∷◌, ◌++◌, length, take, drop, map, Option, Some, None, Ok, refl, sym, ap, subst, ◌∙◌, arith, inl, inr, append_assoc}
 use Rattle.std.specs.Prelude.{◌&&◌, ◌⊎◌, not, is_none, nat_le, codes, decimal, slice_index}
 use Rattle.std.specs.List.{list_all, flat_map, slice_split, join_with_byte, AllByRecursion}
-use Rattle.std.proofs.lemmas.Bool.{cases_eq, cases_lt, eqb-true, eqb-false, eq-eqb, ne_eqb, ltb-false, leb-false, and_parts, not-false}
+use Rattle.std.proofs.lemmas.Bool.{cases_eq, eqb-true, eqb-false, eq-eqb, ne_eqb, ltb-false, leb-false, and_parts, not-false}
 use Rattle.std.proofs.lemmas.List.{length-append, append-nil, length-map, length-take, nil_from_length}
 use Rattle.std.proofs.lemmas.List.Splits.{length-slice_split, join_with_byte-slice_split}
 use Rattle.std.proofs.lemmas.Grind.{flat_map-append}
@@ -40,9 +40,6 @@ more_so session [] l = append-nil (session ++ l ∷ []) ∙ ap (λ (x : List (Li
 more_so session (m ∷ ms) l =
     rw (ne_eqb (length (m ∷ ms)) 0 (λ e. omega arith)) (ap (λ (t : List (List ℕ)). session ++ t) (flat-last (m ∷ ms) (length (m ∷ ms) - 1) l (omega arith)) ∙ sym (append_assoc session (flat_map medium_lines (m ∷ ms)) (l ∷ [])))
 
-lines_more : (s : Sdp) (l : List ℕ) → all_lines (with_last_line l s) ≡ all_lines s ++ l ∷ []
-lines_more s l = more_so s.session s.media l
-
 lines_opened : (s : Sdp) (m : Medium) → m.lines ≡ [] → all_lines (with_medium m s) ≡ all_lines s ++ medium_line m ∷ []
 lines_opened s m none =
     ap (λ (t : List (List ℕ)). s.session ++ t) (flat-append s.media m ∙ ap (λ (x : List (List ℕ)). flat_map medium_lines s.media ++ medium_line m ∷ x) none)
@@ -76,9 +73,6 @@ kept_so session [] l kept a b c = record { session = all_append IsKept session (
 kept_so session (m ∷ ms) l kept a b c =
     rw (ne_eqb (length (m ∷ ms)) 0 (λ e. omega arith))
     (record { session = a; media = line_kept (m ∷ ms) (length (m ∷ ms) - 1) l kept b; few = omega (arith, length-with_line_at (m ∷ ms) (length (m ∷ ms) - 1) l) })
-
-add_kept : (s : Sdp) (l : List ℕ) → IsKept l → Good s → Good (with_last_line l s)
-add_kept s l kept good = kept_so s.session s.media l kept good.session good.media good.few
 
 add_opened : (s : Sdp) (m : Medium) → IsMedium m → length s.media < 4 → Good s → Good (with_medium m s)
 add_opened s m is room good = record { session = good.session; media = all_append IsMedium s.media (m ∷ []) good.media (is, tt); few = omega (arith, length-append s.media (m ∷ [])) }
@@ -143,11 +137,7 @@ address_of true b e h = e
 address_of false b e h = absurd cc
 
 below_four : (n : ℕ) → n ≤ 4 → eqb n 4 ≡ false → n < 4
-below_four n few e =
-    elim (cases_lt n 4) [
-      | inl lt ↦ lt
-      | inr le ↦ let four : n ≡ 4 = omega arith in absurd (eqb-false n 4 e four)
-    ]
+below_four n few e = let other = eqb-false n 4 e in grind (arith, other)
 
 -- the formats of a line are octets that end no line
 formats_inner : (h : HeadParts) → has_form (codes "m=" ++ head_text h) ≡ true → list_all is_inner h.formats ≡ true
@@ -160,7 +150,7 @@ unfolding placed opened
 place_takes most n s t l None line head order good e =
     let g = guard_false (is_letter 99 l && is_none (connection_of (drop 2 l))) Address (with_last_line l s) t e in
     let kept : IsKept l = record { form = line.form; no_medium = head; address = λ h. none_some (connection_of (drop 2 l)) (address_of (is_letter 99 l) _ g.0 h) } in
-    subst (λ (x : Sdp). Steps most n s x l) g.1 (record { lines = lines_more s l; order = order; short = line.short; good = add_kept s l kept good })
+    subst (λ (x : Sdp). Steps most n s x l) g.1 (record { lines = more_so s.session s.media l; order = order; short = line.short; good = kept_so s.session s.media l kept good.session good.media good.few })
 place_takes most n s t l (Some p) line head order good e =
     let g = guard_false (eqb (length s.media) 4) TooManyMedia (with_medium (opened p) s) t e in
     let m = opened p in

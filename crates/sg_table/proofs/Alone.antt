@@ -46,12 +46,11 @@ module _ (w : World) (law : (before : List Arrived) (a : Arrived) → IsToldAlon
 
 ended_alone : (w : World) → OnlyItsOwnCount w → (before old new : List Arrival) → AreEnded (world_after w (map arrived before)) old new → HaveEndedAlone w before old new
 ended_alone w law before [] [] p = tt
-ended_alone w law before [] (b ∷ new) p = absurd p
-ended_alone w law before (a ∷ old) [] p = absurd p
 ended_alone w law before (a ∷ old) (b ∷ new) p = (
   record { port = p.0.port; from = p.0.from; told = p.0.told ∙ law before a; back = p.0.back },
   ended_alone w law (before ++ a ∷ []) old new (subst (λ v. AreEnded v old new) (sym (ap (world_after w) (map-append arrived before (a ∷ [])) ∙ after_append w (map arrived before) (arrived a ∷ []))) p.1),
 )
+ended_alone w law before old new p = absurd p
 
 -- a batch has ended so
 pub batched_alone : ((events : List Event) → OnlyItsOwnCount (world_after empty events)) → (w : World) (old new : List Arrival) (before : TableValue) → TableStandsFor before w → AreEnded w old new → HaveEndedAlone w [] old new

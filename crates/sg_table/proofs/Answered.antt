@@ -2,6 +2,7 @@
 use Rattle.std.proofs.Common.{◌≡◌, ◌<◌, arith, get_or, ℕ, zero, suc, List, [], ◌∷◌, ◌++◌, length, Option, Some, Result, Err, sym, ap, ◌∙◌, subst}
 use Rattle.std.proofs.Math.ListN.{set}
 use Rattle.std.proofs.lemmas.List.{set-get_or}
+use Rattle.std.proofs.lemmas.List.Elements.{All-from_recursion}
 use Rattle.std.specs.List.{insert}
 use Rattle.sg_base.specs.declared.addresses.CallId.{CallId}
 use Rattle.sg_base.specs.declared.faults.Refusal.{Refusal}
@@ -50,9 +51,7 @@ quiet_set (c ∷ cs) zero new q n = (n, q.1)
 quiet_set (c ∷ cs) (suc i) new q n = (q.0, quiet_set cs i new q.1 n)
 
 pub quiet_at : (calls : List CallValue) (i : ℕ) (d : CallValue) → AreQuiet calls → i < length calls → IsQuiet (get_or calls i d)
-quiet_at [] i d q lt = absurd (omega (arith, lt))
-quiet_at (c ∷ cs) zero d q lt = q.0
-quiet_at (c ∷ cs) (suc i) d q lt = quiet_at cs i d q.1 (omega (arith, lt))
+quiet_at calls i d q lt = All-from_recursion IsQuiet calls q i d lt
 
 -- a call that is as it was, and its books
 pub back_at : (calls : List CallValue) (i : ℕ) (d new : CallValue) → new ≡ get_or calls i d → set calls i new ≡ calls

@@ -20,7 +20,7 @@ use Rattle.sg_leg.specs.Pairs.{EachPair}
 use Rattle.sg_leg.specs.declared.books.Books as declared
 use Rattle.sg_psk.specs.declared.pairs.Pair.{Pair}
 use Rattle.sg_table.proofs.Delivering.{given_told}
-use Rattle.sg_table.proofs.Pairing.{pairs_by, pairs_weaker}
+use Rattle.sg_table.proofs.Pairing.{by_pairs, pairs_by, pairs_weaker}
 use Rattle.sg_table.proofs.Sharing.{left_of, ready_first}
 use Rattle.sg_table.proofs.Stepped.{run_goes_on}
 use Rattle.sg_table.proofs.Turns.{moments, books_stay}
@@ -37,26 +37,19 @@ have_room [] q = tt
 have_room (c ∷ cs) q = ((let a = ap length q.0.0 in let b = ap length q.0.1 in omega (arith, a, b)), have_room cs q.1)
 
 ready_all : (pairs : List Pair) (now : ℕ) (calls : List CallValue) (cs : List Call) → EachPair (CallStandsFor pairs) calls cs → AreQuiet calls → EachPair (IsReady pairs now []) calls cs
-ready_all pairs now [] [] h q = tt
-ready_all pairs now [] (c ∷ cs) h q = absurd h
-ready_all pairs now (call ∷ calls) [] h q = absurd h
-ready_all pairs now (call ∷ calls) (c ∷ cs) h q = (ready_first pairs now call c h.0 q.0.0 q.0.1, ready_all pairs now calls cs h.1 q.1)
+ready_all pairs now = by_pairs (CallStandsFor pairs) (λ calls cs. AreQuiet calls → EachPair (IsReady pairs now []) calls cs) (λ q. tt)
+    (λ call c calls cs h rest q. (ready_first pairs now call c h q.0.0 q.0.1, rest q.1))
 
 pub drained_shapes : (calls new : List CallValue) → EachPair IsDrained calls new → shapes_of new ≡ shapes_of calls
-drained_shapes [] [] h = refl
-drained_shapes [] (n ∷ ns) h = absurd h
-drained_shapes (c ∷ cs) [] h = absurd h
-drained_shapes (c ∷ cs) (n ∷ ns) h = let slot = h.0.same_slot in let media = h.0.same_media in (λ i. record { slot = slot i; media = media i } ∷ drained_shapes cs ns h.1 i)
+drained_shapes = by_pairs IsDrained (λ calls new. shapes_of new ≡ shapes_of calls) refl
+    (λ c n cs ns h rest. (let slot = h.same_slot in let media = h.same_media in (λ i. record { slot = slot i; media = media i } ∷ rest i)))
 
 none_handled : (xs : List (ℕ × Handled)) → map (λ h. h.1) xs ≡ [] → xs ≡ []
 none_handled [] e = refl
 none_handled (x ∷ xs) e = absurd cc
 
 quiet_left : (pairs : List Pair) (now : ℕ) (calls : List CallValue) (cs : List Call) → EachPair (IsLeft pairs now []) calls cs → AreQuiet calls
-quiet_left pairs now [] [] h = tt
-quiet_left pairs now [] (c ∷ cs) h = absurd h
-quiet_left pairs now (call ∷ calls) [] h = absurd h
-quiet_left pairs now (call ∷ calls) (c ∷ cs) h = ((h.0.none_waits, none_handled call.handled h.0.are_handled), quiet_left pairs now calls cs h.1)
+quiet_left pairs now = by_pairs (IsLeft pairs now []) (λ calls cs. AreQuiet calls) tt (λ call c calls cs h rest. ((h.none_waits, none_handled call.handled h.are_handled), rest))
 
 -- the outcome of what is handed back is what the datagram tells
 pub handled_told : (w : World) (port : ℕ) (from : Address) (d : List ℕ) (o : Option Call) → outcome_of port (handled_in w.moment port from d o) ∷ [] ≡ (arrived_at w port from d o).outcomes

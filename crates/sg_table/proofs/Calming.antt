@@ -1,5 +1,5 @@
 -- Ticks that change nothing.
-use Rattle.std.proofs.Common.{◌≡◌, ℕ, zero, suc, ◌+◌, ◌<◌, ◌≤◌, Bool, true, false, cond, not, List, [], ◌∷◌, map, length, ◌^◌, ◌-◌, get_or, min, refl, sym, ap, ◌∙◌, subst, arith, ltb, inl, inr}
+use Rattle.std.proofs.Common.{◌≡◌, ℕ, suc, ◌+◌, ◌<◌, ◌≤◌, Bool, true, false, cond, not, List, [], ◌∷◌, map, length, ◌^◌, ◌-◌, get_or, min, refl, sym, ap, ◌∙◌, subst, arith, ltb, inl, inr}
 use Rattle.std.proofs.lemmas.Bool.{cases_lt, cond-true, cond-false, lt-leb, le-leb, le-ltb}
 use Rattle.std.proofs.Math.Nat.{min-eq_right, min-le_left, min-le_right, min-eq_left}
 use Rattle.std.specs.List.{AllByRecursion, filter}
@@ -21,6 +21,7 @@ use Rattle.sg_outcome.specs.declared.outcomes.Why.TheVariants as why
 use Rattle.sg_psk.specs.declared.pairs.Pair.{Pair}
 use Rattle.sg_session.specs.Session.{Session}
 use Rattle.sg_session.proofs.Lists.{each_of}
+use Rattle.sg_table.proofs.Pairing.{by_pairs}
 use Rattle.sg_table.specs.Batches.{arrived}
 use Rattle.sg_table.specs.Calm.{CallRests, IsCalm, Rests}
 use Rattle.sg_table.specs.Standing.{Holds, TableStandsFor}
@@ -42,18 +43,12 @@ module _ (until : ℕ) where
 
   module _ (pairs : List Pair) (last : ℕ) where
     in_world : (calls : List CallValue) (cs : List Call) → EachPair (CallStandsFor pairs) calls cs → AllByRecursion (CallRests until last) calls → AllByRecursion (RestsIn last) cs
-    in_world [] [] h each = tt
-    in_world [] (c ∷ cs) h each = absurd h
-    in_world (call ∷ calls) [] h each = absurd h
-    in_world (call ∷ calls) (c ∷ cs) h each =
-        (subst (λ n. Rests until last n c.replaced) (sym h.0.moment_is) (subst (λ n. Rests until last call.moment n) (sym h.0.replaced_is) each.0), in_world calls cs h.1 each.1)
+    in_world = by_pairs (CallStandsFor pairs) (λ calls cs. AllByRecursion (CallRests until last) calls → AllByRecursion (RestsIn last) cs) (λ each. tt) (λ call c calls cs h rest each.
+        (subst (λ n. Rests until last n c.replaced) (sym h.moment_is) (subst (λ n. Rests until last call.moment n) (sym h.replaced_is) each.0), rest each.1))
 
     in_table : (calls : List CallValue) (cs : List Call) → EachPair (CallStandsFor pairs) calls cs → AllByRecursion (RestsIn last) cs → AllByRecursion (CallRests until last) calls
-    in_table [] [] h each = tt
-    in_table [] (c ∷ cs) h each = absurd h
-    in_table (call ∷ calls) [] h each = absurd h
-    in_table (call ∷ calls) (c ∷ cs) h each =
-        (subst (λ n. Rests until last n call.replaced) h.0.moment_is (subst (λ n. Rests until last c.moment n) h.0.replaced_is each.0), in_table calls cs h.1 each.1)
+    in_table = by_pairs (CallStandsFor pairs) (λ calls cs. AllByRecursion (RestsIn last) cs → AllByRecursion (CallRests until last) calls) (λ each. tt) (λ call c calls cs h rest each.
+        (subst (λ n. Rests until last n call.replaced) h.moment_is (subst (λ n. Rests until last c.moment n) h.replaced_is each.0), rest each.1))
 
   -- a world of a calm table
   record IsCalmIn (w : World) : Type 0 where

@@ -27,8 +27,7 @@ use Rattle.sg_outcome.specs.declared.outcomes.Outcome.TheVariants.{Ended, Refuse
 use Rattle.sg_outcome.specs.declared.outcomes.Why.{Why}
 use Rattle.sg_outcome.specs.declared.outcomes.Why.TheVariants as why
 use Rattle.sg_psk.specs.declared.pairs.Pair.{Pair}
-use Rattle.sg_table.proofs.Answered.{quiet_set, serials}
-use Rattle.sg_table.proofs.Delivering.{quiet_at}
+use Rattle.sg_table.proofs.Answered.{quiet_set, quiet_at, serials}
 use Rattle.sg_table.proofs.Early.{no_call, some_call}
 use Rattle.sg_table.proofs.Found.{CallAt}
 use Rattle.sg_table.specs.Ends.{ended_as, IsRejectedAt}
@@ -40,10 +39,9 @@ use Rattle.sg_table.specs.Values.{TableValue, IsQuiet, AreQuiet}
 pairs_remove : {X Y : Type 0} (R : X → Y → Type 0) (i : ℕ) (xs : List X) (ys : List Y) → EachPair R xs ys → EachPair R (remove xs i) (remove ys i)
 pairs_remove R zero [] [] h = tt
 pairs_remove R (suc i) [] [] h = tt
-pairs_remove R i [] (y ∷ ys) h = absurd h
-pairs_remove R i (x ∷ xs) [] h = absurd h
 pairs_remove R zero (x ∷ xs) (y ∷ ys) h = h.1
 pairs_remove R (suc i) (x ∷ xs) (y ∷ ys) h = (h.0, pairs_remove R i xs ys h.1)
+pairs_remove R i xs ys h = absurd h
 
 quiet_remove : (calls : List CallValue) (i : ℕ) → AreQuiet calls → AreQuiet (remove calls i)
 quiet_remove [] zero q = tt

@@ -9,29 +9,18 @@ use Rattle.sg_gateway.specs.Order.{IsBefore}
 use Rattle.sg_gateway.specs.World.{Call, free_slot, and_call}
 use Rattle.sg_leg.specs.Pairs.{EachPair}
 use Rattle.sg_psk.specs.declared.pairs.Pair.{Pair}
-use Rattle.sg_session.proofs.Lists.{each_weaker, each_of}
+use Rattle.sg_session.proofs.Lists.{each_weaker, each_of, both}
+use Rattle.sg_table.proofs.Pairing.{by_pairs}
 use Rattle.sg_table.specs.Free.{free_shape}
 use Rattle.sg_table.specs.Values.{Shape, shapes_of, IsQuiet, AreQuiet}
 
 pub free_low : (n : ℕ) (ss : List Shape) → free_shape n ss ≤ n + length ss
 free_low n [] = omega arith
-free_low n (s ∷ ss) = go (eqb s.slot n) (free_low (n + 1) ss)
-  where
-    go : (b : Bool) → free_shape (n + 1) ss ≤ n + 1 + length ss → cond b (free_shape (n + 1) ss) n ≤ n + suc (length ss)
-    go true le = omega (arith, le)
-    go false le = omega (arith, le)
-
-pub length_shapes : (calls : List CallValue) → length (shapes_of calls) ≡ length calls
-length_shapes [] = refl
-length_shapes (c ∷ cs) = ap (λ n. suc n) (length_shapes cs)
+free_low n (s ∷ ss) = let le = free_low (n + 1) ss in both (λ m. m ≤ n + suc (length ss)) (eqb s.slot n) (free_shape (n + 1) ss) n (omega (arith, le)) (omega arith)
 
 at_least : (n : ℕ) (cs : List Call) → n ≤ free_slot n cs
 at_least n [] = omega arith
-at_least n (c ∷ cs) = go (eqb c.slot n) (at_least (n + 1) cs)
-  where
-    go : (b : Bool) → n + 1 ≤ free_slot (n + 1) cs → n ≤ cond b (free_slot (n + 1) cs) n
-    go true le = omega (arith, le)
-    go false le = omega arith
+at_least n (c ∷ cs) = let le = at_least (n + 1) cs in both (λ m. n ≤ m) (eqb c.slot n) (free_slot (n + 1) cs) n (omega (arith, le)) (omega arith)
 
 later_slots : (c : Call) (cs : List Call) → AllByRecursion (IsBefore c) cs → AllByRecursion (λ (d : Call). c.slot + 1 ≤ d.slot) cs
 later_slots c cs p = each_weaker _ _ (λ d before. let lt = before.slot in omega (arith, lt)) cs p
@@ -57,9 +46,8 @@ and_is n k d (c ∷ cs) low o is k_is = go (eqb c.slot n) refl k k_is is (λ k a
 pairs_insert : {X Y : Type 0} (R : X → Y → Type 0) (k : ℕ) (x : X) (y : Y) (xs : List X) (ys : List Y) → EachPair R xs ys → R x y → EachPair R (insert xs k x) (insert ys k y)
 pairs_insert R zero x y xs ys h r = (r, h)
 pairs_insert R (suc k) x y [] [] h r = (r, tt)
-pairs_insert R (suc k) x y [] (v ∷ ys) h r = absurd h
-pairs_insert R (suc k) x y (u ∷ xs) [] h r = absurd h
 pairs_insert R (suc k) x y (u ∷ xs) (v ∷ ys) h r = (h.0, pairs_insert R k x y xs ys h.1 r)
+pairs_insert R (suc k) x y xs ys h r = absurd h
 
 pub quiet_insert : (k : ℕ) (call : CallValue) (calls : List CallValue) → IsQuiet call → AreQuiet calls → AreQuiet (insert calls k call)
 quiet_insert zero call calls is q = (is, q)
@@ -68,10 +56,8 @@ quiet_insert (suc k) call (c ∷ cs) is q = (q.0, quiet_insert k call cs is q.1)
 
 module _ (pairs : List Pair) where
   pub free_same : (n : ℕ) (calls : List CallValue) (cs : List Call) → EachPair (CallStandsFor pairs) calls cs → free_shape n (shapes_of calls) ≡ free_slot n cs
-  free_same n [] [] h = refl
-  free_same n [] (c ∷ cs) h = absurd h
-  free_same n (call ∷ calls) [] h = absurd h
-  free_same n (call ∷ calls) (c ∷ cs) h = let slot = h.0.slot_is in (λ i. cond (eqb (sym slot i) n) (free_same (n + 1) calls cs h.1 i) n)
+  free_same n calls cs h = by_pairs (CallStandsFor pairs) (λ calls cs. (n : ℕ) → free_shape n (shapes_of calls) ≡ free_slot n cs) (λ n. refl)
+      (λ call c calls cs h rest n. (let slot = h.slot_is in (λ i. cond (eqb (sym slot i) n) (rest (n + 1) i) n))) calls cs h n
 
   pub put_stands : (call : CallValue) (calls : List CallValue) (cs : List Call) (d : Call) (slot : ℕ) → EachPair (CallStandsFor pairs) calls cs → Pairs IsBefore cs → CallStandsFor pairs call d
       → d.slot ≡ free_slot 0 cs → slot ≡ free_shape 0 (shapes_of calls) → EachPair (CallStandsFor pairs) (insert calls slot call) (and_call d cs)

@@ -1,9 +1,9 @@
 -- Handled datagrams that are taken back in order of arrival.
-use Rattle.std.proofs.Common.{◌≡◌, ℕ, suc, ◌+◌, ◌<◌, Bool, true, false, cond, ◌||◌, List, [], ◌∷◌, ◌++◌, append_assoc, length, length-append, drop, get_or, map, Option, Some, None, refl, sym, ap, ◌∙◌, subst}
+use Rattle.std.proofs.Common.{◌≡◌, ℕ, ◌+◌, ◌<◌, Bool, true, false, cond, ◌||◌, List, [], ◌∷◌, ◌++◌, append_assoc, length, length-append, drop, get_or, map, Option, Some, None, refl, sym, ap, ◌∙◌, subst}
 use Rattle.std.proofs.Math.ListN.{set}
 use Rattle.std.proofs.Math.Seq.{set-append_seam, get_or-append_seam}
 use Rattle.std.proofs.lemmas.Bool.{false≢true}
-use Rattle.std.proofs.lemmas.List.{drop_more}
+use Rattle.std.proofs.lemmas.List.{drop_more, length-map}
 use Rattle.std.proofs.lemmas.List.Elements.{filter_agree}
 use Rattle.std.specs.List.{AllByRecursion}
 use Rattle.std.specs.Prelude.{IsSome}
@@ -19,6 +19,7 @@ use Rattle.sg_gateway.specs.Ports.{call_at, has_port}
 use Rattle.sg_gateway.specs.World.{Books, Call, World, find_call}
 use Rattle.sg_leg.specs.Pairs.{EachPair}
 use Rattle.sg_psk.specs.declared.pairs.Pair.{Pair}
+use Rattle.sg_session.proofs.Lists.{both}
 use Rattle.sg_table.proofs.Pairing.{pairs_both}
 use Rattle.sg_table.proofs.Sharing.{call_ports}
 use Rattle.sg_table.proofs.Turns.{turn, turn_same, same_ports, drained_same, drain_one, one_turn, turns_on, same_moment, same_books}
@@ -71,8 +72,6 @@ left_next pairs now a later call c l =
 back_is : (pairs : List Pair) (now : ℕ) (a : Arrived) (later : List Arrived) (calls : List CallValue) (cs : List Call) → EachPair (IsLeft pairs now (a ∷ later)) calls cs → (came : Arrival) → came.pad ≡ Some a.octets.items
     → given_back (handed (is_taken a.port (shapes_of calls)) came) (handled_first a.port calls) ≡ with_handled came (handled_in now a.port a.from a.octets.items (find_call (has_port a.port) cs))
 back_is pairs now a later [] [] h came pad = (λ i. record came { pad = pad i; end = Some (Dropped PortUnused) })
-back_is pairs now a later [] (c ∷ cs) h came pad = absurd h
-back_is pairs now a later (call ∷ calls) [] h came pad = absurd h
 back_is pairs now a later (call ∷ calls) (c ∷ cs) h came pad = go (has_port a.port c) refl (ports_left pairs now a.port (a ∷ later) call c h.0) (back_is pairs now a later calls cs h.1 came pad)
   where
     go : (b : Bool) → has_port a.port c ≡ b → has_call_port a.port call ≡ has_port a.port c
@@ -89,6 +88,7 @@ back_is pairs now a later (call ∷ calls) (c ∷ cs) h came pad = go (has_port 
         (λ i. given_back (handed ((e ∙ is) i || is_taken a.port (shapes_of calls)) came) (cond ((e ∙ is) i) (first_handled call.handled) (handled_first a.port calls)))
         ∙ rest
         ∙ (λ i. with_handled came (handled_in now a.port a.from a.octets.items (cond (sym is i) (Some c) (find_call (has_port a.port) cs))))
+back_is pairs now a later calls cs h came pad = absurd h
 
 left_after : (w : World) (a : Arrived) (later : List Arrived) (calls : List CallValue) → TakesTurns w → AreLeft w.moment (a ∷ later) calls w → AreLeft w.moment later (map (popped_at a.port) calls) (given_in w a).world
 left_after w a later calls turns h =
@@ -102,11 +102,7 @@ some_is (Some x) s = refl
 
 pub shapes_popped : (port : ℕ) (calls : List CallValue) → shapes_of (map (popped_at port) calls) ≡ shapes_of calls
 shapes_popped port [] = refl
-shapes_popped port (c ∷ cs) = (λ i. go (has_call_port port c) i ∷ shapes_popped port cs i)
-  where
-    go : (b : Bool) → shape_of (cond b (popped c) c) ≡ shape_of c
-    go true = refl
-    go false = refl
+shapes_popped port (c ∷ cs) = (λ i. both (λ (d : CallValue). shape_of d ≡ shape_of c) (has_call_port port c) (popped c) c refl refl i ∷ shapes_popped port cs i)
 
 -- what is gathered so far: those that came first are answered
 pub record Gathers (w : World) (came : List Arrival) (shapes : List Shape) (k : ℕ) (left : List Arrival) (arrivals : List Arrival) (calls : List CallValue) : Type 0 where
@@ -170,13 +166,9 @@ WillGather handed0 calls0 k arrivals calls =
 pub will_gather_first : (handed0 : List Arrival) (calls0 : List CallValue) → WillGather handed0 calls0 0 handed0 calls0
 will_gather_first handed0 calls0 w came is turns pads stand = gathers_first w came (shapes_of calls0) handed0 calls0 turns pads stand is
 
-length_handed : (shapes : List Shape) (came : List Arrival) → length (all_handed shapes came) ≡ length came
-length_handed shapes [] = refl
-length_handed shapes (a ∷ came) = ap suc (length_handed shapes came)
-
 pub will_gather_next : (handed0 : List Arrival) (calls0 : List CallValue) (k : ℕ) (arrivals : List Arrival) (calls calls' : List CallValue) (d new : Arrival) → k < length handed0 → shapes_of calls ≡ shapes_of calls0
     → calls' ≡ map (popped_at (get_or arrivals k d).port) calls → new ≡ given_back (get_or arrivals k d) (handled_first (get_or arrivals k d).port calls)
     → WillGather handed0 calls0 k arrivals calls → WillGather handed0 calls0 (k + 1) (set arrivals k new) calls'
 will_gather_next handed0 calls0 k arrivals calls calls' d new lt shapes popped_so new_so will w came is turns pads stand =
-    let within : k < length came = subst (λ n. k < n) (ap length is ∙ length_handed (shapes_of calls0) came) lt in
+    let within : k < length came = subst (λ n. k < n) (ap length is ∙ length-map came (λ (a : Arrival). handed (is_taken a.port (shapes_of calls0)) a)) lt in
     gathers_next w came k (get_or came k d) (drop (k + 1) came) (drop k came) arrivals calls calls' d new (shapes_of calls0) (drop_more came k d within) shapes popped_so new_so (will w came is turns pads stand)

@@ -33,11 +33,10 @@ same_handled port d pad pad' (ends.Out from to) (ends.Out from' to') same back b
     let t : to ≡ to' = cc in
     let p : pad ≡ pad' = cc in
     (λ i. made (p i) (ends.Out (f i) (t i)))
-same_handled port d pad pad' (ends.Out from to) (ends.Dropped cause) same back back' = absurd cc
-same_handled port d pad pad' (ends.Dropped cause) (ends.Out from to) same back back' = absurd cc
 same_handled port d pad pad' (ends.Dropped cause) (ends.Dropped cause') same back back' =
     let c : cause ≡ cause' = cc in
     (λ i. made ((back ∙ sym back') i) (ends.Dropped (c i)))
+same_handled port d pad pad' end end' same back back' = absurd cc
 
 one_of : (o p : Outcome) → o ∷ [] ≡ p ∷ [] → o ≡ p
 one_of o p e = cc

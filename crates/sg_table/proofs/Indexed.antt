@@ -4,8 +4,9 @@ use Rattle.std.proofs.Math.ListN.{set}
 use Rattle.std.proofs.Math.Seq.{take-suc}
 use Rattle.std.proofs.lemmas.Bool.{cases_Bool, eqb-true, eq-eqb, ne_eqb, false≢true}
 use Rattle.std.proofs.lemmas.Iterator.Adapters.{position_from-zero}
-use Rattle.std.proofs.lemmas.List.{get_or-replicate, get_or-set_same, get_or-set_other, length-replicate}
-use Rattle.std.specs.List.{AllByRecursion, position_from}
+use Rattle.std.proofs.lemmas.List.{get_or-map, get_or-replicate, get_or-set_same, get_or-set_other, length-map, length-replicate, length-take-le, take_all}
+use Rattle.std.proofs.lemmas.List.Elements.{All-from_recursion}
+use Rattle.std.specs.List.{position_from}
 use Rattle.sg_call.specs.Values.{CallValue}
 use Rattle.sg_table.specs.Values.{Shape, shape_of, shapes_of, AreIndexed, AreRising}
 
@@ -15,16 +16,11 @@ is_at slot s = eqb s.slot slot
 -- ---- one call more is written
 
 -- the calls before one have other slots
-slot_above : (s : Shape) (ss : List Shape) (k : ℕ) (d : Shape) → AllByRecursion (λ (t : Shape). s.slot < t.slot) ss → k < length ss → s.slot < (get_or ss k d).slot
-slot_above s [] k d p lt = absurd (omega (arith, lt))
-slot_above s (t ∷ ss) zero d p lt = p.0
-slot_above s (t ∷ ss) (suc k) d p lt = slot_above s ss k d p.1 (omega (arith, lt))
-
 none_before : (ss : List Shape) (k j : ℕ) (d : Shape) → AreRising ss → k < length ss → position_from (is_at (get_or ss k d).slot) j (take k ss) ≡ None
 none_before [] k j d r lt = absurd (omega (arith, lt))
 none_before (s ∷ ss) zero j d r lt = refl
 none_before (s ∷ ss) (suc k) j d r lt =
-    let above = slot_above s ss k d r.2 (omega (arith, lt)) in
+    let above = All-from_recursion (λ (t : Shape). s.slot < t.slot) ss r.2 k d (omega (arith, lt)) in
     let other : eqb s.slot (get_or ss k d).slot ≡ false = ne_eqb _ _ (λ e. omega (arith, above, e)) in
     ap (λ b. cond b (Some j) (position_from (is_at (get_or ss k d).slot) (j + 1) (take k ss))) other ∙ none_before ss k (j + 1) d r.3 (omega (arith, lt))
 
@@ -44,11 +40,6 @@ other_at : (slot j : ℕ) (s : Shape) (ss : List Shape) → eqb s.slot slot ≡ 
 other_at slot j s [] other = ap (λ b. cond b (Some j) None) other
 other_at slot j s (t ∷ ss) other = ap (λ o. cond (eqb t.slot slot) (Some j) o) (other_at slot (j + 1) s ss other)
 
-length_taken : (ss : List Shape) (k : ℕ) → k < length ss → length (take k ss) ≡ k
-length_taken [] k lt = absurd (omega (arith, lt))
-length_taken (s ∷ ss) zero lt = refl
-length_taken (s ∷ ss) (suc k) lt = ap suc (length_taken ss k (omega (arith, lt)))
-
 -- the first k calls are written
 abbrev pub AreWritten : List (Option ℕ) → ℕ → List Shape → Type 0
 AreWritten places k shapes = (slot : ℕ) (d : Option ℕ) → slot < 256 → get_or places slot d ≡ position_from (is_at slot) 0 (take k shapes)
@@ -64,7 +55,7 @@ written_next places k shapes s all rising lt is before slot d le =
           let none : position_from (is_at slot) 0 (take k shapes) ≡ None =
           subst (λ n. position_from (is_at n) 0 (take k shapes) ≡ None) (ap (λ (t : Shape). t.slot) (sym is) ∙ same) (none_before shapes k 0 s rising lt) in
           subst (λ n. get_or (set places n (Some k)) slot d ≡ Some k) (sym same) (get_or-set_same places slot (Some k) d (omega (arith, le, all)))
-          ∙ sym (ap (position_from (is_at slot) 0) more ∙ last_at slot 0 s (take k shapes) y none ∙ ap (λ n. Some n) (let len = length_taken shapes k lt in let e : 0 + length (take k shapes) ≡ k = omega (arith, len) in e))
+          ∙ sym (ap (position_from (is_at slot) 0) more ∙ last_at slot 0 s (take k shapes) y none ∙ ap (λ n. Some n) (let len = length-take-le k shapes (omega (arith, lt)) in let e : 0 + length (take k shapes) ≡ k = omega (arith, len) in e))
           )
       | inr x ↦ (
           let differ : slot ≡ s.slot → ⊥ = (λ e. false≢true (sym x ∙ eq-eqb s.slot slot (sym e))) in
@@ -74,30 +65,15 @@ written_next places k shapes s all rising lt is before slot d le =
 
 -- ---- of calls
 
-shape_at : (calls : List CallValue) (k : ℕ) (call : CallValue) → k < length calls → get_or (shapes_of calls) k (shape_of call) ≡ shape_of (get_or calls k call)
-shape_at [] k call lt = absurd (omega (arith, lt))
-shape_at (c ∷ cs) zero call lt = refl
-shape_at (c ∷ cs) (suc k) call lt = shape_at cs k call (omega (arith, lt))
-
-count_shapes : (calls : List CallValue) → length (shapes_of calls) ≡ length calls
-count_shapes [] = refl
-count_shapes (c ∷ cs) = ap suc (count_shapes cs)
-
 pub call_written : (places : List (Option ℕ)) (k : ℕ) (calls : List CallValue) (call : CallValue) → length places ≡ 256 → AreRising (shapes_of calls) → k < length calls → call ≡ get_or calls k call
     → AreWritten places k (shapes_of calls) → AreWritten (set places call.slot (Some k)) (k + 1) (shapes_of calls)
 call_written places k calls call all rising lt is before =
-    written_next places k (shapes_of calls) (shape_of call) all rising (subst (λ n. k < n) (sym (count_shapes calls)) lt) (ap shape_of is ∙ sym (shape_at calls k call lt)) before
-
-take_all : (ss : List Shape) (k : ℕ) → length ss ≤ k → take k ss ≡ ss
-take_all [] zero le = refl
-take_all [] (suc k) le = refl
-take_all (s ∷ ss) zero le = absurd (omega (arith, le))
-take_all (s ∷ ss) (suc k) le = ap (λ l. s ∷ l) (take_all ss k (omega (arith, le)))
+    written_next places k (shapes_of calls) (shape_of call) all rising (subst (λ n. k < n) (sym (length-map calls shape_of)) lt) (ap shape_of is ∙ sym (get_or-map shape_of calls k call (shape_of call) lt)) before
 
 pub all_written : (places : List (Option ℕ)) (k : ℕ) (calls : List CallValue) → length places ≡ 256 → length calls ≤ k → AreWritten places k (shapes_of calls) → AreIndexed places (shapes_of calls)
 all_written places k calls all le written = record {
   all = all;
-  at = λ slot d lt. written slot d lt ∙ ap (position_from (is_at slot) 0) (take_all (shapes_of calls) k (subst (λ n. n ≤ k) (sym (count_shapes calls)) le)) ∙ sym (position_from-zero (is_at slot) (shapes_of calls));
+  at = λ slot d lt. written slot d lt ∙ ap (position_from (is_at slot) 0) (take_all k (shapes_of calls) (subst (λ n. n ≤ k) (sym (length-map calls shape_of)) le)) ∙ sym (position_from-zero (is_at slot) (shapes_of calls));
 }
 
 -- where no calls are

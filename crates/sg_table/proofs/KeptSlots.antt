@@ -1,6 +1,7 @@
 -- A signal that leaves as many calls as there were leaves their slots.
 use Rattle.std.proofs.Common.{◌≡◌, ℕ, suc, ◌≤◌, Bool, true, false, cond, not, List, [], ◌∷◌, length, map, Option, Some, None, Result, Ok, Err, refl, sym, ap, ◌∙◌, arith, eqb, ltb}
 use Rattle.std.proofs.lemmas.Bool.{eqb-true}
+use Rattle.std.proofs.lemmas.List.{length-map}
 use Rattle.std.specs.List.{AllByRecursion, Any, filter}
 use Rattle.std.specs.Option.{is_some}
 use Rattle.sg_agreement.specs.Manual.{ManualCall, manual_medium}
@@ -25,8 +26,10 @@ use Rattle.sg_leg.specs.Pairs.{EachPair}
 use Rattle.sg_outcome.specs.declared.outcomes.Outcome.{Outcome}
 use Rattle.sg_psk.specs.Pairs.{has_pair}
 use Rattle.sg_psk.specs.declared.pairs.Pair.{Pair}
+use Rattle.sg_session.proofs.Lists.{both}
 use Rattle.sg_table.proofs.Answered.{order_of}
 use Rattle.sg_table.proofs.Indexed.{slots_of, indexed_still}
+use Rattle.sg_table.proofs.Pairing.{by_pairs}
 use Rattle.sg_table.proofs.Settled.{IsSame, offered_same, answered_same}
 use Rattle.sg_table.specs.Standing.{Holds, TableStandsFor}
 use Rattle.sg_table.specs.Values.{TableValue, shapes_of, AreIndexed}
@@ -38,11 +41,7 @@ slots cs = map (λ (c : Call). c.slot) cs
 
 filter_low : (test : Call → Bool) (cs : List Call) → length (filter test cs) ≤ length cs
 filter_low test [] = omega arith
-filter_low test (c ∷ cs) = go (test c) (filter_low test cs)
-  where
-    go : (b : Bool) → length (filter test cs) ≤ length cs → length (cond b (c ∷ filter test cs) (filter test cs)) ≤ suc (length cs)
-    go true le = omega (arith, le)
-    go false le = omega (arith, le)
+filter_low test (c ∷ cs) = let le = filter_low test cs in both (λ l. length l ≤ suc (length cs)) (test c) (c ∷ filter test cs) (filter test cs) (omega (arith, le)) (omega (arith, le))
 
 -- where none goes, all stay
 all_stay : (test : Call → Bool) (cs : List Call) → length (filter test cs) ≡ length cs → filter test cs ≡ cs
@@ -56,11 +55,7 @@ all_stay test (c ∷ cs) e = go (test c) e (all_stay test cs) (filter_low test c
 
 one_more : (d : Call) (cs : List Call) → length (and_call d cs) ≡ suc (length cs)
 one_more d [] = refl
-one_more d (c ∷ cs) = go (ltb d.slot c.slot) (one_more d cs)
-  where
-    go : (b : Bool) → length (and_call d cs) ≡ suc (length cs) → length (cond b (d ∷ (c ∷ cs)) (c ∷ and_call d cs)) ≡ suc (suc (length cs))
-    go true e = refl
-    go false e = ap suc e
+one_more d (c ∷ cs) = both (λ l. length l ≡ suc (suc (length cs))) (ltb d.slot c.slot) (d ∷ (c ∷ cs)) (c ∷ and_call d cs) refl (ap suc (one_more d cs))
 
 -- a call in the place of one that has its slot
 slots_with : (c d : Call) (cs : List Call) → d.serial ≡ c.serial → d.slot ≡ c.slot → AllByRecursion (λ x. x.serial ≡ c.serial → x ≡ c) cs → slots (with_call d cs) ≡ slots cs
@@ -73,25 +68,12 @@ slots_with c d (x ∷ cs) serial slot one = (λ i. at (eqb x.serial d.serial) re
 
 slots_ticked : (now : ℕ) (cs : List Call) → slots (map (call_at_tick now) cs) ≡ slots cs
 slots_ticked now [] = refl
-slots_ticked now (c ∷ cs) = (λ i. at (drops_earlier now c) i ∷ slots_ticked now cs i)
-  where
-    at : (b : Bool) → (cond b (without_earlier c) c).slot ≡ c.slot
-    at true = refl
-    at false = refl
-
-length_map : {X Y : Type 0} (f : X → Y) (xs : List X) → length (map f xs) ≡ length xs
-length_map f [] = refl
-length_map f (x ∷ xs) = ap suc (length_map f xs)
+slots_ticked now (c ∷ cs) = (λ i. both (λ (d : Call). d.slot ≡ c.slot) (drops_earlier now c) (without_earlier c) c refl refl i ∷ slots_ticked now cs i)
 
 -- ---- signals
 
 abbrev Keeps : World → Answer → Type 0
 Keeps w a = length a.world.calls ≡ length w.calls → slots a.world.calls ≡ slots w.calls
-
--- of two answers
-either : (w : World) (b : Bool) (x y : Answer) → Keeps w x → Keeps w y → Keeps w (cond b x y)
-either w true x y p q = p
-either w false x y p q = q
 
 module _ (w : World) (order : Pairs IsBefore w.calls) where
   new_keeps : (id : CallId) (told : Settled → List Outcome) (r : Result Settled Refusal) → Keeps w (in_new w id told r)
@@ -106,19 +88,19 @@ module _ (w : World) (order : Pairs IsBefore w.calls) where
   old_keeps id told c a (Ok r) same e = let is = same r refl in at_its_place c r.call a is.serial is.slot
 
   tick_keeps : (now : ℕ) → Keeps w (ticked w now)
-  tick_keeps now = either w (ltb now w.moment) _ _ (λ e. refl) (λ e.
+  tick_keeps now = both (Keeps w) (ltb now w.moment) _ _ (λ e. refl) (λ e.
       slots_ticked now (filter (λ c. not (is_idle now c)) w.calls)
-      ∙ ap slots (all_stay (λ c. not (is_idle now c)) w.calls (sym (length_map (call_at_tick now) (filter (λ c. not (is_idle now c)) w.calls)) ∙ e)))
+      ∙ ap slots (all_stay (λ c. not (is_idle now c)) w.calls (sym (length-map (filter (λ c. not (is_idle now c)) w.calls) (call_at_tick now)) ∙ e)))
 
   pair_keeps : (p : Pair) → Keeps w (with_pair w p)
-  pair_keeps p = either w (has_pair w.books.pairs p.own p.peer) _ _ (λ e. refl) (either w (ltb (length w.books.pairs) 64) _ _ (λ e. refl) (λ e. refl))
+  pair_keeps p = both (Keeps w) (has_pair w.books.pairs p.own p.peer) _ _ (λ e. refl) (both (Keeps w) (ltb (length w.books.pairs) 64) _ _ (λ e. refl) (λ e. refl))
 
   manual_keeps : (h : ManualCall) → Keeps w (manual_answer w h)
-  manual_keeps h = either w (is_some (call_of w h.id)) _ _ (λ e. refl) (either w (is_full w) _ _ (λ e. refl) (new_keeps h.id (tells_live h.id) (keyed_manually w.moment w.books (new_call w h.id) (manual_medium h))))
+  manual_keeps h = both (Keeps w) (is_some (call_of w h.id)) _ _ (λ e. refl) (both (Keeps w) (is_full w) _ _ (λ e. refl) (new_keeps h.id (tells_live h.id) (keyed_manually w.moment w.books (new_call w h.id) (manual_medium h))))
 
   offer_keeps : (id : CallId) (way : Way) (noise text : List ℕ) (o : Option Call) → call_of w id ≡ o → Keeps w (offered_to w id way noise text o)
   offer_keeps id way noise text None is =
-      either w (is_full w) _ _ (λ e. refl) (new_keeps id (tells_text id (other_side (side_of way))) (offered_in w.moment w.books (new_call w id) way noise text))
+      both (Keeps w) (is_full w) _ _ (λ e. refl) (new_keeps id (tells_text id (other_side (side_of way))) (offered_in w.moment w.books (new_call w id) way noise text))
   offer_keeps id way noise text (Some c) is =
       old_keeps id (tells_text id (other_side (side_of way))) c (is_found _ w.calls c is) (offered_in w.moment w.books c way noise text) (λ r e. offered_same w.moment w.books c way noise text r e)
 
@@ -155,10 +137,7 @@ module _ (w : World) (order : Pairs IsBefore w.calls) where
 -- ---- the calls of a table
 
 same_slots : (pairs : List Pair) (calls : List CallValue) (cs : List Call) → EachPair (CallStandsFor pairs) calls cs → slots_of (shapes_of calls) ≡ slots cs
-same_slots pairs [] [] h = refl
-same_slots pairs [] (c ∷ cs) h = absurd h
-same_slots pairs (call ∷ calls) [] h = absurd h
-same_slots pairs (call ∷ calls) (c ∷ cs) h = let slot = h.0.slot_is in (λ i. sym slot i ∷ same_slots pairs calls cs h.1 i)
+same_slots pairs = by_pairs (CallStandsFor pairs) (λ calls cs. slots_of (shapes_of calls) ≡ slots cs) refl (λ call c calls cs h rest. (let slot = h.slot_is in (λ i. sym slot i ∷ rest i)))
 
 -- a table's calls after a signal that left as many are where they were
 pub indexed_as_before : ((events : List Event) → EachWorldIsOrderly events) → (places : List (Option ℕ)) (old new : TableValue) (w : World) → TableStandsFor old w → (g : Signal) → Holds new (answer_to w g).world

@@ -1,6 +1,5 @@
 mod Alone
 mod Answered
-mod Answering
 mod Batching
 mod Calming
 mod Delivering
@@ -18,7 +17,6 @@ mod Orders
 mod Outing
 mod PairAdded
 mod Pairing
-mod PortFound
 mod Settled
 mod Sharing
 mod Signalled

@@ -7,6 +7,7 @@ use Rattle.std.specs.List.{AllByRecursion, filter}
 use Rattle.std.specs.Prelude.{is_none, IsPermutation}
 use Rattle.sg_base.specs.declared.faults.DropCause.TheVariants.{PortUnused}
 use Rattle.sg_gateway.proofs.Pairs.{Pairs, each_two, pairs_from}
+use Rattle.sg_gateway.proofs.Passing.{each_unmap}
 use Rattle.sg_gateway.proofs.Reached.{before_apart}
 use Rattle.sg_gateway.specs.Batch.{Arrived, AreDrained, after, drained, given_by, own, told}
 use Rattle.sg_gateway.specs.Datagrams.{Given, Drops, Puts, arrived_at, given_to}
@@ -21,7 +22,7 @@ use Rattle.sg_session.proofs.Lists.{each_of, each_weaker}
 use Rattle.sg_table.proofs.Batching.{events_same}
 use Rattle.sg_table.proofs.Ended.{AreEnded}
 use Rattle.sg_table.proofs.Stepped.{after_append}
-use Rattle.sg_table.proofs.Turns.{turn, turn_same, same_ports, one_turn, turns_on, same_moment, moments, books_stay}
+use Rattle.sg_table.proofs.Turns.{map_agree, turn, turn_same, same_ports, one_turn, turns_on, same_moment, delivered_alone}
 use Rattle.sg_table.specs.Batches.{arrived}
 use Rattle.sg_table.specs.Orders.{at_call, at_no_call, comes_to, told_where, told_at_call, told_at_no_call, told_each, TellTheSame, SameInEveryOrder, IsBatchedAs}
 use Rattle.sg_table.specs.Parts.{datagram_of, TakesTurns}
@@ -34,10 +35,6 @@ use Rattle.sg_table.specs.declared.arrival.Arrival.{Arrival}
 map_same : {X Y : Type 0} (f g : X → Y) (xs : List X) → AllByRecursion (λ x. f x ≡ g x) xs → map f xs ≡ map g xs
 map_same f g [] p = refl
 map_same f g (x ∷ xs) p = let this = p.0 in let rest = map_same f g xs p.1 in (λ i. this i ∷ rest i)
-
-each_unmapped : {X Y : Type 0} (P : Y → Type 0) (f : X → Y) (xs : List X) → AllByRecursion P (map f xs) → AllByRecursion (λ x. P (f x)) xs
-each_unmapped P f [] p = tt
-each_unmapped P f (x ∷ xs) p = (p.0, each_unmapped P f xs p.1)
 
 -- the datagrams of a call are those of its arrivals
 pub own_are : (c : Call) (came : List Arrival) → own c (map datagram_of came) ≡ map datagram_of (at_call c came)
@@ -93,43 +90,17 @@ takes_orders drained orderly events = record {
   orderly = λ later. subst IsOrderly (after_append empty events later) (orderly (events ++ later)).1;
 }
 
-made_stays : (w : World) (a : Arrival) → (step w (arrived a)).world.made ≡ w.made
-made_stays w a = at (call_at w a.port)
-  where
-    of_given : (g : Given) → (given_to w a.port g).world.made ≡ w.made
-    of_given (Drops cause) = refl
-    of_given (Puts p) = refl
-
-    at : (o : Option Call) → (arrived_at w a.port a.from (datagram_of a).octets.items o).world.made ≡ w.made
-    at None = refl
-    at (Some c) = of_given (given_by w.moment c (datagram_of a))
-
-all_made_stays : (w : World) (came : List Arrival) → (world_after w (map arrived came)).made ≡ w.made
-all_made_stays w [] = refl
-all_made_stays w (a ∷ later) = all_made_stays (step w (arrived a)).world later ∙ made_stays w a
-
--- the calls after the arrivals, each by its own
-calls_after : (w : World) → TakesTurns w → (came : List Arrival) → (world_after w (map arrived came)).calls ≡ map (λ c. drained w.moment c (map datagram_of (at_call c came))) w.calls
-calls_after w turns came =
-    ap (λ es. (world_after w es).calls) (sym (events_same came)) ∙ turns (map datagram_of came)
-    ∙ map_same _ _ w.calls (each_of _ (λ c. ap (drained w.moment c) (own_are c came)) w.calls)
+-- the world after the arrivals: each call by its own
+after_own : (w : World) → TakesTurns w → (came : List Arrival) → world_after w (map arrived came) ≡ record w { calls = map (λ c. drained w.moment c (map datagram_of (at_call c came))) w.calls }
+after_own w turns came =
+    ap (world_after w) (sym (events_same came)) ∙ delivered_alone w (map datagram_of came)
+    ∙ ap (λ cs. record w { calls = cs }) (turns (map datagram_of came) ∙ map_agree _ _ (λ c. ap (drained w.moment c) (own_are c came)) w.calls)
 
 same_world : (w : World) → TakesTurns w → (some others : List Arrival) → AllByRecursion (λ c. at_call c some ≡ at_call c others) w.calls → world_after w (map arrived some) ≡ world_after w (map arrived others)
 same_world w turns some others agree =
-    let v : World = world_after w (map arrived some) in
-    let u : World = world_after w (map arrived others) in
-    let calls : v.calls ≡ u.calls =
-    calls_after w turns some ∙ map_same _ _ w.calls (each_weaker _ _ (λ c same. ap (λ l. drained w.moment c (map datagram_of l)) same) w.calls agree) ∙ sym (calls_after w turns others) in
-    let made : v.made ≡ u.made = all_made_stays w some ∙ sym (all_made_stays w others) in
-    let books : v.books ≡ u.books = books_after some ∙ sym (books_after others) in
-    let moment : v.moment ≡ u.moment = moment_after some ∙ sym (moment_after others) in
-    (λ i. record { calls = calls i; made = made i; books = books i; moment = moment i })
-  where
-    books_after : (came : List Arrival) → (world_after w (map arrived came)).books ≡ w.books
-    books_after came = ap (λ es. (world_after w es).books) (sym (events_same came)) ∙ books_stay w (map datagram_of came)
-
-    moment_after : (came : List Arrival) → (world_after w (map arrived came)).moment ≡ w.moment
-    moment_after came = ap (λ es. (world_after w es).moment) (sym (events_same came)) ∙ moments w (map datagram_of came)
+    after_own w turns some
+    ∙ ap (λ cs. record w { calls = cs }) (map_same _ _ w.calls (each_weaker _ _ (λ c same. ap (λ l. drained w.moment c (map datagram_of l)) same) w.calls agree))
+    ∙ sym (after_own w turns others)
 
 -- ---- what is told
 
@@ -188,7 +159,7 @@ tells_alone (a ∷ later) w t =
     each_two (λ c. has_port a.port c ≡ true → call_at w a.port ≡ Some c) (λ c. told_at_call v (f c) later ≡ tells_by w.moment (f c) (at_call (f c) later))
     (λ c. told_at_call w c (a ∷ later) ≡ tells_by w.moment c (at_call c (a ∷ later)))
     (λ c found rest. tells_next w a c later found rest) w.calls (found_in a.port w (t.orderly []))
-    (each_unmapped (λ c. told_at_call v c later ≡ tells_by w.moment c (at_call c later)) f w.calls rest)
+    (each_unmap f (λ c. told_at_call v c later ≡ tells_by w.moment c (at_call c later)) w.calls rest)
 
 -- what no call takes tells that its port is unused
 abbrev unused : Arrival → List Outcome
@@ -239,8 +210,6 @@ same_in_every_order w t some others agree =
 -- what arrivals at such ports have told
 ended_where : (test : ℕ → Bool) (w : World) (old new : List Arrival) → AreEnded w old new → told_each (filter (λ a. test a.port) new) ≡ told_where test w old
 ended_where test w [] [] p = refl
-ended_where test w [] (b ∷ new) p = absurd p
-ended_where test w (a ∷ old) [] p = absurd p
 ended_where test w (a ∷ old) (b ∷ new) p =
     let rest = ended_where test (step w (arrived a)).world old new p.1 in
     ap (λ n. told_each (cond (test n) (b ∷ filter (λ a. test a.port) new) (filter (λ a. test a.port) new))) p.0.port ∙ go (test a.port) rest
@@ -250,6 +219,7 @@ ended_where test w (a ∷ old) (b ∷ new) p =
         ≡ map (λ t. t.outcomes) (cond x (turn_of w (arrived a) ∷ filter (λ t. comes_to test t.event) (turns_from (step w (arrived a)).world (map arrived old))) (filter (λ t. comes_to test t.event) (turns_from (step w (arrived a)).world (map arrived old))))
     go true rest = (λ i. p.0.told i ∷ rest i)
     go false rest = rest
+ended_where test w old new p = absurd p
 
 -- a batch has told what it tells in every other order
 pub batched_as : ((events : List Event) → SameInEveryOrder (world_after empty events)) → (w : World) (old new others : List Arrival) (before table : TableValue) → TableStandsFor before w → AreEnded w old new

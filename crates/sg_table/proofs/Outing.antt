@@ -1,11 +1,11 @@
 -- Arrivals that are handed out one by one.
-use Rattle.std.proofs.Common.{◌≡◌, ℕ, suc, ◌+◌, ◌<◌, ◌≤◌, Bool, true, false, cond, List, [], ◌∷◌, ◌++◌, append_assoc, length, length-append, take, drop, get_or, map, refl, sym, ap, ◌∙◌, subst, arith}
+use Rattle.std.proofs.Common.{◌≡◌, ℕ, suc, ◌+◌, ◌<◌, ◌≤◌, List, [], ◌∷◌, ◌++◌, append_assoc, length, length-append, take, drop, get_or, map, refl, sym, ap, ◌∙◌, subst, arith}
 use Rattle.std.proofs.Math.ListN.{set}
 use Rattle.std.proofs.Math.Seq.{set-append_seam, get_or-append_seam, take-suc}
 use Rattle.std.proofs.lemmas.List.{drop_more, map-append, length-map, length-take-le}
 use Rattle.std.specs.List.{AllByRecursion}
 use Rattle.sg_call.specs.Values.{CallValue}
-use Rattle.sg_session.proofs.Lists.{each_append}
+use Rattle.sg_session.proofs.Lists.{each_append, both}
 use Rattle.sg_table.proofs.Pairing.{pairs_left}
 use Rattle.sg_table.proofs.Sharing.{ready_more}
 use Rattle.sg_gateway.specs.World.{World}
@@ -17,19 +17,15 @@ use Rattle.sg_table.specs.declared.arrival.Arrival.{Arrival}
 
 shapes_pushed : (now number : ℕ) (a : Arrival) (calls : List CallValue) → shapes_of (map (pushed_at (waiting_of number now a)) calls) ≡ shapes_of calls
 shapes_pushed now number a [] = refl
-shapes_pushed now number a (c ∷ cs) = (λ i. go (has_call_port a.port c) i ∷ shapes_pushed now number a cs i)
-  where
-    go : (b : Bool) → shape_of (cond b (pushed (waiting_of number now a) c) c) ≡ shape_of c
-    go true = refl
-    go false = refl
+shapes_pushed now number a (c ∷ cs) =
+    (λ i. both (λ (d : CallValue). shape_of d ≡ shape_of c) (has_call_port a.port c) (pushed (waiting_of number now a) c) c refl refl i ∷ shapes_pushed now number a cs i)
 
 room_pushed : (now number n : ℕ) (a : Arrival) (calls : List CallValue) → HaveRoom n calls → HaveRoom (n + 1) (map (pushed_at (waiting_of number now a)) calls)
 room_pushed now number n a [] r = tt
-room_pushed now number n a (c ∷ cs) r = (go (has_call_port a.port c), room_pushed now number n a cs r.1)
-  where
-    go : (b : Bool) → length (cond b (pushed (waiting_of number now a) c) c).waiting + length (cond b (pushed (waiting_of number now a) c) c).handled ≤ n + 1
-    go true = let x = length-append c.waiting (waiting_of number now a ∷ []) in let y = r.0 in omega (arith, x, y)
-    go false = let y = r.0 in omega (arith, y)
+room_pushed now number n a (c ∷ cs) r =
+    let x = length-append c.waiting (waiting_of number now a ∷ []) in
+    let y = r.0 in
+    (both (λ (d : CallValue). length d.waiting + length d.handled ≤ n + 1) (has_call_port a.port c) (pushed (waiting_of number now a) c) c (omega (arith, x, y)) (omega (arith, y)), room_pushed now number n a cs r.1)
 
 -- the first k are handed out
 pub record Shares (now : ℕ) (came : List Arrival) (calls0 : List CallValue) (k : ℕ) (arrivals : List Arrival) (calls : List CallValue) : Type 0 where

@@ -14,6 +14,7 @@ use Rattle.sg_gateway.specs.Ports.{has_port, is_in_slot}
 use Rattle.sg_gateway.specs.World.{Call}
 use Rattle.sg_leg.specs.Pairs.{EachPair}
 use Rattle.sg_psk.specs.declared.pairs.Pair.{Pair}
+use Rattle.sg_table.proofs.Pairing.{by_pairs}
 use Rattle.sg_table.specs.Batches.{octets_of}
 use Rattle.sg_table.specs.Octets.{AreOctets}
 use Rattle.sg_table.specs.Parts.{datagram_of, pushed, pushed_at, waiting_of, Waits, handled_all, IsReady, IsLeft}
@@ -54,19 +55,13 @@ gives_same : (now : ℕ) (c : Call) (a : Arrived) (w : QueuedValue) → Waits no
 gives_same now c a w h = let moment = h.moment in let port = h.port in let from = h.from in let octets = h.octets in (λ i. arrived_in (moment i) (port i) (from i) (octets i) c)
 
 pub waits_after : (now : ℕ) (c : Call) (came : List Arrived) (ws : List QueuedValue) → EachPair (Waits now) came ws → call_after c ws ≡ drained now c came
-waits_after now c [] [] h = refl
-waits_after now c [] (w ∷ ws) h = absurd h
-waits_after now c (a ∷ later) [] h = absurd h
-waits_after now c (a ∷ later) (w ∷ ws) h =
-    ap (λ g. call_after (after g c) ws) (gives_same now c a w h.0) ∙ waits_after now (after (given_by now c a) c) later ws h.1
+waits_after now c came ws h = by_pairs (Waits now) (λ came ws. (c : Call) → call_after c ws ≡ drained now c came) (λ c. refl)
+    (λ a w later ws h rest c. ap (λ g. call_after (after g c) ws) (gives_same now c a w h) ∙ rest (after (given_by now c a) c)) came ws h c
 
 pub waits_handled : (now : ℕ) (c : Call) (came : List Arrived) (ws : List QueuedValue) → EachPair (Waits now) came ws → map (λ h. h.1) (all_handled c ws) ≡ handled_all now c came
-waits_handled now c [] [] h = refl
-waits_handled now c [] (w ∷ ws) h = absurd h
-waits_handled now c (a ∷ later) [] h = absurd h
-waits_handled now c (a ∷ later) (w ∷ ws) h =
-    (λ i. handled_of (h.0.octets i) (gives_same now c a w h.0 i) ∷ map (λ x. x.1) (all_handled (after (gives_same now c a w h.0 i) c) ws))
-    ∙ ap (λ l. handled_of a.octets.items (given_by now c a) ∷ l) (waits_handled now (after (given_by now c a) c) later ws h.1)
+waits_handled now c came ws h = by_pairs (Waits now) (λ came ws. (c : Call) → map (λ h. h.1) (all_handled c ws) ≡ handled_all now c came) (λ c. refl) (λ a w later ws h rest c.
+    (λ i. handled_of (h.octets i) (gives_same now c a w h i) ∷ map (λ x. x.1) (all_handled (after (gives_same now c a w h i) c) ws))
+    ∙ ap (λ l. handled_of a.octets.items (given_by now c a) ∷ l) (rest (after (given_by now c a) c))) came ws h c
 
 -- after the drain
 pub left_of : (pairs : List Pair) (now : ℕ) (came : List Arrived) (call : CallValue) (c : Call) (new : CallValue) → IsReady pairs now came call c → IsDrained call new → IsLeft pairs now came new c

@@ -1,5 +1,5 @@
 -- What a table holds after a tick.
-use Rattle.std.proofs.Common.{◌≡◌, ℕ, zero, suc, ◌+◌, ◌<◌, ◌≤◌, Bool, true, false, cond, not, ◌||◌, List, [], ◌∷◌, length, get_or, map, None, refl, sym, ap, ◌∙◌, subst, arith, leb, ltb}
+use Rattle.std.proofs.Common.{◌≡◌, ℕ, ◌+◌, ◌<◌, ◌≤◌, Bool, true, false, cond, not, ◌||◌, List, [], ◌∷◌, length, get_or, map, None, refl, sym, ap, ◌∙◌, subst, arith, leb, ltb}
 use Rattle.std.proofs.lemmas.Bool.{false≢true, le-ltb}
 use Rattle.std.specs.List.{filter, list_any}
 use Rattle.sg_base.specs.declared.faults.Refusal.TheVariants.{TickBack}
@@ -14,7 +14,7 @@ use Rattle.sg_outcome.specs.declared.outcomes.Outcome.{Outcome}
 use Rattle.sg_outcome.specs.declared.outcomes.Outcome.TheVariants.{Ended}
 use Rattle.sg_outcome.specs.declared.outcomes.Why.TheVariants as why
 use Rattle.sg_psk.specs.declared.pairs.Pair.{Pair}
-use Rattle.sg_table.proofs.Pairing.{pairs_from_each}
+use Rattle.sg_table.proofs.Pairing.{by_pairs, pairs_from_each}
 use Rattle.sg_table.specs.Ends.{ended_as, idles, IsTicked}
 use Rattle.sg_table.specs.Standing.{Holds}
 use Rattle.sg_table.specs.Telling.{IsAnswered}
@@ -29,8 +29,6 @@ module _ (pairs : List Pair) (now : ℕ) where
 
   told_same : (calls : List CallValue) (cs : List Call) → EachPair (CallStandsFor pairs) calls cs → map (ended_as why.Idle) (filter (idles now) calls) ≡ map (tells_ended why.Idle) (filter (is_idle now) cs)
   told_same [] [] h = refl
-  told_same [] (c ∷ cs) h = absurd h
-  told_same (call ∷ calls) [] h = absurd h
   told_same (call ∷ calls) (c ∷ cs) h =
       ap (λ b. map (ended_as why.Idle) (cond b (call ∷ filter (idles now) calls) (filter (idles now) calls))) (idles_same call c h.0) ∙ go (is_idle now c) (told_same calls cs h.1)
     where
@@ -38,11 +36,10 @@ module _ (pairs : List Pair) (now : ℕ) where
           → map (ended_as why.Idle) (cond b (call ∷ filter (idles now) calls) (filter (idles now) calls)) ≡ map (tells_ended why.Idle) (cond b (c ∷ filter (is_idle now) cs) (filter (is_idle now) cs))
       go true rest = (λ i. ended_same call c h.0 i ∷ rest i)
       go false rest = rest
+  told_same calls cs h = absurd h
 
   kept : (calls : List CallValue) (cs : List Call) → EachPair (CallStandsFor pairs) calls cs → EachPair (CallStandsFor pairs) (filter (λ c. not (idles now c)) calls) (filter (λ c. not (is_idle now c)) cs)
   kept [] [] h = tt
-  kept [] (c ∷ cs) h = absurd h
-  kept (call ∷ calls) [] h = absurd h
   kept (call ∷ calls) (c ∷ cs) h =
       subst (λ b. EachPair (CallStandsFor pairs) (cond (not b) (call ∷ filter (λ c. not (idles now c)) calls) (filter (λ c. not (idles now c)) calls)) (filter (λ c. not (is_idle now c)) (c ∷ cs))) (sym (idles_same call c h.0))
       (go (is_idle now c) (kept calls cs h.1))
@@ -51,14 +48,14 @@ module _ (pairs : List Pair) (now : ℕ) where
           → EachPair (CallStandsFor pairs) (cond (not b) (call ∷ filter (λ c. not (idles now c)) calls) (filter (λ c. not (idles now c)) calls)) (cond (not b) (c ∷ filter (λ c. not (is_idle now c)) cs) (filter (λ c. not (is_idle now c)) cs))
       go true rest = rest
       go false rest = (h.0, rest)
+  kept calls cs h = absurd h
 
   ticked_stand : (calls new : List CallValue) (cs : List Call) → EachPair (CallStandsFor pairs) calls cs → EachPair (IsTicked now) calls new → EachPair (CallStandsFor pairs) new (map (call_at_tick now) cs)
   ticked_stand [] [] [] h t = tt
-  ticked_stand [] (n ∷ ns) [] h t = absurd t
   ticked_stand [] new (c ∷ cs) h t = absurd h
   ticked_stand (call ∷ calls) new [] h t = absurd h
-  ticked_stand (call ∷ calls) [] (c ∷ cs) h t = absurd t
   ticked_stand (call ∷ calls) (n ∷ ns) (c ∷ cs) h t = (t.0.stands pairs c h.0, ticked_stand calls ns cs h.1 t.1)
+  ticked_stand calls new cs h t = absurd t
 
 quiet_kept : (test : CallValue → Bool) (calls : List CallValue) → AreQuiet calls → AreQuiet (filter test calls)
 quiet_kept test [] q = tt
@@ -69,10 +66,7 @@ quiet_kept test (c ∷ cs) q = go (test c) (quiet_kept test cs q.1)
     go false rest = rest
 
 quiet_ticked : (now : ℕ) (calls new : List CallValue) → EachPair (IsTicked now) calls new → AreQuiet calls → AreQuiet new
-quiet_ticked now [] [] t q = tt
-quiet_ticked now [] (n ∷ ns) t q = absurd t
-quiet_ticked now (c ∷ cs) [] t q = absurd t
-quiet_ticked now (c ∷ cs) (n ∷ ns) t q = ((t.0.waiting ∙ q.0.0, t.0.handled ∙ q.0.1), quiet_ticked now cs ns t.1 q.1)
+quiet_ticked now = by_pairs (IsTicked now) (λ calls new. AreQuiet calls → AreQuiet new) (λ q. tt) (λ c n cs ns t rest q. ((t.waiting ∙ q.0.0, t.handled ∙ q.0.1), rest q.1))
 
 module _ (calls : List CallValue) (books : Books) (last now : ℕ) (w : World) (holds : Holds (record { calls = calls; books = books; moment = last }) w) (outs : List Outcome) where
   abbrev goes_on : Answer
@@ -129,11 +123,6 @@ module _ (calls : List CallValue) (books : Books) (last now : ℕ) (w : World) (
 pub record Ticks (now k : ℕ) (old calls : List CallValue) : Type 0 where
   pub ticked : (i : ℕ) (d : CallValue) → i < k → i < length old → IsTicked now (get_or old i d) (get_or calls i d)
   pub others : (i : ℕ) (d : CallValue) → k ≤ i → get_or calls i d ≡ get_or old i d
-
-pub get_any : (xs : List CallValue) (i : ℕ) (d e : CallValue) → i < length xs → get_or xs i d ≡ get_or xs i e
-get_any [] i d e lt = absurd (omega (arith, lt))
-get_any (x ∷ xs) zero d e lt = refl
-get_any (x ∷ xs) (suc i) d e lt = get_any xs i d e (omega (arith, lt))
 
 pub ticks_all : (now k : ℕ) (old calls : List CallValue) → length calls ≡ length old → length old ≤ k → Ticks now k old calls → EachPair (IsTicked now) old calls
 ticks_all now k old calls len le t = pairs_from_each (IsTicked now) old calls len (λ i d lt. t.ticked i d (omega (arith, le, lt)) lt)

@@ -1,21 +1,19 @@
 -- Datagrams in turn: each changes the call that has its port.
 use Rattle.std.proofs.Common.{◌≡◌, ℕ, Bool, true, false, cond, List, [], ◌∷◌, map, Option, Some, None, refl, sym, ap, ◌∙◌}
 use Rattle.std.proofs.lemmas.List.Elements.{filter_agree}
+use Rattle.std.proofs.lemmas.Simd.{map-map}
 use Rattle.sg_gateway.proofs.Arrivals.{arrival}
 use Rattle.sg_gateway.proofs.InTurn.{IsSameCall, after_is}
 use Rattle.sg_gateway.specs.Batch.{Arrived, after, given_by, given_in, delivered, drained, own}
 use Rattle.sg_gateway.specs.Datagrams.{Given, Drops, Puts, arrived_at, given_to}
 use Rattle.sg_gateway.specs.Ports.{call_at, has_port, is_in_slot}
 use Rattle.sg_gateway.specs.World.{Call, World}
+use Rattle.sg_session.proofs.Lists.{both}
 use Rattle.sg_table.specs.Parts.{TakesTurns}
 
-map_agree : {X Y : Type 0} (f g : X → Y) → ((x : X) → f x ≡ g x) → (xs : List X) → map f xs ≡ map g xs
+pub map_agree : {X Y : Type 0} (f g : X → Y) → ((x : X) → f x ≡ g x) → (xs : List X) → map f xs ≡ map g xs
 map_agree f g same [] = refl
 map_agree f g same (x ∷ xs) = (λ i. same x i ∷ map_agree f g same xs i)
-
-map_map : {X Y Z : Type 0} (g : Y → Z) (f : X → Y) (xs : List X) → map g (map f xs) ≡ map (λ x. g (f x)) xs
-map_map g f [] = refl
-map_map g f (x ∷ xs) = ap (λ ys. g (f x) ∷ ys) (map_map g f xs)
 
 -- a call's turn
 abbrev pub turn : ℕ → Arrived → Call → Call
@@ -25,11 +23,7 @@ pub given_same : (now : ℕ) (a : Arrived) (c : Call) → IsSameCall c (after (g
 given_same now a c = after_is now a.port a.octets.items c (given_by now c a) (arrival now a.port a.from a.octets.items c)
 
 pub turn_same : (now : ℕ) (a : Arrived) (c : Call) → IsSameCall c (turn now a c)
-turn_same now a c = go (has_port a.port c)
-  where
-    go : (b : Bool) → IsSameCall c (cond b (after (given_by now c a) c) c)
-    go true = given_same now a c
-    go false = record { serial = refl; slot = refl; media = refl }
+turn_same now a c = both (IsSameCall c) (has_port a.port c) (after (given_by now c a) c) c (given_same now a c) (record { serial = refl; slot = refl; media = refl })
 
 pub drained_same : (now : ℕ) (c : Call) (before : List Arrived) → IsSameCall c (drained now c before)
 drained_same now c [] = record { serial = refl; slot = refl; media = refl }
@@ -51,27 +45,23 @@ drain_one now a later c = ap (drained now (turn now a c)) (filter_agree (λ b. h
     go false = refl
 
 module _ (w : World) (a : Arrived) where
-  pub same_moment : (given_in w a).world.moment ≡ w.moment
-  same_moment = at (call_at w a.port)
-    where
-      of_given : (g : Given) → (given_to w a.port g).world.moment ≡ w.moment
-      of_given (Drops cause) = refl
-      of_given (Puts p) = refl
+  given_calls : (g : Given) → (given_to w a.port g).world ≡ record w { calls = (given_to w a.port g).world.calls }
+  given_calls (Drops cause) = refl
+  given_calls (Puts p) = refl
 
-      at : (o : Option Call) → (arrived_at w a.port a.from a.octets.items o).world.moment ≡ w.moment
+  -- it changes the calls alone
+  calls_alone : (given_in w a).world ≡ record w { calls = (given_in w a).world.calls }
+  calls_alone = at (call_at w a.port)
+    where
+      at : (o : Option Call) → (arrived_at w a.port a.from a.octets.items o).world ≡ record w { calls = (arrived_at w a.port a.from a.octets.items o).world.calls }
       at None = refl
-      at (Some c) = of_given (given_by w.moment c a)
+      at (Some c) = given_calls (given_by w.moment c a)
+
+  pub same_moment : (given_in w a).world.moment ≡ w.moment
+  same_moment = ap (λ (v : World). v.moment) calls_alone
 
   pub same_books : (given_in w a).world.books ≡ w.books
-  same_books = at (call_at w a.port)
-    where
-      of_given : (g : Given) → (given_to w a.port g).world.books ≡ w.books
-      of_given (Drops cause) = refl
-      of_given (Puts p) = refl
-
-      at : (o : Option Call) → (arrived_at w a.port a.from a.octets.items o).world.books ≡ w.books
-      at None = refl
-      at (Some c) = of_given (given_by w.moment c a)
+  same_books = ap (λ (v : World). v.books) calls_alone
 
   module _ (turns : TakesTurns w) where
     pub one_turn : (given_in w a).world.calls ≡ map (turn w.moment a) w.calls
@@ -85,14 +75,18 @@ module _ (w : World) (a : Arrived) where
         let v : World = (given_in w a).world in
         turns (a ∷ later)
         ∙ map_agree (λ c. drained w.moment c (own c (a ∷ later))) (λ c. drained w.moment (turn w.moment a c) (own (turn w.moment a c) later)) (λ c. sym (drain_one w.moment a later c)) w.calls
-        ∙ sym (map_map (λ c. drained w.moment c (own c later)) (turn w.moment a) w.calls)
+        ∙ sym (map-map (λ c. drained w.moment c (own c later)) (turn w.moment a) w.calls)
         ∙ (λ i. map (λ c. drained (sym same_moment i) c (own c later)) (sym one_turn i))
 
--- of several datagrams
+-- so do several datagrams
+pub delivered_alone : (w : World) (before : List Arrived) → delivered w before ≡ record w { calls = (delivered w before).calls }
+delivered_alone w [] = refl
+delivered_alone w (a ∷ later) =
+    let v : World = (given_in w a).world in
+    delivered_alone v later ∙ ap (λ (u : World). record u { calls = (delivered v later).calls }) (calls_alone w a)
+
 pub moments : (w : World) (before : List Arrived) → (delivered w before).moment ≡ w.moment
-moments w [] = refl
-moments w (a ∷ later) = moments (given_in w a).world later ∙ same_moment w a
+moments w before = ap (λ (v : World). v.moment) (delivered_alone w before)
 
 pub books_stay : (w : World) (before : List Arrived) → (delivered w before).books ≡ w.books
-books_stay w [] = refl
-books_stay w (a ∷ later) = books_stay (given_in w a).world later ∙ same_books w a
+books_stay w before = ap (λ (v : World). v.books) (delivered_alone w before)

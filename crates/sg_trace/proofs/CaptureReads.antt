@@ -1,18 +1,10 @@
 -- How a capture is read part by part.
-use Rattle.std.proofs.Common.{◌≡◌, ◌⊎◌, ◌+◌, ◌≤◌, ◌<◌, ℕ, Bool, true, false, cond, ltb, List, [], ◌∷◌, ◌++◌, length, max, Some, None, Result, Ok, Err, refl, sym, ap, ◌∙◌, subst, inl, inr, append_assoc, length-append, arith}
-use Rattle.std.proofs.lemmas.Bool.{ltb-false}
-use Rattle.std.proofs.lemmas.List.{append-nil}
-use Rattle.sg_edge.specs.Told.{AtEnd, Tally}
-use Rattle.sg_pcap.proofs.Captures.{header_faulty, header_stays, header_there, length_front, length_least, record_faulty, record_stays, record_there}
-use Rattle.sg_pcap.specs.Capture.{Capture, capture_of, faulty, header_within, records_in, record_within}
+use Rattle.std.proofs.Common.{◌≡◌, ◌⊎◌, ◌+◌, ◌≤◌, ◌<◌, ℕ, Bool, true, false, cond, ltb, List, [], ◌∷◌, ◌++◌, length, max, Some, None, Result, Ok, Err, refl, sym, ap, ◌∙◌, subst, inl, inr, append_assoc, length-append, arith, ltb-false, append-nil}
 use Rattle.sg_pcap.specs.Fields.{u32_by_order}
-use Rattle.sg_pcap.specs.Records.{length_by, record_length, record_of}
-use Rattle.sg_pcap.specs.declared.faults.CaptureFault.{CaptureFault}
-use Rattle.sg_pcap.specs.declared.faults.CaptureFault.TheVariants.{Cut, Length}
-use Rattle.sg_pcap.specs.declared.header.Form.{Form}
 use Rattle.sg_pcap.specs.declared.records.Record.{Record}
-use Rattle.sg_trace.specs.CaptureReading.{Capturing, HasPart, HasRecord, IsCaptureFault, IsRecordRead, IsHeaderRead, Moves}
-use Rattle.sg_trace.specs.declared.status.Status.{Status}
+use Rattle.sg_trace.proofs.Common.{AtEnd, Capture, CaptureFault, Capturing, Cut, Form, HasPart, HasRecord, IsCaptureFault, IsHeaderRead, IsRecordRead, Length}
+use Rattle.sg_trace.proofs.Common.{Moves, Status, Tally, capture_of, faulty, header_faulty, header_stays, header_there, header_within, length_by}
+use Rattle.sg_trace.proofs.Common.{length_front, length_least, record_faulty, record_length, record_of, record_stays, record_there, record_within, records_in}
 use Rattle.sg_trace.specs.declared.status.Status.TheVariants as statuses
 
 -- once more has come to wait

@@ -3,33 +3,22 @@ use Rattle.std.proofs.Common.{◌≡◌, ◌+◌, ◌-◌, ◌<◌, ◌^◌, ℕ
 use Rattle.std.specs.Prelude.{max, min, codes, nat_lt, ◌&&◌, nat_le}
 use Rattle.std.specs.List.{AllByRecursion}
 use Rattle.std.specs.Str.{bytes_eq}
-use Rattle.std.proofs.lemmas.Bool.{cases_lt, cond-true, cond-false, le-ltb, lt-ltb}
-use Rattle.std.proofs.lemmas.List.{append-nil, take-append-drop, take_all}
 use Rattle.std.proofs.lemmas.List.Elements.{recursion_from_All}
 use Rattle.std.proofs.lemmas.Slice.Eq.{bytes_eq-Decides}
-use Rattle.sg_base.specs.declared.faults.ScriptFault.{ScriptFault}
-use Rattle.sg_gateway.specs.Drawn.{Supplied, supplied}
 use Rattle.sg_gateway.specs.Octets.{as_octets}
 use Rattle.sg_gateway.specs.Signals.{Tick}
-use Rattle.sg_gateway.specs.Step.{Event, Datagram, Signalled, step}
-use Rattle.sg_gateway.specs.World.{World, empty}
-use Rattle.sg_lines.specs.LineOf.{version_after}
-use Rattle.sg_lines.specs.ScriptLines.{lines_of}
-use Rattle.sg_lines.specs.declared.lines.Line.{Line}
-use Rattle.sg_pcap.specs.Capture.{Captured, capture_of, faulty}
 use Rattle.sg_pcap.specs.Frames.{Framed, Passed, Skip, frame_of}
 use Rattle.sg_pcap.specs.Frames as frames
 use Rattle.sg_pcap.specs.Kinds.{IsFrame}
 use Rattle.sg_pcap.specs.Readings.{CapturesAreRead}
 use Rattle.sg_pcap.specs.Written.{FitsHeader, Header, moment_taken}
-use Rattle.sg_pcap.specs.declared.faults.CaptureFault.{CaptureFault}
-use Rattle.sg_pcap.specs.declared.faults.CaptureFault.TheVariants.{Version, LinkType}
-use Rattle.sg_pcap.specs.declared.header.Form.{Form}
+use Rattle.sg_trace.proofs.Common.{AtCapture, CaptureFault, Captured, Captures, Datagram, Event, Form, Later, Line, LinkType, Outside, Replays, ScriptFault}
+use Rattle.sg_trace.proofs.Common.{Signalled, Stop, Supplied, Trace, Version, World, after_line, append-nil, begins_capture, capture_of, cases_lt, cond-false}
+use Rattle.sg_trace.proofs.Common.{cond-true, drawing, empty, faulty, handled_as, le-ltb, line_at, lines_of, lt-ltb, output_from, replayed, step, supplied}
+use Rattle.sg_trace.proofs.Common.{take-append-drop, take_all, ticks_at, trace_from, version_after}
 use Rattle.sg_trace.proofs.Traces.{output_from-append}
 use Rattle.sg_trace.specs.CaptureHolds.{AreMoments, CaptureHolds, CapturesNone, ComesNext, IsGiven, IsMoment, IsReplayed, IsSince, Long, Nothing, Short, Tells, first_millis}
 use Rattle.sg_trace.specs.Captured.{CaptureTrace, Happens, InCapture, Occurrence, after_script, capture_occurs, captured, frame_occurs, moment_in, output_of, records_occur, script_alone, script_of, then_capture}
-use Rattle.sg_trace.specs.Output.{output_from}
-use Rattle.sg_trace.specs.Trace.{AtCapture, Captures, Later, Outside, Replays, Stop, Trace, after_line, begins_capture, drawing, handled_as, line_at, replayed, ticks_at, trace_from}
 
 -- ---- records
 
@@ -177,7 +166,7 @@ replays_none [] version n at top o = λ a is. cc
 replays_none (l ∷ ls) version n at top o =
     line_none version n (line_at version n at l) (λ v. trace_from Replays v (n + 1) (at + length l) ls) top o (λ v top o. replays_none ls v (n + 1) (at + length l) top o)
 
-happens_output : (w : World) (es : List Event) → output_of w (map Happens es) ≡ output_from w es
+pub happens_output : (w : World) (es : List Event) → output_of w (map Happens es) ≡ output_from w es
 happens_output w [] = refl
 happens_output w (e ∷ es) = ap (λ (l : List ℕ). output_from w (e ∷ []) ++ l) (happens_output (step w e).world es) ∙ sym (output_from-append w (e ∷ []) es)
 

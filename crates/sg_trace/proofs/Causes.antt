@@ -1,7 +1,6 @@
 -- How failures of the outside follow one another.
 use Rattle.std.proofs.Common.{◌≡◌, ℕ, Bool, Option, Ok, Err, ◌∙◌, inl, arith}
-use Rattle.sg_edge.proofs.Passed.{rose_later}
-use Rattle.sg_trace.specs.Causes.{EndedBy, HasFailed}
+use Rattle.sg_trace.proofs.Common.{EndedBy, HasFailed, rose_later}
 
 -- what fails now has not failed before
 pub failed_now : (p : Type 0) (a b c : ℕ) (failed : Option Bool) → b ≡ a → HasFailed p b c failed → HasFailed p a c failed

@@ -1,24 +1,17 @@
 -- How a run that plays a script ends: whose failure it was.
-use Rattle.std.proofs.Common.{◌≡◌, ◌⊎◌, ◌≤◌, ℕ, true, Bool, List, [], Option, Some, Err, refl, sym, ap, ◌∙◌, subst, inl, inr, arith}
-use Rattle.std.specs.Prelude.{IsErrOf}
-use Rattle.std.proofs.lemmas.List.{append-nil}
-use Rattle.sg_base.specs.declared.faults.ScriptFault.{ScriptFault}
+use Rattle.std.proofs.Common.{◌≡◌, ◌⊎◌, ◌≤◌, ℕ, true, Bool, List, [], Option, Some, Err, refl, sym, ap, ◌∙◌, subst, inl, inr, arith, IsErrOf, append-nil}
 use Rattle.sg_edge.specs.Told.{Rose, Tally, Tells, TookIn}
+use Rattle.sg_trace.proofs.Common.{AtFault, Closes, Course, Done, Effects, EndedBy, Given, HasFailed, IsNextBy, IsPlayed, IsRun, IsWant, LoopEnds, NoMemory}
+use Rattle.sg_trace.proofs.Common.{Noise, Read, Reading, Script, ScriptFault, Spelling, Status, Tellings, Ways, Write, added_none, course, took_none}
+use Rattle.sg_trace.proofs.Common.{wrote_none}
 use Rattle.sg_trace.proofs.Causes.{ended_as, failed_now, not_failed}
 use Rattle.sg_trace.proofs.Grammars.{none_fails}
-use Rattle.sg_trace.specs.Causes.{EndedBy, HasFailed}
-use Rattle.sg_trace.specs.Course.{Course, Given, Ways, course}
-use Rattle.sg_trace.specs.Loop.{Closes, Effects, IsPlayed, IsWant, LoopEnds, PromptEnds}
-use Rattle.sg_trace.specs.Reading.{IsNextBy, Reading}
-use Rattle.sg_trace.specs.Trace.{AtFault, Spelling}
-use Rattle.sg_trace.specs.declared.status.Status.{Status}
-use Rattle.sg_trace.specs.declared.status.Status.TheVariants.{Done, Read, Write, NoMemory, Noise, Script}
 
 pub next_isnt : {L : Type 0} (spelled : Spelling L) (followed : ℕ → L → ℕ) (status other : Status) (old new : Reading) (got : List ℕ) (left : Tally)
     → (IsNextBy spelled followed (Err other) old new got left → ⊥) → IsNextBy spelled followed (Err status) old new got left → status ≡ other → ⊥
 next_isnt spelled followed status other old new got left never next is = never (subst (λ s. IsNextBy spelled followed (Err s) old new got left) is next)
 
-want_not : (status other : Status) → IsWant status → (Write ≡ other → ⊥) → (NoMemory ≡ other → ⊥) → status ≡ other → ⊥
+pub want_not : (status other : Status) → IsWant status → (Write ≡ other → ⊥) → (NoMemory ≡ other → ⊥) → status ≡ other → ⊥
 want_not status other (inl is) a b same = a (sym is ∙ same)
 want_not status other (inr is) a b same = b (sym is ∙ same)
 
@@ -82,9 +75,12 @@ module _ {L D : Type 0} (w : Ways L D) (tells : List D → List ℕ) (batch : �
   completes other ends a b c all rest told told' none = absurd ends
 
 -- memory ran out before anything was read
-pub nothing_read : {L D : Type 0} (w : Ways L D) (tells : List D → List ℕ) (batch : ℕ) (left : Tally) → tells [] ≡ [] → PromptEnds w tells batch NoMemory [] [] [] left
-nothing_read w tells batch left none = (
-  record {
+pub nothing_run : {L D : Type 0} (w : Ways L D) (tells : List D → List ℕ) (batch : ℕ) (is_prompt : Bool) (old : Tellings) → tells [] ≡ [] → IsRun w tells batch is_prompt NoMemory old old [] [] []
+nothing_run w tells batch is_prompt old none = record {
+  took = took_none old.left;
+  drew = added_none old.drawn;
+  wrote = wrote_none old.written;
+  ends = record {
     played = [];
     ahead = [];
     split = refl;
@@ -96,8 +92,8 @@ nothing_read w tells batch left none = (
     few = omega arith;
     begun = ([], sym (append-nil (tells []) ∙ none));
     within = (tells [], refl);
-  },
-  record {
+  };
+  at_once = λ prompt. record {
     lines = [];
     line = [];
     ahead = [];
@@ -107,5 +103,7 @@ nothing_read w tells batch left none = (
     sound = refl;
     begun = ([], sym (append-nil (tells []) ∙ none));
     within = (tells [], refl);
-  },
-)
+  };
+  unended = λ is. cc;
+  bound = omega arith;
+}

@@ -1,19 +1,11 @@
 -- What a line says depends on it alone, however it came.
-use Rattle.std.proofs.Common.{◌≡◌, ◌⊎◌, ◌<◌, ◌≤◌, ◌+◌, ◌^◌, ℕ, Bool, true, false, cond, List, [], ◌++◌, length, Result, Ok, Err, refl, sym, ap, ◌∙◌, inl, inr, arith, ltb, length-append}
-use Rattle.std.proofs.lemmas.Bool.{cond-true, cond-false, ltb-true, ltb-false, lt-ltb, cases_Bool, cases_lt}
-use Rattle.std.proofs.lemmas.List.{append-nil}
-use Rattle.sg_base.specs.declared.faults.ScriptFault.{ScriptFault}
+use Rattle.std.proofs.Common.{◌≡◌, ◌⊎◌, ◌<◌, ◌≤◌, ◌+◌, ◌^◌, ℕ, Bool, true, false, cond, List, [], ◌++◌, length, Result, Ok, Err, refl, sym, ap, ◌∙◌, inl, inr, arith, ltb, length-append, append-nil}
 use Rattle.sg_base.specs.declared.faults.ScriptFault.TheVariants.{Length, Unended}
-use Rattle.sg_lines.specs.Fields.{Gives}
-use Rattle.sg_lines.specs.declared.faults.ReadLineFault.{ReadLineFault}
 use Rattle.sg_lines.specs.declared.faults.ReadLineFault.TheVariants as faults
-use Rattle.sg_lines.specs.LineOf.{line_of}
-use Rattle.sg_lines.specs.ScriptLines.{lines_of, NoEnd, IsWhole}
 use Rattle.sg_lines.proofs.FaultLaws.{too_long}
 use Rattle.sg_lines.proofs.FrameLaws.{open_line, whole_line}
-use Rattle.sg_lines.proofs.Splits.{lines_of_whole, lines_of_rest, begins}
-use Rattle.sg_trace.specs.Trace.{Spelling, spelled_at}
-use Rattle.sg_trace.specs.Reading.{FirstFailsBy, IsFramed}
+use Rattle.sg_trace.proofs.Common.{FirstFailsBy, Gives, IsFramed, IsWhole, NoEnd, ReadLineFault, ScriptFault, Spelling, begins, cases_Bool, cases_lt}
+use Rattle.sg_trace.proofs.Common.{cond-false, cond-true, line_of, lines_of, lines_of_rest, lines_of_whole, lt-ltb, ltb-false, ltb-true, spelled_at}
 
 -- the line reaches past the first 2^30 octets
 abbrev pub too_far : ℕ → List ℕ → Bool

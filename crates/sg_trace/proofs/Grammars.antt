@@ -1,15 +1,8 @@
 -- The trace of a script in the grammar comes to no fault.
-use Rattle.std.proofs.Common.{◌≡◌, ◌⊎◌, ◌+◌, ℕ, Bool, true, false, List, [], ◌∷◌, ◌++◌, length, Option, Some, None, Result, Ok, Err, refl, sym, ap, ◌∙◌, subst, inl, inr}
-use Rattle.std.specs.Prelude.{IfSome, cond}
-use Rattle.std.proofs.lemmas.List.{append-nil}
-use Rattle.sg_base.specs.declared.faults.ScriptFault.{ScriptFault}
+use Rattle.std.proofs.Common.{◌≡◌, ◌⊎◌, ◌+◌, ℕ, Bool, true, false, List, [], ◌∷◌, ◌++◌, length, Option, Some, None, Result, Ok, Err, refl, sym, ap, ◌∙◌, subst, inl, inr, IfSome, cond, append-nil}
 use Rattle.sg_base.specs.declared.faults.ScriptFault.TheVariants.{Unended}
-use Rattle.sg_edge.specs.Told.{AtEnd, Tally, TookIn}
-use Rattle.sg_gateway.specs.Drawn.{Supplied, supplied}
-use Rattle.sg_lines.specs.LineOf.{version_after}
-use Rattle.sg_lines.specs.ScriptLines.{lines_of}
-use Rattle.sg_lines.specs.declared.lines.Line.{Line}
-use Rattle.sg_trace.specs.Trace.{AtCapture, AtFault, Command, Later, Outside, Replays, after_line, begins_capture, trace_from, handled_as, line_at, replayed, stopped}
+use Rattle.sg_trace.proofs.Common.{AtCapture, AtEnd, AtFault, Command, Later, Line, Outside, Replays, ScriptFault, Supplied, Tally, TookIn, after_line}
+use Rattle.sg_trace.proofs.Common.{begins_capture, handled_as, line_at, lines_of, replayed, stopped, supplied, trace_from, version_after}
 use Rattle.sg_trace.specs.Grammar.{IsScript, fault_after, fault_from}
 
 -- what follows tells no such fault

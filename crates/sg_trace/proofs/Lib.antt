@@ -1,15 +1,16 @@
 pub mod CaptureReads
-mod Capturings
+pub mod Capturings
 pub mod Causes
-pub mod Traces
-mod ReadBuffers
-pub mod Runs
+mod Common
 pub mod Ends
 pub mod Frames
 pub mod Grammars
 mod LineParts
 pub mod Loops
 pub mod PassedOn
+mod ReadBuffers
 mod Readings
+pub mod Runs
 mod Supplies
+pub mod Traces
 pub mod Writings

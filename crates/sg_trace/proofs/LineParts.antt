@@ -1,13 +1,9 @@
 -- How the front of what waits becomes part of a line.
-use Rattle.std.proofs.Common.{◌≡◌, ◌⊎◌, ◌+◌, ◌-◌, ◌≤◌, ◌<◌, ℕ, Bool, true, false, List, [], ◌∷◌, ◌++◌, length, take, drop, sym, ap, ◌∙◌, subst, inl, inr, arith, append_assoc, length-append}
-use Rattle.std.specs.Prelude.{min}
-use Rattle.std.proofs.lemmas.Bool.{false≢true, eq-eqb, cases_lt}
-use Rattle.std.proofs.lemmas.List.{append-nil, length-take, length-take-le, length-drop, drop-take, drop-drop, take-append-drop, take-append-le}
+use Rattle.std.proofs.Common.{◌≡◌, ◌⊎◌, ◌+◌, ◌-◌, ◌≤◌, ◌<◌, ℕ, Bool, true, false, List, [], ◌∷◌, ◌++◌, length, take, drop, sym, ap, ◌∙◌, subst, inl, inr, arith, append_assoc, length-append, min}
 use Rattle.std.proofs.Math.ListN.{drop_of_length-le}
-use Rattle.std.proofs.Math.Seq.{take-append_seam, drop-append_seam}
 use Rattle.sg_base.specs.Fields.{Lacks}
-use Rattle.sg_lines.specs.ScriptLines.{NoEnd}
-use Rattle.sg_trace.specs.Fed.{EndsLine, HasMoved, HoldsLine}
+use Rattle.sg_trace.proofs.Common.{EndsLine, HasMoved, HoldsLine, NoEnd, append-nil, cases_lt, drop-append_seam, drop-drop, drop-take, eq-eqb, false≢true}
+use Rattle.sg_trace.proofs.Common.{length-drop, length-take, length-take-le, take-append-drop, take-append-le, take-append_seam}
 
 no_end : (xs : List ℕ) → Lacks 10 xs → NoEnd xs
 no_end [] lacks = tt

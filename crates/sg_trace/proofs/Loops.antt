@@ -1,22 +1,12 @@
 -- How the loop that plays a script goes on, line by line, and how it ends.
-use Rattle.std.proofs.Common.{◌≡◌, ◌+◌, ◌≤◌, ◌^◌, ℕ, true, false, List, [], ◌∷◌, ◌++◌, length, Option, Some, None, Ok, Err, refl, sym, ap, ◌∙◌, subst, inl, inr, append_assoc, length-append, arith}
-use Rattle.std.proofs.lemmas.Bool.{cond-false, cond-true}
-use Rattle.std.proofs.lemmas.List.{append-nil}
-use Rattle.sg_base.specs.declared.faults.ScriptFault.{ScriptFault}
-use Rattle.sg_edge.proofs.Links.{added_more, added_none}
-use Rattle.sg_edge.proofs.Passed.{took_more, took_none, wrote_more, wrote_none}
-use Rattle.sg_edge.specs.Links.{Added}
-use Rattle.sg_edge.specs.Told.{AtEnd, Tally, TookIn, Wrote}
-use Rattle.sg_lines.proofs.Splits.{lines_of_whole}
-use Rattle.sg_lines.specs.ScriptLines.{IsWhole, NoEnd, lines_of}
-use Rattle.sg_trace.specs.Course.{Course, Given, Ways, behind_given, behind_line, course, course_from, ended, read_at, with_deeds}
-use Rattle.sg_trace.specs.Loop.{AreAlike, Closes, Effects, GoInOrder, HasNoLast, IsAll, IsCut, IsCutLine, IsCutShort, IsPlayed, IsTaken, IsWant, LoopEnds, deeds_of}
+use Rattle.std.proofs.Common.{◌≡◌, ◌+◌, ◌≤◌, ◌^◌, ℕ, true, false, List, [], ◌∷◌, ◌++◌, length, Option, Some, None, Ok, Err, refl, sym, ap, ◌∙◌, subst, inl, inr, append_assoc, length-append, arith, append-nil}
 pub use Rattle.sg_trace.specs.Loop.{Tellings}
-use Rattle.sg_trace.specs.Output.{IsPrefixOf}
-use Rattle.sg_trace.specs.Reading.{FirstFailsBy, IsFaultBy, IsNextBy, IsReadBy, Reading}
 use Rattle.sg_trace.specs.Trace.{AtCapture, AtEnd as BehindAll, AtFault, ForDraw, Stop}
-use Rattle.sg_trace.specs.declared.status.Status.{Status}
-use Rattle.sg_trace.specs.declared.status.Status.TheVariants.{Done, Script, Read, Write, NoMemory, Noise}
+use Rattle.sg_trace.proofs.Common.{Added, AreAlike, AtEnd, Closes, Course, Done, Effects, FirstFailsBy, Given, GoInOrder, HasNoLast, IsAll, IsCut, IsCutLine}
+use Rattle.sg_trace.proofs.Common.{IsCutShort, IsFaultBy, IsNextBy, IsPlayed, IsPrefixOf, IsReadBy, IsTaken, IsWant, IsWhole, LoopEnds, NoEnd, NoMemory}
+use Rattle.sg_trace.proofs.Common.{Noise, Read, Reading, Script, ScriptFault, Status, Tally, TookIn, Ways, Write, Wrote, added_more, added_none, behind_given}
+use Rattle.sg_trace.proofs.Common.{behind_line, cond-false, cond-true, course, course_from, deeds_of, ended, lines_of, lines_of_whole, read_at, took_more}
+use Rattle.sg_trace.proofs.Common.{took_none, with_deeds, wrote_more, wrote_none}
 
 -- ---- courses
 
@@ -59,6 +49,27 @@ module _ {L D : Type 0} (w : Ways L D) where
   alone_no_last None draws = λ at is. cc
   alone_no_last (Some g) draws = λ at is. cc
 
+-- ---- deeds that tell the same
+
+module _ {S D : Type 0} (e : Effects S D) where
+  pub then_alike : (s : S) (ds es fs : List D) → AreAlike e s ds es → AreAlike e s es fs → AreAlike e s ds fs
+  then_alike s ds es fs a b = record { told = a.told ∙ b.told; left = a.left ∙ b.left }
+
+  module _ (order : GoInOrder e) where
+    -- with the same deeds behind them
+    pub alike_more : (s : S) (ds es more : List D) → AreAlike e s ds es → AreAlike e s (ds ++ more) (es ++ more)
+    alike_more s ds es more a = record {
+      told = order.told s ds more ∙ (λ i. a.told i ++ e.tells (a.left i) more) ∙ sym (order.told s es more);
+      left = order.after s ds more ∙ ap (λ (t : S). e.after t more) a.left ∙ sym (order.after s es more);
+    }
+
+    -- with the same deeds before them
+    pub alike_behind : (s : S) (before ds es : List D) → AreAlike e (e.after s before) ds es → AreAlike e s (before ++ ds) (before ++ es)
+    alike_behind s before ds es a = record {
+      told = order.told s before ds ∙ ap (λ (o : List ℕ). e.tells s before ++ o) a.told ∙ sym (order.told s before es);
+      left = order.after s before ds ∙ a.left ∙ sym (order.after s before es);
+    }
+
 -- ---- the invariant
 
 module _ {L D S : Type 0} (w : Ways L D) (e : Effects S D) (begun : S) where
@@ -78,23 +89,6 @@ none_before (x ∷ xs) rest is = absurd cc
 module _ {L D S : Type 0} (w : Ways L D) (e : Effects S D) (order : GoInOrder e) (begun : S) where
   abbrev run : List ℕ → List ℕ → Course D
   run = course w
-
-  -- ---- deeds that tell the same
-
-  then_alike : (s : S) (ds es fs : List D) → AreAlike e s ds es → AreAlike e s es fs → AreAlike e s ds fs
-  then_alike s ds es fs a b = record { told = a.told ∙ b.told; left = a.left ∙ b.left }
-
-  alike_more : (s : S) (ds es more : List D) → AreAlike e s ds es → AreAlike e s (ds ++ more) (es ++ more)
-  alike_more s ds es more a = record {
-    told = order.told s ds more ∙ (λ i. a.told i ++ e.tells (a.left i) more) ∙ sym (order.told s es more);
-    left = order.after s ds more ∙ ap (λ (t : S). e.after t more) a.left ∙ sym (order.after s es more);
-  }
-
-  alike_behind : (s : S) (before ds es : List D) → AreAlike e (e.after s before) ds es → AreAlike e s (before ++ ds) (before ++ es)
-  alike_behind s before ds es a = record {
-    told = order.told s before ds ∙ ap (λ (o : List ℕ). e.tells s before ++ o) a.told ∙ sym (order.told s before es);
-    left = order.after s before ds ∙ a.left ∙ sym (order.after s before es);
-  }
 
   -- nothing is read, drawn, told or written yet
   pub begins : (old : Tellings) (ps : List D) (script : Reading) → ps ≡ [] → script ≡ record { waits = []; version = 1; number = 1; offset = 0; budget = 2 ^ 30 + 1 }
@@ -299,7 +293,7 @@ module _ {L D S : Type 0} (w : Ways L D) (e : Effects S D) (order : GoInOrder e)
 
       -- the line's deeds behind all others
       line_alike : (ds : List D) → AreAlike e begun (going.deeds ++ ds) (es ++ (ps ++ ds))
-      line_alike ds = subst (AreAlike e begun (going.deeds ++ ds)) (append_assoc es ps ds) (alike_more begun going.deeds (es ++ ps) ds going.alike)
+      line_alike ds = subst (AreAlike e begun (going.deeds ++ ds)) (append_assoc es ps ds) (alike_more e order begun going.deeds (es ++ ps) ds going.alike)
 
       -- the lines as far as this one, alone
       played_goes : (draws : List ℕ) → run (taken ++ read.line) (drawn ++ draws) ≡ with_deeds going.deeds (behind_given (w.gives l draws) draws (ended BehindAll))
@@ -370,8 +364,8 @@ module _ {L D S : Type 0} (w : Ways L D) (e : Effects S D) (order : GoInOrder e)
         deeds = going.deeds ++ taken_so.fresh;
         alike =
             subst (AreAlike e begun (going.deeds ++ taken_so.fresh)) (sym (append_assoc es taken_so.told waits'))
-            (then_alike begun (going.deeds ++ taken_so.fresh) (es ++ (ps ++ taken_so.fresh)) (es ++ (taken_so.told ++ waits')) (line_alike taken_so.fresh)
-            (alike_behind begun es (ps ++ taken_so.fresh) (taken_so.told ++ waits') taken_so.alike));
+            (then_alike e begun (going.deeds ++ taken_so.fresh) (es ++ (ps ++ taken_so.fresh)) (es ++ (taken_so.told ++ waits')) (line_alike taken_so.fresh)
+            (alike_behind e order begun es (ps ++ taken_so.fresh) (taken_so.told ++ waits') taken_so.alike));
         took = subst (TookIn old.left left') (ap (λ (o : List ℕ). taken ++ o) read.split ∙ sym (append_assoc taken read.line new.waits)) took_all;
         drew = added_more old.drawn now.drawn drawn' drawn draws going.drew drew;
         wrote = subst (Wrote old.written written') (ap (λ (o : List ℕ). e.tells begun es ++ o) taken_so.written ∙ sym (order.told begun es taken_so.told)) (wrote_more old.written now.written written' (e.tells begun es) out going.wrote wrote);

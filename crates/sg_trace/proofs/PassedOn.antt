@@ -1,15 +1,9 @@
 -- A run that ends passes on what its sink holds: what was so of the end is so of the status.
-use Rattle.std.proofs.Common.{◌≡◌, ◌⊎◌, ℕ, List, [], Bool, Option, refl, sym, ◌∙◌, subst, inl, inr, arith}
-use Rattle.std.proofs.lemmas.List.{append-nil}
-use Rattle.sg_edge.proofs.Passed.{rose_later, wrote_none}
-use Rattle.sg_edge.specs.Told.{Tally, Wrote}
+use Rattle.std.proofs.Common.{◌≡◌, ◌⊎◌, ◌≤◌, ℕ, List, [], ◌++◌, length, Bool, Option, refl, sym, ◌∙◌, subst, inl, inr, arith, append-nil}
+use Rattle.sg_trace.proofs.Common.{Done, EndedBy, HasFailed, IsAll, IsCut, IsOfOutside, IsPassedOn, IsWant, LoopEnds, NoMemory, Noise, Read, Script}
+use Rattle.sg_trace.proofs.Common.{Status, Tally, Ways, Write, Wrote, course, rose_later, wrote_none}
 use Rattle.sg_trace.proofs.Causes.{failed_as}
-use Rattle.sg_trace.specs.Causes.{EndedBy, HasFailed, IsOfOutside, IsPassedOn}
-use Rattle.sg_trace.specs.Course.{Ways, course}
-use Rattle.sg_trace.specs.Loop.{AreTold, IsAll, IsCut, IsWant, LoopEnds}
 use Rattle.sg_trace.specs.Trace.{AtCapture, AtEnd, AtFault, ForDraw, Stop}
-use Rattle.sg_trace.specs.declared.status.Status.{Status}
-use Rattle.sg_trace.specs.declared.status.Status.TheVariants.{Done, Script, Read, Write, NoMemory, Noise}
 
 either : (end : Status) → IsOfOutside end ⊎ (IsOfOutside end → ⊥)
 either Read = inl (inl refl)
@@ -103,42 +97,31 @@ module _ {K : Type 0} (end status : Status) (faults : K → ℕ) (failed : K →
 -- ---- what was told, as far as it was passed on
 
 module _ {L D : Type 0} (w : Ways L D) (tells : List D → List ℕ) (batch : ℕ) (octets draws out : List ℕ) where
-  all_cut : (stop : Stop) → ((at : ℕ) → stop ≡ AtCapture at → ⊥) → IsAll w tells octets draws out stop → IsCut w tells batch octets draws out
-  all_cut stop no_last all = record {
-    played = octets;
-    ahead = [];
-    split = sym (append-nil octets);
-    near = omega arith;
+  -- where all of the lines that were read was told, whatever stands behind them
+  all_cut : (lines ahead : List ℕ) (stop : Stop) → octets ≡ lines ++ ahead → length ahead ≤ 74097 → ((at : ℕ) → stop ≡ AtCapture at → ⊥) → IsAll w tells lines draws out stop → IsCut w tells batch octets draws out
+  all_cut lines ahead stop split near no_last all = record {
+    played = lines;
+    ahead = ahead;
+    split = split;
+    near = near;
     no_last = λ at is. no_last at (sym all.stops ∙ is);
-    told = (course w octets draws).deeds;
+    told = (course w lines draws).deeds;
     late = [];
-    alike = (λ i. tells (sym (append-nil (course w octets draws).deeds) i));
+    alike = (λ i. tells (sym (append-nil (course w lines draws).deeds) i));
     few = omega arith;
-    begun = ([], all.told ∙ sym (append-nil (tells (course w octets draws).deeds)));
-    within = ([], (λ i. tells (append-nil (course w octets draws).deeds i)) ∙ sym all.told ∙ sym (append-nil out));
+    begun = ([], all.told ∙ sym (append-nil (tells (course w lines draws).deeds)));
+    within = ([], (λ i. tells (append-nil (course w lines draws).deeds i)) ∙ sym all.told ∙ sym (append-nil out));
   }
 
-  told_cut : AreTold w tells octets draws out → IsCut w tells batch octets draws out
-  told_cut are = record {
-    played = are.lines;
-    ahead = are.part;
-    split = are.split;
-    near = are.near;
-    no_last = λ at is. (let both : AtEnd ≡ AtCapture at = sym are.all.stops ∙ is in cc);
-    told = (course w are.lines draws).deeds;
-    late = [];
-    alike = (λ i. tells (sym (append-nil (course w are.lines draws).deeds) i));
-    few = omega arith;
-    begun = ([], are.all.told ∙ sym (append-nil (tells (course w are.lines draws).deeds)));
-    within = ([], (λ i. tells (append-nil (course w are.lines draws).deeds i)) ∙ sym are.all.told ∙ sym (append-nil out));
-  }
+  whole_cut : (stop : Stop) → ((at : ℕ) → stop ≡ AtCapture at → ⊥) → IsAll w tells octets draws out stop → IsCut w tells batch octets draws out
+  whole_cut stop no_last all = all_cut octets [] stop (sym (append-nil octets)) (omega arith) no_last all
 
   -- whatever the end, it is one of a run whose sink failed
   cut_of : (end : Status) (left : Tally) → LoopEnds w tells batch end octets draws out left → IsCut w tells batch octets draws out
-  cut_of Done left is = all_cut AtEnd (λ at same. cc) is.0
-  cut_of (Script n fault) left is = all_cut (AtFault n fault) (λ at same. cc) is.0
-  cut_of Noise left is = all_cut ForDraw (λ at same. cc) is
-  cut_of Read left is = told_cut is
+  cut_of Done left is = whole_cut AtEnd (λ at same. cc) is.0
+  cut_of (Script n fault) left is = whole_cut (AtFault n fault) (λ at same. cc) is.0
+  cut_of Noise left is = whole_cut ForDraw (λ at same. cc) is
+  cut_of Read left is = all_cut is.lines is.part AtEnd is.split is.near (λ at same. cc) is.all
   cut_of Write left is = is
   cut_of NoMemory left is = is
   cut_of other left is = absurd is

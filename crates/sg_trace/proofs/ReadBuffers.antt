@@ -1,8 +1,6 @@
 -- How octets go from a source through the read buffer into a line.
 use Rattle.std.proofs.Common.{◌≡◌, ℕ, Bool, true, false, List, [], ◌∷◌, ◌++◌, Result, Ok, Err, sym, ap, ◌∙◌, append_assoc}
-use Rattle.sg_lines.specs.ScriptLines.{NoEnd, IsWhole}
-use Rattle.sg_trace.specs.Fed.{GivesLine}
-use Rattle.sg_edge.specs.Told.{Tally}
+use Rattle.sg_trace.proofs.Common.{GivesLine, IsWhole, NoEnd, Tally}
 
 -- two parts without a line end have none together
 pub NoEnd-append : (line part : List ℕ) → NoEnd line → NoEnd part → NoEnd (line ++ part)

@@ -1,15 +1,10 @@
 -- The next line of a script, from what a line reader gave.
 use Rattle.std.proofs.Common.{◌≡◌, ◌⊎◌, ◌<◌, ◌≤◌, ◌+◌, ◌^◌, ℕ, List, [], ◌++◌, length, Ok, Err, refl, sym, ap, ◌∙◌, subst, inl, inr, append_assoc, length-append, arith}
-use Rattle.sg_base.specs.declared.faults.ScriptFault.{ScriptFault}
-use Rattle.sg_lines.specs.Fields.{Gives}
-use Rattle.sg_lines.specs.declared.faults.ReadLineFault.{ReadLineFault}
 use Rattle.sg_lines.specs.declared.faults.ReadLineFault.TheVariants as faults
+use Rattle.sg_trace.proofs.Common.{FirstFailsBy, Gives, GivesLine, IsFaultBy, IsFramed, IsLine, IsNextBy, IsReadBy, ReadLineFault, Reading, ScriptFault}
+use Rattle.sg_trace.proofs.Common.{Spelling, Tally, refused_as, spelled_at}
 use Rattle.sg_trace.proofs.Traces.{whole_some}
 use Rattle.sg_trace.proofs.Frames.{first_fails, line_whole, still_fails, unended_at_end}
-use Rattle.sg_trace.specs.Trace.{Spelling, spelled_at}
-use Rattle.sg_trace.specs.Fed.{GivesLine, IsLine}
-use Rattle.sg_trace.specs.Reading.{FirstFailsBy, IsFaultBy, IsFramed, IsNextBy, IsReadBy, Reading, refused_as}
-use Rattle.sg_edge.specs.Told.{Tally}
 
 end_so : {P Q : Type 0} → P ⊎ Q → (Q → ⊥) → P
 end_so (inl p) isnt = p

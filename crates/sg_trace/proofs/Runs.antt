@@ -1,24 +1,13 @@
 -- What a run of the loop that plays a script leaves, by how far it has come.
-use Rattle.std.proofs.Common.{◌≡◌, ◌⊎◌, ◌≤◌, ◌+◌, ◌^◌, ℕ, Bool, true, false, List, [], ◌++◌, length, Result, Ok, Err, IfErr, refl, sym, ap, ◌∙◌, subst, inl, inr, append_assoc, length-append, arith}
-use Rattle.std.specs.Prelude.{IsOk, OnOk, Option}
-use Rattle.std.proofs.lemmas.List.{append-nil}
-use Rattle.sg_edge.proofs.Links.{added_more}
-use Rattle.sg_edge.proofs.Passed.{wrote_more}
-use Rattle.sg_edge.specs.Links.{Added}
-use Rattle.sg_edge.specs.Told.{AtEnd, Tally, TookIn, Wrote}
-use Rattle.sg_trace.proofs.Ends.{closes_not, ended_quiet, played_not_read}
+use Rattle.std.proofs.Common.{◌≡◌, ◌⊎◌, ◌≤◌, ◌+◌, ◌^◌, ℕ, Bool, true, false, List, [], ◌++◌, length, Result, Ok, Err, IfErr, refl, sym, ap, ◌∙◌, subst, inl, inr, append_assoc, length-append, arith, IsOk, OnOk, Option, append-nil}
+use Rattle.sg_trace.proofs.Common.{Added, AtEnd, Closes, Done, Effects, EndedBy, GoInOrder, HasFailed, IsCutLine, IsNextBy, IsPlayed, IsPrefixOf, IsReadBy}
+use Rattle.sg_trace.proofs.Common.{IsRun, IsScriptPlayed, IsSettled, IsUnended, IsWant, LoopEnds, NoMemory, Read, Reading, Status, Tally, Tellings, TookIn}
+use Rattle.sg_trace.proofs.Common.{Ways, Write, Wrote, added_more, course, wrote_more}
+use Rattle.sg_trace.proofs.Ends.{closes_not, ended_quiet, played_not_read, want_not}
 use Rattle.sg_trace.proofs.Loops.{IsPlaying, bounded, closed_at_end, closed_at_err, closed_between, cut_at_end, cut_under_way, ends_played, last_goes, took_all}
-use Rattle.sg_trace.specs.Causes.{EndedBy, HasFailed}
-use Rattle.sg_trace.specs.Course.{Ways, course}
-use Rattle.sg_trace.specs.Loop.{Closes, Effects, GoInOrder, IsCutLine, IsPlayed, IsRun, IsScriptPlayed, IsSettled, IsUnended, IsWant, LoopEnds, Tellings}
-use Rattle.sg_trace.specs.Output.{IsPrefixOf}
-use Rattle.sg_trace.specs.Reading.{IsNextBy, IsReadBy, Reading}
-use Rattle.sg_trace.specs.declared.status.Status.{Status}
-use Rattle.sg_trace.specs.declared.status.Status.TheVariants.{Done, NoMemory, Read, Write}
 
 pub want_not_read : (status : Status) → IsWant status → status ≡ Read → ⊥
-want_not_read status (inl wrote) is = let both : Write ≡ Read = sym wrote ∙ is in cc
-want_not_read status (inr memory) is = let both : NoMemory ≡ Read = sym memory ∙ is in cc
+want_not_read status want = want_not status Read want (λ is. cc) (λ is. cc)
 
 pub err_so : (a b : Status) → (let r : Result (Unit {0}) Status = Err a in r ≡ Err b) → a ≡ b
 err_so a b is = cc

@@ -1,19 +1,9 @@
 -- How a trace goes on, line by line.
-use Rattle.std.proofs.Common.{◌≡◌, ◌<◌, ◌+◌, ℕ, false, List, [], ◌∷◌, ◌++◌, length, Ok, refl, ap, ◌∙◌, append_assoc, length-append, arith}
-use Rattle.std.specs.List.{flat_map}
-use Rattle.std.proofs.lemmas.Grind.{flat_map-append}
-use Rattle.sg_gateway.specs.Events.{outcomes_from}
+use Rattle.std.proofs.Common.{◌≡◌, ◌<◌, ◌+◌, ℕ, false, List, [], ◌∷◌, ◌++◌, length, Ok, refl, ap, ◌∙◌, append_assoc, length-append, arith, flat_map}
 use Rattle.sg_gateway.specs.Runs.{Turn, turns_from, world_after}
-use Rattle.sg_gateway.specs.Step.{Event, step}
-use Rattle.sg_gateway.specs.World.{World}
-use Rattle.sg_lines.proofs.Splits.{lines_of_whole}
-use Rattle.sg_lines.specs.LineOf.{version_after}
-use Rattle.sg_lines.specs.ScriptLines.{IsWhole, lines_of}
-use Rattle.sg_lines.specs.declared.lines.Line.{Line}
 use Rattle.sg_outcome.specs.OutcomeText.{outcome_line}
-use Rattle.std.proofs.lemmas.Bool.{cond-false}
-use Rattle.sg_trace.specs.Trace.{Command, begins_capture, Trace, Outside, after_line, trace_from, line_at, handled, with_events}
-use Rattle.sg_trace.specs.Output.{output_from, text}
+use Rattle.sg_trace.proofs.Common.{Command, Event, IsWhole, Line, Outside, Trace, World, after_line, begins_capture, cond-false, flat_map-append, handled}
+use Rattle.sg_trace.proofs.Common.{line_at, lines_of, lines_of_whole, outcomes_from, output_from, step, text, trace_from, version_after, with_events}
 
 -- ---- lines
 

@@ -1,13 +1,15 @@
 -- How octets are written part by part.
-use Rattle.std.proofs.Common.{◌≡◌, ◌<◌, ◌+◌, ℕ, List, [], ◌∷◌, ◌++◌, length, take, drop, get_or, Err, refl, sym, ap, ◌∙◌, append_assoc}
-use Rattle.std.specs.List.{flat_map}
-use Rattle.std.proofs.lemmas.Grind.{flat_map-append}
-use Rattle.std.proofs.lemmas.List.{append-nil, take-append-drop, take_more}
-use Rattle.sg_edge.proofs.Passed.{wrote_more, wrote_none}
-use Rattle.sg_edge.specs.Told.{Tally, Wrote}
-use Rattle.sg_trace.specs.Output.{IsWritten, WrotePrefix}
-use Rattle.sg_trace.specs.declared.status.Status.{Status}
-use Rattle.sg_trace.specs.declared.status.Status.TheVariants.{Write, NoMemory}
+use Rattle.std.proofs.Common.{◌≡◌, ◌<◌, ◌+◌, ℕ, List, [], ◌∷◌, ◌++◌, length, take, drop, get_or, Err, refl, sym, ap, ◌∙◌, append_assoc, flat_map}
+use Rattle.sg_trace.proofs.Common.{IsPrefixOf, IsWritten, NoMemory, Status, Tally, Write, Wrote, WrotePrefix, append-nil, flat_map-append, take-append-drop}
+use Rattle.sg_trace.proofs.Common.{take_more, wrote_more, wrote_none}
+
+-- ---- prefixes
+
+pub prefix_all : {X : Type 0} (all : List X) → IsPrefixOf all all
+prefix_all all = ([], sym (append-nil all))
+
+pub prefix_longer : {X : Type 0} (a all more : List X) → IsPrefixOf a all → IsPrefixOf a (all ++ more)
+prefix_longer a all more prefix = (prefix.0 ++ more, ap (λ l. l ++ more) prefix.1 ∙ append_assoc a prefix.0 more)
 
 -- nothing is a prefix of all
 pub none_written : (a : Tally) (octets : List ℕ) → WrotePrefix a a octets

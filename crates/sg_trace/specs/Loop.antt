@@ -159,10 +159,6 @@ pub record IsCutLine {L D : Type 0} (w : Ways L D) (tells : List D → List ℕ)
   pub begun : IsPrefixOf (tells (course w lines draws).deeds) out
   pub within : IsPrefixOf out (tells (course w (lines ++ line) draws).deeds)
 
--- The loop ends as ever, and whatever ends it, nothing is lost but of the line under way.
-abbrev pub PromptEnds : {L D : Type 0} → Ways L D → (List D → List ℕ) → ℕ → Status → List ℕ → List ℕ → List ℕ → Tally → Type 0
-PromptEnds w tells batch status octets draws out left = LoopEnds w tells batch status octets draws out left × IsCutLine w tells octets draws out
-
 -- ---- a run of the loop
 
 -- what a source, a sink and a source of noise tell

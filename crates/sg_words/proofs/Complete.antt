@@ -1,27 +1,28 @@
 -- Words of a command are read as that command.
-use Rattle.std.proofs.Common.{◌≡◌, ◌⊎◌, ◌≤◌, ◌<◌, ◌^◌, ◌==◌, ℕ, Bool, true, false, cond, List, [], ◌∷◌, codes, Option, Some, None, refl, sym, ap, ap₂, ◌∙◌, inl, inr, arith, length}
+use Rattle.std.proofs.Common.{◌≡◌, ◌⊎◌, ◌≤◌, ◌<◌, ◌^◌, ◌==◌, ℕ, Bool, true, false, cond, List, [], ◌∷◌, codes, map, Option, Some, None, refl, sym, ap, ap₂, ◌∙◌, inl, inr, arith, length}
 use Rattle.std.specs.Prelude.{nat_le, option_map, option_and_then}
 use Rattle.std.specs.Str.{bytes_eq}
 use Rattle.std.specs.Fmt.{decimal}
 use Rattle.std.proofs.lemmas.Bool.{cond-true, cond-false, le-leb, eqb-true}
 use Rattle.std.proofs.lemmas.Fmt.{decimal_nonempty}
 use Rattle.sg_base.proofs.Cases.{none_some}
-use Rattle.clap.specs.Words.{IsAmong, Kinds, Row, fault_of, first_of, subcommand_of}
+use Rattle.clap.proofs.OnLiterals.{clap_on_literals}
+use Rattle.clap.specs.Words.{IsAmong, Kinds, Row, fault_of, first_of, new_app, subcommand_of}
 use Rattle.clap.specs.declared.error.kind.ErrorKind.{ErrorKind}
 use Rattle.clap.specs.declared.error.kind.ErrorKind.TheVariants as kind
 use Rattle.sg_base.specs.Fields.{Lacks, number_at}
 use Rattle.sg_base.proofs.Decimals.{number_again}
 use Rattle.sg_base.proofs.FourNumbers.{decimal_lacks}
 use Rattle.sg_words.proofs.Among.{either, of_map}
-use Rattle.sg_words.proofs.Entered.{IsSeen}
+use Rattle.sg_words.proofs.Entered.{IsName, IsSeen}
 use Rattle.sg_words.proofs.ReadWords.{IsValue, value_of}
-use Rattle.sg_words.proofs.Shapes.{bridge_alone, capture_alone, demo_with, demo_without, flag_text, migrate_alone, relay_joined_with, relay_with, replay_with, replay_without}
+use Rattle.sg_words.proofs.Shapes.{demo_with, demo_without, flag_text, leaf, lone_seen, relay_joined_with, relay_with, replay_with, replay_without}
 use Rattle.sg_words.proofs.Written.{AreOthers, HaveNoEnd, IsOption, ended_known, itself, option_known}
-use Rattle.sg_words.specs.Commands.{AreWordsOf, IsOneOf, IsWorkers, Text, Words, closed, with_end_mark, mux_option, with_option, with_workers}
+use Rattle.sg_words.specs.Commands.{AreWordsOf, IsOneOf, IsWorkers, Text, Words, closed, lone_name, with_end_mark, mux_option, with_option, with_workers}
 use Rattle.sg_words.specs.Grammar.{srtpgw}
 use Rattle.sg_words.specs.Reading.{are_ended, command_by, demo_by, first_said, have_option, is_joined, is_set, no_fault, positive, relay_by, relay_for, relay_options, replay_by, text_in, workers_by}
 use Rattle.sg_words.specs.declared.command.Command.{Command}
-use Rattle.sg_words.specs.declared.command.Command.TheVariants.{Replay, Relay, RelayJoined, Demo, Migrate, Capture, Bridge}
+use Rattle.sg_words.specs.declared.command.Command.TheVariants.{Replay, Relay, RelayJoined, Demo}
 use Rattle.sg_words.specs.declared.command.CommandFault.{CommandFault}
 use Rattle.sg_words.specs.declared.command.CommandFault.TheVariants.{NoMemory}
 use Rattle.sg_words.specs.declared.spelling.Kind.{Kind}
@@ -207,12 +208,17 @@ demo_of n s w rest b good among =
       | inr others ↦ demo_alone n s w rest (w == 1) b refl others
     ]
 
-alone_of : (name : Text) (rest : Words) (c : Command) → IsSeen name [] [] rest
-    → first_said (name ∷ rest) (λ id. text_in id (name ∷ rest)) ≡ cond (are_ended rest Options []) (Some c) None → IsOneOf rest (closed []) → command_by (name ∷ rest) ≡ Some c
-alone_of name rest c seen said among =
-    found_by (name ∷ rest) c seen.taken (said ∙ cond-true _ _ _ (ended_known rest Options [] tt among))
+lone_of : (words : Words) (c : Command) → IsName (lone_name c) (leaf (new_app (lone_name c)).top)
+    → ((rest : Words) → first_said (lone_name c ∷ rest) (λ id. text_in id (lone_name c ∷ rest)) ≡ cond (are_ended rest Options []) (Some c) None)
+    → IsOneOf words (map (λ others. lone_name c ∷ others) (closed [])) → command_by words ≡ Some c
+lone_of words c named said among =
+    let name = lone_name c in
+    let made = of_map (λ others. name ∷ others) words (closed []) among in
+    ap command_by made.is
+    ∙ found_by (name ∷ made.others) c (lone_seen name named made.others made.among).taken (said made.others ∙ cond-true _ _ _ (ended_known made.others Options [] tt made.among))
 
 pub complete : (words : Words) (c : Command) → AreWordsOf words c → command_by words ≡ Some c
+unfolding clap_on_literals
 complete words (Replay n mux) are =
     let made = of_map (λ others. codes "replay" ∷ others) words (with_workers n closed (mux_option mux)) are.1 in
     ap command_by made.is ∙ replay_of n mux made.others are.0 made.among
@@ -225,15 +231,7 @@ complete words (RelayJoined n) are =
 complete words (Demo n s w) are =
     let made = of_map (λ others. codes "demo" ∷ others) words (with_workers w with_end_mark (numbers_of n s)) are.1 in
     ap command_by made.is ∙ demo_of n s w made.others (record { some = are.0.0; few = are.0.1; small = are.0.2 }) are.0.3 made.among
-complete words Migrate are =
-    let made = of_map (λ others. codes "migrate" ∷ others) words (closed []) are.1 in
-    ap command_by made.is ∙ alone_of (codes "migrate") made.others Migrate (migrate_alone made.others made.among) refl made.among
-complete words Capture are =
-    let made = of_map (λ others. codes "capture" ∷ others) words (closed []) are.1 in
-    ap command_by made.is ∙ alone_of (codes "capture") made.others Capture (capture_alone made.others made.among) refl made.among
-complete words Bridge are =
-    let made = of_map (λ others. codes "bridge" ∷ others) words (closed []) are.1 in
-    ap command_by made.is ∙ alone_of (codes "bridge") made.others Bridge (bridge_alone made.others made.among) refl made.among
+complete words other are = lone_of words other (record { met = refl; passes = refl; found = refl }) (λ rest. refl) are.1
 
 -- ---- what is answered
 

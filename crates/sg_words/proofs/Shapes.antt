@@ -1,13 +1,13 @@
 -- What clap takes and finds of each way to write a command, whatever its numbers are.
 use Rattle.std.proofs.Common.{◌≡◌, Bool, List, [], ◌∷◌, ◌++◌, codes, map, refl, subst, sym, true, false, Option, Some, None, inl, inr}
-use Rattle.clap.specs.Words.{Shape}
+use Rattle.clap.specs.Words.{Shape, new_app}
 use Rattle.clap.specs.Simple.{built_leaf, inherited, marked_built, with_leaf_noted}
 use Rattle.clap.proofs.OnLiterals.{clap_on_literals}
 use Rattle.sg_words.proofs.Entered.{IsName, IsSeen, seen_by, seen_so}
 use Rattle.sg_words.proofs.Endings.{ends}
 use Rattle.sg_words.proofs.ReadWords.{IsValue, Read, marked, plain, word}
 use Rattle.sg_words.specs.Commands.{IsOneOf, Text, Words, closed, mux_option, with_option}
-use Rattle.sg_words.specs.Grammar.{demo, migrate, capture, bridge, relay, replay, srtpgw}
+use Rattle.sg_words.specs.Grammar.{demo, relay, replay, srtpgw}
 use Rattle.sg_words.specs.declared.spelling.Kind.{Kind}
 use Rattle.sg_words.specs.declared.spelling.Kind.TheVariants.{Numbers, Options}
 
@@ -48,7 +48,7 @@ module _ (name : Text) (s : Shape) (ids : List Text) (texts : List (Option Text)
 -- ---- the commands
 
 -- a subcommand, built
-abbrev leaf : Shape → Shape
+abbrev pub leaf : Shape → Shape
 leaf s = built_leaf (inherited (with_leaf_noted (marked_built srtpgw.top)) s)
 
 replay_named : IsName (codes "replay") (leaf replay.top)
@@ -62,18 +62,6 @@ relay_named = record { met = refl; passes = refl; found = refl }
 demo_named : IsName (codes "demo") (leaf demo.top)
 unfolding clap_on_literals
 demo_named = record { met = refl; passes = refl; found = refl }
-
-migrate_named : IsName (codes "migrate") (leaf migrate.top)
-unfolding clap_on_literals
-migrate_named = record { met = refl; passes = refl; found = refl }
-
-capture_named : IsName (codes "capture") (leaf capture.top)
-unfolding clap_on_literals
-capture_named = record { met = refl; passes = refl; found = refl }
-
-bridge_named : IsName (codes "bridge") (leaf bridge.top)
-unfolding clap_on_literals
-bridge_named = record { met = refl; passes = refl; found = refl }
 
 -- the text that clap gives an option that has no value
 abbrev pub flag_text : Bool → Text
@@ -120,14 +108,6 @@ unfolding clap_on_literals
 demo_without c s ic is rest among = all_seen _ _ _ _ demo_named rest (reads_ended Numbers (plain c ic ∷ plain s is ∷ [])) refl among
 
 -- a command that is alone
-pub migrate_alone : (rest : Words) → IsOneOf rest (closed []) → IsSeen (codes "migrate") [] [] rest
+pub lone_seen : (name : Text) → IsName name (leaf (new_app name).top) → (rest : Words) → IsOneOf rest (closed []) → IsSeen name [] [] rest
 unfolding clap_on_literals
-migrate_alone rest among = all_seen _ _ _ _ migrate_named rest (reads_ended Options []) refl among
-
-pub capture_alone : (rest : Words) → IsOneOf rest (closed []) → IsSeen (codes "capture") [] [] rest
-unfolding clap_on_literals
-capture_alone rest among = all_seen _ _ _ _ capture_named rest (reads_ended Options []) refl among
-
-pub bridge_alone : (rest : Words) → IsOneOf rest (closed []) → IsSeen (codes "bridge") [] [] rest
-unfolding clap_on_literals
-bridge_alone rest among = all_seen _ _ _ _ bridge_named rest (reads_ended Options []) refl among
+lone_seen name is rest among = all_seen _ _ _ _ is rest (reads_ended Options []) refl among

@@ -1,6 +1,7 @@
 -- What is read is a command that the words are.
-use Rattle.std.proofs.Common.{◌≡◌, ◌≤◌, ◌==◌, ◌&&◌, ℕ, Bool, true, false, cond, List, [], ◌∷◌, ◌++◌, codes, map, Option, Some, None, refl, sym, ap, ap₂, ◌∙◌, subst, inl, inr, arith, take, drop, length, take-append-drop}
+use Rattle.std.proofs.Common.{◌≡◌, ◌≤◌, ◌==◌, ◌&&◌, ℕ, Bool, true, false, cond, List, [], ◌∷◌, ◌++◌, codes, map, Option, Some, None, refl, sym, ap, ap₂, ◌∙◌, subst, inl, inr, arith, take, drop, length, take-append-drop, rules}
 use Rattle.std.specs.Prelude.{nat_le, option_map, option_and_then}
+use Rattle.std.specs.Bool.{⊤}
 use Rattle.std.specs.Str.{bytes_eq}
 use Rattle.std.specs.Fmt.{decimal}
 use Rattle.std.proofs.lemmas.Bool.{and_parts, leb-true}
@@ -10,11 +11,11 @@ use Rattle.sg_base.specs.Fields.{number_at}
 use Rattle.sg_base.proofs.Decimals.{number_takes}
 use Rattle.sg_words.proofs.Among.{in_left, in_map, in_right}
 use Rattle.sg_words.proofs.Endings.{ends}
-use Rattle.sg_words.specs.Commands.{AreWordsOf, IsOneOf, IsWorkers, Text, Words, closed, with_end_mark, mux_option, option_before, put_in, with_option, with_workers}
+use Rattle.sg_words.specs.Commands.{AreWordsOf, IsOneOf, IsWorkers, Text, Words, closed, lone, lone_name, with_end_mark, mux_option, option_before, put_in, with_option, with_workers}
 use Rattle.sg_words.specs.Grammar.{srtpgw}
-use Rattle.sg_words.specs.Reading.{alone_by, are, are_ended, command_by, demo_by, first_said, follows, have_option, is_joined, is_set, led_by, may_end, no_fault, positive, relay_by, relay_for, replay_by, said_by, text_in, workers_by}
+use Rattle.sg_words.specs.Reading.{alone_by, are, are_ended, command_by, demo_by, first_said, follows, have_option, is_joined, is_set, led_by, lone_by, may_end, no_fault, positive, relay_by, relay_for, replay_by, said_by, text_in, workers_by}
 use Rattle.sg_words.specs.declared.command.Command.{Command}
-use Rattle.sg_words.specs.declared.command.Command.TheVariants.{Replay, Demo, Migrate, Capture, Bridge}
+use Rattle.sg_words.specs.declared.command.Command.TheVariants.{Replay, Demo}
 use Rattle.sg_words.specs.declared.spelling.Kind.{Kind}
 use Rattle.sg_words.specs.declared.spelling.Kind.TheVariants.{Numbers, Options}
 
@@ -237,20 +238,19 @@ alone_so ws command c found =
     let same_command : command ≡ c = (let e = p.1 in cc) in
     (same_command, ended_so ws Options [] p.0)
 
-migrate_so : (ws : Words) (c : Command) → alone_by Migrate ws ≡ Some c → AreWordsOf (codes "migrate" ∷ ws) c
-migrate_so ws c found =
-    let p = alone_so ws Migrate c found in
-    subst (AreWordsOf (codes "migrate" ∷ ws)) p.0 (tt, in_map (λ others. codes "migrate" ∷ others) ws (closed []) p.1)
+-- whatever words follow its name, they are those of a command that is alone
+abbrev IsLone : Command → Type 0
+IsLone k = (ws : Words) → IsOneOf ws (closed []) → AreWordsOf (lone_name k ∷ ws) k
 
-capture_so : (ws : Words) (c : Command) → alone_by Capture ws ≡ Some c → AreWordsOf (codes "capture" ∷ ws) c
-capture_so ws c found =
-    let p = alone_so ws Capture c found in
-    subst (AreWordsOf (codes "capture" ∷ ws)) p.0 (tt, in_map (λ others. codes "capture" ∷ others) ws (closed []) p.1)
+abbrev AreLone : List Command → Type 0
+AreLone [] = ⊤
+AreLone (k ∷ ks) = IsLone k × AreLone ks
 
-bridge_so : (ws : Words) (c : Command) → alone_by Bridge ws ≡ Some c → AreWordsOf (codes "bridge" ∷ ws) c
-bridge_so ws c found =
-    let p = alone_so ws Bridge c found in
-    subst (AreWordsOf (codes "bridge" ∷ ws)) p.0 (tt, in_map (λ others. codes "bridge" ∷ others) ws (closed []) p.1)
+said_alone : (name : Text) (ws : Words) → IsOneOf ws (closed []) → IsOneOf (name ∷ ws) (map (λ others. name ∷ others) (closed []))
+said_alone name ws among = in_map (λ others. name ∷ others) ws (closed []) among
+
+are_lone : AreLone lone
+are_lone = search (rules, said_alone)
 
 -- the command is that of this word, or of a later one
 module _ (name : Text) (ws : Words) (c : Command) where
@@ -262,14 +262,16 @@ module _ (name : Text) (ws : Words) (c : Command) where
       at true e found = named name word ws c e (so found)
       at false e found = later found
 
+  lone_so : (ks : List Command) → AreLone ks → lone_by ks name ws ≡ Some c → AreWordsOf (name ∷ ws) c
+  lone_so [] are found = absurd cc
+  lone_so (k ∷ ks) are found =
+      in_turn (lone_name k) _ _ (λ here. let p = alone_so ws k c here in subst (AreWordsOf (lone_name k ∷ ws)) p.0 (are.0 ws p.1)) (lone_so ks are.1) found
+
   said_so : (text : Text → Option Text) → said_by name ws text ≡ Some c → AreWordsOf (name ∷ ws) c
   said_so text =
       in_turn (codes "replay") _ _ (replay_so ws (text (codes "workers")) (is_set (text (codes "mux"))) c)
       (in_turn (codes "relay") _ _ (relay_so ws (text (codes "turns")) (is_set (text (codes "mux"))) (is_set (text (codes "bridge"))) c)
-      (in_turn (codes "demo") _ _ (demo_so ws (text (codes "calls")) (text (codes "start")) (text (codes "workers")) c)
-      (in_turn (codes "migrate") _ _ (migrate_so ws c)
-      (in_turn (codes "capture") _ _ (capture_so ws c)
-      (in_turn (codes "bridge") _ _ (bridge_so ws c) (λ none. cc))))))
+      (in_turn (codes "demo") _ _ (demo_so ws (text (codes "calls")) (text (codes "start")) (text (codes "workers")) c) (lone_so lone are_lone)))
 
 first_so : (words : Words) (text : Text → Option Text) (c : Command) → first_said words text ≡ Some c → AreWordsOf words c
 first_so [] text c found = absurd cc

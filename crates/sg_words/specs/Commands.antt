@@ -44,6 +44,16 @@ abbrev pub mux_option : Bool → Words
 mux_option true = codes "--mux" ∷ []
 mux_option false = []
 
+-- the commands that have neither options nor numbers, and their names
+abbrev pub lone : List Command
+lone = Migrate ∷ Capture ∷ Bridge ∷ []
+
+abbrev pub lone_name : Command → Text
+lone_name Migrate = codes "migrate"
+lone_name Capture = codes "capture"
+lone_name Bridge = codes "bridge"
+lone_name other = []
+
 -- Every way to write a command. A number is written in decimal digits, without a sign or a leading zero.
 abbrev pub spellings : Command → List Words
 spellings (Replay workers mux) = map (λ others. codes "replay" ∷ others) (with_workers workers closed (mux_option mux))
@@ -53,9 +63,7 @@ spellings (RelayJoined turns) =
     map (λ others. codes "relay" ∷ others) (with_option (codes "--turns") (decimal turns) closed (codes "--bridge" ∷ []))
 spellings (Demo calls start workers) =
     map (λ others. codes "demo" ∷ others) (with_workers workers with_end_mark (decimal calls ∷ decimal start ∷ []))
-spellings Migrate = map (λ others. codes "migrate" ∷ others) (closed [])
-spellings Capture = map (λ others. codes "capture" ∷ others) (closed [])
-spellings Bridge = map (λ others. codes "bridge" ∷ others) (closed [])
+spellings other = map (λ others. lone_name other ∷ others) (closed [])
 
 -- 1 to 16 workers
 abbrev pub IsWorkers : ℕ → Type 0

@@ -1,12 +1,12 @@
 -- How the words are read: cut by clap, and then compared with the ways to write what clap found.
-use Rattle.std.specs.Prelude.{ℕ, Bool, true, false, ◌&&◌, nat_le, if◌then◌else◌, [], ◌∷◌, ◌++◌, take, drop, length, codes, Option, Some, None, option_and_then, option_map}
+use Rattle.std.specs.Prelude.{ℕ, Bool, true, false, ◌&&◌, nat_le, if◌then◌else◌, List, [], ◌∷◌, ◌++◌, take, drop, length, codes, Option, Some, None, option_and_then, option_map}
 use Rattle.std.specs.Str.{bytes_eq}
 use Rattle.clap.specs.Words.{Kinds, fault_of, first_of, subcommand_of}
 use Rattle.sg_base.specs.Fields.{number_at}
-use Rattle.sg_words.specs.Commands.{Text, Words, mux_option}
+use Rattle.sg_words.specs.Commands.{Text, Words, lone, lone_name, mux_option}
 use Rattle.sg_words.specs.Grammar.{srtpgw}
 use Rattle.sg_words.specs.declared.command.Command.{Command}
-use Rattle.sg_words.specs.declared.command.Command.TheVariants.{Replay, Relay, RelayJoined, Demo, Migrate, Capture, Bridge}
+use Rattle.sg_words.specs.declared.command.Command.TheVariants.{Replay, Relay, RelayJoined, Demo}
 use Rattle.sg_words.specs.declared.spelling.Kind.{Kind}
 use Rattle.sg_words.specs.declared.spelling.Kind.TheVariants.{Numbers, Options}
 
@@ -101,6 +101,11 @@ demo_by words (Some calls) (Some start) workers =
 abbrev pub alone_by : Command → Words → Option Command
 alone_by command words = if are_ended words Options [] then Some command else None
 
+-- that of these commands which has the name
+abbrev pub lone_by : List Command → Text → Words → Option Command
+lone_by [] name words = None
+lone_by (c ∷ cs) name words = if bytes_eq name (lone_name c) then alone_by c words else lone_by cs name words
+
 -- the text that clap found for an argument
 abbrev pub text_in : Text → Words → Option Text
 text_in id words = option_and_then (λ p. first_of id p.1) (subcommand_of srtpgw words)
@@ -111,9 +116,7 @@ said_by name words text =
     if bytes_eq name (codes "replay") then replay_by words (text (codes "workers")) (is_set (text (codes "mux")))
     else (if bytes_eq name (codes "relay") then relay_by words (text (codes "turns")) (is_set (text (codes "mux"))) (is_set (text (codes "bridge")))
     else (if bytes_eq name (codes "demo") then demo_by words (text (codes "calls")) (text (codes "start")) (text (codes "workers"))
-    else (if bytes_eq name (codes "migrate") then alone_by Migrate words
-    else (if bytes_eq name (codes "capture") then alone_by Capture words
-    else (if bytes_eq name (codes "bridge") then alone_by Bridge words else None)))))
+    else lone_by lone name words))
 
 -- the first word is the command's name
 abbrev pub first_said : Words → (Text → Option Text) → Option Command

@@ -1,4 +1,4 @@
-use Rattle.sg_agreement.proofs.TwoSided.{offer_two_sided, answer_two_sided}
+use Rattle.sg_agreement.proofs.Sound.{offer_two_sided, answer_two_sided}
 use Rattle.sg_agreement.proofs.laws.no_key_goes_to_the_plain_side.Goals as goal
 
 pub returns-clause-offer : goal.returns-clause-offer

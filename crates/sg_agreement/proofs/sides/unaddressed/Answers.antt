@@ -1,6 +1,6 @@
 use Rattle.std.proofs.Common.{◌+◌, length, refl, sym, ap, ◌∙◌, subst, arith, drop_of_length-le}
 use Rattle.sg_agreement.specs.Described.{unaddressed}
-use Rattle.sg_agreement.proofs.SideWalks.{IsLeft, room, found, further}
+use Rattle.sg_agreement.proofs.Walks.{IsLeft, room, found, further}
 use Rattle.sg_agreement.proofs.sides.unaddressed.Goals as goal
 
 pub loop-medium-init : goal.loop-medium-init

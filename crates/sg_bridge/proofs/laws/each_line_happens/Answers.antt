@@ -1,4 +1,4 @@
-use Rattle.sg_bridge.proofs.Happening.{all_behind, all_happen}
+use Rattle.sg_bridge.proofs.BothWays.{all_behind, all_happen}
 use Rattle.sg_bridge.proofs.laws.each_line_happens.Goals as goal
 
 pub returns-clause-lines : goal.returns-clause-lines

@@ -1,4 +1,4 @@
-use Rattle.sg_bridge.proofs.Lost.{all_lost, all_settled}
+use Rattle.sg_bridge.proofs.Inside.{all_lost, all_settled}
 use Rattle.sg_bridge.proofs.laws.lost_is_refused.Goals as goal
 
 pub returns-clause-settled : goal.returns-clause-settled

@@ -1,4 +1,4 @@
-use Rattle.sg_bridge.proofs.Telling.{all_signals}
+use Rattle.sg_bridge.proofs.Lasting.{all_signals}
 use Rattle.sg_bridge.proofs.laws.signals_are_told.Goals as goal
 
 pub returns : goal.returns

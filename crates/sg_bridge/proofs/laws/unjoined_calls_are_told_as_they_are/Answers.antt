@@ -1,4 +1,4 @@
-use Rattle.sg_bridge.proofs.Unjoined.{told_as_it_is}
+use Rattle.sg_bridge.proofs.BothWays.{told_as_it_is}
 use Rattle.sg_bridge.proofs.laws.unjoined_calls_are_told_as_they_are.Goals as goal
 
 pub returns : goal.returns

@@ -1,6 +1,6 @@
 use Rattle.std.proofs.Common.{◌≡◌, ◌++◌, ◌∙◌, ap, List, ℕ}
 use Rattle.std.proofs.lemmas.Result.{on_ok_weaker}
-use Rattle.sg_bridge.proofs.LostLines.{has_word, lost_line}
+use Rattle.sg_bridge.proofs.OutcomeLines.{has_word, lost_line}
 use Rattle.sg_outcome.specs.OutcomeText.{outcome_line}
 use Rattle.sg_outcome.specs.declared.outcomes.Outcome.TheVariants.{Dropped}
 use Rattle.sg_bridge.proofs.printing.push_lost.Goals as goal

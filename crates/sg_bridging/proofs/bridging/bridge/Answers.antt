@@ -1,19 +1,14 @@
-use Rattle.std.proofs.Common.{[], refl}
-use Rattle.sg_bridging.proofs.Completes.{untouched}
+use Rattle.std.proofs.Common.{[], refl, true}
+use Rattle.sg_bridging.specs.Bridge.{bridge_text, of_bridge}
 use Rattle.sg_bridging.proofs.bridging.bridge.Goals as goal
 use Rattle.sg_switchboard.specs.Switching.{start}
+use Rattle.sg_trace.proofs.Ends.{nothing_run}
 
 pub returns-in-Err-clause-ran : goal.returns-in-Err-clause-ran
-returns-in-Err-clause-ran g c = ([], [], [], untouched _)
+returns-in-Err-clause-ran g c = ([], [], [], nothing_run of_bridge bridge_text 2 true _ refl)
 
 pub returns-in-Ok-clause-ran : goal.returns-in-Ok-clause-ran
-returns-in-Ok-clause-ran g c =
-    let ran = c.run_script.ensures.ran start c.in-Ok.ensures in (
-      ran.0,
-      ran.1,
-      ran.2,
-      record { took = ran.3.took; drew = ran.3.drew; wrote = ran.3.wrote; ends = (ran.3.ends, ran.3.at_once refl); bound = ran.3.bound },
-    )
+returns-in-Ok-clause-ran g c = c.run_script.ensures.ran start c.in-Ok.ensures
 
 pub returns-in-Ok-clause-read : goal.returns-in-Ok-clause-read
 returns-in-Ok-clause-read g c = c.run_script.ensures.prompt refl

@@ -1,22 +1,9 @@
 use Rattle.std.proofs.Common.{◌≡◌, ◌≤◌, ◌-◌, ◌^◌, ◌++◌, ℕ, false, List, [], length, Ok, Err, refl, sym, ap, subst, arith}
+use Rattle.sg_capture.proofs.Common.{Capturing, EndedBy, EndsReading, Event, FrontStandsFor, FrontValue, IsWant, Read, StandsFor, World, arrived, capture_of}
+use Rattle.sg_capture.proofs.Common.{empty, failed_as, failed_now, length-map, not_failed, ok_not, start, state_after, unshared_after, waiting, world_after}
 use Rattle.sg_capture.proofs.Compositions.{composed, ends_not_noise}
 use Rattle.sg_capture.proofs.Scripts.{run_so}
-use Rattle.sg_capture.specs.Meeting.{EndsReading, StandsFor}
-use Rattle.sg_front.proofs.Runs.{unshared_after}
-use Rattle.sg_front.specs.States.{FrontStandsFor, FrontValue, start, state_after}
-use Rattle.sg_gateway.specs.Runs.{world_after}
-use Rattle.sg_gateway.specs.Step.{Event}
-use Rattle.sg_gateway.specs.World.{World, empty}
-use Rattle.sg_pcap.specs.Capture.{capture_of}
 use Rattle.sg_playback.proofs.Lines.{err_so}
-use Rattle.sg_playback.specs.Playing.{waiting}
-use Rattle.std.proofs.lemmas.List.{length-map}
-use Rattle.sg_table.specs.Batches.{arrived}
-use Rattle.sg_trace.proofs.Causes.{failed_as, failed_now, not_failed, ok_not}
-use Rattle.sg_trace.specs.CaptureReading.{Capturing}
-use Rattle.sg_trace.specs.Causes.{EndedBy}
-use Rattle.sg_trace.specs.Loop.{IsWant}
-use Rattle.sg_trace.specs.declared.status.Status.TheVariants.{Read}
 use Rattle.sg_capture.proofs.capturing.play_source.Goals as goal
 
 pub play_lines-requires-clause-front : goal.play_lines-requires-clause-front

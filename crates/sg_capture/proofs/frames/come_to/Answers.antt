@@ -1,10 +1,6 @@
 use Rattle.std.proofs.Common.{rules, [], map, ap}
+use Rattle.sg_capture.proofs.Common.{FrontStandsFor, StandsFor, arrived, unshared, waiting, wrote_none}
 use Rattle.sg_capture.proofs.Meets.{few_of, on_ok, tick_met, tick_none}
-use Rattle.sg_capture.specs.Meeting.{StandsFor}
-use Rattle.sg_edge.proofs.Passed.{wrote_none}
-use Rattle.sg_front.specs.States.{FrontStandsFor, unshared}
-use Rattle.sg_playback.specs.Playing.{waiting}
-use Rattle.sg_table.specs.Batches.{arrived}
 use Rattle.sg_capture.proofs.frames.come_to.Goals as goal
 
 pub returns-then-moment-top-clause-met : goal.returns-then-moment-top-clause-met

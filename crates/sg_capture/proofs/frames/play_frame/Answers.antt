@@ -1,15 +1,9 @@
-use Rattle.std.proofs.Common.{rules, ◌≡◌, ◌∙◌, ◌∷◌, [], ℕ, List, length, take, Ok, ap, sym, subst}
-use Rattle.std.specs.Prelude.{min}
+use Rattle.std.proofs.Common.{rules, ◌≡◌, ◌∙◌, ◌∷◌, [], ℕ, List, length, take, Ok, ap, sym, subst, min}
+use Rattle.sg_capture.proofs.Common.{Datagram, Framed, FrontStandsFor, Happens, IsMet, StandsFor, frame_occurs, frame_of, framed, unshared, waiting}
+use Rattle.sg_capture.proofs.Common.{wrote_none}
 use Rattle.sg_capture.proofs.Meets.{met_none, room_met, take_counted}
-use Rattle.sg_capture.specs.Meeting.{IsMet, StandsFor}
-use Rattle.sg_edge.proofs.Passed.{wrote_none}
-use Rattle.sg_front.specs.States.{FrontStandsFor, unshared}
 use Rattle.sg_gateway.specs.Octets.{as_octets}
-use Rattle.sg_gateway.specs.Step.{Datagram}
 use Rattle.sg_pcap.specs.Frames as frames
-use Rattle.sg_pcap.specs.Frames.{Framed, frame_of, framed}
-use Rattle.sg_playback.specs.Playing.{waiting}
-use Rattle.sg_trace.specs.Captured.{Happens, frame_occurs}
 use Rattle.sg_capture.proofs.frames.play_frame.Goals as goal
 
 pub returns-in-Passed-clause-met : goal.returns-in-Passed-clause-met

@@ -1,12 +1,6 @@
 use Rattle.std.proofs.Common.{◌∷◌, ◌++◌, [], map, Ok, Err, ap, refl}
+use Rattle.sg_capture.proofs.Common.{FrontStandsFor, IsToldOf, Skipped, StandsFor, arrived, captured_events, unshared, waiting, world_after, wrote_more}
 use Rattle.sg_capture.proofs.Meets.{few_ok, met_before, met_then, settled_met, skip_met}
-use Rattle.sg_capture.specs.Meeting.{IsToldOf, StandsFor}
-use Rattle.sg_edge.proofs.Passed.{wrote_more}
-use Rattle.sg_front.specs.States.{FrontStandsFor, unshared}
-use Rattle.sg_gateway.specs.Runs.{world_after}
-use Rattle.sg_playback.specs.Playing.{waiting}
-use Rattle.sg_table.specs.Batches.{arrived}
-use Rattle.sg_trace.specs.Captured.{Skipped, captured_events}
 use Rattle.sg_capture.proofs.frames.tell_skip.Goals as goal
 
 pub returns-in-Err-clause-met : goal.returns-in-Err-clause-met

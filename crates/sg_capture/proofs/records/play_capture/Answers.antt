@@ -1,16 +1,7 @@
 use Rattle.std.proofs.Common.{◌≡◌, ◌∙◌, ◌++◌, ℕ, List, refl, sym, ap, subst, append_assoc, length-append, arith}
+use Rattle.sg_capture.proofs.Common.{EndedBy, Form, IsWant, Read, capture_begins, capture_of, effects, ended_closed, ok_not, records_in, took_more, unshared}
+use Rattle.sg_capture.proofs.Common.{waiting}
 use Rattle.sg_capture.proofs.Readings.{behind_header, header_err, near_rest}
-use Rattle.sg_edge.proofs.Passed.{took_more}
-use Rattle.sg_front.specs.States.{unshared}
-use Rattle.sg_pcap.proofs.Captures.{capture_begins}
-use Rattle.sg_pcap.specs.Capture.{capture_of, records_in}
-use Rattle.sg_pcap.specs.declared.header.Form.{Form}
-use Rattle.sg_playback.specs.Playing.{effects, waiting}
-use Rattle.sg_trace.proofs.Causes.{ok_not}
-use Rattle.sg_trace.proofs.Ends.{ended_closed}
-use Rattle.sg_trace.specs.Causes.{EndedBy}
-use Rattle.sg_trace.specs.Loop.{IsWant}
-use Rattle.sg_trace.specs.declared.status.Status.TheVariants.{Read}
 use Rattle.sg_capture.proofs.records.play_capture.Goals as goal
 
 pub returns-in-Err-clause-ran : goal.returns-in-Err-clause-ran

@@ -1,12 +1,6 @@
 use Rattle.std.proofs.Common.{◌++◌, ℕ, map, Err, subst}
+use Rattle.sg_capture.proofs.Common.{Happens, IsMet, StandsFor, captured_events, frame_occurs, frame_of, ticks_at, waiting, world_after, wrote_more}
 use Rattle.sg_capture.proofs.Meets.{met_before, met_then}
-use Rattle.sg_capture.specs.Meeting.{IsMet, StandsFor}
-use Rattle.sg_edge.proofs.Passed.{wrote_more}
-use Rattle.sg_gateway.specs.Runs.{world_after}
-use Rattle.sg_pcap.specs.Frames.{frame_of}
-use Rattle.sg_playback.specs.Playing.{waiting}
-use Rattle.sg_trace.specs.Captured.{Happens, captured_events, frame_occurs}
-use Rattle.sg_trace.specs.Trace.{ticks_at}
 use Rattle.sg_capture.proofs.records.play_record.Goals as goal
 
 pub returns-in-Err-clause-met : goal.returns-in-Err-clause-met

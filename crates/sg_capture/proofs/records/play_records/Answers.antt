@@ -1,24 +1,11 @@
 use Rattle.std.proofs.Common.{rules, ◌≡◌, ◌≤◌, ◌⊎◌, ◌∙◌, ◌++◌, ℕ, List, [], length, drop, Option, Some, None, Ok, Err, refl, sym, ap, subst, inl, inr, append_assoc, length-append, arith}
-use Rattle.std.proofs.lemmas.List.{append-nil, length-map}
+use Rattle.sg_capture.proofs.Common.{Done, EndsReading, IsMet, IsRecordRead, IsToldOf, Occurrence, Progress, Read, Record, StandsFor, Wrote, append-nil}
+use Rattle.sg_capture.proofs.Common.{arrived, captured_events, closes_not, effects, ended_closed, ended_quiet, first_of, length-map, ok_not, output_of}
+use Rattle.sg_capture.proofs.Common.{record_occurs, record_within, records_in, text_from, took_more, took_none, unshared, waiting, world_after}
+use Rattle.sg_capture.proofs.Common.{world_after-append, wrote_more, wrote_none}
 use Rattle.sg_capture.proofs.Readings.{IsReadingOn, closed_at_end, closed_at_err, cut_at_end, ends_met, met_not_read, near_rest, record_goes, starts}
-use Rattle.sg_capture.specs.Meeting.{EndsReading, IsMet, IsToldOf, StandsFor, first_of, record_occurs}
-use Rattle.sg_capture.specs.declared.progress.Progress.{Progress}
 use Rattle.sg_capture.proofs.Outputs.{events_in-append, output_of-append}
-use Rattle.sg_edge.proofs.Passed.{took_more, took_none, wrote_more, wrote_none}
-use Rattle.sg_edge.specs.Told.{Wrote}
-use Rattle.sg_front.specs.States.{unshared}
-use Rattle.sg_gateway.specs.Runs.{world_after}
-use Rattle.sg_pcap.specs.Capture.{records_in, record_within}
-use Rattle.sg_pcap.specs.declared.records.Record.{Record}
-use Rattle.sg_playback.specs.Playing.{effects, text_from, waiting}
-use Rattle.sg_table.specs.Batches.{arrived}
-use Rattle.sg_trace.proofs.Causes.{ok_not}
 use Rattle.sg_trace.proofs.PassedOn.{behind_kept, nothing_kept, write_not}
-use Rattle.sg_trace.proofs.Ends.{closes_not, ended_closed, ended_quiet}
-use Rattle.sg_trace.proofs.Traces.{world_after-append}
-use Rattle.sg_trace.specs.Captured.{Occurrence, captured_events, output_of}
-use Rattle.sg_trace.specs.CaptureReading.{IsRecordRead}
-use Rattle.sg_trace.specs.declared.status.Status.TheVariants.{Done, Read}
 use Rattle.sg_capture.proofs.records.play_records.Goals as goal
 
 -- all that was read

@@ -1,12 +1,6 @@
 use Rattle.std.proofs.Common.{◌≡◌, ◌≤◌, ◌+◌, ◌-◌, ◌++◌, length, List, ℕ}
+use Rattle.sg_capture.proofs.Common.{Occurrence, StandsFor, TookIn, World, Wrote, captured_events, output_of, records_in, waiting, world_after}
 use Rattle.sg_capture.proofs.Readings.{IsReadingOn}
-use Rattle.sg_capture.specs.Meeting.{StandsFor}
-use Rattle.sg_edge.specs.Told.{TookIn, Wrote}
-use Rattle.sg_gateway.specs.Runs.{world_after}
-use Rattle.sg_gateway.specs.World.{World}
-use Rattle.sg_pcap.specs.Capture.{records_in}
-use Rattle.sg_playback.specs.Playing.{waiting}
-use Rattle.sg_trace.specs.Captured.{Occurrence, captured_events, output_of}
 use Rattle.sg_capture.proofs.records.play_records.Given as goal
 
 abbrev pub invariant-records : goal.invariant-records

@@ -1,9 +1,8 @@
 use Rattle.std.proofs.Common.{◌≡◌, Some, sym, subst}
-use Rattle.std.proofs.lemmas.List.Elements.{All-from_recursion}
-use Rattle.sg_gateway.proofs.Common.{Call, Event, IsRefused, Offer, World, call_of, each_of, step, turn_of, turns}
-use Rattle.sg_gateway.proofs.Authentic.{offer_once, event_stays}
-use Rattle.sg_gateway.proofs.Datagrams.{every_turn}
-use Rattle.sg_gateway.proofs.Reached.{Anything, anything_on, anything_had}
+use Rattle.sg_gateway.proofs.Common.{Call, Event, IsRefused, Offer, World, call_of, step, turn_of}
+use Rattle.sg_gateway.proofs.Authentic.{offer_once}
+use Rattle.sg_gateway.proofs.Forgotten.{event_grows}
+use Rattle.sg_gateway.proofs.Reached.{at_each_turn}
 use Rattle.sg_gateway.specs.Authentic.{AreAcceptedOnce, OfferIsAuthentic, NotesStay}
 use Rattle.sg_gateway.proofs.laws.messages_are_accepted_once.Goals as goal
 
@@ -14,7 +13,4 @@ authentic_at w e id way noise text same =
     (sym same) (λ free. let is = offer_once w id way noise text free in (is.0, is.1, is.2, is.3, is.4))
 
 pub returns : goal.returns
-returns c = λ events.
-    All-from_recursion (λ t. OfferIsAuthentic t × NotesStay t) (turns events)
-    (every_turn Anything anything_on anything_had (λ t. Unit {0}) (λ t. OfferIsAuthentic t × NotesStay t) (λ past w e kept u. (authentic_at w e, event_stays w e))
-    events (each_of (λ t. Unit {0}) (λ t. tt) (turns events)))
+returns c = at_each_turn (λ t. OfferIsAuthentic t × NotesStay t) (λ past w e kept. (authentic_at w e, (event_grows w kept.ring e).noted))

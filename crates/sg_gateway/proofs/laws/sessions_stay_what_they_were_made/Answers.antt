@@ -1,10 +1,7 @@
 use Rattle.std.proofs.Common.{◌≡◌, Some, sym, subst}
-use Rattle.std.proofs.lemmas.List.Elements.{All-from_recursion}
-use Rattle.std.specs.List.{All}
-use Rattle.sg_gateway.proofs.Common.{Event, World, call_of, each_of, step, turn_of, turns}
-use Rattle.sg_gateway.proofs.Datagrams.{every_turn}
+use Rattle.sg_gateway.proofs.Common.{All, All-from_recursion, Event, World, call_of, step, turn_of}
 use Rattle.sg_gateway.proofs.Lasting.{manual_told, sessions_last}
-use Rattle.sg_gateway.proofs.Reached.{Anything, anything_on, anything_had}
+use Rattle.sg_gateway.proofs.Reached.{at_each_turn}
 use Rattle.sg_gateway.specs.Lasting.{ManualIsAsTold, IsOfManual}
 use Rattle.sg_gateway.proofs.laws.sessions_stay_what_they_were_made.Goals as goal
 
@@ -16,6 +13,4 @@ manual_at w e h d same none =
     subst (λ (e : Event). call_of (step w e).world h.id ≡ Some d → All (IsOfManual h) d.sessions) (sym same) (λ is. All-from_recursion (IsOfManual h) d.sessions (manual_told h w none d is))
 
 pub returns-clause-manual : goal.returns-clause-manual
-returns-clause-manual c = λ events.
-    All-from_recursion ManualIsAsTold (turns events)
-    (every_turn Anything anything_on anything_had (λ t. Unit {0}) ManualIsAsTold (λ past w e kept u. manual_at w e) events (each_of (λ t. Unit {0}) (λ t. tt) (turns events)))
+returns-clause-manual c = at_each_turn ManualIsAsTold (λ past w e kept. manual_at w e)

@@ -1,9 +1,7 @@
 use Rattle.std.proofs.Common.{◌≡◌, [], ◌∷◌, Some, sym, subst}
-use Rattle.std.proofs.lemmas.List.Elements.{All-from_recursion}
 use Rattle.sg_outcome.specs.declared.outcomes.Outcome.TheVariants.{Made, Live, Sdp}
-use Rattle.sg_gateway.proofs.Common.{Call, Event, World, call_of, each_of, new_call, other_side, side_of, step, turn_of, turns}
-use Rattle.sg_gateway.proofs.Datagrams.{every_turn}
-use Rattle.sg_gateway.proofs.Reached.{Anything, anything_on, anything_had}
+use Rattle.sg_gateway.proofs.Common.{Call, Event, World, call_of, new_call, other_side, side_of, step, turn_of}
+use Rattle.sg_gateway.proofs.Reached.{at_each_turn}
 use Rattle.sg_gateway.proofs.Taken.{new_offer_taken, later_offer_taken, manual_call_taken}
 use Rattle.sg_gateway.specs.Taken.{HasOpen, NewOfferIsTaken, LaterOfferIsTaken, ManualCallIsTaken}
 use Rattle.sg_gateway.proofs.laws.signals_are_taken.Goals as goal
@@ -19,10 +17,7 @@ offers_at w e = (
 )
 
 pub returns-clause-offers : goal.returns-clause-offers
-returns-clause-offers c = λ events.
-    All-from_recursion (λ t. NewOfferIsTaken t × LaterOfferIsTaken t) (turns events)
-    (every_turn Anything anything_on anything_had (λ t. Unit {0}) (λ t. NewOfferIsTaken t × LaterOfferIsTaken t) (λ past w e kept u. offers_at w e)
-    events (each_of (λ t. Unit {0}) (λ t. tt) (turns events)))
+returns-clause-offers c = at_each_turn (λ t. NewOfferIsTaken t × LaterOfferIsTaken t) (λ past w e kept. offers_at w e)
 
 manual_at : (w : World) (e : Event) → ManualCallIsTaken (turn_of w e)
 manual_at w e h g same none room agreed =
@@ -31,7 +26,4 @@ manual_at w e h g same none room agreed =
     (sym same) (manual_call_taken w h g none room agreed)
 
 pub returns-clause-manual : goal.returns-clause-manual
-returns-clause-manual c = λ events.
-    All-from_recursion ManualCallIsTaken (turns events)
-    (every_turn Anything anything_on anything_had (λ t. Unit {0}) ManualCallIsTaken (λ past w e kept u. manual_at w e)
-    events (each_of (λ t. Unit {0}) (λ t. tt) (turns events)))
+returns-clause-manual c = at_each_turn ManualCallIsTaken (λ past w e kept. manual_at w e)

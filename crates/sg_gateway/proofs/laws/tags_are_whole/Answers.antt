@@ -1,5 +1,4 @@
-use Rattle.std.proofs.lemmas.List.Elements.{All-from_recursion}
-use Rattle.sg_gateway.proofs.Common.{each_of, empty, journal, turns, world_after}
+use Rattle.sg_gateway.proofs.Common.{All-from_recursion, each_of, empty, journal, turns, world_after}
 use Rattle.sg_gateway.proofs.Datagrams.{every_turn, journal_kept}
 use Rattle.sg_gateway.proofs.WholeTags.{all_whole, whole_at, whole_on}
 use Rattle.sg_gateway.specs.Tags.{HasWholeTags, HaveWholeTags}

@@ -1,11 +1,9 @@
 use Rattle.std.proofs.Common.{◌≡◌, ◌+◌, Some, Ok, sym, subst}
-use Rattle.std.proofs.lemmas.List.Elements.{All-from_recursion}
-use Rattle.sg_gateway.proofs.Common.{Call, Event, IsRefused, Offer, World, call_of, description_of, each_of, each_weaker, side_of, step, turn_of, turns}
+use Rattle.sg_gateway.proofs.Common.{Call, Event, IsRefused, Offer, World, call_of, description_of, each_weaker, side_of, step, turn_of}
 use Rattle.sg_gateway.proofs.Addressed.{AreAddressed, answer_addresses}
 use Rattle.sg_gateway.proofs.Authentic.{offer_once}
-use Rattle.sg_gateway.proofs.Datagrams.{every_turn}
 use Rattle.sg_gateway.proofs.Kept.{IsOffered}
-use Rattle.sg_gateway.proofs.Reached.{Anything, anything_on, anything_had}
+use Rattle.sg_gateway.proofs.Reached.{at_each_turn}
 use Rattle.sg_gateway.specs.Addressed.{OfferIsItsText, AnswerHasAddresses}
 use Rattle.sg_gateway.proofs.laws.texts_tell_addresses.Goals as goal
 
@@ -16,14 +14,9 @@ text_at w e id way noise text same =
     (sym same) (λ free. let is = offer_once w id way noise text free in (is.0, is.1, is.2, is.3, is.5.0, is.5.1))
 
 pub returns-clause-offers : goal.returns-clause-offers
-returns-clause-offers c = λ events.
-    All-from_recursion OfferIsItsText (turns events)
-    (every_turn Anything anything_on anything_had (λ t. Unit {0}) OfferIsItsText (λ past w e kept u. text_at w e) events (each_of (λ t. Unit {0}) (λ t. tt) (turns events)))
+returns-clause-offers c = at_each_turn OfferIsItsText (λ past w e kept. text_at w e)
 
 pub returns-clause-answers : goal.returns-clause-answers
-returns-clause-answers c = λ events.
-    All-from_recursion AnswerHasAddresses (turns events)
-    (every_turn Anything anything_on anything_had (λ t. Unit {0}) AnswerHasAddresses
-    (λ past w e kept u id noise text call d o same is open_one. subst (λ (e : Event). call_of (step w e).world id ≡ Some d → d.generations ≡ call.generations + 1 → AreAddressed o text d) (sym same)
+returns-clause-answers c =
+    at_each_turn AnswerHasAddresses (λ past w e kept id noise text call d o same is open_one. subst (λ (e : Event). call_of (step w e).world id ≡ Some d → d.generations ≡ call.generations + 1 → AreAddressed o text d) (sym same)
     (answer_addresses w (each_weaker _ (λ c. IsOffered c.offer) (λ c k. k.offered) w.calls kept.calls) id noise text call o is open_one d))
-    events (each_of (λ t. Unit {0}) (λ t. tt) (turns events)))

@@ -25,8 +25,7 @@ write_marked-third-requires c =
 pub write_marked-second-requires : goal.write_marked-second-requires
 write_marked-second-requires c =
     let short : length (decimal c.from.result) ≤ 5 = length-decimal-le 5 c.from.result (omega arith) (omega arith) (omega arith) in
-    let starts = c.write_marked-third.ensures.start in
-    (omega (arith, short, c.write_digits-port.ensures.start, c.write_marked-fourth.ensures.start, starts), omega arith)
+    (omega (arith, short, c.write_digits-port.ensures.start, c.write_marked-fourth.ensures.start, c.write_marked-third.ensures.start), omega arith)
 
 pub write_marked-requires : goal.write_marked-requires
 write_marked-requires c =

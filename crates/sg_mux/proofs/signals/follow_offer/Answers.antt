@@ -1,6 +1,6 @@
 use Rattle.std.proofs.Common.{◌≡◌, List, Option, sym, ◌∙◌, subst}
 use Rattle.std.specs.Prelude.{OnOk}
-use Rattle.sg_mux.proofs.Noted.{no_text}
+use Rattle.sg_mux.proofs.Vias.{no_text}
 use Rattle.sg_mux.specs.Texts.{no_marks, offers_mux}
 use Rattle.sg_mux.specs.declared.known.Known.{Known}
 use Rattle.sg_mux.proofs.signals.follow_offer.Goals as goal

@@ -1,12 +1,8 @@
 use Rattle.std.proofs.Common.{◌≡◌, [], Err, ap, false, true}
-use Rattle.sg_front.specs.States.{start}
+use Rattle.sg_playback.proofs.Common.{before_kept, ended_passed, failed_as, loop_passed, noise_passed, of_replay, passed_so, start, text_from, write_passed}
 use Rattle.sg_playback.proofs.Completes.{complete, untouched}
 use Rattle.sg_playback.proofs.Lines.{err_so}
 use Rattle.sg_playback.proofs.Replays.{ends_so}
-use Rattle.sg_playback.specs.Playing.{text_from}
-use Rattle.sg_playback.specs.Replay.{of_replay}
-use Rattle.sg_trace.proofs.Causes.{failed_as}
-use Rattle.sg_trace.proofs.PassedOn.{before_kept, ended_passed, loop_passed, noise_passed, passed_so, write_passed}
 use Rattle.sg_playback.proofs.replaying.replay.Goals as goal
 
 pub returns-in-Err-clause-ran : goal.returns-in-Err-clause-ran

@@ -1,6 +1,4 @@
-use Rattle.std.proofs.Common.{◌≡◌, ◌∙◌, ◌++◌, List, ℕ, take, sym, ap}
-use Rattle.std.proofs.lemmas.List.{take_all}
-use Rattle.std.specs.List.{flat_map}
+use Rattle.std.proofs.Common.{◌≡◌, ◌∙◌, ◌++◌, List, ℕ, take, sym, ap, take_all, flat_map}
 use Rattle.sg_playback.proofs.Tells.{text_at, text_of_ends}
 use Rattle.sg_playback.proofs.writing.add_lines.Goals as goal
 

@@ -1,5 +1,4 @@
-use Rattle.std.proofs.Common.{take, ◌≡◌, ◌++◌}
-use Rattle.std.specs.List.{flat_map}
+use Rattle.std.proofs.Common.{take, ◌≡◌, ◌++◌, flat_map}
 use Rattle.sg_playback.proofs.Tells.{text_at}
 use Rattle.sg_playback.proofs.writing.add_lines.Given as goal
 

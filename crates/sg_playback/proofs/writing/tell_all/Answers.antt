@@ -1,9 +1,5 @@
-use Rattle.std.proofs.Common.{◌≡◌, ◌∙◌, take, subst, ap}
-use Rattle.std.proofs.lemmas.List.{take_all}
-use Rattle.std.specs.List.{flat_map}
-use Rattle.sg_trace.proofs.Causes.{failed_now}
-use Rattle.sg_edge.specs.Told.{Wrote}
-use Rattle.sg_outcome.specs.OutcomeText.{outcome_line}
+use Rattle.std.proofs.Common.{◌≡◌, ◌∙◌, take, subst, ap, take_all, flat_map}
+use Rattle.sg_playback.proofs.Common.{Wrote, failed_now, outcome_line}
 use Rattle.sg_playback.proofs.Tells.{more_written, part_written}
 use Rattle.sg_playback.proofs.writing.tell_all.Goals as goal
 

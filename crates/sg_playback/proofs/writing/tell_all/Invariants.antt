@@ -1,7 +1,5 @@
-use Rattle.std.proofs.Common.{take, ◌≡◌}
-use Rattle.std.specs.List.{flat_map}
-use Rattle.sg_edge.specs.Told.{Wrote}
-use Rattle.sg_outcome.specs.OutcomeText.{outcome_line}
+use Rattle.std.proofs.Common.{take, ◌≡◌, flat_map}
+use Rattle.sg_playback.proofs.Common.{Wrote, outcome_line}
 use Rattle.sg_playback.proofs.writing.tell_all.Given as goal
 
 abbrev pub invariant-loop-outcome : goal.invariant-loop-outcome

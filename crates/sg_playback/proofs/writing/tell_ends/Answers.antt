@@ -1,6 +1,5 @@
 use Rattle.std.proofs.Common.{rules, ◌≡◌, ◌∙◌, ◌++◌, ℕ, List, ap, subst}
-use Rattle.sg_table.specs.Batches.{told_of}
-use Rattle.sg_trace.specs.Output.{IsWritten, text}
+use Rattle.sg_playback.proofs.Common.{IsWritten, text, told_of}
 use Rattle.sg_playback.proofs.writing.tell_ends.Goals as goal
 
 pub returns-in-Ok-clause-told : goal.returns-in-Ok-clause-told

@@ -1,11 +1,5 @@
-use Rattle.std.proofs.Common.{rules, ◌≡◌, ◌+◌, ℕ, List, [], ◌∷◌, ◌++◌, map, take, drop, refl, sym, ap, subst, ◌∙◌, take-append-drop}
-use Rattle.std.proofs.lemmas.List.{map-append, take_all}
-use Rattle.std.specs.Prelude.{Ok, Err}
-use Rattle.sg_edge.proofs.Links.{called_more, called_none}
-use Rattle.sg_edge.proofs.Passed.{wrote_more, wrote_none}
-use Rattle.sg_outcome.specs.declared.outcomes.Outcome.{Outcome}
-use Rattle.sg_relay.specs.Asked.{Act, act_of}
-use Rattle.sg_relay.specs.Parts.{AreCarriedOut}
+use Rattle.std.proofs.Common.{rules, ◌≡◌, ◌+◌, ℕ, List, [], ◌∷◌, ◌++◌, map, take, drop, refl, sym, ap, subst, ◌∙◌, take-append-drop, Ok, Err}
+use Rattle.sg_relay.proofs.Common.{Act, AreCarriedOut, Outcome, act_of, called_more, called_none, map-append, take_all, wrote_more, wrote_none}
 use Rattle.sg_relay.proofs.Deeds.{done_none, next_told, told_longer, told_more}
 use Rattle.sg_relay.proofs.carrying_out.carry_out_all.Goals as goal
 

@@ -1,8 +1,5 @@
 use Rattle.std.proofs.Common.{◌≡◌, List, ℕ, map, take, Ok}
-use Rattle.sg_edge.specs.Links.{Called, LinkCall}
-use Rattle.sg_edge.specs.Told.{Wrote}
-use Rattle.sg_relay.specs.Asked.{act_of}
-use Rattle.sg_relay.specs.Parts.{AreCarriedOut}
+use Rattle.sg_relay.proofs.Common.{AreCarriedOut, Called, LinkCall, Wrote, act_of}
 use Rattle.sg_relay.proofs.carrying_out.carry_out_all.Given as goal
 
 abbrev pub invariant-loop-outcome : goal.invariant-loop-outcome

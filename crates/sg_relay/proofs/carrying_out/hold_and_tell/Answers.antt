@@ -1,9 +1,5 @@
-use Rattle.std.proofs.Common.{refl, sym, subst, [], ◌∷◌}
-use Rattle.std.specs.Prelude.{Err}
-use Rattle.sg_edge.proofs.Passed.{wrote_none}
-use Rattle.sg_trace.specs.declared.status.Status.TheVariants.{Link, Write}
-use Rattle.sg_relay.specs.Asked.{Act}
-use Rattle.sg_relay.specs.Parts.{AreCarriedOut}
+use Rattle.std.proofs.Common.{refl, sym, subst, [], ◌∷◌, Err}
+use Rattle.sg_relay.proofs.Common.{Act, AreCarriedOut, Link, Write, wrote_none}
 use Rattle.sg_relay.proofs.Blames.{due_so, written_link, written_only}
 use Rattle.sg_relay.proofs.Deeds.{line_so, told_held, told_unheld}
 use Rattle.sg_relay.proofs.carrying_out.hold_and_tell.Goals as goal

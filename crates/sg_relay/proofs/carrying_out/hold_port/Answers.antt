@@ -1,8 +1,6 @@
-use Rattle.std.proofs.Common.{[], ◌∷◌, refl, sym, subst, true, false}
-use Rattle.std.specs.Prelude.{is_ok}
+use Rattle.std.proofs.Common.{[], ◌∷◌, refl, sym, subst, true, false, is_ok}
 use Rattle.sg_edge.specs.Links.{Bind, Unbind}
-use Rattle.sg_relay.specs.Asked.{hold}
-use Rattle.sg_relay.specs.Parts.{IsHeld}
+use Rattle.sg_relay.proofs.Common.{IsHeld, hold}
 use Rattle.sg_relay.proofs.Deeds.{held_one}
 use Rattle.sg_relay.proofs.carrying_out.hold_port.Goals as goal
 

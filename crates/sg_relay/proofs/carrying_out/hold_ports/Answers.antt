@@ -1,7 +1,5 @@
 use Rattle.std.proofs.Common.{◌+◌, ◌*◌, ℕ, List, [], ◌∷◌, ◌++◌, map, refl, ap, subst, arith, ◌∙◌, Ok, Err}
-use Rattle.sg_edge.proofs.Links.{called_more}
-use Rattle.sg_relay.specs.Asked.{Ask, hold, ports_from}
-use Rattle.sg_relay.specs.Parts.{IsHeld}
+use Rattle.sg_relay.proofs.Common.{Ask, IsHeld, called_more, hold, ports_from}
 use Rattle.sg_relay.proofs.Deeds.{asks_in_all, asks_so_far, held_longer, held_more}
 use Rattle.sg_relay.proofs.carrying_out.hold_ports.Goals as goal
 

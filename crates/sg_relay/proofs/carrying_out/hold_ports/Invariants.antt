@@ -1,7 +1,5 @@
 use Rattle.std.proofs.Common.{◌≡◌, List, map, Ok}
-use Rattle.sg_edge.specs.Links.{Called, LinkCall}
-use Rattle.sg_relay.specs.Asked.{hold, ports_from}
-use Rattle.sg_relay.specs.Parts.{IsHeld}
+use Rattle.sg_relay.proofs.Common.{Called, IsHeld, LinkCall, hold, ports_from}
 use Rattle.sg_relay.proofs.carrying_out.hold_ports.Given as goal
 
 abbrev pub invariant-loop-i : goal.invariant-loop-i

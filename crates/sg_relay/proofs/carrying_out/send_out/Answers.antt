@@ -1,8 +1,6 @@
 use Rattle.std.proofs.Common.{[], ◌∷◌, refl, true, false}
 use Rattle.sg_edge.specs.Links.{Send}
-use Rattle.sg_edge.proofs.Passed.{wrote_none}
-use Rattle.sg_trace.specs.declared.status.Status.TheVariants.{Write}
-use Rattle.sg_relay.specs.Asked.{Sends}
+use Rattle.sg_relay.proofs.Common.{Sends, Write, wrote_none}
 use Rattle.sg_relay.proofs.Blames.{due_so, written_link, written_only}
 use Rattle.sg_relay.proofs.Deeds.{line_so, told_unsent}
 use Rattle.sg_relay.proofs.carrying_out.send_out.Goals as goal

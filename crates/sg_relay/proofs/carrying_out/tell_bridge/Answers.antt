@@ -1,10 +1,5 @@
-use Rattle.std.proofs.Common.{◌∷◌, [], refl, sym, subst, inr, ◌∙◌}
-use Rattle.std.specs.Prelude.{Err}
-use Rattle.sg_edge.proofs.Passed.{wrote_none}
-use Rattle.sg_trace.specs.Output.{IsWritten}
-use Rattle.sg_trace.specs.declared.status.Status.TheVariants.{NoMemory, Write}
-use Rattle.sg_relay.specs.Asked.{Act}
-use Rattle.sg_relay.specs.Parts.{AreCarriedOut}
+use Rattle.std.proofs.Common.{◌∷◌, [], refl, sym, subst, inr, ◌∙◌, Err}
+use Rattle.sg_relay.proofs.Common.{Act, AreCarriedOut, IsWritten, NoMemory, Write, wrote_none}
 use Rattle.sg_relay.proofs.Blames.{due_so}
 use Rattle.sg_relay.proofs.Deeds.{line_so, told_held}
 use Rattle.sg_relay.proofs.carrying_out.tell_bridge.Goals as goal

@@ -1,10 +1,7 @@
 use Rattle.std.proofs.Common.{List, ℕ, [], Ok, Err, sym, ap, refl, subst, ◌∙◌}
-use Rattle.sg_edge.proofs.Links.{added_none, called_none}
-use Rattle.sg_edge.proofs.Passed.{wrote_none}
-use Rattle.sg_gateway.specs.Events.{events_of_signal}
 use Rattle.sg_lines.specs.declared.lines.Line.TheVariants as lines
-use Rattle.sg_relay.specs.Parts.{AreHandled}
 use Rattle.sg_relay.specs.Plain.{arrives, gives_by}
+use Rattle.sg_relay.proofs.Common.{AreHandled, added_none, called_none, events_of_signal, wrote_none}
 use Rattle.sg_relay.proofs.Deeds.{done_none}
 use Rattle.sg_relay.proofs.Gives.{given_so, gives_datagram, gives_header, gives_signal, unsupplied}
 use Rattle.sg_relay.proofs.Waits.{done_nothing}

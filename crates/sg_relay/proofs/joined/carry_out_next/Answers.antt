@@ -1,12 +1,5 @@
-use Rattle.std.proofs.Common.{[], ◌∷◌, ◌++◌, Option, sym, subst, ◌∙◌}
-use Rattle.std.specs.Prelude.{option_to_list}
-use Rattle.sg_bridge.specs.Pairs.{after_outcome}
-use Rattle.sg_bridge.specs.declared.outcomes.BridgeOutcome.{BridgeOutcome}
-use Rattle.sg_edge.proofs.Links.{called_more}
-use Rattle.sg_edge.proofs.Passed.{wrote_more}
-use Rattle.sg_relay.specs.Asked.{act_of}
-use Rattle.sg_relay.specs.Joined.{act_of_bridge, acts_of_all}
-use Rattle.sg_relay.specs.Parts.{AreCarriedOut}
+use Rattle.std.proofs.Common.{[], ◌∷◌, ◌++◌, Option, sym, subst, ◌∙◌, option_to_list}
+use Rattle.sg_relay.proofs.Common.{AreCarriedOut, BridgeOutcome, act_of, act_of_bridge, acts_of_all, after_outcome, called_more, wrote_more}
 use Rattle.sg_relay.proofs.Deeds.{told_longer, told_more}
 use Rattle.sg_relay.proofs.joined.carry_out_next.Goals as goal
 

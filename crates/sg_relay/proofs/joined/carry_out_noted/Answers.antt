@@ -1,18 +1,9 @@
-use Rattle.std.proofs.Common.{◌≡◌, ℕ, List, [], ◌++◌, take, refl, sym, ap, subst, ◌∙◌}
-use Rattle.std.proofs.lemmas.List.{map-append, take_all}
-use Rattle.std.specs.Prelude.{Ok, Err}
-use Rattle.sg_bridge.specs.Bridged.{Following, told_and_parted}
-use Rattle.sg_bridge.specs.Pairs.{Members, after_outcome}
-use Rattle.sg_edge.proofs.Links.{called_more, called_none}
-use Rattle.sg_edge.proofs.Passed.{wrote_more, wrote_none}
-use Rattle.sg_outcome.specs.declared.outcomes.Outcome.{Outcome}
-use Rattle.sg_relay.specs.Asked.{Act}
-use Rattle.sg_relay.specs.Joined.{act_of_bridge, acts_next, acts_of_all}
-use Rattle.sg_relay.specs.Parts.{AreCarriedOut}
+use Rattle.std.proofs.Common.{◌≡◌, ℕ, List, [], ◌++◌, take, refl, sym, ap, subst, ◌∙◌, Ok, Err}
+use Rattle.sg_relay.proofs.Common.{Act, AreCarriedOut, Following, Members, Outcome, SwitchboardValue, act_of_bridge, acts_next, acts_of_all, after_outcome}
+use Rattle.sg_relay.proofs.Common.{all_told, called_more, called_none, map-append, more_calls, more_told, take_all, told_and_parted, told_next, wrote_more}
+use Rattle.sg_relay.proofs.Common.{wrote_none}
 use Rattle.sg_relay.proofs.Deeds.{done_none, told_longer, told_more}
 use Rattle.sg_relay.proofs.joined.carry_out_noted.Goals as goal
-use Rattle.sg_switchboard.proofs.Noted.{all_told, more_calls, more_told}
-use Rattle.sg_switchboard.specs.Switching.{SwitchboardValue, told_next}
 
 pub loop-outcome-init : goal.loop-outcome-init
 loop-outcome-init g c = (([], [], called_none _, wrote_none _, (done_none, tt, refl)), refl, refl, refl)

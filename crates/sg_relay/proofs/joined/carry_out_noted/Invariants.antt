@@ -1,9 +1,5 @@
 use Rattle.std.proofs.Common.{◌≡◌, List, ℕ, take, Ok}
-use Rattle.sg_bridge.specs.Bridged.{told_and_parted}
-use Rattle.sg_edge.specs.Links.{Called, LinkCall}
-use Rattle.sg_edge.specs.Told.{Wrote}
-use Rattle.sg_relay.specs.Joined.{acts_of_all}
-use Rattle.sg_relay.specs.Parts.{AreCarriedOut}
+use Rattle.sg_relay.proofs.Common.{AreCarriedOut, Called, LinkCall, Wrote, acts_of_all, told_and_parted}
 use Rattle.sg_relay.proofs.joined.carry_out_noted.Given as goal
 
 abbrev pub invariant-loop-outcome : goal.invariant-loop-outcome

@@ -1,8 +1,6 @@
 use Rattle.std.proofs.Common.{[], ◌∷◌, sym, subst}
-use Rattle.sg_relay.specs.Joined.{act_of_bridge}
-use Rattle.sg_relay.specs.Parts.{AreCarriedOut}
+use Rattle.sg_relay.proofs.Common.{AreCarriedOut, act_of_bridge, outcome_by}
 use Rattle.sg_relay.proofs.joined.put_out.Goals as goal
-use Rattle.sg_switchboard.specs.Switching.{outcome_by}
 use Rattle.sg_switchboard.specs.declared.switched.SwitchedEnd.{SwitchedEnd}
 
 pub returns-in-Lost-clause-done : goal.returns-in-Lost-clause-done

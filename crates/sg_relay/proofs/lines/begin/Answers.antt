@@ -1,8 +1,5 @@
-use Rattle.std.proofs.Common.{ℕ, [], ◌∷◌, refl, subst}
-use Rattle.std.specs.Prelude.{Ok, Err}
-use Rattle.sg_trace.specs.Trace.{moment_of}
-use Rattle.sg_relay.specs.Parts.{AreHandled}
-use Rattle.sg_relay.specs.Weaving.{weaves_of}
+use Rattle.std.proofs.Common.{ℕ, [], ◌∷◌, refl, subst, Ok, Err}
+use Rattle.sg_relay.proofs.Common.{AreHandled, moment_of, weaves_of}
 use Rattle.sg_relay.proofs.Says.{cut_begun}
 use Rattle.sg_relay.proofs.lines.begin.Goals as goal
 

@@ -1,8 +1,6 @@
 use Rattle.std.proofs.Common.{map, [], ap, sym}
-use Rattle.sg_front.proofs.Runs.{told_in}
-use Rattle.sg_front.specs.States.{start}
-use Rattle.sg_relay.specs.Asked.{act_of}
 use Rattle.sg_relay.specs.Plain.{acting, acts, weaves, world}
+use Rattle.sg_relay.proofs.Common.{act_of, start, told_in}
 use Rattle.sg_relay.proofs.Holds.{has_passed, nothing_passed}
 use Rattle.sg_relay.proofs.relaying.relay.Goals as goal
 

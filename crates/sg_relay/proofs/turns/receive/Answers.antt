@@ -1,9 +1,5 @@
-use Rattle.std.proofs.Common.{[], ◌∷◌, subst, refl, inl}
-use Rattle.std.specs.Prelude.{Ok}
-use Rattle.sg_edge.specs.Links.{Called, Came, Failing, Nothing, Receive, received}
-use Rattle.sg_edge.proofs.Links.{called_more}
-use Rattle.sg_edge.proofs.Passed.{wrote_none}
-use Rattle.sg_relay.specs.Weaving.{arrivals_of, weaves_of}
+use Rattle.std.proofs.Common.{[], ◌∷◌, subst, refl, inl, Ok}
+use Rattle.sg_relay.proofs.Common.{Called, Came, Failing, Nothing, Receive, arrivals_of, called_more, received, weaves_of, wrote_none}
 use Rattle.sg_relay.proofs.Deeds.{handled_none}
 use Rattle.sg_relay.proofs.Waits.{received_more, received_nothing}
 use Rattle.sg_relay.proofs.turns.receive.Goals as goal

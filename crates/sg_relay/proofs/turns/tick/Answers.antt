@@ -1,9 +1,5 @@
-use Rattle.std.proofs.Common.{[], subst, sym, arith}
-use Rattle.std.specs.Prelude.{Ok}
-use Rattle.std.proofs.lemmas.Bool.{cond-false, cond-true, le-ltb, lt-ltb}
-use Rattle.sg_edge.proofs.Links.{called_none}
-use Rattle.sg_edge.proofs.Passed.{wrote_none}
-use Rattle.sg_relay.specs.Parts.{AreHandled}
+use Rattle.std.proofs.Common.{[], subst, sym, arith, Ok}
+use Rattle.sg_relay.proofs.Common.{AreHandled, called_none, cond-false, cond-true, le-ltb, lt-ltb, wrote_none}
 use Rattle.sg_relay.proofs.Waits.{handled_nothing}
 use Rattle.sg_relay.proofs.turns.tick.Goals as goal
 

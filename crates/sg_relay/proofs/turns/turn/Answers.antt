@@ -1,10 +1,5 @@
-use Rattle.std.proofs.Common.{◌≤◌, ℕ, List, [], ◌∷◌, ◌++◌, length, max, refl, sym, ap, subst, ◌∙◌, arith}
-use Rattle.std.specs.Prelude.{Ok}
-use Rattle.sg_edge.specs.Links.{Received}
-use Rattle.sg_edge.proofs.Links.{called_more}
-use Rattle.sg_edge.proofs.Passed.{wrote_more}
-use Rattle.sg_relay.specs.Parts.{AreHandled, IsTurn, StopsWith}
-use Rattle.sg_relay.specs.Weaving.{ticks_at, ticks_of, weaves_of}
+use Rattle.std.proofs.Common.{◌≤◌, ℕ, List, [], ◌∷◌, ◌++◌, length, max, refl, sym, ap, subst, ◌∙◌, arith, Ok}
+use Rattle.sg_relay.proofs.Common.{AreHandled, IsTurn, Received, StopsWith, called_more, ticks_at, ticks_of, weaves_of, wrote_more}
 use Rattle.sg_relay.proofs.Order.{ticked_order, turn_order}
 use Rattle.sg_relay.proofs.Waits.{cut_received, cut_turn, turn_done}
 use Rattle.sg_relay.proofs.turns.turn.Goals as goal

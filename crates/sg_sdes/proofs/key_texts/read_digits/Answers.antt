@@ -10,8 +10,7 @@ returns-in_default c = absurd (c.in_default.ensures.cases.0 (text_is c.args.text
 pub returns : goal.returns
 returns c =
     let all = sym c.if-not-are_digits.ensures in
-    let other = eqb-false (length c.args.text.now) 0 (sym c.if-is_empty.ensures) in
-    let some : 0 < length c.args.text.now = grind (arith, other) in
+    let some : 0 < length c.args.text.now = grind (arith, eqb-false (length c.args.text.now) 0 (sym c.if-is_empty.ensures)) in
     let text = c.in-Ok.ensures.cases.0 in
     c.ok.ensures.value
     ∙ ap result_ok (parsed c.args.text.now c.parse.result (rw text at c.parse.ensures.value.0) all some c.if-text-gt-DIGITS_MOST.false)

@@ -1,4 +1,4 @@
-use Rattle.sg_sdes.proofs.AgainLaws.{crypto_again}
+use Rattle.sg_sdes.proofs.LineGrammar.{crypto_again}
 use Rattle.sg_sdes.proofs.ValidLaws.{crypto_valid}
 use Rattle.sg_sdes.proofs.laws.crypto_lines_are_read_again.Goals as goal
 

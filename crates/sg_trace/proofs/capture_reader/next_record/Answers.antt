@@ -1,7 +1,5 @@
 use Rattle.std.proofs.Common.{rules, ◌≡◌, ◌∙◌, ◌≤◌, ◌++◌, ap, sym, length, length-append, arith}
-use Rattle.sg_edge.proofs.Passed.{took_more}
-use Rattle.sg_pcap.proofs.Captures.{length_front, length_least}
-use Rattle.sg_pcap.specs.Records.{record_length}
+use Rattle.sg_trace.proofs.Common.{length_front, length_least, record_length, took_more}
 use Rattle.sg_trace.proofs.CaptureReads.{length_most, moves_of, record_so}
 use Rattle.sg_trace.proofs.capture_reader.next_record.Goals as goal
 

@@ -1,8 +1,5 @@
 use Rattle.std.proofs.Common.{◌≡◌, ◌∙◌, ◌-◌, [], ◌++◌, arith, sym, ap, refl, subst, inl, inr, ◌<◌, length, length-append}
-use Rattle.std.proofs.lemmas.Bool.Decides.{nat_tests}
-use Rattle.sg_edge.proofs.Passed.{took_more}
-use Rattle.sg_lines.specs.ScriptLines.{NoEnd, IsWhole}
-use Rattle.sg_trace.specs.Fed.{EndsLine}
+use Rattle.sg_trace.proofs.Common.{EndsLine, IsWhole, NoEnd, nat_tests, took_more}
 use Rattle.sg_trace.proofs.ReadBuffers.{NoEnd-append, IsWhole-append, filled, moved}
 use Rattle.sg_trace.proofs.line_reader.next_line.Goals as goal
 

@@ -1,6 +1,5 @@
 use Rattle.std.proofs.Common.{◌≡◌, ◌≤◌, ◌-◌, ◌++◌, ◌+◌, length, List, ℕ, vec_len}
-use Rattle.sg_edge.specs.Told.{TookIn}
-use Rattle.sg_lines.specs.ScriptLines.{NoEnd}
+use Rattle.sg_trace.proofs.Common.{NoEnd, TookIn}
 use Rattle.sg_trace.proofs.line_reader.next_line.Given as goal
 
 abbrev pub invariant-loop-read_buffer : goal.invariant-loop-read_buffer

@@ -1,6 +1,5 @@
 use Rattle.std.proofs.Common.{◌≡◌, ◌≤◌, ◌-◌, ◌+◌, length, List, ℕ, max, vec_len}
-use Rattle.sg_edge.specs.Told.{TookIn}
-use Rattle.sg_trace.specs.CaptureReading.{Moves}
+use Rattle.sg_trace.proofs.Common.{Moves, TookIn}
 use Rattle.sg_trace.proofs.part_reader.next_part.Given as goal
 
 abbrev pub invariant-loop-read_buffer : goal.invariant-loop-read_buffer

@@ -1,5 +1,4 @@
-use Rattle.std.proofs.Common.{[], sym, subst}
-use Rattle.std.proofs.lemmas.List.{append-nil}
+use Rattle.std.proofs.Common.{[], sym, subst, append-nil}
 use Rattle.sg_edge.specs.Told.{Tally, Wrote}
 use Rattle.sg_trace.proofs.passing_on.write_at_once.Goals as goal
 

@@ -1,14 +1,11 @@
 use Rattle.std.proofs.Common.{rules, ◌≡◌, ◌⊎◌, ◌≤◌, ℕ, List, [], ◌++◌, length, None, IfSome, Ok, Err, refl, sym, ap, ◌∙◌, subst, inl, inr, arith, length-append}
-use Rattle.sg_edge.proofs.Passed.{took_none}
+use Rattle.sg_trace.proofs.Common.{Done, IsNextBy, IsReadBy, Noise, Read, Reading, Write, took_none, ways_of}
 use Rattle.sg_trace.proofs.Causes.{failed_as, failed_now, not_failed, ok_not}
 use Rattle.sg_trace.proofs.Ends.{closes_not, ended_closed, ended_quiet, next_isnt, played_not_read}
 use Rattle.sg_trace.proofs.Loops.{begins, goes_on, near_by}
 use Rattle.sg_trace.proofs.PassedOn.{behind_kept, nothing_kept, write_not}
 use Rattle.sg_trace.proofs.Runs.{behind_last, cut_short, ended_in, ended_so, ended_whole, err_so, none_wait, settled_read, sure_read}
 use Rattle.sg_trace.proofs.Traces.{whole_some}
-use Rattle.sg_trace.specs.Loop.{ways_of}
-use Rattle.sg_trace.specs.Reading.{IsNextBy, IsReadBy, Reading}
-use Rattle.sg_trace.specs.declared.status.Status.TheVariants.{Done, Noise, Read, Write}
 use Rattle.sg_trace.proofs.playing.play_lines.Goals as goal
 
 -- ---- where what was told isn't passed on

@@ -1,5 +1,4 @@
-use Rattle.std.proofs.Common.{◌+◌, ◌^◌, length, arith}
-use Rattle.std.proofs.lemmas.Bool.{lt-ltb, le-ltb}
+use Rattle.std.proofs.Common.{◌+◌, ◌^◌, length, arith, lt-ltb, le-ltb}
 use Rattle.sg_trace.proofs.Frames.{at_far, gives_at}
 use Rattle.sg_trace.proofs.script_reader.line_at.Goals as goal
 

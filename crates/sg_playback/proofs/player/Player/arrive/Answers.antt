@@ -1,9 +1,6 @@
 use Rattle.std.proofs.Common.{[], ◌∷◌, sym, subst}
-use Rattle.sg_gateway.specs.Octets.{as_octets}
-use Rattle.sg_gateway.specs.Step.{Datagram}
-use Rattle.sg_front.specs.States.{FrontStandsFor, state_after}
+use Rattle.sg_playback.proofs.Common.{Datagram, FrontStandsFor, as_octets, state_after, waiting}
 use Rattle.sg_playback.proofs.Plays.{arrived_room, memory_only, room_cut}
-use Rattle.sg_playback.specs.Playing.{waiting}
 use Rattle.sg_playback.proofs.player.Player.arrive.Goals as goal
 
 pub returns-in-Err-clause-came : goal.returns-in-Err-clause-came

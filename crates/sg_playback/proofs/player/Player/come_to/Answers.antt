@@ -1,10 +1,7 @@
 use Rattle.std.proofs.Common.{rules, ◌≡◌, ℕ, List, [], refl, sym, subst}
-use Rattle.sg_edge.proofs.Passed.{wrote_none}
-use Rattle.sg_edge.specs.Told.{Wrote}
-use Rattle.sg_front.specs.States.{FrontStandsFor}
+use Rattle.sg_playback.proofs.Common.{FrontStandsFor, HasCome, Playing, Wrote, waiting, wrote_none}
 use Rattle.sg_playback.proofs.Alike.{quiet_alike}
 use Rattle.sg_playback.proofs.Plays.{come, none_waiting}
-use Rattle.sg_playback.specs.Playing.{HasCome, Playing, waiting}
 use Rattle.sg_playback.proofs.player.Player.come_to.Goals as goal
 
 pub returns-then-moment-now-clause-came : goal.returns-then-moment-now-clause-came

@@ -1,6 +1,6 @@
 use Rattle.std.proofs.Common.{[], refl}
 use Rattle.sg_edge.proofs.Passed.{wrote_none}
-use Rattle.sg_playback.proofs.Room.{has_room}
+use Rattle.sg_playback.proofs.Plays.{has_room}
 use Rattle.sg_playback.proofs.player.Player.make_room.Goals as goal
 
 pub returns-then-len-lt-BATCH_MOST-clause-made : goal.returns-then-len-lt-BATCH_MOST-clause-made

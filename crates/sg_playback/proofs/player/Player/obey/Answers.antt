@@ -1,13 +1,8 @@
 use Rattle.std.proofs.Common.{◌∙◌, [], ◌++◌, map, refl, ap}
-use Rattle.sg_trace.proofs.Causes.{not_failed, ok_not}
-use Rattle.sg_edge.proofs.Links.{added_none}
-use Rattle.sg_edge.proofs.Passed.{wrote_more}
 use Rattle.sg_lines.specs.declared.lines.Line.TheVariants as lines
-use Rattle.sg_front.specs.States.{FrontStandsFor, state_after}
+use Rattle.sg_playback.proofs.Common.{FrontStandsFor, added_none, arrived, not_failed, ok_not, state_after, waiting, wrote_more}
 use Rattle.sg_playback.proofs.Lines.{few_waiting}
 use Rattle.sg_playback.proofs.Plays.{cut_before, only_not, played_cut, signal_played, unsupplied, want_not}
-use Rattle.sg_playback.specs.Playing.{waiting}
-use Rattle.sg_table.specs.Batches.{arrived}
 use Rattle.sg_playback.proofs.player.Player.obey.Goals as goal
 
 pub returns-in-Err-clause-played : goal.returns-in-Err-clause-played

@@ -1,7 +1,5 @@
 use Rattle.std.proofs.Common.{[], sym, subst}
-use Rattle.sg_gateway.specs.Events.{events_of_signal}
-use Rattle.sg_front.specs.States.{FrontStandsFor, IsTold}
-use Rattle.sg_playback.specs.Playing.{Playing}
+use Rattle.sg_playback.proofs.Common.{FrontStandsFor, IsTold, Playing, events_of_signal}
 use Rattle.sg_playback.proofs.player.Player.passes_quietly.Goals as goal
 
 pub returns-in-Tick-clause-told : goal.returns-in-Tick-clause-told

@@ -1,19 +1,10 @@
-use Rattle.std.proofs.Common.{rules, ◌≡◌, ℕ, List, [], ◌∷◌, ◌++◌, Ok, Err, ◌∙◌, ap, refl, sym, subst, inl, inr}
-use Rattle.std.proofs.lemmas.List.{append-nil}
-use Rattle.sg_trace.proofs.Causes.{not_failed}
-use Rattle.sg_edge.proofs.Links.{added_none}
-use Rattle.sg_edge.proofs.Passed.{wrote_more, wrote_none}
-use Rattle.sg_gateway.specs.Octets.{as_octets}
-use Rattle.sg_gateway.specs.Signals.{Tick}
-use Rattle.sg_gateway.specs.Step.{Datagram, Signalled}
+use Rattle.std.proofs.Common.{rules, ◌≡◌, ℕ, List, [], ◌∷◌, ◌++◌, Ok, Err, ◌∙◌, ap, refl, sym, subst, inl, inr, append-nil}
 use Rattle.sg_lines.specs.declared.lines.Line.TheVariants as lines
-use Rattle.sg_front.specs.States.{FrontStandsFor, state_after}
+use Rattle.sg_playback.proofs.Common.{Datagram, FrontStandsFor, HasRoom, IsPlayed, Signalled, Tick, added_none, as_octets, effects, gives, not_failed}
+use Rattle.sg_playback.proofs.Common.{state_after, waiting, wrote_more, wrote_none}
 use Rattle.sg_playback.proofs.Alike.{same_alike}
 use Rattle.sg_playback.proofs.Lines.{few_waiting}
 use Rattle.sg_playback.proofs.Plays.{header_taken, line_arrived, line_cut, only_not, want_not}
-use Rattle.sg_playback.specs.Playing.{HasRoom, effects, waiting}
-use Rattle.sg_playback.specs.Replay.{gives}
-use Rattle.sg_trace.specs.Loop.{IsPlayed}
 use Rattle.sg_playback.proofs.player.Player.play.Goals as goal
 
 pub returns-in-Header-clause-played : goal.returns-in-Header-clause-played

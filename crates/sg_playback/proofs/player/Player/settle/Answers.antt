@@ -1,15 +1,9 @@
 use Rattle.std.proofs.Common.{rules, arith, ◌≡◌, ◌≤◌, ◌∙◌, ℕ, List, [], ◌++◌, length, map, take, drop, sym, ap, subst, Err}
 use Rattle.std.proofs.Math.Seq.{take-append_seam}
-use Rattle.std.proofs.lemmas.List.{nil_from_length}
-use Rattle.sg_edge.proofs.Passed.{wrote_none}
-use Rattle.sg_gateway.specs.Step.{Event}
-use Rattle.sg_front.specs.States.{FrontStandsFor, state_after}
+use Rattle.sg_playback.proofs.Common.{Arrival, Event, FrontStandsFor, Playing, arrived, nil_from_length, state_after, text, text_from, told_of, waiting}
+use Rattle.sg_playback.proofs.Common.{wrote_none}
 use Rattle.sg_playback.proofs.Lines.{few_waiting}
 use Rattle.sg_playback.proofs.Plays.{stepped, written_only}
-use Rattle.sg_playback.specs.Playing.{Playing, text_from, waiting}
-use Rattle.sg_table.specs.Batches.{arrived, told_of}
-use Rattle.sg_table.specs.declared.arrival.Arrival.{Arrival}
-use Rattle.sg_trace.specs.Output.{text}
 use Rattle.sg_playback.proofs.player.Player.settle.Goals as goal
 
 pub returns-then-is_empty-clause-settled : goal.returns-then-is_empty-clause-settled

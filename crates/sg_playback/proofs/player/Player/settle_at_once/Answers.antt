@@ -1,13 +1,6 @@
-use Rattle.std.proofs.Common.{◌≡◌, ◌≤◌, List, ℕ, [], length, Result, Ok, Err, IfErr, inl, sym, ◌∙◌, arith}
-use Rattle.std.proofs.lemmas.List.{append-nil}
-use Rattle.sg_front.specs.States.{State}
-use Rattle.sg_gateway.specs.Step.{Event}
+use Rattle.std.proofs.Common.{◌≡◌, ◌≤◌, List, ℕ, [], length, Result, Ok, Err, IfErr, inl, sym, ◌∙◌, arith, append-nil}
+use Rattle.sg_playback.proofs.Common.{Event, IsSettled, State, Status, Write, before_kept, effects}
 use Rattle.sg_playback.proofs.Lines.{few_waiting}
-use Rattle.sg_playback.specs.Playing.{effects}
-use Rattle.sg_trace.specs.Loop.{IsSettled}
-use Rattle.sg_trace.proofs.PassedOn.{before_kept}
-use Rattle.sg_trace.specs.declared.status.Status.{Status}
-use Rattle.sg_trace.specs.declared.status.Status.TheVariants.{Write}
 use Rattle.sg_playback.proofs.player.Player.settle_at_once.Goals as goal
 
 -- all was told, though it may not be passed on

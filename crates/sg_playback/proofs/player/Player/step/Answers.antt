@@ -1,10 +1,6 @@
 use Rattle.std.proofs.Common.{rules, ◌≡◌, true, false, [], ap, sym, subst, ◌∙◌, inr, refl}
-use Rattle.sg_trace.specs.Output.{text}
-use Rattle.sg_edge.proofs.Passed.{wrote_none}
-use Rattle.sg_gateway.specs.Events.{events_of_signal}
-use Rattle.sg_front.specs.States.{FrontStandsFor}
+use Rattle.sg_playback.proofs.Common.{FrontStandsFor, Playing, events_of_signal, text, text_from, wrote_none}
 use Rattle.sg_playback.proofs.Plays.{stepped, written_only}
-use Rattle.sg_playback.specs.Playing.{Playing, text_from}
 use Rattle.sg_playback.proofs.player.Player.step.Goals as goal
 
 pub returns-then-passes_quietly-clause-stepped : goal.returns-then-passes_quietly-clause-stepped

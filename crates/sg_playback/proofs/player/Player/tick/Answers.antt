@@ -1,10 +1,6 @@
 use Rattle.std.proofs.Common.{[], ◌∷◌, ◌++◌}
-use Rattle.sg_edge.proofs.Passed.{wrote_more}
-use Rattle.sg_gateway.specs.Signals.{Tick}
-use Rattle.sg_gateway.specs.Step.{Signalled}
-use Rattle.sg_front.specs.States.{FrontStandsFor, state_after}
+use Rattle.sg_playback.proofs.Common.{FrontStandsFor, Signalled, Tick, state_after, waiting, wrote_more}
 use Rattle.sg_playback.proofs.Plays.{room_cut, ticked}
-use Rattle.sg_playback.specs.Playing.{waiting}
 use Rattle.sg_playback.proofs.player.Player.tick.Goals as goal
 
 pub returns-in-Err-clause-ticked : goal.returns-in-Err-clause-ticked

@@ -1,9 +1,6 @@
 use Rattle.std.proofs.Common.{arith, []}
-use Rattle.std.proofs.lemmas.List.{length-map}
-use Rattle.sg_edge.proofs.Links.{added_none}
-use Rattle.sg_edge.proofs.Passed.{wrote_none}
+use Rattle.sg_playback.proofs.Common.{added_none, arrived, length-map, wrote_none}
 use Rattle.sg_playback.proofs.Lines.{line_by, none_by, on_ok}
-use Rattle.sg_table.specs.Batches.{arrived}
 use Rattle.sg_playback.proofs.playing.StaffedPlay.play.Goals as goal
 
 pub returns-in-None-clause-few : goal.returns-in-None-clause-few

@@ -1,13 +1,9 @@
 use Rattle.std.proofs.Common.{[], ◌∷◌, sym, ap, subst}
-use Rattle.sg_bridge.specs.Bridged.{Joins, Parts}
 use Rattle.sg_bridge.specs.declared.lines.BridgeLine.{BridgeLine}
-use Rattle.sg_edge.proofs.Links.{added_none}
-use Rattle.sg_relay.specs.Joined.{acting, gives}
-use Rattle.sg_relay.specs.Parts.{IsGiven}
+use Rattle.sg_relay.proofs.Common.{IsGiven, Joins, Parts, StandsFor, acting, added_none, gives}
 use Rattle.sg_relay.proofs.Gives.{given_so}
 use Rattle.sg_relay.proofs.Joins.{one_carried_out}
 use Rattle.sg_relay.proofs.joined.SwitchboardExchange.handle.Goals as goal
-use Rattle.sg_switchboard.specs.Switching.{StandsFor}
 
 pub returns-in-Script-clause-handled : goal.returns-in-Script-clause-handled
 returns-in-Script-clause-handled g c = λ state stands.

@@ -1,10 +1,8 @@
 use Rattle.std.proofs.Common.{[], ◌∷◌}
-use Rattle.sg_bridge.specs.Bridged.{Happens}
 use Rattle.sg_gateway.specs.Octets.{as_octets}
-use Rattle.sg_gateway.specs.Step.{Datagram}
+use Rattle.sg_relay.proofs.Common.{Datagram, Happens, StandsFor, outcome_of}
 use Rattle.sg_relay.proofs.Joins.{one_done}
 use Rattle.sg_relay.proofs.joined.SwitchboardHandling.arrive.Goals as goal
-use Rattle.sg_switchboard.specs.Switching.{StandsFor, outcome_of}
 
 pub returns-in-Ok-clause-arrived : goal.returns-in-Ok-clause-arrived
 returns-in-Ok-clause-arrived g c = λ state stands.

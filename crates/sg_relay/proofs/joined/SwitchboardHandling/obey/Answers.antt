@@ -1,17 +1,9 @@
 use Rattle.std.proofs.Common.{[], List, sym, subst, ◌∙◌}
-use Rattle.sg_bridge.specs.Bridged.{Happens, Said, bridging, told_and_parted}
-use Rattle.sg_edge.proofs.Links.{called_none}
-use Rattle.sg_edge.proofs.Passed.{wrote_none}
-use Rattle.sg_gateway.specs.Events.{events_of_signal, signal_of}
-use Rattle.sg_gateway.specs.Step.{Signalled}
-use Rattle.sg_outcome.specs.declared.outcomes.Outcome.{Outcome}
-use Rattle.sg_relay.specs.Joined.{acting, happen_all}
-use Rattle.sg_relay.specs.Parts.{AreHandled}
+use Rattle.sg_relay.proofs.Common.{AreHandled, Happens, Outcome, Said, Signalled, StandsFor, SwitchboardValue, acting, after, bridging, called_none}
+use Rattle.sg_relay.proofs.Common.{events_of_signal, happen_all, signal_noted, signal_of, told_and_parted, wrote_none}
 use Rattle.sg_relay.proofs.Deeds.{unhandled}
 use Rattle.sg_relay.proofs.Joins.{happens_one, on_ok, one_handled}
 use Rattle.sg_relay.proofs.joined.SwitchboardHandling.obey.Goals as goal
-use Rattle.sg_switchboard.proofs.Noted.{signal_noted}
-use Rattle.sg_switchboard.specs.Switching.{StandsFor, SwitchboardValue, after}
 use Rattle.sg_table.specs.Telling.{IsTold}
 
 pub returns-in-Err-clause-obeyed : goal.returns-in-Err-clause-obeyed

@@ -1,15 +1,9 @@
 use Rattle.std.proofs.Common.{[], refl, ◌∙◌}
-use Rattle.sg_bridge.specs.Bridged.{Happens}
-use Rattle.sg_edge.proofs.Links.{called_none}
-use Rattle.sg_edge.proofs.Passed.{wrote_none}
-use Rattle.sg_gateway.specs.Events.{signal_of}
-use Rattle.sg_gateway.specs.Step.{Signalled}
 use Rattle.sg_lines.specs.declared.lines.Signal.TheVariants.{Tick}
+use Rattle.sg_relay.proofs.Common.{Happens, Signalled, StandsFor, called_none, signal_noted, signal_of, wrote_none}
 use Rattle.sg_relay.proofs.Deeds.{done_none}
 use Rattle.sg_relay.proofs.Joins.{one_done}
 use Rattle.sg_relay.proofs.joined.SwitchboardHandling.tick.Goals as goal
-use Rattle.sg_switchboard.proofs.Noted.{signal_noted}
-use Rattle.sg_switchboard.specs.Switching.{StandsFor}
 
 pub returns-then-tick_quietly-clause-ticked : goal.returns-then-tick_quietly-clause-ticked
 returns-then-tick_quietly-clause-ticked g c = λ state stands.

@@ -1,9 +1,6 @@
 use Rattle.std.proofs.Common.{[]}
-use Rattle.sg_edge.proofs.Links.{called_none}
-use Rattle.sg_edge.proofs.Passed.{wrote_none}
-use Rattle.sg_front.specs.States.{FrontStandsFor}
-use Rattle.sg_gateway.specs.Events.{events_of_signal}
 use Rattle.sg_relay.specs.Plain.{acting}
+use Rattle.sg_relay.proofs.Common.{FrontStandsFor, called_none, events_of_signal, wrote_none}
 use Rattle.sg_relay.proofs.Deeds.{unhandled}
 use Rattle.sg_relay.proofs.plain.FrontHandling.obey.Goals as goal
 

@@ -1,8 +1,5 @@
 use Rattle.std.proofs.Common.{List, [], map, subst, refl}
-use Rattle.sg_edge.proofs.Links.{called_none}
-use Rattle.sg_edge.proofs.Passed.{wrote_none}
-use Rattle.sg_outcome.specs.declared.outcomes.Outcome.{Outcome}
-use Rattle.sg_relay.specs.Asked.{IsDone, act_of}
+use Rattle.sg_relay.proofs.Common.{IsDone, Outcome, act_of, called_none, wrote_none}
 use Rattle.sg_relay.proofs.Deeds.{done_none}
 use Rattle.sg_relay.proofs.plain.FrontHandling.tick.Goals as goal
 

@@ -1,15 +1,6 @@
-use Rattle.std.proofs.Common.{rules, ◌≡◌, ◌⊎◌, ◌<◌, ◌≤◌, ◌^◌, ℕ, List, [], ◌++◌, Ok, Err, sym, ◌∙◌, subst, refl, arith}
-use Rattle.std.specs.Prelude.{IfSome}
-use Rattle.sg_edge.proofs.Links.{added_none}
-use Rattle.sg_edge.proofs.Passed.{took_none}
-use Rattle.sg_edge.specs.Told.{AtEnd}
-use Rattle.sg_trace.proofs.Causes.{failed_now, not_failed, ok_not}
-use Rattle.sg_trace.proofs.Traces.{whole_some}
-use Rattle.sg_trace.specs.Reading.{IsNextBy, IsReadBy}
-use Rattle.sg_trace.specs.Trace.{last_moment, moment_of}
-use Rattle.sg_trace.specs.declared.status.Status.TheVariants.{Done, Read}
-use Rattle.sg_relay.specs.Relay.{acts_by}
-use Rattle.sg_relay.specs.Weaving.{weaves_of}
+use Rattle.std.proofs.Common.{rules, ◌≡◌, ◌⊎◌, ◌<◌, ◌≤◌, ◌^◌, ℕ, List, [], ◌++◌, Ok, Err, sym, ◌∙◌, subst, refl, arith, IfSome}
+use Rattle.sg_relay.proofs.Common.{AtEnd, Done, IsNextBy, IsReadBy, Read, acts_by, added_none, failed_now, last_moment, moment_of, not_failed, ok_not}
+use Rattle.sg_relay.proofs.Common.{took_none, weaves_of, whole_some}
 use Rattle.sg_relay.proofs.Blames.{due_so, lines_not_read}
 use Rattle.sg_relay.proofs.Complete.{none_passed, none_relayed}
 use Rattle.sg_relay.proofs.Order.{order_none}

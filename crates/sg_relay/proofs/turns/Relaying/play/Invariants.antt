@@ -1,7 +1,5 @@
 use Rattle.std.proofs.Common.{◌≡◌, ◌≤◌, ◌+◌, ◌-◌, ◌^◌, List}
-use Rattle.sg_trace.specs.Trace.{last_moment}
-use Rattle.sg_relay.specs.Relay.{Passed}
-use Rattle.sg_relay.specs.Weaving.{weaves_of}
+use Rattle.sg_relay.proofs.Common.{Passed, last_moment, weaves_of}
 use Rattle.sg_relay.proofs.Relays.{IsRelaying}
 use Rattle.sg_relay.proofs.turns.Relaying.play.Given as goal
 

@@ -1,6 +1,5 @@
 use Rattle.std.proofs.Common.{sym, []}
-use Rattle.sg_edge.proofs.Links.{added_none}
-use Rattle.sg_relay.specs.Weaving.{weaves_of}
+use Rattle.sg_relay.proofs.Common.{added_none, weaves_of}
 use Rattle.sg_relay.proofs.Says.{given_order, given_said, wait_line_order, wait_said}
 use Rattle.sg_relay.proofs.turns.Relaying.say.Goals as goal
 

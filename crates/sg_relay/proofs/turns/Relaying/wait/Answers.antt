@@ -1,8 +1,5 @@
 use Rattle.std.proofs.Common.{rules, ◌-◌, [], ◌++◌, refl, sym, ◌∙◌, subst, arith}
-use Rattle.sg_edge.proofs.Links.{added_more, added_none, called_more, called_none}
-use Rattle.sg_edge.proofs.Passed.{wrote_more, wrote_none}
-use Rattle.sg_relay.specs.Asked.{receipts_in}
-use Rattle.sg_relay.specs.Weaving.{weaves_of}
+use Rattle.sg_relay.proofs.Common.{added_more, added_none, called_more, called_none, receipts_in, weaves_of, wrote_more, wrote_none}
 use Rattle.sg_relay.proofs.Deeds.{done_none}
 use Rattle.sg_relay.proofs.Waits.{cut_wait, done_nothing, goes_none, over_wait, reading_next, wait_more, wait_order, wait_order_none}
 use Rattle.sg_relay.proofs.turns.Relaying.wait.Goals as goal

@@ -1,9 +1,5 @@
 use Rattle.std.proofs.Common.{◌≡◌, ◌≤◌, ◌+◌, List, ℕ, length}
-use Rattle.sg_edge.specs.Links.{Added, Called, LinkCall}
-use Rattle.sg_edge.specs.Told.{Wrote}
-use Rattle.sg_relay.specs.Asked.{AreGood, IsDone, receipts_in}
-use Rattle.sg_relay.specs.Parts.{IsWaitInOrder}
-use Rattle.sg_relay.specs.Weaving.{weaves_of}
+use Rattle.sg_relay.proofs.Common.{Added, AreGood, Called, IsDone, IsWaitInOrder, LinkCall, Wrote, receipts_in, weaves_of}
 use Rattle.sg_relay.proofs.Waits.{GoesOn}
 use Rattle.sg_relay.proofs.turns.Relaying.wait.Given as goal
 

@@ -1,5 +1,6 @@
 use Rattle.std.proofs.Common.{◌≡◌, ◌<◌, ◌∙◌, sym, ap, subst, List, [], ◌∷◌, length, get_or, Some, None, Err}
 use Rattle.std.proofs.Math.ListN.{set}
+use Rattle.std.proofs.lemmas.List.{get_or_default}
 use Rattle.std.specs.List.{position}
 use Rattle.std.specs.Result.{OnOk, OnErr}
 use Rattle.sg_base.specs.declared.faults.Refusal.TheVariants.{CallUnknown}
@@ -15,7 +16,6 @@ use Rattle.sg_outcome.specs.declared.outcomes.Outcome.{Outcome}
 use Rattle.sg_outcome.specs.declared.outcomes.Outcome.TheVariants.{Refused}
 use Rattle.sg_table.proofs.Answered.{order_of, refused_holds, quiet_at, back_at, told_two}
 use Rattle.sg_table.proofs.Early.{answer_unknown}
-use Rattle.sg_table.proofs.Found.{get_any}
 use Rattle.sg_table.proofs.Signalled.{held, on_err, answer_told, answer_refused, answer_state, answer_needs, pairs_there}
 use Rattle.sg_table.specs.Found.{has_id}
 use Rattle.sg_table.specs.Standing.{TableStandsFor}
@@ -68,7 +68,7 @@ returns-clause-told c =
           let q : IsQuiet d = subst (λ (v : CallValue). IsQuiet v) (sym at) (quiet_at c.self.inside.by_slot.items c.in-Some.i d s'.holds.quiet within) in
           answer_told c.self.inside.by_slot.items c.self.inside.books c.self.inside.moment w s'.holds (order_of c.calls_in_order.ensures (the_view c.self.inside) w s') c.args.id c.in-Some.i found d
           c.answer.new.self b.in-Ok.text c.answer.new.books c.answer.ensures.psks (c.answer.ensures.inbox.0 ∙ q.0, c.answer.ensures.inbox.1 ∙ q.1) c.in-Some-side.side c.args.noise.now c.args.text.now
-          (λ pairs k stands. c.in-Some-side.ensures pairs k (subst (λ v. CallStandsFor pairs v k) (get_any c.self.inside.by_slot.items c.in-Some.i d c.index.result.now within ∙ sym c.index.ensures) stands))
+          (λ pairs k stands. c.in-Some-side.ensures pairs k (subst (λ v. CallStandsFor pairs v k) (get_or_default c.self.inside.by_slot.items c.in-Some.i d c.index.result.now within ∙ sym c.index.ensures) stands))
           (λ k a stands books. subst (λ r. IsSettled r c.answer.new.self c.answer.new.books (answered_in c.self.inside.moment a k c.args.noise.now c.args.text.now)) b.in-Ok.is
           (c.answer.ensures.answer k a (subst (λ v. CallStandsFor a.pairs v k) (sym at) stands) books))
           b.push-in-Ok.new.self.items (told_two _ _ _ _ _ c.requires.none b.push.ensures.items b.push-in-Ok.ensures.items))))

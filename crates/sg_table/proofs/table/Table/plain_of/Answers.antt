@@ -4,7 +4,7 @@ use Rattle.sg_call.specs.Standing.{CallStandsFor}
 use Rattle.sg_gateway.specs.PlainOf.{plain_of}
 use Rattle.sg_table.proofs.Delivering.{rising_of}
 use Rattle.sg_table.proofs.Lent.{lent, rising, seen}
-use Rattle.sg_table.proofs.PortFound.{no_port, port_at}
+use Rattle.sg_table.proofs.Found.{no_port, port_at}
 use Rattle.sg_table.specs.declared.table.Table.TheInside.{Inside}
 use Rattle.sg_table.proofs.table.Table.plain_of.Goals as goal
 

@@ -1,9 +1,6 @@
-use Rattle.std.proofs.Common.{◌≡◌, ◌≤◌, ◌∙◌, ◌+◌, ◌++◌, ℕ, List, [], length, Err, ap, sym, subst, length-append, arith}
-use Rattle.std.proofs.lemmas.List.{append-nil}
-use Rattle.sg_edge.specs.Told.{TookIn}
-use Rattle.sg_pcap.specs.Capture.{capture_of, header_within}
+use Rattle.std.proofs.Common.{◌≡◌, ◌≤◌, ◌∙◌, ◌+◌, ◌++◌, ℕ, List, [], length, Err, ap, sym, subst, length-append, arith, append-nil}
+use Rattle.sg_trace.proofs.Common.{Capturing, IsHeaderRead, TookIn, capture_of, header_within}
 use Rattle.sg_trace.proofs.CaptureReads.{failed_as, header_err, header_ok, header_short, moves_of, near_part, nothing_had, room_so}
-use Rattle.sg_trace.specs.CaptureReading.{Capturing, IsHeaderRead}
 use Rattle.sg_trace.proofs.capture_reader.CaptureReader.header.Goals.{in-Err-header_within, in-Ok-header_within}
 use Rattle.sg_trace.proofs.capture_reader.CaptureReader.header.Goals as goal
 

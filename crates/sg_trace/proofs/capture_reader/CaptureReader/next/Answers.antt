@@ -1,10 +1,6 @@
-use Rattle.std.proofs.Common.{rules, ◌≡◌, ◌∙◌, ◌+◌, ◌<◌, ◌≤◌, ◌++◌, ℕ, List, [], length, None, Ok, Err, ap, sym, subst, arith, length-append}
-use Rattle.std.proofs.lemmas.List.{append-nil}
-use Rattle.std.proofs.lemmas.Bool.Decides.{nat_tests}
-use Rattle.sg_edge.specs.Told.{TookIn}
-use Rattle.sg_pcap.specs.Capture.{record_within, records_in}
+use Rattle.std.proofs.Common.{rules, ◌≡◌, ◌∙◌, ◌+◌, ◌<◌, ◌≤◌, ◌++◌, ℕ, List, [], length, None, Ok, Err, ap, sym, subst, arith, length-append, append-nil}
+use Rattle.sg_trace.proofs.Common.{Capturing, IsRecordRead, TookIn, nat_tests, record_within, records_in}
 use Rattle.sg_trace.proofs.CaptureReads.{failed_as, near_part, nothing_had, record_err, record_none, record_ok, record_short, split_of}
-use Rattle.sg_trace.specs.CaptureReading.{Capturing, IsRecordRead}
 use Rattle.sg_trace.proofs.capture_reader.CaptureReader.next.Goals.{in-Err-record_within, in-Ok-record_within}
 use Rattle.sg_trace.proofs.capture_reader.CaptureReader.next.Goals as goal
 

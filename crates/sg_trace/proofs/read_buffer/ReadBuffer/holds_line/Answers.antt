@@ -1,6 +1,5 @@
 use Rattle.std.proofs.Common.{subst}
-use Rattle.sg_lines.specs.ScriptLines.{NoEnd}
-use Rattle.sg_trace.specs.Fed.{HoldsLine}
+use Rattle.sg_trace.proofs.Common.{HoldsLine, NoEnd}
 use Rattle.sg_trace.proofs.LineParts.{held, none_held}
 use Rattle.sg_trace.proofs.read_buffer.ReadBuffer.holds_line.Goals as goal
 

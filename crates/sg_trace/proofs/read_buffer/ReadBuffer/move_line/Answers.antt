@@ -1,6 +1,5 @@
 use Rattle.std.proofs.Common.{rules, ◌≡◌, ◌-◌, ◌+◌, List, ℕ, length, length-append, take, drop, sym, ap, ◌∙◌, subst, ◌++◌, arith}
-use Rattle.std.proofs.lemmas.List.{length-take, take-append-drop}
-use Rattle.sg_trace.specs.Fed.{EndsLine}
+use Rattle.sg_trace.proofs.Common.{EndsLine, length-take, take-append-drop}
 use Rattle.sg_trace.proofs.LineParts.{behind_part}
 use Rattle.sg_trace.proofs.read_buffer.ReadBuffer.move_line.Goals as goal
 

@@ -1,7 +1,5 @@
-use Rattle.std.proofs.Common.{rules, ◌≡◌, ◌-◌, ◌+◌, ◌≤◌, List, ℕ, take, drop, length, sym, ap, ◌∙◌, subst, ◌++◌, arith}
-use Rattle.std.specs.Prelude.{min}
-use Rattle.std.proofs.lemmas.List.{take-append-drop}
-use Rattle.sg_trace.specs.Fed.{HasMoved}
+use Rattle.std.proofs.Common.{rules, ◌≡◌, ◌-◌, ◌+◌, ◌≤◌, List, ℕ, take, drop, length, sym, ap, ◌∙◌, subst, ◌++◌, arith, min}
+use Rattle.sg_trace.proofs.Common.{HasMoved, take-append-drop}
 use Rattle.sg_trace.proofs.LineParts.{behind_part, moved_part}
 use Rattle.sg_trace.proofs.read_buffer.ReadBuffer.move_part.Goals as goal
 

@@ -1,12 +1,7 @@
 use Rattle.std.proofs.Common.{rules, ◌≡◌, ◌+◌, ◌<◌, ◌≤◌, ◌^◌, ℕ, true, List, [], ◌++◌, length, Some, Ok, Err, ap, sym, ◌∙◌, subst, arith, length-append}
+use Rattle.sg_trace.proofs.Common.{Gives, IsLine, IsNextBy, IsReadBy, Reading, Status, TookIn, spelled_at}
 use Rattle.sg_trace.proofs.ReadBuffers.{all_given}
 use Rattle.sg_trace.proofs.Readings.{given_at, line_some, near_so, next_err, next_ok}
-use Rattle.sg_trace.specs.Fed.{IsLine}
-use Rattle.sg_trace.specs.Reading.{IsNextBy, IsReadBy, Reading}
-use Rattle.sg_trace.specs.Trace.{spelled_at}
-use Rattle.sg_trace.specs.declared.status.Status.{Status}
-use Rattle.sg_edge.specs.Told.{TookIn}
-use Rattle.sg_lines.specs.Fields.{Gives}
 use Rattle.sg_trace.proofs.script_reader.ScriptReader.next.Goals as goal
 
 pub invariant_of-self : goal.invariant_of-self

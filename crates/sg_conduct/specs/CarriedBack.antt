@@ -1,0 +1,103 @@
+-- What is told of an answer to the side that offered is the answer's description as it came, but for what holds for one side
+-- alone (RFC 3264, 6): its lines in their order, each medium in its place under the offer's protocol word, at the gateway's own
+-- port exactly where it takes part in both texts, and behind them the line that the gateway adds.
+use Rattle.std.specs.Prelude.{◌≡◌, ◌⊎◌, ℕ, ◌+◌, List, [], ◌∷◌, ◌++◌, codes, Some, Ok}
+use Rattle.std.specs.List.{Any}
+use Rattle.base64.specs.GeneralPurpose.{encode_of}
+use Rattle.base64.specs.Engines.{standard}
+use Rattle.sg_agreement.specs.Keying.{Keying, PeerLines, PeerMessage, PeerMessages, Offer}
+use Rattle.sg_agreement.specs.Sides.{other_side}
+use Rattle.sg_base.specs.declared.addresses.CallId.{CallId}
+use Rattle.sg_base.specs.declared.addresses.Side.{Side}
+use Rattle.sg_outcome.specs.declared.outcomes.Outcome.TheVariants as outcomes
+use Rattle.sg_sdes.specs.CryptoText.{crypto_text}
+use Rattle.sg_sdes.specs.declared.lines.CryptoLine.{CryptoLine}
+use Rattle.sg_sdp.specs.Descriptions.{spelling}
+use Rattle.sg_sdp.specs.Reading.{description_of}
+use Rattle.sg_sdp.specs.declared.medium.Medium as descriptions
+use Rattle.sg_sdp.specs.declared.medium.Profile.{Profile}
+use Rattle.sg_sdp.specs.declared.medium.Profile.TheVariants.{Avp, Savp, Avpf, Savpf, Other}
+use Rattle.sg_sdp.specs.declared.sdp.Sdp.{Sdp}
+use Rattle.sg_gateway.specs.Refusing.{IsRefused}
+use Rattle.sg_gateway.specs.Runs.{Turn}
+use Rattle.sg_gateway.specs.Signals.{Answered}
+use Rattle.sg_gateway.specs.Step.{Signalled}
+use Rattle.sg_gateway.specs.World.{Call, call_of}
+use Rattle.sg_conduct.specs.Carried.{AreCarried, own_line}
+use Rattle.sg_conduct.specs.OwnPorts.{port_towards}
+use Rattle.sg_conduct.specs.Present.{TakesPart}
+
+-- ---- media
+
+-- the protocol word of an offer's profile (RFC 3551; RFC 3711, 12; RFC 4585; RFC 5124); where it is none of these, the answer's
+abbrev pub offered_word : Profile → List ℕ → List ℕ
+offered_word Avp word = codes "RTP/AVP"
+offered_word Savp word = codes "RTP/SAVP"
+offered_word Avpf word = codes "RTP/AVPF"
+offered_word Savpf word = codes "RTP/SAVPF"
+offered_word Other word = word
+
+-- the medium takes part in the offer of this side and in its answer
+abbrev pub TakesPartInBoth : Side → descriptions.Medium → descriptions.Medium → Type 0
+TakesPartInBoth side m n = TakesPart side m × TakesPart (other_side side) n
+
+-- at the gateway's port of the slot and the number there, and else at port 0 (RFC 3264, 6)
+abbrev pub IsAtPortOfBoth : Side → ℕ → ℕ → descriptions.Medium → descriptions.Medium → ℕ → Type 0
+IsAtPortOfBoth side slot number m n port =
+    (TakesPartInBoth side m n × (port ≡ port_towards side slot number)) ⊎ ((¬ TakesPartInBoth side m n) × (port ≡ 0))
+
+-- an answer's medium, as the side that offered is told of it
+pub record IsAnsweredMedium (side : Side) (slot number : ℕ) (added : List (List ℕ)) (offered came told : descriptions.Medium) : Type 0 where
+  pub word : told.word ≡ came.word
+  pub port : IsAtPortOfBoth side slot number offered came told.port
+  pub proto : told.proto ≡ offered_word offered.profile came.proto
+  pub formats : told.formats ≡ came.formats
+  pub lines : AreCarried came.lines added told.lines
+
+-- ---- what the gateway adds
+
+abbrev pub IsOneMessage : List (List ℕ) → Type 0
+IsOneMessage added = (octets : List ℕ) × (added ≡ (codes "a=key-mgmt:mikey " ++ encode_of standard octets) ∷ [])
+
+-- to the session part: the response to the peer's message for all media (RFC 4567, 3.1)
+abbrev pub AddsToAnswer : Keying → List (List ℕ) → Type 0
+AddsToAnswer (PeerMessage b) added = IsOneMessage added
+AddsToAnswer other added = added ≡ []
+
+-- under the tag and the suite of the line that is answered, of one key, without lifetime and MKI (RFC 4568, 5.1.2)
+abbrev pub Answers : CryptoLine → CryptoLine → Type 0
+Answers peer own =
+    (octets : List ℕ) × (own ≡ record (own_line peer.tag peer.suite octets) { plain_rtp = peer.plain_rtp; plain_rtcp = peer.plain_rtcp })
+
+-- to a medium at most one: the line that answers the peer's (RFC 4568, 5.1.2), or the response to the medium's own message
+abbrev pub AddsBack : Keying → List (List ℕ) → Type 0
+AddsBack (PeerLines ls) added = (added ≡ []) ⊎ ((peer own : CryptoLine) × Any (λ l. l ≡ Some peer) ls × Answers peer own × (added ≡ (codes "a=crypto:" ++ crypto_text own) ∷ []))
+AddsBack (PeerMessages bs) added = (added ≡ []) ⊎ IsOneMessage added
+AddsBack other added = added ≡ []
+
+-- each medium in its place, from this number on
+abbrev pub AreAnsweredMedia : Keying → Side → ℕ → ℕ → List descriptions.Medium → List descriptions.Medium → List descriptions.Medium → Type 0
+AreAnsweredMedia keying side slot number [] [] told = told ≡ []
+AreAnsweredMedia keying side slot number (m ∷ ms) (n ∷ ns) told =
+    (first : descriptions.Medium) × (rest : List descriptions.Medium) × (told ≡ first ∷ rest)
+    × ((added : List (List ℕ)) × AddsBack keying added × IsAnsweredMedium side slot number added m n first)
+    × AreAnsweredMedia keying side slot (number + 1) ms ns rest
+AreAnsweredMedia keying side slot number ms ns told = ⊥
+
+-- ---- the text
+
+pub record IsToldBack (slot : ℕ) (o : Offer) (answer : Sdp) (text : List ℕ) : Type 0 where
+  pub told : Sdp
+  pub spells : text ≡ spelling told
+  pub added : List (List ℕ)
+  pub adds : AddsToAnswer o.keying added
+  pub session : AreCarried answer.session added told.session
+  pub media : AreAnsweredMedia o.keying o.side slot 0 o.description.media answer.media told.media
+
+-- so each answer to an open offer that isn't refused
+abbrev pub AnswerIsCarried : Turn → Type 0
+AnswerIsCarried t =
+    (id : CallId) (noise text : List ℕ) (c : Call) (o : Offer) → t.event ≡ Signalled (Answered id noise text) → call_of t.before id ≡ Some c → c.offer ≡ Some o
+    → ¬ IsRefused t
+    → (answer : Sdp) × (description_of text ≡ Ok answer)
+    × ((back : List ℕ) × (t.outcomes ≡ outcomes.Sdp id o.side back ∷ (outcomes.Live id ∷ [])) × IsToldBack c.slot o answer back)
