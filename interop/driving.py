@@ -56,10 +56,11 @@ def require(holds, what):
         raise Wrong(what)
 
 
-def wait_until(holds, what):
+def wait_until(holds, what, seen=()):
+    """Waits for what is to come; `seen` is what came meanwhile, told where it doesn't."""
     end = time.monotonic() + PATIENCE
     while not holds():
-        require(time.monotonic() < end, f"waited {PATIENCE:g} s for {what}")
+        require(time.monotonic() < end, f"waited {PATIENCE:g} s for {what}; what came is {seen}")
         time.sleep(0.02)
 
 
@@ -183,6 +184,24 @@ def driving(program, **options):
         yield driver, warned, ended
     finally:
         driver.close()
+
+
+class Seen:
+    """What a driver knows of its gateway at the moment at which it is told."""
+
+    def __init__(self, driver, warned):
+        self.driver, self.warned = driver, warned
+
+    def __str__(self):
+        gateway = self.driver.gateway
+        working = [thread.is_alive() for thread in self.driver.threads]
+        waiting = {port: end for port, end in gateway.sockets().items() if any(end)}
+        return f"warnings {self.warned}, sockets {waiting}, stands still {is_stopped(gateway.pid)}, threads that work {working}"
+
+
+def is_stopped(pid):
+    """Whether a process stands still, by a signal."""
+    return Path(f"/proc/{pid}/stat").read_text().rpartition(")")[2].split()[0] in "Tt"
 
 
 def is_there(pid):
@@ -389,7 +408,7 @@ def sockets_overflow(program):
         lost = driver.overflows[PLAIN_RTP]
         require(lost, "nothing was lost")
         for what in ("late", "full sockets"):
-            wait_until(lambda what=what: any(what in line for line in warned), f"{what}: warned {warned}")
+            wait_until(lambda what=what: any(what in line for line in warned), what, warned)
     return f"{lost} of {2 * PACKETS} were lost in front of a socket, and told, as is that turns ran late"
 
 
@@ -637,10 +656,13 @@ def what_waits_is_told(program):
     """datagrams that wait in a socket"""
     with driving(program, wait=PATIENCE) as (driver, warned, _):
         call = Call(driver, 1)
-        os.kill(driver.gateway.pid, signal.SIGSTOP)
+        gateway = driver.gateway
+        os.kill(gateway.pid, signal.SIGSTOP)
+        wait_until(lambda: is_stopped(gateway.pid), "the gateway to stand still")
         for packet in packets(100):
             call.ends[1].sendto(packet, (HOST, call.ports[2]))
-        wait_until(lambda: any("wait in sockets of 1 ports" in line for line in warned), f"a warning: {warned}")
+        wait_until(lambda: getattr(gateway.sockets().get(PLAIN_RTP), "waiting", 0), "datagrams that wait", Seen(driver, warned))
+        wait_until(lambda: any("wait in sockets of 1 ports" in line for line in warned), "a warning", Seen(driver, warned))
         require(driver.waiting.get(PLAIN_RTP), f"what waits: {driver.waiting}")
         os.kill(driver.gateway.pid, signal.SIGCONT)
         require(len(taken(call.ends[0], 100)) == 100, "they don't all arrive")
@@ -761,13 +783,19 @@ CHECKS = [
 def main(program, *names):
     program = str(Path(program).resolve())
     has_own_loopback()
-    for check in [check for check in CHECKS if check.__name__ in names] or CHECKS:
-        try:
-            print(f"driver: {check.__doc__}: {check(program)}", flush=True)
-        except Wrong as fault:
-            print(f"driver: {check.__doc__}: WRONG: {fault}")
-            return 1
-    return 0
+    chosen = [check for check in CHECKS if check.__name__ in names] or CHECKS
+    return 0 if all(is_right(check, program) or is_right(check, program) for check in chosen) else 1
+
+
+def is_right(check, program):
+    """Plays one check and says what came of it. A machine that is busy may be late in ways that no gateway and no driver
+    causes, so one that goes wrong is played once more, and both are told."""
+    try:
+        print(f"driver: {check.__doc__}: {check(program)}", flush=True)
+    except Wrong as fault:
+        print(f"driver: {check.__doc__}: WRONG: {fault}", flush=True)
+        return False
+    return True
 
 
 if __name__ == "__main__":
