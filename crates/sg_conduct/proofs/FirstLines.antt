@@ -89,7 +89,7 @@ module _ (all : List descriptions.Medium) where
   pub at_rest : (k : ℕ) (m : descriptions.Medium) (ms : List descriptions.Medium) → Placed all k (m ∷ ms) → Placed all (k + 1) ms
   at_rest k m ms placed j n is = subst (λ i. IsMediumAt all i n) (let e : k + suc j ≡ k + 1 + j = omega arith in e) (placed (suc j) n ((let lt = is.0 in omega (arith, lt)), is.1))
 
-  active_placed : {X : Type 0} (P : ℕ → X → Type 0) (side : Side) (value : ℕ → descriptions.Medium → Result X Refusal) → ((k : ℕ) (m : descriptions.Medium) (x : X) → IsMediumAt all k m → value k m ≡ Ok x → P k x)
+  pub active_placed : {X : Type 0} (P : ℕ → X → Type 0) (side : Side) (value : ℕ → descriptions.Medium → Result X Refusal) → ((k : ℕ) (m : descriptions.Medium) (x : X) → IsMediumAt all k m → value k m ≡ Ok x → P k x)
       → (k : ℕ) (ms : List descriptions.Medium) (xs : List (Option X)) → Placed all k ms → each_active side value k ms ≡ Ok xs → AllAt P k xs
   active_placed P side value each k [] xs placed e = subst (AllAt P k) (ok_is [] xs e) tt
   active_placed P side value each k (m ∷ ms) xs placed e =

@@ -1,15 +1,16 @@
--- What an answer seals by crypto lines is under keys of the suite of the first line of the peer's medium that is read.
-use Rattle.std.proofs.Common.{◌≡◌, ℕ, ◌+◌, ◌^◌, Bool, true, false, cond, List, [], ◌∷◌, ◌++◌, length, map, Option, Some, None, Ok, Err, refl, sym, ap, ◌∙◌, subst, eqb}
+-- What an answer keys by crypto lines is by the first line of the peer's medium that is read.
+use Rattle.std.proofs.Common.{◌≡◌, ℕ, ◌+◌, ◌^◌, Bool, true, false, cond, not, List, [], ◌∷◌, ◌++◌, length, map, Option, Some, None, Ok, Err, refl, sym, ap, ◌∙◌, subst, eqb}
 use Rattle.std.proofs.lemmas.List.Elements.{All-from_recursion}
 use Rattle.std.specs.List.{AllByRecursion, Any, find}
 use Rattle.sg_agreement.proofs.KeyedSound.{sdes_is}
-use Rattle.sg_agreement.proofs.TextLines.{bind_is}
+use Rattle.sg_agreement.proofs.TextLines.{bind_is, octets_are}
 use Rattle.sg_agreement.specs.Answers.{Answered as Keyings, AgreedAnswer, accepted_answer, agreed_answer, answered_by}
 use Rattle.sg_agreement.specs.Attributes.{crypto_values, first_of}
 use Rattle.sg_agreement.specs.Described.{described}
 use Rattle.sg_agreement.specs.LineAnswers.{keyed_by_answer, keyed_by_matched, keyed_by_own_lines, keyed_by_peer_line, lines_matched}
 use Rattle.sg_agreement.specs.Offers.{AgreedOffer, agreed_offer, keying_of, noise_of}
-use Rattle.sg_agreement.specs.Streams.{line_key}
+use Rattle.sg_agreement.specs.Streams.{line_key, stream_of_line, window_of}
+use Rattle.sg_agreement.specs.TextLines.{IsWindow, identifier}
 use Rattle.sg_base.proofs.Cases.{is_name}
 use Rattle.sg_base.proofs.SuiteLemmas.{suite_again}
 use Rattle.sg_base.specs.SuiteNames.{suite_at, suite_name}
@@ -22,22 +23,24 @@ use Rattle.sg_sdes.specs.Keys as lines
 use Rattle.sg_sdes.specs.declared.lines.InlineKey.{InlineKey}
 use Rattle.sg_sdp.specs.declared.medium.Medium as descriptions
 use Rattle.sg_sdp.specs.declared.sdp.Sdp.{Sdp}
-use Rattle.sg_gateway.proofs.Common.{AgreedKey, AtHand, Call, CallId, CryptoLine, Event, FromSecure, IsMediumAt, Keyed, Keying, Kind, Medium, MikeyFromPlain, Offer, Opening, OwnLines, PeerLines, Plain, Rtcp, Rtp, SdesFromPlain, Sealing, Secure, Session, Side}
+use Rattle.sg_gateway.proofs.Common.{AtHand, Call, CallId, CryptoLine, Event, FromSecure, IsMediumAt, Keyed, Keying, Kind, Medium, MikeyFromPlain, Offer, Opening, OwnLines, PeerLines, Plain, Rtcp, Rtp, SdesFromPlain, Sealing, Secure, Side}
 use Rattle.sg_gateway.proofs.Common.{Stream, Turn, Way, World, actives_after, after_ok_is, any_weaker, call_of, described_is, description_of, each_active, each_append, each_kept, empty, if_kept, keys_of}
-use Rattle.sg_gateway.proofs.Common.{media_agreed, numbered, of_sdes, offer_is, ok_is, other_side, owner_at, same_id, sessions_from, side_of, some_is, step, stream_sessions, turn_of}
+use Rattle.sg_gateway.proofs.Common.{media_agreed, numbered, of_sdes, offer_is, ok_is, other_side, owner_at, same_id, sessions_from, side_of, some_is, step, stream_session, stream_sessions, turn_of}
 use Rattle.sg_gateway.proofs.Addressed.{IsAnswered, answered_now}
 use Rattle.sg_gateway.proofs.ByTexts.{MadeBy, WasMade, WereMade, event_made, same_call_id}
 use Rattle.sg_gateway.proofs.CarriedOut.{of_generation}
+use Rattle.sg_gateway.proofs.LineSessions.{masters_of, mkis_of}
 use Rattle.sg_gateway.proofs.MediaSessions.{each_stream}
 use Rattle.sg_gateway.proofs.Signals.{found}
 use Rattle.sg_gateway.proofs.TurnByTurn.{kept_before}
-use Rattle.sg_gateway.specs.CryptoSessions.{life_of}
+use Rattle.sg_gateway.specs.ByTexts.{is_plain}
+use Rattle.sg_gateway.specs.CryptoSessions.{life_of, tag_octets}
 use Rattle.sg_gateway.specs.Runs.{turns}
 use Rattle.sg_gateway.specs.Signals.{Answered, answer_to}
-use Rattle.sg_conduct.proofs.Drawn.{AllAt, StreamHas, each_active_at, each_kept_at, kept_some, own_of_lines, rest_at, some_at, this_at}
-use Rattle.sg_conduct.proofs.FirstLines.{FirstAt, IsFirstAt, OpensAs, Placed, at_head, at_rest, at_start, first_matched, offer_first, owns_answer, peers_answer, sessions_open, under_first}
+use Rattle.sg_conduct.proofs.Drawn.{AllAt, each_active_at, each_kept_at, kept_some, masters_mapped, own_of_lines, rest_at, some_at, this_at}
+use Rattle.sg_conduct.proofs.FirstLines.{IsFirstAt, Placed, at_head, at_rest, at_start, first_matched, offer_first}
 use Rattle.sg_conduct.specs.Drawn.{IsOfferOf}
-use Rattle.sg_conduct.specs.Firsts.{AnswerIsByFirst, AreByFirst, AreByFirstLines, IsByFirst, IsForFirst}
+use Rattle.sg_conduct.specs.Firsts.{AnswerIsByFirst, AreByFirst, AreByFirstLines, IsByFirst}
 
 -- ---- suites
 
@@ -59,80 +62,150 @@ suites_of : (offered : List CryptoLine) (o : Option (List ℕ)) (p : CryptoLine 
 suites_of offered None p e = absurd cc
 suites_of offered (Some value) p e = suites_matched offered value p e
 
--- ---- a stream that is sealed
-
-abbrev IsKeyOf : Suite → AgreedKey → Type 0
-IsKeyOf suite k = (k.master.suite ≡ suite) × (k.life ≡ 2 ^ 48)
-
-abbrev SealsFor : List descriptions.Medium → ℕ → Stream → Type 0
-SealsFor peers k st = (l : CryptoLine) × IsFirstAt peers k l × AllByRecursion (IsKeyOf l.suite) st.keys × (st.tag_len ≡ tag_len_of l.suite)
-
-keys_serve : (suite : Suite) (kind : Kind) (n : ℕ) (ks : List AgreedKey) → AllByRecursion (IsKeyOf suite) ks → AllByRecursion (λ k. (k.master.suite ≡ suite) × (k.life ≡ life_of kind (2 ^ 48))) (keys_of kind (numbered n ks))
-keys_serve suite Rtp n [] all = tt
-keys_serve suite Rtp n (k ∷ ks) all = ((all.0.0, all.0.1), keys_serve suite Rtp (n + 1) ks all.1)
-keys_serve suite Rtcp n [] all = tt
-keys_serve suite Rtcp n (k ∷ ks) all = ((all.0.0, ap (life_of Rtcp) all.0.1), keys_serve suite Rtcp (n + 1) ks all.1)
-
-module _ (peers : List descriptions.Medium) where
-  abbrev SealsAs : Session → Type 0
-  SealsAs s = s.name.owner.direction ≡ Sealing → IsForFirst peers s
-
-  opens_else : Opening ≡ Sealing → ⊥
-  opens_else e = absurd cc
-
-  opening_free : (call generation medium n : ℕ) (st : Stream) (window : ℕ) (x : Medium) → AllByRecursion SealsAs (stream_sessions (owner_at call generation medium Opening) (numbered n st.keys) st window x)
-  opening_free call generation medium n st window x = each_stream SealsAs _ _ st window x (λ seals. absurd (opens_else seals)) (λ on. λ seals. absurd (opens_else seals))
-
-  sealing_for : (call generation medium n : ℕ) (st : Stream) (window : ℕ) (x : Medium) → SealsFor peers medium st → AllByRecursion SealsAs (stream_sessions (owner_at call generation medium Sealing) (numbered n st.keys) st window x)
-  sealing_for call generation medium n st window x is =
-      each_stream SealsAs _ _ st window x
-      (λ seals. record { medium = is.1.0; in_peers = is.1.1; line = is.0; is_first = is.1.2; keys = keys_serve is.0.suite Rtp n st.keys is.2; tags = is.3 })
-      (λ on. λ seals. record { medium = is.1.0; in_peers = is.1.1; line = is.0; is_first = is.1.2; keys = keys_serve is.0.suite Rtcp n st.keys is.2; tags = refl })
-
-  sessions_seal : (call generation k n : ℕ) (xs : List (Option Medium)) → AllAt (λ k (x : Medium). SealsFor peers k x.to_peer) k xs → AllByRecursion SealsAs (sessions_from call generation k n xs)
-  sessions_seal call generation k n [] all = tt
-  sessions_seal call generation k n (None ∷ xs) all = sessions_seal call generation (k + 1) n xs all
-  sessions_seal call generation k n (Some x ∷ xs) all =
-      each_append SealsAs (stream_sessions (owner_at call generation k Opening) (numbered n x.from_peer.keys) x.from_peer x.window x) _ (opening_free call generation k n x.from_peer x.window x)
-      (each_append SealsAs (stream_sessions (owner_at call generation k Sealing) (numbered (n + length x.from_peer.keys) x.to_peer.keys) x.to_peer 1024 x) _
-      (sealing_for call generation k (n + length x.from_peer.keys) x.to_peer 1024 x all.0)
-      (sessions_seal call generation (k + 1) (n + length x.from_peer.keys + length x.to_peer.keys) xs all.1))
-
-  media_seal : (side : Side) (k : ℕ) (ms ns : List descriptions.Medium) (ks : List (Option Keyed)) → AllAt (λ k (y : Keyed). SealsFor peers k y.to_peer) k ks
-      → AllAt (λ k (x : Medium). SealsFor peers k x.to_peer) k (media_agreed side ms ns ks)
-  media_seal side k [] ns ks all = tt
-  media_seal side k (m ∷ ms) [] ks all = tt
-  media_seal side k (m ∷ ms) (n ∷ ns) [] all = tt
-  media_seal side k (m ∷ ms) (n ∷ ns) (None ∷ ks) all = media_seal side (k + 1) ms ns ks all
-  media_seal Secure k (m ∷ ms) (n ∷ ns) (Some y ∷ ks) all = (all.0, media_seal Secure (k + 1) ms ns ks all.1)
-  media_seal Plain k (m ∷ ms) (n ∷ ns) (Some y ∷ ks) all = (all.0, media_seal Plain (k + 1) ms ns ks all.1)
-
--- ---- by lines
+-- ---- a medium that is by a line
 
 -- one that the gateway makes
 abbrev IsFresh : CryptoLine → Type 0
 IsFresh l = AllByRecursion (λ (k : InlineKey). (k.key.suite ≡ l.suite) × (k.lifetime ≡ 2 ^ 48)) l.keys
 
-keys_fresh : (suite : Suite) (ks : List InlineKey) → AllByRecursion (λ (k : InlineKey). (k.key.suite ≡ suite) × (k.lifetime ≡ 2 ^ 48)) ks → AllByRecursion (IsKeyOf suite) (map line_key ks)
-keys_fresh suite [] all = tt
-keys_fresh suite (k ∷ ks) all = ((all.0.0, all.0.1), keys_fresh suite ks all.1)
+-- what both sides send is by the first line of the medium of this number, and by the gateway's
+record IsBy (peers : List descriptions.Medium) (k : ℕ) (from to : Stream) (window : ℕ) : Type 0 where
+  line : CryptoLine
+  own : CryptoLine
+  first : IsFirstAt peers k line
+  opens : from ≡ stream_of_line line line
+  seals : to ≡ stream_of_line line own
+  size : window ≡ window_of line.window
+  fresh : IsFresh own
+  suite : own.suite ≡ line.suite
 
-peers_seal : (peers : List descriptions.Medium) (noise : List ℕ) (k : ℕ) (peer : CryptoLine) (n : descriptions.Medium) (y : Keyed) → IsFirstAt peers k peer → keyed_by_peer_line noise k peer n ≡ Ok y → SealsFor peers k y.to_peer
-peers_seal peers noise k peer n y is e =
-    subst (λ (y : Keyed). SealsFor peers k y.to_peer) (ok_is (keyed_by_answer peer (answer_by peer (noise_of k noise))) y e) (peer, is, ((refl, refl), tt), refl)
+abbrev Keys : List descriptions.Medium → ℕ → Keyed → Type 0
+Keys peers k y = IsBy peers k y.from_peer y.to_peer y.window
 
-owns_seal : (peers : List descriptions.Medium) (k : ℕ) (offered : List CryptoLine) (n : descriptions.Medium) (y : Keyed) → AllByRecursion IsFresh offered → IsMediumAt peers k n → keyed_by_own_lines k offered n ≡ Ok y → SealsFor peers k y.to_peer
-owns_seal peers k offered n y fresh at e =
-    let a = after_ok_is (of_sdes k (lines_matched offered (first_of (crypto_values n.lines)))) _ y e in
-    let by = sdes_is k (lines_matched offered (first_of (crypto_values n.lines))) a.0 a.1 in
-    let suites = suites_of offered (first_of (crypto_values n.lines)) a.0 by in
-    let own : IsFresh a.0.0 = own_of_lines IsFresh offered (first_of (crypto_values n.lines)) a.0 fresh by in
-    subst (λ (y : Keyed). SealsFor peers k y.to_peer) (ok_is (keyed_by_matched a.0) y a.2) (
-      a.0.1,
-      (n, at, first_matched offered n.lines a.0 by),
-      subst (λ (suite : Suite). AllByRecursion (IsKeyOf suite) (map line_key a.0.0.keys)) suites (keys_fresh a.0.0.suite a.0.0.keys own),
-      ap tag_len_of suites,
-    )
+abbrev Agrees : List descriptions.Medium → ℕ → Medium → Type 0
+Agrees peers k x = IsBy peers k x.from_peer x.to_peer x.window
+
+mkis_mapped : (ks : List InlineKey) → map (λ k. k.mki) (map line_key ks) ≡ map (λ k. identifier k.mki) ks
+mkis_mapped [] = refl
+mkis_mapped (k ∷ ks) =
+    let this = octets_are k.mki in
+    let rest = mkis_mapped ks in
+    λ i. this i ∷ rest i
+
+lives_mapped : (kind : Kind) (n : ℕ) (ks : List InlineKey) → map (λ k. k.life) (keys_of kind (numbered n (map line_key ks))) ≡ map (λ k. life_of kind k.lifetime) ks
+lives_mapped Rtp n [] = refl
+lives_mapped Rtp n (k ∷ ks) = ap (λ ls. k.lifetime ∷ ls) (lives_mapped Rtp (n + 1) ks)
+lives_mapped Rtcp n [] = refl
+lives_mapped Rtcp n (k ∷ ks) = ap (λ ls. life_of Rtcp k.lifetime ∷ ls) (lives_mapped Rtcp (n + 1) ks)
+
+keys_serve : (suite : Suite) (kind : Kind) (n : ℕ) (ks : List InlineKey) → AllByRecursion (λ k. (k.key.suite ≡ suite) × (k.lifetime ≡ 2 ^ 48)) ks
+    → AllByRecursion (λ k. (k.master.suite ≡ suite) × (k.life ≡ life_of kind (2 ^ 48))) (keys_of kind (numbered n (map line_key ks)))
+keys_serve suite Rtp n [] all = tt
+keys_serve suite Rtp n (k ∷ ks) all = ((all.0.0, all.0.1), keys_serve suite Rtp (n + 1) ks all.1)
+keys_serve suite Rtcp n [] all = tt
+keys_serve suite Rtcp n (k ∷ ks) all = ((all.0.0, ap (life_of Rtcp) all.0.1), keys_serve suite Rtcp (n + 1) ks all.1)
+
+window_is : (size : Option ℕ) → IsWindow size (window_of size)
+window_is None = refl
+window_is (Some size) = refl
+
+module _ (peers : List descriptions.Medium) where
+  opens_else : Opening ≡ Sealing → ⊥
+  opens_else e = absurd cc
+
+  seals_else : Sealing ≡ Opening → ⊥
+  seals_else e = absurd cc
+
+  opening_by : (call generation medium n : ℕ) (l : CryptoLine) (x : Medium) → IsFirstAt peers medium l
+      → AllByRecursion (IsByFirst peers) (stream_sessions (owner_at call generation medium Opening) (numbered n (map line_key l.keys)) (stream_of_line l l) (window_of l.window) x)
+  opening_by call generation medium n l x first = each_stream (IsByFirst peers) _ _ (stream_of_line l l) (window_of l.window) x (this Rtp (not l.plain_rtp) (tag_len_of l.suite) refl refl) (λ on. this Rtcp (not l.plain_rtcp) 10 refl refl)
+    where
+      this : (kind : Kind) (on : Bool) (tag_len : ℕ) → on ≡ not (is_plain kind l) → tag_len ≡ tag_octets kind l.suite
+          → IsByFirst peers (stream_session (owner_at call generation medium Opening) (numbered n (map line_key l.keys)) (stream_of_line l l) (window_of l.window) x kind on tag_len)
+      this kind on tag_len encrypts tags = (
+        (λ opens. record {
+          medium = first.0;
+          in_peers = first.1;
+          line = l;
+          is_first = first.2;
+          under = record {
+            masters = masters_of kind n (map line_key l.keys) ∙ masters_mapped l;
+            mkis = mkis_of kind n (map line_key l.keys) ∙ mkis_mapped l.keys;
+            lives = lives_mapped kind n l.keys;
+            roc = refl;
+            sources = refl;
+            tags = tags;
+            window = window_is l.window;
+            encrypts = encrypts;
+          };
+        }),
+        (λ seals. absurd (opens_else seals)),
+      )
+
+  sealing_by : (call generation medium n : ℕ) (l own : CryptoLine) (x : Medium) → IsFirstAt peers medium l → IsFresh own → own.suite ≡ l.suite
+      → AllByRecursion (IsByFirst peers) (stream_sessions (owner_at call generation medium Sealing) (numbered n (map line_key own.keys)) (stream_of_line l own) 1024 x)
+  sealing_by call generation medium n l own x first fresh same =
+      each_stream (IsByFirst peers) _ _ (stream_of_line l own) 1024 x (this Rtp (not l.plain_rtp) (tag_len_of own.suite) refl (ap tag_len_of same)) (λ on. this Rtcp (not l.plain_rtcp) 10 refl refl)
+    where
+      this : (kind : Kind) (on : Bool) (tag_len : ℕ) → on ≡ not (is_plain kind l) → tag_len ≡ tag_octets kind l.suite
+          → IsByFirst peers (stream_session (owner_at call generation medium Sealing) (numbered n (map line_key own.keys)) (stream_of_line l own) 1024 x kind on tag_len)
+      this kind on tag_len encrypts tags = (
+        (λ opens. absurd (seals_else opens)),
+        (λ seals. record {
+          medium = first.0;
+          in_peers = first.1;
+          line = l;
+          is_first = first.2;
+          keys = keys_serve l.suite kind n own.keys (subst (λ (suite : Suite). AllByRecursion (λ (k : InlineKey). (k.key.suite ≡ suite) × (k.lifetime ≡ 2 ^ 48)) own.keys) same fresh);
+          tags = tags;
+          encrypts = encrypts;
+        }),
+      )
+
+  sessions_by : (call generation k n : ℕ) (xs : List (Option Medium)) → AllAt (Agrees peers) k xs → AllByRecursion (IsByFirst peers) (sessions_from call generation k n xs)
+  sessions_by call generation k n [] all = tt
+  sessions_by call generation k n (None ∷ xs) all = sessions_by call generation (k + 1) n xs all
+  sessions_by call generation k n (Some x ∷ xs) all =
+      let by = all.0 in
+      each_append (IsByFirst peers) (stream_sessions (owner_at call generation k Opening) (numbered n x.from_peer.keys) x.from_peer x.window x) _
+      (subst (λ (st : Stream). AllByRecursion (IsByFirst peers) (stream_sessions (owner_at call generation k Opening) (numbered n st.keys) st x.window x)) (sym by.opens)
+      (subst (λ (w : ℕ). AllByRecursion (IsByFirst peers) (stream_sessions (owner_at call generation k Opening) (numbered n (map line_key by.line.keys)) (stream_of_line by.line by.line) w x)) (sym by.size)
+      (opening_by call generation k n by.line x by.first)))
+      (each_append (IsByFirst peers) (stream_sessions (owner_at call generation k Sealing) (numbered (n + length x.from_peer.keys) x.to_peer.keys) x.to_peer 1024 x) _
+      (subst (λ (st : Stream). AllByRecursion (IsByFirst peers) (stream_sessions (owner_at call generation k Sealing) (numbered (n + length x.from_peer.keys) st.keys) st 1024 x)) (sym by.seals)
+      (sealing_by call generation k (n + length x.from_peer.keys) by.line by.own x by.first by.fresh by.suite))
+      (sessions_by call generation (k + 1) (n + length x.from_peer.keys + length x.to_peer.keys) xs all.1))
+
+  media_by : (side : Side) (k : ℕ) (ms ns : List descriptions.Medium) (ks : List (Option Keyed)) → AllAt (Keys peers) k ks → AllAt (Agrees peers) k (media_agreed side ms ns ks)
+  media_by side k [] ns ks all = tt
+  media_by side k (m ∷ ms) [] ks all = tt
+  media_by side k (m ∷ ms) (n ∷ ns) [] all = tt
+  media_by side k (m ∷ ms) (n ∷ ns) (None ∷ ks) all = media_by side (k + 1) ms ns ks all
+  media_by Secure k (m ∷ ms) (n ∷ ns) (Some y ∷ ks) all = (all.0, media_by Secure (k + 1) ms ns ks all.1)
+  media_by Plain k (m ∷ ms) (n ∷ ns) (Some y ∷ ks) all = (all.0, media_by Plain (k + 1) ms ns ks all.1)
+
+-- ---- by lines
+
+peers_by : (peers : List descriptions.Medium) (noise : List ℕ) (k : ℕ) (peer : CryptoLine) (n : descriptions.Medium) (y : Keyed) → IsFirstAt peers k peer → keyed_by_peer_line noise k peer n ≡ Ok y → Keys peers k y
+peers_by peers noise k peer n y is e =
+    subst (Keys peers k) (ok_is (keyed_by_answer peer (answer_by peer (noise_of k noise))) y e)
+    (record { line = peer; own = answer_by peer (noise_of k noise); first = is; opens = refl; seals = refl; size = refl; fresh = ((refl, refl), tt); suite = refl })
+
+owns_by : (peers : List descriptions.Medium) (k : ℕ) (offered : List CryptoLine) (n : descriptions.Medium) (y : Keyed) → AllByRecursion IsFresh offered → IsMediumAt peers k n → keyed_by_own_lines k offered n ≡ Ok y → Keys peers k y
+owns_by peers k offered n y fresh at e =
+    let value : Option (List ℕ) = first_of (crypto_values n.lines) in
+    let a = after_ok_is (of_sdes k (lines_matched offered value)) _ y e in
+    let by = sdes_is k (lines_matched offered value) a.0 a.1 in
+    subst (Keys peers k) (ok_is (keyed_by_matched a.0) y a.2) (record {
+      line = a.0.1;
+      own = a.0.0;
+      first = (n, at, first_matched offered n.lines a.0 by);
+      opens = refl;
+      seals = refl;
+      size = refl;
+      fresh = own_of_lines IsFresh offered value a.0 fresh by;
+      suite = suites_of offered value a.0 by;
+    })
 
 abbrev OwnsOf : Way → Offer → Type 0
 OwnsOf SdesFromPlain o = (ls : List (Option (List CryptoLine))) × (o.keying ≡ OwnLines ls) × AllAt (λ k l. AllByRecursion IsFresh l) 0 ls
@@ -156,70 +229,63 @@ owns_offered h way text a e =
     let q = after_ok_is (keying_of h p.0 way) _ a p.2 in
     subst (λ (a : AgreedOffer). OwnsOf way a.offer) (ok_is _ a q.2) (owns_of_keying h p.0 way q.0 q.1)
 
-peers_seals : (slot : ℕ) (o : Offer) (noise text : List ℕ) (g : AgreedAnswer) (ls : List (Option CryptoLine)) → o.keying ≡ PeerLines ls → AllAt (IsFirstAt o.description.media) 0 ls → agreed_answer slot o noise text ≡ Ok g
-    → AllAt (λ k (x : Medium). SealsFor o.description.media k x.to_peer) 0 g.media
+peers_agree : (slot : ℕ) (o : Offer) (noise text : List ℕ) (g : AgreedAnswer) (ls : List (Option CryptoLine)) → o.keying ≡ PeerLines ls → AllAt (IsFirstAt o.description.media) 0 ls → agreed_answer slot o noise text ≡ Ok g
+    → AllAt (Agrees o.description.media) 0 g.media
 unfolding agreed_answer
-peers_seals slot o noise text g ls keyed firsts e =
+peers_agree slot o noise text g ls keyed firsts e =
     let peers : List descriptions.Medium = o.description.media in
     let p = after_ok_is (described (other_side o.side) (Some (length o.description.media)) text) _ g e in
     let active : List Bool = actives_after o.side o.description.media p.0.media in
     let q = after_ok_is (answered_by o noise p.0 active o.keying) _ g p.2 in
     let r = after_ok_is (each_kept (keyed_by_peer_line noise) 0 active ls p.0.media) _ q.0 (ap (answered_by o noise p.0 active) (sym keyed) ∙ q.1) in
-    let all = each_kept_at (IsFirstAt peers) (λ k (y : Keyed). SealsFor peers k y.to_peer) (keyed_by_peer_line noise) (λ k x n y u v. peers_seal peers noise k x n y u v) 0 active ls p.0.media r.0 firsts r.1 in
-    let media : AllAt (λ k (y : Keyed). SealsFor peers k y.to_peer) 0 q.0.media = subst (λ (a : Keyings). AllAt (λ k (y : Keyed). SealsFor peers k y.to_peer) 0 a.media) (ok_is _ q.0 r.2) all in
-    subst (λ (g : AgreedAnswer). AllAt (λ k (x : Medium). SealsFor peers k x.to_peer) 0 g.media) (ok_is (accepted_answer slot o p.0 active q.0) g q.2)
-    (media_seal peers o.side 0 o.description.media p.0.media q.0.media media)
+    let all = each_kept_at (IsFirstAt peers) (Keys peers) (keyed_by_peer_line noise) (λ k x n y u v. peers_by peers noise k x n y u v) 0 active ls p.0.media r.0 firsts r.1 in
+    let media : AllAt (Keys peers) 0 q.0.media = subst (λ (a : Keyings). AllAt (Keys peers) 0 a.media) (ok_is _ q.0 r.2) all in
+    subst (λ (g : AgreedAnswer). AllAt (Agrees peers) 0 g.media) (ok_is (accepted_answer slot o p.0 active q.0) g q.2)
+    (media_by peers o.side 0 o.description.media p.0.media q.0.media media)
 
-owns_seals : (slot : ℕ) (o : Offer) (noise text : List ℕ) (g : AgreedAnswer) (answer : Sdp) (ls : List (Option (List CryptoLine))) → o.keying ≡ OwnLines ls → AllAt (λ k l. AllByRecursion IsFresh l) 0 ls
-    → description_of text ≡ Ok answer → agreed_answer slot o noise text ≡ Ok g → AllAt (λ k (x : Medium). SealsFor answer.media k x.to_peer) 0 g.media
+owns_agree : (slot : ℕ) (o : Offer) (noise text : List ℕ) (g : AgreedAnswer) (answer : Sdp) (ls : List (Option (List CryptoLine))) → o.keying ≡ OwnLines ls → AllAt (λ k l. AllByRecursion IsFresh l) 0 ls
+    → description_of text ≡ Ok answer → agreed_answer slot o noise text ≡ Ok g → AllAt (Agrees answer.media) 0 g.media
 unfolding agreed_answer
-owns_seals slot o noise text g answer ls keyed fresh read e =
+owns_agree slot o noise text g answer ls keyed fresh read e =
     let p = after_ok_is (described (other_side o.side) (Some (length o.description.media)) text) _ g e in
     let same : p.0 ≡ answer = ok_is p.0 answer (sym (described_is (other_side o.side) (Some (length o.description.media)) text p.0 p.1) ∙ read) in
     let active : List Bool = actives_after o.side o.description.media p.0.media in
     let q = after_ok_is (answered_by o noise p.0 active o.keying) _ g p.2 in
     let r = after_ok_is (each_kept keyed_by_own_lines 0 active ls p.0.media) _ q.0 (ap (answered_by o noise p.0 active) (sym keyed) ∙ q.1) in
     let all = owns_placed p.0.media 0 active ls p.0.media r.0 fresh (at_start p.0.media) r.1 in
-    let media : AllAt (λ k (y : Keyed). SealsFor p.0.media k y.to_peer) 0 q.0.media = subst (λ (a : Keyings). AllAt (λ k (y : Keyed). SealsFor p.0.media k y.to_peer) 0 a.media) (ok_is _ q.0 r.2) all in
-    subst (λ (s : Sdp). AllAt (λ k (x : Medium). SealsFor s.media k x.to_peer) 0 g.media) same
-    (subst (λ (g : AgreedAnswer). AllAt (λ k (x : Medium). SealsFor p.0.media k x.to_peer) 0 g.media) (ok_is (accepted_answer slot o p.0 active q.0) g q.2)
-    (media_seal p.0.media o.side 0 o.description.media p.0.media q.0.media media))
+    let media : AllAt (Keys p.0.media) 0 q.0.media = subst (λ (a : Keyings). AllAt (Keys p.0.media) 0 a.media) (ok_is _ q.0 r.2) all in
+    subst (λ (s : Sdp). AllAt (Agrees s.media) 0 g.media) same
+    (subst (λ (g : AgreedAnswer). AllAt (Agrees p.0.media) 0 g.media) (ok_is (accepted_answer slot o p.0 active q.0) g q.2)
+    (media_by p.0.media o.side 0 o.description.media p.0.media q.0.media media))
   where
     owns_placed : (peers : List descriptions.Medium) (k : ℕ) (active : List Bool) (xs : List (Option (List CryptoLine))) (ns : List descriptions.Medium) (ys : List (Option Keyed)) → AllAt (λ k l. AllByRecursion IsFresh l) k xs → Placed peers k ns
-        → each_kept keyed_by_own_lines k active xs ns ≡ Ok ys → AllAt (λ k (y : Keyed). SealsFor peers k y.to_peer) k ys
-    owns_placed peers k [] xs ns ys all placed e = subst (AllAt (λ k (y : Keyed). SealsFor peers k y.to_peer) k) (ok_is [] ys e) tt
-    owns_placed peers k (on ∷ active) [] ns ys all placed e = subst (AllAt (λ k (y : Keyed). SealsFor peers k y.to_peer) k) (ok_is [] ys e) tt
-    owns_placed peers k (on ∷ active) (x ∷ xs) [] ys all placed e = subst (AllAt (λ k (y : Keyed). SealsFor peers k y.to_peer) k) (ok_is [] ys e) tt
+        → each_kept keyed_by_own_lines k active xs ns ≡ Ok ys → AllAt (Keys peers) k ys
+    owns_placed peers k [] xs ns ys all placed e = subst (AllAt (Keys peers) k) (ok_is [] ys e) tt
+    owns_placed peers k (on ∷ active) [] ns ys all placed e = subst (AllAt (Keys peers) k) (ok_is [] ys e) tt
+    owns_placed peers k (on ∷ active) (x ∷ xs) [] ys all placed e = subst (AllAt (Keys peers) k) (ok_is [] ys e) tt
     owns_placed peers k (on ∷ active) (x ∷ xs) (n ∷ ns) ys all placed e =
         let a = after_ok_is (if_kept on x (λ x. keyed_by_own_lines k x n)) _ ys e in
         let b = after_ok_is (each_kept keyed_by_own_lines (k + 1) active xs ns) _ ys a.2 in
-        subst (AllAt (λ k (y : Keyed). SealsFor peers k y.to_peer) k) (ok_is (a.0 ∷ b.0) ys b.2)
-        (some_at (λ k (y : Keyed). SealsFor peers k y.to_peer) k a.0 b.0
-        (λ y is. let s = kept_some on x (λ x. keyed_by_own_lines k x n) y (a.1 ∙ ap Ok is) in owns_seal peers k s.0 n y (this_at (λ k l. AllByRecursion IsFresh l) k x xs all s.0 s.1) (at_head peers k n ns placed) s.2)
+        subst (AllAt (Keys peers) k) (ok_is (a.0 ∷ b.0) ys b.2)
+        (some_at (Keys peers) k a.0 b.0
+        (λ y is. let s = kept_some on x (λ x. keyed_by_own_lines k x n) y (a.1 ∙ ap Ok is) in owns_by peers k s.0 n y (this_at (λ k l. AllByRecursion IsFresh l) k x xs all s.0 s.1) (at_head peers k n ns placed) s.2)
         (owns_placed peers (k + 1) active xs ns b.0 (rest_at (λ k l. AllByRecursion IsFresh l) k x xs all) (at_rest peers k n ns placed) b.1))
 
 -- ---- an answer
 
-both_ways : (peers : List descriptions.Medium) (ss : List Session) → AllByRecursion (OpensAs (FirstAt peers)) ss → AllByRecursion (SealsAs peers) ss → AllByRecursion (IsByFirst peers) ss
-both_ways peers [] opens seals = tt
-both_ways peers (s ∷ ss) opens seals = (((λ is. under_first peers s (opens.0 is)), seals.0), both_ways peers ss opens.1 seals.1)
-
-are_first : (peers : List descriptions.Medium) (c d : Call) (o : Offer) (noise text : List ℕ) (a : IsAnswered c d o noise text) → AllAt (λ k (x : Medium). StreamHas (FirstAt peers) k x.from_peer) 0 a.agreement.media
-    → AllAt (λ k (x : Medium). SealsFor peers k x.to_peer) 0 a.agreement.media → AreByFirst peers d
-are_first peers c d o noise text a opens seals =
-    let new : List Session = sessions_from c.serial c.generations 0 a.number a.agreement.media in
+are_first : (peers : List descriptions.Medium) (c d : Call) (o : Offer) (noise text : List ℕ) (a : IsAnswered c d o noise text) → AllAt (Agrees peers) 0 a.agreement.media → AreByFirst peers d
+are_first peers c d o noise text a all =
     All-from_recursion (λ s. s.name.owner.generation + 1 ≡ d.generations → IsByFirst peers s) d.sessions
-    (of_generation c d new (IsByFirst peers) a.sessions a.generations
-    (both_ways peers new (sessions_open (FirstAt peers) c.serial c.generations 0 a.number a.agreement.media opens) (sessions_seal peers c.serial c.generations 0 a.number a.agreement.media seals)))
+    (of_generation c d (sessions_from c.serial c.generations 0 a.number a.agreement.media) (IsByFirst peers) a.sessions a.generations (sessions_by peers c.serial c.generations 0 a.number a.agreement.media all))
 
 module _ (c d : Call) (noise text : List ℕ) (answer : Sdp) (read : description_of text ≡ Ok answer) where
   by_first : (h : AtHand) (way : Way) (offered : List ℕ) (g : AgreedOffer) → agreed_offer h way offered ≡ Ok g → IsAnswered c d g.offer noise text → AreByFirstLines way g.offer.description answer d
   by_first h FromSecure offered g e a = λ none.
       let p = offer_first h offered g e none in
-      are_first g.offer.description.media c d g.offer noise text a (peers_answer c.slot g.offer noise text a.agreement p.0 p.1 p.2 a.agreed) (peers_seals c.slot g.offer noise text a.agreement p.0 p.1 p.2 a.agreed)
+      are_first g.offer.description.media c d g.offer noise text a (peers_agree c.slot g.offer noise text a.agreement p.0 p.1 p.2 a.agreed)
   by_first h SdesFromPlain offered g e a =
       let p : OwnsOf SdesFromPlain g.offer = owns_offered h SdesFromPlain offered g e in
-      are_first answer.media c d g.offer noise text a (owns_answer c.slot g.offer noise text a.agreement answer p.0 p.1 read a.agreed) (owns_seals c.slot g.offer noise text a.agreement answer p.0 p.1 p.2 read a.agreed)
+      are_first answer.media c d g.offer noise text a (owns_agree c.slot g.offer noise text a.agreement answer p.0 p.1 p.2 read a.agreed)
   by_first h (MikeyFromPlain peer) offered g e a = tt
 
 module _ (ts : List Turn) (w : World) (made : WereMade ts w) (id : CallId) (noise text : List ℕ) (c : Call) (o : Offer) (at : call_of w id ≡ Some c) (open_one : c.offer ≡ Some o) where

@@ -17,7 +17,7 @@ use Rattle.sg_gateway.proofs.Agreements.{Agreements}
 use Rattle.sg_gateway.proofs.CarriedOut.{stays}
 use Rattle.sg_gateway.proofs.Kept.{IsOffered, WasOffered}
 use Rattle.sg_gateway.proofs.Signals.{found}
-use Rattle.sg_gateway.specs.Signals.{Answered, answer_to, answered}
+use Rattle.sg_gateway.specs.Signals.{Answered, answer_to}
 use Rattle.sg_gateway.proofs.Lists.{any_first, any_second}
 use Rattle.sg_conduct.specs.Present.{HasProfileOf, HasSession, HasSessions, TakesPart}
 
@@ -78,17 +78,21 @@ agreement_is slot o noise text g e =
       media = ap (λ (g : AgreedAnswer). g.media) (ok_is (accepted_answer slot o p.0 active q.0) g q.2);
     }
 
+-- what is agreed of an answer, is so exactly of the media that are active in both
+pub agreed_active : Agreements → (slot : ℕ) (o : Offer) (noise text : List ℕ) (g : AgreedAnswer) (answer : Sdp) → WasOffered o → agreed_answer slot o noise text ≡ Ok g → description_of text ≡ Ok answer
+    → AreAgreedWhereActive o.side o.description.media answer.media g.media
+agreed_active laws slot o noise text g answer was e read =
+    let a = laws.answered was.hand was.way was.text noise text slot was.accepted g was.agreed (ap (λ (o : Offer). agreed_answer slot o noise text) was.same ∙ e) in
+    subst (λ (s : Sdp). AreAgreedWhereActive o.side o.description.media s.media g.media) (ok_is a.0 answer (sym a.1 ∙ read))
+    (subst (λ (o : Offer). AreAgreedWhereActive o.side o.description.media a.0.media g.media) was.same a.2)
+
 answer_there : Agreements → (slot : ℕ) (o : Offer) (noise text : List ℕ) (g : AgreedAnswer) (answer : Sdp) → WasOffered o → agreed_answer slot o noise text ≡ Ok g → description_of text ≡ Ok answer
     → AreThere o.side o.description.media answer.media g.media
 answer_there laws slot o noise text g answer was e read =
     let is = agreement_is slot o noise text g e in
     let same : is.answer ≡ answer = ok_is is.answer answer (sym is.read ∙ read) in
-    let a = laws.answered was.hand was.way was.text noise text slot was.accepted g was.agreed (ap (λ (o : Offer). agreed_answer slot o noise text) was.same ∙ e) in
-    let also : a.0 ≡ is.answer = ok_is a.0 is.answer (sym a.1 ∙ is.read) in
-    let of_law : AreAgreedWhereActive o.side o.description.media a.0.media g.media = subst (λ (o : Offer). AreAgreedWhereActive o.side o.description.media a.0.media g.media) was.same a.2 in
     let active : AreAgreedWhereActive o.side o.description.media is.answer.media (media_agreed o.side o.description.media is.answer.media is.keyed) =
-    subst (AreAgreedWhereActive o.side o.description.media is.answer.media) (sym is.media)
-    (subst (λ (s : Sdp). AreAgreedWhereActive o.side o.description.media s.media g.media) also of_law) in
+    subst (AreAgreedWhereActive o.side o.description.media is.answer.media) (sym is.media) (agreed_active laws slot o noise text g is.answer was e is.read) in
     subst (λ (s : Sdp). AreThere o.side o.description.media s.media g.media) same
     (subst (AreThere o.side o.description.media is.answer.media) is.media (media_there o.side o.description.media is.answer.media is.keyed active))
 

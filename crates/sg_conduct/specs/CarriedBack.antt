@@ -1,14 +1,15 @@
 -- What is told of an answer to the side that offered is the answer's description as it came, but for what holds for one side
 -- alone (RFC 3264, 6): its lines in their order, each medium in its place under the offer's protocol word, at the gateway's own
--- port exactly where it takes part in both texts, and behind them the line that the gateway adds.
-use Rattle.std.specs.Prelude.{◌≡◌, ◌⊎◌, ℕ, ◌+◌, List, [], ◌∷◌, ◌++◌, codes, Some, Ok}
-use Rattle.std.specs.List.{Any}
+-- port exactly where it takes part in both texts, and behind them what the gateway adds: to each medium that takes part in both
+-- the one line, or response, that keys it, and to another none.
+use Rattle.std.specs.Prelude.{◌≡◌, ◌⊎◌, ℕ, ◌+◌, List, [], ◌∷◌, ◌++◌, take, codes, Some, Ok}
 use Rattle.base64.specs.GeneralPurpose.{encode_of}
 use Rattle.base64.specs.Engines.{standard}
 use Rattle.sg_agreement.specs.Keying.{Keying, PeerLines, PeerMessage, PeerMessages, Offer}
 use Rattle.sg_agreement.specs.Sides.{other_side}
 use Rattle.sg_base.specs.declared.addresses.CallId.{CallId}
 use Rattle.sg_base.specs.declared.addresses.Side.{Side}
+use Rattle.sg_base.specs.Suites.{key_len_of, salt_len_of}
 use Rattle.sg_outcome.specs.declared.outcomes.Outcome.TheVariants as outcomes
 use Rattle.sg_sdes.specs.CryptoText.{crypto_text}
 use Rattle.sg_sdes.specs.declared.lines.CryptoLine.{CryptoLine}
@@ -23,7 +24,8 @@ use Rattle.sg_gateway.specs.Runs.{Turn}
 use Rattle.sg_gateway.specs.Signals.{Answered}
 use Rattle.sg_gateway.specs.Step.{Signalled}
 use Rattle.sg_gateway.specs.World.{Call, call_of}
-use Rattle.sg_conduct.specs.Carried.{AreCarried, own_line}
+use Rattle.sg_conduct.specs.Carried.{AreCarried, IsFirstLine, own_line}
+use Rattle.sg_conduct.specs.Drawn.{noise_for}
 use Rattle.sg_conduct.specs.OwnPorts.{port_towards}
 use Rattle.sg_conduct.specs.Present.{TakesPart}
 
@@ -64,35 +66,41 @@ abbrev pub AddsToAnswer : Keying → List (List ℕ) → Type 0
 AddsToAnswer (PeerMessage b) added = IsOneMessage added
 AddsToAnswer other added = added ≡ []
 
--- under the tag and the suite of the line that is answered, of one key, without lifetime and MKI (RFC 4568, 5.1.2)
-abbrev pub Answers : CryptoLine → CryptoLine → Type 0
-Answers peer own =
-    (octets : List ℕ) × (own ≡ record (own_line peer.tag peer.suite octets) { plain_rtp = peer.plain_rtp; plain_rtcp = peer.plain_rtcp })
+-- The line that answers the peer's: under its tag and its suite, of one key without lifetime and MKI, the first octets of the
+-- medium's noise, and unencrypted where the peer's says so (RFC 4568, 5.1.2 and 6.3.2).
+abbrev pub answer_to : CryptoLine → List ℕ → CryptoLine
+answer_to peer noise =
+    record (own_line peer.tag peer.suite (take (key_len_of peer.suite + salt_len_of peer.suite) noise)) { plain_rtp = peer.plain_rtp; plain_rtcp = peer.plain_rtcp }
 
--- to a medium at most one: the line that answers the peer's (RFC 4568, 5.1.2), or the response to the medium's own message
-abbrev pub AddsBack : Keying → List (List ℕ) → Type 0
-AddsBack (PeerLines ls) added = (added ≡ []) ⊎ ((peer own : CryptoLine) × Any (λ l. l ≡ Some peer) ls × Answers peer own × (added ≡ (codes "a=crypto:" ++ crypto_text own) ∷ []))
-AddsBack (PeerMessages bs) added = (added ≡ []) ⊎ IsOneMessage added
-AddsBack other added = added ≡ []
+-- To a medium that takes part in both: where the peer offered lines, the one that answers the first of the medium's that is read, by
+-- which its sessions are (`AnswerIsByFirst`); and where the medium has a message of its own, the response to it.
+abbrev pub AddsBack : Keying → List ℕ → descriptions.Medium → List (List ℕ) → Type 0
+AddsBack (PeerLines ls) noise m added = (peer : CryptoLine) × IsFirstLine m.lines peer × (added ≡ (codes "a=crypto:" ++ crypto_text (answer_to peer noise)) ∷ [])
+AddsBack (PeerMessages bs) noise m added = IsOneMessage added
+AddsBack other noise m added = added ≡ []
+
+-- and to another medium nothing
+abbrev pub AddsWhereBoth : Keying → Side → List ℕ → descriptions.Medium → descriptions.Medium → List (List ℕ) → Type 0
+AddsWhereBoth keying side noise m n added = (TakesPartInBoth side m n × AddsBack keying noise m added) ⊎ ((¬ TakesPartInBoth side m n) × (added ≡ []))
 
 -- each medium in its place, from this number on
-abbrev pub AreAnsweredMedia : Keying → Side → ℕ → ℕ → List descriptions.Medium → List descriptions.Medium → List descriptions.Medium → Type 0
-AreAnsweredMedia keying side slot number [] [] told = told ≡ []
-AreAnsweredMedia keying side slot number (m ∷ ms) (n ∷ ns) told =
+abbrev pub AreAnsweredMedia : Keying → Side → List ℕ → ℕ → ℕ → List descriptions.Medium → List descriptions.Medium → List descriptions.Medium → Type 0
+AreAnsweredMedia keying side noise slot number [] [] told = told ≡ []
+AreAnsweredMedia keying side noise slot number (m ∷ ms) (n ∷ ns) told =
     (first : descriptions.Medium) × (rest : List descriptions.Medium) × (told ≡ first ∷ rest)
-    × ((added : List (List ℕ)) × AddsBack keying added × IsAnsweredMedium side slot number added m n first)
-    × AreAnsweredMedia keying side slot (number + 1) ms ns rest
-AreAnsweredMedia keying side slot number ms ns told = ⊥
+    × ((added : List (List ℕ)) × AddsWhereBoth keying side (noise_for number noise) m n added × IsAnsweredMedium side slot number added m n first)
+    × AreAnsweredMedia keying side noise slot (number + 1) ms ns rest
+AreAnsweredMedia keying side noise slot number ms ns told = ⊥
 
 -- ---- the text
 
-pub record IsToldBack (slot : ℕ) (o : Offer) (answer : Sdp) (text : List ℕ) : Type 0 where
+pub record IsToldBack (slot : ℕ) (o : Offer) (noise : List ℕ) (answer : Sdp) (text : List ℕ) : Type 0 where
   pub told : Sdp
   pub spells : text ≡ spelling told
   pub added : List (List ℕ)
   pub adds : AddsToAnswer o.keying added
   pub session : AreCarried answer.session added told.session
-  pub media : AreAnsweredMedia o.keying o.side slot 0 o.description.media answer.media told.media
+  pub media : AreAnsweredMedia o.keying o.side noise slot 0 o.description.media answer.media told.media
 
 -- so each answer to an open offer that isn't refused
 abbrev pub AnswerIsCarried : Turn → Type 0
@@ -100,4 +108,4 @@ AnswerIsCarried t =
     (id : CallId) (noise text : List ℕ) (c : Call) (o : Offer) → t.event ≡ Signalled (Answered id noise text) → call_of t.before id ≡ Some c → c.offer ≡ Some o
     → ¬ IsRefused t
     → (answer : Sdp) × (description_of text ≡ Ok answer)
-    × ((back : List ℕ) × (t.outcomes ≡ outcomes.Sdp id o.side back ∷ (outcomes.Live id ∷ [])) × IsToldBack c.slot o answer back)
+    × ((back : List ℕ) × (t.outcomes ≡ outcomes.Sdp id o.side back ∷ (outcomes.Live id ∷ [])) × IsToldBack c.slot o noise answer back)

@@ -1,6 +1,6 @@
 -- The sessions of an answer that is taken are by the first crypto line of the peer's medium that is read (RFC 4568, 5.1.2 and 5.1.3):
--- what is opened is under its keys, and what is sealed under keys of its suite.
-use Rattle.std.specs.Prelude.{◌≡◌, ℕ, ◌+◌, ◌^◌, List, Some, Ok}
+-- what is opened is under that very line, and what is sealed under keys of its suite.
+use Rattle.std.specs.Prelude.{◌≡◌, ℕ, ◌+◌, ◌^◌, not, List, Some, Ok}
 use Rattle.std.specs.List.{All, AllByRecursion, Any}
 use Rattle.sg_agreement.specs.Keying.{Offer}
 use Rattle.sg_agreement.specs.TextLines.{HasNoMessage}
@@ -14,17 +14,26 @@ use Rattle.sg_sdp.specs.declared.sdp.Sdp.{Sdp}
 use Rattle.sg_session.specs.Session.{Session}
 use Rattle.sg_session.specs.declared.names.Direction.TheVariants.{Opening, Sealing}
 use Rattle.sg_gateway.specs.Addressed.{IsMediumAt}
+use Rattle.sg_gateway.specs.ByTexts.{IsUnderLine, is_plain}
 use Rattle.sg_gateway.specs.CryptoSessions.{life_of, tag_octets}
 use Rattle.sg_gateway.specs.Runs.{Turn, after_turn}
 use Rattle.sg_gateway.specs.Signals.{Answered}
 use Rattle.sg_gateway.specs.Step.{Signalled}
 use Rattle.sg_gateway.specs.World.{Call, call_of}
-use Rattle.sg_conduct.specs.Brought.{IsUnderFirst}
 use Rattle.sg_conduct.specs.Carried.{IsFirstLine}
 use Rattle.sg_conduct.specs.Drawn.{IsOfferOf}
 
--- It seals as that line asks: its keys and tags are of the line's suite, and each key serves 2^48 packets of RTP or 2^31 of RTCP
--- (RFC 3711, 9.2).
+-- It opens by that line: under its keys, with their MKIs and lives, in its window, with tags of its suite, and encrypted unless the
+-- line says not to.
+pub record OpensByFirst (peers : List descriptions.Medium) (s : Session) : Type 0 where
+  pub medium : descriptions.Medium
+  pub in_peers : IsMediumAt peers s.name.owner.medium medium
+  pub line : CryptoLine
+  pub is_first : IsFirstLine medium.lines line
+  pub under : IsUnderLine s line line
+
+-- It seals as that line asks: its keys and tags are of the line's suite, each key serves 2^48 packets of RTP or 2^31 of RTCP
+-- (RFC 3711, 9.2), and it encrypts unless the line says not to (RFC 4568, 6.3.2).
 pub record IsForFirst (peers : List descriptions.Medium) (s : Session) : Type 0 where
   pub medium : descriptions.Medium
   pub in_peers : IsMediumAt peers s.name.owner.medium medium
@@ -32,9 +41,10 @@ pub record IsForFirst (peers : List descriptions.Medium) (s : Session) : Type 0 
   pub is_first : IsFirstLine medium.lines line
   pub keys : AllByRecursion (λ k. (k.master.suite ≡ line.suite) × (k.life ≡ life_of s.name.kind (2 ^ 48))) s.keys
   pub tags : s.tag_len ≡ tag_octets s.name.kind line.suite
+  pub encrypts : s.encrypts ≡ not (is_plain s.name.kind line)
 
 abbrev pub IsByFirst : List descriptions.Medium → Session → Type 0
-IsByFirst peers s = (s.name.owner.direction ≡ Opening → IsUnderFirst peers s) × (s.name.owner.direction ≡ Sealing → IsForFirst peers s)
+IsByFirst peers s = (s.name.owner.direction ≡ Opening → OpensByFirst peers s) × (s.name.owner.direction ≡ Sealing → IsForFirst peers s)
 
 -- each session of the call's current generation
 abbrev pub AreByFirst : List descriptions.Medium → Call → Type 0

@@ -1,6 +1,8 @@
 use Rattle.std.proofs.lemmas.List.Elements.{All-from_recursion}
 use Rattle.sg_gateway.proofs.Agreements.{Agreements}
+use Rattle.sg_gateway.proofs.Common.{each_weaker}
 use Rattle.sg_gateway.proofs.Datagrams.{every_turn}
+use Rattle.sg_gateway.proofs.Kept.{IsOffered}
 use Rattle.sg_gateway.proofs.Orderly.{Ordered}
 use Rattle.sg_gateway.proofs.Reached.{Anything, anything_had, anything_on, at_each_turn, ordered_worlds}
 use Rattle.sg_gateway.specs.Runs.{turns}
@@ -24,5 +26,5 @@ returns c = λ events.
       byes = at_each_turn ByeIsTold (λ past w e kept. bye_is_told w e) events;
       idle = at_each_turn IdleIsTold (λ past w e kept. idle_is_told w e) events;
       live = at_each_turn AnswerTellsLive (λ past w e kept. tells_live w e) events;
-      back = at_each_turn AnswerIsCarried (λ past w e kept. answer_carried w e) events;
+      back = at_each_turn AnswerIsCarried (λ past w e kept. answer_carried laws w (each_weaker _ (λ c. IsOffered c.offer) (λ c k. k.offered) w.calls kept.calls) e) events;
     }
