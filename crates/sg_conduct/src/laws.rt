@@ -90,7 +90,8 @@ pub fn offers_are_told_as_they_came()
 /// answer would bring, and nothing else is told. No packet, pre-shared key or `manual` line closes an open offer, no key
 /// comes into the ring without a session under it, and no message is noted without its offer. Ticks alone move the moment,
 /// `psk` lines alone change the pre-shared keys, `manual` lines alone mark calls; a call whose first offer is rejected ends,
-/// and each has a generation or an open offer.
+/// and each has a generation or an open offer. What an answer keys by crypto lines is by the first one of the peer's medium that
+/// is read, and by the gateway's that goes with it.
 pub fn refused_answers_show_causes()
     ensures { (events : List Event) → RefusedAnswersShowCauses events }
 {
@@ -121,7 +122,8 @@ pub fn calls_were_heard()
 /// and each medium has port 0 or that of the call's slot. Within the limits of what is read it is read as that one alone.
 /// Ticks, `psk` lines, rejections and byes tell ends and refusals alone, and an answer that isn't refused tells one text and
 /// that its call is live. That text is the answer's description line by line, but for what holds for one side alone, with the
-/// offer's protocol words and the gateway's own address and lines, and its own port exactly where a medium takes part in both.
+/// offer's protocol words and the gateway's own address; and each medium that takes part in both, and no other, has its own port
+/// and the one line that answers it.
 pub fn told_texts_are_own()
     ensures { (events : List Event) → ToldTextsAreOwn events }
 {
