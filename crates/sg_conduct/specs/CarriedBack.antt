@@ -3,12 +3,15 @@
 -- port exactly where it takes part in both texts, and behind them what the gateway adds: to each medium that takes part in both
 -- the one line, or response, that keys it, and to another none.
 use Rattle.std.specs.Prelude.{◌≡◌, ◌⊎◌, ℕ, ◌+◌, List, [], ◌∷◌, ◌++◌, take, codes, Some, Ok}
+use Rattle.std.specs.List.{AllByRecursion, Any}
 use Rattle.base64.specs.GeneralPurpose.{encode_of}
 use Rattle.base64.specs.Engines.{standard}
-use Rattle.sg_agreement.specs.Keying.{Keying, PeerLines, PeerMessage, PeerMessages, Offer}
+use Rattle.sg_agreement.specs.Keying.{Offer}
 use Rattle.sg_agreement.specs.Sides.{other_side}
+use Rattle.sg_agreement.specs.TextLines.{HasNoMessage, IsMessageLine}
 use Rattle.sg_base.specs.declared.addresses.CallId.{CallId}
 use Rattle.sg_base.specs.declared.addresses.Side.{Side}
+use Rattle.sg_base.specs.declared.addresses.Side.TheVariants.{Secure, Plain}
 use Rattle.sg_base.specs.Suites.{key_len_of, salt_len_of}
 use Rattle.sg_outcome.specs.declared.outcomes.Outcome.TheVariants as outcomes
 use Rattle.sg_sdes.specs.CryptoText.{crypto_text}
@@ -61,10 +64,14 @@ pub record IsAnsweredMedium (side : Side) (slot number : ℕ) (added : List (Lis
 abbrev pub IsOneMessage : List (List ℕ) → Type 0
 IsOneMessage added = (octets : List ℕ) × (added ≡ (codes "a=key-mgmt:mikey " ++ encode_of standard octets) ∷ [])
 
--- to the session part: the response to the peer's message for all media (RFC 4567, 3.1)
-abbrev pub AddsToAnswer : Keying → List (List ℕ) → Type 0
-AddsToAnswer (PeerMessage b) added = IsOneMessage added
-AddsToAnswer other added = added ≡ []
+-- no line of these carries a message (RFC 4567, 3.1)
+abbrev pub HaveNoMessage : List (List ℕ) → Type 0
+HaveNoMessage lines = AllByRecursion (λ line. ¬ IsMessageLine line) lines
+
+-- to the session part: the response to the secure side's message for all media, where the session part of its offer has one
+abbrev pub AddsToAnswer : Side → Sdp → List (List ℕ) → Type 0
+AddsToAnswer Secure offer added = (Any IsMessageLine offer.session × IsOneMessage added) ⊎ (HaveNoMessage offer.session × (added ≡ []))
+AddsToAnswer Plain offer added = added ≡ []
 
 -- The line that answers the peer's: under its tag and its suite, of one key without lifetime and MKI, the first octets of the
 -- medium's noise, and unencrypted where the peer's says so (RFC 4568, 5.1.2 and 6.3.2).
@@ -72,25 +79,30 @@ abbrev pub answer_to : CryptoLine → List ℕ → CryptoLine
 answer_to peer noise =
     record (own_line peer.tag peer.suite (take (key_len_of peer.suite + salt_len_of peer.suite) noise)) { plain_rtp = peer.plain_rtp; plain_rtcp = peer.plain_rtcp }
 
--- To a medium that takes part in both: where the peer offered lines, the one that answers the first of the medium's that is read, by
--- which its sessions are (`AnswerIsByFirst`); and where the medium has a message of its own, the response to it.
-abbrev pub AddsBack : Keying → List ℕ → descriptions.Medium → List (List ℕ) → Type 0
-AddsBack (PeerLines ls) noise m added = (peer : CryptoLine) × IsFirstLine m.lines peer × (added ≡ (codes "a=crypto:" ++ crypto_text (answer_to peer noise)) ∷ [])
-AddsBack (PeerMessages bs) noise m added = IsOneMessage added
-AddsBack other noise m added = added ≡ []
+-- the one that answers the first of the medium's that is read, by which its sessions are (`AnswerIsByFirst`)
+abbrev pub AnswersFirst : List ℕ → descriptions.Medium → List (List ℕ) → Type 0
+AnswersFirst noise m added = (peer : CryptoLine) × IsFirstLine m.lines peer × (added ≡ (codes "a=crypto:" ++ crypto_text (answer_to peer noise)) ∷ [])
+
+-- To a medium that takes part in both: where the secure side offered no message, that line; where the session part of its offer has
+-- one, nothing; and where media alone have some, the response to the medium's own.
+abbrev pub AddsBack : Side → Sdp → List ℕ → descriptions.Medium → List (List ℕ) → Type 0
+AddsBack Secure offer noise m added =
+    (HasNoMessage offer × AnswersFirst noise m added)
+    ⊎ ((Any IsMessageLine offer.session × (added ≡ [])) ⊎ (HaveNoMessage offer.session × (¬ HasNoMessage offer) × IsOneMessage added))
+AddsBack Plain offer noise m added = added ≡ []
 
 -- and to another medium nothing
-abbrev pub AddsWhereBoth : Keying → Side → List ℕ → descriptions.Medium → descriptions.Medium → List (List ℕ) → Type 0
-AddsWhereBoth keying side noise m n added = (TakesPartInBoth side m n × AddsBack keying noise m added) ⊎ ((¬ TakesPartInBoth side m n) × (added ≡ []))
+abbrev pub AddsWhereBoth : Side → Sdp → List ℕ → descriptions.Medium → descriptions.Medium → List (List ℕ) → Type 0
+AddsWhereBoth side offer noise m n added = (TakesPartInBoth side m n × AddsBack side offer noise m added) ⊎ ((¬ TakesPartInBoth side m n) × (added ≡ []))
 
 -- each medium in its place, from this number on
-abbrev pub AreAnsweredMedia : Keying → Side → List ℕ → ℕ → ℕ → List descriptions.Medium → List descriptions.Medium → List descriptions.Medium → Type 0
-AreAnsweredMedia keying side noise slot number [] [] told = told ≡ []
-AreAnsweredMedia keying side noise slot number (m ∷ ms) (n ∷ ns) told =
+abbrev pub AreAnsweredMedia : Side → Sdp → List ℕ → ℕ → ℕ → List descriptions.Medium → List descriptions.Medium → List descriptions.Medium → Type 0
+AreAnsweredMedia side offer noise slot number [] [] told = told ≡ []
+AreAnsweredMedia side offer noise slot number (m ∷ ms) (n ∷ ns) told =
     (first : descriptions.Medium) × (rest : List descriptions.Medium) × (told ≡ first ∷ rest)
-    × ((added : List (List ℕ)) × AddsWhereBoth keying side (noise_for number noise) m n added × IsAnsweredMedium side slot number added m n first)
-    × AreAnsweredMedia keying side noise slot (number + 1) ms ns rest
-AreAnsweredMedia keying side noise slot number ms ns told = ⊥
+    × ((added : List (List ℕ)) × AddsWhereBoth side offer (noise_for number noise) m n added × IsAnsweredMedium side slot number added m n first)
+    × AreAnsweredMedia side offer noise slot (number + 1) ms ns rest
+AreAnsweredMedia side offer noise slot number ms ns told = ⊥
 
 -- ---- the text
 
@@ -98,9 +110,9 @@ pub record IsToldBack (slot : ℕ) (o : Offer) (noise : List ℕ) (answer : Sdp)
   pub told : Sdp
   pub spells : text ≡ spelling told
   pub added : List (List ℕ)
-  pub adds : AddsToAnswer o.keying added
+  pub adds : AddsToAnswer o.side o.description added
   pub session : AreCarried answer.session added told.session
-  pub media : AreAnsweredMedia o.keying o.side noise slot 0 o.description.media answer.media told.media
+  pub media : AreAnsweredMedia o.side o.description noise slot 0 o.description.media answer.media told.media
 
 -- so each answer to an open offer that isn't refused
 abbrev pub AnswerIsCarried : Turn → Type 0
