@@ -9,7 +9,7 @@ use Rattle.std.specs.List.{AllByRecursion, Any, filter_map, find, list_any}
 use Rattle.std.specs.Option.{is_none}
 use Rattle.sg_agreement.specs.Answers.{AgreedAnswer, agreed_answer, answered_by}
 use Rattle.sg_agreement.specs.Attributes.{behind, crypto_values, first_of, mikey_octets, mikey_value}
-use Rattle.sg_agreement.specs.Described.{described, of_text, unaddressed, with_addresses}
+use Rattle.sg_agreement.specs.Described.{described, is_other_count, of_text, unaddressed, with_addresses}
 use Rattle.sg_agreement.specs.Generations.{generation_of, keys_from, owned, owner_at}
 use Rattle.sg_agreement.specs.Keying.{Keying, PeerLines, OwnLines, PeerMessage, PeerMessages, OwnMessage, Offer}
 use Rattle.sg_agreement.specs.LineAnswers.{keyed_by_own_lines, keyed_by_peer_line, lines_matched}
@@ -60,24 +60,24 @@ use Rattle.sg_conduct.proofs.Offers.{active_takes}
 use Rattle.sg_conduct.proofs.Present.{takes_active}
 use Rattle.sg_conduct.proofs.Serving.{Serves, offer_serves}
 use Rattle.sg_conduct.specs.Brought.{AreBrought}
-use Rattle.sg_conduct.specs.Causes.{ComeIntoUse, IsNotTo, IsOfNone, IsReusedAt, IsToRespond, LacksAddress, RefusedAnswerShowsCause, Shows, ShowsNoLine}
+use Rattle.sg_conduct.specs.Causes.{ComeIntoUse, IsNotTo, IsOfNone, IsFull, IsReused, IsReusedAt, IsToRespond, LacksAddress, RefusedAnswerShowsCause, Shows, ShowsFault, ShowsNoLine}
 use Rattle.sg_conduct.specs.Manual.{AreApart, IsApartInItself}
 use Rattle.sg_conduct.specs.Present.{TakesPart}
 
 -- ---- stages that refuse
 
-after_ok_err : {X Y E : Type 0} (r : Result X E) (f : X → Result Y E) (c : E) → after_ok r f ≡ Err c → (r ≡ Err c) ⊎ ((x : X) × (r ≡ Ok x) × (f x ≡ Err c))
+pub after_ok_err : {X Y E : Type 0} (r : Result X E) (f : X → Result Y E) (c : E) → after_ok r f ≡ Err c → (r ≡ Err c) ⊎ ((x : X) × (r ≡ Ok x) × (f x ≡ Err c))
 after_ok_err (Ok x) f c e = inr (x, refl, e)
 after_ok_err (Err d) f c e = let same : d ≡ c = cc in inl (ap Err same)
 
-stop_if_err : {X E : Type 0} (b : Bool) (c d : E) (r : Result X E) → stop_if b c r ≡ Err d → ((b ≡ true) × (c ≡ d)) ⊎ ((b ≡ false) × (r ≡ Err d))
+pub stop_if_err : {X E : Type 0} (b : Bool) (c d : E) (r : Result X E) → stop_if b c r ≡ Err d → ((b ≡ true) × (c ≡ d)) ⊎ ((b ≡ false) × (r ≡ Err d))
 stop_if_err true c d r e = inl (refl, cc)
 stop_if_err false c d r e = inr (refl, e)
 
-ok_err : {X E : Type 0} (x : X) (c : E) → (let r : Result X E = Ok x in r ≡ Err c) → ⊥
+pub ok_err : {X E : Type 0} (x : X) (c : E) → (let r : Result X E = Ok x in r ≡ Err c) → ⊥
 ok_err x c e = absurd cc
 
-err_is : {X E : Type 0} (c d : E) → (let r : Result X E = Err c in r ≡ Err d) → c ≡ d
+pub err_is : {X E : Type 0} (c d : E) → (let r : Result X E = Err c in r ≡ Err d) → c ≡ d
 err_is c d e = cc
 
 -- ---- the text
@@ -98,20 +98,17 @@ none_take side (m ∷ ms) e =
     let p = or_parts (is_active side m) (list_any (is_active side) ms) e in
     ((λ takes. false≢true (sym p.0 ∙ takes_active side m takes)), none_take side ms p.1)
 
-module _ (ring : List Installed) (Brings : List Master → Type 0) (o : Offer) (text : List ℕ) where
-  abbrev Cause : Refusal → Type 0
-  Cause cause = Shows ring Brings o text cause
-
-  abbrev side : Side
-  side = other_side o.side
-
+-- why a text of this side, of so many media where a number is asked for, describes nothing
+module _ (side : Side) (count : Option ℕ) (text : List ℕ) (Cause : Refusal → Type 0) (faulty : (line : ℕ) (fault : SdpFault) → ShowsFault side text line fault → Cause (causes.Sdp line fault))
+    (idle : (s : sdp.Sdp) → description_of text ≡ Ok s → AllByRecursion (λ m. ¬ TakesPart side m) s.media → Cause causes.NoMedia)
+    (miscounts : (s : sdp.Sdp) → description_of text ≡ Ok s → (n : ℕ) → count ≡ Some n → ¬ length s.media ≡ n → Cause causes.MediaCount) where
   text_shows : (r : Result sdp.Sdp (ℕ × SdpFault)) → description_of text ≡ r → (cause : Refusal) → of_text r ≡ Err cause → Cause cause
   text_shows (Ok s) is cause e = absurd (ok_err s cause e)
-  text_shows (Err fault) is cause e = subst Cause (err_is (causes.Sdp fault.0 fault.1) cause e) (inl is)
+  text_shows (Err fault) is cause e = subst Cause (err_is (causes.Sdp fault.0 fault.1) cause e) (faulty fault.0 fault.1 (inl is))
 
   addresses_show : (s : sdp.Sdp) → description_of text ≡ Ok s → (n : Option ℕ) → unaddressed side (length s.session + 1) s.media ≡ n → (cause : Refusal) → with_addresses s n ≡ Err cause → Cause cause
   addresses_show s read None is cause e = absurd (ok_err s cause e)
-  addresses_show s read (Some n) is cause e = subst Cause (err_is (causes.Sdp n Address) cause e) (inr (s, read, refl, lacks_at side (length s.session + 1) s.media n is))
+  addresses_show s read (Some n) is cause e = subst Cause (err_is (causes.Sdp n Address) cause e) (faulty n Address (inr (s, read, refl, lacks_at side (length s.session + 1) s.media n is)))
 
   same_text : (s t : sdp.Sdp) (n : Option ℕ) → with_addresses s n ≡ Ok t → s ≡ t
   same_text s t None e = cc
@@ -121,9 +118,13 @@ module _ (ring : List Installed) (Brings : List Master → Type 0) (o : Offer) (
   read_text (Ok t) s e = let same : t ≡ s = cc in ap Ok same
   read_text (Err fault) s e = absurd cc
 
-  description_shows : (cause : Refusal) → described side (Some (length o.description.media)) text ≡ Err cause → Cause cause
+  count_shows : (s : sdp.Sdp) → description_of text ≡ Ok s → (o : Option ℕ) → count ≡ o → is_other_count o (length s.media) ≡ true → Cause causes.MediaCount
+  count_shows s read None is other = absurd (false≢true other)
+  count_shows s read (Some n) is other = miscounts s read n is (eqb-false (length s.media) n (not-true (eqb (length s.media) n) other))
+
+  pub text_refused : (cause : Refusal) → described side count text ≡ Err cause → Cause cause
   unfolding described
-  description_shows cause e = elim (after_ok_err (of_text (description_of text)) _ cause e) [
+  text_refused cause e = elim (after_ok_err (of_text (description_of text)) _ cause e) [
     | inl fails ↦ text_shows (description_of text) refl cause fails
     | inr x ↦
         let s : sdp.Sdp = x.0 in
@@ -134,14 +135,18 @@ module _ (ring : List Installed) (Brings : List Master → Type 0) (o : Offer) (
               let t : sdp.Sdp = y.0 in
               let here : description_of text ≡ Ok t = read ∙ ap Ok (same_text s t (unaddressed side (length s.session + 1) s.media) y.1) in
               elim (stop_if_err (not (list_any (is_active side) t.media)) causes.NoMedia cause _ y.2) [
-                | inl none ↦ subst Cause none.1 (t, here, none_take side t.media (not-true (list_any (is_active side) t.media) none.0))
-                | inr some ↦ elim (stop_if_err (not (eqb (length t.media) (length o.description.media))) causes.MediaCount cause _ some.1) [
-                  | inl other ↦ subst Cause other.1 (t, here, eqb-false (length t.media) (length o.description.media) (not-true (eqb (length t.media) (length o.description.media)) other.0))
+                | inl none ↦ subst Cause none.1 (idle t here (none_take side t.media (not-true (list_any (is_active side) t.media) none.0)))
+                | inr some ↦ elim (stop_if_err (is_other_count count (length t.media)) causes.MediaCount cause _ some.1) [
+                  | inl other ↦ subst Cause other.1 (count_shows t here count refl other.0)
                   | inr same ↦ absurd (ok_err t cause same.1)
                 ]
               ]
         ]
   ]
+
+description_shows : (ring : List Installed) (Brings : List Master → Type 0) (o : Offer) (text : List ℕ) (cause : Refusal) → described (other_side o.side) (Some (length o.description.media)) text ≡ Err cause → Shows ring Brings o text cause
+description_shows ring Brings o text = text_refused (other_side o.side) (Some (length o.description.media)) text (Shows ring Brings o text) (λ line fault is. is) (λ s read none. (s, read, none))
+    (λ s read n is other. (s, read, (λ same. other (same ∙ some_is (length o.description.media) n is))))
 
 -- ---- each medium
 
@@ -282,27 +287,27 @@ line_shows offered ls c e = elim (first_value ls (first_of (filter_map (behind (
   | inr x ↦ inr (x.0, x.1, value_shows offered x.0 c (ap (lines_matched offered) (sym x.2) ∙ e))
 ]
 
-sdes_err : {X : Type 0} (k : ℕ) (r : Result X SdesFault) (c : Refusal) → of_sdes k r ≡ Err c → (fault : SdesFault) × (r ≡ Err fault) × (causes.Sdes k fault ≡ c)
+pub sdes_err : {X : Type 0} (k : ℕ) (r : Result X SdesFault) (c : Refusal) → of_sdes k r ≡ Err c → (fault : SdesFault) × (r ≡ Err fault) × (causes.Sdes k fault ≡ c)
 sdes_err k (Ok x) c e = absurd (ok_err x c e)
 sdes_err {X} k (Err fault) c e = (fault, refl, err_is {X = X} (causes.Sdes k fault) c e)
 
-psk_err : {X : Type 0} (k : ℕ) (r : Result X PskFault) (c : Refusal) → of_psk k r ≡ Err c → (fault : PskFault) × (r ≡ Err fault) × (causes.Psk k fault ≡ c)
+pub psk_err : {X : Type 0} (k : ℕ) (r : Result X PskFault) (c : Refusal) → of_psk k r ≡ Err c → (fault : PskFault) × (r ≡ Err fault) × (causes.Psk k fault ≡ c)
 psk_err k (Ok x) c e = absurd (ok_err x c e)
 psk_err {X} k (Err fault) c e = (fault, refl, err_is {X = X} (causes.Psk k fault) c e)
 
-message_err : (k : ℕ) (r : Result Message Place) (c : Refusal) → of_message k r ≡ Err c → (place : Place) × (r ≡ Err place) × (causes.Mikey k place.offset place.fault ≡ c)
+pub message_err : (k : ℕ) (r : Result Message Place) (c : Refusal) → of_message k r ≡ Err c → (place : Place) × (r ≡ Err place) × (causes.Mikey k place.offset place.fault ≡ c)
 message_err k (Ok x) c e = absurd (ok_err x c e)
 message_err k (Err place) c e = (place, refl, err_is {X = Message} (causes.Mikey k place.offset place.fault) c e)
 
-message_ok : (k : ℕ) (r : Result Message Place) (m : Message) → of_message k r ≡ Ok m → r ≡ Ok m
+pub message_ok : (k : ℕ) (r : Result Message Place) (m : Message) → of_message k r ≡ Ok m → r ≡ Ok m
 message_ok k (Ok x) m e = let same : x ≡ m = cc in ap Ok same
 message_ok k (Err place) m e = absurd cc
 
-octets_err : {X : Type 0} (cause : Refusal) (o : Option X) (c : Refusal) → or_refusal cause o ≡ Err c → (o ≡ None) × (cause ≡ c)
+pub octets_err : {X : Type 0} (cause : Refusal) (o : Option X) (c : Refusal) → or_refusal cause o ≡ Err c → (o ≡ None) × (cause ≡ c)
 octets_err {X} cause None c e = (refl, err_is {X = X} cause c e)
 octets_err cause (Some x) c e = absurd (ok_err x c e)
 
-octets_ok : {X : Type 0} (cause : Refusal) (o : Option X) (x : X) → or_refusal cause o ≡ Ok x → o ≡ Some x
+pub octets_ok : {X : Type 0} (cause : Refusal) (o : Option X) (x : X) → or_refusal cause o ≡ Ok x → o ≡ Some x
 octets_ok cause None x e = absurd cc
 octets_ok cause (Some y) x e = let same : y ≡ x = cc in ap Some same
 
@@ -566,12 +571,13 @@ keys_few call generation m (Some x ∷ xs) all =
     let part = length-append (owned (owner_at call generation m Sealing) x.to_peer.keys) (keys_from call generation (m + 1) xs) in
     omega (arith, rest, a, b, p, q, whole, part)
 
-ring_shows : (ring : List Installed) (Brings : List Master → Type 0) (o : Offer) (text : List ℕ) (ks : List Installed) → Brings (map (λ k. k.master) ks) → length ks ≤ 64 → (c : Refusal) → install ring ks ≡ Err c → Shows ring Brings o text c
-ring_shows ring Brings o text ks brings few c e = elim (after_ok_err (with_keys_by key_of ring ks) _ c e) [
+pub ring_refuses : (ring : List Installed) (Brings : List Master → Type 0) (Cause : Refusal → Type 0) → ((number : ℕ) → IsReused ring Brings number → Cause (causes.KeyReused number)) → (IsFull ring Brings → Cause causes.RingFull)
+    → (ks : List Installed) → Brings (map (λ k. k.master) ks) → length ks ≤ 64 → (c : Refusal) → install ring ks ≡ Err c → Cause c
+ring_refuses ring Brings Cause reused full ks brings few c e = elim (after_ok_err (with_keys_by key_of ring ks) _ c e) [
   | inl fails ↦
       let at = stops_at ring ks c fails in
       let long = ap (λ (l : List Installed). length l) at.parts ∙ length-append at.new (at.key ∷ at.later) in
-      subst (Shows ring Brings o text) at.is (record {
+      subst Cause at.is (reused at.number (record {
         new = at.new;
         key = at.key.master;
         later = map (λ k. k.master) at.later;
@@ -579,12 +585,12 @@ ring_shows ring Brings o text ks brings few c e = elim (after_ok_err (with_keys_
         few = omega (arith, few, long);
         come = at.come;
         reused = at.at;
-      })
+      }))
   | inr x ↦
       let all = all_in ring ks x.0 x.1 in
       let long = ap (λ (l : List Installed). length l) (sym all.1) ∙ length-append ring ks in
       elim (stop_if_err (ltb 65536 (length x.0)) causes.RingFull c _ x.2) [
-        | inl full ↦ subst (Shows ring Brings o text) full.1 (ks, brings, few, all.0, (let lt = ltb-true 65536 (length x.0) full.0 in omega (arith, lt, long)))
+        | inl over ↦ subst Cause over.1 (full (ks, brings, few, all.0, (let lt = ltb-true 65536 (length x.0) over.0 in omega (arith, lt, long))))
         | inr fails ↦ absurd (ok_err _ c fails.1)
       ]
 ]
@@ -615,7 +621,7 @@ module _ (laws : Agreements) (ts : List Turn) (w : World) (opened : WereOpened t
     | inl fails ↦ answer_shows w.books.ring (AreBrought ts id o noise text) c.slot o (offer_serves o was) noise text cause fails
     | inr g ↦ elim (after_ok_err (generation_of c.serial c.generations w.books.ring g.0.media) _ cause g.2) [
       | inl fails ↦ elim (after_ok_err (install w.books.ring (keys_from c.serial c.generations 0 g.0.media)) _ cause fails) [
-        | inl full ↦ ring_shows w.books.ring (AreBrought ts id o noise text) o text (keys_from c.serial c.generations 0 g.0.media) (keys_brought laws ts id o noise text c by g.0 g.1) (keys_are_few g.0 g.1) cause full
+        | inl full ↦ ring_refuses w.books.ring (AreBrought ts id o noise text) Showing (λ number is. is) (λ is. is) (keys_from c.serial c.generations 0 g.0.media) (keys_brought laws ts id o noise text c by g.0 g.1) (keys_are_few g.0 g.1) cause full
         | inr x ↦ absurd (ok_err _ cause x.2)
       ]
       | inr x ↦ absurd (ok_err _ cause x.2)
