@@ -12,7 +12,7 @@ use Rattle.sg_agreement.specs.Described.{described}
 use Rattle.sg_agreement.specs.Keying.{PeerLines}
 use Rattle.sg_agreement.specs.Messages.{AtHand, bundle_in, message_in}
 use Rattle.sg_agreement.specs.Offers.{agreed_offer, chosen_in, keying_by_messages, keying_of, noise_of}
-use Rattle.sg_agreement.specs.TextLines.{HasLine, HasNoMessage, IsMessageLine}
+use Rattle.sg_agreement.specs.TextLines.{HasNoMessage, IsMessageLine}
 use Rattle.sg_base.specs.Fields.{◌>>=◌}
 use Rattle.sg_base.specs.declared.faults.CsFault.{CsFault}
 use Rattle.sg_base.specs.declared.faults.CsFault.TheVariants.{CsCount, PolicyMissing, PolicyValue}
@@ -212,7 +212,7 @@ module _ (books : Books) (now : ℕ) (octets : List ℕ) (m : Message) where
     by_tests : (a b c d : Bool) → is_served (closing_in m.payloads) ≡ a → initial_fits octets m pair ≡ b → is_skewed (stamp_in m.payloads) now ≡ c → is_noted books.noted (note pair.peer m.csb (stamp_in m.payloads)) ≡ d
         → (fault : PskFault) → unless (cond (not a) (Some faults.Algorithm) (cond (not b) (Some faults.BadMac) (cond c (Some (faults.Skew (moment_of (stamp_in m.payloads)) now)) (cond d (Some faults.Repeated) None))))
         (with_keys m pair (length books.noted) (keys_in m pair)) ≡ Err fault → Not fault
-    unfolding initial_fits mac_of
+    unfolding initial_fits mac_of moment_of
     by_tests false b c d served fits skewed noted fault e =
         subst Not (err_is {X = Accepted} faults.Algorithm fault e) (λ both. false≢true (sym served ∙ and_from _ _ (eq-eqb _ 1 both.0) (eq-eqb _ 1 both.1)))
     by_tests true false c d served fits skewed noted fault e = subst Not (err_is {X = Accepted} faults.BadMac fault e) (λ same. false≢true (sym fits ∙ same_octets_true _ _ same))

@@ -1,21 +1,20 @@
 -- A signal that is refused tells one cause, which the world before or what the signal brings shows; one that the world bars is
 -- refused; and no end is told twice.
-use Rattle.std.proofs.Common.{◌≡◌, ◌⊎◌, inl, inr, ℕ, ◌<◌, ◌≤◌, Bool, true, false, cond, not, List, [], ◌∷◌, length, map, Option, Some, None, Result, Ok, Err, refl, sym, ap, ◌∙◌, subst, arith, eqb, ltb, ltb-true, eq-eqb}
-use Rattle.std.proofs.lemmas.Bool.{cond-false, cond-true, eqb-true, false_from_ne_true, false≢true, lt-ltb, ltb-false, ne_eqb, not-true}
+use Rattle.std.proofs.Common.{◌≡◌, ◌⊎◌, inl, inr, ℕ, ◌≤◌, Bool, true, false, cond, not, List, [], ◌∷◌, length, Option, Some, None, Result, Ok, Err, refl, sym, ap, ◌∙◌, subst, arith, eqb, ltb, ltb-true, eq-eqb}
+use Rattle.std.proofs.lemmas.Bool.{cond-false, cond-true, false_from_ne_true, false≢true, lt-ltb, ltb-false, ne_eqb, not-true}
 use Rattle.std.specs.Prelude.{◌||◌}
 use Rattle.std.specs.List.{AllByRecursion, Any, filter}
 use Rattle.std.specs.Option.{is_some}
 use Rattle.sg_agreement.specs.Generations.{generation_of}
 use Rattle.sg_base.proofs.Cases.{guarded}
 use Rattle.sg_base.specs.declared.faults.Refusal.TheVariants as causes
-use Rattle.sg_outcome.specs.declared.outcomes.Outcome.TheVariants.{Ended, Refused}
-use Rattle.sg_outcome.specs.declared.outcomes.Why.{Why}
+use Rattle.sg_outcome.specs.declared.outcomes.Outcome.TheVariants.{Refused}
 use Rattle.sg_outcome.specs.declared.outcomes.Why.TheVariants as why
 use Rattle.sg_psk.specs.Pairs.{has_pair}
 use Rattle.sg_session.proofs.Lists.{each_at}
 use Rattle.sg_session.specs.Ring.{Installed, install}
 use Rattle.sg_gateway.proofs.Common.{Answer, Bye, Call, CallId, Datagram, Event, IsBefore, IsRefusal, Manual, ManualCall, Offer, Offered, Outcome, Pair, Psk, Refusal, Reject, Settled, Signal, Signalled, Tick, Way, World}
-use Rattle.sg_gateway.proofs.Common.{agreed_offer, answer_to, any_cases, any_none, any_weaker, at_hand, call_of, each_at_this, each_map, each_of, each_weaker, find_call, is_full, is_idle, keys_from, manual_medium, named, new_call}
+use Rattle.sg_gateway.proofs.Common.{agreed_offer, answer_to, any_cases, any_none, any_weaker, at_hand, call_of, each_map, each_of, each_weaker, find_call, is_full, is_idle, keys_from, manual_medium, named, new_call}
 use Rattle.sg_gateway.proofs.Common.{none_some, other_side, refused, same_id, side_of, step, takes_offer, tells_ended, turn_of}
 use Rattle.sg_gateway.proofs.CarriedOut.{same_call_id}
 use Rattle.sg_gateway.proofs.Ordered.{not_found, pairs_filter}
@@ -24,8 +23,8 @@ use Rattle.sg_gateway.proofs.Refusals.{refused_first}
 use Rattle.sg_gateway.proofs.Signals.{is_found}
 use Rattle.sg_gateway.proofs.StepCases.{after_pair, after_tick, each_datagram, each_signal}
 use Rattle.sg_gateway.specs.CallSignals.{answered_to, has_begun, keyed_manually, media_of, offered_in}
-use Rattle.sg_gateway.specs.Early.{early, early_answer, early_bye, early_manual, early_offer, if_full}
-use Rattle.sg_gateway.specs.Signals.{Answered, answer, answered, in_new, in_old, left, offered_to, offering_side, rejected, rejected_to, tells_answer, tells_live, tells_text}
+use Rattle.sg_gateway.specs.Early.{early, early_answer, early_bye, early_manual, early_offer}
+use Rattle.sg_gateway.specs.Signals.{Answered, answered, in_new, in_old, left, offered_to, offering_side, rejected, rejected_to, tells_answer, tells_live, tells_text}
 use Rattle.sg_conduct.proofs.Alone.{has_names, no_names}
 use Rattle.sg_conduct.proofs.Causes.{after_ok_err, err_is, ok_err, ring_refuses, stop_if_err}
 use Rattle.sg_conduct.proofs.OfferRefusals.{offer_refused}

@@ -1,7 +1,7 @@
 -- A signal that is refused tells one cause, of the call that it names, and nothing else. The world before shows the cause, or what
 -- the signal brings does. And where the world bars a signal, the signal is refused, by that cause.
-use Rattle.std.specs.Prelude.{◌≡◌, ◌⊎◌, ◌<◌, ◌≤◌, ℕ, ◌+◌, ◌*◌, true, List, [], ◌∷◌, length, filter, Some, None, Ok, Err, ◌==◌}
-use Rattle.std.specs.List.{All, AllByRecursion, AllPairs, Any, find}
+use Rattle.std.specs.Prelude.{◌≡◌, ◌⊎◌, ◌<◌, ◌≤◌, ℕ, ◌+◌, ◌*◌, pos, ◌-ℤ◌, true, List, [], ◌∷◌, length, filter, Some, None, Ok, Err}
+use Rattle.std.specs.List.{All, AllByRecursion, AllPairs, Any}
 use Rattle.sg_agreement.specs.Keying.{Offer}
 use Rattle.sg_agreement.specs.Manual.{ManualCall}
 use Rattle.sg_agreement.specs.Sides.{is_active, side_of}
@@ -32,7 +32,7 @@ use Rattle.sg_outcome.specs.declared.outcomes.Why.{Why}
 use Rattle.sg_psk.specs.Envelope.{before_mac, enciphered}
 use Rattle.sg_psk.specs.KeyData.{tgks_of}
 use Rattle.sg_psk.specs.Parts.{closing_in, names_in, policies_in, random_in, stamp_in}
-use Rattle.sg_psk.specs.Stamps.{distance, moment_of, since_1900}
+use Rattle.sg_psk.specs.Stamps.{distance, since_1900}
 use Rattle.sg_psk.specs.declared.pairs.Pair.{Pair}
 use Rattle.sg_psk.specs.declared.replays.Noted.{Noted}
 use Rattle.sg_sdes.specs.declared.lines.CryptoLine.{CryptoLine}
@@ -131,7 +131,7 @@ abbrev pub IsNotAccepted : Books → ℕ → List ℕ → Message → Pair → P
 IsNotAccepted books now octets m pair faults.Algorithm = ¬ (((closing_in m.payloads).cipher ≡ 1) × ((closing_in m.payloads).mac ≡ 1))
 IsNotAccepted books now octets m pair faults.BadMac = ¬ (closing_in m.payloads).tag ≡ hmac_sha1 (authentication_key pair.key m.csb (random_in m.payloads)) (before_mac octets)
 IsNotAccepted books now octets m pair (faults.Skew stamp moment) =
-    (stamp ≡ moment_of (stamp_in m.payloads)) × (moment ≡ now) × (300000 < distance (since_1900 (stamp_in m.payloads)) (now + 2208988800000))
+    (stamp ≡ pos (since_1900 (stamp_in m.payloads)) -ℤ pos 2208988800000) × (moment ≡ now) × (300000 < distance (since_1900 (stamp_in m.payloads)) (now + 2208988800000))
 IsNotAccepted books now octets m pair faults.Repeated = Any (λ (n : Noted). (n.peer ≡ pair.peer) × (n.csb ≡ m.csb) × (n.stamp ≡ stamp_in m.payloads)) books.noted
 IsNotAccepted books now octets m pair faults.KeyType =
     tgks_of (enciphered pair.key m.csb (random_in m.payloads) (stamp_in m.payloads) (closing_in m.payloads).octets) ≡ None
