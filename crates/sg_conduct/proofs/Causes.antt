@@ -2,6 +2,7 @@
 use Rattle.std.proofs.Common.{◌≡◌, ◌⊎◌, inl, inr, ℕ, suc, ◌+◌, ◌*◌, ◌≤◌, Bool, true, false, cond, not, ◌&&◌, eqb, ltb, ltb-true, List, [], ◌∷◌, ◌++◌, length, map, codes, Option, Some, None, Result, Ok, Err, refl, sym, ap, ◌∙◌, subst, arith, append_assoc, append-nil, length-append}
 use Rattle.std.proofs.lemmas.Bool.{and_from, eq-eqb, eqb-false, eqb-true, false≢true, not-false, not-true, or_parts}
 use Rattle.std.proofs.lemmas.List.{map-append}
+use Rattle.std.proofs.lemmas.List.Folds.{Any-from_list_any}
 use Rattle.std.proofs.lemmas.List.Elements.{recursion_from_All}
 use Rattle.std.proofs.lemmas.Slice.Eq.{bytes_eq-Decides}
 use Rattle.std.specs.Prelude.{◌||◌}
@@ -40,7 +41,7 @@ use Rattle.sg_sdp.specs.declared.sdp.Sdp as sdp
 use Rattle.sg_session.specs.Ring.{Installed, derived, first_clash_by, install, key_of, keys_clash, same_secret, with_key_by, with_keys_by}
 use Rattle.sg_session.specs.Stages.{after_ok, stop_if}
 use Rattle.sg_gateway.proofs.Common.{AgreedKey, Call, CallId, CryptoLine, CsEntry, IsRefusal, Master, Medium, Message, Opening, Owner, Refusal, Sealing, Side, World}
-use Rattle.sg_gateway.proofs.Common.{active_count, actives_after, after_ok_is, any_cases, any_here, any_none, any_there, call_of, described_is}
+use Rattle.sg_gateway.proofs.Common.{active_count, actives_after, after_ok_is, any_cases, any_here, any_none, any_there, any_weaker, call_of, described_is}
 use Rattle.sg_gateway.proofs.Common.{description_of, each_kept, if_kept, is_active, none_some, of_cs, of_message, of_psk, of_sdes, ok_is, or_refusal}
 use Rattle.sg_gateway.proofs.Common.{Event, Turn, empty, other_side, same_octets, same_octets_true, some_is, step, stop_if_is, turn_of}
 use Rattle.sg_gateway.proofs.Agreements.{Agreements, answer_media}
@@ -62,6 +63,7 @@ use Rattle.sg_conduct.proofs.Serving.{Serves, offer_serves}
 use Rattle.sg_conduct.specs.Brought.{AreBrought}
 use Rattle.sg_conduct.specs.Causes.{ComeIntoUse, IsNotTo, IsOfNone, IsFull, IsReused, IsReusedAt, IsToRespond, LacksAddress, RefusedAnswerShowsCause, Shows, ShowsFault, ShowsNoLine}
 use Rattle.sg_conduct.specs.Manual.{AreApart, IsApartInItself}
+use Rattle.sg_conduct.specs.Offers.{Describes}
 use Rattle.sg_conduct.specs.Present.{TakesPart}
 
 -- ---- stages that refuse
@@ -98,10 +100,42 @@ none_take side (m ∷ ms) e =
     let p = or_parts (is_active side m) (list_any (is_active side) ms) e in
     ((λ takes. false≢true (sym p.0 ∙ takes_active side m takes)), none_take side ms p.1)
 
+all_addressed : (side : Side) (n : ℕ) (ms : List descriptions.Medium) → unaddressed side n ms ≡ None → AllByRecursion (λ m. TakesPart side m → (ip : List ℕ) × (m.address ≡ Some ip)) ms
+all_addressed side n [] e = tt
+all_addressed side n (m ∷ ms) e = go (all_addressed side (n + 1 + length m.lines) ms) (is_active side m) refl m.address refl e
+  where
+    Has : descriptions.Medium → Type 0
+    Has m = TakesPart side m → (ip : List ℕ) × (m.address ≡ Some ip)
+
+    go : (unaddressed side (n + 1 + length m.lines) ms ≡ None → AllByRecursion Has ms) → (b : Bool) → is_active side m ≡ b → (a : Option (List ℕ)) → m.address ≡ a
+        → cond (b && is_none a) (Some n) (unaddressed side (n + 1 + length m.lines) ms) ≡ None → AllByRecursion Has (m ∷ ms)
+    go rest true is None at e = absurd cc
+    go rest true is (Some ip) at e = ((λ takes. (ip, at)), rest e)
+    go rest false is a at e = ((λ takes. absurd (false≢true (sym is ∙ takes_active side m takes))), rest e)
+
+describes : (side : Side) (text : List ℕ) (s : sdp.Sdp) → description_of text ≡ Ok s → not (list_any (is_active side) s.media) ≡ false → unaddressed side (length s.session + 1) s.media ≡ None → Describes side text s
+describes side text s read some addressed = record {
+  read = read;
+  some = any_weaker (λ m. is_active side m ≡ true) (TakesPart side) (active_takes side) s.media (Any-from_list_any (is_active side) s.media (not-false _ some));
+  addressed = all_addressed side (length s.session + 1) s.media addressed;
+}
+
+same_text : (s t : sdp.Sdp) (n : Option ℕ) → with_addresses s n ≡ Ok t → s ≡ t
+same_text s t None e = cc
+same_text s t (Some n) e = absurd cc
+
+no_fault : (s t : sdp.Sdp) (n : Option ℕ) → with_addresses s n ≡ Ok t → n ≡ None
+no_fault s t None e = refl
+no_fault s t (Some n) e = absurd cc
+
+read_text : (r : Result sdp.Sdp (ℕ × SdpFault)) (s : sdp.Sdp) → of_text r ≡ Ok s → r ≡ Ok s
+read_text (Ok t) s e = let same : t ≡ s = cc in ap Ok same
+read_text (Err fault) s e = absurd cc
+
 -- why a text of this side, of so many media where a number is asked for, describes nothing
 module _ (side : Side) (count : Option ℕ) (text : List ℕ) (Cause : Refusal → Type 0) (faulty : (line : ℕ) (fault : SdpFault) → ShowsFault side text line fault → Cause (causes.Sdp line fault))
     (idle : (s : sdp.Sdp) → description_of text ≡ Ok s → AllByRecursion (λ m. ¬ TakesPart side m) s.media → Cause causes.NoMedia)
-    (miscounts : (s : sdp.Sdp) → description_of text ≡ Ok s → (n : ℕ) → count ≡ Some n → ¬ length s.media ≡ n → Cause causes.MediaCount) where
+    (miscounts : (s : sdp.Sdp) → Describes side text s → (n : ℕ) → count ≡ Some n → ¬ length s.media ≡ n → Cause causes.MediaCount) where
   text_shows : (r : Result sdp.Sdp (ℕ × SdpFault)) → description_of text ≡ r → (cause : Refusal) → of_text r ≡ Err cause → Cause cause
   text_shows (Ok s) is cause e = absurd (ok_err s cause e)
   text_shows (Err fault) is cause e = subst Cause (err_is (causes.Sdp fault.0 fault.1) cause e) (faulty fault.0 fault.1 (inl is))
@@ -110,15 +144,7 @@ module _ (side : Side) (count : Option ℕ) (text : List ℕ) (Cause : Refusal �
   addresses_show s read None is cause e = absurd (ok_err s cause e)
   addresses_show s read (Some n) is cause e = subst Cause (err_is (causes.Sdp n Address) cause e) (faulty n Address (inr (s, read, refl, lacks_at side (length s.session + 1) s.media n is)))
 
-  same_text : (s t : sdp.Sdp) (n : Option ℕ) → with_addresses s n ≡ Ok t → s ≡ t
-  same_text s t None e = cc
-  same_text s t (Some n) e = absurd cc
-
-  read_text : (r : Result sdp.Sdp (ℕ × SdpFault)) (s : sdp.Sdp) → of_text r ≡ Ok s → r ≡ Ok s
-  read_text (Ok t) s e = let same : t ≡ s = cc in ap Ok same
-  read_text (Err fault) s e = absurd cc
-
-  count_shows : (s : sdp.Sdp) → description_of text ≡ Ok s → (o : Option ℕ) → count ≡ o → is_other_count o (length s.media) ≡ true → Cause causes.MediaCount
+  count_shows : (s : sdp.Sdp) → Describes side text s → (o : Option ℕ) → count ≡ o → is_other_count o (length s.media) ≡ true → Cause causes.MediaCount
   count_shows s read None is other = absurd (false≢true other)
   count_shows s read (Some n) is other = miscounts s read n is (eqb-false (length s.media) n (not-true (eqb (length s.media) n) other))
 
@@ -137,16 +163,26 @@ module _ (side : Side) (count : Option ℕ) (text : List ℕ) (Cause : Refusal �
               elim (stop_if_err (not (list_any (is_active side) t.media)) causes.NoMedia cause _ y.2) [
                 | inl none ↦ subst Cause none.1 (idle t here (none_take side t.media (not-true (list_any (is_active side) t.media) none.0)))
                 | inr some ↦ elim (stop_if_err (is_other_count count (length t.media)) causes.MediaCount cause _ some.1) [
-                  | inl other ↦ subst Cause other.1 (count_shows t here count refl other.0)
+                  | inl other ↦ subst Cause other.1 (count_shows t (describes side text t here some.0 (ap (λ s. unaddressed side (length s.session + 1) s.media) (sym (same_text s t _ y.1)) ∙ no_fault s t _ y.1)) count refl other.0)
                   | inr same ↦ absurd (ok_err t cause same.1)
                 ]
               ]
         ]
   ]
 
+pub text_describes : (side : Side) (count : Option ℕ) (text : List ℕ) (s : sdp.Sdp) → described side count text ≡ Ok s → Describes side text s
+unfolding described
+text_describes side count text s e =
+    let a = after_ok_is (of_text (description_of text)) _ s e in
+    let b = after_ok_is (with_addresses a.0 (unaddressed side (length a.0.session + 1) a.0.media)) _ s a.2 in
+    let c = stop_if_is (not (list_any (is_active side) b.0.media)) causes.NoMedia _ s b.2 in
+    let d = stop_if_is (is_other_count count (length b.0.media)) causes.MediaCount (Ok b.0) s c.1 in
+    let same : a.0 ≡ b.0 = same_text a.0 b.0 _ b.1 in
+    subst (Describes side text) (ok_is b.0 s d.1) (describes side text b.0 (read_text (description_of text) a.0 a.1 ∙ ap Ok same) c.0 (ap (λ s. unaddressed side (length s.session + 1) s.media) (sym same) ∙ no_fault a.0 b.0 _ b.1))
+
 description_shows : (ring : List Installed) (Brings : List Master → Type 0) (o : Offer) (text : List ℕ) (cause : Refusal) → described (other_side o.side) (Some (length o.description.media)) text ≡ Err cause → Shows ring Brings o text cause
 description_shows ring Brings o text = text_refused (other_side o.side) (Some (length o.description.media)) text (Shows ring Brings o text) (λ line fault is. is) (λ s read none. (s, read, none))
-    (λ s read n is other. (s, read, (λ same. other (same ∙ some_is (length o.description.media) n is))))
+    (λ s describes n is other. (s, describes.read, (λ same. other (same ∙ some_is (length o.description.media) n is))))
 
 -- ---- each medium
 

@@ -1,7 +1,7 @@
 -- What refuses an offer shows in its text, in its messages or in the pre-shared keys.
-use Rattle.std.proofs.Common.{◌≡◌, ◌⊎◌, inl, inr, ℕ, ◌+◌, ◌*◌, Bool, true, false, cond, not, ◌&&◌, eqb, eq-eqb, eqb-true, ltb, ltb-true, List, [], ◌∷◌, ◌++◌, length, codes, Option, Some, None, Result, Ok, Err, refl, sym, ap, ◌∙◌, subst}
-use Rattle.std.proofs.lemmas.Bool.{and_from, and_parts, eqb-false, false≢true, not-true, or_parts}
-use Rattle.std.proofs.lemmas.List.Folds.{Any-from_list_any}
+use Rattle.std.proofs.Common.{◌≡◌, ◌⊎◌, inl, inr, ℕ, ◌+◌, ◌*◌, ◌≤◌, Bool, true, false, cond, not, ◌&&◌, eqb, eq-eqb, eqb-true, ltb, ltb-true, List, [], ◌∷◌, ◌++◌, length, codes, Option, Some, None, Result, Ok, Err, refl, sym, ap, ◌∙◌, subst}
+use Rattle.std.proofs.lemmas.Bool.{and_from, and_parts, cond-false, eqb-false, false≢true, ltb-false, ne_eqb, not-false, not-true, or_parts}
+use Rattle.std.proofs.lemmas.List.Folds.{Any-from_list_any, list_any-from_Any}
 use Rattle.std.specs.Prelude.{◌||◌}
 use Rattle.std.specs.List.{AllByRecursion, Any, cons_option, filter_map, find, list_any}
 use Rattle.std.specs.Option.{is_none, is_some, option_map}
@@ -36,22 +36,22 @@ use Rattle.sg_sdes.specs.Answers.{chosen_of, offered_by, or_next}
 use Rattle.sg_sdes.specs.CryptoOf.{crypto_of}
 use Rattle.sg_sdp.specs.declared.medium.Medium as descriptions
 use Rattle.sg_sdp.specs.declared.sdp.Sdp.{Sdp}
-use Rattle.sg_gateway.proofs.Authentic.{find_any, initial_parts, message_read}
+use Rattle.sg_gateway.proofs.Authentic.{find_any, initial_parts, message_read, none_unless}
 use Rattle.sg_gateway.proofs.Common.{Books, Call, CallId, CryptoLine, CsEntry, FromSecure, IsMediumAt, Message, MikeyFromPlain, Pair, Plain, Refusal, SdesFromPlain, Secure, Side, StreamKeys, Tgk, Way, World}
-use Rattle.sg_gateway.proofs.Common.{active_count, after_ok, any_cases, any_here, any_none, any_there, any_weaker, at_hand, described_is, description_of, each_active, each_of, each_weaker}
+use Rattle.sg_gateway.proofs.Common.{active_count, after_ok, any_cases, any_here, any_none, any_there, any_weaker, at_hand, each_active, each_of, each_weaker}
 use Rattle.sg_gateway.proofs.Common.{if_active, is_active, none_some, of_cs, of_message, of_psk, or_refusal, pair_with, same_octets, same_octets_is, same_octets_true, side_of, some_is}
 use Rattle.sg_gateway.proofs.PeersMessages.{octets_carried}
 use Rattle.sg_gateway.specs.Authentic.{AreNamesOf}
 use Rattle.sg_gateway.specs.CallSignals.{media_of}
 use Rattle.sg_gateway.specs.CryptoSessions.{Carries}
 use Rattle.sg_conduct.proofs.Acceptable.{octets_are, policy_means, stream_given}
-use Rattle.sg_conduct.proofs.Causes.{after_ok_err, err_is, message_err, message_ok, octets_err, octets_ok, ok_err, psk_err, sdes_err, stop_if_err, text_refused}
+use Rattle.sg_conduct.proofs.Causes.{after_ok_err, err_is, message_err, message_ok, octets_err, octets_ok, ok_err, psk_err, sdes_err, stop_if_err, text_describes, text_refused}
 use Rattle.sg_conduct.proofs.FirstLines.{Placed, at_head, at_rest, at_start}
 use Rattle.sg_conduct.proofs.Forth.{find_first}
 use Rattle.sg_conduct.proofs.Offers.{active_takes}
-use Rattle.sg_conduct.specs.Offers.{HasPolicy, IsFirstNamed}
+use Rattle.sg_conduct.specs.Offers.{Describes, HasPolicy, IsFirstNamed}
 use Rattle.sg_conduct.specs.Present.{TakesPart}
-use Rattle.sg_conduct.specs.Refusals.{IsNotAccepted, IsPart, IsThere, IsToCarry, OfferSpeaks, PskSpeaks, SessionsSpeak}
+use Rattle.sg_conduct.specs.Refusals.{HasCode, IsGenuine, IsNotAccepted, IsNotedIn, IsOfAlgorithms, IsPart, IsThere, IsToCarry, OfferSpeaks, PskSpeaks, SessionsSpeak, apart}
 
 find_none : {X : Type 0} (test : X → Bool) (xs : List X) → find test xs ≡ None → AllByRecursion (λ x. test x ≡ false) xs
 find_none test [] e = tt
@@ -193,33 +193,63 @@ module _ (books : Books) (now : ℕ) (octets : List ℕ) (m : Message) where
     abbrev Not : PskFault → Type 0
     Not fault = IsNotAccepted books now octets m pair fault
 
-    is_there : is_noted books.noted (note pair.peer m.csb (stamp_in m.payloads)) ≡ true → Not faults.Repeated
+    abbrev as_noted : Noted
+    as_noted = note pair.peer m.csb (stamp_in m.payloads)
+
+    algorithms_are : is_served (closing_in m.payloads) ≡ true → IsOfAlgorithms m
+    algorithms_are e = let p = and_parts (eqb (closing_in m.payloads).cipher 1) (eqb (closing_in m.payloads).mac 1) e in (eqb-true _ 1 p.0, eqb-true _ 1 p.1)
+
+    has_code : initial_fits octets m pair ≡ true → HasCode octets m pair
+    unfolding initial_fits mac_of
+    has_code e = same_octets_is _ _ e
+
+    is_there : is_noted books.noted as_noted ≡ true → IsNotedIn books.noted m pair
     is_there e = any_weaker _ _ (λ (n : Noted) same.
         let p = and_parts (same_octets pair.peer n.peer && eqb m.csb n.csb) (same_octets (stamp_in m.payloads) n.stamp) same in
         let q = and_parts (same_octets pair.peer n.peer) (eqb m.csb n.csb) p.0 in
         (sym (same_octets_is pair.peer n.peer q.0), sym (eqb-true m.csb n.csb q.1), sym (same_octets_is (stamp_in m.payloads) n.stamp p.1))) books.noted
-        (Any-from_list_any (is_same (note pair.peer m.csb (stamp_in m.payloads))) books.noted e)
+        (Any-from_list_any (is_same as_noted) books.noted e)
 
-    keys_not : (o : Option (List Tgk)) → keys_in m pair ≡ o → (fault : PskFault) → with_keys m pair (length books.noted) o ≡ Err fault → Not fault
+    is_new : is_noted books.noted as_noted ≡ false → ¬ IsNotedIn books.noted m pair
+    is_new e there = false≢true (sym e ∙ list_any-from_Any (is_same as_noted) books.noted (any_weaker _ _ (λ (n : Noted) same.
+        and_from (same_octets pair.peer n.peer && eqb m.csb n.csb) (same_octets (stamp_in m.payloads) n.stamp)
+        (and_from (same_octets pair.peer n.peer) (eqb m.csb n.csb) (same_octets_true _ _ (sym same.0)) (eq-eqb m.csb n.csb (sym same.1))) (same_octets_true _ _ (sym same.2))) books.noted there))
+
+    near_is : is_skewed (stamp_in m.payloads) now ≡ false → apart now m ≤ 300000
+    near_is e = ltb-false 300000 (apart now m) e
+
+    genuine : fault_of octets m pair books.noted now ≡ None → IsGenuine books now octets m pair
+    unfolding fault_of
+    genuine e =
+        let a = none_unless (not (is_served (closing_in m.payloads))) faults.Algorithm _ e in
+        let b = none_unless (not (initial_fits octets m pair)) faults.BadMac _ a.1 in
+        let c = none_unless (is_skewed (stamp_in m.payloads) now) (faults.Skew (moment_of (stamp_in m.payloads)) now) _ b.1 in
+        let d = none_unless (is_noted books.noted as_noted) faults.Repeated None c.1 in
+        record { algorithms = algorithms_are (not-false _ a.0); code = has_code (not-false _ b.0); near = near_is c.0; new = is_new d.0 }
+
+    keys_not : IsGenuine books now octets m pair → (o : Option (List Tgk)) → keys_in m pair ≡ o → (fault : PskFault) → with_keys m pair (length books.noted) o ≡ Err fault → Not fault
     unfolding with_keys keys_in
-    keys_not None is fault e = subst Not (err_is {X = Accepted} faults.KeyType fault e) is
-    keys_not (Some tgks) is fault e = go (ltb 1020 (length books.noted)) refl e
+    keys_not is None at fault e = subst Not (err_is {X = Accepted} faults.KeyType fault e) (is, at)
+    keys_not is (Some tgks) at fault e = go (ltb 1020 (length books.noted)) refl e
       where
         go : (b : Bool) → ltb 1020 (length books.noted) ≡ b → cond b (Err faults.CacheFull) (Ok (accepted_with m pair tgks)) ≡ Err fault → Not fault
-        go true over e = subst Not (err_is {X = Accepted} faults.CacheFull fault e) (ltb-true 1020 (length books.noted) over)
+        go true over e = subst Not (err_is {X = Accepted} faults.CacheFull fault e) (is, (λ none. none_some tgks (sym none ∙ at)), ltb-true 1020 (length books.noted) over)
         go false room e = absurd (ok_err _ fault e)
 
-    by_tests : (a b c d : Bool) → is_served (closing_in m.payloads) ≡ a → initial_fits octets m pair ≡ b → is_skewed (stamp_in m.payloads) now ≡ c → is_noted books.noted (note pair.peer m.csb (stamp_in m.payloads)) ≡ d
+    by_tests : (a b c d : Bool) → is_served (closing_in m.payloads) ≡ a → initial_fits octets m pair ≡ b → is_skewed (stamp_in m.payloads) now ≡ c → is_noted books.noted as_noted ≡ d
         → (fault : PskFault) → unless (cond (not a) (Some faults.Algorithm) (cond (not b) (Some faults.BadMac) (cond c (Some (faults.Skew (moment_of (stamp_in m.payloads)) now)) (cond d (Some faults.Repeated) None))))
         (with_keys m pair (length books.noted) (keys_in m pair)) ≡ Err fault → Not fault
     unfolding initial_fits mac_of moment_of
     by_tests false b c d served fits skewed noted fault e =
         subst Not (err_is {X = Accepted} faults.Algorithm fault e) (λ both. false≢true (sym served ∙ and_from _ _ (eq-eqb _ 1 both.0) (eq-eqb _ 1 both.1)))
-    by_tests true false c d served fits skewed noted fault e = subst Not (err_is {X = Accepted} faults.BadMac fault e) (λ same. false≢true (sym fits ∙ same_octets_true _ _ same))
+    by_tests true false c d served fits skewed noted fault e =
+        subst Not (err_is {X = Accepted} faults.BadMac fault e) (algorithms_are served, (λ same. false≢true (sym fits ∙ same_octets_true _ _ same)))
     by_tests true true true d served fits skewed noted fault e =
-        subst Not (err_is {X = Accepted} (faults.Skew (moment_of (stamp_in m.payloads)) now) fault e) (refl, refl, ltb-true 300000 (distance (since_1900 (stamp_in m.payloads)) (now + 2208988800000)) skewed)
-    by_tests true true false true served fits skewed noted fault e = subst Not (err_is {X = Accepted} faults.Repeated fault e) (is_there noted)
-    by_tests true true false false served fits skewed noted fault e = keys_not (keys_in m pair) refl fault e
+        subst Not (err_is {X = Accepted} (faults.Skew (moment_of (stamp_in m.payloads)) now) fault e) (algorithms_are served, has_code fits, ltb-true 300000 (apart now m) skewed, refl, refl)
+    by_tests true true false true served fits skewed noted fault e =
+        subst Not (err_is {X = Accepted} faults.Repeated fault e) (algorithms_are served, has_code fits, near_is skewed, is_there noted)
+    by_tests true true false false served fits skewed noted fault e =
+        keys_not (record { algorithms = algorithms_are served; code = has_code fits; near = near_is skewed; new = is_new noted }) (keys_in m pair) refl fault e
 
     not_accepted : (fault : PskFault) → unless (fault_of octets m pair books.noted now) (with_keys m pair (length books.noted) (keys_in m pair)) ≡ Err fault → Not fault
     unfolding fault_of
@@ -276,6 +306,10 @@ module _ (csb : ℕ) (random : List ℕ) (policies : List Policy) (tgks : List T
     | inr x ↦ any_there Lacks i (r ∷ map) (any_there Lacks r map (pairs_none (session + 2) map (map_none (λ pairs. x.0 ∷ pairs) (pairs_from csb random policies tgks (session + 2) map) x.2)))
   ]
 
+has_policy : (policies : List Policy) (entry : CsEntry) → AllByRecursion (λ (p : Policy). ¬ p.number ≡ entry.policy) policies → lacks_policy policies entry ≡ true
+has_policy [] entry none = refl
+has_policy (p ∷ policies) entry none = ap is_none (cond-false (eqb p.number entry.policy) (Some p) (find (λ (p : Policy). eqb p.number entry.policy) policies) (ne_eqb p.number entry.policy none.0)) ∙ has_policy policies entry none.1
+
 no_policy : (policies : List Policy) (entry : CsEntry) (o : Option Policy) → policy_at policies entry ≡ o → is_none o ≡ true → AllByRecursion (λ (p : Policy). ¬ p.number ≡ entry.policy) policies
 no_policy policies entry None is none = each_weaker _ _ (λ p other. eqb-false p.number entry.policy other) policies (find_none (λ (p : Policy). eqb p.number entry.policy) policies is)
 no_policy policies entry (Some p) is none = absurd (false≢true none)
@@ -288,11 +322,15 @@ module _ (m : Message) (count : ℕ) (tgks : List Tgk) (random : List ℕ) (faul
       → cond (not a) (Err CsCount) (cond b (Err PolicyMissing) (or_fault PolicyValue (pairs_from m.csb random (policies_in m.payloads) tgks 1 m.map))) ≡ Err fault → Serves fault
   by_counts false b is lacks e = subst Serves (err_is {X = List (StreamKeys × StreamKeys)} CsCount fault e) (eqb-false (length m.map) (2 * count) is)
   by_counts true true is lacks e = subst Serves (err_is {X = List (StreamKeys × StreamKeys)} PolicyMissing fault e)
-      (any_weaker _ _ (λ entry none. no_policy (policies_in m.payloads) entry (policy_at (policies_in m.payloads) entry) refl none) m.map (Any-from_list_any (lacks_policy (policies_in m.payloads)) m.map lacks))
-  by_counts true false is lacks e = go (pairs_from m.csb random (policies_in m.payloads) tgks 1 m.map) refl e
+      (eqb-true (length m.map) (2 * count) is,
+      any_weaker _ _ (λ entry none. no_policy (policies_in m.payloads) entry (policy_at (policies_in m.payloads) entry) refl none) m.map (Any-from_list_any (lacks_policy (policies_in m.payloads)) m.map lacks))
+  by_counts true false counted lacks e = go (pairs_from m.csb random (policies_in m.payloads) tgks 1 m.map) refl e
     where
       go : (o : Option (List (StreamKeys × StreamKeys))) → pairs_from m.csb random (policies_in m.payloads) tgks 1 m.map ≡ o → or_fault PolicyValue o ≡ Err fault → Serves fault
-      go None is e = subst Serves (err_is {X = List (StreamKeys × StreamKeys)} PolicyValue fault e) (pairs_none m.csb random (policies_in m.payloads) tgks 1 m.map is)
+      go None is e = subst Serves (err_is {X = List (StreamKeys × StreamKeys)} PolicyValue fault e)
+          (eqb-true (length m.map) (2 * count) counted,
+          (λ any. false≢true (sym lacks ∙ list_any-from_Any (lacks_policy (policies_in m.payloads)) m.map (any_weaker _ _ (has_policy (policies_in m.payloads)) m.map any))),
+          pairs_none m.csb random (policies_in m.payloads) tgks 1 m.map is)
       go (Some ps) is e = absurd (ok_err ps fault e)
 
   sessions_speak : streams_of m.csb random m.map (policies_in m.payloads) tgks count ≡ Err fault → Serves fault
@@ -344,15 +382,18 @@ module _ (w : World) (id : CallId) (c : Call) (noise : List ℕ) (way : Way) (te
                   let made : Accepted = accepted_with r.0.1 i.0 i.3 in
                   let at : streams_of made.csb made.random made.map made.policies made.tgks x.count ≡ Err f.0 =
                   subst (λ (a : Accepted). streams_of a.csb a.random a.map a.policies a.tgks x.count ≡ Err f.0) (sym i.5) f.1 in
-                  subst Cause f.2 (x, r.0.0, r.0.1, carried, (is.1, is.2), sessions_speak r.0.1 x.count i.3 made.random f.0 at)
+                  subst Cause f.2 (x, r.0.0, r.0.1, carried, (is.1, is.2), (i.0, first_named w.books.pairs (names_in r.0.1.payloads) i.0 i.1, genuine w.books w.moment r.0.0 r.0.1 i.0 i.2), sessions_speak r.0.1 x.count i.3 made.random f.0 at)
               | inr y ↦ absurd (ok_err _ cause y.2)
             ]
           ]
     ]
 
-  module _ (s : Sdp) (read : description_of text ≡ Ok s) (cause : Refusal) where
+  module _ (s : Sdp) (describes : Describes (side_of way) text s) (cause : Refusal) where
+    of_side : (v : Way) → way ≡ v → Describes (side_of v) text s
+    of_side v is = subst (λ v. Describes (side_of v) text s) is describes
+
     abbrev carries : way ≡ FromSecure → (medium : ℕ) (lines : List (List ℕ)) (count : ℕ) → IsPart s medium lines count → IsToCarry way text medium
-    carries is medium lines count part = record { secure = is; offer = s; read = read; lines = lines; count = count; part = part }
+    carries is medium lines count part = record { secure = is; offer = s; describes = of_side FromSecure is; lines = lines; count = count; part = part }
 
     messages_refused : way ≡ FromSecure → has_message s ≡ true → (v : Option (List ℕ)) → mikey_value s.session ≡ v → keying_by_messages hand s v ≡ Err cause → Cause cause
     messages_refused is has (Some value) at e = elim (after_ok_err (bundle_in hand 255 (active_count Secure s.media) (Some value)) _ cause e) [
@@ -373,7 +414,7 @@ module _ (w : World) (id : CallId) (c : Call) (noise : List ℕ) (way : Way) (te
         let stop = media_stop s.media Secure chosen_in cause 0 s.media (at_start s.media) e in
         let f = sdes_err stop.0 (chosen_of (crypto_values stop.1.lines)) cause stop.4 in
         let no = none_chosen stop.1.lines f.0 f.1 in
-        subst Cause f.2 (s, read, is, no.0, none, (stop.1, stop.2, stop.3, no.1))
+        subst Cause f.2 (s, of_side FromSecure is, is, no.0, none, (stop.1, stop.2, stop.3, no.1))
 
     secure_refused : way ≡ FromSecure → (b : Bool) → has_message s ≡ b
         → cond b (keying_by_messages hand s (mikey_value s.session)) (after_ok (each_active Secure chosen_in 0 s.media) (λ ls. Ok (PeerLines ls))) ≡ Err cause → Cause cause
@@ -386,7 +427,7 @@ module _ (w : World) (id : CallId) (c : Call) (noise : List ℕ) (way : Way) (te
     no_pair_with : (peer : List ℕ) → way ≡ MikeyFromPlain peer → (o : Option Pair) → pair_with w.books.pairs peer ≡ o → of_psk 255 (sent_under w.moment noise (ssrcs_of Plain s.media) o) ≡ Err cause → Cause cause
     no_pair_with peer is None none e =
         let f = psk_err 255 (sent_under w.moment noise (ssrcs_of Plain s.media) None) cause e in
-        subst Cause f.2 (inl (peer, is, refl, sym (err_is {X = Sent} faults.IdUnknown f.0 f.1), each_weaker _ _ (λ p other same. false≢true (sym other ∙ same_octets_true p.peer peer same)) w.books.pairs (find_none (is_with peer) w.books.pairs none)))
+        subst Cause f.2 (inl (peer, s, of_side (MikeyFromPlain peer) is, is, refl, sym (err_is {X = Sent} faults.IdUnknown f.0 f.1), each_weaker _ _ (λ p other same. false≢true (sym other ∙ same_octets_true p.peer peer same)) w.books.pairs (find_none (is_with peer) w.books.pairs none)))
     no_pair_with peer is (Some pair) at e = absurd (ok_err _ cause e)
 
     keying_refused : (v : Way) → way ≡ v → keying_of hand s v ≡ Err cause → Cause cause
@@ -404,9 +445,9 @@ module _ (w : World) (id : CallId) (c : Call) (noise : List ℕ) (way : Way) (te
   pub offer_refused : ((n : ℕ) → media_of c ≡ Some n → (many : ℕ) → ¬ many ≡ n → IsThere w id (λ d. ¬ many ≡ d.media)) → (cause : Refusal) → agreed_offer hand way text ≡ Err cause → Cause cause
   unfolding agreed_offer
   offer_refused counted cause e = elim (after_ok_err (described (side_of way) (media_of c) text) _ cause e) [
-    | inl fails ↦ text_refused (side_of way) (media_of c) text Cause (λ line fault is. is) (λ s read none. (s, read, none)) (λ s read n is other. (s, read, counted n is (length s.media) other)) cause fails
+    | inl fails ↦ text_refused (side_of way) (media_of c) text Cause (λ line fault is. is) (λ s read none. (s, read, none)) (λ s describes n is other. (s, describes, counted n is (length s.media) other)) cause fails
     | inr x ↦ elim (after_ok_err (keying_of hand x.0 way) _ cause x.2) [
-      | inl fails ↦ keying_refused x.0 (described_is (side_of way) (media_of c) text x.0 x.1) cause way refl fails
+      | inl fails ↦ keying_refused x.0 (text_describes (side_of way) (media_of c) text x.0 x.1) cause way refl fails
       | inr y ↦ absurd (ok_err _ cause y.2)
     ]
   ]

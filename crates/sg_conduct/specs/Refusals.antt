@@ -1,6 +1,6 @@
 -- A signal that is refused tells one cause, of the call that it names, and nothing else. The world before shows the cause, or what
 -- the signal brings does. And where the world bars a signal, the signal is refused, by that cause.
-use Rattle.std.specs.Prelude.{◌≡◌, ◌⊎◌, ◌<◌, ◌≤◌, ℕ, ◌+◌, ◌*◌, pos, ◌-ℤ◌, true, List, [], ◌∷◌, length, filter, Some, None, Ok, Err}
+use Rattle.std.specs.Prelude.{◌≡◌, ◌⊎◌, ◌<◌, ◌≤◌, ℕ, ◌+◌, ◌*◌, pos, ◌-ℤ◌, true, List, [], ◌∷◌, length, filter, Option, Some, None, Ok, Err}
 use Rattle.std.specs.List.{All, AllByRecursion, AllPairs, Any}
 use Rattle.sg_agreement.specs.Keying.{Offer}
 use Rattle.sg_agreement.specs.Manual.{ManualCall}
@@ -10,7 +10,7 @@ use Rattle.sg_agreement.specs.declared.ways.Way.{Way}
 use Rattle.sg_agreement.specs.declared.ways.Way.TheVariants.{FromSecure, MikeyFromPlain}
 use Rattle.sg_base.specs.Keys.{Master}
 use Rattle.sg_base.specs.declared.addresses.CallId.{CallId}
-use Rattle.sg_base.specs.declared.addresses.Side.TheVariants.{Secure}
+use Rattle.sg_base.specs.declared.addresses.Side.TheVariants.{Secure, Plain}
 use Rattle.sg_base.specs.declared.faults.CsFault.{CsFault}
 use Rattle.sg_base.specs.declared.faults.CsFault.TheVariants.{CsCount, PolicyMissing, PolicyValue}
 use Rattle.sg_base.specs.declared.faults.MikeyFault.{MikeyFault}
@@ -25,6 +25,7 @@ use Rattle.sg_hmac.specs.Labels.{authentication_key}
 use Rattle.sg_mikey.specs.Reading.{Place, message_of}
 use Rattle.sg_mikey.specs.declared.message.CsEntry.{CsEntry}
 use Rattle.sg_mikey.specs.declared.message.Message.{Message}
+use Rattle.sg_mikey.specs.declared.message.Tgk.{Tgk}
 use Rattle.sg_mikey.specs.declared.policy.Policy.{Policy}
 use Rattle.sg_outcome.specs.declared.outcomes.Outcome.{Outcome}
 use Rattle.sg_outcome.specs.declared.outcomes.Outcome.TheVariants.{Refused, Ended}
@@ -50,7 +51,7 @@ use Rattle.sg_gateway.specs.Signals.{Signal, Tick, Psk, Manual, Offered, Answere
 use Rattle.sg_gateway.specs.Step.{Event, Signalled}
 use Rattle.sg_gateway.specs.World.{Books, Call, World}
 use Rattle.sg_conduct.specs.Causes.{IsFull, IsReused, ShowsFault}
-use Rattle.sg_conduct.specs.Offers.{HasPolicy, IsFirstNamed}
+use Rattle.sg_conduct.specs.Offers.{Describes, HasPolicy, IsFirstNamed}
 use Rattle.sg_conduct.specs.Present.{TakesPart}
 use Rattle.sg_conduct.specs.Staying.{HasNames}
 
@@ -110,7 +111,7 @@ IsPart s medium lines count =
 pub record IsToCarry (way : Way) (text : List ℕ) (medium : ℕ) : Type 0 where
   pub secure : way ≡ FromSecure
   pub offer : Sdp
-  pub read : description_of text ≡ Ok offer
+  pub describes : Describes Secure text offer
   pub lines : List (List ℕ)
   pub count : ℕ
   pub part : IsPart offer medium lines count
@@ -125,17 +126,41 @@ IsNoMessage octets offset fault =
 abbrev pub IsMessage : List ℕ → Message → Type 0
 IsMessage octets m = (message_of octets ≡ Ok m) × (m.kind ≡ 0)
 
--- why it isn't accepted under this key: it is of other algorithms, or of another code, 300,000 ms from the moment, or noted; its keys
--- aren't read, or there is no room to note four
+-- it is of AES in counter mode and HMAC-SHA-1 (4.2.3, 4.2.4)
+abbrev pub IsOfAlgorithms : Message → Type 0
+IsOfAlgorithms m = ((closing_in m.payloads).cipher ≡ 1) × ((closing_in m.payloads).mac ≡ 1)
+
+-- its MAC is the code of all before it under this key
+abbrev pub HasCode : List ℕ → Message → Pair → Type 0
+HasCode octets m pair = (closing_in m.payloads).tag ≡ hmac_sha1 (authentication_key pair.key m.csb (random_in m.payloads)) (before_mac octets)
+
+-- the milliseconds between its stamp and the moment, which counts from 1970
+abbrev pub apart : ℕ → Message → ℕ
+apart now m = distance (since_1900 (stamp_in m.payloads)) (now + 2208988800000)
+
+abbrev pub IsNotedIn : List Noted → Message → Pair → Type 0
+IsNotedIn noted m pair = Any (λ (n : Noted). (n.peer ≡ pair.peer) × (n.csb ≡ m.csb) × (n.stamp ≡ stamp_in m.payloads)) noted
+
+-- so it is authentic, of the time and new
+pub record IsGenuine (books : Books) (now : ℕ) (octets : List ℕ) (m : Message) (pair : Pair) : Type 0 where
+  pub algorithms : IsOfAlgorithms m
+  pub code : HasCode octets m pair
+  pub near : apart now m ≤ 300000
+  pub new : ¬ IsNotedIn books.noted m pair
+
+abbrev pub keys_under : Message → Pair → Option (List Tgk)
+keys_under m pair = tgks_of (enciphered pair.key m.csb (random_in m.payloads) (stamp_in m.payloads) (closing_in m.payloads).octets)
+
+-- The first cause why it isn't accepted under this key: it is of other algorithms, has another code, is of another time, or noted;
+-- its keys aren't read, or there is no room to note four.
 abbrev pub IsNotAccepted : Books → ℕ → List ℕ → Message → Pair → PskFault → Type 0
-IsNotAccepted books now octets m pair faults.Algorithm = ¬ (((closing_in m.payloads).cipher ≡ 1) × ((closing_in m.payloads).mac ≡ 1))
-IsNotAccepted books now octets m pair faults.BadMac = ¬ (closing_in m.payloads).tag ≡ hmac_sha1 (authentication_key pair.key m.csb (random_in m.payloads)) (before_mac octets)
+IsNotAccepted books now octets m pair faults.Algorithm = ¬ IsOfAlgorithms m
+IsNotAccepted books now octets m pair faults.BadMac = IsOfAlgorithms m × (¬ HasCode octets m pair)
 IsNotAccepted books now octets m pair (faults.Skew stamp moment) =
-    (stamp ≡ pos (since_1900 (stamp_in m.payloads)) -ℤ pos 2208988800000) × (moment ≡ now) × (300000 < distance (since_1900 (stamp_in m.payloads)) (now + 2208988800000))
-IsNotAccepted books now octets m pair faults.Repeated = Any (λ (n : Noted). (n.peer ≡ pair.peer) × (n.csb ≡ m.csb) × (n.stamp ≡ stamp_in m.payloads)) books.noted
-IsNotAccepted books now octets m pair faults.KeyType =
-    tgks_of (enciphered pair.key m.csb (random_in m.payloads) (stamp_in m.payloads) (closing_in m.payloads).octets) ≡ None
-IsNotAccepted books now octets m pair faults.CacheFull = 1020 < length books.noted
+    IsOfAlgorithms m × HasCode octets m pair × (300000 < apart now m) × (stamp ≡ pos (since_1900 (stamp_in m.payloads)) -ℤ pos 2208988800000) × (moment ≡ now)
+IsNotAccepted books now octets m pair faults.Repeated = IsOfAlgorithms m × HasCode octets m pair × (apart now m ≤ 300000) × IsNotedIn books.noted m pair
+IsNotAccepted books now octets m pair faults.KeyType = IsGenuine books now octets m pair × (keys_under m pair ≡ None)
+IsNotAccepted books now octets m pair faults.CacheFull = IsGenuine books now octets m pair × (¬ keys_under m pair ≡ None) × (1020 < length books.noted)
 IsNotAccepted books now octets m pair other = ⊥
 
 -- no key is held of its two ends, or it isn't accepted under the first
@@ -144,32 +169,38 @@ PskSpeaks books now octets m fault =
     ((fault ≡ faults.IdUnknown) × AllByRecursion (λ p. ¬ AreNamesOf p (names_in m.payloads)) books.pairs)
     ⊎ ((pair : Pair) × IsFirstNamed books.pairs (names_in m.payloads) pair × IsNotAccepted books now octets m pair fault)
 
--- it hasn't two crypto sessions for each medium, or one of them has no policy, or one that isn't served (6.1.1, 6.10.1)
+-- no policy has the crypto session's number
+abbrev pub LacksPolicy : Message → CsEntry → Type 0
+LacksPolicy m entry = AllByRecursion (λ (p : Policy). ¬ p.number ≡ entry.policy) (policies_in m.payloads)
+
+-- the first cause why it doesn't serve: it hasn't two crypto sessions for each medium, or one has no policy, or one that isn't served
+-- (6.1.1, 6.10.1)
 abbrev pub SessionsSpeak : Message → ℕ → CsFault → Type 0
 SessionsSpeak m count CsCount = ¬ length m.map ≡ 2 * count
-SessionsSpeak m count PolicyMissing = Any (λ (entry : CsEntry). AllByRecursion (λ (p : Policy). ¬ p.number ≡ entry.policy) (policies_in m.payloads)) m.map
-SessionsSpeak m count PolicyValue = Any (λ entry. ¬ HasPolicy (policies_in m.payloads) entry) m.map
+SessionsSpeak m count PolicyMissing = (length m.map ≡ 2 * count) × Any (LacksPolicy m) m.map
+SessionsSpeak m count PolicyValue = (length m.map ≡ 2 * count) × (¬ Any (LacksPolicy m) m.map) × Any (λ entry. ¬ HasPolicy (policies_in m.payloads) entry) m.map
 
 -- ---- an offer
 
--- It is no description, or lacks an address; no medium takes part, or there aren't as many as the call has (RFC 3264, 8). A medium
--- that takes part has no crypto line that is read, where no line is a message (RFC 4568, 5.1.2). A message isn't there, isn't read,
--- isn't accepted, or doesn't serve. For the gateway's own message no key is held with the peer.
+-- It is no description, or lacks an address, or no medium takes part. Else there aren't as many as the call has (RFC 3264, 8); or a
+-- medium that takes part has no crypto line that is read, where no line is a message (RFC 4568, 5.1.2); or a message isn't there,
+-- isn't read, isn't accepted, or doesn't serve; or for the gateway's own no key is held with the peer.
 abbrev pub OfferSpeaks : World → CallId → Way → List ℕ → Refusal → Type 0
 OfferSpeaks w id way text (causes.Sdp line fault) = ShowsFault (side_of way) text line fault
 OfferSpeaks w id way text causes.NoMedia = (s : Sdp) × (description_of text ≡ Ok s) × AllByRecursion (λ m. ¬ TakesPart (side_of way) m) s.media
-OfferSpeaks w id way text causes.MediaCount = (s : Sdp) × (description_of text ≡ Ok s) × IsThere w id (λ c. ¬ length s.media ≡ c.media)
+OfferSpeaks w id way text causes.MediaCount = (s : Sdp) × Describes (side_of way) text s × IsThere w id (λ c. ¬ length s.media ≡ c.media)
 OfferSpeaks w id way text (causes.Sdes medium fault) =
-    (s : Sdp) × (description_of text ≡ Ok s) × (way ≡ FromSecure) × (fault ≡ NoLine) × HasNoMessage s
+    (s : Sdp) × Describes Secure text s × (way ≡ FromSecure) × (fault ≡ NoLine) × HasNoMessage s
     × ((m : descriptions.Medium) × IsMediumAt s.media medium m × TakesPart Secure m × ((l : CryptoLine) → ¬ HasLine m l))
 OfferSpeaks w id way text (causes.KeyMgmt medium) = (x : IsToCarry way text medium) × ((octets : List ℕ) → ¬ Carries x.lines octets)
 OfferSpeaks w id way text (causes.Mikey medium offset fault) =
     (x : IsToCarry way text medium) × (octets : List ℕ) × Carries x.lines octets × IsNoMessage octets offset fault
 OfferSpeaks w id way text (causes.Psk medium fault) =
-    ((peer : List ℕ) × (way ≡ MikeyFromPlain peer) × (medium ≡ 255) × (fault ≡ faults.IdUnknown) × AllByRecursion (λ (p : Pair). ¬ p.peer ≡ peer) w.books.pairs)
+    ((peer : List ℕ) × (s : Sdp) × Describes Plain text s × (way ≡ MikeyFromPlain peer) × (medium ≡ 255) × (fault ≡ faults.IdUnknown) × AllByRecursion (λ (p : Pair). ¬ p.peer ≡ peer) w.books.pairs)
     ⊎ ((x : IsToCarry way text medium) × (octets : List ℕ) × (m : Message) × Carries x.lines octets × IsMessage octets m × PskSpeaks w.books w.moment octets m fault)
 OfferSpeaks w id way text (causes.Cs medium fault) =
-    (x : IsToCarry way text medium) × (octets : List ℕ) × (m : Message) × Carries x.lines octets × IsMessage octets m × SessionsSpeak m x.count fault
+    (x : IsToCarry way text medium) × (octets : List ℕ) × (m : Message) × Carries x.lines octets × IsMessage octets m
+    × ((pair : Pair) × IsFirstNamed w.books.pairs (names_in m.payloads) pair × IsGenuine w.books w.moment octets m pair) × SessionsSpeak m x.count fault
 OfferSpeaks w id way text other = ⊥
 
 -- ---- a refused signal
