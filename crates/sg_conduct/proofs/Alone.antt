@@ -216,7 +216,7 @@ module _ (w : World) (begun : AllBegun w) where
   signal_begun (Reject id) = rejection_at id (call_of w id)
   signal_begun signal = others_begun signal (λ id is. absurd cc)
 
-  event_begun : (e : Event) → AllBegun (step w e).world
+  pub event_begun : (e : Event) → AllBegun (step w e).world
   event_begun (Signalled signal) = signal_begun signal
   event_begun (Datagram port from d) = each_datagram w port (λ h. AllBegun h.world) (record {
     drops = λ cause. begun;

@@ -180,6 +180,15 @@ text_describes side count text s e =
     let same : a.0 ≡ b.0 = same_text a.0 b.0 _ b.1 in
     subst (Describes side text) (ok_is b.0 s d.1) (describes side text b.0 (read_text (description_of text) a.0 a.1 ∙ ap Ok same) c.0 (ap (λ s. unaddressed side (length s.session + 1) s.media) (sym same) ∙ no_fault a.0 b.0 _ b.1))
 
+pub text_counts : (side : Side) (count : Option ℕ) (text : List ℕ) (s : sdp.Sdp) → described side count text ≡ Ok s → is_other_count count (length s.media) ≡ false
+unfolding described
+text_counts side count text s e =
+    let a = after_ok_is (of_text (description_of text)) _ s e in
+    let b = after_ok_is (with_addresses a.0 (unaddressed side (length a.0.session + 1) a.0.media)) _ s a.2 in
+    let c = stop_if_is (not (list_any (is_active side) b.0.media)) causes.NoMedia _ s b.2 in
+    let d = stop_if_is (is_other_count count (length b.0.media)) causes.MediaCount (Ok b.0) s c.1 in
+    subst (λ (s : sdp.Sdp). is_other_count count (length s.media) ≡ false) (ok_is b.0 s d.1) d.0
+
 description_shows : (ring : List Installed) (Brings : List Master → Type 0) (o : Offer) (text : List ℕ) (cause : Refusal) → described (other_side o.side) (Some (length o.description.media)) text ≡ Err cause → Shows ring Brings o text cause
 description_shows ring Brings o text = text_refused (other_side o.side) (Some (length o.description.media)) text (Shows ring Brings o text) (λ line fault is. is) (λ s read none. (s, read, none))
     (λ s describes n is other. (s, describes.read, (λ same. other (same ∙ some_is (length o.description.media) n is))))

@@ -8,7 +8,7 @@ use Rattle.std.specs.Option.{is_none, is_some, option_map}
 use Rattle.sg_agreement.proofs.MessagesSound.{psk_is}
 use Rattle.sg_agreement.proofs.TextLines.{first_is, mikey_is}
 use Rattle.sg_agreement.specs.Attributes.{behind, crypto_values, first_of, has_message, mikey_octets, mikey_rest, mikey_value, ssrcs_of}
-use Rattle.sg_agreement.specs.Described.{described}
+use Rattle.sg_agreement.specs.Described.{described, is_other_count}
 use Rattle.sg_agreement.specs.Keying.{PeerLines}
 use Rattle.sg_agreement.specs.Messages.{AtHand, bundle_in, message_in}
 use Rattle.sg_agreement.specs.Offers.{agreed_offer, chosen_in, keying_by_messages, keying_of, noise_of}
@@ -30,7 +30,7 @@ use Rattle.sg_psk.specs.Envelope.{mac_of}
 use Rattle.sg_psk.specs.Pairs.{is_noted, is_of, is_same, is_with, note, pair_named}
 use Rattle.sg_psk.specs.Parts.{closing_in, names_in, policies_in, stamp_in}
 use Rattle.sg_psk.specs.Sending.{Sent, sent_under}
-use Rattle.sg_psk.specs.Stamps.{distance, is_skewed, moment_of, since_1900}
+use Rattle.sg_psk.specs.Stamps.{is_skewed, moment_of}
 use Rattle.sg_psk.specs.declared.replays.Noted.{Noted}
 use Rattle.sg_sdes.specs.Answers.{chosen_of, offered_by, or_next}
 use Rattle.sg_sdes.specs.CryptoOf.{crypto_of}
@@ -45,13 +45,13 @@ use Rattle.sg_gateway.specs.Authentic.{AreNamesOf}
 use Rattle.sg_gateway.specs.CallSignals.{media_of}
 use Rattle.sg_gateway.specs.CryptoSessions.{Carries}
 use Rattle.sg_conduct.proofs.Acceptable.{octets_are, policy_means, stream_given}
-use Rattle.sg_conduct.proofs.Causes.{after_ok_err, err_is, message_err, message_ok, octets_err, octets_ok, ok_err, psk_err, sdes_err, stop_if_err, text_describes, text_refused}
+use Rattle.sg_conduct.proofs.Causes.{after_ok_err, err_is, message_err, message_ok, octets_err, octets_ok, ok_err, psk_err, sdes_err, stop_if_err, text_counts, text_describes, text_refused}
 use Rattle.sg_conduct.proofs.FirstLines.{Placed, at_head, at_rest, at_start}
 use Rattle.sg_conduct.proofs.Forth.{find_first}
 use Rattle.sg_conduct.proofs.Offers.{active_takes}
 use Rattle.sg_conduct.specs.Offers.{Describes, HasPolicy, IsFirstNamed}
 use Rattle.sg_conduct.specs.Present.{TakesPart}
-use Rattle.sg_conduct.specs.Refusals.{HasCode, IsGenuine, IsNotAccepted, IsNotedIn, IsOfAlgorithms, IsPart, IsThere, IsToCarry, OfferSpeaks, PskSpeaks, SessionsSpeak, apart}
+use Rattle.sg_conduct.specs.Refusals.{FitsCall, HasCode, IsGenuine, IsNotAccepted, IsNotedIn, IsOfAlgorithms, IsPart, IsThere, IsToCarry, OfferSpeaks, PskSpeaks, SessionsSpeak, apart}
 
 find_none : {X : Type 0} (test : X → Bool) (xs : List X) → find test xs ≡ None → AllByRecursion (λ x. test x ≡ false) xs
 find_none test [] e = tt
@@ -321,16 +321,18 @@ module _ (m : Message) (count : ℕ) (tgks : List Tgk) (random : List ℕ) (faul
   by_counts : (a b : Bool) → eqb (length m.map) (2 * count) ≡ a → list_any (lacks_policy (policies_in m.payloads)) m.map ≡ b
       → cond (not a) (Err CsCount) (cond b (Err PolicyMissing) (or_fault PolicyValue (pairs_from m.csb random (policies_in m.payloads) tgks 1 m.map))) ≡ Err fault → Serves fault
   by_counts false b is lacks e = subst Serves (err_is {X = List (StreamKeys × StreamKeys)} CsCount fault e) (eqb-false (length m.map) (2 * count) is)
-  by_counts true true is lacks e = subst Serves (err_is {X = List (StreamKeys × StreamKeys)} PolicyMissing fault e)
-      (eqb-true (length m.map) (2 * count) is,
-      any_weaker _ _ (λ entry none. no_policy (policies_in m.payloads) entry (policy_at (policies_in m.payloads) entry) refl none) m.map (Any-from_list_any (lacks_policy (policies_in m.payloads)) m.map lacks))
+  by_counts true true is lacks e = subst Serves (err_is {X = List (StreamKeys × StreamKeys)} PolicyMissing fault e) (
+    eqb-true (length m.map) (2 * count) is,
+    any_weaker _ _ (λ entry none. no_policy (policies_in m.payloads) entry (policy_at (policies_in m.payloads) entry) refl none) m.map (Any-from_list_any (lacks_policy (policies_in m.payloads)) m.map lacks),
+  )
   by_counts true false counted lacks e = go (pairs_from m.csb random (policies_in m.payloads) tgks 1 m.map) refl e
     where
       go : (o : Option (List (StreamKeys × StreamKeys))) → pairs_from m.csb random (policies_in m.payloads) tgks 1 m.map ≡ o → or_fault PolicyValue o ≡ Err fault → Serves fault
-      go None is e = subst Serves (err_is {X = List (StreamKeys × StreamKeys)} PolicyValue fault e)
-          (eqb-true (length m.map) (2 * count) counted,
-          (λ any. false≢true (sym lacks ∙ list_any-from_Any (lacks_policy (policies_in m.payloads)) m.map (any_weaker _ _ (has_policy (policies_in m.payloads)) m.map any))),
-          pairs_none m.csb random (policies_in m.payloads) tgks 1 m.map is)
+      go None is e = subst Serves (err_is {X = List (StreamKeys × StreamKeys)} PolicyValue fault e) (
+        eqb-true (length m.map) (2 * count) counted,
+        (λ any. false≢true (sym lacks ∙ list_any-from_Any (lacks_policy (policies_in m.payloads)) m.map (any_weaker _ _ (has_policy (policies_in m.payloads)) m.map any))),
+        pairs_none m.csb random (policies_in m.payloads) tgks 1 m.map is,
+      )
       go (Some ps) is e = absurd (ok_err ps fault e)
 
   sessions_speak : streams_of m.csb random m.map (policies_in m.payloads) tgks count ≡ Err fault → Serves fault
@@ -346,7 +348,7 @@ module _ (w : World) (id : CallId) (c : Call) (noise : List ℕ) (way : Way) (te
   abbrev Cause : Refusal → Type 0
   Cause cause = OfferSpeaks w id way text cause
 
-  module _ (medium : ℕ) (x : IsToCarry way text medium) (cause : Refusal) where
+  module _ (medium : ℕ) (x : IsToCarry w id way text medium) (cause : Refusal) where
     none_in : message_in medium 0 (mikey_value x.lines) ≡ Err cause → Cause cause
     unfolding message_in
     none_in e = elim (after_ok_err (or_refusal (causes.KeyMgmt medium) (mikey_octets (mikey_value x.lines))) _ cause e) [
@@ -388,12 +390,12 @@ module _ (w : World) (id : CallId) (c : Call) (noise : List ℕ) (way : Way) (te
           ]
     ]
 
-  module _ (s : Sdp) (describes : Describes (side_of way) text s) (cause : Refusal) where
+  module _ (s : Sdp) (describes : Describes (side_of way) text s) (fits : FitsCall w id s) (cause : Refusal) where
     of_side : (v : Way) → way ≡ v → Describes (side_of v) text s
     of_side v is = subst (λ v. Describes (side_of v) text s) is describes
 
-    abbrev carries : way ≡ FromSecure → (medium : ℕ) (lines : List (List ℕ)) (count : ℕ) → IsPart s medium lines count → IsToCarry way text medium
-    carries is medium lines count part = record { secure = is; offer = s; describes = of_side FromSecure is; lines = lines; count = count; part = part }
+    abbrev carries : way ≡ FromSecure → (medium : ℕ) (lines : List (List ℕ)) (count : ℕ) → IsPart s medium lines count → IsToCarry w id way text medium
+    carries is medium lines count part = record { secure = is; offer = s; describes = of_side FromSecure is; fits = fits; lines = lines; count = count; part = part }
 
     messages_refused : way ≡ FromSecure → has_message s ≡ true → (v : Option (List ℕ)) → mikey_value s.session ≡ v → keying_by_messages hand s v ≡ Err cause → Cause cause
     messages_refused is has (Some value) at e = elim (after_ok_err (bundle_in hand 255 (active_count Secure s.media) (Some value)) _ cause e) [
@@ -414,7 +416,7 @@ module _ (w : World) (id : CallId) (c : Call) (noise : List ℕ) (way : Way) (te
         let stop = media_stop s.media Secure chosen_in cause 0 s.media (at_start s.media) e in
         let f = sdes_err stop.0 (chosen_of (crypto_values stop.1.lines)) cause stop.4 in
         let no = none_chosen stop.1.lines f.0 f.1 in
-        subst Cause f.2 (s, of_side FromSecure is, is, no.0, none, (stop.1, stop.2, stop.3, no.1))
+        subst Cause f.2 (s, of_side FromSecure is, fits, is, no.0, none, (stop.1, stop.2, stop.3, no.1))
 
     secure_refused : way ≡ FromSecure → (b : Bool) → has_message s ≡ b
         → cond b (keying_by_messages hand s (mikey_value s.session)) (after_ok (each_active Secure chosen_in 0 s.media) (λ ls. Ok (PeerLines ls))) ≡ Err cause → Cause cause
@@ -427,7 +429,7 @@ module _ (w : World) (id : CallId) (c : Call) (noise : List ℕ) (way : Way) (te
     no_pair_with : (peer : List ℕ) → way ≡ MikeyFromPlain peer → (o : Option Pair) → pair_with w.books.pairs peer ≡ o → of_psk 255 (sent_under w.moment noise (ssrcs_of Plain s.media) o) ≡ Err cause → Cause cause
     no_pair_with peer is None none e =
         let f = psk_err 255 (sent_under w.moment noise (ssrcs_of Plain s.media) None) cause e in
-        subst Cause f.2 (inl (peer, s, of_side (MikeyFromPlain peer) is, is, refl, sym (err_is {X = Sent} faults.IdUnknown f.0 f.1), each_weaker _ _ (λ p other same. false≢true (sym other ∙ same_octets_true p.peer peer same)) w.books.pairs (find_none (is_with peer) w.books.pairs none)))
+        subst Cause f.2 (inl (peer, s, of_side (MikeyFromPlain peer) is, fits, is, refl, sym (err_is {X = Sent} faults.IdUnknown f.0 f.1), each_weaker _ _ (λ p other same. false≢true (sym other ∙ same_octets_true p.peer peer same)) w.books.pairs (find_none (is_with peer) w.books.pairs none)))
     no_pair_with peer is (Some pair) at e = absurd (ok_err _ cause e)
 
     keying_refused : (v : Way) → way ≡ v → keying_of hand s v ≡ Err cause → Cause cause
@@ -442,12 +444,13 @@ module _ (w : World) (id : CallId) (c : Call) (noise : List ℕ) (way : Way) (te
           | inr y ↦ absurd (ok_err _ cause y.2)
         ]
 
-  pub offer_refused : ((n : ℕ) → media_of c ≡ Some n → (many : ℕ) → ¬ many ≡ n → IsThere w id (λ d. ¬ many ≡ d.media)) → (cause : Refusal) → agreed_offer hand way text ≡ Err cause → Cause cause
+  pub offer_refused : ((n : ℕ) → media_of c ≡ Some n → (many : ℕ) → ¬ many ≡ n → IsThere w id (λ d. ¬ many ≡ d.media))
+      → ((s : Sdp) → is_other_count (media_of c) (length s.media) ≡ false → FitsCall w id s) → (cause : Refusal) → agreed_offer hand way text ≡ Err cause → Cause cause
   unfolding agreed_offer
-  offer_refused counted cause e = elim (after_ok_err (described (side_of way) (media_of c) text) _ cause e) [
+  offer_refused counted fits cause e = elim (after_ok_err (described (side_of way) (media_of c) text) _ cause e) [
     | inl fails ↦ text_refused (side_of way) (media_of c) text Cause (λ line fault is. is) (λ s read none. (s, read, none)) (λ s describes n is other. (s, describes, counted n is (length s.media) other)) cause fails
     | inr x ↦ elim (after_ok_err (keying_of hand x.0 way) _ cause x.2) [
-      | inl fails ↦ keying_refused x.0 (text_describes (side_of way) (media_of c) text x.0 x.1) cause way refl fails
+      | inl fails ↦ keying_refused x.0 (text_describes (side_of way) (media_of c) text x.0 x.1) (fits x.0 (text_counts (side_of way) (media_of c) text x.0 x.1)) cause way refl fails
       | inr y ↦ absurd (ok_err _ cause y.2)
     ]
   ]

@@ -1,41 +1,85 @@
 -- A signal that is refused tells one cause, which the world before or what the signal brings shows; one that the world bars is
 -- refused; and no end is told twice.
 use Rattle.std.proofs.Common.{◌≡◌, ◌⊎◌, inl, inr, ℕ, ◌≤◌, Bool, true, false, cond, not, List, [], ◌∷◌, length, Option, Some, None, Result, Ok, Err, refl, sym, ap, ◌∙◌, subst, arith, eqb, ltb, ltb-true, eq-eqb}
-use Rattle.std.proofs.lemmas.Bool.{cond-false, cond-true, false_from_ne_true, false≢true, lt-ltb, ltb-false, ne_eqb, not-true}
+use Rattle.std.proofs.lemmas.Bool.{cond-false, cond-true, eqb-true, false_from_ne_true, false≢true, lt-ltb, ltb-false, ne_eqb, not-false, not-true}
 use Rattle.std.specs.Prelude.{◌||◌}
 use Rattle.std.specs.List.{AllByRecursion, Any, filter}
 use Rattle.std.specs.Option.{is_some}
+use Rattle.sg_agreement.specs.Described.{is_other_count}
 use Rattle.sg_agreement.specs.Generations.{generation_of}
 use Rattle.sg_base.proofs.Cases.{guarded}
 use Rattle.sg_base.specs.declared.faults.Refusal.TheVariants as causes
 use Rattle.sg_outcome.specs.declared.outcomes.Outcome.TheVariants.{Refused}
 use Rattle.sg_outcome.specs.declared.outcomes.Why.TheVariants as why
 use Rattle.sg_psk.specs.Pairs.{has_pair}
+use Rattle.sg_sdp.specs.declared.sdp.Sdp.{Sdp}
 use Rattle.sg_session.proofs.Lists.{each_at}
 use Rattle.sg_session.specs.Ring.{Installed, install}
 use Rattle.sg_gateway.proofs.Common.{Answer, Bye, Call, CallId, Datagram, Event, IsBefore, IsRefusal, Manual, ManualCall, Offer, Offered, Outcome, Pair, Psk, Refusal, Reject, Settled, Signal, Signalled, Tick, Way, World}
 use Rattle.sg_gateway.proofs.Common.{agreed_offer, answer_to, any_cases, any_none, any_weaker, at_hand, call_of, each_map, each_of, each_weaker, find_call, is_full, is_idle, keys_from, manual_medium, named, new_call}
-use Rattle.sg_gateway.proofs.Common.{none_some, other_side, refused, same_id, side_of, step, takes_offer, tells_ended, turn_of}
+use Rattle.sg_gateway.proofs.Common.{All, All-from_recursion, empty, none_some, some_is, turns, turns_from, other_side, refused, same_id, side_of, step, takes_offer, tells_ended, turn_of}
 use Rattle.sg_gateway.proofs.CarriedOut.{same_call_id}
 use Rattle.sg_gateway.proofs.Ordered.{not_found, pairs_filter}
-use Rattle.sg_gateway.proofs.Pairs.{Pairs, pairs_map, pairs_to}
+use Rattle.sg_gateway.proofs.Agreements.{Agreements}
+use Rattle.sg_gateway.proofs.Datagrams.{every_turn}
+use Rattle.sg_gateway.proofs.Orderly.{Ordered}
+use Rattle.sg_gateway.proofs.Pairs.{Pairs, each_two, pairs_map, pairs_to}
+use Rattle.sg_gateway.proofs.Reached.{Anything, anything_had, anything_on, ordered_worlds}
 use Rattle.sg_gateway.proofs.Refusals.{refused_first}
-use Rattle.sg_gateway.proofs.Signals.{is_found}
+use Rattle.sg_gateway.proofs.Signals.{found, is_found}
+use Rattle.sg_gateway.proofs.Lists.{each_of_list}
 use Rattle.sg_gateway.proofs.StepCases.{after_pair, after_tick, each_datagram, each_signal}
 use Rattle.sg_gateway.specs.CallSignals.{answered_to, has_begun, keyed_manually, media_of, offered_in}
 use Rattle.sg_gateway.specs.Early.{early, early_answer, early_bye, early_manual, early_offer}
 use Rattle.sg_gateway.specs.Signals.{Answered, answered, in_new, in_old, left, offered_to, offering_side, rejected, rejected_to, tells_answer, tells_live, tells_text}
-use Rattle.sg_conduct.proofs.Alone.{has_names, no_names}
+use Rattle.sg_conduct.proofs.Alone.{AllBegun, event_begun, has_names, no_names}
 use Rattle.sg_conduct.proofs.Causes.{after_ok_err, err_is, ok_err, ring_refuses, stop_if_err}
 use Rattle.sg_conduct.proofs.OfferRefusals.{offer_refused}
-use Rattle.sg_conduct.specs.Refusals.{AreInOrder, AreOfLine, BarredIsRefused, EndsAreOnce, HasOpenOffer, IsBarred, IsThere, IsUnknown, KeysSpeak, OfferSpeaks, RefusalShowsCause, Speaks}
+use Rattle.sg_conduct.specs.Staying.{HasBegun}
+use Rattle.sg_conduct.specs.Refusals.{AreInOrder, AreOfLine, BarredIsRefused, EndsAreOnce, FitsCall, HasOpenOffer, IsBarred, IsThere, IsUnknown, KeysSpeak, OfferSpeaks, RefusalShowsCause, Speaks}
 
-module _ (w : World) where
+-- ---- the call of an id
+
+none_of_id : (id : CallId) (cs : List Call) → AllByRecursion (λ c. ¬ c.id ≡ id) cs → find_call (λ c. same_id c.id id) cs ≡ None
+none_of_id id [] none = refl
+none_of_id id (c ∷ cs) none = cond-false (same_id c.id id) (Some c) (find_call (λ c. same_id c.id id) cs) (ne_eqb c.id.0 id.0 (λ e. none.0 (λ i. record { 0 = e i }))) ∙ none_of_id id cs none.1
+
+one_of_id : (id : CallId) (P : Call → Type 0) (cs : List Call) → Pairs IsBefore cs → Any (λ c. (c.id ≡ id) × P c) cs → (c : Call) × (find_call (λ c. same_id c.id id) cs ≡ Some c) × P c
+one_of_id id P [] before any = absurd (any_none _ any)
+one_of_id id P (c ∷ cs) before any = elim (any_cases (λ c. (c.id ≡ id) × P c) c cs any) [
+  | inl here ↦ (c, cond-true (same_id c.id id) (Some c) (find_call (λ c. same_id c.id id) cs) (eq-eqb c.id.0 id.0 (ap (λ (i : CallId). i.0) here.0)), here.1)
+  | inr later ↦
+      let rest = one_of_id id P cs before.1 later in
+      let at = each_at (IsBefore c) (λ c. (c.id ≡ id) × P c) cs before.0 later in
+      (rest.0, cond-false (same_id c.id id) (Some c) (find_call (λ c. same_id c.id id) cs) (ne_eqb c.id.0 id.0 (λ e. at.1.id ((λ i. record { 0 = e i }) ∙ sym at.2.0))) ∙ rest.1, rest.2)
+]
+
+module _ (w : World) (before : Pairs IsBefore w.calls) (begun : AllBegun w) where
   unknown : (id : CallId) → call_of w id ≡ None → IsUnknown w id
   unknown id none = each_weaker (λ c. same_id c.id id ≡ false) (λ c. ¬ c.id ≡ id) (λ c other same. false≢true (sym other ∙ eq-eqb c.id.0 id.0 (ap (λ (i : CallId). i.0) same))) w.calls (not_found (λ c. same_id c.id id) w.calls none)
 
   there : (id : CallId) (c : Call) → call_of w id ≡ Some c → (P : Call → Type 0) → P c → IsThere w id P
   there id c at P p = any_weaker (λ x. x ≡ c) (λ x. (x.id ≡ id) × P x) (λ x same. (ap (λ (x : Call). x.id) same ∙ same_call_id id c w.calls at, subst P (sym same) p)) w.calls (is_found _ w.calls c at)
+
+  -- a call that is there is the one that is found
+  one_found : (id : CallId) (c d : Call) → call_of w id ≡ Some c → Any (λ x. x ≡ d) w.calls → d.id ≡ id → d ≡ c
+  one_found id c d at here own =
+      let is = one_of_id id (λ x. x ≡ d) w.calls before (any_weaker (λ x. x ≡ d) (λ x. (x.id ≡ id) × (x ≡ d)) (λ x same. (ap (λ (x : Call). x.id) same ∙ own, same)) w.calls here) in
+      sym is.2 ∙ some_is is.0 c (sym is.1 ∙ at)
+
+  counts : (c : Call) → HasBegun c → media_of c ≡ Some c.media
+  counts c is = cond-true (has_begun c) (Some c.media) None (go c.offer refl (eqb c.generations 0) refl)
+    where
+      go : (o : Option Offer) → c.offer ≡ o → (b : Bool) → eqb c.generations 0 ≡ b → is_some o || not b ≡ true
+      go (Some o) is_open b zero = refl
+      go None none false more = refl
+      go None none true zero = let o = is (eqb-true c.generations 0 zero) in absurd (none_some o.0 (sym none ∙ o.1))
+
+  fits_call : (id : CallId) (c : Call) → call_of w id ≡ Some c → (s : Sdp) → is_other_count (media_of c) (length s.media) ≡ false → FitsCall w id s
+  fits_call id c at s same =
+      let own = subst (λ (o : Option ℕ). is_other_count o (length s.media) ≡ false) (counts c (found HasBegun (λ x. same_id x.id id) w.calls c at begun)) same in
+      each_of_list (λ d. d.id ≡ id → length s.media ≡ d.media) w.calls
+      (λ d here of_id. eqb-true (length s.media) c.media (not-false _ own) ∙ ap (λ (c : Call). c.media) (sym (one_found id c d at here of_id)))
 
   no_room : is_full w ≡ true → 256 ≤ length w.calls
   no_room full = ltb-false (length w.calls) 256 (not-true (ltb (length w.calls) 256) full)
@@ -101,26 +145,27 @@ module _ (w : World) where
     not_taking false (Some x) e = inr (x, refl)
     not_taking false None e = absurd cc
 
-    by_stage : (c : Call) → ((n : ℕ) → media_of c ≡ Some n → (many : ℕ) → ¬ many ≡ n → IsThere w id (λ d. ¬ many ≡ d.media)) → (cause : Refusal) → offered_in w.moment w.books c way noise text ≡ Err cause
+    by_stage : (c : Call) → ((n : ℕ) → media_of c ≡ Some n → (many : ℕ) → ¬ many ≡ n → IsThere w id (λ d. ¬ many ≡ d.media))
+        → ((s : Sdp) → is_other_count (media_of c) (length s.media) ≡ false → FitsCall w id s) → (cause : Refusal) → offered_in w.moment w.books c way noise text ≡ Err cause
         → ((not (takes_offer c) ≡ true) × (causes.State ≡ cause)) ⊎ OfferSpeaks w id way text cause
-    by_stage c counted cause e = elim (stop_if_err (not (takes_offer c)) causes.State cause _ e) [
+    by_stage c counted fits cause e = elim (stop_if_err (not (takes_offer c)) causes.State cause _ e) [
       | inl state ↦ inl state
       | inr agreed ↦ elim (after_ok_err (agreed_offer (at_hand w.moment w.books c noise) way text) _ cause agreed.1) [
-        | inl fails ↦ inr (offer_refused w id c noise way text counted cause fails)
+        | inl fails ↦ inr (offer_refused w id c noise way text counted fits cause fails)
         | inr x ↦ absurd (ok_err _ cause x.2)
       ]
     ]
 
-    new_told : (q : Result Settled Refusal) → offered_in w.moment w.books (new_call w id) way noise text ≡ q → Told offer (in_new w id (tells_text id (other_side (side_of way))) q).outcomes
-    new_told (Err cause) e = elim (by_stage (new_call w id) (λ n is. absurd (none_some n is)) cause e) [
+    new_told : call_of w id ≡ None → (q : Result Settled Refusal) → offered_in w.moment w.books (new_call w id) way noise text ≡ q → Told offer (in_new w id (tells_text id (other_side (side_of way))) q).outcomes
+    new_told none (Err cause) e = elim (by_stage (new_call w id) (λ n is. absurd (none_some n is)) (λ s same. each_weaker _ _ (λ c other is. absurd (other is)) w.calls (unknown id none)) cause e) [
       | inl state ↦ absurd (false≢true state.0)
       | inr is ↦ speaks offer cause is
     ]
-    new_told (Ok r) e = taken offer _ ((λ no. no), ((λ no. no), tt))
+    new_told none (Ok r) e = taken offer _ ((λ no. no), ((λ no. no), tt))
 
     old_told : (c : Call) → call_of w id ≡ Some c → (q : Result Settled Refusal) → offered_in w.moment w.books c way noise text ≡ q → Told offer (in_old w id (tells_text id (other_side (side_of way))) q).outcomes
     old_told c at (Err cause) e =
-        elim (by_stage c (λ n is many other. there id c at (λ d. ¬ many ≡ d.media) (λ same. other (same ∙ (guarded (has_begun c) c.media n is).1))) cause e) [
+        elim (by_stage c (λ n is many other. there id c at (λ d. ¬ many ≡ d.media) (λ same. other (same ∙ (guarded (has_begun c) c.media n is).1))) (fits_call id c at) cause e) [
           | inl state ↦ subst (λ cause. Told offer (Refused (Some id) cause ∷ [])) state.1 (bars offer causes.State (there id c at (λ c. (c.manual ≡ true) ⊎ HasOpenOffer c) (not_taking c.manual c.offer state.0)))
           | inr is ↦ speaks offer cause is
         ]
@@ -133,7 +178,7 @@ module _ (w : World) where
         go : (b : Bool) → is_full w ≡ b
             → Told offer (cond b (refused w (Some id) causes.TableFull) (in_new w id (tells_text id (other_side (side_of way))) (offered_in w.moment w.books (new_call w id) way noise text))).outcomes
         go true full = bars offer causes.TableFull (unknown id none, no_room full)
-        go false room = new_told (offered_in w.moment w.books (new_call w id) way noise text) refl
+        go false room = new_told none (offered_in w.moment w.books (new_call w id) way noise text) refl
 
   module _ (id : CallId) (noise text : List ℕ) where
     abbrev answers : Signal
@@ -180,20 +225,6 @@ module _ (w : World) where
       subst (λ (e : Event). Any IsRefusal (step w e).outcomes → (cause : Refusal) × ((step w e).outcomes ≡ Refused (named signal) cause ∷ []) × (IsBarred w signal cause ⊎ Speaks w signal cause)) (sym is) (signal_told signal)
 
 -- ---- what the world bars
-
-none_of_id : (id : CallId) (cs : List Call) → AllByRecursion (λ c. ¬ c.id ≡ id) cs → find_call (λ c. same_id c.id id) cs ≡ None
-none_of_id id [] none = refl
-none_of_id id (c ∷ cs) none = cond-false (same_id c.id id) (Some c) (find_call (λ c. same_id c.id id) cs) (ne_eqb c.id.0 id.0 (λ e. none.0 (λ i. record { 0 = e i }))) ∙ none_of_id id cs none.1
-
-one_of_id : (id : CallId) (P : Call → Type 0) (cs : List Call) → Pairs IsBefore cs → Any (λ c. (c.id ≡ id) × P c) cs → (c : Call) × (find_call (λ c. same_id c.id id) cs ≡ Some c) × P c
-one_of_id id P [] before any = absurd (any_none _ any)
-one_of_id id P (c ∷ cs) before any = elim (any_cases (λ c. (c.id ≡ id) × P c) c cs any) [
-  | inl here ↦ (c, cond-true (same_id c.id id) (Some c) (find_call (λ c. same_id c.id id) cs) (eq-eqb c.id.0 id.0 (ap (λ (i : CallId). i.0) here.0)), here.1)
-  | inr later ↦
-      let rest = one_of_id id P cs before.1 later in
-      let at = each_at (IsBefore c) (λ c. (c.id ≡ id) × P c) cs before.0 later in
-      (rest.0, cond-false (same_id c.id id) (Some c) (find_call (λ c. same_id c.id id) cs) (ne_eqb c.id.0 id.0 (λ e. at.1.id ((λ i. record { 0 = e i }) ∙ sym at.2.0))) ∙ rest.1, rest.2)
-]
 
 module _ (w : World) (before : Pairs IsBefore w.calls) where
   abbrev Tells : Signal → Refusal → Type 0
@@ -275,3 +306,14 @@ module _ (w : World) (before : Pairs IsBefore w.calls) where
   pub ends_once : (e : Event) → EndsAreOnce (turn_of w e)
   ends_once (Signalled signal) = pairs_to AreInOrder (answer_to w signal).outcomes (signal_in_order signal)
   ends_once (Datagram port from d) = pairs_to AreInOrder _ (each_datagram w port (λ h. InOrder h.outcomes) (record { drops = λ cause. (tt, tt); puts = λ c at s t octets held. (tt, tt) }) from d.items)
+
+-- ---- a run
+
+each_begun : (w : World) → AllBegun w → (es : List Event) → AllByRecursion (λ t. AllBegun t.before) (turns_from w es)
+each_begun w begun [] = tt
+each_begun w begun (e ∷ es) = (begun, each_begun (step w e).world (event_begun w begun e) es)
+
+pub refusals_show : Agreements → (es : List Event) → All RefusalShowsCause (turns es)
+refusals_show laws es = All-from_recursion RefusalShowsCause (turns es)
+    (every_turn Anything anything_on anything_had (λ t. Ordered t.before × AllBegun t.before) RefusalShowsCause (λ past w e kept is. refusal_shows w is.0.calls is.1 e) es
+    (each_two _ _ _ (λ t ordered begun. (ordered, begun)) (turns es) (ordered_worlds laws es).0 (each_begun empty tt es)))

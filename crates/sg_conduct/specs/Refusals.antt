@@ -86,6 +86,10 @@ IsBarred w (Reject id) causes.State = IsThere w id (λ c. c.offer ≡ None)
 IsBarred w (Bye id) causes.CallUnknown = IsUnknown w id
 IsBarred w signal cause = ⊥
 
+-- it has as many media as the call of the id, where that is there (RFC 3264, 8)
+abbrev pub FitsCall : World → CallId → Sdp → Type 0
+FitsCall w id s = AllByRecursion (λ c. c.id ≡ id → length s.media ≡ c.media) w.calls
+
 -- ---- the keys of a call that is keyed manually (RFC 3711, 9.1)
 
 -- the line's two, the peer's first
@@ -108,10 +112,11 @@ IsPart s medium lines count =
     × ((m : descriptions.Medium) × IsMediumAt s.media medium m × TakesPart Secure m × (lines ≡ m.lines) × (count ≡ 1)))
 
 -- so in an offer of the secure side
-pub record IsToCarry (way : Way) (text : List ℕ) (medium : ℕ) : Type 0 where
+pub record IsToCarry (w : World) (id : CallId) (way : Way) (text : List ℕ) (medium : ℕ) : Type 0 where
   pub secure : way ≡ FromSecure
   pub offer : Sdp
   pub describes : Describes Secure text offer
+  pub fits : FitsCall w id offer
   pub lines : List (List ℕ)
   pub count : ℕ
   pub part : IsPart offer medium lines count
@@ -190,16 +195,16 @@ OfferSpeaks w id way text (causes.Sdp line fault) = ShowsFault (side_of way) tex
 OfferSpeaks w id way text causes.NoMedia = (s : Sdp) × (description_of text ≡ Ok s) × AllByRecursion (λ m. ¬ TakesPart (side_of way) m) s.media
 OfferSpeaks w id way text causes.MediaCount = (s : Sdp) × Describes (side_of way) text s × IsThere w id (λ c. ¬ length s.media ≡ c.media)
 OfferSpeaks w id way text (causes.Sdes medium fault) =
-    (s : Sdp) × Describes Secure text s × (way ≡ FromSecure) × (fault ≡ NoLine) × HasNoMessage s
+    (s : Sdp) × Describes Secure text s × FitsCall w id s × (way ≡ FromSecure) × (fault ≡ NoLine) × HasNoMessage s
     × ((m : descriptions.Medium) × IsMediumAt s.media medium m × TakesPart Secure m × ((l : CryptoLine) → ¬ HasLine m l))
-OfferSpeaks w id way text (causes.KeyMgmt medium) = (x : IsToCarry way text medium) × ((octets : List ℕ) → ¬ Carries x.lines octets)
+OfferSpeaks w id way text (causes.KeyMgmt medium) = (x : IsToCarry w id way text medium) × ((octets : List ℕ) → ¬ Carries x.lines octets)
 OfferSpeaks w id way text (causes.Mikey medium offset fault) =
-    (x : IsToCarry way text medium) × (octets : List ℕ) × Carries x.lines octets × IsNoMessage octets offset fault
+    (x : IsToCarry w id way text medium) × (octets : List ℕ) × Carries x.lines octets × IsNoMessage octets offset fault
 OfferSpeaks w id way text (causes.Psk medium fault) =
-    ((peer : List ℕ) × (s : Sdp) × Describes Plain text s × (way ≡ MikeyFromPlain peer) × (medium ≡ 255) × (fault ≡ faults.IdUnknown) × AllByRecursion (λ (p : Pair). ¬ p.peer ≡ peer) w.books.pairs)
-    ⊎ ((x : IsToCarry way text medium) × (octets : List ℕ) × (m : Message) × Carries x.lines octets × IsMessage octets m × PskSpeaks w.books w.moment octets m fault)
+    ((peer : List ℕ) × (s : Sdp) × Describes Plain text s × FitsCall w id s × (way ≡ MikeyFromPlain peer) × (medium ≡ 255) × (fault ≡ faults.IdUnknown) × AllByRecursion (λ (p : Pair). ¬ p.peer ≡ peer) w.books.pairs)
+    ⊎ ((x : IsToCarry w id way text medium) × (octets : List ℕ) × (m : Message) × Carries x.lines octets × IsMessage octets m × PskSpeaks w.books w.moment octets m fault)
 OfferSpeaks w id way text (causes.Cs medium fault) =
-    (x : IsToCarry way text medium) × (octets : List ℕ) × (m : Message) × Carries x.lines octets × IsMessage octets m
+    (x : IsToCarry w id way text medium) × (octets : List ℕ) × (m : Message) × Carries x.lines octets × IsMessage octets m
     × ((pair : Pair) × IsFirstNamed w.books.pairs (names_in m.payloads) pair × IsGenuine w.books w.moment octets m pair) × SessionsSpeak m x.count fault
 OfferSpeaks w id way text other = ⊥
 
