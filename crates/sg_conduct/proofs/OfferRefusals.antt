@@ -1,18 +1,18 @@
 -- What refuses an offer shows in its text, in its messages or in the pre-shared keys.
-use Rattle.std.proofs.Common.{◌≡◌, ◌⊎◌, inl, inr, ℕ, ◌+◌, ◌*◌, ◌≤◌, Bool, true, false, cond, not, ◌&&◌, eqb, eq-eqb, eqb-true, ltb, ltb-true, List, [], ◌∷◌, ◌++◌, length, codes, Option, Some, None, Result, Ok, Err, refl, sym, ap, ◌∙◌, subst}
+use Rattle.std.proofs.Common.{◌≡◌, ◌⊎◌, inl, inr, ℕ, ◌+◌, ◌*◌, ◌≤◌, Bool, true, false, cond, not, ◌&&◌, eqb, eq-eqb, eqb-true, ltb, ltb-true, List, [], ◌∷◌, ◌++◌, length, codes, Option, Some, None, Result, Ok, Err, refl, sym, ap, ◌∙◌, subst, arith}
 use Rattle.std.proofs.lemmas.Bool.{and_from, and_parts, cond-false, eqb-false, false≢true, ltb-false, ne_eqb, not-false, not-true, or_parts}
 use Rattle.std.proofs.lemmas.List.Folds.{Any-from_list_any, list_any-from_Any}
 use Rattle.std.specs.Prelude.{◌||◌}
 use Rattle.std.specs.List.{AllByRecursion, Any, cons_option, filter_map, find, list_any}
 use Rattle.std.specs.Option.{is_none, is_some, option_map}
 use Rattle.sg_agreement.proofs.MessagesSound.{psk_is}
-use Rattle.sg_agreement.proofs.TextLines.{first_is, mikey_is}
+use Rattle.sg_agreement.proofs.TextLines.{any_behind, first_is, mikey_is}
 use Rattle.sg_agreement.specs.Attributes.{behind, crypto_values, first_of, has_message, mikey_octets, mikey_rest, mikey_value, ssrcs_of}
 use Rattle.sg_agreement.specs.Described.{described, is_other_count}
 use Rattle.sg_agreement.specs.Keying.{PeerLines}
-use Rattle.sg_agreement.specs.Messages.{AtHand, bundle_in, message_in}
+use Rattle.sg_agreement.specs.Messages.{AtHand, Bundle, bundle_in, message_in}
 use Rattle.sg_agreement.specs.Offers.{agreed_offer, chosen_in, keying_by_messages, keying_of, noise_of}
-use Rattle.sg_agreement.specs.TextLines.{HasNoMessage, IsMessageLine}
+use Rattle.sg_agreement.specs.TextLines.{HasLine, HasNoMessage, IsMessageLine}
 use Rattle.sg_base.specs.Fields.{◌>>=◌}
 use Rattle.sg_base.specs.declared.faults.CsFault.{CsFault}
 use Rattle.sg_base.specs.declared.faults.CsFault.TheVariants.{CsCount, PolicyMissing, PolicyValue}
@@ -37,8 +37,8 @@ use Rattle.sg_sdes.specs.CryptoOf.{crypto_of}
 use Rattle.sg_sdp.specs.declared.medium.Medium as descriptions
 use Rattle.sg_sdp.specs.declared.sdp.Sdp.{Sdp}
 use Rattle.sg_gateway.proofs.Authentic.{find_any, initial_parts, message_read, none_unless}
-use Rattle.sg_gateway.proofs.Common.{Books, Call, CallId, CryptoLine, CsEntry, FromSecure, IsMediumAt, Message, MikeyFromPlain, Pair, Plain, Refusal, SdesFromPlain, Secure, Side, StreamKeys, Tgk, Way, World}
-use Rattle.sg_gateway.proofs.Common.{active_count, after_ok, any_cases, any_here, any_none, any_there, any_weaker, at_hand, each_active, each_of, each_weaker}
+use Rattle.sg_gateway.proofs.Common.{Books, Call, CallId, CryptoLine, CsEntry, FromSecure, Message, MikeyFromPlain, Pair, Plain, Refusal, SdesFromPlain, Secure, Side, StreamKeys, Tgk, Way, World}
+use Rattle.sg_gateway.proofs.Common.{active_count, after_ok, after_ok_is, any_cases, any_here, any_none, any_there, any_weaker, at_hand, each_active, each_of, each_weaker}
 use Rattle.sg_gateway.proofs.Common.{if_active, is_active, none_some, of_cs, of_message, of_psk, or_refusal, pair_with, same_octets, same_octets_is, same_octets_true, side_of, some_is}
 use Rattle.sg_gateway.proofs.PeersMessages.{octets_carried}
 use Rattle.sg_gateway.specs.Authentic.{AreNamesOf}
@@ -46,12 +46,12 @@ use Rattle.sg_gateway.specs.CallSignals.{media_of}
 use Rattle.sg_gateway.specs.CryptoSessions.{Carries}
 use Rattle.sg_conduct.proofs.Acceptable.{octets_are, policy_means, stream_given}
 use Rattle.sg_conduct.proofs.Causes.{after_ok_err, err_is, message_err, message_ok, octets_err, octets_ok, ok_err, psk_err, sdes_err, stop_if_err, text_counts, text_describes, text_refused}
-use Rattle.sg_conduct.proofs.FirstLines.{Placed, at_head, at_rest, at_start}
-use Rattle.sg_conduct.proofs.Forth.{find_first}
+use Rattle.sg_conduct.proofs.Forth.{find_first, first_line}
 use Rattle.sg_conduct.proofs.Offers.{active_takes}
+use Rattle.sg_conduct.proofs.Present.{takes_active}
 use Rattle.sg_conduct.specs.Offers.{Describes, HasPolicy, IsFirstNamed}
 use Rattle.sg_conduct.specs.Present.{TakesPart}
-use Rattle.sg_conduct.specs.Refusals.{FitsCall, HasCode, IsGenuine, IsNotAccepted, IsNotedIn, IsOfAlgorithms, IsPart, IsThere, IsToCarry, OfferSpeaks, PskSpeaks, SessionsSpeak, apart}
+use Rattle.sg_conduct.specs.Refusals.{CarryAccepted, FitsCall, HasCode, IsAccepted, IsFirstAfter, IsGenuine, IsNotAccepted, IsNotedIn, IsOfAlgorithms, IsPart, IsThere, IsToCarry, OfferSpeaks, PskSpeaks, SessionsSpeak, apart}
 
 find_none : {X : Type 0} (test : X → Bool) (xs : List X) → find test xs ≡ None → AllByRecursion (λ x. test x ≡ false) xs
 find_none test [] e = tt
@@ -63,26 +63,67 @@ find_none test (x ∷ xs) e = go (find_none test xs) (test x) refl e
 
 -- ---- the first medium that refuses
 
-module _ {X : Type 0} (all : List descriptions.Medium) (side : Side) (value : ℕ → descriptions.Medium → Result X Refusal) (cause : Refusal) where
-  abbrev Stops : Type 0
-  Stops = (number : ℕ) × (m : descriptions.Medium) × IsMediumAt all number m × TakesPart side m × (value number m ≡ Err cause)
+module _ {X : Type 0} (value : ℕ → descriptions.Medium → Result X Refusal) (P : descriptions.Medium → Type 0) (holds : (k : ℕ) (m : descriptions.Medium) (x : X) → value k m ≡ Ok x → P m) (cause : Refusal) where
+  record Stops (k : ℕ) (ms : List descriptions.Medium) : Type 0 where
+    m : descriptions.Medium
+    before : List descriptions.Medium
+    behind : List descriptions.Medium
+    parts : ms ≡ before ++ m ∷ behind
+    number : ℕ
+    place : number ≡ k + length before
+    takes : TakesPart Secure m
+    gives : value number m ≡ Err cause
+    each : AllByRecursion (λ n. TakesPart Secure n → P n) before
 
-  medium_stops : (k : ℕ) (m : descriptions.Medium) → IsMediumAt all k m → (b : Bool) → is_active side m ≡ b → if_active b (value k m) ≡ Err cause → Stops
-  medium_stops k m at false is e = absurd (ok_err _ cause e)
-  medium_stops k m at true is e = elim (after_ok_err (value k m) _ cause e) [
-    | inl fails ↦ (k, m, at, active_takes side m is, fails)
+  medium_stops : (k : ℕ) (m : descriptions.Medium) (ms : List descriptions.Medium) (b : Bool) → is_active Secure m ≡ b → if_active b (value k m) ≡ Err cause → Stops k (m ∷ ms)
+  medium_stops k m ms false is e = absurd (ok_err _ cause e)
+  medium_stops k m ms true is e = elim (after_ok_err (value k m) _ cause e) [
+    | inl fails ↦ record { m = m; before = []; behind = ms; parts = refl; number = k; place = omega arith; takes = active_takes Secure m is; gives = fails; each = tt }
     | inr x ↦ absurd (ok_err _ cause x.2)
   ]
 
-  media_stop : (k : ℕ) (ms : List descriptions.Medium) → Placed all k ms → each_active side value k ms ≡ Err cause → Stops
-  media_stop k [] placed e = absurd (ok_err _ cause e)
-  media_stop k (m ∷ ms) placed e = elim (after_ok_err (if_active (is_active side m) (value k m)) _ cause e) [
-    | inl fails ↦ medium_stops k m (at_head all k m ms placed) (is_active side m) refl fails
-    | inr x ↦ elim (after_ok_err (each_active side value (k + 1) ms) _ cause x.2) [
-      | inl later ↦ media_stop (k + 1) ms (at_rest all k m ms placed) later
+  goes_on : (k : ℕ) (m : descriptions.Medium) (b : Bool) → is_active Secure m ≡ b → (o : Option X) → if_active b (value k m) ≡ Ok o → TakesPart Secure m → P m
+  goes_on k m false is o e takes = absurd (false≢true (sym is ∙ takes_active Secure m takes))
+  goes_on k m true is o e takes = let x = after_ok_is (value k m) _ o e in holds k m x.0 x.1
+
+  media_stop : (k : ℕ) (ms : List descriptions.Medium) → each_active Secure value k ms ≡ Err cause → Stops k ms
+  media_stop k [] e = absurd (ok_err _ cause e)
+  media_stop k (m ∷ ms) e = elim (after_ok_err (if_active (is_active Secure m) (value k m)) _ cause e) [
+    | inl fails ↦ medium_stops k m ms (is_active Secure m) refl fails
+    | inr x ↦ elim (after_ok_err (each_active Secure value (k + 1) ms) _ cause x.2) [
+      | inl later ↦
+          let s = media_stop (k + 1) ms later in
+          record {
+            m = s.m;
+            before = m ∷ s.before;
+            behind = s.behind;
+            parts = ap (λ (l : List descriptions.Medium). m ∷ l) s.parts;
+            number = s.number;
+            place = (let e = s.place in omega (arith, e));
+            takes = s.takes;
+            gives = s.gives;
+            each = (goes_on k m (is_active Secure m) refl x.0 x.1, s.each);
+          }
       | inr y ↦ absurd (ok_err _ cause y.2)
     ]
   ]
+
+  first_after : (ms : List descriptions.Medium) (s : Stops 0 ms) → IsFirstAfter P ms s.number s.m
+  first_after ms s = record { before = s.before; behind = s.behind; parts = s.parts; place = (let e = s.place in omega (arith, e)); takes = s.takes; each = s.each }
+
+never : {X : Type 0} (side : Side) (value : ℕ → descriptions.Medium → X) (cause : Refusal) (k : ℕ) (ms : List descriptions.Medium) → each_active side (λ k m. Ok (value k m)) k ms ≡ Err cause → ⊥
+never side value cause k [] e = ok_err _ cause e
+never side value cause k (m ∷ ms) e = elim (after_ok_err (if_active (is_active side m) (Ok (value k m))) _ cause e) [
+  | inl fails ↦ go (is_active side m) fails
+  | inr x ↦ elim (after_ok_err (each_active side (λ k m. Ok (value k m)) (k + 1) ms) _ cause x.2) [
+    | inl later ↦ never side value cause (k + 1) ms later
+    | inr y ↦ ok_err _ cause y.2
+  ]
+]
+  where
+    go : (b : Bool) → if_active b (Ok (value k m)) ≡ Err cause → ⊥
+    go true e = ok_err _ cause e
+    go false e = ok_err _ cause e
 
 -- ---- crypto lines
 
@@ -113,6 +154,11 @@ none_chosen (line ∷ ls) fault e = go (none_chosen ls fault) (behind (codes "a=
         → chosen_of (cons_option o (filter_map (behind (codes "a=crypto:")) ls)) ≡ Err fault → Unread (line ∷ ls)
     go rest None is e = with_line (λ l said. none_some said.0 (sym is ∙ behind_it said.0 said.1)) (rest e)
     go rest (Some value) is e = read value is (crypto_of value) refl e rest
+
+has_line : (k : ℕ) (m : descriptions.Medium) (l : CryptoLine) → chosen_in k m ≡ Ok l → (l : CryptoLine) × HasLine m l
+has_line k m l e =
+    let f = first_line k m l e in
+    (l, subst (Any (IsSaid l)) (sym f.parts) (any_behind (IsSaid l) f.before ((codes "a=crypto:" ++ f.value) ∷ f.behind) (any_here (IsSaid l) (codes "a=crypto:" ++ f.value) f.behind (f.value, refl, f.read))))
 
 -- ---- lines that carry a message
 
@@ -348,6 +394,20 @@ module _ (w : World) (id : CallId) (c : Call) (noise : List ℕ) (way : Way) (te
   abbrev Cause : Refusal → Type 0
   Cause cause = OfferSpeaks w id way text cause
 
+  accepted : (octets : List ℕ) (m : Message) (a : Accepted) → initial_of octets m w.books.pairs w.books.noted w.moment ≡ Ok a → IsAccepted w octets m
+  unfolding keys_in
+  accepted octets m a e =
+      let i = initial_parts octets m w.books.pairs w.books.noted w.moment a e in
+      (i.0, first_named w.books.pairs (names_in m.payloads) i.0 i.1, genuine w.books w.moment octets m i.0 i.2, (λ none. none_some i.3 (sym none ∙ i.4)))
+
+  carries_accepted : (k : ℕ) (m : descriptions.Medium) (b : Bundle) → bundle_in hand k 1 (mikey_value m.lines) ≡ Ok b → CarryAccepted w m.lines
+  unfolding bundle_in
+  carries_accepted k m b e =
+      let p = after_ok_is (message_in k 0 (mikey_value m.lines)) _ b e in
+      let q = after_ok_is (of_psk k (initial_of p.0.0 p.0.1 w.books.pairs w.books.noted w.moment)) _ b p.2 in
+      let is = message_read k 0 (mikey_value m.lines) p.0 p.1 in
+      (p.0.0, p.0.1, octets_carried m.lines p.0.0 is.0, (is.1, is.2), accepted p.0.0 p.0.1 q.0 (psk_is k _ q.0 q.1))
+
   module _ (medium : ℕ) (x : IsToCarry w id way text medium) (cause : Refusal) where
     none_in : message_in medium 0 (mikey_value x.lines) ≡ Err cause → Cause cause
     unfolding message_in
@@ -384,7 +444,7 @@ module _ (w : World) (id : CallId) (c : Call) (noise : List ℕ) (way : Way) (te
                   let made : Accepted = accepted_with r.0.1 i.0 i.3 in
                   let at : streams_of made.csb made.random made.map made.policies made.tgks x.count ≡ Err f.0 =
                   subst (λ (a : Accepted). streams_of a.csb a.random a.map a.policies a.tgks x.count ≡ Err f.0) (sym i.5) f.1 in
-                  subst Cause f.2 (x, r.0.0, r.0.1, carried, (is.1, is.2), (i.0, first_named w.books.pairs (names_in r.0.1.payloads) i.0 i.1, genuine w.books w.moment r.0.0 r.0.1 i.0 i.2), sessions_speak r.0.1 x.count i.3 made.random f.0 at)
+                  subst Cause f.2 (x, r.0.0, r.0.1, carried, (is.1, is.2), accepted r.0.0 r.0.1 a.0 (psk_is medium _ a.0 a.1), sessions_speak r.0.1 x.count i.3 made.random f.0 at)
               | inr y ↦ absurd (ok_err _ cause y.2)
             ]
           ]
@@ -394,7 +454,7 @@ module _ (w : World) (id : CallId) (c : Call) (noise : List ℕ) (way : Way) (te
     of_side : (v : Way) → way ≡ v → Describes (side_of v) text s
     of_side v is = subst (λ v. Describes (side_of v) text s) is describes
 
-    abbrev carries : way ≡ FromSecure → (medium : ℕ) (lines : List (List ℕ)) (count : ℕ) → IsPart s medium lines count → IsToCarry w id way text medium
+    abbrev carries : way ≡ FromSecure → (medium : ℕ) (lines : List (List ℕ)) (count : ℕ) → IsPart w s medium lines count → IsToCarry w id way text medium
     carries is medium lines count part = record { secure = is; offer = s; describes = of_side FromSecure is; fits = fits; lines = lines; count = count; part = part }
 
     messages_refused : way ≡ FromSecure → has_message s ≡ true → (v : Option (List ℕ)) → mikey_value s.session ≡ v → keying_by_messages hand s v ≡ Err cause → Cause cause
@@ -405,18 +465,19 @@ module _ (w : World) (id : CallId) (c : Call) (noise : List ℕ) (way : Way) (te
     ]
     messages_refused is has None at e = elim (after_ok_err (each_active Secure (λ k m. bundle_in hand k 1 (mikey_value m.lines)) 0 s.media) _ cause e) [
       | inl fails ↦
-          let stop = media_stop s.media Secure (λ k m. bundle_in hand k 1 (mikey_value m.lines)) cause 0 s.media (at_start s.media) fails in
-          bundle_refused stop.0 (carries is stop.0 stop.1.lines 1 (inr (no_value s.session (ap is_some at), some_medium s has at, (stop.1, stop.2, stop.3, refl, refl)))) cause stop.4
+          let stop = media_stop (λ k m. bundle_in hand k 1 (mikey_value m.lines)) (λ m. CarryAccepted w m.lines) carries_accepted cause 0 s.media fails in
+          let first = first_after (λ k m. bundle_in hand k 1 (mikey_value m.lines)) (λ m. CarryAccepted w m.lines) carries_accepted cause s.media stop in
+          bundle_refused stop.number (carries is stop.number stop.m.lines 1 (inr (no_value s.session (ap is_some at), some_medium s has at, (stop.m, first, refl, refl)))) cause stop.gives
       | inr y ↦ absurd (ok_err _ cause y.2)
     ]
 
     lines_refused : way ≡ FromSecure → HasNoMessage s → each_active Secure chosen_in 0 s.media ≡ Err cause → Cause cause
     unfolding crypto_values
     lines_refused is none e =
-        let stop = media_stop s.media Secure chosen_in cause 0 s.media (at_start s.media) e in
-        let f = sdes_err stop.0 (chosen_of (crypto_values stop.1.lines)) cause stop.4 in
-        let no = none_chosen stop.1.lines f.0 f.1 in
-        subst Cause f.2 (s, of_side FromSecure is, fits, is, no.0, none, (stop.1, stop.2, stop.3, no.1))
+        let stop = media_stop chosen_in (λ m. (l : CryptoLine) × HasLine m l) has_line cause 0 s.media e in
+        let f = sdes_err stop.number (chosen_of (crypto_values stop.m.lines)) cause stop.gives in
+        let no = none_chosen stop.m.lines f.0 f.1 in
+        subst Cause f.2 (s, of_side FromSecure is, fits, is, no.0, none, (stop.m, first_after chosen_in (λ m. (l : CryptoLine) × HasLine m l) has_line cause s.media stop, no.1))
 
     secure_refused : way ≡ FromSecure → (b : Bool) → has_message s ≡ b
         → cond b (keying_by_messages hand s (mikey_value s.session)) (after_ok (each_active Secure chosen_in 0 s.media) (λ ls. Ok (PeerLines ls))) ≡ Err cause → Cause cause
@@ -435,7 +496,7 @@ module _ (w : World) (id : CallId) (c : Call) (noise : List ℕ) (way : Way) (te
     keying_refused : (v : Way) → way ≡ v → keying_of hand s v ≡ Err cause → Cause cause
     keying_refused FromSecure is e = secure_refused is (has_message s) refl e
     keying_refused SdesFromPlain is e = elim (after_ok_err (each_active Plain (λ k m. Ok (offered_by (noise_of k noise))) 0 s.media) _ cause e) [
-      | inl fails ↦ absurd (let stop = media_stop s.media Plain (λ k m. Ok (offered_by (noise_of k noise))) cause 0 s.media (at_start s.media) fails in ok_err _ cause stop.4)
+      | inl fails ↦ absurd (never Plain (λ k m. offered_by (noise_of k noise)) cause 0 s.media fails)
       | inr y ↦ absurd (ok_err _ cause y.2)
     ]
     keying_refused (MikeyFromPlain peer) is e =

@@ -1,6 +1,6 @@
 -- A signal that is refused tells one cause, of the call that it names, and nothing else. The world before shows the cause, or what
 -- the signal brings does. And where the world bars a signal, the signal is refused, by that cause.
-use Rattle.std.specs.Prelude.{◌≡◌, ◌⊎◌, ◌<◌, ◌≤◌, ℕ, ◌+◌, ◌*◌, pos, ◌-ℤ◌, true, List, [], ◌∷◌, length, filter, Option, Some, None, Ok, Err}
+use Rattle.std.specs.Prelude.{◌≡◌, ◌⊎◌, ◌<◌, ◌≤◌, ℕ, ◌+◌, ◌*◌, pos, ◌-ℤ◌, true, List, [], ◌∷◌, ◌++◌, length, filter, Option, Some, None, Ok, Err}
 use Rattle.std.specs.List.{All, AllByRecursion, AllPairs, Any}
 use Rattle.sg_agreement.specs.Keying.{Offer}
 use Rattle.sg_agreement.specs.Manual.{ManualCall}
@@ -41,7 +41,6 @@ use Rattle.sg_sdp.specs.Reading.{description_of}
 use Rattle.sg_sdp.specs.declared.medium.Medium as descriptions
 use Rattle.sg_sdp.specs.declared.sdp.Sdp.{Sdp}
 use Rattle.sg_session.specs.Ring.{Installed}
-use Rattle.sg_gateway.specs.Addressed.{IsMediumAt}
 use Rattle.sg_gateway.specs.Authentic.{AreNamesOf}
 use Rattle.sg_gateway.specs.CryptoSessions.{Carries}
 use Rattle.sg_gateway.specs.Early.{named}
@@ -103,24 +102,6 @@ KeysSpeak ring h other = ⊥
 
 -- ---- an offer's message (RFC 3830, 5.2 to 5.4; RFC 4567, 3.1)
 
--- the lines that are to carry a message, for so many media: the session part (255) where one stands there, for all that take part;
--- else, where one stands in some medium, each that takes part
-abbrev pub IsPart : Sdp → ℕ → List (List ℕ) → ℕ → Type 0
-IsPart s medium lines count =
-    ((medium ≡ 255) × (lines ≡ s.session) × Any IsMessageLine s.session × (count ≡ length (filter (is_active Secure) s.media)))
-    ⊎ (AllByRecursion (λ line. ¬ IsMessageLine line) s.session × Any (λ m. Any IsMessageLine m.lines) s.media
-    × ((m : descriptions.Medium) × IsMediumAt s.media medium m × TakesPart Secure m × (lines ≡ m.lines) × (count ≡ 1)))
-
--- so in an offer of the secure side
-pub record IsToCarry (w : World) (id : CallId) (way : Way) (text : List ℕ) (medium : ℕ) : Type 0 where
-  pub secure : way ≡ FromSecure
-  pub offer : Sdp
-  pub describes : Describes Secure text offer
-  pub fits : FitsCall w id offer
-  pub lines : List (List ℕ)
-  pub count : ℕ
-  pub part : IsPart offer medium lines count
-
 -- they are no message, or one of another kind, as the second octet says
 abbrev pub IsNoMessage : List ℕ → ℕ → MikeyFault → Type 0
 IsNoMessage octets offset fault =
@@ -174,6 +155,42 @@ PskSpeaks books now octets m fault =
     ((fault ≡ faults.IdUnknown) × AllByRecursion (λ p. ¬ AreNamesOf p (names_in m.payloads)) books.pairs)
     ⊎ ((pair : Pair) × IsFirstNamed books.pairs (names_in m.payloads) pair × IsNotAccepted books now octets m pair fault)
 
+-- a key is held of its two ends, under the first of which it is genuine and its keys are read
+abbrev pub IsAccepted : World → List ℕ → Message → Type 0
+IsAccepted w octets m =
+    (pair : Pair) × IsFirstNamed w.books.pairs (names_in m.payloads) pair × IsGenuine w.books w.moment octets m pair × (¬ keys_under m pair ≡ None)
+
+-- these lines carry such a message
+abbrev pub CarryAccepted : World → List (List ℕ) → Type 0
+CarryAccepted w lines = (octets : List ℕ) × (m : Message) × Carries lines octets × IsMessage octets m × IsAccepted w octets m
+
+-- the medium of this number takes part, and each before it that does is so
+pub record IsFirstAfter (P : descriptions.Medium → Type 0) (media : List descriptions.Medium) (number : ℕ) (m : descriptions.Medium) : Type 0 where
+  pub before : List descriptions.Medium
+  pub behind : List descriptions.Medium
+  pub parts : media ≡ before ++ m ∷ behind
+  pub place : length before ≡ number
+  pub takes : TakesPart Secure m
+  pub each : AllByRecursion (λ n. TakesPart Secure n → P n) before
+
+-- the lines that are to carry a message, for so many media: the session part (255) where one stands there, for all that take part;
+-- else, where one stands in some medium, each that takes part (RFC 4567, 3.1)
+abbrev pub IsPart : World → Sdp → ℕ → List (List ℕ) → ℕ → Type 0
+IsPart w s medium lines count =
+    ((medium ≡ 255) × (lines ≡ s.session) × Any IsMessageLine s.session × (count ≡ length (filter (is_active Secure) s.media)))
+    ⊎ (AllByRecursion (λ line. ¬ IsMessageLine line) s.session × Any (λ m. Any IsMessageLine m.lines) s.media
+    × ((m : descriptions.Medium) × IsFirstAfter (λ n. CarryAccepted w n.lines) s.media medium m × (lines ≡ m.lines) × (count ≡ 1)))
+
+-- so in an offer of the secure side
+pub record IsToCarry (w : World) (id : CallId) (way : Way) (text : List ℕ) (medium : ℕ) : Type 0 where
+  pub secure : way ≡ FromSecure
+  pub offer : Sdp
+  pub describes : Describes Secure text offer
+  pub fits : FitsCall w id offer
+  pub lines : List (List ℕ)
+  pub count : ℕ
+  pub part : IsPart w offer medium lines count
+
 -- no policy has the crypto session's number
 abbrev pub LacksPolicy : Message → CsEntry → Type 0
 LacksPolicy m entry = AllByRecursion (λ (p : Policy). ¬ p.number ≡ entry.policy) (policies_in m.payloads)
@@ -187,16 +204,16 @@ SessionsSpeak m count PolicyValue = (length m.map ≡ 2 * count) × (¬ Any (Lac
 
 -- ---- an offer
 
--- It is no description, or lacks an address, or no medium takes part. Else there aren't as many as the call has (RFC 3264, 8); or a
--- medium that takes part has no crypto line that is read, where no line is a message (RFC 4568, 5.1.2); or a message isn't there,
--- isn't read, isn't accepted, or doesn't serve; or for the gateway's own no key is held with the peer.
+-- It is no description, or lacks an address, or no medium takes part. Else there aren't as many as the call has (RFC 3264, 8); or the
+-- first medium has no crypto line that is read, of those that take part, where no line is a message (RFC 4568, 5.1.2); or the first
+-- message isn't there, isn't read, isn't accepted, or doesn't serve; or for the gateway's own no key is held with the peer.
 abbrev pub OfferSpeaks : World → CallId → Way → List ℕ → Refusal → Type 0
 OfferSpeaks w id way text (causes.Sdp line fault) = ShowsFault (side_of way) text line fault
 OfferSpeaks w id way text causes.NoMedia = (s : Sdp) × (description_of text ≡ Ok s) × AllByRecursion (λ m. ¬ TakesPart (side_of way) m) s.media
 OfferSpeaks w id way text causes.MediaCount = (s : Sdp) × Describes (side_of way) text s × IsThere w id (λ c. ¬ length s.media ≡ c.media)
 OfferSpeaks w id way text (causes.Sdes medium fault) =
     (s : Sdp) × Describes Secure text s × FitsCall w id s × (way ≡ FromSecure) × (fault ≡ NoLine) × HasNoMessage s
-    × ((m : descriptions.Medium) × IsMediumAt s.media medium m × TakesPart Secure m × ((l : CryptoLine) → ¬ HasLine m l))
+    × ((m : descriptions.Medium) × IsFirstAfter (λ n. (l : CryptoLine) × HasLine n l) s.media medium m × ((l : CryptoLine) → ¬ HasLine m l))
 OfferSpeaks w id way text (causes.KeyMgmt medium) = (x : IsToCarry w id way text medium) × ((octets : List ℕ) → ¬ Carries x.lines octets)
 OfferSpeaks w id way text (causes.Mikey medium offset fault) =
     (x : IsToCarry w id way text medium) × (octets : List ℕ) × Carries x.lines octets × IsNoMessage octets offset fault
@@ -204,8 +221,7 @@ OfferSpeaks w id way text (causes.Psk medium fault) =
     ((peer : List ℕ) × (s : Sdp) × Describes Plain text s × FitsCall w id s × (way ≡ MikeyFromPlain peer) × (medium ≡ 255) × (fault ≡ faults.IdUnknown) × AllByRecursion (λ (p : Pair). ¬ p.peer ≡ peer) w.books.pairs)
     ⊎ ((x : IsToCarry w id way text medium) × (octets : List ℕ) × (m : Message) × Carries x.lines octets × IsMessage octets m × PskSpeaks w.books w.moment octets m fault)
 OfferSpeaks w id way text (causes.Cs medium fault) =
-    (x : IsToCarry w id way text medium) × (octets : List ℕ) × (m : Message) × Carries x.lines octets × IsMessage octets m
-    × ((pair : Pair) × IsFirstNamed w.books.pairs (names_in m.payloads) pair × IsGenuine w.books w.moment octets m pair) × SessionsSpeak m x.count fault
+    (x : IsToCarry w id way text medium) × (octets : List ℕ) × (m : Message) × Carries x.lines octets × IsMessage octets m × IsAccepted w octets m × SessionsSpeak m x.count fault
 OfferSpeaks w id way text other = ⊥
 
 -- ---- a refused signal
