@@ -91,8 +91,8 @@ lacks_at side n (m ∷ ms) k e = go (lacks_at side (n + 1 + length m.lines) ms k
     go : (unaddressed side (n + 1 + length m.lines) ms ≡ Some k → LacksAddress side (n + 1 + length m.lines) ms k) → (b : Bool) → is_active side m ≡ b → (a : Option (List ℕ)) → m.address ≡ a
         → cond (b && is_none a) (Some n) (unaddressed side (n + 1 + length m.lines) ms) ≡ Some k → LacksAddress side n (m ∷ ms) k
     go rest true is None at e = inl (active_takes side m is, at, sym (some_is n k e))
-    go rest true is (Some x) at e = inr (rest e)
-    go rest false is a at e = inr (rest e)
+    go rest true is (Some x) at e = inr ((λ takes. (x, at)), rest e)
+    go rest false is a at e = inr ((λ takes. absurd (false≢true (sym is ∙ takes_active side m takes))), rest e)
 
 none_take : (side : Side) (ms : List descriptions.Medium) → list_any (is_active side) ms ≡ false → AllByRecursion (λ m. ¬ TakesPart side m) ms
 none_take side [] e = tt
@@ -522,7 +522,7 @@ apart_of a b e =
 
 abbrev Clashes : ℕ → List Installed → Master → Option ℕ → Type 0
 Clashes n ring m None = AllByRecursion (λ r. AreApart r.master m) ring
-Clashes n ring m (Some x) = (before behind : List Installed) × (r : Installed) × (ring ≡ before ++ r ∷ behind) × (x ≡ n + length before) × (¬ AreApart r.master m)
+Clashes n ring m (Some x) = (before behind : List Installed) × (r : Installed) × (ring ≡ before ++ r ∷ behind) × (x ≡ n + length before) × AllByRecursion (λ r. AreApart r.master m) before × (¬ AreApart r.master m)
 
 clashes : (n : ℕ) (ring : List Installed) (m : Master) (o : Option ℕ) → first_clash_by key_of n ring (derived m) ≡ o → Clashes n ring m o
 clashes n [] m None e = tt
@@ -532,15 +532,15 @@ clashes n (r ∷ rs) m o e = go (clashes (n + 1) rs m) (keys_clash (derived r.ma
     go : ((o : Option ℕ) → first_clash_by key_of (n + 1) rs (derived m) ≡ o → Clashes (n + 1) rs m o) → (b : Bool) → keys_clash (derived r.master) (derived m) ≡ b
         → (o : Option ℕ) → cond b (Some n) (first_clash_by key_of (n + 1) rs (derived m)) ≡ o → Clashes n (r ∷ rs) m o
     go rest true is None e = absurd cc
-    go rest true is (Some x) e = ([], rs, r, refl, (let same = some_is n x e in omega (arith, same)), (λ apart. false≢true (sym (apart_is r.master m apart) ∙ is)))
+    go rest true is (Some x) e = ([], rs, r, refl, (let same = some_is n x e in omega (arith, same)), tt, (λ apart. false≢true (sym (apart_is r.master m apart) ∙ is)))
     go rest false is None e = (apart_of r.master m is, rest None e)
-    go rest false is (Some x) e = let c = rest (Some x) e in (r ∷ c.0, c.1, c.2, ap (λ (l : List Installed). r ∷ l) c.3, (let at = c.4 in omega (arith, at)), c.5)
+    go rest false is (Some x) e = let c = rest (Some x) e in (r ∷ c.0, c.1, c.2, ap (λ (l : List Installed). r ∷ l) c.3, (let at = c.4 in omega (arith, at)), (apart_of r.master m is, c.5), c.6)
 
 one_reused : (ring : List Installed) (k : Installed) (o : Option ℕ) → Clashes 0 ring k.master o → (c : Refusal) → with_key_by key_of ring k o ≡ Err c
     → (number : ℕ) × (causes.KeyReused number ≡ c) × IsReusedAt ring k.master number
-one_reused ring k (Some n) at c e = (n, err_is {X = List Installed} (causes.KeyReused n) c e, inl (at.0, at.1, at.2, at.3, (let place = at.4 in omega (arith, place)), at.5))
+one_reused ring k (Some n) at c e = (n, err_is {X = List Installed} (causes.KeyReused n) c e, inl (at.0, at.1, at.2, at.3, (let place = at.4 in omega (arith, place)), at.5, at.6))
 one_reused ring k None at c e = elim (stop_if_err (same_secret (derived k.master).rtp (derived k.master).rtcp) (causes.KeyReused (length ring)) c _ e) [
-  | inl own ↦ (length ring, own.1, inr (refl, (λ apart. false≢true (sym (secret _ _ apart) ∙ own.0))))
+  | inl own ↦ (length ring, own.1, inr (refl, at, (λ apart. false≢true (sym (secret _ _ apart) ∙ own.0))))
   | inr fails ↦ absurd (ok_err _ c fails.1)
 ]
 
