@@ -147,7 +147,7 @@ pub record HasMeaning (policies : List Policy) (entry : CsEntry) : Type 0 where
   pub protection : Protection
   pub means : protection_of policy ≡ Some protection
 
-policy_means : (policies : List Policy) (entry : CsEntry) → HasPolicy policies entry → HasMeaning policies entry
+pub policy_means : (policies : List Policy) (entry : CsEntry) → HasPolicy policies entry → HasMeaning policies entry
 unfolding protection_of
 policy_means policies entry has = record {
   policy = has.policy;
@@ -157,7 +157,7 @@ policy_means policies entry has = record {
 }
 
 module _ (csb : ℕ) (random : List ℕ) (policies : List Policy) (tgks : List Tgk) where
-  stream_given : (session : ℕ) (entry : CsEntry) → HasMeaning policies entry → (x : StreamKeys) × (stream_in csb random policies tgks session entry ≡ Some x)
+  pub stream_given : (session : ℕ) (entry : CsEntry) → HasMeaning policies entry → (x : StreamKeys) × (stream_in csb random policies tgks session entry ≡ Some x)
   unfolding stream_in
   stream_given session entry has = (
     _,

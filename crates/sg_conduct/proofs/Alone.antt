@@ -78,10 +78,10 @@ module _ (w : World) (p : Pair) where
   are_names : (q : Pair) → (q.own ≡ p.own) × (q.peer ≡ p.peer) → is_of p.own p.peer q ≡ true
   are_names q is = and_from (same_octets q.own p.own) (is_with p.peer q) (same_octets_true q.own p.own is.0) (same_octets_true q.peer p.peer is.1)
 
-  has_names : has_pair w.books.pairs p.own p.peer ≡ true → HasNames w.books.pairs p
+  pub has_names : has_pair w.books.pairs p.own p.peer ≡ true → HasNames w.books.pairs p
   has_names is = any_weaker _ _ names_are w.books.pairs (Any-from_list_any (is_of p.own p.peer) w.books.pairs is)
 
-  no_names : has_pair w.books.pairs p.own p.peer ≡ false → ¬ HasNames w.books.pairs p
+  pub no_names : has_pair w.books.pairs p.own p.peer ≡ false → ¬ HasNames w.books.pairs p
   no_names is has = false≢true (sym is ∙ list_any-from_Any (is_of p.own p.peer) w.books.pairs (any_weaker _ _ are_names w.books.pairs has))
 
   by_tests : (a b : Bool) → has_pair w.books.pairs p.own p.peer ≡ a → ltb (length w.books.pairs) 64 ≡ b
@@ -216,7 +216,7 @@ module _ (w : World) (begun : AllBegun w) where
   signal_begun (Reject id) = rejection_at id (call_of w id)
   signal_begun signal = others_begun signal (λ id is. absurd cc)
 
-  event_begun : (e : Event) → AllBegun (step w e).world
+  pub event_begun : (e : Event) → AllBegun (step w e).world
   event_begun (Signalled signal) = signal_begun signal
   event_begun (Datagram port from d) = each_datagram w port (λ h. AllBegun h.world) (record {
     drops = λ cause. begun;

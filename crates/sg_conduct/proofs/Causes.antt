@@ -2,6 +2,7 @@
 use Rattle.std.proofs.Common.{◌≡◌, ◌⊎◌, inl, inr, ℕ, suc, ◌+◌, ◌*◌, ◌≤◌, Bool, true, false, cond, not, ◌&&◌, eqb, ltb, ltb-true, List, [], ◌∷◌, ◌++◌, length, map, codes, Option, Some, None, Result, Ok, Err, refl, sym, ap, ◌∙◌, subst, arith, append_assoc, append-nil, length-append}
 use Rattle.std.proofs.lemmas.Bool.{and_from, eq-eqb, eqb-false, eqb-true, false≢true, not-false, not-true, or_parts}
 use Rattle.std.proofs.lemmas.List.{map-append}
+use Rattle.std.proofs.lemmas.List.Folds.{Any-from_list_any}
 use Rattle.std.proofs.lemmas.List.Elements.{recursion_from_All}
 use Rattle.std.proofs.lemmas.Slice.Eq.{bytes_eq-Decides}
 use Rattle.std.specs.Prelude.{◌||◌}
@@ -9,7 +10,7 @@ use Rattle.std.specs.List.{AllByRecursion, Any, filter_map, find, list_any}
 use Rattle.std.specs.Option.{is_none}
 use Rattle.sg_agreement.specs.Answers.{AgreedAnswer, agreed_answer, answered_by}
 use Rattle.sg_agreement.specs.Attributes.{behind, crypto_values, first_of, mikey_octets, mikey_value}
-use Rattle.sg_agreement.specs.Described.{described, of_text, unaddressed, with_addresses}
+use Rattle.sg_agreement.specs.Described.{described, is_other_count, of_text, unaddressed, with_addresses}
 use Rattle.sg_agreement.specs.Generations.{generation_of, keys_from, owned, owner_at}
 use Rattle.sg_agreement.specs.Keying.{Keying, PeerLines, OwnLines, PeerMessage, PeerMessages, OwnMessage, Offer}
 use Rattle.sg_agreement.specs.LineAnswers.{keyed_by_own_lines, keyed_by_peer_line, lines_matched}
@@ -40,7 +41,7 @@ use Rattle.sg_sdp.specs.declared.sdp.Sdp as sdp
 use Rattle.sg_session.specs.Ring.{Installed, derived, first_clash_by, install, key_of, keys_clash, same_secret, with_key_by, with_keys_by}
 use Rattle.sg_session.specs.Stages.{after_ok, stop_if}
 use Rattle.sg_gateway.proofs.Common.{AgreedKey, Call, CallId, CryptoLine, CsEntry, IsRefusal, Master, Medium, Message, Opening, Owner, Refusal, Sealing, Side, World}
-use Rattle.sg_gateway.proofs.Common.{active_count, actives_after, after_ok_is, any_cases, any_here, any_none, any_there, call_of, described_is}
+use Rattle.sg_gateway.proofs.Common.{active_count, actives_after, after_ok_is, any_cases, any_here, any_none, any_there, any_weaker, call_of, described_is}
 use Rattle.sg_gateway.proofs.Common.{description_of, each_kept, if_kept, is_active, none_some, of_cs, of_message, of_psk, of_sdes, ok_is, or_refusal}
 use Rattle.sg_gateway.proofs.Common.{Event, Turn, empty, other_side, same_octets, same_octets_true, some_is, step, stop_if_is, turn_of}
 use Rattle.sg_gateway.proofs.Agreements.{Agreements, answer_media}
@@ -60,24 +61,25 @@ use Rattle.sg_conduct.proofs.Offers.{active_takes}
 use Rattle.sg_conduct.proofs.Present.{takes_active}
 use Rattle.sg_conduct.proofs.Serving.{Serves, offer_serves}
 use Rattle.sg_conduct.specs.Brought.{AreBrought}
-use Rattle.sg_conduct.specs.Causes.{ComeIntoUse, IsNotTo, IsOfNone, IsReusedAt, IsToRespond, LacksAddress, RefusedAnswerShowsCause, Shows, ShowsNoLine}
+use Rattle.sg_conduct.specs.Causes.{ComeIntoUse, IsNotTo, IsOfNone, IsFull, IsReused, IsReusedAt, IsToRespond, LacksAddress, RefusedAnswerShowsCause, Shows, ShowsFault, ShowsNoLine}
 use Rattle.sg_conduct.specs.Manual.{AreApart, IsApartInItself}
+use Rattle.sg_conduct.specs.Offers.{Describes}
 use Rattle.sg_conduct.specs.Present.{TakesPart}
 
 -- ---- stages that refuse
 
-after_ok_err : {X Y E : Type 0} (r : Result X E) (f : X → Result Y E) (c : E) → after_ok r f ≡ Err c → (r ≡ Err c) ⊎ ((x : X) × (r ≡ Ok x) × (f x ≡ Err c))
+pub after_ok_err : {X Y E : Type 0} (r : Result X E) (f : X → Result Y E) (c : E) → after_ok r f ≡ Err c → (r ≡ Err c) ⊎ ((x : X) × (r ≡ Ok x) × (f x ≡ Err c))
 after_ok_err (Ok x) f c e = inr (x, refl, e)
 after_ok_err (Err d) f c e = let same : d ≡ c = cc in inl (ap Err same)
 
-stop_if_err : {X E : Type 0} (b : Bool) (c d : E) (r : Result X E) → stop_if b c r ≡ Err d → ((b ≡ true) × (c ≡ d)) ⊎ ((b ≡ false) × (r ≡ Err d))
+pub stop_if_err : {X E : Type 0} (b : Bool) (c d : E) (r : Result X E) → stop_if b c r ≡ Err d → ((b ≡ true) × (c ≡ d)) ⊎ ((b ≡ false) × (r ≡ Err d))
 stop_if_err true c d r e = inl (refl, cc)
 stop_if_err false c d r e = inr (refl, e)
 
-ok_err : {X E : Type 0} (x : X) (c : E) → (let r : Result X E = Ok x in r ≡ Err c) → ⊥
+pub ok_err : {X E : Type 0} (x : X) (c : E) → (let r : Result X E = Ok x in r ≡ Err c) → ⊥
 ok_err x c e = absurd cc
 
-err_is : {X E : Type 0} (c d : E) → (let r : Result X E = Err c in r ≡ Err d) → c ≡ d
+pub err_is : {X E : Type 0} (c d : E) → (let r : Result X E = Err c in r ≡ Err d) → c ≡ d
 err_is c d e = cc
 
 -- ---- the text
@@ -89,8 +91,8 @@ lacks_at side n (m ∷ ms) k e = go (lacks_at side (n + 1 + length m.lines) ms k
     go : (unaddressed side (n + 1 + length m.lines) ms ≡ Some k → LacksAddress side (n + 1 + length m.lines) ms k) → (b : Bool) → is_active side m ≡ b → (a : Option (List ℕ)) → m.address ≡ a
         → cond (b && is_none a) (Some n) (unaddressed side (n + 1 + length m.lines) ms) ≡ Some k → LacksAddress side n (m ∷ ms) k
     go rest true is None at e = inl (active_takes side m is, at, sym (some_is n k e))
-    go rest true is (Some x) at e = inr (rest e)
-    go rest false is a at e = inr (rest e)
+    go rest true is (Some x) at e = inr ((λ takes. (x, at)), rest e)
+    go rest false is a at e = inr ((λ takes. absurd (false≢true (sym is ∙ takes_active side m takes))), rest e)
 
 none_take : (side : Side) (ms : List descriptions.Medium) → list_any (is_active side) ms ≡ false → AllByRecursion (λ m. ¬ TakesPart side m) ms
 none_take side [] e = tt
@@ -98,32 +100,57 @@ none_take side (m ∷ ms) e =
     let p = or_parts (is_active side m) (list_any (is_active side) ms) e in
     ((λ takes. false≢true (sym p.0 ∙ takes_active side m takes)), none_take side ms p.1)
 
-module _ (ring : List Installed) (Brings : List Master → Type 0) (o : Offer) (text : List ℕ) where
-  abbrev Cause : Refusal → Type 0
-  Cause cause = Shows ring Brings o text cause
+all_addressed : (side : Side) (n : ℕ) (ms : List descriptions.Medium) → unaddressed side n ms ≡ None → AllByRecursion (λ m. TakesPart side m → (ip : List ℕ) × (m.address ≡ Some ip)) ms
+all_addressed side n [] e = tt
+all_addressed side n (m ∷ ms) e = go (all_addressed side (n + 1 + length m.lines) ms) (is_active side m) refl m.address refl e
+  where
+    Has : descriptions.Medium → Type 0
+    Has m = TakesPart side m → (ip : List ℕ) × (m.address ≡ Some ip)
 
-  abbrev side : Side
-  side = other_side o.side
+    go : (unaddressed side (n + 1 + length m.lines) ms ≡ None → AllByRecursion Has ms) → (b : Bool) → is_active side m ≡ b → (a : Option (List ℕ)) → m.address ≡ a
+        → cond (b && is_none a) (Some n) (unaddressed side (n + 1 + length m.lines) ms) ≡ None → AllByRecursion Has (m ∷ ms)
+    go rest true is None at e = absurd cc
+    go rest true is (Some ip) at e = ((λ takes. (ip, at)), rest e)
+    go rest false is a at e = ((λ takes. absurd (false≢true (sym is ∙ takes_active side m takes))), rest e)
 
+describes : (side : Side) (text : List ℕ) (s : sdp.Sdp) → description_of text ≡ Ok s → not (list_any (is_active side) s.media) ≡ false → unaddressed side (length s.session + 1) s.media ≡ None → Describes side text s
+describes side text s read some addressed = record {
+  read = read;
+  some = any_weaker (λ m. is_active side m ≡ true) (TakesPart side) (active_takes side) s.media (Any-from_list_any (is_active side) s.media (not-false _ some));
+  addressed = all_addressed side (length s.session + 1) s.media addressed;
+}
+
+same_text : (s t : sdp.Sdp) (n : Option ℕ) → with_addresses s n ≡ Ok t → s ≡ t
+same_text s t None e = cc
+same_text s t (Some n) e = absurd cc
+
+no_fault : (s t : sdp.Sdp) (n : Option ℕ) → with_addresses s n ≡ Ok t → n ≡ None
+no_fault s t None e = refl
+no_fault s t (Some n) e = absurd cc
+
+read_text : (r : Result sdp.Sdp (ℕ × SdpFault)) (s : sdp.Sdp) → of_text r ≡ Ok s → r ≡ Ok s
+read_text (Ok t) s e = let same : t ≡ s = cc in ap Ok same
+read_text (Err fault) s e = absurd cc
+
+-- why a text of this side, of so many media where a number is asked for, describes nothing
+module _ (side : Side) (count : Option ℕ) (text : List ℕ) (Cause : Refusal → Type 0) (faulty : (line : ℕ) (fault : SdpFault) → ShowsFault side text line fault → Cause (causes.Sdp line fault))
+    (idle : (s : sdp.Sdp) → description_of text ≡ Ok s → AllByRecursion (λ m. ¬ TakesPart side m) s.media → Cause causes.NoMedia)
+    (miscounts : (s : sdp.Sdp) → Describes side text s → (n : ℕ) → count ≡ Some n → ¬ length s.media ≡ n → Cause causes.MediaCount) where
   text_shows : (r : Result sdp.Sdp (ℕ × SdpFault)) → description_of text ≡ r → (cause : Refusal) → of_text r ≡ Err cause → Cause cause
   text_shows (Ok s) is cause e = absurd (ok_err s cause e)
-  text_shows (Err fault) is cause e = subst Cause (err_is (causes.Sdp fault.0 fault.1) cause e) (inl is)
+  text_shows (Err fault) is cause e = subst Cause (err_is (causes.Sdp fault.0 fault.1) cause e) (faulty fault.0 fault.1 (inl is))
 
   addresses_show : (s : sdp.Sdp) → description_of text ≡ Ok s → (n : Option ℕ) → unaddressed side (length s.session + 1) s.media ≡ n → (cause : Refusal) → with_addresses s n ≡ Err cause → Cause cause
   addresses_show s read None is cause e = absurd (ok_err s cause e)
-  addresses_show s read (Some n) is cause e = subst Cause (err_is (causes.Sdp n Address) cause e) (inr (s, read, refl, lacks_at side (length s.session + 1) s.media n is))
+  addresses_show s read (Some n) is cause e = subst Cause (err_is (causes.Sdp n Address) cause e) (faulty n Address (inr (s, read, refl, lacks_at side (length s.session + 1) s.media n is)))
 
-  same_text : (s t : sdp.Sdp) (n : Option ℕ) → with_addresses s n ≡ Ok t → s ≡ t
-  same_text s t None e = cc
-  same_text s t (Some n) e = absurd cc
+  count_shows : (s : sdp.Sdp) → Describes side text s → (o : Option ℕ) → count ≡ o → is_other_count o (length s.media) ≡ true → Cause causes.MediaCount
+  count_shows s read None is other = absurd (false≢true other)
+  count_shows s read (Some n) is other = miscounts s read n is (eqb-false (length s.media) n (not-true (eqb (length s.media) n) other))
 
-  read_text : (r : Result sdp.Sdp (ℕ × SdpFault)) (s : sdp.Sdp) → of_text r ≡ Ok s → r ≡ Ok s
-  read_text (Ok t) s e = let same : t ≡ s = cc in ap Ok same
-  read_text (Err fault) s e = absurd cc
-
-  description_shows : (cause : Refusal) → described side (Some (length o.description.media)) text ≡ Err cause → Cause cause
+  pub text_refused : (cause : Refusal) → described side count text ≡ Err cause → Cause cause
   unfolding described
-  description_shows cause e = elim (after_ok_err (of_text (description_of text)) _ cause e) [
+  text_refused cause e = elim (after_ok_err (of_text (description_of text)) _ cause e) [
     | inl fails ↦ text_shows (description_of text) refl cause fails
     | inr x ↦
         let s : sdp.Sdp = x.0 in
@@ -134,14 +161,37 @@ module _ (ring : List Installed) (Brings : List Master → Type 0) (o : Offer) (
               let t : sdp.Sdp = y.0 in
               let here : description_of text ≡ Ok t = read ∙ ap Ok (same_text s t (unaddressed side (length s.session + 1) s.media) y.1) in
               elim (stop_if_err (not (list_any (is_active side) t.media)) causes.NoMedia cause _ y.2) [
-                | inl none ↦ subst Cause none.1 (t, here, none_take side t.media (not-true (list_any (is_active side) t.media) none.0))
-                | inr some ↦ elim (stop_if_err (not (eqb (length t.media) (length o.description.media))) causes.MediaCount cause _ some.1) [
-                  | inl other ↦ subst Cause other.1 (t, here, eqb-false (length t.media) (length o.description.media) (not-true (eqb (length t.media) (length o.description.media)) other.0))
+                | inl none ↦ subst Cause none.1 (idle t here (none_take side t.media (not-true (list_any (is_active side) t.media) none.0)))
+                | inr some ↦ elim (stop_if_err (is_other_count count (length t.media)) causes.MediaCount cause _ some.1) [
+                  | inl other ↦ subst Cause other.1 (count_shows t (describes side text t here some.0 (ap (λ s. unaddressed side (length s.session + 1) s.media) (sym (same_text s t _ y.1)) ∙ no_fault s t _ y.1)) count refl other.0)
                   | inr same ↦ absurd (ok_err t cause same.1)
                 ]
               ]
         ]
   ]
+
+pub text_describes : (side : Side) (count : Option ℕ) (text : List ℕ) (s : sdp.Sdp) → described side count text ≡ Ok s → Describes side text s
+unfolding described
+text_describes side count text s e =
+    let a = after_ok_is (of_text (description_of text)) _ s e in
+    let b = after_ok_is (with_addresses a.0 (unaddressed side (length a.0.session + 1) a.0.media)) _ s a.2 in
+    let c = stop_if_is (not (list_any (is_active side) b.0.media)) causes.NoMedia _ s b.2 in
+    let d = stop_if_is (is_other_count count (length b.0.media)) causes.MediaCount (Ok b.0) s c.1 in
+    let same : a.0 ≡ b.0 = same_text a.0 b.0 _ b.1 in
+    subst (Describes side text) (ok_is b.0 s d.1) (describes side text b.0 (read_text (description_of text) a.0 a.1 ∙ ap Ok same) c.0 (ap (λ s. unaddressed side (length s.session + 1) s.media) (sym same) ∙ no_fault a.0 b.0 _ b.1))
+
+pub text_counts : (side : Side) (count : Option ℕ) (text : List ℕ) (s : sdp.Sdp) → described side count text ≡ Ok s → is_other_count count (length s.media) ≡ false
+unfolding described
+text_counts side count text s e =
+    let a = after_ok_is (of_text (description_of text)) _ s e in
+    let b = after_ok_is (with_addresses a.0 (unaddressed side (length a.0.session + 1) a.0.media)) _ s a.2 in
+    let c = stop_if_is (not (list_any (is_active side) b.0.media)) causes.NoMedia _ s b.2 in
+    let d = stop_if_is (is_other_count count (length b.0.media)) causes.MediaCount (Ok b.0) s c.1 in
+    subst (λ (s : sdp.Sdp). is_other_count count (length s.media) ≡ false) (ok_is b.0 s d.1) d.0
+
+description_shows : (ring : List Installed) (Brings : List Master → Type 0) (o : Offer) (text : List ℕ) (cause : Refusal) → described (other_side o.side) (Some (length o.description.media)) text ≡ Err cause → Shows ring Brings o text cause
+description_shows ring Brings o text = text_refused (other_side o.side) (Some (length o.description.media)) text (Shows ring Brings o text) (λ line fault is. is) (λ s read none. (s, read, none))
+    (λ s describes n is other. (s, describes.read, (λ same. other (same ∙ some_is (length o.description.media) n is))))
 
 -- ---- each medium
 
@@ -282,27 +332,27 @@ line_shows offered ls c e = elim (first_value ls (first_of (filter_map (behind (
   | inr x ↦ inr (x.0, x.1, value_shows offered x.0 c (ap (lines_matched offered) (sym x.2) ∙ e))
 ]
 
-sdes_err : {X : Type 0} (k : ℕ) (r : Result X SdesFault) (c : Refusal) → of_sdes k r ≡ Err c → (fault : SdesFault) × (r ≡ Err fault) × (causes.Sdes k fault ≡ c)
+pub sdes_err : {X : Type 0} (k : ℕ) (r : Result X SdesFault) (c : Refusal) → of_sdes k r ≡ Err c → (fault : SdesFault) × (r ≡ Err fault) × (causes.Sdes k fault ≡ c)
 sdes_err k (Ok x) c e = absurd (ok_err x c e)
 sdes_err {X} k (Err fault) c e = (fault, refl, err_is {X = X} (causes.Sdes k fault) c e)
 
-psk_err : {X : Type 0} (k : ℕ) (r : Result X PskFault) (c : Refusal) → of_psk k r ≡ Err c → (fault : PskFault) × (r ≡ Err fault) × (causes.Psk k fault ≡ c)
+pub psk_err : {X : Type 0} (k : ℕ) (r : Result X PskFault) (c : Refusal) → of_psk k r ≡ Err c → (fault : PskFault) × (r ≡ Err fault) × (causes.Psk k fault ≡ c)
 psk_err k (Ok x) c e = absurd (ok_err x c e)
 psk_err {X} k (Err fault) c e = (fault, refl, err_is {X = X} (causes.Psk k fault) c e)
 
-message_err : (k : ℕ) (r : Result Message Place) (c : Refusal) → of_message k r ≡ Err c → (place : Place) × (r ≡ Err place) × (causes.Mikey k place.offset place.fault ≡ c)
+pub message_err : (k : ℕ) (r : Result Message Place) (c : Refusal) → of_message k r ≡ Err c → (place : Place) × (r ≡ Err place) × (causes.Mikey k place.offset place.fault ≡ c)
 message_err k (Ok x) c e = absurd (ok_err x c e)
 message_err k (Err place) c e = (place, refl, err_is {X = Message} (causes.Mikey k place.offset place.fault) c e)
 
-message_ok : (k : ℕ) (r : Result Message Place) (m : Message) → of_message k r ≡ Ok m → r ≡ Ok m
+pub message_ok : (k : ℕ) (r : Result Message Place) (m : Message) → of_message k r ≡ Ok m → r ≡ Ok m
 message_ok k (Ok x) m e = let same : x ≡ m = cc in ap Ok same
 message_ok k (Err place) m e = absurd cc
 
-octets_err : {X : Type 0} (cause : Refusal) (o : Option X) (c : Refusal) → or_refusal cause o ≡ Err c → (o ≡ None) × (cause ≡ c)
+pub octets_err : {X : Type 0} (cause : Refusal) (o : Option X) (c : Refusal) → or_refusal cause o ≡ Err c → (o ≡ None) × (cause ≡ c)
 octets_err {X} cause None c e = (refl, err_is {X = X} cause c e)
 octets_err cause (Some x) c e = absurd (ok_err x c e)
 
-octets_ok : {X : Type 0} (cause : Refusal) (o : Option X) (x : X) → or_refusal cause o ≡ Ok x → o ≡ Some x
+pub octets_ok : {X : Type 0} (cause : Refusal) (o : Option X) (x : X) → or_refusal cause o ≡ Ok x → o ≡ Some x
 octets_ok cause None x e = absurd cc
 octets_ok cause (Some y) x e = let same : y ≡ x = cc in ap Some same
 
@@ -472,7 +522,7 @@ apart_of a b e =
 
 abbrev Clashes : ℕ → List Installed → Master → Option ℕ → Type 0
 Clashes n ring m None = AllByRecursion (λ r. AreApart r.master m) ring
-Clashes n ring m (Some x) = (before behind : List Installed) × (r : Installed) × (ring ≡ before ++ r ∷ behind) × (x ≡ n + length before) × (¬ AreApart r.master m)
+Clashes n ring m (Some x) = (before behind : List Installed) × (r : Installed) × (ring ≡ before ++ r ∷ behind) × (x ≡ n + length before) × AllByRecursion (λ r. AreApart r.master m) before × (¬ AreApart r.master m)
 
 clashes : (n : ℕ) (ring : List Installed) (m : Master) (o : Option ℕ) → first_clash_by key_of n ring (derived m) ≡ o → Clashes n ring m o
 clashes n [] m None e = tt
@@ -482,15 +532,15 @@ clashes n (r ∷ rs) m o e = go (clashes (n + 1) rs m) (keys_clash (derived r.ma
     go : ((o : Option ℕ) → first_clash_by key_of (n + 1) rs (derived m) ≡ o → Clashes (n + 1) rs m o) → (b : Bool) → keys_clash (derived r.master) (derived m) ≡ b
         → (o : Option ℕ) → cond b (Some n) (first_clash_by key_of (n + 1) rs (derived m)) ≡ o → Clashes n (r ∷ rs) m o
     go rest true is None e = absurd cc
-    go rest true is (Some x) e = ([], rs, r, refl, (let same = some_is n x e in omega (arith, same)), (λ apart. false≢true (sym (apart_is r.master m apart) ∙ is)))
+    go rest true is (Some x) e = ([], rs, r, refl, (let same = some_is n x e in omega (arith, same)), tt, (λ apart. false≢true (sym (apart_is r.master m apart) ∙ is)))
     go rest false is None e = (apart_of r.master m is, rest None e)
-    go rest false is (Some x) e = let c = rest (Some x) e in (r ∷ c.0, c.1, c.2, ap (λ (l : List Installed). r ∷ l) c.3, (let at = c.4 in omega (arith, at)), c.5)
+    go rest false is (Some x) e = let c = rest (Some x) e in (r ∷ c.0, c.1, c.2, ap (λ (l : List Installed). r ∷ l) c.3, (let at = c.4 in omega (arith, at)), (apart_of r.master m is, c.5), c.6)
 
 one_reused : (ring : List Installed) (k : Installed) (o : Option ℕ) → Clashes 0 ring k.master o → (c : Refusal) → with_key_by key_of ring k o ≡ Err c
     → (number : ℕ) × (causes.KeyReused number ≡ c) × IsReusedAt ring k.master number
-one_reused ring k (Some n) at c e = (n, err_is {X = List Installed} (causes.KeyReused n) c e, inl (at.0, at.1, at.2, at.3, (let place = at.4 in omega (arith, place)), at.5))
+one_reused ring k (Some n) at c e = (n, err_is {X = List Installed} (causes.KeyReused n) c e, inl (at.0, at.1, at.2, at.3, (let place = at.4 in omega (arith, place)), at.5, at.6))
 one_reused ring k None at c e = elim (stop_if_err (same_secret (derived k.master).rtp (derived k.master).rtcp) (causes.KeyReused (length ring)) c _ e) [
-  | inl own ↦ (length ring, own.1, inr (refl, (λ apart. false≢true (sym (secret _ _ apart) ∙ own.0))))
+  | inl own ↦ (length ring, own.1, inr (refl, at, (λ apart. false≢true (sym (secret _ _ apart) ∙ own.0))))
   | inr fails ↦ absurd (ok_err _ c fails.1)
 ]
 
@@ -566,12 +616,13 @@ keys_few call generation m (Some x ∷ xs) all =
     let part = length-append (owned (owner_at call generation m Sealing) x.to_peer.keys) (keys_from call generation (m + 1) xs) in
     omega (arith, rest, a, b, p, q, whole, part)
 
-ring_shows : (ring : List Installed) (Brings : List Master → Type 0) (o : Offer) (text : List ℕ) (ks : List Installed) → Brings (map (λ k. k.master) ks) → length ks ≤ 64 → (c : Refusal) → install ring ks ≡ Err c → Shows ring Brings o text c
-ring_shows ring Brings o text ks brings few c e = elim (after_ok_err (with_keys_by key_of ring ks) _ c e) [
+pub ring_refuses : (ring : List Installed) (Brings : List Master → Type 0) (Cause : Refusal → Type 0) → ((number : ℕ) → IsReused ring Brings number → Cause (causes.KeyReused number)) → (IsFull ring Brings → Cause causes.RingFull)
+    → (ks : List Installed) → Brings (map (λ k. k.master) ks) → length ks ≤ 64 → (c : Refusal) → install ring ks ≡ Err c → Cause c
+ring_refuses ring Brings Cause reused full ks brings few c e = elim (after_ok_err (with_keys_by key_of ring ks) _ c e) [
   | inl fails ↦
       let at = stops_at ring ks c fails in
       let long = ap (λ (l : List Installed). length l) at.parts ∙ length-append at.new (at.key ∷ at.later) in
-      subst (Shows ring Brings o text) at.is (record {
+      subst Cause at.is (reused at.number (record {
         new = at.new;
         key = at.key.master;
         later = map (λ k. k.master) at.later;
@@ -579,12 +630,12 @@ ring_shows ring Brings o text ks brings few c e = elim (after_ok_err (with_keys_
         few = omega (arith, few, long);
         come = at.come;
         reused = at.at;
-      })
+      }))
   | inr x ↦
       let all = all_in ring ks x.0 x.1 in
       let long = ap (λ (l : List Installed). length l) (sym all.1) ∙ length-append ring ks in
       elim (stop_if_err (ltb 65536 (length x.0)) causes.RingFull c _ x.2) [
-        | inl full ↦ subst (Shows ring Brings o text) full.1 (ks, brings, few, all.0, (let lt = ltb-true 65536 (length x.0) full.0 in omega (arith, lt, long)))
+        | inl over ↦ subst Cause over.1 (full (ks, brings, few, all.0, (let lt = ltb-true 65536 (length x.0) over.0 in omega (arith, lt, long))))
         | inr fails ↦ absurd (ok_err _ c fails.1)
       ]
 ]
@@ -615,7 +666,7 @@ module _ (laws : Agreements) (ts : List Turn) (w : World) (opened : WereOpened t
     | inl fails ↦ answer_shows w.books.ring (AreBrought ts id o noise text) c.slot o (offer_serves o was) noise text cause fails
     | inr g ↦ elim (after_ok_err (generation_of c.serial c.generations w.books.ring g.0.media) _ cause g.2) [
       | inl fails ↦ elim (after_ok_err (install w.books.ring (keys_from c.serial c.generations 0 g.0.media)) _ cause fails) [
-        | inl full ↦ ring_shows w.books.ring (AreBrought ts id o noise text) o text (keys_from c.serial c.generations 0 g.0.media) (keys_brought laws ts id o noise text c by g.0 g.1) (keys_are_few g.0 g.1) cause full
+        | inl full ↦ ring_refuses w.books.ring (AreBrought ts id o noise text) Showing (λ number is. is) (λ is. is) (keys_from c.serial c.generations 0 g.0.media) (keys_brought laws ts id o noise text c by g.0 g.1) (keys_are_few g.0 g.1) cause full
         | inr x ↦ absurd (ok_err _ cause x.2)
       ]
       | inr x ↦ absurd (ok_err _ cause x.2)

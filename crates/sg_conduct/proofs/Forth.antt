@@ -110,7 +110,7 @@ none_added way noise none k (m ∷ ms) = (none k m, none_added way noise none (k
 
 -- ---- the gateway's own message
 
-find_first : {X : Type 0} (test : X → Bool) (xs : List X) (x : X) → find test xs ≡ Some x
+pub find_first : {X : Type 0} (test : X → Bool) (xs : List X) (x : X) → find test xs ≡ Some x
     → (before behind : List X) × (xs ≡ before ++ x ∷ behind) × AllByRecursion (λ y. test y ≡ false) before
 find_first test [] x e = absurd cc
 find_first {X} test (y ∷ ys) x e = go (find_first test ys x) (test y) refl e

@@ -12,6 +12,7 @@ pub mod Heard
 mod Latest
 mod Manual
 mod Notes
+mod OfferRefusals
 mod Offers
 mod Others
 mod OwnTexts
@@ -19,6 +20,7 @@ mod Partners
 mod Places
 mod Present
 mod Printed
+mod Refusals
 pub mod Sealings
 mod Serving
 mod Settling

@@ -46,10 +46,13 @@ use Rattle.sg_conduct.specs.Staying.{HasBegun, MarksStay, MomentStays, OpenOffer
 
 -- ---- the text
 
--- one of these media takes part and has no address (RFC 4566, 5.7): its `m=` line has this number, where that of the first has `first`
+-- the first of these media that takes part and has no address (RFC 4566, 5.7) has an `m=` line of this number, where that of the first
+-- of all has `first`
 abbrev pub LacksAddress : Side → ℕ → List descriptions.Medium → ℕ → Type 0
 LacksAddress side first [] line = ⊥
-LacksAddress side first (m ∷ ms) line = (TakesPart side m × (m.address ≡ None) × (line ≡ first)) ⊎ LacksAddress side (first + 1 + length m.lines) ms line
+LacksAddress side first (m ∷ ms) line =
+    (TakesPart side m × (m.address ≡ None) × (line ≡ first))
+    ⊎ ((TakesPart side m → (ip : List ℕ) × (m.address ≡ Some ip)) × LacksAddress side (first + 1 + length m.lines) ms line)
 
 -- it is no description, with that first fault, or lacks an address
 abbrev pub ShowsFault : Side → List ℕ → ℕ → SdpFault → Type 0
@@ -134,11 +137,12 @@ abbrev pub ComeIntoUse : List Installed → List Installed → Type 0
 ComeIntoUse ring [] = Unit {0}
 ComeIntoUse ring (k ∷ ks) = AllByRecursion (λ r. AreApart r.master k.master) ring × IsApartInItself k.master × ComeIntoUse (ring ++ k ∷ []) ks
 
--- the key isn't apart from that of this number among these; or it would have the number, and isn't apart in itself
+-- the key isn't apart from that of this number among these, and is so from all before; or it would have the number, is apart from
+-- all, and isn't so in itself
 abbrev pub IsReusedAt : List Installed → Master → ℕ → Type 0
 IsReusedAt keys key number =
-    ((before behind : List Installed) × (r : Installed) × (keys ≡ before ++ r ∷ behind) × (number ≡ length before) × (¬ AreApart r.master key))
-    ⊎ ((number ≡ length keys) × (¬ IsApartInItself key))
+    ((before behind : List Installed) × (r : Installed) × (keys ≡ before ++ r ∷ behind) × (number ≡ length before) × AllByRecursion (λ x. AreApart x.master key) before × (¬ AreApart r.master key))
+    ⊎ ((number ≡ length keys) × AllByRecursion (λ x. AreApart x.master key) keys × (¬ IsApartInItself key))
 
 -- so of one of the keys that the answer brings, behind the ring and those before it, which came into use: it has 64 keys at most
 pub record IsReused (ring : List Installed) (Brings : List Master → Type 0) (number : ℕ) : Type 0 where

@@ -11,6 +11,7 @@ pub mod Others
 pub mod OwnPorts
 pub mod Place
 pub mod Present
+pub mod Refusals
 pub mod Settled
 pub mod Standing
 pub mod Staying

@@ -11,6 +11,7 @@ ghost use Rattle.sg_conduct.specs.Offers.{OffersAreTaken};
 ghost use Rattle.sg_conduct.specs.Others.{OtherCallsStay};
 ghost use Rattle.sg_conduct.specs.Place.{NewLeaves};
 ghost use Rattle.sg_conduct.specs.Present.{AnswersHaveNoOthers, AnswersHaveSessions};
+ghost use Rattle.sg_conduct.specs.Refusals.{RefusalsShowCauses};
 ghost use Rattle.sg_conduct.specs.Settled.{EachDatagramIsSettled};
 ghost use Rattle.sg_conduct.specs.Standing.{SessionsHaveDone};
 ghost use Rattle.sg_conduct.specs.Staying.{SessionsStayOpen};
@@ -157,3 +158,15 @@ pub fn answers_have_no_other_sessions()
 pub fn own_keys_are_drawn()
     ensures { (events : List Event) → OwnKeysAreDrawn events }
 {}
+
+/// A signal that is refused tells one cause, of the call that it names, and nothing else: the world before shows it, or a manual
+/// call's keys, an offer's text or its messages do. A signal that the world bars is refused by that cause: a tick that goes back, a
+/// call that is known or isn't, a full table, an open offer where none may be or none where one is answered or rejected. And ends are
+/// told by rising slot, of no call twice.
+pub fn refusals_show_causes()
+    ensures { (events : List Event) → RefusalsShowCauses events }
+{
+    agreements_are_sound();
+    active_media_are_agreed();
+    offers_fit_their_calls();
+}

@@ -32,6 +32,7 @@ use Rattle.sg_conduct.specs.Manual.{ManualIsTaken}
 use Rattle.sg_conduct.specs.Offers.{OfferIsTaken}
 use Rattle.sg_conduct.specs.Others.{OtherCallsStay}
 use Rattle.sg_conduct.specs.Present.{AnswersHaveNoOthers, AnswersHaveSessions}
+use Rattle.sg_conduct.specs.Refusals.{RefusalsShowCauses}
 use Rattle.sg_conduct.specs.Standing.{SessionsHaveDone}
 use Rattle.sg_conduct.specs.Staying.{SessionsStayOpen}
 use Rattle.sg_conduct.specs.ToldTexts.{ToldTextsAreOwn}
@@ -88,6 +89,7 @@ pub record Headline (events : List Event) (passages : List Passage) : Type 0 whe
   pub rejections : RejectionsClose events
   pub answers : EachAsTold AnswerRenews passages
   pub refused_answers : RefusedAnswersShowCauses events
+  pub refused_signals : RefusalsShowCauses events
   pub earlier_kept : AnswersKeepEarlier events
   pub plain_texts : NoKeyGoesToThePlainSide events
   pub told_texts : EachAsTold PlainTextsHaveNoKey passages

@@ -40,6 +40,7 @@ pub fn the_headline_holds()
     sg_conduct::offers_are_taken();
     sg_conduct::offers_are_told_as_they_came();
     sg_conduct::refused_answers_show_causes();
+    sg_conduct::refusals_show_causes();
     sg_conduct::manual_calls_are_taken();
     sg_conduct::answers_have_sessions();
     sg_conduct::answers_have_no_other_sessions();

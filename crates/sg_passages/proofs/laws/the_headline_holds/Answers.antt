@@ -42,6 +42,7 @@ returns c = λ events passages are. record {
   rejections = c.signals_are_carried_out.ensures.rejections events;
   answers = answers_renew events passages are (c.signals_are_carried_out.ensures.answers events);
   refused_answers = c.refused_answers_show_causes.ensures events;
+  refused_signals = c.refusals_show_causes.ensures events;
   earlier_kept = c.signals_are_carried_out.ensures.earlier events;
   plain_texts = c.plain_texts_have_no_key.ensures events;
   told_texts = no_keys events passages are (c.plain_texts_have_no_key.ensures events);
