@@ -5,6 +5,7 @@ mod Brought
 mod Carried
 mod Causes
 mod Drawn
+mod Drops
 mod FirstLines
 mod Firsts
 mod Forth
@@ -22,6 +23,7 @@ mod Printed
 pub mod Sealings
 mod Serving
 mod Settling
+mod Shown
 mod Staying
 mod Telling
 mod Unsealing

@@ -118,7 +118,7 @@ place_is s ssrc (inr few) =
 
 -- ---- what arrives and departs
 
-admitted_is : (a : Admit) (done : List Done) (ssrc : ℕ) → IsAdmittedBy a done ssrc → is_admitted a done ssrc ≡ true
+pub admitted_is : (a : Admit) (done : List Done) (ssrc : ℕ) → IsAdmittedBy a done ssrc → is_admitted a done ssrc ≡ true
 admitted_is admit.Any done ssrc is = refl
 admitted_is (admit.One own) done ssrc is = eq-eqb own ssrc (sym is)
 admitted_is admit.FirstSeen [] ssrc is = refl

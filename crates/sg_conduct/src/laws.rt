@@ -5,6 +5,7 @@ ghost use Rattle.sg_gateway.specs.Step.{Event};
 ghost use Rattle.sg_conduct.specs.Carried.{OffersAreCarried};
 ghost use Rattle.sg_conduct.specs.Causes.{RefusedAnswersShowCauses};
 ghost use Rattle.sg_conduct.specs.Drawn.{OwnKeysAreDrawn};
+ghost use Rattle.sg_conduct.specs.Drops.{DropsShowCauses};
 ghost use Rattle.sg_conduct.specs.Heard.{CallsWereHeard};
 ghost use Rattle.sg_conduct.specs.Manual.{ManualCallsAreTaken};
 ghost use Rattle.sg_conduct.specs.Offers.{OffersAreTaken};
@@ -32,6 +33,17 @@ pub fn what_is_opened_was_sealed()
 pub fn datagrams_are_settled()
     ensures { (events : List Event) → EachDatagramIsSettled events }
 {}
+
+/// Each datagram that is dropped shows the cause that is told: by its octets; by what the session at its port has done; or by
+/// the calls that are there, of which none has a session there, or one has had no answer yet.
+pub fn drops_show_causes()
+    ensures { (events : List Event) → DropsShowCauses events }
+{
+    sg_index::nearest_law();
+    agreements_are_sound();
+    active_media_are_agreed();
+    offers_fit_their_calls();
+}
 
 /// What a session has done is what the run opened or sealed in it.
 pub fn sessions_have_done_what_was_done()
