@@ -1,6 +1,6 @@
 -- What is dropped shows its cause.
-use Rattle.std.proofs.Common.{◌≡◌, ◌⊎◌, inl, inr, ℕ, ◌<◌, ◌≤◌, Bool, true, false, cond, List, [], ◌∷◌, length, Option, Some, None, Result, Ok, Err, refl, sym, ap, ◌∙◌, subst, arith, eqb, leb, ltb}
-use Rattle.std.proofs.lemmas.Bool.{and_from, eq-eqb, eqb-false, eqb-true, false≢true, le-leb, lt-ltb, ltb-false, ltb-true, and_parts, leb-true}
+use Rattle.std.proofs.Common.{◌≡◌, inl, inr, ℕ, ◌<◌, ◌≤◌, Bool, true, false, cond, List, [], ◌∷◌, length, Option, Some, None, Result, Ok, Err, refl, sym, ap, ◌∙◌, subst, arith, eqb, leb, ltb}
+use Rattle.std.proofs.lemmas.Bool.{and_from, eqb-false, eqb-true, false≢true, le-leb, lt-ltb, ltb-false, ltb-true, and_parts, leb-true}
 use Rattle.std.specs.List.{AllByRecursion, Any, filter}
 use Rattle.sg_base.proofs.SameOctets.{same_octets_is, same_octets_true}
 use Rattle.sg_base.specs.declared.faults.DropCause.TheVariants as causes
@@ -8,8 +8,8 @@ use Rattle.sg_outcome.specs.declared.outcomes.Outcome.TheVariants.{Dropped}
 use Rattle.sg_session.specs.Opening.{Taken, opens}
 use Rattle.sg_session.specs.Reach.{IsSound}
 use Rattle.sg_session.specs.Sealing.{seals}
-use Rattle.sg_gateway.proofs.Arrivals.{Is, kept_by, same_direction_at}
-use Rattle.sg_gateway.proofs.Common.{Address, Call, Datagram, Direction, DropCause, Entry, Event, Given, Octets, Opening, Sealing, Session, Turn, World}
+use Rattle.sg_gateway.proofs.Arrivals.{Is, kept_by}
+use Rattle.sg_gateway.proofs.Common.{Address, Call, Direction, DropCause, Entry, Event, Given, Octets, Opening, Sealing, Session, World}
 use Rattle.sg_gateway.proofs.Common.{any_weaker, arrived_at, arrived_in, call_at, each_weaker, find_call, given_to, has_port, port_at, port_in, sessions_at, step, turn_of}
 use Rattle.sg_gateway.proofs.Found.{plain_in, secure_in}
 use Rattle.sg_gateway.proofs.InTurn.{found_passes}

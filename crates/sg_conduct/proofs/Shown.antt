@@ -17,7 +17,6 @@ use Rattle.sg_hmac.specs.Hmac.{hmac_sha1}
 use Rattle.sg_index.specs.Nearest.{IsBeforeFirst, IsNearest, IsSpent, nearest_index, within_life}
 use Rattle.sg_kdf.specs.SessionKeys.{session_keys}
 use Rattle.sg_replay.specs.Freshness.{freshness, highest_of, highest_with, is_behind, is_in}
-use Rattle.sg_replay.specs.declared.seen.Freshness.{Freshness}
 use Rattle.sg_replay.specs.declared.seen.Freshness.TheVariants.{New, Repeat, TooOld}
 use Rattle.sg_rtp.specs.Fields.{u16_at, u32_at}
 use Rattle.sg_rtp.specs.Heads.{extension_of, has_extension, listed_of, rtcp_head, rtp_head, version_of}
@@ -30,14 +29,13 @@ use Rattle.sg_session.specs.Halves.{half_of}
 use Rattle.sg_session.specs.Opening.{Check, Head, before_mki, checked, covered_of_kind, end_len, fresh_index, head_cause, head_in, head_of_kind, if_new, index_word_in, key_with, mki_in, mki_len, mki_len_of, of_rtcp, of_rtp, opened_if, opens, packet_part, part_of_kind, place_in, place_of_kind, tag_fits, tag_in}
 use Rattle.sg_session.specs.Reach.{HaveOneLength, IsSound}
 use Rattle.sg_session.specs.Sealing.{head_out, head_out_of_kind, next_after, number_of_kind, number_out, sealing_key, seals}
-use Rattle.sg_session.specs.Session.{Done, Key, Session, admits, count_of, has_room, highest_in, index_cause, index_in, indices_of, is_live, nearest_from, with_cause}
+use Rattle.sg_session.specs.Session.{Done, Key, Session, admits, count_of, has_room, highest_in, index_in, indices_of, is_live, nearest_from, with_cause}
 use Rattle.sg_session.specs.Stages.{after_ok, stop_if}
 use Rattle.sg_gateway.proofs.Newness.{fresh_is_new, live_is}
 use Rattle.sg_gateway.specs.Newness.{IsLiveIn, IsNewIn}
 use Rattle.sg_conduct.proofs.Places.{admitted_is, place_is}
 use Rattle.sg_conduct.proofs.Sealings.{four, long_before, packet_and_word, small_take, whole_again}
-use Rattle.sg_conduct.specs.Place.{HasPlace}
-use Rattle.sg_conduct.specs.Shown.{HasNothing, IsBehind, IsDone, IsEstimated, IsHighest, IsInWindow, IsIndexOf, IsSpentAt, OpenedShows, PacketShows, Parts, SealedShows, covered_at, least, listed, number_in, source_in, tag_at, word_size}
+use Rattle.sg_conduct.specs.Shown.{HasNothing, IsBehind, IsDone, IsEstimated, IsHighest, IsInWindow, IsIndexOf, IsSpentAt, OpenedShows, Parts, SealedShows, covered_at, least, listed, number_in, source_in, tag_at, word_size}
 
 -- ---- a refusal, stage by stage
 
@@ -541,12 +539,17 @@ module _ (nearest : NearestIs) (s : Session) (d : List ℕ) (small : AllByRecurs
   tag_refused k is bad =
       let r = parts is.head.long in
       let code = ap (λ l. take s.tag_len (hmac_sha1 (half_of s.name.kind (session_keys k.key.master)).auth l)) (covers is.head.long k s.name.kind) in
-      let other : ¬ tag_in s d ≡ tag_at s.name.kind s k.key (packet_part s d) (word_of s.name.kind) k.index = λ same. false≢true (sym bad ∙ same_octets_true (tag_in s d) _ (same ∙ sym code)) in
-      (r, k.index, is.index, is.new, any_weaker _ _ (λ x of_x. (
-        of_x.1,
-        subst (IsLiveIn s) (sym of_x.0) (ltb-true _ _ is.live),
-        subst (λ k'. ¬ tag_in s d ≡ tag_at s.name.kind s k' (packet_part s d) (word_of s.name.kind) k.index) (sym of_x.0) other,
-      )) s.keys is.key)
+      let other : ¬ tag_in s d ≡ tag_at s.name.kind s k.key (packet_part s d) (word_of s.name.kind) k.index = λ same. false≢true (sym bad ∙ same_octets_true (tag_in s d) _ (same ∙ sym code)) in (
+        r,
+        k.index,
+        is.index,
+        is.new,
+        any_weaker _ _ (λ x of_x. (
+          of_x.1,
+          subst (IsLiveIn s) (sym of_x.0) (ltb-true _ _ is.live),
+          subst (λ k'. ¬ tag_in s d ≡ tag_at s.name.kind s k' (packet_part s d) (word_of s.name.kind) k.index) (sym of_x.0) other,
+        )) s.keys is.key,
+      )
 
   pub open_refused : (e : DropCause) → opens s d ≡ Err e → Shown e
   open_refused =
