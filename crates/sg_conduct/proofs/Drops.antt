@@ -1,6 +1,6 @@
 -- What is dropped shows its cause.
-use Rattle.std.proofs.Common.{◌≡◌, inl, inr, ℕ, ◌<◌, ◌≤◌, Bool, true, false, cond, List, [], ◌∷◌, length, Option, Some, None, Result, Ok, Err, refl, sym, ap, ◌∙◌, subst, arith, eqb, leb, ltb}
-use Rattle.std.proofs.lemmas.Bool.{and_from, eqb-false, eqb-true, false≢true, le-leb, lt-ltb, ltb-false, ltb-true, and_parts, leb-true}
+use Rattle.std.proofs.Common.{◌≡◌, inl, inr, ℕ, ◌+◌, ◌<◌, ◌≤◌, Bool, true, false, cond, List, [], ◌∷◌, length, Option, Some, None, Result, Ok, Err, refl, sym, ap, ◌∙◌, subst, arith, eqb, leb, ltb}
+use Rattle.std.proofs.lemmas.Bool.{and_from, eq-eqb, eqb-false, eqb-true, false≢true, le-leb, lt-ltb, ltb-false, ltb-true, and_parts, leb-true}
 use Rattle.std.specs.List.{AllByRecursion, Any, filter}
 use Rattle.sg_base.proofs.SameOctets.{same_octets_is, same_octets_true}
 use Rattle.sg_base.specs.declared.faults.DropCause.TheVariants as causes
@@ -15,17 +15,17 @@ use Rattle.sg_gateway.proofs.Found.{plain_in, secure_in}
 use Rattle.sg_gateway.proofs.InTurn.{found_passes}
 use Rattle.sg_gateway.proofs.Kept.{IsKept}
 use Rattle.sg_gateway.proofs.OpenedAndPut.{held_kept}
-use Rattle.sg_gateway.proofs.Ordered.{not_found}
-use Rattle.sg_gateway.proofs.Orderly.{Ordered}
-use Rattle.sg_gateway.proofs.Pairs.{Pairs, pairs_weaker}
+use Rattle.sg_gateway.proofs.Ordered.{not_found, pairs_filter}
+use Rattle.sg_gateway.proofs.Orderly.{IsCall, Ordered}
+use Rattle.sg_gateway.proofs.Pairs.{Pairs, pairs_append, pairs_weaker}
 use Rattle.sg_gateway.proofs.Reached.{before_apart}
-use Rattle.sg_gateway.proofs.Signals.{is_found}
+use Rattle.sg_gateway.proofs.Signals.{found, is_found}
 use Rattle.sg_gateway.specs.Batch.{AreApart}
 use Rattle.sg_gateway.specs.Datagrams.{Drops, Puts, arrived_among, arrived_towards, drop_of, opened_in, opened_or, same_ip, sealed_or}
 use Rattle.sg_gateway.specs.Legs.{plain_leg_port, secure_leg_port}
-use Rattle.sg_gateway.specs.Order.{IsBefore}
+use Rattle.sg_gateway.specs.Order.{HasGenerations, IsBefore}
 use Rattle.sg_conduct.proofs.Shown.{NearestIs, open_refused, seal_refused}
-use Rattle.sg_conduct.specs.Drops.{DropShowsCause, HasNoneAt, IsPortOf, Opens, Seals, Shows}
+use Rattle.sg_conduct.specs.Drops.{DropShowsCause, HasNoneAt, IsLatestAt, IsPortOf, Opens, Seals, Shows}
 use Rattle.sg_conduct.specs.Shown.{OpenedShows, SealedShows}
 
 -- ---- the port
@@ -67,6 +67,39 @@ of_one port P c p (x ∷ xs) apart e = go (of_one port P c p xs apart.1) (has_po
         ((λ has. subst P same p), each_weaker (AreApart x) _ (λ y is has. absurd (false≢true (sym (is.ports port at) ∙ has))) xs apart.0)
     go rest false at e = ((λ has. absurd (false≢true (sym at ∙ has))), rest e)
 
+-- ---- generations
+
+abbrev IsNoLater : Session → Session → Type 0
+IsNoLater s x = x.name.owner.generation ≤ s.name.owner.generation
+
+of_one_generation : (g n : ℕ) (ss : List Session) → AllByRecursion (λ s. s.name.owner.generation + n ≡ g) ss → Pairs IsNoLater ss
+of_one_generation g n [] all = tt
+of_one_generation g n (s ∷ ss) all = (each_weaker _ _ (λ x at. let own = all.0 in omega (arith, at, own)) ss all.1, of_one_generation g n ss all.1)
+
+by_generation : (c : Call) → HasGenerations c → Pairs IsNoLater c.sessions
+by_generation c has =
+    let earlier = each_weaker _ (λ s. s.name.owner.generation + 2 ≡ c.generations) (λ s at. at.0) has.earlier has.of_earlier in
+    subst (Pairs IsNoLater) (sym has.are)
+    (pairs_append IsNoLater has.current has.earlier (of_one_generation c.generations 1 has.current has.of_current) (of_one_generation c.generations 2 has.earlier earlier)
+    (each_weaker _ _ (λ s at. each_weaker _ _ (λ x at_x. omega (arith, at, at_x)) has.earlier earlier) has.current has.of_current))
+
+unfiltered : {X : Type 0} (test : X → Bool) (P : X → Type 0) (xs : List X) → AllByRecursion P (filter test xs) → AllByRecursion (λ x. test x ≡ true → P x) xs
+unfiltered test P [] all = tt
+unfiltered test P (x ∷ xs) all = go (unfiltered test P xs) (test x) refl all
+  where
+    go : (AllByRecursion P (filter test xs) → AllByRecursion (λ x. test x ≡ true → P x) xs) → (b : Bool) → test x ≡ b → AllByRecursion P (cond b (x ∷ filter test xs) (filter test xs))
+        → AllByRecursion (λ x. test x ≡ true → P x) (x ∷ xs)
+    go rest true at all = ((λ e. all.0), rest all.1)
+    go rest false at all = ((λ e. absurd (false≢true (sym at ∙ e))), rest all)
+
+-- the first session at the port is of the latest generation that has one there
+first_is_latest : (port : ℕ) (c : Call) (s : Session) (ss : List Session) → HasGenerations c → sessions_at c port ≡ s ∷ ss → IsLatestAt port c s
+first_is_latest port c s ss has are =
+    let test : Session → Bool = λ x. eqb (port_in c x) port in
+    let pairs : Pairs IsNoLater (s ∷ ss) = subst (Pairs IsNoLater) are (pairs_filter IsNoLater test c.sessions (by_generation c has)) in
+    each_weaker _ _ (λ x no_later dir at. no_later (eq-eqb _ _ (sym (secure_in c x dir) ∙ sym at))) c.sessions
+    (unfiltered test (IsNoLater s) c.sessions (subst (AllByRecursion (IsNoLater s)) (sym are) (omega arith, pairs.0)))
+
 -- ---- a datagram at the port of a call
 
 module _ (nearest : NearestIs) (past : List Entry) (w : World) (kept : IsKept IsSound past w) (ordered : Ordered w) (port : ℕ) (from : Address) (d : Octets) where
@@ -91,7 +124,7 @@ module _ (nearest : NearestIs) (past : List Entry) (w : World) (kept : IsKept Is
     of_session P s held p = of_call (λ c. Any (P c) c.sessions) (any_weaker (Is s) (P c) (λ x is. subst (P c) (sym is) p) c.sessions held)
 
     none_there : sessions_at c port ≡ [] → (b : Bool) → eqb c.generations 0 ≡ b → IsShown (Drops (cond b causes.NotLive causes.PortUnused))
-    none_there none true waits = of_call (λ c. IsPortOf port c × (c.generations ≡ 0)) (has, eqb-true _ _ waits)
+    none_there none true waits = of_call (λ c. IsPortOf port c × (c.generations ≡ 0) × HasNoneAt port c) (has, eqb-true _ _ waits, none_at port c none)
     none_there none false begun =
         each_weaker _ _ (λ x is of_port. is (is_port_has port x of_port)) w.calls
         (of_one port (λ c. (¬ c.generations ≡ 0) × HasNoneAt port c) c ((λ zero. eqb-false _ _ begun zero), none_at port c none) w.calls apart at)
@@ -105,12 +138,12 @@ module _ (nearest : NearestIs) (past : List Entry) (w : World) (kept : IsKept Is
         go rest (Ok t) = tt
         go rest (Err cause) = rest
 
-    module _ (s : Session) (held : Any (Is s) c.sessions) (here : port_in c s ≡ port) where
+    module _ (s : Session) (held : Any (Is s) c.sessions) (here : port_in c s ≡ port) (latest : IsLatestAt port c s) where
       sound : IsSound s
       sound = (held_kept IsSound past w kept port c s at held).extra
 
       opens_here : (P : Session → Type 0) → s.name.owner.direction ≡ Opening → P s → Opens w port P
-      opens_here P dir p = of_session (λ c s. (s.name.owner.direction ≡ Opening) × (port ≡ secure_leg_port c s) × P s) s held (dir, sym (secure_in c s dir ∙ here), p)
+      opens_here P dir p = of_session (λ c s. (s.name.owner.direction ≡ Opening) × (port ≡ secure_leg_port c s) × IsLatestAt port c s × P s) s held (dir, sym (secure_in c s dir ∙ here), latest, p)
 
       seals_here : (P : Session → Type 0) → s.name.owner.direction ≡ Sealing → P s → Seals w port P
       seals_here P dir p = of_session (λ c s. (s.name.owner.direction ≡ Sealing) × (port ≡ plain_leg_port c s) × P s) s held (dir, sym (plain_in c s dir ∙ here), p)
@@ -118,17 +151,41 @@ module _ (nearest : NearestIs) (past : List Entry) (w : World) (kept : IsKept Is
       -- ---- of the session that is there
 
       open_cause : s.name.owner.direction ≡ Opening → (cause : DropCause) → (length d.items ≤ 4238) × OpenedShows s.name.kind s d.items cause → Shows w port from d.items cause
-      open_cause dir causes.PortUnused is = absurd is.1.1
-      open_cause dir causes.NotLive is = absurd is.1.1
-      open_cause dir causes.TooLong is = absurd is.1.1
-      open_cause dir causes.SourceUnknown is = absurd is.1.1
+      open_cause dir causes.PortUnused is = elim is.1.1 [
+        | inl none ↦ absurd none
+        | inr none ↦ absurd none.2
+      ]
+      open_cause dir causes.NotLive is = elim is.1.1 [
+        | inl none ↦ absurd none
+        | inr none ↦ absurd none.2
+      ]
+      open_cause dir causes.TooLong is = elim is.1.1 [
+        | inl none ↦ absurd none
+        | inr none ↦ absurd none.2
+      ]
+      open_cause dir causes.SourceUnknown is = elim is.1.1 [
+        | inl none ↦ absurd none
+        | inr none ↦ absurd none.2
+      ]
       open_cause dir other is = inl (opens_here (λ s. (length d.items ≤ 4238) × OpenedShows s.name.kind s d.items other) dir is)
 
       seal_cause : s.name.owner.direction ≡ Sealing → (cause : DropCause) → (length d.items ≤ 4096) × (from.ip ≡ s.plain.ip) × SealedShows s.name.kind s d.items cause → Shows w port from d.items cause
-      seal_cause dir causes.PortUnused is = absurd is.2
-      seal_cause dir causes.NotLive is = absurd is.2
-      seal_cause dir causes.TooLong is = absurd is.2
-      seal_cause dir causes.SourceUnknown is = absurd is.2
+      seal_cause dir causes.PortUnused is = elim is.2.1 [
+        | inl none ↦ absurd none
+        | inr none ↦ absurd none.3
+      ]
+      seal_cause dir causes.NotLive is = elim is.2.1 [
+        | inl none ↦ absurd none
+        | inr none ↦ absurd none.3
+      ]
+      seal_cause dir causes.TooLong is = elim is.2.1 [
+        | inl none ↦ absurd none
+        | inr none ↦ absurd none.3
+      ]
+      seal_cause dir causes.SourceUnknown is = elim is.2.1 [
+        | inl none ↦ absurd none
+        | inr none ↦ absurd none.3
+      ]
       seal_cause dir other is = inr (seals_here (λ s. (length d.items ≤ 4096) × (from.ip ≡ s.plain.ip) × SealedShows s.name.kind s d.items other) dir is)
 
       opened_first : s.name.owner.direction ≡ Opening → length d.items ≤ 4238 → (ss : List Session) (r : Result Taken DropCause) → opens s d.items ≡ r
@@ -150,7 +207,7 @@ module _ (nearest : NearestIs) (past : List Entry) (w : World) (kept : IsKept Is
         where
           by_host : length d.items ≤ 4096 → (b : Bool) → same_ip from s.plain ≡ b → IsShown (cond b (sealed_or w.moment c s (seals s d.items)) (Drops causes.SourceUnknown))
           by_host short true own = sealed_there dir short (same_octets_is _ _ own) (seals s d.items) refl
-          by_host short false other = seals_here (λ s. ¬ from.ip ≡ s.plain.ip) dir (λ same. false≢true (sym other ∙ same_octets_true _ _ same))
+          by_host short false other = seals_here (λ s. (length d.items ≤ 4096) × (¬ from.ip ≡ s.plain.ip)) dir (short, λ same. false≢true (sym other ∙ same_octets_true _ _ same))
 
           go : (b : Bool) → ltb 4096 (length d.items) ≡ b → IsShown (cond b (Drops causes.TooLong) (cond (same_ip from s.plain) (sealed_or w.moment c s (seals s d.items)) (Drops causes.SourceUnknown)))
           go true long = inr (seals_here (λ s. 4096 < length d.items) dir (ltb-true _ _ long))
@@ -158,7 +215,8 @@ module _ (nearest : NearestIs) (past : List Entry) (w : World) (kept : IsKept Is
 
     among : (ss : List Session) → sessions_at c port ≡ ss → AllByRecursion (λ s. (eqb (port_in c s) port ≡ true) × Any (Is s) c.sessions) ss → IsShown (arrived_among w.moment from d.items c ss)
     among [] none held = none_there none (eqb c.generations 0) refl
-    among (s ∷ ss) are held = towards s held.0.1 (eqb-true _ _ held.0.0) ss s.name.owner.direction refl
+    among (s ∷ ss) are held = towards s held.0.1 (eqb-true _ _ held.0.0)
+        (first_is_latest port c s ss (found IsCall (has_port port) w.calls c at ordered.each).generations are) ss s.name.owner.direction refl
 
     shown_in : IsShown (arrived_in w.moment port from d.items c)
     shown_in = among (sessions_at c port) refl (kept_by (λ s. eqb (port_in c s) port) c.sessions)

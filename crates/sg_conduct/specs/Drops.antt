@@ -17,9 +17,13 @@ use Rattle.sg_conduct.specs.Shown.{OpenedShows, SealedShows}
 
 -- ---- in the world before
 
--- a session of a call that opens what comes to this secure port is so
+-- no session of the call that opens what comes to the port is of a later generation
+abbrev pub IsLatestAt : ℕ → Call → Session → Type 0
+IsLatestAt port c s = AllByRecursion (λ x. x.name.owner.direction ≡ Opening → port ≡ secure_leg_port c x → x.name.owner.generation ≤ s.name.owner.generation) c.sessions
+
+-- the latest session of a call that opens what comes to this secure port is so
 abbrev pub Opens : World → ℕ → (Session → Type 0) → Type 0
-Opens w port Is = Any (λ c. Any (λ s. (s.name.owner.direction ≡ Opening) × (port ≡ secure_leg_port c s) × Is s) c.sessions) w.calls
+Opens w port Is = Any (λ c. Any (λ s. (s.name.owner.direction ≡ Opening) × (port ≡ secure_leg_port c s) × IsLatestAt port c s × Is s) c.sessions) w.calls
 
 -- a session of a call that seals what comes to this plain port is so
 abbrev pub Seals : World → ℕ → (Session → Type 0) → Type 0
@@ -36,9 +40,9 @@ HasNoneAt port c =
 
 abbrev pub Shows : World → ℕ → Address → List ℕ → DropCause → Type 0
 Shows w port from d causes.PortUnused = AllByRecursion (λ c. IsPortOf port c → (¬ c.generations ≡ 0) × HasNoneAt port c) w.calls
-Shows w port from d causes.NotLive = Any (λ c. IsPortOf port c × (c.generations ≡ 0)) w.calls
+Shows w port from d causes.NotLive = Any (λ c. IsPortOf port c × (c.generations ≡ 0) × HasNoneAt port c) w.calls
 Shows w port from d causes.TooLong = Opens w port (λ s. 4238 < length d) ⊎ Seals w port (λ s. 4096 < length d)
-Shows w port from d causes.SourceUnknown = Seals w port (λ s. ¬ from.ip ≡ s.plain.ip)
+Shows w port from d causes.SourceUnknown = Seals w port (λ s. (length d ≤ 4096) × (¬ from.ip ≡ s.plain.ip))
 Shows w port from d cause =
     Opens w port (λ s. (length d ≤ 4238) × OpenedShows s.name.kind s d cause)
     ⊎ Seals w port (λ s. (length d ≤ 4096) × (from.ip ≡ s.plain.ip) × SealedShows s.name.kind s d cause)
