@@ -640,7 +640,7 @@ module _ (nearest : NearestIs) (s : Session) (d : List ℕ) (small : AllByRecurs
       let a = after_ok_is (head_in s d) _ k e in
       let b = stop_if_is _ _ _ k a.2 in
       let c = after_ok_is (key_with s.keys (mki_in s d)) _ k b.1 in
-      let f = stop_if_is _ _ _ k c.2 in
+      let f = stop_if_is (not (is_live s c.0)) (causes.KeySpent c.0.number (count_of s c.0)) _ k c.2 in
       let g = after_ok_is (place_in s a.0) _ k f.1 in
       let h = after_ok_is (fresh_index s a.0.ssrc g.0) _ k g.2 in
       let is = headed a.0 a.1 in

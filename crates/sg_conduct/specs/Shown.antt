@@ -135,7 +135,7 @@ tag_at kind s k p word i = take s.tag_len (hmac_sha1 (half_of kind (session_keys
 abbrev pub HasKey : Session → List ℕ → Type 0
 HasKey s mki = Any (λ k. (k.mki ≡ mki) × IsLiveIn s k) s.keys
 
--- the tag is that of such a key at the packet's index, which is new
+-- this holds of the tag of such a key at the packet's index, which is new
 pub record IsTagged (kind : Kind) (s : Session) (p word mki : List ℕ) (HasTag : List ℕ → Type 0) : Type 0 where
   pub i : ℕ
   pub index : IsIndexOf kind s p word i
