@@ -34,8 +34,9 @@ pub fn datagrams_are_settled()
     ensures { (events : List Event) → EachDatagramIsSettled events }
 {}
 
-/// Each datagram that is dropped shows the cause that is told: by its octets; by what the session at its port has done; or by
-/// the calls that are there, of which none has a session there, or one has had no answer yet.
+/// Each datagram that is dropped shows the cause that is told, and that none before it holds: no session has its port, or its call
+/// has had no answer; it is too long, or from another host; or, of the latest session at the port, by its octets, its source, its
+/// key, its index and its tag.
 pub fn drops_show_causes()
     ensures { (events : List Event) → DropsShowCauses events }
 {
