@@ -5,6 +5,7 @@ mod Brought
 mod Carried
 mod Causes
 mod Drawn
+mod Drops
 mod FirstLines
 mod Firsts
 mod Forth
@@ -24,6 +25,7 @@ mod Refusals
 pub mod Sealings
 mod Serving
 mod Settling
+mod Shown
 mod Staying
 mod Telling
 mod Unsealing

@@ -33,7 +33,7 @@ with_has acc x = go (is_in acc x) refl
     go true e = e
     go false e = any_last (is x) acc x (eq-eqb x x refl)
 
-done_is_there : (acc : List ℕ) (ds : List Done) (ssrc : ℕ) → Any (λ d. d.ssrc ≡ ssrc) ds → is_in (sources_from acc ds) ssrc ≡ true
+pub done_is_there : (acc : List ℕ) (ds : List Done) (ssrc : ℕ) → Any (λ d. d.ssrc ≡ ssrc) ds → is_in (sources_from acc ds) ssrc ≡ true
 done_is_there acc [] ssrc a = absurd (any_none (λ (d : Done). d.ssrc ≡ ssrc) a)
 done_is_there acc (d ∷ ds) ssrc a = elim (any_cases (λ (d : Done). d.ssrc ≡ ssrc) d ds a) [
   | inl same ↦ acc_stays (source_with acc d.ssrc) ds ssrc (subst (λ x. is_in (source_with acc d.ssrc) x ≡ true) same (with_has acc d.ssrc))
@@ -118,7 +118,7 @@ place_is s ssrc (inr few) =
 
 -- ---- what arrives and departs
 
-admitted_is : (a : Admit) (done : List Done) (ssrc : ℕ) → IsAdmittedBy a done ssrc → is_admitted a done ssrc ≡ true
+pub admitted_is : (a : Admit) (done : List Done) (ssrc : ℕ) → IsAdmittedBy a done ssrc → is_admitted a done ssrc ≡ true
 admitted_is admit.Any done ssrc is = refl
 admitted_is (admit.One own) done ssrc is = eq-eqb own ssrc (sym is)
 admitted_is admit.FirstSeen [] ssrc is = refl

@@ -56,7 +56,7 @@ small_drop zero xs p = p
 small_drop (suc n) [] p = tt
 small_drop (suc n) (x ∷ xs) p = small_drop n xs p.1
 
-small_take : (n : ℕ) (xs : List ℕ) → AllByRecursion (λ x. x < 256) xs → AllByRecursion (λ x. x < 256) (take n xs)
+pub small_take : (n : ℕ) (xs : List ℕ) → AllByRecursion (λ x. x < 256) xs → AllByRecursion (λ x. x < 256) (take n xs)
 small_take zero xs p = tt
 small_take (suc n) [] p = tt
 small_take (suc n) (x ∷ xs) p = (p.0, small_take n xs p.1)
@@ -97,7 +97,7 @@ carried_index s d k kind e =
 -- ---- the parts of a datagram
 
 module _ (s : Session) (d : List ℕ) (long : 12 + end_len s ≤ length d) where
-  whole_again : before_mki s d ++ (mki_in s d ++ tag_in s d) ≡ d
+  pub whole_again : before_mki s d ++ (mki_in s d ++ tag_in s d) ≡ d
   whole_again =
       let tail : tag_in s d ≡ drop (mki_len s) (drop (length d - end_len s) d) =
       ap (λ k. drop k d) (omega (arith, long)) ∙ sym (drop-drop (mki_len s) (length d - end_len s) d) in
@@ -105,13 +105,13 @@ module _ (s : Session) (d : List ℕ) (long : 12 + end_len s ≤ length d) where
       ap (λ l. mki_in s d ++ l) tail ∙ take-append-drop (mki_len s) (drop (length d - end_len s) d) in
       ap (λ l. before_mki s d ++ l) rest ∙ take-append-drop (length d - end_len s) d
 
-  long_before : length (before_mki s d) ≡ length d - end_len s
+  pub long_before : length (before_mki s d) ≡ length d - end_len s
   long_before = length-take-le (length d - end_len s) d (omega arith)
 
-  four : length (drop (length d - (end_len s + 4)) (before_mki s d)) ≡ 4
+  pub four : length (drop (length d - (end_len s + 4)) (before_mki s d)) ≡ 4
   four = let a = long_before in omega (arith, length-drop (length d - (end_len s + 4)) (before_mki s d), a, long)
 
-  packet_and_word : part_of_kind Rtcp s d ++ drop (length d - (end_len s + 4)) (before_mki s d) ≡ before_mki s d
+  pub packet_and_word : part_of_kind Rtcp s d ++ drop (length d - (end_len s + 4)) (before_mki s d) ≡ before_mki s d
   packet_and_word =
       ap (λ l. l ++ drop (length d - (end_len s + 4)) (before_mki s d)) (sym (take-take (length d - (end_len s + 4)) (length d - end_len s) d (omega arith)))
       ∙ take-append-drop (length d - (end_len s + 4)) (before_mki s d)

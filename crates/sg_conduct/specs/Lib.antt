@@ -3,6 +3,7 @@ pub mod Carried
 pub mod CarriedBack
 pub mod Causes
 pub mod Drawn
+pub mod Drops
 pub mod Firsts
 pub mod Heard
 pub mod Manual
@@ -13,6 +14,7 @@ pub mod Place
 pub mod Present
 pub mod Refusals
 pub mod Settled
+pub mod Shown
 pub mod Standing
 pub mod Staying
 pub mod ToldTexts

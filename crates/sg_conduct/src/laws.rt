@@ -5,6 +5,7 @@ ghost use Rattle.sg_gateway.specs.Step.{Event};
 ghost use Rattle.sg_conduct.specs.Carried.{OffersAreCarried};
 ghost use Rattle.sg_conduct.specs.Causes.{RefusedAnswersShowCauses};
 ghost use Rattle.sg_conduct.specs.Drawn.{OwnKeysAreDrawn};
+ghost use Rattle.sg_conduct.specs.Drops.{DropsShowCauses};
 ghost use Rattle.sg_conduct.specs.Heard.{CallsWereHeard};
 ghost use Rattle.sg_conduct.specs.Manual.{ManualCallsAreTaken};
 ghost use Rattle.sg_conduct.specs.Offers.{OffersAreTaken};
@@ -33,6 +34,18 @@ pub fn what_is_opened_was_sealed()
 pub fn datagrams_are_settled()
     ensures { (events : List Event) → EachDatagramIsSettled events }
 {}
+
+/// Each datagram that is dropped shows the cause that is told, and that none before it holds: no session has its port, or its call
+/// has had no answer; it is too long, or from another host; or, of the latest session at the port, by its octets, its source, its
+/// key, its index and its tag.
+pub fn drops_show_causes()
+    ensures { (events : List Event) → DropsShowCauses events }
+{
+    sg_index::nearest_law();
+    agreements_are_sound();
+    active_media_are_agreed();
+    offers_fit_their_calls();
+}
 
 /// What a session has done is what the run opened or sealed in it.
 pub fn sessions_have_done_what_was_done()

@@ -4,6 +4,7 @@ use Rattle.std.specs.List.{All}
 use Rattle.sg_gateway.proofs.Common.{Call, Entry, Event, Sealed, Session, Turn, any_weaker, turns}
 use Rattle.sg_gateway.specs.Addressed.{OfferIsItsText, OffersAreTheirTexts}
 use Rattle.sg_conduct.specs.Carried.{OfferIsCarried, OffersAreCarried}
+use Rattle.sg_conduct.specs.Drops.{DropShowsCause, DropsShowCauses}
 use Rattle.sg_conduct.specs.Offers.{OfferIsTaken, OffersAreTaken}
 use Rattle.sg_conduct.specs.Manual.{ManualCallsAreTaken, ManualIsTaken}
 use Rattle.sg_conduct.specs.Place as place
@@ -17,7 +18,7 @@ use Rattle.sg_gateway.specs.PlainTexts.{NoKeyGoesToThePlainSide, TellsNoKey}
 use Rattle.sg_gateway.specs.Refusing.{EachRefusalChangesNothing, EachRefusedOfferStaysOpen, OffersStayOpen}
 use Rattle.sg_gateway.specs.SealedOut as seals
 use Rattle.sg_gateway.specs.Used.{EachSealUsesItsBlocks, SealsUseTheirBlocks}
-use Rattle.sg_passages.proofs.Lifting.{bars_out, bars_plain, bars_secure, each, made_live, none_told, one_out, some_end, some_refusal, told_out, told_refusal}
+use Rattle.sg_passages.proofs.Lifting.{bars_out, bars_plain, bars_secure, each, made_live, none_told, one_out, some_end, some_refusal, told_drop, told_out, told_refusal}
 use Rattle.sg_passages.proofs.Texts.{told_no_key}
 use Rattle.sg_passages.specs.Passages.{ArePassagesOf, AreToldAs, IsFaithful, Passage}
 use Rattle.sg_passages.specs.PutOut as told
@@ -81,6 +82,9 @@ module _ (events : List Event) (passages : List Passage) (are : ArePassagesOf ev
 
   pub settled : EachDatagramIsSettled events → EachAsTold DatagramIsTold passages
   settled holds = over DatagramIsSettled (λ p. DatagramIsTold (as_told p)) (λ p f h port from d is. settled_told p f port (h port from d is)) holds
+
+  pub drops : DropsShowCauses events → EachAsTold DropShowsCause passages
+  drops holds = over DropShowsCause (λ p. DropShowsCause (as_told p)) (λ p f h port arrived from d cause is outs. let drop = told_drop p f arrived cause outs in h port drop.0 from d cause is drop.1) holds
 
   -- ---- refusals and ends
 

@@ -3,6 +3,7 @@ use Rattle.std.proofs.Common.{◌≡◌, inl, inr, ℕ, ◌+◌, ◌-◌, ◌/�
 use Rattle.std.specs.List.{All, Any, AllByRecursion}
 use Rattle.std.proofs.lemmas.List.Elements.{All-from_recursion, recursion_from_All}
 use Rattle.sg_base.specs.declared.addresses.Address.{Address}
+use Rattle.sg_base.specs.declared.faults.DropCause.{DropCause}
 use Rattle.sg_outcome.specs.declared.outcomes.Outcome.TheVariants.{Made, Live, Sdp, Refused, Ended, Out, Dropped, Unsent}
 use Rattle.sg_outcome.specs.declared.outcomes.Why.{Why}
 use Rattle.sg_gateway.proofs.Common.{CallId, IsOutPlain, IsRefusal, IsRefused, Outcome, Turn, any_cases, any_here, any_none, any_there}
@@ -47,11 +48,11 @@ pub record WasOut (os : List Outcome) (octets : List ℕ) : Type 0 where
   pub to : Address
   pub is : os ≡ Out port to octets ∷ []
 
-module _ (leaves : Leaves) (port : ℕ) (to : Address) (octets : List ℕ) where
-  none_more : (os ts : List Outcome) → AreToldAs leaves os ts → ts ≡ [] → os ≡ []
-  none_more [] ts told is = refl
-  none_more (o ∷ os) ts told is = absurd (let e = sym told.2 ∙ is in cc)
+none_more : (leaves : Leaves) (os ts : List Outcome) → AreToldAs leaves os ts → ts ≡ [] → os ≡ []
+none_more leaves [] ts told is = refl
+none_more leaves (o ∷ os) ts told is = absurd (let e = sym told.2 ∙ is in cc)
 
+module _ (leaves : Leaves) (port : ℕ) (to : Address) (octets : List ℕ) where
   was_out : (o t : Outcome) → IsToldAs leaves o t → t ≡ Out port to octets → WasOut (o ∷ []) octets
   was_out (Out p a text) t told is = record { port = p; to = a; is = (let e : out_by leaves p a text ≡ Out port to octets = sym told ∙ is in let same : text ≡ octets = cc in ap (λ text. Out p a text ∷ []) same) }
   was_out (Dropped p cause) t told is = absurd (let e = sym told.1 ∙ is in cc)
@@ -64,10 +65,30 @@ module _ (leaves : Leaves) (port : ℕ) (to : Address) (octets : List ℕ) where
       let e : told.0 ∷ told.1 ≡ Out port to octets ∷ [] = sym told.2 ∙ is in
       let first : told.0 ≡ Out port to octets = cc in
       let more : told.1 ≡ [] = cc in
-      subst (λ os. WasOut (o ∷ os) octets) (sym (none_more os told.1 told.4 more)) (was_out o told.0 told.3 first)
+      subst (λ os. WasOut (o ∷ os) octets) (sym (none_more leaves os told.1 told.4 more)) (was_out o told.0 told.3 first)
 
 pub told_out : (p : Passage) → IsFaithful p → (port : ℕ) (to : Address) (octets : List ℕ) → p.told ≡ Out port to octets ∷ [] → WasOut p.turn.outcomes octets
 told_out p f port to octets is = one_was p.leaves port to octets p.turn.outcomes p.told f.told is
+
+-- ---- what was told as a drop was one
+
+module _ (leaves : Leaves) (arrived : ℕ) (cause : DropCause) where
+  was_dropped : (o t : Outcome) → IsToldAs leaves o t → t ≡ Dropped arrived cause → (port : ℕ) × (o ≡ Dropped port cause)
+  was_dropped (Dropped p c) t told is = let e = sym told.1 ∙ is in let same : c ≡ cause = cc in (p, ap (λ c. Dropped p c) same)
+  was_dropped (Sdp id side text) t told is = absurd (let e = sym told.1 ∙ is in cc)
+  was_dropped other t told is = absurd (let e = sym told ∙ is in cc)
+
+  one_dropped : (os ts : List Outcome) → AreToldAs leaves os ts → ts ≡ Dropped arrived cause ∷ [] → (port : ℕ) × (os ≡ Dropped port cause ∷ [])
+  one_dropped [] ts told is = absurd (let e = sym told ∙ is in cc)
+  one_dropped (o ∷ os) ts told is =
+      let e : told.0 ∷ told.1 ≡ Dropped arrived cause ∷ [] = sym told.2 ∙ is in
+      let first : told.0 ≡ Dropped arrived cause = cc in
+      let more : told.1 ≡ [] = cc in
+      let drop = was_dropped o told.0 told.3 first in
+      (drop.0, (λ i. drop.1 i ∷ none_more leaves os told.1 told.4 more i))
+
+pub told_drop : (p : Passage) → IsFaithful p → (arrived : ℕ) (cause : DropCause) → p.told ≡ Dropped arrived cause ∷ [] → (port : ℕ) × (p.turn.outcomes ≡ Dropped port cause ∷ [])
+told_drop p f arrived cause is = one_dropped p.leaves arrived cause p.turn.outcomes p.told f.told is
 
 -- ---- what isn't put out isn't told as put out
 

@@ -27,6 +27,7 @@ use Rattle.sg_gateway.specs.Used.{NoBlockTwice, SealsUseTheirBlocks}
 use Rattle.sg_conduct.specs.Carried.{OfferIsCarried}
 use Rattle.sg_conduct.specs.Causes.{RefusedAnswersShowCauses}
 use Rattle.sg_conduct.specs.Drawn.{OwnKeysAreDrawn}
+use Rattle.sg_conduct.specs.Drops.{DropShowsCause}
 use Rattle.sg_conduct.specs.Heard.{CallsWereHeard}
 use Rattle.sg_conduct.specs.Manual.{ManualIsTaken}
 use Rattle.sg_conduct.specs.Offers.{OfferIsTaken}
@@ -103,6 +104,7 @@ pub record Headline (events : List Event) (passages : List Passage) : Type 0 whe
   pub unsealed : EachOpeningIsUnsealed events
   pub done : SessionsHaveDone events
   pub settled : EachAsTold DatagramIsTold passages
+  pub drops : EachAsTold DropShowsCause passages
   pub others : OtherCallsStay events
   pub were_heard : CallsWereHeard events
   pub there : AnswersHaveSessions events

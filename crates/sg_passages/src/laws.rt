@@ -34,6 +34,7 @@ pub fn the_headline_holds()
     sg_conduct::what_is_opened_was_sealed();
     sg_conduct::sessions_have_done_what_was_done();
     sg_conduct::datagrams_are_settled();
+    sg_conduct::drops_show_causes();
     sg_conduct::what_is_new_leaves();
     sg_conduct::other_calls_stay();
     sg_conduct::calls_were_heard();

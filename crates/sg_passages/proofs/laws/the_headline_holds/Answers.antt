@@ -1,4 +1,4 @@
-use Rattle.sg_passages.proofs.Headlines.{answers_renew, arriving_out, blocks_used, departing_sealed, ends_free, manual_taken, messages, no_keys, offer_texts, offers_taken, offers_told, only_openings, only_seals, openings_out, openings_sealed, refusals, refused_offers, seals_out, settled, signals_quiet}
+use Rattle.sg_passages.proofs.Headlines.{answers_renew, arriving_out, blocks_used, departing_sealed, drops, ends_free, manual_taken, messages, no_keys, offer_texts, offers_taken, offers_told, only_openings, only_seals, openings_out, openings_sealed, refusals, refused_offers, seals_out, settled, signals_quiet}
 use Rattle.sg_passages.proofs.laws.the_headline_holds.Goals as goal
 
 pub returns : goal.returns
@@ -56,6 +56,7 @@ returns c = λ events passages are. record {
   unsealed = c.what_is_opened_was_sealed.ensures events;
   done = c.sessions_have_done_what_was_done.ensures events;
   settled = settled events passages are (c.datagrams_are_settled.ensures events);
+  drops = drops events passages are (c.drops_show_causes.ensures events);
   others = c.other_calls_stay.ensures events;
   were_heard = c.calls_were_heard.ensures events;
   there = c.answers_have_sessions.ensures events;
