@@ -88,7 +88,7 @@ fn said_by(kind: u8, value: &[u8]) -> Option<u32>
 fn has_kind(kind: u8, items: &[(u8, Octets)]) -> bool
     ensures { result ≡ has_kind kind items.now }
 {
-    items.iter().any(|item| item.0 == kind)
+    item_of(items, kind).is_some()
 }
 
 // Whether no type stands twice.
