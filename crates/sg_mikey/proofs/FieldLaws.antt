@@ -108,16 +108,12 @@ same_two : (a b c d : ℕ) → a ≡ c → b ≡ d → a ∷ b ∷ [] ≡ c ∷ 
 same_two a b c d e f = rw (e, f) refl
 
 back_two : (octets : List ℕ) → length octets ≡ 2 → IsOctets octets → be (number_of octets) 2 ≡ octets
-back_two [] h fits = absurd (omega (arith, h))
-back_two (a ∷ []) h fits = absurd (omega (arith, h))
 back_two (a ∷ b ∷ []) h fits = let fa = fits 0 in let fb = fits 1 in same_two _ _ a b (omega (arith, fa, fb)) (omega (arith, fa, fb))
-back_two (a ∷ b ∷ c ∷ rest) h fits = absurd (omega (arith, h))
+back_two other h fits = absurd (omega (arith, h))
 
 below_two : (octets : List ℕ) → length octets ≡ 2 → IsOctets octets → number_of octets < 2 ^ 16
-below_two [] h fits = absurd (omega (arith, h))
-below_two (a ∷ []) h fits = absurd (omega (arith, h))
 below_two (a ∷ b ∷ []) h fits = let fa = fits 0 in let fb = fits 1 in omega (arith, fa, fb)
-below_two (a ∷ b ∷ c ∷ rest) h fits = absurd (omega (arith, h))
+below_two other h fits = absurd (omega (arith, h))
 
 pub wide_two : IsWide 2 (2 ^ 16)
 wide_two = record { len = λ n. refl; back = back_two; again = λ n lt. omega arith; below = below_two }
@@ -126,23 +122,15 @@ same_four : (a b c d p q r s : ℕ) → a ≡ p → b ≡ q → c ≡ r → d �
 same_four a b c d p q r s e f g h = rw (e, f, g, h) refl
 
 back_four : (octets : List ℕ) → length octets ≡ 4 → IsOctets octets → be (number_of octets) 4 ≡ octets
-back_four [] h fits = absurd (omega (arith, h))
-back_four (a ∷ []) h fits = absurd (omega (arith, h))
-back_four (a ∷ b ∷ []) h fits = absurd (omega (arith, h))
-back_four (a ∷ b ∷ c ∷ []) h fits = absurd (omega (arith, h))
 back_four (a ∷ b ∷ c ∷ d ∷ []) h fits =
     let fa = fits 0 in let fb = fits 1 in let fc = fits 2 in let fd = fits 3 in
     same_four _ _ _ _ a b c d (omega (arith, fa, fb, fc, fd)) (omega (arith, fa, fb, fc, fd)) (omega (arith, fa, fb, fc, fd)) (omega (arith, fa, fb, fc, fd))
-back_four (a ∷ b ∷ c ∷ d ∷ x ∷ rest) h fits = absurd (omega (arith, h))
+back_four other h fits = absurd (omega (arith, h))
 
 below_four : (octets : List ℕ) → length octets ≡ 4 → IsOctets octets → number_of octets < 2 ^ 32
-below_four [] h fits = absurd (omega (arith, h))
-below_four (a ∷ []) h fits = absurd (omega (arith, h))
-below_four (a ∷ b ∷ []) h fits = absurd (omega (arith, h))
-below_four (a ∷ b ∷ c ∷ []) h fits = absurd (omega (arith, h))
 below_four (a ∷ b ∷ c ∷ d ∷ []) h fits =
     let fa = fits 0 in let fb = fits 1 in let fc = fits 2 in let fd = fits 3 in omega (arith, fa, fb, fc, fd)
-below_four (a ∷ b ∷ c ∷ d ∷ x ∷ rest) h fits = absurd (omega (arith, h))
+below_four other h fits = absurd (omega (arith, h))
 
 pub wide_four : IsWide 4 (2 ^ 32)
 wide_four = record { len = λ n. refl; back = back_four; again = λ n lt. omega arith; below = below_four }
